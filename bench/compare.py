@@ -52,13 +52,10 @@ def formula(dice, depth, kinds):
 
 
 def recording(dice):
-    """A few rows; or, one time in five, many that lie near each other, so that windows are long beside the gaps."""
-    many = dice.random() < 0.2
-    lines = [",".join([dice.choice(["time", "time:1"]) if not many else "time:1", *COLUMNS])]
+    lines = [",".join([dice.choice(["time", "time:1"]), *COLUMNS])]
     time = dice.randint(0, 3)
-    for _ in range(dice.randint(30, 200) if many else dice.randint(1, 14)):
-        at = f"{time // 10}.{time % 10}" if many else str(time)
-        lines.append(",".join([at, *(dice.choice(["", "-"]) + number(dice, 7, digits) for digits in (0, 0, 1, 2))]))
+    for _ in range(dice.randint(1, 14)):
+        lines.append(",".join([str(time), *(dice.choice(["", "-"]) + number(dice, 7, digits) for digits in (0, 0, 1, 2))]))
         time += dice.choice([1, 1, 2, 3, 7])
     return ("\n".join(lines) + dice.choice(["\n", ""])).encode()
 

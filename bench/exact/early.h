@@ -430,11 +430,11 @@ private:
                 continue;
             }
             for (int child : {n.left, n.right})
-                if (child >= 0) owns[size_t(child)].asked = std::max(start, cut(c.whole() + back(n, own, child), false));
+                if (child >= 0) owns[size_t(child)].asked = cut(c.whole() + back(n, own, child), false);
             for (size_t k = own.from; k < own.to; k++) {
                 Set& set = sets[k];
                 if (k == own.yes || k == own.no) set.keep = endless(n) ? std::min(own.asked, c) : own.asked;
-                else set.keep = std::max(start, cut(n.kind == Kind::until ? c.whole() : c.whole() - own.high, false));
+                else set.keep = cut(n.kind == Kind::until ? c.whole() : c.whole() - own.high, false);
                 set.drop();
             }
         }

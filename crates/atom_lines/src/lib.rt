@@ -14,7 +14,7 @@ mod truth;
 mod tying;
 
 pub use bound::Bound;
-pub use points::{margin_piece, margin_point, truth_piece, truth_point, truth_step};
+pub use points::{margin_piece, margin_point, truth_piece, truth_point};
 pub use signal::{AtomShape, atom_signal};
 pub use truth::TruthPiece;
 pub use tying::{BindFault, bind};

@@ -102,22 +102,6 @@ pub fn truth_piece(bound: &Bound, node: u32, first: &Row, second: &Row) -> Truth
     truth_between(atom.rel, &gap_of(atom, first, second))
 }
 
-/// The atom's truth on the open gap between two rows, the second right after the first, and at the second row: in one pass over its terms.
-#[inline(always)]
-pub fn truth_step(bound: &Bound, node: u32, first: &Row, second: &Row) -> (TruthPiece, Truth)
-    requires atom { IsAtomNode bound.now node }
-    requires first { length first.now.values ≡ bound.now.width }
-    requires second { length second.now.values ≡ bound.now.width }
-    requires later { first.now.time < second.now.time }
-    ensures piece { IsTruthOn bound.now node first.now second.now result.0 }
-    ensures point { IsTruthAt bound.now node second.now result.1.holds }
-{
-    let atom = bound.atom(node);
-    let from = reach_of(atom, first, first);
-    let (gap, next) = gap_on(atom, first.time(), from, first, second.time(), second);
-    (truth_between(atom.rel, &gap), truth_at(atom.rel, next))
-}
-
 /// The atom's margin on the open gap between two rows, the second right after the first, in ticks: a ramp from the time of the
 /// first row on, or a constant where it does not change.
 pub fn margin_piece(bound: &Bound, node: u32, first: &Row, second: &Row) -> Margin

@@ -132,7 +132,7 @@ fn first_sum(bound: &Bound, node: u32, trace: &Trace) -> i64
     reach_of(bound.atom(node), &row, &row)
 }
 
-/// The signal at the first row alone, where the sum is `from`, with room for a knot at each row.
+/// The signal at the first row alone, where the sum is `from`.
 fn begin<P: Piecewise>(
     alloc: Global,
     bound: &Bound,
@@ -147,7 +147,7 @@ fn begin<P: Piecewise>(
 {
     let atom = bound.atom(node);
     let at = Frac::of(i64::from(trace.time(0)));
-    Builder::with_room(alloc, at, P::point(atom.rel, from), trace.rows())
+    Builder::start(alloc, at, P::point(atom.rel, from))
 }
 
 /// The signal of the atom at a node, row by row.

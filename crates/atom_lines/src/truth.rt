@@ -41,7 +41,6 @@ pub(crate) fn truth_at(rel: Rel, value: i64) -> Truth
 }
 
 /// The time inside the gap at which a sum that changes its sign is 0.
-#[inline(never)]
 fn crossing(gap: &Gap) -> Frac
     requires { Passes gap.now }
     ensures zero { at (along gap.now) (value result) ≈ whole (pos 0) }
@@ -63,7 +62,6 @@ fn changes_sign(gap: &Gap) -> bool
 }
 
 /// The truth of a comparison on the open gap.
-#[inline(always)]
 pub(crate) fn truth_between(rel: Rel, gap: &Gap) -> TruthPiece
     ensures { TellsGap (whole (pos gap.now.first)) (whole (pos gap.now.second)) (λ t. compares rel (at (along gap.now) t)) result }
 {

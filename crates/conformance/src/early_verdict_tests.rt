@@ -204,62 +204,6 @@ fn rows_decide_as_worked_by_hand(rt: HostRuntime) -> Result<(), Fail> {
     Ok(())
 }
 
-/// A formula, up to where `y` is 1 at each fourth row, and the row that decides, with the verdict.
-type Late = (&'static str, u32, (u32, bool));
-
-/// So long that the sets have let go, several times, of what they held of the first rows.
-const LATE: [Late; 8] = [
-    ("always[0,150] eventually[0,5] y >= 1", 199, (152, true)),
-    ("always[0,150] eventually[0,5] y >= 1", 100, (106, false)),
-    ("always[0,150] (x >= 1 until[0,5] y >= 1)", 199, (152, true)),
-    (
-        "always[0,150] (x >= 1 until[0,5] y >= 1)",
-        100,
-        (106, false),
-    ),
-    ("always[0,150] once[0,5] y >= 1", 199, (148, true)),
-    ("always[0,150] once[0,5] y >= 1", 100, (106, false)),
-    ("always[0,150] (x >= 1 since[0,5] y >= 1)", 199, (150, true)),
-    (
-        "always[0,150] (x >= 1 since[0,5] y >= 1)",
-        100,
-        (106, false),
-    ),
-];
-
-/// Two hundred rows: `x` is 1, and `y` is 1 at each fourth up to the time, and else 0.
-fn many_rows(alloc: Global, until: u32) -> Result<String, AllocError> {
-    let mut text = String::from_str(alloc, "time,x,y\n")?;
-    for time in 0..200_u32 {
-        let y = if time % 4 == 0 && time <= until { 1 } else { 0 };
-        let line = format!(in alloc; "{time},1,{y}\n")?;
-        text.push_str(line.as_str())?;
-    }
-    Ok(text)
-}
-
-#[test]
-fn rows_decide_late_as_worked_by_hand(rt: HostRuntime) -> Result<(), Fail> {
-    let alloc = rt.alloc();
-    for (i, (text, until, first)) in LATE.iter().enumerate() {
-        let input = many_rows(alloc, *until)?;
-        let mut fed = begin_on(&rt, alloc, text, &input)?;
-        let mut seen = None;
-        for _ in 0..200 {
-            let Some((time, answer)) = fed.row(&rt) else {
-                break;
-            };
-            if let Some(decided) = answer {
-                assert!(rt; seen.is_none(), "late {i}: twice");
-                seen = Some((time, decided.holds));
-            }
-        }
-        assert!(rt; seen == Some(*first), "late {i}");
-        assert!(rt; fed.end(&rt) == first.1, "late {i}: end");
-    }
-    Ok(())
-}
-
 /// A formula in the making: its nodes so far, the texts of those that no other reads, with their places, and how far it looks ahead.
 #[derive(Drop)]
 struct Making {

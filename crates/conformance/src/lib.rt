@@ -52,11 +52,7 @@ mod reason_tests;
 #[cfg(test)]
 mod report_tests;
 #[cfg(test)]
-mod robust_net_tests;
-#[cfg(test)]
 mod run_tests;
-#[cfg(test)]
-mod rwatch_beside_tests;
 #[cfg(test)]
 mod rwatch_tests;
 #[cfg(test)]

@@ -247,6 +247,24 @@ impl<'a> Driven<'a> {
         Ok(Some(row.time()))
     }
 
+    /// Stops where the network takes one more row, in place of refusing it for the end.
+    fn refuse(&mut self, rt: &impl Abort, line: &str) {
+        let Ok(took) = self.reader.push(line.as_bytes()) else {
+            panic!(rt; "row");
+        };
+        let Event::Row = took.event else {
+            panic!(rt; "no row");
+        };
+        let row = self.reader.row();
+        assert!(rt; row.columns() == self.columns);
+        if let Some(last) = self.last {
+            assert!(rt; last < row.time());
+        }
+        let Err(NetFault::Closed) = self.net.feed(row) else {
+            panic!(rt; "feed");
+        };
+    }
+
     /// The end of the rows.
     fn close(&mut self, rt: &impl Abort) -> Result<(), NetFault> {
         assert!(rt; self.last.is_some());
@@ -499,5 +517,23 @@ fn a_step_moves_a_node_that_is_ready(rt: HostRuntime) -> Result<(), Fail> {
     assert_eq!(&rt; of.close(&rt), Err(NetFault::Closed));
     assert!(&rt; of.step(&rt, 1));
     assert_eq!(&rt; of.shown(&rt, 1), (false, Some(5), 3));
+    Ok(())
+}
+
+#[test]
+fn a_network_that_was_closed_takes_no_row_and_goes_on_to_step(rt: HostRuntime) -> Result<(), Fail> {
+    let alloc = rt.alloc();
+    let mut of = begin_on(&rt, alloc, "eventually[0,2] x >= 5", "time,x\n0,0\n5,5\n")?;
+    assert_eq!(&rt; of.row(&rt)?, Some(0));
+    assert_eq!(&rt; of.row(&rt)?, Some(5));
+    assert_eq!(&rt; of.close(&rt), Ok(()));
+    of.refuse(&rt, "7,0\n");
+    assert_eq!(&rt; of.close(&rt), Err(NetFault::Closed));
+    assert_eq!(&rt; of.shown(&rt, 0), (false, Some(5), 3));
+    assert_eq!(&rt; of.shown(&rt, 1), (true, None, 0));
+    assert!(&rt; of.step(&rt, 1));
+    assert_eq!(&rt; of.shown(&rt, 1), (false, Some(5), 2));
+    assert!(&rt; of.take().is_some() && of.take().is_some() && of.take().is_none());
+    assert_eq!(&rt; of.close(&rt), Err(NetFault::Closed));
     Ok(())
 }

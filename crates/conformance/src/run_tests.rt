@@ -28,9 +28,9 @@ pub(crate) struct Devices {
 
 /// How a run ended: its status, and what its two sinks got.
 #[derive(Drop)]
-pub(crate) struct Ended {
-    pub(crate) status: u8,
-    pub(crate) out: MemSink,
+struct Ended {
+    status: u8,
+    out: MemSink,
     err: MemSink,
 }
 
@@ -65,7 +65,7 @@ pub(crate) fn sink(alloc: Global, room: usize, most: usize, fails: u64) -> Resul
 }
 
 /// Runs the words over the input.
-pub(crate) fn runs(alloc: Global, case: Case<'_>, devices: Devices) -> Result<Ended, Fail> {
+fn runs(alloc: Global, case: Case<'_>, devices: Devices) -> Result<Ended, Fail> {
     let words = strings(alloc, case.words)?;
     let bytes = Vec::from_slice(alloc, case.input.as_bytes())?;
     let fails = Vec::from_slice(alloc, &[devices.read_fails])?;

@@ -1,10 +1,10 @@
 -- What the sets of all nodes tell, where they fit.
 use Rattle.std.proofs.Common.{◌≡◌, ◌⊎◌, inl, inr, refl, sym, ap, subst, ℕ, zero, suc, ◌<◌, ◌≤◌, Bool, true, false, Some, None, List, [], ◌∷◌, length, arith, below_more}
-use Rattle.std.specs.Prelude.{slice_get, slice_index_or}
+use Rattle.std.specs.Prelude.{slice_get, slice_index_or, IsTrue, IsFalse}
 use Rattle.rational.specs.Time.{Rational, ◌≤ʳ◌}
 use Rattle.stl_syntax.specs.Trace.{Trace, start, stop}
-use Rattle.stl_syntax.specs.Formula.{subformula}
-use Rattle.stl_syntax.specs.Truth.{Truth}
+use Rattle.stl_syntax.specs.Formula.{Subformula, subformula, constant, atom, negation, conjunction, disjunction, implication, until, eventually, always, since, once, historically}
+use Rattle.stl_syntax.specs.Truth.{Truth, holds_at}
 use Rattle.stl_syntax.specs.Early.{Settled, SettledNot}
 use Rattle.stl_syntax.specs.WellFormed.{AreWellFormed}
 use Rattle.stl_syntax.specs.declared.node.Node.{Node}
@@ -16,7 +16,6 @@ use Rattle.early_verdict.specs.Fitting.{Lists, lists_of, lists_at, SayBoth}
 use Rattle.early_verdict.specs.Standing.{AllFit, AllTidy}
 use Rattle.early_verdict.specs.Living.{AreLive, IsLive, IsShown, Known}
 use Rattle.early_verdict.specs.declared.sets.Sets.{Sets}
-use Rattle.early_verdict.proofs.Apart.{never_both}
 use Rattle.early_verdict.proofs.SettledSets.{node_told}
 use Rattle.early_verdict.proofs.EndedSets.{Final, node_final}
 
@@ -61,16 +60,27 @@ shown_within [] i u h = absurd h
 shown_within (x ∷ shown) zero u h = omega arith
 shown_within (x ∷ shown) (suc i) u h = let k = shown_within shown i u h in omega (arith, k)
 
--- where a list has a time, there is a node
-pub yes_there : (shown : List Sets) (i : ℕ) (u : Rational) → IsOn (lists_at shown i).yes u → i < length shown
-yes_there [] i u o = absurd o
-yes_there (x ∷ shown) zero u o = omega arith
-yes_there (x ∷ shown) (suc i) u o = let k = yes_there shown i u o in omega (arith, k)
+-- nothing is settled both true and false
+not_both_tests : (b : Bool) → IsTrue b → IsFalse b → ⊥
+not_both_tests true t f = cc
+not_both_tests false t f = cc
 
-pub no_there : (shown : List Sets) (i : ℕ) (u : Rational) → IsOn (lists_at shown i).no u → i < length shown
-no_there [] i u o = absurd o
-no_there (x ∷ shown) zero u o = omega arith
-no_there (x ∷ shown) (suc i) u o = let k = no_there shown i u o in omega (arith, k)
+pub never_both : (p : Subformula) (tr : Trace) (t : Rational) → Settled p tr t → SettledNot p tr t → ⊥
+never_both (constant b) tr t h k = not_both_tests b h k
+never_both (atom i a) tr t h k = not_both_tests (holds_at a tr t) h.1 k.1
+never_both (negation p) tr t h k = never_both p tr t k h
+never_both (conjunction p q) tr t h (inl k) = never_both p tr t h.0 k
+never_both (conjunction p q) tr t h (inr k) = never_both q tr t h.1 k
+never_both (disjunction p q) tr t (inl h) k = never_both p tr t h k.0
+never_both (disjunction p q) tr t (inr h) k = never_both q tr t h k.1
+never_both (implication p q) tr t (inl h) k = never_both p tr t k.0 h
+never_both (implication p q) tr t (inr h) k = never_both q tr t h k.1
+never_both (eventually a b a_in b_in p) tr t (u, w, s, h) k = never_both p tr u h (k u w)
+never_both (always a b a_in b_in p) tr t h (u, w, s, k) = never_both p tr u (h u w) k
+never_both (once a b a_in b_in p) tr t (u, w, s, h) k = never_both p tr u h (k u w)
+never_both (historically a b a_in b_in p) tr t h (u, w, s, k) = never_both p tr u (h u w) k
+never_both (until a b p q) tr t (u, w, s, h, l) k = elim (k u w) [ inl m ↦ never_both q tr u h m | inr m ↦ never_both p tr m.0 (l m.0 m.1) m.2 ]
+never_both (since a b p q) tr t (u, w, s, h, l) k = elim (k u w) [ inl m ↦ never_both q tr u h m | inr m ↦ never_both p tr m.0 (l m.0 m.1) m.2 ]
 
 -- what the nodes show was told before, or is what their sets have
 pub record AreSound (Yes No : ℕ → Rational → Type 0) (live shown : List Sets) : Type 0 where
@@ -121,7 +131,7 @@ module _ (nodes : List Node) (tr : Trace) (live shown : List Sets) (formed : Are
         let below = placed nodes m n formed.post_order at in
         known_of m n s.0 x.0 at s.1 x.1
         (subst (λ z. SayBoth s.0 (Settled z tr) (SettledNot z tr)) (sym (subformula-at nodes m n at below))
-        (node_told tr h.own s.0 h.yes h.no h.starts (tidy m s.0 s.1) shown (lists_at shown) (λ q. refl) (subformula nodes) m known
+        (node_told tr h.own s.0 h.yes h.no h.starts (tidy m s.0 s.1) shown (lists_at shown) (subformula nodes) m known
         (λ q. (lists_tidy shown shown_tidy q).1) n below (formed.bounds m (Const false) le) h.looks (fit m n s.0 at s.1)))
 
     pub all_known : AllFit nodes false tr live shown → (m : ℕ) → m ≤ length nodes → (p : ℕ) → p < m
@@ -156,7 +166,7 @@ module _ (nodes : List Node) (tr : Trace) (live shown : List Sets) (formed : Are
         let below = placed nodes m n formed.post_order at in
         final_of m n s.0 x.0 at s.1 x.1 h
         (subst (λ z. Final tr (Lies h.own) (lists_of s.0) z) (sym (subformula-at nodes m n at below))
-        (node_final tr h.own s.0 h.yes h.no h.starts (tidy m s.0 s.1) shown (lists_at shown) (λ q. refl) (subformula nodes) m known
+        (node_final tr h.own s.0 h.yes h.no h.starts (tidy m s.0 s.1) shown (lists_at shown) (subformula nodes) m known
         (λ q. (lists_tidy shown shown_tidy q).1) (λ q. (lists_tidy shown shown_tidy q).0) n below (formed.bounds m (Const false) le) h.looks
         (fit m n s.0 at s.1)))
 

@@ -2,7 +2,7 @@
 use Rattle.std.proofs.Common.{◌≡◌, ◌⊎◌, inl, inr, refl, sym, ap, subst, ◌∙◌, ◌<◌, arith, Bool, true, false, Option, Some, None, List, [], ◌++◌, append_assoc}
 use Rattle.std.specs.Prelude.{MatchOption, IfSome, IsTrue, IsFalse}
 use Rattle.rational.specs.Time.{Rational, ◌≤ʳ◌, ◌<ʳ◌, ◌≈◌}
-use Rattle.rational.proofs.Order.{le_trans, le_of_lt, le_or_lt, lt_or_same_or_gt, le_of_same, ge_of_same, same_of_le, not_lt_of_le}
+use Rattle.rational.proofs.Order.{le_trans, le_of_lt, le_or_lt, lt_or_same_or_gt, le_of_same, ge_of_same, same_of_le, not_lt_of_le, lt_of_lt_of_le, lt_of_le_of_lt}
 use Rattle.stl_syntax.specs.Trace.{Row, Trace, row_time, start, stop}
 use Rattle.stl_syntax.specs.Truth.{holds_at}
 use Rattle.stl_syntax.specs.declared.atom.Atom.{Atom}
@@ -10,7 +10,7 @@ use Rattle.atom_lines.specs.Binding.{AreNeighbours}
 use Rattle.early_verdict.specs.Cuts.{Place, After, Upto, Same}
 use Rattle.early_verdict.specs.Spans.{Lies, IsOn, Grows}
 use Rattle.early_verdict.specs.Steps.{Tells, Gains}
-use Rattle.early_verdict.specs.Adding.{Enlarges, HasAdded, HasGrown, HasRested, Piece, AfterRow, IsNextRow, before_row, after_row}
+use Rattle.early_verdict.specs.Adding.{Enlarges, HasAdded, HasGrown, HasRested, Piece, ThreePieces, BetweenRows, AfterRow, IsNextRow, before_row, after_row}
 use Rattle.early_verdict.specs.Fitting.{AtomFits, AreSetsTidy, HasStepped}
 use Rattle.early_verdict.specs.Happening.{Was}
 use Rattle.early_verdict.specs.declared.stretch.Stretch.{Stretch}
@@ -85,6 +85,37 @@ false_added a b from to tidy parts bounds same g = record {
   yes = subst (λ x. Grows a.yes.bounds a.yes.spans.items x.spans.items a.yes.fresh.items x.fresh.items (Piece false from to true)) (sym same)
       (grows_not a.yes.bounds a.yes.spans.items a.yes.fresh.items (Piece false from to true) (λ t l h. let e = h.0 in cc));
 }
+
+module _ (a : Atom) (tr : Trace) (q r : Row) (from to : Place) (starts : Same from (after_row q)) (ends : Same to (before_row r)) where
+  -- one truth on the gap between two rows
+  pub whole_gap : (b : Bool) → ((t : Rational) → row_time q <ʳ t → t <ʳ row_time r → holds_at a tr t ≡ b) → (x y : Sets) → HasAdded x y (Piece b from to)
+      → HasAdded x y (BetweenRows a tr q r)
+  whole_gap b is x y = added_alike x y (Piece b from to) (BetweenRows a tr q r)
+      (λ v t h. let l = after_same from (after_row q) t starts h.1 in let m = upto_same to (before_row r) t ends h.2 in (l, m, is t l m ∙ h.0))
+      (λ v t h. (sym (is t h.0 h.1) ∙ h.2, after_same (after_row q) from t (same_places starts) h.0, upto_same (before_row r) to t (same_places ends) h.1))
+
+  -- a truth that turns over in it
+  pub split_gap : (before point after : Bool) (at : Rational) → row_time q <ʳ at → at <ʳ row_time r
+      → ((t : Rational) → row_time q <ʳ t → t <ʳ at → holds_at a tr t ≡ before) → ((t : Rational) → t ≈ at → holds_at a tr t ≡ point)
+      → ((t : Rational) → at <ʳ t → t <ʳ row_time r → holds_at a tr t ≡ after) → (x y : Sets)
+      → HasAdded x y (ThreePieces from before (record { at = at; after = false }) point (record { at = at; after = true }) after to)
+      → HasAdded x y (BetweenRows a tr q r)
+  split_gap before point after at first second until_then there from_then x y =
+      added_alike x y (ThreePieces from before (record { at = at; after = false }) point (record { at = at; after = true }) after to) (BetweenRows a tr q r) out into
+    where
+      out : (v : Bool) (t : Rational) → ThreePieces from before (record { at = at; after = false }) point (record { at = at; after = true }) after to v t → BetweenRows a tr q r v t
+      out v t (inl h) = let l = after_same from (after_row q) t starts h.1 in (l, lt_of_lt_of_le h.2 (le_of_lt second), until_then t l h.2 ∙ h.0)
+      out v t (inr (inl h)) = (lt_of_lt_of_le first h.1, lt_of_le_of_lt h.2 second, there t (same_of_le h.2 h.1) ∙ h.0)
+      out v t (inr (inr h)) = let m = upto_same to (before_row r) t ends h.2 in (lt_of_le_of_lt (le_of_lt first) h.1, m, from_then t h.1 m ∙ h.0)
+
+      into : (v : Bool) (t : Rational) → BetweenRows a tr q r v t → ThreePieces from before (record { at = at; after = false }) point (record { at = at; after = true }) after to v t
+      into v t h = elim (lt_or_same_or_gt t at) [
+        | inl l ↦ inl (sym (until_then t h.0 l) ∙ h.2, after_same (after_row q) from t (same_places starts) h.0, l)
+        | inr o ↦ elim o [
+          | inl s ↦ inr (inl (sym (there t s) ∙ h.2, ge_of_same s, le_of_same s))
+          | inr l ↦ inr (inr (sym (from_then t l h.1) ∙ h.2, l, upto_same (before_row r) to t (same_places ends) h.1))
+        ]
+      ]
 
 -- what was added made both sets grow
 pub grown_of : (a b : Sets) (Q : Bool → Rational → Type 0) → HasAdded a b Q → HasGrown a b

@@ -14,13 +14,13 @@ use Rattle.stl_syntax.specs.declared.node.Node.{Node}
 use Rattle.stl_syntax.specs.declared.node.Node.TheVariants.{Const, Atom as Leaf, Not, And, Or, Implies, Until, Eventually, Always, Since, Once, Historically}
 use Rattle.early_verdict.specs.Spans.{IsOn, Lies, AreTidy}
 use Rattle.early_verdict.specs.Readings.{SomeAhead, OnlyAhead, SomeBehind, OnlyBehind, UntilHolds, UntilFails, SinceHolds, SinceFails}
-use Rattle.early_verdict.specs.Fitting.{Lists, lists_at, lists_of, SayBoth, AreSetsTidy, Fits}
+use Rattle.early_verdict.specs.Fitting.{Lists, lists_of, SayBoth, AreSetsTidy, Fits}
 use Rattle.early_verdict.specs.Living.{IsShown, LooksAt}
 use Rattle.early_verdict.specs.declared.stretch.Stretch.{Stretch}
 use Rattle.early_verdict.specs.declared.sets.Sets.{Sets}
 use Rattle.early_verdict.proofs.Gaps.{covers, decided_on}
 use Rattle.early_verdict.proofs.Failures.{at_time, past_time}
-use Rattle.early_verdict.proofs.SinceSets.{along, none_later}
+use Rattle.early_verdict.proofs.SinceSets.{none_later}
 use Rattle.early_verdict.proofs.Settling.{until_fits, since_fits}
 
 -- up to the last row the lists tell the truth at each time that is asked
@@ -90,7 +90,7 @@ module _ (tr : Trace) (own : Stretch) (s : Sets) (is_yes : s.yes.bounds ≡ own)
     | inr n ↦ inl (other (λ y. n (h.no.has t (to_no t l) y)))
   ]
 
-  module _ (shown : List Sets) (at : ℕ → Lists) (is_at : (p : ℕ) → lists_at shown p ≡ at p) (sub : ℕ → Subformula) (i : ℕ) (known : (p : ℕ) → p < i → Final tr (IsShown shown p) (at p) (sub p))
+  module _ (shown : List Sets) (at : ℕ → Lists) (sub : ℕ → Subformula) (i : ℕ) (known : (p : ℕ) → p < i → Final tr (IsShown shown p) (at p) (sub p))
       (tidy_at : (p : ℕ) → AreTidy (at p).no) (tidy_yes : (p : ℕ) → AreTidy (at p).yes) where
     -- times at which p is settled false break the way from t to u, or p is true all along
     broken : (p : ℕ) → p < i → (t u : Rational) → ((v : Rational) → Within t u v → IsShown shown p v) → u ≤ʳ stop tr
@@ -204,9 +204,9 @@ module _ (tr : Trace) (own : Stretch) (s : Sets) (is_yes : s.yes.bounds ≡ own)
         ])
         (λ t l e. one_side (SinceHolds tr x y (IsOn (at p).yes) (IsOn (at q).yes)) (SinceFails tr x y (IsOn (at p).no) (IsOn (at q).no)) b t l
         (λ n u d. let ut = none_later u t x d.ends in let us = le_trans ut e in
-        elim (m.all u (a.0 t u l (along (start tr) x y t u u d (le_refl u) ut)).1 us) [
+        elim (m.all u (a.0 t u l d.after ut).1 us) [
           | inr z ↦ inl z
-          | inl z ↦ elim (broken p c.0 u t (λ v w. (a.0 t v l (along (start tr) x y t u v d w.above w.below)).0) e) [
+          | inl z ↦ elim (broken p c.0 u t (λ v w. (a.0 t v l (le_trans d.after w.above) w.below).0) e) [
             | inl all ↦ absurd (n (u, d, (d.after, inl us), z, all))
             | inr g ↦ inr g
           ]
@@ -217,13 +217,10 @@ module _ (tr : Trace) (own : Stretch) (s : Sets) (is_yes : s.yes.bounds ≡ own)
         (λ t f e (u, d, r, g). let us = sure_in tr t u e r in (u, met_behind tr x y x_in y_in t u d us, k.yes u g us))
         (λ t f e z (u, d, g). k.no u (z u (open_behind tr x y x_in y_in t u d)) d.inside.below g)
         (λ t l e. one_side (SomeBehind tr x y x_in y_in (IsOn (at p).yes)) (OnlyBehind tr x y x_in y_in (IsOn (at p).no)) h t l
-        (λ n u d. let ut = none_later u t x (precedes_le x_in (later u x) t d.ends) in elim (a t u l d) [
-          | inl i ↦ elim (k.all u i (le_trans ut e)) [
-            | inl z ↦ absurd (n (u, d, (d.after, inr ut), z))
-            | inr z ↦ z
-          ]
-          | inr (w, f, i, z) ↦
-              absurd (n (w, f, (f.after, inr (none_later w t x (precedes_le x_in (later w x) t f.ends))), subst (λ (l : Lists). IsOn l.yes w) (is_at p) z))
+        (λ n u d. let ut = none_later u t x (precedes_le x_in (later u x) t d.ends) in
+        elim (k.all u (a t u l d) (le_trans ut e)) [
+          | inl z ↦ absurd (n (u, d, (d.after, inr ut), z))
+          | inr z ↦ z
         ]))
     node_final (Historically p x y x_in y_in) c o a h =
         let k = known p c in
@@ -232,11 +229,7 @@ module _ (tr : Trace) (own : Stretch) (s : Sets) (is_yes : s.yes.bounds ≡ own)
         (λ t f e (u, d, r, g) z. let us = sure_in tr t u e r in k.no u g us (z u (met_behind tr x y x_in y_in t u d us)))
         (λ t l e. other_side (OnlyBehind tr x y x_in y_in (IsOn (at p).yes)) (SomeBehind tr x y x_in y_in (IsOn (at p).no)) h t l
         (λ n u d. let ut = none_later u t x (precedes_le x_in (later u x) t d.ends) in
-        elim (a t u l d) [
-          | inl i ↦ elim (k.all u i (le_trans ut e)) [
-            | inl z ↦ z
-            | inr z ↦ absurd (n (u, d, (d.after, inr ut), z))
-          ]
-          | inr (w, f, i, z) ↦
-              absurd (n (w, f, (f.after, inr (none_later w t x (precedes_le x_in (later w x) t f.ends))), subst (λ (l : Lists). IsOn l.no w) (is_at p) z))
+        elim (k.all u (a t u l d) (le_trans ut e)) [
+          | inl z ↦ z
+          | inr z ↦ absurd (n (u, d, (d.after, inr ut), z))
         ]))

@@ -4,11 +4,11 @@ use Rattle.std.specs.Prelude.{slice_get}
 use Rattle.rational.specs.Time.{Rational}
 use Rattle.stl_syntax.specs.declared.node.Node.{Node}
 use Rattle.early_verdict.specs.Spans.{IsOn, Lies}
-use Rattle.early_verdict.specs.Fitting.{HasStepped, Lists, lists_at}
+use Rattle.early_verdict.specs.Fitting.{HasStepped}
 use Rattle.early_verdict.specs.Standing.{SteppedTo}
 use Rattle.early_verdict.specs.Living.{AreLive, HasShown, IsLive, IsShown, ShownTo}
 use Rattle.early_verdict.specs.declared.sets.Sets.{Sets}
-use Rattle.early_verdict.proofs.AllSets.{AreSound, is_shown, lists_are, no_there, sets_at, shown_is, shown_within, yes_there}
+use Rattle.early_verdict.proofs.AllSets.{AreSound, is_shown, sets_at, shown_is, shown_within}
 use Rattle.early_verdict.proofs.LivingLemmas.{looks_as, parts_as}
 use Rattle.early_verdict.proofs.Netting.{nodes_at}
 use Rattle.early_verdict.proofs.Places.{get_within}
@@ -45,24 +45,6 @@ module _ (nodes : List Node) (from : Rational) (old new old_shown new_shown : Li
       let w = showed_at p x.0 x.1 in
       is_shown new_shown p x.0 u x.1 (subst (λ b. Lies b u) (sym w.4.no) (shown_is old_shown p w.2 u w.3 o))
 
-  -- and the lists have what they had
-  lists_still : (p : ℕ) (u : Rational)
-      → (IsOn (lists_at old_shown p).yes u → IsOn (lists_at new_shown p).yes u) × (IsOn (lists_at old_shown p).no u → IsOn (lists_at new_shown p).no u)
-  lists_still p u = (
-    λ o.
-        let l = yes_there old_shown p u o in
-        let c = g.count in
-        let x = sets_at new_shown p (omega (arith, c, l)) in
-        let m = showed_at p x.0 x.1 in
-        subst (λ (l : Lists). IsOn l.yes u) (sym (lists_are new_shown p x.0 x.1)) (m.4.gains_yes.kept u (subst (λ (l : Lists). IsOn l.yes u) (lists_are old_shown p m.2 m.3) o)),
-    λ o.
-        let l = no_there old_shown p u o in
-        let c = g.count in
-        let x = sets_at new_shown p (omega (arith, c, l)) in
-        let m = showed_at p x.0 x.1 in
-        subst (λ (l : Lists). IsOn l.no u) (sym (lists_are new_shown p x.0 x.1)) (m.4.gains_no.kept u (subst (λ (l : Lists). IsOn l.no u) (lists_are old_shown p m.2 m.3) o)),
-  )
-
   live_still : (i : ℕ) (n : Node) (s x : Sets) → slice_get nodes i ≡ Some n → slice_get new i ≡ Some s → slice_get new_shown i ≡ Some x → IsLive from new_shown n s x
   live_still i n s x at is ix = by_old (was_at i s is) (showed_at i x ix)
     where
@@ -73,7 +55,7 @@ module _ (nodes : List Node) (from : Rational) (old new old_shown new_shown : Li
         yes = step.yes ∙ k.yes;
         no = step.no ∙ k.no;
         starts = k.starts;
-        looks = looks_as from k.own k.own (λ t l. l) n old_shown new_shown r.parts s.parts (λ p e. shown_still p) (λ p e. lists_still p) step.parts k.looks;
+        looks = looks_as from k.own k.own (λ t l. l) n old_shown new_shown r.parts s.parts (λ p e. shown_still p) step.parts k.looks;
         left = parts_as n r s old_shown new_shown step.parts (λ p l' q z. let m = showed_at p l' z in (m.2, m.3, m.4.no)) k.left;
         shown_yes = shows.yes ∙ k.shown_yes ∙ sym shows.no;
         shown_starts = λ t l. k.shown_starts t (subst (λ b. Lies b t) shows.no l);

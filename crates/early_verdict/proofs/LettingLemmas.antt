@@ -1,35 +1,29 @@
 -- How nodes let go of times, one at a time.
-use Rattle.std.proofs.Common.{◌≡◌, ◌≢◌, ◌⊎◌, inl, inr, refl, sym, ap, subst, ◌∙◌, ℕ, ◌<◌, Bool, true}
-use Rattle.std.proofs.Common.{false, Option, Some, None, List, [], ◌∷◌, ◌++◌, length, take, drop, arith}
+use Rattle.std.proofs.Common.{◌≡◌, ◌≢◌, ◌⊎◌, inl, inr, refl, sym, subst, ◌∙◌, ℕ, ◌<◌, Bool, true, false, Option, Some, None, List, ◌++◌, length, take, drop, arith}
 use Rattle.std.specs.Prelude.{MatchBool, MatchOption, slice_get, slice_index_or, slice_set}
-use Rattle.rational.specs.Time.{Precedes, Rational, later, ◌≤ʳ◌, ◌<ʳ◌}
-use Rattle.rational.proofs.Order.{le_of_lt, le_trans, lt_of_lt_of_le, not_lt_of_le}
+use Rattle.rational.specs.Time.{Rational, later, ◌≤ʳ◌, ◌<ʳ◌}
+use Rattle.rational.proofs.Order.{le_of_lt, le_trans, not_lt_of_le}
 use Rattle.rational.proofs.TimeLemmas.{later_le, precedes_le}
 use Rattle.stl_syntax.specs.Early.{OpenAhead, OpenBehind}
 use Rattle.stl_syntax.specs.declared.node.Node.{Node}
 use Rattle.stl_syntax.specs.declared.node.Node.TheVariants.{Not, And, Or, Implies, Until, Eventually, Always, Once, Historically}
-use Rattle.early_verdict.specs.Cuts.{Place, place, After, AtMost, Before, Upto}
-use Rattle.early_verdict.specs.Spans.{AreTidy, IsAmong, IsOn, Lies}
+use Rattle.early_verdict.specs.Cuts.{Place, place, After, AtMost, Upto}
+use Rattle.early_verdict.specs.Spans.{IsAmong, IsOn, Lies}
 use Rattle.early_verdict.specs.Steps.{HoldsFrom}
-use Rattle.early_verdict.specs.Fitting.{Lists, lists_at, lists_of, no_of, yes_of}
 use Rattle.early_verdict.specs.Standing.{AllTidy}
 use Rattle.early_verdict.specs.Living.{HasShown, IsNarrowed, IsShown, ShowsAt}
-use Rattle.early_verdict.specs.Letting.{AreApart, AreAskedBy, AreInside, AreLess, IsAskedFirst}
-use Rattle.early_verdict.specs.Letting.{IsAskedFrom, IsFirstLeft, IsFirstShown, IsInside, IsLess}
-use Rattle.early_verdict.specs.Letting.{IsRunCut, IsRunCutAt, IsSettled, IsSettledAt, IsUntil, ShowsFrom}
+use Rattle.early_verdict.specs.Letting.{AreAskedBy, AreInside, AreLess, IsAskedFrom, IsInside, IsLess, IsRunCut, IsRunCutAt, IsSettled, IsSettledAt, IsUntil, ShowsFrom}
 use Rattle.early_verdict.specs.declared.cut.Cut.{Cut}
 use Rattle.early_verdict.specs.declared.stretch.Stretch.{Stretch}
-use Rattle.early_verdict.specs.declared.grown.Grown.{Grown}
 use Rattle.early_verdict.specs.declared.sets.Sets.{Sets}
-use Rattle.early_verdict.proofs.AllSets.{is_shown, lists_are, sets_at, shown_is, shown_within}
+use Rattle.early_verdict.proofs.AllSets.{is_shown, sets_at, shown_is, shown_within}
 use Rattle.early_verdict.proofs.MakingLemmas.{after_from}
 use Rattle.early_verdict.proofs.Netting.{nat_is}
 use Rattle.early_verdict.proofs.PlaceLemmas.{at_most_of_not_before, between, not_both, sides}
-use Rattle.early_verdict.proofs.Places.{lists_by, put_count, put_here, put_there, same_sets}
+use Rattle.early_verdict.proofs.Places.{put_count, put_here, put_there, same_sets}
 use Rattle.early_verdict.proofs.Splitting.{at_split, joined_is}
 use Rattle.early_verdict.proofs.StretchLemmas.{rises}
-use Rattle.early_verdict.proofs.RunLemmas.{earlier_after, le_through, on_one, upto_le}
-use Rattle.early_verdict.proofs.Telling.{parts_tidy}
+use Rattle.early_verdict.proofs.RunLemmas.{le_through, on_one, upto_le}
 
 -- the stretch that holds the times after a place has those up to its end
 pub past_one : (xs : List Stretch) (s : Stretch) (c : Place) (t : Rational) → IsAmong s xs → HoldsFrom s c → After c t → Upto (place s.to) t → IsOn xs t
@@ -135,8 +129,7 @@ module _ (p : ℕ) (from : Rational) (old new : List Sets) (h : IsAskedFrom p fr
     | inl d ↦
         let a = same_sets h.was w (sym h.at_old ∙ subst (λ k. slice_get old k ≡ Some w) d e) in
         let b = same_sets h.is x (sym h.at_new ∙ subst (λ k. slice_get new k ≡ Some x) d f) in
-        subst (λ (z : Sets). Lies z.no.bounds t) b
-        (subst (λ z. Lies z t) (sym h.narrowed.no_bounds) (elim (h.left t (subst (λ (z : Sets). Lies z.no.bounds t) (sym a) l)) [
+        subst (λ (z : Sets). Lies z.no.bounds t) b (subst (λ z. Lies z t) (sym h.narrowed.no_bounds) (elim (h.left t (subst (λ (z : Sets). Lies z.no.bounds t) (sym a) l)) [
           | inl m ↦ m
           | inr m ↦ absurd (not_lt_of_le g m)
         ]))
@@ -153,13 +146,11 @@ module _ (p : ℕ) (from : Rational) (old new : List Sets) (h : IsAskedFrom p fr
     | inr d ↦ subst (λ (z : Sets). Upto (place z.no.bounds.to) t) (same_sets w x (sym e ∙ sym (h.others q d) ∙ f)) u
   ]
 
-  shown_after : (w x : Sets) → slice_get old p ≡ Some w → slice_get new p ≡ Some x → (t : Rational) → Lies w.no.bounds t
-      → from ≤ʳ t → (u : Rational) → Lies x.no.bounds u → from ≤ʳ u
+  shown_after : (w x : Sets) → slice_get old p ≡ Some w → slice_get new p ≡ Some x → (t : Rational) → Lies w.no.bounds t → from ≤ʳ t → (u : Rational) → Lies x.no.bounds u → from ≤ʳ u
   shown_after w x e f t l g u k =
       let a = same_sets h.was w (sym h.at_old ∙ e) in
       let b = same_sets h.is x (sym h.at_new ∙ f) in
-      h.after t (subst (λ (z : Sets). Lies z.no.bounds t) (sym a) l) g u
-      (subst (λ z. Lies z u) h.narrowed.no_bounds (subst (λ (z : Sets). Lies z.no.bounds u) (sym b) k))
+      h.after t (subst (λ (z : Sets). Lies z.no.bounds t) (sym a) l) g u (subst (λ z. Lies z u) h.narrowed.no_bounds (subst (λ (z : Sets). Lies z.no.bounds u) (sym b) k))
 
   pub tidy_asked : AllTidy old → AllTidy new
   tidy_asked t q x e = let w = one_less.each q x e in w.2.tidy (t q w.0 w.1)
@@ -173,36 +164,9 @@ both_less a b c f g = record {
   each = λ p x e. let w = g.each p x e in let v = f.each p w.0 w.1 in (v.0, v.1, less_then v.0 w.0 x v.2 w.2);
 }
 
--- what a list has of what is shown still it has still
-pub still_on : (old new : List Sets) → AreLess old new → (p : ℕ) (u : Rational) → IsShown new p u
-    → (IsOn (lists_at old p).yes u → IsOn (lists_at new p).yes u) × (IsOn (lists_at old p).no u → IsOn (lists_at new p).no u)
-still_on old new less p u h =
-    let x = sets_at new p (shown_within new p u h) in
-    let w = less.each p x.0 x.1 in
-    let l = shown_is new p x.0 u x.1 h in (
-      λ o. subst (λ (z : Lists). IsOn z.yes u) (sym (lists_are new p x.0 x.1))
-          (w.2.yes_in u l (subst (λ (z : Lists). IsOn z.yes u) (lists_are old p w.0 w.1) o)),
-      λ o. subst (λ (z : Lists). IsOn z.no u) (sym (lists_are new p x.0 x.1)) (w.2.no_in u l (subst (λ (z : Lists). IsOn z.no u) (lists_are old p w.0 w.1) o)),
-    )
-
--- a time that lies before another does so as much later
-later_lt : (w u : Rational) (k : ℕ) → w <ʳ u → later w k <ʳ later u k
-later_lt w u k h = record { lt = omega (arith, h.lt) }
-
-precedes_of : (inside : Bool) (t u : Rational) → t <ʳ u → Precedes inside t u
-precedes_of true t u h = le_of_lt h
-precedes_of false t u h = h
-
-before_side : (c : Place) (t : Rational) → c.after ≡ false → Upto c t → t <ʳ c.at
-before_side c t e = by_side c.after e
-  where
-    by_side : (b : Bool) → b ≡ false → MatchBool b (t ≤ʳ c.at) (t <ʳ c.at) → t <ʳ c.at
-    by_side true f h = absurd (let g : true ≡ false = f in cc)
-    by_side false f h = h
-
 -- children that are asked from the times on at which the node looks at them
 pub none_asked : (n : Node) (from : Rational) (xs : List Sets) → ¬ (IsUntil n) → AreAskedBy n from xs xs
-none_asked n from xs u = record { less = none_less xs; others = λ p c. refl; run = λ r. refl; looks = λ s own parts k f l. l; cut = λ e. absurd (u e) }
+none_asked n from xs u = record { less = none_less xs; others = λ p c. refl; run = λ r. refl; looks = λ s own parts f l. l; cut = λ e. absurd (u e) }
 
 pub asked_not : (p : ℕ) (from : Rational) (old new : List Sets) → IsAskedFrom p from old new → AreAskedBy (Not p) from old new
 asked_not p from old new h = record {
@@ -210,17 +174,17 @@ asked_not p from old new h = record {
   others = λ q c. h.others q (λ e. c (sym e));
   run = λ r. absurd r;
   cut = λ e. absurd e;
-  looks = λ s own parts k f l t o. still_shown p from old new h p t (λ d. f t o) (l t o);
+  looks = λ s own parts f l t o. still_shown p from old new h p t (λ d. f t o) (l t o);
 }
 
 module _ (p q : ℕ) (from : Rational) (old mid new : List Sets) (h : IsAskedFrom p from old mid) (g : IsAskedFrom q from mid new) where
-  pub two_less : AreLess old new
+  two_less : AreLess old new
   two_less = both_less old mid new (one_less p from old mid h) (one_less q from mid new g)
 
-  pub two_others : (r : ℕ) → ¬ ((p ≡ r) ⊎ (q ≡ r)) → slice_get new r ≡ slice_get old r
+  two_others : (r : ℕ) → ¬ ((p ≡ r) ⊎ (q ≡ r)) → slice_get new r ≡ slice_get old r
   two_others r c = g.others r (λ e. c (inr (sym e))) ∙ h.others r (λ e. c (inl (sym e)))
 
-  pub both_shown : (r : ℕ) (t : Rational) → from ≤ʳ t → IsShown old r t → IsShown new r t
+  both_shown : (r : ℕ) (t : Rational) → from ≤ʳ t → IsShown old r t → IsShown new r t
   both_shown r t f l = still_shown q from mid new g r t (λ d. f) (still_shown p from old mid h r t (λ d. f) l)
 
   pub asked_and : AreAskedBy (And p q) from old new
@@ -229,7 +193,7 @@ module _ (p q : ℕ) (from : Rational) (old mid new : List Sets) (h : IsAskedFro
     others = two_others;
     run = λ r. absurd r;
     cut = λ e. absurd e;
-    looks = λ s own parts e f l t o. let k = l t o in (both_shown p t (f t o) k.0, both_shown q t (f t o) k.1);
+    looks = λ s own parts f l t o. let k = l t o in (both_shown p t (f t o) k.0, both_shown q t (f t o) k.1);
   }
 
   pub asked_or : AreAskedBy (Or p q) from old new
@@ -238,7 +202,7 @@ module _ (p q : ℕ) (from : Rational) (old mid new : List Sets) (h : IsAskedFro
     others = two_others;
     run = λ r. absurd r;
     cut = λ e. absurd e;
-    looks = λ s own parts e f l t o. let k = l t o in (both_shown p t (f t o) k.0, both_shown q t (f t o) k.1);
+    looks = λ s own parts f l t o. let k = l t o in (both_shown p t (f t o) k.0, both_shown q t (f t o) k.1);
   }
 
   pub asked_implies : AreAskedBy (Implies p q) from old new
@@ -247,12 +211,11 @@ module _ (p q : ℕ) (from : Rational) (old mid new : List Sets) (h : IsAskedFro
     others = two_others;
     run = λ r. absurd r;
     cut = λ e. absurd e;
-    looks = λ s own parts e f l t o. let k = l t o in (both_shown p t (f t o) k.0, both_shown q t (f t o) k.1);
+    looks = λ s own parts f l t o. let k = l t o in (both_shown p t (f t o) k.0, both_shown q t (f t o) k.1);
   }
 
-  -- both show the times from there on
-  pub two_shows : (r : ℕ) (w x : Sets) → (p ≡ r) ⊎ (q ≡ r) → slice_get old r ≡ Some w → slice_get new r ≡ Some x → ShowsFrom from w x
-  two_shows r w x c e f =
+  until_cut : (r : ℕ) (w x : Sets) → (p ≡ r) ⊎ (q ≡ r) → slice_get old r ≡ Some w → slice_get new r ≡ Some x → ShowsFrom from w x
+  until_cut r w x c e f =
       let y = (one_less q from mid new g).each r x f in
       by_mid y.0 y.1 y.2
     where
@@ -261,8 +224,7 @@ module _ (p q : ℕ) (from : Rational) (old mid new : List Sets) (h : IsAskedFro
         left = λ t l k. shown_left q from mid new g r y x m f t (shown_left p from old mid h r w y e m t l k) k;
         after = λ t l k u o. elim c [
           | inl d ↦
-              shown_after p from old mid h w y (subst (λ j. slice_get old j ≡ Some w) (sym d) e)
-              (subst (λ j. slice_get mid j ≡ Some y) (sym d) m) t l k u (less.less u o)
+              shown_after p from old mid h w y (subst (λ j. slice_get old j ≡ Some w) (sym d) e) (subst (λ j. slice_get mid j ≡ Some y) (sym d) m) t l k u (less.less u o)
           | inr d ↦
               shown_after q from mid new g y x (subst (λ j. slice_get mid j ≡ Some y) (sym d) m) (subst (λ j. slice_get new j ≡ Some x) (sym d) f) t
               (shown_left p from old mid h r w y e m t l k) k u o
@@ -276,8 +238,8 @@ module _ (p q : ℕ) (from : Rational) (old mid new : List Sets) (h : IsAskedFro
     less = two_less;
     others = two_others;
     run = λ r. absurd r;
-    cut = λ u r w x c e f. two_shows r w x c e f;
-    looks = λ s own parts j f l. (
+    cut = λ u r w x c e f. until_cut r w x c e f;
+    looks = λ s own parts f l. (
       λ t u o d e. let k = l.0 t u o d e in (both_shown p u (le_trans (f t o) d) k.0, both_shown q u (le_trans (f t o) d) k.1),
       l.1,
     );
@@ -294,7 +256,7 @@ module _ (p : ℕ) (from first : Rational) (old new : List Sets) (h : IsAskedFro
       others = λ q c. h.others q (λ e. c (sym e));
       run = λ r. absurd r;
       cut = λ e. absurd e;
-      looks = λ s own parts k f l t u o w. still_shown p first old new h p u (λ d. seen_ahead s t u (f t o) w) (l t u o w);
+      looks = λ s own parts f l t u o w. still_shown p first old new h p u (λ d. seen_ahead s t u (f t o) w) (l t u o w);
     }
 
     pub asked_always : AreAskedBy (Always p a b a_in b_in) from old new
@@ -303,7 +265,7 @@ module _ (p : ℕ) (from first : Rational) (old new : List Sets) (h : IsAskedFro
       others = λ q c. h.others q (λ e. c (sym e));
       run = λ r. absurd r;
       cut = λ e. absurd e;
-      looks = λ s own parts k f l t u o w. still_shown p first old new h p u (λ d. seen_ahead s t u (f t o) w) (l t u o w);
+      looks = λ s own parts f l t u o w. still_shown p first old new h p u (λ d. seen_ahead s t u (f t o) w) (l t u o w);
     }
 
   module _ (a b : ℕ) (a_in b_in : Bool) (begins : later first b ≤ʳ from) where
@@ -319,12 +281,7 @@ module _ (p : ℕ) (from first : Rational) (old new : List Sets) (h : IsAskedFro
       others = λ q c. h.others q (λ e. c (sym e));
       run = λ r. absurd r;
       cut = λ e. absurd e;
-      looks = λ s own parts k f l t u o w. elim (l t u o w) [
-        | inl m ↦ inl (still_shown p first old new h p u (λ d. seen_behind s t u (f t o) w) m)
-        | inr (v, d, m, z) ↦
-            let n = still_shown p first old new h p v (λ e. seen_behind s t v (f t o) d) m in
-            inr (v, d, n, (still_on old new (one_less p first old new h) p v n).0 z)
-      ];
+      looks = λ s own parts f l t u o w. still_shown p first old new h p u (λ d. seen_behind s t u (f t o) w) (l t u o w);
     }
 
     pub asked_historically : AreAskedBy (Historically p a (Some b) a_in b_in) from old new
@@ -333,181 +290,19 @@ module _ (p : ℕ) (from first : Rational) (old new : List Sets) (h : IsAskedFro
       others = λ q c. h.others q (λ e. c (sym e));
       run = λ r. absurd r;
       cut = λ e. absurd e;
-      looks = λ s own parts k f l t u o w. elim (l t u o w) [
-        | inl m ↦ inl (still_shown p first old new h p u (λ d. seen_behind s t u (f t o) w) m)
-        | inr (v, d, m, z) ↦
-            let n = still_shown p first old new h p v (λ e. seen_behind s t v (f t o) d) m in
-            inr (v, d, n, (still_on old new (one_less p first old new h) p v n).1 z)
-      ];
+      looks = λ s own parts f l t u o w. still_shown p first old new h p u (λ d. seen_behind s t u (f t o) w) (l t u o w);
     }
 
--- where a node shows its first times of a truth alone
-module _ (p low : ℕ) (at : Rational) (old new : List Sets) (apart : AreApart old) (inside : AreInside old) (tidy : AllTidy old) where
-  module _ (holds : Bool) (h : IsAskedFirst p holds low at old new) where
-    first_less : IsLess h.was h.is → AreLess old new
-    first_less less = record { count = h.count; each = each }
-      where
-        each : (q : ℕ) (x : Sets) → slice_get new q ≡ Some x → (w : Sets) × (slice_get old q ≡ Some w) × IsLess w x
-        each q x e = elim (nat_is q p) [
-          | inl d ↦
-              let a = same_sets h.is x (sym h.at_new ∙ subst (λ k. slice_get new k ≡ Some x) d e) in
-              (h.was, subst (λ k. slice_get old k ≡ Some h.was) (sym d) h.at_old, subst (λ z. IsLess h.was z) a less)
-          | inr d ↦ (x, sym (h.others q d) ∙ e, same_less x)
-        ]
+-- a bound that may be wanting
+pub asked_once_by : (p a : ℕ) (b : Option ℕ) (a_in b_in : Bool) (from : Rational) (old new : List Sets)
+    → MatchOption b (new ≡ old) (λ k. (first : Rational) × (later first k ≤ʳ from) × IsAskedFrom p first old new) → AreAskedBy (Once p a b a_in b_in) from old new
+asked_once_by p a None i j from old new e = subst (λ xs. AreAskedBy (Once p a None i j) from old xs) (sym e) (none_asked (Once p a None i j) from old (λ h. h))
+asked_once_by p a (Some b) i j from old new (first, e, h) = asked_once p from first old new h a b i j e
 
-    -- some time that is left lies so far before
-    early_time : (limit : Place) → later limit.at low ≤ʳ at → limit.after ≡ false → (s : Stretch) → Before (place s.from) limit
-        → (w : Rational) × Lies s w × (later w low <ʳ at)
-    early_time limit k e s b =
-        let m = earlier_after (place s.to) limit (place s.from) (rises s) b in
-        let w = between (place s.from) m.0 m.1 in
-        let u = m.2 w.0 w.2 in
-        (w.0, (w.1, u.0), lt_of_lt_of_le (later_lt w.0 limit.at low (before_side limit w.0 e u.1)) k)
-
-    -- what decides a node is shown to it
-    seen_first : (side : Lists → List Stretch) (s : Stretch) → IsAmong s (side (lists_of h.was)) → side (lists_of h.is) ≡ s ∷ []
-        → IsInside h.was → h.is.no.bounds ≡ s
-        → ((t : Rational) → IsOn (side (lists_of h.was)) t → Lies h.was.no.bounds t) → (w : Rational) → Lies s w → later w low <ʳ at
-        → (a_in b_in : Bool) (start : Rational) → ((q : ℕ) (u : Rational) → IsShown old q u → start ≤ʳ u) → (t : Rational) → at ≤ʳ t
-        → (v : Rational) × OpenBehind start low None a_in b_in t v × IsShown new p v × IsOn (side (lists_at new p)) v
-    seen_first side s among left within bounds lies w l before a_in b_in start begun t e = (
-      w,
-      record {
-        after = begun p w (is_shown old p h.was w h.at_old (lies w (on_one (side (lists_of h.was)) s w among l)));
-        begins = tt;
-        ends = precedes_of a_in (later w low) t (lt_of_lt_of_le before e);
-      },
-      is_shown new p h.is w h.at_new (subst (λ z. Lies z w) (sym bounds) l),
-      subst (λ (z : Lists). IsOn (side z) w) (sym (lists_are new p h.is h.at_new)) (subst (λ xs. IsOn xs w) (sym left) (inl l)),
-    )
-
-    -- where it is as it was
-    as_was : h.is ≡ h.was → (q : ℕ) (u : Rational) → (IsShown old q u → IsShown new q u)
-        × (IsOn (lists_at old q).yes u → IsOn (lists_at new q).yes u) × (IsOn (lists_at old q).no u → IsOn (lists_at new q).no u)
-    as_was e q u = (
-      λ o. let x = sets_at old q (shown_within old q u o) in is_shown new q x.0 u (same ∙ x.1) (shown_is old q x.0 u x.1 o),
-      λ o. subst (λ (l : Lists). IsOn l.yes u) (lists_by old new q (sym same)) o,
-      λ o. subst (λ (l : Lists). IsOn l.no u) (lists_by old new q (sym same)) o,
-    )
-      where
-        same : slice_get new q ≡ slice_get old q
-        same = elim (nat_is q p) [
-          | inl d ↦ subst (λ k. slice_get new k ≡ slice_get old k) (sym d) (h.at_new ∙ ap Some e ∙ sym h.at_old)
-          | inr d ↦ h.others q d
-        ]
-
-  -- the set has the times of the stretch, and no others
-  only_part : (x : Grown) (s : Stretch) (t : Rational) → x.spans.items ≡ s ∷ [] → IsOn x.spans.items t → Lies s t
-  only_part x s t e o = elim (subst (λ xs. IsOn xs t) e o) [ inl l ↦ l | inr f ↦ absurd f ]
-
-  none_on : (x : Grown) (t : Rational) → x.spans.items ≡ [] → IsOn x.spans.items t → ⊥
-  none_on x t e o = subst (λ xs. IsOn xs t) e o
-
-  -- sets of which one stretch is left are less
-  first_yes : (was is : Sets) → slice_get old p ≡ Some was → is.parts ≡ was.parts → (limit : Place) → IsFirstLeft limit was.yes is.yes is.no → IsLess was is
-  first_yes was is e same limit f = record {
-    tidy = λ h. record { yes = subst AreTidy (sym f.left) (tt, tt); no = subst AreTidy (sym f.none) tt; parts = parts_tidy was.parts is.parts same h.parts };
-    inside = λ h. record {
-      yes = λ t o. subst (λ z. Lies z t) (sym f.other_bounds) (only_part is.yes f.part t f.left o);
-      no = λ t o. absurd (none_on is.no t f.none o);
-    };
-    same = λ h. f.bounds ∙ sym f.other_bounds;
-    less = λ t l. (inside p was e).yes t (on_one was.yes.spans.items f.part t f.among (subst (λ z. Lies z t) f.other_bounds l));
-    yes_in = λ t l o. subst (λ xs. IsOn xs t) (sym f.left) (inl (subst (λ z. Lies z t) f.other_bounds l));
-    yes_out = λ t o. on_one was.yes.spans.items f.part t f.among (only_part is.yes f.part t f.left o);
-    no_in = λ t l o. absurd (apart p was e t (on_one was.yes.spans.items f.part t f.among (subst (λ z. Lies z t) f.other_bounds l)) o);
-    no_out = λ t o. absurd (none_on is.no t f.none o);
-  }
-
-  first_no : (was is : Sets) → slice_get old p ≡ Some was → is.parts ≡ was.parts → (limit : Place) → IsFirstLeft limit was.no is.no is.yes → IsLess was is
-  first_no was is e same limit f = record {
-    tidy = λ h. record { yes = subst AreTidy (sym f.none) tt; no = subst AreTidy (sym f.left) (tt, tt); parts = parts_tidy was.parts is.parts same h.parts };
-    inside = λ h. record {
-      yes = λ t o. absurd (none_on is.yes t f.none o);
-      no = λ t o. subst (λ z. Lies z t) (sym f.bounds) (only_part is.no f.part t f.left o);
-    };
-    same = λ h. f.other_bounds ∙ sym f.bounds;
-    less = λ t l. (inside p was e).no t (on_one was.no.spans.items f.part t f.among (subst (λ z. Lies z t) f.bounds l));
-    yes_in = λ t l o. absurd (apart p was e t o (on_one was.no.spans.items f.part t f.among (subst (λ z. Lies z t) f.bounds l)));
-    yes_out = λ t o. absurd (none_on is.yes t f.none o);
-    no_in = λ t l o. subst (λ xs. IsOn xs t) (sym f.left) (inl (subst (λ z. Lies z t) f.bounds l));
-    no_out = λ t o. on_one was.no.spans.items f.part t f.among (only_part is.no f.part t f.left o);
-  }
-
-  same_both : (was is : Sets) → is.parts ≡ was.parts → is.yes ≡ was.yes → is.no ≡ was.no → is ≡ was
-  same_both was is e f g =
-      subst (λ y. record { yes = y; no = is.no; parts = is.parts } ≡ was) (sym f)
-      (subst (λ n. record { yes = was.yes; no = n; parts = is.parts } ≡ was) (sym g)
-      (subst (λ x. record { yes = was.yes; no = was.no; parts = x } ≡ was) (sym e) refl))
-
-  pub asked_once_first : (a_in b_in : Bool) → IsAskedFirst p true low at old new → AreAskedBy (Once p low None a_in b_in) at old new
-  asked_once_first a_in b_in h = by_shows h.shows
-    where
-      by_shows : IsFirstShown low at h.was.yes h.was.no h.is.yes h.is.no → AreAskedBy (Once p low None a_in b_in) at old new
-      by_shows (inl (e, f)) =
-          let same = same_both h.was h.is h.parts e f in
-          record {
-            less = first_less true h (subst (λ z. IsLess h.was z) (sym same) (same_less h.was));
-            others = λ q c. h.others q (λ e. c (sym e));
-            run = λ r. absurd r;
-            cut = λ e. absurd e;
-            looks = λ s own parts k f l t u o w. elim (l t u o w) [
-              | inl m ↦ inl ((as_was true h same p u).0 m)
-              | inr (v, d, m, z) ↦ inr (v, d, (as_was true h same p v).0 m, (as_was true h same p v).1 z)
-            ];
-          }
-      by_shows (inr (limit, k, e, f)) =
-          let early = early_time true h limit k e f.part f.begins in
-          record {
-            less = first_less true h (first_yes h.was h.is h.at_old h.parts limit f);
-            others = λ q c. h.others q (λ e. c (sym e));
-            run = λ r. absurd r;
-            cut = λ e. absurd e;
-            looks = λ s own parts begun g l t u o w.
-                inr (seen_first true h yes_of f.part f.among f.left (inside p h.was h.at_old) f.other_bounds (inside p h.was h.at_old).yes
-                early.0 early.1 early.2 a_in b_in s begun t (g t o));
-          }
-
-  pub asked_historically_first : (a_in b_in : Bool) → IsAskedFirst p false low at old new → AreAskedBy (Historically p low None a_in b_in) at old new
-  asked_historically_first a_in b_in h = by_shows h.shows
-    where
-      by_shows : IsFirstShown low at h.was.no h.was.yes h.is.no h.is.yes → AreAskedBy (Historically p low None a_in b_in) at old new
-      by_shows (inl (e, f)) =
-          let same = same_both h.was h.is h.parts f e in
-          record {
-            less = first_less false h (subst (λ z. IsLess h.was z) (sym same) (same_less h.was));
-            others = λ q c. h.others q (λ e. c (sym e));
-            run = λ r. absurd r;
-            cut = λ e. absurd e;
-            looks = λ s own parts k f l t u o w. elim (l t u o w) [
-              | inl m ↦ inl ((as_was false h same p u).0 m)
-              | inr (v, d, m, z) ↦ inr (v, d, (as_was false h same p v).0 m, (as_was false h same p v).2 z)
-            ];
-          }
-      by_shows (inr (limit, k, e, f)) =
-          let early = early_time false h limit k e f.part f.begins in
-          record {
-            less = first_less false h (first_no h.was h.is h.at_old h.parts limit f);
-            others = λ q c. h.others q (λ e. c (sym e));
-            run = λ r. absurd r;
-            cut = λ e. absurd e;
-            looks = λ s own parts begun g l t u o w.
-                inr (seen_first false h no_of f.part f.among f.left (inside p h.was h.at_old) f.bounds (inside p h.was h.at_old).no
-                early.0 early.1 early.2 a_in b_in s begun t (g t o));
-          }
-
-  -- a bound that may be wanting
-  pub asked_once_by : (b : Option ℕ) (a_in b_in : Bool)
-      → MatchOption b (IsAskedFirst p true low at old new) (λ k. (first : Rational) × (later first k ≤ʳ at) × IsAskedFrom p first old new)
-      → AreAskedBy (Once p low b a_in b_in) at old new
-  asked_once_by None i j h = asked_once_first i j h
-  asked_once_by (Some b) i j (first, e, h) = asked_once p at first old new h low b i j e
-
-  pub asked_historically_by : (b : Option ℕ) (a_in b_in : Bool)
-      → MatchOption b (IsAskedFirst p false low at old new) (λ k. (first : Rational) × (later first k ≤ʳ at) × IsAskedFrom p first old new)
-      → AreAskedBy (Historically p low b a_in b_in) at old new
-  asked_historically_by None i j h = asked_historically_first i j h
-  asked_historically_by (Some b) i j (first, e, h) = asked_historically p at first old new h low b i j e
+pub asked_historically_by : (p a : ℕ) (b : Option ℕ) (a_in b_in : Bool) (from : Rational) (old new : List Sets)
+    → MatchOption b (new ≡ old) (λ k. (first : Rational) × (later first k ≤ʳ from) × IsAskedFrom p first old new) → AreAskedBy (Historically p a b a_in b_in) from old new
+asked_historically_by p a None i j from old new e = subst (λ xs. AreAskedBy (Historically p a None i j) from old xs) (sym e) (none_asked (Historically p a None i j) from old (λ h. h))
+asked_historically_by p a (Some b) i j from old new (first, e, h) = asked_historically p from first old new h a b i j e
 
 -- what is put back at a place
 pub asked_at : (sets front back : List Sets) (i : ℕ) (d own : Sets) (from : Rational) (b : Stretch) → front ≡ take i sets → back ≡ drop i sets → i < length sets
@@ -544,8 +339,7 @@ settled_at shown sets front back i d own x e f h is s = record {
   settled = s;
 }
 
-pub shows_at : (live sets front back : List Sets) (i : ℕ) (d own s : Sets) → front ≡ take i sets → back ≡ drop i sets
-    → i < length sets → slice_get live i ≡ Some s
+pub shows_at : (live sets front back : List Sets) (i : ℕ) (d own s : Sets) → front ≡ take i sets → back ≡ drop i sets → i < length sets → slice_get live i ≡ Some s
     → HasShown (slice_index_or back 0 d) own s → ShowsAt i live sets (front ++ slice_set back 0 own)
 shows_at live sets front back i d own s e f h is k = record {
   own = s;
@@ -559,10 +353,9 @@ shows_at live sets front back i d own s e f h is k = record {
   shown = k;
 }
 
-pub run_cut_at : (sets front back : List Sets) (i : ℕ) (d own : Sets) (first from : Rational) (wide : Stretch)
-    → front ≡ take i sets → back ≡ drop i sets → i < length sets
-    → IsRunCut first from wide (slice_index_or back 0 d) own → IsRunCutAt i first from wide sets (front ++ slice_set back 0 own)
-run_cut_at sets front back i d own first from wide e f h k = record {
+pub run_cut_at : (sets front back : List Sets) (i : ℕ) (d own : Sets) (from : Rational) (wide : Stretch) → front ≡ take i sets → back ≡ drop i sets → i < length sets
+    → IsRunCut from wide (slice_index_or back 0 d) own → IsRunCutAt i from wide sets (front ++ slice_set back 0 own)
+run_cut_at sets front back i d own from wide e f h k = record {
   was = slice_index_or back 0 d;
   is = own;
   at_old = at_split sets back i d f h;
@@ -571,42 +364,3 @@ run_cut_at sets front back i d own first from wide e f h k = record {
   count = subst (λ xs. length xs ≡ length sets) (sym (joined_is sets front back i own e f h)) (put_count sets i own);
   cut = k;
 }
-
-first_at : (sets front back : List Sets) (i : ℕ) (d own : Sets) (holds : Bool) (low : ℕ) (at : Rational) → front ≡ take i sets
-    → back ≡ drop i sets → i < length sets
-    → own.parts ≡ (slice_index_or back 0 d).parts
-    → MatchBool holds (IsFirstShown low at (slice_index_or back 0 d).yes (slice_index_or back 0 d).no own.yes own.no)
-    (IsFirstShown low at (slice_index_or back 0 d).no (slice_index_or back 0 d).yes own.no own.yes)
-    → IsAskedFirst i holds low at sets (front ++ slice_set back 0 own)
-first_at sets front back i d own holds low at e f h k s = record {
-  was = slice_index_or back 0 d;
-  is = own;
-  at_old = at_split sets back i d f h;
-  at_new = subst (λ xs. slice_get xs i ≡ Some own) (sym (joined_is sets front back i own e f h)) (put_here sets i own h);
-  others = λ j n. subst (λ xs. slice_get xs j ≡ slice_get sets j) (sym (joined_is sets front back i own e f h)) (put_there sets i j own n);
-  count = subst (λ xs. length xs ≡ length sets) (sym (joined_is sets front back i own e f h)) (put_count sets i own);
-  parts = k;
-  shows = s;
-}
-
-pub first_yes_at : (sets front back : List Sets) (i : ℕ) (d own : Sets) (holds : Bool) (low : ℕ) (at : Rational) → holds ≡ true → front ≡ take i sets
-    → back ≡ drop i sets → i < length sets → own.parts ≡ (slice_index_or back 0 d).parts
-    → IsFirstShown low at (slice_index_or back 0 d).yes (slice_index_or back 0 d).no own.yes own.no
-    → IsAskedFirst i holds low at sets (front ++ slice_set back 0 own)
-first_yes_at sets front back i d own holds low at is e f h k s =
-    subst (λ b. IsAskedFirst i b low at sets (front ++ slice_set back 0 own)) (sym is) (first_at sets front back i d own true low at e f h k s)
-
-pub first_no_at : (sets front back : List Sets) (i : ℕ) (d own : Sets) (holds : Bool) (low : ℕ) (at : Rational) → holds ≡ false → front ≡ take i sets
-    → back ≡ drop i sets → i < length sets → own.parts ≡ (slice_index_or back 0 d).parts
-    → IsFirstShown low at (slice_index_or back 0 d).no (slice_index_or back 0 d).yes own.no own.yes
-    → IsAskedFirst i holds low at sets (front ++ slice_set back 0 own)
-first_no_at sets front back i d own holds low at is e f h k s =
-    subst (λ b. IsAskedFirst i b low at sets (front ++ slice_set back 0 own)) (sym is) (first_at sets front back i d own false low at e f h k s)
-
--- of a list whose first is that one, the first alone
-pub take_one : (xs : List Stretch) (s : Stretch) → slice_get xs 0 ≡ Some s → take 1 xs ≡ s ∷ []
-take_one [] s e = absurd (let f : None ≡ Some s = e in cc)
-take_one (x ∷ xs) s e = ap (λ y. y ∷ []) (same x s e)
-  where
-    same : (a b : Stretch) → Some a ≡ Some b → a ≡ b
-    same a b e = cc

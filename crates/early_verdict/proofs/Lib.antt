@@ -4,7 +4,6 @@ pub mod StretchLemmas
 pub mod SpanLemmas
 pub mod Absorbing
 pub mod GrowingLemmas
-mod EndingLemmas
 pub mod WindowLemmas
 pub mod LoopLemmas
 pub mod RunLemmas
@@ -19,12 +18,10 @@ pub mod Telling
 pub mod UntilSets
 pub mod SinceSets
 pub mod Settling
-pub mod Apart
 pub mod SettledSets
 pub mod EndedSets
 pub mod AllSets
 pub mod AtomSets
-mod TurningLemmas
 pub mod TickLemmas
 pub mod SharedLemmas
 pub mod BetweenLemmas
@@ -56,6 +53,3 @@ mod LettingLemmas
 mod Narrowing
 mod UntilCuts
 mod UntilStands
-mod CarriedRuns
-mod SinceCuts
-mod SinceStands

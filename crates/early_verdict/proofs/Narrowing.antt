@@ -1,9 +1,8 @@
 -- What stands goes on to stand, where nodes go on from fewer times, or show fewer.
 use Rattle.std.proofs.Common.{◌≡◌, ◌≢◌, ◌⊎◌, inl, inr, refl, sym, ap, subst, ◌∙◌, ℕ, zero, suc, ◌-◌, ◌<◌, ◌≤◌, Bool, true, false, Option, Some, None, List, [], ◌∷◌, length, arith}
 use Rattle.std.specs.Prelude.{MatchBool, MatchOption, slice_get}
-use Rattle.rational.specs.Time.{Rational, later, ◌≤ʳ◌, ◌<ʳ◌}
+use Rattle.rational.specs.Time.{Rational, ◌≤ʳ◌, ◌<ʳ◌}
 use Rattle.rational.proofs.Order.{le_of_lt}
-use Rattle.rational.proofs.TimeLemmas.{precedes_le}
 use Rattle.stl_syntax.specs.Trace.{Trace, start}
 use Rattle.stl_syntax.specs.Formula.{HasChildrenBelow, subformula}
 use Rattle.stl_syntax.specs.Early.{Settled, SettledNot}
@@ -14,22 +13,20 @@ use Rattle.stl_syntax.proofs.PostOrderLemmas.{placed}
 use Rattle.early_verdict.specs.Cuts.{Place, After}
 use Rattle.early_verdict.specs.Spans.{IsOn, Lies}
 use Rattle.early_verdict.specs.Readings.{SomeAhead, OnlyAhead, SomeBehind, OnlyBehind}
-use Rattle.early_verdict.specs.Fitting.{Lists, lists_at, no_of, nothing, yes_of, Fits, SayBoth, SayOfParts, NegationFits, ConjunctionFits, DisjunctionFits, ImplicationFits, UntilFits, SinceFits, EventuallyFits, AlwaysFits, OnceFits, HistoricallyFits, AreSetsTidy}
+use Rattle.early_verdict.specs.Fitting.{Lists, lists_at, nothing, Fits, SayBoth, SayOfParts, NegationFits, ConjunctionFits, DisjunctionFits, ImplicationFits, UntilFits, SinceFits, EventuallyFits, AlwaysFits, OnceFits, HistoricallyFits, AreSetsTidy}
 use Rattle.early_verdict.specs.Standing.{AllFit, AllTidy, HasParts, left_of}
-use Rattle.early_verdict.specs.Living.{AreLive, IsLive, IsNarrowed, IsShown, Known, LooksAt, LooksBack, NetStands}
-use Rattle.early_verdict.specs.Letting.{AreApart, AreAskedBy, AreInside, AreLess, IsChild, IsInside, IsLess, IsRun, IsSettledAt, IsUntil}
+use Rattle.early_verdict.specs.Living.{AreLive, IsLive, IsNarrowed, IsShown, Known, LooksAt, NetStands}
+use Rattle.early_verdict.specs.Letting.{AreAskedBy, AreInside, AreLess, IsChild, IsInside, IsLess, IsRun, IsSettledAt, IsUntil}
 use Rattle.early_verdict.specs.declared.stretch.Stretch.{Stretch}
 use Rattle.early_verdict.specs.declared.grown.Grown.{Grown}
 use Rattle.early_verdict.specs.declared.sets.Sets.{Sets}
 use Rattle.early_verdict.specs.declared.sets.Parts.{Parts}
-use Rattle.early_verdict.proofs.AllSets.{is_shown, lists_are, sets_at, shown_is, shown_within, yes_there}
-use Rattle.early_verdict.proofs.Apart.{never_both}
+use Rattle.early_verdict.proofs.AllSets.{is_shown, lists_are, sets_at, shown_is, shown_within}
 use Rattle.early_verdict.proofs.Childhood.{child_below, child_or_not, left_child, one_parent}
 use Rattle.early_verdict.proofs.FitLemmas.{fits_within}
 use Rattle.early_verdict.proofs.LivingLemmas.{looks_as, parts_as}
 use Rattle.early_verdict.proofs.Netting.{nat_is, nodes_at}
 use Rattle.early_verdict.proofs.Places.{get_within, lists_by, same_sets}
-use Rattle.early_verdict.proofs.SinceSets.{none_later}
 use Rattle.early_verdict.proofs.Telling.{parts_kept, tells_alike}
 
 -- sets that let go of times say the same of the others
@@ -87,22 +84,7 @@ fits_as (Once p a b j k) tr at at' s e h = subst (λ x. OnceFits tr a b j k x s)
 fits_as (Historically p a b j k) tr at at' s e h = subst (λ x. HistoricallyFits tr a b j k x s) (e p refl) h
 
 module _ (tr : Trace) (own : Stretch) (s : Sets) (y : s.yes.bounds ≡ own) (n : s.no.bounds ≡ own) (old new : List Sets)
-    (agree : (p : ℕ) → Known (IsShown new p) (lists_at new p) (IsOn (lists_at old p).yes) (IsOn (lists_at old p).no))
-    (apart : (p : ℕ) (u : Rational) → IsOn (lists_at old p).yes u → ¬ (IsOn (lists_at old p).no u)) where
-  -- looking back, where what decides it may stand for the others
-  back_some : (side : Lists → List Stretch) (p a : ℕ) (b : Option ℕ) (i j : Bool) → LooksBack side (start tr) a b i j p new own → (X : Rational → Type 0)
-      → ((u : Rational) → IsShown new p u → X u → IsOn (side (lists_at new p)) u) → (t : Rational) → Lies own t → SomeBehind tr a b i j X t
-      → SomeBehind tr a b i j (IsOn (side (lists_at new p))) t
-  back_some side p a b i j far X f t l (u, w, c, x) = elim (far t u l w) [
-    | inl k ↦ (u, w, c, f u k x)
-    | inr (v, d, k, z) ↦ (v, d, (d.after, inr (none_later v t a (precedes_le i (later v a) t d.ends))), z)
-  ]
-
-  back_only : (side : Lists → List Stretch) (p a : ℕ) (b : Option ℕ) (i j : Bool) → LooksBack side (start tr) a b i j p new own → (X ys : Rational → Type 0)
-      → ((u : Rational) → IsShown new p u → X u → ys u) → ((u : Rational) → IsOn (side (lists_at new p)) u → X u → ⊥) → (t : Rational) → Lies own t
-      → OnlyBehind tr a b i j X t → OnlyBehind tr a b i j ys t
-  back_only side p a b i j far X ys f g t l y u w = elim (far t u l w) [ inl k ↦ f u k (y u w) | inr (v, d, k, z) ↦ absurd (g v z (y v d)) ]
-
+    (agree : (p : ℕ) → Known (IsShown new p) (lists_at new p) (IsOn (lists_at old p).yes) (IsOn (lists_at old p).no)) where
   alike : (P P' N N' : Rational → Type 0) → ((t : Rational) → Lies own t → P t → P' t) → ((t : Rational) → P' t → P t)
       → ((t : Rational) → Lies own t → N t → N' t) → ((t : Rational) → N' t → N t) → SayBoth s P N → SayBoth s P' N'
   alike P P' N N' out into not_out not_into h = record {
@@ -159,16 +141,14 @@ module _ (tr : Trace) (own : Stretch) (s : Sets) (y : s.yes.bounds ≡ own) (n :
       let k = agree p in
       alike (SomeBehind tr a b i j (IsOn (lists_at old p).yes)) (SomeBehind tr a b i j (IsOn (lists_at new p).yes))
       (OnlyBehind tr a b i j (IsOn (lists_at old p).no)) (OnlyBehind tr a b i j (IsOn (lists_at new p).no))
-      (back_some yes_of p a b i j l (IsOn (lists_at old p).yes) k.yes_in) (λ t (u, w, c, x). (u, w, c, k.yes_out u x))
-      (back_only yes_of p a b i j l (IsOn (lists_at old p).no) (IsOn (lists_at new p).no) k.no_in (λ u z y. apart p u (k.yes_out u z) y))
-      (λ t g u w. k.no_out u (g u w)) h
+      (λ t o (u, w, c, x). (u, w, c, k.yes_in u (l t u o w) x)) (λ t (u, w, c, x). (u, w, c, k.yes_out u x))
+      (λ t o g u w. k.no_in u (l t u o w) (g u w)) (λ t g u w. k.no_out u (g u w)) h
   fits_local (Historically p a b i j) r n l h =
       let k = agree p in
       alike (OnlyBehind tr a b i j (IsOn (lists_at old p).yes)) (OnlyBehind tr a b i j (IsOn (lists_at new p).yes))
       (SomeBehind tr a b i j (IsOn (lists_at old p).no)) (SomeBehind tr a b i j (IsOn (lists_at new p).no))
-      (back_only no_of p a b i j l (IsOn (lists_at old p).yes) (IsOn (lists_at new p).yes) k.yes_in (λ u z y. apart p u y (k.no_out u z)))
-      (λ t g u w. k.yes_out u (g u w))
-      (back_some no_of p a b i j l (IsOn (lists_at old p).no) k.no_in) (λ t (u, w, c, x). (u, w, c, k.no_out u x)) h
+      (λ t o g u w. k.yes_in u (l t u o w) (g u w)) (λ t g u w. k.yes_out u (g u w))
+      (λ t o (u, w, c, x). (u, w, c, k.no_in u (l t u o w) x)) (λ t (u, w, c, x). (u, w, c, k.no_out u x)) h
 
 same_node : (a b : Node) → Some a ≡ Some b → a ≡ b
 same_node a b e = cc
@@ -181,7 +161,7 @@ module _ (nodes : List Node) (tr : Trace) (live new shown : List Sets) (i : ℕ)
     yes = k.yes_bounds;
     no = k.no_bounds;
     starts = λ t l. was.starts t (less t l);
-    looks = looks_as (start tr) was.own at.settled.bounds less n shown shown at.was.parts at.is.parts (λ p e u h. h) (λ p e u. (λ h. h, λ h. h)) (parts_kept at.was.parts at.is.parts k.parts) was.looks;
+    looks = looks_as (start tr) was.own at.settled.bounds less n shown shown at.was.parts at.is.parts (λ p e u h. h) (parts_kept at.was.parts at.is.parts k.parts) was.looks;
     left = parts_as n at.was at.is shown shown (parts_kept at.was.parts at.is.parts k.parts) (λ p l' e z. (l', z, refl)) was.left;
     shown_yes = was.shown_yes;
     shown_starts = was.shown_starts;
@@ -290,42 +270,13 @@ at_or_not (x ∷ xs) (suc p) = at_or_not xs p
 shown_as : (xs ys : List Sets) (p : ℕ) (u : Rational) → slice_get ys p ≡ slice_get xs p → IsShown xs p u → IsShown ys p u
 shown_as xs ys p u e h = let x = sets_at xs p (shown_within xs p u h) in is_shown ys p x.0 u (e ∙ x.1) (shown_is xs p x.0 u x.1 h)
 
--- and so the lists have
-lists_as : (xs ys : List Sets) (p : ℕ) (u : Rational) → slice_get ys p ≡ slice_get xs p
-    → (IsOn (lists_at xs p).yes u → IsOn (lists_at ys p).yes u) × (IsOn (lists_at xs p).no u → IsOn (lists_at ys p).no u)
-lists_as xs ys p u e =
-    let d = lists_by xs ys p (sym e) in (λ o. subst (λ (l : Lists). IsOn l.yes u) d o, λ o. subst (λ (l : Lists). IsOn l.no u) d o)
-
--- what nodes show is from the start on, and the lists of what they show have no time in common
-module _ (nodes : List Node) (tr : Trace) (live shown : List Sets) (st : NetStands nodes tr live shown) where
-  pub shown_begun : (p : ℕ) (u : Rational) → IsShown shown p u → start tr ≤ʳ u
-  shown_begun p u h =
-      let l = shown_within shown p u h in
-      let c = st.have.count in
-      let d = st.have.shown_count in
-      let n = nodes_at nodes p (omega (arith, l, d)) in
-      let s = sets_at live p (omega (arith, l, c, d)) in
-      let x = sets_at shown p l in
-      (st.have.has p n.0 s.0 x.0 n.1 s.1 x.1).shown_starts u (shown_is shown p x.0 u x.1 h)
-
-  pub lists_apart : (p : ℕ) (u : Rational) → IsOn (lists_at shown p).yes u → ¬ (IsOn (lists_at shown p).no u)
-  lists_apart p u y n =
-      let l = yes_there shown p u y in
-      let d = st.have.shown_count in
-      let k = st.known p (omega (arith, l, d)) in
-      never_both (subformula nodes p) tr u (k.yes_out u y) (k.no_out u n)
-
-  pub are_apart : AreApart shown
-  are_apart p x is t y n =
-      lists_apart p t (subst (λ (l : Lists). IsOn l.yes t) (sym (lists_are shown p x is)) y) (subst (λ (l : Lists). IsOn l.no t) (sym (lists_are shown p x is)) n)
-
 -- the children of one node show fewer times, and its own sets go on to fit them
 module _ (nodes : List Node) (formed : AreWellFormed nodes) (tr : Trace) (live left old new : List Sets) (i : ℕ) (n : Node) (at : slice_get nodes i ≡ Some n) (s r : Sets)
     (is : slice_get live i ≡ Some s) (ir : slice_get left i ≡ Some r) (same : (j : ℕ) → j ≢ i → slice_get left j ≡ slice_get live j) (count : length left ≡ length live)
-    (less : AreLess old new) (others : (p : ℕ) → ¬ (IsChild p n) → slice_get new p ≡ slice_get old p) (st : NetStands nodes tr live old) where
+    (from : Rational) (asked : AreAskedBy n from old new) (st : NetStands nodes tr live old) where
   -- what is shown at a place now, and was
   was_shown : (p : ℕ) (x : Sets) → slice_get new p ≡ Some x → (w : Sets) × (slice_get old p ≡ Some w) × IsLess w x
-  was_shown = less.each
+  was_shown = asked.less.each
 
   pub agree : (p : ℕ) → Known (IsShown new p) (lists_at new p) (IsOn (lists_at old p).yes) (IsOn (lists_at old p).no)
   agree p = elim (at_or_not new p) [
@@ -355,7 +306,7 @@ module _ (nodes : List Node) (formed : AreWellFormed nodes) (tr : Trace) (live l
 
   -- a child of another node shows what it did
   not_its : (j p : ℕ) (m : Node) → j ≢ i → slice_get nodes j ≡ Some m → IsChild p m → slice_get new p ≡ slice_get old p
-  not_its j p m d here c = others p (λ e. one_parent nodes formed.post_order j i p m n d here at c e)
+  not_its j p m d here c = asked.others p (λ e. one_parent nodes formed.post_order j i p m n d here at c e)
 
   -- a node is live by what it was, where it looks at its children still and has its sets between
   pub live_by : (m : Node) (v v' w x : Sets) → v'.yes ≡ v.yes → v'.no ≡ v.no → IsLess w x → (k : IsLive (start tr) old m v w)
@@ -400,7 +351,6 @@ module _ (nodes : List Node) (formed : AreWellFormed nodes) (tr : Trace) (live l
                 let k = st.have.has j m v w here (sym (same j d) ∙ iv) e in
                 live_by m v v w x refl refl less k
                 (looks_as (start tr) k.own k.own (λ t h. h) m old new v.parts v.parts (λ p c u h. shown_as old new p u (not_its j p m d here c) h)
-                (λ p c u. lists_as old new p u (not_its j p m d here c))
                 (parts_kept v.parts v.parts refl) k.looks)
                 (parts_as m v v old new (parts_kept v.parts v.parts refl) (λ p l' f z. (l', sym (not_its j p m d here (left_child p m f)) ∙ z, refl)) k.left)
           ]
@@ -421,7 +371,7 @@ module _ (nodes : List Node) (formed : AreWellFormed nodes) (tr : Trace) (live l
     one_stands = record {
       have = record {
         count = count ∙ st.have.count;
-        shown_count = less.count ∙ st.have.shown_count;
+        shown_count = asked.less.count ∙ st.have.shown_count;
         has = λ j m v x here iv ix. live_one j m v here iv x ix;
       };
       tidy = tidy_one;
@@ -435,7 +385,7 @@ module _ (nodes : List Node) (formed : AreWellFormed nodes) (tr : Trace) (live l
       };
       root = elim (child_or_not (length nodes - 1) n) [
         | inl c ↦ absurd (let a = child_below i (length nodes - 1) n (placed nodes i n formed.post_order at) c in let b = get_within live i s is in let d = st.have.count in omega (arith, a, b, d))
-        | inr c ↦ shown_as old new (length nodes - 1) (start tr) (others (length nodes - 1) c) st.root
+        | inr c ↦ shown_as old new (length nodes - 1) (start tr) (asked.others (length nodes - 1) c) st.root
       ];
     }
 
@@ -449,8 +399,8 @@ module _ (nodes : List Node) (formed : AreWellFormed nodes) (tr : Trace) (live o
   mine : (w x : Sets) → slice_get old i ≡ Some w → slice_get new i ≡ Some x → IsLess w x → IsLive (start tr) new n s x
   mine w x e f less =
       let k = st.have.has i n s w at is e in
-      live_by nodes formed tr live live old new i n at s s is is (λ j d. refl) refl asked.less asked.others st n s s w x refl refl less k
-      (asked.looks (start tr) k.own s.parts (shown_begun nodes tr live old st) (begun k.own k.no) k.looks)
+      live_by nodes formed tr live live old new i n at s s is is (λ j d. refl) refl from asked st n s s w x refl refl less k
+      (asked.looks (start tr) k.own s.parts (begun k.own k.no) k.looks)
       (parts_as n s s old new (parts_kept s.parts s.parts refl)
       (λ p l' g z. (l', subst (λ xs. slice_get xs p ≡ Some l') (asked.run (run_of_left n plain p g)) z, refl)) k.left)
 
@@ -462,12 +412,12 @@ module _ (nodes : List Node) (formed : AreWellFormed nodes) (tr : Trace) (live o
     | inl h ↦ subst (λ xs. Fits n false tr (lists_at xs) s) (sym (asked.run h)) (st.fit i n s at is)
     | inr h ↦
         let k = st.have.has i n s shown_i.0 at is shown_i.1 in
-        fits_local tr k.own s k.yes k.no old new (agree nodes formed tr live live old new i n at s s is is (λ j d. refl) refl asked.less asked.others st) (lists_apart nodes tr live old st) n h plain
-        (asked.looks (start tr) k.own s.parts (shown_begun nodes tr live old st) (begun k.own k.no) k.looks) (st.fit i n s at is)
+        fits_local tr k.own s k.yes k.no old new (agree nodes formed tr live live old new i n at s s is is (λ j d. refl) refl from asked st) n h plain
+        (asked.looks (start tr) k.own s.parts (begun k.own k.no) k.looks) (st.fit i n s at is)
   ]
 
   pub asked_stands : NetStands nodes tr live new
-  asked_stands = one_stands nodes formed tr live live old new i n at s s is is (λ j d. refl) refl asked.less asked.others st mine fits (st.tidy i s is)
+  asked_stands = one_stands nodes formed tr live live old new i n at s s is is (λ j d. refl) refl from asked st mine fits (st.tidy i s is)
 
 -- what stands lies within its bounds
 module _ (nodes : List Node) (tr : Trace) (live shown : List Sets) (st : NetStands nodes tr live shown) where

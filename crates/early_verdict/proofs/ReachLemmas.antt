@@ -1,15 +1,14 @@
 -- Sets of times from which a run reaches another set go on to tell so.
-use Rattle.std.proofs.Common.{◌⊎◌, inl, inr, Bool, true, false, List}
-use Rattle.std.specs.Prelude.{◌↔◌, IsTrue}
+use Rattle.std.proofs.Common.{◌⊎◌, inl, inr, true, false, List}
+use Rattle.std.specs.Prelude.{◌↔◌}
 use Rattle.rational.specs.Rational.{Rational, ◌≤ʳ◌}
 use Rattle.rational.specs.Time.{Within}
 use Rattle.early_verdict.specs.Cuts.{Place, place, After, Upto, AtMost}
 use Rattle.early_verdict.specs.Spans.{Lies, IsOn, IsAmong, AreTidy, Grows}
 use Rattle.early_verdict.specs.Steps.{BySome, HoldsFrom, Tells, Gains}
-use Rattle.early_verdict.specs.Reaching.{IsNew, ReachesIn, ReachesAt, ReachesBy, ReachedIn, ReachedAt, GoesOn, GoesTo, GoesBack, GoesBackBy, IsCarried}
+use Rattle.early_verdict.specs.Reaching.{IsNew, ReachesIn, ReachesAt, ReachesBy, ReachedIn, ReachedAt, GoesOn, GoesTo, GoesBack}
 use Rattle.early_verdict.specs.declared.stretch.Stretch.{Stretch}
-use Rattle.rational.proofs.Order.{le_refl}
-use Rattle.early_verdict.proofs.PlaceLemmas.{sides, not_both, between, before_through, after_of_before, at_most_of_not_before}
+use Rattle.early_verdict.proofs.PlaceLemmas.{sides, not_both, between, before_through, at_most_of_not_before}
 use Rattle.early_verdict.proofs.StretchLemmas.{rises}
 use Rattle.early_verdict.proofs.MakingLemmas.{after_from}
 use Rattle.early_verdict.proofs.RunLemmas.{le_through, upto_le, after_le, gap_before, gap_after, earlier_after, one_of, on_one, holds_all, decided_among}
@@ -71,34 +70,6 @@ module _ (before sure : Place) (s part p : Stretch) (is : (t : Rational) → Lie
         not_both (place p.from) v.0 v.2 (all v.0 ((is v.0).0 (v.1, upto_le (place part.to) v.0 w le ((is w).1 n).1)) le).0,
     before_through (place part.from) (place p.to) w ((is w).1 n).0 l.1,
   )
-
--- runs that are carried on from before a place: those times that the run has which holds the first ones after it
-module _ (xs : List Stretch) (c : Place) (carried : Bool) (tidy : AreTidy xs) where
-  pub carried_to : (p : Stretch) → IsAmong p xs → HoldsFrom p c → IsTrue carried → (t : Rational) → After c t → Upto (place p.to) t → IsCarried carried c xs t
-  carried_to p m h o t a u = record {
-    on = o;
-    after = a;
-    all = λ v b l. on_one xs p v m (after_from (place p.from) c v (at_most_of_not_before (place p.from) c h.0) b, upto_le (place p.to) v t l u);
-  }
-
-  pub carried_within : (p : Stretch) → IsAmong p xs → HoldsFrom p c → (t : Rational) → IsCarried carried c xs t → Upto (place p.to) t
-  carried_within p m h t k = elim (sides (place p.to) t) [ inl u ↦ u | inr a ↦ absurd (gap a) ]
-    where
-      gap : After (place p.to) t → ⊥
-      gap a =
-          let g = gap_after xs p (record { at = t; after = true }) tidy m (after_time (place p.to) t a) in
-          g.3 (k.all g.0 (after_of_before c (place p.to) g.0 h.1 g.1) g.2)
-
-  pub carried_in : (t : Rational) → IsCarried carried c xs t → (p : Stretch) × IsAmong p xs × HoldsFrom p c
-  carried_in t k =
-      let p = one_of xs t (k.all t k.after (le_refl t)) in (
-        p.0,
-        p.1,
-        (
-          λ b. let g = gap_before xs p.0 c tidy p.1 b in g.3 (k.all g.0 g.1 (le_through (place p.0.from) g.0 t g.2 p.2.0)),
-          before_through c (place p.0.to) t k.after p.2.1,
-        ),
-      )
 
 -- what an event adds: for what the set and the runs gained, for what became sure, and what the set gained itself
 abbrev pub ReachesAnew : List Stretch → List Stretch → List Stretch → List Stretch → Place → Place → Rational → Type 0
@@ -237,49 +208,42 @@ module _ (z z' fz y y' fy : List Stretch) (gz : Gains z z' fz) (gy : Gains y y' 
           | inl o ↦ let q = h.only t o in (q.0, (q.1.0, q.1.1, gy.kept q.1.0 q.1.2, λ v w. gz.kept v (q.1.3 v w)))
         ]
 
-    -- times back from which the runs go on to a time, or are carried on from before a place
-    pub back_tells : (b : Bool) (c : Place) → Tells bounds old (GoesBackBy b c z y)
-        → Grows bounds old new told fresh (λ t. ReachedNew z' fz y' fy t ⊎ IsCarried b c z' t) → Tells bounds new (GoesBackBy b c z' y')
-    back_tells b c h g = record { has = has_it; only = only_it }
+    -- times back from which the runs go on to a time
+    pub back_tells : Tells bounds old (GoesBack z y) → Grows bounds old new told fresh (ReachedNew z' fz y' fy) → Tells bounds new (GoesBack z' y')
+    back_tells h g = record { has = has_it; only = only_it }
       where
         by_run : (t u : Rational) (p : Stretch) → Lies bounds t → (u ≤ʳ t) → IsAmong p z' → Lies p u → Lies p t → IsOn y' u → IsOn new t
-        by_run t u p i' le m l i o = elim (gy.gained u o) [
+        by_run t u p b le m l i o = elim (gy.gained u o) [
           | inr n ↦
               let x = one_of fy u n in
-              g.adds t i' (inl (inl (by_some (ReachedAt z' y') fy x.0 t x.1 (p, m, holds_gained p x.0 u m x.1 l x.2, (i, (u, le, (l, o)))))))
+              g.adds t b (inl (by_some (ReachedAt z' y') fy x.0 t x.1 (p, m, holds_gained p x.0 u m x.1 l x.2, (i, (u, le, (l, o))))))
           | inl n ↦ elim (gained_run p) [
-            | inl x ↦ g.adds t i' (inl (inr (by_some (ReachedAt z' y') fz x.0 t x.1 (p, m, x.2, (i, (u, le, (l, o)))))))
-            | inr x ↦ g.keeps t (h.has t i' (inl (
+            | inl x ↦ g.adds t b (inr (by_some (ReachedAt z' y') fz x.0 t x.1 (p, m, x.2, (i, (u, le, (l, o))))))
+            | inr x ↦ g.keeps t (h.has t b (
               u,
               le,
               n,
               λ v w. old_run p m x v
                   (after_le (place p.from) u v w.above l.0, upto_le (place p.to) v t w.below i.1),
-            )))
+            ))
           ]
         ]
 
-        has_it : (t : Rational) → Lies bounds t → GoesBackBy b c z' y' t → IsOn new t
-        has_it t i (inl (u, le, o, run)) =
-            let p = one_of z' u (inside u o) in by_run t u p.0 i le p.1 p.2 (run_from z' p.0 u t tidy p.1 p.2 le run) o
-        has_it t i (inr k) = g.adds t i (inr k)
+        has_it : (t : Rational) → Lies bounds t → GoesBack z' y' t → IsOn new t
+        has_it t b (u, le, o, run) =
+            let p = one_of z' u (inside u o) in by_run t u p.0 b le p.1 p.2 (run_from z' p.0 u t tidy p.1 p.2 le run) o
 
         goes : (t : Rational) (p : Stretch) → IsAmong p z' → ReachedIn y' p t → GoesBack z' y' t
         goes t p m r = (r.1.0, r.1.1, r.1.2.1, λ v w. no_break z' p r.1.0 t v m r.1.2.0 r.0 w)
 
-        still : (t : Rational) → GoesBackBy b c z y t → GoesBackBy b c z' y' t
-        still t (inl (u, le, o, run)) = inl (u, le, gy.kept u o, λ v w. gz.kept v (run v w))
-        still t (inr k) = inr (record { on = k.on; after = k.after; all = λ v a l. gz.kept v (k.all v a l) })
-
-        only_it : (t : Rational) → IsOn new t → Lies bounds t × GoesBackBy b c z' y' t
+        only_it : (t : Rational) → IsOn new t → Lies bounds t × GoesBack z' y' t
         only_it t n = elim (g.only t n) [
           | inr q ↦ (
             q.0,
             elim q.1 [
-              | inl (inl k) ↦ let x = some_by (ReachedAt z' y') fy t k in inl (goes t x.2.0 x.2.1 x.2.3)
-              | inl (inr k) ↦ let x = some_by (ReachedAt z' y') fz t k in inl (goes t x.2.0 x.2.1 x.2.3)
-              | inr k ↦ inr k
+              | inl k ↦ let x = some_by (ReachedAt z' y') fy t k in goes t x.2.0 x.2.1 x.2.3
+              | inr k ↦ let x = some_by (ReachedAt z' y') fz t k in goes t x.2.0 x.2.1 x.2.3
             ],
           )
-          | inl o ↦ let q = h.only t o in (q.0, still t q.1)
+          | inl o ↦ let q = h.only t o in (q.0, (q.1.0, q.1.1, gy.kept q.1.0 q.1.2, λ v w. gz.kept v (q.1.3 v w)))
         ]

@@ -1,6 +1,6 @@
 -- What the sets between told before an event, in the words of lists.
-use Rattle.std.proofs.Common.{◌≡◌, ◌⊎◌, inl, inr, sym, subst, ℕ, Bool, true, false, Option, Some, None, List}
-use Rattle.std.specs.Prelude.{IsTrue, MatchOption}
+use Rattle.std.proofs.Common.{◌≡◌, ◌⊎◌, inl, inr, sym, subst, ℕ, true, false, Option, Some, None, List}
+use Rattle.std.specs.Prelude.{MatchOption}
 use Rattle.rational.specs.Time.{Rational, ◌≤ʳ◌}
 use Rattle.stl_syntax.specs.Trace.{Trace, start}
 use Rattle.stl_syntax.specs.Early.{OpenAhead}
@@ -8,7 +8,7 @@ use Rattle.early_verdict.specs.Cuts.{Place, place, Same}
 use Rattle.early_verdict.specs.Spans.{Lies, IsOn}
 use Rattle.early_verdict.specs.Steps.{Tells, SeesOne, SeesOnly}
 use Rattle.early_verdict.specs.Sure.{SeesSure}
-use Rattle.early_verdict.specs.Reaching.{GoesOn, GoesTo, GoesBackBy}
+use Rattle.early_verdict.specs.Reaching.{GoesOn, GoesTo, GoesBack}
 use Rattle.early_verdict.specs.Readings.{SomeAhead, OnlyAhead, SomeBehind, OnlyBehind}
 use Rattle.early_verdict.specs.Fitting.{Lists, sure_place, UntilHolding, UntilFailing, SinceHolding, SinceFailing, IsHoldingEmpty, IsFailingEmpty}
 use Rattle.early_verdict.specs.Happening.{Happens}
@@ -30,10 +30,6 @@ goes_on_same runs spans c d s t (inr o) = inr o
 pub goes_on_says : (bounds : Stretch) (own runs spans : List Stretch) (c d : Place) → Same c d → Tells bounds own (GoesOn runs spans c) → Tells bounds own (GoesOn runs spans d)
 goes_on_says bounds own runs spans c d s = tells_alike bounds own (GoesOn runs spans c) (GoesOn runs spans d)
     (λ t l. goes_on_same runs spans c d s t) (λ t l. goes_on_same runs spans d c (same_places s) t)
-
--- before any row none was carried on
-none_carried : (b : Bool) → b ≡ false → IsTrue b → ⊥
-none_carried b e t = cc
 
 module _ (e : Event) (tr : Trace) (old : Option Trace) (h : Happens e old tr) (p q : Lists) where
   -- until, where it holds
@@ -142,13 +138,11 @@ module _ (e : Event) (tr : Trace) (old : Option Trace) (h : Happens e old tr) (p
         by_old None v n = tells_none x.both.bounds x.both.spans.items (λ t. IsOn p.yes t × IsOn q.yes t) v.both (λ t l k. none_of p.yes t n k.0)
         by_old (Some o) v n = v.both
 
-    pub since_run : Tells x.run.bounds x.run.spans.items (GoesBackBy x.carried (place x.run.bounds.from) p.yes x.both.spans.items)
+    pub since_run : Tells x.run.bounds x.run.spans.items (GoesBack p.yes x.both.spans.items)
     since_run = by_old old was
       where
-        by_old : (o : Option Trace) → MatchOption o (IsHoldingEmpty x) (λ o. SinceHolding o a b p q x)
-            → Tells x.run.bounds x.run.spans.items (GoesBackBy x.carried (place x.run.bounds.from) p.yes x.both.spans.items)
-        by_old None v = tells_none x.run.bounds x.run.spans.items (GoesBackBy x.carried (place x.run.bounds.from) p.yes x.both.spans.items) v.run
-            (λ t l g. elim g [ inl y ↦ none_of x.both.spans.items y.0 v.both y.2 | inr k ↦ none_carried x.carried v.carried k.on ])
+        by_old : (o : Option Trace) → MatchOption o (IsHoldingEmpty x) (λ o. SinceHolding o a b p q x) → Tells x.run.bounds x.run.spans.items (GoesBack p.yes x.both.spans.items)
+        by_old None v = tells_none x.run.bounds x.run.spans.items (GoesBack p.yes x.both.spans.items) v.run (λ t l g. none_of x.both.spans.items g.0 v.both g.2)
         by_old (Some o) v = v.run
 
     pub since_some : Tells x.some.bounds x.some.spans.items (SeesOne w q.yes)
@@ -186,13 +180,12 @@ module _ (e : Event) (tr : Trace) (old : Option Trace) (h : Happens e old tr) (p
             (λ t l k. elim k [ inl y ↦ none_of p.no t n y | inr y ↦ none_of q.no t m y ])
         by_old (Some o) v n m = v.fail
 
-    pub since_stop : Tells x.stop.bounds x.stop.spans.items (GoesBackBy x.carried (place x.stop.bounds.from) x.fail.spans.items p.no)
+    pub since_stop : Tells x.stop.bounds x.stop.spans.items (GoesBack x.fail.spans.items p.no)
     since_stop = by_old old was none
       where
         by_old : (o : Option Trace) → MatchOption o (IsFailingEmpty x) (λ o. SinceFailing o a b p q x) → WasList o p.no
-            → Tells x.stop.bounds x.stop.spans.items (GoesBackBy x.carried (place x.stop.bounds.from) x.fail.spans.items p.no)
-        by_old None v n = tells_none x.stop.bounds x.stop.spans.items (GoesBackBy x.carried (place x.stop.bounds.from) x.fail.spans.items p.no) v.stop
-            (λ t l g. elim g [ inl y ↦ none_of p.no y.0 n y.2 | inr k ↦ none_carried x.carried v.carried k.on ])
+            → Tells x.stop.bounds x.stop.spans.items (GoesBack x.fail.spans.items p.no)
+        by_old None v n = tells_none x.stop.bounds x.stop.spans.items (GoesBack x.fail.spans.items p.no) v.stop (λ t l g. none_of p.no g.0 n g.2)
         by_old (Some o) v n = v.stop
 
     pub since_never : WasTold old x.never (SeesOnly w (place e.start) q.no)

@@ -1,8 +1,8 @@
 -- Sets that fit tell what rows settle.
 use Rattle.std.proofs.Common.{◌≡◌, ◌⊎◌, inl, inr, subst, ℕ, ◌<◌, Bool, true, false, Option, List}
 use Rattle.rational.specs.Time.{Rational, Within, later, ◌≤ʳ◌}
-use Rattle.rational.proofs.Order.{le_refl, le_trans}
-use Rattle.rational.proofs.TimeLemmas.{later_from, precedes_le}
+use Rattle.rational.proofs.Order.{le_trans}
+use Rattle.rational.proofs.TimeLemmas.{later_from}
 use Rattle.stl_syntax.specs.Trace.{Trace, start}
 use Rattle.stl_syntax.specs.Formula.{Subformula, tree_of, HasChildrenBelow}
 use Rattle.stl_syntax.specs.Early.{OpenAhead, OpenBehind, Settled, SettledNot}
@@ -11,13 +11,12 @@ use Rattle.stl_syntax.specs.declared.node.Node.{Node}
 use Rattle.stl_syntax.specs.declared.node.Node.TheVariants.{Const, Atom as Leaf, Not, And, Or, Implies, Until, Eventually, Always, Since, Once, Historically}
 use Rattle.early_verdict.specs.Spans.{IsOn, Lies, AreTidy}
 use Rattle.early_verdict.specs.Readings.{SomeAhead, OnlyAhead, SomeBehind, OnlyBehind, UntilHolds, UntilFails, SinceHolds, SinceFails}
-use Rattle.early_verdict.specs.Fitting.{Lists, lists_at, no_of, yes_of, SayBoth, AreSetsTidy, Fits}
-use Rattle.early_verdict.specs.Living.{IsShown, Known, LooksAt, LooksBack}
+use Rattle.early_verdict.specs.Fitting.{Lists, SayBoth, AreSetsTidy, Fits}
+use Rattle.early_verdict.specs.Living.{IsShown, Known, LooksAt}
 use Rattle.early_verdict.specs.declared.stretch.Stretch.{Stretch}
 use Rattle.early_verdict.specs.declared.sets.Sets.{Sets}
-use Rattle.early_verdict.proofs.Apart.{never_both}
 use Rattle.early_verdict.proofs.Telling.{tells_alike}
-use Rattle.early_verdict.proofs.SinceSets.{along, none_later}
+use Rattle.early_verdict.proofs.SinceSets.{none_later}
 use Rattle.early_verdict.proofs.Settling.{until_fits, since_fits}
 
 module _ (tr : Trace) (own : Stretch) (s : Sets) (is_yes : s.yes.bounds ≡ own) (is_no : s.no.bounds ≡ own)
@@ -30,15 +29,9 @@ module _ (tr : Trace) (own : Stretch) (s : Sets) (is_yes : s.yes.bounds ≡ own)
     no = tells_alike s.no.bounds s.no.spans.items N N' (λ t l. not_out t (subst (λ x. Lies x t) is_no l)) (λ t l. not_into t (subst (λ x. Lies x t) is_no l)) h.no;
   }
 
-  module _ (shown : List Sets) (at : ℕ → Lists) (is_at : (p : ℕ) → lists_at shown p ≡ at p) (sub : ℕ → Subformula) (i : ℕ)
+  module _ (shown : List Sets) (at : ℕ → Lists) (sub : ℕ → Subformula) (i : ℕ)
       (known : (p : ℕ) → p < i → Known (IsShown shown p) (at p) (Settled (sub p) tr) (SettledNot (sub p) tr))
       (tidy_at : (p : ℕ) → AreTidy (at p).no) where
-    yes_is : (p : ℕ) (u : Rational) → IsOn (lists_at shown p).yes u → IsOn (at p).yes u
-    yes_is p u o = subst (λ (l : Lists). IsOn l.yes u) (is_at p) o
-
-    no_is : (p : ℕ) (u : Rational) → IsOn (lists_at shown p).no u → IsOn (at p).no u
-    no_is p u o = subst (λ (l : Lists). IsOn l.no u) (is_at p) o
-
     -- some time of a window ahead is of a child's list, or each is
     some_ahead : (p a b : ℕ) (a_in b_in : Bool) → ((t u : Rational) → Lies own t → OpenAhead (start tr) a b a_in b_in t u → IsShown shown p u)
         → (X xs : Rational → Type 0) → ((u : Rational) → IsShown shown p u → X u → xs u)
@@ -51,19 +44,15 @@ module _ (tr : Trace) (own : Stretch) (s : Sets) (is_yes : s.yes.bounds ≡ own)
         → (u : Rational) → OpenAhead (start tr) a b a_in b_in t u → xs u
     only_ahead p a b a_in b_in far X xs f t l y u o = f u (far t u l o) (y u o)
 
-    -- so behind, where what decides it may stand for the others
-    some_behind : (side : Lists → List Stretch) (p a : ℕ) (b : Option ℕ) (a_in b_in : Bool) → LooksBack side (start tr) a b a_in b_in p shown own
-        → (X xs : Rational → Type 0) → ((u : Rational) → IsShown shown p u → X u → xs u) → ((u : Rational) → IsOn (side (lists_at shown p)) u → xs u)
+    some_behind : (p a : ℕ) (b : Option ℕ) (a_in b_in : Bool) → ((t u : Rational) → Lies own t → OpenBehind (start tr) a b a_in b_in t u → IsShown shown p u)
+        → (X xs : Rational → Type 0) → ((u : Rational) → IsShown shown p u → X u → xs u)
         → (t : Rational) → Lies own t → SomeBehind tr a b a_in b_in X t → SomeBehind tr a b a_in b_in xs t
-    some_behind side p a b a_in b_in far X xs f g t l (u, o, c, y) = elim (far t u l o) [
-      | inl k ↦ (u, o, c, f u k y)
-      | inr (w, d, k, z) ↦ (w, d, (d.after, inr (none_later w t a (precedes_le a_in (later w a) t d.ends))), g w z)
-    ]
+    some_behind p a b a_in b_in far X xs f t l (u, o, c, y) = (u, o, c, f u (far t u l o) y)
 
-    only_behind : (side : Lists → List Stretch) (p a : ℕ) (b : Option ℕ) (a_in b_in : Bool) → LooksBack side (start tr) a b a_in b_in p shown own
-        → (X xs : Rational → Type 0) → ((u : Rational) → IsShown shown p u → X u → xs u) → ((u : Rational) → IsOn (side (lists_at shown p)) u → X u → ⊥)
+    only_behind : (p a : ℕ) (b : Option ℕ) (a_in b_in : Bool) → ((t u : Rational) → Lies own t → OpenBehind (start tr) a b a_in b_in t u → IsShown shown p u)
+        → (X xs : Rational → Type 0) → ((u : Rational) → IsShown shown p u → X u → xs u)
         → (t : Rational) → Lies own t → OnlyBehind tr a b a_in b_in X t → OnlyBehind tr a b a_in b_in xs t
-    only_behind side p a b a_in b_in far X xs f g t l y u o = elim (far t u l o) [ inl k ↦ f u k (y u o) | inr (w, d, k, z) ↦ absurd (g w z (y w d)) ]
+    only_behind p a b a_in b_in far X xs f t l y u o = f u (far t u l o) (y u o)
 
     until_true : (p q a b : ℕ) → ((t u : Rational) → Lies own t → t ≤ʳ u → u ≤ʳ later t b → IsShown shown p u × IsShown shown q u)
         → (X Y xs ys : Rational → Type 0) → ((u : Rational) → IsShown shown p u → X u → xs u) → ((u : Rational) → IsShown shown q u → Y u → ys u)
@@ -86,23 +75,23 @@ module _ (tr : Trace) (own : Stretch) (s : Sets) (is_yes : s.yes.bounds ≡ own)
       | inr (v, w, x) ↦ inr (v, w, f v (far t v l w.above (le_trans w.below o.ends)).0 x)
     ]
 
-    since_true : (p q a : ℕ) (b : Option ℕ) → ((t u : Rational) → Lies own t → OpenBehind (start tr) 0 b true true t u → IsShown shown p u × IsShown shown q u)
+    since_true : (p q a : ℕ) (b : Option ℕ) → ((t u : Rational) → Lies own t → start tr ≤ʳ u → u ≤ʳ t → IsShown shown p u × IsShown shown q u)
         → (X Y xs ys : Rational → Type 0) → ((u : Rational) → IsShown shown p u → X u → xs u) → ((u : Rational) → IsShown shown q u → Y u → ys u)
         → (t : Rational) → Lies own t → SinceHolds tr a b X Y t → SinceHolds tr a b xs ys t
     since_true p q a b far X Y xs ys f g t l (u, o, c, y, z) = (
       u,
       o,
       c,
-      g u (far t u l (along (start tr) a b t u u o (le_refl u) (none_later u t a o.ends))).1 y,
-      λ v w. f v (far t v l (along (start tr) a b t u v o w.above w.below)).0 (z v w),
+      g u (far t u l o.after (none_later u t a o.ends)).1 y,
+      λ v w. f v (far t v l (le_trans o.after w.above) w.below).0 (z v w),
     )
 
-    since_false : (p q a : ℕ) (b : Option ℕ) → ((t u : Rational) → Lies own t → OpenBehind (start tr) 0 b true true t u → IsShown shown p u × IsShown shown q u)
+    since_false : (p q a : ℕ) (b : Option ℕ) → ((t u : Rational) → Lies own t → start tr ≤ʳ u → u ≤ʳ t → IsShown shown p u × IsShown shown q u)
         → (X Y xs ys : Rational → Type 0) → ((u : Rational) → IsShown shown p u → X u → xs u) → ((u : Rational) → IsShown shown q u → Y u → ys u)
         → (t : Rational) → Lies own t → SinceFails tr a b X Y t → SinceFails tr a b xs ys t
     since_false p q a b far X Y xs ys f g t l h u o = elim (h u o) [
-      | inl y ↦ inl (g u (far t u l (along (start tr) a b t u u o (le_refl u) (none_later u t a o.ends))).1 y)
-      | inr (v, w, x) ↦ inr (v, w, f v (far t v l (along (start tr) a b t u v o w.above w.below)).0 x)
+      | inl y ↦ inl (g u (far t u l o.after (none_later u t a o.ends)).1 y)
+      | inr (v, w, x) ↦ inr (v, w, f v (far t v l (le_trans o.after w.above) w.below).0 x)
     ]
 
     -- a node's sets that fit tell what is settled of it
@@ -181,15 +170,15 @@ module _ (tr : Trace) (own : Stretch) (s : Sets) (is_yes : s.yes.bounds ≡ own)
         let k = known p c in
         said (SomeBehind tr x y x_in y_in (IsOn (at p).yes)) (SomeBehind tr x y x_in y_in (Settled (sub p) tr))
         (OnlyBehind tr x y x_in y_in (IsOn (at p).no)) (OnlyBehind tr x y x_in y_in (SettledNot (sub p) tr))
-        (λ t l (u, w, c, z). (u, w, c, k.yes_out u z))
-        (some_behind yes_of p x y x_in y_in a (Settled (sub p) tr) (IsOn (at p).yes) k.yes_in (λ u z. yes_is p u z))
-        (λ t l g u w. k.no_out u (g u w))
-        (only_behind yes_of p x y x_in y_in a (SettledNot (sub p) tr) (IsOn (at p).no) k.no_in (λ u z n. never_both (sub p) tr u (k.yes_out u (yes_is p u z)) n)) h
+        (some_behind p x y x_in y_in a (IsOn (at p).yes) (Settled (sub p) tr) (λ u l. k.yes_out u))
+        (some_behind p x y x_in y_in a (Settled (sub p) tr) (IsOn (at p).yes) k.yes_in)
+        (only_behind p x y x_in y_in a (IsOn (at p).no) (SettledNot (sub p) tr) (λ u l. k.no_out u))
+        (only_behind p x y x_in y_in a (SettledNot (sub p) tr) (IsOn (at p).no) k.no_in) h
     node_told (Historically p x y x_in y_in) c o a h =
         let k = known p c in
         said (OnlyBehind tr x y x_in y_in (IsOn (at p).yes)) (OnlyBehind tr x y x_in y_in (Settled (sub p) tr))
         (SomeBehind tr x y x_in y_in (IsOn (at p).no)) (SomeBehind tr x y x_in y_in (SettledNot (sub p) tr))
-        (λ t l g u w. k.yes_out u (g u w))
-        (only_behind no_of p x y x_in y_in a (Settled (sub p) tr) (IsOn (at p).yes) k.yes_in (λ u z n. never_both (sub p) tr u n (k.no_out u (no_is p u z))))
-        (λ t l (u, w, c, z). (u, w, c, k.no_out u z))
-        (some_behind no_of p x y x_in y_in a (SettledNot (sub p) tr) (IsOn (at p).no) k.no_in (λ u z. no_is p u z)) h
+        (only_behind p x y x_in y_in a (IsOn (at p).yes) (Settled (sub p) tr) (λ u l. k.yes_out u))
+        (only_behind p x y x_in y_in a (Settled (sub p) tr) (IsOn (at p).yes) k.yes_in)
+        (some_behind p x y x_in y_in a (IsOn (at p).no) (SettledNot (sub p) tr) (λ u l. k.no_out u))
+        (some_behind p x y x_in y_in a (SettledNot (sub p) tr) (IsOn (at p).no) k.no_in) h

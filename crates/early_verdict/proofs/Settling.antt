@@ -45,22 +45,22 @@ module _ (tr : Trace) (own : Stretch) (p q : Lists) (s : Sets) (is_yes : s.yes.b
   until_fits ended a b order k h = until_parts ended a b order s.parts tidy.parts k h
 
   since_parts : (a : ℕ) (b : Option ℕ) → (o : Option Parts) → MatchOption o (Unit {0}) ArePartsTidy
-      → MatchOption o (Unit {0}) (ReachesBack (start tr) b own)
+      → MatchOption o (Unit {0}) (ReachesBack (start tr) own)
       → MatchOption o ⊥ (λ x. SinceHolding tr a b p q x.holding × SinceFailing tr a b p q x.failing × SayOfParts s x)
       → SayBoth s (SinceHolds tr a b (IsOn p.yes) (IsOn q.yes)) (SinceFails tr a b (IsOn p.no) (IsOn q.no))
   since_parts a b None t k h = absurd h
   since_parts a b (Some x) t k (h, f, y) = record {
     yes = since_is_true tr a b p q x.holding h s.yes.bounds s.yes.spans.items
         (λ u l. k.some u (in_yes u l))
-        (λ t u l o. k.both t u (in_yes t l) o)
+        (λ t u l g m. k.both t u (in_yes t l) g m)
         y.yes;
     no = since_is_false tr a b p q x.failing f s.no.bounds s.no.spans.items tidy_q t.failing.fail
         (λ u l. k.never u (in_no u l))
-        (λ t u l o. k.fail t u (in_no t l) o)
+        (λ t u l g m. k.fail t u (in_no t l) g m)
         y.no;
   }
 
-  pub since_fits : (a : ℕ) (b : Option ℕ) → MatchOption s.parts (Unit {0}) (ReachesBack (start tr) b own)
+  pub since_fits : (a : ℕ) (b : Option ℕ) → MatchOption s.parts (Unit {0}) (ReachesBack (start tr) own)
       → MatchOption s.parts ⊥ (λ x. SinceHolding tr a b p q x.holding × SinceFailing tr a b p q x.failing × SayOfParts s x)
       → SayBoth s (SinceHolds tr a b (IsOn p.yes) (IsOn q.yes)) (SinceFails tr a b (IsOn p.no) (IsOn q.no))
   since_fits a b k h = since_parts a b s.parts tidy.parts k h

@@ -6,17 +6,15 @@ use Rattle.rational.proofs.Order.{le_refl, le_trans, le_of_lt, le_or_lt}
 use Rattle.rational.proofs.TimeLemmas.{later_le}
 use Rattle.stl_syntax.specs.Trace.{Trace, start}
 use Rattle.stl_syntax.specs.Early.{OpenBehind}
-use Rattle.early_verdict.specs.Cuts.{Place, place, After}
+use Rattle.early_verdict.specs.Cuts.{Place, After}
 use Rattle.early_verdict.specs.Spans.{Lies, IsOn, AreTidy}
 use Rattle.early_verdict.specs.Steps.{Tells}
-use Rattle.early_verdict.specs.Reaching.{GoesBackBy}
 use Rattle.early_verdict.specs.Readings.{OnlyBehind, SomeBehind, SinceHolds, SinceFails}
 use Rattle.early_verdict.specs.Fitting.{Lists, SinceHolding, SinceFailing}
 use Rattle.early_verdict.specs.declared.stretch.Stretch.{Stretch}
 use Rattle.early_verdict.specs.declared.sets.Holding.{Holding}
 use Rattle.early_verdict.specs.declared.sets.Failing.{Failing}
 use Rattle.early_verdict.proofs.Failures.{at_time, all_or_broken_back}
-use Rattle.early_verdict.proofs.RunLemmas.{after_le}
 use Rattle.early_verdict.proofs.Telling.{tells_alike}
 
 -- t less a
@@ -45,7 +43,7 @@ earlier t u v a h k = let c = le_trans h k in record { le = omega (arith, c.le) 
 pub none_later : (u t : Rational) (a : ℕ) → later u a ≤ʳ t → u ≤ʳ t
 none_later u t a h = record { le = omega (arith, h.le) }
 
-pub later_none : (u t : Rational) → u ≤ʳ t → later u 0 ≤ʳ t
+later_none : (u t : Rational) → u ≤ʳ t → later u 0 ≤ʳ t
 later_none u t h = record { le = omega (arith, h.le) }
 
 -- v is on the way back to the window
@@ -55,10 +53,6 @@ back_way from t v a f h k = record { after = f; begins = h; ends = later_none v 
 still_begins : (b : Option ℕ) (t u w : Rational) → u ≤ʳ w → IfSome b (λ b. t ≤ʳ later u b) → IfSome b (λ b. t ≤ʳ later w b)
 still_begins None t u w h k = k
 still_begins (Some b) t u w h k = le_trans k (later_le b h)
-
--- from a time of the window on up to now
-pub along : (from : Rational) (a : ℕ) (b : Option ℕ) (t u v : Rational) → OpenBehind from a b true true t u → u ≤ʳ v → v ≤ʳ t → OpenBehind from 0 b true true t v
-along from a b t u v o k l = record { after = le_trans o.after k; begins = still_begins b t u v k o.begins; ends = later_none v t l }
 
 -- where the window begins
 pub window_begin : (from t : Rational) (b : Option ℕ) → (c : Place) × ((u : Rational) → After c u → (from ≤ʳ u) × IfSome b (λ b. t ≤ʳ later u b))
@@ -71,102 +65,77 @@ window_begin from t (Some b) = elim (le_or_lt from (less_by t b)) [
 
 module _ (tr : Trace) (a : ℕ) (b : Option ℕ) (p q : Lists) (x : Holding) (h : SinceHolding tr a b p q x) (bounds : Stretch) (yes : List Stretch)
     (own : (t : Rational) → Lies bounds t → Lies x.some.bounds t × Lies x.each.bounds t)
-    (wide : (t u : Rational) → Lies bounds t → OpenBehind (start tr) 0 b true true t u → Lies x.both.bounds u × Lies x.run.bounds u) where
-  -- where a run goes back from a time the left operand is there
-  last : (v : Rational) → GoesBackBy x.carried (place x.run.bounds.from) p.yes x.both.spans.items v → IsOn p.yes v
-  last v (inl (w, l, i, z)) = z v (record { above = l; below = le_refl v })
-  last v (inr k) = k.all v k.after (le_refl v)
-
-  back : (t : Rational) → Lies bounds t → SomeBehind tr a b true true (IsOn q.yes) t → OnlyBehind tr 0 (Some a) true true (IsOn x.run.spans.items) t
+    (wide : (t u : Rational) → Lies bounds t → start tr ≤ʳ u → u ≤ʳ t → Lies x.both.bounds u × Lies x.run.bounds u) where
+  back : (t : Rational) → SomeBehind tr a b true true (IsOn q.yes) t → OnlyBehind tr 0 (Some a) true true (IsOn x.run.spans.items) t
       → SinceHolds tr a b (IsOn p.yes) (IsOn q.yes) t
-  back t i (u, o, c, y) runs = by_run (run e (le_trans o.after ue) (le_refl e) (end_past t a))
-    where
-      e : Rational
-      e = less_by t a
-
-      ue : u ≤ʳ e
-      ue = before_end t u a o.ends
-
-      run : (v : Rational) → start tr ≤ʳ v → e ≤ʳ v → v ≤ʳ t → GoesBackBy x.carried (place x.run.bounds.from) p.yes x.both.spans.items v
-      run v f k l = (h.run.only v (runs v (back_way (start tr) t v a f (past_end t v a k) l))).1
-
-      -- all along from a time, where it is so up to the window's end
-      all_along : (f : Rational) → start tr ≤ʳ f → ((v : Rational) → f ≤ʳ v → v ≤ʳ e → IsOn p.yes v) → (v : Rational) → Within f t v → IsOn p.yes v
-      all_along f s z v l = elim (le_or_lt v e) [
-        | inl m ↦ z v l.above m
-        | inr m ↦ last v (run v (le_trans s l.above) (le_of_lt m) l.below)
-      ]
-
-      by_run : GoesBackBy x.carried (place x.run.bounds.from) p.yes x.both.spans.items e → SinceHolds tr a b (IsOn p.yes) (IsOn q.yes) t
-      by_run (inr k) =
-          let w = wide t u i (along (start tr) a b t u u o (le_refl u) (le_trans ue (end_past t a))) in
-          (u, o, c, y, all_along u o.after (λ v m l. k.all v (after_le (place x.run.bounds.from) u v m w.1.0) l))
-      by_run (inl (r, l, j, z)) = elim (le_or_lt u r) [
+  back t (u, o, c, y) runs =
+      let e = less_by t a in
+      let run = λ (v : Rational) (f : start tr ≤ʳ v) (k : e ≤ʳ v) (l : v ≤ʳ t).
+      (h.run.only v (runs v (back_way (start tr) t v a f (past_end t v a k) l))).1 in
+      let ue = before_end t u a o.ends in
+      let r = run e (le_trans o.after ue) (le_refl e) (end_past t a) in
+      let along : (f : Rational) → start tr ≤ʳ f → r.0 ≤ʳ f → (v : Rational) → Within f t v → IsOn p.yes v = λ f s k v l.
+      elim (le_or_lt v e) [
+        | inl m ↦ r.3 v (record { above = le_trans k l.above; below = m })
+        | inr m ↦ let g = run v (le_trans s l.above) (le_of_lt m) l.below in g.3 v (record { above = g.1; below = le_refl v })
+      ] in
+      elim (le_or_lt u r.0) [
         | inl k ↦
-            let f = le_trans o.after k in (
-              r,
-              record { after = f; begins = still_begins b t u r k o.begins; ends = to_end t r a l },
-              (f, inr (le_trans l (end_past t a))),
-              (h.both.only r j).1.1,
-              all_along r f (λ v m n. z v (record { above = m; below = n })),
+            let f = le_trans o.after k in
+            let rt = le_trans r.1 (end_past t a) in (
+              r.0,
+              record { after = f; begins = still_begins b t u r.0 k o.begins; ends = to_end t r.0 a r.1 },
+              (f, inr rt),
+              (h.both.only r.0 r.2).1.1,
+              along r.0 f (le_refl r.0),
             )
-        | inr k ↦ (u, o, c, y, all_along u o.after (λ v m n. z v (record { above = le_trans (le_of_lt k) m; below = n })))
+        | inr k ↦ (u, o, c, y, along u o.after (le_of_lt k))
       ]
 
   forth : (t : Rational) → Lies bounds t → SinceHolds tr a b (IsOn p.yes) (IsOn q.yes) t → IsOn x.some.spans.items t × IsOn x.each.spans.items t
   forth t i (u, o, c, y, z) =
       let ut = none_later u t a o.ends in
-      let both = h.both.has u ((wide t u i (along (start tr) a b t u u o (le_refl u) ut)).0)
-      (z u (record { above = le_refl u; below = ut }), y) in (
+      let both = h.both.has u ((wide t u i o.after ut).0) (z u (record { above = le_refl u; below = ut }), y) in (
         h.some.has t ((own t i).0) (u, o, c, y),
         h.each.has t ((own t i).1) (λ v w.
             let vt = none_later v t 0 w.ends in
-            let uv = earlier t u v a o.ends w.begins in
-            h.run.has v ((wide t v i (along (start tr) a b t u v o uv vt)).1)
-            (inl (u, uv, both, λ k l. z k (record { above = l.above; below = le_trans l.below vt })))),
+            h.run.has v ((wide t v i w.after vt).1)
+            (u, earlier t u v a o.ends w.begins, both, λ k l. z k (record { above = l.above; below = le_trans l.below vt }))),
       )
 
   -- the set of since, where it is certainly true
   pub since_is_true : Tells bounds yes (λ t. IsOn x.some.spans.items t × IsOn x.each.spans.items t)
       → Tells bounds yes (SinceHolds tr a b (IsOn p.yes) (IsOn q.yes))
   since_is_true s = tells_alike bounds yes (λ t. IsOn x.some.spans.items t × IsOn x.each.spans.items t) (SinceHolds tr a b (IsOn p.yes) (IsOn q.yes))
-      (λ t i k. back t i ((h.some.only t k.0).1) ((h.each.only t k.1).1)) forth s
+      (λ t i k. back t ((h.some.only t k.0).1) ((h.each.only t k.1).1)) forth s
 
 module _ (tr : Trace) (a : ℕ) (b : Option ℕ) (p q : Lists) (x : Failing) (h : SinceFailing tr a b p q x) (bounds : Stretch)
     (no : List Stretch) (tidy_q : AreTidy q.no) (tidy_fail : AreTidy x.fail.spans.items)
     (own : (t : Rational) → Lies bounds t → Lies x.never.bounds t × Lies x.broken.bounds t)
-    (wide : (t u : Rational) → Lies bounds t → OpenBehind (start tr) 0 b true true t u → Lies x.fail.bounds u × Lies x.stop.bounds u) where
-  out : (t : Rational) → Lies bounds t → IsOn x.never.spans.items t ⊎ IsOn x.broken.spans.items t → SinceFails tr a b (IsOn p.no) (IsOn q.no) t
-  out t d (inl n) u o = inl ((h.never.only t n).1 u o)
-  out t d (inr n) u o = by_run ((h.broken.only t n).1)
+    (wide : (t u : Rational) → Lies bounds t → start tr ≤ʳ u → u ≤ʳ t → Lies x.fail.bounds u × Lies x.stop.bounds u) where
+  out : (t : Rational) → IsOn x.never.spans.items t ⊎ IsOn x.broken.spans.items t → SinceFails tr a b (IsOn p.no) (IsOn q.no) t
+  out t (inl n) u o = inl ((h.never.only t n).1 u o)
+  out t (inr n) u o = by_run ((h.broken.only t n).1)
     where
       by_run : SomeBehind tr 0 (Some a) true true (IsOn x.stop.spans.items) t → IsOn q.no u ⊎ ((v : Rational) × Within u t v × IsOn p.no v)
-      by_run (v, i, c, s) = by_stop (h.stop.only v s).1
-        where
-          vt : v ≤ʳ t
-          vt = none_later v t 0 i.ends
-
-          uv : u ≤ʳ v
-          uv = earlier t u v a o.ends i.begins
-
-          of_fail : IsOn x.fail.spans.items u → IsOn q.no u ⊎ ((v : Rational) × Within u t v × IsOn p.no v)
-          of_fail f = elim ((h.fail.only u f).1) [ inl m ↦ inr (u, record { above = le_refl u; below = le_trans uv vt }, m) | inr m ↦ inl m ]
-
-          by_stop : GoesBackBy x.carried (place x.stop.bounds.from) x.fail.spans.items p.no v → IsOn q.no u ⊎ ((v : Rational) × Within u t v × IsOn p.no v)
-          by_stop (inl (w, l, y, z)) = elim (le_or_lt u w) [
+      by_run (v, i, c, s) =
+          let (w, l, y, z) = (h.stop.only v s).1 in
+          let vt = none_later v t 0 i.ends in
+          let uv = earlier t u v a o.ends i.begins in
+          elim (le_or_lt u w) [
             | inl k ↦ inr (w, record { above = k; below = le_trans l vt }, y)
-            | inr k ↦ of_fail (z u (record { above = le_of_lt k; below = uv }))
+            | inr k ↦ elim ((h.fail.only u (z u (record { above = le_of_lt k; below = uv }))).1) [
+              | inl m ↦ inr (u, record { above = le_refl u; below = le_trans uv vt }, m)
+              | inr m ↦ inl m
+            ]
           ]
-          by_stop (inr k) =
-              let w = wide t u d (along (start tr) a b t u u o (le_refl u) (le_trans uv vt)) in
-              of_fail (k.all u w.1.0 uv)
 
   into : (t : Rational) → Lies bounds t → SinceFails tr a b (IsOn p.no) (IsOn q.no) t → IsOn x.never.spans.items t ⊎ IsOn x.broken.spans.items t
   into t i f =
       let e = less_by t a in
       let c = window_begin (start tr) t b in
       elim (all_or_broken_back q.no p.no x.fail.spans.items tidy_q tidy_fail c.0 t e (end_past t a)
-      (λ u k l m. h.fail.has u ((wide t u i (window u k l)).0) m)
+      (λ u k l m. h.fail.has u ((wide t u i (c.1 u k).0 l).0) m)
       (λ u k l. f u (record { after = (c.1 u k).0; begins = (c.1 u k).1; ends = to_end t u a l }))) [
         | inl all ↦ inl (h.never.has t ((own t i).0) (λ u o. all u (c.2 u o.after o.begins) (before_end t u a o.ends)))
         | inr (v, w, k, g) ↦
@@ -175,15 +144,12 @@ module _ (tr : Trace) (a : ℕ) (b : Option ℕ) (p q : Lists) (x : Failing) (h 
               v,
               back_way (start tr) t v a sv (past_end t v a w.above) w.below,
               (sv, inr w.below),
-              h.stop.has v ((wide t v i (window v k w.below)).1) (inl g),
+              h.stop.has v ((wide t v i sv w.below).1) g,
             ))
       ]
-    where
-      window : (u : Rational) → After (window_begin (start tr) t b).0 u → u ≤ʳ t → OpenBehind (start tr) 0 b true true t u
-      window u k l = let m = (window_begin (start tr) t b).1 u k in record { after = m.0; begins = m.1; ends = later_none u t l }
 
   -- the set of since, where it is certainly false
   pub since_is_false : Tells bounds no (λ t. IsOn x.never.spans.items t ⊎ IsOn x.broken.spans.items t)
       → Tells bounds no (SinceFails tr a b (IsOn p.no) (IsOn q.no))
   since_is_false s = tells_alike bounds no (λ t. IsOn x.never.spans.items t ⊎ IsOn x.broken.spans.items t)
-      (SinceFails tr a b (IsOn p.no) (IsOn q.no)) out into s
+      (SinceFails tr a b (IsOn p.no) (IsOn q.no)) (λ t i k. out t k) into s

@@ -27,12 +27,12 @@ pub record Agree (from : Rational) (l m : Lists) : Type 0 where
   pub no_out : (t : Rational) → IsOn m.no t → IsOn l.no t
 
 -- what a set has from a time on it has still
-pub kept_in : (from : Rational) (old new : Grown) → IsCutAt from old new → ((t : Rational) → IsOn old.spans.items t → Lies old.bounds t) → (t : Rational) → from ≤ʳ t
+kept_in : (from : Rational) (old new : Grown) → IsCutAt from old new → ((t : Rational) → IsOn old.spans.items t → Lies old.bounds t) → (t : Rational) → from ≤ʳ t
     → IsOn old.spans.items t → IsOn new.spans.items t
 kept_in from old new k within t f o = k.has t (k.left t (within t o) f) o
 
 module _ (from : Rational) (tr : Trace) (a b : ℕ) (p q p' q' : Lists) (ap' : Agree from p p') (aq : Agree from q q') (now : Rational) (later_on : from ≤ʳ now) where
-  module _ (x y : Holding) (k : IsHoldingCut from from x y) (h : UntilHolding tr a b p q x) (at_both : Lies x.both.bounds now) (at_run : Lies x.run.bounds now)
+  module _ (x y : Holding) (k : IsHoldingCut from x y) (h : UntilHolding tr a b p q x) (at_both : Lies x.both.bounds now) (at_run : Lies x.run.bounds now)
       (at_some : Lies x.some.bounds now) (at_each : Lies x.each.bounds now) where
     both_in : (u : Rational) → from ≤ʳ u → IsOn x.both.spans.items u → IsOn y.both.spans.items u
     both_in = kept_in from x.both y.both k.both (λ t o. (h.both.only t o).0)

@@ -15,18 +15,22 @@ use Rattle.early_verdict.specs.Steps.{Tells}
 use Rattle.early_verdict.specs.Fitting.{Lists, lists_at, lists_of, ArePartsTidy, AreSetsTidy, HasFailBounds, IsTidy, SayOfParts, UntilFits, UntilHolding, UntilFailing}
 use Rattle.early_verdict.specs.Standing.{HasParts}
 use Rattle.early_verdict.specs.Living.{IsLive, LooksAt, NetStands, ReachesAhead}
-use Rattle.early_verdict.specs.Letting.{AreAskedBy, ArePartsCut, ArePartsInside, IsChild, IsFailingCut, IsFailingInside, IsHoldingCut, IsHoldingInside, IsInside, IsLess, IsRunCutAt, ShowsFrom}
+use Rattle.early_verdict.specs.Letting.{AreAskedBy, ArePartsInside, IsChild, IsFailingCut, IsFailingInside, IsHoldingCut, IsHoldingInside, IsInside, IsLess, IsRunCut, IsRunCutAt, ShowsFrom}
 use Rattle.early_verdict.specs.declared.stretch.Stretch.{Stretch}
 use Rattle.early_verdict.specs.declared.grown.Grown.{Grown}
 use Rattle.early_verdict.specs.declared.sets.Sets.{Sets}
 use Rattle.early_verdict.specs.declared.sets.Parts.{Parts}
 use Rattle.early_verdict.proofs.AllSets.{lists_are, sets_at}
 use Rattle.early_verdict.proofs.Childhood.{child_below}
-use Rattle.early_verdict.proofs.Narrowing.{live_by, one_stands, shown_begun, shown_inside}
+use Rattle.early_verdict.proofs.Narrowing.{live_by, one_stands, shown_inside}
 use Rattle.early_verdict.proofs.PlaceLemmas.{between}
 use Rattle.early_verdict.proofs.Places.{get_within, same_sets}
 use Rattle.early_verdict.proofs.StretchLemmas.{rises}
 use Rattle.early_verdict.proofs.UntilCuts.{Agree, broken_in, each_in, failing_cut, holding_cut, never_in, some_in}
+
+-- what was before, and what is
+abbrev CutParts : Rational → Stretch → Option Parts → Option Parts → Type 0
+CutParts from wide old new = MatchOption old (new ≡ None) (λ x. MatchOption new ⊥ (λ y. IsHoldingCut from x.holding y.holding × IsFailingCut from wide x.failing y.failing))
 
 -- the sets between lie within their bounds, and what fails within what the left operand shows
 module _ (nodes : List Node) (tr : Trace) (live old new : List Sets) (i p q a b : ℕ) (at : slice_get nodes i ≡ Some (Until p q a b)) (from : Rational) (wide : Stretch)
@@ -67,7 +71,7 @@ module _ (nodes : List Node) (tr : Trace) (live old new : List Sets) (i p q a b 
       )
 
 module _ (nodes : List Node) (formed : AreWellFormed nodes) (tr : Trace) (live left old new : List Sets) (i p q a b : ℕ) (at : slice_get nodes i ≡ Some (Until p q a b))
-    (from : Rational) (wide : Stretch) (cut : IsRunCutAt i from from wide live left) (l' : Sets) (at_left : slice_get new p ≡ Some l') (is_wide : wide ≡ l'.no.bounds)
+    (from : Rational) (wide : Stretch) (cut : IsRunCutAt i from wide live left) (l' : Sets) (at_left : slice_get new p ≡ Some l') (is_wide : wide ≡ l'.no.bounds)
     (begins : (t : Rational) → Lies cut.was.no.bounds t → from ≤ʳ t) (asked : AreAskedBy (Until p q a b) from old new) (st : NetStands nodes tr live old) where
   small : i < length nodes
   small = let e = get_within live i cut.was cut.at_old in let c = st.have.count in omega (arith, e, c)
@@ -121,7 +125,7 @@ module _ (nodes : List Node) (formed : AreWellFormed nodes) (tr : Trace) (live l
   left_wide s e t l f = subst (λ z. Lies z t) (sym is_wide) (shows.left t (subst (λ z. Lies z t) e l) f)
 
   -- each of these has a time of the until's own
-  module _ (x y : Parts) (k : IsHoldingCut from from x.holding y.holding) (m : IsFailingCut from wide x.failing y.failing) (r : ReachesAhead (start tr) b was.own x)
+  module _ (x y : Parts) (k : IsHoldingCut from x.holding y.holding) (m : IsFailingCut from wide x.failing y.failing) (r : ReachesAhead (start tr) b was.own x)
       (e : (x.failing.fail.bounds ≡ (was_left.0).no.bounds) × (x.failing.stop.bounds ≡ (was_left.0).no.bounds)) where
     reach_cut : ReachesAhead (start tr) b was.own y
     reach_cut = record {
@@ -179,9 +183,9 @@ module _ (nodes : List Node) (formed : AreWellFormed nodes) (tr : Trace) (live l
     }
 
   -- of both or of none
-  by_parts : (R : Parts → Type 0) (S : Parts → Type 0) → ((x y : Parts) → IsHoldingCut from from x.holding y.holding → IsFailingCut from wide x.failing y.failing
+  by_parts : (R : Parts → Type 0) (S : Parts → Type 0) → ((x y : Parts) → IsHoldingCut from x.holding y.holding → IsFailingCut from wide x.failing y.failing
       → ReachesAhead (start tr) b was.own x → (x.failing.fail.bounds ≡ (was_left.0).no.bounds) × (x.failing.stop.bounds ≡ (was_left.0).no.bounds) → R x → S y)
-      → (N : Type 0) → (o o' : Option Parts) → ArePartsCut from from wide o o' → MatchOption o (Unit {0}) (ReachesAhead (start tr) b was.own)
+      → (N : Type 0) → (o o' : Option Parts) → CutParts from wide o o' → MatchOption o (Unit {0}) (ReachesAhead (start tr) b was.own)
       → MatchOption o (Unit {0}) (λ x. (x.failing.fail.bounds ≡ (was_left.0).no.bounds) × (x.failing.stop.bounds ≡ (was_left.0).no.bounds)) → MatchOption o N R
       → MatchOption o' N S
   by_parts R S f N None o' c r e h = subst (λ z. MatchOption z N S) (sym c) h
@@ -199,7 +203,7 @@ module _ (nodes : List Node) (formed : AreWellFormed nodes) (tr : Trace) (live l
   is_some : IsSome cut.is.parts
   is_some = by_some cut.was.parts cut.is.parts cut.cut.parts was.left.0
     where
-      by_some : (o o' : Option Parts) → ArePartsCut from from wide o o' → IsSome o → IsSome o'
+      by_some : (o o' : Option Parts) → CutParts from wide o o' → IsSome o → IsSome o'
       by_some None o' c s = absurd (let f : false ≡ true = s in cc)
       by_some (Some x) None c s = absurd c
       by_some (Some x) (Some y) c s = refl
@@ -217,9 +221,9 @@ module _ (nodes : List Node) (formed : AreWellFormed nodes) (tr : Trace) (live l
 
   mine : (w x : Sets) → slice_get old i ≡ Some w → slice_get new i ≡ Some x → IsLess w x → IsLive (start tr) new (Until p q a b) cut.is x
   mine w x e f less =
-      live_by nodes formed tr live left old new i (Until p q a b) at cut.was cut.is cut.at_old cut.at_new cut.others cut.count asked.less asked.others st (Until p q a b)
+      live_by nodes formed tr live left old new i (Until p q a b) at cut.was cut.is cut.at_old cut.at_new cut.others cut.count from asked st (Until p q a b)
       cut.was cut.is own_shown.0 x cut.cut.yes cut.cut.no (subst (λ z. IsLess z x) (same_sets w own_shown.0 (sym e ∙ own_shown.1)) less) was
-      ((asked.looks (start tr) was.own cut.was.parts (shown_begun nodes tr live old st) begun was.looks).0, reach_parts) (is_some, still_fails)
+      ((asked.looks (start tr) was.own cut.was.parts begun was.looks).0, reach_parts) (is_some, still_fails)
 
   fits : UntilFits false tr a b (lists_at new p) (lists_at new q) cut.is
   fits = by_parts
@@ -237,4 +241,4 @@ module _ (nodes : List Node) (formed : AreWellFormed nodes) (tr : Trace) (live l
       }
 
   pub until_stands : NetStands nodes tr left new
-  until_stands = one_stands nodes formed tr live left old new i (Until p q a b) at cut.was cut.is cut.at_old cut.at_new cut.others cut.count asked.less asked.others st mine fits tidy
+  until_stands = one_stands nodes formed tr live left old new i (Until p q a b) at cut.was cut.is cut.at_old cut.at_new cut.others cut.count from asked st mine fits tidy

@@ -5,10 +5,9 @@ use Rattle.stl_syntax.specs.Trace.{Row, Trace, row_time, start, stop}
 use Rattle.stl_syntax.specs.Truth.{holds_at}
 use Rattle.stl_syntax.specs.declared.atom.Atom.{Atom}
 use Rattle.atom_lines.specs.Binding.{HasRow, AreNeighbours}
-use Rattle.early_verdict.specs.Cuts.{Place, place, After, Upto, AtMost}
+use Rattle.early_verdict.specs.Cuts.{Place, After, Upto}
 use Rattle.early_verdict.specs.Spans.{Grows, IsOn}
 use Rattle.early_verdict.specs.Fitting.{AreSetsTidy}
-use Rattle.early_verdict.specs.declared.atoms.Pending.{Pending}
 use Rattle.early_verdict.specs.declared.sets.Sets.{Sets}
 use Rattle.early_verdict.specs.declared.stretch.Stretch.{Stretch}
 
@@ -42,15 +41,9 @@ pub record HasGrown (old new : Sets) : Type 0 where
 abbrev pub Piece : Bool → Place → Place → Bool → Rational → Type 0
 Piece b c d v t = (b ≡ v) × After c t × Upto d t
 
--- from the place on the truth is `holds`: it goes on as it was, or its times up to there were added
-abbrev pub Turns : Pending → Bool → Place → Sets → Sets → Pending → Type 0
-Turns was holds at old new next = (next.holds ≡ holds)
-    × (((was.holds ≡ holds) × (next.from ≡ was.from) × (new ≡ old)) ⊎ ((place next.from ≡ at) × HasAdded old new (Piece was.holds (place was.from) at)))
-
--- once the times of the pending truth are added too, up to any place from `at` on, the sets have grown by Q and by its times from there on
-abbrev pub AddsOnce : Pending → Place → (Bool → Rational → Type 0) → Sets → Sets → Type 0
-AddsOnce pending at Q old new = (then : Sets) (to : Place) → AtMost at to → HasAdded new then (Piece pending.holds (place pending.from) to)
-    → HasAdded old then (λ v t. Q v t ⊎ Piece pending.holds at to v t)
+-- three pieces from c on
+abbrev pub ThreePieces : Place → Bool → Place → Bool → Place → Bool → Place → Bool → Rational → Type 0
+ThreePieces c first d second e third f v t = Piece first c d v t ⊎ Piece second d e v t ⊎ Piece third e f v t
 
 -- it has the truth v at a time between the rows
 abbrev pub BetweenRows : Atom → Trace → Row → Row → Bool → Rational → Type 0

@@ -1,5 +1,5 @@
 -- Places between times, and what is told between them.
-use Rattle.std.specs.Prelude.{◌≡◌, ◌⊎◌, Bool, true, false, not, ℕ, zero, suc, ◌||◌, ◌&&◌, ℤ, MatchBool}
+use Rattle.std.specs.Prelude.{◌≡◌, ◌⊎◌, Bool, true, false, not, ◌||◌, ◌&&◌, ℤ, MatchBool}
 use Rattle.rational.specs.Time.{Rational, ◌≤ʳ◌, ◌<ʳ◌, ◌≈◌, add, whole}
 use Rattle.frac128.specs.Value.{value}
 use Rattle.early_verdict.specs.declared.cut.Cut.{Cut}
@@ -30,13 +30,9 @@ moved_begin k inside c = record { at = add c.at (whole k); after = c.after || no
 abbrev pub moved_end : ℤ → Bool → Place → Place
 moved_end k inside c = record { at = add c.at (whole k); after = c.after && inside }
 
--- the side of a time on which a cut of the program lies, and the place that it stands for
-abbrev pub is_after : ℕ → Bool
-is_after zero = false
-is_after (suc n) = true
-
+-- the place that a cut of the program stands for
 abbrev pub place : Cut → Place
-place c = record { at = value c.time; after = is_after c.side }
+place c = record { at = value c.time; after = c.after }
 
 -- what lies before c lies before d
 abbrev pub AtMost : Place → Place → Type 0

@@ -7,10 +7,10 @@ use Rattle.stl_syntax.specs.Early.{OpenAhead}
 use Rattle.stl_syntax.specs.declared.atom.Atom.{Atom}
 use Rattle.stl_syntax.specs.declared.node.Node.{Node}
 use Rattle.stl_syntax.specs.declared.node.Node.TheVariants.{Const, Atom as Leaf, Not, And, Or, Implies, Until, Eventually, Always, Since, Once, Historically}
-use Rattle.early_verdict.specs.Cuts.{Place, place}
+use Rattle.early_verdict.specs.Cuts.{Place}
 use Rattle.early_verdict.specs.Spans.{IsOn, AreTidy}
 use Rattle.early_verdict.specs.Steps.{Tells, Gains}
-use Rattle.early_verdict.specs.Reaching.{GoesOn, GoesTo, GoesBackBy}
+use Rattle.early_verdict.specs.Reaching.{GoesOn, GoesTo, GoesBack}
 use Rattle.early_verdict.specs.Readings.{SomeAhead, OnlyAhead, SomeBehind, OnlyBehind}
 use Rattle.early_verdict.specs.declared.stretch.Stretch.{Stretch}
 use Rattle.early_verdict.specs.declared.grown.Grown.{Grown}
@@ -29,13 +29,6 @@ lists_of s = record { yes = s.yes.spans.items; no = s.no.spans.items }
 
 abbrev pub nothing : Lists
 nothing = record { yes = []; no = [] }
-
--- those of its times of one truth
-abbrev pub yes_of : Lists → List Stretch
-yes_of l = l.yes
-
-abbrev pub no_of : Lists → List Stretch
-no_of l = l.no
 
 -- those of the node at a place
 abbrev pub lists_at : List Sets → ℕ → Lists
@@ -72,16 +65,16 @@ pub record UntilFailing (ended : Bool) (tr : Trace) (a b : ℕ) (p q : Lists) (x
   pub never : Says x.never (OnlyAhead ended tr a b true true (IsOn q.no))
   pub broken : Says x.broken (λ t. (v : Rational) × OpenAhead (start tr) 0 a true true t v × IsOn x.stop.spans.items v)
 
--- the same of since, whose runs may be carried on from before the times that are kept
+-- the same of since
 pub record SinceHolding (tr : Trace) (a : ℕ) (b : Option ℕ) (p q : Lists) (x : Holding) : Type 0 where
   pub both : Says x.both (λ t. IsOn p.yes t × IsOn q.yes t)
-  pub run : Says x.run (GoesBackBy x.carried (place x.run.bounds.from) p.yes x.both.spans.items)
+  pub run : Says x.run (GoesBack p.yes x.both.spans.items)
   pub some : Says x.some (SomeBehind tr a b true true (IsOn q.yes))
   pub each : Says x.each (OnlyBehind tr 0 (Some a) true true (IsOn x.run.spans.items))
 
 pub record SinceFailing (tr : Trace) (a : ℕ) (b : Option ℕ) (p q : Lists) (x : Failing) : Type 0 where
   pub fail : Says x.fail (λ t. IsOn p.no t ⊎ IsOn q.no t)
-  pub stop : Says x.stop (GoesBackBy x.carried (place x.stop.bounds.from) x.fail.spans.items p.no)
+  pub stop : Says x.stop (GoesBack x.fail.spans.items p.no)
   pub never : Says x.never (OnlyBehind tr a b true true (IsOn q.no))
   pub broken : Says x.broken (SomeBehind tr 0 (Some a) true true (IsOn x.stop.spans.items))
 
@@ -176,14 +169,12 @@ pub record IsHoldingEmpty (x : Holding) : Type 0 where
   pub run : IsEmpty x.run
   pub some : IsEmpty x.some
   pub each : IsEmpty x.each
-  pub carried : x.carried ≡ false
 
 pub record IsFailingEmpty (x : Failing) : Type 0 where
   pub fail : IsEmpty x.fail
   pub stop : IsEmpty x.stop
   pub never : IsEmpty x.never
   pub broken : IsEmpty x.broken
-  pub carried : x.carried ≡ false
 
 pub record ArePartsEmpty (x : Parts) : Type 0 where
   pub holding : IsHoldingEmpty x.holding

@@ -1,13 +1,12 @@
 -- What nodes show and go on from, once they let go of times.
-use Rattle.std.specs.Prelude.{◌≡◌, ◌≢◌, ◌⊎◌, ℕ, Bool, false, IsTrue, IsFalse, MatchBool, Option, Some, None, MatchOption, List, [], ◌∷◌, length, slice_get}
-use Rattle.rational.specs.Time.{Rational, later, ◌≤ʳ◌, ◌<ʳ◌}
+use Rattle.std.specs.Prelude.{◌≡◌, ◌≢◌, ◌⊎◌, ℕ, Option, Some, None, MatchOption, List, length, slice_get}
+use Rattle.rational.specs.Time.{Rational, ◌≤ʳ◌, ◌<ʳ◌}
 use Rattle.stl_syntax.specs.declared.node.Node.{Node}
 use Rattle.stl_syntax.specs.declared.node.Node.TheVariants.{Const, Atom as Leaf, Not, And, Or, Implies, Until, Eventually, Always, Since, Once, Historically}
-use Rattle.early_verdict.specs.Cuts.{Place, place, AtMost, Before, Upto}
-use Rattle.early_verdict.specs.Spans.{IsAmong, IsOn, Lies}
-use Rattle.early_verdict.specs.Steps.{HoldsFrom}
+use Rattle.early_verdict.specs.Cuts.{place, AtMost, Upto}
+use Rattle.early_verdict.specs.Spans.{IsOn, Lies}
 use Rattle.early_verdict.specs.Fitting.{AreSetsTidy, IsTidy}
-use Rattle.early_verdict.specs.Living.{IsNarrowed, IsShown, LooksAt}
+use Rattle.early_verdict.specs.Living.{IsNarrowed, LooksAt}
 use Rattle.early_verdict.specs.declared.stretch.Stretch.{Stretch}
 use Rattle.early_verdict.specs.declared.grown.Grown.{Grown}
 use Rattle.early_verdict.specs.declared.sets.Holding.{Holding}
@@ -58,38 +57,6 @@ pub record IsAskedFrom (p : ℕ) (from : Rational) (old new : List Sets) : Type 
   pub after : (t : Rational) → Lies was.no.bounds t → from ≤ʳ t → (u : Rational) → Lies bounds u → from ≤ʳ u
   pub ends : AtMost (place was.no.bounds.to) (place bounds.to)
 
--- the lists of what nodes show have no time in common
-abbrev pub AreApart : List Sets → Type 0
-AreApart shown = (p : ℕ) (x : Sets) → slice_get shown p ≡ Some x → (t : Rational) → IsOn x.yes.spans.items t → ¬ (IsOn x.no.spans.items t)
-
--- of a set one stretch is left, which begins before the place, and the other set is empty
-pub record IsFirstLeft (limit : Place) (old new other : Grown) : Type 0 where
-  pub part : Stretch
-  pub among : IsAmong part old.spans.items
-  pub begins : Before (place part.from) limit
-  pub left : new.spans.items ≡ part ∷ []
-  pub none : other.spans.items ≡ []
-  pub bounds : new.bounds ≡ part
-  pub other_bounds : other.bounds ≡ part
-
--- a node's times of one truth and those of the other are as they were; or it shows one stretch of those alone, of which some time lies so far
--- before the one given
-abbrev pub IsFirstShown : ℕ → Rational → Grown → Grown → Grown → Grown → Type 0
-IsFirstShown low at old other new new_other =
-    ((new ≡ old) × (new_other ≡ other))
-    ⊎ ((limit : Place) × (later limit.at low ≤ʳ at) × (limit.after ≡ false) × IsFirstLeft limit old new new_other)
-
--- so the node at a place
-pub record IsAskedFirst (p : ℕ) (holds : Bool) (low : ℕ) (at : Rational) (old new : List Sets) : Type 0 where
-  pub was : Sets
-  pub is : Sets
-  pub at_old : slice_get old p ≡ Some was
-  pub at_new : slice_get new p ≡ Some is
-  pub others : (j : ℕ) → j ≢ p → slice_get new j ≡ slice_get old j
-  pub count : length new ≡ length old
-  pub parts : is.parts ≡ was.parts
-  pub shows : MatchBool holds (IsFirstShown low at was.yes was.no is.yes is.no) (IsFirstShown low at was.no was.yes is.no is.yes)
-
 -- a set goes on from that time on, where some of its times are left
 pub record IsCutAt (from : Rational) (old new : Grown) : Type 0 where
   pub tidy : IsTidy new
@@ -106,36 +73,23 @@ pub record IsCutTo (bounds : Stretch) (old new : Grown) : Type 0 where
   pub has : (t : Rational) → Lies bounds t → IsOn old.spans.items t → IsOn new.spans.items t
   pub only : (t : Rational) → IsOn new.spans.items t → IsOn old.spans.items t × Lies bounds t
 
--- whether the set has the first times of its bounds
-pub record BeginsAtOnce (begins : Bool) (x : Grown) : Type 0 where
-  pub yes : IsTrue begins → (s : Stretch) × IsAmong s x.spans.items × HoldsFrom s (place x.bounds.from)
-  pub no : IsFalse begins → (s : Stretch) → IsAmong s x.spans.items → ¬ (HoldsFrom s (place x.bounds.from))
-
--- so do the sets between those of until or since and those of its operands: the ones that its windows look at from one time on, those of its
--- operands from the first, and its failures as far as the left one shows times
-pub record IsHoldingCut (first from : Rational) (old new : Holding) : Type 0 where
-  pub both : IsCutAt first old.both new.both
-  pub run : IsCutAt first old.run new.run
+-- so do the sets between until's and those of its operands; its failures as far as the left one shows times
+pub record IsHoldingCut (from : Rational) (old new : Holding) : Type 0 where
+  pub both : IsCutAt from old.both new.both
+  pub run : IsCutAt from old.run new.run
   pub some : IsCutAt from old.some new.some
   pub each : IsCutAt from old.each new.each
-  pub carried : BeginsAtOnce new.carried new.run
 
 pub record IsFailingCut (from : Rational) (wide : Stretch) (old new : Failing) : Type 0 where
   pub fail : IsCutTo wide old.fail new.fail
   pub stop : IsCutTo wide old.stop new.stop
   pub never : IsCutAt from old.never new.never
   pub broken : IsCutAt from old.broken new.broken
-  pub carried : BeginsAtOnce new.carried new.stop
 
--- of both or of none
-abbrev pub ArePartsCut : Rational → Rational → Stretch → Option Parts → Option Parts → Type 0
-ArePartsCut first from wide old new =
-    MatchOption old (new ≡ None) (λ x. MatchOption new ⊥ (λ y. IsHoldingCut first from x.holding y.holding × IsFailingCut from wide x.failing y.failing))
-
-pub record IsRunCut (first from : Rational) (wide : Stretch) (old new : Sets) : Type 0 where
+pub record IsRunCut (from : Rational) (wide : Stretch) (old new : Sets) : Type 0 where
   pub yes : new.yes ≡ old.yes
   pub no : new.no ≡ old.no
-  pub parts : ArePartsCut first from wide old.parts new.parts
+  pub parts : MatchOption old.parts (new.parts ≡ None) (λ x. MatchOption new.parts ⊥ (λ y. IsHoldingCut from x.holding y.holding × IsFailingCut from wide x.failing y.failing))
 
 -- the times of the sets between lie within their bounds
 abbrev pub IsGrownInside : Grown → Type 0
@@ -157,14 +111,14 @@ abbrev pub ArePartsInside : Stretch → Sets → Type 0
 ArePartsInside wide s = MatchOption s.parts (Unit {0}) (λ x. IsHoldingInside x.holding × IsFailingInside wide x.failing)
 
 -- so the node at a place
-pub record IsRunCutAt (i : ℕ) (first from : Rational) (wide : Stretch) (old new : List Sets) : Type 0 where
+pub record IsRunCutAt (i : ℕ) (from : Rational) (wide : Stretch) (old new : List Sets) : Type 0 where
   pub was : Sets
   pub is : Sets
   pub at_old : slice_get old i ≡ Some was
   pub at_new : slice_get new i ≡ Some is
   pub others : (j : ℕ) → j ≢ i → slice_get new j ≡ slice_get old j
   pub count : length new ≡ length old
-  pub cut : IsRunCut first from wide was is
+  pub cut : IsRunCut from wide was is
 
 -- sets that show fewer times
 pub record IsLess (old new : Sets) : Type 0 where
@@ -217,6 +171,5 @@ pub record AreAskedBy (n : Node) (from : Rational) (old new : List Sets) : Type 
   pub less : AreLess old new
   pub others : (p : ℕ) → ¬ (IsChild p n) → slice_get new p ≡ slice_get old p
   pub run : IsRun n → new ≡ old
-  pub looks : (start : Rational) (own : Stretch) (parts : Option Parts) → ((p : ℕ) (u : Rational) → IsShown old p u → start ≤ʳ u)
-      → ((t : Rational) → Lies own t → from ≤ʳ t) → LooksAt n start old own parts → LooksAt n start new own parts
+  pub looks : (start : Rational) (own : Stretch) (parts : Option Parts) → ((t : Rational) → Lies own t → from ≤ʳ t) → LooksAt n start old own parts → LooksAt n start new own parts
   pub cut : IsUntil n → (p : ℕ) (w x : Sets) → IsChild p n → slice_get old p ≡ Some w → slice_get new p ≡ Some x → ShowsFrom from w x

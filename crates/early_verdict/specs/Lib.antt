@@ -1,7 +1,6 @@
 pub mod Cuts
 pub mod Spans
 pub mod Joining
-pub mod Ending
 pub mod Bounds
 pub mod Windows
 pub mod Steps

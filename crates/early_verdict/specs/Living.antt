@@ -1,5 +1,5 @@
 -- The sets of a net: what each node goes on from, and what it shows the node above it; both only from the times on that are still needed.
-use Rattle.std.specs.Prelude.{◌≡◌, ◌⊎◌, ℕ, zero, suc, ◌-◌, ◌<◌, ◌≤◌, ◌≢◌, Bool, true, false, Option, Some, None, List, [], ◌∷◌, length, MatchOption, slice_get}
+use Rattle.std.specs.Prelude.{◌≡◌, ◌⊎◌, ℕ, zero, suc, ◌-◌, ◌<◌, ◌≤◌, ◌≢◌, false, Option, Some, None, List, [], ◌∷◌, length, MatchOption, slice_get}
 use Rattle.rational.specs.Time.{Rational, later, ◌≤ʳ◌}
 use Rattle.stl_syntax.specs.Trace.{Row, Trace, start}
 use Rattle.stl_syntax.specs.Formula.{subformula}
@@ -8,7 +8,7 @@ use Rattle.stl_syntax.specs.declared.node.Node.{Node}
 use Rattle.stl_syntax.specs.declared.node.Node.TheVariants.{Const, Atom as Leaf, Not, And, Or, Implies, Until, Eventually, Always, Since, Once, Historically}
 use Rattle.early_verdict.specs.Spans.{IsOn, Lies}
 use Rattle.early_verdict.specs.Steps.{Gains}
-use Rattle.early_verdict.specs.Fitting.{Lists, lists_at, no_of, yes_of, AreSetsTidy}
+use Rattle.early_verdict.specs.Fitting.{Lists, lists_at, AreSetsTidy}
 use Rattle.atom_lines.specs.Binding.{Binding}
 use Rattle.early_verdict.specs.Happening.{Happens}
 use Rattle.early_verdict.specs.declared.event.Event.{Event}
@@ -31,17 +31,11 @@ pub record ReachesAhead (from : Rational) (b : ℕ) (own : Stretch) (x : Parts) 
   pub both : (t u : Rational) → Lies own t → t ≤ʳ u → u ≤ʳ later t b → Lies x.holding.both.bounds u × Lies x.holding.run.bounds u
   pub fail : (t u : Rational) → Lies own t → t ≤ʳ u → u ≤ʳ later t b → Lies x.failing.fail.bounds u × Lies x.failing.stop.bounds u
 
-pub record ReachesBack (from : Rational) (b : Option ℕ) (own : Stretch) (x : Parts) : Type 0 where
+pub record ReachesBack (from : Rational) (own : Stretch) (x : Parts) : Type 0 where
   pub some : (t : Rational) → Lies own t → Lies x.holding.some.bounds t × Lies x.holding.each.bounds t
   pub never : (t : Rational) → Lies own t → Lies x.failing.never.bounds t × Lies x.failing.broken.bounds t
-  pub both : (t u : Rational) → Lies own t → OpenBehind from 0 b true true t u → Lies x.holding.both.bounds u × Lies x.holding.run.bounds u
-  pub fail : (t u : Rational) → Lies own t → OpenBehind from 0 b true true t u → Lies x.failing.fail.bounds u × Lies x.failing.stop.bounds u
-
--- looking back from its own times a node is shown each time of the window; or some that is in the list on that side, which decides it
-abbrev pub LooksBack : (Lists → List Stretch) → Rational → ℕ → Option ℕ → Bool → Bool → ℕ → List Sets → Stretch → Type 0
-LooksBack side from a b a_in b_in p shown own =
-    (t u : Rational) → Lies own t → OpenBehind from a b a_in b_in t u
-    → IsShown shown p u ⊎ ((w : Rational) × OpenBehind from a b a_in b_in t w × IsShown shown p w × IsOn (side (lists_at shown p)) w)
+  pub both : (t u : Rational) → Lies own t → from ≤ʳ u → u ≤ʳ t → Lies x.holding.both.bounds u × Lies x.holding.run.bounds u
+  pub fail : (t u : Rational) → Lies own t → from ≤ʳ u → u ≤ʳ t → Lies x.failing.fail.bounds u × Lies x.failing.stop.bounds u
 
 -- whatever the node looks at from one of its own times its children show
 abbrev pub LooksAt : Node → Rational → List Sets → Stretch → Option Parts → Type 0
@@ -57,10 +51,10 @@ LooksAt (Until p q a b) from shown own parts =
 LooksAt (Eventually p a b a_in b_in) from shown own parts = (t u : Rational) → Lies own t → OpenAhead from a b a_in b_in t u → IsShown shown p u
 LooksAt (Always p a b a_in b_in) from shown own parts = (t u : Rational) → Lies own t → OpenAhead from a b a_in b_in t u → IsShown shown p u
 LooksAt (Since p q a b) from shown own parts =
-    ((t u : Rational) → Lies own t → OpenBehind from 0 b true true t u → IsShown shown p u × IsShown shown q u)
-    × MatchOption parts (Unit {0}) (ReachesBack from b own)
-LooksAt (Once p a b a_in b_in) from shown own parts = LooksBack yes_of from a b a_in b_in p shown own
-LooksAt (Historically p a b a_in b_in) from shown own parts = LooksBack no_of from a b a_in b_in p shown own
+    ((t u : Rational) → Lies own t → from ≤ʳ u → u ≤ʳ t → IsShown shown p u × IsShown shown q u)
+    × MatchOption parts (Unit {0}) (ReachesBack from own)
+LooksAt (Once p a b a_in b_in) from shown own parts = (t u : Rational) → Lies own t → OpenBehind from a b a_in b_in t u → IsShown shown p u
+LooksAt (Historically p a b a_in b_in) from shown own parts = (t u : Rational) → Lies own t → OpenBehind from a b a_in b_in t u → IsShown shown p u
 
 -- what a node goes on from, and what it shows: both lie from the start on, the children show what it looks at, and it shows what it has;
 -- of the times that it shows and does not go on from it tells whether it is true

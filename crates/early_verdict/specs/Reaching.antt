@@ -1,5 +1,5 @@
 -- Times from which one set goes on without a break to a time of another, or back from which it does.
-use Rattle.std.specs.Prelude.{◌⊎◌, Bool, IsTrue, List}
+use Rattle.std.specs.Prelude.{◌⊎◌, List}
 use Rattle.rational.specs.Time.{Rational, Within, ◌≤ʳ◌}
 use Rattle.early_verdict.specs.Cuts.{Place, place, After, Upto}
 use Rattle.early_verdict.specs.Spans.{Lies, IsOn, IsAmong}
@@ -42,16 +42,6 @@ GoesTo runs spans t = (u : Rational) × (t ≤ʳ u) × IsOn spans u × ((v : Rat
 -- back from t they do to a time of the list
 abbrev pub GoesBack : List Stretch → List Stretch → Rational → Type 0
 GoesBack runs spans t = (u : Rational) × (u ≤ʳ t) × IsOn spans u × ((v : Rational) → Within u t v → IsOn runs v)
-
--- from the place on up to t the runs have each time, and they are carried on from before it
-pub record IsCarried (carried : Bool) (c : Place) (runs : List Stretch) (t : Rational) : Type 0 where
-  pub on : IsTrue carried
-  pub after : After c t
-  pub all : (v : Rational) → After c v → v ≤ʳ t → IsOn runs v
-
--- back from t they go on to a time of the list, or to the place, where they are carried on from before it
-abbrev pub GoesBackBy : Bool → Place → List Stretch → List Stretch → Rational → Type 0
-GoesBackBy carried c runs spans t = GoesBack runs spans t ⊎ IsCarried carried c runs t
 
 -- the place is where what the list has within the part ends
 pub record IsLastEnd (spans : List Stretch) (part : Stretch) (c : Place) : Type 0 where

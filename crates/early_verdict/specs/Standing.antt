@@ -116,17 +116,6 @@ abbrev pub IsOperator : Node → Type 0
 IsOperator (Leaf a) = ⊥
 IsOperator n = Unit {0}
 
--- the operators with one operand that is looked at ahead, and those with one that is looked at behind
-abbrev pub LooksAhead : Node → Type 0
-LooksAhead (Eventually p a b i j) = Unit {0}
-LooksAhead (Always p a b i j) = Unit {0}
-LooksAhead n = ⊥
-
-abbrev pub LooksBehind : Node → Type 0
-LooksBehind (Once p a b i j) = Unit {0}
-LooksBehind (Historically p a b i j) = Unit {0}
-LooksBehind n = ⊥
-
 -- the sets of an operator go on from fitting the trace before to fitting the trace now, by what those of its children gained
 abbrev pub GoesBy : Node → Event → List Sets → Sets → Sets → Type 0
 GoesBy n e below own new =

@@ -1,11 +1,12 @@
 //! What a row adds to the two sets of an atom.
-ghost use Rattle.std.specs.Prelude.{◌≡◌, ◌<◌, ◌⊎◌, IfOk, OnOk, IfSome, Option, length, pos, true, false};
+ghost use Rattle.std.specs.Prelude.{◌≡◌, ◌<◌, ◌⊎◌, OnOk, IfSome, Option, length, pos, true, false};
 ghost use Rattle.rational.specs.Rational.{whole};
 ghost use Rattle.rational.specs.Time.{Rational, ◌≤ʳ◌};
+ghost use Rattle.frac128.specs.Value.{value};
 ghost use Rattle.stl_syntax.specs.Trace.{Trace, start};
 ghost use Rattle.stl_syntax.specs.declared.atom.Atom.{Atom};
 ghost use Rattle.atom_lines.specs.Binding.{AreNeighbours, IsAtomNode, IsFor};
-ghost use Rattle.early_verdict.specs.Adding.{AddsOnce, AfterRow, BetweenRows, HasAdded, HasGrown, HasRested, IsNextRow, Piece, Turns, before_row};
+ghost use Rattle.early_verdict.specs.Adding.{AfterRow, BetweenRows, HasAdded, HasGrown, HasRested, IsNextRow, Piece, ThreePieces};
 ghost use Rattle.early_verdict.specs.Cuts.{place, Same};
 ghost use Rattle.early_verdict.specs.Spans.{Lies};
 ghost use Rattle.early_verdict.specs.Fitting.{AreSetsTidy, AtomFits, HasStepped};
@@ -14,7 +15,7 @@ ghost use Rattle.early_verdict.specs.Happening.{Was};
 use crate::cut::Cut;
 use crate::sets::Sets;
 use atom_lines::{Bound, TruthPiece, truth_piece, truth_point};
-use frac128::Memory;
+use frac128::{Frac, Memory};
 use trace_reader::Row;
 
 /// Just before a time in ticks.
@@ -44,60 +45,67 @@ fn add_truth(own: &mut Sets, holds: bool, from: Cut, to: Cut) -> Result<(), Memo
     Ok(())
 }
 
-/// A truth whose times from a place on are not added yet.
+/// A truth that turns over at a time: before it, at it, and after it.
 #[derive(Clone, Copy)]
-pub(crate) struct Pending {
-    holds: bool,
-    from: Cut,
+struct Turn {
+    before: bool,
+    at: Frac,
+    point: bool,
+    after: bool,
 }
 
-/// From the place on the truth is `holds`. Where it turns over there, its times up to the place are added.
-fn turn(own: &mut Sets, pending: Pending, holds: bool, at: Cut) -> Result<Pending, Memory>
+/// Adds the times from one place to another, between which the truth turns over.
+fn add_turn(own: &mut Sets, turn: Turn, from: Cut, to: Cut) -> Result<(), Memory>
     requires { AreSetsTidy own.old }
-    ensures { IfOk result (Turns pending holds (place at) own.old own.new) }
+    ensures { OnOk result (HasAdded own.old own.new (ThreePieces (place from) turn.before (record { at = value turn.at; after = false })
+        turn.point (record { at = value turn.at; after = true }) turn.after (place to))) }
 {
-    if pending.holds == holds {
-        return Ok(pending);
-    }
-    add_truth(own, pending.holds, pending.from, at)?;
-    Ok(Pending { holds, from: at })
+    let first = Cut {
+        time: turn.at,
+        after: false,
+    };
+    let second = Cut {
+        time: turn.at,
+        after: true,
+    };
+    add_truth(own, turn.before, from, first)?;
+    add_truth(own, turn.point, first, second)?;
+    add_truth(own, turn.after, second, to)?;
+    Ok(())
 }
 
-/// The truth with which the gap between two rows ends. The times before it in the gap are added.
-fn through_gap(
-    own: &mut Sets,
-    bound: &Bound,
-    node: u32,
-    first: &Row,
-    row: &Row,
-) -> Result<Pending, Memory>
+/// Adds the times between two rows.
+fn add_gap(own: &mut Sets, bound: &Bound, node: u32, first: &Row, row: &Row) -> Result<(), Memory>
     requires own { AreSetsTidy own.old }
     requires atom { IsAtomNode bound.now node }
     requires first { length first.now.values ≡ bound.now.width }
     requires second { length row.now.values ≡ bound.now.width }
     requires later { first.now.time < row.now.time }
     ensures grown { OnOk result (HasGrown own.old own.new) }
-    ensures added { IfOk result (λ pending. (a : Atom) (tr : Trace) → IsFor bound.now node a tr → AreNeighbours tr first.now row.now
-        → AddsOnce pending (before_row row.now) (BetweenRows a tr first.now row.now) own.old own.new) }
+    ensures added { OnOk result ((a : Atom) (tr : Trace) → IsFor bound.now node a tr → AreNeighbours tr first.now row.now
+        → HasAdded own.old own.new (BetweenRows a tr first.now row.now)) }
 {
     let from = after_tick(first.time());
+    let to = before_tick(row.time());
     match truth_piece(bound, node, first, row) {
-        TruthPiece::Whole(truth) => Ok(Pending {
-            holds: truth.holds(),
-            from,
-        }),
+        TruthPiece::Whole(truth) => {
+            add_truth(own, truth.holds(), from, to)?;
+            Ok(())
+        }
         TruthPiece::Split {
             before,
             at,
             point,
             after,
         } => {
-            let begun = Pending {
-                holds: before.holds(),
-                from,
+            let turn = Turn {
+                before: before.holds(),
+                at,
+                point: point.holds(),
+                after: after.holds(),
             };
-            let there = turn(own, begun, point.holds(), Cut { time: at, side: 0 })?;
-            turn(own, there, after.holds(), Cut { time: at, side: 1 })
+            add_turn(own, turn, from, to)?;
+            Ok(())
         }
     }
 }
@@ -111,31 +119,28 @@ pub(crate) fn rest(own: &mut Sets)
     own.no.rest();
 }
 
-/// The truth at a row, `holds`, from the place on from which it is so. The times after the row before up to there are added.
-fn up_to_row(
+/// Adds the times after the row before, up to just before the row.
+fn add_before(
     own: &mut Sets,
     bound: &Bound,
     node: u32,
     before: &Option<Row>,
     row: &Row,
-    holds: bool,
-) -> Result<Pending, Memory>
+) -> Result<(), Memory>
     requires own { AreSetsTidy own.old }
     requires atom { IsAtomNode bound.now node }
     requires first { IfSome before.now (λ r. length r.values ≡ bound.now.width) }
     requires second { length row.now.values ≡ bound.now.width }
     requires later { IfSome before.now (λ r. r.time < row.now.time) }
     ensures grown { OnOk result (HasGrown own.old own.new) }
-    ensures holds { IfOk result (λ pending. pending.holds ≡ holds) }
-    ensures added { IfOk result (λ pending. (a : Atom) (tr : Trace) → IsFor bound.now node a tr → IfSome before.now (λ q. AreNeighbours tr q row.now)
-        → AddsOnce pending (before_row row.now) (AfterRow a tr before.now row.now) own.old own.new) }
+    ensures added { OnOk result ((a : Atom) (tr : Trace) → IsFor bound.now node a tr → IfSome before.now (λ q. AreNeighbours tr q row.now)
+        → HasAdded own.old own.new (AfterRow a tr before.now row.now)) }
 {
-    let at = before_tick(row.time());
     match before {
-        None => Ok(Pending { holds, from: at }),
+        None => Ok(()),
         Some(first) => {
-            let pending = through_gap(own, bound, node, first, row)?;
-            turn(own, pending, holds, at)
+            add_gap(own, bound, node, first, row)?;
+            Ok(())
         }
     }
 }
@@ -159,8 +164,8 @@ pub(crate) fn step_atom(
         → Was old (λ o. AtomFits a o) own.old → AtomFits a tr own.new) }
 {
     rest(own);
+    add_before(own, bound, node, before, row)?;
     let holds = truth_point(bound, node, row).holds();
-    let pending = up_to_row(own, bound, node, before, row, holds)?;
-    add_truth(own, holds, pending.from, after_tick(row.time()))?;
+    add_truth(own, holds, before_tick(row.time()), after_tick(row.time()))?;
     Ok(())
 }

@@ -16,47 +16,42 @@ use std::cmp::Ordering;
 #[derive(Clone, Copy, Debug)]
 pub struct Cut {
     pub time: Frac,
-    /// 0 just before the time, and else just after it. It is a whole word, so that a place is copied word by word, with no gap.
-    pub side: u64,
+    pub after: bool,
 }
 
 impl Cut {
     /// Just before the whole number `n`.
-    #[inline(always)]
     pub fn before_whole(n: i64) -> Cut
         ensures { Same (place result) (record { at = whole n; after = false }) }
     {
         Cut {
             time: Frac::of(n),
-            side: 0,
+            after: false,
         }
     }
 
     /// Just after the whole number `n`.
-    #[inline(always)]
     pub fn after_whole(n: i64) -> Cut
         ensures { Same (place result) (record { at = whole n; after = true }) }
     {
         Cut {
             time: Frac::of(n),
-            side: 1,
+            after: true,
         }
     }
 
     /// Whether this place comes before the other.
-    #[inline(always)]
     pub fn precedes(&self, other: &Cut) -> bool
         ensures { IsTrue result ↔ Before (place self.now) (place other.now) }
     {
         match self.time.cmp(&other.time) {
             Ordering::Less => true,
-            Ordering::Equal => self.side == 0 && other.side != 0,
+            Ordering::Equal => !self.after && other.after,
             Ordering::Greater => false,
         }
     }
 
     /// The earlier of the two.
-    #[inline(always)]
     pub fn earlier(self, other: Cut) -> Cut
         ensures one { (result ≡ self) ⊎ (result ≡ other) }
         ensures first { AtMost (place result) (place self) }
@@ -66,7 +61,6 @@ impl Cut {
     }
 
     /// The later of the two.
-    #[inline(always)]
     pub fn later(self, other: Cut) -> Cut
         ensures one { (result ≡ self) ⊎ (result ≡ other) }
         ensures first { AtMost (place self) (place result) }
@@ -76,26 +70,24 @@ impl Cut {
     }
 
     /// A beginning moved by an end of a window: just after the time, where that end is out.
-    #[inline(always)]
     pub fn shift_begin(&self, by: i64, inside: bool) -> Cut
         requires { FitsFloor w64 (add (value self.now.time) (whole by)) }
         ensures { Same (place result) (moved_begin by inside (place self.now)) }
     {
         Cut {
             time: self.time.shift(by),
-            side: if inside { self.side } else { 1 },
+            after: self.after || !inside,
         }
     }
 
     /// An end moved by an end of a window: just before the time, where that end is out.
-    #[inline(always)]
     pub fn shift_end(&self, by: i64, inside: bool) -> Cut
         requires { FitsFloor w64 (add (value self.now.time) (whole by)) }
         ensures { Same (place result) (moved_end by inside (place self.now)) }
     {
         Cut {
             time: self.time.shift(by),
-            side: if inside { self.side } else { 0 },
+            after: self.after && inside,
         }
     }
 }

@@ -95,10 +95,7 @@ fn decided_at(at: u32, verdict: Option<bool>) -> Option<Decided>
     }
 }
 
-/// So many rows come between two times that the sets let go: what that costs is a small part of what the rows themselves cost.
-const ROWS_BETWEEN: u32 = 31;
-
-/// Lets go, now and then, of what no later answer needs; of all sets, once a row has decided.
+/// Lets go of what no later answer needs; of all sets, once a row has decided.
 fn let_go_by(net: &mut Net, formula: &Formula, decided: &Option<Decided>)
     requires { decided.now ≡ None → (tr : ATrace) × NetStands formula.now.nodes tr net.old.live.items net.old.shown.items }
     ensures { decided.now ≡ None → (tr : ATrace) → NetStands formula.now.nodes tr net.old.live.items net.old.shown.items
@@ -109,11 +106,6 @@ fn let_go_by(net: &mut Net, formula: &Formula, decided: &Option<Decided>)
         net.shown.clear();
         return;
     }
-    if net.rows < ROWS_BETWEEN {
-        net.rows += 1;
-        return;
-    }
-    net.rows = 0;
     let_go(net, formula);
 }
 
@@ -137,7 +129,6 @@ impl Early {
             net: Net {
                 live: Vec::new(alloc),
                 shown: Vec::new(alloc),
-                rows: 0,
             },
             begin: 0,
             last: None,

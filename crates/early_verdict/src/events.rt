@@ -128,11 +128,7 @@ fn take_first(
 {
     let live = all_sets(alloc, formula, row.time())?;
     let shown = shown_of(alloc, &live)?;
-    *net = Net {
-        live,
-        shown,
-        rows: 0,
-    };
+    *net = Net { live, shown };
     let event = first_event(row.time());
     step_sets(net, formula, bound, &None, row, &event)?;
     Ok(())

@@ -1,8 +1,7 @@
 //! Sets of times that only grow, as stretches that rise and do not touch, with what they gained of late.
 use crate::cut::Cut;
-use crate::ending::{End, end_for, lengthen, put_last};
 use crate::stretch::Stretch;
-use crate::touching::{holding, put_in};
+use crate::touching::{absorb, first_reaching, holding};
 use frac128::Memory;
 use std::alloc::Global;
 use std::collections::VecDeque;
@@ -77,10 +76,11 @@ impl Grown {
         let Some(part) = Stretch::make(from, to, &self.bounds) else {
             return Ok(());
         };
-        match end_for(&self.spans, &part.from) {
-            End::Behind => put_last(&mut self.spans, &part, &mut self.fresh),
-            End::In(last) => lengthen(&mut self.spans, &last, &part, &mut self.fresh),
-            End::Anywhere => put_in(&mut self.spans, &part, &mut self.fresh),
+        let at = first_reaching(&self.spans, &part.from);
+        let joined = absorb(&mut self.spans, at, &part, &mut self.fresh)?;
+        match self.spans.insert(at, joined) {
+            Ok(()) => Ok(()),
+            Err(_) => Err(Memory),
         }
     }
 }

@@ -11,15 +11,14 @@ ghost use Rattle.early_verdict.specs.Spans.{AreTidy, IsOn};
 ghost use Rattle.early_verdict.specs.Fitting.{AreSetsTidy, IsFailingTidy, IsHoldingTidy};
 ghost use Rattle.early_verdict.specs.Standing.{AllTidy};
 ghost use Rattle.early_verdict.specs.Living.{IsNarrowed, NetStands};
-ghost use Rattle.early_verdict.specs.Letting.{AreApart, AreAskedBy, AreInside, BeginsAtOnce, IsAskedFirst, IsAskedFrom, IsFirstLeft, ArePartsInside, IsFailingCut, IsFailingInside, IsHoldingCut, IsHoldingInside, IsInside, IsRunCut, IsRunCutAt, IsSettled, IsSettledAt, IsUntil};
-ghost use Rattle.stl_syntax.specs.declared.node.Node.TheVariants.{Since, Until};
+ghost use Rattle.early_verdict.specs.Letting.{AreAskedBy, AreInside, IsAskedFrom, ArePartsInside, IsFailingCut, IsFailingInside, IsHoldingCut, IsHoldingInside, IsInside, IsRunCut, IsRunCutAt, IsSettled, IsSettledAt, IsUntil};
+ghost use Rattle.stl_syntax.specs.declared.node.Node.TheVariants.{Until};
 ghost use Rattle.early_verdict.specs.declared.sets.Sets.{Sets as ASets};
 
 use crate::cut::Cut;
-use crate::grown::Grown;
 use crate::operators::ticks_before;
 use crate::sets::{Failing, Holding, Net, Sets};
-use crate::showing::{bounds_from, cut_to, front, narrow};
+use crate::showing::{bounds_from, cut_to, narrow};
 use crate::stretch::Stretch;
 use crate::touching::holding;
 use std::collections::VecDeque;
@@ -127,54 +126,15 @@ fn ask_ahead(shown: &mut [Sets], place: u32, low: u32, cut: &Cut)
     ask_from(shown, place, &from);
 }
 
-/// Shows the first times of the one set alone, where these begin before the cut; the other set has none of them.
-fn show_first(own: &mut Grown, other: &mut Grown, cut: &Cut)
-    ensures { ((own.new ≡ own.old) × (other.new ≡ other.old)) ⊎ IsFirstLeft (place cut.now) own.old own.new other.new }
-{
-    let Some(first) = front(&own.spans) else {
-        return;
-    };
-    if !first.from.precedes(cut) {
-        return;
-    }
-    own.spans.truncate(1);
-    other.spans.clear();
-    own.bounds = first;
-    other.bounds = first;
-}
-
-/// So for the node at the place, by its times of the truth `holds`, where the first of these begin so far before the cut.
-fn ask_first(shown: &mut [Sets], place: u32, holds: bool, low: u32, cut: &Cut)
-    requires within { place < length shown.old }
-    requires near { IsWithin (2 ^ 34) (value cut.now.time) }
-    ensures { IsAskedFirst place holds low (value cut.now.time) shown.old shown.new }
-{
-    let at = cut_before(cut, low);
-    let limit = Cut {
-        time: at.time,
-        side: 0,
-    };
-    let (_, from) = shown.split_at_mut(place as usize);
-    let own = &mut from[0];
-    if holds {
-        show_first(&mut own.yes, &mut own.no, &limit);
-        return;
-    }
-    show_first(&mut own.no, &mut own.yes, &limit);
-}
-
-/// From so far before the cut on a node is asked. Where no bound is given it is asked from the start on, until it has had the truth
-/// `holds` so far before the cut; then about the first times of that truth alone.
-fn ask_back(shown: &mut [Sets], place: u32, holds: bool, low: u32, most: &Option<u32>, cut: &Cut)
+/// From so far before the cut on a node is asked; as before, where no bound is given.
+fn ask_back(shown: &mut [Sets], place: u32, most: &Option<u32>, cut: &Cut)
     requires within { place < length shown.old }
     requires tidy { AllTidy shown.old }
     requires inside { AreInside shown.old }
     requires near { IsWithin (2 ^ 34) (value cut.now.time) }
-    ensures { MatchOption most.now (IsAskedFirst place holds low (value cut.now.time) shown.old shown.new)
-        (λ k. (from : Rational) × (later from k ≤ʳ value cut.now.time) × IsAskedFrom place from shown.old shown.new) }
+    ensures { MatchOption most.now (shown.new ≡ shown.old) (λ k. (from : Rational) × (later from k ≤ʳ value cut.now.time) × IsAskedFrom place from shown.old shown.new) }
 {
     let Some(ticks) = most else {
-        ask_first(shown, place, holds, low, cut);
         return;
     };
     let from = cut_before(cut, *ticks);
@@ -186,7 +146,6 @@ fn ask_children(shown: &mut [Sets], node: &Node, cut: &Cut)
     requires children { HasChildrenBelow (length shown.old) node.now }
     requires tidy { AllTidy shown.old }
     requires inside { AreInside shown.old }
-    requires apart { AreApart shown.old }
     requires near { IsWithin (2 ^ 34) (value cut.now.time) }
     ensures { AreAskedBy node.now (value cut.now.time) shown.old shown.new }
 {
@@ -199,34 +158,21 @@ fn ask_children(shown: &mut [Sets], node: &Node, cut: &Cut)
         Node::Until { left, right, .. } => ask_both(shown, *left, *right, cut),
         Node::Eventually { of, low, .. } => ask_ahead(shown, *of, *low, cut),
         Node::Always { of, low, .. } => ask_ahead(shown, *of, *low, cut),
-        Node::Once { of, low, high, .. } => ask_back(shown, *of, true, *low, high, cut),
-        Node::Historically { of, low, high, .. } => ask_back(shown, *of, false, *low, high, cut),
+        Node::Once { of, high, .. } => ask_back(shown, *of, high, cut),
+        Node::Historically { of, high, .. } => ask_back(shown, *of, high, cut),
     }
 }
 
-/// Whether the set has the first times of its bounds.
-fn begins_at_once(own: &Grown) -> bool
-    requires { AreTidy own.now.spans.items }
-    ensures { BeginsAtOnce result own.now }
-{
-    match holding(&own.spans, &own.bounds.from) {
-        Some(_) => true,
-        None => false,
-    }
-}
-
-/// Lets go of the times before the cut of the sets between those of until or since, where it holds, and those of its operands; of the
-/// times before the first one, where it looks at its operands.
-fn cut_holding(own: &mut Holding, first: &Cut, cut: &Cut)
+/// Lets go of the times before the cut of the sets between until's, where it holds, and those of its operands.
+fn cut_holding(own: &mut Holding, cut: &Cut)
     requires tidy { IsHoldingTidy own.old }
     requires inside { IsHoldingInside own.old }
-    ensures { IsHoldingCut (value first.now.time) (value cut.now.time) own.old own.new }
+    ensures { IsHoldingCut (value cut.now.time) own.old own.new }
 {
-    cut_to(&mut own.both, first);
-    cut_to(&mut own.run, first);
+    cut_to(&mut own.both, cut);
+    cut_to(&mut own.run, cut);
     cut_to(&mut own.some, cut);
     cut_to(&mut own.each, cut);
-    own.carried = begins_at_once(&own.run);
 }
 
 /// So where it fails; there it goes on as far as its left operand shows times.
@@ -239,33 +185,32 @@ fn cut_failing(own: &mut Failing, wide: Stretch, cut: &Cut)
     narrow(&mut own.stop, wide);
     cut_to(&mut own.never, cut);
     cut_to(&mut own.broken, cut);
-    own.carried = begins_at_once(&own.stop);
 }
 
-/// So of an until or a since.
-fn cut_run(own: &mut Sets, wide: Stretch, first: &Cut, cut: &Cut)
+/// So of an until.
+fn cut_run(own: &mut Sets, wide: Stretch, cut: &Cut)
     requires tidy { AreSetsTidy own.old }
     requires inside { ArePartsInside wide own.old }
-    ensures { IsRunCut (value first.now.time) (value cut.now.time) wide own.old own.new }
+    ensures { IsRunCut (value cut.now.time) wide own.old own.new }
 {
     match &mut own.parts {
         Some(parts) => {
-            cut_holding(&mut parts.holding, first, cut);
+            cut_holding(&mut parts.holding, cut);
             cut_failing(&mut parts.failing, wide, cut);
         }
         None => {}
     }
 }
 
-/// So of the one at a place.
-fn cut_run_at(live: &mut [Sets], i: usize, wide: Stretch, first: &Cut, cut: &Cut)
+/// So of the until at a place.
+fn cut_run_at(live: &mut [Sets], i: usize, wide: Stretch, cut: &Cut)
     requires within { i < length live.old }
     requires tidy { AllTidy live.old }
     requires inside { (s : ASets) → slice_get live.old i ≡ Some s → ArePartsInside wide s }
-    ensures { IsRunCutAt i (value first.now.time) (value cut.now.time) wide live.old live.new }
+    ensures { IsRunCutAt i (value cut.now.time) wide live.old live.new }
 {
     let (_, from) = live.split_at_mut(i);
-    cut_run(&mut from[0], wide, first, cut);
+    cut_run(&mut from[0], wide, cut);
 }
 
 /// Lets go of the times of the node at a place that are decided, or asked for no more.
@@ -291,37 +236,6 @@ fn left_of_until(node: &Node) -> Option<u32>
     }
 }
 
-/// The operands of a since, and how far it looks back.
-#[derive(Clone, Copy)]
-struct Back {
-    left: u32,
-    right: u32,
-    most: u32,
-}
-
-/// Those of a since that has a bound; of no other node.
-fn bounded_since(node: &Node) -> Option<Back>
-    ensures { IfSome result (λ s. (a : ℕ) × (node.now ≡ Since s.left s.right a (Some s.most))) }
-{
-    let Node::Since {
-        left,
-        right,
-        high,
-        ..
-    } = node
-    else {
-        return None;
-    };
-    let Some(most) = high else {
-        return None;
-    };
-    Some(Back {
-        left: *left,
-        right: *right,
-        most: *most,
-    })
-}
-
 /// The times that the node at the place shows.
 fn shown_at(shown: &[Sets], place: u32) -> Stretch
     requires { place < length shown.now }
@@ -342,17 +256,10 @@ fn let_go_at(live: &mut [Sets], shown: &mut [Sets], formula: &Formula, i: u32)
     settle_at(live, shown, at);
     let own = live[at].no.bounds();
     let node = formula.node(i);
-    if let Some(back) = bounded_since(node) {
-        let first = cut_before(&own.from, back.most);
-        ask_both(shown, back.left, back.right, &first);
-        let wide = shown_at(shown, back.left);
-        cut_run_at(live, at, wide, &first, &own.from);
-        return;
-    }
     ask_children(shown, node, &own.from);
     if let Some(left) = left_of_until(node) {
         let wide = shown_at(shown, left);
-        cut_run_at(live, at, wide, &own.from, &own.from);
+        cut_run_at(live, at, wide, &own.from);
     }
 }
 

@@ -9,7 +9,6 @@ mod atoms;
 mod connectives;
 mod cut;
 mod early;
-mod ending;
 mod event;
 mod events;
 mod grown;

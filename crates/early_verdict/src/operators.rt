@@ -6,7 +6,7 @@ ghost use Rattle.stl_syntax.specs.declared.node.Node.TheVariants.{Not, And, Or, 
 ghost use Rattle.early_verdict.specs.Looking.{IsAhead, IsBehind};
 ghost use Rattle.early_verdict.specs.Fitting.{AreEmpty, AreSetsTidy, HasStepped};
 ghost use Rattle.early_verdict.specs.Happening.{IsEvent};
-ghost use Rattle.early_verdict.specs.Standing.{AllTidy, GoesBy, IsOperator, LooksAhead, LooksBehind};
+ghost use Rattle.early_verdict.specs.Standing.{AllTidy, GoesBy, IsOperator};
 
 use crate::connectives::{
     step_conjunction, step_constant, step_disjunction, step_implication, step_negation,
@@ -289,98 +289,6 @@ fn go_since(
     Ok(())
 }
 
-/// Steps the sets of an operator whose one operand is looked at ahead.
-fn step_ahead(own: &mut Sets, node: &Node, below: &[Sets], event: &Event) -> Result<(), Memory>
-    requires own { AreSetsTidy own.old }
-    requires below { AllTidy below.now }
-    requires children { HasChildrenBelow (length below.now) node.now }
-    requires operator { LooksAhead node.now }
-    requires event { IsEvent event.now }
-    requires none { event.now.first ≡ true → AreEmpty own.old }
-    ensures stepped { OnOk result (HasStepped own.old own.new) }
-    ensures fits { OnOk result (GoesBy node.now event.now below.now own.old own.new) }
-{
-    match node {
-        Node::Eventually {
-            of,
-            low,
-            high,
-            low_in,
-            high_in,
-        } => {
-            let b = Bounds {
-                low: *low,
-                high: *high,
-                low_in: *low_in,
-                high_in: *high_in,
-            };
-            go_eventually(own, *of, b, below, event)
-        }
-        Node::Always {
-            of,
-            low,
-            high,
-            low_in,
-            high_in,
-        } => {
-            let b = Bounds {
-                low: *low,
-                high: *high,
-                low_in: *low_in,
-                high_in: *high_in,
-            };
-            go_always(own, *of, b, below, event)
-        }
-        _ => unreachable!(),
-    }
-}
-
-/// Steps the sets of an operator whose one operand is looked at behind.
-fn step_behind(own: &mut Sets, node: &Node, below: &[Sets], event: &Event) -> Result<(), Memory>
-    requires own { AreSetsTidy own.old }
-    requires below { AllTidy below.now }
-    requires children { HasChildrenBelow (length below.now) node.now }
-    requires operator { LooksBehind node.now }
-    requires event { IsEvent event.now }
-    requires none { event.now.first ≡ true → AreEmpty own.old }
-    ensures stepped { OnOk result (HasStepped own.old own.new) }
-    ensures fits { OnOk result (GoesBy node.now event.now below.now own.old own.new) }
-{
-    match node {
-        Node::Once {
-            of,
-            low,
-            high,
-            low_in,
-            high_in,
-        } => {
-            let b = Bounds {
-                low: *low,
-                high: *high,
-                low_in: *low_in,
-                high_in: *high_in,
-            };
-            go_once(own, *of, b, below, event)
-        }
-        Node::Historically {
-            of,
-            low,
-            high,
-            low_in,
-            high_in,
-        } => {
-            let b = Bounds {
-                low: *low,
-                high: *high,
-                low_in: *low_in,
-                high_in: *high_in,
-            };
-            go_historically(own, *of, b, below, event)
-        }
-        _ => unreachable!(),
-    }
-}
-
 /// Steps the sets of an operator from those of its children.
 pub(crate) fn step_operator(
     own: &mut Sets,
@@ -416,7 +324,65 @@ pub(crate) fn step_operator(
             low,
             high,
         } => go_since(own, *left, *right, *low, *high, below, event),
-        Node::Eventually { .. } | Node::Always { .. } => step_ahead(own, node, below, event),
-        Node::Once { .. } | Node::Historically { .. } => step_behind(own, node, below, event),
+        Node::Eventually {
+            of,
+            low,
+            high,
+            low_in,
+            high_in,
+        } => {
+            let b = Bounds {
+                low: *low,
+                high: *high,
+                low_in: *low_in,
+                high_in: *high_in,
+            };
+            go_eventually(own, *of, b, below, event)
+        }
+        Node::Always {
+            of,
+            low,
+            high,
+            low_in,
+            high_in,
+        } => {
+            let b = Bounds {
+                low: *low,
+                high: *high,
+                low_in: *low_in,
+                high_in: *high_in,
+            };
+            go_always(own, *of, b, below, event)
+        }
+        Node::Once {
+            of,
+            low,
+            high,
+            low_in,
+            high_in,
+        } => {
+            let b = Bounds {
+                low: *low,
+                high: *high,
+                low_in: *low_in,
+                high_in: *high_in,
+            };
+            go_once(own, *of, b, below, event)
+        }
+        Node::Historically {
+            of,
+            low,
+            high,
+            low_in,
+            high_in,
+        } => {
+            let b = Bounds {
+                low: *low,
+                high: *high,
+                low_in: *low_in,
+                high_in: *high_in,
+            };
+            go_historically(own, *of, b, below, event)
+        }
     }
 }

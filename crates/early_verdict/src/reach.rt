@@ -3,7 +3,7 @@ ghost use Rattle.std.specs.Prelude.{◌≡◌, OnOk};
 ghost use Rattle.early_verdict.specs.Cuts.{place};
 ghost use Rattle.early_verdict.specs.Spans.{AreTidy, Grows};
 ghost use Rattle.early_verdict.specs.Steps.{BySome};
-ghost use Rattle.early_verdict.specs.Reaching.{IsCarried, ReachedAt, ReachesAt, ReachesBy, ReachesIn};
+ghost use Rattle.early_verdict.specs.Reaching.{ReachedAt, ReachesAt, ReachesBy, ReachesIn};
 
 use crate::cut::Cut;
 use crate::grown::Grown;
@@ -170,27 +170,4 @@ pub(crate) fn add_all_reached(
         add_reached_at(own, part, runs, spans)?;
     }
     Ok(())
-}
-
-/// Adds the first times of the runs, from the bounds of the set on without a break, where they are carried on from before these.
-pub(crate) fn add_carried(
-    own: &mut Grown,
-    runs: &VecDeque<Stretch>,
-    carried: bool,
-) -> Result<(), Memory>
-    requires own { AreTidy own.old.spans.items }
-    requires runs { AreTidy runs.now.items }
-    ensures tidy { OnOk result (AreTidy own.new.spans.items) }
-    ensures bounds { own.new.bounds ≡ own.old.bounds }
-    ensures ok { OnOk result (Grows own.old.bounds own.old.spans.items own.new.spans.items own.old.fresh.items own.new.fresh.items
-        (IsCarried carried (place own.old.bounds.from) runs.now.items)) }
-{
-    if !carried {
-        return Ok(());
-    }
-    let bounds = own.bounds();
-    match holding(runs, &bounds.from) {
-        None => Ok(()),
-        Some(run) => own.add(bounds.from, run.to),
-    }
 }

@@ -97,7 +97,7 @@ fn since_holds(
         → SinceHolding tr a b (lists_of p.now) (lists_of q.now) own.new) }
 {
     own.both.both(&p.yes, &q.yes)?;
-    own.run.reach_back(&p.yes, &own.both, own.carried)?;
+    own.run.reach_back(&p.yes, &own.both)?;
     own.some.some(&q.yes, w)?;
     each_open(&mut own.each, &own.run, event, down_to)?;
     Ok(())
@@ -128,7 +128,7 @@ fn since_fails(
         → SinceFailing tr a b (lists_of p.now) (lists_of q.now) own.new) }
 {
     own.fail.either(&p.no, &q.no)?;
-    own.stop.reach_back(&own.fail, &p.no, own.carried)?;
+    own.stop.reach_back(&own.fail, &p.no)?;
     each_open(&mut own.never, &q.no, event, w)?;
     own.broken.some(&own.stop, down_to)?;
     Ok(())

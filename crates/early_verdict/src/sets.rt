@@ -18,8 +18,6 @@ pub(crate) struct Holding {
     pub(crate) some: Grown,
     /// Those from which each time up to the window is one of `run`.
     pub(crate) each: Grown,
-    /// For since, whether `run` is carried on from before its bounds.
-    pub(crate) carried: bool,
 }
 
 /// The sets between that at which it is certainly false and those of its operands.
@@ -33,8 +31,6 @@ pub(crate) struct Failing {
     pub(crate) never: Grown,
     /// Those from which some time up to the window is one of `stop`.
     pub(crate) broken: Grown,
-    /// For since, whether `stop` is carried on from before its bounds.
-    pub(crate) carried: bool,
 }
 
 /// The sets between those of until or since and those of its operands.
@@ -59,8 +55,6 @@ pub(crate) struct Net {
     pub(crate) live: Vec<Sets>,
     /// What a node shows the one above it: from the times on that this one still asks for.
     pub(crate) shown: Vec<Sets>,
-    /// How many rows came since the sets last let go.
-    pub(crate) rows: u32,
 }
 
 impl Parts {
@@ -75,14 +69,12 @@ impl Parts {
                 run: Grown::new(alloc, left.yes.bounds()),
                 some: Grown::new(alloc, bounds),
                 each: Grown::new(alloc, bounds),
-                carried: false,
             },
             failing: Failing {
                 fail: Grown::new(alloc, left.no.bounds()),
                 stop: Grown::new(alloc, left.no.bounds()),
                 never: Grown::new(alloc, bounds),
                 broken: Grown::new(alloc, bounds),
-                carried: false,
             },
         }
     }

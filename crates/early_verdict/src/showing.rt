@@ -29,7 +29,7 @@ pub(crate) fn take_in(own: &mut Grown, x: &Grown) -> Result<(), Memory>
 }
 
 /// The first of the stretches.
-pub(crate) fn front(spans: &VecDeque<Stretch>) -> Option<Stretch>
+fn front(spans: &VecDeque<Stretch>) -> Option<Stretch>
     ensures some { IfSome result (λ s. slice_get spans.now.items 0 ≡ Some s) }
     ensures none { IfNone result (spans.now.items ≡ []) }
 {
@@ -92,7 +92,7 @@ pub(crate) fn bounds_from(bounds: &Stretch, cut: &Cut) -> Stretch
 {
     let first = Cut {
         time: cut.time,
-        side: 0,
+        after: false,
     };
     match Stretch::make(first, bounds.to, bounds) {
         Some(rest) => rest,

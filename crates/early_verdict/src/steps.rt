@@ -5,7 +5,7 @@ use crate::grown::Grown;
 use crate::held::{add_all_held, add_all_seeing};
 use crate::lasting::{add_beginning, add_unseeing, run_to};
 use crate::pointwise::{add_all, add_all_common};
-use crate::reach::{add_all_reached, add_all_reaching, add_carried, add_reaching_between};
+use crate::reach::{add_all_reached, add_all_reaching, add_reaching_between};
 use crate::sure::{add_all_sure, add_seeing_between, add_themselves};
 use crate::window::Window;
 use frac128::Memory;
@@ -20,7 +20,7 @@ impl Grown {
     ghost use Rattle.early_verdict.specs.Steps.{Gains, SeesOne, SeesOnly, Tells};
     ghost use Rattle.early_verdict.specs.Sure.{SeesSure};
     ghost use Rattle.early_verdict.specs.Lasting.{SeesOnlyBy};
-    ghost use Rattle.early_verdict.specs.Reaching.{GoesBackBy, GoesOn, GoesTo};
+    ghost use Rattle.early_verdict.specs.Reaching.{GoesBack, GoesOn, GoesTo};
     ghost use Rattle.early_verdict.specs.declared.stretch.Stretch.{Stretch};
 
     /// The times of either of the two sets, once they gained what is fresh of them.
@@ -251,13 +251,12 @@ impl Grown {
         add_all_reaching(self, &runs.fresh, &runs.spans, &x.spans, &x.bounds.to)
     }
 
-    /// The times back from which the runs go on to a time of the set, or to the bounds, where they are carried on from before these, once
-    /// both gained what is fresh of them.
+    /// The times back from which the runs go on to a time of the set, once both gained what is fresh of them.
     ///
     /// # Errors
     ///
     /// `Memory` where memory is wanting; the set is of no use then.
-    pub fn reach_back(&mut self, runs: &Grown, x: &Grown, carried: bool) -> Result<(), Memory>
+    pub fn reach_back(&mut self, runs: &Grown, x: &Grown) -> Result<(), Memory>
         requires own { AreTidy self.old.spans.items }
         requires runs { AreTidy runs.now.spans.items }
         requires input { AreTidy x.now.spans.items }
@@ -267,12 +266,11 @@ impl Grown {
         ensures tells { OnOk result ((z' x' : List Stretch) → Gains z' runs.now.spans.items runs.now.fresh.items
             → Gains x' x.now.spans.items x.now.fresh.items
             → ((t : Rational) → IsOn x.now.spans.items t → IsOn runs.now.spans.items t)
-            → Tells self.old.bounds self.old.spans.items (GoesBackBy carried (place self.old.bounds.from) z' x')
-            → Tells self.old.bounds self.new.spans.items (GoesBackBy carried (place self.old.bounds.from) runs.now.spans.items x.now.spans.items)) }
+            → Tells self.old.bounds self.old.spans.items (GoesBack z' x')
+            → Tells self.old.bounds self.new.spans.items (GoesBack runs.now.spans.items x.now.spans.items)) }
     {
         self.fresh.clear();
         add_all_reached(self, &x.fresh, &runs.spans, &x.spans)?;
-        add_all_reached(self, &runs.fresh, &runs.spans, &x.spans)?;
-        add_carried(self, &runs.spans, carried)
+        add_all_reached(self, &runs.fresh, &runs.spans, &x.spans)
     }
 }

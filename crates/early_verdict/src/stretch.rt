@@ -3,7 +3,6 @@ ghost use Rattle.std.specs.Prelude.{◌^◌, ◌&&◌, not};
 ghost use Rattle.rational.specs.Rational.{IsWithin};
 ghost use Rattle.rational.specs.Time.{HasTimeBetween};
 ghost use Rattle.frac128.specs.Value.{value};
-ghost use Rattle.early_verdict.specs.Cuts.{is_after};
 
 use crate::cut::Cut;
 
@@ -12,7 +11,7 @@ use crate::cut::Cut;
 pub struct Stretch {
     pub from: Cut,
     pub to: Cut,
-    pub ghost not_empty: { HasTimeBetween (value from.time) (value to.time) (not (is_after from.side) && is_after to.side) },
+    pub ghost not_empty: { HasTimeBetween (value from.time) (value to.time) (not from.after && to.after) },
     pub ghost low: { IsWithin (2 ^ 34) (value from.time) },
     pub ghost high: { IsWithin (2 ^ 34) (value to.time) },
 }
@@ -39,7 +38,6 @@ impl Stretch {
     }
 
     /// The times between the two places that lie in the bounds. None exactly where there are none.
-    #[inline(always)]
     pub fn make(from: Cut, to: Cut, bounds: &Stretch) -> Option<Stretch>
         ensures some { IfSome result (λ s. (t : Rational) → Lies s t ↔ (After (place from) t × Upto (place to) t × Lies bounds.now t)) }
         ensures none { IfNone result ((t : Rational) → After (place from) t → Upto (place to) t → ¬ (Lies bounds.now t)) }
@@ -53,7 +51,6 @@ impl Stretch {
     }
 
     /// The times of both, which touch or meet.
-    #[inline(always)]
     pub fn hull(&self, other: &Stretch) -> Stretch
         requires first { ¬ (Before (place self.now.to) (place other.now.from)) }
         requires second { ¬ (Before (place other.now.to) (place self.now.from)) }

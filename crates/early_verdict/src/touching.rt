@@ -2,7 +2,7 @@
 ghost use Rattle.std.specs.Prelude.{◌≡◌, ◌≤◌, ◌++◌, ◌∷◌, ◌↔◌, List, length, take, drop, slice_get, Some, IfOk, OnOk, IfSome, IfNone};
 ghost use Rattle.rational.specs.Time.{Rational};
 ghost use Rattle.early_verdict.specs.Cuts.{After, Upto, Before, place};
-ghost use Rattle.early_verdict.specs.Spans.{AreTidy, BeginsAfter, EndBefore, Grows, IsAmong, Lies, NoneEndsBefore};
+ghost use Rattle.early_verdict.specs.Spans.{AreTidy, BeginsAfter, EndBefore, IsAmong, NoneEndsBefore};
 ghost use Rattle.early_verdict.specs.Steps.{HoldsFrom};
 ghost use Rattle.early_verdict.specs.declared.stretch.Stretch.{Stretch};
 ghost use Rattle.early_verdict.specs.Joining.{Absorbs, Notes};
@@ -73,7 +73,7 @@ fn note(fresh: &mut Vec<Stretch>, from: &Cut, to: &Cut, part: &Stretch) -> Resul
 
 /// Takes out the stretches from the place on that the part touches, notes the times of the part that were in none of them, and
 /// gives the part joined with them.
-fn absorb(
+pub(crate) fn absorb(
     spans: &mut VecDeque<Stretch>,
     at: usize,
     part: &Stretch,
@@ -96,22 +96,4 @@ fn absorb(
     }
     note(fresh, &seen, &part.to, part)?;
     Ok(joined)
-}
-
-/// Puts the part in where it belongs, joined with the stretches that it touches.
-pub(crate) fn put_in(
-    spans: &mut VecDeque<Stretch>,
-    part: &Stretch,
-    fresh: &mut Vec<Stretch>,
-) -> Result<(), Memory>
-    requires { AreTidy spans.old.items }
-    ensures tidy { OnOk result (AreTidy spans.new.items) }
-    ensures ok { OnOk result (Grows part.now spans.old.items spans.new.items fresh.old.items fresh.new.items (Lies part.now)) }
-{
-    let at = first_reaching(spans, &part.from);
-    let joined = absorb(spans, at, part, fresh)?;
-    match spans.insert(at, joined) {
-        Ok(()) => Ok(()),
-        Err(_) => Err(Memory),
-    }
 }

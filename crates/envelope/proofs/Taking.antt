@@ -11,10 +11,10 @@ use Rattle.envelope.specs.declared.course.Course.{Course}
 use Rattle.envelope.specs.declared.walk.Item.{Item}
 use Rattle.envelope.specs.Turns.{IsToCome, IsNoBetter}
 use Rattle.envelope.specs.Course.{Turns}
-use Rattle.envelope.specs.Standing.{FirstStays, Follows, AllFollow, EachFollowed, EachToCome, IsFollowed, AreItems, IsFalling, AllWorse, IsNewItem, IsWorthless, RisesTo, Leaves, Admits, Stands, pieces_with}
+use Rattle.envelope.specs.Standing.{FirstStays, Follows, AllFollow, EachFollowed, EachToCome, IsFollowed, AreItems, IsFalling, AllWorse, IsNewItem, RisesTo, Leaves, Admits, Stands, pieces_with}
 use Rattle.envelope.proofs.TurnOrder.{to_come_first}
 use Rattle.envelope.proofs.Standings.{first_stays, low_stays}
-use Rattle.envelope.proofs.Admitted.{admitted_first, admitted_behind, admitted_worthless}
+use Rattle.envelope.proofs.Admitted.{admitted_first, admitted_behind}
 
 -- what is to come lies no earlier
 pub at_most_to_come : (turn : Turn) (t : Rational) → IsToCome turn t → t ≤ʳ value turn.at
@@ -150,18 +150,3 @@ module _ {P : Type 0} (shape : ShapeOf P) (laws : ShapeLaws shape) (from : Turn)
   taken [] new last l r = taken_first new l r
   taken (q ∷ front) new last l r = subst (λ m. Admits shape from item old low_until items m low_mid
       (q ∷ front ++ item ∷ [])) (sym r) (taken_behind q front last l)
-
-module _ {P : Type 0} (shape : ShapeOf P) (laws : ShapeLaws shape) (from : Turn) (item : Item P) (old mid : Course P)
-    (low_until low_mid : Turn) (items rest : List (Item P)) (n : IsNewItem shape from item) (w : IsWorthless shape mid.side item) where
-  -- so has one that has let go what left, where the item is worthless
-  pub taken_worthless : Leaves shape from old low_until items mid low_mid rest → Admits shape from item old low_until items mid low_mid rest
-  taken_worthless l = record {
-    can = l.can;
-    side = l.side;
-    first = l.first;
-    at = l.at;
-    followed = λ x h g. l.followed x g;
-    stands = λ parts pos to come within falling s. subst (λ side. Stands shape side from to (pieces_with from item parts) mid low_mid rest) l.side
-        (admitted_worthless shape laws from to parts item within n.later n.to_come mid.side mid low_mid rest w
-        (subst (λ side. Stands shape side from to parts mid low_mid rest) (sym l.side) (l.stands parts pos to come s)));
-  }

@@ -323,11 +323,6 @@ pub record Leaves {P : Type 0} (shape : ShapeOf P) (turn : Turn) (old : Course P
       → Stands shape old.side pos to parts old low_until items
       → Stands shape old.side turn to parts new low_until' items'
 
--- an item without a slope whose constant is at no time better than no value
-pub record IsWorthless {P : Type 0} (shape : ShapeOf P) (side : Side) (item : Item P) : Type 0 where
-  pub flat : item.slope ≡ None
-  pub worse : (t : Rational) → IsNoBetter side (value_at (shape.function item.value) t) (none_of side shape.lowest shape.highest)
-
 -- an item that may be admitted at the turn: it leaves after it
 pub record IsNewItem {P : Type 0} (shape : ShapeOf P) (from : Turn) (item : Item P) : Type 0 where
   pub within : IsWithin (2 ^ 34) (value item.until.at)

@@ -58,12 +58,12 @@ impl<P: Shape> Course<P> {
     }
 
     /// From the turn on `next` counts. The turn comes no earlier than the last one.
-    pub fn turn(&mut self, turn: &Turn, next: &Best<P>) -> Result<(), Memory>
+    pub fn turn(&mut self, turn: &Turn, next: Best<P>) -> Result<(), Memory>
         requires ready { IsReady P.Shape self.old }
         requires order { value self.old.at ≤ʳ value turn.now.at }
         requires within { IsWithin (2 ^ 34) (value turn.now.at) }
-        requires levels { HaveLevels P.Shape next.now }
-        ensures ok { OnOk result (Turns P.Shape self.old turn.now next.now self.new) }
+        requires levels { HaveLevels P.Shape next }
+        ensures ok { OnOk result (Turns P.Shape self.old turn.now next self.new) }
         ensures fault { OnErr result (IfSome self.new.fault (IsCourseFault P.Shape self.old)) }
     {
         match turn.at.cmp(&self.at) {
@@ -72,8 +72,8 @@ impl<P: Shape> Course<P> {
                 Ok(())
             }
             _ => {
-                if goes_on(&self.after, next) {
-                    self.after = *next;
+                if goes_on(&self.after, &next) {
+                    self.after = next;
                     return Ok(());
                 }
                 self.turn_later(turn, next)
@@ -82,11 +82,11 @@ impl<P: Shape> Course<P> {
     }
 
     /// The same, at the last knot.
-    fn turn_here(&mut self, turn: &Turn, next: &Best<P>)
+    fn turn_here(&mut self, turn: &Turn, next: Best<P>)
         requires ready { IsReady P.Shape self.old }
         requires here { value turn.now.at ≈ value self.old.at }
-        requires levels { HaveLevels P.Shape next.now }
-        ensures { Turns P.Shape self.old turn.now next.now self.new }
+        requires levels { HaveLevels P.Shape next }
+        ensures { Turns P.Shape self.old turn.now next self.new }
     {
         let point = if turn.just_after {
             self.point
@@ -94,16 +94,16 @@ impl<P: Shape> Course<P> {
             next.at(self.side, &self.at)
         };
         self.point = point;
-        self.after = *next;
+        self.after = next;
     }
 
     /// The same, at a new knot.
-    fn turn_later(&mut self, turn: &Turn, next: &Best<P>) -> Result<(), Memory>
+    fn turn_later(&mut self, turn: &Turn, next: Best<P>) -> Result<(), Memory>
         requires ready { IsReady P.Shape self.old }
         requires order { value self.old.at <ʳ value turn.now.at }
         requires within { IsWithin (2 ^ 34) (value turn.now.at) }
-        requires levels { HaveLevels P.Shape next.now }
-        ensures ok { OnOk result (Turns P.Shape self.old turn.now next.now self.new) }
+        requires levels { HaveLevels P.Shape next }
+        ensures ok { OnOk result (Turns P.Shape self.old turn.now next self.new) }
         ensures at { OnOk result (self.new.at ≡ turn.now.at) }
         ensures before { OnOk result (self.new.before ≡ self.old.after) }
         ensures settled { OnOk result (IsSettledTo self.new.built (value self.old.at)) }
@@ -118,7 +118,7 @@ impl<P: Shape> Course<P> {
         self.before = self.after;
         self.at = turn.at;
         self.point = point;
-        self.after = *next;
+        self.after = next;
         Ok(())
     }
 
@@ -170,8 +170,7 @@ impl<P: Shape> Course<P> {
             at: *stop,
             just_after: false,
         };
-        let after = self.after;
-        self.turn_later(&end, &after)?;
+        self.turn_later(&end, self.after)?;
         self.settle()
     }
 

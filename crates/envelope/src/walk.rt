@@ -1,12 +1,12 @@
 //! A walk over pieces that come one after another, of which the best is written: a queue of those that may still be the best.
-ghost use Rattle.std.specs.Prelude.{◌≡◌, ◌∷◌, [], ◌≤◌, ◌^◌, length, IsTrue, IsSome, Some, None, true, false, OnOk, OnErr, IfSome, IfOk, IfErr};
+ghost use Rattle.std.specs.Prelude.{◌≡◌, ◌∷◌, [], ◌≤◌, ◌^◌, length, IsSome, Some, None, true, false, OnOk, OnErr, IfSome, IfOk, IfErr};
 ghost use Rattle.std.specs.VecDeque.{deque_capacity};
 ghost use Rattle.rational.specs.Rational.{IsWithin};
 ghost use Rattle.rational.specs.Time.{Rational, ◌≤ʳ◌};
 ghost use Rattle.frac128.specs.Value.{value as value_of};
 ghost use Rattle.rational.specs.Affine.{HasBoundedLevel};
 ghost use Rattle.envelope.specs.Course.{IsCourseFault, IsReady, first_time};
-ghost use Rattle.envelope.specs.Standing.{Admits, CanGoOn, IsDropped, IsFollowed, IsNewItem, IsPassed, RisesTo, IsTop, IsWorthless, Leaves, Passes, leaving_by, slope_shape, slope_until};
+ghost use Rattle.envelope.specs.Standing.{Admits, CanGoOn, IsDropped, IsFollowed, IsNewItem, IsPassed, RisesTo, IsTop, Leaves, Passes, leaving_by, slope_shape, slope_until};
 ghost use Rattle.envelope.specs.Turns.{HasCome};
 ghost use Rattle.envelope.specs.Walking.{CanTake, Climbed, EndsWalk, FinishStops, Finishes, HasLevel, IsRefusal, IsStoppedBy, LeavesBy, StopsAt, Took, TurnsHigh, Walks, climbed_until};
 ghost use Rattle.envelope.specs.declared.turns.Turn.{Turn};
@@ -80,7 +80,7 @@ impl<P: Shape> Walk<P> {
         ensures took { OnOk result (Took P.Shape from.now item self.old self.new) }
         ensures fault { OnErr result (StopsAt P.Shape from.now from.now (λ parts. parts) self.old self.new) }
     {
-        self.take(from, &item)
+        self.take(from, item)
     }
 
     /// The gap counts from the one turn until the other, as the high end of the window moves over it.
@@ -173,30 +173,27 @@ impl<P: Shape> Walk<P> {
             low: self.course.after.low,
             high,
         };
-        self.course.turn(turn, &next)
+        self.course.turn(turn, next)
     }
 
     /// The piece counts from the turn on.
-    fn take(&mut self, from: &Turn, item: &Item<P>) -> Result<(), Memory>
+    fn take(&mut self, from: &Turn, item: Item<P>) -> Result<(), Memory>
         requires can { CanGoOn P.Shape self.old.course self.old.low_until self.old.queue.items }
         requires order { value_of self.old.course.at ≤ʳ value_of from.now.at }
         requires within { IsWithin (2 ^ 34) (value_of from.now.at) }
-        requires new { IsNewItem P.Shape from.now item.now }
-        requires followed { IsFollowed self.old.course.after.low self.old.low_until self.old.queue.items item.now }
-        ensures ok { OnOk result (Admits P.Shape from.now item.now self.old.course self.old.low_until self.old.queue.items self.new.course self.new.low_until self.new.queue.items) }
+        requires new { IsNewItem P.Shape from.now item }
+        requires followed { IsFollowed self.old.course.after.low self.old.low_until self.old.queue.items item }
+        ensures ok { OnOk result (Admits P.Shape from.now item self.old.course self.old.low_until self.old.queue.items self.new.course self.new.low_until self.new.queue.items) }
         ensures fault { OnErr result (IsStoppedBy P.Shape from.now self.old self.new.course.fault) }
     {
         self.leave(from)?;
-        if is_worthless(self.course.side, item) {
-            return Ok(());
-        }
         if self.queue.reserve(1).is_err() {
             return Err(Memory);
         }
         let side = self.course.side;
         drop_worse(side, &mut self.queue, &item.value, &from.at);
         self.rise(from, item.value)?;
-        self.queue.push_back_reserved(*item);
+        self.queue.push_back_reserved(item);
         Ok(())
     }
 
@@ -220,11 +217,10 @@ impl<P: Shape> Walk<P> {
             low: self.course.after.low,
             high: self.course.after.high,
         };
-        self.course.turn(from, &next)
+        self.course.turn(from, next)
     }
 
     /// Lets go what counts no longer at the turn.
-    #[inline(always)]
     fn leave(&mut self, turn: &Turn) -> Result<(), Memory>
         requires can { CanGoOn P.Shape self.old.course self.old.low_until self.old.queue.items }
         requires order { value_of self.old.course.at ≤ʳ value_of turn.now.at }
@@ -254,7 +250,6 @@ impl<P: Shape> Walk<P> {
     }
 
     /// Lets go what leaves next.
-    #[inline(never)]
     fn pass(&mut self) -> Result<(), Memory>
         requires some { IsSome (leaving_by self.old.course.after.low self.old.low_until self.old.queue.items) }
         requires can { CanGoOn P.Shape self.old.course self.old.low_until self.old.queue.items }
@@ -289,7 +284,7 @@ impl<P: Shape> Walk<P> {
             low: None,
             high: self.course.after.high,
         };
-        self.course.turn(&self.low_until, &next)
+        self.course.turn(&self.low_until, next)
     }
 
     /// The first constant, which has left the queue, counts no longer; its slope does from now on, if it has one.
@@ -312,7 +307,7 @@ impl<P: Shape> Walk<P> {
             high: self.course.after.high,
         };
         self.low_until = until_of(&first.slope, self.low_until);
-        self.course.turn(&first.until, &next)
+        self.course.turn(&first.until, next)
     }
 
     /// The best constant.
@@ -346,16 +341,6 @@ fn until_of<P: Shape>(slope: &Option<Slope<P>>, other: Turn) -> Turn
     }
 }
 
-/// Whether the item never gives more than no piece does.
-fn is_worthless<P: Shape>(side: Side, item: &Item<P>) -> bool
-    ensures { IsTrue result → IsWorthless P.Shape side item.now }
-{
-    if item.slope.is_some() {
-        return false;
-    }
-    P::same(&item.value, &of_none(side))
-}
-
 /// Drops the items at the end of the queue that are no better than the value at `t`.
 fn drop_worse<P: Shape>(side: Side, queue: &mut VecDeque<Item<P>>, value: &P, t: &Frac)
     requires { IsWithin (2 ^ 34) (value_of t.now) }
@@ -363,7 +348,7 @@ fn drop_worse<P: Shape>(side: Side, queue: &mut VecDeque<Item<P>>, value: &P, t:
     ensures room { deque_capacity queue.new ≡ deque_capacity queue.old }
     ensures fewer { length queue.new.items ≤ length queue.old.items }
 {
-    while let Some(last) = queue.back() {
+    while let Some(&last) = queue.back() {
         match favour(side, &last.value, value, t) {
             Ordering::Less => return,
             _ => {

@@ -10,4 +10,3 @@ mod Gaps
 mod RampGaps
 mod Meets
 mod Levels
-mod Plains

@@ -1,5 +1,5 @@
 //! A line through a point of time and value.
-ghost use Rattle.std.specs.Prelude.{◌≡◌, ◌+◌, ◌*◌, ◌<◌, ◌≤◌, ◌^◌, ◌↔◌, pos, ◌+ℤ◌, ◌-ℤ◌, ◌*ℤ◌, IsTrue, IfOk, IfSome, MatchResult};
+ghost use Rattle.std.specs.Prelude.{◌≡◌, ◌+◌, ◌*◌, ◌<◌, ◌≤◌, ◌^◌, ◌↔◌, pos, ◌+ℤ◌, ◌-ℤ◌, ◌*ℤ◌, IsTrue, IfOk, MatchResult};
 ghost use Rattle.std.specs.Ordering.{MatchOrdering, int_cmp};
 ghost use Rattle.std.specs.Int.RustNames.{unsigned_abs};
 ghost use Rattle.rational.specs.Rational.{Rational, fraction, add, negate, subtract, whole};
@@ -103,40 +103,7 @@ impl Ramp {
             (λ _. ¬ (IsWide (at (line self.now) (value t.now))))
             (λ e. HasDenominator (at (line self.now) (value t.now)) e.den × (2 ^ 60 ≤ e.den)) }
     {
-        if let Some(v) = self.plain(t) {
-            return Ok(Frac::of(v));
-        }
-        self.fix_between(t)
-    }
-
-    /// The same, by a quotient.
-    #[inline(never)]
-    fn fix_between(&self, t: &Frac) -> Result<Frac, WideFrac>
-        requires time { IsWithin (2 ^ 34) (value t.now) }
-        requires value { IsWithin (2 ^ 31) (at (line self.now) (value t.now)) }
-        ensures ok { IfOk result (λ f. value f ≈ at (line self.now) (value t.now)) }
-        ensures wide { MatchResult result
-            (λ _. ¬ (IsWide (at (line self.now) (value t.now))))
-            (λ e. HasDenominator (at (line self.now) (value t.now)) e.den × (2 ^ 60 ≤ e.den)) }
-    {
         self.at(t).frac()
-    }
-
-    /// The value at `t`, where it is whole since `t` is the base or the end of the run.
-    #[inline(always)]
-    fn plain(&self, t: &Frac) -> Option<i64>
-        ensures { IfSome result (λ v. at (line self.now) (value t.now) ≈ whole v) }
-    {
-        if t.rest() != 0 {
-            return None;
-        }
-        if t.whole() == self.t0 {
-            return Some(self.v0);
-        }
-        if t.whole() == self.t0 + i64::from(self.run) {
-            return Some(self.v0 + self.rise);
-        }
-        None
     }
 
     /// Minus the value, at every time.
@@ -191,17 +158,6 @@ impl Ramp {
     pub fn same(&self, other: &Ramp) -> bool
         ensures { IsTrue result ↔ ((t : Rational) → at (line self.now) t ≈ at (line other.now) t) }
     {
-        if self.run == other.run && self.rise != other.rise {
-            return false;
-        }
-        self.lies_on(other)
-    }
-
-    /// The same, by products.
-    #[inline(never)]
-    fn lies_on(&self, other: &Ramp) -> bool
-        ensures { IsTrue result ↔ ((t : Rational) → at (line self.now) t ≈ at (line other.now) t) }
-    {
         Gap::of(self, other).is_zero()
     }
 
@@ -210,37 +166,11 @@ impl Ramp {
         requires { IsWithin (2 ^ 34) (value t.now) }
         ensures { IsOrder result (at (line self.now) (value t.now)) (at (line other.now) (value t.now)) }
     {
-        if let Some(v) = self.plain(t) {
-            if let Some(w) = other.plain(t) {
-                return v.cmp(&w);
-            }
-        }
-        self.cmp_lines(other, t)
-    }
-
-    /// The same, by products.
-    #[inline(never)]
-    fn cmp_lines(&self, other: &Ramp, t: &Frac) -> Ordering
-        requires { IsWithin (2 ^ 34) (value t.now) }
-        ensures { IsOrder result (at (line self.now) (value t.now)) (at (line other.now) (value t.now)) }
-    {
         Gap::of(self, other).sign_at(t)
     }
 
     /// The order of the value at `t` and `c`.
     pub fn cmp_const(&self, c: &Frac, t: &Frac) -> Ordering
-        requires { IsWithin (2 ^ 34) (value t.now) }
-        ensures { IsOrder result (at (line self.now) (value t.now)) (value c.now) }
-    {
-        if let Some(v) = self.plain(t) {
-            return Frac::of(v).cmp(c);
-        }
-        self.cmp_level(c, t)
-    }
-
-    /// The same, by products.
-    #[inline(never)]
-    fn cmp_level(&self, c: &Frac, t: &Frac) -> Ordering
         requires { IsWithin (2 ^ 34) (value t.now) }
         ensures { IsOrder result (at (line self.now) (value t.now)) (value c.now) }
     {

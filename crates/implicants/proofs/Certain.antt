@@ -1,6 +1,5 @@
 -- The three-valued signal of one atom grows along its cells.
-use Rattle.std.proofs.Common.{◌≡◌, ℕ, zero, suc, ◌+◌, ◌<◌, ◌≤◌, ◌^◌, ◌⊎◌, inl, inr, Bool, true, false, List, [], ◌∷◌, ◌++◌}
-use Rattle.std.proofs.Common.{length, Some, refl, sym, subst, ap, ◌∙◌, arith, pos, negsuc, get_or, lit≤, rules, length-append}
+use Rattle.std.proofs.Common.{◌≡◌, ℕ, zero, suc, ◌+◌, ◌<◌, ◌≤◌, ◌^◌, ◌⊎◌, inl, inr, Bool, true, false, List, [], ◌∷◌, ◌++◌, length, Some, refl, sym, subst, ap, ◌∙◌, arith, pos, negsuc, get_or, lit≤, rules, length-append}
 use Rattle.value_laws.specs.Kinds.{kleene_shape}
 use Rattle.std.specs.Prelude.{slice_get, slice_index, MatchBool, IsTrue, IsFalse}
 use Rattle.std.proofs.lemmas.Option.{slice_get_within, slice_get-get_or, get_or_from_slice_get}

@@ -1,15 +1,14 @@
 -- What is demanded of a node hands down what is demanded of its operands.
-use Rattle.std.proofs.Common.{◌≡◌, ℕ, pos, negsuc, ◌<◌, ◌-◌, ◌^◌, ◌⊎◌, inl, inr, Bool, true, false, List}
-use Rattle.std.proofs.Common.{[], ◌∷◌, length, Some, sym, subst, ◌∙◌, arith, lit≤}
+use Rattle.std.proofs.Common.{◌≡◌, ℕ, pos, negsuc, ◌<◌, ◌≤◌, ◌-◌, ◌^◌, ◌⊎◌, inl, inr, Bool, true, false, List, [], ◌∷◌, length, Some, refl, sym, subst, ap, ◌∙◌, arith, lit≤, lit<, rules}
 use Rattle.std.specs.Prelude.{slice_get, Option, None, MatchBool, not}
 use Rattle.std.proofs.lemmas.Option.{slice_get_within}
-use Rattle.rational.specs.Time.{Rational, Within, whole, ◌≤ʳ◌, ◌<ʳ◌, ◌≈◌}
+use Rattle.rational.specs.Time.{Rational, Within, Precedes, whole, later, ◌≤ʳ◌, ◌<ʳ◌, ◌≈◌}
 use Rattle.rational.specs.Rational.{IsWithin}
-use Rattle.rational.specs.Extended.{Extended, finite, value_at, opposite, ◌<ᵉ◌, ◌≤ᵉ◌, Passes}
+use Rattle.rational.specs.Extended.{Extended, finite, value_at, opposite, ◌≈ᵉ◌, ◌<ᵉ◌, ◌≤ᵉ◌, IsLeast, Passes}
 use Rattle.rational.specs.Affine.{IsBounded}
-use Rattle.rational.specs.Windows.{Ahead, Behind}
+use Rattle.rational.specs.Windows.{Ahead, Behind, IsSupOver}
 use Rattle.rational.proofs.Order.{le_trans, le_refl, le_of_same, ge_of_same, same_refl, same_trans}
-use Rattle.rational.proofs.ExtendedLemmas.{clashᵉ, lt_of_lt_of_leᵉ, le_reflᵉ, lt_opposite}
+use Rattle.rational.proofs.ExtendedLemmas.{clashᵉ, lt_of_lt_of_leᵉ, lt_of_le_of_ltᵉ, le_reflᵉ, lt_opposite, opposite_twice}
 use Rattle.rational.proofs.AffineLemmas.{bounded_same, same_transᵉ}
 use Rattle.rational.proofs.LevelLemmas.{level_is}
 use Rattle.rational.proofs.Mixed.{within_whole}
@@ -28,27 +27,26 @@ use Rattle.signal_ops.specs.Pointwise.{LeastOf, Negated}
 use Rattle.window_ops.specs.Windows.{SupBehind}
 use Rattle.stl_syntax.specs.Trace.{Trace}
 use Rattle.stl_syntax.specs.Trace as trace
-use Rattle.stl_syntax.specs.Formula.{Subformula, subformula, tree_of, HasChildrenBelow}
+use Rattle.stl_syntax.specs.Formula.{Subformula, subformula, root, tree_of, HasChildrenBelow, negation, conjunction, disjunction, implication, eventually, always}
 use Rattle.stl_syntax.specs.Kleene.{Must, MustNot}
-use Rattle.stl_syntax.specs.SupInf.{SupInf, one, minus_one, certainty_setting}
+use Rattle.stl_syntax.specs.SupInf.{SupInf, one, minus_one, certainty_setting, HasValues, HasInfs}
+use Rattle.stl_syntax.specs.Cells.{IsChild}
 use Rattle.stl_syntax.specs.declared.items.Item.{Item}
 use Rattle.stl_syntax.specs.declared.node.Node.{Node}
-use Rattle.stl_syntax.specs.declared.node.Node.TheVariants.{Not, And, Or, Implies, Eventually, Always}
+use Rattle.stl_syntax.specs.declared.node.Node.TheVariants.{Const, Atom as Leaf, Not, And, Or, Implies, Until, Eventually, Always, Since, Once, Historically}
 use Rattle.stl_syntax.proofs.FormulaLemmas.{subformula-at}
 use Rattle.stl_syntax.proofs.LawProofs.{certainty_by_values}
 use Rattle.offline_eval.specs.Making.{IsFit}
+use Rattle.offline_eval.specs.Evaluation.{TellNodes}
 use Rattle.implicants.specs.Keeping.{CoverMore}
-use Rattle.implicants.specs.Demands.{Certain, IsOn, IsOff, StaysFit, AreOn, IsBeside, IsMet, AreCertainties, HandsDown}
+use Rattle.implicants.specs.Demands.{Certain, IsDemanded, IsOn, IsOff, IsDemand, IsAlong, StaysFit, AreOn, IsBeside, IsMet, AreCertainties, HandsDown}
 use Rattle.implicants.specs.declared.demand.Demand.{Demand}
 use Rattle.implicants.proofs.Growing.{must, must_not}
 
 -- a three-valued signal is worth 1, -1 or 0
 level_bounded : (o : Option Bool) → IsWithin (2 ^ 31) (whole (kleene_value o))
 level_bounded o = elim o as (λ o. IsWithin (2 ^ 31) (whole (kleene_value o))) [
-  | Some b ↦ elim b as (λ b. IsWithin (2 ^ 31) (whole (kleene_value (Some b)))) [
-    | true ↦ within_whole (2 ^ 31) (pos 1) (lit≤ tt)
-    | false ↦ within_whole (2 ^ 31) (negsuc 0) (lit≤ tt)
-  ]
+  | Some b ↦ elim b as (λ b. IsWithin (2 ^ 31) (whole (kleene_value (Some b)))) [ true ↦ within_whole (2 ^ 31) (pos 1) (lit≤ tt) | false ↦ within_whole (2 ^ 31) (negsuc 0) (lit≤ tt) ]
   | None ↦ within_whole (2 ^ 31) (pos 0) (lit≤ tt)
 ]
 
@@ -92,16 +90,14 @@ fit_over x s low high =
     within t a b = (le_trans above a, le_trans b below)
 
 -- a signal that tells something over the domain of a fit one is fit
-pub stays_fit : (F : Rational → Extended → Type 0) (x y : List (Knot Kleene)) → IsFit kleene_shape x
-    → Tells kleene_shape F (start x) (stop x) y → StaysFit kleene_shape x y
+pub stays_fit : (F : Rational → Extended → Type 0) (x y : List (Knot Kleene)) → IsFit kleene_shape x → Tells kleene_shape F (start x) (stop x) y → StaysFit kleene_shape x y
 stays_fit F x y fit tells = record {
   fit = fit_over y tells.signal (le_trans fit.first (ge_of_same tells.begins)) (le_trans (le_of_same tells.ends) fit.last);
   along = record { begins = tells.begins; ends = tells.ends };
 }
 
 -- the least of two is more than -1 only where both are
-pub least_on : (x y r : List (Knot Kleene))
-    → Tells kleene_shape (LeastOf (IsWorth kleene_shape x) (IsWorth kleene_shape y)) (start x) (stop x) r → AreOn kleene_shape x y r
+pub least_on : (x y r : List (Knot Kleene)) → Tells kleene_shape (LeastOf (IsWorth kleene_shape x) (IsWorth kleene_shape y)) (start x) (stop x) r → AreOn kleene_shape x y r
 least_on x y r tells = record {
   left = λ t h. (let k = ((tells.worth t h.v).0 h.worth).1 in record { v = k.0; worth = k.2; more = lt_of_lt_of_leᵉ minus_one h.v k.0 h.more k.4.left });
   right = λ t h. (let k = ((tells.worth t h.v).0 h.worth).1 in record { v = k.1; worth = k.3; more = lt_of_lt_of_leᵉ minus_one h.v k.1 h.more k.4.right });
@@ -111,8 +107,7 @@ opposite_one : opposite minus_one ≤ᵉ one
 opposite_one = record { le = lit≤ tt }
 
 -- minus a value is more than -1 only where the value is less than 1
-pub negated_on : (x r : List (Knot Kleene)) → Tells kleene_shape (Negated (IsWorth kleene_shape x)) (start x) (stop x) r
-    → (t : Rational) → IsOn kleene_shape r t → IsOff kleene_shape x t
+pub negated_on : (x r : List (Knot Kleene)) → Tells kleene_shape (Negated (IsWorth kleene_shape x)) (start x) (stop x) r → (t : Rational) → IsOn kleene_shape r t → IsOff kleene_shape x t
 negated_on x r tells t h =
     record {
       v = opposite h.v;
@@ -128,8 +123,7 @@ sup_on x r a b a_in b_in tells t h =
     let k = ((tells.worth t h.v).0 h.worth).1.reached minus_one (le_reflᵉ minus_one) h.more in
     (k.1.0, k.1.1, record { v = k.0; worth = k.1.2; more = k.2 })
 
-module _ (nodes : List Node) (tr : Trace) (items : List Item) (signals : List (List (Knot Kleene)))
-    (sure : AreCertainties kleene_shape nodes tr items signals) where
+module _ (nodes : List Node) (tr : Trace) (items : List Item) (signals : List (List (Knot Kleene))) (sure : AreCertainties kleene_shape nodes tr items signals) where
   pub told_at : (k : ℕ) (x : List (Knot Kleene)) → k < length nodes → slice_get signals k ≡ Some x
       → Tells kleene_shape (SupInf (subformula nodes k) (certainty_setting tr items)) (trace.start tr) (trace.stop tr) x
   told_at k x inside at =
@@ -157,8 +151,7 @@ module _ (nodes : List Node) (tr : Trace) (items : List Item) (signals : List (L
       clashᵉ off.v one off.less (is.certain.1 (must some items tr more (subformula nodes k) t m)).at_least
 
 -- the Sup over a window behind looks from where the window ahead comes from
-ahead_of : (from to from' to' : Rational) (a b : ℕ) (a_in b_in : Bool) (t u : Rational) → from ≈ from' → to ≈ to'
-    → Within from to t → Behind from to a (Some b) a_in b_in t u
+ahead_of : (from to from' to' : Rational) (a b : ℕ) (a_in b_in : Bool) (t u : Rational) → from ≈ from' → to ≈ to' → Within from to t → Behind from to a (Some b) a_in b_in t u
     → Ahead from' to' a b a_in b_in u t
 ahead_of from to from' to' a b a_in b_in t u e f w h = record {
   inside = record { above = le_trans (ge_of_same e) w.above; below = le_trans w.below (le_of_same f) };
@@ -176,8 +169,7 @@ module _ (holds : Bool) (x : List (Knot Kleene)) (signals : List (List (Knot Kle
 
   -- the demand at the same times, where certainty of the node makes the operand certain
   pub all_down : (n : Node) (i : ℕ) (d : Demand) → IsFit kleene_shape x → d.at ≡ x
-      → ((at : ℕ → Subformula) (j : ℕ) (some : List Item) (tr : Trace) (t : Rational) → Certain holds (tree_of at j n) some tr t
-      → Certain d.holds (at i) some tr t)
+      → ((at : ℕ → Subformula) (j : ℕ) (some : List Item) (tr : Trace) (t : Rational) → Certain holds (tree_of at j n) some tr t → Certain d.holds (at i) some tr t)
       → Hands n i d
   all_down n i d fit e follows = record {
     fit = same_fit fit d e;
@@ -187,11 +179,9 @@ module _ (holds : Bool) (x : List (Knot Kleene)) (signals : List (List (Knot Kle
   }
 
   -- the demand beside an operand of which the items leave the other case open
-  pub beside_down : (n : Node) (i k : ℕ) (y : List (Knot Kleene)) (below_holds off : Bool) (d : Demand)
-      → slice_get signals k ≡ Some y → ((j : ℕ) → HasChildrenBelow j n → k < j)
+  pub beside_down : (n : Node) (i k : ℕ) (y : List (Knot Kleene)) (below_holds off : Bool) (d : Demand) → slice_get signals k ≡ Some y → ((j : ℕ) → HasChildrenBelow j n → k < j)
       → IsBeside kleene_shape below_holds x y off d
-      → ((at : ℕ → Subformula) (j : ℕ) (some : List Item) (tr : Trace) (t : Rational) → (¬ Certain off (at k) some tr t)
-      → Certain holds (tree_of at j n) some tr t
+      → ((at : ℕ → Subformula) (j : ℕ) (some : List Item) (tr : Trace) (t : Rational) → (¬ Certain off (at k) some tr t) → Certain holds (tree_of at j n) some tr t
       → Certain below_holds (at i) some tr t)
       → Hands n i d
   beside_down n i k y below_holds off d at_k child is follows = record {
@@ -203,10 +193,8 @@ module _ (holds : Bool) (x : List (Knot Kleene)) (signals : List (List (Knot Kle
         (subst (λ p. Certain holds p some tr t) (subformula-at nodes j n at below) (before t (is.on t on) some more m)));
   }
     where
-      left_open : (off : Bool) (t : Rational) → MatchBool off (IsOff kleene_shape y t) (IsOn kleene_shape y t)
-          → (nodes : List Node) (tr : Trace) (items : List Item)
-          → AreCertainties kleene_shape nodes tr items signals → k < length nodes → (some : List Item) → CoverMore some items
-          → ¬ Certain off (subformula nodes k) some tr t
+      left_open : (off : Bool) (t : Rational) → MatchBool off (IsOff kleene_shape y t) (IsOn kleene_shape y t) → (nodes : List Node) (tr : Trace) (items : List Item)
+          → AreCertainties kleene_shape nodes tr items signals → k < length nodes → (some : List Item) → CoverMore some items → ¬ Certain off (subformula nodes k) some tr t
       left_open true t h nodes tr items sure inside some more = off_not_true nodes tr items signals sure k y t inside at_k h some more
       left_open false t h nodes tr items sure inside some more = on_not_false nodes tr items signals sure k y t inside at_k h some more
 
@@ -220,8 +208,7 @@ module _ (holds : Bool) (x : List (Knot Kleene)) (signals : List (List (Knot Kle
     demand = λ nodes tr items j at below sure begins ends before t on some more m.
         let f = is.from t on in
         subst (λ b. Certain b (subformula nodes i) some tr t) (sym is.same)
-        (follows (subformula nodes) j some tr t f.0
-        (ahead_of (start x) (stop x) (trace.start tr) (trace.stop tr) a b a_in b_in t f.0 begins ends (is.inside t on) f.1)
+        (follows (subformula nodes) j some tr t f.0 (ahead_of (start x) (stop x) (trace.start tr) (trace.stop tr) a b a_in b_in t f.0 begins ends (is.inside t on) f.1)
         (subst (λ p. Certain holds p some tr f.0) (subformula-at nodes j n at below) (before f.0 f.2 some more m)));
   }
 
@@ -290,8 +277,7 @@ implied_right p q i e at j some tr t n (inr h) = subst (λ k. Must (at k) some t
 
 -- a window over which a formula is certain makes it certain at each of its times
 pub eventually_false : (p i a b : ℕ) (a_in b_in : Bool) → p ≡ i → (at : ℕ → Subformula) (j : ℕ) (some : List Item) (tr : Trace) (t u : Rational)
-    → Ahead (trace.start tr) (trace.stop tr) a b a_in b_in u t
-    → Certain false (tree_of at j (Eventually p a b a_in b_in)) some tr u → Certain false (at i) some tr t
+    → Ahead (trace.start tr) (trace.stop tr) a b a_in b_in u t → Certain false (tree_of at j (Eventually p a b a_in b_in)) some tr u → Certain false (at i) some tr t
 eventually_false p i a b a_in b_in e at j some tr t u w h = subst (λ k. MustNot (at k) some tr t) e (h t w)
 
 pub always_true : (p i a b : ℕ) (a_in b_in : Bool) → p ≡ i → (at : ℕ → Subformula) (j : ℕ) (some : List Item) (tr : Trace) (t u : Rational)
@@ -299,8 +285,7 @@ pub always_true : (p i a b : ℕ) (a_in b_in : Bool) → p ≡ i → (at : ℕ �
 always_true p i a b a_in b_in e at j some tr t u w h = subst (λ k. Must (at k) some tr t) e (h t w)
 
 -- a signal of one instant, and one that goes on from it certainly false
-pub instant_on : (at : Frac) (p : Kleene) (r : List (Knot Kleene)) (from : ℕ) (t : Rational)
-    → r ≡ record { time = at; point = p; after = p } ∷ [] → value at ≈ whole (pos from)
+pub instant_on : (at : Frac) (p : Kleene) (r : List (Knot Kleene)) (from : ℕ) (t : Rational) → r ≡ record { time = at; point = p; after = p } ∷ [] → value at ≈ whole (pos from)
     → IsOn kleene_shape r t → t ≈ whole (pos from)
 instant_on at p r from t e begins on = at_once (subst (λ r. IsWorth kleene_shape r t on.v) e on.worth)
   where
@@ -326,8 +311,7 @@ started_on at till p q old r from t e on_from off begins on = by_part ((on_from.
     by_part (inr (inr w)) = absurd (not_more q t on.v off w.1 on.more)
 
 -- signals from one tick to another are fit
-pub fit_over_ticks : (x : List (Knot Kleene)) (m n : ℕ) → n < 2 ^ 32 → IsSignal kleene_shape x → start x ≈ whole (pos m)
-    → stop x ≈ whole (pos n) → IsFit kleene_shape x
+pub fit_over_ticks : (x : List (Knot Kleene)) (m n : ℕ) → n < 2 ^ 32 → IsSignal kleene_shape x → start x ≈ whole (pos m) → stop x ≈ whole (pos n) → IsFit kleene_shape x
 fit_over_ticks x m n h s begins ends = fit_over x s (le_trans low (ge_of_same begins)) (le_trans (le_of_same ends) high)
   where
     low : whole (pos 0) ≤ʳ whole (pos m)

@@ -1,5 +1,5 @@
 -- What each kind of node hands down of what is demanded of it.
-use Rattle.std.proofs.Common.{◌≡◌, ℕ, ◌<◌, ◌≤◌, ◌-◌, ◌^◌, inl, inr, Bool, true, false, List, length, Some, refl, sym, subst, arith}
+use Rattle.std.proofs.Common.{◌≡◌, ℕ, ◌<◌, ◌≤◌, ◌-◌, ◌^◌, ◌⊎◌, inl, inr, Bool, true, false, List, length, Some, refl, sym, subst, ◌∙◌, arith}
 use Rattle.std.specs.Prelude.{slice_get, Option, None, IfOk, IfSome, MatchBool, not, nat_eq}
 use Rattle.std.specs.declared.result.Result.{Result}
 use Rattle.std.specs.declared.result.Result.TheVariants.{Ok, Err}
@@ -23,27 +23,22 @@ use Rattle.stl_syntax.specs.declared.node.Node.TheVariants.{Const, Atom as Leaf,
 use Rattle.offline_eval.specs.Making.{IsFit}
 use Rattle.implicants.specs.Demands.{Certain, IsOn, IsOff, IsDemand, IsAlong, StaysFit, AreOn, IsBeside, IsMet, AreCertainties, HandsDown}
 use Rattle.implicants.specs.declared.demand.Demand.{Demand}
-use Rattle.implicants.proofs.Demanding.{fit_over_ticks, told_at, all_down, beside_down, met_down, not_down, IsOther}
-use Rattle.implicants.proofs.Demanding.{right_of, and_true, and_false, or_false, or_true, implies_left, implies_right}
-use Rattle.implicants.proofs.Demanding.{implied_left, implied_right, eventually_false, always_true}
+use Rattle.implicants.proofs.Demanding.{fit_over_ticks, told_at, all_down, beside_down, met_down, not_down, IsOther, right_of, and_true, and_false, or_false, or_true, implies_left, implies_right, implied_left, implied_right, eventually_false, always_true}
 
 -- what follows of each demand follows of a demand that may be missing
-pub each_some : {E : Type 0} (r : Result (Option Demand) E) (G H : Demand → Type 0) → ((d : Demand) → G d → H d)
-    → IfOk r (λ o. IfSome o G) → IfOk r (λ o. IfSome o H)
+pub each_some : {E : Type 0} (r : Result (Option Demand) E) (G H : Demand → Type 0) → ((d : Demand) → G d → H d) → IfOk r (λ o. IfSome o G) → IfOk r (λ o. IfSome o H)
 each_some (Ok (Some d)) G H f h = f d h
 each_some (Ok None) G H f h = tt
 each_some (Err e) G H f h = tt
 
-pub three_some : {E : Type 0} (r : Result (Option Demand) E) (A B C H : Demand → Type 0) → ((d : Demand) → A d → B d → C d → H d)
-    → IfOk r (λ o. IfSome o A) → IfOk r (λ o. IfSome o B)
+pub three_some : {E : Type 0} (r : Result (Option Demand) E) (A B C H : Demand → Type 0) → ((d : Demand) → A d → B d → C d → H d) → IfOk r (λ o. IfSome o A) → IfOk r (λ o. IfSome o B)
     → IfOk r (λ o. IfSome o C) → IfOk r (λ o. IfSome o H)
 three_some (Ok (Some d)) A B C H f a b c = f d a b c
 three_some (Ok None) A B C H f a b c = tt
 three_some (Err e) A B C H f a b c = tt
 
 -- a demand where both signals are on, of which the second is on only where another is off
-pub beside_off : (holds off : Bool) (x y other : List (Knot Kleene)) (d : Demand) → off ≡ true
-    → ((t : Rational) → IsOn kleene_shape y t → IsOff kleene_shape other t) → d.holds ≡ holds
+pub beside_off : (holds off : Bool) (x y other : List (Knot Kleene)) (d : Demand) → off ≡ true → ((t : Rational) → IsOn kleene_shape y t → IsOff kleene_shape other t) → d.holds ≡ holds
     → StaysFit kleene_shape x d.at → AreOn kleene_shape x y d.at → IsBeside kleene_shape holds x other off d
 beside_off holds off x y other d e turned same fit both = record {
   same = same;
@@ -63,8 +58,7 @@ module _ (holds : Bool) (x : List (Knot Kleene)) (signals : List (List (Knot Kle
   pub hands_not : (p : ℕ) → n ≡ Not p → IsChild n i → IsFit kleene_shape x → Hands (record { holds = not holds; at = x })
   hands_not p e child fit = subst (λ m. HandsDown kleene_shape m holds x signals i (record { holds = not holds; at = x })) (sym e)
       (all_down holds x signals (Not p) i (record { holds = not holds; at = x }) fit refl
-      (λ at j some tr t h.
-      subst (λ k. Certain (not holds) (at k) some tr t) (subst (λ m. IsChild m i) e child) (not_down holds (not holds) refl at j p some tr t h)))
+      (λ at j some tr t h. subst (λ k. Certain (not holds) (at k) some tr t) (subst (λ m. IsChild m i) e child) (not_down holds (not holds) refl at j p some tr t h)))
 
   pub hands_and : (p q : ℕ) → n ≡ And p q → IsChild n i → IsFit kleene_shape x → holds ≡ true → Hands (record { holds = holds; at = x })
   hands_and p q e child fit is = subst (λ m. HandsDown kleene_shape m holds x signals i (record { holds = holds; at = x })) (sym e)
@@ -80,8 +74,7 @@ module _ (holds : Bool) (x : List (Knot Kleene)) (signals : List (List (Knot Kle
 
   pub hands_implies : (p q : ℕ) → n ≡ Implies p q → IsChild n i → IsFit kleene_shape x → holds ≡ false → Hands (record { holds = nat_eq p i; at = x })
   hands_implies p q e child fit is = subst (λ m. HandsDown kleene_shape m holds x signals i (record { holds = nat_eq p i; at = x })) (sym e)
-      (all_down holds x signals (Implies p q) i (record { holds = nat_eq p i; at = x }) fit refl
-      (λ at j some tr t h. by_test at j some tr t (certain_as false is (tree_of at j (Implies p q)) some tr t h)
+      (all_down holds x signals (Implies p q) i (record { holds = nat_eq p i; at = x }) fit refl (λ at j some tr t h. by_test at j some tr t (certain_as false is (tree_of at j (Implies p q)) some tr t h)
       (nat_eq p i) refl))
     where
       test_same : nat_eq p i ≡ true → p ≡ i
@@ -90,8 +83,7 @@ module _ (holds : Bool) (x : List (Knot Kleene)) (signals : List (List (Knot Kle
       test_other : nat_eq p i ≡ false → ¬ (p ≡ i)
       test_other f = λ s. grind (arith, nat_tests)
 
-      by_test : (at : ℕ → Subformula) (j : ℕ) (some : List Item) (tr : Trace) (t : Rational)
-          → Certain false (tree_of at j (Implies p q)) some tr t → (b : Bool) → nat_eq p i ≡ b
+      by_test : (at : ℕ → Subformula) (j : ℕ) (some : List Item) (tr : Trace) (t : Rational) → Certain false (tree_of at j (Implies p q)) some tr t → (b : Bool) → nat_eq p i ≡ b
           → Certain b (at i) some tr t
       by_test at j some tr t h true f = implies_left p q i (test_same f) at j some tr t h
       by_test at j some tr t h false f = implies_right p q i (right_of p q i (subst (λ m. IsChild m i) e child) (test_other f)) at j some tr t h
@@ -101,21 +93,17 @@ module _ (holds : Bool) (x : List (Knot Kleene)) (signals : List (List (Knot Kle
   other_below p q k j (inl (s, f)) b = subst (λ z. z < j) (sym f) b.1
   other_below p q k j (inr (s, f)) b = subst (λ z. z < j) (sym f) b.0
 
-  pub hands_and_beside : (p q k : ℕ) (y : List (Knot Kleene)) (d : Demand) → n ≡ And p q → IsChild n i → IsOther p q i k
-      → slice_get signals k ≡ Some y → holds ≡ false
+  pub hands_and_beside : (p q k : ℕ) (y : List (Knot Kleene)) (d : Demand) → n ≡ And p q → IsChild n i → IsOther p q i k → slice_get signals k ≡ Some y → holds ≡ false
       → IsBeside kleene_shape false x y false d → Hands d
   hands_and_beside p q k y d e child other at_k is beside = subst (λ m. HandsDown kleene_shape m holds x signals i d) (sym e)
       (beside_down holds x signals (And p q) i k y false false d at_k (λ j b. other_below p q k j other b) beside
-      (λ at j some tr t none h.
-      and_false p q i k (subst (λ m. IsChild m i) e child) other at j some tr t none (certain_as false is (tree_of at j (And p q)) some tr t h)))
+      (λ at j some tr t none h. and_false p q i k (subst (λ m. IsChild m i) e child) other at j some tr t none (certain_as false is (tree_of at j (And p q)) some tr t h)))
 
-  pub hands_or_beside : (p q k : ℕ) (y : List (Knot Kleene)) (d : Demand) → n ≡ Or p q → IsChild n i → IsOther p q i k
-      → slice_get signals k ≡ Some y → holds ≡ true
+  pub hands_or_beside : (p q k : ℕ) (y : List (Knot Kleene)) (d : Demand) → n ≡ Or p q → IsChild n i → IsOther p q i k → slice_get signals k ≡ Some y → holds ≡ true
       → IsBeside kleene_shape true x y true d → Hands d
   hands_or_beside p q k y d e child other at_k is beside = subst (λ m. HandsDown kleene_shape m holds x signals i d) (sym e)
       (beside_down holds x signals (Or p q) i k y true true d at_k (λ j b. other_below p q k j other b) beside
-      (λ at j some tr t none h.
-      or_true p q i k (subst (λ m. IsChild m i) e child) other at j some tr t none (certain_as true is (tree_of at j (Or p q)) some tr t h)))
+      (λ at j some tr t none h. or_true p q i k (subst (λ m. IsChild m i) e child) other at j some tr t none (certain_as true is (tree_of at j (Or p q)) some tr t h)))
 
   pub hands_implied_left : (p q : ℕ) (y : List (Knot Kleene)) (d : Demand) → n ≡ Implies p q → p ≡ i → slice_get signals q ≡ Some y → holds ≡ true
       → IsBeside kleene_shape false x y true d → Hands d
@@ -123,13 +111,11 @@ module _ (holds : Bool) (x : List (Knot Kleene)) (signals : List (List (Knot Kle
       (beside_down holds x signals (Implies p q) i q y false true d at_q (λ j b. b.1) beside
       (λ at j some tr t none h. implied_left p q i s at j some tr t none (certain_as true is (tree_of at j (Implies p q)) some tr t h)))
 
-  pub hands_implied_right : (p q : ℕ) (y : List (Knot Kleene)) (d : Demand) → n ≡ Implies p q → IsChild n i → (¬ (p ≡ i))
-      → slice_get signals p ≡ Some y → holds ≡ true
+  pub hands_implied_right : (p q : ℕ) (y : List (Knot Kleene)) (d : Demand) → n ≡ Implies p q → IsChild n i → (¬ (p ≡ i)) → slice_get signals p ≡ Some y → holds ≡ true
       → IsBeside kleene_shape true x y false d → Hands d
   hands_implied_right p q y d e child s at_p is beside = subst (λ m. HandsDown kleene_shape m holds x signals i d) (sym e)
       (beside_down holds x signals (Implies p q) i p y true false d at_p (λ j b. b.0) beside
-      (λ at j some tr t none h. implied_right p q i (right_of p q i (subst (λ m. IsChild m i) e child) s) at j some tr t none
-      (certain_as true is (tree_of at j (Implies p q)) some tr t h)))
+      (λ at j some tr t none h. implied_right p q i (right_of p q i (subst (λ m. IsChild m i) e child) s) at j some tr t none (certain_as true is (tree_of at j (Implies p q)) some tr t h)))
 
   pub hands_eventually : (p a b : ℕ) (a_in b_in : Bool) (d : Demand) → n ≡ Eventually p a b a_in b_in → IsChild n i → holds ≡ false
       → IsMet kleene_shape false x a b a_in b_in d → Hands d
@@ -180,14 +166,12 @@ children_within j m (Historically p a b c d) h below = lt_more p j m h below
 
 module _ (nodes : List Node) (tr : Trace) (items : List Item) where
   -- the root is demanded to be certainly false at the start
-  pub root_demand : (j : ℕ) (x : List (Knot Kleene)) → j ≡ length nodes - 1
-      → ((t : Rational) → IsOn kleene_shape x t → t ≈ trace.start tr) → IsDemand kleene_shape nodes tr items false j x
+  pub root_demand : (j : ℕ) (x : List (Knot Kleene)) → j ≡ length nodes - 1 → ((t : Rational) → IsOn kleene_shape x t → t ≈ trace.start tr) → IsDemand kleene_shape nodes tr items false j x
   root_demand j x e only t on some more m =
       subst (λ k. MustNot (subformula nodes k) some tr t) (sym e) ((certainty_is_of_times (root nodes) some tr (trace.start tr) t (same_sym (only t on))).1 m)
 
   -- the signals of the nodes are fit, and go along with each signal over the trace
-  pub others_fit : (signals : List (List (Knot Kleene))) → AreCertainties kleene_shape nodes tr items signals
-      → last_time 0 tr.rows < 2 ^ 32 → (y : List (Knot Kleene)) → start y ≈ trace.start tr
+  pub others_fit : (signals : List (List (Knot Kleene))) → AreCertainties kleene_shape nodes tr items signals → last_time 0 tr.rows < 2 ^ 32 → (y : List (Knot Kleene)) → start y ≈ trace.start tr
       → stop y ≈ trace.stop tr → (k : ℕ) (x : List (Knot Kleene)) → slice_get signals k ≡ Some x → IsFit kleene_shape x × IsAlong kleene_shape y x
   others_fit signals sure late y begins ends k x at =
       let inside : k < length nodes = let a = slice_get_within signals k x at in let c = sure.count in omega (arith, a, c) in

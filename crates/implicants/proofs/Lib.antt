@@ -25,6 +25,3 @@ pub mod Demanding
 pub mod Descending
 pub mod Passing
 pub mod Needing
-pub mod Turning
-pub mod LastCells
-pub mod Walking

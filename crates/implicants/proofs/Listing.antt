@@ -1,6 +1,5 @@
 -- The cells of one node, listed along its signal.
-use Rattle.std.proofs.Common.{◌≡◌, ℕ, suc, ◌+◌, ◌-◌, ◌<◌, ◌≤◌, ◌⊎◌, inl, inr, Bool, true, false, List, [], ◌∷◌, ◌++◌}
-use Rattle.std.proofs.Common.{length, take, drop, Some, None, refl, sym, ap, subst, ◌∙◌, arith, get_or, append_assoc}
+use Rattle.std.proofs.Common.{◌≡◌, ℕ, suc, ◌+◌, ◌-◌, ◌<◌, ◌≤◌, ◌⊎◌, inl, inr, Bool, true, false, List, [], ◌∷◌, ◌++◌, length, take, drop, Some, None, refl, sym, ap, subst, ◌∙◌, arith, get_or, append_assoc}
 use Rattle.value_laws.specs.Kinds.{truth_shape}
 use Rattle.std.specs.Prelude.{slice_get, MatchBool}
 use Rattle.std.specs.Option.{option_map}
@@ -16,8 +15,7 @@ use Rattle.rational.specs.Affine.{level}
 use Rattle.rational.proofs.AffineLemmas.{same_symᵉ, same_transᵉ}
 use Rattle.rational.proofs.LevelLemmas.{level_is}
 use Rattle.value_laws.specs.Values.{truth_value}
-use Rattle.rational.proofs.Order.{le_trans, le_of_lt, le_of_same, ge_of_same, lt_of_le_of_lt, lt_of_lt_of_le, lt_irrefl}
-use Rattle.rational.proofs.Order.{not_lt_of_le, same_refl, same_sym, same_trans, same_of_le, lt_or_same_or_gt}
+use Rattle.rational.proofs.Order.{le_trans, le_of_lt, le_of_same, ge_of_same, lt_of_le_of_lt, lt_of_lt_of_le, lt_irrefl, not_lt_of_le, same_refl, same_sym, same_trans, same_of_le, lt_or_same_or_gt}
 use Rattle.frac128.specs.Spans.{interval}
 use Rattle.frac128.specs.Value.{value}
 use Rattle.frac128.specs.declared.frac.Frac.{Frac}

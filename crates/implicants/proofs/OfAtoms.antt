@@ -1,5 +1,5 @@
 -- Each item of an explanation is of an atom.
-use Rattle.std.proofs.Common.{◌≡◌, ℕ, suc, ◌+◌, inl, inr, List, [], ◌∷◌, ◌++◌, reverse, Some, refl, ap, subst, ◌∙◌, arith}
+use Rattle.std.proofs.Common.{◌≡◌, ℕ, zero, suc, ◌+◌, inl, inr, List, [], ◌∷◌, ◌++◌, reverse, Some, refl, sym, ap, subst, ◌∙◌, arith}
 use Rattle.std.specs.Prelude.{All, slice_get}
 use Rattle.std.proofs.lemmas.List.{reverse-append}
 use Rattle.std.proofs.lemmas.List.Elements.{All-nil, All-cons, All-head, All-tail, All-same, All-append}
@@ -20,8 +20,7 @@ turned P (e ∷ items) h = All-same P (reverse (e ∷ items)) (reverse items ++ 
     (All-append P (reverse items) (e ∷ []) (turned P items (All-tail P e items h)) (All-cons P e [] (All-head P e items h) (All-nil P)))
 
 -- what holds of all cells holds of those that are kept
-kept_too : (P : Item → Type 0) (p : Subformula) (tr : Trace) (left after kept : List Item) → KeptFrom p tr left after kept
-    → All P left → All P after → All P kept
+kept_too : (P : Item → Type 0) (p : Subformula) (tr : Trace) (left after kept : List Item) → KeptFrom p tr left after kept → All P left → All P after → All P kept
 kept_too P p tr [] after kept k a b = All-same P kept after k b
 kept_too P p tr (e ∷ left) after kept (inl (m, k)) a b = kept_too P p tr left after kept k (All-tail P e left a) b
 kept_too P p tr (e ∷ left) after kept (inr (m, k)) a b =
@@ -32,8 +31,7 @@ module _ (nodes : List Node) (tr : Trace) where
   abbrev pub OfAtom : Item → Type 0
   OfAtom e = (a : Atom) × (slice_get nodes e.node ≡ Some (Leaf a))
 
-  here_of : (i : ℕ) (a : Atom) → slice_get nodes i ≡ Some (Leaf a) → (spans : List Interval) (here : List Item)
-      → ItemsOn nodes tr i spans here → All OfAtom here
+  here_of : (i : ℕ) (a : Atom) → slice_get nodes i ≡ Some (Leaf a) → (spans : List Interval) (here : List Item) → ItemsOn nodes tr i spans here → All OfAtom here
   here_of i a at [] [] h = All-nil OfAtom
   here_of i a at [] (e ∷ here) h = absurd h
   here_of i a at (on ∷ spans) [] h = absurd h
@@ -70,5 +68,4 @@ module _ (nodes : List Node) (tr : Trace) where
   -- the items that are kept are of atoms
   pub kept_of_atoms : (items : List Item) → Kept nodes tr items → All OfAtom items
   unfolding StandAt
-  kept_of_atoms items k = kept_too OfAtom (root nodes) tr (reverse k.all) [] items k.dropped (turned OfAtom k.all
-      (all_of 0 nodes k.all (λ i n e. subst (λ j. slice_get nodes j ≡ Some n) (let same : i ≡ 0 + i = omega arith in same) e) k.cells)) (All-nil OfAtom)
+  kept_of_atoms items k = kept_too OfAtom (root nodes) tr (reverse k.all) [] items k.dropped (turned OfAtom k.all (all_of 0 nodes k.all (λ i n e. subst (λ j. slice_get nodes j ≡ Some n) (let same : i ≡ 0 + i = omega arith in same) e) k.cells)) (All-nil OfAtom)

@@ -1,14 +1,14 @@
 -- A trace has one explanation: of each list of all cells what is kept is enough where it is of one.
 use Rattle.std.proofs.Common.{◌≡◌, ℕ, suc, ◌<◌, inl, inr, length, List, [], ◌∷◌, ◌++◌, reverse, refl, sym, subst, ◌∙◌, append-nil}
 use Rattle.std.proofs.lemmas.List.{reverse-reverse}
-use Rattle.rational.specs.Time.{Rational, Interval, IsIn, Precedes, BeginAlike, EndAlike}
-use Rattle.rational.proofs.Order.{same_refl, same_sym, same_trans, le_of_same, ge_of_same}
+use Rattle.rational.specs.Time.{Rational, Interval, IsIn, Precedes, BeginAlike, EndAlike, ◌<ʳ◌, ◌≈◌}
+use Rattle.rational.proofs.Order.{same_refl, same_sym, same_trans, le_of_same, ge_of_same, lt_irrefl, lt_of_lt_of_le}
 use Rattle.rational.proofs.TimeLemmas.{precedes_after, precedes_before}
 use Rattle.frac128.specs.Spans.{interval}
 use Rattle.stl_syntax.specs.Trace.{Trace, start}
 use Rattle.stl_syntax.specs.Formula.{root}
-use Rattle.stl_syntax.specs.Kleene.{MustNot}
-use Rattle.stl_syntax.specs.Cells.{cells}
+use Rattle.stl_syntax.specs.Kleene.{IsCovered, MustNot}
+use Rattle.stl_syntax.specs.Cells.{AreCuts, cells}
 use Rattle.stl_syntax.specs.Kept.{ItemsOn, AllCells, Kept, Agree}
 use Rattle.stl_syntax.specs.PostOrder.{IsPostOrder}
 use Rattle.stl_syntax.proofs.LawProofs.{explanations_hold}
@@ -81,8 +81,7 @@ alike_trans a b c s r = record {
 
 module _ (nodes : List Node) (tr : Trace) where
   -- items of one node on spans that are alike cover the same
-  items_cover : (i : ℕ) (spans others : List Interval) (xs ys : List Item) → AreAllAlike spans others
-      → ItemsOn nodes tr i spans xs → ItemsOn nodes tr i others ys → CoverMore xs ys
+  items_cover : (i : ℕ) (spans others : List Interval) (xs ys : List Item) → AreAllAlike spans others → ItemsOn nodes tr i spans xs → ItemsOn nodes tr i others ys → CoverMore xs ys
   items_cover i spans others [] ys s h k j t c = absurd c
   items_cover i [] others (e ∷ xs) ys s h k j t c = absurd h
   items_cover i (a ∷ spans) [] (e ∷ xs) ys s h k j t c = absurd s
@@ -90,8 +89,7 @@ module _ (nodes : List Node) (tr : Trace) where
   items_cover i (a ∷ spans) (b ∷ others) (e ∷ xs) (g ∷ ys) s h k j t (inl c) =
       let left : AreAlike (interval e.on) a = record { begin = h.1; end = h.2 } in
       let right : AreAlike (interval g.on) b = record { begin = k.1; end = k.2 } in
-      inl (cover_one e g i j t h.0 k.0
-      (alike_trans (interval e.on) a (interval g.on) left (alike_trans a b (interval g.on) s.0 (alike_sym (interval g.on) b right))) c)
+      inl (cover_one e g i j t h.0 k.0 (alike_trans (interval e.on) a (interval g.on) left (alike_trans a b (interval g.on) s.0 (alike_sym (interval g.on) b right))) c)
   items_cover i (a ∷ spans) (b ∷ others) (e ∷ xs) (g ∷ ys) s h k j t (inr c) = inr (items_cover i spans others xs ys s.1 h.4 k.4 j t c)
 
   -- two lists of all cells cover the same
@@ -99,8 +97,7 @@ module _ (nodes : List Node) (tr : Trace) where
   cells_cover i [] xs ys a b = subst (λ zs. CoverMore zs ys) (sym a) (λ j t h. absurd h)
   cells_cover i (Leaf l ∷ ns) xs ys (times, here, later, cuts, on, e, rest) (others, there, after, slits, off, f, more) =
       subst (λ zs. CoverMore zs ys) (sym e) (subst (λ zs. CoverMore (here ++ later) zs) (sym f)
-      (joined_more here later there after
-      (items_cover i (cells times) (cells others) here there (same_cells times others (cuts_are_same nodes tr i times others cuts slits)) on off)
+      (joined_more here later there after (items_cover i (cells times) (cells others) here there (same_cells times others (cuts_are_same nodes tr i times others cuts slits)) on off)
       (cells_cover (suc i) ns later after rest more)))
   cells_cover i (Const b ∷ ns) xs ys a c = cells_cover (suc i) ns xs ys a c
   cells_cover i (Not p ∷ ns) xs ys a b = cells_cover (suc i) ns xs ys a b
@@ -121,14 +118,12 @@ module _ (nodes : List Node) (tr : Trace) where
       subst (λ zs. CoverMore zs k.all) (sym (x.is ∙ append-nil x.front)) (subst (λ zs. CoverMore x.front zs) (reverse-reverse k.all) x.among)
 
   -- where one list that is kept makes the formula certainly false, each does
-  pub one_is_enough : (items others : List Item) → Kept nodes tr items → Kept nodes tr others
-      → MustNot (root nodes) items tr (start tr) → MustNot (root nodes) others tr (start tr)
+  pub one_is_enough : (items others : List Item) → Kept nodes tr items → Kept nodes tr others → MustNot (root nodes) items tr (start tr) → MustNot (root nodes) others tr (start tr)
   one_is_enough items others k l m =
       let more : CoverMore items l.all = λ i t h. cells_cover 0 nodes k.all l.all k.cells l.cells i t (kept_covered items k i t h) in
       kept_is_enough nodes tr others l (must_not items l.all tr more (root nodes) (start tr) m)
 
 -- what is kept of a formula's violation refutes it: it fails in each trace in which the items are so
-pub kept_refutes : (nodes : List Node) (tr tr' : Trace) (items : List Item) → IsPostOrder nodes → 0 < length nodes
-    → Kept nodes tr items → MustNot (root nodes) items tr (start tr)
+pub kept_refutes : (nodes : List Node) (tr tr' : Trace) (items : List Item) → IsPostOrder nodes → 0 < length nodes → Kept nodes tr items → MustNot (root nodes) items tr (start tr)
     → Agree nodes tr' tr items → ¬ HoldsAtStart nodes tr'
 kept_refutes nodes tr tr' items post some k m agree = explanations_hold nodes items tr tr' post some (so_items nodes tr items k) m agree

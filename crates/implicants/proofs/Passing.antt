@@ -1,18 +1,18 @@
 -- Cells that are marked before their turn: those that are needed whatever else is dropped are kept when they are judged.
-use Rattle.std.proofs.Common.{◌≡◌, ℕ, zero, suc, ◌+◌, ◌-◌, ◌*◌, ◌<◌, ◌≤◌, ◌⊎◌, inl, inr, Bool, true, false, List, [], ◌∷◌}
-use Rattle.std.proofs.Common.{length, take, set, reverse, Some, refl, sym, ap, subst, ◌∙◌, arith, length-set, replicate}
-use Rattle.std.specs.Prelude.{slice_get, slice_index_or, nat_lt, ◌||◌, if◌then◌else◌}
+use Rattle.std.proofs.Common.{◌≡◌, ℕ, zero, suc, ◌+◌, ◌-◌, ◌*◌, ◌<◌, ◌≤◌, ◌⊎◌, inl, inr, Bool, true, false, List, [], ◌∷◌, ◌++◌, length, take, set, reverse, Some, refl, sym, ap, subst, ◌∙◌, arith, length-set, replicate}
+use Rattle.std.specs.Prelude.{slice_get, slice_index_or, slice_set, nat_lt, ◌||◌, if◌then◌else◌}
 use Rattle.std.proofs.Math.Nat.{suc-mul}
 use Rattle.std.proofs.lemmas.Bool.Decides.{nat_tests}
+use Rattle.rational.specs.Time.{Rational}
 use Rattle.stl_syntax.specs.Trace.{Trace, start}
 use Rattle.stl_syntax.specs.Formula.{root}
-use Rattle.stl_syntax.specs.Kleene.{MustNot}
+use Rattle.stl_syntax.specs.Kleene.{IsCovered, MustNot}
 use Rattle.stl_syntax.specs.Kept.{KeptFrom}
 use Rattle.stl_syntax.specs.declared.items.Item.{Item}
 use Rattle.stl_syntax.specs.declared.node.Node.{Node}
 use Rattle.implicants.specs.Certainty.{stays}
 use Rattle.implicants.specs.Keeping.{CoverMore, chosen, remaining, IsLeastEnough, AreJudged, AreBlank}
-use Rattle.implicants.specs.Demands.{put_mark, passed, IsNeeded, MarksNeeded}
+use Rattle.implicants.specs.Demands.{put_mark, passed, IsNeeded, MarksMore}
 use Rattle.implicants.proofs.Covering.{IsOver, to_remaining, from_remaining, to_covered, of_covered}
 use Rattle.implicants.proofs.Growing.{must_not}
 use Rattle.implicants.proofs.KeptCells.{drops}
@@ -94,13 +94,11 @@ chosen_longer (false ∷ marks) (e ∷ items) zero = omega arith
 chosen_longer (true ∷ marks) (e ∷ items) (suc c) = let x = chosen_longer marks items c in omega (arith, x)
 chosen_longer (false ∷ marks) (e ∷ items) (suc c) = chosen_longer marks items c
 
-put_longer : (b : Bool) (kept : List Bool) (items : List Item) (c : ℕ)
-    → length (chosen kept items) ≤ length (chosen (if b then set kept c true else kept) items)
+put_longer : (b : Bool) (kept : List Bool) (items : List Item) (c : ℕ) → length (chosen kept items) ≤ length (chosen (if b then set kept c true else kept) items)
 put_longer true kept items c = chosen_longer kept items c
 put_longer false kept items c = omega arith
 
-pub passed_longer : (marks : List Bool) (items : List Item) (to n : ℕ) (kept : List Bool)
-    → length (chosen kept items) ≤ length (chosen (passed marks to n kept) items)
+pub passed_longer : (marks : List Bool) (items : List Item) (to n : ℕ) (kept : List Bool) → length (chosen kept items) ≤ length (chosen (passed marks to n kept) items)
 passed_longer marks items to zero kept = omega arith
 passed_longer marks items to (suc n) kept =
     let x = put_longer (slice_index_or marks (to + n) false) kept items (to + n) in
@@ -108,16 +106,13 @@ passed_longer marks items to (suc n) kept =
     omega (arith, x, y)
 
 -- one place less to pass over
-pub passed_put : (marks kept : List Bool) (to c : ℕ) → to < c → slice_index_or marks (c - 1) false ≡ true
-    → passed marks to (c - to) kept ≡ passed marks to (c - 1 - to) (set kept (c - 1) true)
+pub passed_put : (marks kept : List Bool) (to c : ℕ) → to < c → slice_index_or marks (c - 1) false ≡ true → passed marks to (c - to) kept ≡ passed marks to (c - 1 - to) (set kept (c - 1) true)
 passed_put marks kept to c h m =
     subst (λ n. passed marks to n kept ≡ passed marks to (c - 1 - to) (set kept (c - 1) true)) (let e : suc (c - 1 - to) ≡ c - to = omega (arith, h) in e)
-    (ap (λ xs. passed marks to (c - 1 - to) xs)
-    (subst (λ k. put_mark marks k kept ≡ set kept (c - 1) true) (let e : c - 1 ≡ to + (c - 1 - to) = omega (arith, h) in e)
+    (ap (λ xs. passed marks to (c - 1 - to) xs) (subst (λ k. put_mark marks k kept ≡ set kept (c - 1) true) (let e : c - 1 ≡ to + (c - 1 - to) = omega (arith, h) in e)
     (subst (λ b. (if b then set kept (c - 1) true else kept) ≡ set kept (c - 1) true) (sym m) refl)))
 
-pub passed_skip : (marks kept : List Bool) (to c : ℕ) → to < c → slice_index_or marks (c - 1) false ≡ false
-    → passed marks to (c - to) kept ≡ passed marks to (c - 1 - to) kept
+pub passed_skip : (marks kept : List Bool) (to c : ℕ) → to < c → slice_index_or marks (c - 1) false ≡ false → passed marks to (c - to) kept ≡ passed marks to (c - 1 - to) kept
 passed_skip marks kept to c h m =
     subst (λ n. passed marks to n kept ≡ passed marks to (c - 1 - to) kept) (let e : suc (c - 1 - to) ≡ c - to = omega (arith, h) in e)
     (ap (λ xs. passed marks to (c - 1 - to) xs) (subst (λ k. put_mark marks k kept ≡ kept) (let e : c - 1 ≡ to + (c - 1 - to) = omega (arith, h) in e)
@@ -145,10 +140,10 @@ module _ (nodes : List Node) (tr : Trace) (items : List Item) where
       (from_remaining (IsOver i t) n kept items x.0 x.1.item x.1.at x.1.is (stays_one n kept x.0 (f x.0 (stays_cases left marks x.0 x.2))))
 
   -- without a cell that is needed the formula is not certainly false
-  needed_fails : (marks : List Bool) (c n : ℕ) (kept : List Bool) → IsNeeded nodes tr items marks c
-      → ((j : ℕ) → (j < n) ⊎ IsMarked kept j → (j < c) ⊎ ((c < j) × IsMarked marks j))
+  pub needed_fails : (left : ℕ) (marks : List Bool) (c n : ℕ) (kept : List Bool) → IsNeeded nodes tr items left marks c
+      → ((j : ℕ) → (j < n) ⊎ IsMarked kept j → (¬ (j ≡ c)) × ((j < left) ⊎ IsMarked marks j))
       → ¬ Fails (remaining n kept items)
-  needed_fails marks c n kept need f = need (remaining n kept items)
+  needed_fails left marks c n kept need f = need (remaining n kept items)
       (λ i t h. let x = to_remaining (IsOver i t) n kept items (of_covered (remaining n kept items) i t h) in record {
         place = x.0;
         item = x.1.item;
@@ -157,6 +152,12 @@ module _ (nodes : List Node) (tr : Trace) (items : List Item) where
         node = x.1.is.0;
         inside = x.1.is.1;
       })
+
+  -- what is needed of many cells is needed of fewer
+  pub needed_of_fewer : (left : ℕ) (marks : List Bool) (n : ℕ) (kept : List Bool) (c : ℕ) → ((j : ℕ) → (j < n) ⊎ IsMarked kept j → (j < left) ⊎ IsMarked marks j)
+      → IsNeeded nodes tr items left marks c → IsNeeded nodes tr items n kept c
+  needed_of_fewer left marks n kept c f need some within = need some
+      (λ i t h. let x = within i t h in record { place = x.place; item = x.item; at = x.at; is = (x.is.0, f x.place x.is.1); node = x.node; inside = x.inside })
 
   -- cells from place c on are judged, and of those the marked ones are kept
   pub record AreKept (c : ℕ) (marks kept : List Bool) : Type 0 where
@@ -168,25 +169,22 @@ module _ (nodes : List Node) (tr : Trace) (items : List Item) where
 
   -- a cell that is marked before its turn is needed
   abbrev pub AreSure : ℕ → List Bool → Type 0
-  AreSure left marks = (c : ℕ) → c < left → IsMarked marks c → IsNeeded nodes tr items marks c
+  AreSure left marks = (c : ℕ) → c < left → IsMarked marks c → IsNeeded nodes tr items left marks c
 
   module _ (left to : ℕ) (marks : List Bool) (within : left ≤ length items) (sure : AreSure left marks) (enough : Fails (remaining to marks items)) where
     keep_one : (c : ℕ) (kept : List Bool) → c < left → IsMarked marks c → AreKept (suc c) marks kept → AreKept c marks (set kept c true)
     keep_one c kept l m is = record {
       count = length-set kept c true ∙ is.count;
       judged = judged_more nodes tr items (suc c) c kept no_cell is.count (omega (arith, l, within)) (omega arith) is.blank
-          (record { enough = is.judged.enough; least = λ k h. needed_fails marks c k kept (sure c l m) (apart k h) }) is.judged;
+          (record { enough = is.judged.enough; least = λ k h. needed_fails left marks c k kept (sure c l m) (apart k h) }) is.judged;
       blank = blank_set kept c is.blank;
       over = λ j h k. by_place j h k;
       under = λ j h. elim (marked_set kept c j h) [ inl e ↦ subst (IsMarked marks) (sym e) m | inr k ↦ is.under j k ];
     }
       where
-        apart : (k : ℕ) → k < suc c → (j : ℕ) → (j < k) ⊎ IsMarked kept j → (j < c) ⊎ ((c < j) × IsMarked marks j)
-        apart k h j (inl i) = inl (omega (arith, h, i))
-        apart k h j (inr i) = elim (lt_or_le j (suc c)) [
-          | inl b ↦ absurd (blank_not kept (suc c) j is.blank b i)
-          | inr b ↦ inr (omega (arith, b), is.under j i)
-        ]
+        apart : (k : ℕ) → k < suc c → (j : ℕ) → (j < k) ⊎ IsMarked kept j → (¬ (j ≡ c)) × ((j < left) ⊎ IsMarked marks j)
+        apart k h j (inl i) = (λ e. omega (arith, h, i, e), inl (omega (arith, h, i, l)))
+        apart k h j (inr i) = (λ e. blank_not kept (suc c) j is.blank (omega (arith, e)) i, inr (is.under j i))
 
         by_place : (j : ℕ) → c ≤ j → IsMarked marks j → IsMarked (set kept c true) j
         by_place j h k = elim (le_cases c j h) [
@@ -233,16 +231,12 @@ module _ (nodes : List Node) (tr : Trace) (items : List Item) where
         (put_one (to + n) kept (omega (arith, l)) (omega arith) (subst (λ c. AreKept c marks kept) (let e : to + suc n ≡ suc (to + n) = omega arith in e) is))
 
   -- the last of the least number that is enough is kept, and marked
-  pub last_kept : (left n : ℕ) (marks kept : List Bool) → suc n ≤ left → left ≤ length items → length marks ≡ length items
-      → IsLeastEnough nodes tr items marks (suc n)
+  pub last_kept : (left n : ℕ) (marks kept : List Bool) → suc n ≤ left → left ≤ length items → length marks ≡ length items → IsLeastEnough nodes tr items marks (suc n)
       → AreKept (suc n) marks kept → AreKept n (set marks n true) (set kept n true)
   last_kept left n marks kept l within count least is = record {
     count = length-set kept n true ∙ is.count;
     judged = judged_more nodes tr items (suc n) n kept no_cell is.count (omega (arith, l, within)) (omega arith) is.blank
-        (record {
-          enough = is.judged.enough;
-          least = λ k h m. least.least k h (must_not _ _ tr (stay_covered k kept k marks (fewer k)) (root nodes) (start tr) m);
-        }) is.judged;
+        (record { enough = is.judged.enough; least = λ k h m. least.least k h (must_not _ _ tr (stay_covered k kept k marks (fewer k)) (root nodes) (start tr) m) }) is.judged;
     blank = blank_set kept n is.blank;
     over = λ j h k. elim (marked_set marks n j k) [
       | inl e ↦ subst (IsMarked (set kept n true)) (sym e) (set_here kept n (let c = is.count in omega (arith, c, l, within)))
@@ -261,19 +255,34 @@ module _ (nodes : List Node) (tr : Trace) (items : List Item) where
       fewer k j (inl h) = inl h
       fewer k j (inr h) = inr (is.under j h)
 
-  -- marks that are put anew before the cells that are judged
-  module _ (n : ℕ) (kept new : List Bool) (more : MarksNeeded nodes tr items n kept new) where
-    pub kept_anew : (marks : List Bool) → AreKept n marks kept → AreKept n new kept
-    kept_anew marks is = record {
+  -- what was sure stays so
+  pub sure_below : (left n : ℕ) (marks : List Bool) → suc n ≤ left → AreSure left marks → AreSure n (set marks n true)
+  sure_below left n marks l sure c h m = needed_of_fewer left marks n (set marks n true) c more (sure c (omega (arith, h, l)) old)
+    where
+      old : IsMarked marks c
+      old = elim (marked_set marks n c m) [ inl e ↦ absurd (omega (arith, h, e)) | inr k ↦ k ]
+
+      more : (j : ℕ) → (j < n) ⊎ IsMarked (set marks n true) j → (j < left) ⊎ IsMarked marks j
+      more j (inl i) = inl (omega (arith, i, l))
+      more j (inr i) = elim (marked_set marks n j i) [ inl e ↦ inl (omega (arith, e, l)) | inr k ↦ inr k ]
+
+  -- marks of more cells that are needed
+  module _ (n : ℕ) (marks new : List Bool) (more : MarksMore marks new (λ c. (c < n) × IsNeeded nodes tr items n marks c)) where
+    within_old : (j : ℕ) → (j < n) ⊎ IsMarked new j → (j < n) ⊎ IsMarked marks j
+    within_old j (inl h) = inl h
+    within_old j (inr h) = elim (more.only j h) [ inl k ↦ inr k | inr k ↦ inl k.0 ]
+
+    pub sure_more : AreSure n marks → AreSure n new
+    sure_more sure c h m = needed_of_fewer n marks n new c within_old (elim (more.only c m) [ inl k ↦ sure c h k | inr k ↦ k.1 ])
+
+    pub kept_more : (kept : List Bool) → AreKept n marks kept → AreKept n new kept
+    kept_more kept is = record {
       count = is.count;
       judged = is.judged;
       blank = is.blank;
-      over = λ j h m. elim (more.only j m) [ inl k ↦ k | inr k ↦ absurd (let l = k.0 in omega (arith, h, l)) ];
-      under = more.stay;
+      over = λ j h m. elim (more.only j m) [ inl k ↦ is.over j h k | inr k ↦ absurd (let l = k.0 in omega (arith, h, l)) ];
+      under = λ j h. more.stay j (is.under j h);
     }
-
-    pub sure_anew : AreBlank n kept → AreSure n new
-    sure_anew blank c h m = elim (more.only c m) [ inl k ↦ absurd (blank_not kept n c blank h k) | inr k ↦ k.1 ]
 
   -- the cells that stay are enough together with those that are marked
   pub enough_marked : (left : ℕ) (marks kept : List Bool) → AreKept left marks kept → Fails (remaining left marks items)
@@ -290,8 +299,7 @@ module _ (nodes : List Node) (tr : Trace) (items : List Item) where
   none_marked (suc n) zero h = absurd (let x : false ≡ true = h in cc)
   none_marked (suc n) (suc j) h = none_marked n j h
 
-  pub kept_none : (n : ℕ) (marks kept : List Bool) → n ≡ length items → marks ≡ replicate n false → kept ≡ replicate n false
-      → Fails items → AreKept n marks kept
+  pub kept_none : (n : ℕ) (marks kept : List Bool) → n ≡ length items → marks ≡ replicate n false → kept ≡ replicate n false → Fails items → AreKept n marks kept
   kept_none n marks kept e f g m = subst (λ xs. AreKept n xs kept) (sym f) (subst (λ xs. AreKept n (replicate n false) xs) (sym g) (record {
     count = length-replicate n false ∙ e;
     judged = judged_none nodes tr items n e m;
@@ -307,18 +315,40 @@ module _ (nodes : List Node) (tr : Trace) (items : List Item) where
   pub judged_down : (left n : ℕ) (marks kept new : List Bool) → left ≤ length items → n ≤ left → AreSure left marks → IsLeastEnough nodes tr items marks n
       → new ≡ passed marks n (left - n) kept → AreKept left marks kept → AreKept n marks new
   judged_down left n marks kept new within l sure least e is = subst (AreKept n marks) (sym e)
-      (passed_over left n marks within sure least.enough (left - n) kept (omega (arith, l))
-      (subst (λ c. AreKept c marks kept) (let f : left ≡ n + (left - n) = omega (arith, l) in f) is))
+      (passed_over left n marks within sure least.enough (left - n) kept (omega (arith, l)) (subst (λ c. AreKept c marks kept) (let f : left ≡ n + (left - n) = omega (arith, l) in f) is))
 
-  -- the cells that stay after a round are among those that were enough in it
-  pub fewer_stay : (n : ℕ) (marks kept : List Bool) → AreKept (suc n) marks kept
-      → CoverMore (remaining n (set kept n true) items) (remaining (suc n) marks items)
-  fewer_stay n marks kept is = stay_covered n (set kept n true) (suc n) marks fewer
-    where
-      fewer : (j : ℕ) → (j < n) ⊎ IsMarked (set kept n true) j → (j < suc n) ⊎ IsMarked marks j
-      fewer j (inl h) = inl (omega (arith, h))
-      fewer j (inr h) = elim (marked_set kept n j h) [ inl e ↦ inl (omega (arith, e)) | inr k ↦ inr (is.under j k) ]
+  -- a round keeps the last of the least number that is enough, and marks more that are needed
+  module _ (left n : ℕ) (marks new kept : List Bool) (l : suc n ≤ left) (within : left ≤ length items) (count : length marks ≡ length items) (size : length new ≡ length items)
+      (sure : AreSure left marks) (more : MarksMore marks new (λ c. (c < suc n) × IsNeeded nodes tr items (suc n) marks c)) where
+    fewer_first : (j : ℕ) → (j < n) ⊎ IsMarked (set marks n true) j → (j < suc n) ⊎ IsMarked marks j
+    fewer_first j (inl i) = inl (omega (arith, i))
+    fewer_first j (inr i) = elim (marked_set marks n j i) [ inl e ↦ inl (omega (arith, e)) | inr k ↦ inr k ]
+
+    both_set : MarksMore (set marks n true) (set new n true) (λ c. (c < n) × IsNeeded nodes tr items n (set marks n true) c)
+    both_set = record {
+      stay = λ j h. elim (marked_set marks n j h) [
+        | inl e ↦ subst (IsMarked (set new n true)) (sym e) (set_here new n (omega (arith, size, l, within)))
+        | inr k ↦ set_marked new n j (more.stay j k)
+      ];
+      only = λ j h. elim (marked_set new n j h) [
+        | inl e ↦ inl (subst (IsMarked (set marks n true)) (sym e) (set_here marks n (omega (arith, count, l, within))))
+        | inr k ↦ elim (more.only j k) [
+          | inl m ↦ inl (set_marked marks n j m)
+          | inr m ↦ elim (lt_or_le j n) [
+            | inl i ↦ inr (i, needed_of_fewer (suc n) marks n (set marks n true) j fewer_first m.1)
+            | inr i ↦ inl (let e : n ≡ j = (let f = m.0 in omega (arith, i, f)) in
+                subst (IsMarked (set marks n true)) e (set_here marks n (omega (arith, count, l, within))))
+          ]
+        ]
+      ];
+    }
+
+    pub round_kept : IsLeastEnough nodes tr items marks (suc n) → AreKept (suc n) marks kept → AreKept n (set new n true) (set kept n true)
+    round_kept least is = kept_more n (set marks n true) (set new n true) both_set (set kept n true) (last_kept left n marks kept l within count least is)
+
+    pub round_sure : AreSure n (set new n true)
+    round_sure = sure_more n (set marks n true) (set new n true) both_set (sure_below left n marks l sure)
 
   -- and what is sure of more cells is sure of fewer
   pub sure_shrinks : (left n : ℕ) (marks : List Bool) → n ≤ left → AreSure left marks → AreSure n marks
-  sure_shrinks left n marks l sure c h m = sure c (omega (arith, h, l)) m
+  sure_shrinks left n marks l sure c h m = needed_of_fewer left marks n marks c (λ j k. elim k [ inl i ↦ inl (omega (arith, i, l)) | inr i ↦ inr i ]) (sure c (omega (arith, h, l)) m)

@@ -1,6 +1,5 @@
 -- What must be certain of a node wherever the formula is certainly false at the start.
-use Rattle.std.specs.Prelude.{◌≡◌, ◌⊎◌, ℕ, zero, suc, ◌+◌, ◌<◌, Bool, true, false, if◌then◌else◌}
-use Rattle.std.specs.Prelude.{List, length, Some, slice_get, slice_index_or, slice_set, MatchBool}
+use Rattle.std.specs.Prelude.{◌≡◌, ◌⊎◌, ℕ, zero, suc, ◌+◌, ◌<◌, Bool, true, false, if◌then◌else◌, List, length, Some, slice_get, slice_index_or, slice_set, MatchBool}
 use Rattle.rational.specs.Time.{Rational, IsIn, Within, ◌≈◌}
 use Rattle.rational.specs.Windows.{Behind}
 use Rattle.rational.specs.Extended.{Extended, ◌<ᵉ◌}
@@ -82,8 +81,7 @@ module _ (shape : ShapeOf Kleene) where
   pub record AreCertainties (nodes : List Node) (tr : Trace) (items : List Item) (signals : List (List (Knot Kleene))) : Type 0 where
     pub count : length signals ≡ length nodes
     pub told : TellNodes shape nodes signals (certainty_setting tr items)
-    pub values : (k : ℕ) → k < length nodes
-        → HasValues (subformula nodes k) (certainty_setting tr items) × HasInfs (subformula nodes k) (certainty_setting tr items)
+    pub values : (k : ℕ) → k < length nodes → HasValues (subformula nodes k) (certainty_setting tr items) × HasInfs (subformula nodes k) (certainty_setting tr items)
 
   -- what is demanded of a node hands down what is demanded of its operand at place i
   pub record HandsDown (n : Node) (holds : Bool) (x : List (Knot Kleene)) (signals : List (List (Knot Kleene))) (i : ℕ) (d : Demand) : Type 0 where
@@ -120,21 +118,9 @@ pub record IsAmongPlaces (items : List Item) (At : ℕ → Type 0) (i : ℕ) (t 
   pub node : item.node ≡ i
   pub inside : IsIn (interval item.on) t
 
--- what is covered lies in cells before place c and in marked ones behind it: then the formula is not certainly false
-abbrev pub IsNeeded : List Node → Trace → List Item → List Bool → ℕ → Type 0
-IsNeeded nodes tr all marks c =
+-- whatever items cover no more than the cells that stay but for the one at place c, they do not make the formula certainly false
+abbrev pub IsNeeded : List Node → Trace → List Item → ℕ → List Bool → ℕ → Type 0
+IsNeeded nodes tr all left marks c =
     (some : List Item)
-    → ((i : ℕ) (t : Rational) → IsCovered some i t → IsAmongPlaces all (λ j. (j < c) ⊎ ((c < j) × (slice_index_or marks j false ≡ true))) i t)
+    → ((i : ℕ) (t : Rational) → IsCovered some i t → IsAmongPlaces all (λ j. (¬ (j ≡ c)) × ((j < left) ⊎ (slice_index_or marks j false ≡ true))) i t)
     → ¬ MustNot (root nodes) some tr (trace.start tr)
-
--- the new marks are the old ones, and others of cells before place `left` that are needed
-pub record MarksNeeded (nodes : List Node) (tr : Trace) (all : List Item) (left : ℕ) (old new : List Bool) : Type 0 where
-  pub stay : (c : ℕ) → slice_index_or old c false ≡ true → slice_index_or new c false ≡ true
-  pub only : (c : ℕ) → slice_index_or new c false ≡ true → (slice_index_or old c false ≡ true) ⊎ ((c < left) × IsNeeded nodes tr all new c)
-
-module _ (shape : ShapeOf Kleene) where
-  -- the signals tell what certain items leave certain, which cover no less than these
-  pub record AreToldOfMore (nodes : List Node) (tr : Trace) (items : List Item) (signals : List (List (Knot Kleene))) : Type 0 where
-    pub more : List Item
-    pub covered : CoverMore items more
-    pub told : AreCertainties shape nodes tr more signals

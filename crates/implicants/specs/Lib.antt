@@ -4,6 +4,5 @@ pub mod Certainty
 pub mod Signals
 pub mod Cuts
 pub mod Demands
-pub mod Choices
 pub mod Explaining
 pub mod Counting

@@ -40,7 +40,7 @@ fn is_child(node: &Node, i: u32) -> bool
 }
 
 /// Whether `t` lies from `from` to `to`.
-pub(crate) fn is_within(t: &Frac, from: &Frac, to: &Frac) -> bool
+fn is_within(t: &Frac, from: &Frac, to: &Frac) -> bool
     ensures { IsTrue result ↔ Within (value from.now) (value to.now) (value t.now) }
 {
     from.cmp(t).is_le() && t.cmp(to).is_le()

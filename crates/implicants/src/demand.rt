@@ -2,7 +2,6 @@
 ghost use Rattle.std.specs.Prelude.{◌≡◌, ◌⊎◌, ◌<◌, ◌≤◌, ℕ, List, Some, length, slice_get, pos, IfOk, IfSome};
 ghost use Rattle.rational.specs.Time.{Rational, whole, ◌≈◌};
 ghost use Rattle.pl_signal.specs.Knots.{start, stop};
-ghost use Rattle.stl_syntax.specs.Trace.{start as start_of, stop as stop_of};
 ghost use Rattle.stl_syntax.specs.Formula.{HasChildrenBelow};
 ghost use Rattle.stl_syntax.specs.WellFormed.{HasBounds};
 ghost use Rattle.stl_syntax.specs.Cells.{IsChild};
@@ -47,11 +46,7 @@ fn at_start(alloc: Global, from: u32, to: u32) -> Result<Signal<Kleene>, Memory>
 }
 
 /// The demand of a signal that is on where both are. None is never the answer, since three-valued truth is not refused.
-pub(crate) fn where_both(
-    holds: bool,
-    x: &Signal<Kleene>,
-    y: &Signal<Kleene>,
-) -> Result<Option<Demand>, Memory>
+fn where_both(holds: bool, x: &Signal<Kleene>, y: &Signal<Kleene>) -> Result<Option<Demand>, Memory>
     requires left { IsFit ⟦<Kleene as Shape>⟧ x.now }
     requires right { IsFit ⟦<Kleene as Shape>⟧ y.now }
     requires along { IsAlong ⟦<Kleene as Shape>⟧ x.now y.now }
@@ -67,11 +62,10 @@ pub(crate) fn where_both(
 }
 
 /// On where the signal is less than certainly true.
-pub(crate) fn turned(x: &Signal<Kleene>) -> Result<Signal<Kleene>, Memory>
+fn turned(x: &Signal<Kleene>) -> Result<Signal<Kleene>, Memory>
     requires fit { IsFit ⟦<Kleene as Shape>⟧ x.now }
     ensures fit { IfOk result (StaysFit ⟦<Kleene as Shape>⟧ x.now) }
     ensures off { IfOk result (λ r. (t : Rational) → IsOn ⟦<Kleene as Shape>⟧ r t → IsOff ⟦<Kleene as Shape>⟧ x.now t) }
-    ensures on { IfOk result (λ r. (t : Rational) → IsOff ⟦<Kleene as Shape>⟧ r t → IsOn ⟦<Kleene as Shape>⟧ x.now t) }
 {
     neg(x)
 }
@@ -116,7 +110,7 @@ fn met(
 }
 
 /// The operand that is not the one at place `i`.
-pub(crate) fn other_than(p: u32, q: u32, i: u32) -> u32
+fn other_than(p: u32, q: u32, i: u32) -> u32
     ensures { ((p ≡ i) × (result ≡ q)) ⊎ ((¬ (p ≡ i)) × (result ≡ p)) }
 {
     if p == i { q } else { p }
@@ -190,7 +184,7 @@ fn for_operand(
 }
 
 /// Towards which operand of a node the node at place `i` lies, where operands stand before it and the left one first.
-pub(crate) fn operand_to(node: &Node, i: u32) -> Option<u32>
+fn operand_to(node: &Node, i: u32) -> Option<u32>
     ensures { IfSome result (IsChild node.now) }
 {
     match node {
@@ -225,12 +219,9 @@ pub(crate) fn demand_on(
 ) -> Result<Option<Demand>, Memory>
     requires some { 0 < length trace.now.rows }
     requires told { (items : List Item) × AreCertainties ⟦<Kleene as Shape>⟧ formula.now.nodes trace.now items nodes.now }
-    ensures demand { IfOk result (λ o. IfSome o (λ d. (items : List Item)
+    ensures { IfOk result (λ o. IfSome o (λ d. (items : List Item)
         → AreCertainties ⟦<Kleene as Shape>⟧ formula.now.nodes trace.now items nodes.now
         → IsDemand ⟦<Kleene as Shape>⟧ formula.now.nodes trace.now items d.holds i d.at)) }
-    ensures fit { IfOk result (λ o. IfSome o (λ d. IsFit ⟦<Kleene as Shape>⟧ d.at)) }
-    ensures begins { IfOk result (λ o. IfSome o (λ d. start d.at ≈ start_of trace.now)) }
-    ensures ends { IfOk result (λ o. IfSome o (λ d. stop d.at ≈ stop_of trace.now)) }
 {
     let _ = trace.rows();
     let mut holds = false;

@@ -1,18 +1,14 @@
 //! Cells without which a formula is not certainly false, found all at once from what is demanded of their atom.
-ghost use Rattle.std.specs.Prelude.{◌≡◌, ◌⊎◌, ◌<◌, ◌≤◌, ℕ, true, false, length, slice_get, slice_index_or, Some, IsTrue, IfOk, IfSome, OnOk};
+ghost use Rattle.std.specs.Prelude.{◌≡◌, ◌⊎◌, ◌<◌, ◌≤◌, ℕ, true, false, length, slice_get, slice_index_or, Some, IsTrue, IfSome, OnOk};
 ghost use Rattle.rational.specs.Time.{Rational, IsIn, ◌<ʳ◌};
 ghost use Rattle.frac128.specs.Value.{value};
 ghost use Rattle.frac128.specs.Spans.{interval};
 ghost use Rattle.stl_syntax.specs.declared.items.Item.{Item as Cell};
 ghost use Rattle.implicants.specs.Runs.{AreAllCells};
-ghost use Rattle.implicants.specs.Keeping.{remaining, AreBlank};
-ghost use Rattle.stl_syntax.specs.declared.atom.Atom.{Atom};
-ghost use Rattle.stl_syntax.specs.declared.node.Node.TheVariants.{Atom as Leaf};
-ghost use Rattle.implicants.specs.Demands.{AreToldOfMore, IsOn, MarksMore, MarksNeeded, Touches};
+ghost use Rattle.implicants.specs.Keeping.{remaining};
+ghost use Rattle.implicants.specs.Demands.{AreCertainties, IsNeeded, IsOn, MarksMore, Touches};
 
 use crate::cells::Cells;
-use crate::choice::choice_on;
-use crate::choosing::mark_chosen;
 use crate::demand::demand_on;
 use frac128::{Frac, Memory, Span};
 use offline_eval::Evaluated;
@@ -76,13 +72,13 @@ fn touches(at: &Signal<Kleene>, place: usize, on: &Span) -> bool
 
 /// From which place a look at the next span may begin, and whether the signal is on in this one.
 #[derive(Clone, Copy)]
-pub(crate) struct Seen {
-    pub(crate) place: usize,
-    pub(crate) on: bool,
+struct Seen {
+    place: usize,
+    on: bool,
 }
 
 /// Whether the signal is on at some time of the span, from the knot at a place on, up to the last that is not later than the span.
-pub(crate) fn look(at: &Signal<Kleene>, from: usize, on: &Span) -> Seen
+fn look(at: &Signal<Kleene>, from: usize, on: &Span) -> Seen
     requires inside { from < length at.now }
     ensures inside { result.place < length at.now }
     ensures on { IsTrue result.on → Touches ⟦<Kleene as Shape>⟧ at.now on.now }
@@ -143,31 +139,15 @@ fn mark_touched(cells: &Cells, i: u32, left: usize, at: &Signal<Kleene>, marks: 
     }
 }
 
-/// The node of the last of the first `left` cells, where it is an atom.
-fn atom_of_last(formula: &Formula, cells: &Cells, left: usize) -> Option<u32>
-    requires left { left ≤ length cells.now.all.items }
-    ensures { IfSome result (λ i. (a : Atom) × (slice_get formula.now.nodes i ≡ Some (Leaf a))) }
-{
-    if left == 0 {
-        return None;
-    }
-    let i = cells.all[left - 1].node;
-    if i >= formula.len() {
-        return None;
-    }
-    match formula.node(i) {
-        Node::Atom(_) => Some(i),
-        _ => None,
-    }
-}
-
 /// Marks cells before place `left` that are needed, of the atom of the last of them.
-fn mark_needed(
+///
+/// `nodes` are the signals of what the first `left` cells and those that are marked leave certain, where they are at hand.
+pub(crate) fn mark_needed(
     alloc: Global,
     formula: &Formula,
     trace: &Trace,
     cells: &Cells,
-    nodes: &Evaluated<Kleene>,
+    nodes: &Option<Evaluated<Kleene>>,
     left: usize,
     marks: &mut Vec<bool>,
 ) -> Result<(), Memory>
@@ -175,62 +155,27 @@ fn mark_needed(
     requires cells { AreAllCells formula.now.nodes trace.now cells.now.all.items cells.now.ends.items }
     requires left { left ≤ length cells.now.all.items }
     requires marks { length marks.old.items ≡ length cells.now.all.items }
-    requires blank { AreBlank left marks.old.items }
-    requires told { AreToldOfMore ⟦<Kleene as Shape>⟧ formula.now.nodes trace.now (remaining left marks.old.items cells.now.all.items) nodes.now }
+    requires told { IfSome nodes.now (AreCertainties ⟦<Kleene as Shape>⟧ formula.now.nodes trace.now
+        (remaining left marks.old.items cells.now.all.items)) }
     ensures count { OnOk result (length marks.new.items ≡ length marks.old.items) }
-    ensures needed { OnOk result
-        (MarksNeeded formula.now.nodes trace.now cells.now.all.items left marks.old.items marks.new.items) }
+    ensures more { OnOk result (MarksMore marks.old.items marks.new.items
+        (λ c. (c < left) × IsNeeded formula.now.nodes trace.now cells.now.all.items left marks.old.items c)) }
 {
-    let Some(i) = atom_of_last(formula, cells, left) else {
+    let Some(nodes) = nodes else {
+        return Ok(());
+    };
+    if left == 0 {
+        return Ok(());
+    }
+    let i = cells.all[left - 1].node;
+    if i >= formula.len() {
+        return Ok(());
+    }
+    let Node::Atom(_) = formula.node(i) else {
         return Ok(());
     };
     if let Some(demand) = demand_on(alloc, formula, trace, nodes, i)? {
         mark_touched(cells, i, left, &demand.at, marks);
-        return Ok(());
-    }
-    if let Some(choice) = choice_on(alloc, formula, trace, nodes, i)? {
-        mark_chosen(cells, i, left, &choice, marks);
-        return Ok(());
     }
     Ok(())
-}
-
-/// The same marks.
-fn same_marks(alloc: Global, kept: &[bool]) -> Result<Vec<bool>, Memory>
-    ensures { IfOk result (λ marks. marks.items ≡ kept.now) }
-{
-    match kept.to_vec(alloc) {
-        Ok(marks) => Ok(marks),
-        Err(_) => Err(Memory),
-    }
-}
-
-/// The cells that are kept, and before place `left` cells that are needed.
-///
-/// `nodes` are the signals of what is certain by cells that cover no less than those that stay, where they are at hand.
-pub(crate) fn marked_anew(
-    alloc: Global,
-    formula: &Formula,
-    trace: &Trace,
-    cells: &Cells,
-    nodes: &Option<Evaluated<Kleene>>,
-    left: usize,
-    kept: &[bool],
-) -> Result<Vec<bool>, Memory>
-    requires some { 0 < length trace.now.rows }
-    requires cells { AreAllCells formula.now.nodes trace.now cells.now.all.items cells.now.ends.items }
-    requires left { left ≤ length cells.now.all.items }
-    requires kept { length kept.now ≡ length cells.now.all.items }
-    requires blank { AreBlank left kept.now }
-    requires told { IfSome nodes.now (AreToldOfMore ⟦<Kleene as Shape>⟧ formula.now.nodes trace.now
-        (remaining left kept.now cells.now.all.items)) }
-    ensures count { IfOk result (λ marks. length marks.items ≡ length kept.now) }
-    ensures needed { IfOk result (λ marks. MarksNeeded formula.now.nodes trace.now cells.now.all.items left kept.now marks.items) }
-{
-    let mut marks = same_marks(alloc, kept)?;
-    let Some(nodes) = nodes else {
-        return Ok(marks);
-    };
-    mark_needed(alloc, formula, trace, cells, nodes, left, &mut marks)?;
-    Ok(marks)
 }

@@ -16,11 +16,11 @@ use Rattle.stl_syntax.specs.SupInf.{Setting}
 use Rattle.stl_syntax.specs.declared.node.Node.{Node}
 use Rattle.stl_syntax.specs.declared.node.Node.TheVariants.{Const, Atom as Leaf, Not, And, Or, Implies, Until, Eventually, Always, Since, Once, Historically}
 use Rattle.stl_syntax.proofs.PostOrderLemmas.{children_free, next_unused, post_order_take}
-use Rattle.offline_eval.specs.Inputs.{IsOver}
-use Rattle.offline_eval.specs.Keeping.{kept, IsSpare, AreGivenUp, IsRootIn, IsStack, TellsStack}
+use Rattle.offline_eval.specs.Inputs.{IsOver, TellAtoms}
+use Rattle.offline_eval.specs.Keeping.{kept, IsSpare, AreGivenUp, IsRootOf}
 use Rattle.offline_eval.specs.Making.{IsSound, AreSound, TellAt, TellsValue}
-use Rattle.offline_eval.specs.Places.{AgreeAt, reach_before}
-use Rattle.offline_eval.proofs.Evaluating.{pushed_at, pushed_count, told_pushed, all_told, all_pushed}
+use Rattle.offline_eval.specs.Places.{AgreeAt}
+use Rattle.offline_eval.proofs.Evaluating.{pushed_at, pushed_count, told_pushed, all_told}
 use Rattle.offline_eval.proofs.Sound.{sound_more}
 
 -- a place in a list in which one item was replaced
@@ -192,28 +192,28 @@ module _ {P : Type 0} (shape : ShapeOf P) (from to : ℕ) where
       by_place true spare = sound_more shape from to 0 reach x (omega arith) spare.sound
       by_place false h = sound k x h
 
-module _ {P : Type 0} (shape : ShapeOf P) (nodes : List Node) (s : Setting) where
-  pub stack_none : (done : List (List (Knot P))) → done ≡ [] → TellsStack shape nodes s 0 done
-  stack_none done e = record {
-    told = λ k x at. absurd (none k x (subst (λ l. slice_get l k ≡ Some x) e at));
-    signals = [];
-    count = refl;
-    all = λ k x at. absurd (none k x at);
-    last = λ k x e at. absurd (omega (arith, e));
-  }
+module _ {P : Type 0} (shape : ShapeOf P) (from to : ℕ) (nodes : List Node) (atoms : List (List (Knot P))) where
+  -- there were signals of all nodes so far that tell them, and the last of them is still there
+  pub record HasAll (i : ℕ) (done : List (List (Knot P))) : Type 0 where
+    pub signals : List (List (Knot P))
+    pub count : length signals ≡ i
+    pub told : (s : Setting) → IsOver shape.lowest shape.highest from to s → TellAtoms shape nodes atoms s → TellAt shape s (subformula nodes) signals
+    pub last : (k : ℕ) (x : List (Knot P)) → k + 1 ≡ i → slice_get done k ≡ Some x → slice_get signals k ≡ Some x
+
+  pub all_none : (done : List (List (Knot P))) → HasAll 0 done
+  all_none done = record { signals = []; count = refl; told = λ s over told k x at. absurd (none k x at); last = λ k x e at. absurd (omega (arith, e)) }
     where
       none : {X : Type 0} (k : ℕ) (x : X) → slice_get [] k ≡ Some x → ⊥
       none k x e = cc
 
-  -- with the signal of the next node, and its children given up
-  pub stack_next : (from to i : ℕ) (n : Node) (old new : List (List (Knot P))) (y : List (Knot P)) → IsPostOrder nodes → slice_get nodes i ≡ Some n
-      → length old ≡ i → IsOver shape.lowest shape.highest from to s → AreGivenUp shape from to (children n) (old ++ y ∷ []) new
-      → TellsValue shape s (subformula nodes i) y → TellsStack shape nodes s i old → TellsStack shape nodes s (i + 1) new
-  stack_next from to i n old new y order there count over given own st = record {
-    told = kept_told shape from to nodes s i n old new y order there count over given st.told own;
-    signals = st.signals ++ y ∷ [];
-    count = pushed_count st.signals (st.signals ++ y ∷ []) y i st.count refl;
-    all = told_pushed shape nodes s i st.signals (st.signals ++ y ∷ []) y st.count refl st.all own;
+  pub all_next : (i : ℕ) (n : Node) (old new : List (List (Knot P))) (y : List (Knot P)) → IsPostOrder nodes → slice_get nodes i ≡ Some n → length old ≡ i
+      → AreGivenUp shape from to (children n) (old ++ y ∷ []) new
+      → ((s : Setting) → IsOver shape.lowest shape.highest from to s → TellAtoms shape nodes atoms s → TellsValue shape s (subformula nodes i) y)
+      → HasAll i old → HasAll (i + 1) new
+  all_next i n old new y order there count given own all = record {
+    signals = all.signals ++ y ∷ [];
+    count = pushed_count all.signals (all.signals ++ y ∷ []) y i all.count refl;
+    told = λ s over told. told_pushed shape nodes s i all.signals (all.signals ++ y ∷ []) y all.count refl (all.told s over told) (own s over told);
     last = λ k x e at. here k x (omega (arith, e)) (given.at k x at);
   }
     where
@@ -221,28 +221,28 @@ module _ {P : Type 0} (shape : ShapeOf P) (nodes : List Node) (s : Setting) wher
       at_end [] x = refl
       at_end (z ∷ xs) x = at_end xs x
 
-      by_place : (k : ℕ) (x : List (Knot P)) → k ≡ i → (slice_get old k ≡ Some x) ⊎ ((k ≡ length old) × (x ≡ y))
-          → slice_get (st.signals ++ y ∷ []) k ≡ Some x
+      by_place : (k : ℕ) (x : List (Knot P)) → k ≡ i → (slice_get old k ≡ Some x) ⊎ ((k ≡ length old) × (x ≡ y)) → slice_get (all.signals ++ y ∷ []) k ≡ Some x
       by_place k x e (inl h) = absurd (let l = slice_get_within old k x h in omega (arith, e, l, count))
       by_place k x e (inr h) =
-          let long : length st.signals ≡ k = st.count ∙ sym e in
-          subst (λ j. slice_get (st.signals ++ y ∷ []) j ≡ Some x) long
-          (subst (λ z. slice_get (st.signals ++ y ∷ []) (length st.signals) ≡ Some z) (sym h.1) (at_end st.signals y))
+          let long : length all.signals ≡ k = all.count ∙ sym e in
+          subst (λ j. slice_get (all.signals ++ y ∷ []) j ≡ Some x) long
+          (subst (λ z. slice_get (all.signals ++ y ∷ []) (length all.signals) ≡ Some z) (sym h.1) (at_end all.signals y))
 
       here : (k : ℕ) (x : List (Knot P)) → k ≡ i → MatchBool (has_child k n) (IsSpare shape from to x) (slice_get (old ++ y ∷ []) k ≡ Some x)
-          → slice_get (st.signals ++ y ∷ []) k ≡ Some x
+          → slice_get (all.signals ++ y ∷ []) k ≡ Some x
       here k x e m =
           let free : has_child k n ≡ false = subst (λ j. has_child j n ≡ false) (sym e) (no_own_child nodes i n there order) in
           by_place k x e (pushed_at old y k x (subst (λ b. MatchBool b (IsSpare shape from to x) (slice_get (old ++ y ∷ []) k ≡ Some x)) free m))
 
   -- what is left in the end is the last of them
-  pub stack_root : (done rest : List (List (Knot P))) (x : List (Knot P)) → 0 < length nodes → length done ≡ length nodes
-      → done ≡ rest ++ x ∷ [] → TellsStack shape nodes s (length nodes) done → IsRootIn shape nodes s x
-  stack_root done rest x some count e st = (
-    st.signals,
-    st.count,
-    st.last (length nodes - 1) x (omega (arith, some)) at,
-    all_told shape nodes s st.signals st.count st.all,
+  pub all_root : (i : ℕ) (done rest : List (List (Knot P))) (x : List (Knot P)) → 0 < length nodes → i ≡ length nodes → length done ≡ i
+      → done ≡ rest ++ x ∷ [] → HasAll i done
+      → IsRootOf shape from to nodes atoms x
+  all_root i done rest x some whole count e all = (
+    all.signals,
+    all.count ∙ whole,
+    all.last (length nodes - 1) x (omega (arith, some, whole)) at,
+    λ s over told. all_told shape nodes s all.signals (all.count ∙ whole) (all.told s over told),
   )
     where
       at_end : {X : Type 0} (xs : List X) (x : X) → slice_get (xs ++ x ∷ []) (length xs) ≡ Some x
@@ -254,24 +254,7 @@ module _ {P : Type 0} (shape : ShapeOf P) (nodes : List Node) (s : Setting) wher
       length_pushed (z ∷ xs) x = ap suc (length_pushed xs x)
 
       long : length nodes - 1 ≡ length rest
-      long = omega (arith, count, ap length e ∙ length_pushed rest x)
+      long = omega (arith, count, whole, ap length e ∙ length_pushed rest x)
 
       at : slice_get done (length nodes - 1) ≡ Some x
       at = ap (λ l. slice_get l (length nodes - 1)) e ∙ ap (slice_get (rest ++ x ∷ [])) long ∙ at_end rest x
-
-module _ {P : Type 0} (shape : ShapeOf P) (from to : ℕ) (nodes : List Node) where
-  pub stack_empty : (done : List (List (Knot P))) → done ≡ [] → IsStack shape from to nodes 0 done
-  stack_empty done e = record { count = ap length e; sound = λ k x at. absurd (none k x (subst (λ l. slice_get l k ≡ Some x) e at)) }
-    where
-      none : {X : Type 0} (k : ℕ) (x : X) → slice_get [] k ≡ Some x → ⊥
-      none k x e = cc
-
-  -- the stack stays sound with the signal of one more node
-  pub stack_on : (i : ℕ) (places : List ℕ) (old new : List (List (Knot P))) (y : List (Knot P)) → i < length nodes
-      → AreGivenUp shape from to places (old ++ y ∷ []) new → IsSound shape from to (reach_before nodes (i + 1)) y
-      → IsStack shape from to nodes i old → IsStack shape from to nodes (i + 1) new
-  stack_on i places old new y inside given own st = record {
-    count = given.count ∙ pushed_count old (old ++ y ∷ []) y i st.count refl;
-    sound = kept_sound shape from to places (reach_before nodes (i + 1)) (old ++ y ∷ []) new given
-        (all_pushed shape from to nodes i old (old ++ y ∷ []) y inside refl st.sound own);
-  }

@@ -13,7 +13,6 @@ use Rattle.pl_signal.specs.declared.knot.Knot.{Knot}
 use Rattle.pl_signal.specs.Knots.{start, stop, HasShape}
 use Rattle.pl_signal.specs.Limits.{IsLimited}
 use Rattle.pl_signal.specs.Moves.{Tells}
-use Rattle.until_ops.specs.Untils.{BasesOfTwo}
 use Rattle.offline_eval.specs.Making.{IsSound, StaysSound, StaySound}
 use Rattle.pl_signal.proofs.Limits.{limited, limited_last}
 
@@ -91,10 +90,6 @@ module _ {P : Type 0} (shape : ShapeOf P) (laws : ShapeLaws shape) where
   abbrev pub MovedFromTwo : ℕ → List (Knot P) → List (Knot P) → List (Knot P) → Type 0
   MovedFromTwo own x y r = (p : P) → HasShape r p → IsTrue (shape.moves p) → (q : P) × (HasShape x q ⊎ HasShape y q)
       × IsMovedBy own (shape.base q) (shape.base p)
-
-  -- which shapes do that stay where they are
-  pub of_two : (x y r : List (Knot P)) → BasesOfTwo shape x y r → MovedFromTwo 0 x y r
-  of_two x y r bases p h m = let o = bases p h m in (o.0, o.1, not_moved (shape.base o.0) (shape.base p) o.3)
 
   -- and of two
   pub stay_sound : (own : ℕ) (x y r : List (Knot P)) → start r ≈ start x → stop r ≈ stop x → IsLimited shape r → MovedFromTwo own x y r

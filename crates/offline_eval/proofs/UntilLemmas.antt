@@ -1,8 +1,8 @@
 -- Until and since over a window, composed of windows and of until to the end and since from the start.
 use Rattle.std.proofs.Common.{◌≡◌, ◌⊎◌, inl, inr, ℕ, ℤ, pos, neg_ℤ, ◌≤◌, ◌^◌, ◌≤ℤ◌, Bool, true, false, List, refl, sym, subst, arith}
-use Rattle.std.specs.Prelude.{Option, Some, None, IfSome, IsTrue}
+use Rattle.std.specs.Prelude.{Option, Some, IfSome, IsTrue}
 use Rattle.std.proofs.lemmas.Int.{ints}
-use Rattle.rational.specs.Time.{Rational, Within, later, ◌≈◌, ◌≤ʳ◌}
+use Rattle.rational.specs.Time.{Rational, Within, ◌≈◌}
 use Rattle.rational.specs.Extended.{Extended, ◌≈ᵉ◌, IsSup}
 use Rattle.rational.specs.Affine.{IsBounded}
 use Rattle.rational.specs.Windows.{Function, Window, Ahead, Behind, IsSupOver, IsInfOver, IsUntil, IsSince, UntilToEnd, SinceFromStart, IsUpTo, IsDownTo}
@@ -10,7 +10,7 @@ use Rattle.rational.specs.InPlay.{until_end, since_start, window_ahead, window_b
 use Rattle.rational.proofs.Order.{le_trans, le_of_same, ge_of_same, same_refl, same_sym, same_trans}
 use Rattle.rational.proofs.ExtendedLemmas.{Sup-unique}
 use Rattle.rational.proofs.TimeLemmas.{within_stretch}
-use Rattle.rational.proofs.WindowLemmas.{sup_alike, sup_over_alike}
+use Rattle.rational.proofs.WindowLemmas.{sup_alike}
 use Rattle.value_laws.specs.Members.{ShapeOf, ShapeLaws}
 use Rattle.pl_signal.specs.declared.knot.Knot.{Knot}
 use Rattle.pl_signal.specs.declared.faults.OpFault.{OpFault}
@@ -146,32 +146,6 @@ module _ {P : Type 0} (shape : ShapeOf P) where
         → Tells shape (SinceFromStart shape.lowest shape.highest from F G) from to r
     from_start_told r made = tells_along shape (SinceOf shape x y) (SinceFromStart shape.lowest shape.highest from F G) (start x)
         (stop x) from to r made left.begins left.ends from_start_of
-
-    -- over all times up to now it is the since
-    pub so_far_told : (r : List (Knot P)) → Tells shape (SinceOf shape x y) (start x) (stop x) r
-        → Tells shape (λ t v. IsSince shape.lowest shape.highest (Behind from to 0 None true true t) F G t v) from to r
-    so_far_told r made = tells_along shape (SinceFromStart shape.lowest shape.highest from F G)
-        (λ t v. IsSince shape.lowest shape.highest (Behind from to 0 None true true t) F G t v) from to from to r (from_start_told r made) (same_refl from) (same_refl to)
-        (λ t v i. (
-          sup_over_alike (Within from t) (Behind from to 0 None true true t) (IsDownTo shape.highest F G t) shape.lowest v (forth t i) (back t),
-          sup_over_alike (Behind from to 0 None true true t) (Within from t) (IsDownTo shape.highest F G t) shape.lowest v (back t) (forth t i),
-        ))
-      where
-        not_later : (u : Rational) → later u 0 ≤ʳ u
-        not_later u = omega arith
-
-        not_earlier : (u : Rational) → u ≤ʳ later u 0
-        not_earlier u = omega arith
-
-        forth : (t : Rational) → Within from to t → (u : Rational) → Within from t u → Behind from to 0 None true true t u
-        forth t i u w = record {
-          inside = record { above = w.above; below = le_trans w.below i.below };
-          begins = tt;
-          ends = le_trans (not_later u) w.below;
-        }
-
-        back : (t : Rational) (u : Rational) → Behind from to 0 None true true t u → Within from t u
-        back t u b = record { above = b.inside.above; below = le_trans (not_earlier u) b.ends }
 
     -- the until to the end has a value, as its signal shows
     pub has_to_end : (r : List (Knot P)) → Tells shape (UntilOf shape x y) (start x) (stop x) r
@@ -406,15 +380,6 @@ module _ {P : Type 0} (shape : ShapeOf P) (s : Setting) (p q : Subformula) (ends
   from_start_in u made = subst (λ l. Tells shape (SinceFromStart l s.highest s.from (SupInf p s) (SupInf q s)) s.from s.to u) (sym ends.lowest)
       (subst (λ h. Tells shape (SinceFromStart shape.lowest h s.from (SupInf p s) (SupInf q s)) s.from s.to u) (sym ends.highest)
       (from_start_told shape (SupInf p s) (SupInf q s) s.from s.to x y left right u made))
-
-  -- since over all times up to now
-  pub so_far_in : (u : List (Knot P)) → Tells shape (SinceOf shape x y) (start x) (stop x) u → Tells shape (SupInf (since 0 None p q) s) s.from s.to u
-  so_far_in u made =
-      subst (λ l. Tells shape (λ t v. IsSince l s.highest (Behind s.from s.to 0 None true true t) (SupInf p s) (SupInf q s) t v) s.from s.to u)
-      (sym ends.lowest)
-      (subst (λ h. Tells shape (λ t v. IsSince shape.lowest h (Behind s.from s.to 0 None true true t) (SupInf p s) (SupInf q s) t v) s.from s.to u)
-      (sym ends.highest)
-      (so_far_told shape (SupInf p s) (SupInf q s) s.from s.to x y left right u made))
 
   module _ (u : List (Knot P)) where
     kept_ahead : (a : ℕ) (d : List (Knot P)) → Tells shape (UntilOf shape x y) (start x) (stop x) u

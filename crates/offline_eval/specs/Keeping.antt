@@ -1,5 +1,5 @@
 -- Signals that are given up once the one node that reads them has its own.
-use Rattle.std.specs.Prelude.{◌≡◌, ℕ, ◌+◌, ◌-◌, ◌==◌, if◌then◌else◌, false, List, length, take, Some, slice_get, MatchBool}
+use Rattle.std.specs.Prelude.{◌≡◌, ℕ, ◌-◌, ◌==◌, if◌then◌else◌, false, List, length, take, Some, slice_get, MatchBool}
 use Rattle.std.specs.List.{list_any}
 use Rattle.value_laws.specs.Members.{ShapeOf}
 use Rattle.pl_signal.specs.declared.knot.Knot.{Knot}
@@ -7,10 +7,9 @@ use Rattle.stl_syntax.specs.Formula.{Subformula, constant, subformula}
 use Rattle.stl_syntax.specs.PostOrder.{is_used}
 use Rattle.stl_syntax.specs.SupInf.{Setting}
 use Rattle.stl_syntax.specs.declared.node.Node.{Node}
-use Rattle.offline_eval.specs.Inputs.{IsOver}
+use Rattle.offline_eval.specs.Inputs.{IsOver, TellAtoms}
 use Rattle.offline_eval.specs.Evaluation.{TellNodes}
-use Rattle.offline_eval.specs.Making.{AreSound, IsSound, TellAt, TellsValue}
-use Rattle.offline_eval.specs.Places.{reach_before}
+use Rattle.offline_eval.specs.Making.{IsSound, TellsValue}
 
 -- what the signal at a place tells once the first i nodes have theirs: false, if one of them has the node there as a child
 abbrev pub kept : List Node → ℕ → ℕ → Subformula
@@ -27,23 +26,9 @@ module _ {P : Type 0} (shape : ShapeOf P) (from to : ℕ) where
     pub count : length new ≡ length old
     pub at : (k : ℕ) (x : List (Knot P)) → slice_get new k ≡ Some x → MatchBool (list_any (λ p. p == k) places) (IsSpare x) (slice_get old k ≡ Some x)
 
-module _ {P : Type 0} (shape : ShapeOf P) (from to : ℕ) (nodes : List Node) where
-  -- a signal stands at the place of each of the first i nodes: its own, or a spare one once it was given up
-  pub record IsStack (i : ℕ) (done : List (List (Knot P))) : Type 0 where
-    pub count : length done ≡ i
-    pub sound : AreSound shape from to (reach_before nodes i) done
-
-module _ {P : Type 0} (shape : ShapeOf P) (nodes : List Node) (s : Setting) where
-  -- in the setting these signals tell the nodes that are still to be read; there were signals of all the first i nodes that tell
-  -- them, and the last of them is still there
-  pub record TellsStack (i : ℕ) (done : List (List (Knot P))) : Type 0 where
-    pub told : TellAt shape s (kept nodes i) done
-    pub signals : List (List (Knot P))
-    pub count : length signals ≡ i
-    pub all : TellAt shape s (subformula nodes) signals
-    pub last : (k : ℕ) (x : List (Knot P)) → k + 1 ≡ i → slice_get done k ≡ Some x → slice_get signals k ≡ Some x
-
-  -- in the setting the signal is the last of signals of all nodes, which tell their nodes
-  abbrev pub IsRootIn : List (Knot P) → Type 0
-  IsRootIn r = (signals : List (List (Knot P))) × (length signals ≡ length nodes) × (slice_get signals (length nodes - 1) ≡ Some r)
-      × TellNodes shape nodes signals s
+module _ {P : Type 0} (shape : ShapeOf P) where
+  -- the signal is the last of signals of all nodes, which tell their nodes where the atoms' signals tell the atoms
+  abbrev pub IsRootOf : ℕ → ℕ → List Node → List (List (Knot P)) → List (Knot P) → Type 0
+  IsRootOf from to nodes atoms r =
+      (signals : List (List (Knot P))) × (length signals ≡ length nodes) × (slice_get signals (length nodes - 1) ≡ Some r)
+      × ((s : Setting) → IsOver shape.lowest shape.highest from to s → TellAtoms shape nodes atoms s → TellNodes shape nodes signals s)

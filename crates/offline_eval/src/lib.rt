@@ -14,4 +14,4 @@ mod windows;
 pub use atoms::Atoms;
 pub use evaluation::{Evaluated, eval};
 pub use faults::{EvalFault, WideCause};
-pub use root::Stack;
+pub use root::eval_root;

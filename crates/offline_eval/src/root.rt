@@ -1,24 +1,18 @@
 //! The evaluation of a formula for its root alone: each signal is given up once the one node that reads it has its own.
-ghost use Rattle.std.specs.Prelude.{◌≡◌, ◌+◌, ◌<◌, ◌≤◌, ◌++◌, ◌∷◌, [], All, List, ℕ, Some, false, length, option_to_list, slice_get, IfSome, IfErr, OnOk};
-ghost use Rattle.stl_syntax.specs.Formula.{subformula};
+ghost use Rattle.std.specs.Prelude.{◌≡◌, ◌+◌, ◌<◌, ◌≤◌, ◌++◌, ◌∷◌, [], All, length, option_to_list, IfSome, OnOk, IfOk, IfErr};
 ghost use Rattle.stl_syntax.specs.PostOrder.{children};
 ghost use Rattle.stl_syntax.specs.SupInf.{Setting};
-ghost use Rattle.stl_syntax.specs.declared.atom.Atom.{Atom};
-ghost use Rattle.stl_syntax.specs.declared.node.Node.{Node};
-ghost use Rattle.stl_syntax.specs.declared.node.Node.TheVariants.{Atom as Leaf};
 ghost use Rattle.offline_eval.specs.Evaluation.{IsFault};
-ghost use Rattle.offline_eval.specs.Inputs.{is_atom, IsInput, IsOver};
-ghost use Rattle.offline_eval.specs.Keeping.{AreGivenUp, IsRootIn, IsStack, TellsStack};
-ghost use Rattle.offline_eval.specs.Making.{TellsValue};
+ghost use Rattle.offline_eval.specs.Inputs.{atoms_before, IsInput, IsOver, TellAtoms};
+ghost use Rattle.offline_eval.specs.Keeping.{AreGivenUp, IsRootOf};
 
-use crate::EvalFault;
 use crate::connectives::settled;
-use crate::evaluation::at_node;
-use crate::nodes::of_node;
-use frac128::Memory;
+use crate::evaluation::{at_node, next_signal};
+use crate::{Atoms, EvalFault};
+use frac128::{Memory, Steps};
 use pl_signal::Signal;
 use std::alloc::Global;
-use std::marker::Model;
+use std::sync::ledger::Ledger;
 use stl_syntax::{Formula, Node};
 use value_laws::Shape;
 
@@ -82,104 +76,42 @@ fn keep<P: Shape>(
     give_up(alloc, from, to, done, right)
 }
 
-/// The signals of the first nodes of a formula, on the way to that of its root. Each is given up once the one node that reads it has
-/// its own, so that only those are held that are still to be read. Contracts see it as the list of the signals, by the places of the
-/// nodes.
-#[derive(Drop)]
-pub struct Stack<P: Shape> {
-    done: Vec<Signal<P>>,
-}
-
-impl<P: Shape> Model for Stack<P> {
-    ghost use Rattle.std.specs.Prelude.{List};
-    ghost use Rattle.pl_signal.specs.declared.knot.Knot.{Knot};
-
-    ghost Value = { List (List (Knot P)) };
-
-    ghost view = { λ s. s.done.items };
-}
-
-impl<P: Shape> Stack<P> {
-    /// No signals yet; it takes no memory.
-    pub fn new(alloc: Global) -> Stack<P>
-        ensures stands { (from to : ℕ) (nodes : List Node) → IsStack P.Shape from to nodes 0 result }
-        ensures told { (nodes : List Node) (s : Setting) → TellsStack P.Shape nodes s 0 result }
-    {
-        Stack {
-            done: Vec::new(alloc),
-        }
-    }
-
-    /// Takes the signal of the node at place `i`, an atom.
-    ///
-    /// # Errors
-    ///
-    /// `Memory` where memory is wanting. The stack is of no use then.
-    pub fn give(&mut self, formula: &Formula, i: u32, signal: Signal<P>) -> Result<(), Memory>
-        requires { (a : Atom) × (slice_get formula.now.nodes i ≡ Some (Leaf a)) }
-        ensures stands { OnOk result ((from to : ℕ) → IsInput P.Shape from to signal → IsStack P.Shape from to formula.now.nodes i self.old
-            → IsStack P.Shape from to formula.now.nodes (i + 1) self.new) }
-        ensures told { OnOk result ((from to : ℕ) (s : Setting) → IsOver P.lowest P.highest from to s
-            → IsStack P.Shape from to formula.now.nodes i self.old → TellsValue P.Shape s (subformula formula.now.nodes i) signal → TellsStack P.Shape formula.now.nodes s i self.old
-            → TellsStack P.Shape formula.now.nodes s (i + 1) self.new) }
-    {
-        // For the proof alone: the nodes stand in post-order.
-        let _ = formula.len();
-        if self.done.push(signal).is_err() {
-            return Err(Memory);
-        }
-        Ok(())
-    }
-
-    /// Makes the signal of the node at place `i`, which is no atom, over the domain from `from` to `to`, both in ticks.
-    ///
-    /// # Errors
-    ///
-    /// `Wide` at the node with a pair that is in play there and needs a denominator of 2^60 or more; `Memory` where memory is wanting.
-    /// The stack is of no use then.
-    pub fn make(
-        &mut self,
-        alloc: Global,
-        formula: &Formula,
-        i: u32,
-        from: u32,
-        to: u32,
-    ) -> Result<(), EvalFault<P>>
-        requires order { from ≤ to }
-        requires inside { i < length formula.now.nodes }
-        requires kind { (n : Node) → slice_get formula.now.nodes i ≡ Some n → is_atom n ≡ false }
-        requires stands { IsStack P.Shape from to formula.now.nodes i self.old }
-        ensures stands { OnOk result (IsStack P.Shape from to formula.now.nodes (i + 1) self.new) }
-        ensures told { OnOk result ((s : Setting) → IsOver P.lowest P.highest from to s → TellsStack P.Shape formula.now.nodes s i self.old
-            → TellsStack P.Shape formula.now.nodes s (i + 1) self.new) }
-        ensures wide { IfErr result (λ e. (s : Setting) → IsOver P.lowest P.highest from to s → TellsStack P.Shape formula.now.nodes s i self.old
-            → IsFault P.Shape formula.now.nodes s e) }
-    {
-        // For the proof alone: the nodes stand in post-order.
-        let _ = formula.len();
-        let next = formula.node(i);
-        match of_node(alloc, from, to, next, &self.done) {
+/// The signal of the formula, over the domain from `from` to `to`, both in ticks.
+///
+/// It is the last of the signals that `eval` gives, and is refused as `eval` is; but only the signals of those nodes are held at a
+/// time that are still to be read.
+pub fn eval_root<P: Shape, L: Ledger>(
+    alloc: Global,
+    formula: &Formula,
+    from: u32,
+    to: u32,
+    atoms: Atoms<P>,
+    steps: &mut Steps<L>,
+) -> Result<Signal<P>, EvalFault<P>>
+    requires order { from ≤ to }
+    requires count { length atoms ≡ atoms_before formula.now.nodes (length formula.now.nodes) }
+    requires inputs { All (IsInput P.Shape from to) atoms }
+    ensures told { IfOk result (IsRootOf P.Shape from to formula.now.nodes atoms) }
+    ensures wide { IfErr result (λ e. (s : Setting) → IsOver P.lowest P.highest from to s
+        → TellAtoms P.Shape formula.now.nodes atoms s → IsFault P.Shape formula.now.nodes s e) }
+    ensures steps { steps.new ≡ steps.old + 1 }
+{
+    steps.tick();
+    let mut rest = atoms;
+    let count = formula.len();
+    let mut done = Vec::new(alloc);
+    for i in 0..count {
+        match next_signal(alloc, formula, i, from, to, &done, &mut rest) {
             Ok(signal) => {
-                if keep(alloc, from, to, next, signal, &mut self.done).is_err() {
+                if keep(alloc, from, to, formula.node(i), signal, &mut done).is_err() {
                     return Err(EvalFault::Memory);
                 }
-                Ok(())
             }
-            Err(fault) => Err(at_node(i, fault)),
+            Err(fault) => return Err(at_node(i, fault)),
         }
     }
-
-    /// The signal of the root, once all nodes have had theirs.
-    pub fn root(self) -> Signal<P>
-        requires { 0 < length self }
-        ensures { (nodes : List Node) (s : Setting) → length nodes ≡ length self → TellsStack P.Shape nodes s (length nodes) self
-            → IsRootIn P.Shape nodes s result }
-    {
-        let Stack { done } = self;
-        let mut signals = done;
-        match signals.pop() {
-            Some(signal) => signal,
-            None => unreachable!(),
-        }
+    match done.pop() {
+        Some(signal) => Ok(signal),
+        None => unreachable!(),
     }
 }

@@ -1,5 +1,5 @@
-//! The signals of until and since, each composed of four steps; a since over all times up to now is one step.
-ghost use Rattle.std.specs.Prelude.{◌≤◌, None, IfOk, IfErr};
+//! The signals of until and since, each composed of four steps.
+ghost use Rattle.std.specs.Prelude.{◌≤◌, IfOk, IfErr};
 ghost use Rattle.stl_syntax.specs.Formula.{until, since};
 ghost use Rattle.stl_syntax.specs.Limits.{reach_of_bound};
 ghost use Rattle.stl_syntax.specs.WellFormed.{IsInOrder};
@@ -33,51 +33,9 @@ pub(crate) fn bounded_until<P: Shape>(
     lower(&within, &kept)
 }
 
-/// Since over a window.
-pub(crate) fn bounded_since<P: Shape>(
-    x: &Signal<P>,
-    y: &Signal<P>,
-    low: u32,
-    high: Option<u32>,
-) -> Result<Signal<P>, OpFault<P>>
-    requires fit { AreFit P.Shape x.now y.now }
-    requires order { IsInOrder low high }
-    ensures sound { IfOk result (StaySound P.Shape (reach_of_bound low high) x.now y.now) }
-    ensures told { IfOk result (TellsTwo P.Shape (since low high) x.now y.now) }
-    ensures wide { IfErr result (FaultOfTwo P.Shape (since low high) x.now y.now) }
-{
-    match high {
-        None => endless_since(x, y, low),
-        Some(_) => composed_since(x, y, low, high),
-    }
-}
-
-/// Since over a window that reaches back to the start.
-fn endless_since<P: Shape>(x: &Signal<P>, y: &Signal<P>, low: u32) -> Result<Signal<P>, OpFault<P>>
-    requires fit { AreFit P.Shape x.now y.now }
-    ensures sound { IfOk result (StaySound P.Shape (reach_of_bound low None) x.now y.now) }
-    ensures told { IfOk result (TellsTwo P.Shape (since low None) x.now y.now) }
-    ensures wide { IfErr result (FaultOfTwo P.Shape (since low None) x.now y.now) }
-{
-    if low == 0 {
-        return since_so_far(x, y);
-    }
-    composed_since(x, y, low, None)
-}
-
-/// Since over all times up to now: the since from the start.
-fn since_so_far<P: Shape>(x: &Signal<P>, y: &Signal<P>) -> Result<Signal<P>, OpFault<P>>
-    requires fit { AreFit P.Shape x.now y.now }
-    ensures sound { IfOk result (StaySound P.Shape (reach_of_bound 0 None) x.now y.now) }
-    ensures told { IfOk result (TellsTwo P.Shape (since 0 None) x.now y.now) }
-    ensures wide { IfErr result (FaultOfTwo P.Shape (since 0 None) x.now y.now) }
-{
-    since_from_start(x, y)
-}
-
-/// The same, composed: the Sup of the right operand over the window, but no more than the since from the start is at any time
+/// Since over a window: the Sup of the right operand over the window, but no more than the since from the start is at any time
 /// from where the window ends up to now.
-fn composed_since<P: Shape>(
+pub(crate) fn bounded_since<P: Shape>(
     x: &Signal<P>,
     y: &Signal<P>,
     low: u32,

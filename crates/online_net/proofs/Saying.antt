@@ -1,5 +1,5 @@
 -- What was said of an atom, verdict by verdict.
-use Rattle.std.proofs.Common.{◌≡◌, suc, ◌+◌, ◌≤◌, Option, get_or, ◌<ℤ◌, ◌⊎◌, inl, inr, refl, sym, ap, subst, ◌∙◌, ℕ, ◌<◌, Bool, true, false, ◌&&◌, Some, None, List, [], ◌∷◌, ◌++◌, length, pos, arith, append_assoc}
+use Rattle.std.proofs.Common.{◌≡◌, suc, ◌+◌, ◌≤◌, Option, get_or, ◌<ℤ◌, ◌⊎◌, inl, inr, refl, sym, ap, subst, ◌∙◌, ℕ, ◌<◌, Bool, true, false, Some, None, List, [], ◌++◌, length, pos, arith, append_assoc}
 use Rattle.std.specs.Prelude.{MatchBool, MatchOption, IfSome, IsTrue, ◌≢◌, slice_get}
 use Rattle.std.specs.Option.{is_some}
 use Rattle.std.proofs.lemmas.Bool.{cases_order}
@@ -7,9 +7,9 @@ use Rattle.std.proofs.lemmas.Option.{slice_get_cases, get_or_from_slice_get}
 use Rattle.online_nodes.specs.declared.operator.Operator.{Operator}
 use Rattle.std.proofs.lemmas.List.{get_or-set_same, get_or-set_other, length-set}
 use Rattle.std.proofs.lemmas.Int.{ints}
-use Rattle.rational.specs.Rational.{Rational, ◌≤ʳ◌, ◌<ʳ◌, ◌≈◌, whole}
-use Rattle.rational.specs.Time.{left_open, HasTimeBetween}
-use Rattle.rational.proofs.Order.{same_refl, same_sym, le_of_lt, le_or_lt}
+use Rattle.rational.specs.Rational.{Rational, ◌≤ʳ◌, ◌<ʳ◌, ◌≈◌}
+use Rattle.rational.specs.Time.{left_open}
+use Rattle.rational.proofs.Order.{same_refl, le_of_lt}
 use Rattle.rational.proofs.Shift.{lt_whole}
 use Rattle.stl_syntax.specs.Trace.{Row, Trace, row_time}
 use Rattle.stl_syntax.specs.Formula.{Subformula, atom}
@@ -22,20 +22,15 @@ use Rattle.frac128.specs.Value.{value}
 use Rattle.frac128.specs.declared.frac.Frac.{Frac}
 use Rattle.stl_syntax.specs.Verdicts.{Describes}
 use Rattle.atom_lines.specs.Binding.{Binding, IsFor, HasRow, AreNeighbours}
-use Rattle.atom_lines.specs.Points.{IsTruthAt, IsTruthOn}
-use Rattle.atom_lines.specs.Pieces.{TellsGap}
-use Rattle.atom_lines.specs.declared.truth.TruthPiece.{TruthPiece}
-use Rattle.atom_lines.specs.declared.truth.TruthPiece.TheVariants.{Whole}
-use Rattle.value_laws.specs.declared.truth.Truth.{Truth as ATruth}
+use Rattle.atom_lines.specs.Points.{IsTruthAt}
 use Rattle.online_nodes.specs.Reading.{AllAre}
-use Rattle.frac128.specs.Spans.{interval}
-use Rattle.online_nodes.specs.Written.{HasAnswer, HasFinished, HasGot, HasTold, Lead, Reaches}
+use Rattle.online_nodes.specs.Written.{HasAnswer, HasFinished, HasGot, HasTold, Reaches}
 use Rattle.online_nodes.proofs.GotLemmas.{got_both, got_none, got-here, got-other, got-length}
-use Rattle.online_net.specs.Atoms.{HasSaidThree, HasBegun, IsThrough, IsPut, HasPutAtom, HasPutAtoms, StandsNext, row_stretch, before_row, after_row}
+use Rattle.online_net.specs.Atoms.{HasSaidThree, HasBegun, IsPut, HasPutAtom, HasPutAtoms, StandsNext, row_stretch, before_row, after_row}
 use Rattle.online_nodes.specs.declared.cut.Cut.{Cut}
 use Rattle.online_nodes.specs.declared.writer.Out.{Out}
-use Rattle.online_nodes.proofs.PlaceLemmas.{sides, not_both, place_order, between, same_places, same_trans_places, before_trans, before_same, same_before, room_of_before, upto_of_before, upto_same}
-use Rattle.online_nodes.proofs.Writing.{told_same, same_itself, lead_describes}
+use Rattle.online_nodes.proofs.PlaceLemmas.{sides, not_both, place_order, between, same_places, same_trans_places, before_trans, upto_of_before, upto_same}
+use Rattle.online_nodes.proofs.Writing.{told_same, same_itself}
 
 -- places of which neither comes after the other are one
 pub same_of_most : (c d : Place) → AtMost c d → AtMost d c → Same c d
@@ -328,69 +323,6 @@ atom_put b i before r {e0} {e1} {e2} {e3} {e4} {out1} {out2} end holds within la
         (told_same holds (Truth (atom i a) tr) (before_row r) (after_row r) (place out1.at) (place out2.at) (same_places w.0) (same_places (there w.0))
         (λ t x y. is_test a tr t holds (truth a tr t for (row_of_next tr before r next) (one_time x y)))))
         (subst (λ c. Same (place out2.at) c) (sym (stretch_ends before r)) (there w.0))
-
--- between whole times there is room where the one comes before the other
-pub room_after : (n m : ℕ) (f g : Frac) → n < m → value f ≈ whole (pos n) → value g ≈ whole (pos m) → HasTimeBetween (value f) (value g) (false && true)
-room_after n m f g l from to =
-    room_of_before (just_after (value f)) (just_after (value g))
-    (before_same (just_after (value f)) (just_after (whole (pos m))) (just_after (value g))
-    (same_before (just_after (value f)) (just_after (whole (pos n))) (just_after (whole (pos m))) (from, refl)
-    (inl (lt_whole (let h : pos n <ℤ pos m = omega (arith, ints, l) in h)))) (same_sym to, refl))
-  where
-    just_after : Rational → Place
-    just_after t = record { at = t; after = true }
-
--- one truth on the gap, and the same at the row
-pub through : (b : Binding) (i : ℕ) (first r : Row) (piece : TruthPiece) (truth : ATruth) (holds : Bool) → piece ≡ Whole truth → truth.holds ≡ holds
-    → IsTruthOn b i first r piece → IsTruthAt b i r holds → IsThrough b i first r holds
-through b i first r piece truth holds is same on at a tr for next t low high = by_side (le_or_lt (row_time r) t)
-  where
-    gap : (u : Rational) → row_time first <ʳ u → u <ʳ row_time r → holds_at a tr u ≡ truth.holds
-    gap = subst (λ p. TellsGap (row_time first) (row_time r) (holds_at a tr) p) is (on a tr for next)
-
-    by_side : (row_time r ≤ʳ t) ⊎ (t <ʳ row_time r) → holds_at a tr t ≡ holds
-    by_side (inl x) = at a tr t for (row_of_next tr (Some first) r next) (one_time x high)
-    by_side (inr x) = gap t low x ∙ same
-
--- one truth after the row before, up to the row: the one verdict is put
-pub even_put : (b : Binding) (i : ℕ) (first r : Row) {e0 e1 e2 : Held} (v : Verdict) (holds : Bool) → i < length e0.edges → first.time < r.time
-    → Same (after_row first) (begins (interval v.on)) → Same (ends (interval v.on)) (after_row r) → v.holds ≡ holds → HasGot e0 e1 i (v ∷ [])
-    → e2.edges ≡ with_edge e1 i (with_number (edge_at e1 i) (pos r.time)) → e2.start ≡ e1.start → IsThrough b i first r holds
-    → HasPutAtom b (Some first) r i e0 e2
-even_put b i first r {e0} {e1} {e2} v holds within later from to is got noted start truth = record {
-  here = record { more = v ∷ []; is = here; describes = describes };
-  others = λ j other. ap (λ es. get_or es j no_edge) noted ∙ get_or-set_other e1.edges i j _ no_edge other ∙ got-other got j other;
-  count = ap length noted ∙ length-set e1.edges i _ ∙ got-length got;
-  start = start ∙ got.start;
-}
-  where
-    here : edge_at e2 i ≡ with_number (with_more (edge_at e0 i) (v ∷ [])) (pos r.time)
-    here = ap (λ es. get_or es i no_edge) noted ∙ get_or-set_same e1.edges i _ no_edge (subst (λ n. i < n) (sym (got-length got)) within)
-        ∙ ap (λ x. with_number x (pos r.time)) (got-here got within)
-
-    some : Before (after_row first) (after_row r)
-    some = before_trans (after_row first) (before_row r) (after_row r) (rows_order first r later) (row_order r)
-
-    inside : Before (begins (interval v.on)) (ends (interval v.on))
-    inside = before_same (begins (interval v.on)) (after_row r) (ends (interval v.on))
-        (same_before (begins (interval v.on)) (after_row first) (after_row r) (same_places from) some) (same_places to)
-
-    last : Option Bool
-    last = Some v.holds
-
-    lead : (a : Atom) (tr : Trace) → IsFor b i a tr → AreNeighbours tr first r
-        → Lead (atom i a) tr (after_row first) nothing (v ∷ []) (after_row r) last
-    lead a tr for next = (
-      from,
-      inside,
-      (λ e. (let x = e in cc)),
-      told_same v.holds (Truth (atom i a) tr) (after_row first) (after_row r) (begins (interval v.on)) (ends (interval v.on)) from (same_places to)
-          (λ t x y. is_test a tr t v.holds (truth a tr for next t x y ∙ sym is)),
-      (to, (let e : last ≡ last = refl in e)),
-    )
-
-    describes : (a : Atom) (tr : Trace) → IsFor b i a tr → StandsNext tr (Some first) r → Describes (v ∷ []) (atom i a) tr (row_stretch (Some first) r)
-    describes a tr for next = lead_describes (atom i a) tr (row_stretch (Some first) r) (v ∷ []) last some (lead a tr for next)
 
 -- what is found at a place that is one of the list
 module _ {X : Type 0} (xs : List (Option X)) (i : ℕ) (r : Option X) (within : i < length xs) (is : r ≡ get_or xs i r) where

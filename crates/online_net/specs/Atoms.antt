@@ -1,9 +1,9 @@
 -- What a row puts onto the edges of the atoms.
 use Rattle.std.specs.Prelude.{◌≡◌, ◌≢◌, ℕ, ◌<◌, Bool, true, false, List, ◌++◌, length, Option, Some, None, pos, slice_get}
-use Rattle.rational.specs.Time.{Rational, ◌≤ʳ◌, ◌<ʳ◌, Interval, closed, left_open}
+use Rattle.rational.specs.Time.{Interval, closed, left_open}
 use Rattle.stl_syntax.specs.Trace.{Row, Trace, row_time}
 use Rattle.stl_syntax.specs.Formula.{Subformula, atom}
-use Rattle.stl_syntax.specs.Truth.{Truth, holds_at}
+use Rattle.stl_syntax.specs.Truth.{Truth}
 use Rattle.stl_syntax.specs.Verdicts.{Describes}
 use Rattle.stl_syntax.specs.declared.atom.Atom.{Atom}
 use Rattle.stl_syntax.specs.declared.items.Verdict.{Verdict}
@@ -58,11 +58,6 @@ pub record HasBegun (b : Binding) (i : ℕ) (before : Option Row) (r : Row) (old
   pub inside : AtMost (place out.at) (place out.to)
   pub told : (a : Atom) (tr : Trace) → IsFor b i a tr → StandsNext tr before r
       → Same (place out.at) (before_row r) × HasTold (atom i a) tr (begins (row_stretch before r)) more out
-
--- the atom at node i is so at each time after the first row, up to the row right after it
-abbrev pub IsThrough : Binding → ℕ → Row → Row → Bool → Type 0
-IsThrough b i first r holds =
-    (a : Atom) (tr : Trace) → IsFor b i a tr → AreNeighbours tr first r → (t : Rational) → row_time first <ʳ t → t ≤ʳ row_time r → holds_at a tr t ≡ holds
 
 -- the edge of an atom got the verdicts that describe it on the stretch that the row answers, and the row's time as its number
 pub record IsPut (b : Binding) (before : Option Row) (r : Row) (i : ℕ) (old new : Edge) : Type 0 where

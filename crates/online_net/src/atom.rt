@@ -1,23 +1,17 @@
 //! What a row puts onto the edges of the atoms.
 
-ghost use Rattle.std.specs.Prelude.{◌≡◌, ◌<◌, ◌≤◌, ℕ, length, slice_get, IfOk, IfSome, IsTrue, OnOk, Option, Some, None, true, false, pos};
+ghost use Rattle.std.specs.Prelude.{◌≡◌, ◌<◌, ◌≤◌, ℕ, length, slice_get, IfOk, IfSome, OnOk, Some, None, true, false, pos};
 ghost use Rattle.rational.specs.Rational.{whole};
 ghost use Rattle.frac128.specs.Value.{value};
-ghost use Rattle.frac128.specs.Spans.{interval};
-ghost use Rattle.online_nodes.specs.Cuts.{place, begins, ends, AtMost, Same};
-ghost use Rattle.stl_syntax.specs.Trace.{Row as ARow};
-ghost use Rattle.value_laws.specs.declared.truth.Truth.{Truth as ATruth};
-ghost use Rattle.online_nodes.specs.Held.{Held, edge_at, with_edge, with_number};
+ghost use Rattle.online_nodes.specs.Cuts.{place, AtMost, Same};
+ghost use Rattle.online_nodes.specs.Held.{edge_at, with_edge, with_number};
 ghost use Rattle.online_nodes.specs.Written.{IsSound};
-ghost use Rattle.atom_lines.specs.Binding.{Binding, IsAtomNode};
-ghost use Rattle.atom_lines.specs.Points.{IsTruthAt, IsTruthOn};
-ghost use Rattle.atom_lines.specs.declared.truth.TruthPiece.TheVariants.{Whole};
-ghost use Rattle.online_net.specs.Atoms.{after_row, before_row, begun, HasSaidThree, HasBegun, IsThrough, HasPutAtom, HasPutAtoms};
+ghost use Rattle.atom_lines.specs.Binding.{IsAtomNode};
+ghost use Rattle.online_net.specs.Atoms.{after_row, before_row, begun, HasSaidThree, HasBegun, HasPutAtom, HasPutAtoms};
 
-use atom_lines::{Bound, TruthPiece, truth_point, truth_step};
-use frac128::{Frac, Memory, Span};
+use atom_lines::{Bound, TruthPiece, truth_piece, truth_point};
+use frac128::{Frac, Memory};
 use online_nodes::{Cut, Edges, Operator, Out};
-use stl_syntax::Verdict;
 use trace_reader::Row;
 
 /// Just before a time in ticks.
@@ -76,20 +70,23 @@ fn say_turn(edges: &mut Edges, out: Out, turn: Turn, end: Cut) -> Result<Out, Me
 /// Says an atom's truth after the row before, up to just before the row.
 fn say_gap(
     edges: &mut Edges,
+    bound: &Bound,
     node: u32,
     first: &Row,
     row: &Row,
-    piece: TruthPiece,
 ) -> Result<Out, Memory>
     requires edge { node < length edges.old.edges }
+    requires atom { IsAtomNode bound.now node }
+    requires first { length first.now.values ≡ bound.now.width }
+    requires second { length row.now.values ≡ bound.now.width }
     requires later { first.now.time < row.now.time }
-    ensures { (b : Binding) → IsTruthOn b node first.now row.now piece → IfOk result (HasBegun b node (Some first.now) row.now edges.old edges.new) }
+    ensures { IfOk result (HasBegun bound.now node (Some first.now) row.now edges.old edges.new) }
 {
     let from = after_tick(first.time());
     let end = before_tick(row.time());
     let to = after_tick(row.time());
     let out = Out::new(node, from, to);
-    match piece {
+    match truth_piece(bound, node, first, row) {
         TruthPiece::Whole(truth) => {
             let said = out.upto(edges, truth.holds(), end)?;
             Ok(said)
@@ -112,122 +109,31 @@ fn say_gap(
     }
 }
 
-/// Whether a gap has one truth, this one.
-fn is_even(piece: &TruthPiece, holds: bool) -> bool
-    ensures { IsTrue result → (truth : ATruth) × (piece.now ≡ Whole truth) × (truth.holds ≡ holds) }
-{
-    match piece {
-        TruthPiece::Whole(truth) => truth.holds() == holds,
-        TruthPiece::Split { .. } => false,
-    }
-}
-
-/// The times after one number of ticks, up to another.
-#[inline(always)]
-fn span_after(first: u32, last: u32) -> Span
-    requires { first < last }
-    ensures begin { Same (record { at = whole (pos first); after = true }) (begins (interval result)) }
-    ensures end { Same (ends (interval result)) (record { at = whole (pos last); after = true }) }
-{
-    let from = after_tick(first);
-    let to = after_tick(last);
-    Span {
-        from: from.time,
-        from_in: false,
-        to: to.time,
-        to_in: true,
-    }
-}
-
-/// Puts the one verdict of an atom after the row before, up to the row, onto its edge, and notes its number.
-fn put_even(edges: &mut Edges, node: u32, first: &Row, row: &Row, holds: bool) -> Result<(), Memory>
-    requires edge { node < length edges.old.edges }
-    requires later { first.now.time < row.now.time }
-    ensures { (b : Binding) → IsThrough b node first.now row.now holds → OnOk result (HasPutAtom b (Some first.now) row.now node edges.old edges.new) }
-{
-    let before = first.time();
-    let now = row.time();
-    let on = span_after(before, now);
-    edges.put(node, Verdict { on, holds })?;
-    note(edges, node, now);
-    Ok(())
-}
-
-/// Puts what an atom says at a row, after what was said up to it, onto its edge, and notes its number.
-#[inline(always)]
-fn put_last(edges: &mut Edges, node: u32, begun: Out, row: &Row, holds: bool) -> Result<(), Memory>
-    requires edge { begun.edge < length edges.old.edges }
-    requires own { begun.edge ≡ node }
-    requires sound { IsSound begun }
-    requires inside { AtMost (place begun.at) (place begun.to) }
-    ensures { (b : Binding) (before : Option ARow) (e : Held) → HasBegun b node before row.now e edges.old begun → IsTruthAt b node row.now holds
-        → IfSome before (λ r. r.time < row.now.time) → node < length e.edges
-        → OnOk result (HasPutAtom b before row.now node e edges.new) }
-{
-    let end = after_tick(row.time());
-    let out = begun.upto(edges, holds, end)?;
-    out.finish(edges)?;
-    note(edges, node, row.time());
-    Ok(())
-}
-
-/// Puts an atom's verdict at the first row onto its edge, and notes its number.
-#[inline(never)]
-fn put_first(edges: &mut Edges, bound: &Bound, node: u32, row: &Row) -> Result<(), Memory>
-    requires edge { node < length edges.old.edges }
-    requires atom { IsAtomNode bound.now node }
-    requires width { length row.now.values ≡ bound.now.width }
-    ensures { OnOk result (HasPutAtom bound.now None row.now node edges.old edges.new) }
-{
-    let from = before_tick(row.time());
-    let to = after_tick(row.time());
-    let holds = truth_point(bound, node, row).holds();
-    put_last(edges, node, Out::new(node, from, to), row, holds)
-}
-
-/// Puts an atom's verdicts where its truth may turn over in the gap or at the row, onto its edge, and notes its number.
-fn put_turning(
-    edges: &mut Edges,
-    node: u32,
-    first: &Row,
-    row: &Row,
-    piece: TruthPiece,
-    holds: bool,
-) -> Result<(), Memory>
-    requires edge { node < length edges.old.edges }
-    requires later { first.now.time < row.now.time }
-    requires on { (b : Binding) × IsTruthOn b node first.now row.now piece }
-    ensures { (b : Binding) → IsTruthOn b node first.now row.now piece → IsTruthAt b node row.now holds
-        → OnOk result (HasPutAtom b (Some first.now) row.now node edges.old edges.new) }
-{
-    let begun = say_gap(edges, node, first, row, piece)?;
-    put_last(edges, node, begun, row, holds)
-}
-
-/// Puts an atom's verdicts after the row before, up to the row, onto its edge, and notes its number.
-fn put_next(
+/// Says an atom's truth up to just before the row.
+fn begin_atom(
     edges: &mut Edges,
     bound: &Bound,
     node: u32,
-    first: &Row,
+    before: &Option<Row>,
     row: &Row,
-) -> Result<(), Memory>
+) -> Result<Out, Memory>
     requires edge { node < length edges.old.edges }
     requires atom { IsAtomNode bound.now node }
-    requires first { length first.now.values ≡ bound.now.width }
+    requires first { IfSome before.now (λ r. length r.values ≡ bound.now.width) }
     requires second { length row.now.values ≡ bound.now.width }
-    requires later { first.now.time < row.now.time }
-    ensures { OnOk result (HasPutAtom bound.now (Some first.now) row.now node edges.old edges.new) }
+    requires later { IfSome before.now (λ r. r.time < row.now.time) }
+    ensures { IfOk result (HasBegun bound.now node before.now row.now edges.old edges.new) }
 {
-    let (piece, point) = truth_step(bound, node, first, row);
-    let holds = point.holds();
-    if is_even(&piece, holds) {
-        return put_even(edges, node, first, row, holds);
-    }
-    put_turning(edges, node, first, row, piece, holds)
+    let Some(first) = before else {
+        let from = before_tick(row.time());
+        let to = after_tick(row.time());
+        return Ok(Out::new(node, from, to));
+    };
+    let out = say_gap(edges, bound, node, first, row)?;
+    Ok(out)
 }
 
-/// Puts an atom's verdicts up to a row, after the row before where there is one, onto its edge, and notes its number.
+/// Puts an atom's verdicts after the row before, up to the row, onto its edge, and notes its number.
 fn put_atom(
     edges: &mut Edges,
     bound: &Bound,
@@ -242,10 +148,13 @@ fn put_atom(
     requires later { IfSome before.now (λ r. r.time < row.now.time) }
     ensures { OnOk result (HasPutAtom bound.now before.now row.now node edges.old edges.new) }
 {
-    match before {
-        Some(first) => put_next(edges, bound, node, first, row),
-        None => put_first(edges, bound, node, row),
-    }
+    let begun = begin_atom(edges, bound, node, before, row)?;
+    let end = after_tick(row.time());
+    let holds = truth_point(bound, node, row).holds();
+    let out = begun.upto(edges, holds, end)?;
+    out.finish(edges)?;
+    note(edges, node, row.time());
+    Ok(())
 }
 
 /// Puts the verdicts of all atoms.

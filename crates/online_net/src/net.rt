@@ -3,7 +3,7 @@
 //! A network stands for a run of events, a row, a step of a node, the end, a verdict taken, in whatever order they came. It stores
 //! no history: what it shows is, for each run that it stands for, what the run says.
 
-ghost use Rattle.std.specs.Prelude.{◌≡◌, ◌<◌, ◌+◌, ◌-◌, ◌↔◌, ◌++◌, ◌∷◌, [], List, length, IfOk, OnOk, IfSome, IfNone, IsTrue, MatchBool, MatchResult, Some, None, true, false, pos, option_map, ◌≢◌};
+ghost use Rattle.std.specs.Prelude.{◌≡◌, ◌<◌, ◌+◌, ◌-◌, ◌↔◌, ◌++◌, ◌∷◌, [], List, length, IfOk, IfSome, IfNone, IsTrue, MatchBool, MatchResult, Some, None, true, false, pos, option_map, ◌≢◌};
 ghost use Rattle.stl_syntax.specs.Trace.{Header};
 ghost use Rattle.stl_syntax.specs.declared.node.Node.{Node as ANode};
 ghost use Rattle.atom_lines.specs.Binding.{IsBound};
@@ -100,19 +100,6 @@ fn time_of(row: &Option<Row>) -> Option<u32>
     }
 }
 
-/// Keeps a row in the place of the last one.
-#[inline(always)]
-fn keep_row(last: &mut Option<Row>, row: &Row) -> Result<(), Memory>
-    ensures { OnOk result (last.new ≡ Some row.now) }
-{
-    if let Some(kept) = last {
-        kept.take_over(row);
-        return Ok(());
-    }
-    *last = Some(row.copy()?);
-    Ok(())
-}
-
 /// One step of an operator. False where it is not ready, and then nothing changes.
 fn step_one(
     edges: &mut Edges,
@@ -192,10 +179,11 @@ impl Net {
             self.stopped = true;
             return Err(NetFault::Memory);
         };
-        let Ok(()) = keep_row(&mut self.last, row) else {
+        let Ok(kept) = row.copy() else {
             self.stopped = true;
             return Err(NetFault::Memory);
         };
+        self.last = Some(kept);
         Ok(())
     }
 

@@ -131,7 +131,6 @@ fn take_row_all(
     ensures gone { (p : Passing) → CanGoByRow p edges.old stations.old.items bound.now before.now row.now
         → OnOk result (HasGone p edges.new stations.new.items) }
     ensures fault { (p : Passing) → CanGoByRow p edges.old stations.old.items bound.now before.now row.now → IfErr result (IsGoFault p) }
-    ensures nodes { length stations.new.items ≡ length stations.old.items }
 {
     for i in 0..stations.len() {
         match stations[i].take_row(alloc, edges, i as u32, bound, before, row) {
@@ -152,7 +151,6 @@ fn take_end_all(
     requires { (p : Passing) × CanGoByEnd p edges.old stations.old.items now }
     ensures gone { (p : Passing) → CanGoByEnd p edges.old stations.old.items now → OnOk result (HasGone p edges.new stations.new.items) }
     ensures fault { (p : Passing) → CanGoByEnd p edges.old stations.old.items now → IfErr result (IsGoFault p) }
-    ensures nodes { length stations.new.items ≡ length stations.old.items }
 {
     for i in 0..stations.len() {
         match stations[i].take_end(alloc, edges, i as u32, now) {
@@ -208,8 +206,7 @@ impl RobustNet {
             → IfOk result (λ _. StandsFor nodes header self.new (with_row past row.now) given) }
         ensures wide { (nodes : List ANode) (header : Header) (past : Past) (given : List Line) → StandsFor nodes header self.old past given
             → IfErr result (IsWideIn nodes header past (with_row past row.now)) }
-        ensures nodes { length self.new.stations ≡ length self.old.stations }
-        ensures last { IfErr result (λ _. self.new.last ≡ self.old.last) }
+        ensures nodes { OnOk result (length self.new.stations ≡ length self.old.stations) }
         ensures bound { self.new.bound ≡ self.old.bound }
     {
         if self.stopped {
@@ -255,8 +252,7 @@ impl RobustNet {
             → IfOk result (λ _. StandsFor nodes header self.new (with_end past) given) }
         ensures wide { (nodes : List ANode) (header : Header) (past : Past) (given : List Line) → StandsFor nodes header self.old past given
             → IfErr result (IsWideIn nodes header past (with_end past)) }
-        ensures nodes { length self.new.stations ≡ length self.old.stations }
-        ensures last { self.new.last ≡ self.old.last }
+        ensures nodes { OnOk result (length self.new.stations ≡ length self.old.stations) }
         ensures bound { self.new.bound ≡ self.old.bound }
     {
         if self.stopped {

@@ -29,13 +29,6 @@ pub(crate) enum Operator {
     Past(Endless),
 }
 
-/// A negation before anything was told.
-fn negation(of: u32) -> Option<Operator>
-    ensures { result ≡ Some (Op.Not (record { of = of; last = None })) }
-{
-    Some(Operator::Not(Not { of, last: None }))
-}
-
 /// A connective before anything was told.
 fn two(left: u32, right: u32, side: Side, turned: bool) -> Option<Operator>
     ensures { result ≡ Some (Op.Two (record { left = left; right = right; side = side; turned = turned; last = None })) }
@@ -180,12 +173,17 @@ impl Operator {
         ensures { IsFirstOperator node.now result }
     {
         match node {
-            Node::Const(_) | Node::Atom(_) => None,
-            Node::Not(of) => negation(*of),
+            Node::Const(_) => None,
+            Node::Atom(_) => None,
+            Node::Not(of) => Some(Operator::Not(Not {
+                of: *of,
+                last: None,
+            })),
             Node::And(left, right) => two(*left, *right, Side::Least, false),
             Node::Or(left, right) => two(*left, *right, Side::Greatest, false),
             Node::Implies(left, right) => two(*left, *right, Side::Greatest, true),
-            Node::Until { .. } | Node::Since { .. } => unreachable!(),
+            Node::Until { .. } => unreachable!(),
+            Node::Since { .. } => unreachable!(),
             Node::Eventually {
                 of,
                 low,

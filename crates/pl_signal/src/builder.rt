@@ -92,7 +92,7 @@ impl<P: Shape> Builder<P> {
         if self.knots.reserve(1).is_err() {
             return Err(Memory);
         }
-        go_on(&mut self.knots, &after, &at, &point);
+        go_on(&mut self.knots, after, at, point);
         Ok(())
     }
 
@@ -163,7 +163,7 @@ impl<P: Shape> Builder<P> {
         if self.knots.reserve(1).is_err() {
             return Err(OpFault::Memory);
         }
-        go_on(&mut self.knots, &after, to, &point);
+        go_on(&mut self.knots, after, *to, point);
         Ok(())
     }
 
@@ -209,43 +209,44 @@ fn put_pieces<P: Shape>(knots: &mut Vec<Knot<P>>, pieces: &Pieces<P>, to: Frac, 
     ensures { Continues P.Shape knots.old.items pieces.now to point knots.new.items }
 {
     match *pieces {
-        Pieces::Whole(shape) => go_on(knots, &shape, &to, &point),
+        Pieces::Whole(shape) => go_on(knots, shape, to, point),
         Pieces::Split {
             first,
             middle,
             second,
         } => {
-            go_on(knots, &first, &middle, &first);
-            go_on(knots, &second, &to, &point);
+            go_on(knots, first, middle, first);
+            go_on(knots, second, to, point);
         }
     }
 }
 
 /// Goes on from the last knot. There is room for one more.
-fn go_on<P: Shape>(knots: &mut Vec<Knot<P>>, after: &P, at: &Frac, point: &P)
+fn go_on<P: Shape>(knots: &mut Vec<Knot<P>>, after: P, at: Frac, point: P)
     requires signal { IsSignal P.Shape knots.old.items }
     requires room { vec_len knots.old < vec_capacity knots.old }
     requires limited { IsWithin (2 ^ 34) (stop knots.old.items) }
-    requires later { stop knots.old.items <ʳ value at.now }
-    ensures on { GoesOn P.Shape knots.old.items after.now at.now point.now knots.new.items }
+    requires later { stop knots.old.items <ʳ value at }
+    ensures on { GoesOn P.Shape knots.old.items after at point knots.new.items }
     ensures one_more { vec_len knots.new ≤ vec_len knots.old + 1 }
     ensures room { vec_capacity knots.new ≡ vec_capacity knots.old }
 {
+    let end = Knot {
+        time: at,
+        point,
+        after: point,
+    };
     let last = knots.len() - 1;
     if last == 0 {
-        append(knots, after, at, point);
+        append(knots, after, end);
         return;
     }
-    let spare = can_be_left_out(&knots[last - 1].after, &knots[last], after);
+    let spare = can_be_left_out(&knots[last - 1].after, &knots[last], &after);
     if spare {
-        knots[last] = Knot {
-            time: *at,
-            point: *point,
-            after: *point,
-        };
+        knots[last] = end;
         return;
     }
-    append(knots, after, at, point);
+    append(knots, after, end);
 }
 
 /// Whether the shape before the knot, the knot's point and the shape after it are of one function.
@@ -258,23 +259,17 @@ fn can_be_left_out<P: Shape>(before: &P, knot: &Knot<P>, after: &P) -> bool
     P::same(before, after) && P::cmp_at(before, &knot.point, &knot.time).is_eq()
 }
 
-/// Puts the shape after the last knot, and a new end behind it. There is room for it.
-fn append<P: Shape>(knots: &mut Vec<Knot<P>>, after: &P, at: &Frac, point: &P)
+/// Puts the shape after the last knot, and the new end behind it. There is room for it.
+fn append<P: Shape>(knots: &mut Vec<Knot<P>>, after: P, end: Knot<P>)
     requires some { 0 < length knots.old.items }
     requires room { vec_len knots.old < vec_capacity knots.old }
     ensures put { (front : List (Knot P)) (last : Knot P)
         → knots.old.items ≡ front ++ last ∷ []
-        → knots.new.items ≡ front ++ record { time = last.time; point = last.point; after = after.now }
-        ∷ record { time = at.now; point = point.now; after = point.now } ∷ [] }
+        → knots.new.items ≡ front ++ record { time = last.time; point = last.point; after = after } ∷ end ∷ [] }
     ensures one_more { vec_len knots.new ≡ vec_len knots.old + 1 }
     ensures room { vec_capacity knots.new ≡ vec_capacity knots.old }
 {
     let last = knots.len() - 1;
-    let end = Knot {
-        time: *at,
-        point: *point,
-        after: *point,
-    };
     knots.push_reserved(end);
-    knots[last].after = *after;
+    knots[last].after = after;
 }

@@ -10,7 +10,7 @@ pub mod Spellings
 pub mod Lines
 pub mod Advances
 mod EntryRoom
-mod KeptTexts
+mod Turns
 pub mod Growths
 pub mod ItemTexts
 pub mod JoinedLines

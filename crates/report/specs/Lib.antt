@@ -5,6 +5,7 @@ pub mod Units
 pub mod Appended
 pub mod Before
 pub mod Numbers
+pub mod Times
 pub mod SignalVerdicts
 pub mod Spelling
 pub mod VerdictForms

@@ -46,7 +46,7 @@ fn put_number(buf: &mut [u8], end: usize, n: u128) -> usize
 
 /// Puts the digits of a number of 64 bits.
 #[inline(always)]
-pub(crate) fn put_small(buf: &mut [u8], end: usize, n: u64) -> usize
+fn put_small(buf: &mut [u8], end: usize, n: u64) -> usize
     requires room { 40 ≤ end }
     requires inside { end ≤ length buf.old }
     ensures { IsPut (decimal n) 40 buf.old end buf.new result }

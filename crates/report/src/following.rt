@@ -3,10 +3,11 @@ ghost use Rattle.std.specs.Prelude.{◌≡◌, ◌≤◌, ◌++◌, ◌∷◌, [
 ghost use Rattle.stl_syntax.specs.Texts.{bool_text, newline};
 ghost use Rattle.report.specs.Appended.{Grew, GrewInPart};
 ghost use Rattle.report.specs.Before.{IsPut, Puts};
+ghost use Rattle.report.specs.Times.{IsBegun};
 ghost use Rattle.report.specs.VerdictForms.{entry_begin, entry_end, json_end, IsEntry};
 
-use crate::before::{put_byte, put_word};
-use crate::last::{LastTime, put_time_before};
+use crate::before::{put_byte, put_lowest, put_word};
+use crate::number::{Lowest, in_units};
 use frac128::Memory;
 use stl_syntax::{Scale, Text, Verdict};
 
@@ -110,39 +111,48 @@ fn put_ending(buf: &mut [u8], end: usize, json: bool, v: &Verdict, last: bool) -
     }
 }
 
-/// Puts a verdict at the end of the buffer, and answers where it begins. `last` has the time that was written last, and then that
-/// where the verdict ends.
-fn put_entry(buf: &mut [u8], last: &mut LastTime, v: &Verdict, style: Style, closes: bool) -> usize
-    requires digits { style.scale.time ≤ 6 }
+/// Puts a verdict at the end of the buffer, with the times `from` and `to`, and answers where it begins.
+fn put_entry(
+    buf: &mut [u8],
+    v: &Verdict,
+    style: Style,
+    last: bool,
+    from: &Lowest,
+    to: &Lowest,
+) -> usize
     requires room { 256 ≤ length buf.old }
-    ensures { Puts (IsEntry style.json closes style.scale v.now) 256 buf.old (length buf.old) buf.new result }
+    requires from { IsBegun style.scale.time v.now.on.from from.now }
+    requires to { IsBegun style.scale.time v.now.on.to to.now }
+    ensures { Puts (IsEntry style.json last style.scale v.now) 256 buf.old (length buf.old) buf.new result }
 {
-    let digits = style.scale.time;
     let end = buf.len();
-    let after = put_ending(buf, end, style.json, v, closes);
-    let second = put_time_before(buf, after, &v.on.to, digits);
-    let comma = put_byte(buf, second, b',');
-    let first = last.put(buf, comma, &v.on.from, digits);
-    last.keep(buf, second, after, &v.on.to, digits);
+    let after = put_ending(buf, end, style.json, v, last);
+    let second = put_lowest(buf, after, to);
+    let comma = put_word(buf, second, b",");
+    let first = put_lowest(buf, comma, from);
     put_beginning(buf, first, style.json, v)
 }
 
-/// Appends a verdict, which closes its list or not. `last` has the time that was written last. What the buffer has does not matter:
-/// it lends its room.
+/// Appends a verdict, the last of its list or not. `begin` has the time where it begins, and then has that where it ends. What the
+/// buffer has does not matter: it lends its room.
 pub(crate) fn put_next(
     text: &mut Text,
     buf: &mut [u8],
-    last: &mut LastTime,
+    begin: &mut Lowest,
     v: &Verdict,
     style: Style,
-    closes: bool,
+    last: bool,
 ) -> Result<(), Memory>
     requires digits { style.scale.time ≤ 6 }
     requires room { 256 ≤ length buf.old }
-    ensures ok { OnOk result (Grew (IsEntry style.json closes style.scale v.now) text.old text.new) }
+    requires begun { IsBegun style.scale.time v.now.on.from begin.old }
+    ensures ok { OnOk result (Grew (IsEntry style.json last style.scale v.now) text.old text.new) }
+    ensures ends { IsBegun style.scale.time v.now.on.to begin.new }
     ensures room { length buf.new ≡ length buf.old }
-    ensures err { OnErr result (GrewInPart (IsEntry style.json closes style.scale v.now) text.old text.new) }
+    ensures err { OnErr result (GrewInPart (IsEntry style.json last style.scale v.now) text.old text.new) }
 {
-    let at = put_entry(buf, last, v, style, closes);
+    let to = in_units(&v.on.to, style.scale.time);
+    let at = put_entry(buf, v, style, last, begin, &to);
+    *begin = to;
     text.push(&buf[at..])
 }

@@ -1,35 +1,38 @@
 //! The verdicts of a signal, in lines or in JSON.
-ghost use Rattle.std.specs.Prelude.{◌≡◌, ◌≤◌, false, length, OnOk, OnErr};
+ghost use Rattle.std.specs.Prelude.{◌≡◌, ◌≤◌, false, length, IfSome, MatchOption, OnOk, OnErr};
 ghost use Rattle.value_laws.specs.Kinds.{truth_shape};
 ghost use Rattle.report.specs.Appended.{Grew, GrewInPart, AreEach};
 ghost use Rattle.report.specs.SignalVerdicts.{AreSignalLines};
 ghost use Rattle.report.specs.Spelling.{listed};
 ghost use Rattle.report.specs.VerdictForms.{IsEntry, AreEntries};
+ghost use Rattle.report.specs.Times.{IsBegun};
 
 use crate::following::{Style, put_next};
-use crate::last::LastTime;
+use crate::number::{Lowest, in_units};
 use crate::spelling::OpenSpan;
 use frac128::Memory;
 use pl_signal::Signal;
 use stl_syntax::{Scale, Text, Verdict};
 use value_laws::{Shape, Truth};
 
-/// Appends a verdict that another follows, where there is one; `buf` and `last` as in `put_next`.
+/// Appends a verdict that another follows, where there is one; `begin` and `end` as in `put_next`.
 fn put_ended(
     text: &mut Text,
     buf: &mut [u8],
-    last: &mut LastTime,
+    begin: &mut Lowest,
     ended: Option<Verdict>,
     style: Style,
 ) -> Result<(), Memory>
     requires digits { style.scale.time ≤ 6 }
     requires room { 256 ≤ length buf.old }
+    requires begun { IfSome ended (λ v. IsBegun style.scale.time v.on.from begin.old) }
     ensures ok { OnOk result (Grew (AreEach (IsEntry style.json false style.scale) (listed ended)) text.old text.new) }
+    ensures ends { MatchOption ended (begin.new ≡ begin.old) (λ v. IsBegun style.scale.time v.on.to begin.new) }
     ensures room { length buf.new ≡ length buf.old }
     ensures err { OnErr result (GrewInPart (AreEach (IsEntry style.json false style.scale) (listed ended)) text.old text.new) }
 {
     match ended {
-        Some(v) => put_next(text, buf, last, &v, style, false),
+        Some(v) => put_next(text, buf, begin, &v, style, false),
         None => Ok(()),
     }
 }
@@ -43,15 +46,15 @@ pub(crate) fn put_spans(text: &mut Text, s: &Signal<Truth>, style: Style) -> Res
     let knots = s.len();
     let first = s.knot(0);
     let mut span = OpenSpan::start(&first);
-    let mut last = LastTime::new();
+    let mut begin = in_units(&first.time, style.scale.time);
     let mut buf = [0u8; 256];
     for i in 1..knots {
         let (by_gap, by_point) = span.advance(&s.knot(i - 1), &s.knot(i));
-        put_ended(text, &mut buf, &mut last, by_gap, style)?;
-        put_ended(text, &mut buf, &mut last, by_point, style)?;
+        put_ended(text, &mut buf, &mut begin, by_gap, style)?;
+        put_ended(text, &mut buf, &mut begin, by_point, style)?;
     }
-    let end = span.close(s.stop(), true);
-    put_next(text, &mut buf, &mut last, &end, style, true)
+    let last = span.close(s.stop(), true);
+    put_next(text, &mut buf, &mut begin, &last, style, true)
 }
 
 /// Appends the verdict lines of a signal: the longest spans of one truth, in order, with times in units of the scale.

@@ -1,10 +1,8 @@
 //! The lines of verdicts and of the truth at the start.
 ghost use Rattle.std.specs.Prelude.{◌≡◌, ◌≤◌, ◌++◌, if◌then◌else◌, codes, OnOk, OnErr};
-ghost use Rattle.stl_syntax.specs.Texts.{IsSpanText, IsVerdictLine, start_line};
+ghost use Rattle.stl_syntax.specs.Texts.{IsSpanText, IsVerdictLine, bool_text, newline, start_line};
 ghost use Rattle.report.specs.Appended.{Grew, GrewInPart};
 
-use crate::following::{Style, put_next};
-use crate::last::LastTime;
 use crate::number::{in_units, put_fraction};
 use frac128::{Memory, Span};
 use stl_syntax::{Scale, Text, Verdict};
@@ -21,6 +19,13 @@ fn closing(inside: bool) -> &'static [u8]
     ensures { result.now ≡ (if inside then codes "]" else codes ")") }
 {
     if inside { b"]" } else { b")" }
+}
+
+/// The end of a verdict's line.
+fn verdict_end(holds: bool) -> &'static [u8]
+    ensures { result.now ≡ codes " " ++ bool_text holds ++ newline }
+{
+    if holds { b" true\n" } else { b" false\n" }
 }
 
 /// The text of a span.
@@ -47,28 +52,8 @@ pub fn put_verdict(text: &mut Text, v: &Verdict, scale: Scale) -> Result<(), Mem
     ensures ok { OnOk result (Grew (IsVerdictLine scale v.now) text.old text.new) }
     ensures err { OnErr result (GrewInPart (IsVerdictLine scale v.now) text.old text.new) }
 {
-    let mut last = LastTime::new();
-    put_verdict_after(text, &mut last, v, scale)
-}
-
-/// Appends the line of a verdict, as `put_verdict`. `last` has the time that was written last, so that a line that begins there takes
-/// its text over.
-///
-/// # Errors
-/// As `put_verdict`.
-pub fn put_verdict_after(
-    text: &mut Text,
-    last: &mut LastTime,
-    v: &Verdict,
-    scale: Scale,
-) -> Result<(), Memory>
-    requires { scale.time ≤ 6 }
-    ensures ok { OnOk result (Grew (IsVerdictLine scale v.now) text.old text.new) }
-    ensures err { OnErr result (GrewInPart (IsVerdictLine scale v.now) text.old text.new) }
-{
-    let mut buf = [0u8; 256];
-    let style = Style { json: false, scale };
-    put_next(text, &mut buf, last, v, style, false)
+    put_span(text, &v.on, scale)?;
+    text.push(verdict_end(v.holds))
 }
 
 /// Appends the line of the truth at the start.

@@ -91,16 +91,6 @@ impl Row {
         &self.values[..self.columns]
     }
 
-    /// Takes over the time and the values of another row.
-    pub fn take_over(&mut self, other: &Row)
-        ensures { self.new ≡ other.now }
-    {
-        let columns = other.columns;
-        self.time = other.time;
-        self.columns = columns;
-        self.values[..columns].copy_from_slice(&other.values[..columns]);
-    }
-
     /// The same row once more.
     ///
     /// # Errors

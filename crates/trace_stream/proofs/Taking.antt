@@ -1,6 +1,6 @@
 -- What is taken of the root's verdicts after a pass of a stream, one take after the other.
 use Rattle.std.proofs.Common.{◌≡◌, inl, inr, ℕ, zero, suc, ◌+◌, ◌-◌, ◌<◌, ◌≤◌, Bool, true, false, List, [], ◌∷◌, ◌++◌, length, take, drop, refl, sym, ap, ◌∙◌, subst, arith, append-nil, append_assoc, length-drop, Some, None}
-use Rattle.std.specs.Prelude.{◌↔◌, if◌then◌else◌, IsTrue, cond, slice_get, slice_index_or}
+use Rattle.std.specs.Prelude.{◌↔◌, IsTrue, cond, slice_get, slice_index_or}
 use Rattle.std.proofs.lemmas.Bool.{false≢true}
 use Rattle.std.proofs.lemmas.List.{take_more, drop-take, drop-append-le, length-take-le}
 use Rattle.std.proofs.lemmas.Option.{slice_get_within, slice_get_cases, get_or_from_slice_get}
@@ -47,14 +47,6 @@ take_behind xs k n x h =
 -- where nothing stands the list has ended
 past_end : {X : Type 0} (xs : List X) (i : ℕ) → slice_get xs i ≡ None → length xs ≤ i
 past_end xs i e = elim (slice_get_cases xs i).1 [ inl s ↦ absurd (let h : Some s.0 ≡ None = sym s.2 ∙ e in cc) | inr n ↦ n.0 ]
-
--- ---- steps
-
--- a formula that is an atom alone has no steps
-pub no_steps : (nodes : List Node) → length nodes ≤ 1 → node_is_atom nodes (length nodes - 1) ≡ true → steps_of 0 nodes ≡ []
-no_steps [] few e = refl
-no_steps (n ∷ []) few e = ap (λ b. if b then [] else step 0 ∷ []) e
-no_steps (n ∷ m ∷ nodes) few e = absurd (omega (arith, few))
 
 -- ---- verdicts
 

@@ -2,7 +2,6 @@
 use Rattle.std.proofs.Common.{◌≡◌, ◌⊎◌, inl, inr, ℕ, ◌<◌, Bool, true, false, List, [], ◌∷◌, ◌++◌, length, refl, sym, ap, ◌∙◌, subst, arith, append_assoc, Some, None}
 use Rattle.std.specs.Prelude.{◌≢◌, IfSome, MatchBool}
 use Rattle.std.proofs.Math.Seq.{take-append_seam}
-use Rattle.frac128.specs.declared.frac.Frac.{Frac}
 use Rattle.stl_syntax.specs.Formula.{Formula, root}
 use Rattle.stl_syntax.specs.Scaling.{scaled}
 use Rattle.stl_syntax.specs.declared.items.Verdict.{Verdict}
@@ -116,11 +115,11 @@ module _ (v : Verdicts) (c : Case) (w : IsWatched false v c) where
 
   -- after a row
   pub row_followed : (f : Formula) (made : List ℕ) (r : Row) (x : Passing c.formula.nodes c.trace.header w.events (came r) w.emitted)
-      (after : Network) (written : Frac) (old new : List ℕ) → IsCase f c → StreamText verdicts (root c.formula.nodes) c.trace.header c.trace.rows false made
+      (after : Network) (old new : List ℕ) → IsCase f c → StreamText verdicts (root c.formula.nodes) c.trace.header c.trace.rows false made
       → Takes r c.trace → after.formula ≡ v.network.formula
       → HasTakenAll (pass_before c.formula.nodes c.trace.header w.events (came r) x.first x.beyond) after old new
-      → IsFollowedOn (λ case text. IsWatched false (record v { network = after; last = written }) case) verdicts (with_row r c) old new made
-  row_followed f made r x after written old new is told may same h =
+      → IsFollowedOn (λ case text. IsWatched false (record v { network = after }) case) verdicts (with_row r c) old new made
+  row_followed f made r x after old new is told may same h =
       let p = passed_of c.formula.nodes c.trace.header w.events (came r) w.emitted x after old new h in
       let driven : IsDriven c.formula.nodes c.trace.header (c.trace.rows ++ r ∷ []) false (w.events ++ pass_of (came r) c.formula.nodes p.made) =
       by_row c.formula.nodes c.trace.header r p.made w.driven p.emptied in
@@ -175,10 +174,10 @@ module _ (v : Verdicts) (c : Case) (w : IsWatched false v c) where
 
   -- after the end, once the line of the start was put
   pub end_followed : (f : Formula) (made : List ℕ) (x : Passing c.formula.nodes c.trace.header w.events close w.emitted)
-      (after : Network) (written : Frac) (old mid new : List ℕ) (holds : Bool) → StreamText verdicts (root c.formula.nodes) c.trace.header c.trace.rows false made
+      (after : Network) (old mid new : List ℕ) (holds : Bool) → StreamText verdicts (root c.formula.nodes) c.trace.header c.trace.rows false made
       → IsCase f c → IsTrace c.trace → after.formula ≡ v.network.formula → IsOut x after old mid → after.start ≡ Some holds → new ≡ mid ++ start_line holds
-      → IsFollowedOut (λ case text. IsWatched true (record v { network = after; last = written }) case) verdicts c old new made holds
-  end_followed f made x after written old mid new holds told is t same o kept line =
+      → IsFollowedOut (λ case text. IsWatched true (record v { network = after }) case) verdicts c old new made holds
+  end_followed f made x after old mid new holds told is t same o kept line =
       let p = o.passed in
       let any : c.trace.rows ≢ [] = some_row (length c.trace.header.columns) c.trace.rows t.rows in
       let (grown, lines, longer) = p.lines in

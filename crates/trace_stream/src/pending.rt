@@ -7,7 +7,7 @@ ghost use Rattle.trace_stream.specs.Pendings.{just_after, GoesBeyond, IsNextUpTo
 
 use frac128::{Frac, Memory, Span};
 use online_nodes::Cut;
-use report::{LastTime, put_verdict_after};
+use report::put_verdict;
 use std::alloc::Global;
 use std::collections::VecDeque;
 use std::marker::Model;
@@ -140,21 +140,15 @@ impl Pending {
     ///
     /// # Errors
     /// Want of memory.
-    pub fn put_up_to(
-        &mut self,
-        front: u32,
-        scale: Scale,
-        last: &mut LastTime,
-        text: &mut Text,
-    ) -> Result<(), Memory>
+    pub fn put_up_to(&mut self, front: u32, scale: Scale, text: &mut Text) -> Result<(), Memory>
         requires { scale.time ≤ 6 }
         ensures { IfOk result (λ _. Grew (λ grown. IsTextUpTo scale front self.old grown self.new) text.old text.new) }
     {
         while let Some(verdict) = self.next(front) {
-            put_verdict_after(text, last, &verdict, scale)?;
+            put_verdict(text, &verdict, scale)?;
         }
         match self.cut(front) {
-            Some(part) => put_verdict_after(text, last, &part, scale),
+            Some(part) => put_verdict(text, &part, scale),
             None => Ok(()),
         }
     }

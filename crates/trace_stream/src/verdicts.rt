@@ -18,7 +18,7 @@ use crate::follow::{Follow, FollowFault};
 use crate::pending::Pending;
 use frac128::Memory;
 use online_net::Net;
-use report::{LastTime, put_start, put_verdict_after};
+use report::{put_start, put_verdict};
 use std::alloc::Global;
 use stl_syntax::{Formula, Node, Text, Verdict};
 use trace_reader::Row;
@@ -42,8 +42,6 @@ pub struct Verdicts {
     horizon: u64,
     times: Vec<u32>,
     pending: Pending,
-    /// The time that was written last.
-    last: LastTime,
 }
 
 /// Whether the root of a formula is an atom.
@@ -58,8 +56,7 @@ impl Network {
     ///
     /// # Errors
     /// Want of memory.
-    #[inline(never)]
-    fn step_each(&mut self) -> Result<(), Memory>
+    fn step_all(&mut self) -> Result<(), Memory>
         requires { length self.old.net.operators ≡ length self.old.formula.nodes }
         ensures stands { (header : Header) (events : List Event) → Stands self.old.formula.nodes header self.old.net events
             → IfOk result (λ _. Stands self.old.formula.nodes header self.new.net (events ++ steps_of 0 self.old.formula.nodes)) }
@@ -72,27 +69,6 @@ impl Network {
             };
         }
         Ok(())
-    }
-
-    /// A step of every node, which for a formula that is an atom alone is none.
-    ///
-    /// # Errors
-    /// Want of memory.
-    #[inline(always)]
-    fn step_all(&mut self) -> Result<(), Memory>
-        requires { length self.old.net.operators ≡ length self.old.formula.nodes }
-        ensures stands { (header : Header) (events : List Event) → Stands self.old.formula.nodes header self.old.net events
-            → IfOk result (λ _. Stands self.old.formula.nodes header self.new.net (events ++ steps_of 0 self.old.formula.nodes)) }
-        ensures formula { self.new.formula ≡ self.old.formula }
-        ensures start { self.new.start ≡ self.old.start }
-    {
-        if self.formula.len() > 1 {
-            return self.step_each();
-        }
-        if is_atom(&self.formula) {
-            return Ok(());
-        }
-        self.step_each()
     }
 
     /// Keeps the truth of the first verdict.
@@ -110,14 +86,14 @@ impl Network {
     ///
     /// # Errors
     /// Want of memory.
-    fn put(&mut self, verdict: &Verdict, last: &mut LastTime, text: &mut Text) -> Result<(), Memory>
+    fn put(&mut self, verdict: &Verdict, text: &mut Text) -> Result<(), Memory>
         ensures line { IfOk result (λ _. Grew (IsVerdictLine self.old.formula.scale verdict.now) text.old text.new) }
         ensures start { self.new.start ≡ kept_truth self.old.start verdict.now.holds }
         ensures net { self.new.net ≡ self.old.net }
         ensures formula { self.new.formula ≡ self.old.formula }
     {
         self.keep(verdict.holds);
-        put_verdict_after(text, last, verdict, self.formula.scale())
+        put_verdict(text, verdict, self.formula.scale())
     }
 
     /// Takes what the root gave out until nothing is left, and keeps it for its lines.
@@ -140,13 +116,13 @@ impl Network {
     ///
     /// # Errors
     /// Want of memory.
-    fn take_all(&mut self, last: &mut LastTime, text: &mut Text) -> Result<(), Memory>
+    fn take_all(&mut self, text: &mut Text) -> Result<(), Memory>
         requires { (p : Pass) × CanTake p self.old }
         ensures taken { (p : Pass) → CanTake p self.old → IfOk result (λ _. HasTakenAll p self.new text.old text.new) }
         ensures formula { self.new.formula ≡ self.old.formula }
     {
         while let Some(verdict) = self.net.take() {
-            self.put(&verdict, last, text)?;
+            self.put(&verdict, text)?;
         }
         Ok(())
     }
@@ -167,7 +143,7 @@ impl Verdicts {
         };
         if is_atom(&self.network.formula) {
             self.network.step_all()?;
-            return self.network.take_all(&mut self.last, text);
+            return self.network.take_all(text);
         }
         match self.times.push(row.time()) {
             Ok(()) => Ok(()),
@@ -188,7 +164,7 @@ impl Verdicts {
             return Err(Memory);
         };
         self.network.step_all()?;
-        self.network.take_all(&mut self.last, text)?;
+        self.network.take_all(text)?;
         let Some(holds) = self.network.start else {
             unreachable!()
         };
@@ -212,8 +188,8 @@ impl Verdicts {
             return Ok(());
         }
         let front = (time - self.horizon) as u32;
-        let scale = self.network.formula.scale();
-        self.pending.put_up_to(front, scale, &mut self.last, text)
+        self.pending
+            .put_up_to(front, self.network.formula.scale(), text)
     }
 
     /// Adds the lines of what was given out, cut where the answer of each row ends.
@@ -260,7 +236,6 @@ impl Follow for Verdicts {
             horizon,
             times: Vec::new(alloc),
             pending: Pending::new(alloc),
-            last: LastTime::new(),
         })
     }
 

@@ -1,7 +1,8 @@
 -- The answer of a case: the times of its trace, the signals of its atoms, and what the root's signal tells of the formula.
-use Rattle.std.proofs.Common.{◌≡◌, ℕ, zero, suc, pos, ◌+◌, ◌-◌, ◌<◌, ap, Bool, true, false, List, [], ◌∷◌, ◌++◌, length, Some, refl, sym, ◌∙◌, subst, arith, length-append, inl}
+use Rattle.std.proofs.Common.{◌≡◌, ℕ, zero, suc, ◌+◌, ◌-◌, ◌<◌, Bool, true, false, List, [], ◌∷◌, ◌++◌, length, Some, refl, sym, ◌∙◌, subst, arith, length-append, inl}
 use Rattle.std.specs.Prelude.{slice_get, slice_index_or, MatchBool}
-use Rattle.rational.specs.Time.{Rational, closed, whole, ◌≈◌}
+use Rattle.std.proofs.lemmas.List.Elements.{All-push}
+use Rattle.rational.specs.Time.{Rational, closed, ◌≈◌}
 use Rattle.rational.specs.Extended.{value_at, ◌≈ᵉ◌}
 use Rattle.rational.specs.Affine.{level}
 use Rattle.rational.proofs.Order.{same_sym}
@@ -16,26 +17,26 @@ use Rattle.pl_signal.proofs.Values.{some_is}
 use Rattle.value_laws.specs.declared.truth.Truth.{Truth}
 use Rattle.value_laws.specs.Values.{truth_value}
 use Rattle.stl_syntax.specs.Trace.{Row, Trace, IsTrace, first_time, last_time, start, stop}
-use Rattle.stl_syntax.specs.Formula.{Formula, atom, root, subformula}
+use Rattle.stl_syntax.specs.Formula.{Formula, root}
 use Rattle.stl_syntax.specs.Truth.{Truth as Holds}
 use Rattle.stl_syntax.specs.SupInf.{Reading, SupInf, HasValues, HasInfs, one, minus_one, truth_setting}
 use Rattle.stl_syntax.specs.Texts.{start_line, AreVerdictLines, IsStartLine}
 use Rattle.stl_syntax.specs.Verdicts.{Describes}
 use Rattle.stl_syntax.specs.declared.items.Verdict.{Verdict}
 use Rattle.stl_syntax.specs.declared.atom.Atom.{Atom}
+use Rattle.stl_syntax.specs.declared.node.Node.{Node}
 use Rattle.stl_syntax.specs.declared.node.Node.TheVariants.{Atom as Leaf}
 use Rattle.atom_lines.specs.Binding.{IsBound}
 use Rattle.atom_lines.specs.AtomSignals.{IsAtomSignal}
-use Rattle.offline_eval.specs.Inputs.{IsInput, IsOver}
-use Rattle.offline_eval.specs.Keeping.{IsStack}
-use Rattle.offline_eval.specs.Making.{TellsValue}
+use Rattle.offline_eval.specs.Inputs.{is_atom, IsInput}
 use Rattle.offline_eval.specs.Evaluation.{TellNodes}
+use Rattle.offline_eval.proofs.Places.{atoms_on_atom, atoms_on_other, told_none, told_atom, told_other}
 use Rattle.report.specs.SignalVerdicts.{sign_of}
 use Rattle.report.proofs.SignalLaw.{truth_at, signal_describes}
 use Rattle.trace_stream.specs.declared.case.Case.{Case}
 use Rattle.trace_stream.specs.Cases.{IsCase}
 use Rattle.workbench.specs.Answers.{IsJudged}
-use Rattle.workbench.specs.Judging.{setting_of, IsRootOf, IsSignalText}
+use Rattle.workbench.specs.Judging.{setting_of, AreAtomsOf, IsRootOf, IsSignalText}
 
 -- a row for places behind the last one
 pub no_row : Row
@@ -52,38 +53,28 @@ last_is time (r ∷ s ∷ rows) zero h = absurd (omega (arith, h))
 last_is time (r ∷ s ∷ rows) (suc n) h = last_is r.time (s ∷ rows) n (omega (arith, h))
 
 module _ {P : Type 0} (shape : ShapeOf P) (reading : Trace → Reading) (c : Case) where
-  -- the stack over the ends of the trace is one over the same ends
-  pub stands_over : (from to n : ℕ) (xs : List (List (Knot P))) → from ≡ first_time c.trace.rows → to ≡ last_time 0 c.trace.rows
-      → IsStack shape (first_time c.trace.rows) (last_time 0 c.trace.rows) c.formula.nodes n xs → IsStack shape from to c.formula.nodes n xs
-  stands_over from to n xs e h st = subst (λ f. IsStack shape f to c.formula.nodes n xs) (sym e)
-      (subst (λ t. IsStack shape (first_time c.trace.rows) t c.formula.nodes n xs) (sym h) st)
+  pub no_atoms : AreAtomsOf shape reading c 0 []
+  no_atoms = record { count = refl; inputs = λ k d h. absurd (omega (arith, h)); told = told_none shape c.formula.nodes (setting_of shape reading c.trace) }
 
-  -- and the other way round
-  pub stands_back : (from to n : ℕ) (xs : List (List (Knot P))) → from ≡ first_time c.trace.rows → to ≡ last_time 0 c.trace.rows
-      → IsStack shape from to c.formula.nodes n xs → IsStack shape (first_time c.trace.rows) (last_time 0 c.trace.rows) c.formula.nodes n xs
-  stands_back from to n xs e h st = subst (λ f. IsStack shape f (last_time 0 c.trace.rows) c.formula.nodes n xs) e
-      (subst (λ t. IsStack shape from t c.formula.nodes n xs) h st)
+  -- with the signal of the next atom the signals are those of one node more
+  pub atom_on : (i : ℕ) (a : Atom) (signals : List (List (Knot P))) (x : List (Knot P))
+      → slice_get c.formula.nodes i ≡ Some (Leaf a) → IsBound c.bound c.formula c.trace.header → IsTrace c.trace
+      → IsAtomSignal shape reading c.bound i c.trace x → AreAtomsOf shape reading c i signals → AreAtomsOf shape reading c (i + 1) (signals ++ x ∷ [])
+  atom_on i a signals x at bound rows is before = record {
+    count = let e = length-append signals (x ∷ []) in let f = before.count in let g = atoms_on_atom c.formula.nodes i a at in omega (arith, e, f, g);
+    inputs = All-push (IsInput shape (first_time c.trace.rows) (last_time 0 c.trace.rows)) signals x before.inputs (record { begins = is.begins; ends = is.ends; bases = is.bases; limited = is.limited });
+    told = told_atom shape c.formula.nodes (setting_of shape reading c.trace) i a signals x at before.count before.told
+        (is.tells a (record { formula = c.formula; bound = bound; node = at; rows = rows }));
+  }
 
-  -- the trace is read over its own ends
-  pub over_ends : IsOver shape.lowest shape.highest (first_time c.trace.rows) (last_time 0 c.trace.rows) (setting_of shape reading c.trace)
-  over_ends = record { lowest = refl; highest = refl; from = refl; to = refl }
-
-  -- so it is over equal ones
-  pub over_same : (from to : ℕ) → from ≡ first_time c.trace.rows → to ≡ last_time 0 c.trace.rows
-      → IsOver shape.lowest shape.highest from to (setting_of shape reading c.trace)
-  over_same from to e h = record { lowest = refl; highest = refl; from = ap (λ n. whole (pos n)) (sym e); to = ap (λ n. whole (pos n)) (sym h) }
-
-  -- the signal of an atom tells its node
-  pub atom_tells : (i : ℕ) (a : Atom) (x : List (Knot P)) → slice_get c.formula.nodes i ≡ Some (Leaf a) → subformula c.formula.nodes i ≡ atom i a
-      → IsBound c.bound c.formula c.trace.header → IsTrace c.trace → IsAtomSignal shape reading c.bound i c.trace x
-      → TellsValue shape (setting_of shape reading c.trace) (subformula c.formula.nodes i) x
-  atom_tells i a x at e bound rows is = subst (λ f. TellsValue shape (setting_of shape reading c.trace) f x) (sym e)
-      (is.tells a (record { formula = c.formula; bound = bound; node = at; rows = rows }))
-
-  -- and is one that an evaluation takes
-  pub atom_input : (i : ℕ) (x : List (Knot P)) → IsAtomSignal shape reading c.bound i c.trace x
-      → IsInput shape (first_time c.trace.rows) (last_time 0 c.trace.rows) x
-  atom_input i x is = record { begins = is.begins; ends = is.ends; bases = is.bases; limited = is.limited }
+  -- a node of another kind needs none
+  pub other_on : (i : ℕ) (n : Node) (signals : List (List (Knot P))) → slice_get c.formula.nodes i ≡ Some n → is_atom n ≡ false
+      → AreAtomsOf shape reading c i signals → AreAtomsOf shape reading c (i + 1) signals
+  other_on i n signals at other before = record {
+    count = before.count ∙ sym (atoms_on_other c.formula.nodes i n at other);
+    inputs = before.inputs;
+    told = told_other shape c.formula.nodes (setting_of shape reading c.trace) i n signals at other before.told;
+  }
 
   -- the last of signals that tell the nodes is the root's
   pub root_told : (signals : List (List (Knot P))) (x : List (Knot P)) → 0 < length c.formula.nodes

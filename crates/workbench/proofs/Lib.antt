@@ -21,7 +21,6 @@ mod JsonTexts
 pub mod OwedLaws
 pub mod SureLines
 pub mod SureDecisions
-pub mod SureMargins
 pub mod OneRequest
 pub mod EndsOnce
 pub mod AtRest

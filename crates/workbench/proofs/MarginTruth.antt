@@ -35,7 +35,7 @@ close_to_itself tr (once a b a_in b_in p) = close_to_itself tr p
 close_to_itself tr (historically a b a_in b_in p) = close_to_itself tr p
 
 -- inside a piece there is one value
-pub one_inside : (k : Knot) (q : Piece) (t : Rational) (r v : Extended) → k.time <ʳ q.next.time → IsInside k q t r → IsInside k q t v → r ≈ᵉ v
+one_inside : (k : Knot) (q : Piece) (t : Rational) (r v : Extended) → k.time <ʳ q.next.time → IsInside k q t r → IsInside k q t v → r ≈ᵉ v
 one_inside k q t r v rising a b =
     let from = same_transᵉ (value_at a.through k.time) q.from (value_at b.through k.time) (same_symᵉ q.from (value_at a.through k.time) a.from) b.from in
     let to = same_transᵉ (value_at a.through q.next.time) q.to (value_at b.through q.next.time) (same_symᵉ q.to (value_at a.through q.next.time) a.to) b.to in
@@ -48,7 +48,7 @@ one_inside k q t r v rising a b =
 
 module _ (p : Subformula) (tr : Trace) where
   -- r is the robustness at t, a time of the domain
-  abbrev pub IsValue : Rational → Extended → Type 0
+  abbrev IsValue : Rational → Extended → Type 0
   IsValue t r = Within (start tr) (stop tr) t × ((v : Extended) × Robustness p tr t v × (r ≈ᵉ v))
 
   at_knot : (k : Knot) (t : Rational) (r : Extended) → start tr ≤ʳ k.time → k.time ≤ʳ stop tr → IsRobust p tr k → t ≈ k.time → r ≈ᵉ k.value → IsValue t r
@@ -78,7 +78,7 @@ module _ (p : Subformula) (tr : Trace) where
   reads_on j before (after ∷ pieces) above is goes t r (inr (inr at)) =
       reads_on before.next after pieces (le_trans above (le_of_lt goes.1.0)) goes.2 goes.3 t r at
 
-  pub reads : (first : Knot) (pieces : List Piece) → first.time ≈ start tr → IsRobust p tr first
+  reads : (first : Knot) (pieces : List Piece) → first.time ≈ start tr → IsRobust p tr first
       → ((pieces ≡ []) × (start tr ≈ stop tr)) ⊎ TellsAfter p tr (stop tr) first pieces → (t : Rational) (r : Extended) → ReadsFrom first pieces t r → IsValue t r
   reads first [] e is (inl (none, same)) t r at = at_knot first t r (ge_of_same e) (le_of_same (same_trans e same)) is at.0 at.1
   reads first [] e is (inr tells) t r at = absurd tells

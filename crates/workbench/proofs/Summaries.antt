@@ -1,6 +1,5 @@
 -- The summary of a generated trace, from the verdicts of its formula and the walk over its rows.
-use Rattle.std.proofs.Common.{◌≡◌, ℕ, suc, ◌+◌, ◌<◌, ◌≤◌, Bool, true, false, List, [], ◌∷◌, ◌++◌}
-use Rattle.std.proofs.Common.{length, append-nil, Option, Some, refl, sym, ap, ◌∙◌, subst, arith}
+use Rattle.std.proofs.Common.{◌≡◌, ℕ, suc, ◌+◌, ◌<◌, ◌≤◌, Bool, true, false, List, [], ◌∷◌, ◌++◌, length, append-nil, Option, Some, refl, sym, ap, ◌∙◌, subst, arith}
 use Rattle.std.specs.Prelude.{MatchBool, codes, decimal, slice_get}
 use Rattle.rational.specs.Time.{closed}
 use Rattle.rational.proofs.Order.{same_sym}
@@ -22,7 +21,7 @@ use Rattle.workload.specs.Judged.{judged_formula}
 use Rattle.workload.specs.Counting.{line_count, HasStreamLines}
 use Rattle.trace_reader.specs.TraceText.{IsTraceText}
 use Rattle.workload.proofs.TraceBytes.{text_of_trace}
-use Rattle.workload.proofs.JudgedFormula.{judged_text}
+use Rattle.workload.proofs.JudgedFormula.{judged_text, looks_ahead}
 use Rattle.workload.proofs.LineCounts.{count_join, count_verdicts, count_start}
 use Rattle.workload.proofs.SomeLines.{lines_exist}
 use Rattle.workbench.specs.InputFaults.{whole_limits}
@@ -49,11 +48,13 @@ read_generated number rows some few all left ended c is r =
 abbrev pub judged_root : Subformula
 judged_root = root (scaled judged_formula ticks).nodes
 
+pub is_ahead : 0 < horizon judged_root
+is_ahead = let e = looks_ahead in omega (arith, e)
+
 module _ (number rows : ℕ) (some : 1 ≤ rows) (few : rows ≤ 200000) (vs : List Verdict) (n : ℕ) (holds : Bool)
     (told : Describes vs judged_root (generated number rows) (closed (start (generated number rows)) (stop (generated number rows))))
     (streamed : HasStreamLines judged_root (generated number rows) n)
-    (now : MatchBool holds (Truth judged_root (generated number rows) (start (generated number rows)))
-    (¬ Truth judged_root (generated number rows) (start (generated number rows)))) where
+    (now : MatchBool holds (Truth judged_root (generated number rows) (start (generated number rows))) (¬ Truth judged_root (generated number rows) (start (generated number rows)))) where
   abbrev tr : Trace
   tr = generated number rows
 
@@ -99,7 +100,7 @@ summary_text rows checked streamed holds =
 -- a count of the lines of a stream over a trace, by the verdicts of the whole trace and how far the formula looks ahead
 abbrev pub IsCount : List Verdict → Trace → ℕ → ℕ → Type 0
 IsCount vs t ahead n =
-    (p : Subformula) → IsTrace t → ahead ≡ horizon p → Describes vs p t (closed (start t) (stop t)) → HasStreamLines p t n
+    (p : Subformula) → IsTrace t → 0 < horizon p → ahead ≡ horizon p → Describes vs p t (closed (start t) (stop t)) → HasStreamLines p t n
 
 -- the truth of the formula at the start of a trace
 abbrev pub IsNow : Bool → Subformula → Trace → Type 0
@@ -124,6 +125,6 @@ summed_case number rows some few c case same x is vs described ahead n far count
     (truth_at truth_shape (root c.formula.nodes) c.trace x is.values is.tells k.point.holds (start c.trace)
     (at_start x k at (start c.trace) (same_sym is.tells.begins))) in
     let counted : HasStreamLines judged_root c.trace n =
-    count judged_root (subst (λ (t : Trace). IsTrace t) (sym same) (text_of_trace number rows some few).rising) (far ∙ ap horizon roots) told in
+    count judged_root (subst (λ (t : Trace). IsTrace t) (sym same) (text_of_trace number rows some few).rising) is_ahead (far ∙ ap horizon roots) told in
     summed number rows some few vs n k.point.holds (subst (λ (t : Trace). AreAll vs judged_root t) same told)
     (subst (λ (t : Trace). HasStreamLines judged_root t n) same counted) (subst (λ (t : Trace). IsNow k.point.holds judged_root t) same now) text parts

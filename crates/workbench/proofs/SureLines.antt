@@ -84,7 +84,7 @@ last_of : (time : ℕ) (rows : List Row) (r : Row) → last_time time (rows ++ r
 last_of time [] r = refl
 last_of time (q ∷ rows) r = last_of q.time rows r
 
-pub first_stays : (rows : List Row) (r s : Row) → first_time ((rows ++ r ∷ []) ++ s ∷ []) ≡ first_time (rows ++ r ∷ [])
+first_stays : (rows : List Row) (r s : Row) → first_time ((rows ++ r ∷ []) ++ s ∷ []) ≡ first_time (rows ++ r ∷ [])
 first_stays [] r s = refl
 first_stays (q ∷ rows) r s = refl
 
@@ -96,7 +96,7 @@ some_row : (rows : List Row) (r : Row) → rows ++ r ∷ [] ≢ []
 some_row [] r e = let k = e in cc
 some_row (q ∷ rows) r e = let k = e in cc
 
-pub after_last : (width time : ℕ) (rows : List Row) (r : Row) (more : List Row) → AreRowsAfter width time (rows ++ r ∷ more) → last_time time rows < r.time
+after_last : (width time : ℕ) (rows : List Row) (r : Row) (more : List Row) → AreRowsAfter width time (rows ++ r ∷ more) → last_time time rows < r.time
 after_last width time [] r more a = a.0
 after_last width time (q ∷ rows) r more a = after_last width q.time rows r more a.2
 
@@ -107,16 +107,16 @@ later_row width (q ∷ rows) r more a some = after_last width q.time rows r more
 -- ---- fronts
 
 -- a front does not lie below the start
-abbrev pub Low : ℕ → Option ℤ → Type 0
+abbrev Low : ℕ → Option ℤ → Type 0
 Low first None = Unit {0}
 Low first (Some f) = pos first ≤ℤ f
 
 -- what is answered once a row at time s came, as a number
-pub record AnsweredBy (first : ℕ) (p : Subformula) (s : ℕ) (f : ℤ) : Type 0 where
-  pub is : f ≡ pos s -ℤ pos (horizon p)
-  pub low : pos first ≤ℤ f
+record AnsweredBy (first : ℕ) (p : Subformula) (s : ℕ) (f : ℤ) : Type 0 where
+  is : f ≡ pos s -ℤ pos (horizon p)
+  low : pos first ≤ℤ f
 
-pub answered_is : (first : ℕ) (p : Subformula) (s : ℕ) (f : ℤ) → answered_by first p s ≡ Some f → AnsweredBy first p s f
+answered_is : (first : ℕ) (p : Subformula) (s : ℕ) (f : ℤ) → answered_by first p s ≡ Some f → AnsweredBy first p s f
 answered_is first p s f e = by_test (int_lt (pos s -ℤ pos (horizon p)) (pos first)) refl e
   where
     by_test : (t : Bool) → int_lt (pos s -ℤ pos (horizon p)) (pos first) ≡ t → cond t None (Some (pos s -ℤ pos (horizon p))) ≡ Some f → AnsweredBy first p s f
@@ -132,29 +132,30 @@ answered_none first p s e = by_test (int_lt (pos s -ℤ pos (horizon p)) (pos fi
     by_test true x y = int_order (pos s -ℤ pos (horizon p)) (pos first) true x
     by_test false x y = absurd (none_is_none (pos s -ℤ pos (horizon p)) (sym y))
 
-pub low_front : (first : ℕ) (p : Subformula) (s : ℕ) (o : Option ℤ) → answered_by first p s ≡ o → Low first o
+low_front : (first : ℕ) (p : Subformula) (s : ℕ) (o : Option ℤ) → answered_by first p s ≡ o → Low first o
 low_front first p s None e = tt
 low_front first p s (Some f) e = (answered_is first p s f e).low
 
 -- ---- the lines of a row
 
--- up to f and the horizon after it the last row has come
-pub row_answered : (p : Subformula) (rows : List Row) (r : Row) (f : ℤ) → AnsweredBy (first_time (rows ++ r ∷ [])) p r.time f → (t : Rational) → t ≤ʳ whole f
-    → later t (horizon p) ≤ʳ whole (pos (last_time 0 (rows ++ r ∷ [])))
-row_answered p rows r f a t to = le_trans (later_le (horizon p) to) (reach (last_time 0 (rows ++ r ∷ [])) (last_of 0 rows r))
+-- rows that answer up to f settle the truth from the start up to there
+row_agrees : (p : Subformula) (header : Header) (rows : List Row) (r : Row) (tr : Trace) (f : ℤ) → IsTrace tr → Continues tr header (rows ++ r ∷ []) false
+    → AnsweredBy (first_time (rows ++ r ∷ [])) p r.time f → (t : Rational) → whole (pos (first_time (rows ++ r ∷ []))) ≤ʳ t → t ≤ʳ whole f
+    → Agree p (record { header = header; rows = rows ++ r ∷ [] }) tr t
+row_agrees p header rows r tr f is c a t from to = by_rows rows c from (last_of 0 rows r)
   where
     reach : (last : ℕ) → last ≡ r.time → later (whole f) (horizon p) ≤ʳ whole (pos last)
     reach last e =
         let g : (f +ℤ pos (horizon p)) ≤ℤ pos last = let x = a.is in let y : pos last ≡ pos r.time = ap pos e in omega (arith, ints) in
         record { le = omega (arith, parts) }
 
--- rows that answer up to f settle the truth from the start up to there
-row_agrees : (p : Subformula) (header : Header) (rows : List Row) (r : Row) (tr : Trace) (f : ℤ) → IsTrace tr → Continues tr header (rows ++ r ∷ []) false
-    → AnsweredBy (first_time (rows ++ r ∷ [])) p r.time f → (t : Rational) → whole (pos (first_time (rows ++ r ∷ []))) ≤ʳ t → t ≤ʳ whole f
-    → Agree p (record { header = header; rows = rows ++ r ∷ [] }) tr t
-row_agrees p header [] r tr f is c a t from to = let ans = answers_stay p header r [] tr false t is c (from, row_answered p [] r f a t to) in (ans.0, ans.1)
-row_agrees p header (q ∷ qs) r tr f is c a t from to =
-    let ans = answers_stay p header q (qs ++ r ∷ []) tr false t is c (from, row_answered p (q ∷ qs) r f a t to) in (ans.0, ans.1)
+    by_rows : (rows : List Row) → Continues tr header (rows ++ r ∷ []) false → whole (pos (first_time (rows ++ r ∷ []))) ≤ʳ t → last_time 0 (rows ++ r ∷ []) ≡ r.time
+        → Agree p (record { header = header; rows = rows ++ r ∷ [] }) tr t
+    by_rows [] c from last =
+        let ans = answers_stay p header r [] tr false t is c (from, le_trans (later_le (horizon p) to) (reach r.time refl)) in (ans.0, ans.1)
+    by_rows (q ∷ qs) c from last =
+        let ans = answers_stay p header q (qs ++ r ∷ []) tr false t is c (from, le_trans (later_le (horizon p) to) (reach (last_time q.time (qs ++ r ∷ [])) last)) in
+        (ans.0, ans.1)
 
 -- up to where a front leads, and nothing where there is none yet
 abbrev Led : ℕ → Option ℤ → List Verdict → Option ℤ → Type 0
@@ -162,7 +163,7 @@ Led first old vs None = (old ≡ None) × (vs ≡ [])
 Led first old vs (Some f) = AreTiles (answered_to first old) vs (answered_to first (Some f))
 
 -- the fronts do not fall
-abbrev pub NeverBelow : Option ℤ → Option ℤ → Type 0
+abbrev NeverBelow : Option ℤ → Option ℤ → Type 0
 NeverBelow None o = Unit {0}
 NeverBelow (Some f) None = ⊥
 NeverBelow (Some f) (Some g) = f ≤ℤ g
@@ -215,7 +216,7 @@ row_sure p header rows r old text l = record {
 
 -- ---- all rows
 
-pub low_later : (rows : List Row) (r s : Row) (o : Option ℤ) → Low (first_time (rows ++ r ∷ [])) o → Low (first_time ((rows ++ r ∷ []) ++ s ∷ [])) o
+low_later : (rows : List Row) (r s : Row) (o : Option ℤ) → Low (first_time (rows ++ r ∷ [])) o → Low (first_time ((rows ++ r ∷ []) ++ s ∷ [])) o
 low_later rows r s o h = subst (λ n. Low n o) (sym (first_stays rows r s)) h
 
 -- row by row
@@ -281,20 +282,20 @@ told_append p tr [] ws h k = k
 told_append p tr (v ∷ vs) ws (h, rest) k = (h, told_append p tr vs ws rest k)
 
 -- what is answered after some rows
-abbrev pub Front : Subformula → List Row → Option ℤ
+abbrev Front : Subformula → List Row → Option ℤ
 Front p [] = None
 Front p (r ∷ rows) = answered_by r.time p (last_time r.time rows)
 
-pub front_is : (p : Subformula) (rows : List Row) (r : Row) → Front p (rows ++ r ∷ []) ≡ answered_by (first_time (rows ++ r ∷ [])) p r.time
+front_is : (p : Subformula) (rows : List Row) (r : Row) → Front p (rows ++ r ∷ []) ≡ answered_by (first_time (rows ++ r ∷ [])) p r.time
 front_is p [] r = refl
 front_is p (q ∷ rows) r = ap (λ n. answered_by q.time p n) (last_of q.time rows r)
 
-pub front_of_all : (p : Subformula) (rows : List Row) → rows ≢ [] → Front p rows ≡ answered_by (first_time rows) p (last_time 0 rows)
+front_of_all : (p : Subformula) (rows : List Row) → rows ≢ [] → Front p rows ≡ answered_by (first_time rows) p (last_time 0 rows)
 front_of_all p [] some = absurd (some refl)
 front_of_all p (r ∷ rows) some = refl
 
 -- which does not fall
-pub front_rises : (first : ℕ) (p : Subformula) (s u : ℕ) (o q : Option ℤ) → s ≤ u → answered_by first p s ≡ o → answered_by first p u ≡ q → NeverBelow o q
+front_rises : (first : ℕ) (p : Subformula) (s u : ℕ) (o q : Option ℤ) → s ≤ u → answered_by first p s ≡ o → answered_by first p u ≡ q → NeverBelow o q
 front_rises first p s u None q l a b = tt
 front_rises first p s u (Some f) None l a b =
     let x = answered_is first p s f a in

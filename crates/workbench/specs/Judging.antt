@@ -1,4 +1,4 @@
--- What judging a trace makes on the way: the signals of a formula's nodes, that of the formula, and the text that a signal of truth gives.
+-- What judging a trace makes on the way: the signals of a formula's atoms, that of the formula, and the text that a signal of truth gives.
 use Rattle.std.specs.Prelude.{◌≡◌, ℕ, Bool, List, length, All, ◌++◌}
 use Rattle.rational.specs.Time.{Rational, ◌≈◌}
 use Rattle.value_laws.specs.Members.{ShapeOf}
@@ -14,7 +14,7 @@ use Rattle.stl_syntax.specs.Formula.{root}
 use Rattle.stl_syntax.specs.SupInf.{Reading, Setting, SupInf, HasValues, HasInfs}
 use Rattle.stl_syntax.specs.Texts.{start_line}
 use Rattle.stl_syntax.specs.declared.scale.Scale.{Scale}
-use Rattle.offline_eval.specs.Keeping.{IsStack, TellsStack}
+use Rattle.offline_eval.specs.Inputs.{atoms_before, IsInput, TellAtomsBelow}
 use Rattle.offline_eval.specs.Evaluation.{IsFault}
 use Rattle.offline_eval.specs.declared.faults.EvalFault.{EvalFault}
 use Rattle.offline_eval.specs.declared.faults.EvalFault.TheVariants as E
@@ -28,10 +28,11 @@ module _ {P : Type 0} (shape : ShapeOf P) (reading : Trace → Reading) where
   abbrev pub setting_of : Trace → Setting
   setting_of tr = record { atoms = reading tr; lowest = shape.lowest; highest = shape.highest; from = trace.start tr; to = trace.stop tr }
 
-  -- the signals on the way to the root, once the first n nodes have theirs: over the trace they tell the nodes that are still to be read
-  pub record IsStackOf (c : Case) (n : ℕ) (signals : List (List (Knot P))) : Type 0 where
-    pub stands : IsStack shape (first_time c.trace.rows) (last_time 0 c.trace.rows) c.formula.nodes n signals
-    pub told : TellsStack shape c.formula.nodes (setting_of c.trace) n signals
+  -- the signals of the atoms among the first n nodes of the formula: they tell the atoms over the trace
+  pub record AreAtomsOf (c : Case) (n : ℕ) (signals : List (List (Knot P))) : Type 0 where
+    pub count : length signals ≡ atoms_before c.formula.nodes n
+    pub inputs : All (IsInput shape (first_time c.trace.rows) (last_time 0 c.trace.rows)) signals
+    pub told : TellAtomsBelow shape n c.formula.nodes signals (setting_of c.trace)
 
   -- the signal tells the formula over the trace, where the formula has a value at each time, and an Inf between each two times
   pub record IsRootOf (c : Case) (signal : List (Knot P)) : Type 0 where

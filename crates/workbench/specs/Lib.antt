@@ -25,7 +25,6 @@ pub mod Accounts
 pub mod Watches
 pub mod SureLines
 pub mod SureDecisions
-pub mod SureMargins
 pub mod Numerals
 pub mod Made
 pub mod Complete

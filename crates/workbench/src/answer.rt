@@ -13,6 +13,8 @@ use offline_eval::EvalFault;
 use pl_signal::Signal;
 use report::{put_start, put_verdicts};
 use std::alloc::Global;
+use std::marker::Brand;
+use std::sync::ledger::Blank;
 use stl_syntax::{Scale, Text};
 use trace_stream::Case;
 use value_laws::{Shape, Truth};
@@ -30,7 +32,7 @@ pub(crate) fn truth_of(alloc: Global, case: &Case) -> Result<Signal<Truth>, Memo
     requires some { 0 < length case.now.trace.rows }
     ensures { IfOk result (IsRootOf ⟦<Truth as Shape>⟧ truths case.now) }
 {
-    match root_of::<Truth>(alloc, case) {
+    match root_of::<Truth, Brand>(alloc, case, Blank::new(1)) {
         Ok(signal) => Ok(signal),
         Err(EvalFault::Memory) => Err(Memory),
         Err(EvalFault::Wide(_)) => unreachable!(),

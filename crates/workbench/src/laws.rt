@@ -15,8 +15,7 @@ ghost use Rattle.workbench.specs.Complete.{IsUndisturbed, IsCompleteRun};
 
 pub use crate::bench_laws::{each_bench_hears_its_own_stream, other_benches_change_nothing};
 pub use crate::line_laws::{
-    an_early_verdict_is_the_truth, each_line_is_the_truth, each_margin_is_the_robustness,
-    the_lines_cover_the_trace, the_margins_cover_the_trace,
+    an_early_verdict_is_the_truth, each_line_is_the_truth, the_lines_cover_the_trace,
 };
 pub use crate::owing_laws::{
     one_request_is_asked_for, one_text_is_owed, the_end_is_asked_for_once, what_is_owed_only_grows,

@@ -16,6 +16,8 @@ use offline_eval::EvalFault;
 use pl_signal::{Signal, WidePair};
 use report::put_margins;
 use std::alloc::Global;
+use std::marker::Brand;
+use std::sync::ledger::Blank;
 use stl_syntax::Text;
 use trace_stream::Case;
 use value_laws::{Margin, Shape};
@@ -55,7 +57,7 @@ pub(crate) fn margins_of(alloc: Global, case: &Case) -> Result<Signal<Margin>, S
     ensures ends { IfOk result (λ s. IsWithin (2 ^ 34) (stop s)) }
     ensures none { IfErr result (λ e. (f : Parsed) → IsCase f case.now → IsUnanswered robust f case.now.trace e) }
 {
-    match root_of::<Margin>(alloc, case) {
+    match root_of::<Margin, Brand>(alloc, case, Blank::new(1)) {
         Ok(signal) => Ok(signal),
         Err(fault) => Err(fault_stop(fault)),
     }

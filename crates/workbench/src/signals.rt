@@ -1,20 +1,16 @@
-//! The signal of a formula over a trace.
-ghost use Rattle.std.specs.Prelude.{◌≡◌, ◌≤◌, ◌<◌, ◌+◌, Some, false, length, slice_get, IfOk, IfErr, OnOk};
+//! The signals of a formula's atoms over a trace, and that of the formula.
+ghost use Rattle.std.specs.Prelude.{◌≡◌, ◌≤◌, ◌<◌, ◌+◌, length, IfOk, IfErr, OnOk};
 ghost use Rattle.stl_syntax.specs.Trace.{first_time, last_time};
-ghost use Rattle.stl_syntax.specs.declared.atom.Atom.{Atom};
-ghost use Rattle.stl_syntax.specs.declared.node.Node.{Node as Nodes};
-ghost use Rattle.stl_syntax.specs.declared.node.Node.TheVariants.{Atom as Leaf};
-ghost use Rattle.atom_lines.specs.AtomSignals.{IsAtomSignal};
 ghost use Rattle.atom_lines.specs.Binding.{IsBound};
-ghost use Rattle.offline_eval.specs.Inputs.{is_atom};
-ghost use Rattle.workbench.specs.Judging.{IsFaultIn, IsRootOf, IsStackOf};
+ghost use Rattle.workbench.specs.Judging.{AreAtomsOf, IsFaultIn, IsRootOf};
 
 use atom_lines::{AtomShape, atom_signal};
-use frac128::Memory;
+use frac128::{Memory, Steps};
 use offline_eval::laws::told_have_values;
-use offline_eval::{EvalFault, Stack};
+use offline_eval::{Atoms, EvalFault, eval_root};
 use pl_signal::Signal;
 use std::alloc::Global;
+use std::sync::ledger::{Blank, Ledger};
 use stl_syntax::Node;
 use trace_reader::Trace;
 use trace_stream::Case;
@@ -36,116 +32,70 @@ fn last(trace: &Trace) -> u32
     trace.time(trace.rows() - 1)
 }
 
-/// Puts the signal of an atom, which is made, on the stack.
-fn push_atom<P: AtomShape>(
+/// Adds the signal of the node, where it is an atom.
+fn add_atom<P: AtomShape>(
+    alloc: Global,
     case: &Case,
     i: u32,
-    signal: Signal<P>,
-    stack: &mut Stack<P>,
-) -> Result<(), EvalFault<P>>
+    atoms: &mut Atoms<P>,
+) -> Result<(), Memory>
     requires bound { IsBound case.now.bound case.now.formula case.now.trace.header }
     requires some { 0 < length case.now.trace.rows }
     requires inside { i < length case.now.formula.nodes }
-    requires atom { (a : Atom) × (slice_get case.now.formula.nodes i ≡ Some (Leaf a)) }
-    requires signal { IsAtomSignal P.Shape P.reading case.now.bound i case.now.trace signal }
-    requires before { IsStackOf P.Shape P.reading case.now i stack.old }
-    ensures after { OnOk result (IsStackOf P.Shape P.reading case.now (i + 1) stack.new) }
-    ensures wide { IfErr result (IsFaultIn P.Shape P.reading case.now) }
+    requires before { AreAtomsOf P.Shape P.reading case.now i atoms.old }
+    ensures { OnOk result (AreAtomsOf P.Shape P.reading case.now (i + 1) atoms.new) }
 {
-    // For the proof alone: that the rows are a trace, and what the node stands for.
     let _ = case.trace.rows();
-    let _ = case.formula.node(i);
-    match stack.give(&case.formula, i, signal) {
-        Ok(()) => Ok(()),
-        Err(Memory) => Err(EvalFault::Memory),
-    }
-}
-
-/// Makes the signal of an atom, and puts it on the stack.
-fn put_atom<P: AtomShape>(
-    alloc: Global,
-    case: &Case,
-    i: u32,
-    stack: &mut Stack<P>,
-) -> Result<(), EvalFault<P>>
-    requires bound { IsBound case.now.bound case.now.formula case.now.trace.header }
-    requires some { 0 < length case.now.trace.rows }
-    requires inside { i < length case.now.formula.nodes }
-    requires atom { (a : Atom) × (slice_get case.now.formula.nodes i ≡ Some (Leaf a)) }
-    requires before { IsStackOf P.Shape P.reading case.now i stack.old }
-    ensures after { OnOk result (IsStackOf P.Shape P.reading case.now (i + 1) stack.new) }
-    ensures wide { IfErr result (IsFaultIn P.Shape P.reading case.now) }
-{
-    let Ok(signal) = atom_signal::<P>(alloc, &case.bound, i, &case.trace) else {
-        return Err(EvalFault::Memory);
-    };
-    push_atom(case, i, signal, stack)
-}
-
-/// Puts the signal of a node that is no atom on the stack.
-fn put_made<P: AtomShape>(
-    alloc: Global,
-    case: &Case,
-    i: u32,
-    stack: &mut Stack<P>,
-) -> Result<(), EvalFault<P>>
-    requires some { 0 < length case.now.trace.rows }
-    requires inside { i < length case.now.formula.nodes }
-    requires kind { (n : Nodes) → slice_get case.now.formula.nodes i ≡ Some n → is_atom n ≡ false }
-    requires before { IsStackOf P.Shape P.reading case.now i stack.old }
-    ensures after { OnOk result (IsStackOf P.Shape P.reading case.now (i + 1) stack.new) }
-    ensures wide { IfErr result (IsFaultIn P.Shape P.reading case.now) }
-{
-    let (from, to) = (first(&case.trace), last(&case.trace));
-    match stack.make(alloc, &case.formula, i, from, to) {
-        Ok(()) => Ok(()),
-        Err(fault) => Err(fault),
-    }
-}
-
-/// Puts the signal of the node at place `i` on the stack.
-fn put_node<P: AtomShape>(
-    alloc: Global,
-    case: &Case,
-    i: u32,
-    stack: &mut Stack<P>,
-) -> Result<(), EvalFault<P>>
-    requires bound { IsBound case.now.bound case.now.formula case.now.trace.header }
-    requires some { 0 < length case.now.trace.rows }
-    requires inside { i < length case.now.formula.nodes }
-    requires before { IsStackOf P.Shape P.reading case.now i stack.old }
-    ensures after { OnOk result (IsStackOf P.Shape P.reading case.now (i + 1) stack.new) }
-    ensures wide { IfErr result (IsFaultIn P.Shape P.reading case.now) }
-{
     match case.formula.node(i) {
-        Node::Atom(_) => put_atom(alloc, case, i, stack),
-        _ => put_made(alloc, case, i, stack),
+        Node::Atom(_) => {
+            let signal = atom_signal::<P>(alloc, &case.bound, i, &case.trace)?;
+            atoms.add(signal)
+        }
+        _ => Ok(()),
     }
 }
 
-/// The signal of the formula over the trace: its truth or its margin at every time. Each signal is made when it is first read, and
-/// only those are held that are still to be read.
+/// The signals of the formula's atoms over the trace.
+fn atoms_of<P: AtomShape>(alloc: Global, case: &Case) -> Result<Atoms<P>, Memory>
+    requires bound { IsBound case.now.bound case.now.formula case.now.trace.header }
+    requires some { 0 < length case.now.trace.rows }
+    ensures { IfOk result
+        (AreAtomsOf P.Shape P.reading case.now (length case.now.formula.nodes)) }
+{
+    let mut atoms = Atoms::new(alloc);
+    for i in 0..case.formula.len() {
+        add_atom(alloc, case, i, &mut atoms)?;
+    }
+    Ok(atoms)
+}
+
+/// The signal of the formula over the trace: its truth or its margin at every time. Of the signals of its parts only those are held
+/// that are still to be read.
 ///
 /// # Errors
 /// Want of memory, or a denominator of 2^60 or more that a node needs.
-pub(crate) fn root_of<P: AtomShape>(alloc: Global, case: &Case) -> Result<Signal<P>, EvalFault<P>>
+pub(crate) fn root_of<P: AtomShape, L: Ledger>(
+    alloc: Global,
+    case: &Case,
+    blank: Blank,
+) -> Result<Signal<P>, EvalFault<P>>
     requires bound { IsBound case.now.bound case.now.formula case.now.trace.header }
     requires some { 0 < length case.now.trace.rows }
+    requires name { blank.name ≡ L.name }
+    requires parts { blank.parts ≡ L.parts }
+    requires shares { 0 < blank.parts }
     ensures told { IfOk result (IsRootOf P.Shape P.reading case.now) }
     ensures wide { IfErr result (IsFaultIn P.Shape P.reading case.now) }
     ensures begins { IfOk result (λ _. first_time case.now.trace.rows ≤ 4294967295) }
     ensures ends { IfOk result (λ _. last_time 0 case.now.trace.rows ≤ 4294967295) }
 {
-    // For the proof alone: the ends of the trace, and that nodes that are told have values.
-    let _ = (first(&case.trace), last(&case.trace));
+    let Ok(atoms) = atoms_of::<P>(alloc, case) else {
+        return Err(EvalFault::Memory);
+    };
+    let (from, to) = (first(&case.trace), last(&case.trace));
+    // For the proof alone: the nodes stand in post-order, and nodes that are told have values.
+    let _ = case.formula.len();
     told_have_values::<P>();
-    let count = case.formula.len();
-    let mut stack = Stack::new(alloc);
-    for i in 0..count {
-        match put_node(alloc, case, i, &mut stack) {
-            Ok(()) => {}
-            Err(fault) => return Err(fault),
-        }
-    }
-    Ok(stack.root())
+    let mut steps: Steps<L> = Steps::new(blank);
+    eval_root(alloc, &case.formula, from, to, atoms, &mut steps)
 }

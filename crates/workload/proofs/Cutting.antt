@@ -83,35 +83,6 @@ module _ (p : Subformula) (tr : Trace) where
       by_room out (inl l) begins = inl (lt_of_le_of_lt (ge_of_same begins) l)
       by_room out (inr (_, inside, _)) begins = absurd (false≢true (subst IsTrue out inside))
 
-  -- the first of them ends within the trace
-  ends_within : (b : Frac) (b_in : Bool) (v : Verdict) (rest : List Verdict) → Left b b_in v rest → value v.on.to ≤ʳ stop tr
-  ends_within b b_in v [] l = le_of_same l.goes.time
-  ends_within b b_in v (w ∷ ws) l =
-      let n : Left w.on.from w.on.from_in w ws = next_left l in
-      let within : value w.on.from ≤ʳ value w.on.to = precedes_le (w.on.from_in && w.on.to_in) (value w.on.from) (value w.on.to)
-      (precedes_of_not_empty (interval_between w.on.from w.on.from_in w.on.to w.on.to_in) n.room) in
-      le_trans (ge_of_same l.goes.0.time) (le_trans within (ends_within w.on.from w.on.from_in w ws n))
-
-  -- all of them pass a front at the end of the trace
-  pub pass_all : (f : Frac) → value f ≈ stop tr
-      → (b : Frac) (b_in : Bool) (v : Verdict) (rest : List Verdict) (n : ℕ) (later : List Verdict) → Left b b_in v rest
-      → Passes f (v ∷ rest) n later → (later ≡ []) × (n ≡ suc (length rest))
-  pass_all f at b b_in v rest _ _ l (beyond after) =
-      absurd (lt_irrefl (lt_of_le_of_lt (le_trans (ends_within b b_in v rest l) (ge_of_same at)) after))
-  pass_all f at b b_in v [] _ _ l (here same inside) = (refl, refl)
-  pass_all f at b b_in v (w ∷ ws) _ _ l (here same inside) =
-      let k : Left f false w ws = left_after f same inside l in
-      let after : value f <ʳ value w.on.to = precedes_of_not_empty (interval_between f false w.on.to w.on.to_in) k.room in
-      absurd (lt_irrefl (lt_of_le_of_lt (le_trans (ends_within f false w ws k) (ge_of_same at)) after))
-  pass_all f at b b_in v [] _ _ l (next ends none) = absurd (by_end ends)
-    where
-      by_end : EndsBefore v (value f) → ⊥
-      by_end (inl e) = lt_irrefl (lt_of_le_of_lt (le_trans (le_of_same at) (ge_of_same l.goes.time)) e)
-      by_end (inr e) = false≢true (sym e.1 ∙ l.goes.inside)
-  pass_all f at b b_in v (w ∷ ws) _ later l (next {n = n} ends more) =
-      let r = pass_all f at w.on.from w.on.from_in w ws n later (next_left l) more in
-      (r.0, ap suc r.1)
-
   module _ (tr' : Trace) (f : Frac) (before : value f <ʳ stop tr) (stays : (t : Rational) → start tr ≤ʳ t → t ≤ʳ value f → Truth p tr t ↔ Truth p tr' t) where
     -- verdicts from b up to f, so many, and those after f
     pub record CutAt (b : Frac) (b_in : Bool) (holds : Bool) (n : ℕ) (later : List Verdict) : Type 0 where

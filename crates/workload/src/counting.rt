@@ -36,7 +36,7 @@ fn pass(verdicts: &[Verdict], at: usize, f: &Frac) -> (usize, usize)
 pub fn stream_lines(verdicts: &[Verdict], trace: &Trace, horizon: u64) -> u128
     requires some { 0 < length trace.now.rows }
     requires near { horizon < 2 ^ 32 }
-    ensures { (p : Subformula) → IsTrace trace.now → horizon ≡ horizon_of p
+    ensures { (p : Subformula) → IsTrace trace.now → 0 < horizon_of p → horizon ≡ horizon_of p
         → Describes verdicts.now p trace.now (closed (start trace.now) (stop trace.now)) → HasStreamLines p trace.now result }
 {
     let due = u64::from(trace.time(0)) + horizon;

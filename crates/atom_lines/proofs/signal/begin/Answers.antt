@@ -29,10 +29,10 @@ returns g c =
     let reached = c.requires.from k c.atom-atom.ensures.at in
     let size : nat_abs c.args.from ≤ 2 ^ 31 =
     subst (λ n. nat_abs n ≤ 2 ^ 31) (sym reached.0.sum) (reach_small k (values_at tr 0) (values_at tr 0) reached.1 reached.0.small) in
-    IfOk-weaker c.with_room.result (λ s. s ≡ record { time = c.of-at.result; point = c.point.result; after = c.point.result } ∷ [])
+    IfOk-weaker c.start.result (λ s. s ≡ record { time = c.of-at.result; point = c.point.result; after = c.point.result } ∷ [])
     (HasGrown g.P.Shape g.P.Piecewise.told b c.args.node tr 0)
     (λ s e. subst (HasGrown g.P.Shape g.P.Piecewise.told b c.args.node tr 0) (sym e)
     (begun g.P.Shape g.P.Piecewise.told b c.args.node tr k c.atom-atom.ensures.at c.args.from c.of-at.result c.point.result
     c.time.result time_fits is size c.requires.some
     (c.requires.from k c.atom-atom.ensures.at).0.sum when here c.point.ensures.base))
-    c.with_room.ensures
+    c.start.ensures

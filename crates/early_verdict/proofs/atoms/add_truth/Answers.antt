@@ -22,6 +22,5 @@ returns c =
     let from = place c.args.from in
     let to = place c.args.to in
     subst (λ h. HasAdded own new (Piece h from to)) (sym c.if-holds.false)
-    (false_added own new from to (record { yes = c.requires.yes; no = c.in_ok-add-2.ensures.tidy; parts = c.requires.parts }) refl
-    c.in_ok-add-2.ensures.bounds refl
+    (false_added own new from to (record { yes = c.requires.yes; no = c.in_ok-add-2.ensures.tidy; parts = c.requires.parts }) refl c.in_ok-add-2.ensures.bounds refl
     c.in_ok-add-2.ensures.ok)

@@ -10,8 +10,7 @@ pub ask_from-requires-2-clause-tidy : goal.ask_from-requires-2-clause-tidy
 ask_from-requires-2-clause-tidy c = tidy_asked c.args.left (value c.args.cut.now.time) c.args.shown.now c.ask_from.new.shown c.ask_from.ensures c.requires.tidy
 
 pub ask_from-requires-2-clause-inside : goal.ask_from-requires-2-clause-inside
-ask_from-requires-2-clause-inside c =
-    inside_asked c.args.left (value c.args.cut.now.time) c.args.shown.now c.ask_from.new.shown c.ask_from.ensures c.requires.inside
+ask_from-requires-2-clause-inside c = inside_asked c.args.left (value c.args.cut.now.time) c.args.shown.now c.ask_from.new.shown c.ask_from.ensures c.requires.inside
 
 pub returns : goal.returns
 returns c = (c.ask_from.new.shown, c.ask_from.ensures, c.ask_from-2.ensures)

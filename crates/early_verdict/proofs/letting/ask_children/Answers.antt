@@ -1,8 +1,7 @@
 use Rattle.std.proofs.Common.{rules, sym, subst}
 use Rattle.frac128.specs.Value.{value}
 use Rattle.early_verdict.specs.Letting.{AreAskedBy, IsUntil}
-use Rattle.early_verdict.proofs.LettingLemmas.{asked_always, asked_and, asked_eventually, asked_historically_by}
-use Rattle.early_verdict.proofs.LettingLemmas.{asked_implies, asked_not, asked_once_by, asked_or, asked_until, none_asked}
+use Rattle.early_verdict.proofs.LettingLemmas.{asked_always, asked_and, asked_eventually, asked_historically_by, asked_implies, asked_not, asked_once_by, asked_or, asked_until, none_asked}
 use Rattle.early_verdict.proofs.letting.ask_children.Goals as goal
 
 pub returns-in-Not : goal.returns-in-Not
@@ -13,52 +12,42 @@ returns-in-Not c =
 pub returns-in-And : goal.returns-in-And
 returns-in-And c =
     subst (λ n. AreAskedBy n (value c.args.cut.now.time) c.args.shown.now c.ask_both.new.shown) (sym c.in-And.is)
-    (asked_and c.in-And.left c.in-And.right (value c.args.cut.now.time) c.args.shown.now c.ask_both.ensures.0 c.ask_both.new.shown
-    c.ask_both.ensures.1 c.ask_both.ensures.2)
+    (asked_and c.in-And.left c.in-And.right (value c.args.cut.now.time) c.args.shown.now c.ask_both.ensures.0 c.ask_both.new.shown c.ask_both.ensures.1 c.ask_both.ensures.2)
 
 pub returns-in-Or : goal.returns-in-Or
 returns-in-Or c =
     subst (λ n. AreAskedBy n (value c.args.cut.now.time) c.args.shown.now c.ask_both-in-Or.new.shown) (sym c.in-Or.is)
-    (asked_or c.in-Or.left c.in-Or.right (value c.args.cut.now.time) c.args.shown.now c.ask_both-in-Or.ensures.0
-    c.ask_both-in-Or.new.shown c.ask_both-in-Or.ensures.1 c.ask_both-in-Or.ensures.2)
+    (asked_or c.in-Or.left c.in-Or.right (value c.args.cut.now.time) c.args.shown.now c.ask_both-in-Or.ensures.0 c.ask_both-in-Or.new.shown c.ask_both-in-Or.ensures.1 c.ask_both-in-Or.ensures.2)
 
 pub returns-in-Implies : goal.returns-in-Implies
 returns-in-Implies c =
     subst (λ n. AreAskedBy n (value c.args.cut.now.time) c.args.shown.now c.ask_both-in-Implies.new.shown) (sym c.in-Implies.is)
-    (asked_implies c.in-Implies.left c.in-Implies.right (value c.args.cut.now.time) c.args.shown.now c.ask_both-in-Implies.ensures.0
-    c.ask_both-in-Implies.new.shown c.ask_both-in-Implies.ensures.1 c.ask_both-in-Implies.ensures.2)
+    (asked_implies c.in-Implies.left c.in-Implies.right (value c.args.cut.now.time) c.args.shown.now c.ask_both-in-Implies.ensures.0 c.ask_both-in-Implies.new.shown c.ask_both-in-Implies.ensures.1 c.ask_both-in-Implies.ensures.2)
 
 pub returns-in-Eventually : goal.returns-in-Eventually
 returns-in-Eventually c =
     subst (λ n. AreAskedBy n (value c.args.cut.now.time) c.args.shown.now c.ask_ahead.new.shown) (sym c.in-Eventually.is)
-    (asked_eventually c.in-Eventually.of (value c.args.cut.now.time) c.ask_ahead.ensures.0 c.args.shown.now c.ask_ahead.new.shown
-    c.ask_ahead.ensures.2 c.in-Eventually.low c.in-Eventually.high c.in-Eventually.low_in c.in-Eventually.high_in c.ask_ahead.ensures.1)
+    (asked_eventually c.in-Eventually.of (value c.args.cut.now.time) c.ask_ahead.ensures.0 c.args.shown.now c.ask_ahead.new.shown c.ask_ahead.ensures.2 c.in-Eventually.low c.in-Eventually.high c.in-Eventually.low_in c.in-Eventually.high_in c.ask_ahead.ensures.1)
 
 pub returns-in-Always : goal.returns-in-Always
 returns-in-Always c =
     subst (λ n. AreAskedBy n (value c.args.cut.now.time) c.args.shown.now c.ask_ahead-in-Always.new.shown) (sym c.in-Always.is)
-    (asked_always c.in-Always.of (value c.args.cut.now.time) c.ask_ahead-in-Always.ensures.0 c.args.shown.now c.ask_ahead-in-Always.new.shown
-    c.ask_ahead-in-Always.ensures.2 c.in-Always.low c.in-Always.high c.in-Always.low_in c.in-Always.high_in c.ask_ahead-in-Always.ensures.1)
+    (asked_always c.in-Always.of (value c.args.cut.now.time) c.ask_ahead-in-Always.ensures.0 c.args.shown.now c.ask_ahead-in-Always.new.shown c.ask_ahead-in-Always.ensures.2 c.in-Always.low c.in-Always.high c.in-Always.low_in c.in-Always.high_in c.ask_ahead-in-Always.ensures.1)
 
 pub returns-in-Once : goal.returns-in-Once
 returns-in-Once c =
     subst (λ n. AreAskedBy n (value c.args.cut.now.time) c.args.shown.now c.ask_back.new.shown) (sym c.in-Once.is)
-    (asked_once_by c.in-Once.of c.in-Once.low
-    (value c.args.cut.now.time) c.args.shown.now c.ask_back.new.shown c.requires.apart c.requires.inside c.requires.tidy
-    c.in-Once.high c.in-Once.low_in c.in-Once.high_in c.ask_back.ensures)
+    (asked_once_by c.in-Once.of c.in-Once.low c.in-Once.high c.in-Once.low_in c.in-Once.high_in (value c.args.cut.now.time) c.args.shown.now c.ask_back.new.shown c.ask_back.ensures)
 
 pub returns-in-Historically : goal.returns-in-Historically
 returns-in-Historically c =
     subst (λ n. AreAskedBy n (value c.args.cut.now.time) c.args.shown.now c.ask_back-in-Historically.new.shown) (sym c.in-Historically.is)
-    (asked_historically_by c.in-Historically.of c.in-Historically.low (value c.args.cut.now.time) c.args.shown.now c.ask_back-in-Historically.new.shown
-    c.requires.apart c.requires.inside c.requires.tidy c.in-Historically.high c.in-Historically.low_in c.in-Historically.high_in
-    c.ask_back-in-Historically.ensures)
+    (asked_historically_by c.in-Historically.of c.in-Historically.low c.in-Historically.high c.in-Historically.low_in c.in-Historically.high_in (value c.args.cut.now.time) c.args.shown.now c.ask_back-in-Historically.new.shown c.ask_back-in-Historically.ensures)
 
 pub returns-in-Until : goal.returns-in-Until
 returns-in-Until c =
     subst (λ n. AreAskedBy n (value c.args.cut.now.time) c.args.shown.now c.ask_both-in-Until.new.shown) (sym c.in-Until.is)
-    (asked_until c.in-Until.left c.in-Until.right (value c.args.cut.now.time) c.args.shown.now c.ask_both-in-Until.ensures.0
-    c.ask_both-in-Until.new.shown c.ask_both-in-Until.ensures.1
+    (asked_until c.in-Until.left c.in-Until.right (value c.args.cut.now.time) c.args.shown.now c.ask_both-in-Until.ensures.0 c.ask_both-in-Until.new.shown c.ask_both-in-Until.ensures.1
     c.ask_both-in-Until.ensures.2 c.in-Until.low c.in-Until.high)
 
 pub returns : goal.returns

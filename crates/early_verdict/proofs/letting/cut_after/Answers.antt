@@ -13,14 +13,12 @@ near n k e h = subst (λ j. unsigned_abs j ≤ 2 ^ 32) (sym e) (let m : n ≤ 2 
 
 pub shift_begin-requires : goal.shift_begin-requires
 shift_begin-requires c =
-    subst (λ k. FitsFloor w64 (add (value c.args.cut.now.time) (whole k)))
-    (sym (near_fits c.from.result (near c.args.ticks c.from.result c.from.ensures c.ranges.ticks.fits)))
+    subst (λ k. FitsFloor w64 (add (value c.args.cut.now.time) (whole k))) (sym (near_fits c.from.result (near c.args.ticks c.from.result c.from.ensures c.ranges.ticks.fits)))
     (move_fits (value c.args.cut.now.time) c.from.result c.requires (near c.args.ticks c.from.result c.from.ensures c.ranges.ticks.fits))
 
 pub returns : goal.returns
 returns c =
-    let by : to_z w64 (of_z w64 c.from.result) ≡ pos c.args.ticks =
-    near_fits c.from.result (near c.args.ticks c.from.result c.from.ensures c.ranges.ticks.fits) ∙ c.from.ensures in
+    let by : to_z w64 (of_z w64 c.from.result) ≡ pos c.args.ticks = near_fits c.from.result (near c.args.ticks c.from.result c.from.ensures c.ranges.ticks.fits) ∙ c.from.ensures in
     let s : value c.shift_begin.result.time ≈ add (value c.args.cut.now.time) (whole (pos c.args.ticks)) =
     subst (λ k. value c.shift_begin.result.time ≈ add (value c.args.cut.now.time) (whole k)) by c.shift_begin.ensures.0 in
     le_trans (le_of_same s) (ge_of_same (later-add (value c.args.cut.now.time) c.args.ticks))

@@ -14,8 +14,7 @@ shift_begin-requires c =
 
 pub returns : goal.returns
 returns c =
-    let by : to_z w64 (of_z w64 c.ticks_before.result) ≡ neg_ℤ (pos c.args.ticks) =
-    near_fits c.ticks_before.result c.ticks_before.ensures.near ∙ c.ticks_before.ensures.value in
+    let by : to_z w64 (of_z w64 c.ticks_before.result) ≡ neg_ℤ (pos c.args.ticks) = near_fits c.ticks_before.result c.ticks_before.ensures.near ∙ c.ticks_before.ensures.value in
     let s : value c.shift_begin.result.time ≈ add (value c.args.cut.now.time) (whole (neg_ℤ (pos c.args.ticks))) =
     subst (λ k. value c.shift_begin.result.time ≈ add (value c.args.cut.now.time) (whole k)) by c.shift_begin.ensures.0 in
     (le_back c.args.ticks (value c.args.cut.now.time) (value c.shift_begin.result.time)).0 (le_of_same s)

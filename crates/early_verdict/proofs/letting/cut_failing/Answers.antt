@@ -9,5 +9,4 @@ returns c =
       stop = record { tidy = g.tidy; bounds_are = g.bounds; has = g.left; only = g.kept };
       never = c.cut_to.ensures;
       broken = c.cut_to-2.ensures;
-      carried = c.begins_at_once-own.ensures;
     }

@@ -3,13 +3,16 @@ use Rattle.std.specs.Prelude.{MatchOption}
 use Rattle.rational.specs.Time.{Rational}
 use Rattle.frac128.specs.Value.{value}
 use Rattle.early_verdict.specs.Fitting.{ArePartsTidy}
-use Rattle.early_verdict.specs.Letting.{ArePartsCut, IsFailingInside, IsHoldingInside}
+use Rattle.early_verdict.specs.Letting.{IsFailingCut, IsFailingInside, IsHoldingCut, IsHoldingInside}
 use Rattle.early_verdict.specs.declared.stretch.Stretch.{Stretch}
 use Rattle.early_verdict.specs.declared.sets.Parts.{Parts}
 use Rattle.early_verdict.proofs.letting.cut_run.Goals as goal
 
 abbrev IsInside : Stretch → Option Parts → Type 0
 IsInside wide o = MatchOption o (Unit {0}) (λ x. IsHoldingInside x.holding × IsFailingInside wide x.failing)
+
+abbrev AreCut : Rational → Stretch → Option Parts → Option Parts → Type 0
+AreCut from wide old new = MatchOption old (new ≡ None) (λ x. MatchOption new ⊥ (λ y. IsHoldingCut from x.holding y.holding × IsFailingCut from wide x.failing y.failing))
 
 pub cut_holding-requires-clause-tidy : goal.cut_holding-requires-clause-tidy
 cut_holding-requires-clause-tidy c =
@@ -29,13 +32,13 @@ pub returns-in-None : goal.returns-in-None
 returns-in-None c = record {
   yes = refl;
   no = refl;
-  parts = subst (λ (o : Option Parts). ArePartsCut (value c.args.first.now.time) (value c.args.cut.now.time) c.args.wide o o) (sym c.in-None.is) refl;
+  parts = subst (λ (o : Option Parts). AreCut (value c.args.cut.now.time) c.args.wide o o) (sym c.in-None.is) refl;
 }
 
 pub returns-in-Some : goal.returns-in-Some
 returns-in-Some c = record {
   yes = refl;
   no = refl;
-  parts = subst (λ (o : Option Parts). ArePartsCut (value c.args.first.now.time) (value c.args.cut.now.time) c.args.wide o
+  parts = subst (λ (o : Option Parts). AreCut (value c.args.cut.now.time) c.args.wide o
       (Some (record { holding = c.cut_holding.new.own; failing = c.cut_failing.new.own }))) (sym c.in-Some.is) (c.cut_holding.ensures, c.cut_failing.ensures);
 }

@@ -17,15 +17,10 @@ let_go_at-requires-clause-formed c = c.len-count.ensures.well_formed.nodes
 
 -- what stands, seen as slices
 seen : (nodes : List Node) (tr : Trace) (live shown xs ys : List Sets) → xs ≡ live → ys ≡ shown → NetStands nodes tr live shown → NetStands nodes tr xs ys
-seen nodes tr live shown xs ys e f h =
-    subst (λ (zs : List Sets). NetStands nodes tr zs ys) (sym e) (subst (λ (zs : List Sets). NetStands nodes tr live zs) (sym f) h)
+seen nodes tr live shown xs ys e f h = subst (λ (zs : List Sets). NetStands nodes tr zs ys) (sym e) (subst (λ (zs : List Sets). NetStands nodes tr live zs) (sym f) h)
 
 pub let_go_at-requires-clause-stands : goal.let_go_at-requires-clause-stands
-let_go_at-requires-clause-stands c = (
-  c.requires.0,
-  seen c.args.formula.now.nodes c.requires.0 c.loop-i.net.live.items c.loop-i.net.shown.items c.deref_mut.result.now
-      c.deref_mut-in-loop-i.result.now c.deref_mut.ensures.value c.deref_mut-in-loop-i.ensures.value (c.loop-i.invariant.stands c.requires.0 c.requires.1),
-)
+let_go_at-requires-clause-stands c = (c.requires.0, seen c.args.formula.now.nodes c.requires.0 c.loop-i.net.live.items c.loop-i.net.shown.items c.deref_mut.result.now c.deref_mut-in-loop-i.result.now c.deref_mut.ensures.value c.deref_mut-in-loop-i.ensures.value (c.loop-i.invariant.stands c.requires.0 c.requires.1))
 
 pub loop-i-preserved : goal.loop-i-preserved
 loop-i-preserved c =
@@ -34,9 +29,7 @@ loop-i-preserved c =
     let shown = c.loop-i.net.shown in
     let new = c.let_go_at.new.live in
     let new_shown = c.let_go_at.new.shown in
-    let was =
-    seen c.args.formula.now.nodes c.requires.0 c.loop-i.net.live.items c.loop-i.net.shown.items c.deref_mut.result.now c.deref_mut-in-loop-i.result.now
-    c.deref_mut.ensures.value c.deref_mut-in-loop-i.ensures.value (c.loop-i.invariant.stands c.requires.0 c.requires.1) in
+    let was = seen c.args.formula.now.nodes c.requires.0 c.loop-i.net.live.items c.loop-i.net.shown.items c.deref_mut.result.now c.deref_mut-in-loop-i.result.now c.deref_mut.ensures.value c.deref_mut-in-loop-i.ensures.value (c.loop-i.invariant.stands c.requires.0 c.requires.1) in
     let is = c.let_go_at.ensures c.requires.0 was in
     let a : length live.items ≡ live.len = search rules in
     let b : length shown.items ≡ shown.len = search rules in
@@ -46,11 +39,9 @@ loop-i-preserved c =
     record {
       within = omega (arith, c.loop-i.invariant.within);
       stands = λ tr h.
-          subst (λ (xs : List Sets). NetStands nodes tr xs (take shown.len (new_shown ++ drop (length new_shown) shown.items)))
-          (sets_written new live.items live.len long)
+          subst (λ (xs : List Sets). NetStands nodes tr xs (take shown.len (new_shown ++ drop (length new_shown) shown.items))) (sets_written new live.items live.len long)
           (subst (λ (xs : List Sets). NetStands nodes tr new xs) (sets_written new_shown shown.items shown.len long_shown)
-          (c.let_go_at.ensures tr (seen c.args.formula.now.nodes tr c.loop-i.net.live.items c.loop-i.net.shown.items c.deref_mut.result.now
-          c.deref_mut-in-loop-i.result.now c.deref_mut.ensures.value c.deref_mut-in-loop-i.ensures.value (c.loop-i.invariant.stands tr h))));
+          (c.let_go_at.ensures tr (seen c.args.formula.now.nodes tr c.loop-i.net.live.items c.loop-i.net.shown.items c.deref_mut.result.now c.deref_mut-in-loop-i.result.now c.deref_mut.ensures.value c.deref_mut-in-loop-i.ensures.value (c.loop-i.invariant.stands tr h))));
     }
 
 pub returns : goal.returns

@@ -11,30 +11,40 @@ returns-in-Const-clause-fits c =
 
 pub returns-in-Not-clause-fits : goal.returns-in-Not-clause-fits
 returns-in-Not-clause-fits c =
-    subst (λ n. OnOk c.go_negation.result (GoesBy n c.args.event.now c.args.below.now c.args.own.now c.go_negation.new.own))
-    (sym c.in-Not.is) c.go_negation.ensures.fits
+    subst (λ n. OnOk c.go_negation.result (GoesBy n c.args.event.now c.args.below.now c.args.own.now c.go_negation.new.own)) (sym c.in-Not.is) c.go_negation.ensures.fits
 
 pub returns-in-And-clause-fits : goal.returns-in-And-clause-fits
 returns-in-And-clause-fits c =
-    subst (λ n. OnOk c.go_conjunction.result (GoesBy n c.args.event.now c.args.below.now c.args.own.now c.go_conjunction.new.own))
-    (sym c.in-And.is) c.go_conjunction.ensures.fits
+    subst (λ n. OnOk c.go_conjunction.result (GoesBy n c.args.event.now c.args.below.now c.args.own.now c.go_conjunction.new.own)) (sym c.in-And.is) c.go_conjunction.ensures.fits
 
 pub returns-in-Or-clause-fits : goal.returns-in-Or-clause-fits
 returns-in-Or-clause-fits c =
-    subst (λ n. OnOk c.go_disjunction.result (GoesBy n c.args.event.now c.args.below.now c.args.own.now c.go_disjunction.new.own))
-    (sym c.in-Or.is) c.go_disjunction.ensures.fits
+    subst (λ n. OnOk c.go_disjunction.result (GoesBy n c.args.event.now c.args.below.now c.args.own.now c.go_disjunction.new.own)) (sym c.in-Or.is) c.go_disjunction.ensures.fits
 
 pub returns-in-Implies-clause-fits : goal.returns-in-Implies-clause-fits
 returns-in-Implies-clause-fits c =
-    subst (λ n. OnOk c.go_implication.result (GoesBy n c.args.event.now c.args.below.now c.args.own.now c.go_implication.new.own))
-    (sym c.in-Implies.is) c.go_implication.ensures.fits
+    subst (λ n. OnOk c.go_implication.result (GoesBy n c.args.event.now c.args.below.now c.args.own.now c.go_implication.new.own)) (sym c.in-Implies.is) c.go_implication.ensures.fits
 
 pub returns-in-Until-clause-fits : goal.returns-in-Until-clause-fits
 returns-in-Until-clause-fits c =
-    subst (λ n. OnOk c.go_until.result (GoesBy n c.args.event.now c.args.below.now c.args.own.now c.go_until.new.own))
-    (sym c.in-Until.is) c.go_until.ensures.fits
+    subst (λ n. OnOk c.go_until.result (GoesBy n c.args.event.now c.args.below.now c.args.own.now c.go_until.new.own)) (sym c.in-Until.is) c.go_until.ensures.fits
 
 pub returns-in-Since-clause-fits : goal.returns-in-Since-clause-fits
 returns-in-Since-clause-fits c =
-    subst (λ n. OnOk c.go_since.result (GoesBy n c.args.event.now c.args.below.now c.args.own.now c.go_since.new.own))
-    (sym c.in-Since.is) c.go_since.ensures.fits
+    subst (λ n. OnOk c.go_since.result (GoesBy n c.args.event.now c.args.below.now c.args.own.now c.go_since.new.own)) (sym c.in-Since.is) c.go_since.ensures.fits
+
+pub returns-in-Eventually-clause-fits : goal.returns-in-Eventually-clause-fits
+returns-in-Eventually-clause-fits c =
+    subst (λ n. OnOk c.go_eventually.result (GoesBy n c.args.event.now c.args.below.now c.args.own.now c.go_eventually.new.own)) (sym c.in-Eventually.is) c.go_eventually.ensures.fits
+
+pub returns-in-Always-clause-fits : goal.returns-in-Always-clause-fits
+returns-in-Always-clause-fits c =
+    subst (λ n. OnOk c.go_always.result (GoesBy n c.args.event.now c.args.below.now c.args.own.now c.go_always.new.own)) (sym c.in-Always.is) c.go_always.ensures.fits
+
+pub returns-in-Once-clause-fits : goal.returns-in-Once-clause-fits
+returns-in-Once-clause-fits c =
+    subst (λ n. OnOk c.go_once.result (GoesBy n c.args.event.now c.args.below.now c.args.own.now c.go_once.new.own)) (sym c.in-Once.is) c.go_once.ensures.fits
+
+pub returns-in-Historically-clause-fits : goal.returns-in-Historically-clause-fits
+returns-in-Historically-clause-fits c =
+    subst (λ n. OnOk c.go_historically.result (GoesBy n c.args.event.now c.args.below.now c.args.own.now c.go_historically.new.own)) (sym c.in-Historically.is) c.go_historically.ensures.fits

@@ -15,18 +15,18 @@ pub loop-last-preserved : goal.loop-last-preserved
 loop-last-preserved g c =
     let (d, same, worse) = c.loop-last.invariant.0 in
     let f = g.P.Shape.function in
-    let e : c.loop-last.queue.items ≡ take (deque_len c.loop-last.queue - 1) c.loop-last.queue.items ++ c.in-Some.last.now ∷ [] =
-    last_apart c.loop-last.queue.items (deque_len c.loop-last.queue) c.in-Some.last.now (search rules) (search rules) (search rules) in
+    let e : c.loop-last.queue.items ≡ take (deque_len c.loop-last.queue - 1) c.loop-last.queue.items ++ c.in-Some.field-0.now ∷ [] =
+    last_apart c.loop-last.queue.items (deque_len c.loop-last.queue) c.in-Some.field-0.now (search rules) (search rules) (search rules) in
     let rest : c.pop_back.new.self.items ≡ take (deque_len c.loop-last.queue - 1) c.loop-last.queue.items = c.pop_back.ensures.rest in
     let moved : (take (deque_len c.loop-last.queue - 1)
-    c.loop-last.queue.items ++ c.in-Some.last.now ∷ []) ++ d ≡ take (deque_len c.loop-last.queue - 1)
-    c.loop-last.queue.items ++ (c.in-Some.last.now ∷ d) = simp append_assoc in (
+    c.loop-last.queue.items ++ c.in-Some.field-0.now ∷ []) ++ d ≡ take (deque_len c.loop-last.queue - 1)
+    c.loop-last.queue.items ++ (c.in-Some.field-0.now ∷ d) = simp append_assoc in (
       (
-        c.in-Some.last.now ∷ d,
-        same ∙ ap (λ xs. xs ++ d) e ∙ moved ∙ ap (λ xs. xs ++ (c.in-Some.last.now ∷ d)) (sym rest),
+        c.in-Some.field-0.now ∷ d,
+        same ∙ ap (λ xs. xs ++ d) e ∙ moved ∙ ap (λ xs. xs ++ (c.in-Some.field-0.now ∷ d)) (sym rest),
         (
-          no_better_of_taken c.args.side (value_at (f c.in-Some.last.now.value) (value c.args.t.now)) (value_at (f c.args.value.now) (value c.args.t.now))
-              (taken_second c.args.side c.favour.result (value_at (f c.in-Some.last.now.value) (value c.args.t.now))
+          no_better_of_taken c.args.side (value_at (f c.in-Some.field-0.now.value) (value c.args.t.now)) (value_at (f c.args.value.now) (value c.args.t.now))
+              (taken_second c.args.side c.favour.result (value_at (f c.in-Some.field-0.now.value) (value c.args.t.now))
               (value_at (f c.args.value.now) (value c.args.t.now)) c.favour.ensures c.in_default-favour.not-Less),
           worse,
         ),
@@ -39,11 +39,11 @@ pub returns-in-Less : goal.returns-in-Less
 returns-in-Less g c =
     let (d, same, worse) = c.loop-last.invariant.0 in
     let f = g.P.Shape.function in
-    let e : c.loop-last.queue.items ≡ take (deque_len c.loop-last.queue - 1) c.loop-last.queue.items ++ c.in-Some.last.now ∷ [] =
-    last_apart c.loop-last.queue.items (deque_len c.loop-last.queue) c.in-Some.last.now (search rules) (search rules) (search rules) in
-    let better : IsNoBetter c.args.side (value_at (f c.args.value.now) (value c.args.t.now)) (value_at (f c.in-Some.last.now.value) (value c.args.t.now)) =
-    no_better_of_taken c.args.side (value_at (f c.args.value.now) (value c.args.t.now)) (value_at (f c.in-Some.last.now.value) (value c.args.t.now))
-    (taken_first c.args.side c.favour.result (value_at (f c.in-Some.last.now.value) (value c.args.t.now))
+    let e : c.loop-last.queue.items ≡ take (deque_len c.loop-last.queue - 1) c.loop-last.queue.items ++ c.in-Some.field-0.now ∷ [] =
+    last_apart c.loop-last.queue.items (deque_len c.loop-last.queue) c.in-Some.field-0.now (search rules) (search rules) (search rules) in
+    let better : IsNoBetter c.args.side (value_at (f c.args.value.now) (value c.args.t.now)) (value_at (f c.in-Some.field-0.now.value) (value c.args.t.now)) =
+    no_better_of_taken c.args.side (value_at (f c.args.value.now) (value c.args.t.now)) (value_at (f c.in-Some.field-0.now.value) (value c.args.t.now))
+    (taken_first c.args.side c.favour.result (value_at (f c.in-Some.field-0.now.value) (value c.args.t.now))
     (value_at (f c.args.value.now) (value c.args.t.now)) c.favour.ensures (λ i. let h = c.in-Less.is in absurd
     (cc))) in
     record {
@@ -52,7 +52,7 @@ returns-in-Less g c =
         same = same;
         worse = worse;
         last = λ rest x i. subst (λ y. IsNoBetter c.args.side (value_at (f c.args.value.now) (value c.args.t.now)) (value_at (f y.value) (value c.args.t.now)))
-            (snoc_same (take (deque_len c.loop-last.queue - 1) c.loop-last.queue.items) rest c.in-Some.last.now x (sym e ∙ i)) better;
+            (snoc_same (take (deque_len c.loop-last.queue - 1) c.loop-last.queue.items) rest c.in-Some.field-0.now x (sym e ∙ i)) better;
       };
       room = search rules;
       fewer = search rules;

@@ -1,4 +1,4 @@
-use Rattle.std.proofs.Common.{pos, sym, ap, subst, refl}
+use Rattle.std.proofs.Common.{◌≡◌, ◌-◌, ◌<◌, length, pos, sym, ap, subst, refl, arith}
 use Rattle.value_laws.specs.Kinds.{kleene_shape}
 use Rattle.rational.specs.Time.{whole}
 use Rattle.stl_syntax.specs.SupInf.{certainty_setting}

@@ -1,4 +1,4 @@
-use Rattle.std.proofs.Common.{pos, sym, subst, arith, ◌∙◌}
+use Rattle.std.proofs.Common.{◌≡◌, ℕ, pos, ◌<◌, ◌≤◌, ◌^◌, sym, subst, arith, ◌∙◌}
 use Rattle.rational.specs.Time.{whole, ◌≈◌, ◌<ʳ◌}
 use Rattle.frac128.specs.Value.{value}
 use Rattle.pl_signal.specs.Knots.{start, stop}
@@ -9,8 +9,7 @@ use Rattle.implicants.proofs.Demanding.{fit_over_ticks, instant_on, started_on}
 use Rattle.implicants.proofs.demand.at_start.Goals as goal
 
 pub returns-then-from-to-clause-on : goal.returns-then-from-to-clause-on
-returns-then-from-to-clause-on c t on = instant_on c.tick.result c.of.result c.finish.result c.args.from t
-    (c.finish.ensures.value ∙ c.in_ok-signal.ensures) c.tick.ensures on
+returns-then-from-to-clause-on c t on = instant_on c.tick.result c.of.result c.finish.result c.args.from t (c.finish.ensures.value ∙ c.in_ok-signal.ensures) c.tick.ensures on
 
 pub step-requires-clause-later : goal.step-requires-clause-later
 step-requires-clause-later c =
@@ -29,6 +28,5 @@ returns-clause-fit c =
     (subst (λ r. stop r ≈ whole (pos c.args.to)) (sym c.finish-2.ensures.value) ends)
 
 pub returns-clause-on : goal.returns-clause-on
-returns-clause-on c t on = started_on c.tick.result c.tick-2.result c.of.result c.of-fails.result c.in_ok-signal.signal
-    c.step.new.self c.args.from t c.in_ok-signal.ensures
+returns-clause-on c t on = started_on c.tick.result c.tick-2.result c.of.result c.of-fails.result c.in_ok-signal.signal c.step.new.self c.args.from t c.in_ok-signal.ensures
     c.in_ok-step.ensures.ok c.of-fails.ensures c.tick.ensures (subst (λ r. IsOn kleene_shape r t) c.finish-2.ensures.value on)

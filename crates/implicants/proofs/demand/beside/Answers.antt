@@ -10,6 +10,5 @@ where_both-requires-clause-along c = record {
 
 pub returns-then-off : goal.returns-then-off
 returns-then-off c = three_some c.where_both.result _ _ _ _
-    (λ d same fit both.
-    beside_off c.args.holds c.args.off c.args.x.now c.in_ok-turned.turned c.args.other.now d c.if-off.true c.in_ok-turned.ensures.off same fit both)
+    (λ d same fit both. beside_off c.args.holds c.args.off c.args.x.now c.in_ok-turned.turned c.args.other.now d c.if-off.true c.in_ok-turned.ensures.off same fit both)
     c.where_both.ensures.holds c.where_both.ensures.fit c.where_both.ensures.both

@@ -1,9 +1,10 @@
-use Rattle.std.proofs.Common.{◌≡◌, ◌<◌, ◌-◌, ◌^◌, length, pos, sym, ap, subst, arith}
+use Rattle.std.proofs.Common.{◌≡◌, ◌<◌, ◌≤◌, ◌-◌, ◌^◌, length, pos, true, false, Some, refl, sym, ap, subst, arith, ◌∙◌}
 use Rattle.std.specs.Prelude.{IfSome}
 use Rattle.rational.specs.Time.{whole, ◌≈◌}
 use Rattle.rational.proofs.Order.{same_trans}
 use Rattle.value_laws.specs.Kinds.{kleene_shape}
 use Rattle.pl_signal.specs.Knots.{start, stop}
+use Rattle.stl_syntax.specs.Trace.{last_time}
 use Rattle.stl_syntax.specs.Formula.{subformula}
 use Rattle.implicants.specs.Demands.{Certain, HandsDown}
 use Rattle.implicants.proofs.Descending.{root_demand, others_fit, child_inside, children_within}
@@ -46,19 +47,16 @@ loop-j-preserved c =
     let before = c.loop-j.invariant in
     let inside = before.inside in
     let less = child_inside c.loop-j.j c.in-Some.next c.node-node.result.now c.node-node.ensures.below c.in-Some.ensures in
-    let hands = subst (λ o. IfSome o (HandsDown kleene_shape c.node-node.result.now c.loop-j.holds c.loop-j.at c.args.nodes.now c.in-Some.next))
-    c.in-Some-2.is c.in_ok-below.ensures in
+    let hands = subst (λ o. IfSome o (HandsDown kleene_shape c.node-node.result.now c.loop-j.holds c.loop-j.at c.args.nodes.now c.in-Some.next)) c.in-Some-2.is c.in_ok-below.ensures in
     record {
       inside = omega (arith, inside, less);
       fit = hands.fit.fit;
       begins = same_trans hands.fit.along.begins before.begins;
       ends = same_trans hands.fit.along.ends before.ends;
-      demand = λ items sure. hands.demand c.args.formula.now.nodes c.args.trace.now items c.loop-j.j c.node-node.ensures.node
-          c.node-node.ensures.below sure before.begins before.ends
+      demand = λ items sure. hands.demand c.args.formula.now.nodes c.args.trace.now items c.loop-j.j c.node-node.ensures.node c.node-node.ensures.below sure before.begins before.ends
           (before.demand items sure);
     }
 
-pub returns-then-i-j-clause-demand : goal.returns-then-i-j-clause-demand
-returns-then-i-j-clause-demand c items sure t on some more m =
-    subst (λ k. Certain c.loop-j.holds (subformula c.args.formula.now.nodes k) some c.args.trace.now t) (sym c.if-i-j.true)
-    (c.loop-j.invariant.demand items sure t on some more m)
+pub returns-then-i-j : goal.returns-then-i-j
+returns-then-i-j c items sure t on some more m =
+    subst (λ k. Certain c.loop-j.holds (subformula c.args.formula.now.nodes k) some c.args.trace.now t) (sym c.if-i-j.true) (c.loop-j.invariant.demand items sure t on some more m)

@@ -1,4 +1,4 @@
-use Rattle.std.proofs.Common.{◌<◌, ◌-◌, List, length}
+use Rattle.std.proofs.Common.{◌≡◌, ◌<◌, ◌-◌, List, length}
 use Rattle.rational.specs.Time.{◌≈◌}
 use Rattle.value_laws.specs.Kinds.{kleene_shape}
 use Rattle.pl_signal.specs.Knots.{start, stop}
@@ -14,8 +14,7 @@ invariant-loop-j l = record {
   fit : IsFit kleene_shape l.at;
   begins : start l.at ≈ trace.start l.trace;
   ends : stop l.at ≈ trace.stop l.trace;
-  demand : (items : List Item) → AreCertainties kleene_shape l.formula.nodes l.trace items l.nodes
-      → IsDemand kleene_shape l.formula.nodes l.trace items l.holds l.j l.at;
+  demand : (items : List Item) → AreCertainties kleene_shape l.formula.nodes l.trace items l.nodes → IsDemand kleene_shape l.formula.nodes l.trace items l.holds l.j l.at;
 }
 
 abbrev pub decreases-loop-j : goal.decreases-loop-j

@@ -1,4 +1,4 @@
-use Rattle.std.proofs.Common.{◌-◌, true, sym, ◌∙◌, arith, length-set}
+use Rattle.std.proofs.Common.{◌≡◌, ◌-◌, ◌≤◌, true, length, refl, sym, ◌∙◌, arith, length-set}
 use Rattle.implicants.proofs.Passing.{passed_put, passed_skip}
 use Rattle.implicants.proofs.keeping.pass_over.Goals as goal
 

@@ -8,7 +8,5 @@ pub returns-then-seen-clause-more : goal.returns-then-seen-clause-more
 returns-then-seen-clause-more c =
     let items = c.args.cells.now.all.items in
     let e = c.index.result.now in
-    let at : slice_get items c.args.c ≡ Some e =
-    subst (λ x. slice_get items c.args.c ≡ Some x) (sym c.index.ensures) (slice_get-get_or items c.args.c e c.requires.cell) in
-    mark_more c.args.marks.now.items c.args.marks.now.items c.args.c _
-    (refl, e, at, c.if-cell-i.false, c.look-seen.ensures.on c.if-seen.true) (mark_none c.args.marks.now.items _)
+    let at : slice_get items c.args.c ≡ Some e = subst (λ x. slice_get items c.args.c ≡ Some x) (sym c.index.ensures) (slice_get-get_or items c.args.c e c.requires.cell) in
+    mark_more c.args.marks.now.items c.args.marks.now.items c.args.c _ (refl, e, at, c.if-cell-i.false, c.look-seen.ensures.on c.if-seen.true) (mark_none c.args.marks.now.items _)

@@ -9,6 +9,5 @@ abbrev pub invariant-loop-c : goal.invariant-loop-c
 invariant-loop-c l = record {
   count : length l.marks.items ≡ length l.cells.all.items;
   inside : l.place < length l.at;
-  more : MarksMore l.fn.marks.items l.marks.items
-      (λ c. (c < l.left) × (e : Item) × (slice_get l.cells.all.items c ≡ Some e) × (e.node ≡ l.i) × Touches kleene_shape l.at e.on);
+  more : MarksMore l.fn.marks.items l.marks.items (λ c. (c < l.left) × (e : Item) × (slice_get l.cells.all.items c ≡ Some e) × (e.node ≡ l.i) × Touches kleene_shape l.at e.on);
 }

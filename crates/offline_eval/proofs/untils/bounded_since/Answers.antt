@@ -1,18 +1,106 @@
-use Rattle.std.proofs.Common.{sym, subst}
+use Rattle.std.proofs.Common.{◌≤◌, ℕ, Some, arith}
 use Rattle.std.proofs.lemmas.Result.{IfOk-weaker, IfErr-weaker}
-use Rattle.stl_syntax.specs.Formula.{since}
+use Rattle.rational.proofs.Order.{same_trans, same_sym}
+use Rattle.pl_signal.specs.Limits.{IsLimited}
 use Rattle.stl_syntax.specs.Limits.{reach_of_bound}
-use Rattle.offline_eval.specs.Making.{FaultOfTwo, StaySound, TellsTwo}
+use Rattle.offline_eval.specs.Making.{IsFit}
+use Rattle.offline_eval.proofs.Pointwise.{ok_both, err_same, least_of_bounded}
+use Rattle.offline_eval.proofs.Sound.{limited_along, stay_sound}
+use Rattle.offline_eval.proofs.WindowLemmas.{sup_over_bounded, inf_over_bounded, behind_from, in_order, reach_of_order}
+use Rattle.offline_eval.proofs.UntilLemmas.{from_start_fit, composed_moved, has_from_start, since_in, since_within_fault, from_start_fault, since_kept_fault, since_least_fault}
+use Rattle.offline_eval.proofs.untils.bounded_since.Given.{Over}
+use Rattle.offline_eval.proofs.untils.bounded_since.Goals.{In_ok-within, In_ok-from_start, In_ok-kept}
 use Rattle.offline_eval.proofs.untils.bounded_since.Goals as goal
 
-pub returns-in-None-clause-sound : goal.returns-in-None-clause-sound
-returns-in-None-clause-sound g c = IfOk-weaker c.endless_since.result _ _
-    (λ r h. subst (λ o. StaySound g.P.Shape (reach_of_bound c.args.low o) c.args.x.now c.args.y.now r) (sym c.in-None.is) h) c.endless_since.ensures.sound
+-- what the parts ask and give
+small_within : (g : Over) (c : In_ok-within g) → IsLimited g.P.Shape c.in_ok-within.within
+small_within g c =
+    let fit = c.requires.fit.right in
+    limited_along g.P.Shape _ c.args.y.now c.in_ok-within.within fit.limited c.in_ok-within.ensures.worth
+    (λ t v s. sup_over_bounded g.P.Shape c.args.y.now _ v g.met.P.Shape.lowest_bounded fit.limited s)
 
-pub returns-in-None-clause-told : goal.returns-in-None-clause-told
-returns-in-None-clause-told g c = IfOk-weaker c.endless_since.result _ _
-    (λ r h. subst (λ o. TellsTwo g.P.Shape (since c.args.low o) c.args.x.now c.args.y.now r) (sym c.in-None.is) h) c.endless_since.ensures.told
+fits : (g : Over) (c : In_ok-from_start g) → IsFit g.P.Shape c.in_ok-from_start.from_start
+fits g c =
+    from_start_fit g.P.Shape (assumption g.met.P.Shape) c.args.x.now c.args.y.now c.in_ok-from_start.from_start c.requires.fit
+    c.in_ok-from_start.ensures.worth c.in_ok-from_start.ensures.bases
 
-pub returns-in-None-clause-wide : goal.returns-in-None-clause-wide
-returns-in-None-clause-wide g c = IfErr-weaker c.endless_since.result _ _
-    (λ e h. subst (λ o. FaultOfTwo g.P.Shape (since c.args.low o) c.args.x.now c.args.y.now e) (sym c.in-None.is) h) c.endless_since.ensures.wide
+small_kept : (g : Over) (c : In_ok-kept g) → IsLimited g.P.Shape c.in_ok-kept.kept
+small_kept g c =
+    let fit = fits g (goal.at.In_ok-kept g c).In_ok-from_start in
+    limited_along g.P.Shape _ c.in_ok-from_start.from_start c.in_ok-kept.kept fit.limited c.in_ok-kept.ensures.worth
+    (λ t v s. inf_over_bounded g.P.Shape c.in_ok-from_start.from_start _ v g.met.P.Shape.highest_bounded fit.limited s)
+
+pub sup_past-requires-clause-order : goal.sup_past-requires-clause-order
+sup_past-requires-clause-order g c = in_order c.args.low c.args.high c.requires.order
+
+pub inf_past-requires-clause-limited : goal.inf_past-requires-clause-limited
+inf_past-requires-clause-limited g c = (fits g (goal.at.inf_past-requires-clause-limited g c).In_ok-from_start).limited
+
+pub inf_past-requires-clause-first : goal.inf_past-requires-clause-first
+inf_past-requires-clause-first g c = (fits g (goal.at.inf_past-requires-clause-first g c).In_ok-from_start).first
+
+pub inf_past-requires-clause-last : goal.inf_past-requires-clause-last
+inf_past-requires-clause-last g c = (fits g (goal.at.inf_past-requires-clause-last g c).In_ok-from_start).last
+
+pub inf_past-requires-clause-near : goal.inf_past-requires-clause-near
+inf_past-requires-clause-near g c = (fits g (goal.at.inf_past-requires-clause-near g c).In_ok-from_start).near
+
+pub lower-requires : goal.lower-requires
+lower-requires g c =
+    let at = goal.at.lower-requires g c in
+    let within = c.in_ok-within.ensures.worth in let made = c.in_ok-from_start.ensures.worth in let kept = c.in_ok-kept.ensures.worth in record {
+      left = small_within g at.In_ok-within;
+      right = small_kept g at.In_ok-kept;
+      begins = same_trans within.begins (same_trans (same_sym c.requires.fit.begins) (same_sym (same_trans kept.begins made.begins)));
+      ends = same_trans within.ends (same_trans (same_sym c.requires.fit.ends) (same_sym (same_trans kept.ends made.ends)));
+    }
+
+pub returns-in_err-within-clause-wide : goal.returns-in_err-within-clause-wide
+returns-in_err-within-clause-wide g c = err_same c.from_residual.result c.in_err-within.field-0.0 _ c.from_residual.ensures.1
+    (λ s p q ends left right. since_within_fault g.P.Shape s p q ends c.args.x.now c.args.y.now left right c.args.x.now c.args.low c.args.high
+    c.in_err-within.field-0.0 c.in_err-within.ensures.wide)
+
+pub returns-in_err-from_start-clause-wide : goal.returns-in_err-from_start-clause-wide
+returns-in_err-from_start-clause-wide g c =
+    err_same c.from_residual-in_err-from_start.result c.in_err-from_start.field-0.0 _ c.from_residual-in_err-from_start.ensures.1
+    (λ s p q ends left right. from_start_fault g.P.Shape c.args.x.now c.args.y.now p q c.args.low c.args.high s c.in_err-from_start.field-0.0
+    ends.lowest ends.highest left right c.in_err-from_start.ensures.wide)
+
+pub returns-in_err-kept-clause-wide : goal.returns-in_err-kept-clause-wide
+returns-in_err-kept-clause-wide g c = err_same c.from_residual-in_err-kept.result c.in_err-kept.field-0.0 _ c.from_residual-in_err-kept.ensures.1
+    (λ s p q ends left right. since_kept_fault g.P.Shape s p q ends c.args.x.now c.args.y.now left right c.in_ok-from_start.from_start c.args.low c.args.high
+    c.in_err-kept.field-0.0 c.in_ok-from_start.ensures.worth c.in_err-kept.ensures.wide)
+
+pub returns-clause-sound : goal.returns-clause-sound
+returns-clause-sound g c =
+    let at = goal.at.returns-clause-sound g c in
+    let inside = small_within g at.In_ok-within in let own = reach_of_bound c.args.low c.args.high in
+    let within = c.in_ok-within.within in let made = c.in_ok-from_start.from_start in let kept = c.in_ok-kept.kept in
+    let begins = same_trans c.in_ok-within.ensures.worth.begins (same_sym c.requires.fit.begins) in
+    let ends = same_trans c.in_ok-within.ensures.worth.ends (same_sym c.requires.fit.ends) in
+    ok_both c.lower.result c.lower.ensures.worth c.lower.ensures.shapes
+    (λ r worth shapes. stay_sound g.P.Shape (assumption g.met.P.Shape) own c.args.x.now c.args.y.now r
+    (same_trans worth.begins begins) (same_trans worth.ends ends)
+    (limited_along g.P.Shape _ within r inside worth (least_of_bounded g.P.Shape within kept inside (small_kept g at.In_ok-kept)))
+    (composed_moved g.P.Shape c.args.low own c.args.x.now c.args.y.now within made kept r (reach_of_order c.args.low c.args.high c.requires.order)
+    (behind_from g.P.Shape c.args.low c.args.high c.args.y.now within c.requires.order c.in_ok-within.ensures.bases) c.in_ok-from_start.ensures.bases
+    (behind_from g.P.Shape 0 (Some c.args.low) made kept (from_zero c.args.low) c.in_ok-kept.ensures.bases) shapes))
+  where
+    from_zero : (n : ℕ) → 0 ≤ n
+    from_zero n = omega arith
+
+pub returns-clause-told : goal.returns-clause-told
+returns-clause-told g c = IfOk-weaker c.lower.result _ _
+    (λ r worth s p q ends left right. since_in g.P.Shape s p q ends c.args.x.now c.args.y.now left right c.in_ok-from_start.from_start
+    c.args.low c.args.high c.in_ok-within.within c.in_ok-kept.kept r (in_order c.args.low c.args.high c.requires.order)
+    c.in_ok-within.ensures.worth c.in_ok-from_start.ensures.worth c.in_ok-kept.ensures.worth worth
+    (c.since_is_composed.ensures c.args.x.now c.args.y.now left.signal
+    (has_from_start g.P.Shape _ _ s.from s.to c.args.x.now c.args.y.now left right c.in_ok-from_start.from_start c.in_ok-from_start.ensures.worth)))
+    c.lower.ensures.worth
+
+pub returns-clause-wide : goal.returns-clause-wide
+returns-clause-wide g c = IfErr-weaker c.lower.result _ _
+    (λ e wide s p q ends left right. since_least_fault g.P.Shape s p q ends c.args.x.now c.args.y.now left right c.in_ok-from_start.from_start
+    c.args.low c.args.high c.in_ok-within.within c.in_ok-kept.kept e
+    c.in_ok-within.ensures.worth c.in_ok-from_start.ensures.worth c.in_ok-kept.ensures.worth wide)
+    c.lower.ensures.wide

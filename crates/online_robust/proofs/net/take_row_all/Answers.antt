@@ -64,9 +64,3 @@ pub returns-clause-gone : goal.returns-clause-gone
 returns-clause-gone c = λ p g.
     gone_last p c.args.edges.now c.args.stations.now.items g.0 c.loop-i.i c.loop-i.edges c.loop-i.stations.items
     (let all = g.0.shows.stations in let same = c.loop-i.invariant.0 in let end = c.len-i-end.ensures in omega (arith, all, same, end)) (c.loop-i.invariant.1 p g)
-
-pub returns-in-Err-clause-nodes : goal.returns-in-Err-clause-nodes
-returns-in-Err-clause-nodes c = length-slice_set c.loop-i.stations.items c.loop-i.i c.take_row.new.self ∙ c.loop-i.invariant.0
-
-pub returns-clause-nodes : goal.returns-clause-nodes
-returns-clause-nodes c = c.loop-i.invariant.0

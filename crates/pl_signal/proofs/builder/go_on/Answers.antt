@@ -7,7 +7,7 @@ use Rattle.pl_signal.proofs.builder.go_on.Goals as goal
 pub returns-then-last-eq0-clause-on : goal.returns-then-last-eq0-clause-on
 returns-then-last-eq0-clause-on g c =
     let count : length c.args.knots.now.items ≡ 1 = let some = c.requires.signal.some in omega arith in
-    step_first g.P.Shape c.args.knots.now.items c.append.new.knots.items c.args.after.now c.args.at.now c.args.point.now count c.requires.later c.append.ensures.put
+    step_first g.P.Shape c.args.knots.now.items c.append.new.knots.items c.args.after c.args.at c.args.point count c.requires.later c.append.ensures.put
 
 pub can_be_left_out-spare-requires : goal.can_be_left_out-spare-requires
 can_be_left_out-spare-requires g c =
@@ -20,7 +20,7 @@ returns-then-spare-clause-on g c =
     omega arith in
     let place : c.len-last.result - 1 ≡ (c.len-last.result - 1 - 1) + 1 = let n = c.if-last-eq0.false in omega arith in
     step_left g.P.Shape c.args.knots.now.items (c.len-last.result - 1 - 1) (c.len-last.result - 1) c.index.result.now c.index-2.result.now
-    c.args.after.now c.args.at.now c.args.point.now count place
+    c.args.after c.args.at c.args.point count place
     c.index.ensures c.index-2.ensures c.requires.signal.each c.requires.later (c.can_be_left_out-spare.ensures.0 c.if-spare.true)
 
 pub returns-clause-on : goal.returns-clause-on
@@ -29,6 +29,6 @@ returns-clause-on g c =
     omega arith in
     let place : c.len-last.result - 1 ≡ (c.len-last.result - 1 - 1) + 1 = let n = c.if-last-eq0.false in omega arith in
     step_kept g.P.Shape c.args.knots.now.items c.append-2.new.knots.items (c.len-last.result - 1 - 1) c.index.result.now c.index-2.result.now
-    c.args.after.now c.args.at.now c.args.point.now count
+    c.args.after c.args.at c.args.point count
     c.index.ensures (read_at c.args.knots.now.items place c.index-2.ensures) c.requires.signal.each c.requires.later
     (λ spare. let yes = c.can_be_left_out-spare.ensures.1 spare in let no = c.if-spare.false in absurd (cc)) c.append-2.ensures.put

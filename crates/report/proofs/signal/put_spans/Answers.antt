@@ -9,13 +9,15 @@ use Rattle.pl_signal.proofs.Values.{next_rises}
 use Rattle.stl_syntax.specs.declared.items.Verdict.{Verdict}
 use Rattle.report.specs.SignalVerdicts.{DescribesFunction}
 use Rattle.report.specs.Spelling.{listed}
+use Rattle.report.specs.Times.{IsBegun}
 use Rattle.report.specs.VerdictForms.{IsEntry}
 use Rattle.report.proofs.Parts.{on_err}
 use Rattle.report.proofs.Lines.{entries_all, entries_part, entries_part_last}
 use Rattle.report.proofs.Sequences.{each_grow}
 use Rattle.report.proofs.Advances.{IsSpelledTo, spelled_start, room_to, spelled_advance, spelled_stop, stop_room, told_to_end}
+use Rattle.report.proofs.Turns.{begun_of, begins_next}
 use Rattle.report.proofs.signal.put_spans.Goals as goal
-use Rattle.report.proofs.signal.put_spans.Goals.{After-advance-by_gap, After-close-end}
+use Rattle.report.proofs.signal.put_spans.Goals.{After-advance-by_gap, After-close-last}
 
 pub loop-i-init : goal.loop-i-init
 loop-i-init c = (
@@ -23,8 +25,28 @@ loop-i-init c = (
   spelled_start c.args.s.now c.knot-first.result c.start-span.result c.knot-first.ensures c.start-span.ensures.from c.start-span.ensures.from_in
       c.start-span.ensures.holds,
   ([], refl, sym (append-nil c.args.text.now)),
+  subst (λ f. IsBegun c.args.style.scale.time f c.in_units-begin.result) (sym c.start-span.ensures.from) c.in_units-begin.ensures,
   omega (arith, length-replicate {A = ℕ} 256 0),
 )
+
+pub put_ended-requires-clause-begun : goal.put_ended-requires-clause-begun
+put_ended-requires-clause-begun c =
+    let a = c.advance-by_gap.ensures in
+    begun_of c.args.style.scale.time c.loop-i.span a.inside c.knot.result.time true c.knot.result.after.holds c.advance-by_gap.result.0 _ a.gap
+    c.loop-i.invariant.3
+
+pub put_ended-requires-in-loop-i-clause-begun : goal.put_ended-requires-in-loop-i-clause-begun
+put_ended-requires-in-loop-i-clause-begun c =
+    let a = c.advance-by_gap.ensures in
+    begun_of c.args.style.scale.time a.inside c.advance-by_gap.new.self c.knot-in-loop-i.result.time false c.knot-in-loop-i.result.point.holds
+    c.advance-by_gap.result.1 _ a.point
+    (begins_next c.args.style.scale.time c.loop-i.span a.inside c.knot.result.time true c.knot.result.after.holds c.advance-by_gap.result.0 c.loop-i.begin
+    c.put_ended.new.begin a.gap c.loop-i.invariant.3
+    c.put_ended.ensures.ends)
+
+pub put_next-requires-clause-begun : goal.put_next-requires-clause-begun
+put_next-requires-clause-begun c =
+    subst (λ f. IsBegun c.args.style.scale.time f c.loop-i.begin) (sym c.close-last.ensures.from) c.loop-i.invariant.3
 
 pub advance-by_gap-requires-clause-begun : goal.advance-by_gap-requires-clause-begun
 advance-by_gap-requires-clause-begun c =
@@ -94,38 +116,45 @@ returns-in_err-put_ended-2-clause-err c =
 pub loop-i-preserved : goal.loop-i-preserved
 loop-i-preserved c =
     let f = (goal.at.loop-i-preserved c).After-advance-by_gap in
+    let a = c.advance-by_gap.ensures in
     let there : (c.loop-i.i - 1) + 1 ≡ c.loop-i.i + 1 - 1 = omega arith in (
       (vs f ++ gap f) ++ point f,
       subst (λ i. IsSpelledTo c.args.s.now i ((vs f ++ gap f) ++ point f) c.advance-by_gap.new.self) there (advanced f),
       each_grow (Entry f) (vs f ++ gap f) (point f) c.args.text.now c.put_ended.new.text c.put_ended-in-loop-i.new.text
           (each_grow (Entry f) (vs f) (gap f) c.args.text.now c.loop-i.text c.put_ended.new.text c.loop-i.invariant.2 c.in_ok-put_ended.ensures.ok)
           c.in_ok-put_ended-2.ensures.ok,
-      omega (arith, c.put_ended.ensures.room, c.put_ended-in-loop-i.ensures.room, c.loop-i.invariant.3),
+      begins_next c.args.style.scale.time a.inside c.advance-by_gap.new.self c.knot-in-loop-i.result.time false c.knot-in-loop-i.result.point.holds
+          c.advance-by_gap.result.1 c.put_ended.new.begin
+          c.put_ended-in-loop-i.new.begin a.point
+          (begins_next c.args.style.scale.time c.loop-i.span a.inside c.knot.result.time true c.knot.result.after.holds c.advance-by_gap.result.0
+          c.loop-i.begin c.put_ended.new.begin a.gap c.loop-i.invariant.3
+          c.put_ended.ensures.ends) c.put_ended-in-loop-i.ensures.ends,
+      omega (arith, c.put_ended.ensures.room, c.put_ended-in-loop-i.ensures.room, c.loop-i.invariant.4),
     )
 
-pub close-end-requires : goal.close-end-requires
-close-end-requires c =
+pub close-last-requires : goal.close-last-requires
+close-last-requires c =
     stop_room c.args.s.now (c.loop-i.i - 1) c.loop-i.invariant.0 c.loop-i.span c.stop.result (omega arith) c.loop-i.invariant.1 c.stop.ensures.value
 
 -- the verdicts with the last one describe the signal
-whole : (c : After-close-end)
-    → DescribesFunction (IsWorth truth_shape c.args.s.now) (c.loop-i.invariant.0 ++ c.close-end.result ∷ []) (closed (start c.args.s.now) (stop c.args.s.now))
+whole : (c : After-close-last)
+    → DescribesFunction (IsWorth truth_shape c.args.s.now) (c.loop-i.invariant.0 ++ c.close-last.result ∷ []) (closed (start c.args.s.now) (stop c.args.s.now))
 whole c =
-    spelled_stop c.args.s.now (c.loop-i.i - 1) c.loop-i.invariant.0 c.loop-i.span c.close-end.result c.stop.result
-    (omega arith) c.loop-i.invariant.1 c.stop.ensures.value c.close-end.ensures
+    spelled_stop c.args.s.now (c.loop-i.i - 1) c.loop-i.invariant.0 c.loop-i.span c.close-last.result c.stop.result
+    (omega arith) c.loop-i.invariant.1 c.stop.ensures.value c.close-last.ensures
 
 pub returns-clause-ok : goal.returns-clause-ok
 returns-clause-ok c =
-    let all = whole (goal.at.returns-clause-ok c).After-close-end in
+    let all = whole (goal.at.returns-clause-ok c).After-close-last in
     on_ok_weaker c.put_next.result
-    (λ grew. entries_all truth_shape c.args.style.json c.args.style.scale c.args.s.now c.loop-i.invariant.0 c.close-end.result c.args.text.now c.loop-i.text
+    (λ grew. entries_all truth_shape c.args.style.json c.args.style.scale c.args.s.now c.loop-i.invariant.0 c.close-last.result c.args.text.now c.loop-i.text
     c.put_next.new.text all
     c.loop-i.invariant.2 grew) c.put_next.ensures.ok
 
 pub returns-clause-err : goal.returns-clause-err
 returns-clause-err c =
-    let all = whole (goal.at.returns-clause-err c).After-close-end in
+    let all = whole (goal.at.returns-clause-err c).After-close-last in
     on_err_weaker c.put_next.result
-    (λ grew. entries_part_last truth_shape c.args.style.json c.args.style.scale c.args.s.now c.loop-i.invariant.0 c.close-end.result c.args.text.now
+    (λ grew. entries_part_last truth_shape c.args.style.json c.args.style.scale c.args.s.now c.loop-i.invariant.0 c.close-last.result c.args.text.now
     c.loop-i.text c.put_next.new.text all
     c.loop-i.invariant.2 grew) c.put_next.ensures.err

@@ -1,6 +1,7 @@
 use Rattle.std.proofs.Common.{◌-◌, ◌≤◌, false, List, length}
 use Rattle.stl_syntax.specs.declared.items.Verdict.{Verdict}
 use Rattle.report.specs.Appended.{Grew, AreEach}
+use Rattle.report.specs.Times.{IsBegun}
 use Rattle.report.specs.VerdictForms.{IsEntry}
 use Rattle.report.proofs.Advances.{IsSpelledTo}
 use Rattle.report.proofs.signal.put_spans.Given as goal
@@ -9,4 +10,4 @@ abbrev pub invariant-loop-i : goal.invariant-loop-i
 invariant-loop-i l =
     (verdicts : List Verdict) × IsSpelledTo l.s (l.i - 1) verdicts l.span × Grew
     (AreEach (IsEntry l.style.json false l.style.scale) verdicts) l.initial.text l.text
-    × (256 ≤ length l.buf)
+    × IsBegun l.style.scale.time l.span.from l.begin × (256 ≤ length l.buf)

@@ -1,34 +1,28 @@
-use Rattle.std.proofs.Common.{◌≡◌, ◌-◌, ◌<◌, ◌∙◌, length, refl, sym, subst, arith}
-use Rattle.stl_syntax.specs.Trace.{first_time, last_time}
-use Rattle.offline_eval.specs.Keeping.{TellsStack}
+use Rattle.std.proofs.Common.{◌-◌, length, sym, ap, refl, pos, arith}
+use Rattle.std.proofs.lemmas.Result.{IfErr-weaker, IfOk-weaker}
+use Rattle.rational.specs.Time.{whole}
+use Rattle.offline_eval.specs.Inputs.{IsOver}
 use Rattle.workbench.specs.Judging.{setting_of}
 use Rattle.workbench.proofs.Judged.{root_told}
 use Rattle.workbench.proofs.signals.root_of.Goals as goal
 
-pub loop-i-init : goal.loop-i-init
-loop-i-init g c =
-    let case = c.args.case.now in
-    record {
-      stands = c.new-stack.ensures.stands (first_time case.trace.rows) (last_time 0 case.trace.rows) case.formula.nodes;
-      told = c.new-stack.ensures.told case.formula.nodes (setting_of g.P.Shape g.P.AtomShape.reading case.trace);
-    }
-
-pub root-requires : goal.root-requires
-root-requires g c =
-    let nodes = c.args.case.now.formula.nodes in
-    let count : c.loop-i.i ≡ length nodes = let t = c.loop-i-test.false in let e = c.len-count.ensures.count in let m = c.loop-i.auto.i-end in omega arith in
-    let some : 0 < length nodes = c.len-count.ensures.well_formed.some in
-    omega (arith, c.loop-i.invariant.stands.count, count, some)
-
 pub returns-clause-told : goal.returns-clause-told
 returns-clause-told g c =
     let case = c.args.case.now in
-    let nodes = case.formula.nodes in
     let s = setting_of g.P.Shape g.P.AtomShape.reading case.trace in
-    let formed = c.len-count.ensures.well_formed in
-    let count : c.loop-i.i ≡ length nodes = let t = c.loop-i-test.false in let e = c.len-count.ensures.count in let m = c.loop-i.auto.i-end in omega arith in
-    let stack = c.loop-i.invariant in
-    let (signals, long, at, told) = c.root.ensures nodes s (sym count ∙ sym stack.stands.count)
-    (subst (λ n. TellsStack g.P.Shape nodes s n c.loop-i.stack) count stack.told) in
-    root_told g.P.Shape g.P.AtomShape.reading case signals c.root.result formed.some told at
-    (c.told_have_values.ensures nodes signals s formed.nodes.post_order refl told (length nodes - 1) (omega (arith, formed.some)))
+    let over : IsOver g.P.Shape.lowest g.P.Shape.highest c.first-from.result c.last-to.result s =
+    record { lowest = refl; highest = refl; from = ap (λ n. whole (pos n)) (sym c.first-from.ensures); to = ap (λ n. whole (pos n)) (sym c.last-to.ensures.last) } in
+    let formed = c.len.ensures.well_formed in
+    IfOk-weaker c.eval_root.result _ _
+    (λ r is. let (signals, count, at, tells) = is in
+    let told = tells s over c.in-Ok.ensures.told in
+    root_told g.P.Shape g.P.AtomShape.reading case signals r formed.some told at
+    (c.told_have_values.ensures case.formula.nodes signals s formed.nodes.post_order refl told (length case.formula.nodes - 1) (omega (arith, formed.some))))
+    c.eval_root.ensures.told
+
+pub returns-clause-wide : goal.returns-clause-wide
+returns-clause-wide g c =
+    let s = setting_of g.P.Shape g.P.AtomShape.reading c.args.case.now.trace in
+    let over : IsOver g.P.Shape.lowest g.P.Shape.highest c.first-from.result c.last-to.result s =
+    record { lowest = refl; highest = refl; from = ap (λ n. whole (pos n)) (sym c.first-from.ensures); to = ap (λ n. whole (pos n)) (sym c.last-to.ensures.last) } in
+    IfErr-weaker c.eval_root.result _ _ (λ e h. h s over c.in-Ok.ensures.told) c.eval_root.ensures.wide

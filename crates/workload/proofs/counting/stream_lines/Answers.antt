@@ -49,14 +49,14 @@ loop-row-preserved c =
     )
 
 pub returns : goal.returns
-returns c = λ p ok same told.
+returns c = λ p ok ahead same told.
     let rows = c.args.trace.now.rows in
     let e : c.loop-row.row ≡ length rows = omega (arith, c.loop-row-test.false, c.loop-row.auto.row-end, c.rows-row-end.ensures.count) in
     let all = walked_all (first_time rows) c.args.horizon rows c.args.verdicts.now c.loop-row.at c.loop-row.lines
     (subst (λ i. HasWalked (first_time rows) c.args.horizon rows c.args.verdicts.now i c.loop-row.at c.loop-row.lines) e c.loop-row.invariant.0) in
     let left = drop c.loop-row.at c.args.verdicts.now in
     let walks = subst (λ h. Walks (first_time rows) h rows c.args.verdicts.now c.loop-row.lines left) same all in
-    let s = streamed p c.args.trace.now.header rows ok c.args.verdicts.now left c.loop-row.lines told walks in
+    let s = streamed p c.args.trace.now.header rows ok ahead c.args.verdicts.now left c.loop-row.lines told walks in
     record {
       during = s.during;
       rest = s.rest;

@@ -1,8 +1,7 @@
-use Rattle.std.proofs.Common.{◌⊎◌, ◌∙◌, subst}
-use Rattle.early_verdict.specs.Cuts.{place}
+use Rattle.std.proofs.Common.{subst}
 use Rattle.early_verdict.specs.Spans.{Grows}
 use Rattle.early_verdict.specs.Steps.{BySome}
-use Rattle.early_verdict.specs.Reaching.{IsCarried, ReachedAt}
+use Rattle.early_verdict.specs.Reaching.{ReachedAt}
 use Rattle.early_verdict.proofs.WindowLemmas.{on_good}
 use Rattle.early_verdict.proofs.StepLemmas.{gains_of, grown_then}
 use Rattle.early_verdict.proofs.ReachLemmas.{ReachedNew, back_tells}
@@ -17,19 +16,14 @@ returns-clause-gains c =
     let fx = c.args.x.now.fresh.items in
     let own = c.args.self.now in
     let first = c.add_all_reached.new.own in
-    let second = c.add_all_reached-2.new.own in
-    let new = c.add_carried.new.own in
+    let new = c.add_all_reached-2.new.own in
     let f = subst (λ xs. Grows own.bounds own.spans.items first.spans.items told first.fresh.items (BySome (ReachedAt z x) xs)) c.deref.ensures.value
     c.in_ok-add_all_reached.ensures.ok in
-    let g = grown_then own first second told (BySome (ReachedAt z x) fx) (BySome (ReachedAt z x) fz) c.add_all_reached.ensures.bounds f
-    (subst (λ xs. Grows first.bounds first.spans.items second.spans.items first.fresh.items second.fresh.items (BySome (ReachedAt z x) xs))
-    c.deref-2.ensures.value
-    c.in_ok-add_all_reached-2.ensures.ok) in
-    let is = c.add_all_reached-2.ensures.bounds ∙ c.add_all_reached.ensures.bounds in
-    on_good c.add_carried.result c.add_carried.ensures.ok
+    on_good c.add_all_reached-2.result c.add_all_reached-2.ensures.ok
     (λ k. gains_of own.bounds own.spans.items new.spans.items told new.fresh.items
-    (λ t. ReachedNew z fz x fx t ⊎ IsCarried c.args.carried (place second.bounds.from) z t) c.clear.ensures.items
-    (grown_then own second new told (ReachedNew z fz x fx) (IsCarried c.args.carried (place second.bounds.from) z) is g k))
+    (ReachedNew z fz x fx) c.clear.ensures.items
+    (grown_then own first new told (BySome (ReachedAt z x) fx) (BySome (ReachedAt z x) fz) c.add_all_reached.ensures.bounds f
+    (subst (λ xs. Grows first.bounds first.spans.items new.spans.items first.fresh.items new.fresh.items (BySome (ReachedAt z x) xs)) c.deref-2.ensures.value k)))
 
 pub returns-clause-tells : goal.returns-clause-tells
 returns-clause-tells c =
@@ -40,18 +34,10 @@ returns-clause-tells c =
     let fx = c.args.x.now.fresh.items in
     let own = c.args.self.now in
     let first = c.add_all_reached.new.own in
-    let second = c.add_all_reached-2.new.own in
-    let new = c.add_carried.new.own in
+    let new = c.add_all_reached-2.new.own in
     let f = subst (λ xs. Grows own.bounds own.spans.items first.spans.items told first.fresh.items (BySome (ReachedAt z x) xs)) c.deref.ensures.value
     c.in_ok-add_all_reached.ensures.ok in
-    let g = grown_then own first second told (BySome (ReachedAt z x) fx) (BySome (ReachedAt z x) fz) c.add_all_reached.ensures.bounds f
-    (subst (λ xs. Grows first.bounds first.spans.items second.spans.items first.fresh.items second.fresh.items (BySome (ReachedAt z x) xs))
-    c.deref-2.ensures.value
-    c.in_ok-add_all_reached-2.ensures.ok) in
-    let is = c.add_all_reached-2.ensures.bounds ∙ c.add_all_reached.ensures.bounds in
-    on_good c.add_carried.result c.add_carried.ensures.ok
-    (λ k y v gz gx inside t. back_tells y z fz v x fx gz gx c.requires.runs inside own.bounds own.spans.items new.spans.items told new.fresh.items
-    c.args.carried (place own.bounds.from) t
-    (subst (λ s. Grows own.bounds own.spans.items new.spans.items told new.fresh.items
-    (λ w. ReachedNew z fz x fx w ⊎ IsCarried c.args.carried (place s.from) z w)) is
-    (grown_then own second new told (ReachedNew z fz x fx) (IsCarried c.args.carried (place second.bounds.from) z) is g k)))
+    on_good c.add_all_reached-2.result c.add_all_reached-2.ensures.ok
+    (λ k y v gz gx inside t. back_tells y z fz v x fx gz gx c.requires.runs inside own.bounds own.spans.items new.spans.items told new.fresh.items t
+    (grown_then own first new told (BySome (ReachedAt z x) fx) (BySome (ReachedAt z x) fz) c.add_all_reached.ensures.bounds f
+    (subst (λ xs. Grows first.bounds first.spans.items new.spans.items first.fresh.items new.fresh.items (BySome (ReachedAt z x) xs)) c.deref-2.ensures.value k)))

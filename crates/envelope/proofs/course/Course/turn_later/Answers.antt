@@ -11,14 +11,14 @@ use Rattle.envelope.proofs.course.Course.turn_later.Goals.{then-turn, else-turn}
 pub returns-clause-ok : goal.returns-clause-ok
 returns-clause-ok g c =
     let s = c.in_ok-settle.ensures.ok in
-    subst (λ m. Turns g.P.Shape c.args.self.now c.args.turn.now c.args.next.now
-    (record m { before = m.after; at = c.args.turn.now.at; point = c.if-turn.point; after = c.args.next.now }))
+    subst (λ m. Turns g.P.Shape c.args.self.now c.args.turn.now c.args.next
+    (record m { before = m.after; at = c.args.turn.now.at; point = c.if-turn.point; after = c.args.next }))
     (sym s.same)
-    (turned_later g.P.Shape c.args.self.now c.args.turn.now c.args.next.now c.if-turn.point c.settle.new.self s
+    (turned_later g.P.Shape c.args.self.now c.args.turn.now c.args.next c.if-turn.point c.settle.new.self s
     c.requires.ready c.requires.order c.requires.within c.requires.levels
-    (subst (λ m. IsPointOf g.P.Shape m c.args.turn.now c.args.next.now c.if-turn.point) s.same here))
+    (subst (λ m. IsPointOf g.P.Shape m c.args.turn.now c.args.next c.if-turn.point) s.same here))
   where
-    here : IsPointOf g.P.Shape c.settle.new.self c.args.turn.now c.args.next.now c.if-turn.point
+    here : IsPointOf g.P.Shape c.settle.new.self c.args.turn.now c.args.next c.if-turn.point
     here = elim c.if-turn.branch [
       | then-turn w ↦ inl (
         w.if-turn.true,
@@ -28,8 +28,8 @@ returns-clause-ok g c =
       )
       | else-turn w ↦ inr (
         w.if-turn.false,
-        subst (Has c.args.next.now) (sym w.point-is) w.at-point-else-turn.ensures.one,
-        subst (λ p. IsBestAt g.P.Shape c.settle.new.self.side c.args.next.now (value c.args.turn.now.at)
+        subst (Has c.args.next) (sym w.point-is) w.at-point-else-turn.ensures.one,
+        subst (λ p. IsBestAt g.P.Shape c.settle.new.self.side c.args.next (value c.args.turn.now.at)
             (value_at (g.P.Shape.function p) (value c.args.turn.now.at)))
             (sym w.point-is) w.at-point-else-turn.ensures.value,
       )

@@ -6,7 +6,7 @@ use Rattle.envelope.specs.Course.{first_time}
 use Rattle.envelope.specs.Walking.{IsPiecesFault}
 use Rattle.envelope.specs.Standing.{Admits, Leaves}
 use Rattle.envelope.proofs.Faulting.{err_any, stopped_left}
-use Rattle.envelope.proofs.Taking.{taken, taken_worthless}
+use Rattle.envelope.proofs.Taking.{taken}
 use Rattle.envelope.proofs.walk.Walk.take.Goals as goal
 
 pub rise-requires-clause-ready : goal.rise-requires-clause-ready
@@ -23,11 +23,11 @@ returns g c =
     let d = c.drop_worse.ensures.dropped in
     let new = c.rise.new.self.course in
     record {
-      ok = subst (λ xs. Admits g.P.Shape c.args.from.now c.args.item.now old low_until items new c.rise.new.self.low_until
-          xs) (sym (c.push_back_reserved.ensures.items ∙ ap (λ (xs : List (Item g.row.P.Denot)). xs ++ c.args.item.now ∷ [])
+      ok = subst (λ xs. Admits g.P.Shape c.args.from.now c.args.item old low_until items new c.rise.new.self.low_until
+          xs) (sym (c.push_back_reserved.ensures.items ∙ ap (λ (xs : List (Item g.row.P.Denot)). xs ++ c.args.item ∷ [])
           c.rise.ensures.items))
-          (subst (λ u. Admits g.P.Shape c.args.from.now c.args.item.now old low_until items new u (front ++ c.args.item.now ∷ [])) (sym c.rise.ensures.until)
-          (taken g.P.Shape (assumption g.met.P.Shape) c.args.from.now c.args.item.now old mid low_until low_mid items
+          (subst (λ u. Admits g.P.Shape c.args.from.now c.args.item old low_until items new u (front ++ c.args.item ∷ [])) (sym c.rise.ensures.until)
+          (taken g.P.Shape (assumption g.met.P.Shape) c.args.from.now c.args.item old mid low_until low_mid items
           d.dropped c.requires.new c.requires.followed d.worse front new d.last
           (subst (λ xs. Leaves g.P.Shape c.args.from.now old low_until items mid low_mid xs)
           (sym c.reserve.ensures.items ∙ d.same) c.in_ok-leave.ensures.ok)
@@ -48,11 +48,3 @@ returns-in_err-rise-clause-fault g c = err_any c.from_residual-in_err-rise.resul
     (stopped_left g.P.Shape (assumption g.met.P.Shape) c.args.from.now c.args.self.now c.leave.new.self.course
     c.leave.new.self.low_until c.leave.new.self.queue.items
     c.rise.new.self.course.fault c.in_ok-leave.ensures.ok c.in_err-rise.ensures.fault)
-
-pub returns-then-is_worthless : goal.returns-then-is_worthless
-returns-then-is_worthless g c = record {
-  ok = taken_worthless g.P.Shape (assumption g.met.P.Shape) c.args.from.now c.args.item.now c.args.self.now.course c.leave.new.self.course
-      c.args.self.now.low_until c.leave.new.self.low_until c.args.self.now.queue.items c.leave.new.self.queue.items c.requires.new
-      (c.is_worthless.ensures c.if-is_worthless.true) c.in_ok-leave.ensures.ok;
-  fault = tt;
-}

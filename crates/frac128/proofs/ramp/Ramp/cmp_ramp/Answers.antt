@@ -1,13 +1,7 @@
-use Rattle.std.proofs.Common.{rules, to_z-of_z, ◌≡◌, to_z, of_z}
-use mir.Syntax.{w64}
-use Rattle.rational.proofs.Compare.{order_same}
-use Rattle.rational.proofs.Order.{same_sym}
-use Rattle.frac128.proofs.Plains.{order_of_wholes}
+use Rattle.rational.specs.Line.{gap_line}
+use Rattle.rational.proofs.Meetings.{order_of_gap}
+use Rattle.frac128.specs.Line.{line}
 use Rattle.frac128.proofs.ramp.Ramp.cmp_ramp.Goals as goal
 
-pub returns-in-Some-plain : goal.returns-in-Some-plain
-returns-in-Some-plain c =
-    let v : to_z w64 (of_z w64 c.in-Some.v) ≡ c.in-Some.v = search (rules, to_z-of_z) in
-    let w : to_z w64 (of_z w64 c.in-Some-plain.w) ≡ c.in-Some-plain.w = search (rules, to_z-of_z) in
-    order_same c.cmp.result (same_sym c.in-Some.ensures) (same_sym c.in-Some-plain.ensures)
-    (order_of_wholes c.cmp.result c.in-Some.v c.in-Some-plain.w (rw (v, w) at c.cmp.ensures))
+pub returns : goal.returns
+returns c = let f = line c.args.self.now in let g = line c.args.other.now in order_of_gap c.sign_at.result f g _ (c.sign_at.ensures (gap_line f g) c.of.ensures)

@@ -1,16 +1,15 @@
-use Rattle.std.proofs.Common.{rules, to_z-of_z, ◌≡◌, to_z, of_z, Ok}
+use Rattle.std.proofs.Common.{◌^◌, lit<}
 use mir.Syntax.{w64}
-use Rattle.rational.proofs.Order.{same_sym, same_trans}
-use Rattle.frac128.proofs.Fractions.{wide_same}
-use Rattle.frac128.proofs.Plains.{not_wide_at}
+use Rattle.rational.proofs.Order.{same_sym}
+use Rattle.rational.proofs.Mixed.{fits_of_within, within_same}
+use Rattle.frac128.proofs.Fractions.{ok_same, wide_same}
 use Rattle.frac128.proofs.ramp.Ramp.fix.Goals as goal
 
-pub returns-in-Some-clause-ok : goal.returns-in-Some-clause-ok
-returns-in-Some-clause-ok c =
-    let v : to_z w64 (of_z w64 c.in-Some.v) ≡ c.in-Some.v = search (rules, to_z-of_z) in
-    same_trans (rw v at c.of.ensures.value) (same_sym c.in-Some.ensures)
+pub frac-requires : goal.frac-requires
+frac-requires c = fits_of_within w64 (2 ^ 31) (lit< tt) (within_same (2 ^ 31) (same_sym c.at.ensures.value) c.requires.value)
 
-pub returns-in-Some-clause-wide : goal.returns-in-Some-clause-wide
-returns-in-Some-clause-wide c =
-    let v : to_z w64 (of_z w64 c.in-Some.v) ≡ c.in-Some.v = search (rules, to_z-of_z) in
-    wide_same (Ok c.of.result) (same_trans (rw v at c.of.ensures.value) (same_sym c.in-Some.ensures)) (not_wide_at c.of.result)
+pub returns-clause-ok : goal.returns-clause-ok
+returns-clause-ok c = ok_same c.frac.result c.at.ensures.value c.frac.ensures.ok
+
+pub returns-clause-wide : goal.returns-clause-wide
+returns-clause-wide c = wide_same c.frac.result c.at.ensures.value c.frac.ensures.wide

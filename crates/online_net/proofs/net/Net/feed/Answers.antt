@@ -1,4 +1,4 @@
-use Rattle.std.proofs.Common.{◌≡◌, ◌<◌, Option, Some, None, List, [], ◌∷◌, ◌++◌, length, sym, subst}
+use Rattle.std.proofs.Common.{◌≡◌, ◌<◌, Some, None, List, [], ◌∷◌, ◌++◌, length, sym, subst}
 use Rattle.std.specs.Prelude.{slice_get, IfSome}
 use Rattle.stl_syntax.specs.Trace.{Header, Row}
 use Rattle.stl_syntax.specs.declared.node.Node.{Node}
@@ -24,19 +24,19 @@ put_row-requires-clause-first c =
     last_width w.0 w.1 w.2 net w.3
 
 -- the network with the row, as it is kept
-with_row : (net : Parts) (nodes : List Node) (header : Header) (events : List Event) (e : Held) (r : Row) (kept : Option Row) → kept ≡ Some r
-    → Stands nodes header (record net { edges = e; last = Some r }) events → Stands nodes header (record net { edges = e; last = kept }) events
-with_row net nodes header events e r kept same h = subst (λ q. Stands nodes header (record net { edges = e; last = q }) events) (sym same) h
+with_row : (net : Parts) (nodes : List Node) (header : Header) (events : List Event) (e : Held) (r kept : Row) → kept ≡ r
+    → Stands nodes header (record net { edges = e; last = Some r }) events → Stands nodes header (record net { edges = e; last = Some kept }) events
+with_row net nodes header events e r kept same h = subst (λ q. Stands nodes header (record net { edges = e; last = Some q }) events) (sym same) h
 
-pub invariant_of-self-in-Ok-keep_row : goal.invariant_of-self-in-Ok-keep_row
-invariant_of-self-in-Ok-keep_row c running =
+pub invariant_of-self-2 : goal.invariant_of-self-2
+invariant_of-self-2 c running =
     let net : Parts = the_view c.self.inside in
     let w = c.self.invariant c.if-self.false in (
       w.0,
       w.1,
       w.2 ++ row c.args.row.now ∷ [],
-      with_row net w.0 w.1 (w.2 ++ row c.args.row.now ∷ []) c.put_row.new.edges c.args.row.now c.keep_row.new.last
-          c.in-Ok-keep_row.ensures (fed_stands w.0 w.1 w.2 net w.3 c.args.row.now
+      with_row net w.0 w.1 (w.2 ++ row c.args.row.now ∷ []) c.put_row.new.edges c.args.row.now c.in-Ok-copy.kept
+          c.in-Ok-copy.ensures (fed_stands w.0 w.1 w.2 net w.3 c.args.row.now
           (row_may w.0 w.1 w.2 net w.3 c.args.row.now c.if-self-2.false
           (subst (λ (p : Parts). IfSome p.last (λ q. q.time < c.args.row.now.time)) (sym c.self.view_is) c.requires.later)
           (subst (λ (p : Parts). length c.args.row.now.values ≡ p.bound.width) (sym c.self.view_is) c.requires.width))
@@ -49,7 +49,7 @@ pub returns-clause-stands : goal.returns-clause-stands
 returns-clause-stands c nodes header events st =
     let net : Parts = the_view c.self.inside in
     let now : Stands nodes header net events = (subst (λ (p : Parts). Stands nodes header p events) (sym c.self.view_is) st) in
-    with_row net nodes header (events ++ row c.args.row.now ∷ []) c.put_row.new.edges c.args.row.now c.keep_row.new.last c.in-Ok-keep_row.ensures
+    with_row net nodes header (events ++ row c.args.row.now ∷ []) c.put_row.new.edges c.args.row.now c.in-Ok-copy.kept c.in-Ok-copy.ensures
     (fed_stands nodes header events net now c.args.row.now
     (row_may nodes header events net now c.args.row.now c.if-self-2.false
     (subst (λ (p : Parts). IfSome p.last (λ q. q.time < c.args.row.now.time)) (sym c.self.view_is) c.requires.later)

@@ -1,4 +1,4 @@
-use Rattle.std.proofs.Common.{◌≡◌, ◌≢◌, ◌∙◌, None, true, false, length, ap, refl, sym, subst}
+use Rattle.std.proofs.Common.{◌≡◌, ◌≢◌, ◌∙◌, None, true, false, length, refl, sym, subst}
 use Rattle.std.specs.Prelude.{IfSome}
 use Rattle.online_robust.specs.Pasts.{with_end}
 use Rattle.online_robust.specs.Nets.{Parts, StandsFor}
@@ -66,7 +66,12 @@ returns-in-Ok-clause-stands c nodes header past given stands =
     (c.in-Ok.ensures.gone pass may)
 
 pub returns-in-Ok-clause-nodes : goal.returns-in-Ok-clause-nodes
-returns-in-Ok-clause-nodes c = c.take_end_all.ensures.nodes ∙ ap (λ (p : Parts). length p.stations) c.self.view_is
-
-pub returns-in-Err-clause-nodes : goal.returns-in-Err-clause-nodes
-returns-in-Err-clause-nodes c = c.take_end_all.ensures.nodes ∙ ap (λ (p : Parts). length p.stations) c.self.view_is
+returns-in-Ok-clause-nodes c =
+    let (nodes, header, past, given, st) = c.self.invariant c.if-self.false in
+    let some = subst (λ (p : Parts). p.last ≢ None) (sym c.self.view_is) c.requires in
+    let is_now = subst (λ o. IfSome o (λ q. c.time-now.result ≡ q.time)) (sym c.in-Some.is) c.time-now.ensures in
+    let net = the_view c.self.inside in
+    let pass = passing_end nodes header net past given st some c.if-self-2.false c.time-now.result is_now in
+    let may = can_end nodes header net past given st some c.if-self-2.false c.time-now.result is_now in
+    (c.in-Ok.ensures.gone pass may).shows.stations
+    ∙ sym (subst (λ (p : Parts). length p.stations ≡ length nodes) c.self.view_is st.shows.stations)

@@ -1,4 +1,4 @@
-use Rattle.std.proofs.Common.{◌≡◌, ◌<◌, ◌≤◌, ◌∙◌, true, false, length, ap, arith, refl, sym, subst}
+use Rattle.std.proofs.Common.{◌≡◌, ◌<◌, ◌≤◌, ◌∙◌, true, false, length, arith, refl, sym, subst}
 use Rattle.std.specs.Prelude.{IfSome}
 use Rattle.online_robust.specs.Pasts.{with_row}
 use Rattle.online_robust.specs.Nets.{Parts, StandsFor}
@@ -81,7 +81,14 @@ returns-in-Ok-take_row_all-clause-stands c nodes header past given stands =
     (c.in-Ok-take_row_all.ensures.gone pass may)
 
 pub returns-in-Ok-take_row_all-clause-nodes : goal.returns-in-Ok-take_row_all-clause-nodes
-returns-in-Ok-take_row_all-clause-nodes c = c.take_row_all.ensures.nodes ∙ ap (λ (p : Parts). length p.stations) c.self.view_is
-
-pub returns-in-Err-clause-nodes : goal.returns-in-Err-clause-nodes
-returns-in-Err-clause-nodes c = c.take_row_all.ensures.nodes ∙ ap (λ (p : Parts). length p.stations) c.self.view_is
+returns-in-Ok-take_row_all-clause-nodes c =
+    let (nodes, header, past, given, st) = c.self.invariant c.if-self.false in
+    let r = c.args.row.now in
+    let width = subst (λ (p : Parts). length r.values ≡ p.bound.width) (sym c.self.view_is) c.requires.width in
+    let later = subst (λ (p : Parts). IfSome p.last (λ q. q.time < r.time)) (sym c.self.view_is) c.requires.later in
+    let small : r.time ≤ 4294967295 = omega arith in
+    let net = the_view c.self.inside in
+    let pass = passing_row nodes header net past given st r width later small c.if-self-2.false in
+    let may = row_may nodes header net past given st r width later small c.if-self-2.false c.begin_at.new.edges c.time-now.result c.time-now.ensures c.begin_at.ensures in
+    (c.in-Ok-take_row_all.ensures.gone pass may).shows.stations
+    ∙ sym (subst (λ (p : Parts). length p.stations ≡ length nodes) c.self.view_is st.shows.stations)

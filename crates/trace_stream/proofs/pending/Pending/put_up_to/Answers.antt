@@ -11,7 +11,7 @@ pub loop-verdict-preserved : goal.loop-verdict-preserved
 loop-verdict-preserved c =
     let (put, (grown, lines, is), on) = c.loop-verdict.invariant in
     let (e, whole) = c.in-Some.ensures in
-    let (line, is_line, longer) = c.in_ok-put_verdict_after.ensures.ok in
+    let (line, is_line, longer) = c.in_ok-put_verdict.ensures.ok in
     let v = c.in-Some.verdict in (
       put ++ v ∷ [],
       (
@@ -39,7 +39,7 @@ returns-in-Some-cut c =
     let (same, beyond) = subst (λ o. IsNextUpTo c.args.front c.loop-verdict.self o c.next.new.self) c.in_default.is c.next.ensures in
     let up = cut_parts c.args.front c.next.new.self c.cut.new.self (Some part) (subst (λ l. GoesBeyond c.args.front l) (sym same) beyond)
     c.in-Some-cut.ensures in
-    IfOk-weaker c.put_verdict_after-in-Some-cut.result _ _ (λ u h.
+    IfOk-weaker c.put_verdict-in-Some-cut.result _ _ (λ u h.
     let (line, is_line, longer) = h in (
       grown ++ line,
       (
@@ -49,7 +49,7 @@ returns-in-Some-cut c =
       ),
       longer ∙ ap (λ t. t ++ line) is ∙ append_assoc c.args.text.now grown line,
     ))
-    c.put_verdict_after-in-Some-cut.ensures.ok
+    c.put_verdict-in-Some-cut.ensures.ok
 
 pub returns-in-None : goal.returns-in-None
 returns-in-None c =

@@ -55,7 +55,7 @@ returns c = λ case made k t.
     (λ header events s. c.in_ok-step_all.ensures.stands header events s) in
     let x = passing v case w close mid.net ne st in
     let can = can_take v case w close x mid st c.step_all.ensures.start in
-    end_followed v case w f made x after c.take_all.new.last c.args.text.now c.take_all.new.text c.put_start.new.text c.in-Some.holds k.told is t
+    end_followed v case w f made x after c.args.text.now c.take_all.new.text c.put_start.new.text c.in-Some.holds k.told is t
     (c.take_all.ensures.formula ∙ c.step_all.ensures.formula)
     (is_out v case w x after c.args.text.now c.take_all.new.text t
     (c.in_ok-take_all.ensures.taken (pass_before case.formula.nodes case.trace.header w.events close x.first x.beyond) can))

@@ -51,7 +51,7 @@ returns-then-is_atom c = λ case made opened t.
     let can = can_take v case w e x mid st c.step_all.ensures.start in
     IfOk-weaker c.take_all.result _ _
     (λ u h.
-    let (grown, is_grown, follows) = row_followed v case w f made c.args.row.now x after c.take_all.new.last c.args.text.now c.take_all.new.text is k.told t
+    let (grown, is_grown, follows) = row_followed v case w f made c.args.row.now x after c.args.text.now c.take_all.new.text is k.told t
     (c.take_all.ensures.formula ∙ c.step_all.ensures.formula) h in (grown, is_grown, inl follows))
     (c.take_all.ensures.taken (pass_before case.formula.nodes case.trace.header w.events e x.first x.beyond) can)
 
@@ -63,7 +63,6 @@ returns-in-Ok-push c = λ case made opened t.
       horizon = v.horizon;
       times = c.push.new.self;
       pending = v.pending;
-      last = v.last;
     } in (
       [],
       sym (append-nil c.args.text.now),

@@ -45,7 +45,7 @@ returns c = λ case made opened.
     let (grown, lines, longer) = c.in_ok-put_rows.ensures.lines in
     let put = c.put_rows.new.self in
     owing_followed v case made o x c.give_all.new.self
-    (record { network = put.network; horizon = put.horizon; times = c.clear.new.self; pending = c.clear-2.new.self; last = put.last })
+    (record { network = put.network; horizon = put.horizon; times = c.clear.new.self; pending = c.clear-2.new.self })
     c.give_all.new.pending put.pending c.args.text.now c.put_rows.new.text grown
     (c.in_ok-give_all.ensures.given (Before v case made o x) can) lines longer c.put_rows.ensures.network
     (c.give_all.ensures.formula ∙ c.step_all.ensures.formula) c.put_rows.ensures.horizon c.clear.ensures.items c.clear-2.ensures
