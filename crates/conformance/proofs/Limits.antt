@@ -14,7 +14,8 @@ use Rattle.conformance.specs.Tables.{IsSmall, IsLimitedAt}
 
 -- a near time read backwards
 pub mirrored_within : (t : Rational) (about : ℤ) → unsigned_abs about ≤ 2 ^ 31 → IsWithin (2 ^ 33) t → IsWithin (2 ^ 34) (subtract (whole about) t)
-mirrored_within t about h k = within_more (2 ^ 31 + 2 ^ 33) (2 ^ 34) (omega arith) (within_add (2 ^ 31) (2 ^ 33) (within_whole (2 ^ 31) about h) (within_negate (2 ^ 33) k))
+mirrored_within t about h k = within_more (2 ^ 31 + 2 ^ 33) (2 ^ 34) (omega arith)
+    (within_add (2 ^ 31) (2 ^ 33) (within_whole (2 ^ 31) about h) (within_negate (2 ^ 33) k))
 
 module _ {P : Type 0} (shape : ShapeOf P) where
   -- knots that are limited at each place from one on
@@ -24,10 +25,17 @@ module _ {P : Type 0} (shape : ShapeOf P) where
     where
       first : (ks : List (Knot P)) → IsLimitedAt shape (k ∷ ks) 0 → IsLimitedKnot shape k ks
       first [] s = let small = s k refl in record { when = small.when; point = small.point; limits = tt }
-      first (n ∷ ks) s = let small = s k refl in let limits = small.limits n refl in record { when = small.when; point = small.point; limits = (limits.first, limits.last) }
+      first (n ∷ ks) s =
+          let small = s k refl in
+          let limits = small.limits n refl in
+          record { when = small.when; point = small.point; limits = (limits.first, limits.last) }
 
       later : {m : Knot P} (i : ℕ) → IsSmall shape (k ∷ ks) (suc i) m → IsSmall shape ks i m
-      later i s = record { when = s.when; point = s.point; limits = λ n e. s.limits n (subst (λ p. slice_get (k ∷ ks) p ≡ Some n) (let a : suc (i + 1) ≡ suc i + 1 = omega arith in a) e) }
+      later i s = record {
+        when = s.when;
+        point = s.point;
+        limits = λ n e. s.limits n (subst (λ p. slice_get (k ∷ ks) p ≡ Some n) (let a : suc (i + 1) ≡ suc i + 1 = omega arith in a) e);
+      }
 
 -- a near time moved by a number of ticks has a floor that fits
 pub moved_fits : (t : Rational) (by : ℤ) → unsigned_abs by ≤ 2 ^ 31 → IsWithin (2 ^ 33) t → FitsFloor w64 (add t (whole by))

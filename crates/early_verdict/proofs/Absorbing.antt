@@ -32,43 +32,66 @@ use Rattle.early_verdict.proofs.SpanLemmas.{
 
 -- of the stretches of `old` some went into `joined` and the others stand in `new`; the part was seen up to `seen`
 pub record Absorbing (at : ℕ) (part joined : Stretch) (seen : Cut) (old new told fresh : List Stretch) : Type 0 where
+  -- what was noted as new
   pub more : List Stretch
+  -- it stands behind what was noted before
   pub noted : fresh ≡ told ++ more
+  -- the list rises without touching stretches
   pub tidy : AreTidy new
+  -- the place is one of the list
   pub within : at ≤ length new
+  -- what stands before it ends before the joined stretch
   pub front : EndBefore (place joined.from) (take at new)
+  -- what stands behind it does not end before the part
   pub reach : NoneEndsBefore (place part.from) (drop at new)
+  -- nor before what was seen
   pub ahead : NoneEndsBefore (place seen) (drop at new)
+  -- the joined stretch ends as the part, or before all behind it
   pub rest : (joined.to ≡ part.to) ⊎ BeginsAfter (place joined.to) (drop at new)
+  -- it begins no later than the part
   pub low : AtMost (place joined.from) (place part.from)
+  -- and ends no earlier
   pub high : AtMost (place part.to) (place joined.to)
+  -- the part begins no later than what was seen
   pub first : AtMost (place part.from) (place seen)
+  -- what is left was there
   pub kept : (t : Rational) → IsOn new t → IsOn old t
+  -- what was there is left, or in the joined stretch
   pub left : (t : Rational) → IsOn old t → IsOn new t ⊎ Lies joined t
+  -- the part is in the joined stretch
   pub covers : (t : Rational) → Lies part t → Lies joined t
+  -- which has nothing but the part and what was there
   pub only : (t : Rational) → Lies joined t → IsOn old t ⊎ Lies part t
+  -- what was there is left, or lies before what was seen
   pub passed : (t : Rational) → IsOn old t → IsOn new t ⊎ Upto (place seen) t
+  -- what the part has up to there was there, or is noted
   pub gained : (t : Rational) → Lies part t → Upto (place seen) t → IsOn old t ⊎ IsOn more t
+  -- what is noted is of the part, and was not there
   pub news : (t : Rational) → IsOn more t → Lies part t × ¬ (IsOn old t)
 
+-- a list with nothing behind it
 pub no_more : (xs : List Stretch) → xs ≡ xs ++ []
 no_more [] = refl
 no_more (x ∷ xs) = ap (λ r. x ∷ r) (no_more xs)
 
+-- a time on two lists is on one of them
 pub on_append : (xs ys : List Stretch) (t : Rational) → IsOn (xs ++ ys) t → IsOn xs t ⊎ IsOn ys t
 on_append [] ys t h = inr h
 on_append (x ∷ xs) ys t (inl h) = inl (inl h)
 on_append (x ∷ xs) ys t (inr h) = elim (on_append xs ys t h) [ inl k ↦ inl (inr k) | inr k ↦ inr k ]
 
+-- a time on the first is on both
 pub on_first : (xs ys : List Stretch) (t : Rational) → IsOn xs t → IsOn (xs ++ ys) t
 on_first [] ys t h = absurd h
 on_first (x ∷ xs) ys t (inl h) = inl h
 on_first (x ∷ xs) ys t (inr h) = inr (on_first xs ys t h)
 
+-- and so is one on the second
 pub on_second : (xs ys : List Stretch) (t : Rational) → IsOn ys t → IsOn (xs ++ ys) t
 on_second [] ys t h = h
 on_second (x ∷ xs) ys t h = inr (on_second xs ys t h)
 
+-- before the first stretch the part alone is joined
 pub absorb_first : (at : ℕ) (part : Stretch) (old told : List Stretch) → AreTidy old → at ≤ length old → EndBefore (place part.from) (take at old)
     → NoneEndsBefore (place part.from) (drop at old) → Absorbing at part part part.from old old told told
 absorb_first at part old told tidy within front reach = record {
@@ -97,6 +120,7 @@ module _ (at : ℕ) (part joined : Stretch) (seen : Cut) (old new told fresh : L
   pub touches_first : (next : Stretch) → ¬ (Before (place part.to) (place next.from)) → ¬ (Before (place joined.to) (place next.from))
   touches_first next n b = n (before_from (place part.to) (place joined.to) (place next.from) a.high b)
 
+  -- the next stretch does not end before the joined one begins
   pub touches_second : (next : Stretch) → slice_get new at ≡ Some next → ¬ (Before (place next.to) (place joined.from))
   touches_second next e b = reaches_at (place part.from) new at next a.reach e (before_to (place next.to) (place joined.from) (place part.from) b a.low)
 

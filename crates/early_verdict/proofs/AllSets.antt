@@ -1,5 +1,6 @@
 -- What the sets of all nodes tell, where they fit.
-use Rattle.std.proofs.Common.{◌≡◌, ◌⊎◌, inl, inr, refl, sym, ap, subst, ℕ, zero, suc, ◌<◌, ◌≤◌, Bool, true, false, Some, None, List, [], ◌∷◌, length, arith, below_more}
+use Rattle.std.proofs.Common.{◌≡◌, ◌⊎◌, inl, inr, refl, sym, ap, subst, ℕ, zero, suc, ◌<◌, ◌≤◌, Bool}
+use Rattle.std.proofs.Common.{true, false, Some, None, List, [], ◌∷◌, length, arith, below_more}
 use Rattle.std.specs.Prelude.{slice_get, slice_index_or}
 use Rattle.rational.specs.Time.{Rational, ◌≤ʳ◌}
 use Rattle.stl_syntax.specs.Trace.{Trace, start, stop}
@@ -26,6 +27,7 @@ sets_at [] i h = absurd (omega (arith, h))
 sets_at (s ∷ sets) zero h = (s, refl)
 sets_at (s ∷ sets) (suc i) h = sets_at sets i (omega (arith, h))
 
+-- the lists of a node are those of its sets
 pub lists_are : (sets : List Sets) (i : ℕ) (s : Sets) → slice_get sets i ≡ Some s → lists_at sets i ≡ lists_of s
 lists_are [] i s e = absurd (let f : None ≡ Some s = e in cc)
 lists_are (r ∷ sets) zero s e = ap lists_of (same r s e)
@@ -34,6 +36,7 @@ lists_are (r ∷ sets) zero s e = ap lists_of (same r s e)
     same a b e = cc
 lists_are (r ∷ sets) (suc i) s e = lists_are sets i s e
 
+-- tidy sets have tidy lists
 pub lists_tidy : (sets : List Sets) → AllTidy sets → (p : ℕ) → AreTidy (lists_at sets p).yes × AreTidy (lists_at sets p).no
 lists_tidy [] h p = (tt, tt)
 lists_tidy (s ∷ sets) h zero = let t = h 0 s refl in (t.yes, t.no)
@@ -48,6 +51,7 @@ shown_is (y ∷ shown) zero x u e h = subst (λ z. Lies z.no.bounds u) (same y x
     same a b e = cc
 shown_is (y ∷ shown) (suc i) x u e h = shown_is shown i x u e h
 
+-- a time within the bounds of what is shown is shown
 pub is_shown : (shown : List Sets) (i : ℕ) (x : Sets) (u : Rational) → slice_get shown i ≡ Some x → Lies x.no.bounds u → IsShown shown i u
 is_shown [] i x u e h = absurd (let f : None ≡ Some x = e in cc)
 is_shown (y ∷ shown) zero x u e h = subst (λ z. Lies z.no.bounds u) (sym (same y x e)) h
@@ -56,6 +60,7 @@ is_shown (y ∷ shown) zero x u e h = subst (λ z. Lies z.no.bounds u) (sym (sam
     same a b e = cc
 is_shown (y ∷ shown) (suc i) x u e h = is_shown shown i x u e h
 
+-- only nodes of the formula show anything
 pub shown_within : (shown : List Sets) (i : ℕ) (u : Rational) → IsShown shown i u → i < length shown
 shown_within [] i u h = absurd h
 shown_within (x ∷ shown) zero u h = omega arith
@@ -74,8 +79,12 @@ no_there (x ∷ shown) (suc i) u o = let k = no_there shown i u o in omega (arit
 
 -- what the nodes show was told before, or is what their sets have
 pub record AreSound (Yes No : ℕ → Rational → Type 0) (live shown : List Sets) : Type 0 where
-  pub yes : (i : ℕ) (s x : Sets) → slice_get live i ≡ Some s → slice_get shown i ≡ Some x → (u : Rational) → IsOn x.yes.spans.items u → Yes i u ⊎ IsOn s.yes.spans.items u
-  pub no : (i : ℕ) (s x : Sets) → slice_get live i ≡ Some s → slice_get shown i ≡ Some x → (u : Rational) → IsOn x.no.spans.items u → No i u ⊎ IsOn s.no.spans.items u
+  -- a time that is shown true is true, or one that the node goes on from
+  pub yes : (i : ℕ) (s x : Sets) → slice_get live i ≡ Some s → slice_get shown i ≡ Some x → (u : Rational)
+      → IsOn x.yes.spans.items u → Yes i u ⊎ IsOn s.yes.spans.items u
+  -- and so a false one
+  pub no : (i : ℕ) (s x : Sets) → slice_get live i ≡ Some s → slice_get shown i ≡ Some x → (u : Rational)
+      → IsOn x.no.spans.items u → No i u ⊎ IsOn s.no.spans.items u
 
 module _ (nodes : List Node) (tr : Trace) (live shown : List Sets) (formed : AreWellFormed nodes) (have : AreLive nodes (start tr) live shown)
     (tidy : AllTidy live) (shown_tidy : AllTidy shown) where
@@ -84,7 +93,8 @@ module _ (nodes : List Node) (tr : Trace) (live shown : List Sets) (formed : Are
         → SayBoth s (Settled (subformula nodes i) tr) (SettledNot (subformula nodes i) tr)
         → Known (IsShown shown i) (lists_at shown i) (Settled (subformula nodes i) tr) (SettledNot (subformula nodes i) tr)
     known_of i n s x at is ix h =
-        subst (λ (l : Lists). Known (IsShown shown i) l (Settled (subformula nodes i) tr) (SettledNot (subformula nodes i) tr)) (sym (lists_are shown i x ix)) (record {
+        subst (λ (l : Lists). Known (IsShown shown i) l (Settled (subformula nodes i) tr) (SettledNot (subformula nodes i) tr))
+        (sym (lists_are shown i x ix)) (record {
           yes_in = λ u f y. let l = shown_is shown i x u ix f in elim (k.early u l) [
             | inl o ↦ k.shows_yes u (h.yes.has u (subst (λ b. Lies b u) (sym k.yes) o) y) l
             | inr (inl z) ↦ z
@@ -124,6 +134,7 @@ module _ (nodes : List Node) (tr : Trace) (live shown : List Sets) (formed : Are
         (node_told tr h.own s.0 h.yes h.no h.starts (tidy m s.0 s.1) shown (lists_at shown) (λ q. refl) (subformula nodes) m known
         (λ q. (lists_tidy shown shown_tidy q).1) n below (formed.bounds m (Const false) le) h.looks (fit m n s.0 at s.1)))
 
+    -- sets that fit tell of each node what rows settle
     pub all_known : AllFit nodes false tr live shown → (m : ℕ) → m ≤ length nodes → (p : ℕ) → p < m
         → Known (IsShown shown p) (lists_at shown p) (Settled (subformula nodes p) tr) (SettledNot (subformula nodes p) tr)
     all_known fit zero le p lt = absurd (omega (arith, lt))
@@ -131,7 +142,8 @@ module _ (nodes : List Node) (tr : Trace) (live shown : List Sets) (formed : Are
         below_more (λ k. Known (IsShown shown k) (lists_at shown k) (Settled (subformula nodes k) tr) (SettledNot (subformula nodes k) tr)) m
         (all_known fit m (omega (arith, le))) (next_known fit m (omega (arith, le)) (all_known fit m (omega (arith, le)))) p (omega (arith, lt))
 
-  module _ (sound : AreSound (λ i u. u ≤ʳ stop tr → Truth (subformula nodes i) tr u) (λ i u. u ≤ʳ stop tr → ¬ (Truth (subformula nodes i) tr u)) live shown) where
+  module _ (sound : AreSound (λ i u. u ≤ʳ stop tr → Truth (subformula nodes i) tr u)
+      (λ i u. u ≤ʳ stop tr → ¬ (Truth (subformula nodes i) tr u)) live shown) where
     final_of : (i : ℕ) (n : Node) (s x : Sets) → slice_get nodes i ≡ Some n → slice_get live i ≡ Some s → slice_get shown i ≡ Some x
         → (own : IsLive (start tr) shown n s x) → Final tr (Lies own.own) (lists_of s) (subformula nodes i)
         → Final tr (IsShown shown i) (lists_at shown i) (subformula nodes i)
@@ -145,7 +157,8 @@ module _ (nodes : List Node) (tr : Trace) (live shown : List Sets) (formed : Are
           ];
         })
 
-    next_final : AllFit nodes true tr live shown → (m : ℕ) → m < length nodes → ((p : ℕ) → p < m → Final tr (IsShown shown p) (lists_at shown p) (subformula nodes p))
+    next_final : AllFit nodes true tr live shown → (m : ℕ) → m < length nodes
+        → ((p : ℕ) → p < m → Final tr (IsShown shown p) (lists_at shown p) (subformula nodes p))
         → Final tr (IsShown shown m) (lists_at shown m) (subformula nodes m)
     next_final fit m le known =
         let n = slice_index_or nodes m (Const false) in
@@ -160,6 +173,7 @@ module _ (nodes : List Node) (tr : Trace) (live shown : List Sets) (formed : Are
         (λ q. (lists_tidy shown shown_tidy q).1) (λ q. (lists_tidy shown shown_tidy q).0) n below (formed.bounds m (Const false) le) h.looks
         (fit m n s.0 at s.1)))
 
+    -- and at the end its truth
     pub all_final : AllFit nodes true tr live shown → (m : ℕ) → m ≤ length nodes → (p : ℕ) → p < m
         → Final tr (IsShown shown p) (lists_at shown p) (subformula nodes p)
     all_final fit zero le p lt = absurd (omega (arith, lt))

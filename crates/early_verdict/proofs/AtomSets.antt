@@ -36,6 +36,7 @@ added_then a b c P Q f g = record {
       (subst (λ s. Grows s b.no.spans.items c.no.spans.items b.no.fresh.items c.no.fresh.items (Q false)) f.no_bounds g.no);
 }
 
+-- other words for the same times add the same
 pub added_alike : (a b : Sets) (P Q : Bool → Rational → Type 0) → ((v : Bool) (t : Rational) → P v t → Q v t) → ((v : Bool) (t : Rational) → Q v t → P v t)
     → HasAdded a b P → HasAdded a b Q
 added_alike a b P Q f g h = record {
@@ -43,10 +44,13 @@ added_alike a b P Q f g h = record {
   parts = h.parts;
   yes_bounds = h.yes_bounds;
   no_bounds = h.no_bounds;
-  yes = grows_alike a.yes.bounds a.yes.spans.items b.yes.spans.items a.yes.fresh.items b.yes.fresh.items (P true) (Q true) (λ t l. f true t) (λ t l. g true t) h.yes;
-  no = grows_alike a.no.bounds a.no.spans.items b.no.spans.items a.no.fresh.items b.no.fresh.items (P false) (Q false) (λ t l. f false t) (λ t l. g false t) h.no;
+  yes = grows_alike a.yes.bounds a.yes.spans.items b.yes.spans.items a.yes.fresh.items b.yes.fresh.items (P true) (Q true)
+      (λ t l. f true t) (λ t l. g true t) h.yes;
+  no = grows_alike a.no.bounds a.no.spans.items b.no.spans.items a.no.fresh.items b.no.fresh.items (P false) (Q false)
+      (λ t l. f false t) (λ t l. g false t) h.no;
 }
 
+-- no time adds nothing
 pub added_none : (a : Sets) (P : Bool → Rational → Type 0) → AreSetsTidy a → ((v : Bool) (t : Rational) → P v t → ⊥) → HasAdded a a P
 added_none a P tidy n = record {
   tidy = tidy;
@@ -66,12 +70,14 @@ true_added a b from to tidy parts bounds same g = record {
   parts = parts;
   yes_bounds = bounds;
   no_bounds = ap (λ x. x.bounds) same;
-  yes = grows_alike a.yes.bounds a.yes.spans.items b.yes.spans.items a.yes.fresh.items b.yes.fresh.items (λ t. After from t × Upto to t) (Piece true from to true)
+  yes = grows_alike a.yes.bounds a.yes.spans.items b.yes.spans.items a.yes.fresh.items b.yes.fresh.items
+      (λ t. After from t × Upto to t) (Piece true from to true)
       (λ t l h. (refl, h.0, h.1)) (λ t l h. (h.1, h.2)) g;
   no = subst (λ x. Grows a.no.bounds a.no.spans.items x.spans.items a.no.fresh.items x.fresh.items (Piece true from to false)) (sym same)
       (grows_not a.no.bounds a.no.spans.items a.no.fresh.items (Piece true from to false) (λ t l h. let e = h.0 in cc));
 }
 
+-- times at which the atom is false grow the one set alone
 pub false_added : (a b : Sets) (from to : Place) → AreSetsTidy b → b.parts ≡ a.parts → b.no.bounds ≡ a.no.bounds → b.yes ≡ a.yes
     → Grows a.no.bounds a.no.spans.items b.no.spans.items a.no.fresh.items b.no.fresh.items (λ t. After from t × Upto to t)
     → HasAdded a b (Piece false from to)
@@ -109,6 +115,7 @@ enlarges_then old mid new told some fresh f g = record {
   own = λ t h. elim (on_append f.more g.more t h) [ inl k ↦ g.keeps t (f.own t k) | inr k ↦ g.own t k ];
 }
 
+-- two growths, one after the other, are one
 pub grown_then : (a b c : Sets) → HasGrown a b → HasGrown b c → HasGrown a c
 grown_then a b c f g = record {
   tidy = g.tidy;
@@ -158,7 +165,8 @@ atom_stepped old mid new r g = record {
 }
 
 -- the truth of an atom up to the row
-module _ (a : Atom) (tr : Trace) (before : Option Row) (r : Row) (holds : Bool) (from to : Place) (starts : Same from (before_row r)) (ends : Same to (after_row r))
+module _ (a : Atom) (tr : Trace) (before : Option Row) (r : Row) (holds : Bool) (from to : Place)
+    (starts : Same from (before_row r)) (ends : Same to (after_row r))
     (is : (t : Rational) → t ≈ row_time r → holds_at a tr t ≡ holds) where
   -- what is new at times with the truth v
   abbrev New : Bool → Rational → Type 0
@@ -223,6 +231,7 @@ module _ (a : Atom) (tr : Trace) (before : Option Row) (r : Row) (holds : Bool) 
           by_time t b h (inr l) (inr (inl s)) = g.adds t b (inr (row_piece v t s h.1))
           by_time t b h (inr l) (inr (inr m)) = absurd (not_lt_of_le (subst (λ x. t ≤ʳ x) next.stops h.0) m)
 
+  -- after a row an atom's sets have its truth up to the row
   pub atom_fits : (old : Option Trace) (was mid new : Sets) → IsNextRow a old tr before r
       → ((t : Rational) → Lies was.yes.bounds t ⊎ Lies was.no.bounds t → start tr ≤ʳ t) → Was old (λ o. AtomFits a o) was
       → HasRested was mid → HasAdded mid new (λ v t. AfterRow a tr before r v t ⊎ Piece holds from to v t) → AtomFits a tr new
@@ -259,7 +268,8 @@ rested_fits a tr was new r h = record {
 }
 
 -- where the rows stand side by side
-pub near_of : (a : Atom) (old : Option Trace) (tr : Trace) (before : Option Row) (r : Row) → IsNextRow a old tr before r → IfSome before (λ q. AreNeighbours tr q r)
+pub near_of : (a : Atom) (old : Option Trace) (tr : Trace) (before : Option Row) (r : Row) → IsNextRow a old tr before r
+    → IfSome before (λ q. AreNeighbours tr q r)
 near_of a old tr before r h = by_old old h.first
   where
     by_old : (old : Option Trace) → MatchOption old ((before ≡ None) × (start tr ≡ row_time r))

@@ -19,6 +19,7 @@ by_front Q [] (suc at) t h = absurd h
 by_front Q (x ∷ xs) (suc at) t (inl h) = inl h
 by_front Q (x ∷ xs) (suc at) t (inr h) = inr (by_front Q xs at t h)
 
+-- what one of some stretches says one of the first says, or one of the others
 pub by_parts : (Q : Stretch → Rational → Type 0) (xs : List Stretch) (at : ℕ) (t : Rational) → BySome Q xs t
     → BySome Q (take at xs) t ⊎ BySome Q (drop at xs) t
 by_parts Q xs zero t h = inr h

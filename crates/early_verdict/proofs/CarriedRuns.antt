@@ -86,5 +86,6 @@ module _ (d : Rational) (runs runs' spans spans' : List Stretch) (x y : Grown) (
             (λ w i j. runs_out w (k.all w (after_le (place y.bounds.from) m.0 w i m.1) j)) (h.only m.0 (only m.0 on).0).1))
       ]
 
+  -- a run that was cut and is carried on tells the later times as before
   pub says_back : Says y (GoesBackBy b' (place y.bounds.from) runs' spans')
   says_back = record { has = has_it; only = λ t o. let c = only t o in (c.1, still t c.1 (h.only t c.0).1) }

@@ -1,5 +1,6 @@
 -- Each node is a child of one node at most.
-use Rattle.std.proofs.Common.{◌≡◌, ◌≢◌, ◌⊎◌, inl, inr, refl, sym, subst, ℕ, zero, suc, ◌+◌, ◌<◌, Bool, true, false, Some, None, List, [], ◌∷◌, length, take, arith}
+use Rattle.std.proofs.Common.{◌≡◌, ◌≢◌, ◌⊎◌, inl, inr, refl, sym, subst, ℕ, zero, suc, ◌+◌, ◌<◌}
+use Rattle.std.proofs.Common.{Bool, true, false, Some, None, List, [], ◌∷◌, length, take, arith}
 use Rattle.std.specs.Prelude.{◌==◌, All, slice_get}
 use Rattle.std.specs.List.{list_any}
 use Rattle.std.proofs.lemmas.Bool.{eq-eqb, or_left, or_right}
@@ -78,6 +79,7 @@ either p q r = elim (nat_is q p) [
   | inr n ↦ elim (nat_is r p) [ inl e ↦ inl (inr e) | inr m ↦ inr (λ h. elim h [ inl e ↦ n e | inr e ↦ m e ]) ]
 ]
 
+-- a node is a child of another or is not
 pub child_or_not : (p : ℕ) (n : Node) → IsChild p n ⊎ ¬ (IsChild p n)
 child_or_not p (Const b) = inr (λ h. h)
 child_or_not p (Leaf a) = inr (λ h. h)
@@ -122,9 +124,11 @@ used_by (x ∷ nodes) (suc i) p n e h = or_right _ _ (used_by nodes i p n e h)
 module _ (nodes : List Node) (order : IsPostOrder nodes) where
   one_before : (i j p : ℕ) (n m : Node) → i < j → slice_get nodes i ≡ Some n → slice_get nodes j ≡ Some m → IsChild p n → IsChild p m → ⊥
   one_before i j p n m l at here c d =
-      let free : is_used (take j nodes) p ≡ false = child_of_all (λ q. is_used (take j nodes) q ≡ false) p m (children_free (take j nodes) m (order.follows j m here)) d in
+      let free : is_used (take j nodes) p ≡ false =
+      child_of_all (λ q. is_used (take j nodes) q ≡ false) p m (children_free (take j nodes) m (order.follows j m here)) d in
       let used : is_used (take j nodes) p ≡ true = used_by (take j nodes) i p n (node_before nodes j i n l at) (child_has p n c) in cc
 
+  -- no node is a child of two
   pub one_parent : (i j p : ℕ) (n m : Node) → i ≢ j → slice_get nodes i ≡ Some n → slice_get nodes j ≡ Some m → IsChild p n → IsChild p m → ⊥
   one_parent i j p n m d at here c e = elim (order_of i j) [
     | inl l ↦ one_before i j p n m l at here c e
@@ -136,4 +140,5 @@ module _ (nodes : List Node) (order : IsPostOrder nodes) where
       order_of zero zero = inr (inl refl)
       order_of zero (suc j) = inl (omega arith)
       order_of (suc i) zero = inr (inr (omega arith))
-      order_of (suc i) (suc j) = elim (order_of i j) [ inl l ↦ inl (omega (arith, l)) | inr (inl e) ↦ inr (inl (omega (arith, e))) | inr (inr l) ↦ inr (inr (omega (arith, l))) ]
+      order_of (suc i) (suc j) = elim (order_of i j)
+          [ inl l ↦ inl (omega (arith, l)) | inr (inl e) ↦ inr (inl (omega (arith, e))) | inr (inr l) ↦ inr (inr (omega (arith, l))) ]

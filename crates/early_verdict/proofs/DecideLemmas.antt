@@ -1,5 +1,6 @@
 -- What sets decide of the start, row by row and at the end.
-use Rattle.std.proofs.Common.{◌≡◌, ◌⊎◌, inl, inr, refl, sym, ap, subst, ◌∙◌, ℕ, ◌-◌, ◌<◌, Bool, true, false, Option, Some, None, List, [], ◌∷◌, ◌++◌, length, arith, append_assoc}
+use Rattle.std.proofs.Common.{◌≡◌, ◌⊎◌, inl, inr, refl, sym, ap, subst, ◌∙◌, ℕ, ◌-◌, ◌<◌, Bool, true, false}
+use Rattle.std.proofs.Common.{Option, Some, None, List, [], ◌∷◌, ◌++◌, length, arith, append_assoc}
 use Rattle.std.specs.Prelude.{MatchOption}
 use Rattle.rational.specs.Time.{◌≤ʳ◌}
 use Rattle.stl_syntax.specs.Trace.{Header, Row, Trace, AreRows, row_time, start, stop}
@@ -28,6 +29,7 @@ module _ (nodes : List Node) (header : Header) (r : Row) (rows : List Row) (live
   at_root = subst (λ (l : Lists). Known (IsShown shown (length nodes - 1)) l (Settled (root nodes) tr) (SettledNot (root nodes) tr))
       (sym (root_place nodes shown stand.have.shown_count)) (stand.known (length nodes - 1) (omega (arith, some)))
 
+  -- what the sets answer at the row is what the rows decide
   pub decided_of : (verdict : Option Bool) → IsVerdict shown r.time verdict
       → MatchOption verdict ((b : Bool) → Decides (root nodes) tr b → ⊥) (λ b. Decides (root nodes) tr b)
   decided_of None v = by_truth
@@ -48,10 +50,12 @@ module _ (nodes : List Node) (header : Header) (r : Row) (rows : List Row) (show
   final_root : Final ended (IsShown shown (length nodes - 1)) (lists_at shown (length shown - 1)) (root nodes)
   final_root = subst (λ (l : Lists). Final ended (IsShown shown (length nodes - 1)) l (root nodes)) (sym (root_place nodes shown count)) final
 
+  -- and at the end the truth at the start
   pub truth_of : (holds : Bool) → IsVerdict shown r.time (Some holds) → IsTruthAtStart (root nodes) ended holds
   truth_of true v = final_root.yes (start ended) v rise
   truth_of false v = final_root.no (start ended) v rise
 
+  -- at the end there is an answer
   pub some_truth : IsVerdict shown r.time None → ⊥
   some_truth v = elim (final_root.all (start ended) shows rise) [ inl y ↦ v.0 y | inr y ↦ v.1 y ]
 
@@ -87,6 +91,7 @@ none_more p header rows x none last before after r b e d = elim (split_last rows
   | inr h ↦ none before h.0 r b h.1 d
 ]
 
+-- no rows decide nothing
 pub none_first : (p : Subformula) (header : Header) → NoneDecides p header []
 none_first p header before after r b e d = no_rows before e
   where
@@ -95,11 +100,13 @@ none_first p header before after r b e d = no_rows before e
     no_rows (q ∷ before) e = cc
 
 -- where a row has decided before, another is not the first that does
-pub not_again : (p : Subformula) (header : Header) (rows : List Row) (d : Decided) (x : Row) (b : Bool) → WasDecided p header rows d → FirstDecides p header rows x b → ⊥
+pub not_again : (p : Subformula) (header : Header) (rows : List Row) (d : Decided) (x : Row) (b : Bool)
+    → WasDecided p header rows d → FirstDecides p header rows x b → ⊥
 not_again p header rows d x b w f = f.not_before w.before w.after w.row d.holds w.among w.first.decides
 
 -- and it goes on to have decided
-pub still_decided : (p : Subformula) (header : Header) (rows : List Row) (d : Decided) (x : Row) → WasDecided p header rows d → WasDecided p header (rows ++ x ∷ []) d
+pub still_decided : (p : Subformula) (header : Header) (rows : List Row) (d : Decided) (x : Row) → WasDecided p header rows d
+    → WasDecided p header (rows ++ x ∷ []) d
 still_decided p header rows d x w = record {
   before = w.before;
   row = w.row;

@@ -25,8 +25,11 @@ use Rattle.early_verdict.proofs.Settling.{until_fits, since_fits}
 
 -- up to the last row the lists tell the truth at each time that is asked
 pub record Final (tr : Trace) (In : Rational → Type 0) (l : Lists) (p : Subformula) : Type 0 where
+  -- a time that is shown true is true
   pub yes : (u : Rational) → IsOn l.yes u → u ≤ʳ stop tr → Truth p tr u
+  -- and one that is shown false is false
   pub no : (u : Rational) → IsOn l.no u → u ≤ʳ stop tr → ¬ (Truth p tr u)
+  -- each time of the trace is one or the other
   pub all : (u : Rational) → In u → u ≤ʳ stop tr → IsOn l.yes u ⊎ IsOn l.no u
 
 -- a sure time at a time of the trace is one of the trace
@@ -35,7 +38,8 @@ sure_in tr t u h (s, inl l) = l
 sure_in tr t u h (s, inr l) = le_trans l h
 
 -- windows with an end and without
-met : (tr : Trace) (a b : ℕ) (a_in b_in : Bool) (t u : Rational) → OpenAhead (start tr) a b a_in b_in t u → u ≤ʳ stop tr → Ahead (start tr) (stop tr) a b a_in b_in t u
+met : (tr : Trace) (a b : ℕ) (a_in b_in : Bool) (t u : Rational) → OpenAhead (start tr) a b a_in b_in t u → u ≤ʳ stop tr
+    → Ahead (start tr) (stop tr) a b a_in b_in t u
 met tr a b a_in b_in t u w h = record { inside = record { above = w.after; below = h }; begins = w.begins; ends = w.ends }
 
 open_ahead : (tr : Trace) (a b : ℕ) (a_in b_in : Bool) (t u : Rational) → Ahead (start tr) (stop tr) a b a_in b_in t u → OpenAhead (start tr) a b a_in b_in t u
@@ -90,7 +94,8 @@ module _ (tr : Trace) (own : Stretch) (s : Sets) (is_yes : s.yes.bounds ≡ own)
     | inr n ↦ inl (other (λ y. n (h.no.has t (to_no t l) y)))
   ]
 
-  module _ (shown : List Sets) (at : ℕ → Lists) (is_at : (p : ℕ) → lists_at shown p ≡ at p) (sub : ℕ → Subformula) (i : ℕ) (known : (p : ℕ) → p < i → Final tr (IsShown shown p) (at p) (sub p))
+  module _ (shown : List Sets) (at : ℕ → Lists) (is_at : (p : ℕ) → lists_at shown p ≡ at p) (sub : ℕ → Subformula) (i : ℕ)
+      (known : (p : ℕ) → p < i → Final tr (IsShown shown p) (at p) (sub p))
       (tidy_at : (p : ℕ) → AreTidy (at p).no) (tidy_yes : (p : ℕ) → AreTidy (at p).yes) where
     -- times at which p is settled false break the way from t to u, or p is true all along
     broken : (p : ℕ) → p < i → (t u : Rational) → ((v : Rational) → Within t u v → IsShown shown p v) → u ≤ʳ stop tr
@@ -103,6 +108,7 @@ module _ (tr : Trace) (own : Stretch) (s : Sets) (is_yes : s.yes.bounds ≡ own)
       ]
     ]
 
+    -- sets of a node that fit are so once the input has ended
     pub node_final : (n : Node) → HasChildrenBelow i n → HasBounds n → LooksAt n (start tr) shown own s.parts
         → Fits n true tr at s → Final tr (Lies own) (lists_of s) (tree_of sub i n)
     node_final (Const b) c o a h = final (λ t. IsTrue b) (λ t. IsFalse b) (tree_of sub i (Const b)) h (λ t f e x. x) (λ t f e x y. not_both_tests b y x)
@@ -156,7 +162,8 @@ module _ (tr : Trace) (own : Stretch) (s : Sets) (is_yes : s.yes.bounds ≡ own)
         let k = known p c.0 in
         let m = known q c.1 in
         let b = until_fits tr own (at p) (at q) s is_yes is_no from tidy (tidy_at q) true x y o a.1 h in
-        final (UntilHolds tr x y (IsOn (at p).yes) (IsOn (at q).yes)) (UntilFails true tr x y (IsOn (at p).no) (IsOn (at q).no)) (tree_of sub i (Until p q x y)) b
+        final (UntilHolds tr x y (IsOn (at p).yes) (IsOn (at q).yes)) (UntilFails true tr x y (IsOn (at p).no) (IsOn (at q).no))
+        (tree_of sub i (Until p q x y)) b
         (λ t f e (u, d, r, g, z). let us = sure_in tr t u e r in
         (u, met tr x y true true t u d us, m.yes u g us, λ v j. k.yes v (z v j) (le_trans j.below us)))
         (λ t f e z (u, d, g, j). elim (z u (open_ahead tr x y true true t u d) d.inside.below) [

@@ -21,15 +21,19 @@ before_of n = record { at = whole (pos n); after = false }
 abbrev pub after_of : ℕ → Place
 after_of n = record { at = whole (pos n); after = true }
 
+-- a cut at a tick keeps within the limits of times
 pub near_tick : (c : Cut) (n : ℕ) (after : Bool) → n ≤ 2 ^ 32 → Same (place c) (record { at = whole (pos n); after = after }) → IsWithin (2 ^ 34) (value c.time)
 near_tick c n after h s = within_same (2 ^ 34) (same_sym s.0) (within_more (2 ^ 32) (2 ^ 34) (lit≤ tt) (within_whole (2 ^ 32) (pos n) h))
 
+-- later ticks give later places
 pub up_to : (c d : Place) (m n : ℕ) → m ≤ n → Same c (after_of m) → Same d (after_of n) → AtMost c d
 up_to c d m n h s r t u = upto_same (after_of n) d t (same_places r) (le_trans (upto_same c (after_of m) t s u) (record { le = omega (arith, h) }))
 
+-- just before a time is no later than just after it
 pub up_to_now : (c d : Place) (n : ℕ) → Same c (before_of n) → Same d (after_of n) → AtMost c d
 up_to_now c d n s r t u = upto_same (after_of n) d t (same_places r) (le_of_lt (upto_same c (before_of n) t s u))
 
+-- this is what comes with the first row
 pub happens_first : (e : Event) (n : ℕ) → Same (place e.start) (before_of n) → Same (place e.before) (before_of n) → Same (place e.sure) (after_of n)
     → e.first ≡ true → e.ended ≡ false → (header : Header) (x : Row) → n ≡ x.time → Happens e None (trace_of header (x ∷ []))
 happens_first e n s b u f o header x is = record {
@@ -39,7 +43,9 @@ happens_first e n s b u f o header x is = record {
   is_first = (f, o);
 }
 
-pub happens_next : (e : Event) (start last n : ℕ) → Same (place e.start) (before_of start) → Same (place e.before) (after_of last) → Same (place e.sure) (after_of n)
+-- this with a later one
+pub happens_next : (e : Event) (start last n : ℕ) → Same (place e.start) (before_of start) → Same (place e.before) (after_of last)
+    → Same (place e.sure) (after_of n)
     → e.first ≡ false → (header : Header) (r : Row) (rows : List Row) (x : Row) → start ≡ r.time → last ≡ (last_after r rows).time → n ≡ x.time
     → Happens e (Some (trace_of header (r ∷ rows))) (trace_of header (r ∷ (rows ++ x ∷ [])))
 happens_next e start last n s b u f header r rows x is_start is_last is_now = record {
@@ -49,7 +55,9 @@ happens_next e start last n s b u f header r rows x is_start is_last is_now = re
   is_first = f;
 }
 
-pub happens_end : (e : Event) (start last : ℕ) → Same (place e.start) (before_of start) → Same (place e.before) (after_of last) → Same (place e.sure) (after_of last)
+-- and this with the end
+pub happens_end : (e : Event) (start last : ℕ) → Same (place e.start) (before_of start) → Same (place e.before) (after_of last)
+    → Same (place e.sure) (after_of last)
     → e.first ≡ false → (header : Header) (r : Row) (rows : List Row) → start ≡ r.time → last ≡ (last_after r rows).time
     → Happens e (Some (trace_of header (r ∷ rows))) (trace_of header (r ∷ rows))
 happens_end e start last s b u f header r rows is_start is_last = record {

@@ -16,7 +16,18 @@ use Rattle.early_verdict.proofs.StandingOn.{bound_any, decided_now, fed_answer, 
 
 -- nothing is taken yet
 pub fresh : (b : Binding) (f : Formula) (header : Header) (live shown : List Sets) → AreWellFormed f.nodes → 0 < length f.nodes → IsBound b f header
-    → Stands (record { nodes = f.nodes; header = header; bound = b; live = live; shown = shown; begin = 0; last = None; decided = None; ended = false; stopped = false }) [] false
+    → Stands (record {
+      nodes = f.nodes;
+      header = header;
+      bound = b;
+      live = live;
+      shown = shown;
+      begin = 0;
+      last = None;
+      decided = None;
+      ended = false;
+      stopped = false;
+    }) [] false
 fresh b f header live shown formed some bound = record {
   formed = formed;
   some = some;
@@ -29,10 +40,12 @@ fresh b f header live shown formed some bound = record {
   by = (none_first (root f.nodes) header, λ e. tt);
 }
 
+-- an option that does not come out as some is none
 pub none_if : {A : Type 0} (o : Option A) → is_some o ≡ false → o ≡ None
 none_if None e = refl
 none_if (Some x) e = absurd (let f : true ≡ false = e in cc)
 
+-- and one that does has an item
 pub some_if : {A : Type 0} (o : Option A) → is_some o ≡ true → (x : A) × (o ≡ Some x)
 some_if None e = absurd (let f : false ≡ true = e in cc)
 some_if (Some x) e = (x, refl)
@@ -44,7 +57,9 @@ sets_as : (nodes : List Node) (header : Header) (begin : ℕ) (live shown left l
 sets_as nodes header begin live shown left left_shown [] x f s = (s.0, f _ s.1)
 sets_as nodes header begin live shown left left_shown (r ∷ rows) x f s = (s.0, f _ s.1)
 
-pub net_of : (nodes : List Node) (header : Header) (begin : ℕ) (live shown : List Sets) (rows : List Row) (x : Row) → SetsAre nodes header begin live shown (rows ++ x ∷ [])
+-- sets of rows stand for the trace of the rows
+pub net_of : (nodes : List Node) (header : Header) (begin : ℕ) (live shown : List Sets) (rows : List Row) (x : Row)
+    → SetsAre nodes header begin live shown (rows ++ x ∷ [])
     → (tr : Trace) × NetStands nodes tr live shown
 net_of nodes header begin live shown [] x s = (_, s.1)
 net_of nodes header begin live shown (r ∷ rows) x s = (_, s.1)
@@ -55,14 +70,16 @@ pub fed_by : (x : Kept) (rows : List Row) (r kept : Row) (begin : ℕ) (live sho
     → SetsAre x.nodes x.header begin live shown (rows ++ r ∷ []) → IsVerdict shown begin verdict
     → (decided ≡ None → (tr : Trace) → NetStands x.nodes tr live shown → NetStands x.nodes tr left left_shown) → kept ≡ r
     → decided ≡ decided_now r.time verdict
-    → Stands (record x { live = left; shown = left_shown; begin = begin; last = Some kept; decided = decided }) (rows ++ r ∷ []) false × IsAnswer (root x.nodes) x.header rows r decided
+    → Stands (record x { live = left; shown = left_shown; begin = begin; last = Some kept; decided = decided })
+    (rows ++ r ∷ []) false × IsAnswer (root x.nodes) x.header rows r decided
 fed_by x rows r kept begin live shown left left_shown verdict decided st none width later are v let_go same is =
     let go : decided_now r.time verdict ≡ None → SetsAre x.nodes x.header begin left left_shown (rows ++ r ∷ []) =
     λ e. sets_as x.nodes x.header begin live shown left left_shown rows r (let_go (is ∙ e)) are in (
       subst (λ k. Stands (record x { live = left; shown = left_shown; begin = begin; last = Some k; decided = decided }) (rows ++ r ∷ []) false) (sym same)
           (subst (λ d. Stands (record x { live = left; shown = left_shown; begin = begin; last = Some r; decided = d }) (rows ++ r ∷ []) false) (sym is)
           (fed_stands x rows st none r width later begin live shown left left_shown are verdict v go)),
-      subst (λ d. IsAnswer (root x.nodes) x.header rows r d) (sym is) (fed_answer x rows st none r width later begin live shown left left_shown are verdict v go),
+      subst (λ d. IsAnswer (root x.nodes) x.header rows r d) (sym is)
+          (fed_answer x rows st none r width later begin live shown left left_shown are verdict v go),
     )
 
 -- a row after the one that decided
@@ -79,6 +96,7 @@ passed_by x rows r kept st some width later same =
 pub by_now : (o now : Option Decided) → o ≡ None → now ≡ decided_by o now
 by_now o now e = subst (λ x. now ≡ decided_by x now) (sym e) refl
 
+-- what was decided stays so
 pub by_then : (o now : Option Decided) → is_some o ≡ true → o ≡ decided_by o now
 by_then None now e = absurd (let f : false ≡ true = e in cc)
 by_then (Some d) now e = refl
@@ -87,14 +105,19 @@ by_then (Some d) now e = refl
 pub unended : (x y : Kept) (rows : List Row) → x ≡ y → y.ended ≡ false → Stands x rows x.ended → Stands x rows false
 unended x y rows e o st = subst (λ b. Stands x rows b) (ap (λ (z : Kept). z.ended) e ∙ o) st
 
+-- the same stands whichever word says that the input goes on
 pub as_ended : (x : Kept) (rows : List Row) (b : Bool) → Stands x rows b → Stands x rows x.ended
 as_ended x rows b st = subst (λ c. Stands x rows c) (sym st.is_ended) st
 
-pub shown_tidy : (nodes : List Node) (header : Header) (begin : ℕ) (live shown : List Sets) (rows : List Row) (x : Row) → SetsAre nodes header begin live shown (rows ++ x ∷ [])
+-- what is shown is tidy
+pub shown_tidy : (nodes : List Node) (header : Header) (begin : ℕ) (live shown : List Sets) (rows : List Row) (x : Row)
+    → SetsAre nodes header begin live shown (rows ++ x ∷ [])
     → AllTidy shown
 shown_tidy nodes header begin live shown rows x s = (net_of nodes header begin live shown rows x s).1.shown_tidy
 
-pub some_shown : (nodes : List Node) (header : Header) (begin : ℕ) (live shown : List Sets) (rows : List Row) (x : Row) → SetsAre nodes header begin live shown (rows ++ x ∷ [])
+-- and the root shows something
+pub some_shown : (nodes : List Node) (header : Header) (begin : ℕ) (live shown : List Sets) (rows : List Row) (x : Row)
+    → SetsAre nodes header begin live shown (rows ++ x ∷ [])
     → 0 < length nodes → 0 < length shown
 some_shown nodes header begin live shown rows x s some =
     subst (λ n. 0 < n) (sym (net_of nodes header begin live shown rows x s).1.have.shown_count) some

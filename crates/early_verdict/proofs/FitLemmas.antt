@@ -7,7 +7,9 @@ use Rattle.stl_syntax.specs.Formula.{HasChildrenBelow}
 use Rattle.stl_syntax.specs.declared.node.Node.{Node}
 use Rattle.stl_syntax.specs.declared.node.Node.TheVariants.{Const, Atom as Leaf, Not, And, Or, Implies, Until, Eventually, Always, Since, Once, Historically}
 use Rattle.early_verdict.specs.Spans.{Lies, IsOn}
-use Rattle.early_verdict.specs.Fitting.{Lists, Fits, SayBoth, SayOfParts, NegationFits, ConjunctionFits, DisjunctionFits, ImplicationFits, UntilFits, SinceFits, EventuallyFits, AlwaysFits, OnceFits, HistoricallyFits, UntilHolding, UntilFailing, SinceHolding, SinceFailing}
+use Rattle.early_verdict.specs.Fitting.{Lists, Fits, SayBoth, SayOfParts, NegationFits, ConjunctionFits, DisjunctionFits}
+use Rattle.early_verdict.specs.Fitting.{ImplicationFits, UntilFits, SinceFits, EventuallyFits, AlwaysFits, OnceFits}
+use Rattle.early_verdict.specs.Fitting.{HistoricallyFits, UntilHolding, UntilFailing, SinceHolding, SinceFailing}
 use Rattle.early_verdict.specs.declared.sets.Sets.{Sets}
 use Rattle.early_verdict.specs.declared.sets.Parts.{Parts}
 
@@ -15,6 +17,7 @@ use Rattle.early_verdict.specs.declared.sets.Parts.{Parts}
 two : (F : Lists → Lists → Type 0) (p p' q q' : Lists) → p ≡ p' → q ≡ q' → F p q → F p' q'
 two F p p' q q' d e h = subst (λ x. F x q') d (subst (λ x. F p x) e h)
 
+-- a node's sets fit by what its children's lists are
 pub fits_alike : (n : Node) (i : ℕ) (ended : Bool) (tr : Trace) (at at' : ℕ → Lists) (s : Sets) → HasChildrenBelow i n → ((p : ℕ) → p < i → at p ≡ at' p)
     → Fits n ended tr at s → Fits n ended tr at' s
 fits_alike (Const b) i ended tr at at' s c e h = h
@@ -32,7 +35,9 @@ fits_alike (Historically p a b j k) i ended tr at at' s c e h = subst (λ x. His
 
 -- the times of the two sets lie within their bounds
 pub record AreWithin (s : Sets) : Type 0 where
+  -- the true times lie within the bounds
   pub yes_within : (u : Rational) → IsOn s.yes.spans.items u → Lies s.yes.bounds u
+  -- and so the false ones
   pub no_within : (u : Rational) → IsOn s.no.spans.items u → Lies s.no.bounds u
 
 within_of : (s : Sets) (P N : Rational → Type 0) → SayBoth s P N → AreWithin s
@@ -50,6 +55,7 @@ since_within tr a b p q s None h = absurd h
 since_within tr a b p q s (Some x) h = within_of s (λ t. IsOn x.holding.some.spans.items t × IsOn x.holding.each.spans.items t)
     (λ t. IsOn x.failing.never.spans.items t ⊎ IsOn x.failing.broken.spans.items t) h.2
 
+-- sets that fit lie within their bounds
 pub fits_within : (n : Node) (ended : Bool) (tr : Trace) (at : ℕ → Lists) (s : Sets) → Fits n ended tr at s → AreWithin s
 fits_within (Const b) ended tr at s h = record { yes_within = λ u o. (h.yes.only u o).0; no_within = λ u o. (h.no.only u o).0 }
 fits_within (Leaf a) ended tr at s h = record { yes_within = λ u o. (h.yes.only u o).0; no_within = λ u o. (h.no.only u o).0 }

@@ -7,7 +7,8 @@ use Rattle.early_verdict.specs.Cuts.{Place, place, After, Upto, Before}
 use Rattle.early_verdict.specs.Spans.{IsOn, IsAmong, AreTidy}
 use Rattle.early_verdict.specs.Steps.{HoldsFrom}
 use Rattle.early_verdict.specs.declared.stretch.Stretch.{Stretch}
-use Rattle.early_verdict.proofs.PlaceLemmas.{sides, not_both, between, share, before_trans, before_through, upto_of_before, after_of_before, at_most_of_not_before}
+use Rattle.early_verdict.proofs.PlaceLemmas.{sides, not_both, between, share, before_trans, before_through}
+use Rattle.early_verdict.proofs.PlaceLemmas.{upto_of_before, after_of_before, at_most_of_not_before}
 use Rattle.early_verdict.proofs.MakingLemmas.{after_from}
 use Rattle.early_verdict.proofs.StretchLemmas.{rises}
 use Rattle.early_verdict.proofs.SpanLemmas.{rest_after}

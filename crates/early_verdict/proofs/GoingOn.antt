@@ -45,7 +45,8 @@ leaves_bound b f header h i (Once p x y j k) at = tt
 leaves_bound b f header h i (Historically p x y j k) at = tt
 
 all_go : (b : Binding) (f : Formula) (header : Header) (rows : List Row) (e : Event) (old : Option Trace) (before : Option Row) (r : Row) → IsBound b f header
-    → AreRows (length header.columns) rows → ((a : Atom) → GoesOnWith e old (trace_of header rows) before r a) → AllGo f.nodes b e old (trace_of header rows) before r
+    → AreRows (length header.columns) rows → ((a : Atom) → GoesOnWith e old (trace_of header rows) before r a)
+    → AllGo f.nodes b e old (trace_of header rows) before r
 all_go b f header rows e old before r h ok go i a at = (record { formula = f; bound = h; node = at; rows = record { rows = ok } }, go a)
 
 still_open : (e : Event) (P Q : Type 0) → e.ended ≡ false → Q → MatchBool e.ended P Q
@@ -68,7 +69,8 @@ module _ (nodes : List Node) (tr : Trace) (formed : AreWellFormed nodes) (old ne
       }
 
 -- the first row
-pub first_stand : (b : Binding) (f : Formula) (header : Header) (r : Row) (e : Event) (made shown new new_shown : List Sets) → AreWellFormed f.nodes → 0 < length f.nodes
+pub first_stand : (b : Binding) (f : Formula) (header : Header) (r : Row) (e : Event) (made shown new new_shown : List Sets)
+    → AreWellFormed f.nodes → 0 < length f.nodes
     → IsBound b f header → length r.values ≡ b.width → e.ended ≡ false → Happens e None (trace_of header (r ∷ [])) → AreMade f.nodes (row_time r) made
     → AreShownOf made shown → SteppedTo (length f.nodes) made new → ShownTo (length f.nodes) new shown new_shown → AllTidy new × AllTidy new_shown
     → ((old : Option Trace) (tr : Trace) → Happens e old tr → AreLive f.nodes (start tr) made shown → AllGo f.nodes b e old tr None r
@@ -80,7 +82,8 @@ first_stand b f header r e made shown new new_shown formed some h w o happens m 
     (fits None tr happens live
     (all_go b f header (r ∷ []) e None None r h (w ∙ h.width, tt) (λ a. still_open e (None ≡ Some tr) (IsNextRow a None tr None r) o (is_first_row header r a)))
     (m.empty, empty)))
-    (sound_of f.nodes (row_time r) made new shown new_shown stepped shows live (λ i. Settled (subformula f.nodes i) tr) (λ i. SettledNot (subformula f.nodes i) tr)
+    (sound_of f.nodes (row_time r) made new shown new_shown stepped shows live (λ i. Settled (subformula f.nodes i) tr)
+    (λ i. SettledNot (subformula f.nodes i) tr)
     (λ i x u is z. absurd (on_none x.yes.spans.items u (empty i x is).yes z)) (λ i x u is z. absurd (on_none x.no.spans.items u (empty i x is).no z)))
     (root_shows f.nodes (row_time r) made shown m are below some)
   where
@@ -105,10 +108,12 @@ module _ (nodes : List Node) (tr : Trace) (live shown : List Sets) (s : NetStand
   shown_no i w u is l o = (s.known i l).no_out u (subst (λ (x : Lists). IsOn x.no u) (sym (lists_are shown i w is)) o)
 
 -- a row after others
-pub next_stand : (b : Binding) (f : Formula) (header : Header) (r : Row) (rows : List Row) (x : Row) (e : Event) (before : Option Row) (live shown new new_shown : List Sets)
+pub next_stand : (b : Binding) (f : Formula) (header : Header) (r : Row) (rows : List Row) (x : Row) (e : Event)
+    (before : Option Row) (live shown new new_shown : List Sets)
     → AreWellFormed f.nodes → IsBound b f header
     → AreRows (length header.columns) (r ∷ rows) → (last_after r rows).time < x.time → length x.values ≡ b.width → before ≡ Some (last_after r rows)
-    → e.ended ≡ false → Happens e (Some (trace_of header (r ∷ rows))) (trace_of header (r ∷ (rows ++ x ∷ []))) → NetStands f.nodes (trace_of header (r ∷ rows)) live shown
+    → e.ended ≡ false → Happens e (Some (trace_of header (r ∷ rows))) (trace_of header (r ∷ (rows ++ x ∷ [])))
+    → NetStands f.nodes (trace_of header (r ∷ rows)) live shown
     → SteppedTo (length f.nodes) live new → ShownTo (length f.nodes) new shown new_shown → AllTidy new × AllTidy new_shown
     → ((old : Option Trace) (tr : Trace) → Happens e old tr → AreLive f.nodes (start tr) live shown → AllGo f.nodes b e old tr before x
     → AllWere old f.nodes live shown → AllFit f.nodes e.ended tr new new_shown)
@@ -121,11 +126,14 @@ next_stand b f header r rows x e before live shown new new_shown formed h ok l w
     (λ a. still_open e (Some so_far ≡ Some all) (IsNextRow a (Some so_far) all before x) o
     (subst (λ q. IsNextRow a (Some so_far) all q x) (sym is) (is_next header (length header.columns) r rows x a ok l (w ∙ h.width)))))
     s.fit))
-    (sound_of f.nodes (row_time r) live new shown new_shown stepped shows s.have (λ i. Settled (subformula f.nodes i) all) (λ i. SettledNot (subformula f.nodes i) all)
+    (sound_of f.nodes (row_time r) live new shown new_shown stepped shows s.have (λ i. Settled (subformula f.nodes i) all)
+    (λ i. SettledNot (subformula f.nodes i) all)
     (λ i y u at z. let p = at_place f.nodes (row_time r) live new shown new_shown stepped shows s.have i y at in
-    stays header (length header.columns) r rows (x ∷ []) pushed.1 (subformula f.nodes i) u (p.3.shown_starts u (p.3.yes_within u z)) (shown_yes f.nodes so_far live shown s i y u at p.0 z))
+    stays header (length header.columns) r rows (x ∷ []) pushed.1 (subformula f.nodes i) u
+    (p.3.shown_starts u (p.3.yes_within u z)) (shown_yes f.nodes so_far live shown s i y u at p.0 z))
     (λ i y u at z. let p = at_place f.nodes (row_time r) live new shown new_shown stepped shows s.have i y at in
-    stays_not header (length header.columns) r rows (x ∷ []) pushed.1 (subformula f.nodes i) u (p.3.shown_starts u (p.3.no_within u z)) (shown_no f.nodes so_far live shown s i y u at p.0 z)))
+    stays_not header (length header.columns) r rows (x ∷ []) pushed.1 (subformula f.nodes i) u
+    (p.3.shown_starts u (p.3.no_within u z)) (shown_no f.nodes so_far live shown s i y u at p.0 z)))
     s.root
   where
     so_far : Trace
@@ -141,11 +149,13 @@ next_stand b f header r rows x e before live shown new new_shown formed h ok l w
 module _ (header : Header) (width : ℕ) (r : Row) (rows : List Row) (ok : AreRowsAfter width r.time rows) (p : Subformula) (t : Rational) (f : row_time r ≤ʳ t)
     (l : t ≤ʳ stop (trace_of header (r ∷ rows))) where
   settled_here : Settled p (trace_of header (r ∷ rows)) t → Truth p (trace_of header (r ∷ rows)) t
-  settled_here d = subst (λ (xs : List Row). AreRowsAfter width r.time xs → t ≤ʳ whole (pos (last_time r.time xs)) → Truth p (trace_of header (r ∷ xs)) t) (append-nil rows)
+  settled_here d = subst (λ (xs : List Row).
+      AreRowsAfter width r.time xs → t ≤ʳ whole (pos (last_time r.time xs)) → Truth p (trace_of header (r ∷ xs)) t) (append-nil rows)
       (λ k e. settled header width r rows [] k p t (record { above = f; below = e }) d) ok l
 
   settled_not_here : SettledNot p (trace_of header (r ∷ rows)) t → ¬ (Truth p (trace_of header (r ∷ rows)) t)
-  settled_not_here d = subst (λ (xs : List Row). AreRowsAfter width r.time xs → t ≤ʳ whole (pos (last_time r.time xs)) → ¬ (Truth p (trace_of header (r ∷ xs)) t)) (append-nil rows)
+  settled_not_here d = subst (λ (xs : List Row).
+      AreRowsAfter width r.time xs → t ≤ʳ whole (pos (last_time r.time xs)) → ¬ (Truth p (trace_of header (r ∷ xs)) t)) (append-nil rows)
       (λ k e. settled_not header width r rows [] k p t (record { above = f; below = e }) d) ok l
 
 -- the end of the input: what the root shows then
@@ -156,15 +166,19 @@ pub end_final : (b : Binding) (f : Formula) (header : Header) (r : Row) (rows : 
     → SteppedTo (length f.nodes) live new → ShownTo (length f.nodes) new shown new_shown → AllTidy new × AllTidy new_shown
     → ((old : Option Trace) (tr : Trace) → Happens e old tr → AreLive f.nodes (start tr) live shown → AllGo f.nodes b e old tr None last
     → AllWere old f.nodes live shown → AllFit f.nodes e.ended tr new new_shown)
-    → Final (trace_of header (r ∷ rows)) (IsShown new_shown (length f.nodes - 1)) (lists_at new_shown (length f.nodes - 1)) (subformula f.nodes (length f.nodes - 1))
+    → Final (trace_of header (r ∷ rows)) (IsShown new_shown (length f.nodes - 1)) (lists_at new_shown (length f.nodes - 1))
+    (subformula f.nodes (length f.nodes - 1))
     × IsShown new_shown (length f.nodes - 1) (row_time r)
 end_final b f header r rows last e live shown new new_shown formed some h ok o happens s stepped shows tidy fits = (
   all_final f.nodes tr new new_shown formed have tidy.0 tidy.1
-      (sound_of f.nodes (row_time r) live new shown new_shown stepped shows s.have (λ i u. u ≤ʳ stop tr → Truth (subformula f.nodes i) tr u) (λ i u. u ≤ʳ stop tr → ¬ (Truth (subformula f.nodes i) tr u))
+      (sound_of f.nodes (row_time r) live new shown new_shown stepped shows s.have
+      (λ i u. u ≤ʳ stop tr → Truth (subformula f.nodes i) tr u) (λ i u. u ≤ʳ stop tr → ¬ (Truth (subformula f.nodes i) tr u))
       (λ i y u at z l. let p = at_place f.nodes (row_time r) live new shown new_shown stepped shows s.have i y at in
-      settled_here header (length header.columns) r rows ok.1 (subformula f.nodes i) u (p.3.shown_starts u (p.3.yes_within u z)) l (shown_yes f.nodes tr live shown s i y u at p.0 z))
+      settled_here header (length header.columns) r rows ok.1 (subformula f.nodes i) u (p.3.shown_starts u (p.3.yes_within u z)) l
+      (shown_yes f.nodes tr live shown s i y u at p.0 z))
       (λ i y u at z l. let p = at_place f.nodes (row_time r) live new shown new_shown stepped shows s.have i y at in
-      settled_not_here header (length header.columns) r rows ok.1 (subformula f.nodes i) u (p.3.shown_starts u (p.3.no_within u z)) l (shown_no f.nodes tr live shown s i y u at p.0 z)))
+      settled_not_here header (length header.columns) r rows ok.1 (subformula f.nodes i) u
+      (p.3.shown_starts u (p.3.no_within u z)) l (shown_no f.nodes tr live shown s i y u at p.0 z)))
       fit (length f.nodes) (omega arith) (length f.nodes - 1) (omega (arith, some)),
   shown_still f.nodes (row_time r) live new shown new_shown stepped shows s.have (length f.nodes - 1) (row_time r) s.root,
 )

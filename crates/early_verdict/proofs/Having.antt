@@ -15,6 +15,7 @@ use Rattle.early_verdict.proofs.Places.{get_within}
 
 module _ (nodes : List Node) (from : Rational) (old new old_shown new_shown : List Sets) (h : SteppedTo (length nodes) old new)
     (g : ShownTo (length nodes) new old_shown new_shown) (have : AreLive nodes from old old_shown) where
+  -- a node's sets were there before the event
   pub was_at : (i : ℕ) (s : Sets) → slice_get new i ≡ Some s → (r : Sets) × (slice_get old i ≡ Some r) × HasStepped r s
   was_at i s is =
       let l = get_within new i s is in
@@ -23,7 +24,9 @@ module _ (nodes : List Node) (from : Rational) (old new old_shown new_shown : Li
       let w = sets_at old i (omega (arith, l, c)) in
       (w.0, w.1, h.stepped i w.0 s (omega (arith, l, c, d)) w.1 is)
 
-  pub showed_at : (i : ℕ) (x : Sets) → slice_get new_shown i ≡ Some x → (s : Sets) × (slice_get new i ≡ Some s) × (w : Sets) × (slice_get old_shown i ≡ Some w) × HasShown w x s
+  -- and what it shows is of what it has and what it showed
+  pub showed_at : (i : ℕ) (x : Sets) → slice_get new_shown i ≡ Some x
+      → (s : Sets) × (slice_get new i ≡ Some s) × (w : Sets) × (slice_get old_shown i ≡ Some w) × HasShown w x s
   showed_at i x is =
       let l = get_within new_shown i x is in
       let c = g.count in
@@ -37,6 +40,7 @@ module _ (nodes : List Node) (from : Rational) (old new old_shown new_shown : Li
   same_one : (a b : Sets) → Some a ≡ Some b → a ≡ b
   same_one a b e = cc
 
+  -- what was shown is shown still
   pub shown_still : (p : ℕ) (u : Rational) → IsShown old_shown p u → IsShown new_shown p u
   shown_still p u o =
       let c = g.count in
@@ -54,16 +58,19 @@ module _ (nodes : List Node) (from : Rational) (old new old_shown new_shown : Li
         let c = g.count in
         let x = sets_at new_shown p (omega (arith, c, l)) in
         let m = showed_at p x.0 x.1 in
-        subst (λ (l : Lists). IsOn l.yes u) (sym (lists_are new_shown p x.0 x.1)) (m.4.gains_yes.kept u (subst (λ (l : Lists). IsOn l.yes u) (lists_are old_shown p m.2 m.3) o)),
+        subst (λ (l : Lists). IsOn l.yes u) (sym (lists_are new_shown p x.0 x.1))
+        (m.4.gains_yes.kept u (subst (λ (l : Lists). IsOn l.yes u) (lists_are old_shown p m.2 m.3) o)),
     λ o.
         let l = no_there old_shown p u o in
         let c = g.count in
         let x = sets_at new_shown p (omega (arith, c, l)) in
         let m = showed_at p x.0 x.1 in
-        subst (λ (l : Lists). IsOn l.no u) (sym (lists_are new_shown p x.0 x.1)) (m.4.gains_no.kept u (subst (λ (l : Lists). IsOn l.no u) (lists_are old_shown p m.2 m.3) o)),
+        subst (λ (l : Lists). IsOn l.no u) (sym (lists_are new_shown p x.0 x.1))
+        (m.4.gains_no.kept u (subst (λ (l : Lists). IsOn l.no u) (lists_are old_shown p m.2 m.3) o)),
   )
 
-  live_still : (i : ℕ) (n : Node) (s x : Sets) → slice_get nodes i ≡ Some n → slice_get new i ≡ Some s → slice_get new_shown i ≡ Some x → IsLive from new_shown n s x
+  live_still : (i : ℕ) (n : Node) (s x : Sets) → slice_get nodes i ≡ Some n → slice_get new i ≡ Some s
+      → slice_get new_shown i ≡ Some x → IsLive from new_shown n s x
   live_still i n s x at is ix = by_old (was_at i s is) (showed_at i x ix)
     where
       by_old : ((r : Sets) × (slice_get old i ≡ Some r) × HasStepped r s)

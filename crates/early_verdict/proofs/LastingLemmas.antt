@@ -57,6 +57,7 @@ none_or_one w start t = elim (decided start far) [
 abbrev pub BeginsAll : Window → Place → List Stretch → List Stretch → Rational → Type 0
 BeginsAll w start spans fresh t = SeesNone w start t ⊎ BySome (HeldAt w start spans) fresh t
 
+-- at the first row the set has the times all of whose window the other has
 pub first_tells : (w : Window) (start : Place) (bounds : Stretch) (old new told fresh x fx : List Stretch) → AreTidy x → old ≡ [] → Gains [] x fx
     → Grows bounds old new told fresh (BeginsAll w start x fx) → Tells bounds new (SeesOnly w start x)
 first_tells w start bounds old new told fresh x fx tidy none gx g = record {

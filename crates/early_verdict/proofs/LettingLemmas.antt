@@ -75,6 +75,7 @@ less_of bounds w x n less = record {
   no_out = λ t o. (n.no_out t o).0;
 }
 
+-- sets are no less than themselves
 pub same_less : (w : Sets) → IsLess w w
 same_less w = record {
   tidy = λ h. h;
@@ -99,11 +100,13 @@ less_then a b c f g = record {
   no_out = λ t o. f.no_out t (g.no_out t o);
 }
 
+-- and so are all
 pub none_less : (xs : List Sets) → AreLess xs xs
 none_less xs = record { count = refl; each = λ p x e. (x, e, same_less x) }
 
 -- where one node is asked from a time on
 module _ (p : ℕ) (from : Rational) (old new : List Sets) (h : IsAskedFrom p from old new) where
+  -- one node's fewer times are fewer of all
   pub one_less : AreLess old new
   one_less = record { count = h.count; each = each }
     where
@@ -161,9 +164,11 @@ module _ (p : ℕ) (from : Rational) (old new : List Sets) (h : IsAskedFrom p fr
       h.after t (subst (λ (z : Sets). Lies z.no.bounds t) (sym a) l) g u
       (subst (λ z. Lies z u) h.narrowed.no_bounds (subst (λ (z : Sets). Lies z.no.bounds u) (sym b) k))
 
+  -- what is left is tidy
   pub tidy_asked : AllTidy old → AllTidy new
   tidy_asked t q x e = let w = one_less.each q x e in w.2.tidy (t q w.0 w.1)
 
+  -- and lies within the bounds
   pub inside_asked : AreInside old → AreInside new
   inside_asked t q x e = let w = one_less.each q x e in w.2.inside (t q w.0 w.1)
 
@@ -204,6 +209,7 @@ before_side c t e = by_side c.after e
 pub none_asked : (n : Node) (from : Rational) (xs : List Sets) → ¬ (IsUntil n) → AreAskedBy n from xs xs
 none_asked n from xs u = record { less = none_less xs; others = λ p c. refl; run = λ r. refl; looks = λ s own parts k f l. l; cut = λ e. absurd (u e) }
 
+-- a negation asks its operand for its own times
 pub asked_not : (p : ℕ) (from : Rational) (old new : List Sets) → IsAskedFrom p from old new → AreAskedBy (Not p) from old new
 asked_not p from old new h = record {
   less = one_less p from old new h;
@@ -214,15 +220,19 @@ asked_not p from old new h = record {
 }
 
 module _ (p q : ℕ) (from : Rational) (old mid new : List Sets) (h : IsAskedFrom p from old mid) (g : IsAskedFrom q from mid new) where
+  -- fewer times of two nodes are fewer of all
   pub two_less : AreLess old new
   two_less = both_less old mid new (one_less p from old mid h) (one_less q from mid new g)
 
+  -- the other nodes stay
   pub two_others : (r : ℕ) → ¬ ((p ≡ r) ⊎ (q ≡ r)) → slice_get new r ≡ slice_get old r
   two_others r c = g.others r (λ e. c (inr (sym e))) ∙ h.others r (λ e. c (inl (sym e)))
 
+  -- from there on what was shown is shown
   pub both_shown : (r : ℕ) (t : Rational) → from ≤ʳ t → IsShown old r t → IsShown new r t
   both_shown r t f l = still_shown q from mid new g r t (λ d. f) (still_shown p from old mid h r t (λ d. f) l)
 
+  -- an `and` asks both sides
   pub asked_and : AreAskedBy (And p q) from old new
   asked_and = record {
     less = two_less;
@@ -232,6 +242,7 @@ module _ (p q : ℕ) (from : Rational) (old mid new : List Sets) (h : IsAskedFro
     looks = λ s own parts e f l t o. let k = l t o in (both_shown p t (f t o) k.0, both_shown q t (f t o) k.1);
   }
 
+  -- and so an `or`
   pub asked_or : AreAskedBy (Or p q) from old new
   asked_or = record {
     less = two_less;
@@ -241,6 +252,7 @@ module _ (p q : ℕ) (from : Rational) (old mid new : List Sets) (h : IsAskedFro
     looks = λ s own parts e f l t o. let k = l t o in (both_shown p t (f t o) k.0, both_shown q t (f t o) k.1);
   }
 
+  -- and an implication
   pub asked_implies : AreAskedBy (Implies p q) from old new
   asked_implies = record {
     less = two_less;
@@ -288,6 +300,7 @@ module _ (p : ℕ) (from first : Rational) (old new : List Sets) (h : IsAskedFro
     seen_ahead : (start t u : Rational) → from ≤ʳ t → OpenAhead start a b a_in b_in t u → first ≤ʳ u
     seen_ahead start t u f o = le_trans begins (le_trans (later_le a f) (precedes_le a_in (later t a) u o.begins))
 
+    -- an `eventually` asks for the times from its window's begin on
     pub asked_eventually : AreAskedBy (Eventually p a b a_in b_in) from old new
     asked_eventually = record {
       less = one_less p first old new h;
@@ -297,6 +310,7 @@ module _ (p : ℕ) (from first : Rational) (old new : List Sets) (h : IsAskedFro
       looks = λ s own parts k f l t u o w. still_shown p first old new h p u (λ d. seen_ahead s t u (f t o) w) (l t u o w);
     }
 
+    -- and so an `always`
     pub asked_always : AreAskedBy (Always p a b a_in b_in) from old new
     asked_always = record {
       less = one_less p first old new h;
@@ -313,6 +327,7 @@ module _ (p : ℕ) (from first : Rational) (old new : List Sets) (h : IsAskedFro
     seen_behind : (start t u : Rational) → from ≤ʳ t → OpenBehind start a (Some b) a_in b_in t u → first ≤ʳ u
     seen_behind start t u f o = shorter first u (le_trans begins (le_trans f (precedes_le b_in t (later u b) o.begins)))
 
+    -- a `once` asks for the times that its window looks back to
     pub asked_once : AreAskedBy (Once p a (Some b) a_in b_in) from old new
     asked_once = record {
       less = one_less p first old new h;
@@ -327,6 +342,7 @@ module _ (p : ℕ) (from first : Rational) (old new : List Sets) (h : IsAskedFro
       ];
     }
 
+    -- and so a `historically`
     pub asked_historically : AreAskedBy (Historically p a (Some b) a_in b_in) from old new
     asked_historically = record {
       less = one_less p first old new h;
@@ -503,6 +519,7 @@ module _ (p low : ℕ) (at : Rational) (old new : List Sets) (apart : AreApart o
   asked_once_by None i j h = asked_once_first i j h
   asked_once_by (Some b) i j (first, e, h) = asked_once p at first old new h low b i j e
 
+  -- without a bound a `historically` asks for all times
   pub asked_historically_by : (b : Option ℕ) (a_in b_in : Bool)
       → MatchOption b (IsAskedFirst p false low at old new) (λ k. (first : Rational) × (later first k ≤ʳ at) × IsAskedFrom p first old new)
       → AreAskedBy (Historically p low b a_in b_in) at old new
@@ -530,6 +547,7 @@ asked_at sets front back i d own from b e f h n less left after ends = record {
   ends = ends_most (slice_index_or back 0 d).no.bounds b ends;
 }
 
+-- what is settled at a place is settled in the list
 pub settled_at : (shown sets front back : List Sets) (i : ℕ) (d own x : Sets) → front ≡ take i sets → back ≡ drop i sets → i < length sets
     → slice_get shown i ≡ Some x → IsSettled x (slice_index_or back 0 d) own → IsSettledAt i shown sets (front ++ slice_set back 0 own)
 settled_at shown sets front back i d own x e f h is s = record {
@@ -544,6 +562,7 @@ settled_at shown sets front back i d own x e f h is s = record {
   settled = s;
 }
 
+-- what is shown at a place is shown in the list
 pub shows_at : (live sets front back : List Sets) (i : ℕ) (d own s : Sets) → front ≡ take i sets → back ≡ drop i sets
     → i < length sets → slice_get live i ≡ Some s
     → HasShown (slice_index_or back 0 d) own s → ShowsAt i live sets (front ++ slice_set back 0 own)
@@ -559,6 +578,7 @@ shows_at live sets front back i d own s e f h is k = record {
   shown = k;
 }
 
+-- a run that is cut at a place is cut in the list
 pub run_cut_at : (sets front back : List Sets) (i : ℕ) (d own : Sets) (first from : Rational) (wide : Stretch)
     → front ≡ take i sets → back ≡ drop i sets → i < length sets
     → IsRunCut first from wide (slice_index_or back 0 d) own → IsRunCutAt i first from wide sets (front ++ slice_set back 0 own)

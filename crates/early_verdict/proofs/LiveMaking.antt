@@ -31,6 +31,7 @@ reach from t u top k m h l e = le_trans l (le_trans (later_le k h) (le_trans (tw
 reach_now : (from t u : Rational) (top m : ℕ) → t ≤ʳ later from top → u ≤ʳ t → top ≤ m → u ≤ʳ later from m
 reach_now from t u top m h l e = le_trans l (le_trans h (later_more from top m e))
 
+-- an empty list has no time
 pub on_none : (xs : List Stretch) (t : Rational) → xs ≡ [] → IsOn xs t → ⊥
 on_none xs t e o = subst (λ l. IsOn l t) e o
 
@@ -60,8 +61,14 @@ module _ (nodes : List Node) (from : Rational) (live shown : List Sets) (made : 
     ahead_parts b far (Some x) k = record {
       some = λ t l. let g = in_own t l in ((k.some t).1 g, (k.each t).1 g);
       never = λ t l. let g = in_own t l in ((k.never t).1 g, (k.broken t).1 g);
-      both = λ t u l f e. let g : (from ≤ʳ u) × (u ≤ʳ later from h.wide) = (le_trans (in_own t l).0 f, reach from t u (top_at made.tops i) b h.wide (in_own t l).1 e far) in ((k.both u).1 g, (k.run u).1 g);
-      fail = λ t u l f e. let g : (from ≤ʳ u) × (u ≤ʳ later from h.wide) = (le_trans (in_own t l).0 f, reach from t u (top_at made.tops i) b h.wide (in_own t l).1 e far) in ((k.fail u).1 g, (k.stop u).1 g);
+      both = λ t u l f e. let g : (from ≤ʳ u) × (u ≤ʳ later from h.wide) = (
+        le_trans (in_own t l).0 f,
+        reach from t u (top_at made.tops i) b h.wide (in_own t l).1 e far,
+      ) in ((k.both u).1 g, (k.run u).1 g);
+      fail = λ t u l f e. let g : (from ≤ʳ u) × (u ≤ʳ later from h.wide) = (
+        le_trans (in_own t l).0 f,
+        reach from t u (top_at made.tops i) b h.wide (in_own t l).1 e far,
+      ) in ((k.fail u).1 g, (k.stop u).1 g);
     }
 
     back_parts : (b : Option ℕ) → top_at made.tops i ≤ h.wide → (o : Option Parts) → MatchOption o (Unit {0}) (ArePartsAsked from (top_at made.tops i) h.wide)
@@ -70,24 +77,35 @@ module _ (nodes : List Node) (from : Rational) (live shown : List Sets) (made : 
     back_parts b far (Some x) k = record {
       some = λ t l. let g = in_own t l in ((k.some t).1 g, (k.each t).1 g);
       never = λ t l. let g = in_own t l in ((k.never t).1 g, (k.broken t).1 g);
-      both = λ t u l o. let g : (from ≤ʳ u) × (u ≤ʳ later from h.wide) = (o.after, reach_now from t u (top_at made.tops i) h.wide (in_own t l).1 (none_later u t 0 o.ends) far) in ((k.both u).1 g, (k.run u).1 g);
-      fail = λ t u l o. let g : (from ≤ʳ u) × (u ≤ʳ later from h.wide) = (o.after, reach_now from t u (top_at made.tops i) h.wide (in_own t l).1 (none_later u t 0 o.ends) far) in ((k.fail u).1 g, (k.stop u).1 g);
+      both = λ t u l o. let g : (from ≤ʳ u) × (u ≤ʳ later from h.wide) = (
+        o.after,
+        reach_now from t u (top_at made.tops i) h.wide (in_own t l).1 (none_later u t 0 o.ends) far,
+      ) in ((k.both u).1 g, (k.run u).1 g);
+      fail = λ t u l o. let g : (from ≤ʳ u) × (u ≤ʳ later from h.wide) = (
+        o.after,
+        reach_now from t u (top_at made.tops i) h.wide (in_own t l).1 (none_later u t 0 o.ends) far,
+      ) in ((k.fail u).1 g, (k.stop u).1 g);
     }
 
     here : (p : ℕ) → p < i → top_at made.tops i ≤ top_at made.tops p → (t : Rational) → Lies s.no.bounds t → IsShown shown p t
-    here p c a t l = let g = in_own t l in shows p t (let q = small in omega (arith, c, q)) g.0 (reach_now from t t (top_at made.tops i) (top_at made.tops p) g.1 (le_refl t) a)
+    here p c a t l =
+        let g = in_own t l in
+        shows p t (let q = small in omega (arith, c, q)) g.0 (reach_now from t t (top_at made.tops i) (top_at made.tops p) g.1 (le_refl t) a)
 
-    there : (p b : ℕ) → p < i → top_at made.tops i + b ≤ top_at made.tops p → (t u : Rational) → Lies s.no.bounds t → from ≤ʳ u → u ≤ʳ later t b → IsShown shown p u
+    there : (p b : ℕ) → p < i → top_at made.tops i + b ≤ top_at made.tops p → (t u : Rational) → Lies s.no.bounds t → from ≤ʳ u
+        → u ≤ʳ later t b → IsShown shown p u
     there p b c a t u l f e = shows p u (let q = small in omega (arith, c, q)) f (reach from t u (top_at made.tops i) b (top_at made.tops p) (in_own t l).1 e a)
 
     behind : (p : ℕ) → p < i → top_at made.tops i ≤ top_at made.tops p → (t u : Rational) → Lies s.no.bounds t → from ≤ʳ u → u ≤ʳ t → IsShown shown p u
-    behind p c a t u l f e = shows p u (let q = small in omega (arith, c, q)) f (reach_now from t u (top_at made.tops i) (top_at made.tops p) (in_own t l).1 e a)
+    behind p c a t u l f e = shows p u (let q = small in omega (arith, c, q)) f
+        (reach_now from t u (top_at made.tops i) (top_at made.tops p) (in_own t l).1 e a)
 
     looks : LooksAt n from shown s.no.bounds s.parts
     looks = by_node n (placed i n at) (made.have.asks i n at) h.left
       where
         by_node : (m : Node) → HasChildrenBelow i m → AsksBelow (top_at made.tops) (top_at made.tops i) m
-            → MatchOption (left_of m) (s.parts ≡ None) (λ p. (top_at made.tops p ≡ h.wide) × ((l : Sets) → slice_get live p ≡ Some l → HasFailBounds s l) × (s.parts ≡ None → ⊥))
+            → MatchOption (left_of m) (s.parts ≡ None)
+            (λ p. (top_at made.tops p ≡ h.wide) × ((l : Sets) → slice_get live p ≡ Some l → HasFailBounds s l) × (s.parts ≡ None → ⊥))
             → LooksAt m from shown s.no.bounds s.parts
         by_node (Const b) c a w = tt
         by_node (Leaf x) c a w = tt
@@ -124,7 +142,8 @@ module _ (nodes : List Node) (from : Rational) (live shown : List Sets) (made : 
             by_parts (Some y) f = (f.0 ∙ sym q, f.1 ∙ sym q)
 
         by_left : (o : Option ℕ)
-            → MatchOption o (s.parts ≡ None) (λ p. (top_at made.tops p ≡ h.wide) × ((l : Sets) → slice_get live p ≡ Some l → HasFailBounds s l) × (s.parts ≡ None → ⊥))
+            → MatchOption o (s.parts ≡ None)
+            (λ p. (top_at made.tops p ≡ h.wide) × ((l : Sets) → slice_get live p ≡ Some l → HasFailBounds s l) × (s.parts ≡ None → ⊥))
             → MatchOption o (Unit {0}) (λ p. IsSome s.parts × ((l : Sets) → slice_get shown p ≡ Some l → HasFailBounds s l))
         by_left None w = tt
         by_left (Some p) w = (
@@ -162,9 +181,11 @@ module _ (nodes : List Node) (from : Rational) (live shown : List Sets) (made : 
   of_live : (i : ℕ) (x : Sets) → slice_get shown i ≡ Some x → (s : Sets) × (slice_get live i ≡ Some s)
   of_live i x f = let a = get_within shown i x f in sets_at live i (let c = are.count in omega (arith, a, c))
 
+  -- at first nothing is shown
   pub shown_empty : AllEmpty shown
   shown_empty i x f = let s = of_live i x f in (are.has i s.0 x s.1 f).2
 
+  -- which is tidy
   pub shown_tidy : AllTidy shown
   shown_tidy i x f = sets_tidy x (shown_empty i x f)
 

@@ -26,10 +26,22 @@ module _ (from : Rational) (own own' : Stretch) (less : (t : Rational) → Lies 
   ahead_parts b None new e h = subst (λ o. MatchOption o (Unit {0}) (ReachesAhead from b own')) (sym e) tt
   ahead_parts b (Some x) None e h = absurd e
   ahead_parts b (Some x) (Some y) e h = record {
-    some = λ t l. let k = h.some t (less t l) in (in_same x.holding.some.bounds y.holding.some.bounds t e.holding.some k.0, in_same x.holding.each.bounds y.holding.each.bounds t e.holding.each k.1);
-    never = λ t l. let k = h.never t (less t l) in (in_same x.failing.never.bounds y.failing.never.bounds t e.failing.never k.0, in_same x.failing.broken.bounds y.failing.broken.bounds t e.failing.broken k.1);
-    both = λ t u l f g. let k = h.both t u (less t l) f g in (in_same x.holding.both.bounds y.holding.both.bounds u e.holding.both k.0, in_same x.holding.run.bounds y.holding.run.bounds u e.holding.run k.1);
-    fail = λ t u l f g. let k = h.fail t u (less t l) f g in (in_same x.failing.fail.bounds y.failing.fail.bounds u e.failing.fail k.0, in_same x.failing.stop.bounds y.failing.stop.bounds u e.failing.stop k.1);
+    some = λ t l. let k = h.some t (less t l) in (
+      in_same x.holding.some.bounds y.holding.some.bounds t e.holding.some k.0,
+      in_same x.holding.each.bounds y.holding.each.bounds t e.holding.each k.1,
+    );
+    never = λ t l. let k = h.never t (less t l) in (
+      in_same x.failing.never.bounds y.failing.never.bounds t e.failing.never k.0,
+      in_same x.failing.broken.bounds y.failing.broken.bounds t e.failing.broken k.1,
+    );
+    both = λ t u l f g. let k = h.both t u (less t l) f g in (
+      in_same x.holding.both.bounds y.holding.both.bounds u e.holding.both k.0,
+      in_same x.holding.run.bounds y.holding.run.bounds u e.holding.run k.1,
+    );
+    fail = λ t u l f g. let k = h.fail t u (less t l) f g in (
+      in_same x.failing.fail.bounds y.failing.fail.bounds u e.failing.fail k.0,
+      in_same x.failing.stop.bounds y.failing.stop.bounds u e.failing.stop k.1,
+    );
   }
 
   back_parts : (b : Option ℕ) (old new : Option Parts) → ArePartsKept old new → MatchOption old (Unit {0}) (ReachesBack from b own)
@@ -37,15 +49,29 @@ module _ (from : Rational) (own own' : Stretch) (less : (t : Rational) → Lies 
   back_parts b None new e h = subst (λ o. MatchOption o (Unit {0}) (ReachesBack from b own')) (sym e) tt
   back_parts b (Some x) None e h = absurd e
   back_parts b (Some x) (Some y) e h = record {
-    some = λ t l. let k = h.some t (less t l) in (in_same x.holding.some.bounds y.holding.some.bounds t e.holding.some k.0, in_same x.holding.each.bounds y.holding.each.bounds t e.holding.each k.1);
-    never = λ t l. let k = h.never t (less t l) in (in_same x.failing.never.bounds y.failing.never.bounds t e.failing.never k.0, in_same x.failing.broken.bounds y.failing.broken.bounds t e.failing.broken k.1);
-    both = λ t u l o. let k = h.both t u (less t l) o in (in_same x.holding.both.bounds y.holding.both.bounds u e.holding.both k.0, in_same x.holding.run.bounds y.holding.run.bounds u e.holding.run k.1);
-    fail = λ t u l o. let k = h.fail t u (less t l) o in (in_same x.failing.fail.bounds y.failing.fail.bounds u e.failing.fail k.0, in_same x.failing.stop.bounds y.failing.stop.bounds u e.failing.stop k.1);
+    some = λ t l. let k = h.some t (less t l) in (
+      in_same x.holding.some.bounds y.holding.some.bounds t e.holding.some k.0,
+      in_same x.holding.each.bounds y.holding.each.bounds t e.holding.each k.1,
+    );
+    never = λ t l. let k = h.never t (less t l) in (
+      in_same x.failing.never.bounds y.failing.never.bounds t e.failing.never k.0,
+      in_same x.failing.broken.bounds y.failing.broken.bounds t e.failing.broken k.1,
+    );
+    both = λ t u l o. let k = h.both t u (less t l) o in (
+      in_same x.holding.both.bounds y.holding.both.bounds u e.holding.both k.0,
+      in_same x.holding.run.bounds y.holding.run.bounds u e.holding.run k.1,
+    );
+    fail = λ t u l o. let k = h.fail t u (less t l) o in (
+      in_same x.failing.fail.bounds y.failing.fail.bounds u e.failing.fail k.0,
+      in_same x.failing.stop.bounds y.failing.stop.bounds u e.failing.stop k.1,
+    );
   }
 
   -- a node that goes on from fewer times looks at no more
-  pub looks_as : (n : Node) (shown shown' : List Sets) (old new : Option Parts) → ((p : ℕ) → IsChild p n → (u : Rational) → IsShown shown p u → IsShown shown' p u)
-      → ((p : ℕ) → IsChild p n → (u : Rational) → (IsOn (lists_at shown p).yes u → IsOn (lists_at shown' p).yes u) × (IsOn (lists_at shown p).no u → IsOn (lists_at shown' p).no u))
+  pub looks_as : (n : Node) (shown shown' : List Sets) (old new : Option Parts)
+      → ((p : ℕ) → IsChild p n → (u : Rational) → IsShown shown p u → IsShown shown' p u)
+      → ((p : ℕ) → IsChild p n → (u : Rational) → (IsOn (lists_at shown p).yes u → IsOn (lists_at shown' p).yes u)
+      × (IsOn (lists_at shown p).no u → IsOn (lists_at shown' p).no u))
       → ArePartsKept old new → LooksAt n from shown own old → LooksAt n from shown' own' new
   looks_as (Const b) shown shown' old new f g e h = tt
   looks_as (Leaf a) shown shown' old new f g e h = tt
@@ -53,10 +79,12 @@ module _ (from : Rational) (own own' : Stretch) (less : (t : Rational) → Lies 
   looks_as (And p q) shown shown' old new f g e h = λ t l. let k = h t (less t l) in (f p (inl refl) t k.0, f q (inr refl) t k.1)
   looks_as (Or p q) shown shown' old new f g e h = λ t l. let k = h t (less t l) in (f p (inl refl) t k.0, f q (inr refl) t k.1)
   looks_as (Implies p q) shown shown' old new f g e h = λ t l. let k = h t (less t l) in (f p (inl refl) t k.0, f q (inr refl) t k.1)
-  looks_as (Until p q a b) shown shown' old new f g e h = (λ t u l c d. let k = h.0 t u (less t l) c d in (f p (inl refl) u k.0, f q (inr refl) u k.1), ahead_parts b old new e h.1)
+  looks_as (Until p q a b) shown shown' old new f g e h =
+      (λ t u l c d. let k = h.0 t u (less t l) c d in (f p (inl refl) u k.0, f q (inr refl) u k.1), ahead_parts b old new e h.1)
   looks_as (Eventually p a b i j) shown shown' old new f g e h = λ t u l o. f p refl u (h t u (less t l) o)
   looks_as (Always p a b i j) shown shown' old new f g e h = λ t u l o. f p refl u (h t u (less t l) o)
-  looks_as (Since p q a b) shown shown' old new f g e h = (λ t u l o. let k = h.0 t u (less t l) o in (f p (inl refl) u k.0, f q (inr refl) u k.1), back_parts b old new e h.1)
+  looks_as (Since p q a b) shown shown' old new f g e h =
+      (λ t u l o. let k = h.0 t u (less t l) o in (f p (inl refl) u k.0, f q (inr refl) u k.1), back_parts b old new e h.1)
   looks_as (Once p a b i j) shown shown' old new f g e h =
       λ t u l o. elim (h t u (less t l) o) [ inl k ↦ inl (f p refl u k) | inr (w, d, k, y) ↦ inr (w, d, f p refl w k, (g p refl w).0 y) ]
   looks_as (Historically p a b i j) shown shown' old new f g e h =
@@ -73,7 +101,8 @@ fail_bounds s s' l l' e q h = by_parts s.parts s'.parts e h
     by_parts : (o n : Option Parts) → ArePartsKept o n
         → MatchOption o (Unit {0}) (λ x. (x.failing.fail.bounds ≡ l.no.bounds) × (x.failing.stop.bounds ≡ l.no.bounds))
         → MatchOption n (Unit {0}) (λ x. (x.failing.fail.bounds ≡ l'.no.bounds) × (x.failing.stop.bounds ≡ l'.no.bounds))
-    by_parts None n e h = subst (λ o. MatchOption o (Unit {0}) (λ x. (x.failing.fail.bounds ≡ l'.no.bounds) × (x.failing.stop.bounds ≡ l'.no.bounds))) (sym e) tt
+    by_parts None n e h =
+        subst (λ o. MatchOption o (Unit {0}) (λ x. (x.failing.fail.bounds ≡ l'.no.bounds) × (x.failing.stop.bounds ≡ l'.no.bounds))) (sym e) tt
     by_parts (Some x) None e h = absurd e
     by_parts (Some x) (Some y) e h = (e.failing.fail ∙ h.0 ∙ sym q, e.failing.stop ∙ h.1 ∙ sym q)
 
@@ -83,7 +112,8 @@ pub parts_as : (n : Node) (s s' : Sets) (shown shown' : List Sets) → ArePartsK
     → HasParts n s shown → HasParts n s' shown'
 parts_as n s s' shown shown' e f h = by_left (left_of n) f h
   where
-    by_left : (o : Option ℕ) → ((p : ℕ) (l' : Sets) → o ≡ Some p → slice_get shown' p ≡ Some l' → (l : Sets) × (slice_get shown p ≡ Some l) × (l'.no.bounds ≡ l.no.bounds))
+    by_left : (o : Option ℕ)
+        → ((p : ℕ) (l' : Sets) → o ≡ Some p → slice_get shown' p ≡ Some l' → (l : Sets) × (slice_get shown p ≡ Some l) × (l'.no.bounds ≡ l.no.bounds))
         → MatchOption o (Unit {0}) (λ p. IsSome s.parts × ((l : Sets) → slice_get shown p ≡ Some l → HasFailBounds s l))
         → MatchOption o (Unit {0}) (λ p. IsSome s'.parts × ((l : Sets) → slice_get shown' p ≡ Some l → HasFailBounds s' l))
     by_left None f h = tt

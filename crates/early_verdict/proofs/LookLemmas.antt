@@ -31,10 +31,12 @@ abbrev pub Told : Option Trace → Grown → (Trace → Rational → Type 0) →
 Told None x P = IsEmpty x
 Told (Some o) x P = Says x (P o)
 
+-- sets that said both said the true times
 pub told_yes : (old : Option Trace) (s : Sets) (P N : Trace → Rational → Type 0) → Was old (λ o x. SayBoth x (P o) (N o)) s → Told old s.yes P
 told_yes None s P N w = w.yes
 told_yes (Some o) s P N w = w.yes
 
+-- and the false ones
 pub told_no : (old : Option Trace) (s : Sets) (P N : Trace → Rational → Type 0) → Was old (λ o x. SayBoth x (P o) (N o)) s → Told old s.no N
 told_no None s P N w = w.no
 told_no (Some o) s P N w = w.no
@@ -47,6 +49,7 @@ had_list_yes old tr l s h = by_first old h.first
     by_first None e = ap (λ (m : Lists). m.yes) e
     by_first (Some o) e = tt
 
+-- a list of false times was one
 pub had_list_no : (old : Option Trace) (tr : Trace) (l : Lists) (s : Sets) → Had old tr l s → WasList old l.no
 had_list_no old tr l s h = by_first old h.first
   where
@@ -80,9 +83,11 @@ module _ (w : Window) (a b : ℕ) (a_in b_in : Bool) (is : IsAhead w a b a_in b_
             sees_same : u ≈ t → Sees w t t
             sees_same s = (is t t).1 (precedes_before a_in (later t a) u t o.begins l, precedes_after b_in t u (later t b) (no_earlier t u o) o.ends)
 
+    -- a window that sees a sure time sees some time ahead
     pub sure_says : (bounds : Stretch) (own : List Stretch) → Tells bounds own (SeesSure w sure xs) → Tells bounds own (SomeAhead tr a b a_in b_in (IsOn xs))
     sure_says bounds own = tells_alike bounds own (SeesSure w sure xs) (SomeAhead tr a b a_in b_in (IsOn xs)) (λ t l. sure_out t) (λ t l. sure_into t)
 
+    -- and the other way round
     pub sure_said : (bounds : Stretch) (own : List Stretch) → Tells bounds own (SomeAhead tr a b a_in b_in (IsOn xs)) → Tells bounds own (SeesSure w sure xs)
     sure_said bounds own = tells_alike bounds own (SomeAhead tr a b a_in b_in (IsOn xs)) (SeesSure w sure xs) (λ t l. sure_into t) (λ t l. sure_out t)
 
@@ -93,12 +98,16 @@ module _ (w : Window) (a b : ℕ) (a_in b_in : Bool) (is : IsAhead w a b a_in b_
     only_into : (t : Rational) → OnlyAhead false tr a b a_in b_in (IsOn xs) t → SeesOnly w st xs t
     only_into t f u k s = f u (opens t u (after_same st (start_place tr) u begins k) s) tt
 
-    pub only_said : (bounds : Stretch) (own : List Stretch) → Tells bounds own (OnlyAhead false tr a b a_in b_in (IsOn xs)) → Tells bounds own (SeesOnly w st xs)
+    -- a window ahead that sees only such times has them all
+    pub only_said : (bounds : Stretch) (own : List Stretch) → Tells bounds own (OnlyAhead false tr a b a_in b_in (IsOn xs))
+        → Tells bounds own (SeesOnly w st xs)
     only_said bounds own = tells_alike bounds own (OnlyAhead false tr a b a_in b_in (IsOn xs)) (SeesOnly w st xs) (λ t l. only_into t) (λ t l. only_out t)
 
+    -- and the other way round, up to the sure times
     pub only_says : (ended : Bool) (sure : Place) → Same sure (sure_place tr) → (bounds : Stretch) (own : List Stretch)
         → Tells bounds own (SeesOnlyTo ended w st sure xs) → Tells bounds own (OnlyAhead ended tr a b a_in b_in (IsOn xs))
-    only_says false sure to bounds own = tells_alike bounds own (SeesOnly w st xs) (OnlyAhead false tr a b a_in b_in (IsOn xs)) (λ t l. only_out t) (λ t l. only_into t)
+    only_says false sure to bounds own =
+        tells_alike bounds own (SeesOnly w st xs) (OnlyAhead false tr a b a_in b_in (IsOn xs)) (λ t l. only_out t) (λ t l. only_into t)
     only_says true sure to bounds own = tells_alike bounds own (SeesOnlyBy w st sure xs) (OnlyAhead true tr a b a_in b_in (IsOn xs))
         (λ t l f u o c. f u (after_same (start_place tr) st u (same_places begins) o.after) (upto_same (sure_place tr) sure u (same_places to) c) (sees t u o))
         (λ t l f u k e s. f u (opens t u (after_same st (start_place tr) u begins k) s) (upto_same sure (sure_place tr) u to e))
@@ -118,18 +127,22 @@ module _ (w : Window) (a : ℕ) (b : Option ℕ) (a_in b_in : Bool) (is : IsBehi
     one_into : (t : Rational) → SomeBehind tr a b a_in b_in (IsOn xs) t → SeesOne w xs t
     one_into t (u, o, c, y) = (u, y, sees_back t u o)
 
+    -- a window that sees a time sees some time behind
     pub one_says : (bounds : Stretch) (own : List Stretch) → Tells bounds own (SeesOne w xs) → Tells bounds own (SomeBehind tr a b a_in b_in (IsOn xs))
     one_says bounds own = tells_alike bounds own (SeesOne w xs) (SomeBehind tr a b a_in b_in (IsOn xs)) (λ t l. one_out t) (λ t l. one_into t)
 
+    -- and the other way round
     pub one_said : (bounds : Stretch) (own : List Stretch) → Tells bounds own (SomeBehind tr a b a_in b_in (IsOn xs)) → Tells bounds own (SeesOne w xs)
     one_said bounds own = tells_alike bounds own (SomeBehind tr a b a_in b_in (IsOn xs)) (SeesOne w xs) (λ t l. one_into t) (λ t l. one_out t)
 
   module _ (st : Place) (begins : Same st (start_place tr)) (xs : List Stretch) where
+    -- a window behind that sees only such times has them all
     pub back_says : (bounds : Stretch) (own : List Stretch) → Tells bounds own (SeesOnly w st xs) → Tells bounds own (OnlyBehind tr a b a_in b_in (IsOn xs))
     back_says bounds own = tells_alike bounds own (SeesOnly w st xs) (OnlyBehind tr a b a_in b_in (IsOn xs))
         (λ t l f u o. f u (after_same (start_place tr) st u (same_places begins) o.after) (sees_back t u o))
         (λ t l f u k s. f u (opens_back t u (after_same st (start_place tr) u begins k) s))
 
+    -- and the other way round
     pub back_said : (bounds : Stretch) (own : List Stretch) → Tells bounds own (OnlyBehind tr a b a_in b_in (IsOn xs)) → Tells bounds own (SeesOnly w st xs)
     back_said bounds own = tells_alike bounds own (OnlyBehind tr a b a_in b_in (IsOn xs)) (SeesOnly w st xs)
         (λ t l f u k s. f u (opens_back t u (after_same st (start_place tr) u begins k) s))
@@ -144,6 +157,7 @@ module _ (e : Event) (tr : Trace) (x : Grown) (l : List Stretch) where
   from_was : (o : Trace) → start o ≡ start tr → ((u : Rational) → IsOn l u → start tr ≤ʳ u) → (u : Rational) → IsOn l u → start o ≤ʳ u
   from_was o s f u i = subst (λ r. r ≤ʳ u) (sym s) (f u i)
 
+  -- what was said of some time ahead was said of the window
   pub was_sure : (old : Option Trace) (w : Window) (a b : ℕ) (a_in b_in : Bool) → IsAhead w a b a_in b_in → Happens e old tr → WasList old l
       → ((u : Rational) → IsOn l u → start tr ≤ʳ u) → Told old x (λ o. SomeAhead o a b a_in b_in (IsOn l))
       → Tells x.bounds x.spans.items (SeesSure w (place e.before) l)
@@ -152,6 +166,7 @@ module _ (e : Event) (tr : Trace) (x : Grown) (l : List Stretch) where
   was_sure (Some o) w a b a_in b_in is h none from told =
       sure_said w a b a_in b_in is o (place e.before) h.sure_before.1 l (from_was o h.sure_before.0 from) x.bounds x.spans.items told
 
+  -- what was said of some time behind was said of it
   pub was_one : (old : Option Trace) (w : Window) (a : ℕ) (b : Option ℕ) (a_in b_in : Bool) → IsBehind w a b a_in b_in → Happens e old tr → WasList old l
       → ((u : Rational) → IsOn l u → start tr ≤ʳ u) → Told old x (λ o. SomeBehind o a b a_in b_in (IsOn l))
       → Tells x.bounds x.spans.items (SeesOne w l)
@@ -159,12 +174,14 @@ module _ (e : Event) (tr : Trace) (x : Grown) (l : List Stretch) where
   was_one (Some o) w a b a_in b_in is h none from told =
       one_said w a b a_in b_in is o l (from_was o h.sure_before.0 from) x.bounds x.spans.items told
 
+  -- what was said of all times ahead was said of it
   pub was_only : (old : Option Trace) (w : Window) (a b : ℕ) (a_in b_in : Bool) → IsAhead w a b a_in b_in → Happens e old tr
       → Told old x (λ o. OnlyAhead false o a b a_in b_in (IsOn l)) → WasTold old x (SeesOnly w (place e.start) l)
   was_only None w a b a_in b_in is h told = told
   was_only (Some o) w a b a_in b_in is h told =
       only_said w a b a_in b_in is o (place e.start) (start_was o h.sure_before.0 h.starts) l x.bounds x.spans.items told
 
+  -- and so of all times behind
   pub was_back : (old : Option Trace) (w : Window) (a : ℕ) (b : Option ℕ) (a_in b_in : Bool) → IsBehind w a b a_in b_in → Happens e old tr
       → Told old x (λ o. OnlyBehind o a b a_in b_in (IsOn l)) → WasTold old x (SeesOnly w (place e.start) l)
   was_back None w a b a_in b_in is h told = told
@@ -172,12 +189,14 @@ module _ (e : Event) (tr : Trace) (x : Grown) (l : List Stretch) where
       back_said w a b a_in b_in is o (place e.start) (start_was o h.sure_before.0 h.starts) l x.bounds x.spans.items told
 
 -- what a list had, the list has
-pub kept_from : (was now more : List Stretch) (from : Rational) → Gains was now more → ((u : Rational) → IsOn now u → from ≤ʳ u) → (u : Rational) → IsOn was u → from ≤ʳ u
+pub kept_from : (was now more : List Stretch) (from : Rational) → Gains was now more → ((u : Rational) → IsOn now u → from ≤ʳ u)
+    → (u : Rational) → IsOn was u → from ≤ʳ u
 kept_from was now more from g f u o = f u (g.kept u o)
 
 -- no time of a child lies before the start
 pub yes_after : (old : Option Trace) (tr : Trace) (l : Lists) (s : Sets) → Had old tr l s → (u : Rational) → IsOn s.yes.spans.items u → start tr ≤ʳ u
 yes_after old tr l s h u o = h.yes_from u (h.yes_within u o)
 
+-- no time before the start is shown false
 pub no_after : (old : Option Trace) (tr : Trace) (l : Lists) (s : Sets) → Had old tr l s → (u : Rational) → IsOn s.no.spans.items u → start tr ≤ʳ u
 no_after old tr l s h u o = h.no_from u (h.no_within u o)

@@ -58,6 +58,7 @@ by_more Q (x ∷ xs) (suc i) s t e (inl (inl h)) = inl h
 by_more Q (x ∷ xs) (suc i) s t e (inl (inr h)) = inr (by_more Q xs i s t e (inl h))
 by_more Q (x ∷ xs) (suc i) s t e (inr h) = inr (by_more Q xs i s t e (inr h))
 
+-- what one of some stretches says one of the first says, or the last
 pub by_less : (Q : Stretch → Rational → Type 0) (xs : List Stretch) (i : ℕ) (s : Stretch) (t : Rational) → slice_get xs i ≡ Some s
     → BySome Q (take (suc i) xs) t → BySome Q (take i xs) t ⊎ Q s t
 by_less Q [] i s t e h = absurd (no_stretch s e)
@@ -67,7 +68,8 @@ by_less Q (x ∷ xs) (suc i) s t e (inl h) = inl (inl h)
 by_less Q (x ∷ xs) (suc i) s t e (inr h) = elim (by_less Q xs i s t e h) [ inl k ↦ inl (inr k) | inr k ↦ inr k ]
 
 -- a set that has grown by the first of a list grows by one more of it
-pub grows_on : (Q : Stretch → Rational → Type 0) (xs : List Stretch) (i : ℕ) (s : Stretch) (bounds bounds' : Stretch) (old mid new told some fresh : List Stretch)
+pub grows_on : (Q : Stretch → Rational → Type 0) (xs : List Stretch) (i : ℕ) (s : Stretch) (bounds bounds' : Stretch)
+    (old mid new told some fresh : List Stretch)
     → bounds' ≡ bounds → slice_get xs i ≡ Some s → Grows bounds old mid told some (BySome Q (take i xs)) → Grows bounds' mid new some fresh (Q s)
     → Grows bounds old new told fresh (BySome Q (take (i + 1) xs))
 grows_on Q xs i s bounds bounds' old mid new told some fresh is e f g =
@@ -84,6 +86,7 @@ on_more (x ∷ xs) (suc i) s t e (inl (inl h)) = inl h
 on_more (x ∷ xs) (suc i) s t e (inl (inr h)) = inr (on_more xs i s t e (inl h))
 on_more (x ∷ xs) (suc i) s t e (inr h) = inr (on_more xs i s t e (inr h))
 
+-- a time on some stretches is on the first, or on the last
 pub on_less : (xs : List Stretch) (i : ℕ) (s : Stretch) (t : Rational) → slice_get xs i ≡ Some s → IsOn (take (suc i) xs) t → IsOn (take i xs) t ⊎ Lies s t
 on_less [] i s t e h = absurd (no_stretch s e)
 on_less (x ∷ xs) zero s t e (inl h) = inr (subst (λ r. Lies r t) (some_same x s e) h)
@@ -91,6 +94,7 @@ on_less (x ∷ xs) zero s t e (inr h) = absurd h
 on_less (x ∷ xs) (suc i) s t e (inl h) = inl (inl h)
 on_less (x ∷ xs) (suc i) s t e (inr h) = elim (on_less xs i s t e h) [ inl k ↦ inl (inr k) | inr k ↦ inr k ]
 
+-- a time on the first stretches is on all
 pub on_front : (xs : List Stretch) (at : ℕ) (t : Rational) → IsOn (take at xs) t → IsOn xs t
 on_front xs zero t h = absurd h
 on_front [] (suc at) t h = absurd h

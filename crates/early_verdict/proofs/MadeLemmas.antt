@@ -1,5 +1,6 @@
 -- The empty sets of all nodes of a formula are such as an event begins with.
-use Rattle.std.proofs.Common.{◌≡◌, ◌⊎◌, inl, inr, refl, sym, subst, ap, ◌∙◌, ℕ, zero, suc, ◌+◌, ◌<◌, pos, true, false, Option, Some, None, List, [], ◌∷◌, ◌++◌, length, take, arith}
+use Rattle.std.proofs.Common.{◌≡◌, ◌⊎◌, inl, inr, refl, sym, subst, ap, ◌∙◌, ℕ, zero, suc, ◌+◌, ◌<◌, pos}
+use Rattle.std.proofs.Common.{true, false, Option, Some, None, List, [], ◌∷◌, ◌++◌, length, take, arith}
 use Rattle.std.specs.Prelude.{slice_get, MatchOption}
 use Rattle.std.proofs.lemmas.List.{take-append-le, length-append}
 use Rattle.std.proofs.lemmas.Option.{slice_get_within}
@@ -59,6 +60,7 @@ parts_tidy x e = record {
   };
 }
 
+-- empty sets are tidy
 pub sets_tidy : (s : Sets) → AreEmpty s → AreSetsTidy s
 sets_tidy s e = record { yes = tidy_of s.yes e.yes; no = tidy_of s.no e.no; parts = by_parts s.parts e.parts }
   where
@@ -66,9 +68,11 @@ sets_tidy s e = record { yes = tidy_of s.yes e.yes; no = tidy_of s.no e.no; part
     by_parts None h = tt
     by_parts (Some x) h = parts_tidy x h
 
+-- an option holds one pair of sets
 pub some_sets : (a b : Sets) → Some a ≡ Some b → a ≡ b
 some_sets a b e = cc
 
+-- and one node
 pub some_node : (a b : Node) → Some a ≡ Some b → a ≡ b
 some_node a b e = cc
 
@@ -128,7 +132,8 @@ module _ (nodes : List Node) (from : Rational) (tops : List ℕ) (sets : List Se
                   λ l' e'.
                       let same = some_sets l l' (sym g ∙ e') in
                       subst (HasFailBounds s) same
-                      (subst (λ o. MatchOption o (Unit {0}) (λ x. (x.failing.fail.bounds ≡ l.no.bounds) × (x.failing.stop.bounds ≡ l.no.bounds))) (sym r) (h.fail, h.stop)),
+                      (subst (λ o. MatchOption o (Unit {0}) (λ x. (x.failing.fail.bounds ≡ l.no.bounds) × (x.failing.stop.bounds ≡ l.no.bounds)))
+                      (sym r) (h.fail, h.stop)),
                   λ none. absurd (let c : None ≡ Some x = sym none ∙ r in cc),
                 );
           }
@@ -136,7 +141,8 @@ module _ (nodes : List Node) (from : Rational) (tops : List ℕ) (sets : List Se
           from_of : (l : Sets) → slice_get sets p ≡ Some l → IsFrom from (top_at tops p) l.yes.bounds × IsFrom from (top_at tops p) l.no.bounds
           from_of l g = of_node (node_at sets nodes p l count g)
             where
-              node_at : (xs : List Sets) (ys : List Node) (k : ℕ) (l : Sets) → length xs ≡ length ys → slice_get xs k ≡ Some l → (n : Node) × (slice_get ys k ≡ Some n)
+              node_at : (xs : List Sets) (ys : List Node) (k : ℕ) (l : Sets) → length xs ≡ length ys → slice_get xs k ≡ Some l
+                  → (n : Node) × (slice_get ys k ≡ Some n)
               node_at [] ys k l c g = absurd (let x : None ≡ Some l = g in cc)
               node_at (x ∷ xs) [] k l c g = absurd (omega arith)
               node_at (x ∷ xs) (y ∷ ys) zero l c g = (y, refl)
@@ -157,6 +163,7 @@ module _ (nodes : List Node) (from : Rational) (tops : List ℕ) (sets : List Se
       }
       by_left (Some p) is h = by_parts p h.0 (in_front sets i p h.0 h.1) is s.parts refl h.2
 
+  -- the sets of all nodes are made
   pub all_made : length sets ≡ length nodes → AreTops nodes tops → AreMade nodes from sets
   all_made count t = record {
     tops = tops;
@@ -169,7 +176,8 @@ module _ (nodes : List Node) (from : Rational) (tops : List ℕ) (sets : List Se
       node_of : (i : ℕ) (s : Sets) → slice_get sets i ≡ Some s → (n : Node) × (slice_get nodes i ≡ Some n)
       node_of i s f = node_at sets nodes i s count f
         where
-          node_at : (xs : List Sets) (ys : List Node) (k : ℕ) (l : Sets) → length xs ≡ length ys → slice_get xs k ≡ Some l → (n : Node) × (slice_get ys k ≡ Some n)
+          node_at : (xs : List Sets) (ys : List Node) (k : ℕ) (l : Sets) → length xs ≡ length ys → slice_get xs k ≡ Some l
+              → (n : Node) × (slice_get ys k ≡ Some n)
           node_at [] ys k l c g = absurd (let x : None ≡ Some l = g in cc)
           node_at (x ∷ xs) [] k l c g = absurd (omega arith)
           node_at (x ∷ xs) (y ∷ ys) zero l c g = (y, refl)
@@ -191,6 +199,7 @@ last_or_before zero (suc n) h = inl (omega arith)
 last_or_before (suc j) zero h = absurd (omega arith)
 last_or_before (suc j) (suc n) h = elim (last_or_before j n (omega arith)) [ inl l ↦ inl (omega arith) | inr e ↦ inr (ap suc e) ]
 
+-- and those of one more
 pub one_more : (nodes : List Node) (from : Rational) (tops : List ℕ) (sets : List Sets) (more : Sets)
     → ((j : ℕ) (n : Node) (s : Sets) → slice_get nodes j ≡ Some n → slice_get sets j ≡ Some s → IsMade from (top_at tops j) n (take j sets) s)
     → ((n : Node) → slice_get nodes (length sets) ≡ Some n → IsMade from (top_at tops (length sets)) n sets more)
@@ -211,6 +220,7 @@ one_more nodes from tops sets more made last j n s e f = elim (last_or_before j 
     within : j < length sets + 1
     within = subst (λ k. j < k) (length-append sets (more ∷ [])) (slice_get_within (sets ++ more ∷ []) j s f)
 
+-- each place has its sets
 pub sets_at : (xs : List Sets) (p : ℕ) → p < length xs → (l : Sets) × (slice_get xs p ≡ Some l)
 sets_at [] p h = absurd (omega arith)
 sets_at (x ∷ xs) zero h = (x, refl)
@@ -252,7 +262,8 @@ top_of (x ∷ xs) (suc i) r e = top_of xs i r e
 pub shown_more : (live shown : List Sets) (s x : Sets) (k : ℕ) → slice_get live k ≡ Some s → length shown ≡ k
     → ((i : ℕ) (s x : Sets) → slice_get live i ≡ Some s → slice_get shown i ≡ Some x → (x.yes.bounds ≡ s.no.bounds) × (x.no.bounds ≡ s.no.bounds) × AreEmpty x)
     → x.yes.bounds ≡ s.no.bounds → x.no.bounds ≡ s.no.bounds → AreEmpty x
-    → (i : ℕ) (r y : Sets) → slice_get live i ≡ Some r → slice_get (shown ++ x ∷ []) i ≡ Some y → (y.yes.bounds ≡ r.no.bounds) × (y.no.bounds ≡ r.no.bounds) × AreEmpty y
+    → (i : ℕ) (r y : Sets) → slice_get live i ≡ Some r → slice_get (shown ++ x ∷ []) i ≡ Some y
+    → (y.yes.bounds ≡ r.no.bounds) × (y.no.bounds ≡ r.no.bounds) × AreEmpty y
 shown_more live shown s x k at count h same_yes same_no empty i r y e f = elim (last_or_before i (length shown) within) [
   | inl l ↦ h i r y e (sym (still_there shown x i l) ∙ f)
   | inr is ↦

@@ -15,6 +15,7 @@ before_from c d e h b =
     let t = between d e b in
     elim (sides c t.0) [ inl u ↦ absurd (not_both d t.0 (h t.0 u) t.1) | inr a ↦ before_through c e t.0 a t.2 ]
 
+-- what is before a place is before a later one
 pub before_to : (c d e : Place) → Before c d → AtMost d e → Before c e
 before_to c d e b h = let t = between c d b in before_through c e t.0 t.1 (h t.0 t.2)
 
@@ -31,6 +32,7 @@ pub after_one : (a b r : Cut) (t : Rational) → (r ≡ a) ⊎ (r ≡ b) → Aft
 after_one a b r t (inl e) h k = subst (λ c. After (place c) t) (sym e) h
 after_one a b r t (inr e) h k = subst (λ c. After (place c) t) (sym e) k
 
+-- what is up to both is up to the one that was chosen
 pub upto_one : (a b r : Cut) (t : Rational) → (r ≡ a) ⊎ (r ≡ b) → Upto (place a) t → Upto (place b) t → Upto (place r) t
 upto_one a b r t (inl e) h k = subst (λ c. Upto (place c) t) (sym e) h
 upto_one a b r t (inr e) h k = subst (λ c. Upto (place c) t) (sym e) k
@@ -40,6 +42,7 @@ pub le_of_before : (c d : Place) → Before c d → c.at ≤ʳ d.at
 le_of_before c d (inl l) = le_of_lt l
 le_of_before c d (inr (s, e, f)) = le_of_same s
 
+-- a place that is no later has no later time
 pub le_of_at_most : (c d : Place) → AtMost c d → c.at ≤ʳ d.at
 le_of_at_most c d h = elim (le_or_lt c.at d.at) [ inl l ↦ l | inr l ↦ absurd (above l) ]
   where

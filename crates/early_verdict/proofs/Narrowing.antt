@@ -1,5 +1,6 @@
 -- What stands goes on to stand, where nodes go on from fewer times, or show fewer.
-use Rattle.std.proofs.Common.{◌≡◌, ◌≢◌, ◌⊎◌, inl, inr, refl, sym, ap, subst, ◌∙◌, ℕ, zero, suc, ◌-◌, ◌<◌, ◌≤◌, Bool, true, false, Option, Some, None, List, [], ◌∷◌, length, arith}
+use Rattle.std.proofs.Common.{◌≡◌, ◌≢◌, ◌⊎◌, inl, inr, refl, sym, ap, subst, ◌∙◌, ℕ, zero, suc, ◌-◌, ◌<◌}
+use Rattle.std.proofs.Common.{◌≤◌, Bool, true, false, Option, Some, None, List, [], ◌∷◌, length, arith}
 use Rattle.std.specs.Prelude.{MatchBool, MatchOption, slice_get}
 use Rattle.rational.specs.Time.{Rational, later, ◌≤ʳ◌, ◌<ʳ◌}
 use Rattle.rational.proofs.Order.{le_of_lt}
@@ -14,7 +15,9 @@ use Rattle.stl_syntax.proofs.PostOrderLemmas.{placed}
 use Rattle.early_verdict.specs.Cuts.{Place, After}
 use Rattle.early_verdict.specs.Spans.{IsOn, Lies}
 use Rattle.early_verdict.specs.Readings.{SomeAhead, OnlyAhead, SomeBehind, OnlyBehind}
-use Rattle.early_verdict.specs.Fitting.{Lists, lists_at, no_of, nothing, yes_of, Fits, SayBoth, SayOfParts, NegationFits, ConjunctionFits, DisjunctionFits, ImplicationFits, UntilFits, SinceFits, EventuallyFits, AlwaysFits, OnceFits, HistoricallyFits, AreSetsTidy}
+use Rattle.early_verdict.specs.Fitting.{Lists, lists_at, no_of, nothing, yes_of, Fits, SayBoth, SayOfParts, NegationFits}
+use Rattle.early_verdict.specs.Fitting.{ConjunctionFits, DisjunctionFits, ImplicationFits, UntilFits, SinceFits}
+use Rattle.early_verdict.specs.Fitting.{EventuallyFits, AlwaysFits, OnceFits, HistoricallyFits, AreSetsTidy}
 use Rattle.early_verdict.specs.Standing.{AllFit, AllTidy, HasParts, left_of}
 use Rattle.early_verdict.specs.Living.{AreLive, IsLive, IsNarrowed, IsShown, Known, LooksAt, LooksBack, NetStands}
 use Rattle.early_verdict.specs.Letting.{AreApart, AreAskedBy, AreInside, AreLess, IsChild, IsInside, IsLess, IsRun, IsSettledAt, IsUntil}
@@ -54,6 +57,7 @@ module _ (own bounds : Stretch) (s s' : Sets) (y : s.yes.bounds ≡ own) (n : s.
   run_still : (A B : Parts → Type 0) → MatchOption s.parts ⊥ (λ x. A x × B x × SayOfParts s x) → MatchOption s'.parts ⊥ (λ x. A x × B x × SayOfParts s' x)
   run_still A B h = subst (λ o. MatchOption o ⊥ (λ x. A x × B x × SayOfParts s' x)) (sym k.parts) (run_less A B s.parts h)
 
+  -- sets that go on from fewer times fit still
   pub fits_less : (m : Node) (tr : Trace) (at : ℕ → Lists) → Fits m false tr at s → Fits m false tr at s'
   fits_less (Const b) tr at h = less_both _ _ h
   fits_less (Leaf a) tr at h = less_both _ _ h
@@ -110,7 +114,9 @@ module _ (tr : Trace) (own : Stretch) (s : Sets) (y : s.yes.bounds ≡ own) (n :
     no = tells_alike s.no.bounds s.no.spans.items N N' (λ t l. not_out t (subst (λ x. Lies x t) n l)) (λ t l. not_into t) h.no;
   }
 
-  pub fits_local : (m : Node) → ¬ (IsRun m) → ¬ (IsUntil m) → LooksAt m (start tr) new own s.parts → Fits m false tr (lists_at old) s → Fits m false tr (lists_at new) s
+  -- a node that is no run and no until fits by what it looks at
+  pub fits_local : (m : Node) → ¬ (IsRun m) → ¬ (IsUntil m) → LooksAt m (start tr) new own s.parts
+      → Fits m false tr (lists_at old) s → Fits m false tr (lists_at new) s
   fits_local (Const b) r n l h = h
   fits_local (Leaf a) r n l h = h
   fits_local (Not p) r n l h =
@@ -181,7 +187,8 @@ module _ (nodes : List Node) (tr : Trace) (live new shown : List Sets) (i : ℕ)
     yes = k.yes_bounds;
     no = k.no_bounds;
     starts = λ t l. was.starts t (less t l);
-    looks = looks_as (start tr) was.own at.settled.bounds less n shown shown at.was.parts at.is.parts (λ p e u h. h) (λ p e u. (λ h. h, λ h. h)) (parts_kept at.was.parts at.is.parts k.parts) was.looks;
+    looks = looks_as (start tr) was.own at.settled.bounds less n shown shown at.was.parts at.is.parts (λ p e u h. h)
+        (λ p e u. (λ h. h, λ h. h)) (parts_kept at.was.parts at.is.parts k.parts) was.looks;
     left = parts_as n at.was at.is shown shown (parts_kept at.was.parts at.is.parts k.parts) (λ p l' e z. (l', z, refl)) was.left;
     shown_yes = was.shown_yes;
     shown_starts = was.shown_starts;
@@ -208,7 +215,8 @@ module _ (nodes : List Node) (tr : Trace) (live new shown : List Sets) (i : ℕ)
       less : (t : Rational) → Lies at.settled.bounds t → Lies was.own t
       less t l = subst (λ z. Lies z t) was.no (at.settled.less t l)
 
-  live_there : (j : ℕ) (n : Node) (s x : Sets) → slice_get nodes j ≡ Some n → slice_get new j ≡ Some s → slice_get shown j ≡ Some x → IsLive (start tr) shown n s x
+  live_there : (j : ℕ) (n : Node) (s x : Sets) → slice_get nodes j ≡ Some n → slice_get new j ≡ Some s
+      → slice_get shown j ≡ Some x → IsLive (start tr) shown n s x
   live_there j n s x here is ix = by_place (nat_is j i)
     where
       by_place : (j ≡ i) ⊎ (j ≢ i) → IsLive (start tr) shown n s x
@@ -241,6 +249,7 @@ module _ (nodes : List Node) (tr : Trace) (live new shown : List Sets) (i : ℕ)
           (fit_here (subst (λ k. slice_get nodes k ≡ Some n) q here))
       by_place (inr d) = st.fit j n s here (sym (at.others j d) ∙ is)
 
+  -- all stands where a node goes on from fewer times
   pub settled_stands : NetStands nodes tr new shown
   settled_stands = record {
     have = record { count = at.count ∙ st.have.count; shown_count = st.have.shown_count; has = live_there };
@@ -317,16 +326,20 @@ module _ (nodes : List Node) (tr : Trace) (live shown : List Sets) (st : NetStan
 
   pub are_apart : AreApart shown
   are_apart p x is t y n =
-      lists_apart p t (subst (λ (l : Lists). IsOn l.yes t) (sym (lists_are shown p x is)) y) (subst (λ (l : Lists). IsOn l.no t) (sym (lists_are shown p x is)) n)
+      lists_apart p t (subst (λ (l : Lists). IsOn l.yes t) (sym (lists_are shown p x is)) y)
+      (subst (λ (l : Lists). IsOn l.no t) (sym (lists_are shown p x is)) n)
 
 -- the children of one node show fewer times, and its own sets go on to fit them
-module _ (nodes : List Node) (formed : AreWellFormed nodes) (tr : Trace) (live left old new : List Sets) (i : ℕ) (n : Node) (at : slice_get nodes i ≡ Some n) (s r : Sets)
-    (is : slice_get live i ≡ Some s) (ir : slice_get left i ≡ Some r) (same : (j : ℕ) → j ≢ i → slice_get left j ≡ slice_get live j) (count : length left ≡ length live)
+module _ (nodes : List Node) (formed : AreWellFormed nodes) (tr : Trace) (live left old new : List Sets) (i : ℕ) (n : Node)
+    (at : slice_get nodes i ≡ Some n) (s r : Sets)
+    (is : slice_get live i ≡ Some s) (ir : slice_get left i ≡ Some r)
+    (same : (j : ℕ) → j ≢ i → slice_get left j ≡ slice_get live j) (count : length left ≡ length live)
     (less : AreLess old new) (others : (p : ℕ) → ¬ (IsChild p n) → slice_get new p ≡ slice_get old p) (st : NetStands nodes tr live old) where
   -- what is shown at a place now, and was
   was_shown : (p : ℕ) (x : Sets) → slice_get new p ≡ Some x → (w : Sets) × (slice_get old p ≡ Some w) × IsLess w x
   was_shown = less.each
 
+  -- what is left tells what it told
   pub agree : (p : ℕ) → Known (IsShown new p) (lists_at new p) (IsOn (lists_at old p).yes) (IsOn (lists_at old p).no)
   agree p = elim (at_or_not new p) [
     | inl (x, e) ↦
@@ -408,7 +421,8 @@ module _ (nodes : List Node) (formed : AreWellFormed nodes) (tr : Trace) (live l
       fit_one : Fits m false tr (lists_at new) v
       fit_one = elim (nat_is j i) [
         | inl q ↦ subst (λ z. Fits m false tr (lists_at new) z) (same_v q) (subst (λ z. Fits z false tr (lists_at new) r) (same_m q) fits)
-        | inr d ↦ fits_as m tr (lists_at old) (lists_at new) v (λ p c. lists_by old new p (sym (not_its j p m d here c))) (st.fit j m v here (sym (same j d) ∙ iv))
+        | inr d ↦ fits_as m tr (lists_at old) (lists_at new) v (λ p c. lists_by old new p (sym (not_its j p m d here c)))
+            (st.fit j m v here (sym (same j d) ∙ iv))
       ]
 
     tidy_one : AllTidy left
@@ -417,6 +431,7 @@ module _ (nodes : List Node) (formed : AreWellFormed nodes) (tr : Trace) (live l
       | inr d ↦ st.tidy j v (sym (same j d) ∙ iv)
     ]
 
+    -- all stands where one node lets go
     pub one_stands : NetStands nodes tr left new
     one_stands = record {
       have = record {
@@ -434,13 +449,15 @@ module _ (nodes : List Node) (formed : AreWellFormed nodes) (tr : Trace) (live l
         no_out = λ u o. (st.known p l).no_out u ((agree p).no_out u o);
       };
       root = elim (child_or_not (length nodes - 1) n) [
-        | inl c ↦ absurd (let a = child_below i (length nodes - 1) n (placed nodes i n formed.post_order at) c in let b = get_within live i s is in let d = st.have.count in omega (arith, a, b, d))
+        | inl c ↦ absurd (let a = child_below i (length nodes - 1) n (placed nodes i n formed.post_order at) c in
+            let b = get_within live i s is in let d = st.have.count in omega (arith, a, b, d))
         | inr c ↦ shown_as old new (length nodes - 1) (start tr) (others (length nodes - 1) c) st.root
       ];
     }
 
 -- a node that is no until
-module _ (nodes : List Node) (formed : AreWellFormed nodes) (tr : Trace) (live old new : List Sets) (i : ℕ) (n : Node) (at : slice_get nodes i ≡ Some n) (s : Sets)
+module _ (nodes : List Node) (formed : AreWellFormed nodes) (tr : Trace) (live old new : List Sets) (i : ℕ) (n : Node)
+    (at : slice_get nodes i ≡ Some n) (s : Sets)
     (is : slice_get live i ≡ Some s) (from : Rational) (begins : (t : Rational) → Lies s.no.bounds t → from ≤ʳ t) (asked : AreAskedBy n from old new)
     (st : NetStands nodes tr live old) (plain : ¬ (IsUntil n)) where
   begun : (own : Stretch) → s.no.bounds ≡ own → (t : Rational) → Lies own t → from ≤ʳ t
@@ -462,15 +479,19 @@ module _ (nodes : List Node) (formed : AreWellFormed nodes) (tr : Trace) (live o
     | inl h ↦ subst (λ xs. Fits n false tr (lists_at xs) s) (sym (asked.run h)) (st.fit i n s at is)
     | inr h ↦
         let k = st.have.has i n s shown_i.0 at is shown_i.1 in
-        fits_local tr k.own s k.yes k.no old new (agree nodes formed tr live live old new i n at s s is is (λ j d. refl) refl asked.less asked.others st) (lists_apart nodes tr live old st) n h plain
+        fits_local tr k.own s k.yes k.no old new
+        (agree nodes formed tr live live old new i n at s s is is (λ j d. refl) refl asked.less asked.others st)
+        (lists_apart nodes tr live old st) n h plain
         (asked.looks (start tr) k.own s.parts (shown_begun nodes tr live old st) (begun k.own k.no) k.looks) (st.fit i n s at is)
   ]
 
+  -- and where one shows fewer times that are asked for
   pub asked_stands : NetStands nodes tr live new
   asked_stands = one_stands nodes formed tr live live old new i n at s s is is (λ j d. refl) refl asked.less asked.others st mine fits (st.tidy i s is)
 
 -- what stands lies within its bounds
 module _ (nodes : List Node) (tr : Trace) (live shown : List Sets) (st : NetStands nodes tr live shown) where
+  -- what the nodes go on from lies within the bounds
   pub live_inside : AreInside live
   live_inside p s is =
       let l = get_within live p s is in
@@ -482,6 +503,7 @@ module _ (nodes : List Node) (tr : Trace) (live shown : List Sets) (st : NetStan
       let w = fits_within n.0 false tr (lists_at shown) s (st.fit p n.0 s n.1 is) in
       record { yes = λ t o. subst (λ z. Lies z t) (k.yes ∙ sym k.no) (w.yes_within t o); no = w.no_within }
 
+  -- and so does what they show
   pub shown_inside : AreInside shown
   shown_inside p x ix =
       let l = get_within shown p x ix in

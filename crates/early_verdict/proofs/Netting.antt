@@ -1,5 +1,6 @@
 -- One event goes on from node to node.
-use Rattle.std.proofs.Common.{◌≡◌, ◌≢◌, ◌⊎◌, inl, inr, refl, sym, ap, subst, ◌∙◌, ℕ, zero, suc, ◌+◌, ◌<◌, ◌≤◌, false, Option, Some, None, List, [], ◌∷◌, length, take, arith, below_more}
+use Rattle.std.proofs.Common.{◌≡◌, ◌≢◌, ◌⊎◌, inl, inr, refl, sym, ap, subst, ◌∙◌, ℕ, zero, suc, ◌+◌, ◌<◌, ◌≤◌}
+use Rattle.std.proofs.Common.{false, Option, Some, None, List, [], ◌∷◌, length, take, arith, below_more}
 use Rattle.std.specs.Prelude.{MatchOption, IsSome, slice_get}
 use Rattle.stl_syntax.specs.Trace.{Row, Trace, start}
 use Rattle.stl_syntax.specs.Formula.{HasChildrenBelow}
@@ -25,6 +26,7 @@ use Rattle.early_verdict.proofs.Places.{same_sets, taken_at, taken_within, get_w
 nat_or : (j i : ℕ) → j ≤ i → (j < i) ⊎ (j ≡ i)
 nat_or j i h = below_more (λ k. (k < i) ⊎ (k ≡ i)) i (λ k l. inl l) (inr refl) j (omega (arith, h))
 
+-- two places are the same or differ
 pub nat_is : (j i : ℕ) → (j ≡ i) ⊎ (j ≢ i)
 nat_is zero zero = inl refl
 nat_is zero (suc i) = inr (λ e. omega (arith, e))
@@ -34,6 +36,7 @@ nat_is (suc j) (suc i) = elim (nat_is j i) [ inl e ↦ inl (ap suc e) | inr n �
 same_nodes : (a b : Node) → Some a ≡ Some b → a ≡ b
 same_nodes a b e = cc
 
+-- each place has its node
 pub nodes_at : (nodes : List Node) (p : ℕ) → p < length nodes → (m : Node) × (slice_get nodes p ≡ Some m)
 nodes_at [] p h = absurd (omega (arith, h))
 nodes_at (n ∷ nodes) zero h = (n, refl)
@@ -63,6 +66,7 @@ stepped_on i old mid new h at = record {
         let d = same_sets at.is r (sym at.at_new ∙ b) in
         subst (λ x. HasStepped x r) c (subst (λ x. HasStepped at.was x) d at.stepped)
 
+-- before the first node none has stepped
 pub stepped_none : (xs : List Sets) → SteppedTo 0 xs xs
 stepped_none xs = record {
   count = refl;
@@ -70,6 +74,7 @@ stepped_none xs = record {
   others = λ j l. refl;
 }
 
+-- sets stay tidy after a node's step
 pub tidy_on : (i : ℕ) (mid new : List Sets) → AllTidy mid → StepsAt i mid new → AllTidy new
 tidy_on i mid new h at j s e = by_place (nat_is j i)
   where
@@ -85,6 +90,7 @@ shown_none live xs = record {
   others = λ j l. refl;
 }
 
+-- one node more shows what it has
 pub shown_on : (i : ℕ) (mid live old xs new : List Sets) → ((j : ℕ) → j ≢ i → slice_get live j ≡ slice_get mid j) → ShownTo i mid old xs → ShowsAt i live xs new
     → ShownTo (i + 1) live old new
 shown_on i mid live old xs new same h at = record {
@@ -105,6 +111,7 @@ shown_on i mid live old xs new same h at = record {
         let p = same_sets at.own s (sym at.at_live ∙ o) in
         subst (λ z. HasShown x r z) p (subst (λ z. HasShown z r at.own) c (subst (λ z. HasShown at.was z at.own) d at.shown))
 
+-- which is tidy
 pub shown_tidy_on : (i : ℕ) (live mid new : List Sets) → AllTidy mid → ShowsAt i live mid new → AllTidy new
 shown_tidy_on i live mid new h at j s e = by_place (nat_is j i)
   where
@@ -113,7 +120,8 @@ shown_tidy_on i live mid new h at j s e = by_place (nat_is j i)
     by_place (inr n) = h j s (sym (at.others j n) ∙ e)
 
 -- what has stepped goes on from what was, and shows so
-module _ (nodes : List Node) (b : Binding) (e : Event) (before : Option Row) (r : Row) (old : Option Trace) (tr : Trace) (first mid first_shown mid_shown : List Sets)
+module _ (nodes : List Node) (b : Binding) (e : Event) (before : Option Row) (r : Row) (old : Option Trace) (tr : Trace)
+    (first mid first_shown mid_shown : List Sets)
     (happens : Happens e old tr) (have : AreLive nodes (start tr) first first_shown) (go : AllGo nodes b e old tr before r)
     (were : AllWere old nodes first first_shown) where
   -- what was empty before any row had no list
@@ -135,7 +143,8 @@ module _ (nodes : List Node) (b : Binding) (e : Event) (before : Option Row) (r 
       let step = h.shown p m.0 w.0 x l m.1 w.1 is in
       by_step w.0 o.0 w.1 (have.has p n o.0 w.0 at o.1 w.1) m.0 step
     where
-      by_step : (w o : Sets) → slice_get first_shown p ≡ Some w → IsLive (start tr) first_shown n o w → (m : Sets) → HasShown w x m → Had old tr (lists_at first_shown p) x
+      by_step : (w o : Sets) → slice_get first_shown p ≡ Some w → IsLive (start tr) first_shown n o w → (m : Sets)
+          → HasShown w x m → Had old tr (lists_at first_shown p) x
       by_step w o e k m step = record {
         lists = subst (λ (z : Lists). HadLists z x) (sym (lists_are first_shown p w e)) (record { yes = step.gains_yes; no = step.gains_no });
         first = had_first p w e;
@@ -152,7 +161,8 @@ module _ (nodes : List Node) (b : Binding) (e : Event) (before : Option Row) (r 
       }
 
   -- until and since have their sets between
-  has_parts : (i : ℕ) → SteppedTo i first mid → ShownTo i mid first_shown mid_shown → (n : Node) (s x : Sets) → slice_get nodes i ≡ Some n → slice_get first i ≡ Some s
+  has_parts : (i : ℕ) → SteppedTo i first mid → ShownTo i mid first_shown mid_shown → (n : Node) (s x : Sets)
+      → slice_get nodes i ≡ Some n → slice_get first i ≡ Some s
       → slice_get first_shown i ≡ Some x → HasParts n s (take i mid_shown)
   has_parts i g h n s x at is ix = by_left (left_of n) (have.has i n s x at is ix).left
     where
@@ -178,7 +188,8 @@ module _ (nodes : List Node) (b : Binding) (e : Event) (before : Option Row) (r 
             fail_bounds w.0 l (h.shown p m.0 w.0 l k m.1 w.1 f).no (x.1 w.0 w.1),
       )
 
-  leaf_goes : (i : ℕ) (n : Node) (s x : Sets) → slice_get nodes i ≡ Some n → slice_get first i ≡ Some s → slice_get first_shown i ≡ Some x → LeafGoes b i e old tr before r s n
+  leaf_goes : (i : ℕ) (n : Node) (s x : Sets) → slice_get nodes i ≡ Some n → slice_get first i ≡ Some s
+      → slice_get first_shown i ≡ Some x → LeafGoes b i e old tr before r s n
   leaf_goes i (Leaf a) s x at is ix =
       let g = go i a at in
       let k = have.has i (Leaf a) s x at is ix in
@@ -203,10 +214,13 @@ module _ (nodes : List Node) (b : Binding) (e : Event) (before : Option Row) (r 
       by_old (Some o) w = w i n s at is
 
   -- one node more fits
-  pub fits_on : (i : ℕ) (new new_shown : List Sets) (n : Node) → ((j : ℕ) (m : Node) → slice_get nodes j ≡ Some m → HasChildrenBelow j m) → SteppedTo i first mid
-      → ShownTo i mid first_shown mid_shown → (at : StepsAt i mid new) → ((j : ℕ) → j ≢ i → slice_get new_shown j ≡ slice_get mid_shown j) → slice_get nodes i ≡ Some n
+  pub fits_on : (i : ℕ) (new new_shown : List Sets) (n : Node)
+      → ((j : ℕ) (m : Node) → slice_get nodes j ≡ Some m → HasChildrenBelow j m) → SteppedTo i first mid
+      → ShownTo i mid first_shown mid_shown → (at : StepsAt i mid new)
+      → ((j : ℕ) → j ≢ i → slice_get new_shown j ≡ slice_get mid_shown j) → slice_get nodes i ≡ Some n
       → ((j : ℕ) (m : Node) (s : Sets) → j < i → slice_get nodes j ≡ Some m → slice_get mid j ≡ Some s → Fits m e.ended tr (lists_at mid_shown) s)
-      → ((was : ℕ → Lists) → Happens e old tr → HadAll old tr was (take i mid_shown) → HasParts n at.was (take i mid_shown) → LeafGoes b i e old tr before r at.was n
+      → ((was : ℕ → Lists) → Happens e old tr → HadAll old tr was (take i mid_shown) → HasParts n at.was (take i mid_shown)
+      → LeafGoes b i e old tr before r at.was n
       → Was old (λ o. Fits n false o was) at.was → Fits n e.ended tr (lists_at (take i mid_shown)) at.is)
       → (j : ℕ) (m : Node) (s : Sets) → j < i + 1 → slice_get nodes j ≡ Some m → slice_get new j ≡ Some s → Fits m e.ended tr (lists_at new_shown) s
   fits_on i new new_shown n below h g at others here fit last j m s l node is = by_place (nat_or j i (omega (arith, l)))
@@ -233,7 +247,8 @@ module _ (nodes : List Node) (b : Binding) (e : Event) (before : Option Row) (r 
           child_had i h g p x.0 q k x.1 f
 
       shown_here : (x : Sets) × (slice_get first_shown i ≡ Some x)
-      shown_here = sets_at first_shown i (let a = get_within first i at.was was_here in let c = have.count in let d = have.shown_count in omega (arith, a, c, d))
+      shown_here = sets_at first_shown i
+          (let a = get_within first i at.was was_here in let c = have.count in let d = have.shown_count in omega (arith, a, c, d))
 
       newest : Fits n e.ended tr (lists_at new_shown) at.is
       newest = fits_alike n i e.ended tr (lists_at (take i mid_shown)) (lists_at new_shown) at.is (below i n here) lists_taken

@@ -21,6 +21,7 @@ sets_written new items len e = subst (λ k. new ≡ take k (new ++ drop (length 
     front [] ys = refl
     front (x ∷ xs) ys = ap (λ zs. x ∷ zs) (front xs ys)
 
+-- an option holds one row
 pub same_row : (a b : Row) → Some a ≡ Some b → a ≡ b
 same_row a b e = cc
 
@@ -35,7 +36,8 @@ last_wide f b header r rows begin last live shown o =
     subst (λ x. IfSome x (λ q. length q.values ≡ b.width)) (sym o.ends) (last_width (length header.columns) r rows o.so_far ∙ sym o.bound.width)
 
 -- a row after the last
-pub after_last : (r : Row) (rows : List Row) (last : Option Row) (x : Row) → last ≡ Some (last_after r rows) → IfSome last (λ q. q.time < x.time) → (last_after r rows).time < x.time
+pub after_last : (r : Row) (rows : List Row) (last : Option Row) (x : Row) → last ≡ Some (last_after r rows)
+    → IfSome last (λ q. q.time < x.time) → (last_after r rows).time < x.time
 after_last r rows last x e h = subst (λ o. IfSome o (λ q. q.time < x.time)) e h
 
 -- no rows, no last
@@ -43,6 +45,7 @@ pub none_rows : (rows : List Row) → last_of rows ≡ None → rows ≡ []
 none_rows [] e = refl
 none_rows (r ∷ rows) e = absurd (let f : Some (last_after r rows) ≡ None = e in cc)
 
+-- where there is a last row there are rows
 pub some_rows : (rows : List Row) (q : Row) → last_of rows ≡ Some q → (r : Row) × (more : List Row) × (rows ≡ r ∷ more)
 some_rows [] q e = absurd (let f : None ≡ Some q = e in cc)
 some_rows (r ∷ rows) q e = (r, rows, refl)
@@ -58,7 +61,8 @@ open_first f b header rows begin last live shown none o = by_rows rows (none_row
 
 -- after others
 pub open_next : (f : Formula) (b : Binding) (header : Header) (rows : List Row) (begin : ℕ) (last : Option Row) (live shown : List Sets) (q : Row)
-    → last ≡ Some q → IsOpen f b header rows begin last live shown → (r : Row) × (more : List Row) × (rows ≡ r ∷ more) × IsOpen f b header (r ∷ more) begin last live shown
+    → last ≡ Some q → IsOpen f b header rows begin last live shown
+    → (r : Row) × (more : List Row) × (rows ≡ r ∷ more) × IsOpen f b header (r ∷ more) begin last live shown
 open_next f b header rows begin last live shown q some o =
     let w = some_rows rows q (sym o.ends ∙ some) in (w.0, w.1, w.2, subst (λ l. IsOpen f b header l begin last live shown) w.2 o)
 
@@ -69,14 +73,18 @@ module _ (f : Formula) (b : Binding) (header : Header) (r : Row) (rows : List Ro
   stand : NetStands f.nodes (trace_of header (r ∷ rows)) live shown
   stand = o.sets_are.1
 
+  -- at the end what is answered is the truth at the start
   pub end_truth : (holds : Bool) → IsVerdict new_shown begin (Some holds) → IsTruthAtStart (root f.nodes) (trace_of header (r ∷ rows)) holds
   end_truth holds v =
-      let k = end_final b f header r rows last e live shown new new_shown o.formed o.some o.bound o.so_far ended happens stand on.stepped on.shows on.tidy on.fits in
+      let k = end_final b f header r rows last e live shown new new_shown o.formed o.some o.bound o.so_far ended happens stand
+      on.stepped on.shows on.tidy on.fits in
       truth_of f.nodes header r rows new_shown (on.shows.count ∙ stand.have.shown_count) k.0 k.1 (rise_of header r rows o.so_far) holds
       (subst (λ k. IsVerdict new_shown k (Some holds)) o.sets_are.0 v)
 
+  -- and there is an answer
   pub end_some : IsVerdict new_shown begin None → ⊥
   end_some v =
-      let k = end_final b f header r rows last e live shown new new_shown o.formed o.some o.bound o.so_far ended happens stand on.stepped on.shows on.tidy on.fits in
+      let k = end_final b f header r rows last e live shown new new_shown o.formed o.some o.bound o.so_far ended happens stand
+      on.stepped on.shows on.tidy on.fits in
       some_truth f.nodes header r rows new_shown (on.shows.count ∙ stand.have.shown_count) k.0 k.1 (rise_of header r rows o.so_far)
       (subst (λ k. IsVerdict new_shown k None) o.sets_are.0 v)

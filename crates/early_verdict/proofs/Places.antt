@@ -4,6 +4,7 @@ use Rattle.std.specs.Prelude.{slice_get, slice_set}
 use Rattle.early_verdict.specs.Fitting.{Lists, lists_at, lists_of, nothing}
 use Rattle.early_verdict.specs.declared.sets.Sets.{Sets}
 
+-- an option holds one pair of sets
 pub same_sets : (a b : Sets) → Some a ≡ Some b → a ≡ b
 same_sets a b e = cc
 
@@ -19,12 +20,14 @@ put [] i s = []
 put (x ∷ xs) zero s = s ∷ xs
 put (x ∷ xs) (suc i) s = x ∷ put xs i s
 
+-- what was put stands at its place
 pub put_here : (xs : List Sets) (i : ℕ) (s : Sets) → i < length xs → slice_get (put xs i s) i ≡ Some s
 unfolding put
 put_here [] i s h = absurd (omega (arith, h))
 put_here (x ∷ xs) zero s h = refl
 put_here (x ∷ xs) (suc i) s h = put_here xs i s (omega (arith, h))
 
+-- the others stay
 pub put_there : (xs : List Sets) (i j : ℕ) (s : Sets) → j ≢ i → slice_get (put xs i s) j ≡ slice_get xs j
 unfolding put
 put_there [] i j s n = refl
@@ -33,6 +36,7 @@ put_there (x ∷ xs) zero (suc j) s n = refl
 put_there (x ∷ xs) (suc i) zero s n = refl
 put_there (x ∷ xs) (suc i) (suc j) s n = put_there xs i j s (λ e. n (ap suc e))
 
+-- and there are as many
 pub put_count : (xs : List Sets) (i : ℕ) (s : Sets) → length (put xs i s) ≡ length xs
 unfolding put
 put_count [] i s = refl
@@ -60,12 +64,14 @@ taken_at [] (suc i) p h = refl
 taken_at (x ∷ xs) (suc i) zero h = refl
 taken_at (x ∷ xs) (suc i) (suc p) h = taken_at xs i p (omega (arith, h))
 
+-- an item of the first i stands before place i
 pub taken_within : (xs : List Sets) (i p : ℕ) (s : Sets) → slice_get (take i xs) p ≡ Some s → p < i
 taken_within xs zero p s e = absurd (let f : None ≡ Some s = e in cc)
 taken_within [] (suc i) p s e = absurd (let f : None ≡ Some s = e in cc)
 taken_within (x ∷ xs) (suc i) zero s e = omega arith
 taken_within (x ∷ xs) (suc i) (suc p) s e = let h = taken_within xs i p s e in omega (arith, h)
 
+-- an item stands at a place of the list
 pub get_within : (xs : List Sets) (i : ℕ) (s : Sets) → slice_get xs i ≡ Some s → i < length xs
 get_within [] i s e = absurd (let f : None ≡ Some s = e in cc)
 get_within (x ∷ xs) zero s e = omega arith
@@ -81,5 +87,6 @@ in_place [] p = refl
 in_place (x ∷ xs) zero = refl
 in_place (x ∷ xs) (suc p) = in_place xs p
 
+-- the same sets have the same lists
 pub lists_by : (xs ys : List Sets) (p : ℕ) → slice_get xs p ≡ slice_get ys p → lists_at xs p ≡ lists_at ys p
 lists_by xs ys p e = in_place xs p ∙ ap lists_in e ∙ sym (in_place ys p)

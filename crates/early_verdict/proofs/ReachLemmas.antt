@@ -47,6 +47,7 @@ holds_part xs p f u tidy all m l k = (holds_all xs f p u tidy all m l k, before_
 
 -- a stretch holds the first times of what lies in another one between two places exactly where it holds the times from one on down
 module _ (before sure : Place) (s part p : Stretch) (is : (t : Rational) → Lies part t ↔ IsNew before sure s t) where
+  -- a run that comes to the part comes to a new time of it
   pub newly : HoldsFrom p (place part.from)
       → (w : Rational) × IsNew before sure s w × Lies p w × ((v : Rational) → IsNew before sure s v → v ≤ʳ w → Lies p v)
   newly h =
@@ -62,6 +63,7 @@ module _ (before sure : Place) (s part p : Stretch) (is : (t : Rational) → Lie
       begun : (v : Rational) → After (place part.from) v → After (place p.from) v
       begun v a = after_from (place p.from) (place part.from) v (at_most_of_not_before (place p.from) (place part.from) h.0) a
 
+  -- and the other way round
   pub from_newly : (w : Rational) → IsNew before sure s w → Lies p w → ((v : Rational) → IsNew before sure s v → v ≤ʳ w → Lies p v)
       → HoldsFrom p (place part.from)
   from_newly w n l all = (
@@ -74,6 +76,7 @@ module _ (before sure : Place) (s part p : Stretch) (is : (t : Rational) → Lie
 
 -- runs that are carried on from before a place: those times that the run has which holds the first ones after it
 module _ (xs : List Stretch) (c : Place) (carried : Bool) (tidy : AreTidy xs) where
+  -- a run that is carried comes to each time of a stretch that holds from the place
   pub carried_to : (p : Stretch) → IsAmong p xs → HoldsFrom p c → IsTrue carried → (t : Rational) → After c t → Upto (place p.to) t → IsCarried carried c xs t
   carried_to p m h o t a u = record {
     on = o;
@@ -81,6 +84,7 @@ module _ (xs : List Stretch) (c : Place) (carried : Bool) (tidy : AreTidy xs) wh
     all = λ v b l. on_one xs p v m (after_from (place p.from) c v (at_most_of_not_before (place p.from) c h.0) b, upto_le (place p.to) v t l u);
   }
 
+  -- and to no time behind it
   pub carried_within : (p : Stretch) → IsAmong p xs → HoldsFrom p c → (t : Rational) → IsCarried carried c xs t → Upto (place p.to) t
   carried_within p m h t k = elim (sides (place p.to) t) [ inl u ↦ u | inr a ↦ absurd (gap a) ]
     where
@@ -89,6 +93,7 @@ module _ (xs : List Stretch) (c : Place) (carried : Bool) (tidy : AreTidy xs) wh
           let g = gap_after xs p (record { at = t; after = true }) tidy m (after_time (place p.to) t a) in
           g.3 (k.all g.0 (after_of_before c (place p.to) g.0 h.1 g.1) g.2)
 
+  -- where it comes to a time, such a stretch is there
   pub carried_in : (t : Rational) → IsCarried carried c xs t → (p : Stretch) × IsAmong p xs × HoldsFrom p c
   carried_in t k =
       let p = one_of xs t (k.all t k.after (le_refl t)) in (

@@ -16,10 +16,12 @@ pub last_is : (r : Row) (rows : List Row) → last_time r.time rows ≡ (last_af
 last_is r [] = refl
 last_is r (s ∷ rows) = last_is s rows
 
+-- the last time is that of the row that came last
 pub last_pushed : (t : ℕ) (rows : List Row) (x : Row) → last_time t (rows ++ x ∷ []) ≡ x.time
 last_pushed t [] x = refl
 last_pushed t (s ∷ rows) x = last_pushed s.time rows x
 
+-- and so is the last row
 pub last_row_pushed : (r : Row) (rows : List Row) (x : Row) → last_after r (rows ++ x ∷ []) ≡ x
 last_row_pushed r [] x = refl
 last_row_pushed r (s ∷ rows) x = last_row_pushed s rows x
@@ -30,6 +32,7 @@ rows_after : (width t : ℕ) (rows : List Row) (x : Row) → AreRowsAfter width 
 rows_after width t [] x h l w = (l, w, tt)
 rows_after width t (s ∷ rows) x h l w = (h.0, h.1, rows_after width s.time rows x h.2 l w)
 
+-- a later row of the same width goes on from rows
 pub rows_pushed : (width : ℕ) (r : Row) (rows : List Row) (x : Row) → AreRows width (r ∷ rows) → (last_after r rows).time < x.time → length x.values ≡ width
     → AreRows width (r ∷ (rows ++ x ∷ []))
 rows_pushed width r rows x h l w = (h.0, rows_after width r.time rows x h.1 (subst (λ t. t < x.time) (sym (last_is r rows)) l) w)
@@ -46,7 +49,8 @@ same_tests false true f g = g refl
 same_tests false false f g = refl
 
 -- an atom is as it was up to the last row
-pub same_before : (header : Header) (width : ℕ) (r : Row) (rows more : List Row) → AreRowsAfter width r.time (rows ++ more) → (a : Atom) (t : Rational) → row_time r ≤ʳ t
+pub same_before : (header : Header) (width : ℕ) (r : Row) (rows more : List Row) → AreRowsAfter width r.time (rows ++ more)
+    → (a : Atom) (t : Rational) → row_time r ≤ʳ t
     → t ≤ʳ whole (pos (last_time r.time rows)) → holds_at a (trace_of header (r ∷ (rows ++ more))) t ≡ holds_at a (trace_of header (r ∷ rows)) t
 same_before header width r rows more ok a t f l =
     let e = same_atom header width r rows more ok a t f l in

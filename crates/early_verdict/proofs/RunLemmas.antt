@@ -18,6 +18,7 @@ le_through c v u = by_side c.after
     by_side true h k = le_trans h (le_of_lt k)
     by_side false h k = le_trans (le_of_lt h) k
 
+-- what is earlier than a time before a place is before it
 pub upto_le : (c : Place) (v u : Rational) → v ≤ʳ u → Upto c u → Upto c v
 upto_le c v u l = by_side c.after
   where
@@ -25,6 +26,7 @@ upto_le c v u l = by_side c.after
     by_side true h = le_trans l h
     by_side false h = lt_of_le_of_lt l h
 
+-- what is later than a time behind it is behind it
 pub after_le : (c : Place) (v u : Rational) → v ≤ʳ u → After c v → After c u
 after_le c v u l = by_side c.after
   where
@@ -124,6 +126,7 @@ one_of [] t o = absurd o
 one_of (x ∷ xs) t (inl l) = (x, inl refl, l)
 one_of (x ∷ xs) t (inr o) = let r = one_of xs t o in (r.0, inr r.1, r.2)
 
+-- a time in one of the stretches is on the list
 pub on_one : (xs : List Stretch) (p : Stretch) (t : Rational) → IsAmong p xs → Lies p t → IsOn xs t
 on_one [] p t m l = absurd m
 on_one (x ∷ xs) p t (inl e) l = inl (subst (λ s. Lies s t) e l)
@@ -139,16 +142,19 @@ decided c d = elim (place_order c d) [
   ])
 ]
 
+-- two facts that are decided are decided together
 pub decided_both : (P Q : Type 0) → P ⊎ ¬ P → Q ⊎ ¬ Q → (P × Q) ⊎ ¬ (P × Q)
 decided_both P Q (inl p) (inl q) = inl (p, q)
 decided_both P Q (inr n) q = inr (λ h. n h.0)
 decided_both P Q (inl p) (inr n) = inr (λ h. n h.1)
 
+-- and so is either of them
 pub decided_either : (P Q : Type 0) → P ⊎ ¬ P → Q ⊎ ¬ Q → (P ⊎ Q) ⊎ ¬ (P ⊎ Q)
 decided_either P Q (inl p) q = inl (inl p)
 decided_either P Q (inr n) (inl q) = inl (inr q)
 decided_either P Q (inr n) (inr m) = inr (λ h. elim h [ inl p ↦ n p | inr q ↦ m q ])
 
+-- and its contrary
 pub decided_not : (P : Type 0) → P ⊎ ¬ P → (¬ P) ⊎ ¬ (¬ P)
 decided_not P (inl p) = inr (λ n. n p)
 decided_not P (inr n) = inl n

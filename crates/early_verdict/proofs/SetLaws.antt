@@ -33,6 +33,7 @@ some_by Q [] t h = absurd h
 some_by Q (x ∷ xs) t (inl q) = (x, inl refl, q)
 some_by Q (x ∷ xs) t (inr h) = let r = some_by Q xs t h in (r.0, inr r.1, r.2)
 
+-- what one of the stretches says some stretch says
 pub by_some : (Q : Stretch → Rational → Type 0) (xs : List Stretch) (s : Stretch) (t : Rational) → IsAmong s xs → Q s t → BySome Q xs t
 by_some Q [] s t m q = absurd m
 by_some Q (x ∷ xs) s t (inl e) q = inl (subst (λ r. Q r t) e q)
@@ -176,6 +177,7 @@ module _ (w : Window) (xs : List Stretch) (start : Place) (tidy : AreTidy xs) wh
       (decided_not (Before start (place p.from)) (decided start (place p.from))) (decided_low w.low t (place p.from)))
       (decided_not (Before (place p.to) (high_place w.high w.high_in t)) (decided (place p.to) (high_place w.high w.high_in t)))
 
+  -- whether a part was held at a time is decided
   pub decided_at : (part : Stretch) (t : Rational) → HeldAt w start xs part t ⊎ ¬ (HeldAt w start xs part t)
   decided_at part t =
       elim (decided_among (λ p. HoldsFrom p (place part.from) × IsHeld w start p t)

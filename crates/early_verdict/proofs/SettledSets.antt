@@ -26,8 +26,10 @@ module _ (tr : Trace) (own : Stretch) (s : Sets) (is_yes : s.yes.bounds ≡ own)
   said : (P P' N N' : Rational → Type 0) → ((t : Rational) → Lies own t → P t → P' t) → ((t : Rational) → Lies own t → P' t → P t)
       → ((t : Rational) → Lies own t → N t → N' t) → ((t : Rational) → Lies own t → N' t → N t) → SayBoth s P N → SayBoth s P' N'
   said P P' N N' out into not_out not_into h = record {
-    yes = tells_alike s.yes.bounds s.yes.spans.items P P' (λ t l. out t (subst (λ x. Lies x t) is_yes l)) (λ t l. into t (subst (λ x. Lies x t) is_yes l)) h.yes;
-    no = tells_alike s.no.bounds s.no.spans.items N N' (λ t l. not_out t (subst (λ x. Lies x t) is_no l)) (λ t l. not_into t (subst (λ x. Lies x t) is_no l)) h.no;
+    yes = tells_alike s.yes.bounds s.yes.spans.items P P' (λ t l. out t (subst (λ x. Lies x t) is_yes l))
+        (λ t l. into t (subst (λ x. Lies x t) is_yes l)) h.yes;
+    no = tells_alike s.no.bounds s.no.spans.items N N' (λ t l. not_out t (subst (λ x. Lies x t) is_no l))
+        (λ t l. not_into t (subst (λ x. Lies x t) is_no l)) h.no;
   }
 
   module _ (shown : List Sets) (at : ℕ → Lists) (is_at : (p : ℕ) → lists_at shown p ≡ at p) (sub : ℕ → Subformula) (i : ℕ)
@@ -148,7 +150,8 @@ module _ (tr : Trace) (own : Stretch) (s : Sets) (is_yes : s.yes.bounds ≡ own)
         (UntilFails false tr x y (IsOn (at p).no) (IsOn (at q).no)) (SettledNot (tree_of sub i (Until p q x y)) tr)
         (until_true p q x y a.0 (IsOn (at p).yes) (IsOn (at q).yes) (Settled (sub p) tr) (Settled (sub q) tr) (λ u l. k.yes_out u) (λ u l. m.yes_out u))
         (until_true p q x y a.0 (Settled (sub p) tr) (Settled (sub q) tr) (IsOn (at p).yes) (IsOn (at q).yes) k.yes_in m.yes_in)
-        (λ t l g. until_false p q x y a.0 (IsOn (at p).no) (IsOn (at q).no) (SettledNot (sub p) tr) (SettledNot (sub q) tr) (λ u l. k.no_out u) (λ u l. m.no_out u) t l (λ u d. g u d tt))
+        (λ t l g. until_false p q x y a.0 (IsOn (at p).no) (IsOn (at q).no) (SettledNot (sub p) tr) (SettledNot (sub q) tr)
+        (λ u l. k.no_out u) (λ u l. m.no_out u) t l (λ u d. g u d tt))
         (λ t l g u d e. until_false p q x y a.0 (SettledNot (sub p) tr) (SettledNot (sub q) tr) (IsOn (at p).no) (IsOn (at q).no) k.no_in m.no_in t l g u d)
         (until_fits tr own (at p) (at q) s is_yes is_no from tidy (tidy_at q) false x y o a.1 h)
     node_told (Eventually p x y x_in y_in) c o a h =
@@ -184,7 +187,8 @@ module _ (tr : Trace) (own : Stretch) (s : Sets) (is_yes : s.yes.bounds ≡ own)
         (λ t l (u, w, c, z). (u, w, c, k.yes_out u z))
         (some_behind yes_of p x y x_in y_in a (Settled (sub p) tr) (IsOn (at p).yes) k.yes_in (λ u z. yes_is p u z))
         (λ t l g u w. k.no_out u (g u w))
-        (only_behind yes_of p x y x_in y_in a (SettledNot (sub p) tr) (IsOn (at p).no) k.no_in (λ u z n. never_both (sub p) tr u (k.yes_out u (yes_is p u z)) n)) h
+        (only_behind yes_of p x y x_in y_in a (SettledNot (sub p) tr) (IsOn (at p).no) k.no_in
+        (λ u z n. never_both (sub p) tr u (k.yes_out u (yes_is p u z)) n)) h
     node_told (Historically p x y x_in y_in) c o a h =
         let k = known p c in
         said (OnlyBehind tr x y x_in y_in (IsOn (at p).yes)) (OnlyBehind tr x y x_in y_in (Settled (sub p) tr))

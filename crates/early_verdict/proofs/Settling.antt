@@ -39,6 +39,7 @@ module _ (tr : Trace) (own : Stretch) (p q : Lists) (s : Sets) (is_yes : s.yes.b
         y.no;
   }
 
+  -- sets of an until that fit tell what rows settle of it
   pub until_fits : (ended : Bool) (a b : ℕ) → a ≤ b → MatchOption s.parts (Unit {0}) (ReachesAhead (start tr) b own)
       → MatchOption s.parts ⊥ (λ x. UntilHolding tr a b p q x.holding × UntilFailing ended tr a b p q x.failing × SayOfParts s x)
       → SayBoth s (UntilHolds tr a b (IsOn p.yes) (IsOn q.yes)) (UntilFails ended tr a b (IsOn p.no) (IsOn q.no))
@@ -60,6 +61,7 @@ module _ (tr : Trace) (own : Stretch) (p q : Lists) (s : Sets) (is_yes : s.yes.b
         y.no;
   }
 
+  -- and so those of a since
   pub since_fits : (a : ℕ) (b : Option ℕ) → MatchOption s.parts (Unit {0}) (ReachesBack (start tr) b own)
       → MatchOption s.parts ⊥ (λ x. SinceHolding tr a b p q x.holding × SinceFailing tr a b p q x.failing × SayOfParts s x)
       → SayBoth s (SinceHolds tr a b (IsOn p.yes) (IsOn q.yes)) (SinceFails tr a b (IsOn p.no) (IsOn q.no))

@@ -23,7 +23,8 @@ drop_case (x ∷ xs) zero t h = (x, refl, h)
 drop_case (x ∷ xs) (suc at) t h = drop_case xs at t h
 
 -- those after one lie after it
-after_one_in : (xs : List Stretch) (at : ℕ) (n : Stretch) (t : Rational) → AreTidy xs → slice_get xs at ≡ Some n → IsOn (drop (suc at) xs) t → After (place n.to) t
+after_one_in : (xs : List Stretch) (at : ℕ) (n : Stretch) (t : Rational) → AreTidy xs → slice_get xs at ≡ Some n
+    → IsOn (drop (suc at) xs) t → After (place n.to) t
 after_one_in [] at n t h e o = absurd (no_stretch n e)
 after_one_in (x ∷ xs) zero n t h e o = subst (λ s. After (place s.to) t) (some_same x n e) (rest_after (place x.to) xs t h.1 h.0 o)
 after_one_in (x ∷ xs) (suc at) n t h e o = after_one_in xs at n t h.1 e o

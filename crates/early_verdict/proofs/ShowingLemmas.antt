@@ -25,14 +25,20 @@ takes_of bounds old new told fresh fx g = record {
 
 -- what a list has without those of its first stretches that end by the place
 pub record Dropped (c : Place) (first xs : List Stretch) : Type 0 where
+  -- the list is tidy
   pub tidy : AreTidy xs
+  -- what is left was there
   pub kept : (t : Rational) → IsOn xs t → IsOn first t
+  -- what was there is left, or ends by the place
   pub left : (t : Rational) → IsOn first t → IsOn xs t ⊎ Upto c t
 
+-- nothing was let go
 pub none_dropped : (c : Place) (xs : List Stretch) → AreTidy xs → Dropped c xs xs
 none_dropped c xs tidy = record { tidy = tidy; kept = λ t h. h; left = λ t h. inl h }
 
-pub one_dropped : (c : Place) (first xs ys : List Stretch) (s : Stretch) → slice_get xs 0 ≡ Some s → ys ≡ drop 1 xs → ¬ (Before c (place s.to)) → Dropped c first xs
+-- the first stretch is let go where it ends by the place
+pub one_dropped : (c : Place) (first xs ys : List Stretch) (s : Stretch) → slice_get xs 0 ≡ Some s → ys ≡ drop 1 xs
+    → ¬ (Before c (place s.to)) → Dropped c first xs
     → Dropped c first ys
 one_dropped c first [] ys s e d n h = absurd (let f : None ≡ Some s = e in cc)
 one_dropped c first (x ∷ xs) ys s e d n h = subst (λ l. Dropped c first l) (sym d) (record {
@@ -47,14 +53,17 @@ one_dropped c first (x ∷ xs) ys s e d n h = subst (λ l. Dropped c first l) (s
   ];
 })
 
+-- then there is one fewer
 pub fewer : (xs ys : List Stretch) (s : Stretch) → slice_get xs 0 ≡ Some s → ys ≡ drop 1 xs → length ys < length xs
 fewer [] ys s e d = absurd (let f : None ≡ Some s = e in cc)
 fewer (x ∷ xs) ys s e d = subst (λ l. length l < length (x ∷ xs)) (sym d) (omega arith)
 
+-- a first stretch that ends later ends it
 pub ends_after : (c : Place) (xs : List Stretch) (s : Stretch) → slice_get xs 0 ≡ Some s → Before c (place s.to) → EndsAfter c xs
 ends_after c [] s e h = tt
 ends_after c (x ∷ xs) s e h = subst (λ r. Before c (place r.to)) (sym (some_same x s e)) h
 
+-- and so does an empty list
 pub ends_none : (c : Place) (xs : List Stretch) → xs ≡ [] → EndsAfter c xs
 ends_none c xs e = subst (λ l. EndsAfter c l) (sym e) tt
 

@@ -39,12 +39,15 @@ module _ (d from : Rational) (tr : Trace) (a b : ℕ) (order : a ≤ b) (p q p' 
     run_in : (u : Rational) → d ≤ʳ u → IsOn x.run.spans.items u → IsOn y.run.spans.items u
     run_in = kept_in d x.run y.run k.run (λ t o. (h.run.only t o).0)
 
+    -- the times whose window sees the right side stay
     pub some_in : (u : Rational) → from ≤ʳ u → IsOn x.some.spans.items u → IsOn y.some.spans.items u
     some_in = kept_in from x.some y.some k.some (λ t o. (h.some.only t o).0)
 
+    -- and those all of whose way is of the run
     pub each_in : (u : Rational) → from ≤ʳ u → IsOn x.each.spans.items u → IsOn y.each.spans.items u
     each_in = kept_in from x.each y.each k.each (λ t o. (h.each.only t o).0)
 
+    -- what is left says where the since holds
     pub holding_back : SinceHolding tr a (Some b) p' q' y
     holding_back = record {
       both = record {
@@ -86,15 +89,18 @@ module _ (d from : Rational) (tr : Trace) (a b : ℕ) (order : a ≤ b) (p q p' 
     stop_in : (u : Rational) → d ≤ʳ u → IsOn x.stop.spans.items u → IsOn y.stop.spans.items u
     stop_in u f o = k.stop.has u (left_stop u (h.stop.only u o).0 f) o
 
+    -- the times all of whose window fails stay
     pub never_in : (u : Rational) → from ≤ʳ u → IsOn x.never.spans.items u → IsOn y.never.spans.items u
     never_in = kept_in from x.never y.never k.never (λ t o. (h.never.only t o).0)
 
+    -- and those whose way is broken
     pub broken_in : (u : Rational) → from ≤ʳ u → IsOn x.broken.spans.items u → IsOn y.broken.spans.items u
     broken_in = kept_in from x.broken y.broken k.broken (λ t o. (h.broken.only t o).0)
 
     in_wide : (t : Rational) → Lies y.stop.bounds t → Lies wide t
     in_wide t l = subst (λ s. Lies s t) k.stop.bounds_are l
 
+    -- what is left says where it fails
     pub failing_back : SinceFailing tr a (Some b) p' q' y
     failing_back = record {
       fail = record {

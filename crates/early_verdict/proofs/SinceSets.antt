@@ -42,9 +42,11 @@ from_end t u a h = record { le = omega (arith, h.le) }
 earlier : (t u v : Rational) (a : ℕ) → later u a ≤ʳ t → t ≤ʳ later v a → u ≤ʳ v
 earlier t u v a h k = let c = le_trans h k in record { le = omega (arith, c.le) }
 
+-- a time that is no later after a wait is no later
 pub none_later : (u t : Rational) (a : ℕ) → later u a ≤ʳ t → u ≤ʳ t
 none_later u t a h = record { le = omega (arith, h.le) }
 
+-- no wait is no move
 pub later_none : (u t : Rational) → u ≤ʳ t → later u 0 ≤ʳ t
 later_none u t h = record { le = omega (arith, h.le) }
 
@@ -57,7 +59,8 @@ still_begins None t u w h k = k
 still_begins (Some b) t u w h k = le_trans k (later_le b h)
 
 -- from a time of the window on up to now
-pub along : (from : Rational) (a : ℕ) (b : Option ℕ) (t u v : Rational) → OpenBehind from a b true true t u → u ≤ʳ v → v ≤ʳ t → OpenBehind from 0 b true true t v
+pub along : (from : Rational) (a : ℕ) (b : Option ℕ) (t u v : Rational) → OpenBehind from a b true true t u → u ≤ʳ v → v ≤ʳ t
+    → OpenBehind from 0 b true true t v
 along from a b t u v o k l = record { after = le_trans o.after k; begins = still_begins b t u v k o.begins; ends = later_none v t l }
 
 -- where the window begins

@@ -67,6 +67,7 @@ module _ (nodes : List Node) (tr : Trace) (live old mid new : List Sets) (i p q 
       subst (λ (v : Stretch). Upto (place v.to) t) (sym is_wide)
       ((two_shows p q d old mid new h g p left_here.0 l' (inl refl) left_here.1 at_left).ends t (subst (λ (v : Stretch). Upto (place v.to) t) e l.1))
 
+  -- the sets between lie within the bounds
   pub back_inside : ArePartsInside wide s
   back_inside = by_parts s.parts (st.fit i (Since p q a (Some b)) s at is)
       ((st.have.has i (Since p q a (Some b)) s shown_here.0 at is shown_here.1).left.1 left_here.0 left_here.1)
@@ -296,6 +297,7 @@ module _ (nodes : List Node) (formed : AreWellFormed nodes) (tr : Trace) (live l
             (Unit {0}) cut.was.parts cut.is.parts cut.cut.parts was.looks.1 fail_bounds n.parts;
       }
 
+  -- all stands where a since and its operands let go
   pub since_stands : NetStands nodes tr left new
   since_stands = one_stands nodes formed tr live left old new i (Since p q a (Some b)) at cut.was cut.is cut.at_old cut.at_new cut.others cut.count less
       (two_others p q d old mid new h g) st mine fits tidy

@@ -36,9 +36,11 @@ without xs at = take at xs ++ drop (suc at) xs
 abbrev pub with_one : List Stretch → ℕ → Stretch → List Stretch
 with_one xs at j = take at xs ++ j ∷ drop at xs
 
+-- an option holds one stretch
 pub some_same : (a b : Stretch) → Some a ≡ Some b → a ≡ b
 some_same a b e = cc
 
+-- none holds none
 pub no_stretch : (s : Stretch) → None ≡ Some s → ⊥
 no_stretch s e = cc
 
@@ -126,6 +128,7 @@ reaches_at c [] at n h e = absurd (no_stretch n e)
 reaches_at c (x ∷ xs) zero n h e = subst (λ s. ¬ (Before (place s.to) c)) (some_same x n e) h.0
 reaches_at c (x ∷ xs) (suc at) n h e = reaches_at c xs at n h e
 
+-- a place of the list is one without the stretch there, or its end
 pub within_without : (xs : List Stretch) (at : ℕ) (n : Stretch) → slice_get xs at ≡ Some n → at ≤ length (without xs at)
 within_without [] at n e = absurd (no_stretch n e)
 within_without (x ∷ xs) zero n e = omega arith
@@ -137,12 +140,14 @@ on_with_new xs zero j t h = inl h
 on_with_new [] (suc at) j t h = inl h
 on_with_new (x ∷ xs) (suc at) j t h = inr (on_with_new xs at j t h)
 
+-- a time on the list is on it with one more
 pub on_with_old : (xs : List Stretch) (at : ℕ) (j : Stretch) (t : Rational) → IsOn xs t → IsOn (with_one xs at j) t
 on_with_old xs zero j t h = inr h
 on_with_old [] (suc at) j t h = absurd h
 on_with_old (x ∷ xs) (suc at) j t (inl h) = inl h
 on_with_old (x ∷ xs) (suc at) j t (inr h) = inr (on_with_old xs at j t h)
 
+-- and a time on that is on the list or in the one
 pub on_with : (xs : List Stretch) (at : ℕ) (j : Stretch) (t : Rational) → IsOn (with_one xs at j) t → IsOn xs t ⊎ Lies j t
 on_with xs zero j t (inl h) = inr h
 on_with xs zero j t (inr h) = inl h
@@ -157,13 +162,15 @@ begins_with c [] (suc at) j b h = h
 begins_with c (x ∷ xs) (suc at) j b h = b
 
 -- with one between those that end before it and those that begin after it the list rises
-pub tidy_with : (xs : List Stretch) (at : ℕ) (j : Stretch) → AreTidy xs → EndBefore (place j.from) (take at xs) → BeginsAfter (place j.to) (drop at xs) → AreTidy (with_one xs at j)
+pub tidy_with : (xs : List Stretch) (at : ℕ) (j : Stretch) → AreTidy xs → EndBefore (place j.from) (take at xs)
+    → BeginsAfter (place j.to) (drop at xs) → AreTidy (with_one xs at j)
 tidy_with xs zero j h f r = (r, h)
 tidy_with [] (suc at) j h f r = (tt, tt)
 tidy_with (x ∷ xs) (suc at) j h f r = (begins_with (place x.to) xs at j h.0 f.0, tidy_with xs at j h.1 f.1 r)
 
 -- where one ends before a cut, so do those before it
-pub front_more : (c : Place) (xs : List Stretch) (i : ℕ) (s : Stretch) → AreTidy xs → slice_get xs i ≡ Some s → Before (place s.to) c → EndBefore c (take (suc i) xs)
+pub front_more : (c : Place) (xs : List Stretch) (i : ℕ) (s : Stretch) → AreTidy xs → slice_get xs i ≡ Some s
+    → Before (place s.to) c → EndBefore c (take (suc i) xs)
 front_more c [] i s h e b = absurd (no_stretch s e)
 front_more c (x ∷ xs) zero s h e b = (subst (λ r. Before (place r.to) c) (sym (some_same x s e)) b, tt)
 front_more c (x ∷ xs) (suc i) s h e b = (
@@ -179,7 +186,8 @@ none_ends b c (r ∷ rest) n f h =
     (later, none_ends (place r.to) c rest later h.0 h.1)
 
 -- where one does not, neither do those after it
-pub rest_more : (c : Place) (xs : List Stretch) (i : ℕ) (s : Stretch) → AreTidy xs → slice_get xs i ≡ Some s → ¬ (Before (place s.to) c) → NoneEndsBefore c (drop i xs)
+pub rest_more : (c : Place) (xs : List Stretch) (i : ℕ) (s : Stretch) → AreTidy xs → slice_get xs i ≡ Some s
+    → ¬ (Before (place s.to) c) → NoneEndsBefore c (drop i xs)
 rest_more c [] i s h e b = absurd (no_stretch s e)
 rest_more c (x ∷ xs) zero s h e b =
     let n : ¬ (Before (place x.to) c) = subst (λ r. ¬ (Before (place r.to) c)) (sym (some_same x s e)) b in (n, none_ends (place x.to) c xs n h.0 h.1)
@@ -204,13 +212,15 @@ rest_after c [] t h b o = absurd o
 rest_after c (x ∷ xs) t h b (inl o) = after_of_before c (place x.from) t b o.0
 rest_after c (x ∷ xs) t h b (inr o) = rest_after c xs t h.1 (begins_through c x xs b h.0) o
 
+-- the later stretches of a tidy list are tidy
 pub tidy_drop : (xs : List Stretch) (at : ℕ) → AreTidy xs → AreTidy (drop at xs)
 tidy_drop xs zero h = h
 tidy_drop [] (suc at) h = h
 tidy_drop (x ∷ xs) (suc at) h = tidy_drop xs at h.1
 
 -- times of those from one on lie after it begins
-pub from_one_on : (xs : List Stretch) (at : ℕ) (n : Stretch) (t : Rational) → AreTidy xs → slice_get xs at ≡ Some n → IsOn (drop at xs) t → After (place n.from) t
+pub from_one_on : (xs : List Stretch) (at : ℕ) (n : Stretch) (t : Rational) → AreTidy xs → slice_get xs at ≡ Some n
+    → IsOn (drop at xs) t → After (place n.from) t
 from_one_on [] at n t h e o = absurd (no_stretch n e)
 from_one_on (x ∷ xs) zero n t h e (inl o) = subst (λ s. After (place s.from) t) (some_same x n e) o.0
 from_one_on (x ∷ xs) zero n t h e (inr o) =

@@ -12,14 +12,17 @@ at_drop [] i d h = absurd (omega (arith, h))
 at_drop (x ∷ xs) zero d h = refl
 at_drop (x ∷ xs) (suc i) d h = at_drop xs i d (omega (arith, h))
 
+-- the first of the back is at the place
 pub at_split : (sets back : List Sets) (i : ℕ) (d : Sets) → back ≡ drop i sets → i < length sets → slice_get sets i ≡ Some (slice_index_or back 0 d)
 at_split sets back i d e h = subst (λ xs. slice_get sets i ≡ Some (slice_index_or xs 0 d)) (sym e) (at_drop sets i d h)
 
+-- the front of tidy sets is tidy
 pub front_tidy : (sets front : List Sets) (i : ℕ) → front ≡ take i sets → AllTidy sets → AllTidy front
 front_tidy sets front i e h j s is =
     let f = subst (λ xs. slice_get xs j ≡ Some s) e is in
     h j s (sym (taken_at sets i j (taken_within sets i j s f)) ∙ f)
 
+-- what is put first in the back is put at the place
 pub joined_is : (sets front back : List Sets) (i : ℕ) (own : Sets) → front ≡ take i sets → back ≡ drop i sets → i < length sets
     → front ++ slice_set back 0 own ≡ put sets i own
 joined_is sets front back i own e f h =
@@ -43,6 +46,7 @@ pub on_two : {T E : Type 0} (r : Result T E) {P Q R : Type 0} → OnOk r P → O
 on_two (Ok x) p q f = f p q
 on_two (Err e) p q f = tt
 
+-- the front has as many as the place says
 pub length_front : (sets : List Sets) (i : ℕ) → i < length sets → length (take i sets) ≡ i
 length_front [] i h = absurd (omega (arith, h))
 length_front (x ∷ xs) zero h = refl

@@ -10,17 +10,20 @@ use Rattle.stl_syntax.specs.declared.node.Node.{Node}
 use Rattle.stl_syntax.specs.declared.node.Node.TheVariants.{Atom as Leaf}
 use Rattle.stl_syntax.proofs.LawProofs.{last_from}
 use Rattle.atom_lines.specs.Binding.{Binding, IsBound}
-use Rattle.early_verdict.specs.Deciding.{Kept, AreRowsSoFar, IsAnswer, IsOpen, IsTruthAtStart, IsVerdict, SetsAre, Stands, StandsBy, WasDecided, last_of, trace_of}
+use Rattle.early_verdict.specs.Deciding.{Kept, AreRowsSoFar, IsAnswer, IsOpen, IsTruthAtStart, IsVerdict}
+use Rattle.early_verdict.specs.Deciding.{SetsAre, Stands, StandsBy, WasDecided, last_of, trace_of}
 use Rattle.early_verdict.specs.declared.sets.Sets.{Sets}
 use Rattle.early_verdict.specs.declared.early.Decided.{Decided}
 use Rattle.early_verdict.proofs.DecideLemmas.{decided_of, decided_truth, none_more, not_again, still_decided}
 use Rattle.early_verdict.proofs.RowLemmas.{last_row_pushed, rows_pushed}
 
+-- a binding is one of each formula with the same nodes
 pub bound_any : (b : Binding) (f g : Formula) (h : Header) → f.nodes ≡ g.nodes → IsBound b f h → IsBound b g h
 bound_any b f g h e k = record { width = k.width; atoms = λ i a at. k.atoms i a (subst (λ l. slice_get l i ≡ Some (Leaf a)) (sym e) at) }
 
 -- while nothing is decided it is open
-pub open_of : (x : Kept) (f : Formula) (rows : List Row) → x.nodes ≡ f.nodes → Stands x rows false → x.decided ≡ None → IsOpen f x.bound x.header rows x.begin x.last x.live x.shown
+pub open_of : (x : Kept) (f : Formula) (rows : List Row) → x.nodes ≡ f.nodes → Stands x rows false → x.decided ≡ None
+    → IsOpen f x.bound x.header rows x.begin x.last x.live x.shown
 open_of x f rows e s none = record {
   bound = bound_any x.bound (record { nodes = x.nodes; scale = s.scale }) f x.header e s.bound;
   formed = subst (λ l. AreWellFormed l) e s.formed;
@@ -31,13 +34,15 @@ open_of x f rows e s none = record {
 }
   where
     by_none : (d : Option Decided) → d ≡ None
-        → MatchOption d (NoneDecides (root x.nodes) x.header rows × (x.ended ≡ false → SetsAre x.nodes x.header x.begin x.live x.shown rows)) (WasDecided (root x.nodes) x.header rows)
+        → MatchOption d (NoneDecides (root x.nodes) x.header rows × (x.ended ≡ false → SetsAre x.nodes x.header x.begin x.live x.shown rows))
+        (WasDecided (root x.nodes) x.header rows)
         → SetsAre x.nodes x.header x.begin x.live x.shown rows
     by_none None n h = h.1 s.is_ended
     by_none (Some d) n h = absurd (let f : Some d ≡ None = n in cc)
 
 -- rows with one more
-rows_on : (width : ℕ) (rows : List Row) (last : Option Row) (x : Row) → AreRowsSoFar width rows → last ≡ last_of rows → IfSome last (λ r. r.time < x.time) → length x.values ≡ width
+rows_on : (width : ℕ) (rows : List Row) (last : Option Row) (x : Row) → AreRowsSoFar width rows → last ≡ last_of rows
+    → IfSome last (λ r. r.time < x.time) → length x.values ≡ width
     → AreRowsSoFar width (rows ++ x ∷ [])
 rows_on width [] last x ok e l w = (w, tt)
 rows_on width (r ∷ rows) last x ok e l w = rows_pushed width r rows x ok (subst (λ o. IfSome o (λ r. r.time < x.time)) e l) w
@@ -49,8 +54,10 @@ last_on (r ∷ rows) x = ap Some (sym (last_row_pushed r rows x))
 -- what the sets say of rows with one more
 decided_on : (nodes : List Node) (header : Header) (rows : List Row) (x : Row) (begin : ℕ) (live shown : List Sets) (verdict : Option Bool) → 0 < length nodes
     → SetsAre nodes header begin live shown (rows ++ x ∷ []) → IsVerdict shown begin verdict
-    → MatchOption verdict ((b : Bool) → Decides (root nodes) (trace_of header (rows ++ x ∷ [])) b → ⊥) (λ b. Decides (root nodes) (trace_of header (rows ++ x ∷ [])) b)
-decided_on nodes header [] x begin live shown verdict some (e, s) v = decided_of nodes header x [] live shown some s verdict (subst (λ k. IsVerdict shown k verdict) e v)
+    → MatchOption verdict ((b : Bool) → Decides (root nodes) (trace_of header (rows ++ x ∷ [])) b → ⊥)
+    (λ b. Decides (root nodes) (trace_of header (rows ++ x ∷ [])) b)
+decided_on nodes header [] x begin live shown verdict some (e, s) v =
+    decided_of nodes header x [] live shown some s verdict (subst (λ k. IsVerdict shown k verdict) e v)
 decided_on nodes header (r ∷ rows) x begin live shown verdict some (e, s) v =
     decided_of nodes header r (rows ++ x ∷ []) live shown some s verdict (subst (λ k. IsVerdict shown k verdict) e v)
 
@@ -59,14 +66,16 @@ abbrev pub decided_now : ℕ → Option Bool → Option Decided
 decided_now t verdict = option_map (λ holds. record { at = t; holds = holds }) verdict
 
 module _ (x : Kept) (rows : List Row) (st : Stands x rows false) (none : x.decided ≡ None) (r : Row) (width : length r.values ≡ x.bound.width)
-    (later : IfSome x.last (λ q. q.time < r.time)) (begin : ℕ) (live shown left left_shown : List Sets) (are : SetsAre x.nodes x.header begin live shown (rows ++ r ∷ []))
+    (later : IfSome x.last (λ q. q.time < r.time)) (begin : ℕ) (live shown left left_shown : List Sets)
+    (are : SetsAre x.nodes x.header begin live shown (rows ++ r ∷ []))
     (verdict : Option Bool) (v : IsVerdict shown begin verdict)
     (let_go : decided_now r.time verdict ≡ None → SetsAre x.nodes x.header begin left left_shown (rows ++ r ∷ [])) where
   none_yet : NoneDecides (root x.nodes) x.header rows
   none_yet = by_none x.decided none st.by
     where
       by_none : (d : Option Decided) → d ≡ None
-          → MatchOption d (NoneDecides (root x.nodes) x.header rows × (x.ended ≡ false → SetsAre x.nodes x.header x.begin x.live x.shown rows)) (WasDecided (root x.nodes) x.header rows)
+          → MatchOption d (NoneDecides (root x.nodes) x.header rows × (x.ended ≡ false → SetsAre x.nodes x.header x.begin x.live x.shown rows))
+          (WasDecided (root x.nodes) x.header rows)
           → NoneDecides (root x.nodes) x.header rows
       by_none None n h = h.0
       by_none (Some d) n h = absurd (let f : Some d ≡ None = n in cc)
@@ -79,7 +88,8 @@ module _ (x : Kept) (rows : List Row) (st : Stands x rows false) (none : x.decid
   stands_by = by_verdict verdict v let_go
     where
       by_verdict : (o : Option Bool) → IsVerdict shown begin o → (decided_now r.time o ≡ None → SetsAre x.nodes x.header begin left left_shown (rows ++ r ∷ []))
-          → MatchOption (decided_now r.time o) (NoneDecides (root x.nodes) x.header (rows ++ r ∷ []) × (x.ended ≡ false → SetsAre x.nodes x.header begin left left_shown (rows ++ r ∷ [])))
+          → MatchOption (decided_now r.time o)
+          (NoneDecides (root x.nodes) x.header (rows ++ r ∷ []) × (x.ended ≡ false → SetsAre x.nodes x.header begin left left_shown (rows ++ r ∷ [])))
           (WasDecided (root x.nodes) x.header (rows ++ r ∷ []))
       by_verdict None u g = (
         none_more (root x.nodes) x.header rows r none_yet (decided_on x.nodes x.header rows r begin live shown None st.some are u),
@@ -94,6 +104,7 @@ module _ (x : Kept) (rows : List Row) (st : Stands x rows false) (none : x.decid
         first = record { decides = decided_on x.nodes x.header rows r begin live shown (Some holds) st.some are u; not_before = none_yet };
       }
 
+  -- after a row it stands for the rows with it
   pub fed_stands : Stands with_row (rows ++ r ∷ []) false
   fed_stands = record {
     formed = st.formed;
@@ -107,6 +118,7 @@ module _ (x : Kept) (rows : List Row) (st : Stands x rows false) (none : x.decid
     by = stands_by;
   }
 
+  -- and answers what the row decides
   pub fed_answer : IsAnswer (root x.nodes) x.header rows r (decided_now r.time verdict)
   fed_answer = by_verdict verdict v
     where
@@ -119,11 +131,13 @@ module _ (x : Kept) (rows : List Row) (st : Stands x rows false) (none : x.decid
 
 -- a row after one that has decided
 module _ (x : Kept) (rows : List Row) (st : Stands x rows false) (d : Decided) (is : x.decided ≡ Some d) where
+  -- what was decided stays so
   pub was : WasDecided (root x.nodes) x.header rows d
   was = by_some x.decided is st.by
     where
       by_some : (o : Option Decided) → o ≡ Some d
-          → MatchOption o (NoneDecides (root x.nodes) x.header rows × (x.ended ≡ false → SetsAre x.nodes x.header x.begin x.live x.shown rows)) (WasDecided (root x.nodes) x.header rows)
+          → MatchOption o (NoneDecides (root x.nodes) x.header rows × (x.ended ≡ false → SetsAre x.nodes x.header x.begin x.live x.shown rows))
+          (WasDecided (root x.nodes) x.header rows)
           → WasDecided (root x.nodes) x.header rows d
       by_some None e h = absurd (let f : None ≡ Some d = e in cc)
       by_some (Some b) e h = subst (λ y. WasDecided (root x.nodes) x.header rows y) (same b d e) h
@@ -131,6 +145,7 @@ module _ (x : Kept) (rows : List Row) (st : Stands x rows false) (d : Decided) (
           same : (a b : Decided) → Some a ≡ Some b → a ≡ b
           same a b e = cc
 
+  -- once decided it stands for the rows with one more
   pub passed_stands : (r : Row) → length r.values ≡ x.bound.width → IfSome x.last (λ q. q.time < r.time)
       → Stands (record x { last = Some r }) (rows ++ r ∷ []) false
   passed_stands r width later = record {
@@ -142,15 +157,18 @@ module _ (x : Kept) (rows : List Row) (st : Stands x rows false) (d : Decided) (
     running = st.running;
     is_ended = st.is_ended;
     last = last_on rows r;
-    by = subst (λ o. MatchOption o (NoneDecides (root x.nodes) x.header (rows ++ r ∷ []) × (x.ended ≡ false → SetsAre x.nodes x.header x.begin x.live x.shown (rows ++ r ∷ [])))
+    by = subst (λ o. MatchOption o
+        (NoneDecides (root x.nodes) x.header (rows ++ r ∷ []) × (x.ended ≡ false → SetsAre x.nodes x.header x.begin x.live x.shown (rows ++ r ∷ [])))
         (WasDecided (root x.nodes) x.header (rows ++ r ∷ []))) (sym is) (still_decided (root x.nodes) x.header rows d r was);
   }
 
+  -- and no later row is the first that decides
   pub passed_answer : (r : Row) (b : Bool) → FirstDecides (root x.nodes) x.header rows r b → ⊥
   passed_answer r b f = not_again (root x.nodes) x.header rows d r b was f
 
 -- the end
-pub ended_stands : (x : Kept) (rows : List Row) (live shown : List Sets) → Stands x rows false → Stands (record x { live = live; shown = shown; ended = true }) rows true
+pub ended_stands : (x : Kept) (rows : List Row) (live shown : List Sets) → Stands x rows false
+    → Stands (record x { live = live; shown = shown; ended = true }) rows true
 ended_stands x rows live shown st = record {
   formed = st.formed;
   some = st.some;
@@ -164,16 +182,20 @@ ended_stands x rows live shown st = record {
 }
   where
     by_some : (o : Option Decided)
-        → MatchOption o (NoneDecides (root x.nodes) x.header rows × (x.ended ≡ false → SetsAre x.nodes x.header x.begin x.live x.shown rows)) (WasDecided (root x.nodes) x.header rows)
-        → MatchOption o (NoneDecides (root x.nodes) x.header rows × (true ≡ false → SetsAre x.nodes x.header x.begin live shown rows)) (WasDecided (root x.nodes) x.header rows)
+        → MatchOption o (NoneDecides (root x.nodes) x.header rows × (x.ended ≡ false → SetsAre x.nodes x.header x.begin x.live x.shown rows))
+        (WasDecided (root x.nodes) x.header rows)
+        → MatchOption o (NoneDecides (root x.nodes) x.header rows × (true ≡ false → SetsAre x.nodes x.header x.begin live shown rows))
+        (WasDecided (root x.nodes) x.header rows)
     by_some None h = (h.0, λ e. absurd (let f : true ≡ false = e in cc))
     by_some (Some d) h = h
 
 -- what had been decided is the truth at the end
-pub decided_end : (x : Kept) (rows : List Row) (d : Decided) → Stands x rows false → x.decided ≡ Some d → IsSome x.last → IsTruthAtStart (root x.nodes) (trace_of x.header rows) d.holds
+pub decided_end : (x : Kept) (rows : List Row) (d : Decided) → Stands x rows false → x.decided ≡ Some d → IsSome x.last
+    → IsTruthAtStart (root x.nodes) (trace_of x.header rows) d.holds
 decided_end x rows d st is fed = by_rows rows st (was x rows st d is)
   where
-    by_rows : (rows : List Row) → Stands x rows false → WasDecided (root x.nodes) x.header rows d → IsTruthAtStart (root x.nodes) (trace_of x.header rows) d.holds
+    by_rows : (rows : List Row) → Stands x rows false → WasDecided (root x.nodes) x.header rows d
+        → IsTruthAtStart (root x.nodes) (trace_of x.header rows) d.holds
     by_rows [] st w = absurd (no_rows w.before w.among)
       where
         no_rows : (before : List Row) → [] ≡ before ++ w.row ∷ w.after → ⊥

@@ -8,7 +8,8 @@ use Rattle.early_verdict.specs.declared.grown.Grown.{Grown}
 use Rattle.early_verdict.proofs.LoopLemmas.{grows_then}
 
 -- where nothing was told before, what is told is what was gained
-pub gains_of : (bounds : Stretch) (old new told fresh : List Stretch) (P : Rational → Type 0) → told ≡ [] → Grows bounds old new told fresh P → Gains old new fresh
+pub gains_of : (bounds : Stretch) (old new told fresh : List Stretch) (P : Rational → Type 0) → told ≡ []
+    → Grows bounds old new told fresh P → Gains old new fresh
 gains_of bounds old new told fresh P none g = record {
   kept = g.keeps;
   gained = λ t n. elim (g.gained t n) [ inl o ↦ inl o | inr m ↦ inr (subst (λ xs. IsOn xs t) (sym all) m) ];

@@ -18,9 +18,11 @@ before_of_room c d = by_side c.after d.after refl refl
       | inr o ↦ elim o [ inl s ↦ inr (s, e, f) | inr l ↦ absurd (not_lt_of_le (precedes_of_room true c.at d.at h) l) ]
     ]
 
+-- between two places in order there is a time
 pub room_of_before : (c d : Place) → Before c d → HasTimeBetween c.at d.at (not c.after && d.after)
 room_of_before c d (inl l) = room_of_precedes (not c.after && d.after) c.at d.at (precedes_of_lt (not c.after && d.after) c.at d.at l)
 room_of_before c d (inr (s, e, f)) = rw (e, f) (room_of_precedes true c.at d.at (le_of_same s))
 
+-- a stretch begins before it ends
 pub rises : (s : Stretch) → Before (place s.from) (place s.to)
 rises s = before_of_room (place s.from) (place s.to) s.not_empty

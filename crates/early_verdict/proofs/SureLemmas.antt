@@ -17,6 +17,7 @@ BecomesSure w before sure spans fresh t =
     (BySome (SeesUpto w before) fresh t ⊎ BySome (SeesWithin w before sure) spans t) ⊎ SeesItself w fresh t
 
 module _ (w : Window) (before sure : Place) (bounds : Stretch) (old new told fresh x x' fx : List Stretch) where
+  -- with what becomes sure the set tells which windows see a sure time
   pub sure_tells : AtMost before sure → Gains x x' fx → Tells bounds old (SeesSure w before x)
       → Grows bounds old new told fresh (BecomesSure w before sure x' fx) → Tells bounds new (SeesSure w sure x')
   sure_tells order gx h g = record { has = has_it; only = only_it }

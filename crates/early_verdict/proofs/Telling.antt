@@ -25,6 +25,7 @@ tells_none bounds xs P e none = record { has = λ t b p. absurd (none t b p); on
 pub says_of : (x : Grown) (bounds : Stretch) (P : Rational → Type 0) → x.bounds ≡ bounds → Tells bounds x.spans.items P → Says x P
 says_of x bounds P e h = subst (λ b. Tells b x.spans.items P) (sym e) h
 
+-- an empty list has no time
 pub none_of : (xs : List Stretch) (t : Rational) → xs ≡ [] → IsOn xs t → ⊥
 none_of xs t e o = subst (λ l. IsOn l t) e o
 
@@ -45,6 +46,7 @@ had_yes old tr l s h = by_first old h.first
     by_first None e = λ t o. subst (λ (m : Lists). IsOn m.yes t) e o
     by_first (Some o) e = tt
 
+-- before the first event a list had no time
 pub had_no : (old : Option Trace) (tr : Trace) (l : Lists) (s : Sets) → Had old tr l s → MatchOption old ((t : Rational) → IsOn l.no t → ⊥) (λ o. Unit {0})
 had_no old tr l s h = by_first old h.first
   where
@@ -58,6 +60,7 @@ pub neither : (old : Option Trace) (P Q : Rational → Type 0) → MatchOption o
 neither None P Q p q = λ t h. elim h [ inl x ↦ p t x | inr x ↦ q t x ]
 neither (Some o) P Q p q = tt
 
+-- what had none had none with another
 pub not_with : (old : Option Trace) (P Q : Rational → Type 0) → MatchOption old ((t : Rational) → P t → ⊥) (λ o. Unit {0})
     → MatchOption old ((t : Rational) → P t × Q t → ⊥) (λ o. Unit {0})
 not_with None P Q p = λ t h. p t h.0
@@ -71,5 +74,6 @@ parts_kept (Some x) new e = subst (λ y. MatchOption y ⊥ (KeepsBounds x)) (sym
   failing = record { fail = refl; stop = refl; never = refl; broken = refl };
 })
 
+-- parts that stay are tidy still
 pub parts_tidy : (old new : Option Parts) → new ≡ old → MatchOption old (Unit {0}) ArePartsTidy → MatchOption new (Unit {0}) ArePartsTidy
 parts_tidy old new e h = subst (λ y. MatchOption y (Unit {0}) ArePartsTidy) (sym e) h

@@ -49,6 +49,7 @@ at_time s c t is h = (
       upto_le (place s.to) t v.0 v.1 v.2,
 )
 
+-- a stretch that has a time holds from just before it
 pub from_time : (s : Stretch) (c : Place) (t : Rational) → Same c (record { at = t; after = false }) → Lies s t → HoldsFrom s c
 from_time s c t is l = (
   λ b.
@@ -76,17 +77,21 @@ ends_by_it w t b =
     let v = between (low_place (pos 0) true t) (high_place w.high w.high_in t) b in
     upto_le (high_place w.high w.high_in t) t v.0 (le_trans (ge_of_same (add_zero t)) v.1) v.2
 
+-- a window that looks ahead, or at now, ends no earlier than now
 pub ends_at : (w : Window) (t : Rational) → (pos 0 <ℤ w.high) ⊎ ((pos 0 ≡ w.high) × IsTrue true × IsTrue w.high_in) → Upto (high_place w.high w.high_in t) t
 ends_at w t r = ends_by_it w t (room_in (pos 0) w.high true w.high_in t r)
 
+-- a window that begins behind, or at now, begins no later than now
 pub begins_at : (w : Window) (k : ℤ) (t : Rational) → (k <ℤ pos 0) ⊎ ((k ≡ pos 0) × IsTrue w.low_in × IsTrue true) → After (low_place k w.low_in t) t
 begins_at w k t r = begins_by_it w k t (room_in k (pos 0) w.low_in true t r)
 
+-- and the other way round
 pub ended_at : (w : Window) (t : Rational) → Upto (high_place w.high w.high_in t) t → (pos 0 <ℤ w.high) ⊎ ((pos 0 ≡ w.high) × IsTrue true × IsTrue w.high_in)
 ended_at w t h =
     room_out (pos 0) w.high true w.high_in t
     (before_through (low_place (pos 0) true t) (high_place w.high w.high_in t) t (le_of_same (add_zero t)) h)
 
+-- and the other way round
 pub begun_at : (w : Window) (k : ℤ) (t : Rational) → After (low_place k w.low_in t) t → (k <ℤ pos 0) ⊎ ((k ≡ pos 0) × IsTrue w.low_in × IsTrue true)
 begun_at w k t h =
     room_out k (pos 0) w.low_in true t (before_through (low_place k w.low_in t) (high_place (pos 0) true t) t h (ge_of_same (add_zero t)))

@@ -1,5 +1,6 @@
 -- How far the nodes of a formula are asked.
-use Rattle.std.proofs.Common.{◌≡◌, ◌⊎◌, inl, inr, refl, sym, subst, ap, ℕ, zero, suc, ◌+◌, ◌<◌, ◌≤◌, List, [], ◌∷◌, ◌++◌, Some, None, length, take, drop, arith, add-one}
+use Rattle.std.proofs.Common.{◌≡◌, ◌⊎◌, inl, inr, refl, sym, subst, ap, ℕ, zero, suc, ◌+◌, ◌<◌, ◌≤◌}
+use Rattle.std.proofs.Common.{List, [], ◌∷◌, ◌++◌, Some, None, length, take, drop, arith, add-one}
 use Rattle.std.proofs.lemmas.List.Sums.{sum_by-cons}
 use Rattle.std.specs.Prelude.{slice_get, sum_by}
 use Rattle.stl_syntax.specs.Limits.{own_reach}
@@ -36,6 +37,7 @@ reach_from nodes i n e = subst (λ k. looks_ahead n + rest_reach nodes k ≤ res
         subst (λ x. looks_ahead x + sum_by own_reach xs ≤ sum_by own_reach (m ∷ xs)) same (omega arith)
     by_place (m ∷ xs) (suc k) e = by_place xs k e
 
+-- no node is asked further than the formula reaches
 pub reach_all : (nodes : List Node) (i : ℕ) → rest_reach nodes i ≤ rest_reach nodes 0
 reach_all nodes zero = omega arith
 reach_all [] (suc i) = omega arith

@@ -21,17 +21,23 @@ use Rattle.early_verdict.proofs.UntilSets.{later_zero_out}
 
 -- from a time on two pairs of lists are alike, and the second has no more
 pub record Agree (from : Rational) (l m : Lists) : Type 0 where
+  -- from the cut on the true times are the same
   pub yes_in : (t : Rational) → from ≤ʳ t → IsOn l.yes t → IsOn m.yes t
+  -- and none are new
   pub yes_out : (t : Rational) → IsOn m.yes t → IsOn l.yes t
+  -- so are the false ones
   pub no_in : (t : Rational) → from ≤ʳ t → IsOn l.no t → IsOn m.no t
+  -- and none are new
   pub no_out : (t : Rational) → IsOn m.no t → IsOn l.no t
 
 -- what a set has from a time on it has still
-pub kept_in : (from : Rational) (old new : Grown) → IsCutAt from old new → ((t : Rational) → IsOn old.spans.items t → Lies old.bounds t) → (t : Rational) → from ≤ʳ t
+pub kept_in : (from : Rational) (old new : Grown) → IsCutAt from old new
+    → ((t : Rational) → IsOn old.spans.items t → Lies old.bounds t) → (t : Rational) → from ≤ʳ t
     → IsOn old.spans.items t → IsOn new.spans.items t
 kept_in from old new k within t f o = k.has t (k.left t (within t o) f) o
 
-module _ (from : Rational) (tr : Trace) (a b : ℕ) (p q p' q' : Lists) (ap' : Agree from p p') (aq : Agree from q q') (now : Rational) (later_on : from ≤ʳ now) where
+module _ (from : Rational) (tr : Trace) (a b : ℕ) (p q p' q' : Lists) (ap' : Agree from p p') (aq : Agree from q q')
+    (now : Rational) (later_on : from ≤ʳ now) where
   module _ (x y : Holding) (k : IsHoldingCut from from x y) (h : UntilHolding tr a b p q x) (at_both : Lies x.both.bounds now) (at_run : Lies x.run.bounds now)
       (at_some : Lies x.some.bounds now) (at_each : Lies x.each.bounds now) where
     both_in : (u : Rational) → from ≤ʳ u → IsOn x.both.spans.items u → IsOn y.both.spans.items u
@@ -40,9 +46,11 @@ module _ (from : Rational) (tr : Trace) (a b : ℕ) (p q p' q' : Lists) (ap' : A
     run_in : (u : Rational) → from ≤ʳ u → IsOn x.run.spans.items u → IsOn y.run.spans.items u
     run_in = kept_in from x.run y.run k.run (λ t o. (h.run.only t o).0)
 
+    -- the times whose window sees the right side stay
     pub some_in : (u : Rational) → from ≤ʳ u → IsOn x.some.spans.items u → IsOn y.some.spans.items u
     some_in = kept_in from x.some y.some k.some (λ t o. (h.some.only t o).0)
 
+    -- and those all of whose way is of the run
     pub each_in : (u : Rational) → from ≤ʳ u → IsOn x.each.spans.items u → IsOn y.each.spans.items u
     each_in = kept_in from x.each y.each k.each (λ t o. (h.each.only t o).0)
 
@@ -54,6 +62,7 @@ module _ (from : Rational) (tr : Trace) (a b : ℕ) (p q p' q' : Lists) (ap' : A
     goes_in t f (inl (u, l, c, z)) = inl (u, l, (both_in u (le_trans f l) c.0, c.1), λ v w. ap'.yes_in v (le_trans f w.above) (z v w))
     goes_in t f (inr c) = inr (both_in t f c)
 
+    -- what is left says where the until holds
     pub holding_cut : UntilHolding tr a b p' q' y
     holding_cut = record {
       both = record {
@@ -96,9 +105,11 @@ module _ (from : Rational) (tr : Trace) (a b : ℕ) (p q p' q' : Lists) (ap' : A
     stop_in : (u : Rational) → from ≤ʳ u → IsOn x.stop.spans.items u → IsOn y.stop.spans.items u
     stop_in u f o = k.stop.has u (left_stop u (h.stop.only u o).0 f) o
 
+    -- the times all of whose window fails stay
     pub never_in : (u : Rational) → from ≤ʳ u → IsOn x.never.spans.items u → IsOn y.never.spans.items u
     never_in = kept_in from x.never y.never k.never (λ t o. (h.never.only t o).0)
 
+    -- and those whose way is broken
     pub broken_in : (u : Rational) → from ≤ʳ u → IsOn x.broken.spans.items u → IsOn y.broken.spans.items u
     broken_in = kept_in from x.broken y.broken k.broken (λ t o. (h.broken.only t o).0)
 
@@ -108,6 +119,7 @@ module _ (from : Rational) (tr : Trace) (a b : ℕ) (p q p' q' : Lists) (ap' : A
     goes_to_in : (t : Rational) → from ≤ʳ t → GoesTo x.fail.spans.items p.no t → GoesTo y.fail.spans.items p'.no t
     goes_to_in t f (u, l, e, z) = (u, l, ap'.no_in u (le_trans f l) e, λ v w. fail_in v (le_trans f w.above) (z v w))
 
+    -- what is left says where it fails
     pub failing_cut : UntilFailing false tr a b p' q' y
     failing_cut = record {
       fail = record {

@@ -26,6 +26,7 @@ sure_earlier tr t w u h k (s, inr l) = (h, inr (le_trans k l))
 later_zero : (t v : Rational) → t ≤ʳ v → later t 0 ≤ʳ v
 later_zero t v h = record { le = omega (arith, h.le) }
 
+-- no wait is no move
 pub later_zero_out : (t v : Rational) → later t 0 ≤ʳ v → t ≤ʳ v
 later_zero_out t v h = record { le = omega (arith, h.le) }
 

@@ -12,10 +12,12 @@ use Rattle.stl_syntax.proofs.PostOrderLemmas.{placed}
 use Rattle.early_verdict.specs.Cuts.{place, Upto}
 use Rattle.early_verdict.specs.Spans.{IsOn, Lies}
 use Rattle.early_verdict.specs.Steps.{Tells}
-use Rattle.early_verdict.specs.Fitting.{Lists, lists_at, lists_of, ArePartsTidy, AreSetsTidy, HasFailBounds, IsTidy, SayOfParts, UntilFits, UntilHolding, UntilFailing}
+use Rattle.early_verdict.specs.Fitting.{Lists, lists_at, lists_of, ArePartsTidy, AreSetsTidy, HasFailBounds}
+use Rattle.early_verdict.specs.Fitting.{IsTidy, SayOfParts, UntilFits, UntilHolding, UntilFailing}
 use Rattle.early_verdict.specs.Standing.{HasParts}
 use Rattle.early_verdict.specs.Living.{IsLive, LooksAt, NetStands, ReachesAhead}
-use Rattle.early_verdict.specs.Letting.{AreAskedBy, ArePartsCut, ArePartsInside, IsChild, IsFailingCut, IsFailingInside, IsHoldingCut, IsHoldingInside, IsInside, IsLess, IsRunCutAt, ShowsFrom}
+use Rattle.early_verdict.specs.Letting.{AreAskedBy, ArePartsCut, ArePartsInside, IsChild, IsFailingCut, IsFailingInside}
+use Rattle.early_verdict.specs.Letting.{IsHoldingCut, IsHoldingInside, IsInside, IsLess, IsRunCutAt, ShowsFrom}
 use Rattle.early_verdict.specs.declared.stretch.Stretch.{Stretch}
 use Rattle.early_verdict.specs.declared.grown.Grown.{Grown}
 use Rattle.early_verdict.specs.declared.sets.Sets.{Sets}
@@ -29,8 +31,10 @@ use Rattle.early_verdict.proofs.StretchLemmas.{rises}
 use Rattle.early_verdict.proofs.UntilCuts.{Agree, broken_in, each_in, failing_cut, holding_cut, never_in, some_in}
 
 -- the sets between lie within their bounds, and what fails within what the left operand shows
-module _ (nodes : List Node) (tr : Trace) (live old new : List Sets) (i p q a b : ℕ) (at : slice_get nodes i ≡ Some (Until p q a b)) (from : Rational) (wide : Stretch)
-    (l' : Sets) (at_left : slice_get new p ≡ Some l') (is_wide : wide ≡ l'.no.bounds) (asked : AreAskedBy (Until p q a b) from old new) (st : NetStands nodes tr live old)
+module _ (nodes : List Node) (tr : Trace) (live old new : List Sets) (i p q a b : ℕ)
+    (at : slice_get nodes i ≡ Some (Until p q a b)) (from : Rational) (wide : Stretch)
+    (l' : Sets) (at_left : slice_get new p ≡ Some l') (is_wide : wide ≡ l'.no.bounds)
+    (asked : AreAskedBy (Until p q a b) from old new) (st : NetStands nodes tr live old)
     (s : Sets) (is : slice_get live i ≡ Some s) where
   shown_here : (w : Sets) × (slice_get old i ≡ Some w)
   shown_here = sets_at old i (let e = get_within live i s is in let c = st.have.count in let d = st.have.shown_count in omega (arith, e, c, d))
@@ -43,11 +47,14 @@ module _ (nodes : List Node) (tr : Trace) (live old new : List Sets) (i p q a b 
       subst (λ (v : Stretch). Upto (place v.to) t) (sym is_wide)
       ((asked.cut tt p left_here.0 l' (inl refl) left_here.1 at_left).ends t (subst (λ (v : Stretch). Upto (place v.to) t) e l.1))
 
+  -- the sets between lie within the bounds
   pub parts_inside : ArePartsInside wide s
-  parts_inside = by_parts s.parts (st.fit i (Until p q a b) s at is) ((st.have.has i (Until p q a b) s shown_here.0 at is shown_here.1).left.1 left_here.0 left_here.1)
+  parts_inside = by_parts s.parts (st.fit i (Until p q a b) s at is)
+      ((st.have.has i (Until p q a b) s shown_here.0 at is shown_here.1).left.1 left_here.0 left_here.1)
     where
       by_parts : (o : Option Parts)
-          → MatchOption o ⊥ (λ x. UntilHolding tr a b (lists_at old p) (lists_at old q) x.holding × UntilFailing false tr a b (lists_at old p) (lists_at old q) x.failing × SayOfParts s x)
+          → MatchOption o ⊥ (λ x. UntilHolding tr a b (lists_at old p) (lists_at old q) x.holding
+          × UntilFailing false tr a b (lists_at old p) (lists_at old q) x.failing × SayOfParts s x)
           → MatchOption o (Unit {0}) (λ x. (x.failing.fail.bounds ≡ (left_here.0).no.bounds) × (x.failing.stop.bounds ≡ (left_here.0).no.bounds))
           → MatchOption o (Unit {0}) (λ x. IsHoldingInside x.holding × IsFailingInside wide x.failing)
       by_parts None h e = tt
@@ -66,8 +73,10 @@ module _ (nodes : List Node) (tr : Trace) (live old new : List Sets) (i p q a b 
         },
       )
 
-module _ (nodes : List Node) (formed : AreWellFormed nodes) (tr : Trace) (live left old new : List Sets) (i p q a b : ℕ) (at : slice_get nodes i ≡ Some (Until p q a b))
-    (from : Rational) (wide : Stretch) (cut : IsRunCutAt i from from wide live left) (l' : Sets) (at_left : slice_get new p ≡ Some l') (is_wide : wide ≡ l'.no.bounds)
+module _ (nodes : List Node) (formed : AreWellFormed nodes) (tr : Trace) (live left old new : List Sets) (i p q a b : ℕ)
+    (at : slice_get nodes i ≡ Some (Until p q a b))
+    (from : Rational) (wide : Stretch) (cut : IsRunCutAt i from from wide live left) (l' : Sets)
+    (at_left : slice_get new p ≡ Some l') (is_wide : wide ≡ l'.no.bounds)
     (begins : (t : Rational) → Lies cut.was.no.bounds t → from ≤ʳ t) (asked : AreAskedBy (Until p q a b) from old new) (st : NetStands nodes tr live old) where
   small : i < length nodes
   small = let e = get_within live i cut.was cut.at_old in let c = st.have.count in omega (arith, e, c)
@@ -80,9 +89,11 @@ module _ (nodes : List Node) (formed : AreWellFormed nodes) (tr : Trace) (live l
       let w = asked.less.each r x.0 x.1 in
       by_sets w.0 x.0 w.1 x.1 w.2 (asked.cut tt r w.0 x.0 c w.1 x.1) (shown_inside nodes tr live old st r w.0 w.1)
     where
-      by_sets : (w x : Sets) → slice_get old r ≡ Some w → slice_get new r ≡ Some x → IsLess w x → ShowsFrom from w x → IsInside w → Agree from (lists_at old r) (lists_at new r)
+      by_sets : (w x : Sets) → slice_get old r ≡ Some w → slice_get new r ≡ Some x → IsLess w x → ShowsFrom from w x → IsInside w
+          → Agree from (lists_at old r) (lists_at new r)
       by_sets w x e f less shows inside =
-          subst (λ (l : Lists). Agree from l (lists_at new r)) (sym (lists_are old r w e)) (subst (λ (l : Lists). Agree from (lists_of w) l) (sym (lists_are new r x f)) (record {
+          subst (λ (l : Lists). Agree from l (lists_at new r)) (sym (lists_are old r w e))
+          (subst (λ (l : Lists). Agree from (lists_of w) l) (sym (lists_are new r x f)) (record {
             yes_in = λ t k o. less.yes_in t (shows.left t (inside.yes t o) k) o;
             yes_out = less.yes_out;
             no_in = λ t k o. less.no_in t (shows.left t (inside.no t o) k) o;
@@ -121,7 +132,8 @@ module _ (nodes : List Node) (formed : AreWellFormed nodes) (tr : Trace) (live l
   left_wide s e t l f = subst (λ z. Lies z t) (sym is_wide) (shows.left t (subst (λ z. Lies z t) e l) f)
 
   -- each of these has a time of the until's own
-  module _ (x y : Parts) (k : IsHoldingCut from from x.holding y.holding) (m : IsFailingCut from wide x.failing y.failing) (r : ReachesAhead (start tr) b was.own x)
+  module _ (x y : Parts) (k : IsHoldingCut from from x.holding y.holding) (m : IsFailingCut from wide x.failing y.failing)
+      (r : ReachesAhead (start tr) b was.own x)
       (e : (x.failing.fail.bounds ≡ (was_left.0).no.bounds) × (x.failing.stop.bounds ≡ (was_left.0).no.bounds)) where
     reach_cut : ReachesAhead (start tr) b was.own y
     reach_cut = record {
@@ -140,35 +152,47 @@ module _ (nodes : List Node) (formed : AreWellFormed nodes) (tr : Trace) (live l
         let z = r.fail now.0 now.0 now.1 (le_refl now.0) (later_from now.0 b) in
         shows.after now.0 (subst (λ v. Lies v now.0) e.0 z.0) from_now u (subst (λ v. Lies v u) is_wide l)
 
-    parts_fit : UntilHolding tr a b (lists_at old p) (lists_at old q) x.holding × UntilFailing false tr a b (lists_at old p) (lists_at old q) x.failing × SayOfParts cut.was x
-        → UntilHolding tr a b (lists_at new p) (lists_at new q) y.holding × UntilFailing false tr a b (lists_at new p) (lists_at new q) y.failing × SayOfParts cut.is y
+    parts_fit : UntilHolding tr a b (lists_at old p) (lists_at old q) x.holding
+        × UntilFailing false tr a b (lists_at old p) (lists_at old q) x.failing × SayOfParts cut.was x
+        → UntilHolding tr a b (lists_at new p) (lists_at new q) y.holding
+        × UntilFailing false tr a b (lists_at new p) (lists_at new q) y.failing × SayOfParts cut.is y
     parts_fit (h, f, s) =
         let P = agree_from p (inl refl) in
         let Q = agree_from q (inr refl) in
         let z = r.some now.0 now.1 in
         let v = r.never now.0 now.1 in
         let c = r.both now.0 now.0 now.1 (le_refl now.0) (later_from now.0 b) in
-        let in_some = some_in from tr a b (lists_at old p) (lists_at old q) (lists_at new p) (lists_at new q) P Q now.0 from_now x.holding y.holding k h c.0 c.1 z.0 z.1 in
-        let in_each = each_in from tr a b (lists_at old p) (lists_at old q) (lists_at new p) (lists_at new q) P Q now.0 from_now x.holding y.holding k h c.0 c.1 z.0 z.1 in
-        let in_never = never_in from tr a b (lists_at old p) (lists_at old q) (lists_at new p) (lists_at new q) P Q now.0 from_now wide x.failing y.failing m f v.0 v.1
-        (less_wide x.failing.fail.bounds e.0) (left_wide x.failing.fail.bounds e.0) (less_wide x.failing.stop.bounds e.1) (left_wide x.failing.stop.bounds e.1) at_wide in
-        let in_broken = broken_in from tr a b (lists_at old p) (lists_at old q) (lists_at new p) (lists_at new q) P Q now.0 from_now wide x.failing y.failing m f v.0 v.1
-        (less_wide x.failing.fail.bounds e.0) (left_wide x.failing.fail.bounds e.0) (less_wide x.failing.stop.bounds e.1) (left_wide x.failing.stop.bounds e.1) at_wide in (
-          holding_cut from tr a b (lists_at old p) (lists_at old q) (lists_at new p) (lists_at new q) P Q now.0 from_now x.holding y.holding k h c.0 c.1 z.0 z.1,
+        let in_some = some_in from tr a b (lists_at old p) (lists_at old q) (lists_at new p)
+        (lists_at new q) P Q now.0 from_now x.holding y.holding k h c.0 c.1 z.0 z.1 in
+        let in_each = each_in from tr a b (lists_at old p) (lists_at old q) (lists_at new p)
+        (lists_at new q) P Q now.0 from_now x.holding y.holding k h c.0 c.1 z.0 z.1 in
+        let in_never =
+        never_in from tr a b (lists_at old p) (lists_at old q) (lists_at new p) (lists_at new q) P Q now.0 from_now wide x.failing y.failing m f v.0 v.1
+        (less_wide x.failing.fail.bounds e.0) (left_wide x.failing.fail.bounds e.0) (less_wide x.failing.stop.bounds e.1)
+        (left_wide x.failing.stop.bounds e.1) at_wide in
+        let in_broken = broken_in from tr a b (lists_at old p) (lists_at old q) (lists_at new p)
+        (lists_at new q) P Q now.0 from_now wide x.failing y.failing m f v.0 v.1
+        (less_wide x.failing.fail.bounds e.0) (left_wide x.failing.fail.bounds e.0) (less_wide x.failing.stop.bounds e.1)
+        (left_wide x.failing.stop.bounds e.1) at_wide in (
+          holding_cut from tr a b (lists_at old p) (lists_at old q) (lists_at new p)
+              (lists_at new q) P Q now.0 from_now x.holding y.holding k h c.0 c.1 z.0 z.1,
           failing_cut from tr a b (lists_at old p) (lists_at old q) (lists_at new p) (lists_at new q) P Q now.0 from_now wide x.failing y.failing m f v.0 v.1
-              (less_wide x.failing.fail.bounds e.0) (left_wide x.failing.fail.bounds e.0) (less_wide x.failing.stop.bounds e.1) (left_wide x.failing.stop.bounds e.1) at_wide,
+              (less_wide x.failing.fail.bounds e.0) (left_wide x.failing.fail.bounds e.0) (less_wide x.failing.stop.bounds e.1)
+              (left_wide x.failing.stop.bounds e.1) at_wide,
           record {
-            yes = subst (λ (g : Grown). Tells g.bounds g.spans.items (λ t. IsOn y.holding.some.spans.items t × IsOn y.holding.each.spans.items t)) (sym cut.cut.yes) (record {
-              has = λ t l o. s.yes.has t l ((k.some.only t o.0).0, (k.each.only t o.1).0);
-              only = λ t o. let n = s.yes.only t o in let g = begun t (subst (λ z. Lies z t) was.yes n.0) in (n.0, (in_some t g n.1.0, in_each t g n.1.1));
-            });
-            no = subst (λ (g : Grown). Tells g.bounds g.spans.items (λ t. IsOn y.failing.never.spans.items t ⊎ IsOn y.failing.broken.spans.items t)) (sym cut.cut.no) (record {
-              has = λ t l o. s.no.has t l (elim o [ inl n ↦ inl (m.never.only t n).0 | inr n ↦ inr (m.broken.only t n).0 ]);
-              only = λ t o. let n = s.no.only t o in let g = begun t (subst (λ z. Lies z t) was.no n.0) in (
-                n.0,
-                elim n.1 [ inl j ↦ inl (in_never t g j) | inr j ↦ inr (in_broken t g j) ],
-              );
-            });
+            yes = subst (λ (g : Grown). Tells g.bounds g.spans.items (λ t. IsOn y.holding.some.spans.items t × IsOn y.holding.each.spans.items t))
+                (sym cut.cut.yes) (record {
+                  has = λ t l o. s.yes.has t l ((k.some.only t o.0).0, (k.each.only t o.1).0);
+                  only = λ t o. let n = s.yes.only t o in let g = begun t (subst (λ z. Lies z t) was.yes n.0) in (n.0, (in_some t g n.1.0, in_each t g n.1.1));
+                });
+            no = subst (λ (g : Grown). Tells g.bounds g.spans.items (λ t. IsOn y.failing.never.spans.items t ⊎ IsOn y.failing.broken.spans.items t))
+                (sym cut.cut.no) (record {
+                  has = λ t l o. s.no.has t l (elim o [ inl n ↦ inl (m.never.only t n).0 | inr n ↦ inr (m.broken.only t n).0 ]);
+                  only = λ t o. let n = s.no.only t o in let g = begun t (subst (λ z. Lies z t) was.no n.0) in (
+                    n.0,
+                    elim n.1 [ inl j ↦ inl (in_never t g j) | inr j ↦ inr (in_broken t g j) ],
+                  );
+                });
           },
         )
 
@@ -179,7 +203,8 @@ module _ (nodes : List Node) (formed : AreWellFormed nodes) (tr : Trace) (live l
     }
 
   -- of both or of none
-  by_parts : (R : Parts → Type 0) (S : Parts → Type 0) → ((x y : Parts) → IsHoldingCut from from x.holding y.holding → IsFailingCut from wide x.failing y.failing
+  by_parts : (R : Parts → Type 0) (S : Parts → Type 0)
+      → ((x y : Parts) → IsHoldingCut from from x.holding y.holding → IsFailingCut from wide x.failing y.failing
       → ReachesAhead (start tr) b was.own x → (x.failing.fail.bounds ≡ (was_left.0).no.bounds) × (x.failing.stop.bounds ≡ (was_left.0).no.bounds) → R x → S y)
       → (N : Type 0) → (o o' : Option Parts) → ArePartsCut from from wide o o' → MatchOption o (Unit {0}) (ReachesAhead (start tr) b was.own)
       → MatchOption o (Unit {0}) (λ x. (x.failing.fail.bounds ≡ (was_left.0).no.bounds) × (x.failing.stop.bounds ≡ (was_left.0).no.bounds)) → MatchOption o N R
@@ -189,7 +214,8 @@ module _ (nodes : List Node) (formed : AreWellFormed nodes) (tr : Trace) (live l
   by_parts R S f N (Some x) (Some y) c r e h = f x y c.0 c.1 r e h
 
   reach_parts : MatchOption cut.is.parts (Unit {0}) (ReachesAhead (start tr) b was.own)
-  reach_parts = by_parts (λ x. Unit {0}) (ReachesAhead (start tr) b was.own) (λ x y k m r e u. reach_cut x y k m r e) (Unit {0}) cut.was.parts cut.is.parts cut.cut.parts
+  reach_parts = by_parts (λ x. Unit {0}) (ReachesAhead (start tr) b was.own) (λ x y k m r e u. reach_cut x y k m r e)
+      (Unit {0}) cut.was.parts cut.is.parts cut.cut.parts
       was.looks.1 fail_bounds (unit_of cut.was.parts)
     where
       unit_of : (o : Option Parts) → MatchOption o (Unit {0}) (λ x. Unit {0})
@@ -217,15 +243,19 @@ module _ (nodes : List Node) (formed : AreWellFormed nodes) (tr : Trace) (live l
 
   mine : (w x : Sets) → slice_get old i ≡ Some w → slice_get new i ≡ Some x → IsLess w x → IsLive (start tr) new (Until p q a b) cut.is x
   mine w x e f less =
-      live_by nodes formed tr live left old new i (Until p q a b) at cut.was cut.is cut.at_old cut.at_new cut.others cut.count asked.less asked.others st (Until p q a b)
+      live_by nodes formed tr live left old new i
+      (Until p q a b) at cut.was cut.is cut.at_old cut.at_new cut.others cut.count asked.less asked.others st (Until p q a b)
       cut.was cut.is own_shown.0 x cut.cut.yes cut.cut.no (subst (λ z. IsLess z x) (same_sets w own_shown.0 (sym e ∙ own_shown.1)) less) was
       ((asked.looks (start tr) was.own cut.was.parts (shown_begun nodes tr live old st) begun was.looks).0, reach_parts) (is_some, still_fails)
 
   fits : UntilFits false tr a b (lists_at new p) (lists_at new q) cut.is
   fits = by_parts
-      (λ x. UntilHolding tr a b (lists_at old p) (lists_at old q) x.holding × UntilFailing false tr a b (lists_at old p) (lists_at old q) x.failing × SayOfParts cut.was x)
-      (λ y. UntilHolding tr a b (lists_at new p) (lists_at new q) y.holding × UntilFailing false tr a b (lists_at new p) (lists_at new q) y.failing × SayOfParts cut.is y)
-      (λ x y k m r e h. parts_fit x y k m r e h) ⊥ cut.was.parts cut.is.parts cut.cut.parts was.looks.1 fail_bounds (st.fit i (Until p q a b) cut.was at cut.at_old)
+      (λ x. UntilHolding tr a b (lists_at old p) (lists_at old q) x.holding
+      × UntilFailing false tr a b (lists_at old p) (lists_at old q) x.failing × SayOfParts cut.was x)
+      (λ y. UntilHolding tr a b (lists_at new p) (lists_at new q) y.holding
+      × UntilFailing false tr a b (lists_at new p) (lists_at new q) y.failing × SayOfParts cut.is y)
+      (λ x y k m r e h. parts_fit x y k m r e h) ⊥ cut.was.parts cut.is.parts cut.cut.parts was.looks.1 fail_bounds
+      (st.fit i (Until p q a b) cut.was at cut.at_old)
 
   tidy : AreSetsTidy cut.is
   tidy =
@@ -233,8 +263,11 @@ module _ (nodes : List Node) (formed : AreWellFormed nodes) (tr : Trace) (live l
       record {
         yes = subst (λ (g : Grown). IsTidy g) (sym cut.cut.yes) h.yes;
         no = subst (λ (g : Grown). IsTidy g) (sym cut.cut.no) h.no;
-        parts = by_parts ArePartsTidy ArePartsTidy (λ x y k m r e u. parts_tidy x y k m r e) (Unit {0}) cut.was.parts cut.is.parts cut.cut.parts was.looks.1 fail_bounds h.parts;
+        parts = by_parts ArePartsTidy ArePartsTidy (λ x y k m r e u. parts_tidy x y k m r e)
+            (Unit {0}) cut.was.parts cut.is.parts cut.cut.parts was.looks.1 fail_bounds h.parts;
       }
 
+  -- all stands where an until lets go
   pub until_stands : NetStands nodes tr left new
-  until_stands = one_stands nodes formed tr live left old new i (Until p q a b) at cut.was cut.is cut.at_old cut.at_new cut.others cut.count asked.less asked.others st mine fits tidy
+  until_stands = one_stands nodes formed tr live left old new i
+      (Until p q a b) at cut.was cut.is cut.at_old cut.at_new cut.others cut.count asked.less asked.others st mine fits tidy

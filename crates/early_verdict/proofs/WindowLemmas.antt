@@ -1,5 +1,6 @@
 -- Which windows reach past a place.
-use Rattle.std.proofs.Common.{◌≡◌, ◌⊎◌, inl, inr, refl, sym, ◌∙◌, Bool, true, false, not, ◌||◌, ◌&&◌, ℤ, neg_ℤ, ◌+◌, ◌*◌, ◌<◌, ◌≤◌, ◌^◌, Option, Some, None, arith, lit<, ap, subst, mul-pos, mul-lt-mul_of_pos_right}
+use Rattle.std.proofs.Common.{◌≡◌, ◌⊎◌, inl, inr, refl, sym, ◌∙◌, Bool, true, false, not, ◌||◌, ◌&&◌, ℤ, neg_ℤ, ◌+◌, ◌*◌}
+use Rattle.std.proofs.Common.{◌<◌, ◌≤◌, ◌^◌, Option, Some, None, arith, lit<, ap, subst, mul-pos, mul-lt-mul_of_pos_right}
 use Rattle.std.specs.Prelude.{MatchBool, IfSome, IsTrue, unsigned_abs, ◌↔◌, ◌<ℤ◌}
 use Rattle.std.proofs.lemmas.Int.{by_lt_z, ints, to_z-of_z, fits_signed_from_abs}
 use mir.Val.{hbits}
@@ -37,6 +38,7 @@ near_fits k h = to_z-of_z w64 k (fits_signed_from_abs w64 k (let b : 2 ^ 32 < 2 
 pub move_fits : (t : Rational) (k : ℤ) → IsWithin (2 ^ 34) t → unsigned_abs k ≤ 2 ^ 32 → FitsFloor w64 (add t (whole k))
 move_fits t k w h = fits_of_within w64 (2 ^ 34 + 2 ^ 32) (lit< tt) (within_add (2 ^ 34) (2 ^ 32) w (within_whole (2 ^ 32) k h))
 
+-- moved back and forth a time is itself
 pub shift_forth : (t : Rational) (k : ℤ) → add (add t (whole (neg_ℤ k))) (whole k) ≈ t
 shift_forth t k = record { same = omega (arith, ap (λ n. n * (t.den * t.den)) step) }
   where
@@ -120,6 +122,7 @@ pub room_in : (j k : ℤ) (i h : Bool) (t : Rational) → (j <ℤ k) ⊎ ((j ≡
 room_in j k i h t (inl l) = inl (room_between j k t l)
 room_in j k i h t (inr (e, x, y)) = inr (subst (λ n. add t (whole j) ≈ add t (whole n)) e (same_refl (add t (whole j))), ap not x, y)
 
+-- a window with a time has its ends in order
 pub room_out : (j k : ℤ) (i h : Bool) (t : Rational) → Before (low_place j i t) (high_place k h t) → (j <ℤ k) ⊎ ((j ≡ k) × IsTrue i × IsTrue h)
 room_out j k i h t b = elim (int_order j k) [
   | inl l ↦ inl l
@@ -175,6 +178,7 @@ pub on_ok : {T E : Type 0} (r : Result T E) (P Q : Type 0) → (P → Q) → OnO
 on_ok (Ok x) P Q f h = f h
 on_ok (Err e) P Q f h = tt
 
+-- what follows from a good answer follows where it came
 pub on_good : {T E : Type 0} (r : Result T E) {P Q : Type 0} → OnOk r P → (P → Q) → OnOk r Q
 on_good (Ok x) h f = f h
 on_good (Err e) h f = tt

@@ -34,6 +34,7 @@ back_lt k t u = (
   λ h. lt_shift_cancel (pos k) (lt_of_le_of_lt (le_of_same (shift_forth t (pos k))) (lt_of_lt_of_le h (le_of_same (later-add u k)))),
 )
 
+-- moved back by k it is no later exactly where the other moved on by k is
 pub le_back : (k : ℕ) (t u : Rational) → (u ≤ʳ add t (whole (neg_ℤ (pos k)))) ↔ (later u k ≤ʳ t)
 le_back k t u = (
   λ h. le_trans (le_of_same (later-add u k)) (le_trans (le_shift (pos k) h) (le_of_same (shift_forth t (pos k)))),
@@ -55,14 +56,16 @@ high_behind a true t u = le_back a t u
 high_behind a false t u = lt_back a t u
 
 -- the window of an operator that looks ahead
-pub ahead_sees : (w : Window) (a b : ℕ) (a_in b_in : Bool) → w.low ≡ Some (pos a) → w.high ≡ pos b → w.low_in ≡ a_in → w.high_in ≡ b_in → IsAhead w a b a_in b_in
+pub ahead_sees : (w : Window) (a b : ℕ) (a_in b_in : Bool) → w.low ≡ Some (pos a) → w.high ≡ pos b → w.low_in ≡ a_in
+    → w.high_in ≡ b_in → IsAhead w a b a_in b_in
 ahead_sees w a b a_in b_in el eh ei ej t u = (
   λ s. (
     (low_ahead a a_in t u).0 (subst (λ i. After (low_place (pos a) i t) u) ei (subst (λ o. IfSome o (λ k. After (low_place k w.low_in t) u)) el s.begins)),
     (high_ahead b b_in t u).0 (subst (λ i. Upto (high_place (pos b) i t) u) ej (subst (λ k. Upto (high_place k w.high_in t) u) eh s.ends)),
   ),
   λ (l, h). record {
-    begins = subst (λ o. IfSome o (λ k. After (low_place k w.low_in t) u)) (sym el) (subst (λ i. After (low_place (pos a) i t) u) (sym ei) ((low_ahead a a_in t u).1 l));
+    begins = subst (λ o. IfSome o (λ k. After (low_place k w.low_in t) u)) (sym el)
+        (subst (λ i. After (low_place (pos a) i t) u) (sym ei) ((low_ahead a a_in t u).1 l));
     ends = subst (λ k. Upto (high_place k w.high_in t) u) (sym eh) (subst (λ i. Upto (high_place (pos b) i t) u) (sym ej) ((high_ahead b b_in t u).1 h));
   },
 )
@@ -72,20 +75,25 @@ pub behind_sees : (w : Window) (a b : ℕ) (a_in b_in : Bool) → w.low ≡ Some
     → IsBehind w a (Some b) a_in b_in
 behind_sees w a b a_in b_in el eh ei ej t u = (
   λ s. (
-    (low_behind b b_in t u).0 (subst (λ i. After (low_place (neg_ℤ (pos b)) i t) u) ei (subst (λ o. IfSome o (λ k. After (low_place k w.low_in t) u)) el s.begins)),
+    (low_behind b b_in t u).0
+        (subst (λ i. After (low_place (neg_ℤ (pos b)) i t) u) ei (subst (λ o. IfSome o (λ k. After (low_place k w.low_in t) u)) el s.begins)),
     (high_behind a a_in t u).0 (subst (λ i. Upto (high_place (neg_ℤ (pos a)) i t) u) ej (subst (λ k. Upto (high_place k w.high_in t) u) eh s.ends)),
   ),
   λ (l, h). record {
-    begins = subst (λ o. IfSome o (λ k. After (low_place k w.low_in t) u)) (sym el) (subst (λ i. After (low_place (neg_ℤ (pos b)) i t) u) (sym ei) ((low_behind b b_in t u).1 l));
-    ends = subst (λ k. Upto (high_place k w.high_in t) u) (sym eh) (subst (λ i. Upto (high_place (neg_ℤ (pos a)) i t) u) (sym ej) ((high_behind a a_in t u).1 h));
+    begins = subst (λ o. IfSome o (λ k. After (low_place k w.low_in t) u)) (sym el)
+        (subst (λ i. After (low_place (neg_ℤ (pos b)) i t) u) (sym ei) ((low_behind b b_in t u).1 l));
+    ends = subst (λ k. Upto (high_place k w.high_in t) u) (sym eh)
+        (subst (λ i. Upto (high_place (neg_ℤ (pos a)) i t) u) (sym ej) ((high_behind a a_in t u).1 h));
   },
 )
 
+-- a window of the past without a begin sees as the operator does
 pub endless_sees : (w : Window) (a : ℕ) (a_in b_in : Bool) → w.low ≡ None → w.high ≡ neg_ℤ (pos a) → w.high_in ≡ a_in → IsBehind w a None a_in b_in
 endless_sees w a a_in b_in el eh ej t u = (
   λ s. (tt, (high_behind a a_in t u).0 (subst (λ i. Upto (high_place (neg_ℤ (pos a)) i t) u) ej (subst (λ k. Upto (high_place k w.high_in t) u) eh s.ends))),
   λ (l, h). record {
     begins = subst (λ o. IfSome o (λ k. After (low_place k w.low_in t) u)) (sym el) tt;
-    ends = subst (λ k. Upto (high_place k w.high_in t) u) (sym eh) (subst (λ i. Upto (high_place (neg_ℤ (pos a)) i t) u) (sym ej) ((high_behind a a_in t u).1 h));
+    ends = subst (λ k. Upto (high_place k w.high_in t) u) (sym eh)
+        (subst (λ i. Upto (high_place (neg_ℤ (pos a)) i t) u) (sym ej) ((high_behind a a_in t u).1 h));
   },
 )

@@ -17,7 +17,8 @@ use Rattle.early_verdict.specs.declared.early.Decided.{Decided}
 use Rattle.early_verdict.specs.declared.early.EarlyFault.{EarlyFault}
 use Rattle.early_verdict.specs.declared.early.EarlyFault.TheVariants.{Stopped, Memory}
 
--- what an early verdict keeps: the formula and its atoms' columns, what its nodes go on from and what they show, the first time and the last row, the verdict of
+-- what an early verdict keeps: the formula and its atoms' columns, what its nodes go on from and what they show, the first time
+-- and the last row, the verdict of
 -- the row that decided, whether the input has ended, and whether a call answered want of memory
 pub record Kept : Type 0 where
   pub nodes : List Node
@@ -80,7 +81,9 @@ pub record WasDecided (p : Subformula) (header : Header) (rows : List Row) (d : 
 
 -- nothing is decided, and the sets tell what is settled so far; or a row has decided
 abbrev pub StandsBy : Kept → List Row → Type 0
-StandsBy x rows = MatchOption x.decided (NoneDecides (root x.nodes) x.header rows × (x.ended ≡ false → SetsAre x.nodes x.header x.begin x.live x.shown rows)) (WasDecided (root x.nodes) x.header rows)
+StandsBy x rows = MatchOption x.decided
+    (NoneDecides (root x.nodes) x.header rows × (x.ended ≡ false → SetsAre x.nodes x.header x.begin x.live x.shown rows))
+    (WasDecided (root x.nodes) x.header rows)
 
 -- an early verdict stands for these rows, ended or not
 pub record Stands (x : Kept) (rows : List Row) (ended : Bool) : Type 0 where

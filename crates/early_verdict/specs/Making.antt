@@ -42,4 +42,5 @@ pub record AreMade (nodes : List Node) (from : Rational) (sets : List Sets) : Ty
 -- as many empty sets with the same bounds
 pub record AreShownOf (live shown : List Sets) : Type 0 where
   pub count : length shown ≡ length live
-  pub has : (i : ℕ) (s x : Sets) → slice_get live i ≡ Some s → slice_get shown i ≡ Some x → (x.yes.bounds ≡ s.no.bounds) × (x.no.bounds ≡ s.no.bounds) × AreEmpty x
+  pub has : (i : ℕ) (s x : Sets) → slice_get live i ≡ Some s → slice_get shown i ≡ Some x
+      → (x.yes.bounds ≡ s.no.bounds) × (x.no.bounds ≡ s.no.bounds) × AreEmpty x

@@ -1,5 +1,6 @@
 -- What the sets of all nodes keep from event to event.
-use Rattle.std.specs.Prelude.{◌≡◌, ◌↔◌, ◌⊎◌, ℕ, ◌+◌, ◌≤◌, ◌<◌, ◌≢◌, Bool, false, Option, Some, None, List, length, MatchOption, MatchBool, IsSome, slice_get, slice_index_or}
+use Rattle.std.specs.Prelude.{◌≡◌, ◌↔◌, ◌⊎◌, ℕ, ◌+◌, ◌≤◌, ◌<◌, ◌≢◌, Bool, false, Option, Some, None}
+use Rattle.std.specs.Prelude.{List, length, MatchOption, MatchBool, IsSome, slice_get, slice_index_or}
 use Rattle.rational.specs.Time.{Rational, later, ◌≤ʳ◌}
 use Rattle.stl_syntax.specs.Trace.{Row, Trace, start}
 use Rattle.stl_syntax.specs.declared.node.Node.{Node}
@@ -72,7 +73,8 @@ left_of n = None
 pub record HasSets (from : Rational) (tops : List ℕ) (sets : List Sets) (i : ℕ) (n : Node) (s : Sets) : Type 0 where
   pub wide : ℕ
   pub asked : AreAsked from (top_at tops i) wide s
-  pub left : MatchOption (left_of n) (s.parts ≡ None) (λ p. (top_at tops p ≡ wide) × ((l : Sets) → slice_get sets p ≡ Some l → HasFailBounds s l) × (s.parts ≡ None → ⊥))
+  pub left : MatchOption (left_of n) (s.parts ≡ None)
+      (λ p. (top_at tops p ≡ wide) × ((l : Sets) → slice_get sets p ≡ Some l → HasFailBounds s l) × (s.parts ≡ None → ⊥))
 
 -- each node has sets, and asks its children
 pub record HaveSets (nodes : List Node) (from : Rational) (tops : List ℕ) (sets : List Sets) : Type 0 where

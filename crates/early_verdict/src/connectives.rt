@@ -1,7 +1,8 @@
 //! One event over the sets of constants, negations and connectives.
 ghost use Rattle.std.specs.Prelude.{◌≡◌, OnOk, Option};
 ghost use Rattle.stl_syntax.specs.Trace.{Trace};
-ghost use Rattle.early_verdict.specs.Fitting.{Lists, lists_of, AreSetsTidy, IsTidy, HasStepped, ConstantFits, NegationFits, ConjunctionFits, DisjunctionFits, ImplicationFits};
+ghost use Rattle.early_verdict.specs.Fitting.{Lists, lists_of, AreSetsTidy, IsTidy, HasStepped, ConstantFits};
+ghost use Rattle.early_verdict.specs.Fitting.{NegationFits, ConjunctionFits, DisjunctionFits, ImplicationFits};
 ghost use Rattle.early_verdict.specs.Spans.{Grows, Lies};
 ghost use Rattle.early_verdict.specs.Happening.{Had, Happens, Was};
 

@@ -99,7 +99,8 @@ fn step_sets(
     requires first { IfSome before.now (λ r. length r.values ≡ bound.now.width) }
     requires second { length row.now.values ≡ bound.now.width }
     requires later { IfSome before.now (λ r. r.time < row.now.time) }
-    ensures { OnOk result (ComesOn formula.now.nodes bound.now event.now before.now row.now net.old.live.items net.new.live.items net.old.shown.items net.new.shown.items) }
+    ensures { OnOk result (ComesOn formula.now.nodes bound.now event.now before.now row.now net.old.live.items net.new.live.items
+        net.old.shown.items net.new.shown.items) }
 {
     step_all(
         &mut net.live,
@@ -147,10 +148,12 @@ fn take_next(
     last: &Option<Row>,
     row: &Row,
 ) -> Result<(), Memory>
-    requires open { (header : Header) × (r : ARow) × (rows : List ARow) × IsOpen formula.now bound.now header (r ∷ rows) begin last.now net.old.live.items net.old.shown.items }
+    requires open { (header : Header) × (r : ARow) × (rows : List ARow)
+        × IsOpen formula.now bound.now header (r ∷ rows) begin last.now net.old.live.items net.old.shown.items }
     requires width { length row.now.values ≡ bound.now.width }
     requires later { IfSome last.now (λ q. q.time < row.now.time) }
-    ensures { OnOk result ((header : Header) (r : ARow) (rows : List ARow) → IsOpen formula.now bound.now header (r ∷ rows) begin last.now net.old.live.items net.old.shown.items
+    ensures { OnOk result ((header : Header) (r : ARow) (rows : List ARow)
+        → IsOpen formula.now bound.now header (r ∷ rows) begin last.now net.old.live.items net.old.shown.items
         → SetsAre formula.now.nodes header begin net.new.live.items net.new.shown.items (r ∷ (rows ++ row.now ∷ []))) }
 {
     let Some(before) = last else {
@@ -174,7 +177,8 @@ pub(crate) fn take_row(
     requires open { (header : Header) × (rows : List ARow) × IsOpen formula.now bound.now header rows begin last.now net.old.live.items net.old.shown.items }
     requires width { length row.now.values ≡ bound.now.width }
     requires later { IfSome last.now (λ q. q.time < row.now.time) }
-    ensures { IfOk result (λ start. (header : Header) (rows : List ARow) → IsOpen formula.now bound.now header rows begin last.now net.old.live.items net.old.shown.items
+    ensures { IfOk result
+        (λ start. (header : Header) (rows : List ARow) → IsOpen formula.now bound.now header rows begin last.now net.old.live.items net.old.shown.items
         → SetsAre formula.now.nodes header start net.new.live.items net.new.shown.items (rows ++ row.now ∷ [])) }
 {
     match last {
@@ -221,7 +225,8 @@ pub(crate) fn end_sets(
     begin: u32,
     last: &Option<Row>,
 ) -> Result<bool, Memory>
-    requires open { (header : Header) × (r : ARow) × (rows : List ARow) × IsOpen formula.now bound.now header (r ∷ rows) begin last.now net.old.live.items net.old.shown.items }
+    requires open { (header : Header) × (r : ARow) × (rows : List ARow)
+        × IsOpen formula.now bound.now header (r ∷ rows) begin last.now net.old.live.items net.old.shown.items }
     ensures { IfOk result (λ holds. (header : Header) (r : ARow) (rows : List ARow)
         → IsOpen formula.now bound.now header (r ∷ rows) begin last.now net.old.live.items net.old.shown.items
         → IsTruthAtStart (root formula.now.nodes) (trace_of header (r ∷ rows)) holds) }

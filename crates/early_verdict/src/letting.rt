@@ -11,7 +11,9 @@ ghost use Rattle.early_verdict.specs.Spans.{AreTidy, IsOn};
 ghost use Rattle.early_verdict.specs.Fitting.{AreSetsTidy, IsFailingTidy, IsHoldingTidy};
 ghost use Rattle.early_verdict.specs.Standing.{AllTidy};
 ghost use Rattle.early_verdict.specs.Living.{IsNarrowed, NetStands};
-ghost use Rattle.early_verdict.specs.Letting.{AreApart, AreAskedBy, AreInside, BeginsAtOnce, IsAskedFirst, IsAskedFrom, IsFirstLeft, ArePartsInside, IsFailingCut, IsFailingInside, IsHoldingCut, IsHoldingInside, IsInside, IsRunCut, IsRunCutAt, IsSettled, IsSettledAt, IsUntil};
+ghost use Rattle.early_verdict.specs.Letting.{AreApart, AreAskedBy, AreInside, BeginsAtOnce, IsAskedFirst, IsAskedFrom};
+ghost use Rattle.early_verdict.specs.Letting.{IsFirstLeft, ArePartsInside, IsFailingCut, IsFailingInside, IsHoldingCut};
+ghost use Rattle.early_verdict.specs.Letting.{IsHoldingInside, IsInside, IsRunCut, IsRunCutAt, IsSettled, IsSettledAt, IsUntil};
 ghost use Rattle.stl_syntax.specs.declared.node.Node.TheVariants.{Since, Until};
 ghost use Rattle.early_verdict.specs.declared.sets.Sets.{Sets as ASets};
 

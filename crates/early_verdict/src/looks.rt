@@ -3,7 +3,8 @@ ghost use Rattle.std.specs.Prelude.{◌≡◌, OnOk, Option, List, Bool, ℕ, tr
 ghost use Rattle.stl_syntax.specs.Trace.{Trace};
 ghost use Rattle.early_verdict.specs.Cuts.{place};
 ghost use Rattle.early_verdict.specs.Steps.{Gains, SeesOnly};
-ghost use Rattle.early_verdict.specs.Fitting.{Lists, lists_of, Says, AreEmpty, IsEmpty, AreSetsTidy, IsTidy, HasStepped, EventuallyFits, AlwaysFits, OnceFits, HistoricallyFits};
+ghost use Rattle.early_verdict.specs.Fitting.{Lists, lists_of, Says, AreEmpty, IsEmpty, AreSetsTidy, IsTidy};
+ghost use Rattle.early_verdict.specs.Fitting.{HasStepped, EventuallyFits, AlwaysFits, OnceFits, HistoricallyFits};
 ghost use Rattle.early_verdict.specs.Happening.{Had, Happens, IsEvent, Was};
 ghost use Rattle.early_verdict.specs.Looking.{IsAhead, IsBehind, WasTold, WasList, SeesOnlyTo};
 ghost use Rattle.early_verdict.specs.declared.stretch.Stretch.{Stretch};
@@ -76,7 +77,8 @@ pub(crate) fn step_eventually(
     requires none { event.now.first ≡ true → AreEmpty own.old }
     ensures stepped { OnOk result (HasStepped own.old own.new) }
     ensures fits { OnOk result ((old : Option Trace) (tr : Trace) (p' : Lists) (a b : ℕ) (a_in b_in : Bool) → IsAhead w.now a b a_in b_in
-        → Happens event.now old tr → Had old tr p' p.now → Was old (λ o. EventuallyFits false o a b a_in b_in p') own.old → EventuallyFits event.now.ended tr a b a_in b_in (lists_of p.now) own.new) }
+        → Happens event.now old tr → Had old tr p' p.now → Was old (λ o. EventuallyFits false o a b a_in b_in p') own.old
+        → EventuallyFits event.now.ended tr a b a_in b_in (lists_of p.now) own.new) }
 {
     own.yes.some_sure(&p.yes, &event.before, &event.sure, w)?;
     each_ahead(&mut own.no, &p.no, event, w)?;
@@ -91,7 +93,8 @@ pub(crate) fn step_always(own: &mut Sets, p: &Sets, w: &Window, event: &Event) -
     requires none { event.now.first ≡ true → AreEmpty own.old }
     ensures stepped { OnOk result (HasStepped own.old own.new) }
     ensures fits { OnOk result ((old : Option Trace) (tr : Trace) (p' : Lists) (a b : ℕ) (a_in b_in : Bool) → IsAhead w.now a b a_in b_in
-        → Happens event.now old tr → Had old tr p' p.now → Was old (λ o. AlwaysFits false o a b a_in b_in p') own.old → AlwaysFits event.now.ended tr a b a_in b_in (lists_of p.now) own.new) }
+        → Happens event.now old tr → Had old tr p' p.now → Was old (λ o. AlwaysFits false o a b a_in b_in p') own.old
+        → AlwaysFits event.now.ended tr a b a_in b_in (lists_of p.now) own.new) }
 {
     own.no.some_sure(&p.no, &event.before, &event.sure, w)?;
     each_ahead(&mut own.yes, &p.yes, event, w)?;
@@ -106,7 +109,8 @@ pub(crate) fn step_once(own: &mut Sets, p: &Sets, w: &Window, event: &Event) -> 
     requires none { event.now.first ≡ true → AreEmpty own.old }
     ensures stepped { OnOk result (HasStepped own.old own.new) }
     ensures fits { OnOk result ((old : Option Trace) (tr : Trace) (p' : Lists) (a : ℕ) (b : Option ℕ) (a_in b_in : Bool) → IsBehind w.now a b a_in b_in
-        → Happens event.now old tr → Had old tr p' p.now → Was old (λ o. OnceFits o a b a_in b_in p') own.old → OnceFits tr a b a_in b_in (lists_of p.now) own.new) }
+        → Happens event.now old tr → Had old tr p' p.now → Was old (λ o. OnceFits o a b a_in b_in p') own.old
+        → OnceFits tr a b a_in b_in (lists_of p.now) own.new) }
 {
     own.yes.some(&p.yes, w)?;
     each_open(&mut own.no, &p.no, event, w)?;
@@ -126,7 +130,8 @@ pub(crate) fn step_historically(
     requires none { event.now.first ≡ true → AreEmpty own.old }
     ensures stepped { OnOk result (HasStepped own.old own.new) }
     ensures fits { OnOk result ((old : Option Trace) (tr : Trace) (p' : Lists) (a : ℕ) (b : Option ℕ) (a_in b_in : Bool) → IsBehind w.now a b a_in b_in
-        → Happens event.now old tr → Had old tr p' p.now → Was old (λ o. HistoricallyFits o a b a_in b_in p') own.old → HistoricallyFits tr a b a_in b_in (lists_of p.now) own.new) }
+        → Happens event.now old tr → Had old tr p' p.now → Was old (λ o. HistoricallyFits o a b a_in b_in p') own.old
+        → HistoricallyFits tr a b a_in b_in (lists_of p.now) own.new) }
 {
     own.no.some(&p.no, w)?;
     each_open(&mut own.yes, &p.yes, event, w)?;

@@ -1,7 +1,10 @@
 //! One event over the sets of until and since.
 ghost use Rattle.std.specs.Prelude.{◌≡◌, OnOk, Option, Some, ℕ, true, false, MatchOption, IsSome};
 ghost use Rattle.stl_syntax.specs.Trace.{Trace};
-ghost use Rattle.early_verdict.specs.Fitting.{Lists, lists_of, AreEmpty, AreSetsTidy, IsHoldingTidy, IsFailingTidy, IsHoldingEmpty, IsFailingEmpty, GainsHolding, GainsFailing, HasFailBounds, HasStepped, KeepsHolding, KeepsFailing, UntilHolding, UntilFailing, SinceHolding, SinceFailing, UntilFits, SinceFits};
+ghost use Rattle.early_verdict.specs.Fitting.{Lists, lists_of, AreEmpty, AreSetsTidy, IsHoldingTidy, IsFailingTidy};
+ghost use Rattle.early_verdict.specs.Fitting.{IsHoldingEmpty, IsFailingEmpty, GainsHolding, GainsFailing};
+ghost use Rattle.early_verdict.specs.Fitting.{HasFailBounds, HasStepped, KeepsHolding, KeepsFailing, UntilHolding};
+ghost use Rattle.early_verdict.specs.Fitting.{UntilFailing, SinceHolding, SinceFailing, UntilFits, SinceFits};
 ghost use Rattle.early_verdict.specs.Happening.{Had, Happens, IsEvent, Was};
 ghost use Rattle.early_verdict.specs.Looking.{IsAhead, IsBehind};
 
@@ -91,7 +94,8 @@ fn since_holds(
     ensures tidy { OnOk result (IsHoldingTidy own.new) }
     ensures bounds { OnOk result (KeepsHolding own.old own.new) }
     ensures gains { OnOk result (GainsHolding own.old own.new) }
-    ensures fits { OnOk result ((old : Option Trace) (tr : Trace) (p' q' : Lists) (a : ℕ) (b : Option ℕ) → IsBehind w.now a b true true → IsBehind down_to.now 0 (Some a) true true
+    ensures fits { OnOk result ((old : Option Trace) (tr : Trace) (p' q' : Lists) (a : ℕ) (b : Option ℕ)
+        → IsBehind w.now a b true true → IsBehind down_to.now 0 (Some a) true true
         → Happens event.now old tr → Had old tr p' p.now → Had old tr q' q.now
         → MatchOption old (IsHoldingEmpty own.old) (λ o. SinceHolding o a b p' q' own.old)
         → SinceHolding tr a b (lists_of p.now) (lists_of q.now) own.new) }
@@ -121,7 +125,8 @@ fn since_fails(
     ensures tidy { OnOk result (IsFailingTidy own.new) }
     ensures bounds { OnOk result (KeepsFailing own.old own.new) }
     ensures gains { OnOk result (GainsFailing own.old own.new) }
-    ensures fits { OnOk result ((old : Option Trace) (tr : Trace) (p' q' : Lists) (a : ℕ) (b : Option ℕ) → IsBehind w.now a b true true → IsBehind down_to.now 0 (Some a) true true
+    ensures fits { OnOk result ((old : Option Trace) (tr : Trace) (p' q' : Lists) (a : ℕ) (b : Option ℕ)
+        → IsBehind w.now a b true true → IsBehind down_to.now 0 (Some a) true true
         → Happens event.now old tr → Had old tr p' p.now → Had old tr q' q.now
         → own.old.fail.bounds ≡ p.now.no.bounds → own.old.stop.bounds ≡ p.now.no.bounds
         → MatchOption old (IsFailingEmpty own.old) (λ o. SinceFailing o a b p' q' own.old)
@@ -151,7 +156,8 @@ pub(crate) fn step_until(
     ensures stepped { OnOk result (HasStepped own.old own.new) }
     ensures fits { OnOk result ((old : Option Trace) (tr : Trace) (p' q' : Lists) (a b : ℕ) → IsAhead w.now a b true true → IsAhead up_to.now 0 a true true
         → Happens event.now old tr → Had old tr p' p.now → Had old tr q' q.now → HasFailBounds own.old p.now
-        → IsSome own.old.parts → Was old (λ o. UntilFits false o a b p' q') own.old → UntilFits event.now.ended tr a b (lists_of p.now) (lists_of q.now) own.new) }
+        → IsSome own.old.parts → Was old (λ o. UntilFits false o a b p' q') own.old
+        → UntilFits event.now.ended tr a b (lists_of p.now) (lists_of q.now) own.new) }
 {
     let Some(parts) = &mut own.parts else {
         own.yes.rest();
@@ -180,7 +186,8 @@ pub(crate) fn step_since(
     requires event { IsEvent event.now }
     requires none { event.now.first ≡ true → AreEmpty own.old }
     ensures stepped { OnOk result (HasStepped own.old own.new) }
-    ensures fits { OnOk result ((old : Option Trace) (tr : Trace) (p' q' : Lists) (a : ℕ) (b : Option ℕ) → IsBehind w.now a b true true → IsBehind down_to.now 0 (Some a) true true
+    ensures fits { OnOk result ((old : Option Trace) (tr : Trace) (p' q' : Lists) (a : ℕ) (b : Option ℕ)
+        → IsBehind w.now a b true true → IsBehind down_to.now 0 (Some a) true true
         → Happens event.now old tr → Had old tr p' p.now → Had old tr q' q.now → HasFailBounds own.old p.now
         → IsSome own.old.parts → Was old (λ o. SinceFits o a b p' q') own.old → SinceFits tr a b (lists_of p.now) (lists_of q.now) own.new) }
 {

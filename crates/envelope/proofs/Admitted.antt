@@ -12,7 +12,9 @@ use Rattle.envelope.specs.declared.walk.Item.{Item}
 use Rattle.envelope.specs.declared.walk.Slope.{Slope}
 use Rattle.envelope.specs.Turns.{HasCome, IsToCome, IsNoBetter, none_of}
 use Rattle.envelope.specs.Course.{Turns}
-use Rattle.envelope.specs.Standing.{Part, Counts, IsOneOf, IsBestOf, IsNone, IsFalling, IsBelow, AllBelow, IsFollowed, EachToCome, AllWorse, FirstStays, FirstHasCome, NothingLeaves, SomethingLeaves, Gives, GivesSlope, IsWorthless, Keeps, More, Stands, piece_of, pieces_with}
+use Rattle.envelope.specs.Standing.{Part, Counts, IsOneOf, IsBestOf, IsNone, IsFalling, IsBelow, AllBelow, IsFollowed}
+use Rattle.envelope.specs.Standing.{EachToCome, AllWorse, FirstStays, FirstHasCome, NothingLeaves, SomethingLeaves}
+use Rattle.envelope.specs.Standing.{Gives, GivesSlope, IsWorthless, Keeps, More, Stands, piece_of, pieces_with}
 use Rattle.envelope.proofs.TurnOrder.{at_of_come, come_or_not, not_both}
 use Rattle.envelope.proofs.Rows.{snoc_empty}
 use Rattle.envelope.proofs.Admitting.{keeps_with, keeps_without, more_with, worthless_piece}

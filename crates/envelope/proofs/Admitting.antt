@@ -11,7 +11,9 @@ use Rattle.envelope.specs.declared.turns.Turn.{Turn}
 use Rattle.envelope.specs.declared.walk.Item.{Item}
 use Rattle.envelope.specs.declared.walk.Slope.{Slope}
 use Rattle.envelope.specs.Turns.{HasCome, IsToCome, IsNoBetter, none_of}
-use Rattle.envelope.specs.Standing.{Part, Counts, IsOneOf, IsPieceOn, IsTop, Gives, GivesSlope, SomeGives, Promises, SlopeEndsBy, IsFalling, IsBelow, AllBelow, AreStairs, IsSlopeBacked, AreBacked, IsWorthless, Keeps, AllWorse, EachFollowed, EachToCome, More, piece_of, pieces_with}
+use Rattle.envelope.specs.Standing.{Part, Counts, IsOneOf, IsPieceOn, IsTop, Gives, GivesSlope, SomeGives, Promises}
+use Rattle.envelope.specs.Standing.{SlopeEndsBy, IsFalling, IsBelow, AllBelow, AreStairs, IsSlopeBacked, AreBacked}
+use Rattle.envelope.specs.Standing.{IsWorthless, Keeps, AllWorse, EachFollowed, EachToCome, More, piece_of, pieces_with}
 use Rattle.envelope.proofs.Bests.{no_better_refl, no_better_trans}
 use Rattle.envelope.proofs.TurnOrder.{at_of_come, to_come_first}
 

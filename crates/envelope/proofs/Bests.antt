@@ -52,8 +52,11 @@ same_of_both Least v w h k = record { at_most = k; at_least = h }
 
 -- the better of two values in terms of the order
 pub record IsBetter (side : Side) (x y v : Extended) : Type 0 where
+  -- the first is no better
   pub left : IsNoBetter side x v
+  -- nor is the second
   pub right : IsNoBetter side y v
+  -- and one of them is no worse
   pub one_of : IsNoBetter side v x ⊎ IsNoBetter side v y
 
 -- what is chosen of two values is the better of them

@@ -4,7 +4,8 @@ use Rattle.rational.specs.Rational.{IsWithin}
 use Rattle.rational.specs.Time.{Rational, ◌<ʳ◌, ◌≈◌}
 use Rattle.rational.specs.Extended.{Extended, value_at, Passes}
 use Rattle.rational.specs.Affine.{AreSame}
-use Rattle.rational.proofs.Order.{le_refl, le_of_lt, le_of_same, ge_of_same, lt_of_lt_of_le, lt_of_le_of_lt, lt_trans, lt_or_same_or_gt, same_refl, same_sym, same_trans}
+use Rattle.rational.proofs.Order.{le_refl, le_of_lt, le_of_same, ge_of_same, lt_of_lt_of_le, lt_of_le_of_lt}
+use Rattle.rational.proofs.Order.{lt_trans, lt_or_same_or_gt, same_refl, same_sym, same_trans}
 use Rattle.rational.proofs.AffineLemmas.{same_symᵉ, same_transᵉ, value_same}
 use Rattle.frac128.specs.Value.{value}
 use Rattle.frac128.specs.declared.frac.Frac.{Frac}
@@ -18,7 +19,8 @@ use Rattle.envelope.specs.declared.turns.Turn.{Turn}
 use Rattle.envelope.specs.declared.course.Course.{Course}
 use Rattle.envelope.specs.Turns.{HasCome, IsToCome, IsNoBetter}
 use Rattle.envelope.specs.Best.{Has, IsBestAt, IsWritten}
-use Rattle.envelope.specs.Course.{EndsBefore, Ends, HasPart, HaveLevels, IsAlone, IsReady, IsSettled, IsSettledShape, IsTold, same_knot, same_best, new_knot, Settles, Turns, first_time}
+use Rattle.envelope.specs.Course.{EndsBefore, Ends, HasPart, HaveLevels, IsAlone, IsReady, IsSettled, IsSettledShape}
+use Rattle.envelope.specs.Course.{IsTold, same_knot, same_best, new_knot, Settles, Turns, first_time}
 use Rattle.envelope.proofs.Bests.{best_same, no_better_same, no_better_back, no_better_trans}
 
 module _ {P : Type 0} (shape : ShapeOf P) where

@@ -1,5 +1,6 @@
 -- What is passed leaves at its turn.
-use Rattle.std.proofs.Common.{◌≡◌, ℕ, ◌+◌, ◌<◌, ◌≤◌, Bool, true, false, Option, None, Some, Result, Ok, Err, List, [], ◌∷◌, length, refl, sym, ap, ◌∙◌, subst, arith}
+use Rattle.std.proofs.Common.{◌≡◌, ℕ, ◌+◌, ◌<◌, ◌≤◌, Bool, true, false, Option, None, Some, Result}
+use Rattle.std.proofs.Common.{Ok, Err, List, [], ◌∷◌, length, refl, sym, ap, ◌∙◌, subst, arith}
 use Rattle.std.specs.Prelude.{MatchOption, OnOk, is_some, slice_index_or}
 use Rattle.std.proofs.lemmas.Bool.{false≢true}
 use Rattle.rational.specs.Time.{Rational, ◌≤ʳ◌}
@@ -15,7 +16,9 @@ use Rattle.envelope.specs.Turns.{HasCome, IsToCome}
 use Rattle.envelope.specs.Course.{first_time}
 use Rattle.envelope.proofs.TurnOrder.{at_most_of_come}
 use Rattle.envelope.proofs.Sliding.{backed_later, piece_later, stairs_later}
-use Rattle.envelope.specs.Standing.{Part, FirstStays, FirstHasCome, NothingLeaves, SomethingLeaves, Stands, CanGoOn, IsPassed, Passes, GoesTo, Leaves, IsFollowed, SlopeEndsBy, leaving_by, low_turns, turns_left, slope_shape, slope_until}
+use Rattle.envelope.specs.Standing.{Part, FirstStays, FirstHasCome, NothingLeaves, SomethingLeaves, Stands}
+use Rattle.envelope.specs.Standing.{CanGoOn, IsPassed, Passes, GoesTo, Leaves, IsFollowed, SlopeEndsBy}
+use Rattle.envelope.specs.Standing.{leaving_by, low_turns, turns_left, slope_shape, slope_until}
 
 low_turns_few : {P : Type 0} (o : Option P) → low_turns o ≤ 1
 low_turns_few None = omega arith
@@ -187,7 +190,8 @@ module _ {P : Type 0} (shape : ShapeOf P) (turn : Turn) where
   -- at the beginning nothing has gone
   pub goes_none : (old : Course P) (low_until : Turn) (items : List (Item P)) → CanGoOn shape old low_until items
       → value old.at ≤ʳ value turn.at → GoesTo shape turn old low_until items old low_until items
-  goes_none old low_until items can at = record { can = can; side = refl; first = refl; at = at; followed = λ item f. f; stands = λ parts pos to come s. (pos, come, s) }
+  goes_none old low_until items can at =
+      record { can = can; side = refl; first = refl; at = at; followed = λ item f. f; stands = λ parts pos to come s. (pos, come, s) }
 
   -- one more that leaves no later than the turn
   pub goes_on : (old mid new : Course P) (low_until low_mid low_new : Turn) (items items_mid items_new : List (Item P))

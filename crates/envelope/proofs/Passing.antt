@@ -13,7 +13,8 @@ use Rattle.envelope.specs.declared.walk.Item.{Item}
 use Rattle.envelope.specs.Turns.{HasCome, IsToCome, IsNoBetter, none_of}
 use Rattle.envelope.specs.Best.{Has, IsBestAt}
 use Rattle.envelope.specs.Course.{HasPart, IsAlone, IsSettledTo, IsTold, Turns, Moves, same_knot, same_best, new_knot, first_time}
-use Rattle.envelope.specs.Standing.{Part, Counts, Changes, More, IsOneOf, IsPieceOn, IsBestOf, IsNone, FirstHasCome, NothingLeaves, SomethingLeaves, Keeps, IsCarried, Stands}
+use Rattle.envelope.specs.Standing.{Part, Counts, Changes, More, IsOneOf, IsPieceOn, IsBestOf, IsNone}
+use Rattle.envelope.specs.Standing.{FirstHasCome, NothingLeaves, SomethingLeaves, Keeps, IsCarried, Stands}
 use Rattle.envelope.proofs.TurnOrder.{not_both}
 use Rattle.envelope.proofs.Standings.{carried, carried_less, now_is_best, settled_once}
 

@@ -17,7 +17,9 @@ use Rattle.envelope.specs.declared.walk.Item.{Item}
 use Rattle.envelope.specs.declared.walk.Slope.{Slope}
 use Rattle.envelope.specs.Turns.{HasCome, IsToCome, IsNoBetter, none_of}
 use Rattle.envelope.specs.Course.{HaveLevels, Turns}
-use Rattle.envelope.specs.Standing.{Part, IsOneOf, IsPieceOn, IsEndingPieceOn, IsTop, GivesSlope, Promises, FirstHasCome, SomethingLeaves, AllFollow, SlopeEndsBy, IsNext, IsSlope, AreItems, CanGoOn, IsFalling, AllBelow, AreStairs, IsSlopeBacked, AreBacked, Keeps, slope_shape, slope_until}
+use Rattle.envelope.specs.Standing.{Part, IsOneOf, IsPieceOn, IsEndingPieceOn, IsTop, GivesSlope, Promises, FirstHasCome}
+use Rattle.envelope.specs.Standing.{SomethingLeaves, AllFollow, SlopeEndsBy, IsNext, IsSlope, AreItems, CanGoOn, IsFalling}
+use Rattle.envelope.specs.Standing.{AllBelow, AreStairs, IsSlopeBacked, AreBacked, Keeps, slope_shape, slope_until}
 use Rattle.envelope.proofs.TurnOrder.{at_most_of_come, not_both}
 
 -- the first of a row of items is the top

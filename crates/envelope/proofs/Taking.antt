@@ -11,7 +11,8 @@ use Rattle.envelope.specs.declared.course.Course.{Course}
 use Rattle.envelope.specs.declared.walk.Item.{Item}
 use Rattle.envelope.specs.Turns.{IsToCome, IsNoBetter}
 use Rattle.envelope.specs.Course.{Turns}
-use Rattle.envelope.specs.Standing.{FirstStays, Follows, AllFollow, EachFollowed, EachToCome, IsFollowed, AreItems, IsFalling, AllWorse, IsNewItem, IsWorthless, RisesTo, Leaves, Admits, Stands, pieces_with}
+use Rattle.envelope.specs.Standing.{FirstStays, Follows, AllFollow, EachFollowed, EachToCome, IsFollowed, AreItems, IsFalling}
+use Rattle.envelope.specs.Standing.{AllWorse, IsNewItem, IsWorthless, RisesTo, Leaves, Admits, Stands, pieces_with}
 use Rattle.envelope.proofs.TurnOrder.{to_come_first}
 use Rattle.envelope.proofs.Standings.{first_stays, low_stays}
 use Rattle.envelope.proofs.Admitted.{admitted_first, admitted_behind, admitted_worthless}

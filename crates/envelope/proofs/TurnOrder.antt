@@ -3,7 +3,8 @@ use Rattle.std.proofs.Common.{◌≡◌, ◌⊎◌, inl, inr, Bool, true, false,
 use Rattle.std.proofs.lemmas.Bool.{false≢true}
 use Rattle.rational.specs.Rational.{middle}
 use Rattle.rational.specs.Time.{Rational, ◌≤ʳ◌, ◌<ʳ◌, ◌≈◌}
-use Rattle.rational.proofs.Order.{le_or_lt, le_of_lt, lt_or_same_or_gt, lt_trans, lt_of_lt_of_le, lt_of_le_of_lt, le_of_same, ge_of_same, not_lt_of_le, same_trans, same_of_le, left_of_middle, right_of_middle}
+use Rattle.rational.proofs.Order.{le_or_lt, le_of_lt, lt_or_same_or_gt, lt_trans, lt_of_lt_of_le, lt_of_le_of_lt, le_of_same}
+use Rattle.rational.proofs.Order.{ge_of_same, not_lt_of_le, same_trans, same_of_le, left_of_middle, right_of_middle}
 use Rattle.frac128.specs.Value.{value}
 use Rattle.envelope.specs.declared.turns.Turn.{Turn}
 use Rattle.envelope.specs.Turns.{HasCome, IsToCome}

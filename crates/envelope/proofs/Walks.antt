@@ -26,8 +26,12 @@ use Rattle.envelope.specs.declared.walk.Walk.{Walk}
 use Rattle.envelope.specs.Turns.{HasCome, IsToCome, IsNoBetter, none_of}
 use Rattle.envelope.specs.Best.{Has, IsBestAt}
 use Rattle.envelope.specs.Course.{EndsBefore, HasPart, HaveLevels, IsAlone, IsSettled, IsSettledShape, IsSettledTo, IsTold, Turns, first_time}
-use Rattle.envelope.specs.Standing.{Part, Counts, IsOneOf, IsBestOf, IsNone, IsItem, IsSlope, AreItems, CanGoOn, EachFollowed, EachToCome, Follows, IsFollowed, IsFalling, IsNewItem, Admits, Leaves, NothingLeaves, SlopeEndsBy, Stands, piece_of, pieces_with, slope_until}
-use Rattle.envelope.specs.Walking.{CanTake, Climbed, EachEnds, EachLeavesBy, EndsWalk, Finishes, IsCrossingOn, IsEnvelope, IsPiecesFault, IsRefusal, IsRefusedFor, IsStoppedBy, LeavesBy, StopsAt, Took, TurnsHigh, Walks, climbed_until, climbing, last_turn}
+use Rattle.envelope.specs.Standing.{Part, Counts, IsOneOf, IsBestOf, IsNone, IsItem, IsSlope, AreItems, CanGoOn}
+use Rattle.envelope.specs.Standing.{EachFollowed, EachToCome, Follows, IsFollowed, IsFalling, IsNewItem, Admits}
+use Rattle.envelope.specs.Standing.{Leaves, NothingLeaves, SlopeEndsBy, Stands, piece_of, pieces_with, slope_until}
+use Rattle.envelope.specs.Walking.{CanTake, Climbed, EachEnds, EachLeavesBy, EndsWalk, Finishes, IsCrossingOn}
+use Rattle.envelope.specs.Walking.{IsEnvelope, IsPiecesFault, IsRefusal, IsRefusedFor, IsStoppedBy, LeavesBy}
+use Rattle.envelope.specs.Walking.{StopsAt, Took, TurnsHigh, Walks, climbed_until, climbing, last_turn}
 use Rattle.envelope.proofs.TurnOrder.{at_most_of_come}
 use Rattle.envelope.proofs.Bests.{no_better_back, no_better_refl, no_better_same, no_better_trans, same_of_both}
 use Rattle.envelope.proofs.Standings.{first_stays, low_stays, none_below}
@@ -46,6 +50,7 @@ module _ {P : Type 0} where
   each_leaves [] item h = tt
   each_leaves (x ∷ items) item h = (h.0.until, h.0.slope, each_leaves items item h.1)
 
+  -- an item that may join the queue keeps to the order in which items leave
   pub followed_of : (walk : Walk P) (item : Item P) → LeavesBy walk item.until → IsFollowed walk.course.after.low walk.low_until walk.queue.items item
   followed_of walk item h = record { gap = h.gap; each = each_followed walk.queue.items item h.each }
 
@@ -375,6 +380,7 @@ pub if_ok : {T E : Type 0} (r : Result T E) (A B : T → Type 0) → ((x : T) �
 if_ok (Ok x) A B f a = f x a
 if_ok (Err e) A B f a = tt
 
+-- what follows for each refusal follows for the one that came
 pub if_err : {T E : Type 0} (r : Result T E) (A B : E → Type 0) → ((x : E) → A x → B x) → IfErr r A → IfErr r B
 if_err (Ok x) A B f a = tt
 if_err (Err e) A B f a = f e a

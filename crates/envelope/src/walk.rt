@@ -6,9 +6,11 @@ ghost use Rattle.rational.specs.Time.{Rational, ◌≤ʳ◌};
 ghost use Rattle.frac128.specs.Value.{value as value_of};
 ghost use Rattle.rational.specs.Affine.{HasBoundedLevel};
 ghost use Rattle.envelope.specs.Course.{IsCourseFault, IsReady, first_time};
-ghost use Rattle.envelope.specs.Standing.{Admits, CanGoOn, IsDropped, IsFollowed, IsNewItem, IsPassed, RisesTo, IsTop, IsWorthless, Leaves, Passes, leaving_by, slope_shape, slope_until};
+ghost use Rattle.envelope.specs.Standing.{Admits, CanGoOn, IsDropped, IsFollowed, IsNewItem, IsPassed, RisesTo};
+ghost use Rattle.envelope.specs.Standing.{IsTop, IsWorthless, Leaves, Passes, leaving_by, slope_shape, slope_until};
 ghost use Rattle.envelope.specs.Turns.{HasCome};
-ghost use Rattle.envelope.specs.Walking.{CanTake, Climbed, EndsWalk, FinishStops, Finishes, HasLevel, IsRefusal, IsStoppedBy, LeavesBy, StopsAt, Took, TurnsHigh, Walks, climbed_until};
+ghost use Rattle.envelope.specs.Walking.{CanTake, Climbed, EndsWalk, FinishStops, Finishes, HasLevel, IsRefusal};
+ghost use Rattle.envelope.specs.Walking.{IsStoppedBy, LeavesBy, StopsAt, Took, TurnsHigh, Walks, climbed_until};
 ghost use Rattle.envelope.specs.declared.turns.Turn.{Turn};
 ghost use Rattle.pl_signal.specs.declared.faults.OpFault.TheVariants as F;
 
@@ -183,7 +185,8 @@ impl<P: Shape> Walk<P> {
         requires within { IsWithin (2 ^ 34) (value_of from.now.at) }
         requires new { IsNewItem P.Shape from.now item.now }
         requires followed { IsFollowed self.old.course.after.low self.old.low_until self.old.queue.items item.now }
-        ensures ok { OnOk result (Admits P.Shape from.now item.now self.old.course self.old.low_until self.old.queue.items self.new.course self.new.low_until self.new.queue.items) }
+        ensures ok { OnOk result (Admits P.Shape from.now item.now self.old.course self.old.low_until self.old.queue.items
+            self.new.course self.new.low_until self.new.queue.items) }
         ensures fault { OnErr result (IsStoppedBy P.Shape from.now self.old self.new.course.fault) }
     {
         self.leave(from)?;
@@ -228,7 +231,8 @@ impl<P: Shape> Walk<P> {
     fn leave(&mut self, turn: &Turn) -> Result<(), Memory>
         requires can { CanGoOn P.Shape self.old.course self.old.low_until self.old.queue.items }
         requires order { value_of self.old.course.at ≤ʳ value_of turn.now.at }
-        ensures ok { OnOk result (Leaves P.Shape turn.now self.old.course self.old.low_until self.old.queue.items self.new.course self.new.low_until self.new.queue.items) }
+        ensures ok { OnOk result (Leaves P.Shape turn.now self.old.course self.old.low_until self.old.queue.items self.new.course
+            self.new.low_until self.new.queue.items) }
         ensures fault { OnErr result (IsStoppedBy P.Shape turn.now self.old self.new.course.fault) }
     {
         while let Some(next) = self.next_turn() {
@@ -258,7 +262,8 @@ impl<P: Shape> Walk<P> {
     fn pass(&mut self) -> Result<(), Memory>
         requires some { IsSome (leaving_by self.old.course.after.low self.old.low_until self.old.queue.items) }
         requires can { CanGoOn P.Shape self.old.course self.old.low_until self.old.queue.items }
-        ensures ok { OnOk result (Passes P.Shape self.old.course self.old.low_until self.old.queue.items self.new.course self.new.low_until self.new.queue.items) }
+        ensures ok { OnOk result
+            (Passes P.Shape self.old.course self.old.low_until self.old.queue.items self.new.course self.new.low_until self.new.queue.items) }
         ensures fault { OnErr result (IfSome self.new.course.fault (IsCourseFault P.Shape self.old.course)) }
     {
         if self.course.after.low.is_some() {
@@ -275,7 +280,8 @@ impl<P: Shape> Walk<P> {
         requires low { IsSome self.old.course.after.low }
         requires can { CanGoOn P.Shape self.old.course self.old.low_until self.old.queue.items }
         ensures can { OnOk result (CanGoOn P.Shape self.new.course self.new.low_until self.new.queue.items) }
-        ensures passed { OnOk result (IsPassed P.Shape self.old.low_until self.old.course self.old.low_until self.old.queue.items self.new.course self.new.low_until self.new.queue.items) }
+        ensures passed { OnOk result (IsPassed P.Shape self.old.low_until self.old.course self.old.low_until self.old.queue.items
+            self.new.course self.new.low_until self.new.queue.items) }
         ensures side { OnOk result (self.new.course.side ≡ self.old.course.side) }
         ensures begins { OnOk result (first_time self.new.course self.new.course.built ≡ first_time self.old.course self.old.course.built) }
         ensures at { OnOk result (value_of self.new.course.at ≤ʳ value_of self.old.low_until.at) }
@@ -297,7 +303,8 @@ impl<P: Shape> Walk<P> {
         requires low { self.old.course.after.low ≡ None }
         requires can { CanGoOn P.Shape self.old.course self.old.low_until (first.now ∷ self.old.queue.items) }
         ensures can { OnOk result (CanGoOn P.Shape self.new.course self.new.low_until self.new.queue.items) }
-        ensures passed { OnOk result (IsPassed P.Shape first.now.until self.old.course self.old.low_until (first.now ∷ self.old.queue.items) self.new.course self.new.low_until self.new.queue.items) }
+        ensures passed { OnOk result (IsPassed P.Shape first.now.until self.old.course self.old.low_until
+            (first.now ∷ self.old.queue.items) self.new.course self.new.low_until self.new.queue.items) }
         ensures side { OnOk result (self.new.course.side ≡ self.old.course.side) }
         ensures begins { OnOk result (first_time self.new.course self.new.course.built ≡ first_time self.old.course self.old.course.built) }
         ensures at { OnOk result (value_of self.new.course.at ≤ʳ value_of first.now.until.at) }

@@ -21,8 +21,10 @@ use Rattle.frac128.proofs.Making.{not_wide}
 at_base : (t0 v0 rise : ℤ) (run k : ℕ) (p : 0 < run) (q : 0 < k) → at (ramp_line t0 v0 rise run p) (mixed t0 0 k q) ≈ whole v0
 at_base t0 v0 rise run k p q = record { same = omega arith }
 
-at_end : (t0 v0 rise w v : ℤ) (run k : ℕ) (p : 0 < run) (q : 0 < k) → w ≡ t0 +ℤ pos run → v ≡ v0 +ℤ rise → at (ramp_line t0 v0 rise run p) (mixed w 0 k q) ≈ whole v
-at_end t0 v0 rise w v run k p q h j = record { same = omega (arith, ap (λ n. part_above rise * k * n) time, ap (λ n. part_below rise * k * n) time, ap (λ n. run * k * n) height) }
+at_end : (t0 v0 rise w v : ℤ) (run k : ℕ) (p : 0 < run) (q : 0 < k) → w ≡ t0 +ℤ pos run → v ≡ v0 +ℤ rise
+    → at (ramp_line t0 v0 rise run p) (mixed w 0 k q) ≈ whole v
+at_end t0 v0 rise w v run k p q h j =
+    record { same = omega (arith, ap (λ n. part_above rise * k * n) time, ap (λ n. part_below rise * k * n) time, ap (λ n. run * k * n) height) }
   where
     time : part_above w + part_below t0 ≡ part_below w + part_above t0 + run
     time = omega (arith, parts)

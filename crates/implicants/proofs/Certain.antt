@@ -92,6 +92,7 @@ cut_within nodes tr i t o (last n e) = record { above = le_trans o (ge_of_same e
 cut_within nodes tr i t o (change n e) = e.inside
 cut_within nodes tr i t o (moved n k g c s d e w) = w
 
+-- each listed time is a cut time
 pub cut_at : (nodes : List Node) (tr : Trace) (i : ℕ) (times : List Rational) (k : ℕ) (t : Rational) → AreAllCut nodes tr i times
     → slice_get times k ≡ Some t → IsCut nodes tr i t
 cut_at nodes tr i [] zero t h s = absurd cc
@@ -99,6 +100,7 @@ cut_at nodes tr i [] (suc k) t h s = absurd cc
 cut_at nodes tr i (u ∷ times) zero t h s = let same : u ≡ t = cc in subst (IsCut nodes tr i) same h.0
 cut_at nodes tr i (u ∷ times) (suc k) t h s = cut_at nodes tr i times k t h.1 s
 
+-- the first of rising times is the least
 pub rising_first : (u : Rational) (times : List Rational) (t : Rational) → AreRisingTimes (u ∷ times) → IsAmong (u ∷ times) t → u ≤ʳ t
 rising_first u times t r (inl e) = ge_of_same e
 rising_first u [] t r (inr m) = absurd m
@@ -115,6 +117,7 @@ rising_last (v ∷ w ∷ times) (suc k) u t r s n (inl e) = le_trans (le_of_same
     (le_trans (le_of_lt r.0) (rising_last (w ∷ times) k u w r.1 s (omega (arith, n)) (inl (same_refl w))))
 rising_last (v ∷ w ∷ times) (suc k) u t r s n (inr m) = rising_last (w ∷ times) k u t r.1 s (omega (arith, n)) m
 
+-- the start of the trace is a cut time of each node
 pub start_cut : (nodes : List Node) (tr : Trace) (i : ℕ) → i < length nodes → IsCut nodes tr i (start tr)
 start_cut nodes tr i l = by_place (suc_cases (suc i) (length nodes) (omega (arith, l)))
   where
@@ -125,6 +128,7 @@ start_cut nodes tr i l = by_place (suc_cases (suc i) (length nodes) (omega (arit
     by_place (inl e) = root_start e (same_refl (start tr))
     by_place (inr e) = first e (same_refl (start tr))
 
+-- the first cut time of a node is the start of the trace
 pub first_cut : (nodes : List Node) (tr : Trace) (i : ℕ) (times : List Rational) → i < length nodes → start tr ≤ʳ stop tr → AreCuts nodes tr i times
     → (t : Rational) × (slice_get times 0 ≡ Some t) × (t ≈ start tr)
 first_cut nodes tr i [] l o cuts = absurd (cuts.complete (start tr) (start_cut nodes tr i l))
@@ -146,6 +150,7 @@ module _ (nodes : List Node) (tr : Trace) (items : List Item) (left : ℕ) (mark
     below = precedes_to (interval e.on).to_in c.end.time c.end.inside (le_of_same h);
   }
 
+  -- the cell of a gap holds each time between its ends
   pub in_gap_cell : (e : Item) (t u x : Rational) → IsCellOn nodes tr i (gap t u) e → t <ʳ x → x <ʳ u → IsIn (interval e.on) x
   in_gap_cell e t u x c h k = record {
     above = precedes_off (interval e.on).from_in c.begin.time c.begin.inside h;
@@ -158,6 +163,7 @@ module _ (nodes : List Node) (tr : Trace) (items : List Item) (left : ℕ) (mark
       (subst (λ n. slice_get (run.front ++ (run.here ++ run.back)) (n + c) ≡ Some e) run.begin
       (get_right run.front (run.here ++ run.back) c ∙ get_left run.here run.back c e s))
 
+  -- an item of the node at place i stands in its run
   pub in_run : (run : IsRun nodes tr items i from to) (c : ℕ) (e : Item) (t : Rational) → slice_get items c ≡ Some e → IsOver i t e
       → (k : ℕ) × (c ≡ from + k) × (slice_get run.here k ≡ Some e)
   in_run run c e t s over = by_part (get_cases run.front (run.here ++ run.back) c e (subst (λ xs. slice_get xs c ≡ Some e) run.all s))
@@ -222,14 +228,23 @@ module _ (nodes : List Node) (tr : Trace) (items : List Item) (left : ℕ) (mark
 
   -- the signal so far: up to the cut time at place k of the run, whose cell stands before place c
   pub record IsGrown (c : ℕ) (s : List (Knot Kleene)) : Type 0 where
+    -- the cells of the node, one after the other
     pub run : IsRun nodes tr items i from to
+    -- which cut time the signal has come to
     pub k : ℕ
+    -- that time
     pub t : Rational
+    -- its cell stands just before place c
     pub at : c ≡ from + suc (k + k)
+    -- it is one of the cut times
     pub cut : slice_get run.times k ≡ Some t
+    -- the signal is well formed
     pub signal : IsSignal kleene_shape s
+    -- it begins at the start of the trace
     pub begins : knots.start s ≈ start tr
+    -- and ends at that cut time
     pub ends : knots.stop s ≈ t
+    -- at each time it is worth what the cells that are left make certain
     pub worth : (a : Atom) → subformula nodes i ≡ atom i a → (u : Rational) (v : Extended) → IsWorth kleene_shape s u v
         → Gives (certainties tr left_over) i a u v
 
@@ -255,6 +270,7 @@ module _ (nodes : List Node) (tr : Trace) (items : List Item) (left : ℕ) (mark
       (run.here ++ run.back) ∙ ap (λ n. length run.front + n) (length-append run.here run.back) in
       (omega (arith, two, some, end), omega (arith, all, end, begin))
 
+  -- a signal of one knot, made of the first cell, is such
   pub grown_first : (run : IsRun nodes tr items i from to) (s : List (Knot Kleene)) (at : Frac) (p : Kleene) (f : Item) → i < length nodes → start tr ≤ʳ stop tr
       → f ≡ get_or items from f → at ≡ f.on.from → ((e : Item) → slice_get items from ≡ Some e → p.known ≡ known_at (stays left marks from) e)
       → s ≡ record { time = at; point = p; after = p } ∷ [] → IsSignal kleene_shape s → IsGrown (from + 1) s
@@ -309,16 +325,26 @@ module _ (nodes : List Node) (tr : Trace) (items : List Item) (left : ℕ) (mark
 
   -- the gap behind the last cut time of the signal so far, and the next cut time
   pub record IsNext (c : ℕ) (s : List (Knot Kleene)) (g : IsGrown c s) : Type 0 where
+    -- the next cut time
     pub u : Rational
+    -- it stands behind the last one
     pub cut : slice_get g.run.times (suc g.k) ≡ Some u
+    -- and is later
     pub rises : g.t <ʳ u
+    -- the cell of the gap between them
     pub gap_cell : Item
+    -- it stands in the run at its odd place
     pub gap_here : slice_get g.run.here (suc (g.k + g.k)) ≡ Some gap_cell
+    -- and is the cell of that gap
     pub gap_is : IsCellOn nodes tr i (gap g.t u) gap_cell
+    -- the cell of the next cut time
     pub point_cell : Item
+    -- it stands in the run at its even place
     pub point_here : slice_get g.run.here (suc g.k + suc g.k) ≡ Some point_cell
+    -- and is the cell of that time
     pub point_is : IsCellOn nodes tr i (closed u u) point_cell
 
+  -- where the run goes on there is a next cut time
   pub next_of : (c : ℕ) (s : List (Knot Kleene)) (g : IsGrown c s) → i < length nodes → c + 1 < to → IsNext c s g
   next_of c s g l m = record {
     u = u;
@@ -359,10 +385,12 @@ module _ (nodes : List Node) (tr : Trace) (items : List Item) (left : ℕ) (mark
       let same = is_cell g.run (suc g.k + suc g.k) n.point_cell f n.point_here (subst (λ m. f ≡ get_or items m f) place h) in
       subst (λ e. value e.on.from ≈ n.u) (sym same) n.point_is.begin.time
 
+  -- the next item begins after the signal so far
   pub next_later : (c : ℕ) (s : List (Knot Kleene)) (g : IsGrown c s) (n : IsNext c s g) (f : Item) → f ≡ get_or items (c + 1) f
       → knots.stop s <ʳ value f.on.from
   next_later c s g n f h = lt_of_le_of_lt (le_of_same g.ends) (lt_of_lt_of_le n.rises (ge_of_same (next_time c s g n f h)))
 
+  -- a gap and a knot more, made of the next two cells, go on telling what is certain
   pub grown_more : (c : ℕ) (s x : List (Knot Kleene)) (g : IsGrown c s) (n : IsNext c s g) (f : Item) (p q : Kleene) → f ≡ get_or items (c + 1) f
       → ((e : Item) → slice_get items c ≡ Some e → p.known ≡ known_at (stays left marks c) e)
       → ((e : Item) → slice_get items (c + 1) ≡ Some e → q.known ≡ known_at (stays left marks (c + 1)) e)
@@ -414,6 +442,7 @@ module _ (nodes : List Node) (tr : Trace) (items : List Item) (left : ℕ) (mark
       let w = cut_within nodes tr i g.t o (cut_at nodes tr i g.run.times g.k g.t g.run.cuts.sound g.cut) in
       record { above = le_trans w.above (ge_of_same g.ends); below = le_trans (le_of_same g.ends) w.below }
 
+  -- the times of the signal so far keep within the limits of times
   pub grown_limited : (c : ℕ) (s : List (Knot Kleene)) (g : IsGrown c s) → start tr ≤ʳ stop tr → first_time tr.rows < 2 ^ 32
       → last_time 0 tr.rows < 2 ^ 32 → IsWithin (2 ^ 34) (knots.stop s)
   grown_limited c s g o a b =
@@ -477,6 +506,7 @@ module _ (nodes : List Node) (tr : Trace) (items : List Item) (left : ℕ) (mark
       leaf_same : (a b : Atom) → Some (Leaf a) ≡ Some (Leaf b) → a ≡ b
       leaf_same a b e = cc
 
+  -- once the cells are used up the signal tells what is certain of the atom over the whole trace
   pub grown_end : (a : Atom) (c : ℕ) (s x : List (Knot Kleene)) (g : IsGrown c s) → slice_get nodes i ≡ Some (Leaf a)
       → subformula nodes i ≡ atom i a → i < length nodes → to ≤ c + 1
       → start tr ≤ʳ stop tr → first_time tr.rows < 2 ^ 32 → last_time 0 tr.rows < 2 ^ 32 → EndsAt kleene_shape (last_time 0 tr.rows) s x
@@ -511,14 +541,22 @@ one_knot at p s h = subst (IsSignal kleene_shape) (sym h) (record { some = omega
 
 -- an atom of the formula, and the ends of the trace
 pub record IsGround (nodes : List Node) (tr : Trace) (i : ℕ) : Type 0 where
+  -- the atom
   pub atom_is : Atom
+  -- it is the node at place i
   pub at : slice_get nodes i ≡ Some (Leaf atom_is)
+  -- and the formula there
   pub tree : subformula nodes i ≡ atom i atom_is
+  -- the place is one of the list
   pub inside : i < length nodes
+  -- the trace does not end before it starts
   pub order : start tr ≤ʳ stop tr
+  -- its first time is within the limits
   pub early : first_time tr.rows < 2 ^ 32
+  -- and its last
   pub late : last_time 0 tr.rows < 2 ^ 32
 
+-- a node that is an atom, with the ends of a trace within the limits
 pub ground : (nodes : List Node) (tr : Trace) (i m n : ℕ) → (a : Atom) × (slice_get nodes i ≡ Some (Leaf a)) → m ≡ first_time tr.rows
     → n ≡ last_time 0 tr.rows → m < 2 ^ 32 → n < 2 ^ 32 → first_time tr.rows ≤ n
     → IsGround nodes tr i

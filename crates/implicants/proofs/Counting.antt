@@ -20,9 +20,13 @@ rising_rest x (y ∷ xs) r = r.1
 
 -- rising times with the same members
 pub record AreSameTimes (xs ys : List Rational) : Type 0 where
+  -- the first are rising
   pub left : AreRisingTimes xs
+  -- and the second
   pub right : AreRisingTimes ys
+  -- each of the first is among the second
   pub there : (t : Rational) → IsAmong xs t → IsAmong ys t
+  -- each of the second is among the first
   pub back : (t : Rational) → IsAmong ys t → IsAmong xs t
 
 -- begin with the same time
@@ -68,6 +72,7 @@ module _ (nodes : List Node) (tr : Trace) where
       cut_of : (i : ℕ) (times : List Rational) (t : Rational) → AreCuts nodes tr i times → IsAmong times t → IsCut nodes tr i t
       cut_of i times t cuts m = let c = among_cut nodes tr i times t cuts.sound m in cut_same nodes tr i t c.0 c.1 c.2
 
+  -- a node has one number of cut times, however they are listed
   pub cuts_are_as_many : (i : ℕ) (xs ys : List Rational) → AreCuts nodes tr i xs → AreCuts nodes tr i ys → length xs ≡ length ys
   cuts_are_as_many i xs ys a b = same_length xs ys (cuts_are_same i xs ys a b)
 
@@ -78,16 +83,22 @@ module _ (nodes : List Node) (tr : Trace) where
 
   -- the count of a node and those behind it
   record IsMore (i m : ℕ) : Type 0 where
+    -- the cells of the later nodes
     pub n : ℕ
+    -- the cut times of the node
     pub times : List Rational
+    -- that many cells the later nodes have
     pub before : CellCount nodes tr (suc i) n
+    -- these are all its cut times
     pub cuts : AreCuts nodes tr i times
+    -- each cut time gives a cell, and each gap between two of them
     pub is : m ≡ n + (2 * length times - 1)
 
   count_cases : (i m : ℕ) → CellCount nodes tr i m → ((i ≡ length nodes) × (m ≡ 0)) ⊎ IsMore i m
   count_cases i m none = inl (refl, refl)
   count_cases i m (more {n} times before cuts) = inr (record { n = n; times = times; before = before; cuts = cuts; is = refl })
 
+  -- the nodes from one place on have one number of cells
   pub one_count : (i j n m : ℕ) → i ≡ j → CellCount nodes tr i n → CellCount nodes tr j m → n ≡ m
   one_count i j k m e none b = by_cases (count_cases j m b)
     where

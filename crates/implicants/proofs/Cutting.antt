@@ -44,6 +44,7 @@ child_before j i (Since p q a b) h (inr c) = subst (λ k. k < j) c h.1
 child_before j i (Once p a b x y) h c = subst (λ k. k < j) c h
 child_before j i (Historically p a b x y) h c = subst (λ k. k < j) c h
 
+-- each of the listed times is, by another pair at most, a cut time of the node
 pub among_cut : (nodes : List Node) (tr : Trace) (i : ℕ) (times : List Rational) (t : Rational) → AreAllCut nodes tr i times → IsAmong times t
     → (u : Rational) × (t ≈ u) × IsCut nodes tr i u
 among_cut nodes tr i [] t c m = absurd m

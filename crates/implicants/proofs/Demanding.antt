@@ -130,6 +130,7 @@ sup_on x r a b a_in b_in tells t h =
 
 module _ (nodes : List Node) (tr : Trace) (items : List Item) (signals : List (List (Knot Kleene)))
     (sure : AreCertainties kleene_shape nodes tr items signals) where
+  -- each signal of a node tells the node's three-valued truth
   pub told_at : (k : ℕ) (x : List (Knot Kleene)) → k < length nodes → slice_get signals k ≡ Some x
       → Tells kleene_shape (SupInf (subformula nodes k) (certainty_setting tr items)) (trace.start tr) (trace.stop tr) x
   told_at k x inside at =
@@ -235,6 +236,7 @@ not_down false turned e at j p some tr t h = subst (λ b. Certain b (at p) some 
 abbrev pub IsOther : ℕ → ℕ → ℕ → ℕ → Type 0
 IsOther p q i k = ((p ≡ i) × (k ≡ q)) ⊎ ((¬ (p ≡ i)) × (k ≡ p))
 
+-- a child that is not the left one is the right one
 pub right_of : (p q i : ℕ) → (p ≡ i) ⊎ (q ≡ i) → (¬ (p ≡ i)) → q ≡ i
 right_of p q i (inl e) n = absurd (n e)
 right_of p q i (inr e) n = e
@@ -255,6 +257,7 @@ pub and_true : (p q i : ℕ) → (p ≡ i) ⊎ (q ≡ i) → (at : ℕ → Subfo
     → Certain true (tree_of at j (And p q)) some tr t → Certain true (at i) some tr t
 and_true p q i child at j some tr t h = each_of_two (λ k. Must (at k) some tr t) p q i child h
 
+-- where the one side of an `and` is not certainly false, a certainly false `and` has the other side certainly false
 pub and_false : (p q i k : ℕ) → (p ≡ i) ⊎ (q ≡ i) → IsOther p q i k → (at : ℕ → Subformula) (j : ℕ) (some : List Item) (tr : Trace) (t : Rational)
     → (¬ Certain false (at k) some tr t) → Certain false (tree_of at j (And p q)) some tr t → Certain false (at i) some tr t
 and_false p q i k child other at j some tr t n h = one_of_two (λ k. MustNot (at k) some tr t) p q i k child other h n
@@ -264,6 +267,7 @@ pub or_false : (p q i : ℕ) → (p ≡ i) ⊎ (q ≡ i) → (at : ℕ → Subfo
     → Certain false (tree_of at j (Or p q)) some tr t → Certain false (at i) some tr t
 or_false p q i child at j some tr t h = each_of_two (λ k. MustNot (at k) some tr t) p q i child h
 
+-- where the one side of an `or` is not certainly true, a certainly true `or` has the other side certainly true
 pub or_true : (p q i k : ℕ) → (p ≡ i) ⊎ (q ≡ i) → IsOther p q i k → (at : ℕ → Subformula) (j : ℕ) (some : List Item) (tr : Trace) (t : Rational)
     → (¬ Certain true (at k) some tr t) → Certain true (tree_of at j (Or p q)) some tr t → Certain true (at i) some tr t
 or_true p q i k child other at j some tr t n h = one_of_two (λ k. Must (at k) some tr t) p q i k child other h n
@@ -273,6 +277,7 @@ pub implies_left : (p q i : ℕ) → p ≡ i → (at : ℕ → Subformula) (j : 
     → Certain false (tree_of at j (Implies p q)) some tr t → Certain true (at i) some tr t
 implies_left p q i e at j some tr t h = subst (λ k. Must (at k) some tr t) e h.0
 
+-- a certainly false implication has its right side certainly false
 pub implies_right : (p q i : ℕ) → q ≡ i → (at : ℕ → Subformula) (j : ℕ) (some : List Item) (tr : Trace) (t : Rational)
     → Certain false (tree_of at j (Implies p q)) some tr t → Certain false (at i) some tr t
 implies_right p q i e at j some tr t h = subst (λ k. MustNot (at k) some tr t) e h.1
@@ -283,6 +288,7 @@ pub implied_left : (p q i : ℕ) → p ≡ i → (at : ℕ → Subformula) (j : 
 implied_left p q i e at j some tr t n (inl h) = subst (λ k. MustNot (at k) some tr t) e h
 implied_left p q i e at j some tr t n (inr h) = absurd (n h)
 
+-- a certainly true implication whose left side is not certainly false has its right side certainly true
 pub implied_right : (p q i : ℕ) → q ≡ i → (at : ℕ → Subformula) (j : ℕ) (some : List Item) (tr : Trace) (t : Rational)
     → (¬ Certain false (at p) some tr t) → Certain true (tree_of at j (Implies p q)) some tr t → Certain true (at i) some tr t
 implied_right p q i e at j some tr t n (inl h) = absurd (n h)
@@ -294,6 +300,7 @@ pub eventually_false : (p i a b : ℕ) (a_in b_in : Bool) → p ≡ i → (at : 
     → Certain false (tree_of at j (Eventually p a b a_in b_in)) some tr u → Certain false (at i) some tr t
 eventually_false p i a b a_in b_in e at j some tr t u w h = subst (λ k. MustNot (at k) some tr t) e (h t w)
 
+-- a certainly true `always` has its operand certainly true at each time of the window
 pub always_true : (p i a b : ℕ) (a_in b_in : Bool) → p ≡ i → (at : ℕ → Subformula) (j : ℕ) (some : List Item) (tr : Trace) (t u : Rational)
     → Ahead (trace.start tr) (trace.stop tr) a b a_in b_in u t → Certain true (tree_of at j (Always p a b a_in b_in)) some tr u → Certain true (at i) some tr t
 always_true p i a b a_in b_in e at j some tr t u w h = subst (λ k. Must (at k) some tr t) e (h t w)
@@ -314,6 +321,7 @@ not_more p t v e h more = clashᵉ minus_one v more
     (subst (λ o. v ≤ᵉ finite (whole (kleene_value o))) e (same_transᵉ v (value_at (kleene_shape.function p) t) (finite (whole (kleene_value p.known))) h
     (level_is (kleene_value p.known) t)).at_most)
 
+-- a demand on the start alone is a signal that is false at every later time
 pub started_on : (at till : Frac) (p q : Kleene) (old r : List (Knot Kleene)) (from : ℕ) (t : Rational) → old ≡ record { time = at; point = p; after = p } ∷ []
     → GoesOn kleene_shape old q till q r → q.known ≡ Some false → value at ≈ whole (pos from) → IsOn kleene_shape r t → t ≈ whole (pos from)
 started_on at till p q old r from t e on_from off begins on = by_part ((on_from.worth t on.v).0 on.worth)

@@ -34,6 +34,7 @@ each_some (Ok (Some d)) G H f h = f d h
 each_some (Ok None) G H f h = tt
 each_some (Err e) G H f h = tt
 
+-- what follows from three facts on a demand follows where each of them is told of the answer
 pub three_some : {E : Type 0} (r : Result (Option Demand) E) (A B C H : Demand → Type 0) → ((d : Demand) → A d → B d → C d → H d)
     → IfOk r (λ o. IfSome o A) → IfOk r (λ o. IfSome o B)
     → IfOk r (λ o. IfSome o C) → IfOk r (λ o. IfSome o H)
@@ -60,24 +61,28 @@ module _ (holds : Bool) (x : List (Knot Kleene)) (signals : List (List (Knot Kle
   certain_as : (b : Bool) → holds ≡ b → (p : Subformula) (some : List Item) (tr : Trace) (t : Rational) → Certain holds p some tr t → Certain b p some tr t
   certain_as b e p some tr t h = subst (λ z. Certain z p some tr t) e h
 
+  -- a negation hands down the same times with the other truth
   pub hands_not : (p : ℕ) → n ≡ Not p → IsChild n i → IsFit kleene_shape x → Hands (record { holds = not holds; at = x })
   hands_not p e child fit = subst (λ m. HandsDown kleene_shape m holds x signals i (record { holds = not holds; at = x })) (sym e)
       (all_down holds x signals (Not p) i (record { holds = not holds; at = x }) fit refl
       (λ at j some tr t h.
       subst (λ k. Certain (not holds) (at k) some tr t) (subst (λ m. IsChild m i) e child) (not_down holds (not holds) refl at j p some tr t h)))
 
+  -- of an `and` that is to be true both sides are to be true at the same times
   pub hands_and : (p q : ℕ) → n ≡ And p q → IsChild n i → IsFit kleene_shape x → holds ≡ true → Hands (record { holds = holds; at = x })
   hands_and p q e child fit is = subst (λ m. HandsDown kleene_shape m holds x signals i (record { holds = holds; at = x })) (sym e)
       (all_down holds x signals (And p q) i (record { holds = holds; at = x }) fit refl
       (λ at j some tr t h. subst (λ z. Certain z (at i) some tr t) (sym is)
       (and_true p q i (subst (λ m. IsChild m i) e child) at j some tr t (certain_as true is (tree_of at j (And p q)) some tr t h))))
 
+  -- of an `or` that is to be false both sides are to be false at the same times
   pub hands_or : (p q : ℕ) → n ≡ Or p q → IsChild n i → IsFit kleene_shape x → holds ≡ false → Hands (record { holds = holds; at = x })
   hands_or p q e child fit is = subst (λ m. HandsDown kleene_shape m holds x signals i (record { holds = holds; at = x })) (sym e)
       (all_down holds x signals (Or p q) i (record { holds = holds; at = x }) fit refl
       (λ at j some tr t h. subst (λ z. Certain z (at i) some tr t) (sym is)
       (or_false p q i (subst (λ m. IsChild m i) e child) at j some tr t (certain_as false is (tree_of at j (Or p q)) some tr t h))))
 
+  -- of an implication that is to be false the left side is to be true and the right side false
   pub hands_implies : (p q : ℕ) → n ≡ Implies p q → IsChild n i → IsFit kleene_shape x → holds ≡ false → Hands (record { holds = nat_eq p i; at = x })
   hands_implies p q e child fit is = subst (λ m. HandsDown kleene_shape m holds x signals i (record { holds = nat_eq p i; at = x })) (sym e)
       (all_down holds x signals (Implies p q) i (record { holds = nat_eq p i; at = x }) fit refl
@@ -101,6 +106,7 @@ module _ (holds : Bool) (x : List (Knot Kleene)) (signals : List (List (Knot Kle
   other_below p q k j (inl (s, f)) b = subst (λ z. z < j) (sym f) b.1
   other_below p q k j (inr (s, f)) b = subst (λ z. z < j) (sym f) b.0
 
+  -- of an `and` that is to be false one side is to be, where the other is not certainly false
   pub hands_and_beside : (p q k : ℕ) (y : List (Knot Kleene)) (d : Demand) → n ≡ And p q → IsChild n i → IsOther p q i k
       → slice_get signals k ≡ Some y → holds ≡ false
       → IsBeside kleene_shape false x y false d → Hands d
@@ -109,6 +115,7 @@ module _ (holds : Bool) (x : List (Knot Kleene)) (signals : List (List (Knot Kle
       (λ at j some tr t none h.
       and_false p q i k (subst (λ m. IsChild m i) e child) other at j some tr t none (certain_as false is (tree_of at j (And p q)) some tr t h)))
 
+  -- of an `or` that is to be true one side is to be, where the other is not certainly true
   pub hands_or_beside : (p q k : ℕ) (y : List (Knot Kleene)) (d : Demand) → n ≡ Or p q → IsChild n i → IsOther p q i k
       → slice_get signals k ≡ Some y → holds ≡ true
       → IsBeside kleene_shape true x y true d → Hands d
@@ -117,12 +124,14 @@ module _ (holds : Bool) (x : List (Knot Kleene)) (signals : List (List (Knot Kle
       (λ at j some tr t none h.
       or_true p q i k (subst (λ m. IsChild m i) e child) other at j some tr t none (certain_as true is (tree_of at j (Or p q)) some tr t h)))
 
+  -- of an implication that is to be true the left side is to be false, where the right one is not certainly true
   pub hands_implied_left : (p q : ℕ) (y : List (Knot Kleene)) (d : Demand) → n ≡ Implies p q → p ≡ i → slice_get signals q ≡ Some y → holds ≡ true
       → IsBeside kleene_shape false x y true d → Hands d
   hands_implied_left p q y d e s at_q is beside = subst (λ m. HandsDown kleene_shape m holds x signals i d) (sym e)
       (beside_down holds x signals (Implies p q) i q y false true d at_q (λ j b. b.1) beside
       (λ at j some tr t none h. implied_left p q i s at j some tr t none (certain_as true is (tree_of at j (Implies p q)) some tr t h)))
 
+  -- of an implication that is to be true the right side is to be true, where the left one is not certainly false
   pub hands_implied_right : (p q : ℕ) (y : List (Knot Kleene)) (d : Demand) → n ≡ Implies p q → IsChild n i → (¬ (p ≡ i))
       → slice_get signals p ≡ Some y → holds ≡ true
       → IsBeside kleene_shape true x y false d → Hands d
@@ -131,6 +140,7 @@ module _ (holds : Bool) (x : List (Knot Kleene)) (signals : List (List (Knot Kle
       (λ at j some tr t none h. implied_right p q i (right_of p q i (subst (λ m. IsChild m i) e child) s) at j some tr t none
       (certain_as true is (tree_of at j (Implies p q)) some tr t h)))
 
+  -- of an `eventually` that is to be false the operand is to be false at each time of its windows
   pub hands_eventually : (p a b : ℕ) (a_in b_in : Bool) (d : Demand) → n ≡ Eventually p a b a_in b_in → IsChild n i → holds ≡ false
       → IsMet kleene_shape false x a b a_in b_in d → Hands d
   hands_eventually p a b a_in b_in d e child is met = subst (λ m. HandsDown kleene_shape m holds x signals i d) (sym e)
@@ -138,6 +148,7 @@ module _ (holds : Bool) (x : List (Knot Kleene)) (signals : List (List (Knot Kle
       (λ at j some tr t u w h. eventually_false p i a b a_in b_in (subst (λ m. IsChild m i) e child) at j some tr t u w
       (certain_as false is (tree_of at j (Eventually p a b a_in b_in)) some tr u h)))
 
+  -- of an `always` that is to be true the operand is to be true at each time of its windows
   pub hands_always : (p a b : ℕ) (a_in b_in : Bool) (d : Demand) → n ≡ Always p a b a_in b_in → IsChild n i → holds ≡ true
       → IsMet kleene_shape true x a b a_in b_in d → Hands d
   hands_always p a b a_in b_in d e child is met = subst (λ m. HandsDown kleene_shape m holds x signals i d) (sym e)

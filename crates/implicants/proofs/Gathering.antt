@@ -75,6 +75,7 @@ module _ (nodes : List Node) (tr : Trace) where
   all_on j (Once p x y a b ∷ ns) n items new h k = all_on (suc j) ns n items new h (at_next j ns n new k)
   all_on j (Historically p x y a b ∷ ns) n items new h k = all_on (suc j) ns n items new h (at_next j ns n new k)
 
+  -- before the first node there are no cells
   pub below_none : AreCellsBelow nodes tr 0 [] []
   below_none = record { cells = refl; count = refl; last = refl; runs = λ i a l. absurd (omega (arith, l)); below = λ i t c. absurd c }
 
@@ -83,6 +84,7 @@ module _ (nodes : List Node) (tr : Trace) where
   begins_stay ends m zero l = refl
   begins_stay ends m (suc i) l = get_or_append_left ends (m ∷ []) 0 i (omega (arith, l))
 
+  -- an atom adds the cells of its run
   pub below_more : (here : ℕ) (items new : List Item) (ends : List ℕ) (n : Node) → slice_get nodes here ≡ Some n
       → AllCells nodes tr here (n ∷ []) new → AreCellsBelow nodes tr here items ends
       → AreCellsBelow nodes tr (here + 1) (items ++ new) (ends ++ length (items ++ new) ∷ [])
@@ -169,6 +171,7 @@ module _ (nodes : List Node) (tr : Trace) where
       by_part i t (inl c) = let l = before.below i t c in omega (arith, l)
       by_part i t (inr c) = let e = new_node here n new i t made c in omega (arith, e)
 
+  -- each node adds its cells, and the place at which they end
   pub below_step : (here : ℕ) (items new : List Item) (ends more : List ℕ) → here < length nodes → AddsNode nodes tr here items new
       → more ≡ ends ++ length new ∷ []
       → AreCellsBelow nodes tr here items ends → AreCellsBelow nodes tr (here + 1) new more

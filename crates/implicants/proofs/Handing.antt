@@ -169,6 +169,7 @@ module _ (nodes : List Node) (tr : Trace) where
       let w = cut_within nodes tr i (value x) o c.0 in
       All-cons IsNearTime x xs (within_between (2 ^ 34) a b w.above w.below) (near_cuts i xs o a b c.1)
 
+  -- all cut times that were listed keep within the limits of times
   pub all_near : (here : ℕ) (done : List (Vec Frac Global)) → start tr ≤ʳ stop tr → IsWithin (2 ^ 34) (start tr) → IsWithin (2 ^ 34) (stop tr)
       → AreCutsFrom nodes tr here done
       → All IsNearList done
@@ -204,10 +205,14 @@ module _ (nodes : List Node) (tr : Trace) where
 
   -- the cut times of the first `depth` nodes from the last one on, and their count
   pub record AreCutsTo (depth : ℕ) (done : List (Vec Frac Global)) (count : ℕ) : Type 0 where
+    -- the lists are the cut times of these nodes
     pub cuts : AreCutsFrom nodes tr (length nodes - depth) done
+    -- their cells are that many
     pub counted : CellCount nodes tr (length nodes - depth) count
+    -- and no more than the limit
     pub few : count ≤ most_cells
 
+  -- at first there is no node and no cell
   pub cuts_begin : (done : List (Vec Frac Global)) → done ≡ [] → AreCutsTo 0 done 0
   cuts_begin done e = record {
     cuts = subst (AreCutsFrom nodes tr (length nodes - 0)) (sym e)
@@ -218,9 +223,13 @@ module _ (nodes : List Node) (tr : Trace) where
 
   -- what the next node adds
   pub record IsNextCount (depth count : ℕ) (done : List (Vec Frac Global)) (v : Vec Frac Global) (sum : ℕ) : Type 0 where
+    -- there is a next node
     pub inside : depth < length nodes
+    -- what stands so far
     pub before : AreCutsTo depth done count
+    -- the next node has these cut times
     pub cuts : AreCuts nodes tr (length nodes - 1 - depth) (times_of v.items)
+    -- its cells are added to the count
     pub is : sum ≡ count + (2 * length v.items - 1)
 
   module _ (depth count : ℕ) (done : List (Vec Frac Global)) (v : Vec Frac Global) (sum : ℕ) (next : IsNextCount depth count done v sum) where
@@ -236,6 +245,7 @@ module _ (nodes : List Node) (tr : Trace) where
         let is = next.is in
         count_more (length nodes - 1 - depth) count sum (times_of v.items) counted_before next.cuts (omega (arith, many, is))
 
+    -- within the limit the next node's cut times are added
     pub cuts_on : sum ≤ most_cells → AreCutsTo (depth + 1) (done ++ v ∷ []) sum
     cuts_on few = record {
       cuts = subst (λ n. AreCutsFrom nodes tr n (done ++ v ∷ [])) here
@@ -247,6 +257,7 @@ module _ (nodes : List Node) (tr : Trace) where
         here : length nodes - 1 - depth ≡ length nodes - (depth + 1)
         here = omega arith
 
+    -- beyond the limit the count is refused
     pub passed : most_cells < sum → IsTooMany nodes tr most_cells sum
     passed above = record {
       place = length nodes - 1 - depth;
@@ -271,12 +282,18 @@ module _ (nodes : List Node) (tr : Trace) where
 
 -- the ends of a trace, as fractions
 pub record AreEnds (tr : Trace) (from to : Frac) : Type 0 where
+  -- the first is the start of the trace
   pub begin : value from ≈ start tr
+  -- the second is its end
   pub end : value to ≈ stop tr
+  -- the trace does not end before it starts
   pub rise : start tr ≤ʳ stop tr
+  -- the start is within the limits
   pub early : IsWithin (2 ^ 34) (start tr)
+  -- and the end
   pub late : IsWithin (2 ^ 34) (stop tr)
 
+-- the first and the last time of rows, as fractions, are the ends of the trace
 pub ends_of : (tr : Trace) (m n : ℕ) (from to : Frac) → value from ≈ whole (pos m) → value to ≈ whole (pos n) → m ≡ first_time tr.rows → n ≡ last_time 0 tr.rows
     → m < 2 ^ 32 → n < 2 ^ 32 → first_time tr.rows ≤ n → AreEnds tr from to
 ends_of tr m n from to a b e f x y h = record {

@@ -97,8 +97,11 @@ module _ (nodes : List Node) (tr : Trace) (i : ℕ) where
 
   -- an item of the node on that interval, with that truth
   pub record IsItem (on : Interval) (b : Bool) (e : Item) : Type 0 where
+    -- it is the node's
     pub node : e.node ≡ i
+    -- on that interval
     pub on_is : interval e.on ≡ on
+    -- with that truth
     pub holds : e.holds ≡ b
 
   one_item : (on : Interval) (b : Bool) (e : Item) → IsItem on b e → ((t : Rational) → IsIn on t → IsTruth b t) → ItemsOn nodes tr i (on ∷ []) (e ∷ [])
@@ -113,11 +116,17 @@ module _ (nodes : List Node) (tr : Trace) (i : ℕ) where
 
   -- the cells of the first k cut times, and the place of the last of these in the signal
   pub record IsListed (x : List (Knot Truth)) (times : List Frac) (old : List Item) (k place : ℕ) (new : List Item) : Type 0 where
+    -- there is a first cut time
     pub some : 0 < k
+    -- the items that were added
     pub here : List Item
+    -- they stand behind the old ones
     pub all : new ≡ old ++ here
+    -- they are the cells of the first k cut times
     pub cells_are : ItemsOn nodes tr i (cells (times_of (take k times))) here
+    -- the place is one of the signal
     pub inside : place < length x
+    -- and is where the last of these times lies
     pub place_of : (t : Frac) → get_or times (k - 1) t ≡ t → IsPlaceOf x place (value t)
 
   module _ (x : List (Knot Truth)) (values : HasValues (subformula nodes i) (truth_setting tr))
@@ -139,10 +148,15 @@ module _ (nodes : List Node) (tr : Trace) (i : ℕ) where
 
     -- where two cut times follow each other: the place in the signal at the first, and that no cut time is between
     pub record IsStep (place : ℕ) (t u : Rational) : Type 0 where
+      -- the node is not the root
       pub below : suc i < length nodes
+      -- the second is later
       pub rises : t <ʳ u
+      -- the first lies at that place of the signal
       pub place_of : IsPlaceOf x place t
+      -- each later cut time is no earlier than the second
       pub next : (v : Rational) → IsCut nodes tr i v → t <ʳ v → u ≤ʳ v
+      -- the second is a time of the trace
       pub within : u ≤ʳ stop tr
 
     module _ (place : ℕ) (t u : Rational) (step : IsStep place t u) where
@@ -150,9 +164,11 @@ module _ (nodes : List Node) (tr : Trace) (i : ℕ) where
       next_knot : (n : Knot Truth) → slice_get x (place + 1) ≡ Some n → u ≤ʳ time n
       next_knot n h = step.next (time n) (knot_is_cut nodes tr i x step.below values tells (place + 1) n h) (step.place_of.next n h)
 
+      -- up to the next cut time the signal has no knot but the next one
       pub step_up_to : IsUpTo x place u
       step_up_to = record { here = λ n h. le_trans (step.place_of.here n h) (le_of_lt step.rises); next = next_knot }
 
+      -- the next cut time is one of the signal's times
       pub step_within : u ≤ʳ knots.stop x
       step_within = le_trans step.within (ge_of_same tells.ends)
 
@@ -225,8 +241,11 @@ module _ (nodes : List Node) (tr : Trace) (i : ℕ) where
 
       -- two cut times that follow each other
       pub record ArePair (k : ℕ) (t u : Frac) : Type 0 where
+        -- there is a cut time after the first k
         pub more : k < length times
+        -- the last of the first k
         pub first_is : get_or times (k - 1) t ≡ t
+        -- the one after it
         pub second_is : get_or times k u ≡ u
 
       -- the step from one cut time to the next
@@ -275,16 +294,27 @@ module _ (nodes : List Node) (tr : Trace) (i : ℕ) where
 
       -- the items that are put: the gap with the truth after the knot, and the next cut time with its own
       pub record ArePut (place next : ℕ) (mid new : List Item) (t u : Frac) : Type 0 where
+        -- the knot before the gap
         pub knot : Knot Truth
+        -- the truth at the next cut time
         pub shape : Truth
+        -- the item of the gap
         pub between : Item
+        -- the item of the next cut time
         pub point : Item
+        -- the knot stands at the place
         pub at : slice_get x place ≡ Some knot
+        -- the next place is one of the signal
         pub inside : next < length x
+        -- the next cut time lies there
         pub place_of : IsPlaceOf x next (value u)
+        -- the gap has the truth after the knot
         pub gap_is : IsItem (gap (value t) (value u)) knot.after.holds between
+        -- the signal is worth that truth at the next cut time
         pub worth : IsWorth truth_shape x (value u) (value_at (truth_shape.function shape) (value u))
+        -- and its item says so
         pub point_is : IsItem (closed (value u) (value u)) shape.holds point
+        -- both items are put at the end
         pub grew : new ≡ (mid ++ between ∷ []) ++ point ∷ []
 
       -- with them one more cut time is listed
@@ -343,6 +373,7 @@ place_next x place t n signal at e = record {
   next = λ k h. lt_of_le_of_lt (ge_of_same e) (next_rises truth_shape x (place + 1) n k signal.each at h);
 }
 
+-- where the next knot is not at that time, the time lies at the same place
 pub place_stays : (x : List (Knot Truth)) (place : ℕ) (t : Rational) → IsUpTo x place t
     → ((n : Knot Truth) → slice_get x (place + 1) ≡ Some n → ¬ (time n ≈ t)) → IsPlaceOf x place t
 place_stays x place t up other = record { here = up.here; next = λ n h. by_order n h (lt_or_same_or_gt t (time n)) }
@@ -357,6 +388,7 @@ pub worth_here : (x : List (Knot Truth)) (place : ℕ) (t : Rational) (k : Knot 
     → IsWorth truth_shape x t (value_at (truth_shape.function k.point) t)
 worth_here x place t k at e = worth_at truth_shape x place k t at (same_sym e)
 
+-- at a time behind a knot, with no other knot before it, the signal is worth the shape after the knot
 pub worth_after : (x : List (Knot Truth)) (place : ℕ) (t : Rational) (k : Knot Truth) → slice_get x place ≡ Some k → (¬ (time k ≈ t))
     → IsPlaceOf x place t → t ≤ʳ knots.stop x
     → IsWorth truth_shape x t (value_at (truth_shape.function k.after) t)
@@ -382,6 +414,7 @@ same_told Less b h e k = absurd (let x : false ≡ true = sym e ∙ k in cc)
 same_told Equal b h e k = h
 same_told Greater b h e k = absurd (let x : false ≡ true = sym e ∙ k in cc)
 
+-- two times that do not come out as equal differ
 pub other_told : (o : Ordering) (b : Bool) {t u : Rational} → IsOrder o t u → b ≡ is_eq o → b ≡ false → ¬ (t ≈ u)
 other_told Less b h e k same = absurd (lt_irrefl (lt_of_lt_of_le h (ge_of_same same)))
 other_told Equal b h e k same = absurd (let x : true ≡ false = sym e ∙ k in cc)

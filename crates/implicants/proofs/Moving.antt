@@ -21,20 +21,24 @@ use Rattle.frac128.specs.declared.frac.Frac.{Frac}
 use Rattle.stl_syntax.specs.Cells.{IsAmong}
 use Rattle.implicants.specs.Cuts.{times_of, Adds, IsMoved, IsMovedBy, IsNearMove, AreNearMoves}
 
+-- what is among two lists is among the first or the second
 pub among_in : (xs ys : List Rational) (t : Rational) → IsAmong (xs ++ ys) t → IsAmong xs t ⊎ IsAmong ys t
 among_in [] ys t m = inr m
 among_in (x ∷ xs) ys t (inl e) = inl (inl e)
 among_in (x ∷ xs) ys t (inr m) = elim (among_in xs ys t m) [ inl k ↦ inl (inr k) | inr k ↦ inr k ]
 
+-- what is among the first list is among both
 pub among_left : (xs ys : List Rational) (t : Rational) → IsAmong xs t → IsAmong (xs ++ ys) t
 among_left [] ys t m = absurd m
 among_left (x ∷ xs) ys t (inl e) = inl e
 among_left (x ∷ xs) ys t (inr m) = inr (among_left xs ys t m)
 
+-- what is among the second list is among both
 pub among_right : (xs ys : List Rational) (t : Rational) → IsAmong ys t → IsAmong (xs ++ ys) t
 among_right [] ys t m = m
 among_right (x ∷ xs) ys t m = inr (among_right xs ys t m)
 
+-- another way to write a time is among them too
 pub among_alike : (xs : List Rational) (t u : Rational) → t ≈ u → IsAmong xs u → IsAmong xs t
 among_alike [] t u e m = m
 among_alike (x ∷ xs) t u e (inl f) = inl (same_trans e f)
@@ -53,10 +57,12 @@ le_told Greater b h e = ((λ k. let x : false ≡ true = sym e ∙ k in absurd (
 pub adds_none : {P : Rational → Type 0} {old : List Rational} → ((t : Rational) → ¬ P t) → Adds P old old
 adds_none never = record { stay = λ t m. m; put = λ t h. absurd (never t h); only = λ t m. inl m }
 
+-- two descriptions of the same times add the same
 pub adds_same : {P Q : Rational → Type 0} {old new : List Rational} → ((t : Rational) → P t → Q t) → ((t : Rational) → Q t → P t) → Adds P old new
     → Adds Q old new
 adds_same f g h = record { stay = h.stay; put = λ t q. h.put t (g t q); only = λ t m. elim (h.only t m) [ inl o ↦ inl o | inr p ↦ inr (f t p) ] }
 
+-- one addition after the other adds both
 pub adds_then : {P Q : Rational → Type 0} {old mid new : List Rational} → Adds P old mid → Adds Q mid new → Adds (λ t. P t ⊎ Q t) old new
 adds_then {P} {Q} {old} {mid} {new} a b = record {
   stay = λ t m. b.stay t (a.stay t m);

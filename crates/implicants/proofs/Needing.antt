@@ -62,6 +62,7 @@ touches_at x i k on at h inside = (
   },
 )
 
+-- between two knots a demand that is not false there has a time
 pub touches_between : (x : List (Knot Kleene)) (i : ℕ) (k n : Knot Kleene) (on : Span) → slice_get x i ≡ Some k
     → slice_get x (i + 1) ≡ Some n → (¬ (k.after.known ≡ Some false))
     → (t : Rational) × IsIn (interval on) t × (time k <ʳ t) × (t <ʳ time n) → Touches kleene_shape x on
@@ -148,6 +149,7 @@ module _ (nodes : List Node) (tr : Trace) (all : List Item) (ends : List ℕ) (i
       stays j (inl h) = inl (omega (arith, h, l))
       stays j (inr h) = elim (marked j h.1) [ inl k ↦ inr k | inr k ↦ inl k ]
 
+  -- a cell on which its atom is demanded is needed
   pub demanded_needed : (left : ℕ) (old new : List Bool) (more : List Item) (c i : ℕ) (a : Atom) (e : Item) (holds : Bool)
       (x : List (Knot Kleene)) → slice_get nodes i ≡ Some (Leaf a)
       → c < left → CoverMore (remaining left old all) more → ((j : ℕ) → slice_index_or new j false ≡ true → (slice_index_or old j false ≡ true) ⊎ (j < left))
@@ -203,6 +205,7 @@ mark_more old marks c P here more = record {
   only = λ j h. elim (marked_set marks c j h) [ inl e ↦ inr (subst P (sym e) here) | inr k ↦ more.only j k ];
 }
 
+-- marks that stay as they are got none
 pub mark_none : (marks : List Bool) (P : ℕ → Type 0) → MarksMore marks marks P
 mark_none marks P = record { stay = λ j h. h; only = λ j h. inl h }
 

@@ -24,7 +24,9 @@ use Rattle.implicants.proofs.Violations.{so_items}
 
 -- both intervals begin and end alike
 pub record AreAlike (a b : Interval) : Type 0 where
+  -- they begin alike
   pub begin : BeginAlike a b
+  -- and end alike
   pub end : EndAlike a b
 
 -- and so the other way round

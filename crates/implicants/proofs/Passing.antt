@@ -38,6 +38,7 @@ or_one false b (inr e) = e
 pub stays_cases : (left : ℕ) (marks : List Bool) (c : ℕ) → stays left marks c ≡ true → (c < left) ⊎ (slice_index_or marks c false ≡ true)
 stays_cases left marks c h = elim (or_cases (nat_lt c left) (slice_index_or marks c false) h) [ inl l ↦ inl (test_below c left l) | inr m ↦ inr m ]
 
+-- a cell that is not yet judged, or is marked, stays
 pub stays_one : (left : ℕ) (marks : List Bool) (c : ℕ) → (c < left) ⊎ (slice_index_or marks c false ≡ true) → stays left marks c ≡ true
 stays_one left marks c h = or_one (nat_lt c left) (slice_index_or marks c false) (elim h [ inl l ↦ inl (below_test c left l) | inr m ↦ inr m ])
 
@@ -59,6 +60,7 @@ marked_set (m ∷ marks) zero (suc j) h = inr h
 marked_set (m ∷ marks) (suc n) zero h = inr h
 marked_set (m ∷ marks) (suc n) (suc j) h = elim (marked_set marks n j h) [ inl e ↦ inl (ap suc e) | inr k ↦ inr k ]
 
+-- a further mark leaves the others
 pub set_marked : (marks : List Bool) (n j : ℕ) → IsMarked marks j → IsMarked (set marks n true) j
 set_marked [] n j h = h
 set_marked (m ∷ marks) zero zero h = refl
@@ -66,6 +68,7 @@ set_marked (m ∷ marks) zero (suc j) h = h
 set_marked (m ∷ marks) (suc n) zero h = h
 set_marked (m ∷ marks) (suc n) (suc j) h = set_marked marks n j h
 
+-- the place that was marked is marked
 pub set_here : (marks : List Bool) (n : ℕ) → n < length marks → IsMarked (set marks n true) n
 set_here [] n l = absurd (omega arith)
 set_here (m ∷ marks) zero l = refl
@@ -99,6 +102,7 @@ put_longer : (b : Bool) (kept : List Bool) (items : List Item) (c : ℕ)
 put_longer true kept items c = chosen_longer kept items c
 put_longer false kept items c = omega arith
 
+-- passing over marked cells keeps no fewer
 pub passed_longer : (marks : List Bool) (items : List Item) (to n : ℕ) (kept : List Bool)
     → length (chosen kept items) ≤ length (chosen (passed marks to n kept) items)
 passed_longer marks items to zero kept = omega arith
@@ -116,6 +120,7 @@ passed_put marks kept to c h m =
     (subst (λ k. put_mark marks k kept ≡ set kept (c - 1) true) (let e : c - 1 ≡ to + (c - 1 - to) = omega (arith, h) in e)
     (subst (λ b. (if b then set kept (c - 1) true else kept) ≡ set kept (c - 1) true) (sym m) refl)))
 
+-- a cell that is not marked is passed over
 pub passed_skip : (marks kept : List Bool) (to c : ℕ) → to < c → slice_index_or marks (c - 1) false ≡ false
     → passed marks to (c - to) kept ≡ passed marks to (c - 1 - to) kept
 passed_skip marks kept to c h m =
@@ -123,6 +128,7 @@ passed_skip marks kept to c h m =
     (ap (λ xs. passed marks to (c - 1 - to) xs) (subst (λ k. put_mark marks k kept ≡ kept) (let e : c - 1 ≡ to + (c - 1 - to) = omega (arith, h) in e)
     (subst (λ b. (if b then set kept (c - 1) true else kept) ≡ kept) (sym m) refl)))
 
+-- more rounds of the same cost cost more
 pub more_times : (l m d : ℕ) → l ≤ m → l * d ≤ m * d
 more_times zero m d h = omega arith
 more_times (suc l) zero d h = absurd (omega (arith, h))
@@ -160,10 +166,15 @@ module _ (nodes : List Node) (tr : Trace) (items : List Item) where
 
   -- cells from place c on are judged, and of those the marked ones are kept
   pub record AreKept (c : ℕ) (marks kept : List Bool) : Type 0 where
+    -- there is a mark for each cell
     pub count : length kept ≡ length items
+    -- from place c on they are what judging keeps
     pub judged : AreJudged nodes tr items c kept
+    -- before it none is kept
     pub blank : AreBlank c kept
+    -- each marked cell from there on is kept
     pub over : (j : ℕ) → c ≤ j → IsMarked marks j → IsMarked kept j
+    -- and each that is kept is marked
     pub under : (j : ℕ) → IsMarked kept j → IsMarked marks j
 
   -- a cell that is marked before its turn is needed
@@ -290,6 +301,7 @@ module _ (nodes : List Node) (tr : Trace) (items : List Item) where
   none_marked (suc n) zero h = absurd (let x : false ≡ true = h in cc)
   none_marked (suc n) (suc j) h = none_marked n j h
 
+  -- at first no cell is judged and none is kept
   pub kept_none : (n : ℕ) (marks kept : List Bool) → n ≡ length items → marks ≡ replicate n false → kept ≡ replicate n false
       → Fails items → AreKept n marks kept
   kept_none n marks kept e f g m = subst (λ xs. AreKept n xs kept) (sym f) (subst (λ xs. AreKept n (replicate n false) xs) (sym g) (record {
@@ -300,6 +312,7 @@ module _ (nodes : List Node) (tr : Trace) (items : List Item) where
     under = λ j k. k;
   }))
 
+  -- where no cell is marked, all marks are sure
   pub sure_none : (n : ℕ) (marks : List Bool) → marks ≡ replicate n false → AreSure n marks
   sure_none n marks f c h k = absurd (none_marked n c (subst (λ xs. IsMarked xs c) f k))
 

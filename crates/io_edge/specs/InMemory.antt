@@ -1,7 +1,8 @@
 -- Sources and sinks over bytes in memory, with the calls that are to fail.
 use Rattle.std.specs.Prelude.{ℕ, ◌-◌, min, Bool, List, length}
 
--- the bytes that are left, at most how many a call gives, the numbers of the calls that fail, how many calls there were, how many of them failed, whether the last one said the end, and how many did
+-- the bytes that are left, at most how many a call gives, the numbers of the calls that fail, how many calls there were, how many
+-- of them failed, whether the last one said the end, and how many did
 pub record SourceInMemory : Type 0 where
   pub left : List ℕ
   pub most : ℕ
@@ -15,7 +16,8 @@ pub record SourceInMemory : Type 0 where
 abbrev pub given : SourceInMemory → ℕ → ℕ
 given s len = min (min len (length s.left)) s.most
 
--- the bytes that were written, for how many there is room, at most how many a call takes, the numbers of the calls that fail, how many calls there were, and how many of them failed
+-- the bytes that were written, for how many there is room, at most how many a call takes, the numbers of the calls that fail, how
+-- many calls there were, and how many of them failed
 pub record SinkInMemory : Type 0 where
   pub written : List ℕ
   pub room : ℕ

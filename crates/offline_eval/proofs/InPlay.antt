@@ -4,7 +4,9 @@ use Rattle.std.specs.Prelude.{Option, IfSome}
 use Rattle.rational.specs.Time.{Rational, shifted, ◌<ʳ◌, ◌≈◌}
 use Rattle.rational.specs.Extended.{Affine}
 use Rattle.rational.specs.Windows.{Function, Window, Ahead, Behind}
-use Rattle.rational.specs.InPlay.{IsBreakpoint, start, stop, inner, IsLeftLimit, IsRightLimit, Step, window_ahead, window_behind, until_end, since_start, IsEndBehind, IsEndPart, IsValueWithin, IsLimitWithin, IsNext, IsPrevious, IsCrossing, IsInPlay, IsWideCrossing, IsWideValue}
+use Rattle.rational.specs.InPlay.{IsBreakpoint, start, stop, inner, IsLeftLimit, IsRightLimit, Step, window_ahead}
+use Rattle.rational.specs.InPlay.{window_behind, until_end, since_start, IsEndBehind, IsEndPart, IsValueWithin}
+use Rattle.rational.specs.InPlay.{IsLimitWithin, IsNext, IsPrevious, IsCrossing, IsInPlay, IsWideCrossing, IsWideValue}
 use Rattle.rational.proofs.Order.{lt_of_le_of_lt, lt_of_lt_of_le, lt_trans, le_of_same, ge_of_same, same_trans}
 use Rattle.offline_eval.proofs.Along.{within_same_ends}
 use Rattle.offline_eval.proofs.Stretches.{IsOn, line_along, part_along, breakpoint_along, left_along, right_along, AreAlike, left_within, right_within}

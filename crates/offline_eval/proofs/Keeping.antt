@@ -1,5 +1,6 @@
 -- Signals that are given up: the children of the node that comes next are still kept, and so is the root in the end.
-use Rattle.std.proofs.Common.{◌≡◌, ℕ, zero, suc, ◌+◌, ◌-◌, ◌<◌, ◌⊎◌, inl, inr, Bool, true, false, ◌||◌, cond, Option, Some, None, List, [], ◌∷◌, ◌++◌, length, take, ap, sym, ◌∙◌, subst, refl, arith}
+use Rattle.std.proofs.Common.{◌≡◌, ℕ, zero, suc, ◌+◌, ◌-◌, ◌<◌, ◌⊎◌, inl, inr, Bool, true, false, ◌||◌, cond, Option}
+use Rattle.std.proofs.Common.{Some, None, List, [], ◌∷◌, ◌++◌, length, take, ap, sym, ◌∙◌, subst, refl, arith}
 use Rattle.std.specs.Prelude.{slice_get, MatchBool, IfSome, All, option_to_list, ◌==◌}
 use Rattle.std.specs.List.{list_any}
 use Rattle.std.proofs.Math.ListN.{set}
@@ -10,7 +11,8 @@ use Rattle.std.proofs.lemmas.List.Folds.{list_any-append}
 use Rattle.std.proofs.lemmas.Option.{slice_get_within, get_or_from_slice_get}
 use Rattle.value_laws.specs.Members.{ShapeOf}
 use Rattle.pl_signal.specs.declared.knot.Knot.{Knot}
-use Rattle.stl_syntax.specs.Formula.{Subformula, subformula, tree_of, constant, negation, conjunction, disjunction, implication, until, eventually, always, since, once, historically}
+use Rattle.stl_syntax.specs.Formula.{Subformula, subformula, tree_of, constant, negation, conjunction, disjunction}
+use Rattle.stl_syntax.specs.Formula.{implication, until, eventually, always, since, once, historically}
 use Rattle.stl_syntax.specs.PostOrder.{children, has_child, is_used, IsPostOrder}
 use Rattle.stl_syntax.specs.SupInf.{Setting}
 use Rattle.stl_syntax.specs.declared.node.Node.{Node}
@@ -36,6 +38,7 @@ written_at (z ∷ xs) (suc p) y (suc k) x e = by_rest (written_at xs p y k x e)
     by_rest (inl h) = inl (ap suc h.0, h.1)
     by_rest (inr h) = inr (λ e. h.0 (omega (arith, e)), h.1)
 
+-- a list has as many items once one of them was put in place
 pub length_written : {X : Type 0} (xs : List X) (p : ℕ) (y : X) → length (set xs p y) ≡ length xs
 length_written [] p y = refl
 length_written (z ∷ xs) zero y = refl
@@ -136,9 +139,11 @@ module _ (nodes : List Node) where
       second false false e = refl
 
 module _ {P : Type 0} (shape : ShapeOf P) (from to : ℕ) where
+  -- nothing is given up
   pub none_given_up : (xs : List (List (Knot P))) → AreGivenUp shape from to [] xs xs
   none_given_up xs = record { count = refl; at = λ k x h. h }
 
+  -- one signal is given up for a spare one
   pub one_given_up : (p : ℕ) (old new : List (List (Knot P))) (spare : List (Knot P)) → new ≡ set old p spare → IsSpare shape from to spare
       → AreGivenUp shape from to (p ∷ []) old new
   one_given_up p old new spare e h = record {
@@ -153,6 +158,7 @@ module _ {P : Type 0} (shape : ShapeOf P) (from to : ℕ) where
           (subst (IsSpare shape from to) (sym o.1) h)
       by_place k x (inr o) = subst (λ b. MatchBool (b || false) (IsSpare shape from to x) (slice_get old k ≡ Some x)) (sym (ne_eqb p k o.0)) o.1
 
+  -- what is given up in two steps is given up in both
   pub more_given_up : (ps qs : List ℕ) (old mid new : List (List (Knot P))) → AreGivenUp shape from to ps old mid
       → AreGivenUp shape from to qs mid new → AreGivenUp shape from to (ps ++ qs) old new
   more_given_up ps qs old mid new f s = record {

@@ -13,7 +13,9 @@ use Rattle.stl_syntax.specs.Limits.{own_reach}
 use Rattle.stl_syntax.specs.SupInf.{Setting}
 use Rattle.stl_syntax.specs.declared.node.Node.{Node}
 use Rattle.offline_eval.specs.Inputs.{IsOver}
-use Rattle.offline_eval.specs.Making.{HasEnds, MayMeet, IsFit, AreFit, IsSound, StaysSound, StaySound, NodeStaysSound, TellsValue, IsFaultOf, TellsOne, TellsTwo, FaultOfOne, FaultOfTwo, TellsNode, FaultOfNode}
+use Rattle.offline_eval.specs.Making.{HasEnds, MayMeet, IsFit, AreFit, IsSound, StaysSound, StaySound, NodeStaysSound}
+use Rattle.offline_eval.specs.Making.{TellsValue, IsFaultOf, TellsOne, TellsTwo, FaultOfOne, FaultOfTwo, TellsNode}
+use Rattle.offline_eval.specs.Making.{FaultOfNode}
 
 ends_of : {lowest highest : Extended} {from to : ℕ} {s : Setting} → IsOver lowest highest from to s → HasEnds lowest highest s
 ends_of over = record { lowest = over.lowest; highest = over.highest }

@@ -1,5 +1,6 @@
 -- Counting along the nodes of a formula, and the signal of an atom's place.
-use Rattle.std.proofs.Common.{◌≡◌, ℕ, zero, suc, ◌+◌, false, cond, List, [], ◌∷◌, take, drop, Some, ap, sym, ◌∙◌, subst, refl, arith, add-zero, ◌<◌, ◌++◌, length, ◌⊎◌, inl, inr, true}
+use Rattle.std.proofs.Common.{◌≡◌, ℕ, zero, suc, ◌+◌, false, cond, List, [], ◌∷◌, take, drop, Some, ap, sym}
+use Rattle.std.proofs.Common.{◌∙◌, subst, refl, arith, add-zero, ◌<◌, ◌++◌, length, ◌⊎◌, inl, inr, true}
 use Rattle.std.specs.Prelude.{slice_get, sum_by, Result, Ok, Err, OnOk}
 use Rattle.std.proofs.lemmas.Option.{slice_get_within, get_or_from_slice_get}
 use Rattle.std.proofs.lemmas.List.Sums.{sum_by_more}

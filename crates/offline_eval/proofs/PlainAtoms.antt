@@ -23,7 +23,8 @@ use Rattle.offline_eval.specs.PlainAtoms.{knots_setting}
 use Rattle.offline_eval.proofs.Evaluating.{some_left}
 
 -- a list of an atom stands at the atom's place
-placed_at : (nodes : List Node) (ks : List Knots) (i : ℕ) (a : Atom) (k : Knots) → slice_get nodes i ≡ Some (Leaf a) → slice_get ks (atoms_before nodes i) ≡ Some k
+placed_at : (nodes : List Node) (ks : List Knots) (i : ℕ) (a : Atom) (k : Knots) → slice_get nodes i ≡ Some (Leaf a)
+    → slice_get ks (atoms_before nodes i) ≡ Some k
     → slice_get (placed nodes ks) i ≡ Some (Some k)
 placed_at [] ks i a k at h = absurd (let e = at in cc)
 placed_at (Leaf b ∷ nodes) [] i a k at h = absurd (let e = h in cc)
@@ -45,7 +46,8 @@ got_there [] i h = absurd (omega (arith, h))
 got_there (y ∷ xs) zero h = (y, refl)
 got_there (y ∷ xs) (suc i) h = got_there xs i (omega (arith, h))
 
-module _ {P : Type 0} (shape : ShapeOf P) (nodes : List Node) (from to : ℕ) (atoms : List (List (Knot P))) (count : length atoms ≡ atoms_before nodes (length nodes))
+module _ {P : Type 0} (shape : ShapeOf P) (nodes : List Node) (from to : ℕ) (atoms : List (List (Knot P)))
+    (count : length atoms ≡ atoms_before nodes (length nodes))
     (sound : All (IsSignal shape) atoms) (inputs : All (IsInput shape from to) atoms) where
   -- the signal of an atom
   its_signal : (i : ℕ) (a : Atom) → slice_get nodes i ≡ Some (Leaf a) → (x : List (Knot P)) × (slice_get atoms (atoms_before nodes i) ≡ Some x)
@@ -53,6 +55,7 @@ module _ {P : Type 0} (shape : ShapeOf P) (nodes : List Node) (from to : ℕ) (a
       let left = some_left nodes atoms (drop (atoms_before nodes i) atoms) i a count refl at in
       got_there atoms (atoms_before nodes i) (omega (arith, left, length-drop (atoms_before nodes i) atoms))
 
+  -- each atom's signal tells its own plain knots
   pub plain_told : TellAtoms shape nodes atoms (knots_setting shape nodes from to atoms)
   plain_told i a inside at =
       let (x, there) = its_signal i a at in

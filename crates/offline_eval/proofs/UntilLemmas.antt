@@ -34,7 +34,8 @@ use Rattle.pl_signal.proofs.Limits.{worth_bounded}
 use Rattle.offline_eval.proofs.Pointwise.{meeting_fault}
 use Rattle.offline_eval.proofs.Sound.{IsMovedBy, limited_along}
 use Rattle.offline_eval.proofs.Stretches.{IsOn, AreAlike}
-use Rattle.offline_eval.proofs.WindowLemmas.{on_of, inf_of, inf_over_bounded, cause_of, ahead_cause, behind_cause, sup_ahead_told, inf_ahead_told, sup_behind_told, inf_behind_told, ComesFrom}
+use Rattle.offline_eval.proofs.WindowLemmas.{on_of, inf_of, inf_over_bounded, cause_of, ahead_cause, behind_cause}
+use Rattle.offline_eval.proofs.WindowLemmas.{sup_ahead_told, inf_ahead_told, sup_behind_told, inf_behind_told, ComesFrom}
 
 -- a set has one Sup
 pub one_sup : {V : Extended → Type 0} (lowest r w : Extended) → IsSup lowest V r → IsSup lowest V w → r ≈ᵉ w
@@ -151,7 +152,8 @@ module _ {P : Type 0} (shape : ShapeOf P) where
     pub so_far_told : (r : List (Knot P)) → Tells shape (SinceOf shape x y) (start x) (stop x) r
         → Tells shape (λ t v. IsSince shape.lowest shape.highest (Behind from to 0 None true true t) F G t v) from to r
     so_far_told r made = tells_along shape (SinceFromStart shape.lowest shape.highest from F G)
-        (λ t v. IsSince shape.lowest shape.highest (Behind from to 0 None true true t) F G t v) from to from to r (from_start_told r made) (same_refl from) (same_refl to)
+        (λ t v. IsSince shape.lowest shape.highest (Behind from to 0 None true true t) F G t v) from to from to r
+        (from_start_told r made) (same_refl from) (same_refl to)
         (λ t v i. (
           sup_over_alike (Within from t) (Behind from to 0 None true true t) (IsDownTo shape.highest F G t) shape.lowest v (forth t i) (back t),
           sup_over_alike (Behind from to 0 None true true t) (Within from t) (IsDownTo shape.highest F G t) shape.lowest v (back t) (forth t i),

@@ -120,7 +120,8 @@ impl<P: Shape> Stack<P> {
         ensures stands { OnOk result ((from to : ℕ) → IsInput P.Shape from to signal → IsStack P.Shape from to formula.now.nodes i self.old
             → IsStack P.Shape from to formula.now.nodes (i + 1) self.new) }
         ensures told { OnOk result ((from to : ℕ) (s : Setting) → IsOver P.lowest P.highest from to s
-            → IsStack P.Shape from to formula.now.nodes i self.old → TellsValue P.Shape s (subformula formula.now.nodes i) signal → TellsStack P.Shape formula.now.nodes s i self.old
+            → IsStack P.Shape from to formula.now.nodes i self.old → TellsValue P.Shape s (subformula formula.now.nodes i) signal
+            → TellsStack P.Shape formula.now.nodes s i self.old
             → TellsStack P.Shape formula.now.nodes s (i + 1) self.new) }
     {
         // For the proof alone: the nodes stand in post-order.

@@ -1,5 +1,6 @@
 -- What a network stands for, after one event more.
-use Rattle.std.proofs.Common.{◌≡◌, ◌⊎◌, inl, inr, refl, sym, ap, subst, ◌∙◌, ℕ, suc, ◌-◌, ◌<◌, Bool, true, false, Option, Some, None, List, [], ◌∷◌, ◌++◌, length, drop, append_assoc, arith}
+use Rattle.std.proofs.Common.{◌≡◌, ◌⊎◌, inl, inr, refl, sym, ap, subst, ◌∙◌, ℕ, suc, ◌-◌, ◌<◌, Bool, true, false}
+use Rattle.std.proofs.Common.{Option, Some, None, List, [], ◌∷◌, ◌++◌, length, drop, append_assoc, arith}
 use Rattle.std.specs.Prelude.{◌≢◌, cond, ◌==◌, slice_get, slice_index_or, option_map}
 use Rattle.std.proofs.lemmas.List.{append-nil}
 use Rattle.std.proofs.lemmas.Bool.{cases_order, eq-eqb}
@@ -18,7 +19,8 @@ use Rattle.online_nodes.specs.Needed.{IsReader, IsEdge, IsRootEdge}
 use Rattle.online_nodes.specs.Held.{Edge, Held, edge_at, fresh_at, held_at, held_of, number_at}
 use Rattle.online_nodes.specs.Belonging.{StandsForSteps, HasStepped}
 use Rattle.online_nodes.specs.declared.operator.Operator.{Operator}
-use Rattle.online_nodes.proofs.EdgeLaw.{edge_grows, edge_stays, root_grows, root_stays, root_taken, after_one, run_more, step_leaves, get_within, reads_or_not, shown_stays}
+use Rattle.online_nodes.proofs.EdgeLaw.{edge_grows, edge_stays, root_grows, root_stays, root_taken, after_one}
+use Rattle.online_nodes.proofs.EdgeLaw.{run_more, step_leaves, get_within, reads_or_not, shown_stays}
 use Rattle.online_nodes.proofs.ReadersLaw.{one_reader, root_unread}
 use Rattle.online_nodes.proofs.StandingLaw.{InputOn, stands_on, edge_unshown, edge_within}
 use Rattle.online_nodes.proofs.FrameLaw.{nothing_given}

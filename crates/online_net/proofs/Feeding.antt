@@ -1,5 +1,6 @@
 -- What a network stands for once a row has come.
-use Rattle.std.proofs.Common.{◌≡◌, refl, sym, ap, subst, ◌∙◌, ℕ, suc, ◌-◌, ◌<◌, ◌≤◌, Bool, true, false, Option, Some, None, List, [], ◌∷◌, ◌++◌, length, ℤ, pos, ◌<ℤ◌, arith, append_assoc}
+use Rattle.std.proofs.Common.{◌≡◌, refl, sym, ap, subst, ◌∙◌, ℕ, suc, ◌-◌, ◌<◌, ◌≤◌, Bool, true, false, Option}
+use Rattle.std.proofs.Common.{Some, None, List, [], ◌∷◌, ◌++◌, length, ℤ, pos, ◌<ℤ◌, arith, append_assoc}
 use Rattle.std.specs.Prelude.{MatchBool, ◌≢◌, cond, int_lt, not, ◌&&◌, slice_get, slice_index_or, option_map, IfSome}
 use Rattle.std.proofs.lemmas.Int.{ints}
 use Rattle.std.proofs.lemmas.Option.{get_or_from_slice_get}
@@ -15,7 +16,8 @@ use Rattle.stl_syntax.specs.declared.node.Node.TheVariants.{Const, Atom as Leaf,
 use Rattle.stl_syntax.proofs.FormulaLemmas.{subformula-at}
 use Rattle.stl_syntax.proofs.PostOrderLemmas.{placed, slice_get_at}
 use Rattle.atom_lines.specs.Binding.{HasRow, AreNeighbours}
-use Rattle.online_nodes.specs.Network.{Event, row, take, Front, State, last_row, shown, same_front, answered, is_atom, node_is_atom, after_event, state, EmittedAt, MayCome}
+use Rattle.online_nodes.specs.Network.{Event, row, take, Front, State, last_row, shown, same_front, answered}
+use Rattle.online_nodes.specs.Network.{is_atom, node_is_atom, after_event, state, EmittedAt, MayCome}
 use Rattle.online_nodes.specs.Needed.{IsReader, IsEdge, IsRootEdge}
 use Rattle.online_nodes.specs.Held.{Edge, Held, edge_at, fresh_at, held_at, held_of, number_at}
 use Rattle.online_nodes.proofs.RunLaw.{some_is, int_order, last_appended}
@@ -40,6 +42,7 @@ last_splits (r ∷ rows) q e = by_rest r rows q e
         row_is a b e = cc
     by_rest r (s ∷ rows) q e = let x = by_rest s rows q e in (r ∷ x.0, ap (λ l. r ∷ l) x.1)
 
+-- where there is no last row there are no rows
 pub no_last : (rows : List Row) → last_row_of rows ≡ None → rows ≡ []
 no_last [] e = refl
 no_last (r ∷ rows) e = absurd (let x : Some (last_row_after r rows) ≡ None = e in cc)
@@ -82,6 +85,7 @@ rise : (width t : ℕ) (rows : List Row) → AreRowsAfter width t rows → t ≤
 rise width t [] h = omega arith
 rise width t (r ∷ rows) h = let x = rise width r.time rows h.2 in let y = h.0 in omega (arith, x, y)
 
+-- the first time is not after the last row's
 pub start_by_last : (width : ℕ) (rows : List Row) (q : Row) → AreRowsSoFar width rows → last_row_of rows ≡ Some q → first_time rows ≤ q.time
 start_by_last width [] q h e = absurd (let x : None ≡ Some q = e in cc)
 start_by_last width (r ∷ rows) q h e =

@@ -1,5 +1,6 @@
 -- A new network stands for the empty run.
-use Rattle.std.proofs.Common.{◌≡◌, ◌⊎◌, inl, inr, refl, sym, ap, subst, ◌∙◌, ℕ, zero, suc, ◌+◌, ◌-◌, ◌<◌, ◌≤◌, true, false, Option, Some, None, List, [], ◌∷◌, ◌++◌, length, length-append, arith}
+use Rattle.std.proofs.Common.{◌≡◌, ◌⊎◌, inl, inr, refl, sym, ap, subst, ◌∙◌, ℕ, zero, suc, ◌+◌, ◌-◌, ◌<◌, ◌≤◌}
+use Rattle.std.proofs.Common.{true, false, Option, Some, None, List, [], ◌∷◌, ◌++◌, length, length-append, arith}
 use Rattle.std.specs.Prelude.{slice_get, slice_index_or, replicate}
 use Rattle.std.proofs.lemmas.Bool.{cases_order}
 use Rattle.std.proofs.lemmas.Option.{slice_get_cases, get_or_from_slice_get}
@@ -26,6 +27,7 @@ all_one zero x i = refl
 all_one (suc n) x zero = refl
 all_one (suc n) x (suc i) = all_one n x i
 
+-- a repeated item makes so many
 pub length_one : {X : Type 0} (n : ℕ) (x : X) → length (replicate n x) ≡ n
 length_one zero x = refl
 length_one (suc n) x = ap suc (length_one n x)
@@ -80,6 +82,7 @@ module _ (nodes : List Node) (header : Header) (formed : AreWellFormed nodes) (r
       has i n at a (Some op) e h =
           record { operator = op; is = e; node = h.1; stands = h.2 header net.edges (λ j. ap (λ (x : Edge). x.seen) (empty j)) }
 
+  -- a new network stands for the run without events
   pub new_stands : Stands nodes header net []
   unfolding state
   new_stands = record {

@@ -1,5 +1,6 @@
 -- What was said of an atom, verdict by verdict.
-use Rattle.std.proofs.Common.{◌≡◌, suc, ◌+◌, ◌≤◌, Option, get_or, ◌<ℤ◌, ◌⊎◌, inl, inr, refl, sym, ap, subst, ◌∙◌, ℕ, ◌<◌, Bool, true, false, ◌&&◌, Some, None, List, [], ◌∷◌, ◌++◌, length, pos, arith, append_assoc}
+use Rattle.std.proofs.Common.{◌≡◌, suc, ◌+◌, ◌≤◌, Option, get_or, ◌<ℤ◌, ◌⊎◌, inl, inr, refl, sym, ap, subst, ◌∙◌, ℕ, ◌<◌}
+use Rattle.std.proofs.Common.{Bool, true, false, ◌&&◌, Some, None, List, [], ◌∷◌, ◌++◌, length, pos, arith, append_assoc}
 use Rattle.std.specs.Prelude.{MatchBool, MatchOption, IfSome, IsTrue, ◌≢◌, slice_get}
 use Rattle.std.specs.Option.{is_some}
 use Rattle.std.proofs.lemmas.Bool.{cases_order}
@@ -34,7 +35,8 @@ use Rattle.online_nodes.proofs.GotLemmas.{got_both, got_none, got-here, got-othe
 use Rattle.online_net.specs.Atoms.{HasSaidThree, HasBegun, IsThrough, IsPut, HasPutAtom, HasPutAtoms, StandsNext, row_stretch, before_row, after_row}
 use Rattle.online_nodes.specs.declared.cut.Cut.{Cut}
 use Rattle.online_nodes.specs.declared.writer.Out.{Out}
-use Rattle.online_nodes.proofs.PlaceLemmas.{sides, not_both, place_order, between, same_places, same_trans_places, before_trans, before_same, same_before, room_of_before, upto_of_before, upto_same}
+use Rattle.online_nodes.proofs.PlaceLemmas.{sides, not_both, place_order, between, same_places, same_trans_places}
+use Rattle.online_nodes.proofs.PlaceLemmas.{before_trans, before_same, same_before, room_of_before, upto_of_before, upto_same}
 use Rattle.online_nodes.proofs.Writing.{told_same, same_itself, lead_describes}
 
 -- places of which neither comes after the other are one
@@ -49,9 +51,11 @@ same_of_most c d h k = by_order (place_order c d)
     by_order (inr (inl s)) = s
     by_order (inr (inr b)) = absurd (apart d c h b)
 
+-- what comes before a place is no later
 pub most_of_before : (c d : Place) → Before c d → AtMost c d
 most_of_before c d b t u = upto_of_before c d t b u
 
+-- and so is the same place
 pub most_of_same : (c d : Place) → Same c d → AtMost c d
 most_of_same c d s t u = upto_same c d t s u
 
@@ -150,12 +154,18 @@ new_told n tr begin out e s r = record {
 
 -- a writer as it is made: at the beginning of its stretch, between two rows
 pub record IsNew (out : Out) (i : ℕ) (begin end : Place) : Type 0 where
+  -- it is for that edge
   pub edge : out.edge ≡ i
+  -- it begins there
   pub from : Same (place out.from) begin
+  -- nothing of it was said yet
   pub at : Same (place out.at) begin
+  -- it ends there
   pub to : Same (place out.to) end
+  -- and no truth was found yet
   pub none : out.holds ≡ None
 
+-- an answer that was just begun is such
 pub new_is : (out : Out) (i : ℕ) (from to : Cut) (begin end : Place) → out ≡ record { edge = i; from = from; at = from; to = to; holds = None }
     → Same (place from) begin → Same (place to) end → IsNew out i begin end
 new_is out i from to begin end e s r = subst (λ (o : Out). IsNew o i begin end) (sym e)
@@ -288,6 +298,7 @@ stretch_some : (before : Option Row) (r : Row) → IfSome before (λ q. q.time <
 stretch_some None r l = row_order r
 stretch_some (Some first) r l = before_trans (after_row first) (before_row r) (after_row r) (rows_order first r l) (row_order r)
 
+-- an atom's answer up to the row goes on at its edge
 pub atom_put : (b : Binding) (i : ℕ) (before : Option Row) (r : Row) {e0 e1 e2 e3 e4 : Held} {out1 out2 : Out} (end : Cut) (holds : Bool)
     → i < length e0.edges → IfSome before (λ q. q.time < r.time) → Same (place end) (after_row r) → HasBegun b i before r e0 e1 out1
     → HasAnswer e1 e2 out1 holds out2 → Reaches out1 end out2 → HasFinished e2 e3 out2
@@ -394,6 +405,7 @@ even_put b i first r {e0} {e1} {e2} v holds within later from to is got noted st
 
 -- what is found at a place that is one of the list
 module _ {X : Type 0} (xs : List (Option X)) (i : ℕ) (r : Option X) (within : i < length xs) (is : r ≡ get_or xs i r) where
+  -- the list has that item
   pub found : slice_get xs i ≡ Some r
   found = by_case (slice_get_cases xs i).1
     where
@@ -402,6 +414,7 @@ module _ {X : Type 0} (xs : List (Option X)) (i : ℕ) (r : Option X) (within : 
       by_case (inl h) = h.2 ∙ ap Some (sym (is ∙ get_or_from_slice_get xs i h.0 r h.2))
       by_case (inr h) = absurd (let l = h.0 in omega (arith, l, within))
 
+  -- where it is none the list has none there
   pub none_at : is_some r ≡ false → slice_get xs i ≡ Some None
   none_at e = found ∙ ap Some (by_value r e)
     where
@@ -409,6 +422,7 @@ module _ {X : Type 0} (xs : List (Option X)) (i : ℕ) (r : Option X) (within : 
       by_value None e = refl
       by_value (Some x) e = absurd (let y : true ≡ false = e in cc)
 
+  -- where there is one the list does not have none there
   pub none_not : is_some r ≡ true → slice_get xs i ≡ Some None → ⊥
   none_not e h = by_value r e (sym found ∙ h)
     where

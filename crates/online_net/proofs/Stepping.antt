@@ -1,5 +1,6 @@
 -- A network's operators belong to its edges, and what a step that moves nothing leaves.
-use Rattle.std.proofs.Common.{◌≡◌, refl, sym, ap, subst, ◌∙◌, ℕ, zero, suc, ◌-◌, ◌<◌, ◌≤◌, Bool, true, false, Option, Some, None, List, [], ◌∷◌, ◌++◌, length, drop, ℤ, pos, ◌<ℤ◌, arith}
+use Rattle.std.proofs.Common.{◌≡◌, refl, sym, ap, subst, ◌∙◌, ℕ, zero, suc, ◌-◌, ◌<◌, ◌≤◌, Bool, true, false}
+use Rattle.std.proofs.Common.{Option, Some, None, List, [], ◌∷◌, ◌++◌, length, drop, ℤ, pos, ◌<ℤ◌, arith}
 use Rattle.std.specs.Prelude.{MatchBool, int_lt, ◌≢◌, cond, ◌==◌, slice_get, slice_index_or, slice_set, option_map}
 use Rattle.std.proofs.lemmas.Option.{slice_get_within}
 use Rattle.stl_syntax.specs.Trace.{Header, Row, AreRowsAfter, first_time, last_time}
@@ -9,7 +10,8 @@ use Rattle.stl_syntax.specs.declared.node.Node.{Node}
 use Rattle.stl_syntax.specs.declared.node.Node.TheVariants.{Const}
 use Rattle.stl_syntax.proofs.PostOrderLemmas.{slice_get_at}
 use Rattle.atom_lines.specs.Binding.{IsAtomNode}
-use Rattle.online_nodes.specs.Network.{Event, row, step, close, take, Front, State, last_row, shown, is_atom, node_is_atom, allowed_at, same_front, after_event, state, IsReady, MayCome}
+use Rattle.online_nodes.specs.Network.{Event, row, step, close, take, Front, State, last_row, shown, is_atom}
+use Rattle.online_nodes.specs.Network.{node_is_atom, allowed_at, same_front, after_event, state, IsReady, MayCome}
 use Rattle.online_nodes.specs.Held.{Edge, Held, edge_at, held_at, held_of, no_edge, number_at, with_edge, without}
 use Rattle.online_nodes.proofs.RowsLaw.{AreRowsSoFar, rows_of}
 use Rattle.online_nodes.proofs.EmittedLaw.{front_shown}
@@ -51,6 +53,7 @@ unmoved_parts net i op after e' is same still =
     ∙ ap (λ (o : Operator). record net { operators = slice_set net.operators i (Some o) }) still
     ∙ ap (λ os. record net { operators = os }) (set_same net.operators i (Some op) is))
 
+-- the other items stay
 pub set_other : {X : Type 0} (xs : List X) (i : ℕ) (x : X) (j : ℕ) → j ≢ i → slice_get (slice_set xs i x) j ≡ slice_get xs j
 set_other [] i x j d = refl
 set_other (y ∷ xs) zero x zero d = absurd (d refl)
@@ -146,6 +149,7 @@ module _ (nodes : List Node) (header : Header) (events : List Event) (net : Part
       subst (λ k. ¬ IsReady nodes s k) (kept_operator i op is).1
       (subst (λ x. MatchBool x (IsStep nodes header events op net.edges e' time net.closed after) (¬ IsReady nodes s op.node)) none answer)
 
+  -- a call that moved something is a step of the network
   pub step_by : (op after : Operator) (e' : Held) (q : Row) (time : ℕ) (moved : Bool) → time ≡ q.time
       → MatchBool moved (IsStep nodes header events op net.edges e' time net.closed after) (¬ IsReady nodes s op.node) → moved ≡ true
       → IsStep nodes header events op net.edges e' q.time net.closed after

@@ -3,7 +3,8 @@
 //! A network stands for a run of events, a row, a step of a node, the end, a verdict taken, in whatever order they came. It stores
 //! no history: what it shows is, for each run that it stands for, what the run says.
 
-ghost use Rattle.std.specs.Prelude.{◌≡◌, ◌<◌, ◌+◌, ◌-◌, ◌↔◌, ◌++◌, ◌∷◌, [], List, length, IfOk, OnOk, IfSome, IfNone, IsTrue, MatchBool, MatchResult, Some, None, true, false, pos, option_map, ◌≢◌};
+ghost use Rattle.std.specs.Prelude.{◌≡◌, ◌<◌, ◌+◌, ◌-◌, ◌↔◌, ◌++◌, ◌∷◌, [], List, length, IfOk, OnOk, IfSome, IfNone};
+ghost use Rattle.std.specs.Prelude.{IsTrue, MatchBool, MatchResult, Some, None, true, false, pos, option_map, ◌≢◌};
 ghost use Rattle.stl_syntax.specs.Trace.{Header};
 ghost use Rattle.stl_syntax.specs.declared.node.Node.{Node as ANode};
 ghost use Rattle.atom_lines.specs.Binding.{IsBound};

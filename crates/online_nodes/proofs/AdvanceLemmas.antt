@@ -1,5 +1,6 @@
 -- From the parts of a step, the body's work, what is put, let go and noted, to what the step leaves.
-use Rattle.std.proofs.Common.{◌≡◌, ◌≢◌, inl, inr, refl, sym, ap, subst, ◌∙◌, ℕ, ◌+◌, ◌*◌, ◌^◌, ◌<◌, ◌≤◌, Bool, true, false, Option, Some, None, List, [], ◌∷◌, ◌++◌, length, ℤ, pos, ◌+ℤ◌, arith, length-append}
+use Rattle.std.proofs.Common.{◌≡◌, ◌≢◌, inl, inr, refl, sym, ap, subst, ◌∙◌, ℕ, ◌+◌, ◌*◌, ◌^◌, ◌<◌, ◌≤◌, Bool, true, false}
+use Rattle.std.proofs.Common.{Option, Some, None, List, [], ◌∷◌, ◌++◌, length, ℤ, pos, ◌+ℤ◌, arith, length-append}
 use Rattle.std.specs.Prelude.{◌-◌, min, option_map}
 use Rattle.rational.specs.Rational.{whole}
 use Rattle.stl_syntax.specs.Verdicts.{Describes}
@@ -20,7 +21,8 @@ use Rattle.online_nodes.specs.Written.{HasGot}
 use Rattle.online_nodes.specs.declared.answering.Marks.{Marks}
 use Rattle.online_nodes.specs.declared.answering.Outcome.{Outcome}
 use Rattle.online_nodes.specs.declared.kind.Kind.{Kind}
-use Rattle.online_nodes.specs.declared.kind.Kind.TheVariants.{Const as Constant, Not as Negation, Join as Connective, Ahead, Behind, Until as UntilOf, Since as SinceOf}
+use Rattle.online_nodes.specs.declared.kind.Kind.TheVariants.{Const as Constant, Not as Negation, Join as Connective}
+use Rattle.online_nodes.specs.declared.kind.Kind.TheVariants.{Ahead, Behind, Until as UntilOf, Since as SinceOf}
 use Rattle.online_nodes.specs.declared.operator.Operator.{Operator}
 use Rattle.online_nodes.proofs.BelongLemmas.{own_edge, own_reach_small, room_if_ready}
 use Rattle.online_nodes.proofs.BodyLemmas.{body_worked}
@@ -71,6 +73,7 @@ few_min n a b h k = omega (arith, h, k)
 -- a step to a front that is not below the start, part by part
 module _ {x : Situation} {op : Operator} {old : Held} (d : IsDue x op old) {begun : Outcome} (g : IsBegun x op begun) {put : Held} {marks : Marks}
     (a : HasAnswered op.kind old put begun.out begun.marks marks) where
+  -- the body did its work
   pub work : HasWorkedOut x op old a.mid a.told
   work = body_worked d g a.told a.body
 
@@ -83,9 +86,11 @@ module _ {x : Situation} {op : Operator} {old : Held} (d : IsDue x op old) {begu
   all_put : HasWorkedOn op.kind old put op.node verdicts
   all_put = put_on (own_edge d.belongs) (among_apart d) work.worked last_got
 
+  -- as many edges as before stand once it was put
   pub put_count : length put.edges ≡ length old.edges
   put_count = all_put.count
 
+  -- the operator's edge is one of them
   pub put_within : op.node < length put.edges
   put_within = let l = own_edge d.belongs in let n = put_count in omega arith
 
@@ -164,6 +169,7 @@ module _ {x : Situation} {op : Operator} {old : Held} (d : IsDue x op old) {begu
         subst (λ (m : ℕ). length verdicts ≤ m) (room_if_ready d.belongs d.ready)
         (few_min (length verdicts) (2 * held_in old (inputs_of op.kind) + 2) (2 ^ 64 - 1) most all)
 
+    -- the edges are those that a step leaves, if the operator's has room
     pub step_stepped : length (held_at put op.node) ≤ 2 ^ 64 - 1 → HasStepped x.nodes x.header x.events op.node old new
     step_stepped counted = record {
       verdicts = verdicts;

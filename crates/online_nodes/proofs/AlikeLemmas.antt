@@ -21,7 +21,9 @@ use Rattle.online_nodes.proofs.PlaceLemmas.{upto_of_before, upto_same}
 
 -- two formulas of one truth up to a place
 pub record IsLike (m n : Subformula) (tr : Trace) (to : Place) : Type 0 where
+  -- where the one holds, the other does
   pub there : (t : Rational) → Upto to t → Truth m tr t → Truth n tr t
+  -- and the other way round
   pub back : (t : Rational) → Upto to t → Truth n tr t → Truth m tr t
 
 -- a formula is like itself
@@ -37,6 +39,7 @@ lead_upto n tr c before (v ∷ vs) d last (s, b, apart, all, rest) t u =
     (upto_of_before (begins (interval v.on)) (ends (interval v.on)) t b (upto_same c (begins (interval v.on)) t s u))
 
 module _ {m n : Subformula} {tr : Trace} {to : Place} (same : IsLike m n tr to) where
+  -- either truth of the one is that of the other
   pub is_like : (b : Bool) (t : Rational) → Upto to t → Is b (Truth m tr) t → Is b (Truth n tr) t
   is_like true t u h = same.there t u h
   is_like false t u h = λ k. h (same.back t u k)
@@ -89,12 +92,15 @@ module _ (tr : Trace) (now : ℕ) (small : now ≤ 4294967295) (to : Place) (ear
         → Behind (start tr) (stop tr) a None a_in b_in t u
     unbounded t u w = record { inside = w.inside; begins = tt; ends = w.ends }
 
+    -- a `once` of the largest bound is one without a bound, up to the last row
     pub once_like : (p : Subformula) → IsLike (once a (Some 8589934592) a_in b_in p) (once a None a_in b_in p) tr to
     once_like p = record { there = λ t h e. (e.0, unbounded t e.0 e.1, e.2); back = λ t h e. (e.0, bounded t e.0 h e.1, e.2) }
 
+    -- so is a `historically`
     pub historically_like : (p : Subformula) → IsLike (historically a (Some 8589934592) a_in b_in p) (historically a None a_in b_in p) tr to
     historically_like p = record { there = λ t h all u w. all u (bounded t u h w); back = λ t h all u w. all u (unbounded t u w) }
 
+  -- and a `since`
   pub since_like : (p q : Subformula) → IsLike (since a (Some 8589934592) p q) (since a None p q) tr to
   since_like p q = record {
     there = λ t h e. (e.0, unbounded true true t e.0 e.1, e.2, e.3);

@@ -1,5 +1,6 @@
 -- What the body of a node did, whatever its kind.
-use Rattle.std.proofs.Common.{◌≡◌, ◌≢◌, ◌⊎◌, inl, inr, refl, sym, ap, subst, ◌∙◌, ℕ, ◌+◌, ◌*◌, ℤ, pos, ◌+ℤ◌, get_or, ◌<◌, ◌≤◌, Bool, true, false, not, Option, Some, None, List, ◌++◌, length, arith, length-append}
+use Rattle.std.proofs.Common.{◌≡◌, ◌≢◌, ◌⊎◌, inl, inr, refl, sym, ap, subst, ◌∙◌, ℕ, ◌+◌, ◌*◌, ℤ, pos, ◌+ℤ◌, get_or, ◌<◌}
+use Rattle.std.proofs.Common.{◌≤◌, Bool, true, false, not, Option, Some, None, List, ◌++◌, length, arith, length-append}
 use Rattle.std.specs.Prelude.{cond, int_lt}
 use Rattle.stl_syntax.specs.declared.items.Verdict.{Verdict}
 use Rattle.std.proofs.lemmas.Int.{ints}
@@ -8,7 +9,8 @@ use Rattle.online_nodes.specs.Held.{Held, Edge, no_edge, edge_at, fresh_at, held
 use Rattle.online_nodes.specs.Written.{HasFinished, HasGot, IsSound, waiting}
 use Rattle.online_nodes.specs.Working.{HasWorked, IsReadOn}
 use Rattle.online_nodes.specs.Kinds.{held_in, inputs_of, IsNear}
-use Rattle.online_nodes.specs.Answering.{back_by, is_empty, looks_by, CanAnswer, HasBody, HasReleased, HasReleasedTwo, HasSweptAll, HasToldAll, HasWorkedOn, IsInput, IsSide}
+use Rattle.online_nodes.specs.Answering.{back_by, is_empty, looks_by, CanAnswer, HasBody, HasReleased}
+use Rattle.online_nodes.specs.Answering.{HasReleasedTwo, HasSweptAll, HasToldAll, HasWorkedOn, IsInput, IsSide}
 use Rattle.online_nodes.specs.declared.answering.Outcome.{Outcome}
 use Rattle.online_nodes.specs.declared.answering.Marks.{Marks}
 use Rattle.online_nodes.specs.declared.kind.Kind.{Kind}
@@ -20,10 +22,15 @@ use Rattle.online_nodes.proofs.WorkLemmas.{read_none}
 
 -- what was put and read, and up to where the node is told
 pub record HasCarried (kind : Kind) (old mid : Held) (out : Out) (told : Outcome) : Type 0 where
+  -- what was put on the node's edge
   pub more : List Verdict
+  -- the inputs were read on, and that was put
   pub worked : HasWorkedOn kind old mid out.edge more
+  -- with what still waits it is at most two for each verdict that was held, and two
   pub owed : length more + waiting told.out.holds ≤ 2 * held_in old (inputs_of kind) + 2
+  -- for the same edge
   pub edge : told.out.edge ≡ out.edge
+  -- and what is told is sound
   pub sound : IsSound told.out
 
 -- not all that an edge holds need be fresh
@@ -61,6 +68,7 @@ worked_one kind j old mid own more only is g =
       spare = g.spare;
     }
 
+-- the work of a node with two inputs is its work
 pub worked_two : (kind : Kind) (left right : ℕ) (old mid : Held) (own : ℕ) (more : List Verdict)
     → ((k : ℕ) → IsInput kind k → (left ≡ k) ⊎ (right ≡ k)) → ((k : ℕ) → (left ≡ k) ⊎ (right ≡ k) → IsInput kind k)
     → HasWorked old mid own left right more → HasWorkedOn kind old mid own more
@@ -155,10 +163,14 @@ carried (Since s) old mid out marks told own apart none g =
 
 -- and the last span among them
 pub record HasPutAll (kind : Kind) (old new : Held) (out : Out) : Type 0 where
+  -- what was put on the node's edge
   pub more : List Verdict
+  -- the inputs were read on, and that was put
   pub worked : HasWorkedOn kind old new out.edge more
+  -- at most two for each verdict that was held, and two
   pub few : length more ≤ 2 * held_in old (inputs_of kind) + 2
 
+-- once what waits is put too, all is put
 pub put_all : {kind : Kind} {old mid new : Held} {out : Out} {told : Outcome} → ((j : ℕ) → IsInput kind j → j ≢ out.edge)
     → out.edge < length old.edges → HasCarried kind old mid out told → HasFinished mid new told.out → HasPutAll kind old new out
 put_all {kind} {old} {mid} {new} {out} {told} apart own c f =
@@ -194,6 +206,7 @@ released_one {old} {new} kind front j limit sides is within dropped edges start 
       spare = spare;
     }
 
+-- what each of two inputs was let go of is what the node no longer looks at
 pub released_two : {old new : Held} (kind : Kind) (front : ℤ) (left right : ℕ) (left_by right_by : ℤ)
     → ((k : ℕ) → IsSide kind true k → (left ≡ k) × (left_by ≡ front +ℤ looks_by kind true))
     → ((k : ℕ) → IsSide kind false k → (right ≡ k) × (right_by ≡ front +ℤ looks_by kind false))
@@ -217,9 +230,11 @@ released_two {old} {new} kind front left right left_by right_by on_left on_right
         subst (λ (q : ℕ). IsDroppedBy (front +ℤ looks_by kind false) (edge_at old q) (edge_at new q)) one.0
         (subst (λ z. IsDroppedBy z (edge_at old right) (edge_at new right)) one.1 g.other)
 
+-- a number moved by nothing is itself
 pub front_itself : (f : ℤ) → f ≡ f +ℤ pos 0
 front_itself f = omega (arith, ints)
 
+-- a window that is near looks back to near times
 pub back_near : (w : Window) → IsNear w.begin_by → IsNear w.end_by → IsNear (back_by w)
 back_near w low high = by_test (int_lt w.end_by (pos 8589934592))
   where

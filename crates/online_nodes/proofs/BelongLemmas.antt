@@ -1,5 +1,6 @@
 -- What an operator that belongs to its edges may rely on: its inputs, their numbers, and its own allowed number.
-use Rattle.std.proofs.Common.{◌≡◌, refl, sym, ap, subst, ◌∙◌, ℕ, ◌+◌, ◌<◌, ◌≤◌, Bool, true, false, not, Option, Some, None, List, [], ◌∷◌, length, ℤ, pos, neg_ℤ, ◌+ℤ◌, ◌≤ℤ◌, ◌<ℤ◌, arith}
+use Rattle.std.proofs.Common.{◌≡◌, refl, sym, ap, subst, ◌∙◌, ℕ, ◌+◌, ◌<◌, ◌≤◌, Bool, true, false, not, Option}
+use Rattle.std.proofs.Common.{Some, None, List, [], ◌∷◌, length, ℤ, pos, neg_ℤ, ◌+ℤ◌, ◌≤ℤ◌, ◌<ℤ◌, arith}
 use Rattle.rational.specs.Rational.{whole}
 use Rattle.std.specs.Prelude.{◌*◌, ◌-◌, ◌^◌, min, int_lt, ◌&&◌, ◌↔◌, IsTrue, slice_index_or, slice_get, IfSome, option_map}
 use Rattle.std.proofs.lemmas.Int.{ints}
@@ -27,7 +28,8 @@ use Rattle.stl_syntax.specs.declared.node.Node.TheVariants.{
   Once,
   Historically,
 }
-use Rattle.online_nodes.specs.Network.{Event, Front, State, last_row, open_number, allowed, allowed_at, all_at_end, is_atom, node_is_atom, same_front, state, initial, IsReady}
+use Rattle.online_nodes.specs.Network.{Event, Front, State, last_row, open_number, allowed, allowed_at}
+use Rattle.online_nodes.specs.Network.{all_at_end, is_atom, node_is_atom, same_front, state, initial, IsReady}
 use Rattle.online_nodes.specs.Needed.{IsReader}
 use Rattle.online_nodes.specs.Cuts.{place}
 use Rattle.online_nodes.specs.Held.{Held, edge_at, number_at}
@@ -53,6 +55,7 @@ inputs_below (Since p q a b) i m c l = let x = c.0 in let y = c.1 in (omega arit
 inputs_below (Once p a b a_in b_in) i m c l = omega arith
 inputs_below (Historically p a b a_in b_in) i m c l = omega arith
 
+-- the inputs of a node's kind are its children
 pub inputs_are_children : (n : Node) → inputs_of (kind_of n) ≡ children n
 inputs_are_children (Const b) = refl
 inputs_are_children (Leaf a) = refl
@@ -108,6 +111,7 @@ module _ (e : Held) (s : State) (now : ℕ) (last : last_row s ≡ Some (pos now
   stand_is (Once p a b a_in b_in) k = one_stands p (k p true refl)
   stand_is (Historically p a b a_in b_in) k = one_stands p (k p true refl)
 
+  -- the number that the kind allows is that of the node
   pub allowed_is : (n : Node) (ended : Bool) → is_atom n ≡ false → s.closed ≡ ended → NotesInputs e s n
       → allowed_by (kind_of n) e now ended ≡ allowed n s
   allowed_is n ended h c k =
@@ -130,6 +134,7 @@ module _ (e : Held) (s : State) where
   low_near a None r h = bound_near a r
   low_near a (Some b) r h = bound_near a (omega (arith, r, h))
 
+  -- the numbers of the inputs are near enough to be counted
   pub near_is : (i : ℕ) (n : Node) → HasChildrenBelow i n → HasBounds n → own_reach n ≤ 4294967295 → NotesInputs e s n
       → ((p : ℕ) → p < i → IfSome (s.fronts p) IsNear) → AreNear (kind_of n) e
   near_is i (Const b) c h r k all = tt
@@ -146,6 +151,7 @@ module _ (e : Held) (s : State) where
   near_is i (Once p a b a_in b_in) c h r k all = (child_near p (k p true refl) (all p c), low_near a b r h.0)
   near_is i (Historically p a b a_in b_in) c h r k all = (child_near p (k p true refl) (all p c), low_near a b r h.0)
 
+-- fronts that come out as the same are so
 pub same_true : (f g : Front) → same_front f g ≡ true → f ≡ g
 same_true None None e = refl
 same_true None (Some g) e = absurd (let x : false ≡ true = e in cc)
@@ -159,6 +165,7 @@ same_true (Some f) (Some g) e = ap (λ (z : ℤ). Some z) (by_tests (int_lt f g)
         let u : g ≤ℤ f = int_order f g false a in
         let v : f ≤ℤ g = int_order g f false b in omega (arith, ints)
 
+-- and the other way round
 pub same_refl : (f g : Front) → f ≡ g → same_front f g ≡ true
 same_refl None g e = subst (λ (o : Front). same_front None o ≡ true) e refl
 same_refl (Some f) g e = subst (λ (o : Front). same_front (Some f) o ≡ true) e (by_test (int_lt f f) refl)
@@ -176,6 +183,7 @@ neither true t = ((λ h. absurd (let x : false ≡ true = h in cc)), (λ h. absu
 neither false true = ((λ h. absurd (let x : false ≡ true = h in cc)), (λ h. absurd (let x : true ≡ false = h.1 in cc)))
 neither false false = ((λ h. (refl, refl)), (λ h. refl))
 
+-- they come out as different exactly where they are
 pub same_or_not : (f g : Front) → (same_front f g ≡ false) ↔ (f ≡ g → ⊥)
 same_or_not f g = (
   (λ h e. absurd (let x : true ≡ false = sym (same_refl f g e) ∙ h in cc)),
@@ -214,18 +222,23 @@ stands_first nodes header op e n at no_atom kind front unread =
 
 module _ {nodes : List Node} {header : Header} {events : List Event} {op : Operator} {e : Held} {now : ℕ} {ended : Bool}
     (b : Belongs nodes header events op e now ended) where
+  -- the operator's node is one of the formula's
   pub own_within : op.node < length nodes
   own_within = slice_get_within nodes op.node b.stands.node b.stands.at
 
+  -- its children stand before it
   pub own_below : HasChildrenBelow op.node b.stands.node
   own_below = placed nodes op.node b.stands.node b.formed.post_order b.stands.at
 
+  -- its inputs' edges note their numbers
   pub notes : NotesInputs e (state nodes events) b.stands.node
   notes j left r = (b.inputs j b.stands.node left b.stands.at r).0
 
+  -- the node at its place is the one that it stands for
   pub node_is : slice_index_or nodes op.node (Const false) ≡ b.stands.node
   node_is = get_or_from_slice_get nodes op.node b.stands.node (Const false) b.stands.at
 
+  -- its inputs have edges
   pub kind_inputs : AreInputs op.kind (length e.edges)
   kind_inputs = subst (λ k. AreInputs k (length e.edges)) (sym b.stands.kind)
       (subst (λ m. AreInputs (kind_of b.stands.node) m) (sym b.edges)
@@ -247,30 +260,36 @@ module _ {nodes : List Node} {header : Header} {events : List Event} {op : Opera
           let top : f ≤ℤ pos now = subst (λ z. f ≤ℤ z) last high.by_now in
           near_of f (horizon (subformula nodes p)) (first_time (state nodes events).rows) now low top (omega (arith, far, most)) small
 
+  -- the node's bounds are in order
   pub own_bounds : HasBounds b.stands.node
   own_bounds = subst HasBounds node_is (b.formed.bounds op.node (Const false) own_within)
 
+  -- and its reach is small
   pub own_reach_small : own_reach b.stands.node ≤ 4294967295
   own_reach_small =
       let part : own_reach (slice_index_or nodes op.node (Const false)) ≤ reach nodes = get_or-le-sum_by own_reach nodes op.node (Const false) own_within in
       let most = b.formed.reach in
       subst (λ n. own_reach n ≤ 4294967295) node_is (omega (arith, part, most))
 
+  -- its inputs' numbers are near enough to be counted
   pub kind_near : now ≤ 4294967295 → AreNear op.kind e
   kind_near small =
       subst (λ k. AreNear k e) (sym b.stands.kind)
       (near_is e (state nodes events) op.node b.stands.node own_below own_bounds own_reach_small notes
       (λ p l. number_near small p (omega (arith, l, own_within))))
 
+  -- it has an edge
   pub own_edge : op.node < length e.edges
   own_edge = subst (λ m. op.node < m) (sym b.edges) own_within
 
+  -- the number that it is allowed is that of its node
   pub allowed_number : allowed_by op.kind e now ended ≡ allowed_at nodes (state nodes events) op.node
   allowed_number =
       subst (λ k. allowed_by k e now ended ≡ allowed_at nodes (state nodes events) op.node) (sym b.stands.kind)
       (allowed_is e (state nodes events) now b.last b.stands.node ended b.stands.no_atom b.closed notes
       ∙ ap (λ n. allowed n (state nodes events)) (sym node_is))
 
+  -- it is no atom
   pub no_atom_here : node_is_atom nodes op.node ≡ false
   no_atom_here = ap is_atom node_is ∙ b.stands.no_atom
 
@@ -282,12 +301,15 @@ module _ {nodes : List Node} {header : Header} {events : List Event} {op : Opera
       let v : g ≡ (state nodes events).fronts op.node = y ∙ b.number in
       rw (u, v, no_atom_here) refl
 
+  -- what its inputs hold is counted alike
   pub held_is : held_in e (inputs_of op.kind) ≡ held_by_inputs nodes op.node e
   held_is = ap (held_in e) (ap inputs_of b.stands.kind ∙ inputs_are_children b.stands.node ∙ ap children (sym node_is))
 
+  -- where it is ready this is the room that a step may need
   pub room_if_ready : is_ready nodes (state nodes events) op.node ≡ true
       → min (2 * held_in e (inputs_of op.kind) + 2) (2 ^ 64 - 1) ≡ room_of_step nodes events op.node e
   room_if_ready r = rw (r) (ap (λ m. min (2 * m + 2) (2 ^ 64 - 1)) held_is)
 
+  -- and none where it is not
   pub no_room : is_ready nodes (state nodes events) op.node ≡ false → 0 ≡ room_of_step nodes events op.node e
   no_room r = rw (r) refl

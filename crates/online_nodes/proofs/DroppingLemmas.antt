@@ -40,6 +40,7 @@ drop-nil : {X : Type 0} (n : ℕ) → drop {A = X} n [] ≡ []
 drop-nil zero = refl
 drop-nil (suc n) = refl
 
+-- dropping twice is dropping both at once
 pub drop-drop : {X : Type 0} (a b : ℕ) (ys : List X) → drop a (drop b ys) ≡ drop (b + a) ys
 drop-drop a zero ys = let same : a ≡ 0 + a = omega arith in ap (λ k. drop k ys) same
 drop-drop a (suc b) [] = drop-nil a ∙ sym (drop-nil (suc b + a))
@@ -47,6 +48,7 @@ drop-drop a (suc b) (y ∷ ys) =
     let same : suc (b + a) ≡ suc b + a = omega arith in
     drop-drop a b ys ∙ ap (λ k. drop k (y ∷ ys)) same
 
+-- what is dropped of two lists is dropped of the first, and then of the second
 pub drop-both : {X : Type 0} (n : ℕ) (xs ys : List X) → drop n (xs ++ ys) ≡ drop n xs ++ drop (n - length xs) ys
 drop-both zero xs ys = let none : 0 ≡ 0 - length xs = omega arith in ap (λ k. xs ++ drop k ys) none
 drop-both (suc n) [] ys = let all : suc n ≡ suc n - 0 = omega arith in ap (λ k. drop k ys) all
@@ -59,9 +61,11 @@ slice_get-drop zero xs = refl
 slice_get-drop (suc n) [] = refl
 slice_get-drop (suc n) (x ∷ xs) = slice_get-drop n xs
 
+-- an edge without its first verdicts holds the others
 pub held_of-without : (n : ℕ) (x : Edge) → held_of (without n x) ≡ drop n (held_of x)
 held_of-without n x = sym (drop-both n x.seen x.fresh)
 
+-- an edge without none stays
 pub without-none : (x : Edge) → without 0 x ≡ x
 without-none x =
     let none : 0 - length x.seen ≡ 0 = omega arith in
@@ -79,13 +83,18 @@ without-one_more n x =
 
 -- some verdicts are gone from the front, and each of them ends by the limit
 pub record IsCutBy (limit : Rational) (old new : Edge) : Type 0 where
+  -- how many are gone
   pub count : ℕ
+  -- the edge is the old one without them
   pub is : new ≡ without count old
+  -- each of them ends by the limit
   pub ended : (k : ℕ) → k < count → IfSome (slice_get (held_of old) k) (λ v. value v.on.to ≤ʳ limit)
 
+-- where none is gone it is so
 pub cut_none : (limit : Rational) (x : Edge) → IsCutBy limit x x
 cut_none limit x = record { count = 0; is = sym (without-none x); ended = λ k below. absurd (omega arith) }
 
+-- one more may go that ends by the limit
 pub cut_one : {limit : Rational} {old new : Edge} (v : Verdict) → IsCutBy limit old new → slice_get (held_of new) 0 ≡ Some v
     → value v.on.to ≤ʳ limit → IsCutBy limit old (without 1 new)
 cut_one {limit} {old} {new} v cut first ended =

@@ -1,5 +1,6 @@
 -- What a step that is due may rely on, for any kind of node.
-use Rattle.std.proofs.Common.{◌≡◌, ◌≢◌, ◌⊎◌, inl, inr, refl, sym, ap, subst, ◌∙◌, ℕ, ◌<◌, Bool, true, false, Option, Some, None, List, [], ◌∷◌, length, ℤ, pos, ◌≤ℤ◌, ◌<ℤ◌, arith}
+use Rattle.std.proofs.Common.{◌≡◌, ◌≢◌, ◌⊎◌, inl, inr, refl, sym, ap, subst, ◌∙◌, ℕ, ◌<◌, Bool, true, false}
+use Rattle.std.proofs.Common.{Option, Some, None, List, [], ◌∷◌, length, ℤ, pos, ◌≤ℤ◌, ◌<ℤ◌, arith}
 use Rattle.std.specs.Prelude.{◌&&◌, not, cond, int_lt, option_map, IfSome}
 use Rattle.std.proofs.lemmas.Int.{ints}
 use Rattle.rational.specs.Rational.{◌≤ʳ◌, ◌<ʳ◌, ◌≈◌, whole}
@@ -29,7 +30,8 @@ use Rattle.online_nodes.specs.Operators.{KnowsBy, front_place, kind_of, place_of
 use Rattle.online_nodes.specs.Written.{HasTold, IsPending, IsSound}
 use Rattle.online_nodes.specs.declared.cut.Cut.{Cut}
 use Rattle.online_nodes.specs.declared.kind.Kind.{Kind}
-use Rattle.online_nodes.specs.declared.kind.Kind.TheVariants.{Const as Constant, Not as Negation, Join as Connective, Ahead, Behind, Until as UntilOf, Since as SinceOf}
+use Rattle.online_nodes.specs.declared.kind.Kind.TheVariants.{Const as Constant, Not as Negation, Join as Connective}
+use Rattle.online_nodes.specs.declared.kind.Kind.TheVariants.{Ahead, Behind, Until as UntilOf, Since as SinceOf}
 use Rattle.online_nodes.specs.declared.operator.Operator.{Operator}
 use Rattle.online_nodes.specs.declared.answering.Outcome.{Outcome}
 use Rattle.online_nodes.proofs.BelongLemmas.{allowed_number, inputs_are_children, no_atom_here, own_below, own_edge, same_refl, same_true}
@@ -47,6 +49,7 @@ abbrev pub IsOneOf : ℕ → List ℕ → Type 0
 IsOneOf j [] = ⊥
 IsOneOf j (i ∷ places) = (j ≡ i) ⊎ IsOneOf j places
 
+-- an input is among the inputs
 pub input_among : (k : Kind) (j : ℕ) → IsInput k j → IsOneOf j (inputs_of k)
 input_among (Constant b) j h = absurd h
 input_among (Negation p) j h = inl (sym h)
@@ -94,25 +97,31 @@ module _ {x : Situation} {op : Operator} {e : Held} (d : IsDue x op e) where
   pub kind_is : op.kind ≡ kind_of d.belongs.stands.node
   kind_is = d.belongs.stands.kind
 
+  -- and the node is its reader
   pub input_reader : (j : ℕ) → IsInput op.kind j → (left : Bool) × IsReader d.belongs.stands.node left j
   input_reader j a =
       let side = input_side d.belongs.stands.node j (subst (λ k. IsInput k j) kind_is a) in
       (side.0, side_reads d.belongs.stands.node side.0 j side.1)
 
+  -- an input's edge is not the node's own
   pub among_apart : (j : ℕ) → IsInput op.kind j → j ≢ op.node
   among_apart j a = let r = input_reader j a in input_apart d.belongs j r.0 r.1
 
+  -- it is one of the edges
   pub among_within : (j : ℕ) → IsInput op.kind j → j < length e.edges
   among_within j a = let r = input_reader j a in let l : j < length x.nodes = input_within d.belongs j r.0 r.1 in
       let n = d.belongs.edges in omega arith
 
+  -- it tells the truth of the input
   pub among_telling : (j : ℕ) → IsInput op.kind j → IsTelling (subformula x.nodes j) (trace_in x) (first_in x) x.now (edge_at e j)
   among_telling j a = let r = input_reader j a in telling d.belongs j r.0 r.1
 
+  -- a node without a number yet has read nothing before the start
   pub among_first : (j : ℕ) → IsInput op.kind j → op.front ≡ None
       → AtMost (read_upto e j) (record { at = whole (pos (first_in x)); after = false })
   among_first j a none = let r = input_reader j a in read_first d.belongs j r.0 r.1 none
 
+  -- the number that is allowed is the stretch's end
   pub allowed_is : allowed_by op.kind e x.now x.ended ≡ Some x.front
   allowed_is = allowed_number d.belongs ∙ d.allowed
 
@@ -193,21 +202,26 @@ module _ {x : Situation} {op : Operator} {e : Held} (d : IsDue x op e) where
           (λ t u. le_trans u (le_whole (front_later g h)))
 
   module _ {work : Outcome} (g : IsBegun x op work) where
+    -- the node has an edge
     pub begun_own : work.out.edge < length e.edges
     begun_own = let l = own_edge d.belongs in let s = g.edge in omega arith
 
+    -- what is told at first is sound
     pub begun_sound : IsSound work.out
     begun_sound = subst (λ (o : Option Bool). IsSound (record work.out { holds = o })) (sym g.holds)
         (subst (λ (c : Cut). Same (place work.out.from) (place c)) (sym g.at) (same_itself (place work.out.from)))
 
+    -- it begins where the stretch does
     pub begun_at : Same (begins (stretch_of x op)) (place work.out.at)
     begun_at = subst (λ (c : Cut). Same (begins (stretch_of x op)) (place c)) (sym g.at) g.begin
 
+    -- and not beyond its end
     pub begun_inside : AtMost (place work.out.at) (place work.out.to)
     begun_inside t u =
         upto_same (end_of x) (place work.out.to) t (same_places g.end)
         (begin_upto t (upto_same (place work.out.at) (begins (stretch_of x op)) t (same_places begun_at) u))
 
+    -- nothing was told yet
     pub begun_told : (n : Subformula) (tr : Trace) → HasTold n tr (begins (stretch_of x op)) [] work.out
     begun_told n tr = record {
       last = None;

@@ -1,5 +1,6 @@
 -- What stands on the edges of a network, after one event more.
-use Rattle.std.proofs.Common.{◌≡◌, ◌⊎◌, inl, inr, refl, sym, ap, subst, ◌∙◌, ℕ, suc, ◌+◌, ◌-◌, ◌<◌, ◌≤◌, Bool, true, false, Some, None, List, [], ◌∷◌, ◌++◌, length, drop, ℤ, pos, ◌+ℤ◌, ◌≤ℤ◌, ◌<ℤ◌, arith}
+use Rattle.std.proofs.Common.{◌≡◌, ◌⊎◌, inl, inr, refl, sym, ap, subst, ◌∙◌, ℕ, suc, ◌+◌, ◌-◌, ◌<◌, ◌≤◌, Bool, true}
+use Rattle.std.proofs.Common.{false, Some, None, List, [], ◌∷◌, ◌++◌, length, drop, ℤ, pos, ◌+ℤ◌, ◌≤ℤ◌, ◌<ℤ◌, arith}
 use Rattle.std.specs.Prelude.{◌≢◌, int_lt, cond, ◌==◌, slice_get, slice_index_or}
 use Rattle.std.proofs.lemmas.Int.{ints}
 use Rattle.std.proofs.lemmas.List.{append-nil, drop-drop, drop-append-le, drop_all}
@@ -24,7 +25,8 @@ use Rattle.stl_syntax.specs.declared.node.Node.TheVariants.{
   Once,
   Historically,
 }
-use Rattle.online_nodes.specs.Network.{Event, row, step, close, take, Front, State, last_row, shown, is_atom, node_is_atom, allowed_at, after_event, initial, state, reach_back, EmittedAt, Emitted, IsRun, MayCome}
+use Rattle.online_nodes.specs.Network.{Event, row, step, close, take, Front, State, last_row, shown, is_atom, node_is_atom}
+use Rattle.online_nodes.specs.Network.{allowed_at, after_event, initial, state, reach_back, EmittedAt, Emitted, IsRun, MayCome}
 use Rattle.online_nodes.specs.Needed.{IsReader, IsEdge, IsRootEdge, AreNeeded, other, next, nothing_left}
 use Rattle.online_nodes.specs.Laws.{AreTiles, answered_to, IsWhole}
 use Rattle.online_nodes.proofs.RunLaw.{some_is, none_is_none, int_order}
@@ -55,6 +57,7 @@ reader_no_atom (Historically p a b i k) left j r = refl
 abbrev pub Reads : Node → ℕ → Type 0
 Reads n j = ((left : Bool) × IsReader n left j) ⊎ ((left : Bool) → IsReader n left j → ⊥)
 
+-- a node reads another or does not
 pub reads_or_not : (n : Node) (j : ℕ) → Reads n j
 reads_or_not n j = by_node n
   where
@@ -295,6 +298,7 @@ module _ (nodes : List Node) (header : Header) (formed : AreWellFormed nodes) wh
   unfolding state
   run_parts events e run = run_before nodes header order initial events e run
 
+  -- a run with an event that may come is a run
   pub run_more : (events : List Event) (e : Event) → IsRun nodes header events → MayCome nodes header (state nodes events) e
       → IsRun nodes header (events ++ e ∷ [])
   unfolding state
@@ -371,6 +375,7 @@ module _ (nodes : List Node) (header : Header) (formed : AreWellFormed nodes) wh
         ∙ sym (drop-append-le edge.taken edge.emitted here (taken_within nodes header edge.is_taken edge.emitted edge.is_emitted));
   }
 
+  -- an event that is no take leaves the root's edge
   pub root_stays : (events : List Event) (e : Event) → e ≢ take → IsRun nodes header events → length nodes - 1 < length nodes → (held : List Verdict)
       → IsRootEdge nodes header events held
       → (after_event nodes (state nodes events) e).fronts (length nodes - 1) ≡ (state nodes events).fronts (length nodes - 1)
@@ -416,6 +421,7 @@ module _ (nodes : List Node) (header : Header) (formed : AreWellFormed nodes) wh
       by_test true e = absurd (d (grind (arith, e)))
       by_test false e = ap (λ t. cond t (allowed_at nodes s i) (s.fronts j)) e
 
+  -- a row leaves the numbers of all nodes but the atoms
   pub row_leaves : (s : State) (r : Row) (j : ℕ) → node_is_atom nodes j ≡ false → (after_event nodes s (row r)).fronts j ≡ s.fronts j
   row_leaves s r j e = ap (λ t. cond t (Some (pos r.time)) (s.fronts j)) e
 

@@ -1,5 +1,6 @@
 -- What a node gave out in a run: event by event, from the start to its front without gap, and always alike.
-use Rattle.std.proofs.Common.{◌≡◌, inl, inr, refl, sym, ap, subst, ◌∙◌, ℕ, suc, ◌-◌, ◌<◌, ◌≤◌, Bool, true, false, not, Some, None, List, [], ◌∷◌, ◌++◌, length, ℤ, pos, ◌≤ℤ◌, arith, append_assoc, length-append}
+use Rattle.std.proofs.Common.{◌≡◌, inl, inr, refl, sym, ap, subst, ◌∙◌, ℕ, suc, ◌-◌, ◌<◌, ◌≤◌, Bool, true, false, not}
+use Rattle.std.proofs.Common.{Some, None, List, [], ◌∷◌, ◌++◌, length, ℤ, pos, ◌≤ℤ◌, arith, append_assoc, length-append}
 use Rattle.std.specs.Prelude.{MatchBool, ◌≢◌, int_lt, cond}
 use Rattle.std.proofs.lemmas.Int.{ints}
 use Rattle.std.proofs.lemmas.List.{append-nil}
@@ -14,7 +15,8 @@ use Rattle.stl_syntax.specs.Verdicts.{Describes, GoesOn, AreAlike}
 use Rattle.stl_syntax.specs.declared.items.Verdict.{Verdict}
 use Rattle.stl_syntax.specs.declared.node.Node.{Node}
 use Rattle.stl_syntax.proofs.LawProofs.{one_list_of_verdicts}
-use Rattle.online_nodes.specs.Network.{Event, take, Front, State, last_row, shown, same_front, answered, after_event, state_from, initial, state, EmittedAt, EmittedFrom, Emitted, IsRunFrom, IsRun, MayCome}
+use Rattle.online_nodes.specs.Network.{Event, take, Front, State, last_row, shown, same_front, answered, after_event}
+use Rattle.online_nodes.specs.Network.{state_from, initial, state, EmittedAt, EmittedFrom, Emitted, IsRunFrom, IsRun, MayCome}
 use Rattle.online_nodes.specs.Needed.{IsTaken, none, other, next, nothing_left}
 use Rattle.online_nodes.specs.Laws.{AreTiles, answered_to, IsWhole}
 use Rattle.online_nodes.specs.Cuts.{Place, begins, ends, Before, Same}
@@ -70,6 +72,7 @@ goes_tiles p tr stretch v [] h = (h.time, h.inside)
 goes_tiles p tr stretch v (w ∷ vs) h =
     (touching (interval v.on) (interval w.on) h.0, some_between (interval w.on) h.2.not_empty, goes_tiles p tr stretch w vs h.3)
 
+-- verdicts that describe a stretch cover it from begin to end
 pub describes_tiles : (p : Subformula) (tr : Trace) (stretch : Interval) (vs : List Verdict) → Describes vs p tr stretch
     → AreTiles (begins stretch) vs (ends stretch)
 describes_tiles p tr stretch [] h = absurd h

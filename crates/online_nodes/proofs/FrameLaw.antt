@@ -36,6 +36,7 @@ same_number f = by_test (int_lt f f) refl
     by_test false e = subst (λ t. (not t && not t) ≡ true) (sym e) refl
 
 module _ (nodes : List Node) (header : Header) where
+  -- an event more comes after all others
   pub one_more : (s : State) (events : List Event) (e : Event)
       → state_from nodes s (events ++ e ∷ []) ≡ after_event nodes (state_from nodes s events) e
   one_more s [] e = refl
@@ -95,12 +96,14 @@ module _ (nodes : List Node) (header : Header) where
       by_test true e = absurd (d (grind (arith, e)))
       by_test false e = same ((after_event nodes s (step i)).fronts j) (ap (λ t. cond t (allowed_at nodes s i) (s.fronts j)) e)
 
+  -- a take gives nothing more out
   pub no_more_by_take : (events : List Event) (j : ℕ) (vs : List Verdict) → Emitted nodes header events j vs
       → Emitted nodes header (events ++ take ∷ []) j vs
   no_more_by_take events j vs em =
       subst (λ l. Emitted nodes header (events ++ take ∷ []) j l) (append-nil vs)
       (given_more j initial events take vs [] em (nothing_given j (state_from nodes initial events) (state_from nodes initial events) refl))
 
+  -- nor does the end
   pub no_more_by_close : (events : List Event) (j : ℕ) (vs : List Verdict) → Emitted nodes header events j vs
       → Emitted nodes header (events ++ close ∷ []) j vs
   no_more_by_close events j vs em =

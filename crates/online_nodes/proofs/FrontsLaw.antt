@@ -1,5 +1,7 @@
 -- In the run that a stream drives the front of each node is the last row's time less the horizon, and that time itself after the end.
-use Rattle.std.proofs.Common.{◌≡◌, refl, sym, ap, subst, ◌∙◌, ℕ, zero, suc, ◌<◌, ◌+◌, ◌-◌, max, Bool, true, false, Some, None, List, [], ◌∷◌, ◌++◌, length, take as first, ℤ, pos, neg_ℤ, ◌+ℤ◌, ◌-ℤ◌, ◌<ℤ◌, ◌≤ℤ◌, ◌≢◌, inl, inr, All, arith, append-nil, append_assoc, length-append}
+use Rattle.std.proofs.Common.{◌≡◌, refl, sym, ap, subst, ◌∙◌, ℕ, zero, suc, ◌<◌, ◌+◌, ◌-◌, max, Bool, true, false}
+use Rattle.std.proofs.Common.{Some, None, List, [], ◌∷◌, ◌++◌, length, take as first, ℤ, pos, neg_ℤ, ◌+ℤ◌, ◌-ℤ◌}
+use Rattle.std.proofs.Common.{◌<ℤ◌, ◌≤ℤ◌, ◌≢◌, inl, inr, All, arith, append-nil, append_assoc, length-append}
 use Rattle.std.proofs.Math.Seq.{get_or-append_seam}
 use Rattle.std.proofs.lemmas.List.{length_push, length-take-le}
 use Rattle.std.proofs.lemmas.Bool.{cases_lt, eq-eqb}
@@ -8,7 +10,9 @@ use Rattle.std.proofs.lemmas.Int.{ints}
 use Rattle.stl_syntax.specs.Trace.{Header, Row, last_time}
 use Rattle.stl_syntax.specs.Formula.{Subformula, subformula, horizon, tree_of, HasChildrenBelow}
 use Rattle.stl_syntax.specs.PostOrder.{IsPostOrder, children}
-use Rattle.online_nodes.specs.Network.{Event, row, step, close, Front, least, moved_by, State, last_row, open_number, same_front, all_at_end, allowed, allowed_at, is_atom, node_is_atom, initial, after_event, state_from, state}
+use Rattle.online_nodes.specs.Network.{Event, row, step, close, Front, least, moved_by, State, last_row}
+use Rattle.online_nodes.specs.Network.{open_number, same_front, all_at_end, allowed, allowed_at, is_atom}
+use Rattle.online_nodes.specs.Network.{node_is_atom, initial, after_event, state_from, state}
 use Rattle.online_nodes.specs.Driven.{rows_of, steps_of, takes, pass_of, IsDriven, nothing, by_rows, by_end}
 use Rattle.online_nodes.specs.StreamedWide.{front_at}
 use Rattle.online_nodes.specs.Laws.{FrontsAreTimes}
@@ -109,8 +113,11 @@ module _ (nodes : List Node) (order : IsPostOrder nodes) (ended : Bool) (l : ℤ
 
   -- the last row is at l, the end came or not, and each atom stands
   pub record IsPassing (s : State) : Type 0 where
+    -- the last row
     pub last : last_row s ≡ Some l
+    -- whether the end has come
     pub closed : s.closed ≡ ended
+    -- each atom is answered as far as it may be
     pub atoms : (i : ℕ) → i < length nodes → node_is_atom nodes i ≡ true → s.fronts i ≡ Target i
 
   -- where the places before i have their numbers, so has the node at i after its step

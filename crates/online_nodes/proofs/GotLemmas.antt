@@ -6,6 +6,7 @@ use Rattle.seg_pool.proofs.ListsLemmas.{set-set_same}
 use Rattle.online_nodes.specs.Held.{Held, Edge, no_edge, edge_at, with_more}
 use Rattle.online_nodes.specs.Written.{HasGot}
 
+-- an edge with nothing more stays
 pub with_more-none : (x : Edge) → with_more x [] ≡ x
 with_more-none x = ap (λ vs. record { seen = x.seen; fresh = vs; number = x.number }) (append-nil x.fresh)
 
@@ -23,6 +24,7 @@ got_none e i =
     }
 
 module _ {old new : Held} {i : ℕ} {more : List Verdict} (got : HasGot old new i more) where
+  -- there are as many edges as before
   pub got-length : length new.edges ≡ length old.edges
   got-length = ap length got.edges ∙ length-set old.edges i _
 

@@ -103,10 +103,12 @@ rows_from : (nodes : List Node) (header : Header) (s : State) (events : List Eve
 rows_from nodes header s [] r h = h
 rows_from nodes header s (e ∷ events) r h = rows_from nodes header (after_event nodes s e) events r.1 (rows_after nodes header s e r.0 h)
 
+-- the rows of a run are those of a trace
 pub run_is_trace : (nodes : List Node) (header : Header) (events : List Event) (l : ℤ) → IsRun nodes header events
     → last_row (state nodes events) ≡ Some l → IsTrace (trace_of header (state nodes events))
 unfolding state AreRowsSoFar
-run_is_trace nodes header events l run last = record { rows = some ((state_from nodes initial events).rows) refl (rows_from nodes header initial events run tt) }
+run_is_trace nodes header events l run last =
+    record { rows = some ((state_from nodes initial events).rows) refl (rows_from nodes header initial events run tt) }
   where
     some : (rows : List Row) → (state_from nodes initial events).rows ≡ rows → AreRowsSoFar (length header.columns) rows
         → AreRows (length header.columns) rows
@@ -126,7 +128,8 @@ needed_part start f None k em held tiles h =
     inl (one_meeting (needed start f None k) em held em h (needed_first start f None k em (λ g e. absurd (none_is_none g e)) tiles))
 needed_part start f (Some g) k em held tiles h = by_low (int_lt g (pos start)) refl
   where
-    whole_list : ((pos start ≤ℤ g) → (g +ℤ k) <ℤ pos start) → (held ≡ em) ⊎ ((j : ℤ) × (Some g ≡ Some j) × (pos start ≤ℤ j) × (held ≡ beyond (whole (j +ℤ k)) em))
+    whole_list : ((pos start ≤ℤ g) → (g +ℤ k) <ℤ pos start)
+        → (held ≡ em) ⊎ ((j : ℤ) × (Some g ≡ Some j) × (pos start ≤ℤ j) × (held ≡ beyond (whole (j +ℤ k)) em))
     whole_list low = inl (one_meeting (needed start f (Some g) k) em held em h
         (needed_first start f (Some g) k em
         (λ j e s. let same : g ≡ j = some_is g j e in
@@ -178,6 +181,7 @@ module _ {nodes : List Node} {header : Header} {events : List Event} {op : Opera
   left_is = one_side nodes b.formed.post_order op.node b.stands.node edge.left left j b.stands.at
       (subst (λ (n : Node). IsReader n edge.left j) same_node edge.reads) reads
 
+  -- the edge of an input holds what its reader may need
   pub needs : AreNeeded (first_time (state nodes events).rows) (shown (state nodes events) j) ((state nodes events).fronts op.node)
       (reach_back b.stands.node left) edge.emitted (held_at e j)
   needs =
@@ -188,6 +192,7 @@ module _ {nodes : List Node} {header : Header} {events : List Event} {op : Opera
       (subst (λ (t : Bool). AreNeeded (first_time (state nodes events).rows) (shown (state nodes events) j) ((state nodes events).fronts edge.reader)
       (reach_back edge.reading t) edge.emitted (held_at e j)) left_is edge.is_needed))
 
+  -- the input is one of the nodes
   pub input_within : j < length nodes
   input_within =
       let low = child_all (λ p. p < op.node) b.stands.node left j reads
@@ -196,14 +201,22 @@ module _ {nodes : List Node} {header : Header} {events : List Event} {op : Opera
 
   -- what the edge holds leads without gap to the input's front, and each verdict is its truth; before the front is at the start it holds nothing
   pub record IsHeldTo (held : List Verdict) (f : ℤ) : Type 0 where
+    -- it has a number
     pub front : (state nodes events).fronts j ≡ Some f
+    -- which is shown
     pub shown : shown (state nodes events) j ≡ Some f
+    -- and does not lie before the start
     pub low : pos (first_time (state nodes events).rows) ≤ℤ f
+    -- from where its edge holds
     pub begin : Place
+    -- without gap, up to its number
     pub tiles : AreTiles begin held (place_of (Some f))
+    -- not from before the start
     pub from : AtMost (place_at_start (first_time (state nodes events).rows)) begin
+    -- and tells the truth
     pub told : AreTold (subformula nodes j) (trace_of header (state nodes events)) held
 
+  -- an edge holds nothing that is shown, or all up to a number
   pub held_is : ((held_at e j ≡ []) × (shown (state nodes events) j ≡ None)) ⊎ ((f : ℤ) × IsHeldTo (held_at e j) f)
   held_is = by_shown (shown (state nodes events) j) refl needs
     where

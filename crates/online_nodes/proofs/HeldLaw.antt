@@ -22,6 +22,7 @@ use Rattle.online_nodes.proofs.PlaceLemmas.{
 }
 use Rattle.online_nodes.proofs.Writing.{in_upto}
 
+-- a time behind the begin of a stretch, and not behind its end, is in it
 pub is_in : (on : Interval) (t : Rational) → After (begins on) t → Upto (ends on) t → IsIn on t
 is_in on t a u = record { above = by_end on.from_in a; below = by_side on.to_in u }
   where
@@ -44,6 +45,7 @@ upto_le c t = by_side c.after
 pub not_met : (lo f : Rational) (v : Verdict) → value v.on.to ≤ʳ lo → ¬ Meets (left_open lo f) v
 not_met lo f v h m = not_lt_of_le (le_trans (upto_le (ends (interval v.on)) m.0 (in_upto (interval v.on) m.0 m.2)) h) m.1.above
 
+-- a verdict that ends behind lo, and by f, meets the stretch between
 pub met : (lo f : Rational) (v : Verdict) → Before (begins (interval v.on)) (ends (interval v.on))
     → ((t : Rational) → Upto (ends (interval v.on)) t → t ≤ʳ f)
     → lo <ʳ value v.on.to → Meets (left_open lo f) v
@@ -67,6 +69,7 @@ met lo f v some inside l = by_order (place_order (begins (interval v.on)) (recor
     by_order (inr (inr b)) = let t = between (begins (interval v.on)) (ends (interval v.on)) some in
         at_time t.0 t.1 (after_of_before after_lo (begins (interval v.on)) t.0 b t.1) t.2
 
+-- what lies before verdicts that end by f lies before f
 pub tiled_inside : (c : Place) (vs : List Verdict) (d : Place) (f : Rational) → AreTiles c vs d → ((t : Rational) → Upto d t → t ≤ʳ f)
     → (t : Rational) → Upto c t → t ≤ʳ f
 tiled_inside c [] d f s h t u = h t (upto_same c d t s u)

@@ -1,5 +1,6 @@
 -- A step that gives out nothing: of a node that is not ready, and one to a number below the start.
-use Rattle.std.proofs.Common.{◌≡◌, ◌≢◌, refl, sym, ap, subst, ◌∙◌, ℕ, ◌≤◌, Bool, true, false, Option, Some, None, Result, Ok, Err, List, [], ◌∷◌, ◌++◌, ℤ, pos, ◌<ℤ◌, arith}
+use Rattle.std.proofs.Common.{◌≡◌, ◌≢◌, refl, sym, ap, subst, ◌∙◌, ℕ, ◌≤◌, Bool, true, false, Option}
+use Rattle.std.proofs.Common.{Some, None, Result, Ok, Err, List, [], ◌∷◌, ◌++◌, ℤ, pos, ◌<ℤ◌, arith}
 use Rattle.std.specs.Prelude.{◌&&◌, not, option_map, slice_get, IfSome, OnErr}
 use Rattle.std.proofs.lemmas.Int.{ints}
 use Rattle.std.proofs.lemmas.List.{append-nil}
@@ -74,6 +75,7 @@ module _ {nodes : List Node} {header : Header} {events : List Event} {op : Opera
         (subst (λ (o : Front). AreNeeded (first_time (state nodes events).rows) o ((state nodes events).fronts op.node)
         (reach_back b.stands.node left) (edge b j left r).emitted (held_at e j)) (others_after b j (input_apart b j left r)) (needs b j left r)))
 
+    -- a step of a node that is not ready leaves all edges
     pub idle_stepped : HasStepped nodes header events op.node e e
     idle_stepped = record {
       verdicts = [];
@@ -90,6 +92,7 @@ module _ {nodes : List Node} {header : Header} {events : List Event} {op : Opera
       spare = omega arith;
     }
 
+    -- and the operator stands as before
     pub idle_stands : StandsForSteps nodes header (events ++ step op.node ∷ []) op e
     idle_stands = record {
       node = b.stands.node;
@@ -131,6 +134,7 @@ module _ {nodes : List Node} {header : Header} {events : List Event} {op : Opera
           subst (λ (y : Edge). IsEdge nodes header (events ++ step op.node ∷ []) j (held_of y)) (sym same) (edge_low b j left r f allowed low),
         )
 
+    -- a step to a number before the start puts nothing
     pub low_stepped : HasStepped nodes header events op.node e new
     low_stepped = record {
       verdicts = [];
@@ -146,6 +150,7 @@ module _ {nodes : List Node} {header : Header} {events : List Event} {op : Opera
       spare = (let s : new.spare ≡ e.spare = ap (λ (y : Held). y.spare) noted in omega (arith, s));
     }
 
+    -- and the operator notes that number
     pub low_stands : StandsForSteps nodes header (events ++ step op.node ∷ []) op new
     low_stands = record {
       node = b.stands.node;
@@ -179,9 +184,11 @@ module _ {nodes : List Node} {header : Header} {events : List Event} {op : Opera
   abbrev pub situation : ℕ → Situation
   situation front = record { nodes = nodes; header = header; events = events; now = now; ended = ended; front = pos front }
 
+  -- the noted start is that of the rows
   pub start_is : (start : ℕ) → Some start ≡ e.start → first_time (state nodes events).rows ≡ start
   start_is start is = let both : Some start ≡ Some (first_time (state nodes events).rows) = is ∙ b.start in cc
 
+  -- otherwise the step is due
   pub here_due : (start front : ℕ) (number : ℤ) → now ≤ 4294967295 → first_time (state nodes events).rows ≡ start → number ≡ pos front
       → start ≤ front → is_ready nodes (state nodes events) op.node ≡ true → allowed_at nodes (state nodes events) op.node ≡ Some number
       → IsDue (situation front) op e

@@ -42,6 +42,7 @@ pub not_found : (seeks : Bool) (p : Subformula) (tr : Trace) (t : Rational) → 
 not_found true p tr t n = λ c. n c.0
 not_found false p tr t n = λ w. absurd (n w)
 
+-- verdicts that tell a truth tell it where only the trace's times count
 pub counted_tells : (seeks : Bool) (p : Subformula) (tr : Trace) (c : Place) (vs : List Verdict) (d : Place)
     → ((t : Rational) → After c t → Upto d t → Within (start tr) (stop tr) t) → Tells (Truth p tr) c vs d → Tells (Counted seeks p tr) c vs d
 counted_tells seeks p tr c [] d within same = same
@@ -81,6 +82,7 @@ rest_later c (x ∷ xs) ys d (s, b, rest) t h =
     rest_later (ends (interval x.on)) xs ys d rest t
     (upto_of_before (begins (interval x.on)) (ends (interval x.on)) t b (upto_same c (begins (interval x.on)) t s h))
 
+-- the later of verdicts that tell the truth tell it
 pub told_rest : (p : Subformula) (tr : Trace) (xs ys : List Verdict) → AreTold p tr (xs ++ ys) → AreTold p tr ys
 told_rest p tr [] ys h = h
 told_rest p tr (x ∷ xs) ys h = told_rest p tr xs ys h.1
@@ -104,6 +106,7 @@ tiles_beyond lo c (v ∷ vs) d (s, b, rest) = by_test (tiles_beyond lo (ends (in
       λ t h. more.2 t (upto_of_before (begins (interval v.on)) (ends (interval v.on)) t b (upto_same c (begins (interval v.on)) t s h)),
     )
 
+-- and so do those that end behind a time
 pub told_beyond : (p : Subformula) (tr : Trace) (lo : Rational) (vs : List Verdict) → AreTold p tr vs → AreTold p tr (beyond lo vs)
 told_beyond p tr lo [] h = h
 told_beyond p tr lo (v ∷ vs) h = by_test (told_beyond p tr lo vs h.1) (less lo (value v.on.to)) refl

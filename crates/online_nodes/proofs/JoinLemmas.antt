@@ -104,20 +104,29 @@ joined_as n p q tr {v = v} {w = w} join at join_of l r by_v by_w t after upto =
 
 -- some verdicts were read, and at most one put for each
 pub record HasGoneOn (old now : Held) (join : Join) (inputs : Inputs) (out here : Out) : Type 0 where
+  -- what was put on the node's edge
   pub more : List Verdict
+  -- at most one for each verdict that was read
   pub few : length more + (length (fresh_at now inputs.left) + length (fresh_at now inputs.right))
       ≤ length (fresh_at old inputs.left) + length (fresh_at old inputs.right)
+  -- the inputs were read on, and that was put
   pub worked : HasWorked old now out.edge inputs.left inputs.right more
+  -- for the same edge
   pub edge : here.edge ≡ out.edge
+  -- to the same end
   pub end : here.to ≡ out.to
+  -- and what is told is sound
   pub sound : IsSound here
+  -- not beyond the end
   pub inside : AtMost (place here.at) (place out.to)
+  -- what is known of both inputs goes on
   pub goes : (n p q : Subformula) (tr : Trace) (begin : Place) (written : List Verdict) (left right stop_left stop_right : Place)
       → IsJoinOf join n p q tr
       → IsJoining n p q tr begin written out left right stop_left stop_right (fresh_at old inputs.left) (fresh_at old inputs.right)
       → (left' right' : Place)
       × IsJoining n p q tr begin (written ++ more) here left' right' stop_left stop_right (fresh_at now inputs.left) (fresh_at now inputs.right)
 
+-- before the first verdict nothing has changed
 pub gone_none : (e : Held) (join : Join) (inputs : Inputs) (out : Out) → IsSound out → AtMost (place out.at) (place out.to)
     → HasGoneOn e e join inputs out out
 gone_none e join inputs out sound inside =
@@ -138,6 +147,7 @@ gone_none e join inputs out sound inside =
       );
     }
 
+-- one turn more goes on from those before
 pub gone_one : {old now new : Held} {join : Join} {inputs : Inputs} {out here next : Out} → HasGoneOn old now join inputs out here
     → HasReadBoth now new join inputs here next → HasGoneOn old new join inputs out next
 gone_one {old} {now} {new} {join} {inputs} {out} {here} {next} gone one =
@@ -187,17 +197,29 @@ gone_to_end {old} {now} {same} {new} {join} {inputs} {out} {here} {end} gone pau
 
 -- what was said up to the earlier end of both inputs' next verdicts
 pub record IsSaidOfBoth (old mid : Held) (join : Join) (inputs : Inputs) (out next : Out) (v w : Verdict) (both : Place) : Type 0 where
+  -- the first verdict of the left input
   pub first_left : slice_get (fresh_at old inputs.left) 0 ≡ Some v
+  -- the first verdict of the right input
   pub first_right : slice_get (fresh_at old inputs.right) 0 ≡ Some w
+  -- the node has an edge
   pub own : out.edge < length old.edges
+  -- it is not that of the left input
   pub left_apart : inputs.left ≢ out.edge
+  -- nor that of the right one
   pub right_apart : inputs.right ≢ out.edge
+  -- and the two inputs' differ
   pub apart : inputs.left ≢ inputs.right
+  -- the joined truth is told
   pub said : HasAnswer old mid out (joined join v.holds w.holds) next
+  -- further than before
   pub forward : AtMost (place out.at) (place next.at)
+  -- not beyond the end
   pub inside : AtMost (place next.at) (place out.to)
+  -- no further than the left verdict
   pub by_left : (t : Rational) → After (place out.at) t → Upto (place next.at) t → Upto (ends (interval v.on)) t
+  -- nor the right one
   pub by_right : (t : Rational) → After (place out.at) t → Upto (place next.at) t → Upto (ends (interval w.on)) t
+  -- but as far as both
   pub reached : AtMost both (place next.at)
 
 module _ {old mid : Held} {join : Join} {inputs : Inputs} {out next : Out} {v w : Verdict} {both : Place}
@@ -357,6 +379,7 @@ said_of_both first_left first_right own left_apart right_apart apart said reache
 pub at_most_named : (c : Place) {d : Place} {named : Place} → AtMost c d → d ≡ named → AtMost c named
 at_most_named c {d} {named} at_most is t h = subst (λ (q : Place). Upto q t) is (at_most t h)
 
+-- a place under another name keeps its order
 pub named_at_most : {c : Place} (d : Place) {named : Place} → c ≡ named → AtMost c d → AtMost named d
 named_at_most {c} d {named} is at_most t h = at_most t (subst (λ (q : Place). Upto q t) (sym is) h)
 
@@ -372,6 +395,7 @@ same_first xs x y first also = let both = sym first ∙ also in cc
 
 -- where an input has no verdict that was not read, all is told
 module _ (e : Held) (join : Join) (inputs : Inputs) (out : Out) (sound : IsSound out) (inside : AtMost (place out.at) (place out.to)) where
+  -- with nothing more of the left input the turns are done
   pub left_is_out : fresh_at e inputs.left ≡ [] → HasFilled e e join inputs out out
   left_is_out none =
       record {
@@ -389,6 +413,7 @@ module _ (e : Held) (join : Join) (inputs : Inputs) (out : Out) (sound : IsSound
         );
       }
 
+  -- so they are with nothing more of the right one
   pub right_is_out : fresh_at e inputs.right ≡ [] → HasFilled e e join inputs out out
   right_is_out none =
       record {

@@ -27,10 +27,15 @@ AgreesUpto stop P Q = (u : Rational) → Upto stop u → (P u → Q u) × (Q u �
 -- an input that was read up to a place and is answered up to another, once it is answered further: it was read up to where it was, but
 -- for times before the start
 pub record ReadsOn (begin : Rational) (read stop read' stop' : Place) : Type 0 where
+  -- the input is answered no less far
   pub later : AtMost stop stop'
+  -- what was read is answered
   pub within : AtMost read stop
+  -- and so is what is read now
   pub within_new : AtMost read' stop'
+  -- what is read now was read before, or lies before the rows
   pub back : (u : Rational) → Upto read' u → Upto read u ⊎ (u <ʳ begin)
+  -- what was unread stays so
   pub forth : (u : Rational) → begin ≤ʳ u → After read u → After read' u
 
 -- what counts within the trace is the same up to where it is answered, if the truth is

@@ -108,6 +108,7 @@ module _ (p : Subformula) (tr : Trace) (a : ℕ) (a_in b_in : Bool) where
         → Ahead (start tr) (stop tr) a b a_in b_in t u
     ahead t u lo hi within = record { inside = within; begins = begin_in a t u a_in lo; ends = end_in b t u b_in hi }
 
+    -- `eventually` looks for a true time between two places
     pub eventually_looks : Looks true (Truth (eventually a b a_in b_in p) tr) (Counted true p tr) (place_at (pos a) (not a_in))
         (place_at (pos b) b_in)
     eventually_looks =
@@ -116,6 +117,7 @@ module _ (p : Subformula) (tr : Trace) (a : ℕ) (a_in b_in : Bool) where
           spared = λ t none e. none e.0 (in_begin a t e.0 a_in e.1.begins) (in_end b t e.0 b_in e.1.ends) (e.1.inside, e.2);
         }
 
+    -- `always` looks for a false one
     pub always_looks : Looks false (Truth (always a b a_in b_in p) tr) (Counted false p tr) (place_at (pos a) (not a_in)) (place_at (pos b) b_in)
     always_looks =
         record {
@@ -138,6 +140,7 @@ module _ (p : Subformula) (tr : Trace) (a : ℕ) (a_in b_in : Bool) where
         → Behind (start tr) (stop tr) a b a_in b_in t u
     behind t u lo hi within = record { inside = within; begins = from_begin b t u within lo; ends = back_end a t u a_in hi }
 
+    -- `once` looks back for a true one
     pub once_looks : Looks true (Truth (once a b a_in b_in p) tr) (Counted true p tr) (past_begin (start tr) b b_in) (place_at (neg_ℤ (pos a)) a_in)
     once_looks =
         record {
@@ -145,6 +148,7 @@ module _ (p : Subformula) (tr : Trace) (a : ℕ) (a_in b_in : Bool) where
           spared = λ t none e. none e.0 (to_begin b t e.0 e.1.inside e.1.begins) (end_back a t e.0 a_in e.1.ends) (e.1.inside, e.2);
         }
 
+    -- `historically` looks back for a false one
     pub historically_looks :
         Looks false (Truth (historically a b a_in b_in p) tr) (Counted false p tr) (past_begin (start tr) b b_in) (place_at (neg_ℤ (pos a)) a_in)
     historically_looks =
@@ -158,6 +162,7 @@ not_later : (t : Rational) (k : ℕ) → t ≤ʳ later t k
 not_later t k = record { le = omega arith }
 
 module _ (p q : Subformula) (tr : Trace) (a : ℕ) where
+  -- `until` looks for a true right side, while the left one holds
   pub until_looks : (b : ℕ)
       → IsUntilOf (Truth (until a b p q) tr) (Truth p tr) (Counted true q tr) (place_at (pos a) false) (place_at (pos b) true)
   until_looks b =
@@ -173,6 +178,7 @@ module _ (p q : Subformula) (tr : Trace) (a : ℕ) where
         ahead = λ t u lo. le_trans (not_later t a) (begin_in a t u true lo);
       }
 
+  -- `since` looks back for one
   pub since_looks : (b : Option ℕ)
       → IsSinceOf (Truth (since a b p q) tr) (Truth p tr) (Counted true q tr) (past_begin (start tr) b true) (place_at (neg_ℤ (pos a)) true)
   since_looks b =
@@ -189,24 +195,28 @@ module _ (p q : Subformula) (tr : Trace) (a : ℕ) where
       }
 
 module _ (p q : Subformula) (tr : Trace) where
+  -- `and` is true where both are
   pub and_joins : IsJoinOf And (conjunction p q) p q tr
   and_joins t true true x y = (x, y)
   and_joins t true false x y = λ both. y both.1
   and_joins t false true x y = λ both. x both.0
   and_joins t false false x y = λ both. x both.0
 
+  -- `or` where one is
   pub or_joins : IsJoinOf Or (disjunction p q) p q tr
   or_joins t true true x y = inl x
   or_joins t true false x y = inl x
   or_joins t false true x y = inr y
   or_joins t false false x y = λ one. elim one [ inl h ↦ x h | inr h ↦ y h ]
 
+  -- `implies` where the left one is false or the right one true
   pub implies_joins : IsJoinOf Implies (implication p q) p q tr
   implies_joins t true true x y = λ h. y
   implies_joins t true false x y = λ h. y (h x)
   implies_joins t false true x y = λ h. y
   implies_joins t false false x y = λ h. absurd (x h)
 
+-- `not` is true where the other is false
 pub not_denies : (p : Subformula) (tr : Trace) → IsNotOf (negation p) p tr
 not_denies p tr t true x = λ n. n x
 not_denies p tr t false x = x

@@ -102,6 +102,7 @@ longer_alike f f' a b l g h (v ∷ vs) (by, rest) = (
   longer_alike f f' a b l g h vs rest,
 )
 
+-- whole times are ordered as their numbers
 pub whole_order : (f g : ℤ) → f ≤ℤ g → whole f ≤ʳ whole g
 whole_order f g l = le_whole l
 
@@ -109,6 +110,7 @@ whole_order f g l = le_whole l
 pub record AllowsMore (start : ℕ) (old new : Front) (reader : Front) (k : ℤ) : Type 0 where
   -- nothing was shown yet: the reader is below the start too, or what it needs is
   pub low : old ≡ None → (g : ℤ) → reader ≡ Some g → pos start ≤ℤ g → (g +ℤ k) <ℤ pos start
+  -- what the reader needs does not lie behind what is shown
   pub behind : (f : ℤ) → old ≡ Some f → (g : ℤ) → reader ≡ Some g → pos start ≤ℤ g → pos start ≤ℤ (g +ℤ k) → (g +ℤ k) ≤ℤ f
 
 -- what a reader needs of a node's verdicts, with those more that lead on to the node's new front

@@ -45,12 +45,19 @@ use Rattle.online_nodes.proofs.WorkLemmas.{first_and_rest, worked_none, worked_b
 
 -- what was said up to the end of the input's next verdict, or up to the end of the stretch
 pub record IsSaidOf (old mid : Held) (of : ℕ) (out next : Out) (v : Verdict) : Type 0 where
+  -- the first verdict of the input
   pub first : slice_get (fresh_at old of) 0 ≡ Some v
+  -- the node has an edge
   pub own : out.edge < length old.edges
+  -- it is not that of the input
   pub apart : of ≢ out.edge
+  -- the other truth is told
   pub said : HasAnswer old mid out (not v.holds) next
+  -- further than before
   pub forward : AtMost (place out.at) (place next.at)
+  -- not beyond the end
   pub inside : AtMost (place next.at) (place out.to)
+  -- no further than the verdict
   pub by_input : (t : Rational) → After (place out.at) t → Upto (place next.at) t → Upto (ends (interval v.on)) t
 
 module _ {old mid : Held} {of : ℕ} {out next : Out} {v : Verdict} (said : IsSaidOf old mid of out next v) where
@@ -103,17 +110,26 @@ module _ {old mid : Held} {of : ℕ} {out next : Out} {v : Verdict} (said : IsSa
 
 -- some verdicts were read, and at most one put for each
 pub record HasGoneOn (old now : Held) (of : ℕ) (out here : Out) : Type 0 where
+  -- what was put on the node's edge
   pub more : List Verdict
+  -- at most one for each verdict that was read
   pub few : length more + length (fresh_at now of) ≤ length (fresh_at old of)
+  -- the input was read on, and that was put
   pub worked : HasWorked old now out.edge of of more
+  -- for the same edge
   pub edge : here.edge ≡ out.edge
+  -- to the same end
   pub end : here.to ≡ out.to
+  -- and what is told is sound
   pub sound : IsSound here
+  -- not beyond the end
   pub inside : AtMost (place here.at) (place out.to)
+  -- what is known of the input goes on
   pub goes : (n p : Subformula) (tr : Trace) (begin : Place) (written : List Verdict) (read stop : Place) → IsNotOf n p tr
       → IsNegating n p tr begin written out read stop (fresh_at old of)
       → (from : Place) × IsNegating n p tr begin (written ++ more) here from stop (fresh_at now of)
 
+-- before the first verdict nothing has changed
 pub gone_none : (e : Held) (of : ℕ) (out : Out) → IsSound out → AtMost (place out.at) (place out.to) → HasGoneOn e e of out out
 gone_none e of out sound inside =
     record {
@@ -128,6 +144,7 @@ gone_none e of out sound inside =
           (read, subst (λ l. IsNegating n p tr begin l out read stop (fresh_at e of)) (sym (append-nil written)) m);
     }
 
+-- one turn more goes on from those before
 pub gone_one : {old now new : Held} {of : ℕ} {out here next : Out} → HasGoneOn old now of out here → HasReadNext now new of here next
     → HasGoneOn old new of out next
 gone_one {old} {now} {new} {of} {out} {here} {next} gone one =

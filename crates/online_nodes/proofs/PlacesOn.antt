@@ -18,14 +18,18 @@ use Rattle.online_nodes.proofs.KnowingOn.{ReadsOn}
 abbrev pub after_number : ℤ → Place
 after_number f = place_of (Some f)
 
+-- a greater number lies no earlier
 pub later_place : (f g : ℤ) → f ≤ℤ g → AtMost (after_number f) (after_number g)
 later_place f g l t u = le_trans u (le_whole l)
 
 -- an input's verdicts that were not read, and those more that it gave out, in a trace that begins at `start`
 pub record PlacesOn (start : ℕ) (f f' : ℤ) (fresh more : List Verdict) : Type 0 where
+  -- what was read goes on
   pub reads : ReadsOn (whole (pos start)) (first_place fresh (after_number f)) (after_number f) (first_place (fresh ++ more) (after_number f'))
       (after_number f')
+  -- the first place stays
   pub same : pos start ≤ℤ f → Same (first_place fresh (after_number f)) (first_place (fresh ++ more) (after_number f'))
+  -- and so does the first verdict, or it ends behind the old number
   pub first : pos start ≤ℤ f → (v : Verdict) → slice_get (fresh ++ more) 0 ≡ Some v
       → (slice_get fresh 0 ≡ Some v) ⊎ Before (after_number f) (ends (interval v.on))
 
@@ -128,6 +132,7 @@ Leads start f f' fresh more =
     ⊎ ((f <ℤ pos start) × (fresh ≡ []) × (((pos start ≤ℤ f') × AreTiles (answered_to start None) more (answered_to start (Some f')))
     ⊎ ((f' <ℤ pos start) × (more ≡ []))))
 
+-- once an input is answered further, what was read of it stays as it was
 pub places_on : (start : ℕ) (f f' : ℤ) (fresh more : List Verdict) → f ≤ℤ f' → AtMost (first_place fresh (after_number f)) (after_number f)
     → Leads start f f' fresh more → PlacesOn start f f' fresh more
 places_on start f f' fresh more l within (inl (s, tiles)) = shown_places start f f' fresh more l within tiles

@@ -1,5 +1,6 @@
 -- What an operator that belongs to its edges may rely on: each input's edge tells the input, and holds what is needed.
-use Rattle.std.proofs.Common.{◌≡◌, ◌≢◌, inl, inr, refl, sym, ap, subst, ◌∙◌, ℕ, ◌<◌, Bool, true, false, Some, None, List, [], ◌∷◌, ◌++◌, length, ℤ, pos, ◌+ℤ◌, ◌≤ℤ◌, ◌<ℤ◌, arith}
+use Rattle.std.proofs.Common.{◌≡◌, ◌≢◌, inl, inr, refl, sym, ap, subst, ◌∙◌, ℕ, ◌<◌, Bool, true, false}
+use Rattle.std.proofs.Common.{Some, None, List, [], ◌∷◌, ◌++◌, length, ℤ, pos, ◌+ℤ◌, ◌≤ℤ◌, ◌<ℤ◌, arith}
 use Rattle.std.specs.Prelude.{cond, option_map}
 use Rattle.std.proofs.lemmas.Bool.{eq-eqb}
 use Rattle.std.proofs.lemmas.Int.{ints}
@@ -63,9 +64,11 @@ below_start first (Some f) low t u = lt_of_le_of_lt u (lt_whole (low f refl))
 
 module _ {nodes : List Node} {header : Header} {events : List Event} {op : Operator} {e : Held} {now : ℕ} {ended : Bool}
     (b : Belongs nodes header events op e now ended) where
+  -- the numbers of the run are sound
   pub run_sound : IsSound nodes header b.formed.post_order (state nodes events)
   run_sound = sound_of nodes header b.formed.post_order events b.run
 
+  -- the trace so far ends at the last row
   pub stop_is : stop (trace_of header (state nodes events)) ≡ whole (pos now)
   stop_is = ap (λ (l : ℕ). whole (pos l)) (last_is (state nodes events) now b.last)
 
@@ -108,16 +111,19 @@ module _ {nodes : List Node} {header : Header} {events : List Event} {op : Opera
       subst (λ z. f ≤ℤ z) last bound.by_now
 
   module _ (j : ℕ) (left : Bool) (r : IsReader b.stands.node left j) where
+    -- an input stands before its reader
     pub input_below : j < op.node
     input_below = child_all (λ p. p < op.node) b.stands.node left j r
         (children_before nodes header b.formed.post_order op.node b.stands.node (own_within b) b.stands.at)
 
+    -- and is not it
     pub input_apart : j ≢ op.node
     input_apart same = absurd (omega (arith, input_below, same))
 
     abbrev held_edge : IsEdge nodes header events j (held_at e j)
     held_edge = edge b j left r
 
+    -- its edge notes its number
     pub number_is : number_at e j ≡ (state nodes events).fronts j
     number_is = (b.inputs j b.stands.node left b.stands.at r).0
 
@@ -184,6 +190,7 @@ module _ {nodes : List Node} {header : Header} {events : List Event} {op : Opera
             by_tiles [] s = absurd (let y : false ≡ true = s.1 in cc)
             by_tiles (v ∷ vs) s = λ t u. upto_same (begins (interval v.on)) (answered_to S None) t (same_places s.0) u
 
+    -- what it holds is what it showed after the step
     pub edge_of : (held : List Verdict) → AreNeeded (first_time (state nodes events).rows)
         (shown (after_event nodes (state nodes events) (step op.node)) j)
         ((after_event nodes (state nodes events) (step op.node)).fronts op.node) (reach_back b.stands.node left) held_edge.emitted held

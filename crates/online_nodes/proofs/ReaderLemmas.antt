@@ -1,5 +1,6 @@
 -- Each node is read by one node at most, and by its kind an operator knows its node's inputs.
-use Rattle.std.proofs.Common.{◌≡◌, ◌≢◌, inl, inr, refl, sym, ap, subst, ◌∙◌, ℕ, zero, suc, ◌+◌, ◌<◌, ◌≤◌, Bool, true, false, not, Some, None, List, [], ◌∷◌, ◌++◌, length, take, get_or, pos, neg_ℤ, ◌≤ℤ◌, All, arith}
+use Rattle.std.proofs.Common.{◌≡◌, ◌≢◌, inl, inr, refl, sym, ap, subst, ◌∙◌, ℕ, zero, suc, ◌+◌, ◌<◌, ◌≤◌, Bool, true, false}
+use Rattle.std.proofs.Common.{not, Some, None, List, [], ◌∷◌, ◌++◌, length, take, get_or, pos, neg_ℤ, ◌≤ℤ◌, All, arith}
 use Rattle.std.specs.List.{list_any, range_with_len}
 use Rattle.std.specs.Prelude.{slice_get, filter, ◌==◌, cond, int_lt}
 use Rattle.std.proofs.lemmas.Bool.{cases_lt, eq-eqb, or_left, or_right}
@@ -141,6 +142,7 @@ module _ (nodes : List Node) (order : IsPostOrder nodes) where
       list_any_at (has_child j) (take s nodes) r (Const false) (omega (arith, l, len)) (ap (has_child j) there ∙ reader_has n left j reads_r) in
       let x : true ≡ false = sym used ∙ free in cc
 
+  -- two nodes that read one input are the same
   pub one_reader : (r s : ℕ) (n m : Node) (left right : Bool) (j : ℕ) → slice_get nodes r ≡ Some n → slice_get nodes s ≡ Some m
       → IsReader n left j → IsReader m right j → r ≡ s
   one_reader r s n m left right j at_r at_s reads_r reads_s = elim (cases_lt r s) [
@@ -166,6 +168,7 @@ module _ (nodes : List Node) (order : IsPostOrder nodes) where
   not_both_sides r (Once p a b i k) j at x y = y
   not_both_sides r (Historically p a b i k) j at x y = y
 
+  -- and read it on the same side
   pub one_side : (r : ℕ) (n : Node) (left right : Bool) (j : ℕ) → slice_get nodes r ≡ Some n → IsReader n left j → IsReader n right j → left ≡ right
   one_side r n true true j at x y = refl
   one_side r n false false j at x y = refl
@@ -197,6 +200,7 @@ side_reads (Once p a b i k) false j r = absurd r
 side_reads (Historically p a b i k) true j r = r
 side_reads (Historically p a b i k) false j r = absurd r
 
+-- the kind of a node has its inputs on the node's sides
 pub reads_side : (n : Node) (left : Bool) (j : ℕ) → IsReader n left j → IsSide (kind_of n) left j
 reads_side (Const b) left j r = absurd r
 reads_side (Leaf a) left j r = absurd r
@@ -241,6 +245,7 @@ input_side (Always p a b i k) j r = (true, r)
 input_side (Once p a b i k) j r = (true, r)
 input_side (Historically p a b i k) j r = (true, r)
 
+-- an input of a side is an input
 pub side_input : (n : Node) (left : Bool) (j : ℕ) → IsSide (kind_of n) left j → IsInput (kind_of n) j
 side_input (Const b) left j r = absurd r
 side_input (Leaf a) left j r = absurd r
@@ -273,12 +278,14 @@ small_less c h = by_test (int_lt (pos c) (pos 8589934592)) refl
     by_test true e = e
     by_test false e = absurd (let x : pos 8589934592 ≤ℤ pos c = int_order (pos c) (pos 8589934592) false e in omega (arith, ints))
 
+-- twice negated is the number itself
 pub twice_negated : (a : ℕ) → neg_ℤ (neg_ℤ (pos a)) ≡ pos a
 twice_negated a = omega (arith, ints)
 
 past_by : (a c : ℕ) → c ≤ 4294967295 → neg_ℤ (cond (int_lt (pos c) (pos 8589934592)) (pos c) (pos a)) ≡ neg_ℤ (pos c)
 past_by a c h = ap (λ t. neg_ℤ (cond t (pos c) (pos a))) (small_less c h)
 
+-- a kind looks as far back into an input as its node
 pub looks_is : (n : Node) (left : Bool) (j : ℕ) → IsReader n left j → own_reach n ≤ 4294967295 → looks_by (kind_of n) left ≡ reach_back n left
 looks_is (Const b) left j r h = absurd r
 looks_is (Leaf a) left j r h = absurd r

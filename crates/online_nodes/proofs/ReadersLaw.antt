@@ -1,5 +1,6 @@
 -- Each node of a formula but the root is the input of one other node, and the root is the input of none.
-use Rattle.std.proofs.Common.{◌≡◌, ◌⊎◌, inl, inr, refl, sym, ap, subst, ◌∙◌, ℕ, zero, suc, ◌+◌, ◌-◌, ◌<◌, ◌≤◌, Bool, true, false, not, Some, List, [], ◌∷◌, length, take, arith}
+use Rattle.std.proofs.Common.{◌≡◌, ◌⊎◌, inl, inr, refl, sym, ap, subst, ◌∙◌, ℕ, zero, suc, ◌+◌, ◌-◌, ◌<◌}
+use Rattle.std.proofs.Common.{◌≤◌, Bool, true, false, not, Some, List, [], ◌∷◌, length, take, arith}
 use Rattle.std.specs.Prelude.{◌≢◌, cond, ◌==◌, ◌||◌, slice_get, slice_index_or, All}
 use Rattle.std.specs.List.{list_any, filter, range_with_len}
 use Rattle.std.proofs.lemmas.Bool.{cases_order, eq-eqb, or_left, or_right}
@@ -197,10 +198,15 @@ among p j a (suc n) low high free all = by_order (cases_order a j) (λ x y h. am
 
 -- the node that reads a node
 pub record Reader (nodes : List Node) (j : ℕ) : Type 0 where
+  -- which node reads it
   pub reader : ℕ
+  -- that node
   pub node : Node
+  -- on which side
   pub left : Bool
+  -- it stands there
   pub at : slice_get nodes reader ≡ Some node
+  -- and reads it so
   pub reads : IsReader node left j
 
 -- each node but the root has a reader

@@ -25,7 +25,8 @@ use Rattle.online_nodes.specs.declared.answering.Outcome.{Outcome}
 use Rattle.online_nodes.specs.declared.join.Inputs.{Inputs}
 use Rattle.online_nodes.specs.declared.join.Join.{Join}
 use Rattle.online_nodes.specs.declared.kind.Kind.{Kind}
-use Rattle.online_nodes.specs.declared.kind.Kind.TheVariants.{Const as Constant, Not as Negation, Join as Connective, Ahead, Behind, Until as UntilOf, Since as SinceOf}
+use Rattle.online_nodes.specs.declared.kind.Kind.TheVariants.{Const as Constant, Not as Negation, Join as Connective}
+use Rattle.online_nodes.specs.declared.kind.Kind.TheVariants.{Ahead, Behind, Until as UntilOf, Since as SinceOf}
 use Rattle.online_nodes.specs.declared.operator.Operator.{Operator}
 use Rattle.online_nodes.specs.declared.since.Since.{Since as SinceWindow}
 use Rattle.online_nodes.specs.declared.until.Until.{Until as UntilWindow}
@@ -301,7 +302,8 @@ module _ {x : Situation} {op : Operator} {old mid : Held} {work : Outcome} (d : 
     -- some of it went: the stretch is past where it is read on
     until_gone : (v : Verdict) → HasGone u.window.of true left_side left_input v → until_at mid_stop
     until_gone v0 gone =
-        let front : x.front +ℤ looks_by op.kind true ≡ x.front = (let z : looks_by op.kind true ≡ pos 0 = ap (λ k. looks_by k true) kind in omega (arith, ints, z))
+        let front : x.front +ℤ looks_by op.kind true ≡ x.front =
+        (let z : looks_by op.kind true ≡ pos 0 = ap (λ k. looks_by k true) kind in omega (arith, ints, z))
         in
         let most : AtMost (read_upto new u.window.of) (end_of x) =
         subst (λ (z : ℤ). AtMost (read_upto new u.window.of) (just_after z)) front gone.2 in

@@ -104,6 +104,7 @@ use Rattle.online_nodes.proofs.FrameLaw.{one_more}
 pub less_itself : (o : Front) → NeverLess o o
 less_itself o f e = (f, e, omega (arith, ints))
 
+-- fronts that do not fall are ordered
 pub less_through : (o p q : Front) → NeverLess o p → NeverLess p q → NeverLess o q
 less_through o p q h k f e =
     let x = h f e in
@@ -121,6 +122,7 @@ least_of g h = by_test (int_lt h g) refl
     by_test true e = (h, ap (λ t. cond t (Some h) (Some g)) e, inr refl)
     by_test false e = (g, ap (λ t. cond t (Some h) (Some g)) e, inl refl)
 
+-- the least of two that do not fall does not fall
 pub least_rises : (o q o' q' : Front) → NeverLess o o' → NeverLess q q' → NeverLess (least o q) (least o' q')
 least_rises o q o' q' h k f e =
     let low = lesser o q f e in
@@ -155,6 +157,7 @@ same_is (Some f) (Some g) e = by_test (int_lt f g) refl (int_lt g f) refl
     by_test false x false y = ap (λ (z : ℤ). Some z) (let a = int_order f g false x in let b = int_order g f false y in
         let c : f ≡ g = omega (arith, ints) in c)
 
+-- fronts that are the same come out so
 pub same_of : (o q : Front) → o ≡ q → same_front o q ≡ true
 same_of o q e = subst (λ z. same_front o z ≡ true) e (itself o)
   where
@@ -311,7 +314,9 @@ reads_within s n left j r b h e = by_node n left r b e
 
 -- no number of the places before i falls, nor the last row's time
 pub record IsLater (i : ℕ) (s s' : State) : Type 0 where
+  -- the numbers of the nodes before do not fall
   pub fronts : (p : ℕ) → p < i → NeverLess (s.fronts p) (s'.fronts p)
+  -- nor does the last row
   pub last : NeverLess (last_row s) (last_row s')
 
 -- the number that a node may have before the end is known does not fall
@@ -544,10 +549,14 @@ module _ (nodes : List Node) (header : Header) (order : IsPostOrder nodes) where
 
   -- what a state of a run keeps
   pub record IsSound (s : State) : Type 0 where
+    -- no number passes what its inputs allow
     pub bounded : AllBounded nodes header order s
+    -- the atoms are answered up to the last row
     pub atoms : AtomsAtLast s
+    -- and no event lets a number fall
     pub rising : Rising s
 
+  -- an event that may come keeps the numbers sound
   pub sound_after : (s : State) (e : Event) → MayCome nodes header s e → IsSound s → IsSound (after_event nodes s e)
   sound_after s e may h = record {
     bounded = bounded_after nodes header order s e may h.bounded;
@@ -555,6 +564,7 @@ module _ (nodes : List Node) (header : Header) (order : IsPostOrder nodes) where
     rising = rising_after s e may h.bounded h.atoms h.rising;
   }
 
+  -- and so do all events of a run
   pub sound_from : (s : State) (events : List Event) → IsRunFrom nodes header s events → IsSound s → IsSound (state_from nodes s events)
   sound_from s [] r h = h
   sound_from s (e ∷ events) r h = sound_from (after_event nodes s e) events r.1 (sound_after s e r.0 h)

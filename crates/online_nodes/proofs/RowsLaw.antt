@@ -26,6 +26,7 @@ pushed width [] r h l e = (e, tt)
 pushed width (q ∷ rows) r h l e = (h.0, pushed_after width q.time rows r h.1 (omega (arith, ints, l)) e)
 
 module _ (nodes : List Node) (header : Header) where
+  -- the rows stay those of a trace after an event
   pub rows_after : (s : State) (e : Event) → MayCome nodes header s e → AreRowsSoFar (length header.columns) s.rows
       → AreRowsSoFar (length header.columns) (after_event nodes s e).rows
   rows_after s (row r) may h = pushed (length header.columns) s.rows r h may.1 may.2

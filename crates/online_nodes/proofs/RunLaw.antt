@@ -75,6 +75,7 @@ use Rattle.stl_syntax.specs.declared.node.Node.TheVariants.{
   Historically,
 }
 
+-- two fronts that are the same have one number
 pub some_is : (a b : ℤ) → Some a ≡ Some b → a ≡ b
 some_is a b e = ap or_zero e
   where
@@ -82,17 +83,21 @@ some_is a b e = ap or_zero e
     or_zero None = pos 0
     or_zero (Some z) = z
 
+-- none is no number
 pub none_is_none : (a : ℤ) → None ≡ Some a → ⊥
 none_is_none a e = cc
 
+-- a moved front has a number that was moved
 pub moved : (k : ℤ) (o : Front) (f : ℤ) → moved_by k o ≡ Some f → (g : ℤ) × (o ≡ Some g) × (f ≡ g +ℤ k)
 moved k None f e = absurd (none_is_none f e)
 moved k (Some g) f e = (g, refl, sym (some_is (g +ℤ k) f e))
 
+-- a comparison of numbers tells their order
 pub int_order : (a b : ℤ) (t : Bool) → int_lt a b ≡ t → cond t (a <ℤ b) (b ≤ℤ a)
 int_order a b true e = omega (arith, ints)
 int_order a b false e = omega (arith, ints)
 
+-- the least of two fronts is at most both
 pub lesser : (o q : Front) (f : ℤ) → least o q ≡ Some f → (g h : ℤ) × (o ≡ Some g) × (q ≡ Some h) × (f ≤ℤ g) × (f ≤ℤ h)
 lesser None q f e = absurd (none_is_none f e)
 lesser (Some g) None f e = absurd (none_is_none f e)
@@ -205,10 +210,12 @@ module _ (at : ℕ → Subformula) (s : State) where
   open_bound i (Once p a b a_in b_in) f c k e = behind_by p a f (k p c) e
   open_bound i (Historically p a b a_in b_in) f c k e = behind_by p a f (k p c) e
 
+-- of two tests that are both true the first is true
 pub and_left : (a b : Bool) → (a && b) ≡ true → a ≡ true
 and_left true b e = refl
 and_left false b e = absurd (let x : false ≡ true = e in cc)
 
+-- the last row is the one that came last
 pub last_appended : (rows : List Row) (r : Row) (closed : Bool) (fronts : ℕ → Front)
     → last_row (record { rows = rows ++ r ∷ []; closed = closed; fronts = fronts }) ≡ Some (pos r.time)
 last_appended [] r closed fronts = refl
@@ -225,6 +232,7 @@ module _ (nodes : List Node) (header : Header) (order : IsPostOrder nodes) where
   node_at : ℕ → Node
   node_at i = slice_index_or nodes i (Const false)
 
+  -- the number that a node is allowed is not behind the last row
   pub allowed_bound : (s : State) (i : ℕ) (n : Node) (f : ℤ) → i < length nodes → slice_get nodes i ≡ Some n → AllBounded s
       → allowed n s ≡ Some f → IsBounded s (horizon (subformula nodes i)) f
   allowed_bound s i n f l at all e = by_test (s.closed && all_at_end s (children n)) refl

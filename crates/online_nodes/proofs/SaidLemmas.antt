@@ -43,17 +43,26 @@ use Rattle.online_nodes.proofs.WorkLemmas.{passed-here, first_and_rest, worked_p
 
 -- two answers, the one up to the cut `middle` and the other from there on, put at most two verdicts
 pub record HasAnswers (old new : Held) (before : Out) (first : Bool) (middle : Cut) (second : Bool) (after : Out) : Type 0 where
+  -- what was put
   pub more : List Verdict
+  -- at most two verdicts
   pub few : length more ≤ 2
+  -- with what waits, at most two more than before
   pub owed : length more + waiting after.holds ≤ 2 + waiting before.holds
+  -- the node's edge got them
   pub got : HasGot old new before.edge more
+  -- for the same edge
   pub edge : after.edge ≡ before.edge
+  -- to the same end
   pub end : after.to ≡ before.to
+  -- and what is told is sound
   pub sound : IsSound after
+  -- both truths are told, one behind the other
   pub told : (n : Subformula) (tr : Trace) (begin : Place) (written : List Verdict) → HasTold n tr begin written before
       → AllAre first (Truth n tr) (place before.at) (place middle) → AllAre second (Truth n tr) (place middle) (place after.at)
       → HasTold n tr begin (written ++ more) after
 
+-- two answers, one behind the other, say both
 pub answered_twice : {old mid new : Held} {before middle after : Out} {first second : Bool} → before.edge < length old.edges
     → HasAnswer old mid before first middle → HasAnswer mid new middle second after
     → HasAnswers old new before first middle.at second after
@@ -107,9 +116,11 @@ said_both {old} {mid} {new} {before} {middle} {after} {holds} {one} {two} within
     }
 
 module _ {old new : Held} {i : ℕ} {v : Verdict} (passed : HasPassed old new i v) where
+  -- the first verdict was read
   pub passed-fresh : fresh_at new i ≡ drop 1 (fresh_at old i)
   passed-fresh = ap (λ x. x.fresh) (passed-here passed)
 
+  -- there is one fewer to read
   pub passed-one : length (fresh_at old i) ≡ suc (length (fresh_at new i))
   passed-one = ap length (first_and_rest (fresh_at old i) v passed.first) ∙ ap (λ l. suc (length l)) (sym passed-fresh)
 

@@ -1,5 +1,6 @@
 -- Since where both inputs hold: what the right one tells within the run counts from now on.
-use Rattle.std.proofs.Common.{◌≡◌, ◌⊎◌, inl, inr, true, List, ◌++◌, drop, length, Some, slice_get, refl, sym, ap, subst, ◌∙◌, arith, append_assoc, length-append}
+use Rattle.std.proofs.Common.{◌≡◌, ◌⊎◌, inl, inr, true, List, ◌++◌, drop, length, Some, slice_get}
+use Rattle.std.proofs.Common.{refl, sym, ap, subst, ◌∙◌, arith, append_assoc, length-append}
 use Rattle.std.proofs.lemmas.Option.{slice_get_within}
 use Rattle.rational.specs.Rational.{Rational}
 use Rattle.frac128.specs.Spans.{interval}
@@ -64,24 +65,43 @@ use Rattle.online_nodes.proofs.WorkLemmas.{passed-other, worked_put, worked_both
 
 -- what both inputs' next verdicts tell, and from where to where it counts
 pub record IsFound (old mid : Held) (s : Since) (c : Course) (out : Out) (held begin last reach from : Cut) (v w : Verdict) : Type 0 where
+  -- the walk stands so
   pub at : IsWorking old s c
+  -- the window looks back
   pub back : IsBackward s.window
+  -- the first verdict of the left input
   pub first_left : slice_get (fresh_at old s.window.of) 0 ≡ Some v
+  -- the first verdict of the right input
   pub first_right : slice_get (fresh_at old s.right) 0 ≡ Some w
+  -- the left one holds
   pub left_holds : v.holds ≡ true
+  -- and the right one
   pub right_holds : w.holds ≡ true
+  -- from where both do, within the run
   pub from_is : IsLaterOf (begins (interval w.on)) (place c.run) (place from)
+  -- before the right one ends
   pub shared : Before (place from) (ends (interval w.on))
+  -- from where the window meets it
   pub begin_is : Same (place begin) (moved_begin s.window.begin_by s.window.begin_in (place from))
+  -- within the left one
   pub in_run : Before (place begin) (ends (interval v.on))
+  -- not beyond the end
   pub to_end : AtMost (place begin) (place c.out.to)
+  -- up to where what was found counts
   pub held_reach : AtMost (place held) (place c.reach)
+  -- and the left one holds
   pub held_end : AtMost (place held) (ends (interval v.on))
+  -- whichever is earlier
   pub held_one : (held ≡ c.reach) ⊎ (place held ≡ ends (interval v.on))
+  -- so far false and then true is told
   pub said : HasSaidBoth old mid c.out true held begin out
+  -- to where the window meets what was found now
   pub last_is : Same (place last) (moved_end s.window.end_by s.window.end_in (ends (interval w.on)))
+  -- what was found counts as far as before
   pub reach_first : AtMost (place c.reach) (place reach)
+  -- and as far as that
   pub reach_second : AtMost (place last) (place reach)
+  -- whichever is later
   pub reach_one : (reach ≡ c.reach) ⊎ (reach ≡ last)
 
 -- a verdict of the left input, which holds, was read after that

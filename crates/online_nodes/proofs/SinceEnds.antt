@@ -18,7 +18,8 @@ use Rattle.online_nodes.specs.declared.since.Since.{Since}
 use Rattle.online_nodes.specs.declared.writer.Out.{Out}
 use Rattle.online_nodes.proofs.GotLemmas.{got-other}
 use Rattle.online_nodes.proofs.JoinLemmas.{after_at_most}
-use Rattle.online_nodes.proofs.PlaceLemmas.{not_both, between, place_order, upto_of_before, upto_same, after_same, same_before, same_places, at_most_of_not_before}
+use Rattle.online_nodes.proofs.PlaceLemmas.{not_both, between, place_order, upto_of_before, upto_same}
+use Rattle.online_nodes.proofs.PlaceLemmas.{after_same, same_before, same_places, at_most_of_not_before}
 use Rattle.online_nodes.proofs.SinceLaw.{goes_on, went_on, fails, settled, knows_new_run, knows_later}
 use Rattle.online_nodes.proofs.SinceTurns.{IsWorking, left-first, left-says, run_behind, staying-remembers}
 use Rattle.online_nodes.proofs.UntilLaw.{after_later}
@@ -31,8 +32,11 @@ at_most_to c d n = at_most_of_not_before c d n
 
 -- a stretch to the end of which the left input holds, and beyond what was found nothing counts
 pub record IsRest (x : Stay) (s : Since) (c : Course) (r : Reads) (fresh_right : List Verdict) : Type 0 where
+  -- the left side holds up to the end
   pub holds : AllAre true (Truth x.p x.tr) r.read (place c.out.to)
+  -- where nothing counts any more `since` is false
   pub falls : (t : Rational) → After (place c.out.at) t → After (place c.reach) t → Upto (place c.out.to) t → ¬ Truth x.n x.tr t
+  -- nothing more of the right input counts up to the end
   pub spent : IsSpent s fresh_right (place c.out.to) (place c.run)
 
 -- what is told of such a stretch
@@ -253,7 +257,8 @@ module _ {old new : Held} {s : Since} {c : Course} {out : Out} {held to : Cut} {
 
     -- it, or the run, begins only there
     cut_later : AtMost (place c.out.to) r.read → (AtMost (place c.out.to) (begins (interval v.on))) ⊎ (AtMost (place c.out.to) (place c.run))
-        → (r' : Reads) × IsStaying x s (written ++ said.more) (record { out = out; reach = c.reach; run = c.run }) r' (fresh_at old s.window.of) (fresh_at old s.right)
+        → (r' : Reads) × IsStaying x s (written ++ said.more) (record { out = out; reach = c.reach; run = c.run }) r'
+        (fresh_at old s.window.of) (fresh_at old s.right)
         × IsSpent s (fresh_at old s.right) (place c.out.to) (place c.run)
     cut_later whole why = (
       r,
@@ -288,10 +293,12 @@ module _ {old new : Held} {s : Since} {c : Course} {out : Out} {held to : Cut} {
           | inr h ↦ inr (λ t k. h t (whole t k))
         ]
 
+  -- with a left side that holds within the stretch, its end is where what was found counts to
   pub ends_here : Before (begins (interval v.on)) (place c.out.to) → Before (place c.run) (place c.out.to)
       → HasDone old new s c (record { out = out; reach = to; run = to })
   ends_here b d = done (record { out = out; reach = to; run = to }) refl (λ x written r of m. cut_here of m b d)
 
+  -- and with one that begins behind it nothing changes
   pub ends_later : (AtMost (place c.out.to) (begins (interval v.on))) ⊎ (AtMost (place c.out.to) (place c.run))
       → HasDone old new s c (record { out = out; reach = c.reach; run = c.run })
   ends_later why = done (record { out = out; reach = c.reach; run = c.run }) refl (λ x written r of m. cut_later of m (whole of m why) why)

@@ -14,6 +14,7 @@ module _ {N P Q : Truths} {low high : Rational → Place} (since : IsSinceOf N P
   goes_on at run reach l r e m told t a k h = m.counts t a k
       (λ v x y. elim (sides l v) [ inl z ↦ m.holds v x z | inr z ↦ told v z (upto_earlier e v t h y) ])
 
+  -- while the left side holds, what was found counts
   pub went_on : (at run reach l r : Place) → SinceRemembers N P Q low high at run reach l r → (t : Rational) → After at t
       → Upto reach t → Upto l t → N t
   went_on at run reach l r m t a k h = m.counts t a k (λ v x y. m.holds v x (upto_earlier l v t h y))
@@ -200,6 +201,7 @@ remembers_of {N} {P} {Q} {low} {high} start at run reach l r l_stop r_stop since
         by_side (inr h) = k.inside u h
 
 module _ {P Q : Truths} {low high : Rational → Place} where
+  -- where the left side fails a new run begins
   pub knows_new_run : (start at at' run reach l r e l_stop r_stop : Place)
       → KnowsSince P Q low high start at run reach l r l_stop r_stop → Before l e → AllAre false P l e
       → ((t : Rational) → After at' t → After at t × After e t)
@@ -224,6 +226,7 @@ module _ {P Q : Truths} {low high : Rational → Place} where
         | inr x ↦ (u, le_refl u, h, told u x h)
       ]
 
+  -- a right side that fails adds nothing
   pub knows_right_fails : (start at run reach l r f l_stop r_stop : Place)
       → KnowsSince P Q low high start at run reach l r l_stop r_stop → AllAre false Q r f
       → ((u : Rational) → Upto f u → Upto r_stop u) → KnowsSince P Q low high start at run reach l f l_stop r_stop
@@ -238,6 +241,7 @@ module _ {P Q : Truths} {low high : Rational → Place} where
     ahead = λ u a b q. elim (sides r u) [ inl h ↦ k.ahead u a h q | inr h ↦ absurd (told u h b q) ];
   }
 
+  -- what is found within the run counts from then on
   pub knows_found : (start at at' run reach reach' l r x y from to l_stop r_stop : Place)
       → KnowsSince P Q low high start at run reach l r l_stop r_stop
       → ((t : Rational) → Before (low t) (high t)) → Before x y → ((u : Rational) → After x u → After run u) → AllAre true Q x y
@@ -264,6 +268,7 @@ module _ {P Q : Truths} {low high : Rational → Place} where
           → (u : Rational) × After (low t) u × Upto (high t) u × Q u × After run u × Upto r_stop u
       by_share t (u, after_x, upto_y, lo, hi) = (u, lo, hi, q u after_x upto_y, inside u after_x, within u upto_y)
 
+  -- a right verdict that was read to its end is known
   pub knows_right_read : (start at run reach l r y e l_stop r_stop : Place)
       → KnowsSince P Q low high start at run reach l r l_stop r_stop
       → ((t u : Rational) → After at t → After reach t → After (low t) u → After run u → After y u)
@@ -280,6 +285,7 @@ module _ {P Q : Truths} {low high : Rational → Place} where
     ahead = λ u a b q v x z. let h = upto_earlier e v u (inside u b) z in (told v x h, within v h);
   }
 
+  -- and so is a left one that holds
   pub knows_left_read : (start at run reach l r e l_stop r_stop : Place)
       → KnowsSince P Q low high start at run reach l r l_stop r_stop → AllAre true P l e
       → ((t : Rational) → After e t → After l t) → KnowsSince P Q low high start at run reach e r l_stop r_stop

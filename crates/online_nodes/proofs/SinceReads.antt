@@ -1,5 +1,6 @@
 -- Since, verdict by verdict.
-use Rattle.std.proofs.Common.{◌≡◌, inl, inr, ◌+◌, ◌*◌, ◌≤◌, Bool, not, true, false, List, [], ◌++◌, length, Some, slice_get, refl, sym, subst, ◌∙◌, arith, append_assoc, length-append}
+use Rattle.std.proofs.Common.{◌≡◌, inl, inr, ◌+◌, ◌*◌, ◌≤◌, Bool, not, true, false, List, [], ◌++◌, length}
+use Rattle.std.proofs.Common.{Some, slice_get, refl, sym, subst, ◌∙◌, arith, append_assoc, length-append}
 use Rattle.std.proofs.lemmas.List.{append-nil}
 use Rattle.frac128.specs.Spans.{interval}
 use Rattle.stl_syntax.specs.declared.items.Verdict.{Verdict}
@@ -51,6 +52,7 @@ use Rattle.online_nodes.proofs.SinceTurns.{
 use Rattle.online_nodes.proofs.UntilPasses.{before_of_at_most}
 use Rattle.online_nodes.proofs.WorkLemmas.{worked_none, worked_both}
 
+-- what is not true is false
 pub false_of_not : (b : Bool) → not b ≡ true → b ≡ false
 false_of_not true is = cc
 false_of_not false is = refl
@@ -108,13 +110,21 @@ stale_over {old} {new} {s} {c} {w} {from} at first is ended passed fits inside s
 
 -- what both inputs' next verdicts tell: from where to where it would count
 pub record AreBoth (old : Held) (s : Since) (c : Course) (begin from : Place) (v w : Verdict) : Type 0 where
+  -- the walk stands so
   pub at : IsWorking old s c
+  -- the window has its begin
   pub inside : s.window.begin_in ≡ true
+  -- the first verdict of the left input
   pub first_left : slice_get (fresh_at old s.window.of) 0 ≡ Some v
+  -- the first verdict of the right input
   pub first_right : slice_get (fresh_at old s.right) 0 ≡ Some w
+  -- the left one holds
   pub left_holds : v.holds ≡ true
+  -- from where both lie within the run
   pub from_is : IsLaterOf (begins (interval w.on)) (place c.run) from
+  -- before the right one ends
   pub shared : Before from (ends (interval w.on))
+  -- from where the window meets it
   pub begin_is : Same begin (moved_begin s.window.begin_by s.window.begin_in from)
 
 module _ {old : Held} {s : Since} {c : Course} {begin from : Place} {v w : Verdict} (g : AreBoth old s c begin from v w) where
@@ -166,21 +176,32 @@ found_turn g fits new (Done end) (rested, beyond, sooner) = counts_done g rested
 
 -- some verdicts were read, and at most two put for each
 pub record HasCome (old now : Held) (s : Since) (c here : Course) : Type 0 where
+  -- what was put on the node's edge
   pub more : List Verdict
+  -- at most two for each verdict that was read
   pub few : length more + 2 * (length (fresh_at now s.window.of) + length (fresh_at now s.right))
       ≤ 2 * (length (fresh_at old s.window.of) + length (fresh_at old s.right))
+  -- with what waits, no more than that and what waited
   pub owed : length more + waiting here.out.holds + 2 * (length (fresh_at now s.window.of) + length (fresh_at now s.right))
       ≤ 2 * (length (fresh_at old s.window.of) + length (fresh_at old s.right)) + waiting c.out.holds
+  -- the inputs were read on, and that was put
   pub worked : HasWorked old now c.out.edge s.window.of s.right more
+  -- for the same edge
   pub edge : here.out.edge ≡ c.out.edge
+  -- to the same end
   pub end : here.out.to ≡ c.out.to
+  -- and what is told is sound
   pub sound : IsSound here.out
+  -- not beyond the end
   pub inside : AtMost (place here.out.at) (place c.out.to)
+  -- the run may move with the window
   pub fits : CanMoveRun s.window here
+  -- what is known of both inputs goes on
   pub goes : (x : Stay) (written : List Verdict) (r : Reads) → IsSince x s (place c.out.to)
       → IsStaying x s written c r (fresh_at old s.window.of) (fresh_at old s.right)
       → (r' : Reads) × IsStaying x s (written ++ more) here r' (fresh_at now s.window.of) (fresh_at now s.right)
 
+-- before the first verdict nothing has changed
 pub come_none : (e : Held) (s : Since) (c : Course) → IsSound c.out → AtMost (place c.out.at) (place c.out.to) → CanMoveRun s.window c
     → HasCome e e s c c
 come_none e s c sound inside fits =
@@ -198,6 +219,7 @@ come_none e s c sound inside fits =
           (r, subst (λ l. IsStaying x s l c r (fresh_at e s.window.of) (fresh_at e s.right)) (sym (append-nil written)) m);
     }
 
+-- one turn more goes on from those before
 pub come_one : {old now new : Held} {s : Since} {c here next : Course} → HasCome old now s c here → HasMoved now new s here next
     → HasCome old new s c next
 come_one {old} {now} {new} {s} {c} {here} {next} come one =
@@ -220,6 +242,7 @@ come_one {old} {now} {new} {s} {c} {here} {next} come one =
           );
     }
 
+-- the turns and the end of the stretch tell `since` on it
 pub come_done : {old now new : Held} {s : Since} {c here end : Course} → HasCome old now s c here → HasDone now new s here end
     → HasSinceTold old new s c end
 come_done {old} {now} {new} {s} {c} {here} {end} come one =

@@ -1,5 +1,6 @@
 -- The turns of since.
-use Rattle.std.proofs.Common.{◌≡◌, ◌≢◌, ◌⊎◌, inl, inr, ◌+◌, ◌<◌, ℤ, pos, ◌≤ℤ◌, Bool, true, false, not, ◌||◌, ◌&&◌, List, [], ◌∷◌, ◌++◌, drop, length, Some, slice_get, refl, sym, ap, subst, ◌∙◌, arith}
+use Rattle.std.proofs.Common.{◌≡◌, ◌≢◌, ◌⊎◌, inl, inr, ◌+◌, ◌<◌, ℤ, pos, ◌≤ℤ◌, Bool, true, false, not, ◌||◌, ◌&&◌}
+use Rattle.std.proofs.Common.{List, [], ◌∷◌, ◌++◌, drop, length, Some, slice_get, refl, sym, ap, subst, ◌∙◌, arith}
 use Rattle.std.specs.Prelude.{MatchBool}
 use Rattle.std.proofs.lemmas.List.{append-nil}
 use Rattle.rational.specs.Rational.{Rational, ◌≤ʳ◌, ◌<ʳ◌, add, whole}
@@ -64,18 +65,26 @@ moved_order k i c d is (inr (s, e, f)) = inr (same_shift k s, rw (e, is) refl, r
 
 -- the later of two places
 pub record IsLaterOf (a b c : Place) : Type 0 where
+  -- the first is no later
   pub first : AtMost a c
+  -- nor is the second
   pub second : AtMost b c
+  -- and one of them is no earlier
   pub one : (AtMost c a) ⊎ (AtMost c b)
 
+-- what lies behind both lies behind the later one
 pub after_later_of : {a b c : Place} → IsLaterOf a b c → (t : Rational) → After a t → After b t → After c t
 after_later_of {a} {b} {c} is t x y = elim is.one [ inl h ↦ after_at_most c a t h x | inr h ↦ after_at_most c b t h y ]
 
 -- where since works
 pub record IsWorking (old : Held) (s : Since) (c : Course) : Type 0 where
+  -- the node has an edge
   pub own : c.out.edge < length old.edges
+  -- it is not that of the left input
   pub left_apart : s.window.of ≢ c.out.edge
+  -- nor that of the right one
   pub right_apart : s.right ≢ c.out.edge
+  -- and the two inputs' differ
   pub apart : s.window.of ≢ s.right
 
 module _ {x : Stay} {s : Since} {written : List Verdict} {c : Course} {r : Reads} {fresh_left fresh_right : List Verdict}
@@ -90,22 +99,27 @@ module _ {x : Stay} {s : Since} {written : List Verdict} {c : Course} {r : Reads
   pub left-first : {v : Verdict} → slice_get fresh_left 0 ≡ Some v → Tells (Truth x.p x.tr) r.left (v ∷ drop 1 fresh_left) x.stop_left
   left-first {v} first = subst (λ f. Tells (Truth x.p x.tr) r.left f x.stop_left) (first_and_rest fresh_left v first) m.left_tells
 
+  -- what the right input's edge holds is told
   pub right-first : {w : Verdict} → slice_get fresh_right 0 ≡ Some w
       → Tells (Counted true x.q x.tr) r.right (w ∷ drop 1 fresh_right) x.stop_right
   right-first {w} first =
       subst (λ f. Tells (Counted true x.q x.tr) r.right f x.stop_right) (first_and_rest fresh_right w first) m.right_tells
 
+  -- the first left verdict says its truth from where it was read
   pub left-says : {v : Verdict} → slice_get fresh_left 0 ≡ Some v → AllAre v.holds (Truth x.p x.tr) r.read (ends (interval v.on))
   left-says first t after upto = (left-first first).2 t (after_at_most r.left r.read t m.left_behind after) upto
 
+  -- and holds to each place before its end
   pub left_holds_to : {v : Verdict} → slice_get fresh_left 0 ≡ Some v → v.holds ≡ true → (e : Place) → AtMost e (ends (interval v.on))
       → AllAre true (Truth x.p x.tr) r.read e
   left_holds_to {v} first holding e within t after upto =
       subst (λ b. AllAre b (Truth x.p x.tr) r.read (ends (interval v.on))) holding (left-says first) t after (within t upto)
 
+  -- it ends where the left input is answered
   pub left_within : {v : Verdict} → slice_get fresh_left 0 ≡ Some v → AtMost (ends (interval v.on)) x.stop_left
   left_within {v} first = told_before (Truth x.p x.tr) r.left x.stop_left fresh_left v m.left_tells first
 
+  -- so does the right one
   pub right_within : {w : Verdict} → slice_get fresh_right 0 ≡ Some w → AtMost (ends (interval w.on)) x.stop_right
   right_within {w} first = told_before (Counted true x.q x.tr) r.right x.stop_right fresh_right w m.right_tells first
 
@@ -141,17 +155,21 @@ module _ {old mid new : Held} {s : Since} {c : Course} {out : Out} {held cut : C
   kept_left : fresh_at mid s.window.of ≡ fresh_at old s.window.of
   kept_left = ap (λ y. y.fresh) (got-other said.got s.window.of at.left_apart)
 
+  -- the right input stays unread
   pub right_kept : fresh_at new s.right ≡ fresh_at old s.right
   right_kept = ap (λ y. y.fresh) (passed-other passed s.right (λ same. at.apart (sym same))) ∙ ap (λ y. y.fresh)
       (got-other said.got s.right at.right_apart)
 
+  -- of the left one a verdict was read
   pub left_read : fresh_at new s.window.of ≡ drop 1 (fresh_at old s.window.of)
   left_read = passed-fresh passed ∙ ap (drop 1) kept_left
 
+  -- so there is one fewer to read
   pub one_read : length (fresh_at new s.window.of) + length (fresh_at new s.right)
       < length (fresh_at old s.window.of) + length (fresh_at old s.right)
   one_read = omega (arith, ap length kept_left, ap length right_kept, passed-one passed)
 
+  -- the inputs were read on, and what was told was put
   pub all_worked : HasWorked old new c.out.edge s.window.of s.right said.more
   all_worked = worked_then_pass (worked_put at.own at.left_apart at.right_apart said.got) passed (λ same. at.left_apart (sym same)) (inl refl)
 
@@ -222,9 +240,11 @@ run_over {old} {mid} {new} {s} {c} {out} {held} {cut} {v} {y} at first failing s
 
 -- what the node fails up to, and what was read of the right input there
 pub record IsLeftRead (old : Held) (s : Since) (c : Course) (e : Place) : Type 0 where
+  -- where nothing counts any more `since` is false
   pub falls : (x : Stay) (written : List Verdict) (r : Reads) → IsSince x s (place c.out.to)
       → IsStaying x s written c r (fresh_at old s.window.of) (fresh_at old s.right)
       → (t : Rational) → After (place c.out.at) t → After (place c.reach) t → Upto (place c.out.to) t → Upto e t → ¬ Truth x.n x.tr t
+  -- the right verdict counts for nothing from here on
   pub spent : (w : Verdict) → slice_get (fresh_at old s.right) 0 ≡ Some w
       → Before e (moved_begin s.window.begin_by s.window.begin_in (ends (interval w.on)))
 
@@ -293,6 +313,7 @@ left_over {old} {new} {s} {c} {next} {v} at first holding fits why g =
 -- the right input's next verdict was read, and nothing put
 module _ {old new : Held} {s : Since} {c : Course} {w : Verdict} (at : IsWorking old s c)
     (first : slice_get (fresh_at old s.right) 0 ≡ Some w) (passed : HasPassed old new s.right w) where
+  -- the left input stays unread
   pub left_stays : fresh_at new s.window.of ≡ fresh_at old s.window.of
   left_stays = ap (λ y. y.fresh) (passed-other passed s.window.of at.apart)
 
@@ -326,6 +347,7 @@ module _ {old new : Held} {s : Since} {c : Course} {w : Verdict} (at : IsWorking
     },
   )
 
+  -- a right verdict that counts no more is passed over
   pub right_over : CanMoveRun s.window c → s.window.begin_in ≡ true → IsSound c.out → AtMost (place c.out.at) (place c.out.to)
       → ((x : Stay) (written : List Verdict) (r : Reads) → IsSince x s (place c.out.to)
       → IsStaying x s written c r (fresh_at old s.window.of) (fresh_at old s.right)

@@ -1,5 +1,6 @@
 -- What the body of since leaves of a step that is due.
-use Rattle.std.proofs.Common.{◌≡◌, inl, inr, refl, sym, ap, subst, ◌∙◌, ℕ, ◌+◌, ◌≤◌, ◌^◌, Bool, true, false, not, Option, Some, None, List, [], ◌∷◌, length, slice_get, ℤ, pos, ◌+ℤ◌, ◌≤ℤ◌, arith}
+use Rattle.std.proofs.Common.{◌≡◌, inl, inr, refl, sym, ap, subst, ◌∙◌, ℕ, ◌+◌, ◌≤◌, ◌^◌, Bool, true, false, not}
+use Rattle.std.proofs.Common.{Option, Some, None, List, [], ◌∷◌, length, slice_get, ℤ, pos, ◌+ℤ◌, ◌≤ℤ◌, arith}
 use Rattle.std.specs.Prelude.{◌*◌, ◌&&◌, int_lt, MatchBool}
 use Rattle.std.proofs.lemmas.Int.{ints}
 use Rattle.rational.specs.Rational.{Rational, ◌≤ʳ◌, ◌<ʳ◌, whole}
@@ -101,14 +102,23 @@ use Rattle.online_nodes.proofs.Writing.{same_itself}
 
 -- since's bounds, in order and near and not ahead, and what its node is: or a node like it up to a place
 pub record HasSince (n p q : Subformula) (tr : Trace) (s : SinceWindow) (to : Place) : Type 0 where
+  -- the formula that the window tells
   pub like : Subformula
+  -- it is the node's, up to the last row
   pub alike : IsLike like n tr to
+  -- it looks back as the window does
   pub looks : IsSinceOf (Truth like tr) (Truth p tr) (Counted true q tr) (low_place s.window) (high_place s.window)
+  -- the window's ends are in order
   pub order : s.window.begin_by ≤ℤ s.window.end_by
+  -- it looks back
   pub low : pos 0 ≤ℤ s.window.begin_by
+  -- not too far
   pub end_high : s.window.end_by ≤ℤ pos (2 ^ 33)
+  -- it has times
   pub full : is_empty s.window ≡ false
+  -- its begin is in
   pub begin_in : s.window.begin_in ≡ true
+  -- and its end
   pub end_in : s.window.end_in ≡ true
 
 and_false : (b : Bool) → (b && false) ≡ false
@@ -142,6 +152,7 @@ module _ (at : ℕ → Subformula) (i : ℕ) (tr : Trace) (to : Place) where
         since_has (since a (Some 8589934592) (at p) (at q)) (tree_of at i (Since p q a None)) p q a 8589934592
         (since_like tr now small to early a (at p) (at q)) (omega (arith, r)) (omega arith) (since_looks (at p) (at q) tr a (Some 8589934592))
 
+    -- a node of `since` has such a window
     pub since_node : (n : Node) (s : SinceWindow) → kind_of n ≡ SinceOf s → HasBounds n → own_reach n ≤ 4294967295
         → HasSince (tree_of at i n) (at s.window.of) (at s.right) tr s to
     since_node (Since p q a b) s e h r =
@@ -198,19 +209,27 @@ since_same begin at at' run reach read right right' left_stop right_stop s r k =
 module _ {x : Situation} {op : Operator} {old : Held} {work : Outcome} (d : IsDue x op old) (g : IsBegun x op work) {s : SinceWindow}
     (kind : op.kind ≡ SinceOf s)
     (has : HasSince (formula_of x op) (subformula x.nodes s.window.of) (subformula x.nodes s.right) (trace_in x) s (end_of x)) where
+  -- its left side is an input
   pub since_left : IsInput op.kind s.window.of
   since_left = subst (λ k. IsInput k s.window.of) (sym kind) (inl refl)
 
+  -- and its right side
   pub since_right : IsInput op.kind s.right
   since_right = subst (λ k. IsInput k s.right) (sym kind) (inr refl)
 
   -- the inputs' numbers: the left one's is not below the node's, and the right one's not below what the window needs
   record HasNumbers : Type 0 where
+    -- the left input's number
     pub f : ℤ
+    -- the right input's number
     pub h : ℤ
+    -- its edge notes it
     pub left : number_at old s.window.of ≡ Some f
+    -- and the other's its own
     pub right : number_at old s.right ≡ Some h
+    -- the stretch does not end behind the left one
     pub left_front : x.front ≤ℤ f
+    -- nor behind the right one, moved by the window
     pub right_front : x.front ≤ℤ (h +ℤ s.window.begin_by)
 
   has_numbers : HasNumbers
@@ -417,6 +436,7 @@ module _ {x : Situation} {op : Operator} {old : Held} {work : Outcome} (d : IsDu
       },
     )
 
+  -- at first nothing is known but what the marks say
   pub begun_staying : (r : Reads) × IsStaying stay s [] begun_course r (fresh_at old s.window.of) (fresh_at old s.right)
   begun_staying = by_front op.front refl
     where
@@ -424,6 +444,7 @@ module _ {x : Situation} {op : Operator} {old : Held} {work : Outcome} (d : IsDu
       by_front None h = staying_first h
       by_front (Some f) h = staying_later f h
 
+  -- the window looks back
   pub since_backward : IsBackward s.window
   since_backward = record { begin_in = has.begin_in; end_in = has.end_in; low = has.low; order = has.order }
 
@@ -456,6 +477,7 @@ module _ {x : Situation} {op : Operator} {old : Held} {work : Outcome} (d : IsDu
       let order = has.order in let low = has.low in let high = has.end_high in
       fits_moved s.window.begin_by from to (omega (arith, ints)) (omega (arith, ints))
 
+  -- the turns of `since` are the work of the step
   pub since_worked : {new : Held} (done : Outcome)
       → HasSinceTold old new s begun_course (record { out = done.out; reach = done.marks.reach; run = done.marks.run })
       → HasWorkedOut x op old new done

@@ -1,5 +1,6 @@
 -- An operator stands for the steps of its node as the others go on, rows come, the end comes and verdicts are taken.
-use Rattle.std.proofs.Common.{◌≡◌, ◌⊎◌, inl, inr, refl, sym, ap, subst, ◌∙◌, ℕ, ◌<◌, Bool, true, false, Option, Some, None, List, [], ◌∷◌, ◌++◌, length, ℤ, pos, ◌+ℤ◌, ◌≤ℤ◌, ◌<ℤ◌, arith}
+use Rattle.std.proofs.Common.{◌≡◌, ◌⊎◌, inl, inr, refl, sym, ap, subst, ◌∙◌, ℕ, ◌<◌, Bool, true, false, Option}
+use Rattle.std.proofs.Common.{Some, None, List, [], ◌∷◌, ◌++◌, length, ℤ, pos, ◌+ℤ◌, ◌≤ℤ◌, ◌<ℤ◌, arith}
 use Rattle.std.specs.Prelude.{int_lt, slice_get, IfSome, option_map}
 use Rattle.std.proofs.lemmas.Int.{ints}
 use Rattle.std.proofs.lemmas.Option.{slice_get_within, get_or_from_slice_get}
@@ -58,13 +59,21 @@ module _ (nodes : List Node) (header : Header) (formed : AreWellFormed nodes) wh
 
   -- an input of a node, before an event and after it: it got what it gave out
   pub record InputOn (s s' : State) (e e' : Held) (j : ℕ) : Type 0 where
+    -- the edge noted its number
     pub number : number_at e j ≡ s.fronts j
+    -- and notes its new one
     pub number_new : number_at e' j ≡ s'.fronts j
+    -- what the node gave out meanwhile
     pub more : List Verdict
+    -- it stands behind what was unread
     pub fresh : fresh_at e' j ≡ fresh_at e j ++ more
+    -- what was read stays
     pub seen : (edge_at e' j).seen ≡ (edge_at e j).seen
+    -- it is what the node gives out
     pub emitted : EmittedAt nodes header j s s' more
+    -- an edge that shows nothing has nothing to read
     pub unshown : shown s j ≡ None → fresh_at e j ≡ []
+    -- what is unread does not begin behind the number
     pub within : (f : ℤ) → s.fronts j ≡ Some f → AtMost (first_place (fresh_at e j) (after_number f)) (after_number f)
 
   -- what an input gave out leads on
@@ -462,8 +471,10 @@ module _ (nodes : List Node) (header : Header) (formed : AreWellFormed nodes) wh
     }
       where
         by_front : (o : Option ℕ) → op.front ≡ o
-            → IfSome o (λ f. KnowsBy (kind_of st.node) nodes (trace_of header s) e (record { at = whole (pos f); after = true }) (place op.reach) (place op.run))
-            → IfSome o (λ f. KnowsBy (kind_of st.node) nodes (trace_of header s') e' (record { at = whole (pos f); after = true }) (place op.reach) (place op.run))
+            → IfSome o
+            (λ f. KnowsBy (kind_of st.node) nodes (trace_of header s) e (record { at = whole (pos f); after = true }) (place op.reach) (place op.run))
+            → IfSome o
+            (λ f. KnowsBy (kind_of st.node) nodes (trace_of header s') e' (record { at = whole (pos f); after = true }) (place op.reach) (place op.run))
         by_front None x k = k
         by_front (Some f) x k =
             let was = shown_is nodes header order s op.node (pos f) (st.front ∙ ap (option_map pos) x) in

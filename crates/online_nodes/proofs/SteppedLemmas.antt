@@ -1,6 +1,7 @@
 -- From a step's parts to what it leaves: the verdicts of the stretch on the node's edge, the inputs' edges, and the operator that belongs
 -- to them.
-use Rattle.std.proofs.Common.{◌≡◌, ◌≢◌, refl, sym, ap, subst, ◌∙◌, ℕ, ◌<◌, Bool, true, false, Some, None, List, [], ◌∷◌, ◌++◌, length, ℤ, pos, ◌≤ℤ◌, ◌<ℤ◌, arith}
+use Rattle.std.proofs.Common.{◌≡◌, ◌≢◌, refl, sym, ap, subst, ◌∙◌, ℕ, ◌<◌, Bool, true, false, Some}
+use Rattle.std.proofs.Common.{None, List, [], ◌∷◌, ◌++◌, length, ℤ, pos, ◌≤ℤ◌, ◌<ℤ◌, arith}
 use Rattle.std.specs.Prelude.{◌&&◌, not, option_map, slice_get, MatchBool}
 use Rattle.std.proofs.lemmas.Int.{ints}
 use Rattle.std.proofs.lemmas.List.{get_or-set_same, get_or-set_other, length-set}
@@ -41,11 +42,13 @@ pub reached-here : (old new : Held) (i : ℕ) (n : ℤ) → i < length old.edges
 reached-here old new i n within is =
     ap (λ (e : Held). edge_at e i) is ∙ get_or-set_same old.edges i (with_number (edge_at old i) n) no_edge within
 
+-- noting a number leaves the other edges
 pub reached-other : (old new : Held) (i : ℕ) (n : ℤ) (j : ℕ) → j ≢ i
     → new ≡ record old { edges = with_edge old i (with_number (edge_at old i) n) } → edge_at new j ≡ edge_at old j
 reached-other old new i n j other is =
     ap (λ (e : Held). edge_at e j) is ∙ get_or-set_other old.edges i j (with_number (edge_at old i) n) no_edge other
 
+-- and as many as before
 pub reached-length : (old new : Held) (i : ℕ) (n : ℤ) → new ≡ record old { edges = with_edge old i (with_number (edge_at old i) n) }
     → length new.edges ≡ length old.edges
 reached-length old new i n is = ap (λ (e : Held). length e.edges) is ∙ length-set old.edges i (with_number (edge_at old i) n)

@@ -43,6 +43,7 @@ module _ (nodes : List Node) (header : Header) (order : IsPostOrder nodes) (s : 
       by_atom false x before = has_allowed i l x
           ∙ allowed_is nodes order s.closed last s i (slice_index_or nodes i (Const false)) (slice_get_at nodes i (Const false) l) l passing before
 
+  -- each node is answered as far as the rows allow
   pub all_settled : (i : ℕ) → i < length nodes → s.fronts i ≡ Some (front_at s.closed last (subformula nodes i))
   all_settled i l = below (suc i) i (omega arith) l
 

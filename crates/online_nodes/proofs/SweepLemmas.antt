@@ -41,20 +41,32 @@ use Rattle.online_nodes.proofs.WorkLemmas.{worked_none, worked_put, worked_both}
 
 -- some verdicts were read, and at most two put for each
 pub record HasGoneOn (old now : Held) (w : Window) (s here : Sweep) : Type 0 where
+  -- what was put on the node's edge
   pub more : List Verdict
+  -- at most two for each verdict that was read
   pub few : length more + 2 * length (fresh_at now w.of) ≤ 2 * length (fresh_at old w.of)
+  -- with what waits, no more than that and what waited
   pub owed : length more + waiting here.out.holds + 2 * length (fresh_at now w.of) ≤ 2 * length (fresh_at old w.of) + waiting s.out.holds
+  -- the input was read on, and that was put
   pub worked : HasWorked old now s.out.edge w.of w.of more
+  -- how many verdicts were read
   pub read : ℕ
+  -- they were the first
   pub fresh : fresh_at now w.of ≡ drop read (fresh_at old w.of)
+  -- for the same edge
   pub edge : here.out.edge ≡ s.out.edge
+  -- to the same end
   pub end : here.out.to ≡ s.out.to
+  -- and what is told is sound
   pub sound : IsSound here.out
+  -- not beyond the end
   pub inside : AtMost (place here.out.at) (place s.out.to)
+  -- what is known of the input goes on
   pub swept : (n p : Subformula) (tr : Trace) (begin : Place) (written : List Verdict) (read stop : Place)
       → IsWindowOf n p tr w (place s.out.to) stop → IsSwept n p tr w begin written s read stop (fresh_at old w.of)
       → (from : Place) × IsSwept n p tr w begin (written ++ more) here from stop (fresh_at now w.of)
 
+-- before the first verdict nothing has changed
 pub gone_none : (e : Held) (w : Window) (s : Sweep) → IsSound s.out → AtMost (place s.out.at) (place s.out.to) → HasGoneOn e e w s s
 gone_none e w s sound inside =
     record {
@@ -72,6 +84,7 @@ gone_none e w s sound inside =
           (read, subst (λ l. IsSwept n p tr w begin l s read stop (fresh_at e w.of)) (sym (append-nil written)) m);
     }
 
+-- one turn more goes on from those before
 pub gone_one : {old now new : Held} {w : Window} {s here next : Sweep} → HasGoneOn old now w s here → HasRead now new w here next
     → HasGoneOn old new w s next
 gone_one {old} {now} {new} {w} {s} {here} {next} gone one =

@@ -19,6 +19,7 @@ use Rattle.online_nodes.proofs.PlaceLemmas.{sides, not_both, before_same, same_b
 use Rattle.online_nodes.proofs.WindowLaw.{before_it, settled, remembers_of, knows_passed, knows_entered}
 use Rattle.online_nodes.proofs.WindowPlaces.{meets_after, meets_upto}
 
+-- a list without a first item is empty
 pub no_first : (l : List Verdict) → slice_get l 0 ≡ None → l ≡ []
 no_first [] e = refl
 no_first (v ∷ l) e = absurd (let x : Some v ≡ None = e in cc)
@@ -27,36 +28,43 @@ or_first : Verdict → Option Verdict → Verdict
 or_first d None = d
 or_first d (Some v) = v
 
+-- a list with one begins with it
 pub first_is : (l : List Verdict) (v : Verdict) → slice_get l 0 ≡ Some v
     → (rest : List Verdict) × (l ≡ v ∷ rest) × (drop 1 l ≡ rest)
 unfolding or_first
 first_is [] v e = absurd (let x : None ≡ Some v = e in cc)
 first_is (w ∷ l) v e = (l, ap (λ x. x ∷ l) (let x : Some w ≡ Some v = e in ap (or_first w) x), refl)
 
+-- a truth that is not the sought one is the other
 pub sought_not : (a b : Bool) → not (beq a b) ≡ true → a ≡ not b
 sought_not true true e = absurd (let x : false ≡ true = e in cc)
 sought_not true false e = refl
 sought_not false true e = refl
 sought_not false false e = absurd (let x : false ≡ true = e in cc)
 
+-- one that is not another is the sought one
 pub sought_is : (a b : Bool) → not (beq a b) ≡ false → a ≡ b
 sought_is true true e = refl
 sought_is true false e = absurd (let x : true ≡ false = e in cc)
 sought_is false true e = absurd (let x : true ≡ false = e in cc)
 sought_is false false e = refl
 
+-- where a window begins depends on the place alone
 pub begin_alike : (r : Place) (k j : ℤ) (i : Bool) (c d : Place) → k ≡ j → c ≡ d → Same r (moved_begin k i c)
     → Same r (moved_begin j i d)
 begin_alike r k j i c d e f h = subst (λ x. Same r (moved_begin x i d)) e (subst (λ x. Same r (moved_begin k i x)) f h)
 
+-- and where it ends
 pub end_alike : (r : Place) (k j : ℤ) (i : Bool) (c d : Place) → k ≡ j → c ≡ d → Same r (moved_end k i c)
     → Same r (moved_end j i d)
 end_alike r k j i c d e f h = subst (λ x. Same r (moved_end x i d)) e (subst (λ x. Same r (moved_end k i x)) f h)
 
+-- whether a moved time fits depends on the time alone
 pub fits_alike : (a b : Rational) (k j : ℤ) → a ≡ b → k ≡ j → FitsFloor w64 (add b (whole j)) → FitsFloor w64 (add a (whole k))
 fits_alike a b k j e f h = subst (λ x. FitsFloor w64 (add x (whole k))) (sym e)
     (subst (λ x. FitsFloor w64 (add b (whole x))) (sym f) h)
 
+-- a list that begins with an item is not empty
 pub not_empty : (l rest : List Verdict) (v : Verdict) → l ≡ v ∷ rest → 0 < length l
 not_empty l rest v e = subst (λ x. 0 < length x) (sym e)
     (let h : length (v ∷ rest) ≡ suc (length rest) = refl in omega (arith, h))
@@ -120,6 +128,7 @@ module _ (n p : Subformula) (tr : Trace) (w : Window) (begin : Place) (written :
       back b = after_same (moved_begin w.begin_by w.begin_in (begins (interval v.on))) from t (same_places s)
           ((meets t).1 (same_before (begins (interval v.on)) read (high_place w t) (same_places tells.0) b))
 
+  -- up to where the window meets a verdict, it meets its end
   pub ends_there : (v : Verdict) (to : Place) → Same to (moved_end w.end_by w.end_in (ends (interval v.on)))
       → MeetsUpto (low_place w) (ends (interval v.on)) to
   ends_there v to s t = (there, back)

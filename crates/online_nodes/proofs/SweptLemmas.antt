@@ -1,5 +1,6 @@
 -- What the body of a window leaves of a step that is due.
-use Rattle.std.proofs.Common.{◌≡◌, ◌⊎◌, inl, inr, refl, sym, ap, subst, ◌∙◌, ℕ, ◌+◌, ◌^◌, Bool, true, false, not, Option, Some, None, [], length, slice_get, ℤ, pos, neg_ℤ, ◌+ℤ◌, ◌≤ℤ◌, arith}
+use Rattle.std.proofs.Common.{◌≡◌, ◌⊎◌, inl, inr, refl, sym, ap, subst, ◌∙◌, ℕ, ◌+◌, ◌^◌, Bool, true, false, not}
+use Rattle.std.proofs.Common.{Option, Some, None, [], length, slice_get, ℤ, pos, neg_ℤ, ◌+ℤ◌, ◌≤ℤ◌, arith}
 use Rattle.std.specs.Prelude.{MatchBool}
 use Rattle.std.proofs.lemmas.Int.{ints}
 use Rattle.rational.specs.Rational.{Rational, ◌≤ʳ◌, ◌<ʳ◌, ◌≈◌, add, whole}
@@ -69,6 +70,7 @@ pub beyond_trace : (seeks : Bool) (p : Subformula) (tr : Trace) (u : Rational) �
 beyond_trace true p tr u l = λ c. not_lt_of_le c.0.below l
 beyond_trace false p tr u l = λ w. absurd (not_lt_of_le w.below l)
 
+-- before the trace nothing counts
 pub before_trace : (seeks : Bool) (p : Subformula) (tr : Trace) (u : Rational) → u <ʳ start tr → Is (not seeks) (Counted seeks p tr) u
 before_trace true p tr u l = λ c. not_lt_of_le c.0.above l
 before_trace false p tr u l = λ w. absurd (not_lt_of_le w.above l)
@@ -81,6 +83,7 @@ knows_same at at' reach read read' stop s r k = record {
   rest = λ t u a b lo hi h. k.rest t u (after_same at' at t (same_places s) a) b lo hi (upto_same read' read u (same_places r) h);
 }
 
+-- the sum of whole times is whole
 pub whole_sum : (j k : ℤ) → add (whole j) (whole k) ≈ whole (j +ℤ k)
 whole_sum j k = record { same = omega (arith, parts) }
 
@@ -102,15 +105,19 @@ abbrev pub IsWindowKind : Kind → Window → Type 0
 IsWindowKind k w = (k ≡ Ahead w) ⊎ (k ≡ Behind w)
 
 module _ {k : Kind} {w : Window} (is : IsWindowKind k w) where
+  -- what the input holds is what the window's edge holds
   pub window_held : (e : Held) → held_in e (inputs_of k) ≡ length (held_at e w.of) + 0
   window_held e = elim is [ inl s ↦ ap (λ k. held_in e (inputs_of k)) s | inr s ↦ ap (λ k. held_in e (inputs_of k)) s ]
 
+  -- the window's input is the node's
   pub window_input : (j : ℕ) → w.of ≡ j → IsInput k j
   window_input j h = elim is [ inl s ↦ subst (λ k. IsInput k j) (sym s) h | inr s ↦ subst (λ k. IsInput k j) (sym s) h ]
 
+  -- and it has no other
   pub input_window : (j : ℕ) → IsInput k j → w.of ≡ j
   input_window j h = elim is [ inl s ↦ subst (λ k. IsInput k j) s h | inr s ↦ subst (λ k. IsInput k j) s h ]
 
+  -- what the marks say of the input is what the window knows
   pub window_knows : (x : Situation) (e : Held) (at reach run : Place)
       → Knows w.seeks (Counted w.seeks (subformula x.nodes w.of) (trace_in x)) (low_place w) (high_place w) at reach (read_upto e w.of)
       (front_place e w.of) → KnowsBy k x.nodes (trace_in x) e at reach run
@@ -119,6 +126,7 @@ module _ {k : Kind} {w : Window} (is : IsWindowKind k w) where
     | inr s ↦ subst (λ k. KnowsBy k x.nodes (trace_in x) e at reach run) (sym s) h
   ]
 
+  -- and the other way round
   pub knows_window : (x : Situation) (e : Held) (at reach run : Place) → KnowsBy k x.nodes (trace_in x) e at reach run
       → Knows w.seeks (Counted w.seeks (subformula x.nodes w.of) (trace_in x)) (low_place w) (high_place w) at reach (read_upto e w.of)
       (front_place e w.of)
@@ -127,6 +135,7 @@ module _ {k : Kind} {w : Window} (is : IsWindowKind k w) where
     | inr s ↦ subst (λ k. KnowsBy k x.nodes (trace_in x) e at reach run) s h
   ]
 
+  -- what the window leaves counts beyond the stretch alone
   pub window_leaves : (e : Held) (to run : Place) → (is_empty w ≡ false → CountsBeyond e w to) → LeavesLater k e to run
   window_leaves e to run h = elim is [
     | inl s ↦ subst (λ k. LeavesLater k e to run) (sym s) h
@@ -147,6 +156,7 @@ module _ {k : Kind} {w : Window} (is : IsWindowKind k w) where
 
 module _ {x : Situation} {op : Operator} {old : Held} {work : Outcome} (d : IsDue x op old) (g : IsBegun x op work) {w : Window}
     (is : IsWindowKind op.kind w) (has : HasWindow (formula_of x op) (subformula x.nodes w.of) (trace_in x) w (end_of x)) where
+  -- the window's input is an input of the operator
   pub among_window : IsInput op.kind w.of
   among_window = window_input is w.of refl
 
@@ -201,6 +211,7 @@ module _ {x : Situation} {op : Operator} {old : Held} {work : Outcome} (d : IsDu
         fits_moved w.end_by (le_trans from inside.1) to (omega (arith, ints)) high,
       )
 
+  -- the sweep is the work of the step
   pub window_worked : {new : Held} (done : Outcome) → is_empty w ≡ false
       → HasSwept old new w (record { out = work.out; reach = work.marks.reach }) (record { out = done.out; reach = done.marks.reach })
       → HasWorkedOut x op old new done
@@ -238,7 +249,8 @@ module _ {x : Situation} {op : Operator} {old : Held} {work : Outcome} (d : IsDu
       }
 
   -- in a window with no time in it nothing is found
-  pub empty_worked : {new : Held} (done : Outcome) → is_empty w ≡ true → HasToldAll old new (not w.seeks) work.out work.marks done → HasWorkedOut x op old new done
+  pub empty_worked : {new : Held} (done : Outcome) → is_empty w ≡ true → HasToldAll old new (not w.seeks) work.out work.marks done
+      → HasWorkedOut x op old new done
   empty_worked {new} done empty told =
       all_worked d g (not w.seeks) done told
       (λ t h. is_like has.alike (not w.seeks) t h (has.looks.spared t (λ u lo hi. absurd (none_in_window w has.order empty t u lo hi))))

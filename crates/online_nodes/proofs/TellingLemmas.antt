@@ -1,5 +1,6 @@
 -- What an input's edge tells an operator: what it holds leads from some place to where the input is answered, and is its truth.
-use Rattle.std.proofs.Common.{◌≡◌, ◌⊎◌, inl, inr, sym, ap, subst, ◌∙◌, ℕ, zero, suc, Bool, true, false, Some, None, List, [], ◌∷◌, ◌++◌, slice_get, ℤ, pos, ◌≤ℤ◌}
+use Rattle.std.proofs.Common.{◌≡◌, ◌⊎◌, inl, inr, sym, ap, subst, ◌∙◌, ℕ, zero, suc, Bool, true}
+use Rattle.std.proofs.Common.{false, Some, None, List, [], ◌∷◌, ◌++◌, slice_get, ℤ, pos, ◌≤ℤ◌}
 use Rattle.std.specs.Prelude.{MatchBool}
 use Rattle.rational.specs.Rational.{Rational, ◌≤ʳ◌, ◌<ʳ◌, whole}
 use Rattle.rational.specs.Time.{Within}
@@ -88,8 +89,11 @@ module _ (P : Truths) where
 
 -- an input's edge: what it holds tells the input up to where that is answered; it lies within the rows, where there is some
 pub record IsTelling (p : Subformula) (tr : Trace) (first now : ℕ) (x : Edge) : Type 0 where
+  -- from where the edge holds
   pub from : Place
+  -- it tells the truth up to its number
   pub tells : Tells (Truth p tr) from (held_of x) (place_of x.number)
+  -- it holds nothing, or begins within the rows and is answered by now
   pub late : (held_of x ≡ [])
       ⊎ (AtMost (record { at = whole (pos first); after = false }) from × (f : ℤ) × (x.number ≡ Some f) × (f ≤ℤ pos now))
 

@@ -46,6 +46,7 @@ one_worked worked one left_apart right_apart = elim one.which [
   | inr left ↦ worked_then_pass worked left.0 (λ same. left_apart (sym same)) (inl refl)
 ]
 
+-- of both inputs there is one fewer to read
 pub one_fewer : {old new : Held} {u : Until} {v w : Verdict} → HasPassedOne old new u v w → u.window.of ≢ u.right
     → length (fresh_at new u.window.of) + length (fresh_at new u.right) < length (fresh_at old u.window.of) + length (fresh_at old u.right)
 one_fewer {old} {new} {u} {v} {w} one apart = elim one.which [
@@ -68,20 +69,30 @@ pub meets_from : (high : Rational → Place) {c d e : Place} → MeetsAfter high
 meets_from high {c} {d} {e} meets same t =
     ((λ a. (meets t).0 (after_same e d t same a)), (λ b. after_same d e t (same_places same) ((meets t).1 b)))
 
+-- another way to write the place meets as it does
 pub meets_to : (low : Rational → Place) {c d e : Place} → MeetsUpto low c d → Same e d → MeetsUpto low c e
 meets_to low {c} {d} {e} meets same t =
     ((λ a. (meets t).0 (upto_same e d t same a)), (λ b. upto_same d e t (same_places same) ((meets t).1 b)))
 
 -- the next verdicts of both inputs, and the common part of their spans
 pub record AreNext (old : Held) (u : Until) (v w : Verdict) (begin end : Place) : Type 0 where
+  -- the two inputs' edges differ
   pub apart : u.window.of ≢ u.right
+  -- the first verdict of the left input
   pub first_left : slice_get (fresh_at old u.window.of) 0 ≡ Some v
+  -- the first verdict of the right input
   pub first_right : slice_get (fresh_at old u.right) 0 ≡ Some w
+  -- the left one holds
   pub left_holds : v.holds ≡ true
+  -- and the right one
   pub right_holds : w.holds ≡ true
+  -- up to where the first of them ends
   pub earlier : IsEarlier v w end
+  -- not from before the left one
   pub after_left : AtMost (begins (interval v.on)) begin
+  -- nor the right one
   pub after_right : AtMost (begins (interval w.on)) begin
+  -- but from where one of them begins
   pub one : (AtMost begin (begins (interval v.on))) ⊎ (AtMost begin (begins (interval w.on)))
 
 -- they share no time: the right verdict ended already, or the left one ends before it begins; that one is passed
@@ -185,7 +196,8 @@ module _ {old mid : Held} {u : Until} {s : Sweep} {found out : Out} {from reach 
               | inl right ↦ (
                 record { read = end; left = r.left; right = ends (interval w.on) },
                 turned told knows
-                    (placed_right m next.apart kept_left kept_right (place out.at) end next.first_left next.first_right right.0 forward (next.earlier.is_right right.1)
+                    (placed_right m next.apart kept_left kept_right
+                    (place out.at) end next.first_left next.first_right right.0 forward (next.earlier.is_right right.1)
                     (λ t a b. after_at_most end (ends (interval w.on)) t next.earlier.in_right b)
                     (before_of_at_most end (ends (interval w.on)) (ends (interval v.on)) next.earlier.in_right right.1)),
               )
@@ -219,6 +231,7 @@ passes_failed {old} {new} {u} {s} {v} {w} apart first_left first_right holding f
           (next.0, subst (λ l. IsTurned x u l s next.0 (fresh_at new u.window.of) (fresh_at new u.right)) (sym (append-nil written)) next.1);
     }
 
+-- what is not false is true
 pub true_of_not : (b : Bool) → not b ≡ false → b ≡ true
 true_of_not true is = refl
 true_of_not false is = cc

@@ -14,20 +14,30 @@ use Rattle.online_nodes.proofs.WorkLemmas.{worked_none, worked_both}
 
 -- some verdicts were read, and at most two put for each
 pub record HasGoneOn (old now : Held) (u : Until) (s here : Sweep) : Type 0 where
+  -- what was put on the node's edge
   pub more : List Verdict
+  -- at most two for each verdict that was read
   pub few : length more + 2 * (length (fresh_at now u.window.of) + length (fresh_at now u.right))
       ≤ 2 * (length (fresh_at old u.window.of) + length (fresh_at old u.right))
+  -- with what waits, no more than that and what waited
   pub owed : length more + waiting here.out.holds + 2 * (length (fresh_at now u.window.of) + length (fresh_at now u.right))
       ≤ 2 * (length (fresh_at old u.window.of) + length (fresh_at old u.right)) + waiting s.out.holds
+  -- the inputs were read on, and that was put
   pub worked : HasWorked old now s.out.edge u.window.of u.right more
+  -- for the same edge
   pub edge : here.out.edge ≡ s.out.edge
+  -- to the same end
   pub end : here.out.to ≡ s.out.to
+  -- and what is told is sound
   pub sound : IsSound here.out
+  -- not beyond the end
   pub inside : AtMost (place here.out.at) (place s.out.to)
+  -- what is known of both inputs goes on
   pub goes : (x : Stretch) (written : List Verdict) (r : Reads) → IsUntil x u (place s.out.to)
       → IsTurned x u written s r (fresh_at old u.window.of) (fresh_at old u.right)
       → (r' : Reads) × IsTurned x u (written ++ more) here r' (fresh_at now u.window.of) (fresh_at now u.right)
 
+-- before the first verdict nothing has changed
 pub gone_none : (e : Held) (u : Until) (s : Sweep) → IsSound s.out → AtMost (place s.out.at) (place s.out.to) → HasGoneOn e e u s s
 gone_none e u s sound inside =
     record {
@@ -43,6 +53,7 @@ gone_none e u s sound inside =
           (r, subst (λ l. IsTurned x u l s r (fresh_at e u.window.of) (fresh_at e u.right)) (sym (append-nil written)) m);
     }
 
+-- one turn more goes on from those before
 pub gone_one : {old now new : Held} {u : Until} {s here next : Sweep} → HasGoneOn old now u s here → HasTurned now new u here next
     → HasGoneOn old new u s next
 gone_one {old} {now} {new} {u} {s} {here} {next} gone one =
@@ -64,6 +75,7 @@ gone_one {old} {now} {new} {u} {s} {here} {next} gone one =
           );
     }
 
+-- the turns and the end of the stretch tell `until` on it
 pub gone_to_end : {old now same new : Held} {u : Until} {s here end : Sweep} → HasGoneOn old now u s here → HasSettled now same u here
     → HasUntilEnded same new u here end → HasUntilTold old new u s end
 gone_to_end {old} {now} {same} {new} {u} {s} {here} {end} gone settled ended_same =

@@ -15,6 +15,7 @@ after_later c t u = by_side c.after
     by_side true h k = lt_of_lt_of_le h k
     by_side false h k = le_trans h k
 
+-- what is earlier than a time before a place is before it
 pub upto_earlier : (c : Place) (t u : Rational) → Upto c u → t ≤ʳ u → Upto c t
 upto_earlier c t u = by_side c.after
   where
@@ -186,6 +187,7 @@ module _ {P Q : Truths} {low high : Rational → Place} where
           absurd
           (told v.0 v.1 v.2 (k.ahead t u (later t a).0 lo q (after_of_before l e u some x) h v.0 v.1 (in_order e v.0 u v.2 x)))
 
+  -- a right side that fails adds nothing
   pub knows_right_fails : (at reach l r f stop : Place) → KnowsUntil P Q low high at reach l r stop → FailsFor Q low at r f
       → ((u : Rational) → Upto f u → Upto stop u)
       → KnowsUntil P Q low high at reach l f stop
@@ -198,6 +200,7 @@ module _ {P Q : Truths} {low high : Rational → Place} where
     ahead = λ t u a lo q x y. elim (sides r u) [ inl h ↦ k.ahead t u a lo q x h | inr h ↦ absurd (told t u a lo h y q) ];
   }
 
+  -- a left side that holds is known further
   pub knows_left_holds : (at reach l r e f stop : Place) → KnowsUntil P Q low high at reach l r stop → AllAre true P l e
       → FailsFor Q low at r f
       → ((t : Rational) → Upto e t → Upto f t) → ((u : Rational) → Upto e u → Upto stop u)
@@ -212,6 +215,7 @@ module _ {P Q : Truths} {low high : Rational → Place} where
     ahead = λ t u a lo q x y v z w. k.ahead t u a lo q (later u x) y v (later v z) w;
   }
 
+  -- where both hold, what they share is found
   pub knows_both : (at at' reach l r x y from to l' r' stop : Place) → KnowsUntil P Q low high at reach l r stop
       → ((t u : Rational) → After (low t) u → t ≤ʳ u)
       → ((t : Rational) → Before (low t) (high t)) → Before x y → ((u : Rational) → After x u → After l u) → AllAre true P l y
@@ -256,6 +260,7 @@ module _ {P Q : Truths} {low high : Rational → Place} where
     ahead = λ t u a lo q x y. absurd (not_both f u y (past t u a lo));
   }
 
+  -- what is known is known from later on
   pub knows_later : (at at' reach l r stop : Place) → ((t : Rational) → After at' t → After at t)
       → KnowsUntil P Q low high at reach l r stop → KnowsUntil P Q low high at' reach l r stop
   knows_later at at' reach l r stop later k = record {

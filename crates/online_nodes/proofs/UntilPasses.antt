@@ -40,11 +40,17 @@ before_of_at_most c d e at_most before =
 
 -- where the lists stand once one verdict was read, both inputs being known up to `read`
 pub record IsPlaced (x : Stretch) (u : Until) (at : Place) (r : Reads) (fresh_left fresh_right : List Verdict) : Type 0 where
+  -- the left input tells its truth
   pub left_tells : Tells (Truth x.p x.tr) r.left fresh_left x.stop_left
+  -- and the right one
   pub right_tells : Tells (Counted true x.q x.tr) r.right fresh_right x.stop_right
+  -- the left one was read no further than both
   pub left_behind : AtMost r.left r.read
+  -- and of the right one nothing that the windows look at
   pub right_behind : (t v : Rational) → After at t → After (low_place u.window t) v → Upto r.right v → Upto r.read v
+  -- what neither was read of was not read
   pub tight : (t : Rational) → After r.left t → After r.right t → After r.read t
+  -- the first left verdict ends behind what was read
   pub ahead : (v : Verdict) → slice_get fresh_left 0 ≡ Some v → Before r.read (ends (interval v.on))
 
 -- with what is told and known these are a turn
@@ -128,9 +134,11 @@ module _ {x : Stretch} {u : Until} {written : List Verdict} {s : Sweep} {r : Rea
     (of : IsUntil x u (place s.out.to)) (m : IsTurned x u written s r fresh_left fresh_right) (apart : u.window.of ≢ u.right)
     (first_left : slice_get fresh_left 0 ≡ Some v) (first_right : slice_get fresh_right 0 ≡ Some w)
     (holding : v.holds ≡ true) where
+  -- the right verdict ends where its input is answered
   pub right_end : AtMost (ends (interval w.on)) x.stop_right
   right_end = told_before (Counted true x.q x.tr) r.right x.stop_right fresh_right w m.right_tells first_right
 
+  -- and the left one
   pub left_end : AtMost (ends (interval v.on)) x.stop_left
   left_end = told_before (Truth x.p x.tr) r.left x.stop_left fresh_left v m.left_tells first_left
 
@@ -177,6 +185,7 @@ module _ {x : Stretch} {u : Until} {written : List Verdict} {s : Sweep} {r : Rea
   failing_to e failing within t y a lo after upto =
       subst (λ b. AllAre b (Counted true x.q x.tr) r.right (ends (interval w.on))) failing right-is y (right-read t y a lo after) (within y upto)
 
+  -- a right verdict that fails leaves what was found
   pub right_failed : {old new : Held} → fresh_at old u.window.of ≡ fresh_left → fresh_at old u.right ≡ fresh_right → w.holds ≡ false
       → HasPassedOne old new u v w
       → (r' : Reads) × IsTurned x u written s r' (fresh_at new u.window.of) (fresh_at new u.right)
@@ -198,7 +207,8 @@ module _ {x : Stretch} {u : Until} {written : List Verdict} {s : Sweep} {r : Rea
           by_order (inl before) = (
             record { read = ends (interval w.on); left = r.left; right = ends (interval w.on) },
             turned m.told
-                (fails_to (ends (interval w.on)) (failing_to (ends (interval w.on)) failing (λ t h. h)) before (λ t h. upto_of_before (ends (interval w.on)) (ends
+                (fails_to (ends (interval w.on)) (failing_to (ends (interval w.on)) failing (λ t h. h)) before
+                (λ t h. upto_of_before (ends (interval w.on)) (ends
                 (interval v.on)) t sooner h) (λ t h. h))
                 (placed_right m apart kept_left kept_right (place s.out.at) (ends (interval w.on)) first_left first_right passed
                 (λ t h. upto_of_before r.read (ends (interval w.on)) t before h) (λ t h. h) (λ t a b. b) sooner),
@@ -217,11 +227,16 @@ module _ {x : Stretch} {u : Until} {written : List Verdict} {s : Sweep} {r : Rea
 
 -- the earlier of two ends, by the cuts that stand for them
 pub record IsEarlier (v w : Verdict) (end : Place) : Type 0 where
+  -- the earlier end is no later than the left one
   pub in_left : AtMost end (ends (interval v.on))
+  -- nor than the right one
   pub in_right : AtMost end (ends (interval w.on))
+  -- it is the left one where that is no later
   pub is_left : AtMost (ends (interval v.on)) (ends (interval w.on)) → AtMost (ends (interval v.on)) end
+  -- and the right one where that is earlier
   pub is_right : Before (ends (interval w.on)) (ends (interval v.on)) → AtMost (ends (interval w.on)) end
 
+-- the earlier of two ends, as cuts
 pub earlier_of : {v w : Verdict} (end v_end w_end : Cut) → place v_end ≡ ends (interval v.on) → place w_end ≡ ends (interval w.on)
     → (end ≡ v_end) ⊎ (end ≡ w_end) → AtMost (place end) (place v_end) → AtMost (place end) (place w_end) → IsEarlier v w (place end)
 earlier_of {v} {w} end v_end w_end v_is w_is one in_left in_right =
@@ -294,6 +309,7 @@ module _ {x : Stretch} {u : Until} {written : List Verdict} {s : Sweep} {r : Rea
       after_at_most begin r.right y (λ z h. upto_same (begins (interval w.on)) r.right z (same_places right_begins) (right z h))
       (right-read of m apart first_left first_right left_holding t y a lo after)
 
+  -- what both share counts for the windows that meet it
   pub common_counts : (next : Sweep) (from : Place) → Before begin end → MeetsAfter (high_place u.window) begin from
       → MeetsUpto (low_place u.window) end (place next.reach)
       → ((t : Rational) → After (place next.out.at) t → After (place s.out.at) t × After from t)
@@ -334,6 +350,7 @@ left_out_settles {e} {u} {s} none =
           ]);
     }
 
+-- with nothing more of the right input the turns are done
 pub right_out_settles : {e : Held} {u : Until} {s : Sweep} → fresh_at e u.right ≡ [] → HasSettled e e u s
 right_out_settles {e} {u} {s} none =
     record {

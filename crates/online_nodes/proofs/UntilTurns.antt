@@ -32,17 +32,26 @@ goes_on_from P c d (w ∷ vs) v tells first =
 
 -- what was said twice, and up to where
 pub record IsSaidTwice (old mid : Held) (u : Until) (s : Sweep) (found out : Out) (first second : Bool) (cut : Cut) : Type 0 where
+  -- the node has an edge
   pub own : s.out.edge < length old.edges
+  -- it is not that of the left input
   pub left_apart : u.window.of ≢ s.out.edge
+  -- nor that of the right one
   pub right_apart : u.right ≢ s.out.edge
+  -- and the two inputs' differ
   pub apart : u.window.of ≢ u.right
+  -- two truths are told, one behind the other
   pub answers : HasAnswers old mid s.out first found.at second out
+  -- the first up to where it was found
   pub one : Reaches s.out s.reach found
+  -- the second up to the cut
   pub two : Reaches found cut out
+  -- to the same end
   pub same : found.to ≡ s.out.to
 
 module _ {old mid : Held} {u : Until} {s : Sweep} {found out : Out} {first second : Bool} {cut : Cut}
     (said : IsSaidTwice old mid u s found out first second cut) where
+  -- not beyond the end
   pub twice-inside : AtMost (place out.at) (place s.out.to)
   twice-inside t h = subst (λ (q : Cut). Upto (place q) t) said.same (said.two.inside t h)
 
@@ -53,12 +62,14 @@ module _ {old mid : Held} {u : Until} {s : Sweep} {found out : Out} {first secon
     | inr h ↦ h
   ]
 
+  -- the second lies behind what counted before
   pub twice-beyond : (t : Rational) → After (place found.at) t → Upto (place out.at) t → After (place s.reach) t
   twice-beyond t a upto = elim (sides (place s.reach) t) [
     | inl h ↦ absurd (not_both (place found.at) t (said.one.reached t h (twice-inside t upto)) a)
     | inr h ↦ h
   ]
 
+  -- and further than before
   pub twice-later : (t : Rational) → After (place out.at) t → After (place s.out.at) t
   twice-later t a = elim (sides (place s.out.at) t) [
     | inl h ↦ absurd (not_both (place out.at) t (said.two.forward t (said.one.forward t h)) a)
@@ -84,6 +95,7 @@ module _ {x : Stretch} {u : Until} {written : List Verdict} {s : Sweep} {r : Rea
   pub left-next : {v : Verdict} → slice_get fresh_left 0 ≡ Some v → Tells (Truth x.p x.tr) r.left (v ∷ drop 1 fresh_left) x.stop_left
   left-next {v} first = subst (λ f. Tells (Truth x.p x.tr) r.left f x.stop_left) (first_and_rest fresh_left v first) m.left_tells
 
+  -- the first left verdict says its truth from where it was read
   pub left-is : {v : Verdict} → slice_get fresh_left 0 ≡ Some v → AllAre v.holds (Truth x.p x.tr) r.read (ends (interval v.on))
   left-is first t after upto = (left-next first).2 t (after_at_most r.left r.read t m.left_behind after) upto
 
@@ -91,6 +103,7 @@ module _ {x : Stretch} {u : Until} {written : List Verdict} {s : Sweep} {r : Rea
 module _ {old mid : Held} {u : Until} {s : Sweep} {found out : Out} {cut : Cut} {v : Verdict}
     (said : IsSaidTwice old mid u s found out true false cut) (first : slice_get (fresh_at old u.window.of) 0 ≡ Some v) (failing : v.holds ≡ false)
     (is : place cut ≡ ends (interval v.on)) (to_end : AtMost (place cut) (place s.out.to)) where
+  -- where a left side fails, the run ends with its verdict
   pub run_ended : {new : Held} {w : Verdict} → HasPassed mid new u.window.of w → HasTurned old new u s (record { out = out; reach = cut })
   run_ended {new} {w} passed =
       let kept_left : fresh_at mid u.window.of ≡ fresh_at old u.window.of = ap (λ y. y.fresh)

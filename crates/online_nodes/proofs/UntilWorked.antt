@@ -1,5 +1,6 @@
 -- What the body of until leaves of a step that is due.
-use Rattle.std.proofs.Common.{◌≡◌, inl, inr, refl, sym, ap, subst, ◌∙◌, ℕ, ◌+◌, ◌≤◌, ◌^◌, Bool, true, false, not, Option, Some, None, List, [], ◌∷◌, length, slice_get, ℤ, pos, neg_ℤ, ◌≤ℤ◌, arith}
+use Rattle.std.proofs.Common.{◌≡◌, inl, inr, refl, sym, ap, subst, ◌∙◌, ℕ, ◌+◌, ◌≤◌, ◌^◌, Bool, true, false, not}
+use Rattle.std.proofs.Common.{Option, Some, None, List, [], ◌∷◌, length, slice_get, ℤ, pos, neg_ℤ, ◌≤ℤ◌, arith}
 use Rattle.std.specs.Prelude.{◌*◌, ◌&&◌, cond, int_lt}
 use Rattle.std.proofs.lemmas.Int.{ints}
 use Rattle.rational.specs.Rational.{Rational, ◌≤ʳ◌, ◌<ʳ◌, whole}
@@ -75,11 +76,17 @@ use Rattle.online_nodes.proofs.WorkedLemmas.{one_place, read_place}
 
 -- until's bounds, in order and near and not behind, and what its node is
 pub record HasUntil (n p q : Subformula) (tr : Trace) (u : UntilWindow) : Type 0 where
+  -- it looks ahead as the window does
   pub looks : IsUntilOf (Truth n tr) (Truth p tr) (Counted true q tr) (low_place u.window) (high_place u.window)
+  -- the window's ends are in order
   pub order : u.window.begin_by ≤ℤ u.window.end_by
+  -- it looks ahead
   pub ahead : u.window.end_by ≤ℤ pos 0
+  -- not too far
   pub begin_low : neg_ℤ (pos (2 ^ 33)) ≤ℤ u.window.begin_by
+  -- it has times
   pub full : is_empty u.window ≡ false
+  -- its end is in
   pub end_in : u.window.end_in ≡ true
 
 and_false : (b : Bool) → (b && false) ≡ false
@@ -101,6 +108,7 @@ module _ (at : ℕ → Subformula) (i : ℕ) (tr : Trace) where
     end_in = refl;
   }
 
+  -- a node of `until` has such a window
   pub until_node : (n : Node) (u : UntilWindow) → kind_of n ≡ UntilOf u → HasBounds n → own_reach n ≤ 4294967295
       → HasUntil (tree_of at i n) (at u.window.of) (at u.right) tr u
   until_node (Until p q a b) u e h r =
@@ -134,9 +142,11 @@ least_itself z = elim (int_lt z z) as (λ (s : Bool). cond s (Some z) (Some z) �
 module _ {x : Situation} {op : Operator} {old : Held} {work : Outcome} (d : IsDue x op old) (g : IsBegun x op work) {u : UntilWindow}
     (kind : op.kind ≡ UntilOf u)
     (has : HasUntil (formula_of x op) (subformula x.nodes u.window.of) (subformula x.nodes u.right) (trace_in x) u) where
+  -- its left side is an input
   pub until_left : IsInput op.kind u.window.of
   until_left = subst (λ k. IsInput k u.window.of) (sym kind) (inl refl)
 
+  -- and its right side
   pub until_right : IsInput op.kind u.right
   until_right = subst (λ k. IsInput k u.right) (sym kind) (inr refl)
 
@@ -146,9 +156,13 @@ module _ {x : Situation} {op : Operator} {old : Held} {work : Outcome} (d : IsDu
 
   -- it is there, the node's number is not above it, and nothing counts beyond it
   pub record HasLesser : Type 0 where
+    -- the lesser of the inputs' numbers
     pub f : ℤ
+    -- it is that
     pub is : lesser_number ≡ Some f
+    -- the stretch does not end behind it
     pub front : x.front ≤ℤ f
+    -- no window of the stretch has a right side behind it that counts
     pub within : (t v : Rational) → Upto (place work.out.to) t → Upto (high_place u.window t) v → After (place_of (Some f)) v
         → ¬ Counted true (subformula x.nodes u.right) (trace_in x) v
 
@@ -320,6 +334,7 @@ module _ {x : Situation} {op : Operator} {old : Held} {work : Outcome} (d : IsDu
         fits_moved u.window.end_by (le_trans from inside.1) to (omega (arith, ints)) (omega (arith, ints)),
       )
 
+  -- the turns of `until` are the work of the step
   pub until_worked : {new : Held} (done : Outcome)
       → HasUntilTold old new u begun_sweep (record { out = done.out; reach = done.marks.reach }) → HasWorkedOut x op old new done
   until_worked {new} done told =

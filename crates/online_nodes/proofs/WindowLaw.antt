@@ -74,6 +74,7 @@ module _ {seeks : Bool} {P : Truths} {low high : Rational → Place} where
     rest = λ t u a b lo hi k. absurd (not_both read u k (h t u a lo hi));
   }
 
+  -- a verdict that is not sought leaves what was found
   pub knows_passed : (at reach b e stop : Place) → AllAre (not seeks) P b e → Knows seeks P low high at reach b stop
       → Knows seeks P low high at reach e stop
   knows_passed at reach b e stop told k = record {
@@ -81,6 +82,7 @@ module _ {seeks : Bool} {P : Truths} {low high : Rational → Place} where
     rest = λ t u a r lo hi h. elim (sides b u) [ inl x ↦ k.rest t u a r lo hi x | inr x ↦ told u x h ];
   }
 
+  -- a sought one is found by the windows that meet it
   pub knows_entered : (at b e from to stop : Place) → ((t : Rational) → Before (low t) (high t)) → Before b e → AllAre seeks P b e
       → MeetsAfter high b from → MeetsUpto low e to → ((t : Rational) → After at t → After from t)
       → ((u : Rational) → Upto e u → Upto stop u)

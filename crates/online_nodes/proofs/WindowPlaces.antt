@@ -44,15 +44,19 @@ shift_forth t k = record { same = omega (arith, ap (λ n. n * (t.den * t.den)) s
     step : part_above k + part_above (neg_ℤ k) ≡ part_below k + part_below (neg_ℤ k)
     step = omega (arith, parts)
 
+-- what is moved ahead and earlier is earlier than the other moved back
 pub lt_back : (c t : Rational) (k : ℤ) → add c (whole k) <ʳ t → c <ʳ add t (whole (neg_ℤ k))
 lt_back c t k h = lt_of_le_of_lt (ge_of_same (shift_back c k)) (lt_shift (neg_ℤ k) h)
 
+-- and the other way round
 pub lt_forth : (c t : Rational) (k : ℤ) → c <ʳ add t (whole (neg_ℤ k)) → add c (whole k) <ʳ t
 lt_forth c t k h = lt_of_lt_of_le (lt_shift k h) (le_of_same (shift_forth t k))
 
+-- what is earlier than one moved ahead is, moved back, earlier than it
 pub gt_back : (c t : Rational) (k : ℤ) → t <ʳ add c (whole k) → add t (whole (neg_ℤ k)) <ʳ c
 gt_back c t k h = lt_of_lt_of_le (lt_shift (neg_ℤ k) h) (le_of_same (shift_back c k))
 
+-- and the other way round
 pub gt_forth : (c t : Rational) (k : ℤ) → add t (whole (neg_ℤ k)) <ʳ c → t <ʳ add c (whole k)
 gt_forth c t k h = lt_of_le_of_lt (ge_of_same (shift_forth t k)) (lt_shift k h)
 
@@ -62,6 +66,7 @@ same_back c t k h = same_trans (same_sym (shift_back c k)) (same_shift (neg_ℤ 
 same_forth : (c t : Rational) (k : ℤ) → c ≈ add t (whole (neg_ℤ k)) → add c (whole k) ≈ t
 same_forth c t k h = same_trans (same_shift k h) (shift_forth t k)
 
+-- windows behind a place's begin meet what begins there
 pub meets_after : (k : ℤ) (i : Bool) (c : Place)
     → MeetsAfter (λ t. record { at = add t (whole (neg_ℤ k)); after = i }) c (moved_begin k i c)
 meets_after k i c t = (there c.after i refl refl, back c.after i refl refl)
@@ -85,6 +90,7 @@ meets_after k i c t = (there c.after i refl refl, back c.after i refl refl)
     back false true e f (inl l) = le_of_lt (lt_forth c.at t k l)
     back false true e f (inr (s, x, y)) = le_of_same (same_forth c.at t k s)
 
+-- and windows up to its end meet what ends there
 pub meets_upto : (k : ℤ) (i : Bool) (c : Place)
     → MeetsUpto (λ t. record { at = add t (whole (neg_ℤ k)); after = not i }) c (moved_end k i c)
 meets_upto k i c t = (there c.after i refl refl, back c.after i refl refl)

@@ -1,5 +1,6 @@
 -- What a window's body leaves of a step that is due.
-use Rattle.std.proofs.Common.{◌≡◌, ◌⊎◌, inl, inr, refl, sym, ap, subst, ◌∙◌, ℕ, ◌≤◌, ◌^◌, Bool, true, false, not, Option, Some, None, ℤ, pos, neg_ℤ, ◌≤ℤ◌, ◌<ℤ◌, arith, lit<}
+use Rattle.std.proofs.Common.{◌≡◌, ◌⊎◌, inl, inr, refl, sym, ap, subst, ◌∙◌, ℕ, ◌≤◌, ◌^◌, Bool, true}
+use Rattle.std.proofs.Common.{false, not, Option, Some, None, ℤ, pos, neg_ℤ, ◌≤ℤ◌, ◌<ℤ◌, arith, lit<}
 use Rattle.std.specs.Int.{w64}
 use Rattle.std.specs.Prelude.{◌&&◌, int_lt, MatchBool}
 use Rattle.std.proofs.lemmas.Int.{ints}
@@ -51,11 +52,17 @@ fits_moved {t} k from to low high = fits_of_within w64 (2 ^ 34) (lit< tt) (
 
 -- a window's bounds, in order and near, and what its node looks for: or a node like it up to a place
 pub record HasWindow (n p : Subformula) (tr : Trace) (w : Window) (to : Place) : Type 0 where
+  -- the formula that the window tells
   pub like : Subformula
+  -- it is the node's, up to the last row
   pub alike : IsLike like n tr to
+  -- it looks as the window does
   pub looks : Looks w.seeks (Truth like tr) (Counted w.seeks p tr) (low_place w) (high_place w)
+  -- the window's ends are in order
   pub order : w.begin_by ≤ℤ w.end_by
+  -- it looks not too far ahead
   pub begin_low : neg_ℤ (pos (2 ^ 33)) ≤ℤ w.begin_by
+  -- nor too far behind
   pub end_high : w.end_by ≤ℤ pos (2 ^ 33)
 
 module _ (at : ℕ → Subformula) (i : ℕ) (tr : Trace) (to : Place) where
@@ -76,6 +83,7 @@ module _ (at : ℕ → Subformula) (i : ℕ) (tr : Trace) (to : Place) where
   same_ahead : (n : Subformula) (v w : Window) → Ahead v ≡ Ahead w → HasWindow n (at v.of) tr v to → HasWindow n (at w.of) tr w to
   same_ahead n v w e h = let s : v ≡ w = cc in subst (λ (u : Window). HasWindow n (at u.of) tr u to) s h
 
+  -- a node with a window ahead has such a window
   pub ahead_node : (n : Node) (w : Window) → kind_of n ≡ Ahead w → HasBounds n → own_reach n ≤ 4294967295
       → HasWindow (tree_of at i n) (at w.of) tr w to
   ahead_node (Eventually p a b a_in b_in) w e h r =
@@ -99,6 +107,7 @@ module _ (at : ℕ → Subformula) (i : ℕ) (tr : Trace) (to : Place) where
 lt_add : (t : Rational) (j k : ℤ) → j <ℤ k → add t (whole j) <ʳ add t (whole k)
 lt_add t j k h = lt_of_le_of_lt (record { le = omega arith }) (lt_of_lt_of_le (lt_add_left (lt_whole h) (le_refl t)) (record { le = omega arith }))
 
+-- a window that is not empty has times
 pub some_in_window : (w : Window) → w.begin_by ≤ℤ w.end_by → is_empty w ≡ false → (t : Rational) → Before (low_place w t) (high_place w t)
 some_in_window w order full t = by_test (int_lt w.begin_by w.end_by) refl
   where
@@ -120,6 +129,7 @@ some_in_window w order full t = by_test (int_lt w.begin_by w.end_by) refl
           i.0,
         )
 
+-- an empty one has none
 pub none_in_window : (w : Window) → w.begin_by ≤ℤ w.end_by → is_empty w ≡ true → (t u : Rational) → After (low_place w t) u
     → Upto (high_place w t) u → ⊥
 none_in_window w order empty t u lo hi = by_test (int_lt w.begin_by w.end_by) refl
@@ -191,6 +201,7 @@ module _ (at : ℕ → Subformula) (i : ℕ) (tr : Trace) (to : Place) where
         (historically_like tr now small to early a a_in b_in (at p)) (omega (arith, r)) (omega arith)
         (historically_looks (at p) tr a a_in b_in (Some 8589934592))
 
+    -- a node with a window behind has such a window
     pub behind_node : (n : Node) (w : Window) → kind_of n ≡ Behind w → HasBounds n → own_reach n ≤ 4294967295
         → HasWindow (tree_of at i n) (at w.of) tr w to
     behind_node (Once p a b a_in b_in) w e h r =

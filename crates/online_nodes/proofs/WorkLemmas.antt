@@ -54,6 +54,7 @@ read_one_more x v first =
       number = refl;
     }
 
+-- reading on twice is reading on
 pub read_both : (a b c : Edge) → IsReadOn a b → IsReadOn b c → IsReadOn a c
 read_both a b c first second =
     record {
@@ -78,12 +79,15 @@ worked_put {old} {new} {own} {left} {right} {more} within apart_left apart_right
     }
 
 module _ {old new : Held} {i : ℕ} {v : Verdict} (passed : HasPassed old new i v) where
+  -- the edge was read by one verdict
   pub passed-here : edge_at new i ≡ with_read (edge_at old i) v
   passed-here = ap (λ es. get_or es i no_edge) passed.edges ∙ get_or-set_same old.edges i _ no_edge passed.within
 
+  -- the others stay
   pub passed-other : (j : ℕ) → j ≢ i → edge_at new j ≡ edge_at old j
   passed-other j other = ap (λ es. get_or es j no_edge) passed.edges ∙ get_or-set_other old.edges i j _ no_edge other
 
+  -- and there are as many
   pub passed-length : length new.edges ≡ length old.edges
   passed-length = ap length passed.edges ∙ length-set old.edges i _
 
@@ -127,6 +131,7 @@ worked_none e own left right =
       spare = omega arith;
     }
 
+-- two works, one after the other, are one
 pub worked_both : {a b c : Held} {own left right : ℕ} {xs ys : List Verdict} → HasWorked a b own left right xs → HasWorked b c own left right ys
     → HasWorked a c own left right (xs ++ ys)
 worked_both {a} {b} {c} {own} {left} {right} {xs} {ys} first second =

@@ -150,6 +150,7 @@ module _ (at : ℕ → Subformula) (i : ℕ) (tr : Trace) where
 module _ {x : Situation} {op : Operator} {old : Held} {work : Outcome} (d : IsDue x op old) (g : IsBegun x op work) where
   -- a negation
   module _ {of : ℕ} (kind : op.kind ≡ Negation of) where
+    -- the input is one of the operator's
     pub among_of : IsInput op.kind of
     among_of = subst (λ k. IsInput k of) (sym kind) refl
 
@@ -176,6 +177,7 @@ module _ {x : Situation} {op : Operator} {old : Held} {work : Outcome} (d : IsDu
       input = record { behind = behind_of; tells = fresh_tells (among_telling d of among_of); enough = enough_of };
     }
 
+    -- the turns of a negation are the work of the step
     pub negation_worked : {new : Held} (done : Outcome) → HasNegated old new of work.out done.out → HasWorkedOut x op old new done
     negation_worked {new} done neg =
         let told = neg.goes (formula_of x op) (subformula x.nodes of) (trace_in x) (begins (stretch_of x op)) []
@@ -204,7 +206,8 @@ module _ {x : Situation} {op : Operator} {old : Held} {work : Outcome} (d : IsDu
   -- a node that is so at every time of the stretch, and reads nothing
   pub all_worked : {new : Held} (b : Bool) (done : Outcome) → HasToldAll old new b work.out work.marks done
       → ((t : Rational) → Upto (end_of x) t → Is b (Truth (formula_of x op) (trace_in x)) t)
-      → KnowsBy op.kind x.nodes (trace_in x) new (end_of x) (place done.marks.reach) (place done.marks.run) → LeavesLater op.kind new (end_of x) (place done.marks.run)
+      → KnowsBy op.kind x.nodes (trace_in x) new (end_of x) (place done.marks.reach) (place done.marks.run)
+      → LeavesLater op.kind new (end_of x) (place done.marks.run)
       → HasWorkedOut x op old new done
   all_worked {new} b done told holds knows unread =
       let said = told.said in
@@ -238,6 +241,7 @@ module _ {x : Situation} {op : Operator} {old : Held} {work : Outcome} (d : IsDu
     constant_is = formula_is d ∙ ap (tree_of (subformula x.nodes) op.node)
         (constant_node d.belongs.stands.node b d.belongs.stands.no_atom (sym (kind_is d) ∙ kind))
 
+    -- a constant's one verdict is the work of the step
     pub constant_worked : {new : Held} (done : Outcome) → HasToldAll old new b work.out work.marks done → HasWorkedOut x op old new done
     constant_worked {new} done told =
         all_worked b done told
@@ -251,9 +255,11 @@ module _ {x : Situation} {op : Operator} {old : Held} {work : Outcome} (d : IsDu
 
   -- a connective
   module _ {join : Join} {inputs : Inputs} (kind : op.kind ≡ Connective join inputs) where
+    -- the left input is one of the operator's
     pub among_left : IsInput op.kind inputs.left
     among_left = subst (λ k. IsInput k inputs.left) (sym kind) (inl refl)
 
+    -- and the right one
     pub among_right : IsInput op.kind inputs.right
     among_right = subst (λ k. IsInput k inputs.right) (sym kind) (inr refl)
 
@@ -298,6 +304,7 @@ module _ {x : Situation} {op : Operator} {old : Held} {work : Outcome} (d : IsDu
       };
     }
 
+    -- the turns of a connective are the work of the step
     pub join_worked : {new : Held} (done : Outcome) → HasJoined old new join inputs work.out done.out → HasWorkedOut x op old new done
     join_worked {new} done joined =
         let told = joined.goes (formula_of x op) (subformula x.nodes inputs.left) (subformula x.nodes inputs.right) (trace_in x)

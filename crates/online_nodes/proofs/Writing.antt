@@ -33,9 +33,11 @@ use Rattle.online_nodes.proofs.PlaceLemmas.{
 pub joined : (b : Bool) (P : Truths) (c d e : Place) → AllAre b P c d → AllAre b P d e → AllAre b P c e
 joined b P c d e h k t after upto = elim (sides d t) [ inl u ↦ h t after u | inr a ↦ k t a upto ]
 
+-- a truth told between two places is told between the same
 pub told_same : (b : Bool) (P : Truths) (c d c' d' : Place) → Same c c' → Same d d' → AllAre b P c d → AllAre b P c' d'
 told_same b P c d c' d' s r h t after upto = h t (after_same c' c t (same_places s) after) (upto_same d' d t (same_places r) upto)
 
+-- a place is itself
 pub same_itself : (c : Place) → Same c c
 same_itself c = (same_refl c.at, refl)
 
@@ -47,6 +49,7 @@ in_after on t h = by_end on.from_in h.above
     by_end true x = x
     by_end false x = x
 
+-- a time of a stretch does not lie behind its end
 pub in_upto : (on : Interval) (t : Rational) → IsIn on t → Upto (ends on) t
 in_upto on t h = by_end on.to_in h.below
   where
@@ -54,6 +57,7 @@ in_upto on t h = by_end on.to_in h.below
     by_end true x = x
     by_end false x = x
 
+-- a stretch whose begin lies before its end has a time
 pub some_in : (on : Interval) → Before (begins on) (ends on) → IsNotEmpty on
 some_in on (inl l) = inl l
 some_in on (inr (s, e, f)) = inr (s, by_end on.from_in e, f)
@@ -240,6 +244,7 @@ module _ (n : Subformula) (tr : Trace) where
       absurd (not_both (ends stretch) t.0 t.2 (after_same (begins stretch) (ends stretch) t.0 same t.1))
   lead_describes stretch (v ∷ vs) last some lead = describes n tr stretch v vs last lead
 
+-- a stretch begins as the interval that it is
 pub begin_same : (on i : Interval) (a : Rational) (x : Bool) → on ≡ i → i.from ≡ a → i.from_in ≡ not x
     → Same (record { at = a; after = x }) (begins on)
 begin_same on i a x e f g = (
@@ -248,31 +253,37 @@ begin_same on i a x e f g = (
       (j : Interval). j.from_in) e ∙ g),
 )
 
+-- and ends as that
 pub end_same : (on i : Interval) (a : Rational) (x : Bool) → on ≡ i → i.to ≡ a → i.to_in ≡ x
     → Same (record { at = a; after = x }) (ends on)
 end_same on i a x e f g =
     (subst (λ b. b ≈ on.to) (ap (λ (j : Interval). j.to) e ∙ f) (same_refl on.to), sym (ap (λ (j : Interval). j.to_in) e ∙ g))
 
+-- before a truth was found nothing was told
 pub sound_first : (out : Out) → out.holds ≡ None → IsSound out → Same (place out.from) (place out.at)
 sound_first out e h = subst
     (λ o. MatchOption o (Same (place out.from) (place out.at)) (λ h. Before (place out.from) (place out.at))) e h
 
+-- once one was found something was
 pub sound_later : (out : Out) (b : Bool) → out.holds ≡ Some b → IsSound out → Before (place out.from) (place out.at)
 sound_later out b e h = subst
     (λ o. MatchOption o (Same (place out.from) (place out.at)) (λ h. Before (place out.from) (place out.at))) e h
 
+-- truths that come out as the same are so
 pub same_bool : (a b : Bool) → beq a b ≡ true → a ≡ b
 same_bool true true e = refl
 same_bool true false e = absurd (let x : false ≡ true = e in cc)
 same_bool false true e = absurd (let x : false ≡ true = e in cc)
 same_bool false false e = refl
 
+-- and those that do not differ
 pub other_bool : (a b : Bool) → beq a b ≡ false → a ≢ b
 other_bool true true e = λ _. let x : true ≡ false = e in cc
 other_bool true false e = λ f. let x : true ≡ false = f in cc
 other_bool false true e = λ f. let x : false ≡ true = f in cc
 other_bool false false e = λ _. let x : true ≡ false = e in cc
 
+-- a truth that differs is the other
 pub flipped : (a b : Bool) → a ≢ b → a ≡ not b
 flipped true true d = absurd (d refl)
 flipped true false d = refl

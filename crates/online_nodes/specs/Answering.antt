@@ -1,6 +1,7 @@
 -- What one answer of a node does to the edges, by its kind: its inputs are read on, and its own edge gets the list of the stretch; and how
 -- its inputs are let go then.
-use Rattle.std.specs.Prelude.{◌≡◌, ◌≢◌, ◌⊎◌, ℕ, ◌+◌, ◌<◌, ◌≤◌, Bool, true, false, not, ◌&&◌, if◌then◌else◌, List, length, ℤ, pos, neg_ℤ, ◌+ℤ◌, int_lt, Some, slice_get}
+use Rattle.std.specs.Prelude.{◌≡◌, ◌≢◌, ◌⊎◌, ℕ, ◌+◌, ◌<◌, ◌≤◌, Bool, true, false, not, ◌&&◌}
+use Rattle.std.specs.Prelude.{if◌then◌else◌, List, length, ℤ, pos, neg_ℤ, ◌+ℤ◌, int_lt, Some, slice_get}
 use Rattle.stl_syntax.specs.declared.items.Verdict.{Verdict}
 use Rattle.online_nodes.specs.Cuts.{place, AtMost}
 use Rattle.online_nodes.specs.Held.{Held, edge_at, fresh_at, with_more, IsDroppedBy}

@@ -1,5 +1,6 @@
 -- What an operator needs to be so before a step, and what the step leaves.
-use Rattle.std.specs.Prelude.{◌≡◌, ◌≢◌, ℕ, ◌+◌, ◌*◌, ◌-◌, ◌^◌, min, ◌≤◌, Bool, true, false, not, ◌&&◌, if◌then◌else◌, List, [], ◌∷◌, ◌++◌, length, pos, Some, None, IfSome, option_map, slice_get, slice_index_or}
+use Rattle.std.specs.Prelude.{◌≡◌, ◌≢◌, ℕ, ◌+◌, ◌*◌, ◌-◌, ◌^◌, min, ◌≤◌, Bool, true, false, not, ◌&&◌, if◌then◌else◌, List}
+use Rattle.std.specs.Prelude.{[], ◌∷◌, ◌++◌, length, pos, Some, None, IfSome, option_map, slice_get, slice_index_or}
 use Rattle.rational.specs.Rational.{whole}
 use Rattle.stl_syntax.specs.Trace.{Header, Trace, first_time}
 use Rattle.stl_syntax.specs.WellFormed.{AreWellFormed, HasOneRoot}

@@ -1,5 +1,6 @@
 -- What a network of streamed robustness gives out at each node, and what it holds.
-use Rattle.std.specs.Prelude.{◌≡◌, ◌⊎◌, ℕ, ◌-◌, Bool, true, false, List, [], ◌∷◌, ◌++◌, length, drop, ℤ, int_lt, if◌then◌else◌, MatchBool, Option, Some, None, slice_get, pos}
+use Rattle.std.specs.Prelude.{◌≡◌, ◌⊎◌, ℕ, ◌-◌, Bool, true, false, List, [], ◌∷◌, ◌++◌, length, drop, ℤ}
+use Rattle.std.specs.Prelude.{int_lt, if◌then◌else◌, MatchBool, Option, Some, None, slice_get, pos}
 use Rattle.rational.specs.Time.{Rational, Interval, IsIn, ◌<ʳ◌, whole}
 use Rattle.rational.specs.Extended.{Extended}
 use Rattle.stl_syntax.specs.Trace.{Header, Row, Trace, start, first_time, last_time}
@@ -60,7 +61,8 @@ abbrev pub AreEmittedParts : Subformula → Header → List Row → Bool → Lis
 AreEmittedParts p header rows false parts = AreRowsParts p header [] None rows parts
 AreEmittedParts p header rows true parts =
     (during rest : List Part) × AreRowsParts p header [] None rows during
-    × AreNewParts p (record { header = header; rows = rows }) (shown_number (first_time rows) (front_at false (pos (last_time 0 rows)) p)) (Some (pos (last_time 0 rows))) rest
+    × AreNewParts p (record { header = header; rows = rows })
+    (shown_number (first_time rows) (front_at false (pos (last_time 0 rows)) p)) (Some (pos (last_time 0 rows))) rest
     × (parts ≡ during ++ rest)
 
 -- some time of the part lies in the stretch

@@ -17,7 +17,8 @@ abbrev pub IsNewMargins : Subformula → Trace → Option ℤ → Option ℤ →
 IsNewMargins p tr old None text = text ≡ []
 IsNewMargins p tr None (Some new) text = (knots : Knots) × TellsClosed p tr (start tr) (whole new) knots × AreMarginLines tr.header.scale knots text
 IsNewMargins p tr (Some old) (Some new) text =
-    MatchBool (int_lt old new) ((k : Knot) × (pieces : List Piece) × TellsLeftOpen p tr (whole old) (whole new) k pieces × ArePieceLines tr.header.scale k pieces text)
+    MatchBool (int_lt old new)
+    ((k : Knot) × (pieces : List Piece) × TellsLeftOpen p tr (whole old) (whole new) k pieces × ArePieceLines tr.header.scale k pieces text)
     (text ≡ [])
 
 -- the text for these rows, with the rest where the input has ended; then there is a row

@@ -35,7 +35,8 @@ Meets stretch v = (t : Rational) × IsIn stretch t × IsIn (interval v.on) t
 abbrev pub AreMeeting : Interval → List Verdict → List Verdict → Type 0
 AreMeeting stretch [] held = held ≡ []
 AreMeeting stretch (v ∷ verdicts) held =
-    (Meets stretch v × ((more : List Verdict) × AreMeeting stretch verdicts more × (held ≡ v ∷ more))) ⊎ ((¬ Meets stretch v) × AreMeeting stretch verdicts held)
+    (Meets stretch v × ((more : List Verdict) × AreMeeting stretch verdicts more × (held ≡ v ∷ more)))
+    ⊎ ((¬ Meets stretch v) × AreMeeting stretch verdicts held)
 
 -- of the verdicts of a node those that meet the stretch that its reader needs; none before its front is at the start
 abbrev pub AreNeeded : ℕ → Front → Front → ℤ → List Verdict → List Verdict → Type 0
@@ -51,7 +52,8 @@ pub record IsEdge (nodes : List Node) (header : Header) (events : List Event) (i
   pub reads : IsReader reading left i
   pub emitted : List Verdict
   pub is_emitted : Emitted nodes header events i emitted
-  pub is_needed : AreNeeded (first_time (state nodes events).rows) (shown (state nodes events) i) ((state nodes events).fronts reader) (reach_back reading left) emitted held
+  pub is_needed : AreNeeded (first_time (state nodes events).rows) (shown (state nodes events) i)
+      ((state nodes events).fronts reader) (reach_back reading left) emitted held
 
 -- a take gives the root's next verdict, if there is one; n were taken in all
 pub data IsTaken (nodes : List Node) (header : Header) : List Event → ℕ → Type 0 where

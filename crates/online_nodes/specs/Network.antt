@@ -1,5 +1,6 @@
 -- Runs of the streaming network, in any order of its events, and what they answer.
-use Rattle.std.specs.Prelude.{◌≡◌, ℕ, ◌<◌, Bool, true, false, ◌&&◌, not, if◌then◌else◌, List, [], ◌∷◌, ◌++◌, length, ℤ, pos, ◌+ℤ◌, ◌<ℤ◌, int_lt, neg_ℤ, Option, Some, None, ◌==◌, slice_index_or, IfSome, MatchBool}
+use Rattle.std.specs.Prelude.{◌≡◌, ℕ, ◌<◌, Bool, true, false, ◌&&◌, not, if◌then◌else◌, List, [], ◌∷◌, ◌++◌, length, ℤ, pos}
+use Rattle.std.specs.Prelude.{◌+ℤ◌, ◌<ℤ◌, int_lt, neg_ℤ, Option, Some, None, ◌==◌, slice_index_or, IfSome, MatchBool}
 use Rattle.rational.specs.Time.{whole, Interval, closed, left_open}
 use Rattle.stl_syntax.specs.Trace.{Header, Row, first_time, last_time}
 use Rattle.stl_syntax.specs.Formula.{subformula}

@@ -5,7 +5,8 @@ ghost use Rattle.online_nodes.specs.Cuts.{place, AtMost};
 ghost use Rattle.online_nodes.specs.Held.{fresh_at};
 ghost use Rattle.online_nodes.specs.Written.{IsSound, waiting};
 ghost use Rattle.online_nodes.specs.Kinds.{held_in, inputs_of, IsNear};
-ghost use Rattle.online_nodes.specs.Answering.{back_by, is_empty, CanAnswer, CanRelease, CanSweep, HasAnswered, HasBody, HasReleased, HasReleasedTwo, HasSweptAll, HasToldAll};
+ghost use Rattle.online_nodes.specs.Answering.{back_by, is_empty, CanAnswer, CanRelease, CanSweep, HasAnswered};
+ghost use Rattle.online_nodes.specs.Answering.{HasBody, HasReleased, HasReleasedTwo, HasSweptAll, HasToldAll};
 
 use crate::cut::Cut;
 use crate::edges::Edges;

@@ -3,7 +3,8 @@
 //! An edge is a queue of its own: what its reader has read and may still need, and behind it what it has not read. So an
 //! operator goes on in the middle of its input's edge with no walk, and to read a verdict takes no memory.
 
-ghost use Rattle.std.specs.Prelude.{◌≡◌, ◌*◌, ◌+◌, ◌<◌, ◌≤◌, ◌^◌, [], ◌∷◌, length, replicate, slice_get, IfOk, IsOk, OnOk, OnErr, None, Some, IsTrue, ◌↔◌, ℕ, map, All};
+ghost use Rattle.std.specs.Prelude.{◌≡◌, ◌*◌, ◌+◌, ◌<◌, ◌≤◌, ◌^◌, [], ◌∷◌, length, replicate, slice_get};
+ghost use Rattle.std.specs.Prelude.{IfOk, IsOk, OnOk, OnErr, None, Some, IsTrue, ◌↔◌, ℕ, map, All};
 ghost use Rattle.rational.specs.Rational.{◌≤ʳ◌};
 ghost use Rattle.frac128.specs.Value.{value};
 ghost use Rattle.online_nodes.specs.Queues.{edge_of, IsQueue};

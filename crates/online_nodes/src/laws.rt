@@ -1,6 +1,9 @@
 //! Laws of places, of runs and of what stands on edges. Each is the contract of a call that does nothing, so that the gate
 //! proves it.
-ghost use Rattle.online_nodes.specs.Laws.{EachHasOneReader, EdgesGrow, EmittedIsWhole, EmittedStays, FrontsAreTimes, HasTimesBetween, MeetingIsWhatIsLeft, MeetingLaterIsWhatIsLeft, NumbersNeverFall, NumbersSettle, NumbersStayWithinHorizons, OpenNumbersSettle, OthersGiveNothing, RootEdgesGrow, TakenWereGivenOut};
+ghost use Rattle.online_nodes.specs.Laws.{EachHasOneReader, EdgesGrow, EmittedIsWhole, EmittedStays, FrontsAreTimes};
+ghost use Rattle.online_nodes.specs.Laws.{HasTimesBetween, MeetingIsWhatIsLeft, MeetingLaterIsWhatIsLeft};
+ghost use Rattle.online_nodes.specs.Laws.{NumbersNeverFall, NumbersSettle, NumbersStayWithinHorizons};
+ghost use Rattle.online_nodes.specs.Laws.{OpenNumbersSettle, OthersGiveNothing, RootEdgesGrow, TakenWereGivenOut};
 ghost use Rattle.online_nodes.specs.Looking.{ConnectivesJoin, SinceRemembersWhatItKnows, UntilAndSinceLook, UntilRemembersWhatItKnows, WindowsLook};
 
 /// Between two places there is a time.

@@ -1,6 +1,7 @@
 //! Operators: each takes the verdicts that its node's inputs have ready, and gives out those of its node.
 
-ghost use Rattle.std.specs.Prelude.{◌≡◌, ◌*◌, ◌+◌, ◌<◌, ◌≤◌, ◌<ℤ◌, ◌≤ℤ◌, ◌↔◌, ◌++◌, ◌∷◌, [], List, ℕ, pos, IfOk, IsTrue, MatchOption, OnErr, OnOk, length, Some, None, true, false};
+ghost use Rattle.std.specs.Prelude.{◌≡◌, ◌*◌, ◌+◌, ◌<◌, ◌≤◌, ◌<ℤ◌, ◌≤ℤ◌, ◌↔◌, ◌++◌, ◌∷◌, [], List, ℕ, pos};
+ghost use Rattle.std.specs.Prelude.{IfOk, IsTrue, MatchOption, OnErr, OnOk, length, Some, None, true, false};
 ghost use Rattle.stl_syntax.specs.Trace.{Header};
 ghost use Rattle.online_nodes.specs.Network.{Event, step, state, node_is_atom, allowed_at, IsReady};
 ghost use Rattle.stl_syntax.specs.declared.node.Node.{Node as ANode};

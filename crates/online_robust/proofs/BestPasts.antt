@@ -36,7 +36,8 @@ module _ (from to : Rational) (p : ℕ) (side : Side) (a : ℕ) (a_in b_in : Boo
   past_holds : whole (pos 0) ≤ʳ from → t ≤ʳ whole (pos 4294967295) → Behind from to a None a_in b_in t u → Holds from to (past_window p side a a_in) t u
   past_holds first last h = record {
     inside = h.inside;
-    begins = le_of_lt (none_so_far from (whole (pos 4294967295)) first (lt_whole {j = pos 4294967295} {k = pos (2 ^ 32)} (omega (arith, ints))) t u last h.inside.above);
+    begins = le_of_lt (none_so_far from (whole (pos 4294967295)) first
+        (lt_whole {j = pos 4294967295} {k = pos (2 ^ 32)} (omega (arith, ints))) t u last h.inside.above);
     ends = back_before a_in t u a h.ends;
   }
 
@@ -46,7 +47,8 @@ module _ (from to : Rational) (p : ℕ) (side : Side) (a : ℕ) (a_in b_in : Boo
 pub best_past : (f : ℕ → Subformula) (place : ℕ) (n : Node) (w : Window) (tr : Trace) → IsPastOf n w → whole (pos 0) ≤ʳ start tr → (t : Rational) (r : Extended)
     → t ≤ʳ whole (pos 4294967295) → best_over tr (Robustness (f w.of) tr) w t r → Robustness (tree_of f place n) tr t r
 best_past f place (N.Once p a None a_in b_in) w tr is first t r last h =
-    sup_over_alike (Holds (start tr) (stop tr) (past_window p Greatest a a_in) t) (Behind (start tr) (stop tr) a None a_in b_in t) (Robustness (f p) tr) minus_infinity r
+    sup_over_alike (Holds (start tr) (stop tr) (past_window p Greatest a a_in) t) (Behind (start tr) (stop tr) a None a_in b_in t)
+    (Robustness (f p) tr) minus_infinity r
     (λ u. holds_past (start tr) (stop tr) p Greatest a a_in b_in t u) (λ u. past_holds (start tr) (stop tr) p Greatest a a_in b_in t u first last)
     (subst (λ (x : Window). best_over tr (Robustness (f x.of) tr) x t r) is h)
 best_past f place (N.Historically p a None a_in b_in) w tr is first t r last h =
@@ -82,7 +84,8 @@ over_past P from to p side a a_in b_in tau line first last (has, inl (k, is, old
   where
     by_end : (k ≡ neg_ℤ (pos 4294967296)) ⊎ (k ≡ neg_ℤ (pos a)) → IsEndBehind a None k
     by_end (inl e) = absurd (not_lt_of_le inside.above (subst (λ (z : ℤ). shifted tau z <ʳ from) (sym e)
-        (none_so_far from (whole (pos 4294967295)) first (lt_whole {j = pos 4294967295} {k = pos (2 ^ 32)} (omega (arith, ints))) tau from last (le_refl from))))
+        (none_so_far from (whole (pos 4294967295)) first
+        (lt_whole {j = pos 4294967295} {k = pos (2 ^ 32)} (omega (arith, ints))) tau from last (le_refl from))))
     by_end (inr e) = e
 over_past P from to p side a a_in b_in tau line first last (has, inr (inl (u, point, inside, v, f, constant))) = (
   (has.0, holds_past from to p side a a_in b_in tau has.0 has.1),
@@ -94,8 +97,10 @@ over_past P from to p side a a_in b_in tau line first last (has, inr (inr (u, po
 )
 
 -- at the node of the window
-pub in_play_past : (f : ℕ → Subformula) (place : ℕ) (n : Node) (w : Window) (tr : Trace) → IsPastOf n w → whole (pos 0) ≤ʳ start tr → (tau : Rational) (line : Affine)
-    → tau ≤ʳ whole (pos 4294967295) → InPlayOver (Robustness (f w.of) tr) (start tr) (stop tr) w tau line → IsInPlayAt (tree_of f place n) (margin_setting tr) tau line
+pub in_play_past : (f : ℕ → Subformula) (place : ℕ) (n : Node) (w : Window) (tr : Trace) → IsPastOf n w
+    → whole (pos 0) ≤ʳ start tr → (tau : Rational) (line : Affine)
+    → tau ≤ʳ whole (pos 4294967295) → InPlayOver (Robustness (f w.of) tr) (start tr) (stop tr) w tau line
+    → IsInPlayAt (tree_of f place n) (margin_setting tr) tau line
 in_play_past f place (N.Once p a None a_in b_in) w tr is first tau line last h =
     over_past (Robustness (f p) tr) (start tr) (stop tr) p Greatest a a_in b_in tau line first last
     (subst (λ (x : Window). InPlayOver (Robustness (f x.of) tr) (start tr) (stop tr) x tau line) is h)
@@ -132,7 +137,9 @@ settled_over ended now p tr of side a a_in b_in tau line (inr (u, point, (closes
       constant,
     )
 
-pub settled_past : (f : ℕ → Subformula) (place : ℕ) (n : Node) (w : Window) (tr : Trace) (ended : Bool) (now : ℤ) → IsPastOf n w → (tau : Rational) (line : Affine)
+-- what is in play over the window is in play at the node
+pub settled_past : (f : ℕ → Subformula) (place : ℕ) (n : Node) (w : Window) (tr : Trace) (ended : Bool) (now : ℤ) → IsPastOf n w
+    → (tau : Rational) (line : Affine)
     → SettledOver (Robustness (f w.of) tr) (start tr) (stop tr) (whole (front_at ended now (f w.of))) w tau line
     → IsSettledConstant ended now (tree_of f place n) (margin_setting tr) tau line
 settled_past f place (N.Once p a None a_in b_in) w tr ended now is tau line h =

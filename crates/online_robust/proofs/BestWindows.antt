@@ -3,7 +3,8 @@ use Rattle.std.proofs.Common.{◌≡◌, inl, inr, ℕ, Bool, true, false, refl,
 use Rattle.std.specs.Prelude.{◌⊎◌, ◌^◌, IfSome, neg_ℤ}
 use Rattle.rational.specs.Time.{Rational, Within, Precedes, shifted, later, whole, ◌≈◌, ◌≤ʳ◌, ◌<ʳ◌}
 use Rattle.rational.specs.Extended.{Affine, Extended, minus_infinity, infinity}
-use Rattle.rational.specs.InPlay.{IsInPlay, IsEndPart, IsLimitWithin, IsValueWithin, IsLeftLimit, IsRightLimit, IsWideCrossing, IsWideValue, window_ahead, window_behind}
+use Rattle.rational.specs.InPlay.{IsInPlay, IsEndPart, IsLimitWithin, IsValueWithin, IsLeftLimit}
+use Rattle.rational.specs.InPlay.{IsRightLimit, IsWideCrossing, IsWideValue, window_ahead, window_behind}
 use Rattle.rational.specs.Windows.{Function, Ahead, Behind, IsInfOver, IsSupOver}
 use Rattle.rational.proofs.Order.{le_of_same, ge_of_same, lt_of_le_of_lt, lt_of_lt_of_le}
 use Rattle.rational.proofs.WindowLemmas.{inf_over_alike, sup_over_alike}
@@ -62,33 +63,41 @@ pub best_is : (f : ℕ → Subformula) (place : ℕ) (n : Node) (w : Window) (tr
 best_is f place (N.Eventually p a b a_in b_in) w tr is t r =
     subst (λ (x : Window). (best_over tr (Robustness (f x.of) tr) x t r → Robustness (eventually a b a_in b_in (f p)) tr t r)
     × (Robustness (eventually a b a_in b_in (f p)) tr t r → best_over tr (Robustness (f x.of) tr) x t r)) (sym is) (
-      sup_over_alike (Holds (start tr) (stop tr) (ahead_window p Greatest a b a_in b_in) t) (Ahead (start tr) (stop tr) a b a_in b_in t) (Robustness (f p) tr) minus_infinity r
+      sup_over_alike (Holds (start tr) (stop tr) (ahead_window p Greatest a b a_in b_in) t)
+          (Ahead (start tr) (stop tr) a b a_in b_in t) (Robustness (f p) tr) minus_infinity r
           (holds_ahead (start tr) (stop tr) p Greatest a b a_in b_in t) (ahead_holds (start tr) (stop tr) p Greatest a b a_in b_in t),
-      sup_over_alike (Ahead (start tr) (stop tr) a b a_in b_in t) (Holds (start tr) (stop tr) (ahead_window p Greatest a b a_in b_in) t) (Robustness (f p) tr) minus_infinity r
+      sup_over_alike (Ahead (start tr) (stop tr) a b a_in b_in t)
+          (Holds (start tr) (stop tr) (ahead_window p Greatest a b a_in b_in) t) (Robustness (f p) tr) minus_infinity r
           (ahead_holds (start tr) (stop tr) p Greatest a b a_in b_in t) (holds_ahead (start tr) (stop tr) p Greatest a b a_in b_in t),
     )
 best_is f place (N.Always p a b a_in b_in) w tr is t r =
     subst (λ (x : Window). (best_over tr (Robustness (f x.of) tr) x t r → Robustness (always a b a_in b_in (f p)) tr t r)
     × (Robustness (always a b a_in b_in (f p)) tr t r → best_over tr (Robustness (f x.of) tr) x t r)) (sym is) (
-      inf_over_alike (Holds (start tr) (stop tr) (ahead_window p Least a b a_in b_in) t) (Ahead (start tr) (stop tr) a b a_in b_in t) (Robustness (f p) tr) infinity r
+      inf_over_alike (Holds (start tr) (stop tr) (ahead_window p Least a b a_in b_in) t)
+          (Ahead (start tr) (stop tr) a b a_in b_in t) (Robustness (f p) tr) infinity r
           (holds_ahead (start tr) (stop tr) p Least a b a_in b_in t) (ahead_holds (start tr) (stop tr) p Least a b a_in b_in t),
-      inf_over_alike (Ahead (start tr) (stop tr) a b a_in b_in t) (Holds (start tr) (stop tr) (ahead_window p Least a b a_in b_in) t) (Robustness (f p) tr) infinity r
+      inf_over_alike (Ahead (start tr) (stop tr) a b a_in b_in t)
+          (Holds (start tr) (stop tr) (ahead_window p Least a b a_in b_in) t) (Robustness (f p) tr) infinity r
           (ahead_holds (start tr) (stop tr) p Least a b a_in b_in t) (holds_ahead (start tr) (stop tr) p Least a b a_in b_in t),
     )
 best_is f place (N.Once p a (Some b) a_in b_in) w tr is t r =
     subst (λ (x : Window). (best_over tr (Robustness (f x.of) tr) x t r → Robustness (once a (Some b) a_in b_in (f p)) tr t r)
     × (Robustness (once a (Some b) a_in b_in (f p)) tr t r → best_over tr (Robustness (f x.of) tr) x t r)) (sym is) (
-      sup_over_alike (Holds (start tr) (stop tr) (behind_window p Greatest a b a_in b_in) t) (Behind (start tr) (stop tr) a (Some b) a_in b_in t) (Robustness (f p) tr) minus_infinity r
+      sup_over_alike (Holds (start tr) (stop tr) (behind_window p Greatest a b a_in b_in) t)
+          (Behind (start tr) (stop tr) a (Some b) a_in b_in t) (Robustness (f p) tr) minus_infinity r
           (holds_behind (start tr) (stop tr) p Greatest a b a_in b_in t) (behind_holds (start tr) (stop tr) p Greatest a b a_in b_in t),
-      sup_over_alike (Behind (start tr) (stop tr) a (Some b) a_in b_in t) (Holds (start tr) (stop tr) (behind_window p Greatest a b a_in b_in) t) (Robustness (f p) tr) minus_infinity r
+      sup_over_alike (Behind (start tr) (stop tr) a (Some b) a_in b_in t)
+          (Holds (start tr) (stop tr) (behind_window p Greatest a b a_in b_in) t) (Robustness (f p) tr) minus_infinity r
           (behind_holds (start tr) (stop tr) p Greatest a b a_in b_in t) (holds_behind (start tr) (stop tr) p Greatest a b a_in b_in t),
     )
 best_is f place (N.Historically p a (Some b) a_in b_in) w tr is t r =
     subst (λ (x : Window). (best_over tr (Robustness (f x.of) tr) x t r → Robustness (historically a (Some b) a_in b_in (f p)) tr t r)
     × (Robustness (historically a (Some b) a_in b_in (f p)) tr t r → best_over tr (Robustness (f x.of) tr) x t r)) (sym is) (
-      inf_over_alike (Holds (start tr) (stop tr) (behind_window p Least a b a_in b_in) t) (Behind (start tr) (stop tr) a (Some b) a_in b_in t) (Robustness (f p) tr) infinity r
+      inf_over_alike (Holds (start tr) (stop tr) (behind_window p Least a b a_in b_in) t)
+          (Behind (start tr) (stop tr) a (Some b) a_in b_in t) (Robustness (f p) tr) infinity r
           (holds_behind (start tr) (stop tr) p Least a b a_in b_in t) (behind_holds (start tr) (stop tr) p Least a b a_in b_in t),
-      inf_over_alike (Behind (start tr) (stop tr) a (Some b) a_in b_in t) (Holds (start tr) (stop tr) (behind_window p Least a b a_in b_in) t) (Robustness (f p) tr) infinity r
+      inf_over_alike (Behind (start tr) (stop tr) a (Some b) a_in b_in t)
+          (Holds (start tr) (stop tr) (behind_window p Least a b a_in b_in) t) (Robustness (f p) tr) infinity r
           (behind_holds (start tr) (stop tr) p Least a b a_in b_in t) (holds_behind (start tr) (stop tr) p Least a b a_in b_in t),
     )
 best_is f place (N.Once p a None a_in b_in) w tr is t r = absurd is
@@ -190,10 +199,18 @@ settled_behind : (ended : Bool) (now : ℤ) (p : Subformula) (tr : Trace) (of : 
 settled_behind ended now p tr of side a b a_in b_in tau line (inl (u, point, (inside, before), v, f, constant)) =
     inl (u, point, (holds_behind (start tr) (stop tr) of side a b a_in b_in tau u inside, before), v, f, constant)
 settled_behind ended now p tr of side a b a_in b_in tau line (inr (u, point, (closes, before), v, sides, constant)) =
-    inr (u, point, (holds_behind (start tr) (stop tr) of side a b true true tau u closes, before), v, sides_behind (Robustness p tr) (start tr) (stop tr) a b tau u v sides, constant)
+    inr (
+      u,
+      point,
+      (holds_behind (start tr) (stop tr) of side a b true true tau u closes, before),
+      v,
+      sides_behind (Robustness p tr) (start tr) (stop tr) a b tau u v sides,
+      constant,
+    )
 
 -- at the node of the window, before the input's number
-pub settled_is : (f : ℕ → Subformula) (place : ℕ) (n : Node) (w : Window) (tr : Trace) (ended : Bool) (now : ℤ) → IsWindowOf n w → (tau : Rational) (line : Affine)
+pub settled_is : (f : ℕ → Subformula) (place : ℕ) (n : Node) (w : Window) (tr : Trace) (ended : Bool) (now : ℤ) → IsWindowOf n w
+    → (tau : Rational) (line : Affine)
     → SettledOver (Robustness (f w.of) tr) (start tr) (stop tr) (whole (front_at ended now (f w.of))) w tau line
     → IsSettledConstant ended now (tree_of f place n) (margin_setting tr) tau line
 settled_is f place (N.Eventually p a b a_in b_in) w tr ended now is tau line h =

@@ -1,5 +1,6 @@
 -- From what an operator needs before it goes on to what its body needs, and back from what the body leaves.
-use Rattle.std.proofs.Common.{◌≡◌, inl, inr, ℕ, ◌+◌, ◌<◌, ◌≤◌, Bool, true, false, List, [], ◌∷◌, length, refl, sym, ap, subst, ◌∙◌, arith, Option, Some, None, ℤ, pos, ◌+ℤ◌, ◌<ℤ◌, ◌≤ℤ◌}
+use Rattle.std.proofs.Common.{◌≡◌, inl, inr, ℕ, ◌+◌, ◌<◌, ◌≤◌, Bool, true, false, List, [], ◌∷◌, length, refl}
+use Rattle.std.proofs.Common.{sym, ap, subst, ◌∙◌, arith, Option, Some, None, ℤ, pos, ◌+ℤ◌, ◌<ℤ◌, ◌≤ℤ◌}
 use Rattle.std.specs.Prelude.{◌⊎◌, MatchBool, IfSome, IsSome, int_lt, cond, slice_get}
 use Rattle.std.proofs.lemmas.Int.{ints}
 use Rattle.std.proofs.lemmas.Option.{slice_get_within}
@@ -40,7 +41,8 @@ use Rattle.online_robust.specs.Told.{AreTold, AreFit, AreJoined, IsMovedBy, IsTi
 use Rattle.online_robust.specs.Reading.{Begins, HasReached, IsAhead, IsReady, IsStretch, Loses, LosesAt, LosesAtBoth, turned_by}
 use Rattle.online_robust.specs.Couples.{both_of, left_of, right_of, CanJoin, CanNegate, Couple, IsCoupleFault, IsJoinedTo, IsNegatedTo}
 use Rattle.online_robust.specs.Standing.{HasStood, IsTwoOf, two_of}
-use Rattle.online_robust.specs.Turns.{Turn, Belongs, AreInputs, AreLeft, HasSwept, IsCut, IsInput, IsStreamedFault, IsSwept, StandsNow, back_of, begin_of, from_of, reach_before}
+use Rattle.online_robust.specs.Turns.{Turn, Belongs, AreInputs, AreLeft, HasSwept, IsCut, IsInput, IsStreamedFault}
+use Rattle.online_robust.specs.Turns.{IsSwept, StandsNow, back_of, begin_of, from_of, reach_before}
 use Rattle.online_robust.specs.declared.line.MarginLine.{MarginLine}
 use Rattle.online_robust.specs.declared.line.MarginLine.TheVariants.{Point, Gap}
 use Rattle.online_robust.specs.declared.line.Reached.{Reached}
@@ -77,7 +79,8 @@ inputs_of F reach start back f lines le input = by_test (int_lt f (pos start)) r
 -- ---- reading
 
 -- the first line after a point ends after it
-ends_after : (F : Function) (u to : Rational) (lines : List MarginLine) → AreTold F lines → AreJoined u to lines → IfSome (slice_get lines 0) (λ x. u <ʳ value (end_of x))
+ends_after : (F : Function) (u to : Rational) (lines : List MarginLine) → AreTold F lines → AreJoined u to lines
+    → IfSome (slice_get lines 0) (λ x. u <ʳ value (end_of x))
 ends_after F u to [] told joined = tt
 ends_after F u to (Gap a b p ∷ []) told joined = absurd joined
 ends_after F u to (Gap a b p ∷ Gap c d q ∷ lines) told joined = absurd joined
@@ -85,6 +88,7 @@ ends_after F u to (Gap a b p ∷ Point w v ∷ lines) told joined = lt_of_le_of_
 ends_after F u to (Point w v ∷ lines) told joined = absurd joined
 
 module _ (F : Function) (reach start : ℕ) (f : ℤ) (lines : List MarginLine) where
+  -- a node that has told nothing finds its input from the start on
   pub begins : AreInputs F reach start None f lines → Begins F reach (whole (pos start)) (whole f) lines
   begins inputs = by_left inputs.left
     where
@@ -109,6 +113,7 @@ module _ (F : Function) (reach start : ℕ) (f : ℤ) (lines : List MarginLine) 
             };
           }
 
+  -- and one that has told finds it from there on
   pub ahead : (back : ℤ) (t : Rational) → whole back ≈ t → AreInputs F reach start (Some back) f lines → IsAhead F reach t (whole f) lines
   ahead back t e inputs = by_left inputs.left
     where
@@ -128,7 +133,8 @@ module _ (F : Function) (reach start : ℕ) (f : ℤ) (lines : List MarginLine) 
 
 -- an input is ready, for a node that reads it at its own time
 ready : (F G : Function) (most reach start : ℕ) (before : Option ℤ) (f : ℤ) (lines : List MarginLine) (last : Option Reached) (from : Rational)
-    → pos start ≤ℤ f → IfSome before (λ g. pos start ≤ℤ g) → (before ≡ None → from ≡ whole (pos start)) → IsInput F reach start (back_of start before (pos 0)) f lines
+    → pos start ≤ℤ f → IfSome before (λ g. pos start ≤ℤ g) → (before ≡ None → from ≡ whole (pos start))
+    → IsInput F reach start (back_of start before (pos 0)) f lines
     → HasStood G most before last → IsReady F reach from (whole f) lines last
 ready F G most reach start None f lines last from le low is input stood =
     subst (IsReady F reach from (whole f) lines) (sym stood)
@@ -177,7 +183,8 @@ cut F reach start to limit far old new le same lost ahead = (
 
 -- ---- a signal that tells the same
 
-same_told : (F G : Function) (from to : Rational) (s : List (Knot Margin)) → ((t : Rational) (v : Extended) → (F t v → G t v) × (G t v → F t v)) → Tells margin_shape F from to s
+same_told : (F G : Function) (from to : Rational) (s : List (Knot Margin))
+    → ((t : Rational) (v : Extended) → (F t v → G t v) × (G t v → F t v)) → Tells margin_shape F from to s
     → Tells margin_shape G from to s
 same_told F G from to s same tells = record {
   signal = tells.signal;
@@ -189,7 +196,8 @@ same_told F G from to s same tells = record {
 -- ---- a crossing in play
 
 -- what crosses in play in one way does so in another
-pub crossing_by : (A B : Rational → Affine → Type 0) (from to : Rational) (p q : Affine) (a b : Rational) (den : ℕ) → ((tau : Rational) (line : Affine) → A tau line → B tau line)
+pub crossing_by : (A B : Rational → Affine → Type 0) (from to : Rational) (p q : Affine) (a b : Rational) (den : ℕ)
+    → ((tau : Rational) (line : Affine) → A tau line → B tau line)
     → IsWideCrossing A from to p q a b den → IsWideCrossing B from to p q a b den
 crossing_by A B from to p q a b den more h = record {
   tau = h.tau;
@@ -236,9 +244,11 @@ module _ (t : Turn) (op : Operator) (e : Held) (to : ℕ) (b : Belongs t op e to
   abbrev own : Subformula
   own = subformula t.nodes t.place
 
+  -- the node's margin is that of its tree
   pub tree : own ≡ tree_of (subformula t.nodes) t.place b.node
   tree = tree_at_node t.nodes b.formed t.place b.node b.at
 
+  -- a node without a number begins at its begin
   pub from_none : t.before ≡ None → from_of t ≡ whole (pos (begin_of t))
   from_none e = by_before t.before e
     where
@@ -246,6 +256,7 @@ module _ (t : Turn) (op : Operator) (e : Held) (to : ℕ) (b : Belongs t op e to
       by_before None e = refl
       by_before (Some g) e = absurd (let f = e in cc)
 
+  -- and one with a number goes on from there
   pub from_some : (g : ℤ) → t.before ≡ Some g → from_of t ≡ whole g
   from_some g e = by_before t.before e
     where
@@ -253,6 +264,7 @@ module _ (t : Turn) (op : Operator) (e : Held) (to : ℕ) (b : Belongs t op e to
       by_before None e = absurd (let f = e in cc)
       by_before (Some h) e = ap whole (some_is e)
 
+  -- which does not lie before its begin
   pub low_before : IfSome t.before (λ g. pos (begin_of t) ≤ℤ g)
   low_before = by_before t.before b.forth
     where
@@ -272,6 +284,7 @@ module _ (t : Turn) (op : Operator) (e : Held) (to : ℕ) (b : Belongs t op e to
       )
       by_before (Some g) h = (le_whole {j = pos (begin_of t)} {k = g} h.0, le_whole {j = g} {k = pos to} (let lt = h.1 in omega (arith, ints, lt)))
 
+  -- the time is one of the rows
   pub small_to : to ≤ t.now
   small_to = below t.ended b.number
     where
@@ -279,12 +292,14 @@ module _ (t : Turn) (op : Operator) (e : Held) (to : ℕ) (b : Belongs t op e to
       below true e = omega (arith, ints, e)
       below false e = omega (arith, ints, e)
 
+  -- each number up to it is a tick
   pub tick_of : (n : ℕ) → n ≤ to → IsTick (whole (pos n))
   tick_of n le =
       let top = small_to in
       let most = b.small_now in
       (le_whole {j = pos 0} {k = pos n} (omega (arith, ints)), le_whole {j = pos n} {k = pos 4294967295} (omega (arith, ints, le, top, most)))
 
+  -- and not behind the end
   pub last_to : whole (pos to) ≤ʳ stop t.trace
   last_to =
       let top = small_to in
@@ -299,6 +314,7 @@ module _ (t : Turn) (op : Operator) (e : Held) (to : ℕ) (b : Belongs t op e to
       by_end true e = omega (arith, ints, e)
       by_end false e = omega (arith, ints, e, le)
 
+  -- an input has an edge
   pub input_within : (j : ℕ) (left : Bool) → IsReader b.node left j → j < length e.edges
   input_within j left reads =
       let lower = reader_above t.nodes b.formed t.place b.node left j b.at reads in
@@ -344,9 +360,11 @@ module _ (t : Turn) (x : Negated.Not) (e : Held) (to : ℕ) (b : Belongs t (Op.N
   not_input : IsInput (Robustness child t.trace) (reach_before t) (begin_of t) (back_of (begin_of t) t.before (pos 0)) (pos to) (held_at e x.of)
   not_input =
       subst (λ f. IsInput (Robustness child t.trace) (reach_before t) (begin_of t) (back_of (begin_of t) t.before (pos 0)) f (held_at e x.of)) not_front
-      (subst (λ k. IsInput (Robustness child t.trace) (reach_before t) (begin_of t) (back_of (begin_of t) t.before (reach_back k true)) (front_at t.ended (pos t.now) child)
+      (subst (λ k. IsInput (Robustness child t.trace) (reach_before t) (begin_of t)
+      (back_of (begin_of t) t.before (reach_back k true)) (front_at t.ended (pos t.now) child)
       (held_at e x.of)) b.stands.0 (b.inputs x.of true not_reads))
 
+  -- the negation may go through its input
   pub can_negate : CanNegate not_couple x e
   can_negate = record {
     span = record {
@@ -362,10 +380,12 @@ module _ (t : Turn) (x : Negated.Not) (e : Held) (to : ℕ) (b : Belongs t (Op.N
     all = same_refl (whole (pos to));
     last = reached_before (turned_by true (Robustness child t.trace)) (reach_before t) t.before x.last (from_of t) (from_some t (Op.Not x) e to b) b.stands.1;
     of =
-        ready (Robustness child t.trace) (turned_by true (Robustness child t.trace)) (reach_before t) (reach_before t) (begin_of t) t.before (pos to) (held_at e x.of) x.last
+        ready (Robustness child t.trace) (turned_by true (Robustness child t.trace)) (reach_before t) (reach_before t)
+        (begin_of t) t.before (pos to) (held_at e x.of) x.last
         (from_of t) (let le = b.from_start in omega (arith, ints, le)) (low_before t (Op.Not x) e to b) (from_none t (Op.Not x) e to b) not_input b.stands.1;
   }
 
+  -- what it tells is the node's margin
   pub not_told : (s : List (Knot Margin)) → IsStretch (left_of not_couple true) (reach_before t) (from_of t) (whole (pos to)) s → IsSwept t to s
   not_told s is = record {
     tells = subst (λ p. Tells margin_shape (Robustness p t.trace) (from_of t) (whole (pos to)) s) (sym not_own) is.tells;
@@ -373,6 +393,7 @@ module _ (t : Turn) (x : Negated.Not) (e : Held) (to : ℕ) (b : Belongs t (Op.N
     moved = λ node at p has. moved_same t (Op.Not x) e to b (ap own_reach b.stands.0) node at p (is.moved p has);
   }
 
+  -- the edges are swept up to the time
   pub not_edges : (e' : Held) (end : Rational) → end ≈ whole (pos to) → LosesAt end x.of e e' → IsNegatedTo not_couple x e' end → HasSwept t e e' to
   not_edges e' end same lost to_end = record {
     inputs = λ node j left at reads. by_side node j left (some_is (sym at ∙ b.at) ∙ b.stands.0) reads;
@@ -386,14 +407,20 @@ module _ (t : Turn) (x : Negated.Not) (e : Held) (to : ℕ) (b : Belongs t (Op.N
       by_side node j left is reads = by_left left (subst (λ k. IsReader k left j) is reads)
         where
           by_left : (left : Bool) → IsReader (N.Not x.of) left j
-              → IsCut (back_of (begin_of t) (Some (pos to)) (reach_back node left)) (edge_at e j) (edge_at e' j) × ((edge_at e' j).number ≡ (edge_at e j).number)
+              → IsCut (back_of (begin_of t) (Some (pos to)) (reach_back node left)) (edge_at e j) (edge_at e' j)
+              × ((edge_at e' j).number ≡ (edge_at e j).number)
           by_left true own =
-              subst (λ k. IsCut (back_of (begin_of t) (Some (pos to)) (reach_back k true)) (edge_at e j) (edge_at e' j) × ((edge_at e' j).number ≡ (edge_at e j).number)) (sym is)
-              (subst (λ i. IsCut (back_of (begin_of t) (Some (pos to)) (pos 0)) (edge_at e i) (edge_at e' i) × ((edge_at e' i).number ≡ (edge_at e i).number)) own
-              (cut (Robustness child t.trace) (reach_before t) (begin_of t) to end (whole (pos to)) (edge_at e x.of) (edge_at e' x.of) b.from_start same lost.here to_end.of))
+              subst (λ k. IsCut (back_of (begin_of t) (Some (pos to)) (reach_back k true)) (edge_at e j) (edge_at e' j)
+              × ((edge_at e' j).number ≡ (edge_at e j).number)) (sym is)
+              (subst (λ i. IsCut (back_of (begin_of t) (Some (pos to)) (pos 0)) (edge_at e i) (edge_at e' i)
+              × ((edge_at e' i).number ≡ (edge_at e i).number)) own
+              (cut (Robustness child t.trace) (reach_before t) (begin_of t) to end (whole (pos to)) (edge_at e x.of)
+              (edge_at e' x.of) b.from_start same lost.here to_end.of))
           by_left false none = absurd none
 
-  pub not_stands : (x' : Negated.Not) (e' : Held) → x'.of ≡ x.of → IsSome x'.last → HasReached (left_of not_couple true) (reach_before t) (whole (pos to)) x'.last
+  -- and the operator stands there
+  pub not_stands : (x' : Negated.Not) (e' : Held) → x'.of ≡ x.of → IsSome x'.last
+      → HasReached (left_of not_couple true) (reach_before t) (whole (pos to)) x'.last
       → StandsNow t (Op.Not x') e' to
   not_stands x' e' same some reached node at = (
     some_is (sym at ∙ b.at) ∙ b.stands.0 ∙ ap N.Not (sym same),
@@ -405,18 +432,29 @@ module _ (t : Turn) (x : Negated.Not) (e : Held) (to : ℕ) (b : Belongs t (Op.N
 
 -- what is so of a connective's node and its operator
 pub record IsJoint (nodes : List Node) (place : ℕ) (tr : Trace) (n : Node) (x : Two) : Type 0 where
+  -- the left input is read on the left
   pub left : IsReader n true x.left
+  -- and the right one on the right
   pub right : IsReader n false x.right
+  -- it reads no other
   pub only : (j : ℕ) (side : Bool) → IsReader n side j → (j ≡ x.left) ⊎ (j ≡ x.right)
+  -- it looks back into neither
   pub back : (side : Bool) → reach_back n side ≡ pos 0
+  -- and has no reach of its own
   pub none : own_reach n ≡ 0
+  -- they are its children
   pub children : children n ≡ x.left ∷ x.right ∷ []
+  -- the left one looks no further than the node
   pub left_horizon : horizon (subformula nodes x.left) ≤ horizon (tree_of (subformula nodes) place n)
+  -- nor the right one
   pub right_horizon : horizon (subformula nodes x.right) ≤ horizon (tree_of (subformula nodes) place n)
+  -- the node's value is made of both at the time
   pub value : (t : Rational) (v : Extended) → (two_of nodes tr x t v → Robustness (tree_of (subformula nodes) place n) tr t v)
       × (Robustness (tree_of (subformula nodes) place n) tr t v → two_of nodes tr x t v)
+  -- and so is what is in play
   pub in_play : (tau : Rational) (line : Affine)
-      → IsInPlay (of_two (turned_by x.turned (Robustness (subformula nodes x.left) tr)) (Robustness (subformula nodes x.right) tr)) (start tr) (stop tr) tau line
+      → IsInPlay (of_two (turned_by x.turned (Robustness (subformula nodes x.left) tr)) (Robustness (subformula nodes x.right) tr))
+      (start tr) (stop tr) tau line
       → IsInPlayAt (tree_of (subformula nodes) place n) (margin_setting tr) tau line
 
 module _ (nodes : List Node) (place : ℕ) (tr : Trace) where
@@ -425,7 +463,8 @@ module _ (nodes : List Node) (place : ℕ) (tr : Trace) where
   by_side p q n l r to from j true h = inl (sym (to j h))
   by_side p q n l r to from j false h = inr (sym (from j h))
 
-  least_joint : (p q : ℕ) (last : Option Reached) → IsJoint nodes place tr (N.And p q) (record { left = p; right = q; side = Least; turned = false; last = last })
+  least_joint : (p q : ℕ) (last : Option Reached)
+      → IsJoint nodes place tr (N.And p q) (record { left = p; right = q; side = Least; turned = false; last = last })
   least_joint p q last = record {
     left = refl;
     right = refl;
@@ -439,7 +478,8 @@ module _ (nodes : List Node) (place : ℕ) (tr : Trace) where
     in_play = λ tau line h. h;
   }
 
-  greatest_joint : (p q : ℕ) (last : Option Reached) → IsJoint nodes place tr (N.Or p q) (record { left = p; right = q; side = Greatest; turned = false; last = last })
+  greatest_joint : (p q : ℕ) (last : Option Reached)
+      → IsJoint nodes place tr (N.Or p q) (record { left = p; right = q; side = Greatest; turned = false; last = last })
   greatest_joint p q last = record {
     left = refl;
     right = refl;
@@ -453,7 +493,8 @@ module _ (nodes : List Node) (place : ℕ) (tr : Trace) where
     in_play = λ tau line h. h;
   }
 
-  implied_joint : (p q : ℕ) (last : Option Reached) → IsJoint nodes place tr (N.Implies p q) (record { left = p; right = q; side = Greatest; turned = true; last = last })
+  implied_joint : (p q : ℕ) (last : Option Reached)
+      → IsJoint nodes place tr (N.Implies p q) (record { left = p; right = q; side = Greatest; turned = true; last = last })
   implied_joint p q last = record {
     left = refl;
     right = refl;
@@ -470,6 +511,7 @@ module _ (nodes : List Node) (place : ℕ) (tr : Trace) where
     in_play = λ tau line h. h;
   }
 
+  -- a node with two inputs and no window is such
   pub joint : (n : Node) (x : Two) → IsTwoOf n x → IsJoint nodes place tr n x
   joint (N.And p q) x (l, r, s, u) = subst (IsJoint nodes place tr (N.And p q)) (sym (two_is x p q Least false l r s u)) (least_joint p q x.last)
   joint (N.Or p q) x (l, r, s, u) = subst (IsJoint nodes place tr (N.Or p q)) (sym (two_is x p q Greatest false l r s u)) (greatest_joint p q x.last)
@@ -532,12 +574,14 @@ module _ (t : Turn) (x : Two) (e : Held) (to : ℕ) (b : Belongs t (Op.Two x) e 
       (front_at t.ended (pos t.now) (subformula t.nodes j)) (held_at e j)) (here.back side) (b.inputs j side reads)
 
   two_ready : (j : ℕ) (side : Bool) → IsReader b.node side j → pos to ≤ℤ front_at t.ended (pos t.now) (subformula t.nodes j)
-      → IsReady (Robustness (subformula t.nodes j) t.trace) (reach_before t) (from_of t) (whole (front_at t.ended (pos t.now) (subformula t.nodes j))) (held_at e j) x.last
+      → IsReady (Robustness (subformula t.nodes j) t.trace) (reach_before t) (from_of t)
+      (whole (front_at t.ended (pos t.now) (subformula t.nodes j))) (held_at e j) x.last
   two_ready j side reads le =
       ready (Robustness (subformula t.nodes j) t.trace) (two_of t.nodes t.trace x) (reach_before t) (reach_before t) (begin_of t) t.before
       (front_at t.ended (pos t.now) (subformula t.nodes j)) (held_at e j) x.last (from_of t) (let low = b.from_start in omega (arith, ints, le, low))
       (low_before t (Op.Two x) e to b) (from_none t (Op.Two x) e to b) (two_input j side reads) b.stands.1
 
+  -- the connective may go through its inputs
   pub can_join : CanJoin two_couple x e
   can_join = record {
     span = record {
@@ -557,16 +601,20 @@ module _ (t : Turn) (x : Two) (e : Held) (to : ℕ) (b : Belongs t (Op.Two x) e 
     right = two_ready x.right false here.right right_to_own;
   }
 
+  -- what it tells is the node's margin
   pub two_told : (s : List (Knot Margin)) → IsStretch (both_of two_couple x) (reach_before t) (from_of t) (whole (pos to)) s → IsSwept t to s
   two_told s is = record {
     tells =
         subst (λ p. Tells margin_shape (Robustness p t.trace) (from_of t) (whole (pos to)) s) (sym two_tree)
-        (same_told (two_of t.nodes t.trace x) (Robustness (tree_of (subformula t.nodes) t.place b.node) t.trace) (from_of t) (whole (pos to)) s here.value is.tells);
+        (same_told (two_of t.nodes t.trace x) (Robustness (tree_of (subformula t.nodes) t.place b.node) t.trace) (from_of t)
+        (whole (pos to)) s here.value is.tells);
     limited = is.limited;
     moved = λ node at p has. moved_same t (Op.Two x) e to b here.none node at p (is.moved p has);
   }
 
-  pub two_edges : (e' : Held) (end : Rational) → end ≈ whole (pos to) → LosesAtBoth end x.left x.right e e' → IsJoinedTo two_couple x e' end → HasSwept t e e' to
+  -- the edges are swept up to the time
+  pub two_edges : (e' : Held) (end : Rational) → end ≈ whole (pos to) → LosesAtBoth end x.left x.right e e'
+      → IsJoinedTo two_couple x e' end → HasSwept t e e' to
   two_edges e' end same lost to_end = record {
     inputs = λ node j left at reads. by_input node j left (some_is (sym at ∙ b.at)) reads;
     others = λ j unread.
@@ -576,13 +624,17 @@ module _ (t : Turn) (x : Two) (e : Held) (to : ℕ) (b : Belongs t (Op.Two x) e 
     start = lost.start;
   }
     where
-      left_cut : IsCut (back_of (begin_of t) (Some (pos to)) (pos 0)) (edge_at e x.left) (edge_at e' x.left) × ((edge_at e' x.left).number ≡ (edge_at e x.left).number)
+      left_cut : IsCut (back_of (begin_of t) (Some (pos to)) (pos 0)) (edge_at e x.left) (edge_at e' x.left)
+          × ((edge_at e' x.left).number ≡ (edge_at e x.left).number)
       left_cut =
-          cut (Robustness left_child t.trace) (reach_before t) (begin_of t) to end (whole left_front) (edge_at e x.left) (edge_at e' x.left) b.from_start same lost.left to_end.left
+          cut (Robustness left_child t.trace) (reach_before t) (begin_of t) to end (whole left_front) (edge_at e x.left)
+          (edge_at e' x.left) b.from_start same lost.left to_end.left
 
-      right_cut : IsCut (back_of (begin_of t) (Some (pos to)) (pos 0)) (edge_at e x.right) (edge_at e' x.right) × ((edge_at e' x.right).number ≡ (edge_at e x.right).number)
+      right_cut : IsCut (back_of (begin_of t) (Some (pos to)) (pos 0)) (edge_at e x.right) (edge_at e' x.right)
+          × ((edge_at e' x.right).number ≡ (edge_at e x.right).number)
       right_cut =
-          cut (Robustness right_child t.trace) (reach_before t) (begin_of t) to end (whole right_front) (edge_at e x.right) (edge_at e' x.right) b.from_start same lost.right
+          cut (Robustness right_child t.trace) (reach_before t) (begin_of t) to end (whole right_front) (edge_at e x.right)
+          (edge_at e' x.right) b.from_start same lost.right
           to_end.right
 
       by_input : (node : Node) (j : ℕ) (left : Bool) → node ≡ b.node → IsReader node left j
@@ -592,12 +644,16 @@ module _ (t : Turn) (x : Two) (e : Held) (to : ℕ) (b : Belongs t (Op.Two x) e 
           subst (λ k. IsCut (back_of (begin_of t) (Some (pos to)) k) (edge_at e j) (edge_at e' j) × ((edge_at e' j).number ≡ (edge_at e j).number)) (sym back)
           (elim (here.only j left (subst (λ k. IsReader k left j) is reads)) [
             | inl own ↦
-                subst (λ i. IsCut (back_of (begin_of t) (Some (pos to)) (pos 0)) (edge_at e i) (edge_at e' i) × ((edge_at e' i).number ≡ (edge_at e i).number)) (sym own) left_cut
+                subst (λ i. IsCut (back_of (begin_of t) (Some (pos to)) (pos 0)) (edge_at e i) (edge_at e' i)
+                × ((edge_at e' i).number ≡ (edge_at e i).number)) (sym own) left_cut
             | inr own ↦
-                subst (λ i. IsCut (back_of (begin_of t) (Some (pos to)) (pos 0)) (edge_at e i) (edge_at e' i) × ((edge_at e' i).number ≡ (edge_at e i).number)) (sym own) right_cut
+                subst (λ i. IsCut (back_of (begin_of t) (Some (pos to)) (pos 0)) (edge_at e i) (edge_at e' i)
+                × ((edge_at e' i).number ≡ (edge_at e i).number)) (sym own) right_cut
           ])
 
-  pub two_stands : (x' : Two) (e' : Held) → x' ≡ record x { last = x'.last } → IsSome x'.last → HasReached (both_of two_couple x) (reach_before t) (whole (pos to)) x'.last
+  -- and the operator stands there
+  pub two_stands : (x' : Two) (e' : Held) → x' ≡ record x { last = x'.last } → IsSome x'.last
+      → HasReached (both_of two_couple x) (reach_before t) (whole (pos to)) x'.last
       → StandsNow t (Op.Two x') e' to
   two_stands x' e' same some reached node at =
       let found : node ≡ b.node = some_is (sym at ∙ b.at) in
@@ -606,13 +662,17 @@ module _ (t : Turn) (x : Two) (e : Held) (to : ℕ) (b : Belongs t (Op.Two x) e 
         stood_after (two_of t.nodes t.trace x) (reach_before t) (pos to) x'.last some reached,
       )
 
+  -- a refusal is one of the stream
   pub two_fault : (f : OpFault Margin) → IsCoupleFault two_couple x f → IsStreamedFault t f
   two_fault F.Memory h = tt
   two_fault (F.Wide (Value p at den)) h = absurd h
   two_fault (F.Wide (Cross p q l r den)) h =
-      subst (λ o. IsWideCrossing (λ tau line. IsInPlayAt o (margin_setting t.trace) tau line × (tau <ʳ whole (front_at t.ended (pos t.now) two_own))) (start t.trace) (stop t.trace)
+      subst (λ o. IsWideCrossing (λ tau line. IsInPlayAt o (margin_setting t.trace) tau line × (tau <ʳ whole (front_at t.ended (pos t.now) two_own)))
+      (start t.trace) (stop t.trace)
       (margin_function p) (margin_function q) (value l) (value r) den) (sym two_tree)
-      (crossing_by (λ tau line. IsInPlay (of_two (left_of two_couple x.turned) (right_of two_couple)) (start t.trace) (stop t.trace) tau line × (tau <ʳ whole (pos to)))
-      (λ tau line. IsInPlayAt (tree_of (subformula t.nodes) t.place b.node) (margin_setting t.trace) tau line × (tau <ʳ whole (front_at t.ended (pos t.now) two_own)))
+      (crossing_by (λ tau line.
+      IsInPlay (of_two (left_of two_couple x.turned) (right_of two_couple)) (start t.trace) (stop t.trace) tau line × (tau <ʳ whole (pos to)))
+      (λ tau line. IsInPlayAt (tree_of (subformula t.nodes) t.place b.node) (margin_setting t.trace) tau line
+      × (tau <ʳ whole (front_at t.ended (pos t.now) two_own)))
       (start t.trace) (stop t.trace) (margin_function p) (margin_function q) (value l) (value r) den
       (λ tau line (play, lt). (here.in_play tau line play, subst (λ n. tau <ʳ whole n) b.number lt)) h)

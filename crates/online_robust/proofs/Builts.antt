@@ -77,7 +77,8 @@ module _ (F : Function) (reach : ℕ) (is : IsFunction F) where
         → ((t : Rational) → at <ʳ t → t <ʳ value to → IsThere F reach t after) → IsMovedBy reach after → IsThere F reach (value to) point
         → IsBuilt F reach from (value to) new
     built_on after point to on gap moves there =
-        let tells = tells_on margin_shape F old new after point to is (so_far from at old b) on (λ t x y. (gap t (lt_of_le_of_lt begins x) y).told) there.told in
+        let tells =
+        tells_on margin_shape F old new after point to is (so_far from at old b) on (λ t x y. (gap t (lt_of_le_of_lt begins x) y).told) there.told in
         record {
           signal = on.signal;
           worth = tells.worth;

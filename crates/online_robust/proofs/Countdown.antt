@@ -1,5 +1,6 @@
 -- A window goes on in a limited number of steps.
-use Rattle.std.proofs.Common.{◌≡◌, ◌⊎◌, inl, inr, ℕ, ◌+◌, ◌-◌, ◌*◌, ◌<◌, ◌≤◌, Bool, true, false, List, [], ◌∷◌, ◌++◌, length, Option, Some, None, refl, sym, ap, subst, ◌∙◌, get_or, slice_get, arith}
+use Rattle.std.proofs.Common.{◌≡◌, ◌⊎◌, inl, inr, ℕ, ◌+◌, ◌-◌, ◌*◌, ◌<◌, ◌≤◌, Bool, true, false, List, [], ◌∷◌, ◌++◌}
+use Rattle.std.proofs.Common.{length, Option, Some, None, refl, sym, ap, subst, ◌∙◌, get_or, slice_get, arith}
 use Rattle.std.specs.Prelude.{MatchBool, MatchOption, OnOk, Result, Ok, Err, if◌then◌else◌}
 use Rattle.std.proofs.lemmas.List.{get_or-set_same, length-append, length-drop, length-set}
 use Rattle.rational.specs.Time.{Rational, less, shifted, ◌≈◌, ◌≤ʳ◌, ◌<ʳ◌}
@@ -46,6 +47,7 @@ taken_fewer x v first =
     some_line (s ∷ seen) fresh e = omega arith
 
 module _ (i : ℕ) (e mid : Held) where
+  -- a line that was read is one fewer to read
   pub pass_fewer : (line : MarginLine) → i < length e.edges → slice_get (fresh_at e i) 0 ≡ Some line
       → mid.edges ≡ with_edge e i (with_read (edge_at e i) line) → lines_left (edge_at mid i) < lines_left (edge_at e i)
   pass_fewer line within first read =
@@ -55,6 +57,7 @@ module _ (i : ℕ) (e mid : Held) where
   edge_without within taken =
       ap (λ (es : List Edge). get_or es i no_edge) taken ∙ get_or-set_same e.edges i (without 1 (edge_at e i)) no_edge within
 
+  -- what is dropped leaves no more
   pub drop_no_more : (b : Bool) → i < length e.edges
       → MatchBool b ((mid.edges ≡ with_edge e i (without 1 (edge_at e i))) × (mid.start ≡ e.start)) (mid ≡ e)
       → lines_left (edge_at mid i) ≤ lines_left (edge_at e i)
@@ -62,11 +65,13 @@ module _ (i : ℕ) (e mid : Held) where
       subst (λ (x : Edge). lines_left x ≤ lines_left (edge_at e i)) (sym (edge_without within taken)) (without_no_more (edge_at e i))
   drop_no_more false within same = subst (λ (h : Held). lines_left (edge_at h i) ≤ lines_left (edge_at e i)) (sym same) (omega arith)
 
+  -- a line that was taken is one fewer
   pub take_fewer : (line : MarginLine) → i < length e.edges → slice_get (held_at e i) 0 ≡ Some line
       → mid.edges ≡ with_edge e i (without 1 (edge_at e i)) → lines_left (edge_at mid i) < lines_left (edge_at e i)
   take_fewer line within first taken =
       subst (λ (x : Edge). lines_left x < lines_left (edge_at e i)) (sym (edge_without within taken)) (taken_fewer (edge_at e i) line first)
 
+  -- a gap that is entered leaves no more
   pub enter_no_more : (none : Margin) (next : Gap) → i < length e.edges
       → MatchOption (slice_get (fresh_at e i) 0) ((next ≡ no_gap none) × (mid ≡ e))
       (λ l. (next ≡ gap_of l) × (mid.edges ≡ with_edge e i (with_read (edge_at e i) l)) × (mid.start ≡ e.start))
@@ -84,6 +89,7 @@ one_at_most : (b : Bool) → (if b then 1 else 0) ≤ 1
 one_at_most true = omega arith
 one_at_most false = omega arith
 
+-- an end counts once at most
 pub end_at_most : (t : Rational) (o : Option Frac) → is_before_end t o ≤ 1
 end_at_most t None = omega arith
 end_at_most t (Some u) = one_at_most (less t (value u))
@@ -96,6 +102,7 @@ end_is_there : (t : Rational) (o : Option Frac) → EndsAt o t → is_before_end
 end_is_there t None h = absurd h
 end_is_there t (Some u) h = ap (λ (b : Bool). if b then 1 else 0) (less_no t (value u) (le_of_same h))
 
+-- a line fewer is fewer steps
 pub high_fewer : (new old n o : ℕ) → n ≤ 1 → new < old → 2 * new + n ≤ 2 * old + o
 high_fewer new old n o one less = omega (arith, one, less)
 
@@ -103,7 +110,8 @@ high_fewer new old n o one less = omega (arith, one, less)
 pub go_fewer : (w : Window) (t to : Rational) (p : Place) (x : Edge) (old : ℕ) → value p.at ≡ t → t ≤ʳ to → lines_left x ≤ old
     → (t ≡ to) ⊎ EndsAt p.high.until (shifted t w.high) ⊎ (lines_left x < old) → steps_left w p x to < 2 * old + 2
 go_fewer w t to p x old here by le one =
-    subst (λ (z : Rational). 2 * lines_left x + is_before_end (shifted z w.high) p.high.until + (if less z to then 1 else 0) < 2 * old + 2) (sym here) (by_one one)
+    subst (λ (z : Rational). 2 * lines_left x + is_before_end (shifted z w.high) p.high.until + (if less z to then 1 else 0) < 2 * old + 2)
+    (sym here) (by_one one)
   where
     by_one : (t ≡ to) ⊎ EndsAt p.high.until (shifted t w.high) ⊎ (lines_left x < old)
         → 2 * lines_left x + is_before_end (shifted t w.high) p.high.until + (if less t to then 1 else 0) < 2 * old + 2

@@ -1,10 +1,12 @@
 -- What an edge must hold of the parts of a node is what is left when those that end too early are dropped from the front.
-use Rattle.std.proofs.Common.{◌≡◌, ◌⊎◌, inl, inr, ℕ, suc, zero, Bool, true, false, List, [], ◌∷◌, drop, refl, sym, ap, subst, ◌∙◌, arith, Option, Some, None, ℤ, pos, ◌+ℤ◌, ◌≤ℤ◌, take}
+use Rattle.std.proofs.Common.{◌≡◌, ◌⊎◌, inl, inr, ℕ, suc, zero, Bool, true, false, List, [], ◌∷◌, drop, refl}
+use Rattle.std.proofs.Common.{sym, ap, subst, ◌∙◌, arith, Option, Some, None, ℤ, pos, ◌+ℤ◌, ◌≤ℤ◌, take}
 use Rattle.std.specs.Prelude.{MatchBool, IfSome, int_lt, cond, map, slice_get}
 use Rattle.rational.specs.Rational.{middle}
 use Rattle.rational.specs.Time.{Rational, Interval, IsIn, closed, left_open, whole, ◌≤ʳ◌, ◌<ʳ◌}
 use Rattle.rational.specs.Windows.{Function}
-use Rattle.rational.proofs.Order.{le_of_lt, le_of_same, ge_of_same, le_or_lt, le_trans, left_of_middle, right_of_middle, lt_of_le_of_lt, lt_of_lt_of_le, lt_trans, not_lt_of_le}
+use Rattle.rational.proofs.Order.{le_of_lt, le_of_same, ge_of_same, le_or_lt, le_trans, left_of_middle}
+use Rattle.rational.proofs.Order.{right_of_middle, lt_of_le_of_lt, lt_of_lt_of_le, lt_trans, not_lt_of_le}
 use Rattle.rational.proofs.Shift.{le_whole}
 use Rattle.frac128.specs.Value.{value}
 use Rattle.stl_syntax.specs.Formula.{subformula}
@@ -64,12 +66,20 @@ touch_later F stretch after from to (Gap a b p ∷ Point u v ∷ lines) holds to
       (t, low, high, holds t mid (le_trans (le_of_lt high) end)),
       (
         map part_of (Point u v ∷ lines),
-        inl (holds (value u) later top, (map part_of lines, touch_later F stretch after (value u) to lines holds told.1.1 joined.2 (next (value u) lines later told.1.1 joined.2), refl)),
+        inl (
+          holds (value u) later top,
+          (
+            map part_of lines,
+            touch_later F stretch after (value u) to lines holds told.1.1 joined.2 (next (value u) lines later told.1.1 joined.2),
+            refl,
+          ),
+        ),
         refl,
       ),
     )
   where
-    next : (u : Rational) (lines : List MarginLine) → after <ʳ u → AreTold F lines → AreJoined u to lines → IfSome (slice_get lines 0) (λ x. after <ʳ value (end_of x))
+    next : (u : Rational) (lines : List MarginLine) → after <ʳ u → AreTold F lines → AreJoined u to lines
+        → IfSome (slice_get lines 0) (λ x. after <ʳ value (end_of x))
     next u [] later told joined = tt
     next u (Gap a b p ∷ []) later told joined = absurd joined
     next u (Gap a b p ∷ Gap c d q ∷ lines) later told joined = absurd joined
@@ -99,7 +109,8 @@ touch_rest F limit from to (Point u v ∷ lines) (suc n) told joined ended rest 
 
 module _ (F : Function) (most start : ℕ) (f : ℤ) where
   -- all lines from the start on touch what goes from the start on
-  all_touch : (lines : List MarginLine) → AreInputs F most start None f lines → AreTouching (closed (whole (pos start)) (whole f)) (map part_of lines) (map part_of lines)
+  all_touch : (lines : List MarginLine) → AreInputs F most start None f lines
+      → AreTouching (closed (whole (pos start)) (whole f)) (map part_of lines) (map part_of lines)
   all_touch lines inputs = by_left inputs.left
     where
       first : (u : Rational) (lines : List MarginLine) → AreTold F lines → AreJoined u (whole f) lines → IfSome (slice_get lines 0) (λ x. u <ʳ value (end_of x))
@@ -119,7 +130,8 @@ module _ (F : Function) (most start : ℕ) (f : ℤ) where
             (
               map part_of rest,
               touch_later F (closed (whole (pos start)) (whole f)) (value at) (value at) (whole f) rest
-                  (λ t low high. record { above = le_trans (ge_of_same begins) (le_of_lt low); below = high }) told.1 joined (first (value at) rest told.1 joined),
+                  (λ t low high. record { above = le_trans (ge_of_same begins) (le_of_lt low); below = high }) told.1 joined
+                  (first (value at) rest told.1 joined),
               refl,
             ),
           ))
@@ -129,7 +141,8 @@ module _ (F : Function) (most start : ℕ) (f : ℤ) where
       → AreTouching (left_open (whole limit) (whole f)) (map part_of lines) (map part_of held)
   rest_touch limit lines held le inputs (n, e, ended, later) = by_left inputs.left
     where
-      by_count : (at : Frac) (v : Margin) (rest : List MarginLine) → lines ≡ Point at v ∷ rest → value at ≤ʳ whole limit → AreJoined (value at) (whole f) rest → (n : ℕ)
+      by_count : (at : Frac) (v : Margin) (rest : List MarginLine) → lines ≡ Point at v ∷ rest → value at ≤ʳ whole limit
+          → AreJoined (value at) (whole f) rest → (n : ℕ)
           → held ≡ drop n lines → EndBy (whole limit) n lines
           → AreTouching (left_open (whole limit) (whole f)) (map part_of (Point at v ∷ rest)) (map part_of held)
       by_count at v rest is low joined zero e ended =
@@ -194,9 +207,12 @@ module _ (nodes : List Node) (header : Header) (past : Past) (is : IsTrace (trac
   needed_by true e =
       inl (ap (map part_of) e, ap (map part_of) (none_left (back_of (first_time past.rows) (shown_of nodes past r) (reach_back n left)) e rest))
   needed_by false inputs =
-      inr (needed_touch (Robustness (subformula nodes j) (trace_of header past)) (reach (take (suc j) nodes)) (first_time past.rows) own its (reach_back n left) lines held inputs
-      (subst (λ o. IsRest (back_of (first_time past.rows) o (reach_back n left)) lines held) (shown_here header (subformula nodes r) past.ended past.rows is) rest))
+      inr (needed_touch (Robustness (subformula nodes j) (trace_of header past)) (reach (take (suc j) nodes))
+      (first_time past.rows) own its (reach_back n left) lines held inputs
+      (subst (λ o. IsRest (back_of (first_time past.rows) o (reach_back n left)) lines held)
+      (shown_here header (subformula nodes r) past.ended past.rows is) rest))
 
+  -- the edge holds what its reader may need
   pub margin_edge : IsMarginEdge nodes header past.rows past.ended j (map part_of held)
   margin_edge = record {
     reader = r;

@@ -51,6 +51,7 @@ use Rattle.seg_pool.proofs.ListsLemmas.{set-set_same}
 use Rattle.online_robust.specs.declared.line.MarginLine.{MarginLine}
 use Rattle.online_robust.specs.Held.{Held, Edge, no_edge, edges_of, with_more, with_read, with_number, without, HasTwoLists}
 
+-- there is an edge for each number
 pub length-edges_of : (numbers : List (Option ℤ)) (lists : List (List MarginLine)) → length (edges_of numbers lists) ≡ length numbers
 length-edges_of [] lists = refl
 length-edges_of (n ∷ numbers) lists = ap suc (length-edges_of numbers (drop 2 lists))
@@ -64,6 +65,7 @@ edge_of numbers lists i = record
 later_list : (lists : List (List MarginLine)) (k n : ℕ) → n ≡ 2 + k → get_or (drop 2 lists) k [] ≡ get_or lists n []
 later_list lists k n is = get_or-drop 2 lists k [] ∙ ap (λ m. get_or lists m []) (sym is)
 
+-- each edge has its number and its two lists
 pub edge_at-edges_of : (numbers : List (Option ℤ)) (lists : List (List MarginLine)) (i : ℕ) → i < length numbers
     → get_or (edges_of numbers lists) i no_edge ≡ edge_of numbers lists i
 edge_at-edges_of [] lists i within = absurd (omega arith)
@@ -77,11 +79,16 @@ edge_at-edges_of (n ∷ numbers) lists (suc i) within =
 
 -- edge i is x now, and each other edge is as it was
 pub record ChangesEdge (numbers numbers' : List (Option ℤ)) (lists lists' : List (List MarginLine)) (i : ℕ) (x : Edge) : Type 0 where
+  -- the edge is one of them
   pub within : i < length numbers
+  -- there are as many numbers
   pub count : length numbers' ≡ length numbers
+  -- the edge is now this one
   pub here : edge_of numbers' lists' i ≡ x
+  -- and the others stay
   pub others : (k : ℕ) → k ≢ i → edge_of numbers' lists' k ≡ edge_of numbers lists k
 
+-- the change of one edge in the pool is its change in the list
 pub edges_changed : {numbers numbers' : List (Option ℤ)} {lists lists' : List (List MarginLine)} {i : ℕ} {x : Edge}
     → ChangesEdge numbers numbers' lists lists' i x → edges_of numbers' lists' ≡ set (edges_of numbers lists) i x
 edges_changed {numbers} {numbers'} {lists} {lists'} {i} {x} changes =
@@ -208,11 +215,16 @@ seen_by numbers lists start spare = record { edges = edges_of numbers lists; sta
 
 -- what a caller asks of an edge's number, for the pool's lists and the numbers
 pub record Numbered (lists : List (List MarginLine)) (numbers : List (Option ℤ)) (i : ℕ) : Type 0 where
+  -- the edge is one of them
   pub within : i < length numbers
+  -- it has a list of what was read
   pub read : 2 * i < length lists
+  -- and one of what was not
   pub unread : 2 * i + 1 < length lists
+  -- both have a place in the pool
   pub fits : 2 * i + 1 < 2 ^ 32
 
+-- each edge has two lists
 pub numbered : (lists : List (List MarginLine)) (numbers : List (Option ℤ)) (i : ℕ) → HasTwoLists lists numbers
     → i < length (edges_of numbers lists) → Numbered lists numbers i
 numbered lists numbers i two below =
@@ -229,6 +241,7 @@ pub first_of_both : {X : Type 0} (xs ys : List X) → slice_get xs 0 ≡ None �
 first_of_both [] ys none = refl
 first_of_both (x ∷ xs) ys none = cc
 
+-- the first of two lists begins both
 pub first_of_first : {X : Type 0} (xs ys : List X) (x : X) → slice_get xs 0 ≡ Some x → slice_get (xs ++ ys) 0 ≡ Some x
 first_of_first [] ys x some = cc
 first_of_first (y ∷ xs) ys x some = some

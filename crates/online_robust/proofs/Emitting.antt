@@ -1,5 +1,6 @@
 -- What a node gave out, with one row more and with the end.
-use Rattle.std.proofs.Common.{◌≡◌, ℕ, ◌≤◌, Bool, true, false, List, [], ◌∷◌, ◌++◌, length, refl, sym, ap, subst, ◌∙◌, arith, append_assoc, append-nil, Option, Some, None, ℤ, pos}
+use Rattle.std.proofs.Common.{◌≡◌, ℕ, ◌≤◌, Bool, true, false, List, [], ◌∷◌, ◌++◌, length, refl, sym, ap}
+use Rattle.std.proofs.Common.{subst, ◌∙◌, arith, append_assoc, append-nil, Option, Some, None, ℤ, pos}
 use Rattle.std.specs.Prelude.{int_lt, cond}
 use Rattle.std.proofs.lemmas.Int.{ints}
 use Rattle.stl_syntax.specs.Trace.{Header, Row, IsTrace, first_time, last_time}
@@ -19,6 +20,7 @@ last_appended time (q ∷ rows) r = last_appended q.time rows r
 pub first_appended : (r : Row) (rows more : List Row) → first_time ((r ∷ rows) ++ more) ≡ r.time
 first_appended r rows more = refl
 
+-- what is shown after a row more follows from its time
 pub shown_appended : (p : Subformula) (rows : List Row) (r : Row)
     → shown_by false p (rows ++ r ∷ []) ≡ shown_number (first_time (rows ++ r ∷ [])) (front_at false (pos r.time) p)
 shown_appended p [] r = refl
@@ -33,7 +35,8 @@ module _ (p : Subformula) (header : Header) where
       let same : all ≡ before = is ∙ append-nil before in
       let here : AreNewParts p (record { header = header; rows = before ++ r ∷ [] }) old
       (shown_number (first_time (before ++ r ∷ [])) (front_at false (pos r.time) p)) more =
-      subst (λ o. AreNewParts p (record { header = header; rows = before ++ r ∷ [] }) o (shown_number (first_time (before ++ r ∷ [])) (front_at false (pos r.time) p)) more) (sym at)
+      subst (λ o. AreNewParts p (record { header = header; rows = before ++ r ∷ [] }) o
+      (shown_number (first_time (before ++ r ∷ [])) (front_at false (pos r.time) p)) more) (sym at)
       (subst (λ n. AreNewParts p (record { header = header; rows = before ++ r ∷ [] }) (shown_by false p before) n more) (shown_appended p before r)
       (subst (λ l. AreNewParts p (record { header = header; rows = l ++ r ∷ [] }) (shown_by false p l) (shown_by false p (l ++ r ∷ [])) more) same new)) in
       (more, [], here, refl, ap (λ l. l ++ more) are ∙ sym (append-nil more))
@@ -63,7 +66,10 @@ module _ (p : Subformula) (header : Header) where
     where
       by_test : (t : Bool) → int_lt (pos (last_time r.time rows)) (pos r.time) ≡ t
           → cond (int_lt (pos (last_time r.time rows)) (pos r.time)) None (Some (pos (last_time r.time rows))) ≡ Some (pos (last_time r.time rows))
-      by_test true e = let le = last_above r rows is in let lt = int_order (pos (last_time r.time rows)) (pos r.time) true e in absurd (omega (arith, ints, le, lt))
+      by_test true e =
+          let le = last_above r rows is in
+          let lt = int_order (pos (last_time r.time rows)) (pos r.time) true e in
+          absurd (omega (arith, ints, le, lt))
       by_test false e = rw e refl
 
   -- the end

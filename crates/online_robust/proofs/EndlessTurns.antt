@@ -25,11 +25,17 @@ use Rattle.online_robust.proofs.PastTurnings.{beginning, going, going_window, ha
 
 -- a window that may go on up to a number, which is `end`
 pub record MayPass (t : Turn) (z : Endless) (e : Held) (to : ℕ) (b : Belongs t (Op.Past z) e to) (s : Past) (end : Rational) : Type 0 where
+  -- from where it tells
   pub from : Rational
+  -- which is where the node goes on
   pub from_is : from ≡ from_of t
+  -- the window is the node's
   pub window : s.window ≡ z.window
+  -- it may pass up to the time of the turn
   pub whole_can : CanPass (scope_of t z e to b (value s.at)) (own t z e to b) from (whole (pos to)) s e
+  -- and up to where it ends
   pub can : CanPass (scope_of t z e to b (value s.at)) (own t z e to b) from end s e
+  -- its input has begun
   pub begun : pos (begin_of t) ≤ℤ front_at t.ended (pos t.now) (subformula t.nodes z.window.of)
 
 module _ (t : Turn) (z : Endless) (e : Held) (to : ℕ) (b : Belongs t (Op.Past z) e to) (s : Past) (end : Rational) (same : end ≈ whole (pos to)) where
@@ -46,7 +52,8 @@ module _ (t : Turn) (z : Endless) (e : Held) (to : ℕ) (b : Belongs t (Op.Past 
   }
 
   -- one that is made now
-  pub may_begin : (none : z.past ≡ None) → slice_get (held_at e z.window.of) 0 ≢ None → IsBegunPast z.window (begin_of t) z.silent.last s → MayPass t z e to b s end
+  pub may_begin : (none : z.past ≡ None) → slice_get (held_at e z.window.of) 0 ≢ None
+      → IsBegunPast z.window (begin_of t) z.silent.last s → MayPass t z e to b s end
   may_begin none some k = record {
     from = (beginning t z e to b none some s k).0;
     from_is = (beginning t z e to b none some s k).1;
@@ -61,10 +68,13 @@ module _ (t : Turn) (z : Endless) (e : Held) (to : ℕ) (b : Belongs t (Op.Past 
     abbrev x : Scope
     x = scope_of t z e to b (value s.at)
 
-    pub step_told : (ks : List (Knot Margin)) → IsStretch (best_of (scope_of t z e to b (value s.at)) s.window) (reach_before t + own t z e to b) m.from end ks → IsSwept t to ks
+    -- what it tells is the node's margin
+    pub step_told : (ks : List (Knot Margin)) → IsStretch (best_of (scope_of t z e to b (value s.at)) s.window)
+        (reach_before t + own t z e to b) m.from end ks → IsSwept t to ks
     step_told ks is = past_told t z e to b (value s.at) end same m.from m.from_is ks
         (subst (λ (v : Window). IsStretch (best_of x v) (reach_before t + own t z e to b) m.from end ks) m.window is)
 
+    -- a refusal is one of the stream
     pub step_fault : (fault : OpFault Margin) → IsWindowFault (scope_of t z e to b (value s.at)) s.window end fault → IsStreamedFault t fault
     step_fault fault is = past_fault t z e to b (value s.at) end same fault (subst (λ (v : Window). IsWindowFault x v end fault) m.window is)
 
@@ -76,9 +86,11 @@ module _ (t : Turn) (z : Endless) (e : Held) (to : ℕ) (b : Belongs t (Op.Past 
       there None h = absurd h
       there (Some r) h = same_trans (subst (λ (u : Rational). u ≈ end) h.0 h.1) same
 
+      -- the edges are swept up to the time
       pub step_edges : Sheds (shifted end s.window.high) s.window.of e e' → HasSwept t e e' to
       step_edges shed = past_edges t z e to b (value s.at) end same s' e' (kept ∙ m.window) came (there s'.last last) m.begun
           (subst (λ (v : Window). Sheds (shifted end v.high) v.of e e') m.window shed)
 
+      -- and the operator stands there
       pub step_stands : (z' : Endless) → z'.window ≡ z.window → z'.past ≡ Some s' → StandsNow t (Op.Past z') e' to
       step_stands z' window is = past_stands t z e to b (value s.at) end same m.from s s' z' e' m.whole_can m.window kept came m.begun last window is

@@ -28,7 +28,9 @@ length_more : {X : Type 0} (xs : List X) (x : X) → length (xs ++ x ∷ []) ≡
 length_more [] x = refl
 length_more (y ∷ xs) x = let h = length_more xs x in omega (arith, h)
 
-pub firsts_more : (nodes : List Node) (i : ℕ) (stations : List Station) (st : Station) (node : Node) → AreFirstStations nodes i stations → slice_get nodes i ≡ Some node
+-- one more node before any row
+pub firsts_more : (nodes : List Node) (i : ℕ) (stations : List Station) (st : Station) (node : Node)
+    → AreFirstStations nodes i stations → slice_get nodes i ≡ Some node
     → st.ahead ≡ horizon (subformula nodes i) → IsFirstWork node st.work → AreFirstStations nodes (i + 1) (stations ++ st ∷ [])
 firsts_more nodes i stations st node are found ahead work = record {
   count = let c = are.count in length_more stations st ∙ ap (λ n. n + 1) c;
@@ -60,6 +62,7 @@ index_front [] x k h = absurd (omega (arith, h))
 index_front (z ∷ xs) x zero h = refl
 index_front (z ∷ xs) x (suc k) h = index_front xs x k (omega (arith, h))
 
+-- and its horizon
 pub horizons_more : (nodes : List Node) (i : ℕ) (hs : List ℕ) (h : ℕ) → length hs ≡ i → AreHorizonsBelow i nodes hs → h ≡ horizon (subformula nodes i)
     → (length (hs ++ h ∷ []) ≡ i + 1) × AreHorizonsBelow (i + 1) nodes (hs ++ h ∷ [])
 horizons_more nodes i hs h count are is = (

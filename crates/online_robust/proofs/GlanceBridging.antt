@@ -1,11 +1,13 @@
 -- From what an operator needs before it goes on to what a window of one instant needs, and back from what it leaves.
-use Rattle.std.proofs.Common.{◌≡◌, ◌⊎◌, inl, inr, ℕ, zero, suc, ◌+◌, ◌<◌, ◌≤◌, Bool, true, false, List, [], ◌∷◌, length, drop, refl, sym, ap, subst, ◌∙◌, arith, Option, Some, None, ℤ, pos, ◌+ℤ◌, ◌<ℤ◌, ◌≤ℤ◌}
+use Rattle.std.proofs.Common.{◌≡◌, ◌⊎◌, inl, inr, ℕ, zero, suc, ◌+◌, ◌<◌, ◌≤◌, Bool, true, false, List, [], ◌∷◌, length}
+use Rattle.std.proofs.Common.{drop, refl, sym, ap, subst, ◌∙◌, arith, Option, Some, None, ℤ, pos, ◌+ℤ◌, ◌<ℤ◌, ◌≤ℤ◌}
 use Rattle.std.specs.Prelude.{MatchBool, IfSome, IsSome, int_lt, cond, neg_ℤ, slice_get}
 use Rattle.std.proofs.lemmas.Int.{ints}
 use Rattle.rational.specs.Rational.{add}
 use Rattle.rational.specs.Time.{Rational, shifted, whole, ◌≈◌, ◌≤ʳ◌, ◌<ʳ◌}
 use Rattle.rational.specs.Windows.{Function}
-use Rattle.rational.proofs.Order.{le_refl, le_trans, le_of_lt, le_of_same, ge_of_same, lt_of_le_of_lt, lt_of_lt_of_le, not_lt_of_le, same_refl, same_sym, same_trans}
+use Rattle.rational.proofs.Order.{le_refl, le_trans, le_of_lt, le_of_same, ge_of_same, lt_of_le_of_lt}
+use Rattle.rational.proofs.Order.{lt_of_lt_of_le, not_lt_of_le, same_refl, same_sym, same_trans}
 use Rattle.rational.proofs.Shift.{le_whole, lt_whole}
 use Rattle.rational.proofs.TimeLemmas.{same_shifted}
 use Rattle.frac128.specs.Value.{value}
@@ -52,15 +54,18 @@ module _ (P : Function) (reach begin : ℕ) (k F : ℤ) (bound : Rational) (line
   sees_first : (u : Rational) → u <ʳ whole (pos begin) → IsInput P reach begin None F lines → AreToSee P reach (whole (pos begin)) (whole F) bound u lines
   sees_first u early input = by_test (int_lt F (pos begin)) refl input
     where
-      by_test : (b : Bool) → int_lt F (pos begin) ≡ b → MatchBool b (lines ≡ []) (AreInputs P reach begin None F lines) → AreToSee P reach (whole (pos begin)) (whole F) bound u lines
+      by_test : (b : Bool) → int_lt F (pos begin) ≡ b → MatchBool b (lines ≡ []) (AreInputs P reach begin None F lines)
+          → AreToSee P reach (whole (pos begin)) (whole F) bound u lines
       by_test true e none = unseen (short (int_order F (pos begin) true e)) none
       by_test false e inputs = before early (begins P reach begin F lines inputs)
 
   -- and later
-  sees_later : (g : ℤ) (u : Rational) → u ≈ whole (g +ℤ k) → IsInput P reach begin (back_of begin (Some g) k) F lines → AreToSee P reach (whole (pos begin)) (whole F) bound u lines
+  sees_later : (g : ℤ) (u : Rational) → u ≈ whole (g +ℤ k) → IsInput P reach begin (back_of begin (Some g) k) F lines
+      → AreToSee P reach (whole (pos begin)) (whole F) bound u lines
   sees_later g u here input = by_back (int_lt (g +ℤ k) (pos begin)) refl input
     where
-      by_back : (b : Bool) → int_lt (g +ℤ k) (pos begin) ≡ b → IsInput P reach begin (cond b None (Some (g +ℤ k))) F lines → AreToSee P reach (whole (pos begin)) (whole F) bound u lines
+      by_back : (b : Bool) → int_lt (g +ℤ k) (pos begin) ≡ b → IsInput P reach begin (cond b None (Some (g +ℤ k))) F lines
+          → AreToSee P reach (whole (pos begin)) (whole F) bound u lines
       by_back true e input = let lt = int_order (g +ℤ k) (pos begin) true e in sees_first u (lt_of_le_of_lt (le_of_same here) (lt_whole lt)) input
       by_back false e input = by_test (int_lt F (pos begin)) refl input
         where
@@ -115,7 +120,8 @@ module _ (t : Turn) (z : Moved) (e : Held) (to : ℕ) (b : Belongs t (Op.Moved z
   short lt = lt_of_le_of_lt (le_of_same (shifted_whole (pos to) z.by)) (lt_whole (looks_before t (Op.Moved z) e to b z.of z.by far lt))
 
   input : IsInput (Robustness child t.trace) (reach_before t) (begin_of t) (back_of (begin_of t) t.before z.by) F (held_at e z.of)
-  input = subst (λ k. IsInput (Robustness child t.trace) (reach_before t) (begin_of t) (back_of (begin_of t) t.before k) F (held_at e z.of)) here.back (b.inputs z.of true here.reads)
+  input = subst (λ k. IsInput (Robustness child t.trace) (reach_before t) (begin_of t) (back_of (begin_of t) t.before k) F (held_at e z.of))
+      here.back (b.inputs z.of true here.reads)
 
   offset : IsOffset z.by
   offset = let small = b.small in record { from = omega (arith, ints, small, here.own.from); to = omega (arith, ints, small, here.own.to) }
@@ -128,7 +134,8 @@ module _ (t : Turn) (z : Moved) (e : Held) (to : ℕ) (b : Belongs t (Op.Moved z
       le_whole {j = pos (begin_of t)} {k = pos (last_time 0 t.trace.rows)} (omega (arith, ints, from, small, last))
 
   glance_at : (e' : Held) (u : Rational) → length e'.edges ≡ length e.edges
-      → AreToSee (Robustness child t.trace) (reach_before t) (start t.trace) (whole F) glance.bound (shifted u z.by) (held_at e' z.of) → IsGlanceAt glance z e' u
+      → AreToSee (Robustness child t.trace) (reach_before t) (start t.trace) (whole F) glance.bound (shifted u z.by) (held_at e' z.of)
+      → IsGlanceAt glance z e' u
   glance_at e' u count lines = record {
     of_in = let within = input_within t (Op.Moved z) e to b z.of true here.reads in omega (arith, count, within);
     offset = offset;
@@ -141,6 +148,7 @@ module _ (t : Turn) (z : Moved) (e : Held) (to : ℕ) (b : Belongs t (Op.Moved z
   }
 
   module _ (end : Rational) (same : end ≈ whole (pos to)) where
+    -- the window may go through its input
     pub can_glance : CanGlance glance z own (from_of t) end e
     can_glance = record {
       stands = by_stood t.before refl input z.last b.stands.1;
@@ -153,11 +161,14 @@ module _ (t : Turn) (z : Moved) (e : Held) (to : ℕ) (b : Belongs t (Op.Moved z
       bound = le_shifted z.by (le_of_same same);
     }
       where
-        by_stood : (o : Option ℤ) → t.before ≡ o → IsInput (Robustness child t.trace) (reach_before t) (begin_of t) (back_of (begin_of t) o z.by) F (held_at e z.of)
-            → (last : Option Reached) → HasStood (instant_margin t.nodes t.trace z) (reach_before t + own) o last → HasGlanced glance z (reach_before t + own) e (from_of t) last
+        by_stood : (o : Option ℤ) → t.before ≡ o
+            → IsInput (Robustness child t.trace) (reach_before t) (begin_of t) (back_of (begin_of t) o z.by) F (held_at e z.of)
+            → (last : Option Reached) → HasStood (instant_margin t.nodes t.trace z) (reach_before t + own) o last
+            → HasGlanced glance z (reach_before t + own) e (from_of t) last
         by_stood None is input last stood = subst (HasGlanced glance z (reach_before t + own) e (from_of t)) (sym stood) (
           subst (λ (s : Rational). s ≈ start t.trace) (sym (from_none t (Op.Moved z) e to b is)) (same_refl (start t.trace)),
-          λ u early. glance_at e u refl (sees_first (Robustness child t.trace) (reach_before t) (begin_of t) z.by F glance.bound (held_at e z.of) short (shifted u z.by) early input),
+          λ u early. glance_at e u refl
+              (sees_first (Robustness child t.trace) (reach_before t) (begin_of t) z.by F glance.bound (held_at e z.of) short (shifted u z.by) early input),
         )
         by_stood (Some g) is input last (r, kept, reached) = subst (HasGlanced glance z (reach_before t + own) e (from_of t)) (sym kept) (
           glance_at e (value r.at) refl
@@ -166,9 +177,11 @@ module _ (t : Turn) (z : Moved) (e : Held) (to : ℕ) (b : Belongs t (Op.Moved z
           subst (λ (s : Rational). HasReached (glance_of glance z) (reach_before t + own) s (Some r)) (sym (from_some t (Op.Moved z) e to b g is)) reached,
         )
 
+    -- what it tells is the node's margin
     pub glance_told : (s : List (Knot Margin)) → IsStretch (glance_of glance z) (reach_before t + own) (from_of t) end s → IsSwept t to s
     glance_told s is = record {
-      tells = told margin_shape (Robustness (subformula t.nodes t.place) t.trace) (from_of t) (whole (pos to)) s (robust_is_function (subformula t.nodes t.place) t.trace)
+      tells = told margin_shape (Robustness (subformula t.nodes t.place) t.trace) (from_of t) (whole (pos to)) s
+          (robust_is_function (subformula t.nodes t.place) t.trace)
           (record {
             signal = is.tells.signal;
             worth = λ u v w. subst (λ p. Robustness p t.trace u v) (sym own_is) (here.value u v ((is.tells.worth u v).0 w).1);
@@ -177,6 +190,7 @@ module _ (t : Turn) (z : Moved) (e : Held) (to : ℕ) (b : Belongs t (Op.Moved z
       moved = λ node at p has. subst (λ (n : Node). IsMovedBy (reach_before t + own_reach n) p) (some_is (sym b.at ∙ at)) (is.moved p has);
     }
 
+    -- the edges are swept up to the time
     pub glance_edges : (e' : Held) → LosesAt (shifted end z.by) z.of e e' → IsGlanceAt glance z e' end → HasSwept t e e' to
     glance_edges e' lost at = record {
       inputs = λ node j left found reads. by_node node j left (some_is (sym found ∙ b.at)) reads;
@@ -193,14 +207,16 @@ module _ (t : Turn) (z : Moved) (e : Held) (to : ℕ) (b : Belongs t (Op.Moved z
         first_later lt = by_before t.before b.forth input
           where
             by_left : AreLeft (begin_of t) None F (held_at e z.of) → IfSome (slice_get (held_at e z.of) 0) (λ x. shifted end z.by <ʳ value (end_of x))
-            by_left (at, v, rest, is, when, joined) = subst (λ (ls : List MarginLine). IfSome (slice_get ls 0) (λ x. shifted end z.by <ʳ value (end_of x))) (sym is)
+            by_left (at, v, rest, is, when, joined) =
+                subst (λ (ls : List MarginLine). IfSome (slice_get ls 0) (λ x. shifted end z.by <ʳ value (end_of x))) (sym is)
                 (lt_of_le_of_lt (le_of_same at_limit) (lt_of_lt_of_le (lt_whole lt) (ge_of_same when)))
 
             by_none : IsInput (Robustness child t.trace) (reach_before t) (begin_of t) None F (held_at e z.of)
                 → IfSome (slice_get (held_at e z.of) 0) (λ x. shifted end z.by <ʳ value (end_of x))
             by_none input = by_test (int_lt F (pos (begin_of t))) input
               where
-                by_test : (c : Bool) → MatchBool c (held_at e z.of ≡ []) (AreInputs (Robustness child t.trace) (reach_before t) (begin_of t) None F (held_at e z.of))
+                by_test : (c : Bool) → MatchBool c (held_at e z.of ≡ [])
+                    (AreInputs (Robustness child t.trace) (reach_before t) (begin_of t) None F (held_at e z.of))
                     → IfSome (slice_get (held_at e z.of) 0) (λ x. shifted end z.by <ʳ value (end_of x))
                 by_test true none = subst (λ (ls : List MarginLine). IfSome (slice_get ls 0) (λ x. shifted end z.by <ʳ value (end_of x))) (sym none) tt
                 by_test false inputs = by_left inputs.left
@@ -223,8 +239,10 @@ module _ (t : Turn) (z : Moved) (e : Held) (to : ℕ) (b : Belongs t (Op.Moved z
             dropped : held_at e' z.of ≡ drop lost.here.count (held_at e z.of)
             dropped = ap held_of lost.here.is ∙ held_of-without lost.here.count (edge_at e z.of)
 
-            by_back : (c : Bool) → int_lt (pos to +ℤ z.by) (pos (begin_of t)) ≡ c → IsCut (cond c None (Some (pos to +ℤ z.by))) (edge_at e z.of) (edge_at e' z.of)
-            by_back true is = dropped ∙ keeps_all (shifted end z.by) (held_at e z.of) lost.here.count (first_later (int_order (pos to +ℤ z.by) (pos (begin_of t)) true is)) lost.here.ended
+            by_back : (c : Bool) → int_lt (pos to +ℤ z.by) (pos (begin_of t)) ≡ c
+                → IsCut (cond c None (Some (pos to +ℤ z.by))) (edge_at e z.of) (edge_at e' z.of)
+            by_back true is = dropped ∙ keeps_all (shifted end z.by) (held_at e z.of) lost.here.count
+                (first_later (int_order (pos to +ℤ z.by) (pos (begin_of t)) true is)) lost.here.ended
             by_back false is = record {
               count = lost.here.count;
               is = dropped;
@@ -232,33 +250,43 @@ module _ (t : Turn) (z : Moved) (e : Held) (to : ℕ) (b : Belongs t (Op.Moved z
               rest = by_lines at.lines;
             }
               where
-                weaker : (o : Option MarginLine) → IfSome o (λ x. value (end_of x) ≤ʳ shifted end z.by) → IfSome o (λ x. value (end_of x) ≤ʳ whole (pos to +ℤ z.by))
+                weaker : (o : Option MarginLine) → IfSome o (λ x. value (end_of x) ≤ʳ shifted end z.by)
+                    → IfSome o (λ x. value (end_of x) ≤ʳ whole (pos to +ℤ z.by))
                 weaker None h = tt
                 weaker (Some x) h = le_trans h (le_of_same at_limit)
 
-                later : (o : Option MarginLine) → IfSome o (λ x. shifted end z.by <ʳ value (end_of x)) → IfSome o (λ x. whole (pos to +ℤ z.by) <ʳ value (end_of x))
+                later : (o : Option MarginLine) → IfSome o (λ x. shifted end z.by <ʳ value (end_of x))
+                    → IfSome o (λ x. whole (pos to +ℤ z.by) <ʳ value (end_of x))
                 later None h = tt
                 later (Some x) h = lt_of_le_of_lt (ge_of_same at_limit) h
 
                 by_lines : AreToSee (Robustness child t.trace) (reach_before t) (start t.trace) (whole F) glance.bound (shifted end z.by) (held_at e' z.of)
                     → IfSome (slice_get (held_at e' z.of) 0) (λ x. whole (pos to +ℤ z.by) <ʳ value (end_of x))
                 by_lines (before early begins) =
-                    let le = int_order (pos to +ℤ z.by) (pos (begin_of t)) false is in absurd (not_lt_of_le (le_trans (le_whole le) (ge_of_same at_limit)) early)
+                    let le = int_order (pos to +ℤ z.by) (pos (begin_of t)) false is in
+                    absurd (not_lt_of_le (le_trans (le_whole le) (ge_of_same at_limit)) early)
                 by_lines (within begun more) = later (slice_get (held_at e' z.of) 0) more.later
-                by_lines (unseen early none) = subst (λ (ls : List MarginLine). IfSome (slice_get ls 0) (λ x. whole (pos to +ℤ z.by) <ʳ value (end_of x))) (sym none) tt
+                by_lines (unseen early none) =
+                    subst (λ (ls : List MarginLine). IfSome (slice_get ls 0) (λ x. whole (pos to +ℤ z.by) <ʳ value (end_of x))) (sym none) tt
 
         by_node : (node : Node) (j : ℕ) (left : Bool) → node ≡ b.node → IsReader node left j
             → IsCut (back_of (begin_of t) (Some (pos to)) (reach_back node left)) (edge_at e j) (edge_at e' j) × ((edge_at e' j).number ≡ (edge_at e j).number)
         by_node node j left is reads =
             let one = here.only j left (subst (λ (n : Node). IsReader n left j) is reads) in
-            subst (λ (n : Node). IsCut (back_of (begin_of t) (Some (pos to)) (reach_back n left)) (edge_at e j) (edge_at e' j) × ((edge_at e' j).number ≡ (edge_at e j).number)) (sym is)
-            (subst (λ i. IsCut (back_of (begin_of t) (Some (pos to)) (reach_back b.node left)) (edge_at e i) (edge_at e' i) × ((edge_at e' i).number ≡ (edge_at e i).number)) (sym one.0)
-            (subst (λ (l : Bool). IsCut (back_of (begin_of t) (Some (pos to)) (reach_back b.node l)) (edge_at e z.of) (edge_at e' z.of) × ((edge_at e' z.of).number ≡ (edge_at e z.of).number))
+            subst (λ (n : Node). IsCut (back_of (begin_of t) (Some (pos to)) (reach_back n left)) (edge_at e j) (edge_at e' j)
+            × ((edge_at e' j).number ≡ (edge_at e j).number)) (sym is)
+            (subst (λ i. IsCut (back_of (begin_of t) (Some (pos to)) (reach_back b.node left)) (edge_at e i) (edge_at e' i)
+            × ((edge_at e' i).number ≡ (edge_at e i).number)) (sym one.0)
+            (subst (λ (l : Bool). IsCut (back_of (begin_of t) (Some (pos to)) (reach_back b.node l)) (edge_at e z.of)
+            (edge_at e' z.of) × ((edge_at e' z.of).number ≡ (edge_at e z.of).number))
             (sym one.1)
-            (subst (λ k. IsCut (back_of (begin_of t) (Some (pos to)) k) (edge_at e z.of) (edge_at e' z.of) × ((edge_at e' z.of).number ≡ (edge_at e z.of).number)) (sym here.back)
+            (subst (λ k. IsCut (back_of (begin_of t) (Some (pos to)) k) (edge_at e z.of) (edge_at e' z.of)
+            × ((edge_at e' z.of).number ≡ (edge_at e z.of).number)) (sym here.back)
             (cut, loses_number lost.here))))
 
-    pub glance_stands : (z' : Moved) (e' : Held) → z' ≡ record z { last = z'.last } → IsSome z'.last → HasReached (glance_of glance z) (reach_before t + own) end z'.last
+    -- and the operator stands there
+    pub glance_stands : (z' : Moved) (e' : Held) → z' ≡ record z { last = z'.last } → IsSome z'.last
+        → HasReached (glance_of glance z) (reach_before t + own) end z'.last
         → StandsNow t (Op.Moved z') e' to
     glance_stands z' e' kept some reached node found =
         let n : b.node ≡ node = some_is (sym b.at ∙ found) in
@@ -268,7 +296,8 @@ module _ (t : Turn) (z : Moved) (e : Held) (to : ℕ) (b : Belongs t (Op.Moved z
               (stood_after (instant_margin t.nodes t.trace z) (reach_before t + own) (pos to) z'.last some (by_last z'.last reached)),
         )
       where
-        by_last : (last : Option Reached) → HasReached (glance_of glance z) (reach_before t + own) end last → HasReached (instant_margin t.nodes t.trace z) (reach_before t + own) (whole (pos to)) last
+        by_last : (last : Option Reached) → HasReached (glance_of glance z) (reach_before t + own) end last
+            → HasReached (instant_margin t.nodes t.trace z) (reach_before t + own) (whole (pos to)) last
         by_last None h = tt
         by_last (Some r) h = (same_trans h.0 same, h.1, h.2)
 

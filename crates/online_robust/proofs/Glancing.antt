@@ -1,5 +1,6 @@
 -- How a window of one instant goes through its input.
-use Rattle.std.proofs.Common.{◌≡◌, ◌⊎◌, inl, inr, ℕ, ◌+◌, ◌<◌, ◌≤◌, ◌^◌, ℤ, pos, Bool, true, false, List, [], ◌∷◌, Option, Some, None, refl, sym, ap, subst, ◌∙◌, length, drop, slice_get, arith}
+use Rattle.std.proofs.Common.{◌≡◌, ◌⊎◌, inl, inr, ℕ, ◌+◌, ◌<◌, ◌≤◌, ◌^◌, ℤ, pos, Bool, true, false, List, [], ◌∷◌}
+use Rattle.std.proofs.Common.{Option, Some, None, refl, sym, ap, subst, ◌∙◌, length, drop, slice_get, arith}
 use Rattle.std.specs.Prelude.{neg_ℤ, ◌-ℤ◌, ◌+ℤ◌, ◌≤ℤ◌, ◌<ℤ◌, IsTrue, MatchBool, if◌then◌else◌}
 use Rattle.std.specs.Int.RustNames.{unsigned_abs}
 use Rattle.std.proofs.lemmas.Int.{ints}
@@ -11,7 +12,8 @@ use Rattle.rational.specs.Extended.{Extended, value_at, ◌≈ᵉ◌}
 use Rattle.rational.specs.Affine.{IsBounded}
 use Rattle.rational.specs.Windows.{Function}
 use Rattle.rational.proofs.AffineLemmas.{bounded_same, same_symᵉ, same_transᵉ, value_same}
-use Rattle.rational.proofs.Order.{ge_of_same, le_of_lt, le_of_same, le_refl, le_trans, lt_irrefl, lt_of_le_of_lt, lt_of_lt_of_le, not_lt_of_le, same_refl, same_sym, same_trans}
+use Rattle.rational.proofs.Order.{ge_of_same, le_of_lt, le_of_same, le_refl, le_trans, lt_irrefl, lt_of_le_of_lt}
+use Rattle.rational.proofs.Order.{lt_of_lt_of_le, not_lt_of_le, same_refl, same_sym, same_trans}
 use Rattle.rational.proofs.TimeFunctions.{IsFunction}
 use Rattle.rational.proofs.TimeLemmas.{less_in, less_no, same_shifted, shifted-add}
 use Rattle.rational.proofs.Shift.{same_shift}
@@ -27,7 +29,9 @@ use Rattle.online_robust.specs.Lines.{end_of, margin_of}
 use Rattle.online_robust.specs.Held.{Held, edge_at, held_at, with_edge, without}
 use Rattle.online_robust.specs.Told.{IsMovedBy, IsTick, AreJoined}
 use Rattle.online_robust.specs.Reading.{Begins, IsAhead, IsThere, LosesAt}
-use Rattle.online_robust.specs.Glances.{AreToSee, before, within, unseen, CanStride, Glance, IsGap, IsGlanceAt, IsNothing, IsOffset, IsOwnOffset, IsSeenAs, IsStride, glance_of, looked_at, nothing_of, turns_left}
+use Rattle.online_robust.specs.Glances.{AreToSee, before, within, unseen, CanStride, Glance, IsGap, IsGlanceAt, IsNothing}
+use Rattle.online_robust.specs.Glances.{IsOffset, IsOwnOffset, IsSeenAs, IsStride, glance_of, looked_at, nothing_of}
+use Rattle.online_robust.specs.Glances.{turns_left}
 use Rattle.online_robust.specs.Windows.{IsShifted}
 use Rattle.online_robust.specs.declared.line.MarginLine.{MarginLine}
 use Rattle.online_robust.specs.declared.line.MarginLine.TheVariants.{Point, Gap}
@@ -66,7 +70,8 @@ module _ (x : Glance) (op : Moved) (own : ℕ) (own_by : IsOwnOffset op.by own) 
     where
       by_case : (b : Bool) → op.inside ≡ b → MatchBool b (IsShifted p op.by m) (IsNothing op.side m) → IsThere (glance_of x op) (x.reach + own) t m
       by_case true e s = record {
-        told = subst (λ b. MatchBool b (looked_at x op.side (shifted t op.by) (value_at (margin_function m) t)) (value_at (margin_function m) t ≈ᵉ nothing_of op.side)) (sym e)
+        told = subst (λ b. MatchBool b (looked_at x op.side (shifted t op.by) (value_at (margin_function m) t))
+            (value_at (margin_function m) t ≈ᵉ nothing_of op.side)) (sym e)
             (inl (
               record { above = from; below = to },
               value_alike x.formula x.trace (shifted t op.by) (value_at (margin_function p) (shifted t op.by)) (value_at (margin_function m) t)
@@ -76,7 +81,8 @@ module _ (x : Glance) (op : Moved) (own : ℕ) (own_by : IsOwnOffset op.by own) 
         moved = seen_moves p m seen there.moved;
       }
       by_case false e s = record {
-        told = subst (λ b. MatchBool b (looked_at x op.side (shifted t op.by) (value_at (margin_function m) t)) (value_at (margin_function m) t ≈ᵉ nothing_of op.side)) (sym e) (s.value t);
+        told = subst (λ b. MatchBool b (looked_at x op.side (shifted t op.by) (value_at (margin_function m) t))
+            (value_at (margin_function m) t ≈ᵉ nothing_of op.side)) (sym e) (s.value t);
         bounded = bounded_same (2 ^ 31) (value_at (margin_function m) t) (nothing_of op.side) (s.value t) (none_bounded op.side);
         moved = still_moved (x.reach + own) m s.still;
       }
@@ -90,7 +96,8 @@ module _ (x : Glance) (op : Moved) (own : ℕ) (own_by : IsOwnOffset op.by own) 
     moved = still_moved (x.reach + own) m none.still;
   }
     where
-      by_case : (b : Bool) → MatchBool b (looked_at x op.side (shifted t op.by) (value_at (margin_function m) t)) (value_at (margin_function m) t ≈ᵉ nothing_of op.side)
+      by_case : (b : Bool) → MatchBool b (looked_at x op.side (shifted t op.by) (value_at (margin_function m) t))
+          (value_at (margin_function m) t ≈ᵉ nothing_of op.side)
       by_case true = inr (outside, none.value t)
       by_case false = none.value t
 
@@ -141,7 +148,8 @@ glance_same x op e {t} {u} same at = record {
         → AreToSee (Robustness x.formula x.trace) x.reach (start x.trace) x.front x.bound (shifted u op.by) (held_at e op.of)
     by_lines (before early begins) = before (lt_of_le_of_lt (ge_of_same moved) early) begins
     by_lines (within begun ahead) =
-        within (le_trans begun (le_of_same moved)) (ahead_same (Robustness x.formula x.trace) x.reach (shifted t op.by) (shifted u op.by) x.front (held_at e op.of) moved ahead)
+        within (le_trans begun (le_of_same moved))
+        (ahead_same (Robustness x.formula x.trace) x.reach (shifted t op.by) (shifted u op.by) x.front (held_at e op.of) moved ahead)
     by_lines (unseen early none) = unseen early none
 
 -- what is told is a function of time
@@ -149,7 +157,8 @@ pub glance_is_function : (x : Glance) (op : Moved) → IsFunction (glance_of x o
 glance_is_function x op = by_case op.inside refl
   where
     over : IsFunction (looked_at x op.side)
-    over = input_is_function (record { formula = x.formula; trace = x.trace; reach = x.reach; front = x.front; bound = x.bound; at = x.front; behind = x.front }) op.side
+    over = input_is_function
+        (record { formula = x.formula; trace = x.trace; reach = x.reach; front = x.front; bound = x.bound; at = x.front; behind = x.front }) op.side
 
     by_case : (b : Bool) → op.inside ≡ b → IsFunction (glance_of x op)
     by_case true e = subst (λ b. IsFunction (λ t v. MatchBool b (looked_at x op.side (shifted t op.by) v) (v ≈ᵉ nothing_of op.side))) (sym e) (record {
@@ -170,63 +179,81 @@ input x = Robustness x.formula x.trace
 module _ (x : Glance) (op : Moved) (old : Held) (t : Rational) (at : IsGlanceAt x op old t) where
   -- before the start its point comes next
   module _ (p : Frac) (v : Margin) (first : slice_get (held_at old op.of) 0 ≡ Some (Point p v)) where
+    -- at first it looks before the start, and its input begins there
     pub starts : ((shifted t op.by) <ʳ start x.trace) × Begins (input x) x.reach (start x.trace) x.front (held_at old op.of)
     starts = by_lines at.lines
       where
-        by_lines : AreToSee (input x) x.reach (start x.trace) x.front x.bound (shifted t op.by) (held_at old op.of) → ((shifted t op.by) <ʳ start x.trace) × Begins (input x) x.reach (start x.trace) x.front (held_at old op.of)
+        by_lines : AreToSee (input x) x.reach (start x.trace) x.front x.bound (shifted t op.by) (held_at old op.of)
+            → ((shifted t op.by) <ʳ start x.trace) × Begins (input x) x.reach (start x.trace) x.front (held_at old op.of)
         by_lines (before early begins) = (early, begins)
         by_lines (unseen early none) = absurd (let z : None ≡ Some (Point p v) = sym (ap (λ (ls : List MarginLine). slice_get ls 0) none) ∙ first in cc)
-        by_lines (within begun ahead) = let (g, e) = first_of (input x) x.reach (shifted t op.by) x.front (held_at old op.of) (Point p v) ahead first in absurd (let z : Point p v ≡ Gap g.a g.b g.p = e in cc)
+        by_lines (within begun ahead) =
+            let (g, e) = first_of (input x) x.reach (shifted t op.by) x.front (held_at old op.of) (Point p v) ahead first in
+            absurd (let z : Point p v ≡ Gap g.a g.b g.p = e in cc)
 
+    -- the point is the first one
     pub point_is : Point p v ≡ Point starts.1.at starts.1.v
     point_is = begun_point starts.1 (Point p v) first
 
+    -- its time is a tick
     pub point_tick : IsTick (value p)
     point_tick = subst (λ (m : MarginLine). IsTick (value (end_of m))) (sym point_is) starts.1.tick
 
+    -- it is the start
     pub point_when : value p ≈ start x.trace
     point_when = subst (λ (m : MarginLine). value (end_of m) ≈ start x.trace) (sym point_is) starts.1.when
 
+    -- the input has that margin there
     pub point_there : IsThere (input x) x.reach (value p) v
     point_there = subst (λ (m : MarginLine). IsThere (input x) x.reach (value (end_of m)) (margin_of m)) (sym point_is) starts.1.there
 
+    -- which may be moved
     pub point_moves : IsMovedBy x.reach v
     point_moves = point_there.moved
 
   -- a gap about the time looked at comes first
   module _ (gap : MarginLine) (first : slice_get (held_at old op.of) 0 ≡ Some gap) (is_gap_line : IsGap gap) where
+    -- later it looks into the trace, and its input goes on from there
     pub over : (start x.trace ≤ʳ (shifted t op.by)) × IsAhead (input x) x.reach (shifted t op.by) x.front (held_at old op.of)
     over = by_lines at.lines
       where
-        by_lines : AreToSee (input x) x.reach (start x.trace) x.front x.bound (shifted t op.by) (held_at old op.of) → (start x.trace ≤ʳ (shifted t op.by)) × IsAhead (input x) x.reach (shifted t op.by) x.front (held_at old op.of)
+        by_lines : AreToSee (input x) x.reach (start x.trace) x.front x.bound (shifted t op.by) (held_at old op.of)
+            → (start x.trace ≤ʳ (shifted t op.by)) × IsAhead (input x) x.reach (shifted t op.by) x.front (held_at old op.of)
         by_lines (before early begins) = absurd (subst IsGap (begun_point begins gap first) is_gap_line)
         by_lines (within begun ahead) = (begun, ahead)
         by_lines (unseen early none) = absurd (let z : None ≡ Some gap = sym (ap (λ (ls : List MarginLine). slice_get ls 0) none) ∙ first in cc)
 
+    -- the first gap
     pub g : FirstGap (input x) x.reach (shifted t op.by) x.front (held_at old op.of)
     g = (first_of (input x) x.reach (shifted t op.by) x.front (held_at old op.of) gap over.1 first).0
 
+    -- it is that gap
     pub gap_is : gap ≡ Gap g.a g.b g.p
     unfolding g
     gap_is = (first_of (input x) x.reach (shifted t op.by) x.front (held_at old op.of) gap over.1 first).1
 
+    -- its end is a tick
     pub gap_tick : IsTick (value (end_of gap))
     gap_tick = subst (λ (m : MarginLine). IsTick (value (end_of m))) (sym gap_is) g.gap_fit.1
 
+    -- its margin may be moved
     pub gap_moves : IsMovedBy x.reach (margin_of gap)
     gap_moves = subst (λ (m : MarginLine). IsMovedBy x.reach (margin_of m)) (sym gap_is) g.gap_fit.4
 
     -- the point behind it
     module _ (mid new : Held) (point : MarginLine) (two : TakesTwo old mid new op.of gap point) where
+      -- and so may that of the point behind it
       pub behind_moves : IsMovedBy x.reach (margin_of point)
       behind_moves = subst (λ (m : MarginLine). IsMovedBy x.reach (margin_of m)) (sym (is_point two g)) g.point_fit.2
 
+    -- it ends within the trace
     pub ends_inside : value g.u ≤ʳ stop x.trace
     ends_inside = le_trans (joined_to (value g.u) x.front (input x) g.rest g.told g.joined) at.last
 
 module _ (x : Glance) (op : Moved) (own : ℕ) (old : Held) (t to : Rational) (at : IsGlanceAt x op old t) (can : CanStride x op own t to) where
   -- it stands at another time over what it held, or over less
-  stands_over : (new : Held) (u : Rational) → length new.edges ≡ length old.edges → AreToSee (input x) x.reach (start x.trace) x.front x.bound (shifted u op.by) (held_at new op.of)
+  stands_over : (new : Held) (u : Rational) → length new.edges ≡ length old.edges
+      → AreToSee (input x) x.reach (start x.trace) x.front x.bound (shifted u op.by) (held_at new op.of)
       → IsGlanceAt x op new u
   stands_over new u count lines = record {
     of_in = omega (arith, count, at.of_in);
@@ -244,7 +271,8 @@ module _ (x : Glance) (op : Moved) (own : ℕ) (old : Held) (t to : Rational) (a
       → IsStride x op own t to shape (record { at = f; value = shape }) old old
   nothing_left shape f e none empty = by_lines (held_at old op.of) refl at.lines
     where
-      by_lines : (lines : List MarginLine) → held_at old op.of ≡ lines → AreToSee (input x) x.reach (start x.trace) x.front x.bound (shifted t op.by) (held_at old op.of)
+      by_lines : (lines : List MarginLine) → held_at old op.of ≡ lines
+          → AreToSee (input x) x.reach (start x.trace) x.front x.bound (shifted t op.by) (held_at old op.of)
           → IsStride x op own t to shape (record { at = f; value = shape }) old old
       by_lines (l ∷ lines) is see = absurd (let z : Some l ≡ None = sym (ap (λ (ls : List MarginLine). slice_get ls 0) is) ∙ empty in cc)
       by_lines [] is (before early begins) = absurd (begun_some begins empty)
@@ -254,9 +282,11 @@ module _ (x : Glance) (op : Moved) (own : ℕ) (old : Held) (t to : Rational) (a
         stands = stands_over old (value f) refl (unseen early none_there);
         told = λ u after upto. outside_there x op own can.own_by u shape (inl (short u (le_of_lt (subst (λ (z : Rational). u <ʳ z) e upto)))) none;
         moved = still_moved (x.reach + own) shape none.still;
-        there = outside_there x op own can.own_by (value f) shape (inl (short (value f) (le_of_same (subst (λ (z : Rational). z ≈ to) (sym e) (same_refl to))))) none;
+        there = outside_there x op own can.own_by (value f) shape
+            (inl (short (value f) (le_of_same (subst (λ (z : Rational). z ≈ to) (sym e) (same_refl to))))) none;
         lost = loses_at_none old;
-        fewer = nearer (length (held_at old op.of)) (length (held_at old op.of)) (value f) t to can.before (omega arith) (inr (subst (λ (z : Rational). to ≤ʳ z) (sym e) (le_refl to)));
+        fewer = nearer (length (held_at old op.of)) (length (held_at old op.of)) (value f) t to can.before (omega arith)
+            (inr (subst (λ (z : Rational). to ≤ʳ z) (sym e) (le_refl to)));
       }
         where
           short : (u : Rational) → u ≤ʳ to → shifted u op.by <ʳ start x.trace
@@ -264,12 +294,14 @@ module _ (x : Glance) (op : Moved) (own : ℕ) (old : Held) (t to : Rational) (a
       by_lines [] is (within begun ahead) = record {
         later = subst (λ (z : Rational). t <ʳ z) (sym e) can.before;
         by = le_of_same (subst (λ (z : Rational). z ≈ to) (sym e) (same_refl to));
-        stands = stands_over old (value f) refl (subst (λ (z : Rational). AreToSee (input x) x.reach (start x.trace) x.front x.bound (shifted z op.by) (held_at old op.of)) (sym e) at_end);
+        stands = stands_over old (value f) refl
+            (subst (λ (z : Rational). AreToSee (input x) x.reach (start x.trace) x.front x.bound (shifted z op.by) (held_at old op.of)) (sym e) at_end);
         told = λ u after _. outside_there x op own can.own_by u shape (inr (beyond u after)) none;
         moved = still_moved (x.reach + own) shape none.still;
         there = outside_there x op own can.own_by (value f) shape (inr (beyond (value f) (subst (λ (z : Rational). t <ʳ z) (sym e) can.before))) none;
         lost = loses_at_none old;
-        fewer = nearer (length (held_at old op.of)) (length (held_at old op.of)) (value f) t to can.before (omega arith) (inr (subst (λ (z : Rational). to ≤ʳ z) (sym e) (le_refl to)));
+        fewer = nearer (length (held_at old op.of)) (length (held_at old op.of)) (value f) t to can.before (omega arith)
+            (inr (subst (λ (z : Rational). to ≤ʳ z) (sym e) (le_refl to)));
       }
         where
           joined : IsAhead (input x) x.reach (shifted t op.by) x.front []
@@ -291,7 +323,14 @@ module _ (x : Glance) (op : Moved) (own : ℕ) (old : Held) (t to : Rational) (a
           at_end : AreToSee (input x) x.reach (start x.trace) x.front x.bound (shifted to op.by) (held_at old op.of)
           at_end = within (le_trans begun (le_of_lt (lt_shifted op.by can.before)))
               (subst (λ (ls : List MarginLine). IsAhead (input x) x.reach (shifted to op.by) x.front ls) (sym is)
-              (record { told = tt; fit = tt; from = joined.from; begun = le_trans joined.begun (le_of_lt (lt_shifted op.by can.before)); joined = joined.joined; later = tt }))
+              (record {
+                told = tt;
+                fit = tt;
+                from = joined.from;
+                begun = le_trans joined.begun (le_of_lt (lt_shifted op.by can.before));
+                joined = joined.joined;
+                later = tt;
+              }))
 
   -- before the start its point comes next
   module _ (p : Frac) (v : Margin) (first : slice_get (held_at old op.of) 0 ≡ Some (Point p v)) where
@@ -306,17 +345,21 @@ module _ (x : Glance) (op : Moved) (own : ℕ) (old : Held) (t to : Rational) (a
       there_again = moved_back (value p) (value s) op.by is
 
       -- the start comes later
-      pub waits : (shape : Margin) (f : Frac) → value f ≡ to → to <ʳ value s → IsNothing op.side shape → IsStride x op own t to shape (record { at = f; value = shape }) old old
+      pub waits : (shape : Margin) (f : Frac) → value f ≡ to → to <ʳ value s → IsNothing op.side shape
+          → IsStride x op own t to shape (record { at = f; value = shape }) old old
       waits shape f e ahead none = record {
         later = subst (λ (z : Rational). t <ʳ z) (sym e) can.before;
         by = le_of_same (subst (λ (z : Rational). z ≈ to) (sym e) (same_refl to));
-        stands = stands_over old (value f) refl (subst (λ (z : Rational). AreToSee (input x) x.reach (start x.trace) x.front x.bound (shifted z op.by) (held_at old op.of)) (sym e)
+        stands = stands_over old (value f) refl
+            (subst (λ (z : Rational). AreToSee (input x) x.reach (start x.trace) x.front x.bound (shifted z op.by) (held_at old op.of)) (sym e)
             (before (early to (le_refl to)) sg.1));
         told = λ u after upto. outside_there x op own can.own_by u shape (inl (early u (le_of_lt (subst (λ (z : Rational). u <ʳ z) e upto)))) none;
         moved = still_moved (x.reach + own) shape none.still;
-        there = outside_there x op own can.own_by (value f) shape (inl (subst (λ (z : Rational). shifted z op.by <ʳ start x.trace) (sym e) (early to (le_refl to)))) none;
+        there = outside_there x op own can.own_by (value f) shape
+            (inl (subst (λ (z : Rational). shifted z op.by <ʳ start x.trace) (sym e) (early to (le_refl to)))) none;
         lost = loses_at_none old;
-        fewer = nearer (length (held_at old op.of)) (length (held_at old op.of)) (value f) t to can.before (omega arith) (inr (subst (λ (z : Rational). to ≤ʳ z) (sym e) (le_refl to)));
+        fewer = nearer (length (held_at old op.of)) (length (held_at old op.of)) (value f) t to can.before (omega arith)
+            (inr (subst (λ (z : Rational). to ≤ʳ z) (sym e) (le_refl to)));
       }
         where
           early : (u : Rational) → u ≤ʳ to → shifted u op.by <ʳ start x.trace
@@ -336,17 +379,21 @@ module _ (x : Glance) (op : Moved) (own : ℕ) (old : Held) (t to : Rational) (a
             let b : length (held_at old op.of) ≡ length (Point sg.1.at sg.1.v ∷ sg.1.rest) = ap (λ (l : List MarginLine). length l) sg.1.is in
             omega (arith, a, b)
 
-        pub starts_now : (shape m : Margin) → value s ≤ʳ to → IsNothing op.side shape → IsSeenAs op v m → IsStride x op own t to shape (record { at = s; value = m }) old new
+        -- what it tells up to the first point is a stride
+        pub starts_now : (shape m : Margin) → value s ≤ʳ to → IsNothing op.side shape → IsSeenAs op v m
+            → IsStride x op own t to shape (record { at = s; value = m }) old new
         starts_now shape m by none seen = record {
           later = lt_shifted_back op.by (lt_of_lt_of_le sg.0 (ge_of_same (same_trans there_again at_start)));
           by = by;
           stands = stands_over new (value s) lost_here.edges (within (ge_of_same (same_trans there_again at_start))
               (subst (λ (ls : List MarginLine). IsAhead (input x) x.reach (shifted (value s) op.by) x.front ls) (sym left)
               (ahead_same (input x) x.reach (value sg.1.at) (shifted (value s) op.by) x.front sg.1.rest (same_sym there_is) sg.1.ahead)));
-          told = λ u after upto. outside_there x op own can.own_by u shape (inl (lt_of_lt_of_le (lt_shifted op.by upto) (le_of_same (same_trans there_again at_start)))) none;
+          told = λ u after upto.
+              outside_there x op own can.own_by u shape (inl (lt_of_lt_of_le (lt_shifted op.by upto) (le_of_same (same_trans there_again at_start)))) none;
           moved = still_moved (x.reach + own) shape none.still;
           there = inside_there x op own can.own_by (value s) v m (ge_of_same (same_trans there_again at_start))
-              (le_trans (le_of_same (same_trans there_again at_start)) at.order) (there_same (input x) x.reach (value p) (shifted (value s) op.by) v (robust_is_function x.formula x.trace) (same_sym there_again) (point_there x op old t at p v first)) seen;
+              (le_trans (le_of_same (same_trans there_again at_start)) at.order) (there_same (input x) x.reach (value p) (shifted (value s) op.by) v
+              (robust_is_function x.formula x.trace) (same_sym there_again) (point_there x op old t at p v first)) seen;
           lost = lost_here;
           fewer = nearer (length (held_at new op.of)) (length (held_at old op.of)) (value s) t to can.before (omega (arith, count_less)) (inl count_less);
         }
@@ -369,30 +416,36 @@ module _ (x : Glance) (op : Moved) (own : ℕ) (old : Held) (t to : Rational) (a
     last_inside = ends_inside x op old t at gap first is_gap_line
 
     -- within the gap
-    seen_in : (m : Margin) → IsSeenAs op (margin_of gap) m → (u : Rational) → t <ʳ u → shifted u op.by <ʳ value fg.b → IsThere (glance_of x op) (x.reach + own) u m
+    seen_in : (m : Margin) → IsSeenAs op (margin_of gap) m → (u : Rational) → t <ʳ u → shifted u op.by <ʳ value fg.b
+        → IsThere (glance_of x op) (x.reach + own) u m
     seen_in m seen u after upto =
         inside_there x op own can.own_by u (margin_of gap) m (le_trans bg.0 (le_of_lt (lt_shifted op.by after)))
         (le_trans (le_of_lt upto) (le_trans (le_of_same fg.ends) last_inside))
         (subst (λ (l : MarginLine). IsThere (input x) x.reach (shifted u op.by) (margin_of l)) (sym is_fg)
-        (there_in (input x) x.reach (robust_is_function x.formula x.trace) fg.a fg.b fg.p (shifted u op.by) fg.gap fg.gap_fit (lt_of_le_of_lt fg.begun (lt_shifted op.by after)) upto)) seen
+        (there_in (input x) x.reach (robust_is_function x.formula x.trace) fg.a fg.b fg.p (shifted u op.by) fg.gap fg.gap_fit
+        (lt_of_le_of_lt fg.begun (lt_shifted op.by after)) upto)) seen
 
     module _ (s : Frac) (is : value s ≈ add (value (end_of gap)) (whole (neg_ℤ op.by))) where
       back : shifted (value s) op.by ≈ value fg.b
       back = subst (λ (m : MarginLine). shifted (value s) op.by ≈ value (end_of m)) is_fg (moved_back (value (end_of gap)) (value s) op.by is)
 
       -- its end comes later
-      pub goes_within : (m : Margin) (z : Frac) → value z ≡ to → to <ʳ value s → IsSeenAs op (margin_of gap) m → IsStride x op own t to m (record { at = z; value = m }) old old
+      pub goes_within : (m : Margin) (z : Frac) → value z ≡ to → to <ʳ value s → IsSeenAs op (margin_of gap) m
+          → IsStride x op own t to m (record { at = z; value = m }) old old
       goes_within m z e ahead seen = record {
         later = subst (λ (y : Rational). t <ʳ y) (sym e) can.before;
         by = le_of_same (subst (λ (y : Rational). y ≈ to) (sym e) (same_refl to));
-        stands = stands_over old (value z) refl (subst (λ (z : Rational). AreToSee (input x) x.reach (start x.trace) x.front x.bound (shifted z op.by) (held_at old op.of)) (sym e)
+        stands = stands_over old (value z) refl
+            (subst (λ (z : Rational). AreToSee (input x) x.reach (start x.trace) x.front x.bound (shifted z op.by) (held_at old op.of)) (sym e)
             (within (le_trans bg.0 (le_of_lt (lt_shifted op.by can.before)))
-            (ahead_on (input x) x.reach (robust_is_function x.formula x.trace) (shifted t op.by) x.front (held_at old op.of) bg.1 fg (shifted to op.by) (le_of_lt (lt_shifted op.by can.before)) early)));
+            (ahead_on (input x) x.reach (robust_is_function x.formula x.trace) (shifted t op.by) x.front
+            (held_at old op.of) bg.1 fg (shifted to op.by) (le_of_lt (lt_shifted op.by can.before)) early)));
         told = λ u after upto. seen_in m seen u after (lt_of_lt_of_le (lt_shifted op.by (subst (λ (z : Rational). u <ʳ z) e upto)) (le_of_lt early));
         moved = seen_moves x op own can.own_by (margin_of gap) m seen (gap_moves x op old t at gap first is_gap_line);
         there = subst (λ (z : Rational). IsThere (glance_of x op) (x.reach + own) z m) (sym e) (seen_in m seen to can.before early);
         lost = loses_at_none old;
-        fewer = nearer (length (held_at old op.of)) (length (held_at old op.of)) (value z) t to can.before (omega arith) (inr (subst (λ (z : Rational). to ≤ʳ z) (sym e) (le_refl to)));
+        fewer = nearer (length (held_at old op.of)) (length (held_at old op.of)) (value z) t to can.before (omega arith)
+            (inr (subst (λ (z : Rational). to ≤ʳ z) (sym e) (le_refl to)));
       }
         where
           early : shifted to op.by <ʳ value fg.b
@@ -418,19 +471,23 @@ module _ (x : Glance) (op : Moved) (own : ℕ) (old : Held) (t to : Rational) (a
         after_here : t <ʳ value s
         after_here = lt_shifted_back op.by (lt_of_lt_of_le fg.later (ge_of_same back))
 
-        pub goes_over : (m v : Margin) → value s ≤ʳ to → IsSeenAs op (margin_of gap) m → IsSeenAs op (margin_of point) v → IsStride x op own t to m (record { at = s; value = v }) old new
+        -- and so is what it tells over the gap
+        pub goes_over : (m v : Margin) → value s ≤ʳ to → IsSeenAs op (margin_of gap) m → IsSeenAs op (margin_of point) v
+            → IsStride x op own t to m (record { at = s; value = v }) old new
         goes_over m v by seen seen_point = record {
           later = after_here;
           by = by;
           stands = stands_over new (value s) lost_two.edges (within (le_trans bg.0 (le_of_lt (lt_shifted op.by after_here)))
               (subst (λ (ls : List MarginLine). IsAhead (input x) x.reach (shifted (value s) op.by) x.front ls) (sym (is_rest two fg))
-              (ahead_next (input x) x.reach (robust_is_function x.formula x.trace) (shifted t op.by) x.front (held_at old op.of) fg (shifted (value s) op.by) (same_sym back))));
+              (ahead_next (input x) x.reach (robust_is_function x.formula x.trace) (shifted t op.by) x.front
+              (held_at old op.of) fg (shifted (value s) op.by) (same_sym back))));
           told = λ u after upto. seen_in m seen u after (lt_of_lt_of_le (lt_shifted op.by upto) (le_of_same back));
           moved = seen_moves x op own can.own_by (margin_of gap) m seen (gap_moves x op old t at gap first is_gap_line);
           there = inside_there x op own can.own_by (value s) (margin_of point) v (le_trans bg.0 (le_of_lt (lt_shifted op.by after_here)))
               (le_trans (le_of_same (same_trans back fg.ends)) last_inside)
               (subst (λ (l : MarginLine). IsThere (input x) x.reach (shifted (value s) op.by) (margin_of l)) (sym (is_point two fg))
-              (there_at (input x) x.reach (robust_is_function x.formula x.trace) fg.u fg.v (shifted (value s) op.by) fg.point fg.point_fit (same_sym (same_trans back fg.ends)))) seen_point;
+              (there_at (input x) x.reach (robust_is_function x.formula x.trace) fg.u fg.v
+              (shifted (value s) op.by) fg.point fg.point_fit (same_sym (same_trans back fg.ends)))) seen_point;
           lost = lost_two;
           fewer = nearer (length (held_at new op.of)) (length (held_at old op.of)) (value s) t to can.before (omega (arith, fewer_two)) (inl fewer_two);
         }

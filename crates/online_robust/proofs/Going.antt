@@ -1,5 +1,7 @@
 -- An operator goes on: it belongs to its edges in each trace that goes on from the rows, and what it leaves is what its node's new number answers.
-use Rattle.std.proofs.Common.{◌≡◌, ◌≢◌, ℕ, suc, zero, ◌+◌, ◌<◌, ◌≤◌, Bool, true, false, List, [], ◌∷◌, ◌++◌, length, refl, sym, ap, subst, ◌∙◌, arith, Option, Some, None, ℤ, pos, ◌+ℤ◌, ◌<ℤ◌, ◌≤ℤ◌, take, get_or, get_or-set_same, get_or-set_other, length-set}
+use Rattle.std.proofs.Common.{◌≡◌, ◌≢◌, ℕ, suc, zero, ◌+◌, ◌<◌, ◌≤◌, Bool, true, false, List, [], ◌∷◌, ◌++◌}
+use Rattle.std.proofs.Common.{length, refl, sym, ap, subst, ◌∙◌, arith, Option, Some, None, ℤ, pos, ◌+ℤ◌}
+use Rattle.std.proofs.Common.{◌<ℤ◌, ◌≤ℤ◌, take, get_or, get_or-set_same, get_or-set_other, length-set}
 use Rattle.std.specs.Prelude.{MatchBool, IfSome, int_lt, cond, map, slice_get, slice_index_or}
 use Rattle.std.proofs.lemmas.Int.{ints}
 use Rattle.std.proofs.lemmas.List.{take_more}
@@ -45,10 +47,12 @@ use Rattle.online_robust.proofs.Growing.{goes_on_from, itself}
 use Rattle.online_robust.proofs.Readers.{reader_above, seen_same}
 use Rattle.online_robust.proofs.Rests.{IsLaterBack, joined_from, input_rest, input_reach, rest_cut}
 use Rattle.online_robust.proofs.RowFacts.{number_here, told_here, first_goes_on, last_goes_on, last_at_end, shown_is, number_shown, number_rises}
-use Rattle.online_robust.proofs.SignalLines.{AreWorth, after_parts, all_parts, told_after, fit_after, fit_first, at_first, joined_after, tells_after, tells_closed}
+use Rattle.online_robust.proofs.SignalLines.{AreWorth, after_parts, all_parts, told_after, fit_after}
+use Rattle.online_robust.proofs.SignalLines.{fit_first, at_first, joined_after, tells_after, tells_closed}
 
 -- ---- small facts
 
+-- a lesser number comes out as less
 pub int_below : (a b : ℤ) → a <ℤ b → int_lt a b ≡ true
 int_below a b lt = by_test (int_lt a b) refl
   where
@@ -56,6 +60,7 @@ int_below a b lt = by_test (int_lt a b) refl
     by_test true e = e
     by_test false e = let le = int_order a b false e in absurd (omega (arith, ints, lt, le))
 
+-- and a number not as less than itself
 pub int_not_below : (a : ℤ) → int_lt a a ≡ false
 int_not_below a = by_test (int_lt a a) refl
   where
@@ -63,12 +68,15 @@ int_not_below a = by_test (int_lt a a) refl
     by_test true e = let lt = int_order a a true e in absurd (omega (arith, ints, lt))
     by_test false e = e
 
+-- the edge that was put is there
 pub edge_same : (e : Held) (i : ℕ) (x : Edge) → i < length e.edges → get_or (with_edge e i x) i no_edge ≡ x
 edge_same e i x h = get_or-set_same e.edges i x no_edge h
 
+-- the others stay
 pub edge_other : (e : Held) (i j : ℕ) (x : Edge) → j ≢ i → get_or (with_edge e i x) j no_edge ≡ edge_at e j
 edge_other e i j x h = get_or-set_other e.edges i j x no_edge h
 
+-- and there are as many
 pub length-set-edges : (e : Held) (i : ℕ) (x : Edge) → length (with_edge e i x) ≡ length e.edges
 length-set-edges e i x = length-set e.edges i x
 
@@ -154,12 +162,14 @@ module _ (m : Move) (node : ℕ) (op : Operator) (e : Held) (to : ℕ) (with_fir
 
     input_here : (j : ℕ) (left : Bool) → IsReader g.can.node left j
         → IsInput (Robustness (subformula m.nodes j) tr) (reach (take m.place m.nodes)) (first_time rows)
-        (back_of (first_time rows) (shown_of m.nodes m.old m.place) (reach_back g.can.node left)) (front_at m.new.ended (pos now) (subformula m.nodes j)) (held_at e j)
+        (back_of (first_time rows) (shown_of m.nodes m.old m.place) (reach_back g.can.node left))
+        (front_at m.new.ended (pos now) (subformula m.nodes j)) (held_at e j)
     input_here j left reads =
         let (lines, gave, rest) = g.can.inputs j left reads in
         let lower : j < m.place = reader_above m.nodes g.can.nodes.formed m.place g.can.node left j g.can.at reads in
         input_reach (Robustness (subformula m.nodes j) tr) (reach (take (suc j) m.nodes)) (reach (take m.place m.nodes)) (first_time rows)
-        (back_of (first_time rows) (shown_of m.nodes m.old m.place) (reach_back g.can.node left)) (front_at m.new.ended (pos now) (subformula m.nodes j)) (held_at e j)
+        (back_of (first_time rows) (shown_of m.nodes m.old m.place) (reach_back g.can.node left))
+        (front_at m.new.ended (pos now) (subformula m.nodes j)) (held_at e j)
         (reach_rises m.nodes (suc j) m.place (omega (arith, lower)))
         (input_rest (Robustness (subformula m.nodes j) tr) (reach (take (suc j) m.nodes)) (first_time rows) (shown_of m.nodes m.old m.place)
         (reach_back g.can.node left) (front_at m.new.ended (pos now) (subformula m.nodes j)) lines (held_at e j)
@@ -172,6 +182,7 @@ module _ (m : Move) (node : ℕ) (op : Operator) (e : Held) (to : ℕ) (with_fir
     forth None e = tt
     forth (Some k) e = subst (λ s. (pos s ≤ℤ k) × (k <ℤ pos to)) (sym begin_is) (before_is k e)
 
+    -- the operator belongs to its edges in each trace that goes on
     pub belongs : Belongs (turn_of m tr) op e to
     belongs = record {
       formed = g.can.nodes.formed;
@@ -201,6 +212,7 @@ module _ (m : Move) (node : ℕ) (op : Operator) (e : Held) (to : ℕ) (with_fir
       stands = g.can.work.1 tr trace (goes_on_from m.old m.new g.can.next tr m.header c);
     }
 
+  -- and in the trace so far
   pub belongs_now : Belongs (turn_of m so_far) op e to
   belongs_now = belongs so_far g.can.trace (itself so_far m.new.ended)
 
@@ -276,7 +288,8 @@ module _ (m : Move) (node : ℕ) (op : Operator) (e : Held) (to : ℕ) (with_fir
         )
 
     closed_told : (G : Function) (s : List (Knot Margin)) → Tells margin_shape G (whole (pos (first_time rows))) (whole (pos to)) s → IsLimited margin_shape s
-        → ((q : Margin) → HasShape s q → IsMovedBy most q) → IsTick (whole (pos (first_time rows))) → AreInputs G most (first_time rows) None (pos to) (lines_of true s)
+        → ((q : Margin) → HasShape s q → IsMovedBy most q) → IsTick (whole (pos (first_time rows)))
+        → AreInputs G most (first_time rows) None (pos to) (lines_of true s)
     closed_told G [] tells limited moved first = let some = tells.signal.some in absurd (omega (arith, some))
     closed_told G (k ∷ ks) tells limited moved first =
         let worth : AreWorth G (whole (pos (first_time rows))) (whole (pos to)) (k ∷ ks) = λ t v w. (tells.worth t v).0 w in record {
@@ -309,12 +322,14 @@ module _ (m : Move) (node : ℕ) (op : Operator) (e : Held) (to : ℕ) (with_fir
           after_parts k (n ∷ ks),
         )
 
-    open_told : (G : Function) (start : ℕ) (o : ℤ) → o <ℤ pos to → (s : List (Knot Margin)) → Tells margin_shape G (whole o) (whole (pos to)) s → IsLimited margin_shape s
+    open_told : (G : Function) (start : ℕ) (o : ℤ) → o <ℤ pos to → (s : List (Knot Margin))
+        → Tells margin_shape G (whole o) (whole (pos to)) s → IsLimited margin_shape s
         → ((q : Margin) → HasShape s q → IsMovedBy most q) → IsTick (whole o) → AreMore G most start (Some o) (Some (pos to)) (lines_of false s)
     open_told G start o lt [] tells limited moved first = let some = tells.signal.some in absurd (omega (arith, some))
     open_told G start o lt (k ∷ ks) tells limited moved first =
         let worth : AreWorth G (whole o) (whole (pos to)) (k ∷ ks) = λ t v w. (tells.worth t v).0 w in
-        subst (λ b. MatchBool b (AreTold G (lines_after k ks) × AreFit most (lines_after k ks) × AreJoined (whole o) (whole (pos to)) (lines_after k ks)) (lines_after k ks ≡ []))
+        subst (λ b. MatchBool b (AreTold G (lines_after k ks) × AreFit most (lines_after k ks) × AreJoined (whole o) (whole (pos to)) (lines_after k ks))
+        (lines_after k ks ≡ []))
         (sym (int_below o (pos to) lt)) (
           told_after G (whole o) (whole (pos to)) k ks tells.signal.each worth,
           fit_after G (whole o) (whole (pos to)) most first tick_to k ks worth limited moved,
@@ -419,6 +434,7 @@ module _ (m : Move) (node : ℕ) (op : Operator) (e : Held) (to : ℕ) (with_fir
         let lower : j < m.place = reader_above m.nodes g.can.nodes.formed m.place n side j at reads in
         ap (λ (x : Edge). x.seen) (other'' j (omega (arith, lower))))
 
+    -- what it leaves is what its node leaves
     pub has_moved : HasMoved m (W.Operator op') e noted
     has_moved = record {
       more = more;

@@ -1,5 +1,6 @@
 -- What a node gave out grows from one past to the next.
-use Rattle.std.proofs.Common.{◌≡◌, ◌⊎◌, inl, inr, ℕ, suc, ◌<◌, ◌≤◌, Bool, true, false, List, [], ◌∷◌, ◌++◌, length, refl, sym, ap, subst, ◌∙◌, arith, append_assoc, append-nil, Some, None, ℤ, pos, ◌≤ℤ◌}
+use Rattle.std.proofs.Common.{◌≡◌, ◌⊎◌, inl, inr, ℕ, suc, ◌<◌, ◌≤◌, Bool, true, false, List, [], ◌∷◌, ◌++◌, length}
+use Rattle.std.proofs.Common.{refl, sym, ap, subst, ◌∙◌, arith, append_assoc, append-nil, Some, None, ℤ, pos, ◌≤ℤ◌}
 use Rattle.std.specs.Prelude.{MatchBool, int_lt, cond, map, take}
 use Rattle.std.proofs.lemmas.Int.{ints}
 use Rattle.std.proofs.lemmas.Bool.{false≢true}
@@ -95,6 +96,7 @@ continues_less tr header rows r ended c = record {
   whole_input = λ h. absurd (false≢true h);
 }
 
+-- a trace that goes on from rows and their end goes on from the rows
 pub continues_open : (tr : Trace) (header : Header) (rows : List Row) (ended : Bool) → Continues tr header rows ended → Continues tr header rows false
 continues_open tr header rows ended c = record { same_header = c.same_header; more = c.more; begins = c.begins; whole_input = λ h. absurd (false≢true h) }
 
@@ -106,6 +108,7 @@ itself tr ended = record { same_header = refl; more = []; begins = sym (append-n
 abbrev pub GoesOnFrom : Past → Past → Type 0
 GoesOnFrom old new = (tr : Trace) (header : Header) → Continues tr header new.rows new.ended → Continues tr header old.rows old.ended
 
+-- one past goes on from the one before
 pub goes_on_from : (old new : Past) → IsNext old new → GoesOnFrom old new
 goes_on_from old new next = next_cases old new next GoesOnFrom
     (λ rows r tr header c. continues_less tr header rows r false c) (λ rows tr header c. continues_open tr header rows true c)
@@ -115,6 +118,7 @@ last_rises : (n time : ℕ) (rows : List Row) (r : Row) → AreRowsAfter n time 
 last_rises n time [] r ok = ok.0
 last_rises n time (q ∷ rows) r ok = last_rises n q.time rows r ok.2
 
+-- the last row lies before the next
 pub last_below : (header : Header) (q : Row) (rows : List Row) (r : Row) → IsTrace (record { header = header; rows = q ∷ rows ++ r ∷ [] })
     → last_time q.time rows < r.time
 last_below header q rows r is = last_rises (length header.columns) q.time rows r is.rows.1
@@ -123,9 +127,11 @@ last_below header q rows r is = last_rises (length header.columns) q.time rows r
 pub front_rises : (p : Subformula) (now later : ℕ) → now ≤ later → front_at false (pos now) p ≤ℤ front_at false (pos later) p
 front_rises p now later le = omega (arith, ints, le)
 
+-- the end lets a front only rise
 pub front_ends : (p : Subformula) (now : ℕ) → front_at false (pos now) p ≤ℤ front_at true (pos now) p
 front_ends p now = omega (arith, ints)
 
+-- what is made of two lists is made of each
 pub map-append : {A B : Type 0} (f : A → B) (xs ys : List A) → map f (xs ++ ys) ≡ map f xs ++ map f ys
 map-append f [] ys = refl
 map-append f (x ∷ xs) ys = ap (λ l. f x ∷ l) (map-append f xs ys)
@@ -133,7 +139,9 @@ map-append f (x ∷ xs) ys = ap (λ l. f x ∷ l) (map-append f xs ys)
 module _ (nodes : List Node) (header : Header) (i : ℕ) (lines more : List MarginLine) where
   -- the lines more are what the next past answers beyond the old one
   pub record AreNext (old new : Past) : Type 0 where
+    -- what was given out are the node's new parts
     pub parts : AreNewParts (subformula nodes i) (trace_of header new) (shown_of nodes old i) (shown_of nodes new i) (map part_of more)
+    -- and they tell its margin in each trace that goes on
     pub told : (tr : Trace) → IsTrace tr → Continues tr header new.rows new.ended
         → AreMore (Robustness (subformula nodes i) tr) (reach (take (suc i) nodes)) (first_time new.rows) (shown_of nodes old i) (shown_of nodes new i) more
 

@@ -1,5 +1,6 @@
 -- How the high end of a window goes on over its input.
-use Rattle.std.proofs.Common.{◌≡◌, ◌≢◌, ◌⊎◌, inl, inr, ℕ, ◌+◌, ◌-◌, ◌<◌, ◌≤◌, ◌^◌, true, false, List, [], ◌∷◌, ◌++◌, Option, Some, None, refl, sym, ap, subst, ◌∙◌, length, drop, get_or, slice_get, append_assoc, arith}
+use Rattle.std.proofs.Common.{◌≡◌, ◌≢◌, ◌⊎◌, inl, inr, ℕ, ◌+◌, ◌-◌, ◌<◌, ◌≤◌, ◌^◌, true, false, List, [], ◌∷◌, ◌++◌, Option}
+use Rattle.std.proofs.Common.{Some, None, refl, sym, ap, subst, ◌∙◌, length, drop, get_or, slice_get, append_assoc, arith}
 use Rattle.std.specs.Prelude.{IfSome, MatchOption, ℤ}
 use Rattle.std.proofs.lemmas.List.{get_or-set_other, get_or-set_same, length-set}
 use Rattle.rational.specs.Time.{Rational, shifted, ◌≈◌, ◌≤ʳ◌, ◌<ʳ◌}
@@ -20,7 +21,8 @@ use Rattle.online_robust.specs.Held.{Edge, Held, edge_at, fresh_at, held_at, hel
 use Rattle.online_robust.specs.Queues.{StandsFor}
 use Rattle.online_robust.specs.Told.{AreJoined}
 use Rattle.online_robust.specs.Sweeping.{EndsAt, IsBefore, IsFrozen, IsNoKnot, IsOn}
-use Rattle.online_robust.specs.Windows.{IsAt, IsHigh, IsSpread, IsStanding, IsToCome, IsUnfixed, IsUnfixedHigh, Scope, Sheds, gap_of, high_at, input_of, low_at, no_gap}
+use Rattle.online_robust.specs.Windows.{IsAt, IsHigh, IsSpread, IsStanding, IsToCome, IsUnfixed, IsUnfixedHigh}
+use Rattle.online_robust.specs.Windows.{Scope, Sheds, gap_of, high_at, input_of, low_at, no_gap}
 use Rattle.online_robust.specs.declared.ends.Gap.{Gap}
 use Rattle.online_robust.specs.declared.line.MarginLine.{MarginLine}
 use Rattle.online_robust.specs.declared.line.MarginLine.TheVariants as L
@@ -35,11 +37,13 @@ pub read_edge : (i : ℕ) (old new : Held) (v : MarginLine) → i < length old.e
 read_edge i old new v within read =
     ap (λ (es : List Edge). get_or es i no_edge) read ∙ get_or-set_same old.edges i (with_read (edge_at old i) v) no_edge within
 
+-- reading an edge leaves the others
 pub read_others : (i j : ℕ) (old new : Held) (v : MarginLine) → new.edges ≡ with_edge old i (with_read (edge_at old i) v) → j ≢ i
     → edge_at new j ≡ edge_at old j
 read_others i j old new v read apart =
     ap (λ (es : List Edge). get_or es j no_edge) read ∙ get_or-set_other old.edges i j (with_read (edge_at old i) v) no_edge apart
 
+-- and as many
 pub read_count : (i : ℕ) (old new : Held) (v : MarginLine) → new.edges ≡ with_edge old i (with_read (edge_at old i) v) → length new.edges ≡ length old.edges
 read_count i old new v read = ap (λ (es : List Edge). length es) read ∙ length-set old.edges i (with_read (edge_at old i) v)
 
@@ -66,9 +70,11 @@ module _ (x : Scope) (s : Sweep) (e mid new : Held) (line : MarginLine) (next : 
   next_is = comes_next x s.window s.start s.none s.place.low s.place.high s.among (edge_at e s.window.of).seen (fresh_at e s.window.of)
       (low_at x s.window) (high_at x s.window) at.spread high.ends
 
+  -- the line is the point at the end of the gap
   pub line_is : line ≡ L.Point next_is.p next_is.v
   line_is =
-      let f : slice_get (L.Point next_is.p next_is.v ∷ next_is.rest) 0 ≡ Some line = subst (λ (l : List MarginLine). slice_get l 0 ≡ Some line) next_is.is first in
+      let f : slice_get (L.Point next_is.p next_is.v ∷ next_is.rest) 0 ≡ Some line =
+      subst (λ (l : List MarginLine). slice_get l 0 ≡ Some line) next_is.is first in
       let g : Some (L.Point next_is.p next_is.v) ≡ Some line = f in sym (some_is g)
 
   mid_edge : edge_at mid s.window.of ≡ with_read (edge_at e s.window.of) line
@@ -85,15 +91,25 @@ module _ (x : Scope) (s : Sweep) (e mid new : Held) (line : MarginLine) (next : 
 
   -- the gap behind the point was entered
   pub record HasEntered : Type 0 where
+    -- the gap behind it, if it was read
     pub tail : List MarginLine
+    -- what is left to read
     pub rest : List MarginLine
+    -- the new gap goes on from the point
     pub on : IsOn (input_of x s.window.side) x.reach (value next_is.p) next
+    -- it ends behind it
     pub before : IsBefore (value next_is.p) next.until
+    -- it stands on the edge, or is none yet
     pub stands : (next.stands ≡ true) ⊎ (next ≡ no_gap s.none)
+    -- as its line says
     pub standing : IsStanding next tail []
+    -- what is to come goes on from it
     pub come : IsToCome x next.until rest
+    -- the point and the gap were read
     pub seen_is : (edge_at new s.window.of).seen ≡ (edge_at e s.window.of).seen ++ L.Point next_is.p next_is.v ∷ tail
+    -- and the rest was not
     pub fresh_is : fresh_at new s.window.of ≡ rest
+    -- nothing was lost but what may be
     pub shed : (limit : Rational) → Sheds limit s.window.of e new
 
   shed_mid : (limit : Rational) → Sheds limit s.window.of e mid
@@ -164,6 +180,7 @@ module _ (x : Scope) (s : Sweep) (e mid new : Held) (line : MarginLine) (next : 
         };
       }
 
+  -- the high end has entered the next gap
   pub has_entered : HasEntered
   has_entered = by_rest next_is.rest refl next_is.joined
 
@@ -171,6 +188,7 @@ module _ (x : Scope) (s : Sweep) (e mid new : Held) (line : MarginLine) (next : 
   pub point_at : (u : Frac) → u ≡ end_of line → u ≡ next_is.p
   point_at u e = e ∙ ap end_of line_is
 
+  -- the point's margin is that of the line
   pub point_is : (m : Margin) → m ≡ margin_of line → m ≡ next_is.v
   point_is m e = e ∙ ap margin_of line_is
 
@@ -219,6 +237,7 @@ module _ (x : Scope) (s : Sweep) (e mid new : Held) (line : MarginLine) (next : 
       (gone_plain x s.window s.start s.none s.place.low s.place.high s.among (edge_at e s.window.of).seen (fresh_at e s.window.of) (low_at x s.window)
       (high_at x s.window) at.spread next_is next en.tail en.rest en.on en.before en.stands en.standing en.come s.among at.spread.side refl plain)
 
+  -- a knot under the window gives a constant
   pub frozen_spread : (en : HasEntered) (q : Queue Margin) (k : Margin)
       → ¬ IsNoKnot (shifted (start x.trace) s.window.low) s.place.high (record { at = next_is.p; point = next_is.v; after = next })
       → IsFrozen s.window.side s.place.high.shape next_is.v next.shape (value next_is.p) k
@@ -228,10 +247,13 @@ module _ (x : Scope) (s : Sweep) (e mid new : Held) (line : MarginLine) (next : 
       (high_at x s.window)
   frozen_spread en q k knot frozen come same = placed en q
       (gone_frozen x s.window s.start s.none s.place.low s.place.high s.among (edge_at e s.window.of).seen (fresh_at e s.window.of) (low_at x s.window)
-      (high_at x s.window) at.spread next_is next en.tail en.rest en.on en.before en.stands en.standing en.come q (same ∙ at.spread.side) k knot frozen come same)
+      (high_at x s.window) at.spread next_is next en.tail en.rest en.on en.before en.stands en.standing en.come q
+      (same ∙ at.spread.side) k knot frozen come same)
 
+  -- the high end lies before the end of its gap
   pub before_goes : (en : HasEntered) → IsBefore (high_at x s.window) next.until
-  before_goes en = before_next x s.window s.start s.none s.place.low s.place.high s.among (edge_at e s.window.of).seen (fresh_at e s.window.of) (low_at x s.window)
+  before_goes en = before_next x s.window s.start s.none s.place.low s.place.high s.among (edge_at e s.window.of).seen
+      (fresh_at e s.window.of) (low_at x s.window)
       (high_at x s.window) at.spread next_is next en.tail en.rest en.on en.before en.stands en.standing en.come s.among at.spread.side
 
   -- the gap about the high end, up to the point
@@ -242,9 +264,11 @@ module _ (x : Scope) (s : Sweep) (e mid new : Held) (line : MarginLine) (next : 
   rises : high_from.0 <ʳ value next_is.p
   rises = before_of_end s.place.high.until next_is.ends high_from.2
 
+  -- the old gap's margin is bounded at the point
   pub high_small : IsBounded (2 ^ 31) (value_at (margin_function s.place.high.shape) (value next_is.p))
   high_small = high_from.1.bounded (value next_is.p) (le_of_lt rises) (up_to_end s.place.high.until next_is.ends (le_refl (value next_is.p)))
 
+  -- and so is the new one's
   pub next_small : (en : HasEntered) → IsBounded (2 ^ 31) (value_at (margin_function next.shape) (value next_is.p))
   next_small en = en.on.bounded (value next_is.p) (le_refl (value next_is.p)) (up_to_before (value next_is.p) next.until en.before)
 

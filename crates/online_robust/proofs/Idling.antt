@@ -1,5 +1,6 @@
 -- A node that gives out nothing from one past to the next.
-use Rattle.std.proofs.Common.{◌≡◌, ◌≢◌, ◌⊎◌, inl, inr, ℕ, suc, ◌<◌, Bool, true, false, List, [], length, refl, sym, ap, subst, ◌∙◌, arith, append-nil, Option, Some, None, ℤ, pos, ◌<ℤ◌, ◌≤ℤ◌, take}
+use Rattle.std.proofs.Common.{◌≡◌, ◌≢◌, ◌⊎◌, inl, inr, ℕ, suc, ◌<◌, Bool, true, false, List, [], length, refl, sym}
+use Rattle.std.proofs.Common.{ap, subst, ◌∙◌, arith, append-nil, Option, Some, None, ℤ, pos, ◌<ℤ◌, ◌≤ℤ◌, take}
 use Rattle.std.specs.Prelude.{int_lt, map, slice_get}
 use Rattle.std.proofs.lemmas.Int.{ints}
 use Rattle.rational.specs.Windows.{Function}
@@ -37,9 +38,13 @@ no_more F most start (Some g) = rw (int_not_below g) refl
 
 -- the edges after an idle step: the node's number is noted, and all else is as it was
 pub record IsIdle (place : ℕ) (number : ℤ) (old new : Held) : Type 0 where
+  -- the edge notes its number
   pub here : edge_at new place ≡ with_number (edge_at old place) number
+  -- the others stay
   pub others : (j : ℕ) → j ≢ place → edge_at new j ≡ edge_at old j
+  -- there are as many
   pub edges : length new.edges ≡ length old.edges
+  -- and the start stays
   pub start : new.start ≡ old.start
 
 -- a number that is noted
@@ -80,6 +85,7 @@ module _ (m : Move) (w : Work) (e e' : Held) (can : CanMove m w e) (number : ℤ
           let lower : j < m.place = reader_above m.nodes can.nodes.formed m.place n side j at reads in
           ap (λ (x : Edge). x.seen) (idle.others j (omega (arith, lower))))
 
+  -- a node that gives out nothing has moved so
   pub idle_moved : HasMoved m w e e'
   idle_moved = record {
     more = [];
@@ -89,7 +95,8 @@ module _ (m : Move) (w : Work) (e e' : Held) (can : CanMove m w e) (number : ℤ
     parts = subst (λ o. AreNewParts (subformula m.nodes m.place) (trace_of m.header m.new) (shown_of m.nodes m.old m.place) o (map part_of [])) (sym same)
         (no_parts (subformula m.nodes m.place) (trace_of m.header m.new) (shown_of m.nodes m.old m.place));
     told = λ tr trace c.
-        subst (λ o. AreMore (Robustness (subformula m.nodes m.place) tr) (reach (take (suc m.place) m.nodes)) (first_time m.new.rows) (shown_of m.nodes m.old m.place) o []) (sym same)
+        subst (λ o. AreMore (Robustness (subformula m.nodes m.place) tr) (reach (take (suc m.place) m.nodes))
+        (first_time m.new.rows) (shown_of m.nodes m.old m.place) o []) (sym same)
         (no_more (Robustness (subformula m.nodes m.place) tr) (reach (take (suc m.place) m.nodes)) (first_time m.new.rows) (shown_of m.nodes m.old m.place));
     work = λ n at.
         work_on n at w (subst (λ k. IsWork m.nodes m.header m.old m.place k (seen_by k e) w) (some_is (sym can.at ∙ at)) can.work);

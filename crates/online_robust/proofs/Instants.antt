@@ -66,8 +66,11 @@ module _ (W : Window) (P : Function) (is : IsFunction P) where
 
 -- a window whose ends are at one time, each in or out
 pub record IsOneTime (from to : Rational) (a_in b_in : Bool) (at u : Rational) : Type 0 where
+  -- the time is one of the domain
   pub inside : Within from to u
+  -- not before the low end
   pub begins : Precedes a_in at u
+  -- and not behind the high one
   pub ends : Precedes b_in u at
 
 only_one : (from to : Rational) (a_in b_in : Bool) (at u : Rational) → IsOneTime from to a_in b_in at u → u ≈ at
@@ -86,7 +89,8 @@ open_none from to false false at u e h = lt_irrefl (lt_of_lt_of_le h.begins (le_
 -- the best over it, by what the window of one instant tells
 one_time_best : (side : Side) (W : Window) (P : Function) (from to : Rational) (a_in b_in : Bool) (at : Rational) (v : Extended) → IsFunction P
     → ((u : Rational) → W u → IsOneTime from to a_in b_in at u) → ((u : Rational) → IsOneTime from to a_in b_in at u → W u)
-    → MatchBool (if a_in then b_in else false) (with_outside P from to (nothing_of side) at v) (v ≈ᵉ nothing_of side) → IsBestOver side minus_infinity infinity W P v
+    → MatchBool (if a_in then b_in else false) (with_outside P from to (nothing_of side) at v) (v ≈ᵉ nothing_of side)
+    → IsBestOver side minus_infinity infinity W P v
 one_time_best side W P from to a_in b_in at v is out into told = by_case (if a_in then b_in else false) refl told
   where
     ins : (a_in b_in : Bool) (at : Rational) → (if a_in then b_in else false) ≡ true → Within from to at → IsOneTime from to a_in b_in at at
@@ -98,7 +102,8 @@ one_time_best side W P from to a_in b_in at v is out into told = by_case (if a_i
     apart u (inl lt) inside = let h = out u inside in not_lt_of_le (le_trans h.inside.above (le_of_same (only_one from to a_in b_in at u h))) lt
     apart u (inr lt) inside = let h = out u inside in not_lt_of_le (le_trans (ge_of_same (only_one from to a_in b_in at u h)) h.inside.below) lt
 
-    by_case : (b : Bool) → (if a_in then b_in else false) ≡ b → MatchBool b (with_outside P from to (nothing_of side) at v) (v ≈ᵉ nothing_of side) → IsBestOver side minus_infinity infinity W P v
+    by_case : (b : Bool) → (if a_in then b_in else false) ≡ b → MatchBool b (with_outside P from to (nothing_of side) at v)
+        (v ≈ᵉ nothing_of side) → IsBestOver side minus_infinity infinity W P v
     by_case true e (inl (inside, value)) =
         best_of_one W P is side at v (into at (ins a_in b_in at e inside)) (λ t h. only_one from to a_in b_in at t (out t h)) value
     by_case true e (inr (outside, none)) = best_of_none W P is side v (λ t h. apart t outside h) none
@@ -130,11 +135,17 @@ module _ (from to : Rational) (a : ℕ) (a_in b_in : Bool) (t u : Rational) wher
 
 -- what is so of the window's node
 pub record IsInstantNode (f : ℕ → Subformula) (place : ℕ) (tr : Trace) (n : Node) (z : Moved) : Type 0 where
+  -- the input is read on the left
   pub reads : IsReader n true z.of
+  -- there is no other
   pub only : (j : ℕ) (left : Bool) → IsReader n left j → (j ≡ z.of) × (left ≡ true)
+  -- it is looked back into by the offset
   pub back : reach_back n true ≡ z.by
+  -- the offset keeps within the node's reach
   pub own : IsOwnOffset z.by (own_reach n)
+  -- and does not pass its horizon
   pub far : (pos (horizon (f z.of)) +ℤ z.by) ≤ℤ pos (horizon (tree_of f place n))
+  -- the moved value is the node's
   pub value : (t : Rational) (v : Extended) → glance_over (Robustness (f z.of) tr) (start tr) (stop tr) z t v → Robustness (tree_of f place n) tr t v
 
 -- a window by its parts
@@ -146,7 +157,8 @@ made_is z of side by inside e g h k =
     ap (λ i. made i z.side z.by z.inside z) e ∙ ap (λ i. made of i z.by z.inside z) g ∙ ap (λ i. made of side i z.inside z) h ∙ ap (λ i. made of side by i z) k
 
 module _ (f : ℕ → Subformula) (place : ℕ) (tr : Trace) where
-  sole : (p : ℕ) (n : Node) → ((j : ℕ) → IsReader n true j → p ≡ j) → ((j : ℕ) → ¬ IsReader n false j) → (j : ℕ) (left : Bool) → IsReader n left j → (j ≡ p) × (left ≡ true)
+  sole : (p : ℕ) (n : Node) → ((j : ℕ) → IsReader n true j → p ≡ j) → ((j : ℕ) → ¬ IsReader n false j) → (j : ℕ) (left : Bool)
+      → IsReader n left j → (j ≡ p) × (left ≡ true)
   sole p n one none j true h = (sym (one j h), refl)
   sole p n one none j false h = absurd (none j h)
 
@@ -154,17 +166,20 @@ module _ (f : ℕ → Subformula) (place : ℕ) (tr : Trace) where
       → glance_over (Robustness (f p) tr) (start tr) (stop tr) (made p side (pos a) (if a_in then b_in else false) z) t v
       → IsBestOver side minus_infinity infinity (Ahead (start tr) (stop tr) a a a_in b_in t) (Robustness (f p) tr) v
   ahead_best side p a a_in b_in z t v h =
-      one_time_best side (Ahead (start tr) (stop tr) a a a_in b_in t) (Robustness (f p) tr) (start tr) (stop tr) a_in b_in (shifted t (pos a)) v (robust_is_function (f p) tr)
+      one_time_best side (Ahead (start tr) (stop tr) a a a_in b_in t) (Robustness (f p) tr) (start tr) (stop tr) a_in b_in
+      (shifted t (pos a)) v (robust_is_function (f p) tr)
       (λ u. out_ahead (start tr) (stop tr) a a_in b_in t u) (λ u. into_ahead (start tr) (stop tr) a a_in b_in t u) h
 
   behind_best : (side : Side) (p a : ℕ) (a_in b_in : Bool) (z : Moved) (t : Rational) (v : Extended)
       → glance_over (Robustness (f p) tr) (start tr) (stop tr) (made p side (neg_ℤ (pos a)) (if b_in then a_in else false) z) t v
       → IsBestOver side minus_infinity infinity (Behind (start tr) (stop tr) a (Some a) a_in b_in t) (Robustness (f p) tr) v
   behind_best side p a a_in b_in z t v h =
-      one_time_best side (Behind (start tr) (stop tr) a (Some a) a_in b_in t) (Robustness (f p) tr) (start tr) (stop tr) b_in a_in (shifted t (neg_ℤ (pos a))) v (robust_is_function (f p) tr)
+      one_time_best side (Behind (start tr) (stop tr) a (Some a) a_in b_in t) (Robustness (f p) tr) (start tr) (stop tr) b_in a_in
+      (shifted t (neg_ℤ (pos a))) v (robust_is_function (f p) tr)
       (λ u. out_behind (start tr) (stop tr) a a_in b_in t u) (λ u. into_behind (start tr) (stop tr) a a_in b_in t u) h
 
-  eventually_node : (p a : ℕ) (a_in b_in : Bool) (z : Moved) → IsInstantNode f place tr (N.Eventually p a a a_in b_in) (made p Greatest (pos a) (if a_in then b_in else false) z)
+  eventually_node : (p a : ℕ) (a_in b_in : Bool) (z : Moved)
+      → IsInstantNode f place tr (N.Eventually p a a a_in b_in) (made p Greatest (pos a) (if a_in then b_in else false) z)
   eventually_node p a a_in b_in z = record {
     reads = refl;
     only = sole p (N.Eventually p a a a_in b_in) (λ j h. h) (λ j h. h);
@@ -174,7 +189,8 @@ module _ (f : ℕ → Subformula) (place : ℕ) (tr : Trace) where
     value = λ t v h. ahead_best Greatest p a a_in b_in z t v h;
   }
 
-  always_node : (p a : ℕ) (a_in b_in : Bool) (z : Moved) → IsInstantNode f place tr (N.Always p a a a_in b_in) (made p Least (pos a) (if a_in then b_in else false) z)
+  always_node : (p a : ℕ) (a_in b_in : Bool) (z : Moved)
+      → IsInstantNode f place tr (N.Always p a a a_in b_in) (made p Least (pos a) (if a_in then b_in else false) z)
   always_node p a a_in b_in z = record {
     reads = refl;
     only = sole p (N.Always p a a a_in b_in) (λ j h. h) (λ j h. h);
@@ -184,7 +200,8 @@ module _ (f : ℕ → Subformula) (place : ℕ) (tr : Trace) where
     value = λ t v h. ahead_best Least p a a_in b_in z t v h;
   }
 
-  once_node : (p a : ℕ) (a_in b_in : Bool) (z : Moved) → IsInstantNode f place tr (N.Once p a (Some a) a_in b_in) (made p Greatest (neg_ℤ (pos a)) (if b_in then a_in else false) z)
+  once_node : (p a : ℕ) (a_in b_in : Bool) (z : Moved)
+      → IsInstantNode f place tr (N.Once p a (Some a) a_in b_in) (made p Greatest (neg_ℤ (pos a)) (if b_in then a_in else false) z)
   once_node p a a_in b_in z = record {
     reads = refl;
     only = sole p (N.Once p a (Some a) a_in b_in) (λ j h. h) (λ j h. h);
@@ -205,19 +222,24 @@ module _ (f : ℕ → Subformula) (place : ℕ) (tr : Trace) where
     value = λ t v h. behind_best Least p a a_in b_in z t v h;
   }
 
+  -- a node with a window of one instant is such
   pub instant : (n : Node) (z : Moved) → IsInstantOf n z → IsInstantNode f place tr n z
   instant (N.Eventually p a b a_in b_in) z (of, side, by, inside, same) =
       subst (λ k. IsInstantNode f place tr (N.Eventually p a k a_in b_in) z) same
-      (subst (IsInstantNode f place tr (N.Eventually p a a a_in b_in)) (sym (made_is z p Greatest (pos a) (if a_in then b_in else false) of side by inside)) (eventually_node p a a_in b_in z))
+      (subst (IsInstantNode f place tr (N.Eventually p a a a_in b_in))
+      (sym (made_is z p Greatest (pos a) (if a_in then b_in else false) of side by inside)) (eventually_node p a a_in b_in z))
   instant (N.Always p a b a_in b_in) z (of, side, by, inside, same) =
       subst (λ k. IsInstantNode f place tr (N.Always p a k a_in b_in) z) same
-      (subst (IsInstantNode f place tr (N.Always p a a a_in b_in)) (sym (made_is z p Least (pos a) (if a_in then b_in else false) of side by inside)) (always_node p a a_in b_in z))
+      (subst (IsInstantNode f place tr (N.Always p a a a_in b_in))
+      (sym (made_is z p Least (pos a) (if a_in then b_in else false) of side by inside)) (always_node p a a_in b_in z))
   instant (N.Once p a (Some b) a_in b_in) z (of, side, by, inside, same) =
       subst (λ k. IsInstantNode f place tr (N.Once p a (Some k) a_in b_in) z) same
-      (subst (IsInstantNode f place tr (N.Once p a (Some a) a_in b_in)) (sym (made_is z p Greatest (neg_ℤ (pos a)) (if b_in then a_in else false) of side by inside)) (once_node p a a_in b_in z))
+      (subst (IsInstantNode f place tr (N.Once p a (Some a) a_in b_in))
+      (sym (made_is z p Greatest (neg_ℤ (pos a)) (if b_in then a_in else false) of side by inside)) (once_node p a a_in b_in z))
   instant (N.Historically p a (Some b) a_in b_in) z (of, side, by, inside, same) =
       subst (λ k. IsInstantNode f place tr (N.Historically p a (Some k) a_in b_in) z) same
-      (subst (IsInstantNode f place tr (N.Historically p a (Some a) a_in b_in)) (sym (made_is z p Least (neg_ℤ (pos a)) (if b_in then a_in else false) of side by inside)) (historically_node p a a_in b_in z))
+      (subst (IsInstantNode f place tr (N.Historically p a (Some a) a_in b_in))
+      (sym (made_is z p Least (neg_ℤ (pos a)) (if b_in then a_in else false) of side by inside)) (historically_node p a a_in b_in z))
   instant (N.Once p a None a_in b_in) z is = absurd is
   instant (N.Historically p a None a_in b_in) z is = absurd is
   instant (N.Const c) z is = absurd is

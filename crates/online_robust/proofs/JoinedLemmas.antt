@@ -21,22 +21,39 @@ use Rattle.online_robust.specs.declared.line.MarginLine.TheVariants.{Point, Gap}
 
 -- lines that begin with a gap about the time and the point behind it
 pub record FirstGap (P : Function) (reach : ℕ) (at to : Rational) (lines : List MarginLine) : Type 0 where
+  -- where the gap begins
   pub a : Frac
+  -- where it ends
   pub b : Frac
+  -- its margin
   pub p : Margin
+  -- the time of the point behind it
   pub u : Frac
+  -- the point's margin
   pub v : Margin
+  -- the lines behind
   pub rest : List MarginLine
+  -- these are the lines
   pub is : lines ≡ Gap a b p ∷ Point u v ∷ rest
+  -- the gap has begun
   pub begun : value a ≤ʳ at
+  -- and ends at the point
   pub ends : value b ≈ value u
+  -- behind the time
   pub later : at <ʳ value b
+  -- the rest goes on from there
   pub joined : AreJoined (value u) to rest
+  -- the gap tells the margin
   pub gap : IsToldLine P (Gap a b p)
+  -- within the limits
   pub gap_fit : IsFitLine reach (Gap a b p)
+  -- so does the point
   pub point : IsToldLine P (Point u v)
+  -- within the limits
   pub point_fit : IsFitLine reach (Point u v)
+  -- and the rest
   pub told : AreTold P rest
+  -- within the limits
   pub fit : AreFit reach rest
 
 -- what is to be read before the end begins with a gap

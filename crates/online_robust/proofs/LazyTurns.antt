@@ -24,11 +24,17 @@ use Rattle.online_robust.proofs.WindowTurnings.{beginning, going, going_window, 
 
 -- a window that may go on up to a number, which is `end`
 pub record MaySweep (t : Turn) (z : Lazy) (e : Held) (to : ℕ) (b : Belongs t (Op.Sweep z) e to) (s : Sweep) (end : Rational) : Type 0 where
+  -- from where it tells
   pub from : Rational
+  -- which is where the node goes on
   pub from_is : from ≡ from_of t
+  -- the window is the node's
   pub window : s.window ≡ z.window
+  -- it may sweep up to the time of the turn
   pub whole_can : CanSweep (scope_of t z e to b (value s.place.at)) (own t z e to b) from (whole (pos to)) s e
+  -- and up to where it ends
   pub can : CanSweep (scope_of t z e to b (value s.place.at)) (own t z e to b) from end s e
+  -- its input has begun
   pub begun : pos (begin_of t) ≤ℤ front_at t.ended (pos t.now) (subformula t.nodes z.window.of)
 
 module _ (t : Turn) (z : Lazy) (e : Held) (to : ℕ) (b : Belongs t (Op.Sweep z) e to) (s : Sweep) (end : Rational) (same : end ≈ whole (pos to)) where
@@ -45,7 +51,8 @@ module _ (t : Turn) (z : Lazy) (e : Held) (to : ℕ) (b : Belongs t (Op.Sweep z)
   }
 
   -- one that is made now
-  pub may_begin : (none : z.sweep ≡ None) → slice_get (held_at e z.window.of) 0 ≢ None → IsBegun z.window (begin_of t) z.silent.last s → MaySweep t z e to b s end
+  pub may_begin : (none : z.sweep ≡ None) → slice_get (held_at e z.window.of) 0 ≢ None
+      → IsBegun z.window (begin_of t) z.silent.last s → MaySweep t z e to b s end
   may_begin none some k = record {
     from = (beginning t z e to b none some s k).0;
     from_is = (beginning t z e to b none some s k).1;
@@ -60,10 +67,13 @@ module _ (t : Turn) (z : Lazy) (e : Held) (to : ℕ) (b : Belongs t (Op.Sweep z)
     abbrev x : Scope
     x = scope_of t z e to b (value s.place.at)
 
-    pub step_told : (ks : List (Knot Margin)) → IsStretch (best_of (scope_of t z e to b (value s.place.at)) s.window) (reach_before t + own t z e to b) m.from end ks → IsSwept t to ks
+    -- what it tells is the node's margin
+    pub step_told : (ks : List (Knot Margin)) → IsStretch (best_of (scope_of t z e to b (value s.place.at)) s.window)
+        (reach_before t + own t z e to b) m.from end ks → IsSwept t to ks
     step_told ks is = window_told t z e to b (value s.place.at) end same m.from m.from_is ks
         (subst (λ (v : Window). IsStretch (best_of x v) (reach_before t + own t z e to b) m.from end ks) m.window is)
 
+    -- a refusal is one of the stream
     pub step_fault : (fault : OpFault Margin) → IsWindowFault (scope_of t z e to b (value s.place.at)) s.window end fault → IsStreamedFault t fault
     step_fault fault is = window_fault t z e to b (value s.place.at) end same fault (subst (λ (v : Window). IsWindowFault x v end fault) m.window is)
 
@@ -75,9 +85,11 @@ module _ (t : Turn) (z : Lazy) (e : Held) (to : ℕ) (b : Belongs t (Op.Sweep z)
       there None h = absurd h
       there (Some r) h = same_trans (subst (λ (u : Rational). u ≈ end) h.0 h.1) same
 
+      -- the edges are swept up to the time
       pub step_edges : Sheds (shifted end s.window.low) s.window.of e e' → HasSwept t e e' to
       step_edges shed = window_edges t z e to b (value s.place.at) end same s' e' (kept ∙ m.window) came (there s'.last last) m.begun
           (subst (λ (v : Window). Sheds (shifted end v.low) v.of e e') m.window shed)
 
+      -- and the operator stands there
       pub step_stands : (z' : Lazy) → z'.window ≡ z.window → z'.sweep ≡ Some s' → StandsNow t (Op.Sweep z') e' to
       step_stands z' window is = window_stands t z e to b (value s.place.at) end same m.from s s' z' e' m.whole_can m.window kept came m.begun last window is

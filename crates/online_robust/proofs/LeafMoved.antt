@@ -1,5 +1,6 @@
 -- What a constant or an atom leaves at a row.
-use Rattle.std.proofs.Common.{◌≡◌, ◌≢◌, ◌⊎◌, inl, inr, ℕ, suc, ◌<◌, ◌≤◌, ◌^◌, Bool, true, false, List, [], ◌∷◌, ◌++◌, length, refl, sym, ap, subst, ◌∙◌, arith, Option, Some, None, pos, ◌-ℤ◌, take, get_or}
+use Rattle.std.proofs.Common.{◌≡◌, ◌≢◌, ◌⊎◌, inl, inr, ℕ, suc, ◌<◌, ◌≤◌, ◌^◌, Bool, true, false, List, [], ◌∷◌, ◌++◌}
+use Rattle.std.proofs.Common.{length, refl, sym, ap, subst, ◌∙◌, arith, Option, Some, None, pos, ◌-ℤ◌, take, get_or}
 use Rattle.std.specs.Prelude.{IfSome, IsTrue, map, slice_get}
 use Rattle.std.proofs.lemmas.Int.{ints}
 use Rattle.std.proofs.lemmas.Option.{slice_get_within}
@@ -47,6 +48,7 @@ module _ (p : Subformula) (header : Header) (most : ℕ) (r : Row) (piece v : Ma
   number_flat : (n : ℕ) → horizon p ≡ 0 → front_at false (pos n) p ≡ pos n
   number_flat n flat = subst (λ h. pos n -ℤ pos h ≡ pos n) (sym flat) (omega (arith, ints))
 
+  -- a row is the number of a node that looks nowhere
   pub number_row : (rows : List Row) → horizon p ≡ 0 → IsTrace (record { header = header; rows = rows ++ r ∷ [] })
       → number_by false p (rows ++ r ∷ []) ≡ Some (pos r.time)
   number_row rows flat is =
@@ -59,6 +61,7 @@ module _ (p : Subformula) (header : Header) (most : ℕ) (r : Row) (piece v : Ma
       number_shown p false (rows ++ r ∷ []) (pos r.time) (number_row rows flat is)
       (let le = last_not_below header (rows ++ r ∷ []) is in let last = last_appended 0 rows r in omega (arith, ints, le, last))
 
+  -- its new lines are those of the row
   pub new_lines : (rows : List Row) → IsLeafAt p header rows (last_row_of rows) r piece v → IsTrace (record { header = header; rows = rows ++ r ∷ [] })
       → r.time ≤ 4294967295 → AreRowLines (last_row_of rows) r piece v more → NewLines rows
   new_lines [] leaf is small lines = (
@@ -69,7 +72,8 @@ module _ (p : Subformula) (header : Header) (most : ℕ) (r : Row) (piece v : Ma
         (first_told p header r piece v most leaf is small more lines tr trace c),
   )
   new_lines (q ∷ rows) leaf is small lines = (
-    subst (λ o. AreNewParts p (record { header = header; rows = q ∷ rows ++ r ∷ [] }) (shown_by false p (q ∷ rows)) o (map part_of more)) (sym (shown_row (q ∷ rows) leaf.flat is))
+    subst (λ o. AreNewParts p (record { header = header; rows = q ∷ rows ++ r ∷ [] }) (shown_by false p (q ∷ rows)) o (map part_of more))
+        (sym (shown_row (q ∷ rows) leaf.flat is))
         (later_parts p header r piece v most q rows leaf is small more lines),
     λ tr trace c.
         subst (λ o. AreMore (Robustness p tr) most q.time (shown_by false p (q ∷ rows)) o more) (sym (shown_row (q ∷ rows) leaf.flat is))
@@ -81,7 +85,8 @@ module _ (p : Subformula) (header : Header) (most : ℕ) (r : Row) (piece v : Ma
 module _ (m : Move) (w : Work) (e : Held) (can : CanMove m w e) (b : Binding) (before : Option Row) (r : Row) (row : IsRowNext m b before r)
     (piece v : Margin) (leaf : IsLeafAt (subformula m.nodes m.place) m.header m.old.rows before r piece v)
     (unread : (n : Node) → slice_get m.nodes m.place ≡ Some n → (left : Bool) (j : ℕ) → IsReader n left j → ⊥)
-    (works : (n : Node) (old new : Past) (seen seen' : List MarginLine) → IsWork m.nodes m.header old m.place n seen w → IsWork m.nodes m.header new m.place n seen' w)
+    (works : (n : Node) (old new : Past) (seen seen' : List MarginLine) → IsWork m.nodes m.header old m.place n seen w
+    → IsWork m.nodes m.header new m.place n seen' w)
     (e' : Held) (put : HasPutRow m.place before r piece v e e') where
   abbrev p : Subformula
   p = subformula m.nodes m.place
@@ -132,6 +137,7 @@ module _ (m : Move) (w : Work) (e : Held) (can : CanMove m w e) (b : Binding) (b
   new_is : shown_of m.nodes m.new m.place ≡ shown_by false p (m.old.rows ++ r ∷ [])
   new_is = ap (λ (q : Past). shown_by q.ended p q.rows) row.new
 
+  -- so a constant or an atom has moved
   pub leaf_moved : HasMoved m w e noted
   leaf_moved = record {
     more = put.0;
@@ -139,13 +145,16 @@ module _ (m : Move) (w : Work) (e : Held) (can : CanMove m w e) (b : Binding) (b
     number_is = ap (λ (q : Past). number_by q.ended p q.rows) row.new ∙ number_row p m.header most r piece v put.0 m.old.rows leaf.flat trace_now;
     got = got;
     parts =
-        subst (λ (q : Past). AreNewParts p (trace_of m.header q) (shown_of m.nodes m.old m.place) (shown_of m.nodes q m.place) (map part_of put.0)) (sym row.new)
-        (subst (λ o. AreNewParts p (record { header = m.header; rows = m.old.rows ++ r ∷ [] }) o (shown_by false p (m.old.rows ++ r ∷ [])) (map part_of put.0)) (sym old_open) new.0);
+        subst (λ (q : Past). AreNewParts p (trace_of m.header q) (shown_of m.nodes m.old m.place) (shown_of m.nodes q m.place) (map part_of put.0))
+        (sym row.new)
+        (subst (λ o. AreNewParts p (record { header = m.header; rows = m.old.rows ++ r ∷ [] }) o
+        (shown_by false p (m.old.rows ++ r ∷ [])) (map part_of put.0)) (sym old_open) new.0);
     told =
         subst (λ (q : Past). (tr : Trace) → IsTrace tr → Continues tr m.header q.rows q.ended
         → AreMore (Robustness p tr) most (first_time q.rows) (shown_of m.nodes m.old m.place) (shown_of m.nodes q m.place) put.0) (sym row.new)
         (λ tr trace c.
-        subst (λ o. AreMore (Robustness p tr) most (first_time (m.old.rows ++ r ∷ [])) o (shown_by false p (m.old.rows ++ r ∷ [])) put.0) (sym old_open) (new.1 tr trace c));
+        subst (λ o. AreMore (Robustness p tr) most (first_time (m.old.rows ++ r ∷ [])) o (shown_by false p (m.old.rows ++ r ∷ [])) put.0)
+        (sym old_open) (new.1 tr trace c));
     work = λ n at.
         works n m.old m.new (seen_by n e) (seen_by n noted)
         (subst (λ k. IsWork m.nodes m.header m.old m.place k (seen_by k e) w) (some_is (sym can.at ∙ at)) can.work);
@@ -157,6 +166,7 @@ module _ (m : Move) (w : Work) (e : Held) (can : CanMove m w e) (b : Binding) (b
 
 -- ---- constants
 
+-- a constant is such a node
 pub constant_leaf : (c : Bool) (header : Header) (rows : List Row) (before : Option Row) (r : Row)
     → IsLeafAt (constant c) header rows before r (constant_margin c) (constant_margin c)
 constant_leaf c header rows before r = record {
@@ -205,7 +215,8 @@ got_before : (q : Row) (rows : List Row) (r : Row) (more : List Row) → slice_g
 got_before q [] r more = refl
 got_before q (s ∷ rows) r more = got_before s rows r more
 
-module _ (nodes : List Node) (header : Header) (b : Binding) (scale : Scale) (bound : IsBound b (record { nodes = nodes; scale = scale }) header) (i : ℕ) (a : Atom)
+module _ (nodes : List Node) (header : Header) (b : Binding) (scale : Scale)
+    (bound : IsBound b (record { nodes = nodes; scale = scale }) header) (i : ℕ) (a : Atom)
     (found : slice_get nodes i ≡ Some (Leaf a)) where
   for_trace : (tr : Trace) → IsTrace tr → tr.header ≡ header → IsFor b i a tr
   for_trace tr is e = record {
@@ -215,12 +226,14 @@ module _ (nodes : List Node) (header : Header) (b : Binding) (scale : Scale) (bo
     rows = is;
   }
 
+  -- and an atom
   pub atom_leaf : (rows : List Row) (r : Row) (piece v : Margin) → IsAtomPiece b i (last_row_of rows) r piece → IsAtomValue b i r v
       → IsLeafAt (atom i a) header rows (last_row_of rows) r piece v
   atom_leaf rows r piece v is_piece is_value = record {
     flat = refl;
     here = λ tr trace c t e.
-        is_value.margin a tr t (for_trace tr trace c.same_header) (length rows, subst (λ l. slice_get l (length rows) ≡ Some r) (sym c.begins) (got_at rows r c.more)) e;
+        is_value.margin a tr t (for_trace tr trace c.same_header)
+        (length rows, subst (λ l. slice_get l (length rows) ≡ Some r) (sym c.begins) (got_at rows r c.more)) e;
     since = λ tr trace c. since rows is_piece tr trace c;
     within = is_value.within;
     limits = limits rows is_piece;
@@ -229,7 +242,8 @@ module _ (nodes : List Node) (header : Header) (b : Binding) (scale : Scale) (bo
   }
     where
       since : (rows : List Row) → IsAtomPiece b i (last_row_of rows) r piece → (tr : Trace) → IsTrace tr → Continues tr header (rows ++ r ∷ []) false
-          → IfSome (last_row_of rows) (λ f. (t : Rational) → row_time f <ʳ t → t <ʳ row_time r → Robustness (atom i a) tr t (value_at (margin_function piece) t))
+          → IfSome (last_row_of rows)
+          (λ f. (t : Rational) → row_time f <ʳ t → t <ʳ row_time r → Robustness (atom i a) tr t (value_at (margin_function piece) t))
       since [] is tr trace c = tt
       since (q ∷ rows) is tr trace c = λ t low high.
           is.0 a tr t (for_trace tr trace c.same_header) (
@@ -239,7 +253,8 @@ module _ (nodes : List Node) (header : Header) (b : Binding) (scale : Scale) (bo
           ) low high
 
       limits : (rows : List Row) → IsAtomPiece b i (last_row_of rows) r piece
-          → IfSome (last_row_of rows) (λ f. IsBounded (2 ^ 31) (value_at (margin_function piece) (row_time f)) × IsBounded (2 ^ 31) (value_at (margin_function piece) (row_time r)))
+          → IfSome (last_row_of rows)
+          (λ f. IsBounded (2 ^ 31) (value_at (margin_function piece) (row_time f)) × IsBounded (2 ^ 31) (value_at (margin_function piece) (row_time r)))
       limits [] is = tt
       limits (q ∷ rows) is = (is.2, is.3)
 

@@ -1,5 +1,6 @@
 -- A constant or an atom goes on by a row.
-use Rattle.std.proofs.Common.{◌≡◌, ◌⊎◌, inl, inr, ℕ, ◌<◌, ◌≤◌, ◌^◌, false, List, [], ◌∷◌, ◌++◌, length, refl, sym, ap, subst, arith, Option, Some, None, pos, ◌-ℤ◌, ◌<ℤ◌}
+use Rattle.std.proofs.Common.{◌≡◌, ◌⊎◌, inl, inr, ℕ, ◌<◌, ◌≤◌, ◌^◌, false, List, [], ◌∷◌, ◌++◌, length}
+use Rattle.std.proofs.Common.{refl, sym, ap, subst, arith, Option, Some, None, pos, ◌-ℤ◌, ◌<ℤ◌}
 use Rattle.std.specs.Prelude.{MatchBool, IfSome, map}
 use Rattle.std.proofs.lemmas.Int.{ints}
 use Rattle.rational.specs.Rational.{Rational, whole, ◌≈◌}
@@ -49,14 +50,22 @@ rows_before n time (r ∷ rows) more ok = (ok.0, ok.1, rows_before n r.time rows
 
 -- what a leaf is at a row and since the row before, in each trace that goes on from the rows
 pub record IsLeafAt (p : Subformula) (header : Header) (rows : List Row) (before : Option Row) (r : Row) (piece v : Margin) : Type 0 where
+  -- it looks nowhere
   pub flat : horizon p ≡ 0
+  -- it has that margin at the row
   pub here : (tr : Trace) → IsTrace tr → Continues tr header (rows ++ r ∷ []) false → (t : Rational) → t ≈ row_time r
       → Robustness p tr t (value_at (margin_function v) t)
+  -- and that one since the row before
   pub since : (tr : Trace) → IsTrace tr → Continues tr header (rows ++ r ∷ []) false
       → IfSome before (λ f. (t : Rational) → row_time f <ʳ t → t <ʳ row_time r → Robustness p tr t (value_at (margin_function piece) t))
+  -- within the limits
   pub within : (t : Rational) → IsBounded (2 ^ 31) (value_at (margin_function v) t)
-  pub limits : IfSome before (λ f. IsBounded (2 ^ 31) (value_at (margin_function piece) (row_time f)) × IsBounded (2 ^ 31) (value_at (margin_function piece) (row_time r)))
+  -- on the gap too
+  pub limits : IfSome before
+      (λ f. IsBounded (2 ^ 31) (value_at (margin_function piece) (row_time f)) × IsBounded (2 ^ 31) (value_at (margin_function piece) (row_time r)))
+  -- its base is the start of time
   pub base : margin_base v ≡ pos 0
+  -- or the row before
   pub base_since : IfSome before (λ f. (margin_base piece ≡ pos f.time) ⊎ (margin_base piece ≡ pos 0))
 
 bounded_at : (p : Margin) (t u : Rational) → t ≈ u → IsBounded (2 ^ 31) (value_at (margin_function p) u) → IsBounded (2 ^ 31) (value_at (margin_function p) t)
@@ -75,6 +84,7 @@ moved_base most n p le (inr e) = (omega (arith, ints, e), omega (arith, ints, e)
 module _ (p : Subformula) (header : Header) (r : Row) (piece v : Margin) (most : ℕ) where
   -- the first row
   module _ (leaf : IsLeafAt p header [] None r piece v) (is : IsTrace (record { header = header; rows = r ∷ [] })) (small : r.time ≤ 4294967295) where
+    -- the lines of the first row are its first parts
     pub first_parts : (more : List MarginLine) → AreRowLines None r piece v more
         → AreNewParts p (record { header = header; rows = r ∷ [] }) None (Some (pos r.time)) (map part_of more)
     first_parts more (at, when, e) =
@@ -87,6 +97,7 @@ module _ (p : Subformula) (header : Header) (r : Row) (piece v : Margin) (most :
           all_parts k [],
         )
 
+    -- and tell its margin
     pub first_told : (more : List MarginLine) → AreRowLines None r piece v more → (tr : Trace) → IsTrace tr → Continues tr header (r ∷ []) false
         → AreMore (Robustness p tr) most r.time None (Some (pos r.time)) more
     first_told more (at, when, e) tr trace c =
@@ -109,7 +120,8 @@ module _ (p : Subformula) (header : Header) (r : Row) (piece v : Margin) (most :
     before = let lt = last_below header q rows r is in let e = last_row_time q rows in omega (arith, lt, e)
 
     rising : (from at : Frac) → value from ≈ row_time f → value at ≈ row_time r → value from <ʳ value at
-    rising from at a b = lt_of_le_of_lt (le_of_same a) (lt_of_lt_of_le (lt_whole {j = pos f.time} {k = pos r.time} (omega (arith, ints, before))) (ge_of_same b))
+    rising from at a b = lt_of_le_of_lt (le_of_same a)
+        (lt_of_lt_of_le (lt_whole {j = pos f.time} {k = pos r.time} (omega (arith, ints, before))) (ge_of_same b))
 
     told_lines : (from at : Frac) → value from ≈ row_time f → value at ≈ row_time r → (tr : Trace) → IsTrace tr → Continues tr header (q ∷ rows ++ r ∷ []) false
         → AreTold (Robustness p tr) (Gap from at piece ∷ Point at v ∷ [])
@@ -132,6 +144,7 @@ module _ (p : Subformula) (header : Header) (r : Row) (piece v : Margin) (most :
         last_not_below_rows : q.time ≤ last_time q.time rows
         last_not_below_rows = last_from (length header.columns) q.time rows (rows_before (length header.columns) q.time rows (r ∷ []) is.rows.1)
 
+    -- the lines of a later row are its next parts
     pub later_parts : (more : List MarginLine) → AreRowLines (Some f) r piece v more
         → AreNewParts p so_far (shown_by false p (q ∷ rows)) (Some (pos r.time)) (map part_of more)
     later_parts more (from, at, a, b, e) =
@@ -153,6 +166,7 @@ module _ (p : Subformula) (header : Header) (r : Row) (piece v : Margin) (most :
           after_parts k (n ∷ []),
         )))
 
+    -- and tell its margin
     pub later_told : (more : List MarginLine) → AreRowLines (Some f) r piece v more → (tr : Trace) → IsTrace tr → Continues tr header (q ∷ rows ++ r ∷ []) false
         → AreMore (Robustness p tr) most q.time (shown_by false p (q ∷ rows)) (Some (pos r.time)) more
     later_told more (from, at, a, b, e) tr trace c =
@@ -162,7 +176,8 @@ module _ (p : Subformula) (header : Header) (r : Row) (piece v : Margin) (most :
         let lines : List MarginLine = Gap from at piece ∷ Point at v ∷ [] in
         subst (λ l. AreMore (Robustness p tr) most q.time (shown_by false p (q ∷ rows)) (Some (pos r.time)) l) (sym e)
         (subst (λ o. AreMore (Robustness p tr) most q.time o (Some (pos r.time)) lines) (sym old_is)
-        (subst (λ b. MatchBool b (AreTold (Robustness p tr) lines × AreFit most lines × AreJoined (whole (pos (last_time q.time rows))) (whole (pos r.time)) lines) (lines ≡ []))
+        (subst (λ b. MatchBool b
+        (AreTold (Robustness p tr) lines × AreFit most lines × AreJoined (whole (pos (last_time q.time rows))) (whole (pos r.time)) lines) (lines ≡ []))
         (sym (int_below (pos (last_time q.time rows)) (pos r.time) lt)) (
           told_lines from at a b tr trace c,
           (

@@ -28,6 +28,7 @@ module _ (t : Turn) (op : Operator) (e : Held) (to : ℕ) (b : Belongs t op e to
       by_end true = omega (arith, ints)
       by_end false = omega (arith, ints)
 
+  -- the input's front does not lie behind the end
   pub front_by_stop : whole front_of ≤ʳ stop t.trace
   front_by_stop = let le = front_by in let last = b.by_now in le_whole {j = front_of} {k = pos (last_time 0 t.trace.rows)} (omega (arith, ints, le, last))
 
@@ -51,6 +52,7 @@ module _ (t : Turn) (op : Operator) (e : Held) (to : ℕ) (b : Belongs t op e to
         by_end true same e = inr same
         by_end false same e = inl (omega (arith, ints, e, far))
 
+    -- the input is told as far as the window looks, or to the end
     pub told_as_far : (shifted (whole (pos to)) by ≤ʳ whole front_of) ⊎ ((whole front_of ≈ stop t.trace) × (whole (pos to) ≈ stop t.trace))
     told_as_far = by_limit limit
       where

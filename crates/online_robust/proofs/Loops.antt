@@ -76,7 +76,8 @@ module _ (p : Passing) where
     pub going_first : Going p 0 e stations
     going_first = record {
       start = can.start;
-      shows = shows_by p.nodes p.header (λ j. p.old) (past_at p 0) p.given e stations above can.nodes.some (λ j l. sym (past_above 0 j (omega arith))) can.shows;
+      shows = shows_by p.nodes p.header (λ j. p.old) (past_at p 0) p.given e stations above can.nodes.some
+          (λ j l. sym (past_above 0 j (omega arith))) can.shows;
     }
 
     -- the last
@@ -84,7 +85,8 @@ module _ (p : Passing) where
     gone_last i e' stations' all going = record {
       start = going.start;
       shows =
-          shows_by p.nodes p.header (past_at p i) (λ j. p.new) p.given e' stations' above can.nodes.some (λ j l. past_below i j (omega (arith, l, all))) going.shows;
+          shows_by p.nodes p.header (past_at p i) (λ j. p.new) p.given e' stations' above can.nodes.some
+          (λ j l. past_below i j (omega (arith, l, all))) going.shows;
     }
 
     module _ (i : ℕ) (e' : Held) (stations' : List Station) (st : Station) (within : i < length p.nodes) (here : slice_get stations' i ≡ Some st)
@@ -98,6 +100,7 @@ module _ (p : Passing) where
       abbrev works : (st.ahead ≡ horizon (subformula p.nodes i)) × IsWork p.nodes p.header (past_at p i i) i node (seen_by node e') st.work
       works = going.shows.works i node st found here
 
+      -- the node may move
       pub can_move : CanMove (move_of p i) st.work e'
       can_move = record {
         nodes = can.nodes;
@@ -116,20 +119,24 @@ module _ (p : Passing) where
             (going.shows.held j i node left found reads));
       }
 
+      -- by the row
       pub can_move_by_row : (b : Binding) (before : Option Row) (r : Row) (n : ℕ) → n ≡ i → IsRowNext (move_of p 0) b before r
           → CanMoveByRow (move_of p i) n st e' b before r
       can_move_by_row b before r n is row =
           (sym is, can_move, works.0, record { scale = row.scale; bound = row.bound; last = row.last; new = row.new })
 
+      -- or by the end
       pub can_move_by_end : (now n : ℕ) → n ≡ i → IsEndNext (move_of p 0) now → CanMoveByEnd (move_of p i) n st e' now
       can_move_by_end now n is end = (sym is, can_move, record { last = end.last; new = end.new })
 
       -- one more
-      pub going_next : (e'' : Held) (st' : Station) → st'.ahead ≡ st.ahead → HasMoved (move_of p i) st'.work e' e'' → Going p (suc i) e'' (slice_set stations' i st')
+      pub going_next : (e'' : Held) (st' : Station) → st'.ahead ≡ st.ahead → HasMoved (move_of p i) st'.work e' e''
+          → Going p (suc i) e'' (slice_set stations' i st')
       going_next e'' st' ahead moved = record {
         start = moved.start ∙ going.start;
         shows =
-            shows_moved p.nodes p.header can.nodes p.old p.new can.next can.trace i within (past_at p i) (past_at p (suc i)) (at_next i) p.given e' e'' st'.work moved
+            shows_moved p.nodes p.header can.nodes p.old p.new can.next can.trace i within (past_at p i) (past_at p (suc i))
+            (at_next i) p.given e' e'' st'.work moved
             stations' st st' here ahead refl going.shows;
       }
 

@@ -1,5 +1,6 @@
 -- Lines that are gone from the front of edges.
-use Rattle.std.proofs.Common.{◌≡◌, ◌≢◌, ℕ, zero, suc, ◌+◌, ◌-◌, ◌<◌, ◌≤◌, ◌⊎◌, inl, inr, List, [], ◌∷◌, Some, None, Option, refl, sym, ap, subst, ◌∙◌, length, drop, get_or, slice_get, arith, length-drop}
+use Rattle.std.proofs.Common.{◌≡◌, ◌≢◌, ℕ, zero, suc, ◌+◌, ◌-◌, ◌<◌, ◌≤◌, ◌⊎◌, inl, inr, List, [], ◌∷◌, Some, None}
+use Rattle.std.proofs.Common.{Option, refl, sym, ap, subst, ◌∙◌, length, drop, get_or, slice_get, arith, length-drop}
 use Rattle.std.specs.Prelude.{IfSome}
 use Rattle.std.proofs.lemmas.Bool.{cases_lt}
 use Rattle.std.proofs.lemmas.List.{get_or-set_other, get_or-set_same, length-set}
@@ -30,6 +31,7 @@ pub ended_later : (o : Option MarginLine) {l m : Rational} → l ≤ʳ m → IfS
 ended_later None le h = h
 ended_later (Some x) le h = le_trans h le
 
+-- what is lost by a limit is lost by a later one
 pub loses_later : {l m : Rational} {x y : Edge} → l ≤ʳ m → Loses l x y → Loses m x y
 loses_later {x = x} le h = record { count = h.count; is = h.is; ended = λ k below. ended_later (slice_get (held_of x) k) le (h.ended k below) }
 
@@ -66,9 +68,11 @@ pub loses_number : {limit : Rational} {x y : Edge} → Loses limit x y → y.num
 loses_number h = ap (λ (e : Edge). e.number) h.is
 
 module _ {limit : Rational} {i : ℕ} where
+  -- nothing is lost
   pub loses_at_none : (e : Held) → LosesAt limit i e e
   loses_at_none e = record { here = loses_none limit (edge_at e i); others = λ j a. refl; edges = refl; start = refl }
 
+  -- what is lost in two steps is lost
   pub loses_at_both : {x y z : Held} → LosesAt limit i x y → LosesAt limit i y z → LosesAt limit i x z
   loses_at_both h k = record {
     here = loses_both h.here k.here;
@@ -100,13 +104,16 @@ took_held i old new within taken =
     ap held_of (ap (λ (es : List Edge). get_or es i no_edge) taken ∙ get_or-set_same old.edges i (without 1 (edge_at old i)) no_edge within)
     ∙ held_of-without 1 (edge_at old i)
 
+-- and lost by a later limit
 pub loses_at_later : {l m : Rational} {i : ℕ} {x y : Held} → l ≤ʳ m → LosesAt l i x y → LosesAt m i x y
 loses_at_later le h = record { here = loses_later le h.here; others = h.others; edges = h.edges; start = h.start }
 
 module _ {limit : Rational} {i k : ℕ} where
+  -- nothing is lost of two edges
   pub both_none : (e : Held) → LosesAtBoth limit i k e e
   both_none e = record { left = loses_none limit (edge_at e i); right = loses_none limit (edge_at e k); others = λ j a b. refl; edges = refl; start = refl }
 
+  -- what is lost in two steps is lost
   pub both_both : {x y z : Held} → LosesAtBoth limit i k x y → LosesAtBoth limit i k y z → LosesAtBoth limit i k x z
   both_both h g = record {
     left = loses_both h.left g.left;
@@ -126,5 +133,6 @@ module _ {limit : Rational} {i k : ℕ} where
     start = g.start ∙ h.start;
   }
 
+-- and lost by a later limit
 pub both_later : {l m : Rational} {i k : ℕ} {x y : Held} → l ≤ʳ m → LosesAtBoth l i k x y → LosesAtBoth m i k x y
 both_later le h = record { left = loses_later le h.left; right = loses_later le h.right; others = h.others; edges = h.edges; start = h.start }

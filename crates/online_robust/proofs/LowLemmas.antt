@@ -1,11 +1,14 @@
 -- How the low end of a window goes on over its input.
-use Rattle.std.proofs.Common.{◌≡◌, ◌≢◌, ◌⊎◌, inl, inr, ℕ, zero, suc, ◌+◌, ◌-◌, ◌<◌, ◌≤◌, ◌^◌, Bool, true, false, List, [], ◌∷◌, ◌++◌, Option, Some, None, refl, sym, ap, subst, ◌∙◌, length, drop, get_or, slice_get, append_assoc, arith}
+use Rattle.std.proofs.Common.{◌≡◌, ◌≢◌, ◌⊎◌, inl, inr, ℕ, zero, suc, ◌+◌, ◌-◌, ◌<◌, ◌≤◌, ◌^◌, Bool}
+use Rattle.std.proofs.Common.{true, false, List, [], ◌∷◌, ◌++◌, Option, Some, None, refl, sym, ap}
+use Rattle.std.proofs.Common.{subst, ◌∙◌, length, drop, get_or, slice_get, append_assoc, arith}
 use Rattle.std.specs.Prelude.{IfSome, MatchBool, MatchOption}
 use Rattle.std.proofs.lemmas.List.{get_or-set_same}
 use Rattle.rational.specs.Time.{Rational, shifted, ◌≈◌, ◌≤ʳ◌, ◌<ʳ◌}
 use Rattle.rational.specs.Extended.{value_at}
 use Rattle.rational.specs.Windows.{Function}
-use Rattle.rational.proofs.Order.{ge_of_same, le_of_lt, le_of_same, le_refl, le_trans, lt_of_le_of_lt, lt_of_lt_of_le, lt_irrefl, not_lt_of_le, same_refl, same_sym, same_trans}
+use Rattle.rational.proofs.Order.{ge_of_same, le_of_lt, le_of_same, le_refl, le_trans, lt_of_le_of_lt}
+use Rattle.rational.proofs.Order.{lt_of_lt_of_le, lt_irrefl, not_lt_of_le, same_refl, same_sym, same_trans}
 use Rattle.rational.proofs.TimeLemmas.{same_shifted}
 use Rattle.frac128.specs.Value.{value}
 use Rattle.frac128.specs.declared.frac.Frac.{Frac}
@@ -17,7 +20,8 @@ use Rattle.online_robust.specs.Held.{Edge, Held, edge_at, fresh_at, held_at, hel
 use Rattle.online_robust.specs.Queues.{StandsFor}
 use Rattle.online_robust.specs.Reading.{IsThere, Loses, LosesAt}
 use Rattle.online_robust.specs.Sweeping.{AreBy, AreFrozen, AreTicks, EndsAt, IsBefore, IsFrozen, IsNoKnot, IsOn, IsUpTo, Mark, Runs, last_gap}
-use Rattle.online_robust.specs.Windows.{AreSeen, AreStanding, IsAt, IsLow, IsSpread, IsStanding, IsToCome, Scope, Sheds, before_start, gap_of, high_at, input_of, low_at, no_gap}
+use Rattle.online_robust.specs.Windows.{AreSeen, AreStanding, IsAt, IsLow, IsSpread, IsStanding, IsToCome}
+use Rattle.online_robust.specs.Windows.{Scope, Sheds, before_start, gap_of, high_at, input_of, low_at, no_gap}
 use Rattle.online_robust.specs.declared.ends.Gap.{Gap}
 use Rattle.online_robust.specs.declared.line.MarginLine.{MarginLine}
 use Rattle.online_robust.specs.declared.line.MarginLine.TheVariants as L
@@ -44,23 +48,39 @@ before_own Q reach from low (k ∷ marks) runs = by_until low.until runs.1
     by_until (Some u) e = lt_of_lt_of_le runs.2 (ge_of_same e)
 
 module _ (x : Scope) (w : Window) (begin : Frac) (none : Margin) (low high : Gap) (q : Queue Margin) (seen fresh : List MarginLine) (l h : Rational)
-    (s : IsSpread x w begin none low high q seen fresh l h) (ends : EndsAt low.until l) (ahead : Rational) (order : l <ʳ ahead) (reaches : IsUpTo ahead high.until) where
+    (s : IsSpread x w begin none low high q seen fresh l h) (ends : EndsAt low.until l) (ahead : Rational) (order : l <ʳ ahead)
+    (reaches : IsUpTo ahead high.until) where
   -- what the low end stands on: the first mark
   pub record Leaves : Type 0 where
+    -- the first knot under the window
     pub k : Mark
+    -- the knots behind it
     pub marks : List Mark
+    -- these are the knots
     pub is : s.marks ≡ k ∷ marks
+    -- the low end is at the first
     pub here : value k.at ≈ l
+    -- the others go on from it
     pub runs : Runs (input_of x w.side) x.reach (value k.at) k.after marks
+    -- the input has its margin there
     pub point : IsThere (input_of x w.side) x.reach (value k.at) k.point
+    -- its time is a tick
     pub tick : IsTick (value k.at)
+    -- and so are the others'
     pub ticks : AreTicks marks
+    -- they lie under the window
     pub by : AreBy h marks
+    -- the high end's gap is the last one
     pub last : high ≡ last_gap k.after marks
+    -- the gap behind it stands on the edge
     pub standing : ((k.after.stands ≡ true) ⊎ ((k.after ≡ no_gap none) × (marks ≡ []))) × AreStanding none marks
+    -- the lines behind it
     pub rest : List MarginLine
+    -- the edge holds the low gap, the knot and those
     pub front : IsStanding low seen (L.Point k.at k.point ∷ rest)
+    -- which are what was read
     pub seen_is : AreSeen k.after marks rest
+    -- and what they give are the constants
     pub frozen : AreFrozen w.side (shifted (start x.trace) w.low) low (k ∷ marks) s.constants
 
   by_marks : (ms : List Mark) → s.marks ≡ ms → Leaves
@@ -93,6 +113,7 @@ module _ (x : Scope) (w : Window) (begin : Frac) (none : Margin) (low high : Gap
       one_end None a b = absurd a
       one_end (Some u) a b = same_trans (same_sym a) b
 
+  -- the low end leaves a knot
   pub leaves : Leaves
   leaves = by_marks s.marks refl
 
@@ -135,6 +156,7 @@ module _ (x : Scope) (w : Window) (begin : Frac) (none : Margin) (low high : Gap
       up None b = tt
       up (Some u) b = le_trans (ge_of_same c.here) (le_of_lt b)
 
+  -- it goes on in the gap behind it
   pub low_goes : (c : Leaves) → IsBefore l c.k.after.until
   low_goes c = up c.k.after.until (before_own (input_of x w.side) x.reach (value c.k.at) c.k.after c.marks c.runs)
     where
@@ -190,11 +212,15 @@ module _ (i : ℕ) (e mid new : Held) (low : Gap) (k : Mark) (rest : List Margin
     (ends : EndsAt low.until limit) (here : value k.at ≈ limit) where
   -- the low gap is gone from the edge
   pub record GapGone : Type 0 where
+    -- the knot's line is the first that was read
     pub seen : (edge_at mid i).seen ≡ L.Point k.at k.point ∷ rest
+    -- and the rest is unread
     pub fresh : (edge_at mid i).fresh ≡ (edge_at e i).fresh
+    -- what was before it is gone
     pub lost : LosesAt limit i e mid
 
-  by_stands : (b : Bool) → low.stands ≡ b → MatchBool b ((a c : Frac) × (low.until ≡ Some c) × ((edge_at e i).seen ≡ L.Gap a c low.shape ∷ L.Point k.at k.point ∷ rest))
+  by_stands : (b : Bool) → low.stands ≡ b
+      → MatchBool b ((a c : Frac) × (low.until ≡ Some c) × ((edge_at e i).seen ≡ L.Gap a c low.shape ∷ L.Point k.at k.point ∷ rest))
       ((edge_at e i).seen ≡ L.Point k.at k.point ∷ rest)
       → MatchBool b ((mid.edges ≡ with_edge e i (without 1 (edge_at e i))) × (mid.start ≡ e.start)) (mid ≡ e) → GapGone
   by_stands true is (a, c, until, seen) (taken, start') =
@@ -212,9 +238,11 @@ module _ (i : ℕ) (e mid new : Held) (low : Gap) (k : Mark) (rest : List Margin
     lost = subst (LosesAt limit i e) (sym same) (loses_at_none e);
   }
 
+  -- the low gap's line is gone
   pub gap_gone : GapGone
   gap_gone = by_stands low.stands refl front dropped
 
+  -- the knot's line is the first that is held
   pub point_first : slice_get (held_at mid i) 0 ≡ Some (L.Point k.at k.point)
   point_first = ap (λ (l : List MarginLine). slice_get (l ++ (edge_at mid i).fresh) 0) gap_gone.seen
 
@@ -230,9 +258,11 @@ module _ (i : ℕ) (e mid new : Held) (low : Gap) (k : Mark) (rest : List Margin
     pub new_seen : (edge_at new i).seen ≡ rest
     new_seen = ap (λ (y : Edge). y.seen) new_is
 
+    -- the unread lines stay
     pub new_fresh : (edge_at new i).fresh ≡ (edge_at e i).fresh
     new_fresh = ap (λ (y : Edge). y.fresh) new_is ∙ gap_gone.fresh
 
+    -- the knot's line is gone too
     pub both_gone : LosesAt limit i e new
     both_gone = loses_at_both gap_gone.lost
         (took limit i mid new (L.Point k.at k.point) mid_within taken start_new point_first (le_of_same here))
@@ -287,14 +317,19 @@ module _ (x : Scope) (s : Sweep) (e mid : Held) (at : IsAt x s e) (low : IsLow x
   first_line : slice_get (held_at mid s.window.of) 0 ≡ Some (L.Point leaving.k.at leaving.k.point)
   first_line = point_first s.window.of e mid mid s.place.low leaving.k leaving.rest (low_at x s.window) at.within leaving.front dropped low.ends leaving.here
 
+  -- there is a line
   pub some_line : slice_get (held_at mid s.window.of) 0 ≡ None → ⊥
   some_line none = absurd (let f : Some (L.Point leaving.k.at leaving.k.point) ≡ None = sym first_line ∙ none in cc)
 
   module _ (new : Held) (line : MarginLine) (next : Gap) (first : slice_get (held_at mid s.window.of) 0 ≡ Some line)
       (taken : new.edges ≡ with_edge mid s.window.of (without 1 (edge_at mid s.window.of))) (start_new : new.start ≡ mid.start)
       (found : MatchOption (slice_get (held_at new s.window.of) 0) (next ≡ no_gap s.none) (λ l. next ≡ gap_of l)) where
+    -- it is the knot's
     pub line_is : line ≡ L.Point leaving.k.at leaving.k.point
-    line_is = let f : Some line ≡ Some (L.Point leaving.k.at leaving.k.point) = sym first ∙ first_line in let g : line ≡ L.Point leaving.k.at leaving.k.point = cc in g
+    line_is =
+        let f : Some line ≡ Some (L.Point leaving.k.at leaving.k.point) = sym first ∙ first_line in
+        let g : line ≡ L.Point leaving.k.at leaving.k.point = cc in
+        g
 
     seen_is : (edge_at new s.window.of).seen ≡ leaving.rest
     seen_is = new_seen s.window.of e mid new s.place.low leaving.k leaving.rest (low_at x s.window) at.within leaving.front dropped low.ends leaving.here taken
@@ -308,15 +343,18 @@ module _ (x : Scope) (s : Sweep) (e mid : Held) (at : IsAt x s e) (low : IsLow x
     gone_lines = both_gone s.window.of e mid new s.place.low leaving.k leaving.rest (low_at x s.window) at.within leaving.front dropped low.ends leaving.here
         taken start_new
 
+    -- nothing was lost but what may be
     pub shed : Sheds (low_at x s.window) s.window.of e new
     shed = sheds_of (low_at x s.window) s.window.of e new gone_lines
 
+    -- the new low gap is that behind the knot
     pub next_is : next ≡ leaving.k.after
     next_is = front_is x s.none leaving.k leaving.marks s.place.high leaving.rest (fresh_at e s.window.of) leaving.standing.0 leaving.seen_is leaving.last
         at.spread.to_come next
         (subst (λ (l : List MarginLine). MatchOption (slice_get l 0) (next ≡ no_gap s.none) (λ l. next ≡ gap_of l))
         (ap (λ (l : List MarginLine). l ++ (edge_at new s.window.of).fresh) seen_is ∙ ap (λ (l : List MarginLine). leaving.rest ++ l) fresh_is) found)
 
+    -- the edge is still there
     pub within_new : s.window.of < length new.edges
     within_new = let count = gone_lines.edges in let within = at.within in omega (arith, count, within)
 
@@ -341,6 +379,7 @@ module _ (x : Scope) (s : Sweep) (e mid : Held) (at : IsAt x s e) (low : IsLow x
         by_kind (inl le) = inr (le_trans le (le_of_same start_same))
         by_kind (inr one) = inl one
 
+    -- what is known of the knot is known of its line
     pub knot_is : (u : Frac) (m : Margin) → u ≡ end_of line → m ≡ margin_of line → shifted (value s.start) s.window.low <ʳ value u
         → (IsOneLine s.place.low.shape m next.shape (value u) → ⊥) → ¬ IsNoKnot (shifted (start x.trace) s.window.low) s.place.low leaving.k
     knot_is u m a f counts not (inr le) =
@@ -365,6 +404,7 @@ module _ (x : Scope) (s : Sweep) (e mid : Held) (at : IsAt x s e) (low : IsLow x
         (λ (l : List MarginLine). IsSpread x s.window s.start s.none leaving.k.after s.place.high q leaving.rest l (low_at x s.window) (high_at x s.window))
         (sym fresh_is) spread))
 
+    -- a knot that gives none leaves the constants
     pub plain_spread : IsNoKnot (shifted (start x.trace) s.window.low) s.place.low leaving.k
         → IsSpread x s.window s.start s.none next s.place.high s.among (edge_at new s.window.of).seen (fresh_at new s.window.of) (low_at x s.window)
         (high_at x s.window)
@@ -372,6 +412,7 @@ module _ (x : Scope) (s : Sweep) (e mid : Held) (at : IsAt x s e) (low : IsLow x
         (left_plain x s.window s.start s.none s.place.low s.place.high s.among (edge_at e s.window.of).seen (fresh_at e s.window.of)
         (low_at x s.window) (high_at x s.window) at.spread low.ends low.ahead low.order low.reaches leaving plain)
 
+    -- a knot that gives one takes the first with it
     pub frozen_spread : (q : Queue Margin) → ¬ IsNoKnot (shifted (start x.trace) s.window.low) s.place.low leaving.k → q.side ≡ s.among.side
         → ((d : Margin) (cs : List Margin)
         → StandsFor margin_function s.among.older.items s.among.newer.items s.among.side s.among.best (d ∷ cs)
@@ -382,6 +423,7 @@ module _ (x : Scope) (s : Sweep) (e mid : Held) (at : IsAt x s e) (low : IsLow x
         (left_frozen x s.window s.start s.none s.place.low s.place.high s.among (edge_at e s.window.of).seen (fresh_at e s.window.of)
         (low_at x s.window) (high_at x s.window) at.spread low.ends low.ahead low.order low.reaches leaving q knot same leave)
 
+    -- the low end lies before the end of its gap
     pub before_goes : IsBefore (low_at x s.window) next.until
     before_goes = subst (λ (g : Gap). IsBefore (low_at x s.window) g.until) (sym next_is)
         (low_goes x s.window s.start s.none s.place.low s.place.high s.among (edge_at e s.window.of).seen (fresh_at e s.window.of)
@@ -393,5 +435,6 @@ module _ (x : Scope) (s : Sweep) (e mid : Held) (at : IsAt x s e) (low : IsLow x
         (there_same (input_of x s.window.side) x.reach (value leaving.k.at) (low_at x s.window) leaving.k.point (input_is_function x s.window.side)
         leaving.here leaving.point)
 
+    -- the knot's time is a tick
     pub line_tick : (u : Frac) → u ≡ end_of line → IsTick (value u)
     line_tick u a = subst (λ (g : Frac). IsTick (value g)) (sym (a ∙ ap end_of line_is)) leaving.tick

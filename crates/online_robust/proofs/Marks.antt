@@ -18,6 +18,7 @@ use Rattle.online_robust.specs.declared.line.MarginLine.{MarginLine}
 use Rattle.online_robust.specs.declared.line.MarginLine.TheVariants as L
 use Rattle.online_robust.proofs.WindowLaw.{before_of_end}
 
+-- a knot more at a tick
 pub ticks_more : (marks : List Mark) (k : Mark) → AreTicks marks → IsTick (value k.at) → AreTicks (marks ++ k ∷ [])
 ticks_more [] k ticks tick = (tick, tt)
 ticks_more (n ∷ marks) k ticks tick = (ticks.0, ticks_more marks k ticks.1 tick)
@@ -27,10 +28,12 @@ pub last_more : (low : Gap) (marks : List Mark) (k : Mark) → last_gap low (mar
 last_more low [] k = refl
 last_more low (n ∷ marks) k = last_more n.after marks k
 
+-- a knot more under the window
 pub by_more : (t : Rational) (marks : List Mark) (k : Mark) → AreBy t marks → value k.at ≤ʳ t → AreBy t (marks ++ k ∷ [])
 by_more t [] k by le = (le, tt)
 by_more t (n ∷ marks) k by le = (by.0, by_more t marks k by.1 le)
 
+-- a knot more goes on from those before
 pub runs_more : (Q : Function) (reach : ℕ) (from : Rational) (low : Gap) (marks : List Mark) (k : Mark) → Runs Q reach from low marks
     → EndsAt (last_gap low marks).until (value k.at) → IsThere Q reach (value k.at) k.point → IsOn Q reach (value k.at) k.after
     → IsBefore (value k.at) k.after.until → Runs Q reach from low (marks ++ k ∷ [])
@@ -44,11 +47,13 @@ module _ (side : Side) (limit : Rational) where
       → AreFrozen side limit low (marks ++ k ∷ []) cs
   frozen_none low [] k cs frozen skip = inl (skip, frozen)
   frozen_none low (n ∷ marks) k cs (inl (skip, frozen)) skip' = inl (skip, frozen_none n.after marks k cs frozen skip')
-  frozen_none low (n ∷ marks) k cs (inr (knot, (c, rest, is, one, frozen))) skip' = inr (knot, (c, rest, is, one, frozen_none n.after marks k rest frozen skip'))
+  frozen_none low (n ∷ marks) k cs (inr (knot, (c, rest, is, one, frozen))) skip' =
+      inr (knot, (c, rest, is, one, frozen_none n.after marks k rest frozen skip'))
 
   -- and one that does
   pub frozen_more : (low : Gap) (marks : List Mark) (k : Mark) (cs : List Margin) (c : Margin) → AreFrozen side limit low marks cs
-      → ¬ IsNoKnot limit (last_gap low marks) k → IsFrozen side (last_gap low marks).shape k.point k.after.shape (value k.at) c → AreFrozen side limit low (marks ++ k ∷ []) (cs ++ c ∷ [])
+      → ¬ IsNoKnot limit (last_gap low marks) k → IsFrozen side (last_gap low marks).shape k.point k.after.shape (value k.at) c
+      → AreFrozen side limit low (marks ++ k ∷ []) (cs ++ c ∷ [])
   frozen_more low [] k cs c frozen knot one = inr (knot, (c, [], ap (λ (l : List Margin). l ++ c ∷ []) frozen, one, refl))
   frozen_more low (n ∷ marks) k cs c (inl (skip, frozen)) knot one = inl (skip, frozen_more n.after marks k cs c frozen knot one)
   frozen_more low (n ∷ marks) k cs c (inr (knot', (d, rest, is, one', frozen))) knot one =
@@ -63,6 +68,7 @@ standing_more gap lines rest more h = by_stands gap.stands h
     by_stands true (a, c, until, is) = (a, c, until, ap (λ (l : List MarginLine). l ++ more) is)
     by_stands false is = ap (λ (l : List MarginLine). l ++ more) is
 
+-- and its lines are read behind theirs
 pub seen_more : (low : Gap) (marks : List Mark) (k : Mark) (lines tail : List MarginLine) → AreSeen low marks lines → IsStanding k.after tail []
     → AreSeen low (marks ++ k ∷ []) (lines ++ L.Point k.at k.point ∷ tail)
 seen_more low [] k lines tail seen stands = (tail, standing_more low lines [] (L.Point k.at k.point ∷ tail) seen, stands)

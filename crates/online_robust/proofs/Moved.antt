@@ -1,5 +1,6 @@
 -- What a network shows once one node more has gone on.
-use Rattle.std.proofs.Common.{◌≡◌, ◌≢◌, inl, inr, ℕ, suc, zero, ◌-◌, ◌<◌, Bool, false, List, [], ◌∷◌, ◌++◌, length, refl, sym, ap, subst, ◌∙◌, arith, append_assoc, Some, ℤ}
+use Rattle.std.proofs.Common.{◌≡◌, ◌≢◌, inl, inr, ℕ, suc, zero, ◌-◌, ◌<◌, Bool, false, List, [], ◌∷◌}
+use Rattle.std.proofs.Common.{◌++◌, length, refl, sym, ap, subst, ◌∙◌, arith, append_assoc, Some, ℤ}
 use Rattle.std.specs.Prelude.{slice_get, slice_set, slice_index_or}
 use Rattle.std.proofs.lemmas.Bool.{cases_eq}
 use Rattle.std.proofs.lemmas.Option.{slice_get_within}
@@ -38,6 +39,7 @@ slice_get-set_other (y ∷ xs) zero (suc j) x h = refl
 slice_get-set_other (y ∷ xs) (suc i) zero x h = refl
 slice_get-set_other (y ∷ xs) (suc i) (suc j) x h = slice_get-set_other xs i j x (λ e. h (ap suc e))
 
+-- a list has as many items once one was put in place
 pub length-slice_set : {X : Type 0} (xs : List X) (i : ℕ) (x : X) → length (slice_set xs i x) ≡ length xs
 length-slice_set [] i x = refl
 length-slice_set (y ∷ xs) zero x = refl
@@ -50,10 +52,15 @@ held_of-more x more f = sym (append_assoc x.seen x.fresh more)
 
 -- the pasts of the nodes before one of them goes on, and after
 pub record AtNext (i : ℕ) (old new : Past) (at after : ℕ → Past) : Type 0 where
+  -- the node was as before
   pub was : at i ≡ old
+  -- it is as after
   pub is : after i ≡ new
+  -- the nodes before it have gone on
   pub below : (j : ℕ) → j < i → at j ≡ new
+  -- those behind it have not
   pub above : (j : ℕ) → i < j → at j ≡ old
+  -- no other node has changed
   pub others : (j : ℕ) → j ≢ i → after j ≡ at j
 
 module _ (nodes : List Node) (header : Header) (streamed : AreStreamed nodes) (old new : Past) (next : IsNext old new) (trace : IsTrace (trace_of header new))
@@ -77,7 +84,8 @@ module _ (nodes : List Node) (header : Header) (streamed : AreStreamed nodes) (o
   unread r n left j found reads other m side here read =
       other (one_reader nodes streamed.formed.post_order r i n m left side j found here reads read)
 
-  held_moved : (stations : List Station) → Shows nodes header at given e stations → (j r : ℕ) (n : Node) (left : Bool) → slice_get nodes r ≡ Some n → IsReader n left j
+  held_moved : (stations : List Station) → Shows nodes header at given e stations → (j r : ℕ) (n : Node) (left : Bool)
+      → slice_get nodes r ≡ Some n → IsReader n left j
       → IsHeld nodes header (after j) j (after r) r (reach_back n left) (held_at e' j)
   held_moved stations shows j r n left found reads = elim (cases_eq r i) [
     | inl here ↦
@@ -102,13 +110,15 @@ module _ (nodes : List Node) (header : Header) (streamed : AreStreamed nodes) (o
               (subst (λ q. IsHeld nodes header q j old r (reach_back n left) (held_at e j)) was
               (subst (λ q. IsHeld nodes header (at j) j q r (reach_back n left) (held_at e j)) far mine)) in
               let grown : IsHeld nodes header new i old r (reach_back n left) (held_at e i ++ moved.more) =
-              held_grows nodes header streamed i r n left found (subst (λ k. IsReader n left k) own reads) old new next (held_at e i) moved.more trace before are_next in
+              held_grows nodes header streamed i r n left found (subst (λ k. IsReader n left k) own reads) old new next
+              (held_at e i) moved.more trace before are_next in
               subst (λ q. IsHeld nodes header (after j) j q r (reach_back n left) (held_at e' j)) (sym (reader ∙ far))
               (subst (λ q. IsHeld nodes header q j old r (reach_back n left) (held_at e' j)) (sym is)
               (subst (λ k. IsHeld nodes header new k old r (reach_back n left) (held_at e' k)) (sym own)
               (subst (λ l. IsHeld nodes header new i old r (reach_back n left) l) (sym got) grown)))
           | inr other ↦
-              let same : held_at e' j ≡ held_at e j = ap held_of (moved.others j other (λ m side here read. unread r n left j found reads there m side here read)) in
+              let same : held_at e' j ≡ held_at e j =
+              ap held_of (moved.others j other (λ m side here read. unread r n left j found reads there m side here read)) in
               subst (λ q. IsHeld nodes header (after j) j q r (reach_back n left) (held_at e' j)) (sym reader)
               (subst (λ q. IsHeld nodes header q j (at r) r (reach_back n left) (held_at e' j)) (sym (pasts.others j other))
               (subst (λ l. IsHeld nodes header (at j) j (at r) r (reach_back n left) l) (sym same) mine))
@@ -194,6 +204,7 @@ module _ (nodes : List Node) (header : Header) (streamed : AreStreamed nodes) (o
         (before.0, subst (λ s. IsWork nodes header (at j) j n s x.work) (sym seen) before.1)
   ]
 
+  -- the network shows what it did, with the node moved
   pub shows_moved : (stations : List Station) (st st' : Station) → slice_get stations i ≡ Some st → st'.ahead ≡ st.ahead → st'.work ≡ work
       → Shows nodes header at given e stations → Shows nodes header after given e' (slice_set stations i st')
   shows_moved stations st st' here ahead is shows = record {

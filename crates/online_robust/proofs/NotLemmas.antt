@@ -31,13 +31,16 @@ use Rattle.online_robust.proofs.Robustly.{robust_is_function}
 
 -- the margin is minus the other
 pub record IsMinus (p q : Margin) : Type 0 where
+  -- the one is minus the other
   pub value : (t : Rational) → value_at (margin_function q) t ≈ᵉ opposite (value_at (margin_function p) t)
+  -- with the same base
   pub base : IsTrue (is_ramp q) → IsTrue (is_ramp p) × (margin_base q ≡ margin_base p)
 
 module _ (x : Couple) (op : Not) where
   -- minus what is there is there
   minus_there : {t : Rational} (p q : Margin) → IsThere (Robustness x.left x.trace) x.reach t p → IsMinus p q → IsThere (left_of x true) x.reach t q
-  minus_there {t} p q there minus = turned_there true (Robustness x.left x.trace) x.reach t p q (robust_is_function x.left x.trace) there (minus.value t) minus.base
+  minus_there {t} p q there minus =
+      turned_there true (Robustness x.left x.trace) x.reach t p q (robust_is_function x.left x.trace) there (minus.value t) minus.base
 
   -- the time by another pair
   pub negated_same : (e : Held) {t u : Rational} → t ≈ u → IsNegatedTo x op e t → IsNegatedTo x op e u
@@ -58,6 +61,7 @@ module _ (x : Couple) (op : Not) where
   pub stood : (e : Held) (r : _) → CanNegate x op e → op.last ≡ Some r → HasReached (left_of x true) x.reach x.from (Some r)
   stood e r can is = subst (HasReached (left_of x true) x.reach x.from) is can.last
 
+  -- a negation that has told stands there
   pub stood_to : (e : Held) (r : _) → CanNegate x op e → op.last ≡ Some r → IsNegatedTo x op e (value r.at)
   stood_to e r can is =
       let reached = stood e r can is in
@@ -74,21 +78,28 @@ module _ (x : Couple) (op : Not) where
     is_v : v ≡ Point (begins old can none).at (begins old can none).v
     is_v = begun_point (begins old can none) v first
 
+    -- the input begins with that point
     pub first_there : IsThere (Robustness x.left x.trace) x.reach (value (end_of v)) (margin_of v)
-    first_there = subst (λ (m : MarginLine). IsThere (Robustness x.left x.trace) x.reach (value (end_of m)) (margin_of m)) (sym is_v) (begins old can none).there
+    first_there = subst (λ (m : MarginLine). IsThere (Robustness x.left x.trace) x.reach (value (end_of m)) (margin_of m))
+        (sym is_v) (begins old can none).there
 
+    -- at the start
     pub first_when : value (end_of v) ≈ x.from
     first_when = subst (λ (m : MarginLine). value (end_of m) ≈ x.from) (sym is_v) (begins old can none).when
 
+    -- which is a tick
     pub first_tick : IsTick (value (end_of v))
     first_tick = subst (λ (m : MarginLine). IsTick (value (end_of m))) (sym is_v) (begins old can none).tick
 
+    -- minus it is what the node has reached
     pub first_reached : (at : Frac) (q : Margin) → at ≡ end_of v → IsMinus (margin_of v) q
         → HasReached (left_of x true) x.reach x.from (Some (record { at = at; value = q }))
     first_reached at q e minus = subst (λ (f : Frac). HasReached (left_of x true) x.reach x.from (Some (record { at = f; value = q }))) (sym e)
         (first_when, first_tick, minus_there (margin_of v) q first_there minus)
 
-    pub first_negated : (new : Held) → new.edges ≡ with_edge old op.of (without 1 (edge_at old op.of)) → length new.edges ≡ length old.edges → (at : Frac) → at ≡ end_of v
+    -- and it was taken
+    pub first_negated : (new : Held) → new.edges ≡ with_edge old op.of (without 1 (edge_at old op.of))
+        → length new.edges ≡ length old.edges → (at : Frac) → at ≡ end_of v
         → IsNegatedTo x op new (value at)
     first_negated new taken count at e = subst (λ (f : Frac). IsNegatedTo x op new (value f)) (sym e) (record {
       span = can.span;
@@ -108,29 +119,36 @@ module _ (x : Couple) (op : Not) where
     g : FirstGap (Robustness x.left x.trace) x.reach at x.left_to (held_at old op.of)
     g = first_gap (Robustness x.left x.trace) x.reach at x.left_to (held_at old op.of) to.of (lt_of_lt_of_le more (ge_of_same to.all))
 
+    -- the gap's margin is bounded
     pub gap_level : HasBoundedLevel (2 ^ 31) (margin_function (margin_of gap))
     gap_level = subst (λ (m : MarginLine). HasBoundedLevel (2 ^ 31) (margin_function (margin_of m))) (sym (is_gap two g))
         (level_bounded (2 ^ 31) (margin_function g.p) (value g.a) g.gap_fit.2)
 
+    -- and the point's
     pub point_level : HasBoundedLevel (2 ^ 31) (margin_function (margin_of point))
     point_level = subst (λ (m : MarginLine). HasBoundedLevel (2 ^ 31) (margin_function (margin_of m))) (sym (is_point two g))
         (level_bounded (2 ^ 31) (margin_function g.v) (value g.u) g.point_fit.1)
 
+    -- the point lies behind
     pub later_point : at <ʳ value (end_of point)
     later_point = subst (λ (m : MarginLine). at <ʳ value (end_of m)) (sym (is_point two g)) (lt_of_lt_of_le g.later (le_of_same g.ends))
 
+    -- at a tick
     pub point_tick : IsTick (value (end_of point))
     point_tick = subst (λ (m : MarginLine). IsTick (value (end_of m))) (sym (is_point two g)) g.point_fit.0
 
+    -- the input has that margin there
     pub point_there : IsThere (Robustness x.left x.trace) x.reach (value (end_of point)) (margin_of point)
     point_there = subst (λ (m : MarginLine). IsThere (Robustness x.left x.trace) x.reach (value (end_of m)) (margin_of m)) (sym (is_point two g))
         (there_at (Robustness x.left x.trace) x.reach (robust_is_function x.left x.trace) g.u g.v (value g.u) g.point g.point_fit (same_refl (value g.u)))
 
+    -- minus it is what the node has reached
     pub point_reached : (f : Frac) (q : Margin) → f ≡ end_of point → IsMinus (margin_of point) q
         → HasReached (left_of x true) x.reach (value f) (Some (record { at = f; value = q }))
     point_reached f q e minus = subst (λ (f : Frac). HasReached (left_of x true) x.reach (value f) (Some (record { at = f; value = q }))) (sym e)
         (same_refl (value (end_of point)), point_tick, minus_there (margin_of point) q point_there minus)
 
+    -- and both were taken
     pub point_negated : (f : Frac) → f ≡ end_of point → IsNegatedTo x op new (value f)
     point_negated f e = subst (λ (f : Frac). IsNegatedTo x op new (value f)) (sym e) (record {
       span = to.span;
@@ -148,21 +166,25 @@ module _ (x : Couple) (op : Not) where
         ends_by = subst (λ (m : MarginLine). value (end_of m) ≤ʳ value (end_of point)) (sym (is_gap two g))
             (subst (λ (m : MarginLine). value g.b ≤ʳ value (end_of m)) (sym (is_point two g)) (le_of_same g.ends))
 
+    -- two lines are gone
     pub two_lost_here : LosesAt (value (end_of point)) op.of old new
     two_lost_here = two_lost two (value (end_of point))
         (subst (λ (m : MarginLine). value (end_of m) ≤ʳ value (end_of point)) (sym (is_gap two g))
         (subst (λ (m : MarginLine). value g.b ≤ʳ value (end_of m)) (sym (is_point two g)) (le_of_same g.ends))) (le_refl (value (end_of point)))
 
+    -- so there are fewer turns left
     pub fewer_left : turns_left_of op new < turns_left_of op old
     fewer_left =
         let is : length (held_at new op.of) ≡ length g.rest = ap (λ (l : List MarginLine). length l) (is_rest two g) in
         let all : length (held_at old op.of) ≡ length (Gap g.a g.b g.p ∷ Point g.u g.v ∷ g.rest) = ap (λ (l : List MarginLine). length l) g.is in
         omega (arith, is, all)
 
+    -- minus the gap and the point goes on what was built
     pub built_more : (old_ks new_ks : List (Knot Margin)) (f : Frac) (p q : Margin) → f ≡ end_of point → IsMinus (margin_of gap) p → IsMinus (margin_of point) q
         → IsBuilt (left_of x true) x.reach x.from at old_ks → GoesOn margin_shape old_ks p f q new_ks → IsBuilt (left_of x true) x.reach x.from (value f) new_ks
     built_more old_ks new_ks f p q e minus_gap minus_point built on =
-        built_on (left_of x true) x.reach (turned_is_function true (Robustness x.left x.trace) (robust_is_function x.left x.trace)) x.from at old_ks new_ks built p q f on
+        built_on (left_of x true) x.reach (turned_is_function true (Robustness x.left x.trace) (robust_is_function x.left x.trace))
+        x.from at old_ks new_ks built p q f on
         (λ t a b. minus_there (margin_of gap) p (in_gap t a (subst (λ (f : Frac). t <ʳ value f) e b)) minus_gap)
         (moved_as x.reach (margin_of gap) p minus_gap.base (subst (λ (m : MarginLine). IsMovedBy x.reach (margin_of m)) (sym (is_gap two g)) g.gap_fit.4))
         (subst (λ (f : Frac). IsThere (left_of x true) x.reach (value f) q) (sym e) (minus_there (margin_of point) q point_there minus_point))

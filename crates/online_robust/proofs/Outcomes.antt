@@ -5,7 +5,9 @@ use Rattle.rational.specs.Rational.{add, whole}
 use Rattle.rational.specs.Time.{Rational, Within, Precedes, ◌≈◌, ◌≤ʳ◌, ◌<ʳ◌, shifted}
 use Rattle.rational.specs.Extended.{Extended, finite, minus_infinity, infinity, value_at, ◌≈ᵉ◌}
 use Rattle.rational.specs.Windows.{Function, Window}
-use Rattle.rational.proofs.Order.{le_refl, le_of_lt, le_of_same, ge_of_same, le_or_lt, le_trans, lt_of_le_of_lt, lt_of_lt_of_le, lt_irrefl, lt_trans, not_lt_of_le, lt_or_same_or_gt, same_refl, same_sym, same_trans}
+use Rattle.rational.proofs.Order.{le_refl, le_of_lt, le_of_same, ge_of_same, le_or_lt, le_trans, lt_of_le_of_lt}
+use Rattle.rational.proofs.Order.{lt_of_lt_of_le, lt_irrefl, lt_trans, not_lt_of_le, lt_or_same_or_gt, same_refl, same_sym}
+use Rattle.rational.proofs.Order.{same_trans}
 use Rattle.rational.proofs.AffineLemmas.{same_reflᵉ, value_same}
 use Rattle.rational.proofs.Sames.{symᵉ, transᵉ}
 use Rattle.rational.proofs.TimeLemmas.{precedes_of_lt, precedes_le, shifted-add}
@@ -122,12 +124,14 @@ module _ (side : Side) (limit : Rational) where
   AreSteady [] = Unit {0}
   AreSteady (c ∷ cs) = ((t u : Rational) → value_at (margin_function c) t ≈ᵉ value_at (margin_function c) u) × AreSteady cs
 
+  -- constants stay as they are with time
   pub steady_all : (low : Gap) (marks : List Mark) (cs : List Margin) → AreFrozen side limit low marks cs → AreSteady cs
   steady_all low [] cs frozen = subst AreSteady (sym frozen) tt
   steady_all low (k ∷ marks) cs (inl (skip, frozen)) = steady_all k.after marks cs frozen
   steady_all low (k ∷ marks) cs (inr (knot, (c, others, is, frozen, more))) =
       subst AreSteady (sym is) ((λ t u. transᵉ (frozen.constant t) (symᵉ (frozen.constant u))), steady_all k.after marks others more)
 
+  -- so does each of them
   pub steady_one : (cs : List Margin) (c : Margin) → AreSteady cs → IsAmong cs c → (t u : Rational)
       → value_at (margin_function c) t ≈ᵉ value_at (margin_function c) u
   steady_one [] c steady one t u = absurd one
@@ -136,6 +140,7 @@ module _ (side : Side) (limit : Rational) where
   steady_one (d ∷ cs) c steady (inr one) t u = steady_one cs c steady.1 one t u
 
   module _ (Q : Function) (reach : ℕ) (is : IsFunction Q) (h : Rational) where
+    -- what is no worse than the best is no worse than each
     pub under_all : (cs : List Margin) (top : Margin) (v : Extended) → AreSteady cs → NoneIsBetter margin_function side cs top
         → IsNoBetter side (constant_of margin_function top) v → AreUnder Q reach is side limit h v cs
     under_all [] top v steady none le = tt
@@ -155,16 +160,23 @@ floor_any Least infinity = tt
 
 -- the constant that counts: the best of those between, or none
 pub record IsTopOf (side : Side) (cs : List Margin) (top : Margin) : Type 0 where
+  -- the top is the best of the constants, or none
   pub best : IsBest margin_function side cs top ⊎ ((cs ≡ []) × ((t : Rational) → value_at (margin_function top) t ≈ᵉ none_of side minus_infinity infinity))
 
 module _ (x : Scope) (w : Wide) (none : Margin) (low high : Gap) (l h : Rational) (s : IsCore x w none low high l h) where
   -- a time at which the ends stand within the gaps about them
   pub record IsIn (t : Rational) : Type 0 where
+    -- the time is one of the trace
     pub from_start : start x.trace ≤ʳ t
+    -- the low end has come to its gap
     pub low_after : l ≤ʳ shifted t w.low
+    -- and not to its end
     pub low_before : IsBefore (shifted t w.low) low.until
+    -- the high end has come to its gap
     pub high_after : h <ʳ shifted t w.high
+    -- and not behind its end
     pub high_before : IsUpTo (shifted t w.high) high.until
+    -- the low end lies before the high one
     pub order : shifted t w.low <ʳ shifted t w.high
 
   module _ (t : Rational) (i : IsIn t) (top : Margin) (is_top : IsTopOf w.side s.constants top) where
@@ -206,6 +218,7 @@ module _ (x : Scope) (w : Wide) (none : Margin) (low high : Gap) (l h : Rational
         by_kind (inr b) = subst
             (AreUnder (input_of x w.side) x.reach (input_is_function x w.side) w.side (shifted (start x.trace) w.low) (shifted t w.high) v) (sym b.0) tt
 
+    -- what is no better than the top is no better than one of the window
     pub top_one : (v : Extended) → IsNoBetter w.side v (value_at (margin_function top) t)
         → IsOneOf (input_of x w.side) x.reach (input_is_function x w.side) w.side (none_of w.side minus_infinity infinity)
         (shifted (start x.trace) w.low) (shifted t w.low) h (shifted t w.high) low s.marks s.constants (times_of w t) v
@@ -241,7 +254,8 @@ module _ (x : Scope) (w : Wide) (none : Margin) (low high : Gap) (l h : Rational
         spanned window one)
 
     -- strictly between two stops what counts is the best over the window
-    pub best_between : (best : Best Margin) (low_shape high_shape : Margin) (v : Extended) → best.top ≡ top → best.low ≡ Some low_shape → best.high ≡ Some high_shape
+    pub best_between : (best : Best Margin) (low_shape high_shape : Margin) (v : Extended) → best.top ≡ top
+        → best.low ≡ Some low_shape → best.high ≡ Some high_shape
         → value_at (margin_function low_shape) t ≈ᵉ value_at (margin_function low.shape) (shifted t w.low)
         → value_at (margin_function high_shape) t ≈ᵉ value_at (margin_function high.shape) (shifted t w.high)
         → l ≤ʳ h → l <ʳ shifted t w.low → IsBefore (shifted t w.high) high.until → IsBestAt margin_shape w.side best t v → best_of x w t v

@@ -1,5 +1,6 @@
 -- All nodes of a network go on from one past to the next, one after another.
-use Rattle.std.proofs.Common.{◌≡◌, inl, inr, ℕ, suc, zero, ◌<◌, ◌≤◌, Bool, true, false, List, [], ◌∷◌, ◌++◌, length, drop, refl, sym, ap, subst, ◌∙◌, arith, Option, Some, None, ℤ, pos, ◌≤ℤ◌}
+use Rattle.std.proofs.Common.{◌≡◌, inl, inr, ℕ, suc, zero, ◌<◌, ◌≤◌, Bool, true, false, List, [], ◌∷◌, ◌++◌}
+use Rattle.std.proofs.Common.{length, drop, refl, sym, ap, subst, ◌∙◌, arith, Option, Some, None, ℤ, pos, ◌≤ℤ◌}
 use Rattle.std.specs.Prelude.{MatchBool, IfSome, int_lt, cond, slice_get}
 use Rattle.std.proofs.lemmas.Int.{ints}
 use Rattle.std.proofs.lemmas.Bool.{cases_lt}
@@ -102,9 +103,11 @@ module _ (nodes : List Node) (header : Header) (streamed : AreStreamed nodes) (j
     where
       by_test : (limit : ℤ) → limit ≤ℤ front_at false (pos (last_time q.time rows)) (subformula nodes j) → pos q.time ≤ℤ limit → (t : Bool)
           → int_lt (front_at false (pos (last_time q.time rows)) (subformula nodes j)) (pos q.time) ≡ t
-          → AreMore F most q.time (cond t None (Some (front_at false (pos (last_time q.time rows)) (subformula nodes j)))) new more → BeginLater (Some limit) more
+          → AreMore F most q.time (cond t None (Some (front_at false (pos (last_time q.time rows)) (subformula nodes j)))) new more
+          → BeginLater (Some limit) more
       by_test limit le from true e are =
-          let lt = int_order (front_at false (pos (last_time q.time rows)) (subformula nodes j)) (pos q.time) true e in absurd (omega (arith, ints, le, from, lt))
+          let lt = int_order (front_at false (pos (last_time q.time rows)) (subformula nodes j)) (pos q.time) true e in
+          absurd (omega (arith, ints, le, from, lt))
       by_test limit le from false e are = more_later F most q.time (front_at false (pos (last_time q.time rows)) (subformula nodes j)) new limit more le are
 
       by_back : (back : Option ℤ) → back_of q.time (shown_by false (subformula nodes r) (q ∷ rows)) (reach_back n left) ≡ back → BeginLater back more
@@ -124,12 +127,14 @@ module _ (nodes : List Node) (header : Header) (streamed : AreStreamed nodes) (j
       → BeginLater (back_of (first_time rows) (shown_by false (subformula nodes r) rows) (reach_back n left)) more
   later_row [] r' lines more is next = tt
   later_row (q ∷ rows) r' lines more is next =
-      begins_later q rows _ _ _ more (next.told (record { header = header; rows = q ∷ rows ++ r' ∷ [] }) is (itself (record { header = header; rows = q ∷ rows ++ r' ∷ [] }) false))
+      begins_later q rows _ _ _ more
+      (next.told (record { header = header; rows = q ∷ rows ++ r' ∷ [] }) is (itself (record { header = header; rows = q ∷ rows ++ r' ∷ [] }) false))
 
   grows_row : (rows : List Row) (r' : Row) → Grows (record { rows = rows; ended = false }) (record { rows = rows ++ r' ∷ []; ended = false })
   grows_row rows r' held more is (lines, gave, rest) next = (
     lines ++ more,
-    gave_grows nodes header j lines more (record { rows = rows; ended = false }) (record { rows = rows ++ r' ∷ []; ended = false }) (refl, inl (r', refl)) is gave (next lines),
+    gave_grows nodes header j lines more (record { rows = rows; ended = false })
+        (record { rows = rows ++ r' ∷ []; ended = false }) (refl, inl (r', refl)) is gave (next lines),
     same_first rows (rest_more (back_of (first_time rows) (shown_by false (subformula nodes r) rows) (reach_back n left)) lines held more rest
         (later_row rows r' lines more is (next lines))),
   )
@@ -144,10 +149,13 @@ module _ (nodes : List Node) (header : Header) (streamed : AreStreamed nodes) (j
   grows_end [] held more is h next = absurd is.rows
   grows_end (q ∷ rows) held more is (lines, gave, rest) next = (
     lines ++ more,
-    gave_grows nodes header j lines more (record { rows = q ∷ rows; ended = false }) (record { rows = q ∷ rows; ended = true }) (refl, inr refl) is gave (next lines),
+    gave_grows nodes header j lines more (record { rows = q ∷ rows; ended = false }) (record { rows = q ∷ rows; ended = true })
+        (refl, inr refl) is gave (next lines),
     rest_more (back_of q.time (shown_by false (subformula nodes r) (q ∷ rows)) (reach_back n left)) lines held more rest
-        (begins_later q rows _ _ _ more ((next lines).told (record { header = header; rows = q ∷ rows }) is (itself (record { header = header; rows = q ∷ rows }) true))),
+        (begins_later q rows _ _ _ more
+        ((next lines).told (record { header = header; rows = q ∷ rows }) is (itself (record { header = header; rows = q ∷ rows }) true))),
   )
 
+  -- what a network gave out only grows
   pub held_grows : (old new : Past) → IsNext old new → Grows old new
   held_grows old new next = next_cases old new next Grows grows_row grows_end

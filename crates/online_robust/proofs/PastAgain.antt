@@ -1,5 +1,7 @@
 -- A window without a low end goes on in a later turn, or begins, over what its input has given out by then; and what it leaves of it.
-use Rattle.std.proofs.Common.{◌≡◌, ◌⊎◌, inl, inr, ℕ, zero, suc, ◌+◌, ◌<◌, ◌≤◌, ◌^◌, Bool, true, false, List, [], ◌∷◌, ◌++◌, length, drop, slice_get, Option, Some, None, refl, sym, ap, subst, ◌∙◌, arith, ℤ, pos, ◌+ℤ◌, ◌≤ℤ◌, ◌<ℤ◌, neg_ℤ}
+use Rattle.std.proofs.Common.{◌≡◌, ◌⊎◌, inl, inr, ℕ, zero, suc, ◌+◌, ◌<◌, ◌≤◌, ◌^◌, Bool, true, false}
+use Rattle.std.proofs.Common.{List, [], ◌∷◌, ◌++◌, length, drop, slice_get, Option, Some, None, refl}
+use Rattle.std.proofs.Common.{sym, ap, subst, ◌∙◌, arith, ℤ, pos, ◌+ℤ◌, ◌≤ℤ◌, ◌<ℤ◌, neg_ℤ}
 use Rattle.std.specs.Prelude.{◌-ℤ◌, IfSome, IsSome, IsSomeAnd, MatchBool, MatchOption, cond, int_lt}
 use Rattle.std.proofs.lemmas.Int.{ints}
 use Rattle.rational.specs.Rational.{IsWithin}
@@ -8,7 +10,8 @@ use Rattle.rational.specs.Extended.{minus_infinity, infinity, value_at, ◌≈�
 use Rattle.rational.specs.Affine.{IsBounded}
 use Rattle.rational.specs.Windows.{Function}
 use Rattle.rational.proofs.AffineLemmas.{bounded_same}
-use Rattle.rational.proofs.Order.{ge_of_same, le_of_lt, le_of_same, le_refl, le_trans, lt_of_le_of_lt, lt_of_lt_of_le, not_lt_of_le, same_of_le, same_refl, same_sym, same_trans}
+use Rattle.rational.proofs.Order.{ge_of_same, le_of_lt, le_of_same, le_refl, le_trans, lt_of_le_of_lt}
+use Rattle.rational.proofs.Order.{lt_of_lt_of_le, not_lt_of_le, same_of_le, same_refl, same_sym, same_trans}
 use Rattle.rational.proofs.Shift.{le_shift_by, le_whole, lt_whole}
 use Rattle.rational.proofs.TimeLemmas.{shifted-add}
 use Rattle.frac128.specs.Value.{value}
@@ -29,7 +32,8 @@ use Rattle.online_robust.specs.Sweeping.{EndsAt, IsBefore, IsOn}
 use Rattle.online_robust.specs.Told.{AreFit, AreJoined, AreTold, IsMovedBy, IsTick}
 use Rattle.online_robust.specs.Turns.{AreInputs, AreLeft, IsCut, back_of}
 use Rattle.online_robust.specs.WindowPasts.{AreKept, CanPass, HasPassed, IsFitPast, IsFollowed, IsPastAt, IsSettled, IsUnder, StoodPast}
-use Rattle.online_robust.specs.Windows.{HasTold, IsCore, IsOwned, IsSpan, IsStanding, IsToCome, Scope, Sheds, at_time, before_start, best_of, input_of, no_gap, scope_at}
+use Rattle.online_robust.specs.Windows.{HasTold, IsCore, IsOwned, IsSpan, IsStanding, IsToCome, Scope}
+use Rattle.online_robust.specs.Windows.{Sheds, at_time, before_start, best_of, input_of, no_gap, scope_at}
 use Rattle.online_robust.specs.declared.ends.Gap.{Gap}
 use Rattle.online_robust.specs.declared.line.MarginLine.{MarginLine}
 use Rattle.online_robust.specs.declared.line.MarginLine.TheVariants as L
@@ -46,7 +50,8 @@ use Rattle.online_robust.proofs.WindowPoints.{in_order}
 use Rattle.rational.proofs.Mixed.{within_same}
 
 -- the same window over an input that is told further
-core_again : (f : Subformula) (tr : Trace) (reach : ℕ) (a b c d t : Rational) (w : Window) (none : Margin) (low high : Gap) (l h : Rational) (B : List Margin → Type 0)
+core_again : (f : Subformula) (tr : Trace) (reach : ℕ) (a b c d t : Rational) (w : Window) (none : Margin) (low high : Gap)
+    (l h : Rational) (B : List Margin → Type 0)
     → (s : IsCore (scope_at f tr reach a b t) w none low high l h) → B s.constants
     → (r : IsCore (scope_at f tr reach c d t) w none low high l h) × B r.constants
 core_again f tr reach a b c d t w none low high l h B s best = (
@@ -71,7 +76,8 @@ core_again f tr reach a b c d t w none low high l h B s best = (
 
 -- a window that was told before, over what its input has given out by now
 module _ (f : Subformula) (tr : Trace) (reach own : ℕ) (g : ℤ) (p : Past) (e : Held) (st : StoodPast f tr reach own (whole g) p (edge_at e p.window.of).seen)
-    (front : ℤ) (inputs : AreInputs (Robustness f tr) reach (first_time tr.rows) (back_of (first_time tr.rows) (Some g) p.window.high) front (held_at e p.window.of))
+    (front : ℤ) (inputs : AreInputs (Robustness f tr) reach (first_time tr.rows)
+    (back_of (first_time tr.rows) (Some g) p.window.high) front (held_at e p.window.of))
     (bound : Rational) (some : IsSome p.gap.until) (by_front : shifted (value p.at) p.window.high ≤ʳ whole front) where
   abbrev old : Scope
   old = scope_at f tr reach st.front st.bound (value p.at)
@@ -99,7 +105,8 @@ module _ (f : Subformula) (tr : Trace) (reach own : ℕ) (g : ℤ) (p : Past) (e
       by_kind : (p.gap.stands ≡ true) ⊎ (p.gap ≡ no_gap p.none) ⊎ (p.gap ≡ before_start p.none p.start) → IsNext p.gap.until fresh (whole front)
       by_kind (inl stands) = by_back (int_lt (g +ℤ p.window.high) (pos (first_time tr.rows))) inputs.left
         where
-          by_back : (b : Bool) → AreLeft (first_time tr.rows) (cond b None (Some (g +ℤ p.window.high))) front (seen ++ fresh) → IsNext p.gap.until fresh (whole front)
+          by_back : (b : Bool) → AreLeft (first_time tr.rows) (cond b None (Some (g +ℤ p.window.high))) front (seen ++ fresh)
+              → IsNext p.gap.until fresh (whole front)
           by_back true (at, v, rest, is, when, joined) =
               let (a, c, more, until, gap) = front_gap p.gap [] seen stands standing in
               let one : L.Gap a c p.gap.shape ∷ (more ++ fresh) ≡ L.Point at v ∷ rest = sym (ap (λ (l : List MarginLine). l ++ fresh) gap) ∙ is in
@@ -226,10 +233,12 @@ module _ (f : Subformula) (tr : Trace) (reach own : ℕ) (g : ℤ) (p : Past) (e
 
         by_back : (b : Bool) → int_lt (g +ℤ p.window.high) (pos (first_time tr.rows)) ≡ b
             → AreLeft (first_time tr.rows) (cond b None (Some (g +ℤ p.window.high))) front (seen ++ fresh) → Comes
-        by_back true is left = absurd (not_lt_of_le begun (lt_of_le_of_lt (ge_of_same back) (lt_whole (int_order (g +ℤ p.window.high) (pos (first_time tr.rows)) true is))))
+        by_back true is left =
+            absurd (not_lt_of_le begun (lt_of_le_of_lt (ge_of_same back) (lt_whole (int_order (g +ℤ p.window.high) (pos (first_time tr.rows)) true is))))
         by_back false is (from, le, joined, later) = by_lines fresh refl from (le_trans le (le_of_same back))
             (subst (AreJoined from (whole front)) all_fresh joined)
-            (ends_after (slice_get fresh 0) (subst (λ (l : List MarginLine). IfSome (slice_get l 0) (λ y. whole (g +ℤ p.window.high) <ʳ value (end_of y))) all_fresh later))
+            (ends_after (slice_get fresh 0)
+            (subst (λ (l : List MarginLine). IfSome (slice_get l 0) (λ y. whole (g +ℤ p.window.high) <ʳ value (end_of y))) all_fresh later))
             (subst (AreTold (Robustness f tr)) all_fresh inputs.told) (subst (AreFit reach) all_fresh inputs.fit)
 
   all_comes : Comes
@@ -247,11 +256,13 @@ module _ (f : Subformula) (tr : Trace) (reach own : ℕ) (g : ℤ) (p : Past) (e
       by_point None is standing = by_none standing is
       by_point (Some r) is nil = by_some r is nil
 
+  -- the window stands over what its input has given out by then
   pub past_again : p.window.of < length e.edges → (start tr ≤ʳ whole front) × (whole front ≤ʳ stop tr) → (bound ≤ʳ whole front) ⊎ (whole front ≈ stop tr)
       → IsPastAt now p e
   past_again of_in domain ended =
       let core = core_again f tr reach st.front st.bound (whole front) bound (value p.at) p.window p.none (before_start p.none p.start) p.gap
-      (shifted (value p.at) p.window.low) (shifted (value p.at) p.window.high) (λ (cs : List Margin). IsBestOf margin_function p.window.side cs p.best) st.was.core
+      (shifted (value p.at) p.window.low) (shifted (value p.at) p.window.high)
+      (λ (cs : List Margin). IsBestOf margin_function p.window.side cs p.best) st.was.core
       st.was.best in
       record {
         within = of_in;
@@ -308,9 +319,11 @@ past_go_on f tr reach own g p e st front to inputs of_in order begun from_tick t
     no_later : (t : Rational) (k : ℤ) → k ≤ℤ pos 0 → shifted t k ≤ʳ t
     no_later t k le = le_trans (le_of_same (shifted-add t k)) (le_trans (le_shift_by {j = k} {k = pos 0} t le) (record { le = omega arith }))
 
-    by_front : (shifted (whole to) p.window.high ≤ʳ whole front) ⊎ ((whole front ≈ stop tr) × (whole to ≈ stop tr)) → shifted (value p.at) p.window.high ≤ʳ whole front
+    by_front : (shifted (whole to) p.window.high ≤ʳ whole front) ⊎ ((whole front ≈ stop tr) × (whole to ≈ stop tr))
+        → shifted (value p.at) p.window.high ≤ʳ whole front
     by_front (inl le) = le_trans (le_of_lt (lt_shifted p.window.high earlier)) le
-    by_front (inr (f_is, to_is)) = le_trans (no_later (value p.at) p.window.high st.was.fit.to) (le_trans (le_of_lt earlier) (le_trans (le_of_same to_is) (ge_of_same f_is)))
+    by_front (inr (f_is, to_is)) = le_trans (no_later (value p.at) p.window.high st.was.fit.to)
+        (le_trans (le_of_lt earlier) (le_trans (le_of_same to_is) (ge_of_same f_is)))
 
     ended : (shifted (whole to) p.window.high ≤ʳ whole front) ⊎ ((whole front ≈ stop tr) × (whole to ≈ stop tr))
         → (shifted (whole to) p.window.high ≤ʳ whole front) ⊎ (whole front ≈ stop tr)
@@ -327,7 +340,8 @@ past_go_on f tr reach own g p e st front to inputs of_in order begun from_tick t
 -- a window whose high end lies before the start, over an input that has given out its first lines
 pub past_first : (f : Subformula) (tr : Trace) (reach : ℕ) (p : Past) (e : Held) (front : ℤ) (bound : Rational) → value p.start ≈ start tr
     → ((t : Rational) → value_at (margin_function p.none) t ≈ᵉ none_of p.window.side minus_infinity infinity) → is_ramp p.none ≡ false
-    → p.gap ≡ before_start p.none p.start → p.point ≡ None → p.best ≡ None → IsWithin (2 ^ 34) (value p.at) → shifted (value p.at) p.window.high <ʳ value p.start
+    → p.gap ≡ before_start p.none p.start → p.point ≡ None → p.best ≡ None → IsWithin (2 ^ 34) (value p.at)
+    → shifted (value p.at) p.window.high <ʳ value p.start
     → AreInputs (Robustness f tr) reach (first_time tr.rows) None front (held_at e p.window.of) → (edge_at e p.window.of).seen ≡ []
     → p.window.of < length e.edges → IsFitPast p.window reach → IsTick (start tr) → (start tr ≤ʳ whole front) × (whole front ≤ʳ stop tr)
     → (bound ≤ʳ whole front) ⊎ (whole front ≈ stop tr)

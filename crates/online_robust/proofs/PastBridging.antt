@@ -1,5 +1,6 @@
 -- From what an operator needs before it goes on to what a window without a low end needs, and back from what it leaves.
-use Rattle.std.proofs.Common.{◌≡◌, ◌≢◌, ◌⊎◌, inl, inr, ℕ, ◌+◌, ◌<◌, ◌≤◌, ◌^◌, Bool, true, false, List, [], ◌∷◌, ◌++◌, length, drop, refl, sym, ap, subst, ◌∙◌, arith, Option, Some, None, ℤ, pos, ◌+ℤ◌, ◌<ℤ◌, ◌≤ℤ◌}
+use Rattle.std.proofs.Common.{◌≡◌, ◌≢◌, ◌⊎◌, inl, inr, ℕ, ◌+◌, ◌<◌, ◌≤◌, ◌^◌, Bool, true, false, List, [], ◌∷◌, ◌++◌, length}
+use Rattle.std.proofs.Common.{drop, refl, sym, ap, subst, ◌∙◌, arith, Option, Some, None, ℤ, pos, ◌+ℤ◌, ◌<ℤ◌, ◌≤ℤ◌}
 use Rattle.std.specs.Prelude.{◌-ℤ◌, MatchBool, MatchOption, IfSome, IsSome, IsSomeAnd, int_lt, cond, neg_ℤ, slice_get}
 use Rattle.std.proofs.lemmas.Int.{ints}
 use Rattle.rational.specs.Rational.{IsWithin}
@@ -7,7 +8,8 @@ use Rattle.rational.specs.Time.{Rational, Within, shifted, whole, ◌≈◌, ◌
 use Rattle.rational.specs.Extended.{Affine, Extended, minus_infinity, infinity, value_at, ◌≈ᵉ◌}
 use Rattle.rational.specs.InPlay.{IsWideCrossing, IsWideValue}
 use Rattle.rational.specs.Windows.{Function}
-use Rattle.rational.proofs.Order.{le_refl, le_trans, le_of_lt, le_of_same, ge_of_same, lt_of_le_of_lt, lt_of_lt_of_le, not_lt_of_le, same_refl, same_sym, same_trans}
+use Rattle.rational.proofs.Order.{le_refl, le_trans, le_of_lt, le_of_same, ge_of_same, lt_of_le_of_lt}
+use Rattle.rational.proofs.Order.{lt_of_lt_of_le, not_lt_of_le, same_refl, same_sym, same_trans}
 use Rattle.rational.proofs.Shift.{le_whole, lt_whole}
 use Rattle.rational.proofs.TimeLemmas.{same_shifted}
 use Rattle.frac128.specs.Value.{value}
@@ -37,7 +39,8 @@ use Rattle.online_robust.specs.Held.{Edge, Held, edge_at, held_at, held_of}
 use Rattle.online_robust.specs.Told.{IsMovedBy, IsTick}
 use Rattle.online_robust.specs.Reading.{IsStretch, IsThere}
 use Rattle.online_robust.specs.Standing.{HasPassedTo, HasWaitedPast, IsPastOf, Stands}
-use Rattle.online_robust.specs.Turns.{Turn, Belongs, AreInputs, HasSwept, IsCut, IsInput, IsStreamedFault, IsSwept, StandsNow, back_of, begin_of, from_of, reach_before, seen_by}
+use Rattle.online_robust.specs.Turns.{Turn, Belongs, AreInputs, HasSwept, IsCut, IsInput, IsStreamedFault}
+use Rattle.online_robust.specs.Turns.{IsSwept, StandsNow, back_of, begin_of, from_of, reach_before, seen_by}
 use Rattle.online_robust.specs.WindowPasts.{CanPass, HasPassed, IsFitPast, StoodPast}
 use Rattle.online_robust.specs.Windows.{InPlayOver, IsWindowFault, Scope, Sheds, best_of, scope_at}
 use Rattle.online_robust.specs.declared.endless.Endless.{Endless}
@@ -67,7 +70,8 @@ pass_same x own from to end p e same bound can = record {
 }
 
 -- what is in play in one way is so in another
-value_by : (A B : Rational → Affine → Type 0) (from to : Rational) (p : Affine) (u : Rational) (den : ℕ) → ((tau : Rational) (line : Affine) → A tau line → B tau line)
+value_by : (A B : Rational → Affine → Type 0) (from to : Rational) (p : Affine) (u : Rational) (den : ℕ)
+    → ((tau : Rational) (line : Affine) → A tau line → B tau line)
     → IsWideValue A from to p u den → IsWideValue B from to p u den
 value_by A B from to p u den more h = record {
   tau = h.tau;
@@ -95,22 +99,28 @@ module _ (t : Turn) (z : Endless) (e : Held) (to : ℕ) (b : Belongs t (Op.Past 
   abbrev F : ℤ
   F = front_at t.ended (pos t.now) child
 
+  -- the node has such a window
   pub here : IsPastNode (subformula t.nodes) t.place b.node z.window
   here = past_node (subformula t.nodes) t.place b.node z.window b.stands.0
 
   own_tree : subformula t.nodes t.place ≡ tree_of (subformula t.nodes) t.place b.node
   own_tree = tree t (Op.Past z) e to b
 
+  -- its input looks as far as the node, less the offset
   pub far : (pos (horizon (subformula t.nodes z.window.of)) +ℤ z.window.high) ≤ℤ pos (horizon (subformula t.nodes t.place))
   far = subst (λ p. (pos (horizon (subformula t.nodes z.window.of)) +ℤ z.window.high) ≤ℤ pos (horizon p)) (sym own_tree) here.far
 
   abbrev pub scope_of : Rational → Scope
-  scope_of at = scope_at (subformula t.nodes z.window.of) t.trace (reach_before t) (whole (front_at t.ended (pos t.now) (subformula t.nodes z.window.of))) (shifted (whole (pos to)) z.window.high) at
+  scope_of at = scope_at (subformula t.nodes z.window.of) t.trace (reach_before t)
+      (whole (front_at t.ended (pos t.now) (subformula t.nodes z.window.of))) (shifted (whole (pos to)) z.window.high) at
 
+  -- the edge holds the input from where it is needed
   pub input : IsInput (Robustness (subformula t.nodes z.window.of) t.trace) (reach_before t) (begin_of t) (back_of (begin_of t) t.before z.window.high)
       (front_at t.ended (pos t.now) (subformula t.nodes z.window.of)) (held_at e z.window.of)
-  input = subst (λ k. IsInput (Robustness child t.trace) (reach_before t) (begin_of t) (back_of (begin_of t) t.before k) F (held_at e z.window.of)) here.back (b.inputs z.window.of true here.reads)
+  input = subst (λ k. IsInput (Robustness child t.trace) (reach_before t) (begin_of t) (back_of (begin_of t) t.before k) F (held_at e z.window.of))
+      here.back (b.inputs z.window.of true here.reads)
 
+  -- the window keeps within the limits
   pub fit : IsFitPast z.window (reach_before t)
   fit = let small = b.small in record {
     low = here.low;
@@ -120,46 +130,57 @@ module _ (t : Turn) (z : Endless) (e : Held) (to : ℕ) (b : Belongs t (Op.Past 
     small = omega (arith, small);
   }
 
+  -- the input has an edge
   pub of_in : z.window.of < length e.edges
   of_in = input_within t (Op.Past z) e to b z.window.of true here.reads
 
+  -- the start is a tick
   pub first_tick : IsTick (start t.trace)
   first_tick = tick_of t (Op.Past z) e to b (begin_of t) b.from_start
 
+  -- and the time of the turn
   pub to_tick : IsTick (whole (pos to))
   to_tick = tick_of t (Op.Past z) e to b to (omega arith)
 
+  -- which does not lie behind the end
   pub to_last : whole (pos to) ≤ʳ stop t.trace
   to_last = last_to t (Op.Past z) e to b
 
+  -- nor before the start
   pub to_first : start t.trace ≤ʳ whole (pos to)
   to_first = let from = b.from_start in le_whole {j = pos (begin_of t)} {k = pos to} (omega (arith, ints, from))
 
+  -- the input's front does not lie behind the end
   pub front_last : whole (front_at t.ended (pos t.now) (subformula t.nodes z.window.of)) ≤ʳ stop t.trace
   front_last = front_by_stop t (Op.Past z) e to b z.window.of
 
+  -- the input is told as far as the window looks, or to the end
   pub told_far : (shifted (whole (pos to)) z.window.high ≤ʳ whole (front_at t.ended (pos t.now) (subformula t.nodes z.window.of)))
       ⊎ ((whole (front_at t.ended (pos t.now) (subformula t.nodes z.window.of)) ≈ stop t.trace) × (whole (pos to) ≈ stop t.trace))
   told_far = told_as_far t (Op.Past z) e to b z.window.of z.window.high far
 
   -- how much earlier its input stands is the same at every number, but at the end
-  pub stays_begun : (g : ℤ) → t.before ≡ Some g → (whole g ≈ stop t.trace) ⊎ (pos (begin_of t) ≤ℤ ((g +ℤ pos (horizon (subformula t.nodes t.place))) -ℤ pos (horizon child))) → pos (begin_of t) ≤ℤ F
+  pub stays_begun : (g : ℤ) → t.before ≡ Some g → (whole g ≈ stop t.trace)
+      ⊎ (pos (begin_of t) ≤ℤ ((g +ℤ pos (horizon (subformula t.nodes t.place))) -ℤ pos (horizon child))) → pos (begin_of t) ≤ℤ F
   stays_begun g is begun = by_begun begun
     where
       after : g <ℤ pos to
       after = (subst (λ (o : Option ℤ). IfSome o (λ g. (pos (begin_of t) ≤ℤ g) × (g <ℤ pos to))) is b.forth).1
 
-      by_end : (c : Bool) → pos to ≡ front_at c (pos t.now) (subformula t.nodes t.place) → pos (begin_of t) ≤ℤ ((g +ℤ pos (horizon (subformula t.nodes t.place))) -ℤ pos (horizon child))
+      by_end : (c : Bool) → pos to ≡ front_at c (pos t.now) (subformula t.nodes t.place)
+          → pos (begin_of t) ≤ℤ ((g +ℤ pos (horizon (subformula t.nodes t.place))) -ℤ pos (horizon child))
           → pos (begin_of t) ≤ℤ front_at c (pos t.now) child
       by_end true e le = let from = b.from_start in omega (arith, ints, e, from)
       by_end false e le = omega (arith, ints, e, le, after)
 
-      by_begun : (whole g ≈ stop t.trace) ⊎ (pos (begin_of t) ≤ℤ ((g +ℤ pos (horizon (subformula t.nodes t.place))) -ℤ pos (horizon child))) → pos (begin_of t) ≤ℤ F
+      by_begun : (whole g ≈ stop t.trace)
+          ⊎ (pos (begin_of t) ≤ℤ ((g +ℤ pos (horizon (subformula t.nodes t.place))) -ℤ pos (horizon child))) → pos (begin_of t) ≤ℤ F
       by_begun (inl at_end) = absurd (not_lt_of_le (le_trans to_last (ge_of_same at_end)) (lt_whole after))
       by_begun (inr le) = by_end t.ended b.number le
 
   -- the same of the number that it comes to, where its input has given out something
-  pub begun_now : pos (begin_of t) ≤ℤ F → (whole (pos to) ≈ stop t.trace) ⊎ (pos (begin_of t) ≤ℤ ((pos to +ℤ pos (horizon (subformula t.nodes t.place))) -ℤ pos (horizon child)))
+  pub begun_now : pos (begin_of t) ≤ℤ F → (whole (pos to) ≈ stop t.trace)
+      ⊎ (pos (begin_of t) ≤ℤ ((pos to +ℤ pos (horizon (subformula t.nodes t.place))) -ℤ pos (horizon child)))
   begun_now le = by_end t.ended refl b.number le
     where
       by_end : (c : Bool) → t.ended ≡ c → pos to ≡ front_at c (pos t.now) (subformula t.nodes t.place) → pos (begin_of t) ≤ℤ front_at c (pos t.now) child
@@ -173,7 +194,9 @@ module _ (t : Turn) (z : Endless) (e : Held) (to : ℕ) (b : Belongs t (Op.Past 
     abbrev x : Scope
     x = scope_of at
 
-    pub past_told : (from : Rational) → from ≡ from_of t → (s : List (Knot Margin)) → IsStretch (best_of x z.window) (reach_before t + own) from end s → IsSwept t to s
+    -- what the window tells is the node's margin
+    pub past_told : (from : Rational) → from ≡ from_of t → (s : List (Knot Margin))
+        → IsStretch (best_of x z.window) (reach_before t + own) from end s → IsSwept t to s
     past_told from from_is s is = record {
       tells = subst (λ (f : Rational). Tells margin_shape (Robustness (subformula t.nodes t.place) t.trace) f (whole (pos to)) s) from_is
           (told margin_shape (Robustness (subformula t.nodes t.place) t.trace) from (whole (pos to)) s (robust_is_function (subformula t.nodes t.place) t.trace)
@@ -200,7 +223,8 @@ module _ (t : Turn) (z : Endless) (e : Held) (to : ℕ) (b : Belongs t (Op.Past 
     pub past_fault : (fault : OpFault Margin) → IsWindowFault x z.window end fault → IsStreamedFault t fault
     past_fault Faults.Memory h = tt
     past_fault (Faults.Wide (Cross p q c d den)) h =
-        crossing_by _ _ (start t.trace) (stop t.trace) (margin_function p) (margin_function q) (value c) (value d) den (λ tau line m. in_play_before tau line m.0 m.1) h
+        crossing_by _ _ (start t.trace) (stop t.trace) (margin_function p) (margin_function q) (value c) (value d) den
+        (λ tau line m. in_play_before tau line m.0 m.1) h
     past_fault (Faults.Wide (Value p u den)) (inl h) =
         inl (value_by _ _ (start t.trace) (stop t.trace) (margin_function p) (value u) den (λ tau line m. in_play_before tau line m.0 m.1) h)
     past_fault (Faults.Wide (Value p u den)) (inr (first, h)) = inr (
@@ -221,9 +245,11 @@ module _ (t : Turn) (z : Endless) (e : Held) (to : ℕ) (b : Belongs t (Op.Past 
     }
       where
         inputs : AreInputs (Robustness child t.trace) (reach_before t) (begin_of t) (back_of (begin_of t) t.before z.window.high) F (held_at e z.window.of)
-        inputs = inputs_of (Robustness child t.trace) (reach_before t) (begin_of t) (back_of (begin_of t) t.before z.window.high) F (held_at e z.window.of) begun input
+        inputs = inputs_of (Robustness child t.trace) (reach_before t) (begin_of t)
+            (back_of (begin_of t) t.before z.window.high) F (held_at e z.window.of) begun input
 
-        early : (o : Option ℤ) → IfSome o (λ g. (pos (begin_of t) ≤ℤ g) × (g <ℤ pos to)) → int_lt (pos to +ℤ z.window.high) (pos (begin_of t)) ≡ true → back_of (begin_of t) o z.window.high ≡ None
+        early : (o : Option ℤ) → IfSome o (λ g. (pos (begin_of t) ≤ℤ g) × (g <ℤ pos to))
+            → int_lt (pos to +ℤ z.window.high) (pos (begin_of t)) ≡ true → back_of (begin_of t) o z.window.high ≡ None
         early None forth is = refl
         early (Some g) forth is = by_test (int_lt (g +ℤ z.window.high) (pos (begin_of t))) refl
           where
@@ -235,7 +261,8 @@ module _ (t : Turn) (z : Endless) (e : Held) (to : ℕ) (b : Belongs t (Op.Past 
                 let after = forth.1 in
                 absurd (omega (arith, ints, le, lt, after))
 
-        weaker : (o : Option MarginLine) → IfSome o (λ l. value (end_of l) ≤ʳ shifted end z.window.high) → IfSome o (λ l. value (end_of l) ≤ʳ shifted (whole (pos to)) z.window.high)
+        weaker : (o : Option MarginLine) → IfSome o (λ l. value (end_of l) ≤ʳ shifted end z.window.high)
+            → IfSome o (λ l. value (end_of l) ≤ʳ shifted (whole (pos to)) z.window.high)
         weaker None h = tt
         weaker (Some l) h = le_trans h (le_shifted z.window.high (le_of_same same))
 
@@ -254,22 +281,27 @@ module _ (t : Turn) (z : Endless) (e : Held) (to : ℕ) (b : Belongs t (Op.Past 
         cut = subst (λ (v : Window). IsCut (back_of (begin_of t) (Some (pos to)) v.high) (edge_at e v.of) (edge_at e' v.of)) window
             (cut_past x (begin_of t) (pos to) (back_of (begin_of t) t.before z.window.high) F s e e' (same_refl (start t.trace)) came there
             (Robustness child t.trace) (reach_before t)
-            (subst (λ (v : Window). AreInputs (Robustness child t.trace) (reach_before t) (begin_of t) (back_of (begin_of t) t.before z.window.high) F (held_at e v.of)) (sym window) inputs)
-            (subst (λ (v : Window). int_lt (pos to +ℤ v.high) (pos (begin_of t)) ≡ true → back_of (begin_of t) t.before z.window.high ≡ None) (sym window) (early t.before b.forth)) sheds)
+            (subst (λ (v : Window). AreInputs (Robustness child t.trace) (reach_before t) (begin_of t)
+            (back_of (begin_of t) t.before z.window.high) F (held_at e v.of)) (sym window) inputs)
+            (subst (λ (v : Window). int_lt (pos to +ℤ v.high) (pos (begin_of t)) ≡ true → back_of (begin_of t) t.before z.window.high ≡ None)
+            (sym window) (early t.before b.forth)) sheds)
 
         by_node : (node : Node) (j : ℕ) (left : Bool) → node ≡ b.node → IsReader node left j
             → IsCut (back_of (begin_of t) (Some (pos to)) (reach_back node left)) (edge_at e j) (edge_at e' j) × ((edge_at e' j).number ≡ (edge_at e j).number)
         by_node node j left is reads =
             let one = here.only j left (subst (λ (n : Node). IsReader n left j) is reads) in
-            subst (λ (n : Node). IsCut (back_of (begin_of t) (Some (pos to)) (reach_back n left)) (edge_at e j) (edge_at e' j) × ((edge_at e' j).number ≡ (edge_at e j).number)) (sym is)
-            (subst (λ i. IsCut (back_of (begin_of t) (Some (pos to)) (reach_back b.node left)) (edge_at e i) (edge_at e' i) × ((edge_at e' i).number ≡ (edge_at e i).number)) (sym one.0)
+            subst (λ (n : Node). IsCut (back_of (begin_of t) (Some (pos to)) (reach_back n left)) (edge_at e j) (edge_at e' j)
+            × ((edge_at e' j).number ≡ (edge_at e j).number)) (sym is)
+            (subst (λ i. IsCut (back_of (begin_of t) (Some (pos to)) (reach_back b.node left)) (edge_at e i) (edge_at e' i)
+            × ((edge_at e' i).number ≡ (edge_at e i).number)) (sym one.0)
             (subst (λ (l : Bool). IsCut (back_of (begin_of t) (Some (pos to)) (reach_back b.node l)) (edge_at e z.window.of) (edge_at e' z.window.of)
             × ((edge_at e' z.window.of).number ≡ (edge_at e z.window.of).number)) (sym one.1)
             (subst (λ k. IsCut (back_of (begin_of t) (Some (pos to)) k) (edge_at e z.window.of) (edge_at e' z.window.of)
             × ((edge_at e' z.window.of).number ≡ (edge_at e z.window.of).number)) (sym here.back) (cut, shed.number))))
 
     -- it stands for its node at the number
-    pub past_stands : (from : Rational) (old s : Past) (z' : Endless) (e' : Held) → CanPass x own from (whole (pos to)) old e → old.window ≡ z.window → s.window ≡ old.window
+    pub past_stands : (from : Rational) (old s : Past) (z' : Endless) (e' : Held) → CanPass x own from (whole (pos to)) old e
+        → old.window ≡ z.window → s.window ≡ old.window
         → HasPassed x s e' → pos (begin_of t) ≤ℤ F
         → IsSomeAnd s.last (λ r. (value r.at ≡ value s.at) × (value r.at ≈ end) × IsThere (best_of x old.window) (reach_before t + own) (value r.at) r.value)
         → z'.window ≡ z.window → z'.past ≡ Some s → StandsNow t (Op.Past z') e' to
@@ -283,7 +315,8 @@ module _ (t : Turn) (z : Endless) (e : Held) (to : ℕ) (b : Belongs t (Op.Past 
       where
         by_last : (o : Option Reached)
             → IsSomeAnd o (λ r. (value r.at ≡ value s.at) × (value r.at ≈ end) × IsThere (best_of x old.window) (reach_before t + own) (value r.at) r.value)
-            → IsSomeAnd o (λ r. (value r.at ≡ value s.at) × (value r.at ≈ whole (pos to)) × IsThere (best_of x old.window) (reach_before t + own) (value r.at) r.value)
+            → IsSomeAnd o (λ r.
+            (value r.at ≡ value s.at) × (value r.at ≈ whole (pos to)) × IsThere (best_of x old.window) (reach_before t + own) (value r.at) r.value)
         by_last None h = h
         by_last (Some r) h = (h.0, same_trans h.1 same, h.2)
 

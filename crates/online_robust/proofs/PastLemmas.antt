@@ -1,5 +1,7 @@
 -- How the high end of a window without a low end goes on over its input.
-use Rattle.std.proofs.Common.{arith, ◌≡◌, ◌≢◌, ◌⊎◌, inl, inr, ℕ, ℤ, pos, neg_ℤ, ◌+◌, ◌-◌, ◌*◌, ◌<◌, ◌≤◌, ◌^◌, ◌+ℤ◌, ◌≤ℤ◌, ◌<ℤ◌, Bool, true, false, List, [], ◌∷◌, ◌++◌, Option, Some, None, refl, sym, ap, subst, ◌∙◌, length, drop, slice_get, get_or}
+use Rattle.std.proofs.Common.{arith, ◌≡◌, ◌≢◌, ◌⊎◌, inl, inr, ℕ, ℤ, pos, neg_ℤ, ◌+◌, ◌-◌, ◌*◌, ◌<◌, ◌≤◌}
+use Rattle.std.proofs.Common.{◌^◌, ◌+ℤ◌, ◌≤ℤ◌, ◌<ℤ◌, Bool, true, false, List, [], ◌∷◌, ◌++◌, Option}
+use Rattle.std.proofs.Common.{Some, None, refl, sym, ap, subst, ◌∙◌, length, drop, slice_get, get_or}
 use Rattle.std.specs.Prelude.{◌-ℤ◌, IfSome, IsTrue, MatchBool, MatchOption}
 use Rattle.std.proofs.lemmas.Int.{ints}
 use Rattle.std.proofs.lemmas.List.{get_or-set_same, length-set}
@@ -10,7 +12,8 @@ use Rattle.rational.specs.Extended.{Extended, minus_infinity, infinity, value_at
 use Rattle.rational.specs.Affine.{IsBounded}
 use Rattle.rational.specs.Windows.{Function}
 use Rattle.rational.proofs.AffineLemmas.{bounded_same, same_reflᵉ, value_same}
-use Rattle.rational.proofs.Order.{ge_of_same, le_of_lt, le_of_same, le_refl, le_trans, lt_irrefl, lt_of_le_of_lt, lt_of_lt_of_le, not_lt_of_le, same_refl, same_sym, same_trans}
+use Rattle.rational.proofs.Order.{ge_of_same, le_of_lt, le_of_same, le_refl, le_trans, lt_irrefl, lt_of_le_of_lt}
+use Rattle.rational.proofs.Order.{lt_of_lt_of_le, not_lt_of_le, same_refl, same_sym, same_trans}
 use Rattle.frac128.specs.Value.{value}
 use Rattle.frac128.specs.declared.frac.Frac.{Frac}
 use Rattle.value_laws.specs.Margins.{is_ramp, margin_base, margin_function}
@@ -28,7 +31,8 @@ use Rattle.online_robust.specs.Reading.{IsThere, LosesAt}
 use Rattle.online_robust.specs.Sweeping.{AreBy, AreFrozen, EndsAt, IsBefore, IsFrozen, IsNoKnot, IsOn, IsUpTo, Mark, Runs, last_gap}
 use Rattle.online_robust.specs.Told.{AreFit, AreJoined, AreTold, IsMovedBy, IsTick}
 use Rattle.online_robust.specs.WindowPasts.{AreKept, IsFitPast, IsFollowed, IsPastAt, IsSettled, IsUnder, StaysPast}
-use Rattle.online_robust.specs.Windows.{IsCore, IsStanding, IsTickEnd, IsToCome, IsUnfixed, IsUnfixedUnder, Scope, Sheds, at_time, before_start, gap_of, input_of, no_gap}
+use Rattle.online_robust.specs.Windows.{IsCore, IsStanding, IsTickEnd, IsToCome, IsUnfixed, IsUnfixedUnder}
+use Rattle.online_robust.specs.Windows.{Scope, Sheds, at_time, before_start, gap_of, input_of, no_gap}
 use Rattle.online_robust.specs.declared.ends.Gap.{Gap}
 use Rattle.online_robust.specs.declared.line.MarginLine.{MarginLine}
 use Rattle.online_robust.specs.declared.line.MarginLine.TheVariants as L
@@ -58,21 +62,36 @@ module _ (x : Scope) (p : Past) (e : Held) (at : IsPastAt x p e) where
 
   -- a gap that ends has a point at its end, and what comes behind it
   pub record Comes : Type 0 where
+    -- the time of the next point
     pub u : Frac
+    -- its margin
     pub v : Margin
+    -- the lines behind it
     pub rest : List MarginLine
+    -- the edge holds these
     pub is : at.lines ≡ L.Point u v ∷ rest
+    -- the gap ends there
     pub ends : EndsAt p.gap.until (value u)
+    -- where the high end is
     pub here : value u ≈ h
+    -- the input has that margin there
     pub there : IsThere (input_of x p.window.side) x.reach (value u) v
+    -- which is the formula's
     pub told_here : Robustness x.formula x.trace (value u) (value_at (margin_function v) (value u))
+    -- at a tick
     pub tick : IsTick (value u)
+    -- of the trace
     pub from_start : start x.trace ≤ʳ value u
+    -- not behind the input's front
     pub by_front : value u ≤ʳ x.front
+    -- the rest tells the margin
     pub told : AreTold (Robustness x.formula x.trace) rest
+    -- within the limits
     pub fit : AreFit x.reach rest
+    -- and goes on from the point
     pub joined : AreJoined (value u) x.front rest
 
+  -- where the gap ends at the high end a point comes
   pub comes : EndsAt p.gap.until h → Comes
   comes ends = by_until p.gap.until ends at.to_come refl
     where
@@ -117,7 +136,10 @@ module _ (x : Scope) (p : Past) (e : Held) (at : IsPastAt x p e) where
       (sym g_is) (
         record {
           told = λ t y z. inl (
-            record { above = le_trans c.from_start (le_of_lt y); below = le_trans (le_of_lt z) (le_trans (le_of_same joined.1) (le_trans to_front at.domain.1)) },
+            record {
+              above = le_trans c.from_start (le_of_lt y);
+              below = le_trans (le_of_lt z) (le_trans (le_of_same joined.1) (le_trans to_front at.domain.1));
+            },
             told.0.1 t (lt_of_le_of_lt (le_of_same joined.0) y) z,
           );
           bounded = λ t y z. bounded_on m (value a) (value b) t fit.0.2 fit.0.3 (le_trans (le_of_same joined.0) y) z;
@@ -154,6 +176,7 @@ module _ (x : Scope) (p : Past) (e : Held) (at : IsPastAt x p e) where
   high_from = subst (λ (g : Gap). (m : Rational) × IsOn (input_of x p.window.side) x.reach m g × IsBefore m g.until) (sym at.core.last)
       (last_from (input_of x p.window.side) x.reach at.core.from (before_start p.none p.start) at.core.marks at.core.runs)
 
+  -- the gap's margin may be moved
   pub gap_moved : IsMovedBy x.reach p.gap.shape
   gap_moved = high_from.1.moved
 
@@ -203,6 +226,7 @@ module _ (x : Scope) (p : Past) (e : Held) (at : IsPastAt x p e) where
         up_later None b = tt
         up_later (Some w) b = le_trans (ge_of_same c.here) (le_of_lt b)
 
+    -- the high end lies before the end of the next gap
     pub before_next : IsBefore h next.until
     before_next = by_until next.until before
       where
@@ -221,6 +245,7 @@ module _ (x : Scope) (p : Past) (e : Held) (at : IsPastAt x p e) where
       at.best,
     )
 
+    -- a knot that gives a constant makes the best of what was and it
     pub gone_frozen : (k r : Margin) → (IsOneLine p.gap.shape c.v next.shape (value c.u) → ⊥)
         → IsFrozen p.window.side p.gap.shape c.v next.shape (value c.u) k
         → MatchOption p.best (r ≡ k) (λ q. IsBetterOf margin_function p.window.side k q r)
@@ -246,14 +271,18 @@ module _ (x : Scope) (p : Past) (e : Held) (at : IsPastAt x p e) where
     followed : IsFollowed r at.lines (edge_at e p.window.of).fresh
     followed = (subst (λ (o : Option Reached). AreKept p.gap o at.lines (edge_at e p.window.of)) some at.kept).1
 
+    -- the point that was reached is at the high end
     pub here_is : (value r.at ≈ h) × EndsAt p.gap.until h
     here_is = subst (IsUnder h p.gap) some at.under
 
+    -- it is the point that comes
     pub met : Comes
     met = comes here_is.1
 
     first_is : (rest fresh : List MarginLine) → IsFollowed r (L.Point met.u met.v ∷ rest) fresh → L.Point met.u met.v ≡ L.Point r.at r.value
-    first_is rest fresh (inl (nil, is)) = let f : Some (L.Point met.u met.v) ≡ Some (L.Point r.at r.value) = ap (λ (z : List MarginLine). slice_get z 0) is in some_is f
+    first_is rest fresh (inl (nil, is)) =
+        let f : Some (L.Point met.u met.v) ≡ Some (L.Point r.at r.value) = ap (λ (z : List MarginLine). slice_get z 0) is in
+        some_is f
     first_is rest fresh (inr (a, b, d, m, more', is', is)) =
         let f : Some (L.Point met.u met.v) ≡ Some (L.Point r.at r.value) = ap (λ (z : List MarginLine). slice_get z 0) is in some_is f
 
@@ -261,12 +290,15 @@ module _ (x : Scope) (p : Past) (e : Held) (at : IsPastAt x p e) where
     point_is = first_is met.rest (edge_at e p.window.of).fresh
         (subst (λ (z : List MarginLine). IsFollowed r z (edge_at e p.window.of).fresh) met.is followed)
 
+    -- at that time
     pub u_is : met.u ≡ r.at
     u_is = ap end_of point_is
 
+    -- with that margin
     pub v_is : met.v ≡ r.value
     v_is = ap margin_of point_is
 
+    -- the gap's margin is bounded there
     pub before_small : IsBounded (2 ^ 31) (value_at (margin_function p.gap.shape) (value met.u))
     before_small = high_from.1.bounded (value met.u) (le_of_lt (before_of_end p.gap.until met.ends high_from.2))
         (up_to_end p.gap.until met.ends (le_refl (value met.u)))
@@ -276,12 +308,19 @@ module _ (x : Scope) (p : Past) (e : Held) (at : IsPastAt x p e) where
         (entered : MatchOption (slice_get (fresh_at e p.window.of) 0) ((next ≡ no_gap p.none) × (new ≡ e))
         (λ y. (next ≡ gap_of y) × (new.edges ≡ with_edge e p.window.of (with_read (edge_at e p.window.of) y)) × (new.start ≡ e.start))) where
       pub record HasEntered : Type 0 where
+        -- what is left to read
         pub lines : List MarginLine
+        -- the next gap goes on from the point
         pub on : IsOn (input_of x p.window.side) x.reach (value met.u) next
+        -- it ends behind it
         pub before : IsBefore (value met.u) next.until
+        -- what is to come goes on from it
         pub come : IsToCome x next.until lines
+        -- the edge keeps it
         pub kept : AreKept next None lines (edge_at new p.window.of)
+        -- the gap stands on the edge, or is none yet
         pub stands : (next.stands ≡ true) ⊎ (next ≡ no_gap p.none) ⊎ (next ≡ before_start p.none p.start)
+        -- nothing was lost but what may be
         pub shed : (limit : Rational) → Sheds limit p.window.of e new
 
       by_follow : (fresh : List MarginLine) → fresh_at e p.window.of ≡ fresh → IsFollowed r (L.Point met.u met.v ∷ met.rest) fresh → HasEntered
@@ -348,10 +387,12 @@ module _ (x : Scope) (p : Past) (e : Held) (at : IsPastAt x p e) where
               not_below : (k : ℕ) → k < 0 → ⊥
               not_below k below = omega (arith, below)
 
+      -- the high end has entered the next gap
       pub has_entered : HasEntered
       has_entered = by_follow (fresh_at e p.window.of) refl
           (subst (λ (z : List MarginLine). IsFollowed r z (edge_at e p.window.of).fresh) met.is followed)
 
+      -- whose margin is bounded at the point
       pub after_small : (en : HasEntered) → IsBounded (2 ^ 31) (value_at (margin_function next.shape) (value met.u))
       after_small en = en.on.bounded (value met.u) (le_refl (value met.u)) (up_to_before (value met.u) next.until en.before)
 
@@ -404,6 +445,7 @@ module _ (x : Scope) (p : Past) (e : Held) (at : IsPastAt x p e) where
     abbrev i : ℕ
     i = p.window.of
 
+    -- the point that comes
     pub d : Comes
     d = comes ends
 
@@ -411,9 +453,13 @@ module _ (x : Scope) (p : Past) (e : Held) (at : IsPastAt x p e) where
     kept_none = subst (λ (o : Option Reached). AreKept p.gap o at.lines (edge_at e i)) none at.kept
 
     pub record GapGone : Type 0 where
+      -- nothing is kept of what was read
       pub seen : (edge_at mid i).seen ≡ []
+      -- the edge holds the point and the rest
       pub fresh : fresh_at mid i ≡ L.Point d.u d.v ∷ d.rest
+      -- what was before is gone
       pub lost : LosesAt h i e mid
+      -- the edge is still there
       pub mid_in : i < length mid.edges
 
     by_stands : (b : Bool) → MatchBool b ((a c : Frac) × (p.gap.until ≡ Some c) × ((edge_at e i).seen ≡ L.Gap a c p.gap.shape ∷ [])) ((edge_at e i).seen ≡ [])
@@ -438,13 +484,17 @@ module _ (x : Scope) (p : Past) (e : Held) (at : IsPastAt x p e) where
       mid_in = subst (λ (y : Held). i < length y.edges) (sym same) at.within;
     }
 
+    -- the gap's line is gone
     pub gap_gone : GapGone
     gap_gone = by_stands p.gap.stands kept_none.0 dropped
 
+    -- the point's line is the first
     pub point_first : slice_get (held_at mid i) 0 ≡ Some (L.Point d.u d.v)
     point_first = ap (λ (z : List MarginLine). slice_get (z ++ fresh_at mid i) 0) gap_gone.seen ∙ ap (λ (z : List MarginLine). slice_get z 0) gap_gone.fresh
 
-    module _ (new : Held) (line : MarginLine) (first : slice_get (held_at mid i) 0 ≡ Some line) (taken : new.edges ≡ with_edge mid i (without 1 (edge_at mid i))) (start_new : new.start ≡ mid.start) where
+    module _ (new : Held) (line : MarginLine) (first : slice_get (held_at mid i) 0 ≡ Some line)
+        (taken : new.edges ≡ with_edge mid i (without 1 (edge_at mid i))) (start_new : new.start ≡ mid.start) where
+      -- it is the point
       pub line_is : line ≡ L.Point d.u d.v
       line_is = some_is (sym first ∙ point_first)
 
@@ -458,9 +508,11 @@ module _ (x : Scope) (p : Past) (e : Held) (at : IsPastAt x p e) where
       new_fresh = ap (λ (y : Edge). y.fresh) new_is ∙ ap (λ (z : List MarginLine). drop (1 - length z) (fresh_at mid i)) gap_gone.seen
           ∙ ap (λ (z : List MarginLine). drop 1 z) gap_gone.fresh
 
+      -- both lines are gone
       pub left_both : LosesAt h i e new
       left_both = loses_at_both gap_gone.lost (took h i mid new (L.Point d.u d.v) gap_gone.mid_in taken start_new point_first (le_of_same d.here))
 
+      -- and nothing else
       pub left_shed : Sheds h i e new
       left_shed = sheds_of h i e new left_both
 
@@ -470,6 +522,7 @@ module _ (x : Scope) (p : Past) (e : Held) (at : IsPastAt x p e) where
       follows (L.Gap a b m ∷ more) joined = inr (a, b, a, m, more, refl, refl)
       follows (L.Point u v ∷ more) joined = absurd joined
 
+      -- the window stands at the point
       pub past_left : (r : Reached) → r.at ≡ end_of line → r.value ≡ margin_of line
           → IsPastAt x (record p { point = Some r }) new × IsSettled (record p { point = Some r })
       past_left r at_is value_is = (

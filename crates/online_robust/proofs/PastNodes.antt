@@ -18,14 +18,23 @@ use Rattle.online_robust.specs.declared.window.Window.{Window}
 
 -- what is so of the window's node
 pub record IsPastNode (f : ℕ → Subformula) (place : ℕ) (n : Node) (w : Window) : Type 0 where
+  -- the input is read on the left
   pub reads : IsReader n true w.of
+  -- there is no other
   pub only : (j : ℕ) (left : Bool) → IsReader n left j → (j ≡ w.of) × (left ≡ true)
+  -- it is looked back into by the high offset
   pub back : reach_back n true ≡ w.high
+  -- the window keeps within the node's reach
   pub own : IsOwned w (own_reach n)
+  -- and does not pass its horizon
   pub far : (pos (horizon (f w.of)) +ℤ w.high) ≤ℤ pos (horizon (tree_of f place n))
+  -- it looks back without end
   pub low : w.low ≡ neg_ℤ (pos 4294967296)
+  -- with it
   pub low_in : w.low_in ≡ true
+  -- and not ahead
   pub behind : w.high ≤ℤ pos 0
+  -- what is kept is what its edge has read
   pub seen : (e : Held) → seen_by n e ≡ (edge_at e w.of).seen
 
 module _ (f : ℕ → Subformula) (place : ℕ) where
@@ -60,6 +69,7 @@ module _ (f : ℕ → Subformula) (place : ℕ) where
     seen = λ e. refl;
   }
 
+  -- a node with a window of the past without a begin is such
   pub past_node : (n : Node) (w : Window) → IsPastOf n w → IsPastNode f place n w
   past_node (N.Once p a None a_in b_in) w is = subst (IsPastNode f place (N.Once p a None a_in b_in)) (sym is) (once_node p a a_in b_in)
   past_node (N.Historically p a None a_in b_in) w is =

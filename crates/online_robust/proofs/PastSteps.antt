@@ -1,5 +1,6 @@
 -- How a window without a low end goes on to its next stop, and over a stretch.
-use Rattle.std.proofs.Common.{arith, ◌≡◌, ◌⊎◌, inl, inr, ℕ, ℤ, pos, neg_ℤ, ◌+◌, ◌*◌, ◌<◌, ◌≤◌, ◌^◌, ◌≤ℤ◌, ◌<ℤ◌, Bool, true, false, List, [], ◌∷◌, Option, Some, None, refl, sym, ap, subst, ◌∙◌, to_z, of_z, w64}
+use Rattle.std.proofs.Common.{arith, ◌≡◌, ◌⊎◌, inl, inr, ℕ, ℤ, pos, neg_ℤ, ◌+◌, ◌*◌, ◌<◌, ◌≤◌, ◌^◌, ◌≤ℤ◌, ◌<ℤ◌, Bool, true}
+use Rattle.std.proofs.Common.{false, List, [], ◌∷◌, Option, Some, None, refl, sym, ap, subst, ◌∙◌, to_z, of_z, w64}
 use Rattle.std.specs.Prelude.{◌-ℤ◌, IfSome, IsSomeAnd, IsTrue, MatchOption, if◌then◌else◌}
 use Rattle.std.specs.Int.RustNames.{unsigned_abs}
 use Rattle.std.proofs.lemmas.Int.{ints}
@@ -8,7 +9,8 @@ use Rattle.rational.specs.Time.{Rational, less, shifted, ◌≈◌, ◌≤ʳ◌,
 use Rattle.rational.specs.Extended.{minus_infinity, infinity, value_at, ◌≈ᵉ◌}
 use Rattle.rational.specs.Affine.{IsBounded}
 use Rattle.rational.proofs.AffineLemmas.{value_same}
-use Rattle.rational.proofs.Order.{ge_of_same, le_of_lt, le_of_same, le_refl, le_trans, lt_irrefl, lt_of_le_of_lt, lt_of_lt_of_le, not_lt_of_le, same_of_le, same_refl, same_sym, same_trans}
+use Rattle.rational.proofs.Order.{ge_of_same, le_of_lt, le_of_same, le_refl, le_trans, lt_irrefl, lt_of_le_of_lt}
+use Rattle.rational.proofs.Order.{lt_of_lt_of_le, not_lt_of_le, same_of_le, same_refl, same_sym, same_trans}
 use Rattle.rational.proofs.Sames.{symᵉ, transᵉ}
 use Rattle.rational.proofs.TimeLemmas.{less_in, less_no, shifted-add}
 use Rattle.frac128.specs.Value.{value}
@@ -30,7 +32,9 @@ use Rattle.online_robust.specs.Reading.{IsBuilt, IsThere}
 use Rattle.online_robust.specs.Sweeping.{EndsAt, IsBefore, IsUpTo}
 use Rattle.online_robust.specs.Told.{IsMovedBy, IsTick}
 use Rattle.online_robust.specs.WindowPasts.{AreKept, CanPass, HasPassed, IsFitPast, IsPassing, IsPastAt, IsSettled, IsUnder, StaysPast, past_steps}
-use Rattle.online_robust.specs.Windows.{HasTold, IsCore, IsGone, IsOutcome, IsOwned, IsPointOf, IsShifted, IsSpan, IsStep, IsTopOf, IsUnfixedUnder, IsUnmet, IsWindowFault, LeavesAt, Scope, Sheds, at_time, before_start, best_of, input_of, lines_left}
+use Rattle.online_robust.specs.Windows.{HasTold, IsCore, IsGone, IsOutcome, IsOwned, IsPointOf, IsShifted, IsSpan}
+use Rattle.online_robust.specs.Windows.{IsStep, IsTopOf, IsUnfixedUnder, IsUnmet, IsWindowFault, LeavesAt, Scope}
+use Rattle.online_robust.specs.Windows.{Sheds, at_time, before_start, best_of, input_of, lines_left}
 use Rattle.online_robust.specs.declared.ends.Gap.{Gap}
 use Rattle.online_robust.specs.declared.line.Reached.{Reached}
 use Rattle.online_robust.specs.declared.past.Past.{Past}
@@ -48,30 +52,38 @@ use Rattle.online_robust.proofs.WindowTelling.{best_is_function}
 
 -- the high offset as the program has it
 module _ (w : Window) (reach : ℕ) (fit : IsFitPast w reach) where
+  -- the offset is not too far behind
   pub high_from : neg_ℤ (pos (2 ^ 32)) ≤ℤ w.high
   high_from = let h = fit.from in omega (arith, ints, h)
 
+  -- nor too far ahead
   pub high_to : w.high ≤ℤ pos (2 ^ 32)
   high_to = let h = fit.to in omega (arith, ints, h)
 
+  -- it is handed on as it is
   pub high_passed : to_z w64 (of_z w64 w.high) ≡ w.high
   high_passed = passed w.high high_from high_to
 
+  -- and then not too far behind
   pub high_from_passed : neg_ℤ (pos (2 ^ 32)) ≤ℤ to_z w64 (of_z w64 w.high)
   high_from_passed = subst (λ z. neg_ℤ (pos (2 ^ 32)) ≤ℤ z) (sym high_passed) high_from
 
+  -- nor too far ahead
   pub high_to_passed : to_z w64 (of_z w64 w.high) ≤ℤ pos (2 ^ 32)
   high_to_passed = subst (λ z. z ≤ℤ pos (2 ^ 32)) (sym high_passed) high_to
 
+  -- the gap ends where it did
   pub leaves_at : (until r : Option Frac) → LeavesAt until (to_z w64 (of_z w64 w.high)) r → LeavesAt until w.high r
   leaves_at until r leaves = subst (λ z. LeavesAt until z r) high_passed leaves
 
+  -- a moved base keeps within the limits
   pub room : (m : Margin) → IsMovedBy reach m → unsigned_abs (margin_base m -ℤ to_z w64 (of_z w64 w.high)) ≤ 2 ^ 34
   room m moved = subst (λ z. unsigned_abs (margin_base m -ℤ z) ≤ 2 ^ 34) (sym high_passed) (base_room reach m w.high moved fit.small high_from high_to)
 
 -- a low end that lies before any time lies before the start
 low_early : (t s : Rational) (k : ℤ) → k ≡ neg_ℤ (pos 4294967296) → t ≤ʳ whole (pos 4294967295) → whole (pos 0) ≤ʳ s → shifted t k <ʳ s
-low_early t s k is up down = lt_of_lt_of_le (lt_of_le_of_lt (le_shifted k up) (subst (λ (z : ℤ). shifted (whole (pos 4294967295)) z <ʳ whole (pos 0)) (sym is) early)) down
+low_early t s k is up down =
+    lt_of_lt_of_le (lt_of_le_of_lt (le_shifted k up) (subst (λ (z : ℤ). shifted (whole (pos 4294967295)) z <ʳ whole (pos 0)) (sym is) early)) down
   where
     early : shifted (whole (pos 4294967295)) (neg_ℤ (pos 4294967296)) <ʳ whole (pos 0)
     early = record { lt = omega (arith, ints) }
@@ -95,10 +107,13 @@ pub top_of : (side : Side) (none top : Margin) (best : Option Margin) (cs : List
 top_of side none top None cs nil is = inr (nil, is)
 top_of side none top (Some b) cs best is = inl (subst (λ (m : Margin). IsBest margin_function side cs m) (sym is) best)
 
+-- the high end lies before the end of its gap
 pub settled_before : (p : Past) → IsSettled p → p.point ≡ None → IsBefore (shifted (value p.at) p.window.high) p.gap.until
-settled_before p settled none = subst (λ (o : Option Reached). MatchOption o (IsBefore (shifted (value p.at) p.window.high) p.gap.until) (λ r. Unit {0})) none settled
+settled_before p settled none =
+    subst (λ (o : Option Reached). MatchOption o (IsBefore (shifted (value p.at) p.window.high) p.gap.until) (λ r. Unit {0})) none settled
 
-module _ (x : Scope) (p : Past) (e : Held) (at : IsPastAt x p e) (to : Rational) (going : IsPassing x p to) (none : p.point ≡ None) (first : Frac) (leave : Option Frac)
+module _ (x : Scope) (p : Past) (e : Held) (at : IsPastAt x p e) (to : Rational) (going : IsPassing x p to)
+    (none : p.point ≡ None) (first : Frac) (leave : Option Frac)
     (leaves : LeavesAt p.gap.until p.window.high leave) (by_to : value first ≤ʳ to) (by_leave : IfSome leave (λ u. value first ≤ʳ value u))
     (one : (value first ≡ to) ⊎ IsSomeAnd leave (λ u. value first ≡ value u)) where
   abbrev pub t : Rational
@@ -123,6 +138,7 @@ module _ (x : Scope) (p : Past) (e : Held) (at : IsPastAt x p e) (to : Rational)
       which (inl same) = inl same
       which (inr h) = inr (inl (ends p.gap.until p.window.high leave t leaves h))
 
+  -- the next stop is later
   pub goes_later : value p.at <ʳ t
   goes_later = later x p.window p.none (before_start p.none p.start) p.gap (value p.at) at.core to t step
 
@@ -175,6 +191,7 @@ module _ (x : Scope) (p : Past) (e : Held) (at : IsPastAt x p e) (to : Rational)
     low_then = core_low x p.window p.none (before_start p.none p.start) p.gap (value p.at) at.core to t step
         (λ (cs : List Margin). IsTopOf margin_function p.window.side p.none cs best.top) top
 
+    -- what was reached there is what the window tells
     pub past_gone : (reached : Reached) → value reached.at ≡ t → reached.value ≡ m → IsGone (at_time x (value p.at) (value p.at)) p.window to t best reached
     past_gone reached here is = record {
       here = here;
@@ -182,7 +199,8 @@ module _ (x : Scope) (p : Past) (e : Held) (at : IsPastAt x p e) (to : Rational)
       by = by_to;
       between = between x p.window p.none (before_start p.none p.start) p.gap (value p.at) at.core to t step best top lows highs;
       there = λ from. subst (λ (n : Margin). best_of x p.window t (value_at (margin_function n) t)) (sym is)
-          (there x p.window p.none (before_start p.none p.start) p.gap (value p.at) at.core to t step (before_start p.none p.start) low_then.0 low_stays (λ _. refl)
+          (there x p.window p.none (before_start p.none p.start) p.gap (value p.at) at.core to t step
+          (before_start p.none p.start) low_then.0 low_stays (λ _. refl)
           best low_then.1 lows highs at_high None high_is no_low_point m outcome (λ far. refl) from);
       bounded = λ q has. (fits q has).0;
       limited = subst (λ (n : Margin). IsBounded (2 ^ 31) (value_at (margin_function n) t)) (sym is) fit.0;
@@ -201,7 +219,8 @@ module _ (x : Scope) (p : Past) (e : Held) (at : IsPastAt x p e) (to : Rational)
 
   -- a step fewer is left
   pub step_fewer : (y : Edge) (q : Past) → value q.at ≡ t → lines_left y ≤ lines_left (edge_at e p.window.of)
-      → (EndsAt p.gap.until (shifted t p.window.high) → lines_left y < lines_left (edge_at e p.window.of)) → past_steps q y to < lines_left (edge_at e p.window.of) + 1
+      → (EndsAt p.gap.until (shifted t p.window.high) → lines_left y < lines_left (edge_at e p.window.of))
+      → past_steps q y to < lines_left (edge_at e p.window.of) + 1
   step_fewer y q here no_more fewer = subst (λ (z : Rational). lines_left y + (if less z to then 1 else 0) < lines_left (edge_at e p.window.of) + 1) (sym here)
       (by_one one)
     where
@@ -228,6 +247,7 @@ stays_on p q r k g = record {
   last = g.last ∙ k.last;
 }
 
+-- the window stays as it is
 pub stays_none : (p : Past) → StaysPast p p
 stays_none p = record { window = refl; start = refl; none = refl; last = refl }
 
@@ -269,6 +289,7 @@ fewer_both p x y to n before no_more step =
     let one : ◌≡◌ {A = ℕ} (if less (value p.at) to then 1 else 0) 1 = ap (λ (b : Bool). if b then 1 else 0) (less_in (value p.at) to before) in
     omega (arith, one, no_more, step)
 
+-- each stop leaves fewer steps
 pub past_falls : (old new : Past) (x y : Held) (to : Rational) → new.window ≡ old.window
     → past_steps new (edge_at y old.window.of) to < past_steps old (edge_at x old.window.of) to
     → past_steps new (edge_at y new.window.of) to < past_steps old (edge_at x old.window.of) to
@@ -279,23 +300,36 @@ past_falls old new x y to same less' =
 
 -- the window goes on to its start, or has come to it
 pub record IsBegun (x : Scope) (own : ℕ) (old p : Past) (old_e e : Held) (r : Reached) : Type 0 where
+  -- the window has passed up to there
   pub came : HasPassed x p e
+  -- and reached that point
   pub here : value r.at ≡ value p.at
+  -- not behind the start
   pub by : value p.at ≤ʳ start x.trace
+  -- at the start it tells the best
   pub there : start x.trace ≤ʳ value p.at → IsThere (best_of x old.window) (x.reach + own) (value r.at) r.value
+  -- nothing was lost but what may be
   pub shed : Sheds (shifted (value p.at) old.window.high) old.window.of old_e e
 
 -- it tells the stretch up to where it has come
 pub record IsSwept (x : Scope) (own : ℕ) (from to : Rational) (old p : Past) (old_e e : Held) (r : Reached) (knots : List (Knot Margin)) : Type 0 where
+  -- the window has passed up to there
   pub came : HasPassed x p e
+  -- and reached that point
   pub here : value r.at ≡ value p.at
+  -- not before where it told from
   pub later : from ≤ʳ value p.at
+  -- nor behind the time
   pub by : value p.at ≤ʳ to
+  -- it tells the best there
   pub there : IsThere (best_of x old.window) (x.reach + own) (value r.at) r.value
+  -- and built the best up to it
   pub built : IsBuilt (best_of x old.window) (x.reach + own) from (value p.at) knots
+  -- nothing was lost but what may be
   pub shed : Sheds (shifted (value p.at) old.window.high) old.window.of old_e e
 
 module _ (x : Scope) (own : ℕ) (from to : Rational) (s : Past) (e : Held) (can : CanPass x own from to s e) where
+  -- the start does not lie behind the time
   pub start_by : value s.start ≤ʳ to
   start_by = le_trans (le_of_same can.at.begins) (le_trans can.span.begins can.span.order)
 
@@ -313,7 +347,8 @@ module _ (x : Scope) (own : ℕ) (from to : Rational) (s : Past) (e : Held) (can
       }
 
   -- and what was told before stands
-  pub stood : (r : Reached) → s.last ≡ Some r → (value r.at ≡ value s.at) × (value r.at ≈ from) × IsThere (best_of x s.window) (x.reach + own) (value r.at) r.value
+  pub stood : (r : Reached) → s.last ≡ Some r
+      → (value r.at ≡ value s.at) × (value r.at ≈ from) × IsThere (best_of x s.window) (x.reach + own) (value r.at) r.value
   stood r some =
       let told : HasTold (at_time x (value s.at) (value s.at)) own from s.window (Some r) =
       subst (HasTold (at_time x (value s.at) (value s.at)) own from s.window) some can.last in
@@ -365,6 +400,7 @@ module _ (x : Scope) (own : ℕ) (from to : Rational) (s : Past) (e : Held) (can
     refused_knot before f h = subst (λ (w : Window). IsWindowFault x w to f) goes.window
         (unfixed_fault x own from to now.window (subst (λ (w : Window). IsSpan x w own from to) (sym goes.window) can.span) (value now.at) before now.gap f h)
 
+    -- a refusal at a stop is one of the window
     pub refused_either : start x.trace ≤ʳ value now.at → value now.at <ʳ to → (at : Rational) → at ≈ value now.at → (f : OpFault Margin)
         → IsUnfixedUnder (at_time x (value now.at) (value now.at)) now.window now.gap f
         ⊎ IsUnmet (at_time x (value now.at) (value now.at)) now.window to at f → IsWindowFault x s.window to f

@@ -1,11 +1,13 @@
 -- A window without a low end that goes on in a turn, and one that begins in it.
-use Rattle.std.proofs.Common.{◌≡◌, ◌≢◌, ◌⊎◌, inl, inr, ℕ, ◌+◌, ◌<◌, ◌≤◌, ◌^◌, Bool, true, false, List, [], ◌∷◌, ◌++◌, length, refl, sym, ap, subst, ◌∙◌, arith, Option, Some, None, ℤ, pos, ◌+ℤ◌, ◌<ℤ◌, ◌≤ℤ◌}
+use Rattle.std.proofs.Common.{◌≡◌, ◌≢◌, ◌⊎◌, inl, inr, ℕ, ◌+◌, ◌<◌, ◌≤◌, ◌^◌, Bool, true, false, List, [], ◌∷◌, ◌++◌}
+use Rattle.std.proofs.Common.{length, refl, sym, ap, subst, ◌∙◌, arith, Option, Some, None, ℤ, pos, ◌+ℤ◌, ◌<ℤ◌, ◌≤ℤ◌}
 use Rattle.std.specs.Prelude.{neg_ℤ, ◌-ℤ◌, MatchBool, MatchOption, IfSome, IsSome, IsSomeAnd, int_lt, cond, slice_get}
 use Rattle.std.proofs.lemmas.Int.{ints}
 use Rattle.rational.specs.Rational.{IsWithin}
 use Rattle.rational.specs.Time.{Rational, Precedes, shifted, whole, ◌≈◌, ◌≤ʳ◌, ◌<ʳ◌}
 use Rattle.rational.specs.Extended.{Extended, minus_infinity, infinity, value_at, ◌≈ᵉ◌}
-use Rattle.rational.proofs.Order.{le_refl, le_trans, le_of_lt, le_of_same, ge_of_same, lt_of_le_of_lt, lt_of_lt_of_le, not_lt_of_le, same_refl, same_sym, same_trans}
+use Rattle.rational.proofs.Order.{le_refl, le_trans, le_of_lt, le_of_same, ge_of_same, lt_of_le_of_lt}
+use Rattle.rational.proofs.Order.{lt_of_lt_of_le, not_lt_of_le, same_refl, same_sym, same_trans}
 use Rattle.rational.proofs.Shift.{le_whole, lt_whole}
 use Rattle.rational.proofs.TimeLemmas.{same_shifted}
 use Rattle.frac128.specs.Value.{value}
@@ -45,7 +47,8 @@ use Rattle.online_robust.proofs.PastAgain.{past_first, past_go_on}
 use Rattle.online_robust.proofs.WindowFaults.{no_later}
 use Rattle.online_robust.proofs.WindowTurnings.{none_there}
 use Rattle.rational.proofs.Mixed.{within_same}
-use Rattle.online_robust.proofs.PastBridging.{far, first_tick, fit, front_last, here, input, of_in, own, scope_of, stays_begun, to_first, to_last, to_tick, told_far}
+use Rattle.online_robust.proofs.PastBridging.{far, first_tick, fit, front_last, here, input, of_in, own}
+use Rattle.online_robust.proofs.PastBridging.{scope_of, stays_begun, to_first, to_last, to_tick, told_far}
 
 -- ---- a window that goes on
 
@@ -54,9 +57,11 @@ module _ (t : Turn) (z : Endless) (e : Held) (to : ℕ) (b : Belongs t (Op.Past 
   state = subst (λ (o : Option Past). MatchOption o ((seen_by b.node e ≡ []) × HasWaitedPast z (begin_of t) (reach_before t + own t z e to b) t.before)
       (λ s. (s.window ≡ z.window) × IsSomeAnd t.before (HasPassedTo t.nodes t.place t.trace z.window.of (own t z e to b) s (seen_by b.node e)))) is b.stands.1
 
+  -- the window that goes on is the node's
   pub going_window : s.window ≡ z.window
   going_window = state.0
 
+  -- it may pass up to the time
   pub going : (from : Rational) × (from ≡ from_of t) × CanPass (scope_of t z e to b (value s.at)) (own t z e to b) from (whole (pos to)) s e
       × (pos (begin_of t) ≤ℤ front_at t.ended (pos t.now) (subformula t.nodes z.window.of))
   going = by_before t.before refl state.1
@@ -68,26 +73,31 @@ module _ (t : Turn) (z : Endless) (e : Held) (to : ℕ) (b : Belongs t (Op.Past 
       by_before (Some g) before (over, begun) =
           let le = stays_begun t z e to b g before begun in
           let forth = subst (λ (o : Option ℤ). IfSome o (λ g. (pos (begin_of t) ≤ℤ g) × (g <ℤ pos to))) before b.forth in
-          let inputs = inputs_of (Robustness (subformula t.nodes z.window.of) t.trace) (reach_before t) (begin_of t) (back_of (begin_of t) (Some g) z.window.high)
+          let inputs =
+          inputs_of (Robustness (subformula t.nodes z.window.of) t.trace) (reach_before t) (begin_of t) (back_of (begin_of t) (Some g) z.window.high)
           (front_at t.ended (pos t.now) (subformula t.nodes z.window.of)) (held_at e z.window.of) le
-          (subst (λ (o : Option ℤ). IsInput (Robustness (subformula t.nodes z.window.of) t.trace) (reach_before t) (begin_of t) (back_of (begin_of t) o z.window.high)
+          (subst (λ (o : Option ℤ).
+          IsInput (Robustness (subformula t.nodes z.window.of) t.trace) (reach_before t) (begin_of t) (back_of (begin_of t) o z.window.high)
           (front_at t.ended (pos t.now) (subformula t.nodes z.window.of)) (held_at e z.window.of)) before (input t z e to b)) in
           let last : whole g ≤ʳ whole (pos to) = le_of_lt (lt_whole forth.1) in (
             whole g,
             sym (from_some t (Op.Past z) e to b g before),
-            subst (λ (v : Window). CanPass (scope_at (subformula t.nodes z.window.of) t.trace (reach_before t) (whole (front_at t.ended (pos t.now) (subformula t.nodes z.window.of)))
+            subst (λ (v : Window). CanPass (scope_at (subformula t.nodes z.window.of) t.trace (reach_before t)
+                (whole (front_at t.ended (pos t.now) (subformula t.nodes z.window.of)))
                 (shifted (whole (pos to)) v.high) (value s.at)) (own t z e to b) (whole g) (whole (pos to)) s e) state.0
                 (past_go_on (subformula t.nodes z.window.of) t.trace (reach_before t) (own t z e to b) g s e
                 (subst (λ l. StoodPast (subformula t.nodes z.window.of) t.trace (reach_before t) (own t z e to b) (whole g) s l)
                 ((here t z e to b).seen e ∙ ap (λ (v : Window). (edge_at e v.of).seen) (sym state.0)) over)
                 (front_at t.ended (pos t.now) (subformula t.nodes z.window.of)) (pos to)
-                (subst (λ (v : Window). AreInputs (Robustness (subformula t.nodes z.window.of) t.trace) (reach_before t) (begin_of t) (back_of (begin_of t) (Some g) v.high)
+                (subst (λ (v : Window).
+                AreInputs (Robustness (subformula t.nodes z.window.of) t.trace) (reach_before t) (begin_of t) (back_of (begin_of t) (Some g) v.high)
                 (front_at t.ended (pos t.now) (subformula t.nodes z.window.of)) (held_at e v.of)) (sym state.0) inputs)
                 (subst (λ (v : Window). v.of < length e.edges) (sym state.0) (of_in t z e to b)) forth.1 (le_whole {j = pos (begin_of t)} {k = g} forth.0)
                 (le_trans (first_tick t z e to b).0 (le_whole {j = pos (begin_of t)} {k = g} forth.0), le_trans last (to_tick t z e to b).1)
                 (to_tick t z e to b) (to_last t z e to b) (le_whole le, front_last t z e to b)
                 (subst (λ (v : Window). (shifted (whole (pos to)) v.high ≤ʳ whole (front_at t.ended (pos t.now) (subformula t.nodes z.window.of)))
-                ⊎ ((whole (front_at t.ended (pos t.now) (subformula t.nodes z.window.of)) ≈ stop t.trace) × (whole (pos to) ≈ stop t.trace))) (sym state.0) (told_far t z e to b))
+                ⊎ ((whole (front_at t.ended (pos t.now) (subformula t.nodes z.window.of)) ≈ stop t.trace) × (whole (pos to) ≈ stop t.trace)))
+                (sym state.0) (told_far t z e to b))
                 (subst (λ v. IsOwned v (own t z e to b)) (sym state.0) (here t z e to b).own)),
             le,
           )
@@ -95,10 +105,12 @@ module _ (t : Turn) (z : Endless) (e : Held) (to : ℕ) (b : Belongs t (Op.Past 
 -- ---- a window that begins
 
 module _ (t : Turn) (z : Endless) (e : Held) (to : ℕ) (b : Belongs t (Op.Past z) e to) (none : z.past ≡ None) where
+  -- a window that waited has seen nothing
   pub waited : (seen_by b.node e ≡ []) × HasWaitedPast z (begin_of t) (reach_before t + own t z e to b) t.before
   waited = subst (λ (o : Option Past). MatchOption o ((seen_by b.node e ≡ []) × HasWaitedPast z (begin_of t) (reach_before t + own t z e to b) t.before)
       (λ s. (s.window ≡ z.window) × IsSomeAnd t.before (HasPassedTo t.nodes t.place t.trace z.window.of (own t z e to b) s (seen_by b.node e)))) none b.stands.1
 
+  -- its edge has read nothing
   pub nothing_seen : (edge_at e z.window.of).seen ≡ []
   nothing_seen = sym ((here t z e to b).seen e) ∙ waited.0
 
@@ -113,7 +125,8 @@ module _ (t : Turn) (z : Endless) (e : Held) (to : ℕ) (b : Belongs t (Op.Past 
           let le = int_order (g +ℤ z.window.high) (pos (begin_of t)) false f in
           absurd (omega (arith, ints, le, short))
 
-  first_input : IsInput (Robustness (subformula t.nodes z.window.of) t.trace) (reach_before t) (begin_of t) None (front_at t.ended (pos t.now) (subformula t.nodes z.window.of)) (held_at e z.window.of)
+  first_input : IsInput (Robustness (subformula t.nodes z.window.of) t.trace) (reach_before t) (begin_of t) None
+      (front_at t.ended (pos t.now) (subformula t.nodes z.window.of)) (held_at e z.window.of)
   first_input = subst (λ (o : Option ℤ). IsInput (Robustness (subformula t.nodes z.window.of) t.trace) (reach_before t) (begin_of t) o
       (front_at t.ended (pos t.now) (subformula t.nodes z.window.of)) (held_at e z.window.of)) (back_none t.before waited.1.short) (input t z e to b)
 
@@ -123,21 +136,24 @@ module _ (t : Turn) (z : Endless) (e : Held) (to : ℕ) (b : Belongs t (Op.Past 
     where
       by_test : (c : Bool) → int_lt (front_at t.ended (pos t.now) (subformula t.nodes z.window.of)) (pos (begin_of t)) ≡ c
           → MatchBool c (held_at e z.window.of ≡ []) (AreInputs (Robustness (subformula t.nodes z.window.of) t.trace) (reach_before t) (begin_of t) None
-          (front_at t.ended (pos t.now) (subformula t.nodes z.window.of)) (held_at e z.window.of)) → front_at t.ended (pos t.now) (subformula t.nodes z.window.of) <ℤ pos (begin_of t)
+          (front_at t.ended (pos t.now) (subformula t.nodes z.window.of)) (held_at e z.window.of))
+          → front_at t.ended (pos t.now) (subformula t.nodes z.window.of) <ℤ pos (begin_of t)
       by_test true f h = int_order (front_at t.ended (pos t.now) (subformula t.nodes z.window.of)) (pos (begin_of t)) true f
       by_test false f inputs = let (p, v, rest, is, when, joined) = inputs.left in
           absurd (let k : ◌≡◌ {A = Option MarginLine} (Some _) None = sym (ap (λ (l : List MarginLine). slice_get l 0) is) ∙ empty in let y = k in cc)
 
   -- one that is not empty, that of an input that has
   pub has_begun : slice_get (held_at e z.window.of) 0 ≢ None → (pos (begin_of t) ≤ℤ front_at t.ended (pos t.now) (subformula t.nodes z.window.of))
-      × AreInputs (Robustness (subformula t.nodes z.window.of) t.trace) (reach_before t) (begin_of t) None (front_at t.ended (pos t.now) (subformula t.nodes z.window.of)) (held_at e z.window.of)
+      × AreInputs (Robustness (subformula t.nodes z.window.of) t.trace) (reach_before t) (begin_of t) None
+      (front_at t.ended (pos t.now) (subformula t.nodes z.window.of)) (held_at e z.window.of)
   has_begun some = by_test (int_lt (front_at t.ended (pos t.now) (subformula t.nodes z.window.of)) (pos (begin_of t))) refl first_input
     where
       by_test : (c : Bool) → int_lt (front_at t.ended (pos t.now) (subformula t.nodes z.window.of)) (pos (begin_of t)) ≡ c
           → MatchBool c (held_at e z.window.of ≡ []) (AreInputs (Robustness (subformula t.nodes z.window.of) t.trace) (reach_before t) (begin_of t) None
           (front_at t.ended (pos t.now) (subformula t.nodes z.window.of)) (held_at e z.window.of))
           → (pos (begin_of t) ≤ℤ front_at t.ended (pos t.now) (subformula t.nodes z.window.of))
-          × AreInputs (Robustness (subformula t.nodes z.window.of) t.trace) (reach_before t) (begin_of t) None (front_at t.ended (pos t.now) (subformula t.nodes z.window.of)) (held_at e z.window.of)
+          × AreInputs (Robustness (subformula t.nodes z.window.of) t.trace) (reach_before t) (begin_of t) None
+          (front_at t.ended (pos t.now) (subformula t.nodes z.window.of)) (held_at e z.window.of)
       by_test true f h = absurd (some (ap (λ (l : List MarginLine). slice_get l 0) h))
       by_test false f inputs = (int_order (front_at t.ended (pos t.now) (subformula t.nodes z.window.of)) (pos (begin_of t)) false f, inputs)
 
@@ -169,7 +185,8 @@ module _ (t : Turn) (z : Endless) (e : Held) (to : ℕ) (b : Belongs t (Op.Past 
         → shifted (value s.at) v.high <ʳ value s.start → AreInputs (Robustness f t.trace) (reach_before t) (begin_of t) None F (held_at e v.of)
         → (edge_at e v.of).seen ≡ [] → v.of < length e.edges → IsFitPast v (reach_before t) → IsPastAt x s e × IsSettled s) k.window
         (λ none early' inputs nil of_in fit'.
-        past_first f t.trace (reach_before t) s e F (shifted (whole (pos to)) z.window.high) k.begins none k.still k.gap k.point k.best near early' inputs nil of_in
+        past_first f t.trace (reach_before t) s e F
+        (shifted (whole (pos to)) z.window.high) k.begins none k.still k.gap k.point k.best near early' inputs nil of_in
         fit' (first_tick t z e to b) in_front ended)
         k.none (lt_of_lt_of_le early (ge_of_same k.begins)) (has_begun some).1 nothing_seen (of_in t z e to b) (fit t z e to b)
 
@@ -223,12 +240,14 @@ module _ (t : Turn) (z : Endless) (e : Held) (to : ℕ) (b : Belongs t (Op.Past 
             ap value (sym placed),
             there.0,
             subst (λ (v : Window). IsThere (best_of x v) (reach_before t + own t z e to b) (value r.at) r.value) (sym k.window)
-                (none_there f t.trace (reach_before t) (reach_before t + own t z e to b) (whole F) (shifted (whole (pos to)) z.window.high) (value s.at) z.window
+                (none_there f t.trace (reach_before t) (reach_before t + own t z e to b) (whole F)
+                (shifted (whole (pos to)) z.window.high) (value s.at) z.window
                 (value r.at) r.value (subst (λ (i : Frac). shifted (value i) z.window.high <ʳ start t.trace) placed early) there.2),
           );
           span = span (whole g) order tick begins;
         }
 
+    -- and it may begin now
     pub beginning : (from : Rational) × (from ≡ from_of t) × CanPass x (own t z e to b) from (whole (pos to)) s e
     beginning = by_told z.silent.last t.before refl k.told waited.1.short waited.1.stood b.forth
       where
@@ -242,6 +261,7 @@ module _ (t : Turn) (z : Endless) (e : Held) (to : ℕ) (b : Belongs t (Op.Past 
         by_told (Some r) (Some g) is told short (r', kept, reached) forth = (
           whole g,
           sym (from_some t (Op.Past z) e to b g is),
-          later_turn g r told.0 told.1 short (subst (λ (q : Reached). HasReached (silent_margin z.window.side) (reach_before t + own t z e to b) (whole g) (Some q))
+          later_turn g r told.0 told.1 short
+              (subst (λ (q : Reached). HasReached (silent_margin z.window.side) (reach_before t + own t z e to b) (whole g) (Some q))
               (sym (some_is kept)) reached) forth.0 forth.1,
         )

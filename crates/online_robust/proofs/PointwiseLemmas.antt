@@ -29,12 +29,19 @@ above_of Greater h n le = h
 
 -- the first line of an edge was taken, and then the next
 pub record TakesTwo (old mid new : Held) (i : ℕ) (v w : MarginLine) : Type 0 where
+  -- the edge is one of them
   pub within : i < length old.edges
+  -- its first line is a gap
   pub first : slice_get (held_at old i) 0 ≡ Some v
+  -- it is taken
   pub taken : mid.edges ≡ with_edge old i (without 1 (edge_at old i))
+  -- and the start stays
   pub start : mid.start ≡ old.start
+  -- the next line is a point
   pub second : slice_get (held_at mid i) 0 ≡ Some w
+  -- it is taken too
   pub taken_too : new.edges ≡ with_edge mid i (without 1 (edge_at mid i))
+  -- and the start stays
   pub start_too : new.start ≡ mid.start
 
 module _ {old mid new : Held} {i : ℕ} {v w : MarginLine} (two : TakesTwo old mid new i v w) where
@@ -44,30 +51,36 @@ module _ {old mid new : Held} {i : ℕ} {v w : MarginLine} (two : TakesTwo old m
   mid_count : length mid.edges ≡ length old.edges
   mid_count = (took (value (end_of v)) i old mid v two.within two.taken two.start two.first (le_refl (value (end_of v)))).edges
 
+  -- two lines are gone
   pub two_lost : (limit : Rational) → value (end_of v) ≤ʳ limit → value (end_of w) ≤ʳ limit → LosesAt limit i old new
   two_lost limit h k = loses_at_both (one_lost limit h) (took limit i mid new w (omega (arith, two.within, mid_count)) two.taken_too two.start_too two.second k)
 
+  -- the edge holds the rest
   pub two_held : held_at new i ≡ drop 1 (drop 1 (held_at old i))
   two_held = took_held i mid new (omega (arith, two.within, mid_count)) two.taken_too
       ∙ ap (λ (l : List MarginLine). drop 1 l) (took_held i old mid two.within two.taken)
 
+  -- the point stood behind the gap
   pub second_held : slice_get (drop 1 (held_at old i)) 0 ≡ Some w
   second_held = ap (λ (l : List MarginLine). slice_get l 0) (sym (took_held i old mid two.within two.taken)) ∙ two.second
 
   -- behind a gap its point was taken
   module _ {P : Function} {reach : ℕ} {at to : Rational} (g : FirstGap P reach at to (held_at old i)) where
+    -- it is the point at the gap's end
     pub is_point : w ≡ Point g.u g.v
     is_point =
         let e : slice_get (drop 1 (Gap g.a g.b g.p ∷ Point g.u g.v ∷ g.rest)) 0 ≡ Some w =
         subst (λ (l : List MarginLine). slice_get (drop 1 l) 0 ≡ Some w) g.is second_held in
         let f : Some (Point g.u g.v) ≡ Some w = e in sym (some_is f)
 
+    -- the first is the gap
     pub is_gap : v ≡ Gap g.a g.b g.p
     is_gap =
         let e : slice_get (Gap g.a g.b g.p ∷ Point g.u g.v ∷ g.rest) 0 ≡ Some v =
         subst (λ (l : List MarginLine). slice_get l 0 ≡ Some v) g.is two.first in
         let f : Some (Gap g.a g.b g.p) ≡ Some v = e in sym (some_is f)
 
+    -- and the rest goes on
     pub is_rest : held_at new i ≡ g.rest
     is_rest = two_held ∙ ap (λ (l : List MarginLine). drop 1 (drop 1 l)) g.is
 
@@ -92,15 +105,18 @@ module _ (x : Source) where
     at_end : value g.b ≈ t
     at_end = subst (λ (m : MarginLine). value (end_of m) ≈ t) (is_gap two g) end
 
+    -- the input has the point's margin there
     pub read_there : IsThere (Robustness x.formula x.trace) x.reach t (margin_of w)
     read_there = subst (λ (m : MarginLine). IsThere (Robustness x.formula x.trace) x.reach t (margin_of m)) (sym (is_point two g))
         (there_at (Robustness x.formula x.trace) x.reach (robust_is_function x.formula x.trace) g.u g.v t g.point g.point_fit
         (same_trans (same_sym g.ends) at_end))
 
+    -- and goes on from there
     pub read_ahead : IsAhead (Robustness x.formula x.trace) x.reach t x.to (held_at new i)
     read_ahead = subst (λ (l : List MarginLine). IsAhead (Robustness x.formula x.trace) x.reach t x.to l) (sym (is_rest two g))
         (ahead_next (Robustness x.formula x.trace) x.reach (robust_is_function x.formula x.trace) x.at x.to (held_at old i) g t at_end)
 
+    -- what was read is gone
     pub read_lost : LosesAt t i old new
     read_lost = two_lost two t (le_of_same end)
         (subst (λ (m : MarginLine). value (end_of m) ≤ʳ t) (sym (is_point two g)) (le_of_same (same_trans (same_sym g.ends) at_end)))
@@ -113,25 +129,30 @@ module _ (x : Source) where
     before_end : t <ʳ value h.0.b
     before_end = subst (λ (m : MarginLine). t <ʳ value (end_of m)) h.1 before
 
+    -- within the gap the input has the gap's margin
     pub gap_there : IsThere (Robustness x.formula x.trace) x.reach t (margin_of gap)
     gap_there = subst (λ (m : MarginLine). IsThere (Robustness x.formula x.trace) x.reach t (margin_of m)) (sym h.1)
         (there_in (Robustness x.formula x.trace) x.reach (robust_is_function x.formula x.trace) h.0.a h.0.b h.0.p t h.0.gap h.0.gap_fit
         (lt_of_le_of_lt h.0.begun read.after) before_end)
 
+    -- and goes on
     pub gap_ahead : IsAhead (Robustness x.formula x.trace) x.reach t x.to lines
     gap_ahead = ahead_on (Robustness x.formula x.trace) x.reach (robust_is_function x.formula x.trace) x.at x.to lines read.ahead h.0 t
         (le_of_lt read.after) before_end
 
 -- the point at the start was taken
 module _ {P : Function} {reach : ℕ} {from to : Rational} {lines : List MarginLine} (b : Begins P reach from to lines) where
+  -- an input that begins has a point first
   pub begun_point : (v : MarginLine) → slice_get lines 0 ≡ Some v → v ≡ Point b.at b.v
   begun_point v first =
       let e : slice_get (Point b.at b.v ∷ b.rest) 0 ≡ Some v = subst (λ (l : List MarginLine). slice_get l 0 ≡ Some v) b.is first in
       let f : Some (Point b.at b.v) ≡ Some v = e in sym (some_is f)
 
+  -- and its rest behind
   pub begun_rest : drop 1 lines ≡ b.rest
   begun_rest = ap (λ (l : List MarginLine). drop 1 l) b.is
 
+  -- it holds a line
   pub begun_some : slice_get lines 0 ≡ None → ⊥
   begun_some none =
       let e : slice_get (Point b.at b.v ∷ b.rest) 0 ≡ None = subst (λ (l : List MarginLine). slice_get l 0 ≡ None) b.is none in

@@ -1,5 +1,6 @@
 -- Lines that are put onto an edge, one after another.
-use Rattle.std.proofs.Common.{◌≡◌, ℕ, zero, suc, ◌+◌, ◌-◌, ◌<◌, ◌≤◌, true, false, List, [], ◌∷◌, ◌++◌, length, refl, sym, ap, ◌∙◌, arith, append_assoc, append-nil, Some, set, get_or, get_or-set_same, length-set, take}
+use Rattle.std.proofs.Common.{◌≡◌, ℕ, zero, suc, ◌+◌, ◌-◌, ◌<◌, ◌≤◌, true, false, List, [], ◌∷◌, ◌++◌, length, refl, sym, ap}
+use Rattle.std.proofs.Common.{◌∙◌, arith, append_assoc, append-nil, Some, set, get_or, get_or-set_same, length-set, take}
 use Rattle.std.specs.Prelude.{slice_get}
 use Rattle.std.proofs.lemmas.List.{set-get_or}
 use Rattle.value_laws.specs.declared.margin.Margin.{Margin}
@@ -30,7 +31,8 @@ pub put_both : (node : ℕ) (a b : List MarginLine) (e f g : Held) → node < le
 put_both node a b e f g within first second = record {
   edges =
       second.edges ∙ ap (λ l. set l node (with_more (get_or l node no_edge) b)) first.edges
-      ∙ ap (λ x. set (set e.edges node (with_more (edge_at e node) a)) node (with_more x b)) (get_or-set_same e.edges node (with_more (edge_at e node) a) no_edge within)
+      ∙ ap (λ x. set (set e.edges node (with_more (edge_at e node) a)) node (with_more x b))
+      (get_or-set_same e.edges node (with_more (edge_at e node) a) no_edge within)
       ∙ set_twice e.edges node (with_more (edge_at e node) a) (with_more (with_more (edge_at e node) a) b)
       ∙ ap (set e.edges node) (more_more (edge_at e node) a b);
   start = second.start ∙ first.start;
@@ -46,6 +48,7 @@ after_more x (y ∷ ys) zero k n at next =
     ap (λ z. Gap z.time y.time z.after ∷ Point y.time y.point ∷ []) this ∙ ap (λ z. Gap k.time z.time k.after ∷ Point z.time z.point ∷ []) that
 after_more x (y ∷ ys) (suc i) k n at next = ap (λ l. Gap x.time y.time x.after ∷ Point y.time y.point ∷ l) (after_more y ys i k n at next)
 
+-- a knot more is a gap and a point more
 pub later_more : (s : List (Knot Margin)) (i : ℕ) (k n : Knot Margin) → 1 ≤ i → slice_get s (i - 1) ≡ Some k → slice_get s i ≡ Some n
     → later_lines (take (i + 1) s) ≡ later_lines (take i s) ++ Gap k.time n.time k.after ∷ Point n.time n.point ∷ []
 later_more s zero k n some at next = absurd (omega (arith, some))
@@ -55,10 +58,12 @@ later_more (x ∷ xs) (suc i) k n some at next =
     let down : suc i - 1 ≡ i = omega arith in
     ap (λ j. later_lines (take j (x ∷ xs))) up ∙ after_more x xs i k n (ap (slice_get (x ∷ xs)) (sym down) ∙ at) next
 
+-- without the first knot the lines are the later ones
 pub lines_false : (s : List (Knot Margin)) → lines_of false s ≡ later_lines s
 lines_false [] = refl
 lines_false (k ∷ knots) = refl
 
+-- with it its point stands before them
 pub lines_true : (s : List (Knot Margin)) (k : Knot Margin) → slice_get s 0 ≡ Some k → lines_of true s ≡ (Point k.time k.point ∷ []) ++ later_lines s
 lines_true [] k at = absurd (let e = at in cc)
 lines_true (x ∷ xs) k at = ap (λ z. Point z.time z.point ∷ lines_after x xs) (some_is at)

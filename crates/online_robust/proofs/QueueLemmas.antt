@@ -1,5 +1,6 @@
 -- The best of constants that come and leave in order.
-use Rattle.std.proofs.Common.{◌≡◌, inl, inr, refl, sym, ap, subst, ◌∙◌, Option, Some, None, List, [], ◌∷◌, ◌++◌, append_assoc, suc, ◌-◌, length, slice_get, arith}
+use Rattle.std.proofs.Common.{◌≡◌, inl, inr, refl, sym, ap, subst, ◌∙◌, Option, Some, None, List}
+use Rattle.std.proofs.Common.{[], ◌∷◌, ◌++◌, append_assoc, suc, ◌-◌, length, slice_get, arith}
 use Rattle.std.specs.Prelude.{MatchOption}
 use Rattle.std.proofs.lemmas.List.{append-nil}
 use Rattle.rational.specs.Extended.{Affine}
@@ -43,6 +44,7 @@ module _ {P : Type 0} (function : P → Affine) (side : Side) where
   pub best_one : (c : P) → IsBest function side (c ∷ []) c
   best_one c = record { one = inl refl; none = (no_better_refl side (constant_of function c), tt) }
 
+  -- the better of two bests is the best of both lists
   pub best_both : (xs ys : List P) (a b r : P) → IsBest function side xs a → IsBest function side ys b → IsBetterOf function side a b r
       → IsBest function side (xs ++ ys) r
   best_both xs ys a b r h k better = record {
@@ -63,6 +65,7 @@ module _ {P : Type 0} (function : P → Affine) (side : Side) where
       subst (λ l. IsBest function side (l ++ c ∷ []) r) (sym none) (subst (λ (p : P). IsBest function side (c ∷ []) p) (sym is) (best_one c))
   best_behind cs (Some q) c r best is = best_both cs (c ∷ []) q c r best (best_one c) (swapped c q r is)
 
+  -- a constant before others is the best where it is better
   pub best_before : (cs : List P) (best : Option P) (c r : P) → IsBestOf function side cs best
       → MatchOption best (r ≡ c) (λ q. IsBetterOf function side c q r) → IsBest function side (c ∷ cs) r
   best_before cs None c r none is =

@@ -28,7 +28,8 @@ module _ (j : ℕ) where
     | inr ne ↦ inr (λ left. elim left as (λ b. IsReader n b j → ⊥) [ true ↦ λ r. ne (from r) | false ↦ other ])
   ]
 
-  two : (n : Node) (p q : ℕ) → (p ≡ j → IsReader n true j) → (IsReader n true j → p ≡ j) → (q ≡ j → IsReader n false j) → (IsReader n false j → q ≡ j) → MayRead n j
+  two : (n : Node) (p q : ℕ) → (p ≡ j → IsReader n true j) → (IsReader n true j → p ≡ j) → (q ≡ j → IsReader n false j)
+      → (IsReader n false j → q ≡ j) → MayRead n j
   two n p q to from too back = elim (cases_eq p j) [
     | inl e ↦ inl (true, to e)
     | inr ne ↦ elim (cases_eq q j) [
@@ -37,6 +38,7 @@ module _ (j : ℕ) where
     ]
   ]
 
+  -- a node may read another or not
   pub may_read : (n : Node) → MayRead n j
   may_read (Const b) = inr (λ left r. absurd r)
   may_read (Leaf a) = inr (λ left r. absurd r)
@@ -74,6 +76,7 @@ abbrev pub LooksWithin : ℕ → ℤ → ℕ → Type 0
 LooksWithin above k below = (pos below +ℤ k) ≤ℤ pos above
 
 module _ (at : ℕ → Subformula) (i : ℕ) where
+  -- a node looks no further into its input than their horizons differ
   pub looks_within : (n : Node) (left : Bool) (j : ℕ) → ¬ IsUnstreamed n → HasBounds n → IsReader n left j
       → LooksWithin (horizon (tree_of at i n)) (reach_back n left) (horizon (at j))
   looks_within (Const b) left j s h r = absurd r
@@ -100,10 +103,12 @@ module _ (at : ℕ → Subformula) (i : ℕ) where
   looks_within (Historically p a b i k) false j s h r = absurd r
 
 module _ (nodes : List Node) (formed : AreWellFormed nodes) where
+  -- each node's bounds are in order
   pub node_bounds : (i : ℕ) (n : Node) → slice_get nodes i ≡ Some n → HasBounds n
   node_bounds i n found =
       subst HasBounds (get_or_from_slice_get nodes i n (Const false) found) (formed.bounds i (Const false) (slice_get_within nodes i n found))
 
+  -- the formula at a place is the tree of its node
   pub tree_at_node : (i : ℕ) (n : Node) → slice_get nodes i ≡ Some n → subformula nodes i ≡ tree_of (subformula nodes) i n
   tree_at_node i n found = subformula-at nodes i n found (placed nodes i n formed.post_order found)
 

@@ -1,5 +1,6 @@
 -- What is left of lines when those that end by a time are dropped from the front.
-use Rattle.std.proofs.Common.{◌≡◌, inl, inr, ℕ, zero, suc, ◌+◌, ◌-◌, ◌<◌, ◌≤◌, Bool, true, false, List, [], ◌∷◌, ◌++◌, drop, refl, sym, ap, subst, ◌∙◌, arith, Option, Some, None, ℤ, pos, ◌+ℤ◌, ◌≤ℤ◌}
+use Rattle.std.proofs.Common.{◌≡◌, inl, inr, ℕ, zero, suc, ◌+◌, ◌-◌, ◌<◌, ◌≤◌, Bool, true, false, List, [], ◌∷◌}
+use Rattle.std.proofs.Common.{◌++◌, drop, refl, sym, ap, subst, ◌∙◌, arith, Option, Some, None, ℤ, pos, ◌+ℤ◌, ◌≤ℤ◌}
 use Rattle.std.specs.Prelude.{MatchBool, IfSome, int_lt, cond, slice_get}
 use Rattle.std.proofs.lemmas.Int.{ints}
 use Rattle.std.proofs.lemmas.Bool.{cases_lt}
@@ -21,25 +22,30 @@ use Rattle.online_robust.proofs.DroppingLemmas.{drop-drop}
 
 -- ---- dropping
 
+-- nothing is dropped of nothing
 pub drop_none : (n : ℕ) (lines : List MarginLine) → lines ≡ [] → drop n lines ≡ []
 drop_none zero lines e = e
 drop_none (suc n) [] e = refl
 drop_none (suc n) (x ∷ lines) e = absurd (let f = e in cc)
 
+-- what is left of lines that tell still tells
 pub told_drop : (F : Function) (n : ℕ) (lines : List MarginLine) → AreTold F lines → AreTold F (drop n lines)
 told_drop F zero lines told = told
 told_drop F (suc n) [] told = tt
 told_drop F (suc n) (x ∷ lines) told = told_drop F n lines told.1
 
+-- within the limits
 pub fit_drop : (reach n : ℕ) (lines : List MarginLine) → AreFit reach lines → AreFit reach (drop n lines)
 fit_drop reach zero lines fit = fit
 fit_drop reach (suc n) [] fit = tt
 fit_drop reach (suc n) (x ∷ lines) fit = fit_drop reach n lines fit.1
 
+-- lines that tell tell together
 pub told_append : (F : Function) (a b : List MarginLine) → AreTold F a → AreTold F b → AreTold F (a ++ b)
 told_append F [] b h k = k
 told_append F (x ∷ a) b h k = (h.0, told_append F a b h.1 k)
 
+-- within the limits
 pub fit_append : (reach : ℕ) (a b : List MarginLine) → AreFit reach a → AreFit reach b → AreFit reach (a ++ b)
 fit_append reach [] b h k = k
 fit_append reach (x ∷ a) b h k = (h.0, fit_append reach a b h.1 k)
@@ -52,6 +58,7 @@ joined_from from other to (Gap a b p ∷ Gap c d q ∷ lines) e h = absurd h
 joined_from from other to (Gap a b p ∷ Point u v ∷ lines) e h = (same_trans h.0 e, h.1, h.2)
 joined_from from other to (Point u v ∷ lines) e h = absurd h
 
+-- and go on, the second from the first
 pub joined_append : (from mid to : Rational) (a b : List MarginLine) → AreJoined from mid a → AreJoined mid to b → AreJoined from to (a ++ b)
 joined_append from mid to [] b h k = joined_from mid from to b (same_sym h) k
 joined_append from mid to (Gap a c p ∷ []) b h k = absurd h
@@ -122,7 +129,8 @@ input_rest F reach start before k f lines rest input is = by_test (int_lt f (pos
     rest_none None e is = is ∙ e
     rest_none (Some limit) e (n, is, ended, later) = is ∙ drop_none n lines e
 
-    all_rest : (back : Option ℤ) → back_of start before k ≡ back → AreInputs F reach start None f lines → IsRest back lines rest → AreInputs F reach start back f rest
+    all_rest : (back : Option ℤ) → back_of start before k ≡ back → AreInputs F reach start None f lines → IsRest back lines rest
+        → AreInputs F reach start back f rest
     all_rest None e a is = subst (AreInputs F reach start None f) (sym is) a
     all_rest (Some limit) e a is = record {
       told = subst (AreTold F) (sym is.1) (told_drop F is.0 lines a.told);
@@ -137,6 +145,7 @@ input_rest F reach start before k f lines rest input is = by_test (int_lt f (pos
 
 -- ---- dropping once more
 
+-- an item behind those that were dropped
 pub slice_get-drop-at : {X : Type 0} (n : ℕ) (xs : List X) (k : ℕ) → slice_get (drop n xs) k ≡ slice_get xs (n + k)
 slice_get-drop-at zero xs k = ap (slice_get xs) (omega arith)
 slice_get-drop-at (suc n) [] k = refl
@@ -148,7 +157,9 @@ IsLaterBack None new = Unit {0}
 IsLaterBack (Some a) None = ⊥
 IsLaterBack (Some a) (Some b) = a ≤ℤ b
 
-pub rest_cut : (old new : Option ℤ) (lines : List MarginLine) (x y : Edge) → IsLaterBack old new → IsRest old lines (held_of x) → IsCut new x y → IsRest new lines (held_of y)
+-- an edge that was cut holds the rest from a later time
+pub rest_cut : (old new : Option ℤ) (lines : List MarginLine) (x y : Edge) → IsLaterBack old new → IsRest old lines (held_of x)
+    → IsCut new x y → IsRest new lines (held_of y)
 rest_cut None None lines x y later is cut = cut ∙ is
 rest_cut None (Some b) lines x y later is cut = (
   cut.count,
@@ -173,7 +184,8 @@ rest_cut (Some a) (Some b) lines x y later (n, is, ended, rest) cut = (
       | inl low ↦ weaker (slice_get lines k) (ended k low)
       | inr high ↦
           let e : n + (k - n) ≡ k = omega (arith, high) in
-          subst (λ o. IfSome o (λ v. value (end_of v) ≤ʳ whole b)) (ap (λ l. slice_get l (k - n)) is ∙ slice_get-drop-at n lines (k - n) ∙ ap (slice_get lines) e)
+          subst (λ o. IfSome o (λ v. value (end_of v) ≤ʳ whole b))
+          (ap (λ l. slice_get l (k - n)) is ∙ slice_get-drop-at n lines (k - n) ∙ ap (slice_get lines) e)
           (cut.ended (k - n) (omega (arith, h, high)))
     ]
 
@@ -186,11 +198,14 @@ fit_line_more : (a b : ℕ) (x : MarginLine) → a ≤ b → IsFitLine a x → I
 fit_line_more a b (Point at v) le (t, v', m) = (t, v', moved_more a b v le m)
 fit_line_more a b (Gap from to p) le (s, t, v, w, m) = (s, t, v, w, moved_more a b p le m)
 
+-- wider limits hold too
 pub fit_more : (a b : ℕ) (lines : List MarginLine) → a ≤ b → AreFit a lines → AreFit b lines
 fit_more a b [] le fit = tt
 fit_more a b (x ∷ lines) le fit = (fit_line_more a b x le fit.0, fit_more a b lines le fit.1)
 
-pub input_reach : (F : Function) (a b start : ℕ) (back : Option ℤ) (f : ℤ) (lines : List MarginLine) → a ≤ b → IsInput F a start back f lines → IsInput F b start back f lines
+-- an input within limits is one within wider ones
+pub input_reach : (F : Function) (a b start : ℕ) (back : Option ℤ) (f : ℤ) (lines : List MarginLine) → a ≤ b
+    → IsInput F a start back f lines → IsInput F b start back f lines
 input_reach F a b start back f lines le input = by_test (int_lt f (pos start)) input
   where
     by_test : (t : Bool) → MatchBool t (lines ≡ []) (AreInputs F a start back f lines) → MatchBool t (lines ≡ []) (AreInputs F b start back f lines)

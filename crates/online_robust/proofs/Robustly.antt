@@ -8,7 +8,8 @@ use Rattle.rational.proofs.TimeFunctions.{IsFunction}
 use Rattle.pl_signal.specs.declared.joining.Side.TheVariants.{Least, Greatest}
 use Rattle.pl_signal.proofs.Choices.{chosen_same}
 use Rattle.stl_syntax.specs.Trace.{Trace}
-use Rattle.stl_syntax.specs.Formula.{Subformula, constant, atom, negation, conjunction, disjunction, implication, until, eventually, always, since, once, historically}
+use Rattle.stl_syntax.specs.Formula.{Subformula, constant, atom, negation, conjunction, disjunction}
+use Rattle.stl_syntax.specs.Formula.{implication, until, eventually, always, since, once, historically}
 use Rattle.stl_syntax.specs.Truth.{expression}
 use Rattle.stl_syntax.specs.SupInf.{Robustness, SupInf, margin, margin_setting}
 use Rattle.stl_syntax.proofs.SupInfLemmas.{SupInf-unique, margins_give_one}

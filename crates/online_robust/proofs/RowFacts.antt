@@ -1,5 +1,6 @@
 -- What rows say of the numbers of nodes, and of the traces that go on from them.
-use Rattle.std.proofs.Common.{◌≡◌, ℕ, ◌≤◌, Bool, true, false, List, [], ◌∷◌, ◌++◌, length, refl, sym, ap, subst, ◌∙◌, arith, append-nil, Some, None, ℤ, pos, ◌<ℤ◌, ◌≤ℤ◌}
+use Rattle.std.proofs.Common.{◌≡◌, ℕ, ◌≤◌, Bool, true, false, List, [], ◌∷◌, ◌++◌, length, refl, sym}
+use Rattle.std.proofs.Common.{ap, subst, ◌∙◌, arith, append-nil, Some, None, ℤ, pos, ◌<ℤ◌, ◌≤ℤ◌}
 use Rattle.std.specs.Prelude.{int_lt, cond}
 use Rattle.std.proofs.lemmas.Int.{ints}
 use Rattle.pl_signal.proofs.Values.{some_is}
@@ -29,26 +30,32 @@ module _ (header : Header) where
   abbrev pub Rows : List Row → Type 0
   Rows rows = IsTrace (record { header = header; rows = rows })
 
+  -- rows give a node its number
   pub number_here : (p : Subformula) (ended : Bool) (rows : List Row) → Rows rows → number_by ended p rows ≡ Some (front_at ended (pos (last_time 0 rows)) p)
   number_here p ended [] is = absurd is.rows
   number_here p ended (r ∷ rows) is = refl
 
+  -- and what it shows
   pub shown_here : (p : Subformula) (ended : Bool) (rows : List Row) → Rows rows
       → shown_by ended p rows ≡ shown_number (first_time rows) (front_at ended (pos (last_time 0 rows)) p)
   shown_here p ended [] is = absurd is.rows
   shown_here p ended (r ∷ rows) is = refl
 
-  pub told_here : (nodes : List Node) (ended : Bool) (i : ℕ) (rows : List Row) (lines : List MarginLine) → Rows rows → AreToldOver nodes header ended i rows lines
+  -- and its lines tell its margin in each trace that goes on
+  pub told_here : (nodes : List Node) (ended : Bool) (i : ℕ) (rows : List Row) (lines : List MarginLine) → Rows rows
+      → AreToldOver nodes header ended i rows lines
       → (tr : Trace) → IsTrace tr → Continues tr header rows ended
       → IsInput (Robustness (subformula nodes i) tr) (reach (take (suc i) nodes)) (first_time rows) None
       (front_at ended (pos (last_time 0 rows)) (subformula nodes i)) lines
   told_here nodes ended i [] lines is told = absurd is.rows
   told_here nodes ended i (r ∷ rows) lines is told = told
 
+  -- such a trace has the first time
   pub first_goes_on : (tr : Trace) (ended : Bool) (rows : List Row) → Rows rows → Continues tr header rows ended → first_time tr.rows ≡ first_time rows
   first_goes_on tr ended [] is c = absurd is.rows
   first_goes_on tr ended (r ∷ rows) is c = ap first_time c.begins
 
+  -- and ends no earlier
   pub last_goes_on : (tr : Trace) (ended : Bool) (rows : List Row) → Rows rows → IsTrace tr → Continues tr header rows ended
       → last_time 0 rows ≤ last_time 0 tr.rows
   last_goes_on tr ended [] is trace c = absurd is.rows
@@ -58,6 +65,7 @@ module _ (header : Header) where
       let same : last_time 0 tr.rows ≡ last_time r.time (rows ++ c.more) = ap (last_time 0) c.begins in
       omega (arith, le, same)
 
+  -- with the end it ends there
   pub last_at_end : (tr : Trace) (rows : List Row) → Continues tr header rows true → last_time 0 rows ≡ last_time 0 tr.rows
   last_at_end tr rows c = sym (ap (last_time 0) (c.begins ∙ ap (λ l. rows ++ l) (c.whole_input refl) ∙ append-nil rows))
 
@@ -67,7 +75,8 @@ module _ (header : Header) where
   last_not_below (r ∷ rows) is = last_from (length header.columns) r.time rows is.rows.1
 
 -- a number that is shown is the number, and not below the start
-pub shown_is : (p : Subformula) (ended : Bool) (rows : List Row) (g : ℤ) → shown_by ended p rows ≡ Some g → (number_by ended p rows ≡ Some g) × (pos (first_time rows) ≤ℤ g)
+pub shown_is : (p : Subformula) (ended : Bool) (rows : List Row) (g : ℤ) → shown_by ended p rows ≡ Some g
+    → (number_by ended p rows ≡ Some g) × (pos (first_time rows) ≤ℤ g)
 shown_is p ended [] g e = absurd (let f = e in cc)
 shown_is p ended (r ∷ rows) g e = by_test (int_lt (front_at ended (pos (last_time r.time rows)) p) (pos r.time)) refl e
   where
@@ -80,7 +89,8 @@ shown_is p ended (r ∷ rows) g e = by_test (int_lt (front_at ended (pos (last_t
         (e, subst (λ x. pos r.time ≤ℤ x) (some_is e) le)
 
 -- a number that is not below the start is shown
-pub number_shown : (p : Subformula) (ended : Bool) (rows : List Row) (g : ℤ) → number_by ended p rows ≡ Some g → pos (first_time rows) ≤ℤ g → shown_by ended p rows ≡ Some g
+pub number_shown : (p : Subformula) (ended : Bool) (rows : List Row) (g : ℤ) → number_by ended p rows ≡ Some g
+    → pos (first_time rows) ≤ℤ g → shown_by ended p rows ≡ Some g
 number_shown p ended [] g e le = absurd (let f = e in cc)
 number_shown p ended (r ∷ rows) g e le = by_test (int_lt (front_at ended (pos (last_time r.time rows)) p) (pos r.time)) refl
   where
@@ -95,7 +105,8 @@ number_shown p ended (r ∷ rows) g e le = by_test (int_lt (front_at ended (pos 
     by_test false h = rw h e
 
 -- one below it is not
-pub number_hidden : (p : Subformula) (ended : Bool) (rows : List Row) (g : ℤ) → number_by ended p rows ≡ Some g → g <ℤ pos (first_time rows) → shown_by ended p rows ≡ None
+pub number_hidden : (p : Subformula) (ended : Bool) (rows : List Row) (g : ℤ) → number_by ended p rows ≡ Some g
+    → g <ℤ pos (first_time rows) → shown_by ended p rows ≡ None
 number_hidden p ended [] g e lt = refl
 number_hidden p ended (r ∷ rows) g e lt = by_test (int_lt (front_at ended (pos (last_time r.time rows)) p) (pos r.time)) refl
   where
@@ -129,5 +140,6 @@ module _ (header : Header) (p : Subformula) where
   rises_end [] is g e = absurd (let f = e in cc)
   rises_end (q ∷ rows) is g e = (subst (λ x. x ≤ℤ front_at true (pos (last_time q.time rows)) p) (some_is e) (front_ends p (last_time q.time rows)), refl)
 
+  -- a number only rises
   pub number_rises : (old new : Past) → IsNext old new → Rises old new
   number_rises old new next = next_cases old new next Rises rises_row rises_end

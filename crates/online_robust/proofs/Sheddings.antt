@@ -1,5 +1,6 @@
 -- Lines that are shed in two turns.
-use Rattle.std.proofs.Common.{◌≡◌, ◌≢◌, ◌⊎◌, inl, inr, ℕ, zero, suc, ◌+◌, ◌-◌, ◌<◌, ◌≤◌, List, [], ◌∷◌, Option, Some, None, refl, sym, ap, subst, ◌∙◌, drop, length, slice_get, arith}
+use Rattle.std.proofs.Common.{◌≡◌, ◌≢◌, ◌⊎◌, inl, inr, ℕ, zero, suc, ◌+◌, ◌-◌, ◌<◌, ◌≤◌, List, [], ◌∷◌}
+use Rattle.std.proofs.Common.{Option, Some, None, refl, sym, ap, subst, ◌∙◌, drop, length, slice_get, arith}
 use Rattle.std.proofs.lemmas.Bool.{cases_lt}
 use Rattle.std.specs.Prelude.{IfSome}
 use Rattle.rational.specs.Time.{Rational, ◌≤ʳ◌}
@@ -17,6 +18,7 @@ slice_get-drop_at zero k xs = let e : k ≡ 0 + k = omega arith in ap (slice_get
 slice_get-drop_at (suc n) k [] = refl
 slice_get-drop_at (suc n) k (x ∷ xs) = let e : suc (n + k) ≡ suc n + k = omega arith in slice_get-drop_at n k xs ∙ ap (slice_get (x ∷ xs)) e
 
+-- what is shed by a limit is shed by a later one
 pub sheds_later : (l m : Rational) (i : ℕ) (x y : Held) → l ≤ʳ m → Sheds l i x y → Sheds m i x y
 sheds_later l m i x y le h = record {
   count = h.count;
@@ -28,6 +30,7 @@ sheds_later l m i x y le h = record {
   start = h.start;
 }
 
+-- what is shed in two steps is shed
 pub sheds_both : (limit : Rational) (i : ℕ) (x y z : Held) → Sheds limit i x y → Sheds limit i y z → Sheds limit i x z
 sheds_both limit i x y z h k = record {
   count = h.count + k.count;
@@ -45,7 +48,8 @@ sheds_both limit i x y z h k = record {
         let place : h.count + (n - h.count) ≡ n = omega (arith, above) in
         let within : n - h.count < k.count = omega (arith, above, all) in
         subst (λ o. IfSome o (λ v. value (end_of v) ≤ʳ limit))
-        (ap (λ (l : List MarginLine). slice_get l (n - h.count)) h.is ∙ slice_get-drop_at h.count (n - h.count) (held_at x i) ∙ ap (slice_get (held_at x i)) place)
+        (ap (λ (l : List MarginLine). slice_get l (n - h.count)) h.is ∙ slice_get-drop_at h.count (n - h.count) (held_at x i)
+        ∙ ap (slice_get (held_at x i)) place)
         (k.ended (n - h.count) within)
 
     ended : (n : ℕ) → n < h.count + k.count → IfSome (slice_get (held_at x i) n) (λ v. value (end_of v) ≤ʳ limit)

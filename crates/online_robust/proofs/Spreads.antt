@@ -1,11 +1,13 @@
 -- A window whose ends move over its input.
-use Rattle.std.proofs.Common.{◌≡◌, ◌≢◌, ◌⊎◌, inl, inr, ℕ, ℤ, pos, neg_ℤ, ◌+◌, ◌<◌, ◌≤◌, ◌^◌, Bool, true, false, List, [], ◌∷◌, ◌++◌, Option, Some, None, refl, sym, ap, subst, ◌∙◌, length, drop, slice_get, arith}
+use Rattle.std.proofs.Common.{◌≡◌, ◌≢◌, ◌⊎◌, inl, inr, ℕ, ℤ, pos, neg_ℤ, ◌+◌, ◌<◌, ◌≤◌, ◌^◌, Bool, true, false, List, []}
+use Rattle.std.proofs.Common.{◌∷◌, ◌++◌, Option, Some, None, refl, sym, ap, subst, ◌∙◌, length, drop, slice_get, arith}
 use Rattle.std.specs.Prelude.{MatchBool}
 use Rattle.rational.specs.Time.{Rational, Within, ◌≈◌, ◌≤ʳ◌, ◌<ʳ◌, shifted}
 use Rattle.rational.specs.Extended.{Extended, minus_infinity, infinity, value_at, ◌≈ᵉ◌}
 use Rattle.rational.specs.Affine.{IsBounded}
 use Rattle.rational.specs.Windows.{Function}
-use Rattle.rational.proofs.Order.{le_refl, le_of_lt, le_of_same, ge_of_same, le_or_lt, le_trans, lt_of_le_of_lt, lt_of_lt_of_le, lt_irrefl, not_lt_of_le, lt_or_same_or_gt, same_refl, same_sym, same_trans}
+use Rattle.rational.proofs.Order.{le_refl, le_of_lt, le_of_same, ge_of_same, le_or_lt, le_trans, lt_of_le_of_lt}
+use Rattle.rational.proofs.Order.{lt_of_lt_of_le, lt_irrefl, not_lt_of_le, lt_or_same_or_gt, same_refl, same_sym, same_trans}
 use Rattle.rational.proofs.AffineLemmas.{bounded_same, same_reflᵉ, value_same}
 use Rattle.rational.proofs.Bounds.{bounded_between}
 use Rattle.rational.proofs.Sames.{symᵉ, transᵉ}
@@ -129,22 +131,38 @@ module _ (x : Scope) (w : Window) (begin : Frac) (none : Margin) (low high : Gap
 
   -- what comes next behind the high end: the point there, and the gap behind it
   pub record ComesNext : Type 0 where
+    -- the time of the next point
     pub p : Frac
+    -- its margin
     pub v : Margin
+    -- the lines behind it
     pub rest : List MarginLine
+    -- the edge holds these
     pub is : fresh ≡ L.Point p v ∷ rest
+    -- the gap ends there
     pub ends : EndsAt high.until (value p)
+    -- where the high end is
     pub here : value p ≈ h
+    -- the input has that margin there
     pub point : Q (value p) (value_at (margin_function v) (value p))
+    -- within the limits
     pub bounded : IsBounded (2 ^ 31) (value_at (margin_function v) (value p))
+    -- and it may be moved
     pub moved : IsMovedBy x.reach v
+    -- at a tick
     pub tick : IsTick (value p)
+    -- of the trace
     pub from_start : start x.trace ≤ʳ value p
+    -- not behind the input's front
     pub by_front : value p ≤ʳ x.front
+    -- the rest tells the margin
     pub told : AreTold (Robustness x.formula x.trace) rest
+    -- within the limits
     pub fit : AreFit x.reach rest
+    -- and goes on from the point
     pub joined : AreJoined (value p) x.front rest
 
+  -- where the gap ends at the high end a point comes
   pub comes_next : EndsAt high.until h → ComesNext
   comes_next ends = by_until high.until ends s.to_come refl
     where
@@ -183,7 +201,10 @@ module _ (x : Scope) (w : Window) (begin : Frac) (none : Margin) (low high : Gap
       let to_front : value u ≤ʳ x.front = joined_to (value u) x.front (Robustness x.formula x.trace) rest told.1.1 joined.2 in (
         record {
           told = λ t y z. inl (
-            record { above = le_trans c.from_start (le_of_lt y); below = le_trans (le_of_lt z) (le_trans (le_of_same joined.1) (le_trans to_front s.within.1)) },
+            record {
+              above = le_trans c.from_start (le_of_lt y);
+              below = le_trans (le_of_lt z) (le_trans (le_of_same joined.1) (le_trans to_front s.within.1));
+            },
             told.0.1 t (lt_of_le_of_lt (le_of_same joined.0) y) z,
           );
           bounded = λ t y z. bounded_on g (value a) (value b) t fit.0.2 fit.0.3 (le_trans (le_of_same joined.0) y) z;
@@ -209,7 +230,8 @@ module _ (x : Scope) (w : Window) (begin : Frac) (none : Margin) (low high : Gap
       by_ended (inl le) = absurd (lt_irrefl (lt_of_lt_of_le more (le_trans le (le_trans (ge_of_same at_front) (le_of_same c.here)))))
       by_ended (inr e) = record {
         told = λ t y z. inr (inr (lt_of_le_of_lt (ge_of_same (same_trans at_front e)) y), s.none_value t);
-        bounded = λ t y z. bounded_same (2 ^ 31) (value_at (margin_function none) t) (none_of w.side minus_infinity infinity) (s.none_value t) (none_bounded w.side);
+        bounded = λ t y z.
+            bounded_same (2 ^ 31) (value_at (margin_function none) t) (none_of w.side minus_infinity infinity) (s.none_value t) (none_bounded w.side);
         moved = s.none_moved;
       }
 
@@ -235,7 +257,8 @@ module _ (x : Scope) (w : Window) (begin : Frac) (none : Margin) (low high : Gap
       marks = s.marks ++ mark ∷ [];
       constants = cs;
       begun = s.begun;
-      runs = runs_more Q x.reach s.from low s.marks mark s.runs (subst (λ (g : Gap). EndsAt g.until (value c.p)) s.last c.ends) (record { told = c.point; bounded = c.bounded; moved = c.moved }) on before;
+      runs = runs_more Q x.reach s.from low s.marks mark s.runs (subst (λ (g : Gap). EndsAt g.until (value c.p)) s.last c.ends)
+          (record { told = c.point; bounded = c.bounded; moved = c.moved }) on before;
       by = by_more h s.marks mark s.by (le_of_same c.here);
       ticks = ticks_more s.marks mark s.ticks c.tick;
       last = sym (last_more low s.marks mark);
@@ -254,6 +277,7 @@ module _ (x : Scope) (w : Window) (begin : Frac) (none : Margin) (low high : Gap
         up_later None b = tt
         up_later (Some u) b = le_trans (ge_of_same c.here) (le_of_lt b)
 
+    -- the high end lies before the end of the next gap
     pub before_next : IsBefore h next.until
     before_next = by_until next.until before
       where
@@ -262,7 +286,8 @@ module _ (x : Scope) (w : Window) (begin : Frac) (none : Margin) (low high : Gap
         by_until (Some u) b = lt_of_le_of_lt (ge_of_same c.here) b
 
     -- where the mark gives no constant the queue stays
-    pub gone_plain : q' ≡ q → IsNoKnot (shifted (start x.trace) w.low) high mark → IsSpread x w begin none low next q' (seen ++ L.Point c.p c.v ∷ tail) rest' l h
+    pub gone_plain : q' ≡ q → IsNoKnot (shifted (start x.trace) w.low) high mark
+        → IsSpread x w begin none low next q' (seen ++ L.Point c.p c.v ∷ tail) rest' l h
     gone_plain e plain = gone s.constants
         (frozen_none w.side (shifted (start x.trace) w.low) low s.marks mark s.constants s.frozen
         (subst (λ (g : Gap). IsNoKnot (shifted (start x.trace) w.low) g mark) s.last plain))

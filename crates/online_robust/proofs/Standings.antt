@@ -1,5 +1,6 @@
 -- A network stands for a past: a new one for no rows, and one that took a row, or the end, for the past with it.
-use Rattle.std.proofs.Common.{◌≡◌, ◌≢◌, inl, inr, ℕ, suc, zero, ◌-◌, ◌^◌, ◌<◌, ◌≤◌, true, false, List, [], ◌∷◌, ◌++◌, length, drop, refl, sym, ap, subst, ◌∙◌, arith, append-nil, Option, Some, None, get_or}
+use Rattle.std.proofs.Common.{◌≡◌, ◌≢◌, inl, inr, ℕ, suc, zero, ◌-◌, ◌^◌, ◌<◌, ◌≤◌, true, false, List, [], ◌∷◌, ◌++◌}
+use Rattle.std.proofs.Common.{length, drop, refl, sym, ap, subst, ◌∙◌, arith, append-nil, Option, Some, None, get_or}
 use Rattle.std.specs.Prelude.{IfSome, map, option_map, replicate, slice_get}
 use Rattle.std.proofs.lemmas.Bool.{false≢true}
 use Rattle.stl_syntax.specs.Trace.{AreRowsAfter, Header, Row, IsTrace, first_time, last_time}
@@ -17,7 +18,9 @@ use Rattle.online_robust.specs.Standing.{Stands}
 use Rattle.online_robust.specs.Turns.{seen_by}
 use Rattle.online_robust.specs.Pasts.{Past, with_row, with_end, part_of, Gave, IsWork}
 use Rattle.online_robust.specs.Moving.{last_row_of, last_row_after}
-use Rattle.online_robust.specs.Nets.{begun, first_row_of, no_past, AreRowsSoFar, CanGoByEnd, CanGoByRow, HasGone, IsFault, IsGoFault, IsHeldBy, IsNear, IsTaken, IsTimely, IsWideIn, Keeps, Parts, Passing, StandsFor}
+use Rattle.online_robust.specs.Nets.{begun, first_row_of, no_past, AreRowsSoFar, CanGoByEnd, CanGoByRow, HasGone, IsFault}
+use Rattle.online_robust.specs.Nets.{IsGoFault, IsHeldBy, IsNear, IsTaken, IsTimely, IsWideIn, Keeps, Parts, Passing}
+use Rattle.online_robust.specs.Nets.{StandsFor}
 use Rattle.online_robust.specs.declared.net.RobustFault.{RobustFault}
 use Rattle.online_robust.specs.declared.net.RobustFault.TheVariants.{Wide, Stopped, Closed, Memory}
 use Rattle.rational.specs.Rational.{Rational, IsWithin}
@@ -75,6 +78,7 @@ module _ (f : Formula) (header : Header) (b : Binding) (bound : IsBound b f head
   work_first i n W.Atom h = h
   work_first i n (W.Operator op) h = (h.0, λ tr is c. subst (λ l. Stands n f.nodes i tr None op l) (sym (seen_none n)) (h.1 f.nodes i tr))
 
+  -- a new network stands for no rows
   pub new_stands : StandsFor f.nodes header (record { edges = e; stations = stations; bound = b; last = None; closed = false; stopped = false }) no_past []
   new_stands = record {
     keeps = record {
@@ -138,6 +142,7 @@ fault_stops old new p Stopped running opened stopped h = absurd h
 fault_stops old new p Closed running opened stopped h = absurd h
 fault_stops old new p Memory running opened stopped h = (running, opened, stopped)
 
+-- a refusal of one node is one of the network
 pub fault_is_wide : (p : Passing) (fault : RobustFault) → IsGoFault p fault → IsWideIn p.nodes p.header p.old p.new fault
 fault_is_wide p (Wide cause) h = h
 fault_is_wide p Stopped h = tt
@@ -193,6 +198,7 @@ module _ (nodes : List Node) (header : Header) (net : Parts) (past : Past) (give
         by_rows [] last start = ap (λ o. (begun net.edges o r.time).start) last
         by_rows (q ∷ rows) last start = ap (λ o. (begun net.edges o r.time).start) last ∙ start
 
+    -- each node may go on by the row
     pub can_row : CanGoByRow passing_row (begun net.edges net.last r.time) net.stations net.bound net.last r
     can_row = (
       record {
@@ -202,7 +208,8 @@ module _ (nodes : List Node) (header : Header) (net : Parts) (past : Past) (give
         trace = rows_more header past.rows r keeps.rows (subst (λ o. IfSome o (λ q. q.time < r.time)) keeps.last later) (width ∙ keeps.bound.width);
         small = let last = last_appended 0 past.rows r in omega (arith, last, small);
         shows =
-            shows_same nodes header keeps.streamed (λ j. past) given given net.edges (begun net.edges net.last r.time) net.stations stands.shows refl (begun_edges net.last);
+            shows_same nodes header keeps.streamed (λ j. past) given given net.edges
+            (begun net.edges net.last r.time) net.stations stands.shows refl (begun_edges net.last);
       },
       record { scale = keeps.scale; bound = keeps.bound; last = keeps.last; new = refl },
     )
@@ -212,6 +219,7 @@ module _ (nodes : List Node) (header : Header) (net : Parts) (past : Past) (give
     row_may e now same is =
         subst (λ x. CanGoByRow passing_row x net.stations net.bound net.last r) (sym (is ∙ ap (begun net.edges net.last) same)) can_row
 
+    -- and then the network stands for the rows with it
     pub row_stands : (e : Held) (stations : List Station) (kept : Row) → kept ≡ r → HasGone passing_row e stations
         → StandsFor nodes header (record { edges = e; stations = stations; bound = net.bound; last = Some kept; closed = net.closed; stopped = net.stopped })
         (with_row past r) given
@@ -241,15 +249,20 @@ module _ (nodes : List Node) (header : Header) (net : Parts) (past : Past) (give
 
     -- there is a row
     pub record HasRows (rows : List Row) : Type 0 where
+      -- the rows are those of a trace
       pub trace : IsTrace (record { header = header; rows = rows })
+      -- which starts at the first
       pub start : net.edges.start ≡ Some (first_time rows)
+      -- and so far ends at the last
       pub last : now ≡ last_time 0 rows
+      -- there is a row
       pub rows_some : rows ≢ []
 
     has_rows : HasRows past.rows
     has_rows = by_rows past.rows keeps.last keeps.start keeps.rows
       where
-        by_rows : (rows : List Row) → net.last ≡ last_row_of rows → net.edges.start ≡ option_map (λ (x : Row). x.time) (first_row_of rows) → AreRowsSoFar header rows
+        by_rows : (rows : List Row) → net.last ≡ last_row_of rows
+            → net.edges.start ≡ option_map (λ (x : Row). x.time) (first_row_of rows) → AreRowsSoFar header rows
             → HasRows rows
         by_rows [] last start are = absurd (some last)
         by_rows (q ∷ rows) last start are = record {
@@ -259,6 +272,7 @@ module _ (nodes : List Node) (header : Header) (net : Parts) (past : Past) (give
           rows_some = λ e. let f = e in cc;
         }
 
+    -- each node may go on to the end
     pub can_end : CanGoByEnd passing_end net.edges net.stations now
     can_end = (
       record {
@@ -272,8 +286,10 @@ module _ (nodes : List Node) (header : Header) (net : Parts) (past : Past) (give
       record { last = has_rows.last; new = refl },
     )
 
+    -- and then the network stands for the rows and the end
     pub end_stands : (e : Held) (stations : List Station) → HasGone passing_end e stations
-        → StandsFor nodes header (record { edges = e; stations = stations; bound = net.bound; last = net.last; closed = true; stopped = net.stopped }) (with_end past) given
+        → StandsFor nodes header
+        (record { edges = e; stations = stations; bound = net.bound; last = net.last; closed = true; stopped = net.stopped }) (with_end past) given
     end_stands e stations gone = record {
       keeps = record {
         streamed = keeps.streamed;
@@ -321,7 +337,8 @@ module _ (nodes : List Node) (header : Header) (net : Parts) (past : Past) (give
 
   -- a take of the root's edge
   pub taken : (root : ℕ) → root ≡ length net.stations - 1 → (e : Held) → e.edges ≡ with_edge net.edges root (without 1 (edge_at net.edges root))
-      → e.start ≡ net.edges.start → (o : Option MarginLine) → o ≡ slice_get (held_at net.edges root) 0 → IsTaken nodes header past given (record net { edges = e }) o
+      → e.start ≡ net.edges.start → (o : Option MarginLine) → o ≡ slice_get (held_at net.edges root) 0
+      → IsTaken nodes header past given (record net { edges = e }) o
   taken root own e edges start o first =
       by_line o (subst (λ k. o ≡ slice_get (held_at net.edges k) 0) (own ∙ root_is) first)
       (subst (λ k. e.edges ≡ with_edge net.edges k (without 1 (edge_at net.edges k))) (own ∙ root_is) edges)
@@ -339,20 +356,23 @@ module _ (nodes : List Node) (header : Header) (net : Parts) (past : Past) (give
             parts = (subst (Gave nodes header past last_node) all stands.shows.root).parts;
           }
       by_line (Some line) first edges =
-          let rest : line ∷ drop 1 (held_at net.edges last_node) ≡ held_at net.edges last_node = first_and_rest (held_at net.edges last_node) line (sym first) in
+          let rest : line ∷ drop 1 (held_at net.edges last_node) ≡ held_at net.edges last_node =
+          first_and_rest (held_at net.edges last_node) line (sym first) in
           let gave : Gave nodes header past last_node (given ++ line ∷ drop 1 (held_at net.edges last_node)) =
           subst (λ l. Gave nodes header past last_node (given ++ l)) (sym rest) stands.shows.root in record {
             stands = record {
               keeps = keeps_edges e start;
               shows =
-                  shows_next nodes header keeping.streamed (λ j. past) given (given ++ line ∷ []) net.edges e net.stations stands.shows root_within line (sym first) refl edges;
+                  shows_next nodes header keeping.streamed (λ j. past) given
+                  (given ++ line ∷ []) net.edges e net.stations stands.shows root_within line (sym first) refl edges;
             };
             timely = line_timely nodes header past last_node given (drop 1 (held_at net.edges last_node)) line gave keeping.rows;
             told = line_told nodes header past last_node given (drop 1 (held_at net.edges last_node)) line gave;
           }
 
   -- then it stands for the past, of which so much was given
-  pub taken_stands : (new : Parts) (o : Option MarginLine) → IsTaken nodes header past given new o → (more : List MarginLine) × StandsFor nodes header new past more
+  pub taken_stands : (new : Parts) (o : Option MarginLine) → IsTaken nodes header past given new o
+      → (more : List MarginLine) × StandsFor nodes header new past more
   taken_stands new None h = (given, h.stands)
   taken_stands new (Some line) h = (given ++ line ∷ [], h.stands)
 

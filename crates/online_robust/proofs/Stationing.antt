@@ -1,5 +1,6 @@
 -- What the calls of a node leave, as the code makes them.
-use Rattle.std.proofs.Common.{◌≡◌, ℕ, ◌<◌, ◌≤◌, Bool, true, false, List, [], ◌∷◌, ◌++◌, length, refl, sym, ap, subst, ◌∙◌, arith, Option, Some, None, ℤ, pos, ◌-ℤ◌, ◌<ℤ◌, ◌≤ℤ◌}
+use Rattle.std.proofs.Common.{◌≡◌, ℕ, ◌<◌, ◌≤◌, Bool, true, false, List, [], ◌∷◌, ◌++◌, length, refl}
+use Rattle.std.proofs.Common.{sym, ap, subst, ◌∙◌, arith, Option, Some, None, ℤ, pos, ◌-ℤ◌, ◌<ℤ◌, ◌≤ℤ◌}
 use Rattle.std.specs.Prelude.{IfSome, MatchBool, MatchOption, not, slice_get}
 use Rattle.std.proofs.lemmas.Int.{ints}
 use Rattle.std.proofs.lemmas.Bool.{false≢true}
@@ -17,7 +18,8 @@ use Rattle.online_robust.specs.Held.{Held, edge_at, number_at, with_edge, with_n
 use Rattle.online_robust.specs.Turns.{Turn, Belongs, HasSwept, IsStreamedFault, IsSwept, StandsNow}
 use Rattle.online_robust.specs.Putting.{constant_margin, lines_of, HasPut, HasPutAtom, HasPutRow, IsAtomPiece, IsAtomValue}
 use Rattle.online_robust.specs.Pasts.{Past, trace_of, number_by, shown_by, number_of, shown_of}
-use Rattle.online_robust.specs.Moving.{Move, CanMove, CanGiveOut, CanGoTo, CanMoveByRow, CanMoveByEnd, HasMoved, IsFaultOf, last_row_after, last_row_of, turn_of}
+use Rattle.online_robust.specs.Moving.{Move, CanMove, CanGiveOut, CanGoTo, CanMoveByRow, CanMoveByEnd}
+use Rattle.online_robust.specs.Moving.{HasMoved, IsFaultOf, last_row_after, last_row_of, turn_of}
 use Rattle.online_robust.specs.declared.operator.Operator.{Operator}
 use Rattle.online_robust.specs.declared.station.Station.{Station}
 use Rattle.online_robust.specs.declared.station.Work.{Work}
@@ -37,9 +39,11 @@ module _ (m : Move) (node : ℕ) (op : Operator) (e : Held) (to : ℕ) (with_fir
   abbrev pub swept_turn : (t : Turn) × Belongs t op e to
   swept_turn = (turn_of m (trace_of m.header m.new), belongs_now m node op e to with_first g)
 
+  -- a refusal of an operator is one of its node
   pub swept_fault : (f : OpFault Margin) → ((t : Turn) → Belongs t op e to → IsStreamedFault t f) → IsFaultOf m f
   swept_fault f h = h (turn_of m (trace_of m.header m.new)) (belongs_now m node op e to with_first g)
 
+  -- the node has an edge after the sweep
   pub swept_edge : (e' : Held) → ((t : Turn) → Belongs t op e to → HasSwept t e e' to) → node < length e'.edges
   swept_edge e' h =
       let count = (h swept_turn.0 swept_turn.1).edges in
@@ -48,6 +52,7 @@ module _ (m : Move) (node : ℕ) (op : Operator) (e : Held) (to : ℕ) (with_fir
       let place = g.place in
       omega (arith, count, all, within, place)
 
+  -- what it told is put on its edge
   pub given_out : (s : List (Knot Margin)) (op' : Operator) (e' e'' e3 : Held) → ((t : Turn) → Belongs t op e to → IsSwept t to s)
       → ((t : Turn) → Belongs t op e to → HasSwept t e e' to) → ((t : Turn) → Belongs t op e to → StandsNow t op' e' to)
       → HasPut node (lines_of with_first s) e' e'' → e3 ≡ record e'' { edges = with_edge e'' node (with_number (edge_at e'' node) (pos to)) }
@@ -55,7 +60,8 @@ module _ (m : Move) (node : ℕ) (op : Operator) (e : Held) (to : ℕ) (with_fir
   given_out s op' e' e'' e3 swept left stands put is =
       subst (HasMoved m (W.Operator op') e) (sym (is ∙ ap (λ k. record e'' { edges = with_edge e'' k (with_number (edge_at e'' k) (pos to)) }) (sym g.place)))
       (has_moved m node op e to with_first g s op' e' e''
-      (λ tr trace c. swept (turn_of m tr) (belongs m node op e to with_first g tr trace c)) (left (turn_of m (trace_of m.header m.new)) (belongs_now m node op e to with_first g))
+      (λ tr trace c. swept (turn_of m tr) (belongs m node op e to with_first g tr trace c))
+      (left (turn_of m (trace_of m.header m.new)) (belongs_now m node op e to with_first g))
       (λ tr trace c. stands (turn_of m tr) (belongs m node op e to with_first g tr trace c))
       (subst (λ k. HasPut k (lines_of with_first s) e' e'') (sym g.place) put))
 
@@ -73,6 +79,7 @@ module _ (m : Move) (node : ℕ) (op : Operator) (e : Held) (number : ℤ) (g : 
   abbrev can : CanMove m (W.Operator op) e
   can = g.1
 
+  -- the node has an edge
   pub go_edge : node < length e.edges
   go_edge =
       let all = can.edges in
@@ -80,6 +87,7 @@ module _ (m : Move) (node : ℕ) (op : Operator) (e : Held) (number : ℤ) (g : 
       let place = g.0 in
       omega (arith, all, within, place)
 
+  -- its number is small
   pub go_small : number ≤ℤ pos 4294967295
   go_small =
       let is : number ≡ front_at m.new.ended (pos (last_time 0 m.new.rows)) p = some_is (sym g.2 ∙ number_here m.header p m.new.ended m.new.rows can.trace) in
@@ -139,11 +147,15 @@ module _ (m : Move) (node : ℕ) (op : Operator) (e : Held) (number : ℤ) (g : 
 
 -- the last row and the one before it have a value for each column, and the last is later
 pub record AreLast (n : ℕ) (before : Option Row) (r : Row) : Type 0 where
+  -- the row has a value for each column
   pub second : length r.values ≡ n
+  -- so has the row before
   pub first : IfSome before (λ q. length q.values ≡ n)
+  -- which is earlier
   pub later : IfSome before (λ q. q.time < r.time)
 
-last_after : (n : ℕ) (q : Row) (rows : List Row) (r : Row) → length q.values ≡ n → AreRowsAfter n q.time (rows ++ r ∷ []) → AreLast n (Some (last_row_after q rows)) r
+last_after : (n : ℕ) (q : Row) (rows : List Row) (r : Row) → length q.values ≡ n → AreRowsAfter n q.time (rows ++ r ∷ [])
+    → AreLast n (Some (last_row_after q rows)) r
 last_after n q [] r own after = record { second = after.1; first = own; later = after.0 }
 last_after n q (s ∷ rows) r own after = last_after n s rows r after.1 after.2
 
@@ -155,6 +167,7 @@ module _ (m : Move) (node : ℕ) (st : Station) (e : Held) (b : Binding) (before
   abbrev can_row : CanMove m st.work e
   can_row = g.1
 
+  -- the node has an edge
   pub row_edge : node < length e.edges
   row_edge =
       let all = can_row.edges in
@@ -165,7 +178,8 @@ module _ (m : Move) (node : ℕ) (st : Station) (e : Held) (b : Binding) (before
   -- what the row and the one before have
   pub row_last : AreLast b.width before r
   row_last =
-      let trace : IsTrace (record { header = m.header; rows = m.old.rows ++ r ∷ [] }) = subst (λ (q : Past). IsTrace (trace_of m.header q)) g.3.new can_row.trace in
+      let trace : IsTrace (record { header = m.header; rows = m.old.rows ++ r ∷ [] }) =
+      subst (λ (q : Past). IsTrace (trace_of m.header q)) g.3.new can_row.trace in
       subst (λ o. AreLast b.width o r) (sym g.3.last)
       (subst (λ n. AreLast n (last_row_of m.old.rows) r) (sym g.3.bound.width) (last_of_rows (length m.header.columns) m.old.rows r trace.rows))
 
@@ -174,7 +188,8 @@ module _ (m : Move) (node : ℕ) (st : Station) (e : Held) (b : Binding) (before
   row_number =
       let ahead = g.2 in
       ap (λ (q : Past). number_by q.ended (subformula m.nodes m.place) q.rows) g.3.new
-      ∙ number_here m.header (subformula m.nodes m.place) false (m.old.rows ++ r ∷ []) (subst (λ (q : Past). IsTrace (trace_of m.header q)) g.3.new can_row.trace)
+      ∙ number_here m.header (subformula m.nodes m.place) false (m.old.rows ++ r ∷ [])
+      (subst (λ (q : Past). IsTrace (trace_of m.header q)) g.3.new can_row.trace)
       ∙ ap (λ n. Some (pos n -ℤ pos (horizon (subformula m.nodes m.place)))) (last_appended 0 m.old.rows r)
       ∙ ap (λ h. Some (pos r.time -ℤ pos h)) (sym g.2)
 
@@ -203,6 +218,7 @@ module _ (m : Move) (node : ℕ) (st : Station) (e : Held) (b : Binding) (before
       let (k, at, tied) = g.3.bound.atoms m.place a (can.at ∙ ap Some e') in
       subst (IsAtomNode b) g.0 (k, at)
 
+  -- an atom puts its lines of the row
   pub row_atom : (e' e3 : Held) → st.work ≡ W.Atom → HasPutAtom b node before r e e'
       → e3 ≡ record e' { edges = with_edge e' node (with_number (edge_at e' node) (pos r.time)) } → HasMoved m W.Atom e e3
   row_atom e' e3 is (piece, v, is_piece, is_value, put) same =
@@ -233,6 +249,7 @@ module _ (m : Move) (node : ℕ) (st : Station) (e : Held) (now : ℕ) (g : CanM
       ∙ number_here m.header (subformula m.nodes m.place) true m.old.rows (subst (λ (q : Past). IsTrace (trace_of m.header q)) g.2.new can_end.trace)
       ∙ ap (λ n. Some (pos n)) (sym g.2.last)
 
+  -- an operator goes on to the end
   pub end_go : (op : Operator) → st.work ≡ W.Operator op → CanGoTo m node op e (pos now)
   end_go op is = (g.0, subst (λ w. CanMove m w e) is can_end, end_number)
 
@@ -247,11 +264,13 @@ module _ (m : Move) (node : ℕ) (st : Station) (e : Held) (now : ℕ) (g : CanM
       ∙ ap (λ h. Some (pos now -ℤ pos h)) flat ∙ ap Some (omega (arith, ints)) in
       idle_moved m w e e can (pos now) end_number (same_number m w e can (pos now) end_number was) (idle_there e m.place (pos now) (can.number ∙ was))
 
+  -- a constant has nothing more to give out
   pub end_const : (c : Bool) → st.work ≡ W.Const c → HasMoved m (W.Const c) e e
   end_const c is =
       let can : CanMove m (W.Const c) e = subst (λ w. CanMove m w e) is can_end in
       end_leaf (ap horizon (tree_at_node m.nodes can.nodes.formed m.place (Const c) (can.at ∙ ap Some can.work))) (W.Const c) is
 
+  -- nor has an atom
   pub end_atom : st.work ≡ W.Atom → HasMoved m W.Atom e e
   end_atom is =
       let can : CanMove m W.Atom e = subst (λ w. CanMove m w e) is can_end in

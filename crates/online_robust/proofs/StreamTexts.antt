@@ -1,5 +1,6 @@
 -- The text of the lines that a node gave out is that of the stream of its margins.
-use Rattle.std.proofs.Common.{◌≡◌, ℕ, Bool, true, false, List, [], ◌∷◌, ◌++◌, length, refl, sym, ap, subst, ◌∙◌, append_assoc, append-nil, Option, Some, None, ℤ, pos}
+use Rattle.std.proofs.Common.{◌≡◌, ℕ, Bool, true, false, List, [], ◌∷◌, ◌++◌, length, refl, sym, ap}
+use Rattle.std.proofs.Common.{subst, ◌∙◌, append_assoc, append-nil, Option, Some, None, ℤ, pos}
 use Rattle.std.specs.Prelude.{MatchBool, int_lt}
 use Rattle.rational.specs.Time.{whole}
 use Rattle.stl_syntax.specs.Trace.{Header, Row, Trace, AreRows, first_time, last_time}
@@ -28,10 +29,18 @@ lines_more scale [] p text line lines is = (line, [], is, refl, ap (λ l. l ++ l
 lines_more scale (q ∷ a) p text line (here, later, is_here, lines, e) is =
     (here, later ++ line, is_here, lines_more scale a p later line lines is, ap (λ l. l ++ line) e ∙ append_assoc here later line)
 
-piece_lines : (scale : Scale) (k : Knot) (pieces : List Piece) (text : List ℕ) → ArePartLines scale (parts_after k.time pieces) text → ArePieceLines scale k pieces text
+piece_lines : (scale : Scale) (k : Knot) (pieces : List Piece) (text : List ℕ)
+    → ArePartLines scale (parts_after k.time pieces) text → ArePieceLines scale k pieces text
 piece_lines scale k [] text lines = lines
-piece_lines scale k (p ∷ pieces) text (gap_line, rest, is_gap, (knot_line, later, is_knot, lines, f), e) =
-    (gap_line, knot_line, later, is_gap, is_knot, piece_lines scale p.next pieces later lines, e ∙ ap (λ l. gap_line ++ l) f ∙ sym (append_assoc gap_line knot_line later))
+piece_lines scale k (p ∷ pieces) text (gap_line, rest, is_gap, (knot_line, later, is_knot, lines, f), e) = (
+  gap_line,
+  knot_line,
+  later,
+  is_gap,
+  is_knot,
+  piece_lines scale p.next pieces later lines,
+  e ∙ ap (λ l. gap_line ++ l) f ∙ sym (append_assoc gap_line knot_line later),
+)
 
 margin_lines : (scale : Scale) (knots : Knots) (text : List ℕ) → ArePartLines scale (parts_of knots) text → AreMarginLines scale knots text
 margin_lines scale knots text (first, later, is, lines, e) = (first, later, is, piece_lines scale knots.first knots.pieces later lines, e)
@@ -45,9 +54,12 @@ new_text p tr None (Some new) parts text (knots, tells, e) lines =
 new_text p tr (Some old) (Some new) parts text are lines = by_test (int_lt old new) are
   where
     by_test : (b : Bool)
-        → MatchBool b ((k : Knot) × (pieces : List Piece) × TellsLeftOpen p tr (whole old) (whole new) k pieces × (parts ≡ parts_after k.time pieces)) (parts ≡ [])
-        → MatchBool b ((k : Knot) × (pieces : List Piece) × TellsLeftOpen p tr (whole old) (whole new) k pieces × ArePieceLines tr.header.scale k pieces text) (text ≡ [])
-    by_test true (k, pieces, tells, e) = (k, pieces, tells, piece_lines tr.header.scale k pieces text (subst (λ l. ArePartLines tr.header.scale l text) e lines))
+        → MatchBool b ((k : Knot) × (pieces : List Piece) × TellsLeftOpen p tr (whole old) (whole new) k pieces
+        × (parts ≡ parts_after k.time pieces)) (parts ≡ [])
+        → MatchBool b ((k : Knot) × (pieces : List Piece) × TellsLeftOpen p tr (whole old) (whole new) k pieces
+        × ArePieceLines tr.header.scale k pieces text) (text ≡ [])
+    by_test true (k, pieces, tells, e) =
+        (k, pieces, tells, piece_lines tr.header.scale k pieces text (subst (λ l. ArePartLines tr.header.scale l text) e lines))
     by_test false e = subst (λ l. ArePartLines tr.header.scale l text) e lines
 
 module _ (p : Subformula) (header : Header) where
@@ -58,7 +70,8 @@ module _ (p : Subformula) (header : Header) where
       let (x, y, first, second, f) = lines_split header.scale here later text (subst (λ l. ArePartLines header.scale l text) e lines) in (
         x,
         y,
-        new_text p (record { header = header; rows = before ++ r ∷ [] }) old (shown_number (first_time (before ++ r ∷ [])) (front_at false (pos r.time) p)) here x is_here first,
+        new_text p (record { header = header; rows = before ++ r ∷ [] }) old
+            (shown_number (first_time (before ++ r ∷ [])) (front_at false (pos r.time) p)) here x is_here first,
         rows_text (before ++ r ∷ []) rows (shown_number (first_time (before ++ r ∷ [])) (front_at false (pos r.time) p)) later y are second,
         f,
       )

@@ -1,5 +1,7 @@
 -- A line of the root is taken, or nothing that the nodes hold has changed.
-use Rattle.std.proofs.Common.{◌≡◌, ◌≢◌, ℕ, suc, ◌-◌, ◌<◌, Bool, true, false, List, [], ◌∷◌, ◌++◌, length, drop, refl, sym, ap, subst, ◌∙◌, append_assoc, inl, inr, Option, Some, None, ℤ, pos, set, take, get_or, get_or-set_same, get_or-set_other, length-set}
+use Rattle.std.proofs.Common.{◌≡◌, ◌≢◌, ℕ, suc, ◌-◌, ◌<◌, Bool, true, false, List, [], ◌∷◌, ◌++◌, length}
+use Rattle.std.proofs.Common.{drop, refl, sym, ap, subst, ◌∙◌, append_assoc, inl, inr, Option, Some, None}
+use Rattle.std.proofs.Common.{ℤ, pos, set, take, get_or, get_or-set_same, get_or-set_other, length-set}
 use Rattle.std.specs.Prelude.{MatchBool, int_lt, slice_get}
 use Rattle.std.proofs.lemmas.Bool.{cases_eq}
 use Rattle.std.proofs.lemmas.List.{set-get_or}
@@ -41,6 +43,7 @@ module _ (nodes : List Node) (header : Header) (streamed : AreStreamed nodes) (a
   abbrev root : ℕ
   root = length nodes - 1
 
+  -- what was taken of the root and what is left are what it gave out
   pub shows_taken : ((j : ℕ) → j ≢ root → edge_at e' j ≡ edge_at e j) → number_at e' root ≡ number_at e root
       → given' ++ held_at e' root ≡ given ++ held_at e root → length e'.edges ≡ length e.edges → Shows nodes header at given' e' stations
   shows_taken others number all count = record {
@@ -135,10 +138,12 @@ module _ (nodes : List Node) (header : Header) (past : Past) (i : ℕ) (given mo
   given_inputs : (F : Function) (most start : ℕ) (f : ℤ) → IsInput F most start None f (given ++ x ∷ more) → AreInputs F most start None f (given ++ x ∷ more)
   given_inputs F most start f input = by_test (int_lt f (pos start)) input
     where
-      by_test : (b : Bool) → MatchBool b (given ++ x ∷ more ≡ []) (AreInputs F most start None f (given ++ x ∷ more)) → AreInputs F most start None f (given ++ x ∷ more)
+      by_test : (b : Bool) → MatchBool b (given ++ x ∷ more ≡ []) (AreInputs F most start None f (given ++ x ∷ more))
+          → AreInputs F most start None f (given ++ x ∷ more)
       by_test true e = absurd (not_none given x more e)
       by_test false a = a
 
+  -- the line tells the root's margin in each trace that goes on
   pub line_told : (tr : Trace) → IsTrace tr → Continues tr header past.rows past.ended → IsToldLine (Robustness (subformula nodes i) tr) x
   line_told tr is c = by_rows past.rows gave.told c
     where
@@ -147,9 +152,11 @@ module _ (nodes : List Node) (header : Header) (past : Past) (i : ℕ) (given mo
       by_rows [] none c = absurd (not_none given x more none)
       by_rows (r ∷ rows) told c =
           told_after (Robustness (subformula nodes i) tr) given x more
-          (given_inputs (Robustness (subformula nodes i) tr) (reach (take (suc i) nodes)) r.time (front_at past.ended (pos (last_time r.time rows)) (subformula nodes i))
+          (given_inputs (Robustness (subformula nodes i) tr) (reach (take (suc i) nodes)) r.time
+          (front_at past.ended (pos (last_time r.time rows)) (subformula nodes i))
           (told tr is c)).told
 
+  -- and comes as soon as it may
   pub line_timely : AreRowsSoFar header past.rows → IsTimely x
   line_timely rows = by_rows past.rows gave.told rows
     where
@@ -158,5 +165,6 @@ module _ (nodes : List Node) (header : Header) (past : Past) (i : ℕ) (given mo
       by_rows (r ∷ rows) told is =
           let tr : Trace = record { header = header; rows = r ∷ rows } in
           timely_of (reach (take (suc i) nodes)) x (fit_after (reach (take (suc i) nodes)) given x more
-          (given_inputs (Robustness (subformula nodes i) tr) (reach (take (suc i) nodes)) r.time (front_at past.ended (pos (last_time r.time rows)) (subformula nodes i))
+          (given_inputs (Robustness (subformula nodes i) tr) (reach (take (suc i) nodes)) r.time
+          (front_at past.ended (pos (last_time r.time rows)) (subformula nodes i))
           (told tr is (itself tr past.ended))).fit)

@@ -6,7 +6,8 @@ use Rattle.rational.specs.Time.{Rational, less, ◌≈◌, ◌≤ʳ◌, ◌<ʳ�
 use Rattle.rational.specs.Extended.{value_at, ◌≈ᵉ◌}
 use Rattle.rational.specs.Affine.{HasBoundedLevel}
 use Rattle.rational.specs.Windows.{Function}
-use Rattle.rational.proofs.Order.{le_refl, le_of_same, ge_of_same, le_trans, left_of_middle, lt_of_le_of_lt, lt_of_lt_of_le, right_of_middle, same_refl, same_sym, same_trans}
+use Rattle.rational.proofs.Order.{le_refl, le_of_same, ge_of_same, le_trans, left_of_middle, lt_of_le_of_lt}
+use Rattle.rational.proofs.Order.{lt_of_lt_of_le, right_of_middle, same_refl, same_sym, same_trans}
 use Rattle.rational.proofs.AffineLemmas.{bounded_same, same_reflᵉ, value_same}
 use Rattle.rational.proofs.Bounds.{level_bounded}
 use Rattle.rational.proofs.Sames.{symᵉ}
@@ -48,12 +49,18 @@ there_same P reach t u v is e h = record {
 
 -- the next stop, no later than the ends of both gaps and the end of the stretch
 pub record IsStop (at : Rational) (p q : MarginLine) (t to : Rational) : Type 0 where
+  -- the next stop is later
   pub after : at <ʳ t
+  -- not behind the left line
   pub left : t ≤ʳ value (end_of p)
+  -- nor behind the right one
   pub right : t ≤ʳ value (end_of q)
+  -- nor behind the time
   pub by : t ≤ʳ to
+  -- but at one of them
   pub one : (value (end_of p) ≈ t) ⊎ (value (end_of q) ≈ t) ⊎ (to ≤ʳ t)
 
+-- the least of the three is the next stop
 pub stop_of : (at : Rational) (p q : MarginLine) (u v i t to : Frac) → u ≡ end_of p → v ≡ end_of q → at <ʳ value (end_of p) → at <ʳ value (end_of q)
     → at <ʳ value to → value i ≤ʳ value u → value i ≤ʳ value v → (value i ≡ value u) ⊎ (value i ≡ value v) → value t ≤ʳ value i → value t ≤ʳ value to
     → (value t ≡ value i) ⊎ (value t ≡ value to) → IsStop at p q (value t) (value to)
@@ -98,6 +105,7 @@ turn_nearer l m r s at t to more m_l s_r one = by_one one
         omega (arith, now, none, m_l, s_r)
 
 module _ (x : Couple) (op : Two) where
+  -- the node's margin is a function
   pub both_is : IsFunction (both_of x op)
   both_is = chosen_is_function op.side (left_of x op.turned) (right_of x)
       (turned_is_function op.turned (Robustness x.left x.trace) (robust_is_function x.left x.trace)) (robust_is_function x.right x.trace)
@@ -115,9 +123,11 @@ module _ (x : Couple) (op : Two) where
     right = ahead_same (Robustness x.right x.trace) x.reach t u x.right_to (held_at e op.right) same to.right;
   }
 
+  -- a connective that has told stands there
   pub join_stood : (e : Held) (r : _) → CanJoin x op e → op.last ≡ Some r → HasReached (both_of x op) x.reach x.from (Some r)
   join_stood e r can is = subst (HasReached (both_of x op) x.reach x.from) is can.last
 
+  -- and both inputs go on from there
   pub join_stood_to : (e : Held) (r : _) → CanJoin x op e → op.last ≡ Some r → IsJoinedTo x op e (value r.at)
   join_stood_to e r can is =
       let reached = join_stood e r can is in
@@ -132,9 +142,11 @@ module _ (x : Couple) (op : Two) where
         right = subst (IsReady (Robustness x.right x.trace) x.reach x.from x.right_to (held_at e op.right)) is can.right;
       }
 
+  -- one that has not finds the left input from the start on
   pub left_begins : (e : Held) → CanJoin x op e → op.last ≡ None → Begins (Robustness x.left x.trace) x.reach x.from x.left_to (held_at e op.left)
   left_begins e can none = subst (IsReady (Robustness x.left x.trace) x.reach x.from x.left_to (held_at e op.left)) none can.left
 
+  -- and the right one
   pub right_begins : (e : Held) → CanJoin x op e → op.last ≡ None → Begins (Robustness x.right x.trace) x.reach x.from x.right_to (held_at e op.right)
   right_begins e can none = subst (IsReady (Robustness x.right x.trace) x.reach x.from x.right_to (held_at e op.right)) none can.right
 
@@ -144,24 +156,31 @@ module _ (x : Couple) (op : Two) where
     lost_left : LosesAt (value (end_of v)) op.left old mid
     lost_left = took (value (end_of v)) op.left old mid v can.left_in taken start_mid first (le_refl (value (end_of v)))
 
+    -- the right edge stays while the left one is read
     pub mid_right : held_at mid op.right ≡ held_at old op.right
     mid_right = ap held_of (lost_left.others op.right (λ e. can.apart (sym e)))
 
+    -- and there are as many edges
     pub mid_count : length mid.edges ≡ length old.edges
     mid_count = lost_left.edges
 
+    -- the right edge holds a line
     pub right_some : slice_get (held_at mid op.right) 0 ≡ None → ⊥
     right_some e = begun_some (right_begins old can none) (ap (λ (l : List MarginLine). slice_get l 0) (sym mid_right) ∙ e)
 
     is_v : v ≡ Point (left_begins old can none).at (left_begins old can none).v
     is_v = begun_point (left_begins old can none) v first
 
+    -- the left input begins with that point
     pub left_there : IsThere (Robustness x.left x.trace) x.reach (value (end_of v)) (margin_of v)
-    left_there = subst (λ (m : MarginLine). IsThere (Robustness x.left x.trace) x.reach (value (end_of m)) (margin_of m)) (sym is_v) (left_begins old can none).there
+    left_there = subst (λ (m : MarginLine). IsThere (Robustness x.left x.trace) x.reach (value (end_of m)) (margin_of m))
+        (sym is_v) (left_begins old can none).there
 
+    -- at the start
     pub left_when : value (end_of v) ≈ x.from
     left_when = subst (λ (m : MarginLine). value (end_of m) ≈ x.from) (sym is_v) (left_begins old can none).when
 
+    -- which is a tick
     pub left_tick : IsTick (value (end_of v))
     left_tick = subst (λ (m : MarginLine). IsTick (value (end_of m))) (sym is_v) (left_begins old can none).tick
 
@@ -175,15 +194,20 @@ module _ (x : Couple) (op : Two) where
       together : value (end_of w) ≈ value (end_of v)
       together = same_trans (subst (λ (m : MarginLine). value (end_of m) ≈ x.from) (sym is_w) (right_begins old can none).when) (same_sym left_when)
 
+      -- and so does the right one
       pub right_there : IsThere (Robustness x.right x.trace) x.reach (value (end_of v)) (margin_of w)
-      right_there = there_same (Robustness x.right x.trace) x.reach (value (end_of w)) (value (end_of v)) (margin_of w) (robust_is_function x.right x.trace) together
-          (subst (λ (m : MarginLine). IsThere (Robustness x.right x.trace) x.reach (value (end_of m)) (margin_of m)) (sym is_w) (right_begins old can none).there)
+      right_there = there_same (Robustness x.right x.trace) x.reach (value (end_of w)) (value (end_of v)) (margin_of w)
+          (robust_is_function x.right x.trace) together
+          (subst (λ (m : MarginLine). IsThere (Robustness x.right x.trace) x.reach (value (end_of m)) (margin_of m)) (sym is_w)
+          (right_begins old can none).there)
 
       module _ (new : Held) (taken_too : new.edges ≡ with_edge mid op.right (without 1 (edge_at mid op.right))) (start_new : new.start ≡ mid.start) where
+        -- both points are gone
         pub lost_first : LosesAtBoth (value (end_of v)) op.left op.right old new
         lost_first = lost_both can.apart lost_left
             (took (value (end_of v)) op.right mid new w (omega (arith, can.right_in, mid_count)) taken_too start_new second (le_of_same together))
 
+        -- and both inputs go on from there
         pub join_first : IsJoinedTo x op new (value (end_of v))
         join_first = record {
           span = can.span;
@@ -197,12 +221,14 @@ module _ (x : Couple) (op : Two) where
               (left_begins old can none).ahead);
           right = subst (λ (l : List MarginLine). IsAhead (Robustness x.right x.trace) x.reach (value (end_of v)) x.right_to l) (sym right_rest)
               (ahead_same (Robustness x.right x.trace) x.reach (value (end_of w)) (value (end_of v)) x.right_to (right_begins old can none).rest together
-              (subst (λ (m : MarginLine). IsAhead (Robustness x.right x.trace) x.reach (value (end_of m)) x.right_to (right_begins old can none).rest) (sym is_w)
+              (subst (λ (m : MarginLine). IsAhead (Robustness x.right x.trace) x.reach (value (end_of m)) x.right_to (right_begins old can none).rest)
+              (sym is_w)
               (right_begins old can none).ahead));
         }
           where
             lost_right : LosesAt (value (end_of w)) op.right mid new
-            lost_right = took (value (end_of w)) op.right mid new w (omega (arith, can.right_in, mid_count)) taken_too start_new second (le_refl (value (end_of w)))
+            lost_right = took (value (end_of w)) op.right mid new w
+                (omega (arith, can.right_in, mid_count)) taken_too start_new second (le_refl (value (end_of w)))
 
             left_rest : held_at new op.left ≡ (left_begins old can none).rest
             left_rest = ap held_of (lost_right.others op.left can.apart) ∙ took_held op.left old mid can.left_in taken ∙ begun_rest (left_begins old can none)
@@ -219,11 +245,13 @@ module _ (x : Couple) (op : Two) where
   right_source at = record { formula = x.right; trace = x.trace; reach = x.reach; at = at; to = x.right_to }
 
   module _ (e : Held) (at : Rational) (to : IsJoinedTo x op e at) (more : at <ʳ x.to) where
+    -- the left edge holds a line
     pub left_some : slice_get (held_at e op.left) 0 ≡ None → ⊥
     left_some none =
         let g = first_gap (Robustness x.left x.trace) x.reach at x.left_to (held_at e op.left) to.left (lt_of_lt_of_le more to.span.left) in
         absurd (let f : Some (Gap g.a g.b g.p) ≡ None = subst (λ (l : List MarginLine). slice_get l 0 ≡ None) g.is none in cc)
 
+    -- and the right one
     pub right_some_too : slice_get (held_at e op.right) 0 ≡ None → ⊥
     right_some_too none =
         let g = first_gap (Robustness x.right x.trace) x.reach at x.right_to (held_at e op.right) to.right (lt_of_lt_of_le more to.span.right) in
@@ -236,23 +264,29 @@ module _ (x : Couple) (op : Two) where
       r : (g : FirstGap (Robustness x.right x.trace) x.reach at x.right_to (held_at e op.right)) × (q ≡ Gap g.a g.b g.p)
       r = first_of (Robustness x.right x.trace) x.reach at x.right_to (held_at e op.right) q to.right second
 
+      -- the left line ends behind
       pub left_later : at <ʳ value (end_of p)
       left_later = subst (λ (m : MarginLine). at <ʳ value (end_of m)) (sym l.1) l.0.later
 
+      -- and the right one
       pub right_later : at <ʳ value (end_of q)
       right_later = subst (λ (m : MarginLine). at <ʳ value (end_of m)) (sym r.1) r.0.later
 
+      -- the left margin is bounded
       pub left_level : HasBoundedLevel (2 ^ 31) (margin_function (margin_of p))
       left_level = subst (λ (m : MarginLine). HasBoundedLevel (2 ^ 31) (margin_function (margin_of m))) (sym l.1)
           (level_bounded (2 ^ 31) (margin_function l.0.p) (value l.0.a) l.0.gap_fit.2)
 
+      -- and the right one
       pub right_level : HasBoundedLevel (2 ^ 31) (margin_function (margin_of q))
       right_level = subst (λ (m : MarginLine). HasBoundedLevel (2 ^ 31) (margin_function (margin_of m))) (sym r.1)
           (level_bounded (2 ^ 31) (margin_function r.0.p) (value r.0.a) r.0.gap_fit.2)
 
+      -- the left margin may be moved
       pub left_moved : IsMovedBy x.reach (margin_of p)
       left_moved = subst (λ (m : MarginLine). IsMovedBy x.reach (margin_of m)) (sym l.1) l.0.gap_fit.4
 
+      -- and the right one
       pub right_moved : IsMovedBy x.reach (margin_of q)
       right_moved = subst (λ (m : MarginLine). IsMovedBy x.reach (margin_of m)) (sym r.1) r.0.gap_fit.4
 
@@ -262,26 +296,33 @@ module _ (x : Couple) (op : Two) where
           (there_in (Robustness x.left x.trace) x.reach (robust_is_function x.left x.trace) l.0.a l.0.b l.0.p t l.0.gap l.0.gap_fit (lt_of_le_of_lt l.0.begun a)
           (subst (λ (m : MarginLine). t <ʳ value (end_of m)) l.1 c))
 
+      -- the right input has its margin up to its end
       pub right_on : (t : Rational) → at <ʳ t → t <ʳ value (end_of q) → IsThere (Robustness x.right x.trace) x.reach t (margin_of q)
       right_on t a c = subst (λ (m : MarginLine). IsThere (Robustness x.right x.trace) x.reach t (margin_of m)) (sym r.1)
-          (there_in (Robustness x.right x.trace) x.reach (robust_is_function x.right x.trace) r.0.a r.0.b r.0.p t r.0.gap r.0.gap_fit (lt_of_le_of_lt r.0.begun a)
+          (there_in (Robustness x.right x.trace) x.reach
+          (robust_is_function x.right x.trace) r.0.a r.0.b r.0.p t r.0.gap r.0.gap_fit (lt_of_le_of_lt r.0.begun a)
           (subst (λ (m : MarginLine). t <ʳ value (end_of m)) r.1 c))
 
       -- the left input's margin as it counts
       module _ (m : Margin) (turned : (t : Rational) → value_at (margin_function m) t ≈ᵉ value_turned op.turned (value_at (margin_function (margin_of p)) t))
           (base : IsTrue (is_ramp m) → IsTrue (is_ramp (margin_of p)) × (margin_base m ≡ margin_base (margin_of p))) where
+        -- the left one, as it counts, has this margin up to its end
         pub counted_on : (t : Rational) → at <ʳ t → t <ʳ value (end_of p) → IsThere (left_of x op.turned) x.reach t m
         counted_on t a c = turned_there op.turned (Robustness x.left x.trace) x.reach t (margin_of p) m (robust_is_function x.left x.trace) (left_on t a c)
             (turned t) base
 
+        -- which is bounded
         pub counted_level : HasBoundedLevel (2 ^ 31) (margin_function m)
         counted_level = level_bounded (2 ^ 31) (margin_function m) (middle at (value (end_of p)))
             (counted_on (middle at (value (end_of p))) (left_of_middle left_later) (right_of_middle left_later)).bounded
 
+        -- and may be moved
         pub counted_moved : IsMovedBy x.reach m
         counted_moved = moved_as x.reach (margin_of p) m base left_moved
 
-        module _ (t : Frac) (before_p : value t ≤ʳ value (end_of p)) (before_q : value t ≤ʳ value (end_of q)) (after : at <ʳ value t) (by_end : value t ≤ʳ x.to) where
+        module _ (t : Frac) (before_p : value t ≤ʳ value (end_of p)) (before_q : value t ≤ʳ value (end_of q))
+            (after : at <ʳ value t) (by_end : value t ≤ʳ x.to) where
+          -- both joined go on what was built
           pub built_joined : (point : Margin) (old_ks new_ks : List (Knot Margin)) → IsBuilt (both_of x op) x.reach x.from at old_ks
               → Joins margin_shape op.side old_ks m (margin_of q) t point new_ks → IsThere (both_of x op) x.reach (value t) point
               → IsBuilt (both_of x op) x.reach x.from (value t) new_ks
@@ -298,7 +339,8 @@ module _ (x : Couple) (op : Two) where
               counted_moved right_moved there
 
           -- a crossing that is refused is one of two parts of the inputs
-          pub joined_fault : (from : Frac) (stopped : value from ≈ at) (e : OpFault Margin) → IsGapFault margin_shape m (margin_of q) from t e → IsCoupleFault x op e
+          pub joined_fault : (from : Frac) (stopped : value from ≈ at) (e : OpFault Margin)
+              → IsGapFault margin_shape m (margin_of q) from t e → IsCoupleFault x op e
           joined_fault from stopped F.Memory h = tt
           joined_fault from stopped (F.Wide (Cross a b c d den)) (is_a, is_b, is_c, is_d, (s, meet, has, wide)) =
               subst (λ (a : Margin). IsCoupleFault x op (F.Wide (Cross a b c d den))) (sym is_a)

@@ -1,5 +1,6 @@
 -- From what an operator needs before it goes on to what a window needs whose input has given out nothing, and back from what it leaves.
-use Rattle.std.proofs.Common.{◌≡◌, ◌⊎◌, inl, inr, ℕ, zero, suc, ◌+◌, ◌<◌, ◌≤◌, Bool, true, false, List, [], ◌∷◌, drop, refl, sym, ap, subst, ◌∙◌, arith, Option, Some, None, ℤ, pos, ◌+ℤ◌, ◌<ℤ◌, ◌≤ℤ◌}
+use Rattle.std.proofs.Common.{◌≡◌, ◌⊎◌, inl, inr, ℕ, zero, suc, ◌+◌, ◌<◌, ◌≤◌, Bool, true, false, List, [], ◌∷◌}
+use Rattle.std.proofs.Common.{drop, refl, sym, ap, subst, ◌∙◌, arith, Option, Some, None, ℤ, pos, ◌+ℤ◌, ◌<ℤ◌, ◌≤ℤ◌}
 use Rattle.std.specs.Prelude.{MatchOption, IfSome, IsSome, IsSomeAnd, int_lt, cond, neg_ℤ, slice_get}
 use Rattle.std.proofs.lemmas.Int.{ints}
 use Rattle.rational.specs.Time.{Rational, Precedes, shifted, whole, ◌≈◌, ◌≤ʳ◌, ◌<ʳ◌}
@@ -61,7 +62,8 @@ no_lines : (lines : List MarginLine) → slice_get lines 0 ≡ None → lines �
 no_lines [] none = refl
 no_lines (x ∷ lines) none = absurd (let z : ◌≡◌ {A = Option MarginLine} (Some x) None = none in cc)
 
-module _ (t : Turn) (z : Lazy) (e : Held) (to : ℕ) (b : Belongs t (Op.Sweep z) e to) (none : z.sweep ≡ None) (empty : slice_get (held_at e z.window.of) 0 ≡ None) where
+module _ (t : Turn) (z : Lazy) (e : Held) (to : ℕ) (b : Belongs t (Op.Sweep z) e to) (none : z.sweep ≡ None)
+    (empty : slice_get (held_at e z.window.of) 0 ≡ None) where
   abbrev w : Window
   w = z.window
 
@@ -87,7 +89,13 @@ module _ (t : Turn) (z : Lazy) (e : Held) (to : ℕ) (b : Belongs t (Op.Sweep z)
   short = looks_before t (Op.Sweep z) e to b w.of w.high (far t z e to b) (not_begun t z e to b none empty)
 
   abbrev pub silence : Glance
-  silence = record { formula = subformula t.nodes z.window.of; trace = t.trace; reach = reach_before t; front = whole (front_at t.ended (pos t.now) (subformula t.nodes z.window.of)); bound = shifted (whole (pos to)) z.window.high }
+  silence = record {
+    formula = subformula t.nodes z.window.of;
+    trace = t.trace;
+    reach = reach_before t;
+    front = whole (front_at t.ended (pos t.now) (subformula t.nodes z.window.of));
+    bound = shifted (whole (pos to)) z.window.high;
+  }
 
   too_early : silence.bound <ʳ start t.trace
   too_early = lt_of_le_of_lt (le_of_same (shifted_whole (pos to) w.high)) (lt_whole short)
@@ -95,7 +103,10 @@ module _ (t : Turn) (z : Lazy) (e : Held) (to : ℕ) (b : Belongs t (Op.Sweep z)
   silent_at : (last : Option Reached) (u : Rational) → IsGlanceAt silence (op last) e u
   silent_at last u = record {
     of_in = of_in t z e to b;
-    offset = let f = fit t z e to b in let lt = b.stands.1 in record { from = let low = f.low in omega (arith, ints, low, lt); to = let high = f.high in omega (arith, ints, high) };
+    offset =
+        let f = fit t z e to b in
+        let lt = b.stands.1 in
+        record { from = let low = f.low in omega (arith, ints, low, lt); to = let high = f.high in omega (arith, ints, high) };
     small = let small = (fit t z e to b).small in omega (arith, small);
     begin = first_tick t z e to b;
     order = le_trans (to_first t z e to b) (to_last t z e to b);
@@ -104,12 +115,14 @@ module _ (t : Turn) (z : Lazy) (e : Held) (to : ℕ) (b : Belongs t (Op.Sweep z)
     lines = unseen too_early nil;
   }
     where
-      by_limit : (silence.bound ≤ʳ whole F) ⊎ ((whole F ≈ stop t.trace) × (whole (pos to) ≈ stop t.trace)) → (silence.bound ≤ʳ whole F) ⊎ (whole F ≈ stop t.trace)
+      by_limit : (silence.bound ≤ʳ whole F) ⊎ ((whole F ≈ stop t.trace) × (whole (pos to) ≈ stop t.trace))
+          → (silence.bound ≤ʳ whole F) ⊎ (whole F ≈ stop t.trace)
       by_limit (inl le) = inl le
       by_limit (inr h) = inr h.0
 
   module _ (end : Rational) (same : end ≈ whole (pos to)) where
-    can_here : (last : Option Reached) → HasStood (silent_margin z.window.side) most t.before last → CanGlance silence (op last) (own t z e to b) (from_of t) end e
+    can_here : (last : Option Reached) → HasStood (silent_margin z.window.side) most t.before last
+        → CanGlance silence (op last) (own t z e to b) (from_of t) end e
     can_here last stood = record {
       stands = by_before t.before refl last stood;
       offset = (silent_at last end).offset;
@@ -133,18 +146,21 @@ module _ (t : Turn) (z : Lazy) (e : Held) (to : ℕ) (b : Belongs t (Op.Sweep z)
               (subst (λ (y : Reached). HasReached (silent_margin z.window.side) most (whole g) (Some y)) (sym (some_is kept)) reached),
         )
 
+    -- a window whose input is silent may tell of no times
     pub can_wait : CanGlance silence z.silent (own t z e to b) (from_of t) end e
     can_wait = subst (λ (m : Moved). CanGlance silence m (own t z e to b) (from_of t) end e) (sym has_waited.silent) (can_here z.silent.last has_waited.stood)
 
     -- a window that looks before the start alone has the value of no times
     pub wait_told : (s : List (Knot Margin)) → IsStretch (glance_of silence z.silent) (reach_before t + own t z e to b) (from_of t) end s → IsSwept t to s
     wait_told s given = record {
-      tells = told margin_shape (Robustness (subformula t.nodes t.place) t.trace) (from_of t) (whole (pos to)) s (robust_is_function (subformula t.nodes t.place) t.trace)
+      tells = told margin_shape (Robustness (subformula t.nodes t.place) t.trace) (from_of t) (whole (pos to)) s
+          (robust_is_function (subformula t.nodes t.place) t.trace)
           (record {
             signal = is.tells.signal;
             worth = λ u v h.
                 let (within, there) = (is.tells.worth u v).0 h in
-                subst (λ p. Robustness p t.trace u v) (sym (tree t (Op.Sweep z) e to b)) ((best_is (subformula t.nodes) t.place b.node w t.trace b.stands.0 u v).0 (best_none u v within.below there));
+                subst (λ p. Robustness p t.trace u v) (sym (tree t (Op.Sweep z) e to b))
+                ((best_is (subformula t.nodes) t.place b.node w t.trace b.stands.0 u v).0 (best_none u v within.below there));
           }) is.tells.begins (same_trans is.tells.ends same);
       limited = is.limited;
       moved = λ node found p has. subst (λ (n : Node). IsMovedBy (reach_before t + own_reach n) p) (some_is (sym b.at ∙ found)) (is.moved p has);
@@ -157,11 +173,13 @@ module _ (t : Turn) (z : Lazy) (e : Held) (to : ℕ) (b : Belongs t (Op.Sweep z)
         weak true a d h = h
         weak false a d h = le_of_lt h
 
-        best_none : (u : Rational) (v : Extended) → u ≤ʳ end → v ≈ᵉ nothing_of w.side → best_of (scope_at child t.trace (reach_before t) (whole F) silence.bound end) w u v
+        best_none : (u : Rational) (v : Extended) → u ≤ʳ end → v ≈ᵉ nothing_of w.side
+            → best_of (scope_at child t.trace (reach_before t) (whole F) silence.bound end) w u v
         best_none u v by there = best_of_none (Holds (start t.trace) (stop t.trace) w u) (Robustness child t.trace) (robust_is_function child t.trace) w.side v
             (λ y h. not_lt_of_le (le_trans h.inside.above (weak w.high_in y (shifted u w.high) h.ends))
             (lt_of_le_of_lt (le_trans (le_shifted w.high by) (le_shifted w.high (le_of_same same))) too_early)) there
 
+    -- the edges are swept up to the time
     pub wait_edges : (e' : Held) → LosesAt (shifted end z.silent.by) z.silent.of e e' → HasSwept t e e' to
     wait_edges e' given = record {
       inputs = λ node j left found reads. by_node node j left (some_is (sym found ∙ b.at)) reads;
@@ -176,8 +194,10 @@ module _ (t : Turn) (z : Lazy) (e : Held) (to : ℕ) (b : Belongs t (Op.Sweep z)
         cut : IsCut (back_of (begin_of t) (Some (pos to)) z.window.low) (edge_at e z.window.of) (edge_at e' z.window.of)
         cut = by_test (int_lt (pos to +ℤ z.window.low) (pos (begin_of t))) refl
           where
-            by_test : (c : Bool) → int_lt (pos to +ℤ z.window.low) (pos (begin_of t)) ≡ c → IsCut (cond c None (Some (pos to +ℤ z.window.low))) (edge_at e z.window.of) (edge_at e' z.window.of)
-            by_test true is = ap held_of lost.here.is ∙ held_of-without lost.here.count (edge_at e z.window.of) ∙ drop_none lost.here.count (held_at e z.window.of) nil ∙ sym nil
+            by_test : (c : Bool) → int_lt (pos to +ℤ z.window.low) (pos (begin_of t)) ≡ c
+                → IsCut (cond c None (Some (pos to +ℤ z.window.low))) (edge_at e z.window.of) (edge_at e' z.window.of)
+            by_test true is = ap held_of lost.here.is ∙ held_of-without lost.here.count (edge_at e z.window.of)
+                ∙ drop_none lost.here.count (held_at e z.window.of) nil ∙ sym nil
             by_test false is =
                 let le = int_order (pos to +ℤ z.window.low) (pos (begin_of t)) false is in
                 let order = b.stands.1 in
@@ -188,21 +208,27 @@ module _ (t : Turn) (z : Lazy) (e : Held) (to : ℕ) (b : Belongs t (Op.Sweep z)
             → IsCut (back_of (begin_of t) (Some (pos to)) (reach_back node left)) (edge_at e j) (edge_at e' j) × ((edge_at e' j).number ≡ (edge_at e j).number)
         by_node node j left is reads =
             let one = (here t z e to b).only j left (subst (λ (n : Node). IsReader n left j) is reads) in
-            subst (λ (n : Node). IsCut (back_of (begin_of t) (Some (pos to)) (reach_back n left)) (edge_at e j) (edge_at e' j) × ((edge_at e' j).number ≡ (edge_at e j).number)) (sym is)
-            (subst (λ i. IsCut (back_of (begin_of t) (Some (pos to)) (reach_back b.node left)) (edge_at e i) (edge_at e' i) × ((edge_at e' i).number ≡ (edge_at e i).number)) (sym one.0)
+            subst (λ (n : Node). IsCut (back_of (begin_of t) (Some (pos to)) (reach_back n left)) (edge_at e j) (edge_at e' j)
+            × ((edge_at e' j).number ≡ (edge_at e j).number)) (sym is)
+            (subst (λ i. IsCut (back_of (begin_of t) (Some (pos to)) (reach_back b.node left)) (edge_at e i) (edge_at e' i)
+            × ((edge_at e' i).number ≡ (edge_at e i).number)) (sym one.0)
             (subst (λ (l : Bool). IsCut (back_of (begin_of t) (Some (pos to)) (reach_back b.node l)) (edge_at e z.window.of) (edge_at e' z.window.of)
             × ((edge_at e' z.window.of).number ≡ (edge_at e z.window.of).number)) (sym one.1)
             (subst (λ k. IsCut (back_of (begin_of t) (Some (pos to)) k) (edge_at e z.window.of) (edge_at e' z.window.of)
             × ((edge_at e' z.window.of).number ≡ (edge_at e z.window.of).number)) (sym (here t z e to b).back) (cut, loses_number lost.here))))
 
-    pub wait_stands : (z' : Lazy) (e' : Held) → z' ≡ record z { silent = z'.silent } → z'.silent ≡ record z.silent { last = z'.silent.last } → IsSome z'.silent.last
-        → HasReached (glance_of silence z.silent) (reach_before t + own t z e to b) end z'.silent.last → LosesAt (shifted end z.silent.by) z.silent.of e e' → StandsNow t (Op.Sweep z') e' to
+    -- and the operator stands there
+    pub wait_stands : (z' : Lazy) (e' : Held) → z' ≡ record z { silent = z'.silent }
+        → z'.silent ≡ record z.silent { last = z'.silent.last } → IsSome z'.silent.last
+        → HasReached (glance_of silence z.silent) (reach_before t + own t z e to b) end z'.silent.last
+        → LosesAt (shifted end z.silent.by) z.silent.of e e' → StandsNow t (Op.Sweep z') e' to
     wait_stands z' e' kept silent some given lost node found =
         subst (λ (k : Node). Stands k t.nodes t.place t.trace (Some (pos to)) (Op.Sweep z') (seen_by k e')) (some_is (sym b.at ∙ found)) (
           subst (λ (v : Window). IsWindowOf b.node v) (sym window) b.stands.0,
           subst (λ (v : Window). v.low <ℤ v.high) (sym window) b.stands.1,
           subst (λ (o : Option Sweep). MatchOption o ((seen_by b.node e' ≡ []) × HasWaited z' (begin_of t) most (Some (pos to)))
-              (λ s. (s.window ≡ z'.window) × HasSweptTo t.nodes t.place t.trace z'.window.of (own t z e to b) s (seen_by b.node e') (pos to))) (sym no_sweep) (nothing_seen, still),
+              (λ s. (s.window ≡ z'.window) × HasSweptTo t.nodes t.place t.trace z'.window.of (own t z e to b) s (seen_by b.node e') (pos to)))
+              (sym no_sweep) (nothing_seen, still),
         )
       where
         window : z'.window ≡ z.window
@@ -218,18 +244,21 @@ module _ (t : Turn) (z : Lazy) (e : Held) (to : ℕ) (b : Belongs t (Op.Sweep z)
         at_edge = subst (λ (m : Moved). LosesAt (shifted end m.by) m.of e e') has_waited.silent lost
 
         nothing_seen : seen_by b.node e' ≡ []
-        nothing_seen = (here t z e to b).seen e' ∙ ap (λ (y : Edge). y.seen) at_edge.here.is ∙ drop_none at_edge.here.count ((edge_at e z.window.of).seen) seen_before
+        nothing_seen = (here t z e to b).seen e' ∙ ap (λ (y : Edge). y.seen) at_edge.here.is
+            ∙ drop_none at_edge.here.count ((edge_at e z.window.of).seen) seen_before
 
         reached : HasReached (silent_margin z.window.side) most (whole (pos to)) z'.silent.last
         reached = by_last z'.silent.last (subst (λ (m : Moved). HasReached (glance_of silence m) most end z'.silent.last) has_waited.silent given)
           where
-            by_last : (o : Option Reached) → HasReached (silent_margin z.window.side) most end o → HasReached (silent_margin z.window.side) most (whole (pos to)) o
+            by_last : (o : Option Reached) → HasReached (silent_margin z.window.side) most end o
+                → HasReached (silent_margin z.window.side) most (whole (pos to)) o
             by_last None h = tt
             by_last (Some r) h = (same_trans h.0 same, h.1, h.2)
 
         still : HasWaited z' (begin_of t) most (Some (pos to))
         still = record {
-          silent = silent ∙ ap (λ (m : Moved). record m { last = z'.silent.last }) has_waited.silent ∙ ap (λ (v : Window). silent_of v z'.silent.last) (sym window);
+          silent = silent ∙ ap (λ (m : Moved). record m { last = z'.silent.last }) has_waited.silent
+              ∙ ap (λ (v : Window). silent_of v z'.silent.last) (sym window);
           short = subst (λ (v : Window). (pos to +ℤ v.high) <ℤ pos (begin_of t)) (sym window) short;
           stood = subst (λ (v : Window). HasStood (silent_margin v.side) most (Some (pos to)) z'.silent.last) (sym window)
               (stood_after (silent_margin z.window.side) most (pos to) z'.silent.last some reached);

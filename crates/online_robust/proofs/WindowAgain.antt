@@ -1,12 +1,15 @@
 -- A window goes on in a later turn, or begins, over what its input has given out by then; and what it leaves of it.
-use Rattle.std.proofs.Common.{◌≡◌, ◌⊎◌, inl, inr, ℕ, zero, suc, ◌+◌, ◌<◌, ◌≤◌, ◌^◌, Bool, true, false, List, [], ◌∷◌, ◌++◌, length, drop, slice_get, Option, Some, None, refl, sym, ap, subst, ◌∙◌, arith, ℤ, pos, ◌+ℤ◌, ◌≤ℤ◌, ◌<ℤ◌, neg_ℤ}
+use Rattle.std.proofs.Common.{◌≡◌, ◌⊎◌, inl, inr, ℕ, zero, suc, ◌+◌, ◌<◌, ◌≤◌, ◌^◌, Bool, true, false}
+use Rattle.std.proofs.Common.{List, [], ◌∷◌, ◌++◌, length, drop, slice_get, Option, Some, None, refl}
+use Rattle.std.proofs.Common.{sym, ap, subst, ◌∙◌, arith, ℤ, pos, ◌+ℤ◌, ◌≤ℤ◌, ◌<ℤ◌, neg_ℤ}
 use Rattle.std.specs.Prelude.{◌-ℤ◌, IfSome, IsSome, IsSomeAnd, MatchBool, cond, int_lt}
 use Rattle.std.proofs.lemmas.Int.{ints}
 use Rattle.rational.specs.Rational.{IsWithin}
 use Rattle.rational.specs.Time.{Rational, shifted, whole, ◌≈◌, ◌≤ʳ◌, ◌<ʳ◌}
 use Rattle.rational.specs.Extended.{minus_infinity, infinity, value_at, ◌≈ᵉ◌}
 use Rattle.rational.specs.Windows.{Function}
-use Rattle.rational.proofs.Order.{ge_of_same, le_of_lt, le_of_same, le_refl, le_trans, lt_of_le_of_lt, lt_of_lt_of_le, not_lt_of_le, same_refl, same_sym, same_trans}
+use Rattle.rational.proofs.Order.{ge_of_same, le_of_lt, le_of_same, le_refl, le_trans, lt_of_le_of_lt}
+use Rattle.rational.proofs.Order.{lt_of_lt_of_le, not_lt_of_le, same_refl, same_sym, same_trans}
 use Rattle.rational.proofs.Mixed.{parts, within_same}
 use Rattle.rational.proofs.Shift.{le_whole, lt_whole}
 use Rattle.rational.proofs.TimeLemmas.{same_shifted, shifted-add}
@@ -28,7 +31,9 @@ use Rattle.online_robust.specs.Sweeping.{AreBy, EndsAt, IsBefore, IsUpTo, Mark, 
 use Rattle.online_robust.specs.Told.{AreFit, AreJoined, AreTold, IsMovedBy, IsTick}
 use Rattle.online_robust.specs.Turns.{AreInputs, AreLeft, IsCut, IsCutBy, back_of}
 use Rattle.online_robust.specs.Reading.{IsThere}
-use Rattle.online_robust.specs.Windows.{AreSeen, AreStanding, CanSweep, HasCome, HasTold, IsAt, IsFitWindow, IsOwn, IsOwned, IsSpan, IsSpread, IsStanding, IsToCome, Scope, Sheds, StoodOver, at_time, before_start, best_of, input_of, no_gap, scope_at}
+use Rattle.online_robust.specs.Windows.{AreSeen, AreStanding, CanSweep, HasCome, HasTold, IsAt, IsFitWindow}
+use Rattle.online_robust.specs.Windows.{IsOwn, IsOwned, IsSpan, IsSpread, IsStanding, IsToCome, Scope, Sheds}
+use Rattle.online_robust.specs.Windows.{StoodOver, at_time, before_start, best_of, input_of, no_gap, scope_at}
 use Rattle.online_robust.specs.declared.ends.Gap.{Gap}
 use Rattle.online_robust.specs.declared.line.MarginLine.{MarginLine}
 use Rattle.online_robust.specs.declared.line.MarginLine.TheVariants as L
@@ -43,7 +48,8 @@ use Rattle.online_robust.proofs.WindowFirst.{first_spread, spread_told, told_to}
 -- the lines go on with the point at the end of a gap
 abbrev pub IsNext : Option Frac → List MarginLine → Rational → Type 0
 IsNext None lines to = ⊥
-IsNext (Some u) lines to = (p : Frac) × (v : Margin) × (rest : List MarginLine) × (lines ≡ L.Point p v ∷ rest) × (value u ≈ value p) × AreJoined (value p) to rest
+IsNext (Some u) lines to = (p : Frac) × (v : Margin) × (rest : List MarginLine) × (lines ≡ L.Point p v ∷ rest)
+    × (value u ≈ value p) × AreJoined (value p) to rest
 
 -- behind a gap comes a point
 behind_gap : (a b : Frac) (m : Margin) (from to : Rational) (lines : List MarginLine) → AreJoined from to (L.Gap a b m ∷ lines) → IsNext (Some b) lines to
@@ -76,14 +82,17 @@ next_of none low (k ∷ marks) seen fresh from to stands (rest, is, more) ((inl 
 next_of none low (k ∷ marks) seen fresh from to stands (rest, is, more) ((inr (e, nil)), standing) some joined =
     absurd (no_none (subst (λ (g : Gap). IsSome g.until) e (subst (λ (l : List Mark). IsSome (last_gap k.after l).until) nil some)))
 
+-- the later of lines that tell still tell
 pub told_tail : (P : Function) (xs ys : List MarginLine) → AreTold P (xs ++ ys) → AreTold P ys
 told_tail P [] ys h = h
 told_tail P (x ∷ xs) ys h = told_tail P xs ys h.1
 
+-- within the limits
 pub fit_tail : (reach : ℕ) (xs ys : List MarginLine) → AreFit reach (xs ++ ys) → AreFit reach ys
 fit_tail reach [] ys h = h
 fit_tail reach (x ∷ xs) ys h = fit_tail reach xs ys h.1
 
+-- an end is there or is not
 pub some_or_none : (o : Option Frac) → (o ≡ None) ⊎ IsSome o
 some_or_none None = inl refl
 some_or_none (Some u) = inr refl
@@ -130,7 +139,8 @@ back_before first g k t e lt = by_test (int_lt (g +ℤ k) (pos first)) refl
 
 -- a window that was told before, over what its input has given out by now
 module _ (f : Subformula) (tr : Trace) (reach own : ℕ) (g : ℤ) (s : Sweep) (e : Held) (st : StoodOver f tr reach own (whole g) s (edge_at e s.window.of).seen)
-    (front : ℤ) (inputs : AreInputs (Robustness f tr) reach (first_time tr.rows) (back_of (first_time tr.rows) (Some g) s.window.low) front (held_at e s.window.of))
+    (front : ℤ) (inputs : AreInputs (Robustness f tr) reach (first_time tr.rows)
+    (back_of (first_time tr.rows) (Some g) s.window.low) front (held_at e s.window.of))
     (some : IsSome s.place.high.until) where
   abbrev seen : List MarginLine
   seen = (edge_at e s.window.of).seen
@@ -227,6 +237,7 @@ module _ (f : Subformula) (tr : Trace) (reach own : ℕ) (g : ℤ) (s : Sweep) (
         joined,
       )
 
+  -- the window stands over what its input has given out by then
   pub again_spread : (bound : Rational) → (start tr ≤ʳ whole front) × (whole front ≤ʳ stop tr) → (bound ≤ʳ whole front) ⊎ (whole front ≈ stop tr)
       → IsSpread (scope_at f tr reach (whole front) bound (value s.place.at)) s.window s.start s.none s.place.low s.place.high s.among seen fresh
       (shifted (value s.place.at) s.window.low) (shifted (value s.place.at) s.window.high)
@@ -267,7 +278,10 @@ pub can_go_on : (f : Subformula) (tr : Trace) (reach own : ℕ) (g : ℤ) (s : S
     → (pos 0 ≤ℤ s.window.low) ⊎ (s.window.high ≤ℤ pos 0)
     → CanSweep (scope_at f tr reach (whole front) (shifted (whole to) s.window.high) (value s.place.at)) own (whole g) (whole to) s e
 can_go_on f tr reach own g s e st front to inputs of_in order begun from_tick to_tick ends within told own_is aside = record {
-  at = record { within = of_in; spread = again_spread f tr reach own g s e st front inputs (goes st.goes_on) (shifted (whole to) s.window.high) within (ended told) };
+  at = record {
+    within = of_in;
+    spread = again_spread f tr reach own g s e st front inputs (goes st.goes_on) (shifted (whole to) s.window.high) within (ended told);
+  };
   here = refl;
   behind = refl;
   within = within_same (2 ^ 34) (same_sym st.at) (tick_within from_tick);
@@ -305,7 +319,8 @@ can_go_on f tr reach own g s e st front to inputs of_in order begun from_tick to
 
 -- the first turn: a new window over an input that has given out its first lines
 pub can_begin : (f : Subformula) (tr : Trace) (reach own : ℕ) (s : Sweep) (e : Held) (front to : ℤ)
-    → value s.start ≈ start tr → ((t : Rational) → value_at (margin_function s.none) t ≈ᵉ none_of s.window.side minus_infinity infinity) → is_ramp s.none ≡ false
+    → value s.start ≈ start tr → ((t : Rational) → value_at (margin_function s.none) t ≈ᵉ none_of s.window.side minus_infinity infinity)
+    → is_ramp s.none ≡ false
     → s.place.low ≡ before_start s.none s.start → s.place.high ≡ before_start s.none s.start
     → value s.place.at ≈ whole (pos (first_time tr.rows) -ℤ pos 4294967296) → s.last ≡ None → s.among.side ≡ s.window.side
     → StandsFor margin_function s.among.older.items s.among.newer.items s.window.side s.among.best []
@@ -315,7 +330,8 @@ pub can_begin : (f : Subformula) (tr : Trace) (reach own : ℕ) (s : Sweep) (e :
     → (shifted (whole to) s.window.high ≤ʳ whole front) ⊎ ((whole front ≈ stop tr) × (whole to ≈ stop tr)) → IsOwn s.window own
     → (pos 0 ≤ℤ s.window.low) ⊎ (s.window.high ≤ℤ pos 0)
     → CanSweep (scope_at f tr reach (whole front) (shifted (whole to) s.window.high) (value s.place.at)) own (start tr) (whole to) s e
-can_begin f tr reach own s e front to begins none_value still low high at last side among inputs nil of_in fit first_tick order to_tick ends within told own_is aside =
+can_begin f tr reach own s e front to begins none_value still low high at last side among inputs nil of_in fit first_tick order
+    to_tick ends within told own_is aside =
     record {
       at = record { within = of_in; spread = placed };
       here = refl;
@@ -347,14 +363,18 @@ can_begin f tr reach own s e front to begins none_value still low high at last s
     early = lt_of_le_of_lt (le_of_same at) (lt_whole {j = pos first -ℤ pos 4294967296} {k = pos first} (omega (arith, ints)))
 
     at_within : IsWithin (2 ^ 34) (value s.place.at)
-    at_within = within_same (2 ^ 34) (same_sym at) (low_bound first, le_trans (le_of_lt (lt_whole {j = pos first -ℤ pos 4294967296} {k = pos first} (omega (arith, ints)))) (tick_within first_tick).1)
+    at_within = within_same (2 ^ 34) (same_sym at) (
+      low_bound first,
+      le_trans (le_of_lt (lt_whole {j = pos first -ℤ pos 4294967296} {k = pos first} (omega (arith, ints)))) (tick_within first_tick).1,
+    )
       where
         low_bound : (n : ℕ) → whole (neg_ℤ (pos (2 ^ 34))) ≤ʳ whole (pos n -ℤ pos 4294967296)
         low_bound n = le_whole {j = neg_ℤ (pos (2 ^ 34))} {k = pos n -ℤ pos 4294967296} (omega (arith, ints))
 
     high_early : shifted (value s.place.at) s.window.high ≤ʳ value s.start
     high_early = le_trans (le_of_same (moved_whole (value s.place.at) (pos first -ℤ pos 4294967296) s.window.high at))
-        (le_trans (le_whole {j = (pos first -ℤ pos 4294967296) +ℤ s.window.high} {k = pos first} (let up = fit.high in omega (arith, ints, up))) (ge_of_same begins))
+        (le_trans (le_whole {j = (pos first -ℤ pos 4294967296) +ℤ s.window.high} {k = pos first} (let up = fit.high in omega (arith, ints, up)))
+        (ge_of_same begins))
 
     low_early : shifted (value s.place.at) s.window.low <ʳ value s.start
     low_early = lt_of_lt_of_le (in_order (value s.place.at) s.window.low s.window.high fit.order) high_early
@@ -424,7 +444,8 @@ stood_over x own from to old s old_e e can came same last bound = record {
     )
 
     no_end : s.place.high.until ≡ None → x.front <ʳ x.bound
-    no_end none = (subst (λ (o : Option Frac). IsToCome (at_time x (value s.place.at) (value s.place.at)) o (fresh_at e s.window.of)) none came.at.spread.to_come).1
+    no_end none =
+        (subst (λ (o : Option Frac). IsToCome (at_time x (value s.place.at) (value s.place.at)) o (fresh_at e s.window.of)) none came.at.spread.to_come).1
 
     goes : (x.bound ≤ʳ x.front) ⊎ ((x.front ≈ stop x.trace) × (whole to ≈ stop x.trace)) → (s.place.high.until ≡ None) ⊎ IsSome s.place.high.until
         → (whole to ≈ stop x.trace) ⊎ IsSome s.place.high.until

@@ -1,5 +1,6 @@
 -- What counts for a window is bounded, and its bases are moved by no more than the offsets.
-use Rattle.std.proofs.Common.{◌≡◌, ◌⊎◌, inl, inr, ℕ, ℤ, pos, ◌+◌, ◌≤◌, ◌^◌, Bool, true, false, List, [], ◌∷◌, Option, Some, None, refl, sym, ap, subst, ◌∙◌, arith}
+use Rattle.std.proofs.Common.{◌≡◌, ◌⊎◌, inl, inr, ℕ, ℤ, pos, ◌+◌, ◌≤◌, ◌^◌, Bool, true, false, List}
+use Rattle.std.proofs.Common.{[], ◌∷◌, Option, Some, None, refl, sym, ap, subst, ◌∙◌, arith}
 use Rattle.std.specs.Prelude.{neg_ℤ, ◌≤ℤ◌, ◌<ℤ◌, ◌-ℤ◌, IsSomeAnd, IsTrue}
 use Rattle.std.proofs.lemmas.Int.{ints}
 use Rattle.rational.specs.Time.{Rational, ◌≈◌, ◌≤ʳ◌, ◌<ʳ◌, shifted, whole}
@@ -34,6 +35,7 @@ use Rattle.online_robust.proofs.WindowLaw.{last_on_of, runs_on, up_to_before, up
 some_is : {X : Type 0} {a b : X} → Some a ≡ Some b → a ≡ b
 some_is h = cc
 
+-- the value of no times is bounded
 pub none_bounded : (side : Side) → IsBounded (2 ^ 31) (none_of side minus_infinity infinity)
 none_bounded Greatest = tt
 none_bounded Least = tt
@@ -72,6 +74,7 @@ frozen_bounded Q reach side limit from low (k ∷ marks) cs runs (inr (knot, (d,
     by_one (inr rest) go = go rest
 
 module _ (x : Scope) (s : Sweep) (e : Held) (at : IsAt x s e) where
+  -- so is the best of the constants
   pub top_bounded : (top : Margin)
       → ((cs : List Margin) → StandsFor margin_function s.among.older.items s.among.newer.items s.among.side s.among.best cs
       → IsTopOf margin_function s.among.side s.none cs top) → (t : Rational) → IsBounded (2 ^ 31) (value_at (margin_function top) t)
@@ -84,12 +87,14 @@ module _ (x : Scope) (s : Sweep) (e : Held) (at : IsAt x s e) where
           (bounded_same (2 ^ 31) (value_at (margin_function s.none) t) (none_of s.window.side minus_infinity infinity) (at.spread.none_value t)
           (none_bounded s.window.side))
 
+  -- and the margin under the low end
   pub low_bounded : (u : Rational) → low_at x s.window ≤ʳ shifted u s.window.low → IsUpTo (shifted u s.window.low) s.place.low.until
       → IsBounded (2 ^ 31) (value_at (margin_function s.place.low.shape) (shifted u s.window.low))
   low_bounded u later up =
       (runs_on (input_of x s.window.side) x.reach at.spread.from s.place.low at.spread.marks at.spread.runs).bounded (shifted u s.window.low)
       (le_trans at.spread.begun later) up
 
+  -- and that under the high end
   pub high_bounded : low_at x s.window ≤ʳ high_at x s.window → (u : Rational) → high_at x s.window ≤ʳ shifted u s.window.high
       → IsUpTo (shifted u s.window.high) s.place.high.until
       → IsBounded (2 ^ 31) (value_at (margin_function s.place.high.shape) (shifted u s.window.high))
@@ -138,6 +143,7 @@ still_moved reach High e = (omega (arith, ints), omega (arith, ints))
 still_moved reach (Fixed c) e = (omega (arith, ints), omega (arith, ints))
 still_moved reach (Ramp f) e = absurd (let z : true ≡ false = e in cc)
 
+-- a constant stays as it is with time
 pub frozen_still : (side : Side) (limit : Rational) (low : Gap) (marks : List Mark) (cs : List Margin) → AreFrozen side limit low marks cs → (c : Margin)
     → IsAmong cs c → is_ramp c ≡ false
 frozen_still side limit low [] cs frozen c one = absurd (subst (λ (l : List Margin). IsAmong l c) frozen one)
@@ -149,6 +155,7 @@ frozen_still side limit low (k ∷ marks) cs (inr (knot, (d, others, is, frozen,
     by_one (inl e) go = subst (λ (m : Margin). is_ramp m ≡ false) (sym e) frozen.still
     by_one (inr rest) go = go rest
 
+-- and may be moved
 pub top_moved : (x : Scope) (s : Sweep) (e : Held) → IsAt x s e → (top : Margin)
     → ((cs : List Margin) → StandsFor margin_function s.among.older.items s.among.newer.items s.among.side s.among.best cs
     → IsTopOf margin_function s.among.side s.none cs top) → IsMovedBy x.reach top

@@ -4,12 +4,15 @@ use Rattle.std.proofs.Math.Nat.{mul-pos}
 use Rattle.rational.specs.Rational.{middle}
 use Rattle.rational.specs.Time.{Rational, Within, later, shifted, ◌≈◌, ◌≤ʳ◌, ◌<ʳ◌}
 use Rattle.rational.specs.Extended.{Affine, Extended, affine, always_high, always_low, finite, infinity, minus_infinity, value_at, ◌≈ᵉ◌}
-use Rattle.rational.specs.InPlay.{IsBreakpoint, IsConstant, IsEndPart, IsLeftLimit, IsLimitWithin, IsLineOn, IsPart, IsRightLimit, IsValueWithin, inner, start as at_start, stop as at_stop}
+use Rattle.rational.specs.InPlay.{IsBreakpoint, IsConstant, IsEndPart, IsLeftLimit, IsLimitWithin, IsLineOn}
+use Rattle.rational.specs.InPlay.{IsPart, IsRightLimit, IsValueWithin, inner, start as at_start, stop as at_stop}
 use Rattle.rational.specs.Line.{at}
 use Rattle.rational.specs.Windows.{Function}
 use Rattle.rational.proofs.AffineLemmas.{same_reflᵉ, value_same}
 use Rattle.rational.proofs.LimitLemmas.{earlier_end, later_end, line_on_part, lines_same}
-use Rattle.rational.proofs.Order.{ge_of_same, le_of_lt, le_of_same, le_or_lt, le_refl, le_trans, left_of_middle, lt_irrefl, lt_of_le_of_lt, lt_of_lt_of_le, lt_or_same_or_gt, lt_trans, not_lt_of_le, right_of_middle, same_refl, same_sym}
+use Rattle.rational.proofs.Order.{ge_of_same, le_of_lt, le_of_same, le_or_lt, le_refl, le_trans}
+use Rattle.rational.proofs.Order.{left_of_middle, lt_irrefl, lt_of_le_of_lt, lt_of_lt_of_le, lt_or_same_or_gt}
+use Rattle.rational.proofs.Order.{lt_trans, not_lt_of_le, right_of_middle, same_refl, same_sym}
 use Rattle.rational.proofs.Sames.{symᵉ, transᵉ}
 use Rattle.rational.proofs.TimeFunctions.{IsFunction}
 use Rattle.rational.proofs.TimeLemmas.{precedes_of_lt}
@@ -75,11 +78,13 @@ module _ (x : Scope) (side : Side) where
   -- a gap that is finite is a part of the formula's margin
   module _ (p : Margin) (a b u v : Rational) (on : (t : Rational) → a <ʳ t → t <ʳ b → Q t (value_at (margin_function p) t))
       (is : value_at (margin_function p) u ≈ᵉ finite v) where
+    -- each time of the gap is one of the trace, where the input has the gap's margin
     pub gap_inside : (t : Rational) → a <ʳ t → t <ʳ b → Within (start x.trace) (stop x.trace) t × P t (value_at (margin_function p) t)
     gap_inside t after before =
         let (w, e) = finite_there (margin_function p) u t v is in
         inside_of t w (value_at (margin_function p) t) (subst (λ (y : Extended). y ≈ᵉ finite w) (sym e) (same_reflᵉ (finite w))) (on t after before)
 
+    -- the gap's margin is the input's line there
     pub gap_line : IsLineOn P a b (margin_function p)
     gap_line t after before =
         (value_at (margin_function p) t, (gap_inside t after before).1, same_reflᵉ (value_at (margin_function p) t))
@@ -137,7 +142,8 @@ module _ (x : Scope) (side : Side) where
             here : value_at line u ≈ᵉ value_at (margin_function k.point) u
             here =
                 let (v, has, passes) = part.on u part.above part.below in
-                transᵉ (symᵉ passes) (P_is.one u v (value_at (margin_function k.point) u) has (strictly u (value_at (margin_function k.point) u) above below point))
+                transᵉ (symᵉ passes)
+                (P_is.one u v (value_at (margin_function k.point) u) has (strictly u (value_at (margin_function k.point) u) above below point))
 
             one_line : (a : Rational) × (a <ʳ u) × (from ≤ʳ a) × ((later_end part.above above).0 ≤ʳ a)
                 → (b : Rational) × (u <ʳ b) × (b ≤ʳ behind.0) × (b ≤ʳ (earlier_end part.below below).0) → IsOneLine low.shape k.point k.after.shape u
@@ -230,9 +236,22 @@ module _ (x : Scope) (side : Side) where
     knot_in_play w tau l h of one v is line constant =
         let (inside, found) = knot_within of one v is line constant (Holds (start x.trace) (stop x.trace) w tau)
         (Holds (start x.trace) (stop x.trace) (closed w) tau) (λ r. shifted tau w.low <ʳ r) (λ r. r <ʳ shifted tau w.high)
-        (λ inside. record { inside = inside; begins = precedes_of_lt w.low_in (shifted tau w.low) u l; ends = precedes_of_lt w.high_in u (shifted tau w.high) h })
-        (λ inside. record { inside = inside; begins = le_of_lt l; ends = le_of_lt h }) l h in
-        ((u, record { inside = inside; begins = precedes_of_lt w.low_in (shifted tau w.low) u l; ends = precedes_of_lt w.high_in u (shifted tau w.high) h }), inr found)
+        (λ inside. record {
+          inside = inside;
+          begins = precedes_of_lt w.low_in (shifted tau w.low) u l;
+          ends = precedes_of_lt w.high_in u (shifted tau w.high) h;
+        })
+        (λ inside. record { inside = inside; begins = le_of_lt l; ends = le_of_lt h }) l h in (
+          (
+            u,
+            record {
+              inside = inside;
+              begins = precedes_of_lt w.low_in (shifted tau w.low) u l;
+              ends = precedes_of_lt w.high_in u (shifted tau w.high) h;
+            },
+          ),
+          inr found,
+        )
 
   -- a gap goes on behind the mark before it
   pub own_before : (from : Rational) (low : Gap) (marks : List Mark) → Runs Q x.reach from low marks → IsBefore from low.until
@@ -251,7 +270,8 @@ module _ (x : Scope) (side : Side) where
   constant_in_play w tau h limit from low [] cs runs frozen before up by c one v is = absurd (subst (λ (l : List Margin). IsAmong l c) frozen one)
   constant_in_play w tau h limit from low (k ∷ marks) cs (on, ends, rises, point, rest) (inl (skip, frozen)) before up by c one v is =
       constant_in_play w tau h limit (value k.at) k.after marks cs rest frozen
-      (goes_before (shifted tau w.low) (value k.at) k.after.until (le_of_lt (before_of_end low.until ends before)) (own_before (value k.at) k.after marks rest)) up by.1 c one
+      (goes_before (shifted tau w.low) (value k.at) k.after.until (le_of_lt (before_of_end low.until ends before))
+      (own_before (value k.at) k.after marks rest)) up by.1 c one
       v is
   constant_in_play w tau h limit from low (k ∷ marks) cs (on, ends, rises, point, rest) (inr (knot, (d, others, same, frozen, more))) before up by c one v is =
       by_one (subst (λ (l : List Margin). IsAmong l c) same one)
@@ -265,7 +285,8 @@ module _ (x : Scope) (side : Side) where
           → InPlayOver P (start x.trace) (stop x.trace) w tau (margin_function c)
       here c e is =
           let all : (t : Rational) → value_at (margin_function c) t ≈ᵉ value_at (margin_function frozen.of) (value k.at) =
-          subst (λ (m : Margin). (t : Rational) → value_at (margin_function m) t ≈ᵉ value_at (margin_function frozen.of) (value k.at)) (sym e) frozen.constant in
+          subst (λ (m : Margin). (t : Rational) → value_at (margin_function m) t ≈ᵉ value_at (margin_function frozen.of) (value k.at))
+          (sym e) frozen.constant in
           let there : value_at (margin_function frozen.of) (value k.at) ≈ᵉ finite v = transᵉ (symᵉ (all tau)) is in
           knot_in_play low k from on ends rises point.told (runs_on Q x.reach (value k.at) k.after marks rest)
           (own_before (value k.at) k.after marks rest) (λ line. knot (inl line)) w tau lower (lt_of_le_of_lt by.0 up) frozen.of frozen.one v there
@@ -279,7 +300,8 @@ module _ (x : Scope) (side : Side) where
   -- the part under an end, which stands within a gap, is in play
   module _ (w : Window) (tau : Rational) (order : shifted tau w.low <ʳ shifted tau w.high) (gap : Gap) (from : Rational) (on : IsOn Q x.reach from gap) where
     end_part : (by : ℤ) (p : Margin) → IsShifted gap.shape by p → (by ≡ w.low) ⊎ (by ≡ w.high) → from <ʳ shifted tau by
-        → (b : Rational) → shifted tau by <ʳ b → ((t : Rational) → t <ʳ b → IsBefore t gap.until) → (v : Rational) → value_at (margin_function p) tau ≈ᵉ finite v
+        → (b : Rational) → shifted tau by <ʳ b → ((t : Rational) → t <ʳ b → IsBefore t gap.until) → (v : Rational)
+        → value_at (margin_function p) tau ≈ᵉ finite v
         → IsEndPart P (start x.trace) (stop x.trace) tau (margin_function p) (λ k. (k ≡ w.low) ⊎ (k ≡ w.high))
         × ((t : Rational) → from <ʳ t → t <ʳ b → Within (start x.trace) (stop x.trace) t)
     end_part by p moved is_end above b below until v is = (
@@ -307,6 +329,7 @@ module _ (x : Scope) (side : Side) where
       ends = precedes_of_lt w.high_in r (shifted tau w.high) b;
     }
 
+    -- moved under the low end it is in play
     pub low_in_play : (p : Margin) → IsShifted gap.shape w.low p → from <ʳ shifted tau w.low → IsBefore (shifted tau w.low) gap.until
         → IsInPlayOver x w tau p
     low_in_play p moved above before v is =
@@ -318,6 +341,7 @@ module _ (x : Scope) (side : Side) where
         let under : r <ʳ c.0 = right_of_middle c.1 in
         ((r, in_window r after (lt_of_lt_of_le under c.3) (inside r (lt_trans above after) (lt_of_lt_of_le under c.2))), inl part)
 
+    -- and so under the high end
     pub high_in_play : (p : Margin) → IsShifted gap.shape w.high p → from <ʳ shifted tau w.high → IsBefore (shifted tau w.high) gap.until
         → IsInPlayOver x w tau p
     high_in_play p moved above before v is =

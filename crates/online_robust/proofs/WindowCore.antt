@@ -1,5 +1,6 @@
 -- A window over its input at a time, and how what counts goes on to the next stop.
-use Rattle.std.proofs.Common.{◌≡◌, ◌⊎◌, inl, inr, ℕ, ℤ, pos, neg_ℤ, ◌+◌, ◌^◌, ◌≤ℤ◌, Bool, true, false, List, [], ◌∷◌, Option, Some, None, refl, sym, ap, subst, ◌∙◌}
+use Rattle.std.proofs.Common.{◌≡◌, ◌⊎◌, inl, inr, ℕ, ℤ, pos, neg_ℤ, ◌+◌, ◌^◌, ◌≤ℤ◌, Bool, true}
+use Rattle.std.proofs.Common.{false, List, [], ◌∷◌, Option, Some, None, refl, sym, ap, subst, ◌∙◌}
 use Rattle.std.specs.Prelude.{IsSomeAnd}
 use Rattle.rational.specs.Time.{Rational, ◌≈◌, ◌≤ʳ◌, ◌<ʳ◌, shifted}
 use Rattle.rational.specs.Extended.{Extended, finite, infinity, minus_infinity, value_at, ◌≈ᵉ◌}
@@ -75,12 +76,15 @@ module _ (x : Scope) (w : Window) (none : Margin) (low high : Gap) (l h : Ration
   high_on l_h = subst (λ (g : Gap). IsOn (input_of x w.side) x.reach h g) (sym s.last)
       (last_on_of (input_of x w.side) x.reach s.from h low s.marks (le_trans s.begun l_h) s.by s.runs)
 
-  pub top_bounded : (top : Margin) → IsTopOf margin_function w.side none s.constants top → (t : Rational) → IsBounded (2 ^ 31) (value_at (margin_function top) t)
+  -- the best of the constants is bounded
+  pub top_bounded : (top : Margin) → IsTopOf margin_function w.side none s.constants top → (t : Rational)
+      → IsBounded (2 ^ 31) (value_at (margin_function top) t)
   top_bounded top (inl b) t = frozen_bounded (input_of x w.side) x.reach w.side (shifted (start x.trace) w.low) s.from low s.marks s.constants s.runs s.frozen
       top b.one t
   top_bounded top (inr b) t = subst (λ (m : Margin). IsBounded (2 ^ 31) (value_at (margin_function m) t)) (sym b.1)
       (bounded_same (2 ^ 31) (value_at (margin_function none) t) (none_of w.side minus_infinity infinity) (s.none_value t) (none_bounded w.side))
 
+  -- and may be moved
   pub top_moved : (top : Margin) → IsTopOf margin_function w.side none s.constants top → IsMovedBy x.reach top
   top_moved top (inl b) = still_moved x.reach top
       (frozen_still w.side (shifted (start x.trace) w.low) low s.marks s.constants s.frozen top b.one)
@@ -89,6 +93,7 @@ module _ (x : Scope) (w : Window) (none : Margin) (low high : Gap) (l h : Ration
 -- both ends stand within their gaps and go on to a stop
 module _ (x : Scope) (w : Window) (none : Margin) (low high : Gap) (a : Rational)
     (s : IsCore x w none low high (shifted a w.low) (shifted a w.high)) (to t : Rational) (g : IsStep w low high a to t) where
+  -- the next stop is later
   pub later : a <ʳ t
   later = by_one g.one
     where
@@ -99,15 +104,18 @@ module _ (x : Scope) (w : Window) (none : Margin) (low high : Gap) (a : Rational
 
   -- both ends at the stop, or the low one alone, with the same constants
   pub core_both : (B : List Margin → Type 0) → B s.constants → (d : IsCore x w none low high (shifted t w.low) (shifted t w.high)) × B d.constants
-  core_both B b = core_on x w none low high (shifted a w.low) (shifted a w.high) s (shifted t w.low) (shifted t w.high) (le_shifted w.low (le_of_lt later)) g.low
+  core_both B b = core_on x w none low high (shifted a w.low) (shifted a w.high) s (shifted t w.low) (shifted t w.high)
+      (le_shifted w.low (le_of_lt later)) g.low
       (le_shifted w.high (le_of_lt later)) g.high B b
 
+  -- at the stop the window still has its parts
   pub core_low : (B : List Margin → Type 0) → B s.constants → (d : IsCore x w none low high (shifted t w.low) (shifted a w.high)) × B d.constants
   core_low B b = core_on x w none low high (shifted a w.low) (shifted a w.high) s (shifted t w.low) (shifted a w.high) (le_shifted w.low (le_of_lt later)) g.low
       (le_refl (shifted a w.high)) s.high_later B b
 
   -- the low gap's margin, moved by the low offset
-  low_fit : (low : Gap) → (w.low ≡ neg_ℤ (pos 4294967296) → is_ramp low.shape ≡ false) → (p : Margin) → IsShifted low.shape w.low p → IsMovedBy x.reach low.shape
+  low_fit : (low : Gap) → (w.low ≡ neg_ℤ (pos 4294967296) → is_ramp low.shape ≡ false) → (p : Margin)
+      → IsShifted low.shape w.low p → IsMovedBy x.reach low.shape
       → (own : ℕ) → ((neg_ℤ (pos own) ≤ℤ w.low) × (w.low ≤ℤ pos own)) ⊎ (w.low ≡ neg_ℤ (pos 4294967296)) → IsMovedBy (x.reach + own) p
   low_fit low still p moved is own (inl (from, to)) = shifted_moved x.reach own low.shape w.low p moved is from to
   low_fit low still p moved is own (inr far) = still_moved (x.reach + own) p (no_ramp (is_ramp p) (λ r. (moved.base r).0))
@@ -211,6 +219,7 @@ module _ (x : Scope) (w : Window) (none : Margin) (low high : Gap) (a : Rational
         (high_is : IsPointOf (input_of x w.side) x.reach w.high_in w.high high t at_high)
         (low_is : IsPointOf (input_of x w.side) x.reach w.low_in w.low low t at_low) (m : Margin)
         (outcome : IsOutcome w.side best.top best.low best.high at_high at_low t m) (no_far : w.low ≡ neg_ℤ (pos 4294967296) → at_low ≡ None) where
+      -- it tells the best there
       pub there : start x.trace ≤ʳ t → best_of x w t (value_at (margin_function m) t)
       there from =
           let (low_shape, is_low, low_shifted) = some_and (IsShifted low'.shape w.low) best.low lows in
@@ -238,6 +247,7 @@ module _ (x : Scope) (w : Window) (none : Margin) (low high : Gap) (a : Rational
       by_low own v moved is here (inl (from, to)) = shifted_moved x.reach own v w.low m moved is from to
       by_low own v moved is here (inr far) = absurd (let z : ◌≡◌ {A = Option Margin} None (Some m) = sym (no_far far) ∙ here in cc)
 
+      -- within the limits
       pub there_fit : IsBounded (2 ^ 31) (value_at (margin_function m) t) × ((own : ℕ) → IsOwned w own → IsMovedBy (x.reach + own) m)
       there_fit = by_one outcome.one
         where

@@ -12,7 +12,9 @@ use Rattle.rational.specs.Line.{at, constant}
 use Rattle.rational.proofs.AffineLemmas.{finite_same, same_reflᵉ}
 use Rattle.rational.proofs.LimitLemmas.{earlier_end}
 use Rattle.rational.proofs.Lines.{at_constant}
-use Rattle.rational.proofs.Order.{ge_of_same, le_of_lt, le_of_same, le_or_lt, le_refl, le_trans, left_of_middle, lt_irrefl, lt_of_le_of_lt, lt_of_lt_of_le, lt_trans, not_lt_of_le, right_of_middle, same_of_le, same_sym}
+use Rattle.rational.proofs.Order.{ge_of_same, le_of_lt, le_of_same, le_or_lt, le_refl, le_trans, left_of_middle, lt_irrefl}
+use Rattle.rational.proofs.Order.{lt_of_le_of_lt, lt_of_lt_of_le, lt_trans, not_lt_of_le, right_of_middle, same_of_le}
+use Rattle.rational.proofs.Order.{same_sym}
 use Rattle.rational.proofs.Sames.{symᵉ, transᵉ}
 use Rattle.rational.proofs.Shift.{le_shift_by}
 use Rattle.rational.proofs.TimeLemmas.{precedes_of_lt, shifted-add}
@@ -29,7 +31,9 @@ use Rattle.envelope.specs.declared.best.Best.{Best}
 use Rattle.stl_syntax.specs.SupInf.{Robustness}
 use Rattle.stl_syntax.specs.Trace.{start, stop}
 use Rattle.window_ops.proofs.Ends.{at_is, gt_to, le_shifted, lt_shifted, lt_shifted_back}
-use Rattle.online_robust.specs.Windows.{Holds, InPlayOver, IsGone, IsInPlayBefore, IsSettledOver, IsSpan, IsUnfixed, IsUnfixedKnot, IsUnfixedUnder, IsUnmet, IsUnstored, IsWindowFault, Scope, at_time, closed}
+use Rattle.online_robust.specs.Windows.{Holds, InPlayOver, IsGone, IsInPlayBefore, IsSettledOver, IsSpan, IsUnfixed}
+use Rattle.online_robust.specs.Windows.{IsUnfixedKnot, IsUnfixedUnder, IsUnmet, IsUnstored, IsWindowFault, Scope, at_time}
+use Rattle.online_robust.specs.Windows.{closed}
 use Rattle.online_robust.specs.declared.ends.Gap.{Gap}
 use Rattle.online_robust.specs.declared.line.Reached.{Reached}
 use Rattle.online_robust.specs.declared.window.Window.{Window}
@@ -40,7 +44,8 @@ use Rattle.online_robust.proofs.WindowPoints.{in_order}
 next_apart : (t : Rational) → later t 1 ≈ t → ⊥
 next_apart t e = lt_irrefl (lt_of_lt_of_le (record { lt = let p = mul-pos t.positive t.positive in omega (arith, p) }) (le_of_same e))
 
-meet_finite : (f g : Affine) (l r t : Rational) → MeetAlone f g l r t → ((v : Rational) × (value_at f t ≈ᵉ finite v)) × ((v : Rational) × (value_at g t ≈ᵉ finite v))
+meet_finite : (f g : Affine) (l r t : Rational) → MeetAlone f g l r t
+    → ((v : Rational) × (value_at f t ≈ᵉ finite v)) × ((v : Rational) × (value_at g t ≈ᵉ finite v))
 meet_finite (affine f) (affine g) l r t m = ((at f t, same_reflᵉ (finite (at f t))), (at g t, same_reflᵉ (finite (at g t))))
 meet_finite (affine f) always_low l r t m = absurd m.meet.at_most
 meet_finite (affine f) always_high l r t m = absurd m.meet.at_least
@@ -55,6 +60,7 @@ meet_finite always_high always_high l r t m = absurd (next_apart t (m.alone (lat
 no_earlier : (t : Rational) (k : ℤ) → pos 0 ≤ℤ k → t ≤ʳ shifted t k
 no_earlier t k le = le_trans (record { le = omega arith }) (le_trans (le_shift_by {j = pos 0} {k = k} t le) (ge_of_same (shifted-add t k)))
 
+-- a time moved behind is no later
 pub no_later : (t : Rational) (k : ℤ) → k ≤ℤ pos 0 → shifted t k ≤ʳ t
 no_later t k le = le_trans (le_of_same (shifted-add t k)) (le_trans (le_shift_by {j = k} {k = pos 0} t le) (record { le = omega arith }))
 
@@ -161,7 +167,8 @@ module _ (x : Scope) (own : ℕ) (from to : Rational) (w : Window) (span : IsSpa
         where
           inside : Within (start x.trace) (stop x.trace) u
           inside = (knot_within x w.side gap h.k h.from h.before h.ends h.rises h.point h.after h.goes_on h.knot q h.unfixed.one v is
-              (affine (constant v)) (λ t. finite_same (same_sym (at_constant v t))) (λ t. Unit {0}) (λ t. Unit {0}) (λ t. Unit {0}) (λ t. Unit {0}) (λ i. tt) (λ i. tt)
+              (affine (constant v)) (λ t. finite_same (same_sym (at_constant v t))) (λ t. Unit {0}) (λ t. Unit {0})
+              (λ t. Unit {0}) (λ t. Unit {0}) (λ i. tt) (λ i. tt)
               tt tt).0
 
           low_on : pos 0 ≤ℤ w.low
@@ -200,7 +207,14 @@ module _ (x : Scope) (own : ℕ) (from to : Rational) (w : Window) (span : IsSpa
                     constant (λ r. Holds (start x.trace) (stop x.trace) w tau r × (r <ʳ x.front))
                     (λ r. Holds (start x.trace) (stop x.trace) (closed w) tau r × (r <ʳ x.front)) (λ r. shifted tau w.low <ʳ r)
                     (λ r. r <ʳ shifted tau w.high)
-                    (λ i. (record { inside = i; begins = precedes_of_lt w.low_in (shifted tau w.low) u low; ends = precedes_of_lt w.high_in u (shifted tau w.high) high }, told span.told))
+                    (λ i. (
+                      record {
+                        inside = i;
+                        begins = precedes_of_lt w.low_in (shifted tau w.low) u low;
+                        ends = precedes_of_lt w.high_in u (shifted tau w.high) high;
+                      },
+                      told span.told,
+                    ))
                     (λ i. (record { inside = i; begins = le_of_lt low; ends = le_of_lt high }, told span.told)) low high).1),
               )
             where
@@ -213,6 +227,7 @@ module _ (x : Scope) (own : ℕ) (from to : Rational) (w : Window) (span : IsSpa
       by_start (inl begun) = from_start begun
       by_start (inr early) = before_start early
 
+  -- a refusal under a gap is one of the window
   pub unfixed_fault : (f : OpFault Margin) → IsUnfixedUnder (at_time x p p) w gap f → IsWindowFault x w to f
   unfixed_fault F.Memory h = tt
   unfixed_fault (F.Wide (Cross q r a b den)) h = absurd h.unfixed

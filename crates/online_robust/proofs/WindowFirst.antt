@@ -70,6 +70,7 @@ first_spread x w begin none q fresh t fit tick begins within ended none_value no
 abbrev pub told_to : Scope → Rational → Rational → Scope
 told_to x front bound = record { formula = x.formula; trace = x.trace; reach = x.reach; front = front; bound = bound; at = x.at; behind = x.behind }
 
+-- the window stands over an input that is told further
 pub spread_told : (x : Scope) (front bound : Rational) (w : Window) (begin : Frac) (none : Margin) (low high : Gap) (q : Queue Margin)
     (seen fresh more : List MarginLine) (l h : Rational) → IsSpread x w begin none low high q seen fresh l h
     → (start x.trace ≤ʳ front) × (front ≤ʳ stop x.trace) → (bound ≤ʳ front) ⊎ (front ≈ stop x.trace) → IsToCome (told_to x front bound) high.until more

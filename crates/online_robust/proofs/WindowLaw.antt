@@ -5,7 +5,8 @@ use Rattle.rational.specs.Time.{Rational, ◌≈◌, ◌≤ʳ◌, ◌<ʳ◌}
 use Rattle.rational.specs.Extended.{Extended, Affine, value_at, ◌≈ᵉ◌}
 use Rattle.rational.specs.Affine.{IsBounded}
 use Rattle.rational.specs.Windows.{Function, Window}
-use Rattle.rational.proofs.Order.{le_refl, le_of_lt, le_of_same, ge_of_same, le_or_lt, le_trans, lt_of_le_of_lt, lt_of_lt_of_le, lt_trans, not_lt_of_le, lt_or_same_or_gt, same_refl, same_sym}
+use Rattle.rational.proofs.Order.{le_refl, le_of_lt, le_of_same, ge_of_same, le_or_lt, le_trans, lt_of_le_of_lt}
+use Rattle.rational.proofs.Order.{lt_of_lt_of_le, lt_trans, not_lt_of_le, lt_or_same_or_gt, same_refl, same_sym}
 use Rattle.rational.proofs.AffineLemmas.{at_most_an_end, at_least_an_end, bounded_same, same_reflᵉ, value_same}
 use Rattle.rational.proofs.LimitLemmas.{earlier_end, later_end}
 use Rattle.rational.proofs.Sames.{symᵉ, transᵉ}
@@ -45,6 +46,7 @@ pub before_of : {t u : Rational} (until : Option Frac) → t <ʳ u → IsUpTo u 
 before_of None h k = tt
 before_of (Some e) h k = lt_of_lt_of_le h k
 
+-- an earlier time is up to the end too
 pub up_to_of : {t u : Rational} (until : Option Frac) → t ≤ʳ u → IsUpTo u until → IsUpTo t until
 up_to_of None h k = tt
 up_to_of (Some e) h k = le_trans h k
@@ -54,14 +56,17 @@ pub before_end : {t e : Rational} (until : Option Frac) → EndsAt until e → t
 before_end None h k = absurd h
 before_end (Some u) h k = lt_of_lt_of_le k (ge_of_same h)
 
+-- what is not behind the end is up to it
 pub up_to_end : {t e : Rational} (until : Option Frac) → EndsAt until e → t ≤ʳ e → IsUpTo t until
 up_to_end None h k = absurd h
 up_to_end (Some u) h k = le_trans k (ge_of_same h)
 
+-- what is before the end is earlier
 pub before_of_end : {t e : Rational} (until : Option Frac) → EndsAt until e → IsBefore t until → t <ʳ e
 before_of_end None h k = absurd h
 before_of_end (Some u) h k = lt_of_lt_of_le k (le_of_same h)
 
+-- and is up to it
 pub up_to_before : (t : Rational) (until : Option Frac) → IsBefore t until → IsUpTo t until
 up_to_before t None h = tt
 up_to_before t (Some e) h = le_of_lt h
@@ -75,6 +80,7 @@ module _ (Q : Function) (reach : ℕ) where
     moved = on.moved;
   }
 
+  -- knots that run on have the first gap
   pub runs_on : (from : Rational) (low : Gap) (marks : List Mark) → Runs Q reach from low marks → IsOn Q reach from low
   runs_on from low [] r = r.0
   runs_on from low (k ∷ marks) r = r.0
@@ -121,6 +127,7 @@ module _ (Q : Function) (reach : ℕ) where
         bounded t h b (inr l) = bounded_same (2 ^ 31) (value_at (margin_function k.after.shape) t) (value_at (margin_function low.shape) t) (symᵉ (same t))
             (on.bounded t h (up_to_end low.until ends (le_of_lt l)))
 
+    -- a knot on one line with both gaps is none
     pub merged : (from : Rational) (low : Gap) (k : Mark) (marks : List Mark) → Runs Q reach from low (k ∷ marks)
         → IsOneLine low.shape k.point k.after.shape (value k.at) → Runs Q reach from k.after marks
     merged from low k [] (on, ends, order, point, rest) one =
@@ -142,7 +149,8 @@ module _ (Q : Function) (reach : ℕ) where
           → (u : Rational) (v : Extended) → from <ʳ u → u <ʳ h → Q u v → IsNoBetter side v r
       inside from low [] cs runs frozen le order by until left right under u v a b has =
           no_better_trans side v (value_at (margin_function low.shape) u) r
-          (no_better_same side v (value_at (margin_function low.shape) u) (is.one u v (value_at (margin_function low.shape) u) has (runs.0.told u a (until u b))))
+          (no_better_same side v (value_at (margin_function low.shape) u)
+          (is.one u v (value_at (margin_function low.shape) u) has (runs.0.told u a (until u b))))
           (under_ends side (margin_function low.shape) from h u r (le_of_lt a) (le_of_lt b) left right)
       inside from low (k ∷ marks) cs runs (inl (inl one, frozen)) le order by until left right under u v a b has =
           inside from k.after marks cs (merged from low k marks runs one) frozen le order by.1 until
@@ -151,7 +159,8 @@ module _ (Q : Function) (reach : ℕ) where
           right under u v a b has
       inside from low (k ∷ marks) cs runs (inl (inr early, frozen)) le order by until left right under u v a b has =
           absurd (not_lt_of_le (le_trans early le) runs.2)
-      inside from low (k ∷ marks) cs (on, ends, rises, point, rest) (inr (knot, (c, others, is_cs, frozen, more))) le order by until left right under u v a b has =
+      inside from low (k ∷ marks) cs (on, ends, rises, point, rest)
+          (inr (knot, (c, others, is_cs, frozen, more))) le order by until left right under u v a b has =
           by_place (lt_or_same_or_gt u (value k.at))
           (λ g. inside (value k.at) k.after marks others rest more (le_trans le (le_of_lt rises)) (lt_trans g b) by.1 until
           (const (value_at (margin_function k.after.shape) (value k.at)) frozen.right) right all.1 u v g b has)
@@ -163,7 +172,8 @@ module _ (Q : Function) (reach : ℕ) where
           const : (w : Extended) → IsNoBetter side w (value_at (margin_function frozen.of) (value k.at)) → IsNoBetter side w r
           const w n = no_better_trans side w (value_at (margin_function frozen.of) (value k.at)) r n
               (no_better_trans side (value_at (margin_function frozen.of) (value k.at)) (value_at (margin_function c) (value k.at)) r
-              (no_better_back side (value_at (margin_function c) (value k.at)) (value_at (margin_function frozen.of) (value k.at)) (frozen.constant (value k.at)))
+              (no_better_back side (value_at (margin_function c) (value k.at)) (value_at (margin_function frozen.of) (value k.at))
+              (frozen.constant (value k.at)))
               (all.0 (value k.at)))
 
           by_place : (u <ʳ value k.at) ⊎ (u ≈ value k.at) ⊎ (value k.at <ʳ u) → (value k.at <ʳ u → IsNoBetter side v r) → IsNoBetter side v r
@@ -190,7 +200,8 @@ module _ (Q : Function) (reach : ℕ) where
 
       -- what is reached at a mark
       mark_reached : (from : Rational) (low : Gap) (k : Mark) (marks : List Mark) (c : Margin) → Runs Q reach from low (k ∷ marks) → value k.at ≤ʳ m
-          → ((u : Rational) → from <ʳ u → u <ʳ h → W u) → ((u : Rational) → u <ʳ h → IsBefore u (last_gap k.after marks).until) → IsFrozen side low.shape k.point k.after.shape (value k.at) c
+          → ((u : Rational) → from <ʳ u → u <ʳ h → W u) → ((u : Rational) → u <ʳ h → IsBefore u (last_gap k.after marks).until)
+          → IsFrozen side low.shape k.point k.after.shape (value k.at) c
           → Reaches side none W Q (value_at (margin_function c) (value k.at))
       mark_reached from low k marks c (on, ends, rises, point, rest) by in_window until frozen =
           reaches_same side none W Q (value_at (margin_function frozen.of) (value k.at)) (value_at (margin_function c) (value k.at))
@@ -225,7 +236,8 @@ module _ (Q : Function) (reach : ℕ) where
           by_one (subst (λ (l : List Margin). IsAmong l c) is_cs one)
           (λ rest. constant_reached (value k.at) k.after marks others c t runs.4 more (λ u a b. in_window u (lt_trans runs.2 a) b) by.1 until rest)
         where
-          by_one : (c ≡ d) ⊎ IsAmong others c → (IsAmong others c → Reaches side none W Q (value_at (margin_function c) t)) → Reaches side none W Q (value_at (margin_function c) t)
+          by_one : (c ≡ d) ⊎ IsAmong others c → (IsAmong others c → Reaches side none W Q (value_at (margin_function c) t))
+              → Reaches side none W Q (value_at (margin_function c) t)
           by_one (inl e) go = subst (λ (x : Margin). Reaches side none W Q (value_at (margin_function x) t)) (sym e)
               (reaches_same side none W Q (value_at (margin_function d) (value k.at)) (value_at (margin_function d) t)
               (transᵉ (frozen.constant (value k.at)) (symᵉ (frozen.constant t)))
@@ -239,17 +251,26 @@ module _ (Q : Function) (reach : ℕ) where
     module _ (side : Side) (none : Extended) (limit l m h : Rational) (low : Gap) (marks : List Mark) (cs : List Margin) where
       -- between the ends of the window
       pub record IsSpanned : Type 0 where
+        -- the knots run on from the low end
         pub runs : Runs Q reach l low marks
+        -- and give the constants
         pub frozen : AreFrozen side limit low marks cs
+        -- the low end lies in the trace
         pub after_limit : limit ≤ʳ l
+        -- before the high end
         pub order : l <ʳ h
+        -- the last knot lies before the high end
         pub last : m <ʳ h
+        -- and so do all
         pub by : AreBy m marks
+        -- the last gap goes on up to the high end
         pub until : (u : Rational) → u <ʳ h → IsBefore u (last_gap low marks).until
 
       -- the window holds the times between its ends, and each end or not
       pub record IsWindow (InLow InHigh : Type 0) (W : Window) : Type 0 where
+        -- each time between the ends is in the window
         pub into : (u : Rational) → l <ʳ u → u <ʳ h → W u
+        -- and each of the window is between them, or one of them where it counts
         pub out : (u : Rational) → W u → ((l <ʳ u) × (u <ʳ h)) ⊎ ((u ≈ l) × InLow) ⊎ ((u ≈ h) × InHigh)
 
       by_later : (ms : List Mark) → AreBy m ms → m <ʳ h → AreBy h ms

@@ -18,20 +18,29 @@ use Rattle.online_robust.specs.declared.window.Window.{Window}
 
 -- what is so of the window's node
 pub record IsWindowNode (f : ℕ → Subformula) (place : ℕ) (n : Node) (w : Window) : Type 0 where
+  -- the input is read on the left
   pub reads : IsReader n true w.of
+  -- there is no other
   pub only : (j : ℕ) (left : Bool) → IsReader n left j → (j ≡ w.of) × (left ≡ true)
+  -- it is looked back into by the low offset
   pub back : reach_back n true ≡ w.low
+  -- the window keeps within the node's reach
   pub own : IsOwn w (own_reach n)
+  -- and does not pass its horizon
   pub far : (pos (horizon (f w.of)) +ℤ w.high) ≤ℤ pos (horizon (tree_of f place n))
+  -- it looks ahead or behind
   pub aside : (pos 0 ≤ℤ w.low) ⊎ (w.high ≤ℤ pos 0)
+  -- what is kept is what its edge has read
   pub seen : (e : Held) → seen_by n e ≡ (edge_at e w.of).seen
 
 module _ (f : ℕ → Subformula) (place : ℕ) where
-  sole : (p : ℕ) (n : Node) → ((j : ℕ) → IsReader n true j → p ≡ j) → ((j : ℕ) → ¬ IsReader n false j) → (j : ℕ) (left : Bool) → IsReader n left j → (j ≡ p) × (left ≡ true)
+  sole : (p : ℕ) (n : Node) → ((j : ℕ) → IsReader n true j → p ≡ j) → ((j : ℕ) → ¬ IsReader n false j) → (j : ℕ) (left : Bool)
+      → IsReader n left j → (j ≡ p) × (left ≡ true)
   sole p n one none j true h = (sym (one j h), refl)
   sole p n one none j false h = absurd (none j h)
 
-  eventually_node : (p a b : ℕ) (a_in b_in : Bool) → pos a <ℤ pos b → IsWindowNode f place (N.Eventually p a b a_in b_in) (ahead_window p Greatest a b a_in b_in)
+  eventually_node : (p a b : ℕ) (a_in b_in : Bool) → pos a <ℤ pos b
+      → IsWindowNode f place (N.Eventually p a b a_in b_in) (ahead_window p Greatest a b a_in b_in)
   eventually_node p a b a_in b_in order = record {
     reads = refl;
     only = sole p (N.Eventually p a b a_in b_in) (λ j h. h) (λ j h. h);
@@ -53,7 +62,8 @@ module _ (f : ℕ → Subformula) (place : ℕ) where
     seen = λ e. refl;
   }
 
-  once_node : (p a b : ℕ) (a_in b_in : Bool) → neg_ℤ (pos b) <ℤ neg_ℤ (pos a) → IsWindowNode f place (N.Once p a (Some b) a_in b_in) (behind_window p Greatest a b a_in b_in)
+  once_node : (p a b : ℕ) (a_in b_in : Bool) → neg_ℤ (pos b) <ℤ neg_ℤ (pos a)
+      → IsWindowNode f place (N.Once p a (Some b) a_in b_in) (behind_window p Greatest a b a_in b_in)
   once_node p a b a_in b_in order = record {
     reads = refl;
     only = sole p (N.Once p a (Some b) a_in b_in) (λ j h. h) (λ j h. h);
@@ -76,6 +86,7 @@ module _ (f : ℕ → Subformula) (place : ℕ) where
     seen = λ e. refl;
   }
 
+  -- a node with a window of some length is such
   pub window_node : (n : Node) (w : Window) → IsWindowOf n w → w.low <ℤ w.high → IsWindowNode f place n w
   window_node (N.Eventually p a b a_in b_in) w is order =
       subst (IsWindowNode f place (N.Eventually p a b a_in b_in)) (sym is) (eventually_node p a b a_in b_in (subst (λ (x : Window). x.low <ℤ x.high) is order))
@@ -84,7 +95,8 @@ module _ (f : ℕ → Subformula) (place : ℕ) where
   window_node (N.Once p a (Some b) a_in b_in) w is order =
       subst (IsWindowNode f place (N.Once p a (Some b) a_in b_in)) (sym is) (once_node p a b a_in b_in (subst (λ (x : Window). x.low <ℤ x.high) is order))
   window_node (N.Historically p a (Some b) a_in b_in) w is order =
-      subst (IsWindowNode f place (N.Historically p a (Some b) a_in b_in)) (sym is) (historically_node p a b a_in b_in (subst (λ (x : Window). x.low <ℤ x.high) is order))
+      subst (IsWindowNode f place (N.Historically p a (Some b) a_in b_in)) (sym is)
+      (historically_node p a b a_in b_in (subst (λ (x : Window). x.low <ℤ x.high) is order))
   window_node (N.Once p a None a_in b_in) w is order = absurd is
   window_node (N.Historically p a None a_in b_in) w is order = absurd is
   window_node (N.Const c) w is order = absurd is

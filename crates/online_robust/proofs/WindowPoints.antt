@@ -1,5 +1,6 @@
 -- The points under the ends of a window.
-use Rattle.std.proofs.Common.{◌≡◌, ◌⊎◌, ◌<◌, inl, inr, ℕ, ℤ, pos, ◌+ℤ◌, ◌+◌, ◌≤◌, ◌^◌, Bool, true, false, List, ◌∷◌, Option, Some, None, refl, sym, ap, subst, ◌∙◌, slice_get, arith, w64, lit<, to_z, of_z, Result}
+use Rattle.std.proofs.Common.{◌≡◌, ◌⊎◌, ◌<◌, inl, inr, ℕ, ℤ, pos, ◌+ℤ◌, ◌+◌, ◌≤◌, ◌^◌, Bool, true, false, List, ◌∷◌, Option}
+use Rattle.std.proofs.Common.{Some, None, refl, sym, ap, subst, ◌∙◌, slice_get, arith, w64, lit<, to_z, of_z, Result}
 use Rattle.std.specs.Prelude.{neg_ℤ, ◌≤ℤ◌, ◌<ℤ◌, ◌-ℤ◌, IsTrue, IfOk}
 use Rattle.std.specs.Int.RustNames.{unsigned_abs}
 use Rattle.std.proofs.lemmas.Int.{ints}
@@ -56,6 +57,7 @@ before_apart (Some u) h le apart = by_order (lt_or_same_or_gt h (value u))
     by_order (inr (inl e)) = absurd (apart (same_sym e))
     by_order (inr (inr gt)) = absurd (not_lt_of_le le gt)
 
+-- false is not true
 pub no_truth : IsTrue false → ⊥
 no_truth h = let z : ◌≡◌ {A = Bool} false true = h in cc
 
@@ -92,6 +94,7 @@ module _ (x : Scope) (s : Sweep) (e : Held) (at : IsAt x s e) (t : Rational) (he
   pub high_goes : EndsAt s.place.high.until (shifted t s.window.high) → high_at x s.window <ʳ x.bound → IsHigh x s
   high_goes ends more = record { ends = ends_here ends; more = more }
 
+  -- where the high gap does not end the high end lies before its end
   pub high_stays : (EndsAt s.place.high.until (shifted t s.window.high) → ⊥) → IsBefore (high_at x s.window) s.place.high.until
   high_stays apart = before_apart s.place.high.until (high_at x s.window) at.spread.high_later
       (λ ends. apart (subst (λ (z : Rational). EndsAt s.place.high.until (shifted z s.window.high)) here ends))
@@ -107,6 +110,7 @@ module _ (x : Scope) (s : Sweep) (e : Held) (at : IsAt x s e) (t : Rational) (he
     reaches = reaches;
   }
 
+  -- and so the low one
   pub low_before : (EndsAt s.place.low.until (shifted t s.window.low) → ⊥) → IsBefore (low_at x s.window) s.place.low.until
   low_before apart = before_apart s.place.low.until (low_at x s.window) at.spread.low_later
       (λ ends. apart (subst (λ (z : Rational). EndsAt s.place.low.until (shifted z s.window.low)) here ends))
@@ -118,21 +122,27 @@ there_room Q reach t m k there small from to = base_room reach m k there.moved s
 
 -- an offset of a window as the program has it
 module _ (w : Window) (reach : ℕ) (fit : IsFitWindow w reach) where
+  -- the high offset is handed on as it is
   pub high_passed : to_z w64 (of_z w64 w.high) ≡ w.high
   high_passed = passed w.high (high_from w reach fit) (high_to w reach fit)
 
+  -- and the low one
   pub low_passed : to_z w64 (of_z w64 w.low) ≡ w.low
   low_passed = passed w.low (low_from w reach fit) (low_to w reach fit)
 
+  -- the high one is then not too far behind
   pub high_from_passed : neg_ℤ (pos (2 ^ 32)) ≤ℤ to_z w64 (of_z w64 w.high)
   high_from_passed = subst (λ z. neg_ℤ (pos (2 ^ 32)) ≤ℤ z) (sym high_passed) (high_from w reach fit)
 
+  -- nor too far ahead
   pub high_to_passed : to_z w64 (of_z w64 w.high) ≤ℤ pos (2 ^ 32)
   high_to_passed = subst (λ z. z ≤ℤ pos (2 ^ 32)) (sym high_passed) (high_to w reach fit)
 
+  -- nor is the low one too far behind
   pub low_from_passed : neg_ℤ (pos (2 ^ 32)) ≤ℤ to_z w64 (of_z w64 w.low)
   low_from_passed = subst (λ z. neg_ℤ (pos (2 ^ 32)) ≤ℤ z) (sym low_passed) (low_from w reach fit)
 
+  -- nor too far ahead
   pub low_to_passed : to_z w64 (of_z w64 w.low) ≤ℤ pos (2 ^ 32)
   low_to_passed = subst (λ z. z ≤ℤ pos (2 ^ 32)) (sym low_passed) (low_to w reach fit)
 

@@ -4,7 +4,8 @@ use Rattle.std.specs.Prelude.{IsSome}
 use Rattle.rational.specs.Rational.{IsWithin}
 use Rattle.rational.specs.Time.{Rational, shifted, ◌≈◌, ◌≤ʳ◌, ◌<ʳ◌}
 use Rattle.rational.specs.Extended.{value_at}
-use Rattle.rational.proofs.Order.{ge_of_same, le_of_lt, le_of_same, le_refl, le_trans, lt_of_le_of_lt, lt_of_lt_of_le, not_lt_of_le, same_of_le, same_sym, same_trans}
+use Rattle.rational.proofs.Order.{ge_of_same, le_of_lt, le_of_same, le_refl, le_trans, lt_of_le_of_lt}
+use Rattle.rational.proofs.Order.{lt_of_lt_of_le, not_lt_of_le, same_of_le, same_sym, same_trans}
 use Rattle.frac128.specs.Value.{value}
 use Rattle.frac128.specs.declared.frac.Frac.{Frac}
 use Rattle.value_laws.specs.Margins.{margin_function}
@@ -18,7 +19,8 @@ use Rattle.online_robust.specs.Held.{Held, edge_at}
 use Rattle.online_robust.specs.Reading.{IsBuilt, IsThere}
 use Rattle.online_robust.specs.Sweeping.{IsBefore, IsUpTo}
 use Rattle.online_robust.specs.Told.{IsTick}
-use Rattle.online_robust.specs.Windows.{CanSweep, Goes, HasCome, HasTold, IsAt, IsGoing, IsGone, IsOwned, IsSpan, IsUnfixedHigh, IsUnmet, IsWindowFault, Scope, Sheds, at_time, best_of, steps_left}
+use Rattle.online_robust.specs.Windows.{CanSweep, Goes, HasCome, HasTold, IsAt, IsGoing, IsGone, IsOwned, IsSpan}
+use Rattle.online_robust.specs.Windows.{IsUnfixedHigh, IsUnmet, IsWindowFault, Scope, Sheds, at_time, best_of, steps_left}
 use Rattle.online_robust.specs.declared.line.Reached.{Reached}
 use Rattle.online_robust.specs.declared.window.Place.{Place}
 use Rattle.online_robust.specs.declared.window.Sweep.{Sweep}
@@ -32,21 +34,34 @@ use Rattle.online_robust.proofs.WindowTelling.{best_is_function}
 
 -- the window goes on to its start, or has come to it
 pub record IsBegun (x : Scope) (own : ℕ) (old s : Sweep) (old_e e : Held) (r : Reached) : Type 0 where
+  -- the window has come there
   pub came : HasCome x s e
+  -- and reached that point
   pub here : value r.at ≡ value s.place.at
+  -- not before where it was
   pub later : x.at ≤ʳ value s.place.at
+  -- nor behind the start
   pub by : value s.place.at ≤ʳ start x.trace
+  -- at the start it tells the best
   pub there : start x.trace ≤ʳ value s.place.at → IsThere (best_of x old.window) (x.reach + own) (value r.at) r.value
+  -- nothing was lost but what may be
   pub shed : Sheds (shifted (value s.place.at) old.window.low) old.window.of old_e e
 
 -- it tells the stretch up to where it has come
 pub record IsSwept (x : Scope) (own : ℕ) (from to : Rational) (old s : Sweep) (old_e e : Held) (r : Reached) (knots : List (Knot Margin)) : Type 0 where
+  -- the window has come there
   pub came : HasCome x s e
+  -- and reached that point
   pub here : value r.at ≡ value s.place.at
+  -- not before where it told from
   pub later : from ≤ʳ value s.place.at
+  -- nor behind the time
   pub by : value s.place.at ≤ʳ to
+  -- it tells the best there
   pub there : IsThere (best_of x old.window) (x.reach + own) (value r.at) r.value
+  -- and built the best up to it
   pub built : IsBuilt (best_of x old.window) (x.reach + own) from (value s.place.at) knots
+  -- nothing was lost but what may be
   pub shed : Sheds (shifted (value s.place.at) old.window.low) old.window.of old_e e
 
 module _ (x : Scope) (own : ℕ) (from to : Rational) (s : Sweep) (e : Held) (can : CanSweep x own from to s e) where
@@ -64,15 +79,19 @@ module _ (x : Scope) (own : ℕ) (from to : Rational) (s : Sweep) (e : Held) (ca
       moved = at_moved x s e can.at (value s.place.at) (value s.place.at)
           (subst (λ (z : Rational). shifted x.at s.window.low ≤ʳ shifted z s.window.low) can.here (le_refl (shifted x.at s.window.low)))
           (subst (λ (z : Rational). IsUpTo (shifted z s.window.low) s.place.low.until) can.here can.at.spread.low_later)
-          (subst (λ (z : Rational). shifted x.behind s.window.high ≤ʳ shifted z s.window.high) (can.behind ∙ can.here) (le_refl (shifted x.behind s.window.high)))
+          (subst (λ (z : Rational). shifted x.behind s.window.high ≤ʳ shifted z s.window.high) (can.behind ∙ can.here)
+          (le_refl (shifted x.behind s.window.high)))
           (subst (λ (z : Rational). IsUpTo (shifted z s.window.high) s.place.high.until) (can.behind ∙ can.here) can.at.spread.high_later)
 
+  -- the start is a tick
   pub start_tick : IsTick (value s.start)
   start_tick = can.at.spread.tick
 
+  -- and that of the trace
   pub start_is : value s.start ≈ start x.trace
   start_is = can.at.spread.begins
 
+  -- it does not lie behind the time
   pub start_by : value s.start ≤ʳ to
   start_by = le_trans (le_of_same start_is) (le_trans can.span.begins can.span.order)
 
@@ -152,9 +171,12 @@ module _ (x : Scope) (own : ℕ) (from to : Rational) (s : Sweep) (e : Held) (ca
     pub refused_knot : value now.place.at <ʳ to → (f : OpFault Margin)
         → IsUnfixedHigh (at_time x (value now.place.at) (value now.place.at)) now f → IsWindowFault x s.window to f
     refused_knot before f h = subst (λ (w : Window). IsWindowFault x w to f) goes.window
-        (unfixed_fault x own from to now.window (subst (λ (w : Window). IsSpan x w own from to) (sym goes.window) can.span) (value now.place.at) before now.place.high f h)
+        (unfixed_fault x own from to now.window (subst (λ (w : Window). IsSpan x w own from to) (sym goes.window) can.span)
+        (value now.place.at) before now.place.high f h)
 
-    pub refused_either : (begun : start x.trace ≤ʳ value now.place.at) → value now.place.at <ʳ to → (at : Rational) → at ≈ value now.place.at → (f : OpFault Margin)
+    -- a refusal at a stop is one of the window
+    pub refused_either : (begun : start x.trace ≤ʳ value now.place.at) → value now.place.at <ʳ to → (at : Rational)
+        → at ≈ value now.place.at → (f : OpFault Margin)
         → IsUnfixedHigh (at_time x (value now.place.at) (value now.place.at)) now f
         ⊎ IsUnmet (at_time x (value now.place.at) (value now.place.at)) now.window to at f → IsWindowFault x s.window to f
     refused_either begun before at same f (inl h) = refused_knot before f h
@@ -164,7 +186,8 @@ module _ (x : Scope) (own : ℕ) (from to : Rational) (s : Sweep) (e : Held) (ca
 
     -- a step to the start
     pub begun_next : (next : Sweep) (next_e : Held) (r : Reached) (until : Frac) (best : Best Margin) → Goes now next
-        → IsAt (at_time x (value next.place.at) (value next.place.at)) next next_e → IsBefore (shifted (value next.place.at) next.window.low) next.place.low.until
+        → IsAt (at_time x (value next.place.at) (value next.place.at)) next next_e
+        → IsBefore (shifted (value next.place.at) next.window.low) next.place.low.until
         → value until ≈ start x.trace
         → IsGone (at_time x (value now.place.at) (value now.place.at)) now.window (value until) (value next.place.at) best r
         → Sheds (shifted (value next.place.at) now.window.low) now.window.of now_e next_e
@@ -188,7 +211,8 @@ module _ (x : Scope) (own : ℕ) (from to : Rational) (s : Sweep) (e : Held) (ca
 
     -- a step that is told
     pub swept_next : (next : Sweep) (next_e : Held) (r r' : Reached) (built built' : List (Knot Margin)) → Goes now next
-        → IsAt (at_time x (value next.place.at) (value next.place.at)) next next_e → IsBefore (shifted (value next.place.at) next.window.low) next.place.low.until
+        → IsAt (at_time x (value next.place.at) (value next.place.at)) next next_e
+        → IsBefore (shifted (value next.place.at) next.window.low) next.place.low.until
         → IsSwept x own from to s now e now_e r built
         → (value r'.at ≡ value next.place.at) × IsThere (best_of x now.window) (x.reach + own) (value r'.at) r'.value
         → IsBuilt (best_of x now.window) (x.reach + own) from (value next.place.at) built'
@@ -219,6 +243,7 @@ goes_on s s' s'' k g = record {
   last = g.last ∙ k.last;
 }
 
+-- the window stays as it is
 pub goes_none : (s : Sweep) → Goes s s
 goes_none s = record { window = refl; start = refl; none = refl; last = refl }
 

@@ -1,5 +1,6 @@
 -- How a window goes on to its next stop.
-use Rattle.std.proofs.Common.{arith, ◌≡◌, ◌⊎◌, inl, inr, ℕ, ℤ, pos, neg_ℤ, ◌+◌, ◌^◌, ◌≤ℤ◌, Bool, true, false, List, [], ◌∷◌, Option, Some, None, refl, sym, ap, subst, ◌∙◌}
+use Rattle.std.proofs.Common.{arith, ◌≡◌, ◌⊎◌, inl, inr, ℕ, ℤ, pos, neg_ℤ, ◌+◌, ◌^◌, ◌≤ℤ◌, Bool, true}
+use Rattle.std.proofs.Common.{false, List, [], ◌∷◌, Option, Some, None, refl, sym, ap, subst, ◌∙◌}
 use Rattle.std.specs.Prelude.{IsSomeAnd}
 use Rattle.std.proofs.lemmas.Int.{ints}
 use Rattle.rational.specs.Rational.{IsWithin}
@@ -25,14 +26,17 @@ use Rattle.online_robust.specs.Held.{Held, edge_at, fresh_at}
 use Rattle.online_robust.specs.Queues.{StandsFor}
 use Rattle.online_robust.specs.Sweeping.{AreBy, AreTicks, EndsAt, IsBefore, IsOn, IsUpTo, Mark, Runs, last_gap}
 use Rattle.online_robust.specs.Told.{AreFit, IsMovedBy, IsTick}
-use Rattle.online_robust.specs.Windows.{Goes, InPlayOver, IsAt, IsCore, IsGoing, IsInPlayOver, IsNextStop, IsOpen, IsOutcome, IsOwned, IsPointOf, IsShifted, IsSpread, IsStep, IsTickEnd, IsToCome, IsTopOf, Keeps, Scope, at_time, best_of, high_at, input_of, low_at}
+use Rattle.online_robust.specs.Windows.{Goes, InPlayOver, IsAt, IsCore, IsGoing, IsInPlayOver, IsNextStop, IsOpen}
+use Rattle.online_robust.specs.Windows.{IsOutcome, IsOwned, IsPointOf, IsShifted, IsSpread, IsStep, IsTickEnd}
+use Rattle.online_robust.specs.Windows.{IsToCome, IsTopOf, Keeps, Scope, at_time, best_of, high_at, input_of, low_at}
 use Rattle.online_robust.specs.declared.ends.Gap.{Gap}
 use Rattle.online_robust.specs.declared.line.MarginLine.{MarginLine}
 use Rattle.online_robust.specs.declared.line.MarginLine.TheVariants as L
 use Rattle.online_robust.specs.declared.queue.Queue.{Queue}
 use Rattle.online_robust.specs.declared.window.Sweep.{Sweep}
 use Rattle.online_robust.specs.declared.window.Window.{Window}
-use Rattle.online_robust.proofs.WindowCore.{between as core_between, each as core_each, later as core_later, plays as core_plays, there as core_there, there_fit as core_there_fit}
+use Rattle.online_robust.proofs.WindowCore.{between as core_between, each as core_each, later as core_later}
+use Rattle.online_robust.proofs.WindowCore.{plays as core_plays, there as core_there, there_fit as core_there_fit}
 use Rattle.online_robust.proofs.Spreads.{last_from, spread_on}
 use Rattle.online_robust.proofs.WindowLaw.{before_of, before_of_end, last_on_of, runs_on, up_to_of}
 use Rattle.online_robust.proofs.WindowPoints.{before_apart, in_order}
@@ -46,7 +50,9 @@ come_same : (x : Scope) (at behind : Rational) (o : Option Frac) (fresh : List M
 come_same x at behind None fresh h = h
 come_same x at behind (Some u) fresh h = h
 
-pub spread_same : (x : Scope) (at behind : Rational) (w : Window) (begin : Frac) (none : Margin) (low high : Gap) (q : Queue Margin) (seen fresh : List MarginLine)
+-- a window stands alike at another way to write its time
+pub spread_same : (x : Scope) (at behind : Rational) (w : Window) (begin : Frac) (none : Margin) (low high : Gap)
+    (q : Queue Margin) (seen fresh : List MarginLine)
     (l h : Rational) → IsSpread x w begin none low high q seen fresh l h → IsSpread (at_time x at behind) w begin none low high q seen fresh l h
 spread_same x at behind w begin none low high q seen fresh l h s = record {
   fit = s.fit;
@@ -75,6 +81,7 @@ spread_same x at behind w begin none low high q seen fresh l h s = record {
   to_come = come_same x at behind high.until fresh s.to_come;
 }
 
+-- within its gaps the window stands at each later time
 pub at_moved : (x : Scope) (s : Sweep) (e : Held) → IsAt x s e → (at behind : Rational) → low_at x s.window ≤ʳ shifted at s.window.low
     → IsUpTo (shifted at s.window.low) s.place.low.until → high_at x s.window ≤ʳ shifted behind s.window.high
     → IsUpTo (shifted behind s.window.high) s.place.high.until → IsAt (at_time x at behind) s e
@@ -90,13 +97,16 @@ tick_alike : {t u : Rational} → t ≈ u → IsTick u → IsTick t
 tick_alike e h = (le_trans h.0 (ge_of_same e), le_trans (le_of_same e) h.1)
 
 module _ (x : Scope) (s : Sweep) (e : Held) (at : IsAt x s e) where
+  -- the low gap's margin may be moved
   pub low_moved : IsMovedBy x.reach s.place.low.shape
   low_moved = (runs_on (input_of x s.window.side) x.reach at.spread.from s.place.low at.spread.marks at.spread.runs).moved
 
+  -- and the high one's
   pub high_moved : IsMovedBy x.reach s.place.high.shape
   high_moved = subst (λ (g : Gap). IsMovedBy x.reach g.shape) (sym at.spread.last)
       (last_from (input_of x s.window.side) x.reach at.spread.from s.place.low at.spread.marks at.spread.runs).1.moved
 
+  -- the high gap ends at a tick
   pub high_tick : IsTickEnd s.place.high.until
   high_tick = by_until s.place.high.until (fresh_at e s.window.of) at.spread.to_come
     where
@@ -106,6 +116,7 @@ module _ (x : Scope) (s : Sweep) (e : Held) (at : IsAt x s e) where
           let fit' : AreFit x.reach (L.Point p v ∷ rest) = subst (AreFit x.reach) is fit in
           tick_alike same fit'.0.0
 
+  -- and the low one
   pub low_tick : IsTickEnd s.place.low.until
   low_tick = by_marks at.spread.marks at.spread.last at.spread.ticks at.spread.runs
     where
@@ -149,12 +160,14 @@ module _ (x : Scope) (s : Sweep) (e : Held) (at : IsAt x s e) (to : Rational) (o
     one = stop.one;
   }
 
+  -- the next stop is later
   pub later : x.at <ʳ t
   later = core_later x s.window s.none s.place.low s.place.high x.at core to t step
 
   behind_later : x.behind <ʳ t
   behind_later = subst (λ (z : Rational). z <ʳ t) (sym o.behind) later
 
+  -- and within the limits of times
   pub stop_within : IsWithin (2 ^ 34) t
   stop_within = (le_trans o.within.0 (le_of_lt later), le_trans stop.by o.to_within.1)
 
@@ -162,6 +175,7 @@ module _ (x : Scope) (s : Sweep) (e : Held) (at : IsAt x s e) (to : Rational) (o
   pub at_both : IsAt (at_time x t t) s e
   at_both = at_moved x s e at t t (le_shifted s.window.low (le_of_lt later)) stop.low (le_shifted s.window.high (le_of_lt behind_later)) stop.high
 
+  -- the window stands there
   pub at_low : IsAt (at_time x t x.behind) s e
   at_low = at_moved x s e at t x.behind (le_shifted s.window.low (le_of_lt later)) stop.low (le_refl (high_at x s.window)) at.spread.high_later
 
@@ -173,7 +187,8 @@ module _ (x : Scope) (s : Sweep) (e : Held) (at : IsAt x s e) (to : Rational) (o
     top = subst (λ (k : Side). IsTopOf margin_function k s.none at.spread.constants best.top) at.spread.side (tops at.spread.constants at.spread.among)
 
     -- between here and there what counts is the best over the window
-    pub between : (u : Rational) → x.at <ʳ u → u <ʳ t → start x.trace ≤ʳ u → (v : Extended) → IsBestAt margin_shape s.window.side best u v → best_of x s.window u v
+    pub between : (u : Rational) → x.at <ʳ u → u <ʳ t → start x.trace ≤ʳ u → (v : Extended)
+        → IsBestAt margin_shape s.window.side best u v → best_of x s.window u v
     between = core_between x s.window s.none s.place.low s.place.high x.at core to t step best top lows highs
 
     -- each that counts between here and there is bounded, and its base is moved by no more than the offsets
@@ -189,6 +204,7 @@ module _ (x : Scope) (s : Sweep) (e : Held) (at : IsAt x s e) (to : Rational) (o
   module _ (s' : Sweep) (e' : Held) (at' : IsAt (at_time x t x.behind) s' e') (keeps : Keeps s s') (high_same : s'.place.high ≡ s.place.high)
       (before' : IsBefore (shifted t s'.window.low) s'.place.low.until)
       (stays : ¬ EndsAt s.place.low.until (shifted t s.window.low) → s' ≡ s) where
+    -- and behind it once its points are gone
     pub at_end : IsAt (at_time x t t) s' e'
     at_end = at_moved (at_time x t x.behind) s' e' at' t t (le_refl (shifted t s'.window.low)) at'.spread.low_later
         (le_shifted s'.window.high (le_of_lt behind_later))
@@ -250,8 +266,10 @@ module _ (x : Scope) (s : Sweep) (e : Held) (at : IsAt x s e) (to : Rational) (o
       low_stays : ¬ EndsAt s.place.low.until (shifted t s.window.low) → s'.place.low ≡ s.place.low
       low_stays apart = ap (λ (z : Sweep). z.place.low) (stays apart)
 
+      -- it tells the best there
       pub there : start x.trace ≤ʳ t → best_of x s.window t (value_at (margin_function m) t)
-      there = core_there x s.window s.none s.place.low s.place.high x.at core to t step s'.place.low now_at.0 now_before low_stays best now_at.1 now_low now_high
+      there = core_there x s.window s.none s.place.low s.place.high x.at core to t step s'.place.low now_at.0 now_before low_stays
+          best now_at.1 now_low now_high
           at_high at_low high_is low_is m now_outcome (λ far. absurd (not_far s.window.low at.spread.fit.low far))
 
       -- what is told at the stop is bounded, and its base moved by no more than the offsets
@@ -272,6 +290,7 @@ open_of x s s' to g keeps low_same before = record {
   high_before = before;
 }
 
+-- two steps are one
 pub goes_both : (s s' s'' : Sweep) → Keeps s s' → Goes s' s'' → Goes s s''
 goes_both s s' s'' k g = record {
   window = g.window ∙ k.window;

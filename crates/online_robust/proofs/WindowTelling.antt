@@ -112,9 +112,11 @@ module _ (F : Function) (is : IsFunction F) (reach : ℕ) (from at : Rational) (
 
 -- what a window has gone is written
 module _ (x : Scope) (w : Window) (to t : Rational) (best : Best Margin) (reached : Reached) (gone : IsGone x w to t best reached) where
+  -- each of what counts is bounded
   pub levels : (p : Margin) → Has best p → HasBoundedLevel (2 ^ 31) (margin_function p)
   levels p h = level_bounded (2 ^ 31) (margin_function p) x.at (gone.bounded p h x.at (le_refl x.at) (le_of_lt gone.after))
 
+  -- the best up to the stop goes on what was built
   pub gone_written : (own : ℕ) → IsOwned w own → start x.trace ≤ʳ x.at → (from : Rational) (old new : List (Knot Margin))
       → IsBuilt (best_of x w) (x.reach + own) from x.at old → IsWritten margin_shape w.side old best reached.at reached.value new
       → IsBuilt (best_of x w) (x.reach + own) from (value reached.at) new
@@ -128,10 +130,12 @@ module _ (x : Scope) (w : Window) (to t : Rational) (best : Best Margin) (reache
       le_of_here : {a b : Rational} → a ≡ b → a ≤ʳ b
       le_of_here {a} {b} e = subst (λ (z : Rational). a ≤ʳ z) e (le_refl a)
 
+  -- and is what the window tells there
   pub gone_there : (own : ℕ) → IsOwned w own → start x.trace ≤ʳ x.at → IsThere (best_of x w) (x.reach + own) (value reached.at) reached.value
   gone_there own is begun = subst (λ (z : Rational). IsThere (best_of x w) (x.reach + own) z reached.value) (sym gone.here)
       (record { told = gone.there (le_trans begun (le_of_lt gone.after)); bounded = gone.limited; moved = gone.moved_there own is })
 
+  -- the best up to the time goes on what was built
   pub written_at : (own : ℕ) → IsOwned w own → start x.trace ≤ʳ x.at → (from : Rational) (old new : List (Knot Margin))
       → IsBuilt (best_of x w) (x.reach + own) from x.at old → IsWritten margin_shape w.side old best reached.at reached.value new
       → IsBuilt (best_of x w) (x.reach + own) from t new
@@ -139,10 +143,12 @@ module _ (x : Scope) (w : Window) (to t : Rational) (best : Best Margin) (reache
       subst (λ (z : Rational). IsBuilt (best_of x w) (x.reach + own) from z new) gone.here (gone_written own is begun from old new b written)
 
   module _ (s : Sweep) (going : IsGoing x s to) where
+    -- the stop lies behind what was built
     pub gone_later : (old : List (Knot Margin)) → last_of old ≈ value s.place.at → last_of old <ʳ value reached.at
     gone_later old ends = subst (λ (z : Rational). last_of old <ʳ z) (sym gone.here)
         (lt_of_le_of_lt (le_of_same ends) (subst (λ (z : Rational). z <ʳ t) going.here gone.after))
 
+    -- and within the limits of times
     pub gone_within : IsWithin (2 ^ 34) (value reached.at)
     gone_within = subst (IsWithin (2 ^ 34)) (sym gone.here) (le_trans going.within.0 (le_of_lt gone.after), le_trans gone.by going.to_within.1)
 

@@ -44,6 +44,7 @@ better_some side p q other t m is one chosen =
     by_one (inl e) = inl e
     by_one (inr e) = inr (is ∙ ap (λ (n : Margin). Some n) (sym e))
 
+-- without another the first is the better
 pub better_none : (side : Side) (p : Margin) (other : Option Margin) (t : Rational) → other ≡ None → IsBetterOf side p other t p
 better_none side p other t is = record {
   one = inl refl;
@@ -52,7 +53,8 @@ better_none side p other t is = record {
 }
 
 if_some : (side : Side) (o : Option Margin) (t : Rational) (v w : Extended) → IsNoBetter side v w
-    → IfSome o (λ (n : Margin). IsNoBetter side (value_at (margin_function n) t) v) → IfSome o (λ (n : Margin). IsNoBetter side (value_at (margin_function n) t) w)
+    → IfSome o (λ (n : Margin). IsNoBetter side (value_at (margin_function n) t) v)
+    → IfSome o (λ (n : Margin). IsNoBetter side (value_at (margin_function n) t) w)
 if_some side None t v w le h = h
 if_some side (Some n) t v w le h = no_better_trans side (value_at (margin_function n) t) v w h le
 
@@ -105,6 +107,7 @@ seen_of Q reach inside by gap t None reaches told (inr apart) = inr (told (befor
 seen_of Q reach inside by gap t (Some m) reaches told (is, ends, there) = (is, there)
 
 module _ (x : Scope) (w : Wide) (none : Margin) (low high : Gap) (l h : Rational) (s : IsCore x w none low high l h) where
+  -- the best of the constants is the top
   pub top_is : (top : Margin) → IsTopOf margin_function w.side none s.constants top → IsTop w.side s.constants top
   top_is top (inl b) = record { best = inl b }
   top_is top (inr (nil, e)) = record {
@@ -125,20 +128,26 @@ module _ (x : Scope) (w : Wide) (none : Margin) (low high : Gap) (l h : Rational
         → IsSeen Q x.reach w.high_in w.high high t at_high → IsSeen Q x.reach w.low_in w.low low t at_low
         → best_of x w t (value_at (margin_function m) t)
     outcome_is low_shape high_shape at_high at_low m low_moved high_moved o high_seen low_seen =
-        outcome x w none low high l h s t i top is_top (value_at (margin_function m) t) left right o.of_top (point_bound w.low_in w.low low at_low left low_seen o.of_low_point)
+        outcome x w none low high l h s t i top is_top (value_at (margin_function m) t) left right o.of_top
+        (point_bound w.low_in w.low low at_low left low_seen o.of_low_point)
         (point_bound w.high_in w.high high at_high right high_seen o.of_high_point) (one o.one high_seen low_seen)
       where
         left : IsNoBetter w.side (value_at (margin_function low.shape) (shifted t w.low)) (value_at (margin_function m) t)
-        left = no_better_trans w.side (value_at (margin_function low.shape) (shifted t w.low)) (value_at (margin_function low_shape) t) (value_at (margin_function m) t)
-            (no_better_back w.side (value_at (margin_function low_shape) t) (value_at (margin_function low.shape) (shifted t w.low)) (low_moved.value t)) o.of_low
+        left = no_better_trans w.side (value_at (margin_function low.shape) (shifted t w.low))
+            (value_at (margin_function low_shape) t) (value_at (margin_function m) t)
+            (no_better_back w.side (value_at (margin_function low_shape) t)
+            (value_at (margin_function low.shape) (shifted t w.low)) (low_moved.value t)) o.of_low
 
         right : IsNoBetter w.side (value_at (margin_function high.shape) (shifted t w.high)) (value_at (margin_function m) t)
-        right = no_better_trans w.side (value_at (margin_function high.shape) (shifted t w.high)) (value_at (margin_function high_shape) t) (value_at (margin_function m) t)
-            (no_better_back w.side (value_at (margin_function high_shape) t) (value_at (margin_function high.shape) (shifted t w.high)) (high_moved.value t)) o.of_high
+        right = no_better_trans w.side (value_at (margin_function high.shape) (shifted t w.high))
+            (value_at (margin_function high_shape) t) (value_at (margin_function m) t)
+            (no_better_back w.side (value_at (margin_function high_shape) t)
+            (value_at (margin_function high.shape) (shifted t w.high)) (high_moved.value t)) o.of_high
 
         point_bound : (inside : Bool) (by : ℤ) (gap : Gap) (point : Option Margin)
             → IsNoBetter w.side (value_at (margin_function gap.shape) (shifted t by)) (value_at (margin_function m) t) → IsSeen Q x.reach inside by gap t point
-            → IfSome point (λ (n : Margin). IsNoBetter w.side (value_at (margin_function n) t) (value_at (margin_function m) t)) → inside ≡ true → (y : Extended) → Q (shifted t by) y
+            → IfSome point (λ (n : Margin). IsNoBetter w.side (value_at (margin_function n) t) (value_at (margin_function m) t))
+            → inside ≡ true → (y : Extended) → Q (shifted t by) y
             → IsNoBetter w.side y (value_at (margin_function m) t)
         point_bound inside by gap None limit (inl out) le is y has = absurd (let z : true ≡ false = sym is ∙ out in cc)
         point_bound inside by gap None limit (inr told) le is y has =
@@ -175,14 +184,17 @@ module _ (x : Scope) (w : Wide) (none : Margin) (low high : Gap) (l h : Rational
         one : (m ≡ top) ⊎ (Some low_shape ≡ Some m) ⊎ (Some high_shape ≡ Some m) ⊎ (at_high ≡ Some m) ⊎ (at_low ≡ Some m)
             → IsSeen Q x.reach w.high_in w.high high t at_high → IsSeen Q x.reach w.low_in w.low low t at_low → One (value_at (margin_function m) t)
         one (inl e) hs ls = top_one x w none low high l h s t i top is_top (value_at (margin_function m) t)
-            (subst (λ (k : Margin). IsNoBetter w.side (value_at (margin_function m) t) (value_at (margin_function k) t)) e (no_better_refl w.side (value_at (margin_function m) t)))
+            (subst (λ (k : Margin). IsNoBetter w.side (value_at (margin_function m) t) (value_at (margin_function k) t)) e
+            (no_better_refl w.side (value_at (margin_function m) t)))
         one (inr (inl e)) hs ls =
             let same : low_shape ≡ m = some_is e in
-            IsOneOf.low_limit (subst (λ (k : Margin). IsNoBetter w.side (value_at (margin_function k) t) (value_at (margin_function low.shape) (shifted t w.low)))
+            IsOneOf.low_limit
+            (subst (λ (k : Margin). IsNoBetter w.side (value_at (margin_function k) t) (value_at (margin_function low.shape) (shifted t w.low)))
             same (no_better_same w.side (value_at (margin_function low_shape) t) (value_at (margin_function low.shape) (shifted t w.low)) (low_moved.value t)))
         one (inr (inr (inl e))) hs ls =
             let same : high_shape ≡ m = some_is e in
-            IsOneOf.high_limit (subst (λ (g : Gap). IsNoBetter w.side (value_at (margin_function m) t) (value_at (margin_function g.shape) (shifted t w.high))) s.last
+            IsOneOf.high_limit
+            (subst (λ (g : Gap). IsNoBetter w.side (value_at (margin_function m) t) (value_at (margin_function g.shape) (shifted t w.high))) s.last
             (subst (λ (k : Margin). IsNoBetter w.side (value_at (margin_function k) t) (value_at (margin_function high.shape) (shifted t w.high))) same
             (no_better_same w.side (value_at (margin_function high_shape) t) (value_at (margin_function high.shape) (shifted t w.high)) (high_moved.value t))))
         one (inr (inr (inr (inl e)))) hs ls = high_there at_high hs e

@@ -1,5 +1,6 @@
 -- How a node of the network goes on from one past to the next.
-use Rattle.std.specs.Prelude.{◌≡◌, ◌≢◌, ◌⊎◌, ℕ, suc, ◌<◌, ◌≤◌, Bool, false, ℤ, pos, int_lt, List, [], ◌∷◌, length, take, map, Option, Some, None, MatchBool, slice_get}
+use Rattle.std.specs.Prelude.{◌≡◌, ◌≢◌, ◌⊎◌, ℕ, suc, ◌<◌, ◌≤◌, Bool, false, ℤ, pos, int_lt, List, []}
+use Rattle.std.specs.Prelude.{◌∷◌, length, take, map, Option, Some, None, MatchBool, slice_get}
 use Rattle.rational.specs.Time.{whole}
 use Rattle.rational.specs.Windows.{Function}
 use Rattle.pl_signal.specs.declared.faults.OpFault.{OpFault}
@@ -95,7 +96,8 @@ pub record HasMoved (m : Move) (w : Work) (old new : Held) : Type 0 where
   pub number : ℤ
   pub number_is : number_of m.nodes m.new m.place ≡ Some number
   pub got : edge_at new m.place ≡ with_number (with_more (edge_at old m.place) more) number
-  pub parts : AreNewParts (subformula m.nodes m.place) (trace_of m.header m.new) (shown_of m.nodes m.old m.place) (shown_of m.nodes m.new m.place) (map part_of more)
+  pub parts : AreNewParts (subformula m.nodes m.place) (trace_of m.header m.new) (shown_of m.nodes m.old m.place)
+      (shown_of m.nodes m.new m.place) (map part_of more)
   pub told : (tr : Trace) → IsTrace tr → Continues tr m.header m.new.rows m.new.ended
       → AreMore (Robustness (subformula m.nodes m.place) tr) (reach (take (suc m.place) m.nodes)) (first_time m.new.rows)
       (shown_of m.nodes m.old m.place) (shown_of m.nodes m.new m.place) more

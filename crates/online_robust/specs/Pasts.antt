@@ -66,7 +66,8 @@ abbrev pub AreToldOver : List Node → Header → Bool → ℕ → List Row → 
 AreToldOver nodes header ended i [] lines = lines ≡ []
 AreToldOver nodes header ended i (r ∷ rows) lines =
     (tr : Trace) → IsTrace tr → Continues tr header (r ∷ rows) ended
-    → IsInput (Robustness (subformula nodes i) tr) (reach (take (suc i) nodes)) r.time None (front_at ended (pos (last_time r.time rows)) (subformula nodes i)) lines
+    → IsInput (Robustness (subformula nodes i) tr) (reach (take (suc i) nodes)) r.time None
+    (front_at ended (pos (last_time r.time rows)) (subformula nodes i)) lines
 
 -- the lines are what node i gave out over the past
 pub record Gave (nodes : List Node) (header : Header) (past : Past) (i : ℕ) (lines : List MarginLine) : Type 0 where

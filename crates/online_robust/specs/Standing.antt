@@ -1,5 +1,6 @@
 -- When an operator stands for its node.
-use Rattle.std.specs.Prelude.{◌≡◌, ◌⊎◌, ℕ, ◌+◌, ℤ, pos, neg_ℤ, ◌+ℤ◌, ◌-ℤ◌, ◌<ℤ◌, ◌≤ℤ◌, [], IfSome, IsSomeAnd, MatchOption, if◌then◌else◌, Bool, true, false, List, Option, Some, None, take}
+use Rattle.std.specs.Prelude.{◌≡◌, ◌⊎◌, ℕ, ◌+◌, ℤ, pos, neg_ℤ, ◌+ℤ◌, ◌-ℤ◌, ◌<ℤ◌, ◌≤ℤ◌, [], IfSome, IsSomeAnd}
+use Rattle.std.specs.Prelude.{MatchOption, if◌then◌else◌, Bool, true, false, List, Option, Some, None, take}
 use Rattle.rational.specs.Time.{whole, ◌≈◌}
 use Rattle.rational.specs.Windows.{Function}
 use Rattle.pl_signal.specs.Joining.{ChosenOf}

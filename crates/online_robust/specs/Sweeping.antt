@@ -87,4 +87,5 @@ abbrev pub AreFrozen : Side → Rational → Gap → List Mark → List Margin �
 AreFrozen side limit low [] cs = cs ≡ []
 AreFrozen side limit low (k ∷ marks) cs =
     (IsNoKnot limit low k × AreFrozen side limit k.after marks cs)
-    ⊎ ((¬ IsNoKnot limit low k) × ((c : Margin) × (rest : List Margin) × (cs ≡ c ∷ rest) × IsFrozen side low.shape k.point k.after.shape (value k.at) c × AreFrozen side limit k.after marks rest))
+    ⊎ ((¬ IsNoKnot limit low k) × ((c : Margin) × (rest : List Margin) × (cs ≡ c ∷ rest)
+    × IsFrozen side low.shape k.point k.after.shape (value k.at) c × AreFrozen side limit k.after marks rest))

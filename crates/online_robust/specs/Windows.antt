@@ -1,5 +1,7 @@
 -- Where a window stands over its input, and what it tells.
-use Rattle.std.specs.Prelude.{◌≡◌, ◌≢◌, ◌⊎◌, ℕ, ℤ, pos, neg_ℤ, ◌-ℤ◌, IsTrue, ◌+◌, ◌*◌, ◌<◌, ◌≤◌, ◌^◌, ◌≤ℤ◌, if◌then◌else◌, ◌<ℤ◌, Bool, true, false, List, [], ◌∷◌, length, drop, slice_get, IfSome, IsSome, IsSomeAnd, Option, Some, None, MatchBool}
+use Rattle.std.specs.Prelude.{◌≡◌, ◌≢◌, ◌⊎◌, ℕ, ℤ, pos, neg_ℤ, ◌-ℤ◌, IsTrue, ◌+◌, ◌*◌, ◌<◌, ◌≤◌, ◌^◌}
+use Rattle.std.specs.Prelude.{◌≤ℤ◌, if◌then◌else◌, ◌<ℤ◌, Bool, true, false, List, [], ◌∷◌, length, drop}
+use Rattle.std.specs.Prelude.{slice_get, IfSome, IsSome, IsSomeAnd, Option, Some, None, MatchBool}
 use Rattle.rational.specs.Rational.{IsWithin}
 use Rattle.rational.specs.Time.{Rational, HasDenominator, Within, Precedes, less, shifted, whole, ◌≈◌, ◌≤ʳ◌, ◌<ʳ◌}
 use Rattle.rational.specs.Affine.{IsBounded}

@@ -3,7 +3,8 @@
 //! An edge is two lists of one pool: what its reader has read and may still need, and behind it what it has not read. So an
 //! operator goes on in the middle of its input's edge with no walk, and to read a part takes no memory.
 
-ghost use Rattle.std.specs.Prelude.{◌≡◌, ◌*◌, ◌+◌, ◌<◌, ◌≤◌, ◌^◌, [], ◌∷◌, length, replicate, slice_get, IfOk, IsOk, OnOk, OnErr, OnSome, IfNone, IfSome, None, Some, IsTrue, ◌↔◌};
+ghost use Rattle.std.specs.Prelude.{◌≡◌, ◌*◌, ◌+◌, ◌<◌, ◌≤◌, ◌^◌, [], ◌∷◌, length, replicate, slice_get, IfOk};
+ghost use Rattle.std.specs.Prelude.{IsOk, OnOk, OnErr, OnSome, IfNone, IfSome, None, Some, IsTrue, ◌↔◌};
 ghost use Rattle.rational.specs.Rational.{◌≤ʳ◌};
 ghost use Rattle.frac128.specs.Value.{value};
 ghost use Rattle.online_robust.specs.Lines.{end_of};

@@ -89,8 +89,10 @@ impl Moved {
 
     /// Goes on before the start, whose point comes next on the edge: up to it, or up to a time before.
     fn to_point(&self, edges: &mut Edges, at: &Frac, value: &Margin, to: &Frac) -> Stride
-        requires { (x : Glance) × (t : Rational) × IsGlanceAt x self.now edges.old t × (slice_get (held_at edges.old self.now.of) 0 ≡ Some (L.Point at.now value.now)) }
-        ensures { (x : Glance) (own : ℕ) (t : Rational) → IsGlanceAt x self.now edges.old t → slice_get (held_at edges.old self.now.of) 0 ≡ Some (L.Point at.now value.now)
+        requires { (x : Glance) × (t : Rational) × IsGlanceAt x self.now edges.old t
+            × (slice_get (held_at edges.old self.now.of) 0 ≡ Some (L.Point at.now value.now)) }
+        ensures { (x : Glance) (own : ℕ) (t : Rational) → IsGlanceAt x self.now edges.old t
+            → slice_get (held_at edges.old self.now.of) 0 ≡ Some (L.Point at.now value.now)
             → CanStride x self.now own t (value_of to.now) → IsStride x self.now own t (value_of to.now) result.shape result.to edges.old edges.new }
     {
         let stop = at.shift(-self.by);
@@ -111,8 +113,10 @@ impl Moved {
 
     /// Goes on over a gap, which comes first on the edge: up to the point behind it, or up to a time before.
     fn over_gap(&self, edges: &mut Edges, gap: &MarginLine, to: &Frac) -> Stride
-        requires { (x : Glance) × (t : Rational) × IsGlanceAt x self.now edges.old t × (slice_get (held_at edges.old self.now.of) 0 ≡ Some gap.now) × IsGap gap.now }
-        ensures { (x : Glance) (own : ℕ) (t : Rational) → IsGlanceAt x self.now edges.old t → slice_get (held_at edges.old self.now.of) 0 ≡ Some gap.now → IsGap gap.now
+        requires { (x : Glance) × (t : Rational) × IsGlanceAt x self.now edges.old t
+            × (slice_get (held_at edges.old self.now.of) 0 ≡ Some gap.now) × IsGap gap.now }
+        ensures { (x : Glance) (own : ℕ) (t : Rational) → IsGlanceAt x self.now edges.old t
+            → slice_get (held_at edges.old self.now.of) 0 ≡ Some gap.now → IsGap gap.now
             → CanStride x self.now own t (value_of to.now) → IsStride x self.now own t (value_of to.now) result.shape result.to edges.old edges.new }
     {
         let shape = self.seen(&gap.margin());
@@ -194,16 +198,21 @@ impl Moved {
         start: u32,
         to: &Frac,
     ) -> Result<Signal<Margin>, Memory>
-        requires { (x : Glance) × (own : ℕ) × (from : Rational) × CanGlance x self.old own from (value_of to.now) edges.old × (whole (pos start) ≈ start_of x.trace) }
-        ensures told { (x : Glance) (own : ℕ) (from : Rational) → CanGlance x self.old own from (value_of to.now) edges.old → whole (pos start) ≈ start_of x.trace
+        requires { (x : Glance) × (own : ℕ) × (from : Rational) × CanGlance x self.old own from (value_of to.now) edges.old
+            × (whole (pos start) ≈ start_of x.trace) }
+        ensures told { (x : Glance) (own : ℕ) (from : Rational) → CanGlance x self.old own from (value_of to.now) edges.old
+            → whole (pos start) ≈ start_of x.trace
             → IfOk result (IsStretch (glance_of x self.old) (x.reach + own) from (value_of to.now)) }
-        ensures stands { (x : Glance) (own : ℕ) (from : Rational) → CanGlance x self.old own from (value_of to.now) edges.old → whole (pos start) ≈ start_of x.trace
+        ensures stands { (x : Glance) (own : ℕ) (from : Rational) → CanGlance x self.old own from (value_of to.now) edges.old
+            → whole (pos start) ≈ start_of x.trace
             → OnOk result (IsGlanceAt x self.old edges.new (value_of to.now)) }
-        ensures reached { (x : Glance) (own : ℕ) (from : Rational) → CanGlance x self.old own from (value_of to.now) edges.old → whole (pos start) ≈ start_of x.trace
+        ensures reached { (x : Glance) (own : ℕ) (from : Rational) → CanGlance x self.old own from (value_of to.now) edges.old
+            → whole (pos start) ≈ start_of x.trace
             → OnOk result (HasReached (glance_of x self.old) (x.reach + own) (value_of to.now) self.new.last) }
         ensures some { OnOk result (IsSome self.new.last) }
         ensures kept { self.new ≡ record self.old { last = self.new.last } }
-        ensures lost { (x : Glance) (own : ℕ) (from : Rational) → CanGlance x self.old own from (value_of to.now) edges.old → whole (pos start) ≈ start_of x.trace
+        ensures lost { (x : Glance) (own : ℕ) (from : Rational) → CanGlance x self.old own from (value_of to.now) edges.old
+            → whole (pos start) ≈ start_of x.trace
             → OnOk result (LosesAt (shifted (value_of to.now) self.old.by) self.old.of edges.old edges.new) }
     {
         let mut reached = self.begin(edges, start);

@@ -3,7 +3,8 @@
 //! After each row, and at the end, every node goes on to its number. The network stores no history: what it shows is, for each past
 //! that it stands for, what the past says.
 
-ghost use Rattle.std.specs.Prelude.{◌≡◌, ◌≢◌, ◌<◌, ◌-◌, ◌++◌, ◌∷◌, [], ℕ, List, length, slice_get, IfOk, IfErr, IfSome, IfNone, MatchOption, MatchResult, OnOk, Some, None, true, false, pos, option_map};
+ghost use Rattle.std.specs.Prelude.{◌≡◌, ◌≢◌, ◌<◌, ◌-◌, ◌++◌, ◌∷◌, [], ℕ, List, length, slice_get, IfOk, IfErr, IfSome};
+ghost use Rattle.std.specs.Prelude.{IfNone, MatchOption, MatchResult, OnOk, Some, None, true, false, pos, option_map};
 ghost use Rattle.stl_syntax.specs.Trace.{Header};
 ghost use Rattle.stl_syntax.specs.declared.node.Node.{Node as ANode};
 ghost use Rattle.atom_lines.specs.Binding.{Binding, IsBound};

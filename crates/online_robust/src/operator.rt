@@ -84,7 +84,8 @@ fn ahead(of: u32, side: Side, low: u32, high: u32, low_in: bool, high_in: bool) 
 /// That of a window behind: without a low end where it has no far bound.
 fn behind(of: u32, side: Side, low: u32, high: Option<u32>, low_in: bool, high_in: bool) -> Operator
     requires { IsInOrder low high }
-    ensures { MatchOption high (result ≡ Op.Past (endless_of (past_window of side low low_in))) (λ b. IsWindowOperator (behind_window of side low b low_in high_in) result) }
+    ensures { MatchOption high (result ≡ Op.Past (endless_of (past_window of side low low_in)))
+        (λ b. IsWindowOperator (behind_window of side low b low_in high_in) result) }
 {
     match high {
         Some(high) => window(of, side, -i64::from(high), -i64::from(low), high_in, low_in),

@@ -1,6 +1,7 @@
 //! The windows without a low end: the best of all that came up to the high end.
 
-ghost use Rattle.std.specs.Prelude.{◌≡◌, ◌⊎◌, ◌<◌, ◌≤◌, ◌^◌, ◌+◌, ◌-ℤ◌, ℕ, Some, None, false, true, pos, neg_ℤ, IfOk, OnOk, IfErr, IsSomeAnd, MatchBool, MatchOption, length};
+ghost use Rattle.std.specs.Prelude.{◌≡◌, ◌⊎◌, ◌<◌, ◌≤◌, ◌^◌, ◌+◌, ◌-ℤ◌, ℕ, Some, None, false, true, pos};
+ghost use Rattle.std.specs.Prelude.{neg_ℤ, IfOk, OnOk, IfErr, IsSomeAnd, MatchBool, MatchOption, length};
 ghost use Rattle.rational.specs.Rational.{Rational, ◌≈◌, whole};
 ghost use Rattle.rational.specs.Time.{◌<ʳ◌, ◌≤ʳ◌, shifted};
 ghost use Rattle.rational.specs.Extended.{value_at, minus_infinity, infinity, ◌≈ᵉ◌};
@@ -13,7 +14,8 @@ ghost use Rattle.online_robust.specs.Held.{Held, edge_at, with_edge, without};
 ghost use Rattle.online_robust.specs.Sweeping.{EndsAt, IsBefore};
 ghost use Rattle.online_robust.specs.Reading.{IsBuilt, IsStretch, IsThere};
 ghost use Rattle.online_robust.specs.Told.{IsMovedBy};
-ghost use Rattle.online_robust.specs.Windows.{IsGone, IsOwned, IsPointOf, IsShifted, IsUnfixedUnder, IsUnmet, IsWindowFault, Scope, Sheds, at_time, before_start, best_of, input_of, lines_left};
+ghost use Rattle.online_robust.specs.Windows.{IsGone, IsOwned, IsPointOf, IsShifted, IsUnfixedUnder, IsUnmet, IsWindowFault};
+ghost use Rattle.online_robust.specs.Windows.{Scope, Sheds, at_time, before_start, best_of, input_of, lines_left};
 ghost use Rattle.online_robust.specs.WindowPasts.{CanPass, HasPassed, IsFitPast, IsPassing, IsPastAt, IsSettled, StaysPast, past_steps};
 
 use crate::edges::Edges;
@@ -87,13 +89,15 @@ impl Past {
     fn go_high(&mut self, edges: &mut Edges, point: &Reached) -> Result<(), OpFault<Margin>>
         requires { (x : Scope) × IsPastAt x self.old edges.old × (self.old.point ≡ Some point.now)
             × (shifted (value self.old.at) self.old.window.high <ʳ x.bound) }
-        ensures stands { (x : Scope) → IsPastAt x self.old edges.old → self.old.point ≡ Some point.now → shifted (value self.old.at) self.old.window.high <ʳ x.bound
+        ensures stands { (x : Scope) → IsPastAt x self.old edges.old → self.old.point ≡ Some point.now
+            → shifted (value self.old.at) self.old.window.high <ʳ x.bound
             → OnOk result (IsPastAt x self.new edges.new × (self.new.point ≡ None)
             × IsBefore (shifted (value self.new.at) self.new.window.high) self.new.gap.until) }
         ensures kept { OnOk result (StaysPast self.old self.new × (self.new.at ≡ self.old.at)) }
         ensures shed { OnOk result ((limit : Rational) → Sheds limit self.old.window.of edges.old edges.new) }
         ensures no_more { OnOk result (lines_left (edge_at edges.new self.old.window.of) ≤ lines_left (edge_at edges.old self.old.window.of)) }
-        ensures wide { (x : Scope) → IsPastAt x self.old edges.old → self.old.point ≡ Some point.now → shifted (value self.old.at) self.old.window.high <ʳ x.bound
+        ensures wide { (x : Scope) → IsPastAt x self.old edges.old → self.old.point ≡ Some point.now
+            → shifted (value self.old.at) self.old.window.high <ʳ x.bound
             → IfErr result (IsUnfixedUnder (at_time x (value self.old.at) (value self.old.at)) self.old.window self.old.gap) }
     {
         let next = enter(edges, self.window.of, self.none);
@@ -161,7 +165,8 @@ impl Past {
     fn drop_gap(&self, edges: &mut Edges)
         requires { self.now.window.of < length edges.old.edges }
         ensures { MatchBool self.now.gap.stands
-            ((edges.new.edges ≡ with_edge edges.old self.now.window.of (without 1 (edge_at edges.old self.now.window.of))) × (edges.new.start ≡ edges.old.start))
+            ((edges.new.edges ≡ with_edge edges.old self.now.window.of (without 1 (edge_at edges.old self.now.window.of)))
+            × (edges.new.start ≡ edges.old.start))
             (edges.new ≡ edges.old) }
     {
         if self.gap.stands {
@@ -171,11 +176,14 @@ impl Past {
 
     /// Takes the gap about the high end, if it stands on the edge, and the point at its end.
     fn leave(&mut self, edges: &mut Edges)
-        requires { (x : Scope) × IsPastAt x self.old edges.old × (self.old.point ≡ None) × EndsAt self.old.gap.until (shifted (value self.old.at) self.old.window.high) }
-        ensures stands { (x : Scope) → IsPastAt x self.old edges.old → self.old.point ≡ None → EndsAt self.old.gap.until (shifted (value self.old.at) self.old.window.high)
+        requires { (x : Scope) × IsPastAt x self.old edges.old × (self.old.point ≡ None)
+            × EndsAt self.old.gap.until (shifted (value self.old.at) self.old.window.high) }
+        ensures stands { (x : Scope) → IsPastAt x self.old edges.old → self.old.point ≡ None
+            → EndsAt self.old.gap.until (shifted (value self.old.at) self.old.window.high)
             → IsPastAt x self.new edges.new × IsSettled self.new }
         ensures kept { self.new ≡ record self.old { point = self.new.point } }
-        ensures shed { (x : Scope) → IsPastAt x self.old edges.old → self.old.point ≡ None → EndsAt self.old.gap.until (shifted (value self.old.at) self.old.window.high)
+        ensures shed { (x : Scope) → IsPastAt x self.old edges.old → self.old.point ≡ None
+            → EndsAt self.old.gap.until (shifted (value self.old.at) self.old.window.high)
             → Sheds (shifted (value self.old.at) self.old.window.high) self.old.window.of edges.old edges.new }
         ensures fewer { lines_left (edge_at edges.new self.old.window.of) < lines_left (edge_at edges.old self.old.window.of) }
     {
@@ -232,7 +240,8 @@ impl Past {
     /// The high end stands within its gap. Goes on to the next time at which what counts may change, or to the time `to`.
     fn go_to(&mut self, edges: &mut Edges, to: &Frac) -> Gone
         requires { (x : Scope) × IsPastAt x self.old edges.old × IsPassing x self.old (value to.now) × (self.old.point ≡ None) }
-        ensures stands { (x : Scope) → IsPastAt x self.old edges.old → IsPassing x self.old (value to.now) → self.old.point ≡ None → HasPassed x self.new edges.new }
+        ensures stands { (x : Scope) → IsPastAt x self.old edges.old → IsPassing x self.old (value to.now) → self.old.point ≡ None
+            → HasPassed x self.new edges.new }
         ensures told { (x : Scope) → IsPastAt x self.old edges.old → IsPassing x self.old (value to.now) → self.old.point ≡ None
             → IsGone (at_time x (value self.old.at) (value self.old.at)) self.old.window (value to.now) (value self.new.at) result.best result.to }
         ensures kept { StaysPast self.old self.new }
@@ -257,7 +266,8 @@ impl Past {
         requires { (x : Scope) × IsPastAt x self.old edges.old × IsPassing x self.old (value to.now) }
         ensures stands { (x : Scope) → IsPastAt x self.old edges.old → IsPassing x self.old (value to.now) → OnOk result (HasPassed x self.new edges.new) }
         ensures told { (x : Scope) → IsPastAt x self.old edges.old → IsPassing x self.old (value to.now)
-            → IfOk result (λ gone. IsGone (at_time x (value self.old.at) (value self.old.at)) self.old.window (value to.now) (value self.new.at) gone.best gone.to) }
+            → IfOk result
+            (λ gone. IsGone (at_time x (value self.old.at) (value self.old.at)) self.old.window (value to.now) (value self.new.at) gone.best gone.to) }
         ensures kept { OnOk result (StaysPast self.old self.new) }
         ensures shed { (x : Scope) → IsPastAt x self.old edges.old → IsPassing x self.old (value to.now)
             → OnOk result (Sheds (shifted (value self.new.at) self.old.window.high) self.old.window.of edges.old edges.new) }
@@ -275,11 +285,13 @@ impl Past {
         requires { (x : Scope) × (own : ℕ) × (from to : Rational) × CanPass x own from to self.old edges.old }
         ensures stands { (x : Scope) (own : ℕ) (from to : Rational) → CanPass x own from to self.old edges.old → OnOk result (HasPassed x self.new edges.new) }
         ensures told { (x : Scope) (own : ℕ) (from to : Rational) → CanPass x own from to self.old edges.old
-            → IfOk result (λ r. (value r.at ≡ value self.new.at) × (value r.at ≈ from) × IsThere (best_of x self.old.window) (x.reach + own) (value r.at) r.value) }
+            → IfOk result
+            (λ r. (value r.at ≡ value self.new.at) × (value r.at ≈ from) × IsThere (best_of x self.old.window) (x.reach + own) (value r.at) r.value) }
         ensures kept { OnOk result (StaysPast self.old self.new) }
         ensures shed { (x : Scope) (own : ℕ) (from to : Rational) → CanPass x own from to self.old edges.old
             → OnOk result (Sheds (shifted (value self.new.at) self.old.window.high) self.old.window.of edges.old edges.new) }
-        ensures wide { (x : Scope) (own : ℕ) (from to : Rational) → CanPass x own from to self.old edges.old → IfErr result (IsWindowFault x self.old.window to) }
+        ensures wide { (x : Scope) (own : ℕ) (from to : Rational) → CanPass x own from to self.old edges.old
+            → IfErr result (IsWindowFault x self.old.window to) }
     {
         if let Some(reached) = self.last {
             return Ok(reached);
@@ -307,7 +319,8 @@ impl Past {
         requires ends { last_of built.old ≈ value self.old.at }
         ensures stands { (x : Scope) → IsPastAt x self.old edges.old → IsPassing x self.old (value to.now) → OnOk result (HasPassed x self.new edges.new) }
         ensures told { (x : Scope) → IsPastAt x self.old edges.old → IsPassing x self.old (value to.now) → start_of x.trace ≤ʳ value self.old.at
-            → (own : ℕ) → IsOwned self.old.window own → (from : Rational) → IsBuilt (best_of x self.old.window) (x.reach + own) from (value self.old.at) built.old
+            → (own : ℕ) → IsOwned self.old.window own → (from : Rational)
+            → IsBuilt (best_of x self.old.window) (x.reach + own) from (value self.old.at) built.old
             → OnOk result (IsBuilt (best_of x self.old.window) (x.reach + own) from (value self.new.at) built.new) }
         ensures reached { (x : Scope) → IsPastAt x self.old edges.old → IsPassing x self.old (value to.now) → start_of x.trace ≤ʳ value self.old.at
             → (own : ℕ) → IsOwned self.old.window own
@@ -351,7 +364,8 @@ impl Past {
         requires { (x : Scope) × (own : ℕ) × (from : Rational) × CanPass x own from (value to.now) self.old edges.old }
         ensures told { (x : Scope) (own : ℕ) (from : Rational) → CanPass x own from (value to.now) self.old edges.old
             → IfOk result (IsStretch (best_of x self.old.window) (x.reach + own) from (value to.now)) }
-        ensures stands { (x : Scope) (own : ℕ) (from : Rational) → CanPass x own from (value to.now) self.old edges.old → OnOk result (HasPassed x self.new edges.new) }
+        ensures stands { (x : Scope) (own : ℕ) (from : Rational) → CanPass x own from (value to.now) self.old edges.old
+            → OnOk result (HasPassed x self.new edges.new) }
         ensures reached { (x : Scope) (own : ℕ) (from : Rational) → CanPass x own from (value to.now) self.old edges.old
             → OnOk result (IsSomeAnd self.new.last (λ r. (value r.at ≡ value self.new.at) × (value r.at ≈ value to.now)
             × IsThere (best_of x self.old.window) (x.reach + own) (value r.at) r.value)) }

@@ -10,7 +10,8 @@ ghost use Rattle.online_robust.specs.Held.{held_at};
 ghost use Rattle.online_robust.specs.Lines.{end_of};
 ghost use Rattle.online_robust.specs.Told.{IsTick};
 ghost use Rattle.online_robust.specs.Reading.{HasReached, IsAhead, IsBuilt, IsStretch, IsThere, LosesAt, LosesAtBoth, value_turned};
-ghost use Rattle.online_robust.specs.Couples.{CanJoin, CanNegate, Couple, IsCoupleFault, IsJoinedTo, IsNegatedTo, IsReadTo, Source, both_of, left_of, right_of, turns_left, turns_left_of};
+ghost use Rattle.online_robust.specs.Couples.{CanJoin, CanNegate, Couple, IsCoupleFault, IsJoinedTo, IsNegatedTo};
+ghost use Rattle.online_robust.specs.Couples.{IsReadTo, Source, both_of, left_of, right_of, turns_left, turns_left_of};
 
 use crate::edges::Edges;
 use crate::line::{MarginLine, Reached};
@@ -156,7 +157,8 @@ impl Two {
 
     /// The margin of the connective of two margins at the time.
     fn of_both(&self, p: Margin, q: Margin, t: &Frac) -> Margin
-        requires { (x : Couple) × (IsThere (Robustness x.left x.trace) x.reach (value t.now) p) × (IsThere (right_of x) x.reach (value t.now) q) × IsTick (value t.now) }
+        requires { (x : Couple) × (IsThere (Robustness x.left x.trace) x.reach (value t.now) p)
+            × (IsThere (right_of x) x.reach (value t.now) q) × IsTick (value t.now) }
         ensures { (x : Couple) → IsThere (Robustness x.left x.trace) x.reach (value t.now) p → IsThere (right_of x) x.reach (value t.now) q
             → IsThere (both_of x self.now) x.reach (value t.now) result }
     {
@@ -203,7 +205,8 @@ impl Two {
             → IsBuilt (both_of x self.now) x.reach x.from (value at.now) built.old
             → IfOk result (λ r. IsBuilt (both_of x self.now) x.reach x.from (value r.at) built.new) }
         ensures lost { IfOk result (λ r. LosesAtBoth (value r.at) self.now.left self.now.right edges.old edges.new) }
-        ensures nearer { IfOk result (λ r. turns_left self.now edges.new (value r.at) (value to.now) < turns_left self.now edges.old (value at.now) (value to.now)) }
+        ensures nearer { IfOk result
+            (λ r. turns_left self.now edges.new (value r.at) (value to.now) < turns_left self.now edges.old (value at.now) (value to.now)) }
         ensures wide { (x : Couple) → IsJoinedTo x self.now edges.old (value at.now) → value to.now ≈ x.to
             → IsBuilt (both_of x self.now) x.reach x.from (value at.now) built.old → IfErr result (IsCoupleFault x self.now) }
     {

@@ -1,6 +1,8 @@
 //! The windows with a low end: what stands about the two ends, and the best constant between them.
 
-ghost use Rattle.std.specs.Prelude.{◌≡◌, ◌⊎◌, ◌↔◌, ◌<◌, ◌≤◌, ◌^◌, ◌+◌, ◌*◌, ◌-ℤ◌, ℕ, ◌≢◌, List, [], Some, None, true, false, pos, neg_ℤ, ◌≤ℤ◌, IsTrue, length, slice_get, IfOk, OnOk, IfErr, IfSome, IsSomeAnd, MatchBool, MatchOption, MatchResult};
+ghost use Rattle.std.specs.Prelude.{◌≡◌, ◌⊎◌, ◌↔◌, ◌<◌, ◌≤◌, ◌^◌, ◌+◌, ◌*◌, ◌-ℤ◌, ℕ, ◌≢◌, List, [], Some};
+ghost use Rattle.std.specs.Prelude.{None, true, false, pos, neg_ℤ, ◌≤ℤ◌, IsTrue, length, slice_get, IfOk};
+ghost use Rattle.std.specs.Prelude.{OnOk, IfErr, IfSome, IsSomeAnd, MatchBool, MatchOption, MatchResult};
 ghost use Rattle.rational.specs.Rational.{Rational, IsWithin, ◌≈◌, whole};
 ghost use Rattle.rational.specs.Time.{◌<ʳ◌, ◌≤ʳ◌, shifted};
 ghost use Rattle.rational.specs.Extended.{value_at, minus_infinity, infinity, ◌≈ᵉ◌};
@@ -17,7 +19,11 @@ ghost use Rattle.pl_signal.specs.Knots.{stop as last_of};
 ghost use Rattle.stl_syntax.specs.Trace.{start as start_of};
 ghost use Rattle.online_robust.specs.Told.{IsMovedBy, IsTick};
 ghost use Rattle.online_robust.specs.Queues.{StandsFor};
-ghost use Rattle.online_robust.specs.Windows.{CanSweep, Goes, HasCome, IsAt, IsWindowFault, IsBetterOf, IsFitWindow, IsGoing, IsGone, IsHigh, IsUnfixed, IsUnfixedHigh, IsUnmet, Keeps, Scope, Sheds, IsLow, IsNextStop, IsOpen, IsOutcome, IsOwned, IsPointOf, IsShifted, IsTickEnd, IsTopOf, LeavesAt, at_time, before_start, best_of, gap_of as gap_that, high_at, input_of, is_before_end, lines_left, low_at, no_gap, steps_left};
+ghost use Rattle.online_robust.specs.Windows.{CanSweep, Goes, HasCome, IsAt, IsWindowFault, IsBetterOf, IsFitWindow, IsGoing};
+ghost use Rattle.online_robust.specs.Windows.{IsGone, IsHigh, IsUnfixed, IsUnfixedHigh, IsUnmet, Keeps, Scope, Sheds, IsLow};
+ghost use Rattle.online_robust.specs.Windows.{IsNextStop, IsOpen, IsOutcome, IsOwned, IsPointOf, IsShifted, IsTickEnd};
+ghost use Rattle.online_robust.specs.Windows.{IsTopOf, LeavesAt, at_time, before_start, best_of, gap_of as gap_that, high_at};
+ghost use Rattle.online_robust.specs.Windows.{input_of, is_before_end, lines_left, low_at, no_gap, steps_left};
 
 use crate::edges::Edges;
 use crate::ends::{Gap, is_one, is_same};
@@ -75,7 +81,8 @@ pub(crate) struct Sweep {
 pub(crate) fn enter(edges: &mut Edges, of: u32, none: Margin) -> Gap
     requires { of < length edges.old.edges }
     ensures { MatchOption (slice_get (fresh_at edges.old of) 0) ((result ≡ no_gap none) × (edges.new ≡ edges.old))
-        (λ line. (result ≡ gap_that line) × (edges.new.edges ≡ with_edge edges.old of (with_read (edge_at edges.old of) line)) × (edges.new.start ≡ edges.old.start)) }
+        (λ line. (result ≡ gap_that line) × (edges.new.edges ≡ with_edge edges.old of (with_read (edge_at edges.old of) line))
+        × (edges.new.start ≡ edges.old.start)) }
 {
     match edges.next(of) {
         Some(_) => gap_of(&edges.pass(of)),
@@ -300,7 +307,8 @@ impl Sweep {
     fn drop_gap(&self, edges: &mut Edges)
         requires { self.now.window.of < length edges.old.edges }
         ensures { MatchBool self.now.place.low.stands
-            ((edges.new.edges ≡ with_edge edges.old self.now.window.of (without 1 (edge_at edges.old self.now.window.of))) × (edges.new.start ≡ edges.old.start))
+            ((edges.new.edges ≡ with_edge edges.old self.now.window.of (without 1 (edge_at edges.old self.now.window.of)))
+            × (edges.new.start ≡ edges.old.start))
             (edges.new ≡ edges.old) }
     {
         if self.place.low.stands {
@@ -338,7 +346,8 @@ impl Sweep {
 
     /// The best of the constants between the ends, or the value of no times.
     fn top(&self) -> Margin
-        ensures { (cs : List Margin) → StandsFor margin_function self.now.among.older.items self.now.among.newer.items self.now.among.side self.now.among.best cs
+        ensures { (cs : List Margin)
+            → StandsFor margin_function self.now.among.older.items self.now.among.newer.items self.now.among.side self.now.among.best cs
             → IsTopOf margin_function self.now.among.side self.now.none cs result }
     {
         match self.among.top() {
@@ -349,8 +358,10 @@ impl Sweep {
 
     /// What counts between here and the next time at which that may change.
     fn best(&self) -> Best<Margin>
-        requires { (x : Scope) × IsFitWindow self.now.window x.reach × IsMovedBy x.reach self.now.place.low.shape × IsMovedBy x.reach self.now.place.high.shape }
-        ensures top { (cs : List Margin) → StandsFor margin_function self.now.among.older.items self.now.among.newer.items self.now.among.side self.now.among.best cs
+        requires { (x : Scope) × IsFitWindow self.now.window x.reach × IsMovedBy x.reach self.now.place.low.shape
+            × IsMovedBy x.reach self.now.place.high.shape }
+        ensures top { (cs : List Margin)
+            → StandsFor margin_function self.now.among.older.items self.now.among.newer.items self.now.among.side self.now.among.best cs
             → IsTopOf margin_function self.now.among.side self.now.none cs result.top }
         ensures low { IsSomeAnd result.low (IsShifted self.now.place.low.shape self.now.window.low) }
         ensures high { IsSomeAnd result.high (IsShifted self.now.place.high.shape self.now.window.high) }
@@ -455,8 +466,10 @@ impl Sweep {
             → OnOk result (IsAt x self.new edges.new × IsBefore (high_at x self.new.window) self.new.place.high.until) }
         ensures kept { OnOk result (Keeps self.old self.new × (self.new.place.low ≡ self.old.place.low)) }
         ensures shed { OnOk result ((limit : Rational) → Sheds limit self.old.window.of edges.old edges.new) }
-        ensures fewer { OnOk result (2 * lines_left (edge_at edges.new self.old.window.of) + is_before_end (shifted (value self.old.place.at) self.old.window.high) self.new.place.high.until
-            ≤ 2 * lines_left (edge_at edges.old self.old.window.of) + is_before_end (shifted (value self.old.place.at) self.old.window.high) self.old.place.high.until) }
+        ensures fewer { OnOk result (2 * lines_left (edge_at edges.new self.old.window.of)
+            + is_before_end (shifted (value self.old.place.at) self.old.window.high) self.new.place.high.until
+            ≤ 2 * lines_left (edge_at edges.old self.old.window.of)
+            + is_before_end (shifted (value self.old.place.at) self.old.window.high) self.old.place.high.until) }
         ensures wide { (x : Scope) → IsAt x self.old edges.old → x.behind ≡ value self.old.place.at → high_at x self.old.window <ʳ x.bound
             → IfErr result (IsUnfixedHigh x self.old) }
     {
@@ -478,7 +491,8 @@ impl Sweep {
         ensures shed { (x : Scope) → IsAt x self.old edges.old → IsOpen x self.old (value to.now)
             → OnOk result (Sheds (shifted (value self.new.place.at) self.old.window.low) self.old.window.of edges.old edges.new) }
         ensures fewer { (x : Scope) → IsAt x self.old edges.old → IsOpen x self.old (value to.now)
-            → OnOk result (steps_left self.old.window self.new.place (edge_at edges.new self.old.window.of) (value to.now) < 2 * lines_left (edge_at edges.old self.old.window.of) + 2) }
+            → OnOk result (steps_left self.old.window self.new.place (edge_at edges.new self.old.window.of)
+            (value to.now) < 2 * lines_left (edge_at edges.old self.old.window.of) + 2) }
     {
         let t = self.next_stop(to);
         let before = self.best();
@@ -518,11 +532,13 @@ impl Sweep {
         requires { (x : Scope) × (own : ℕ) × (from to : Rational) × CanSweep x own from to self.old edges.old }
         ensures stands { (x : Scope) (own : ℕ) (from to : Rational) → CanSweep x own from to self.old edges.old → OnOk result (HasCome x self.new edges.new) }
         ensures told { (x : Scope) (own : ℕ) (from to : Rational) → CanSweep x own from to self.old edges.old
-            → IfOk result (λ r. (value r.at ≡ value self.new.place.at) × (value r.at ≈ from) × IsThere (best_of x self.old.window) (x.reach + own) (value r.at) r.value) }
+            → IfOk result (λ r.
+            (value r.at ≡ value self.new.place.at) × (value r.at ≈ from) × IsThere (best_of x self.old.window) (x.reach + own) (value r.at) r.value) }
         ensures kept { OnOk result (Goes self.old self.new) }
         ensures shed { (x : Scope) (own : ℕ) (from to : Rational) → CanSweep x own from to self.old edges.old
             → OnOk result (Sheds (shifted (value self.new.place.at) self.old.window.low) self.old.window.of edges.old edges.new) }
-        ensures wide { (x : Scope) (own : ℕ) (from to : Rational) → CanSweep x own from to self.old edges.old → IfErr result (IsWindowFault x self.old.window to) }
+        ensures wide { (x : Scope) (own : ℕ) (from to : Rational) → CanSweep x own from to self.old edges.old
+            → IfErr result (IsWindowFault x self.old.window to) }
     {
         if let Some(reached) = self.last {
             return Ok(reached);
@@ -595,7 +611,8 @@ impl Sweep {
         requires { (x : Scope) × (own : ℕ) × (from : Rational) × CanSweep x own from (value to.now) self.old edges.old }
         ensures told { (x : Scope) (own : ℕ) (from : Rational) → CanSweep x own from (value to.now) self.old edges.old
             → IfOk result (IsStretch (best_of x self.old.window) (x.reach + own) from (value to.now)) }
-        ensures stands { (x : Scope) (own : ℕ) (from : Rational) → CanSweep x own from (value to.now) self.old edges.old → OnOk result (HasCome x self.new edges.new) }
+        ensures stands { (x : Scope) (own : ℕ) (from : Rational) → CanSweep x own from (value to.now) self.old edges.old
+            → OnOk result (HasCome x self.new edges.new) }
         ensures reached { (x : Scope) (own : ℕ) (from : Rational) → CanSweep x own from (value to.now) self.old edges.old
             → OnOk result (IsSomeAnd self.new.last (λ r. (value r.at ≡ value self.new.place.at) × (value r.at ≈ value to.now)
             × IsThere (best_of x self.old.window) (x.reach + own) (value r.at) r.value)) }

@@ -1,5 +1,6 @@
 -- What `Builder::step` makes of the last knots.
-use Rattle.std.proofs.Common.{◌≡◌, ℕ, ◌+◌, ◌⊎◌, inl, inr, List, [], ◌∷◌, ◌++◌, length, get_or, set, take, refl, sym, ◌∙◌, ap, subst, arith, length-append, length-take}
+use Rattle.std.proofs.Common.{◌≡◌, ℕ, ◌+◌, ◌⊎◌, inl, inr, List, [], ◌∷◌, ◌++◌, length, get_or, set}
+use Rattle.std.proofs.Common.{take, refl, sym, ◌∙◌, ap, subst, arith, length-append, length-take}
 use Rattle.std.proofs.lemmas.List.{append_assoc, set_at}
 use Rattle.rational.specs.Time.{Rational, ◌<ʳ◌, ◌≈◌}
 use Rattle.rational.specs.Extended.{Extended, Passes, value_at, ◌≈ᵉ◌}
@@ -12,7 +13,8 @@ use Rattle.value_laws.specs.Members.{ShapeOf}
 use Rattle.pl_signal.specs.declared.knot.Knot.{Knot}
 use Rattle.pl_signal.specs.Knots.{time, stop, HasShape, Each, IsBetween, IsWorth, CanBeLeftOut, IsKnot}
 use Rattle.pl_signal.specs.Building.{GoesOn}
-use Rattle.pl_signal.proofs.KnotLemmas.{split_two, read_at, some_in_end, start_kept, stop_end, shape_in, shape_front, shape_end, each_end, replaced_end, worth_in, worth_end}
+use Rattle.pl_signal.proofs.KnotLemmas.{split_two, read_at, some_in_end, start_kept, stop_end, shape_in}
+use Rattle.pl_signal.proofs.KnotLemmas.{shape_front, shape_end, each_end, replaced_end, worth_in, worth_end}
 
 -- the knot with which a signal ends
 abbrev pub ends_at : {P : Type 0} → Frac → P → Knot P

@@ -1,5 +1,6 @@
 -- Signals moved in time, knot by knot.
-use Rattle.std.proofs.Common.{◌≡◌, ℕ, zero, suc, ◌+◌, ◌-◌, ◌*◌, ◌<◌, ◌^◌, ◌⊎◌, inl, inr, List, [], ◌∷◌, length, Some, ℤ, pos, neg_ℤ, refl, ◌∙◌, ap, subst, arith, IsTrue, get_or, negsuc, ◌≤ℤ◌, ◌-ℤ◌, ◌≤◌}
+use Rattle.std.proofs.Common.{◌≡◌, ℕ, zero, suc, ◌+◌, ◌-◌, ◌*◌, ◌<◌, ◌^◌, ◌⊎◌, inl, inr, List, [], ◌∷◌, length, Some}
+use Rattle.std.proofs.Common.{ℤ, pos, neg_ℤ, refl, ◌∙◌, ap, subst, arith, IsTrue, get_or, negsuc, ◌≤ℤ◌, ◌-ℤ◌, ◌≤◌}
 use Rattle.std.specs.Prelude.{slice_get}
 use Rattle.std.specs.Int.{w64}
 use Rattle.std.proofs.lemmas.Option.{slice_get_past, slice_get-get_or}

@@ -22,12 +22,16 @@ module _ {P : Type 0} (shape : ShapeOf P) where
   at_of : (k : Knot P) (t : Rational) (v : Extended) → t ≈ time k → v ≈ᵉ value_at (shape.function k.point) (time k) → IsAt shape k t v
   at_of k t v when is = record {
     when = when;
-    worth = same_transᵉ v (value_at (shape.function k.point) (time k)) (value_at (shape.function k.point) t) is (value_same (shape.function k.point) (same_sym when));
+    worth = same_transᵉ v (value_at (shape.function k.point) (time k)) (value_at (shape.function k.point) t) is
+        (value_same (shape.function k.point) (same_sym when));
   }
 
   of_at : (k : Knot P) (t : Rational) (v : Extended) → IsAt shape k t v → (t ≈ time k) × (v ≈ᵉ value_at (shape.function k.point) (time k))
-  of_at k t v is =
-      (is.when, same_transᵉ v (value_at (shape.function k.point) t) (value_at (shape.function k.point) (time k)) is.worth (value_same (shape.function k.point) is.when))
+  of_at k t v is = (
+    is.when,
+    same_transᵉ v (value_at (shape.function k.point) t) (value_at (shape.function k.point) (time k)) is.worth
+        (value_same (shape.function k.point) is.when),
+  )
 
   between_of : (k n : Knot P) (t : Rational) (v : Extended) → time k <ʳ time n → IsInside (plain_knot shape k) (plain_piece shape k n) t v
       → IsBetween shape k n t v
@@ -40,6 +44,7 @@ module _ {P : Type 0} (shape : ShapeOf P) where
             (same_symᵉ (value_at (shape.function k.after) t) (value_at is.through t) (same t));
       }
 
+  -- a value between two knots is one of the piece between the plain knots
   pub of_between : (k n : Knot P) (t : Rational) (v : Extended) → IsBetween shape k n t v → IsInside (plain_knot shape k) (plain_piece shape k n) t v
   of_between k n t v is = record {
     after = is.after;
@@ -96,7 +101,8 @@ module _ {P : Type 0} (shape : ShapeOf P) where
       let left = agree_at_two (shape.function k.after) line.through (time k) (time n) before line.begins line.arrives in
       let right = agree_at_two (shape.function n.after) line.through (time n) (time m) after line.leaves line.ends in
       record {
-        here = same_transᵉ (value_at (shape.function k.after) (time n)) (value_at line.through (time n)) (value_at (shape.function n.point) (time n)) line.arrives
+        here = same_transᵉ (value_at (shape.function k.after) (time n)) (value_at line.through (time n))
+            (value_at (shape.function n.point) (time n)) line.arrives
             (same_symᵉ (value_at (shape.function n.point) (time n)) (value_at line.through (time n)) line.here);
         on = λ t. same_transᵉ (value_at (shape.function k.after) t) (value_at line.through t) (value_at (shape.function n.after) t) (left t)
             (same_symᵉ (value_at (shape.function n.after) t) (value_at line.through t) (right t));

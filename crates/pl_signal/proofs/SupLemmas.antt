@@ -3,7 +3,8 @@ use Rattle.std.proofs.Common.{◌⊎◌, inl, inr, List, [], ◌∷◌, false}
 use Rattle.rational.specs.Time.{Rational, Within, Interval, IsIn, ◌<ʳ◌, ◌≈◌}
 use Rattle.rational.specs.Extended.{Extended, ◌≤ᵉ◌, ◌<ᵉ◌, IsLeast, IsGreatest, IsSup, IsInf, Affine, Passes, value_at}
 use Rattle.rational.specs.Windows.{Window, IsSupOver, IsInfOver}
-use Rattle.rational.proofs.Order.{le_or_lt, le_of_lt, le_of_same, ge_of_same, le_trans, lt_of_lt_of_le, lt_of_le_of_lt, same_of_le, same_refl, same_sym, same_trans}
+use Rattle.rational.proofs.Order.{le_or_lt, le_of_lt, le_of_same, ge_of_same, le_trans, lt_of_lt_of_le}
+use Rattle.rational.proofs.Order.{lt_of_le_of_lt, same_of_le, same_refl, same_sym, same_trans}
 use Rattle.rational.proofs.ExtendedLemmas.{le_transᵉ, lt_of_lt_of_leᵉ, lt_of_le_of_ltᵉ, greatest_of, least_of}
 use Rattle.rational.proofs.AffineLemmas.{value_same, near_start, near_stop, above_start, above_stop, passes, at_most_an_end, at_least_an_end}
 use Rattle.rational.proofs.TimeLemmas.{IsIn-same, precedes_le, precedes_of_lt, decided_order, decided_in, IsLater, later_of, IsEarlier, earlier_of}

@@ -3,7 +3,8 @@ use Rattle.std.proofs.Common.{◌≡◌, ℕ, zero, suc, ◌+◌, ◌≤◌, ◌
 use Rattle.std.specs.Prelude.{slice_get}
 use Rattle.rational.specs.Time.{Rational, Within, ◌≤ʳ◌, ◌<ʳ◌, ◌≈◌}
 use Rattle.rational.specs.Extended.{Extended, Affine, Passes, value_at, ◌≈ᵉ◌}
-use Rattle.rational.proofs.Order.{le_or_lt, lt_or_same_or_gt, le_refl, le_of_lt, le_of_same, ge_of_same, le_trans, lt_trans, lt_of_lt_of_le, lt_of_le_of_lt, not_lt_of_le, same_sym, same_trans, same_of_le}
+use Rattle.rational.proofs.Order.{le_or_lt, lt_or_same_or_gt, le_refl, le_of_lt, le_of_same, ge_of_same, le_trans, lt_trans}
+use Rattle.rational.proofs.Order.{lt_of_lt_of_le, lt_of_le_of_lt, not_lt_of_le, same_sym, same_trans, same_of_le}
 use Rattle.rational.proofs.AffineLemmas.{same_reflᵉ, same_transᵉ, same_symᵉ, value_same}
 use Rattle.value_laws.specs.Members.{ShapeOf}
 use Rattle.pl_signal.specs.declared.knot.Knot.{Knot}

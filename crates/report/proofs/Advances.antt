@@ -1,5 +1,6 @@
 -- The verdicts of a signal of truths, knot by knot.
-use Rattle.std.proofs.Common.{◌≡◌, ◌≢◌, ℕ, zero, suc, ◌+◌, ◌<◌, ◌≤◌, inl, inr, Bool, true, false, not, ◌&&◌, Option, Some, None, List, [], ◌∷◌, ◌++◌, length, append_assoc, refl, sym, ap, ◌∙◌, subst, arith, ◌⊎◌}
+use Rattle.std.proofs.Common.{◌≡◌, ◌≢◌, ℕ, zero, suc, ◌+◌, ◌<◌, ◌≤◌, inl, inr, Bool, true, false, not, ◌&&◌, Option, Some}
+use Rattle.std.proofs.Common.{None, List, [], ◌∷◌, ◌++◌, length, append_assoc, refl, sym, ap, ◌∙◌, subst, arith, ◌⊎◌}
 use Rattle.std.specs.Prelude.{slice_get}
 use Rattle.std.proofs.lemmas.Bool.{true≢false}
 use Rattle.rational.specs.Time.{Rational, ◌<ʳ◌, ◌≈◌, HasTimeBetween, Precedes, closed}
@@ -90,8 +91,11 @@ no_knot_at (k ∷ knots) (suc i) h = no_knot_at knots i (omega arith)
 module _ (knots : List (Knot Truth)) where
   -- the verdicts describe the signal up to the knot at place i, and the open span is told up to there
   pub record IsSpelledTo (i : ℕ) (verdicts : List Verdict) (o : OpenSpan) : Type 0 where
+    -- the last knot that was looked at
     pub last : Knot Truth
+    -- it stands at place i
     pub is : slice_get knots i ≡ Some last
+    -- up to it the verdicts spell the signal
     pub spelled : IsSpelled (IsWorth truth_shape knots) (start knots) (time last) true verdicts o
 
   point_told : (i : ℕ) (k : Knot Truth) → slice_get knots i ≡ Some k → (t : Rational) → t ≈ time k → IsWorth truth_shape knots t (sign_of k.point.holds)
@@ -156,6 +160,7 @@ module _ (knots : List (Knot Truth)) where
       subst (λ t. DescribesFunction (IsWorth truth_shape knots) (verdicts ++ w ∷ []) (closed (start knots) t)) e
       (spelled_end (IsWorth truth_shape knots) (start knots) at verdicts o w here c)
 
+  -- the open span has a time before the signal's end
   pub stop_room : (i : ℕ) (verdicts : List Verdict) (o : OpenSpan) (at : Frac) → length knots ≤ i + 1 → IsSpelledTo i verdicts o → value at ≡ stop knots
       → HasTimeBetween (value o.from) (value at) (o.from_in && true)
   stop_room i verdicts o at h s e =

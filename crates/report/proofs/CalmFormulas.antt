@@ -37,12 +37,14 @@ module _ (tr : Trace) (ok : IsTrace tr) (range : AreInRange tr.rows) where
     | inr k ↦ subst IsCalm (sym (get_or_past trees j (constant false) k)) tt
   ]
 
-  trees_calm : (A B : ℕ) (trees : List Subformula) (nodes : List Node) → All IsCalm trees → All IsLeafInLimits nodes → All IsCalm (trees_after trees (map (scaled_node A B) nodes))
+  trees_calm : (A B : ℕ) (trees : List Subformula) (nodes : List Node) → All IsCalm trees → All IsLeafInLimits nodes
+      → All IsCalm (trees_after trees (map (scaled_node A B) nodes))
   trees_calm A B trees [] h l = h
   trees_calm A B trees (n ∷ nodes) h l =
       let new = tree_of (tree_at trees) (length trees) (scaled_node A B n) in
       let is = tree_calm A B (tree_at trees) (at_calm trees h) (length trees) n (All-head IsLeafInLimits n nodes l) in
-      trees_calm A B (trees ++ new ∷ []) nodes (All-append IsCalm trees (new ∷ []) h (All-cons IsCalm new [] is (All-nil IsCalm))) (All-tail IsLeafInLimits n nodes l)
+      trees_calm A B (trees ++ new ∷ []) nodes (All-append IsCalm trees (new ∷ []) h (All-cons IsCalm new [] is (All-nil IsCalm)))
+      (All-tail IsLeafInLimits n nodes l)
 
   -- so are those of the root
   pub root_calm : (A B : ℕ) (nodes : List Node) → All IsLeafInLimits nodes → IsCalm (root (map (scaled_node A B) nodes))

@@ -6,21 +6,26 @@ use Rattle.rational.specs.Windows.{Ahead, Behind}
 use Rattle.rational.proofs.Order.{le_refl, le_of_lt, lt_of_lt_of_le, le_trans, le_or_lt, not_lt_of_le}
 use Rattle.rational.proofs.TimeLemmas.{precedes_of_lt, precedes_after, precedes_before, later_from}
 use Rattle.stl_syntax.specs.Trace.{Trace, start, stop, first_time, last_time}
-use Rattle.stl_syntax.specs.Formula.{Subformula, constant, atom, negation, conjunction, disjunction, implication, until, eventually, always, since, once, historically}
+use Rattle.stl_syntax.specs.Formula.{Subformula, constant, atom, negation, conjunction, disjunction}
+use Rattle.stl_syntax.specs.Formula.{implication, until, eventually, always, since, once, historically}
 use Rattle.stl_syntax.specs.Truth.{Truth}
-use Rattle.report.proofs.NearTimes.{Move, by, back, ahead, behind, one_before, one_after, Near, IsNear, between, within_both, lt_by, pulled, pushed, clear_of, stays}
+use Rattle.report.proofs.NearTimes.{Move, by, back, ahead, behind, one_before, one_after, Near, IsNear}
+use Rattle.report.proofs.NearTimes.{between, within_both, lt_by, pulled, pushed, clear_of, stays}
 use Rattle.report.proofs.MovedWindows.{InWindow, Together, one, low, high, Moved, moved}
 
 -- t is no fraction with a denominator up to N
 abbrev pub IsRare : ℕ → Rational → Type 0
 IsRare N t = (v : Rational) → v.den ≤ N → ¬ (t ≈ v)
 
+-- a time that is no fraction with a small denominator stays so when it is moved
 pub rare_by : (N : ℕ) (t : Rational) (k : Move) → IsRare N t → IsRare N (by t k)
 rare_by N t k r v few e = r (by v (back k)) few (record { same = omega (arith, e.same) })
 
 -- any two times of a stretch about t have one truth
 pub record Calm (p : Subformula) (tr : Trace) (t : Rational) : Type 0 where
+  -- a stretch about the time
   pub near : Near t
+  -- on it the formula has one truth
   pub alike : (u v : Rational) → IsNear near u → IsNear near v → Truth p tr u → Truth p tr v
 
 -- windows ahead
@@ -31,6 +36,7 @@ ahead_in a b i j x u w = record {
   ends = precedes_before j u (later x b) (by x (ahead b)) w.ends (record { le = omega arith });
 }
 
+-- a time in a window from a to b is one of the window ahead
 pub ahead_out : {S T : Rational} (a b : ℕ) (i j : Bool) (x u : Rational) → InWindow S T (ahead a) (ahead b) i j x u → Ahead S T a b i j x u
 ahead_out a b i j x u w = record {
   inside = w.inside;
@@ -80,6 +86,7 @@ behind_in s T t a None i j x u h w = record {
 }
 behind_in s T t a (Some b) i j x u h w = record { inside = w.inside; begins = since_in i b x u w.begins; ends = into j a x u w.ends }
 
+-- and one behind
 pub behind_out : (s : ℕ) (T t : Rational) (a : ℕ) (b : Option ℕ) (i j : Bool) (x u : Rational)
     → InWindow (whole (pos s)) T (low_of t b) (behind a) i j x u → Behind (whole (pos s)) T a b j i x u
 behind_out s T t a None i j x u w = record { inside = w.inside; begins = tt; ends = out_of j a x u w.ends }
@@ -189,7 +196,8 @@ module _ (N : ℕ) (some : 1 ≤ N) (tr : Trace) where
     goes : (i j : Bool) (x y : Rational) → IsNear frame.near x → IsNear frame.near y → (u : Rational) → InWindow (start tr) (stop tr) lo hi i j x u
         → Moved (start tr) (stop tr) lo hi i j frame.begin frame.end y u
     goes i j x y nx ny u w =
-        moved lo hi i j frame.begin frame.end frame.begin_stays frame.end_stays x y (frame.begins x nx) (frame.ends x nx) (frame.begins y ny) (frame.ends y ny) u w
+        moved lo hi i j frame.begin frame.end frame.begin_stays frame.end_stays x y (frame.begins x nx) (frame.ends x nx)
+        (frame.begins y ny) (frame.ends y ny) u w
 
     alike_at : (u v : Rational) → Goes u v → Truth p tr u → Truth p tr v
     alike_at u v g k =
@@ -207,6 +215,7 @@ module _ (N : ℕ) (some : 1 ≤ N) (tr : Trace) where
         alike = λ u v x y h. (a.alike u v (n.first u x) (n.first v y) h.0, b.alike u v (n.second u x) (n.second v y) h.1);
       }
 
+  -- a formula whose atoms have one truth about a time has one itself
   pub calm : (p : Subformula) → HasCalmAtoms N tr p → (t : Rational) → IsRare N t → Calm p tr t
   calm (constant b) ok t r = record { near = soon t; alike = λ u v x y h. h }
   calm (atom i a) ok t r = ok t r
@@ -293,7 +302,8 @@ module _ (N : ℕ) (some : 1 ≤ N) (tr : Trace) where
       let at_t = calm p ok.0 t r in
       let lo = low_of t b in
       let l = paired p q (by t lo) (calm p ok.0 (by t lo) (rare_by N t lo r)) (calm q ok.1 (by t lo) (rare_by N t lo r)) in
-      let h = paired p q (by t (behind a)) (calm p ok.0 (by t (behind a)) (rare_by N t (behind a) r)) (calm q ok.1 (by t (behind a)) (rare_by N t (behind a) r)) in
+      let h = paired p q (by t (behind a)) (calm p ok.0 (by t (behind a)) (rare_by N t (behind a) r)) (calm q ok.1
+      (by t (behind a)) (rare_by N t (behind a) r)) in
       let f = frame (conjunction p q) t lo (behind a) r l h in
       let fs = within_both f.near (soon t) in
       let n = within_both fs.near at_t.near in record {

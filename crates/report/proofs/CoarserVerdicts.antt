@@ -44,7 +44,8 @@ module _ (K M : ℕ) (kp : 0 < K) (mp : 0 < M) (tr : Trace) (ok : IsTrace tr) (s
   span_room on a b =
       precedes_after (on.from_in && on.to_in) (value a.frac) (shrink K kp (value on.from)) (value b.frac) (le_of_same a.same)
       (precedes_before (on.from_in && on.to_in) (shrink K kp (value on.from)) (shrink K kp (value on.to)) (value b.frac)
-      (precedes_shrink K kp (on.from_in && on.to_in) (value on.from) (value on.to) (precedes_of_room (on.from_in && on.to_in) (value on.from) (value on.to) on.not_empty))
+      (precedes_shrink K kp (on.from_in && on.to_in) (value on.from) (value on.to)
+      (precedes_of_room (on.from_in && on.to_in) (value on.from) (value on.to) on.not_empty))
       (ge_of_same b.same))
 
   abbrev verdict_back : (v : Verdict) → HasFrac (shrink K kp (value v.on.from)) → HasFrac (shrink K kp (value v.on.to)) → Verdict
@@ -64,7 +65,8 @@ module _ (K M : ℕ) (kp : 0 < K) (mp : 0 < M) (tr : Trace) (ok : IsTrace tr) (s
   verdicts_back [] e = []
   verdicts_back (v ∷ verdicts) e = verdict_back v e.0 e.1 ∷ verdicts_back verdicts e.2
 
-  told_back : (v : Verdict) (a : HasFrac (shrink K kp (value v.on.from))) (b : HasFrac (shrink K kp (value v.on.to))) → IsTold q other v → IsTold p tr (verdict_back v a b)
+  told_back : (v : Verdict) (a : HasFrac (shrink K kp (value v.on.from))) (b : HasFrac (shrink K kp (value v.on.to)))
+      → IsTold q other v → IsTold p tr (verdict_back v a b)
   told_back v a b h = record {
     not_empty = not_empty_of_precedes (interval (verdict_back v a b).on) (span_room v.on a b);
     truth = λ t i. told_at K M kp mp tr ok scale p atoms v h t (record {
@@ -73,8 +75,10 @@ module _ (K M : ℕ) (kp : 0 < K) (mp : 0 < M) (tr : Trace) (ok : IsTrace tr) (s
     });
   }
 
-  go_on_back : (v : Verdict) (verdicts : List Verdict) (a : HasFrac (shrink K kp (value v.on.from))) (b : HasFrac (shrink K kp (value v.on.to))) (e : Ends verdicts)
-      → GoesOn q other (closed (start other) (stop other)) v verdicts → GoesOn p tr (closed (start tr) (stop tr)) (verdict_back v a b) (verdicts_back verdicts e)
+  go_on_back : (v : Verdict) (verdicts : List Verdict) (a : HasFrac (shrink K kp (value v.on.from)))
+      (b : HasFrac (shrink K kp (value v.on.to))) (e : Ends verdicts)
+      → GoesOn q other (closed (start other) (stop other)) v verdicts
+      → GoesOn p tr (closed (start tr) (stop tr)) (verdict_back v a b) (verdicts_back verdicts e)
   go_on_back v [] a b e h = record {
     time = same_trans b.same (same_back K kp (same_trans (stretch-shrink K kp (value v.on.to)) (same_trans h.time (stop_by K M kp mp tr ok scale))));
     inside = h.inside;
@@ -101,7 +105,8 @@ module _ (K M : ℕ) (kp : 0 < K) (mp : 0 < M) (tr : Trace) (ok : IsTrace tr) (s
   start_back : (text : List ℕ) → IsStartLine q other text → IsStartLine p tr text
   start_back text (holds, h, e) = (holds, by_truth holds h, e)
     where
-      by_truth : (b : Bool) → MatchBool b (Truth q other (start other)) (¬ Truth q other (start other)) → MatchBool b (Truth p tr (start tr)) (¬ Truth p tr (start tr))
+      by_truth : (b : Bool) → MatchBool b (Truth q other (start other)) (¬ Truth q other (start other))
+          → MatchBool b (Truth p tr (start tr)) (¬ Truth p tr (start tr))
       by_truth true k = (truth_by K M kp mp tr ok scale p (start tr)).1 (Truth-same q other (start_by K M kp mp tr ok scale) k)
       by_truth false k = λ x. k (Truth-same q other (same_sym (start_by K M kp mp tr ok scale)) ((truth_by K M kp mp tr ok scale p (start tr)).0 x))
 
@@ -111,7 +116,8 @@ same_number digits t u text e h = record { num = h.num; den = h.den; lowest = h.
 -- the lines stay
 module _ (k M : ℕ) (kp : 0 < 10 ^ k) (mp : 0 < M) (tr : Trace) (ok : IsTrace tr) (scale : Scale) (p : Subformula) (atoms : HasCalmAtoms (2 ^ 31) tr p)
     (is : scale.time ≡ tr.header.scale.time + k) where
-  end_text : (t : Rational) (a : HasFrac (shrink (10 ^ k) kp t)) (text : List ℕ) → IsNumberText scale.time t text → IsNumberText tr.header.scale.time (value a.frac) text
+  end_text : (t : Rational) (a : HasFrac (shrink (10 ^ k) kp t)) (text : List ℕ) → IsNumberText scale.time t text
+      → IsNumberText tr.header.scale.time (value a.frac) text
   end_text t a text h =
       same_number tr.header.scale.time (shrink (10 ^ k) kp t) (value a.frac) text (same_sym a.same)
       (number_text_back tr.header.scale.time k kp t text (subst (λ d. IsNumberText d t text) is h))
@@ -166,10 +172,12 @@ module _ (f : Formula) (tr : Trace) (k m : ℕ) (formed : IsWellFormed f) (ok : 
         e,
       )
 
+-- verdicts in smaller ticks, taken in the trace's, are those of the trace
 pub law_of_units : LawOfUnits
 law_of_units f tr k m formed ok range ft fv small few =
     (λ text. (check_keeps_its_text f tr k m ok ft fv text, check_came_from f tr k m formed ok range ft fv text), robust_is_of_units f tr k m ok ft fv)
 
+-- truth turns at numbers that the program keeps
 pub truth_turns_at_fractions : TruthTurnsAtFractions
 truth_turns_at_fractions f tr t formed ok range rare =
     let c = calm (2 ^ 31) (omega arith) tr (root (nodes_for f tr)) (root_calm tr ok range _ _ f.nodes formed.nodes.atoms) t rare in (

@@ -4,7 +4,8 @@ use Rattle.stl_syntax.specs.Texts.{bool_text, newline}
 use Rattle.stl_syntax.specs.declared.items.Verdict.{Verdict}
 use Rattle.report.specs.VerdictForms.{entry_begin, entry_end, separator}
 
-begins : (json in_it : Bool) → length (if json then (if in_it then codes "{\"on\":\"[" else codes "{\"on\":\"(") else (if in_it then codes "[" else codes "(")) ≤ 8
+begins : (json in_it : Bool)
+    → length (if json then (if in_it then codes "{\"on\":\"[" else codes "{\"on\":\"(") else (if in_it then codes "[" else codes "(")) ≤ 8
 begins true true = omega arith
 begins true false = omega arith
 begins false true = omega arith
@@ -16,7 +17,8 @@ lines true false = omega arith
 lines false true = omega arith
 lines false false = omega arith
 
-objects : (in_it holds last : Bool) → length ((if in_it then codes "]" else codes ")") ++ codes "\",\"value\":" ++ bool_text holds ++ codes "}" ++ separator last) ≤ 18
+objects : (in_it holds last : Bool)
+    → length ((if in_it then codes "]" else codes ")") ++ codes "\",\"value\":" ++ bool_text holds ++ codes "}" ++ separator last) ≤ 18
 objects true true true = omega arith
 objects true true false = omega arith
 objects true false true = omega arith

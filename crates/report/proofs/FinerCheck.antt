@@ -7,6 +7,7 @@ use Rattle.report.proofs.FinerTrees.{root_finer}
 use Rattle.report.proofs.FinerTruth.{some_power}
 use Rattle.report.proofs.FinerVerdicts.{verdicts_by, verdicts_describe, start_line_by, verdict_lines_by}
 
+-- `check` writes the same text in smaller ticks
 pub check_keeps_its_text : CheckKeepsItsText
 check_keeps_its_text f tr k m ok ft fv text (verdicts, body, line, d, l, s, e) =
     let p = root (nodes_for f tr) in

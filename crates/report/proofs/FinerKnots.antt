@@ -27,17 +27,21 @@ use Rattle.report.proofs.KnotsChange.{Change}
 pub shrink-stretch : (K : ℕ) (p : 0 < K) (t : Rational) → shrink K p (stretch K t) ≈ t
 shrink-stretch K p t = record { same = omega arith }
 
+-- another way to write a time has the same part
 pub shrink_same : (K : ℕ) (p : 0 < K) (t u : Rational) → t ≈ u → shrink K p t ≈ shrink K p u
 shrink_same K p t u e =
     same_back K p (same_trans (stretch-shrink K p t) (same_trans e (same_sym (stretch-shrink K p u))))
 
+-- parts are ordered as the times
 pub shrink_lt : (K : ℕ) (p : 0 < K) (t u : Rational) → t <ʳ u → shrink K p t <ʳ shrink K p u
 shrink_lt K p t u h =
     lt_back K (lt_of_le_of_lt (le_of_same (stretch-shrink K p t)) (lt_of_lt_of_le h (ge_of_same (stretch-shrink K p u))))
 
+-- the M-th part of M times a value is the value
 pub shrink-stretchᵉ : (M : ℕ) (p : 0 < M) (v : Extended) → shrinkᵉ M p (stretchᵉ M v) ≈ᵉ v
 shrink-stretchᵉ M p v = same_backᵉ M p (shrinkᵉ M p (stretchᵉ M v)) v (stretch-shrinkᵉ M p (stretchᵉ M v))
 
+-- another way to write a value has the same part
 pub shrink_sameᵉ : (M : ℕ) (p : 0 < M) (v w : Extended) → v ≈ᵉ w → shrinkᵉ M p v ≈ᵉ shrinkᵉ M p w
 shrink_sameᵉ M p v w e =
     same_backᵉ M p (shrinkᵉ M p v) (shrinkᵉ M p w)
@@ -67,22 +71,26 @@ line_part K M p f = record {
 }
 
 module _ (K M : ℕ) (kp : 0 < K) (mp : 0 < M) where
+  -- a function of time in smaller ticks
   pub affine_by : Affine → Affine
   affine_by always_low = always_low
   affine_by (affine f) = affine (line_by K M kp f)
   affine_by always_high = always_high
 
+  -- and back
   pub affine_part : Affine → Affine
   affine_part always_low = always_low
   affine_part (affine f) = affine (line_part K M mp f)
   affine_part always_high = always_high
 
+  -- it has the value times M at the time times K
   pub affine_is : (f : Affine) (t : Rational) → value_at (affine_by f) (stretch K t) ≈ᵉ stretchᵉ M (value_at f t)
   unfolding affine_by line_by
   affine_is always_low t = same_reflᵉ minus_infinity
   affine_is (affine f) t = finite_same (at_by f (line_by K M kp f) K M t refl refl refl refl refl)
   affine_is always_high t = same_reflᵉ infinity
 
+  -- and the M-th part at the K-th part
   pub affine_part_is : (f : Affine) (t : Rational) → value_at (affine_part f) (shrink K kp t) ≈ᵉ shrinkᵉ M mp (value_at f t)
   unfolding affine_part line_part
   affine_part_is always_low t = same_reflᵉ minus_infinity
@@ -176,6 +184,7 @@ ratio_by num den p D K =
 times_part : (x y K den u v : ℕ) → u ≡ x * K → v ≡ y * K → u * den + K * y * den ≡ K * x * den + v * den
 times_part x y K den u v a b = rw (a, b) (omega arith)
 
+-- a fraction whose numerator is times K is K times the fraction
 pub ratio_of : (num : ℤ) (den : ℕ) (p : 0 < den) (K : ℕ) → ratio (num *ℤ pos K) den p ≈ stretch K (ratio num den p)
 ratio_of num den p K = record { same = times_part (part_above num) (part_below num) K den _ _ (above_of num K) (below_of num K) }
 
@@ -190,7 +199,9 @@ number_text_by digits k t text h = record {
   is = h.is;
 }
 
-pub number_text_back : (digits k : ℕ) (p : 0 < 10 ^ k) (t : Rational) (text : List ℕ) → IsNumberText (digits + k) t text → IsNumberText digits (shrink (10 ^ k) p t) text
+-- a number's text in smaller ticks is that of its part in the larger ones
+pub number_text_back : (digits k : ℕ) (p : 0 < 10 ^ k) (t : Rational) (text : List ℕ) → IsNumberText (digits + k) t text
+    → IsNumberText digits (shrink (10 ^ k) p t) text
 number_text_back digits k p t text h = record {
   num = h.num;
   den = h.den;
@@ -201,12 +212,15 @@ number_text_back digits k p t text h = record {
   is = h.is;
 }
 
+-- a value's text is that of M times it in smaller ticks
 pub value_text_by : (digits m : ℕ) (v : Extended) (text : List ℕ) → IsValueText digits v text → IsValueText (digits + m) (stretchᵉ (10 ^ m) v) text
 value_text_by digits m minus_infinity text h = h
 value_text_by digits m (finite x) text h = number_text_by digits m x text h
 value_text_by digits m infinity text h = h
 
-pub value_text_back : (digits m : ℕ) (p : 0 < 10 ^ m) (v : Extended) (text : List ℕ) → IsValueText (digits + m) v text → IsValueText digits (shrinkᵉ (10 ^ m) p v) text
+-- and back
+pub value_text_back : (digits m : ℕ) (p : 0 < 10 ^ m) (v : Extended) (text : List ℕ) → IsValueText (digits + m) v text
+    → IsValueText digits (shrinkᵉ (10 ^ m) p v) text
 value_text_back digits m p minus_infinity text h = h
 value_text_back digits m p (finite x) text h = number_text_back digits m p x text h
 value_text_back digits m p infinity text h = h

@@ -10,7 +10,8 @@ use Rattle.rational.proofs.AffineLemmas.{same_reflᵉ, same_symᵉ, same_trans�
 use Rattle.rational.proofs.Sups.{sup_value_same, inf_value_same}
 use Rattle.rational.proofs.WindowLemmas.{inf_over_alike, to_same, from_same}
 use Rattle.stl_syntax.specs.Trace.{Trace, IsTrace, start, stop}
-use Rattle.stl_syntax.specs.Formula.{Subformula, constant, atom, negation, conjunction, disjunction, implication, until, eventually, always, since, once, historically}
+use Rattle.stl_syntax.specs.Formula.{Subformula, constant, atom, negation, conjunction, disjunction}
+use Rattle.stl_syntax.specs.Formula.{implication, until, eventually, always, since, once, historically}
 use Rattle.stl_syntax.specs.Truth.{expression}
 use Rattle.stl_syntax.specs.SupInf.{SupInf, margin, margin_setting}
 use Rattle.stl_syntax.specs.Scaling.{scaled_atom}
@@ -22,7 +23,9 @@ use Rattle.report.proofs.Stretch.{stretch, shrink, stretch-shrink, within_stretc
 use Rattle.report.proofs.FinerTrees.{finer_tree}
 use Rattle.report.proofs.FinerTraces.{expression_by}
 use Rattle.report.proofs.FinerTruth.{fine, ends, ahead_by, ahead_back, ahead_at, behind_by, behind_back, behind_at}
-use Rattle.report.proofs.FinerValues.{stretchᵉ, shrinkᵉ, opposite_stretch, stretch-shrinkᵉ, same_stretchᵉ, same_backᵉ, least_by, least_back, greatest_by, greatest_back, least_same, greatest_same, AreTimes, sup_by, sup_back, inf_by, inf_back}
+use Rattle.report.proofs.FinerValues.{stretchᵉ, shrinkᵉ, opposite_stretch, stretch-shrinkᵉ, same_stretchᵉ}
+use Rattle.report.proofs.FinerValues.{same_backᵉ, least_by, least_back, greatest_by, greatest_back, least_same}
+use Rattle.report.proofs.FinerValues.{greatest_same, AreTimes, sup_by, sup_back, inf_by, inf_back}
 
 -- a value by another pair is the value too
 pub value_alike : (p : Subformula) (tr : Trace) (t : Rational) (r s : Extended) → r ≈ᵉ s → SupInf p (margin_setting tr) t r → SupInf p (margin_setting tr) t s
@@ -201,7 +204,8 @@ module _ (K M : ℕ) (kp : 0 < K) (mp : 0 < M) where
         (margins_by p t (shrinkᵉ M mp x)).1 ((of_numbers p).values (stretch K t) x (stretchᵉ M (shrinkᵉ M mp x)) (whole_of x) f),
         (margins_by q t (shrinkᵉ M mp y)).1 ((of_numbers q).values (stretch K t) y (stretchᵉ M (shrinkᵉ M mp y)) (whole_of y) g),
         least_back M mp (shrinkᵉ M mp x) (shrinkᵉ M mp y) v
-            (least_same x (stretchᵉ M (shrinkᵉ M mp x)) y (stretchᵉ M (shrinkᵉ M mp y)) (stretchᵉ M v) (stretchᵉ M v) (whole_of x) (whole_of y) (same_reflᵉ (stretchᵉ M v)) l),
+            (least_same x (stretchᵉ M (shrinkᵉ M mp x)) y (stretchᵉ M (shrinkᵉ M mp y)) (stretchᵉ M v) (stretchᵉ M v) (whole_of x)
+            (whole_of y) (same_reflᵉ (stretchᵉ M v)) l),
       ),
     )
     margins_by (disjunction p q) t v = (
@@ -212,7 +216,8 @@ module _ (K M : ℕ) (kp : 0 < K) (mp : 0 < M) where
         (margins_by p t (shrinkᵉ M mp x)).1 ((of_numbers p).values (stretch K t) x (stretchᵉ M (shrinkᵉ M mp x)) (whole_of x) f),
         (margins_by q t (shrinkᵉ M mp y)).1 ((of_numbers q).values (stretch K t) y (stretchᵉ M (shrinkᵉ M mp y)) (whole_of y) g),
         greatest_back M mp (shrinkᵉ M mp x) (shrinkᵉ M mp y) v
-            (greatest_same x (stretchᵉ M (shrinkᵉ M mp x)) y (stretchᵉ M (shrinkᵉ M mp y)) (stretchᵉ M v) (stretchᵉ M v) (whole_of x) (whole_of y) (same_reflᵉ (stretchᵉ M v)) l),
+            (greatest_same x (stretchᵉ M (shrinkᵉ M mp x)) y (stretchᵉ M (shrinkᵉ M mp y)) (stretchᵉ M v) (stretchᵉ M v)
+            (whole_of x) (whole_of y) (same_reflᵉ (stretchᵉ M v)) l),
       ),
     )
     margins_by (implication p q) t v = (
@@ -241,10 +246,12 @@ module _ (K M : ℕ) (kp : 0 < K) (mp : 0 < M) where
         inf_finer (Ahead (start tr) (stop tr) a b i j t) (Ahead (start smaller) (stop smaller) (K * a) (K * b) i j (stretch K t)) (F p) (G p) t
         (ahead_windows a b i j t) (of_numbers p) (λ u m. record { forth = λ x. (margins_by p u x).0; back = λ x. (margins_by p u x).1 }) v
     margins_by (once a b i j p) t v =
-        sup_finer (Behind (start tr) (stop tr) a b i j t) (Behind (start smaller) (stop smaller) (K * a) (option_map (λ b. K * b) b) i j (stretch K t)) (F p) (G p) t
+        sup_finer (Behind (start tr) (stop tr) a b i j t)
+        (Behind (start smaller) (stop smaller) (K * a) (option_map (λ b. K * b) b) i j (stretch K t)) (F p) (G p) t
         (behind_windows a b i j t) (of_numbers p) (λ u m. record { forth = λ x. (margins_by p u x).0; back = λ x. (margins_by p u x).1 }) v
     margins_by (historically a b i j p) t v =
-        inf_finer (Behind (start tr) (stop tr) a b i j t) (Behind (start smaller) (stop smaller) (K * a) (option_map (λ b. K * b) b) i j (stretch K t)) (F p) (G p) t
+        inf_finer (Behind (start tr) (stop tr) a b i j t)
+        (Behind (start smaller) (stop smaller) (K * a) (option_map (λ b. K * b) b) i j (stretch K t)) (F p) (G p) t
         (behind_windows a b i j t) (of_numbers p) (λ u m. record { forth = λ x. (margins_by p u x).0; back = λ x. (margins_by p u x).1 }) v
     margins_by (until a b p q) t v =
         sup_finer (Ahead (start tr) (stop tr) a b true true t) (Ahead (start smaller) (stop smaller) (K * a) (K * b) true true (stretch K t))
@@ -258,7 +265,8 @@ module _ (K M : ℕ) (kp : 0 < K) (mp : 0 < M) where
               (record { forth = λ y. (margins_by q u y).0; back = λ y. (margins_by q u y).1 }) x;
         }) v
     margins_by (since a b p q) t v =
-        sup_finer (Behind (start tr) (stop tr) a b true true t) (Behind (start smaller) (stop smaller) (K * a) (option_map (λ b. K * b) b) true true (stretch K t))
+        sup_finer (Behind (start tr) (stop tr) a b true true t)
+        (Behind (start smaller) (stop smaller) (K * a) (option_map (λ b. K * b) b) true true (stretch K t))
         (IsDownTo infinity (F p) (F q) t) (IsDownTo infinity (G p) (G q) (stretch K t)) t (behind_windows a b true true t)
         (down_of_numbers (G p) (G q) (stretch K t) (of_numbers q)) (λ u m. record {
           forth = λ x. run_by (F p) (F q) (G p) (G q) (of_numbers p) (of_numbers q) u t u

@@ -11,6 +11,7 @@ use Rattle.report.proofs.FinerTruth.{some_power}
 use Rattle.report.proofs.KnotsChange.{knots_by, describes_by, margin_lines_by}
 use Rattle.report.proofs.FinerKnots.{to_smaller, from_smaller, number_text_by, number_text_back, value_text_by, value_text_back}
 
+-- `robust` in smaller ticks writes the same text
 pub robust_is_of_units : RobustIsOfUnits
 robust_is_of_units f tr k m ok ft fv text = (forth, back)
   where

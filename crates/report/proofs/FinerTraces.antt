@@ -9,14 +9,16 @@ use Rattle.rational.specs.Time.{Rational, ◌≈◌, whole, less, negate, times}
 use Rattle.rational.proofs.Order.{same_sym, same_trans, le_of_same, ge_of_same, lt_of_lt_of_le}
 use Rattle.rational.proofs.Field.{same_add, same_negate}
 use Rattle.rational.proofs.TimeLemmas.{same_times, less_in, less_out}
-use Rattle.stl_syntax.specs.Trace.{Column, Row, Trace, IsTrace, AreRows, AreRowsAfter, row_time, value, line_between, piece, value_from, column_value, value_among, value_of, first_time, last_time, start, stop}
+use Rattle.stl_syntax.specs.Trace.{Column, Row, Trace, IsTrace, AreRows, AreRowsAfter, row_time, value, line_between, piece}
+use Rattle.stl_syntax.specs.Trace.{value_from, column_value, value_among, value_of, first_time, last_time, start, stop}
 use Rattle.stl_syntax.specs.Truth.{sum_at, expression, holds_at}
 use Rattle.stl_syntax.specs.Scaling.{scaled_atom}
 use Rattle.stl_syntax.specs.declared.scale.Scale.{Scale}
 use Rattle.stl_syntax.specs.declared.atom.Atom.{Atom}
 use Rattle.stl_syntax.specs.declared.atom.Term.{Term}
 use Rattle.stl_syntax.proofs.TruthLemmas.{compares_same}
-use Rattle.report.proofs.Stretch.{stretch, stretch_lt, lt_back, add_stretch, times_stretch, above-times, below-times, whole_stretch, compares_stretch, compares_back}
+use Rattle.report.proofs.Stretch.{stretch, stretch_lt, lt_back, add_stretch, times_stretch, above-times}
+use Rattle.report.proofs.Stretch.{below-times, whole_stretch, compares_stretch, compares_back}
 
 -- the test of the order against a number K times larger
 less_by : (K : ℕ) → 0 < K → (t u v : Rational) → v ≈ stretch K u → less (stretch K t) v ≡ less t u
@@ -113,6 +115,7 @@ module _ (K M : ℕ) (kp : 0 < K) (mp : 0 < M) where
     abbrev pub trace_by : Trace
     trace_by = record { header = record { columns = tr.header.columns; scale = scale }; rows = map row_by tr.rows }
 
+    -- a column's value at K times a time is M times what it was
     pub value_of_by : (name : List ℕ) (t : Rational) → value_of trace_by name (stretch K t) ≈ stretch M (value_of tr name t)
     unfolding value_of
     value_of_by name t = among_by tr.header.columns 0 (length tr.header.columns) tr.rows name t ok.rows
@@ -151,6 +154,7 @@ module _ (K M : ℕ) (kp : 0 < K) (mp : 0 < M) where
         by_rows [] = record { same = omega arith }
         by_rows (r ∷ rows) = record { same = omega arith }
 
+    -- the trace ends at K times its end
     pub stop_by : stop trace_by ≈ stretch K (stop tr)
     stop_by = by_rows tr.rows
       where

@@ -1,11 +1,14 @@
 -- A formula in smaller ticks: its bounds times A, its constants times B.
-use Rattle.std.proofs.Common.{◌≡◌, ℕ, zero, suc, ◌+◌, ◌-◌, ◌*◌, ◌^◌, ◌≤◌, List, [], ◌∷◌, ◌++◌, map, length, refl, sym, ap, ◌∙◌, arith, ℤ, pos, negsuc, Option, Some, None, false}
+use Rattle.std.proofs.Common.{◌≡◌, ℕ, zero, suc, ◌+◌, ◌-◌, ◌*◌, ◌^◌, ◌≤◌, List, [], ◌∷◌, ◌++◌, map, length}
+use Rattle.std.proofs.Common.{refl, sym, ap, ◌∙◌, arith, ℤ, pos, negsuc, Option, Some, None, false}
 use Rattle.std.specs.Prelude.{neg_ℤ, ◌*ℤ◌, option_map}
 use Rattle.std.proofs.Math.Nat.{mul_assoc}
 use Rattle.std.proofs.Math.ListN.{get_or-map}
 use Rattle.std.proofs.lemmas.List.{length-map, map-append}
 use Rattle.std.proofs.lemmas.Nat.{pow-add}
-use Rattle.stl_syntax.specs.Formula.{Formula, Subformula, constant, atom, negation, conjunction, disjunction, implication, until, eventually, always, since, once, historically, tree_of, tree_at, trees_after, subformula, root}
+use Rattle.stl_syntax.specs.Formula.{Formula, Subformula, constant, atom, negation, conjunction}
+use Rattle.stl_syntax.specs.Formula.{disjunction, implication, until, eventually, always, since, once}
+use Rattle.stl_syntax.specs.Formula.{historically, tree_of, tree_at, trees_after, subformula, root}
 use Rattle.stl_syntax.specs.Scaling.{scaled_atom, scaled_node, scaled}
 use Rattle.stl_syntax.specs.declared.scale.Scale.{Scale}
 use Rattle.stl_syntax.specs.declared.node.Node.{Node}
@@ -62,6 +65,7 @@ module _ (A B : ℕ) where
   subformula_by nodes i =
       ap (λ ts. tree_at ts i) (trees_by [] nodes) ∙ get_or-map (finer_tree A B) (trees_after [] nodes) i (constant false)
 
+  -- the root in smaller ticks is the root's tree in smaller ticks
   pub root_by : (nodes : List Node) → root (map (scaled_node A B) nodes) ≡ finer_tree A B (root nodes)
   root_by nodes =
       ap (λ n. subformula (map (scaled_node A B) nodes) (n - 1)) (length-map nodes (scaled_node A B)) ∙ subformula_by nodes (length nodes - 1)
@@ -102,7 +106,8 @@ root_finer f scale k m t v =
     let a : 10 ^ (scale.time + k - f.scale.time) ≡ 10 ^ k * A =
     ap (λ j. 10 ^ j) (let e : scale.time + k - f.scale.time ≡ k + (scale.time - f.scale.time) = omega arith in e) ∙ pow-add 10 k (scale.time - f.scale.time) in
     let b : 10 ^ (scale.value + m - f.scale.value) ≡ 10 ^ m * B =
-    ap (λ j. 10 ^ j) (let e : scale.value + m - f.scale.value ≡ m + (scale.value - f.scale.value) = omega arith in e) ∙ pow-add 10 m (scale.value - f.scale.value) in
+    ap (λ j. 10 ^ j) (let e : scale.value + m - f.scale.value ≡ m + (scale.value - f.scale.value) = omega arith in e)
+    ∙ pow-add 10 m (scale.value - f.scale.value) in
     root_by (10 ^ (scale.time + k - f.scale.time)) (10 ^ (scale.value + m - f.scale.value)) f.nodes
     ∙ (ap (λ x. finer_tree x (10 ^ (scale.value + m - f.scale.value)) (root f.nodes)) a
     ∙ (ap (λ x. finer_tree (10 ^ k * A) x (root f.nodes)) b

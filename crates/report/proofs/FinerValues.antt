@@ -33,6 +33,7 @@ le_stretchᵉ M infinity minus_infinity h = h
 le_stretchᵉ M infinity (finite y) h = h
 le_stretchᵉ M infinity infinity h = tt
 
+-- values times M are ordered as the values
 pub lt_stretchᵉ : (M : ℕ) → 0 < M → (v w : Extended) → v <ᵉ w → stretchᵉ M v <ᵉ stretchᵉ M w
 lt_stretchᵉ M p minus_infinity minus_infinity h = h
 lt_stretchᵉ M p minus_infinity (finite y) h = tt
@@ -52,6 +53,7 @@ le_backᵉ M p infinity minus_infinity h = h
 le_backᵉ M p infinity (finite y) h = h
 le_backᵉ M p infinity infinity h = tt
 
+-- and the other way round
 pub lt_backᵉ : (M : ℕ) (v w : Extended) → stretchᵉ M v <ᵉ stretchᵉ M w → v <ᵉ w
 lt_backᵉ M minus_infinity minus_infinity h = h
 lt_backᵉ M minus_infinity (finite y) h = tt
@@ -61,9 +63,11 @@ lt_backᵉ M (finite x) (finite y) h = lt_back M h
 lt_backᵉ M (finite x) infinity h = tt
 lt_backᵉ M infinity w h = h
 
+-- and are the same where these are
 pub same_stretchᵉ : (M : ℕ) (v w : Extended) → v ≈ᵉ w → stretchᵉ M v ≈ᵉ stretchᵉ M w
 same_stretchᵉ M v w e = record { at_most = le_stretchᵉ M v w e.at_most; at_least = le_stretchᵉ M w v e.at_least }
 
+-- and the other way round
 pub same_backᵉ : (M : ℕ) → 0 < M → (v w : Extended) → stretchᵉ M v ≈ᵉ stretchᵉ M w → v ≈ᵉ w
 same_backᵉ M p v w e = record { at_most = le_backᵉ M p v w e.at_most; at_least = le_backᵉ M p w v e.at_least }
 
@@ -85,6 +89,7 @@ least_by M v w r l = record {
   one_of = either (le_stretchᵉ M v r) (le_stretchᵉ M w r) l.one_of;
 }
 
+-- the least of values times M is M times the least
 pub least_back : (M : ℕ) → 0 < M → (v w r : Extended) → IsLeast (stretchᵉ M v) (stretchᵉ M w) (stretchᵉ M r) → IsLeast v w r
 least_back M p v w r l = record {
   left = le_backᵉ M p r v l.left;
@@ -92,6 +97,7 @@ least_back M p v w r l = record {
   one_of = either (le_backᵉ M p v r) (le_backᵉ M p w r) l.one_of;
 }
 
+-- M times the greatest is the greatest of values times M
 pub greatest_by : (M : ℕ) (v w r : Extended) → IsGreatest v w r → IsGreatest (stretchᵉ M v) (stretchᵉ M w) (stretchᵉ M r)
 greatest_by M v w r l = record {
   left = le_stretchᵉ M v r l.left;
@@ -99,6 +105,7 @@ greatest_by M v w r l = record {
   one_of = either (le_stretchᵉ M r v) (le_stretchᵉ M r w) l.one_of;
 }
 
+-- and the other way round
 pub greatest_back : (M : ℕ) → 0 < M → (v w r : Extended) → IsGreatest (stretchᵉ M v) (stretchᵉ M w) (stretchᵉ M r) → IsGreatest v w r
 greatest_back M p v w r l = record {
   left = le_backᵉ M p v r l.left;
@@ -111,19 +118,24 @@ pub least_same : (v v' w w' r r' : Extended) → v ≈ᵉ v' → w ≈ᵉ w' →
 least_same v v' w w' r r' a b c l = record {
   left = le_transᵉ r' r v' c.at_least (le_transᵉ r v v' l.left a.at_most);
   right = le_transᵉ r' r w' c.at_least (le_transᵉ r w w' l.right b.at_most);
-  one_of = either (λ h. le_transᵉ v' v r' a.at_least (le_transᵉ v r r' h c.at_most)) (λ h. le_transᵉ w' w r' b.at_least (le_transᵉ w r r' h c.at_most)) l.one_of;
+  one_of = either (λ h. le_transᵉ v' v r' a.at_least (le_transᵉ v r r' h c.at_most))
+      (λ h. le_transᵉ w' w r' b.at_least (le_transᵉ w r r' h c.at_most)) l.one_of;
 }
 
+-- another way to write values has the same greatest
 pub greatest_same : (v v' w w' r r' : Extended) → v ≈ᵉ v' → w ≈ᵉ w' → r ≈ᵉ r' → IsGreatest v w r → IsGreatest v' w' r'
 greatest_same v v' w w' r r' a b c l = record {
   left = le_transᵉ v' v r' a.at_least (le_transᵉ v r r' l.left c.at_most);
   right = le_transᵉ w' w r' b.at_least (le_transᵉ w r r' l.right c.at_most);
-  one_of = either (λ h. le_transᵉ r' r v' c.at_least (le_transᵉ r v v' h a.at_most)) (λ h. le_transᵉ r' r w' c.at_least (le_transᵉ r w w' h b.at_most)) l.one_of;
+  one_of = either (λ h. le_transᵉ r' r v' c.at_least (le_transᵉ r v v' h a.at_most))
+      (λ h. le_transᵉ r' r w' c.at_least (le_transᵉ r w w' h b.at_most)) l.one_of;
 }
 
 -- the values of Q are M times those of P
 pub record AreTimes (M : ℕ) (p : 0 < M) (P Q : Extended → Type 0) : Type 0 where
+  -- what is so is, times M, so in smaller ticks
   pub forth : (v : Extended) → P v → Q (stretchᵉ M v)
+  -- and the other way round
   pub back : (w : Extended) → Q w → P (shrinkᵉ M p w)
 
 module _ (M : ℕ) (p : 0 < M) {P Q : Extended → Type 0} (e : AreTimes M p P Q) where
@@ -149,6 +161,7 @@ module _ (M : ℕ) (p : 0 < M) {P Q : Extended → Type 0} (e : AreTimes M p P Q
         (stretchᵉ M v, e.forth v q, lt_of_le_of_ltᵉ w (stretchᵉ M (part w)) (stretchᵉ M v) (whole_is w).at_least (lt_stretchᵉ M p (part w) v m));
   }
 
+  -- the Sup in smaller ticks is M times the Sup
   pub sup_back : (r : Extended) → IsSup minus_infinity Q (stretchᵉ M r) → IsSup minus_infinity P r
   sup_back r h = record {
     at_least = tt;
@@ -169,6 +182,7 @@ module _ (M : ℕ) (p : 0 < M) {P Q : Extended → Type 0} (e : AreTimes M p P Q
         (stretchᵉ M v, e.forth v q, lt_of_lt_of_leᵉ (stretchᵉ M v) (stretchᵉ M (part w)) w (lt_stretchᵉ M p v (part w) m) (whole_is w).at_most);
   }
 
+  -- and so the Inf
   pub inf_back : (r : Extended) → IsInf infinity Q (stretchᵉ M r) → IsInf infinity P r
   inf_back r h = record {
     at_most = below_infinity r;

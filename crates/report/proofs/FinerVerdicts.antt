@@ -1,5 +1,6 @@
 -- Verdicts in smaller ticks.
-use Rattle.std.proofs.Common.{◌≡◌, ℕ, zero, suc, ◌+◌, ◌-◌, ◌*◌, ◌/◌, ◌%◌, ◌^◌, ◌<◌, ◌&&◌, Bool, true, false, List, [], ◌∷◌, refl, sym, ap, subst, arith, ℤ, pos, negsuc, MatchBool}
+use Rattle.std.proofs.Common.{◌≡◌, ℕ, zero, suc, ◌+◌, ◌-◌, ◌*◌, ◌/◌, ◌%◌, ◌^◌, ◌<◌, ◌&&◌, Bool, true, false}
+use Rattle.std.proofs.Common.{List, [], ◌∷◌, refl, sym, ap, subst, arith, ℤ, pos, negsuc, MatchBool}
 use Rattle.std.proofs.Math.Nat.{mul-pos, mul-le-mul_left, mul-lt-mul_of_pos_left, lt_of_mul-lt-mul_left, zero-lt-suc}
 use Rattle.std.proofs.lemmas.Nat.Gcd.{le_of_dvd}
 use Prim.Native.Nat.{◌∣◌}
@@ -29,7 +30,9 @@ use Rattle.report.proofs.FinerKnots.{number_text_by}
 
 -- K times a number that the program keeps
 pub record TimesFrac (K : ℕ) (f : Frac) : Type 0 where
+  -- the number that is kept
   pub frac : Frac
+  -- it is K times the other
   pub same : value frac ≈ stretch K (value f)
 
 above_zero : (K N q R r D d m : ℕ) → q * D + r ≡ K * R → r * d ≡ m * D
@@ -77,6 +80,7 @@ module _ (K : ℕ) (p : 0 < K) where
                     (record { same = below_zero K (suc n) q f.rest r f.den d m (suc x) (omega (arith, more, y)) e g });
               }
 
+  -- each number has one that is K times it
   pub times_frac : (f : Frac) → TimesFrac K f
   times_frac f =
       times_by f (K * f.rest / f.den) (K * f.rest % f.den) (div-add-mod' (K * f.rest) f.den) (let h = f.positive in omega arith)
@@ -92,8 +96,10 @@ module _ (K : ℕ) (p : 0 < K) where
   ends_by : (b : Bool) (x y : Frac) → Precedes b (value x) (value y) → Precedes b (value (frac_of x)) (value (frac_of y))
   ends_by b x y h =
       precedes_after b (value (frac_of x)) (stretch K (value x)) (value (frac_of y)) (le_of_same (frac_same x))
-      (precedes_before b (stretch K (value x)) (stretch K (value y)) (value (frac_of y)) (precedes_stretch K p b (value x) (value y) h) (ge_of_same (frac_same y)))
+      (precedes_before b (stretch K (value x)) (stretch K (value y)) (value (frac_of y))
+      (precedes_stretch K p b (value x) (value y) h) (ge_of_same (frac_same y)))
 
+  -- a span in smaller ticks has a time
   pub span_room : (on : Span) → Precedes (on.from_in && on.to_in) (value (frac_of on.from)) (value (frac_of on.to))
   span_room on = ends_by (on.from_in && on.to_in) on.from on.to (precedes_of_room (on.from_in && on.to_in) (value on.from) (value on.to) on.not_empty)
 
@@ -197,6 +203,8 @@ module _ (k : ℕ) (p : 0 < 10 ^ k) (scale other : Scale) (is : other.time ≡ s
     is = h.is;
   }
 
-  pub verdict_lines_by : (verdicts : List Verdict) (text : List ℕ) → AreVerdictLines scale verdicts text → AreVerdictLines other (verdicts_by (10 ^ k) p verdicts) text
+  -- the lines of verdicts are those of the verdicts in smaller ticks
+  pub verdict_lines_by : (verdicts : List Verdict) (text : List ℕ) → AreVerdictLines scale verdicts text
+      → AreVerdictLines other (verdicts_by (10 ^ k) p verdicts) text
   verdict_lines_by [] text h = h
   verdict_lines_by (v ∷ verdicts) text (here, later, (on, h, e), g, f) = (here, later, (on, span_text v.on on h, e), verdict_lines_by verdicts later g, f)

@@ -1,5 +1,6 @@
 -- The text of a fraction in its parts.
-use Rattle.std.proofs.Common.{◌≡◌, ◌≢◌, ℕ, zero, suc, ◌==◌, Bool, true, false, List, [], ◌++◌, ℤ, if◌then◌else◌, refl, sym, ap, ◌∙◌, append_assoc, codes, decimal}
+use Rattle.std.proofs.Common.{◌≡◌, ◌≢◌, ℕ, zero, suc, ◌==◌, Bool, true, false, List, [], ◌++◌, ℤ}
+use Rattle.std.proofs.Common.{if◌then◌else◌, refl, sym, ap, ◌∙◌, append_assoc, codes, decimal}
 use Rattle.std.proofs.lemmas.List.{append-nil}
 use Rattle.std.specs.Fmt.{signed_decimal}
 use Rattle.stl_syntax.specs.Texts.{fraction_text}
@@ -19,18 +20,23 @@ sign_append true (suc n) h = refl
 sign_append false n h = refl
 
 den_append : (num : ℤ) (den : ℕ) → signed_decimal num ++ den_text den ≡ fraction_text num den
-den_append num den = elim (den == 1) as (λ b. signed_decimal num ++ (if b then [] else codes "/" ++ decimal den) ≡ (if b then signed_decimal num else signed_decimal num ++ codes "/" ++ decimal den)) [
-  | true ↦ append-nil (signed_decimal num)
-  | false ↦ sym (append_assoc (signed_decimal num) (codes "/") (decimal den))
-]
+den_append num den = elim (den == 1) as (λ b. signed_decimal num ++ (if b then [] else codes "/" ++ decimal den)
+    ≡ (if b then signed_decimal num else signed_decimal num ++ codes "/" ++ decimal den)) [
+      | true ↦ append-nil (signed_decimal num)
+      | false ↦ sym (append_assoc (signed_decimal num) (codes "/") (decimal den))
+    ]
 
-pub fraction_parts : (negative : Bool) (size den : ℕ) → (negative ≡ true → size ≢ 0) → (sign_text negative ++ decimal size) ++ den_text den ≡ fraction_text (signed negative size) den
+-- sign, whole part and denominator make the text of a fraction
+pub fraction_parts : (negative : Bool) (size den : ℕ) → (negative ≡ true → size ≢ 0)
+    → (sign_text negative ++ decimal size) ++ den_text den ≡ fraction_text (signed negative size) den
 fraction_parts negative size den h = ap (λ w. w ++ den_text den) (sign_append negative size h) ∙ den_append (signed negative size) den
 
 -- a number below 0, and one that is not
-pub minus_text : (negative : Bool) (size : ℕ) → (negative ≡ true → size ≢ 0) → negative ≡ true → codes "-" ++ decimal size ≡ signed_decimal (signed negative size)
+pub minus_text : (negative : Bool) (size : ℕ) → (negative ≡ true → size ≢ 0) → negative ≡ true
+    → codes "-" ++ decimal size ≡ signed_decimal (signed negative size)
 minus_text negative size h e = ap (λ b. sign_text b ++ decimal size) (sym e) ∙ sign_append negative size h
 
+-- a number without sign is written by its digits
 pub plain_text : (negative : Bool) (size : ℕ) → (negative ≡ true → size ≢ 0) → negative ≡ false → decimal size ≡ signed_decimal (signed negative size)
 plain_text negative size h e = ap (λ b. sign_text b ++ decimal size) (sym e) ∙ sign_append negative size h
 
@@ -38,5 +44,6 @@ plain_text negative size h e = ap (λ b. sign_text b ++ decimal size) (sym e) �
 pub whole_text : (num : ℤ) (den : ℕ) → den ≡ 1 → signed_decimal num ≡ fraction_text num den
 whole_text num den e = ap (fraction_text num) (sym e)
 
+-- a fraction is written with its denominator
 pub parted_text : (num : ℤ) (den : ℕ) → (den == 1) ≡ false → signed_decimal num ++ (codes "/" ++ decimal den) ≡ fraction_text num den
 parted_text num den e = ap (λ b. signed_decimal num ++ (if b then [] else codes "/" ++ decimal den)) (sym e) ∙ den_append num den

@@ -62,7 +62,8 @@ in_tenths : (scaled (record { nodes = eventually_nodes; scale = no_digits }) (re
 in_tenths = refl
 
 -- at one instant the robustness of `x >= 5` is -5
-one_point : TellsClosed x_at_least_5 instant (at_time 0) (at_time 0) (record { first = record { time = at_time 0; value = finite (whole (negsuc 4)) }; pieces = [] })
+one_point : TellsClosed x_at_least_5 instant (at_time 0) (at_time 0)
+    (record { first = record { time = at_time 0; value = finite (whole (negsuc 4)) }; pieces = [] })
 unfolding expression value_of
 one_point = (record { same = refl }, record { at_most = record { le = lit≤ tt }; at_least = record { le = lit≤ tt } }, inl (refl, record { same = refl }))
 
@@ -96,17 +97,31 @@ streamed_to_end = ((refl, tt), (false_line, [], start_false, streamed, refl, (fa
 abbrev steep_knots : Knots
 steep_knots = record {
   first = record { time = at_time 0; value = value_at steep (at_time 0) };
-  pieces = record { from = value_at steep (at_time 0); to = value_at steep (at_time 1); next = record { time = at_time 1; value = value_at steep (at_time 1) } } ∷ [];
+  pieces = record {
+    from = value_at steep (at_time 0);
+    to = value_at steep (at_time 1);
+    next = record { time = at_time 1; value = value_at steep (at_time 1) };
+  } ∷ [];
 }
 
 abbrev level_knots : Knots
 level_knots = record {
   first = record { time = at_time 0; value = value_at level (at_time 0) };
-  pieces = record { from = value_at level (at_time 0); to = value_at level (at_time 1); next = record { time = at_time 1; value = value_at level (at_time 1) } } ∷ [];
+  pieces = record {
+    from = value_at level (at_time 0);
+    to = value_at level (at_time 1);
+    next = record { time = at_time 1; value = value_at level (at_time 1) };
+  } ∷ [];
 }
 
 abbrev crossing : Setting
-crossing = record { atoms = signals (placed both (steep_knots ∷ level_knots ∷ [])); lowest = minus_infinity; highest = infinity; from = at_time 0; to = at_time 1 }
+crossing = record {
+  atoms = signals (placed both (steep_knots ∷ level_knots ∷ []));
+  lowest = minus_infinity;
+  highest = infinity;
+  from = at_time 0;
+  to = at_time 1;
+}
 
 abbrev meeting : Rational
 meeting = ratio (pos 1) (2 ^ 60) (lit< tt)
@@ -120,7 +135,15 @@ steep_part = record {
   b = at_time 1;
   above = omega arith;
   below = omega arith;
-  on = λ t h k. (value_at steep t, (steep_knots, refl, inr (inl (record { after = h; before = k; through = steep; from = same_value _; to = same_value _; value = same_value _ }))), same_value _);
+  on = λ t h k. (
+    value_at steep t,
+    (
+      steep_knots,
+      refl,
+      inr (inl (record { after = h; before = k; through = steep; from = same_value _; to = same_value _; value = same_value _ })),
+    ),
+    same_value _,
+  );
 }
 
 level_part : IsPart (SupInf (atom 1 at_least_5) crossing) meeting level
@@ -129,7 +152,15 @@ level_part = record {
   b = at_time 1;
   above = omega arith;
   below = omega arith;
-  on = λ t h k. (value_at level t, (level_knots, refl, inr (inl (record { after = h; before = k; through = level; from = same_value _; to = same_value _; value = same_value _ }))), same_value _);
+  on = λ t h k. (
+    value_at level t,
+    (
+      level_knots,
+      refl,
+      inr (inl (record { after = h; before = k; through = level; from = same_value _; to = same_value _; value = same_value _ })),
+    ),
+    same_value _,
+  );
 }
 
 cause : IsCrossingCause both crossing 2 steep level (at_time 0) (at_time 1) (2 ^ 60)

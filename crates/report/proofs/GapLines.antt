@@ -1,5 +1,6 @@
 -- Between two rows each atom's expression is a line of small slope, so about a time with no small denominator it has one truth.
-use Rattle.std.proofs.Common.{◌≡◌, ℕ, suc, ◌+◌, ◌-◌, ◌*◌, ◌^◌, ◌<◌, ◌≤◌, ◌⊎◌, Bool, true, false, cond, List, [], ◌∷◌, All, length, refl, subst, sym, arith, inl, inr, ℤ, pos, negsuc, nat_abs, IsTrue}
+use Rattle.std.proofs.Common.{◌≡◌, ℕ, suc, ◌+◌, ◌-◌, ◌*◌, ◌^◌, ◌<◌, ◌≤◌, ◌⊎◌, Bool, true, false, cond, List, [], ◌∷◌}
+use Rattle.std.proofs.Common.{All, length, refl, subst, sym, arith, inl, inr, ℤ, pos, negsuc, nat_abs, IsTrue}
 use Rattle.std.specs.Prelude.{bytes_eq}
 use Rattle.std.proofs.Math.Nat.{mul-le-mul_left, mul-le-mul_right, zero-lt-suc}
 use Rattle.std.proofs.lemmas.List.{get_or_past}
@@ -12,7 +13,8 @@ use Rattle.rational.proofs.Order.{le_of_lt, le_of_same, ge_of_same, lt_of_lt_of_
 use Rattle.rational.proofs.Field.{same_add, same_subtract}
 use Rattle.rational.proofs.Lines.{lt_at, lt_at_falls, at_negate, at_solve, slope_of, at_level}
 use Rattle.rational.proofs.TimeLemmas.{same_times, less_in, less_no}
-use Rattle.stl_syntax.specs.Trace.{Column, Row, Trace, IsTrace, AreRows, IsInRange, AreInRange, row_time, value, line_between, piece, value_from, column_value, value_among, value_of}
+use Rattle.stl_syntax.specs.Trace.{Column, Row, Trace, IsTrace, AreRows, IsInRange, AreInRange, row_time, value}
+use Rattle.stl_syntax.specs.Trace.{line_between, piece, value_from, column_value, value_among, value_of}
 use Rattle.stl_syntax.specs.Formula.{atom}
 use Rattle.stl_syntax.specs.Truth.{sum_at, expression, compares}
 use Rattle.stl_syntax.specs.WellFormed.{IsTermInLimits}
@@ -88,7 +90,8 @@ soon : (t : Rational) → Near t
 soon t = record { from = by t (behind 1); to = by t (ahead 1); before = one_before t; after = one_after t }
 
 -- what the piece between two rows is
-piece_line : {t : Rational} (n : Near t) (r s : Row) (step : Bool) (c : ℕ) → IsInRange r → IsInRange s → IsLine n (suc (s.time - suc r.time)) 33554432 (piece step c r s)
+piece_line : {t : Rational} (n : Near t) (r s : Row) (step : Bool) (c : ℕ) → IsInRange r → IsInRange s
+    → IsLine n (suc (s.time - suc r.time)) 33554432 (piece step c r s)
 piece_line n r s true c h k = constant_line n (suc (s.time - suc r.time)) 33554432 (zero-lt-suc (s.time - suc r.time)) (value r c)
 piece_line n r s false c h k =
     let a = value_size r c h in
@@ -142,7 +145,8 @@ module _ (N : ℕ) (some : 1 ≤ N) where
   ]
 
 -- a choice of two functions, and the function that does not choose
-chosen_line : {t : Rational} {n : Near t} {run B : ℕ} (b : Bool) (F G : Rational → Rational) → IsLine n run B F → IsLine n run B G → IsLine n run B (λ u. cond b (F u) (G u))
+chosen_line : {t : Rational} {n : Near t} {run B : ℕ} (b : Bool) (F G : Rational → Rational) → IsLine n run B F → IsLine n run B G
+    → IsLine n run B (λ u. cond b (F u) (G u))
 chosen_line true F G l m = record { line = l.line; same_run = l.same_run; rise_up = l.rise_up; rise_down = l.rise_down; same = l.same }
 chosen_line false F G l m = record { line = m.line; same_run = m.same_run; rise_up = m.rise_up; rise_down = m.rise_down; same = m.same }
 
@@ -151,7 +155,8 @@ module _ {t : Rational} (r : Row) (rows : List Row) (p : Placed r rows t) where
   among_line : (columns : List Column) (c : ℕ) (name : List ℕ) → IsLine p.near p.run 33554432 (value_among columns c (r ∷ rows) name)
   among_line [] c name = constant_line p.near p.run 33554432 p.some (pos 0)
   among_line (k ∷ columns) c name =
-      chosen_line (bytes_eq k.name name) (column_value k.step c (r ∷ rows)) (value_among columns (suc c) (r ∷ rows) name) (p.line_of k.step c) (among_line columns (suc c) name)
+      chosen_line (bytes_eq k.name name) (column_value k.step c (r ∷ rows)) (value_among columns (suc c) (r ∷ rows) name)
+      (p.line_of k.step c) (among_line columns (suc c) name)
 
 -- c times a line, and another
 summed : ℤ → Line → Line → Line
@@ -220,7 +225,8 @@ module _ {t : Rational} (tr : Trace) (r : Row) (rows : List Row) (is : tr.rows �
 
   of_terms : (terms : List Term) → All IsTermInLimits terms → IsLine p.near p.run (slopes terms) (sum_at terms tr)
   of_terms [] h = constant_line p.near p.run 0 p.some (pos 0)
-  of_terms (x ∷ terms) h = sum_line x.coef (value_of tr x.name) (sum_at terms tr) (All-head IsTermInLimits x terms h).coef (of_name x.name) (of_terms terms (All-tail IsTermInLimits x terms h))
+  of_terms (x ∷ terms) h = sum_line x.coef (value_of tr x.name) (sum_at terms tr) (All-head IsTermInLimits x terms h).coef
+      (of_name x.name) (of_terms terms (All-tail IsTermInLimits x terms h))
 
   of_atom : (a : Atom) → length a.terms ≤ 4 → All IsTermInLimits a.terms → IsLine p.near p.run (2 ^ 31) (expression a tr)
   unfolding expression lowered

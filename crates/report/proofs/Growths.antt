@@ -6,6 +6,7 @@ use Rattle.report.specs.Appended.{Grew, GrewInPart, Then, Is}
 abbrev pub Some : (List ℕ → Type 0) → Type 0
 Some P = (text : List ℕ) × P text
 
+-- what was appended is the growth
 pub grew_is : (word old new : List ℕ) → new ≡ old ++ word → Grew (Is word) old new
 grew_is word old new e = (word, refl, e)
 
@@ -13,21 +14,27 @@ grew_is word old new e = (word, refl, e)
 pub part_none : (P : List ℕ → Type 0) (old new : List ℕ) → Some P → new ≡ old → GrewInPart P old new
 part_none P old new (text, p) e = ([], text, p, e ∙ sym (append-nil old))
 
+-- two growths, one after the other, are one
 pub grew_then : (P Q : List ℕ → Type 0) (old mid new : List ℕ) → Grew P old mid → Grew Q mid new → Grew (Then P Q) old new
 grew_then P Q old mid new (a, p, e) (b, q, f) = (a ++ b, (a, b, p, q, refl), f ∙ ap (λ w. w ++ b) e ∙ append_assoc old a b)
 
+-- a growth and a cut in the next are a cut in both
 pub part_then : (P Q : List ℕ → Type 0) (old mid new : List ℕ) → Grew P old mid → GrewInPart Q mid new → GrewInPart (Then P Q) old new
 part_then P Q old mid new (a, p, e) (b, rest, q, f) =
     (a ++ b, rest, (a, b ++ rest, p, q, append_assoc a b rest), f ∙ ap (λ w. w ++ b) e ∙ append_assoc old a b)
 
+-- a cut in the first is a cut in both, where there is a second
 pub part_first : (P Q : List ℕ → Type 0) (old new : List ℕ) → GrewInPart P old new → Some Q → GrewInPart (Then P Q) old new
 part_first P Q old new (a, rest, p, e) (b, q) = (a, rest ++ b, (a ++ rest, b, p, q, sym (append_assoc a rest b)), e)
 
+-- a growth of one kind is one of a wider kind
 pub grew_as : (P Q : List ℕ → Type 0) (old new : List ℕ) → ((w : List ℕ) → P w → Q w) → Grew P old new → Grew Q old new
 grew_as P Q old new h (a, p, e) = (a, h a p, e)
 
+-- and so is a cut
 pub part_as : (P Q : List ℕ → Type 0) (old new : List ℕ) → ((w : List ℕ) → P w → Q w) → GrewInPart P old new → GrewInPart Q old new
 part_as P Q old new h (a, rest, p, e) = (a, rest, h (a ++ rest) p, e)
 
+-- where both have a text, both together have one
 pub some_then : (P Q : List ℕ → Type 0) → Some P → Some Q → Some (Then P Q)
 some_then P Q (a, p) (b, q) = (a ++ b, (a, b, p, q, refl))

@@ -1,5 +1,6 @@
 -- The lines of items: there are some for each list, and they grow line by line.
-use Rattle.std.proofs.Common.{◌≡◌, ◌⊎◌, ℕ, ◌+◌, ◌*◌, ◌&&◌, Bool, true, false, List, [], ◌∷◌, ◌++◌, append-nil, append_assoc, refl, sym, ap, ◌∙◌, subst, inl, inr, codes}
+use Rattle.std.proofs.Common.{◌≡◌, ◌⊎◌, ℕ, ◌+◌, ◌*◌, ◌&&◌, Bool, true, false, List, [], ◌∷◌, ◌++◌}
+use Rattle.std.proofs.Common.{append-nil, append_assoc, refl, sym, ap, ◌∙◌, subst, inl, inr, codes}
 use Rattle.std.proofs.lemmas.Bool.{cases_eq, cases_Bool, and_left, and_right}
 use Rattle.std.proofs.lemmas.List.Elements.{All-nil, All-cons, All-head, All-tail}
 use Rattle.std.specs.Prelude.{All, Some, slice_get}
@@ -51,7 +52,8 @@ times_decided t u = by_number (cases_eq (t.up * u.den + u.down * t.den) (u.up * 
 
 touch_decided : (e f : Item) → Decided (Touch (interval e.on) (interval f.on))
 touch_decided e f =
-    elim (both_decided (times_decided (value f.on.from) (value e.on.to)) (not_decided (bools_decided f.on.from_in e.on.to_in))) as (λ v. Decided (Touch (interval e.on) (interval f.on))) [
+    elim (both_decided (times_decided (value f.on.from) (value e.on.to))
+    (not_decided (bools_decided f.on.from_in e.on.to_in))) as (λ v. Decided (Touch (interval e.on) (interval f.on))) [
       | inl h ↦ inl (record { time = h.0; once = h.1 })
       | inr n ↦ inr (λ h. n (h.time, h.once))
     ]
@@ -68,17 +70,22 @@ join_decided e f = by_parts (cases_eq e.node f.node) (bools_decided e.holds f.ho
 
 -- the line ends as the last item does that joined it
 pub record EndsAs (line last : Item) : Type 0 where
+  -- of the same node
   pub node : line.node ≡ last.node
+  -- with the same truth
   pub holds : line.holds ≡ last.holds
+  -- and it ends as the last one does
   pub ends : EndAlike (interval line.on) (interval last.on)
 
 -- so it joins the next item exactly where that does
 pub join_line : (line last e : Item) → EndsAs line last → Join line e → Join last e
-join_line line last e s j = (sym s.node ∙ j.0, sym s.holds ∙ j.1, record { time = same_trans j.2.time s.ends.time; once = λ h. j.2.once (h ∙ sym s.ends.inside) })
+join_line line last e s j =
+    (sym s.node ∙ j.0, sym s.holds ∙ j.1, record { time = same_trans j.2.time s.ends.time; once = λ h. j.2.once (h ∙ sym s.ends.inside) })
 
 -- and the other way round
 pub join_last : (line last e : Item) → EndsAs line last → Join last e → Join line e
-join_last line last e s j = (s.node ∙ j.0, s.holds ∙ j.1, record { time = same_trans j.2.time (same_sym s.ends.time); once = λ h. j.2.once (h ∙ s.ends.inside) })
+join_last line last e s j =
+    (s.node ∙ j.0, s.holds ∙ j.1, record { time = same_trans j.2.time (same_sym s.ends.time); once = λ h. j.2.once (h ∙ s.ends.inside) })
 
 -- each item ends as itself
 pub ends_as_itself : (e : Item) → EndsAs e e
@@ -94,11 +101,13 @@ below b t u e h = precedes_of_room false t u (subst (HasTimeBetween t u) e h)
 
 -- two spans that touch make one
 pub touch_room : (a b : Span) → Touch (interval a) (interval b) → HasTimeBetween (value a.from) (value b.to) (a.from_in && b.to_in)
-touch_room a b h = room_of_precedes (a.from_in && b.to_in) (value a.from) (value b.to) (precedes_of_lt (a.from_in && b.to_in) (value a.from) (value b.to) (by_end (cases_Bool a.to_in) (cases_Bool b.from_in)))
+touch_room a b h = room_of_precedes (a.from_in && b.to_in) (value a.from) (value b.to)
+    (precedes_of_lt (a.from_in && b.to_in) (value a.from) (value b.to) (by_end (cases_Bool a.to_in) (cases_Bool b.from_in)))
   where
     by_end : (a.to_in ≡ true) ⊎ (a.to_in ≡ false) → (b.from_in ≡ true) ⊎ (b.from_in ≡ false) → value a.from <ʳ value b.to
     by_end (inr e) d =
-        lt_of_lt_of_le (lt_of_lt_of_le (below (a.from_in && a.to_in) (value a.from) (value a.to) (and_right a.from_in a.to_in e) a.not_empty) (ge_of_same h.time))
+        lt_of_lt_of_le
+        (lt_of_lt_of_le (below (a.from_in && a.to_in) (value a.from) (value a.to) (and_right a.from_in a.to_in e) a.not_empty) (ge_of_same h.time))
         (at_most (b.from_in && b.to_in) (value b.from) (value b.to) b.not_empty)
     by_end (inl e) (inl f) = absurd (h.once (f ∙ sym e))
     by_end (inl e) (inr f) =
@@ -128,7 +137,10 @@ continued f line last (e ∷ items) s own all =
           let same : EndsAs (ended_as line e k) e = record { node = k.0; holds = k.1; ends = record { time = same_refl _; inside = refl } } in
           let longer = continued f (ended_as line e k) e items same own (All-tail (IsOfAtom f) e items all) in record {
             lines = longer.lines;
-            joined = inl (j, (ended_as line e k, refl, refl, record { time = same_refl _; inside = refl }, record { time = same_refl _; inside = refl }, longer.joined));
+            joined = inl (
+              j,
+              (ended_as line e k, refl, refl, record { time = same_refl _; inside = refl }, record { time = same_refl _; inside = refl }, longer.joined),
+            );
             atoms = longer.atoms;
           }
       | inr n ↦
@@ -168,7 +180,8 @@ abbrev pub truth_words : Bool → List ℕ
 truth_words b = codes " " ++ bool_text b ++ codes " on "
 
 -- the line of an item from its parts
-pub item_line : (scale : Scale) (f : Formula) (e : Item) (a : Atom) (name on : List ℕ) → slice_get f.nodes e.node ≡ Some (Leaf a) → IsAtomText f.scale a name → IsSpanText scale e.on on
+pub item_line : (scale : Scale) (f : Formula) (e : Item) (a : Atom) (name on : List ℕ) → slice_get f.nodes e.node ≡ Some (Leaf a)
+    → IsAtomText f.scale a name → IsSpanText scale e.on on
     → IsItemLine scale f e (name ++ truth_words e.holds ++ on ++ newline)
 item_line scale f e a name on at n s = record { atom = a; at = at; name = name; on = on; name_is = n; on_is = s; is = apart name (bool_text e.holds) on }
   where
@@ -176,7 +189,8 @@ item_line scale f e a name on at n s = record { atom = a; at = at; name = name; 
     apart name word on = simp append_assoc
 
 -- each item of an atom has a line that begins with the atom's text
-pub line_with : (scale : Scale) (f : Formula) (e : Item) (name : List ℕ) → IsOfAtom f e → ((a : Atom) → slice_get f.nodes e.node ≡ Some (Leaf a) → IsAtomText f.scale a name)
+pub line_with : (scale : Scale) (f : Formula) (e : Item) (name : List ℕ) → IsOfAtom f e
+    → ((a : Atom) → slice_get f.nodes e.node ≡ Some (Leaf a) → IsAtomText f.scale a name)
     → (on : List ℕ) × IsItemLine scale f e (name ++ truth_words e.holds ++ on ++ newline)
 line_with scale f e name own n = let on = span_exists scale e.on in (on.0, item_line scale f e own.0 name on.0 own.1 (n own.0 own.1) on.1)
 
@@ -186,7 +200,8 @@ line_exists scale f e own =
     let on = span_exists scale e.on in (_, item_line scale f e own.0 (atom_text f.scale own.0) on.0 own.1 (atom_is f.scale own.0) on.1)
 
 -- the lines of two lists, one after the other
-pub lines_join : (scale : Scale) (f : Formula) (es gs : List Item) (text more : List ℕ) → AreItemLines scale f es text → AreItemLines scale f gs more → AreItemLines scale f (es ++ gs) (text ++ more)
+pub lines_join : (scale : Scale) (f : Formula) (es gs : List Item) (text more : List ℕ) → AreItemLines scale f es text
+    → AreItemLines scale f gs more → AreItemLines scale f (es ++ gs) (text ++ more)
 lines_join scale f [] gs text more h k = rw h k
 lines_join scale f (e ∷ es) gs text more h k =
     let p = h.2 in (

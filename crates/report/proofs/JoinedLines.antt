@@ -15,11 +15,17 @@ items_at items i e h = drop_more items i e (slice_get_within items i e h) ∙ ap
 
 -- what is read of the items from a place on: a line, up to an item with which it ends
 pub record IsReading (items : List Item) (i k : ℕ) (line : Item) : Type 0 where
+  -- some items were joined
   pub below : i < k
+  -- of those that there are
   pub within : k ≤ length items
+  -- the last of them
   pub last : Item
+  -- the line ends as it does
   pub as_last : EndsAs line last
+  -- what is left joins on as it does from there
   pub lines : (all : List Item) → AreJoined line last (drop k items) all → IsItemLines (drop i items) all
+  -- and is of the same node
   pub node : (e : Item) (more : List Item) → drop i items ≡ e ∷ more → line.node ≡ e.node
 
 head_node : (e f : Item) (more rest : List Item) → e ∷ more ≡ f ∷ rest → e.node ≡ f.node
@@ -43,7 +49,8 @@ reading_first items i e h =
     }
 
 -- an item joins it
-pub reading_longer : (items : List Item) (i k : ℕ) (line e longer : Item) → IsReading items i k line → slice_get items k ≡ Some e → Join line e → IsLonger line e longer
+pub reading_longer : (items : List Item) (i k : ℕ) (line e longer : Item) → IsReading items i k line → slice_get items k ≡ Some e
+    → Join line e → IsLonger line e longer
     → IsReading items i (k + 1) longer
 reading_longer items i k line e longer r h j l =
     let inside : k < length items = slice_get_within items k e h in record {
@@ -57,7 +64,8 @@ reading_longer items i k line e longer r h j l =
     }
 
 -- an item that does not join it begins the next line
-pub reading_ends : (items : List Item) (i k : ℕ) (line e : Item) → IsReading items i k line → slice_get items k ≡ Some e → ¬ Join line e → IsFirstLine (drop i items) (drop k items) line
+pub reading_ends : (items : List Item) (i k : ℕ) (line e : Item) → IsReading items i k line → slice_get items k ≡ Some e
+    → ¬ Join line e → IsFirstLine (drop i items) (drop k items) line
 reading_ends items i k line e r h n = record {
   before = λ others o. r.lines (line ∷ others) (subst (λ xs. AreJoined line r.last xs (line ∷ others)) (sym (items_at items k e h))
       (inr (λ j. n (join_last line r.last e r.as_last j), (others, refl, subst (λ xs. IsItemLines xs others) (items_at items k e h) o))));
@@ -65,7 +73,8 @@ reading_ends items i k line e r h n = record {
 }
 
 -- and behind the last item there is none
-pub reading_all : (items : List Item) (i k n : ℕ) (line : Item) → IsReading items i k line → length items ≤ k → n ≡ length items → IsFirstLine (drop i items) (drop n items) line
+pub reading_all : (items : List Item) (i k n : ℕ) (line : Item) → IsReading items i k line → length items ≤ k → n ≡ length items
+    → IsFirstLine (drop i items) (drop n items) line
 reading_all items i k n line r h e =
     let nothing : drop n items ≡ [] = drop_all n items (omega (arith, e)) in record {
       before = λ others o. r.lines (line ∷ others) (subst (λ xs. AreJoined line r.last xs (line ∷ others)) (sym (drop_all k items h))

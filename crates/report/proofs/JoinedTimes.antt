@@ -18,15 +18,18 @@ Say (e ∷ items) i b t = ((e.node ≡ i) × (e.holds ≡ b) × IsIn (interval e
 abbrev pub SayMore : List Item → List Item → Type 0
 SayMore xs ys = (i : ℕ) (b : Bool) (t : Rational) → Say xs i b t → Say ys i b t
 
+-- what the first items say both lists say
 pub say_left : (xs ys : List Item) → SayMore xs (xs ++ ys)
 say_left [] ys i b t h = absurd h
 say_left (e ∷ xs) ys i b t (inl h) = inl h
 say_left (e ∷ xs) ys i b t (inr h) = inr (say_left xs ys i b t h)
 
+-- and what the second say
 pub say_right : (xs ys : List Item) → SayMore ys (xs ++ ys)
 say_right [] ys i b t h = h
 say_right (e ∷ xs) ys i b t h = inr (say_right xs ys i b t h)
 
+-- what both say one of them says
 pub say_in : (xs ys : List Item) (i : ℕ) (b : Bool) (t : Rational) → Say (xs ++ ys) i b t → Say xs i b t ⊎ Say ys i b t
 say_in [] ys i b t h = inr h
 say_in (e ∷ xs) ys i b t (inl h) = inl (inl h)
@@ -54,14 +57,18 @@ below_second a b both t m h = subst (λ x. Precedes x t b.to) m.end.inside (prec
 
 -- a time of the first is one of both
 in_first : (a b both : Interval) (t : Rational) → Made a b both → IsIn a t → IsIn both t
-in_first a b both t m h = record { above = above_both a b both t m h.above; below = below_both a b both t m (by_end (cases_Bool b.to_in) (cases_Bool b.from_in)) }
+in_first a b both t m h = record {
+  above = above_both a b both t m h.above;
+  below = below_both a b both t m (by_end (cases_Bool b.to_in) (cases_Bool b.from_in));
+}
   where
     up_to : t ≤ʳ b.from
     up_to = le_trans (precedes_le a.to_in t a.to h.below) (ge_of_same m.touch.time)
 
     by_end : (b.to_in ≡ true) ⊎ (b.to_in ≡ false) → (b.from_in ≡ true) ⊎ (b.from_in ≡ false) → Precedes b.to_in t b.to
     by_end (inl e) f = subst (λ x. Precedes x t b.to) (sym e) (le_trans up_to (at_most (b.from_in && b.to_in) b.from b.to m.second))
-    by_end (inr e) f = subst (λ x. Precedes x t b.to) (sym e) (lt_of_le_of_lt up_to (below (b.from_in && b.to_in) b.from b.to (and_right b.from_in b.to_in e) m.second))
+    by_end (inr e) f = subst (λ x. Precedes x t b.to) (sym e)
+        (lt_of_le_of_lt up_to (below (b.from_in && b.to_in) b.from b.to (and_right b.from_in b.to_in e) m.second))
 
 -- and one of the second
 in_second : (a b both : Interval) (t : Rational) → Made a b both → IsIn b t → IsIn both t
@@ -72,7 +79,8 @@ in_second a b both t m h = record { above = above_both a b both t m (by_end (cas
 
     by_end : (a.from_in ≡ true) ⊎ (a.from_in ≡ false) → Precedes a.from_in a.from t
     by_end (inl e) = subst (λ x. Precedes x a.from t) (sym e) (le_trans (at_most (a.from_in && a.to_in) a.from a.to m.first) from_on)
-    by_end (inr e) = subst (λ x. Precedes x a.from t) (sym e) (lt_of_lt_of_le (below (a.from_in && a.to_in) a.from a.to (and_left a.from_in a.to_in e) m.first) from_on)
+    by_end (inr e) = subst (λ x. Precedes x a.from t) (sym e)
+        (lt_of_lt_of_le (below (a.from_in && a.to_in) a.from a.to (and_left a.from_in a.to_in e) m.first) from_on)
 
 -- behind the first comes the second
 behind : (a b both : Interval) (t : Rational) → Made a b both → ¬ Precedes a.to_in t a.to → Precedes b.from_in b.from t
@@ -98,10 +106,15 @@ in_two a b both t m h = elim (decided_order a.to_in t a.to) as (λ v. IsIn a t �
 
 -- an item made longer by one that joins it
 pub record IsMade (line e longer : Item) : Type 0 where
+  -- the next item joins the line
   pub join : Join line e
+  -- the longer line is of the same node
   pub node : longer.node ≡ line.node
+  -- with the same truth
   pub holds : longer.holds ≡ line.holds
+  -- it begins as the line
   pub begin : BeginAlike (interval longer.on) (interval line.on)
+  -- and ends as the item
   pub end : EndAlike (interval longer.on) (interval e.on)
 
 made : (line e longer : Item) → IsMade line e longer → Made (interval line.on) (interval e.on) (interval longer.on)
@@ -109,17 +122,19 @@ made line e longer m = record { touch = m.join.2; begin = m.begin; end = m.end; 
 
 -- says what the two say
 longer_says : (line e longer : Item) → IsMade line e longer → SayMore (line ∷ e ∷ []) (longer ∷ [])
-longer_says line e longer m i b t (inl h) = inl (m.node ∙ h.0, m.holds ∙ h.1, in_first (interval line.on) (interval e.on) (interval longer.on) t (made line e longer m) h.2)
+longer_says line e longer m i b t (inl h) =
+    inl (m.node ∙ h.0, m.holds ∙ h.1, in_first (interval line.on) (interval e.on) (interval longer.on) t (made line e longer m) h.2)
 longer_says line e longer m i b t (inr (inl h)) =
     inl (m.node ∙ m.join.0 ∙ h.0, m.holds ∙ m.join.1 ∙ h.1, in_second (interval line.on) (interval e.on) (interval longer.on) t (made line e longer m) h.2)
 longer_says line e longer m i b t (inr (inr h)) = absurd h
 
 -- and no more
 two_say : (line e longer : Item) → IsMade line e longer → SayMore (longer ∷ []) (line ∷ e ∷ [])
-two_say line e longer m i b t (inl h) = elim (in_two (interval line.on) (interval e.on) (interval longer.on) t (made line e longer m) h.2) as (λ v. Say (line ∷ e ∷ []) i b t) [
-  | inl k ↦ inl (sym m.node ∙ h.0, sym m.holds ∙ h.1, k)
-  | inr k ↦ inr (inl (sym m.join.0 ∙ sym m.node ∙ h.0, sym m.join.1 ∙ sym m.holds ∙ h.1, k))
-]
+two_say line e longer m i b t (inl h) =
+    elim (in_two (interval line.on) (interval e.on) (interval longer.on) t (made line e longer m) h.2) as (λ v. Say (line ∷ e ∷ []) i b t) [
+      | inl k ↦ inl (sym m.node ∙ h.0, sym m.holds ∙ h.1, k)
+      | inr k ↦ inr (inl (sym m.join.0 ∙ sym m.node ∙ h.0, sym m.join.1 ∙ sym m.holds ∙ h.1, k))
+    ]
 two_say line e longer m i b t (inr h) = absurd h
 
 more_joined : (xs ys zs : List Item) → SayMore xs ys → SayMore (xs ++ zs) (ys ++ zs)
@@ -148,20 +163,27 @@ items_say line last (e ∷ items) lines s (inl (j, (longer, node, holds, begin, 
 items_say line last (e ∷ items) lines s (inr (n, (others, is, more))) =
     subst (λ zs. SayMore zs (line ∷ e ∷ items)) (sym is) (more_behind (line ∷ []) others (e ∷ items) (items_say e e items others (ends_as_itself e) more))
 
+-- the lines say what the items say
 pub joined_say : (items lines : List Item) → IsItemLines items lines → SayMore items lines
 joined_say [] lines j = λ i b t h. absurd h
 joined_say (e ∷ items) lines j = lines_say e e items lines (ends_as_itself e) j
 
+-- and nothing more
 pub apart_say : (items lines : List Item) → IsItemLines items lines → SayMore lines items
 apart_say [] lines j = subst (λ zs. SayMore zs []) (sym j) (λ i b t h. h)
 apart_say (e ∷ items) lines j = items_say e e items lines (ends_as_itself e) j
 
 -- without a line the others say no more than all items but one of it
 pub record IsWithout (items others : List Item) : Type 0 where
+  -- the items before
   pub before : List Item
+  -- the item
   pub e : Item
+  -- the items after
   pub after : List Item
+  -- they are all
   pub is : items ≡ before ++ e ∷ after
+  -- the others say no less than all but it
   pub more : SayMore others (before ++ after)
 
 -- the items that a line has joined so far, the first of them apart
@@ -174,7 +196,8 @@ none_in (x ∷ before) l after e = cc
 
 -- the first line is left out
 without_first : (d : Item) (done rest others : List Item) → SayMore others rest → IsWithout (d ∷ done ++ rest) others
-without_first d done rest others more = record { before = []; e = d; after = done ++ rest; is = refl; more = λ i b t k. say_right done rest i b t (more i b t k) }
+without_first d done rest others more =
+    record { before = []; e = d; after = done ++ rest; is = refl; more = λ i b t k. say_right done rest i b t (more i b t k) }
 
 -- a later one is
 without_later : (d : Item) (done rest others : List Item) (line : Item) → Has d done line → IsWithout rest others → IsWithout (d ∷ done ++ rest) (line ∷ others)
@@ -199,7 +222,8 @@ has_more d done line g longer h m = record { says = λ i b t k. more_joined (lin
 -- what is written next: a longer line, or others behind the line
 data Next (line last : Item) : List Item → List Item → Type 0 where
   none : {lines : List Item} → lines ≡ line ∷ [] → Next line last [] lines
-  longer : {g : Item} {items lines : List Item} (long : Item) → IsMade line g long → EndsAs long g → AreJoined long g items lines → Next line last (g ∷ items) lines
+  longer : {g : Item} {items lines : List Item} (long : Item) → IsMade line g long → EndsAs long g → AreJoined long g items lines
+      → Next line last (g ∷ items) lines
   other : {g : Item} {items lines : List Item} (others : List Item) → lines ≡ line ∷ others → AreJoined g g items others → Next line last (g ∷ items) lines
 
 next : (line last : Item) (items lines : List Item) → EndsAs line last → AreJoined line last items lines → Next line last items lines
@@ -218,14 +242,16 @@ parted line others lines (x ∷ before) l after e f = inr (before, (let g = sym 
 -- where a line is left out, an item is, of those that it has joined and those to come
 Leave : List Item → Item → List Item → Type 0
 Leave items l after =
-    (d : Item) (done : List Item) (line last : Item) (lines before : List Item) → EndsAs line last → Has d done line → AreJoined line last items lines → lines ≡ before ++ l ∷ after
+    (d : Item) (done : List Item) (line last : Item) (lines before : List Item) → EndsAs line last → Has d done line
+    → AreJoined line last items lines → lines ≡ before ++ l ∷ after
     → IsWithout (d ∷ done ++ items) (before ++ after)
 
 leave_last : (l : Item) (after : List Item) → Leave [] l after
 unfolding Leave
 leave_last l after d done line last lines before s h j e = by_part (parted line [] lines before l after j e)
   where
-    by_part : ((before ++ after) ≡ []) ⊎ ((rest : List Item) × ((before ++ after) ≡ line ∷ (rest ++ after)) × ([] ≡ rest ++ l ∷ after)) → IsWithout (d ∷ done ++ []) (before ++ after)
+    by_part : ((before ++ after) ≡ []) ⊎ ((rest : List Item) × ((before ++ after) ≡ line ∷ (rest ++ after)) × ([] ≡ rest ++ l ∷ after))
+        → IsWithout (d ∷ done ++ []) (before ++ after)
     by_part (inl k) = without_first d done [] (before ++ after) (subst (λ zs. SayMore zs []) (sym k) (λ i b t n. n))
     by_part (inr (rest, k, f)) = absurd (none_in rest l after (sym f))
 
@@ -234,8 +260,10 @@ unfolding Leave
 leave_more g items l after rec d done line last lines before s h j e = by_next (next line last (g ∷ items) lines s j)
   where
     by_part : (others : List Item) → AreJoined g g items others
-        → ((before ++ after) ≡ others) ⊎ ((rest : List Item) × ((before ++ after) ≡ line ∷ (rest ++ after)) × (others ≡ rest ++ l ∷ after)) → IsWithout (d ∷ done ++ g ∷ items) (before ++ after)
-    by_part others more (inl k) = without_first d done (g ∷ items) (before ++ after) (subst (λ zs. SayMore zs (g ∷ items)) (sym k) (items_say g g items others (ends_as_itself g) more))
+        → ((before ++ after) ≡ others) ⊎ ((rest : List Item) × ((before ++ after) ≡ line ∷ (rest ++ after)) × (others ≡ rest ++ l ∷ after))
+        → IsWithout (d ∷ done ++ g ∷ items) (before ++ after)
+    by_part others more (inl k) = without_first d done (g ∷ items) (before ++ after)
+        (subst (λ zs. SayMore zs (g ∷ items)) (sym k) (items_say g g items others (ends_as_itself g) more))
     by_part others more (inr (rest, k, f)) =
         subst (λ zs. IsWithout (d ∷ done ++ g ∷ items) zs) (sym k)
         (without_later d done (g ∷ items) (rest ++ after) line h (rec g [] g g others rest (ends_as_itself g) (record { says = λ i b t n. n }) more f))
@@ -251,7 +279,8 @@ leave [] l after = leave_last l after
 leave (g ∷ items) l after = leave_more g items l after (leave items l after)
 
 -- a line that is left out leaves an item out
-pub line_without : (items lines before : List Item) (l : Item) (after : List Item) → IsItemLines items lines → lines ≡ before ++ l ∷ after → IsWithout items (before ++ after)
+pub line_without : (items lines before : List Item) (l : Item) (after : List Item) → IsItemLines items lines
+    → lines ≡ before ++ l ∷ after → IsWithout items (before ++ after)
 unfolding Leave
 line_without [] lines before l after j e = absurd (none_in before l after (sym e ∙ j))
 line_without (g ∷ items) lines before l after j e = leave items l after g [] g g lines before (ends_as_itself g) (record { says = λ i b t k. k }) j e

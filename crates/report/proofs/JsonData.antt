@@ -63,6 +63,7 @@ report_value printed items margins holds spans =
     object (member (codes "formula") (string printed) (member (codes "items") (array items) (member (codes "margins") (array margins)
     (member (codes "start") (boolean holds) (member (codes "verdicts") (array spans) no_members)))))
 
+-- a report's compact text is made of those of its parts
 pub report_text : (printed : List ℕ) (items margins spans : Items) (holds : Bool)
     → compact_text (report_value printed items margins holds spans)
     ≡ codes "{\"formula\":" ++ (json_string printed ++ (codes ",\"items\":[" ++ (items_text false items ++ (codes ",\"margins\":[" ++ (items_text false margins
@@ -210,6 +211,7 @@ module _ (scale : Scale) where
       lists : (d m n : List ℕ) → ((d ++ codes ",") ++ m) ++ n ≡ d ++ (codes "," ++ (m ++ n))
       lists d m n = simp append_assoc
 
+  -- the texts of verdicts are the compact texts of their values
   pub verdicts_data : (before : List Verdict) (last : Verdict) (text : List ℕ)
       → Then (AreEach (IsEntry true false scale) before) (IsEntry true true scale last) text
       → (data' : Items) × AreVerdictData scale (before ++ last ∷ []) data' × (text ≡ items_text false data')

@@ -31,6 +31,7 @@ pub entry_of : (lead : List ℕ) (scale : Scale) (f : Formula) (e : Item) (name 
     → IsItemEntry lead scale f e text
 entry_of lead scale f e name own is text parts = record { atom = own.0; at = own.1; name = name; name_is = is own.0 own.1; written = parts }
 
+-- each item of an atom has an entry
 pub entry_exists : (lead : List ℕ) (scale : Scale) (f : Formula) (e : Item) → IsOfAtom f e → growth.Some (IsItemEntry lead scale f e)
 entry_exists lead scale f e own =
     let name = atom_text f.scale own.0 in
@@ -60,14 +61,20 @@ module _ (scale : Scale) (f : Formula) where
 
   -- the lines of the items up to a place are written; those of the rest, whatever they are, stand behind them
   pub record AreEntriesTo (items : List Item) (from : ℕ) (old : List ℕ) (i : ℕ) (text : List ℕ) : Type 0 where
+    -- so many items were written
     pub within : i ≤ length items
+    -- their lines
     pub before : List Item
+    -- with what follows they are the lines of all
     pub lines : (others : List Item) → IsItemLines (drop i items) others → IsItemLines (drop from items) (before ++ others)
+    -- the text has grown by an entry for each
     pub grew : Grew (AreEach Later before) old text
 
+  -- at first no entry was written
   pub entries_none : (items : List Item) (from : ℕ) (old : List ℕ) → from ≤ length items → AreEntriesTo items from old from old
   entries_none items from old h = record { within = h; before = []; lines = λ others l. l; grew = ([], refl, sym (append-nil old)) }
 
+  -- a line more is an entry more
   pub entries_more : (items : List Item) (from : ℕ) (old : List ℕ) (i n : ℕ) (text new : List ℕ) (line : Item) → AreEntriesTo items from old i text
       → n ≤ length items
       → IsFirstLine (drop i items) (drop n items) line → Grew (Later line) text new → AreEntriesTo items from old n new
@@ -79,6 +86,7 @@ module _ (scale : Scale) (f : Formula) where
     grew = each_grow Later w.before (line ∷ []) old text new w.grew (here, each_one Later line here is, e);
   }
 
+  -- at the end the entries of all are written
   pub entries_all : (items : List Item) (from : ℕ) (old : List ℕ) (i : ℕ) (text : List ℕ) → AreEntriesTo items from old i text → length items ≤ i
       → Grew (AreLaterEntries scale f (drop from items)) old text
   entries_all items from old i text w h =
@@ -93,6 +101,7 @@ module _ (scale : Scale) (f : Formula) where
         w.grew.2,
       )
 
+  -- a cut in one entry is a cut in all
   pub entries_part : (items : List Item) (from : ℕ) (old : List ℕ) (i n : ℕ) (text new : List ℕ) (line : Item) → All (IsOfAtom f) items
       → AreEntriesTo items from old i text
       → IsFirstLine (drop i items) (drop n items) line → GrewInPart (Later line) text new → GrewInPart (AreLaterEntries scale f (drop from items)) old new
@@ -124,6 +133,7 @@ module _ (scale : Scale) (f : Formula) where
   abbrev pub ListParts : Item → List Item → List ℕ → Type 0
   ListParts line rest = Then (IsItemEntry (codes "{\"atom\":") scale f line) (Then (AreLaterEntries scale f rest) (Is (codes "]")))
 
+  -- the first entry and the later ones make the list
   pub list_entries : (items : List Item) (n : ℕ) (line : Item) (text : List ℕ) → IsFirstLine items (drop n items) line → ListParts line (drop n items) text
       → AreItemEntries scale f items text
   list_entries items n line text first (head, tail, is_head, (later, end, is_later, is_end, e), g) =
@@ -137,6 +147,7 @@ module _ (scale : Scale) (f : Formula) where
         is = g ∙ ap (λ w. w ++ tail) k ∙ ap (λ w. compact_text d ++ w) (e ∙ ap (λ w. later ++ w) is_end ∙ h);
       }
 
+  -- items of atoms have a list
   pub list_exists : (items : List Item) → All (IsOfAtom f) items → growth.Some (AreItemEntries scale f items)
   list_exists [] all = (codes "]", no_entries [] refl)
   list_exists (e ∷ items) all =

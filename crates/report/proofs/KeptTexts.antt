@@ -1,5 +1,6 @@
 -- The text of a time that is kept from one line to the next.
-use Rattle.std.proofs.Common.{◌≡◌, ℕ, ℤ, pos, negsuc, ◌+◌, ◌-◌, ◌*◌, ◌*ℤ◌, ◌<◌, ◌≤◌, decimal, Bool, true, false, List, [], ◌∷◌, ◌++◌, length, take, drop, length-append, length-drop, refl, sym, ap, ◌∙◌, arith, subst}
+use Rattle.std.proofs.Common.{◌≡◌, ℕ, ℤ, pos, negsuc, ◌+◌, ◌-◌, ◌*◌, ◌*ℤ◌, ◌<◌, ◌≤◌, decimal, Bool, true, false, List, []}
+use Rattle.std.proofs.Common.{◌∷◌, ◌++◌, length, take, drop, length-append, length-drop, refl, sym, ap, ◌∙◌, arith, subst}
 use Rattle.std.specs.declared.cmp.Ordering.{Ordering}
 use Rattle.std.specs.declared.cmp.Ordering.TheVariants.{Less, Equal, Greater}
 use Rattle.std.specs.Ordering.{is_eq}
@@ -86,4 +87,10 @@ whole_text w r d p n e l one = record { num = pos n; den = 1; lowest = lowest_wh
 
 -- the time 0
 pub zero_text : (t : Rational) → t ≈ whole (pos 0) → IsNumberText 0 t (48 ∷ [])
-zero_text t e = record { num = pos 0; den = 1; lowest = lowest_whole (pos 0); same = same_trans e (record { same = omega arith }); is = sym (decimal_digit 0 (omega arith)) }
+zero_text t e = record {
+  num = pos 0;
+  den = 1;
+  lowest = lowest_whole (pos 0);
+  same = same_trans e (record { same = omega arith });
+  is = sym (decimal_digit 0 (omega arith));
+}

@@ -15,26 +15,47 @@ use Rattle.stl_syntax.specs.declared.scale.Scale.{Scale}
 -- a change of times and values, and the change back: both keep orders and lines, and carry the robustness of one formula on one trace to that of
 -- the other
 pub record Change (p : Subformula) (tr : Trace) (q : Subformula) (ur : Trace) : Type 0 where
+  -- how times change
   pub time : Rational → Rational
+  -- and back
   pub time_back : Rational → Rational
+  -- how values change
   pub value : Extended → Extended
+  -- and back
   pub value_back : Extended → Extended
+  -- how lines change
   pub line : Affine → Affine
+  -- and back
   pub line_back : Affine → Affine
+  -- another way to write a time changes alike
   pub times_same : (t u : Rational) → t ≈ u → time t ≈ time u
+  -- and so back
   pub times_back_same : (t u : Rational) → t ≈ u → time_back t ≈ time_back u
+  -- the order of times stays
   pub times_lt : (t u : Rational) → t <ʳ u → time t <ʳ time u
+  -- and so back
   pub times_back_lt : (t u : Rational) → t <ʳ u → time_back t <ʳ time_back u
+  -- back and forth is the time itself
   pub round : (t : Rational) → time (time_back t) ≈ t
+  -- and so forth and back
   pub round_back : (t : Rational) → time_back (time t) ≈ t
+  -- another way to write a value changes alike
   pub values_same : (v w : Extended) → v ≈ᵉ w → value v ≈ᵉ value w
+  -- and so back
   pub values_back_same : (v w : Extended) → v ≈ᵉ w → value_back v ≈ᵉ value_back w
+  -- forth and back is the value itself
   pub round_value : (v : Extended) → value_back (value v) ≈ᵉ v
+  -- a changed line has the changed value at the changed time
   pub lines : (f : Affine) (t : Rational) → value_at (line f) (time t) ≈ᵉ value (value_at f t)
+  -- and so back
   pub lines_back : (f : Affine) (t : Rational) → value_at (line_back f) (time_back t) ≈ᵉ value_back (value_at f t)
+  -- the robustness changes so
   pub robust : (t : Rational) (v : Extended) → Robustness p tr t v → Robustness q ur (time t) (value v)
+  -- another way to write a time has the same robustness
   pub robust_of_times : (t u : Rational) (v : Extended) → t ≈ u → Robustness q ur t v → Robustness q ur u v
+  -- the other trace starts at the changed start
   pub starts : start ur ≈ time (start tr)
+  -- and ends at the changed end
   pub stops : stop ur ≈ time (stop tr)
 
 module _ {p : Subformula} {tr : Trace} {q : Subformula} {ur : Trace} (c : Change p tr q ur) where
@@ -111,7 +132,8 @@ module _ {p : Subformula} {tr : Trace} {q : Subformula} {ur : Trace} (c : Change
     go_on_by to to' e x.next y pieces h.3,
   )
 
-  after_by : (to to' : Rational) → to' ≈ c.time to → (k : Knot) (pieces : List Piece) → TellsAfter p tr to k pieces → TellsAfter q ur to' (knot_by k) (pieces_by pieces)
+  after_by : (to to' : Rational) → to' ≈ c.time to → (k : Knot) (pieces : List Piece) → TellsAfter p tr to k pieces
+      → TellsAfter q ur to' (knot_by k) (pieces_by pieces)
   after_by to to' e k [] h = h
   after_by to to' e k (x ∷ pieces) h = (inside_by k x h.0, c.robust x.next.time x.next.value h.1, go_on_by to to' e k x pieces h.2)
 
@@ -139,11 +161,13 @@ module _ {p : Subformula} {tr : Trace} {q : Subformula} {ur : Trace} (c : Change
     piece_line_by k x text (a, b, from, to, h, g, l, m, e) =
         (a, b, from, to, times k.time a h, times x.next.time b g, values x.from from l, values x.to to m, e)
 
-    piece_lines_by : (k : Knot) (pieces : List Piece) (text : List ℕ) → ArePieceLines scale k pieces text → ArePieceLines other (knot_by k) (pieces_by pieces) text
+    piece_lines_by : (k : Knot) (pieces : List Piece) (text : List ℕ) → ArePieceLines scale k pieces text
+        → ArePieceLines other (knot_by k) (pieces_by pieces) text
     piece_lines_by k [] text h = h
     piece_lines_by k (x ∷ pieces) text (piece, knot, later, h, g, l, e) =
         (piece, knot, later, piece_line_by k x piece h, knot_line_by x.next knot g, piece_lines_by x.next pieces later l, e)
 
+    -- the lines of knots are those of the changed knots
     pub margin_lines_by : (knots : Knots) (text : List ℕ) → AreMarginLines scale knots text → AreMarginLines other (knots_by knots) text
     margin_lines_by knots text (first, later, h, g, e) =
         (first, later, knot_line_by knots.first first h, piece_lines_by knots.first knots.pieces later g, e)

@@ -1,5 +1,6 @@
 -- Verdicts one after another: there is a text for each list, and it grows list by list.
-use Rattle.std.proofs.Common.{◌≡◌, ℕ, ℤ, pos, ◌*ℤ◌, ◌*◌, ◌^◌, ◌<◌, Bool, true, false, List, [], ◌∷◌, ◌++◌, append-nil, append_assoc, refl, sym, ap, ◌∙◌, subst, arith, mul-pos}
+use Rattle.std.proofs.Common.{◌≡◌, ℕ, ℤ, pos, ◌*ℤ◌, ◌*◌, ◌^◌, ◌<◌, Bool, true, false, List, [], ◌∷◌, ◌++◌}
+use Rattle.std.proofs.Common.{append-nil, append_assoc, refl, sym, ap, ◌∙◌, subst, arith, mul-pos}
 use Rattle.std.proofs.Math.Nat.{one-le-pow}
 use Rattle.rational.specs.Time.{Rational, ratio, ◌≈◌, closed}
 use Rattle.rational.proofs.Lowest.{has_denominator}

@@ -23,7 +23,8 @@ module _ {P : Type 0} (shape : ShapeOf P) (p : Subformula) (tr : Trace) where
 
   at_first : (k : Knot P) (ks : List (Knot P)) → IsRobustSignal (k ∷ ks) → IsRobust p tr (plain_knot shape k)
   at_first k ks worth =
-      worth (time k) (value_at (shape.function k.point) (time k)) (inl (record { when = same_refl (time k); worth = same_reflᵉ (value_at (shape.function k.point) (time k)) }))
+      worth (time k) (value_at (shape.function k.point) (time k))
+      (inl (record { when = same_refl (time k); worth = same_reflᵉ (value_at (shape.function k.point) (time k)) }))
 
   after_first : (k n : Knot P) (ks : List (Knot P)) → time k <ʳ time n → IsRobustSignal (k ∷ n ∷ ks)
       → IsRobustInside p tr (plain_knot shape k) (plain_piece shape k n)
@@ -45,6 +46,7 @@ module _ {P : Type 0} (shape : ShapeOf P) (p : Subformula) (tr : Trace) where
     goes_on to n m ks each.1 (λ t v w. worth t v (inr (inr w))) ends,
   )
 
+  -- the plain knots of a signal that tells the robustness describe it
   pub knots_describe : (ks : List (Knot P)) → Tells shape (SupInf p (margin_setting tr)) (start tr) (stop tr) ks → DescribesMargins (knots_of shape ks) p tr
   knots_describe [] tells = let some = tells.signal.some in absurd (omega (arith, some))
   knots_describe (k ∷ []) tells = (

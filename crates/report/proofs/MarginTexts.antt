@@ -35,16 +35,21 @@ module _ {T E : Type 0} (r : Result T E) (digits : ℕ) (v : Rational) (n : Lowe
   is_text : IsNumberText digits v its_text
   is_text = number_text digits v n.negative n.size n.den u
 
+  -- a number that was appended is its text
   pub number_ok : OnOk r (new ≡ old ++ its_text) → OnOk r (Grew (IsNumberText digits v) old new)
   number_ok = on_ok_weaker r (λ e. (its_text, is_text, e))
 
+  -- or a cut in it
   pub number_err : OnErr r (GrewInPart (λ w. w ≡ its_text) old new) → OnErr r (GrewInPart (IsNumberText digits v) old new)
   number_err = on_err_weaker r (part_as (λ w. w ≡ its_text) (IsNumberText digits v) old new (λ w e. subst (IsNumberText digits v) (sym e) is_text))
 
 module _ {T E : Type 0} (r : Result T E) (digits : ℕ) (m k : Margin) (t : Rational) (old new : List ℕ) (same : m ≡ k) where
-  pub value_ok : OnOk r (Grew (IsValueText digits (value_at (margin_function k) t)) old new) → OnOk r (Grew (IsValueText digits (value_at (margin_function m) t)) old new)
+  -- a value that was appended for one shape is that of another with the same function
+  pub value_ok : OnOk r (Grew (IsValueText digits (value_at (margin_function k) t)) old new)
+      → OnOk r (Grew (IsValueText digits (value_at (margin_function m) t)) old new)
   value_ok = subst (λ x. OnOk r (Grew (IsValueText digits (value_at (margin_function x) t)) old new)) (sym same)
 
+  -- and so is a cut in it
   pub value_err : OnErr r (GrewInPart (IsValueText digits (value_at (margin_function k) t)) old new)
       → OnErr r (GrewInPart (IsValueText digits (value_at (margin_function m) t)) old new)
   value_err = subst (λ x. OnErr r (GrewInPart (IsValueText digits (value_at (margin_function x) t)) old new)) (sym same)
@@ -53,19 +58,23 @@ module _ {T E : Type 0} (r : Result T E) (digits : ℕ) (m k : Margin) (t : Rati
 pub pushed_ok : {T E : Type 0} (r : Result T E) (word old new : List ℕ) → OnOk r (new ≡ old ++ word) → OnOk r (Grew (Is word) old new)
 pushed_ok r word old new = on_ok_weaker r (grew_is word old new)
 
+-- what failed to be appended is a cut with nothing written
 pub pushed_err : {T E : Type 0} (r : Result T E) (word old new : List ℕ) → OnErr r (new ≡ old) → OnErr r (GrewInPart (Is word) old new)
 pushed_err r word old new = on_err_weaker r (part_none (Is word) old new (word, refl))
 
 -- ---- there is a text of each kind
 
+-- a value has a text
 pub value_exists : (digits : ℕ) (v : Extended) → growth.Some (IsValueText digits v)
 value_exists digits minus_infinity = (codes "-inf", refl)
 value_exists digits (finite x) = number_exists digits x
 value_exists digits infinity = (codes "inf", refl)
 
+-- so has a time behind some words
 pub time_after_exists : (lead : List ℕ) (digits : ℕ) (t : Rational) → growth.Some (IsTimeAfter lead digits t)
 time_after_exists lead digits t = some_then (Is lead) (IsNumberText digits t) (lead, refl) (number_exists digits t)
 
+-- and a value behind some words
 pub value_after_exists : (lead : List ℕ) (digits : ℕ) (v : Extended) → growth.Some (IsValueAfter lead digits v)
 value_after_exists lead digits v = some_then (Is lead) (IsValueText digits v) (lead, refl) (value_exists digits v)
 
@@ -77,10 +86,12 @@ module _ (scale : Scale) where
   abbrev pub KnotParts : plain.Knot → List ℕ → Type 0
   KnotParts k = Then (Then (IsTimeAfter (codes "[") scale.time k.time) (IsValueAfter (codes "] ") scale.value k.value)) (Is newline)
 
+  -- the parts of a knot's line make it
   pub knot_line : (k : plain.Knot) (text : List ℕ) → KnotParts k text → IsKnotLine scale k text
   knot_line k text (ab, c, (a, b, (a0, a1, a2, a3, a4), (b0, b1, b2, b3, b4), e), g, f) =
       (a1, b1, a3, b3, simp (f, e, g, a4, b4, a2, b2, append_assoc))
 
+  -- a knot has a line
   pub knot_line_exists : (k : plain.Knot) → growth.Some (IsKnotLine scale k)
   knot_line_exists k =
       let parts = some_then (Then (IsTimeAfter (codes "[") scale.time k.time) (IsValueAfter (codes "] ") scale.value k.value)) (Is newline)
@@ -101,10 +112,22 @@ module _ (scale : Scale) where
   abbrev pub PieceParts : plain.Knot → Piece → List ℕ → Type 0
   PieceParts k p = Then (PieceLimits k p) (Is newline)
 
+  -- the parts of a piece's line make it
   pub piece_line : (k : plain.Knot) (p : Piece) (text : List ℕ) → PieceParts k p text → IsPieceLine scale k p text
-  piece_line k p text (abcd, n, (abc, d, (ab, c, (a, b, (a0, a1, a2, a3, a4), (b0, b1, b2, b3, b4), e), (c0, c1, c2, c3, c4), f), (d0, d1, d2, d3, d4), g), is_n, h) =
-      (a1, b1, c1, d1, a3, b3, c3, d3, simp (h, g, f, e, is_n, a4, b4, c4, d4, a2, b2, c2, d2) (nine (codes "(") a1 (codes ",") b1 (codes ") ") c1 (codes " -> ") d1 newline))
+  piece_line k p text
+      (abcd, n, (abc, d, (ab, c, (a, b, (a0, a1, a2, a3, a4), (b0, b1, b2, b3, b4), e), (c0, c1, c2, c3, c4), f), (d0, d1, d2, d3, d4), g), is_n, h) = (
+        a1,
+        b1,
+        c1,
+        d1,
+        a3,
+        b3,
+        c3,
+        d3,
+        simp (h, g, f, e, is_n, a4, b4, c4, d4, a2, b2, c2, d2) (nine (codes "(") a1 (codes ",") b1 (codes ") ") c1 (codes " -> ") d1 newline),
+      )
 
+  -- a piece has a line
   pub piece_line_exists : (k : plain.Knot) (p : Piece) → growth.Some (IsPieceLine scale k p)
   piece_line_exists k p =
       let times = some_then (IsTimeAfter (codes "(") scale.time k.time) (IsTimeAfter (codes ",") scale.time p.next.time)
@@ -114,6 +137,7 @@ module _ (scale : Scale) where
       let parts = some_then (PieceLimits k p) (Is newline) limits (newline, refl) in
       (parts.0, piece_line k p parts.0 parts.1)
 
+  -- so have all pieces
   pub piece_lines_exist : (k : plain.Knot) (pieces : List Piece) → growth.Some (ArePieceLines scale k pieces)
   piece_lines_exist k [] = ([], refl)
   piece_lines_exist k (p ∷ pieces) =
@@ -143,6 +167,7 @@ module _ {P : Type 0} (shape : ShapeOf P) (scale : Scale) where
       (k : Knot P) (rest : List (Knot P)) (later : List ℕ) → drop n ks ≡ k ∷ rest
       → ArePieceLines scale (plain_knot shape k) (pieces_of shape k rest) later → AreLaterLines shape scale ks (text ++ later)
 
+  -- before the first piece nothing was written
   pub lines_begin : (ks : List (Knot P)) → AreLinesTo ks 0 []
   lines_begin [] k rest later e lines = absurd (let f = e in cc)
   lines_begin (x ∷ ks) k rest later e lines =
@@ -151,6 +176,7 @@ module _ {P : Type 0} (shape : ShapeOf P) (scale : Scale) where
       subst (λ l. ArePieceLines scale (plain_knot shape l) (pieces_of shape l ks) later) (sym same)
       (subst (λ ls. ArePieceLines scale (plain_knot shape k) (pieces_of shape k ls) later) (sym same_rest) lines)
 
+  -- a piece and its knot more are two lines more
   pub lines_more : (ks : List (Knot P)) (i : ℕ) (k n : Knot P) (text next : List ℕ) → slice_get ks i ≡ Some k → slice_get ks (suc i) ≡ Some n
       → AreLinesTo ks i text → AreNextLines shape scale k n next → AreLinesTo ks (suc i) (text ++ next)
   lines_more ks i k n text next at at_next before (piece, knot, is_piece, is_knot, e) m rest later f lines =
@@ -161,6 +187,7 @@ module _ {P : Type 0} (shape : ShapeOf P) (scale : Scale) where
       (piece, knot, later, is_piece, is_knot, subst (λ l. ArePieceLines scale (plain_knot shape l) (pieces_of shape l rest) later) (sym same) lines, refl) in
       subst (AreLaterLines shape scale ks) (simp (e, append_assoc)) all
 
+  -- after the last piece all lines are written
   pub lines_end : (ks : List (Knot P)) (i : ℕ) (text : List ℕ) → suc i ≡ length ks → AreLinesTo ks i text → AreLaterLines shape scale ks text
   lines_end ks i text last before =
       let (k, at, none) = last_of ks i last in
@@ -174,12 +201,14 @@ module _ {P : Type 0} (shape : ShapeOf P) (scale : Scale) where
       let all = lines_more ks i k n text (a ++ b) at at_next before next n (drop (suc (suc i)) ks) more.0 (drop_at ks (suc i) n at_next) more.1 in
       (text ++ a, b ++ more.0, subst (AreLaterLines shape scale ks) (simp append_assoc) all, f ∙ ap (λ w. w ++ a) e ∙ append_assoc old text a)
 
+  -- the first knot's line and the later ones make the lines of margins
   pub margin_lines : (ks : List (Knot P)) (k : Knot P) → slice_get ks 0 ≡ Some k → (text : List ℕ)
       → Then (IsKnotLine scale (plain_knot shape k)) (AreLaterLines shape scale ks) text → AreMarginLines scale (knots_of shape ks) text
   margin_lines [] k at text h = absurd (let e = at in cc)
   margin_lines (x ∷ ks) k at text (first, later, is_first, is_later, e) =
       (first, later, subst (λ l. IsKnotLine scale (plain_knot shape l) first) (sym (some_is at)) is_first, is_later, e)
 
+  -- the later lines exist
   pub later_exist : (ks : List (Knot P)) (k : Knot P) → slice_get ks 0 ≡ Some k → growth.Some (AreLaterLines shape scale ks)
   later_exist [] k at = absurd (let e = at in cc)
   later_exist (x ∷ ks) k at = piece_lines_exist scale (plain_knot shape x) (pieces_of shape x ks)

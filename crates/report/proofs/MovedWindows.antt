@@ -5,14 +5,18 @@ use Rattle.std.proofs.Math.Nat.{mul-pos, mul-lt-mul_of_pos_left, eq-or-lt_of_le}
 use Rattle.std.proofs.lemmas.Bool.{cases_lt}
 use Rattle.rational.specs.Rational.{middle}
 use Rattle.rational.specs.Time.{Rational, ◌≤ʳ◌, ◌<ʳ◌, ◌≈◌, Within, Precedes}
-use Rattle.rational.proofs.Order.{le_refl, le_of_same, ge_of_same, lt_of_lt_of_le, lt_of_le_of_lt, lt_trans, le_trans, le_or_lt, not_lt_of_le, lt_irrefl, left_of_middle, right_of_middle}
+use Rattle.rational.proofs.Order.{le_refl, le_of_same, ge_of_same, lt_of_lt_of_le, lt_of_le_of_lt, lt_trans}
+use Rattle.rational.proofs.Order.{le_trans, le_or_lt, not_lt_of_le, lt_irrefl, left_of_middle, right_of_middle}
 use Rattle.rational.proofs.TimeLemmas.{precedes_le, precedes_of_lt, decided_order}
 use Rattle.report.proofs.NearTimes.{Move, by, Near, IsNear, between, later_one, earlier_one}
 
 -- u lies in the window from x + low to x + high, each end in or out, as far as that lies between S and T
 pub record InWindow (S T : Rational) (low high : Move) (i j : Bool) (x u : Rational) : Type 0 where
+  -- the time is one of the domain
   pub inside : Within S T u
+  -- it does not lie before the low end
   pub begins : Precedes i (by x low) u
+  -- nor behind the high one
   pub ends : Precedes j u (by x high)
 
 -- u and v are one time, or both lie in one of two stretches
@@ -23,8 +27,11 @@ pub data Together {s t : Rational} (L : Near s) (H : Near t) (u v : Rational) : 
 
 -- a time of the window of y that goes together with u
 pub record Moved (S T : Rational) {s t : Rational} (lo hi : Move) (i j : Bool) (L : Near s) (H : Near t) (y u : Rational) : Type 0 where
+  -- a time of the other window
   pub time : Rational
+  -- it is in it
   pub within : InWindow S T lo hi i j y time
+  -- and lies with the first between the same places
   pub together : Together L H u time
 
 -- the order of two whole numbers

@@ -1,5 +1,6 @@
 -- Numbers, verdicts and knots of one value have one text.
-use Rattle.std.proofs.Common.{◌≡◌, ℕ, ◌+◌, ◌*◌, ◌^◌, ◌<◌, ◌≤◌, suc, true, false, List, [], ◌∷◌, ◌++◌, codes, sym, ap, ◌∙◌, subst, arith, ℤ, pos, negsuc, if◌then◌else◌}
+use Rattle.std.proofs.Common.{◌≡◌, ℕ, ◌+◌, ◌*◌, ◌^◌, ◌<◌, ◌≤◌, suc, true, false, List, [], ◌∷◌, ◌++◌}
+use Rattle.std.proofs.Common.{codes, sym, ap, ◌∙◌, subst, arith, ℤ, pos, negsuc, if◌then◌else◌}
 use Rattle.std.specs.Prelude.{◌*ℤ◌}
 use Rattle.std.proofs.Math.Nat.{le_of_mul-le-mul_left, one-le-pow}
 use Rattle.rational.specs.Time.{Rational, ◌≈◌, ratio, IsLowest, BeginAlike, EndAlike}
@@ -12,7 +13,8 @@ use Rattle.stl_syntax.specs.Trace.{Trace}
 use Rattle.stl_syntax.specs.Formula.{Subformula}
 use Rattle.stl_syntax.specs.Knots.{Knot, Piece, Knots}
 use Rattle.stl_syntax.specs.Verdicts.{AreAlike, KnotsAlike, PiecesAlike}
-use Rattle.stl_syntax.specs.Texts.{fraction_text, IsNumberText, IsValueText, bool_text, IsSpanText, newline, AreVerdictLines, IsStartLine, IsKnotLine, IsPieceLine, ArePieceLines, AreMarginLines}
+use Rattle.stl_syntax.specs.Texts.{fraction_text, IsNumberText, IsValueText, bool_text, IsSpanText, newline}
+use Rattle.stl_syntax.specs.Texts.{AreVerdictLines, IsStartLine, IsKnotLine, IsPieceLine, ArePieceLines, AreMarginLines}
 use Rattle.stl_syntax.specs.declared.scale.Scale.{Scale}
 use Rattle.stl_syntax.specs.declared.items.Verdict.{Verdict}
 use Rattle.report.proofs.Stretch.{stretch, same_back}
@@ -46,7 +48,8 @@ lowest_once n m d e low other h =
 pub number_once : (digits : ℕ) {t u : Rational} {x y : List ℕ} → t ≈ u → IsNumberText digits t x → IsNumberText digits u y → x ≡ y
 number_once digits {t} {u} {x} {y} e a b =
     let K = 10 ^ digits in
-    let as_ticks : ratio (a.num *ℤ pos K) a.den a.lowest.positive ≈ ratio (b.num *ℤ pos K) b.den b.lowest.positive = same_trans (same_sym a.same) (same_trans e b.same) in
+    let as_ticks : ratio (a.num *ℤ pos K) a.den a.lowest.positive ≈ ratio (b.num *ℤ pos K) b.den b.lowest.positive =
+    same_trans (same_sym a.same) (same_trans e b.same) in
     let stretched : stretch K (ratio a.num a.den a.lowest.positive) ≈ stretch K (ratio b.num b.den b.lowest.positive) =
     same_trans (same_sym (ratio_of a.num a.den a.lowest.positive K)) (same_trans as_ticks (ratio_of b.num b.den b.lowest.positive K)) in
     let (n, d) = lowest_once a.num b.num a.den b.den a.lowest b.lowest (same_back K (let some = one-le-pow digits 10 (omega arith) in omega arith) stretched) in
@@ -70,7 +73,8 @@ value_once digits infinity infinity e a b = a ∙ sym b
 -- ---- verdicts
 
 -- spans with the same ends have one text
-pub span_once : (scale : Scale) (a b : Span) {x y : List ℕ} → BeginAlike (interval a) (interval b) → EndAlike (interval a) (interval b) → IsSpanText scale a x → IsSpanText scale b y → x ≡ y
+pub span_once : (scale : Scale) (a b : Span) {x y : List ℕ} → BeginAlike (interval a) (interval b)
+    → EndAlike (interval a) (interval b) → IsSpanText scale a x → IsSpanText scale b y → x ≡ y
 span_once scale a b begin end p q =
     let from = number_once scale.time begin.time p.from_is q.from_is in
     let to = number_once scale.time end.time p.to_is q.to_is in
@@ -84,9 +88,11 @@ pub verdicts_once : (scale : Scale) (vs ws : List Verdict) (x y : List ℕ) → 
 verdicts_once scale [] [] x y e a b = a ∙ sym b
 verdicts_once scale [] (w ∷ ws) x y e a b = absurd e
 verdicts_once scale (v ∷ vs) [] x y e a b = absurd e
-verdicts_once scale (v ∷ vs) (w ∷ ws) x y (begin, end, holds, e) (here, later, (on, on_is, here_is), rest, is) (here', later', (on', on_is', here_is'), rest', is') =
+verdicts_once scale (v ∷ vs) (w ∷ ws) x y (begin, end, holds, e) (here, later, (on, on_is, here_is), rest, is)
+    (here', later', (on', on_is', here_is'), rest', is') =
     let spans = span_once scale v.on w.on begin end on_is on_is' in
-    let lines : here ≡ here' = here_is ∙ ap (λ t. t ++ codes " " ++ bool_text v.holds ++ newline) spans ∙ ap (λ b. on' ++ codes " " ++ bool_text b ++ newline) holds ∙ sym here_is' in
+    let lines : here ≡ here' = here_is ∙ ap (λ t. t ++ codes " " ++ bool_text v.holds ++ newline) spans
+    ∙ ap (λ b. on' ++ codes " " ++ bool_text b ++ newline) holds ∙ sym here_is' in
     is ∙ ap (λ t. t ++ later) lines ∙ ap (λ t. here' ++ t) (verdicts_once scale vs ws later later' e rest rest') ∙ sym is'
 
 -- the line of the start is one
@@ -111,14 +117,17 @@ piece_once scale k l a b e f g h (s, t, from, to, s_is, t_is, from_is, to_is, is
     is ∙ ap (λ z. codes "(" ++ z ++ codes "," ++ t ++ codes ") " ++ from ++ codes " -> " ++ to ++ newline) (number_once scale.time e s_is s_is')
     ∙ ap (λ z. codes "(" ++ s' ++ codes "," ++ z ++ codes ") " ++ from ++ codes " -> " ++ to ++ newline) (number_once scale.time h t_is t_is')
     ∙ ap (λ z. codes "(" ++ s' ++ codes "," ++ t' ++ codes ") " ++ z ++ codes " -> " ++ to ++ newline) (value_once scale.value a.from b.from f from_is from_is')
-    ∙ ap (λ z. codes "(" ++ s' ++ codes "," ++ t' ++ codes ") " ++ from' ++ codes " -> " ++ z ++ newline) (value_once scale.value a.to b.to g to_is to_is') ∙ sym is'
+    ∙ ap (λ z. codes "(" ++ s' ++ codes "," ++ t' ++ codes ") " ++ from' ++ codes " -> " ++ z ++ newline)
+    (value_once scale.value a.to b.to g to_is to_is') ∙ sym is'
 
 -- so have the pieces after them
-pub pieces_once : (scale : Scale) (k l : Knot) (ps qs : List Piece) (x y : List ℕ) → k.time ≈ l.time → PiecesAlike ps qs → ArePieceLines scale k ps x → ArePieceLines scale l qs y → x ≡ y
+pub pieces_once : (scale : Scale) (k l : Knot) (ps qs : List Piece) (x y : List ℕ) → k.time ≈ l.time → PiecesAlike ps qs
+    → ArePieceLines scale k ps x → ArePieceLines scale l qs y → x ≡ y
 pieces_once scale k l [] [] x y e h a b = a ∙ sym b
 pieces_once scale k l [] (b ∷ qs) x y e h p q = absurd h
 pieces_once scale k l (a ∷ ps) [] x y e h p q = absurd h
-pieces_once scale k l (a ∷ ps) (b ∷ qs) x y e (f, g, next, h) (piece, knot, later, piece_is, knot_is, rest, is) (piece', knot', later', piece_is', knot_is', rest', is') =
+pieces_once scale k l (a ∷ ps) (b ∷ qs) x y e (f, g, next, h) (piece, knot, later, piece_is, knot_is, rest, is)
+    (piece', knot', later', piece_is', knot_is', rest', is') =
     is ∙ ap (λ z. z ++ knot ++ later) (piece_once scale k l a b e f g next.time piece_is piece_is')
     ∙ ap (λ z. piece' ++ z ++ later) (knot_once scale a.next b.next next knot_is knot_is')
     ∙ ap (λ z. piece' ++ knot' ++ z) (pieces_once scale a.next b.next ps qs later later' next.time h rest rest') ∙ sym is'

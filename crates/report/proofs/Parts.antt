@@ -8,15 +8,18 @@ on_err (Ok x) p = tt
 on_err (Err e) p = p
 
 -- the first part of one text
-pub part_of : {T E : Type 0} (r : Result T E) (whole old new first rest : List ℕ) → first ++ rest ≡ whole → new ≡ old ++ first → OnErr r (GrewInPart (λ w. w ≡ whole) old new)
+pub part_of : {T E : Type 0} (r : Result T E) (whole old new first rest : List ℕ) → first ++ rest ≡ whole → new ≡ old ++ first
+    → OnErr r (GrewInPart (λ w. w ≡ whole) old new)
 part_of r whole old new first rest e grew = let p : GrewInPart (λ w. w ≡ whole) old new = (first, rest, e, grew) in on_err r p
 
 -- the first part of a text of a kind
-pub part_in : {T E : Type 0} (P : List ℕ → Type 0) (r : Result T E) (whole old new first rest : List ℕ) → P whole → first ++ rest ≡ whole → new ≡ old ++ first → OnErr r (GrewInPart P old new)
+pub part_in : {T E : Type 0} (P : List ℕ → Type 0) (r : Result T E) (whole old new first rest : List ℕ) → P whole
+    → first ++ rest ≡ whole → new ≡ old ++ first → OnErr r (GrewInPart P old new)
 part_in P r whole old new first rest p e grew = let q : GrewInPart P old new = (first, rest, subst P (sym e) p, grew) in on_err r q
 
 -- the first part of a middle text, after what came before it
-pub part_inside : {T E : Type 0} (P : List ℕ → Type 0) (r : Result T E) (before middle after old mid new : List ℕ) → P (before ++ middle ++ after) → mid ≡ old ++ before
+pub part_inside : {T E : Type 0} (P : List ℕ → Type 0) (r : Result T E) (before middle after old mid new : List ℕ)
+    → P (before ++ middle ++ after) → mid ≡ old ++ before
     → GrewInPart (λ w. w ≡ middle) mid new → OnErr r (GrewInPart P old new)
 part_inside P r before middle after old mid new p e g =
     part_in P r (before ++ middle ++ after) old new (before ++ g.0) (g.1 ++ after) p

@@ -1,5 +1,6 @@
 -- Texts that stand in a string of JSON as they are.
-use Rattle.std.proofs.Common.{◌≡◌, ℕ, zero, suc, ◌<◌, ◌/◌, ◌%◌, ◌==◌, ◌||◌, Bool, true, false, cond, nat_lt, List, [], ◌∷◌, ◌++◌, ℤ, pos, negsuc, refl, sym, ap, ◌∙◌, subst, arith, codes, decimal, if◌then◌else◌}
+use Rattle.std.proofs.Common.{◌≡◌, ℕ, zero, suc, ◌<◌, ◌/◌, ◌%◌, ◌==◌, ◌||◌, Bool, true, false, cond, nat_lt, List, [], ◌∷◌}
+use Rattle.std.proofs.Common.{◌++◌, ℤ, pos, negsuc, refl, sym, ap, ◌∙◌, subst, arith, codes, decimal, if◌then◌else◌}
 use Rattle.std.specs.Prelude.{flat_map}
 use Rattle.std.specs.Char.{digit_char}
 use Rattle.std.specs.Fmt.{digits, digits_onto, digit_glyph, signed_decimal}
@@ -37,6 +38,7 @@ Plain s = flat_map escape_of s ≡ s
 pub plain_string : (s : List ℕ) → Plain s → json_string s ≡ codes "\"" ++ s ++ codes "\""
 plain_string s h = string_text s ∙ ap (λ t. 34 ∷ (t ++ 34 ∷ [])) h
 
+-- two plain texts together are plain
 pub plain_join : (s t : List ℕ) → Plain s → Plain t → Plain (s ++ t)
 plain_join s t h k = flat_map-append escape_of s t ∙ ap (λ w. w ++ flat_map escape_of t) h ∙ ap (λ w. s ++ w) k
 

@@ -1,5 +1,6 @@
 -- Texts that are put before others, one after another.
-use Rattle.std.proofs.Common.{◌≡◌, ℕ, ◌+◌, ◌≤◌, List, [], ◌++◌, length, take, drop, decimal, append_assoc, append-nil, take-append-drop, length-append, length-drop, length-take-le, refl, sym, ap, ◌∙◌, arith, subst}
+use Rattle.std.proofs.Common.{◌≡◌, ℕ, ◌+◌, ◌≤◌, List, [], ◌++◌, length, take, drop, decimal, append_assoc, append-nil}
+use Rattle.std.proofs.Common.{take-append-drop, length-append, length-drop, length-take-le, refl, sym, ap, ◌∙◌, arith, subst}
 use Rattle.std.proofs.lemmas.List.{drop_all}
 use Rattle.report.specs.Appended.{Grew, GrewInPart, Then}
 use Rattle.report.specs.Before.{IsPut, Puts}
@@ -62,5 +63,6 @@ puts_then P Q (w, q, later) (v, p, sooner) = (v ++ w, (v, w, p, q, refl), put_th
 pub five : (a b c d e : List ℕ) → a ++ (b ++ (c ++ (d ++ e))) ≡ a ++ b ++ c ++ d ++ e
 five a b c d e = simp append_assoc
 
+-- nine texts, put one before the other, are joined
 pub nine : (a b c d e f g h i : List ℕ) → a ++ (b ++ (c ++ (d ++ (e ++ (f ++ (g ++ (h ++ i))))))) ≡ a ++ b ++ c ++ d ++ e ++ f ++ g ++ h ++ i
 nine a b c d e f g h i = simp append_assoc

@@ -29,7 +29,13 @@ false_item = record { node = 0; on = false_at_0.on; holds = false }
 
 minus_five : IsNumberText 0 (whole (negsuc 4)) (codes "-5")
 unfolding digits
-minus_five = record { num = negsuc 4; den = 1; lowest = record { positive = lit< tt; coprime = λ k a b. one_divisor k b }; same = record { same = refl }; is = refl }
+minus_five = record {
+  num = negsuc 4;
+  den = 1;
+  lowest = record { positive = lit< tt; coprime = λ k a b. one_divisor k b };
+  same = record { same = refl };
+  is = refl;
+}
 
 five : IsDecimalText 0 5 (codes "5")
 unfolding digits
@@ -44,10 +50,13 @@ x_formula_text = x_atom_text
 
 abbrev x_report : Data
 x_report = object (member (codes "formula") (string (codes "x >= 5"))
-    (member (codes "items") (array (item (object (member (codes "atom") (string (codes "x >= 5")) (member (codes "on") (string (codes "[0,0]")) (member (codes "value") (boolean false) no_members)))) no_items))
-    (member (codes "margins") (array (item (object (member (codes "at") (string (codes "0")) (member (codes "margin") (string (codes "-5")) no_members))) no_items))
+    (member (codes "items") (array (item (object (member (codes "atom") (string (codes "x >= 5"))
+    (member (codes "on") (string (codes "[0,0]")) (member (codes "value") (boolean false) no_members)))) no_items))
+    (member (codes "margins")
+    (array (item (object (member (codes "at") (string (codes "0")) (member (codes "margin") (string (codes "-5")) no_members))) no_items))
     (member (codes "start") (boolean false)
-    (member (codes "verdicts") (array (item (object (member (codes "on") (string (codes "[0,0]")) (member (codes "value") (boolean false) no_members))) no_items)) no_members)))))
+    (member (codes "verdicts")
+    (array (item (object (member (codes "on") (string (codes "[0,0]")) (member (codes "value") (boolean false) no_members))) no_items)) no_members)))))
 
 report_data : IsReportData no_digits x_formula (false_at_0 ∷ []) one_knot (false_item ∷ []) false x_report
 report_data = (

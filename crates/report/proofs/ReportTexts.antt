@@ -38,13 +38,16 @@ module _ (scale : Scale) (f : Formula) (items : List Item) where
   abbrev pub AfterFormula : List ℕ → Type 0
   AfterFormula = Then (Is (codes ",\"items\":[")) (AreItemEntries scale f items)
 
+  -- what follows the formula has a text
   pub after_formula_exists : All (IsOfAtom f) items → growth.Some AfterFormula
   after_formula_exists all =
       some_then (Is (codes ",\"items\":[")) (AreItemEntries scale f items) (word_exists (codes ",\"items\":[")) (list_exists scale f items all)
 
+  -- so has the formula with it
   pub formula_on_exists : All (IsOfAtom f) items → growth.Some (Then (IsFormulaString f) AfterFormula)
   formula_on_exists all = some_then (IsFormulaString f) AfterFormula formula_exists (after_formula_exists all)
 
+  -- and all up to the items
   pub head_exists : All (IsOfAtom f) items → growth.Some (HeadParts scale f items)
   head_exists all = some_then (Is (codes "{\"formula\":")) (Then (IsFormulaString f) AfterFormula) (word_exists (codes "{\"formula\":")) (formula_on_exists all)
 
@@ -63,13 +66,16 @@ module _ (scale : Scale) (truth : List (Knot Truth)) (margins : List (Knot Margi
   pub verdicts_exist : growth.Some (AreEntries truth_shape true scale truth) → growth.Some Verdicts
   verdicts_exist v = some_then (AreEntries truth_shape true scale truth) (Is (codes "}\n")) v (word_exists (codes "}\n"))
 
+  -- and what begins with the truth at the start
   pub start_exists : growth.Some (AreEntries truth_shape true scale truth) → growth.Some FromStart
   start_exists v = some_then (Is (start_member holds)) Verdicts (word_exists (start_member holds)) (verdicts_exist v)
 
+  -- and what begins with the margins
   pub margins_exist : growth.Some (AreEntries truth_shape true scale truth) → growth.Some Margins
   margins_exist v =
       some_then (AreMarginEntries scale (knots_of margin_shape margins)) FromStart (margin_entries_exist scale (knots_of margin_shape margins)) (start_exists v)
 
+  -- and all behind the items
   pub tail_exists : growth.Some (AreEntries truth_shape true scale truth) → growth.Some (TailParts scale truth margins holds)
   tail_exists v = some_then (Is (codes ",\"margins\":[")) Margins (word_exists (codes ",\"margins\":[")) (margins_exist v)
 

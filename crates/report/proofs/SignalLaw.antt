@@ -16,7 +16,8 @@ use Rattle.stl_syntax.specs.declared.items.Verdict.{Verdict}
 use Rattle.stl_syntax.proofs.LawProofs.{truth_by_values}
 use Rattle.report.specs.SignalVerdicts.{sign_of, IsToldBy, GoesOnBy, DescribesFunction}
 
-module _ {P : Type 0} (shape : ShapeOf P) (p : Subformula) (tr : Trace) (signal : List (Knot P)) (ok : HasValues p (truth_setting tr)) (tells : Tells shape (SupInf p (truth_setting tr)) (start tr) (stop tr) signal) where
+module _ {P : Type 0} (shape : ShapeOf P) (p : Subformula) (tr : Trace) (signal : List (Knot P))
+    (ok : HasValues p (truth_setting tr)) (tells : Tells shape (SupInf p (truth_setting tr)) (start tr) (stop tr) signal) where
   -- what the signal is worth is the truth
   pub truth_at : (holds : Bool) (t : Rational) → knots.IsWorth shape signal t (sign_of holds) → MatchBool holds (Truth p tr t) (¬ Truth p tr t)
   truth_at true t h = let w = (tells.worth t one).0 h in (truth_by_values p tr ok t one w.0 w.1).holds.0 (same_reflᵉ one)
@@ -30,6 +31,7 @@ module _ {P : Type 0} (shape : ShapeOf P) (p : Subformula) (tr : Trace) (signal 
   goes_on v [] h = record { time = same_trans h.time tells.ends; inside = h.inside }
   goes_on v (w ∷ verdicts) h = (h.0, h.1, is_told w h.2, goes_on w verdicts h.3)
 
+  -- verdicts that describe a signal describe what it tells
   pub signal_describes : (verdicts : List Verdict) → DescribesFunction (knots.IsWorth shape signal) verdicts (closed (knots.start signal) (knots.stop signal))
       → Describes verdicts p tr (closed (start tr) (stop tr))
   signal_describes [] h = h

@@ -14,7 +14,9 @@ use Rattle.frac128.specs.declared.frac.Frac.{Frac}
 
 -- a number of the program
 pub record HasFrac (t : Rational) : Type 0 where
+  -- the number as it is kept
   pub frac : Frac
+  -- it is the number
   pub same : value frac ≈ t
 
 rest_lowest : (n d : ℕ) → IsLowest (pos n) d → IsLowest (pos (n % d)) d

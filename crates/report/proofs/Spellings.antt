@@ -35,7 +35,8 @@ before_or_after mid false t = by_order (le_or_lt mid t)
     by_order (inr h) = inl h
 
 -- a stretch goes on with one that joins on
-longer : (from mid to : Rational) (from_in mid_in to_in : Bool) → Precedes (from_in && mid_in) from mid → Precedes (not mid_in && to_in) mid to → Precedes (from_in && to_in) from to
+longer : (from mid to : Rational) (from_in mid_in to_in : Bool) → Precedes (from_in && mid_in) from mid
+    → Precedes (not mid_in && to_in) mid to → Precedes (from_in && to_in) from to
 longer from mid to true true to_in h k = precedes_of_lt to_in from to (lt_of_le_of_lt h k)
 longer from mid to false true to_in h k = lt_trans h k
 longer from mid to true false true h k = le_of_lt (lt_of_lt_of_le h k)
@@ -54,8 +55,11 @@ module _ (F : Function) where
 
   -- the open span is told up to the time `now`, which is in or out, and with each true end of it the verdicts before it describe the function up to there
   pub record IsSpelled (start now : Rational) (now_in : Bool) (verdicts : List Verdict) (o : OpenSpan) : Type 0 where
+    -- the open span has a time before now
     pub begun : Precedes (o.from_in && now_in) (value o.from) now
+    -- and on it the function keeps its truth
     pub told : Keeps (open_up_to o now now_in) o.holds
+    -- closed at a time, it ends verdicts that describe the function up to it
     pub before : (w : Verdict) (at : Frac) (at_in : Bool) → Closes o at at_in w → IsToldBy F w → DescribesFunction F (verdicts ++ w ∷ []) (up_to start w)
 
   -- one more verdict at the end
@@ -68,12 +72,14 @@ module _ (F : Function) where
   describes_more : (start : Rational) (verdicts : List Verdict) (v w : Verdict)
       → DescribesFunction F (verdicts ++ v ∷ []) (up_to start v) → Touch (interval v.on) (interval w.on) → v.holds ≢ w.holds → IsToldBy F w
       → DescribesFunction F ((verdicts ++ v ∷ []) ++ w ∷ []) (up_to start w)
-  describes_more start [] v w d t h k = (record { time = d.0.time; inside = d.0.inside }, d.1, (t, h, k, record { time = same_refl (value w.on.to); inside = refl }))
+  describes_more start [] v w d t h k =
+      (record { time = d.0.time; inside = d.0.inside }, d.1, (t, h, k, record { time = same_refl (value w.on.to); inside = refl }))
   describes_more start (u ∷ verdicts) v w d t h k = (record { time = d.0.time; inside = d.0.inside }, d.1, goes_on_more start u verdicts v w d.2 t h k)
 
   -- an interval and what joins on
   keeps_more : (from mid to : Rational) (from_in mid_in to_in holds : Bool) → Keeps (record { from = from; from_in = from_in; to = mid; to_in = mid_in }) holds
-      → Keeps (record { from = mid; from_in = not mid_in; to = to; to_in = to_in }) holds → Keeps (record { from = from; from_in = from_in; to = to; to_in = to_in }) holds
+      → Keeps (record { from = mid; from_in = not mid_in; to = to; to_in = to_in }) holds
+      → Keeps (record { from = from; from_in = from_in; to = to; to_in = to_in }) holds
   keeps_more from mid to from_in mid_in to_in holds h k t inside = by_side (before_or_after mid mid_in t)
     where
       by_side : Precedes mid_in t mid ⊎ Precedes (not mid_in) mid t → F t (sign_of holds)
@@ -86,18 +92,21 @@ module _ (F : Function) where
   closed_told start at at_in verdicts o w s c = record { not_empty = span_not_empty w; truth = rw (c.from, c.from_in, c.to, c.to_in, c.holds) s.told }
 
   -- the first time alone
-  pub spelled_first : (now : Rational) (o : OpenSpan) → value o.from ≡ now → o.from_in ≡ true → ((t : Rational) → t ≈ now → F t (sign_of o.holds)) → IsSpelled now now true [] o
+  pub spelled_first : (now : Rational) (o : OpenSpan) → value o.from ≡ now → o.from_in ≡ true
+      → ((t : Rational) → t ≈ now → F t (sign_of o.holds)) → IsSpelled now now true [] o
   spelled_first now o e f told = record {
     begun = rw (e, f) (le_refl now);
     told = rw (e, f) (λ t inside. told t (record { same = (same_of_both t inside).same }));
-    before = λ w at at_in c k. (record { time = rw (c.from, e) (same_refl now); inside = c.from_in ∙ f }, k, record { time = same_refl (value w.on.to); inside = refl });
+    before = λ w at at_in c k.
+        (record { time = rw (c.from, e) (same_refl now); inside = c.from_in ∙ f }, k, record { time = same_refl (value w.on.to); inside = refl });
   }
     where
       same_of_both : (t : Rational) → IsIn (record { from = now; from_in = true; to = now; to_in = true }) t → t ≈ now
       same_of_both t h = same_of_le h.below h.above
 
   -- past a time with a truth
-  pub spelled_on : (start : Rational) (verdicts : List Verdict) (o new : OpenSpan) (at : Frac) (at_in truth : Bool) (ended : Option Verdict) (next : Rational) (next_in : Bool)
+  pub spelled_on : (start : Rational) (verdicts : List Verdict) (o new : OpenSpan) (at : Frac) (at_in truth : Bool)
+      (ended : Option Verdict) (next : Rational) (next_in : Bool)
       → GoesTo o at at_in truth ended new → IsSpelled start (value at) at_in verdicts o → Precedes (not at_in && next_in) (value at) next
       → Keeps (record { from = value at; from_in = not at_in; to = next; to_in = next_in }) truth
       → IsSpelled start next next_in (verdicts ++ listed ended) new
@@ -116,12 +125,15 @@ module _ (F : Function) where
   }
 
   -- an end may be written by another pair
-  goes_on_to : (from to to' : Rational) (v : Verdict) (verdicts : List Verdict) → to ≈ to' → GoesOnBy F (closed from to) v verdicts → GoesOnBy F (closed from to') v verdicts
+  goes_on_to : (from to to' : Rational) (v : Verdict) (verdicts : List Verdict) → to ≈ to'
+      → GoesOnBy F (closed from to) v verdicts → GoesOnBy F (closed from to') v verdicts
   goes_on_to from to to' v [] e g = record { time = same_trans g.time e; inside = g.inside }
   goes_on_to from to to' v (w ∷ verdicts) e g = (g.0, g.1, g.2, goes_on_to from to to' w verdicts e g.3)
 
   -- the last span ends where it is told
-  pub spelled_end : (start : Rational) (at : Frac) (verdicts : List Verdict) (o : OpenSpan) (w : Verdict) → IsSpelled start (value at) true verdicts o → Closes o at true w
+  pub spelled_end : (start : Rational) (at : Frac) (verdicts : List Verdict) (o : OpenSpan) (w : Verdict)
+      → IsSpelled start (value at) true verdicts o → Closes o at true w
       → DescribesFunction F (verdicts ++ w ∷ []) (closed start (value at))
   spelled_end start at verdicts o w s c =
-      subst (λ (on : Interval). DescribesFunction F (verdicts ++ w ∷ []) on) (rw (c.to, c.to_in) refl) (s.before w at true c (closed_told start at true verdicts o w s c))
+      subst (λ (on : Interval). DescribesFunction F (verdicts ++ w ∷ []) on) (rw (c.to, c.to_in) refl)
+      (s.before w at true c (closed_told start at true verdicts o w s c))

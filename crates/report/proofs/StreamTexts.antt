@@ -1,12 +1,14 @@
 -- What a stream writes for rows is one text, and rows more only make it longer.
-use Rattle.std.proofs.Common.{◌≡◌, inl, inr, ℕ, Bool, true, false, List, [], ◌∷◌, ◌++◌, refl, sym, ap, ◌∙◌, subst, append_assoc, append-nil, Option, Some, None, ℤ, codes}
+use Rattle.std.proofs.Common.{◌≡◌, inl, inr, ℕ, Bool, true, false, List, [], ◌∷◌, ◌++◌, refl, sym, ap}
+use Rattle.std.proofs.Common.{◌∙◌, subst, append_assoc, append-nil, Option, Some, None, ℤ, codes}
 use Rattle.std.proofs.lemmas.Bool.{false≢true}
 use Rattle.std.specs.Prelude.{int_lt, MatchBool}
 use Rattle.rational.specs.Time.{Rational, Interval}
 use Rattle.rational.proofs.Order.{same_refl}
 use Rattle.stl_syntax.specs.Texts.{IsNumberText, newline, start_line}
 use Rattle.stl_syntax.specs.Trace.{Header, Row, Trace, row_time}
-use Rattle.stl_syntax.specs.Formula.{Subformula, constant, atom, negation, conjunction, disjunction, implication, eventually, always, once, historically, until, since}
+use Rattle.stl_syntax.specs.Formula.{Subformula, constant, atom, negation, conjunction, disjunction}
+use Rattle.stl_syntax.specs.Formula.{implication, eventually, always, once, historically, until, since}
 use Rattle.stl_syntax.specs.Stream.{NewText, IsStretchText, IsNewText, IsRowsText, IsRestText, IsStreamText}
 use Rattle.stl_syntax.specs.EarlyText.{IsEarlyText, at_row, at_end, not_yet}
 use Rattle.stl_syntax.specs.Early.{Settled, SettledNot, Decides, FirstDecides}
@@ -38,7 +40,8 @@ new_once p tr (Some old) (Some new) x y a b = by_test (IsStretchText p tr _) (in
 
 module _ {New : NewText} (one : IsOneText New) (p : Subformula) (header : Header) where
   -- rows in turn have one text
-  pub rows_once : (rows : List Row) (old : Option ℤ) (more : List Row) (x y : List ℕ) → IsRowsText New p header rows old more x → IsRowsText New p header rows old more y → x ≡ y
+  pub rows_once : (rows : List Row) (old : Option ℤ) (more : List Row) (x y : List ℕ) → IsRowsText New p header rows old more x
+      → IsRowsText New p header rows old more y → x ≡ y
   rows_once rows old [] x y a b = a ∙ sym b
   rows_once rows old (r ∷ more) x y (here, later, a, rest, is) (here', later', a', rest', is') =
       is ∙ ap (λ t. t ++ later) (one _ _ _ here here' a a') ∙ ap (λ t. here' ++ t) (rows_once (rows ++ r ∷ []) _ more later later' rest rest') ∙ sym is'
@@ -50,7 +53,8 @@ module _ {New : NewText} (one : IsOneText New) (p : Subformula) (header : Header
   rows_grow rows old (r ∷ more) beyond x y (here, later, a, rest, is) (here', later', a', rest', is') =
       let (tail, e) = rows_grow (rows ++ r ∷ []) _ more beyond later later' rest rest' in (
         tail,
-        is' ∙ ap (λ t. t ++ later') (sym (one _ _ _ here here' a a')) ∙ ap (λ t. here ++ t) e ∙ sym (append_assoc here later tail) ∙ ap (λ t. t ++ tail) (sym is),
+        is' ∙ ap (λ t. t ++ later') (sym (one _ _ _ here here' a a')) ∙ ap (λ t. here ++ t) e ∙ sym (append_assoc here later tail)
+            ∙ ap (λ t. t ++ tail) (sym is),
       )
 
   -- so has what is left
@@ -59,12 +63,16 @@ module _ {New : NewText} (one : IsOneText New) (p : Subformula) (header : Header
 
 -- ---- streams of verdicts
 
-pub stream_once : (p : Subformula) (header : Header) (rows : List Row) (ended : Bool) (x y : List ℕ) → IsStreamText p header rows ended x → IsStreamText p header rows ended y → x ≡ y
+-- a stream's text is one for its rows
+pub stream_once : (p : Subformula) (header : Header) (rows : List Row) (ended : Bool) (x y : List ℕ)
+    → IsStreamText p header rows ended x → IsStreamText p header rows ended y → x ≡ y
 stream_once p header rows false x y a b = rows_once (new_once p) p header [] None rows x y a b
 stream_once p header rows true x y (_, (during, rest, line, a, b, c, is)) (_, (during', rest', line', a', b', c', is')) =
     is ∙ ap (λ t. t ++ rest ++ line) (rows_once (new_once p) p header [] None rows during during' a a')
-    ∙ ap (λ t. during' ++ t ++ line) (rest_once (new_once p) p header (record { header = header; rows = rows }) rest rest' b b') ∙ ap (λ t. during' ++ rest' ++ t) (start_once p (record { header = header; rows = rows }) line line' c c') ∙ sym is'
+    ∙ ap (λ t. during' ++ t ++ line) (rest_once (new_once p) p header (record { header = header; rows = rows }) rest rest' b b')
+    ∙ ap (λ t. during' ++ rest' ++ t) (start_once p (record { header = header; rows = rows }) line line' c c') ∙ sym is'
 
+-- and rows more make it longer
 pub stream_grows : (p : Subformula) (header : Header) (rows beyond : List Row) (ended : Bool) (x y : List ℕ) → IsStreamText p header rows false x
     → IsStreamText p header (rows ++ beyond) ended y → IsLonger x y
 stream_grows p header rows beyond false x y a b = rows_grow (new_once p) p header [] None rows beyond x y a b
@@ -124,7 +132,8 @@ one_decision p tr false true h k = absurd (settled_once p tr _ k h)
 one_decision p tr false false h k = refl
 
 -- two rows that are the first to decide are one
-first_once : (p : Subformula) (header : Header) (before after before' after' : List Row) (r r' : Row) (holds holds' : Bool) → before ++ r ∷ after ≡ before' ++ r' ∷ after'
+first_once : (p : Subformula) (header : Header) (before after before' after' : List Row) (r r' : Row) (holds holds' : Bool)
+    → before ++ r ∷ after ≡ before' ++ r' ∷ after'
     → FirstDecides p header before r holds → FirstDecides p header before' r' holds' → (r ≡ r') × (holds ≡ holds')
 first_once p header before after before' after' r r' holds holds' e a b = by_parting (parted before r after before' r' after' e)
   where
@@ -138,30 +147,42 @@ first_once p header before after before' after' r r' holds holds' e a b = by_par
     by_parting (first rest f) = absurd (b.not_before before rest r holds f a.decides)
     by_parting (other rest f) = absurd (a.not_before before' rest r' holds' f b.decides)
 
-decided_once : (p : Subformula) (header : Header) (digits : ℕ) (before after before' after' : List Row) (r r' : Row) (holds holds' : Bool) (x y t u : List ℕ) → before ++ r ∷ after ≡ before' ++ r' ∷ after'
+decided_once : (p : Subformula) (header : Header) (digits : ℕ) (before after before' after' : List Row) (r r' : Row)
+    (holds holds' : Bool) (x y t u : List ℕ) → before ++ r ∷ after ≡ before' ++ r' ∷ after'
     → FirstDecides p header before r holds → FirstDecides p header before' r' holds' → IsNumberText digits (row_time r) t → IsNumberText digits (row_time r') u
     → x ≡ codes "decided at " ++ t ++ newline ++ start_line holds → y ≡ codes "decided at " ++ u ++ newline ++ start_line holds' → x ≡ y
 decided_once p header digits before after before' after' r r' holds holds' x y t u e a b s v is is' =
     let (same_row, same_truth) = first_once p header before after before' after' r r' holds holds' e a b in
     let times : t ≡ u = number_once digits (same_refl _) (subst (λ w. IsNumberText digits (row_time w) t) same_row s) v in
-    is ∙ ap (λ z. codes "decided at " ++ z ++ newline ++ start_line holds) times ∙ ap (λ h. codes "decided at " ++ u ++ newline ++ start_line h) same_truth ∙ sym is'
+    is ∙ ap (λ z. codes "decided at " ++ z ++ newline ++ start_line holds) times
+    ∙ ap (λ h. codes "decided at " ++ u ++ newline ++ start_line h) same_truth ∙ sym is'
 
-pub early_once : (p : Subformula) (header : Header) (rows : List Row) (ended : Bool) (x y : List ℕ) → IsEarlyText p header rows ended x → IsEarlyText p header rows ended y → x ≡ y
-early_once p header rows ended x y (at_row b a r h t e f s is) (at_row b' a' r' h' t' e' f' s' is') = decided_once p header header.scale.time b a b' a' r r' h h' x y t t' (sym e ∙ e') f f' s s' is is'
+-- the early text is one for its rows
+pub early_once : (p : Subformula) (header : Header) (rows : List Row) (ended : Bool) (x y : List ℕ)
+    → IsEarlyText p header rows ended x → IsEarlyText p header rows ended y → x ≡ y
+early_once p header rows ended x y (at_row b a r h t e f s is) (at_row b' a' r' h' t' e' f' s' is') =
+    decided_once p header header.scale.time b a b' a' r r' h h' x y t t' (sym e ∙ e') f f' s s' is is'
 early_once p header rows ended x y (at_row b a r h t e f s is) (at_end l d k none c is') = absurd (none b a r h e f.decides)
 early_once p header rows ended x y (at_row b a r h t e f s is) (not_yet o none is') = absurd (none b a r h e f.decides)
 early_once p header rows ended x y (at_end l d k none c is) (at_row b' a' r' h' t' e' f' s' is') = absurd (none b' a' r' h' e' f'.decides)
-early_once p header rows ended x y (at_end l d k none c is) (at_end l' d' k' none' c' is') = is ∙ ap (λ t. codes "decided at end" ++ newline ++ t) (start_once p (record { header = header; rows = rows }) l l' c c') ∙ sym is'
+early_once p header rows ended x y (at_end l d k none c is) (at_end l' d' k' none' c' is') = is
+    ∙ ap (λ t. codes "decided at end" ++ newline ++ t) (start_once p (record { header = header; rows = rows }) l l' c c') ∙ sym is'
 early_once p header rows ended x y (at_end l d k none c is) (not_yet o none' is') = absurd (false≢true (sym o ∙ d))
 early_once p header rows ended x y (not_yet o none is) (at_row b' a' r' h' t' e' f' s' is') = absurd (none b' a' r' h' e' f'.decides)
 early_once p header rows ended x y (not_yet o none is) (at_end l' d' k' none' c' is') = absurd (false≢true (sym o ∙ d'))
 early_once p header rows ended x y (not_yet o none is) (not_yet o' none' is') = is ∙ sym is'
 
+-- and rows more make it longer
 pub early_grows : (p : Subformula) (header : Header) (rows beyond : List Row) (ended : Bool) (x y : List ℕ) → IsEarlyText p header rows false x
     → IsEarlyText p header (rows ++ beyond) ended y → IsLonger x y
 early_grows p header rows beyond ended x y (not_yet o none is) _ = (y, ap (λ t. t ++ y) (sym is))
 early_grows p header rows beyond ended x y (at_end l d k none c is) _ = absurd (false≢true d)
-early_grows p header rows beyond ended x y (at_row b a r h t e f s is) (at_row b' a' r' h' t' e' f' s' is') =
-    ([], sym (append-nil x ∙ decided_once p header header.scale.time b (a ++ beyond) b' a' r r' h h' x y t t' (sym (append_assoc b (r ∷ a) beyond) ∙ ap (λ l. l ++ beyond) (sym e) ∙ e') f f' s s' is is'))
-early_grows p header rows beyond ended x y (at_row b a r h t e f s is) (at_end l d k none c is') = absurd (none b (a ++ beyond) r h (ap (λ l. l ++ beyond) e ∙ append_assoc b (r ∷ a) beyond) f.decides)
-early_grows p header rows beyond ended x y (at_row b a r h t e f s is) (not_yet o none is') = absurd (none b (a ++ beyond) r h (ap (λ l. l ++ beyond) e ∙ append_assoc b (r ∷ a) beyond) f.decides)
+early_grows p header rows beyond ended x y (at_row b a r h t e f s is) (at_row b' a' r' h' t' e' f' s' is') = (
+  [],
+  sym (append-nil x ∙ decided_once p header header.scale.time b (a ++ beyond) b' a' r r' h h' x y t t'
+      (sym (append_assoc b (r ∷ a) beyond) ∙ ap (λ l. l ++ beyond) (sym e) ∙ e') f f' s s' is is'),
+)
+early_grows p header rows beyond ended x y (at_row b a r h t e f s is) (at_end l d k none c is') =
+    absurd (none b (a ++ beyond) r h (ap (λ l. l ++ beyond) e ∙ append_assoc b (r ∷ a) beyond) f.decides)
+early_grows p header rows beyond ended x y (at_row b a r h t e f s is) (not_yet o none is') =
+    absurd (none b (a ++ beyond) r h (ap (λ l. l ++ beyond) e ∙ append_assoc b (r ∷ a) beyond) f.decides)

@@ -22,9 +22,11 @@ shrink K p t = record { up = t.up; down = t.down; den = K * t.den; positive = mu
 pub stretch_le : {t u : Rational} (K : ℕ) → t ≤ʳ u → stretch K t ≤ʳ stretch K u
 stretch_le K h = record { le = let m = mul-le-mul_left K h.le in omega (arith, m) }
 
+-- times K are ordered as the numbers
 pub stretch_lt : {t u : Rational} (K : ℕ) → 0 < K → t <ʳ u → stretch K t <ʳ stretch K u
 stretch_lt K p h = record { lt = let m = mul-lt-mul_of_pos_left h.lt p in omega (arith, m) }
 
+-- and are the same where these are
 pub stretch_same : {t u : Rational} (K : ℕ) → t ≈ u → stretch K t ≈ stretch K u
 stretch_same K h = same_of_le (stretch_le K (le_of_same h)) (stretch_le K (ge_of_same h))
 
@@ -34,11 +36,13 @@ le_back {t} {u} K p h = record {
   le = le_of_mul-le-mul_left (let e : K * (t.up * u.den + u.down * t.den) ≤ K * (u.up * t.den + t.down * u.den) = omega (arith, h.le) in e) p;
 }
 
+-- and the other way round
 pub lt_back : {t u : Rational} (K : ℕ) → stretch K t <ʳ stretch K u → t <ʳ u
 lt_back {t} {u} K h = record {
   lt = lt_of_mul-lt-mul_left K (let e : K * (t.up * u.den + u.down * t.den) < K * (u.up * t.den + t.down * u.den) = omega (arith, h.lt) in e);
 }
 
+-- and so where they are the same
 pub same_back : {t u : Rational} (K : ℕ) → 0 < K → stretch K t ≈ stretch K u → t ≈ u
 same_back K p h = same_of_le (le_back K p (le_of_same h)) (le_back K p (ge_of_same h))
 
@@ -46,10 +50,12 @@ same_back K p h = same_of_le (le_back K p (le_of_same h)) (le_back K p (ge_of_sa
 pub stretch-shrink : (K : ℕ) (p : 0 < K) (t : Rational) → stretch K (shrink K p t) ≈ t
 stretch-shrink K p t = record { same = omega arith }
 
+-- what precedes precedes, both times K
 pub precedes_stretch : (K : ℕ) → 0 < K → (b : Bool) (t u : Rational) → Precedes b t u → Precedes b (stretch K t) (stretch K u)
 precedes_stretch K p true t u h = stretch_le K h
 precedes_stretch K p false t u h = stretch_lt K p h
 
+-- and the other way round
 pub precedes_back : (K : ℕ) → 0 < K → (b : Bool) (t u : Rational) → Precedes b (stretch K t) (stretch K u) → Precedes b t u
 precedes_back K p true t u h = le_back K p h
 precedes_back K p false t u h = lt_back K h
@@ -58,9 +64,11 @@ precedes_back K p false t u h = lt_back K h
 pub later_stretch : (K a : ℕ) (t : Rational) → later (stretch K t) (K * a) ≈ stretch K (later t a)
 later_stretch K a t = record { same = omega arith }
 
+-- what lies within lies within, all times K
 pub within_stretched : {t u v : Rational} (K : ℕ) → Within t u v → Within (stretch K t) (stretch K u) (stretch K v)
 within_stretched K h = record { above = stretch_le K h.above; below = stretch_le K h.below }
 
+-- and the other way round
 pub within_back : {t u v : Rational} (K : ℕ) → 0 < K → Within (stretch K t) (stretch K u) (stretch K v) → Within t u v
 within_back K p h = record { above = le_back K p h.above; below = le_back K p h.below }
 
@@ -80,6 +88,7 @@ less_stretch K p t u = by_test (less t u) refl
 pub add_stretch : (K : ℕ) (a b : Rational) → add (stretch K a) (stretch K b) ≈ stretch K (add a b)
 add_stretch K a b = record { same = omega arith }
 
+-- a coefficient of K times a number is K times the product
 pub times_stretch : (K : ℕ) (c : ℤ) (a : Rational) → times c (stretch K a) ≈ stretch K (times c a)
 times_stretch K c a = record { same = omega arith }
 
@@ -96,10 +105,12 @@ pub above-times : (K : ℕ) (z : ℤ) → part_above (pos K *ℤ z) ≡ K * part
 above-times K (pos n) = refl
 above-times K (negsuc n) = let e = neg_above (K * suc n) in omega (arith, e)
 
+-- the part below nought of K times a whole number is K times its part
 pub below-times : (K : ℕ) (z : ℤ) → part_below (pos K *ℤ z) ≡ K * part_below z
 below-times K (pos n) = omega arith
 below-times K (negsuc n) = neg_below (K * suc n)
 
+-- K times a whole number is whole
 pub whole_stretch : (K : ℕ) (z : ℤ) → whole (pos K *ℤ z) ≈ stretch K (whole z)
 whole_stretch K z = let e = above-times K z in let f = below-times K z in record { same = omega (arith, e, f) }
 
@@ -110,6 +121,7 @@ compares_stretch K p Above x h = let k : x.down < x.up = grind arith in let l = 
 compares_stretch K p AtMost x h = let k : x.up ≤ x.down = grind arith in let l = mul-le-mul_left K k in grind arith
 compares_stretch K p Below x h = let k : x.up < x.down = grind arith in let l = mul-lt-mul_of_pos_left k p in grind arith
 
+-- a comparison with nought is that of K times the number
 pub compares_back : (K : ℕ) → 0 < K → (rel : Rel) (x : Rational) → IsTrue (compares rel (stretch K x)) → IsTrue (compares rel x)
 compares_back K p AtLeast x h =
     let k : K * x.down ≤ K * x.up = grind arith in let l = le_of_mul-le-mul_left {m = x.down} {n = x.up} {k = K} k p in grind arith

@@ -54,6 +54,7 @@ module _ (scale : Scale) where
   TableParts knots =
       Then (Then (Is (row_text default_writer heading)) (AreEach (IsStepRow scale) (steps_of knots))) (IsLastRow scale (last_knot knots.first knots.pieces))
 
+  -- the header's record and those of the knots make the table
   pub table_text : (knots : Knots) (text : List ℕ) → TableParts knots text → IsTableText scale knots text
   table_text knots text (front, last, (head, body, is_head, is_body, e), is_last, f) =
       let (records, are, g) = rows_are_records knots.first knots.pieces body last is_body is_last in (

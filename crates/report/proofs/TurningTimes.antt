@@ -4,7 +4,8 @@ use Rattle.std.specs.Prelude.{◌≢◌}
 use Rattle.std.proofs.lemmas.Bool.{cases_lt}
 use Rattle.rational.specs.Rational.{middle}
 use Rattle.rational.specs.Time.{Rational, ◌≤ʳ◌, ◌≈◌, Interval, IsIn, IsNotEmpty, Precedes, closed}
-use Rattle.rational.proofs.Order.{le_refl, le_of_same, ge_of_same, same_sym, same_trans, lt_of_lt_of_le, lt_of_le_of_lt, lt_trans, left_of_middle, right_of_middle}
+use Rattle.rational.proofs.Order.{le_refl, le_of_same, ge_of_same, same_sym, same_trans, lt_of_lt_of_le}
+use Rattle.rational.proofs.Order.{lt_of_le_of_lt, lt_trans, left_of_middle, right_of_middle}
 use Rattle.rational.proofs.Lowest.{has_denominator, denominator_same}
 use Rattle.rational.proofs.TimeLemmas.{precedes_of_lt, precedes_after, precedes_before, precedes_of_not_empty, not_empty_of_precedes}
 use Rattle.frac128.specs.Value.{value}
@@ -82,14 +83,18 @@ module _ (K : ℕ) (kp : 0 < K) where
   abbrev pub shrunk : Interval → Interval
   shrunk on = record { from = shrink K kp on.from; from_in = on.from_in; to = shrink K kp on.to; to_in = on.to_in }
 
+  -- what precedes precedes, both in larger ticks
   pub precedes_shrink : (b : Bool) (t u : Rational) → Precedes b t u → Precedes b (shrink K kp t) (shrink K kp u)
   precedes_shrink b t u h =
-      precedes_back K kp b (shrink K kp t) (shrink K kp u) (precedes_after b (stretch K (shrink K kp t)) t (stretch K (shrink K kp u)) (le_of_same (stretch-shrink K kp t))
+      precedes_back K kp b (shrink K kp t) (shrink K kp u)
+      (precedes_after b (stretch K (shrink K kp t)) t (stretch K (shrink K kp u)) (le_of_same (stretch-shrink K kp t))
       (precedes_before b t u (stretch K (shrink K kp u)) h (ge_of_same (stretch-shrink K kp u))))
 
+  -- a stretch in larger ticks has a time
   pub shrunk_not_empty : (on : Interval) → IsNotEmpty on → IsNotEmpty (shrunk on)
   shrunk_not_empty on h = not_empty_of_precedes (shrunk on) (precedes_shrink (on.from_in && on.to_in) on.from on.to (precedes_of_not_empty on h))
 
+  -- a time of it is, times K, one of the stretch
   pub in_shrunk : (on : Interval) (u : Rational) → IsIn (shrunk on) u → IsIn on (stretch K u)
   in_shrunk on u i = record {
     above = precedes_after on.from_in on.from (stretch K (shrink K kp on.from)) (stretch K u) (ge_of_same (stretch-shrink K kp on.from))
@@ -98,6 +103,7 @@ module _ (K : ℕ) (kp : 0 < K) where
         (le_of_same (stretch-shrink K kp on.to));
   }
 
+  -- another way to write a time has the same part
   pub same_shrink : {t u : Rational} → t ≈ u → shrink K kp t ≈ shrink K kp u
   same_shrink {t} {u} e = same_back K kp (same_trans (stretch-shrink K kp t) (same_trans e (same_sym (stretch-shrink K kp u))))
 
@@ -113,20 +119,24 @@ module _ (K M : ℕ) (kp : 0 < K) (mp : 0 < M) (tr : Trace) (ok : IsTrace tr) (s
   told_in true u h = (truth_by K M kp mp tr ok scale p u).1 h
   told_in false u h = λ k. h ((truth_by K M kp mp tr ok scale p u).0 k)
 
+  -- a verdict in smaller ticks tells the truth in the larger ones
   pub told_at : (v : Verdict) → IsTold q other v → (u : Rational) → IsIn (shrunk K kp (interval v.on)) u → MatchBool v.holds (Truth p tr u) (¬ Truth p tr u)
   told_at v h u i = told_in v.holds u (h.truth (stretch K u) (in_shrunk K kp (interval v.on) u i))
 
   -- between two verdicts the truth turns, so the time is no rare one
-  turns : (v w : Verdict) → IsTold q other v → IsTold q other w → v.holds ≢ w.holds → value w.on.from ≈ value v.on.to → ¬ IsRare (2 ^ 31) (shrink K kp (value v.on.to))
+  turns : (v w : Verdict) → IsTold q other v → IsTold q other w → v.holds ≢ w.holds → value w.on.from ≈ value v.on.to
+      → ¬ IsRare (2 ^ 31) (shrink K kp (value v.on.to))
   turns v w h k apart e rare =
       let c = calm (2 ^ 31) (omega arith) tr p atoms (shrink K kp (value v.on.to)) rare in
       let a = near_end (shrunk K kp (interval v.on)) (shrunk_not_empty K kp (interval v.on) h.not_empty) c.near in
       let b = near_begin (shrunk K kp (interval w.on)) (shrunk_not_empty K kp (interval w.on) k.not_empty) (about (same_sym (same_shrink K kp e)) c.near) in
       let b_near : IsNear c.near b.time = record { above = b.near.above; below = b.near.below } in
-      differ v.holds w.holds apart (told_at v h a.time a.inside) (told_at w k b.time b.inside) (c.alike a.time b.time a.near b_near) (c.alike b.time a.time b_near a.near)
+      differ v.holds w.holds apart (told_at v h a.time a.inside) (told_at w k b.time b.inside)
+      (c.alike a.time b.time a.near b_near) (c.alike b.time a.time b_near a.near)
 
   -- so it is kept
-  turn_kept : (v w : Verdict) → IsTold q other v → IsTold q other w → v.holds ≢ w.holds → value w.on.from ≈ value v.on.to → HasFrac (shrink K kp (value v.on.to))
+  turn_kept : (v w : Verdict) → IsTold q other v → IsTold q other w → v.holds ≢ w.holds → value w.on.from ≈ value v.on.to
+      → HasFrac (shrink K kp (value v.on.to))
   turn_kept v w h k apart e =
       let t = shrink K kp (value v.on.to) in
       let d = has_denominator t in
@@ -153,6 +163,7 @@ module _ (K M : ℕ) (kp : 0 < K) (mp : 0 < M) (tr : Trace) (ok : IsTrace tr) (s
       let rest = ends_go_on w verdicts h.2 h.3 in
       (to, (record { frac = to.frac; same = same_trans to.same (same_sym (same_shrink K kp h.0.time)) }, rest.0, rest.1))
 
+  -- the verdicts' ends are numbers that the program keeps
   pub has_ends : (verdicts : List Verdict) → Describes verdicts q other (closed (start other) (stop other)) → HasEnds verdicts
   has_ends [] h = tt
   has_ends (v ∷ verdicts) h =

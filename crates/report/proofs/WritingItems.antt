@@ -21,9 +21,13 @@ three_pieces old t u v a b c e f g = g ∙ ap (λ s. s ++ c) (f ∙ ap (λ s. s 
 
 -- the lines of the items up to a place are written; the lines of the rest, whatever they are, stand behind them
 pub record AreWrittenTo (scale : Scale) (f : Formula) (items : List Item) (old : List ℕ) (i : ℕ) (text : List ℕ) : Type 0 where
+  -- so many items were written
   pub within : i ≤ length items
+  -- their lines
   pub before : List Item
+  -- with what follows they are the lines of all
   pub lines : (others : List Item) → IsItemLines (drop i items) others → IsItemLines items (before ++ others)
+  -- the text has grown by them
   pub grew : Grew (AreItemLines scale f before) old text
 
 -- at first there are none
@@ -31,32 +35,47 @@ pub written_none : (scale : Scale) (f : Formula) (items : List Item) (old : List
 written_none scale f items old = record { within = omega arith; before = []; lines = λ others h. h; grew = ([], refl, sym (append-nil old)) }
 
 -- one line more
-pub written_more : (scale : Scale) (f : Formula) (items : List Item) (old : List ℕ) (i n : ℕ) (text new : List ℕ) (line : Item) → AreWrittenTo scale f items old i text → n ≤ length items
+pub written_more : (scale : Scale) (f : Formula) (items : List Item) (old : List ℕ) (i n : ℕ) (text new : List ℕ) (line : Item)
+    → AreWrittenTo scale f items old i text → n ≤ length items
     → IsFirstLine (drop i items) (drop n items) line → Grew (IsItemLine scale f line) text new → AreWrittenTo scale f items old n new
 written_more scale f items old i n text new line w within first (here, is, e) = record {
   within = within;
   before = w.before ++ line ∷ [];
   lines = λ others h. subst (IsItemLines items) (sym (append_assoc w.before (line ∷ []) others)) (w.lines (line ∷ others) (first.before others h));
-  grew = (w.grew.0 ++ here, lines_join scale f w.before (line ∷ []) w.grew.0 here w.grew.1 (line_of_one scale f line here is), e ∙ ap (λ t. t ++ here) w.grew.2 ∙ append_assoc old w.grew.0 here);
+  grew = (
+    w.grew.0 ++ here,
+    lines_join scale f w.before (line ∷ []) w.grew.0 here w.grew.1 (line_of_one scale f line here is),
+    e ∙ ap (λ t. t ++ here) w.grew.2 ∙ append_assoc old w.grew.0 here,
+  );
 }
 
 -- all of them
-pub written_all : (scale : Scale) (f : Formula) (items : List Item) (old : List ℕ) (i : ℕ) (text : List ℕ) → AreWrittenTo scale f items old i text → length items ≤ i → Grew (AreItemsText scale f items) old text
-written_all scale f items old i text w h =
-    (w.grew.0, record { lines = w.before; joined = subst (IsItemLines items) (append-nil w.before) (w.lines [] (none (drop_all i items h))); written = w.grew.1 }, w.grew.2)
+pub written_all : (scale : Scale) (f : Formula) (items : List Item) (old : List ℕ) (i : ℕ) (text : List ℕ)
+    → AreWrittenTo scale f items old i text → length items ≤ i → Grew (AreItemsText scale f items) old text
+written_all scale f items old i text w h = (
+  w.grew.0,
+  record {
+    lines = w.before;
+    joined = subst (IsItemLines items) (append-nil w.before) (w.lines [] (none (drop_all i items h)));
+    written = w.grew.1;
+  },
+  w.grew.2,
+)
   where
     none : drop i items ≡ [] → IsItemLines (drop i items) []
     none e = subst (λ xs. IsItemLines xs []) (sym e) refl
 
 -- where all items are of atoms, the line that begins with one is
-pub atom_of_line : (f : Formula) (items : List Item) (i n : ℕ) (line : Item) → All (IsOfAtom f) items → i < length items → IsFirstLine (drop i items) (drop n items) line → IsOfAtom f line
+pub atom_of_line : (f : Formula) (items : List Item) (i n : ℕ) (line : Item) → All (IsOfAtom f) items → i < length items
+    → IsFirstLine (drop i items) (drop n items) line → IsOfAtom f line
 atom_of_line f items i n line all h first =
     let own : IsOfAtom f (slice_index_or items i line) = all i line h in
     let same : line.node ≡ (slice_index_or items i line).node = first.node (slice_index_or items i line) (drop (i + 1) items) (drop_more items i line h) in
     (own.0, ap (λ n. slice_get f.nodes n) same ∙ own.1)
 
 -- a part of one line more, behind which the rest has lines
-pub part_more : (scale : Scale) (f : Formula) (items : List Item) (old : List ℕ) (i n : ℕ) (text new : List ℕ) (line : Item) → All (IsOfAtom f) items → AreWrittenTo scale f items old i text
+pub part_more : (scale : Scale) (f : Formula) (items : List Item) (old : List ℕ) (i n : ℕ) (text new : List ℕ) (line : Item)
+    → All (IsOfAtom f) items → AreWrittenTo scale f items old i text
     → IsFirstLine (drop i items) (drop n items) line → GrewInPart (IsItemLine scale f line) text new → GrewInPart (AreItemsText scale f items) old new
 part_more scale f items old i n text new line all w first (here, rest, is, e) =
     let later = items_exist scale f (drop n items) (All-drop (IsOfAtom f) n items all) in
@@ -66,7 +85,8 @@ part_more scale f items old i n text new line all w first (here, rest, is, e) =
     (lines_join scale f (line ∷ []) later.1.lines (here ++ rest) later.0 (line_of_one scale f line (here ++ rest) is) later.1.written) in (
       w.grew.0 ++ here,
       rest ++ later.0,
-      subst (AreItemsText scale f items) (together w.grew.0 here rest later.0) (record { lines = w.before ++ (line ∷ later.1.lines); joined = lines; written = written }),
+      subst (AreItemsText scale f items) (together w.grew.0 here rest later.0)
+          (record { lines = w.before ++ (line ∷ later.1.lines); joined = lines; written = written }),
       e ∙ ap (λ t. t ++ here) w.grew.2 ∙ append_assoc old w.grew.0 here,
     )
   where

@@ -24,7 +24,8 @@ AreItemData scale f [] items = items ≡ no_items
 AreItemData scale f (e ∷ more) items =
     (a : Atom) × (slice_get f.nodes e.node ≡ Some (Leaf a)) × ((name on : List ℕ) × (later : Items) × IsAtomText f.scale a name × IsSpanText scale e.on on
     × AreItemData scale f more later
-    × (items ≡ item (object (member (codes "atom") (string name) (member (codes "on") (string on) (member (codes "value") (boolean e.holds) no_members)))) later))
+    × (items ≡ item
+    (object (member (codes "atom") (string name) (member (codes "on") (string on) (member (codes "value") (boolean e.holds) no_members)))) later))
 
 -- a knot
 abbrev pub IsKnotData : Scale → Knot → Data → Type 0
@@ -35,8 +36,10 @@ IsKnotData scale k d =
 -- a piece after knot k
 abbrev pub IsPieceData : Scale → Knot → Piece → Data → Type 0
 IsPieceData scale k p d =
-    (a b from to : List ℕ) × IsNumberText scale.time k.time a × IsNumberText scale.time p.next.time b × IsValueText scale.value p.from from × IsValueText scale.value p.to to
-    × (d ≡ object (member (codes "from") (string from) (member (codes "on") (string (codes "(" ++ a ++ codes "," ++ b ++ codes ")")) (member (codes "to") (string to) no_members))))
+    (a b from to : List ℕ) × IsNumberText scale.time k.time a × IsNumberText scale.time p.next.time b
+    × IsValueText scale.value p.from from × IsValueText scale.value p.to to
+    × (d ≡ object (member (codes "from") (string from)
+    (member (codes "on") (string (codes "(" ++ a ++ codes "," ++ b ++ codes ")")) (member (codes "to") (string to) no_members))))
 
 -- the pieces in order, each with the knot after it
 abbrev pub ArePieceData : Scale → Knot → List Piece → Items → Type 0

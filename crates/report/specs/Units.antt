@@ -36,7 +36,8 @@ WritesAlike command f tr tr' = (text : List ℕ) → (Out command f tr text → 
 -- what `check` and `robust` write does not depend on the ticks
 abbrev pub LawOfUnits : Type 0
 LawOfUnits =
-    (f : Formula) (tr : Trace) (k m : ℕ) → IsWellFormed f → IsTrace tr → AreInRange tr.rows → f.scale.time ≤ tr.header.scale.time → f.scale.value ≤ tr.header.scale.value
+    (f : Formula) (tr : Trace) (k m : ℕ) → IsWellFormed f → IsTrace tr → AreInRange tr.rows → f.scale.time ≤ tr.header.scale.time
+    → f.scale.value ≤ tr.header.scale.value
     → tr.header.scale.time + k ≤ 6 → tr.header.scale.value + m ≤ 6
     → WritesAlike check f tr (finer k m tr) × WritesAlike robust f tr (finer k m tr)
 

@@ -1,5 +1,6 @@
 -- What is answered to a line, and what the end of the input adds.
-use Rattle.std.proofs.Common.{◌≡◌, ◌≢◌, inl, inr, refl, sym, ap, subst, ◌∙◌, ℕ, zero, suc, ◌+◌, ◌<◌, ◌≤◌, Bool, true, false, List, [], ◌∷◌, ◌++◌, append_assoc, length, take, drop, set, arith, add-one, Option, Some, None}
+use Rattle.std.proofs.Common.{◌≡◌, ◌≢◌, inl, inr, refl, sym, ap, subst, ◌∙◌, ℕ, zero, suc, ◌+◌, ◌<◌, ◌≤◌, Bool, true, false}
+use Rattle.std.proofs.Common.{List, [], ◌∷◌, ◌++◌, append_assoc, length, take, drop, set, arith, add-one, Option, Some, None}
 use Rattle.std.specs.Prelude.{bytes_eq, codes, slice_get, MatchBool}
 use Rattle.std.proofs.lemmas.Bool.{cases_eq}
 use Rattle.std.proofs.lemmas.List.{append-nil, take-append-drop, take_all}
@@ -12,7 +13,8 @@ use Rattle.session_mux.specs.Tags.{number_of}
 use Rattle.session_mux.specs.Telling.{told_lines}
 use Rattle.session_mux.specs.Owning.{Own, own_of, asks, with_content, stopped_now}
 use Rattle.session_mux.specs.Standing.{IsOwnText, HasTold, IsGrowth, IsReply, HasReplied, IsCutShort}
-use Rattle.session_mux.specs.Knowing.{Register, place_in, tags_of, tag_list, EachTold, AreFound, IsLastFound, IsReady, IsTurnedAway, HasAnswered, IsUnanswered, HasEnded}
+use Rattle.session_mux.specs.Knowing.{Register, place_in, tags_of, tag_list, EachTold, AreFound, IsLastFound}
+use Rattle.session_mux.specs.Knowing.{IsReady, IsTurnedAway, HasAnswered, IsUnanswered, HasEnded}
 use Rattle.session_mux.specs.declared.fault.MuxFault.{MuxFault}
 use Rattle.session_mux.specs.declared.fault.MuxFault.TheVariants as fault
 use Rattle.session_mux.specs.declared.known.Found.{Found}
@@ -36,9 +38,11 @@ module _ (f : Formula) (seen : List Tagged) (x : Tagged) where
       ((old : List ℕ) × IsOwnText f (own_of seen x.tag) old × (reply ≡ prefixed (x.tag ++ codes " ? ") (last_eight (lines true old))))
       (IsGrowth f x.tag (own_of seen x.tag) p reply)
 
+  -- a reply by what the session has got is the answer to the line among all lines
   pub answer_of : (reply : List ℕ) → IsReply f x.tag (own_of seen x.tag) x.content reply → IsAnswer f seen x reply
   answer_of reply h = subst (λ (p : Own). Answer p reply) grows h
 
+  -- and the other way round
   pub reply_of_answer : (reply : List ℕ) → IsAnswer f seen x reply → IsReply f x.tag (own_of seen x.tag) x.content reply
   reply_of_answer reply h = subst (λ (p : Own). Answer p reply) (sym grows) h
 
@@ -50,6 +54,7 @@ module _ (f : Formula) (seen : List Tagged) (x : Tagged) (i : ℕ) (mid : Regist
   inside : i < length mid.sessions
   inside = place_inside mid.sessions i r.session r.at
 
+  -- the session that was found stands for what its own lines got
   pub stands_for : (told : List ℕ) × HasTold f (own_of seen x.tag) told r.session
   stands_for = subst (λ t. (told : List ℕ) × HasTold f (own_of seen t) told r.session) r.tag (r.told i r.session r.at).1
 
@@ -61,7 +66,11 @@ module _ (f : Formula) (seen : List Tagged) (x : Tagged) (i : ℕ) (mid : Regist
     each_told j t at = elim (item_of_set mid.sessions i j s t inside at) [
       | inl k ↦ subst (λ (u : Session). IsTag u.tag × ((told : List ℕ) × HasTold f (own_of (seen ++ x ∷ []) u.tag) told u)) (sym k.1) (
         subst (λ w. IsTag w) (sym h.tag) (r.told i r.session r.at).0,
-        (h.told, subst (λ w. HasTold f (own_of (seen ++ x ∷ []) w) h.told s) (sym same_tag) (subst (λ (o : Own). HasTold f o h.told s) (grows f seen x) h.stands)),
+        (
+          h.told,
+          subst (λ w. HasTold f (own_of (seen ++ x ∷ []) w) h.told s) (sym same_tag)
+              (subst (λ (o : Own). HasTold f o h.told s) (grows f seen x) h.stands),
+        ),
       )
       | inr k ↦ (
         (r.told j t k.1).0,
@@ -76,7 +85,8 @@ module _ (f : Formula) (seen : List Tagged) (x : Tagged) (i : ℕ) (mid : Regist
             by_test false e = refl
             by_test true e =
                 let same : x.tag ≡ t.tag = (bytes_eq-Decides x.tag t.tag).0 e in
-                let here : place_in mid.places (number_of t.tag) ≡ Some i = ap (λ w. place_in mid.places (number_of w)) (sym same ∙ sym r.tag) ∙ r.found.at i r.session r.at in
+                let here : place_in mid.places (number_of t.tag) ≡ Some i =
+                ap (λ w. place_in mid.places (number_of w)) (sym same ∙ sym r.tag) ∙ r.found.at i r.session r.at in
                 let there = r.found.at j t at in
                 absurd (ne (let z : Some j ≡ Some i = sym there ∙ here in cc))
 
@@ -92,13 +102,16 @@ module _ (f : Formula) (seen : List Tagged) (x : Tagged) (i : ℕ) (mid : Regist
             | inl k ↦ (
               s,
               subst (λ m. slice_get (set mid.sessions i s) m ≡ Some s) (sym k) (set_is mid.sessions i s inside),
-              ap number_of h.tag ∙ ap (λ (u : Session). number_of u.tag) (one_item (slice_get mid.sessions i) r.session t r.at (subst (λ m. slice_get mid.sessions m ≡ Some t) k at)) ∙ same,
+              ap number_of h.tag ∙ ap (λ (u : Session). number_of u.tag)
+                  (one_item (slice_get mid.sessions i) r.session t r.at (subst (λ m. slice_get mid.sessions m ≡ Some t) k at)) ∙ same,
             )
             | inr ne ↦ (t, set_other mid.sessions i j s ne ∙ at, same)
           ];
     }
 
-    pub has_answered : (new : Register) → new.formula ≡ mid.formula → new.sessions ≡ set mid.sessions i s → new.places ≡ mid.places → new.last ≡ mid.last → HasAnswered f seen x new before after
+    -- with the session put back in its place the line is answered
+    pub has_answered : (new : Register) → new.formula ≡ mid.formula → new.sessions ≡ set mid.sessions i s
+        → new.places ≡ mid.places → new.last ≡ mid.last → HasAnswered f seen x new before after
     has_answered new e1 e2 e3 e4 = record {
       knows = record {
         formula = e1 ∙ r.formula;
@@ -114,7 +127,8 @@ module _ (f : Formula) (seen : List Tagged) (x : Tagged) (i : ℕ) (mid : Regist
     }
 
 -- at most a first part of the reply is a first part of the answer
-pub cut_answer : (f : Formula) (seen : List Tagged) (x : Tagged) (before after : List ℕ) → IsCutShort (IsReply f x.tag (own_of seen x.tag) x.content) before after → IsCutShort (IsAnswer f seen x) before after
+pub cut_answer : (f : Formula) (seen : List Tagged) (x : Tagged) (before after : List ℕ)
+    → IsCutShort (IsReply f x.tag (own_of seen x.tag) x.content) before after → IsCutShort (IsAnswer f seen x) before after
 cut_answer f seen x before after h = cut_as (IsReply f x.tag (own_of seen x.tag) x.content) (IsAnswer f seen x) before after (reply_of_answer f seen x) h
 
 -- ---- the end
@@ -128,16 +142,23 @@ module _ (f : Formula) (all : List Tagged) where
 
   -- one session more
   ends_more : (ts : List (List ℕ)) (t text reply : List ℕ) → AreEnds f all ts text → Ends t reply → AreEnds f all (ts ++ t ∷ []) (text ++ reply)
-  ends_more [] t text reply none (old, grown, was, is, e) = (old, grown, [], was, is, refl, ap (λ w. w ++ reply) none ∙ e ∙ sym (append-nil (told_lines t grown)))
+  ends_more [] t text reply none (old, grown, was, is, e) =
+      (old, grown, [], was, is, refl, ap (λ w. w ++ reply) none ∙ e ∙ sym (append-nil (told_lines t grown)))
   ends_more (u ∷ ts) t text reply (old, grown, later, was, is, more, e) h =
       (old, grown, later ++ reply, was, is, ends_more ts t later reply more h, ap (λ w. w ++ reply) e ∙ append_assoc (told_lines u grown) later reply)
 
   -- the ends of some sessions, and of the others
-  ends_part : (ts us : List (List ℕ)) (text : List ℕ) → AreEnds f all (ts ++ us) text → (a b : List ℕ) × AreEnds f all ts a × AreEnds f all us b × (text ≡ a ++ b)
+  ends_part : (ts us : List (List ℕ)) (text : List ℕ) → AreEnds f all (ts ++ us) text
+      → (a b : List ℕ) × AreEnds f all ts a × AreEnds f all us b × (text ≡ a ++ b)
   ends_part [] us text h = ([], text, refl, h, refl)
   ends_part (t ∷ ts) us text (old, grown, later, was, is, more, e) =
-      let (a, b, front, back, k) = ends_part ts us later more in
-      (told_lines t grown ++ a, b, (old, grown, a, was, is, front, refl), back, e ∙ ap (λ w. told_lines t grown ++ w) k ∙ sym (append_assoc (told_lines t grown) a b))
+      let (a, b, front, back, k) = ends_part ts us later more in (
+        told_lines t grown ++ a,
+        b,
+        (old, grown, a, was, is, front, refl),
+        back,
+        e ∙ ap (λ w. told_lines t grown ++ w) k ∙ sym (append_assoc (told_lines t grown) a b),
+      )
 
   ends_same : (ts : List (List ℕ)) (a b : List ℕ) → AreEnds f all ts a → AreEnds f all ts b → a ≡ b
   ends_same [] a b h k = h ∙ sym k
@@ -147,11 +168,16 @@ module _ (f : Formula) (all : List Tagged) where
 
   -- the sessions before place i were ended
   pub record Ending (first : List Session) (i : ℕ) (now : List Session) (before after : List ℕ) : Type 0 where
+    -- the text of the sessions that were ended so far
     pub text : List ℕ
+    -- it is what they are owed at the end, in the order of their first lines
     pub ends : AreEnds f all (take i (tag_list first)) text
+    -- it was put behind what stood before
     pub added : after ≡ before ++ text
+    -- the sessions that are not yet ended are as at first
     pub others : (j : ℕ) → i ≤ j → slice_get now j ≡ slice_get first j
 
+  -- before the first session nothing was ended or added
   pub ending_begins : (first : List Session) (before : List ℕ) → Ending first 0 first before before
   ending_begins first before = record { text = []; ends = refl; added = sym (append-nil before); others = λ j l. refl }
 
@@ -164,7 +190,8 @@ module _ (f : Formula) (all : List Tagged) where
       option_tag (Some t) = Some t.tag
   tag_at (x ∷ ss) (suc i) s e = tag_at ss i s e
 
-  module _ (first : List Session) (i : ℕ) (now : List Session) (before mid : List ℕ) (n : Ending first i now before mid) (s : Session) (at : slice_get now i ≡ Some s) where
+  module _ (first : List Session) (i : ℕ) (now : List Session) (before mid : List ℕ) (n : Ending first i now before mid)
+      (s : Session) (at : slice_get now i ≡ Some s) where
     at_first : slice_get first i ≡ Some s
     at_first = sym (n.others i (omega arith)) ∙ at
 
@@ -186,9 +213,11 @@ module _ (f : Formula) (all : List Tagged) where
       first = n.text ++ c.first;
       added = c.added ∙ ap (λ w. w ++ c.first) n.added ∙ append_assoc before n.text c.first;
       begins = λ reply h.
-          let parts = ends_part (take i (tag_list first)) (drop i (tag_list first)) reply (subst (λ ts. AreEnds f all ts reply) (sym (take-append-drop i (tag_list first))) h) in
+          let parts = ends_part (take i (tag_list first)) (drop i (tag_list first)) reply (subst (λ ts. AreEnds f all ts reply)
+          (sym (take-append-drop i (tag_list first))) h) in
           let same = ends_same (take i (tag_list first)) parts.0 n.text parts.2 n.ends in
-          let here = first_end s.tag (drop (suc i) (tag_list first)) parts.1 (subst (λ ts. AreEnds f all ts parts.1) (drop_at (tag_list first) i s.tag (tag_at first i s at_first)) parts.3) in
+          let here = first_end s.tag (drop (suc i) (tag_list first)) parts.1 (subst (λ ts. AreEnds f all ts parts.1)
+          (drop_at (tag_list first) i s.tag (tag_at first i s at_first)) parts.3) in
           let (rest, k) = c.begins here.0 here.1 in (
             rest ++ here.2,
             parts.4 ∙ ap (λ w. w ++ parts.1) same ∙ ap (λ w. n.text ++ w) (here.3 ∙ ap (λ w. w ++ here.2) k ∙ append_assoc c.first rest here.2)
@@ -196,17 +225,20 @@ module _ (f : Formula) (all : List Tagged) where
           );
     }
       where
-        first_end : (t : List ℕ) (ts : List (List ℕ)) (text : List ℕ) → AreEnds f all (t ∷ ts) text → (reply : List ℕ) × Ends t reply × (later : List ℕ) × (text ≡ reply ++ later)
+        first_end : (t : List ℕ) (ts : List (List ℕ)) (text : List ℕ) → AreEnds f all (t ∷ ts) text
+            → (reply : List ℕ) × Ends t reply × (later : List ℕ) × (text ≡ reply ++ later)
         first_end t ts text (old, grown, later, was, is, more, e) = (told_lines t grown, (old, grown, was, is, refl), later, e)
 
 -- all were
-pub ended_all : (f : Formula) (all : List Tagged) (first : List Session) (now : List Session) (i : ℕ) (before after : List ℕ) → Ending f all first i now before after → length (tag_list first) ≤ i
+pub ended_all : (f : Formula) (all : List Tagged) (first : List Session) (now : List Session) (i : ℕ) (before after : List ℕ)
+    → Ending f all first i now before after → length (tag_list first) ≤ i
     → tag_list first ≡ tags_of all → HasEnded f all before after
 ended_all f all first now i before after n whole e =
     (n.text, subst (λ ts. AreEnds f all ts n.text) (take_all i (tag_list first) whole ∙ e) n.ends, n.added)
 
 -- why a line was not answered
-pub unanswered : (f : Formula) (seen : List Tagged) (x : Tagged) (old new : Known) (out : List ℕ) (e : MuxFault) → IsTurnedAway seen x old new e → IsUnanswered f seen x old new out out e
+pub unanswered : (f : Formula) (seen : List Tagged) (x : Tagged) (old new : Known) (out : List ℕ) (e : MuxFault)
+    → IsTurnedAway seen x old new e → IsUnanswered f seen x old new out out e
 unanswered f seen x old new out fault.TooManySessions h = (h, refl)
 unanswered f seen x old new out fault.Memory h = cut_none (IsAnswer f seen x) out out refl
 unanswered f seen x old new out fault.BadTag h = absurd h

@@ -15,7 +15,8 @@ use Rattle.session_mux.proofs.SessionsTold.{text_alone_once, told_as_alone, told
 -- a known tag is none of the new ones
 tags_apart : (t : List ℕ) (known : List (List ℕ)) (seen : List Tagged) → is_among t known ≡ true → is_among t (tags_after known seen) ≡ false
 tags_apart t known [] k = refl
-tags_apart t known (x ∷ seen) k = by_known (tags_apart t known seen k) (tags_apart t (x.tag ∷ known) seen (or_right (bytes_eq t x.tag) k)) (is_among x.tag known) refl
+tags_apart t known (x ∷ seen) k = by_known (tags_apart t known seen k)
+    (tags_apart t (x.tag ∷ known) seen (or_right (bytes_eq t x.tag) k)) (is_among x.tag known) refl
   where
     or_right : (b : Bool) → is_among t known ≡ true → (b || is_among t known) ≡ true
     or_right true h = refl
@@ -42,7 +43,8 @@ tags_once t known (x ∷ seen) = by_known (tags_once t known seen) (tags_once t 
     here : bytes_eq x.tag t ≡ true → is_among t (x.tag ∷ known) ≡ true
     here e = ap (λ b. b || is_among t known) ((bytes_eq-Decides t x.tag).1 (sym ((bytes_eq-Decides x.tag t).0 e)))
 
-    by_known : IsOnce t (tags_after known seen) → IsOnce t (tags_after (x.tag ∷ known) seen) → (b : Bool) → IsOnce t (cond b (tags_after known seen) (x.tag ∷ tags_after (x.tag ∷ known) seen))
+    by_known : IsOnce t (tags_after known seen) → IsOnce t (tags_after (x.tag ∷ known) seen) → (b : Bool)
+        → IsOnce t (cond b (tags_after known seen) (x.tag ∷ tags_after (x.tag ∷ known) seen))
     by_known same more true = same
     by_known same more false = (λ e. tags_apart t (x.tag ∷ known) seen (here e), more)
 
@@ -81,12 +83,14 @@ module _ (f : Formula) (t : List ℕ) (all : List Tagged) where
   once_told [] text told once n at = absurd (false≢true n)
   once_told (u ∷ tags) text told once n (old, grown, later, more, so, is, on, e, k) = by_tag (bytes_eq t u) refl (once_told tags later more once.1)
     where
-      by_tag : (b : Bool) → bytes_eq t u ≡ b → (is_among t tags ≡ true → AreToldAtEnd f t all tags later more → (old : List ℕ) × SoFar f all t old × Alone f (own all t) true (old ++ more))
+      by_tag : (b : Bool) → bytes_eq t u ≡ b
+          → (is_among t tags ≡ true → AreToldAtEnd f t all tags later more → (old : List ℕ) × SoFar f all t old × Alone f (own all t) true (old ++ more))
           → (old : List ℕ) × SoFar f all t old × Alone f (own all t) true (old ++ told)
       by_tag true b rest =
           let same : u ≡ t = sym ((bytes_eq-Decides t u).0 b) in
           let last : told ≡ grown =
-          k ∙ ap (λ b. cond b grown [] ++ more) (turned u true b) ∙ ap (λ w. grown ++ w) (none_told tags later more (once.0 (turned u true b)) on) ∙ append-nil grown in (
+          k ∙ ap (λ b. cond b grown [] ++ more) (turned u true b)
+          ∙ ap (λ w. grown ++ w) (none_told tags later more (once.0 (turned u true b)) on) ∙ append-nil grown in (
             old,
             subst (λ w. SoFar f all w old) same so,
             subst (λ w. Alone f (own all t) true (old ++ w)) (sym last) (subst (λ w. Alone f (own all w) true (old ++ grown)) same is),
@@ -97,13 +101,15 @@ module _ (f : Formula) (t : List ℕ) (all : List Tagged) where
           (before, so_far, subst (λ w. Alone f (own all t) true (before ++ w)) (sym last) whole)
 
 -- what it is told in all is what its bytes get alone
-told_whole : (f : Formula) (t : List ℕ) (all : List Tagged) (text told : List ℕ) → is_among t (tags_after [] all) ≡ true → AreToldInAll f t all text told → Alone f (own all t) true told
+told_whole : (f : Formula) (t : List ℕ) (all : List Tagged) (text told : List ℕ) → is_among t (tags_after [] all) ≡ true
+    → AreToldInAll f t all text told → Alone f (own all t) true told
 told_whole f t all text told among a =
     let so_far = told_alone f t [] all [] a.during a.said (nothing_alone f) a.lines in
     let (old, so, whole) = once_told f t all (tags_after [] all) a.rest a.said_last (tags_once t [] all) among a.ends in
     let same : old ≡ a.said = text_alone_once f (own all t) (is_stopped all t) old a.said so so_far in
     subst (λ w. Alone f (own all t) true w) (sym a.told_is) (subst (λ w. Alone f (own all t) true (w ++ a.said_last)) same whole)
 
+-- each session is told to its end what it would be told alone
 pub told_to_its_end : EachIsToldToItsEnd
 told_to_its_end f t all text among (during, rest, answers, ends, e) =
     let (said, lines_told, so) = told_as_alone f t all during answers in
@@ -112,6 +118,7 @@ told_to_its_end f t all text among (during, rest, answers, ends, e) =
     record { during = during; rest = rest; said = said; said_last = said_last; lines = lines_told; ends = ends_told; text_is = e; told_is = refl } in
     (said ++ said_last, a, told_whole f t all text (said ++ said_last) among a)
 
+-- and what others send adds nothing to it
 pub others_add_nothing_at_the_end : OthersAddNothingAtTheEnd
 others_add_nothing_at_the_end f t all others text other told heard same among also a b =
     let mine = told_whole f t all text told among a in

@@ -1,5 +1,6 @@
 -- The first bytes of an input of several sessions: their faults stay, and what was owed for them is a front of what is owed for all.
-use Rattle.std.proofs.Common.{◌≡◌, ◌⊎◌, inl, inr, ℕ, suc, ◌+◌, ◌*◌, ◌<◌, ◌≤◌, Bool, true, false, List, [], ◌∷◌, ◌++◌, length, refl, sym, ap, ◌∙◌, subst, arith, append-nil, append_assoc}
+use Rattle.std.proofs.Common.{◌≡◌, ◌⊎◌, inl, inr, ℕ, suc, ◌+◌, ◌*◌, ◌<◌, ◌≤◌, Bool, true, false, List, []}
+use Rattle.std.proofs.Common.{◌∷◌, ◌++◌, length, refl, sym, ap, ◌∙◌, subst, arith, append-nil, append_assoc}
 use Rattle.std.specs.Prelude.{All, MatchBool}
 use Rattle.std.proofs.lemmas.Bool.{false≢true}
 use Rattle.std.proofs.lemmas.List.Elements.{All-head, All-tail}
@@ -19,7 +20,8 @@ use Rattle.session_mux.proofs.Passing.{Later, WithTag, InLine, fault_sized, faul
 -- ---- faults of first lines
 
 -- a fault after a line, where what follows the line goes on otherwise
-module _ (n : ℕ) (known : List (List ℕ)) (line : Line) (more other : List Line) (x : InputFault) (on : (tags : List (List ℕ)) → FaultOfInput (suc n) tags more x → FaultOfInput (suc n) tags other x) where
+module _ (n : ℕ) (known : List (List ℕ)) (line : Line) (more other : List Line) (x : InputFault)
+    (on : (tags : List (List ℕ)) → FaultOfInput (suc n) tags more x → FaultOfInput (suc n) tags other x) where
   with_tag : (t : Tagged) → WithTag n known line more t x → WithTag n known line other t x
   with_tag t (inl f) = inl f
   with_tag t (inr (a, f)) = inr (a, on (t.tag ∷ known) f)
@@ -27,9 +29,11 @@ module _ (n : ℕ) (known : List (List ℕ)) (line : Line) (more other : List Li
   by_among : (t : Tagged) (b : Bool) → is_among t.tag known ≡ b → MatchBool (is_among t.tag known) (Later n known line more x) (WithTag n known line more t x)
       → MatchBool (is_among t.tag known) (Later n known line other x) (WithTag n known line other t x)
   by_among t true e m =
-      to_true (Later n known line other x) (WithTag n known line other t x) (is_among t.tag known) e (on known (at_true (Later n known line more x) (WithTag n known line more t x) (is_among t.tag known) e m))
+      to_true (Later n known line other x) (WithTag n known line other t x) (is_among t.tag known) e
+      (on known (at_true (Later n known line more x) (WithTag n known line more t x) (is_among t.tag known) e m))
   by_among t false e m =
-      to_false (Later n known line other x) (WithTag n known line other t x) (is_among t.tag known) e (with_tag t (at_false (Later n known line more x) (WithTag n known line more t x) (is_among t.tag known) e m))
+      to_false (Later n known line other x) (WithTag n known line other t x) (is_among t.tag known) e
+      (with_tag t (at_false (Later n known line more x) (WithTag n known line more t x) (is_among t.tag known) e m))
 
   in_line : InLine n known line more x → InLine n known line other x
   in_line (inl f) = inl f
@@ -37,22 +41,28 @@ module _ (n : ℕ) (known : List (List ℕ)) (line : Line) (more other : List Li
 
   by_blank : (b : Bool) → is_blank_line line ≡ b → MatchBool (is_blank_line line) (Later n known line more x) (InLine n known line more x)
       → MatchBool (is_blank_line line) (Later n known line other x) (InLine n known line other x)
-  by_blank true e m = to_true (Later n known line other x) (InLine n known line other x) (is_blank_line line) e (on known (at_true (Later n known line more x) (InLine n known line more x) (is_blank_line line) e m))
-  by_blank false e m = to_false (Later n known line other x) (InLine n known line other x) (is_blank_line line) e (in_line (at_false (Later n known line more x) (InLine n known line more x) (is_blank_line line) e m))
+  by_blank true e m = to_true (Later n known line other x) (InLine n known line other x) (is_blank_line line) e
+      (on known (at_true (Later n known line more x) (InLine n known line more x) (is_blank_line line) e m))
+  by_blank false e m = to_false (Later n known line other x) (InLine n known line other x) (is_blank_line line) e
+      (in_line (at_false (Later n known line more x) (InLine n known line more x) (is_blank_line line) e m))
 
+  -- a fault of a first line that is complete stands whatever lines follow it
   pub later_fault : FaultOfInput n known (line ∷ more) x → FaultOfInput n known (line ∷ other) x
   later_fault (inl f) = inl f
   later_fault (inr (a, inl f)) = inr (a, inl f)
   later_fault (inr (a, inr (b, (w, m)))) = inr (a, inr (b, (w, by_blank (is_blank_line line) refl m)))
 
 -- a fault of some lines and those that follow, where these go on otherwise
-pub fault_after : (n : ℕ) (known : List (List ℕ)) (front more other : List Line) (x : InputFault) → ((m : ℕ) (tags : List (List ℕ)) → FaultOfInput m tags more x → FaultOfInput m tags other x)
+pub fault_after : (n : ℕ) (known : List (List ℕ)) (front more other : List Line) (x : InputFault)
+    → ((m : ℕ) (tags : List (List ℕ)) → FaultOfInput m tags more x → FaultOfInput m tags other x)
     → FaultOfInput n known (front ++ more) x → FaultOfInput n known (front ++ other) x
 fault_after n known [] more other x on f = on n known f
-fault_after n known (l ∷ front) more other x on f = later_fault n known l (front ++ more) (front ++ other) x (λ tags g. fault_after (suc n) tags front more other x on g) f
+fault_after n known (l ∷ front) more other x on f =
+    later_fault n known l (front ++ more) (front ++ other) x (λ tags g. fault_after (suc n) tags front more other x on g) f
 
 -- a line that goes on keeps its fault
-open_fault : (ended : Bool) (line more : List ℕ) → HasNoFeed line → (m : ℕ) (tags : List (List ℕ)) (x : InputFault) → FaultOfInput m tags (rest false line) x → FaultOfInput m tags (lines ended (line ++ more)) x
+open_fault : (ended : Bool) (line more : List ℕ) → HasNoFeed line → (m : ℕ) (tags : List (List ℕ)) (x : InputFault)
+    → FaultOfInput m tags (rest false line) x → FaultOfInput m tags (lines ended (line ++ more)) x
 open_fault ended [] more free m tags x f = absurd f
 open_fault ended (c ∷ cs) more free m tags x f =
     let (l, ls, is, fits) = grows ended (c ∷ cs) more free (omega arith) in
@@ -64,7 +74,8 @@ open_fault ended (c ∷ cs) more free m tags x f =
     of_line l ls fits (inr (a, inr (b, (w, m)))) = absurd (false≢true w)
 
 -- so a fault of the first bytes is one of all
-pub input_fault_stays : (front back : List ℕ) (ended : Bool) (x : InputFault) → FaultOfInput 1 [] (lines false front) x → FaultOfInput 1 [] (lines ended (front ++ back)) x
+pub input_fault_stays : (front back : List ℕ) (ended : Bool) (x : InputFault) → FaultOfInput 1 [] (lines false front) x
+    → FaultOfInput 1 [] (lines ended (front ++ back)) x
 input_fault_stays front back ended x f = by_line (open_line front)
   where
     by_line : ((line : List ℕ) × IsOpenLine front line) → FaultOfInput 1 [] (lines ended (front ++ back)) x
@@ -77,14 +88,16 @@ input_fault_stays front back ended x f = by_line (open_line front)
 -- ---- answers to first lines
 
 -- the answers to the first of some lines come first
-pub answers_split : (f : Formula) (seen first later : List Tagged) (text : List ℕ) → AreAnswers f seen (first ++ later) text → (short more : List ℕ) × AreAnswers f seen first short × (text ≡ short ++ more)
+pub answers_split : (f : Formula) (seen first later : List Tagged) (text : List ℕ) → AreAnswers f seen (first ++ later) text
+    → (short more : List ℕ) × AreAnswers f seen first short × (text ≡ short ++ more)
 answers_split f seen [] later text a = ([], text, refl, refl)
 answers_split f seen (x ∷ first) later text (here, beyond, is, on, e) =
     let (short, more, are, k) = answers_split f (seen ++ x ∷ []) first later beyond on in
     (here ++ short, more, (here, short, is, are, refl), e ∙ ap (λ t. here ++ t) k ∙ sym (append_assoc here short more))
 
 -- lines that have ended, and are the first of some, are the first of those of them that have ended
-done_first : (first later front : List Line) (part : List ℕ) → All IsDone first → first ++ later ≡ front ++ rest false part → (others : List Line) × (front ≡ first ++ others)
+done_first : (first later front : List Line) (part : List ℕ) → All IsDone first → first ++ later ≡ front ++ rest false part
+    → (others : List Line) × (front ≡ first ++ others)
 done_first [] later front part all e = (front, refl)
 done_first (l ∷ first) later [] [] all e = absurd cc
 done_first (l ∷ first) later [] (c ∷ cs) all e =
@@ -100,7 +113,8 @@ done_first (l ∷ first) later (m ∷ front) part all e =
 
 module _ (f : Formula) (i : Input) (bytes written : List ℕ) (k : IsTaking f i bytes written) where
   lines_so_far : lines false bytes ≡ k.front ++ rest false i.part
-  lines_so_far = sym (ap (lines false) (append-nil bytes)) ∙ k.joins false [] ∙ ap (λ ls. k.front ++ ls) (ap (lines false) (append-nil i.part) ∙ lines-rest false i.part k.free)
+  lines_so_far = sym (ap (lines false) (append-nil bytes)) ∙ k.joins false []
+      ∙ ap (λ ls. k.front ++ ls) (ap (lines false) (append-nil i.part) ∙ lines-rest false i.part k.free)
 
   -- a line that goes on has no fault yet
   open_sound : (part : List ℕ) → i.part ≡ part → (x : InputFault) → ¬ FaultOfInput (1 + length k.front) k.taken.after (rest false part) x
@@ -136,11 +150,14 @@ module _ (f : Formula) (i : Input) (bytes written : List ℕ) (k : IsTaking f i 
 
   -- what was owed for the first of them is a front of the text
   module _ (front back : List ℕ) (e : bytes ≡ front ++ back) where
-    of_passed : (line : List ℕ) → (p : Parts front line) → (others : List Line) → k.front ≡ p.front ++ others → Passed 1 [] k.taken.after p.front others k.taken.tagged
+    of_passed : (line : List ℕ) → (p : Parts front line) → (others : List Line) → k.front ≡ p.front ++ others
+        → Passed 1 [] k.taken.after p.front others k.taken.tagged
         → (short more : List ℕ) × OwesLines f front false short × (written ++ i.text ≡ short ++ more)
     of_passed line p others same q =
-        let (short, more, are, parts_are) = answers_split f [] q.first q.later (written ++ i.text) (subst (λ ts. AreAnswers f [] ts (written ++ i.text)) q.parts k.taken.told) in
-        let quiet : (x : InputFault) → ¬ FaultOfInput 1 [] (lines false front) x = λ x g. no_fault_so_far x (subst (λ b. FaultOfInput 1 [] (lines false b) x) (sym e) (input_fault_stays front back false x g)) in (
+        let (short, more, are, parts_are) =
+        answers_split f [] q.first q.later (written ++ i.text) (subst (λ ts. AreAnswers f [] ts (written ++ i.text)) q.parts k.taken.told) in
+        let quiet : (x : InputFault) → ¬ FaultOfInput 1 [] (lines false front) x =
+        λ x g. no_fault_so_far x (subst (λ b. FaultOfInput 1 [] (lines false b) x) (sym e) (input_fault_stays front back false x g)) in (
           short,
           more,
           record {
@@ -157,7 +174,9 @@ module _ (f : Formula) (i : Input) (bytes written : List ℕ) (k : IsTaking f i 
         let p = parts o in
         let all : p.front ++ lines false (line ++ back) ≡ k.front ++ rest false i.part = sym (p.joins false back) ∙ ap (lines false) (sym e) ∙ lines_so_far in
         let (others, same) = done_first p.front (lines false (line ++ back)) k.front i.part p.whole all in
-        of_passed line p others same (passed_front 1 [] k.taken.after p.front others (subst (λ ls. ArePassed 1 [] ls k.taken.tagged k.taken.after) same k.taken.passed))
+        of_passed line p others same
+        (passed_front 1 [] k.taken.after p.front others (subst (λ ls. ArePassed 1 [] ls k.taken.tagged k.taken.after) same k.taken.passed))
 
+    -- what was written for the lines before is owed for them, and what was made of the piece begins with the rest of it
     pub front_lines_owed : (short more : List ℕ) × OwesLines f front false short × (written ++ i.text ≡ short ++ more)
     front_lines_owed = by_open (open_line front)

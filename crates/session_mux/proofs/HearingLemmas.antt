@@ -1,5 +1,6 @@
 -- The bench of a tag hears, line by line, what its session is told.
-use Rattle.std.proofs.Common.{◌≡◌, ◌≢◌, inl, inr, refl, sym, ap, subst, ◌∙◌, ℕ, zero, suc, ◌+◌, ◌-◌, Bool, true, false, cond, List, [], ◌∷◌, ◌++◌, append_assoc, length, drop, add-one}
+use Rattle.std.proofs.Common.{◌≡◌, ◌≢◌, inl, inr, refl, sym, ap, subst, ◌∙◌, ℕ, zero, suc, ◌+◌, ◌-◌, Bool}
+use Rattle.std.proofs.Common.{true, false, cond, List, [], ◌∷◌, ◌++◌, append_assoc, length, drop, add-one}
 use Rattle.std.specs.Prelude.{◌==◌, ◌&&◌, not, codes, bytes_eq, map, flat_map, if◌then◌else◌}
 use Rattle.std.proofs.lemmas.Bool.{false≢true, eqb-true, eq-eqb}
 use Rattle.std.proofs.lemmas.List.{append-nil}
@@ -29,7 +30,8 @@ begins_after [] prefix line = refl
 begins_after (c ∷ front) prefix line = ap (λ b. b && begins_with (front ++ prefix) (front ++ line)) (eq-eqb c c refl) ∙ begins_after front prefix line
 
 -- two tags, each with a space after it
-begins_apart : (t u prefix line : List ℕ) → all is_tag_byte t ≡ true → all is_tag_byte u ≡ true → t ≢ u → begins_with (t ++ 32 ∷ prefix) (u ++ 32 ∷ line) ≡ false
+begins_apart : (t u prefix line : List ℕ) → all is_tag_byte t ≡ true → all is_tag_byte u ≡ true → t ≢ u
+    → begins_with (t ++ 32 ∷ prefix) (u ++ 32 ∷ line) ≡ false
 begins_apart [] [] prefix line h k ne = absurd (ne refl)
 begins_apart [] (d ∷ u) prefix line h k ne = by_byte (32 == d) refl
   where
@@ -49,13 +51,15 @@ begins_apart (c ∷ t) [] prefix line h k ne = by_byte (c == 32) refl
     by_byte : (b : Bool) → (c == 32) ≡ b → (b && begins_with (t ++ 32 ∷ prefix) line) ≡ false
     by_byte false e = refl
     by_byte true e = absurd (false≢true (ap is_tag_byte (sym (eqb-true c 32 e)) ∙ first_is (is_tag_byte c) h))
-begins_apart (c ∷ t) (d ∷ u) prefix line h k ne = by_byte (c == d) refl (begins_apart t u prefix line (rest_is (is_tag_byte c) (all is_tag_byte t) h) (rest_is (is_tag_byte d) (all is_tag_byte u) k))
+begins_apart (c ∷ t) (d ∷ u) prefix line h k ne = by_byte (c == d) refl
+    (begins_apart t u prefix line (rest_is (is_tag_byte c) (all is_tag_byte t) h) (rest_is (is_tag_byte d) (all is_tag_byte u) k))
   where
     rest_is : (a b : Bool) → (a && b) ≡ true → b ≡ true
     rest_is true b e = e
     rest_is false b e = absurd (false≢true e)
 
-    by_byte : (b : Bool) → (c == d) ≡ b → (t ≢ u → begins_with (t ++ 32 ∷ prefix) (u ++ 32 ∷ line) ≡ false) → (b && begins_with (t ++ 32 ∷ prefix) (u ++ 32 ∷ line)) ≡ false
+    by_byte : (b : Bool) → (c == d) ≡ b → (t ≢ u → begins_with (t ++ 32 ∷ prefix) (u ++ 32 ∷ line) ≡ false)
+        → (b && begins_with (t ++ 32 ∷ prefix) (u ++ 32 ∷ line)) ≡ false
     by_byte false e rest = refl
     by_byte true e rest = rest (λ same. ne (ap (λ x. x ∷ t) (eqb-true c d e) ∙ ap (λ w. d ∷ w) same))
 
@@ -104,7 +108,8 @@ plain_tag : (t : List ℕ) → all is_tag_byte t ≡ true → is_plain t ≡ tru
 plain_tag [] h = refl
 plain_tag (c ∷ t) h = by_byte (c == 10) refl (is_tag_byte c) refl h (plain_tag t)
   where
-    by_byte : (n : Bool) → (c == 10) ≡ n → (b : Bool) → is_tag_byte c ≡ b → (b && all is_tag_byte t) ≡ true → (all is_tag_byte t ≡ true → is_plain t ≡ true) → (not n && is_plain t) ≡ true
+    by_byte : (n : Bool) → (c == 10) ≡ n → (b : Bool) → is_tag_byte c ≡ b → (b && all is_tag_byte t) ≡ true
+        → (all is_tag_byte t ≡ true → is_plain t ≡ true) → (not n && is_plain t) ≡ true
     by_byte true e b k h rest = absurd (false≢true (ap is_tag_byte (sym (eqb-true c 10 e)) ∙ k ∙ first_is b h))
       where
         first_is : (b : Bool) → (b && all is_tag_byte t) ≡ true → b ≡ true
@@ -127,7 +132,10 @@ prefixed_ends p (l ∷ ls) = joined (prefixed p ls) (prefixed_ends p ls)
   where
     joined : (b : List ℕ) → EndsInFeed b → EndsInFeed ((p ++ l.bytes ++ newline) ++ b)
     joined b (inl e) = inr (p ++ l.bytes, ap (λ t. (p ++ l.bytes ++ newline) ++ t) e ∙ append-nil (p ++ l.bytes ++ newline))
-    joined b (inr (x, e)) = inr ((p ++ l.bytes ++ newline) ++ x, ap (λ t. (p ++ l.bytes ++ newline) ++ t) e ∙ sym (append_assoc (p ++ l.bytes ++ newline) x newline))
+    joined b (inr (x, e)) = inr (
+      (p ++ l.bytes ++ newline) ++ x,
+      ap (λ t. (p ++ l.bytes ++ newline) ++ t) e ∙ sym (append_assoc (p ++ l.bytes ++ newline) x newline),
+    )
 
 heard_joined : (t a b : List ℕ) → EndsInFeed a → heard t (a ++ b) ≡ heard t a ++ heard t b
 heard_joined t a b ends = ap (λ ts. flat_map (says_to t) ts) (texts_joined a b ends) ∙ flat_map-append (says_to t) (texts a) (texts b)
@@ -143,7 +151,8 @@ heard_own t ls is free said = ap (λ ts. flat_map (says_to t) ts) (texts_prefixe
   where
     each : (ls : List Line) → AreSaid ls → flat_map (says_to t) (map (λ (l : Line). (t ++ codes " ") ++ l.bytes) ls) ≡ map (λ (l : Line). l.bytes) ls
     each [] s = refl
-    each (l ∷ ls) s = ap (λ w. w ++ flat_map (says_to t) (map (λ (l : Line). (t ++ codes " ") ++ l.bytes) ls)) (says_own t l.bytes s.0) ∙ ap (λ ts. l.bytes ∷ ts) (each ls s.1)
+    each (l ∷ ls) s = ap (λ w. w ++ flat_map (says_to t) (map (λ (l : Line). (t ++ codes " ") ++ l.bytes) ls))
+        (says_own t l.bytes s.0) ∙ ap (λ ts. l.bytes ∷ ts) (each ls s.1)
 
 heard_query : (t : List ℕ) (ls : List Line) → IsTag t → AreFree ls → heard t (prefixed (t ++ codes " ? ") ls) ≡ []
 heard_query t ls is free = ap (λ ts. flat_map (says_to t) ts) (texts_prefixed (t ++ codes " ? ") ls (own_prefix t (codes " ? ") is refl) free) ∙ each ls
@@ -152,8 +161,10 @@ heard_query t ls is free = ap (λ ts. flat_map (says_to t) ts) (texts_prefixed (
     each [] = refl
     each (l ∷ ls) = ap (λ w. w ++ flat_map (says_to t) (map (λ (l : Line). (t ++ codes " ? ") ++ l.bytes) ls)) (says_query t l.bytes) ∙ each ls
 
-heard_other : (t u mark : List ℕ) (ls : List Line) → IsTag t → IsTag u → t ≢ u → is_plain (32 ∷ mark) ≡ true → AreFree ls → heard t (prefixed (u ++ 32 ∷ mark) ls) ≡ []
-heard_other t u mark ls is also ne plain free = ap (λ ts. flat_map (says_to t) ts) (texts_prefixed (u ++ 32 ∷ mark) ls (own_prefix u (32 ∷ mark) also plain) free) ∙ each ls
+heard_other : (t u mark : List ℕ) (ls : List Line) → IsTag t → IsTag u → t ≢ u → is_plain (32 ∷ mark) ≡ true → AreFree ls
+    → heard t (prefixed (u ++ 32 ∷ mark) ls) ≡ []
+heard_other t u mark ls is also ne plain free =
+    ap (λ ts. flat_map (says_to t) ts) (texts_prefixed (u ++ 32 ∷ mark) ls (own_prefix u (32 ∷ mark) also plain) free) ∙ each ls
   where
     each : (ls : List Line) → flat_map (says_to t) (map (λ (l : Line). (u ++ 32 ∷ mark) ++ l.bytes) ls) ≡ []
     each [] = refl
@@ -177,15 +188,18 @@ tags_are : (known : List (List ℕ)) (all : List Tagged) → HaveTags all → Ar
 tags_are known [] h = tt
 tags_are known (x ∷ all) h = by_known (is_among x.tag known) (tags_are known all h.1) (tags_are (x.tag ∷ known) all h.1)
   where
-    by_known : (b : Bool) → AreTags (tags_after known all) → AreTags (tags_after (x.tag ∷ known) all) → AreTags (cond b (tags_after known all) (x.tag ∷ tags_after (x.tag ∷ known) all))
+    by_known : (b : Bool) → AreTags (tags_after known all) → AreTags (tags_after (x.tag ∷ known) all)
+        → AreTags (cond b (tags_after known all) (x.tag ∷ tags_after (x.tag ∷ known) all))
     by_known true same more = same
     by_known false same more = (h.0, more)
 
 module _ (f : Formula) (t : List ℕ) (names : HasPlainNames f) (is : IsTag t) where
   -- what a session grew by is such lines
-  said_more : (bytes more : List ℕ) (ended done : Bool) (old grown : List ℕ) → Alone f bytes ended old → Alone f more done (old ++ grown) → AreSaid (lines true grown)
+  said_more : (bytes more : List ℕ) (ended done : Bool) (old grown : List ℕ) → Alone f bytes ended old
+      → Alone f more done (old ++ grown) → AreSaid (lines true grown)
   said_more bytes more ended done old grown a b =
-      said_back (lines true old) (lines true grown) (subst (λ ls. AreSaid ls) (lines_joined old grown (alone_ends f bytes ended old a)) (said_alone f more done (old ++ grown) names b))
+      said_back (lines true old) (lines true grown)
+      (subst (λ ls. AreSaid ls) (lines_joined old grown (alone_ends f bytes ended old a)) (said_alone f more done (old ++ grown) names b))
 
   apart : (u : List ℕ) (b : Bool) → bytes_eq u t ≡ b → b ≡ false → t ≢ u
   apart u b e k same = false≢true (sym k ∙ sym e ∙ (bytes_eq-Decides u t).1 (sym same))
@@ -199,7 +213,8 @@ module _ (f : Formula) (t : List ℕ) (names : HasPlainNames f) (is : IsTag t) w
       by_own true e =
           let (old, before, now, told) = at_true _ _ (is_of t x) e h in
           let bytes = own seen t in (
-            ap (heard t) told ∙ heard_own t (lines true added) is (lines_free true added) (said_more bytes (own (seen ++ x ∷ []) t) (is_stopped seen t) (is_stopped (seen ++ x ∷ []) t) old added before now),
+            ap (heard t) told ∙ heard_own t (lines true added) is (lines_free true added)
+                (said_more bytes (own (seen ++ x ∷ []) t) (is_stopped seen t) (is_stopped (seen ++ x ∷ []) t) old added before now),
             subst (λ w. EndsInFeed w) (sym told) (prefixed_ends (t ++ codes " ") (lines true added)),
             ends_tail old added (alone_ends f (own (seen ++ x ∷ []) t) (is_stopped (seen ++ x ∷ []) t) (old ++ added) now),
           )
@@ -208,12 +223,14 @@ module _ (f : Formula) (t : List ℕ) (names : HasPlainNames f) (is : IsTag t) w
           let (quiet, ends) = by_query (is_query x) refl (bytes_eq x.tag t) refl e in
           (quiet ∙ sym (ap texts none ∙ ap (λ ls. map (λ (l : Line). l.bytes) ls) (lines-nil true)), ends, inl none)
         where
-          by_query : (q : Bool) → is_query x ≡ q → (b : Bool) → bytes_eq x.tag t ≡ b → (bytes_eq x.tag t && not (is_query x)) ≡ false → (heard t answer ≡ []) × EndsInFeed answer
+          by_query : (q : Bool) → is_query x ≡ q → (b : Bool) → bytes_eq x.tag t ≡ b
+              → (bytes_eq x.tag t && not (is_query x)) ≡ false → (heard t answer ≡ []) × EndsInFeed answer
           by_query true k true m n =
               let (old, so, told) = at_true _ _ (is_query x) k a in
               let same : x.tag ≡ t = (bytes_eq-Decides x.tag t).0 m in
               let free = free_drop (length (lines true old) - 8) (lines true old) (lines_free true old) in (
-                ap (heard t) (told ∙ ap (λ w. prefixed (w ++ codes " ? ") (last_eight (lines true old))) same) ∙ heard_query t (last_eight (lines true old)) is free,
+                ap (heard t) (told ∙ ap (λ w. prefixed (w ++ codes " ? ") (last_eight (lines true old))) same)
+                    ∙ heard_query t (last_eight (lines true old)) is free,
                 subst (λ w. EndsInFeed w) (sym told) (prefixed_ends (x.tag ++ codes " ? ") (last_eight (lines true old))),
               )
           by_query true k false m n =
@@ -250,26 +267,32 @@ module _ (f : Formula) (t : List ℕ) (names : HasPlainNames f) (is : IsTag t) w
       (both_end answer rest text here.1 others.0 e, both_end added later told here.2 others.1 k)
 
   -- at the end
-  heard_at_end : (all : List Tagged) (tags : List (List ℕ)) (text told : List ℕ) → AreTags tags → AreToldAtEnd f t all tags text told → heard t text ≡ texts told
+  heard_at_end : (all : List Tagged) (tags : List (List ℕ)) (text told : List ℕ) → AreTags tags
+      → AreToldAtEnd f t all tags text told → heard t text ≡ texts told
   heard_at_end all [] text told also (e, k) = ap (heard t) e ∙ heard_none t ∙ sym (ap texts k ∙ ap (λ ls. map (λ (l : Line). l.bytes) ls) (lines-nil true))
   heard_at_end all (u ∷ tags) text told also (old, grown, later, more, so, whole, on, e, k) =
       ap (heard t) e ∙ heard_joined t (prefixed (u ++ codes " ") (lines true grown)) later (prefixed_ends (u ++ codes " ") (lines true grown))
       ∙ ap (λ w. heard t (prefixed (u ++ codes " ") (lines true grown)) ++ w) (heard_at_end all tags later more also.1 on)
       ∙ by_tag (bytes_eq u t) refl ∙ sym (ap texts k)
     where
-      by_tag : (b : Bool) → bytes_eq u t ≡ b → heard t (prefixed (u ++ codes " ") (lines true grown)) ++ texts more ≡ texts ((if bytes_eq u t then grown else []) ++ more)
+      by_tag : (b : Bool) → bytes_eq u t ≡ b
+          → heard t (prefixed (u ++ codes " ") (lines true grown)) ++ texts more ≡ texts ((if bytes_eq u t then grown else []) ++ more)
       by_tag true m =
           let same : u ≡ t = (bytes_eq-Decides u t).0 m in
           let said = said_more (own all u) (own all u) (is_stopped all u) true old grown so whole in
-          ap (λ w. w ++ texts more) (ap (λ w. heard t (prefixed (w ++ codes " ") (lines true grown))) same ∙ heard_own t (lines true grown) is (lines_free true grown) said)
-          ∙ sym (ap (λ b. texts ((if b then grown else []) ++ more)) m ∙ texts_joined grown more (ends_tail old grown (alone_ends f (own all u) true (old ++ grown) whole)))
+          ap (λ w. w ++ texts more)
+          (ap (λ w. heard t (prefixed (w ++ codes " ") (lines true grown))) same ∙ heard_own t (lines true grown) is (lines_free true grown) said)
+          ∙ sym (ap (λ b. texts ((if b then grown else []) ++ more)) m
+          ∙ texts_joined grown more (ends_tail old grown (alone_ends f (own all u) true (old ++ grown) whole)))
       by_tag false m =
           ap (λ w. w ++ texts more) (heard_other t u [] (lines true grown) is also.0 (apart u false m refl) refl (lines_free true grown))
           ∙ sym (ap (λ b. texts ((if b then grown else []) ++ more)) m)
 
+-- what stands behind a bench's tag in the output is what its session is told
 pub hears_what_it_is_told : EachHearsWhatItIsTold
 hears_what_it_is_told f t all text told names is tags h = heard_told f t names is [] all text told tags h
 
+-- and so to the end of the input
 pub hears_its_end : EachHearsItsEnd
 hears_its_end f t all text told names is tags a =
     let ends = told_end f t names is [] all a.during a.said tags a.lines in

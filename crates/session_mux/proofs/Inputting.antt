@@ -1,5 +1,7 @@
 -- An input of several sessions: what bytes of a line, a line's end and the end of the input come to.
-use Rattle.std.proofs.Common.{◌≡◌, ◌⊎◌, inl, inr, ℕ, ◌+◌, ◌-◌, ◌*◌, ◌<◌, ◌≤◌, Bool, true, false, List, [], ◌∷◌, ◌++◌, length, take, drop, refl, sym, ap, ◌∙◌, subst, arith, append-nil, append_assoc, length-append, take-append-drop}
+use Rattle.std.proofs.Common.{◌≡◌, ◌⊎◌, inl, inr, ℕ, ◌+◌, ◌-◌, ◌*◌, ◌<◌, ◌≤◌, Bool, true, false}
+use Rattle.std.proofs.Common.{List, [], ◌∷◌, ◌++◌, length, take, drop, refl, sym, ap, ◌∙◌, subst}
+use Rattle.std.proofs.Common.{arith, append-nil, append_assoc, length-append, take-append-drop}
 use Rattle.std.specs.Prelude.{MatchBool, MatchResult, Result, Ok, Err, ◌==◌}
 use Rattle.std.proofs.lemmas.Bool.{false≢true}
 use Rattle.std.proofs.Math.Seq.{take-append_seam}
@@ -16,7 +18,9 @@ use Rattle.session_mux.specs.Sessions.{Tagged, IsTagged, IsAnswer, AreAnswers, A
 use Rattle.session_mux.specs.Knowing.{tags_of, IsRoomFor}
 use Rattle.session_mux.specs.Muxes.{Muxed, Past, StandsFor, HasTags, HasTaken, IsEndCall}
 use Rattle.session_mux.specs.Inputs.{InputFault, fault_line, FaultOfInput, sound, faulted, OwesLines}
-use Rattle.session_mux.specs.Taking.{ended_line, IsSized, ArePassed, none, blank, old_tag, new_tag, HasLines, IsTaking, fault_in, IsInputStop, IsLineStop, IsPartStop, HasAll, IsHanded, IsRefusedBy, IsNotHanded, IsUnsizedBy, IsUnsized}
+use Rattle.session_mux.specs.Taking.{ended_line, IsSized, ArePassed, none, blank, old_tag, new_tag}
+use Rattle.session_mux.specs.Taking.{HasLines, IsTaking, fault_in, IsInputStop, IsLineStop, IsPartStop}
+use Rattle.session_mux.specs.Taking.{HasAll, IsHanded, IsRefusedBy, IsNotHanded, IsUnsizedBy, IsUnsized}
 use Rattle.session_mux.specs.declared.stop.LineFault.{LineFault}
 use Rattle.session_mux.specs.declared.stop.LineKind.{LineKind}
 use Rattle.session_mux.specs.declared.stop.LineKind.TheVariants as kind
@@ -28,7 +32,8 @@ use Rattle.session_mux.proofs.Passing.{many_fault, long_fault, tag_fault, room_f
 
 -- ---- the answers so far
 
-answers_on : (f : Formula) (seen all : List Tagged) (x : Tagged) (text answer : List ℕ) → AreAnswers f seen all text → IsAnswer f (seen ++ all) x answer → AreAnswers f seen (all ++ x ∷ []) (text ++ answer)
+answers_on : (f : Formula) (seen all : List Tagged) (x : Tagged) (text answer : List ℕ) → AreAnswers f seen all text
+    → IsAnswer f (seen ++ all) x answer → AreAnswers f seen (all ++ x ∷ []) (text ++ answer)
 answers_on f seen [] x text answer e a =
     (answer, [], subst (λ s. IsAnswer f s x answer) (append-nil seen) a, refl, ap (λ t. t ++ answer) e ∙ sym (append-nil answer))
 answers_on f seen (y ∷ all) x text answer (here, later, is, more, e) a = (
@@ -48,32 +53,38 @@ place_of n kind.BadTag = refl
 place_of n kind.TooManySessions = refl
 
 -- a fault of the line after those that were taken
-fault_there : (f : Formula) (mux : Muxed) (front more : List Line) (text all : List ℕ) (ended : Bool) (k : HasLines f mux front text) (l : LineKind) → lines ended all ≡ front ++ more
+fault_there : (f : Formula) (mux : Muxed) (front more : List Line) (text all : List ℕ) (ended : Bool)
+    (k : HasLines f mux front text) (l : LineKind) → lines ended all ≡ front ++ more
     → FaultOfInput (1 + length front) k.after more (fault_in (1 + length front) l)
     → FaultOfInput 1 [] (lines ended all) (fault_in (1 + length front) l) × OwesLines f all ended text
 fault_there f mux front more text all ended k l e fault =
     let x = fault_in (1 + length front) l in
     let place : fault_line x - 1 ≡ length front = omega (arith, place_of (1 + length front) l) in
     let here : FaultOfInput 1 [] (lines ended all) x = subst (λ ls. FaultOfInput 1 [] ls x) (sym e) (fault_past k.passed more x fault) in
-    let first : front ≡ take (fault_line x - 1) (lines ended all) = sym (ap (λ n. take n (lines ended all)) place ∙ ap (take (length front)) e ∙ take-append_seam front more) in (
+    let first : front ≡ take (fault_line x - 1) (lines ended all) =
+    sym (ap (λ n. take n (lines ended all)) place ∙ ap (take (length front)) e ∙ take-append_seam front more) in (
       here,
       record { tagged = k.tagged; whole = false; before = faulted x here (subst (λ ls. AreTagged ls k.tagged) first (passed_tagged k.passed)); is = k.told },
     )
 
 -- so of a stored one
-stored_there : (f : Formula) (mux : Muxed) (front more : List Line) (text all : List ℕ) (ended : Bool) (k : HasLines f mux front text) (x : LineFault) (n : ℕ) → n ≡ 1 + length front → x.line ≡ n → lines ended all ≡ front ++ more
+stored_there : (f : Formula) (mux : Muxed) (front more : List Line) (text all : List ℕ) (ended : Bool)
+    (k : HasLines f mux front text) (x : LineFault) (n : ℕ) → n ≡ 1 + length front → x.line ≡ n → lines ended all ≡ front ++ more
     → FaultOfInput (1 + length front) k.after more (fault_in (1 + length front) x.kind) → IsInputStop f all ended text (Faulty x)
 stored_there f mux front more text all ended k x n number at e fault =
-    subst (λ m. FaultOfInput 1 [] (lines ended all) (fault_in m x.kind) × OwesLines f all ended text) (sym (at ∙ number)) (fault_there f mux front more text all ended k x.kind e fault)
+    subst (λ m. FaultOfInput 1 [] (lines ended all) (fault_in m x.kind) × OwesLines f all ended text) (sym (at ∙ number))
+    (fault_there f mux front more text all ended k x.kind e fault)
 
 -- the line has too many before it, or too many bytes
-unsized_fault : (known : List (List ℕ)) (line : Line) (more : List Line) (n size : ℕ) (l : LineKind) → size ≤ length line.bytes → IsUnsizedBy n size l → FaultOfInput n known (line ∷ more) (fault_in n l)
+unsized_fault : (known : List (List ℕ)) (line : Line) (more : List Line) (n size : ℕ) (l : LineKind) → size ≤ length line.bytes
+    → IsUnsizedBy n size l → FaultOfInput n known (line ∷ more) (fault_in n l)
 unsized_fault known line more n size kind.TooManyLines fits u = many_fault n known line more u
 unsized_fault known line more n size kind.TooLong fits (few, long) = long_fault n known line more few (omega (arith, fits, long))
 unsized_fault known line more n size kind.BadTag fits u = absurd u
 unsized_fault known line more n size kind.TooManySessions fits u = absurd u
 
-unsized_there : (f : Formula) (mux : Muxed) (front : List Line) (line : Line) (more : List Line) (text all : List ℕ) (ended : Bool) (k : HasLines f mux front text) (n size : ℕ) (e : InputStop) → n ≡ 1 + length front
+unsized_there : (f : Formula) (mux : Muxed) (front : List Line) (line : Line) (more : List Line) (text all : List ℕ)
+    (ended : Bool) (k : HasLines f mux front text) (n size : ℕ) (e : InputStop) → n ≡ 1 + length front
     → size ≤ length line.bytes → lines ended all ≡ front ++ line ∷ more → IsUnsized n size e → IsInputStop f all ended text e
 unsized_there f mux front line more text all ended k n size (Faulty x) number fits e (at, u) =
     stored_there f mux front (line ∷ more) text all ended k x n number at e
@@ -81,15 +92,19 @@ unsized_there f mux front line more text all ended k n size (Faulty x) number fi
 unsized_there f mux front line more text all ended k n size NoMemory number fits e u = absurd u
 
 -- the sessions refused it
-refused_fault : (f : Formula) (mux : Muxed) (front : List Line) (line text : List ℕ) (more : List Line) (k : HasLines f mux front text) (l : LineKind) → IsSized (1 + length front) (length line)
-    → is_blank_line (ended_line line) ≡ false → IsRefusedBy (record { formula = f; seen = k.tagged }) line l → FaultOfInput (1 + length front) k.after (ended_line line ∷ more) (fault_in (1 + length front) l)
+refused_fault : (f : Formula) (mux : Muxed) (front : List Line) (line text : List ℕ) (more : List Line)
+    (k : HasLines f mux front text) (l : LineKind) → IsSized (1 + length front) (length line)
+    → is_blank_line (ended_line line) ≡ false → IsRefusedBy (record { formula = f; seen = k.tagged }) line l
+    → FaultOfInput (1 + length front) k.after (ended_line line ∷ more) (fault_in (1 + length front) l)
 refused_fault f mux front line text more k kind.TooManyLines sized b r = absurd r
 refused_fault f mux front line text more k kind.TooLong sized b r = absurd r
 refused_fault f mux front line text more k kind.BadTag sized b r = tag_fault (1 + length front) k.after (ended_line line) more sized refl b r
 refused_fault f mux front line text more k kind.TooManySessions sized b ((t, is, a), full) =
-    room_fault (1 + length front) k.after (ended_line line) more sized refl b t is (known_tag t.tag k.passed ∙ a) (let e = known_count k.passed in omega (arith, e, full))
+    room_fault (1 + length front) k.after (ended_line line) more sized refl b t is (known_tag t.tag k.passed ∙ a)
+    (let e = known_count k.passed in omega (arith, e, full))
 
-refused_there : (f : Formula) (mux : Muxed) (front : List Line) (line text after : List ℕ) (n : ℕ) (k : HasLines f mux front text) (before : List ℕ) (written : List ℕ) (e : InputStop) → text ≡ written ++ before → n ≡ 1 + length front → IsSized n (length line)
+refused_there : (f : Formula) (mux : Muxed) (front : List Line) (line text after : List ℕ) (n : ℕ) (k : HasLines f mux front text)
+    (before : List ℕ) (written : List ℕ) (e : InputStop) → text ≡ written ++ before → n ≡ 1 + length front → IsSized n (length line)
     → IsNotHanded (record { formula = f; seen = k.tagged }) n line before after e → IsLineStop f front line (written ++ after) e
 refused_there f mux front line text after n k before written (Faulty x) parts number sized (at, b, same, r) = λ all ended later e.
     subst (λ t. IsInputStop f all ended t (Faulty x)) (parts ∙ ap (λ t. written ++ t) (sym same))
@@ -108,15 +123,18 @@ module _ (f : Formula) (i : Input) (bytes written part : List ℕ) (k : IsTaking
       ap (lines e) (append_assoc bytes part more) ∙ k.joins e (part ++ more) ∙ ap (λ b. k.front ++ lines e b) (sym (append_assoc i.part part more))
 
   -- they are too many, or of a line too many
-  pub part_unsized : (e : InputStop) → 0 < length part → IsUnsized (i.whole + 1) (length i.part + length part) e → IsPartStop f (bytes ++ part) (written ++ i.text) e
+  pub part_unsized : (e : InputStop) → 0 < length part → IsUnsized (i.whole + 1) (length i.part + length part) e
+      → IsPartStop f (bytes ++ part) (written ++ i.text) e
   part_unsized e some u = λ ended more.
       let size = length-append i.part part in
       let (l, ls, is, fits) = grows ended (i.part ++ part) more both_free (omega (arith, some, size)) in
-      unsized_there f i.mux k.front l ls (written ++ i.text) ((bytes ++ part) ++ more) ended k.taken (i.whole + 1) (length i.part + length part) e (let c = k.count in omega (arith, c)) (omega (arith, fits, size))
+      unsized_there f i.mux k.front l ls (written ++ i.text) ((bytes ++ part) ++ more) ended k.taken (i.whole + 1)
+      (length i.part + length part) e (let c = k.count in omega (arith, c)) (omega (arith, fits, size))
       (joined ended more ∙ ap (λ ls. k.front ++ ls) is) u
 
   -- they were added
-  pub part_added : (new : Input) → new ≡ record i { part = i.part ++ part } → IsSized (i.whole + 1) (length i.part + length part) → IsTaking f new (bytes ++ part) written
+  pub part_added : (new : Input) → new ≡ record i { part = i.part ++ part } → IsSized (i.whole + 1) (length i.part + length part)
+      → IsTaking f new (bytes ++ part) written
   part_added new e (few, short) = subst (λ (j : Input). IsTaking f j (bytes ++ part) written) (sym e) (record {
     front = k.front;
     free = both_free;
@@ -136,7 +154,8 @@ part_none f i bytes written part k e = subst (λ b. IsTaking f i b written) (sym
 -- ---- a line that has ended
 
 -- one line more
-one_line : (f : Formula) (old new : Muxed) (front : List Line) (line text before after written : List ℕ) (k : HasLines f old front text) → text ≡ written ++ before → IsSized (1 + length front) (length line)
+one_line : (f : Formula) (old new : Muxed) (front : List Line) (line text before after written : List ℕ)
+    (k : HasLines f old front text) → text ≡ written ++ before → IsSized (1 + length front) (length line)
     → IsHanded (record { formula = f; seen = k.tagged }) line new before after → HasLines f new (front ++ ended_line line ∷ []) (written ++ after)
 one_line f old new front line text before after written k parts sized handed = by_blank (is_blank_line (ended_line line)) refl
   where
@@ -148,7 +167,8 @@ one_line f old new front line text before after written k parts sized handed = b
         (ap (λ t. t ++ h.answer) parts ∙ append_assoc written before h.answer ∙ ap (λ t. written ++ t) (sym h.added))
         (answers_on f [] k.tagged x text h.answer k.told h.is)
 
-    by_tag : is_blank_line (ended_line line) ≡ false → (x : Tagged) → IsTagged (content (ended_line line)) x → HasTaken (record { formula = f; seen = k.tagged }) x new before after → (b : Bool) → is_among x.tag k.after ≡ b
+    by_tag : is_blank_line (ended_line line) ≡ false → (x : Tagged) → IsTagged (content (ended_line line)) x
+        → HasTaken (record { formula = f; seen = k.tagged }) x new before after → (b : Bool) → is_among x.tag k.after ≡ b
         → HasLines f new (front ++ ended_line line ∷ []) (written ++ after)
     by_tag b x is h true a = record {
       tagged = k.tagged ++ x ∷ [];
@@ -171,22 +191,26 @@ one_line f old new front line text before after written k parts sized handed = b
 
     by_blank : (b : Bool) → is_blank_line (ended_line line) ≡ b → HasLines f new (front ++ ended_line line ∷ []) (written ++ after)
     by_blank true b =
-        let (stands, same) = at_true (StandsFor (record { formula = f; seen = k.tagged }) new × (after ≡ before)) Took (is_blank_line (ended_line line)) b handed in
+        let (stands, same) =
+        at_true (StandsFor (record { formula = f; seen = k.tagged }) new × (after ≡ before)) Took (is_blank_line (ended_line line)) b handed in
         record {
           tagged = k.tagged;
           after = k.after;
-          passed = subst (λ ts. ArePassed 1 [] (front ++ ended_line line ∷ []) ts k.after) (append-nil k.tagged) (passed_on k.passed (blank {line = ended_line line} sized refl b none));
+          passed = subst (λ ts. ArePassed 1 [] (front ++ ended_line line ∷ []) ts k.after) (append-nil k.tagged)
+              (passed_on k.passed (blank {line = ended_line line} sized refl b none));
           stands = stands;
           told = subst (λ t. AreAnswers f [] k.tagged t) (parts ∙ ap (λ t. written ++ t) (sym same)) k.told;
         }
     by_blank false b =
-        let (x, is, h) = at_false (StandsFor (record { formula = f; seen = k.tagged }) new × (after ≡ before)) Took (is_blank_line (ended_line line)) b handed in
+        let (x, is, h) =
+        at_false (StandsFor (record { formula = f; seen = k.tagged }) new × (after ≡ before)) Took (is_blank_line (ended_line line)) b handed in
         by_tag b x is h (is_among x.tag k.after) refl
 
 module _ (f : Formula) (i : Input) (bytes written : List ℕ) (k : IsTaking f i bytes written) where
   number_is : i.whole + 1 ≡ 1 + length k.front
   number_is = let c = k.count in omega (arith, c)
 
+  -- a line may be handed on, since the sessions stand for the lines before it
   pub can_hand : (p : Past) × StandsFor p i.mux
   can_hand = (record { formula = f; seen = k.taken.tagged }, k.taken.stands)
 
@@ -196,12 +220,14 @@ module _ (f : Formula) (i : Input) (bytes written : List ℕ) (k : IsTaking f i 
       unsized_there f i.mux k.front (ended_line i.part) later (written ++ i.text) all ended k.taken (i.whole + 1) (length i.part) e number_is (omega arith) is u
 
   -- the sessions refused it
-  pub line_refused : (after : List ℕ) (e : InputStop) → IsSized (i.whole + 1) (length i.part) → IsNotHanded (record { formula = f; seen = k.taken.tagged }) (i.whole + 1) i.part i.text after e
+  pub line_refused : (after : List ℕ) (e : InputStop) → IsSized (i.whole + 1) (length i.part)
+      → IsNotHanded (record { formula = f; seen = k.taken.tagged }) (i.whole + 1) i.part i.text after e
       → IsLineStop f k.front i.part (written ++ after) e
   line_refused after e sized r = refused_there f i.mux k.front i.part (written ++ i.text) after (i.whole + 1) k.taken i.text written e refl number_is sized r
 
   -- it was answered
-  pub line_answered : (mux : Muxed) (after : List ℕ) → IsSized (i.whole + 1) (length i.part) → IsHanded (record { formula = f; seen = k.taken.tagged }) i.part mux i.text after
+  pub line_answered : (mux : Muxed) (after : List ℕ) → IsSized (i.whole + 1) (length i.part)
+      → IsHanded (record { formula = f; seen = k.taken.tagged }) i.part mux i.text after
       → HasLines f mux (k.front ++ ended_line i.part ∷ []) (written ++ after)
   line_answered mux after sized h =
       one_line f i.mux mux k.front i.part (written ++ i.text) i.text after written k.taken refl (subst (λ n. IsSized n (length i.part)) number_is sized) h
@@ -213,7 +239,8 @@ module _ (f : Formula) (i : Input) (bytes written : List ℕ) (k : IsTaking f i 
       ∙ sym (append_assoc k.front (ended_line i.part ∷ []) (lines e more))
 
   -- with its LF
-  pub with_feed : (new : Input) → new.part ≡ [] → new.whole ≡ i.whole + 1 → IsSized (i.whole + 1) (length i.part) → HasLines f new.mux (k.front ++ ended_line i.part ∷ []) (written ++ new.text)
+  pub with_feed : (new : Input) → new.part ≡ [] → new.whole ≡ i.whole + 1 → IsSized (i.whole + 1) (length i.part)
+      → HasLines f new.mux (k.front ++ ended_line i.part ∷ []) (written ++ new.text)
       → IsTaking f new (bytes ++ 10 ∷ []) written
   with_feed new empty next (few, short) taken = record {
     front = k.front ++ ended_line i.part ∷ [];
@@ -237,7 +264,8 @@ module _ (f : Formula) (i : Input) (bytes written : List ℕ) (k : IsTaking f i 
 
   lines_all : lines true bytes ≡ k.front ++ rest true i.part
   lines_all =
-      sym (ap (lines true) (append-nil bytes)) ∙ k.joins true [] ∙ ap (λ ls. k.front ++ ls) (ap (lines true) (append-nil i.part) ∙ lines-rest true i.part k.free)
+      sym (ap (lines true) (append-nil bytes)) ∙ k.joins true []
+      ∙ ap (λ ls. k.front ++ ls) (ap (lines true) (append-nil i.part) ∙ lines-rest true i.part k.free)
 
   some_rest : (part : List ℕ) → (length part ≡ 0 → ⊥) → rest true part ≡ ended_line part ∷ []
   some_rest [] some = absurd (some refl)
@@ -259,10 +287,12 @@ module _ (f : Formula) (i : Input) (bytes written : List ℕ) (k : IsTaking f i 
   last_some some new (Err e) h = h bytes true [] (lines_all ∙ ap (λ ls. k.front ++ ls) (some_rest i.part some))
 
   -- all lines were taken
-  no_fault : (mux : Muxed) (text : List ℕ) → (h : HasLines f mux (k.front ++ rest true i.part) text) → (x : InputFault) → ¬ FaultOfInput 1 [] (lines true bytes) x
+  no_fault : (mux : Muxed) (text : List ℕ) → (h : HasLines f mux (k.front ++ rest true i.part) text) → (x : InputFault)
+      → ¬ FaultOfInput 1 [] (lines true bytes) x
   no_fault mux text h x fault =
       past_fault h.passed [] x (subst (λ ls. FaultOfInput 1 [] ls x) (lines_all ∙ sym (append-nil (k.front ++ rest true i.part))) fault)
 
+  -- once the end was told to the sessions, the whole input has its text
   pub all_taken : (mid new : Muxed) (before after : List ℕ) → HasLines f mid (k.front ++ rest true i.part) (written ++ before) → new.phase ≡ Ended
       → ((p : Past) → StandsFor p mid → IsEndCall p new before after (Ok tt)) → HasAll f new bytes (written ++ after)
   all_taken mid new before after h over end =
@@ -301,15 +331,19 @@ pub some_of : (part : List ℕ) → false ≡ (length part == 0) → 0 < length 
 some_of [] e = absurd (false≢true e)
 some_of (c ∷ cs) e = omega arith
 
+-- a length that does not come out as nothing is more than nothing
 pub not_none : (part : List ℕ) → false ≡ (length part == 0) → length part ≡ 0 → ⊥
 not_none part e empty = omega (arith, some_of part e, empty)
 
 -- a piece up to its first LF, the LF, and the rest
 module _ (piece : List ℕ) (at : ℕ) (taken : take (at + 1) piece ≡ take at piece ++ 10 ∷ []) where
+  -- the bytes before, a line up to its LF and the rest of the piece are all bytes
   pub piece_parts : (bytes : List ℕ) → (bytes ++ take at piece) ++ 10 ∷ drop (at + 1) piece ≡ bytes ++ piece
   piece_parts bytes =
       append_assoc bytes (take at piece) (10 ∷ drop (at + 1) piece)
-      ∙ ap (λ p. bytes ++ p) (sym (append_assoc (take at piece) (10 ∷ []) (drop (at + 1) piece)) ∙ ap (λ p. p ++ drop (at + 1) piece) (sym taken) ∙ take-append-drop (at + 1) piece)
+      ∙ ap (λ p. bytes ++ p) (sym (append_assoc (take at piece) (10 ∷ []) (drop (at + 1) piece))
+      ∙ ap (λ p. p ++ drop (at + 1) piece) (sym taken) ∙ take-append-drop (at + 1) piece)
 
+  -- and with its LF the line is the front of the piece
   pub piece_front : (bytes : List ℕ) → (bytes ++ take at piece) ++ 10 ∷ [] ≡ bytes ++ take (at + 1) piece
   piece_front bytes = append_assoc bytes (take at piece) (10 ∷ []) ∙ ap (λ p. bytes ++ p) (sym taken)

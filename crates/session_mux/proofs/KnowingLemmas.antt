@@ -1,5 +1,6 @@
 -- Sessions that are found by their tags: a line is its own session's alone.
-use Rattle.std.proofs.Common.{◌≡◌, ◌≢◌, ◌⊎◌, inl, inr, refl, sym, ap, subst, ◌∙◌, ℕ, zero, suc, ◌<◌, Bool, true, false, List, [], ◌∷◌, ◌++◌, length, drop, set, arith, Option, Some, None}
+use Rattle.std.proofs.Common.{◌≡◌, ◌≢◌, ◌⊎◌, inl, inr, refl, sym, ap, subst, ◌∙◌, ℕ, zero, suc, ◌<◌, Bool}
+use Rattle.std.proofs.Common.{true, false, List, [], ◌∷◌, ◌++◌, length, drop, set, arith, Option, Some, None}
 use Rattle.std.specs.Prelude.{bytes_eq, slice_get, if◌then◌else◌, ◌||◌}
 use Rattle.std.specs.Ordering.{nat_cmp, is_eq}
 use Rattle.std.proofs.lemmas.Bool.Decides.{nat_tests}
@@ -34,17 +35,21 @@ among_at (x ∷ sessions) (suc i) s e = by_test (bytes_eq s.tag x.tag) (among_at
     by_test true h = refl
     by_test false h = h
 
-pub at_among : (sessions : List Session) (t : List ℕ) → is_among t (tag_list sessions) ≡ true → (i : ℕ) × (s : Session) × (slice_get sessions i ≡ Some s) × (s.tag ≡ t)
+-- a tag that is among the sessions' stands at some place
+pub at_among : (sessions : List Session) (t : List ℕ) → is_among t (tag_list sessions) ≡ true
+    → (i : ℕ) × (s : Session) × (slice_get sessions i ≡ Some s) × (s.tag ≡ t)
 at_among [] t e = absurd (false≢true e)
 at_among (x ∷ sessions) t e = by_test (at_among sessions t) (bytes_eq t x.tag) refl e
   where
-    by_test : (is_among t (tag_list sessions) ≡ true → (i : ℕ) × (s : Session) × (slice_get sessions i ≡ Some s) × (s.tag ≡ t)) → (b : Bool) → bytes_eq t x.tag ≡ b
+    by_test : (is_among t (tag_list sessions) ≡ true → (i : ℕ) × (s : Session) × (slice_get sessions i ≡ Some s) × (s.tag ≡ t))
+        → (b : Bool) → bytes_eq t x.tag ≡ b
         → (b || is_among t (tag_list sessions)) ≡ true → (i : ℕ) × (s : Session) × (slice_get (x ∷ sessions) i ≡ Some s) × (s.tag ≡ t)
     by_test more true k h = (0, x, refl, sym ((bytes_eq-Decides t x.tag).0 k))
     by_test more false k h = let (i, s, at, same) = more h in (suc i, s, at, same)
 
 -- an item of a list with one more
-pub item_of_more : {X : Type 0} (xs : List X) (y : X) (i : ℕ) (x : X) → slice_get (xs ++ y ∷ []) i ≡ Some x → (slice_get xs i ≡ Some x) ⊎ ((i ≡ length xs) × (x ≡ y))
+pub item_of_more : {X : Type 0} (xs : List X) (y : X) (i : ℕ) (x : X) → slice_get (xs ++ y ∷ []) i ≡ Some x
+    → (slice_get xs i ≡ Some x) ⊎ ((i ≡ length xs) × (x ≡ y))
 item_of_more [] y zero x e = inr (refl, let z : Some y ≡ Some x = e in cc)
 item_of_more [] y (suc i) x e = absurd (let z : None ≡ Some x = e in cc)
 item_of_more (z ∷ xs) y zero x e = inl e
@@ -53,17 +58,20 @@ item_of_more (z ∷ xs) y (suc i) x e = elim (item_of_more xs y i x e) [
   | inr k ↦ inr (ap suc k.0, k.1)
 ]
 
+-- an item stays at its place when one is added at the end
 pub item_stays : {X : Type 0} (xs : List X) (y : X) (i : ℕ) (x : X) → slice_get xs i ≡ Some x → slice_get (xs ++ y ∷ []) i ≡ Some x
 item_stays [] y i x e = absurd (let z : None ≡ Some x = e in cc)
 item_stays (z ∷ xs) y zero x e = e
 item_stays (z ∷ xs) y (suc i) x e = item_stays xs y i x e
 
+-- the one that is added stands last
 pub last_item_is : {X : Type 0} (xs : List X) (y : X) → slice_get (xs ++ y ∷ []) (length xs) ≡ Some y
 last_item_is [] y = refl
 last_item_is (z ∷ xs) y = last_item_is xs y
 
 -- an item of a list with one changed
-pub item_of_set : {X : Type 0} (xs : List X) (i j : ℕ) (y x : X) → i < length xs → slice_get (set xs i y) j ≡ Some x → ((j ≡ i) × (x ≡ y)) ⊎ ((j ≢ i) × (slice_get xs j ≡ Some x))
+pub item_of_set : {X : Type 0} (xs : List X) (i j : ℕ) (y x : X) → i < length xs → slice_get (set xs i y) j ≡ Some x
+    → ((j ≡ i) × (x ≡ y)) ⊎ ((j ≢ i) × (slice_get xs j ≡ Some x))
 item_of_set [] i j y x within e = absurd (omega (arith, within))
 item_of_set (z ∷ xs) zero zero y x within e = inl (refl, let k : Some y ≡ Some x = e in cc)
 item_of_set (z ∷ xs) zero (suc j) y x within e = inr (λ k. absurd (omega (arith, k)), e)
@@ -73,11 +81,13 @@ item_of_set (z ∷ xs) (suc i) (suc j) y x within e = elim (item_of_set xs i j y
   | inr k ↦ inr (λ same. k.0 (omega (arith, same)), k.1)
 ]
 
+-- an item that is set stands at its place
 pub set_is : {X : Type 0} (xs : List X) (i : ℕ) (y : X) → i < length xs → slice_get (set xs i y) i ≡ Some y
 set_is [] i y within = absurd (omega (arith, within))
 set_is (z ∷ xs) zero y within = refl
 set_is (z ∷ xs) (suc i) y within = set_is xs i y (omega (arith, within))
 
+-- the other items stay
 pub set_other : {X : Type 0} (xs : List X) (i j : ℕ) (y : X) → j ≢ i → slice_get (set xs i y) j ≡ slice_get xs j
 set_other [] i j y ne = refl
 set_other (z ∷ xs) zero zero y ne = absurd (ne refl)
@@ -86,7 +96,8 @@ set_other (z ∷ xs) (suc i) zero y ne = refl
 set_other (z ∷ xs) (suc i) (suc j) y ne = set_other xs i j y (λ e. ne (ap suc e))
 
 -- the tags stay where a session with the same tag is put
-pub tags_of_set : (sessions : List Session) (i : ℕ) (s t : Session) → slice_get sessions i ≡ Some s → t.tag ≡ s.tag → tag_list (set sessions i t) ≡ tag_list sessions
+pub tags_of_set : (sessions : List Session) (i : ℕ) (s t : Session) → slice_get sessions i ≡ Some s → t.tag ≡ s.tag
+    → tag_list (set sessions i t) ≡ tag_list sessions
 tags_of_set [] i s t at e = refl
 tags_of_set (x ∷ sessions) zero s t at e =
     let same : x ≡ s = (let z : Some x ≡ Some s = at in cc) in
@@ -99,13 +110,15 @@ drop_at [] i x e = absurd (let z : None ≡ Some x = e in cc)
 drop_at (y ∷ xs) zero x e = let z : Some y ≡ Some x = e in cc
 drop_at (y ∷ xs) (suc i) x e = drop_at xs i x e
 
+-- an option holds one item
 pub one_item : {X : Type 0} (o : Option X) (x y : X) → o ≡ Some x → o ≡ Some y → x ≡ y
 one_item o x y e k = cc
 
 -- ---- a tag that is looked up
 
 -- the session of a tag is found by its number
-pub found_is : (f : Formula) (seen : List Tagged) (sessions : List Session) (places : List (ℕ × ℕ)) (t : List ℕ) (i : ℕ) → EachTold f seen sessions → AreFound sessions places → IsTag t
+pub found_is : (f : Formula) (seen : List Tagged) (sessions : List Session) (places : List (ℕ × ℕ)) (t : List ℕ) (i : ℕ)
+    → EachTold f seen sessions → AreFound sessions places → IsTag t
     → place_in places (number_of t) ≡ Some i → (s : Session) × (slice_get sessions i ≡ Some s) × (s.tag ≡ t)
 found_is f seen sessions places t i each found is e =
     let (s, at, same) = found.only (number_of t) i e in
@@ -117,7 +130,8 @@ tag_count [] = refl
 tag_count (s ∷ ss) = ap suc (tag_count ss)
 
 -- a tag whose number has no place is none of a session's
-pub not_found : (sessions : List Session) (places : List (ℕ × ℕ)) (t : List ℕ) → AreFound sessions places → place_in places (number_of t) ≡ None → is_among t (tag_list sessions) ≡ false
+pub not_found : (sessions : List Session) (places : List (ℕ × ℕ)) (t : List ℕ) → AreFound sessions places
+    → place_in places (number_of t) ≡ None → is_among t (tag_list sessions) ≡ false
 not_found sessions places t found e = by_test (is_among t (tag_list sessions)) refl
   where
     by_test : (b : Bool) → is_among t (tag_list sessions) ≡ b → b ≡ false
@@ -129,7 +143,9 @@ not_found sessions places t found e = by_test (is_among t (tag_list sessions)) r
 
 -- ---- a line of a known tag
 
-pub ready_known : (f : Formula) (seen : List Tagged) (x : Tagged) (i : ℕ) (old new : Register) → Knows f seen old → IsTag x.tag → place_in old.places (number_of x.tag) ≡ Some i
+-- a tag that has its place leads to its session
+pub ready_known : (f : Formula) (seen : List Tagged) (x : Tagged) (i : ℕ) (old new : Register) → Knows f seen old → IsTag x.tag
+    → place_in old.places (number_of x.tag) ≡ Some i
     → new ≡ record old { last = record { number = number_of x.tag; place = i } } → IsReady f seen x i new
 ready_known f seen x i old new k is e n =
     let (s, at, same) = found_is f seen old.sessions old.places x.tag i k.told k.found is e in
@@ -149,8 +165,10 @@ ready_known f seen x i old new k is e n =
 
 -- ---- a line of a new tag
 
-module _ (f : Formula) (seen : List Tagged) (x : Tagged) (i : ℕ) (old mid : Known) (k : Knows f seen (shown old)) (is : IsTag x.tag) (none : place_in old.places.entries (number_of x.tag) ≡ None)
+module _ (f : Formula) (seen : List Tagged) (x : Tagged) (i : ℕ) (old mid : Known) (k : Knows f seen (shown old))
+    (is : IsTag x.tag) (none : place_in old.places.entries (number_of x.tag) ≡ None)
     (b : HasBegun x.tag (number_of x.tag) i old mid) where
+  -- a tag that has no place is none of those before
   pub is_new : is_among x.tag (tags_of seen) ≡ false
   is_new = subst (λ ts. is_among x.tag ts ≡ false) k.tags (not_found old.sessions.items old.places.entries x.tag k.found none)
 
@@ -191,7 +209,8 @@ module _ (f : Formula) (seen : List Tagged) (x : Tagged) (i : ℕ) (old mid : Kn
     only = λ n j e. elim (cases_eq n (number_of x.tag)) [
       | inl same ↦ (
         b.session,
-        subst (λ m. slice_get mid.sessions.items m ≡ Some b.session) (sym (place_of n j e same)) (subst (λ ss. slice_get ss (length old.sessions.items) ≡ Some b.session) (sym b.sessions) (last_item_is old.sessions.items b.session)),
+        subst (λ m. slice_get mid.sessions.items m ≡ Some b.session) (sym (place_of n j e same))
+            (subst (λ ss. slice_get ss (length old.sessions.items) ≡ Some b.session) (sym b.sessions) (last_item_is old.sessions.items b.session)),
         ap number_of b.tag ∙ sym same,
       )
       | inr ne ↦ (let (s, at, same) = k.found.only n j (sym (at_other n ne) ∙ e) in
@@ -205,8 +224,10 @@ module _ (f : Formula) (seen : List Tagged) (x : Tagged) (i : ℕ) (old mid : Kn
           let z : None ≡ Some j = sym none ∙ there in cc
 
       place_of : (n j : ℕ) → place_in mid.places.entries n ≡ Some j → n ≡ number_of x.tag → j ≡ length old.sessions.items
-      place_of n j e same = one_item (place_in mid.places.entries (number_of x.tag)) j i (subst (λ m. place_in mid.places.entries m ≡ Some j) same e) at_number ∙ b.at
+      place_of n j e same = one_item (place_in mid.places.entries (number_of x.tag)) j i
+          (subst (λ m. place_in mid.places.entries m ≡ Some j) same e) at_number ∙ b.at
 
+  -- a session that was begun for a new tag is ready for its line
   pub ready_new : (new : Register) → new ≡ record (shown mid) { last = record { number = number_of x.tag; place = i } } → IsReady f seen x i new
   ready_new new n = subst (λ (m : Register). IsReady f seen x i m) (sym n) (record {
     formula = b.formula ∙ k.formula;
@@ -217,17 +238,22 @@ module _ (f : Formula) (seen : List Tagged) (x : Tagged) (i : ℕ) (old mid : Kn
     found = are_found;
     last = inr at_number;
     session = b.session;
-    at = subst (λ ss. slice_get ss i ≡ Some b.session) (sym b.sessions) (subst (λ m. slice_get (old.sessions.items ++ b.session ∷ []) m ≡ Some b.session) (sym b.at) (last_item_is old.sessions.items b.session));
+    at = subst (λ ss. slice_get ss i ≡ Some b.session) (sym b.sessions)
+        (subst (λ m. slice_get (old.sessions.items ++ b.session ∷ []) m ≡ Some b.session) (sym b.at) (last_item_is old.sessions.items b.session));
     tag = b.tag;
     room = inr (omega (arith, b.room, ap length k.tags, tag_count old.sessions.items));
   })
 
 -- ---- what begins a session, or does not
 
-pub new_tag : (f : Formula) (seen : List Tagged) (x : Tagged) (r : Register) → Knows f seen r → place_in r.places (number_of x.tag) ≡ None → is_among x.tag (tags_of seen) ≡ false
+-- a tag that has no place is none of those before
+pub new_tag : (f : Formula) (seen : List Tagged) (x : Tagged) (r : Register) → Knows f seen r
+    → place_in r.places (number_of x.tag) ≡ None → is_among x.tag (tags_of seen) ≡ false
 new_tag f seen x r k none = subst (λ ts. is_among x.tag ts ≡ false) k.tags (not_found r.sessions r.places x.tag k.found none)
 
-pub turned_away : (f : Formula) (seen : List Tagged) (x : Tagged) (old new : Known) (e : MuxFault) → Knows f seen (shown old) → place_in old.places.entries (number_of x.tag) ≡ None → IsNotBegun old new e
+-- a line whose session could not begin changes no other
+pub turned_away : (f : Formula) (seen : List Tagged) (x : Tagged) (old new : Known) (e : MuxFault) → Knows f seen (shown old)
+    → place_in old.places.entries (number_of x.tag) ≡ None → IsNotBegun old new e
     → IsTurnedAway seen x old new e
 turned_away f seen x old new fault.TooManySessions k none h =
     (h.0, new_tag f seen x (shown old) k none, omega (arith, h.1, ap length k.tags, tag_count old.sessions.items))

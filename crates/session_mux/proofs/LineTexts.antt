@@ -18,7 +18,8 @@ use Rattle.session_mux.proofs.RecentLemmas.{kept_again}
 pub line_found : (text : List ℕ) (at : ℕ) → NoneBefore (Passes (is_byte 10) text) 0 (length text) at → Passes (is_byte 10) text at → at < length text
     → lines true text ≡ done (take at text) ∷ lines true (drop (at + 1) text)
 line_found text at before here within =
-    ap (λ t. lines true t) (sym (take-append-drop (at + 1) text) ∙ ap (λ t. t ++ drop (at + 1) text) (at-taken text at before here) ∙ append_assoc (take at text) newline (drop (at + 1) text))
+    ap (λ t. lines true t) (sym (take-append-drop (at + 1) text) ∙ ap (λ t. t ++ drop (at + 1) text) (at-taken text at before here)
+    ∙ append_assoc (take at text) newline (drop (at + 1) text))
     ∙ lines-append true (take at text) (drop (at + 1) text)
     ∙ ap (λ ls. ls ++ lines true (drop (at + 1) text)) (lines-line (take at text) (at-free text at before here))
 
@@ -35,12 +36,18 @@ whole_drop n text = take_all (length text - n) (drop n text) (omega (arith, leng
 
 -- some of the lines were told, and the others are those of the rest
 pub record Telling (prefix text before : List ℕ) (first : Buffer (List ℕ)) (rest after : List ℕ) (now : Buffer (List ℕ)) : Type 0 where
+  -- the lines that were told
   pub front : List Line
+  -- with the rest they are the lines of the text
   pub split : lines true text ≡ front ++ lines true rest
+  -- each was put, behind the prefix
   pub added : after ≡ before ++ prefixed prefix front
+  -- the last eight lines have room
   pub capacity : now.capacity ≡ 8
+  -- and are the last of those before and these
   pub kept : (told : List (List ℕ)) → first ≡ buffer (keep_last 8 told) 8 → now ≡ buffer (keep_last 8 (told ++ map (λ (line : Line). line.bytes) front)) 8
 
+-- before the first line nothing was told
 pub telling_begins : (prefix text before : List ℕ) (first : Buffer (List ℕ)) → first.capacity ≡ 8 → Telling prefix text before first text before first
 telling_begins prefix text before first room = record {
   front = [];
@@ -59,13 +66,15 @@ module _ (prefix text before : List ℕ) (first : Buffer (List ℕ)) (rest mid :
   one = append-nil (prefix ++ line ++ newline)
 
   -- one line more
-  pub telling_on : (next : Buffer (List ℕ)) (after : List ℕ) → next ≡ buffer (keep_last 8 (now.items ++ line ∷ [])) 8 → after ≡ mid ++ (prefix ++ line ++ newline)
+  pub telling_on : (next : Buffer (List ℕ)) (after : List ℕ) → next ≡ buffer (keep_last 8 (now.items ++ line ∷ [])) 8
+      → after ≡ mid ++ (prefix ++ line ++ newline)
       → Telling prefix text before first others after next
   telling_on next after e k = record {
     front = t.front ++ done line ∷ [];
     split = all;
     added = k ∙ ap (λ w. w ++ (prefix ++ line ++ newline)) t.added ∙ append_assoc before (prefixed prefix t.front) (prefix ++ line ++ newline)
-        ∙ ap (λ w. before ++ w) (ap (λ w. prefixed prefix t.front ++ w) (sym one) ∙ sym (flat_map-append (λ (l : Line). prefix ++ l.bytes ++ newline) t.front (done line ∷ [])));
+        ∙ ap (λ w. before ++ w) (ap (λ w. prefixed prefix t.front ++ w) (sym one)
+        ∙ sym (flat_map-append (λ (l : Line). prefix ++ l.bytes ++ newline) t.front (done line ∷ [])));
     capacity = ap (λ (b : Buffer (List ℕ)). b.capacity) e;
     kept = λ told f. e
         ∙ ap (λ (b : Buffer (List ℕ)). buffer (keep_last 8 (b.items ++ line ∷ [])) 8) (t.kept told f)
@@ -80,14 +89,16 @@ module _ (prefix text before : List ℕ) (first : Buffer (List ℕ)) (rest mid :
     prefixed prefix t.front ++ a,
     b ++ prefixed prefix (lines true others),
     append_assoc (prefixed prefix t.front) a (b ++ prefixed prefix (lines true others))
-        ∙ ap (λ w. prefixed prefix t.front ++ w) (sym (append_assoc a b (prefixed prefix (lines true others))) ∙ ap (λ w. w ++ prefixed prefix (lines true others)) whole)
+        ∙ ap (λ w. prefixed prefix t.front ++ w)
+        (sym (append_assoc a b (prefixed prefix (lines true others))) ∙ ap (λ w. w ++ prefixed prefix (lines true others)) whole)
         ∙ sym (ap (λ ls. prefixed prefix ls) (t.split ∙ ap (λ ls. t.front ++ ls) is)
         ∙ flat_map-append (λ (l : Line). prefix ++ l.bytes ++ newline) t.front (done line ∷ lines true others)),
     k ∙ ap (λ w. w ++ a) t.added ∙ append_assoc before (prefixed prefix t.front) a,
   )
 
 -- no more than some lines
-pub telling_stopped : (prefix text before : List ℕ) (first : Buffer (List ℕ)) (rest after : List ℕ) (now : Buffer (List ℕ)) → Telling prefix text before first rest after now
+pub telling_stopped : (prefix text before : List ℕ) (first : Buffer (List ℕ)) (rest after : List ℕ) (now : Buffer (List ℕ))
+    → Telling prefix text before first rest after now
     → GrewInPart (Is (prefixed prefix (lines true text))) before after
 telling_stopped prefix text before first rest after now t = (
   prefixed prefix t.front,
@@ -97,12 +108,15 @@ telling_stopped prefix text before first rest after now t = (
 )
 
 -- all lines
-module _ (prefix text before : List ℕ) (first : Buffer (List ℕ)) (rest after : List ℕ) (now : Buffer (List ℕ)) (t : Telling prefix text before first rest after now) (none : rest ≡ []) where
+module _ (prefix text before : List ℕ) (first : Buffer (List ℕ)) (rest after : List ℕ) (now : Buffer (List ℕ))
+    (t : Telling prefix text before first rest after now) (none : rest ≡ []) where
   every : t.front ≡ lines true text
   every = sym (t.split ∙ ap (λ ls. t.front ++ ls) (ap (λ w. lines true w) none ∙ lines-nil true) ∙ append-nil t.front)
 
+  -- once the text is used up each of its lines was put
   pub telling_all : after ≡ before ++ prefixed prefix (lines true text)
   telling_all = t.added ∙ ap (λ ls. before ++ prefixed prefix ls) every
 
+  -- and the last eight are those of all
   pub telling_kept : (told : List (List ℕ)) → first ≡ buffer (keep_last 8 told) 8 → now ≡ buffer (keep_last 8 (told ++ texts text)) 8
   telling_kept told e = t.kept told e ∙ ap (λ ls. buffer (keep_last 8 (told ++ map (λ (l : Line). l.bytes) ls)) 8) every

@@ -17,7 +17,8 @@ abbrev pub IsOutcome : Past → Tagged → Known → Known → List ℕ → List
 IsOutcome p x old new before after r =
     MatchResult r (λ _. HasAnswered p.formula p.seen x (shown new) before after) (IsUnanswered p.formula p.seen x old new before after)
 
-module _ (p : Past) (x : Tagged) (content : List ℕ) (old new : Known) (before out : List ℕ) (phase after : Phase) (taking : phase ≡ Taking) (knows : Knows p.formula p.seen (shown old)) where
+module _ (p : Past) (x : Tagged) (content : List ℕ) (old new : Known) (before out : List ℕ) (phase after : Phase)
+    (taking : phase ≡ Taking) (knows : Knows p.formula p.seen (shown old)) where
   -- it stands for some lines where it goes on
   pub goes_on_after : (r : Result (Unit {0}) MuxFault) → after ≡ phase_after phase r → IsOutcome p x old new before out r → after ≡ Taking
       → (q : Past) × StandsFor q (record { known = shown new; phase = after })
@@ -33,7 +34,8 @@ module _ (p : Past) (x : Tagged) (content : List ℕ) (old new : Known) (before 
       ap (λ (n : Known). (record { known = shown n; phase = after })) e ∙ ap (λ (a : Phase). (record { known = shown old; phase = a })) k ∙ v
 
   -- the call
-  pub line_call : (view : Muxed) → record { known = shown old; phase = phase } ≡ view → all is_space content ≡ false → IsTagged content x → (r : Result (Unit {0}) MuxFault)
+  pub line_call : (view : Muxed) → record { known = shown old; phase = phase } ≡ view → all is_space content ≡ false
+      → IsTagged content x → (r : Result (Unit {0}) MuxFault)
       → after ≡ phase_after phase r → IsOutcome p x old new before out r → IsLineCall p content view (record { known = shown new; phase = after }) before out r
   line_call view v blank tagged (Ok y) e h =
       to_false _ _ (all is_space content) blank
@@ -45,7 +47,8 @@ module _ (p : Past) (x : Tagged) (content : List ℕ) (old new : Known) (before 
   line_call view v blank tagged (Err fault.Ended) e h = absurd h
 
   -- the phases
-  pub line_moves : (view : Muxed) → record { known = shown old; phase = phase } ≡ view → (r : Result (Unit {0}) MuxFault) → after ≡ phase_after phase r → IsOutcome p x old new before out r
+  pub line_moves : (view : Muxed) → record { known = shown old; phase = phase } ≡ view → (r : Result (Unit {0}) MuxFault)
+      → after ≡ phase_after phase r → IsOutcome p x old new before out r
       → Moves Taking view (record { known = shown new; phase = after }) r
   line_moves view v (Ok y) e h = (ap (λ (m : Muxed). m.phase) (sym v) ∙ taking, e ∙ taking)
   line_moves view v (Err fault.TooManySessions) e h = (ap (λ (m : Muxed). m.phase) (sym v) ∙ taking, same_as h.0.0 e view v)

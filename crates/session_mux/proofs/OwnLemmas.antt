@@ -28,11 +28,13 @@ by_other line t false q e k h = (
   ap (λ c. cond c (is_stop line || false) false) e,
 )
 
+-- a line of another tag adds nothing to a session
 pub own_by_other : (seen : List Tagged) (line : Tagged) (t : List ℕ) → is_of t line ≡ false → own (seen ++ line ∷ []) t ≡ own seen t
 own_by_other [] line t h = (by_other line t (bytes_eq line.tag t) (is_query line) refl refl h).0
 own_by_other (x ∷ seen) line t h =
     ap (λ o. cond (bytes_eq x.tag t) (cond (is_query x) o (cond (is_stop x) [] (x.content ++ newline ++ o))) o) (own_by_other seen line t h)
 
+-- nor does it stop it
 pub stopped_by_other : (seen : List Tagged) (line : Tagged) (t : List ℕ) → is_of t line ≡ false → is_stopped (seen ++ line ∷ []) t ≡ is_stopped seen t
 stopped_by_other [] line t h = (by_other line t (bytes_eq line.tag t) (is_query line) refl refl h).1
 stopped_by_other (x ∷ seen) line t h = ap (λ o. cond (bytes_eq x.tag t) (is_stop x || o) o) (stopped_by_other seen line t h)
@@ -49,7 +51,8 @@ abbrev put : Bool → Bool → List ℕ → Own → Own
 put a z line o = cond (a || o.stopped) o (cond z (record o { stopped = true }) (record o { bytes = o.bytes ++ line }))
 
 step_put : (e q s a z : Bool) (front line bytes : List ℕ) (stopped : Bool) → (q ≡ true → s ≡ false)
-    → step e q s front (put a z line (record { bytes = bytes; stopped = stopped })) ≡ put a z line (step e q s front (record { bytes = bytes; stopped = stopped }))
+    → step e q s front (put a z line (record { bytes = bytes; stopped = stopped })) ≡ put a z line
+    (step e q s front (record { bytes = bytes; stopped = stopped }))
 step_put false q s true z front line bytes stopped fits = refl
 step_put false q s false z front line bytes true fits = refl
 step_put false q s false true front line bytes false fits = refl
@@ -68,10 +71,12 @@ step_put true false false false false front line bytes false fits =
     ap (λ (w : List ℕ). (record { bytes = w; stopped = false })) (sym (append_assoc front bytes line))
 
 -- the session's own line is the next of its contents
-pub own_grows : (seen : List Tagged) (line : Tagged) (t : List ℕ) → bytes_eq line.tag t ≡ true → own_of (seen ++ line ∷ []) t ≡ with_content (own_of seen t) line.content
+pub own_grows : (seen : List Tagged) (line : Tagged) (t : List ℕ) → bytes_eq line.tag t ≡ true
+    → own_of (seen ++ line ∷ []) t ≡ with_content (own_of seen t) line.content
 own_grows [] line t e = first (bytes_eq line.tag t) (asks line.content) (stops line.content) e (no_stop line)
   where
-    first : (b q s : Bool) → b ≡ true → (q ≡ true → s ≡ false) → step b q s (line.content ++ newline) (record { bytes = []; stopped = false }) ≡ put q s (line.content ++ newline) (record { bytes = []; stopped = false })
+    first : (b q s : Bool) → b ≡ true → (q ≡ true → s ≡ false) → step b q s (line.content ++ newline)
+        (record { bytes = []; stopped = false }) ≡ put q s (line.content ++ newline) (record { bytes = []; stopped = false })
     first false q s e fits = absurd (false≢true e)
     first true true true e fits = absurd (false≢true (sym (fits refl)))
     first true true false e fits = refl
@@ -79,7 +84,8 @@ own_grows [] line t e = first (bytes_eq line.tag t) (asks line.content) (stops l
     first true false false e fits = ap (λ (w : List ℕ). (record { bytes = w; stopped = false })) (append-nil (line.content ++ newline))
 own_grows (x ∷ seen) line t e =
     ap (step (bytes_eq x.tag t) (is_query x) (is_stop x) (x.content ++ newline)) (own_grows seen line t e)
-    ∙ step_put (bytes_eq x.tag t) (is_query x) (is_stop x) (asks line.content) (stops line.content) (x.content ++ newline) (line.content ++ newline) (own seen t) (is_stopped seen t) (no_stop x)
+    ∙ step_put (bytes_eq x.tag t) (is_query x) (is_stop x) (asks line.content) (stops line.content) (x.content ++ newline)
+    (line.content ++ newline) (own seen t) (is_stopped seen t) (no_stop x)
 
 -- another's line adds nothing
 pub own_stays : (seen : List Tagged) (line : Tagged) (t : List ℕ) → bytes_eq line.tag t ≡ false → own_of (seen ++ line ∷ []) t ≡ own_of seen t
@@ -92,10 +98,13 @@ own_stays seen line t e =
 
 -- the line's tag comes after the others where it is new
 abbrev Grows : List (List ℕ) → List Tagged → Tagged → Type 0
-Grows ts seen line = tags_after ts (seen ++ line ∷ []) ≡ tags_after ts seen ++ (if is_among line.tag ts || is_among line.tag (tags_after ts seen) then [] else line.tag ∷ [])
+Grows ts seen line = tags_after ts (seen ++ line ∷ [])
+    ≡ tags_after ts seen ++ (if is_among line.tag ts || is_among line.tag (tags_after ts seen) then [] else line.tag ∷ [])
 
+-- a line adds its tag where it is a new one
 pub tags_grow : (known : List (List ℕ)) (seen : List Tagged) (line : Tagged)
-    → tags_after known (seen ++ line ∷ []) ≡ tags_after known seen ++ (if is_among line.tag known || is_among line.tag (tags_after known seen) then [] else line.tag ∷ [])
+    → tags_after known (seen ++ line ∷ []) ≡ tags_after known seen
+    ++ (if is_among line.tag known || is_among line.tag (tags_after known seen) then [] else line.tag ∷ [])
 tags_grow known [] line = by_known (is_among line.tag known)
   where
     by_known : (b : Bool) → cond b [] (line.tag ∷ []) ≡ [] ++ cond (b || false) [] (line.tag ∷ [])
@@ -109,7 +118,8 @@ tags_grow known (x ∷ seen) line = by_first (tags_grow known seen line) (tags_g
     regroup false true c u v = refl
     regroup false false c u v = refl
 
-    by_first : Grows known seen line → Grows (x.tag ∷ known) seen line → (b : Bool) → cond b (tags_after known (seen ++ line ∷ [])) (x.tag ∷ tags_after (x.tag ∷ known) (seen ++ line ∷ []))
+    by_first : Grows known seen line → Grows (x.tag ∷ known) seen line → (b : Bool)
+        → cond b (tags_after known (seen ++ line ∷ [])) (x.tag ∷ tags_after (x.tag ∷ known) (seen ++ line ∷ []))
         ≡ cond b (tags_after known seen) (x.tag ∷ tags_after (x.tag ∷ known) seen)
         ++ cond (is_among line.tag known || is_among line.tag (cond b (tags_after known seen) (x.tag ∷ tags_after (x.tag ∷ known) seen))) [] (line.tag ∷ [])
     by_first same more true = same
@@ -145,7 +155,8 @@ own_from known (x ∷ seen) t p q = by_tag (own_from known seen t) (own_from (x.
     skip e = ap (λ b. step b (is_query x) (is_stop x) (x.content ++ newline) (own_of seen t)) e
 
     by_tag : HasNone known seen t → HasNone (x.tag ∷ known) seen t → (b : Bool) → bytes_eq x.tag t ≡ b → (k : Bool) → is_among x.tag known ≡ k
-        → is_among t (cond k (tags_after known seen) (x.tag ∷ tags_after (x.tag ∷ known) seen)) ≡ false → own_of (x ∷ seen) t ≡ record { bytes = []; stopped = false }
+        → is_among t (cond k (tags_after known seen) (x.tag ∷ tags_after (x.tag ∷ known) seen)) ≡ false
+        → own_of (x ∷ seen) t ≡ record { bytes = []; stopped = false }
     by_tag same more true e true k r = absurd (false≢true (sym p ∙ subst (λ w. is_among w known ≡ true) ((bytes_eq-Decides x.tag t).0 e) k))
     by_tag same more true e false k r =
         absurd (false≢true (sym (neither (bytes_eq t x.tag) (is_among t (tags_after (x.tag ∷ known) seen)) r).0

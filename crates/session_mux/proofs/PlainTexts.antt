@@ -1,5 +1,6 @@
 -- Each line of what a session writes is one line, and begins with no `?`.
-use Rattle.std.proofs.Common.{◌≡◌, ◌⊎◌, inl, inr, refl, sym, ap, subst, ◌∙◌, ℕ, ℤ, pos, negsuc, zero, suc, ◌+◌, ◌/◌, ◌%◌, Bool, true, false, List, [], ◌∷◌, ◌++◌, append_assoc, arith, Option, Some, None}
+use Rattle.std.proofs.Common.{◌≡◌, ◌⊎◌, inl, inr, refl, sym, ap, subst, ◌∙◌, ℕ, ℤ, pos, negsuc, zero, suc, ◌+◌, ◌/◌}
+use Rattle.std.proofs.Common.{◌%◌, Bool, true, false, List, [], ◌∷◌, ◌++◌, append_assoc, arith, Option, Some, None}
 use Rattle.std.specs.Prelude.{◌==◌, ◌&&◌, not, codes, decimal, int_lt, MatchBool, ◌≢◌, if◌then◌else◌, nat_lt}
 use Rattle.std.specs.Fmt.{digits, digits_onto, digit_glyph, signed_decimal}
 use Rattle.std.proofs.lemmas.Bool.{false≢true, ne_eqb, cases_eq}
@@ -29,14 +30,17 @@ use Rattle.session_mux.proofs.TextLemmas.{EndsInFeed, lines_joined, rows_stream_
 
 -- ---- bytes without LF
 
+-- two plain texts together are plain
 pub plain_both : (xs ys : List ℕ) → is_plain xs ≡ true → is_plain ys ≡ true → is_plain (xs ++ ys) ≡ true
 plain_both [] ys h k = k
 plain_both (x ∷ xs) ys h k = by_first (not (x == 10)) h (plain_both xs ys)
   where
-    by_first : (b : Bool) → (b && is_plain xs) ≡ true → (is_plain xs ≡ true → is_plain ys ≡ true → is_plain (xs ++ ys) ≡ true) → (b && is_plain (xs ++ ys)) ≡ true
+    by_first : (b : Bool) → (b && is_plain xs) ≡ true → (is_plain xs ≡ true → is_plain ys ≡ true → is_plain (xs ++ ys) ≡ true)
+        → (b && is_plain (xs ++ ys)) ≡ true
     by_first true h rest = rest h k
     by_first false h rest = absurd (false≢true h)
 
+-- a plain text has no LF
 pub plain_free : (xs : List ℕ) → is_plain xs ≡ true → HasNoFeed xs
 plain_free [] h = All-nil (λ c. c ≢ 10)
 plain_free (x ∷ xs) h = by_first (x == 10) refl h (plain_free xs)
@@ -64,6 +68,7 @@ plain_digits (suc k) n acc h = by_rest (n / 10 == 0) (plain_digits k (n / 10) (d
     by_rest true p = glyph (n % 10) acc h
     by_rest false p = p
 
+-- a number's digits are plain
 pub plain_decimal : (n : ℕ) → is_plain (decimal n) ≡ true
 unfolding digits
 plain_decimal n = plain_digits 64 n [] refl
@@ -77,7 +82,8 @@ plain_fraction num den = by_test (den == 1)
   where
     by_test : (b : Bool) → is_plain (if b then signed_decimal num else signed_decimal num ++ codes "/" ++ decimal den) ≡ true
     by_test true = plain_signed num
-    by_test false = plain_both (signed_decimal num ++ codes "/") (decimal den) (plain_both (signed_decimal num) (codes "/") (plain_signed num) refl) (plain_decimal den)
+    by_test false = plain_both (signed_decimal num ++ codes "/") (decimal den)
+        (plain_both (signed_decimal num) (codes "/") (plain_signed num) refl) (plain_decimal den)
 
 -- ---- lines
 
@@ -108,7 +114,8 @@ lines_free ended (x ∷ xs) = by_test (lines_free ended xs) (cases_eq x 10)
 
 -- one line
 pub one_line : (w : List ℕ) → HasNoFeed w → lines true (w ++ newline) ≡ done w ∷ []
-one_line w free = lines-append true w [] ∙ ap (λ ls. lines false (w ++ newline) ++ ls) (lines-nil true) ∙ append-nil (lines false (w ++ newline)) ∙ lines-line w free
+one_line w free = lines-append true w [] ∙ ap (λ ls. lines false (w ++ newline) ++ ls) (lines-nil true)
+    ∙ append-nil (lines false (w ++ newline)) ∙ lines-line w free
 
 said_one : (w : List ℕ) → is_plain w ≡ true → IsSaid w → AreSaid (lines true (w ++ newline))
 said_one w p s = subst (λ ls. AreSaid ls) (sym (one_line w (plain_free w p))) (s, tt)
@@ -117,6 +124,7 @@ said_lines : (xs ys : List Line) → AreSaid xs → AreSaid ys → AreSaid (xs +
 said_lines [] ys h k = k
 said_lines (x ∷ xs) ys h k = (h.0, said_lines xs ys h.1 k)
 
+-- the lines behind some that a session may write are such too
 pub said_back : (xs ys : List Line) → AreSaid (xs ++ ys) → AreSaid ys
 said_back [] ys h = h
 said_back (x ∷ xs) ys h = said_back xs ys h.1
@@ -139,9 +147,11 @@ said_span scale on text rest s = (
   subst (λ w. is_plain w ≡ true) (sym s.is)
       (plain_both ((if on.from_in then codes "[" else codes "(") ++ s.from ++ codes "," ++ s.to) (if on.to_in then codes "]" else codes ")")
       (plain_both ((if on.from_in then codes "[" else codes "(") ++ s.from ++ codes ",") s.to
-      (plain_both ((if on.from_in then codes "[" else codes "(") ++ s.from) (codes ",") (plain_both (if on.from_in then codes "[" else codes "(") s.from (bracket on.from_in) (number s.from_is)) refl) (number s.to_is))
+      (plain_both ((if on.from_in then codes "[" else codes "(") ++ s.from) (codes ",")
+      (plain_both (if on.from_in then codes "[" else codes "(") s.from (bracket on.from_in) (number s.from_is)) refl) (number s.to_is))
       (closing on.to_in)),
-  subst (λ w. IsSaid (w ++ rest)) (sym s.is) (subst (λ w. IsSaid w) (sym regroup) (opened on.from_in (s.from ++ (codes "," ++ (s.to ++ ((if on.to_in then codes "]" else codes ")") ++ rest)))))),
+  subst (λ w. IsSaid (w ++ rest)) (sym s.is)
+      (subst (λ w. IsSaid w) (sym regroup) (opened on.from_in (s.from ++ (codes "," ++ (s.to ++ ((if on.to_in then codes "]" else codes ")") ++ rest)))))),
 )
   where
     bracket : (b : Bool) → is_plain (if b then codes "[" else codes "(") ≡ true
@@ -167,9 +177,11 @@ said_verdicts : (scale : Scale) (given : List Verdict) (text : List ℕ) → Are
 said_verdicts scale [] text e = subst (λ t. AreSaid (lines true t)) (sym e) said_none
 said_verdicts scale (v ∷ given) text (here, later, (on, is, e), more, k) =
     let s = said_span scale v.on on (codes " " ++ bool_text v.holds) is in
-    let plain : is_plain (on ++ codes " " ++ bool_text v.holds) ≡ true = plain_both (on ++ codes " ") (bool_text v.holds) (plain_both on (codes " ") s.0 refl) (said_truth v.holds) in
+    let plain : is_plain (on ++ codes " " ++ bool_text v.holds) ≡ true =
+    plain_both (on ++ codes " ") (bool_text v.holds) (plain_both on (codes " ") s.0 refl) (said_truth v.holds) in
     said_both here later text (inr (on ++ codes " " ++ bool_text v.holds, e))
-    (subst (λ t. AreSaid (lines true t)) (sym e) (said_one (on ++ codes " " ++ bool_text v.holds) plain (subst (λ w. IsSaid w) (sym (append_assoc on (codes " ") (bool_text v.holds))) s.1)))
+    (subst (λ t. AreSaid (lines true t)) (sym e)
+    (said_one (on ++ codes " " ++ bool_text v.holds) plain (subst (λ w. IsSaid w) (sym (append_assoc on (codes " ") (bool_text v.holds))) s.1)))
     (said_verdicts scale given later more) k
 
 said_new : (p : Subformula) (tr : Trace) (old new : Option ℤ) (text : List ℕ) → IsNewText p tr old new text → AreSaid (lines true text)
@@ -181,14 +193,16 @@ said_new p tr (Some old) (Some new) text h = by_order (int_lt old new) h
     by_order true (given, is, all) = said_verdicts tr.header.scale given text all
     by_order false k = subst (λ t. AreSaid (lines true t)) (sym k) said_none
 
-said_rows : (p : Subformula) (header : Header) (rows : List Row) (old : Option ℤ) (more : List Row) (text : List ℕ) → IsRowsText (IsNewText p) p header rows old more text → AreSaid (lines true text)
+said_rows : (p : Subformula) (header : Header) (rows : List Row) (old : Option ℤ) (more : List Row) (text : List ℕ)
+    → IsRowsText (IsNewText p) p header rows old more text → AreSaid (lines true text)
 said_rows p header rows old [] text e = subst (λ t. AreSaid (lines true t)) (sym e) said_none
 said_rows p header rows old (r ∷ more) text (here, later, is, on, e) =
     let tr : Trace = record { header = header; rows = rows ++ r ∷ [] } in
     let now = answered_by (first_time (rows ++ r ∷ [])) p r.time in
     said_both here later text (new_ends p tr old now here is) (said_new p tr old now here is) (said_rows p header (rows ++ r ∷ []) now more later on) e
 
-said_stream : (p : Subformula) (header : Header) (rows : List Row) (ended : Bool) (text : List ℕ) → IsStreamText p header rows ended text → AreSaid (lines true text)
+said_stream : (p : Subformula) (header : Header) (rows : List Row) (ended : Bool) (text : List ℕ)
+    → IsStreamText p header rows ended text → AreSaid (lines true text)
 said_stream p header rows false text h = said_rows p header [] None rows text h
 said_stream p header rows true text (are, (during, rest, line, on, left, (holds, truth, is), e)) =
     let tr : Trace = record { header = header; rows = rows } in
@@ -198,13 +212,15 @@ said_stream p header rows true text (are, (during, rest, line, on, left, (holds,
     let rest_ends = new_ends p tr old new rest left in
     said_both (during ++ rest) line text (joined during rest during_ends rest_ends)
     (said_both during rest (during ++ rest) during_ends (said_rows p header [] None rows during on) (said_new p tr old new rest left) refl)
-    (subst (λ t. AreSaid (lines true t)) (sym is) (said_one (codes "start " ++ bool_text holds) (plain_both (codes "start ") (bool_text holds) refl (said_truth holds)) refl)) e
+    (subst (λ t. AreSaid (lines true t)) (sym is)
+    (said_one (codes "start " ++ bool_text holds) (plain_both (codes "start ") (bool_text holds) refl (said_truth holds)) refl)) e
   where
     joined : (a b : List ℕ) → EndsInFeed a → EndsInFeed b → EndsInFeed (a ++ b)
     joined a b p (inl e) = subst (λ t. EndsInFeed t) (sym (ap (λ t. a ++ t) e ∙ append-nil a)) p
     joined a b p (inr (x, e)) = inr (a ++ x, ap (λ t. a ++ t) e ∙ sym (append_assoc a x newline))
 
-said_rows_stream : (f : Formula) (header : Option Header) (rows : List Row) (whole : Bool) (text : List ℕ) → IsRowsStream f header rows whole text → AreSaid (lines true text)
+said_rows_stream : (f : Formula) (header : Option Header) (rows : List Row) (whole : Bool) (text : List ℕ)
+    → IsRowsStream f header rows whole text → AreSaid (lines true text)
 said_rows_stream f None rows whole text e = subst (λ t. AreSaid (lines true t)) (sym e) said_none
 said_rows_stream f (Some header) rows whole text h = said_stream (root (scaled f header.scale).nodes) header rows whole text h
 
@@ -212,11 +228,13 @@ said_rows_stream f (Some header) rows whole text h = said_stream (root (scaled f
 said_message : (n : ℕ) (message : List ℕ) → is_plain message ≡ true → AreSaid (lines true (in_line n message))
 said_message n message p =
     said_one (codes "line " ++ decimal n ++ codes ": " ++ message)
-    (plain_both (codes "line " ++ decimal n ++ codes ": ") message (plain_both (codes "line " ++ decimal n) (codes ": ") (plain_both (codes "line ") (decimal n) refl (plain_decimal n)) refl) p) refl
+    (plain_both (codes "line " ++ decimal n ++ codes ": ") message
+    (plain_both (codes "line " ++ decimal n) (codes ": ") (plain_both (codes "line ") (decimal n) refl (plain_decimal n)) refl) p) refl
 
 plain_field : (i : ℕ) (message : List ℕ) → is_plain message ≡ true → is_plain (codes "field " ++ decimal i ++ codes ": " ++ message) ≡ true
 plain_field i message p =
-    plain_both (codes "field " ++ decimal i ++ codes ": ") message (plain_both (codes "field " ++ decimal i) (codes ": ") (plain_both (codes "field ") (decimal i) refl (plain_decimal i)) refl) p
+    plain_both (codes "field " ++ decimal i ++ codes ": ") message
+    (plain_both (codes "field " ++ decimal i) (codes ": ") (plain_both (codes "field ") (decimal i) refl (plain_decimal i)) refl) p
 
 said_kind : (n : ℕ) (kind : TraceKind) → AreSaid (lines true (kind_text n kind))
 said_kind n trace.Empty = said_message n (codes "no header") refl
@@ -237,23 +255,27 @@ said_unit : (n : ℕ) (fault : UnitFault) → AreSaid (lines true (unit_fault_te
 said_unit n (unit.Constant i) =
     said_message n (codes "node " ++ decimal i ++ codes ": constant out of range")
     (plain_both (codes "node " ++ decimal i) (codes ": constant out of range") (plain_both (codes "node ") (decimal i) refl (plain_decimal i)) refl)
-said_unit n (unit.Reach sum) = said_message n (codes "bounds sum to " ++ decimal sum) (plain_both (codes "bounds sum to ") (decimal sum) refl (plain_decimal sum))
+said_unit n (unit.Reach sum) =
+    said_message n (codes "bounds sum to " ++ decimal sum) (plain_both (codes "bounds sum to ") (decimal sum) refl (plain_decimal sum))
 said_unit n unit.Memory = said_one (codes "out of memory") refl refl
 
 said_unknown : (n : ℕ) (name : List ℕ) → is_plain name ≡ true → AreSaid (lines true (in_line n (codes "unknown column " ++ name)))
 said_unknown n name p = said_message n (codes "unknown column " ++ name) (plain_both (codes "unknown column ") name refl p)
 
-said_fault : (f : Formula) (bytes : List ℕ) (ended : Bool) (x : Fault) → HasPlainNames f → IsInputFault stream_limits f bytes ended x → AreSaid (lines true (fault_text x))
+said_fault : (f : Formula) (bytes : List ℕ) (ended : Bool) (x : Fault) → HasPlainNames f
+    → IsInputFault stream_limits f bytes ended x → AreSaid (lines true (fault_text x))
 said_fault f bytes ended x names (inl (n, h, at, inl (atom, term, name, is, e), clean)) =
     subst (λ (y : Fault). AreSaid (lines true (fault_text y))) (sym e)
     (said_unknown n name (subst (λ w. is_plain w ≡ true) is.named (names atom term is.owner is.lacking is.at_atom is.at_term)))
-said_fault f bytes ended x names (inl (n, h, at, inr (fits, (fault, is, e)), clean)) = subst (λ (y : Fault). AreSaid (lines true (fault_text y))) (sym e) (said_unit n fault)
+said_fault f bytes ended x names (inl (n, h, at, inr (fits, (fault, is, e)), clean)) =
+    subst (λ (y : Fault). AreSaid (lines true (fault_text y))) (sym e) (said_unit n fault)
 said_fault f bytes ended x names (inr (none, (r, first, e))) = subst (λ (y : Fault). AreSaid (lines true (fault_text y))) (sym e) (said_kind r.line r.kind)
 
 -- all that a session writes alone
 pub said_alone : (f : Formula) (bytes : List ℕ) (ended : Bool) (text : List ℕ) → HasPlainNames f → Alone f bytes ended text → AreSaid (lines true text)
 said_alone f bytes ended text names (header, rows, whole, stream, line, before, told, inl (none, k), e) =
-    said_both stream line text (rows_stream_ends f header rows whole stream told) (said_rows_stream f header rows whole stream told) (subst (λ t. AreSaid (lines true t)) (sym k) said_none) e
+    said_both stream line text (rows_stream_ends f header rows whole stream told)
+    (said_rows_stream f header rows whole stream told) (subst (λ t. AreSaid (lines true t)) (sym k) said_none) e
 said_alone f bytes ended text names (header, rows, whole, stream, line, before, told, inr (x, is, k), e) =
     said_both stream line text (rows_stream_ends f header rows whole stream told) (said_rows_stream f header rows whole stream told)
     (subst (λ t. AreSaid (lines true t)) (sym k) (said_fault f bytes ended x names is)) e

@@ -26,11 +26,14 @@ use Rattle.trace_stream.proofs.Told.{told_now, calm_now, live_after, told_over}
 use Rattle.session_mux.specs.Sessions.{Alone, prefixed, last_eight}
 use Rattle.session_mux.specs.Telling.{texts, prefixed_texts, told_lines, HasSaid}
 use Rattle.session_mux.specs.Owning.{Own, asks, stops, next_line, stopped_now, with_content}
-use Rattle.session_mux.specs.Standing.{IsOwnText, HasFault, HasStopped, WatchesRows, WatchesEnd, IsOpen, HasReason, IsStoppedAt, GoesOnWith, recent_of, HasTold, IsGrowth, HasGrown, IsCutShort, IsAfterLine, IsReply, HasReplied}
+use Rattle.session_mux.specs.Standing.{IsOwnText, HasFault, HasStopped, WatchesRows, WatchesEnd, IsOpen}
+use Rattle.session_mux.specs.Standing.{HasReason, IsStoppedAt, GoesOnWith, recent_of, HasTold, IsGrowth}
+use Rattle.session_mux.specs.Standing.{HasGrown, IsCutShort, IsAfterLine, IsReply, HasReplied}
 use Rattle.session_mux.specs.declared.session.Session.{Session}
 use Rattle.session_mux.proofs.RecentLemmas.{prefixed_last}
 use Rattle.session_mux.proofs.SessionsTold.{text_alone_once}
-use Rattle.session_mux.proofs.TextLemmas.{EndsInFeed, alone_ends, text_ends, ends_tail, lines_joined, texts_joined, alone_of, alone_faulted, alone_stays, text_stays}
+use Rattle.session_mux.proofs.TextLemmas.{EndsInFeed, alone_ends, text_ends, ends_tail, lines_joined}
+use Rattle.session_mux.proofs.TextLemmas.{texts_joined, alone_of, alone_faulted, alone_stays, text_stays}
 
 -- ---- parts of replies
 
@@ -51,7 +54,8 @@ module _ (f : Formula) (tag : List ℕ) (o p : Own) (told grown : List ℕ) (was
   cut_short before after (a, b, whole, k) = record { first = a; added = k; begins = λ reply r. (b, growth_once reply r ∙ sym whole) }
 
   -- all of them were
-  pub has_grown : (old new : Buffer (List ℕ)) (before after : List ℕ) (After : List ℕ → Type 0) → old ≡ recent_of told → HasSaid tag grown old new before after → After (told ++ grown)
+  pub has_grown : (old new : Buffer (List ℕ)) (before after : List ℕ) (After : List ℕ → Type 0) → old ≡ recent_of told
+      → HasSaid tag grown old new before after → After (told ++ grown)
       → HasGrown f tag p told new before after After
   has_grown old new before after After e said then_is = record {
     grown = grown;
@@ -68,18 +72,24 @@ module _ (tag text line : List ℕ) (whole : EndsInFeed text) where
   both_lines = ap (λ ls. prefixed (tag ++ codes " ") ls) (lines_joined text line whole)
       ∙ flat_map-append (λ (l : Line). (tag ++ codes " ") ++ l.bytes ++ newline) (lines true text) (lines true line)
 
-  pub said_both : (old mid new : Buffer (List ℕ)) (before between after : List ℕ) → HasSaid tag text old mid before between → HasSaid tag line mid new between after
+  -- two texts told one after the other are told as one
+  pub said_both : (old mid new : Buffer (List ℕ)) (before between after : List ℕ) → HasSaid tag text old mid before between
+      → HasSaid tag line mid new between after
       → HasSaid tag (text ++ line) old new before after
   said_both old mid new before between after a b = record {
-    added = b.added ∙ ap (λ w. w ++ told_lines tag line) a.added ∙ append_assoc before (told_lines tag text) (told_lines tag line) ∙ ap (λ w. before ++ w) (sym both_lines);
+    added = b.added ∙ ap (λ w. w ++ told_lines tag line) a.added ∙ append_assoc before (told_lines tag text) (told_lines tag line)
+        ∙ ap (λ w. before ++ w) (sym both_lines);
     kept = λ told e. b.kept (told ++ texts text) (a.kept told e)
         ∙ ap (λ ts. buffer (keep_last 8 ts) 8) (append_assoc told (texts text) (texts line) ∙ ap (λ ts. told ++ ts) (sym (texts_joined text line whole)));
     room = b.room;
   }
 
+  -- a cut in the first of two texts is a cut in both
   pub cut_in_first : (before after : List ℕ) → GrewInPart (Is (told_lines tag text)) before after → GrewInPart (Is (told_lines tag (text ++ line))) before after
-  cut_in_first before after (a, b, e, k) = (a, b ++ told_lines tag line, sym (append_assoc a b (told_lines tag line)) ∙ ap (λ w. w ++ told_lines tag line) e ∙ sym both_lines, k)
+  cut_in_first before after (a, b, e, k) =
+      (a, b ++ told_lines tag line, sym (append_assoc a b (told_lines tag line)) ∙ ap (λ w. w ++ told_lines tag line) e ∙ sym both_lines, k)
 
+  -- and so is a cut in the second, behind the whole first
   pub cut_in_second : (before between after : List ℕ) → between ≡ before ++ told_lines tag text → GrewInPart (Is (told_lines tag line)) between after
       → GrewInPart (Is (told_lines tag (text ++ line))) before after
   cut_in_second before between after s (a, b, e, k) = (
@@ -97,16 +107,19 @@ either_way (Ok x) f g h = f h
 either_way (Err e) f g h = g h
 
 -- the text of a reader was told
-pub told_text : {T E : Type 0} (r : Result T E) (f : Formula) (tag : List ℕ) (o p : Own) (told grown : List ℕ) (old new : Buffer (List ℕ)) (before after : List ℕ) (After : List ℕ → Type 0) → IsOwnText f o told
+pub told_text : {T E : Type 0} (r : Result T E) (f : Formula) (tag : List ℕ) (o p : Own) (told grown : List ℕ)
+    (old new : Buffer (List ℕ)) (before after : List ℕ) (After : List ℕ → Type 0) → IsOwnText f o told
     → IsOwnText f p (told ++ grown) → old ≡ recent_of told → After (told ++ grown)
     → MatchResult r (λ _. HasSaid tag grown old new before after) (λ _. GrewInPart (Is (told_lines tag grown)) before after)
     → MatchResult r (λ _. HasGrown f tag p told new before after After) (λ _. IsCutShort (IsGrowth f tag o p) before after)
 told_text r f tag o p told grown old new before after After was is recent then_is h =
-    either_way r (λ said. has_grown f tag o p told grown was is old new before after After recent said then_is) (cut_short f tag o p told grown was is before after) h
+    either_way r (λ said. has_grown f tag o p told grown was is old new before after After recent said then_is)
+    (cut_short f tag o p told grown was is before after) h
 
 -- ---- a reader that stopped
 
-module _ (f : Formula) (tag : List ℕ) (o p : Own) (told text : List ℕ) (fault : TraceFault) (was : IsOwnText f o told) (stop : IsStoppedAt f p (told ++ text) (Faulty fault)) where
+module _ (f : Formula) (tag : List ℕ) (o p : Own) (told text : List ℕ) (fault : TraceFault) (was : IsOwnText f o told)
+    (stop : IsStoppedAt f p (told ++ text) (Faulty fault)) where
   abbrev pub last_line : List ℕ
   last_line = fault_text stop.0
 
@@ -116,17 +129,22 @@ module _ (f : Formula) (tag : List ℕ) (o p : Own) (told text : List ℕ) (faul
   stop_alone : IsOwnText f p (told ++ (text ++ last_line))
   stop_alone = subst (λ t. IsOwnText f p t) (append_assoc told text last_line) (alone_faulted f p.bytes p.stopped (told ++ text) stop.3 stop.0 stop.2)
 
+  -- a session that stops and is cut in its text is cut short
   pub stop_cut_first : (before after : List ℕ) → GrewInPart (Is (told_lines tag text)) before after → IsCutShort (IsGrowth f tag o p) before after
-  stop_cut_first before after g = cut_short f tag o p told (text ++ last_line) was stop_alone before after (cut_in_first tag text last_line stop_ends before after g)
+  stop_cut_first before after g = cut_short f tag o p told (text ++ last_line) was stop_alone before after
+      (cut_in_first tag text last_line stop_ends before after g)
 
-  pub stop_told : {T E : Type 0} (r : Result T E) (old mid new : Buffer (List ℕ)) (before between after : List ℕ) → old ≡ recent_of told → HasSaid tag text old mid before between
+  -- a text that was told and the last line, told or cut, come to the session's growth, or a cut in it
+  pub stop_told : {T E : Type 0} (r : Result T E) (old mid new : Buffer (List ℕ)) (before between after : List ℕ)
+      → old ≡ recent_of told → HasSaid tag text old mid before between
       → MatchResult r (λ _. HasSaid tag last_line mid new between after) (λ _. GrewInPart (Is (told_lines tag last_line)) between after)
       → MatchResult r (λ _. HasGrown f tag p told new before after (λ _. HasStopped f p)) (λ _. IsCutShort (IsGrowth f tag o p) before after)
   stop_told r old mid new before between after recent said h =
       either_way r
       (λ line. has_grown f tag o p told (text ++ last_line) was stop_alone old new before after (λ _. HasStopped f p) recent
       (said_both tag text last_line stop_ends old mid new before between after said line) (stop.0, stop.2))
-      (λ g. cut_short f tag o p told (text ++ last_line) was stop_alone before after (cut_in_second tag text last_line stop_ends before between after said.added g)) h
+      (λ g. cut_short f tag o p told (text ++ last_line) was stop_alone before after
+      (cut_in_second tag text last_line stop_ends before between after said.added g)) h
 
 -- the limits and the formula are those of the reader
 pub stopped_at : (f : Formula) (bytes told : List ℕ) (live : Live Verdicts) (all text : List ℕ) (ended : Bool) (stop : StreamStop) → IsOpen f bytes told live
@@ -136,7 +154,8 @@ stopped_at f bytes told live all text ended stop open_for h =
     (subst (λ (l : Limits). IsLiveStop verdicts l live.formula ended all text stop) open_for.limits h)
 
 -- a reader that stopped in the first bytes stopped in all
-pub stop_stays : (limits : Limits) (f : Formula) (bytes more text : List ℕ) (stop : StreamStop) → IsLiveStop verdicts limits f false bytes text stop → IsLiveStop verdicts limits f false (bytes ++ more) text stop
+pub stop_stays : (limits : Limits) (f : Formula) (bytes more text : List ℕ) (stop : StreamStop)
+    → IsLiveStop verdicts limits f false bytes text stop → IsLiveStop verdicts limits f false (bytes ++ more) text stop
 stop_stays limits f bytes more text (Faulty fault) (x, is, input, t) = (
   x,
   is,
@@ -147,29 +166,36 @@ stop_stays limits f bytes more text NoMemory h = tt
 stop_stays limits f bytes more text (Wide i den) h = absurd h
 
 -- a content and then its LF
-pub fed_line : (r : Result (Unit {0}) StreamStop) (new : Live Verdicts) (limits mid_limits : Limits) (f mid_formula : Formula) (bytes content written text : List ℕ) → mid_limits ≡ limits → mid_formula ≡ f
-    → MatchResult r (λ _. IsLive WatchesRows verdicts new ((bytes ++ content) ++ newline) written) (λ e. IsLiveStop verdicts mid_limits mid_formula false ((bytes ++ content) ++ newline) text e)
-    → MatchResult r (λ _. IsLive WatchesRows verdicts new (bytes ++ (content ++ newline)) written) (λ e. IsLiveStop verdicts limits f false (bytes ++ (content ++ newline)) text e)
-fed_line (Ok x) new limits mid_limits f mid_formula bytes content written text e k h = subst (λ b. IsLive WatchesRows verdicts new b written) (append_assoc bytes content newline) h
+pub fed_line : (r : Result (Unit {0}) StreamStop) (new : Live Verdicts) (limits mid_limits : Limits) (f mid_formula : Formula)
+    (bytes content written text : List ℕ) → mid_limits ≡ limits → mid_formula ≡ f
+    → MatchResult r (λ _. IsLive WatchesRows verdicts new ((bytes ++ content) ++ newline) written)
+    (λ e. IsLiveStop verdicts mid_limits mid_formula false ((bytes ++ content) ++ newline) text e)
+    → MatchResult r (λ _. IsLive WatchesRows verdicts new (bytes ++ (content ++ newline)) written)
+    (λ e. IsLiveStop verdicts limits f false (bytes ++ (content ++ newline)) text e)
+fed_line (Ok x) new limits mid_limits f mid_formula bytes content written text e k h =
+    subst (λ b. IsLive WatchesRows verdicts new b written) (append_assoc bytes content newline) h
 fed_line (Err stop) new limits mid_limits f mid_formula bytes content written text e k h =
     subst (λ b. IsLiveStop verdicts limits f false b text stop) (append_assoc bytes content newline)
     (subst (λ (g : Formula). IsLiveStop verdicts limits g false ((bytes ++ content) ++ newline) text stop) k
     (subst (λ (l : Limits). IsLiveStop verdicts l mid_formula false ((bytes ++ content) ++ newline) text stop) e h))
 
 -- what stopped it is one of the formula
-pub reason_of : (limits : Limits) (f : Formula) (bytes text : List ℕ) (ended : Bool) (stop : StreamStop) → IsLiveStop verdicts limits f ended bytes text stop → HasReason f stop
+pub reason_of : (limits : Limits) (f : Formula) (bytes text : List ℕ) (ended : Bool) (stop : StreamStop)
+    → IsLiveStop verdicts limits f ended bytes text stop → HasReason f stop
 reason_of limits f bytes text ended (Faulty fault) (x, is, input, t) = (x, is)
 reason_of limits f bytes text ended NoMemory h = tt
 reason_of limits f bytes text ended (Wide i den) h = absurd h
 
 -- ---- a reader that goes on
 
-module _ (f : Formula) (limits : Limits) (bytes told : List ℕ) (mid : Live Verdicts) (k : IsLive WatchesRows verdicts mid bytes told) (formula : mid.formula ≡ f) (limit : mid.rows.limits ≡ stream_limits) where
+module _ (f : Formula) (limits : Limits) (bytes told : List ℕ) (mid : Live Verdicts)
+    (k : IsLive WatchesRows verdicts mid bytes told) (formula : mid.formula ≡ f) (limit : mid.rows.limits ≡ stream_limits) where
   calm_so_far : (x : Fault) → ¬ IsInputFault stream_limits f bytes false x
   calm_so_far =
       subst (λ (g : Formula). (x : Fault) → ¬ IsInputFault stream_limits g bytes false x) formula
       (subst (λ (l : Limits). (x : Fault) → ¬ IsInputFault l mid.formula bytes false x) limit (calm_now WatchesRows verdicts mid bytes told k))
 
+  -- what was told and the text of the line are what the session writes alone
   pub alone_so_far : Alone f bytes false (told ++ mid.text)
   alone_so_far =
       alone_of f bytes false (told ++ mid.text)
@@ -177,6 +203,7 @@ module _ (f : Formula) (limits : Limits) (bytes told : List ℕ) (mid : Live Ver
       (subst (λ (l : Limits). IsTextOf verdicts l mid.formula bytes false (told ++ mid.text)) limit (told_now WatchesRows verdicts mid bytes told k)))
       calm_so_far
 
+  -- once that text is let go the session is open for its next line
   pub open_now : IsOpen f bytes (told ++ mid.text) (record mid { text = [] })
   open_now = record { formula = formula; limits = limit; empty = refl; stands = live_after WatchesRows verdicts mid bytes told k }
 
@@ -195,36 +222,44 @@ alone_at_end f bytes told live new holds open_for k =
 pub line_of_open : (o : Own) (content : List ℕ) → o.stopped ≡ false → next_line o content ≡ record { bytes = o.bytes ++ (content ++ newline); stopped = false }
 line_of_open o content e = by_stop o.stopped e
   where
-    by_stop : (b : Bool) → b ≡ false → cond b o (record { bytes = o.bytes ++ (content ++ newline); stopped = b }) ≡ record { bytes = o.bytes ++ (content ++ newline); stopped = false }
+    by_stop : (b : Bool) → b ≡ false → cond b o (record { bytes = o.bytes ++ (content ++ newline); stopped = b })
+        ≡ record { bytes = o.bytes ++ (content ++ newline); stopped = false }
     by_stop true e = absurd (false≢true (sym e))
     by_stop false e = refl
 
+-- a session that has stopped takes no line
 pub line_of_stopped : (o : Own) (content : List ℕ) → o.stopped ≡ true → next_line o content ≡ o
 line_of_stopped o content e = ap (λ b. cond b o (record { bytes = o.bytes ++ (content ++ newline); stopped = o.stopped })) e
 
+-- a query adds nothing to what a session has got
 pub content_asks : (o : Own) (content : List ℕ) → asks content ≡ true → with_content o content ≡ o
 content_asks o content e = by_tests (asks content) e
   where
-    by_tests : (a : Bool) → a ≡ true → cond (a || o.stopped) o (cond (stops content) (record { bytes = o.bytes; stopped = true }) (record { bytes = o.bytes ++ (content ++ newline); stopped = o.stopped })) ≡ o
+    by_tests : (a : Bool) → a ≡ true → cond (a || o.stopped) o
+        (cond (stops content) (record { bytes = o.bytes; stopped = true }) (record { bytes = o.bytes ++ (content ++ newline); stopped = o.stopped })) ≡ o
     by_tests true e = refl
     by_tests false e = absurd (false≢true e)
 
+-- a line that stops a session leaves its bytes
 pub content_stops : (bytes : List ℕ) (stopped : Bool) (content : List ℕ) → asks content ≡ false → stops content ≡ true
     → with_content (record { bytes = bytes; stopped = stopped }) content ≡ record { bytes = bytes; stopped = true }
 content_stops bytes true content e k = by_test (asks content)
   where
     by_test : (a : Bool) → ◌≡◌ {A = Own} (cond (a || true) (record { bytes = bytes; stopped = true })
-        (cond (stops content) (record { bytes = bytes; stopped = true }) (record { bytes = bytes ++ (content ++ newline); stopped = true }))) (record { bytes = bytes; stopped = true })
+        (cond (stops content) (record { bytes = bytes; stopped = true }) (record { bytes = bytes ++ (content ++ newline); stopped = true })))
+        (record { bytes = bytes; stopped = true })
     by_test true = refl
     by_test false = refl
 content_stops bytes false content e k = by_tests (asks content) (stops content) e k
   where
     by_tests : (a z : Bool) → a ≡ false → z ≡ true → ◌≡◌ {A = Own} (cond (a || false) (record { bytes = bytes; stopped = false })
-        (cond z (record { bytes = bytes; stopped = true }) (record { bytes = bytes ++ (content ++ newline); stopped = false }))) (record { bytes = bytes; stopped = true })
+        (cond z (record { bytes = bytes; stopped = true }) (record { bytes = bytes ++ (content ++ newline); stopped = false })))
+        (record { bytes = bytes; stopped = true })
     by_tests true z e k = absurd (false≢true (sym e))
     by_tests false true e k = refl
     by_tests false false e k = absurd (false≢true k)
 
+-- any other line is the session's next
 pub content_goes_on : (o : Own) (content : List ℕ) → asks content ≡ false → stops content ≡ false → with_content o content ≡ next_line o content
 content_goes_on o content e k = by_tests (asks content) (stops content) e k
   where
@@ -241,6 +276,7 @@ module _ (f : Formula) (o : Own) (told : List ℕ) (was : IsOwnText f o told) (o
   faulted : o.stopped ≡ false → HasFault f o.bytes
   faulted e = elim over [ inl k ↦ absurd (false≢true (sym e ∙ k)) | inr k ↦ k ]
 
+  -- a session that has stopped stays as it is at a line
   pub over_at_line : (content : List ℕ) → IsOwnText f (next_line o content) told × GoesOnWith f (next_line o content) told None
   over_at_line content = by_stop o.stopped refl
     where
@@ -253,6 +289,7 @@ module _ (f : Formula) (o : Own) (told : List ℕ) (was : IsOwnText f o told) (o
             inr (fault.0, fault_stays stream_limits f o.bytes (content ++ newline) false fault.0 fault.1),
           )
 
+  -- and at the end of the input
   pub over_at_end : IsOwnText f (stopped_now o) told
   over_at_end = by_stop o.stopped refl
     where
@@ -274,7 +311,8 @@ no_recent = ap (λ ls. buffer (keep_last 8 (map (λ (line : Line). line.bytes) l
 -- ---- sessions
 
 -- a session that is over says nothing more
-pub says_nothing : (f : Formula) (o p : Own) (told out : List ℕ) (s : Session) → HasTold f o told s → IsOwnText f p told → GoesOnWith f p told s.stream → HasReplied f p s s (IsGrowth f s.tag o p) out out
+pub says_nothing : (f : Formula) (o p : Own) (told out : List ℕ) (s : Session) → HasTold f o told s → IsOwnText f p told
+    → GoesOnWith f p told s.stream → HasReplied f p s s (IsGrowth f s.tag o p) out out
 says_nothing f o p told out s h is on = record {
   tag = refl;
   told = told;
@@ -285,7 +323,8 @@ says_nothing f o p told out s h is on = record {
 }
 
 -- the reply under another name
-pub replied_as : (f : Formula) (p q : Own) (old new : Session) (R S : List ℕ → Type 0) (before after : List ℕ) → p ≡ q → ((reply : List ℕ) → R reply → S reply) → HasReplied f p old new R before after
+pub replied_as : (f : Formula) (p q : Own) (old new : Session) (R S : List ℕ → Type 0) (before after : List ℕ) → p ≡ q
+    → ((reply : List ℕ) → R reply → S reply) → HasReplied f p old new R before after
     → HasReplied f q old new S before after
 replied_as f p q old new R S before after e g h = record {
   tag = h.tag;
@@ -296,14 +335,17 @@ replied_as f p q old new R S before after e g h = record {
   added = h.added;
 }
 
+-- what is cut short for one description is so for another that it implies
 pub cut_as : (R S : List ℕ → Type 0) (before after : List ℕ) → ((reply : List ℕ) → S reply → R reply) → IsCutShort R before after → IsCutShort S before after
 cut_as R S before after g h = record { first = h.first; added = h.added; begins = λ reply s. h.begins reply (g reply s) }
 
 -- a content that asks for nothing has the lines by which the text grows
 module _ (f : Formula) (tag : List ℕ) (o p : Own) (content : List ℕ) (no_question : asks content ≡ false) (then_is : with_content o content ≡ p) where
+  -- the growth of a session is the reply to its line
   pub reply_of : (reply : List ℕ) → IsGrowth f tag o p reply → IsReply f tag o content reply
   reply_of reply h = to_false _ _ (asks content) no_question (subst (λ (q : Own). IsGrowth f tag o q reply) (sym then_is) h)
 
+  -- and the other way round
   pub growth_of : (reply : List ℕ) → IsReply f tag o content reply → IsGrowth f tag o p reply
   growth_of reply h = subst (λ (q : Own). IsGrowth f tag o q reply) then_is (at_false _ _ (asks content) no_question h)
 
@@ -315,9 +357,12 @@ module _ (f : Formula) (o : Own) (told : List ℕ) (s : Session) (h : HasTold f 
   shown_is : prefixed_texts (s.tag ++ codes " ? ") s.recent.items ≡ shown
   shown_is = ap (λ (b : Buffer (List ℕ)). prefixed_texts (s.tag ++ codes " ? ") b.items) h.recent ∙ prefixed_last (s.tag ++ codes " ? ") told
 
-  pub is_shown : {E : Type 0} (r : Result (Unit {0}) E) (before after : List ℕ) → OnOk r (after ≡ before ++ prefixed_texts (s.tag ++ codes " ? ") s.recent.items)
+  -- the last eight lines, told or cut, are the reply to a query
+  pub is_shown : {E : Type 0} (r : Result (Unit {0}) E) (before after : List ℕ)
+      → OnOk r (after ≡ before ++ prefixed_texts (s.tag ++ codes " ? ") s.recent.items)
       → OnErr r (GrewInPart (Is (prefixed_texts (s.tag ++ codes " ? ") s.recent.items)) before after)
-      → MatchResult r (λ _. HasReplied f (with_content o content) s s (IsReply f s.tag o content) before after) (λ _. IsCutShort (IsReply f s.tag o content) before after)
+      → MatchResult r (λ _. HasReplied f (with_content o content) s s (IsReply f s.tag o content) before after)
+      (λ _. IsCutShort (IsReply f s.tag o content) before after)
   is_shown (Ok x) before after e g = record {
     tag = refl;
     told = told;
@@ -330,12 +375,16 @@ module _ (f : Formula) (o : Own) (told : List ℕ) (s : Session) (h : HasTold f 
     first = a;
     added = k;
     begins = λ reply r.
-        let (old, is, same) = at_true _ _ (asks content) question r in
-        (b, same ∙ ap (λ t. prefixed (s.tag ++ codes " ? ") (last_eight (lines true t))) (text_alone_once f o.bytes o.stopped old told is h.alone) ∙ sym shown_is ∙ sym whole);
+        let (old, is, same) = at_true _ _ (asks content) question r in (
+          b,
+          same ∙ ap (λ t. prefixed (s.tag ++ codes " ? ") (last_eight (lines true t)))
+              (text_alone_once f o.bytes o.stopped old told is h.alone) ∙ sym shown_is ∙ sym whole,
+        );
   }
 
 -- whatever follows
-pub unasked : (f : Formula) (tag : List ℕ) (p : Own) (told : List ℕ) (recent : Buffer (List ℕ)) (before after : List ℕ) (After : List ℕ → Type 0) → HasGrown f tag p told recent before after After
+pub unasked : (f : Formula) (tag : List ℕ) (p : Own) (told : List ℕ) (recent : Buffer (List ℕ)) (before after : List ℕ)
+    (After : List ℕ → Type 0) → HasGrown f tag p told recent before after After
     → HasGrown f tag p told recent before after (λ _. Unit {0})
 unasked f tag p told recent before after After g = record { grown = g.grown; alone = g.alone; recent_is = g.recent_is; added = g.added; then = tt }
 
@@ -345,34 +394,47 @@ module _ (f : Formula) (tag : List ℕ) (o : Own) (content told : List ℕ) (goi
   abbrev all_bytes : List ℕ
   all_bytes = o.bytes ++ (content ++ newline)
 
-  module _ (mid : Live Verdicts) (k : IsLive WatchesRows verdicts mid (o.bytes ++ (content ++ newline)) told) (formula : mid.formula ≡ f) (limit : mid.rows.limits ≡ stream_limits) where
+  module _ (mid : Live Verdicts) (k : IsLive WatchesRows verdicts mid (o.bytes ++ (content ++ newline)) told)
+      (formula : mid.formula ≡ f) (limit : mid.rows.limits ≡ stream_limits) where
+    -- with its line the session's text is what it writes alone
     pub line_alone : IsOwnText f (next_line o content) (told ++ mid.text)
-    line_alone = subst (λ (q : Own). IsOwnText f q (told ++ mid.text)) (sym (line_of_open o content going)) (alone_so_far f stream_limits all_bytes told mid k formula limit)
+    line_alone = subst (λ (q : Own). IsOwnText f q (told ++ mid.text)) (sym (line_of_open o content going))
+        (alone_so_far f stream_limits all_bytes told mid k formula limit)
 
+    -- and it is open for its next line
     pub line_open : (new : Live Verdicts) → new ≡ record mid { text = [] } → IsAfterLine f (next_line o content).bytes true new (told ++ mid.text)
     line_open new e =
         subst (λ (q : Own). IsAfterLine f q.bytes true new (told ++ mid.text)) (sym (line_of_open o content going))
         (subst (λ (n : Live Verdicts). IsOpen f all_bytes (told ++ mid.text) n) (sym e) (open_now f stream_limits all_bytes told mid k formula limit))
 
   -- it stopped in the line
-  pub line_stopped : (text : List ℕ) (stop : StreamStop) → IsLiveStop verdicts stream_limits f false (o.bytes ++ (content ++ newline)) text stop → IsStoppedAt f (next_line o content) text stop
+  pub line_stopped : (text : List ℕ) (stop : StreamStop) → IsLiveStop verdicts stream_limits f false
+      (o.bytes ++ (content ++ newline)) text stop → IsStoppedAt f (next_line o content) text stop
   line_stopped text stop h = subst (λ (q : Own). IsStoppedAt f q text stop) (sym (line_of_open o content going)) h
 
-  pub line_faulted : (recent : Buffer (List ℕ)) (before after : List ℕ) (live : Live Verdicts) → HasGrown f tag (next_line o content) told recent before after (λ _. HasStopped f (next_line o content))
+  -- a session whose line had a fault has stopped
+  pub line_faulted : (recent : Buffer (List ℕ)) (before after : List ℕ) (live : Live Verdicts)
+      → HasGrown f tag (next_line o content) told recent before after (λ _. HasStopped f (next_line o content))
       → HasGrown f tag (next_line o content) told recent before after (IsAfterLine f (next_line o content).bytes false live)
   line_faulted recent before after live g = record {
     grown = g.grown;
     alone = g.alone;
     recent_is = g.recent_is;
     added = g.added;
-    then = (g.then.0, subst (λ (b : Bool). IsInputFault stream_limits f (next_line o content).bytes b g.then.0) (ap (λ (q : Own). q.stopped) (line_of_open o content going)) g.then.1);
+    then = (
+      g.then.0,
+      subst (λ (b : Bool). IsInputFault stream_limits f (next_line o content).bytes b g.then.0)
+          (ap (λ (q : Own). q.stopped) (line_of_open o content going)) g.then.1,
+    );
   }
 
 -- ---- what a call of a session comes to
 
 -- the reader told more
-pub grew_under : (f : Formula) (o p : Own) (tag told before after : List ℕ) (old new : Session) (After : List ℕ → Type 0) → tag ≡ old.tag → new.tag ≡ old.tag → IsOwnText f o told
-    → (g : HasGrown f tag p told new.recent before after After) → GoesOnWith f p (told ++ g.grown) new.stream → HasReplied f p old new (IsGrowth f old.tag o p) before after
+pub grew_under : (f : Formula) (o p : Own) (tag told before after : List ℕ) (old new : Session) (After : List ℕ → Type 0)
+    → tag ≡ old.tag → new.tag ≡ old.tag → IsOwnText f o told
+    → (g : HasGrown f tag p told new.recent before after After) → GoesOnWith f p (told ++ g.grown) new.stream
+    → HasReplied f p old new (IsGrowth f old.tag o p) before after
 grew_under f o p tag told before after old new After under same was g on = record {
   tag = same;
   told = told ++ g.grown;
@@ -383,9 +445,12 @@ grew_under f o p tag told before after old new After under same was g on = recor
 }
 
 -- it took a line
-pub took_line : (f : Formula) (o : Own) (content told : List ℕ) (live : Live Verdicts) → o.stopped ≡ false → (text : List ℕ) → IsAfterLine f (next_line o content).bytes true live text
+pub took_line : (f : Formula) (o : Own) (content told : List ℕ) (live : Live Verdicts) → o.stopped ≡ false → (text : List ℕ)
+    → IsAfterLine f (next_line o content).bytes true live text
     → GoesOnWith f (next_line o content) text (Some live)
 took_line f o content told live going text h = (ap (λ (q : Own). q.stopped) (line_of_open o content going), h)
 
-pub took_last_line : (f : Formula) (o : Own) (content : List ℕ) (live : Live Verdicts) (text : List ℕ) → IsAfterLine f (next_line o content).bytes false live text → GoesOnWith f (next_line o content) text None
+-- a session that has stopped at a line stands for nothing more
+pub took_last_line : (f : Formula) (o : Own) (content : List ℕ) (live : Live Verdicts) (text : List ℕ)
+    → IsAfterLine f (next_line o content).bytes false live text → GoesOnWith f (next_line o content) text None
 took_last_line f o content live text h = inr h

@@ -31,6 +31,7 @@ fault_line_once f bytes ended x y (inl a) (inr (z, is, e)) = absurd (a.0 z is)
 fault_line_once f bytes ended x y (inr (z, is, e)) (inl b) = absurd (b.0 z is)
 fault_line_once f bytes ended x y (inr (z, is, e)) (inr (w, other, k)) = e ∙ ap fault_text (one_fault stream_limits f bytes ended z w is other) ∙ sym k
 
+-- what a session writes alone is one text
 pub text_alone_once : OneTextAlone
 text_alone_once f bytes ended x y (header, rows, whole, stream, fault, before, told, line, e)
     (header', rows', whole', stream', fault', before', told', line', e') =
@@ -52,6 +53,7 @@ unfolding lines
 no_fault f x (inl (n, h, a, l, k)) = no_header n h a
 no_fault f x (inr (_, (r, (e, (t, z)), y))) = cc
 
+-- for no bytes it writes nothing
 pub nothing_alone : (f : Formula) → Alone f [] false []
 unfolding lines
 nothing_alone f = (None, [], false, [], [], no_header_yet (no_fault f) no_header, refl, inl (no_fault f, refl), refl)
@@ -145,6 +147,7 @@ module _ (f : Formula) (t : List ℕ) where
           let got = at_true _ _ (is_of t line) e is in
           subst (λ w. SoFar f (seen ++ line ∷ []) t (w ++ added)) (text_alone_once f (own seen t) (is_stopped seen t) got.0 old got.1 so) got.2
 
+  -- what further lines of its tag are told goes on with what it writes alone
   pub told_alone : (seen more : List Tagged) (old text told : List ℕ) → SoFar f seen t old → AreTold f t seen more text told
       → SoFar f (seen ++ more) t (old ++ told)
   told_alone seen [] old text told so (e, k) =
@@ -156,9 +159,11 @@ module _ (f : Formula) (t : List ℕ) where
       (subst (λ w. SoFar f ((seen ++ line ∷ []) ++ more) t w) (append_assoc old added after)
       (told_alone (seen ++ line ∷ []) more (old ++ added) rest after (added_on seen line old answer added so adds) on)))
 
+-- each session is told what it would be told alone
 pub told_as_alone : EachIsToldAsAlone
 told_as_alone f t all text are = told_on f t [] all [] text (nothing_alone f) are
 
+-- and what others send adds nothing to it
 pub others_add_nothing : OthersAddNothing
 others_add_nothing f t all others text other told heard same a b =
     let mine = told_alone f t [] all [] text told (nothing_alone f) a in

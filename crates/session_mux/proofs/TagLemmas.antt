@@ -1,5 +1,6 @@
 -- Tags as numbers: each tag has one of its own, which is not 0.
-use Rattle.std.proofs.Common.{◌≡◌, get_or, drop, length-drop, refl, sym, ap, subst, ◌∙◌, ℕ, zero, suc, ◌+◌, ◌-◌, ◌*◌, ◌^◌, ◌⊎◌, inl, inr, ◌++◌, take, append-nil, ◌≢◌, ◌<◌, ◌≤◌, Bool, true, false, List, [], ◌∷◌, length, arith}
+use Rattle.std.proofs.Common.{◌≡◌, get_or, drop, length-drop, refl, sym, ap, subst, ◌∙◌, ℕ, zero, suc, ◌+◌, ◌-◌, ◌*◌, ◌^◌, ◌⊎◌}
+use Rattle.std.proofs.Common.{inl, inr, ◌++◌, take, append-nil, ◌≢◌, ◌<◌, ◌≤◌, Bool, true, false, List, [], ◌∷◌, length, arith}
 use Rattle.std.specs.Prelude.{◌&&◌, ◌||◌}
 use Rattle.std.proofs.lemmas.Bool.{false≢true}
 use Rattle.std.proofs.lemmas.Bool.Decides.{nat_tests}
@@ -52,6 +53,7 @@ number_some t (tag {c = c} {rest = rest} bytes short) =
 pub bytes_of : (t : List ℕ) → IsTag t → all is_tag_byte t ≡ true
 bytes_of t (tag bytes short) = bytes
 
+-- a tag has at most 16 bytes
 pub short_of : (t : List ℕ) → IsTag t → length t ≤ 16
 short_of t (tag bytes short) = short
 
@@ -103,10 +105,15 @@ tag_is line x (followed content is) = is
 
 -- what follows the tag of a line
 pub record After (line : List ℕ) (x : Tagged) : Type 0 where
+  -- the line begins with a tag
   pub is : IsTag x.tag
+  -- what stands behind the tag
   pub rest : List ℕ
+  -- tag and rest are the line
   pub parts : line ≡ x.tag ++ rest
+  -- the tag goes on no further
   pub ends : StopsAt is_tag_byte rest
+  -- nothing follows, or a space and the content
   pub next : (rest ≡ []) ⊎ (rest ≡ 32 ∷ x.content)
 
 after_tag : (line : List ℕ) (x : Tagged) → IsTagged line x → After line x
@@ -114,20 +121,23 @@ after_tag line x (alone {t = t} is) = record { is = is; rest = []; parts = sym (
 after_tag line x (followed content is) = record { is = is; rest = 32 ∷ content; parts = refl; ends = refl; next = inr refl }
 
 -- bytes of tags go on up to there
-run_once : (t rest : List ℕ) (n : ℕ) → all is_tag_byte t ≡ true → StopsAt is_tag_byte rest → n ≤ length (t ++ rest) → all is_tag_byte (take n (t ++ rest)) ≡ true
+run_once : (t rest : List ℕ) (n : ℕ) → all is_tag_byte t ≡ true → StopsAt is_tag_byte rest → n ≤ length (t ++ rest)
+    → all is_tag_byte (take n (t ++ rest)) ≡ true
     → StopsAt is_tag_byte (drop n (t ++ rest)) → n ≡ length t
 run_once [] rest zero h k within front stops = refl
 run_once [] [] (suc n) h k within front stops = absurd (omega (arith, within))
 run_once [] (c ∷ rest) (suc n) h k within front stops = absurd (false≢true (sym k ∙ (both (is_tag_byte c) (all is_tag_byte (take n rest)) front).0))
 run_once (c ∷ t) rest zero h k within front stops = absurd (false≢true (sym stops ∙ (both (is_tag_byte c) (all is_tag_byte t) h).0))
 run_once (c ∷ t) rest (suc n) h k within front stops =
-    ap suc (run_once t rest n (both (is_tag_byte c) (all is_tag_byte t) h).1 k (omega (arith, within)) (both (is_tag_byte c) (all is_tag_byte (take n (t ++ rest))) front).1 stops)
+    ap suc (run_once t rest n (both (is_tag_byte c) (all is_tag_byte t) h).1 k (omega (arith, within))
+    (both (is_tag_byte c) (all is_tag_byte (take n (t ++ rest))) front).1 stops)
 
 -- so many bytes at the front of a line may be of a tag, and no more
 module _ (line : List ℕ) (n : ℕ) (within : n ≤ length line) (front : all is_tag_byte (take n line) ≡ true) (stops : StopsAt is_tag_byte (drop n line)) where
   tag_length : (x : Tagged) (a : After line x) → n ≡ length x.tag
   tag_length x a =
-      run_once x.tag a.rest n (bytes_of x.tag a.is) a.ends (subst (λ w. n ≤ length w) a.parts within) (subst (λ w. all is_tag_byte (take n w) ≡ true) a.parts front)
+      run_once x.tag a.rest n (bytes_of x.tag a.is) a.ends (subst (λ w. n ≤ length w) a.parts within)
+      (subst (λ w. all is_tag_byte (take n w) ≡ true) a.parts front)
       (subst (λ w. StopsAt is_tag_byte (drop n w)) a.parts stops)
 
   left : (x : Tagged) (a : After line x) → drop n line ≡ a.rest
@@ -166,7 +176,8 @@ whole_tag line rest n front e some short is =
     (alone (made_tag line (subst (λ w. all is_tag_byte w ≡ true) (take_all n line (omega (arith, e))) front) (λ z. some (e ∙ z)) (omega (arith, e, short))))
 
 -- a tag, a space and the content
-pub tag_and_content : (line rest : List ℕ) (n : ℕ) → all is_tag_byte (take n line) ≡ true → n < length line → n ≢ 0 → n ≤ 16 → get_or line n 0 ≡ 32 → rest ≡ drop (n + 1) line
+pub tag_and_content : (line rest : List ℕ) (n : ℕ) → all is_tag_byte (take n line) ≡ true → n < length line → n ≢ 0 → n ≤ 16
+    → get_or line n 0 ≡ 32 → rest ≡ drop (n + 1) line
     → IsTagged line (record { tag = take n line; content = rest })
 tag_and_content line rest n front more some short space is =
     let long : length (take n line) ≡ n = length-take-le n line (omega (arith, more)) in

@@ -46,7 +46,8 @@ cut_once (c ∷ t) (d ∷ u) a b h k e =
     (ap (λ z. z ∷ t) s ∙ ap (λ l. d ∷ l) tags, contents)
 
 same_parts : (x y : Tagged) → x.tag ≡ y.tag → x.content ≡ y.content → x ≡ y
-same_parts x y e k = ap (λ (t : List ℕ). let z : Tagged = record { tag = t; content = x.content } in z) e ∙ ap (λ (c : List ℕ). let z : Tagged = record { tag = y.tag; content = c } in z) k
+same_parts x y e k = ap (λ (t : List ℕ). let z : Tagged = record { tag = t; content = x.content } in z) e
+    ∙ ap (λ (c : List ℕ). let z : Tagged = record { tag = y.tag; content = c } in z) k
 
 -- one tag and content
 pub tagged_once : (c : List ℕ) (x y : Tagged) → IsTagged c x → IsTagged c y → x ≡ y
@@ -56,4 +57,6 @@ tagged_once c x y p q = by_cuts (cut_of p) (cut_of q)
     by_cuts (whole h e none) (whole k e' none') = same_parts x y (sym e ∙ e') (none ∙ sym none')
     by_cuts (whole h e none) (with_content k e') = absurd (not_within x.tag y.tag y.content h (sym e ∙ e'))
     by_cuts (with_content h e) (whole k e' none') = absurd (not_within y.tag x.tag x.content k (sym e' ∙ e))
-    by_cuts (with_content h e) (with_content k e') = let (tags, contents) = cut_once x.tag y.tag x.content y.content h k (sym e ∙ e') in same_parts x y tags contents
+    by_cuts (with_content h e) (with_content k e') =
+        let (tags, contents) = cut_once x.tag y.tag x.content y.content h k (sym e ∙ e') in
+        same_parts x y tags contents

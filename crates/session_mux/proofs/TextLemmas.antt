@@ -12,7 +12,8 @@ use Rattle.stl_syntax.specs.declared.scale.Scale.{Scale}
 use Rattle.stl_syntax.specs.declared.scale.UnitFault.{UnitFault}
 use Rattle.stl_syntax.specs.declared.scale.UnitFault.TheVariants as unit
 use Rattle.trace_reader.specs.TraceText.{Line, lines}
-use Rattle.trace_reader.specs.InputFaults.{stream_limits, Fault, of_trace, unknown, unit as of_unit, IsInputFault, AreRowsBefore, sound, no_header_yet, faulted, faulted_header}
+use Rattle.trace_reader.specs.InputFaults.{stream_limits, Fault, of_trace, unknown, unit as of_unit, IsInputFault}
+use Rattle.trace_reader.specs.InputFaults.{AreRowsBefore, sound, no_header_yet, faulted, faulted_header}
 use Rattle.trace_reader.specs.declared.refusal.Limits.{Limits}
 use Rattle.trace_reader.specs.declared.refusal.TraceKind.{TraceKind}
 use Rattle.trace_reader.specs.declared.refusal.TraceKind.TheVariants as trace
@@ -35,14 +36,17 @@ ends_joined a b text p (inr (x, e)) k = inr (a ++ x, k ∙ ap (λ t. a ++ t) e �
 
 -- ---- the texts of streams
 
+-- the lines of verdicts end in an LF, or are none
 pub verdict_lines_end : (scale : Scale) (given : List Verdict) (text : List ℕ) → AreVerdictLines scale given text → EndsInFeed text
 verdict_lines_end scale [] text e = inl e
 verdict_lines_end scale (v ∷ given) text (here, later, (on, is, e), more, k) =
     ends_joined here later text (inr (on ++ codes " " ++ bool_text v.holds, e)) (verdict_lines_end scale given later more) k
 
-stretch_ends : (p : Subformula) (tr : Trace) (old : Option ℤ) (new : ℤ) (text : List ℕ) → IsStretchText p tr (after (first_time tr.rows) old new) text → EndsInFeed text
+stretch_ends : (p : Subformula) (tr : Trace) (old : Option ℤ) (new : ℤ) (text : List ℕ)
+    → IsStretchText p tr (after (first_time tr.rows) old new) text → EndsInFeed text
 stretch_ends p tr old new text (given, is, all) = verdict_lines_end tr.header.scale given text all
 
+-- so does what a row newly tells
 pub new_ends : (p : Subformula) (tr : Trace) (old new : Option ℤ) (text : List ℕ) → IsNewText p tr old new text → EndsInFeed text
 new_ends p tr old None text h = inl h
 new_ends p tr None (Some new) text h = stretch_ends p tr None new text h
@@ -52,7 +56,9 @@ new_ends p tr (Some old) (Some new) text h = by_order (int_lt old new) h
     by_order true k = stretch_ends p tr (Some old) new text k
     by_order false k = inl k
 
-pub rows_end : (p : Subformula) (header : Header) (rows : List Row) (old : Option ℤ) (more : List Row) (text : List ℕ) → IsRowsText (IsNewText p) p header rows old more text → EndsInFeed text
+-- and what all rows tell
+pub rows_end : (p : Subformula) (header : Header) (rows : List Row) (old : Option ℤ) (more : List Row) (text : List ℕ)
+    → IsRowsText (IsNewText p) p header rows old more text → EndsInFeed text
 rows_end p header rows old [] text e = inl e
 rows_end p header rows old (r ∷ more) text (here, later, is, on, e) =
     ends_joined here later text
@@ -68,7 +74,9 @@ stream_ends p header rows true text (are, (during, rest, line, on, left, (holds,
     (new_ends p tr (answered_by (first_time rows) p (last_time 0 rows)) (Some _) rest left) refl)
     (inr (codes "start " ++ bool_text holds, is)) e
 
-pub rows_stream_ends : (f : Formula) (header : Option Header) (rows : List Row) (whole : Bool) (text : List ℕ) → IsRowsStream f header rows whole text → EndsInFeed text
+-- and the text of a stream
+pub rows_stream_ends : (f : Formula) (header : Option Header) (rows : List Row) (whole : Bool) (text : List ℕ)
+    → IsRowsStream f header rows whole text → EndsInFeed text
 rows_stream_ends f None rows whole text e = inl e
 rows_stream_ends f (Some header) rows whole text h = stream_ends (root (scaled f header.scale).nodes) header rows whole text h
 
@@ -98,6 +106,7 @@ unit_ends n (unit.Constant i) = line_ends n (codes "node " ++ decimal i ++ codes
 unit_ends n (unit.Reach sum) = line_ends n (codes "bounds sum to " ++ decimal sum)
 unit_ends n unit.Memory = inr (codes "out of memory", refl)
 
+-- and the line of a fault
 pub fault_ends : (x : Fault) → EndsInFeed (fault_text x)
 fault_ends (of_trace r) = kind_ends r.line r.kind
 fault_ends (unknown n atom term name) = line_ends n (codes "unknown column " ++ name)
@@ -115,15 +124,19 @@ pub lines_joined : (a b : List ℕ) → EndsInFeed a → lines true (a ++ b) ≡
 lines_joined a b (inl e) = ap (λ t. lines true (t ++ b)) e ∙ sym (ap (λ t. lines true t ++ lines true b) e ∙ ap (λ ls. ls ++ lines true b) (lines-nil true))
 lines_joined a b (inr (x, e)) =
     ap (λ t. lines true (t ++ b)) e ∙ ap (λ t. lines true t) (append_assoc x newline b) ∙ lines-append true x b
-    ∙ sym (ap (λ t. lines true t ++ lines true b) e ∙ ap (λ ls. ls ++ lines true b) (lines-append true x [] ∙ ap (λ ls. lines false (x ++ newline) ++ ls) (lines-nil true) ∙ append-nil (lines false (x ++ newline))))
+    ∙ sym (ap (λ t. lines true t ++ lines true b) e ∙ ap (λ ls. ls ++ lines true b)
+    (lines-append true x [] ∙ ap (λ ls. lines false (x ++ newline) ++ ls) (lines-nil true) ∙ append-nil (lines false (x ++ newline))))
 
+-- the lines of two texts, of which the first is whole, are those of both
 pub texts_joined : (a b : List ℕ) → EndsInFeed a → texts (a ++ b) ≡ texts a ++ texts b
-texts_joined a b h = ap (λ ls. map (λ (line : Line). line.bytes) ls) (lines_joined a b h) ∙ map-append (λ (line : Line). line.bytes) (lines true a) (lines true b)
+texts_joined a b h = ap (λ ls. map (λ (line : Line). line.bytes) ls) (lines_joined a b h)
+    ∙ map-append (λ (line : Line). line.bytes) (lines true a) (lines true b)
 
 -- ---- what a session writes alone
 
 -- the text of a stream is what the session writes
-stream_is : (f : Formula) (header : Option Header) (rows : List Row) (whole : Bool) (s : List ℕ) → StreamOf verdicts f header rows whole s → IsRowsStream f header rows whole s
+stream_is : (f : Formula) (header : Option Header) (rows : List Row) (whole : Bool) (s : List ℕ)
+    → StreamOf verdicts f header rows whole s → IsRowsStream f header rows whole s
 stream_is f None rows whole s h = h
 stream_is f (Some header) rows whole s h = h
 
@@ -136,7 +149,8 @@ module _ (f : Formula) (bytes : List ℕ) (ended : Bool) (text : List ℕ) (t : 
   pub alone_faulted : (x : Fault) → IsInputFault stream_limits f bytes ended x → Alone f bytes ended (text ++ fault_text x)
   alone_faulted x is = (t.header, t.rows, t.whole, text, fault_text x, t.before, stream_is f t.header t.rows t.whole text t.is, inr (x, is, refl), refl)
 
-going_on : {limits : Limits} {f : Formula} {bytes : List ℕ} {ended : Bool} {header : Option Header} {rows : List Row} {whole : Bool} → AreRowsBefore limits f bytes ended header rows whole
+going_on : {limits : Limits} {f : Formula} {bytes : List ℕ} {ended : Bool} {header : Option Header} {rows : List Row} {whole : Bool}
+    → AreRowsBefore limits f bytes ended header rows whole
     → ended ≡ false → whole ≡ false
 going_on (sound calm read) e = e
 going_on (no_header_yet calm none) e = e
@@ -144,7 +158,8 @@ going_on (faulted x fault read) e = refl
 going_on (faulted_header x fault none) e = refl
 
 -- a fault stops the text for good
-pub alone_stays : (f : Formula) (bytes more : List ℕ) (ended : Bool) (text : List ℕ) → HasFault f bytes → Alone f bytes false text → Alone f (bytes ++ more) ended text
+pub alone_stays : (f : Formula) (bytes more : List ℕ) (ended : Bool) (text : List ℕ) → HasFault f bytes → Alone f bytes false text
+    → Alone f (bytes ++ more) ended text
 alone_stays f bytes more ended text (x, fault) (header, rows, whole, stream, line, before, told, inl (none, k), e) = absurd (none x fault)
 alone_stays f bytes more ended text (x, fault) (header, rows, whole, stream, line, before, told, inr (y, is, k), e) =
     let open_still : whole ≡ false = going_on before refl in (
@@ -180,7 +195,9 @@ ends_tail (c ∷ a) b (inr (d ∷ x, e)) = ends_tail a b (inr (x, tail_of c d (a
 pub text_ends : (limits : Limits) (f : Formula) (bytes : List ℕ) (ended : Bool) (text : List ℕ) → IsTextOf verdicts limits f bytes ended text → EndsInFeed text
 text_ends limits f bytes ended text t = rows_stream_ends f t.header t.rows t.whole text (stream_is f t.header t.rows t.whole text t.is)
 
-pub text_stays : (limits : Limits) (f : Formula) (bytes more text : List ℕ) → ((x : Fault) × IsInputFault limits f bytes false x) → IsTextOf verdicts limits f bytes false text
+-- after a fault more bytes change no text
+pub text_stays : (limits : Limits) (f : Formula) (bytes more text : List ℕ) → ((x : Fault) × IsInputFault limits f bytes false x)
+    → IsTextOf verdicts limits f bytes false text
     → IsTextOf verdicts limits f (bytes ++ more) false text
 text_stays limits f bytes more text fault t =
     let open_still : t.whole ≡ false = going_on t.before refl in record {

@@ -1,5 +1,6 @@
 -- What the bench of a tag hears in the bytes that were written for all.
-use Rattle.std.specs.Prelude.{◌≡◌, ℕ, ◌+◌, ◌==◌, ◌&&◌, Bool, true, false, not, List, [], ◌∷◌, ◌++◌, length, drop, flat_map, codes, if◌then◌else◌, Some, slice_get}
+use Rattle.std.specs.Prelude.{◌≡◌, ℕ, ◌+◌, ◌==◌, ◌&&◌, Bool, true, false, not, List, [], ◌∷◌, ◌++◌}
+use Rattle.std.specs.Prelude.{length, drop, flat_map, codes, if◌then◌else◌, Some, slice_get}
 use Rattle.stl_syntax.specs.Formula.{Formula}
 use Rattle.stl_syntax.specs.declared.atom.Atom.{Atom}
 use Rattle.stl_syntax.specs.declared.atom.Term.{Term}
@@ -29,7 +30,8 @@ is_plain (c ∷ text) = not (c == 10) && is_plain text
 
 -- no name of the formula has an LF: a formula that was read has none
 abbrev pub HasPlainNames : Formula → Type 0
-HasPlainNames f = (i j : ℕ) (owner : Atom) (part : Term) → slice_get f.nodes i ≡ Some (Leaf owner) → slice_get owner.terms j ≡ Some part → is_plain part.name ≡ true
+HasPlainNames f = (i j : ℕ) (owner : Atom) (part : Term) → slice_get f.nodes i ≡ Some (Leaf owner)
+    → slice_get owner.terms j ≡ Some part → is_plain part.name ≡ true
 
 -- each line has a tag
 abbrev pub HaveTags : List Tagged → Type 0
@@ -38,8 +40,10 @@ HaveTags (x ∷ all) = IsTag x.tag × HaveTags all
 
 -- the bench of a tag hears line by line what its session is told
 abbrev pub EachHearsWhatItIsTold : Type 0
-EachHearsWhatItIsTold = (f : Formula) (t : List ℕ) (all : List Tagged) (text told : List ℕ) → HasPlainNames f → IsTag t → HaveTags all → AreTold f t [] all text told → heard t text ≡ texts told
+EachHearsWhatItIsTold = (f : Formula) (t : List ℕ) (all : List Tagged) (text told : List ℕ) → HasPlainNames f → IsTag t
+    → HaveTags all → AreTold f t [] all text told → heard t text ≡ texts told
 
 -- and so to the end of the input
 abbrev pub EachHearsItsEnd : Type 0
-EachHearsItsEnd = (f : Formula) (t : List ℕ) (all : List Tagged) (text told : List ℕ) → HasPlainNames f → IsTag t → HaveTags all → AreToldInAll f t all text told → heard t text ≡ texts told
+EachHearsItsEnd = (f : Formula) (t : List ℕ) (all : List Tagged) (text told : List ℕ) → HasPlainNames f → IsTag t → HaveTags all
+    → AreToldInAll f t all text told → heard t text ≡ texts told

@@ -53,7 +53,8 @@ IsTakenLine p content new before after = (x : Tagged) × IsTagged content x × H
 -- wanting, and at most a first part of the answer was added
 abbrev pub IsLineCall : Past → List ℕ → Muxed → Muxed → List ℕ → List ℕ → Result (Unit {0}) MuxFault → Type 0
 IsLineCall p content old new before after (Ok x) = MatchBool (all is_space content) ((new ≡ old) × (after ≡ before)) (IsTakenLine p content new before after)
-IsLineCall p content old new before after (Err fault.BadTag) = (all is_space content ≡ false) × ((x : Tagged) → ¬ IsTagged content x) × (new ≡ old) × (after ≡ before)
+IsLineCall p content old new before after (Err fault.BadTag) =
+    (all is_space content ≡ false) × ((x : Tagged) → ¬ IsTagged content x) × (new ≡ old) × (after ≡ before)
 IsLineCall p content old new before after (Err fault.TooManySessions) =
     (all is_space content ≡ false)
     × ((x : Tagged) × IsTagged content x × (is_among x.tag (tags_of p.seen) ≡ false)) × (1024 ≤ length (tags_of p.seen)) × (new ≡ old) × (after ≡ before)

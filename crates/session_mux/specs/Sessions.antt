@@ -1,5 +1,6 @@
 -- Several traces in one input, each line with the tag of its session.
-use Rattle.std.specs.Prelude.{◌≡◌, ◌⊎◌, ℕ, ◌-◌, ◌≤◌, ◌||◌, Bool, true, false, List, [], ◌∷◌, ◌++◌, flat_map, drop, Option, Some, None, length, codes, bytes_eq, if◌then◌else◌, MatchBool}
+use Rattle.std.specs.Prelude.{◌≡◌, ◌⊎◌, ℕ, ◌-◌, ◌≤◌, ◌||◌, Bool, true, false, List, [], ◌∷◌, ◌++◌, flat_map}
+use Rattle.std.specs.Prelude.{drop, Option, Some, None, length, codes, bytes_eq, if◌then◌else◌, MatchBool}
 use Rattle.stl_syntax.specs.Characters.{begins_word, is_digit, all, is_among}
 use Rattle.stl_syntax.specs.Formula.{Formula, root}
 use Rattle.stl_syntax.specs.Scaling.{scaled}
@@ -32,7 +33,8 @@ pub data IsTagged : List ℕ → Tagged → Type 0 where
 pub data AreTagged : List Line → List Tagged → Type 0 where
   none : AreTagged [] []
   unfinished : {line : Line} → line.whole ≡ false → AreTagged (line ∷ []) []
-  blank : {line : Line} {more : List Line} {tagged : List Tagged} → line.whole ≡ true → is_blank_line line ≡ true → AreTagged more tagged → AreTagged (line ∷ more) tagged
+  blank : {line : Line} {more : List Line} {tagged : List Tagged} → line.whole ≡ true → is_blank_line line ≡ true
+      → AreTagged more tagged → AreTagged (line ∷ more) tagged
   next : {line : Line} {more : List Line} {x : Tagged} {tagged : List Tagged} → line.whole ≡ true → is_blank_line line ≡ false → IsTagged (content line) x
       → AreTagged more tagged → AreTagged (line ∷ more) (x ∷ tagged)
 
@@ -89,7 +91,8 @@ last_eight all = drop (length all - 8) all
 abbrev pub IsAnswer : Formula → List Tagged → Tagged → List ℕ → Type 0
 IsAnswer f seen line text =
     MatchBool (is_query line) ((old : List ℕ) × SoFar f seen line.tag old × (text ≡ prefixed (line.tag ++ codes " ? ") (last_eight (lines true old))))
-    ((old grown : List ℕ) × SoFar f seen line.tag old × SoFar f (seen ++ line ∷ []) line.tag (old ++ grown) × (text ≡ prefixed (line.tag ++ codes " ") (lines true grown)))
+    ((old grown : List ℕ) × SoFar f seen line.tag old × SoFar f (seen ++ line ∷ []) line.tag (old ++ grown)
+    × (text ≡ prefixed (line.tag ++ codes " ") (lines true grown)))
 
 -- the answers to the lines in turn
 abbrev pub AreAnswers : Formula → List Tagged → List Tagged → List ℕ → Type 0

@@ -69,4 +69,5 @@ EachIsToldToItsEnd = (f : Formula) (t : List ℕ) (all : List Tagged) (text : Li
 -- so two inputs with the same lines of a tag tell its session the same to its end
 abbrev pub OthersAddNothingAtTheEnd : Type 0
 OthersAddNothingAtTheEnd = (f : Formula) (t : List ℕ) (all others : List Tagged) (text other told heard : List ℕ) → lines_of t all ≡ lines_of t others
-    → is_among t (tags_after [] all) ≡ true → is_among t (tags_after [] others) ≡ true → AreToldInAll f t all text told → AreToldInAll f t others other heard → told ≡ heard
+    → is_among t (tags_after [] all) ≡ true → is_among t (tags_after [] others) ≡ true → AreToldInAll f t all text told
+    → AreToldInAll f t others other heard → told ≡ heard

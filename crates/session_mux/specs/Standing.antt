@@ -70,7 +70,8 @@ abbrev pub IsGrowth : Formula → List ℕ → Own → Own → List ℕ → Type
 IsGrowth f tag o p reply = (old grown : List ℕ) × IsOwnText f o old × IsOwnText f p (old ++ grown) × (reply ≡ told_lines tag grown)
 
 -- the text grew to one of what was got now, and its new lines were told and kept
-pub record HasGrown (f : Formula) (tag : List ℕ) (p : Own) (told : List ℕ) (recent : Buffer (List ℕ)) (before after : List ℕ) (After : List ℕ → Type 0) : Type 0 where
+pub record HasGrown (f : Formula) (tag : List ℕ) (p : Own) (told : List ℕ) (recent : Buffer (List ℕ)) (before after : List ℕ)
+    (After : List ℕ → Type 0) : Type 0 where
   pub grown : List ℕ
   pub alone : IsOwnText f p (told ++ grown)
   pub recent_is : recent ≡ recent_of (told ++ grown)

@@ -28,12 +28,17 @@ IsSized n size = (n ≤ 8589934592) × (size ≤ 4113)
 -- contents, and the tags that are known after them
 pub data ArePassed : ℕ → List (List ℕ) → List Line → List Tagged → List (List ℕ) → Type 0 where
   none : {n : ℕ} {known : List (List ℕ)} → ArePassed n known [] [] known
-  blank : {n : ℕ} {known after : List (List ℕ)} {line : Line} {more : List Line} {tagged : List Tagged} → IsSized n (length line.bytes) → line.whole ≡ true → is_blank_line line ≡ true
+  blank : {n : ℕ} {known after : List (List ℕ)} {line : Line} {more : List Line} {tagged : List Tagged}
+      → IsSized n (length line.bytes) → line.whole ≡ true → is_blank_line line ≡ true
       → ArePassed (suc n) known more tagged after → ArePassed n known (line ∷ more) tagged after
-  old_tag : {n : ℕ} {known after : List (List ℕ)} {line : Line} {more : List Line} {x : Tagged} {tagged : List Tagged} → IsSized n (length line.bytes) → line.whole ≡ true
-      → is_blank_line line ≡ false → IsTagged (content line) x → is_among x.tag known ≡ true → ArePassed (suc n) known more tagged after → ArePassed n known (line ∷ more) (x ∷ tagged) after
-  new_tag : {n : ℕ} {known after : List (List ℕ)} {line : Line} {more : List Line} {x : Tagged} {tagged : List Tagged} → IsSized n (length line.bytes) → line.whole ≡ true
-      → is_blank_line line ≡ false → IsTagged (content line) x → is_among x.tag known ≡ false → length known < 1024 → ArePassed (suc n) (x.tag ∷ known) more tagged after
+  old_tag : {n : ℕ} {known after : List (List ℕ)} {line : Line} {more : List Line} {x : Tagged} {tagged : List Tagged}
+      → IsSized n (length line.bytes) → line.whole ≡ true
+      → is_blank_line line ≡ false → IsTagged (content line) x → is_among x.tag known ≡ true
+      → ArePassed (suc n) known more tagged after → ArePassed n known (line ∷ more) (x ∷ tagged) after
+  new_tag : {n : ℕ} {known after : List (List ℕ)} {line : Line} {more : List Line} {x : Tagged} {tagged : List Tagged}
+      → IsSized n (length line.bytes) → line.whole ≡ true
+      → is_blank_line line ≡ false → IsTagged (content line) x → is_among x.tag known ≡ false → length known < 1024
+      → ArePassed (suc n) (x.tag ∷ known) more tagged after
       → ArePassed n known (line ∷ more) (x ∷ tagged) after
 
 -- the sessions took these lines, and this is the text of their answers
@@ -81,7 +86,8 @@ IsInputStop f bytes ended text NoMemory = Unit {0}
 
 -- why a line was not taken, whatever the lines after it
 abbrev pub IsLineStop : Formula → List Line → List ℕ → List ℕ → InputStop → Type 0
-IsLineStop f front line text e = (bytes : List ℕ) (ended : Bool) (later : List Line) → lines ended bytes ≡ front ++ ended_line line ∷ later → IsInputStop f bytes ended text e
+IsLineStop f front line text e = (bytes : List ℕ) (ended : Bool) (later : List Line)
+    → lines ended bytes ≡ front ++ ended_line line ∷ later → IsInputStop f bytes ended text e
 
 -- why bytes of a line were not taken, whatever the bytes after them
 abbrev pub IsPartStop : Formula → List ℕ → List ℕ → InputStop → Type 0

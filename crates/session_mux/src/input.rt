@@ -5,7 +5,8 @@ ghost use Rattle.trace_reader.specs.TraceText.{content};
 ghost use Rattle.trace_reader.specs.Feeds.{HasNoFeed};
 ghost use Rattle.trace_reader.proofs.LineLemmas.{rest};
 ghost use Rattle.session_mux.specs.Muxes.{Past, StandsFor};
-ghost use Rattle.session_mux.specs.Taking.{ended_line, IsSized, HasLines, IsTaking, HasTakenSome, IsInputStop, IsLineStop, IsPartStop, HasAll, IsHanded, IsNotHanded, IsUnsized};
+ghost use Rattle.session_mux.specs.Taking.{ended_line, IsSized, HasLines, IsTaking, HasTakenSome, IsInputStop};
+ghost use Rattle.session_mux.specs.Taking.{IsLineStop, IsPartStop, HasAll, IsHanded, IsNotHanded, IsUnsized};
 
 use crate::fault::MuxFault;
 use crate::mux::Mux;
@@ -69,7 +70,8 @@ fn content_of(line: &[u8]) -> &[u8]
 /// Hands line `number` to the sessions.
 fn hand(mux: &mut Mux, number: u64, line: &[u8], text: &mut Text) -> Result<(), InputStop>
     requires { (p : Past) × StandsFor p mux.old }
-    ensures { (p : Past) → StandsFor p mux.old → MatchResult result (λ _. IsHanded p line.now mux.new text.old text.new) (IsNotHanded p number line.now text.old text.new) }
+    ensures { (p : Past) → StandsFor p mux.old
+        → MatchResult result (λ _. IsHanded p line.now mux.new text.old text.new) (IsNotHanded p number line.now text.old text.new) }
 {
     match mux.line(content_of(line), text) {
         Ok(()) => Ok(()),

@@ -3,7 +3,8 @@ ghost use Rattle.std.specs.Prelude.{◌≡◌, ◌<◌, ◌≤◌, ℕ, List, []
 ghost use Rattle.stl_syntax.specs.Formula.{Formula as Parsed};
 ghost use Rattle.session_mux.specs.Sessions.{Tagged, IsTag, AreEnds};
 ghost use Rattle.session_mux.specs.Standing.{IsCutShort};
-ghost use Rattle.session_mux.specs.Knowing.{shown, place_in, Knows, HasKnown, IsLastFound, HasBegun, IsNotBegun, IsReady, IsTurnedAway, HasAnswered, IsUnanswered, HasEnded, tags_of, tag_list};
+ghost use Rattle.session_mux.specs.Knowing.{shown, place_in, Knows, HasKnown, IsLastFound, HasBegun, IsNotBegun, IsReady};
+ghost use Rattle.session_mux.specs.Knowing.{IsTurnedAway, HasAnswered, IsUnanswered, HasEnded, tags_of, tag_list};
 
 use crate::fault::MuxFault;
 use crate::session::Session;
@@ -128,7 +129,8 @@ impl Known {
         requires tag { IsTag tag.now }
         requires known { HasKnown (shown self.old) }
         requires few { length self.old.sessions.items ≤ 1024 }
-        ensures answered { (f : Parsed) (seen : List Tagged) (x : Tagged) → Knows f seen (shown self.old) → x ≡ record { tag = tag.now; content = content.now } → MatchResult result
+        ensures answered { (f : Parsed) (seen : List Tagged) (x : Tagged) → Knows f seen (shown self.old)
+            → x ≡ record { tag = tag.now; content = content.now } → MatchResult result
             (λ _. HasAnswered f seen x (shown self.new) out.old out.new)
             (IsUnanswered f seen x self.old self.new out.old out.new) }
         ensures few { length self.new.sessions.items ≤ 1024 }

@@ -10,7 +10,9 @@ ghost use Rattle.trace_stream.specs.Following.{HasLived, IsLive, IsLiveStop};
 ghost use Rattle.trace_stream.specs.Streams.{verdicts};
 ghost use Rattle.session_mux.specs.Owning.{Own, asks as is_query, stops as is_stop, next_line, stopped_now, with_content};
 ghost use Rattle.session_mux.specs.Telling.{told_lines, HasSaid};
-ghost use Rattle.session_mux.specs.Standing.{WatchesRows, IsOwnText, HasReason, HasStopped, IsStoppedAt, IsOpen, IsAfterLine, recent_of, HasGrown, HasTold, HasSomeTold, IsGrowth, IsReply, HasReplied, IsCutShort};
+ghost use Rattle.session_mux.specs.Standing.{WatchesRows, IsOwnText, HasReason, HasStopped, IsStoppedAt};
+ghost use Rattle.session_mux.specs.Standing.{IsOpen, IsAfterLine, recent_of, HasGrown, HasTold};
+ghost use Rattle.session_mux.specs.Standing.{HasSomeTold, IsGrowth, IsReply, HasReplied, IsCutShort};
 
 use crate::recent::{Recent, no_lines};
 use crate::telling::{show, tell};
@@ -115,7 +117,8 @@ fn tell_stop(
 ) -> Result<(), Memory>
     requires room { recent.old.capacity ≡ 8 }
     requires reason { HasReason live.now.formula stop }
-    ensures { (f : Parsed) (o p : Own) (told : List ℕ) → live.now.formula ≡ f → recent.old ≡ recent_of told → IsOwnText f o told → IsStoppedAt f p (told ++ live.now.text) stop
+    ensures { (f : Parsed) (o p : Own) (told : List ℕ) → live.now.formula ≡ f → recent.old ≡ recent_of told → IsOwnText f o told
+        → IsStoppedAt f p (told ++ live.now.text) stop
         → MatchResult result
         (λ _. HasGrown f tag.now p told recent.new out.old out.new (λ _. HasStopped f p))
         (λ _. IsCutShort (IsGrowth f tag.now o p) out.old out.new) }
@@ -138,8 +141,10 @@ fn take_with(
 ) -> Result<bool, Memory>
     requires room { recent.old.capacity ≡ 8 }
     requires stands { (f : Parsed) × (bytes told : List ℕ) × IsOpen f bytes told live.old }
-    ensures { (f : Parsed) (o : Own) (told : List ℕ) → IsOwnText f o told → recent.old ≡ recent_of told → o.stopped ≡ false → IsOpen f o.bytes told live.old → MatchResult result
-        (λ goes_on. HasGrown f tag.now (next_line o content.now) told recent.new out.old out.new (IsAfterLine f (next_line o content.now).bytes goes_on live.new))
+    ensures { (f : Parsed) (o : Own) (told : List ℕ) → IsOwnText f o told → recent.old ≡ recent_of told → o.stopped ≡ false
+        → IsOpen f o.bytes told live.old → MatchResult result
+        (λ goes_on. HasGrown f tag.now (next_line o content.now) told recent.new out.old out.new
+        (IsAfterLine f (next_line o content.now).bytes goes_on live.new))
         (λ _. IsCutShort (IsGrowth f tag.now o (next_line o content.now)) out.old out.new) }
 {
     match feed_line(live, content) {

@@ -32,6 +32,7 @@ node_unscaled cs k m (Since p q a b) h = tt
 node_unscaled cs k m (Once p a b a_in b_in) h = tt
 node_unscaled cs k m (Historically p a b a_in b_in) h = tt
 
+-- columns that a scaled formula has the formula has
 pub columns_unscaled : (cs : List Column) (k m : ℕ) (nodes : List Node) → All (HasColumns cs) (map (scaled_node k m) nodes) → All (HasColumns cs) nodes
 columns_unscaled cs k m [] h = All-nil (HasColumns cs)
 columns_unscaled cs k m (n ∷ nodes) h =
@@ -58,7 +59,8 @@ leaf_unscaled k m owner (Once p a b a_in b_in) e = absurd (let f = e in cc)
 leaf_unscaled k m owner (Historically p a b a_in b_in) e = absurd (let f = e in cc)
 
 -- where the scaled formula has an atom, the formula has one
-pub atom_unscaled : (f : Formula) (scale : Scale) (i : ℕ) (a : Atom) → slice_get (scaled f scale).nodes i ≡ Some (Leaf a) → (b : Atom) × (slice_get f.nodes i ≡ Some (Leaf b))
+pub atom_unscaled : (f : Formula) (scale : Scale) (i : ℕ) (a : Atom) → slice_get (scaled f scale).nodes i ≡ Some (Leaf a)
+    → (b : Atom) × (slice_get f.nodes i ≡ Some (Leaf b))
 unfolding Unscaled
 atom_unscaled f scale i a at =
     let k = 10 ^ (scale.time - f.scale.time) in
@@ -68,7 +70,8 @@ atom_unscaled f scale i a at =
     (b, found ∙ ap Some leaf)
 
 -- a column that the scaled formula lacks is one that the formula lacks
-pub unknown_unscaled : (cs : List Column) (f : Formula) (s : Scale) (atom term : ℕ) (name : List ℕ) → IsUnknown cs (scaled f s) atom term name → IsUnknown cs f atom term name
+pub unknown_unscaled : (cs : List Column) (f : Formula) (s : Scale) (atom term : ℕ) (name : List ℕ)
+    → IsUnknown cs (scaled f s) atom term name → IsUnknown cs f atom term name
 unfolding Unscaled
 unknown_unscaled cs f s atom term name u =
     let k = 10 ^ (s.time - f.scale.time) in
@@ -83,7 +86,8 @@ unknown_unscaled cs f s atom term name u =
       named = u.named;
       no_column = u.no_column;
       terms_before = subst (λ ts. All (HasColumn cs) (take term ts)) (sym same) u.terms_before;
-      nodes_before = columns_unscaled cs k m (take atom f.nodes) (subst (λ ns. All (HasColumns cs) ns) (take-map (scaled_node k m) atom f.nodes) u.nodes_before);
+      nodes_before = columns_unscaled cs k m (take atom f.nodes)
+          (subst (λ ns. All (HasColumns cs) ns) (take-map (scaled_node k m) atom f.nodes) u.nodes_before);
     }
 
 -- where each term names a column, none is lacking

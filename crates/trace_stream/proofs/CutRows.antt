@@ -1,5 +1,7 @@
 -- What the rows of a piece answer, cut row by row out of what the root gave out for all of them: it is the text of the rows in turn.
-use Rattle.std.proofs.Common.{◌≡◌, ◌⊎◌, inl, inr, ℕ, ◌+◌, ◌-◌, ◌<◌, ◌≤◌, Bool, true, false, List, [], ◌∷◌, ◌++◌, length, map, refl, sym, ap, ◌∙◌, subst, arith, append-nil, append_assoc, Some, None, ℤ, pos, ◌+ℤ◌, ◌-ℤ◌, ◌<ℤ◌, ◌≤ℤ◌}
+use Rattle.std.proofs.Common.{◌≡◌, ◌⊎◌, inl, inr, ℕ, ◌+◌, ◌-◌, ◌<◌, ◌≤◌, Bool, true, false, List}
+use Rattle.std.proofs.Common.{[], ◌∷◌, ◌++◌, length, map, refl, sym, ap, ◌∙◌, subst, arith}
+use Rattle.std.proofs.Common.{append-nil, append_assoc, Some, None, ℤ, pos, ◌+ℤ◌, ◌-ℤ◌, ◌<ℤ◌, ◌≤ℤ◌}
 use Rattle.std.specs.Prelude.{cond, int_lt, MatchBool, ◌≢◌}
 use Rattle.std.proofs.lemmas.Int.{ints}
 use Rattle.rational.specs.Rational.{Rational, ◌≤ʳ◌, whole}
@@ -292,9 +294,12 @@ module _ (p : Subformula) (header : Header) (all : List Row) (are : AreRows (len
 
   -- the rows' texts in turn, and what is left after them
   pub record AreCut (before owed : List Row) (text : List ℕ) (rest : List Verdict) : Type 0 where
+    -- the text is that of the rows in turn
     pub text_is : IsRowsText (IsNewText p) p header before (front_after p before) owed text
+    -- and what is left lies behind them
     pub left : IsLeft (before ++ owed) rest
 
+  -- cut row by row, what the root gave out is the text of the rows
   pub rows_cut : (before owed : List Row) (left rest : List Verdict) (text : List ℕ) → all ≡ before ++ owed
       → IsTextOfRows header.scale (horizon p) (map (λ (r : Row). r.time) owed) left text rest → IsLeft before left → AreCut before owed text rest
   rows_cut before [] left rest text e (none, same) l = record {

@@ -1,5 +1,6 @@
 -- Verdicts that are cut at a time: where they describe a stretch, what lies up to the time and what lies after it describe its parts.
-use Rattle.std.proofs.Common.{◌≡◌, ◌⊎◌, inl, inr, ℕ, ◌<◌, pos, arith, length, Bool, true, false, not, ◌&&◌, List, [], ◌∷◌, ◌++◌, refl, sym, ap, ◌∙◌, subst, append-nil, append_assoc, Option, Some, None}
+use Rattle.std.proofs.Common.{◌≡◌, ◌⊎◌, inl, inr, ℕ, ◌<◌, pos, arith, length, Bool, true, false, not, ◌&&◌, List, []}
+use Rattle.std.proofs.Common.{◌∷◌, ◌++◌, refl, sym, ap, ◌∙◌, subst, append-nil, append_assoc, Option, Some, None}
 use Rattle.std.specs.Prelude.{◌≢◌, MatchBool, slice_index_or, slice_set}
 use Rattle.std.specs.Option.{option_to_list}
 use Rattle.rational.specs.Rational.{whole, ◌≈◌}
@@ -17,7 +18,9 @@ use Rattle.stl_syntax.specs.declared.items.Verdict.{Verdict}
 use Rattle.stl_syntax.specs.declared.scale.Scale.{Scale}
 use Rattle.online_nodes.specs.Cuts.{Place, begins, ends, After, Upto, Before, Same}
 use Rattle.online_nodes.specs.Laws.{AreTiles, AreTold}
-use Rattle.online_nodes.proofs.PlaceLemmas.{not_both, place_order, upto_of_before, after_of_before, same_places, upto_same, after_same, between, same_before, before_same, before_trans, same_trans_places, room_of_before}
+use Rattle.online_nodes.proofs.PlaceLemmas.{not_both, place_order, upto_of_before, after_of_before}
+use Rattle.online_nodes.proofs.PlaceLemmas.{same_places, upto_same, after_same, between, same_before}
+use Rattle.online_nodes.proofs.PlaceLemmas.{before_same, before_trans, same_trans_places, room_of_before}
 use Rattle.online_nodes.proofs.Writing.{in_after, in_upto, some_in}
 use Rattle.online_nodes.proofs.HeldLaw.{is_in}
 use Rattle.online_nodes.proofs.MeetingLaw.{tiled_upto}
@@ -130,8 +133,11 @@ turning_on b (v ∷ vs) t = t.1
 module _ (p : Subformula) where
   -- the verdicts tell the truth from one place to another, in as few spans as may be; none where the places are one
   pub record Leads (tr : Trace) (c : Place) (vs : List Verdict) (d : Place) : Type 0 where
+    -- the verdicts cover it without gap
     pub tiles : AreTiles c vs d
+    -- they tell the truth
     pub told : AreTold p tr vs
+    -- and each differs from the one before
     pub turning : AreTurning vs
 
   goes_told : (tr : Trace) (stretch : Interval) (v : Verdict) (vs : List Verdict) → GoesOn p tr stretch v vs → AreTold p tr vs × TurnsFrom v.holds vs
@@ -183,10 +189,14 @@ module _ (p : Subformula) where
 
   -- what lies up to a time, and what lies after it
   pub record AreParts (tr : Trace) (c : Place) (f : ℕ) (vs some left : List Verdict) (d : Place) : Type 0 where
+    -- what lies up to the time
     pub first : Leads tr c some (just_after f)
+    -- and what lies after it
     pub rest : Leads tr (just_after f) left d
+    -- where the first differs from b, so does the first of what was cut
     pub turns : (b : Bool) → TurnsFrom b vs → TurnsFrom b some
 
+  -- verdicts that lead from c to d, cut at a time between, lead up to it and on from it
   pub parts_of : {f : ℕ} {vs some left : List Verdict} (tr : Trace) (c d : Place) → AreUpTo f vs some left → Leads tr c vs d
       → Before c (just_after f) ⊎ Same c (just_after f) → Before (just_after f) d ⊎ Same (just_after f) d → AreParts tr c f vs some left d
   parts_of {f = f} tr c d none_left l low high =
@@ -264,6 +274,7 @@ module _ (p : Subformula) where
 
   -- ---- in another trace that agrees
 
+  -- verdicts tell the truth of another trace that agrees where they lie
   pub told_moves : (tr tr' : Trace) (c d : Place) (vs : List Verdict) → AreTiles c vs d → ((t : Rational) → After c t → Upto d t → Agree p tr tr' t)
       → AreTold p tr vs → AreTold p tr' vs
   told_moves tr tr' c d [] t agree h = tt
@@ -282,6 +293,7 @@ module _ (p : Subformula) where
       by_holds true e x = e.0 x
       by_holds false e x = λ y. x (e.1 y)
 
+  -- and lead there likewise
   pub leads_moves : (tr tr' : Trace) (c d : Place) (vs : List Verdict) → ((t : Rational) → After c t → Upto d t → Agree p tr tr' t) → Leads tr c vs d
       → Leads tr' c vs d
   leads_moves tr tr' c d vs agree l = record { tiles = l.tiles; told = told_moves tr tr' c d vs l.tiles agree l.told; turning = l.turning }
@@ -329,6 +341,7 @@ module _ (p : Subformula) where
   turning_alike (v ∷ vs) [] e t = absurd e
   turning_alike (v ∷ vs) (w ∷ ws) (begin, end, holds, e) t = turns_alike w.holds vs ws e (subst (λ h. TurnsFrom h vs) holds t)
 
+  -- and so do verdicts that are alike
   pub leads_alike : (tr : Trace) (c d : Place) (vs ws : List Verdict) → AreAlike vs ws → Leads tr c vs d → Leads tr c ws d
   leads_alike tr c d vs ws e l = record {
     tiles = tiles_alike c d vs ws e l.tiles;

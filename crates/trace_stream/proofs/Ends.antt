@@ -1,5 +1,6 @@
 -- What the end of the bytes comes to.
-use Rattle.std.proofs.Common.{◌≡◌, ◌⊎◌, inl, inr, ℕ, ◌+◌, ◌<◌, ◌≤◌, Bool, true, false, List, [], ◌∷◌, ◌++◌, length, take, refl, sym, ap, ◌∙◌, subst, arith, append-nil, length-append, Option, Some, None, Result, Ok, Err}
+use Rattle.std.proofs.Common.{◌≡◌, ◌⊎◌, inl, inr, ℕ, ◌+◌, ◌<◌, ◌≤◌, Bool, true, false, List, [], ◌∷◌, ◌++◌, length, take, refl}
+use Rattle.std.proofs.Common.{sym, ap, ◌∙◌, subst, arith, append-nil, length-append, Option, Some, None, Result, Ok, Err}
 use Rattle.std.specs.Prelude.{MatchOption, MatchResult, OnOk, IfErr, option_map}
 use Rattle.std.proofs.lemmas.List.{take_all}
 use Rattle.std.proofs.lemmas.List.Elements.{All-nil}
@@ -38,7 +39,8 @@ module _ {r : Reader} {bytes : List ℕ} {rows : List Row} (s : StandsFor r byte
   lines_count : length (lines true bytes) ≡ r.begun
   lines_count =
       ap (λ ls. length ls) (lines_now true) ∙ length-append s.taken.front (lines true r.line)
-      ∙ ap (λ n. length s.taken.front + n) (ap (λ ls. length ls) (lines-rest true r.line s.taken.free) ∙ rest_size true false r.line ∙ sym (ap (λ ls. length ls) (lines-rest false r.line s.taken.free)))
+      ∙ ap (λ n. length s.taken.front + n) (ap (λ ls. length ls) (lines-rest true r.line s.taken.free)
+      ∙ rest_size true false r.line ∙ sym (ap (λ ls. length ls) (lines-rest false r.line s.taken.free)))
       ∙ sym (ap (λ ls. length ls) (lines_now false) ∙ length-append s.taken.front (lines false r.line)) ∙ sym s.taken.begun
 
   -- where no header was read, that of all bytes is in their last line
@@ -52,10 +54,12 @@ module _ {r : Reader} {bytes : List ℕ} {rows : List Row} (s : StandsFor r byte
   -- and there are no rows after it
   no_rows_yet : r.heading ≡ None → {least : Scale} {header : Header} {later : List Row} → AreTraceLines least (lines true bytes) header later → later ≡ []
   no_rows_yet first {least} {header} {later} read =
-      no_rows_in s.taken.front (lines true r.line) (blank_front s first) (one_left true r.line s.taken.free) (subst (λ ls. AreTraceLines least ls header later) (lines_now true) read)
+      no_rows_in s.taken.front (lines true r.line) (blank_front s first) (one_left true r.line s.taken.free)
+      (subst (λ ls. AreTraceLines least ls header later) (lines_now true) read)
 
 -- the trace of all bytes has the header that was read
-whole_header : (f : Formula) (old : Reader) (o : Option Heading) (case : Option Case) (bytes : List ℕ) (k : IsKept f old case bytes) (limits : Limits) (h : Heading) (later : List Row) → old.heading ≡ o
+whole_header : (f : Formula) (old : Reader) (o : Option Heading) (case : Option Case) (bytes : List ℕ)
+    (k : IsKept f old case bytes) (limits : Limits) (h : Heading) (later : List Row) → old.heading ≡ o
     → IsTied f o bytes k.rows case → HasTrace bytes limits f.scale (record { header = header_of f.scale h; rows = later })
     → (c : Case) × (case ≡ Some c) × IsCase f c × (c.trace.rows ≡ k.rows) × IsHeaderOf f bytes c.trace.header × (c.trace.header ≡ header_of f.scale h)
 whole_header f old None case bytes k limits h later first t whole =
@@ -65,7 +69,8 @@ whole_header f old (Some g) None bytes k limits h later first t whole = absurd t
 whole_header f old (Some g) (Some c) bytes k limits h later first t whole = (c, refl, t.0, t.1, t.2, same_header t.2 true h whole.text.read)
 
 -- the case of all bytes
-ended_is : (f : Formula) (bytes : List ℕ) (limits : Limits) (h : Heading) (later : List Row) (c : Case) → IsCase f c → c.trace.rows ≡ later → IsHeaderOf f bytes c.trace.header
+ended_is : (f : Formula) (bytes : List ℕ) (limits : Limits) (h : Heading) (later : List Row) (c : Case) → IsCase f c
+    → c.trace.rows ≡ later → IsHeaderOf f bytes c.trace.header
     → c.trace.header ≡ header_of f.scale h → HasTrace bytes limits f.scale (record { header = header_of f.scale h; rows = later }) → IsEnded limits f bytes c
 ended_is f bytes limits h later c fits rows header same whole = record {
   whole = record {
@@ -82,8 +87,10 @@ ended_is f bytes limits h later c fits rows header same whole = record {
     none x (inl lack) = no_lack header limits true [] x (subst (λ b. IsLack limits f b true x) (sym (append-nil bytes)) lack)
     none x (inr (known, (r, first, e))) = whole.sound r first
 
-module _ (f : Formula) (old new : Reader) (case : Option Case) (bytes : List ℕ) (k : IsKept f old case bytes) (limits : new.limits ≡ old.limits) (least : new.least ≡ old.least) where
-  as_whole : (later : List Row) → IsWholeTrace new bytes later → (h : Heading) × (new.heading ≡ Some h) × HasTrace bytes old.limits f.scale (record { header = header_of f.scale h; rows = later })
+module _ (f : Formula) (old new : Reader) (case : Option Case) (bytes : List ℕ) (k : IsKept f old case bytes)
+    (limits : new.limits ≡ old.limits) (least : new.least ≡ old.least) where
+  as_whole : (later : List Row) → IsWholeTrace new bytes later → (h : Heading) × (new.heading ≡ Some h)
+      × HasTrace bytes old.limits f.scale (record { header = header_of f.scale h; rows = later })
   as_whole later (h, some, whole) = (
     h,
     some,
@@ -104,7 +111,8 @@ module _ (f : Formula) (old new : Reader) (case : Option Case) (bytes : List ℕ
       let (h, some, whole) = as_whole (k.rows ++ r ∷ []) w in
       let (c, is, fits, rows, header, same) = whole_header f old old.heading case bytes k old.limits h (k.rows ++ r ∷ []) refl k.tied whole in
       subst (λ o. MatchOption (option_map (with_row r) o) ⊥ (IsEnded old.limits f bytes)) (sym is)
-      (ended_is f bytes old.limits h (k.rows ++ r ∷ []) (with_row r c) (record { formula = fits.formula; bound = fits.bound }) (ap (λ rs. rs ++ r ∷ []) rows) header same whole)
+      (ended_is f bytes old.limits h (k.rows ++ r ∷ []) (with_row r c) (record { formula = fits.formula; bound = fits.bound })
+      (ap (λ rs. rs ++ r ∷ []) rows) header same whole)
 
   -- which can be kept
   pub end_can : (r : Row) → IsWholeTrace new bytes (k.rows ++ r ∷ []) → IsNextRow IsARow new.heading k.rows r → CanKeep case r
@@ -120,7 +128,8 @@ module _ (f : Formula) (old new : Reader) (case : Option Case) (bytes : List ℕ
   has_header (h, some, read) =
       let (n, g, at, e) = header_read read in
       let (fs, is) = heading_is at in
-      let same : scale_of f.scale h ≡ scale_of f.scale g = ap (λ (s : Scale). scale_of s h) (sym (least ∙ k.least)) ∙ (ap (λ (x : Header). x.scale) e ∙ ap (λ (s : Scale). scale_of s g) (least ∙ k.least)) in
+      let same : scale_of f.scale h ≡ scale_of f.scale g = ap (λ (s : Scale). scale_of s h) (sym (least ∙ k.least))
+      ∙ (ap (λ (x : Header). x.scale) e ∙ ap (λ (s : Scale). scale_of s g) (least ∙ k.least)) in
       record {
         heading = h;
         read = some;
@@ -128,7 +137,8 @@ module _ (f : Formula) (old new : Reader) (case : Option Case) (bytes : List ℕ
         ticks = subst (λ (s : Scale). IsScale s) (sym same) (ticks_small f.scale fs g k.ticks is);
       }
 
-  module _ (x : TraceRefusal) (first : IsFirstFault bytes true old.limits old.least x) (header : x.kind ≡ NoRows → HasWholeHeader new bytes) (line : x.line ≡ old.begun) where
+  module _ (x : TraceRefusal) (first : IsFirstFault bytes true old.limits old.least x)
+      (header : x.kind ≡ NoRows → HasWholeHeader new bytes) (line : x.line ≡ old.begun) where
     here : FaultFrom old.limits f.scale true 1 (lines true bytes) x
     here = subst (λ (s : Scale). FaultFrom old.limits s true 1 (lines true bytes) x) k.least first
 
@@ -143,11 +153,13 @@ module _ (f : Formula) (old new : Reader) (case : Option Case) (bytes : List ℕ
         let told : x.line ≡ length (lines true bytes) = line ∙ sym (lines_count k.stands) in (
           g,
           subst (λ m. IsHeaderAt (lines true bytes) m g) (place ∙ sym told) at,
-          ap (λ (y : Heading). header_of f.scale y) (sym mine) ∙ ap (λ (s : Scale). header_of s h') (sym (least ∙ k.least)) ∙ e ∙ ap (λ (s : Scale). header_of s g) (least ∙ k.least),
+          ap (λ (y : Heading). header_of f.scale y) (sym mine) ∙ ap (λ (s : Scale). header_of s h') (sym (least ∙ k.least)) ∙ e
+              ∙ ap (λ (s : Scale). header_of s g) (least ∙ k.least),
           told,
         )
 
-    no_lack_now : ((o : Option Heading) → old.heading ≡ o → IsTied f o bytes k.rows case → (y : Fault) → ¬ IsLack old.limits f bytes true y) → IsInputFault old.limits f bytes true (of_trace x)
+    no_lack_now : ((o : Option Heading) → old.heading ≡ o → IsTied f o bytes k.rows case → (y : Fault) → ¬ IsLack old.limits f bytes true y)
+        → IsInputFault old.limits f bytes true (of_trace x)
     no_lack_now none = inr (λ y lack. none old.heading refl k.tied y lack, (x, here, refl))
 
     tied_case : (o : Option Heading) → IsTied f o bytes k.rows case → case ≡ None → o ≡ None
@@ -159,7 +171,8 @@ module _ (f : Formula) (old new : Reader) (case : Option Case) (bytes : List ℕ
     lacks_nothing fits None none t y (n, g, at, lacking, clean) = by_place (after_header old.limits true x f.scale 1 (lines true bytes) at clean here)
       where
         by_place : (1 + n ≤ x.line) ⊎ IsAtEndOf true x → ⊥
-        by_place (inl after) = omega (arith, after, last_header k.stands none at, fault_within old.limits true x f.scale 1 (lines true bytes) (omega arith) here)
+        by_place (inl after) =
+            omega (arith, after, last_header k.stands none at, fault_within old.limits true x f.scale 1 (lines true bytes) (omega arith) here)
         by_place (inr (truth, end)) =
             let (h, some, read) = header end in
             let (g', at', agree, told) = in_last none end h some in
@@ -171,7 +184,8 @@ module _ (f : Formula) (old new : Reader) (case : Option Case) (bytes : List ℕ
         by_case None t = t
         by_case (Some c) t = no_lack t.2 old.limits true [] y (subst (λ b. IsLack old.limits f b true y) (sym (append-nil bytes)) lack)
 
-    from_header : (stop : StreamStop) (h : Heading) → case ≡ None → x.kind ≡ NoRows → new.heading ≡ Some h → IsNoBegin f x.line h stop → IsRefused old.limits f true bytes stop
+    from_header : (stop : StreamStop) (h : Heading) → case ≡ None → x.kind ≡ NoRows → new.heading ≡ Some h
+        → IsNoBegin f x.line h stop → IsRefused old.limits f true bytes stop
     from_header (Faulty fault) h none end some (y, is, lacking) =
         let first_none = tied_case old.heading k.tied none in
         let (g, at, agree, told) = in_last first_none end h some in
@@ -188,7 +202,9 @@ module _ (f : Formula) (old new : Reader) (case : Option Case) (bytes : List ℕ
     refused_end stop (own fits) = (of_trace x, refl, no_lack_now (lacks_nothing fits))
 
 -- what came of keeping a last row
-pub kept_last : (f : Formula) (limits : Limits) (bytes : List ℕ) (case later : Option Case) (row : Row) (r : Result (Unit {0}) StreamStop) → OnOk r (later ≡ option_map (with_row row) case) → IfErr r (λ e. e ≡ NoMemory)
-    → MatchOption (option_map (with_row row) case) ⊥ (IsEnded limits f bytes) → MatchResult r (λ _. MatchOption later ⊥ (IsEnded limits f bytes)) (IsRefused limits f true bytes)
+pub kept_last : (f : Formula) (limits : Limits) (bytes : List ℕ) (case later : Option Case) (row : Row)
+    (r : Result (Unit {0}) StreamStop) → OnOk r (later ≡ option_map (with_row row) case) → IfErr r (λ e. e ≡ NoMemory)
+    → MatchOption (option_map (with_row row) case) ⊥ (IsEnded limits f bytes)
+    → MatchResult r (λ _. MatchOption later ⊥ (IsEnded limits f bytes)) (IsRefused limits f true bytes)
 kept_last f limits bytes case later row (Ok x) same none ended = subst (λ o. MatchOption o ⊥ (IsEnded limits f bytes)) (sym same) ended
 kept_last f limits bytes case later row (Err e) same none ended = subst (λ s. IsRefused limits f true bytes s) (sym none) tt

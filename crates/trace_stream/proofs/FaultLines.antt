@@ -21,16 +21,24 @@ one_name {f} {atom} {term} {name} {other} p q =
     let part : p.part ≡ q.part = (let e = sym at ∙ q.at_term in cc) in
     sym p.named ∙ ap (λ (t : Term). t.name) part ∙ q.named
 
-pub name_of : {f : Formula} {fault : TraceFault} {n atom term : ℕ} → fault ≡ Unknown n atom term → (x : Fault) × IsFault f fault x → (name : List ℕ) × IsNamed f atom term name
+-- a fault of an unknown column has the column's name
+pub name_of : {f : Formula} {fault : TraceFault} {n atom term : ℕ} → fault ≡ Unknown n atom term → (x : Fault) × IsFault f fault x
+    → (name : List ℕ) × IsNamed f atom term name
 name_of {f} {fault} {n} {atom} {term} e (x, is) = let (name, h, same) = subst (λ (t : TraceFault). IsFault f t x) e is in (name, h)
 
-pub trace_line : (f : Formula) (fault : TraceFault) (text : List ℕ) (r : TraceRefusal) → text ≡ trace_fault_text r → fault ≡ InTrace r → (x : Fault) → IsFault f fault x → text ≡ fault_text x
+-- the line of a refusal of the trace
+pub trace_line : (f : Formula) (fault : TraceFault) (text : List ℕ) (r : TraceRefusal) → text ≡ trace_fault_text r
+    → fault ≡ InTrace r → (x : Fault) → IsFault f fault x → text ≡ fault_text x
 trace_line f fault text r told e x is = told ∙ ap fault_text (sym (subst (λ (t : TraceFault). IsFault f t x) e is))
 
-pub unit_line : (f : Formula) (fault : TraceFault) (text : List ℕ) (n : ℕ) (u : UnitFault) → text ≡ unit_fault_text n u → fault ≡ InTicks n u → (x : Fault) → IsFault f fault x → text ≡ fault_text x
+-- the line of numbers that do not fit the ticks
+pub unit_line : (f : Formula) (fault : TraceFault) (text : List ℕ) (n : ℕ) (u : UnitFault) → text ≡ unit_fault_text n u
+    → fault ≡ InTicks n u → (x : Fault) → IsFault f fault x → text ≡ fault_text x
 unit_line f fault text n u told e x is = told ∙ ap fault_text (sym (subst (λ (t : TraceFault). IsFault f t x) e is))
 
-pub column_line : (f : Formula) (fault : TraceFault) (text : List ℕ) (n atom term : ℕ) (name : List ℕ) → text ≡ unknown_text n name → IsNamed f atom term name → fault ≡ Unknown n atom term
+-- the line of an unknown column
+pub column_line : (f : Formula) (fault : TraceFault) (text : List ℕ) (n atom term : ℕ) (name : List ℕ)
+    → text ≡ unknown_text n name → IsNamed f atom term name → fault ≡ Unknown n atom term
     → (x : Fault) → IsFault f fault x → text ≡ fault_text x
 column_line f fault text n atom term name told named e x is =
     let (other, h, same) = subst (λ (t : TraceFault). IsFault f t x) e is in

@@ -21,7 +21,9 @@ header_in_front [] (c ∷ cs) (later w b p) = absurd (false≢true w)
 header_in_front (l ∷ front) line (here w b is) = here w b is
 header_in_front (l ∷ front) line (later w b p) = later w b (header_in_front front line p)
 
-pub lack_stays : (limits : Limits) (f : Formula) (bytes more : List ℕ) (ended : Bool) (x : Fault) → IsLack limits f bytes false x → IsLack limits f (bytes ++ more) ended x
+-- what a header lacks it lacks whatever follows
+pub lack_stays : (limits : Limits) (f : Formula) (bytes more : List ℕ) (ended : Bool) (x : Fault) → IsLack limits f bytes false x
+    → IsLack limits f (bytes ++ more) ended x
 lack_stays limits f bytes more ended x (n, h, at, lacking, clean) =
     let (line, o) = open_line bytes in
     let p = parts o in
@@ -29,7 +31,8 @@ lack_stays limits f bytes more ended x (n, h, at, lacking, clean) =
     let front = header_in_front p.front line (subst (λ ls. IsHeaderAt ls n h) now at) in
     let within = (header_within front).1 in
     let same : take n (lines ended (bytes ++ more)) ≡ take n (lines false bytes) =
-    ap (take n) (p.joins ended more) ∙ take-append-le n p.front (lines ended (line ++ more)) within ∙ sym (ap (take n) now ∙ take-append-le n p.front (rest false line) within) in (
+    ap (take n) (p.joins ended more) ∙ take-append-le n p.front (lines ended (line ++ more)) within
+    ∙ sym (ap (take n) now ∙ take-append-le n p.front (rest false line) within) in (
       n,
       h,
       subst (λ ls. IsHeaderAt ls n h) (sym (p.joins ended more)) (header_stays (lines ended (line ++ more)) front),

@@ -1,5 +1,6 @@
 -- A piece in parts.
-use Rattle.std.proofs.Common.{◌≡◌, ℕ, ◌+◌, ◌-◌, false, List, ◌++◌, length, take, drop, sym, ap, ◌∙◌, subst, take-append-drop, take-add, append_assoc, arith, length-drop, take_all}
+use Rattle.std.proofs.Common.{◌≡◌, ℕ, ◌+◌, ◌-◌, false, List, ◌++◌, length, take, drop, sym, ap, ◌∙◌, subst}
+use Rattle.std.proofs.Common.{take-append-drop, take-add, append_assoc, arith, length-drop, take_all}
 use Rattle.stl_syntax.specs.Formula.{Formula}
 use Rattle.trace_reader.specs.declared.refusal.Limits.{Limits}
 use Rattle.trace_stream.specs.Reading.{IsRefused}
@@ -9,6 +10,7 @@ use Rattle.trace_stream.specs.declared.fault.StreamStop.{StreamStop}
 pub rest_is : (text : List ℕ) (at : ℕ) → take (length text - at) (drop at text) ≡ drop at text
 rest_is text at = take_all (length text - at) (drop at text) (omega (arith, length-drop at text))
 
+-- bytes and a piece up to a place, and a part more, are the piece up to a later place
 pub fed : (bytes piece : List ℕ) (at n : ℕ) → (bytes ++ take at piece) ++ take n (take (length piece - at) (drop at piece)) ≡ bytes ++ take (at + n) piece
 fed bytes piece at n =
     append_assoc bytes (take at piece) (take n (take (length piece - at) (drop at piece)))
@@ -17,8 +19,10 @@ fed bytes piece at n =
 
 fed_all : (bytes piece : List ℕ) (at : ℕ) → (bytes ++ take at piece) ++ take (length piece - at) (drop at piece) ≡ bytes ++ piece
 fed_all bytes piece at =
-    ap (λ l. (bytes ++ take at piece) ++ l) (rest_is piece at) ∙ append_assoc bytes (take at piece) (drop at piece) ∙ ap (λ l. bytes ++ l) (take-append-drop at piece)
+    ap (λ l. (bytes ++ take at piece) ++ l) (rest_is piece at) ∙ append_assoc bytes (take at piece) (drop at piece)
+    ∙ ap (λ l. bytes ++ l) (take-append-drop at piece)
 
+-- a refusal in the rest of the piece is one in the piece
 pub fed_err : (f : Formula) (l m : Limits) (bytes piece : List ℕ) (at : ℕ) (e : StreamStop) → l ≡ m
     → IsRefused l f false ((bytes ++ take at piece) ++ take (length piece - at) (drop at piece)) e → IsRefused m f false (bytes ++ piece) e
 fed_err f l m bytes piece at e same r =

@@ -1,5 +1,6 @@
 -- What is kept of a trace while its bytes come in.
-use Rattle.std.proofs.Common.{◌≡◌, ◌⊎◌, inl, inr, ℕ, suc, ◌+◌, ◌<◌, ◌≤◌, Bool, false, List, [], ◌∷◌, ◌++◌, length, take, drop, refl, sym, ap, ◌∙◌, subst, arith, append_assoc, append-nil, length-append, Option, Some, None}
+use Rattle.std.proofs.Common.{◌≡◌, ◌⊎◌, inl, inr, ℕ, suc, ◌+◌, ◌<◌, ◌≤◌, Bool, false, List, [], ◌∷◌, ◌++◌, length, take, drop}
+use Rattle.std.proofs.Common.{refl, sym, ap, ◌∙◌, subst, arith, append_assoc, append-nil, length-append, Option, Some, None}
 use Rattle.std.specs.Prelude.{All, option_map, MatchOption}
 use Rattle.std.proofs.lemmas.Bool.{false≢true}
 use Rattle.std.proofs.Math.Seq.{take-append_seam}
@@ -26,7 +27,8 @@ use Rattle.trace_stream.specs.Reading.{IsRefused, IsTied, IsKept}
 use Rattle.trace_stream.specs.declared.case.Case.{Case}
 use Rattle.trace_stream.specs.declared.fault.StreamStop.{StreamStop}
 use Rattle.trace_stream.specs.declared.fault.StreamStop.TheVariants.{Fault as Faulty, NoMemory, Wide}
-use Rattle.trace_stream.proofs.HeaderLines.{IsBlank, header_once, header_read as header_of_lines, header_stays, header_within, header_after, ticks_small, heading_is}
+use Rattle.trace_stream.proofs.HeaderLines.{IsBlank, header_once, header_read as header_of_lines, header_stays}
+use Rattle.trace_stream.proofs.HeaderLines.{header_within, header_after, ticks_small, heading_is}
 use Rattle.trace_stream.proofs.FaultPlaces.{IsAtEndOf, after_header, fault_within}
 use Rattle.trace_stream.proofs.OneLine.{IsOneLine, through_line, one_at_most, fed_line, taken_of, left_over}
 
@@ -41,11 +43,13 @@ unfolding Lacks
 lacking_same f n h g x e l = subst (λ header. Lacks f n header x) e l
 
 -- a header that lacks nothing is the only one
-pub no_lack : {f : Formula} {bytes : List ℕ} {header : Header} → IsHeaderOf f bytes header → (limits : Limits) (ended : Bool) (more : List ℕ) (x : Fault) → ¬ IsLack limits f (bytes ++ more) ended x
+pub no_lack : {f : Formula} {bytes : List ℕ} {header : Header} → IsHeaderOf f bytes header
+    → (limits : Limits) (ended : Bool) (more : List ℕ) (x : Fault) → ¬ IsLack limits f (bytes ++ more) ended x
 no_lack {f} t limits ended more x (n, h, at, lacking, clean) =
     let e = header_once at (t.at ended more) in
     t.fits x (subst (λ m. IsLacking f m t.heading x) e.0 (subst (λ g. IsLacking f n g x) e.1 lacking))
 
+-- the header stays whatever follows
 pub header_goes_on : {f : Formula} {bytes : List ℕ} {header : Header} → (more : List ℕ) → IsHeaderOf f bytes header → IsHeaderOf f (bytes ++ more) header
 header_goes_on {f} {bytes} more t = record {
   line = t.line;
@@ -65,9 +69,11 @@ same_header {f} {bytes} t ended h read =
 
 -- where no header was read, the lines that are whole are blank, and the others come after them
 module _ {r : Reader} {bytes : List ℕ} {rows : List Row} (s : StandsFor r bytes rows) (first : r.heading ≡ None) where
+  -- the lines before the header are blank
   pub blank_front : All IsBlank s.taken.front
   blank_front = (s.taken.goes_on.blank first).0
 
+  -- the header stands behind them
   pub header_beyond : (ended : Bool) (more : List ℕ) {n : ℕ} {h : Heading} → IsHeaderAt (lines ended (bytes ++ more)) n h → length s.taken.front < n
   header_beyond ended more {n} {h} at =
       header_after s.taken.front (lines ended (r.line ++ more)) blank_front (subst (λ ls. IsHeaderAt ls n h) (s.taken.joins ended more) at)
@@ -81,7 +87,8 @@ module _ {r : Reader} {bytes : List ℕ} {rows : List Row} (s : StandsFor r byte
 
   -- a fault of the first line that is not blank comes before what its header lacks
   pub fault_before : (f : Formula) (ended now : Bool) (part more : List ℕ) (x : TraceRefusal) → IsOneLine part
-      → FaultFrom r.limits f.scale now 1 (lines now (bytes ++ part)) x → FaultFrom r.limits f.scale ended 1 (lines ended (bytes ++ more)) x → (¬ IsAtEndOf ended x)
+      → FaultFrom r.limits f.scale now 1 (lines now (bytes ++ part)) x
+      → FaultFrom r.limits f.scale ended 1 (lines ended (bytes ++ more)) x → (¬ IsAtEndOf ended x)
       → (y : Fault) → ¬ IsLack r.limits f (bytes ++ more) ended y
   fault_before f ended now part more x one here later inside y (n, h, at, lacking, clean) =
       by_place (header_beyond ended more at) (fault_within r.limits now x f.scale 1 (lines now (bytes ++ part)) (omega arith) here) (lines_few now part one)
@@ -109,7 +116,8 @@ refused_push f r case bytes piece x k fault = inr (λ y lack. by_heading r.headi
         (subst (λ s. IsFirstFault ((bytes ++ through_feed piece) ++ others) false r.limits s x) k.least (fault others false))
 
     by_heading : (o : Option Heading) → r.heading ≡ o → IsTied f o bytes k.rows case → (y : Fault) → ¬ IsLack r.limits f (bytes ++ piece) false y
-    by_heading None e t y lack = fault_before k.stands e f false false (through_feed piece) piece x (through_line piece) part_fault whole_fault (λ end. false≢true end.0) y lack
+    by_heading None e t y lack = fault_before k.stands e f false false (through_feed piece) piece x
+        (through_line piece) part_fault whole_fault (λ end. false≢true end.0) y lack
     by_heading (Some h) e t y lack = by_case case t
       where
         by_case : (c : Option Case) → IsTied f (Some h) bytes k.rows c → ⊥
@@ -121,7 +129,8 @@ abbrev pub IsNext : Option Case → List ℕ → List ℕ → Type 0
 IsNext case piece line = MatchOption case (line ≡ through_feed piece) (λ _. line ≡ piece)
 
 -- a refusal of the bytes to read next
-pub refused_next : (f : Formula) (r : Reader) (case : Option Case) (bytes piece line : List ℕ) (x : TraceRefusal) → IsKept f r case bytes → IsNext case piece line
+pub refused_next : (f : Formula) (r : Reader) (case : Option Case) (bytes piece line : List ℕ) (x : TraceRefusal)
+    → IsKept f r case bytes → IsNext case piece line
     → IsFaultOfAll r.limits r.least (bytes ++ line) x → IsInputFault r.limits f (bytes ++ piece) false (of_trace x)
 refused_next f r None bytes piece line x k e fault = refused_push f r None bytes piece x k (subst (λ l. IsFaultOfAll r.limits r.least (bytes ++ l) x) e fault)
 refused_next f r (Some c) bytes piece line x k e fault = inr (λ y lack. by_heading r.heading k.tied y lack, (x, whole_fault, refl))
@@ -144,7 +153,8 @@ front_same None piece line k one within = ap (take k) one ∙ taken_of k piece (
 front_same (Some c) piece line k e within = ap (take k) e
 
 -- where no header was read there is no case, and so a line at most comes next
-pub first_next : (f : Formula) (o : Option Heading) (bytes : List ℕ) (rows : List Row) (case : Option Case) (piece line : List ℕ) → IsTied f o bytes rows case → o ≡ None → IsNext case piece line
+pub first_next : (f : Formula) (o : Option Heading) (bytes : List ℕ) (rows : List Row) (case : Option Case) (piece line : List ℕ)
+    → IsTied f o bytes rows case → o ≡ None → IsNext case piece line
     → line ≡ through_feed piece
 first_next f o bytes rows None piece line t e n = n
 first_next f None bytes rows (Some c) piece line t e n = absurd (let j = t in cc)
@@ -152,7 +162,9 @@ first_next f (Some h) bytes rows (Some c) piece line t e n = absurd (let j = e i
 
 -- the header that came with the last line of some bytes
 pub record HasHeaderLine (limits : Limits) (least : Scale) (bytes : List ℕ) (n : ℕ) (h : Heading) : Type 0 where
+  -- the header stands there, whatever follows
   pub at : (ended : Bool) (more : List ℕ) → IsHeaderAt (lines ended (bytes ++ more)) n h
+  -- and no fault stands before it
   pub clean : (ended : Bool) (more : List ℕ) (x : TraceRefusal) → ¬ FaultFrom limits least false 1 (take n (lines ended (bytes ++ more))) x
 
 -- what came with the header's line
@@ -177,7 +189,8 @@ header_came old new bytes taken w rows later h s first t some free is =
 
     line : (n : ℕ) (g : Heading) → IsHeaderAt (lines false (bytes ++ taken)) n g → HasHeaderLine new.limits new.least (bytes ++ taken) new.begun g
     line n g at = record {
-      at = λ ended more. subst (λ ls. IsHeaderAt ls new.begun g) (sym (joins ended more)) (header_stays (lines ended more) (subst (λ m. IsHeaderAt (lines false (bytes ++ taken)) m g) place at));
+      at = λ ended more. subst (λ ls. IsHeaderAt ls new.begun g) (sym (joins ended more))
+          (header_stays (lines ended more) (subst (λ m. IsHeaderAt (lines false (bytes ++ taken)) m g) place at));
       clean = λ ended more x fault. t.sound x (subst (λ ls. FaultFrom new.limits new.least false 1 ls x) (front ended more) fault);
     }
       where
@@ -202,16 +215,21 @@ stop_begin f limits ended bytes more whole n g NoMemory e line none = tt
 stop_begin f limits ended bytes more whole n g (Wide i den) e line none = absurd none
 
 -- the header of a reader
-pub heading_of : (least : Scale) (o : Option Heading) (header : Header) → option_map (header_of least) o ≡ Some header → (h : Heading) × (o ≡ Some h) × (header ≡ header_of least h)
+pub heading_of : (least : Scale) (o : Option Heading) (header : Header) → option_map (header_of least) o ≡ Some header
+    → (h : Heading) × (o ≡ Some h) × (header ≡ header_of least h)
 heading_of least None header e = absurd (let k = e in cc)
 heading_of least (Some h) header e = (h, refl, let k : header ≡ header_of least h = (let j = e in cc) in k)
 
-pub header_ticks : {limits : Limits} {least : Scale} {bytes : List ℕ} {n : ℕ} {g : Heading} → HasHeaderLine limits least bytes n g → IsScale least → IsScale (scale_of least g)
+-- a header's ticks are a scale
+pub header_ticks : {limits : Limits} {least : Scale} {bytes : List ℕ} {n : ℕ} {g : Heading} → HasHeaderLine limits least bytes n g
+    → IsScale least → IsScale (scale_of least g)
 header_ticks {limits} {least} {bytes} {n} {g} line s = let (fs, is) = heading_is (line.at false []) in ticks_small least fs g s is
 
 -- what is kept once the header was read
-pub kept_begun : (f : Formula) (old new : Reader) (case : Option Case) (bytes more : List ℕ) (n : ℕ) (h g : Heading) (c : Case) (k : IsKept f old case bytes) → old.heading ≡ None
-    → StandsFor new more k.rows → new.least ≡ f.scale → new.heading ≡ Some h → HasHeaderLine new.limits f.scale more n g → IsBegun f n g c → IsKept f new (Some c) more
+pub kept_begun : (f : Formula) (old new : Reader) (case : Option Case) (bytes more : List ℕ) (n : ℕ) (h g : Heading) (c : Case)
+    (k : IsKept f old case bytes) → old.heading ≡ None
+    → StandsFor new more k.rows → new.least ≡ f.scale → new.heading ≡ Some h → HasHeaderLine new.limits f.scale more n g
+    → IsBegun f n g c → IsKept f new (Some c) more
 kept_begun f old new case bytes more n h g c k first s least some line begun = record {
   rows = [];
   ticks = k.ticks;
@@ -231,12 +249,15 @@ kept_begun f old new case bytes more n h g c k first s least some line begun = r
 }
 
 -- what goes on
-tied_on : (f : Formula) (o : Option Heading) (bytes more : List ℕ) (rows : List Row) (case : Option Case) → IsTied f o bytes rows case → IsTied f o (bytes ++ more) rows case
+tied_on : (f : Formula) (o : Option Heading) (bytes more : List ℕ) (rows : List Row) (case : Option Case)
+    → IsTied f o bytes rows case → IsTied f o (bytes ++ more) rows case
 tied_on f None bytes more rows case t = t
 tied_on f (Some h) bytes more rows None t = t
 tied_on f (Some h) bytes more rows (Some c) t = (t.0, t.1, header_goes_on more t.2)
 
-pub kept_on : (f : Formula) (old new : Reader) (case : Option Case) (bytes more : List ℕ) (k : IsKept f old case bytes) → StandsFor new (bytes ++ more) k.rows → new.least ≡ old.least
+-- bytes more that bring no line leave what is kept
+pub kept_on : (f : Formula) (old new : Reader) (case : Option Case) (bytes more : List ℕ) (k : IsKept f old case bytes)
+    → StandsFor new (bytes ++ more) k.rows → new.least ≡ old.least
     → new.heading ≡ old.heading → IsKept f new case (bytes ++ more)
 kept_on f old new case bytes more k s least same = record {
   rows = k.rows;
@@ -247,7 +268,8 @@ kept_on f old new case bytes more k s least same = record {
 }
 
 -- a row that came next can be kept
-next_takes : (f : Formula) (o : Option Heading) (least : Scale) (bytes : List ℕ) (rows : List Row) (case : Option Case) (r : Row) → IsTied f o bytes rows case → least ≡ f.scale
+next_takes : (f : Formula) (o : Option Heading) (least : Scale) (bytes : List ℕ) (rows : List Row) (case : Option Case) (r : Row)
+    → IsTied f o bytes rows case → least ≡ f.scale
     → HasRead o least bytes rows → IsNextRow IsARow o rows r → CanKeep case r
 next_takes f None least bytes rows case r t e read next = absurd next
 next_takes f (Some h) least bytes rows None r t e read next = t
@@ -257,7 +279,9 @@ next_takes f (Some h) least bytes rows (Some c) r t e read next =
       subst (λ (rs : List Row). 0 < length rs → last_time 0 rs < r.time) (sym t.1) next.1,
     )
 
-pub can_keep : (f : Formula) (reader : Reader) (case : Option Case) (bytes : List ℕ) (o : Option Heading) (r : Row) (k : IsKept f reader case bytes) → o ≡ reader.heading → IsNextRow IsARow o k.rows r
+-- the next row can be kept
+pub can_keep : (f : Formula) (reader : Reader) (case : Option Case) (bytes : List ℕ) (o : Option Heading) (r : Row)
+    (k : IsKept f reader case bytes) → o ≡ reader.heading → IsNextRow IsARow o k.rows r
     → CanKeep case r
 can_keep f reader case bytes o r k same next =
     next_takes f reader.heading reader.least bytes k.rows case r k.tied k.least k.stands.read (subst (λ o. IsNextRow IsARow o k.rows r) same next)
@@ -269,7 +293,8 @@ with_next f None bytes rows (Some c) r t can = absurd (let k = t in cc)
 with_next f (Some h) bytes rows (Some c) r t can = (record { formula = t.0.formula; bound = t.0.bound }, ap (λ rs. rs ++ r ∷ []) t.1, t.2)
 
 -- what is kept with one row more
-pub kept_row : (f : Formula) (old new : Reader) (case : Option Case) (bytes more : List ℕ) (r : Row) (k : IsKept f old case bytes) → StandsFor new (bytes ++ more) (k.rows ++ r ∷ [])
+pub kept_row : (f : Formula) (old new : Reader) (case : Option Case) (bytes more : List ℕ) (r : Row) (k : IsKept f old case bytes)
+    → StandsFor new (bytes ++ more) (k.rows ++ r ∷ [])
     → new.least ≡ old.least → new.heading ≡ old.heading → CanKeep case r → IsKept f new (option_map (with_row r) case) (bytes ++ more)
 kept_row f old new case bytes more r k s least same can = record {
   rows = k.rows ++ r ∷ [];
@@ -282,21 +307,34 @@ kept_row f old new case bytes more r k s least same can = record {
 
 -- a push of a line's bytes that came to the header
 pub record HeaderStep (f : Formula) (old new : Reader) (rows : List Row) (bytes piece : List ℕ) (k : ℕ) (header : Header) : Type 0 where
+  -- the heading that was read
   pub heading : Heading
+  -- the reader has it now
   pub some : new.heading ≡ Some heading
+  -- it had none before
   pub first : old.heading ≡ None
+  -- the columns
   pub columns : Heading
+  -- the header is made of them
   pub is : header ≡ header_of f.scale columns
+  -- the header's line
   pub line : HasHeaderLine old.limits f.scale (bytes ++ take k piece) new.begun columns
+  -- the reader stands for the bytes so far
   pub stands : StandsFor new (bytes ++ take k piece) rows
+  -- the header's ticks are a scale
   pub ticks : IsScale (scale_of f.scale columns)
+  -- and the rest of the piece is left
   pub left : bytes ++ piece ≡ (bytes ++ take k piece) ++ drop k piece
 
-pub header_step : (f : Formula) (old new : Reader) (case : Option Case) (bytes piece line : List ℕ) (k : ℕ) (event : Event) (header : Header) (kept : IsKept f old case bytes)
+-- a piece that ends the header's line comes to this
+pub header_step : (f : Formula) (old new : Reader) (case : Option Case) (bytes piece line : List ℕ) (k : ℕ) (event : Event)
+    (header : Header) (kept : IsKept f old case bytes)
     → line ≡ through_feed piece → k ≤ length line → event ≡ IsTheHeader → HasCome event old new (take k line)
-    → StandsFor new (bytes ++ take k line) (rows_after event kept.rows new.row) → new.limits ≡ old.limits → new.least ≡ old.least → header_read new ≡ Some header
+    → StandsFor new (bytes ++ take k line) (rows_after event kept.rows new.row) → new.limits ≡ old.limits → new.least ≡ old.least
+    → header_read new ≡ Some header
     → HeaderStep f old new kept.rows bytes piece k header
-header_step f old new case bytes piece line k event header kept one within is came stands limits least read = by_parts (heading_of new.least new.heading header read)
+header_step f old new case bytes piece line k event header kept one within is came stands limits least read =
+    by_parts (heading_of new.least new.heading header read)
   where
     short : k ≤ length (through_feed piece)
     short = subst (λ l. k ≤ length l) one within
@@ -311,7 +349,8 @@ header_step f old new case bytes piece line k event header kept one within is ca
     closed = fed_line k (through_feed piece) (through_line piece) (subst (λ l. EndsWithFeed (take k l)) one here.4)
 
     after : StandsFor new (bytes ++ take k piece) kept.rows
-    after = subst (λ t. StandsFor new (bytes ++ t) kept.rows) same (subst (λ (e : Event). StandsFor new (bytes ++ take k line) (rows_after e kept.rows new.row)) is stands)
+    after = subst (λ t. StandsFor new (bytes ++ t) kept.rows) same
+        (subst (λ (e : Event). StandsFor new (bytes ++ take k line) (rows_after e kept.rows new.row)) is stands)
 
     scale : new.least ≡ f.scale
     scale = least ∙ kept.least
@@ -319,8 +358,10 @@ header_step f old new case bytes piece line k event header kept one within is ca
     by_parts : (h : Heading) × (new.heading ≡ Some h) × (header ≡ header_of new.least h) → HeaderStep f old new kept.rows bytes piece k header
     by_parts (h, some, e) =
         let (w, free, taken) = closed in
-        let (g, agrees, at) = header_came old new bytes (take k piece) w kept.rows kept.rows h kept.stands here.0 after some free (sym (taken_of k piece short) ∙ taken) in
-        let line = subst (λ (s : Scale). HasHeaderLine old.limits s (bytes ++ take k piece) new.begun g) scale (subst (λ (l : Limits). HasHeaderLine l new.least (bytes ++ take k piece) new.begun g) limits at) in
+        let (g, agrees, at) =
+        header_came old new bytes (take k piece) w kept.rows kept.rows h kept.stands here.0 after some free (sym (taken_of k piece short) ∙ taken) in
+        let line = subst (λ (s : Scale). HasHeaderLine old.limits s (bytes ++ take k piece) new.begun g) scale
+        (subst (λ (l : Limits). HasHeaderLine l new.least (bytes ++ take k piece) new.begun g) limits at) in
         record {
           heading = h;
           some = some;
@@ -335,13 +376,18 @@ header_step f old new case bytes piece line k event header kept one within is ca
 
 -- a push of a line's bytes that came to a row
 pub record RowStep (old new : Reader) (case : Option Case) (rows : List Row) (bytes piece : List ℕ) (k : ℕ) : Type 0 where
+  -- the heading stays
   pub same : new.heading ≡ old.heading
+  -- the reader stands for the bytes so far, with the row
   pub stands : StandsFor new (bytes ++ take k piece) (rows ++ new.row ∷ [])
+  -- the row can be kept
   pub can : CanKeep case new.row
 
+-- a piece that ends a row's line comes to this
 pub row_step : (f : Formula) (old new : Reader) (case : Option Case) (bytes piece line : List ℕ) (k : ℕ) (event : Event) (kept : IsKept f old case bytes)
     → take k line ≡ take k piece → event ≡ IsARow → HasCome event old new (take k line)
-    → StandsFor new (bytes ++ take k line) (rows_after event kept.rows new.row) → IsNextRow event new.heading kept.rows new.row → RowStep old new case kept.rows bytes piece k
+    → StandsFor new (bytes ++ take k line) (rows_after event kept.rows new.row) → IsNextRow event new.heading kept.rows new.row
+    → RowStep old new case kept.rows bytes piece k
 row_step f old new case bytes piece line k event kept same is came stands next = record {
   same = here.1;
   stands = subst (λ t. StandsFor new (bytes ++ t) (kept.rows ++ new.row ∷ [])) same

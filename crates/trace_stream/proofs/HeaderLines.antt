@@ -6,7 +6,9 @@ use Rattle.std.proofs.lemmas.List.Elements.{All-head, All-tail}
 use Rattle.stl_syntax.specs.Trace.{Column, Header, Row}
 use Rattle.stl_syntax.specs.WellFormed.{IsScale}
 use Rattle.stl_syntax.specs.declared.scale.Scale.{Scale}
-use Rattle.trace_reader.specs.TraceText.{Line, is_blank_line, fields, Heading, IsHeading, IsDigits, no_digits, with_digits, IsTimeField, time, column, AreColumns, greatest, scale_of, AreTraceLines, blank, heading, none}
+use Rattle.trace_reader.specs.TraceText.{Line, is_blank_line, fields, Heading, IsHeading, IsDigits}
+use Rattle.trace_reader.specs.TraceText.{no_digits, with_digits, IsTimeField, time, column, AreColumns}
+use Rattle.trace_reader.specs.TraceText.{greatest, scale_of, AreTraceLines, blank, heading, none}
 use Rattle.trace_reader.specs.Reader.{header_of, IsBlankSoFar}
 use Rattle.trace_reader.proofs.TraceRefusalLaw.{heading-unique}
 use Rattle.trace_reader.specs.InputFaults.{IsHeaderAt, here, later}
@@ -32,6 +34,7 @@ pub header_stays : {ls : List Line} {n : ℕ} {h : Heading} (more : List Line) �
 header_stays more (here w b k) = here w b k
 header_stays more (later w b p) = later w b (header_stays more p)
 
+-- the header's line is one of the lines
 pub header_within : {ls : List Line} {n : ℕ} {h : Heading} → IsHeaderAt ls n h → (0 < n) × (n ≤ length ls)
 header_within (here w b k) = (omega arith, omega arith)
 header_within (later w b p) = let e = header_within p in (omega arith, omega (arith, e.1))
@@ -49,7 +52,8 @@ no_header (l ∷ ls) all (here w b k) = false≢true (sym b ∙ All-head IsBlank
 no_header (l ∷ ls) all (later w b p) = no_header ls (All-tail IsBlankSoFar l ls all) p
 
 -- after blank lines one line alone is no trace with rows
-pub no_rows_in : (front tail : List Line) {least : Scale} {header : Header} {rows : List Row} → All IsBlank front → length tail ≤ 1 → AreTraceLines least (front ++ tail) header rows → rows ≡ []
+pub no_rows_in : (front tail : List Line) {least : Scale} {header : Header} {rows : List Row} → All IsBlank front
+    → length tail ≤ 1 → AreTraceLines least (front ++ tail) header rows → rows ≡ []
 no_rows_in [] [] all few p = elim p [ ]
 no_rows_in [] (l ∷ []) all few (blank w b more) = elim more [ ]
 no_rows_in [] (l ∷ []) all few (heading h w b k none) = refl
@@ -74,6 +78,7 @@ pub ticks_small : (least : Scale) (fs : List (List ℕ)) (g : Heading) → IsSca
 ticks_small least [] g s h = absurd h
 ticks_small least (f ∷ fs) g s h = record { time = omega (arith, s.time, time_small h.0); value = columns_small fs g.columns g.digits least.value h.1 s.value }
 
+-- and has fields that make a heading
 pub heading_is : {ls : List Line} {n : ℕ} {h : Heading} → IsHeaderAt ls n h → (fs : List (List ℕ)) × IsHeading fs h
 heading_is (here {line = l} w b is) = (fields l, is)
 heading_is (later w b p) = heading_is p

@@ -26,17 +26,21 @@ sound_so_far f reader case bytes k x (inl lack) = by_heading reader.heading k.st
         by_case : (c : Option Case) → IsTied f (Some h) bytes k.rows c → ⊥
         by_case None t = t
         by_case (Some c) t = no_lack t.2 reader.limits false [] x (subst (λ b. IsLack reader.limits f b false x) (sym (append-nil bytes)) lack)
-sound_so_far f reader case bytes k x (inr (known, (r, first, e))) = k.stands.sound r (subst (λ (s : Scale). IsFirstFault bytes false reader.limits s r) (sym k.least) first)
+sound_so_far f reader case bytes k x (inr (known, (r, first, e))) =
+    k.stands.sound r (subst (λ (s : Scale). IsFirstFault bytes false reader.limits s r) (sym k.least) first)
 
 -- what a reader has kept are the rows before the first fault
-pub before_of_kept : (f : Formula) (reader : Reader) (case : Option Case) (bytes : List ℕ) (k : IsKept f reader case bytes) → AreRowsBefore reader.limits f bytes false (option_map (header_of f.scale) reader.heading) k.rows false
+pub before_of_kept : (f : Formula) (reader : Reader) (case : Option Case) (bytes : List ℕ) (k : IsKept f reader case bytes)
+    → AreRowsBefore reader.limits f bytes false (option_map (header_of f.scale) reader.heading) k.rows false
 before_of_kept f reader case bytes k = by_heading reader.heading (subst (λ (s : Scale). HasRead reader.heading s bytes k.rows) k.least k.stands.read)
   where
     clean : (x : Fault) → ¬ IsInputFault reader.limits f bytes false x
     clean = sound_so_far f reader case bytes k
 
-    by_heading : (o : Option Heading) → HasRead o f.scale bytes k.rows → AreRowsBefore reader.limits f bytes false (option_map (header_of f.scale) o) k.rows false
-    by_heading None read = subst (λ rows. AreRowsBefore reader.limits f bytes false None rows false) (sym read.1) (no_header_yet clean (λ n h at. no_header (lines false bytes) read.0 at))
+    by_heading : (o : Option Heading) → HasRead o f.scale bytes k.rows
+        → AreRowsBefore reader.limits f bytes false (option_map (header_of f.scale) o) k.rows false
+    by_heading None read = subst (λ rows. AreRowsBefore reader.limits f bytes false None rows false) (sym read.1)
+        (no_header_yet clean (λ n h at. no_header (lines false bytes) read.0 at))
     by_heading (Some h) read = sound clean read
 
 -- before the first read

@@ -21,6 +21,7 @@ use Rattle.trace_stream.specs.declared.fault.TraceFault.TheVariants.{Unit as InT
 use Rattle.trace_stream.specs.declared.fault.StreamStop.TheVariants.{Fault as Faulty}
 use Rattle.trace_stream.proofs.Columns.{none_unknown, unknown_unscaled, columns_unscaled}
 
+-- the greatest of numbers is no less than the first
 pub greatest_least : (n : ℕ) (xs : List ℕ) → n ≤ greatest n xs
 greatest_least n [] = omega arith
 greatest_least n (x ∷ xs) = omega (arith, greatest_least (max n x) xs)
@@ -39,25 +40,30 @@ module _ (f : Formula) (n : ℕ) (header : Header) (h : Heading) (e : header ≡
       let ticks : IsUnitFault f (scale_of f.scale h) fault = subst (λ (x : Header). IsUnitFault f x.scale fault) e is in
       (unit n fault, refl, inr (λ x u. none_unknown h.columns f columns u.0 u.1 u.2 u.3, (fault, ticks, refl)))
 
-  pub lacks_unit : All (HasColumns header.columns) f.nodes → (fault : UnitFault) → (fault ≡ NoRoom) ⊎ IsUnitFault f header.scale fault → IsNoBegin f n h (stop_of_unit n fault)
+  -- numbers that do not fit the ticks are no begin
+  pub lacks_unit : All (HasColumns header.columns) f.nodes → (fault : UnitFault)
+      → (fault ≡ NoRoom) ⊎ IsUnitFault f header.scale fault → IsNoBegin f n h (stop_of_unit n fault)
   lacks_unit all NoRoom is = tt
   lacks_unit all (Constant i) (inl e) = absurd (let k = e in cc)
   lacks_unit all (Constant i) (inr is) = lacks_ticks all (Constant i) is
   lacks_unit all (Reach i) (inl e) = absurd (let k = e in cc)
   lacks_unit all (Reach i) (inr is) = lacks_ticks all (Reach i) is
 
+  -- nor is a column that the header lacks
   pub lacks_column : (b : BindFault) → IsBindFault header.columns f b → IsNoBegin f n h (stop_of n b)
   lacks_column (UnknownColumn atom term) (name, u) =
       let mine = subst (λ (x : Header). IsUnknown x.columns f atom term name) e u in
       (unknown n atom term name, (name, named_of f h.columns atom term name mine, refl), inl (atom, term, name, mine, refl))
   lacks_column Memory u = tt
 
+  -- nor one that the scaled formula names
   pub lacks_scaled : (g : Formula) → g ≡ scaled f header.scale → (b : BindFault) → IsBindFault header.columns g b → IsNoBegin f n h (stop_of n b)
   lacks_scaled g is (UnknownColumn atom term) (name, u) =
       lacks_column (UnknownColumn atom term)
       (name, unknown_unscaled header.columns f header.scale atom term name (subst (λ (g : Formula). IsUnknown header.columns g atom term name) is u))
   lacks_scaled g is Memory u = tt
 
+  -- a header that has all is a begin
   pub begun : (c : Case) → c.trace ≡ record { header = header; rows = [] } → c.formula ≡ scaled f header.scale → IsBound c.bound c.formula header
       → All (HasColumns header.columns) c.formula.nodes → ((u : UnitFault) → ¬ IsUnitFault f header.scale u) → IsBegun f n h c
   begun c trace formula bound all fits = record {
@@ -73,7 +79,8 @@ module _ (f : Formula) (n : ℕ) (header : Header) (h : Heading) (e : header ≡
       columns = columns_unscaled header.columns _ _ f.nodes (subst (λ (g : Formula). All (HasColumns header.columns) g.nodes) formula all)
 
       none : (x : Fault) → ¬ IsLacking f n h x
-      none x (inl (atom, term, name, u, is)) = none_unknown header.columns f columns atom term name (subst (λ (y : Header). IsUnknown y.columns f atom term name) (sym e) u)
+      none x (inl (atom, term, name, u, is)) =
+          none_unknown header.columns f columns atom term name (subst (λ (y : Header). IsUnknown y.columns f atom term name) (sym e) u)
       none x (inr (known, (fault, u, is))) = fits fault (subst (λ (y : Header). IsUnitFault f y.scale fault) (sym e) u)
 
 -- a formula that was scaled has no numbers that do not fit

@@ -21,7 +21,8 @@ none_of : {T : Type 0} (o : Option T) → is_some o ≡ false → o ≡ None
 none_of None e = refl
 none_of (Some c) e = absurd (false≢true (sym e))
 
-header_is : (f : Formula) (r : Reader) (header : Header) → HasHeader f r → header_read r ≡ Some header → (h : Heading) → r.heading ≡ Some h → header ≡ header_of f.scale h
+header_is : (f : Formula) (r : Reader) (header : Header) → HasHeader f r → header_read r ≡ Some header → (h : Heading)
+    → r.heading ≡ Some h → header ≡ header_of f.scale h
 header_is f r header has read h some =
     let (g, found, is) = heading_of r.least r.heading header read in
     let same : g ≡ h = (let e = sym found ∙ some in cc) in
@@ -37,10 +38,13 @@ module _ {T : Type 0} (f : Formula) (reader : Reader) (case : Option T) (r : Tra
   with_case some = own (λ none. absurd (false≢true (subst (λ o. is_some o ≡ true) none some)))
 
   module _ (header : Header) (has : r.kind ≡ NoRows → HasHeader f reader) (read : header_read reader ≡ Some header) (end : r.kind ≡ NoRows) where
-    pub lacking_header : is_some case ≡ false → (stop : StreamStop) → ((h : Heading) → header ≡ header_of f.scale h → IsNoBegin f r.line h stop) → IsLastFault f reader case r stop
+    -- a header without rows that lacks something is told so at the end
+    pub lacking_header : is_some case ≡ false → (stop : StreamStop)
+        → ((h : Heading) → header ≡ header_of f.scale h → IsNoBegin f r.line h stop) → IsLastFault f reader case r stop
     lacking_header none stop no_begin =
         let k = has end in
         of_header k.heading (none_of case none) end k.read (no_begin k.heading (header_is f reader header k read k.heading k.read))
 
+    -- and one that lacks nothing is told of no rows
     pub fitting_header : (c : Case) → ((h : Heading) → header ≡ header_of f.scale h → IsBegun f r.line h c) → IsLastFault f reader case r (Faulty (InTrace r))
     fitting_header c begun = own (λ none e h some x lacks. (begun h (header_is f reader header (has end) read h some)).fits x lacks)

@@ -1,5 +1,6 @@
 -- A reader of a trace with what follows its rows: what each of its steps comes to.
-use Rattle.std.proofs.Common.{◌≡◌, inl, inr, ℕ, ◌-◌, Bool, true, false, List, [], ◌++◌, take, drop, refl, sym, ap, ◌∙◌, subst, arith, append-nil, append_assoc, take-append-drop, Option, Some, None, Result, Ok, Err}
+use Rattle.std.proofs.Common.{◌≡◌, inl, inr, ℕ, ◌-◌, Bool, true, false, List, [], ◌++◌, take, drop, refl, sym, ap, ◌∙◌, subst}
+use Rattle.std.proofs.Common.{arith, append-nil, append_assoc, take-append-drop, Option, Some, None, Result, Ok, Err}
 use Rattle.std.specs.Prelude.{MatchOption, MatchResult, IfOk, IfErr, option_map, All}
 use Rattle.std.proofs.lemmas.List.{length-take-le}
 use Rattle.stl_syntax.specs.Formula.{Formula, root}
@@ -16,7 +17,8 @@ use Rattle.trace_stream.specs.Streams.{Stream, StreamText, StreamOf}
 use Rattle.trace_reader.specs.InputFaults.{Fault, of_trace, line_of, IsHeaderAt, IsLack, IsInputFault, faulted, faulted_header}
 use Rattle.trace_stream.specs.Cases.{IsCase, IsLacking, IsNoBegin, IsHeaderOf, with_row}
 use Rattle.trace_stream.specs.Reading.{IsWhole, IsKept, IsTied, IsRefused, IsEnded, IsLastFault, of_header, own}
-use Rattle.trace_stream.specs.Following.{Follows, IsTextOf, IsFollowed, IsOpened, IsComplete, IsEndedOut, IsHeldUp, IsLive, IsLiveOpen, IsLastTaken, IsOver, IsLiveStop, IsOpenStop}
+use Rattle.trace_stream.specs.Following.{Follows, IsTextOf, IsFollowed, IsOpened, IsComplete, IsEndedOut, IsHeldUp}
+use Rattle.trace_stream.specs.Following.{IsLive, IsLiveOpen, IsLastTaken, IsOver, IsLiveStop, IsOpenStop}
 use Rattle.trace_stream.specs.declared.case.Case.{Case}
 use Rattle.trace_stream.specs.declared.follow.FollowFault.TheVariants as follow
 use Rattle.trace_stream.specs.declared.live.Live.{Live}
@@ -43,9 +45,18 @@ pub none_before_lack : (limits : Limits) (f : Formula) (bytes : List ℕ) (ended
     → ¬ IsHeaderAt (take (line_of x - 1) (lines ended bytes)) m g
 none_before_lack limits f bytes ended x (n, h, at, lacking, clean) m g there =
     let line = line_is lacking in
-    let all = subst (λ ls. IsHeaderAt ls m g) (take-append-drop (line_of x - 1) (lines ended bytes)) (header_stays (drop (line_of x - 1) (lines ended bytes)) there) in
+    let all = subst (λ ls. IsHeaderAt ls m g) (take-append-drop (line_of x - 1) (lines ended bytes))
+    (header_stays (drop (line_of x - 1) (lines ended bytes)) there) in
     let same = (header_once all at).0 in
-    omega (arith, line, same, (header_within there).1, (header_within at).1, (header_within at).0, length-take-le (line_of x - 1) (lines ended bytes) (omega (arith, line, (header_within at).1)))
+    omega (
+      arith,
+      line,
+      same,
+      (header_within there).1,
+      (header_within at).1,
+      (header_within at).0,
+      length-take-le (line_of x - 1) (lines ended bytes) (omega (arith, line, (header_within at).1)),
+    )
   where
     line_is : IsLacking f n h x → line_of x ≡ n
     line_is (inl (atom, term, name, is, e)) = ap line_of e
@@ -64,8 +75,10 @@ module _ {F : Type 0} (Stands Owes : F → Case → List ℕ → Type 0) (kind :
   open_of (Some x) None made t = t
   open_of (Some x) (Some c) made t = inl t
 
+  -- a reader whose text is all made owes nothing
   pub live_open : (live : Live F) (bytes written : List ℕ) → IsLive Stands kind live bytes written → IsLiveOpen Stands Owes kind live bytes written
-  live_open live bytes written k = record { served = k.served; case = k.case; kept = k.kept; followed = open_of live.follower k.case (written ++ live.text) k.followed }
+  live_open live bytes written k =
+      record { served = k.served; case = k.case; kept = k.kept; followed = open_of live.follower k.case (written ++ live.text) k.followed }
 
   -- the bytes to read next, by what follows the rows
   pub next_of : (follower : Option F) (case : Option Case) (made piece line : List ℕ) → IsOpened Stands Owes kind follower case made
@@ -76,7 +89,8 @@ module _ {F : Type 0} (Stands Owes : F → Case → List ℕ → Type 0) (kind :
   next_of (Some x) (Some c) made piece line t m = m
 
   -- nothing was made before the header
-  pub none_open : (follower : Option F) (f : Formula) (o : Option Heading) (bytes : List ℕ) (rows : List Row) (case : Option Case) (made : List ℕ) → IsTied f o bytes rows case → o ≡ None
+  pub none_open : (follower : Option F) (f : Formula) (o : Option Heading) (bytes : List ℕ) (rows : List Row) (case : Option Case)
+      (made : List ℕ) → IsTied f o bytes rows case → o ≡ None
       → IsOpened Stands Owes kind follower case made → made ≡ []
   none_open None f o bytes rows None made tied e t = t
   none_open (Some x) f o bytes rows None made tied e t = absurd t
@@ -87,17 +101,22 @@ module _ {F : Type 0} (Stands Owes : F → Case → List ℕ → Type 0) (kind :
 
 module _ {F : Type 0} (Stands : F → Case → List ℕ → Type 0) (kind : Stream) where
   -- nothing was made before the header
-  pub none_made : (follower : Option F) (f : Formula) (o : Option Heading) (bytes : List ℕ) (rows : List Row) (case : Option Case) (made : List ℕ) → IsTied f o bytes rows case → o ≡ None
+  pub none_made : (follower : Option F) (f : Formula) (o : Option Heading) (bytes : List ℕ) (rows : List Row) (case : Option Case)
+      (made : List ℕ) → IsTied f o bytes rows case → o ≡ None
       → IsFollowed Stands kind follower case made → made ≡ []
-  none_made follower f o bytes rows case made tied e t = none_open Stands Stands kind follower f o bytes rows case made tied e (open_of Stands Stands kind follower case made t)
+  none_made follower f o bytes rows case made tied e t =
+      none_open Stands Stands kind follower f o bytes rows case made tied e (open_of Stands Stands kind follower case made t)
 
   -- the text of the rows of a case is that of the stream
-  pub text_of_case : (f : Formula) (x : F) (c : Case) (made : List ℕ) → IsCase f c → Follows (Stands x) kind c made → StreamOf kind f (Some c.trace.header) c.trace.rows false made
+  pub text_of_case : (f : Formula) (x : F) (c : Case) (made : List ℕ) → IsCase f c → Follows (Stands x) kind c made
+      → StreamOf kind f (Some c.trace.header) c.trace.rows false made
   text_of_case f x c made fits told = subst (λ (g : Formula). StreamText kind (root g.nodes) c.trace.header c.trace.rows false made) fits.formula told.told
 
   -- the rows before a line that was refused
-  pub text_before : (f : Formula) (r : Reader) (follower : Option F) (case : Option Case) (bytes all made : List ℕ) (ended : Bool) (x : Fault) (k : IsKept f r case bytes)
-      → HoldLines r.heading f.scale (take (line_of x - 1) (lines ended all)) k.rows → IsInputFault r.limits f all ended x → IsFollowed Stands kind follower case made
+  pub text_before : (f : Formula) (r : Reader) (follower : Option F) (case : Option Case) (bytes all made : List ℕ) (ended : Bool)
+      (x : Fault) (k : IsKept f r case bytes)
+      → HoldLines r.heading f.scale (take (line_of x - 1) (lines ended all)) k.rows → IsInputFault r.limits f all ended x
+      → IsFollowed Stands kind follower case made
       → IsTextOf kind r.limits f all ended made
   text_before f r follower case bytes all made ended x k hold fault t = by_heading r.heading refl k.tied hold t
     where
@@ -121,24 +140,28 @@ module _ {F : Type 0} (Stands : F → Case → List ℕ → Type 0) (kind : Stre
           by_none (Some y) t = absurd t
       by_heading (Some h) e tied lines_are t = by_case case follower tied t
         where
-          by_case : (case : Option Case) (follower : Option F) → IsTied f (Some h) bytes k.rows case → IsFollowed Stands kind follower case made → IsTextOf kind r.limits f all ended made
+          by_case : (case : Option Case) (follower : Option F) → IsTied f (Some h) bytes k.rows case
+              → IsFollowed Stands kind follower case made → IsTextOf kind r.limits f all ended made
           by_case None o tied t = absurd tied
           by_case (Some c) None tied t = absurd t
           by_case (Some c) (Some y) (fits, rows, header) t = record {
             header = Some c.trace.header;
             rows = c.trace.rows;
             whole = false;
-            before = faulted x fault (subst (λ (z : Header). AreTraceLines f.scale (take (line_of x - 1) (lines ended all)) z c.trace.rows) (sym (told_header h e c.trace.header header))
+            before = faulted x fault (subst (λ (z : Header). AreTraceLines f.scale (take (line_of x - 1) (lines ended all)) z c.trace.rows)
+                (sym (told_header h e c.trace.header header))
                 (subst (λ rs. AreTraceLines f.scale (take (line_of x - 1) (lines ended all)) (header_of f.scale h) rs) (sym rows) lines_are));
             is = text_of_case f y c made fits t;
           }
 
   -- what was made is the text of the rows that were kept
-  pub told_of_kept : (f : Formula) (r : Reader) (follower : Option F) (case : Option Case) (bytes made : List ℕ) (k : IsKept f r case bytes) → IsFollowed Stands kind follower case made
+  pub told_of_kept : (f : Formula) (r : Reader) (follower : Option F) (case : Option Case) (bytes made : List ℕ)
+      (k : IsKept f r case bytes) → IsFollowed Stands kind follower case made
       → StreamOf kind f (option_map (header_of f.scale) r.heading) k.rows false made
   told_of_kept f r follower case bytes made k t = by_heading r.heading refl k.tied case follower refl k.tied t
     where
-      by_heading : (o : Option Heading) → r.heading ≡ o → IsTied f r.heading bytes k.rows case → (c : Option Case) (x : Option F) → case ≡ c → IsTied f o bytes k.rows c → IsFollowed Stands kind x c made
+      by_heading : (o : Option Heading) → r.heading ≡ o → IsTied f r.heading bytes k.rows case → (c : Option Case) (x : Option F)
+          → case ≡ c → IsTied f o bytes k.rows c → IsFollowed Stands kind x c made
           → StreamOf kind f (option_map (header_of f.scale) o) k.rows false made
       by_heading None e u c x same tied t = none_made x f None bytes k.rows c made tied refl t
       by_heading (Some h) e u None x same tied t = absurd tied
@@ -146,10 +169,12 @@ module _ {F : Type 0} (Stands : F → Case → List ℕ → Type 0) (kind : Stre
       by_heading (Some h) e u (Some c) (Some y) same (fits, rows, header) t =
           let is = same_header header false h (subst (λ (s : Scale). AreTraceLines s (lines false bytes) (header_of s h) k.rows) k.least
           (subst (λ o. HasRead o r.least bytes k.rows) e k.stands.read)) in
-          subst (λ (z : Header). StreamOf kind f (Some z) k.rows false made) is (subst (λ rs. StreamOf kind f (Some c.trace.header) rs false made) rows (text_of_case f y c made fits t))
+          subst (λ (z : Header). StreamOf kind f (Some z) k.rows false made) is
+          (subst (λ rs. StreamOf kind f (Some c.trace.header) rs false made) rows (text_of_case f y c made fits t))
 
   -- the fault that the reader ended with, by what follows the rows
-  pub last_by_case : (f : Formula) (r : Reader) (follower : Option F) (case : Option Case) (made : List ℕ) (x : TraceRefusal) (stop : StreamStop) → IsFollowed Stands kind follower case made
+  pub last_by_case : (f : Formula) (r : Reader) (follower : Option F) (case : Option Case) (made : List ℕ) (x : TraceRefusal)
+      (stop : StreamStop) → IsFollowed Stands kind follower case made
       → IsLastFault f r follower x stop → IsLastFault f r case x stop
   last_by_case f r None None made x stop t (of_header h none kind_is read no_begin) = of_header h refl kind_is read no_begin
   last_by_case f r None None made x stop t (own fits) = own (λ none. fits refl)
@@ -159,9 +184,11 @@ module _ {F : Type 0} (Stands : F → Case → List ℕ → Type 0) (kind : Stre
   last_by_case f r (Some y) (Some c) made x stop t (own fits) = own (λ none. absurd (let j = none in cc))
 
   -- all bytes were refused at their end
-  pub live_end_refused : (f : Formula) (r : Reader) (follower : Option F) (case : Option Case) (bytes made : List ℕ) (k : IsKept f r case bytes) (stop : StreamStop) → IsFollowed Stands kind follower case made
+  pub live_end_refused : (f : Formula) (r : Reader) (follower : Option F) (case : Option Case) (bytes made : List ℕ)
+      (k : IsKept f r case bytes) (stop : StreamStop) → IsFollowed Stands kind follower case made
       → IsRefused r.limits f true bytes stop → IsLiveStop kind r.limits f true bytes made stop
-  live_end_refused f r follower case bytes made k (Faulty fault) t (x, is, input) = (x, is, input, by_end (before_end r.limits f bytes (before_of_kept f r case bytes k) (sound_so_far f r case bytes k) x input))
+  live_end_refused f r follower case bytes made k (Faulty fault) t (x, is, input) =
+      (x, is, input, by_end (before_end r.limits f bytes (before_of_kept f r case bytes k) (sound_so_far f r case bytes k) x input))
     where
       told : StreamOf kind f (option_map (header_of f.scale) r.heading) k.rows false made
       told = told_of_kept f r follower case bytes made k t
@@ -169,25 +196,35 @@ module _ {F : Type 0} (Stands : F → Case → List ℕ → Type 0) (kind : Stre
       by_end : BeforeEnd r.limits f bytes (option_map (header_of f.scale) r.heading) k.rows → IsTextOf kind r.limits f bytes true made
       by_end (the_same before) = record { header = option_map (header_of f.scale) r.heading; rows = k.rows; whole = false; before = before; is = told }
       by_end (no_rows_there none before) =
-          record { header = None; rows = []; whole = false; before = before; is = no_rows_no_text kind f (option_map (header_of f.scale) r.heading) k.rows made none told }
+          record {
+            header = None;
+            rows = [];
+            whole = false;
+            before = before;
+            is = no_rows_no_text kind f (option_map (header_of f.scale) r.heading) k.rows made none told;
+          }
   live_end_refused f r follower case bytes made k NoMemory t is = tt
   live_end_refused f r follower case bytes made k (Wide i den) t is = absurd is
 
   -- the case of all bytes
-  pub last_taken : (limits : Limits) (f : Formula) (follower : Option F) (case : Option Case) (bytes made : List ℕ) → MatchOption case ⊥ (IsEnded limits f bytes) → IsFollowed Stands kind follower case made
+  pub last_taken : (limits : Limits) (f : Formula) (follower : Option F) (case : Option Case) (bytes made : List ℕ)
+      → MatchOption case ⊥ (IsEnded limits f bytes) → IsFollowed Stands kind follower case made
       → IsLastTaken Stands kind limits f follower bytes made
   last_taken limits f follower None bytes made e t = absurd e
   last_taken limits f follower (Some c) bytes made e t = record { case = c; fits = e.case; trace = e.whole; followed = t }
 
   -- so with one row more, once its text was made
-  pub last_row : (limits : Limits) (f : Formula) (bytes written old new : List ℕ) (follower : Option F) (case : Option Case) (row : Row) (r : Result (Unit {0}) StreamStop)
-      → IfOk r (λ _. (grown : List ℕ) × (new ≡ old ++ grown) × IsFollowed Stands kind follower (option_map (with_row row) case) ((written ++ old) ++ grown)) → IfErr r (λ e. e ≡ NoMemory)
+  pub last_row : (limits : Limits) (f : Formula) (bytes written old new : List ℕ) (follower : Option F) (case : Option Case)
+      (row : Row) (r : Result (Unit {0}) StreamStop)
+      → IfOk r (λ _. (grown : List ℕ) × (new ≡ old ++ grown) × IsFollowed Stands kind follower (option_map (with_row row) case) ((written ++ old) ++ grown))
+      → IfErr r (λ e. e ≡ NoMemory)
       → MatchOption (option_map (with_row row) case) ⊥ (IsEnded limits f bytes)
       → MatchResult r (λ _. IsLastTaken Stands kind limits f follower bytes (written ++ new)) (λ e. IsLiveStop kind limits f true bytes (written ++ new) e)
   last_row limits f bytes written old new follower case row (Ok x) (grown, e, t) none ended =
       last_taken limits f follower (option_map (with_row row) case) bytes (written ++ new) ended
       (subst (λ made. IsFollowed Stands kind follower (option_map (with_row row) case) made) (sym (more_text written old new grown e)) t)
-  last_row limits f bytes written old new follower case row (Err e) ok none ended = subst (λ (s : StreamStop). IsLiveStop kind limits f true bytes (written ++ new) s) (sym none) tt
+  last_row limits f bytes written old new follower case row (Err e) ok none ended =
+      subst (λ (s : StreamStop). IsLiveStop kind limits f true bytes (written ++ new) s) (sym none) tt
 
   -- and where that row was not taken
   pub last_held : (limits : Limits) (f : Formula) (bytes written old new : List ℕ) (before : Option F) (case : Option Case) (row : Row) (e : StreamStop)
@@ -219,13 +256,17 @@ module _ {F : Type 0} (Stands Owes : F → Case → List ℕ → Type 0) (kind :
       left None e = let (others, p) = through_parts piece in (others, p ∙ ap (λ l. l ++ others) (sym e))
       left (Some c) e = ([], sym (append-nil line ∙ e))
 
-      held : (more : List ℕ) × (piece ≡ line ++ more) → HoldLines live.rows.heading live.formula.scale (take (x.line - 1) (lines false (bytes ++ piece))) k.kept.rows
+      held : (more : List ℕ) × (piece ≡ line ++ more)
+          → HoldLines live.rows.heading live.formula.scale (take (x.line - 1) (lines false (bytes ++ piece))) k.kept.rows
       held (more, e) =
-          subst (λ b. HoldLines live.rows.heading live.formula.scale (take (x.line - 1) (lines false b)) k.kept.rows) (append_assoc bytes line more ∙ ap (λ p. bytes ++ p) (sym e))
-          (subst (λ (s : Scale). HoldLines live.rows.heading s (take (x.line - 1) (lines false ((bytes ++ line) ++ more))) k.kept.rows) k.kept.least (before more false))
+          subst (λ b. HoldLines live.rows.heading live.formula.scale (take (x.line - 1) (lines false b)) k.kept.rows)
+          (append_assoc bytes line more ∙ ap (λ p. bytes ++ p) (sym e))
+          (subst (λ (s : Scale). HoldLines live.rows.heading s (take (x.line - 1) (lines false ((bytes ++ line) ++ more))) k.kept.rows)
+          k.kept.least (before more false))
 
   -- the header that came lacks something
-  pub live_lacks : (live : Live F) (old new : Reader) (rows : List Row) (bytes written piece : List ℕ) (at : ℕ) (header : Header) (stop : StreamStop) → live.rows ≡ old
+  pub live_lacks : (live : Live F) (old new : Reader) (rows : List Row) (bytes written piece : List ℕ) (at : ℕ) (header : Header)
+      (stop : StreamStop) → live.rows ≡ old
       → (s : HeaderStep live.formula old new rows bytes piece at header) → IsNoBegin live.formula new.begun s.columns stop
       → (follower : Option F) (case : Option Case) (text : List ℕ) → IsTied live.formula old.heading bytes rows case → old.heading ≡ None
       → IsOpened Stands Owes kind follower case text
@@ -236,7 +277,8 @@ module _ {F : Type 0} (Stands Owes : F → Case → List ℕ → Type 0) (kind :
         s.columns,
         subst (λ b. IsHeaderAt (lines false b) new.begun s.columns) (sym s.left) (s.line.at false (drop at piece)),
         lacking,
-        λ r fault. s.line.clean false (drop at piece) r (subst (λ (l : Limits). FaultFrom l live.formula.scale false 1 (take new.begun (lines false ((bytes ++ take at piece) ++ drop at piece))) r) (ap (λ (q : Reader). q.limits) e)
+        λ r fault. s.line.clean false (drop at piece) r (subst (λ (l : Limits). FaultFrom l live.formula.scale false 1
+            (take new.begun (lines false ((bytes ++ take at piece) ++ drop at piece))) r) (ap (λ (q : Reader). q.limits) e)
             (subst (λ b. FaultFrom live.rows.limits live.formula.scale false 1 (take new.begun (lines false b)) r) s.left fault)),
       ) in (
         y,
@@ -264,8 +306,10 @@ module _ {F : Type 0} (Stands Owes : F → Case → List ℕ → Type 0) (kind :
       (append_assoc bytes (take at piece) (drop at piece) ∙ ap (λ p. bytes ++ p) (take-append-drop at piece)) h
 
   -- a row was not taken, for a fault of what follows the rows
-  pub open_held : (limits : Limits) (f : Formula) (ended : Bool) (bytes : List ℕ) (case : Option Case) (last : Bool) (old new : List ℕ) (follower : Option F) (text : List ℕ) (stop : StreamStop)
-      → IsHeldUp kind case last old new stop → IsLiveStop kind limits f ended bytes text stop → IsOpenStop Stands Owes kind limits f ended bytes follower text stop
+  pub open_held : (limits : Limits) (f : Formula) (ended : Bool) (bytes : List ℕ) (case : Option Case) (last : Bool)
+      (old new : List ℕ) (follower : Option F) (text : List ℕ) (stop : StreamStop)
+      → IsHeldUp kind case last old new stop → IsLiveStop kind limits f ended bytes text stop
+      → IsOpenStop Stands Owes kind limits f ended bytes follower text stop
   open_held limits f ended bytes None last old new follower text stop held is = absurd held
   open_held limits f ended bytes (Some c) last old new follower text stop (follow.Memory, same, why, none) is =
       subst (λ (s : StreamStop). IsOpenStop Stands Owes kind limits f ended bytes follower text s) (sym same) tt
@@ -274,7 +318,8 @@ module _ {F : Type 0} (Stands Owes : F → Case → List ℕ → Type 0) (kind :
       (subst (λ (s : StreamStop). IsLiveStop kind limits f ended bytes text s) same is)
 
   -- what is owed was made
-  pub open_flushed : (mid : Live F) (bytes written new grown : List ℕ) (after : Option F) → (k : IsLiveOpen Stands Owes kind mid bytes written) → new ≡ mid.text ++ grown
+  pub open_flushed : (mid : Live F) (bytes written new grown : List ℕ) (after : Option F)
+      → (k : IsLiveOpen Stands Owes kind mid bytes written) → new ≡ mid.text ++ grown
       → IsFollowed Stands kind after k.case ((written ++ mid.text) ++ grown)
       → IsLive Stands kind (record mid { follower = after; text = new }) bytes written
   open_flushed mid bytes written new grown after k e t = record {
@@ -313,7 +358,8 @@ module _ {F : Type 0} (Stands Owes : F → Case → List ℕ → Type 0) (kind :
   )
 
 -- the end was taken
-pub over_of : {F : Type 0} (Stands Ended : F → Case → List ℕ → Type 0) (kind : Stream) (limits : Limits) (f : Formula) (before : Option F) (live : Live F) (bytes written old : List ℕ) (case : Case)
+pub over_of : {F : Type 0} (Stands Ended : F → Case → List ℕ → Type 0) (kind : Stream) (limits : Limits) (f : Formula)
+    (before : Option F) (live : Live F) (bytes written old : List ℕ) (case : Case)
     (r : Result Bool StreamStop) → IsCase f case → IsWhole limits f bytes case.trace → IsFollowed Stands kind before (Some case) (written ++ old)
     → IfOk r (IsEndedOut Ended kind live.follower case old live.text (written ++ old)) → IfErr r (IsHeldUp kind (Some case) true old live.text)
     → MatchResult r (IsOver Ended kind limits f live bytes (written ++ live.text)) (λ e. IsLiveStop kind limits f true bytes (written ++ live.text) e)

@@ -14,11 +14,13 @@ use Rattle.report.proofs.StreamTexts.{IsLonger, IsOneText, by_test, rows_once, r
 
 -- the lines of robustness after an old front
 abbrev IsOpenText : Subformula → Trace → ℤ → ℤ → List ℕ → Type 0
-IsOpenText p tr old new text = (k : Knot) × (pieces : List Piece) × TellsLeftOpen p tr (whole old) (whole new) k pieces × ArePieceLines tr.header.scale k pieces text
+IsOpenText p tr old new text = (k : Knot) × (pieces : List Piece) × TellsLeftOpen p tr (whole old) (whole new) k pieces
+    × ArePieceLines tr.header.scale k pieces text
 
 open_once : (p : Subformula) (tr : Trace) (old new : ℤ) (x y : List ℕ) → IsOpenText p tr old new x → IsOpenText p tr old new y → x ≡ y
 open_once p tr old new x y (k, pieces, (at, tells), lines) (l, others, (at', tells'), lines') =
-    let times = same_trans at (same_sym at') in pieces_once tr.header.scale k l pieces others x y times (after_once p tr _ k l pieces others times tells tells') lines lines'
+    let times = same_trans at (same_sym at') in
+    pieces_once tr.header.scale k l pieces others x y times (after_once p tr _ k l pieces others times tells tells') lines lines'
 
 -- the lines of robustness that a row answers
 pub new_margins_once : (p : Subformula) → IsOneText (IsNewMargins p)
@@ -28,12 +30,14 @@ new_margins_once p tr None (Some new) x y (ks, a, lines) (ls, b, others) =
 new_margins_once p tr (Some old) (Some new) x y a b = by_test (IsOpenText p tr old new) (int_lt old new) x y (open_once p tr old new x y) a b
 
 -- so is the text of a stream
-pub margin_stream_once : (p : Subformula) (header : Header) (rows : List Row) (ended : Bool) (x y : List ℕ) → IsMarginStream p header rows ended x → IsMarginStream p header rows ended y → x ≡ y
+pub margin_stream_once : (p : Subformula) (header : Header) (rows : List Row) (ended : Bool) (x y : List ℕ)
+    → IsMarginStream p header rows ended x → IsMarginStream p header rows ended y → x ≡ y
 margin_stream_once p header rows false x y a b = rows_once (new_margins_once p) p header [] None rows x y a b
 margin_stream_once p header rows true x y (_, (during, rest, a, b, is)) (_, (during', rest', a', b', is')) =
     is ∙ ap (λ t. t ++ rest) (rows_once (new_margins_once p) p header [] None rows during during' a a')
     ∙ ap (λ t. during' ++ t) (rest_once (new_margins_once p) p header (record { header = header; rows = rows }) rest rest' b b') ∙ sym is'
 
+-- rows more make the text of margins longer
 pub margin_stream_grows : (p : Subformula) (header : Header) (rows beyond : List Row) (ended : Bool) (x y : List ℕ) → IsMarginStream p header rows false x
     → IsMarginStream p header (rows ++ beyond) ended y → IsLonger x y
 margin_stream_grows p header rows beyond false x y a b = rows_grow (new_margins_once p) p header [] None rows beyond x y a b

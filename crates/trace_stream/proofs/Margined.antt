@@ -1,5 +1,6 @@
 -- What follows the rows of a case by a network of margins: from what the network's calls answer to the text of a stream.
-use Rattle.std.proofs.Common.{◌≡◌, inl, inr, ℕ, ◌<◌, Bool, true, false, List, [], ◌∷◌, ◌++◌, length, map, refl, sym, ap, ◌∙◌, subst, arith, append-nil, append_assoc, None}
+use Rattle.std.proofs.Common.{◌≡◌, inl, inr, ℕ, ◌<◌, Bool, true, false, List, [], ◌∷◌, ◌++◌, length}
+use Rattle.std.proofs.Common.{map, refl, sym, ap, ◌∙◌, subst, arith, append-nil, append_assoc, None}
 use Rattle.std.specs.Prelude.{◌≢◌, IfSome}
 use Rattle.std.proofs.lemmas.Bool.{false≢true}
 use Rattle.frac128.specs.Value.{value}
@@ -155,7 +156,8 @@ module _ (m : Margins) (c : Case) (made : List ℕ) (w : IsMargined false m c ma
       }
 
 -- the text of all that was given is that of the stream
-told : (f : Formula) (c : Case) (ended : Bool) (m : Margins) (made : List ℕ) → IsCase f c → (ended ≡ true → AreRows (length c.trace.header.columns) c.trace.rows)
+told : (f : Formula) (c : Case) (ended : Bool) (m : Margins) (made : List ℕ) → IsCase f c
+    → (ended ≡ true → AreRows (length c.trace.header.columns) c.trace.rows)
     → IsMargined ended m c made → IsMarginStream (root c.formula.nodes) c.trace.header c.trace.rows ended made
 told f c ended m made is some w =
     stream_text (root c.formula.nodes) c.trace.header c.trace.rows ended (map part_of w.given) made some w.emitted

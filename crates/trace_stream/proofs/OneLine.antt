@@ -1,5 +1,6 @@
 -- Bytes of one line at most.
-use Rattle.std.proofs.Common.{◌≡◌, ◌⊎◌, inl, inr, ℕ, ◌<◌, ◌≤◌, Bool, false, List, [], ◌∷◌, ◌++◌, length, take, drop, refl, sym, ap, ◌∙◌, subst, arith, append_assoc, append-nil, take-append-drop, length-append}
+use Rattle.std.proofs.Common.{◌≡◌, ◌⊎◌, inl, inr, ℕ, ◌<◌, ◌≤◌, Bool, false, List, [], ◌∷◌, ◌++◌, length, take, drop, refl}
+use Rattle.std.proofs.Common.{sym, ap, ◌∙◌, subst, arith, append_assoc, append-nil, take-append-drop, length-append}
 use Rattle.std.proofs.lemmas.Bool.{cases_eq, eq-eqb, ne_eqb}
 use Rattle.std.proofs.lemmas.List.{take-append-le, take_all}
 use Rattle.std.proofs.lemmas.List.Elements.{All-nil, All-cons, All-head, All-tail, All-append, All-take}
@@ -16,6 +17,7 @@ IsNoFeed c = c ≡ 10 → ⊥
 abbrev pub IsOneLine : List ℕ → Type 0
 IsOneLine t = HasNoFeed t ⊎ ((w : List ℕ) × HasNoFeed w × (t ≡ w ++ 10 ∷ []))
 
+-- bytes up to their first LF are one line
 pub through_line : (p : List ℕ) → IsOneLine (through_feed p)
 through_line [] = inl (All-nil IsNoFeed)
 through_line (x ∷ p) = by_test (through_line p) (cases_eq x 10)
@@ -36,7 +38,8 @@ free_few e xs free = subst (λ ls. length ls ≤ 1) (sym (lines-rest e xs free))
 pub closed_line : (e : Bool) (a w : List ℕ) → HasNoFeed a → HasNoFeed w → lines e (a ++ (w ++ 10 ∷ [])) ≡ done (a ++ w) ∷ []
 closed_line e a w p q =
     ap (lines e) (sym (append_assoc a w (10 ∷ []))) ∙ lines-append e (a ++ w) []
-    ∙ ap (λ ls. lines false ((a ++ w) ++ 10 ∷ []) ++ ls) (lines-nil e) ∙ append-nil (lines false ((a ++ w) ++ 10 ∷ [])) ∙ lines-line (a ++ w) (All-append IsNoFeed a w p q)
+    ∙ ap (λ ls. lines false ((a ++ w) ++ 10 ∷ []) ++ ls) (lines-nil e) ∙ append-nil (lines false ((a ++ w) ++ 10 ∷ []))
+    ∙ lines-line (a ++ w) (All-append IsNoFeed a w p q)
 
 -- after the bytes of an unfinished line they are one line
 pub one_at_most : (e : Bool) (a t : List ℕ) → HasNoFeed a → IsOneLine t → length (lines e (a ++ t)) ≤ 1

@@ -35,6 +35,7 @@ module _ (v : Verdicts) (c : Case) (made : List ℕ) where
   open_width (inl k) r t = fits_width v c k.stands r t
   open_width (inr o) r t = t.0 ∙ sym o.stands.holds.bound.width
 
+  -- the next row comes after the network's last
   pub open_time : IsOpened → (r : Row) → Takes r c.trace → IfSome v.network.net.last (λ (l : Row). l.time < r.time)
   open_time (inl k) r t = fits_time v c k.stands r t
   open_time (inr o) r t =

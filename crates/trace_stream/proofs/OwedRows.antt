@@ -9,12 +9,14 @@ use Rattle.trace_stream.specs.Streams.{Stream, verdicts, early, margins, limits_
 use Rattle.trace_stream.proofs.MarginTexts.{margin_stream_once, margin_stream_grows}
 use Rattle.trace_stream.proofs.RowsBefore.{GoesOnFrom, from_none, from_some, rows_go_on, rows_once}
 
-text_once : (s : Stream) (p : Subformula) (header : Header) (rows : List Row) (ended : Bool) (x y : List ℕ) → StreamText s p header rows ended x → StreamText s p header rows ended y → x ≡ y
+text_once : (s : Stream) (p : Subformula) (header : Header) (rows : List Row) (ended : Bool) (x y : List ℕ)
+    → StreamText s p header rows ended x → StreamText s p header rows ended y → x ≡ y
 text_once verdicts p header rows ended x y a b = stream_once p header rows ended x y a b
 text_once early p header rows ended x y a b = early_once p header rows ended x y a b
 text_once margins p header rows ended x y a b = margin_stream_once p header rows ended x y a b
 
-text_grows : (s : Stream) (p : Subformula) (header : Header) (rows beyond : List Row) (ended : Bool) (x y : List ℕ) → StreamText s p header rows false x → StreamText s p header (rows ++ beyond) ended y → IsLonger x y
+text_grows : (s : Stream) (p : Subformula) (header : Header) (rows beyond : List Row) (ended : Bool) (x y : List ℕ)
+    → StreamText s p header rows false x → StreamText s p header (rows ++ beyond) ended y → IsLonger x y
 text_grows verdicts p header rows beyond ended x y a b = stream_grows p header rows beyond ended x y a b
 text_grows early p header rows beyond ended x y a b = early_grows p header rows beyond ended x y a b
 text_grows margins p header rows beyond ended x y a b = margin_stream_grows p header rows beyond ended x y a b
@@ -34,7 +36,8 @@ none_yet verdicts p header rows x e a = subst (λ l. StreamText verdicts p heade
 none_yet early p header rows x e a = none_early p header rows x e a
 none_yet margins p header rows x e a = subst (λ l. StreamText margins p header l false x → x ≡ []) (sym e) (λ k. k) a
 
-of_once : (s : Stream) (f : Formula) (header : Option Header) (rows : List Row) (ended : Bool) (x y : List ℕ) → StreamOf s f header rows ended x → StreamOf s f header rows ended y → x ≡ y
+of_once : (s : Stream) (f : Formula) (header : Option Header) (rows : List Row) (ended : Bool) (x y : List ℕ)
+    → StreamOf s f header rows ended x → StreamOf s f header rows ended y → x ≡ y
 of_once s f None rows ended x y a b = a ∙ sym b
 of_once s f (Some header) rows ended x y a b = text_once s _ header rows ended x y a b
 
@@ -54,17 +57,21 @@ of_grows s f (Some header) other rows more whole x y (from_some same (beyond, e)
     text_grows s _ header rows beyond whole x y a (subst (λ l. StreamOf s f (Some header) l whole y) e (subst (λ h. StreamOf s f h more whole y) same b))
 
 -- a stream is owed one text
-pub stream_owed_once : (s : Stream) (f : Formula) (bytes : List ℕ) (ended : Bool) (x y : List ℕ) → OwesRows s f bytes ended x → OwesRows s f bytes ended y → x ≡ y
+pub stream_owed_once : (s : Stream) (f : Formula) (bytes : List ℕ) (ended : Bool) (x y : List ℕ) → OwesRows s f bytes ended x
+    → OwesRows s f bytes ended y → x ≡ y
 stream_owed_once s f bytes ended x y a b =
     let e = rows_once (limits_of s) f bytes ended a.before b.before in
     of_once s f b.header b.rows b.whole x y
-    (subst (λ (w : Bool). StreamOf s f b.header b.rows w x) e.same_end (subst (λ l. StreamOf s f b.header l a.whole x) e.same_rows (subst (λ h. StreamOf s f h a.rows a.whole x) e.same_header a.is))) b.is
+    (subst (λ (w : Bool). StreamOf s f b.header b.rows w x) e.same_end
+    (subst (λ l. StreamOf s f b.header l a.whole x) e.same_rows (subst (λ h. StreamOf s f h a.rows a.whole x) e.same_header a.is))) b.is
 
-never_whole : (s : Stream) (f : Formula) (bytes : List ℕ) {header : Option Header} {rows : List Row} → ¬ AreRowsBefore (limits_of s) f bytes false header rows true
+never_whole : (s : Stream) (f : Formula) (bytes : List ℕ) {header : Option Header} {rows : List Row}
+    → ¬ AreRowsBefore (limits_of s) f bytes false header rows true
 never_whole s f bytes k = elim k [ ]
 
 -- which is the front of what it is owed for more bytes
-pub stream_owed_grows : (s : Stream) (f : Formula) (bytes more : List ℕ) (ended : Bool) (x y : List ℕ) → OwesRows s f bytes false x → OwesRows s f (bytes ++ more) ended y → IsLonger x y
+pub stream_owed_grows : (s : Stream) (f : Formula) (bytes more : List ℕ) (ended : Bool) (x y : List ℕ)
+    → OwesRows s f bytes false x → OwesRows s f (bytes ++ more) ended y → IsLonger x y
 stream_owed_grows s f bytes more ended x y a b = by_whole a.whole a.before a.is
   where
     by_whole : (w : Bool) → AreRowsBefore (limits_of s) f bytes false a.header a.rows w → StreamOf s f a.header a.rows w x → IsLonger x y

@@ -1,6 +1,8 @@
 -- Rows whose text is owed: the network takes them without a step. Then a step of every node gives out what all of them answer, and cut row
 -- by row that is their text.
-use Rattle.std.proofs.Common.{◌≡◌, ℕ, ◌+◌, ◌-◌, ◌<◌, Bool, true, false, List, [], ◌∷◌, ◌++◌, length, map, take, drop, refl, sym, ap, ◌∙◌, subst, arith, append-nil, append_assoc, length-append, Some, None, ℤ, pos, inl, inr}
+use Rattle.std.proofs.Common.{◌≡◌, ℕ, ◌+◌, ◌-◌, ◌<◌, Bool, true, false, List, [], ◌∷◌, ◌++◌, length, map, take, drop, refl}
+use Rattle.std.proofs.Common.{sym, ap, ◌∙◌, subst, arith, append-nil, append_assoc, length-append, Some, None, ℤ, pos, inl}
+use Rattle.std.proofs.Common.{inr}
 use Rattle.std.specs.Prelude.{◌≢◌, cond, MatchBool}
 use Rattle.std.proofs.lemmas.List.Elements.{All-nil, All-cons}
 use Rattle.std.proofs.Math.Seq.{drop-append_seam, take-length, take-append_seam}
@@ -14,7 +16,8 @@ use Rattle.stl_syntax.specs.declared.items.Verdict.{Verdict}
 use Rattle.stl_syntax.specs.declared.node.Node.{Node}
 use Rattle.stl_syntax.specs.declared.scale.Scale.{Scale}
 use Rattle.stl_syntax.proofs.WellFormedLemmas.{root_some}
-use Rattle.online_nodes.specs.Network.{Event, row, take as taken, node_is_atom, initial, after_event, state_from, state, State, Front, shown, same_front, answered, Emitted}
+use Rattle.online_nodes.specs.Network.{Event, row, take as taken, node_is_atom, initial, after_event}
+use Rattle.online_nodes.specs.Network.{state_from, state, State, Front, shown, same_front, answered, Emitted}
 use Rattle.online_nodes.specs.Driven.{rows_of, steps_of, takes, pass_of, IsEmptied, IsDriven, by_rows}
 use Rattle.online_nodes.specs.Needed.{IsTaken}
 use Rattle.online_nodes.specs.Laws.{answered_to}
@@ -33,7 +36,9 @@ use Rattle.trace_stream.specs.declared.verdicts.Network.{Network}
 use Rattle.trace_stream.specs.declared.verdicts.Verdicts.{Verdicts}
 use Rattle.trace_stream.proofs.Passes.{state_after, parted, emitted_alike, alike_length, Gives, AreQuiet, quiet_shown, quiet_gives, LeavesRoot, pass_gives}
 use Rattle.trace_stream.proofs.Taking.{first_alike, emitted_takes}
-use Rattle.trace_stream.proofs.Watched.{no_row, show, shown_by, AreOthers, steps_others, taken_on, rows_at, driven_at, driven_emptied, none_driven, after_pass, Passing, passing_of, pass_before, front_after, shown_after, rows_told}
+use Rattle.trace_stream.proofs.Watched.{no_row, show, shown_by, AreOthers, steps_others, taken_on, rows_at}
+use Rattle.trace_stream.proofs.Watched.{driven_at, driven_emptied, none_driven, after_pass, Passing}
+use Rattle.trace_stream.proofs.Watched.{passing_of, pass_before, front_after, shown_after, rows_told}
 use Rattle.trace_stream.proofs.Cutting.{Leads, describes_leads, alike_sym, leads_alike}
 use Rattle.trace_stream.proofs.CutRows.{whole_trace, LeftTo, rows_cut}
 
@@ -87,9 +92,12 @@ module _ (nodes : List Node) (header : Header) where
 
   -- after rows that no step follows all that the root gave out was taken, as before them
   pub record HasFed (base : List Event) (more : List Row) (emitted : List Verdict) : Type 0 where
+    -- the root's edge is empty after the rows
     pub emptied : IsEmptied nodes header (base ++ rows_of more)
+    -- and the first truth is that of before
     pub truth : first_truth emptied.emitted ≡ first_truth emitted
 
+  -- the network has taken the rows without a step
   pub has_fed : {rows : List Row} {base : List Event} (more : List Row) (emitted all : List Verdict) → IsDriven nodes header rows false base
       → node_is_atom nodes Top ≡ false → Emitted nodes header base Top emitted → Emitted nodes header (base ++ rows_of more) Top all → HasFed base more emitted
   has_fed {rows} {base} more emitted all d no_atom was given =
@@ -111,15 +119,24 @@ module _ (nodes : List Node) (header : Header) where
 
   -- what a pass gave, all of which stands behind what was pending
   pub record HasGivenOut (events : List Event) (e : Event) (given beyond : List Verdict) (v : Network) (old new : List Verdict) : Type 0 where
+    -- how many verdicts were taken
     pub made : ℕ
+    -- and the root's edge is empty
     pub emptied : IsEmptied nodes header (events ++ pass_of e nodes made)
+    -- the network stands for the run
     pub stands : Stands nodes header v.net (events ++ pass_of e nodes made)
+    -- the root gave out what was given
     pub is_emitted : Emitted nodes header (events ++ pass_of e nodes made) Top given
+    -- the truth at the start is that of the first of them
     pub start : v.start ≡ first_truth given
+    -- the verdicts that were put
     pub put : List Verdict
+    -- they are alike those that the run gives out
     pub are : AreAlike put beyond
+    -- and stand behind the pending ones
     pub pending : new ≡ old ++ put
 
+  -- a pass of the nodes gives out what the rows answer
   pub given_out : (events : List Event) (e : Event) (emitted : List Verdict) (x : Passing nodes header events e emitted) (v : Network) (old new : List Verdict)
       → HasGivenAll (pass_before nodes header events e x.first x.beyond) v old new → HasGivenOut events e (x.first ++ x.beyond) x.beyond v old new
   given_out events e emitted x v old new (n, h, all) =
@@ -317,6 +334,7 @@ module _ (v : Verdicts) (c : Case) (made : List ℕ) (o : IsOwing v c made) wher
       (subst (λ (f : Formula). Stands f.nodes c.trace.header mid (o.events ++ steps_of 0 f.nodes)) o.formula
       (step c.trace.header o.events (subst (λ (f : Formula). Stands f.nodes c.trace.header v.network.net o.events) (sym o.formula) o.stands)))
 
+  -- the rows whose text is owed were fed
   pub fed : HasFed c.formula.nodes c.trace.header o.fed.base o.more o.emitted
   fed =
       let root_edge = o.stands.shows.root in

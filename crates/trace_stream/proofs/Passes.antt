@@ -1,5 +1,7 @@
 -- What the root of a network gives out in one pass of a stream: a row or the end, and a step of every node.
-use Rattle.std.proofs.Common.{◌≡◌, ℕ, suc, ◌+◌, ◌-◌, ◌<◌, ◌≤◌, Bool, true, false, not, ◌&&◌, List, [], ◌∷◌, ◌++◌, length, take, drop, refl, sym, ap, ◌∙◌, subst, arith, append-nil, append_assoc, take-append-drop, length-drop, Some, None, ℤ, ◌<ℤ◌, if◌then◌else◌, codes, length-append}
+use Rattle.std.proofs.Common.{◌≡◌, ℕ, suc, ◌+◌, ◌-◌, ◌<◌, ◌≤◌, Bool, true, false, not, ◌&&◌, List, [], ◌∷◌, ◌++◌}
+use Rattle.std.proofs.Common.{length, take, drop, refl, sym, ap, ◌∙◌, subst, arith, append-nil, append_assoc}
+use Rattle.std.proofs.Common.{take-append-drop, length-drop, Some, None, ℤ, ◌<ℤ◌, if◌then◌else◌, codes, length-append}
 use Rattle.std.specs.Prelude.{MatchBool, int_lt, cond, ◌==◌, ◌≢◌, slice_index_or}
 use Rattle.std.proofs.lemmas.Int.{ints}
 use Rattle.std.proofs.lemmas.List.{length-take-le}
@@ -17,7 +19,8 @@ use Rattle.stl_syntax.specs.Stream.{IsStretchText, IsNewText, after}
 use Rattle.stl_syntax.specs.declared.items.Verdict.{Verdict}
 use Rattle.stl_syntax.specs.declared.node.Node.{Node}
 use Rattle.stl_syntax.specs.declared.node.Node.TheVariants.{Const}
-use Rattle.online_nodes.specs.Network.{Event, step, take as taken, initial, Emitted, Front, State, shown, same_front, is_atom, node_is_atom, allowed_at, answered, after_event, state_from, EmittedAt, EmittedFrom}
+use Rattle.online_nodes.specs.Network.{Event, step, take as taken, initial, Emitted, Front, State, shown, same_front, is_atom}
+use Rattle.online_nodes.specs.Network.{node_is_atom, allowed_at, answered, after_event, state_from, EmittedAt, EmittedFrom}
 use Rattle.online_nodes.specs.Driven.{steps_of}
 use Rattle.online_nodes.specs.Needed.{IsTaken, none as none_taken, other, next, nothing_left}
 
@@ -29,24 +32,37 @@ module _ (nodes : List Node) (header : Header) where
 
   -- what a node gives out over two lists of events
   pub record Parted (i : ℕ) (s : State) (a b : List Event) (vs : List Verdict) : Type 0 where
+    -- what the first events give out
     pub first : List Verdict
+    -- and the later ones
     pub beyond : List Verdict
+    -- the first by the first events
     pub first_is : EmittedFrom nodes header i s a first
+    -- the others by the later ones
     pub beyond_is : EmittedFrom nodes header i (state_from nodes s a) b beyond
+    -- both together are all
     pub is : vs ≡ first ++ beyond
 
+  -- what a run gives out is parted where its events are
   pub parted : (i : ℕ) (s : State) (a b : List Event) (vs : List Verdict) → EmittedFrom nodes header i s (a ++ b) vs → Parted i s a b vs
   parted i s [] b vs em = record { first = []; beyond = vs; first_is = refl; beyond_is = em; is = refl }
   parted i s (e ∷ a) b vs (here, later, at, more, eq) =
       let p = parted i (after_event nodes s e) a b later more in
-      record { first = here ++ p.first; beyond = p.beyond; first_is = (here, p.first, at, p.first_is, refl); beyond_is = p.beyond_is; is = eq ∙ ap (λ l. here ++ l) p.is ∙ sym (append_assoc here p.first p.beyond) }
+      record {
+        first = here ++ p.first;
+        beyond = p.beyond;
+        first_is = (here, p.first, at, p.first_is, refl);
+        beyond_is = p.beyond_is;
+        is = eq ∙ ap (λ l. here ++ l) p.is ∙ sym (append_assoc here p.first p.beyond);
+      }
 
   -- steps of some nodes, and of others after them
   pub steps_append : (i : ℕ) (a b : List Node) → steps_of i (a ++ b) ≡ steps_of i a ++ steps_of (i + length a) b
   steps_append i [] b = ap (λ k. steps_of k b) (omega arith)
   steps_append i (n ∷ a) b =
       let on = steps_append (suc i) a b ∙ ap (λ k. steps_of (suc i) a ++ steps_of k b) (omega arith) in
-      elim (is_atom n) as (λ t. cond t (steps_of (suc i) (a ++ b)) (step i ∷ steps_of (suc i) (a ++ b)) ≡ cond t (steps_of (suc i) a) (step i ∷ steps_of (suc i) a) ++ steps_of (i + length (n ∷ a)) b) [
+      elim (is_atom n) as (λ t. cond t (steps_of (suc i) (a ++ b)) (step i ∷ steps_of (suc i) (a ++ b)) ≡ cond t
+      (steps_of (suc i) a) (step i ∷ steps_of (suc i) a) ++ steps_of (i + length (n ∷ a)) b) [
         | true ↦ on
         | false ↦ ap (λ l. step i ∷ l) on
       ]
@@ -63,7 +79,9 @@ module _ (nodes : List Node) (header : Header) where
         MatchBool (same_front (shown old k) (Some f)) (vs ≡ [])
         (Describes vs (subformula nodes k) (record { header = header; rows = new.rows }) (answered (first_time new.rows) (shown old k) f))
 
-    pub given_by : (old new : State) (vs : List Verdict) → EmittedAt nodes header k old new vs → Gives (record { header = header; rows = new.rows }) (shown old k) (shown new k) vs
+    -- what an event gives out leads from what was shown to what is
+    pub given_by : (old new : State) (vs : List Verdict) → EmittedAt nodes header k old new vs
+        → Gives (record { header = header; rows = new.rows }) (shown old k) (shown new k) vs
     given_by old new vs h = by_front (shown new k) h
       where
         by_front : (o : Front) → GivesOut old new vs o → Gives (record { header = header; rows = new.rows }) (shown old k) o vs
@@ -89,14 +107,17 @@ module _ (nodes : List Node) (header : Header) where
     AreQuiet s [] = Unit {0}
     AreQuiet s (e ∷ events) = (shown s k ≡ shown (after_event nodes s e) k) × AreQuiet (after_event nodes s e) events
 
+    -- quiet events leave what is shown
     pub quiet_shown : (s : State) (events : List Event) → AreQuiet s events → shown s k ≡ shown (state_from nodes s events) k
     quiet_shown s [] q = refl
     quiet_shown s (e ∷ events) (h, q) = h ∙ quiet_shown (after_event nodes s e) events q
 
+    -- and give nothing out
     pub quiet_gives : (s : State) (events : List Event) (vs : List Verdict) → AreQuiet s events → EmittedFrom nodes header k s events vs → vs ≡ []
     quiet_gives s [] vs q em = em
     quiet_gives s (e ∷ events) vs (h, q) (here, later, at, more, eq) =
-        let none = stays_silent (record { header = header; rows = (after_event nodes s e).rows }) (shown s k) (shown (after_event nodes s e) k) here h (given_by s (after_event nodes s e) here at) in
+        let none = stays_silent (record { header = header; rows = (after_event nodes s e).rows }) (shown s k)
+        (shown (after_event nodes s e) k) here h (given_by s (after_event nodes s e) here at) in
         let rest = quiet_gives (after_event nodes s e) events later q more in
         eq ∙ ap (λ l. l ++ later) none ∙ rest
 
@@ -111,6 +132,7 @@ module _ (nodes : List Node) (header : Header) where
         by_test true e = absurd (let d : k ≡ i = grind (arith, e) in omega arith)
         by_test false e = same ((after_event nodes s (step i)).fronts k) (ap (λ t. cond t (allowed_at nodes s i) (s.fronts k)) e)
 
+    -- steps of nodes before it are quiet at a node
     pub steps_quiet : (i : ℕ) (rest : List Node) (s : State) → i + length rest ≤ k → AreQuiet s (steps_of i rest)
     steps_quiet i [] s l = tt
     steps_quiet i (n ∷ rest) s l =
@@ -130,6 +152,7 @@ module _ (nodes : List Node) (header : Header) where
 
   -- what the root gives out in a pass from one state to another: by what it shows before and after
   pub record PassGives (before after : State) (vs : List Verdict) : Type 0 where
+    -- a pass gives out what leads from what was shown to what is
     pub gives : Gives (length nodes - 1) (record { header = header; rows = after.rows }) (shown before (length nodes - 1)) (shown after (length nodes - 1)) vs
 
   -- the last node
@@ -166,7 +189,8 @@ module _ (nodes : List Node) (header : Header) where
   LeavesRoot s e = node_is_atom nodes (length nodes - 1) ≡ false → shown s (length nodes - 1) ≡ shown (after_event nodes s e) (length nodes - 1)
 
   -- a pass: the event and the steps
-  pub pass_gives : 0 < length nodes → (s : State) (e : Event) (vs : List Verdict) → LeavesRoot s e → EmittedFrom nodes header (length nodes - 1) s (e ∷ steps_of 0 nodes) vs
+  pub pass_gives : 0 < length nodes → (s : State) (e : Event) (vs : List Verdict) → LeavesRoot s e
+      → EmittedFrom nodes header (length nodes - 1) s (e ∷ steps_of 0 nodes) vs
       → PassGives s (state_from nodes s (e ∷ steps_of 0 nodes)) vs
   pass_gives some s e vs leaves (here, later, at, more, eq) = by_atom (is_atom l.last) refl
     where
@@ -187,13 +211,18 @@ module _ (nodes : List Node) (header : Header) where
 
       by_atom : (t : Bool) → is_atom l.last ≡ t → PassGives s (state_from nodes s (e ∷ steps_of 0 nodes)) vs
       by_atom true a =
-          let steps : steps_of 0 nodes ≡ steps_of 0 l.init = split ∙ ap (λ t. steps_of 0 l.init ++ cond t [] (step k ∷ [])) a ∙ append-nil (steps_of 0 l.init) in
+          let steps : steps_of 0 nodes ≡ steps_of 0 l.init =
+          split ∙ ap (λ t. steps_of 0 l.init ++ cond t [] (step k ∷ [])) a ∙ append-nil (steps_of 0 l.init) in
           let none = quiet_gives k s1 (steps_of 0 l.init) later calm (subst (λ es. EmittedFrom nodes header k s1 es later) steps more) in
           record {
-            gives = subst (λ ws. Gives k (record { header = header; rows = (state_from nodes s1 (steps_of 0 nodes)).rows }) (shown s k) (shown (state_from nodes s1 (steps_of 0 nodes)) k) ws) (sym (eq ∙ ap (λ ws. here ++ ws) none ∙ append-nil here))
-                (subst (λ es. Gives k (record { header = header; rows = (state_from nodes s1 es).rows }) (shown s k) (shown (state_from nodes s1 es) k) here) (sym steps)
-                (subst (λ rows. Gives k (record { header = header; rows = rows }) (shown s k) (shown (state_from nodes s1 (steps_of 0 l.init)) k) here) (rows_stay 0 l.init s1)
-                (subst (λ o. Gives k (record { header = header; rows = s1.rows }) (shown s k) o here) (quiet_shown k s1 (steps_of 0 l.init) calm) (given_by k s s1 here at))));
+            gives = subst (λ ws. Gives k (record { header = header; rows = (state_from nodes s1 (steps_of 0 nodes)).rows }) (shown s k)
+                (shown (state_from nodes s1 (steps_of 0 nodes)) k) ws) (sym (eq ∙ ap (λ ws. here ++ ws) none ∙ append-nil here))
+                (subst (λ es. Gives k (record { header = header; rows = (state_from nodes s1 es).rows }) (shown s k)
+                (shown (state_from nodes s1 es) k) here) (sym steps)
+                (subst (λ rows. Gives k (record { header = header; rows = rows }) (shown s k) (shown (state_from nodes s1 (steps_of 0 l.init)) k) here)
+                (rows_stay 0 l.init s1)
+                (subst (λ o. Gives k (record { header = header; rows = s1.rows }) (shown s k) o here)
+                (quiet_shown k s1 (steps_of 0 l.init) calm) (given_by k s s1 here at))));
           }
       by_atom false a =
           let steps : steps_of 0 nodes ≡ steps_of 0 l.init ++ step k ∷ [] = split ∙ ap (λ t. steps_of 0 l.init ++ cond t [] (step k ∷ [])) a in
@@ -203,19 +232,23 @@ module _ (nodes : List Node) (header : Header) where
           let other : node_is_atom nodes k ≡ false = ap is_atom l.at ∙ a in
           let first = quiet_gives k s1 (steps_of 0 l.init) p.first calm p.first_is in
           let silent = stays_silent k (record { header = header; rows = s1.rows }) (shown s k) (shown s1 k) here (leaves other) (given_by k s s1 here at) in
-          let last : state_from nodes s1 (steps_of 0 nodes) ≡ after_event nodes s2 (step k) = ap (state_from nodes s1) steps ∙ state_after s1 (steps_of 0 l.init) (step k ∷ []) in
+          let last : state_from nodes s1 (steps_of 0 nodes) ≡ after_event nodes s2 (step k) =
+          ap (state_from nodes s1) steps ∙ state_after s1 (steps_of 0 l.init) (step k ∷ []) in
           let all : vs ≡ vs' = eq ∙ ap (λ ws. ws ++ later) silent ∙ p.is ∙ ap (λ ws. ws ++ p.beyond) first ∙ is ∙ ap (λ ws. vs' ++ ws) nil ∙ append-nil vs' in
           record {
-            gives = subst (λ ws. Gives k (record { header = header; rows = (state_from nodes s1 (steps_of 0 nodes)).rows }) (shown s k) (shown (state_from nodes s1 (steps_of 0 nodes)) k) ws) (sym all)
+            gives = subst (λ ws. Gives k (record { header = header; rows = (state_from nodes s1 (steps_of 0 nodes)).rows })
+                (shown s k) (shown (state_from nodes s1 (steps_of 0 nodes)) k) ws) (sym all)
                 (subst (λ (z : State). Gives k (record { header = header; rows = z.rows }) (shown s k) (shown z k) vs') (sym last)
-                (subst (λ o. Gives k (record { header = header; rows = s2.rows }) o (shown (after_event nodes s2 (step k)) k) vs') (sym (leaves other ∙ quiet_shown k s1 (steps_of 0 l.init) calm))
+                (subst (λ o. Gives k (record { header = header; rows = s2.rows }) o (shown (after_event nodes s2 (step k)) k) vs')
+                (sym (leaves other ∙ quiet_shown k s1 (steps_of 0 l.init) calm))
                 (given_by k s2 (after_event nodes s2 (step k)) vs' at')));
           }
 
 -- ---- the text of what is given out
 
 -- what a move gives out is the text of what the new front answers beyond the old one
-pub text_of_given : (nodes : List Node) (tr : Trace) (old new : Front) (vs : List Verdict) (text : List ℕ) → ((g f : ℤ) → old ≡ Some g → new ≡ Some f → int_lt f g ≡ false)
+pub text_of_given : (nodes : List Node) (tr : Trace) (old new : Front) (vs : List Verdict) (text : List ℕ)
+    → ((g f : ℤ) → old ≡ Some g → new ≡ Some f → int_lt f g ≡ false)
     → Gives nodes tr.header (length nodes - 1) tr old new vs → AreVerdictLines tr.header.scale vs text → IsNewText (root nodes) tr old new text
 text_of_given nodes tr old None vs text rise gives lines = subst (λ l. AreVerdictLines tr.header.scale l text) gives lines
 text_of_given nodes tr None (Some f) vs text rise gives lines = (vs, gives, lines)
@@ -223,10 +256,12 @@ text_of_given nodes tr (Some g) (Some f) vs text rise gives lines = by_test (int
   where
     by_test : (t : Bool) → int_lt g f ≡ t → IsNewText (root nodes) tr (Some g) (Some f) text
     by_test true e =
-        let told = subst (λ t. MatchBool (not t && not (int_lt f g)) (vs ≡ []) (Describes vs (root nodes) tr (answered (first_time tr.rows) (Some g) f))) e gives in
+        let told = subst (λ t.
+        MatchBool (not t && not (int_lt f g)) (vs ≡ []) (Describes vs (root nodes) tr (answered (first_time tr.rows) (Some g) f))) e gives in
         subst (λ t. MatchBool t (IsStretchText (root nodes) tr (after (first_time tr.rows) (Some g) f) text) (text ≡ [])) (sym e) (vs, told, lines)
     by_test false e =
-        let none : vs ≡ [] = subst (λ t. MatchBool (not t) (vs ≡ []) (Describes vs (root nodes) tr (answered (first_time tr.rows) (Some g) f))) (rise g f refl refl)
+        let none : vs ≡ [] =
+        subst (λ t. MatchBool (not t) (vs ≡ []) (Describes vs (root nodes) tr (answered (first_time tr.rows) (Some g) f))) (rise g f refl refl)
         (subst (λ t. MatchBool (not t && not (int_lt f g)) (vs ≡ []) (Describes vs (root nodes) tr (answered (first_time tr.rows) (Some g) f))) e gives) in
         subst (λ t. MatchBool t (IsStretchText (root nodes) tr (after (first_time tr.rows) (Some g) f) text) (text ≡ [])) (sym e)
         (subst (λ l. AreVerdictLines tr.header.scale l text) none lines)
@@ -246,7 +281,8 @@ lines_alike scale (v ∷ vs) (w ∷ ws) text (begin, end, holds, e) (here, later
       to = on_is.to;
       from_is = number_alike begin.time on_is.from_is;
       to_is = number_alike end.time on_is.to_is;
-      is = on_is.is ∙ ap (λ b. (if b then codes "[" else codes "(") ++ on_is.from ++ codes "," ++ on_is.to ++ (if v.on.to_in then codes "]" else codes ")")) begin.inside
+      is = on_is.is ∙ ap
+          (λ b. (if b then codes "[" else codes "(") ++ on_is.from ++ codes "," ++ on_is.to ++ (if v.on.to_in then codes "]" else codes ")")) begin.inside
           ∙ ap (λ b. (if w.on.from_in then codes "[" else codes "(") ++ on_is.from ++ codes "," ++ on_is.to ++ (if b then codes "]" else codes ")")) end.inside;
     },
     here_is ∙ ap (λ b. on ++ codes " " ++ bool_text b ++ newline) holds,
@@ -260,12 +296,14 @@ lines_alike scale (v ∷ vs) (w ∷ ws) text (begin, end, holds, e) (here, later
 
 -- ---- what a node gives out in a run is one list, but for the pairs by which times are written
 
+-- lists that are alike stay so together
 pub alike_append : (a b c d : List Verdict) → AreAlike a c → AreAlike b d → AreAlike (a ++ b) (c ++ d)
 alike_append [] b [] d e f = f
 alike_append [] b (w ∷ c) d e f = absurd e
 alike_append (v ∷ a) b [] d e f = absurd e
 alike_append (v ∷ a) b (w ∷ c) d (begin, end, holds, e) f = (begin, end, holds, alike_append a b c d e f)
 
+-- and have as many verdicts
 pub alike_length : (vs ws : List Verdict) → AreAlike vs ws → length vs ≡ length ws
 alike_length [] [] e = refl
 alike_length [] (w ∷ ws) e = absurd e
@@ -285,13 +323,17 @@ module _ (nodes : List Node) (header : Header) (k : ℕ) where
       by_test true a b = nil_alike vs ws a b
       by_test false a b = Describes-unique (subformula nodes k) tr _ vs ws a b
 
-  given_alike : (s : State) (events : List Event) (vs ws : List Verdict) → EmittedFrom nodes header k s events vs → EmittedFrom nodes header k s events ws → AreAlike vs ws
+  given_alike : (s : State) (events : List Event) (vs ws : List Verdict) → EmittedFrom nodes header k s events vs
+      → EmittedFrom nodes header k s events ws → AreAlike vs ws
   given_alike s [] vs ws a b = nil_alike vs ws a b
   given_alike s (e ∷ events) vs ws (here, later, at, more, eq) (here', later', at', more', eq') =
       subst (λ l. AreAlike l ws) (sym eq) (subst (λ l. AreAlike (here ++ later) l) (sym eq')
-      (alike_append here later here' later' (gives_alike (record { header = header; rows = (after_event nodes s e).rows }) (shown s k) (shown (after_event nodes s e) k) here here' (given_by nodes header k s (after_event nodes s e) here at) (given_by nodes header k s (after_event nodes s e) here' at'))
+      (alike_append here later here' later'
+      (gives_alike (record { header = header; rows = (after_event nodes s e).rows }) (shown s k) (shown (after_event nodes s e) k) here here'
+      (given_by nodes header k s (after_event nodes s e) here at) (given_by nodes header k s (after_event nodes s e) here' at'))
       (given_alike (after_event nodes s e) events later later' more more')))
 
+  -- what a run gives out is alike each time
   pub emitted_alike : (events : List Event) (vs ws : List Verdict) → Emitted nodes header events k vs → Emitted nodes header events k ws → AreAlike vs ws
   emitted_alike events vs ws a b = given_alike initial events vs ws a b
 
@@ -309,8 +351,10 @@ module _ (nodes : List Node) (header : Header) where
   -- what the last event of a run is to a taker
   data LastTaken (events : List Event) (e : Event) (n : ℕ) : Type 0 where
     by_other : e ≢ taken → IsTaken nodes header events n → LastTaken events e n
-    by_next : (m : ℕ) (vs : List Verdict) → e ≡ taken → n ≡ suc m → Emitted nodes header events (length nodes - 1) vs → m < length vs → IsTaken nodes header events m → LastTaken events e n
-    by_nothing : (vs : List Verdict) → e ≡ taken → Emitted nodes header events (length nodes - 1) vs → n ≡ length vs → IsTaken nodes header events n → LastTaken events e n
+    by_next : (m : ℕ) (vs : List Verdict) → e ≡ taken → n ≡ suc m → Emitted nodes header events (length nodes - 1) vs
+        → m < length vs → IsTaken nodes header events m → LastTaken events e n
+    by_nothing : (vs : List Verdict) → e ≡ taken → Emitted nodes header events (length nodes - 1) vs → n ≡ length vs
+        → IsTaken nodes header events n → LastTaken events e n
 
   last_taken : {all : List Event} {n : ℕ} → IsTaken nodes header all n → (events : List Event) (e : Event) → all ≡ events ++ e ∷ [] → LastTaken events e n
   last_taken none_taken events e same = absurd (omega (arith, ap length same, length-append events (e ∷ [])))
@@ -335,7 +379,8 @@ module _ (nodes : List Node) (header : Header) where
   by_other_end n m ne (by_next j vs e s em l u) on = absurd (ne e)
   by_other_end n m ne (by_nothing vs e em s u) on = absurd (ne e)
 
-  by_next_end : {events : List Event} (n m : ℕ) (vs : List Verdict) → Emitted nodes header events (length nodes - 1) vs → n < length vs → LastTaken events taken m
+  by_next_end : {events : List Event} (n m : ℕ) (vs : List Verdict) → Emitted nodes header events (length nodes - 1) vs
+      → n < length vs → LastTaken events taken m
       → ((j : ℕ) → IsTaken nodes header events j → n ≡ j) → suc n ≡ m
   by_next_end n m vs em l (by_other ne' u) on = absurd (ne' refl)
   by_next_end n m vs em l (by_next j ws e s em' l' u) on = ap suc (on j u) ∙ sym s
@@ -343,7 +388,8 @@ module _ (nodes : List Node) (header : Header) where
       let same = on m u in
       absurd (omega (arith, same, s, l, alike_length vs ws (emitted_alike nodes header (length nodes - 1) events vs ws em em')))
 
-  by_nothing_end : {events : List Event} (n m : ℕ) (vs : List Verdict) → Emitted nodes header events (length nodes - 1) vs → n ≡ length vs → LastTaken events taken m
+  by_nothing_end : {events : List Event} (n m : ℕ) (vs : List Verdict) → Emitted nodes header events (length nodes - 1) vs
+      → n ≡ length vs → LastTaken events taken m
       → ((j : ℕ) → IsTaken nodes header events j → n ≡ j) → n ≡ m
   by_nothing_end n m vs em l (by_other ne' u) on = absurd (ne' refl)
   by_nothing_end {events} n m vs em l (by_next j ws e s em' l' u) on =
@@ -351,6 +397,7 @@ module _ (nodes : List Node) (header : Header) where
       absurd (omega (arith, same, l, l', alike_length vs ws (emitted_alike nodes header (length nodes - 1) events vs ws em em')))
   by_nothing_end n m vs em l (by_nothing ws e em' s u) on = on m u
 
+  -- a run has one number of takes
   pub taken_once : {events : List Event} {n : ℕ} (m : ℕ) → IsTaken nodes header events n → IsTaken nodes header events m → n ≡ m
   taken_once m none_taken b = sym (no_taken b refl)
   taken_once m (other {events = before} {n = n} d ne t) b = by_other_end n m ne (last_taken b before d refl) (λ u. taken_once m t u)

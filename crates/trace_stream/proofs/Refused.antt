@@ -71,8 +71,11 @@ stream_of_case s f c is h = subst (λ (g : Formula). HasStream s g) (sym is.form
 
 -- the first of the bytes have no fault, and are those of the case's rows
 pub record IsReadTo (limits : Limits) (f : Formula) (seen : List ℕ) (ended : Bool) (c : Case) : Type 0 where
+  -- the case is the formula's
   pub fits : IsCase f c
+  -- the bytes have no fault
   pub sound : IsSound limits f seen ended
+  -- and are read as the case's rows
   pub read : TraceOf seen ended f.scale c.trace.header c.trace.rows
 
 -- what a reader has kept
@@ -157,12 +160,14 @@ module _ (kind : Stream) (limits : Limits) (f : Formula) (bytes : List ℕ) (end
 
 -- a refusal made no text
 stop_text : (old new : List ℕ) (written : List ℕ) (kind : Stream) (limits : Limits) (f : Formula) (bytes : List ℕ) (ended : Bool) (fault : FollowFault)
-    → (IsLiveStop kind limits f ended bytes (written ++ old) (stop_of fault)) → IsUnwritten old new fault → IsLiveStop kind limits f ended bytes (written ++ new) (stop_of fault)
+    → (IsLiveStop kind limits f ended bytes (written ++ old) (stop_of fault)) → IsUnwritten old new fault
+    → IsLiveStop kind limits f ended bytes (written ++ new) (stop_of fault)
 stop_text old new written kind limits f bytes ended Memory h same = tt
 stop_text old new written kind limits f bytes ended (Wide i den) h same =
     subst (λ t. IsLiveStop kind limits f ended bytes (written ++ t) (stop_of (Wide i den))) (sym same) h
 
-module _ {F : Type 0} (Stands : F → Case → List ℕ → Type 0) (kind : Stream) (limits : Limits) (f : Formula) (bytes : List ℕ) (ended : Bool) (seen later : List ℕ) (parts : bytes ≡ seen ++ later)
+module _ {F : Type 0} (Stands : F → Case → List ℕ → Type 0) (kind : Stream) (limits : Limits) (f : Formula) (bytes : List ℕ)
+    (ended : Bool) (seen later : List ℕ) (parts : bytes ≡ seen ++ later)
     (seen_end : Bool) (at : seen_end ≡ true → (ended ≡ true) × (later ≡ [])) where
   -- a row that was not taken
   pub row_held : (follower : Option F) (case : Option Case) (row : Row) (written old new : List ℕ) (stop : StreamStop)
@@ -178,7 +183,8 @@ module _ {F : Type 0} (Stands : F → Case → List ℕ → Type 0) (kind : Stre
 
   -- the end
   pub end_held : (follower : Option F) (c : Case) (written old new : List ℕ) (stop : StreamStop) → seen_end ≡ true → IsReadTo limits f seen seen_end c
-      → IsFollowed Stands kind follower (Some c) (written ++ old) → IsHeldUp kind (Some c) true old new stop → IsLiveStop kind limits f ended bytes (written ++ new) stop
+      → IsFollowed Stands kind follower (Some c) (written ++ old) → IsHeldUp kind (Some c) true old new stop
+      → IsLiveStop kind limits f ended bytes (written ++ new) stop
   end_held None c written old new stop e r t held = absurd t
   end_held (Some x) c written old new stop e r t (fault, is, why, same) =
       subst (λ (s : StreamStop). IsLiveStop kind limits f ended bytes (written ++ new) s) (sym is)

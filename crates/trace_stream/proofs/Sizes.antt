@@ -5,7 +5,8 @@ use Rattle.std.proofs.lemmas.Bool.{cases_eq, cases_order}
 use Rattle.std.proofs.lemmas.List.Elements.{All-head, All-tail}
 use Rattle.stl_syntax.specs.Trace.{Row, Header}
 use Rattle.stl_syntax.specs.declared.scale.Scale.{Scale}
-use Rattle.trace_reader.specs.TraceText.{Line, lines, is_blank_line, Heading, scale_of, AreRowLines, none, unfinished, row, blank as blank_row, AreTraceLines, heading, blank}
+use Rattle.trace_reader.specs.TraceText.{Line, lines, is_blank_line, Heading, scale_of, AreRowLines, none}
+use Rattle.trace_reader.specs.TraceText.{unfinished, row, blank as blank_row, AreTraceLines, heading, blank}
 use Rattle.trace_reader.specs.TraceRefusals.{InLine, LineFault, FaultFrom, FaultAfter}
 use Rattle.trace_reader.specs.Reader.{IsBlankSoFar, HasRead}
 use Rattle.trace_reader.specs.declared.refusal.Limits.{Limits}
@@ -107,7 +108,8 @@ module _ (limits : Limits) where
     abbrev RowsLater : ℕ → ℕ → Option ℕ → List Line → TraceRefusal → Type 0
     RowsLater n count last ls = FaultAfter limits s h false (suc n) count last ls
 
-    light_rows : (n count : ℕ) (last : Option ℕ) {ls : List Line} {rows : List Row} → AreRowLines s h ls rows → n ≤ suc limits.lines → SoundRows n count last ls → IsLight n ls
+    light_rows : (n count : ℕ) (last : Option ℕ) {ls : List Line} {rows : List Row} → AreRowLines s h ls rows
+        → n ≤ suc limits.lines → SoundRows n count last ls → IsLight n ls
     light_rows n count last none few sound = no_line n few
     light_rows n count last (unfinished {line = l} w) few sound = one_line n l (λ y f. sound y (inl f))
     light_rows n count last (blank_row {line = l} {more = ls} w b rest) few sound =
@@ -117,7 +119,8 @@ module _ (limits : Limits) where
         (λ y f. sound y (inr (own, (w, to_true (RowsLater n count last ls y) (InRow limits s h false n count last l ls y) (is_blank_line l) b f)))))
     light_rows n count last (row {line = l} {more = ls} {r = r} w b is rest) few sound =
         let own : HasNoOwn n l = λ y f. sound y (inl f) in
-        let in_row = λ (y : TraceRefusal) (f : InRow limits s h false n count last l ls y). sound y (inr (own, (w, to_false (RowsLater n count last ls y) (InRow limits s h false n count last l ls y) (is_blank_line l) b f))) in
+        let in_row = λ (y : TraceRefusal) (f : InRow limits s h false n count last l ls y).
+        sound y (inr (own, (w, to_false (RowsLater n count last ls y) (InRow limits s h false n count last l ls y) (is_blank_line l) b f))) in
         let count_small = not_many n l own in
         one_more n l ls own (light_rows (suc n) (suc count) (Some r.time) rest (omega (arith, count_small))
         (λ y f. in_row y (inr ((λ z g. in_row z (inl g)), (r, is, f)))))
@@ -126,7 +129,8 @@ module _ (limits : Limits) where
     abbrev Sound : ℕ → List Line → Type 0
     Sound n ls = (y : TraceRefusal) → ¬ FaultFrom limits least false n ls y
 
-    light_trace : (n : ℕ) {ls : List Line} {header : Header} {rows : List Row} → AreTraceLines least ls header rows → n ≤ suc limits.lines → Sound n ls → IsLight n ls
+    light_trace : (n : ℕ) {ls : List Line} {header : Header} {rows : List Row} → AreTraceLines least ls header rows
+        → n ≤ suc limits.lines → Sound n ls → IsLight n ls
     light_trace n (blank {line = l} {more = ls} w b rest) few sound =
         let own : HasNoOwn n l = λ y f. sound y (inl f) in
         let count_small = not_many n l own in
@@ -134,7 +138,8 @@ module _ (limits : Limits) where
         (λ y f. sound y (inr (own, (w, to_true (FaultFrom limits least false (suc n) ls y) (InHeading limits least false n l ls y) (is_blank_line l) b f)))))
     light_trace n (heading {line = l} {more = ls} h w b is rest) few sound =
         let own : HasNoOwn n l = λ y f. sound y (inl f) in
-        let in_heading = λ (y : TraceRefusal) (f : InHeading limits least false n l ls y). sound y (inr (own, (w, to_false (FaultFrom limits least false (suc n) ls y) (InHeading limits least false n l ls y) (is_blank_line l) b f))) in
+        let in_heading = λ (y : TraceRefusal) (f : InHeading limits least false n l ls y).
+        sound y (inr (own, (w, to_false (FaultFrom limits least false (suc n) ls y) (InHeading limits least false n l ls y) (is_blank_line l) b f))) in
         let count_small = not_many n l own in
         one_more n l ls own (light_rows (scale_of least h) h (suc n) 0 None rest (omega (arith, count_small))
         (λ y f. in_heading y (inr ((λ z g. in_heading z (inl g)), (h, is, f)))))
@@ -148,12 +153,16 @@ module _ (limits : Limits) where
         let b = All-head IsBlankSoFar l (m ∷ ls) all w in
         let count_small = not_many n l own in
         one_more n l (m ∷ ls) own (light_blank (suc n) (m ∷ ls) (All-tail IsBlankSoFar l (m ∷ ls) all) rest (omega (arith, count_small))
-        (λ y f. sound y (inr (own, (w, to_true (FaultFrom limits least false (suc n) (m ∷ ls) y) (InHeading limits least false n l (m ∷ ls) y) (is_blank_line l) b f)))))
+        (λ y f. sound y (inr (
+          own,
+          (w, to_true (FaultFrom limits least false (suc n) (m ∷ ls) y) (InHeading limits least false n l (m ∷ ls) y) (is_blank_line l) b f),
+        ))))
 
     light : (o : Option Heading) (bytes : List ℕ) (rows : List Row) → HasRead o least bytes rows → Sound 1 (lines false bytes) → IsLight 1 (lines false bytes)
     light None bytes rows read sound = light_blank 1 (lines false bytes) read.0 (lines-lined bytes) (omega arith) sound
     light (Some h) bytes rows read sound = light_trace 1 read (omega arith) sound
 
     -- bytes that were read without a fault
-    pub few_bytes : (o : Option Heading) (bytes : List ℕ) (rows : List Row) → HasRead o least bytes rows → Sound 1 (lines false bytes) → length bytes ≤ 4097 * suc limits.lines
+    pub few_bytes : (o : Option Heading) (bytes : List ℕ) (rows : List Row) → HasRead o least bytes rows
+        → Sound 1 (lines false bytes) → length bytes ≤ 4097 * suc limits.lines
     few_bytes o bytes rows read sound = omega (arith, light o bytes rows read sound, weigh-lines bytes)

@@ -14,7 +14,8 @@ use Rattle.trace_stream.proofs.Living.{told_of_kept}
 
 module _ {F : Type 0} (Stands : F → Case → List ℕ → Type 0) (kind : Stream) where
   -- what was written and is to be written is the text of the rows so far
-  pub told_now : (live : Live F) (bytes text : List ℕ) → IsLive Stands kind live bytes text → IsTextOf kind live.rows.limits live.formula bytes false (text ++ live.text)
+  pub told_now : (live : Live F) (bytes text : List ℕ) → IsLive Stands kind live bytes text
+      → IsTextOf kind live.rows.limits live.formula bytes false (text ++ live.text)
   told_now live bytes text k = record {
     header = option_map (header_of live.formula.scale) live.rows.heading;
     rows = k.kept.rows;
@@ -24,17 +25,25 @@ module _ {F : Type 0} (Stands : F → Case → List ℕ → Type 0) (kind : Stre
   }
 
   -- and they have no fault
-  pub calm_now : (live : Live F) (bytes text : List ℕ) → IsLive Stands kind live bytes text → (x : Fault) → ¬ IsInputFault live.rows.limits live.formula bytes false x
+  pub calm_now : (live : Live F) (bytes text : List ℕ) → IsLive Stands kind live bytes text → (x : Fault)
+      → ¬ IsInputFault live.rows.limits live.formula bytes false x
   calm_now live bytes text k = sound_so_far live.formula live.rows k.case bytes k.kept
 
   -- it stands for the same bytes once its text is written
-  pub live_after : (mid : Live F) (bytes text : List ℕ) → IsLive Stands kind mid bytes text → IsLive Stands kind (record mid { text = [] }) bytes (text ++ mid.text)
+  pub live_after : (mid : Live F) (bytes text : List ℕ) → IsLive Stands kind mid bytes text
+      → IsLive Stands kind (record mid { text = [] }) bytes (text ++ mid.text)
   live_after mid bytes text k =
-      record { served = k.served; case = k.case; kept = k.kept; followed = subst (λ t. IsFollowed Stands kind mid.follower k.case t) (sym (append-nil (text ++ mid.text))) k.followed }
+      record {
+        served = k.served;
+        case = k.case;
+        kept = k.kept;
+        followed = subst (λ t. IsFollowed Stands kind mid.follower k.case t) (sym (append-nil (text ++ mid.text))) k.followed;
+      }
 
 module _ {F : Type 0} (Ended : F → Case → List ℕ → Type 0) (kind : Stream) where
   -- the whole text is that of all rows and their end
-  pub told_over : (limits : Limits) (f : Formula) (live : Live F) (bytes text : List ℕ) (holds : Bool) → IsOver Ended kind limits f live bytes text holds → IsTextOf kind limits f bytes true text
+  pub told_over : (limits : Limits) (f : Formula) (live : Live F) (bytes text : List ℕ) (holds : Bool)
+      → IsOver Ended kind limits f live bytes text holds → IsTextOf kind limits f bytes true text
   told_over limits f live bytes text holds k = record {
     header = Some k.case.trace.header;
     rows = k.case.trace.rows;

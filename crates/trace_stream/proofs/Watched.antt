@@ -1,5 +1,7 @@
 -- What the root of a network gives out as the rows of a trace come, and at their end: its text, and the truth at the start.
-use Rattle.std.proofs.Common.{◌≡◌, inl, inr, ℕ, zero, suc, ◌+◌, ◌-◌, ◌<◌, ◌≤◌, Bool, true, false, not, List, [], ◌∷◌, ◌++◌, length, take, drop, refl, sym, ap, ◌∙◌, subst, arith, append-nil, append_assoc, length-append, Some, None, ℤ, pos, ◌-ℤ◌, ◌<ℤ◌, ◌≤ℤ◌}
+use Rattle.std.proofs.Common.{◌≡◌, inl, inr, ℕ, zero, suc, ◌+◌, ◌-◌, ◌<◌, ◌≤◌, Bool, true, false, not, List}
+use Rattle.std.proofs.Common.{[], ◌∷◌, ◌++◌, length, take, drop, refl, sym, ap, ◌∙◌, subst, arith, append-nil}
+use Rattle.std.proofs.Common.{append_assoc, length-append, Some, None, ℤ, pos, ◌-ℤ◌, ◌<ℤ◌, ◌≤ℤ◌}
 use Rattle.std.specs.Prelude.{◌≢◌, All, cond, int_lt, MatchBool}
 use Rattle.std.proofs.lemmas.Bool.{false≢true}
 use Rattle.std.proofs.lemmas.Int.{ints}
@@ -19,7 +21,8 @@ use Rattle.stl_syntax.specs.Texts.{AreVerdictLines}
 use Rattle.stl_syntax.specs.Stream.{answered_by, NewText, IsNewText, IsRowsText, IsRestText}
 use Rattle.stl_syntax.specs.declared.items.Verdict.{Verdict}
 use Rattle.stl_syntax.specs.declared.node.Node.{Node}
-use Rattle.online_nodes.specs.Network.{Event, row, step, close, take as taken, is_atom, node_is_atom, initial, after_event, state_from, state, State, Front, shown, IsRun, Emitted, EmittedFrom}
+use Rattle.online_nodes.specs.Network.{Event, row, step, close, take as taken, is_atom, node_is_atom, initial}
+use Rattle.online_nodes.specs.Network.{after_event, state_from, state, State, Front, shown, IsRun, Emitted, EmittedFrom}
 use Rattle.online_nodes.specs.Cuts.{begins, ends, Before, Same}
 use Rattle.online_nodes.specs.Driven.{rows_of, steps_of, takes, pass_of, IsEmptied, IsDriven, nothing, by_rows, by_end}
 use Rattle.online_nodes.specs.Needed.{IsTaken, none as none_taken, other}
@@ -41,6 +44,7 @@ use Rattle.trace_stream.proofs.Taking.{first_alike, emitted_takes}
 abbrev pub AreOthers : List Event → Type 0
 AreOthers events = All (λ (e : Event). e ≢ taken) events
 
+-- a list that ends with a row is not empty
 pub no_row : (before : List Row) (r : Row) → before ++ r ∷ [] ≡ [] → ⊥
 no_row [] r e = cc
 no_row (q ∷ before) r e = cc
@@ -54,6 +58,7 @@ abbrev pub show : ℕ → Front → Front
 show b None = None
 show b (Some f) = cond (int_lt f (pos b)) None (Some f)
 
+-- what is shown follows from the first time and the front
 pub shown_by : (s : State) (i : ℕ) (b : ℕ) (o : Front) → first_time s.rows ≡ b → s.fronts i ≡ o → shown s i ≡ show b o
 shown_by s i b o same e = ap (show (first_time s.rows)) e ∙ ap (λ n. show n o) same
 
@@ -100,7 +105,9 @@ module _ (nodes : List Node) (header : Header) where
 
   -- the rows of a state, and whether the end came
   pub record IsAfter (rows : List Row) (ended : Bool) (s : State) : Type 0 where
+    -- the run has these rows
     pub rows_are : s.rows ≡ rows
+    -- and this end
     pub closed_is : s.closed ≡ ended
 
   -- rows that come and that no step follows
@@ -135,6 +142,7 @@ module _ (nodes : List Node) (header : Header) where
   driven_emptied (by_rows more r n before emptied) = emptied
   driven_emptied (by_end n before some emptied) = emptied
 
+  -- without rows no event was driven
   pub none_driven : {rows : List Row} {ended : Bool} {events : List Event} → IsDriven nodes header rows ended events → rows ≡ [] → events ≡ []
   none_driven nothing e = refl
   none_driven (by_rows {rows = rows} more r n before emptied) e = absurd (no_row (rows ++ more) r e)
@@ -152,11 +160,17 @@ module _ (nodes : List Node) (header : Header) where
 
   -- what the root had given out before an event and the steps, and what it gave out at them
   pub record Passing (events : List Event) (e : Event) (emitted : List Verdict) : Type 0 where
+    -- what the root gave out before
     pub first : List Verdict
+    -- and by this pass
     pub beyond : List Verdict
+    -- both together by all events
     pub given : Emitted nodes header ((events ++ e ∷ []) ++ steps_of 0 nodes) (length nodes - 1) (first ++ beyond)
+    -- those before were taken
     pub taken_first : IsTaken nodes header ((events ++ e ∷ []) ++ steps_of 0 nodes) (length first)
+    -- the truth at the start is that of before
     pub truth : first_truth first ≡ first_truth emitted
+    -- and the others are given by the pass
     pub gives : EmittedFrom nodes header (length nodes - 1) (state_from nodes initial events) (e ∷ steps_of 0 nodes) beyond
 
   -- of a run whose verdicts were all taken, an event and the steps, what was given out parts so
@@ -191,11 +205,17 @@ module _ (nodes : List Node) (header : Header) where
 
   -- after the takes
   pub record HasPassed (events : List Event) (e : Event) (given beyond : List Verdict) (v : Network) (old new : List ℕ) : Type 0 where
+    -- how many verdicts were taken
     pub made : ℕ
+    -- and the root's edge is empty
     pub emptied : IsEmptied nodes header (events ++ pass_of e nodes made)
+    -- the network stands for the run
     pub stands : Stands nodes header v.net (events ++ pass_of e nodes made)
+    -- the root gave out what was given
     pub is_emitted : Emitted nodes header (events ++ pass_of e nodes made) (length nodes - 1) given
+    -- the truth at the start is that of the first of them
     pub start : v.start ≡ first_truth given
+    -- and their lines were appended
     pub lines : Grew (AreVerdictLines v.formula.scale beyond) old new
 
   -- once all was taken the run is driven on, and the lines are of what was given out last
@@ -236,6 +256,7 @@ abbrev pub front_after : Subformula → List Row → Front
 front_after p [] = None
 front_after p (r ∷ rows) = answered_by r.time p (last_time r.time rows)
 
+-- the front after one row more
 pub front_push : (p : Subformula) (rows : List Row) (r : Row) → front_after p (rows ++ r ∷ []) ≡ answered_by (first_time (rows ++ r ∷ [])) p r.time
 front_push p [] r = refl
 front_push p (q ∷ rows) r = ap (answered_by q.time p) (time_appended q.time rows r)
@@ -259,8 +280,11 @@ not_below f g h = by_test (int_lt f g) refl
 
 -- the first of the verdicts has a truth, which is that at the start of the trace
 pub record StartTold (p : Subformula) (tr : Trace) (vs : List Verdict) : Type 0 where
+  -- the truth at the start
   pub holds : Bool
+  -- it is that of the first verdict
   pub first : first_truth vs ≡ Some holds
+  -- and the formula's
   pub truth : MatchBool holds (Truth p tr (start tr)) (¬ Truth p tr (start tr))
 
 not_false : (b : Bool) → false ≡ not b → b ≡ true

@@ -1,5 +1,6 @@
 -- The verdicts of a case after one row more, and at the end: from what the network's calls answer to what follows a case.
-use Rattle.std.proofs.Common.{◌≡◌, ◌⊎◌, inl, inr, ℕ, ◌<◌, Bool, true, false, List, [], ◌∷◌, ◌++◌, length, refl, sym, ap, ◌∙◌, subst, arith, append_assoc, Some, None}
+use Rattle.std.proofs.Common.{◌≡◌, ◌⊎◌, inl, inr, ℕ, ◌<◌, Bool, true, false, List, [], ◌∷◌, ◌++◌}
+use Rattle.std.proofs.Common.{length, refl, sym, ap, ◌∙◌, subst, arith, append_assoc, Some, None}
 use Rattle.std.specs.Prelude.{◌≢◌, IfSome, MatchBool}
 use Rattle.std.proofs.Math.Seq.{take-append_seam}
 use Rattle.frac128.specs.declared.frac.Frac.{Frac}
@@ -22,7 +23,8 @@ use Rattle.trace_stream.specs.declared.case.Case.{Case}
 use Rattle.trace_stream.specs.declared.verdicts.Network.{Network}
 use Rattle.trace_stream.specs.declared.verdicts.Verdicts.{Verdicts}
 use Rattle.trace_stream.proofs.RowTimes.{first_to_last}
-use Rattle.trace_stream.proofs.Watched.{by_row, driven_at, driven_emptied, Passing, passing_of, pass_before, HasPassed, passed_of, StartTold, start_truth, row_text, rest_text, row_told}
+use Rattle.trace_stream.proofs.Watched.{by_row, driven_at, driven_emptied, Passing, passing_of, pass_before}
+use Rattle.trace_stream.proofs.Watched.{HasPassed, passed_of, StartTold, start_truth, row_text, rest_text, row_told}
 
 -- ---- the last row
 
@@ -30,6 +32,7 @@ after_time : (r : Row) (rows : List Row) → (last_row_after r rows).time ≡ la
 after_time r [] = refl
 after_time r (q ∷ rows) = after_time q rows
 
+-- a row that may come lies behind the last
 pub later_row : (rows : List Row) (r : Row) → (0 < length rows → last_time 0 rows < r.time) → IfSome (last_row_of rows) (λ (l : Row). l.time < r.time)
 later_row [] r h = tt
 later_row (q ∷ rows) r h = subst (λ n. n < r.time) (sym (after_time q rows)) (h (omega arith))
@@ -95,7 +98,8 @@ module _ (v : Verdicts) (c : Case) (w : IsWatched false v c) where
   pub passing : (e : Event) (net : Parts) → e ≢ taken → Stands c.formula.nodes c.trace.header net ((w.events ++ e ∷ []) ++ steps_of 0 c.formula.nodes)
       → Passing c.formula.nodes c.trace.header w.events e w.emitted
   passing e net ne st =
-      passing_of c.formula.nodes c.trace.header e w.emitted st.shows.root.emitted ne (driven_emptied c.formula.nodes c.trace.header w.driven) w.is_emitted st.shows.root.is_emitted
+      passing_of c.formula.nodes c.trace.header e w.emitted st.shows.root.emitted ne
+      (driven_emptied c.formula.nodes c.trace.header w.driven) w.is_emitted st.shows.root.is_emitted
 
   -- so what the root gave out can be taken
   pub can_take : (e : Event) (x : Passing c.formula.nodes c.trace.header w.events e w.emitted) (mid : Network)
@@ -149,8 +153,11 @@ module _ (v : Verdicts) (c : Case) (w : IsWatched false v c) where
 
   -- at the end the truth at the start is kept, and is so
   pub record IsOut (x : Passing c.formula.nodes c.trace.header w.events close w.emitted) (after : Network) (old mid : List ℕ) : Type 0 where
+    -- the end has passed through all nodes
     pub passed : HasPassed c.formula.nodes c.trace.header w.events close (x.first ++ x.beyond) x.beyond after old mid
+    -- the run was driven to its end
     pub driven : IsDriven c.formula.nodes c.trace.header c.trace.rows true (w.events ++ pass_of close c.formula.nodes passed.made)
+    -- and the truth at the start is told
     pub truth : StartTold (root c.formula.nodes) c.trace (x.first ++ x.beyond)
 
   -- the pass at the end leaves that
@@ -175,7 +182,8 @@ module _ (v : Verdicts) (c : Case) (w : IsWatched false v c) where
 
   -- after the end, once the line of the start was put
   pub end_followed : (f : Formula) (made : List ℕ) (x : Passing c.formula.nodes c.trace.header w.events close w.emitted)
-      (after : Network) (written : Frac) (old mid new : List ℕ) (holds : Bool) → StreamText verdicts (root c.formula.nodes) c.trace.header c.trace.rows false made
+      (after : Network) (written : Frac) (old mid new : List ℕ) (holds : Bool)
+      → StreamText verdicts (root c.formula.nodes) c.trace.header c.trace.rows false made
       → IsCase f c → IsTrace c.trace → after.formula ≡ v.network.formula → IsOut x after old mid → after.start ≡ Some holds → new ≡ mid ++ start_line holds
       → IsFollowedOut (λ case text. IsWatched true (record v { network = after; last = written }) case) verdicts c old new made holds
   end_followed f made x after written old mid new holds told is t same o kept line =

@@ -14,7 +14,8 @@ use Rattle.trace_stream.proofs.MarginTexts.{margin_stream_grows}
 use Rattle.trace_stream.proofs.RowsBefore.{GoesOnFrom, from_none, from_some, rows_go_on, rows_once}
 
 -- of the rows, and of those that follow them
-rows_grow : {f : Formula} {header : Header} {closed : Bool} {rows : List Row} {i den : ℕ} {text : List ℕ} → IsWideRows f header closed rows i den text → (beyond : List Row) (whole : Bool) (all : List ℕ)
+rows_grow : {f : Formula} {header : Header} {closed : Bool} {rows : List Row} {i den : ℕ} {text : List ℕ}
+    → IsWideRows f header closed rows i den text → (beyond : List Row) (whole : Bool) (all : List ℕ)
     → IsMarginStream (root (scaled f header.scale).nodes) header (rows ++ beyond) whole all → IsLonger text all
 rows_grow {f} {header} (at_row before r {text = text} needed told) beyond whole all t =
     margin_stream_grows (root (scaled f header.scale).nodes) header before (r ∷ beyond) whole text all told
@@ -23,7 +24,8 @@ rows_grow {f} {header} (at_end {rows = rows} {text = text} needed told) beyond w
     margin_stream_grows (root (scaled f header.scale).nodes) header rows beyond whole text all told t
 
 -- without rows nothing was made
-no_rows_made : {f : Formula} {header : Header} {closed : Bool} {rows : List Row} {i den : ℕ} {text : List ℕ} → IsWideRows f header closed rows i den text → rows ≡ [] → text ≡ []
+no_rows_made : {f : Formula} {header : Header} {closed : Bool} {rows : List Row} {i den : ℕ} {text : List ℕ}
+    → IsWideRows f header closed rows i den text → rows ≡ [] → text ≡ []
 no_rows_made (at_row before r needed told) e = absurd (some before e)
   where
     some : (before : List Row) → before ++ r ∷ [] ≡ [] → ⊥
@@ -33,8 +35,10 @@ no_rows_made {f} {header} (at_end {rows = rows} {text = text} needed told) e =
     subst (λ rs. IsMarginStream (root (scaled f header.scale).nodes) header rs false text → text ≡ []) (sym e) (λ k. k) told
 
 -- of the bytes up to the refusal, and of those that follow them
-pub wide_text_of_all : (f : Formula) (seen : List ℕ) (seen_end : Bool) (i den : ℕ) (text later bytes : List ℕ) (ended : Bool) (all : List ℕ) → bytes ≡ seen ++ later
-    → (seen_end ≡ true → (ended ≡ true) × (later ≡ [])) → IsWideByRow (limits_of margins) f seen seen_end i den text → OwesRows margins f bytes ended all → IsLonger text all
+pub wide_text_of_all : (f : Formula) (seen : List ℕ) (seen_end : Bool) (i den : ℕ) (text later bytes : List ℕ) (ended : Bool)
+    (all : List ℕ) → bytes ≡ seen ++ later
+    → (seen_end ≡ true → (ended ≡ true) × (later ≡ [])) → IsWideByRow (limits_of margins) f seen seen_end i den text
+    → OwesRows margins f bytes ended all → IsLonger text all
 wide_text_of_all f seen seen_end i den text later bytes ended all parts at w owed = by_end w.seen_end refl
   where
     whole : bytes ≡ w.seen ++ (w.later ++ later)
@@ -49,14 +53,16 @@ wide_text_of_all f seen seen_end i den text later bytes ended all parts at w owe
     by_end : (b : Bool) → w.seen_end ≡ b → IsLonger text all
     by_end false e =
         going (rows_go_on (limits_of margins) f w.seen (w.later ++ later) ended
-        (sound (subst (λ (x : Bool). IsSound (limits_of margins) f w.seen x) e w.sound) (subst (λ (x : Bool). TraceOf w.seen x f.scale w.header w.rows) e w.read))
+        (sound (subst (λ (x : Bool). IsSound (limits_of margins) f w.seen x) e w.sound)
+        (subst (λ (x : Bool). TraceOf w.seen x f.scale w.header w.rows) e w.read))
         (subst (λ b. AreRowsBefore (limits_of margins) f b ended owed.header owed.rows owed.whole) whole owed.before))
     by_end true e =
         let mid = w.at_end e in
         let last = at mid.0 in
         let same : bytes ≡ w.seen = whole ∙ ap (λ b. w.seen ++ (b ++ later)) mid.1 ∙ ap (λ b. w.seen ++ b) last.1 ∙ append-nil w.seen in
         let once = rows_once (limits_of margins) f w.seen true
-        (sound (subst (λ (x : Bool). IsSound (limits_of margins) f w.seen x) e w.sound) (subst (λ (x : Bool). TraceOf w.seen x f.scale w.header w.rows) e w.read))
+        (sound (subst (λ (x : Bool). IsSound (limits_of margins) f w.seen x) e w.sound)
+        (subst (λ (x : Bool). TraceOf w.seen x f.scale w.header w.rows) e w.read))
         (subst (λ (x : Bool). AreRowsBefore (limits_of margins) f w.seen x owed.header owed.rows owed.whole) last.0
         (subst (λ b. AreRowsBefore (limits_of margins) f b ended owed.header owed.rows owed.whole) same owed.before)) in
         going (from_some (sym once.same_header) ([], sym once.same_rows ∙ sym (append-nil w.rows)))

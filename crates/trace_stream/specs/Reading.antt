@@ -59,7 +59,8 @@ pub record HasHeader (f : Formula) (reader : Reader) : Type 0 where
 
 -- the first fault of all bytes, where the reader ended with this one: what a header without rows lacks comes before it
 pub data IsLastFault {T : Type 0} (f : Formula) (reader : Reader) (case : Option T) (r : TraceRefusal) : StreamStop → Type 0 where
-  of_header : {stop : StreamStop} (h : Heading) → case ≡ None → r.kind ≡ NoRows → reader.heading ≡ Some h → IsNoBegin f r.line h stop → IsLastFault f reader case r stop
+  of_header : {stop : StreamStop} (h : Heading) → case ≡ None → r.kind ≡ NoRows → reader.heading ≡ Some h
+      → IsNoBegin f r.line h stop → IsLastFault f reader case r stop
   own : (case ≡ None → r.kind ≡ NoRows → (h : Heading) → reader.heading ≡ Some h → (x : Fault) → ¬ IsLacking f r.line h x)
       → IsLastFault f reader case r (Faulty (InTrace r))
 

@@ -1,5 +1,6 @@
 //! A trace that is read as its bytes come, with what follows its rows.
-ghost use Rattle.std.specs.Prelude.{◌≡◌, ◌⊎◌, ◌^◌, ◌<◌, ◌≤◌, ◌++◌, ℕ, List, [], length, take, true, false, Option, Some, option_map, IfOk, IfErr, OnErr, MatchResult};
+ghost use Rattle.std.specs.Prelude.{◌≡◌, ◌⊎◌, ◌^◌, ◌<◌, ◌≤◌, ◌++◌, ℕ, List, [], length, take, true};
+ghost use Rattle.std.specs.Prelude.{false, Option, Some, option_map, IfOk, IfErr, OnErr, MatchResult};
 ghost use Rattle.stl_syntax.specs.Formula.{Formula as Parsed};
 ghost use Rattle.stl_syntax.specs.Trace.{IsTrace};
 ghost use Rattle.stl_syntax.specs.WellFormed.{IsScale};
@@ -7,7 +8,8 @@ ghost use Rattle.trace_reader.specs.TraceText.{Heading, scale_of};
 ghost use Rattle.trace_reader.specs.Reader.{header_of};
 ghost use Rattle.trace_stream.specs.Cases.{IsBegun, IsCase, IsNoBegin, CanKeep, with_row};
 ghost use Rattle.trace_stream.specs.Streams.{HasStream};
-ghost use Rattle.trace_stream.specs.Following.{Follows, IsFollowed, IsOpened, IsEndedOut, IsHeldUp, IsLive, HasLived, IsLiveOpen, HasLivedOpen, IsLastTaken, IsOver, IsLiveStop, IsOpenStop, stop_of};
+ghost use Rattle.trace_stream.specs.Following.{Follows, IsFollowed, IsOpened, IsEndedOut, IsHeldUp, IsLive, HasLived};
+ghost use Rattle.trace_stream.specs.Following.{IsLiveOpen, HasLivedOpen, IsLastTaken, IsOver, IsLiveStop, IsOpenStop, stop_of};
 ghost use Rattle.trace_stream.specs.declared.case.Case.{Case as Of};
 
 use crate::case::{Case, begin};
@@ -85,7 +87,8 @@ fn take_row<F: Follow>(
 ) -> Result<(), StreamStop>
     requires { (case : Option Of) × (made : List ℕ) × IsOpened F.stands F.owes F.kind follower.old case made × CanKeep case row.now }
     ensures ok { (case : Option Of) (made : List ℕ) → IsOpened F.stands F.owes F.kind follower.old case made → CanKeep case row.now
-        → IfOk result (λ _. (grown : List ℕ) × (text.new ≡ text.old ++ grown) × IsOpened F.stands F.owes F.kind follower.new (option_map (with_row row.now) case) (made ++ grown)) }
+        → IfOk result (λ _. (grown : List ℕ) × (text.new ≡ text.old ++ grown)
+        × IsOpened F.stands F.owes F.kind follower.new (option_map (with_row row.now) case) (made ++ grown)) }
     ensures err { (case : Option Of) (made : List ℕ) → IsOpened F.stands F.owes F.kind follower.old case made → CanKeep case row.now
         → IfErr result (IsHeldUp F.kind (option_map (with_row row.now) case) false text.old text.new) }
     ensures owing { (case : Option Of) (made : List ℕ) → IsOpened F.stands F.owes F.kind follower.old case made
@@ -162,7 +165,8 @@ impl<F: Follow> Live<F> {
         requires { HasLivedOpen F.stands F.owes F.kind self.old }
         ensures taken { (bytes written : List ℕ) → IsLiveOpen F.stands F.owes F.kind self.old bytes written → MatchResult result
             (λ n. IsLiveOpen F.stands F.owes F.kind self.new (bytes ++ take n piece.now) written)
-            (λ e. IsOpenStop F.stands F.owes F.kind self.old.rows.limits self.old.formula false (bytes ++ piece.now) self.new.follower (written ++ self.new.text) e) }
+            (λ e. IsOpenStop F.stands F.owes F.kind self.old.rows.limits self.old.formula false
+            (bytes ++ piece.now) self.new.follower (written ++ self.new.text) e) }
         ensures within { MatchResult result (λ n. n ≤ length piece.now) (λ _. Unit {0}) }
         ensures progress { MatchResult result (λ n. 0 < length piece.now → 0 < n) (λ _. Unit {0}) }
         ensures limits { self.new.rows.limits ≡ self.old.rows.limits }
@@ -191,7 +195,8 @@ impl<F: Follow> Live<F> {
         requires { HasLivedOpen F.stands F.owes F.kind self.old }
         ensures taken { (bytes written : List ℕ) → IsLiveOpen F.stands F.owes F.kind self.old bytes written → MatchResult result
             (λ _. IsLiveOpen F.stands F.owes F.kind self.new (bytes ++ piece.now) written)
-            (λ e. IsOpenStop F.stands F.owes F.kind self.old.rows.limits self.old.formula false (bytes ++ piece.now) self.new.follower (written ++ self.new.text) e) }
+            (λ e. IsOpenStop F.stands F.owes F.kind self.old.rows.limits self.old.formula false
+            (bytes ++ piece.now) self.new.follower (written ++ self.new.text) e) }
         ensures limits { self.new.rows.limits ≡ self.old.rows.limits }
         ensures formula { self.new.formula ≡ self.old.formula }
     {

@@ -4,7 +4,8 @@ use Rattle.std.specs.Prelude.{slice_get}
 use Rattle.std.proofs.lemmas.Option.{slice_get-get_or}
 use Rattle.rational.specs.Rational.{Rational, ◌<ʳ◌, ◌≤ʳ◌, ◌≈◌}
 use Rattle.rational.specs.Extended.{Extended, ◌≤ᵉ◌, value_at}
-use Rattle.rational.proofs.Order.{le_or_lt, le_refl, le_of_lt, le_of_same, ge_of_same, le_trans, lt_of_lt_of_le, lt_of_le_of_lt, same_of_le, same_refl, same_sym}
+use Rattle.rational.proofs.Order.{le_or_lt, le_refl, le_of_lt, le_of_same, ge_of_same, le_trans}
+use Rattle.rational.proofs.Order.{lt_of_lt_of_le, lt_of_le_of_lt, same_of_le, same_refl, same_sym}
 use Rattle.rational.proofs.ExtendedLemmas.{le_transᵉ}
 use Rattle.rational.proofs.AffineLemmas.{same_reflᵉ}
 use Rattle.value_laws.specs.Members.{ShapeOf, ShapeLaws}

@@ -31,8 +31,11 @@ in_order_upto f h l t r a b (inr o) = inr (record { left = o.left; right = betwe
 
 -- two signals of a kind of value, with its laws
 pub record AreSignals {P : Type 0} (shape : ShapeOf P) (p q : List (Knot P)) : Type 0 where
+  -- the laws of the kind of value
   pub laws : ShapeLaws shape
+  -- the left side is a signal
   pub left : IsSignal shape p
+  -- and the right side
   pub right : IsSignal shape q
 
 module _ {P : Type 0} {shape : ShapeOf P} {p q : List (Knot P)} (two : AreSignals shape p q) where

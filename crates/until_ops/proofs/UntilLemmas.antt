@@ -47,8 +47,11 @@ can_mirror {A} {shape} {from} {to} laws e low high h = by_fault e h
 
 -- the signal of the one list, which is limited, is that of the other, mirrored about 0
 pub record IsMirrorOf {P : Type 0} (shape : ShapeOf P) (ks new : List (Knot P)) : Type 0 where
+  -- it is a signal
   pub signal : IsSignal shape ks
+  -- within the limits
   pub limited : IsLimited shape ks
+  -- that tells at each time what the other tells at the opposite one
   pub tells : Tells shape (λ t v. IsWorth shape ks (subtract (whole (pos 0)) t) v)
       (subtract (whole (pos 0)) (stop ks)) (subtract (whole (pos 0)) (start ks)) new
 
@@ -92,8 +95,11 @@ module _ {P : Type 0} {shape : ShapeOf P} {ks new : List (Knot P)} (m : IsMirror
 
 -- both sides mirrored about 0
 pub record AreMirrors {P : Type 0} (shape : ShapeOf P) (p q left right : List (Knot P)) : Type 0 where
+  -- the laws of the kind of value
   pub laws : ShapeLaws shape
+  -- the left side, mirrored
   pub of_left : IsMirrorOf shape p left
+  -- the right side, mirrored
   pub of_right : IsMirrorOf shape q right
 
 module _ {P : Type 0} {shape : ShapeOf P} {p q left right : List (Knot P)} (m : AreMirrors shape p q left right) where

@@ -1,5 +1,6 @@
 -- How a walk along two signals stands: at the first instant, and from event to event.
-use Rattle.std.proofs.Common.{◌≡◌, ℕ, ◌+◌, ◌-◌, ◌*◌, ◌<◌, ◌^◌, ◌⊎◌, inl, inr, List, [], ◌∷◌, length, Some, Bool, IsTrue, true, false, refl, sym, ◌∙◌, subst, ap, arith}
+use Rattle.std.proofs.Common.{◌≡◌, ℕ, ◌+◌, ◌-◌, ◌*◌, ◌<◌, ◌^◌, ◌⊎◌, inl, inr, List, [], ◌∷◌, length}
+use Rattle.std.proofs.Common.{Some, Bool, IsTrue, true, false, refl, sym, ◌∙◌, subst, ap, arith}
 use Rattle.std.specs.Prelude.{slice_get, MatchBool}
 use Rattle.rational.specs.Rational.{Rational, IsWithin, ◌<ʳ◌, ◌≤ʳ◌, ◌≈◌}
 use Rattle.rational.specs.Time.{missing}
@@ -76,9 +77,13 @@ pub record IsRead {P : Type 0} (shape : ShapeOf P) (ks : List (Knot P)) (i : ℕ
 
 -- a walk along two signals that stands, and what lies at its places
 pub record IsWalk {P : Type 0} (shape : ShapeOf P) (p q built : List (Knot P)) (now : Stand P) (k l m n : Knot P) (next : Frac) : Type 0 where
+  -- both sides are signals
   pub two : AreSignals shape p q
+  -- over one domain, within the limits
   pub sides : AreSides shape p q
+  -- the walk stands for what it has built
   pub stands : Stands shape p q built now
+  -- it stands at these knots of both
   pub at : IsAt p q now k l m n next
 
 -- a place of n that stays, or goes on by one
@@ -273,11 +278,17 @@ module _ {P : Type 0} {shape : ShapeOf P} {p q built : List (Knot P)} {now : Sta
 -- the next event of a walk: how the since goes on up to it, and both signals read at it
 pub record IsNext {P : Type 0} (shape : ShapeOf P) (p q : List (Knot P)) (now : Stand P) (k l : Knot P) (next : Frac)
     (turn : Turn) (course : Course P) (x y : Reading P) (v : P) : Type 0 where
+  -- the next event is the next knot, or a crossing of the two gaps
   pub turning : IsTurn (shape.function k.after) (shape.function l.after) now.at next turn
+  -- up to it the since goes on by this course
   pub goes : IsCourse shape (gap_to now k l turn.time) course
+  -- the left side is read at the event
   pub left : IsRead shape p now.left (value turn.time) x.place x.shape
+  -- and the right side
   pub right : IsRead shape q now.right (value turn.time) y.place y.shape
+  -- the value there is one of four shapes
   pub one : (v ≡ course.first) ⊎ (v ≡ course.second) ⊎ (v ≡ x.shape) ⊎ (v ≡ y.shape)
+  -- namely the since of what came before and of the two points
   pub point : IsPointOf course.side (value_at (shape.function course.first) (value turn.time)) (value_at (shape.function course.second) (value turn.time))
       (value_at (shape.function x.shape) (value turn.time)) (value_at (shape.function y.shape) (value turn.time))
       (value_at (shape.function v) (value turn.time))

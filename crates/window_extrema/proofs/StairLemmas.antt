@@ -1,5 +1,6 @@
 -- How the queue of a moving range changes.
-use Rattle.std.proofs.Common.{subst, take, ◌-◌, ◌∙◌, ◌≡◌, ℕ, suc, ◌+◌, ◌<◌, ◌≤◌, ◌⊎◌, inl, inr, Bool, true, false, List, [], ◌∷◌, ◌++◌, refl, sym, ap, arith, length, if◌then◌else◌}
+use Rattle.std.proofs.Common.{subst, take, ◌-◌, ◌∙◌, ◌≡◌, ℕ, suc, ◌+◌, ◌<◌, ◌≤◌, ◌⊎◌, inl, inr, Bool, true}
+use Rattle.std.proofs.Common.{false, List, [], ◌∷◌, ◌++◌, refl, sym, ap, arith, length, if◌then◌else◌}
 use Rattle.std.specs.Prelude.{nat_lt, slice_get, Some, All, slice_index_or}
 use Rattle.std.proofs.lemmas.List.Elements.{All-nil, All-cons}
 use Rattle.rational.specs.Extended.{Extended, Affine, ◌≤ᵉ◌}
@@ -12,31 +13,37 @@ use Rattle.std.proofs.Common.{Less, Equal, Greater}
 use Rattle.window_extrema.specs.Range.{IsAtMost, IsGreatestOf}
 use Rattle.window_extrema.specs.Stairs.{AreStairs, AreStairsTo, from_place}
 
+-- a value that does not come out as less is at least as great
 pub at_most_where_not_less : (o : Ordering) (v w : Extended) → IsOrderᵉ o v w → (o ≡ Less → ⊥) → w ≤ᵉ v
 at_most_where_not_less Less v w h n = absurd (n refl)
 at_most_where_not_less Equal v w h n = h.at_least
 at_most_where_not_less Greater v w h n = le_of_ltᵉ w v h
 
+-- two options that are the same hold the same item
 pub some_same : {P : Type 0} {x y : P} → Some x ≡ Some y → x ≡ y
 some_same h = grind (arith, h)
 
 -- a greatest of a range is one of the range's end that it lies in
-narrower : {P : Type 0} (function : P → Affine) (items : List P) {low lo high i : ℕ} → low ≤ lo → lo ≤ i → IsGreatestOf function items low high i → IsGreatestOf function items lo high i
+narrower : {P : Type 0} (function : P → Affine) (items : List P) {low lo high i : ℕ} → low ≤ lo → lo ≤ i
+    → IsGreatestOf function items low high i → IsGreatestOf function items lo high i
 narrower function items l m h = record {
   from = m;
   below = h.below;
   greatest = λ j x y from below u v. h.greatest j x y (omega (arith, l, from)) below u v;
 }
 
+-- a queue of falling items up to its high end is one up to any place
 pub stairs_to : {P : Type 0} (function : P → Affine) (items : List P) (place low high : ℕ) (queue : List ℕ)
     → AreStairs function items low high queue → AreStairsTo function items place low high queue
 stairs_to function items place low high [] h = λ j x y from below u v. absurd (omega (arith, h, from, below))
 stairs_to function items place low high (i ∷ queue) h = (h.0, stairs_to function items place (suc i) high queue h.1)
 
+-- no place of the queue lies at or after the high end
 pub below_end : {P : Type 0} (function : P → Affine) (items : List P) (low high : ℕ) (queue : List ℕ)
     → AreStairs function items low high queue → (n : ℕ) → high ≤ n → All (λ i. i < n) queue
 below_end function items low high [] h n m = All-nil _
-below_end function items low high (i ∷ queue) h n m = All-cons (λ i. i < n) i queue (omega (arith, h.0.below, m)) (below_end function items (suc i) high queue h.1 n m)
+below_end function items low high (i ∷ queue) h n m =
+    All-cons (λ i. i < n) i queue (omega (arith, h.0.below, m)) (below_end function items (suc i) high queue h.1 n m)
 
 -- a last place whose item is at most the one at `place` may go
 pub without_last : {P : Type 0} (function : P → Affine) (items : List P) (place low high last : ℕ) (queue : List ℕ) (x : P)
@@ -92,6 +99,7 @@ alone {P = P} function items place low l h = record {
 after : (place : ℕ) → suc place ≡ place + 1
 after place = omega arith
 
+-- a list without items is the empty one
 pub empty_list : (xs : List ℕ) → length xs ≡ 0 → xs ≡ []
 empty_list [] h = refl
 empty_list (x ∷ xs) h = absurd (omega (arith, h))
@@ -99,7 +107,8 @@ empty_list (x ∷ xs) h = absurd (omega (arith, h))
 -- where no place is left, the new one stands alone
 pub with_first : {P : Type 0} (function : P → Affine) (items : List P) (place low : ℕ) → low ≤ place
     → AreStairsTo function items place low place [] → AreStairs function items low (place + 1) (place ∷ [])
-with_first function items place low l h = subst (λ n. AreStairs function items low n (place ∷ [])) (after place) (alone function items place low l h, omega arith)
+with_first function items place low l h =
+    subst (λ n. AreStairs function items low n (place ∷ [])) (after place) (alone function items place low l h, omega arith)
 
 -- a place whose item is at most the last one's comes after it
 come_last : {P : Type 0} (function : P → Affine) (items : List P) (place low last : ℕ) (queue : List ℕ) (x : P)
@@ -117,6 +126,7 @@ come_last {P = P} function items place low last (i ∷ queue) x u le h =
     new : (suc i ≤ last) × (last < place) → (y z : P) → slice_get items place ≡ Some y → slice_get items i ≡ Some z → IsAtMost function y z
     new m y z p q = le_transᵉ _ _ _ (le y p) (h.0.greatest last x z (omega (arith, m.0, h.0.from)) m.1 u q)
 
+-- a new item goes behind a last one that is at least as great
 pub with_last : {P : Type 0} (function : P → Affine) (items : List P) (place low last : ℕ) (queue : List ℕ) (x : P)
     → slice_get items last ≡ Some x → ((y : P) → slice_get items place ≡ Some y → IsAtMost function y x)
     → AreStairsTo function items place low place (queue ++ last ∷ []) → AreStairs function items low (place + 1) ((queue ++ last ∷ []) ++ place ∷ [])
@@ -129,7 +139,8 @@ pub later : {P : Type 0} (function : P → Affine) (items : List P) (low lo high
 later function items low lo high [] l m h = omega (arith, h, l)
 later {P = P} function items low lo high (i ∷ queue) l m h = by_test (nat_lt i lo) refl (λ k. later function items (suc i) lo high queue k m h.1)
   where
-    by_test : (b : Bool) → nat_lt i lo ≡ b → (suc i ≤ lo → AreStairs function items lo high (from_place lo queue)) → AreStairs function items lo high (if b then from_place lo queue else i ∷ queue)
+    by_test : (b : Bool) → nat_lt i lo ≡ b → (suc i ≤ lo → AreStairs function items lo high (from_place lo queue))
+        → AreStairs function items lo high (if b then from_place lo queue else i ∷ queue)
     by_test true e rest = rest (grind (arith, e))
     by_test false e rest = (narrower function items l (grind (arith, e)) h.0, h.1)
 

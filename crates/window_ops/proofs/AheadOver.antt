@@ -35,6 +35,7 @@ abbrev pub ahead_offsets : ℕ → ℕ → Bool → Bool → Offsets
 ahead_offsets a b a_in b_in = record { low = pos a; high = pos b; low_in = a_in; high_in = b_in }
 
 module _ (from to : Rational) (a b : ℕ) (a_in b_in : Bool) where
+  -- a time between the offsets of a window ahead is one of the window
   pub ahead_of_over : (t u : Rational) → Over from to (ahead_offsets a b a_in b_in) t u → Ahead from to a b a_in b_in t u
   ahead_of_over t u o = record {
     inside = o.inside;
@@ -42,6 +43,7 @@ module _ (from to : Rational) (a b : ℕ) (a_in b_in : Bool) where
     ends = precedes_before b_in u (shifted t (pos b)) (later t b) o.ends (le_of_same (shifted_pos t b));
   }
 
+  -- and the other way round
   pub over_of_ahead : (t u : Rational) → Ahead from to a b a_in b_in t u → Over from to (ahead_offsets a b a_in b_in) t u
   over_of_ahead t u o = record {
     inside = o.inside;
@@ -68,6 +70,7 @@ module _ {P : Type 0} (shape : ShapeOf P) (knots : List (Knot P)) (over : Offset
     wide = c.wide;
   }
 
+  -- a value that is wide for the offsets is wide for the window
   pub value_of : (p : Affine) (u : Rational) (den : ℕ) → IsWideValue (InPlay shape knots over) (start knots) (stop knots) p u den
       → IsWideValue Q (start knots) (stop knots) p u den
   value_of p u den c = record {
@@ -146,6 +149,7 @@ module _ {P : Type 0} (shape : ShapeOf P) (knots : List (Knot P)) (a b : ℕ) (a
       (stop knots) (ahead_offsets a b a_in b_in) t) (IsWorth shape knots) shape.lowest v
       (over_of_ahead (start knots) (stop knots) a b a_in b_in t) (ahead_of_over (start knots) (stop knots) a b a_in b_in t) h)
 
+  -- a signal that is the least between the offsets is the Inf ahead
   pub inf_ahead : (new : List (Knot P)) → Tells shape (BestOver shape knots (ahead_offsets a b a_in b_in) Least) (start knots) (stop knots) new
       → Tells shape (InfAhead (start knots) (stop knots) (IsWorth shape knots) shape.highest a b a_in b_in) (start knots) (stop knots) new
   inf_ahead new = tells_alike shape (BestOver shape knots (ahead_offsets a b a_in b_in) Least) (InfAhead

@@ -48,14 +48,17 @@ pub before_back : (b : Bool) (t u : Rational) (a : ℕ) → Precedes b u (shifte
 before_back true t u a h = le_trans (ge_of_same (shifted_pos u a)) (le_trans (le_shifted (pos a) h) (le_of_same (back_and_on t a)))
 before_back false t u a h = lt_of_le_of_lt (ge_of_same (shifted_pos u a)) (lt_of_lt_of_le (lt_shifted (pos a) h) (le_of_same (back_and_on t a)))
 
+-- what comes before u moved on by a comes, moved back, before u
 pub back_before : (b : Bool) (t u : Rational) (a : ℕ) → Precedes b (later u a) t → Precedes b u (shifted t (neg_ℤ (pos a)))
 back_before true t u a h = le_shifted_back (pos a) (le_trans (le_of_same (shifted_pos u a)) (le_trans h (ge_of_same (back_and_on t a))))
 back_before false t u a h = lt_shifted_back (pos a) (lt_of_le_of_lt (le_of_same (shifted_pos u a)) (lt_of_lt_of_le h (ge_of_same (back_and_on t a))))
 
+-- what comes after t moved back by a comes, moved on, after t
 pub after_back : (b : Bool) (t u : Rational) (a : ℕ) → Precedes b (shifted t (neg_ℤ (pos a))) u → Precedes b t (later u a)
 after_back true t u a h = le_trans (ge_of_same (back_and_on t a)) (le_trans (le_shifted (pos a) h) (le_of_same (shifted_pos u a)))
 after_back false t u a h = lt_of_le_of_lt (ge_of_same (back_and_on t a)) (lt_of_lt_of_le (lt_shifted (pos a) h) (le_of_same (shifted_pos u a)))
 
+-- what comes after t comes, both moved back, after t moved back
 pub back_after : (b : Bool) (t u : Rational) (a : ℕ) → Precedes b t (later u a) → Precedes b (shifted t (neg_ℤ (pos a))) u
 back_after true t u a h = le_shifted_back (pos a) (le_trans (le_of_same (back_and_on t a)) (le_trans h (ge_of_same (shifted_pos u a))))
 back_after false t u a h = lt_shifted_back (pos a) (lt_of_le_of_lt (le_of_same (back_and_on t a)) (lt_of_lt_of_le h (ge_of_same (shifted_pos u a))))
@@ -70,10 +73,12 @@ module _ (from to : Rational) (first : whole (pos 0) ≤ʳ from) (last : to <ʳ 
       all = record { le = omega arith }
 
   module _ (a : ℕ) (a_in b_in : Bool) where
+    -- a time between the offsets of a window behind is one of the window
     pub behind_of_over : (b : Option ℕ) (t u : Rational) → Over from to (behind_offsets a b a_in b_in) t u → Behind from to a b a_in b_in t u
     behind_of_over None t u o = record { inside = o.inside; begins = tt; ends = before_back a_in t u a o.ends }
     behind_of_over (Some b) t u o = record { inside = o.inside; begins = after_back b_in t u b o.begins; ends = before_back a_in t u a o.ends }
 
+    -- and the other way round, for a time of the domain
     pub over_of_behind : (b : Option ℕ) (t u : Rational) → t ≤ʳ to → Behind from to a b a_in b_in t u → Over from to (behind_offsets a b a_in b_in) t u
     over_of_behind None t u h o = record {
       inside = o.inside;
@@ -145,6 +150,7 @@ module _ {P : Type 0} (shape : ShapeOf P) (knots : List (Knot P)) (first : whole
       (stop knots) (behind_offsets a b a_in b_in) t) (IsWorth shape knots) shape.lowest v
       (λ u m. over_of_behind (start knots) (stop knots) first last a a_in b_in b t u d.below m) (λ u m. into b t u a_in b_in m) h)
 
+  -- a signal that is the least between the offsets is the Inf behind
   pub inf_behind : (b : Option ℕ) (new : List (Knot P)) → Tells shape (BestOver shape knots (behind_offsets a b a_in b_in) Least)
       (start knots) (stop knots) new
       → Tells shape (InfBehind (start knots) (stop knots) (IsWorth shape knots) shape.highest a b a_in b_in) (start knots) (stop knots) new

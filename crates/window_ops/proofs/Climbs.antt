@@ -7,7 +7,8 @@ use Rattle.rational.specs.Time.{Rational, Within, Precedes, shifted, ◌≤ʳ◌
 use Rattle.rational.specs.Extended.{Extended, value_at, ◌≈ᵉ◌}
 use Rattle.rational.specs.Affine.{HasBoundedLevel}
 use Rattle.rational.specs.InPlay.{HasTime}
-use Rattle.rational.proofs.Order.{le_refl, le_of_lt, le_of_same, ge_of_same, le_trans, lt_of_le_of_lt, lt_of_lt_of_le, lt_trans, lt_or_same_or_gt, not_lt_of_le, same_of_le, same_refl, same_sym, same_trans}
+use Rattle.rational.proofs.Order.{le_refl, le_of_lt, le_of_same, ge_of_same, le_trans, lt_of_le_of_lt, lt_of_lt_of_le}
+use Rattle.rational.proofs.Order.{lt_trans, lt_or_same_or_gt, not_lt_of_le, same_of_le, same_refl, same_sym, same_trans}
 use Rattle.rational.proofs.LimitLemmas.{later_end}
 use Rattle.rational.proofs.TimeLemmas.{precedes_le, shifted-add}
 use Rattle.rational.proofs.AffineLemmas.{bounded_same, same_symᵉ, same_transᵉ, value_same}
@@ -39,19 +40,23 @@ use Rattle.window_ops.proofs.Values.{reaches_same, reaches_value}
 
 -- a turn that lies no later than just after the stop, and is the turn up to there
 module _ (way : Way) (until stopped : Turn) where
+  -- a turn that was stopped comes no later than the end of the domain
   pub stopped_at : IsStopped way until stopped → value stopped.at ≤ʳ value way.stop
   stopped_at (inl (e, h)) = subst (λ (u : Turn). value u.at ≤ʳ value way.stop) (sym e) h
   stopped_at (inr (e, h)) = subst (λ (u : Turn). value u.at ≤ʳ value way.stop) (sym e) (le_refl (value way.stop))
 
+  -- and keeps within the limits of times
   pub stopped_within : IsWithin (2 ^ 34) (value way.stop) → IsWithin (2 ^ 34) (value until.at) → IsStopped way until stopped
       → IsWithin (2 ^ 34) (value stopped.at)
   stopped_within a b (inl (e, h)) = subst (λ (u : Turn). IsWithin (2 ^ 34) (value u.at)) (sym e) b
   stopped_within a b (inr (e, h)) = subst (λ (u : Turn). IsWithin (2 ^ 34) (value u.at)) (sym e) a
 
+  -- what has not come at the stopped turn has not come at the turn, up to the end
   pub to_come_until : IsStopped way until stopped → (t : Rational) → t ≤ʳ value way.stop → IsToCome stopped t → IsToCome until t
   to_come_until (inl (e, h)) t b m = subst (λ u. IsToCome u t) e m
   to_come_until (inr (e, h)) t b m = inl (lt_of_le_of_lt b h)
 
+  -- and the other way round
   pub to_come_stopped : IsStopped way until stopped → (t : Rational) → t ≤ʳ value way.stop → IsToCome until t → IsToCome stopped t
   to_come_stopped (inl (e, h)) t b m = subst (λ u. IsToCome u t) (sym e) m
   to_come_stopped (inr (e, h)) t b m = subst (λ u. IsToCome u t) (sym e) (by_order (lt_or_same_or_gt t (value way.stop)))
@@ -68,6 +73,7 @@ module _ (way : Way) (until stopped : Turn) where
   come_stopped (inr (e, h)) t (inl m) = subst (λ u. HasCome u t) (sym e) (inl (lt_of_lt_of_le h (at_of_come until t m)))
   come_stopped (inr (e, h)) t (inr m) = subst (λ u. HasCome u t) (sym e) (inl m)
 
+  -- what has come at the stopped turn has come at the turn, or lies behind the end
   pub stopped_come : IsStopped way until stopped → (t : Rational) → HasCome stopped t → HasCome until t ⊎ (value way.stop <ʳ t)
   stopped_come (inl (e, h)) t m = inl (subst (λ u. HasCome u t) e m)
   stopped_come (inr (e, h)) t m = inr (after (subst (λ u. HasCome u t) e m))
@@ -118,6 +124,7 @@ module _ {P : Type 0} (shape : ShapeOf P) (laws : ShapeLaws shape) (knots : List
         (whole way.over.high))) (value_at (shape.function k.after) (shifted t way.over.high))
         (values t) (value_same (shape.function k.after) (same_sym (shifted-add t way.over.high)))
 
+    -- the gap's shape keeps within the limits of values
     pub climb_level : HasBoundedLevel (2 ^ 31) (shape.function gap)
     climb_level steady t =
         let u = add (time k) (whole (neg_ℤ way.over.high)) in
@@ -164,6 +171,7 @@ module _ {P : Type 0} (shape : ShapeOf P) (laws : ShapeLaws shape) (knots : List
         (shifted t way.over.high) (value_at (shape.function k.after) (shifted t way.over.high)) (instant_over t one low_in high_in a b)
         (worth_between shape knots i k n (shifted t way.over.high) here next a b)
 
+    -- the gap counts as itself from its begin until its end
     pub climb_fair : IsFair shape knots way (climbed_until gap begin end)
     climb_fair = record {
       reached = λ t d c. let (a, b) = under t d c.0 c.1 in reaches_same way.side (none_of way.side shape.lowest shape.highest)

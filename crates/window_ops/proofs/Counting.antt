@@ -32,7 +32,8 @@ use Rattle.window_ops.specs.declared.offsets.Way.{Way}
 use Rattle.window_ops.specs.declared.counted.Piece.{Piece}
 use Rattle.window_ops.specs.declared.counted.Extent.TheVariants.{Never}
 use Rattle.window_ops.specs.Over.{InPlay, IsCauseOver}
-use Rattle.window_ops.specs.Going.{CanCount, Goes, HasCounted, HasRefused, HasSlope, InDomain, IsClamped, IsExtent, IsFair, IsOn, IsPiece, IsSlopeOf, IsValueOf, IsWay, Offers, OffersSlope, ReachesAt, turn_of}
+use Rattle.window_ops.specs.Going.{CanCount, Goes, HasCounted, HasRefused, HasSlope, InDomain, IsClamped, IsExtent, IsFair}
+use Rattle.window_ops.specs.Going.{IsOn, IsPiece, IsSlopeOf, IsValueOf, IsWay, Offers, OffersSlope, ReachesAt, turn_of}
 use Rattle.window_ops.proofs.Ends.{come_at, to_come_alike}
 use Rattle.window_ops.proofs.Values.{reaches_same}
 
@@ -43,27 +44,33 @@ at_most_to_come turn t (inr h) = ge_of_same h.0
 
 -- a turn that lies no earlier than the start, and is the turn from there on
 module _ (way : Way) (from clamped : Turn) where
+  -- a turn that was clamped comes no earlier than the start of the domain
   pub clamped_start : IsClamped way from clamped → value way.start ≤ʳ value clamped.at
   clamped_start (inl (e, h)) = subst (λ (u : Turn). value way.start ≤ʳ value u.at) (sym e) h
   clamped_start (inr (e, h)) = subst (λ (u : Turn). value way.start ≤ʳ value u.at) (sym e) (le_refl (value way.start))
 
+  -- nor earlier than the turn itself
   pub clamped_after : IsClamped way from clamped → value from.at ≤ʳ value clamped.at
   clamped_after (inl (e, h)) = subst (λ (u : Turn). value from.at ≤ʳ value u.at) (sym e) (le_refl (value from.at))
   clamped_after (inr (e, h)) = subst (λ (u : Turn). value from.at ≤ʳ value u.at) (sym e) (le_of_lt h)
 
+  -- nor later than what both precede
   pub clamped_stop : (to : Rational) → value way.start ≤ʳ to → value from.at ≤ʳ to → IsClamped way from clamped → value clamped.at ≤ʳ to
   clamped_stop to a b (inl (e, h)) = subst (λ (u : Turn). value u.at ≤ʳ to) (sym e) b
   clamped_stop to a b (inr (e, h)) = subst (λ (u : Turn). value u.at ≤ʳ to) (sym e) a
 
+  -- and keeps within the limits of times
   pub clamped_within : IsWithin (2 ^ 34) (value way.start) → IsWithin (2 ^ 34) (value from.at) → IsClamped way from clamped
       → IsWithin (2 ^ 34) (value clamped.at)
   clamped_within a b (inl (e, h)) = subst (λ (u : Turn). IsWithin (2 ^ 34) (value u.at)) (sym e) b
   clamped_within a b (inr (e, h)) = subst (λ (u : Turn). IsWithin (2 ^ 34) (value u.at)) (sym e) a
 
+  -- what has come at the clamped turn has come at the turn
   pub clamped_come : IsClamped way from clamped → (t : Rational) → HasCome clamped t → HasCome from t
   clamped_come (inl (e, h)) t m = subst (λ u. HasCome u t) e m
   clamped_come (inr (e, h)) t m = inl (lt_of_lt_of_le h (at_of_come (turn_of way.start false) t (subst (λ u. HasCome u t) e m)))
 
+  -- and the other way round, from the start on
   pub come_clamped : IsClamped way from clamped → (t : Rational) → value way.start ≤ʳ t → HasCome from t → HasCome clamped t
   come_clamped (inl (e, h)) t s m = subst (λ u. HasCome u t) (sym e) m
   come_clamped (inr (e, h)) t s m = subst (λ u. HasCome u t) (sym e) (come_at way.start t s)
@@ -356,15 +363,18 @@ module _ {P : Type 0} (shape : ShapeOf P) (laws : ShapeLaws shape) (knots : List
   pub way_order : value way.start ≤ʳ value way.stop
   way_order = subst (λ u. u ≤ʳ value way.stop) (sym is_way.starts) (subst (λ u. start knots ≤ʳ u) (sym is_way.stops) is_way.order)
 
+  -- each time of the domain keeps within the limits
   pub within_domain : (t : Rational) → start knots ≤ʳ t → t ≤ʳ stop knots → IsWithin (2 ^ 34) t
   within_domain t h k = (
     le_trans (le_whole {j = neg_ℤ (pos (2 ^ 34))} {k = pos 0} (omega (arith, ints))) (le_trans is_way.first h),
     le_trans k (le_trans is_way.last (le_whole {j = pos (2 ^ 32)} {k = pos (2 ^ 34)} (omega (arith, ints)))),
   )
 
+  -- so does its start
   pub start_within : IsWithin (2 ^ 34) (value way.start)
   start_within = subst (IsWithin (2 ^ 34)) (sym is_way.starts) (within_domain (start knots) (le_refl (start knots)) is_way.order)
 
+  -- and its end
   pub stop_within : IsWithin (2 ^ 34) (value way.stop)
   stop_within = subst (IsWithin (2 ^ 34)) (sym is_way.stops) (within_domain (stop knots) is_way.order (le_refl (stop knots)))
 

@@ -5,7 +5,8 @@ use Rattle.std.proofs.lemmas.Bool.{false≢true}
 use Rattle.rational.specs.Time.{Rational, Within, Precedes, shifted, ◌≤ʳ◌, ◌<ʳ◌, ◌≈◌}
 use Rattle.rational.specs.Extended.{Extended, value_at, ◌≈ᵉ◌}
 use Rattle.rational.specs.Affine.{IsSteady, HasBoundedLevel}
-use Rattle.rational.proofs.Order.{le_refl, le_of_lt, le_of_same, ge_of_same, le_or_lt, le_trans, lt_of_le_of_lt, lt_of_lt_of_le, lt_or_same_or_gt, not_lt_of_le, same_refl, same_sym, same_trans}
+use Rattle.rational.proofs.Order.{le_refl, le_of_lt, le_of_same, ge_of_same, le_or_lt, le_trans, lt_of_le_of_lt}
+use Rattle.rational.proofs.Order.{lt_of_lt_of_le, lt_or_same_or_gt, not_lt_of_le, same_refl, same_sym, same_trans}
 use Rattle.rational.proofs.TimeLemmas.{precedes_le, precedes_before, precedes_after}
 use Rattle.rational.proofs.AffineLemmas.{same_reflᵉ, same_symᵉ, same_transᵉ, value_same}
 use Rattle.frac128.specs.Value.{value}
@@ -27,7 +28,8 @@ use Rattle.window_ops.specs.Over.{Over}
 use Rattle.window_ops.specs.Going.{CanCount, GetsBetter, Goes, HasClimbed, HasCounted, InDomain, IsPiece, IsWay, StandsAt, turn_of}
 use Rattle.window_ops.proofs.Counting.{at_most_to_come, goes_later, within_domain}
 use Rattle.window_ops.proofs.Ends.{come_at, to_come_alike}
-use Rattle.window_ops.proofs.Reaching.{come_precedes, knot_in, left_in_play, low_before_high, point_in_play, reach_gap, reach_point, steady_in_play, stretch, to_come_precedes}
+use Rattle.window_ops.proofs.Reaching.{come_precedes, knot_in, left_in_play, low_before_high, point_in_play}
+use Rattle.window_ops.proofs.Reaching.{reach_gap, reach_point, steady_in_play, stretch, to_come_precedes}
 use Rattle.window_ops.proofs.Spans.{Span, lt_offsets}
 
 -- a turn just after a time has not come before the one at it
@@ -48,6 +50,7 @@ pub strictly_come : (k : Frac) (u : Rational) → HasCome (turn_of k true) u →
 strictly_come k u (inl h) = h
 strictly_come k u (inr h) = absurd (false≢true (sym h.1))
 
+-- what comes strictly before a time is still to come at it
 pub strictly_to_come : (k : Frac) (u : Rational) → IsToCome (turn_of k false) u → u <ʳ value k
 strictly_to_come k u (inl h) = h
 strictly_to_come k u (inr h) = absurd (false≢true h.1)
@@ -57,6 +60,7 @@ precedes_come : (b : Bool) (k : Frac) (u : Rational) → Precedes b (value k) u 
 precedes_come true k u h = come_at k u h
 precedes_come false k u h = inl h
 
+-- what precedes a time, with or without it, is still to come at its turn
 pub precedes_to_come : (b : Bool) (k : Frac) (u : Rational) → Precedes b u (value k) → IsToCome (turn_of k b) u
 precedes_to_come true k u h = by_order (lt_or_same_or_gt u (value k))
   where
@@ -99,6 +103,7 @@ module _ {P : Type 0} (shape : ShapeOf P) (laws : ShapeLaws shape) (knots : List
       ends = come_precedes way.over.high_in k.time (shifted t way.over.high) ((span.from_is t).0 h);
     }
 
+    -- a knot's point is a piece that counts from the high end until the low end has passed
     pub point_is : IsPiece shape knots way (turn_of k.time (not way.over.high_in)) (turn_of k.time way.over.low_in)
         (record { shape = k.point; at = k.time; from = from; until = until; slope = None })
     point_is = record {
@@ -120,6 +125,7 @@ module _ {P : Type 0} (shape : ShapeOf P) (laws : ShapeLaws shape) (knots : List
       in_play = λ t a b h m line constant. point_in_play shape laws knots way is_way i k t line here (point_over t h m) constant;
     }
 
+    -- it may be counted when the walk stands before it
     pub can_point : (parts : List (Part P)) (old : Walk P) → StandsAt shape knots way (turn_of k.time false) parts old
         → CanCount shape knots way (record { shape = k.point; at = k.time; from = from; until = until; slope = None }) old
     can_point parts old before = record {
@@ -135,6 +141,7 @@ module _ {P : Type 0} (shape : ShapeOf P) (laws : ShapeLaws shape) (knots : List
           (shifted t way.over.low) h) before.goes;
     }
 
+    -- and once it was counted the walk stands behind it
     pub came_point : (parts : List (Part P)) (old new : Walk P) (before : StandsAt shape knots way (turn_of k.time false) parts old)
         (counted : HasCounted shape knots way (record { shape = k.point; at = k.time; from = from; until = until; slope = None }) old new
         (can_point parts old before))

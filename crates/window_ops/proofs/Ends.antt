@@ -5,7 +5,8 @@ use Rattle.std.specs.declared.cmp.Ordering.{Ordering}
 use Rattle.std.specs.declared.cmp.Ordering.TheVariants.{Less, Equal, Greater}
 use Rattle.rational.specs.Rational.{IsOrder, add, whole}
 use Rattle.rational.specs.Time.{Rational, ◌≤ʳ◌, ◌<ʳ◌, ◌≈◌, shifted}
-use Rattle.rational.proofs.Order.{le_of_lt, le_of_same, ge_of_same, le_trans, lt_of_le_of_lt, lt_of_lt_of_le, same_of_le, same_sym, same_trans, lt_or_same_or_gt, not_lt_of_le}
+use Rattle.rational.proofs.Order.{le_of_lt, le_of_same, ge_of_same, le_trans, lt_of_le_of_lt, lt_of_lt_of_le}
+use Rattle.rational.proofs.Order.{same_of_le, same_sym, same_trans, lt_or_same_or_gt, not_lt_of_le}
 use Rattle.rational.proofs.Shift.{le_shift, le_shift_cancel, lt_shift, lt_shift_cancel, same_shift, shift_back}
 use Rattle.rational.proofs.TimeLemmas.{shifted-add, same_shifted}
 use Rattle.frac128.specs.Value.{value}
@@ -29,12 +30,15 @@ shift_forth a k = same_of_le (le_shift_cancel (neg_ℤ k) (le_of_same (shift_bac
 pub lt_shifted : {t u : Rational} (k : ℤ) → t <ʳ u → shifted t k <ʳ shifted u k
 lt_shifted {t} {u} k h = lt_of_le_of_lt (le_of_same (shifted-add t k)) (lt_of_lt_of_le (lt_shift k h) (ge_of_same (shifted-add u k)))
 
+-- moving keeps the order of times
 pub le_shifted : {t u : Rational} (k : ℤ) → t ≤ʳ u → shifted t k ≤ʳ shifted u k
 le_shifted {t} {u} k h = le_trans (le_of_same (shifted-add t k)) (le_trans (le_shift k h) (ge_of_same (shifted-add u k)))
 
+-- what is earlier after a move was earlier before it
 pub lt_shifted_back : {t u : Rational} (k : ℤ) → shifted t k <ʳ shifted u k → t <ʳ u
 lt_shifted_back {t} {u} k h = lt_shift_cancel k (lt_of_le_of_lt (ge_of_same (shifted-add t k)) (lt_of_lt_of_le h (le_of_same (shifted-add u k))))
 
+-- what is no later after a move was no later before it
 pub le_shifted_back : {t u : Rational} (k : ℤ) → shifted t k ≤ʳ shifted u k → t ≤ʳ u
 le_shifted_back {t} {u} k h = le_shift_cancel k (le_trans (ge_of_same (shifted-add t k)) (le_trans h (le_of_same (shifted-add u k))))
 
@@ -43,27 +47,35 @@ module _ (a r : Rational) (k : ℤ) (is : r ≈ add a (whole (neg_ℤ k))) where
   pub at_is : shifted r k ≈ a
   at_is = same_trans (shifted-add r k) (same_trans (same_shift k is) (shift_forth a k))
 
+  -- later than the turn, and so moved
   pub lt_to : {t : Rational} → r <ʳ t → a <ʳ shifted t k
   lt_to h = lt_of_le_of_lt (ge_of_same at_is) (lt_shifted k h)
 
+  -- and the other way round
   pub lt_from : {t : Rational} → a <ʳ shifted t k → r <ʳ t
   lt_from h = lt_shifted_back k (lt_of_le_of_lt (le_of_same at_is) h)
 
+  -- no earlier than the turn, and so moved
   pub le_to : {t : Rational} → r ≤ʳ t → a ≤ʳ shifted t k
   le_to h = le_trans (ge_of_same at_is) (le_shifted k h)
 
+  -- and the other way round
   pub le_from : {t : Rational} → a ≤ʳ shifted t k → r ≤ʳ t
   le_from h = le_shifted_back k (le_trans (le_of_same at_is) h)
 
+  -- earlier than the turn, and so moved
   pub gt_to : {t : Rational} → t <ʳ r → shifted t k <ʳ a
   gt_to h = lt_of_lt_of_le (lt_shifted k h) (le_of_same at_is)
 
+  -- and the other way round
   pub gt_from : {t : Rational} → shifted t k <ʳ a → t <ʳ r
   gt_from h = lt_shifted_back k (lt_of_lt_of_le h (ge_of_same at_is))
 
+  -- no later than the turn, and so moved
   pub ge_to : {t : Rational} → t ≤ʳ r → shifted t k ≤ʳ a
   ge_to h = le_trans (le_shifted k h) (le_of_same at_is)
 
+  -- and the other way round
   pub ge_from : {t : Rational} → shifted t k ≤ʳ a → t ≤ʳ r
   ge_from h = le_shifted_back k (le_trans h (ge_of_same at_is))
 

@@ -11,7 +11,8 @@ use Rattle.rational.specs.Affine.{HasBoundedLevel}
 use Rattle.rational.specs.Line.{constant}
 use Rattle.rational.proofs.Lines.{at_constant}
 use Rattle.rational.proofs.LimitLemmas.{earlier_end, later_end}
-use Rattle.rational.proofs.Order.{le_refl, le_of_lt, le_of_same, ge_of_same, le_trans, lt_of_le_of_lt, lt_of_lt_of_le, lt_trans, not_lt_of_le, same_sym, same_trans, left_of_middle, right_of_middle}
+use Rattle.rational.proofs.Order.{le_refl, le_of_lt, le_of_same, ge_of_same, le_trans, lt_of_le_of_lt, lt_of_lt_of_le}
+use Rattle.rational.proofs.Order.{lt_trans, not_lt_of_le, same_sym, same_trans, left_of_middle, right_of_middle}
 use Rattle.rational.proofs.Shift.{le_shift, shift_back}
 use Rattle.rational.proofs.TimeLemmas.{shifted-add, later_of}
 use Rattle.rational.proofs.AffineLemmas.{bounded_same, finite_same, same_symᵉ, same_transᵉ, value_same}
@@ -40,6 +41,7 @@ module _ {P : Type 0} (shape : ShapeOf P) (laws : ShapeLaws shape) (knots : List
   pub low_small : (neg_ℤ (pos (2 ^ 32)) ≤ℤ way.over.low) × (way.over.low ≤ℤ pos (2 ^ 32))
   low_small = let s = is_way.small in (s.from, omega (arith, ints, s.from, s.to, s.order))
 
+  -- the high offset keeps within the limits of times
   pub high_small : (neg_ℤ (pos (2 ^ 32)) ≤ℤ way.over.high) × (way.over.high ≤ℤ pos (2 ^ 32))
   high_small = let s = is_way.small in (omega (arith, ints, s.from, s.to, s.order), s.to)
 

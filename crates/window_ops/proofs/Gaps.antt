@@ -7,7 +7,9 @@ use Rattle.rational.specs.Time.{Rational, Within, shifted, ◌≤ʳ◌, ◌<ʳ�
 use Rattle.rational.specs.Extended.{Affine, Extended, value_at, ◌≈ᵉ◌, ◌≤ᵉ◌}
 use Rattle.rational.specs.InPlay.{IsConstant}
 use Rattle.rational.specs.Affine.{IsBounded, IsSteady, HasBoundedLevel}
-use Rattle.rational.proofs.Order.{le_refl, le_of_lt, le_of_same, ge_of_same, le_or_lt, le_trans, lt_of_le_of_lt, lt_of_lt_of_le, lt_trans, lt_or_same_or_gt, not_lt_of_le, same_of_le, same_refl, same_sym, same_trans}
+use Rattle.rational.proofs.Order.{le_refl, le_of_lt, le_of_same, ge_of_same, le_or_lt, le_trans, lt_of_le_of_lt}
+use Rattle.rational.proofs.Order.{lt_of_lt_of_le, lt_trans, lt_or_same_or_gt, not_lt_of_le, same_of_le, same_refl, same_sym}
+use Rattle.rational.proofs.Order.{same_trans}
 use Rattle.rational.proofs.LimitLemmas.{earlier_end, later_end}
 use Rattle.rational.proofs.Shift.{le_shift, shift_back}
 use Rattle.rational.proofs.TimeLemmas.{precedes_le, shifted-add}
@@ -30,7 +32,8 @@ use Rattle.envelope.proofs.Bests.{no_better_same, no_better_trans}
 use Rattle.window_ops.specs.declared.offsets.Way.{Way}
 use Rattle.window_ops.specs.declared.counted.Piece.{Piece}
 use Rattle.window_ops.specs.Over.{InPlay, Over}
-use Rattle.window_ops.specs.Going.{CanCount, GetsBetter, GetsWorse, Goes, HasClimbed, HasCounted, HasSlope, InDomain, IsFair, IsLowEnd, IsPiece, IsSlopeFrom, IsSlopeOf, IsWay, OffersSlope, ReachesAt, StandsAt, turn_of}
+use Rattle.window_ops.specs.Going.{CanCount, GetsBetter, GetsWorse, Goes, HasClimbed, HasCounted, HasSlope, InDomain, IsFair}
+use Rattle.window_ops.specs.Going.{IsLowEnd, IsPiece, IsSlopeFrom, IsSlopeOf, IsWay, OffersSlope, ReachesAt, StandsAt, turn_of}
 use Rattle.window_ops.proofs.Counting.{at_most_to_come, goes_later, within_domain}
 use Rattle.window_ops.proofs.Covering.{came_gap, come_next, covers_by, precedes_to_come, strictly_come, strictly_to_come}
 use Rattle.window_ops.proofs.Ends.{come_at, le_shifted, le_shifted_back, lt_shifted, shift_forth, to_come_alike}
@@ -93,6 +96,7 @@ module _ {P : Type 0} (shape : ShapeOf P) (laws : ShapeLaws shape) (knots : List
             (value_at (shape.function k.after) l.0) (value_at (shape.function k.after) (time k)) (steady l.0 (time k))
             (reach_gap shape laws knots way is_way i k n here next t l.0 r.0 l.0 l.1 r.2 l.2 r.3 r.1 (inl (same_refl l.0)))
 
+    -- a gap that stays as it is may be counted when the walk stands before it
     pub can_steady : (parts : List (Part P)) (old : Walk P) → StandsAt shape knots way (turn_of k.time true) parts old
         → CanCount shape knots way (record { shape = k.after; at = k.time; from = from; until = until; slope = None }) old
     can_steady parts old before = record {
@@ -106,6 +110,7 @@ module _ {P : Type 0} (shape : ShapeOf P) (laws : ShapeLaws shape) (knots : List
           (λ t h. h) (λ t h. come_next k.time n.time true false rises (shifted t way.over.low) h) before.goes;
     }
 
+    -- and once it was counted the walk stands behind it
     pub came_steady : (parts : List (Part P)) (old new : Walk P) (before : StandsAt shape knots way (turn_of k.time true) parts old)
         (counted : HasCounted shape knots way (record { shape = k.after; at = k.time; from = from; until = until; slope = None }) old new
         (can_steady parts old before))
@@ -155,6 +160,7 @@ module _ {P : Type 0} (shape : ShapeOf P) (laws : ShapeLaws shape) (knots : List
         before_n t m = strictly_to_come n.time (shifted t way.over.low) (to_come_alike until (turn_of n.time false) t
             (shifted t way.over.low) (span.until_is t).1 m)
 
+    -- a gap that gets better may be counted once the high end has climbed over it
     pub can_rising : (parts : List (Part P)) (mid : Walk P) → HasClimbed shape knots way k n parts mid
         → CanCount shape knots way (record { shape = k.after; at = n.time; from = from; until = until; slope = None }) mid
     can_rising parts mid climbed = record {
@@ -169,6 +175,7 @@ module _ {P : Type 0} (shape : ShapeOf P) (laws : ShapeLaws shape) (knots : List
           (λ t h. h) (λ t h. come_next k.time n.time true false rises (shifted t way.over.low) h) climbed.goes;
     }
 
+    -- and once it was counted the walk stands behind it
     pub came_rising : (parts : List (Part P)) (old mid new : Walk P) → StandsAt shape knots way (turn_of k.time true) parts old
         → (climbed : HasClimbed shape knots way k n parts mid)
         (counted : HasCounted shape knots way (record { shape = k.after; at = n.time; from = from; until = until; slope = None }) mid new
@@ -365,6 +372,7 @@ module _ {P : Type 0} (shape : ShapeOf P) (laws : ShapeLaws shape) (knots : List
         has_slope None h = λ t m. (span.until_is t).1 (inl (lt_of_lt_of_le low_end.before (at_of_come (turn_of n.time false) (shifted t way.over.low) m)))
         has_slope (Some s) h = slope_is s h
 
+        -- a gap that gets worse may be counted when the walk stands before it
         pub can_falling : (parts : List (Part P)) (old : Walk P) → StandsAt shape knots way (turn_of k.time true) parts old
             → CanCount shape knots way (record { shape = k.after; at = at; from = from; until = until; slope = slope }) old
         can_falling parts old before = record {
@@ -378,6 +386,7 @@ module _ {P : Type 0} (shape : ShapeOf P) (laws : ShapeLaws shape) (knots : List
               (λ t h. h) (λ t h. inl (lt_of_le_of_lt low_end.after (strictly_come at (shifted t way.over.low) h))) before.goes;
         }
 
+        -- and once it was counted the walk stands behind it
         pub came_falling : (parts : List (Part P)) (old new : Walk P) (before : StandsAt shape knots way (turn_of k.time true) parts old)
             (counted : HasCounted shape knots way (record { shape = k.after; at = at; from = from; until = until; slope = slope }) old new
             (can_falling parts old before))

@@ -8,7 +8,9 @@ use Rattle.rational.specs.Time.{Rational, Within, Precedes, shifted, ◌≤ʳ◌
 use Rattle.rational.specs.Extended.{Extended, Affine, value_at, ◌≈ᵉ◌}
 use Rattle.rational.specs.Affine.{IsSteady, IsBounded}
 use Rattle.rational.specs.InPlay.{HasTime, IsConstant}
-use Rattle.rational.proofs.Order.{le_refl, le_of_lt, le_of_same, ge_of_same, le_or_lt, le_trans, lt_of_le_of_lt, lt_of_lt_of_le, lt_trans, not_lt_of_le, same_refl, same_sym, same_trans, left_of_middle, right_of_middle}
+use Rattle.rational.proofs.Order.{le_refl, le_of_lt, le_of_same, ge_of_same, le_or_lt, le_trans, lt_of_le_of_lt}
+use Rattle.rational.proofs.Order.{lt_of_lt_of_le, lt_trans, not_lt_of_le, same_refl, same_sym, same_trans, left_of_middle}
+use Rattle.rational.proofs.Order.{right_of_middle}
 use Rattle.rational.proofs.Mixed.{within_more, within_same}
 use Rattle.rational.proofs.LimitLemmas.{earlier_end, later_end}
 use Rattle.rational.proofs.Shift.{le_shift_by}
@@ -45,6 +47,7 @@ come_precedes true k u (inr h) = le_of_same h.0
 come_precedes false k u (inl h) = h
 come_precedes false k u (inr h) = absurd (false≢true (sym h.1))
 
+-- what is still to come at a turn precedes its time
 pub to_come_precedes : (b : Bool) (k : Frac) (u : Rational) → IsToCome (turn_of k b) u → Precedes b u (value k)
 to_come_precedes true k u (inl h) = le_of_lt h
 to_come_precedes true k u (inr h) = ge_of_same h.0
@@ -65,9 +68,11 @@ module _ {P : Type 0} (shape : ShapeOf P) (laws : ShapeLaws shape) (knots : List
   knot_in i k h = worth_within shape knots (time k) (value_at (shape.function k.point) (time k)) is_way.signal
       (worth_at shape knots i k (time k) h (same_refl (time k)))
 
+  -- no knot comes before time 0
   pub knot_from : (i : ℕ) (k : Knot P) → slice_get knots i ≡ Some k → whole (pos 0) ≤ʳ time k
   knot_from i k h = le_trans is_way.first (knot_in i k h).above
 
+  -- and none after the last time that can be counted
   pub knot_to : (i : ℕ) (k : Knot P) → slice_get knots i ≡ Some k → time k ≤ʳ whole (pos (2 ^ 32))
   knot_to i k h = le_trans (knot_in i k h).below is_way.last
 
@@ -194,6 +199,7 @@ module _ {P : Type 0} (shape : ShapeOf P) (laws : ShapeLaws shape) (knots : List
       (Over (start knots) (stop knots) way.over t) (IsWorth shape knots)
       (time k) (value_at (shape.function k.point) (time k)) over (worth_at shape knots i k (time k) here (same_refl (time k)))
 
+  -- the value of a point that the window meets is in play
   pub point_in_play : (i : ℕ) (k : Knot P) (t : Rational) (line : Affine) → slice_get knots i ≡ Some k → Over (start knots) (stop knots) way.over t (time k)
       → IsConstant line (value_at (shape.function k.point) (time k)) → InPlay shape knots way.over t line
   point_in_play i k t line here over constant = (

@@ -14,6 +14,7 @@ use Rattle.window_ops.specs.Over.{IsSmall}
 pub passed : (z : ℤ) → neg_ℤ (pos (2 ^ 32)) ≤ℤ z → z ≤ℤ pos (2 ^ 32) → to_z w64 (of_z w64 z) ≡ z
 passed z a b = to_z-of_z w64 z (omega (arith, ints, a, b))
 
+-- an offset within the limits is negated as it stands
 pub negated : (z : ℤ) → neg_ℤ (pos (2 ^ 32)) ≤ℤ z → z ≤ℤ pos (2 ^ 32) → to_z w64 (of_z w64 (pos 0 -ℤ to_z w64 (of_z w64 z))) ≡ neg_ℤ z
 negated z a b =
     let less : pos 0 -ℤ z ≡ neg_ℤ z = omega (arith, ints) in
@@ -32,15 +33,19 @@ pub fits : (a : Rational) (z : ℤ) → whole (pos 0) ≤ʳ a → a ≤ʳ whole 
 fits a z from to low high = fits_of_within w64 (2 ^ 33) (lit< tt) (within_sum a z from to low high)
 
 module _ (over : Offsets) (small : IsSmall over) where
+  -- the low offset is not too far behind
   pub low_from : neg_ℤ (pos (2 ^ 32)) ≤ℤ over.low
   low_from = small.from
 
+  -- nor too far ahead
   pub low_to : over.low ≤ℤ pos (2 ^ 32)
   low_to = omega (arith, ints, small.order, small.to)
 
+  -- nor is the high one too far behind
   pub high_from : neg_ℤ (pos (2 ^ 32)) ≤ℤ over.high
   high_from = omega (arith, ints, small.order, small.from)
 
+  -- nor too far ahead
   pub high_to : over.high ≤ℤ pos (2 ^ 32)
   high_to = small.to
 
@@ -48,6 +53,7 @@ module _ (over : Offsets) (small : IsSmall over) where
   pub turned_from : (z : ℤ) → z ≤ℤ pos (2 ^ 32) → neg_ℤ (pos (2 ^ 32)) ≤ℤ neg_ℤ z
   turned_from z h = omega (arith, ints, h)
 
+  -- a negated offset keeps within the limits
   pub turned_to : (z : ℤ) → neg_ℤ (pos (2 ^ 32)) ≤ℤ z → neg_ℤ z ≤ℤ pos (2 ^ 32)
   turned_to z h = omega (arith, ints, h)
 

@@ -43,20 +43,30 @@ zero_shift t = omega arith
 pub ahead_of : (t : Rational) (z : ℤ) → pos 0 ≤ℤ z → t ≤ʳ shifted t z
 ahead_of t z h = le_trans (ge_of_same (zero_shift t)) (le_trans (le_shift_by {j = pos 0} {k = z} t h) (ge_of_same (shifted-add t z)))
 
+-- a time moved by a negative offset is no later
 pub behind_of : (t : Rational) (z : ℤ) → z ≤ℤ pos 0 → shifted t z ≤ʳ t
 behind_of t z h = le_trans (le_of_same (shifted-add t z)) (le_trans (le_shift_by {j = z} {k = pos 0} t h) (le_of_same (zero_shift t)))
 
 module _ {P : Type 0} (shape : ShapeOf P) (laws : ShapeLaws shape) (knots : List (Knot P)) (way : Way) (is_way : IsWay shape knots way) where
   -- a piece counts from the turn at which the high end comes to the one time, until that at which the low end comes to the other
   pub record Span (a b : Frac) (after_a after_b : Bool) (from until : Turn) : Type 0 where
+    -- the piece counts from when the high end has come to its begin
     pub from_is : (t : Rational) → HasCome from t ↔ HasCome (turn_of a after_a) (shifted t way.over.high)
+    -- until the low end has come to its end
     pub until_is : (t : Rational) → HasCome until t ↔ HasCome (turn_of b after_b) (shifted t way.over.low)
+    -- the first turn keeps within the limits of times
     pub from_within : IsWithin (2 ^ 34) (value from.at)
+    -- and the second
     pub until_within : IsWithin (2 ^ 34) (value until.at)
+    -- what has come at the second has come at the first
     pub in_order : (t : Rational) → HasCome until t → HasCome from t
+    -- the second is still to come at the first
     pub to_come : IsToCome until (value from.at)
+    -- one of them lies within the domain
     pub aside : (value until.at ≤ʳ stop knots) ⊎ (start knots ≤ʳ value from.at)
+    -- at the second the low end is at the piece's end
     pub low_at : shifted (value until.at) way.over.low ≈ value b
+    -- at the first the high end is at its begin
     pub high_at : shifted (value from.at) way.over.high ≈ value a
 
   -- a time of the domain moved lies within limits

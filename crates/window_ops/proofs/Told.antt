@@ -1,5 +1,6 @@
 -- The signal that a walk over all pieces ends with tells the best over the window.
-use Rattle.std.proofs.Common.{◌≡◌, ◌⊎◌, arith, inl, inr, ℕ, zero, suc, pos, ◌+◌, ◌<◌, ◌^◌, length, List, [], ◌∷◌, Option, None, Some, false, true, refl, sym, ap, ◌∙◌, subst}
+use Rattle.std.proofs.Common.{◌≡◌, ◌⊎◌, arith, inl, inr, ℕ, zero, suc, pos, ◌+◌, ◌<◌, ◌^◌, length, List}
+use Rattle.std.proofs.Common.{[], ◌∷◌, Option, None, Some, false, true, refl, sym, ap, ◌∙◌, subst}
 use Rattle.std.specs.Prelude.{IfSome, IsTrue, neg_ℤ, slice_get}
 use Rattle.std.proofs.lemmas.Bool.{false≢true}
 use Rattle.rational.specs.Time.{Rational, Within, Precedes, shifted, ◌≤ʳ◌, ◌<ʳ◌, ◌≈◌}
@@ -134,14 +135,17 @@ module _ {P : Type 0} (shape : ShapeOf P) (laws : ShapeLaws shape) (knots : List
   at_end : (t : Rational) → HasCome (turn_of way.stop true) t → (start knots ≤ʳ t) × (HasCome met.high (shifted t way.over.high) ⊎ (stop knots <ʳ t))
   at_end t h = let after = subst (λ u. u <ʳ t) is_way.stops (strictly_come way.stop t h) in (le_trans is_way.order (le_of_lt after), inr after)
 
+  -- the walk may go on to the end of the domain
   pub can_end : CanTake shape walk (turn_of way.stop true)
   can_end = (met.goes.can (turn_of way.stop true) at_end).0
 
+  -- what it ends with is the best of all pieces that it met
   pub ends_with : (r : List (Knot P)) → Finishes shape (turn_of way.stop true) walk r → IsEnvelope shape way.side (start knots) (stop knots) met.parts r
   ends_with r h = subst (λ u. IsEnvelope shape way.side (start knots) u met.parts r) is_way.stops
       (h way.side (start knots) met.goes.pos met.parts (met.goes.can (turn_of way.stop true) at_end).1
       (subst (λ u. Walks shape way.side (start knots) u met.goes.pos met.parts walk) (sym is_way.stops) met.goes.walks))
 
+  -- a refusal there has its cause in the window
   pub stops_with : (e : OpFault P) → FinishStops shape (turn_of way.stop true) walk e → HasCauseOver shape knots way.over e
   stops_with e h = refused_at_end e (subst (λ u. IsRefusedFor shape met.parts (start knots) u e) is_way.stops
       (h way.side (start knots) met.goes.pos met.parts (met.goes.can (turn_of way.stop true) at_end).1

@@ -29,6 +29,7 @@ pub worse_clash : {X : Type 0} (side : Side) (v w : Extended) → IsWorse side w
 worse_clash Greatest v w h k = clashᵉ w v h k
 worse_clash Least v w h k = clashᵉ v w h k
 
+-- of two values that are the same neither is better
 pub no_better_of_same : (side : Side) (v w : Extended) → v ≈ᵉ w → IsNoBetter side v w
 no_better_of_same Greatest v w e = e.at_most
 no_better_of_same Least v w e = e.at_least
@@ -86,10 +87,12 @@ shrunk f t u h order = by_order (le_or_lt u t)
     by_order (inl k) = (value_same f (same_of_le order k)).at_least
     by_order (inr k) = le_of_ltᵉ (value_at f u) (value_at f t) (h t u k)
 
+-- a line that rises towards a side gets better for it
 pub better_of : (side : Side) (f : Affine) → IsTrendFor side Greater f → GetsBetter side f
 better_of Greatest f h t u order = grown f t u h order
 better_of Least f h t u order = shrunk f t u h order
 
+-- one that falls away from it gets worse
 pub worse_of : (side : Side) (f : Affine) → IsTrendFor side Less f → GetsWorse side f
 worse_of Greatest f h t u order = shrunk f t u h order
 worse_of Least f h t u order = grown f t u h order

@@ -1,6 +1,7 @@
 //! A window on its way over a signal, piece by piece: each point and each gap counts from when the window meets it until the window has
 //! left it behind.
-ghost use Rattle.std.specs.Prelude.{◌≡◌, ◌⊎◌, ◌<◌, ◌≤◌, ◌^◌, ◌+◌, ◌<ℤ◌, ◌≤ℤ◌, ◌-ℤ◌, neg_ℤ, pos, List, [], Some, None, true, false, IsTrue, length, slice_get, OnOk, OnErr, IfOk, IfErr};
+ghost use Rattle.std.specs.Prelude.{◌≡◌, ◌⊎◌, ◌<◌, ◌≤◌, ◌^◌, ◌+◌, ◌<ℤ◌, ◌≤ℤ◌, ◌-ℤ◌, neg_ℤ, pos, List, [], Some};
+ghost use Rattle.std.specs.Prelude.{None, true, false, IsTrue, length, slice_get, OnOk, OnErr, IfOk, IfErr};
 ghost use Rattle.std.specs.Int.RustNames.{unsigned_abs};
 ghost use Rattle.rational.specs.Rational.{whole, add};
 ghost use Rattle.rational.specs.Time.{◌≤ʳ◌, ◌<ʳ◌, ◌≈◌, shifted};
@@ -12,7 +13,8 @@ ghost use Rattle.pl_signal.specs.Moves.{Tells};
 ghost use Rattle.pl_signal.specs.declared.knot.Knot.{Knot};
 ghost use Rattle.envelope.specs.Standing.{Part};
 ghost use Rattle.window_ops.specs.Conditions.{AreNear};
-ghost use Rattle.window_ops.specs.Going.{ClimbsOver, ComesTo, GetsBetter, GetsWorse, HasMet, HasRefused, IsFaultOf, IsLowEnd, IsNonEmpty, IsSlopeFrom, IsStopped, IsWay, StandsBy};
+ghost use Rattle.window_ops.specs.Going.{ClimbsOver, ComesTo, GetsBetter, GetsWorse, HasMet, HasRefused, IsFaultOf};
+ghost use Rattle.window_ops.specs.Going.{IsLowEnd, IsNonEmpty, IsSlopeFrom, IsStopped, IsWay, StandsBy};
 ghost use Rattle.window_ops.specs.Over.{BasesOver, BestOver, HasCauseOver, IsSmall};
 
 use crate::counted::{Piece, clamped, count};

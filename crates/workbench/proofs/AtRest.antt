@@ -1,5 +1,6 @@
 -- A reader with what follows its rows, as a stream: what a piece and the end come to.
-use Rattle.std.proofs.Common.{◌≡◌, ◌≢◌, inl, inr, ℕ, ◌<◌, Bool, true, false, List, [], ◌++◌, length, refl, sym, ap, ◌∙◌, subst, arith, append-nil, append_assoc, Option, Result, Ok, Err}
+use Rattle.std.proofs.Common.{◌≡◌, ◌≢◌, inl, inr, ℕ, ◌<◌, Bool, true, false, List, [], ◌++◌, length, refl}
+use Rattle.std.proofs.Common.{sym, ap, ◌∙◌, subst, arith, append-nil, append_assoc, Option, Result, Ok, Err}
 use Rattle.std.specs.Prelude.{MatchResult, OnOk, option_map}
 use Rattle.std.proofs.KnownBytes.{Appends-nil}
 use Rattle.std.proofs.lemmas.Bool.{false≢true}
@@ -37,7 +38,8 @@ few_lines early = refl
 few_lines margins = refl
 
 -- the text of the rows before the first fault is what is owed
-owes_of : (s : Stream) (limits : Limits) (f : Formula) (bytes : List ℕ) (ended : Bool) (text : List ℕ) → limits ≡ limits_of s → IsTextOf s limits f bytes ended text → OwesRows s f bytes ended text
+owes_of : (s : Stream) (limits : Limits) (f : Formula) (bytes : List ℕ) (ended : Bool) (text : List ℕ) → limits ≡ limits_of s
+    → IsTextOf s limits f bytes ended text → OwesRows s f bytes ended text
 owes_of s limits f bytes ended text e t =
     let u : IsTextOf s (limits_of s) f bytes ended text = subst (λ (l : Limits). IsTextOf s l f bytes ended text) e t in
     record { header = u.header; rows = u.rows; whole = u.whole; before = u.before; is = u.is }
@@ -49,25 +51,29 @@ due_of_owed early f bytes text ended o = o
 due_of_owed margins f bytes text ended o = inl o
 
 -- so is what comes before a refusal
-due_of_wide : (s : Stream) (f : Formula) (bytes text : List ℕ) (ended : Bool) (i den : ℕ) → IsWide (stream s f) bytes ended i den text → IsDue (stream s f) bytes ended text
+due_of_wide : (s : Stream) (f : Formula) (bytes text : List ℕ) (ended : Bool) (i den : ℕ)
+    → IsWide (stream s f) bytes ended i den text → IsDue (stream s f) bytes ended text
 due_of_wide verdicts f bytes text ended i den w = absurd w
 due_of_wide early f bytes text ended i den w = absurd w
 due_of_wide margins f bytes text ended i den w = inr (i, den, w)
 
 module _ (kind : Stream) where
   -- what was owed for the first bytes alone
-  begun_before : (f : Formula) (bytes piece text : List ℕ) (ended : Bool) → OwesRows kind f bytes false text → IsBegun (stream kind f) (bytes ++ piece) ended (text ++ []) []
+  begun_before : (f : Formula) (bytes piece text : List ℕ) (ended : Bool) → OwesRows kind f bytes false text
+      → IsBegun (stream kind f) (bytes ++ piece) ended (text ++ []) []
   begun_before f bytes piece text ended owed = record {
     seen = bytes;
     later = piece;
     parts = refl;
     seen_end = false;
     at_end = λ t. absurd (false≢true t);
-    owed = due_of_owed kind f bytes ((text ++ []) ++ []) false (subst (λ t. OwesRows kind f bytes false t) (sym (append-nil (text ++ []) ∙ append-nil text)) owed);
+    owed = due_of_owed kind f bytes ((text ++ []) ++ []) false
+        (subst (λ t. OwesRows kind f bytes false t) (sym (append-nil (text ++ []) ∙ append-nil text)) owed);
   }
 
   -- what was due for all bytes
-  begun_now : (f : Formula) (bytes text front back made : List ℕ) (ended : Bool) → made ≡ front ++ back → IsDue (stream kind f) bytes ended (text ++ made) → IsBegun (stream kind f) bytes ended (text ++ front) back
+  begun_now : (f : Formula) (bytes text front back made : List ℕ) (ended : Bool) → made ≡ front ++ back
+      → IsDue (stream kind f) bytes ended (text ++ made) → IsBegun (stream kind f) bytes ended (text ++ front) back
   begun_now f bytes text front back made ended e owed = record {
     seen = bytes;
     later = [];
@@ -78,12 +84,14 @@ module _ (kind : Stream) where
   }
 
   -- a refusal for a denominator
-  wide_of : (limits : Limits) (f : Formula) (bytes text : List ℕ) (ended : Bool) (i den : ℕ) → limits ≡ limits_of kind → IsLiveStop kind limits f ended bytes text (Wide i den)
+  wide_of : (limits : Limits) (f : Formula) (bytes text : List ℕ) (ended : Bool) (i den : ℕ) → limits ≡ limits_of kind
+      → IsLiveStop kind limits f ended bytes text (Wide i den)
       → IsWide (stream kind f) bytes ended i den text
   wide_of limits f bytes text ended i den e h = subst (λ (l : Limits). IsLiveStop kind l f ended bytes text (Wide i den)) e h
 
   -- a fault of the bytes was told
-  fault_told : (limits : Limits) (f : Formula) (bytes text : List ℕ) (ended : Bool) (stop : StreamStop) → limits ≡ limits_of kind → stop ≢ NoMemory → IsLiveStop kind limits f ended bytes text stop
+  fault_told : (limits : Limits) (f : Formula) (bytes text : List ℕ) (ended : Bool) (stop : StreamStop) → limits ≡ limits_of kind
+      → stop ≢ NoMemory → IsLiveStop kind limits f ended bytes text stop
       → IsPushStop (stream kind f) bytes ended text (stop_of stop)
   fault_told limits f bytes text ended (Faulty fault) e ne (x, is, input, t) = (
     fault_text x,
@@ -95,61 +103,82 @@ module _ (kind : Stream) where
   fault_told limits f bytes text ended (Wide i den) e ne h = wide_of limits f bytes text ended i den e h
 
   -- and what was due before it
-  fault_owed : (limits : Limits) (f : Formula) (bytes text : List ℕ) (ended : Bool) (stop : StreamStop) → limits ≡ limits_of kind → stop ≢ NoMemory → IsLiveStop kind limits f ended bytes text stop → IsDue (stream kind f) bytes ended text
+  fault_owed : (limits : Limits) (f : Formula) (bytes text : List ℕ) (ended : Bool) (stop : StreamStop) → limits ≡ limits_of kind
+      → stop ≢ NoMemory → IsLiveStop kind limits f ended bytes text stop → IsDue (stream kind f) bytes ended text
   fault_owed limits f bytes text ended (Faulty fault) e ne (x, is, input, t) = due_of_owed kind f bytes text ended (owes_of kind limits f bytes ended text e t)
   fault_owed limits f bytes text ended NoMemory e ne h = absurd (ne refl)
   fault_owed limits f bytes text ended (Wide i den) e ne h = due_of_wide kind f bytes text ended i den (wide_of limits f bytes text ended i den e h)
 
 module _ {F : Type 0} (Stands : F → Case → List ℕ → Type 0) (kind : Stream) where
   -- what stands between pieces
-  pub at_rest : (live : Live F) (bytes text : List ℕ) → IsAtRest Stands kind live bytes text → IsPushed (IsAtRest Stands kind live) (stream kind live.formula) bytes text
+  pub at_rest : (live : Live F) (bytes text : List ℕ) → IsAtRest Stands kind live bytes text
+      → IsPushed (IsAtRest Stands kind live) (stream kind live.formula) bytes text
   at_rest live bytes text k = record {
     input = refl;
     stands = k;
-    owed = record { header = option_map (header_of live.formula.scale) live.rows.heading; rows = k.live_for.kept.rows; whole = false; before = before; is = told };
+    owed = record {
+      header = option_map (header_of live.formula.scale) live.rows.heading;
+      rows = k.live_for.kept.rows;
+      whole = false;
+      before = before;
+      is = told;
+    };
     sound = λ line h. calm h.0 h.1;
     timely = λ front back e. front_owed kind live.formula bytes front back text e calm before told;
     few = size;
   }
     where
       calm : (x : Fault) → ¬ IsInputFault (limits_of kind) live.formula bytes false x
-      calm = subst (λ (l : Limits). (x : Fault) → ¬ IsInputFault l live.formula bytes false x) k.limits (sound_so_far live.formula live.rows k.live_for.case bytes k.live_for.kept)
+      calm = subst (λ (l : Limits). (x : Fault) → ¬ IsInputFault l live.formula bytes false x) k.limits
+          (sound_so_far live.formula live.rows k.live_for.case bytes k.live_for.kept)
 
       before : AreRowsBefore (limits_of kind) live.formula bytes false (option_map (header_of live.formula.scale) live.rows.heading) k.live_for.kept.rows false
-      before = subst (λ (l : Limits). AreRowsBefore l live.formula bytes false (option_map (header_of live.formula.scale) live.rows.heading) k.live_for.kept.rows false) k.limits
+      before = subst (λ (l : Limits).
+          AreRowsBefore l live.formula bytes false (option_map (header_of live.formula.scale) live.rows.heading) k.live_for.kept.rows false) k.limits
           (before_of_kept live.formula live.rows k.live_for.case bytes k.live_for.kept)
 
       told : StreamOf kind live.formula (option_map (header_of live.formula.scale) live.rows.heading) k.live_for.kept.rows false text
-      told = subst (λ t. StreamOf kind live.formula (option_map (header_of live.formula.scale) live.rows.heading) k.live_for.kept.rows false t) (ap (λ t. text ++ t) k.empty ∙ append-nil text)
+      told = subst (λ t. StreamOf kind live.formula (option_map (header_of live.formula.scale) live.rows.heading) k.live_for.kept.rows false t)
+          (ap (λ t. text ++ t) k.empty ∙ append-nil text)
           (told_of_kept Stands kind live.formula live.rows live.follower k.live_for.case bytes (text ++ live.text) k.live_for.kept k.live_for.followed)
 
       size : length bytes < 9223372036854775808
       size =
           let n : live.rows.limits.lines ≡ 8589934592 = ap (λ (l : Limits). l.lines) k.limits ∙ few_lines kind in
-          let b = few_bytes live.rows.limits live.rows.least live.rows.heading bytes k.live_for.kept.rows k.live_for.kept.stands.read k.live_for.kept.stands.sound in
+          let b = few_bytes live.rows.limits live.rows.least live.rows.heading bytes k.live_for.kept.rows
+          k.live_for.kept.stands.read k.live_for.kept.stands.sound in
           omega (arith, n, b)
 
   -- what is owed while text is to be written
-  owed_now : (live : Live F) (bytes text : List ℕ) → live.rows.limits ≡ limits_of kind → IsLive Stands kind live bytes text → OwesRows kind live.formula bytes false (text ++ live.text)
+  owed_now : (live : Live F) (bytes text : List ℕ) → live.rows.limits ≡ limits_of kind → IsLive Stands kind live bytes text
+      → OwesRows kind live.formula bytes false (text ++ live.text)
   owed_now live bytes text e k = owes_of kind live.rows.limits live.formula bytes false (text ++ live.text) e (told_now Stands kind live bytes text k)
 
   written_all : (mid new : Live F) (bytes text : List ℕ) → new ≡ record mid { text = [] } → mid.rows.limits ≡ limits_of kind → IsLive Stands kind mid bytes text
       → IsAtRest Stands kind new bytes (text ++ mid.text)
   written_all mid new bytes text e l k =
-      subst (λ (x : Live F). IsAtRest Stands kind x bytes (text ++ mid.text)) (sym e) (record { live_for = live_after Stands kind mid bytes text k; limits = l; empty = refl })
+      subst (λ (x : Live F). IsAtRest Stands kind x bytes (text ++ mid.text)) (sym e)
+      (record { live_for = live_after Stands kind mid bytes text k; limits = l; empty = refl })
 
   -- a piece
-  module _ (f : Formula) (mid new : Live F) (held held_after : Option (List ℕ)) (bytes piece text : List ℕ) (before : OwesRows kind f bytes false text) (limits : mid.rows.limits ≡ limits_of kind)
+  module _ (f : Formula) (mid new : Live F) (held held_after : Option (List ℕ)) (bytes piece text : List ℕ)
+      (before : OwesRows kind f bytes false text) (limits : mid.rows.limits ≡ limits_of kind)
       (same : mid.formula ≡ f) where
+    -- what a piece was fed to, and what was written of it, come to a push
     pub push_of : (fed : Result (Unit {0}) StreamStop) (result : Result (Unit {0}) Stop) → IsToldAs held held_after mid.text fed result
-        → MatchResult fed (λ _. IsLive Stands kind mid (bytes ++ piece) text) (λ e. IsLiveStop kind mid.rows.limits f false (bytes ++ piece) (text ++ mid.text) e)
+        → MatchResult fed (λ _. IsLive Stands kind mid (bytes ++ piece) text)
+        (λ e. IsLiveStop kind mid.rows.limits f false (bytes ++ piece) (text ++ mid.text) e)
         → OnOk result (new ≡ record mid { text = [] })
         → IsPush (stream kind f) held held_after (bytes ++ piece) false text (λ _. IsPushed (IsAtRest Stands kind new) (stream kind f) (bytes ++ piece)) result
     push_of fed result (no_room kept) h done = ([], kept, inr ([], begun_before kind f bytes piece text false before))
     push_of (Ok x) result (told_whole ne wrote) h done =
         let rest = written_all mid new (bytes ++ piece) text done limits h in
-        let formula : new.formula ≡ f = ap (λ (z : Live F). z.formula) done ∙ same in
-        (mid.text, wrote, subst (λ (g : Formula). IsPushed (IsAtRest Stands kind new) (stream kind g) (bytes ++ piece) (text ++ mid.text)) formula (at_rest new (bytes ++ piece) (text ++ mid.text) rest))
+        let formula : new.formula ≡ f = ap (λ (z : Live F). z.formula) done ∙ same in (
+          mid.text,
+          wrote,
+          subst (λ (g : Formula). IsPushed (IsAtRest Stands kind new) (stream kind g) (bytes ++ piece) (text ++ mid.text))
+              formula (at_rest new (bytes ++ piece) (text ++ mid.text) rest),
+        )
     push_of (Err stop) result (told_whole ne wrote) h done =
         (mid.text, wrote, fault_told kind mid.rows.limits f (bytes ++ piece) (text ++ mid.text) false stop limits (λ e. ne (ap Err e)) h)
     push_of (Ok x) result (told_in_part ne part) h done = (
@@ -159,7 +188,8 @@ module _ {F : Type 0} (Stands : F → Case → List ℕ → Type 0) (kind : Stre
         part.back,
         part.missing,
         begun_now kind f (bytes ++ piece) text part.front part.back mid.text false part.parts
-            (due_of_owed kind f (bytes ++ piece) (text ++ mid.text) false (subst (λ (g : Formula). OwesRows kind g (bytes ++ piece) false (text ++ mid.text)) same (owed_now mid (bytes ++ piece) text limits h))),
+            (due_of_owed kind f (bytes ++ piece) (text ++ mid.text) false
+            (subst (λ (g : Formula). OwesRows kind g (bytes ++ piece) false (text ++ mid.text)) same (owed_now mid (bytes ++ piece) text limits h))),
       ),
     )
     push_of (Err stop) result (told_in_part ne part) h done = (
@@ -175,7 +205,8 @@ module _ {F : Type 0} (Stands : F → Case → List ℕ → Type 0) (kind : Stre
 
 module _ {F : Type 0} (Ended : F → Case → List ℕ → Type 0) (kind : Stream) where
   -- the answer of a trace that was read
-  answered_by_row : (limits : Limits) (f : Formula) (live : Live F) (bytes text : List ℕ) (holds : Bool) → limits ≡ limits_of kind → IsOver Ended kind limits f live bytes text holds
+  answered_by_row : (limits : Limits) (f : Formula) (live : Live F) (bytes text : List ℕ) (holds : Bool) → limits ≡ limits_of kind
+      → IsOver Ended kind limits f live bytes text holds
       → IsAnswered (stream kind f) bytes true (status_of_truth holds) text
   answered_by_row limits f live bytes text holds e k = (
     refl,
@@ -187,10 +218,12 @@ module _ {F : Type 0} (Ended : F → Case → List ℕ → Type 0) (kind : Strea
     },
   )
 
-  owed_whole : (limits : Limits) (f : Formula) (live : Live F) (bytes text : List ℕ) (holds : Bool) → limits ≡ limits_of kind → IsOver Ended kind limits f live bytes text holds → OwesRows kind f bytes true text
+  owed_whole : (limits : Limits) (f : Formula) (live : Live F) (bytes text : List ℕ) (holds : Bool) → limits ≡ limits_of kind
+      → IsOver Ended kind limits f live bytes text holds → OwesRows kind f bytes true text
   owed_whole limits f live bytes text holds e k = owes_of kind limits f bytes true text e (told_over Ended kind limits f live bytes text holds k)
 
-  done_after : (limits : Limits) (f : Formula) (mid new : Live F) (bytes text : List ℕ) (holds : Bool) → limits ≡ limits_of kind → mid.formula ≡ f → new ≡ record mid { text = [] }
+  done_after : (limits : Limits) (f : Formula) (mid new : Live F) (bytes text : List ℕ) (holds : Bool) → limits ≡ limits_of kind
+      → mid.formula ≡ f → new ≡ record mid { text = [] }
       → IsOver Ended kind limits f mid bytes text holds → IsDone Ended kind new bytes text
   done_after limits f mid new bytes text holds e formula done k =
       let rest : Live F = record mid { text = [] } in
@@ -200,17 +233,26 @@ module _ {F : Type 0} (Ended : F → Case → List ℕ → Type 0) (kind : Strea
             (subst (λ (g : Formula). IsOver Ended kind limits g rest bytes text holds) (sym formula) (over_after Ended kind limits f mid bytes text holds k)),
       )
 
-  module _ (limits : Limits) (f : Formula) (mid new : Live F) (held held_after : Option (List ℕ)) (bytes text : List ℕ) (before : OwesRows kind f bytes false text) (same : limits ≡ limits_of kind)
+  module _ (limits : Limits) (f : Formula) (mid new : Live F) (held held_after : Option (List ℕ)) (bytes text : List ℕ)
+      (before : OwesRows kind f bytes false text) (same : limits ≡ limits_of kind)
       (formula : mid.formula ≡ f) where
+    -- what the end was told, and what was written of it, come to an end
     pub end_of : (finished : Result Bool StreamStop) (result : Result Bool Stop) → IsToldAs held held_after mid.text finished result
         → MatchResult finished (IsOver Ended kind limits f mid bytes (text ++ mid.text)) (λ e. IsLiveStop kind limits f true bytes (text ++ mid.text) e)
         → OnOk result (new ≡ record mid { text = [] })
         → IsPush (stream kind f) held held_after bytes true text (IsFinished (IsDone Ended kind new) (stream kind f) bytes) result
     end_of finished result (no_room kept) h done =
         ([], kept, inr ([], subst (λ b. IsBegun (stream kind f) b true (text ++ []) []) (append-nil bytes) (begun_before kind f bytes [] text true before)))
-    end_of (Ok holds) result (told_whole ne wrote) h done =
-        (mid.text, wrote, (answered_by_row limits f mid bytes (text ++ mid.text) holds same h, done_after limits f mid new bytes (text ++ mid.text) holds same formula done h))
-    end_of (Err stop) result (told_whole ne wrote) h done = (mid.text, wrote, fault_told kind limits f bytes (text ++ mid.text) true stop same (λ e. ne (ap Err e)) h)
+    end_of (Ok holds) result (told_whole ne wrote) h done = (
+      mid.text,
+      wrote,
+      (
+        answered_by_row limits f mid bytes (text ++ mid.text) holds same h,
+        done_after limits f mid new bytes (text ++ mid.text) holds same formula done h,
+      ),
+    )
+    end_of (Err stop) result (told_whole ne wrote) h done =
+        (mid.text, wrote, fault_told kind limits f bytes (text ++ mid.text) true stop same (λ e. ne (ap Err e)) h)
     end_of (Ok holds) result (told_in_part ne part) h done = (
       part.front,
       part.wrote,
@@ -221,11 +263,20 @@ module _ {F : Type 0} (Ended : F → Case → List ℕ → Type 0) (kind : Strea
             (due_of_owed kind f bytes (text ++ mid.text) true (owed_whole limits f mid bytes (text ++ mid.text) holds same h)),
       ),
     )
-    end_of (Err stop) result (told_in_part ne part) h done =
-        (part.front, part.wrote, (part.back, part.missing, begun_now kind f bytes text part.front part.back mid.text true part.parts (fault_owed kind limits f bytes (text ++ mid.text) true stop same (λ e. ne (ap Err e)) h)))
+    end_of (Err stop) result (told_in_part ne part) h done = (
+      part.front,
+      part.wrote,
+      (
+        part.back,
+        part.missing,
+        begun_now kind f bytes text part.front part.back mid.text true part.parts
+            (fault_owed kind limits f bytes (text ++ mid.text) true stop same (λ e. ne (ap Err e)) h),
+      ),
+    )
 
 -- where memory was wanting nothing is written
-pub starved_told : {T : Type 0} (held : Option (List ℕ)) (text : List ℕ) (outcome : Result T StreamStop) → outcome ≡ Err NoMemory → IsToldAs held held text outcome (Err Starved)
+pub starved_told : {T : Type 0} (held : Option (List ℕ)) (text : List ℕ) (outcome : Result T StreamStop) → outcome ≡ Err NoMemory
+    → IsToldAs held held text outcome (Err Starved)
 starved_told {T} held text outcome e = subst (λ (r : Result T StreamStop). IsToldAs held held text r (Err Starved)) (sym e) (no_room (Appends-nil held))
 
 -- the reason of a stream is no fault of a sink

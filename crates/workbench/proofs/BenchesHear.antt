@@ -11,10 +11,14 @@ use Rattle.stl_syntax.specs.declared.atom.Atom.{Atom as Comparison}
 use Rattle.stl_syntax.specs.declared.atom.Term.{Term}
 use Rattle.stl_syntax.specs.declared.node.Node.{Node}
 use Rattle.stl_syntax.specs.declared.node.Node.TheVariants.{Const, Atom as Leaf, Not, And, Or, Implies, Until, Eventually, Always, Since, Once, Historically}
-use Rattle.stl_grammar.specs.Tokens.{IsToken, a_word, an_integer, a_decimal, at_least, at_most, above, below, paren, paren_end, bracket, bracket_end, a_comma, a_star, a_plus, a_minus, nothing as no_tokens, blank, token}
+use Rattle.stl_grammar.specs.Tokens.{IsToken, a_word, an_integer, a_decimal, at_least, at_most}
+use Rattle.stl_grammar.specs.Tokens.{above, below, paren, paren_end, bracket, bracket_end, a_comma}
+use Rattle.stl_grammar.specs.Tokens.{a_star, a_plus, a_minus, nothing as no_tokens, blank, token}
 use Rattle.stl_grammar.specs.Grammar.{top, Token, word, number, relation, open_paren, close_paren, open_bracket, close_bracket, comma, star, plus, minus, Lexes}
 use Rattle.stl_grammar.specs.Grammar.{IsTerm, name, scaled, AreTerms, none, more_plus, more_minus, IsAtom, first, signed}
-use Rattle.stl_grammar.specs.Grammar.{IsFormula, IsDisjunct, IsConjunct, IsTimed, IsOperand, disjunct, implies, conjunct, or, timed, and, operand, until, since, not, eventually, always, once, historically, always_true, always_false, parens, atom}
+use Rattle.stl_grammar.specs.Grammar.{IsFormula, IsDisjunct, IsConjunct, IsTimed, IsOperand, disjunct, implies}
+use Rattle.stl_grammar.specs.Grammar.{conjunct, or, timed, and, operand, until, since, not, eventually, always}
+use Rattle.stl_grammar.specs.Grammar.{once, historically, always_true, always_false, parens, atom}
 use Rattle.stl_grammar.specs.FormulaRefusals.{IsFormulaOf}
 use Rattle.trace_reader.specs.TraceText.{Line, lines}
 use Rattle.trace_stream.proofs.Columns.{All-get}
@@ -101,7 +105,8 @@ after_word t ts us a = All-tail IsPlainToken t us (all_last IsPlainToken ts (t �
 
 plain_term : {ts : List Token} {k : ℕ} {w : List ℕ} → IsTerm ts k w → All IsPlainToken ts → is_plain w ≡ true
 plain_term (name {w} r) a = All-head IsPlainToken (word w) [] a
-plain_term (scaled {n} {k} {w} r) a = All-head IsPlainToken (word w) [] (All-tail IsPlainToken star (word w ∷ []) (All-tail IsPlainToken (number n k) (star ∷ word w ∷ []) a))
+plain_term (scaled {n} {k} {w} r) a = All-head IsPlainToken (word w) []
+    (All-tail IsPlainToken star (word w ∷ []) (All-tail IsPlainToken (number n k) (star ∷ word w ∷ []) a))
 
 plain_terms : {ts : List Token} {terms : List Term} → AreTerms ts terms → All IsPlainToken ts → All IsPlainTerm terms
 plain_terms none a = All-nil IsPlainTerm
@@ -129,17 +134,20 @@ mutual
   plain_formula : {s : Scale} {k : ℕ} {ts : List Token} {ns : List Node} → IsFormula s k ts ns → All IsPlainToken ts → All IsPlainNode ns
   plain_formula (disjunct d) a = plain_disjunct d a
   plain_formula (implies {k = k} {ts = ts} {us = us} {ns = ns} {ms = ms} d f) a =
-      with_two ns ms (Implies (top k ns) (top (k + length ns) ms)) tt (plain_disjunct d (all_first IsPlainToken ts (word (codes "implies") ∷ us) a)) (plain_formula f (after_word (word (codes "implies")) ts us a))
+      with_two ns ms (Implies (top k ns) (top (k + length ns) ms)) tt (plain_disjunct d (all_first IsPlainToken ts (word (codes "implies") ∷ us) a))
+      (plain_formula f (after_word (word (codes "implies")) ts us a))
 
   plain_disjunct : {s : Scale} {k : ℕ} {ts : List Token} {ns : List Node} → IsDisjunct s k ts ns → All IsPlainToken ts → All IsPlainNode ns
   plain_disjunct (conjunct c) a = plain_conjunct c a
   plain_disjunct (or {k = k} {ts = ts} {us = us} {ns = ns} {ms = ms} d c) a =
-      with_two ns ms (Or (top k ns) (top (k + length ns) ms)) tt (plain_disjunct d (all_first IsPlainToken ts (word (codes "or") ∷ us) a)) (plain_conjunct c (after_word (word (codes "or")) ts us a))
+      with_two ns ms (Or (top k ns) (top (k + length ns) ms)) tt (plain_disjunct d (all_first IsPlainToken ts (word (codes "or") ∷ us) a))
+      (plain_conjunct c (after_word (word (codes "or")) ts us a))
 
   plain_conjunct : {s : Scale} {k : ℕ} {ts : List Token} {ns : List Node} → IsConjunct s k ts ns → All IsPlainToken ts → All IsPlainNode ns
   plain_conjunct (timed t) a = plain_timed t a
   plain_conjunct (and {k = k} {ts = ts} {us = us} {ns = ns} {ms = ms} c t) a =
-      with_two ns ms (And (top k ns) (top (k + length ns) ms)) tt (plain_conjunct c (all_first IsPlainToken ts (word (codes "and") ∷ us) a)) (plain_timed t (after_word (word (codes "and")) ts us a))
+      with_two ns ms (And (top k ns) (top (k + length ns) ms)) tt (plain_conjunct c (all_first IsPlainToken ts (word (codes "and") ∷ us) a))
+      (plain_timed t (after_word (word (codes "and")) ts us a))
 
   plain_timed : {s : Scale} {k : ℕ} {ts : List Token} {ns : List Node} → IsTimed s k ts ns → All IsPlainToken ts → All IsPlainNode ns
   plain_timed (operand p) a = plain_operand p a
@@ -155,16 +163,21 @@ mutual
   plain_operand : {s : Scale} {k : ℕ} {ts : List Token} {ns : List Node} → IsOperand s k ts ns → All IsPlainToken ts → All IsPlainNode ns
   plain_operand (not {k = k} {ts = ts} {ns = ns} p) a = with_one ns (Not (top k ns)) tt (plain_operand p (All-tail IsPlainToken (word (codes "not")) ts a))
   plain_operand (eventually {k = k} {a = low} {b = high} {a_in} {b_in} {ts = ts} {us = us} {ns = ns} w p) a =
-      with_one ns (Eventually (top k ns) low high a_in b_in) tt (plain_operand p (all_last IsPlainToken us ts (All-tail IsPlainToken (word (codes "eventually")) (us ++ ts) a)))
+      with_one ns (Eventually (top k ns) low high a_in b_in) tt
+      (plain_operand p (all_last IsPlainToken us ts (All-tail IsPlainToken (word (codes "eventually")) (us ++ ts) a)))
   plain_operand (always {k = k} {a = low} {b = high} {a_in} {b_in} {ts = ts} {us = us} {ns = ns} w p) a =
-      with_one ns (Always (top k ns) low high a_in b_in) tt (plain_operand p (all_last IsPlainToken us ts (All-tail IsPlainToken (word (codes "always")) (us ++ ts) a)))
+      with_one ns (Always (top k ns) low high a_in b_in) tt
+      (plain_operand p (all_last IsPlainToken us ts (All-tail IsPlainToken (word (codes "always")) (us ++ ts) a)))
   plain_operand (once {k = k} {a = low} {b = high} {a_in} {b_in} {ts = ts} {us = us} {ns = ns} w p) a =
-      with_one ns (Once (top k ns) low high a_in b_in) tt (plain_operand p (all_last IsPlainToken us ts (All-tail IsPlainToken (word (codes "once")) (us ++ ts) a)))
+      with_one ns (Once (top k ns) low high a_in b_in) tt
+      (plain_operand p (all_last IsPlainToken us ts (All-tail IsPlainToken (word (codes "once")) (us ++ ts) a)))
   plain_operand (historically {k = k} {a = low} {b = high} {a_in} {b_in} {ts = ts} {us = us} {ns = ns} w p) a =
-      with_one ns (Historically (top k ns) low high a_in b_in) tt (plain_operand p (all_last IsPlainToken us ts (All-tail IsPlainToken (word (codes "historically")) (us ++ ts) a)))
+      with_one ns (Historically (top k ns) low high a_in b_in) tt
+      (plain_operand p (all_last IsPlainToken us ts (All-tail IsPlainToken (word (codes "historically")) (us ++ ts) a)))
   plain_operand always_true a = All-cons IsPlainNode (Const true) [] tt (All-nil IsPlainNode)
   plain_operand always_false a = All-cons IsPlainNode (Const false) [] tt (All-nil IsPlainNode)
-  plain_operand (parens {ts = ts} f) a = plain_formula f (all_first IsPlainToken ts (close_paren ∷ []) (All-tail IsPlainToken open_paren (ts ++ close_paren ∷ []) a))
+  plain_operand (parens {ts = ts} f) a =
+      plain_formula f (all_first IsPlainToken ts (close_paren ∷ []) (All-tail IsPlainToken open_paren (ts ++ close_paren ∷ []) a))
   plain_operand (atom {a = c} is) a = All-cons IsPlainNode (Leaf c) [] (plain_atom is a) (All-nil IsPlainNode)
 
 -- a formula that was read has no LF in its names
@@ -198,7 +211,8 @@ is_a_tag t known (x ∷ all) h a = by_known (is_among x.tag known) (λ b. is_a_t
 -- ---- what a bench hears
 
 -- the text is that of the lines, to their ends
-text_of_lines : (f : Formula) (bytes text : List ℕ) (status : ℕ) → IsAnswered (sessions f) bytes true status text → (seen : List Tagged) → AreTagged (lines true bytes) seen → MuxText f seen true text
+text_of_lines : (f : Formula) (bytes text : List ℕ) (status : ℕ) → IsAnswered (sessions f) bytes true status text
+    → (seen : List Tagged) → AreTagged (lines true bytes) seen → MuxText f seen true text
 text_of_lines f bytes text status (ended, zero_is, owed, calm) seen are = by_lines owed.before owed.is
   where
     by_lines : {tagged : List Tagged} {whole : Bool} → AreLinesBefore bytes true tagged whole → MuxText f tagged whole text → MuxText f seen true text
@@ -206,7 +220,8 @@ text_of_lines f bytes text status (ended, zero_is, owed, calm) seen are = by_lin
     by_lines (faulted x fault all_are) m = absurd (calm x fault)
 
 -- each bench hears the stream of its own lines
-pub hears_own_stream : (formula : List ℕ) (f : Formula) (bytes text : List ℕ) (status : ℕ) → IsFormulaOf formula f → IsAnswered (sessions f) bytes true status text
+pub hears_own_stream : (formula : List ℕ) (f : Formula) (bytes text : List ℕ) (status : ℕ) → IsFormulaOf formula f
+    → IsAnswered (sessions f) bytes true status text
     → (seen : List Tagged) → AreTagged (lines true bytes) seen → (t : List ℕ) → is_among t (tags_after [] seen) ≡ true
     → (told : List ℕ) × Alone f (own seen t) true told × (heard t text ≡ texts told)
 hears_own_stream formula f bytes text status read answered seen are t among =
@@ -216,8 +231,10 @@ hears_own_stream formula f bytes text status read answered seen are t among =
     (told, alone, hears_its_end f t seen text told (read_names formula f read) (is_a_tag t [] seen tags among) tags in_all)
 
 -- so two inputs with the same lines of a tag tell its bench the same
-pub hears_the_same : (formula : List ℕ) (f : Formula) (bytes other text told : List ℕ) (status ended : ℕ) → IsFormulaOf formula f → IsAnswered (sessions f) bytes true status text
-    → IsAnswered (sessions f) other true ended told → (seen others : List Tagged) → AreTagged (lines true bytes) seen → AreTagged (lines true other) others → (t : List ℕ)
+pub hears_the_same : (formula : List ℕ) (f : Formula) (bytes other text told : List ℕ) (status ended : ℕ) → IsFormulaOf formula f
+    → IsAnswered (sessions f) bytes true status text
+    → IsAnswered (sessions f) other true ended told → (seen others : List Tagged) → AreTagged (lines true bytes) seen
+    → AreTagged (lines true other) others → (t : List ℕ)
     → is_among t (tags_after [] seen) ≡ true → is_among t (tags_after [] others) ≡ true → lines_of t seen ≡ lines_of t others → heard t text ≡ heard t told
 hears_the_same formula f bytes other text told status ended read answered also seen others are others_are t among among_others same =
     let (mine, alone, mine_is) = hears_own_stream formula f bytes text status read answered seen are t among in

@@ -1,5 +1,6 @@
 -- The promises of `check`, each from how a run ends whose words ask for it.
-use Rattle.std.proofs.Common.{◌≡◌, ◌≢◌, ◌⊎◌, inl, inr, ℕ, ◌≤◌, Bool, true, false, List, [], ◌∷◌, ◌++◌, refl, sym, ap, ◌∙◌, subst, arith, append-nil, Some, None, codes}
+use Rattle.std.proofs.Common.{◌≡◌, ◌≢◌, ◌⊎◌, inl, inr, ℕ, ◌≤◌, Bool, true, false, List, [], ◌∷◌, ◌++◌}
+use Rattle.std.proofs.Common.{refl, sym, ap, ◌∙◌, subst, arith, append-nil, Some, None, codes}
 use Rattle.std.specs.Prelude.{Option}
 use Rattle.std.proofs.lemmas.Bool.{false≢true}
 use Rattle.std.proofs.lemmas.List.{append_cancel_left, append_cancel_right}
@@ -17,7 +18,8 @@ use Rattle.workbench.specs.Commands.{Judge, judge, judge_word, IsForm, of_formul
 use Rattle.workbench.specs.declared.request.Command.TheVariants.{Check}
 use Rattle.workbench.specs.declared.request.Mode.TheVariants.{Whole}
 use Rattle.workbench.specs.Commands as word
-use Rattle.workbench.specs.Requests.{Request, no_form, refused, whole, stream, sessions, generated, verdicts, early, margins, Asks, AreNone, IsAsked, word_of, IsRefusal, AreHeld, is_held, has_input, usage_line}
+use Rattle.workbench.specs.Requests.{Request, no_form, refused, whole, stream, sessions, generated, verdicts, early, margins}
+use Rattle.workbench.specs.Requests.{Asks, AreNone, IsAsked, word_of, IsRefusal, AreHeld, is_held, has_input, usage_line}
 use Rattle.workbench.specs.Owed.{OwesAtEnd, not_yet, faulty as faulty_at_end, too_many, at_end}
 use Rattle.workbench.specs.Settled.{TellsTruth, none, bad, faulty, answered, wide, overfull}
 use Rattle.workbench.specs.Running.{IsBegun, IsEnd, settled, unread, unwritten, no_memory, HasEnded, IsReadOut, asked, unknown, IsRun}
@@ -50,17 +52,20 @@ not_both {words} {f} {line} a b = let (r, fault, e) = b.bad in (subst (λ t. IsF
 -- told bytes that were taken are those that were consumed
 took_is : {before after : Option (List ℕ)} {bytes read : List ℕ} → Took before after bytes → Consumes before after read → read ≡ bytes
 took_is {before} {after} {bytes} {read} t h =
-    let told : Consumes (Some (bytes ++ t.left)) (Some t.left) read = subst (λ a. Consumes (Some (bytes ++ t.left)) a read) t.now (subst (λ b. Consumes b after read) t.was h) in
+    let told : Consumes (Some (bytes ++ t.left)) (Some t.left) read =
+    subst (λ a. Consumes (Some (bytes ++ t.left)) a read) t.now (subst (λ b. Consumes b after read) t.was h) in
     append_cancel_right read bytes t.left (sym told)
 
 -- told bytes that were got are those that were appended
 got_is : {before after : Option (List ℕ)} {bytes text : List ℕ} → Got before after bytes → Appends before after text → text ≡ bytes
 got_is {before} {after} {bytes} {text} g h =
-    let told : Appends (Some g.held) (Some (g.held ++ bytes)) text = subst (λ a. Appends (Some g.held) a text) g.now (subst (λ b. Appends b after text) g.was h) in
+    let told : Appends (Some g.held) (Some (g.held ++ bytes)) text =
+    subst (λ a. Appends (Some g.held) a text) g.now (subst (λ b. Appends b after text) g.was h) in
     append_cancel_left g.held text bytes (sym told)
 
 -- the bytes that were there are those that were consumed, and the others
-consumed : (before after : Option (List ℕ)) (bytes read : List ℕ) → before ≡ Some bytes → Consumes before after read → (left : List ℕ) × (after ≡ Some left) × (bytes ≡ read ++ left)
+consumed : (before after : Option (List ℕ)) (bytes read : List ℕ) → before ≡ Some bytes → Consumes before after read
+    → (left : List ℕ) × (after ≡ Some left) × (bytes ≡ read ++ left)
 consumed None after bytes read e h = absurd (let k = e in cc)
 consumed (Some xs) None bytes read e h = absurd h
 consumed (Some xs) (Some ys) bytes read e h = (ys, refl, (let k : bytes ≡ xs = (let j = e in cc) in k) ∙ h)
@@ -73,7 +78,8 @@ pub data IsBuiltRequest : Request → Type 0 where
   of_check : (f : Formula) → IsBuiltRequest (whole check f)
 
 -- they ask for no other command
-check_alone : {words : List (List ℕ)} {own : List ℕ} → AskCheck words own → (command : Judge) (text : List ℕ) → IsAsked words (judge command text) → command ≡ word.check
+check_alone : {words : List (List ℕ)} {own : List ℕ} → AskCheck words own → (command : Judge) (text : List ℕ)
+    → IsAsked words (judge command text) → command ≡ word.check
 check_alone {words} {own} ask command text a =
     (one_judged command word.check text own a.is (subst (λ ws. IsForm ws (judge word.check own)) (sym ask) (of_formula word.check))).0
 
@@ -121,7 +127,8 @@ pub data Seen (words : List (List ℕ)) (i : Drained) (o : Filled) (bytes text :
   s_answer : {status : ℕ} (f : Formula) (tr : Trace) → AskFor words f → IsWhole whole_limits f bytes tr → Out check f tr text → TellsTruth f tr status
       → i.ended ≡ true → IsAtEnd i.after → Seen words i o bytes text status []
   s_unread : (f : Formula) → AskFor words f → i.ended ≡ false → HasFailed i → IsSound whole_limits f bytes false → Seen words i o bytes text 5 read_fault
-  s_unwritten : (f : Formula) (tr : Trace) (rest : List ℕ) → AskFor words f → IsWhole whole_limits f bytes tr → Out check f tr (text ++ rest) → rest ≢ [] → HasRefused o
+  s_unwritten : (f : Formula) (tr : Trace) (rest : List ℕ) → AskFor words f → IsWhole whole_limits f bytes tr
+      → Out check f tr (text ++ rest) → rest ≢ [] → HasRefused o
       → i.ended ≡ true → IsAtEnd i.after → Seen words i o bytes text 6 write_fault
   s_no_memory : (f : Formula) → AskFor words f → Seen words i o bytes text 7 out_of_memory
 
@@ -140,7 +147,8 @@ module _ {words : List (List ℕ)} {i : Drained} {o : Filled} {bytes : List ℕ}
   seen_none {text = text} h (unwritten rest some failed begun timely) = absurd (some_more text rest some begun.owed)
   seen_none h (no_memory known begun timely) = absurd (known refl)
 
-  seen_bad : {text : List ℕ} {status : ℕ} {line : List ℕ} (l : List ℕ) → AskForBad words l → IsEnd (refused l) i o bytes text status line → Seen words i o bytes text status line
+  seen_bad : {text : List ℕ} {status : ℕ} {line : List ℕ} (l : List ℕ) → AskForBad words l
+      → IsEnd (refused l) i o bytes text status line → Seen words i o bytes text status line
   seen_bad l b (settled bad) = s_bad b
   seen_bad l b (settled (faulty fault prompt owed)) = absurd fault
   seen_bad l b (settled (answered is)) = absurd is
@@ -150,24 +158,29 @@ module _ {words : List (List ℕ)} {i : Drained} {o : Filled} {bytes : List ℕ}
   seen_bad {text = text} l b (unwritten rest some failed begun timely) = absurd (some_more text rest some begun.owed)
   seen_bad l b (no_memory known begun timely) = s_early (λ h. h b.text b.form)
 
-  seen_cut : {text : List ℕ} (f : Formula) (rest : List ℕ) (ask : AskFor words f) → rest ≢ [] → HasRefused o → (i.ended ≡ true → IsAtEnd i.after) → (b : IsBegun (whole check f) bytes i.ended text rest)
+  seen_cut : {text : List ℕ} (f : Formula) (rest : List ℕ) (ask : AskFor words f) → rest ≢ [] → HasRefused o
+      → (i.ended ≡ true → IsAtEnd i.after) → (b : IsBegun (whole check f) bytes i.ended text rest)
       → Seen words i o bytes text 6 write_fault
   seen_cut {text} f rest ask some failed at b = by_owed b.seen b.seen_end (text ++ rest) refl refl refl b.owed
     where
-      by_owed : (seen : List ℕ) (e : Bool) (all : List ℕ) → b.seen ≡ seen → b.seen_end ≡ e → text ++ rest ≡ all → OwesAtEnd check f seen e all → Seen words i o bytes text 6 write_fault
+      by_owed : (seen : List ℕ) (e : Bool) (all : List ℕ) → b.seen ≡ seen → b.seen_end ≡ e → text ++ rest ≡ all
+          → OwesAtEnd check f seen e all → Seen words i o bytes text 6 write_fault
       by_owed seen false all p q s not_yet = absurd (some_more text rest some s)
       by_owed seen true all p q s (faulty_at_end x fault) = absurd (some_more text rest some s)
       by_owed seen true all p q s (too_many tr n trace many) = absurd (some_more text rest some s)
       by_owed seen true all p q s (at_end tr trace few written) =
           let all_read = b.at_end q in
           let same : bytes ≡ seen = b.parts ∙ ap (λ l. b.seen ++ l) all_read.1 ∙ append-nil b.seen ∙ p in
-          s_unwritten f tr rest ask (subst (λ bs. IsWhole whole_limits f bs tr) (sym same) trace) (subst (λ t. Out check f tr t) (sym s) written) some failed all_read.0 (at all_read.0)
+          s_unwritten f tr rest ask (subst (λ bs. IsWhole whole_limits f bs tr) (sym same) trace)
+          (subst (λ t. Out check f tr t) (sym s) written) some failed all_read.0 (at all_read.0)
 
-  seen_check : {text : List ℕ} {status : ℕ} {line : List ℕ} (f : Formula) → AskFor words f → (status ≢ 7 → IsReadOut i) → IsEnd (whole check f) i o bytes text status line
+  seen_check : {text : List ℕ} {status : ℕ} {line : List ℕ} (f : Formula) → AskFor words f → (status ≢ 7 → IsReadOut i)
+      → IsEnd (whole check f) i o bytes text status line
       → Seen words i o bytes text status line
   seen_check {text = text} f ask at (settled (faulty {line = line} (x, fault, e) prompt owed)) =
       subst (λ l. Seen words i o bytes text 4 l) (sym e) (s_fault f x ask fault (at (λ k. omega (arith, k))).none_left)
-  seen_check f ask at (settled {status = status} (answered (ended, is))) = s_answer f is.tr ask is.trace is.written is.verdict ended ((at (not_seven status is.verdict)).none_left ended)
+  seen_check f ask at (settled {status = status} (answered (ended, is))) =
+      s_answer f is.tr ask is.trace is.written is.verdict ended ((at (not_seven status is.verdict)).none_left ended)
     where
       not_seven : (s : ℕ) → TellsTruth f is.tr s → s ≢ 7
       not_seven s (inl h) k = let a = h.0 in omega (arith, a, k)
@@ -178,7 +191,8 @@ module _ {words : List (List ℕ)} {i : Drained} {o : Filled} {bytes : List ℕ}
   seen_check f ask at (unwritten rest some failed begun timely) = seen_cut f rest ask some failed (at (λ k. omega (arith, k))).none_left begun
   seen_check f ask at (no_memory known begun timely) = s_no_memory f ask
 
-  seen_request : {own : List ℕ} → AskCheck words own → {text : List ℕ} {status : ℕ} {line : List ℕ} (request : Request) → IsBuiltRequest request → Asks words request → (status ≢ 7 → has_input request ≡ true → IsReadOut i)
+  seen_request : {own : List ℕ} → AskCheck words own → {text : List ℕ} {status : ℕ} {line : List ℕ} (request : Request)
+      → IsBuiltRequest request → Asks words request → (status ≢ 7 → has_input request ≡ true → IsReadOut i)
       → IsEnd request i o bytes text status line → Seen words i o bytes text status line
   seen_request ask no_form of_none a at end = seen_none a end
   seen_request ask (refused l) (of_bad l') a at end = seen_bad l (bad_of ask l a) end
@@ -191,7 +205,9 @@ module _ {words : List (List ℕ)} {i : Drained} {o : Filled} {bytes : List ℕ}
   seen_request ask (sessions f) b a at end = elim b [ ]
   seen_request ask (generated n rows) b a at end = elim b [ ]
 
-  pub seen_ended : {own : List ℕ} → AskCheck words own → {text : List ℕ} {status : ℕ} {line : List ℕ} → HasEnded words i o bytes text status line → Seen words i o bytes text status line
+  -- a run of a check that ended is seen as one of its endings
+  pub seen_ended : {own : List ℕ} → AskCheck words own → {text : List ℕ} {status : ℕ} {line : List ℕ}
+      → HasEnded words i o bytes text status line → Seen words i o bytes text status line
   seen_ended ask (asked request a nothing at end) = seen_request ask request (built ask request a) a at end
   seen_ended {own} ask (unknown some nothing) = s_early (λ h. h own ask)
 
@@ -205,16 +221,19 @@ not_answer : (status : ℕ) → 2 ≤ status → status ≢ 6 → (status ≤ 1)
 not_answer status a b (inl s) = omega (arith, a, s)
 not_answer status a b (inr s) = b s
 
-fault_for : {words : List (List ℕ)} {f g : Formula} {bytes other : List ℕ} (ended : Bool) (x : Fault) → AskFor words f → AskFor words g → bytes ≡ other → IsInputFault whole_limits f bytes ended x → IsInputFault whole_limits g other ended x
+fault_for : {words : List (List ℕ)} {f g : Formula} {bytes other : List ℕ} (ended : Bool) (x : Fault) → AskFor words f
+    → AskFor words g → bytes ≡ other → IsInputFault whole_limits f bytes ended x → IsInputFault whole_limits g other ended x
 fault_for {words} {f} {g} {bytes} {other} ended x a b same h =
     subst (λ (k : Formula). IsInputFault whole_limits k other ended x) (ask_once a b) (subst (λ bs. IsInputFault whole_limits f bs ended x) same h)
 
-whole_for : {words : List (List ℕ)} {f g : Formula} {bytes other : List ℕ} {tr : Trace} → AskFor words f → AskFor words g → bytes ≡ other → IsWhole whole_limits f bytes tr → IsWhole whole_limits g other tr
+whole_for : {words : List (List ℕ)} {f g : Formula} {bytes other : List ℕ} {tr : Trace} → AskFor words f → AskFor words g
+    → bytes ≡ other → IsWhole whole_limits f bytes tr → IsWhole whole_limits g other tr
 whole_for {words} {f} {g} {bytes} {other} {tr} a b same h =
     subst (λ (k : Formula). IsWhole whole_limits k other tr) (ask_once a b) (subst (λ bs. IsWhole whole_limits f bs tr) same h)
 
 -- a whole trace has no fault
-sound_end : {words : List (List ℕ)} {f g : Formula} {bytes other : List ℕ} {tr : Trace} {ended : Bool} (x : Fault) → AskFor words f → AskFor words g → bytes ≡ other → IsWhole whole_limits f bytes tr → ended ≡ true
+sound_end : {words : List (List ℕ)} {f g : Formula} {bytes other : List ℕ} {tr : Trace} {ended : Bool} (x : Fault)
+    → AskFor words f → AskFor words g → bytes ≡ other → IsWhole whole_limits f bytes tr → ended ≡ true
     → IsInputFault whole_limits g other ended x → ⊥
 sound_end {words} {f} {g} {bytes} {other} {tr} {ended} x a b same trace e fault =
     (whole_for a b same trace).sound x (subst (λ (k : Bool). IsInputFault whole_limits g other k x) e fault)
@@ -257,7 +276,8 @@ module _ (words : List (List ℕ)) {own : List ℕ} (ask : AskCheck words own) (
     bad_due (s_unwritten f tr rest a trace written some failed ended at) l b = absurd (not_both a b)
     bad_due (s_no_memory f a) l b = inr refl
 
-    refused_rightly : {status : ℕ} {line : List ℕ} → Consumes i.before i.after bytes → See bytes text status line → old.IsRefusedRightly words i.before i.after i.ended status
+    refused_rightly : {status : ℕ} {line : List ℕ} → Consumes i.before i.after bytes → See bytes text status line
+        → old.IsRefusedRightly words i.before i.after i.ended status
     refused_rightly moved (s_none h) s g bs ask took = absurd (h ask.text ask.form)
     refused_rightly moved (s_bad b) s g bs ask took = absurd (omega (arith, s))
     refused_rightly moved (s_early h) s g bs ask took = absurd (omega (arith, s))
@@ -267,7 +287,8 @@ module _ (words : List (List ℕ)) {own : List ℕ} (ask : AskCheck words own) (
     refused_rightly moved (s_unwritten f tr rest a trace written some failed ended at) s g bs ask took = absurd (omega (arith, s))
     refused_rightly moved (s_no_memory f a) s g bs ask took = absurd (omega (arith, s))
 
-    refused_due : {status : ℕ} {line : List ℕ} → Consumes i.before i.after bytes → See bytes text status line → old.IsRefusedWhereDue words i.before i.after i.ended status
+    refused_due : {status : ℕ} {line : List ℕ} → Consumes i.before i.after bytes → See bytes text status line
+        → old.IsRefusedWhereDue words i.before i.after i.ended status
     refused_due moved (s_none h) g bs x ask took fault = absurd (h ask.text ask.form)
     refused_due moved (s_bad b) g bs x ask took fault = absurd (not_both ask b)
     refused_due moved (s_early h) g bs x ask took fault = inr refl
@@ -275,8 +296,10 @@ module _ (words : List (List ℕ)) {own : List ℕ} (ask : AskCheck words own) (
     refused_due moved (s_answer f tr a trace written truth ended at) g bs x ask took fault = absurd (sound_end x a ask (took_is took moved) trace ended fault)
     refused_due moved (s_unread f a ended failed sound) g bs x ask took fault =
         absurd (sound x (subst (λ (k : Bool). IsInputFault whole_limits f bytes k x) ended
-        (subst (λ (k : Formula). IsInputFault whole_limits k bytes i.ended x) (ask_once ask a) (subst (λ b. IsInputFault whole_limits g b i.ended x) (sym (took_is took moved)) fault))))
-    refused_due moved (s_unwritten f tr rest a trace written some failed ended at) g bs x ask took fault = absurd (sound_end x a ask (took_is took moved) trace ended fault)
+        (subst (λ (k : Formula). IsInputFault whole_limits k bytes i.ended x) (ask_once ask a)
+        (subst (λ b. IsInputFault whole_limits g b i.ended x) (sym (took_is took moved)) fault))))
+    refused_due moved (s_unwritten f tr rest a trace written some failed ended at) g bs x ask took fault =
+        absurd (sound_end x a ask (took_is took moved) trace ended fault)
     refused_due moved (s_no_memory f a) g bs x ask took fault = inr refl
 
     answered_due : {status : ℕ} {line : List ℕ} → Consumes i.before i.after bytes → See bytes text status line
@@ -373,48 +396,63 @@ module _ (words : List (List ℕ)) {own : List ℕ} (ask : AskCheck words own) (
     line_of moved (s_unwritten f tr rest a trace written some failed ended at) = old.unwritten
     line_of moved (s_no_memory f a) = old.no_memory
 
-  message_of : {told told_after : Option (List ℕ)} {faults faults_after : ℕ} {line : List ℕ} → IsSaid told told_after faults faults_after line → (message : List ℕ) → Got told told_after message
+  message_of : {told told_after : Option (List ℕ)} {faults faults_after : ℕ} {line : List ℕ}
+      → IsSaid told told_after faults faults_after line → (message : List ℕ) → Got told told_after message
       → IsMessage line message faults faults_after
   message_of (all_said {line = line} w) message got = record { rest = []; parts = got_is got w ∙ sym (append-nil message); complete = λ rose. refl }
-  message_of (part_said p rose) message got = record { rest = p.back; parts = p.parts ∙ ap (λ t. t ++ p.back) (got_is got p.wrote); complete = λ calm. absurd (calm rose) }
+  message_of (part_said p rose) message got =
+      record { rest = p.back; parts = p.parts ∙ ap (λ t. t ++ p.back) (got_is got p.wrote); complete = λ calm. absurd (calm rose) }
 
   module _ {status : ℕ} (r : IsRun words i o e status) where
+    -- its status is at most 7
     pub run_bound : status ≤ 7
     run_bound = bound (seen r)
 
+    -- it is not told of the usage
     pub run_form : status ≢ 2
     run_form two = two_is_none i o r.ended two (judge word.check own) (asked_check ask)
 
+    -- it ends with 4 only where the bytes have a fault
     pub run_bad : old.IsBadRightly words status
     run_bad = bad_rightly (seen r)
 
+    -- and does where they have one and nothing comes before
     pub run_bad_due : old.IsBadWhereDue words status
     run_bad_due = bad_due (seen r)
 
+    -- it ends with 3 only where the formula is refused, with nothing read
     pub run_refused : old.IsRefusedRightly words i.before i.after i.ended status
     run_refused = refused_rightly r.moved (seen r)
 
+    -- and does where the formula is refused
     pub run_due : old.IsRefusedWhereDue words i.before i.after i.ended status
     run_due = refused_due r.moved (seen r)
 
+    -- it is answered where nothing is wrong, no device fails and memory suffices
     pub run_answer_due : old.IsAnsweredWhereDue words i.before i.faults i.faults_after o.faults o.faults_after status
     run_answer_due = answered_due r.moved (seen r)
 
+    -- with 5 the source failed
     pub run_read : status ≡ 5 → Rose i.faults i.faults_after
     run_read = five (seen r)
 
+    -- with 6 the sink failed
     pub run_write : status ≡ 6 → Rose o.faults o.faults_after
     run_write = six (seen r)
 
+    -- an answer, and a failed output, come after the whole input
     pub run_all_read : (status ≤ 1) ⊎ (status ≡ 6) → (i.ended ≡ true) × IsAtEnd i.after
     run_all_read = all_read (seen r)
 
+    -- an answer is the right one, written whole
     pub run_answered : old.IsAnsweredRightly words i.before i.after o.before o.after status
     run_answered = answered_rightly r.moved r.grew (seen r)
 
+    -- what a failed output has is a front of it
     pub run_cut_off : old.IsCutOffRightly words i.before i.after o.before o.after status
     run_cut_off = cut_off_rightly r.moved r.grew (seen r)
 
+    -- and the error stream has the line of its status
     pub run_told : old.IsToldRightly words i.before i.after i.ended e.before e.after e.faults e.faults_after status
     run_told message got = (r.line, line_of r.moved (seen r), message_of r.said message got)
 
@@ -426,6 +464,7 @@ held_word explain text = refl
 held_word json text = refl
 held_word table text = refl
 
+-- the words of a command are few and short enough to be held
 pub all_held : (words : List (List ℕ)) (c : Command) (f : Formula) → Asks words (whole c f) → AreHeld words
 all_held words c f ask (judge command text) a =
     subst (λ (j : Judge). is_held (judge j text) ≡ true) (one_judged (word_of c) command ask.text text ask.form.is a.is).0 (held_word c text)

@@ -1,5 +1,6 @@
 -- A run that nothing disturbs is complete.
-use Rattle.std.proofs.Common.{◌≡◌, ◌≢◌, ◌⊎◌, inl, inr, ℕ, ◌≤◌, Bool, true, false, List, [], ◌∷◌, ◌++◌, refl, sym, ap, ◌∙◌, subst, arith, append-nil, Option, Some, None}
+use Rattle.std.proofs.Common.{◌≡◌, ◌≢◌, ◌⊎◌, inl, inr, ℕ, ◌≤◌, Bool, true, false, List, [], ◌∷◌, ◌++◌}
+use Rattle.std.proofs.Common.{refl, sym, ap, ◌∙◌, subst, arith, append-nil, Option, Some, None}
 use Rattle.std.specs.Io.KnownBytes.{Appends, Consumes, IsAtEnd}
 use Rattle.std.proofs.lemmas.Bool.{false≢true}
 use Rattle.io_edge.specs.Calls.{Drained, Filled, HasFailed, HasRefused}
@@ -14,15 +15,19 @@ use Rattle.workbench.specs.Owed.{limits_of, HasTooMany, OwesLines}
 use Rattle.workbench.specs.Sessions.{InputFault, FaultOfInput}
 use Rattle.trace_stream.specs.Reading.{IsSound, IsWhole}
 use Rattle.workbench.specs.Generator.{IsSummary}
-use Rattle.workbench.specs.Settled.{TellsTruth, IsVerdict, IsLastVerdict, HasFault, IsAnswered, IsAnsweredWhole, IsAnsweredByRow, IsWide, IsOverfull, IsSettled, none, bad, faulty, answered, wide, overfull}
+use Rattle.workbench.specs.Settled.{TellsTruth, IsVerdict, IsLastVerdict, HasFault, IsAnswered, IsAnsweredWhole}
+use Rattle.workbench.specs.Settled.{IsAnsweredByRow, IsWide, IsOverfull, IsSettled, none, bad, faulty, answered, wide}
+use Rattle.workbench.specs.Settled.{overfull}
 use Rattle.workbench.specs.Running.{IsEnd, settled, unread, unwritten, no_memory, IsReadOut, HasEnded, asked, unknown, IsRun}
-use Rattle.workbench.specs.Complete.{AreFit, IsUndisturbed, IsComplete, answered as complete_answer, wide as complete_wide, overfull as complete_overfull, no_memory as complete_starved, IsOwnStatus, IsCompleteRun}
+use Rattle.workbench.specs.Complete.{AreFit, IsUndisturbed, IsComplete, answered as complete_answer, wide as complete_wide}
+use Rattle.workbench.specs.Complete.{overfull as complete_overfull, no_memory as complete_starved, IsOwnStatus, IsCompleteRun}
 use Rattle.trace_stream.proofs.FaultsStay.{unsound}
 use Rattle.session_mux.proofs.FrontLines.{input_fault_stays}
 use Rattle.workbench.proofs.OneRequest.{one_request}
 
 -- the bytes that were there are those that were consumed, and the others
-rest_of : (before after : Option (List ℕ)) (bytes read : List ℕ) → before ≡ Some bytes → Consumes before after read → (left : List ℕ) × (after ≡ Some left) × (bytes ≡ read ++ left)
+rest_of : (before after : Option (List ℕ)) (bytes read : List ℕ) → before ≡ Some bytes → Consumes before after read
+    → (left : List ℕ) × (after ≡ Some left) × (bytes ≡ read ++ left)
 rest_of None after bytes read e h = absurd (let k = e in cc)
 rest_of (Some xs) None bytes read e h = absurd h
 rest_of (Some xs) (Some ys) bytes read e h = (ys, refl, (let k : bytes ≡ xs = (let j = e in cc) in k) ∙ h)
@@ -97,13 +102,15 @@ no_fault limits f read left true x at sound fault =
     sound x (subst (λ b. IsInputFault limits f b true x) (sym (ap (λ l. read ++ l) (at refl) ∙ append-nil read)) fault)
 
 -- nor is a fault of the lines that were read one of lines that have none
-no_line_fault : (read left : List ℕ) (ended : Bool) (x : InputFault) → (ended ≡ true → left ≡ []) → ((y : InputFault) → ¬ FaultOfInput 1 [] (lines true (read ++ left)) y)
+no_line_fault : (read left : List ℕ) (ended : Bool) (x : InputFault) → (ended ≡ true → left ≡ [])
+    → ((y : InputFault) → ¬ FaultOfInput 1 [] (lines true (read ++ left)) y)
     → FaultOfInput 1 [] (lines ended read) x → ⊥
 no_line_fault read left false x at sound fault = sound x (input_fault_stays read left true x fault)
 no_line_fault read left true x at sound fault =
     sound x (subst (λ b. FaultOfInput 1 [] (lines true b) x) (sym (ap (λ l. read ++ l) (at refl) ∙ append-nil read)) fault)
 
-fit_has_none : (request : Request) (read left line : List ℕ) (ended : Bool) → (ended ≡ true → left ≡ []) → AreFit request (read ++ left) → HasFault request read ended line → ⊥
+fit_has_none : (request : Request) (read left line : List ℕ) (ended : Bool) → (ended ≡ true → left ≡ [])
+    → AreFit request (read ++ left) → HasFault request read ended line → ⊥
 fit_has_none no_form read left line ended at fit h = h
 fit_has_none (refused l) read left line ended at fit h = h
 fit_has_none (whole c f) read left line ended at fit (x, fault, e) = no_fault whole_limits f read left ended x at fit fault
@@ -130,8 +137,10 @@ answer_own (stream s f) read left text ended status at fit (is_end, is) =
     (own.1, (refl, subst (λ b. IsAnsweredByRow s f b status text) all is))
 answer_own (sessions f) read left text ended status at fit (is_end, zero_is, owed, sound) =
     let none_left : left ≡ [] = at (λ k. let s = k in omega (arith, zero_is, s)) is_end in
-    let all : read ≡ read ++ left = sym (append-nil read) ∙ ap (λ l. read ++ l) (sym none_left) in
-    (inl zero_is, (refl, zero_is, subst (λ b. OwesLines f b true text) all owed, subst (λ b. (x : InputFault) → ¬ FaultOfInput 1 [] (lines true b) x) all sound))
+    let all : read ≡ read ++ left = sym (append-nil read) ∙ ap (λ l. read ++ l) (sym none_left) in (
+      inl zero_is,
+      (refl, zero_is, subst (λ b. OwesLines f b true text) all owed, subst (λ b. (x : InputFault) → ¬ FaultOfInput 1 [] (lines true b) x) all sound),
+    )
 answer_own (generated number rows) read left text ended status at fit (zero_is, is) = (inl zero_is, (zero_is, is))
 
 full_own : (request : Request) (read left : List ℕ) (ended : Bool) (count : ℕ) → (ended ≡ true → left ≡ []) → IsOverfull request read ended count
@@ -191,7 +200,8 @@ made_end (generated number rows) i o read bytes text line none_read fit quiet (u
 made_end (generated number rows) i o read bytes text line none_read fit quiet (unwritten rest some failed begun timely) = absurd (quiet failed)
 made_end (generated number rows) i o read bytes text line none_read fit quiet (no_memory known begun timely) = (inr refl, complete_starved)
 
-module _ (words : List (List ℕ)) (request : Request) (i : Drained) (o : Filled) (ask : Asks words request) (bytes : List ℕ) (calm : IsUndisturbed request i o bytes) where
+module _ (words : List (List ℕ)) (request : Request) (i : Drained) (o : Filled) (ask : Asks words request) (bytes : List ℕ)
+    (calm : IsUndisturbed request i o bytes) where
   of_request : {read text line : List ℕ} {status : ℕ} (other : Request) → Consumes i.before i.after read → Appends o.before o.after text → Asks words other
       → (status ≢ 7 → has_input other ≡ true → IsReadOut i) → IsEnd other i o read text status line → IsCompleteRun request o bytes status
   of_request {read} {text} {line} {status} other moved grew also at end = by_input (has_input request) refl
@@ -218,6 +228,7 @@ module _ (words : List (List ℕ)) (request : Request) (i : Drained) (o : Filled
   of_end moved grew (unknown some nothing) = record { text = []; grew = grew; own = starved_own request bytes calm.fit; is = complete_starved }
 
 -- a run of words that ask for this, where nothing disturbs it
-pub completed : (words : List (List ℕ)) (request : Request) (i : Drained) (o e : Filled) (bytes : List ℕ) (status : ℕ) → Asks words request → IsUndisturbed request i o bytes
+pub completed : (words : List (List ℕ)) (request : Request) (i : Drained) (o e : Filled) (bytes : List ℕ) (status : ℕ)
+    → Asks words request → IsUndisturbed request i o bytes
     → IsRun words i o e status → IsCompleteRun request o bytes status
 completed words request i o e bytes status ask calm r = of_end words request i o ask bytes calm r.moved r.grew r.ended

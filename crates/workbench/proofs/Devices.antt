@@ -1,5 +1,6 @@
 -- What writes and reads came to, one after the other.
-use Rattle.std.proofs.Common.{◌≡◌, ℕ, ◌+◌, ◌-◌, ◌<◌, ◌≤◌, List, [], ◌∷◌, ◌++◌, append_assoc, refl, ◌∙◌, length, take, drop, sym, ap, subst, arith, take-append-drop, take-add, length-drop, take_all, Ok, Err, Result}
+use Rattle.std.proofs.Common.{◌≡◌, ℕ, ◌+◌, ◌-◌, ◌<◌, ◌≤◌, List, [], ◌∷◌, ◌++◌, append_assoc, refl, ◌∙◌, length, take, drop}
+use Rattle.std.proofs.Common.{sym, ap, subst, arith, take-append-drop, take-add, length-drop, take_all, Ok, Err, Result}
 use Rattle.std.specs.Prelude.{Option}
 use Rattle.std.specs.Io.KnownBytes.{Appends, Keeps}
 use Rattle.std.specs.Result.{IsErr}
@@ -20,6 +21,7 @@ part_at a b c text at h w k = record {
   wrote = Appends-kept a b c (take at text) w k;
 }
 
+-- a write that failed has put a part of the text
 pub part_err : {T E : Type 0} (a b : Option (List ℕ)) (text : List ℕ) (r : Result T E) → IsErr r → IsPartWritten a b text → IsWritten a b r text
 part_err a b text (Ok x) e p = absurd (let f = e in cc)
 part_err a b text (Err x) e p = p
@@ -29,10 +31,13 @@ pub cause_err : {T E : Type 0} (before between now : ℕ) (r : Result T E) → I
 cause_err before between now (Ok x) e l m h = absurd (let f = e in cc)
 cause_err before between now (Err x) e l m h = record { later = omega (arith, l, m); failed = omega (arith, l, h); still = tt }
 
+-- a write up to the end of the text has put all of it
 pub whole : (a b : Option (List ℕ)) (text : List ℕ) (at : ℕ) → length text ≤ at → Appends a b (take at text) → Appends a b text
 whole a b text at h w = subst (Appends a b) (take_all at text h) w
 
-pub next_take : (a b c : Option (List ℕ)) (text : List ℕ) (at n : ℕ) → Appends a b (take at text) → Appends b c (take n (drop at text)) → Appends a c (take (at + n) text)
+-- two writes, the second from where the first ended, are one
+pub next_take : (a b c : Option (List ℕ)) (text : List ℕ) (at n : ℕ) → Appends a b (take at text)
+    → Appends b c (take n (drop at text)) → Appends a c (take (at + n) text)
 next_take a b c text at n p q = subst (Appends a c) (sym (take-add at n text)) (Appends-trans a b c (take at text) (take n (drop at text)) p q)
 
 -- the slice from a place on

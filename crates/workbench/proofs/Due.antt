@@ -17,14 +17,17 @@ some_more [] rest h e = h e
 some_more (x ∷ text) rest h e = cc
 
 -- bytes without a fault, all of them
-sound_all : (c : Command) (f : Formula) (bytes line : List ℕ) (ended : Bool) → ended ≡ true → IsSound whole_limits f bytes true → ¬ HasFault (whole c f) bytes ended line
+sound_all : (c : Command) (f : Formula) (bytes line : List ℕ) (ended : Bool) → ended ≡ true → IsSound whole_limits f bytes true
+    → ¬ HasFault (whole c f) bytes ended line
 sound_all c f bytes line ended e sound (x, fault, told) = sound x (subst (λ (b : Bool). IsInputFault whole_limits f bytes b x) e fault)
 
 -- a part of a text was owed only for a whole trace
-pub begun_sound : (c : Command) (f : Formula) (bytes text rest : List ℕ) (ended : Bool) → rest ≢ [] → IsBegun (whole c f) bytes ended text rest → (ended ≡ true) × IsSound whole_limits f bytes true
+pub begun_sound : (c : Command) (f : Formula) (bytes text rest : List ℕ) (ended : Bool) → rest ≢ []
+    → IsBegun (whole c f) bytes ended text rest → (ended ≡ true) × IsSound whole_limits f bytes true
 begun_sound c f bytes text rest ended some b = by_owed b.seen b.seen_end (text ++ rest) refl refl refl b.owed
   where
-    by_owed : (seen : List ℕ) (e : Bool) (all : List ℕ) → b.seen ≡ seen → b.seen_end ≡ e → text ++ rest ≡ all → OwesAtEnd c f seen e all → (ended ≡ true) × IsSound whole_limits f bytes true
+    by_owed : (seen : List ℕ) (e : Bool) (all : List ℕ) → b.seen ≡ seen → b.seen_end ≡ e → text ++ rest ≡ all
+        → OwesAtEnd c f seen e all → (ended ≡ true) × IsSound whole_limits f bytes true
     by_owed seen false all p q s not_yet = absurd (some_more text rest some s)
     by_owed seen true all p q s (faulty_at_end x fault) = absurd (some_more text rest some s)
     by_owed seen true all p q s (too_many tr n trace many) = absurd (some_more text rest some s)
@@ -34,14 +37,18 @@ begun_sound c f bytes text rest ended some b = by_owed b.seen b.seen_end (text +
         (all_read.0, subst (λ bs. IsSound whole_limits f bs true) (sym same) trace.sound)
 
 -- for every command that holds the whole trace
-pub fault_due : (c : Command) (f : Formula) (i : Drained) (o : Filled) (bytes text line told : List ℕ) (status : ℕ) → IsEnd (whole c f) i o bytes text status told → HasFault (whole c f) bytes i.ended line
+pub fault_due : (c : Command) (f : Formula) (i : Drained) (o : Filled) (bytes text line told : List ℕ) (status : ℕ)
+    → IsEnd (whole c f) i o bytes text status told → HasFault (whole c f) bytes i.ended line
     → (status ≡ 4) ⊎ (status ≡ 7)
 fault_due c f i o bytes text line told _ (settled (faulty fault prompt owed)) h = inl refl
 fault_due c f i o bytes text line told _ (settled (answered (ended, is))) h = absurd (sound_all c f bytes line i.ended ended is.trace.sound h)
 fault_due c f i o bytes text line told _ (settled (wide n den (ended, e, is))) h = absurd (sound_all c f bytes line i.ended ended is.trace.sound h)
 fault_due c f i o bytes text line told _ (settled (overfull n (ended, (tr, trace, many)))) h = absurd (sound_all c f bytes line i.ended ended trace.sound h)
-fault_due c f i o bytes text line told _ (unread has ended failed sound owed) h = absurd (sound line (subst (λ (b : Bool). HasFault (whole c f) bytes b line) ended h))
-fault_due c f i o bytes text line told _ (unwritten rest some failed begun timely) h = let b = begun_sound c f bytes text rest i.ended some begun in absurd (sound_all c f bytes line i.ended b.0 b.1 h)
+fault_due c f i o bytes text line told _ (unread has ended failed sound owed) h =
+    absurd (sound line (subst (λ (b : Bool). HasFault (whole c f) bytes b line) ended h))
+fault_due c f i o bytes text line told _ (unwritten rest some failed begun timely) h =
+    let b = begun_sound c f bytes text rest i.ended some begun in
+    absurd (sound_all c f bytes line i.ended b.0 b.1 h)
 fault_due c f i o bytes text line told _ (no_memory known begun timely) h = inr refl
 
 -- an answer has the status 0 or 1
@@ -61,6 +68,7 @@ small_last verdicts f tr status h = small_truth f tr status h
 small_last early f tr status h = small_truth f tr status h
 small_last margins f tr status h = omega (arith, h)
 
+-- a request that is answered ends with 0 or 1
 pub small_answer : (request : Request) (bytes text : List ℕ) (ended : Bool) (status : ℕ) → IsAnswered request bytes ended status text → status ≤ 1
 small_answer no_form bytes text ended status is = absurd is
 small_answer (refused line) bytes text ended status is = absurd is
@@ -70,7 +78,8 @@ small_answer (sessions f) bytes text ended status is = let a = is.1 in omega (ar
 small_answer (generated n rows) bytes text ended status is = let a = is.0 in omega (arith, a)
 
 -- without a fault of the bytes and of the devices there is an answer, a refusal by the formula's numbers, or want of memory
-pub answer_due : (request : Request) (i : Drained) (o : Filled) (bytes text line : List ℕ) (status : ℕ) → IsEnd request i o bytes text status line → has_input request ≡ true
+pub answer_due : (request : Request) (i : Drained) (o : Filled) (bytes text line : List ℕ) (status : ℕ)
+    → IsEnd request i o bytes text status line → has_input request ≡ true
     → ((l : List ℕ) → ¬ HasFault request bytes i.ended l) → (¬ HasFailed i) → (¬ HasRefused o) → (status ≤ 1) ⊎ (7 ≤ status)
 answer_due request i o bytes text line status (settled none) has clean calm quiet = absurd (false≢true has)
 answer_due request i o bytes text line status (settled bad) has clean calm quiet = absurd (false≢true has)

@@ -1,5 +1,6 @@
 -- The text of an early run goes on with a row, and to the end.
-use Rattle.std.proofs.Common.{◌≡◌, ◌⊎◌, inl, inr, refl, sym, ap, subst, ◌∙◌, ℕ, ◌+◌, ◌<◌, Bool, true, false, Option, Some, None, List, [], ◌∷◌, ◌++◌, length, pos, codes, arith, append_assoc, append-nil}
+use Rattle.std.proofs.Common.{◌≡◌, ◌⊎◌, inl, inr, refl, sym, ap, subst, ◌∙◌, ℕ, ◌+◌, ◌<◌, Bool, true, false, Option}
+use Rattle.std.proofs.Common.{Some, None, List, [], ◌∷◌, ◌++◌, length, pos, codes, arith, append_assoc, append-nil}
 use Rattle.std.specs.Prelude.{MatchBool, MatchOption, IfSome, IsTrue, IsFalse, IsSome}
 use Rattle.rational.specs.Time.{whole}
 use Rattle.stl_syntax.specs.Trace.{Header, Row, Trace, AreRows, IsTrace, row_time, start, last_time}
@@ -39,7 +40,8 @@ still_told p header rows r made told none = elim told [
 ]
 
 -- before the first row that decides the text is empty
-pub empty_before : (p : Subformula) (header : Header) (rows : List Row) (made : List ℕ) → IsEarlyText p header rows false made → NoneDecides p header rows → made ≡ []
+pub empty_before : (p : Subformula) (header : Header) (rows : List Row) (made : List ℕ) → IsEarlyText p header rows false made
+    → NoneDecides p header rows → made ≡ []
 empty_before p header rows made told none = elim told [
   | at_row before after q holds time e first num is ↦ absurd (none before after q holds e first.decides)
   | at_end line t ok n l is ↦ absurd (let f : false ≡ true = t in cc)
@@ -47,7 +49,8 @@ empty_before p header rows made told none = elim told [
 ]
 
 -- the row that decides
-pub now_told : (p : Subformula) (header : Header) (rows : List Row) (r : Row) (made grown : List ℕ) (d : Decided) (scale : Scale) → IsEarlyText p header rows false made
+pub now_told : (p : Subformula) (header : Header) (rows : List Row) (r : Row) (made grown : List ℕ) (d : Decided) (scale : Scale)
+    → IsEarlyText p header rows false made
     → d.at ≡ r.time → FirstDecides p header rows r d.holds → scale.time ≡ header.scale.time → AreDecidedLines scale d.at d.holds grown
     → IsEarlyText p header (rows ++ r ∷ []) false (made ++ grown)
 now_told p header rows r made grown d scale told at first digits (time, num, is) =
@@ -73,7 +76,8 @@ told_at_end p header rows made holds told none ok truth =
     (ap (λ m. m ++ (codes "decided at end" ++ newline ++ start_line holds)) (empty_before p header rows made told none))
 
 -- the last row's time is earlier than the next
-pub later_row : (rows : List Row) (r : Row) → (0 < length rows → last_time 0 rows < r.time) → (last : Option Row) → last ≡ last_of rows → IfSome last (λ q. q.time < r.time)
+pub later_row : (rows : List Row) (r : Row) → (0 < length rows → last_time 0 rows < r.time) → (last : Option Row)
+    → last ≡ last_of rows → IfSome last (λ q. q.time < r.time)
 later_row [] r l last e = subst (λ o. IfSome o (λ q. q.time < r.time)) (sym e) tt
 later_row (q ∷ rows) r l last e =
     subst (λ o. IfSome o (λ q. q.time < r.time)) (sym e) (subst (λ t. t < r.time) (last_is q rows) (l (omega arith)))
@@ -96,7 +100,12 @@ module _ (x y : Deciding) (case : Case) (made : List ℕ) (h : Follows (λ c tex
       follows : (grown : List ℕ) → IsEarlyText (root case.formula.nodes) case.trace.header (case.trace.rows ++ r ∷ []) false (made ++ grown)
           → Follows (λ c text. IsDeciding false y c) early (with_row r case) (made ++ grown)
       follows grown told = record {
-        stands = record { stands = st; nodes = nodes ∙ h.stands.nodes; header = header ∙ h.stands.header; digits = ap (λ (s : Scale). s.time) scale ∙ h.stands.digits };
+        stands = record {
+          stands = st;
+          nodes = nodes ∙ h.stands.nodes;
+          header = header ∙ h.stands.header;
+          digits = ap (λ (s : Scale). s.time) scale ∙ h.stands.digits;
+        };
         fits = (h.fits.0, record { formula = h.fits.1.formula; bound = h.fits.1.bound });
         told = told;
       }
@@ -117,11 +126,13 @@ module _ (x y : Deciding) (case : Case) (made : List ℕ) (h : Follows (λ c tex
       )
 
   -- the end
-  pub end_on : (old new : List ℕ) (decided : Option Decided) (holds : Bool) → decided ≡ x.early.decided → Stands y.early case.trace.rows true → IsTrace case.trace
+  pub end_on : (old new : List ℕ) (decided : Option Decided) (holds : Bool) → decided ≡ x.early.decided
+      → Stands y.early case.trace.rows true → IsTrace case.trace
       → IsTruthAtStart (root x.early.nodes) (trace_of x.early.header case.trace.rows) holds
       → MatchOption decided (new ≡ old ++ (codes "decided at end" ++ newline ++ start_line holds)) (λ d. new ≡ old)
       → IsFollowedOut (λ c text. IsDeciding true y c) early case old new made holds
-  end_on old new decided holds was st ok truth grew = by_decided x.early.decided h.stands.stands.by (subst (λ o. MatchOption o (new ≡ old ++ (codes "decided at end" ++ newline ++ start_line holds)) (λ d. new ≡ old)) was grew)
+  end_on old new decided holds was st ok truth grew = by_decided x.early.decided h.stands.stands.by
+      (subst (λ o. MatchOption o (new ≡ old ++ (codes "decided at end" ++ newline ++ start_line holds)) (λ d. new ≡ old)) was grew)
     where
       here : IsTruthAtStart (root case.formula.nodes) case.trace holds
       here = subst (λ n. IsTruthAtStart (root n) case.trace holds) h.stands.nodes
@@ -134,19 +145,28 @@ module _ (x y : Deciding) (case : Case) (made : List ℕ) (h : Follows (λ c tex
       complete : (grown : List ℕ) → IsEarlyText (root case.formula.nodes) case.trace.header case.trace.rows true (made ++ grown)
           → IsComplete (λ c text. IsDeciding true y c) early case (made ++ grown) holds
       complete grown told = record {
-        ended = record { stands = st; nodes = nodes ∙ h.stands.nodes; header = header ∙ h.stands.header; digits = ap (λ (s : Scale). s.time) scale ∙ h.stands.digits };
+        ended = record {
+          stands = st;
+          nodes = nodes ∙ h.stands.nodes;
+          header = header ∙ h.stands.header;
+          digits = ap (λ (s : Scale). s.time) scale ∙ h.stands.digits;
+        };
         told = told;
         verdict = λ f is. verdict_of holds (Truth (root (scaled f case.trace.header.scale).nodes) case.trace (start case.trace))
             (subst (λ (g : Formula). IsTruthAtStart (root g.nodes) case.trace holds) is.formula here);
       }
 
       by_decided : (o : Option Decided)
-          → MatchOption o (NoneDecides (root x.early.nodes) x.early.header case.trace.rows × (x.early.ended ≡ false → SetsAre x.early.nodes x.early.header x.early.begin x.early.live x.early.shown case.trace.rows))
-          (WasDecided (root x.early.nodes) x.early.header case.trace.rows) → MatchOption o (new ≡ old ++ (codes "decided at end" ++ newline ++ start_line holds)) (λ d. new ≡ old) → IsFollowedOut (λ c text. IsDeciding true y c) early case old new made holds
+          → MatchOption o (NoneDecides (root x.early.nodes) x.early.header case.trace.rows
+          × (x.early.ended ≡ false → SetsAre x.early.nodes x.early.header x.early.begin x.early.live x.early.shown case.trace.rows))
+          (WasDecided (root x.early.nodes) x.early.header case.trace.rows)
+          → MatchOption o (new ≡ old ++ (codes "decided at end" ++ newline ++ start_line holds)) (λ d. new ≡ old)
+          → IsFollowedOut (λ c text. IsDeciding true y c) early case old new made holds
       by_decided None none e = (
         codes "decided at end" ++ newline ++ start_line holds,
         e,
-        complete (codes "decided at end" ++ newline ++ start_line holds) (told_at_end (root case.formula.nodes) case.trace.header case.trace.rows made holds h.told
+        complete (codes "decided at end" ++ newline ++ start_line holds)
+            (told_at_end (root case.formula.nodes) case.trace.header case.trace.rows made holds h.told
             (subst (λ n. NoneDecides (root n) case.trace.header case.trace.rows) h.stands.nodes
             (subst (λ l. NoneDecides (root x.early.nodes) l case.trace.rows) h.stands.header none.0)) ok.rows here),
       )
@@ -182,9 +202,11 @@ two_lines scale at holds old mid new (line, (time, num, is), e) f = (
   f ∙ ap (λ l. l ++ start_line holds) e ∙ append_assoc old line (start_line holds),
 )
 
+-- two deciders that are one hold the same sets
 pub same_follower : (a b : Deciding) → Some a ≡ Some b → a.early ≡ b.early
 same_follower a b e = let f : a ≡ b = cc in ap (λ (x : Deciding). x.early) f
 
 -- a row has the columns of the atoms
-pub wide_row : (x : Deciding) (case : Case) → IsDeciding false x case → (r : Row) → length r.values ≡ length case.trace.header.columns → length r.values ≡ x.early.bound.width
+pub wide_row : (x : Deciding) (case : Case) → IsDeciding false x case → (r : Row)
+    → length r.values ≡ length case.trace.header.columns → length r.values ≡ x.early.bound.width
 wide_row x case s r w = w ∙ sym (s.stands.bound.width ∙ ap (λ (h : Header). length h.columns) s.header)

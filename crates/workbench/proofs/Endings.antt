@@ -8,7 +8,9 @@ use Rattle.stl_syntax.specs.Formula.{Formula}
 use Rattle.stl_syntax.specs.Trace.{Row, AreRows}
 use Rattle.stl_grammar.specs.FormulaRefusals.{IsFormulaFault}
 use Rattle.stl_grammar.specs.declared.fault.FormulaFault.{FormulaFault}
-use Rattle.stl_grammar.specs.declared.fault.FormulaFault.TheVariants.{Empty, BadByte, Expected, BadNumber, BoundOrder, UnboundedFuture, TooManyTerms, TooLong, TooDeep, TooManyNodes, ReachTooLarge, ConstantTooLarge, Memory}
+use Rattle.stl_grammar.specs.declared.fault.FormulaFault.TheVariants.{Empty, BadByte, Expected, BadNumber, BoundOrder}
+use Rattle.stl_grammar.specs.declared.fault.FormulaFault.TheVariants.{UnboundedFuture, TooManyTerms, TooLong, TooDeep}
+use Rattle.stl_grammar.specs.declared.fault.FormulaFault.TheVariants.{TooManyNodes, ReachTooLarge, ConstantTooLarge, Memory}
 use Rattle.workbench.specs.ErrTexts.{formula_fault_text}
 use Rattle.workbench.specs.Writing.{IsPartWritten, IsWritten}
 use Rattle.workbench.specs.Wholes.{IsWrittenWith, all_of_it, a_part, IsBadEnd, refused, no_room, status_of_fault, IsEndLine}
@@ -22,10 +24,12 @@ pub said : {T E : Type 0} (told told_after : Option (List ℕ)) (faults faults_a
 said told told_after faults faults_after (Ok x) line w c = whole w
 said told told_after faults faults_after (Err x) line w c = part w c.failed
 
+-- the text was written whole
 pub written_whole : (holds : Bool) (text piece : List ℕ) (held held_after : Option (List ℕ)) → piece ≡ text → Appends held held_after piece
     → IsWrittenWith holds text held held_after (Ok holds)
 written_whole holds text piece held held_after e wrote = all_of_it (subst (λ t. Appends held held_after t) e wrote)
 
+-- or the output failed in it
 pub written_part : (holds : Bool) (text piece : List ℕ) (held held_after : Option (List ℕ)) → piece ≡ text → IsPartWritten held held_after piece
     → IsWrittenWith holds text held held_after (Err Unwritten)
 written_part holds text piece held held_after e wrote = a_part (subst (λ t. IsPartWritten held held_after t) e wrote)
@@ -64,7 +68,8 @@ refused_told text r line status told s h =
     subst (λ n. IsBadEnd text n line) (sym s) (subst (λ l. IsBadEnd text (status_of_fault r) l) (sym told) (refused_end text r h))
 
 -- nothing is told of an answer
-pub told_nothing : (f : Formula) (e : Result Bool Stop) (b : Bool) (told : Option (List ℕ)) (faults : ℕ) → e ≡ Ok b → (line : List ℕ) × IsEndLine f e line × IsSaid told told faults faults line
+pub told_nothing : (f : Formula) (e : Result Bool Stop) (b : Bool) (told : Option (List ℕ)) (faults : ℕ) → e ≡ Ok b
+    → (line : List ℕ) × IsEndLine f e line × IsSaid told told faults faults line
 told_nothing f e b told faults same = ([], subst (λ (x : Result Bool Stop). IsEndLine f x []) (sym same) refl, whole (Appends-nil told))
 
 -- a trace has a row

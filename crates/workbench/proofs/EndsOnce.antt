@@ -13,7 +13,8 @@ use Rattle.workbench.proofs.OneRequest.{one_request}
 said_once : (i : Drained) → i.ended ≡ true → IsAskedOnce i → HasSaidItsEnd i
 said_once i ended once = (ended, once ∙ (let e = ended in subst (λ (b : Bool). after_end b i.ends ≡ next_count i.ends) (sym ended) refl))
 
-answer_ended : (request : Request) (bytes text : List ℕ) (ended : Bool) (status : ℕ) → has_input request ≡ true → IsAnswered request bytes ended status text → ended ≡ true
+answer_ended : (request : Request) (bytes text : List ℕ) (ended : Bool) (status : ℕ) → has_input request ≡ true
+    → IsAnswered request bytes ended status text → ended ≡ true
 answer_ended no_form bytes text ended status has is = absurd is
 answer_ended (refused line) bytes text ended status has is = absurd is
 answer_ended (whole c f) bytes text ended status has is = is.0
@@ -22,7 +23,8 @@ answer_ended (sessions f) bytes text ended status has is = is.0
 answer_ended (generated n rows) bytes text ended status has is = absurd (let k = has in cc)
 
 -- an answer came after the end
-small_end : (request : Request) (i : Drained) (o : Filled) (bytes text line : List ℕ) (status : ℕ) → has_input request ≡ true → status ≤ 1 → IsEnd request i o bytes text status line → i.ended ≡ true
+small_end : (request : Request) (i : Drained) (o : Filled) (bytes text line : List ℕ) (status : ℕ) → has_input request ≡ true
+    → status ≤ 1 → IsEnd request i o bytes text status line → i.ended ≡ true
 small_end request i o bytes text line _ has small (settled none) = absurd (omega (arith, small))
 small_end request i o bytes text line _ has small (settled bad) = absurd (omega (arith, small))
 small_end request i o bytes text line _ has small (settled (faulty fault prompt owed)) = absurd (omega (arith, small))
@@ -34,17 +36,21 @@ small_end request i o bytes text line _ has small (unwritten rest some failed be
 small_end request i o bytes text line _ has small (no_memory known begun timely) = absurd (omega (arith, small))
 
 -- so did 6, 8 and 9 of a command that holds the trace
-whole_end : (c : Command) (f : Formula) (i : Drained) (o : Filled) (bytes text line : List ℕ) (status : ℕ) → (status ≡ 6) ⊎ (8 ≤ status) → IsEnd (whole c f) i o bytes text status line → i.ended ≡ true
-whole_end c f i o bytes text line _ late (settled (faulty fault prompt owed)) = elim late [ inl e ↦ absurd (omega (arith, e)) | inr e ↦ absurd (omega (arith, e)) ]
+whole_end : (c : Command) (f : Formula) (i : Drained) (o : Filled) (bytes text line : List ℕ) (status : ℕ)
+    → (status ≡ 6) ⊎ (8 ≤ status) → IsEnd (whole c f) i o bytes text status line → i.ended ≡ true
+whole_end c f i o bytes text line _ late (settled (faulty fault prompt owed)) =
+    elim late [ inl e ↦ absurd (omega (arith, e)) | inr e ↦ absurd (omega (arith, e)) ]
 whole_end c f i o bytes text line _ late (settled (answered (ended, is))) = ended
 whole_end c f i o bytes text line _ late (settled (wide n den (ended, e, is))) = ended
 whole_end c f i o bytes text line _ late (settled (overfull n (ended, is))) = ended
-whole_end c f i o bytes text line _ late (unread input ended failed sound owed) = elim late [ inl e ↦ absurd (omega (arith, e)) | inr e ↦ absurd (omega (arith, e)) ]
+whole_end c f i o bytes text line _ late (unread input ended failed sound owed) =
+    elim late [ inl e ↦ absurd (omega (arith, e)) | inr e ↦ absurd (omega (arith, e)) ]
 whole_end c f i o bytes text line _ late (unwritten rest some failed begun timely) = (begun_sound c f bytes text rest i.ended some begun).0
 whole_end c f i o bytes text line _ late (no_memory known begun timely) = elim late [ inl e ↦ absurd (omega (arith, e)) | inr e ↦ absurd (omega (arith, e)) ]
 
 -- in a run that is answered
-pub answered_once : (words : List (List ℕ)) (request : Request) → Asks words request → has_input request ≡ true → (i : Drained) (o : Filled) {bytes text line : List ℕ} {status : ℕ} → status ≤ 1
+pub answered_once : (words : List (List ℕ)) (request : Request) → Asks words request → has_input request ≡ true
+    → (i : Drained) (o : Filled) {bytes text line : List ℕ} {status : ℕ} → status ≤ 1
     → HasEnded words i o bytes text status line → HasSaidItsEnd i
 answered_once words request ask has i o {bytes} {text} {line} {status} small (asked other a nothing at end) =
     let same = one_request words other request a ask in
@@ -58,7 +64,8 @@ not_seven status (inl e) k = omega (arith, e, k)
 not_seven status (inr e) k = omega (arith, e, k)
 
 -- and in one of a command that holds the trace and ends late
-pub late_once : (words : List (List ℕ)) (c : Command) (f : Formula) → Asks words (whole c f) → (i : Drained) (o : Filled) {bytes text line : List ℕ} {status : ℕ} → (status ≡ 6) ⊎ (8 ≤ status)
+pub late_once : (words : List (List ℕ)) (c : Command) (f : Formula) → Asks words (whole c f)
+    → (i : Drained) (o : Filled) {bytes text line : List ℕ} {status : ℕ} → (status ≡ 6) ⊎ (8 ≤ status)
     → HasEnded words i o bytes text status line → HasSaidItsEnd i
 late_once words c f ask i o {bytes} {text} {line} {status} late (asked other a nothing at end) =
     let same = one_request words other (whole c f) a ask in

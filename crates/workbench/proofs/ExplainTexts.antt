@@ -92,8 +92,11 @@ time_in s = elim (le_or_lt (value s.to) (value s.from)) [
 
 -- items of one node and truth on spans that are alike
 pub record AreSame (e g : Item) : Type 0 where
+  -- of the same node
   pub node : e.node ≡ g.node
+  -- with the same truth
   pub holds : e.holds ≡ g.holds
+  -- on the same times
   pub on : AreAlike (interval e.on) (interval g.on)
 
 abbrev pub AreAllSame : List Item → List Item → Type 0

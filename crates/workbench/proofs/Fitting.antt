@@ -81,7 +81,8 @@ fits n x (fault, is, e) = no_unit_fault fault is
 -- the bytes are sound
 pub sound_bytes : (number rows : ℕ) → 1 ≤ rows → rows ≤ 200000 → IsSound whole_limits judged_formula (generated_bytes number rows) true
 sound_bytes number rows some few x (inl (n, h, at, lacking, clean)) =
-    let is : h ≡ heading = header_is (lines true (rest_bytes number 0 rows)) n h (subst (λ ls. IsHeaderAt ls n h) (header_first (rest_bytes number 0 rows)) at) in
+    let is : h ≡ heading =
+    header_is (lines true (rest_bytes number 0 rows)) n h (subst (λ ls. IsHeaderAt ls n h) (header_first (rest_bytes number 0 rows)) at) in
     by_cases (subst (λ g. (IsUnknownIn judged_formula n g or_else IsUnitIn judged_formula n g) x) is lacking)
   where
     by_cases : (IsUnknownIn judged_formula n heading or_else IsUnitIn judged_formula n heading) x → ⊥

@@ -1,5 +1,6 @@
 -- The answer of a case: the times of its trace, the signals of its atoms, and what the root's signal tells of the formula.
-use Rattle.std.proofs.Common.{◌≡◌, ℕ, zero, suc, pos, ◌+◌, ◌-◌, ◌<◌, ap, Bool, true, false, List, [], ◌∷◌, ◌++◌, length, Some, refl, sym, ◌∙◌, subst, arith, length-append, inl}
+use Rattle.std.proofs.Common.{◌≡◌, ℕ, zero, suc, pos, ◌+◌, ◌-◌, ◌<◌, ap, Bool, true, false, List, [], ◌∷◌}
+use Rattle.std.proofs.Common.{◌++◌, length, Some, refl, sym, ◌∙◌, subst, arith, length-append, inl}
 use Rattle.std.specs.Prelude.{slice_get, slice_index_or, MatchBool}
 use Rattle.rational.specs.Time.{Rational, closed, whole, ◌≈◌}
 use Rattle.rational.specs.Extended.{value_at, ◌≈ᵉ◌}
@@ -41,10 +42,12 @@ use Rattle.workbench.specs.Judging.{setting_of, IsRootOf, IsSignalText}
 pub no_row : Row
 no_row = record { time = 0; values = [] }
 
+-- the first row has the first time
 pub first_is : (rows : List Row) → 0 < length rows → (slice_index_or rows 0 no_row).time ≡ first_time rows
 first_is [] some = absurd (omega (arith, some))
 first_is (r ∷ rows) some = refl
 
+-- the last row has the last time
 pub last_is : (time : ℕ) (rows : List Row) (n : ℕ) → length rows ≡ suc n → (slice_index_or rows n no_row).time ≡ last_time time rows
 last_is time [] n h = absurd (omega (arith, h))
 last_is time (r ∷ []) n h = let e : n ≡ 0 = omega (arith, h) in subst (λ m. (slice_index_or (r ∷ []) m no_row).time ≡ r.time) (sym e) refl
@@ -93,7 +96,8 @@ module _ {P : Type 0} (shape : ShapeOf P) (reading : Trace → Reading) (c : Cas
   root_told signals x some told is have =
       let node = told (length c.formula.nodes - 1) (omega (arith, some)) in
       record {
-        tells = subst (Tells shape (SupInf (root c.formula.nodes) (setting_of shape reading c.trace)) (start c.trace) (stop c.trace)) (some_is (sym node.1 ∙ is)) node.2;
+        tells = subst (Tells shape (SupInf (root c.formula.nodes) (setting_of shape reading c.trace)) (start c.trace) (stop c.trace))
+            (some_is (sym node.1 ∙ is)) node.2;
         values = have.0;
         infs = have.1;
       }
@@ -138,6 +142,7 @@ module _ (c : Case) (f : Formula) (case : IsCase f c) (values : HasValues (root 
     ),
   )
 
+  -- the lines of the root's truth are the answer of `check`
   pub judged : IsJudged f c.trace holds text
   unfolding Over
   judged = let over = subst Over case.formula own in record { truth = over.0; written = over.1 }

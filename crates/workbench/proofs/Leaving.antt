@@ -23,7 +23,8 @@ use Rattle.workbench.specs.Commands.{Judge, judge, generate}
 use Rattle.workbench.specs.Commands as word
 use Rattle.workbench.specs.ErrTexts.{not_streamed_text, out_of_memory}
 use Rattle.workbench.specs.InputFaults.{stream_limits, whole_limits}
-use Rattle.workbench.specs.Requests.{Request, no_form, refused as bad_request, whole, stream, verdicts, early, margins, generated, Asks, AreNone, AreFor, IsAsked, IsUnserved, word_of}
+use Rattle.workbench.specs.Requests.{Request, no_form, refused as bad_request, whole, stream, verdicts, early}
+use Rattle.workbench.specs.Requests.{margins, generated, Asks, AreNone, AreFor, IsAsked, IsUnserved, word_of}
 use Rattle.workbench.specs.Running.{IsRun, asked as run_asked, settled, unknown as run_unknown}
 use Rattle.workbench.specs.Settled.{bad}
 use Rattle.workbench.specs.Saying.{IsSaid}
@@ -40,16 +41,19 @@ use Rattle.workbench.specs.declared.kept.Kept.{Kept}
 use Rattle.workbench.specs.declared.kept.Kept.TheVariants.{Watch, Early, Margins}
 
 -- words of no form leave nothing
-pub none_left : {words : List (List ℕ)} {i : Drained} {o e : Filled} {status : ℕ} (old new : Kept) → AreNone words → new ≡ old → IsRun words i o e status → HasRun words i o e old new status
+pub none_left : {words : List (List ℕ)} {i : Drained} {o e : Filled} {status : ℕ} (old new : Kept) → AreNone words → new ≡ old
+    → IsRun words i o e status → HasRun words i o e old new status
 none_left old new h same run = record { run = run; left = asked no_form h (inr (inl refl, same)) }
 
 -- nor does a generated trace
-pub made_left : {words : List (List ℕ)} {i : Drained} {o e : Filled} {status : ℕ} (number rows : ℕ) (old new : Kept) → IsAsked words (generate number rows) → new ≡ old
+pub made_left : {words : List (List ℕ)} {i : Drained} {o e : Filled} {status : ℕ} (number rows : ℕ) (old new : Kept)
+    → IsAsked words (generate number rows) → new ≡ old
     → IsRun words i o e status → HasRun words i o e old new status
 made_left number rows old new form same run = record { run = run; left = asked (generated number rows) form (inr (inl refl, same)) }
 
 -- nor does a text that gives no formula
-pub refused_left : {words : List (List ℕ)} {text : List ℕ} {i : Drained} {o e : Filled} {line : List ℕ} (j : Judge) (old new : Kept) (status : ℕ) → IsAsked words (judge j text)
+pub refused_left : {words : List (List ℕ)} {text : List ℕ} {i : Drained} {o e : Filled} {line : List ℕ} (j : Judge)
+    (old new : Kept) (status : ℕ) → IsAsked words (judge j text)
     → IsBadEnd text status line → new ≡ old → IsRun words i o e status → HasRun words i o e old new status
 refused_left {words} {text} {i} {o} {e} j old new _ form (refused {line = line} b) same run = record {
   run = run;
@@ -58,12 +62,14 @@ refused_left {words} {text} {i} {o} {e} j old new _ form (refused {line = line} 
 refused_left j old new _ form no_room same run = record { run = run; left = unknown refl same }
 
 -- nor does a command that holds the whole trace
-pub whole_left : {words : List (List ℕ)} {i : Drained} {o e : Filled} {status : ℕ} (c : Command) (f : Formula) (old new : Kept) → AreFor words (word_of c) f → new ≡ old
+pub whole_left : {words : List (List ℕ)} {i : Drained} {o e : Filled} {status : ℕ} (c : Command) (f : Formula) (old new : Kept)
+    → AreFor words (word_of c) f → new ≡ old
     → IsRun words i o e status → HasRun words i o e old new status
 whole_left c f old new ask same run = record { run = run; left = asked (whole c f) ask (inr (inl refl, same)) }
 
 -- nor does a stream for which there is no room
-pub starved_left : {words : List (List ℕ)} {j : Judge} {f : Formula} (i : Drained) (o e : Filled) (old new : Kept) (line : List ℕ) → AreFor words j f → line ≡ out_of_memory
+pub starved_left : {words : List (List ℕ)} {j : Judge} {f : Formula} (i : Drained) (o e : Filled) (old new : Kept) (line : List ℕ)
+    → AreFor words j f → line ≡ out_of_memory
     → i.after ≡ i.before → o.after ≡ o.before → IsSaid e.before e.after e.faults e.faults_after line → new ≡ old → HasRun words i o e old new 7
 starved_left {words} {j} i o e old new line ask is same_in same_out said same = record {
   run = record {
@@ -89,13 +95,15 @@ not_answer (Wide i den) = (λ e. omega (arith, e), λ e. omega (arith, e))
 not_answer (TooMany count) = (λ e. omega (arith, e), λ e. omega (arith, e))
 
 -- what stops for a reason leaves nothing
-pub stopped_left : (words : List (List ℕ)) (request : Request) (bytes : List ℕ) (ending : Result Bool Stop) (kept : Kept) → Asks words request → is_err ending ≡ true
+pub stopped_left : (words : List (List ℕ)) (request : Request) (bytes : List ℕ) (ending : Result Bool Stop) (kept : Kept)
+    → Asks words request → is_err ending ≡ true
     → IsLeft words bytes (status_of ending) kept kept
 stopped_left words request bytes (Ok holds) kept ask e = absurd (false≢true e)
 stopped_left words request bytes (Err stop) kept ask e = asked request ask (inr (inr (not_answer stop), refl))
 
 -- `watch` leaves its watch on an answer, and nothing else
-pub watch_left : (words : List (List ℕ)) (f : Formula) (bytes text : List ℕ) (ending : Result Bool Stop) (w : Watched) (old new : Kept) → AreFor words word.watch f
+pub watch_left : (words : List (List ℕ)) (f : Formula) (bytes text : List ℕ) (ending : Result Bool Stop) (w : Watched) (old new : Kept)
+    → AreFor words word.watch f
     → OnOk ending ((holds : Bool) × StandsForAll (record { formula = f; limits = stream_limits; bytes = bytes; text = text }) holds w)
     → MatchResult ending (λ _. new ≡ Watch w) (λ _. new ≡ old) → IsLeft words bytes (status_of ending) old new
 watch_left words f bytes text (Ok true) w old new ask (holds, k) same =
@@ -110,17 +118,23 @@ pub kept_fault : (r : Result Bool Stop) (w : Watched) (k : Kept) → is_err r �
 kept_fault (Ok holds) w k e = absurd (false≢true e)
 kept_fault (Err stop) w k e = refl
 
+-- a run that is answered leaves its watch
 pub kept_answer : (r : Result Bool Stop) (w : Watched) (old : Kept) → is_err r ≡ false → MatchResult r (λ _. Watch w ≡ Watch w) (λ _. Watch w ≡ old)
 kept_answer (Ok holds) w old e = refl
 kept_answer (Err stop) w old e = absurd (false≢true (sym e))
 
 -- the run of `watch`
-pub watch_run : (words : List (List ℕ)) (f g h : Formula) (w : Watched) (i : Drained) (o e : Filled) (old new : Kept) → AreFor words word.watch f → g ≡ f → h ≡ f → (ending : Result Bool Stop) (status : ℕ) (line : List ℕ)
+pub watch_run : (words : List (List ℕ)) (f g h : Formula) (w : Watched) (i : Drained) (o e : Filled) (old new : Kept)
+    → AreFor words word.watch f → g ≡ f → h ≡ f → (ending : Result Bool Stop) (status : ℕ) (line : List ℕ)
     → status ≡ status_of ending
-    → IsStreamEnd (λ bytes text. (holds : Bool) × StandsForAll (record { formula = g; limits = stream_limits; bytes = bytes; text = text }) holds w) (stream verdicts g) i o ending
-    → IsAskedOnce i → IsEndLine h ending line → IsSaid e.before e.after e.faults e.faults_after line → MatchResult ending (λ _. new ≡ Watch w) (λ _. new ≡ old) → HasRun words i o e old new status
+    → IsStreamEnd (λ bytes text. (holds : Bool) × StandsForAll (record { formula = g; limits = stream_limits; bytes = bytes; text = text }) holds w)
+    (stream verdicts g) i o ending
+    → IsAskedOnce i → IsEndLine h ending line → IsSaid e.before e.after e.faults e.faults_after line
+    → MatchResult ending (λ _. new ≡ Watch w) (λ _. new ≡ old) → HasRun words i o e old new status
 watch_run words f g h w i o e old new ask eg eh ending status line same x once told said kept =
-    let y = subst (λ (k : Formula). IsStreamEnd (λ bytes text. (holds : Bool) × StandsForAll (record { formula = k; limits = stream_limits; bytes = bytes; text = text }) holds w) (stream verdicts k) i o ending) eg x in
+    let y = subst (λ (k : Formula).
+    IsStreamEnd (λ bytes text. (holds : Bool) × StandsForAll (record { formula = k; limits = stream_limits; bytes = bytes; text = text }) holds w)
+    (stream verdicts k) i o ending) eg x in
     stream_run words verdicts f i o e old new ask ending status line same y once (subst (λ (k : Formula). IsEndLine k ending line) eh told) said
     (watch_left words f y.bytes y.text ending w old new ask y.left kept)
 
@@ -150,7 +164,8 @@ early_over f bytes text live (holds, over) e = (
 )
 
 -- the run of `early`
-pub early_run : (words : List (List ℕ)) (f g h : Formula) (x : Deciding) (i : Drained) (o e : Filled) (old new : Kept) → AreFor words word.early f → g ≡ f → h ≡ f
+pub early_run : (words : List (List ℕ)) (f g h : Formula) (x : Deciding) (i : Drained) (o e : Filled) (old new : Kept)
+    → AreFor words word.early f → g ≡ f → h ≡ f
     → (ending : Result Bool Stop) (status : ℕ) (line : List ℕ) → status ≡ status_of ending → (Done : List ℕ → List ℕ → Type 0)
     → IsStreamEnd Done (stream early g) i o ending → ((bytes text : List ℕ) → OnOk ending (Done bytes text) → OnOk ending (IsEarlyOf f bytes x))
     → IsAskedOnce i → IsEndLine h ending line → IsSaid e.before e.after e.faults e.faults_after line → MatchResult ending (λ _. new ≡ Early x) (λ _. new ≡ old)
@@ -166,7 +181,8 @@ early_answer (Ok holds) x old e = refl
 early_answer (Err stop) x old e = absurd (false≢true (sym e))
 
 -- on an answer what decided is of the formula
-pub early_of_done : (f : Formula) (live : Live Follower) (ending : Result Bool Stop) (x : Deciding) → live.formula ≡ f → ((y : Follower) → live.follower ≡ Some y → x ≡ y.early)
+pub early_of_done : (f : Formula) (live : Live Follower) (ending : Result Bool Stop) (x : Deciding) → live.formula ≡ f
+    → ((y : Follower) → live.follower ≡ Some y → x ≡ y.early)
     → (bytes text : List ℕ) → OnOk ending (IsDone (λ s c made. IsDeciding true s c) early live bytes text) → OnOk ending (IsEarlyOf f bytes x)
 early_of_done f live (Ok holds) x e is bytes text k =
     let w = early_over f bytes text live k e in subst (λ (y : Deciding). IsEarlyOf f bytes y) (sym (is w.0 w.1)) w.2
@@ -196,7 +212,8 @@ has_follower live (Err stop) e bytes text k = absurd (false≢true (sym e))
 -- ---- `rwatch`
 
 -- it leaves its network on an answer, and nothing else
-pub margins_left : (words : List (List ℕ)) (f : Formula) (bytes : List ℕ) (ending : Result Bool Stop) (net : Parts) (old new : Kept) → AreFor words word.rwatch f
+pub margins_left : (words : List (List ℕ)) (f : Formula) (bytes : List ℕ) (ending : Result Bool Stop) (net : Parts) (old new : Kept)
+    → AreFor words word.rwatch f
     → OnOk ending (IsNetOf f bytes net) → MatchResult ending (λ _. new ≡ Margins net) (λ _. new ≡ old) → IsLeft words bytes (status_of ending) old new
 margins_left words f bytes (Ok true) net old new ask k same =
     asked (stream margins f) ask (inl (refl, inl refl, subst (λ (y : Kept). Holds (stream margins f) bytes y) (sym same) k))
@@ -206,27 +223,33 @@ margins_left words f bytes (Err stop) net old new ask k same =
     asked (stream margins f) ask (inr (inr (not_answer stop), same))
 
 -- the reader that has come to its end has the network
-pub margins_over : (f : Formula) (bytes text : List ℕ) (live : Live Measurer) → IsDone (λ s c made. IsMargined true s c made) margins live bytes text → live.formula ≡ f
+pub margins_over : (f : Formula) (bytes text : List ℕ) (live : Live Measurer)
+    → IsDone (λ s c made. IsMargined true s c made) margins live bytes text → live.formula ≡ f
     → (x : Measurer) × (live.follower ≡ Some x) × IsNetOf f bytes x.net
 margins_over f bytes text live (holds, over) e =
-    let is : over.case.formula.nodes ≡ nodes_for f over.case.trace = ap (λ (g : Formula). g.nodes) over.fits.formula ∙ ap (λ (g : Formula). nodes_for g over.case.trace) e in (
+    let is : over.case.formula.nodes ≡ nodes_for f over.case.trace =
+    ap (λ (g : Formula). g.nodes) over.fits.formula ∙ ap (λ (g : Formula). nodes_for g over.case.trace) e in (
       over.follower,
       over.is,
       record {
         tr = over.case.trace;
         trace = subst (λ (g : Formula). IsWhole stream_limits g bytes over.case.trace) e over.trace;
         given = over.complete.ended.given;
-        stands = subst (λ (ns : List Node). StandsFor ns over.case.trace.header over.follower.net (record { rows = over.case.trace.rows; ended = true }) over.complete.ended.given) is
+        stands = subst (λ (ns : List Node).
+            StandsFor ns over.case.trace.header over.follower.net (record { rows = over.case.trace.rows; ended = true }) over.complete.ended.given) is
             over.complete.ended.stands;
-        all = subst (λ (ns : List Node). AreEmittedParts (root ns) over.case.trace.header over.case.trace.rows true (map part_of over.complete.ended.given)) is over.complete.ended.emitted;
+        all = subst (λ (ns : List Node). AreEmittedParts (root ns) over.case.trace.header over.case.trace.rows true (map part_of over.complete.ended.given))
+            is over.complete.ended.emitted;
       },
     )
 
 -- the run of `rwatch`
-pub margins_run : (words : List (List ℕ)) (f g h : Formula) (net : Parts) (i : Drained) (o e : Filled) (old new : Kept) → AreFor words word.rwatch f → g ≡ f → h ≡ f
+pub margins_run : (words : List (List ℕ)) (f g h : Formula) (net : Parts) (i : Drained) (o e : Filled) (old new : Kept)
+    → AreFor words word.rwatch f → g ≡ f → h ≡ f
     → (ending : Result Bool Stop) (status : ℕ) (line : List ℕ) → status ≡ status_of ending → (Done : List ℕ → List ℕ → Type 0)
     → IsStreamEnd Done (stream margins g) i o ending → ((bytes text : List ℕ) → OnOk ending (Done bytes text) → OnOk ending (IsNetOf f bytes net))
-    → IsAskedOnce i → IsEndLine h ending line → IsSaid e.before e.after e.faults e.faults_after line → MatchResult ending (λ _. new ≡ Margins net) (λ _. new ≡ old)
+    → IsAskedOnce i → IsEndLine h ending line → IsSaid e.before e.after e.faults e.faults_after line
+    → MatchResult ending (λ _. new ≡ Margins net) (λ _. new ≡ old)
     → HasRun words i o e old new status
 margins_run words f g h net i o e old new ask eg eh ending status line same Done y as_done once told said kept =
     let z = subst (λ (k : Formula). IsStreamEnd Done (stream margins k) i o ending) eg y in
@@ -234,12 +257,14 @@ margins_run words f g h net i o e old new ask eg eh ending status line same Done
     (margins_left words f z.bytes ending net old new ask (as_done z.bytes z.text z.left) kept)
 
 -- the answer is kept
-pub margins_answer : (r : Result Bool Stop) (net : Parts) (old : Kept) → is_err r ≡ false → MatchResult r (λ _. Margins net ≡ Margins net) (λ _. Margins net ≡ old)
+pub margins_answer : (r : Result Bool Stop) (net : Parts) (old : Kept) → is_err r ≡ false
+    → MatchResult r (λ _. Margins net ≡ Margins net) (λ _. Margins net ≡ old)
 margins_answer (Ok holds) net old e = refl
 margins_answer (Err stop) net old e = absurd (false≢true (sym e))
 
 -- on an answer the network is of the formula
-pub net_of_done : (f : Formula) (live : Live Measurer) (ending : Result Bool Stop) (net : Parts) → live.formula ≡ f → ((y : Measurer) → live.follower ≡ Some y → net ≡ y.net)
+pub net_of_done : (f : Formula) (live : Live Measurer) (ending : Result Bool Stop) (net : Parts) → live.formula ≡ f
+    → ((y : Measurer) → live.follower ≡ Some y → net ≡ y.net)
     → (bytes text : List ℕ) → OnOk ending (IsDone (λ s c made. IsMargined true s c made) margins live bytes text) → OnOk ending (IsNetOf f bytes net)
 net_of_done f live (Ok holds) net e is bytes text k =
     let w = margins_over f bytes text live k e in subst (λ (y : Parts). IsNetOf f bytes y) (sym (is w.0 w.1)) w.2
@@ -267,7 +292,8 @@ has_measurer live (Ok holds) e bytes text (h, over) = subst (λ (o : Option Meas
 has_measurer live (Err stop) e bytes text k = absurd (false≢true (sym e))
 
 -- a formula that is not served is refused before anything is read
-pub unserved_left : (words : List (List ℕ)) (text : List ℕ) (f : Formula) (node : ℕ) (i : Drained) (o e : Filled) (old new : Kept) (line : List ℕ) → IsAsked words (judge word.rwatch text)
+pub unserved_left : (words : List (List ℕ)) (text : List ℕ) (f : Formula) (node : ℕ) (i : Drained) (o e : Filled) (old new : Kept)
+    (line : List ℕ) → IsAsked words (judge word.rwatch text)
     → IsFormulaOf text f → IsUnserved word.rwatch f node → line ≡ not_streamed_text node → i.after ≡ i.before → o.after ≡ o.before
     → IsSaid e.before e.after e.faults e.faults_after line → new ≡ old → HasRun words i o e old new 3
 unserved_left words text f node i o e old new line form is unserved line_is same_in same_out said same =

@@ -1,5 +1,6 @@
 -- Several sessions in one input, as a stream: what a piece and the end come to, and the run.
-use Rattle.std.proofs.Common.{◌≡◌, ◌≢◌, inl, inr, ℕ, Bool, true, false, List, [], ◌++◌, refl, sym, ap, ◌∙◌, subst, append-nil, append_assoc, arith, Option, Result, Ok, Err}
+use Rattle.std.proofs.Common.{◌≡◌, ◌≢◌, inl, inr, ℕ, Bool, true, false, List, [], ◌++◌, refl, sym, ap}
+use Rattle.std.proofs.Common.{◌∙◌, subst, append-nil, append_assoc, arith, Option, Result, Ok, Err}
 use Rattle.std.specs.Prelude.{MatchResult, OnOk}
 use Rattle.std.specs.Result.{is_err}
 use Rattle.std.proofs.KnownBytes.{Appends-nil}
@@ -33,7 +34,8 @@ use Rattle.workbench.proofs.Leaving.{not_answer}
 -- ---- what is told
 
 -- where memory was wanting nothing is written
-pub starved_told : (held : Option (List ℕ)) (text : List ℕ) (outcome : Result (Unit {0}) InputStop) → outcome ≡ Err NoRoom → IsInputTold held held text outcome (Err NoMemory)
+pub starved_told : (held : Option (List ℕ)) (text : List ℕ) (outcome : Result (Unit {0}) InputStop) → outcome ≡ Err NoRoom
+    → IsInputTold held held text outcome (Err NoMemory)
 starved_told held text outcome e = subst (λ (r : Result (Unit {0}) InputStop). IsInputTold held held text r (Err NoMemory)) (sym e) (no_room (Appends-nil held))
 
 -- the reason of an input is no fault of a sink
@@ -57,7 +59,8 @@ module _ (f : Formula) where
   }
 
   -- what was owed for all bytes
-  begun_now : (bytes text front back made : List ℕ) (ended : Bool) → made ≡ front ++ back → OwesLines f bytes ended (text ++ made) → IsBegun (sessions f) bytes ended (text ++ front) back
+  begun_now : (bytes text front back made : List ℕ) (ended : Bool) → made ≡ front ++ back → OwesLines f bytes ended (text ++ made)
+      → IsBegun (sessions f) bytes ended (text ++ front) back
   begun_now bytes text front back made ended e owed = record {
     seen = bytes;
     later = [];
@@ -68,7 +71,8 @@ module _ (f : Formula) where
   }
 
   -- a fault of a line was told
-  line_told : (bytes text : List ℕ) (ended : Bool) (stop : InputStop) → stop ≢ NoRoom → IsInputStop f bytes ended text stop → IsPushStop (sessions f) bytes ended text (stop_of_input stop)
+  line_told : (bytes text : List ℕ) (ended : Bool) (stop : InputStop) → stop ≢ NoRoom → IsInputStop f bytes ended text stop
+      → IsPushStop (sessions f) bytes ended text (stop_of_input stop)
   line_told bytes text ended (InLine fault) ne (first, owed) = ((fault_of fault, first, refl), owed)
   line_told bytes text ended NoRoom ne h = absurd (ne refl)
 
@@ -107,42 +111,78 @@ taking_cleared f mid bytes text k = record {
   taken = subst (λ t. HasLines f mid.mux k.front t) (sym (append-nil (text ++ mid.text))) k.taken;
 }
 
-rest_after : (f : Formula) (mid new : Input) (bytes text : List ℕ) → new ≡ record mid { text = [] } → IsTaking f mid bytes text → IsManyAtRest (record { formula = f; input = new }) bytes (text ++ mid.text)
+rest_after : (f : Formula) (mid new : Input) (bytes text : List ℕ) → new ≡ record mid { text = [] } → IsTaking f mid bytes text
+    → IsManyAtRest (record { formula = f; input = new }) bytes (text ++ mid.text)
 rest_after f mid new bytes text e k =
-    subst (λ (i : Input). IsManyAtRest (record { formula = f; input = i }) bytes (text ++ mid.text)) (sym e) (record { taking = taking_cleared f mid bytes text k; empty = refl })
+    subst (λ (i : Input). IsManyAtRest (record { formula = f; input = i }) bytes (text ++ mid.text)) (sym e)
+    (record { taking = taking_cleared f mid bytes text k; empty = refl })
 
 module _ (f : Formula) (mid new : Input) (held held_after : Option (List ℕ)) where
   -- a piece
-  pub many_pushed : (bytes piece text : List ℕ) → OwesLines f bytes false text → (fed : Result (Unit {0}) InputStop) (result : Result (Unit {0}) Stop) → IsInputTold held held_after mid.text fed result
-      → MatchResult fed (λ _. IsTaking f mid (bytes ++ piece) text) (λ e. IsInputStop f (bytes ++ piece) false (text ++ mid.text) e) → OnOk result (new ≡ record mid { text = [] })
-      → IsPush (sessions f) held held_after (bytes ++ piece) false text (λ _. IsPushed (IsManyAtRest (record { formula = f; input = new })) (sessions f) (bytes ++ piece)) result
+  pub many_pushed : (bytes piece text : List ℕ) → OwesLines f bytes false text
+      → (fed : Result (Unit {0}) InputStop) (result : Result (Unit {0}) Stop) → IsInputTold held held_after mid.text fed result
+      → MatchResult fed (λ _. IsTaking f mid (bytes ++ piece) text) (λ e. IsInputStop f (bytes ++ piece) false (text ++ mid.text) e)
+      → OnOk result (new ≡ record mid { text = [] })
+      → IsPush (sessions f) held held_after (bytes ++ piece) false text
+      (λ _. IsPushed (IsManyAtRest (record { formula = f; input = new })) (sessions f) (bytes ++ piece)) result
   many_pushed bytes piece text before fed result (no_room kept) h done = ([], kept, inr ([], begun_before f bytes piece text false before))
-  many_pushed bytes piece text before (Ok x) result (told_whole ne wrote) h done =
-      (mid.text, wrote, many_at_rest (record { formula = f; input = new }) (bytes ++ piece) (text ++ mid.text) (rest_after f mid new (bytes ++ piece) text done h))
-  many_pushed bytes piece text before (Err stop) result (told_whole ne wrote) h done = (mid.text, wrote, line_told f (bytes ++ piece) (text ++ mid.text) false stop (λ e. ne (ap Err e)) h)
-  many_pushed bytes piece text before (Ok x) result (told_in_part ne part) h done =
-      (part.front, part.wrote, (part.back, part.missing, begun_now f (bytes ++ piece) text part.front part.back mid.text false part.parts (owed_so_far f mid (bytes ++ piece) text h)))
-  many_pushed bytes piece text before (Err stop) result (told_in_part ne part) h done =
-      (part.front, part.wrote, (part.back, part.missing, begun_now f (bytes ++ piece) text part.front part.back mid.text false part.parts (line_owed f (bytes ++ piece) (text ++ mid.text) false stop (λ e. ne (ap Err e)) h)))
+  many_pushed bytes piece text before (Ok x) result (told_whole ne wrote) h done = (
+    mid.text,
+    wrote,
+    many_at_rest (record { formula = f; input = new }) (bytes ++ piece) (text ++ mid.text) (rest_after f mid new (bytes ++ piece) text done h),
+  )
+  many_pushed bytes piece text before (Err stop) result (told_whole ne wrote) h done =
+      (mid.text, wrote, line_told f (bytes ++ piece) (text ++ mid.text) false stop (λ e. ne (ap Err e)) h)
+  many_pushed bytes piece text before (Ok x) result (told_in_part ne part) h done = (
+    part.front,
+    part.wrote,
+    (
+      part.back,
+      part.missing,
+      begun_now f (bytes ++ piece) text part.front part.back mid.text false part.parts (owed_so_far f mid (bytes ++ piece) text h),
+    ),
+  )
+  many_pushed bytes piece text before (Err stop) result (told_in_part ne part) h done = (
+    part.front,
+    part.wrote,
+    (
+      part.back,
+      part.missing,
+      begun_now f (bytes ++ piece) text part.front part.back mid.text false
+          part.parts (line_owed f (bytes ++ piece) (text ++ mid.text) false stop (λ e. ne (ap Err e)) h),
+    ),
+  )
 
   -- the end
-  all_answered : (bytes text : List ℕ) → HasAll f mid.mux bytes (text ++ mid.text) → new ≡ record mid { text = [] } → IsFinished (HasAll f new.mux) (sessions f) bytes true (text ++ mid.text)
+  all_answered : (bytes text : List ℕ) → HasAll f mid.mux bytes (text ++ mid.text) → new ≡ record mid { text = [] }
+      → IsFinished (HasAll f new.mux) (sessions f) bytes true (text ++ mid.text)
   all_answered bytes text h done =
       let same : new.mux ≡ mid.mux = ap (λ (i : Input). i.mux) done in
       ((refl, refl, h.owed, h.sound), subst (λ (m : Muxed). HasAll f m bytes (text ++ mid.text)) (sym same) h)
 
-  pub many_ended : (bytes text : List ℕ) → OwesLines f bytes false text → (finished : Result (Unit {0}) InputStop) (result : Result (Unit {0}) Stop) → IsInputTold held held_after mid.text finished result
-      → MatchResult finished (λ _. HasAll f mid.mux bytes (text ++ mid.text)) (λ e. IsInputStop f bytes true (text ++ mid.text) e) → OnOk result (new ≡ record mid { text = [] })
+  -- what the end told the sessions is all of their text, or an end of the input for a reason
+  pub many_ended : (bytes text : List ℕ) → OwesLines f bytes false text → (finished : Result (Unit {0}) InputStop)
+      (result : Result (Unit {0}) Stop) → IsInputTold held held_after mid.text finished result
+      → MatchResult finished (λ _. HasAll f mid.mux bytes (text ++ mid.text)) (λ e. IsInputStop f bytes true (text ++ mid.text) e)
+      → OnOk result (new ≡ record mid { text = [] })
       → MatchResult result (λ _. IsPush (sessions f) held held_after bytes true text (IsFinished (HasAll f new.mux) (sessions f) bytes) (Ok true))
       (λ e. IsPush (sessions f) held held_after bytes true text (IsFinished (HasAll f new.mux) (sessions f) bytes) (Err e))
   many_ended bytes text before finished result (no_room kept) h done =
       ([], kept, inr ([], subst (λ b. IsBegun (sessions f) b true (text ++ []) []) (append-nil bytes) (begun_before f bytes [] text true before)))
   many_ended bytes text before (Ok x) result (told_whole ne wrote) h done = (mid.text, wrote, all_answered bytes text h done)
-  many_ended bytes text before (Err stop) result (told_whole ne wrote) h done = (mid.text, wrote, line_told f bytes (text ++ mid.text) true stop (λ e. ne (ap Err e)) h)
+  many_ended bytes text before (Err stop) result (told_whole ne wrote) h done =
+      (mid.text, wrote, line_told f bytes (text ++ mid.text) true stop (λ e. ne (ap Err e)) h)
   many_ended bytes text before (Ok x) result (told_in_part ne part) h done =
       (part.front, part.wrote, (part.back, part.missing, begun_now f bytes text part.front part.back mid.text true part.parts h.owed))
-  many_ended bytes text before (Err stop) result (told_in_part ne part) h done =
-      (part.front, part.wrote, (part.back, part.missing, begun_now f bytes text part.front part.back mid.text true part.parts (line_owed f bytes (text ++ mid.text) true stop (λ e. ne (ap Err e)) h)))
+  many_ended bytes text before (Err stop) result (told_in_part ne part) h done = (
+    part.front,
+    part.wrote,
+    (
+      part.back,
+      part.missing,
+      begun_now f bytes text part.front part.back mid.text true part.parts (line_owed f bytes (text ++ mid.text) true stop (λ e. ne (ap Err e)) h),
+    ),
+  )
 
 -- ---- the run
 
@@ -157,7 +197,8 @@ many_line f (Err (Wide i den)) line other a b = b ∙ sym a
 many_line f (Err (TooMany count)) line other a b = b ∙ sym a
 
 -- no fault of a trace ends it
-pub many_soundly : {Done : List ℕ → List ℕ → Type 0} (f g : Formula) (i : Drained) (o : Filled) (ending : Result Bool Stop) → IsStreamEnd Done (sessions f) i o ending → EndsSoundly g ending
+pub many_soundly : {Done : List ℕ → List ℕ → Type 0} (f g : Formula) (i : Drained) (o : Filled) (ending : Result Bool Stop)
+    → IsStreamEnd Done (sessions f) i o ending → EndsSoundly g ending
 many_soundly f g i o ending x = by_line ending x.told
   where
     by_line : (ending : Result Bool Stop) → IsLineOf (sessions f) ending x.line → EndsSoundly g ending
@@ -184,11 +225,14 @@ pub formula_stays : (f g : Formula) → sessions f ≡ sessions g → f ≡ g
 formula_stays f g e = cc
 
 -- the run of `mux`
-pub many_run : (words : List (List ℕ)) (f g h k : Formula) (m : Muxed) (i : Drained) (o e : Filled) (old new : Kept) → AreFor words word.mux f → g ≡ f → h ≡ f → k ≡ f
-    → (ending : Result Bool Stop) (status : ℕ) (line : List ℕ) → status ≡ status_of ending → IsStreamEnd (HasAll h m) (sessions g) i o ending → IsAskedOnce i → IsEndLine k ending line
+pub many_run : (words : List (List ℕ)) (f g h k : Formula) (m : Muxed) (i : Drained) (o e : Filled) (old new : Kept)
+    → AreFor words word.mux f → g ≡ f → h ≡ f → k ≡ f
+    → (ending : Result Bool Stop) (status : ℕ) (line : List ℕ) → status ≡ status_of ending
+    → IsStreamEnd (HasAll h m) (sessions g) i o ending → IsAskedOnce i → IsEndLine k ending line
     → IsSaid e.before e.after e.faults e.faults_after line → MatchResult ending (λ _. new ≡ Mux m) (λ _. new ≡ old) → HasRun words i o e old new status
 many_run words f g h k m i o e old new ask eg eh ek ending status line same x once told said kept =
-    let y = subst (λ (z : Formula). IsStreamEnd (HasAll z m) (sessions f) i o ending) eh (subst (λ (z : Formula). IsStreamEnd (HasAll h m) (sessions z) i o ending) eg x) in
+    let y = subst (λ (z : Formula). IsStreamEnd (HasAll z m) (sessions f) i o ending) eh
+    (subst (λ (z : Formula). IsStreamEnd (HasAll h m) (sessions z) i o ending) eg x) in
     let own = subst (λ (z : Formula). IsEndLine z ending line) ek told in
     pushed_run words (sessions f) i o e old new ask refl ending status line same y once (many_line f ending y.line line y.told own) said
     (many_left words f y.bytes y.text ending m old new ask y.left kept)
@@ -198,6 +242,8 @@ pub many_fault : (r : Result Bool Stop) (m : Muxed) (k : Kept) → is_err r ≡ 
 many_fault (Ok holds) m k e = absurd (false≢true e)
 many_fault (Err stop) m k e = refl
 
-pub many_answer : (r : Result Bool Stop) (m left : Muxed) (old : Kept) → left ≡ m → is_err r ≡ false → MatchResult r (λ _. Mux left ≡ Mux m) (λ _. Mux left ≡ old)
+-- a run that is answered leaves its sessions
+pub many_answer : (r : Result Bool Stop) (m left : Muxed) (old : Kept) → left ≡ m → is_err r ≡ false
+    → MatchResult r (λ _. Mux left ≡ Mux m) (λ _. Mux left ≡ old)
 many_answer (Ok holds) m left old same e = ap Mux same
 many_answer (Err stop) m left old same e = absurd (false≢true (sym e))

@@ -5,7 +5,8 @@ use Rattle.rational.specs.Extended.{Extended, finite, value_at, ◌<ᵉ◌, ◌�
 use Rattle.rational.proofs.Order.{le_refl, le_of_lt, le_of_same, ge_of_same, le_trans, same_sym, same_trans}
 use Rattle.rational.proofs.ExtendedLemmas.{lt_of_lt_of_leᵉ, lt_of_le_of_ltᵉ}
 use Rattle.rational.proofs.AffineLemmas.{same_symᵉ, same_transᵉ, affine_unique}
-use Rattle.stl_syntax.specs.Formula.{Formula, Subformula, root, constant, atom, negation, conjunction, disjunction, implication, until, eventually, always, since, once, historically}
+use Rattle.stl_syntax.specs.Formula.{Formula, Subformula, root, constant, atom, negation, conjunction, disjunction}
+use Rattle.stl_syntax.specs.Formula.{implication, until, eventually, always, since, once, historically}
 use Rattle.stl_syntax.specs.Trace.{Trace, IsLike, start, stop}
 use Rattle.stl_syntax.specs.Truth.{Truth}
 use Rattle.stl_syntax.specs.Closeness.{AreClose}
@@ -44,7 +45,8 @@ one_inside k q t r v rising a b =
       at_least = affine_unique b.through a.through k.time q.next.time t rising (same_symᵉ (value_at a.through k.time) (value_at b.through k.time) from)
           (same_symᵉ (value_at a.through q.next.time) (value_at b.through q.next.time) to);
     } in
-    same_transᵉ r (value_at a.through t) v a.value (same_transᵉ (value_at a.through t) (value_at b.through t) v same (same_symᵉ v (value_at b.through t) b.value))
+    same_transᵉ r (value_at a.through t) v a.value
+    (same_transᵉ (value_at a.through t) (value_at b.through t) v same (same_symᵉ v (value_at b.through t) b.value))
 
 module _ (p : Subformula) (tr : Trace) where
   -- r is the robustness at t, a time of the domain
@@ -57,7 +59,8 @@ module _ (p : Subformula) (tr : Trace) where
     (k.value, values_are_of_times p (margin_setting tr) k.time t k.value (same_sym e) is, same),
   )
 
-  inside : (k : Knot) (q : Piece) (t : Rational) (r : Extended) → start tr ≤ʳ k.time → q.next.time ≤ʳ stop tr → IsRobustInside p tr k q → IsInside k q t r → IsValue t r
+  inside : (k : Knot) (q : Piece) (t : Rational) (r : Extended) → start tr ≤ʳ k.time → q.next.time ≤ʳ stop tr
+      → IsRobustInside p tr k q → IsInside k q t r → IsValue t r
   inside k q t r above below is at =
       let (v, told, here) = is.1 t at.after at.before in (
         record { above = le_trans above (le_of_lt at.after); below = le_trans (le_of_lt at.before) below },
@@ -69,7 +72,8 @@ module _ (p : Subformula) (tr : Trace) where
   before_stop j before [] goes = le_of_same goes
   before_stop j before (after ∷ pieces) goes = le_trans (le_of_lt goes.1.0) (before_stop before.next after pieces goes.3)
 
-  reads_on : (j : Knot) (before : Piece) (pieces : List Piece) → start tr ≤ʳ before.next.time → IsRobust p tr before.next → PiecesGoOn p tr (stop tr) j before pieces
+  reads_on : (j : Knot) (before : Piece) (pieces : List Piece) → start tr ≤ʳ before.next.time → IsRobust p tr before.next
+      → PiecesGoOn p tr (stop tr) j before pieces
       → (t : Rational) (r : Extended) → ReadsFrom before.next pieces t r → IsValue t r
   reads_on j before [] above is goes t r at = at_knot before.next t r above (le_of_same goes) is at.0 at.1
   reads_on j before (after ∷ pieces) above is goes t r (inl at) = at_knot before.next t r above (before_stop j before (after ∷ pieces) goes) is at.0 at.1
@@ -78,8 +82,10 @@ module _ (p : Subformula) (tr : Trace) where
   reads_on j before (after ∷ pieces) above is goes t r (inr (inr at)) =
       reads_on before.next after pieces (le_trans above (le_of_lt goes.1.0)) goes.2 goes.3 t r at
 
+  -- knots of a robustness read its value at each time
   pub reads : (first : Knot) (pieces : List Piece) → first.time ≈ start tr → IsRobust p tr first
-      → ((pieces ≡ []) × (start tr ≈ stop tr)) ⊎ TellsAfter p tr (stop tr) first pieces → (t : Rational) (r : Extended) → ReadsFrom first pieces t r → IsValue t r
+      → ((pieces ≡ []) × (start tr ≈ stop tr)) ⊎ TellsAfter p tr (stop tr) first pieces → (t : Rational) (r : Extended)
+      → ReadsFrom first pieces t r → IsValue t r
   reads first [] e is (inl (none, same)) t r at = at_knot first t r (ge_of_same e) (le_of_same (same_trans e same)) is at.0 at.1
   reads first [] e is (inr tells) t r at = absurd tells
   reads first (q ∷ pieces) e is (inl (none, same)) t r at = absurd (let k = none in cc)
@@ -104,9 +110,11 @@ module _ (p : Subformula) (tr : Trace) where
         )
 
     sign : (t : Rational) (r : Extended) → Reads knots t r → (finite (whole (pos 0)) <ᵉ r → Truth p tr t) × (r <ᵉ finite (whole (pos 0)) → ¬ Truth p tr t)
-    sign t r at = told_by (whole (pos 0)) tr (le_refl (whole (pos 0))) (record { header = refl; start_same = refl; stop_same = refl }) (close_to_itself tr p) t r at
+    sign t r at = told_by (whole (pos 0)) tr (le_refl (whole (pos 0)))
+        (record { header = refl; start_same = refl; stop_same = refl }) (close_to_itself tr p) t r at
 
-    margin : (t : Rational) (r : Extended) → Reads knots t r → (e : Rational) (tr' : Trace) → whole (pos 0) ≤ʳ e → IsBelowSize e r → IsLike tr' tr → AreClose e tr tr' p
+    margin : (t : Rational) (r : Extended) → Reads knots t r → (e : Rational) (tr' : Trace) → whole (pos 0) ≤ʳ e → IsBelowSize e r
+        → IsLike tr' tr → AreClose e tr tr' p
         → (Truth p tr' t → Truth p tr t) × (Truth p tr t → Truth p tr' t)
     margin t r at e tr' positive (inl h) like close =
         let here = (sign t r at).0 (lt_of_le_of_ltᵉ (finite (whole (pos 0))) (finite e) r positive h) in
@@ -118,6 +126,7 @@ module _ (p : Subformula) (tr : Trace) where
         let there = (told_by e tr' positive like close t r at).1 h in
         (λ k. absurd (there k), λ k. absurd (here k))
 
+    -- knots of margins tell the truth by their signs and sizes
     pub true_knots : AreTrueKnots p tr knots
     true_knots = record { value = value_read; sign = sign; margin = margin }
 
@@ -133,12 +142,15 @@ of_knots c f bytes text tr trace sure knots described has = record {
   truth = true_knots (root (nodes_for f tr)) tr knots described sure;
 }
 
+-- what `robust` wrote does
 pub measured_truth : (f : Formula) (bytes text : List ℕ) (status : ℕ) → IsAnsweredWhole robust f bytes status text → IsMeasured robust f bytes text
 measured_truth f bytes text status a = let (knots, described, lines) = a.written in of_knots robust f bytes text a.tr a.trace a.sure knots described lines
 
+-- and what `table` wrote
 pub tabulated_truth : (f : Formula) (bytes text : List ℕ) (status : ℕ) → IsAnsweredWhole table f bytes status text → IsMeasured table f bytes text
 tabulated_truth f bytes text status a = let (knots, described, lines) = a.written in of_knots table f bytes text a.tr a.trace a.sure knots described lines
 
+-- and what `json` wrote
 pub reported_truth : (f : Formula) (bytes text : List ℕ) (status : ℕ) → IsAnsweredWhole json f bytes status text → IsMeasured json f bytes text
 reported_truth f bytes text status a =
     let (verdicts, knots, items, holds, report, _, described, _, _, members, is) = a.written in

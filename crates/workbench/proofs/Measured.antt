@@ -58,11 +58,13 @@ module _ (c : Case) (f : Formula) (case : IsCase f c) where
       ) in
       subst (Over Form text) case.formula own
 
+  -- the lines of the root's margins are the answer of `robust`
   pub measured : (x : List (Knot Margin)) (text : List ℕ) → IsRootOf margin_shape margins c x
       → AreMarginLines c.formula.scale (knots_of margin_shape x) text → IsAnswerOf robust f c.trace true text
   unfolding Over
   measured x text told lines = let o = over AreMarginLines x text told lines in record { verdict = refl; written = o.0; few = λ n h. h; sure = o.1 }
 
+  -- their records are that of `table`
   pub tabulated : (x : List (Knot Margin)) (text : List ℕ) → IsRootOf margin_shape margins c x
       → IsTableText c.formula.scale (knots_of margin_shape x) text → IsAnswerOf table f c.trace true text
   unfolding Over
@@ -73,6 +75,7 @@ module _ (c : Case) (f : Formula) (case : IsCase f c) where
   needed i (Cross p q a b den) is = inl (margin_function p, margin_function q, value a, value b, is)
   needed i (Value p at den) is = inr (margin_function p, value at, is)
 
+  -- where an evaluation was refused there is a reason for no answer
   pub unmeasured : (e : EvalFault Margin) → IsFaultIn margin_shape margins c e → IsUnanswered robust f c.trace (stop_of_fault e)
   unmeasured E.Memory is = tt
   unmeasured (E.Wide cause) is = (

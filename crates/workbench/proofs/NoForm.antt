@@ -10,7 +10,8 @@ use Rattle.workbench.specs.Settled.{IsSettled, none, bad, faulty, answered, wide
 use Rattle.workbench.specs.Running.{IsEnd, settled, unread, unwritten, no_memory, HasEnded, asked, unknown}
 use Rattle.workbench.proofs.Due.{small_answer}
 
-by_settled : {words : List (List ℕ)} {bytes : List ℕ} (i : Drained) (r : Request) {status : ℕ} {line text : List ℕ} → Asks words r → IsSettled bytes i.ended r status line text
+by_settled : {words : List (List ℕ)} {bytes : List ℕ} (i : Drained) (r : Request) {status : ℕ} {line text : List ℕ} → Asks words r
+    → IsSettled bytes i.ended r status line text
     → status ≡ 2 → AreNone words
 by_settled i r a none s = a
 by_settled i r a bad s = absurd (omega (arith, s))
@@ -19,7 +20,8 @@ by_settled {bytes = bytes} i r {status} {line} {text} a (answered is) s = absurd
 by_settled i r a (wide n den is) s = absurd (omega (arith, s))
 by_settled i r a (overfull n is) s = absurd (omega (arith, s))
 
-by_end : {words : List (List ℕ)} {bytes : List ℕ} (i : Drained) (o : Filled) (r : Request) {status : ℕ} {line text : List ℕ} → Asks words r → IsEnd r i o bytes text status line
+by_end : {words : List (List ℕ)} {bytes : List ℕ} (i : Drained) (o : Filled) (r : Request) {status : ℕ} {line text : List ℕ}
+    → Asks words r → IsEnd r i o bytes text status line
     → status ≡ 2 → AreNone words
 by_end i o r a (settled is) s = by_settled i r a is s
 by_end i o r a (unread has ended failed sound owed) s = absurd (omega (arith, s))
@@ -27,7 +29,8 @@ by_end i o r a (unwritten rest some failed begun timely) s = absurd (omega (arit
 by_end i o r a (no_memory known begun timely) s = absurd (omega (arith, s))
 
 -- 2 comes only where the words are of no form
-pub two_is_none : {words : List (List ℕ)} {bytes : List ℕ} (i : Drained) (o : Filled) {text : List ℕ} {status : ℕ} {line : List ℕ} → HasEnded words i o bytes text status line
+pub two_is_none : {words : List (List ℕ)} {bytes : List ℕ} (i : Drained) (o : Filled) {text : List ℕ} {status : ℕ} {line : List ℕ}
+    → HasEnded words i o bytes text status line
     → status ≡ 2 → AreNone words
 two_is_none i o (asked r a nothing at end) s = by_end i o r a end s
 two_is_none i o (unknown some nothing) s = absurd (omega (arith, s))
@@ -47,7 +50,8 @@ none_end i o text (unwritten rest some failed begun timely) = absurd (some_more 
 none_end i o text (no_memory known begun timely) = absurd (known refl)
 
 -- and there it comes
-pub none_is_two : {words : List (List ℕ)} {bytes : List ℕ} (i : Drained) (o : Filled) {text : List ℕ} {status : ℕ} {line : List ℕ} → AreNone words → HasEnded words i o bytes text status line
+pub none_is_two : {words : List (List ℕ)} {bytes : List ℕ} (i : Drained) (o : Filled) {text : List ℕ} {status : ℕ} {line : List ℕ}
+    → AreNone words → HasEnded words i o bytes text status line
     → status ≡ 2
 none_is_two i o {text} h (asked no_form a nothing at end) = none_end i o text end
 none_is_two i o h (asked (refused line) a nothing at end) = absurd (h (judge a.command a.text) a.form)

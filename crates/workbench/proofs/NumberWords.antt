@@ -1,5 +1,6 @@
 -- Words of digits, read digit by digit, and the words of a workload.
-use Rattle.std.proofs.Common.{◌≡◌, ◌⊎◌, inl, inr, ℕ, zero, suc, ◌+◌, ◌-◌, ◌*◌, ◌<◌, ◌≤◌, Bool, true, false, List, [], ◌∷◌, ◌++◌, length, take, drop, get_or, refl, sym, ap, ◌∙◌, subst, arith}
+use Rattle.std.proofs.Common.{◌≡◌, ◌⊎◌, inl, inr, ℕ, zero, suc, ◌+◌, ◌-◌, ◌*◌, ◌<◌, ◌≤◌, Bool, true, false, List}
+use Rattle.std.proofs.Common.{[], ◌∷◌, ◌++◌, length, take, drop, get_or, refl, sym, ap, ◌∙◌, subst, arith}
 use Rattle.std.specs.Prelude.{codes}
 use Rattle.std.proofs.lemmas.Bool.{and_parts, false≢true}
 use Rattle.std.proofs.lemmas.List.{take-append-drop, take_more, take_all}
@@ -16,14 +17,18 @@ grows v (d ∷ ds) = let h = grows (10 * v + (d - 48)) ds in omega (arith, h)
 
 -- the digits up to place i
 pub record IsReadTo (word : List ℕ) (i v : ℕ) : Type 0 where
+  -- the first i bytes are digits
   pub digits : all is_digit (take i word) ≡ true
+  -- and have that value
   pub value : decimal_value 0 (take i word) ≡ v
 
+-- before the first byte the value is 0
 pub read_none : (word : List ℕ) → IsReadTo word 0 0
 read_none word = record { digits = refl; value = refl }
 
 -- one more
-pub read_more : (word : List ℕ) (i v c : ℕ) → i < length word → get_or word i 0 ≡ c → is_digit c ≡ true → IsReadTo word i v → IsReadTo word (i + 1) (v * 10 + (c - 48))
+pub read_more : (word : List ℕ) (i v c : ℕ) → i < length word → get_or word i 0 ≡ c → is_digit c ≡ true → IsReadTo word i v
+    → IsReadTo word (i + 1) (v * 10 + (c - 48))
 read_more word i v c h e d r =
     let t : take (i + 1) word ≡ take i word ++ c ∷ [] = take_more word i 0 h ∙ ap (λ x. take i word ++ x ∷ []) e in
     record {
@@ -41,7 +46,8 @@ read_all word most v some small r =
 pub too_large : (word : List ℕ) (most i v n : ℕ) → most < v → IsReadTo word i v → ¬ IsNumberWord most word n
 too_large word most i v n over r is =
     let parts : decimal_value 0 word ≡ decimal_value v (drop i word) =
-    ap (decimal_value 0) (sym (take-append-drop i word)) ∙ decimal_value-append 0 (take i word) (drop i word) ∙ ap (λ m. decimal_value m (drop i word)) r.value in
+    ap (decimal_value 0) (sym (take-append-drop i word)) ∙ decimal_value-append 0 (take i word) (drop i word)
+    ∙ ap (λ m. decimal_value m (drop i word)) r.value in
     let more = grows v (drop i word) in
     let value = is.value in
     let small = is.small in
@@ -57,7 +63,8 @@ no_digit word most i n h bad is = by_place word i h is.digits bad
     by_place (c ∷ w) (suc j) l a b = by_place w j (omega (arith, l)) (and_parts (is_digit c) (all is_digit w) a).1 b
 
 -- words of a workload, by its numbers
-pub workload_words : {words : List (List ℕ)} (first second : List ℕ) (number rows : ℕ) → words ≡ codes "gen" ∷ first ∷ second ∷ [] → IsNumberWord 18446744073709551615 first number
+pub workload_words : {words : List (List ℕ)} (first second : List ℕ) (number rows : ℕ) → words ≡ codes "gen" ∷ first ∷ second ∷ []
+    → IsNumberWord 18446744073709551615 first number
     → IsNumberWord 200000 second rows → 1 ≤ rows → IsForm words (generate number rows)
 workload_words {words} [] second number rows e a b some = let s = a.some in absurd (omega (arith, s))
 workload_words {words} (c ∷ cs) [] number rows e a b some = let s = b.some in absurd (omega (arith, s))
@@ -70,13 +77,20 @@ workload_words {words} (c ∷ cs) (d ∷ ds) number rows e a b some =
 
 -- and what the words of one are
 pub record AreOfWorkload (words : List (List ℕ)) (number rows : ℕ) : Type 0 where
+  -- the word of the number
   pub first : List ℕ
+  -- the word of the rows
   pub second : List ℕ
+  -- the three words
   pub are : words ≡ codes "gen" ∷ first ∷ second ∷ []
+  -- the first is the number
   pub number_is : IsNumberWord 18446744073709551615 first number
+  -- the second is that of the rows
   pub rows_are : IsNumberWord 200000 second rows
+  -- at least one row is asked for
   pub some : 1 ≤ rows
 
+-- words that ask for a generated trace are `gen` and two numbers
 pub words_of_workload : {words : List (List ℕ)} {number rows : ℕ} → IsForm words (generate number rows) → AreOfWorkload words number rows
 words_of_workload (gen c d cs ds h small k some few) = record {
   first = c ∷ cs;
@@ -92,7 +106,8 @@ pub two_words : {words : List (List ℕ)} (x y : List ℕ) {number rows : ℕ} �
 two_words x y e form = let w = words_of_workload form in let k = ap length (sym e ∙ w.are) in omega (arith, k)
 
 -- and they are of one
-pub one_workload : {words : List (List ℕ)} {number rows other more : ℕ} → IsForm words (generate number rows) → IsForm words (generate other more) → (number ≡ other) × (rows ≡ more)
+pub one_workload : {words : List (List ℕ)} {number rows other more : ℕ} → IsForm words (generate number rows)
+    → IsForm words (generate other more) → (number ≡ other) × (rows ≡ more)
 one_workload {words} {number} {rows} {other} {more} a b =
     let v = words_of_workload a in
     let w = words_of_workload b in

@@ -10,7 +10,8 @@ use Rattle.report.specs.Report.{check, robust, explain, json, table}
 use Rattle.workbench.proofs.NumberWords.{two_words, one_workload}
 use Rattle.workbench.specs.Commands.{Judge, Form, judge, generate, IsForm, of_formula, gen, judge_word}
 use Rattle.workbench.specs.Commands as word
-use Rattle.workbench.specs.Requests.{Request, no_form, refused, whole, stream, sessions, generated, verdicts, early, margins, Asks, AreNone, AreFor, AreRefused, IsAsked, IsRefusal, IsUnserved}
+use Rattle.workbench.specs.Requests.{Request, no_form, refused, whole, stream, sessions, generated, verdicts, early}
+use Rattle.workbench.specs.Requests.{margins, Asks, AreNone, AreFor, AreRefused, IsAsked, IsRefusal, IsUnserved}
 use Rattle.workbench.specs.ErrTexts.{formula_fault_text, not_streamed_text}
 
 -- ---- forms
@@ -43,7 +44,8 @@ judged_form : {words : List (List ℕ)} {j : Judge} {text : List ℕ} → IsForm
 judged_form (of_formula j) = refl
 
 -- words of a command's form are of no other
-pub one_judged : {words : List (List ℕ)} (j k : Judge) (text other : List ℕ) → IsForm words (judge j text) → IsForm words (judge k other) → (j ≡ k) × (text ≡ other)
+pub one_judged : {words : List (List ℕ)} (j k : Judge) (text other : List ℕ) → IsForm words (judge j text)
+    → IsForm words (judge k other) → (j ≡ k) × (text ≡ other)
 one_judged j k text other a b =
     let e : judge_word j ∷ text ∷ [] ≡ judge_word k ∷ other ∷ [] = sym (judged_form a) ∙ judged_form b in
     (one_word j k (let h : judge_word j ≡ judge_word k = cc in h), (let h : text ≡ other = cc in h))
@@ -109,7 +111,8 @@ not_both : (j : Judge) (text line : List ℕ) (f : Formula) → IsRefusal j text
 not_both j text line f (inl (r, fault, e)) is served = is.sound r fault
 not_both j text line f (inr (g, i, is, un, e)) is' served = served i (subst (λ (h : Formula). IsUnserved j h i) (one_formula text g f is.read is'.read) un)
 
-refusal_of : {words : List (List ℕ)} {line : List ℕ} (a : AreRefused words line) (j : Judge) (text : List ℕ) → IsAsked words (judge j text) → IsRefusal j text line
+refusal_of : {words : List (List ℕ)} {line : List ℕ} (a : AreRefused words line) (j : Judge) (text : List ℕ)
+    → IsAsked words (judge j text) → IsRefusal j text line
 refusal_of {words} {line} a j text form =
     let e = one_judged a.command j a.text text a.form.is form.is in
     subst (λ t. IsRefusal j t line) e.1 (subst (λ k. IsRefusal k a.text line) e.0 a.is)

@@ -34,20 +34,26 @@ owed_of_all s f seen later bytes false ended text all parts at o owed =
     stream_owed_grows s f seen later ended text all o (subst (λ bs. OwesRows s f bs ended all) parts owed)
 owed_of_all s f seen later bytes true ended text all parts at o owed =
     let done = at refl in
-    let same : bytes ≡ seen = parts ∙ ap (λ l. seen ++ l) done.1 ∙ append-nil seen in
-    ([], stream_owed_once s f seen true all text (subst (λ (e : Bool). OwesRows s f seen e all) done.0 (subst (λ bs. OwesRows s f bs ended all) same owed)) o ∙ sym (append-nil text))
+    let same : bytes ≡ seen = parts ∙ ap (λ l. seen ++ l) done.1 ∙ append-nil seen in (
+      [],
+      stream_owed_once s f seen true all text
+          (subst (λ (e : Bool). OwesRows s f seen e all) done.0 (subst (λ bs. OwesRows s f bs ended all) same owed)) o ∙ sym (append-nil text),
+    )
 
 -- so is what is due for them
 due_of_all : (s : Stream) (f : Formula) (seen later bytes : List ℕ) (seen_end ended : Bool) (text all : List ℕ) → bytes ≡ seen ++ later
     → (seen_end ≡ true → (ended ≡ true) × (later ≡ [])) → IsDue (stream s f) seen seen_end text → OwesRows s f bytes ended all → IsLonger text all
-due_of_all verdicts f seen later bytes seen_end ended text all parts at due owed = owed_of_all verdicts f seen later bytes seen_end ended text all parts at due owed
+due_of_all verdicts f seen later bytes seen_end ended text all parts at due owed =
+    owed_of_all verdicts f seen later bytes seen_end ended text all parts at due owed
 due_of_all early f seen later bytes seen_end ended text all parts at due owed = owed_of_all early f seen later bytes seen_end ended text all parts at due owed
-due_of_all margins f seen later bytes seen_end ended text all parts at (inl due) owed = owed_of_all margins f seen later bytes seen_end ended text all parts at due owed
+due_of_all margins f seen later bytes seen_end ended text all parts at (inl due) owed =
+    owed_of_all margins f seen later bytes seen_end ended text all parts at due owed
 due_of_all margins f seen later bytes seen_end ended text all parts at (inr (i, den, w)) owed =
     wide_text_of_all f seen seen_end i den text later bytes ended all parts at w owed
 
 -- what was written and a rest were due for the bytes that were answered: then it is the front of what is owed for all that were read
-pub begun_of_all : (s : Stream) (f : Formula) (bytes : List ℕ) (ended : Bool) (text rest all : List ℕ) → IsBegun (stream s f) bytes ended text rest → OwesRows s f bytes ended all → IsLonger text all
+pub begun_of_all : (s : Stream) (f : Formula) (bytes : List ℕ) (ended : Bool) (text rest all : List ℕ)
+    → IsBegun (stream s f) bytes ended text rest → OwesRows s f bytes ended all → IsLonger text all
 begun_of_all s f bytes ended text rest all b owed =
     let (more, e) = due_of_all s f b.seen b.later bytes b.seen_end ended (text ++ rest) all b.parts b.at_end b.owed owed in
     (rest ++ more, e ∙ append_assoc text rest more)
@@ -55,7 +61,8 @@ begun_of_all s f bytes ended text rest all b owed =
 -- ---- several sessions
 
 -- so it is of what several sessions had written
-pub begun_of_lines : (f : Formula) (bytes : List ℕ) (ended : Bool) (text rest all : List ℕ) → IsBegun (sessions f) bytes ended text rest → OwesLines f bytes ended all → IsLonger text all
+pub begun_of_lines : (f : Formula) (bytes : List ℕ) (ended : Bool) (text rest all : List ℕ)
+    → IsBegun (sessions f) bytes ended text rest → OwesLines f bytes ended all → IsLonger text all
 begun_of_lines f bytes ended text rest all b owed = by_end b.seen_end b.at_end b.owed
   where
     by_end : (e : Bool) → (e ≡ true → (ended ≡ true) × (b.later ≡ [])) → OwesLines f b.seen e (text ++ rest) → IsLonger text all
@@ -64,8 +71,11 @@ begun_of_lines f bytes ended text rest all b owed = by_end b.seen_end b.at_end b
         (rest ++ more, e ∙ append_assoc text rest more)
     by_end true at o =
         let done = at refl in
-        let same : bytes ≡ b.seen = b.parts ∙ ap (λ l. b.seen ++ l) done.1 ∙ append-nil b.seen in
-        (rest, lines_owed_once f b.seen true all (text ++ rest) (subst (λ (e : Bool). OwesLines f b.seen e all) done.0 (subst (λ bs. OwesLines f bs ended all) same owed)) o)
+        let same : bytes ≡ b.seen = b.parts ∙ ap (λ l. b.seen ++ l) done.1 ∙ append-nil b.seen in (
+          rest,
+          lines_owed_once f b.seen true all (text ++ rest)
+              (subst (λ (e : Bool). OwesLines f b.seen e all) done.0 (subst (λ bs. OwesLines f bs ended all) same owed)) o,
+        )
 
 -- ---- commands that hold the whole trace
 
@@ -83,13 +93,15 @@ robust_once f tr x y (ks, a, lines) (ls, b, others) =
     let e = DescribesMargins-unique (root (nodes_for f tr)) tr ks ls a b in margins_once tr.header.scale ks ls x y e.0 e.1 lines others
 
 -- knots that are alike have one record
-records_once : (scale : Scale) (k l : Knot) (ps qs : List Piece) (xs ys : List (List (List ℕ))) → KnotsAlike k l → PiecesAlike ps qs → AreRecords scale k ps xs → AreRecords scale l qs ys → xs ≡ ys
+records_once : (scale : Scale) (k l : Knot) (ps qs : List Piece) (xs ys : List (List (List ℕ))) → KnotsAlike k l
+    → PiecesAlike ps qs → AreRecords scale k ps xs → AreRecords scale l qs ys → xs ≡ ys
 records_once scale k l [] [] xs ys e h (t, v, t_is, v_is, is) (t', v', t_is', v_is', is') =
     is ∙ ap (λ a. (a ∷ v ∷ [] ∷ [] ∷ []) ∷ []) (number_once scale.time e.time t_is t_is')
     ∙ ap (λ a. (t' ∷ a ∷ [] ∷ [] ∷ []) ∷ []) (value_once scale.value k.value l.value e.value v_is v_is') ∙ sym is'
 records_once scale k l [] (b ∷ qs) xs ys e h a c = absurd h
 records_once scale k l (a ∷ ps) [] xs ys e h b c = absurd h
-records_once scale k l (a ∷ ps) (b ∷ qs) xs ys e (from, to, next, more) (t, v, x, y, later, t_is, v_is, x_is, y_is, rest, is) (t', v', x', y', later', t_is', v_is', x_is', y_is', rest', is') =
+records_once scale k l (a ∷ ps) (b ∷ qs) xs ys e (from, to, next, more) (t, v, x, y, later, t_is, v_is, x_is, y_is, rest, is)
+    (t', v', x', y', later', t_is', v_is', x_is', y_is', rest', is') =
     is ∙ ap (λ z. (z ∷ v ∷ x ∷ y ∷ []) ∷ later) (number_once scale.time e.time t_is t_is')
     ∙ ap (λ z. (t' ∷ z ∷ x ∷ y ∷ []) ∷ later) (value_once scale.value k.value l.value e.value v_is v_is')
     ∙ ap (λ z. (t' ∷ v' ∷ z ∷ y ∷ []) ∷ later) (value_once scale.value a.from b.from from x_is x_is')
@@ -99,7 +111,8 @@ records_once scale k l (a ∷ ps) (b ∷ qs) xs ys e (from, to, next, more) (t, 
 table_once : (f : Formula) (tr : Trace) (x y : List ℕ) → Out table f tr x → Out table f tr y → x ≡ y
 table_once f tr x y (ks, a, (records, are, is)) (ls, b, (others, are', is')) =
     let e = DescribesMargins-unique (root (nodes_for f tr)) tr ks ls a b in
-    is ∙ ap (λ rs. flat_map (row_text default_writer) (heading ∷ rs)) (records_once tr.header.scale ks.first ls.first ks.pieces ls.pieces records others e.0 e.1 are are') ∙ sym is'
+    is ∙ ap (λ rs. flat_map (row_text default_writer) (heading ∷ rs))
+    (records_once tr.header.scale ks.first ls.first ks.pieces ls.pieces records others e.0 e.1 are are') ∙ sym is'
 
 module _ (c : Command) (f : Formula) (one : (tr : Trace) (x y : List ℕ) → Out c f tr x → Out c f tr y → x ≡ y) where
   whole_owed_once : (bytes : List ℕ) (ended : Bool) (x y : List ℕ) → OwesAtEnd c f bytes ended x → OwesAtEnd c f bytes ended y → x ≡ y
@@ -121,14 +134,20 @@ module _ (c : Command) (f : Formula) (one : (tr : Trace) (x y : List ℕ) → Ou
 pub check_owed_once : (f : Formula) (bytes : List ℕ) (ended : Bool) (x y : List ℕ) → OwesAtEnd check f bytes ended x → OwesAtEnd check f bytes ended y → x ≡ y
 check_owed_once f bytes ended x y a b = whole_owed_once check f (check_once f) bytes ended x y a b
 
-pub robust_owed_once : (f : Formula) (bytes : List ℕ) (ended : Bool) (x y : List ℕ) → OwesAtEnd robust f bytes ended x → OwesAtEnd robust f bytes ended y → x ≡ y
+-- `robust` is owed one text
+pub robust_owed_once : (f : Formula) (bytes : List ℕ) (ended : Bool) (x y : List ℕ) → OwesAtEnd robust f bytes ended x
+    → OwesAtEnd robust f bytes ended y → x ≡ y
 robust_owed_once f bytes ended x y a b = whole_owed_once robust f (robust_once f) bytes ended x y a b
 
+-- so is `table`
 pub table_owed_once : (f : Formula) (bytes : List ℕ) (ended : Bool) (x y : List ℕ) → OwesAtEnd table f bytes ended x → OwesAtEnd table f bytes ended y → x ≡ y
 table_owed_once f bytes ended x y a b = whole_owed_once table f (table_once f) bytes ended x y a b
 
-pub explain_owed_once : (f : Formula) (bytes : List ℕ) (ended : Bool) (x y : List ℕ) → OwesAtEnd explain f bytes ended x → OwesAtEnd explain f bytes ended y → x ≡ y
+-- and `explain`
+pub explain_owed_once : (f : Formula) (bytes : List ℕ) (ended : Bool) (x y : List ℕ) → OwesAtEnd explain f bytes ended x
+    → OwesAtEnd explain f bytes ended y → x ≡ y
 explain_owed_once f bytes ended x y a b = whole_owed_once explain f (explain_once f) bytes ended x y a b
 
+-- and `json`
 pub json_owed_once : (f : Formula) (bytes : List ℕ) (ended : Bool) (x y : List ℕ) → OwesAtEnd json f bytes ended x → OwesAtEnd json f bytes ended y → x ≡ y
 json_owed_once f bytes ended x y a b = whole_owed_once json f (json_once f) bytes ended x y a b

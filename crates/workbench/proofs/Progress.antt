@@ -1,5 +1,6 @@
 -- How far the reading of a source has come.
-use Rattle.std.proofs.Common.{◌≡◌, ℕ, ◌+◌, ◌<◌, ◌≤◌, Bool, true, false, List, [], ◌++◌, length, take, length-take, refl, sym, ap, ◌∙◌, subst, arith, append-nil, length-append, Some, None, Ok, Err, Result}
+use Rattle.std.proofs.Common.{◌≡◌, ℕ, ◌+◌, ◌<◌, ◌≤◌, Bool, true, false, List, [], ◌++◌, length, take, length-take, refl}
+use Rattle.std.proofs.Common.{sym, ap, ◌∙◌, subst, arith, append-nil, length-append, Some, None, Ok, Err, Result}
 use Rattle.std.specs.Prelude.{Option, MatchOption, MatchResult}
 use Rattle.std.specs.Io.KnownBytes.{Consumes, Keeps, IsAtEnd}
 use Rattle.std.proofs.KnownBytes.{Consumes-trans, Consumes-kept}
@@ -22,22 +23,30 @@ use Rattle.trace_stream.proofs.Sizes.{few_bytes}
 
 -- some bytes were read and kept, in so many reads
 pub record Progress (limits : Limits) (f : Formula) (before now : Option (List ℕ)) (reader : Reader) (case : Option Case) (reads : ℕ) : Type 0 where
+  -- the bytes that were read
   pub bytes : List ℕ
+  -- they were taken from the front of the source
   pub moved : Consumes before now bytes
+  -- the reader holds the trace of these bytes
   pub is : IsKept f reader case bytes
+  -- its limits are those of the command
   pub same_limits : reader.limits ≡ limits
+  -- each read gave a byte at least
   pub enough : reads ≤ length bytes
 
-module _ {limits : Limits} {f : Formula} {before now : Option (List ℕ)} {reader : Reader} {case : Option Case} {reads : ℕ} (p : Progress limits f before now reader case reads) where
+module _ {limits : Limits} {f : Formula} {before now : Option (List ℕ)} {reader : Reader} {case : Option Case} {reads : ℕ}
+    (p : Progress limits f before now reader case reads) where
   -- lines are short and not many, so the reads are few
   pub few_reads : limits.lines ≤ 8589934592 → 18446744073709551615 ≤ reads → ⊥
   few_reads n r =
       let few : reader.limits.lines ≤ 8589934592 = rw (p.same_limits) n in
       omega (arith, r, p.enough, few_bytes reader.limits reader.least reader.heading p.bytes p.is.rows p.is.stands.read p.is.stands.sound)
 
+  -- the reader has what it keeps of some bytes
   pub has_kept : HasKept f reader case
   has_kept = record { bytes = p.bytes; is = p.is }
 
+  -- a source that failed was read in part
   pub read_in_part : (after : Option (List ℕ)) (ended : Bool) → Keeps now after → ended ≡ false → IsReadInPart limits f before after ended
   read_in_part after ended k e = record {
     bytes = p.bytes;
@@ -46,13 +55,17 @@ module _ {limits : Limits} {f : Formula} {before now : Option (List ℕ)} {reade
     sound = subst (λ (x : Limits). IsSound x f p.bytes false) p.same_limits (sound_so_far f reader case p.bytes p.is);
   }
 
-  pub read_all : (after : Option (List ℕ)) (ended : Bool) (empty : List ℕ) → empty ≡ [] → Consumes now after empty → IsAtEnd after → IsRead before after ended p.bytes
+  -- a source that says its end was read to it
+  pub read_all : (after : Option (List ℕ)) (ended : Bool) (empty : List ℕ) → empty ≡ [] → Consumes now after empty → IsAtEnd after
+      → IsRead before after ended p.bytes
   read_all after ended empty e c a = record {
     moved = subst (Consumes before after) (ap (λ l. p.bytes ++ l) e ∙ append-nil p.bytes) (Consumes-trans before now after p.bytes empty p.moved c);
     all = λ _. a;
   }
 
-  pub read_more : (after : Option (List ℕ)) (ended : Bool) (piece : List ℕ) → Consumes now after piece → ended ≡ false → IsRead before after ended (p.bytes ++ piece)
+  -- a piece more was taken from the front
+  pub read_more : (after : Option (List ℕ)) (ended : Bool) (piece : List ℕ) → Consumes now after piece → ended ≡ false
+      → IsRead before after ended (p.bytes ++ piece)
   read_more after ended piece c e = record {
     moved = Consumes-trans before now after p.bytes piece p.moved c;
     all = λ t. absurd (false≢true (sym e ∙ t));
@@ -69,6 +82,7 @@ module _ {limits : Limits} {f : Formula} {before now : Option (List ℕ)} {reade
     sound = subst (λ (x : Limits). IsSound x f p.bytes false) p.same_limits (sound_so_far f reader case p.bytes p.is);
   }
 
+  -- nothing of the bytes so far ended the run before
   pub prompt_end : (ended : Bool) → IsReadPromptly limits f p.bytes ended
   prompt_end ended = record {
     before = p.bytes;
@@ -79,6 +93,7 @@ module _ {limits : Limits} {f : Formula} {before now : Option (List ℕ)} {reade
     sound = subst (λ (x : Limits). IsSound x f p.bytes false) p.same_limits (sound_so_far f reader case p.bytes p.is);
   }
 
+  -- with a piece more the reading goes on
   pub go_on : (after : Option (List ℕ)) (piece : List ℕ) (later : Reader) (kept : Option Case) → Consumes now after piece → 0 < length piece
       → IsKept f later kept (p.bytes ++ piece) → later.limits ≡ reader.limits → Progress limits f before after later kept (reads + 1)
   go_on after piece later kept c n k l = record {
@@ -90,7 +105,8 @@ module _ {limits : Limits} {f : Formula} {before now : Option (List ℕ)} {reade
   }
 
 -- why the reading stopped
-pub stop_from : (l limits : Limits) (f : Formula) (before after : Option (List ℕ)) (ended known : Bool) (bytes : List ℕ) (e : StreamStop) → l ≡ limits → ended ≡ known
+pub stop_from : (l limits : Limits) (f : Formula) (before after : Option (List ℕ)) (ended known : Bool) (bytes : List ℕ)
+    (e : StreamStop) → l ≡ limits → ended ≡ known
     → IsRefused l f known bytes e → IsRead before after ended bytes → IsReadPromptly limits f bytes ended → IsStop limits f before after ended (stop_of e)
 stop_from l limits f before after ended known bytes (Faulty fault) s k (x, is, first) read prompt = (
   x,
@@ -105,7 +121,9 @@ stop_from l limits f before after ended known bytes (Faulty fault) s k (x, is, f
 stop_from l limits f before after ended known bytes NoMemory s k r read prompt = (bytes, read.moved)
 stop_from l limits f before after ended known bytes (Wide i den) s k r read prompt = absurd r
 
-pub end_from : (l limits : Limits) (f : Formula) (before after : Option (List ℕ)) (ended : Bool) (bytes : List ℕ) (r : Result (Unit {0}) StreamStop) (case : Option Case)
+-- the end of the bytes, told to the reader, is the end of the reading
+pub end_from : (l limits : Limits) (f : Formula) (before after : Option (List ℕ)) (ended : Bool) (bytes : List ℕ)
+    (r : Result (Unit {0}) StreamStop) (case : Option Case)
     → l ≡ limits → ended ≡ true → IsRead before after ended bytes → IsReadPromptly limits f bytes ended
     → MatchResult r (λ _. MatchOption case ⊥ (IsEnded l f bytes)) (IsRefused l f true bytes)
     → MatchResult (outcome_of r) (λ _. MatchOption case ⊥ (IsReadWhole limits f before after ended)) (IsStop limits f before after ended)
@@ -125,10 +143,12 @@ not_unread (Faulty fault) same = let k = same in cc
 not_unread NoMemory same = let k = same in cc
 not_unread (Wide i den) same = let k = same in cc
 
+-- the end of the bytes is no failed read
 pub end_not_unread : (r : Result (Unit {0}) StreamStop) → outcome_of r ≡ Err Unread → ⊥
 end_not_unread (Ok x) same = let k = same in cc
 end_not_unread (Err e) same = not_unread e (let k = same in cc)
 
+-- a read of no bytes takes none
 pub none_taken : (n : ℕ) (buf : List ℕ) → n ≡ 0 → take n buf ≡ []
 none_taken n buf e = subst (λ m. take m buf ≡ []) (sym e) refl
 
@@ -136,9 +156,11 @@ none_taken n buf e = subst (λ m. take m buf ≡ []) (sym e) refl
 pub short_taken : (n : ℕ) (buf : List ℕ) → length buf ≡ 4096 → length (take n buf) ≤ 4096
 short_taken n buf e = omega (arith, e, length-take n buf)
 
+-- a read of some bytes takes some
 pub some_taken : (n : ℕ) (buf : List ℕ) → (n ≡ 0 → ⊥) → n ≤ length buf → 0 < length (take n buf)
 some_taken n buf d h = omega (arith, d, length-take-le n buf h)
 
+-- a test that is not true is false
 pub not_true : (b : Bool) → (b ≡ true → ⊥) → b ≡ false
 not_true true h = absurd (h refl)
 not_true false h = refl

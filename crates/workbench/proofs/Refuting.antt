@@ -22,7 +22,8 @@ use Rattle.workbench.specs.Settled.{Refute, KeptRefute, TellsTruth, IsAnsweredWh
 use Rattle.workbench.specs.Accounts.{AreReasons, IsRefutation, IsAccount}
 
 -- what is kept of a violation refutes the formula, since the answer does
-pub kept_refute : (f : Formula) (tr : Trace) (steps : ℕ) (e : Explained) → IsPostOrder (nodes_for f tr) → 0 < length (nodes_for f tr) → IsExplained (nodes_for f tr) tr steps e → KeptRefute f tr
+pub kept_refute : (f : Formula) (tr : Trace) (steps : ℕ) (e : Explained) → IsPostOrder (nodes_for f tr)
+    → 0 < length (nodes_for f tr) → IsExplained (nodes_for f tr) tr steps e → KeptRefute f tr
 kept_refute f tr steps Holds post some is items fails kept = absurd (fails is.0)
 kept_refute f tr steps (Violated found) post some is items fails kept =
     let enough : MustNot (root (nodes_for f tr)) items tr (start tr) = one_is_enough (nodes_for f tr) tr found items is.kept kept is.enough in
@@ -42,9 +43,11 @@ module _ (f : Formula) (tr : Trace) where
   line_needed items lines before after l kept joined is m =
       let w = line_without items lines before l after joined is in
       kept_is_needed (nodes_for f tr) tr items w.before w.after w.e kept w.is
-      ((certainty_grows (root (nodes_for f tr)) (before ++ after) (w.before ++ w.after) tr (start tr) (cover_as (before ++ after) (w.before ++ w.after) w.more)).1 m)
+      ((certainty_grows (root (nodes_for f tr)) (before ++ after) (w.before ++ w.after) tr (start tr)
+      (cover_as (before ++ after) (w.before ++ w.after) w.more)).1 m)
 
-  reasons_of : (items lines : List Item) → KeptRefute f tr → ¬ HoldsAtStart f tr → Kept (nodes_for f tr) tr items → IsItemLines items lines → AreReasons f tr lines
+  reasons_of : (items lines : List Item) → KeptRefute f tr → ¬ HoldsAtStart f tr → Kept (nodes_for f tr) tr items
+      → IsItemLines items lines → AreReasons f tr lines
   reasons_of items lines sure fails kept joined = record {
     items = items;
     kept = kept;
@@ -54,7 +57,8 @@ module _ (f : Formula) (tr : Trace) where
   }
 
   -- the text of a start that is true is its line
-  true_text : (lines : List Item) (line body text : List ℕ) → lines ≡ [] → AreItemLines tr.header.scale f lines body → line ≡ start_line true → text ≡ line ++ body → text ≡ start_line true
+  true_text : (lines : List Item) (line body text : List ℕ) → lines ≡ [] → AreItemLines tr.header.scale f lines body
+      → line ≡ start_line true → text ≡ line ++ body → text ≡ start_line true
   true_text lines line body text none written first is =
       let nothing : body ≡ [] = subst (λ ls. AreItemLines tr.header.scale f ls body) none written in
       is ∙ ap (λ l. l ++ body) first ∙ ap (λ b. start_line true ++ b) nothing ∙ append-nil (start_line true)

@@ -61,7 +61,8 @@ AreItems nodes tr lines =
     (Truth (root nodes) tr (start tr) × (lines ≡ []))
     ⊎ ((¬ Truth (root nodes) tr (start tr)) × ((items : List Item) × Kept nodes tr items × IsItemLines items lines))
 
-explained_items : (nodes : List Node) (tr : Trace) (steps : ℕ) (e : Explained) (lines : List Item) → IsExplained nodes tr steps e → IsItemLines (items_of e) lines
+explained_items : (nodes : List Node) (tr : Trace) (steps : ℕ) (e : Explained) (lines : List Item) → IsExplained nodes tr steps e
+    → IsItemLines (items_of e) lines
     → AreItems nodes tr lines
 explained_items nodes tr steps Holds lines is joined = inl (is.0, joined)
 explained_items nodes tr steps (Violated items) lines is joined = inr (is.fails, (items, is.kept, joined))
@@ -125,7 +126,8 @@ unreported f tr (Wide i den) is = absurd is.0
 unreported f tr (TooMany count) is = is
 
 -- or no robustness
-pub unmarked : (f : Formula) (tr : Trace) (stop : Stop) → ((count : ℕ) → ¬ IsUnexplained f tr count) → IsUnanswered robust f tr stop → IsUnanswered json f tr stop
+pub unmarked : (f : Formula) (tr : Trace) (stop : Stop) → ((count : ℕ) → ¬ IsUnexplained f tr count)
+    → IsUnanswered robust f tr stop → IsUnanswered json f tr stop
 unmarked f tr (Faulty fault) enough is = is
 unmarked f tr (FaultyLine fault) enough is = is
 unmarked f tr Unread enough is = is

@@ -10,7 +10,8 @@ use Rattle.stl_syntax.specs.Trace.{Trace}
 use Rattle.report.specs.Report.{Command, check, robust, explain, json, table, Out}
 use Rattle.workbench.specs.Answers.{IsJudged}
 use Rattle.workbench.specs.Commands.{Judge, judge, generate, IsForm, of_formula, judge_word}
-use Rattle.workbench.specs.Requests.{no_form, refused as bad_request, whole as of_whole, IsAsked, IsAmong, built_commands, AreNone, AreOfNoFormula, generated, AreFor, word_of, usage_line, IsUnserved}
+use Rattle.workbench.specs.Requests.{no_form, refused as bad_request, whole as of_whole, IsAsked, IsAmong, built_commands}
+use Rattle.workbench.specs.Requests.{AreNone, AreOfNoFormula, generated, AreFor, word_of, usage_line, IsUnserved}
 use Rattle.workbench.specs.Owed.{OwesAtEnd, not_yet, faulty as faulty_at_end, at_end as owed_at_end}
 use Rattle.workbench.specs.Settled.{IsPrompt, none, bad, faulty, answered as settled_answer, wide as settled_wide, overfull as settled_overfull}
 use Rattle.workbench.specs.Running.{IsTimely, IsEnd, settled, unread, unwritten, no_memory, HasEnded, asked, unknown, IsRun}
@@ -21,7 +22,9 @@ use Rattle.workbench.specs.Writing.{IsPartWritten}
 use Rattle.workbench.specs.declared.request.Command.TheVariants.{Check, Robust, Explain, Json, Table}
 use Rattle.workbench.specs.declared.request.Mode.{Mode}
 use Rattle.workbench.specs.declared.request.Mode.TheVariants.{Whole, Watch, Early, Mux, Margins}
-use Rattle.workbench.specs.Wholes.{judge_of, status_of_truth, IsAnswerOf, IsUnanswered, IsWrittenWith, all_of_it, a_part, IsWholeEnd, answered, unanswered, stopped, status_of, status_of_stop, IsEndLine, IsStopLine, EndsSoundly, IsBadEnd, refused, no_room}
+use Rattle.workbench.specs.Wholes.{judge_of, status_of_truth, IsAnswerOf, IsUnanswered, IsWrittenWith, all_of_it}
+use Rattle.workbench.specs.Wholes.{a_part, IsWholeEnd, answered, unanswered, stopped, status_of, status_of_stop}
+use Rattle.workbench.specs.Wholes.{IsEndLine, IsStopLine, EndsSoundly, IsBadEnd, refused, no_room}
 use Rattle.trace_stream.specs.declared.case.Case.{Case}
 use Rattle.workbench.specs.declared.fault.Stop.{Stop}
 use Rattle.workbench.specs.declared.fault.Stop.TheVariants.{Fault as Faulty, Input as FaultyLine, Unread, Unwritten, NoMemory, Wide, TooMany}
@@ -87,16 +90,21 @@ serves table f i h = h
 timely : (c : Command) (f : Formula) (bytes text : List ℕ) → IsTimely (of_whole c f) bytes text
 timely c f bytes text = ([], text, refl, refl)
 
+-- what was to be written was written whole, or the output failed in it
 pub written_ok : {holds : Bool} {text : List ℕ} {held held_after : Option (List ℕ)} {e : Result Bool Stop} → IsWrittenWith holds text held held_after e
     → ((e ≡ Ok holds) × Appends held held_after text) ⊎ ((e ≡ Err Unwritten) × IsPartWritten held held_after text)
 written_ok (all_of_it w) = inl (refl, w)
 written_ok (a_part w) = inr (refl, w)
 
-pub not_unread : {holds : Bool} {text : List ℕ} {held held_after : Option (List ℕ)} {e : Result Bool Stop} → IsWrittenWith holds text held held_after e → e ≢ Err Unread
+-- writing does not end as a failed read
+pub not_unread : {holds : Bool} {text : List ℕ} {held held_after : Option (List ℕ)} {e : Result Bool Stop}
+    → IsWrittenWith holds text held held_after e → e ≢ Err Unread
 not_unread (all_of_it w) same = let k = same in cc
 not_unread (a_part w) same = let k = same in cc
 
-pub only_unwritten : {holds : Bool} {text : List ℕ} {held held_after : Option (List ℕ)} {e : Result Bool Stop} → IsWrittenWith holds text held held_after e → IsErr e → e ≢ Err Unwritten → ⊥
+-- nor in any failure but that of the output
+pub only_unwritten : {holds : Bool} {text : List ℕ} {held held_after : Option (List ℕ)} {e : Result Bool Stop}
+    → IsWrittenWith holds text held held_after e → IsErr e → e ≢ Err Unwritten → ⊥
 only_unwritten (all_of_it w) err other = let k = err in cc
 only_unwritten (a_part w) err other = other refl
 
@@ -106,6 +114,7 @@ kept_all before after e = subst (λ a. Appends before a []) (sym e) (Appends-nil
 kept_left : (before after : Option (List ℕ)) → after ≡ before → Consumes before after []
 kept_left before after e = subst (λ a. Consumes before a []) (sym e) (Consumes-nil before)
 
+-- a reason for no answer is no failed device
 pub not_stopped : (c : Command) (f : Formula) (tr : Trace) (stop : Stop) → IsUnanswered c f tr stop → (stop ≢ Unread) × (stop ≢ Unwritten)
 not_stopped c f tr (Faulty fault) is = absurd is
 not_stopped c f tr (FaultyLine fault) is = absurd is
@@ -142,7 +151,8 @@ ends_soundly (stopped (TooMany count) is same) = tt
 -- ---- runs
 
 -- words of no form
-pub none_run : {words : List (List ℕ)} (i : Drained) (o e : Filled) (line : List ℕ) → line ≡ usage_line → AreNone words → i.after ≡ i.before → o.after ≡ o.before
+pub none_run : {words : List (List ℕ)} (i : Drained) (o e : Filled) (line : List ℕ) → line ≡ usage_line → AreNone words
+    → i.after ≡ i.before → o.after ≡ o.before
     → IsSaid e.before e.after e.faults e.faults_after line → IsRun words i o e 2
 none_run i o e line is h same_in same_out said = record {
   bytes = [];
@@ -193,7 +203,8 @@ made_run {words} number rows i o e _ _ form (no_room_for_it same_out) same said 
 }
 
 -- a text that gives no formula
-pub refused_run : {words : List (List ℕ)} {text : List ℕ} (j : Judge) (i : Drained) (o e : Filled) (status : ℕ) (line : List ℕ) → IsAsked words (judge j text) → IsBadEnd text status line
+pub refused_run : {words : List (List ℕ)} {text : List ℕ} (j : Judge) (i : Drained) (o e : Filled) (status : ℕ) (line : List ℕ)
+    → IsAsked words (judge j text) → IsBadEnd text status line
     → i.after ≡ i.before → o.after ≡ o.before → IsSaid e.before e.after e.faults e.faults_after line → IsRun words i o e status
 refused_run {words} {text} j i o e status line form end same_in same_out said = record {
   bytes = [];
@@ -245,7 +256,10 @@ module _ (words : List (List ℕ)) (c : Command) (f : Formula) (i : Drained) (o 
     moved = read.read.moved;
     grew = w;
     at_end = λ _. read.read.all;
-    is = settled (settled_answer (read.came_to_end, record { tr = case.trace; trace = read.whole; written = a.written; verdict = a.verdict; few = a.few; sure = a.sure }));
+    is = settled (settled_answer (
+      read.came_to_end,
+      record { tr = case.trace; trace = read.whole; written = a.written; verdict = a.verdict; few = a.few; sure = a.sure },
+    ));
   }
 
   of_part : (case : Case) (holds : Bool) (text : List ℕ) → IsReadWhole whole_limits f i.before i.after i.ended case → IsAnswerOf c f case.trace holds text
@@ -266,7 +280,8 @@ module _ (words : List (List ℕ)) (c : Command) (f : Formula) (i : Drained) (o 
     }) (timely c f read.bytes p.front);
   }
 
-  of_stop : (stop : Stop) → IsStop whole_limits f i.before i.after i.ended stop → o.after ≡ o.before → (stop ≡ Unread → HasFailed i) → {line : List ℕ} → IsStopLine f stop line
+  of_stop : (stop : Stop) → IsStop whole_limits f i.before i.after i.ended stop → o.after ≡ o.before
+      → (stop ≡ Unread → HasFailed i) → {line : List ℕ} → IsStopLine f stop line
       → Ending (status_of_stop stop) line
   of_stop (Faulty fault) (x, is, read) same failed told = told_as (told x is) (record {
     bytes = read.bytes;
@@ -297,7 +312,8 @@ module _ (words : List (List ℕ)) (c : Command) (f : Formula) (i : Drained) (o 
   of_stop (Wide i den) is same failed told = absurd is
   of_stop (TooMany count) is same failed told = absurd is
 
-  of_unanswered : (case : Case) (stop : Stop) → IsReadWhole whole_limits f i.before i.after i.ended case → IsUnanswered c f case.trace stop → o.after ≡ o.before → {line : List ℕ} → IsStopLine f stop line
+  of_unanswered : (case : Case) (stop : Stop) → IsReadWhole whole_limits f i.before i.after i.ended case
+      → IsUnanswered c f case.trace stop → o.after ≡ o.before → {line : List ℕ} → IsStopLine f stop line
       → Ending (status_of_stop stop) line
   of_unanswered case (Faulty fault) read is same told = absurd is
   of_unanswered case (FaultyLine fault) read is same told = absurd is
@@ -321,7 +337,8 @@ module _ (words : List (List ℕ)) (c : Command) (f : Formula) (i : Drained) (o 
     is = settled (settled_overfull count (read.came_to_end, (case.trace, read.whole, many)));
   })
 
-  of_end : (ending : Result Bool Stop) → IsWholeEnd c f i o ending → (ending ≡ Err Unread → HasFailed i) → (ending ≡ Err Unwritten → HasRefused o) → {line : List ℕ} → IsEndLine f ending line
+  of_end : (ending : Result Bool Stop) → IsWholeEnd c f i o ending → (ending ≡ Err Unread → HasFailed i)
+      → (ending ≡ Err Unwritten → HasRefused o) → {line : List ℕ} → IsEndLine f ending line
       → Ending (status_of ending) line
   of_end ending (answered case holds text read a (all_of_it w)) failed cut told = told_as told (of_answer case holds text read a w)
   of_end ending (answered case holds text read a (a_part w)) failed cut told = told_as told (of_part case holds text read a w (cut refl))
@@ -329,7 +346,8 @@ module _ (words : List (List ℕ)) (c : Command) (f : Formula) (i : Drained) (o 
   of_end ending (stopped stop is same) failed cut told = of_stop stop is same (λ k. failed (ap Err k)) told
 
   -- a request that is known
-  pub known_run : (ending : Result Bool Stop) (status : ℕ) (line : List ℕ) → status ≡ status_of ending → IsWholeEnd c f i o ending → (ending ≡ Err Unread → HasFailed i) → (ending ≡ Err Unwritten → HasRefused o)
+  pub known_run : (ending : Result Bool Stop) (status : ℕ) (line : List ℕ) → status ≡ status_of ending → IsWholeEnd c f i o ending
+      → (ending ≡ Err Unread → HasFailed i) → (ending ≡ Err Unwritten → HasRefused o)
       → (ending ≢ Err NoMemory → IsAskedOnce i) → IsEndLine f ending line → IsSaid e.before e.after e.faults e.faults_after line → IsRun words i o e status
   known_run ending status line same end failed cut once told said =
       let x = of_end ending end failed cut told in
@@ -357,6 +375,7 @@ five_is (Err NoMemory) s = absurd (omega (arith, s))
 five_is (Err (Wide i den)) s = absurd (omega (arith, s))
 five_is (Err (TooMany count)) s = absurd (omega (arith, s))
 
+-- status 6 is a failed output
 pub six_is : (e : Result Bool Stop) → status_of e ≡ 6 → e ≡ Err Unwritten
 six_is (Ok true) s = absurd (omega (arith, s))
 six_is (Ok false) s = absurd (omega (arith, s))
@@ -368,14 +387,17 @@ six_is (Err NoMemory) s = absurd (omega (arith, s))
 six_is (Err (Wide i den)) s = absurd (omega (arith, s))
 six_is (Err (TooMany count)) s = absurd (omega (arith, s))
 
+-- a status of 2 or more is a failure
 pub large_is : (e : Result Bool Stop) → 2 ≤ status_of e → IsErr e
 large_is (Ok true) s = absurd (omega (arith, s))
 large_is (Ok false) s = absurd (omega (arith, s))
 large_is (Err stop) s = refl
 
+-- another status is no failed output
 pub not_six : (e : Result Bool Stop) → status_of e ≢ 6 → e ≢ Err Unwritten
 not_six e other same = other (ap status_of same)
 
+-- a status that is not 5 is no failed read
 pub not_five : (e : Result Bool Stop) → status_of e ≢ 5 → e ≢ Err Unread
 not_five e other same = other (ap status_of same)
 
@@ -400,6 +422,7 @@ not_words (Err (Wide i den)) (inr s) = omega (arith, s)
 not_words (Err (TooMany count)) (inl s) = omega (arith, s)
 not_words (Err (TooMany count)) (inr s) = omega (arith, s)
 
+-- status 3 or 7 is no answer
 pub not_small : (status : ℕ) → (status ≡ 3) ⊎ (status ≡ 7) → ¬ (status ≤ 1)
 not_small status (inl a) e = omega (arith, a, e)
 not_small status (inr a) e = omega (arith, a, e)

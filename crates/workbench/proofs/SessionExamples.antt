@@ -23,7 +23,10 @@ use Rattle.trace_reader.proofs.TraceRefusalExamples.{first_byte, no_line_fault, 
 
 -- z >= 1073741824
 abbrev z_formula : Formula
-z_formula = record { nodes = Leaf (record { terms = record { coef = pos 1; name = codes "z" } ∷ []; rel = AtLeast; limit = pos 1073741824 }) ∷ []; scale = no_digits }
+z_formula = record {
+  nodes = Leaf (record { terms = record { coef = pos 1; name = codes "z" } ∷ []; rel = AtLeast; limit = pos 1073741824 }) ∷ [];
+  scale = no_digits;
+}
 
 abbrev x_bytes : List ℕ
 x_bytes = codes "time,x" ++ newline

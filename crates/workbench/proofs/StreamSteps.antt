@@ -1,5 +1,7 @@
 -- How far a stream has come, and how it ends.
-use Rattle.std.proofs.Common.{◌≡◌, ◌≢◌, inl, inr, ℕ, ◌+◌, ◌-◌, ◌<◌, ◌≤◌, Bool, true, false, List, [], ◌++◌, length, take, drop, take-append-drop, length-append, append_assoc, refl, sym, ap, ◌∙◌, subst, arith, append-nil, Result, Ok, Err}
+use Rattle.std.proofs.Common.{◌≡◌, ◌≢◌, inl, inr, ℕ, ◌+◌, ◌-◌, ◌<◌, ◌≤◌, Bool, true, false, List, []}
+use Rattle.std.proofs.Common.{◌++◌, length, take, drop, take-append-drop, length-append, append_assoc}
+use Rattle.std.proofs.Common.{refl, sym, ap, ◌∙◌, subst, arith, append-nil, Result, Ok, Err}
 use Rattle.std.specs.Prelude.{Option}
 use Rattle.std.specs.Io.KnownBytes.{Appends, Consumes, Keeps, IsAtEnd}
 use Rattle.std.proofs.KnownBytes.{Appends-nil, Appends-trans, Consumes-nil, Consumes-trans, Consumes-kept}
@@ -24,14 +26,22 @@ use Rattle.workbench.specs.ErrTexts.{read_fault, write_fault, out_of_memory, wid
 
 -- some bytes were read and answered, in so many reads
 pub record Pushing (Stands : List ℕ → List ℕ → Type 0) (q : Request) (before now held held_now : Option (List ℕ)) (reads : ℕ) : Type 0 where
+  -- the bytes that were read
   pub bytes : List ℕ
+  -- the text that was written
   pub text : List ℕ
+  -- the bytes were taken from the front of the source
   pub moved : Consumes before now bytes
+  -- the text was put at the end of the sink
   pub grew : Appends held held_now text
+  -- the machine stands for these bytes and this text
   pub is : IsPushed Stands q bytes text
+  -- each read gave a byte at least
   pub enough : reads ≤ length bytes
 
-pub at_first : (Stands : List ℕ → List ℕ → Type 0) (q : Request) (left held : Option (List ℕ)) → IsPushed Stands q [] [] → Pushing Stands q left left held held 0
+-- before the first read nothing was taken or written
+pub at_first : (Stands : List ℕ → List ℕ → Type 0) (q : Request) (left held : Option (List ℕ)) → IsPushed Stands q [] []
+    → Pushing Stands q left left held held 0
 at_first Stands q left held p = record { bytes = []; text = []; moved = Consumes-nil left; grew = Appends-nil held; is = p; enough = omega arith }
 
 -- all but the last 4,096 bytes stood before the last piece
@@ -48,15 +58,20 @@ timely_piece q bytes piece text grown timely small =
       ap (λ t. t ++ grown) e ∙ append_assoc short more grown,
     )
 
-module _ {Stands : List ℕ → List ℕ → Type 0} {q : Request} {before now held held_now : Option (List ℕ)} {reads : ℕ} (p : Pushing Stands q before now held held_now reads) where
+module _ {Stands : List ℕ → List ℕ → Type 0} {q : Request} {before now held held_now : Option (List ℕ)} {reads : ℕ}
+    (p : Pushing Stands q before now held held_now reads) where
+  -- the machine stands for some bytes and some text
   pub has_pushed : (bytes text : List ℕ) × IsPushed Stands q bytes text
   has_pushed = (p.bytes, p.text, p.is)
 
+  -- no source gives so many pieces
   pub few_pushes : 18446744073709551615 ≤ reads → ⊥
   few_pushes r = omega (arith, r, p.enough, p.is.few)
 
+  -- with a piece more and its text the stream goes on
   pub go_on : (After : List ℕ → List ℕ → Type 0) (after held_after : Option (List ℕ)) (piece : List ℕ) → Consumes now after piece → 0 < length piece
-      → (grown : List ℕ) × Appends held_now held_after grown × IsPushed After q (p.bytes ++ piece) (p.text ++ grown) → Pushing After q before after held held_after (reads + 1)
+      → (grown : List ℕ) × Appends held_now held_after grown × IsPushed After q (p.bytes ++ piece) (p.text ++ grown)
+      → Pushing After q before after held held_after (reads + 1)
   go_on After after held_after piece moved some (grown, wrote, is) = record {
     bytes = p.bytes ++ piece;
     text = p.text ++ grown;
@@ -67,7 +82,8 @@ module _ {Stands : List ℕ → List ℕ → Type 0} {q : Request} {before now h
   }
 
   -- the source failed
-  pub end_unread : (Done : List ℕ → List ℕ → Type 0) (i : Drained) (o : Filled) → i.before ≡ before → o.before ≡ held → o.after ≡ held_now → Keeps now i.after → i.ended ≡ false → HasFailed i
+  pub end_unread : (Done : List ℕ → List ℕ → Type 0) (i : Drained) (o : Filled) → i.before ≡ before → o.before ≡ held
+      → o.after ≡ held_now → Keeps now i.after → i.ended ≡ false → HasFailed i
       → IsStreamEnd Done q i o (Err Unread)
   end_unread Done i o b h a kept goes_on failed = record {
     bytes = p.bytes;
@@ -85,7 +101,9 @@ module _ {Stands : List ℕ → List ℕ → Type 0} {q : Request} {before now h
   prompt piece ended small at_end = record { before = p.bytes; piece = piece; parts = refl; short = small; at_end = at_end; sound = p.is.sound }
 
   -- a piece, or the end, stopped the stream
-  pub end_stop : (Done : List ℕ → List ℕ → Type 0) (i : Drained) (o : Filled) (piece : List ℕ) (ended : Bool) (stop : Stop) → i.before ≡ before → o.before ≡ held → Consumes now i.after piece → i.ended ≡ ended → (ended ≡ true → (piece ≡ []) × IsAtEnd i.after) → length piece ≤ 4096
+  pub end_stop : (Done : List ℕ → List ℕ → Type 0) (i : Drained) (o : Filled) (piece : List ℕ) (ended : Bool) (stop : Stop)
+      → i.before ≡ before → o.before ≡ held → Consumes now i.after piece → i.ended ≡ ended
+      → (ended ≡ true → (piece ≡ []) × IsAtEnd i.after) → length piece ≤ 4096
       → (stop ≡ Unwritten → HasRefused o)
       → (grown : List ℕ) × Appends held_now o.after grown × IsPushStop q (p.bytes ++ piece) ended (p.text ++ grown) stop → IsStreamEnd Done q i o (Err stop)
   end_stop Done i o piece ended stop b h moved same at_end small cut (grown, wrote, is) = by_stop stop is cut
@@ -102,7 +120,8 @@ module _ {Stands : List ℕ → List ℕ → Type 0} {q : Request} {before now h
       as_ended : {rest : List ℕ} → IsBegun q (p.bytes ++ piece) ended (p.text ++ grown) rest → IsBegun q (p.bytes ++ piece) i.ended (p.text ++ grown) rest
       as_ended {rest} x = subst (λ (e : Bool). IsBegun q (p.bytes ++ piece) e (p.text ++ grown) rest) (sym same) x
 
-      with_end : (line : List ℕ) (stop : Stop) → IsEnd q i o (p.bytes ++ piece) (p.text ++ grown) (status_of (Err stop)) line → IsLineOf q (Err stop) line → IsStreamEnd Done q i o (Err stop)
+      with_end : (line : List ℕ) (stop : Stop) → IsEnd q i o (p.bytes ++ piece) (p.text ++ grown) (status_of (Err stop)) line
+          → IsLineOf q (Err stop) line → IsStreamEnd Done q i o (Err stop)
       with_end line stop is told = record {
         bytes = p.bytes ++ piece;
         text = p.text ++ grown;
@@ -118,7 +137,8 @@ module _ {Stands : List ℕ → List ℕ → Type 0} {q : Request} {before now h
       known : q ≢ no_form
       known k = false≢true (sym (ap has_input k) ∙ p.is.input)
 
-      by_stop : (stop : Stop) → IsPushStop q (p.bytes ++ piece) ended (p.text ++ grown) stop → (stop ≡ Unwritten → HasRefused o) → IsStreamEnd Done q i o (Err stop)
+      by_stop : (stop : Stop) → IsPushStop q (p.bytes ++ piece) ended (p.text ++ grown) stop → (stop ≡ Unwritten → HasRefused o)
+          → IsStreamEnd Done q i o (Err stop)
       by_stop (Faulty fault) (line, stored, first, owed) cut = with_end line (Faulty fault)
           (settled (faulty (subst (λ (e : Bool). HasFault q (p.bytes ++ piece) e line) (sym same) first)
           (prompt piece i.ended small (λ t. (at_end (sym same ∙ t)).0))
@@ -136,13 +156,15 @@ module _ {Stands : List ℕ → List ℕ → Type 0} {q : Request} {before now h
       by_stop (TooMany count) is cut = absurd is
 
   -- the stream came to its end
-  pub end_ok : (Done : List ℕ → List ℕ → Type 0) (i : Drained) (o : Filled) (holds : Bool) → i.before ≡ before → o.before ≡ held → Consumes now i.after [] → i.ended ≡ true → IsAtEnd i.after
+  pub end_ok : (Done : List ℕ → List ℕ → Type 0) (i : Drained) (o : Filled) (holds : Bool) → i.before ≡ before → o.before ≡ held
+      → Consumes now i.after [] → i.ended ≡ true → IsAtEnd i.after
       → (grown : List ℕ) × Appends held_now o.after grown × IsFinished Done q p.bytes holds (p.text ++ grown) → IsStreamEnd Done q i o (Ok holds)
   end_ok Done i o holds b h moved same at_end (grown, wrote, (is, left)) = record {
     bytes = p.bytes;
     text = p.text ++ grown;
     line = [];
-    moved = subst (λ x. Consumes x i.after p.bytes) (sym b) (subst (Consumes before i.after) (append-nil p.bytes) (Consumes-trans before now i.after p.bytes [] p.moved moved));
+    moved = subst (λ x. Consumes x i.after p.bytes) (sym b)
+        (subst (Consumes before i.after) (append-nil p.bytes) (Consumes-trans before now i.after p.bytes [] p.moved moved));
     grew = subst (λ x. Appends x o.after (p.text ++ grown)) (sym h) (Appends-trans held held_now o.after p.text grown p.grew wrote);
     at_end = λ _. at_end;
     is = settled (answered (subst (λ (e : Bool). IsAnswered q p.bytes e (status_of_truth holds) (p.text ++ grown)) (sym same) is));
@@ -155,7 +177,8 @@ module _ {Stands : List ℕ → List ℕ → Type 0} {q : Request} {before now h
   pushed_so_far g e = subst (λ (k : Request). IsPushed Stands k p.bytes p.text) (sym e) p.is
 
   -- the last call of a stream
-  pub end_from : (Done : List ℕ → List ℕ → Type 0) (g : Request) → g ≡ q → (i : Drained) (o : Filled) (r : Result Bool Stop) (none : List ℕ) → none ≡ [] → i.before ≡ before → o.before ≡ held → Consumes now i.after none → i.ended ≡ true → IsAtEnd i.after
+  pub end_from : (Done : List ℕ → List ℕ → Type 0) (g : Request) → g ≡ q → (i : Drained) (o : Filled) (r : Result Bool Stop)
+      (none : List ℕ) → none ≡ [] → i.before ≡ before → o.before ≡ held → Consumes now i.after none → i.ended ≡ true → IsAtEnd i.after
       → (r ≡ Err Unwritten → HasRefused o)
       → IsPush g held_now o.after p.bytes true p.text (IsFinished Done g p.bytes) r → IsStreamEnd Done q i o r
   end_from Done g e i o r none empty b h moved same at_end cut push =
@@ -169,21 +192,26 @@ module _ {Stands : List ℕ → List ℕ → Type 0} {q : Request} {before now h
           (grown, wrote, subst (λ bs. IsPushStop q bs true (p.text ++ grown) stop) (sym (append-nil p.bytes)) is)
 
   -- a piece that stopped the stream
-  pub stop_from : (Done : List ℕ → List ℕ → Type 0) (g : Request) → g ≡ q → (i : Drained) (o : Filled) (piece : List ℕ) (stop : Stop) → i.before ≡ before → o.before ≡ held → Consumes now i.after piece → i.ended ≡ false → length piece ≤ 4096
+  pub stop_from : (Done : List ℕ → List ℕ → Type 0) (g : Request) → g ≡ q → (i : Drained) (o : Filled) (piece : List ℕ) (stop : Stop)
+      → i.before ≡ before → o.before ≡ held → Consumes now i.after piece → i.ended ≡ false → length piece ≤ 4096
       → (stop ≡ Unwritten → HasRefused o)
       → (grown : List ℕ) × Appends held_now o.after grown × IsPushStop g (p.bytes ++ piece) false (p.text ++ grown) stop → IsStreamEnd Done q i o (Err stop)
   stop_from Done g e i o piece stop b h moved same small cut (grown, wrote, is) =
-      end_stop Done i o piece false stop b h moved same (λ t. absurd (false≢true t)) small cut (grown, wrote, subst (λ (k : Request). IsPushStop k (p.bytes ++ piece) false (p.text ++ grown) stop) e is)
+      end_stop Done i o piece false stop b h moved same (λ t. absurd (false≢true t)) small cut
+      (grown, wrote, subst (λ (k : Request). IsPushStop k (p.bytes ++ piece) false (p.text ++ grown) stop) e is)
 
   -- a piece that was answered
-  pub piece_from : (g : Request) → g ≡ q → (After : List ℕ → List ℕ → Type 0) (after held_after : Option (List ℕ)) (piece : List ℕ) → Consumes now after piece → 0 < length piece
-      → (grown : List ℕ) × Appends held_now held_after grown × IsPushed After g (p.bytes ++ piece) (p.text ++ grown) → Pushing After q before after held held_after (reads + 1)
+  pub piece_from : (g : Request) → g ≡ q → (After : List ℕ → List ℕ → Type 0) (after held_after : Option (List ℕ)) (piece : List ℕ)
+      → Consumes now after piece → 0 < length piece
+      → (grown : List ℕ) × Appends held_now held_after grown × IsPushed After g (p.bytes ++ piece) (p.text ++ grown)
+      → Pushing After q before after held held_after (reads + 1)
   piece_from g e After after held_after piece moved some (grown, wrote, is) =
       go_on After after held_after piece moved some (grown, wrote, subst (λ (k : Request). IsPushed After k (p.bytes ++ piece) (p.text ++ grown)) e is)
 
 -- ---- the run
 
-line_is : (s : Stream) (f : Formula) (ending : Result Bool Stop) (line other : List ℕ) → IsLineOf (stream s f) ending line → IsEndLine f ending other → other ≡ line
+line_is : (s : Stream) (f : Formula) (ending : Result Bool Stop) (line other : List ℕ) → IsLineOf (stream s f) ending line
+    → IsEndLine f ending other → other ≡ line
 line_is s f (Ok holds) line other a b = b ∙ sym a
 line_is s f (Err (Faulty fault)) line other (x, is, e) b = b x is ∙ sym e
 line_is s f (Err (FaultyLine fault)) line other a b = b ∙ sym a
@@ -194,7 +222,8 @@ line_is s f (Err (Wide i den)) line other a b = b ∙ sym a
 line_is s f (Err (TooMany count)) line other a b = b ∙ sym a
 
 -- the end of a request with input is that of the run, which leaves this
-pub pushed_run : {Done : List ℕ → List ℕ → Type 0} (words : List (List ℕ)) (q : Request) (i : Drained) (o e : Filled) (old new : Kept) → Asks words q → has_input q ≡ true
+pub pushed_run : {Done : List ℕ → List ℕ → Type 0} (words : List (List ℕ)) (q : Request) (i : Drained) (o e : Filled) (old new : Kept)
+    → Asks words q → has_input q ≡ true
     → (ending : Result Bool Stop) (status : ℕ) (line : List ℕ) → status ≡ status_of ending → (x : IsStreamEnd Done q i o ending) → IsAskedOnce i → line ≡ x.line
     → IsSaid e.before e.after e.faults e.faults_after line → IsLeft words x.bytes (status_of ending) old new → HasRun words i o e old new status
 pushed_run {Done} words q i o e old new ask input ending status line same x once told said left =
@@ -212,14 +241,17 @@ pushed_run {Done} words q i o e old new ask input ending status line same x once
     })
 
 -- so it is of a stream
-pub stream_run : {Done : List ℕ → List ℕ → Type 0} (words : List (List ℕ)) (s : Stream) (f : Formula) (i : Drained) (o e : Filled) (old new : Kept) → AreFor words (word_of_stream s) f
-    → (ending : Result Bool Stop) (status : ℕ) (line : List ℕ) → status ≡ status_of ending → (x : IsStreamEnd Done (stream s f) i o ending) → IsAskedOnce i → IsEndLine f ending line
+pub stream_run : {Done : List ℕ → List ℕ → Type 0} (words : List (List ℕ)) (s : Stream) (f : Formula) (i : Drained) (o e : Filled)
+    (old new : Kept) → AreFor words (word_of_stream s) f
+    → (ending : Result Bool Stop) (status : ℕ) (line : List ℕ) → status ≡ status_of ending
+    → (x : IsStreamEnd Done (stream s f) i o ending) → IsAskedOnce i → IsEndLine f ending line
     → IsSaid e.before e.after e.faults e.faults_after line → IsLeft words x.bytes (status_of ending) old new → HasRun words i o e old new status
 stream_run words s f i o e old new ask ending status line same x once told said left =
     pushed_run words (stream s f) i o e old new ask refl ending status line same x once (line_is s f ending x.line line x.told told) said left
 
 -- a fault that ends it is one
-pub stream_soundly : {Done : List ℕ → List ℕ → Type 0} (s : Stream) (f : Formula) (i : Drained) (o : Filled) (ending : Result Bool Stop) → IsStreamEnd Done (stream s f) i o ending → EndsSoundly f ending
+pub stream_soundly : {Done : List ℕ → List ℕ → Type 0} (s : Stream) (f : Formula) (i : Drained) (o : Filled)
+    (ending : Result Bool Stop) → IsStreamEnd Done (stream s f) i o ending → EndsSoundly f ending
 stream_soundly s f i o ending x = by_line ending x.told
   where
     by_line : (ending : Result Bool Stop) → IsLineOf (stream s f) ending x.line → EndsSoundly f ending

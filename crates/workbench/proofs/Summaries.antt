@@ -57,6 +57,7 @@ module _ (number rows : ℕ) (some : 1 ≤ rows) (few : rows ≤ 200000) (vs : L
   abbrev tr : Trace
   tr = generated number rows
 
+  -- the four lines of the counts and the truth are the summary
   pub summed : (text : List ℕ) → text ≡ codes "rows " ++ decimal rows ++ newline ++ codes "check " ++ decimal (length vs) ++ newline
       ++ codes "watch " ++ decimal n ++ newline ++ start_line holds → IsSummary number rows text
   summed text is =

@@ -10,15 +10,18 @@ use Rattle.stl_syntax.proofs.LawProofs.{decisions_stay}
 use Rattle.workbench.specs.SureDecisions.{IsSureStart, IsSureDecision, decided, open_yet, EndsWithStart}
 
 -- what rows decide is sure
-pub sure_start : (p : Subformula) (header : Header) (before : List Row) (r : Row) (holds : Bool) → Decides p (record { header = header; rows = before ++ r ∷ [] }) holds
+pub sure_start : (p : Subformula) (header : Header) (before : List Row) (r : Row) (holds : Bool)
+    → Decides p (record { header = header; rows = before ++ r ∷ [] }) holds
     → IsSureStart p header (before ++ r ∷ []) holds
 sure_start p header [] r holds d = λ tr ok on. (decisions_stay p header r [] tr false holds ok on d).0
 sure_start p header (q ∷ before) r holds d = λ tr ok on. (decisions_stay p header q (before ++ r ∷ []) tr false holds ok on d).0
 
 -- what is told for the rows so far is sure
-pub decision_is_sure : (p : Subformula) (header : Header) (rows : List Row) (text : List ℕ) → IsEarlyText p header rows false text → IsSureDecision p header rows text
+pub decision_is_sure : (p : Subformula) (header : Header) (rows : List Row) (text : List ℕ) → IsEarlyText p header rows false text
+    → IsSureDecision p header rows text
 decision_is_sure p header rows text told = elim told [
-  | at_row before after r holds time e first num is ↦ decided before after r holds time e first.not_before (sure_start p header before r holds first.decides) num is
+  | at_row before after r holds time e first num is ↦
+      decided before after r holds time e first.not_before (sure_start p header before r holds first.decides) num is
   | at_end line t ok none l is ↦ absurd (false≢true t)
   | not_yet f none is ↦ open_yet none is
 ]

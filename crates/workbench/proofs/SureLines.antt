@@ -1,5 +1,7 @@
 -- The lines of a stream of verdicts are the truth in each trace that goes on from the rows, and in the end they cover the trace.
-use Rattle.std.proofs.Common.{◌≡◌, ◌≢◌, inl, inr, refl, sym, ap, subst, ◌∙◌, ℕ, zero, suc, ◌<◌, ◌≤◌, Bool, true, false, Option, Some, None, List, [], ◌∷◌, ◌++◌, length, ℤ, pos, ◌+ℤ◌, ◌-ℤ◌, ◌≤ℤ◌, ◌<ℤ◌, arith, append_assoc, append-nil}
+use Rattle.std.proofs.Common.{◌≡◌, ◌≢◌, inl, inr, refl, sym, ap, subst, ◌∙◌, ℕ, zero, suc, ◌<◌, ◌≤◌}
+use Rattle.std.proofs.Common.{Bool, true, false, Option, Some, None, List, [], ◌∷◌, ◌++◌, length}
+use Rattle.std.proofs.Common.{ℤ, pos, ◌+ℤ◌, ◌-ℤ◌, ◌≤ℤ◌, ◌<ℤ◌, arith, append_assoc, append-nil}
 use Rattle.std.specs.Prelude.{MatchBool, int_lt, cond, slice_get}
 use Rattle.std.proofs.lemmas.Bool.{false≢true}
 use Rattle.std.proofs.lemmas.Int.{ints}
@@ -43,7 +45,8 @@ ends_by p tr stretch v (w ∷ vs) (touch, d, told, rest) = le_trans (ge_of_same 
 abbrev AgreeOn : Subformula → Trace → Trace → Interval → Type 0
 AgreeOn p tr tr' stretch = (t : Rational) → stretch.from ≤ʳ t → t ≤ʳ stretch.to → Agree p tr tr' t
 
-one_moved : (p : Subformula) (tr tr' : Trace) (stretch : Interval) (v : Verdict) → stretch.from ≤ʳ value v.on.from → value v.on.to ≤ʳ stretch.to → AgreeOn p tr tr' stretch
+one_moved : (p : Subformula) (tr tr' : Trace) (stretch : Interval) (v : Verdict) → stretch.from ≤ʳ value v.on.from
+    → value v.on.to ≤ʳ stretch.to → AgreeOn p tr tr' stretch
     → IsTold p tr v → IsTold p tr' v
 one_moved p tr tr' stretch v b e agree told =
     record { not_empty = told.not_empty; truth = λ t h. by_holds v.holds (agree t (low t h) (high t h)) (told.truth t h) }
@@ -84,6 +87,7 @@ last_of : (time : ℕ) (rows : List Row) (r : Row) → last_time time (rows ++ r
 last_of time [] r = refl
 last_of time (q ∷ rows) r = last_of q.time rows r
 
+-- a row more leaves the first time
 pub first_stays : (rows : List Row) (r s : Row) → first_time ((rows ++ r ∷ []) ++ s ∷ []) ≡ first_time (rows ++ r ∷ [])
 first_stays [] r s = refl
 first_stays (q ∷ rows) r s = refl
@@ -96,6 +100,7 @@ some_row : (rows : List Row) (r : Row) → rows ++ r ∷ [] ≢ []
 some_row [] r e = let k = e in cc
 some_row (q ∷ rows) r e = let k = e in cc
 
+-- a row that follows others comes after the last of them
 pub after_last : (width time : ℕ) (rows : List Row) (r : Row) (more : List Row) → AreRowsAfter width time (rows ++ r ∷ more) → last_time time rows < r.time
 after_last width time [] r more a = a.0
 after_last width time (q ∷ rows) r more a = after_last width q.time rows r more a.2
@@ -113,9 +118,12 @@ Low first (Some f) = pos first ≤ℤ f
 
 -- what is answered once a row at time s came, as a number
 pub record AnsweredBy (first : ℕ) (p : Subformula) (s : ℕ) (f : ℤ) : Type 0 where
+  -- the answer is the row's time less the horizon
   pub is : f ≡ pos s -ℤ pos (horizon p)
+  -- and does not lie before the first time
   pub low : pos first ≤ℤ f
 
+-- a row that answers some time answers that one
 pub answered_is : (first : ℕ) (p : Subformula) (s : ℕ) (f : ℤ) → answered_by first p s ≡ Some f → AnsweredBy first p s f
 answered_is first p s f e = by_test (int_lt (pos s -ℤ pos (horizon p)) (pos first)) refl e
   where
@@ -128,10 +136,12 @@ answered_is first p s f e = by_test (int_lt (pos s -ℤ pos (horizon p)) (pos fi
 answered_none : (first : ℕ) (p : Subformula) (s : ℕ) → answered_by first p s ≡ None → (pos s -ℤ pos (horizon p)) <ℤ pos first
 answered_none first p s e = by_test (int_lt (pos s -ℤ pos (horizon p)) (pos first)) refl e
   where
-    by_test : (t : Bool) → int_lt (pos s -ℤ pos (horizon p)) (pos first) ≡ t → cond t None (Some (pos s -ℤ pos (horizon p))) ≡ None → (pos s -ℤ pos (horizon p)) <ℤ pos first
+    by_test : (t : Bool) → int_lt (pos s -ℤ pos (horizon p)) (pos first) ≡ t
+        → cond t None (Some (pos s -ℤ pos (horizon p))) ≡ None → (pos s -ℤ pos (horizon p)) <ℤ pos first
     by_test true x y = int_order (pos s -ℤ pos (horizon p)) (pos first) true x
     by_test false x y = absurd (none_is_none (pos s -ℤ pos (horizon p)) (sym y))
 
+-- a front does not lie before the first time
 pub low_front : (first : ℕ) (p : Subformula) (s : ℕ) (o : Option ℤ) → answered_by first p s ≡ o → Low first o
 low_front first p s None e = tt
 low_front first p s (Some f) e = (answered_is first p s f e).low
@@ -186,7 +196,8 @@ new_lines p tr None (Some f) text low (vs, d, lines) = record {
 }
 new_lines p tr (Some o) (Some f) text low is = by_test (int_lt o f) refl is
   where
-    by_test : (b : Bool) → int_lt o f ≡ b → MatchBool b (IsStretchText p tr (left_open (whole o) (whole f)) text) (text ≡ []) → Lines p tr (first_time tr.rows) (Some o) (Some f) text
+    by_test : (b : Bool) → int_lt o f ≡ b → MatchBool b (IsStretchText p tr (left_open (whole o) (whole f)) text) (text ≡ [])
+        → Lines p tr (first_time tr.rows) (Some o) (Some f) text
     by_test true e (vs, d, lines) = record {
       verdicts = vs;
       lines = lines;
@@ -201,7 +212,10 @@ new_lines p tr (Some o) (Some f) text low is = by_test (int_lt o f) refl is
     }
       where
         same_place : o ≤ℤ f → f ≤ℤ o → Same (answered_to (first_time tr.rows) (Some o)) (answered_to (first_time tr.rows) (Some f))
-        same_place a b = let e : o ≡ f = omega (arith, ints) in subst (λ z. Same (answered_to (first_time tr.rows) (Some o)) (answered_to (first_time tr.rows) (Some z))) e (same_itself (answered_to (first_time tr.rows) (Some o)))
+        same_place a b =
+            let e : o ≡ f = omega (arith, ints) in
+            subst (λ z. Same (answered_to (first_time tr.rows) (Some o)) (answered_to (first_time tr.rows) (Some z))) e
+            (same_itself (answered_to (first_time tr.rows) (Some o)))
 
 -- the lines of a row are sure once it has come
 row_sure : (p : Subformula) (header : Header) (rows : List Row) (r : Row) (old : Option ℤ) (text : List ℕ)
@@ -215,6 +229,7 @@ row_sure p header rows r old text l = record {
 
 -- ---- all rows
 
+-- nor does it with a row more
 pub low_later : (rows : List Row) (r s : Row) (o : Option ℤ) → Low (first_time (rows ++ r ∷ [])) o → Low (first_time ((rows ++ r ∷ []) ++ s ∷ [])) o
 low_later rows r s o h = subst (λ n. Low n o) (sym (first_stays rows r s)) h
 
@@ -231,17 +246,20 @@ sure_by_row p header rows old (r ∷ more) text low (here, later, new, rest, is)
   is,
 )
 
-at_first : (p : Subformula) (header : Header) (more : List Row) (text : List ℕ) → IsRowsText (IsNewText p) p header [] None more text → AreSureByRow p header [] more text
+at_first : (p : Subformula) (header : Header) (more : List Row) (text : List ℕ)
+    → IsRowsText (IsNewText p) p header [] None more text → AreSureByRow p header [] more text
 at_first p header more text t = sure_by_row p header [] None more text (λ r. tt) t
 
 -- the law before the end
-pub lines_are_sure : (p : Subformula) (header : Header) (rows : List Row) (text : List ℕ) → IsStreamText p header rows false text → AreSureByRow p header [] rows text
+pub lines_are_sure : (p : Subformula) (header : Header) (rows : List Row) (text : List ℕ) → IsStreamText p header rows false text
+    → AreSureByRow p header [] rows text
 lines_are_sure p header rows text t = at_first p header rows text t
 
 -- ---- the end
 
 -- a trace that goes on from all rows and their end is these rows
-same_trace : (p : Subformula) (header : Header) (rows : List Row) (tr : Trace) (t : Rational) → Continues tr header rows true → Agree p (record { header = header; rows = rows }) tr t
+same_trace : (p : Subformula) (header : Header) (rows : List Row) (tr : Trace) (t : Rational) → Continues tr header rows true
+    → Agree p (record { header = header; rows = rows }) tr t
 same_trace p header rows tr t c =
     let none = c.whole_input refl in
     let same : tr.rows ≡ rows = c.begins ∙ ap (λ l. rows ++ l) none ∙ append-nil rows in
@@ -250,13 +268,15 @@ same_trace p header rows tr t c =
     subst (λ (q : Trace). Agree p (record { header = header; rows = rows }) q t) is (λ x. x, λ x. x)
 
 rest_lines : (p : Subformula) (header : Header) (rows : List Row) (rest : List ℕ) → IsRestText (IsNewText p) p (record { header = header; rows = rows }) rest
-    → Lines p (record { header = header; rows = rows }) (first_time rows) (answered_by (first_time rows) p (last_time 0 rows)) (Some (pos (last_time 0 rows))) rest
+    → Lines p (record { header = header; rows = rows }) (first_time rows) (answered_by (first_time rows) p (last_time 0 rows))
+    (Some (pos (last_time 0 rows))) rest
 rest_lines p header rows rest t =
     new_lines p (record { header = header; rows = rows }) (answered_by (first_time rows) p (last_time 0 rows)) (Some (pos (last_time 0 rows))) rest
     (low_front (first_time rows) p (last_time 0 rows) _ refl) t
 
 -- the law at the end
-pub lines_are_sure_to_end : (p : Subformula) (header : Header) (rows : List Row) (text : List ℕ) → IsStreamText p header rows true text → AreSureToEnd p header rows text
+pub lines_are_sure_to_end : (p : Subformula) (header : Header) (rows : List Row) (text : List ℕ)
+    → IsStreamText p header rows true text → AreSureToEnd p header rows text
 lines_are_sure_to_end p header rows text (are, (during, rest, line, t, at_end, first, is)) =
     let l = rest_lines p header rows rest at_end in
     record {
@@ -271,7 +291,8 @@ lines_are_sure_to_end p header rows text (are, (during, rest, line, t, at_end, f
 
 -- ---- the cover
 
-lines_append : (scale : Scale) (vs ws : List Verdict) (x y : List ℕ) → AreVerdictLines scale vs x → AreVerdictLines scale ws y → AreVerdictLines scale (vs ++ ws) (x ++ y)
+lines_append : (scale : Scale) (vs ws : List Verdict) (x y : List ℕ) → AreVerdictLines scale vs x → AreVerdictLines scale ws y
+    → AreVerdictLines scale (vs ++ ws) (x ++ y)
 lines_append scale [] ws x y a b = subst (λ z. AreVerdictLines scale ws (z ++ y)) (sym a) b
 lines_append scale (v ∷ vs) ws x y (here, later, h, rest, is) b =
     (here, later ++ y, h, lines_append scale vs ws later y rest b, ap (λ z. z ++ y) is ∙ append_assoc here later y)
@@ -285,10 +306,12 @@ abbrev pub Front : Subformula → List Row → Option ℤ
 Front p [] = None
 Front p (r ∷ rows) = answered_by r.time p (last_time r.time rows)
 
+-- the front of rows is what the last of them answers
 pub front_is : (p : Subformula) (rows : List Row) (r : Row) → Front p (rows ++ r ∷ []) ≡ answered_by (first_time (rows ++ r ∷ [])) p r.time
 front_is p [] r = refl
 front_is p (q ∷ rows) r = ap (λ n. answered_by q.time p n) (last_of q.time rows r)
 
+-- and so by the last time of all rows
 pub front_of_all : (p : Subformula) (rows : List Row) → rows ≢ [] → Front p rows ≡ answered_by (first_time rows) p (last_time 0 rows)
 front_of_all p [] some = absurd (some refl)
 front_of_all p (r ∷ rows) some = refl
@@ -327,7 +350,8 @@ led_append first old (Some m) None vs ws a b = absurd (let k = b.0 in cc)
 led_append first old (Some m) (Some f) vs ws a b = tiles_append (answered_to first old) vs (answered_to first (Some m)) ws (answered_to first (Some f)) a b
 
 module _ (p : Subformula) (header : Header) (tr : Trace) (ok : IsTrace tr) (first : ℕ) (starts : first ≡ first_time tr.rows) where
-  course : (rows : List Row) (old : Option ℤ) (more : List Row) (text : List ℕ) → tr.header ≡ header → tr.rows ≡ rows ++ more → AreRows (length header.columns) (rows ++ more)
+  course : (rows : List Row) (old : Option ℤ) (more : List Row) (text : List ℕ) → tr.header ≡ header → tr.rows ≡ rows ++ more
+      → AreRows (length header.columns) (rows ++ more)
       → old ≡ Front p rows → IsRowsText (IsNewText p) p header rows old more text → Course p header first old (Front p (rows ++ more)) tr text
   course rows old [] text same is are e t =
       let end : Front p (rows ++ []) ≡ old = ap (Front p) (append-nil rows) ∙ sym e in
@@ -343,7 +367,8 @@ module _ (p : Subformula) (header : Header) (tr : Trace) (ok : IsTrace tr) (firs
       let led : Led (first_time (rows ++ r ∷ [])) old l.verdicts (answered_by (first_time (rows ++ r ∷ [])) p r.time) = l.led (rises rows e begin are) in
       subst (λ rs. Course p header first old (Front p rs) tr text) (sym at) (record {
         verdicts = l.verdicts ++ c.verdicts;
-        lines = subst (λ t. AreVerdictLines header.scale (l.verdicts ++ c.verdicts) t) (sym parts) (lines_append header.scale l.verdicts c.verdicts here later l.lines c.lines);
+        lines = subst (λ t. AreVerdictLines header.scale (l.verdicts ++ c.verdicts) t) (sym parts)
+            (lines_append header.scale l.verdicts c.verdicts here later l.lines c.lines);
         told = told_append p tr l.verdicts c.verdicts
             (l.told tr (λ f k t a b. row_agrees p header rows r tr f ok goes (answered_is (first_time (rows ++ r ∷ [])) p r.time f k) t a b)) c.told;
         led = led_append first old (answered_by (first_time (rows ++ r ∷ [])) p r.time) (Front p ((rows ++ r ∷ []) ++ more)) l.verdicts c.verdicts
@@ -375,11 +400,13 @@ covered p header rows text (are, (during, rest, line, t, at_end, first, is)) =
     let l = rest_lines p header rows rest at_end in
     let front : Front p rows ≡ answered_by (first_time rows) p (last_time 0 rows) = front_of_all p rows (no_rows are) in
     let led : Led (first_time rows) (Front p rows) l.verdicts (Some (pos (last_time 0 rows))) =
-    subst (λ (o : Option ℤ). Led (first_time rows) o l.verdicts (Some (pos (last_time 0 rows)))) (sym front) (l.led (by_end (answered_by (first_time rows) p (last_time 0 rows)) refl)) in (
+    subst (λ (o : Option ℤ). Led (first_time rows) o l.verdicts (Some (pos (last_time 0 rows)))) (sym front)
+    (l.led (by_end (answered_by (first_time rows) p (last_time 0 rows)) refl)) in (
       c.verdicts ++ l.verdicts,
       record {
         cover = record {
-          tiles = as_tiles (c.verdicts ++ l.verdicts) (led_append (first_time rows) None (Front p rows) (Some (pos (last_time 0 rows))) c.verdicts l.verdicts c.led led);
+          tiles = as_tiles (c.verdicts ++ l.verdicts)
+              (led_append (first_time rows) None (Front p rows) (Some (pos (last_time 0 rows))) c.verdicts l.verdicts c.led led);
           told = told_append p tr c.verdicts l.verdicts c.told (l.told tr (λ f e t a b. (λ x. x, λ x. x)));
         };
         body = during ++ rest;
@@ -401,7 +428,8 @@ covered p header rows text (are, (during, rest, line, t, at_end, first, is)) =
     by_end (Some f) e = let i = (answered_is (first_time rows) p (last_time 0 rows) f e).is in omega (arith, ints)
 
     as_tiles : (vs : List Verdict) → Led (first_time rows) None vs (Some (pos (last_time 0 rows)))
-        → AreTiles (begins (closed (whole (pos (first_time rows))) (whole (pos (last_time 0 rows))))) vs (ends (closed (whole (pos (first_time rows))) (whole (pos (last_time 0 rows)))))
+        → AreTiles (begins (closed (whole (pos (first_time rows))) (whole (pos (last_time 0 rows))))) vs
+        (ends (closed (whole (pos (first_time rows))) (whole (pos (last_time 0 rows)))))
     as_tiles vs h = h
 
 -- ---- what `check` tells
@@ -418,7 +446,8 @@ one_truth P false true x y = absurd (x y)
 one_truth P false false x y = refl
 
 tell_alike : (p : Subformula) (tr : Trace) (vs ws : List Verdict) → AreTold p tr vs → AreTold p tr ws → TellAlike vs ws
-tell_alike p tr vs ws a b i j v w t e f x y = one_truth (Truth p tr t) v.holds w.holds ((told_at p tr vs i v a e).truth t x) ((told_at p tr ws j w b f).truth t y)
+tell_alike p tr vs ws a b i j v w t e f x y =
+    one_truth (Truth p tr t) v.holds w.holds ((told_at p tr vs i v a e).truth t x) ((told_at p tr ws j w b f).truth t y)
 
 -- the law of what is written in the end
 pub watch_text : (f : Formula) (bytes : List ℕ) (status : ℕ) (text : List ℕ) → IsAnsweredByRow verdicts f bytes status text → IsWatchText f bytes text

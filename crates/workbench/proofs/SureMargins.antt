@@ -1,5 +1,6 @@
 -- The lines of a stream of margins are the robustness in each trace that goes on from the rows, and in the end they cover the trace.
-use Rattle.std.proofs.Common.{◌≡◌, ◌≢◌, ◌⊎◌, inl, inr, refl, sym, ap, subst, ◌∙◌, ℕ, zero, suc, Bool, true, false, Option, Some, None, List, [], ◌∷◌, ◌++◌, length, ℤ, pos, ◌≤ℤ◌, arith, append_assoc, append-nil}
+use Rattle.std.proofs.Common.{◌≡◌, ◌≢◌, ◌⊎◌, inl, inr, refl, sym, ap, subst, ◌∙◌, ℕ, zero, suc, Bool, true, false, Option}
+use Rattle.std.proofs.Common.{Some, None, List, [], ◌∷◌, ◌++◌, length, ℤ, pos, ◌≤ℤ◌, arith, append_assoc, append-nil}
 use Rattle.std.specs.Prelude.{MatchBool, int_lt, slice_get}
 use Rattle.std.proofs.lemmas.Bool.{false≢true}
 use Rattle.std.proofs.lemmas.Int.{ints}
@@ -24,9 +25,11 @@ use Rattle.online_nodes.proofs.RunLaw.{int_order}
 use Rattle.report.specs.Report.{nodes_for}
 use Rattle.workbench.specs.Requests.{margins}
 use Rattle.workbench.specs.Settled.{IsAnsweredByRow}
-use Rattle.workbench.specs.SureMargins.{ArePartLines, IsTruePart, AreTrueParts, AreSureMargins, AreSureMarginsByRow, AreSureMarginsToEnd, AreInTurn, CoverParts, IsMarginCover, ReadsPart, IsMarginText}
+use Rattle.workbench.specs.SureMargins.{ArePartLines, IsTruePart, AreTrueParts, AreSureMargins, AreSureMarginsByRow}
+use Rattle.workbench.specs.SureMargins.{AreSureMarginsToEnd, AreInTurn, CoverParts, IsMarginCover, ReadsPart, IsMarginText}
 use Rattle.workbench.proofs.MarginTruth.{one_inside, reads}
-use Rattle.workbench.proofs.SureLines.{AnsweredBy, Front, Low, NeverBelow, after_last, answered_is, first_stays, front_is, front_of_all, front_rises, low_front, low_later, row_answered}
+use Rattle.workbench.proofs.SureLines.{AnsweredBy, Front, Low, NeverBelow, after_last, answered_is, first_stays}
+use Rattle.workbench.proofs.SureLines.{front_is, front_of_all, front_rises, low_front, low_later, row_answered}
 
 -- ---- the parts of knots
 
@@ -39,7 +42,8 @@ module _ (p : Subformula) (tr : Trace) (to : Rational) where
   before_end j before [] h = le_of_same h
   before_end j before (after ∷ pieces) h = le_trans (le_of_lt h.1.0) (before_end before.next after pieces h.3)
 
-  pieces_join : (j : Knot) (before : Piece) (pieces : List Piece) → PiecesGoOn p tr to j before pieces → AreInTurn before.next.time to (parts_after before.next.time pieces)
+  pieces_join : (j : Knot) (before : Piece) (pieces : List Piece) → PiecesGoOn p tr to j before pieces
+      → AreInTurn before.next.time to (parts_after before.next.time pieces)
   pieces_join j before [] h = h
   pieces_join j before (after ∷ pieces) h = (same_refl before.next.time, same_refl after.next.time, pieces_join before.next after pieces h.3)
 
@@ -80,7 +84,8 @@ module _ (p : Subformula) (tr : Trace) (to : Rational) where
         let here = le_trans b (le_of_lt h.0.0) in
         (piece_told k q b end h.0, (agree q.next.time here end q.next.value h.1, pieces_told k q pieces here h.2))
 
-    closed_told : (first : Knot) (pieces : List Piece) → first.time ≈ from → IsRobust p tr first → ((pieces ≡ []) × (from ≈ to)) ⊎ TellsAfter p tr to first pieces
+    closed_told : (first : Knot) (pieces : List Piece) → first.time ≈ from → IsRobust p tr first
+        → ((pieces ≡ []) × (from ≈ to)) ⊎ TellsAfter p tr to first pieces
         → AreTrueParts p tr' (point first.time first.value ∷ parts_after first.time pieces)
     closed_told first [] e is (inl (none, same)) = (agree first.time (ge_of_same e) (le_of_same (same_trans e same)) first.value is, tt)
     closed_told first [] e is (inr tells) = absurd tells
@@ -91,7 +96,8 @@ module _ (p : Subformula) (tr : Trace) (to : Rational) where
     )
 
 -- the lines of pieces and of knots are those of their parts
-piece_lines : (scale : Scale) (k : Knot) (pieces : List Piece) (text : List ℕ) → ArePieceLines scale k pieces text → ArePartLines scale (parts_after k.time pieces) text
+piece_lines : (scale : Scale) (k : Knot) (pieces : List Piece) (text : List ℕ) → ArePieceLines scale k pieces text
+    → ArePartLines scale (parts_after k.time pieces) text
 piece_lines scale k [] text h = h
 piece_lines scale k (q ∷ pieces) text (piece, knot, later, h, g, rest, is) =
     (piece, knot ++ later, h, (knot, later, g, piece_lines scale q.next pieces later rest, refl), is ∙ append_assoc piece knot later)
@@ -166,7 +172,8 @@ new_lines p tr None (Some f) text low (knots, tells, lines) = record {
 new_lines p tr (Some o) (Some f) text low is = by_test (int_lt o f) refl is
   where
     by_test : (b : Bool) → int_lt o f ≡ b
-        → MatchBool b ((k : Knot) × (pieces : List Piece) × TellsLeftOpen p tr (whole o) (whole f) k pieces × ArePieceLines tr.header.scale k pieces text) (text ≡ [])
+        → MatchBool b ((k : Knot) × (pieces : List Piece) × TellsLeftOpen p tr (whole o) (whole f) k pieces
+        × ArePieceLines tr.header.scale k pieces text) (text ≡ [])
         → Lines p tr (first_time tr.rows) (Some o) (Some f) text
     by_test true e (k, pieces, tells, lines) = record {
       parts = parts_after k.time pieces;
@@ -199,7 +206,8 @@ row_sure p header rows r old text l = record {
 
 -- row by row
 sure_by_row : (p : Subformula) (header : Header) (rows : List Row) (old : Option ℤ) (more : List Row) (text : List ℕ)
-    → ((r : Row) → Low (first_time (rows ++ r ∷ [])) old) → IsRowsText (IsNewMargins p) p header rows old more text → AreSureMarginsByRow p header rows more text
+    → ((r : Row) → Low (first_time (rows ++ r ∷ [])) old) → IsRowsText (IsNewMargins p) p header rows old more text
+    → AreSureMarginsByRow p header rows more text
 sure_by_row p header rows old [] text low t = t
 sure_by_row p header rows old (r ∷ more) text low (here, later, new, rest, is) = (
   here,
@@ -228,7 +236,8 @@ same_trace p header rows tr t v c h =
     subst (λ (q : Trace). Robustness p q t v) is h
 
 rest_lines : (p : Subformula) (header : Header) (rows : List Row) (rest : List ℕ) → IsRestText (IsNewMargins p) p (record { header = header; rows = rows }) rest
-    → Lines p (record { header = header; rows = rows }) (first_time rows) (answered_by (first_time rows) p (last_time 0 rows)) (Some (pos (last_time 0 rows))) rest
+    → Lines p (record { header = header; rows = rows }) (first_time rows) (answered_by (first_time rows) p (last_time 0 rows))
+    (Some (pos (last_time 0 rows))) rest
 rest_lines p header rows rest t =
     new_lines p (record { header = header; rows = rows }) (answered_by (first_time rows) p (last_time 0 rows)) (Some (pos (last_time 0 rows))) rest
     (low_front (first_time rows) p (last_time 0 rows) _ refl) t
@@ -269,7 +278,8 @@ led_append first None (Some m) (Some f) xs ys a b = cover_append (whole (pos fir
 led_append first (Some o) (Some m) (Some f) xs ys a b = turn_append (whole o) (whole m) (whole f) xs ys a b
 
 module _ (p : Subformula) (header : Header) (tr : Trace) (ok : IsTrace tr) (first : ℕ) (starts : first ≡ first_time tr.rows) where
-  course : (rows : List Row) (old : Option ℤ) (more : List Row) (text : List ℕ) → tr.header ≡ header → tr.rows ≡ rows ++ more → AreRows (length header.columns) (rows ++ more)
+  course : (rows : List Row) (old : Option ℤ) (more : List Row) (text : List ℕ) → tr.header ≡ header → tr.rows ≡ rows ++ more
+      → AreRows (length header.columns) (rows ++ more)
       → old ≡ Front p rows → IsRowsText (IsNewMargins p) p header rows old more text → Course p header first old (Front p (rows ++ more)) tr text
   course rows old [] text same is are e t =
       let end : Front p (rows ++ []) ≡ old = ap (Front p) (append-nil rows) ∙ sym e in
@@ -285,7 +295,8 @@ module _ (p : Subformula) (header : Header) (tr : Trace) (ok : IsTrace tr) (firs
       let led : Led (first_time (rows ++ r ∷ [])) old l.parts (answered_by (first_time (rows ++ r ∷ [])) p r.time) = l.led (rises rows e begin are) in
       subst (λ rs. Course p header first old (Front p rs) tr text) (sym at) (record {
         parts = l.parts ++ c.parts;
-        lines = subst (λ t. ArePartLines header.scale (l.parts ++ c.parts) t) (sym parts) (lines_append header.scale l.parts c.parts here later l.lines c.lines);
+        lines = subst (λ t. ArePartLines header.scale (l.parts ++ c.parts) t) (sym parts)
+            (lines_append header.scale l.parts c.parts here later l.lines c.lines);
         told = told_append p tr l.parts c.parts
             (l.told tr (λ f k. row_agrees p header rows r tr f ok goes (answered_is (first_time (rows ++ r ∷ [])) p r.time f k))) c.told;
         led = led_append first old (answered_by (first_time (rows ++ r ∷ [])) p r.time) (Front p ((rows ++ r ∷ []) ++ more)) l.parts c.parts

@@ -48,7 +48,13 @@ unfolding digits
 atom_printed = (codes "-1.5", (codes "1.5", one_and_a_half, refl), refl)
 
 formula_printed : IsPrinted tenths (eventually 5 20 false true (atom 0 bound_atom)) (codes "eventually]0.5,2] x - 3*y >= -1.5")
-formula_printed = (codes "eventually]0.5,2]", codes "x - 3*y >= -1.5", (codes "]0.5,2]", (codes "0.5", codes "2", half, two, refl), refl), (codes "x - 3*y >= -1.5", atom_printed, refl), refl)
+formula_printed = (
+  codes "eventually]0.5,2]",
+  codes "x - 3*y >= -1.5",
+  (codes "]0.5,2]", (codes "0.5", codes "2", half, two, refl), refl),
+  (codes "x - 3*y >= -1.5", atom_printed, refl),
+  refl,
+)
 
 -- a past bound [0,inf] is left out
 past_printed : IsPrinted tenths (once 0 None true true (atom 0 bound_atom)) (codes "once x - 3*y >= -1.5")
@@ -73,7 +79,10 @@ wide_line = refl
 
 -- x >= 1073741824 has no form in tenths, and neither has a bound of 4294967295
 abbrev large : Formula
-large = record { nodes = Leaf (record { terms = record { coef = pos 1; name = codes "x" } ∷ []; rel = AtLeast; limit = pos 1073741824 }) ∷ []; scale = no_digits }
+large = record {
+  nodes = Leaf (record { terms = record { coef = pos 1; name = codes "x" } ∷ []; rel = AtLeast; limit = pos 1073741824 }) ∷ [];
+  scale = no_digits;
+}
 
 constant_out : IsUnitFault large (record { time = 0; value = 1 }) (unit.Constant 0)
 constant_out = inl (0, record { node = _; at = refl; is = lit< tt; none_before = λ j n l e. absurd (omega arith) }, refl)
@@ -111,7 +120,10 @@ robust_words = of_formula robust
 tagged : IsTagged (codes "a 0,0") (record { tag = codes "a"; content = codes "0,0" })
 tagged = followed (codes "0,0") (tag refl (lit≤ tt))
 
-own_bytes : own (record { tag = codes "a"; content = codes "time" } ∷ record { tag = codes "b"; content = codes "x" } ∷ record { tag = codes "a"; content = codes "?" }
+own_bytes : own (record { tag = codes "a"; content = codes "time" } ∷ record {
+  tag = codes "b";
+  content = codes "x";
+} ∷ record { tag = codes "a"; content = codes "?" }
     ∷ record { tag = codes "a"; content = codes "." } ∷ record { tag = codes "a"; content = codes "y" } ∷ []) (codes "a") ≡ codes "time" ++ newline
 own_bytes = refl
 

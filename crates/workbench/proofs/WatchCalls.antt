@@ -17,7 +17,9 @@ use Rattle.workbench.specs.Wholes.{status_of_truth}
 use Rattle.workbench.specs.Pushing.{IsPushed, IsStreamEnd}
 use Rattle.trace_stream.specs.Following.{IsTextOf, IsLive, IsAtRest, IsOver, IsDone, IsLiveStop}
 use Rattle.workbench.specs.Telling.{IsToldAs, no_room, told_whole, told_in_part}
-use Rattle.workbench.specs.Watches.{Watched, Past, with_piece, with_text, IsText, WatchesRows, WatchesEnd, StandsFor, StandsForAll, HasPushed, HasFinished, HasFault, IsWatchFault, IsCall, IsFaultOf, phase_after}
+use Rattle.workbench.specs.Watches.{Watched, Past, with_piece, with_text, IsText, WatchesRows, WatchesEnd, StandsFor}
+use Rattle.workbench.specs.Watches.{StandsForAll, HasPushed, HasFinished, HasFault, IsWatchFault, IsCall, IsFaultOf}
+use Rattle.workbench.specs.Watches.{phase_after}
 use Rattle.trace_stream.specs.declared.fault.TraceFault.TheVariants.{Trace as InTrace, Unknown, Unit as InTicks}
 use Rattle.trace_stream.specs.declared.fault.StreamStop.{StreamStop}
 use Rattle.trace_stream.specs.declared.fault.StreamStop.TheVariants as stream_stop
@@ -36,7 +38,8 @@ use Rattle.workbench.proofs.AtRest.{at_rest}
 -- ---- faults
 
 -- want of memory is no fault of the ticks
-unit_is : (limits : Limits) (f : Formula) (bytes : List ℕ) (ended : Bool) (line : ℕ) (x : Fault) → x ≡ unit line unit_fault.Memory → ¬ IsInputFault limits f bytes ended x
+unit_is : (limits : Limits) (f : Formula) (bytes : List ℕ) (ended : Bool) (line : ℕ) (x : Fault) → x ≡ unit line unit_fault.Memory
+    → ¬ IsInputFault limits f bytes ended x
 unit_is limits f bytes ended line x e (inl (n, h, at, inl (atom, term, name, is, same), clean)) = let k = sym e ∙ same in cc
 unit_is limits f bytes ended line x e (inl (n, h, at, inr (none, (u, inl (i, first, is), same)), clean)) =
     let k : unit line unit_fault.Memory ≡ unit n u = sym e ∙ same in
@@ -78,7 +81,8 @@ same_fault : (p : Past) (ended : Bool) (x y : Fault) → x ≡ y → HasFault p 
 same_fault p ended x y e h = subst (λ (z : Fault). HasFault p ended z) e h
 
 -- which says what it is
-pub is_watch_fault : (p : Past) (ended : Bool) (grown : List ℕ) (stop : Stop) (w : WatchFault) → IsStoppedBy p ended grown stop → IsFaultOf stop w → IsWatchFault p ended grown w
+pub is_watch_fault : (p : Past) (ended : Bool) (grown : List ℕ) (stop : Stop) (w : WatchFault) → IsStoppedBy p ended grown stop
+    → IsFaultOf stop w → IsWatchFault p ended grown w
 is_watch_fault p ended grown (Faulty (InTrace r)) w (x, is, h) e =
     subst (λ (v : WatchFault). IsWatchFault p ended grown v) (sym e) (same_fault p ended x (of_trace r) is h)
 is_watch_fault p ended grown (Faulty (Unknown line atom term)) w (x, (name, named, is), h) e =
@@ -124,7 +128,8 @@ module _ {T : Type 0} (held held_after : Option (List ℕ)) (p : Past) (ended : 
 
   -- by what came of the bytes
   pub told_call : (outcome : Result T StreamStop) (result : Result T Stop) → IsToldAs held held_after made outcome result
-      → MatchResult outcome (λ x. Good x × Made) (λ e. IsLiveStop verdicts p.limits p.formula ended p.bytes (p.text ++ made) e) → IsTold held held_after p ended made Good result
+      → MatchResult outcome (λ x. Good x × Made) (λ e. IsLiveStop verdicts p.limits p.formula ended p.bytes (p.text ++ made) e)
+      → IsTold held held_after p ended made Good result
   told_call outcome result (no_room kept) h = ([], kept, refl)
   told_call (Ok x) result (told_whole ne wrote) h = (wrote, h.0)
   told_call (Err stop) result (told_whole ne wrote) h = (made, wrote, stopped_by stop (λ e. ne (ap Err e)) h)
@@ -133,30 +138,35 @@ module _ {T : Type 0} (held held_after : Option (List ℕ)) (p : Past) (ended : 
       (part.front, part.wrote, (part.back, part.missing, in_part part.front part.back part.parts (fault_made stop (λ e. ne (ap Err e)) h)))
 
 -- a call that stopped
-pub call_stopped : (held held_after : Option (List ℕ)) (p : Past) (ended : Bool) (made : List ℕ) (T : Type 0) (Good : T → Type 0) (Fine : T → Past → Type 0) (stop : Stop) (w : WatchFault)
+pub call_stopped : (held held_after : Option (List ℕ)) (p : Past) (ended : Bool) (made : List ℕ) (T : Type 0) (Good : T → Type 0)
+    (Fine : T → Past → Type 0) (stop : Stop) (w : WatchFault)
     → IsTold held held_after p ended made Good (Err stop) → IsFaultOf stop w → IsCall held held_after p ended Fine (Err w)
 call_stopped held held_after p ended made T Good Fine stop w (grown, wrote, s) e = (grown, wrote, is_watch_fault (with_text p grown) ended grown stop w s e)
 
+-- a call that stopped did so for a fault of its kind
 pub fault_there : (held held_after : Option (List ℕ)) (p : Past) (ended : Bool) (made : List ℕ) (T : Type 0) (Good : T → Type 0) (stop : Stop)
     → IsTold held held_after p ended made Good (Err stop) → (x : WatchFault) × IsFaultOf stop x
 fault_there held held_after p ended made T Good stop (grown, wrote, s) = has_fault (with_text p grown) ended grown stop s
 
 -- ---- a piece
 
-module _ (old mid : Live Verdicts) (p : Past) (piece : List ℕ) (phase : Phase) (s : StandsFor p (record { live = old; phase = phase })) (formula : mid.formula ≡ old.formula) (limits : mid.rows.limits ≡ old.rows.limits) where
+module _ (old mid : Live Verdicts) (p : Past) (piece : List ℕ) (phase : Phase) (s : StandsFor p (record { live = old; phase = phase }))
+    (formula : mid.formula ≡ old.formula) (limits : mid.rows.limits ≡ old.rows.limits) where
   -- what the reader took of it
   abbrev pub Took : Unit {0} → Type 0
   Took x = IsLive WatchesRows verdicts mid (p.bytes ++ piece) p.text
 
   -- the reader's outcome, as one of the past
   pub piece_fed : (fed : Result (Unit {0}) StreamStop)
-      → MatchResult fed (λ _. IsLive WatchesRows verdicts mid (p.bytes ++ piece) p.text) (λ e. IsLiveStop verdicts old.rows.limits old.formula false (p.bytes ++ piece) (p.text ++ mid.text) e)
+      → MatchResult fed (λ _. IsLive WatchesRows verdicts mid (p.bytes ++ piece) p.text)
+      (λ e. IsLiveStop verdicts old.rows.limits old.formula false (p.bytes ++ piece) (p.text ++ mid.text) e)
       → MatchResult fed (λ x. Took x × IsTextOf verdicts p.limits p.formula (p.bytes ++ piece) false (p.text ++ mid.text))
       (λ e. IsLiveStop verdicts p.limits p.formula false (p.bytes ++ piece) (p.text ++ mid.text) e)
   piece_fed (Ok x) h = (
     h,
     subst (λ (l : Limits). IsTextOf verdicts l p.formula (p.bytes ++ piece) false (p.text ++ mid.text)) (limits ∙ s.limits)
-        (subst (λ (f : Formula). IsTextOf verdicts mid.rows.limits f (p.bytes ++ piece) false (p.text ++ mid.text)) (formula ∙ s.formula) (told_now WatchesRows verdicts mid (p.bytes ++ piece) p.text h)),
+        (subst (λ (f : Formula). IsTextOf verdicts mid.rows.limits f (p.bytes ++ piece) false (p.text ++ mid.text))
+        (formula ∙ s.formula) (told_now WatchesRows verdicts mid (p.bytes ++ piece) p.text h)),
   )
   piece_fed (Err e) h = subst (λ (l : Limits). IsLiveStop verdicts l p.formula false (p.bytes ++ piece) (p.text ++ mid.text) e) s.limits
       (subst (λ (f : Formula). IsLiveStop verdicts old.rows.limits f false (p.bytes ++ piece) (p.text ++ mid.text) e) s.formula h)
@@ -164,23 +174,28 @@ module _ (old mid : Live Verdicts) (p : Past) (piece : List ℕ) (phase : Phase)
   -- what a watch is after it
   pub has_pushed : (new : Live Verdicts) → new ≡ record mid { text = [] } → phase ≡ Reading → IsLive WatchesRows verdicts mid (p.bytes ++ piece) p.text
       → HasPushed (with_text (with_piece p piece) mid.text) (record { live = new; phase = phase })
-  has_pushed new e reading k = subst (λ (l : Live Verdicts). HasPushed (with_text (with_piece p piece) mid.text) (record { live = l; phase = phase })) (sym e) (record {
-    stands = record {
-      phase = reading;
-      formula = formula ∙ s.formula;
-      limits = limits ∙ s.limits;
-      empty = refl;
-      live = live_after WatchesRows verdicts mid (p.bytes ++ piece) p.text k;
-    };
-    told = (piece_fed (Ok tt) k).1;
-    sound = λ x. subst (λ (l : Limits). ¬ IsInputFault l p.formula (p.bytes ++ piece) false x) (limits ∙ s.limits)
-        (subst (λ (f : Formula). ¬ IsInputFault mid.rows.limits f (p.bytes ++ piece) false x) (formula ∙ s.formula) (calm_now WatchesRows verdicts mid (p.bytes ++ piece) p.text k x));
-  })
+  has_pushed new e reading k =
+      subst (λ (l : Live Verdicts). HasPushed (with_text (with_piece p piece) mid.text) (record { live = l; phase = phase })) (sym e) (record {
+        stands = record {
+          phase = reading;
+          formula = formula ∙ s.formula;
+          limits = limits ∙ s.limits;
+          empty = refl;
+          live = live_after WatchesRows verdicts mid (p.bytes ++ piece) p.text k;
+        };
+        told = (piece_fed (Ok tt) k).1;
+        sound = λ x. subst (λ (l : Limits). ¬ IsInputFault l p.formula (p.bytes ++ piece) false x) (limits ∙ s.limits)
+            (subst (λ (f : Formula). ¬ IsInputFault mid.rows.limits f (p.bytes ++ piece) false x) (formula ∙ s.formula)
+            (calm_now WatchesRows verdicts mid (p.bytes ++ piece) p.text k x));
+      })
 
 -- what came of a piece, once it was told
-pub push_told : (held held_after : Option (List ℕ)) (old mid : Live Verdicts) (p : Past) (piece : List ℕ) (phase : Phase) (s : StandsFor p (record { live = old; phase = phase }))
-    (formula : mid.formula ≡ old.formula) (limits : mid.rows.limits ≡ old.rows.limits) (fed : Result (Unit {0}) StreamStop) (result : Result (Unit {0}) Stop) → IsToldAs held held_after mid.text fed result
-    → MatchResult fed (λ _. IsLive WatchesRows verdicts mid (p.bytes ++ piece) p.text) (λ e. IsLiveStop verdicts old.rows.limits old.formula false (p.bytes ++ piece) (p.text ++ mid.text) e)
+pub push_told : (held held_after : Option (List ℕ)) (old mid : Live Verdicts) (p : Past) (piece : List ℕ) (phase : Phase)
+    (s : StandsFor p (record { live = old; phase = phase }))
+    (formula : mid.formula ≡ old.formula) (limits : mid.rows.limits ≡ old.rows.limits) (fed : Result (Unit {0}) StreamStop)
+    (result : Result (Unit {0}) Stop) → IsToldAs held held_after mid.text fed result
+    → MatchResult fed (λ _. IsLive WatchesRows verdicts mid (p.bytes ++ piece) p.text)
+    (λ e. IsLiveStop verdicts old.rows.limits old.formula false (p.bytes ++ piece) (p.text ++ mid.text) e)
     → IsTold held held_after (with_piece p piece) false mid.text (λ _. IsLive WatchesRows verdicts mid (p.bytes ++ piece) p.text) result
 push_told held held_after old mid p piece phase s formula limits fed result told taken =
     told_call held held_after (with_piece p piece) false mid.text (λ _. IsLive WatchesRows verdicts mid (p.bytes ++ piece) p.text) fed result told
@@ -194,17 +209,21 @@ truth_of true f tr (inr (e, h)) = absurd (let k = e in cc)
 truth_of false f tr (inl (e, h)) = absurd (let k = e in cc)
 truth_of false f tr (inr (e, h)) = h
 
-module _ (old mid : Live Verdicts) (p : Past) (phase : Phase) (s : StandsFor p (record { live = old; phase = phase })) (formula : mid.formula ≡ old.formula) where
+module _ (old mid : Live Verdicts) (p : Past) (phase : Phase) (s : StandsFor p (record { live = old; phase = phase }))
+    (formula : mid.formula ≡ old.formula) where
   -- what the reader's end left
   abbrev pub Over : Bool → Type 0
   Over holds = IsOver WatchesEnd verdicts p.limits p.formula mid p.bytes (p.text ++ mid.text) holds
 
+  -- a reader that has come to its end is that of a watch that has
   pub end_over : (holds : Bool) → IsOver WatchesEnd verdicts old.rows.limits old.formula mid p.bytes (p.text ++ mid.text) holds → Over holds
   end_over holds k = subst (λ (l : Limits). IsOver WatchesEnd verdicts l p.formula mid p.bytes (p.text ++ mid.text) holds) s.limits
       (subst (λ (f : Formula). IsOver WatchesEnd verdicts old.rows.limits f mid p.bytes (p.text ++ mid.text) holds) s.formula k)
 
+  -- the end of the bytes ends the watch, with its verdict or for a reason
   pub end_fed : (finished : Result Bool StreamStop)
-      → MatchResult finished (IsOver WatchesEnd verdicts old.rows.limits old.formula mid p.bytes (p.text ++ mid.text)) (λ e. IsLiveStop verdicts old.rows.limits old.formula true p.bytes (p.text ++ mid.text) e)
+      → MatchResult finished (IsOver WatchesEnd verdicts old.rows.limits old.formula mid p.bytes (p.text ++ mid.text))
+      (λ e. IsLiveStop verdicts old.rows.limits old.formula true p.bytes (p.text ++ mid.text) e)
       → MatchResult finished (λ holds. Over holds × IsTextOf verdicts p.limits p.formula p.bytes true (p.text ++ mid.text))
       (λ e. IsLiveStop verdicts p.limits p.formula true p.bytes (p.text ++ mid.text) e)
   end_fed (Ok holds) h = let k = end_over holds h in (k, told_over WatchesEnd verdicts p.limits p.formula mid p.bytes (p.text ++ mid.text) holds k)
@@ -214,18 +233,26 @@ module _ (old mid : Live Verdicts) (p : Past) (phase : Phase) (s : StandsFor p (
   -- what a watch is after it
   pub has_finished : (new : Live Verdicts) (next : Phase) (holds : Bool) → new ≡ record mid { text = [] } → next ≡ Ended → Over holds
       → HasFinished (with_text p mid.text) holds (record { live = new; phase = next })
-  has_finished new next holds e over k = subst (λ (l : Live Verdicts). HasFinished (with_text p mid.text) holds (record { live = l; phase = next })) (sym e) (record {
-    stands = record { phase = over; formula = formula ∙ s.formula; over = over_after WatchesEnd verdicts p.limits p.formula mid p.bytes (p.text ++ mid.text) holds k };
-    tr = k.case.trace;
-    trace = k.trace;
-    written = subst (λ (g : Formula). IsStreamText (root g.nodes) k.case.trace.header k.case.trace.rows true (p.text ++ mid.text)) k.fits.formula k.complete.told;
-    truth = truth_of holds p.formula k.case.trace (k.complete.verdict p.formula k.fits);
-  })
+  has_finished new next holds e over k =
+      subst (λ (l : Live Verdicts). HasFinished (with_text p mid.text) holds (record { live = l; phase = next })) (sym e) (record {
+        stands = record {
+          phase = over;
+          formula = formula ∙ s.formula;
+          over = over_after WatchesEnd verdicts p.limits p.formula mid p.bytes (p.text ++ mid.text) holds k;
+        };
+        tr = k.case.trace;
+        trace = k.trace;
+        written = subst (λ (g : Formula). IsStreamText (root g.nodes) k.case.trace.header k.case.trace.rows true (p.text ++ mid.text))
+            k.fits.formula k.complete.told;
+        truth = truth_of holds p.formula k.case.trace (k.complete.verdict p.formula k.fits);
+      })
 
 -- what came of the end, once it was told
-pub end_told : (held held_after : Option (List ℕ)) (old mid : Live Verdicts) (p : Past) (phase : Phase) (s : StandsFor p (record { live = old; phase = phase })) (formula : mid.formula ≡ old.formula)
+pub end_told : (held held_after : Option (List ℕ)) (old mid : Live Verdicts) (p : Past) (phase : Phase)
+    (s : StandsFor p (record { live = old; phase = phase })) (formula : mid.formula ≡ old.formula)
     (finished : Result Bool StreamStop) (result : Result Bool Stop) → IsToldAs held held_after mid.text finished result
-    → MatchResult finished (IsOver WatchesEnd verdicts old.rows.limits old.formula mid p.bytes (p.text ++ mid.text)) (λ e. IsLiveStop verdicts old.rows.limits old.formula true p.bytes (p.text ++ mid.text) e)
+    → MatchResult finished (IsOver WatchesEnd verdicts old.rows.limits old.formula mid p.bytes (p.text ++ mid.text))
+    (λ e. IsLiveStop verdicts old.rows.limits old.formula true p.bytes (p.text ++ mid.text) e)
     → IsTold held held_after p true mid.text (IsOver WatchesEnd verdicts p.limits p.formula mid p.bytes (p.text ++ mid.text)) result
 end_told held held_after old mid p phase s formula finished result told over =
     told_call held held_after p true mid.text (IsOver WatchesEnd verdicts p.limits p.formula mid p.bytes (p.text ++ mid.text)) finished result told
@@ -241,15 +268,18 @@ fresh w s = at_rest WatchesRows verdicts w.live [] [] (record { live_for = s.liv
 one_formula : (f g : Formula) → stream verdicts f ≡ stream verdicts g → f ≡ g
 one_formula f g e = cc
 
-all_done : (f : Formula) (live : Live Verdicts) (phase : Phase) (bytes text : List ℕ) → live.formula ≡ f → phase ≡ Ended → IsDone WatchesEnd verdicts live bytes text
+all_done : (f : Formula) (live : Live Verdicts) (phase : Phase) (bytes text : List ℕ) → live.formula ≡ f → phase ≡ Ended
+    → IsDone WatchesEnd verdicts live bytes text
     → (holds : Bool) × StandsForAll (record { formula = f; limits = stream_limits; bytes = bytes; text = text }) holds (record { live = live; phase = phase })
 all_done f live phase bytes text e over (holds, k) =
     (holds, record { phase = over; formula = e; over = subst (λ (g : Formula). IsOver WatchesEnd verdicts stream_limits g live bytes text holds) e k })
 
 -- after its end the watch stands for all bytes
-pub drained_all : (f : Formula) (live : Live Verdicts) (phase : Phase) (i : Drained) (o : Filled) (r : Result Bool Stop) → live.formula ≡ f → phase ≡ phase_after r
+pub drained_all : (f : Formula) (live : Live Verdicts) (phase : Phase) (i : Drained) (o : Filled) (r : Result Bool Stop)
+    → live.formula ≡ f → phase ≡ phase_after r
     → IsStreamEnd (IsDone WatchesEnd verdicts live) (stream verdicts f) i o r
-    → IsStreamEnd (λ bytes text. (holds : Bool) × StandsForAll (record { formula = f; limits = stream_limits; bytes = bytes; text = text }) holds (record { live = live; phase = phase })) (stream verdicts f) i o r
+    → IsStreamEnd (λ bytes text. (holds : Bool) × StandsForAll (record { formula = f; limits = stream_limits; bytes = bytes; text = text })
+    holds (record { live = live; phase = phase })) (stream verdicts f) i o r
 drained_all f live phase i o r e over x = record {
   bytes = x.bytes;
   text = x.text;
@@ -263,7 +293,8 @@ drained_all f live phase i o r e over x = record {
 }
   where
     by_result : (r : Result Bool Stop) → phase ≡ phase_after r → OnOk r (IsDone WatchesEnd verdicts live x.bytes x.text)
-        → OnOk r ((holds : Bool) × StandsForAll (record { formula = f; limits = stream_limits; bytes = x.bytes; text = x.text }) holds (record { live = live; phase = phase }))
+        → OnOk r ((holds : Bool) × StandsForAll (record { formula = f; limits = stream_limits; bytes = x.bytes; text = x.text }) holds
+        (record { live = live; phase = phase }))
     by_result (Ok holds) over k = all_done f live phase x.bytes x.text e over k
     by_result (Err stop) over k = tt
 

@@ -103,7 +103,8 @@ pub data IsErrLine (words : List (List ℕ)) (left left_after : Option (List ℕ
   no_form : IsErrLine words left left_after ended 2 usage_line
   bad_text : {line : List ℕ} → AskForBad words line → IsErrLine words left left_after ended 3 line
   first_fault : {line : List ℕ}
-      → ((f : Formula) (bytes : List ℕ) → AskFor words f → Took left left_after bytes → (x : Fault) × IsInputFault whole_limits f bytes ended x × (line ≡ fault_text x))
+      → ((f : Formula) (bytes : List ℕ) → AskFor words f → Took left left_after bytes
+      → (x : Fault) × IsInputFault whole_limits f bytes ended x × (line ≡ fault_text x))
       → IsErrLine words left left_after ended 4 line
   unread : IsErrLine words left left_after ended 5 read_fault
   unwritten : IsErrLine words left left_after ended 6 write_fault

@@ -44,7 +44,8 @@ IsPushStop request bytes ended text (TooMany count) = ⊥
 -- what a piece came to: the text grew, and all is well or it stopped
 abbrev pub IsPush : {T : Type 0} → Request → Option (List ℕ) → Option (List ℕ) → List ℕ → Bool → List ℕ → (T → List ℕ → Type 0) → Result T Stop → Type 0
 IsPush request held held_after bytes ended text Fine (Ok x) = (grown : List ℕ) × Appends held held_after grown × Fine x (text ++ grown)
-IsPush request held held_after bytes ended text Fine (Err stop) = (grown : List ℕ) × Appends held held_after grown × IsPushStop request bytes ended (text ++ grown) stop
+IsPush request held held_after bytes ended text Fine (Err stop) =
+    (grown : List ℕ) × Appends held held_after grown × IsPushStop request bytes ended (text ++ grown) stop
 
 -- all bytes were answered, and what pushed them stands for them and their end
 abbrev pub IsFinished : (List ℕ → List ℕ → Type 0) → Request → List ℕ → Bool → List ℕ → Type 0

@@ -54,7 +54,8 @@ pub data HasEnded (words : List (List ℕ)) (i : Drained) (o : Filled) (bytes : 
       → IsEnd request i o bytes text status line → HasEnded words i o bytes text status line
   unknown : (¬ AreNone words) → bytes ≡ [] → HasEnded words i o bytes [] 7 out_of_memory
 
--- the run: these bytes were taken from the front of the input, this text was put at the end of the output, and this line on the error stream, or where that failed a part of it
+-- the run: these bytes were taken from the front of the input, this text was put at the end of the output, and this line on the
+-- error stream, or where that failed a part of it
 pub record IsRun (words : List (List ℕ)) (i : Drained) (o e : Filled) (status : ℕ) : Type 0 where
   pub bytes : List ℕ
   pub text : List ℕ

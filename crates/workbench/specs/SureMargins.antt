@@ -37,7 +37,8 @@ pub record AreSureMargins (p : Subformula) (header : Header) (rows : List Row) (
 abbrev pub AreSureMarginsByRow : Subformula → Header → List Row → List Row → List ℕ → Type 0
 AreSureMarginsByRow p header rows [] text = text ≡ []
 AreSureMarginsByRow p header rows (r ∷ more) text =
-    (here later : List ℕ) × AreSureMargins p header (rows ++ r ∷ []) false here × AreSureMarginsByRow p header (rows ++ r ∷ []) more later × (text ≡ here ++ later)
+    (here later : List ℕ) × AreSureMargins p header (rows ++ r ∷ []) false here
+    × AreSureMarginsByRow p header (rows ++ r ∷ []) more later × (text ≡ here ++ later)
 
 -- so with the lines at the end
 pub record AreSureMarginsToEnd (p : Subformula) (header : Header) (rows : List Row) (text : List ℕ) : Type 0 where
@@ -78,5 +79,6 @@ pub record IsMarginText (f : Formula) (bytes text : List ℕ) : Type 0 where
   pub trace : IsWhole stream_limits f bytes tr
   pub parts : List Part
   pub covers : IsMarginCover (root (nodes_for f tr)) tr parts text
-  pub alike : (knots : Knots) → DescribesMargins knots (root (nodes_for f tr)) tr → (i : ℕ) (x : Part) (t : Rational) (r v : Extended) → slice_get parts i ≡ Some x
+  pub alike : (knots : Knots) → DescribesMargins knots (root (nodes_for f tr)) tr
+      → (i : ℕ) (x : Part) (t : Rational) (r v : Extended) → slice_get parts i ≡ Some x
       → ReadsPart x t r → Reads knots t v → r ≈ᵉ v

@@ -11,5 +11,7 @@ use Rattle.workbench.specs.declared.fault.Stop.TheVariants.{Unwritten, NoMemory}
 -- what came of the bytes was told: the text that was made was written, unless memory was wanting, or the sink failed in it
 pub data IsToldAs {T : Type 0} (held held_after : Option (List ℕ)) (text : List ℕ) : Result T StreamStop → Result T Stop → Type 0 where
   no_room : Appends held held_after [] → IsToldAs held held_after text (Err stream.NoMemory) (Err NoMemory)
-  told_whole : {outcome : Result T StreamStop} → outcome ≢ Err stream.NoMemory → Appends held held_after text → IsToldAs held held_after text outcome (outcome_of outcome)
-  told_in_part : {outcome : Result T StreamStop} → outcome ≢ Err stream.NoMemory → IsPartWritten held held_after text → IsToldAs held held_after text outcome (Err Unwritten)
+  told_whole : {outcome : Result T StreamStop} → outcome ≢ Err stream.NoMemory → Appends held held_after text
+      → IsToldAs held held_after text outcome (outcome_of outcome)
+  told_in_part : {outcome : Result T StreamStop} → outcome ≢ Err stream.NoMemory → IsPartWritten held held_after text
+      → IsToldAs held held_after text outcome (Err Unwritten)

@@ -2,7 +2,8 @@
 ghost use Rattle.std.specs.Prelude.{◌≡◌, ◌≢◌, ◌⊎◌, ◌≤◌, ℕ, List, true};
 ghost use Rattle.std.specs.Io.KnownBytes.{IsAtEnd};
 ghost use Rattle.io_edge.specs.Calls.{Drained, Filled, HasFailed, HasRefused};
-ghost use Rattle.workbench.specs.Promises.{IsBadRightly, IsBadWhereDue, IsRefusedRightly, IsRefusedWhereDue, IsAnsweredWhereDue, IsAnsweredRightly, IsCutOffRightly, IsToldRightly};
+ghost use Rattle.workbench.specs.Promises.{IsBadRightly, IsBadWhereDue, IsRefusedRightly, IsRefusedWhereDue};
+ghost use Rattle.workbench.specs.Promises.{IsAnsweredWhereDue, IsAnsweredRightly, IsCutOffRightly, IsToldRightly};
 ghost use Rattle.stl_syntax.specs.Formula.{Formula};
 ghost use Rattle.report.specs.Report.{Command, robust, explain, json, table};
 ghost use Rattle.workbench.specs.Requests.{Request, Asks, AreHeld, AreNone, whole, has_input};
@@ -64,7 +65,8 @@ pub fn check_keeps_its_promises()
 {}
 
 /// What `robust` and `table` wrote with 0, and `json` with 0 or 1, has knots, with none to spare, that are the Sup-Inf value at each time
-/// of the trace, and tell the truth. The sign law: above 0 the formula holds at the time, and below 0 it fails. The margin law: for every number e of at least 0
+/// of the trace, and tell the truth. The sign law: above 0 the formula holds at the time, and below 0 it fails. The margin law:
+/// for every number e of at least 0
 /// and below the size of the value, the truth at the time is the same in each trace with the same columns, scale, start and end in
 /// which each atom's expression differs by at most e at each time.
 pub fn margins_tell_the_truth()
@@ -90,7 +92,8 @@ pub fn a_fault_is_told()
 /// Where the bytes that were read have no fault and no device failed, every command with input ends with an answer, with 8 or 9, or
 /// for want of memory.
 pub fn an_answer_is_due()
-    ensures { (request : Request) (i : Drained) (o : Filled) (bytes text line : List ℕ) (status : ℕ) → IsEnd request i o bytes text status line → has_input request ≡ true
+    ensures { (request : Request) (i : Drained) (o : Filled) (bytes text line : List ℕ) (status : ℕ)
+        → IsEnd request i o bytes text status line → has_input request ≡ true
         → ((l : List ℕ) → ¬ HasFault request bytes i.ended l) → (¬ HasFailed i) → (¬ HasRefused o) → (status ≤ 1) ⊎ (7 ≤ status) }
 {}
 

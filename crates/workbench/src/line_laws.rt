@@ -14,8 +14,10 @@ ghost use Rattle.workbench.specs.SureMargins.{AreSureMarginsByRow, AreSureMargin
 /// Each line of a verdict is the truth, at each time of its span, in every trace that goes on from the rows up to the one at which the line was
 /// due; those at the end are so in the trace of all rows.
 pub fn each_line_is_the_truth()
-    ensures by_row { (p : Subformula) (header : Header) (rows : List Row) (text : List ℕ) → IsStreamText p header rows false text → AreSureByRow p header [] rows text }
-    ensures to_end { (p : Subformula) (header : Header) (rows : List Row) (text : List ℕ) → IsStreamText p header rows true text → AreSureToEnd p header rows text }
+    ensures by_row { (p : Subformula) (header : Header) (rows : List Row) (text : List ℕ) → IsStreamText p header rows false text
+        → AreSureByRow p header [] rows text }
+    ensures to_end { (p : Subformula) (header : Header) (rows : List Row) (text : List ℕ) → IsStreamText p header rows true text
+        → AreSureToEnd p header rows text }
 {}
 
 /// What a stream of verdicts wrote in the end covers the trace without gap or overlap, and tells at each time what `check` tells; its last
@@ -27,8 +29,10 @@ pub fn the_lines_cover_the_trace()
 /// Each line of a margin is the robustness, at its time or at each time of its gap, in every trace that goes on from the rows up to the one at
 /// which the line was due; those at the end are so in the trace of all rows.
 pub fn each_margin_is_the_robustness()
-    ensures by_row { (p : Subformula) (header : Header) (rows : List Row) (text : List ℕ) → IsMarginStream p header rows false text → AreSureMarginsByRow p header [] rows text }
-    ensures to_end { (p : Subformula) (header : Header) (rows : List Row) (text : List ℕ) → IsMarginStream p header rows true text → AreSureMarginsToEnd p header rows text }
+    ensures by_row { (p : Subformula) (header : Header) (rows : List Row) (text : List ℕ)
+        → IsMarginStream p header rows false text → AreSureMarginsByRow p header [] rows text }
+    ensures to_end { (p : Subformula) (header : Header) (rows : List Row) (text : List ℕ) → IsMarginStream p header rows true text
+        → AreSureMarginsToEnd p header rows text }
 {}
 
 /// What a stream of margins wrote in the end covers the trace without gap or overlap, and tells at each time what `robust` tells.
@@ -39,6 +43,7 @@ pub fn the_margins_cover_the_trace()
 /// What an early verdict tells for the rows so far is the truth at the start of every trace that goes on from the row that it names, and none
 /// of the rows before that one decides. What it tells in the end ends with the truth at the start of the trace, whichever row decided.
 pub fn an_early_verdict_is_the_truth()
-    ensures by_row { (p : Subformula) (header : Header) (rows : List Row) (text : List ℕ) → IsEarlyText p header rows false text → IsSureDecision p header rows text }
+    ensures by_row { (p : Subformula) (header : Header) (rows : List Row) (text : List ℕ) → IsEarlyText p header rows false text
+        → IsSureDecision p header rows text }
     ensures to_end { (p : Subformula) (tr : Trace) (text : List ℕ) → IsTrace tr → IsEarlyText p tr.header tr.rows true text → EndsWithStart p tr text }
 {}

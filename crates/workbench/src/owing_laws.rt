@@ -14,19 +14,26 @@ pub fn one_request_is_asked_for()
 
 /// At most one text is owed for given bytes: to a stream, to several sessions, and to each command that holds the whole trace.
 pub fn one_text_is_owed()
-    ensures rows { (s : Stream) (f : Formula) (bytes text other : List ℕ) (ended : Bool) → OwesRows s f bytes ended text → OwesRows s f bytes ended other → text ≡ other }
+    ensures rows { (s : Stream) (f : Formula) (bytes text other : List ℕ) (ended : Bool) → OwesRows s f bytes ended text
+        → OwesRows s f bytes ended other → text ≡ other }
     ensures lines { (f : Formula) (bytes text other : List ℕ) (ended : Bool) → OwesLines f bytes ended text → OwesLines f bytes ended other → text ≡ other }
-    ensures check { (f : Formula) (bytes text other : List ℕ) (ended : Bool) → OwesAtEnd check f bytes ended text → OwesAtEnd check f bytes ended other → text ≡ other }
-    ensures robust { (f : Formula) (bytes text other : List ℕ) (ended : Bool) → OwesAtEnd robust f bytes ended text → OwesAtEnd robust f bytes ended other → text ≡ other }
-    ensures explain { (f : Formula) (bytes text other : List ℕ) (ended : Bool) → OwesAtEnd explain f bytes ended text → OwesAtEnd explain f bytes ended other → text ≡ other }
-    ensures json { (f : Formula) (bytes text other : List ℕ) (ended : Bool) → OwesAtEnd json f bytes ended text → OwesAtEnd json f bytes ended other → text ≡ other }
-    ensures table { (f : Formula) (bytes text other : List ℕ) (ended : Bool) → OwesAtEnd table f bytes ended text → OwesAtEnd table f bytes ended other → text ≡ other }
+    ensures check { (f : Formula) (bytes text other : List ℕ) (ended : Bool) → OwesAtEnd check f bytes ended text
+        → OwesAtEnd check f bytes ended other → text ≡ other }
+    ensures robust { (f : Formula) (bytes text other : List ℕ) (ended : Bool) → OwesAtEnd robust f bytes ended text
+        → OwesAtEnd robust f bytes ended other → text ≡ other }
+    ensures explain { (f : Formula) (bytes text other : List ℕ) (ended : Bool) → OwesAtEnd explain f bytes ended text
+        → OwesAtEnd explain f bytes ended other → text ≡ other }
+    ensures json { (f : Formula) (bytes text other : List ℕ) (ended : Bool) → OwesAtEnd json f bytes ended text
+        → OwesAtEnd json f bytes ended other → text ≡ other }
+    ensures table { (f : Formula) (bytes text other : List ℕ) (ended : Bool) → OwesAtEnd table f bytes ended text
+        → OwesAtEnd table f bytes ended other → text ≡ other }
 {}
 
 /// What a stream is owed, or several sessions, only grows: the text for bytes that go on is the front of the text for these bytes and more, which the input may
 /// have ended.
 pub fn what_is_owed_only_grows()
-    ensures rows { (s : Stream) (f : Formula) (bytes more text all : List ℕ) (ended : Bool) → OwesRows s f bytes false text → OwesRows s f (bytes ++ more) ended all
+    ensures rows { (s : Stream) (f : Formula) (bytes more text all : List ℕ) (ended : Bool) → OwesRows s f bytes false text
+        → OwesRows s f (bytes ++ more) ended all
         → (rest : List ℕ) × (all ≡ text ++ rest) }
     ensures lines { (f : Formula) (bytes more text all : List ℕ) (ended : Bool) → OwesLines f bytes false text → OwesLines f (bytes ++ more) ended all
         → (rest : List ℕ) × (all ≡ text ++ rest) }
@@ -35,7 +42,8 @@ pub fn what_is_owed_only_grows()
 /// So what a stream, or several sessions, had written where its output failed or memory was wanting is the front of what it is owed for all the bytes that were
 /// read, not for those alone that it had answered.
 pub fn what_was_written_is_of_all_bytes()
-    ensures rows { (s : Stream) (f : Formula) (bytes text rest all : List ℕ) (ended : Bool) → IsBegun (stream s f) bytes ended text rest → OwesRows s f bytes ended all
+    ensures rows { (s : Stream) (f : Formula) (bytes text rest all : List ℕ) (ended : Bool)
+        → IsBegun (stream s f) bytes ended text rest → OwesRows s f bytes ended all
         → (more : List ℕ) × (all ≡ text ++ more) }
     ensures lines { (f : Formula) (bytes text rest all : List ℕ) (ended : Bool) → IsBegun (sessions f) bytes ended text rest → OwesLines f bytes ended all
         → (more : List ℕ) × (all ≡ text ++ more) }

@@ -23,7 +23,8 @@ pub(crate) trait Push {
     fn push<K: Sink>(&mut self, piece: &[u8], out: &mut K) -> Result<(), Stop>
         requires { (bytes text : List ℕ) × IsPushed (stands self.old) (request self.old) bytes text }
         ensures pushed { (bytes text : List ℕ) → IsPushed (stands self.old) (request self.old) bytes text
-            → IsPush (request self.old) (K.written out.old) (K.written out.new) (bytes ++ piece.now) false text (λ _. IsPushed (stands self.new) (request self.old) (bytes ++ piece.now)) result }
+            → IsPush (request self.old) (K.written out.old) (K.written out.new) (bytes ++ piece.now) false text
+            (λ _. IsPushed (stands self.new) (request self.old) (bytes ++ piece.now)) result }
         ensures same { request self.new ≡ request self.old }
         ensures cause { result ≡ Err Stop.Unwritten → Rose (K.faults out.old) (K.faults out.new) }
         ensures still { result ≢ Err Stop.Unwritten → K.faults out.new ≡ K.faults out.old }
@@ -47,7 +48,8 @@ pub(crate) fn stream<P: Push, S: Source, K: Sink>(
     out: &mut K,
 ) -> Result<bool, Stop>
     requires { IsPushed (P.stands pusher.old) (P.request pusher.old) [] [] }
-    ensures ending { IsStreamEnd (P.done pusher.new) (P.request pusher.old) (drained S.left S.ended S.ends S.faults input.old input.new) (filled K.written K.faults out.old out.new) result }
+    ensures ending { IsStreamEnd (P.done pusher.new) (P.request pusher.old)
+        (drained S.left S.ended S.ends S.faults input.old input.new) (filled K.written K.faults out.old out.new) result }
     ensures same { P.request pusher.new ≡ P.request pusher.old }
     ensures ends { S.ends input.new ≡ after_end (S.ended input.new) (S.ends input.old) }
     ensures read_due { result ≢ Err Stop.Unread → S.faults input.new ≡ S.faults input.old }

@@ -12,7 +12,8 @@ ghost use Rattle.workbench.specs.Requests.{AreHeld, AreFor, AskToGenerate, IsAsk
 ghost use Rattle.workbench.specs.Commands.{judge};
 ghost use Rattle.workbench.specs.Commands as word;
 ghost use Rattle.workbench.specs.Keeping.{HasRun};
-ghost use Rattle.workbench.specs.Wholes.{command_of, IsAnswerOf, IsUnanswered, IsWrittenWith, IsWholeEnd, IsBadEnd, IsEndLine, IsStopLine, HasFaultFor, EndsSoundly, status_of, status_of_stop, status_of_fault};
+ghost use Rattle.workbench.specs.Wholes.{command_of, IsAnswerOf, IsUnanswered, IsWrittenWith, IsWholeEnd, IsBadEnd, IsEndLine};
+ghost use Rattle.workbench.specs.Wholes.{IsStopLine, HasFaultFor, EndsSoundly, status_of, status_of_stop, status_of_fault};
 
 use crate::answer::{Answer, judge};
 use crate::decided::early_of;
@@ -103,7 +104,8 @@ fn whole<S: Source, K: Sink>(
     input: &mut S,
     out: &mut K,
 ) -> Result<bool, Stop>
-    ensures ending { IsWholeEnd (command_of command) formula.now (drained S.left S.ended S.ends S.faults input.old input.new) (filled K.written K.faults out.old out.new) result }
+    ensures ending { IsWholeEnd (command_of command) formula.now (drained S.left S.ended S.ends S.faults input.old input.new)
+        (filled K.written K.faults out.old out.new) result }
     ensures read { result ≡ Err Stop.Unread → Rose (S.faults input.old) (S.faults input.new) }
     ensures write { result ≡ Err Stop.Unwritten → Rose (K.faults out.old) (K.faults out.new) }
     ensures read_due { result ≢ Err Stop.Unread → S.faults input.new ≡ S.faults input.old }
@@ -187,7 +189,8 @@ fn stop_status(stop: Stop) -> u8
 fn finish<E: Sink>(err: &mut E, formula: &Formula, ending: Result<bool, Stop>) -> u8
     requires { EndsSoundly formula.now ending }
     ensures status { result ≡ status_of ending }
-    ensures said { (line : List ℕ) × IsEndLine formula.now ending line × IsSaid (E.written err.old) (E.written err.new) (E.faults err.old) (E.faults err.new) line }
+    ensures said { (line : List ℕ) × IsEndLine formula.now ending line
+        × IsSaid (E.written err.old) (E.written err.new) (E.faults err.old) (E.faults err.new) line }
     ensures quiet { result ≤ 1 → err.new ≡ err.old }
     ensures later { E.faults err.old ≤ E.faults err.new }
 {

@@ -5,7 +5,8 @@ ghost use Rattle.io_edge.specs.Calls.{drained, filled};
 ghost use Rattle.workbench.specs.InputFaults.{stream_limits};
 ghost use Rattle.workbench.specs.Requests.{stream as by_row, verdicts};
 ghost use Rattle.workbench.specs.Pushing.{IsStreamEnd};
-ghost use Rattle.workbench.specs.Watches.{Past, with_piece, StandsFor, StandsForAll, HasPushed, HasFinished, IsCall, Moves, IsLate, IsOpen, IsFaultOf, phase_after};
+ghost use Rattle.workbench.specs.Watches.{Past, with_piece, StandsFor, StandsForAll, HasPushed, HasFinished};
+ghost use Rattle.workbench.specs.Watches.{IsCall, Moves, IsLate, IsOpen, IsFaultOf, phase_after};
 ghost use Rattle.workbench.specs.declared.watch.WatchFault.{WatchFault as Reason};
 
 use crate::fault::Stop;
@@ -203,8 +204,10 @@ impl Watch {
         out: &mut K,
     ) -> Result<bool, Stop>
         requires { StandsFor (record { formula = self.old.live.formula; limits = stream_limits; bytes = []; text = [] }) self.old }
-        ensures ending { IsStreamEnd (λ bytes text. (holds : Bool) × StandsForAll (record { formula = self.old.live.formula; limits = stream_limits; bytes = bytes; text = text }) holds self.new)
-            (by_row verdicts self.old.live.formula) (drained S.left S.ended S.ends S.faults input.old input.new) (filled K.written K.faults out.old out.new) result }
+        ensures ending { IsStreamEnd (λ bytes text.
+            (holds : Bool) × StandsForAll (record { formula = self.old.live.formula; limits = stream_limits; bytes = bytes; text = text }) holds self.new)
+            (by_row verdicts self.old.live.formula) (drained S.left S.ended S.ends S.faults input.old input.new)
+            (filled K.written K.faults out.old out.new) result }
         ensures formula { self.new.live.formula ≡ self.old.live.formula }
         ensures ends { S.ends input.new ≡ after_end (S.ended input.new) (S.ends input.old) }
         ensures read_due { result ≢ Err Stop.Unread → S.faults input.new ≡ S.faults input.old }

@@ -49,8 +49,11 @@ not_false false h = absurd (h refl)
 module _ (p : Subformula) (tr : Trace) where
   -- the verdicts tell the truth from b on, up to the end of the trace
   pub record Left (b : Frac) (b_in : Bool) (v : Verdict) (rest : List Verdict) : Type 0 where
+    -- there is a time from b to the end of the first verdict
     pub room : IsNotEmpty (interval_between b b_in v.on.to v.on.to_in)
+    -- on all of them the first verdict tells the truth
     pub truth : (t : Rational) → IsIn (interval_between b b_in v.on.to v.on.to_in) t → MatchBool v.holds (Truth p tr t) (¬ Truth p tr t)
+    -- and the others go on from it to the end of the trace
     pub goes : GoesOn p tr (closed (start tr) (stop tr)) v rest
 
   -- the last of them ends with the trace
@@ -115,16 +118,27 @@ module _ (p : Subformula) (tr : Trace) where
   module _ (tr' : Trace) (f : Frac) (before : value f <ʳ stop tr) (stays : (t : Rational) → start tr ≤ʳ t → t ≤ʳ value f → Truth p tr t ↔ Truth p tr' t) where
     -- verdicts from b up to f, so many, and those after f
     pub record CutAt (b : Frac) (b_in : Bool) (holds : Bool) (n : ℕ) (later : List Verdict) : Type 0 where
+      -- the first verdict up to f
       pub head : Verdict
+      -- the others up to f
       pub tail : List Verdict
+      -- the first begins at b
       pub begins : BeginAlike (interval head.on) (interval_between b b_in f true)
+      -- and tells the truth of the rows so far
       pub told : IsTold p tr' head
+      -- the others go on from it up to f
       pub goes : GoesOn p tr' (closed (value f) (value f)) head tail
+      -- its truth is that at b
       pub same : head.holds ≡ holds
+      -- how many there are up to f
       pub count : suc (length tail) ≡ n
+      -- the first verdict after f
       pub next : Verdict
+      -- the verdicts after that one
       pub rest : List Verdict
+      -- these two are what is left
       pub later_is : later ≡ next ∷ rest
+      -- and tell the truth from f on
       pub left : Left f false next rest
 
     -- a part of the first verdict up to some end that is not after f

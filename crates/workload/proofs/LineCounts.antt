@@ -98,6 +98,7 @@ count_fraction num den = by_test (cases_Bool (den == 1))
         rw e (count_join (signed_decimal num ++ codes "/") (decimal den)
         ∙ sum_of (count_join (signed_decimal num) (codes "/") ∙ sum_of (count_signed num) refl) (count_decimal den))
 
+-- the text of a number has no line feed
 pub count_number : (digits : ℕ) (t : Rational) (text : List ℕ) → IsNumberText digits t text → line_count text ≡ 0
 count_number digits t text h = ap line_count h.is ∙ count_fraction h.num h.den
 

@@ -1,5 +1,6 @@
 -- Nothing in the text of the judged formula is refused.
-use Rattle.std.proofs.Common.{◌≡◌, ◌⊎◌, inl, inr, ℕ, ◌+◌, ◌*◌, ◌<◌, ◌≤◌, Bool, true, false, List, [], ◌∷◌, ◌++◌, length, refl, sym, ap, ◌∙◌, subst, arith, append-nil, lit≤, Some}
+use Rattle.std.proofs.Common.{◌≡◌, ◌⊎◌, inl, inr, ℕ, ◌+◌, ◌*◌, ◌<◌, ◌≤◌, Bool, true, false, List, [], ◌∷◌}
+use Rattle.std.proofs.Common.{◌++◌, length, refl, sym, ap, ◌∙◌, subst, arith, append-nil, lit≤, Some}
 use Rattle.std.specs.Prelude.{codes, decimal, ◌==◌, if◌then◌else◌, IsTrue, bytes_eq}
 use Rattle.std.specs.Fmt.{digits}
 use Rattle.std.proofs.lemmas.Bool.{false≢true, or_cases}
@@ -17,8 +18,11 @@ use Rattle.stl_syntax.specs.declared.rel.Rel.{Rel}
 use Rattle.stl_syntax.specs.declared.rel.Rel.TheVariants.{AtLeast, Below}
 use Rattle.stl_syntax.specs.declared.node.Node.TheVariants.{Atom as Leaf, Not, And, Implies, Eventually, Always, Since}
 use Rattle.stl_syntax.proofs.TreeOrder.{tree_order, tree_root}
-use Rattle.stl_grammar.specs.Tokens.{Token, word, number, IsToken, a_word, an_integer, a_decimal, at_least, at_most, above, below, paren, paren_end, bracket, bracket_end, a_comma, a_star, a_plus, a_minus}
-use Rattle.stl_grammar.specs.FormulaRefusals.{Pending, a_paren, an_operator, an_implies, after_operand, after_paren, constants, prefixes, pending_after, pending, ends_constant, RefusedAt, TokenFault, blank, bad_byte, here, later, at_end, IsFormulaFault}
+use Rattle.stl_grammar.specs.Tokens.{Token, word, number, IsToken, a_word, an_integer, a_decimal, at_least, at_most, above}
+use Rattle.stl_grammar.specs.Tokens.{below, paren, paren_end, bracket, bracket_end, a_comma, a_star, a_plus, a_minus}
+use Rattle.stl_grammar.specs.FormulaRefusals.{Pending, a_paren, an_operator, an_implies, after_operand, after_paren}
+use Rattle.stl_grammar.specs.FormulaRefusals.{constants, prefixes, pending_after, pending, ends_constant, RefusedAt}
+use Rattle.stl_grammar.specs.FormulaRefusals.{TokenFault, blank, bad_byte, here, later, at_end, IsFormulaFault}
 use Rattle.stl_grammar.specs.Laws.{IsTooLongOrDeep}
 use Rattle.stl_grammar.specs.declared.fault.FormulaFault.{FormulaFault}
 use Rattle.stl_grammar.specs.declared.fault.FormulaFault.TheVariants.{ReachTooLarge, ConstantTooLarge, Memory}
@@ -304,6 +308,7 @@ not_deep r k (inr (_, inr (_, inr (_, (f, read, late))))) = not_late f r k late
     not_late f r (inl (n, k)) (inr (_, (large, e))) = cc
     not_late f r (inr (n, k)) (inr (_, (large, e))) = cc
 
+-- the text of the judged formula has no first fault
 pub no_refusal : (r : FormulaFault) → ¬ IsFormulaFault judged r
 no_refusal r fault =
     not_deep r (printed_texts_are_formulas judged_formula judged r well_formed (read_scales_are_least judged_formula judged judged_text) printed fault) fault

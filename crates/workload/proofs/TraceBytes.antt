@@ -170,6 +170,7 @@ header_alone : lines false (header ++ 10 ∷ []) ≡ done header ∷ []
 unfolding lines
 header_alone = refl
 
+-- the first line of the bytes is the header's
 pub header_first : (more : List ℕ) → lines true (header ++ 10 ∷ more) ≡ done header ∷ lines true more
 header_first more = lines-append true header more ∙ ap (λ ls. ls ++ lines true more) header_alone
 

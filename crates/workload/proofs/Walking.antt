@@ -212,8 +212,11 @@ module _ (p : Subformula) (header : Header) (all : List Row) (ok : IsTrace (reco
 
   -- the text of some verdicts
   pub record Written (s : Trace) (stretch : Interval) (n : ℕ) : Type 0 where
+    -- the text
     pub text : List ℕ
+    -- it is that of the verdicts on the stretch
     pub is : IsStretchText p s stretch text
+    -- it has so many lines
     pub count : line_count text ≡ n
 
   written : (s : Trace) (stretch : Interval) (vs : List Verdict) (n : ℕ) → Describes vs p s stretch → length vs ≡ n → Written s stretch n
@@ -594,13 +597,20 @@ module _ (p : Subformula) (header : Header) (all : List Row) (ok : IsTrace (reco
 
   -- the text of the rows, with so many lines, and that of the rest
   pub record Streamed (n m : ℕ) : Type 0 where
+    -- the text that the rows give
     pub during : List ℕ
+    -- the text that the end gives
     pub rest : List ℕ
+    -- the first is what the stream writes row by row
     pub rows : IsRowsText (IsNewText p) p header [] None all during
+    -- the second is what it writes at the end
     pub at_end : IsRestText (IsNewText p) p tr rest
+    -- the first has so many lines
     pub during_count : line_count during ≡ n
+    -- and the second so many
     pub rest_count : line_count rest ≡ m
 
+  -- a walk over the rows that cuts the verdicts of the trace counts the lines of both texts
   pub streamed : (vs later : List Verdict) (n : ℕ) → Describes vs p tr (closed (start tr) (stop tr)) → Walks begin (horizon p) all vs n later
       → Streamed n (length later)
   streamed vs later n h walks =

@@ -17,4 +17,5 @@ returns-in_ok-add-in-Atom g c =
 
 pub returns-in_default : goal.returns-in_default
 returns-in_default g c =
-    other_on g.P.Shape c.args.over.from c.args.over.to c.args.formula.now.nodes c.args.i c.node.result.now c.args.atoms.now c.node.ensures.node (not_atom c.node.result.now c.in_default.not-Atom) c.requires.before
+    other_on g.P.Shape c.args.over.from c.args.over.to c.args.formula.now.nodes c.args.i c.node.result.now c.args.atoms.now
+    c.node.ensures.node (not_atom c.node.result.now c.in_default.not-Atom) c.requires.before

@@ -18,8 +18,10 @@ shift_clip-requires-clause-bases g c = λ p h. let b = c.requires.bases p h in o
 
 pub shift_clip-requires-clause-first : goal.shift_clip-requires-clause-first
 shift_clip-requires-clause-first g c =
-    subst (λ t. t ≤ʳ add (value c.at-first.result) (whole (to_z w64 (of_z w64 c.from-ticks.result)))) c.start.ensures.value (le_trans c.expect_order-2.ensures (le_of_same c.shift.ensures.value))
+    subst (λ t. t ≤ʳ add (value c.at-first.result) (whole (to_z w64 (of_z w64 c.from-ticks.result)))) c.start.ensures.value
+    (le_trans c.expect_order-2.ensures (le_of_same c.shift.ensures.value))
 
 pub shift_clip-requires-clause-last : goal.shift_clip-requires-clause-last
 shift_clip-requires-clause-last g c =
-    subst (λ t. add (value c.at-last.result) (whole (to_z w64 (of_z w64 c.from-ticks.result))) ≤ʳ t) c.stop.ensures.value (le_trans (ge_of_same c.shift-2.ensures.value) c.expect_order-3.ensures)
+    subst (λ t. add (value c.at-last.result) (whole (to_z w64 (of_z w64 c.from-ticks.result))) ≤ʳ t) c.stop.ensures.value
+    (le_trans (ge_of_same c.shift-2.ensures.value) c.expect_order-3.ensures)

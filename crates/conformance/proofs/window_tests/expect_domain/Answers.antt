@@ -12,4 +12,5 @@ returns-clause-last g c = le_trans (subst (λ t. t ≤ʳ value c.of-2.result) c.
 
 pub returns-clause-before : goal.returns-clause-before
 returns-clause-before g c =
-    lt_of_le_of_lt (le_trans (subst (λ t. t ≤ʳ value c.of-2.result) c.stop.ensures.value c.expect_order-2.ensures) (le_of_same c.of-2.ensures.value)) (record { lt = lit< tt })
+    lt_of_le_of_lt (le_trans (subst (λ t. t ≤ʳ value c.of-2.result) c.stop.ensures.value c.expect_order-2.ensures) (le_of_same c.of-2.ensures.value))
+    (record { lt = lit< tt })

@@ -16,6 +16,12 @@ returns-clause-event c =
 
 pub returns-clause-happens : goal.returns-clause-happens
 returns-clause-happens c header r rows is_start is_last =
-    let e : Event = record { start = c.before_tick-start.result; before = c.after_tick-sure.result; sure = c.after_tick-sure.result; first = false; ended = true } in
+    let e : Event = record {
+      start = c.before_tick-start.result;
+      before = c.after_tick-sure.result;
+      sure = c.after_tick-sure.result;
+      first = false;
+      ended = true;
+    } in
     happens_end e c.args.start c.args.last c.before_tick-start.ensures c.after_tick-sure.ensures c.after_tick-sure.ensures refl
     header r rows is_start is_last

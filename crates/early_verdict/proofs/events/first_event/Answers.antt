@@ -17,5 +17,11 @@ returns-clause-event c =
 
 pub returns-clause-happens : goal.returns-clause-happens
 returns-clause-happens c header x is =
-    let e : Event = record { start = c.before_tick-start.result; before = c.before_tick-start.result; sure = c.after_tick-sure.result; first = true; ended = false } in
+    let e : Event = record {
+      start = c.before_tick-start.result;
+      before = c.before_tick-start.result;
+      sure = c.after_tick-sure.result;
+      first = true;
+      ended = false;
+    } in
     happens_first e c.args.time c.before_tick-start.ensures c.before_tick-start.ensures c.after_tick-sure.ensures refl refl header x is

@@ -17,6 +17,12 @@ returns-clause-event c =
 
 pub returns-clause-happens : goal.returns-clause-happens
 returns-clause-happens c header r rows x is_start is_last is_now =
-    let e : Event = record { start = c.before_tick-start.result; before = c.after_tick-before.result; sure = c.after_tick-sure.result; first = false; ended = false } in
+    let e : Event = record {
+      start = c.before_tick-start.result;
+      before = c.after_tick-before.result;
+      sure = c.after_tick-sure.result;
+      first = false;
+      ended = false;
+    } in
     happens_next e c.args.start c.args.last c.args.time c.before_tick-start.ensures c.after_tick-before.ensures c.after_tick-sure.ensures refl
     header r rows x is_start is_last is_now

@@ -20,14 +20,16 @@ pub returns-then-has_tick : goal.returns-then-has_tick
 returns-then-has_tick c =
     let k = length c.args.sets.now - 1 in
     let s = c.index-sets-sets.result in
-    subst (λ (l : Lists). IsOn l.yes (whole (pos c.args.start))) (sym (lists_are c.args.sets.now k s (item_at c.args.sets.now k s (omega (arith, c.requires.some)) c.index-sets-sets.is)))
+    subst (λ (l : Lists). IsOn l.yes (whole (pos c.args.start)))
+    (sym (lists_are c.args.sets.now k s (item_at c.args.sets.now k s (omega (arith, c.requires.some)) c.index-sets-sets.is)))
     (c.has_tick.ensures.0 c.if-has_tick.true)
 
 pub returns-then-has_tick-2 : goal.returns-then-has_tick-2
 returns-then-has_tick-2 c =
     let k = length c.args.sets.now - 1 in
     let s = c.index-sets-sets.result in
-    subst (λ (l : Lists). IsOn l.no (whole (pos c.args.start))) (sym (lists_are c.args.sets.now k s (item_at c.args.sets.now k s (omega (arith, c.requires.some)) c.index-sets-sets.is)))
+    subst (λ (l : Lists). IsOn l.no (whole (pos c.args.start)))
+    (sym (lists_are c.args.sets.now k s (item_at c.args.sets.now k s (omega (arith, c.requires.some)) c.index-sets-sets.is)))
     (c.has_tick-2.ensures.0 c.if-has_tick-2.true)
 
 pub returns : goal.returns

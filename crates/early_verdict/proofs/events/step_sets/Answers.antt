@@ -33,7 +33,8 @@ returns c =
     let new_shown = c.step_all.new.shown in
     let long : length new ≡ live.len = search rules in
     let long_shown : length new_shown ≡ shown.len = search rules in
-    subst (λ (xs : List Sets). ComesOn nodes b e before r live.items xs shown.items (take shown.len (new_shown ++ drop (length new_shown) shown.items))) (sets_written new live.items live.len long)
+    subst (λ (xs : List Sets). ComesOn nodes b e before r live.items xs shown.items (take shown.len (new_shown ++ drop (length new_shown) shown.items)))
+    (sets_written new live.items live.len long)
     (subst (λ (xs : List Sets). ComesOn nodes b e before r live.items new shown.items xs) (sets_written new_shown shown.items shown.len long_shown)
     (subst (λ (xs : List Sets). ComesOn nodes b e before r xs new shown.items new_shown) c.deref_mut.ensures.value
     (subst (λ (xs : List Sets). ComesOn nodes b e before r c.deref_mut.result.now new xs new_shown) c.deref_mut-2.ensures.value c.in_ok-step_all.ensures)))

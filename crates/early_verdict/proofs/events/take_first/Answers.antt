@@ -17,14 +17,17 @@ pub step_sets-requires-clause-count : goal.step_sets-requires-clause-count
 step_sets-requires-clause-count c = c.in_ok-live.ensures.have.count
 
 pub step_sets-requires-clause-shown_count : goal.step_sets-requires-clause-shown_count
-step_sets-requires-clause-shown_count c = (are c.in_ok-live.live.items c.deref.result.now c.in_ok-shown.shown.items c.deref.ensures.value c.in_ok-shown.ensures).count ∙ c.in_ok-live.ensures.have.count
+step_sets-requires-clause-shown_count c =
+    (are c.in_ok-live.live.items c.deref.result.now c.in_ok-shown.shown.items c.deref.ensures.value c.in_ok-shown.ensures).count
+    ∙ c.in_ok-live.ensures.have.count
 
 pub step_sets-requires-clause-tidy : goal.step_sets-requires-clause-tidy
 step_sets-requires-clause-tidy c = c.in_ok-live.ensures.tidy
 
 pub step_sets-requires-clause-shown_tidy : goal.step_sets-requires-clause-shown_tidy
 step_sets-requires-clause-shown_tidy c =
-    shown_tidy c.args.formula.now.nodes (whole (pos c.time.result)) c.in_ok-live.live.items c.in_ok-shown.shown.items c.in_ok-live.ensures (are c.in_ok-live.live.items c.deref.result.now c.in_ok-shown.shown.items c.deref.ensures.value c.in_ok-shown.ensures)
+    shown_tidy c.args.formula.now.nodes (whole (pos c.time.result)) c.in_ok-live.live.items c.in_ok-shown.shown.items c.in_ok-live.ensures
+    (are c.in_ok-live.live.items c.deref.result.now c.in_ok-shown.shown.items c.deref.ensures.value c.in_ok-shown.ensures)
     (λ i n at. placed c.args.formula.now.nodes i n c.requires.open.1.formed.post_order at)
 
 pub step_sets-requires-clause-none : goal.step_sets-requires-clause-none
@@ -41,5 +44,6 @@ returns c = λ header o.
           c.step_sets.new.net.live.items c.step_sets.new.net.shown.items o.formed o.some o.bound
           c.requires.width c.first_event-event.ensures.open (c.first_event-event.ensures.happens header c.args.row.now c.time-2.ensures)
           (subst (λ (t : ℕ). AreMade c.args.formula.now.nodes (whole (pos t)) c.in_ok-live.live.items) c.time.ensures c.in_ok-live.ensures)
-          (are c.in_ok-live.live.items c.deref.result.now c.in_ok-shown.shown.items c.deref.ensures.value c.in_ok-shown.ensures) k.stepped k.shows k.tidy k.fits,
+          (are c.in_ok-live.live.items c.deref.result.now c.in_ok-shown.shown.items c.deref.ensures.value c.in_ok-shown.ensures)
+          k.stepped k.shows k.tidy k.fits,
     )

@@ -33,8 +33,10 @@ returns c = λ header r rows o.
     let e = c.next_event-event.ensures in
     let last : c.in-Some.before ≡ last_after r rows = same_row c.in-Some.before (last_after r rows) (sym c.in-Some.is ∙ o.ends) in (
       o.sets_are.0,
-      next_stand c.args.bound.now c.args.formula.now header r rows c.args.row.now c.next_event-event.result c.args.last.now c.args.net.now.live.items c.args.net.now.shown.items
-          c.step_sets.new.net.live.items c.step_sets.new.net.shown.items o.formed o.bound o.so_far (after_last r rows c.args.last.now c.args.row.now o.ends c.requires.later) c.requires.width o.ends e.open
+      next_stand c.args.bound.now c.args.formula.now header r rows c.args.row.now c.next_event-event.result c.args.last.now
+          c.args.net.now.live.items c.args.net.now.shown.items
+          c.step_sets.new.net.live.items c.step_sets.new.net.shown.items o.formed o.bound o.so_far
+          (after_last r rows c.args.last.now c.args.row.now o.ends c.requires.later) c.requires.width o.ends e.open
           (e.happens header r rows c.args.row.now o.sets_are.0 (c.time.ensures ∙ ap (λ (q : Row). q.time) last) c.time-2.ensures) o.sets_are.1
           c.in_ok-step_sets.ensures.stepped c.in_ok-step_sets.ensures.shows c.in_ok-step_sets.ensures.tidy c.in_ok-step_sets.ensures.fits,
     )

@@ -12,7 +12,8 @@ pub loop-part-init : goal.loop-part-init
 loop-part-init c = record {
   tidy = c.requires.own;
   bounds = refl;
-  grows = grows_not c.args.own.now.bounds c.args.own.now.spans.items c.args.own.now.fresh.items (BySome (HeldAt c.args.w.now (place c.args.start.now) c.args.spans.now.items) (take 0 c.args.parts.now)) (λ t b h. h);
+  grows = grows_not c.args.own.now.bounds c.args.own.now.spans.items c.args.own.now.fresh.items
+      (BySome (HeldAt c.args.w.now (place c.args.start.now) c.args.spans.now.items) (take 0 c.args.parts.now)) (λ t b h. h);
 }
 
 pub loop-part-preserved : goal.loop-part-preserved
@@ -23,7 +24,8 @@ loop-part-preserved c =
     record {
       tidy = c.in_ok-add_held_by.ensures.tidy;
       bounds = c.add_held_by.ensures.bounds ∙ c.loop-part.invariant.bounds;
-      grows = grows_on (HeldAt c.args.w.now (place c.args.start.now) c.args.spans.now.items) c.args.parts.now c.loop-part.part-index c.part-item.result own.bounds here.bounds own.spans.items here.spans.items
+      grows = grows_on (HeldAt c.args.w.now (place c.args.start.now) c.args.spans.now.items) c.args.parts.now
+          c.loop-part.part-index c.part-item.result own.bounds here.bounds own.spans.items here.spans.items
           new.spans.items own.fresh.items here.fresh.items new.fresh.items c.loop-part.invariant.bounds
           (slice_get_read c.args.parts.now (length c.args.parts.now) c.loop-part.part-index c.part-item.result refl c.loop-part-test.true c.part-item.is)
           c.loop-part.invariant.grows c.in_ok-add_held_by.ensures.ok;
@@ -33,5 +35,6 @@ pub returns-clause-ok : goal.returns-clause-ok
 returns-clause-ok c =
     let own = c.args.own.now in
     let here = c.loop-part.own in
-    subst (λ xs. Grows own.bounds own.spans.items here.spans.items own.fresh.items here.fresh.items (BySome (HeldAt c.args.w.now (place c.args.start.now) c.args.spans.now.items) xs))
+    subst (λ xs. Grows own.bounds own.spans.items here.spans.items own.fresh.items here.fresh.items
+    (BySome (HeldAt c.args.w.now (place c.args.start.now) c.args.spans.now.items) xs))
     (take_all c.loop-part.part-index c.args.parts.now c.loop-part-test.false) c.loop-part.invariant.grows

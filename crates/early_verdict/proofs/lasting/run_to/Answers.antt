@@ -15,7 +15,8 @@ returns-in-Some-clause-run c =
     let e = c.in-Some.ensures.some.0 in
     record {
       at_most = at_most_of_not_before (place next.from) last c.in-Some.ensures.some.1;
-      holds = λ t a u. on_at spans at next t e (a, at_most_of_not_before last (place next.to) (reaches_at last spans at next c.first_reaching.ensures.rest e) t u);
+      holds = λ t a u.
+          on_at spans at next t e (a, at_most_of_not_before last (place next.to) (reaches_at last spans at next c.first_reaching.ensures.rest e) t u);
       gap = λ d b. gap_before spans next d c.requires.tidy (among_at spans at next e) b;
     }
 

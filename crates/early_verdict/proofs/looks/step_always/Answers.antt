@@ -16,7 +16,8 @@ returns-clause-fits c = λ old tr p a b a_in b_in is h had w.
     let each = told_yes old s (λ o. OnlyAhead false o a b a_in b_in (IsOn p.yes)) (λ o. SomeAhead o a b a_in b_in (IsOn p.no)) w in
     record {
       no = says_of c.some_sure.new.self s.no.bounds (SomeAhead tr a b a_in b_in (IsOn x.no.spans.items)) c.in_ok-some_sure.ensures.bounds
-          (sure_says c.args.w.now a b a_in b_in is tr (place e.sure) h.sure_to x.no.spans.items (no_after old tr p x had) s.no.bounds c.some_sure.new.self.spans.items
+          (sure_says c.args.w.now a b a_in b_in is tr (place e.sure) h.sure_to x.no.spans.items
+          (no_after old tr p x had) s.no.bounds c.some_sure.new.self.spans.items
           (c.in_ok-some_sure.ensures.tells p.no had.lists.no
           (was_sure e tr s.no p.no old c.args.w.now a b a_in b_in is h (had_list_no old tr p x had)
           (kept_from p.no x.no.spans.items x.no.fresh.items (start tr) had.lists.no (no_after old tr p x had)) some)));

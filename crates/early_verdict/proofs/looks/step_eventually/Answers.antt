@@ -16,7 +16,8 @@ returns-clause-fits c = λ old tr p a b a_in b_in is h had w.
     let each = told_no old s (λ o. SomeAhead o a b a_in b_in (IsOn p.yes)) (λ o. OnlyAhead false o a b a_in b_in (IsOn p.no)) w in
     record {
       yes = says_of c.some_sure.new.self s.yes.bounds (SomeAhead tr a b a_in b_in (IsOn x.yes.spans.items)) c.in_ok-some_sure.ensures.bounds
-          (sure_says c.args.w.now a b a_in b_in is tr (place e.sure) h.sure_to x.yes.spans.items (yes_after old tr p x had) s.yes.bounds c.some_sure.new.self.spans.items
+          (sure_says c.args.w.now a b a_in b_in is tr (place e.sure) h.sure_to x.yes.spans.items
+          (yes_after old tr p x had) s.yes.bounds c.some_sure.new.self.spans.items
           (c.in_ok-some_sure.ensures.tells p.yes had.lists.yes
           (was_sure e tr s.yes p.yes old c.args.w.now a b a_in b_in is h (had_list_yes old tr p x had)
           (kept_from p.yes x.yes.spans.items x.yes.fresh.items (start tr) had.lists.yes (yes_after old tr p x had)) some)));

@@ -12,5 +12,6 @@ show-requires c =
 pub returns : goal.returns
 returns c =
     let f = c.split_at_mut-from in
-    shows_at c.args.live.now c.args.shown.now f.result.0.now f.result.1.now c.args.i c.index-from-0.result c.show.new.shown c.index-live-i.result f.ensures.front f.ensures.back
+    shows_at c.args.live.now c.args.shown.now f.result.0.now f.result.1.now c.args.i c.index-from-0.result c.show.new.shown
+    c.index-live-i.result f.ensures.front f.ensures.back
     c.requires.within (item_at c.args.live.now c.args.i c.index-live-i.result c.requires.live_within c.index-live-i.is) c.in_ok-show.ensures

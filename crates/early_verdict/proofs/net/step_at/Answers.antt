@@ -18,7 +18,8 @@ pub step_node-requires-clause-few : goal.step_node-requires-clause-few
 step_node-requires-clause-few c = subst (λ k. k < 256) (sym (length_front c.args.shown.now c.args.i c.requires.shown_within)) c.requires.few
 
 pub step_node-requires-clause-children : goal.step_node-requires-clause-children
-step_node-requires-clause-children c = subst (λ k. HasChildrenBelow k c.args.node.now) (sym (length_front c.args.shown.now c.args.i c.requires.shown_within)) c.requires.children
+step_node-requires-clause-children c = subst (λ k. HasChildrenBelow k c.args.node.now)
+    (sym (length_front c.args.shown.now c.args.i c.requires.shown_within)) c.requires.children
 
 pub step_node-requires-clause-none : goal.step_node-requires-clause-none
 step_node-requires-clause-none c = λ first.
@@ -41,5 +42,6 @@ returns c =
     on_two c.step_node.result c.step_node.ensures.stepped c.step_node.ensures.fits (λ step fits. (
       steps_at live f.result.0.now f.result.1.now i c.index-from-0.result c.step_node.new.own f.ensures.front f.ensures.back c.requires.within step,
       λ old tr was h had parts leaf w.
-          fits old tr was h had parts (subst (λ (k : ℕ). LeafGoes c.args.bound.now k c.args.event.now old tr c.args.before.now c.args.row.now own n) (sym size) leaf) w,
+          fits old tr was h had parts
+          (subst (λ (k : ℕ). LeafGoes c.args.bound.now k c.args.event.now old tr c.args.before.now c.args.row.now own n) (sym size) leaf) w,
     ))

@@ -6,4 +6,5 @@ pub returns-clause-fits : goal.returns-clause-fits
 returns-clause-fits c = λ old tr was h had parts w.
     let b = c.args.b in
     one_list (λ l. HistoricallyFits tr b.low b.high b.low_in b.high_in l c.step_historically.new.own) c.args.below.now c.args.of c.at.result.now c.at.ensures.at
-    (c.in_ok-step_historically.ensures.fits old tr (was c.args.of) b.low b.high b.low_in b.high_in c.behind-w.ensures h (had c.args.of c.at.result.now c.at.ensures.at) w)
+    (c.in_ok-step_historically.ensures.fits old tr (was c.args.of) b.low b.high b.low_in b.high_in c.behind-w.ensures h
+    (had c.args.of c.at.result.now c.at.ensures.at) w)

@@ -9,5 +9,6 @@ returns-clause-fits c = λ old tr was h had parts w.
     let p = c.at.result.now in
     let q = c.at-2.result.now in
     two_lists (λ x y. SinceFits tr c.args.low c.args.high x y c.step_since.new.own) c.args.below.now l r p q c.at.ensures.at c.at-2.ensures.at
-    (c.in_ok-step_since.ensures.fits old tr (was l) (was r) c.args.low c.args.high c.behind-w.ensures c.behind-down_to.ensures h (had l p c.at.ensures.at) (had r q c.at-2.ensures.at)
+    (c.in_ok-step_since.ensures.fits old tr (was l) (was r) c.args.low c.args.high c.behind-w.ensures c.behind-down_to.ensures h
+    (had l p c.at.ensures.at) (had r q c.at-2.ensures.at)
     (parts.1 p c.at.ensures.at) parts.0 w)

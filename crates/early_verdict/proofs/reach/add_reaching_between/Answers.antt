@@ -13,7 +13,8 @@ loop-next-init c =
       within = c.first_reaching-at.ensures.within;
       tidy = c.requires.own;
       bounds = refl;
-      grows = between_first (ReachesBy c.args.runs.now.items c.args.spans.now.items (place c.args.before.now) (place c.args.sure.now)) (place c.args.before.now) (place c.args.sure.now) own.bounds
+      grows = between_first (ReachesBy c.args.runs.now.items c.args.spans.now.items (place c.args.before.now) (place c.args.sure.now))
+          (place c.args.before.now) (place c.args.sure.now) own.bounds
           c.args.spans.now.items c.first_reaching-at.result (λ s t h. (h.3.0, h.3.1)) own.spans.items own.fresh.items c.first_reaching-at.ensures.front;
     }
 
@@ -28,7 +29,8 @@ loop-next-preserved c =
       within = omega arith;
       tidy = c.in_ok-add_reaching_by.ensures.tidy;
       bounds = c.add_reaching_by.ensures.bounds ∙ c.loop-next.invariant.bounds;
-      grows = grows_on (ReachesBy c.args.runs.now.items c.args.spans.now.items (place c.args.before.now) (place c.args.sure.now)) c.args.spans.now.items c.loop-next.at next own.bounds
+      grows = grows_on (ReachesBy c.args.runs.now.items c.args.spans.now.items (place c.args.before.now) (place c.args.sure.now))
+          c.args.spans.now.items c.loop-next.at next own.bounds
           here.bounds own.spans.items here.spans.items new.spans.items own.fresh.items here.fresh.items new.fresh.items c.loop-next.invariant.bounds
           c.in-Some.ensures.some.0 c.loop-next.invariant.grows c.in_ok-add_reaching_by.ensures.ok;
     }
@@ -37,6 +39,7 @@ pub returns-clause-ok : goal.returns-clause-ok
 returns-clause-ok c =
     let own = c.args.own.now in
     let here = c.loop-next.own in
-    between_last (ReachesBy c.args.runs.now.items c.args.spans.now.items (place c.args.before.now) (place c.args.sure.now)) (place c.args.before.now) (place c.args.sure.now) own.bounds
+    between_last (ReachesBy c.args.runs.now.items c.args.spans.now.items (place c.args.before.now) (place c.args.sure.now))
+    (place c.args.before.now) (place c.args.sure.now) own.bounds
     c.args.spans.now.items c.loop-next.at (λ s t h. (h.3.0, h.3.1)) own.spans.items here.spans.items own.fresh.items here.fresh.items c.requires.spans
     c.in_default.ensures.none c.loop-next.invariant.grows

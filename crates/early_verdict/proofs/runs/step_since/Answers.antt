@@ -16,8 +16,10 @@ returns-clause-fits c = λ old tr p q a b is way h hp hq bounds some w.
       c.in_ok-since_fails.ensures.fits old tr p q a b is way h hp hq f.0 f.1 (since_failing_was s x c.in-Some.is p q a b old w),
       record {
         yes = says_of c.both.new.self s.yes.bounds (λ t. IsOn m.some.spans.items t × IsOn m.each.spans.items t) c.in_ok-both.ensures.bounds
-            (c.in_ok-both.ensures.tells x.holding.some.spans.items x.holding.each.spans.items c.in_ok-since_holds.ensures.gains.some c.in_ok-since_holds.ensures.gains.each own.yes);
+            (c.in_ok-both.ensures.tells x.holding.some.spans.items x.holding.each.spans.items
+            c.in_ok-since_holds.ensures.gains.some c.in_ok-since_holds.ensures.gains.each own.yes);
         no = says_of c.either.new.self s.no.bounds (λ t. IsOn n.never.spans.items t ⊎ IsOn n.broken.spans.items t) c.in_ok-either.ensures.bounds
-            (c.in_ok-either.ensures.tells x.failing.never.spans.items x.failing.broken.spans.items c.in_ok-since_fails.ensures.gains.never c.in_ok-since_fails.ensures.gains.broken own.no);
+            (c.in_ok-either.ensures.tells x.failing.never.spans.items x.failing.broken.spans.items
+            c.in_ok-since_fails.ensures.gains.never c.in_ok-since_fails.ensures.gains.broken own.no);
       },
     )

@@ -36,7 +36,9 @@ returns-clause-fits c = λ old tr p q a b is is_up h hp hq same_fail same_stop w
           (c.in_ok-each_ahead.ensures.tells old tr q.no h hq.lists.no none_q (until_never e tr old h p q a b w u is is_up x was none none_q from_stop));
       broken = says_of c.some.new.self x.broken.bounds (λ t. (v : Rational) × OpenAhead (start tr) 0 a true true t v × IsOn c.reach.new.self.spans.items v)
           c.in_ok-some.ensures.bounds
-          (until_broken_says e tr old h p q a b w u is is_up x was none none_q from_stop x.broken.bounds c.some.new.self.spans.items c.reach.new.self.spans.items tr refl
+          (until_broken_says e tr old h p q a b w u is is_up x was none none_q from_stop x.broken.bounds
+          c.some.new.self.spans.items c.reach.new.self.spans.items tr refl
           (λ v o. from_stop v (subst (λ s. Lies s v) c.in_ok-reach.ensures.bounds (stop.only v o).0))
-          (c.in_ok-some.ensures.tells x.stop.spans.items c.in_ok-reach.ensures.gains (until_broken e tr old h p q a b w u is is_up x was none none_q from_stop)));
+          (c.in_ok-some.ensures.tells x.stop.spans.items c.in_ok-reach.ensures.gains
+          (until_broken e tr old h p q a b w u is is_up x was none none_q from_stop)));
     }

@@ -28,12 +28,14 @@ returns-clause-fits c = λ old tr p q a b is is_up h hp hq was.
     record {
       both = both;
       run = says_of c.reach_sure.new.self x.run.bounds (GoesOn P.yes.spans.items c.both.new.self.spans.items (sure_place tr)) c.in_ok-reach_sure.ensures.bounds
-          (goes_on_says x.run.bounds c.reach_sure.new.self.spans.items P.yes.spans.items c.both.new.self.spans.items (place e.sure) (sure_place tr) h.sure_to run);
+          (goes_on_says x.run.bounds c.reach_sure.new.self.spans.items P.yes.spans.items c.both.new.self.spans.items
+          (place e.sure) (sure_place tr) h.sure_to run);
       some = says_of c.some_sure.new.self x.some.bounds (SomeAhead tr a b true true (IsOn Q.yes.spans.items)) c.in_ok-some_sure.ensures.bounds
           (sure_says w a b true true is tr (place e.sure) h.sure_to Q.yes.spans.items (yes_after old tr q Q hq) x.some.bounds c.some_sure.new.self.spans.items
           (c.in_ok-some_sure.ensures.tells q.yes hq.lists.yes (until_some e tr old h p q a b w u is is_up x was none none_q from_q)));
       each = only_says u 0 a true true is_up tr (place e.start) h.starts c.reach_sure.new.self.spans.items false (place e.sure) h.sure_to
           c.each_open.new.own.bounds c.each_open.new.own.spans.items
-          (c.in_ok-each_open.ensures.tells old tr x.run.spans.items h c.in_ok-reach_sure.ensures.gains (until_no_run e tr old h p q a b w u is is_up x was none none_q from_q)
+          (c.in_ok-each_open.ensures.tells old tr x.run.spans.items h c.in_ok-reach_sure.ensures.gains
+          (until_no_run e tr old h p q a b w u is is_up x was none none_q from_q)
           (until_each e tr old h p q a b w u is is_up x was none none_q from_q));
     }

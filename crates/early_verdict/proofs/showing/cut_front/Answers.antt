@@ -33,7 +33,8 @@ pub returns-in-Some-clause-kept : goal.returns-in-Some-clause-kept
 returns-in-Some-clause-kept c =
     let first = c.in-Some.first.now in
     let some : 0 < length c.drop_before.new.spans.items = search rules in
-    λ t o. let k = cut_kept (place c.args.cut.now) c.drop_before.new.spans.items first _ some c.in-Some.ensures.value c.drop_before.ensures.tidy c.drop_before.ensures.first
+    λ t o. let k = cut_kept (place c.args.cut.now) c.drop_before.new.spans.items first _ some c.in-Some.ensures.value
+    c.drop_before.ensures.tidy c.drop_before.ensures.first
     (λ u l. (
       (after_from (place first.from) (place c.later.result) u c.later.ensures.first l.0, l.1),
       after_from (place c.args.cut.now) (place c.later.result) u c.later.ensures.second l.0,

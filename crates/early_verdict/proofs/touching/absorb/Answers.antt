@@ -37,7 +37,8 @@ loop-next-preserved c =
     let in_it : c.args.at < deque_len c.loop-next.spans = search rules in
     let got = c.remove.ensures.succeeds c.in-Some.next in_it in
     let items = subst (λ r. OnSome r (c.remove.new.self.items ≡ without c.loop-next.spans.items c.args.at)) got c.remove.ensures.items in
-    subst (λ xs. Absorbing c.args.at c.args.part.now c.hull-joined.result c.in-Some.next.to c.args.spans.now.items xs c.args.fresh.now.items c.note.new.fresh.items)
+    subst (λ xs. Absorbing c.args.at c.args.part.now c.hull-joined.result c.in-Some.next.to c.args.spans.now.items xs
+    c.args.fresh.now.items c.note.new.fresh.items)
     (sym items)
     (absorb_next c.args.at c.args.part.now c.loop-next.joined c.loop-next.seen c.args.spans.now.items c.loop-next.spans.items c.args.fresh.now.items
     c.loop-next.fresh.items c.loop-next.invariant c.note.new.fresh.items c.in-Some.next.from c.in_ok-note.ensures c.in-Some.next c.hull-joined.result

@@ -20,4 +20,5 @@ only_memory nodes s (F.Wide c) is = absurd (levels_are_never_wide truth_shape (Î
 pub returns : goal.returns
 returns c nodes from to atoms e count sound inputs fault =
     let s = knots_setting truth_shape nodes from to atoms in
-    only_memory nodes s e (fault s (record { lowest = refl; highest = refl; from = refl; to = refl }) (plain_told truth_shape nodes from to atoms count sound inputs))
+    only_memory nodes s e
+    (fault s (record { lowest = refl; highest = refl; from = refl; to = refl }) (plain_told truth_shape nodes from to atoms count sound inputs))

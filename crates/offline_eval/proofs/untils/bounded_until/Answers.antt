@@ -6,7 +6,8 @@ use Rattle.offline_eval.specs.Making.{IsFit}
 use Rattle.offline_eval.proofs.Pointwise.{ok_both, err_same, least_of_bounded}
 use Rattle.offline_eval.proofs.Sound.{limited_along, stay_sound}
 use Rattle.offline_eval.proofs.WindowLemmas.{before_end, sup_over_bounded, inf_over_bounded, ahead_from}
-use Rattle.offline_eval.proofs.UntilLemmas.{to_end_fit, composed_moved, has_to_end, until_in, until_within_fault, to_end_fault, until_kept_fault, until_least_fault}
+use Rattle.offline_eval.proofs.UntilLemmas.{to_end_fit, composed_moved, has_to_end, until_in, until_within_fault}
+use Rattle.offline_eval.proofs.UntilLemmas.{to_end_fault, until_kept_fault, until_least_fault}
 use Rattle.offline_eval.proofs.untils.bounded_until.Given.{Over}
 use Rattle.offline_eval.proofs.untils.bounded_until.Goals.{In_ok-within, In_ok-to_end, In_ok-kept}
 use Rattle.offline_eval.proofs.untils.bounded_until.Goals as goal

@@ -7,7 +7,8 @@ use Rattle.offline_eval.specs.Making.{IsFit}
 use Rattle.offline_eval.proofs.Pointwise.{ok_both, err_same, least_of_bounded}
 use Rattle.offline_eval.proofs.Sound.{limited_along, stay_sound}
 use Rattle.offline_eval.proofs.WindowLemmas.{sup_over_bounded, inf_over_bounded, behind_from, in_order, reach_of_order}
-use Rattle.offline_eval.proofs.UntilLemmas.{from_start_fit, composed_moved, has_from_start, since_in, since_within_fault, from_start_fault, since_kept_fault, since_least_fault}
+use Rattle.offline_eval.proofs.UntilLemmas.{from_start_fit, composed_moved, has_from_start, since_in}
+use Rattle.offline_eval.proofs.UntilLemmas.{since_within_fault, from_start_fault, since_kept_fault, since_least_fault}
 use Rattle.offline_eval.proofs.untils.composed_since.Given.{Over}
 use Rattle.offline_eval.proofs.untils.composed_since.Goals.{In_ok-within, In_ok-from_start, In_ok-kept}
 use Rattle.offline_eval.proofs.untils.composed_since.Goals as goal

@@ -21,7 +21,8 @@ new_out c =
 
 pub put_last-requires-clause-inside : goal.put_last-requires-clause-inside
 put_last-requires-clause-inside c =
-    (first_begun c.args.bound.now c.args.node c.args.row.now c.args.edges.now c.new.result (new_out (goal.at.put_last-requires-clause-inside c).After-new)).inside
+    (first_begun c.args.bound.now c.args.node c.args.row.now c.args.edges.now c.new.result
+    (new_out (goal.at.put_last-requires-clause-inside c).After-new)).inside
 
 pub returns : goal.returns
 returns c =

@@ -51,7 +51,8 @@ returns-in_ok-said-in-Split c = λ b on.
     c.before_tick-end.result
     (at_row c.before_tick-end.result c.time-2.result c.args.row.now.time false c.time-2.ensures c.before_tick-end.ensures)
     c.holds-in-Split.result c.holds-in-Split-2.result c.holds-in-Split-3.result c.in-Split.at c.in_ok-said-in-Split.ensures
-    (λ a tr for next. let w = subst (λ p. TellsGap (row_time c.args.first.now) (row_time c.args.row.now) (holds_at a tr) p) c.in-Split.is (on a tr for next) in (
+    (λ a tr for next.
+    let w = subst (λ p. TellsGap (row_time c.args.first.now) (row_time c.args.row.now) (holds_at a tr) p) c.in-Split.is (on a tr for next) in (
       w.after_first,
       w.before_second,
       (λ t x y. w.until_then t x y ∙ sym c.holds-in-Split.ensures),

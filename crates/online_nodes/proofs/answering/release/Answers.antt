@@ -35,7 +35,8 @@ returns-in-Behind c =
     c.earlier_by-in-Behind.ensures (search (rules, to_z-of_z)) ((search (rules, to_z-of_z)) ∙ c.back.ensures) in
     subst (λ (k : Kind). HasReleased k c.args.front c.args.edges.now c.drop_by-in-Behind.new.self) (sym c.in-Behind.is)
     (released_one (Behind w) c.args.front w.of (to_z w64 (of_z w64 c.earlier_by-in-Behind.result))
-    (λ left k. elim left as (λ b. IsSide (Behind w) b k → (w.of ≡ k) × (to_z w64 (of_z w64 c.earlier_by-in-Behind.result) ≡ c.args.front +ℤ looks_by (Behind w) b))
+    (λ left k.
+    elim left as (λ b. IsSide (Behind w) b k → (w.of ≡ k) × (to_z w64 (of_z w64 c.earlier_by-in-Behind.result) ≡ c.args.front +ℤ looks_by (Behind w) b))
     [ true ↦ λ side. (side, limit) | false ↦ λ side. absurd side ])
     (λ k same. same) able.0 g.dropped g.others g.start g.spare)
 

@@ -37,7 +37,8 @@ returns-in-Err-clause-fault c = λ p g.
     slice_get-get_or c.loop-i.stations.items c.loop-i.i c.index_mut.result.now low ∙ ap Some (sym c.index_mut.ensures.value) in
     go_fault p c.args.edges.now c.args.stations.now.items g.0 c.loop-i.i c.loop-i.edges c.loop-i.stations.items c.index_mut.result.now within
     here (c.loop-i.invariant.1 p g) c.loop-i.i refl c.in-Err.fault c.fault_at.result
-    (c.in-Err.ensures.fault (move_of p c.loop-i.i) (can_move_by_row p c.args.edges.now c.args.stations.now.items g.0 c.loop-i.i c.loop-i.edges c.loop-i.stations.items c.index_mut.result.now within
+    (c.in-Err.ensures.fault (move_of p c.loop-i.i)
+    (can_move_by_row p c.args.edges.now c.args.stations.now.items g.0 c.loop-i.i c.loop-i.edges c.loop-i.stations.items c.index_mut.result.now within
     here (c.loop-i.invariant.1 p g) c.args.bound.now c.args.before.now c.args.row.now c.loop-i.i refl g.1)) c.fault_at.ensures
 
 pub loop-i-preserved : goal.loop-i-preserved
@@ -56,14 +57,16 @@ loop-i-preserved c = (
       subst (λ k. Going p k c.take_row.new.edges (slice_set c.loop-i.stations.items c.loop-i.i c.take_row.new.self)) up
       (going_next p c.args.edges.now c.args.stations.now.items g.0 c.loop-i.i c.loop-i.edges c.loop-i.stations.items c.index_mut.result.now within
       here (c.loop-i.invariant.1 p g) c.take_row.new.edges c.take_row.new.self c.take_row.ensures.ahead
-      (c.in-Ok.ensures.moved (move_of p c.loop-i.i) (can_move_by_row p c.args.edges.now c.args.stations.now.items g.0 c.loop-i.i c.loop-i.edges c.loop-i.stations.items c.index_mut.result.now within
+      (c.in-Ok.ensures.moved (move_of p c.loop-i.i)
+      (can_move_by_row p c.args.edges.now c.args.stations.now.items g.0 c.loop-i.i c.loop-i.edges c.loop-i.stations.items c.index_mut.result.now within
       here (c.loop-i.invariant.1 p g) c.args.bound.now c.args.before.now c.args.row.now c.loop-i.i refl g.1))),
 )
 
 pub returns-clause-gone : goal.returns-clause-gone
 returns-clause-gone c = λ p g.
     gone_last p c.args.edges.now c.args.stations.now.items g.0 c.loop-i.i c.loop-i.edges c.loop-i.stations.items
-    (let all = g.0.shows.stations in let same = c.loop-i.invariant.0 in let end = c.len-i-end.ensures in omega (arith, all, same, end)) (c.loop-i.invariant.1 p g)
+    (let all = g.0.shows.stations in let same = c.loop-i.invariant.0 in let end = c.len-i-end.ensures in omega (arith, all, same, end))
+    (c.loop-i.invariant.1 p g)
 
 pub returns-in-Err-clause-nodes : goal.returns-in-Err-clause-nodes
 returns-in-Err-clause-nodes c = length-slice_set c.loop-i.stations.items c.loop-i.i c.take_row.new.self ∙ c.loop-i.invariant.0

@@ -25,8 +25,13 @@ sweep-requires c =
     let to : to_z w64 (of_z w64 c.from.result) ≡ pos c.args.to = search (rules, to_z-of_z) in
     let end : value c.of-end.result ≈ whole (pos c.args.to) = subst (λ n. value c.of-end.result ≈ whole n) to c.of-end.ensures.value in
     let first : c.in-Some.start ≡ begin_of t = some_is (sym c.in-Some.is ∙ c.start.ensures ∙ b.start) in
-    let starts : whole (pos c.in-Some.start) ≈ start t.trace = subst (λ n. whole (pos n) ≈ start t.trace) (sym first) (same_refl (start t.trace)) in
-    (glance t c.args.moved.now c.args.edges.now c.args.to b, own_reach b.node, from_of t, can_glance t c.args.moved.now c.args.edges.now c.args.to b (value c.of-end.result) end, starts)
+    let starts : whole (pos c.in-Some.start) ≈ start t.trace = subst (λ n. whole (pos n) ≈ start t.trace) (sym first) (same_refl (start t.trace)) in (
+      glance t c.args.moved.now c.args.edges.now c.args.to b,
+      own_reach b.node,
+      from_of t,
+      can_glance t c.args.moved.now c.args.edges.now c.args.to b (value c.of-end.result) end,
+      starts,
+    )
 
 pub returns-in-Ok-clause-told : goal.returns-in-Ok-clause-told
 returns-in-Ok-clause-told c = λ t b.
@@ -34,7 +39,9 @@ returns-in-Ok-clause-told c = λ t b.
     let end : value c.of-end.result ≈ whole (pos c.args.to) = subst (λ n. value c.of-end.result ≈ whole n) to c.of-end.ensures.value in
     let first : c.in-Some.start ≡ begin_of t = some_is (sym c.in-Some.is ∙ c.start.ensures ∙ b.start) in
     let starts : whole (pos c.in-Some.start) ≈ start t.trace = subst (λ n. whole (pos n) ≈ start t.trace) (sym first) (same_refl (start t.trace)) in
-    glance_told t c.args.moved.now c.args.edges.now c.args.to b (value c.of-end.result) end c.in-Ok.swept (c.in-Ok.ensures.told (glance t c.args.moved.now c.args.edges.now c.args.to b) (own_reach b.node) (from_of t) (can_glance t c.args.moved.now c.args.edges.now c.args.to b (value c.of-end.result) end) starts)
+    glance_told t c.args.moved.now c.args.edges.now c.args.to b (value c.of-end.result) end c.in-Ok.swept
+    (c.in-Ok.ensures.told (glance t c.args.moved.now c.args.edges.now c.args.to b) (own_reach b.node) (from_of t)
+    (can_glance t c.args.moved.now c.args.edges.now c.args.to b (value c.of-end.result) end) starts)
 
 pub returns-in-Ok-clause-edges : goal.returns-in-Ok-clause-edges
 returns-in-Ok-clause-edges c = λ t b.
@@ -43,8 +50,10 @@ returns-in-Ok-clause-edges c = λ t b.
     let first : c.in-Some.start ≡ begin_of t = some_is (sym c.in-Some.is ∙ c.start.ensures ∙ b.start) in
     let starts : whole (pos c.in-Some.start) ≈ start t.trace = subst (λ n. whole (pos n) ≈ start t.trace) (sym first) (same_refl (start t.trace)) in
     glance_edges t c.args.moved.now c.args.edges.now c.args.to b (value c.of-end.result) end c.sweep.new.edges
-    (c.in-Ok.ensures.lost (glance t c.args.moved.now c.args.edges.now c.args.to b) (own_reach b.node) (from_of t) (can_glance t c.args.moved.now c.args.edges.now c.args.to b (value c.of-end.result) end) starts)
-    (c.in-Ok.ensures.stands (glance t c.args.moved.now c.args.edges.now c.args.to b) (own_reach b.node) (from_of t) (can_glance t c.args.moved.now c.args.edges.now c.args.to b (value c.of-end.result) end) starts)
+    (c.in-Ok.ensures.lost (glance t c.args.moved.now c.args.edges.now c.args.to b) (own_reach b.node) (from_of t)
+    (can_glance t c.args.moved.now c.args.edges.now c.args.to b (value c.of-end.result) end) starts)
+    (c.in-Ok.ensures.stands (glance t c.args.moved.now c.args.edges.now c.args.to b) (own_reach b.node) (from_of t)
+    (can_glance t c.args.moved.now c.args.edges.now c.args.to b (value c.of-end.result) end) starts)
 
 pub returns-in-Ok-clause-stands : goal.returns-in-Ok-clause-stands
 returns-in-Ok-clause-stands c = λ t b.
@@ -52,5 +61,7 @@ returns-in-Ok-clause-stands c = λ t b.
     let end : value c.of-end.result ≈ whole (pos c.args.to) = subst (λ n. value c.of-end.result ≈ whole n) to c.of-end.ensures.value in
     let first : c.in-Some.start ≡ begin_of t = some_is (sym c.in-Some.is ∙ c.start.ensures ∙ b.start) in
     let starts : whole (pos c.in-Some.start) ≈ start t.trace = subst (λ n. whole (pos n) ≈ start t.trace) (sym first) (same_refl (start t.trace)) in
-    glance_stands t c.args.moved.now c.args.edges.now c.args.to b (value c.of-end.result) end c.sweep.new.self c.sweep.new.edges c.sweep.ensures.kept c.in-Ok.ensures.some
-    (c.in-Ok.ensures.reached (glance t c.args.moved.now c.args.edges.now c.args.to b) (own_reach b.node) (from_of t) (can_glance t c.args.moved.now c.args.edges.now c.args.to b (value c.of-end.result) end) starts)
+    glance_stands t c.args.moved.now c.args.edges.now c.args.to b
+    (value c.of-end.result) end c.sweep.new.self c.sweep.new.edges c.sweep.ensures.kept c.in-Ok.ensures.some
+    (c.in-Ok.ensures.reached (glance t c.args.moved.now c.args.edges.now c.args.to b) (own_reach b.node) (from_of t)
+    (can_glance t c.args.moved.now c.args.edges.now c.args.to b (value c.of-end.result) end) starts)

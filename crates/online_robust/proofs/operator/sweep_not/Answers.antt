@@ -18,17 +18,20 @@ pub returns-in-Ok-clause-told : goal.returns-in-Ok-clause-told
 returns-in-Ok-clause-told c = λ t b.
     let to : to_z w64 (of_z w64 c.from.result) ≡ pos c.args.to = search (rules, to_z-of_z) in
     let end : value c.of-end.result ≈ whole (pos c.args.to) = subst (λ n. value c.of-end.result ≈ whole n) to c.of-end.ensures.value in
-    not_told t c.args.not.now c.args.edges.now c.args.to b c.in-Ok.swept (c.in-Ok.ensures.told (not_couple t c.args.not.now c.args.edges.now c.args.to b) (can_negate t c.args.not.now c.args.edges.now c.args.to b) end)
+    not_told t c.args.not.now c.args.edges.now c.args.to b c.in-Ok.swept
+    (c.in-Ok.ensures.told (not_couple t c.args.not.now c.args.edges.now c.args.to b) (can_negate t c.args.not.now c.args.edges.now c.args.to b) end)
 
 pub returns-in-Ok-clause-edges : goal.returns-in-Ok-clause-edges
 returns-in-Ok-clause-edges c = λ t b.
     let to : to_z w64 (of_z w64 c.from.result) ≡ pos c.args.to = search (rules, to_z-of_z) in
     let end : value c.of-end.result ≈ whole (pos c.args.to) = subst (λ n. value c.of-end.result ≈ whole n) to c.of-end.ensures.value in
-    not_edges t c.args.not.now c.args.edges.now c.args.to b c.sweep.new.edges (value c.of-end.result) end c.in-Ok.ensures.lost (c.in-Ok.ensures.ahead (not_couple t c.args.not.now c.args.edges.now c.args.to b) (can_negate t c.args.not.now c.args.edges.now c.args.to b) end)
+    not_edges t c.args.not.now c.args.edges.now c.args.to b c.sweep.new.edges (value c.of-end.result) end c.in-Ok.ensures.lost
+    (c.in-Ok.ensures.ahead (not_couple t c.args.not.now c.args.edges.now c.args.to b) (can_negate t c.args.not.now c.args.edges.now c.args.to b) end)
 
 pub returns-in-Ok-clause-stands : goal.returns-in-Ok-clause-stands
 returns-in-Ok-clause-stands c = λ t b.
     let to : to_z w64 (of_z w64 c.from.result) ≡ pos c.args.to = search (rules, to_z-of_z) in
     let end : value c.of-end.result ≈ whole (pos c.args.to) = subst (λ n. value c.of-end.result ≈ whole n) to c.of-end.ensures.value in
-    not_stands t c.args.not.now c.args.edges.now c.args.to b c.sweep.new.self c.sweep.new.edges (ap (λ (y : Own.Not). y.of) c.sweep.ensures.kept) c.in-Ok.ensures.some
+    not_stands t c.args.not.now c.args.edges.now c.args.to b c.sweep.new.self c.sweep.new.edges
+    (ap (λ (y : Own.Not). y.of) c.sweep.ensures.kept) c.in-Ok.ensures.some
     (c.in-Ok.ensures.reached (not_couple t c.args.not.now c.args.edges.now c.args.to b) (can_negate t c.args.not.now c.args.edges.now c.args.to b) end)

@@ -17,13 +17,15 @@ pub returns-in-Ok-clause-told : goal.returns-in-Ok-clause-told
 returns-in-Ok-clause-told c = λ t b.
     let to : to_z w64 (of_z w64 c.from.result) ≡ pos c.args.to = search (rules, to_z-of_z) in
     let end : value c.of-end.result ≈ whole (pos c.args.to) = subst (λ n. value c.of-end.result ≈ whole n) to c.of-end.ensures.value in
-    two_told t c.args.two.now c.args.edges.now c.args.to b c.in-Ok.swept (c.in-Ok.ensures.told (two_couple t c.args.two.now c.args.edges.now c.args.to b) (can_join t c.args.two.now c.args.edges.now c.args.to b) end)
+    two_told t c.args.two.now c.args.edges.now c.args.to b c.in-Ok.swept
+    (c.in-Ok.ensures.told (two_couple t c.args.two.now c.args.edges.now c.args.to b) (can_join t c.args.two.now c.args.edges.now c.args.to b) end)
 
 pub returns-in-Ok-clause-edges : goal.returns-in-Ok-clause-edges
 returns-in-Ok-clause-edges c = λ t b.
     let to : to_z w64 (of_z w64 c.from.result) ≡ pos c.args.to = search (rules, to_z-of_z) in
     let end : value c.of-end.result ≈ whole (pos c.args.to) = subst (λ n. value c.of-end.result ≈ whole n) to c.of-end.ensures.value in
-    two_edges t c.args.two.now c.args.edges.now c.args.to b c.sweep.new.edges (value c.of-end.result) end c.in-Ok.ensures.lost (c.in-Ok.ensures.ahead (two_couple t c.args.two.now c.args.edges.now c.args.to b) (can_join t c.args.two.now c.args.edges.now c.args.to b) end)
+    two_edges t c.args.two.now c.args.edges.now c.args.to b c.sweep.new.edges (value c.of-end.result) end c.in-Ok.ensures.lost
+    (c.in-Ok.ensures.ahead (two_couple t c.args.two.now c.args.edges.now c.args.to b) (can_join t c.args.two.now c.args.edges.now c.args.to b) end)
 
 pub returns-in-Ok-clause-stands : goal.returns-in-Ok-clause-stands
 returns-in-Ok-clause-stands c = λ t b.
@@ -36,4 +38,5 @@ pub returns-in-Err-clause-wide : goal.returns-in-Err-clause-wide
 returns-in-Err-clause-wide c = λ t b.
     let to : to_z w64 (of_z w64 c.from.result) ≡ pos c.args.to = search (rules, to_z-of_z) in
     let end : value c.of-end.result ≈ whole (pos c.args.to) = subst (λ n. value c.of-end.result ≈ whole n) to c.of-end.ensures.value in
-    two_fault t c.args.two.now c.args.edges.now c.args.to b c.in-Err.fault (c.in-Err.ensures.wide (two_couple t c.args.two.now c.args.edges.now c.args.to b) (can_join t c.args.two.now c.args.edges.now c.args.to b) end)
+    two_fault t c.args.two.now c.args.edges.now c.args.to b c.in-Err.fault
+    (c.in-Err.ensures.wide (two_couple t c.args.two.now c.args.edges.now c.args.to b) (can_join t c.args.two.now c.args.edges.now c.args.to b) end)

@@ -10,5 +10,7 @@ loop-i-preserved c =
     let k = c.knot-before.result in
     let n = c.knot-knot.result in
     let more = Part.Gap k.time n.time k.after ∷ Part.Point n.time n.point ∷ [] in
-    subst (λ l. HasPut c.args.node l c.args.edges.now c.put_pair.new.edges) (sym (later_more c.args.s.now i k n (omega arith) c.knot-before.ensures c.knot-knot.ensures))
-    (put_both c.args.node (later_lines (take i c.args.s.now)) more c.args.edges.now c.loop-i.edges c.put_pair.new.edges c.requires c.loop-i.invariant c.in_ok-put_pair.ensures)
+    subst (λ l. HasPut c.args.node l c.args.edges.now c.put_pair.new.edges)
+    (sym (later_more c.args.s.now i k n (omega arith) c.knot-before.ensures c.knot-knot.ensures))
+    (put_both c.args.node (later_lines (take i c.args.s.now)) more c.args.edges.now c.loop-i.edges c.put_pair.new.edges c.requires
+    c.loop-i.invariant c.in_ok-put_pair.ensures)

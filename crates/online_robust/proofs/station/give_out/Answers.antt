@@ -12,7 +12,8 @@ put_out-requires c =
 pub returns-in-Ok-put_out-clause-moved : goal.returns-in-Ok-put_out-clause-moved
 returns-in-Ok-put_out-clause-moved c = λ m g.
     let (e, put, is) = c.in-Ok-put_out.ensures in
-    given_out m c.args.node c.args.operator.now c.args.edges.now c.args.to c.args.with_first g c.in-Ok.swept c.sweep.new.self c.sweep.new.edges e c.put_out.new.edges
+    given_out m c.args.node c.args.operator.now c.args.edges.now c.args.to c.args.with_first g c.in-Ok.swept c.sweep.new.self
+    c.sweep.new.edges e c.put_out.new.edges
     c.in-Ok.ensures.told c.in-Ok.ensures.edges c.in-Ok.ensures.stands put is
 
 pub returns-in-Err-clause-fault : goal.returns-in-Err-clause-fault

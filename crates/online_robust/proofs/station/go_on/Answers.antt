@@ -26,10 +26,12 @@ give_out-requires c =
     let (m, g) = c.requires in
     let back : to_z w64 (of_z w64 c.args.number) ≡ c.args.number = search (rules, to_z-of_z) in
     let can =
-    go_give m c.args.node c.args.operator.now c.args.edges.now c.args.number g c.in-Some.start c.in-Some-from_start.to c.was_shown.result (sym c.start.ensures ∙ c.in-Some.is)
+    go_give m c.args.node c.args.operator.now c.args.edges.now c.args.number g c.in-Some.start c.in-Some-from_start.to
+    c.was_shown.result (sym c.start.ensures ∙ c.in-Some.is)
     (sym back ∙ c.in-Some-from_start.ensures.0) c.in-Some-from_start.ensures.1
     (λ h. false≢true (sym c.if-is_at.false ∙ c.is_at.ensures.1 (c.number-before.ensures ∙ h ∙ ap Some (sym back))))
-    (subst (λ o. MatchOption o (c.was_shown.result ≡ false) (λ k. (c.was_shown.result ≡ false → k <ℤ pos c.in-Some.start) × (c.was_shown.result ≡ true → pos c.in-Some.start ≤ℤ k)))
+    (subst (λ o. MatchOption o (c.was_shown.result ≡ false)
+    (λ k. (c.was_shown.result ≡ false → k <ℤ pos c.in-Some.start) × (c.was_shown.result ≡ true → pos c.in-Some.start ≤ℤ k)))
     c.number-before.ensures c.was_shown.ensures) in
     (m, can)
 
@@ -37,10 +39,12 @@ pub returns-clause-moved : goal.returns-clause-moved
 returns-clause-moved c = λ m g.
     let back : to_z w64 (of_z w64 c.args.number) ≡ c.args.number = search (rules, to_z-of_z) in
     let can =
-    go_give m c.args.node c.args.operator.now c.args.edges.now c.args.number g c.in-Some.start c.in-Some-from_start.to c.was_shown.result (sym c.start.ensures ∙ c.in-Some.is)
+    go_give m c.args.node c.args.operator.now c.args.edges.now c.args.number g c.in-Some.start c.in-Some-from_start.to
+    c.was_shown.result (sym c.start.ensures ∙ c.in-Some.is)
     (sym back ∙ c.in-Some-from_start.ensures.0) c.in-Some-from_start.ensures.1
     (λ h. false≢true (sym c.if-is_at.false ∙ c.is_at.ensures.1 (c.number-before.ensures ∙ h ∙ ap Some (sym back))))
-    (subst (λ o. MatchOption o (c.was_shown.result ≡ false) (λ k. (c.was_shown.result ≡ false → k <ℤ pos c.in-Some.start) × (c.was_shown.result ≡ true → pos c.in-Some.start ≤ℤ k)))
+    (subst (λ o. MatchOption o (c.was_shown.result ≡ false)
+    (λ k. (c.was_shown.result ≡ false → k <ℤ pos c.in-Some.start) × (c.was_shown.result ≡ true → pos c.in-Some.start ≤ℤ k)))
     c.number-before.ensures c.was_shown.ensures) in
     c.give_out.ensures.moved m can
 
@@ -48,9 +52,11 @@ pub returns-clause-fault : goal.returns-clause-fault
 returns-clause-fault c = λ m g.
     let back : to_z w64 (of_z w64 c.args.number) ≡ c.args.number = search (rules, to_z-of_z) in
     let can =
-    go_give m c.args.node c.args.operator.now c.args.edges.now c.args.number g c.in-Some.start c.in-Some-from_start.to c.was_shown.result (sym c.start.ensures ∙ c.in-Some.is)
+    go_give m c.args.node c.args.operator.now c.args.edges.now c.args.number g c.in-Some.start c.in-Some-from_start.to
+    c.was_shown.result (sym c.start.ensures ∙ c.in-Some.is)
     (sym back ∙ c.in-Some-from_start.ensures.0) c.in-Some-from_start.ensures.1
     (λ h. false≢true (sym c.if-is_at.false ∙ c.is_at.ensures.1 (c.number-before.ensures ∙ h ∙ ap Some (sym back))))
-    (subst (λ o. MatchOption o (c.was_shown.result ≡ false) (λ k. (c.was_shown.result ≡ false → k <ℤ pos c.in-Some.start) × (c.was_shown.result ≡ true → pos c.in-Some.start ≤ℤ k)))
+    (subst (λ o. MatchOption o (c.was_shown.result ≡ false)
+    (λ k. (c.was_shown.result ≡ false → k <ℤ pos c.in-Some.start) × (c.was_shown.result ≡ true → pos c.in-Some.start ≤ℤ k)))
     c.number-before.ensures c.was_shown.ensures) in
     c.give_out.ensures.fault m can

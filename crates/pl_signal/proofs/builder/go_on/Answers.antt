@@ -7,7 +7,8 @@ use Rattle.pl_signal.proofs.builder.go_on.Goals as goal
 pub returns-then-last-eq0-clause-on : goal.returns-then-last-eq0-clause-on
 returns-then-last-eq0-clause-on g c =
     let count : length c.args.knots.now.items ≡ 1 = let some = c.requires.signal.some in omega arith in
-    step_first g.P.Shape c.args.knots.now.items c.append.new.knots.items c.args.after.now c.args.at.now c.args.point.now count c.requires.later c.append.ensures.put
+    step_first g.P.Shape c.args.knots.now.items c.append.new.knots.items c.args.after.now c.args.at.now c.args.point.now count
+    c.requires.later c.append.ensures.put
 
 pub can_be_left_out-spare-requires : goal.can_be_left_out-spare-requires
 can_be_left_out-spare-requires g c =

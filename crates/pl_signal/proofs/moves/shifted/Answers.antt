@@ -13,7 +13,8 @@ use Rattle.pl_signal.specs.Moves.{Tells, BasesFrom}
 use Rattle.pl_signal.proofs.Values.{shape_at, shape_after}
 use Rattle.pl_signal.proofs.Telling.{told}
 use Rattle.rational.proofs.Mixed.{fits_of_within, within_same}
-use Rattle.pl_signal.proofs.Moving.{back_fits, minus_is, shifted_within, shift_first, shift_on, shift_later, shift_back', moved_is_function, first_is, last_of, same_knot, only_ends, bases_first, bases_on}
+use Rattle.pl_signal.proofs.Moving.{back_fits, minus_is, shifted_within, shift_first, shift_on, shift_later, shift_back'}
+use Rattle.pl_signal.proofs.Moving.{moved_is_function, first_is, last_of, same_knot, only_ends, bases_first, bases_on}
 use Rattle.pl_signal.proofs.moves.shifted.Goals as goal
 
 before_one : (j i : ℕ) → j + 1 ≡ i + 1 → j ≡ i

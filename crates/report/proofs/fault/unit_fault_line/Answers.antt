@@ -7,5 +7,6 @@ use Rattle.report.proofs.fault.unit_fault_line.Goals as goal
 
 pub returns-in-Constant : goal.returns-in-Constant
 returns-in-Constant c =
-    c.with_number.ensures ∙ ap (λ k. codes "line " ++ (decimal c.args.line ++ (codes ": node " ++ (decimal k ++ (codes ": constant out of range" ++ newline))))) c.from.ensures
+    c.with_number.ensures ∙ ap
+    (λ k. codes "line " ++ (decimal c.args.line ++ (codes ": node " ++ (decimal k ++ (codes ": constant out of range" ++ newline))))) c.from.ensures
     ∙ unit_text c.args.line c.in-Constant.node ∙ ap (unit_fault_text c.args.line) (sym c.in-Constant.is)

@@ -12,10 +12,20 @@ keep-requires-clause-text c =
     let (T, is, put) = c.put_time_before-second.ensures in
     let comma = c.put_byte-comma.ensures in
     let (F, is_first, first) = c.put-first.ensures in
-    let same = behind first (omega (arith, comma.same, put.same, comma.inside, put.inside, c.put_ending-after.ensures.same, c.put_ending-after.ensures.inside)) c.put_time_before-second.result (omega (arith, comma.inside))
-    ∙ behind comma (omega (arith, put.same, put.inside, c.put_ending-after.ensures.same, c.put_ending-after.ensures.inside)) c.put_time_before-second.result (omega arith) in
+    let same = behind first (omega (
+      arith,
+      comma.same,
+      put.same,
+      comma.inside,
+      put.inside,
+      c.put_ending-after.ensures.same,
+      c.put_ending-after.ensures.inside,
+    )) c.put_time_before-second.result (omega (arith, comma.inside))
+    ∙ behind comma (omega (arith, put.same, put.inside, c.put_ending-after.ensures.same, c.put_ending-after.ensures.inside))
+    c.put_time_before-second.result (omega arith) in
     subst (λ w. IsNumberText c.args.style.scale.time (value c.args.v.now.on.to) w)
-    (sym (ap (take (c.put_ending-after.result - c.put_time_before-second.result)) same ∙ stands put (omega (arith, c.put_ending-after.ensures.same, c.put_ending-after.ensures.inside)))) is
+    (sym (ap (take (c.put_ending-after.result - c.put_time_before-second.result)) same
+    ∙ stands put (omega (arith, c.put_ending-after.ensures.same, c.put_ending-after.ensures.inside)))) is
 
 pub returns : goal.returns
 returns c =

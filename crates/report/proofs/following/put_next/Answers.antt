@@ -6,4 +6,5 @@ use Rattle.report.proofs.following.put_next.Goals as goal
 pub returns-clause-err : goal.returns-clause-err
 returns-clause-err c =
     on_err_weaker c.push.result
-    (unpushed_puts (IsEntry c.args.style.json c.args.closes c.args.style.scale c.args.v.now) c.args.text.now c.push.new.self c.put_entry-at.ensures) c.push.ensures.err
+    (unpushed_puts (IsEntry c.args.style.json c.args.closes c.args.style.scale c.args.v.now) c.args.text.now c.push.new.self c.put_entry-at.ensures)
+    c.push.ensures.err

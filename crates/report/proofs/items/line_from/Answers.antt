@@ -16,4 +16,5 @@ returns-in-None-clause-line c =
 
 pub returns-clause-line : goal.returns-clause-line
 returns-clause-line c =
-    reading_all c.args.items.now c.args.i c.loop-k.k c.len-count.result c.loop-k.line c.loop-k.invariant (omega (arith, c.len-count.ensures, c.loop-k-test.false)) c.len-count.ensures
+    reading_all c.args.items.now c.args.i c.loop-k.k c.len-count.result c.loop-k.line c.loop-k.invariant
+    (omega (arith, c.len-count.ensures, c.loop-k-test.false)) c.len-count.ensures

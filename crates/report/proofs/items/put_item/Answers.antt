@@ -16,7 +16,8 @@ pub returns-in_err-push-clause-err : goal.returns-in_err-push-clause-err
 returns-in_err-push-clause-err c =
     let P = IsItemLine c.args.scale c.args.formula.now c.args.item.now in
     let line = line_exists c.args.scale c.args.formula.now c.args.item.now c.requires.atom in
-    part_in P c.from_residual-in_err-push.result line.0 c.args.text.now c.push.new.self [] line.0 line.1 refl (c.in_err-push.ensures.err ∙ sym (append-nil c.args.text.now))
+    part_in P c.from_residual-in_err-push.result line.0 c.args.text.now c.push.new.self [] line.0 line.1 refl
+    (c.in_err-push.ensures.err ∙ sym (append-nil c.args.text.now))
 
 pub returns-in_err-push-2-clause-err : goal.returns-in_err-push-2-clause-err
 returns-in_err-push-2-clause-err c =
@@ -25,7 +26,8 @@ returns-in_err-push-2-clause-err c =
     let line = line_with c.args.scale c.args.formula.now c.args.item.now name c.requires.atom c.in_ok-name.ensures in
     let words = truth_words c.args.item.now.holds in
     let named : c.push.new.self ≡ c.args.text.now ++ name = c.in_ok-push.ensures.ok ∙ ap (λ b. c.args.text.now ++ b) c.bytes.ensures in
-    part_in P c.from_residual-in_err-push-2.result (name ++ words ++ line.0 ++ newline) c.args.text.now c.push-2.new.self name (words ++ line.0 ++ newline) line.1 (simp append_assoc)
+    part_in P c.from_residual-in_err-push-2.result (name ++ words ++ line.0 ++ newline) c.args.text.now c.push-2.new.self name
+    (words ++ line.0 ++ newline) line.1 (simp append_assoc)
     (c.in_err-push-2.ensures.err ∙ named)
 
 pub returns-in_err-put_span-clause-err : goal.returns-in_err-put_span-clause-err
@@ -38,7 +40,8 @@ returns-in_err-put_span-clause-err c =
     let line = item_line c.args.scale c.args.formula.now c.args.item.now own.0 name (g.0 ++ g.1) own.1 (c.in_ok-name.ensures own.0 own.1) g.2 in
     let named : c.push.new.self ≡ c.args.text.now ++ name = c.in_ok-push.ensures.ok ∙ ap (λ b. c.args.text.now ++ b) c.bytes.ensures in
     let said : c.push-2.new.self ≡ c.push.new.self ++ words = c.in_ok-push-2.ensures.ok ∙ ap (λ b. c.push.new.self ++ b) c.truth_on.ensures in
-    part_in P c.from_residual-in_err-put_span.result (name ++ words ++ (g.0 ++ g.1) ++ newline) c.args.text.now c.put_span.new.text (name ++ words ++ g.0) (g.1 ++ newline) line (simp append_assoc)
+    part_in P c.from_residual-in_err-put_span.result (name ++ words ++ (g.0 ++ g.1) ++ newline) c.args.text.now c.put_span.new.text
+    (name ++ words ++ g.0) (g.1 ++ newline) line (simp append_assoc)
     (three_pieces c.args.text.now c.push.new.self c.push-2.new.self c.put_span.new.text name words g.0 named said g.3)
 
 pub returns-clause-ok : goal.returns-clause-ok
@@ -51,7 +54,11 @@ returns-clause-ok c =
     let named : c.push.new.self ≡ c.args.text.now ++ name = c.in_ok-push.ensures.ok ∙ ap (λ b. c.args.text.now ++ b) c.bytes.ensures in
     let said : c.push-2.new.self ≡ c.push.new.self ++ words = c.in_ok-push-2.ensures.ok ∙ ap (λ b. c.push.new.self ++ b) c.truth_on.ensures in
     on_ok_weaker c.push-3.result
-    (λ h. (name ++ words ++ g.0 ++ newline, line, four_pieces c.args.text.now c.push.new.self c.push-2.new.self c.put_span.new.text c.push-3.new.self name words g.0 newline named said g.2 h))
+    (λ h. (
+      name ++ words ++ g.0 ++ newline,
+      line,
+      four_pieces c.args.text.now c.push.new.self c.push-2.new.self c.put_span.new.text c.push-3.new.self name words g.0 newline named said g.2 h,
+    ))
     c.push-3.ensures.ok
 
 pub returns-clause-err : goal.returns-clause-err
@@ -64,5 +71,10 @@ returns-clause-err c =
     let named : c.push.new.self ≡ c.args.text.now ++ name = c.in_ok-push.ensures.ok ∙ ap (λ b. c.args.text.now ++ b) c.bytes.ensures in
     let said : c.push-2.new.self ≡ c.push.new.self ++ words = c.in_ok-push-2.ensures.ok ∙ ap (λ b. c.push.new.self ++ b) c.truth_on.ensures in
     on_err_weaker c.push-3.result
-    (λ h. (name ++ words ++ g.0, newline, line, h ∙ three_pieces c.args.text.now c.push.new.self c.push-2.new.self c.put_span.new.text name words g.0 named said g.2))
+    (λ h. (
+      name ++ words ++ g.0,
+      newline,
+      line,
+      h ∙ three_pieces c.args.text.now c.push.new.self c.push-2.new.self c.put_span.new.text name words g.0 named said g.2,
+    ))
     c.push-3.ensures.err

@@ -6,17 +6,20 @@ use Rattle.report.proofs.items.put_items.Goals as goal
 pub put_item-requires-clause-atom : goal.put_item-requires-clause-atom
 put_item-requires-clause-atom c =
     let inside : c.loop-i.i < length c.args.items.now = omega (arith, c.len.ensures, c.loop-i-test.true) in
-    atom_of_line c.args.formula.now c.args.items.now c.loop-i.i c.line_from-end.result.1 c.line_from-end.result.0 c.requires.atoms inside c.line_from-end.ensures.line
+    atom_of_line c.args.formula.now c.args.items.now c.loop-i.i c.line_from-end.result.1 c.line_from-end.result.0 c.requires.atoms
+    inside c.line_from-end.ensures.line
 
 pub loop-i-preserved : goal.loop-i-preserved
 loop-i-preserved c =
-    written_more c.args.scale c.args.formula.now c.args.items.now c.args.text.now c.loop-i.i c.line_from-end.result.1 c.loop-i.text c.put_item.new.text c.line_from-end.result.0
+    written_more c.args.scale c.args.formula.now c.args.items.now c.args.text.now c.loop-i.i c.line_from-end.result.1
+    c.loop-i.text c.put_item.new.text c.line_from-end.result.0
     c.loop-i.invariant c.line_from-end.ensures.within c.line_from-end.ensures.line c.in_ok-put_item.ensures.ok
 
 pub returns-in_err-put_item-clause-err : goal.returns-in_err-put_item-clause-err
 returns-in_err-put_item-clause-err c =
     on_err c.from_residual.result
-    (part_more c.args.scale c.args.formula.now c.args.items.now c.args.text.now c.loop-i.i c.line_from-end.result.1 c.loop-i.text c.put_item.new.text c.line_from-end.result.0 c.requires.atoms
+    (part_more c.args.scale c.args.formula.now c.args.items.now c.args.text.now c.loop-i.i c.line_from-end.result.1 c.loop-i.text
+    c.put_item.new.text c.line_from-end.result.0 c.requires.atoms
     c.loop-i.invariant c.line_from-end.ensures.line c.in_err-put_item.ensures.err)
 
 pub returns-clause-ok : goal.returns-clause-ok

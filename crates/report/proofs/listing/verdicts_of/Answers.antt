@@ -22,7 +22,8 @@ advance-by_gap-requires-clause-begun c =
 pub advance-by_gap-requires-clause-rising : goal.advance-by_gap-requires-clause-rising
 advance-by_gap-requires-clause-rising c =
     let next : c.loop-i.i ≡ (c.loop-i.i - 1) + 1 = omega arith in
-    next_rises truth_shape c.args.s.now (c.loop-i.i - 1) c.knot-in-loop-i.result c.knot-in-loop-i-2.result c.len-knots.ensures.signal.each c.knot-in-loop-i.ensures
+    next_rises truth_shape c.args.s.now
+    (c.loop-i.i - 1) c.knot-in-loop-i.result c.knot-in-loop-i-2.result c.len-knots.ensures.signal.each c.knot-in-loop-i.ensures
     (subst (λ n. slice_get c.args.s.now n ≡ Some c.knot-in-loop-i-2.result) next c.knot-in-loop-i-2.ensures)
 
 pub loop-i-preserved : goal.loop-i-preserved

@@ -14,7 +14,8 @@ put_next-requires-clause-from c =
 
 pub put_next-requires-clause-to : goal.put_next-requires-clause-to
 put_next-requires-clause-to c =
-    knot_within margin_shape _ c.args.s.now c.loop-i.i c.knot-in-loop-i.result c.len-knots.ensures.signal c.knot-in-loop-i.ensures c.requires.begins c.requires.ends
+    knot_within margin_shape _ c.args.s.now c.loop-i.i c.knot-in-loop-i.result c.len-knots.ensures.signal c.knot-in-loop-i.ensures
+    c.requires.begins c.requires.ends
 
 pub loop-i-init : goal.loop-i-init
 loop-i-init c = ([], lines_begin margin_shape c.args.scale c.args.s.now, sym (append-nil c.args.text.now))
@@ -23,7 +24,8 @@ pub returns-in_err-put_next-clause-err : goal.returns-in_err-put_next-clause-err
 returns-in_err-put_next-clause-err c =
     let next : c.loop-i.i ≡ suc (c.loop-i.i - 1) = omega arith in
     on_err _ (lines_part margin_shape c.args.scale c.args.s.now (c.loop-i.i - 1) c.knot.result c.knot-in-loop-i.result c.args.text.now c.loop-i.text _
-    c.knot.ensures (subst (λ n. slice_get c.args.s.now n ≡ Some c.knot-in-loop-i.result) next c.knot-in-loop-i.ensures) c.loop-i.invariant c.in_err-put_next.ensures.err)
+    c.knot.ensures (subst (λ n. slice_get c.args.s.now n ≡ Some c.knot-in-loop-i.result) next c.knot-in-loop-i.ensures)
+    c.loop-i.invariant c.in_err-put_next.ensures.err)
 
 pub loop-i-preserved : goal.loop-i-preserved
 loop-i-preserved c =
@@ -40,6 +42,8 @@ loop-i-preserved c =
 
 pub returns-clause-ok : goal.returns-clause-ok
 returns-clause-ok c =
-    let last : suc (c.loop-i.i - 1) ≡ length c.args.s.now = let t = c.loop-i-test.false in let v = c.len-knots.ensures.value in let some = c.len-knots.ensures.some in let m = c.loop-i.auto.i-end in omega arith in
-    grew_as (AreLinesTo margin_shape c.args.scale c.args.s.now (c.loop-i.i - 1)) (AreLaterLines margin_shape c.args.scale c.args.s.now) c.args.text.now c.loop-i.text
+    let last : suc (c.loop-i.i - 1) ≡ length c.args.s.now = let t = c.loop-i-test.false in let v = c.len-knots.ensures.value in
+    let some = c.len-knots.ensures.some in let m = c.loop-i.auto.i-end in omega arith in
+    grew_as (AreLinesTo margin_shape c.args.scale c.args.s.now (c.loop-i.i - 1))
+    (AreLaterLines margin_shape c.args.scale c.args.s.now) c.args.text.now c.loop-i.text
     (λ w. lines_end margin_shape c.args.scale c.args.s.now (c.loop-i.i - 1) w last) c.loop-i.invariant

@@ -9,4 +9,5 @@ returns c =
     let s = c.args.scale in
     let k = c.args.k.now in
     let n = c.args.n.now in
-    puts_then (IsPieceLine s (plain_knot margin_shape k) (plain_piece margin_shape k n)) (IsKnotLine s (plain_knot margin_shape n)) c.put_knot-knot.ensures c.put_piece.ensures
+    puts_then (IsPieceLine s (plain_knot margin_shape k) (plain_piece margin_shape k n))
+    (IsKnotLine s (plain_knot margin_shape n)) c.put_knot-knot.ensures c.put_piece.ensures

@@ -18,7 +18,8 @@ use Rattle.report.proofs.Tops.{units_same}
 use Rattle.report.proofs.margin.put_margin.Goals as goal
 
 -- of the margin that it is
-of_margin : (digits : ℕ) (m k : Margin) (t : Rational) (old new : List ℕ) (end at : ℕ) → m ≡ k → Puts (IsValueText digits (value_at (margin_function k) t)) 82 old end new at
+of_margin : (digits : ℕ) (m k : Margin) (t : Rational) (old new : List ℕ) (end at : ℕ) → m ≡ k
+    → Puts (IsValueText digits (value_at (margin_function k) t)) 82 old end new at
     → Puts (IsValueText digits (value_at (margin_function m) t)) 82 old end new at
 of_margin digits m k t old new end at e = subst (λ x. Puts (IsValueText digits (value_at (margin_function x) t)) 82 old end new at) (sym e)
 

@@ -10,7 +10,8 @@ use Rattle.report.proofs.MarginTexts.{margin_lines, later_exist, knot_within}
 use Rattle.report.proofs.margin.put_margins.Goals as goal
 
 pub put_first-requires-clause-within : goal.put_first-requires-clause-within
-put_first-requires-clause-within c = knot_within margin_shape _ c.args.s.now 0 c.knot.result c.len.ensures.signal c.knot.ensures c.requires.begins c.requires.ends
+put_first-requires-clause-within c =
+    knot_within margin_shape _ c.args.s.now 0 c.knot.result c.len.ensures.signal c.knot.ensures c.requires.begins c.requires.ends
 
 pub returns-in_err-put_first-clause-err : goal.returns-in_err-put_first-clause-err
 returns-in_err-put_first-clause-err c =
@@ -27,7 +28,8 @@ returns-clause-ok c =
     let s = c.args.scale in
     let ks = c.args.s.now in
     let Line = IsKnotLine s (plain_knot f c.knot.result) in
-    on_ok_weaker c.put_later.result (λ more. grew_as (Then Line (AreLaterLines f s ks)) (AreMarginLines s (knots_of f ks)) c.args.text.now _ (margin_lines f s ks c.knot.result c.knot.ensures)
+    on_ok_weaker c.put_later.result (λ more.
+    grew_as (Then Line (AreLaterLines f s ks)) (AreMarginLines s (knots_of f ks)) c.args.text.now _ (margin_lines f s ks c.knot.result c.knot.ensures)
     (grew_then Line (AreLaterLines f s ks) c.args.text.now _ _ c.in_ok-put_first.ensures.ok more)) c.put_later.ensures.ok
 
 pub returns-clause-err : goal.returns-clause-err
@@ -36,5 +38,6 @@ returns-clause-err c =
     let s = c.args.scale in
     let ks = c.args.s.now in
     let Line = IsKnotLine s (plain_knot f c.knot.result) in
-    on_err_weaker c.put_later.result (λ more. part_as (Then Line (AreLaterLines f s ks)) (AreMarginLines s (knots_of f ks)) c.args.text.now _ (margin_lines f s ks c.knot.result c.knot.ensures)
+    on_err_weaker c.put_later.result (λ more.
+    part_as (Then Line (AreLaterLines f s ks)) (AreMarginLines s (knots_of f ks)) c.args.text.now _ (margin_lines f s ks c.knot.result c.knot.ensures)
     (part_then Line (AreLaterLines f s ks) c.args.text.now _ _ c.in_ok-put_first.ensures.ok more)) c.put_later.ensures.err

@@ -15,7 +15,8 @@ returns c =
     let (x, is_x, put_x) = c.put_margin-last.ensures in
     let (v, is_v, put_v) = c.put_margin-first.ensures in
     let limits = put_then (put_then (put_then (put_then c.put_word-line.ensures put_x) c.put_word-arrow.ensures) put_v) c.put_word-middle.ensures in
-    let all = put_then (put_then (put_then (put_then limits c.put_lowest-to.ensures) c.put_word-comma.ensures) c.put_lowest-from.ensures) c.put_word.ensures in (
+    let all =
+    put_then (put_then (put_then (put_then limits c.put_lowest-to.ensures) c.put_word-comma.ensures) c.put_lowest-from.ensures) c.put_word.ensures in (
       codes "(" ++ A ++ codes "," ++ B ++ codes ") " ++ v ++ codes " -> " ++ x ++ newline,
       (
         A,

@@ -33,21 +33,28 @@ returns-in-High-clause-err c =
 pub returns-in-Fixed-clause-ok : goal.returns-in-Fixed-clause-ok
 returns-in-Fixed-clause-ok c =
     value_ok c.put_fraction.result c.args.digits c.args.m.now (Fixed c.in-Fixed.c) (value c.args.at.now) c.args.text.now c.put_fraction.new.text c.in-Fixed.is
-    (number_ok c.put_fraction.result c.args.digits (at (constant (value c.in-Fixed.c)) (value c.args.at.now)) c.in_units.result c.args.text.now c.put_fraction.new.text
-    (units_same c.args.digits (value c.in-Fixed.c) (at (constant (value c.in-Fixed.c)) (value c.args.at.now)) c.in_units.result.negative c.in_units.result.size c.in_units.result.den (same_sym (at_constant (value c.in-Fixed.c) (value c.args.at.now))) c.in_units.ensures) c.put_fraction.ensures.ok)
+    (number_ok c.put_fraction.result c.args.digits
+    (at (constant (value c.in-Fixed.c)) (value c.args.at.now)) c.in_units.result c.args.text.now c.put_fraction.new.text
+    (units_same c.args.digits (value c.in-Fixed.c) (at (constant (value c.in-Fixed.c)) (value c.args.at.now)) c.in_units.result.negative
+    c.in_units.result.size c.in_units.result.den (same_sym (at_constant (value c.in-Fixed.c) (value c.args.at.now))) c.in_units.ensures)
+    c.put_fraction.ensures.ok)
 
 pub returns-in-Fixed-clause-err : goal.returns-in-Fixed-clause-err
 returns-in-Fixed-clause-err c =
     value_err c.put_fraction.result c.args.digits c.args.m.now (Fixed c.in-Fixed.c) (value c.args.at.now) c.args.text.now c.put_fraction.new.text c.in-Fixed.is
-    (number_err c.put_fraction.result c.args.digits (at (constant (value c.in-Fixed.c)) (value c.args.at.now)) c.in_units.result c.args.text.now c.put_fraction.new.text
-    (units_same c.args.digits (value c.in-Fixed.c) (at (constant (value c.in-Fixed.c)) (value c.args.at.now)) c.in_units.result.negative c.in_units.result.size c.in_units.result.den (same_sym (at_constant (value c.in-Fixed.c) (value c.args.at.now))) c.in_units.ensures) c.put_fraction.ensures.err)
+    (number_err c.put_fraction.result c.args.digits
+    (at (constant (value c.in-Fixed.c)) (value c.args.at.now)) c.in_units.result c.args.text.now c.put_fraction.new.text
+    (units_same c.args.digits (value c.in-Fixed.c) (at (constant (value c.in-Fixed.c)) (value c.args.at.now)) c.in_units.result.negative
+    c.in_units.result.size c.in_units.result.den (same_sym (at_constant (value c.in-Fixed.c) (value c.args.at.now))) c.in_units.ensures)
+    c.put_fraction.ensures.err)
 
 pub returns-in-Ramp-clause-ok : goal.returns-in-Ramp-clause-ok
 returns-in-Ramp-clause-ok c =
     let n = c.quotient_in_units.result in
     let v = at (line c.in-Ramp.f) (value c.args.at.now) in
     let units = units_same c.args.digits (number c.at.result) v n.negative n.size n.den c.at.ensures.value c.quotient_in_units.ensures in
-    value_ok c.put_fraction-in-Ramp.result c.args.digits c.args.m.now (Ramp c.in-Ramp.f) (value c.args.at.now) c.args.text.now c.put_fraction-in-Ramp.new.text c.in-Ramp.is
+    value_ok c.put_fraction-in-Ramp.result c.args.digits c.args.m.now (Ramp c.in-Ramp.f)
+    (value c.args.at.now) c.args.text.now c.put_fraction-in-Ramp.new.text c.in-Ramp.is
     (number_ok c.put_fraction-in-Ramp.result c.args.digits v n c.args.text.now c.put_fraction-in-Ramp.new.text units c.put_fraction-in-Ramp.ensures.ok)
 
 pub returns-in-Ramp-clause-err : goal.returns-in-Ramp-clause-err
@@ -55,5 +62,6 @@ returns-in-Ramp-clause-err c =
     let n = c.quotient_in_units.result in
     let v = at (line c.in-Ramp.f) (value c.args.at.now) in
     let units = units_same c.args.digits (number c.at.result) v n.negative n.size n.den c.at.ensures.value c.quotient_in_units.ensures in
-    value_err c.put_fraction-in-Ramp.result c.args.digits c.args.m.now (Ramp c.in-Ramp.f) (value c.args.at.now) c.args.text.now c.put_fraction-in-Ramp.new.text c.in-Ramp.is
+    value_err c.put_fraction-in-Ramp.result c.args.digits c.args.m.now (Ramp c.in-Ramp.f)
+    (value c.args.at.now) c.args.text.now c.put_fraction-in-Ramp.new.text c.in-Ramp.is
     (number_err c.put_fraction-in-Ramp.result c.args.digits v n c.args.text.now c.put_fraction-in-Ramp.new.text units c.put_fraction-in-Ramp.ensures.err)

@@ -17,7 +17,8 @@ returns-in_err-push-clause-err c =
     let new = c.push.new.self in
     let v = value_at (margin_function c.args.m.now) (value c.args.at.now) in
     on_err c.from_residual.result
-    (part_first (Is lead) (IsValueText c.args.digits v) old new (part_none (Is lead) old new (lead, refl) c.in_err-push.ensures.err) (value_exists c.args.digits v))
+    (part_first (Is lead) (IsValueText c.args.digits v) old new
+    (part_none (Is lead) old new (lead, refl) c.in_err-push.ensures.err) (value_exists c.args.digits v))
 
 pub returns-clause-ok : goal.returns-clause-ok
 returns-clause-ok c =
@@ -25,7 +26,8 @@ returns-clause-ok c =
     let v = value_at (margin_function c.args.m.now) (value c.args.at.now) in
     let mid = c.push.new.self in
     on_ok_weaker c.put_value.result
-    (grew_then (Is lead) (IsValueText c.args.digits v) c.args.text.now mid c.put_value.new.text (grew_is lead c.args.text.now mid c.in_ok-push.ensures.ok)) c.put_value.ensures.ok
+    (grew_then (Is lead) (IsValueText c.args.digits v) c.args.text.now mid c.put_value.new.text
+    (grew_is lead c.args.text.now mid c.in_ok-push.ensures.ok)) c.put_value.ensures.ok
 
 pub returns-clause-err : goal.returns-clause-err
 returns-clause-err c =
@@ -33,4 +35,5 @@ returns-clause-err c =
     let v = value_at (margin_function c.args.m.now) (value c.args.at.now) in
     let mid = c.push.new.self in
     on_err_weaker c.put_value.result
-    (part_then (Is lead) (IsValueText c.args.digits v) c.args.text.now mid c.put_value.new.text (grew_is lead c.args.text.now mid c.in_ok-push.ensures.ok)) c.put_value.ensures.err
+    (part_then (Is lead) (IsValueText c.args.digits v) c.args.text.now mid c.put_value.new.text
+    (grew_is lead c.args.text.now mid c.in_ok-push.ensures.ok)) c.put_value.ensures.err

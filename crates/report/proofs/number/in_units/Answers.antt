@@ -21,7 +21,8 @@ pub returns : goal.returns
 returns c =
     let t = c.args.t.now in
     let tens : c.pow-tens.result ≡ 10 ^ c.args.digits = c.pow-tens.ensures ∙ ap (λ n. 10 ^ n) c.from-2.ensures in
-    let common : IsGcd c.top-negative.result.1 (10 ^ c.args.digits) c.common_with-common.result = subst (λ n. IsGcd c.top-negative.result.1 n c.common_with-common.result) tens c.common_with-common.ensures.common in
+    let common : IsGcd c.top-negative.result.1 (10 ^ c.args.digits) c.common_with-common.result =
+    subst (λ n. IsGcd c.top-negative.result.1 n c.common_with-common.result) tens c.common_with-common.ensures.common in
     let den : c.from-3.result ≡ t.den = c.from-3.ensures ∙ c.den-2.ensures in
     let rest : c.from-4.result ≡ 10 ^ c.args.digits / c.common_with-common.result = c.from-4.ensures ∙ ap (λ n. n / c.common_with-common.result) tens in
     rw (c.quotient.ensures, den, rest)

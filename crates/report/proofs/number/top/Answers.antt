@@ -7,7 +7,8 @@ use Rattle.report.proofs.Tops.{mixed_below, sum_below, sum_above}
 use Rattle.report.proofs.number.top.Goals as goal
 
 -- the size and the rest make up the whole parts
-parts_add : (c : goal.Then-whole-lt0) → (c.from.result * c.from-2.result - c.from-rest.result) + c.args.t.now.rest ≡ unsigned_abs c.args.t.now.whole * c.args.t.now.den
+parts_add : (c : goal.Then-whole-lt0)
+    → (c.from.result * c.from-2.result - c.from-rest.result) + c.args.t.now.rest ≡ unsigned_abs c.args.t.now.whole * c.args.t.now.den
 parts_add c =
     let t = c.args.t.now in
     let size : c.from.result ≡ unsigned_abs t.whole = omega (arith, ints, c.unsigned_abs.ensures.value) in
@@ -35,5 +36,6 @@ returns-else-whole-lt0-clause-lowest c =
     let den : c.from-2.result ≡ t.den = omega arith in
     let rest : c.from-rest.result ≡ t.rest = omega arith in
     let size : c.from.result * c.from-2.result + c.from-rest.result ≡ unsigned_abs t.whole * t.den + t.rest = cc in
-    let e : t.whole *ℤ pos t.den +ℤ pos t.rest ≡ pos (c.from.result * c.from-2.result + c.from-rest.result) = sum_above t.whole t.rest t.den _ (omega (arith, ints)) size in
+    let e : t.whole *ℤ pos t.den +ℤ pos t.rest ≡ pos (c.from.result * c.from-2.result + c.from-rest.result) =
+    sum_above t.whole t.rest t.den _ (omega (arith, ints)) size in
     subst (λ n. IsLowest n t.den) e (lowest_add t.whole t.rest t.den t.lowest)

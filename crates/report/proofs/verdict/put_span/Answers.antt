@@ -14,7 +14,8 @@ abbrev text_of : Lowest → List ℕ
 text_of n = fraction_text (signed n.negative n.size) n.den
 
 -- the whole text of the span
-whole : (c : After-in_units-to) → IsSpanText c.args.scale c.args.on.now (before c.args.on.now.from_in ++ text_of c.in_units-from.result ++ codes "," ++ text_of c.in_units-to.result ++ after c.args.on.now.to_in)
+whole : (c : After-in_units-to) → IsSpanText c.args.scale c.args.on.now
+    (before c.args.on.now.from_in ++ text_of c.in_units-from.result ++ codes "," ++ text_of c.in_units-to.result ++ after c.args.on.now.to_in)
 whole c =
     span_text c.args.scale c.args.on.now _ _
     (number_text c.args.scale.time (value c.args.on.now.from) _ _ _ c.in_units-from.ensures)
@@ -25,21 +26,25 @@ after_two a b c d e = simp append_assoc
 
 pub returns-in_err-push-clause-err : goal.returns-in_err-push-clause-err
 returns-in_err-push-clause-err c =
-    part_in (IsSpanText c.args.scale c.args.on.now) _ _ _ _ [] _ (whole (goal.at.returns-in_err-push-clause-err c).After-in_units-to) refl (grind (arith, common_steps))
+    part_in (IsSpanText c.args.scale c.args.on.now) _ _ _ _ [] _
+    (whole (goal.at.returns-in_err-push-clause-err c).After-in_units-to) refl (grind (arith, common_steps))
 
 pub returns-in_err-put_fraction-clause-err : goal.returns-in_err-put_fraction-clause-err
 returns-in_err-put_fraction-clause-err c =
     let span = c.args.on.now in
     let P = IsSpanText c.args.scale span in
-    part_inside P _ (before span.from_in) (text_of c.in_units-from.result) (codes "," ++ text_of c.in_units-to.result ++ after span.to_in) c.args.text.now c.push.new.self _
-    (subst P (after_two (before span.from_in) (text_of c.in_units-from.result) (codes ",") (text_of c.in_units-to.result) (after span.to_in)) (whole (goal.at.returns-in_err-put_fraction-clause-err c).After-in_units-to))
+    part_inside P _ (before span.from_in) (text_of c.in_units-from.result)
+    (codes "," ++ text_of c.in_units-to.result ++ after span.to_in) c.args.text.now c.push.new.self _
+    (subst P (after_two (before span.from_in) (text_of c.in_units-from.result) (codes ",") (text_of c.in_units-to.result) (after span.to_in))
+    (whole (goal.at.returns-in_err-put_fraction-clause-err c).After-in_units-to))
     (grind (arith, common_steps)) c.in_err-put_fraction.ensures.err
 
 pub returns-in_err-push-2-clause-err : goal.returns-in_err-push-2-clause-err
 returns-in_err-push-2-clause-err c =
     let span = c.args.on.now in
     let P = IsSpanText c.args.scale span in
-    part_in P _ _ _ _ (before span.from_in ++ text_of c.in_units-from.result) (codes "," ++ text_of c.in_units-to.result ++ after span.to_in) (whole (goal.at.returns-in_err-push-2-clause-err c).After-in_units-to)
+    part_in P _ _ _ _ (before span.from_in ++ text_of c.in_units-from.result) (codes "," ++ text_of c.in_units-to.result ++ after span.to_in)
+    (whole (goal.at.returns-in_err-push-2-clause-err c).After-in_units-to)
     (sym (after_two (before span.from_in) (text_of c.in_units-from.result) (codes ",") (text_of c.in_units-to.result) (after span.to_in)))
     (grind (arith, common_steps))
 
@@ -47,15 +52,22 @@ pub returns-in_err-put_fraction-2-clause-err : goal.returns-in_err-put_fraction-
 returns-in_err-put_fraction-2-clause-err c =
     let span = c.args.on.now in
     let P = IsSpanText c.args.scale span in
-    part_inside P _ (before span.from_in ++ text_of c.in_units-from.result ++ codes ",") (text_of c.in_units-to.result) (after span.to_in) c.args.text.now c.push-2.new.self _
+    part_inside P _ (before span.from_in ++ text_of c.in_units-from.result ++ codes ",") (text_of c.in_units-to.result)
+    (after span.to_in) c.args.text.now c.push-2.new.self _
     (whole (goal.at.returns-in_err-put_fraction-2-clause-err c).After-in_units-to)
     (grind (arith, common_steps)) c.in_err-put_fraction-2.ensures.err
 
 pub returns-clause-ok : goal.returns-clause-ok
-returns-clause-ok c = on_ok_weaker c.push-3.result (λ h. (_, whole (goal.at.returns-clause-ok c).After-in_units-to, grind (arith, common_steps))) c.push-3.ensures.ok
+returns-clause-ok c = on_ok_weaker c.push-3.result
+    (λ h. (_, whole (goal.at.returns-clause-ok c).After-in_units-to, grind (arith, common_steps))) c.push-3.ensures.ok
 
 pub returns-clause-err : goal.returns-clause-err
 returns-clause-err c =
     let span = c.args.on.now in
     let P = IsSpanText c.args.scale span in
-    on_err_weaker c.push-3.result (λ h. (before span.from_in ++ text_of c.in_units-from.result ++ codes "," ++ text_of c.in_units-to.result, after span.to_in, whole (goal.at.returns-clause-err c).After-in_units-to, grind (arith, common_steps))) c.push-3.ensures.err
+    on_err_weaker c.push-3.result (λ h. (
+      before span.from_in ++ text_of c.in_units-from.result ++ codes "," ++ text_of c.in_units-to.result,
+      after span.to_in,
+      whole (goal.at.returns-clause-err c).After-in_units-to,
+      grind (arith, common_steps),
+    )) c.push-3.ensures.err

@@ -18,7 +18,8 @@ tell_stop-requires-clause-reason c =
 pub returns-in-Ok : goal.returns-in-Ok
 returns-in-Ok c = λ f o told was recent stands.
     let new = c.finish.new.self in
-    told_text c.tell.result f c.args.tag.now o (stopped_now o) told new.text c.args.recent.now c.tell.new.recent c.args.out.now c.tell.new.out (λ _. Unit {0}) was
+    told_text c.tell.result f c.args.tag.now o
+    (stopped_now o) told new.text c.args.recent.now c.tell.new.recent c.args.out.now c.tell.new.out (λ _. Unit {0}) was
     (alone_at_end f o.bytes told c.args.live.now new c.in-Ok.field-0 stands (c.in-Ok.ensures.over o.bytes told stands.stands)) recent tt
     (subst (λ t. MatchResult c.tell.result (λ _. HasSaid c.args.tag.now t c.args.recent.now c.tell.new.recent c.args.out.now c.tell.new.out)
     (λ _. GrewInPart (Is (told_lines c.args.tag.now t)) c.args.out.now c.tell.new.out)) c.text.ensures c.tell.ensures)

@@ -14,14 +14,16 @@ tell_stop-requires-clause-reason c =
     let (f, bytes, told, stands) = c.requires.stands in
     let live = c.args.live.now in
     subst (λ (g : Formula). HasReason g c.in-Err.stop) (sym c.in-Err.ensures.formula)
-    (reason_of live.rows.limits live.formula (bytes ++ (c.args.content.now ++ newline)) (told ++ c.feed_line.new.live.text) false c.in-Err.stop (c.in-Err.ensures.taken bytes told stands.stands))
+    (reason_of live.rows.limits live.formula (bytes ++ (c.args.content.now ++ newline))
+    (told ++ c.feed_line.new.live.text) false c.in-Err.stop (c.in-Err.ensures.taken bytes told stands.stands))
 
 pub returns-in_err-tell-in-Ok : goal.returns-in_err-tell-in-Ok
 returns-in_err-tell-in-Ok c = λ f o told was recent going stands.
     let p = err_from_is_err_and c.from_residual.result c.from_residual.ensures.1 in
     let mid = c.feed_line.new.live in
     rw p.1 (cut_short f c.args.tag.now o (next_line o c.args.content.now) told mid.text was
-    (line_alone f c.args.tag.now o c.args.content.now told going mid (c.in-Ok.ensures.taken o.bytes told stands.stands) (c.in-Ok.ensures.formula ∙ stands.formula) (c.in-Ok.ensures.limits ∙ stands.limits))
+    (line_alone f c.args.tag.now o c.args.content.now told going mid (c.in-Ok.ensures.taken o.bytes told stands.stands)
+    (c.in-Ok.ensures.formula ∙ stands.formula) (c.in-Ok.ensures.limits ∙ stands.limits))
     c.args.out.now c.tell.new.out
     (subst (λ t. GrewInPart (Is (told_lines c.args.tag.now t)) c.args.out.now c.tell.new.out) c.text.ensures c.in_err-tell-in-Ok.ensures))
 
@@ -43,7 +45,8 @@ returns-in_err-tell_stop-in-Err c = λ f o told was recent going stands.
     let text = told ++ c.feed_line.new.live.text in
     rw p.1 (c.in_err-tell_stop-in-Err.ensures f o (next_line o c.args.content.now) told (c.in-Err.ensures.formula ∙ stands.formula) recent was
     (line_stopped f c.args.tag.now o c.args.content.now told going text c.in-Err.stop
-    (stopped_at f o.bytes told c.args.live.now (o.bytes ++ (c.args.content.now ++ newline)) text false c.in-Err.stop stands (c.in-Err.ensures.taken o.bytes told stands.stands))))
+    (stopped_at f o.bytes told c.args.live.now (o.bytes ++ (c.args.content.now ++ newline)) text false c.in-Err.stop stands
+    (c.in-Err.ensures.taken o.bytes told stands.stands))))
 
 pub returns-in_ok-tell_stop-in-Err : goal.returns-in_ok-tell_stop-in-Err
 returns-in_ok-tell_stop-in-Err c = λ f o told was recent going stands.
@@ -51,4 +54,5 @@ returns-in_ok-tell_stop-in-Err c = λ f o told was recent going stands.
     line_faulted f c.args.tag.now o c.args.content.now told going c.tell_stop.new.recent c.args.out.now c.tell_stop.new.out c.feed_line.new.live
     (c.in_ok-tell_stop-in-Err.ensures f o (next_line o c.args.content.now) told (c.in-Err.ensures.formula ∙ stands.formula) recent was
     (line_stopped f c.args.tag.now o c.args.content.now told going text c.in-Err.stop
-    (stopped_at f o.bytes told c.args.live.now (o.bytes ++ (c.args.content.now ++ newline)) text false c.in-Err.stop stands (c.in-Err.ensures.taken o.bytes told stands.stands))))
+    (stopped_at f o.bytes told c.args.live.now (o.bytes ++ (c.args.content.now ++ newline)) text false c.in-Err.stop stands
+    (c.in-Err.ensures.taken o.bytes told stands.stands))))

@@ -24,6 +24,7 @@ pub returns : goal.returns
 returns c = λ f o p told same recent was stop.
     let text = c.args.live.now.text in
     let at = subst (λ (e : StreamStop). IsStoppedAt f p (told ++ text) e) c.in-Fault.is stop in
-    stop_told f c.args.tag.now o p told text c.in-Fault.fault was at c.tell_fault.result c.args.recent.now c.tell.new.recent c.tell_fault.new.recent c.args.out.now c.tell.new.out c.tell_fault.new.out recent
+    stop_told f c.args.tag.now o p told text c.in-Fault.fault was at c.tell_fault.result c.args.recent.now c.tell.new.recent
+    c.tell_fault.new.recent c.args.out.now c.tell.new.out c.tell_fault.new.out recent
     (subst (λ t. HasSaid c.args.tag.now t c.args.recent.now c.tell.new.recent c.args.out.now c.tell.new.out) c.text.ensures c.in_ok-tell.ensures)
     (c.tell_fault.ensures at.0 (subst (λ (g : Formula). IsFault g c.in-Fault.fault at.0) (sym (c.formula.ensures ∙ same)) at.1))

@@ -6,4 +6,8 @@ pub overflow_mul-number : goal.overflow_mul-number
 overflow_mul-number c = omega (arith, number_room c.args.tag.now c.loop-at.at c.loop-at.number c.requires (omega arith) (omega arith) c.loop-at.invariant)
 
 pub overflow_add-number : goal.overflow_add-number
-overflow_add-number c = omega (arith, c.from.ensures, number_room c.args.tag.now c.loop-at.at c.loop-at.number c.requires (omega arith) (omega arith) c.loop-at.invariant)
+overflow_add-number c = omega (
+  arith,
+  c.from.ensures,
+  number_room c.args.tag.now c.loop-at.at c.loop-at.number c.requires (omega arith) (omega arith) c.loop-at.invariant,
+)

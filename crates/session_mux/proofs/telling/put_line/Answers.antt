@@ -6,10 +6,15 @@ use Rattle.session_mux.proofs.telling.put_line.Goals as goal
 
 -- the tag, or the tag and the mark
 after_tag : (old mid new tag mark line : List ℕ) → mid ≡ old ++ tag → new ≡ mid → GrewInPart (Is (tag ++ mark ++ line ++ newline)) old new
-after_tag old mid new tag mark line e k =
-    (tag, mark ++ line ++ newline, sym (append_assoc tag (mark ++ line) newline ∙ ap (λ w. w) refl) ∙ ap (λ w. w ++ newline) (sym (append_assoc tag mark line)), k ∙ e)
+after_tag old mid new tag mark line e k = (
+  tag,
+  mark ++ line ++ newline,
+  sym (append_assoc tag (mark ++ line) newline ∙ ap (λ w. w) refl) ∙ ap (λ w. w ++ newline) (sym (append_assoc tag mark line)),
+  k ∙ e,
+)
 
-after_mark : (old mid next new tag mark line : List ℕ) → mid ≡ old ++ tag → next ≡ mid ++ mark → new ≡ next → GrewInPart (Is (tag ++ mark ++ line ++ newline)) old new
+after_mark : (old mid next new tag mark line : List ℕ) → mid ≡ old ++ tag → next ≡ mid ++ mark → new ≡ next
+    → GrewInPart (Is (tag ++ mark ++ line ++ newline)) old new
 after_mark old mid next new tag mark line e f k =
     (tag ++ mark, line ++ newline, sym (append_assoc (tag ++ mark) line newline), k ∙ f ∙ ap (λ w. w ++ mark) e ∙ append_assoc old tag mark)
 
@@ -19,4 +24,5 @@ returns-in_err-push-2-clause-err c =
 
 pub returns-in_err-push-3-clause-err : goal.returns-in_err-push-3-clause-err
 returns-in_err-push-3-clause-err c =
-    on_err _ (after_mark c.args.out.now _ _ _ c.args.tag.now c.args.mark.now c.args.line.now c.in_ok-push.ensures.ok c.in_ok-push-2.ensures.ok c.in_err-push-3.ensures.err)
+    on_err _ (after_mark c.args.out.now _ _ _ c.args.tag.now c.args.mark.now c.args.line.now c.in_ok-push.ensures.ok
+    c.in_ok-push-2.ensures.ok c.in_err-push-3.ensures.err)

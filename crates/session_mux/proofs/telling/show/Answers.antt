@@ -21,7 +21,8 @@ drop_at (y ∷ xs) (suc i) x e = drop_at xs i x e
 drop_one : {X : Type 0} (xs : List X) (i : ℕ) (x : X) → slice_get xs i ≡ Some x → drop i xs ≡ x ∷ drop (i + 1) xs
 drop_one xs i x e = rw add-one (drop_at xs i x e)
 
-module _ (prefix before mid : List ℕ) (all : List (List ℕ)) (i : ℕ) (line : List ℕ) (at : slice_get all i ≡ Some line) (so : mid ≡ before ++ prefixed_texts prefix (take i all)) where
+module _ (prefix before mid : List ℕ) (all : List (List ℕ)) (i : ℕ) (line : List ℕ) (at : slice_get all i ≡ Some line)
+    (so : mid ≡ before ++ prefixed_texts prefix (take i all)) where
   shown_on : (after : List ℕ) → after ≡ mid ++ (prefix ++ line ++ newline) → after ≡ before ++ prefixed_texts prefix (take (i + 1) all)
   shown_on after e =
       e ∙ ap (λ w. w ++ (prefix ++ line ++ newline)) so ∙ append_assoc before (prefixed_texts prefix (take i all)) (prefix ++ line ++ newline)
@@ -33,7 +34,8 @@ module _ (prefix before mid : List ℕ) (all : List (List ℕ)) (i : ℕ) (line 
     prefixed_texts prefix (take i all) ++ a,
     b ++ prefixed_texts prefix (drop (i + 1) all),
     append_assoc (prefixed_texts prefix (take i all)) a (b ++ prefixed_texts prefix (drop (i + 1) all))
-        ∙ ap (λ w. prefixed_texts prefix (take i all) ++ w) (sym (append_assoc a b (prefixed_texts prefix (drop (i + 1) all))) ∙ ap (λ w. w ++ prefixed_texts prefix (drop (i + 1) all)) whole)
+        ∙ ap (λ w. prefixed_texts prefix (take i all) ++ w)
+        (sym (append_assoc a b (prefixed_texts prefix (drop (i + 1) all))) ∙ ap (λ w. w ++ prefixed_texts prefix (drop (i + 1) all)) whole)
         ∙ sym (ap (λ ts. prefixed_texts prefix ts) (sym (take-append-drop i all) ∙ ap (λ ts. take i all ++ ts) (drop_one all i line at))
         ∙ flat_map-append (λ (l : List ℕ). prefix ++ l ++ newline) (take i all) (line ∷ drop (i + 1) all)),
     k ∙ ap (λ w. w ++ a) so ∙ append_assoc before (prefixed_texts prefix (take i all)) a,

@@ -10,8 +10,10 @@ returns-then-is_some g c = with_case c.args.formula.now c.args.rows.now c.args.b
 
 pub returns-in-Err : goal.returns-in-Err
 returns-in-Err g c =
-    lacking_header c.args.formula.now c.args.rows.now c.args.begun.now c.args.refusal c.header.result.now c.requires c.header.ensures c.in-NoRows.is (sym c.if-is_some.ensures) c.in-Err.stop c.in-Err.ensures
+    lacking_header c.args.formula.now c.args.rows.now c.args.begun.now c.args.refusal c.header.result.now c.requires
+    c.header.ensures c.in-NoRows.is (sym c.if-is_some.ensures) c.in-Err.stop c.in-Err.ensures
 
 pub returns : goal.returns
 returns g c =
-    fitting_header c.args.formula.now c.args.rows.now c.args.begun.now c.args.refusal c.header.result.now c.requires c.header.ensures c.in-NoRows.is c.in_default-begin.field-0 c.in_default-begin.ensures
+    fitting_header c.args.formula.now c.args.rows.now c.args.begun.now c.args.refusal c.header.result.now c.requires
+    c.header.ensures c.in-NoRows.is c.in_default-begin.field-0 c.in_default-begin.ensures

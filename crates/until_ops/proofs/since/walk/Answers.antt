@@ -8,7 +8,8 @@ use Rattle.pl_signal.proofs.Moving.{at_knot_within, same_knot}
 use Rattle.pl_signal.proofs.Places.{begun_before, more_knots}
 use Rattle.until_ops.proofs.LimitLemmas.{after_bounded}
 use Rattle.until_ops.proofs.PlayLemmas.{Follows, cross_cause, cross_within, left_plays, played, right_plays, value_cause, value_within}
-use Rattle.until_ops.proofs.WalkLemmas.{IsNext, IsWalk, begins_before, gap_follows, gap_to, gap_within, is_gap, more_right, nearer, played_level, starts_within, walked}
+use Rattle.until_ops.proofs.WalkLemmas.{IsNext, IsWalk, begins_before, gap_follows, gap_to, gap_within}
+use Rattle.until_ops.proofs.WalkLemmas.{is_gap, more_right, nearer, played_level, starts_within, walked}
 use Rattle.until_ops.proofs.since.walk.Given.{Over}
 use Rattle.until_ops.proofs.since.walk.Goals.{After-earlier-next, After-course_over, After-join}
 use Rattle.until_ops.proofs.since.walk.Goals as goal

@@ -20,9 +20,11 @@ loop-last-preserved g c =
     slice_get_read c.args.items.now (length c.args.items.now) c.args.place c.index-items-place.result (search rules) (search rules) (search rules) in
     let le : IsAtMost g.P.Shape.function c.index-items-last.result c.index-items-place.result = le_of_ltᵉ _ _ c.in-Less.ensures.order in
     let rest : c.pop_back.new.self.items ≡ take (deque_len c.loop-last.queue - 1) c.loop-last.queue.items = c.pop_back.ensures.rest in (
-      subst (λ xs. All (λ i. i < length c.args.items.now) xs) (sym rest) (All-take (λ i. i < length c.args.items.now) (deque_len c.loop-last.queue - 1) c.loop-last.queue.items c.loop-last.invariant.0),
+      subst (λ xs. All (λ i. i < length c.args.items.now) xs) (sym rest)
+          (All-take (λ i. i < length c.args.items.now) (deque_len c.loop-last.queue - 1) c.loop-last.queue.items c.loop-last.invariant.0),
       λ low h. subst (λ xs. AreStairsTo g.P.Shape.function c.args.items.now c.args.place low c.args.place xs) (sym rest)
-          (without_last g.P.Shape.function c.args.items.now c.args.place low c.args.place c.in-Some.last (take (deque_len c.loop-last.queue - 1) c.loop-last.queue.items) c.index-items-last.result
+          (without_last g.P.Shape.function c.args.items.now c.args.place low c.args.place c.in-Some.last
+          (take (deque_len c.loop-last.queue - 1) c.loop-last.queue.items) c.index-items-last.result
           u (λ y w. subst (λ y. IsAtMost g.P.Shape.function c.index-items-last.result y) (some_same (sym v ∙ w)) le)
           (subst (λ xs. AreStairsTo g.P.Shape.function c.args.items.now c.args.place low c.args.place xs) e (c.loop-last.invariant.1 low h))),
       search rules,
@@ -39,11 +41,13 @@ returns-in_default-cmp g c =
     slice_get_read c.args.items.now (length c.args.items.now) c.in-Some.last c.index-items-last.result (search rules) (search rules) (search rules) in
     let v : slice_get c.args.items.now c.args.place ≡ Some c.index-items-place.result =
     slice_get_read c.args.items.now (length c.args.items.now) c.args.place c.index-items-place.result (search rules) (search rules) (search rules) in
-    let le : IsAtMost g.P.Shape.function c.index-items-place.result c.index-items-last.result = at_most_where_not_less _ _ _ c.cmp.ensures.order c.in_default-cmp.not-Less in
+    let le : IsAtMost g.P.Shape.function c.index-items-place.result c.index-items-last.result =
+    at_most_where_not_less _ _ _ c.cmp.ensures.order c.in_default-cmp.not-Less in
     record {
       stairs = λ low l h.
           subst (λ xs. AreStairs g.P.Shape.function c.args.items.now low (c.args.place + 1) (xs ++ c.args.place ∷ [])) (sym e)
-          (with_last g.P.Shape.function c.args.items.now c.args.place low c.in-Some.last (take (deque_len c.loop-last.queue - 1) c.loop-last.queue.items) c.index-items-last.result
+          (with_last g.P.Shape.function c.args.items.now c.args.place low c.in-Some.last
+          (take (deque_len c.loop-last.queue - 1) c.loop-last.queue.items) c.index-items-last.result
           u (λ y w. subst (λ y. IsAtMost g.P.Shape.function y c.index-items-last.result) (some_same (sym v ∙ w)) le)
           (subst (λ xs. AreStairsTo g.P.Shape.function c.args.items.now c.args.place low c.args.place xs) e (c.loop-last.invariant.1 low h)));
       room = search rules;

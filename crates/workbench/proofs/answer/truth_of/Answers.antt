@@ -11,4 +11,5 @@ unreachable-requires c =
     let case = c.args.case.now in
     let s = truth_setting case.trace in
     let wide = subst (IsFault truth_shape case.formula.nodes s) c.in-Err-Wide.field-0-is c.in-Err-Wide.ensures.wide in
-    levels_are_never_wide truth_shape (λ p. truth_value p.holds) (λ p. refl) case.formula.nodes s c.in-Err-Wide.field-0-0.node c.in-Err-Wide.field-0-0.pair wide.1
+    levels_are_never_wide truth_shape (λ p. truth_value p.holds)
+    (λ p. refl) case.formula.nodes s c.in-Err-Wide.field-0-0.node c.in-Err-Wide.field-0-0.pair wide.1

@@ -47,4 +47,5 @@ returns-in-Ok-put_json c =
     (subst (λ items. IsReportText c.scale-scale.result f c.in-Ok-truth_of.truth c.in-Ok-margins_of.margins items w) c.told-holds.ensures.items report) in
     subst (λ h. IsAnswerOf json f case.trace h c.put_json.new.text) (sym c.told-holds.ensures.truth)
     (subst (IsAnswerOf json f case.trace (truth_of c.in-Ok.explained)) (sym text_is)
-    (reported f case c.requires.case c.in-Ok-truth_of.truth c.in-Ok-margins_of.margins w c.in-Ok-truth_of.ensures c.in-Ok-margins_of.ensures.told is.0 c.in-Ok.explained is.1 c.len.ensures.well_formed of))
+    (reported f case c.requires.case c.in-Ok-truth_of.truth c.in-Ok-margins_of.margins w c.in-Ok-truth_of.ensures
+    c.in-Ok-margins_of.ensures.told is.0 c.in-Ok.explained is.1 c.len.ensures.well_formed of))

@@ -1,4 +1,5 @@
-use Rattle.workbench.proofs.CheckPromises.{run_bound, run_form, run_bad, run_bad_due, run_refused, run_due, run_answer_due, run_read, run_write, run_all_read, run_answered, run_cut_off, run_told}
+use Rattle.workbench.proofs.CheckPromises.{run_bound, run_form, run_bad, run_bad_due, run_refused, run_due, run_answer_due}
+use Rattle.workbench.proofs.CheckPromises.{run_read, run_write, run_all_read, run_answered, run_cut_off, run_told}
 use Rattle.workbench.proofs.laws.check_keeps_its_promises.Goals as goal
 
 pub returns-clause-status : goal.returns-clause-status

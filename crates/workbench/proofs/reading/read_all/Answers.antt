@@ -4,7 +4,9 @@ use Rattle.std.proofs.KnownBytes.{Consumes-nil}
 use Rattle.io_edge.specs.Causes.{after_end}
 use Rattle.workbench.specs.Reading.{IsReadWhole, IsStop}
 use Rattle.workbench.specs.declared.fault.Stop.{Stop}
-use Rattle.workbench.proofs.Progress.{few_reads, has_kept, read_in_part, read_all, read_more, go_on, stop_from, end_from, not_unread, end_not_unread, none_taken, some_taken, short_taken, prompt_piece, prompt_end, not_true, unended}
+use Rattle.workbench.proofs.Progress.{few_reads, has_kept, read_in_part, read_all, read_more, go_on}
+use Rattle.workbench.proofs.Progress.{stop_from, end_from, not_unread, end_not_unread, none_taken}
+use Rattle.workbench.proofs.Progress.{some_taken, short_taken, prompt_piece, prompt_end, not_true, unended}
 use Rattle.workbench.proofs.reading.read_all.Goals as goal
 
 pub loop-reads-init : goal.loop-reads-init
@@ -45,10 +47,13 @@ returns-then-count-eq0-clause-read g c =
     let size : 0 < length c.read.new.buf = let a = c.loop-reads.invariant.size in let b = c.read.auto.buf in omega arith in
     let ended = c.in-Ok.ensures.end.1 (c.if-count-eq0.true, size) in
     subst (λ (r : Result (Unit {0}) Stop). MatchResult r (λ _. MatchOption c.finish.new.self.case ⊥
-    (IsReadWhole c.args.reading.now.rows.limits c.args.formula.now (g.S.Source.left c.args.input.now) (g.S.Source.left c.read.new.self) (g.S.Source.ended c.read.new.self)))
-    (IsStop c.args.reading.now.rows.limits c.args.formula.now (g.S.Source.left c.args.input.now) (g.S.Source.left c.read.new.self) (g.S.Source.ended c.read.new.self)))
+    (IsReadWhole c.args.reading.now.rows.limits c.args.formula.now (g.S.Source.left c.args.input.now)
+    (g.S.Source.left c.read.new.self) (g.S.Source.ended c.read.new.self)))
+    (IsStop c.args.reading.now.rows.limits c.args.formula.now (g.S.Source.left c.args.input.now) (g.S.Source.left c.read.new.self)
+    (g.S.Source.ended c.read.new.self)))
     (sym c.outcome_from.ensures)
-    (end_from c.loop-reads.reading.rows.limits c.args.reading.now.rows.limits c.args.formula.now (g.S.Source.left c.args.input.now) (g.S.Source.left c.read.new.self)
+    (end_from c.loop-reads.reading.rows.limits c.args.reading.now.rows.limits c.args.formula.now
+    (g.S.Source.left c.args.input.now) (g.S.Source.left c.read.new.self)
     (g.S.Source.ended c.read.new.self) p.bytes c.finish.result c.finish.new.self.case p.same_limits ended
     (read_all p _ _ (take c.in-Ok.count c.read.new.buf) (none_taken c.in-Ok.count c.read.new.buf c.if-count-eq0.true) c.in-Ok.ensures.bytes.0
     (c.in-Ok.ensures.bytes.1 c.if-count-eq0.true size))
@@ -77,7 +82,8 @@ returns-in-Err-clause-read g c =
     (g.S.Source.left c.read.new.self) (g.S.Source.ended c.read.new.self) false (p.bytes ++ take c.in-Ok.count c.read.new.buf) c.in-Err.stop
     p.same_limits goes_on (c.in-Err.ensures.taken p.bytes p.is)
     (read_more p _ _ (take c.in-Ok.count c.read.new.buf) c.in-Ok.ensures.bytes.0 goes_on)
-    (prompt_piece p (take c.in-Ok.count c.read.new.buf) (g.S.Source.ended c.read.new.self) (short_taken c.in-Ok.count c.read.new.buf (c.read.auto.buf ∙ c.loop-reads.invariant.size)) goes_on))
+    (prompt_piece p (take c.in-Ok.count c.read.new.buf) (g.S.Source.ended c.read.new.self)
+    (short_taken c.in-Ok.count c.read.new.buf (c.read.auto.buf ∙ c.loop-reads.invariant.size)) goes_on))
 
 pub returns-in-Err-clause-later : goal.returns-in-Err-clause-later
 returns-in-Err-clause-later g c = let h = c.in-Ok.ensures.cause.later in let same = c.loop-reads.invariant.still in omega arith
@@ -93,8 +99,10 @@ loop-reads-preserved g c =
     let p = c.loop-reads.invariant.progress in
     record {
       progress = go_on p (g.S.Source.left c.read.new.self) (take c.in-Ok.count c.read.new.buf) c.feed.new.self.rows c.feed.new.self.case c.in-Ok.ensures.bytes.0
-          (some_taken c.in-Ok.count c.read.new.buf c.if-count-eq0.false c.in-Ok.ensures.bound.0) (c.in_default-feed.ensures.taken p.bytes p.is) c.in_default-feed.ensures.limits;
-      unended = unended (g.S.Source.ended c.read.new.self) _ _ c.in-Ok.ensures.ends (not_true (g.S.Source.ended c.read.new.self) (λ t. c.if-count-eq0.false (c.in-Ok.ensures.end.0 t).0)) ∙ c.loop-reads.invariant.unended;
+          (some_taken c.in-Ok.count c.read.new.buf c.if-count-eq0.false c.in-Ok.ensures.bound.0)
+          (c.in_default-feed.ensures.taken p.bytes p.is) c.in_default-feed.ensures.limits;
+      unended = unended (g.S.Source.ended c.read.new.self) _ _ c.in-Ok.ensures.ends
+          (not_true (g.S.Source.ended c.read.new.self) (λ t. c.if-count-eq0.false (c.in-Ok.ensures.end.0 t).0)) ∙ c.loop-reads.invariant.unended;
       still = c.in-Ok.ensures.cause.still ∙ c.loop-reads.invariant.still;
       size = c.read.auto.buf ∙ c.loop-reads.invariant.size;
     }

@@ -13,7 +13,8 @@ pub returns-then-longer-from : goal.returns-then-longer-from
 returns-then-longer-from c =
     let bytes = c.args.bytes.now in
     let b = get_or bytes c.loop-i.i 0 in
-    let r = read_more bytes c.loop-i.i c.loop-i.value b c.loop-i-test.true refl (digit b (omega (arith, c.if-byte-lt48.false)) (omega (arith, c.if-byte-gt57.false)))
+    let r = read_more bytes c.loop-i.i c.loop-i.value b c.loop-i-test.true refl (digit b (omega (arith, c.if-byte-lt48.false))
+    (omega (arith, c.if-byte-gt57.false)))
     c.loop-i.invariant.0 in
     λ n is. too_large bytes c.args.most (c.loop-i.i + 1) (c.loop-i.value * 10 + (b - 48)) n
     (omega (arith, c.from.ensures, c.from-in-loop-i.ensures, c.from-in-loop-i-2.ensures, c.if-longer-from.true)) r is
@@ -22,7 +23,8 @@ pub loop-i-preserved : goal.loop-i-preserved
 loop-i-preserved c =
     let bytes = c.args.bytes.now in
     let b = get_or bytes c.loop-i.i 0 in
-    let r = read_more bytes c.loop-i.i c.loop-i.value b c.loop-i-test.true refl (digit b (omega (arith, c.if-byte-lt48.false)) (omega (arith, c.if-byte-gt57.false)))
+    let r = read_more bytes c.loop-i.i c.loop-i.value b c.loop-i-test.true refl (digit b (omega (arith, c.if-byte-lt48.false))
+    (omega (arith, c.if-byte-gt57.false)))
     c.loop-i.invariant.0 in
     let same : c.loop-i.value * 10 + (b - 48) ≡ c.from.result * 10 + c.from-in-loop-i.result = omega (arith, c.from.ensures, c.from-in-loop-i.ensures) in
     (subst (IsReadTo bytes (c.loop-i.i + 1)) same r, omega (arith, c.from-in-loop-i-2.ensures, c.if-longer-from.false))

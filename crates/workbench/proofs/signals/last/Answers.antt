@@ -15,4 +15,5 @@ returns-clause-later c =
     let rows = c.args.trace.now.rows in
     let count : length rows ≡ suc (c.rows.result - 1) = let e = c.rows.ensures.count in let some = c.requires in omega arith in
     let is = c.time.ensures no_row ∙ last_is 0 rows (c.rows.result - 1) count in
-    subst (λ n. first_time rows ≤ n) (sym is) (first_to_last c.args.trace.now (c.rows.ensures.trace (let e = c.rows.ensures.count in let some = c.requires in omega arith)))
+    subst (λ n. first_time rows ≤ n) (sym is)
+    (first_to_last c.args.trace.now (c.rows.ensures.trace (let e = c.rows.ensures.count in let some = c.requires in omega arith)))

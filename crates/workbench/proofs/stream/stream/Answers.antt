@@ -55,7 +55,8 @@ pub returns-then-count-eq0-clause-ending : goal.returns-then-count-eq0-clause-en
 returns-then-count-eq0-clause-ending g c =
     let p = c.loop-reads.invariant.pushing in
     let size : 0 < length c.read.new.buf = let a = c.loop-reads.invariant.size in let b = c.read.auto.buf in omega arith in
-    end_from p (g.P.Push.done c.end.new.self) (g.P.Push.request c.loop-reads.pusher) c.loop-reads.invariant.same _ _ c.end.result (take c.in-Ok.count c.read.new.buf) (none_taken c.in-Ok.count c.read.new.buf c.if-count-eq0.true)
+    end_from p (g.P.Push.done c.end.new.self) (g.P.Push.request c.loop-reads.pusher) c.loop-reads.invariant.same _ _ c.end.result
+    (take c.in-Ok.count c.read.new.buf) (none_taken c.in-Ok.count c.read.new.buf c.if-count-eq0.true)
     refl refl c.in-Ok.ensures.bytes.0 (c.in-Ok.ensures.end.1 (c.if-count-eq0.true, size)) (c.in-Ok.ensures.bytes.1 c.if-count-eq0.true size)
     (λ e. subst (λ n. Rose n (g.K.Sink.faults c.end.new.out)) c.loop-reads.invariant.calm (c.end.ensures.cause e))
     (c.end.ensures.ended p.bytes p.text (pushed_so_far p (g.P.Push.request c.loop-reads.pusher) c.loop-reads.invariant.same))
@@ -65,7 +66,8 @@ returns-in_err-push-clause-ending g c =
     let p = c.loop-reads.invariant.pushing in
     let e = err_from_is_err_and c.from_residual.result c.from_residual.ensures.1 in
     let goes_on = not_true (g.S.Source.ended c.read.new.self) (λ t. c.if-count-eq0.false (c.in-Ok.ensures.end.0 t).0) in
-    rw (e.1, e.2) (stop_from p (g.P.Push.done c.push.new.self) (g.P.Push.request c.loop-reads.pusher) c.loop-reads.invariant.same _ _ (take c.in-Ok.count c.read.new.buf) c.in_err-push.field-0.0
+    rw (e.1, e.2) (stop_from p (g.P.Push.done c.push.new.self) (g.P.Push.request c.loop-reads.pusher) c.loop-reads.invariant.same _ _
+    (take c.in-Ok.count c.read.new.buf) c.in_err-push.field-0.0
     refl refl c.in-Ok.ensures.bytes.0 goes_on (short_taken c.in-Ok.count c.read.new.buf (c.read.auto.buf ∙ c.loop-reads.invariant.size))
     (λ k. subst (λ n. Rose n (g.K.Sink.faults c.push.new.out)) c.loop-reads.invariant.calm (c.in_err-push.ensures.cause (let h = k in cc)))
     (c.in_err-push.ensures.pushed p.bytes p.text (pushed_so_far p (g.P.Push.request c.loop-reads.pusher) c.loop-reads.invariant.same)))
@@ -74,11 +76,13 @@ pub loop-reads-preserved : goal.loop-reads-preserved
 loop-reads-preserved g c =
     let p = c.loop-reads.invariant.pushing in
     record {
-      pushing = piece_from p (g.P.Push.request c.loop-reads.pusher) c.loop-reads.invariant.same (g.P.Push.stands c.push.new.self) (g.S.Source.left c.read.new.self) (g.K.Sink.written c.push.new.out)
+      pushing = piece_from p (g.P.Push.request c.loop-reads.pusher) c.loop-reads.invariant.same (g.P.Push.stands c.push.new.self)
+          (g.S.Source.left c.read.new.self) (g.K.Sink.written c.push.new.out)
           (take c.in-Ok.count c.read.new.buf) c.in-Ok.ensures.bytes.0 (some_taken c.in-Ok.count c.read.new.buf c.if-count-eq0.false c.in-Ok.ensures.bound.0)
           (c.in_ok-push.ensures.pushed p.bytes p.text (pushed_so_far p (g.P.Push.request c.loop-reads.pusher) c.loop-reads.invariant.same));
       same = c.in_ok-push.ensures.same ∙ c.loop-reads.invariant.same;
-      unended = unended (g.S.Source.ended c.read.new.self) _ _ c.in-Ok.ensures.ends (not_true (g.S.Source.ended c.read.new.self) (λ t. c.if-count-eq0.false (c.in-Ok.ensures.end.0 t).0)) ∙ c.loop-reads.invariant.unended;
+      unended = unended (g.S.Source.ended c.read.new.self) _ _ c.in-Ok.ensures.ends
+          (not_true (g.S.Source.ended c.read.new.self) (λ t. c.if-count-eq0.false (c.in-Ok.ensures.end.0 t).0)) ∙ c.loop-reads.invariant.unended;
       still = c.in-Ok.ensures.cause.still ∙ c.loop-reads.invariant.still;
       calm = c.in_ok-push.ensures.still (λ e. let k = e in cc) ∙ c.loop-reads.invariant.calm;
       size = c.read.auto.buf ∙ c.loop-reads.invariant.size;

@@ -6,4 +6,5 @@ use Rattle.workbench.proofs.texts.not_streamed_line.Goals as goal
 
 pub returns : goal.returns
 returns c =
-    c.numbered.ensures ∙ ap (λ k. codes "formula: node " ++ (decimal k ++ (codes " not streamed" ++ newline))) c.from.ensures ∙ not_streamed_line_text c.args.node
+    c.numbered.ensures ∙ ap (λ k. codes "formula: node " ++ (decimal k ++ (codes " not streamed" ++ newline))) c.from.ensures
+    ∙ not_streamed_line_text c.args.node

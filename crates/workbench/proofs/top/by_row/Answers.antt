@@ -10,7 +10,8 @@ pub returns-then-is_err-clause-ran : goal.returns-then-is_err-clause-ran
 returns-then-is_err-clause-ran g c = λ words ask.
     let told = c.finish-status.ensures.said in
     let e = c.in-Ok.ensures.formula in
-    watch_run words c.args.formula c.in-Ok.watch.live.formula c.formula.result.now c.drain-ending.new.self _ _ _ _ _ ask e (c.formula.ensures ∙ c.drain-ending.ensures.formula ∙ e)
+    watch_run words c.args.formula c.in-Ok.watch.live.formula c.formula.result.now c.drain-ending.new.self _ _ _ _ _ ask e
+    (c.formula.ensures ∙ c.drain-ending.ensures.formula ∙ e)
     c.drain-ending.result c.finish-status.result told.0 c.finish-status.ensures.status c.drain-ending.ensures.ending c.drain-ending.ensures.ends told.1 told.2
     (kept_fault c.drain-ending.result c.drain-ending.new.self c.args.kept.now (sym c.is_err.ensures.value ∙ c.if-is_err.true))
 
@@ -18,6 +19,7 @@ pub returns-clause-ran : goal.returns-clause-ran
 returns-clause-ran g c = λ words ask.
     let told = c.finish-status.ensures.said in
     let e = c.in-Ok.ensures.formula in
-    watch_run words c.args.formula c.in-Ok.watch.live.formula c.formula.result.now c.drain-ending.new.self _ _ _ _ _ ask e (c.formula.ensures ∙ c.drain-ending.ensures.formula ∙ e)
+    watch_run words c.args.formula c.in-Ok.watch.live.formula c.formula.result.now c.drain-ending.new.self _ _ _ _ _ ask e
+    (c.formula.ensures ∙ c.drain-ending.ensures.formula ∙ e)
     c.drain-ending.result c.finish-status.result told.0 c.finish-status.ensures.status c.drain-ending.ensures.ending c.drain-ending.ensures.ends told.1 told.2
     (kept_answer c.drain-ending.result c.drain-ending.new.self c.args.kept.now (sym c.is_err.ensures.value ∙ c.if-is_err.false))

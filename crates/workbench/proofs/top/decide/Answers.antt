@@ -21,7 +21,8 @@ returns-then-is_err-clause-ran g c = λ words ask.
     let e = c.in-Ok.ensures.formula in
     early_stopped words c.args.formula c.in-Ok.live.formula c.formula.result.now _ _ _ _ ask e
     (c.formula.ensures ∙ same_formula c.stream-ending.new.pusher.formula c.in-Ok.live.formula c.stream-ending.ensures.same ∙ e)
-    c.stream-ending.result c.finish-status.result told.0 c.finish-status.ensures.status (IsDone (λ s k made. IsDeciding true s k) early c.stream-ending.new.pusher)
+    c.stream-ending.result c.finish-status.result told.0 c.finish-status.ensures.status
+    (IsDone (λ s k made. IsDeciding true s k) early c.stream-ending.new.pusher)
     c.stream-ending.ensures.ending (sym c.is_err.ensures.value ∙ c.if-is_err.true) c.stream-ending.ensures.ends told.1 told.2
 
 pub early_of-requires : goal.early_of-requires

@@ -20,7 +20,8 @@ pub returns-in-Ok-write_all-clause-made : goal.returns-in-Ok-write_all-clause-ma
 returns-in-Ok-write_all-clause-made g c = (
   [],
   written c.in-Ok.ensures
-      (subst (λ text. Appends (g.K.Sink.written c.args.out.now) (g.K.Sink.written c.write_all.new.sink) text) c.bytes.ensures c.in-Ok-write_all.ensures.written),
+      (subst (λ text. Appends (g.K.Sink.written c.args.out.now) (g.K.Sink.written c.write_all.new.sink) text) c.bytes.ensures
+      c.in-Ok-write_all.ensures.written),
   whole (Appends-nil (g.E.Sink.written c.args.err.now)),
 )
 

@@ -5,7 +5,8 @@ use Rattle.workbench.proofs.top.margins_of_rows.Goals as goal
 
 pub returns-in-Some-clause-ran : goal.returns-in-Some-clause-ran
 returns-in-Some-clause-ran g c = λ words text form is.
-    unserved_left words text c.args.formula c.in-Some.node _ _ _ _ _ (line_text c.not_streamed_line.result) form is c.in-Some.ensures c.not_streamed_line.ensures
+    unserved_left words text c.args.formula c.in-Some.node _ _ _ _ _
+    (line_text c.not_streamed_line.result) form is c.in-Some.ensures c.not_streamed_line.ensures
     refl refl c.say.ensures.said refl
 
 pub measure_by_row-requires : goal.measure_by_row-requires

@@ -86,7 +86,8 @@ pub returns-in-Margins-clause-ran : goal.returns-in-Margins-clause-ran
 returns-in-Margins-clause-ran g c =
     let words = map string_bytes c.args.words.now in
     let text = c.in-Some-asked.asked.text.now in
-    c.margins_of_rows.ensures.ran words text (subst (λ (m : Mode). IsAsked words (judge (judge_of m) text)) c.in-Margins.is c.in-Some-asked.ensures) c.in-Ok.ensures.ok
+    c.margins_of_rows.ensures.ran words text
+    (subst (λ (m : Mode). IsAsked words (judge (judge_of m) text)) c.in-Margins.is c.in-Some-asked.ensures) c.in-Ok.ensures.ok
 
 pub returns-in-Whole-clause-ran : goal.returns-in-Whole-clause-ran
 returns-in-Whole-clause-ran g c =

@@ -30,7 +30,9 @@ returns-clause-ending g c =
     unanswered c.in-Ok.case c.in-Err-answer.stop read c.in-Err-answer.ensures refl
 
 pub returns-clause-read : goal.returns-clause-read
-returns-clause-read g c = λ e. absurd ((not_stopped (command_of c.args.command) c.args.formula.now c.in-Ok.case.trace c.in-Err-answer.stop c.in-Err-answer.ensures).0 (let k = e in cc))
+returns-clause-read g c = λ e. absurd
+    ((not_stopped (command_of c.args.command) c.args.formula.now c.in-Ok.case.trace c.in-Err-answer.stop c.in-Err-answer.ensures).0 (let k = e in cc))
 
 pub returns-clause-write : goal.returns-clause-write
-returns-clause-write g c = λ e. absurd ((not_stopped (command_of c.args.command) c.args.formula.now c.in-Ok.case.trace c.in-Err-answer.stop c.in-Err-answer.ensures).1 (let k = e in cc))
+returns-clause-write g c = λ e. absurd
+    ((not_stopped (command_of c.args.command) c.args.formula.now c.in-Ok.case.trace c.in-Err-answer.stop c.in-Err-answer.ensures).1 (let k = e in cc))

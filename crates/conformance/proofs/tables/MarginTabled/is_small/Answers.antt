@@ -12,4 +12,5 @@ use Rattle.conformance.proofs.tables.MarginTabled.is_small.Goals as goal
 pub returns-in-Fixed : goal.returns-in-Fixed
 returns-in-Fixed c = λ h.
     let t = value c.args.t.now in
-    subst (λ (m : Margin). IsBounded (2 ^ 31) (value_at (margin_function m) t)) (sym c.in-Fixed.is) (within_same (2 ^ 31) (same_sym (at_constant (value c.in-Fixed.c) t)) (c.is_within.ensures h))
+    subst (λ (m : Margin). IsBounded (2 ^ 31) (value_at (margin_function m) t)) (sym c.in-Fixed.is)
+    (within_same (2 ^ 31) (same_sym (at_constant (value c.in-Fixed.c) t)) (c.is_within.ensures h))

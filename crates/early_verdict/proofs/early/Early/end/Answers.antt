@@ -22,6 +22,7 @@ returns-clause-truth c rows was =
     let f = c.self.inside.formula in
     let st = subst (λ (z : Kept). Stands z rows false) (sym c.self.view_is) was in
     let r = fed_rows rows x.last st.last (subst (λ (z : Kept). IsSome z.last) (sym c.self.view_is) c.requires.fed) in
-    let truth = c.in-Ok.ensures x.header r.0 r.1 (subst (λ (l : List Row). IsOpen f x.bound x.header l x.begin x.last x.live x.shown) r.2 (open_of x f rows refl st c.in_default.is)) in
+    let truth = c.in-Ok.ensures x.header r.0 r.1 (subst (λ (l : List Row). IsOpen f x.bound x.header l x.begin x.last x.live x.shown) r.2
+    (open_of x f rows refl st c.in_default.is)) in
     subst (λ (z : Kept). IsTruthAtStart (root z.nodes) (trace_of z.header rows) c.in-Ok.holds) c.self.view_is
     (subst (λ (l : List Row). IsTruthAtStart (root x.nodes) (trace_of x.header l) c.in-Ok.holds) (sym r.2) truth)

@@ -18,8 +18,11 @@ invariant_of-self-then-is_some c running =
     let r = c.args.row.now in
     let st = unended x c.args.self.now w.0 c.self.view_is c.requires.open w.1 in
     let width = subst (λ (z : Kept). length r.values ≡ z.bound.width) (sym c.self.view_is) c.requires.width in
-    let later = subst (λ (z : Kept). IfSome z.last (λ q. q.time < r.time)) (sym c.self.view_is) c.requires.later in
-    (w.0 ++ r ∷ [], as_ended (record x { last = Some c.in-Ok.kept }) (w.0 ++ r ∷ []) false (passed_by x w.0 r c.in-Ok.kept st (sym c.is_some.ensures ∙ c.if-is_some.true) width later c.in-Ok.ensures).0)
+    let later = subst (λ (z : Kept). IfSome z.last (λ q. q.time < r.time)) (sym c.self.view_is) c.requires.later in (
+      w.0 ++ r ∷ [],
+      as_ended (record x { last = Some c.in-Ok.kept }) (w.0 ++ r ∷ []) false
+          (passed_by x w.0 r c.in-Ok.kept st (sym c.is_some.ensures ∙ c.if-is_some.true) width later c.in-Ok.ensures).0,
+    )
 
 pub returns-then-is_some-clause-stands : goal.returns-then-is_some-clause-stands
 returns-then-is_some-clause-stands c rows was =
@@ -51,7 +54,8 @@ root_verdict-requires-clause-some c =
     let st = unended x c.args.self.now w.0 c.self.view_is c.requires.open w.1 in
     let o = open_of x c.self.inside.formula w.0 refl st (none_if c.self.inside.decided (sym c.is_some.ensures ∙ c.if-is_some.false)) in
     subst (λ (xs : List Sets). 0 < length xs) (sym c.deref.ensures.value)
-    (some_shown x.nodes x.header c.in-Ok-take_row.begin c.take_row.new.net.live.items c.take_row.new.net.shown.items w.0 c.args.row.now (c.in-Ok-take_row.ensures x.header w.0 o) st.some)
+    (some_shown x.nodes x.header c.in-Ok-take_row.begin c.take_row.new.net.live.items c.take_row.new.net.shown.items w.0
+    c.args.row.now (c.in-Ok-take_row.ensures x.header w.0 o) st.some)
 
 pub root_verdict-requires-clause-tidy : goal.root_verdict-requires-clause-tidy
 root_verdict-requires-clause-tidy c =
@@ -60,7 +64,8 @@ root_verdict-requires-clause-tidy c =
     let st = unended x c.args.self.now w.0 c.self.view_is c.requires.open w.1 in
     let o = open_of x c.self.inside.formula w.0 refl st (none_if c.self.inside.decided (sym c.is_some.ensures ∙ c.if-is_some.false)) in
     subst (λ (xs : List Sets). AllTidy xs) (sym c.deref.ensures.value)
-    (shown_tidy x.nodes x.header c.in-Ok-take_row.begin c.take_row.new.net.live.items c.take_row.new.net.shown.items w.0 c.args.row.now (c.in-Ok-take_row.ensures x.header w.0 o))
+    (shown_tidy x.nodes x.header c.in-Ok-take_row.begin c.take_row.new.net.live.items c.take_row.new.net.shown.items w.0
+    c.args.row.now (c.in-Ok-take_row.ensures x.header w.0 o))
 
 pub let_go_by-requires : goal.let_go_by-requires
 let_go_by-requires c = λ e.
@@ -68,7 +73,8 @@ let_go_by-requires c = λ e.
     let w = c.self.invariant c.if-self.false in
     let st = unended x c.args.self.now w.0 c.self.view_is c.requires.open w.1 in
     let o = open_of x c.self.inside.formula w.0 refl st (none_if c.self.inside.decided (sym c.is_some.ensures ∙ c.if-is_some.false)) in
-    net_of x.nodes x.header c.in-Ok-take_row.begin c.take_row.new.net.live.items c.take_row.new.net.shown.items w.0 c.args.row.now (c.in-Ok-take_row.ensures x.header w.0 o)
+    net_of x.nodes x.header c.in-Ok-take_row.begin c.take_row.new.net.live.items c.take_row.new.net.shown.items w.0 c.args.row.now
+    (c.in-Ok-take_row.ensures x.header w.0 o)
 
 -- the row is taken, and what the sets of the root say of the start is the answer
 fed : (c : After-result-1) (rows : List Row) → Stands (the_view c.self.inside) rows false
@@ -91,7 +97,8 @@ fed c rows st =
     let later = subst (λ (z : Kept). IfSome z.last (λ q. q.time < r.time)) (sym c.self.view_is) c.requires.later in
     let none = none_if c.self.inside.decided (sym c.is_some.ensures ∙ c.if-is_some.false) in
     let are = c.in-Ok-take_row.ensures x.header rows (open_of x c.self.inside.formula rows refl st none) in
-    fed_by x rows r c.in-Ok.kept c.in-Ok-take_row.begin c.take_row.new.net.live.items c.take_row.new.net.shown.items c.let_go_by.new.net.live.items c.let_go_by.new.net.shown.items c.root_verdict.result c.decided_at-decided.result
+    fed_by x rows r c.in-Ok.kept c.in-Ok-take_row.begin c.take_row.new.net.live.items c.take_row.new.net.shown.items
+    c.let_go_by.new.net.live.items c.let_go_by.new.net.shown.items c.root_verdict.result c.decided_at-decided.result
     st none width later are (subst (λ (xs : List Sets). IsVerdict xs c.in-Ok-take_row.begin c.root_verdict.result) c.deref.ensures.value c.root_verdict.ensures)
     c.let_go_by.ensures c.in-Ok.ensures (c.decided_at-decided.ensures ∙ ap (λ (t : ℕ). decided_now t c.root_verdict.result) c.time.ensures)
 

@@ -17,7 +17,8 @@ stands : (c : After-new-2) → Stands (record {
   ended = false;
   stopped = false;
 }) [] false
-stands c = fresh c.args.bound c.args.formula c.args.header c.new.result.items c.new-2.result.items c.len.ensures.well_formed.nodes c.len.ensures.well_formed.some c.requires
+stands c = fresh c.args.bound c.args.formula c.args.header c.new.result.items c.new-2.result.items c.len.ensures.well_formed.nodes
+    c.len.ensures.well_formed.some c.requires
 
 pub invariant_of-result : goal.invariant_of-result
 invariant_of-result c running = ([], stands c)

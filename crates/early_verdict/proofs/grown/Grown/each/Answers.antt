@@ -14,7 +14,8 @@ returns-clause-gains c =
     on_good c.add_all_held.result c.add_all_held.ensures.ok
     (λ g. gains_of own.bounds own.spans.items new.spans.items c.clear.new.self.items new.fresh.items
     (BySome (HeldAt c.args.w.now (place c.args.start.now) c.args.x.now.spans.items) c.args.x.now.fresh.items) c.clear.ensures.items
-    (subst (λ xs. Grows own.bounds own.spans.items new.spans.items c.clear.new.self.items new.fresh.items (BySome (HeldAt c.args.w.now (place c.args.start.now) c.args.x.now.spans.items) xs)) c.deref.ensures.value g))
+    (subst (λ xs. Grows own.bounds own.spans.items new.spans.items c.clear.new.self.items new.fresh.items
+    (BySome (HeldAt c.args.w.now (place c.args.start.now) c.args.x.now.spans.items) xs)) c.deref.ensures.value g))
 
 pub returns-clause-tells : goal.returns-clause-tells
 returns-clause-tells c =
@@ -23,4 +24,5 @@ returns-clause-tells c =
     on_good c.add_all_held.result c.add_all_held.ensures.ok
     (λ g x gx t. each_tells c.args.w.now own.bounds own.spans.items new.spans.items c.clear.new.self.items new.fresh.items
     x c.args.x.now.spans.items c.args.x.now.fresh.items gx (place c.args.start.now) c.requires.input t
-    (subst (λ xs. Grows own.bounds own.spans.items new.spans.items c.clear.new.self.items new.fresh.items (BySome (HeldAt c.args.w.now (place c.args.start.now) c.args.x.now.spans.items) xs)) c.deref.ensures.value g))
+    (subst (λ xs. Grows own.bounds own.spans.items new.spans.items c.clear.new.self.items new.fresh.items
+    (BySome (HeldAt c.args.w.now (place c.args.start.now) c.args.x.now.spans.items) xs)) c.deref.ensures.value g))

@@ -22,7 +22,8 @@ returns-clause-gains c =
     (λ k. gains_of own.bounds own.spans.items new.spans.items told new.fresh.items
     (BeginsAll w start x fx) c.clear.ensures.items
     (grown_then own first new told (SeesNone w start) (BySome (HeldAt w start x) fx) c.add_unseeing.ensures.bounds c.in_ok-add_unseeing.ensures.ok
-    (subst (λ xs. Grows first.bounds first.spans.items new.spans.items first.fresh.items new.fresh.items (BySome (HeldAt w start x) xs)) c.deref.ensures.value k)))
+    (subst (λ xs. Grows first.bounds first.spans.items new.spans.items first.fresh.items new.fresh.items (BySome (HeldAt w start x) xs))
+    c.deref.ensures.value k)))
 
 pub returns-clause-tells : goal.returns-clause-tells
 returns-clause-tells c =
@@ -37,4 +38,5 @@ returns-clause-tells c =
     on_good c.add_all_held.result c.add_all_held.ensures.ok
     (λ k gx. first_tells w start own.bounds own.spans.items new.spans.items told new.fresh.items x fx c.requires.input c.requires.none gx
     (grown_then own first new told (SeesNone w start) (BySome (HeldAt w start x) fx) c.add_unseeing.ensures.bounds c.in_ok-add_unseeing.ensures.ok
-    (subst (λ xs. Grows first.bounds first.spans.items new.spans.items first.fresh.items new.fresh.items (BySome (HeldAt w start x) xs)) c.deref.ensures.value k)))
+    (subst (λ xs. Grows first.bounds first.spans.items new.spans.items first.fresh.items new.fresh.items (BySome (HeldAt w start x) xs))
+    c.deref.ensures.value k)))

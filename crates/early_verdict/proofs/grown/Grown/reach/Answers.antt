@@ -25,7 +25,8 @@ returns-clause-gains c =
     (λ k. gains_of own.bounds own.spans.items new.spans.items told new.fresh.items
     (ReachesNew z fz x fx end) c.clear.ensures.items
     (grown_then own first new told (BySome (ReachesAt z x end) fx) (BySome (ReachesAt z x end) fz) c.add_all_reaching.ensures.bounds f
-    (subst (λ xs. Grows first.bounds first.spans.items new.spans.items first.fresh.items new.fresh.items (BySome (ReachesAt z x end) xs)) c.deref-2.ensures.value k)))
+    (subst (λ xs. Grows first.bounds first.spans.items new.spans.items first.fresh.items new.fresh.items (BySome (ReachesAt z x end) xs))
+    c.deref-2.ensures.value k)))
 
 pub returns-clause-tells : goal.returns-clause-tells
 returns-clause-tells c =
@@ -44,4 +45,5 @@ returns-clause-tells c =
     (λ k y v gz gx inside within t. to_tells y z fz v x fx gz gx c.requires.runs inside own.bounds own.spans.items new.spans.items told new.fresh.items end
     (λ u o. (within u o).1) t
     (grown_then own first new told (BySome (ReachesAt z x end) fx) (BySome (ReachesAt z x end) fz) c.add_all_reaching.ensures.bounds f
-    (subst (λ xs. Grows first.bounds first.spans.items new.spans.items first.fresh.items new.fresh.items (BySome (ReachesAt z x end) xs)) c.deref-2.ensures.value k)))
+    (subst (λ xs. Grows first.bounds first.spans.items new.spans.items first.fresh.items new.fresh.items (BySome (ReachesAt z x end) xs))
+    c.deref-2.ensures.value k)))

@@ -25,7 +25,8 @@ returns-clause-gains c =
     let f = subst (λ xs. Grows own.bounds own.spans.items first.spans.items told first.fresh.items (BySome (ReachesAt z x sure) xs)) c.deref.ensures.value
     c.in_ok-add_all_reaching.ensures.ok in
     let g = grown_then own first second told (BySome (ReachesAt z x sure) fx) (BySome (ReachesAt z x sure) fz) c.add_all_reaching.ensures.bounds f
-    (subst (λ xs. Grows first.bounds first.spans.items second.spans.items first.fresh.items second.fresh.items (BySome (ReachesAt z x sure) xs)) c.deref-2.ensures.value c.in_ok-add_all_reaching-2.ensures.ok) in
+    (subst (λ xs. Grows first.bounds first.spans.items second.spans.items first.fresh.items second.fresh.items (BySome (ReachesAt z x sure) xs))
+    c.deref-2.ensures.value c.in_ok-add_all_reaching-2.ensures.ok) in
     let is = c.add_all_reaching-2.ensures.bounds ∙ c.add_all_reaching.ensures.bounds in
     let h = grown_then own second third told (λ t. BySome (ReachesAt z x sure) fx t ⊎ BySome (ReachesAt z x sure) fz t) (BySome (ReachesBy z x before sure) x)
     is g c.in_ok-add_reaching_between.ensures.ok in
@@ -54,12 +55,14 @@ returns-clause-tells c =
     let f = subst (λ xs. Grows own.bounds own.spans.items first.spans.items told first.fresh.items (BySome (ReachesAt z x sure) xs)) c.deref.ensures.value
     c.in_ok-add_all_reaching.ensures.ok in
     let g = grown_then own first second told (BySome (ReachesAt z x sure) fx) (BySome (ReachesAt z x sure) fz) c.add_all_reaching.ensures.bounds f
-    (subst (λ xs. Grows first.bounds first.spans.items second.spans.items first.fresh.items second.fresh.items (BySome (ReachesAt z x sure) xs)) c.deref-2.ensures.value c.in_ok-add_all_reaching-2.ensures.ok) in
+    (subst (λ xs. Grows first.bounds first.spans.items second.spans.items first.fresh.items second.fresh.items (BySome (ReachesAt z x sure) xs))
+    c.deref-2.ensures.value c.in_ok-add_all_reaching-2.ensures.ok) in
     let is = c.add_all_reaching-2.ensures.bounds ∙ c.add_all_reaching.ensures.bounds in
     let h = grown_then own second third told (λ t. BySome (ReachesAt z x sure) fx t ⊎ BySome (ReachesAt z x sure) fz t) (BySome (ReachesBy z x before sure) x)
     is g c.in_ok-add_reaching_between.ensures.ok in
     on_good c.add_all.result c.add_all.ensures.ok
-    (λ k y v gz gx inside t. reach_tells y z fz v x fx gz gx c.requires.runs inside own.bounds own.spans.items new.spans.items told new.fresh.items before sure c.requires.order t
+    (λ k y v gz gx inside t. reach_tells y z fz v x fx gz gx c.requires.runs inside own.bounds own.spans.items new.spans.items
+    told new.fresh.items before sure c.requires.order t
     (grown_then own third new told
     (λ t. (BySome (ReachesAt z x sure) fx t ⊎ BySome (ReachesAt z x sure) fz t) ⊎ BySome (ReachesBy z x before sure) x t) (BySome Lies fx)
     (c.add_reaching_between.ensures.bounds ∙ is) h

@@ -11,7 +11,8 @@ returns-clause-gains c =
     let own = c.args.self.now in
     let new = c.add_all.new.own in
     on_good c.add_all.result c.add_all.ensures.ok
-    (λ g. gains_of own.bounds own.spans.items new.spans.items c.clear.new.self.items new.fresh.items (BySome Lies c.args.x.now.fresh.items) c.clear.ensures.items
+    (λ g. gains_of own.bounds own.spans.items new.spans.items c.clear.new.self.items new.fresh.items
+    (BySome Lies c.args.x.now.fresh.items) c.clear.ensures.items
     (subst (λ xs. Grows own.bounds own.spans.items new.spans.items c.clear.new.self.items new.fresh.items (BySome Lies xs)) c.deref.ensures.value g))
 
 pub returns-clause-tells : goal.returns-clause-tells

@@ -14,7 +14,8 @@ returns-clause-gains c =
     on_good c.add_all_seeing.result c.add_all_seeing.ensures.ok
     (λ g. gains_of own.bounds own.spans.items new.spans.items c.clear.new.self.items new.fresh.items
     (BySome (SeesPart c.args.w.now) c.args.x.now.fresh.items) c.clear.ensures.items
-    (subst (λ xs. Grows own.bounds own.spans.items new.spans.items c.clear.new.self.items new.fresh.items (BySome (SeesPart c.args.w.now) xs)) c.deref.ensures.value g))
+    (subst (λ xs. Grows own.bounds own.spans.items new.spans.items c.clear.new.self.items new.fresh.items (BySome (SeesPart c.args.w.now) xs))
+    c.deref.ensures.value g))
 
 pub returns-clause-tells : goal.returns-clause-tells
 returns-clause-tells c =
@@ -23,4 +24,5 @@ returns-clause-tells c =
     on_good c.add_all_seeing.result c.add_all_seeing.ensures.ok
     (λ g x gx t. some_tells c.args.w.now own.bounds own.spans.items new.spans.items c.clear.new.self.items new.fresh.items
     x c.args.x.now.spans.items c.args.x.now.fresh.items gx t
-    (subst (λ xs. Grows own.bounds own.spans.items new.spans.items c.clear.new.self.items new.fresh.items (BySome (SeesPart c.args.w.now) xs)) c.deref.ensures.value g))
+    (subst (λ xs. Grows own.bounds own.spans.items new.spans.items c.clear.new.self.items new.fresh.items (BySome (SeesPart c.args.w.now) xs))
+    c.deref.ensures.value g))

@@ -28,7 +28,8 @@ of_node-requires-clause-sound g c =
     let i = c.args.i in
     subst (AreSound g.P.Shape c.args.from c.args.to 4294967295) (sym c.deref.ensures.value)
     (all_more g.P.Shape c.args.from c.args.to (reach_before nodes i) 4294967295 c.self.inside.done.items
-    (reach_within nodes i c.len.ensures.well_formed.nodes.reach) (subst (IsStack g.P.Shape c.args.from c.args.to nodes i) (sym c.self.view_is) c.requires.stands).sound)
+    (reach_within nodes i c.len.ensures.well_formed.nodes.reach)
+    (subst (IsStack g.P.Shape c.args.from c.args.to nodes i) (sym c.self.view_is) c.requires.stands).sound)
 
 pub keep-requires-clause-children : goal.keep-requires-clause-children
 keep-requires-clause-children g c =

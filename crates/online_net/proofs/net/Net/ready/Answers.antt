@@ -49,5 +49,6 @@ returns-in-None-clause-ready c nodes header events st =
     let now : Stands nodes header net events = (subst (λ (p : Parts). Stands nodes header p events) (sym c.self.view_is) st) in
     let l : c.args.node < length net.operators =
     subst (λ (p : Parts). c.args.node < length p.operators) (sym c.self.view_is) c.requires in
-    let a = no_operator nodes header events net now c.args.node l (found net.operators c.args.node c.index.result.now l c.index.ensures ∙ ap Some c.in-None.is) in
+    let a = no_operator nodes header events net now c.args.node l
+    (found net.operators c.args.node c.index.result.now l c.index.ensures ∙ ap Some c.in-None.is) in
     ((λ x. absurd (let y : false ≡ true = x in cc)), (λ x. absurd (atom_unready nodes header events net now c.args.node a x)))

@@ -7,7 +7,8 @@ use Rattle.online_net.specs.Nets.{Parts, Stands}
 use Rattle.std.specs.Prelude.{slice_set}
 use Rattle.std.proofs.lemmas.List.{length-set}
 use Rattle.online_net.proofs.Saying.{found}
-use Rattle.online_net.proofs.Stepping.{atom_unready, belongs_now, idle_stands, kept_operator, moved_stands, no_operator, none_ready, set_here, set_other, step_by, unmoved_parts, unready_by}
+use Rattle.online_net.proofs.Stepping.{atom_unready, belongs_now, idle_stands, kept_operator, moved_stands, no_operator}
+use Rattle.online_net.proofs.Stepping.{none_ready, set_here, set_other, step_by, unmoved_parts, unready_by}
 use Rattle.online_net.specs.contracts.net.Net.{the_view}
 use Rattle.online_net.proofs.net.Net.step.Goals as goal
 
@@ -79,7 +80,8 @@ invariant_of-self-in-Ok-1 c running = by_moved c.in-Ok.moved refl
     w = c.self.invariant c.if-self.false
 
     by_moved : (moved : Bool) → c.in-Ok.moved ≡ moved → (nodes : List Node) × (header : Header) × (events : List Event)
-        × Stands nodes header (record net { edges = c.step_one.new.edges; operators = slice_set net.operators c.args.node (Some c.step_one.new.operator) }) events
+        × Stands nodes header
+        (record net { edges = c.step_one.new.edges; operators = slice_set net.operators c.args.node (Some c.step_one.new.operator) }) events
     by_moved true is =
         let b = belongs_now w.0 w.1 w.2 net w.3 c.args.node c.in-Some-index_mut.operator c.in-Some.row c.time-now.result at c.in-Some.is c.time-now.ensures in
         let x = step_by w.0 w.1 w.2 net w.3 c.in-Some-index_mut.operator c.step_one.new.operator c.step_one.new.edges c.in-Some.row c.time-now.result
@@ -108,7 +110,8 @@ returns-then-not-moved-clause-moved c nodes header events st =
     let l : c.args.node < length net.operators = subst (λ (p : Parts). c.args.node < length p.operators) (sym c.self.view_is) c.requires in
     let at : slice_get net.operators c.args.node ≡ Some (Some c.in-Some-index_mut.operator) =
     found net.operators c.args.node c.index_mut.result.now l c.index_mut.ensures.value ∙ ap Some c.in-Some-index_mut.is in
-    let b = belongs_now nodes header events net now c.args.node c.in-Some-index_mut.operator c.in-Some.row c.time-now.result at c.in-Some.is c.time-now.ensures in
+    let b = belongs_now nodes header events net now c.args.node c.in-Some-index_mut.operator c.in-Some.row c.time-now.result at
+    c.in-Some.is c.time-now.ensures in
     let answer = c.in-Ok.ensures.stepped nodes header events b in
     let none : c.in-Ok.moved ≡ false = (let e = c.if-not-moved.true in cc) in
     not_moved (unready_by nodes header events net now c.args.node c.in-Some-index_mut.operator c.step_one.new.operator c.step_one.new.edges
@@ -121,7 +124,8 @@ returns-then-not-moved-clause-stands c nodes header events st other =
     let l : c.args.node < length net.operators = subst (λ (p : Parts). c.args.node < length p.operators) (sym c.self.view_is) c.requires in
     let at : slice_get net.operators c.args.node ≡ Some (Some c.in-Some-index_mut.operator) =
     found net.operators c.args.node c.index_mut.result.now l c.index_mut.ensures.value ∙ ap Some c.in-Some-index_mut.is in
-    let b = belongs_now nodes header events net now c.args.node c.in-Some-index_mut.operator c.in-Some.row c.time-now.result at c.in-Some.is c.time-now.ensures in
+    let b = belongs_now nodes header events net now c.args.node c.in-Some-index_mut.operator c.in-Some.row c.time-now.result at
+    c.in-Some.is c.time-now.ensures in
     let answer = c.in-Ok.ensures.stepped nodes header events b in
     let n : c.args.node < length nodes = (let d = now.holds.operators in omega (arith, l, d)) in
     let none : c.in-Ok.moved ≡ false = (let e = c.if-not-moved.true in cc) in
@@ -139,7 +143,8 @@ returns-clause-moved c nodes header events st =
     let l : c.args.node < length net.operators = subst (λ (p : Parts). c.args.node < length p.operators) (sym c.self.view_is) c.requires in
     let at : slice_get net.operators c.args.node ≡ Some (Some c.in-Some-index_mut.operator) =
     found net.operators c.args.node c.index_mut.result.now l c.index_mut.ensures.value ∙ ap Some c.in-Some-index_mut.is in
-    let b = belongs_now nodes header events net now c.args.node c.in-Some-index_mut.operator c.in-Some.row c.time-now.result at c.in-Some.is c.time-now.ensures in
+    let b = belongs_now nodes header events net now c.args.node c.in-Some-index_mut.operator c.in-Some.row c.time-now.result at
+    c.in-Some.is c.time-now.ensures in
     let answer = c.in-Ok.ensures.stepped nodes header events b in
     let some : c.in-Ok.moved ≡ true = (let e = c.if-not-moved.false in cc) in
     let x = step_by nodes header events net now c.in-Some-index_mut.operator c.step_one.new.operator c.step_one.new.edges c.in-Some.row
@@ -154,7 +159,8 @@ returns-clause-stands c nodes header events st other =
     let l : c.args.node < length net.operators = subst (λ (p : Parts). c.args.node < length p.operators) (sym c.self.view_is) c.requires in
     let at : slice_get net.operators c.args.node ≡ Some (Some c.in-Some-index_mut.operator) =
     found net.operators c.args.node c.index_mut.result.now l c.index_mut.ensures.value ∙ ap Some c.in-Some-index_mut.is in
-    let b = belongs_now nodes header events net now c.args.node c.in-Some-index_mut.operator c.in-Some.row c.time-now.result at c.in-Some.is c.time-now.ensures in
+    let b = belongs_now nodes header events net now c.args.node c.in-Some-index_mut.operator c.in-Some.row c.time-now.result at
+    c.in-Some.is c.time-now.ensures in
     let answer = c.in-Ok.ensures.stepped nodes header events b in
     let some : c.in-Ok.moved ≡ true = (let e = c.if-not-moved.false in cc) in
     let x = step_by nodes header events net now c.in-Some-index_mut.operator c.step_one.new.operator c.step_one.new.edges c.in-Some.row

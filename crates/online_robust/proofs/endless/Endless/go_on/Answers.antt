@@ -23,7 +23,9 @@ returns-in_err-swept-in-Some-clause-wide c = λ t b.
     let end : value c.of-end.result ≈ whole (pos c.args.to) = subst (λ n. value c.of-end.result ≈ whole n) to c.of-end.ensures.value in
     let m = may_go_on t c.args.self.now c.args.edges.now c.args.to b c.in-Some.past (value c.of-end.result) end c.in-Some.is in
     let p = err_from_is_err_and c.from_residual.result c.from_residual.ensures.1 in
-    let h = step_fault t c.args.self.now c.args.edges.now c.args.to b c.in-Some.past (value c.of-end.result) end m c.in_err-swept-in-Some.field-0.0 (c.in_err-swept-in-Some.ensures.wide (scope_of t c.args.self.now c.args.edges.now c.args.to b (value c.in-Some.past.at)) (own t c.args.self.now c.args.edges.now c.args.to b) m.from m.can) in
+    let h = step_fault t c.args.self.now c.args.edges.now c.args.to b c.in-Some.past (value c.of-end.result) end m c.in_err-swept-in-Some.field-0.0
+    (c.in_err-swept-in-Some.ensures.wide (scope_of t c.args.self.now c.args.edges.now c.args.to b (value c.in-Some.past.at))
+    (own t c.args.self.now c.args.edges.now c.args.to b) m.from m.can) in
     rw (p.1, p.2) h
 
 pub returns-clause-told : goal.returns-clause-told
@@ -31,21 +33,32 @@ returns-clause-told c = λ t b.
     let to : to_z w64 (of_z w64 c.from.result) ≡ pos c.args.to = search (rules, to_z-of_z) in
     let end : value c.of-end.result ≈ whole (pos c.args.to) = subst (λ n. value c.of-end.result ≈ whole n) to c.of-end.ensures.value in
     let m = may_go_on t c.args.self.now c.args.edges.now c.args.to b c.in-Some.past (value c.of-end.result) end c.in-Some.is in
-    step_told t c.args.self.now c.args.edges.now c.args.to b c.in-Some.past (value c.of-end.result) end m c.in_ok-swept-in-Some.swept (c.in_ok-swept-in-Some.ensures.told (scope_of t c.args.self.now c.args.edges.now c.args.to b (value c.in-Some.past.at)) (own t c.args.self.now c.args.edges.now c.args.to b) m.from m.can)
+    step_told t c.args.self.now c.args.edges.now c.args.to b c.in-Some.past (value c.of-end.result) end m c.in_ok-swept-in-Some.swept
+    (c.in_ok-swept-in-Some.ensures.told (scope_of t c.args.self.now c.args.edges.now c.args.to b (value c.in-Some.past.at))
+    (own t c.args.self.now c.args.edges.now c.args.to b) m.from m.can)
 
 pub returns-clause-edges : goal.returns-clause-edges
 returns-clause-edges c = λ t b.
     let to : to_z w64 (of_z w64 c.from.result) ≡ pos c.args.to = search (rules, to_z-of_z) in
     let end : value c.of-end.result ≈ whole (pos c.args.to) = subst (λ n. value c.of-end.result ≈ whole n) to c.of-end.ensures.value in
     let m = may_go_on t c.args.self.now c.args.edges.now c.args.to b c.in-Some.past (value c.of-end.result) end c.in-Some.is in
-    step_edges t c.args.self.now c.args.edges.now c.args.to b c.in-Some.past (value c.of-end.result) end m c.sweep.new.self c.sweep.new.edges c.in_ok-swept-in-Some.ensures.kept.0
-    (c.in_ok-swept-in-Some.ensures.stands (scope_of t c.args.self.now c.args.edges.now c.args.to b (value c.in-Some.past.at)) (own t c.args.self.now c.args.edges.now c.args.to b) m.from m.can) (c.in_ok-swept-in-Some.ensures.reached (scope_of t c.args.self.now c.args.edges.now c.args.to b (value c.in-Some.past.at)) (own t c.args.self.now c.args.edges.now c.args.to b) m.from m.can)
-    (c.in_ok-swept-in-Some.ensures.shed (scope_of t c.args.self.now c.args.edges.now c.args.to b (value c.in-Some.past.at)) (own t c.args.self.now c.args.edges.now c.args.to b) m.from m.can)
+    step_edges t c.args.self.now c.args.edges.now c.args.to b c.in-Some.past
+    (value c.of-end.result) end m c.sweep.new.self c.sweep.new.edges c.in_ok-swept-in-Some.ensures.kept.0
+    (c.in_ok-swept-in-Some.ensures.stands (scope_of t c.args.self.now c.args.edges.now c.args.to b (value c.in-Some.past.at))
+    (own t c.args.self.now c.args.edges.now c.args.to b) m.from m.can)
+    (c.in_ok-swept-in-Some.ensures.reached (scope_of t c.args.self.now c.args.edges.now c.args.to b (value c.in-Some.past.at))
+    (own t c.args.self.now c.args.edges.now c.args.to b) m.from m.can)
+    (c.in_ok-swept-in-Some.ensures.shed (scope_of t c.args.self.now c.args.edges.now c.args.to b (value c.in-Some.past.at))
+    (own t c.args.self.now c.args.edges.now c.args.to b) m.from m.can)
 
 pub returns-clause-stands : goal.returns-clause-stands
 returns-clause-stands c = λ t b.
     let to : to_z w64 (of_z w64 c.from.result) ≡ pos c.args.to = search (rules, to_z-of_z) in
     let end : value c.of-end.result ≈ whole (pos c.args.to) = subst (λ n. value c.of-end.result ≈ whole n) to c.of-end.ensures.value in
     let m = may_go_on t c.args.self.now c.args.edges.now c.args.to b c.in-Some.past (value c.of-end.result) end c.in-Some.is in
-    step_stands t c.args.self.now c.args.edges.now c.args.to b c.in-Some.past (value c.of-end.result) end m c.sweep.new.self c.sweep.new.edges c.in_ok-swept-in-Some.ensures.kept.0
-    (c.in_ok-swept-in-Some.ensures.stands (scope_of t c.args.self.now c.args.edges.now c.args.to b (value c.in-Some.past.at)) (own t c.args.self.now c.args.edges.now c.args.to b) m.from m.can) (c.in_ok-swept-in-Some.ensures.reached (scope_of t c.args.self.now c.args.edges.now c.args.to b (value c.in-Some.past.at)) (own t c.args.self.now c.args.edges.now c.args.to b) m.from m.can) (record c.args.self.now { past = Some c.sweep.new.self }) refl refl
+    step_stands t c.args.self.now c.args.edges.now c.args.to b c.in-Some.past
+    (value c.of-end.result) end m c.sweep.new.self c.sweep.new.edges c.in_ok-swept-in-Some.ensures.kept.0
+    (c.in_ok-swept-in-Some.ensures.stands (scope_of t c.args.self.now c.args.edges.now c.args.to b (value c.in-Some.past.at))
+    (own t c.args.self.now c.args.edges.now c.args.to b) m.from m.can)
+    (c.in_ok-swept-in-Some.ensures.reached (scope_of t c.args.self.now c.args.edges.now c.args.to b (value c.in-Some.past.at))
+    (own t c.args.self.now c.args.edges.now c.args.to b) m.from m.can) (record c.args.self.now { past = Some c.sweep.new.self }) refl refl

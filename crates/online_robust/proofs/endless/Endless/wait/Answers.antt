@@ -23,8 +23,13 @@ sweep-requires c =
     let to : to_z w64 (of_z w64 c.from.result) ≡ pos c.args.to = search (rules, to_z-of_z) in
     let end : value c.of-end.result ≈ whole (pos c.args.to) = subst (λ n. value c.of-end.result ≈ whole n) to c.of-end.ensures.value in
     let first : c.in-Some.start ≡ begin_of t = some_is (sym c.in-Some.is ∙ c.start.ensures ∙ b.start) in
-    let starts : whole (pos c.in-Some.start) ≈ start t.trace = subst (λ n. whole (pos n) ≈ start t.trace) (sym first) (same_refl (start t.trace)) in
-    (silence t c.args.self.now c.args.edges.now c.args.to b c.requires.none c.requires.empty, own t c.args.self.now c.args.edges.now c.args.to b, from_of t, can_wait t c.args.self.now c.args.edges.now c.args.to b c.requires.none c.requires.empty (value c.of-end.result) end, starts)
+    let starts : whole (pos c.in-Some.start) ≈ start t.trace = subst (λ n. whole (pos n) ≈ start t.trace) (sym first) (same_refl (start t.trace)) in (
+      silence t c.args.self.now c.args.edges.now c.args.to b c.requires.none c.requires.empty,
+      own t c.args.self.now c.args.edges.now c.args.to b,
+      from_of t,
+      can_wait t c.args.self.now c.args.edges.now c.args.to b c.requires.none c.requires.empty (value c.of-end.result) end,
+      starts,
+    )
 
 pub returns-in-Ok-clause-told : goal.returns-in-Ok-clause-told
 returns-in-Ok-clause-told c = λ t b.
@@ -32,7 +37,10 @@ returns-in-Ok-clause-told c = λ t b.
     let end : value c.of-end.result ≈ whole (pos c.args.to) = subst (λ n. value c.of-end.result ≈ whole n) to c.of-end.ensures.value in
     let first : c.in-Some.start ≡ begin_of t = some_is (sym c.in-Some.is ∙ c.start.ensures ∙ b.start) in
     let starts : whole (pos c.in-Some.start) ≈ start t.trace = subst (λ n. whole (pos n) ≈ start t.trace) (sym first) (same_refl (start t.trace)) in
-    wait_told t c.args.self.now c.args.edges.now c.args.to b c.requires.none c.requires.empty (value c.of-end.result) end c.in-Ok.swept (c.in-Ok.ensures.told (silence t c.args.self.now c.args.edges.now c.args.to b c.requires.none c.requires.empty) (own t c.args.self.now c.args.edges.now c.args.to b) (from_of t) (can_wait t c.args.self.now c.args.edges.now c.args.to b c.requires.none c.requires.empty (value c.of-end.result) end) starts)
+    wait_told t c.args.self.now c.args.edges.now c.args.to b c.requires.none c.requires.empty (value c.of-end.result) end c.in-Ok.swept
+    (c.in-Ok.ensures.told (silence t c.args.self.now c.args.edges.now c.args.to b c.requires.none c.requires.empty)
+    (own t c.args.self.now c.args.edges.now c.args.to b) (from_of t)
+    (can_wait t c.args.self.now c.args.edges.now c.args.to b c.requires.none c.requires.empty (value c.of-end.result) end) starts)
 
 pub returns-in-Ok-clause-edges : goal.returns-in-Ok-clause-edges
 returns-in-Ok-clause-edges c = λ t b.
@@ -40,7 +48,10 @@ returns-in-Ok-clause-edges c = λ t b.
     let end : value c.of-end.result ≈ whole (pos c.args.to) = subst (λ n. value c.of-end.result ≈ whole n) to c.of-end.ensures.value in
     let first : c.in-Some.start ≡ begin_of t = some_is (sym c.in-Some.is ∙ c.start.ensures ∙ b.start) in
     let starts : whole (pos c.in-Some.start) ≈ start t.trace = subst (λ n. whole (pos n) ≈ start t.trace) (sym first) (same_refl (start t.trace)) in
-    wait_edges t c.args.self.now c.args.edges.now c.args.to b c.requires.none c.requires.empty (value c.of-end.result) end c.sweep.new.edges (c.in-Ok.ensures.lost (silence t c.args.self.now c.args.edges.now c.args.to b c.requires.none c.requires.empty) (own t c.args.self.now c.args.edges.now c.args.to b) (from_of t) (can_wait t c.args.self.now c.args.edges.now c.args.to b c.requires.none c.requires.empty (value c.of-end.result) end) starts)
+    wait_edges t c.args.self.now c.args.edges.now c.args.to b c.requires.none c.requires.empty (value c.of-end.result) end c.sweep.new.edges
+    (c.in-Ok.ensures.lost (silence t c.args.self.now c.args.edges.now c.args.to b c.requires.none c.requires.empty)
+    (own t c.args.self.now c.args.edges.now c.args.to b) (from_of t)
+    (can_wait t c.args.self.now c.args.edges.now c.args.to b c.requires.none c.requires.empty (value c.of-end.result) end) starts)
 
 pub returns-in-Ok-clause-stands : goal.returns-in-Ok-clause-stands
 returns-in-Ok-clause-stands c = λ t b.
@@ -48,4 +59,11 @@ returns-in-Ok-clause-stands c = λ t b.
     let end : value c.of-end.result ≈ whole (pos c.args.to) = subst (λ n. value c.of-end.result ≈ whole n) to c.of-end.ensures.value in
     let first : c.in-Some.start ≡ begin_of t = some_is (sym c.in-Some.is ∙ c.start.ensures ∙ b.start) in
     let starts : whole (pos c.in-Some.start) ≈ start t.trace = subst (λ n. whole (pos n) ≈ start t.trace) (sym first) (same_refl (start t.trace)) in
-    wait_stands t c.args.self.now c.args.edges.now c.args.to b c.requires.none c.requires.empty (value c.of-end.result) end (record c.args.self.now { silent = c.sweep.new.self }) c.sweep.new.edges refl c.sweep.ensures.kept c.in-Ok.ensures.some (c.in-Ok.ensures.reached (silence t c.args.self.now c.args.edges.now c.args.to b c.requires.none c.requires.empty) (own t c.args.self.now c.args.edges.now c.args.to b) (from_of t) (can_wait t c.args.self.now c.args.edges.now c.args.to b c.requires.none c.requires.empty (value c.of-end.result) end) starts) (c.in-Ok.ensures.lost (silence t c.args.self.now c.args.edges.now c.args.to b c.requires.none c.requires.empty) (own t c.args.self.now c.args.edges.now c.args.to b) (from_of t) (can_wait t c.args.self.now c.args.edges.now c.args.to b c.requires.none c.requires.empty (value c.of-end.result) end) starts)
+    wait_stands t c.args.self.now c.args.edges.now c.args.to b c.requires.none c.requires.empty (value c.of-end.result) end
+    (record c.args.self.now { silent = c.sweep.new.self }) c.sweep.new.edges refl c.sweep.ensures.kept c.in-Ok.ensures.some
+    (c.in-Ok.ensures.reached (silence t c.args.self.now c.args.edges.now c.args.to b c.requires.none c.requires.empty)
+    (own t c.args.self.now c.args.edges.now c.args.to b) (from_of t)
+    (can_wait t c.args.self.now c.args.edges.now c.args.to b c.requires.none c.requires.empty (value c.of-end.result) end) starts)
+    (c.in-Ok.ensures.lost (silence t c.args.self.now c.args.edges.now c.args.to b c.requires.none c.requires.empty)
+    (own t c.args.self.now c.args.edges.now c.args.to b) (from_of t)
+    (can_wait t c.args.self.now c.args.edges.now c.args.to b c.requires.none c.requires.empty (value c.of-end.result) end) starts)

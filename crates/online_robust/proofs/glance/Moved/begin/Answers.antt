@@ -3,7 +3,8 @@ use Rattle.std.specs.Prelude.{◌-ℤ◌, ◌+ℤ◌}
 use Rattle.std.proofs.lemmas.Int.{ints}
 use Rattle.rational.specs.Rational.{Rational, whole, ◌≈◌}
 use Rattle.rational.specs.Time.{shifted, ◌≤ʳ◌, ◌<ʳ◌}
-use Rattle.rational.proofs.Order.{le_of_lt, le_of_same, ge_of_same, le_trans, lt_of_le_of_lt, lt_of_lt_of_le, lt_irrefl, not_lt_of_le, same_of_le, same_refl, same_sym, same_trans}
+use Rattle.rational.proofs.Order.{le_of_lt, le_of_same, ge_of_same, le_trans, lt_of_le_of_lt, lt_of_lt_of_le}
+use Rattle.rational.proofs.Order.{lt_irrefl, not_lt_of_le, same_of_le, same_refl, same_sym, same_trans}
 use Rattle.rational.proofs.Shift.{lt_whole}
 use Rattle.rational.proofs.TimeLemmas.{same_shifted}
 use Rattle.frac128.specs.Value.{value}
@@ -27,10 +28,14 @@ loop-edges-init c = record {
       let (same, stands) = subst (HasGlanced x c.args.self.now (x.reach + own) c.args.edges.now from) c.in_default.is can.stands in
       let by = can.offset.to in
       let less : value c.long_before-far.result <ʳ value c.first_time-first.result =
-      lt_of_le_of_lt (le_of_same c.long_before-far.ensures) (lt_of_lt_of_le (lt_whole {j = pos c.args.start -ℤ pos 4294967296} {k = pos c.args.start} (omega (arith, ints))) (ge_of_same c.first_time-first.ensures)) in
+      lt_of_le_of_lt (le_of_same c.long_before-far.ensures)
+      (lt_of_lt_of_le (lt_whole {j = pos c.args.start -ℤ pos 4294967296} {k = pos c.args.start} (omega (arith, ints)))
+      (ge_of_same c.first_time-first.ensures)) in
       let early : shifted (value c.long_before-far.result) c.args.self.now.by <ʳ start x.trace =
-      lt_of_le_of_lt (le_of_same (same_trans (same_shifted c.args.self.now.by c.long_before-far.ensures) (shifted_whole (pos c.args.start -ℤ pos 4294967296) c.args.self.now.by)))
-      (lt_of_lt_of_le (lt_whole {j = (pos c.args.start -ℤ pos 4294967296) +ℤ c.args.self.now.by} {k = pos c.args.start} (omega (arith, ints, by))) (le_of_same starts)) in (
+      lt_of_le_of_lt (le_of_same (same_trans (same_shifted c.args.self.now.by c.long_before-far.ensures)
+      (shifted_whole (pos c.args.start -ℤ pos 4294967296) c.args.self.now.by)))
+      (lt_of_lt_of_le (lt_whole {j = (pos c.args.start -ℤ pos 4294967296) +ℤ c.args.self.now.by} {k = pos c.args.start} (omega (arith, ints, by)))
+      (le_of_same starts)) in (
         stands (value c.long_before-far.result) early,
         loses_at_none c.args.edges.now,
         le_of_lt less,
@@ -50,7 +55,8 @@ loop-edges-preserved c = record {
       let (at, lost, by, there) = c.loop-edges.invariant.went x own from to can starts in
       let (same, stands) = subst (HasGlanced x c.args.self.now (x.reach + own) c.args.edges.now from) c.in_default.is can.stands in
       let bound : shifted (value c.first_time-first.result) c.args.self.now.by ≤ʳ x.bound =
-      le_trans (le_shifted c.args.self.now.by (le_trans (le_of_same (same_trans c.first_time-first.ensures (same_trans starts (same_sym same)))) can.order)) can.bound in
+      le_trans (le_shifted c.args.self.now.by
+      (le_trans (le_of_same (same_trans c.first_time-first.ensures (same_trans starts (same_sym same)))) can.order)) can.bound in
       let stride = c.next.ensures x own (value c.loop-edges.reached.at) at (record { own_by = can.own_by; before = c.in-Less.ensures; bound = bound }) in (
         stride.stands,
         loses_at_both (loses_at_later (le_shifted c.args.self.now.by (le_of_lt stride.later)) lost) stride.lost,
@@ -65,7 +71,8 @@ loop-edges-smaller c =
     let (at, lost, by, there) = c.loop-edges.invariant.went x own from to can starts in
     let (same, stands) = subst (HasGlanced x c.args.self.now (x.reach + own) c.args.edges.now from) c.in_default.is can.stands in
     let bound : shifted (value c.first_time-first.result) c.args.self.now.by ≤ʳ x.bound =
-    le_trans (le_shifted c.args.self.now.by (le_trans (le_of_same (same_trans c.first_time-first.ensures (same_trans starts (same_sym same)))) can.order)) can.bound in
+    le_trans (le_shifted c.args.self.now.by
+    (le_trans (le_of_same (same_trans c.first_time-first.ensures (same_trans starts (same_sym same)))) can.order)) can.bound in
     let stride = c.next.ensures x own (value c.loop-edges.reached.at) at (record { own_by = can.own_by; before = c.in-Less.ensures; bound = bound }) in
     stride.fewer
 

@@ -11,7 +11,8 @@ abbrev pub invariant-loop-edges : goal.invariant-loop-edges
 invariant-loop-edges l = record {
   went : (x : Glance) (own : ℕ) (from to : Rational) → CanGlance x l.self own from to l.fn.edges → whole (pos l.start) ≈ start_of x.trace
       → IsGlanceAt x l.self l.edges (value l.reached.at) × LosesAt (shifted (value l.reached.at) l.self.by) l.self.of l.fn.edges l.edges
-      × (value l.reached.at ≤ʳ value l.first) × (value l.reached.at ≈ value l.first → IsThere (glance_of x l.self) (x.reach + own) (value l.reached.at) l.reached.value);
+      × (value l.reached.at ≤ʳ value l.first)
+      × (value l.reached.at ≈ value l.first → IsThere (glance_of x l.self) (x.reach + own) (value l.reached.at) l.reached.value);
 }
 
 abbrev pub decreases-loop-edges : goal.decreases-loop-edges

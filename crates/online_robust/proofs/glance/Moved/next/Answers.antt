@@ -18,7 +18,8 @@ over_gap-requires c =
 
 pub returns-in-None : goal.returns-in-None
 returns-in-None c x own t at can =
-    subst (λ (r : Reached). IsStride x c.args.self.now own t (value c.args.to.now) c.outside.result.shape r c.args.edges.now c.args.edges.now) (sym c.outside.ensures.to)
+    subst (λ (r : Reached). IsStride x c.args.self.now own t (value c.args.to.now) c.outside.result.shape r c.args.edges.now c.args.edges.now)
+    (sym c.outside.ensures.to)
     (nothing_left x c.args.self.now own c.args.edges.now t (value c.args.to.now) at can c.outside.result.shape c.args.to.now refl c.outside.ensures.shape
     (sym c.first.ensures ∙ c.in-None.is))
 

@@ -18,8 +18,11 @@ use Rattle.online_robust.proofs.glance.Moved.over_gap.Goals as goal
 
 pub seen-shape-requires-clause-moved : goal.seen-shape-requires-clause-moved
 seen-shape-requires-clause-moved c =
-    let (x, t, at, first, gap) = c.requires in
-    (x.reach, at.small, subst (λ (m : Margin). IsMovedBy x.reach m) (sym c.margin.ensures) (gap_moves x c.args.self.now c.args.edges.now t at c.args.gap.now first gap))
+    let (x, t, at, first, gap) = c.requires in (
+      x.reach,
+      at.small,
+      subst (λ (m : Margin). IsMovedBy x.reach m) (sym c.margin.ensures) (gap_moves x c.args.self.now c.args.edges.now t at c.args.gap.now first gap),
+    )
 
 pub shift-stop-requires : goal.shift-stop-requires
 shift-stop-requires c =
@@ -28,7 +31,8 @@ shift-stop-requires c =
     let from = at.offset.from in
     let to = at.offset.to in
     subst (λ (f : Frac). FitsFloor w64 (add (value f) (whole (to_z w64 (of_z w64 (pos 0 -ℤ to_z w64 (of_z w64 c.args.self.now.by))))))) (sym c.end.ensures)
-    (subst (λ z. FitsFloor w64 (add (value (end_of c.args.gap.now)) (whole z))) (sym (negated c.args.self.now.by (omega (arith, ints, from)) (omega (arith, ints, to))))
+    (subst (λ z. FitsFloor w64 (add (value (end_of c.args.gap.now)) (whole z)))
+    (sym (negated c.args.self.now.by (omega (arith, ints, from)) (omega (arith, ints, to))))
     (fits (value (end_of c.args.gap.now)) (neg_ℤ c.args.self.now.by) tick.0
     (le_trans tick.1 (le_whole {j = pos 4294967295} {k = pos (2 ^ 32)} (omega (arith, ints)))) (omega (arith, ints, to)) (omega (arith, ints, from))))
 
@@ -64,10 +68,12 @@ pub returns-in-Greater : goal.returns-in-Greater
 returns-in-Greater c x own t at first gap can =
     let from = at.offset.from in
     let to = at.offset.to in
-    let is = subst (λ z. value c.shift-stop.result ≈ add (value c.end.result) (whole z)) (negated c.args.self.now.by (omega (arith, ints, from)) (omega (arith, ints, to)))
+    let is = subst (λ z. value c.shift-stop.result ≈ add (value c.end.result) (whole z)) (negated c.args.self.now.by
+    (omega (arith, ints, from)) (omega (arith, ints, to)))
     c.shift-stop.ensures.value in
     let there = subst (λ (f : Frac). value c.shift-stop.result ≈ add (value f) (whole (neg_ℤ c.args.self.now.by))) c.end.ensures is in
-    goes_within x c.args.self.now own c.args.edges.now t (value c.args.to.now) at can c.args.gap.now first gap c.shift-stop.result there c.seen-shape.result c.args.to.now refl
+    goes_within x c.args.self.now own c.args.edges.now t
+    (value c.args.to.now) at can c.args.gap.now first gap c.shift-stop.result there c.seen-shape.result c.args.to.now refl
     c.in-Greater.ensures (subst (λ (m : Margin). IsSeenAs c.args.self.now m c.seen-shape.result) c.margin.ensures c.seen-shape.ensures)
 
 pub returns-in-Some : goal.returns-in-Some
@@ -83,7 +89,8 @@ returns-in-Some c x own t at first gap can =
     } in
     let from = at.offset.from in
     let to = at.offset.to in
-    let is = subst (λ z. value c.shift-stop.result ≈ add (value c.end.result) (whole z)) (negated c.args.self.now.by (omega (arith, ints, from)) (omega (arith, ints, to)))
+    let is = subst (λ z. value c.shift-stop.result ≈ add (value c.end.result) (whole z)) (negated c.args.self.now.by
+    (omega (arith, ints, from)) (omega (arith, ints, to)))
     c.shift-stop.ensures.value in
     let there = subst (λ (f : Frac). value c.shift-stop.result ≈ add (value f) (whole (neg_ℤ c.args.self.now.by))) c.end.ensures is in
     goes_over x c.args.self.now own c.args.edges.now t (value c.args.to.now) at can c.args.gap.now first gap c.shift-stop.result there c.take.new.self

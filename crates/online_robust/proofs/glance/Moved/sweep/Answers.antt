@@ -54,13 +54,15 @@ pub loop-self-preserved : goal.loop-self-preserved
 loop-self-preserved c = record {
   went = λ x own from can starts.
       let (at, lost, by, reached, built) = c.loop-self.invariant.went x own from can starts in
-      let stride = c.next-stride.ensures x own (value c.loop-self.reached.at) at (record { own_by = can.own_by; before = c.in-Less.ensures; bound = can.bound }) in (
+      let stride =
+      c.next-stride.ensures x own (value c.loop-self.reached.at) at (record { own_by = can.own_by; before = c.in-Less.ensures; bound = can.bound }) in (
         stride.stands,
         loses_at_both lost (loses_at_later (le_shifted c.args.self.now.by stride.by) stride.lost),
         stride.by,
         (same_refl (value c.next-stride.result.to.at), tick_between reached.1 can.to_tick (le_of_lt stride.later) stride.by, stride.there),
         built_on (glance_of x c.args.self.now) (x.reach + own) (glance_is_function x c.args.self.now) from (value c.loop-self.reached.at) c.loop-self.built
-            c.step.new.self built c.next-stride.result.shape c.next-stride.result.to.value c.next-stride.result.to.at c.in_ok-step.ensures.ok stride.told stride.moved stride.there,
+            c.step.new.self built c.next-stride.result.shape c.next-stride.result.to.value c.next-stride.result.to.at
+            c.in_ok-step.ensures.ok stride.told stride.moved stride.there,
       );
 }
 

@@ -31,17 +31,22 @@ pub returns-in-Greater : goal.returns-in-Greater
 returns-in-Greater c x own t at first can =
     let from = at.offset.from in
     let to = at.offset.to in
-    let is = subst (λ z. value c.shift-stop.result ≈ add (value c.args.at.now) (whole z)) (negated c.args.self.now.by (omega (arith, ints, from)) (omega (arith, ints, to)))
+    let is = subst (λ z. value c.shift-stop.result ≈ add (value c.args.at.now) (whole z)) (negated c.args.self.now.by
+    (omega (arith, ints, from)) (omega (arith, ints, to)))
     c.shift-stop.ensures.value in
-    subst (λ (r : Reached). IsStride x c.args.self.now own t (value c.args.to.now) c.outside.result.shape r c.args.edges.now c.args.edges.now) (sym c.outside.ensures.to)
-    (waits x c.args.self.now own c.args.edges.now t (value c.args.to.now) at can c.args.at.now c.args.value.now first c.shift-stop.result is c.outside.result.shape
+    subst (λ (r : Reached). IsStride x c.args.self.now own t (value c.args.to.now) c.outside.result.shape r c.args.edges.now c.args.edges.now)
+    (sym c.outside.ensures.to)
+    (waits x c.args.self.now own c.args.edges.now t
+    (value c.args.to.now) at can c.args.at.now c.args.value.now first c.shift-stop.result is c.outside.result.shape
     c.args.to.now refl c.in-Greater.ensures c.outside.ensures.shape)
 
 pub returns-in_default : goal.returns-in_default
 returns-in_default c x own t at first can =
     let from = at.offset.from in
     let to = at.offset.to in
-    let is = subst (λ z. value c.shift-stop.result ≈ add (value c.args.at.now) (whole z)) (negated c.args.self.now.by (omega (arith, ints, from)) (omega (arith, ints, to)))
+    let is = subst (λ z. value c.shift-stop.result ≈ add (value c.args.at.now) (whole z)) (negated c.args.self.now.by
+    (omega (arith, ints, from)) (omega (arith, ints, to)))
     c.shift-stop.ensures.value in
     starts_now x c.args.self.now own c.args.edges.now t (value c.args.to.now) at can c.args.at.now c.args.value.now first c.shift-stop.result is c.take.new.self
-    c.take.ensures.taken c.take.ensures.start c.nothing.result c.seen.result (not_greater c.cmp.result c.cmp.ensures c.in_default.not-Greater) c.nothing.ensures c.seen.ensures
+    c.take.ensures.taken c.take.ensures.start c.nothing.result c.seen.result
+    (not_greater c.cmp.result c.cmp.ensures c.in_default.not-Greater) c.nothing.ensures c.seen.ensures

@@ -24,8 +24,12 @@ sweep-requires c =
     let end : value c.of-end.result ≈ whole (pos c.args.to) = subst (λ n. value c.of-end.result ≈ whole n) to c.of-end.ensures.value in
     let first : c.in-Some.start ≡ begin_of t = some_is (sym c.in-Some.is ∙ c.start.ensures ∙ b.start) in
     let new = subst (λ n. IsBegun c.args.self.now.window n c.args.self.now.silent.last c.begun-sweep.result) first c.begun-sweep.ensures in
-    let m = may_begin t c.args.self.now c.args.edges.now c.args.to b c.begun-sweep.result (value c.of-end.result) end c.requires.none c.requires.some new in
-    (scope_of t c.args.self.now c.args.edges.now c.args.to b (value c.begun-sweep.result.place.at), own t c.args.self.now c.args.edges.now c.args.to b, m.from, m.can)
+    let m = may_begin t c.args.self.now c.args.edges.now c.args.to b c.begun-sweep.result (value c.of-end.result) end c.requires.none c.requires.some new in (
+      scope_of t c.args.self.now c.args.edges.now c.args.to b (value c.begun-sweep.result.place.at),
+      own t c.args.self.now c.args.edges.now c.args.to b,
+      m.from,
+      m.can,
+    )
 
 pub returns-in_err-swept-clause-wide : goal.returns-in_err-swept-clause-wide
 returns-in_err-swept-clause-wide c = λ t b.
@@ -35,7 +39,9 @@ returns-in_err-swept-clause-wide c = λ t b.
     let new = subst (λ n. IsBegun c.args.self.now.window n c.args.self.now.silent.last c.begun-sweep.result) first c.begun-sweep.ensures in
     let m = may_begin t c.args.self.now c.args.edges.now c.args.to b c.begun-sweep.result (value c.of-end.result) end c.requires.none c.requires.some new in
     let p = err_from_is_err_and c.from_residual.result c.from_residual.ensures.1 in
-    let h = step_fault t c.args.self.now c.args.edges.now c.args.to b c.begun-sweep.result (value c.of-end.result) end m c.in_err-swept.field-0.0 (c.in_err-swept.ensures.wide (scope_of t c.args.self.now c.args.edges.now c.args.to b (value c.begun-sweep.result.place.at)) (own t c.args.self.now c.args.edges.now c.args.to b) m.from m.can) in
+    let h = step_fault t c.args.self.now c.args.edges.now c.args.to b c.begun-sweep.result (value c.of-end.result) end m c.in_err-swept.field-0.0
+    (c.in_err-swept.ensures.wide (scope_of t c.args.self.now c.args.edges.now c.args.to b (value c.begun-sweep.result.place.at))
+    (own t c.args.self.now c.args.edges.now c.args.to b) m.from m.can) in
     rw (p.1, p.2) h
 
 pub returns-clause-told : goal.returns-clause-told
@@ -45,7 +51,9 @@ returns-clause-told c = λ t b.
     let first : c.in-Some.start ≡ begin_of t = some_is (sym c.in-Some.is ∙ c.start.ensures ∙ b.start) in
     let new = subst (λ n. IsBegun c.args.self.now.window n c.args.self.now.silent.last c.begun-sweep.result) first c.begun-sweep.ensures in
     let m = may_begin t c.args.self.now c.args.edges.now c.args.to b c.begun-sweep.result (value c.of-end.result) end c.requires.none c.requires.some new in
-    step_told t c.args.self.now c.args.edges.now c.args.to b c.begun-sweep.result (value c.of-end.result) end m c.in_ok-swept.swept (c.in_ok-swept.ensures.told (scope_of t c.args.self.now c.args.edges.now c.args.to b (value c.begun-sweep.result.place.at)) (own t c.args.self.now c.args.edges.now c.args.to b) m.from m.can)
+    step_told t c.args.self.now c.args.edges.now c.args.to b c.begun-sweep.result (value c.of-end.result) end m c.in_ok-swept.swept
+    (c.in_ok-swept.ensures.told (scope_of t c.args.self.now c.args.edges.now c.args.to b (value c.begun-sweep.result.place.at))
+    (own t c.args.self.now c.args.edges.now c.args.to b) m.from m.can)
 
 pub returns-clause-edges : goal.returns-clause-edges
 returns-clause-edges c = λ t b.
@@ -54,9 +62,14 @@ returns-clause-edges c = λ t b.
     let first : c.in-Some.start ≡ begin_of t = some_is (sym c.in-Some.is ∙ c.start.ensures ∙ b.start) in
     let new = subst (λ n. IsBegun c.args.self.now.window n c.args.self.now.silent.last c.begun-sweep.result) first c.begun-sweep.ensures in
     let m = may_begin t c.args.self.now c.args.edges.now c.args.to b c.begun-sweep.result (value c.of-end.result) end c.requires.none c.requires.some new in
-    step_edges t c.args.self.now c.args.edges.now c.args.to b c.begun-sweep.result (value c.of-end.result) end m c.sweep.new.self c.sweep.new.edges c.in_ok-swept.ensures.kept.0
-    (c.in_ok-swept.ensures.stands (scope_of t c.args.self.now c.args.edges.now c.args.to b (value c.begun-sweep.result.place.at)) (own t c.args.self.now c.args.edges.now c.args.to b) m.from m.can) (c.in_ok-swept.ensures.reached (scope_of t c.args.self.now c.args.edges.now c.args.to b (value c.begun-sweep.result.place.at)) (own t c.args.self.now c.args.edges.now c.args.to b) m.from m.can)
-    (c.in_ok-swept.ensures.shed (scope_of t c.args.self.now c.args.edges.now c.args.to b (value c.begun-sweep.result.place.at)) (own t c.args.self.now c.args.edges.now c.args.to b) m.from m.can)
+    step_edges t c.args.self.now c.args.edges.now c.args.to b c.begun-sweep.result
+    (value c.of-end.result) end m c.sweep.new.self c.sweep.new.edges c.in_ok-swept.ensures.kept.0
+    (c.in_ok-swept.ensures.stands (scope_of t c.args.self.now c.args.edges.now c.args.to b (value c.begun-sweep.result.place.at))
+    (own t c.args.self.now c.args.edges.now c.args.to b) m.from m.can)
+    (c.in_ok-swept.ensures.reached (scope_of t c.args.self.now c.args.edges.now c.args.to b (value c.begun-sweep.result.place.at))
+    (own t c.args.self.now c.args.edges.now c.args.to b) m.from m.can)
+    (c.in_ok-swept.ensures.shed (scope_of t c.args.self.now c.args.edges.now c.args.to b (value c.begun-sweep.result.place.at))
+    (own t c.args.self.now c.args.edges.now c.args.to b) m.from m.can)
 
 pub returns-clause-stands : goal.returns-clause-stands
 returns-clause-stands c = λ t b.
@@ -65,5 +78,9 @@ returns-clause-stands c = λ t b.
     let first : c.in-Some.start ≡ begin_of t = some_is (sym c.in-Some.is ∙ c.start.ensures ∙ b.start) in
     let new = subst (λ n. IsBegun c.args.self.now.window n c.args.self.now.silent.last c.begun-sweep.result) first c.begun-sweep.ensures in
     let m = may_begin t c.args.self.now c.args.edges.now c.args.to b c.begun-sweep.result (value c.of-end.result) end c.requires.none c.requires.some new in
-    step_stands t c.args.self.now c.args.edges.now c.args.to b c.begun-sweep.result (value c.of-end.result) end m c.sweep.new.self c.sweep.new.edges c.in_ok-swept.ensures.kept.0
-    (c.in_ok-swept.ensures.stands (scope_of t c.args.self.now c.args.edges.now c.args.to b (value c.begun-sweep.result.place.at)) (own t c.args.self.now c.args.edges.now c.args.to b) m.from m.can) (c.in_ok-swept.ensures.reached (scope_of t c.args.self.now c.args.edges.now c.args.to b (value c.begun-sweep.result.place.at)) (own t c.args.self.now c.args.edges.now c.args.to b) m.from m.can) (record c.args.self.now { sweep = Some c.sweep.new.self }) refl refl
+    step_stands t c.args.self.now c.args.edges.now c.args.to b c.begun-sweep.result
+    (value c.of-end.result) end m c.sweep.new.self c.sweep.new.edges c.in_ok-swept.ensures.kept.0
+    (c.in_ok-swept.ensures.stands (scope_of t c.args.self.now c.args.edges.now c.args.to b (value c.begun-sweep.result.place.at))
+    (own t c.args.self.now c.args.edges.now c.args.to b) m.from m.can)
+    (c.in_ok-swept.ensures.reached (scope_of t c.args.self.now c.args.edges.now c.args.to b (value c.begun-sweep.result.place.at))
+    (own t c.args.self.now c.args.edges.now c.args.to b) m.from m.can) (record c.args.self.now { sweep = Some c.sweep.new.self }) refl refl

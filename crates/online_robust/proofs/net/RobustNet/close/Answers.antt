@@ -24,7 +24,8 @@ returns-in-Err-clause-answer c =
     let net = the_view c.self.inside in
     let pass = passing_end nodes header net past given st some c.if-self-2.false c.time-now.result is_now in
     let may = can_end nodes header net past given st some c.if-self-2.false c.time-now.result is_now in
-    fault_stops c.args.self.now (record net { edges = c.take_end_all.new.edges; stations = c.take_end_all.new.stations.items; stopped = true }) pass c.in-Err.fault
+    fault_stops c.args.self.now
+    (record net { edges = c.take_end_all.new.edges; stations = c.take_end_all.new.stations.items; stopped = true }) pass c.in-Err.fault
     (subst (λ (p : Parts). p.stopped ≡ false) c.self.view_is c.if-self.false) (subst (λ (p : Parts). p.closed ≡ false) c.self.view_is c.if-self-2.false) refl
     (c.in-Err.ensures.fault pass may)
 

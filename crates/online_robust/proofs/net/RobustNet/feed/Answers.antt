@@ -20,7 +20,8 @@ take_row_all-requires c =
     let small : r.time ≤ 4294967295 = omega arith in
     let net = the_view c.self.inside in
     let pass = passing_row nodes header net past given st r width later small c.if-self-2.false in
-    let may = row_may nodes header net past given st r width later small c.if-self-2.false c.begin_at.new.edges c.time-now.result c.time-now.ensures c.begin_at.ensures in
+    let may = row_may nodes header net past given st r width later small c.if-self-2.false c.begin_at.new.edges c.time-now.result
+    c.time-now.ensures c.begin_at.ensures in
     (pass, may)
 
 pub returns-in-Err-clause-answer : goal.returns-in-Err-clause-answer
@@ -32,8 +33,10 @@ returns-in-Err-clause-answer c =
     let small : r.time ≤ 4294967295 = omega arith in
     let net = the_view c.self.inside in
     let pass = passing_row nodes header net past given st r width later small c.if-self-2.false in
-    let may = row_may nodes header net past given st r width later small c.if-self-2.false c.begin_at.new.edges c.time-now.result c.time-now.ensures c.begin_at.ensures in
-    fault_stops c.args.self.now (record net { edges = c.take_row_all.new.edges; stations = c.take_row_all.new.stations.items; stopped = true }) pass c.in-Err.fault
+    let may = row_may nodes header net past given st r width later small c.if-self-2.false c.begin_at.new.edges c.time-now.result
+    c.time-now.ensures c.begin_at.ensures in
+    fault_stops c.args.self.now
+    (record net { edges = c.take_row_all.new.edges; stations = c.take_row_all.new.stations.items; stopped = true }) pass c.in-Err.fault
     (subst (λ (p : Parts). p.stopped ≡ false) c.self.view_is c.if-self.false) (subst (λ (p : Parts). p.closed ≡ false) c.self.view_is c.if-self-2.false) refl
     (c.in-Err.ensures.fault pass may)
 
@@ -46,7 +49,8 @@ returns-in-Err-clause-wide c nodes header past given stands =
     let small : r.time ≤ 4294967295 = omega arith in
     let net = the_view c.self.inside in
     let pass = passing_row nodes header net past given st r width later small c.if-self-2.false in
-    let may = row_may nodes header net past given st r width later small c.if-self-2.false c.begin_at.new.edges c.time-now.result c.time-now.ensures c.begin_at.ensures in
+    let may = row_may nodes header net past given st r width later small c.if-self-2.false c.begin_at.new.edges c.time-now.result
+    c.time-now.ensures c.begin_at.ensures in
     fault_is_wide pass c.in-Err.fault (c.in-Err.ensures.fault pass may)
 
 pub invariant_of-self-in-Ok-take_row_all : goal.invariant_of-self-in-Ok-take_row_all
@@ -58,12 +62,14 @@ invariant_of-self-in-Ok-take_row_all c running =
     let small : r.time ≤ 4294967295 = omega arith in
     let net = the_view c.self.inside in
     let pass = passing_row nodes header net past given st r width later small c.if-self-2.false in
-    let may = row_may nodes header net past given st r width later small c.if-self-2.false c.begin_at.new.edges c.time-now.result c.time-now.ensures c.begin_at.ensures in (
+    let may = row_may nodes header net past given st r width later small c.if-self-2.false c.begin_at.new.edges c.time-now.result
+    c.time-now.ensures c.begin_at.ensures in (
       nodes,
       header,
       with_row past r,
       given,
-      row_stands nodes header net past given st r width later small c.if-self-2.false c.take_row_all.new.edges c.take_row_all.new.stations.items c.in-Ok.kept c.in-Ok.ensures
+      row_stands nodes header net past given st r width later small c.if-self-2.false c.take_row_all.new.edges
+          c.take_row_all.new.stations.items c.in-Ok.kept c.in-Ok.ensures
           (c.in-Ok-take_row_all.ensures.gone pass may),
     )
 
@@ -76,8 +82,10 @@ returns-in-Ok-take_row_all-clause-stands c nodes header past given stands =
     let small : r.time ≤ 4294967295 = omega arith in
     let net = the_view c.self.inside in
     let pass = passing_row nodes header net past given st r width later small c.if-self-2.false in
-    let may = row_may nodes header net past given st r width later small c.if-self-2.false c.begin_at.new.edges c.time-now.result c.time-now.ensures c.begin_at.ensures in
-    row_stands nodes header net past given st r width later small c.if-self-2.false c.take_row_all.new.edges c.take_row_all.new.stations.items c.in-Ok.kept c.in-Ok.ensures
+    let may = row_may nodes header net past given st r width later small c.if-self-2.false c.begin_at.new.edges c.time-now.result
+    c.time-now.ensures c.begin_at.ensures in
+    row_stands nodes header net past given st r width later small c.if-self-2.false c.take_row_all.new.edges
+    c.take_row_all.new.stations.items c.in-Ok.kept c.in-Ok.ensures
     (c.in-Ok-take_row_all.ensures.gone pass may)
 
 pub returns-in-Ok-take_row_all-clause-nodes : goal.returns-in-Ok-take_row_all-clause-nodes

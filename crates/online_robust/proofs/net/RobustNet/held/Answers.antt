@@ -8,4 +8,5 @@ pub returns-clause-held : goal.returns-clause-held
 returns-clause-held c nodes header past given st =
     let within = subst (λ (p : Parts). c.args.node < length p.stations) (sym c.self.view_is) c.requires in
     subst (IsHeldBy nodes header past (length given) c.args.node) (sym c.held.ensures)
-    (held_by nodes header (the_view c.self.inside) past given (subst (λ (p : Parts). StandsFor nodes header p past given) (sym c.self.view_is) st) c.args.node within)
+    (held_by nodes header (the_view c.self.inside) past given
+    (subst (λ (p : Parts). StandsFor nodes header p past given) (sym c.self.view_is) st) c.args.node within)

@@ -10,15 +10,18 @@ use Rattle.online_robust.proofs.net.RobustNet.take.Goals as goal
 use Rattle.online_robust.proofs.net.RobustNet.take.Goals.{After-take}
 
 -- what the take leaves
-left : (c : After-take) (nodes : List Node) (header : Header) (past : Past) (given : List MarginLine) → StandsFor nodes header (the_view c.self.inside) past given
+left : (c : After-take) (nodes : List Node) (header : Header) (past : Past) (given : List MarginLine)
+    → StandsFor nodes header (the_view c.self.inside) past given
     → IsTaken nodes header past given (record (the_view c.self.inside) { edges = c.take.new.self }) c.take.result
 left c nodes header past given st =
-    taken nodes header (the_view c.self.inside) past given st (c.len.result - 1) (omega arith) c.take.new.self c.take.ensures.taken c.take.ensures.start c.take.result c.take.ensures.first
+    taken nodes header (the_view c.self.inside) past given st (c.len.result - 1)
+    (omega arith) c.take.new.self c.take.ensures.taken c.take.ensures.start c.take.result c.take.ensures.first
 
 pub invariant_of-self : goal.invariant_of-self
 invariant_of-self c running =
     let (nodes, header, past, given, st) = c.self.invariant c.if-self.false in
-    let (more, stands) = taken_stands nodes header (the_view c.self.inside) past given st (record (the_view c.self.inside) { edges = c.take.new.self }) c.take.result
+    let (more, stands) =
+    taken_stands nodes header (the_view c.self.inside) past given st (record (the_view c.self.inside) { edges = c.take.new.self }) c.take.result
     (left c nodes header past given st) in
     (nodes, header, past, more, stands)
 

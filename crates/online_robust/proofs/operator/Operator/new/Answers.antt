@@ -15,13 +15,15 @@ pub returns-in-Eventually : goal.returns-in-Eventually
 returns-in-Eventually c =
     let a = c.in-Eventually in
     subst (λ (n : Node). IsFirstOperator n (Some c.ahead.result)) (sym a.is)
-    (first_window (N.Eventually a.of a.low a.high a.low_in a.high_in) (ahead_window a.of Greatest a.low a.high a.low_in a.high_in) c.ahead.result refl c.ahead.ensures)
+    (first_window (N.Eventually a.of a.low a.high a.low_in a.high_in)
+    (ahead_window a.of Greatest a.low a.high a.low_in a.high_in) c.ahead.result refl c.ahead.ensures)
 
 pub returns-in-Always : goal.returns-in-Always
 returns-in-Always c =
     let a = c.in-Always in
     subst (λ (n : Node). IsFirstOperator n (Some c.ahead-in-Always.result)) (sym a.is)
-    (first_window (N.Always a.of a.low a.high a.low_in a.high_in) (ahead_window a.of Least a.low a.high a.low_in a.high_in) c.ahead-in-Always.result refl c.ahead-in-Always.ensures)
+    (first_window (N.Always a.of a.low a.high a.low_in a.high_in)
+    (ahead_window a.of Least a.low a.high a.low_in a.high_in) c.ahead-in-Always.result refl c.ahead-in-Always.ensures)
 
 pub returns-in-Once : goal.returns-in-Once
 returns-in-Once c =
@@ -33,7 +35,8 @@ returns-in-Once c =
         (λ b. IsWindowOperator (behind_window c.in-Once.of Greatest c.in-Once.low b c.in-Once.low_in c.in-Once.high_in) c.behind.result)
         → IsFirstOperator (N.Once c.in-Once.of c.in-Once.low high c.in-Once.low_in c.in-Once.high_in) (Some c.behind.result)
     by_high None is = subst (λ (op : Operator). IsFirstOperator (N.Once c.in-Once.of c.in-Once.low None c.in-Once.low_in c.in-Once.high_in) (Some op)) (sym is)
-        (first_past (N.Once c.in-Once.of c.in-Once.low None c.in-Once.low_in c.in-Once.high_in) (past_window c.in-Once.of Greatest c.in-Once.low c.in-Once.low_in) refl)
+        (first_past (N.Once c.in-Once.of c.in-Once.low None c.in-Once.low_in c.in-Once.high_in)
+        (past_window c.in-Once.of Greatest c.in-Once.low c.in-Once.low_in) refl)
     by_high (Some b) is = first_window (N.Once c.in-Once.of c.in-Once.low (Some b) c.in-Once.low_in c.in-Once.high_in)
         (behind_window c.in-Once.of Greatest c.in-Once.low b c.in-Once.low_in c.in-Once.high_in) c.behind.result refl is
 
@@ -43,10 +46,17 @@ returns-in-Historically c =
     subst (λ (n : Node). IsFirstOperator n (Some c.behind-in-Historically.result)) (sym a.is)
     (by_high a.high c.behind-in-Historically.ensures)
   where
-    by_high : (high : Option ℕ) → MatchOption high (c.behind-in-Historically.result ≡ Op.Past (endless_of (past_window c.in-Historically.of Least c.in-Historically.low c.in-Historically.low_in)))
-        (λ b. IsWindowOperator (behind_window c.in-Historically.of Least c.in-Historically.low b c.in-Historically.low_in c.in-Historically.high_in) c.behind-in-Historically.result)
-        → IsFirstOperator (N.Historically c.in-Historically.of c.in-Historically.low high c.in-Historically.low_in c.in-Historically.high_in) (Some c.behind-in-Historically.result)
-    by_high None is = subst (λ (op : Operator). IsFirstOperator (N.Historically c.in-Historically.of c.in-Historically.low None c.in-Historically.low_in c.in-Historically.high_in) (Some op)) (sym is)
-        (first_past (N.Historically c.in-Historically.of c.in-Historically.low None c.in-Historically.low_in c.in-Historically.high_in) (past_window c.in-Historically.of Least c.in-Historically.low c.in-Historically.low_in) refl)
+    by_high : (high : Option ℕ) → MatchOption high
+        (c.behind-in-Historically.result ≡ Op.Past (endless_of (past_window c.in-Historically.of Least c.in-Historically.low c.in-Historically.low_in)))
+        (λ b. IsWindowOperator (behind_window c.in-Historically.of Least c.in-Historically.low b c.in-Historically.low_in c.in-Historically.high_in)
+        c.behind-in-Historically.result)
+        → IsFirstOperator (N.Historically c.in-Historically.of c.in-Historically.low high c.in-Historically.low_in c.in-Historically.high_in)
+        (Some c.behind-in-Historically.result)
+    by_high None is = subst (λ (op : Operator).
+        IsFirstOperator (N.Historically c.in-Historically.of c.in-Historically.low None c.in-Historically.low_in c.in-Historically.high_in) (Some op))
+        (sym is)
+        (first_past (N.Historically c.in-Historically.of c.in-Historically.low None c.in-Historically.low_in c.in-Historically.high_in)
+        (past_window c.in-Historically.of Least c.in-Historically.low c.in-Historically.low_in) refl)
     by_high (Some b) is = first_window (N.Historically c.in-Historically.of c.in-Historically.low (Some b) c.in-Historically.low_in c.in-Historically.high_in)
-        (behind_window c.in-Historically.of Least c.in-Historically.low b c.in-Historically.low_in c.in-Historically.high_in) c.behind-in-Historically.result refl is
+        (behind_window c.in-Historically.of Least c.in-Historically.low b c.in-Historically.low_in c.in-Historically.high_in)
+        c.behind-in-Historically.result refl is

@@ -50,7 +50,8 @@ returns-then-ends_at-clause-no_more c = let less = c.leave.ensures.fewer in omeg
 pub returns-clause-stands : goal.returns-clause-stands
 returns-clause-stands c x at none = (
   at,
-  subst (λ (o : Option Reached). MatchOption o (IsBefore (shifted (value c.args.self.now.at) c.args.self.now.window.high) c.args.self.now.gap.until) (λ r. Unit {0}))
+  subst (λ (o : Option Reached).
+      MatchOption o (IsBefore (shifted (value c.args.self.now.at) c.args.self.now.window.high) c.args.self.now.gap.until) (λ r. Unit {0}))
       (sym none) (before_apart c.args.self.now.gap.until (shifted (value c.args.self.now.at) c.args.self.now.window.high) at.core.high_later
       (λ ends. c.ends_at.ensures.no c.if-ends_at.false
       (subst (λ z. EndsAt c.args.self.now.gap.until (shifted (value c.args.self.now.at) z)) (sym (high_passed c.args.self.now.window x.reach at.fit)) ends))),

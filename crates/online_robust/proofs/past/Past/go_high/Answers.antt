@@ -12,7 +12,8 @@ use Rattle.online_robust.specs.Told.{IsTick}
 use Rattle.online_robust.specs.Windows.{IsUnfixed}
 use Rattle.online_robust.proofs.Builts.{tick_within}
 use Rattle.online_robust.proofs.Countdown.{enter_no_more}
-use Rattle.online_robust.proofs.PastLemmas.{after_small, before_next, before_small, gone_frozen, gone_plain, has_entered, met, past_on, u_is, unfixed_past, v_is}
+use Rattle.online_robust.proofs.PastLemmas.{after_small, before_next, before_small, gone_frozen, gone_plain}
+use Rattle.online_robust.proofs.PastLemmas.{has_entered, met, past_on, u_is, unfixed_past, v_is}
 use Rattle.online_robust.proofs.WindowPoints.{no_truth}
 use Rattle.online_robust.proofs.past.Past.go_high.Goals as goal
 

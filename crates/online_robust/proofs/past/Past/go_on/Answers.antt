@@ -29,13 +29,15 @@ pub returns-clause-stands : goal.returns-clause-stands
 returns-clause-stands c x at going =
     let went = c.in_ok-high_on.ensures.stands x at going.settled going.more in
     c.go_to.ensures.stands x went.0
-    (passing_on x c.args.self.now c.high_on.new.self (value c.args.to.now) going c.in_ok-high_on.ensures.kept.0 c.in_ok-high_on.ensures.kept.1 went.1 went.2) went.1
+    (passing_on x c.args.self.now c.high_on.new.self
+    (value c.args.to.now) going c.in_ok-high_on.ensures.kept.0 c.in_ok-high_on.ensures.kept.1 went.1 went.2) went.1
 
 pub returns-clause-told : goal.returns-clause-told
 returns-clause-told c x at going =
     let went = c.in_ok-high_on.ensures.stands x at going.settled going.more in
     let told = c.go_to.ensures.told x went.0
-    (passing_on x c.args.self.now c.high_on.new.self (value c.args.to.now) going c.in_ok-high_on.ensures.kept.0 c.in_ok-high_on.ensures.kept.1 went.1 went.2) went.1 in
+    (passing_on x c.args.self.now c.high_on.new.self
+    (value c.args.to.now) going c.in_ok-high_on.ensures.kept.0 c.in_ok-high_on.ensures.kept.1 went.1 went.2) went.1 in
     subst (λ (f : Frac). IsGone (at_time x (value f) (value f)) c.args.self.now.window (value c.args.to.now) (value c.go_to.new.self.at) c.go_to.result.best
     c.go_to.result.to) c.in_ok-high_on.ensures.kept.1
     (subst (λ (w : Window). IsGone (at_time x (value c.high_on.new.self.at) (value c.high_on.new.self.at)) w (value c.args.to.now) (value c.go_to.new.self.at)
@@ -51,7 +53,8 @@ returns-clause-shed c x at going =
     sheds_both limit c.args.self.now.window.of c.args.edges.now c.high_on.new.edges c.go_to.new.edges (c.in_ok-high_on.ensures.shed limit)
     (subst (λ (w : Window). Sheds (shifted (value c.go_to.new.self.at) w.high) w.of c.high_on.new.edges c.go_to.new.edges)
     c.in_ok-high_on.ensures.kept.0.window (c.go_to.ensures.shed x went.0
-    (passing_on x c.args.self.now c.high_on.new.self (value c.args.to.now) going c.in_ok-high_on.ensures.kept.0 c.in_ok-high_on.ensures.kept.1 went.1 went.2) went.1))
+    (passing_on x c.args.self.now c.high_on.new.self
+    (value c.args.to.now) going c.in_ok-high_on.ensures.kept.0 c.in_ok-high_on.ensures.kept.1 went.1 went.2) went.1))
 
 pub returns-clause-fewer : goal.returns-clause-fewer
 returns-clause-fewer c =
@@ -59,8 +62,10 @@ returns-clause-fewer c =
     let went = c.in_ok-high_on.ensures.stands x at going.settled going.more in
     let step = subst (λ (w : Window). past_steps c.go_to.new.self (edge_at c.go_to.new.edges w.of) (value c.args.to.now)
     < lines_left (edge_at c.high_on.new.edges w.of) + 1) c.in_ok-high_on.ensures.kept.0.window (c.go_to.ensures.fewer x went.0
-    (passing_on x c.args.self.now c.high_on.new.self (value c.args.to.now) going c.in_ok-high_on.ensures.kept.0 c.in_ok-high_on.ensures.kept.1 went.1 went.2) went.1) in
-    fewer_both c.args.self.now (edge_at c.args.edges.now c.args.self.now.window.of) (edge_at c.high_on.new.edges c.args.self.now.window.of) (value c.args.to.now)
+    (passing_on x c.args.self.now c.high_on.new.self
+    (value c.args.to.now) going c.in_ok-high_on.ensures.kept.0 c.in_ok-high_on.ensures.kept.1 went.1 went.2) went.1) in
+    fewer_both c.args.self.now (edge_at c.args.edges.now c.args.self.now.window.of)
+    (edge_at c.high_on.new.edges c.args.self.now.window.of) (value c.args.to.now)
     (past_steps c.go_to.new.self (edge_at c.go_to.new.edges c.args.self.now.window.of) (value c.args.to.now)) going.before c.in_ok-high_on.ensures.no_more step
 
 pub returns-in_err-high_on-clause-wide : goal.returns-in_err-high_on-clause-wide

@@ -27,7 +27,8 @@ come-requires c =
     let (x, at, going, none) = c.requires in (
       x,
       past_at x c.args.self.now c.args.edges.now at (value c.args.to.now) going none c.first_of-t.result c.leaves.result
-          (leaves_at c.args.self.now.window x.reach at.fit c.args.self.now.gap.until c.leaves.result c.leaves.ensures) c.first_of-t.ensures.by c.first_of-t.ensures.other c.first_of-t.ensures.one,
+          (leaves_at c.args.self.now.window x.reach at.fit c.args.self.now.gap.until c.leaves.result c.leaves.ensures)
+          c.first_of-t.ensures.by c.first_of-t.ensures.other c.first_of-t.ensures.one,
       none,
     )
 
@@ -35,7 +36,8 @@ came : (c : After-come) → (x : Scope) → (at : IsPastAt x c.args.self.now c.a
     → c.args.self.now.point ≡ None → HasPassed x c.come.new.self c.come.new.edges
 came c x at going none =
     c.come.ensures.stands x (past_at x c.args.self.now c.args.edges.now at (value c.args.to.now) going none c.first_of-t.result c.leaves.result
-    (leaves_at c.args.self.now.window x.reach at.fit c.args.self.now.gap.until c.leaves.result c.leaves.ensures) c.first_of-t.ensures.by c.first_of-t.ensures.other c.first_of-t.ensures.one) none
+    (leaves_at c.args.self.now.window x.reach at.fit c.args.self.now.gap.until c.leaves.result c.leaves.ensures)
+    c.first_of-t.ensures.by c.first_of-t.ensures.other c.first_of-t.ensures.one) none
 
 pub under-requires : goal.under-requires
 under-requires c =
@@ -46,7 +48,8 @@ pub worth-value-requires : goal.worth-value-requires
 worth-value-requires c =
     let (x, at, going, none) = c.requires in
     (past_at x c.args.self.now c.args.edges.now at (value c.args.to.now) going none c.first_of-t.result c.leaves.result
-    (leaves_at c.args.self.now.window x.reach at.fit c.args.self.now.gap.until c.leaves.result c.leaves.ensures) c.first_of-t.ensures.by c.first_of-t.ensures.other c.first_of-t.ensures.one).near
+    (leaves_at c.args.self.now.window x.reach at.fit c.args.self.now.gap.until c.leaves.result c.leaves.ensures)
+    c.first_of-t.ensures.by c.first_of-t.ensures.other c.first_of-t.ensures.one).near
 
 pub returns-clause-stands : goal.returns-clause-stands
 returns-clause-stands c x at going none = came (goal.at.returns-clause-stands c).After-come x at going none
@@ -59,7 +62,8 @@ returns-clause-told c x at going none =
     subst (λ (q : Past). IsGone (at_time x (value c.args.self.now.at) (value c.args.self.now.at)) c.args.self.now.window (value c.args.to.now) (value q.at)
     c.best-before.result (record { at = c.first_of-t.result; value = c.worth-value.result })) (sym c.come.ensures.kept)
     (past_gone x c.args.self.now c.args.edges.now at (value c.args.to.now) going none c.first_of-t.result c.leaves.result
-    (leaves_at c.args.self.now.window x.reach at.fit c.args.self.now.gap.until c.leaves.result c.leaves.ensures) c.first_of-t.ensures.by c.first_of-t.ensures.other c.first_of-t.ensures.one
+    (leaves_at c.args.self.now.window x.reach at.fit c.args.self.now.gap.until c.leaves.result c.leaves.ensures)
+    c.first_of-t.ensures.by c.first_of-t.ensures.other c.first_of-t.ensures.one
     c.best-before.result c.best-before.ensures.top c.best-before.ensures.low c.best-before.ensures.high c.under.result under c.worth-value.result
     (subst (λ (q : Past). IsOutcome q.window.side c.best-before.result.top c.best-before.result.low c.best-before.result.high c.under.result None
     (value c.first_of-t.result) c.worth-value.result) c.come.ensures.kept c.worth-value.ensures)
@@ -78,11 +82,13 @@ returns-clause-shed c x at going none =
     subst (λ (q : Past). Sheds (shifted (value q.at) c.args.self.now.window.high) c.args.self.now.window.of c.args.edges.now c.come.new.edges)
     (sym c.come.ensures.kept)
     (c.come.ensures.shed x (past_at x c.args.self.now c.args.edges.now at (value c.args.to.now) going none c.first_of-t.result c.leaves.result
-    (leaves_at c.args.self.now.window x.reach at.fit c.args.self.now.gap.until c.leaves.result c.leaves.ensures) c.first_of-t.ensures.by c.first_of-t.ensures.other c.first_of-t.ensures.one) none)
+    (leaves_at c.args.self.now.window x.reach at.fit c.args.self.now.gap.until c.leaves.result c.leaves.ensures)
+    c.first_of-t.ensures.by c.first_of-t.ensures.other c.first_of-t.ensures.one) none)
 
 pub returns-clause-fewer : goal.returns-clause-fewer
 returns-clause-fewer c x at going none =
     step_fewer x c.args.self.now c.args.edges.now at (value c.args.to.now) going none c.first_of-t.result c.leaves.result
-    (leaves_at c.args.self.now.window x.reach at.fit c.args.self.now.gap.until c.leaves.result c.leaves.ensures) c.first_of-t.ensures.by c.first_of-t.ensures.other c.first_of-t.ensures.one
+    (leaves_at c.args.self.now.window x.reach at.fit c.args.self.now.gap.until c.leaves.result c.leaves.ensures)
+    c.first_of-t.ensures.by c.first_of-t.ensures.other c.first_of-t.ensures.one
     (edge_at c.come.new.edges c.args.self.now.window.of) c.come.new.self (ap (λ (q : Past). value q.at) c.come.ensures.kept) c.come.ensures.no_more
     c.come.ensures.fewer

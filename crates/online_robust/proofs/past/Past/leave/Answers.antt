@@ -18,7 +18,8 @@ unreachable-requires c =
     let (x, at, none, ends) = c.requires in
     let p = d x c.args.self.now c.args.edges.now at none ends c.drop_gap.new.edges c.drop_gap.ensures in
     absurd (let z : ◌≡◌ {A = Option MarginLine} (Some (L.Point p.u p.v)) None =
-    sym (point_first x c.args.self.now c.args.edges.now at none ends c.drop_gap.new.edges c.drop_gap.ensures) ∙ sym c.take.ensures.first ∙ c.in_default.is in cc)
+    sym (point_first x c.args.self.now c.args.edges.now at none ends c.drop_gap.new.edges c.drop_gap.ensures)
+    ∙ sym c.take.ensures.first ∙ c.in_default.is in cc)
 
 pub returns-clause-stands : goal.returns-clause-stands
 returns-clause-stands c x at none ends =

@@ -17,7 +17,8 @@ pub neg-requires : goal.neg-requires
 neg-requires c =
     subst (λ (m : Margin). HasBoundedLevel (2 ^ 31) (margin_function m)) (sym c.margin.ensures)
     (level_there (margin_of c.in-Some-take.point)
-    (first_there c.requires.0 c.args.self.now c.args.edges.now c.in-Some-take.point c.requires.1 c.in_default.is (sym c.take.ensures.first ∙ c.in-Some-take.is)))
+    (first_there c.requires.0 c.args.self.now c.args.edges.now c.in-Some-take.point c.requires.1 c.in_default.is
+    (sym c.take.ensures.first ∙ c.in-Some-take.is)))
 
 pub returns-clause-reached : goal.returns-clause-reached
 returns-clause-reached c x can =

@@ -10,7 +10,8 @@ use Rattle.online_robust.specs.Reading.{IsThere, LosesAtBoth}
 use Rattle.online_robust.specs.Couples.{IsJoinedTo}
 use Rattle.online_robust.proofs.Losses.{both_none}
 use Rattle.online_robust.proofs.PointwiseLemmas.{begun_some}
-use Rattle.online_robust.proofs.TwoLemmas.{join_first, join_stood, join_stood_to, left_begins, left_there, left_tick, left_when, lost_first, mid_count, right_some, right_there}
+use Rattle.online_robust.proofs.TwoLemmas.{join_first, join_stood, join_stood_to, left_begins, left_there}
+use Rattle.online_robust.proofs.TwoLemmas.{left_tick, left_when, lost_first, mid_count, right_some, right_there}
 use Rattle.online_robust.proofs.pointwise.Two.begin.Goals as goal
 
 pub returns-in-Some-clause-reached : goal.returns-in-Some-clause-reached

@@ -53,7 +53,8 @@ loop-at-preserved c = record {
 pub loop-at-smaller : goal.loop-at-smaller
 loop-at-smaller c = c.in_ok-reached.ensures.nearer
 
-ends : (c : After-finish) → (x : Couple) → CanJoin x c.args.self.now c.args.edges.now → value c.args.to.now ≈ x.to → value c.loop-at.reached.at ≈ value c.args.to.now
+ends : (c : After-finish) → (x : Couple) → CanJoin x c.args.self.now c.args.edges.now → value c.args.to.now ≈ x.to
+    → value c.loop-at.reached.at ≈ value c.args.to.now
 ends c x can e =
     let (reached, to, built) = c.loop-at.invariant.went x can e in
     same_of_le (le_trans to.to (ge_of_same e)) (not_less c.cmp.result c.cmp.ensures c.in_default.not-Less)

@@ -19,7 +19,9 @@ use Rattle.online_robust.specs.Reading.{IsAhead, IsThere, value_turned}
 use Rattle.online_robust.specs.Couples.{Couple, IsJoinedTo, IsReadTo}
 use Rattle.online_robust.proofs.Builts.{tick_between, tick_within}
 use Rattle.online_robust.proofs.Losses.{both_of as lost_both}
-use Rattle.online_robust.proofs.TwoLemmas.{IsStop, built_joined, counted_level, joined_fault, left_later, left_level, left_some, left_source, right_later, right_level, right_some_too, right_source, stop_of, turn_nearer}
+use Rattle.online_robust.proofs.TwoLemmas.{IsStop, built_joined, counted_level, joined_fault, left_later}
+use Rattle.online_robust.proofs.TwoLemmas.{left_level, left_some, left_source, right_later, right_level}
+use Rattle.online_robust.proofs.TwoLemmas.{right_some_too, right_source, stop_of, turn_nearer}
 use Rattle.online_robust.proofs.pointwise.Two.turn.Goals.{After-earlier-t, After-up_to-x, After-up_to-y, After-left_of}
 use Rattle.online_robust.proofs.pointwise.Two.turn.Goals as goal
 
@@ -215,7 +217,8 @@ returns-clause-built c x to e built =
     c.in-Some-first.q (sym c.first.ensures ∙ c.in-Some.is) (sym c.first-2.ensures ∙ c.in-Some-first.is) c.left_of.result
     (turned_at (goal.at.returns-clause-built c).After-left_of) (based_at (goal.at.returns-clause-built c).After-left_of)
     c.earlier-t.result s.left s.right s.after (le_trans s.by (le_of_same e)) c.of_both-value.result c.args.built.now c.join.new.self built
-    (subst (λ (m : Margin). Joins margin_shape c.args.self.now.side c.args.built.now c.left_of.result m c.earlier-t.result c.of_both-value.result c.join.new.self)
+    (subst (λ (m : Margin).
+    Joins margin_shape c.args.self.now.side c.args.built.now c.left_of.result m c.earlier-t.result c.of_both-value.result c.join.new.self)
     c.margin-2.ensures c.in_ok-join.ensures.ok)
     (c.of_both-value.ensures x (there_left (goal.at.returns-clause-built c).After-up_to-y x (read_left step x to e))
     (there_right (goal.at.returns-clause-built c).After-up_to-y x

@@ -37,7 +37,8 @@ reach-requires-in-Atom c =
 pub go_on-requires : goal.go_on-requires
 go_on-requires c =
     let (m, g) = c.requires in
-    let n : to_z w64 (of_z w64 (to_z w64 (of_z w64 c.from-now.result) -ℤ to_z w64 (of_z w64 c.from.result))) ≡ pos c.args.row.now.time -ℤ pos c.args.self.now.ahead =
+    let n : to_z w64 (of_z w64 (to_z w64 (of_z w64 c.from-now.result) -ℤ to_z w64 (of_z w64 c.from.result)))
+    ≡ pos c.args.row.now.time -ℤ pos c.args.self.now.ahead =
     search (rules, to_z-of_z) in (
       m,
       subst (CanGoTo m c.args.node c.in-Operator.operator c.args.edges.now) (sym n)
@@ -48,7 +49,8 @@ pub returns-in_ok-put_const-in-Const-clause-moved : goal.returns-in_ok-put_const
 returns-in_ok-put_const-in-Const-clause-moved c = λ m g.
     let now : to_z w64 (of_z w64 c.from-now.result) ≡ pos c.args.row.now.time = search (rules, to_z-of_z) in
     let e = c.put_const.new.edges in
-    row_const m c.args.node c.args.self.now c.args.edges.now c.args.bound.now c.args.before.now c.args.row.now g c.in-Const.holds e c.reach.new.self c.in-Const.is
+    row_const m c.args.node c.args.self.now c.args.edges.now c.args.bound.now c.args.before.now c.args.row.now g c.in-Const.holds
+    e c.reach.new.self c.in-Const.is
     c.in_ok-put_const-in-Const.ensures
     (c.reach.ensures ∙ ap (λ n. record e { edges = with_edge e c.args.node (with_number (edge_at e c.args.node) n) }) now)
 
@@ -63,14 +65,16 @@ returns-in_ok-put_atom-in-Atom-clause-moved c = λ m g.
 
 pub returns-in-Operator-clause-moved : goal.returns-in-Operator-clause-moved
 returns-in-Operator-clause-moved c = λ m g.
-    let n : to_z w64 (of_z w64 (to_z w64 (of_z w64 c.from-now.result) -ℤ to_z w64 (of_z w64 c.from.result))) ≡ pos c.args.row.now.time -ℤ pos c.args.self.now.ahead =
+    let n : to_z w64 (of_z w64 (to_z w64 (of_z w64 c.from-now.result) -ℤ to_z w64 (of_z w64 c.from.result)))
+    ≡ pos c.args.row.now.time -ℤ pos c.args.self.now.ahead =
     search (rules, to_z-of_z) in
     c.go_on.ensures.moved m (subst (CanGoTo m c.args.node c.in-Operator.operator c.args.edges.now) (sym n)
     (row_go m c.args.node c.args.self.now c.args.edges.now c.args.bound.now c.args.before.now c.args.row.now g c.in-Operator.operator c.in-Operator.is))
 
 pub returns-in-Operator-clause-fault : goal.returns-in-Operator-clause-fault
 returns-in-Operator-clause-fault c = λ m g.
-    let n : to_z w64 (of_z w64 (to_z w64 (of_z w64 c.from-now.result) -ℤ to_z w64 (of_z w64 c.from.result))) ≡ pos c.args.row.now.time -ℤ pos c.args.self.now.ahead =
+    let n : to_z w64 (of_z w64 (to_z w64 (of_z w64 c.from-now.result) -ℤ to_z w64 (of_z w64 c.from.result)))
+    ≡ pos c.args.row.now.time -ℤ pos c.args.self.now.ahead =
     search (rules, to_z-of_z) in
     c.go_on.ensures.fault m (subst (CanGoTo m c.args.node c.in-Operator.operator c.args.edges.now) (sym n)
     (row_go m c.args.node c.args.self.now c.args.edges.now c.args.bound.now c.args.before.now c.args.row.now g c.in-Operator.operator c.in-Operator.is))

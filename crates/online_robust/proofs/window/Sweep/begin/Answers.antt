@@ -6,7 +6,8 @@ use Rattle.frac128.specs.Value.{value}
 use Rattle.online_robust.specs.Windows.{at_time}
 use Rattle.online_robust.proofs.PointwiseLemmas.{not_less}
 use Rattle.online_robust.proofs.WindowPoints.{no_sheds}
-use Rattle.online_robust.proofs.WindowRuns.{begun_first, begun_next, begun_told, came_first, falls, goes_none, goes_on, going, refused_knot, start_by, start_is, start_tick, stood}
+use Rattle.online_robust.proofs.WindowRuns.{begun_first, begun_next, begun_told, came_first, falls, goes_none}
+use Rattle.online_robust.proofs.WindowRuns.{goes_on, going, refused_knot, start_by, start_is, start_tick, stood}
 use Rattle.online_robust.proofs.window.Sweep.begin.Goals as goal
 
 pub returns-in-Some-clause-stands : goal.returns-in-Some-clause-stands
@@ -24,7 +25,8 @@ returns-in-Some-clause-shed c x own from to can =
 
 pub loop-self-init : goal.loop-self-init
 loop-self-init c = record {
-  begun = λ x own from to can. begun_first x own from to c.args.self.now c.args.edges.now can (record { at = c.args.self.now.place.at; value = c.args.self.now.none }) c.in_default.is refl;
+  begun = λ x own from to can. begun_first x own from to c.args.self.now c.args.edges.now can
+      (record { at = c.args.self.now.place.at; value = c.args.self.now.none }) c.in_default.is refl;
   goes = goes_none c.args.self.now;
   none = c.in_default.is;
   start = refl;
@@ -65,7 +67,8 @@ loop-self-preserved c = record {
       (value c.args.self.now.start) (start_tick x own from to c.args.self.now c.args.edges.now can)
       (start_by x own from to c.args.self.now c.args.edges.now can) before in
       let stands = c.in_ok-gone.ensures.stands here b.came.at goes in
-      begun_next x own from to c.args.self.now c.args.edges.now can c.loop-self.self c.loop-self.edges c.loop-self.invariant.goes b.came b.later c.go_on.new.self
+      begun_next x own from to c.args.self.now c.args.edges.now can c.loop-self.self c.loop-self.edges c.loop-self.invariant.goes
+      b.came b.later c.go_on.new.self
       c.go_on.new.edges c.in_ok-gone.gone.to c.args.self.now.start c.in_ok-gone.gone.best c.in_ok-gone.ensures.kept stands.0 stands.1
       (start_is x own from to c.args.self.now c.args.edges.now can) (c.in_ok-gone.ensures.told here b.came.at goes)
       (c.in_ok-gone.ensures.shed here b.came.at goes) b.shed;

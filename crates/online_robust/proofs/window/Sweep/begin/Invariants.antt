@@ -8,7 +8,8 @@ use Rattle.online_robust.proofs.window.Sweep.begin.Given as goal
 
 abbrev pub invariant-loop-self : goal.invariant-loop-self
 invariant-loop-self l = record {
-  begun : (x : Scope) (own : ℕ) (from to : Rational) → CanSweep x own from to l.fn.self l.fn.edges → IsBegun x own l.fn.self l.self l.fn.edges l.edges l.reached;
+  begun : (x : Scope) (own : ℕ) (from to : Rational) → CanSweep x own from to l.fn.self l.fn.edges
+      → IsBegun x own l.fn.self l.self l.fn.edges l.edges l.reached;
   goes : Goes l.fn.self l.self;
   none : l.fn.self.last ≡ None;
   start : l.start ≡ l.fn.self.start;

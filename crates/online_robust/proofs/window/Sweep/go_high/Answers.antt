@@ -13,7 +13,8 @@ use Rattle.online_robust.specs.Windows.{IsAt, IsHigh, Scope, high_at, lines_left
 use Rattle.online_robust.specs.declared.line.MarginLine.{MarginLine}
 use Rattle.online_robust.proofs.Builts.{tick_within}
 use Rattle.online_robust.proofs.Countdown.{enter_no_more, pass_fewer}
-use Rattle.online_robust.proofs.HighLemmas.{HasEntered, before_goes, frozen_spread, has_entered, high_small, knot_is, next_is, next_small, no_knot_is, plain_spread, point_at, point_is, read_count, unfixed_high}
+use Rattle.online_robust.proofs.HighLemmas.{HasEntered, before_goes, frozen_spread, has_entered, high_small, knot_is, next_is}
+use Rattle.online_robust.proofs.HighLemmas.{next_small, no_knot_is, plain_spread, point_at, point_is, read_count, unfixed_high}
 use Rattle.online_robust.proofs.Spreads.{comes_next}
 use Rattle.online_robust.proofs.window.Sweep.go_high.Goals.{After-enter-next}
 use Rattle.online_robust.proofs.window.Sweep.go_high.Goals as goal
@@ -142,7 +143,8 @@ pub returns-clause-shed : goal.returns-clause-shed
 returns-clause-shed c =
     let (x, at, high) = c.requires in (entered (goal.at.returns-clause-shed c).After-enter-next x at high).shed
 
-fewer : (c : After-enter-next) → lines_left (edge_at c.enter-next.new.edges c.args.self.now.window.of) < lines_left (edge_at c.args.edges.now c.args.self.now.window.of)
+fewer : (c : After-enter-next) → lines_left (edge_at c.enter-next.new.edges c.args.self.now.window.of)
+    < lines_left (edge_at c.args.edges.now c.args.self.now.window.of)
 fewer c =
     let (x, at, high) = c.requires in
     let within = at.within in

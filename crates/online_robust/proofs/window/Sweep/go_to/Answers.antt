@@ -6,7 +6,8 @@ use Rattle.online_robust.specs.Sweeping.{EndsAt}
 use Rattle.online_robust.specs.Windows.{at_time, lines_left}
 use Rattle.online_robust.specs.declared.ends.Gap.{Gap}
 use Rattle.online_robust.proofs.Countdown.{go_fewer}
-use Rattle.online_robust.proofs.WindowSteps.{at_both, at_end, at_low, between, each, high_moved, high_tick, later, low_moved, low_tick, plays, stop_within, there, there_fit}
+use Rattle.online_robust.proofs.WindowSteps.{at_both, at_end, at_low, between, each, high_moved, high_tick}
+use Rattle.online_robust.proofs.WindowSteps.{later, low_moved, low_tick, plays, stop_within, there, there_fit}
 use Rattle.online_robust.proofs.window.Sweep.go_to.Goals as goal
 
 pub next_stop-t-requires-clause-window : goal.next_stop-t-requires-clause-window
@@ -120,12 +121,16 @@ returns-clause-shed c x at ready =
 pub returns-clause-fewer : goal.returns-clause-fewer
 returns-clause-fewer c x at ready =
     go_fewer c.args.self.now.window (value c.next_stop-t.result) (value c.args.to.now) (record c.low_point.new.self.place { at = c.next_stop-t.result })
-    (edge_at c.low_point.new.edges c.args.self.now.window.of) (lines_left (edge_at c.args.edges.now c.args.self.now.window.of)) refl c.next_stop-t.ensures.by c.in_ok-at_low.ensures.no_more (which c.next_stop-t.ensures.one)
+    (edge_at c.low_point.new.edges c.args.self.now.window.of) (lines_left (edge_at c.args.edges.now c.args.self.now.window.of))
+    refl c.next_stop-t.ensures.by c.in_ok-at_low.ensures.no_more (which c.next_stop-t.ensures.one)
   where
-    which : (value c.next_stop-t.result ≡ value c.args.to.now) ⊎ EndsAt c.args.self.now.place.high.until (shifted (value c.next_stop-t.result) c.args.self.now.window.high)
+    which : (value c.next_stop-t.result ≡ value c.args.to.now)
+        ⊎ EndsAt c.args.self.now.place.high.until (shifted (value c.next_stop-t.result) c.args.self.now.window.high)
         ⊎ EndsAt c.args.self.now.place.low.until (shifted (value c.next_stop-t.result) c.args.self.now.window.low)
-        → (value c.next_stop-t.result ≡ value c.args.to.now) ⊎ EndsAt c.low_point.new.self.place.high.until (shifted (value c.next_stop-t.result) c.args.self.now.window.high)
+        → (value c.next_stop-t.result ≡ value c.args.to.now)
+        ⊎ EndsAt c.low_point.new.self.place.high.until (shifted (value c.next_stop-t.result) c.args.self.now.window.high)
         ⊎ (lines_left (edge_at c.low_point.new.edges c.args.self.now.window.of) < lines_left (edge_at c.args.edges.now c.args.self.now.window.of))
     which (inl same) = inl same
-    which (inr (inl ends)) = inr (inl (subst (λ (g : Gap). EndsAt g.until (shifted (value c.next_stop-t.result) c.args.self.now.window.high)) (sym c.in_ok-at_low.ensures.kept.1) ends))
+    which (inr (inl ends)) = inr (inl
+        (subst (λ (g : Gap). EndsAt g.until (shifted (value c.next_stop-t.result) c.args.self.now.window.high)) (sym c.in_ok-at_low.ensures.kept.1) ends))
     which (inr (inr ends)) = inr (inr (c.in_ok-at_low.ensures.fewer ends))

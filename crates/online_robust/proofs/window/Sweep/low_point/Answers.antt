@@ -43,7 +43,8 @@ returns-clause-stands c x at here = (
   at,
   low_before x c.args.self.now c.args.edges.now at (value c.args.t.now) here
       (λ ends. c.ends_at.ensures.no c.if-ends_at.false
-      (subst (λ z. EndsAt c.args.self.now.place.low.until (shifted (value c.args.t.now) z)) (sym (low_passed c.args.self.now.window x.reach at.spread.fit)) ends)),
+      (subst (λ z. EndsAt c.args.self.now.place.low.until (shifted (value c.args.t.now) z))
+      (sym (low_passed c.args.self.now.window x.reach at.spread.fit)) ends)),
 )
 
 pub returns-clause-point : goal.returns-clause-point

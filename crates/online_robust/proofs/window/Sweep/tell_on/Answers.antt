@@ -44,7 +44,8 @@ returns-in-Ok-clause-stands c x at going = c.in_ok-gone.ensures.stands x at goin
 pub returns-in-Ok-clause-told : goal.returns-in-Ok-clause-told
 returns-in-Ok-clause-told c x at going begun own is from b =
     let gone = c.in_ok-gone.ensures.told x at going in
-    written_at x c.args.self.now.window (value c.args.to.now) (value c.go_on.new.self.place.at) c.in_ok-gone.gone.best c.in_ok-gone.gone.to gone own is begun from
+    written_at x c.args.self.now.window (value c.args.to.now)
+    (value c.go_on.new.self.place.at) c.in_ok-gone.gone.best c.in_ok-gone.gone.to gone own is begun from
     c.args.built.now c.write.new.built b
     (subst (λ (w : Window). IsWritten margin_shape w.side c.args.built.now c.in_ok-gone.gone.best c.in_ok-gone.gone.to.at c.in_ok-gone.gone.to.value
     c.write.new.built) c.in_ok-gone.ensures.kept.window c.in-Ok.ensures.ok)
@@ -62,7 +63,8 @@ returns-in-Ok-clause-later c =
     let (x, at, going) = c.requires.at in
     let gone = c.in_ok-gone.ensures.told x at going in
     let to : value c.in_ok-gone.gone.to.at ≡ value c.go_on.new.self.place.at = gone.here in (
-      subst (λ (z : Rational). value c.args.self.now.place.at <ʳ z) (sym to) (subst (λ (z : Rational). z <ʳ value c.go_on.new.self.place.at) going.here gone.after),
+      subst (λ (z : Rational). value c.args.self.now.place.at <ʳ z) (sym to)
+          (subst (λ (z : Rational). z <ʳ value c.go_on.new.self.place.at) going.here gone.after),
       subst (λ (z : Rational). z ≤ʳ value c.args.to.now) (sym to) gone.by,
     )
 

@@ -55,4 +55,5 @@ returns-then-ends_at c x at here =
 pub returns : goal.returns
 returns c x at here =
     inr (λ ends. c.ends_at.ensures.no c.if-ends_at.false
-    (subst (λ z. EndsAt c.args.self.now.place.high.until (shifted (value c.args.t.now) z)) (sym (high_passed c.args.self.now.window x.reach at.spread.fit)) ends))
+    (subst (λ z. EndsAt c.args.self.now.place.high.until (shifted (value c.args.t.now) z))
+    (sym (high_passed c.args.self.now.window x.reach at.spread.fit)) ends))

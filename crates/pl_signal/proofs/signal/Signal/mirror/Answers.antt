@@ -10,7 +10,8 @@ use Rattle.frac128.specs.Value.{value}
 use Rattle.pl_signal.specs.Knots.{time, start, stop, IsWorth}
 use Rattle.pl_signal.specs.Moves.{Tells, BasesFrom}
 use Rattle.rational.proofs.Mixed.{fits_of_within, within_same}
-use Rattle.pl_signal.proofs.Moving.{mirror_within, mirror_first, mirror_same, mirror_later, mirror_on, moved_is_function, first_is, last_is, only_ends, same_knot, bases_first, bases_on}
+use Rattle.pl_signal.proofs.Moving.{mirror_within, mirror_first, mirror_same, mirror_later, mirror_on}
+use Rattle.pl_signal.proofs.Moving.{moved_is_function, first_is, last_is, only_ends, same_knot, bases_first, bases_on}
 use Rattle.pl_signal.proofs.Telling.{told}
 use Rattle.pl_signal.proofs.Values.{shape_at, shape_after}
 use Rattle.pl_signal.proofs.signal.Signal.mirror.Goals as goal

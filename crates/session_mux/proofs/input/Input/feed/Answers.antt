@@ -1,4 +1,5 @@
-use Rattle.std.proofs.Common.{◌≤◌, ◌++◌, length, take, drop, false, sym, ap, ◌∙◌, subst, arith, append-nil, append_assoc, take-append-drop, length-drop, take_all}
+use Rattle.std.proofs.Common.{◌≤◌, ◌++◌, length, take, drop, false, sym, ap, ◌∙◌, subst, arith}
+use Rattle.std.proofs.Common.{append-nil, append_assoc, take-append-drop, length-drop, take_all}
 use Rattle.std.proofs.lemmas.Result.{err_from_is_err_and}
 use Rattle.trace_stream.proofs.Fed.{rest_is, fed}
 use Rattle.session_mux.specs.Taking.{IsTaking, IsInputStop}

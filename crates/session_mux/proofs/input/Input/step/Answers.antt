@@ -12,7 +12,8 @@ returns-in_err-go_on-in-Some-clause-taken c =
     let at = c.in-Some.at in
     let h = c.in-Some.ensures in
     rw (p.1, p.2) (λ f bytes written k.
-    subst (λ b. IsInputStop f b false (written ++ c.go_on.new.self.text) c.in_err-go_on-in-Some.field-0.0) (piece_parts piece at (at-taken piece at h.0 h.1) bytes)
+    subst (λ b. IsInputStop f b false (written ++ c.go_on.new.self.text) c.in_err-go_on-in-Some.field-0.0)
+    (piece_parts piece at (at-taken piece at h.0 h.1) bytes)
     (c.in_err-go_on-in-Some.ensures f bytes written k false (10 ∷ drop (at + 1) piece)))
 
 pub answer-requires : goal.answer-requires

@@ -23,7 +23,8 @@ pub index_mut-requires : goal.index_mut-requires
 index_mut-requires c =
     let (f, seen, k) = c.requires.known in
     let r = c.in_ok-place.ensures.ready f seen (record { tag = c.args.tag.now; content = c.args.content.now }) k refl in
-    let within : c.in_ok-place.place < length c.place_for.new.self.sessions.items = place_inside c.place_for.new.self.sessions.items c.in_ok-place.place r.session r.at in
+    let within : c.in_ok-place.place < length c.place_for.new.self.sessions.items =
+    place_inside c.place_for.new.self.sessions.items c.in_ok-place.place r.session r.at in
     omega (arith, c.place_for.new.self.sessions.ok.0, within)
 
 pub line-requires : goal.line-requires
@@ -40,7 +41,8 @@ line-requires c =
 
 -- the session at the place is the one that was read
 read_is : (items : List Session) (place : ℕ) (s read : Session) → slice_get items place ≡ Some s → read ≡ get_or items place read → s ≡ read
-read_is items place s read at e = one_item (slice_get items place) s read at (slice_get_read items (length items) place read refl (place_inside items place s at) e)
+read_is items place s read at e =
+    one_item (slice_get items place) s read at (slice_get_read items (length items) place read refl (place_inside items place s at) e)
 
 pub returns-in-Ok-clause-answered : goal.returns-in-Ok-clause-answered
 returns-in-Ok-clause-answered c = λ f seen x k same.
@@ -55,7 +57,8 @@ returns-in-Ok-clause-answered c = λ f seen x k same.
     has_answered f seen x place (shown mid) r c.line.new.self c.args.out.now c.line.new.out
     (subst (λ t. HasReplied f (with_content o x.content) r.session c.line.new.self (IsReply f t o x.content) c.args.out.now c.line.new.out) r.tag
     (subst (λ (s : Session). HasReplied f (with_content o x.content) s c.line.new.self (IsReply f s.tag o x.content) c.args.out.now c.line.new.out) (sym read)
-    (subst (λ w. HasReplied f (with_content o w) c.index_mut.result.now c.line.new.self (IsReply f c.index_mut.result.now.tag o w) c.args.out.now c.line.new.out) content replied)))
+    (subst (λ w. HasReplied f (with_content o w) c.index_mut.result.now c.line.new.self
+    (IsReply f c.index_mut.result.now.tag o w) c.args.out.now c.line.new.out) content replied)))
     _ refl refl refl refl
 
 pub returns-in-Err-clause-answered : goal.returns-in-Err-clause-answered

@@ -22,7 +22,8 @@ here : (items : List Session) (i : ℕ) (s : Session) → i < length items → s
 here items i s within e = slice_get_read items (length items) i s refl within e
 
 -- it stands for its own lines
-told_here : (f : Formula) (seen : List Tagged) (first now : List Session) (i : ℕ) (before mid : List ℕ) (k : Known) (s : Session) → Knows f seen (shown k) → first ≡ k.sessions.items → Ending f seen first i now before mid
+told_here : (f : Formula) (seen : List Tagged) (first now : List Session) (i : ℕ) (before mid : List ℕ) (k : Known) (s : Session)
+    → Knows f seen (shown k) → first ≡ k.sessions.items → Ending f seen first i now before mid
     → slice_get now i ≡ Some s → (told : List ℕ) × HasTold f (own_of seen s.tag) told s
 told_here f seen first now i before mid k s knows same n at =
     (knows.told i s (subst (λ ss. slice_get ss i ≡ Some s) same (sym (n.others i (omega arith)) ∙ at))).1
@@ -32,8 +33,10 @@ end-requires c =
     let (f, seen, k) = c.requires in
     let n = c.loop-place.invariant.ending f seen k in
     let items = c.loop-place.self.sessions.items in
-    let at = here items c.loop-place.place c.index_mut.result.now (omega (arith, c.loop-place.invariant.size, c.loop-place-test.true, c.args.self.now.sessions.ok.0)) c.index_mut.ensures.value in
-    let told = told_here f seen c.args.self.now.sessions.items items c.loop-place.place c.args.out.now c.loop-place.out c.args.self.now c.index_mut.result.now k refl n at in
+    let at = here items c.loop-place.place c.index_mut.result.now
+    (omega (arith, c.loop-place.invariant.size, c.loop-place-test.true, c.args.self.now.sessions.ok.0)) c.index_mut.ensures.value in
+    let told = told_here f seen c.args.self.now.sessions.items items c.loop-place.place c.args.out.now c.loop-place.out
+    c.args.self.now c.index_mut.result.now k refl n at in
     (f, own_of seen c.index_mut.result.now.tag, told.0, told.1)
 
 pub returns-in_err-end-clause-ended : goal.returns-in_err-end-clause-ended
@@ -44,10 +47,12 @@ returns-in_err-end-clause-ended c =
     let first = c.args.self.now.sessions.items in
     let items = c.loop-place.self.sessions.items in
     let s = c.index_mut.result.now in
-    let at = here items c.loop-place.place s (omega (arith, c.loop-place.invariant.size, c.loop-place-test.true, c.args.self.now.sessions.ok.0)) c.index_mut.ensures.value in
+    let at = here items c.loop-place.place s
+    (omega (arith, c.loop-place.invariant.size, c.loop-place-test.true, c.args.self.now.sessions.ok.0)) c.index_mut.ensures.value in
     let told = told_here f seen first items c.loop-place.place c.args.out.now c.loop-place.out c.args.self.now s k refl n at in
     subst (λ ts. IsCutShort (AreEnds f seen ts) c.args.out.now c.end.new.out) k.tags
-    (ending_cut f seen first c.loop-place.place items c.args.out.now c.loop-place.out n s at c.end.new.out (c.in_err-end.ensures f (own_of seen s.tag) told.0 told.1)))
+    (ending_cut f seen first c.loop-place.place items c.args.out.now c.loop-place.out n s at c.end.new.out
+    (c.in_err-end.ensures f (own_of seen s.tag) told.0 told.1)))
 
 pub returns-in_err-end-clause-few : goal.returns-in_err-end-clause-few
 returns-in_err-end-clause-few c = length-set c.loop-place.self.sessions.items c.loop-place.place c.end.new.self ∙ c.loop-place.invariant.size
@@ -59,7 +64,8 @@ loop-place-preserved c =
     let s = c.index_mut.result.now in
     let at = here items place s (omega (arith, c.loop-place.invariant.size, c.loop-place-test.true, c.args.self.now.sessions.ok.0)) c.index_mut.ensures.value in
     let first = c.args.self.now.sessions.items in
-    let replied : (f : Formula) (seen : List Tagged) (k : Knows f seen (shown c.args.self.now)) → HasReplied f (stopped_now (own_of seen s.tag)) s c.end.new.self (IsGrowth f s.tag (own_of seen s.tag) (stopped_now (own_of seen s.tag))) c.loop-place.out c.end.new.out =
+    let replied : (f : Formula) (seen : List Tagged) (k : Knows f seen (shown c.args.self.now)) → HasReplied f (stopped_now (own_of seen s.tag))
+    s c.end.new.self (IsGrowth f s.tag (own_of seen s.tag) (stopped_now (own_of seen s.tag))) c.loop-place.out c.end.new.out =
     λ f seen k.
     let told = told_here f seen first items place c.args.out.now c.loop-place.out c.args.self.now s k refl (c.loop-place.invariant.ending f seen k) at in
     c.in_ok-end.ensures f (own_of seen s.tag) told.0 told.1 in
@@ -67,7 +73,8 @@ loop-place-preserved c =
     record {
       ending = λ f seen k.
           let r = replied f seen k in
-          ending_on f seen first place items c.args.out.now c.loop-place.out (c.loop-place.invariant.ending f seen k) s at c.end.new.self r.reply c.end.new.out r.is r.added;
+          ending_on f seen first place items c.args.out.now c.loop-place.out
+          (c.loop-place.invariant.ending f seen k) s at c.end.new.self r.reply c.end.new.out r.is r.added;
       tags = tags_of_set items place s c.end.new.self at (replied f0 seen0 k0).tag ∙ c.loop-place.invariant.tags;
       size = length-set items place c.end.new.self ∙ c.loop-place.invariant.size;
     }

@@ -7,7 +7,8 @@ use Rattle.session_mux.proofs.known.Known.end.Given as goal
 
 abbrev pub invariant-loop-place : goal.invariant-loop-place
 invariant-loop-place l = record {
-  ending : (f : Formula) (seen : List Tagged) → Knows f seen (shown l.initial.self) → Ending f seen l.initial.self.sessions.items l.place l.self.sessions.items l.initial.out l.out;
+  ending : (f : Formula) (seen : List Tagged) → Knows f seen (shown l.initial.self)
+      → Ending f seen l.initial.self.sessions.items l.place l.self.sessions.items l.initial.out l.out;
   tags : tag_list l.self.sessions.items ≡ tag_list l.initial.self.sessions.items;
   size : length l.self.sessions.items ≡ length l.initial.self.sessions.items;
 }

@@ -28,5 +28,6 @@ returns-clause-ready c = λ f seen x k same.
     let number : c.number_of-number.result ≡ number_of x.tag = c.number_of-number.ensures ∙ ap number_of (sym same) in
     ready_new f seen x c.in_ok-place.place c.args.self.now c.begin.new.self k (subst (λ t. IsTag t) (sym same) c.requires.tag)
     (sym (c.in_default.ensures ∙ ap (λ n. place_in c.args.self.now.places.entries n) number))
-    (begun_as c.args.tag.now x.tag c.number_of-number.result c.in_ok-place.place c.args.self.now c.begin.new.self (sym same) c.number_of-number.ensures c.in_ok-place.ensures.begun) _
+    (begun_as c.args.tag.now x.tag c.number_of-number.result c.in_ok-place.place c.args.self.now c.begin.new.self
+    (sym same) c.number_of-number.ensures c.in_ok-place.ensures.begun) _
     (ap (λ (n : ℕ). (record mid { last = record { number = n; place = c.in_ok-place.place } })) number)

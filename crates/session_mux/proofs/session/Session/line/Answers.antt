@@ -12,7 +12,8 @@ returns-then-asks c = λ f o told h.
     let s = c.args.self.now in
     is_shown f o told s h c.args.content.now (sym c.asks.ensures ∙ c.if-asks.true) c.show.result c.args.out.now c.show.new.out
     (subst (λ t. OnOk c.show.result (c.show.new.out ≡ c.args.out.now ++ prefixed_texts (t ++ codes " ? ") s.recent.items)) c.bytes.ensures c.show.ensures.ok)
-    (subst (λ t. OnErr c.show.result (GrewInPart (Is (prefixed_texts (t ++ codes " ? ") s.recent.items)) c.args.out.now c.show.new.out)) c.bytes.ensures c.show.ensures.err)
+    (subst (λ t. OnErr c.show.result (GrewInPart (Is (prefixed_texts (t ++ codes " ? ") s.recent.items)) c.args.out.now c.show.new.out))
+    c.bytes.ensures c.show.ensures.err)
 
 pub returns-then-stops : goal.returns-then-stops
 returns-then-stops c = λ f o told h.
@@ -21,9 +22,11 @@ returns-then-stops c = λ f o told h.
     let no_question = sym c.asks.ensures ∙ c.if-asks.false in
     let then_is = content_stops o.bytes o.stopped content no_question (sym c.stops.ensures ∙ c.if-stops.true) in
     either_way c.end.result
-    (replied_as f (stopped_now o) (with_content o content) s c.end.new.self (IsGrowth f s.tag o (stopped_now o)) (IsReply f s.tag o content) c.args.out.now c.end.new.out (sym then_is)
+    (replied_as f (stopped_now o) (with_content o content) s c.end.new.self (IsGrowth f s.tag o (stopped_now o))
+    (IsReply f s.tag o content) c.args.out.now c.end.new.out (sym then_is)
     (reply_of f s.tag o (stopped_now o) content no_question then_is))
-    (cut_as (IsGrowth f s.tag o (stopped_now o)) (IsReply f s.tag o content) c.args.out.now c.end.new.out (growth_of f s.tag o (stopped_now o) content no_question then_is))
+    (cut_as (IsGrowth f s.tag o (stopped_now o)) (IsReply f s.tag o content) c.args.out.now c.end.new.out
+    (growth_of f s.tag o (stopped_now o) content no_question then_is))
     (c.end.ensures f o told h)
 
 pub returns : goal.returns
@@ -33,7 +36,9 @@ returns c = λ f o told h.
     let no_question = sym c.asks.ensures ∙ c.if-asks.false in
     let then_is = content_goes_on o content no_question (sym c.stops.ensures ∙ c.if-stops.false) in
     either_way c.take.result
-    (replied_as f (next_line o content) (with_content o content) s c.take.new.self (IsGrowth f s.tag o (next_line o content)) (IsReply f s.tag o content) c.args.out.now c.take.new.out (sym then_is)
+    (replied_as f (next_line o content) (with_content o content) s c.take.new.self (IsGrowth f s.tag o (next_line o content))
+    (IsReply f s.tag o content) c.args.out.now c.take.new.out (sym then_is)
     (reply_of f s.tag o (next_line o content) content no_question then_is))
-    (cut_as (IsGrowth f s.tag o (next_line o content)) (IsReply f s.tag o content) c.args.out.now c.take.new.out (growth_of f s.tag o (next_line o content) content no_question then_is))
+    (cut_as (IsGrowth f s.tag o (next_line o content)) (IsReply f s.tag o content) c.args.out.now c.take.new.out
+    (growth_of f s.tag o (next_line o content) content no_question then_is))
     (c.take.ensures f o told h)

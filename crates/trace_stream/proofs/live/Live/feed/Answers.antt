@@ -20,7 +20,8 @@ flush-requires g c =
 pub returns-in-Ok-clause-taken : goal.returns-in-Ok-clause-taken
 returns-in-Ok-clause-taken g c = λ bytes written k.
     let k2 = c.in-Ok.ensures.taken bytes written (live_open g.F.Follow.stands g.F.Follow.owes g.F.Follow.kind c.args.self.now bytes written k) in
-    flushed g.F.Follow.stands g.F.Follow.owes g.F.Follow.kind c.args.self.now.rows.limits c.args.self.now.formula c.take_piece.new.self (bytes ++ c.args.piece.now) written
+    flushed g.F.Follow.stands g.F.Follow.owes g.F.Follow.kind c.args.self.now.rows.limits c.args.self.now.formula
+    c.take_piece.new.self (bytes ++ c.args.piece.now) written
     c.flush.new.text c.flush.new.follower c.flush.result k2 (c.flush.ensures.ok k2.case (written ++ c.take_piece.new.self.text) k2.followed) c.flush.ensures.err
 
 pub flush-requires-in-Err-Fault : goal.flush-requires-in-Err-Fault
@@ -39,7 +40,8 @@ returns-in_ok-flush-in-Err-Fault-clause-taken g c = λ bytes written live.
     (bytes ++ c.args.piece.now) mid.follower (written ++ mid.text) s) c.in-Err-Fault.field-0-is
     (c.in-Err-Fault.ensures.taken bytes written (live_open g.F.Follow.stands g.F.Follow.owes g.F.Follow.kind c.args.self.now bytes written live)) in
     let (grown, longer, followed) = c.in_ok-flush-in-Err-Fault.ensures.ok k.3 (written ++ mid.text) k.4 in
-    fault_flushed g.F.Follow.stands g.F.Follow.owes g.F.Follow.kind c.args.self.now.rows.limits c.args.self.now.formula false (bytes ++ c.args.piece.now) written mid.text
+    fault_flushed g.F.Follow.stands g.F.Follow.owes g.F.Follow.kind c.args.self.now.rows.limits c.args.self.now.formula false
+    (bytes ++ c.args.piece.now) written mid.text
     c.flush-in-Err-Fault.new.text grown mid.follower c.flush-in-Err-Fault.new.follower c.in-Err-Fault.fault k longer followed
 
 pub returns-in-Err-Wide-clause-taken : goal.returns-in-Err-Wide-clause-taken

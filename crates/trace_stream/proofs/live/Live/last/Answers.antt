@@ -18,7 +18,8 @@ take_row-requires g c =
     let old = c.args.self.now in
     let new = c.end.new.self in
     let ok = c.in-Ok-Row.ensures in
-    let whole = subst (λ (e : Event). IsWholeTrace new bytes (rows_after e k.kept.rows new.row)) c.in-Ok-Row.field-0-is (ok.ok bytes k.kept.rows k.kept.stands) in
+    let whole =
+    subst (λ (e : Event). IsWholeTrace new bytes (rows_after e k.kept.rows new.row)) c.in-Ok-Row.field-0-is (ok.ok bytes k.kept.rows k.kept.stands) in
     let next = subst (λ (e : Event). IsNextRow e new.heading k.kept.rows new.row) c.in-Ok-Row.field-0-is (ok.next bytes k.kept.rows k.kept.stands) in (
       k.case,
       c.requires.written ++ old.text,
@@ -34,7 +35,8 @@ pub last_fault-requires : goal.last_fault-requires
 last_fault-requires g c = λ e.
     let k = c.requires.is.kept in
     let err = c.in-Err.ensures in
-    has_header c.args.self.now.formula c.args.self.now.rows c.end.new.self c.requires.is.case c.requires.bytes k err.kept.0 err.kept.1 (err.header e c.requires.bytes k.rows k.stands)
+    has_header c.args.self.now.formula c.args.self.now.rows c.end.new.self c.requires.is.case c.requires.bytes k err.kept.0 err.kept.1
+    (err.header e c.requires.bytes k.rows k.stands)
 
 pub flush-requires : goal.flush-requires
 flush-requires g c =
@@ -43,7 +45,8 @@ flush-requires g c =
     let old = c.args.self.now in
     let new = c.end.new.self in
     let ok = c.in-Ok-Row.ensures in
-    let whole = subst (λ (e : Event). IsWholeTrace new bytes (rows_after e k.kept.rows new.row)) c.in-Ok-Row.field-0-is (ok.ok bytes k.kept.rows k.kept.stands) in
+    let whole =
+    subst (λ (e : Event). IsWholeTrace new bytes (rows_after e k.kept.rows new.row)) c.in-Ok-Row.field-0-is (ok.ok bytes k.kept.rows k.kept.stands) in
     let next = subst (λ (e : Event). IsNextRow e new.heading k.kept.rows new.row) c.in-Ok-Row.field-0-is (ok.next bytes k.kept.rows k.kept.stands) in
     let can = end_can old.formula old.rows new k.case bytes k.kept ok.kept.0 ok.kept.1 new.row whole next in
     let (grown, text, opened) = c.in_ok-take_row-in-Ok-Row.ensures.ok k.case (c.requires.written ++ old.text)
@@ -57,16 +60,19 @@ returns-in_ok-take_row-in-Ok-Row-clause-last g c = λ bytes written k.
     let new = c.end.new.self in
     let ok = c.in-Ok-Row.ensures in
     let mid = c.take_row.new in
-    let whole = subst (λ (e : Event). IsWholeTrace new bytes (rows_after e k.kept.rows new.row)) c.in-Ok-Row.field-0-is (ok.ok bytes k.kept.rows k.kept.stands) in
+    let whole =
+    subst (λ (e : Event). IsWholeTrace new bytes (rows_after e k.kept.rows new.row)) c.in-Ok-Row.field-0-is (ok.ok bytes k.kept.rows k.kept.stands) in
     let next = subst (λ (e : Event). IsNextRow e new.heading k.kept.rows new.row) c.in-Ok-Row.field-0-is (ok.next bytes k.kept.rows k.kept.stands) in
     let can = end_can old.formula old.rows new k.case bytes k.kept ok.kept.0 ok.kept.1 new.row whole next in
     let (grown, text, opened) = c.in_ok-take_row-in-Ok-Row.ensures.ok k.case (written ++ old.text)
     (open_of g.F.Follow.stands g.F.Follow.owes g.F.Follow.kind old.follower k.case (written ++ old.text) k.followed)
     (subst (λ (r : Row). CanKeep k.case r) (sym c.row.ensures) can) in
-    let now = subst (λ (r : Row). IsOpened g.F.Follow.stands g.F.Follow.owes g.F.Follow.kind mid.follower (option_map (with_row r) k.case) (written ++ mid.text)) c.row.ensures
+    let now = subst (λ (r : Row).
+    IsOpened g.F.Follow.stands g.F.Follow.owes g.F.Follow.kind mid.follower (option_map (with_row r) k.case) (written ++ mid.text)) c.row.ensures
     (subst (λ made. IsOpened g.F.Follow.stands g.F.Follow.owes g.F.Follow.kind mid.follower (option_map (with_row c.row.result.now) k.case) made)
     (sym (more_text written old.text mid.text grown text)) opened) in
-    last_row g.F.Follow.stands g.F.Follow.kind old.rows.limits old.formula bytes written mid.text c.flush.new.text c.flush.new.follower k.case new.row c.flush.result
+    last_row g.F.Follow.stands g.F.Follow.kind old.rows.limits old.formula bytes written mid.text c.flush.new.text
+    c.flush.new.follower k.case new.row c.flush.result
     (c.flush.ensures.ok (option_map (with_row new.row) k.case) (written ++ mid.text) now) c.flush.ensures.err
     (ended_row old.formula old.rows new k.case bytes k.kept ok.kept.0 ok.kept.1 new.row whole)
 
@@ -77,7 +83,8 @@ returns-in_err-take_row-in-Ok-Row-clause-last g c =
     let old = c.args.self.now in
     let new = c.end.new.self in
     let ok = c.in-Ok-Row.ensures in
-    let whole = subst (λ (e : Event). IsWholeTrace new bytes (rows_after e k.kept.rows new.row)) c.in-Ok-Row.field-0-is (ok.ok bytes k.kept.rows k.kept.stands) in
+    let whole =
+    subst (λ (e : Event). IsWholeTrace new bytes (rows_after e k.kept.rows new.row)) c.in-Ok-Row.field-0-is (ok.ok bytes k.kept.rows k.kept.stands) in
     let next = subst (λ (e : Event). IsNextRow e new.heading k.kept.rows new.row) c.in-Ok-Row.field-0-is (ok.next bytes k.kept.rows k.kept.stands) in
     let can = end_can old.formula old.rows new k.case bytes k.kept ok.kept.0 ok.kept.1 new.row whole next in
     let stop = c.in_err-take_row-in-Ok-Row.field-0.0 in
@@ -85,7 +92,8 @@ returns-in_err-take_row-in-Ok-Row-clause-last g c =
     (c.in_err-take_row-in-Ok-Row.ensures.err k.case (written ++ old.text)
     (open_of g.F.Follow.stands g.F.Follow.owes g.F.Follow.kind old.follower k.case (written ++ old.text) k.followed)
     (subst (λ (r : Row). CanKeep k.case r) (sym c.row.ensures) can)) in
-    last_held g.F.Follow.stands g.F.Follow.kind old.rows.limits old.formula bytes written old.text c.take_row.new.text old.follower k.case new.row stop held k.followed
+    last_held g.F.Follow.stands g.F.Follow.kind old.rows.limits old.formula bytes written old.text c.take_row.new.text
+    old.follower k.case new.row stop held k.followed
     (ended_row old.formula old.rows new k.case bytes k.kept ok.kept.0 ok.kept.1 new.row whole))
 
 pub returns-in-Ok-Nothing-clause-last : goal.returns-in-Ok-Nothing-clause-last
@@ -93,7 +101,8 @@ returns-in-Ok-Nothing-clause-last g c = λ bytes written k.
     let old = c.args.self.now in
     let new = c.end.new.self in
     let ok = c.in-Ok-Nothing.ensures in
-    let whole = subst (λ (e : Event). IsWholeTrace new bytes (rows_after e k.kept.rows new.row)) c.in-Ok-Nothing.field-0-is (ok.ok bytes k.kept.rows k.kept.stands) in
+    let whole = subst (λ (e : Event). IsWholeTrace new bytes (rows_after e k.kept.rows new.row)) c.in-Ok-Nothing.field-0-is
+    (ok.ok bytes k.kept.rows k.kept.stands) in
     last_taken g.F.Follow.stands g.F.Follow.kind old.rows.limits old.formula old.follower k.case bytes (written ++ old.text)
     (ended_now old.formula old.rows new k.case bytes k.kept ok.kept.0 ok.kept.1 whole) k.followed
 
@@ -101,7 +110,9 @@ pub returns-in-Err-clause-last : goal.returns-in-Err-clause-last
 returns-in-Err-clause-last g c = λ bytes written k.
     let old = c.args.self.now in
     let err = c.in-Err.ensures in
-    live_end_refused g.F.Follow.stands g.F.Follow.kind old.formula old.rows old.follower k.case bytes (written ++ old.text) k.kept c.last_fault.result k.followed
+    live_end_refused g.F.Follow.stands g.F.Follow.kind old.formula old.rows old.follower k.case bytes
+    (written ++ old.text) k.kept c.last_fault.result k.followed
     (refused_end old.formula old.rows c.end.new.self k.case bytes k.kept err.kept.0 err.kept.1 c.in-Err.refusal (err.fault bytes k.kept.rows k.kept.stands)
     (λ e. err.header e bytes k.kept.rows k.kept.stands) (err.line k.kept.stands.open_end.0 ∙ err.kept.2) c.last_fault.result
-    (last_by_case g.F.Follow.stands g.F.Follow.kind old.formula c.end.new.self old.follower k.case (written ++ old.text) c.in-Err.refusal c.last_fault.result k.followed c.last_fault.ensures))
+    (last_by_case g.F.Follow.stands g.F.Follow.kind old.formula c.end.new.self old.follower k.case
+    (written ++ old.text) c.in-Err.refusal c.last_fault.result k.followed c.last_fault.ensures))

@@ -17,7 +17,8 @@ use Rattle.trace_stream.proofs.live.Live.step.Goals as goal
 
 pub returns-in-Err-clause-taken : goal.returns-in-Err-clause-taken
 returns-in-Err-clause-taken g c = λ bytes written k.
-    live_refused g.F.Follow.stands g.F.Follow.owes g.F.Follow.kind c.args.self.now bytes written c.args.piece.now c.next_bytes.result.now c.in-Err.refusal k c.next_bytes.ensures.line
+    live_refused g.F.Follow.stands g.F.Follow.owes g.F.Follow.kind c.args.self.now bytes written c.args.piece.now
+    c.next_bytes.result.now c.in-Err.refusal k c.next_bytes.ensures.line
     (c.in-Err.ensures.fault bytes k.kept.rows k.kept.stands) (c.in-Err.ensures.before bytes k.kept.rows k.kept.stands)
 
 pub follow_on-requires-clause-header : goal.follow_on-requires-clause-header
@@ -27,8 +28,10 @@ follow_on-requires-clause-header g c =
     let old = c.args.self.now in
     let came = (subst (λ (e : Event). HasCome e old.rows c.push.new.self (take c.in-Ok.took.bytes c.next_bytes.result.now)) c.in-Header.is ok.came).0 in
     let one = first_next old.formula old.rows.heading c.requires.bytes k.kept.rows k.case c.args.piece.now c.next_bytes.result.now k.kept.tied came
-    (next_of g.F.Follow.stands g.F.Follow.owes g.F.Follow.kind old.follower k.case (c.requires.written ++ old.text) c.args.piece.now c.next_bytes.result.now k.followed c.next_bytes.ensures.line) in
-    let s = header_step old.formula old.rows c.push.new.self k.case c.requires.bytes c.args.piece.now c.next_bytes.result.now c.in-Ok.took.bytes c.in-Ok.took.event c.header.result.now k.kept one
+    (next_of g.F.Follow.stands g.F.Follow.owes g.F.Follow.kind old.follower k.case
+    (c.requires.written ++ old.text) c.args.piece.now c.next_bytes.result.now k.followed c.next_bytes.ensures.line) in
+    let s = header_step old.formula old.rows c.push.new.self k.case c.requires.bytes c.args.piece.now c.next_bytes.result.now
+    c.in-Ok.took.bytes c.in-Ok.took.event c.header.result.now k.kept one
     ok.within.0 c.in-Header.is ok.came (ok.ok c.requires.bytes k.kept.rows k.kept.stands) ok.kept.0 ok.kept.1 c.header.ensures in
     (s.columns, s.is, s.ticks)
 
@@ -43,13 +46,18 @@ returns-in_err-follow_on-in-Header-clause-taken g c =
     let old = c.args.self.now in
     let came = (subst (λ (e : Event). HasCome e old.rows c.push.new.self (take c.in-Ok.took.bytes c.next_bytes.result.now)) c.in-Header.is ok.came).0 in
     let one = first_next old.formula old.rows.heading bytes k.kept.rows k.case c.args.piece.now c.next_bytes.result.now k.kept.tied came
-    (next_of g.F.Follow.stands g.F.Follow.owes g.F.Follow.kind old.follower k.case (written ++ old.text) c.args.piece.now c.next_bytes.result.now k.followed c.next_bytes.ensures.line) in
-    let s = header_step old.formula old.rows c.push.new.self k.case bytes c.args.piece.now c.next_bytes.result.now c.in-Ok.took.bytes c.in-Ok.took.event c.header.result.now k.kept one
+    (next_of g.F.Follow.stands g.F.Follow.owes g.F.Follow.kind old.follower k.case
+    (written ++ old.text) c.args.piece.now c.next_bytes.result.now k.followed c.next_bytes.ensures.line) in
+    let s = header_step old.formula old.rows c.push.new.self k.case bytes c.args.piece.now c.next_bytes.result.now
+    c.in-Ok.took.bytes c.in-Ok.took.event c.header.result.now k.kept one
     ok.within.0 c.in-Header.is ok.came (ok.ok bytes k.kept.rows k.kept.stands) ok.kept.0 ok.kept.1 c.header.ensures in
-    live_lacks g.F.Follow.stands g.F.Follow.owes g.F.Follow.kind old old.rows c.push.new.self k.kept.rows bytes written c.args.piece.now c.in-Ok.took.bytes c.header.result.now c.in_err-follow_on-in-Header.field-0.0 refl s
-    (subst (λ n. IsNoBegin old.formula n s.columns c.in_err-follow_on-in-Header.field-0.0) c.line.ensures (c.in_err-follow_on-in-Header.ensures.begun s.columns s.is))
+    live_lacks g.F.Follow.stands g.F.Follow.owes g.F.Follow.kind old old.rows c.push.new.self k.kept.rows bytes written
+    c.args.piece.now c.in-Ok.took.bytes c.header.result.now c.in_err-follow_on-in-Header.field-0.0 refl s
+    (subst (λ n. IsNoBegin old.formula n s.columns c.in_err-follow_on-in-Header.field-0.0) c.line.ensures
+    (c.in_err-follow_on-in-Header.ensures.begun s.columns s.is))
     c.follow_on.new.follower k.case (written ++ old.text) k.kept.tied came
-    (subst (λ x. IsOpened g.F.Follow.stands g.F.Follow.owes g.F.Follow.kind x k.case (written ++ old.text)) (sym c.in_err-follow_on-in-Header.ensures.kept) k.followed))
+    (subst (λ x. IsOpened g.F.Follow.stands g.F.Follow.owes g.F.Follow.kind x k.case (written ++ old.text))
+    (sym c.in_err-follow_on-in-Header.ensures.kept) k.followed))
 
 pub take_row-requires : goal.take_row-requires
 take_row-requires g c =
@@ -58,9 +66,11 @@ take_row-requires g c =
     let written = c.requires.written in
     let ok = c.in-Ok.ensures in
     let old = c.args.self.now in
-    let one = next_of g.F.Follow.stands g.F.Follow.owes g.F.Follow.kind old.follower k.case (written ++ old.text) c.args.piece.now c.next_bytes.result.now k.followed c.next_bytes.ensures.line in
+    let one = next_of g.F.Follow.stands g.F.Follow.owes g.F.Follow.kind old.follower k.case
+    (written ++ old.text) c.args.piece.now c.next_bytes.result.now k.followed c.next_bytes.ensures.line in
     let s = row_step old.formula old.rows c.push.new.self k.case bytes c.args.piece.now c.next_bytes.result.now c.in-Ok.took.bytes c.in-Ok.took.event k.kept
-    (front_same k.case c.args.piece.now c.next_bytes.result.now c.in-Ok.took.bytes one ok.within.0) c.in-Row.is ok.came (ok.ok bytes k.kept.rows k.kept.stands) (ok.next bytes k.kept.rows k.kept.stands) in
+    (front_same k.case c.args.piece.now c.next_bytes.result.now c.in-Ok.took.bytes one ok.within.0) c.in-Row.is ok.came
+    (ok.ok bytes k.kept.rows k.kept.stands) (ok.next bytes k.kept.rows k.kept.stands) in
     (k.case, written ++ old.text, k.followed, subst (λ (r : Row). CanKeep k.case r) (sym c.row.ensures) s.can)
 
 pub returns-in-Nothing-clause-taken : goal.returns-in-Nothing-clause-taken
@@ -69,8 +79,10 @@ returns-in-Nothing-clause-taken g c = λ bytes written k.
     record {
       served = k.served;
       case = k.case;
-      kept = nothing_step c.args.self.now.formula c.args.self.now.rows c.push.new.self k.case bytes c.args.piece.now c.next_bytes.result.now c.in-Ok.took.bytes c.in-Ok.took.event k.kept
-          (front_same k.case c.args.piece.now c.next_bytes.result.now c.in-Ok.took.bytes (next_of g.F.Follow.stands g.F.Follow.owes g.F.Follow.kind c.args.self.now.follower k.case _ c.args.piece.now c.next_bytes.result.now k.followed c.next_bytes.ensures.line) ok.within.0)
+      kept = nothing_step c.args.self.now.formula c.args.self.now.rows c.push.new.self k.case bytes c.args.piece.now
+          c.next_bytes.result.now c.in-Ok.took.bytes c.in-Ok.took.event k.kept
+          (front_same k.case c.args.piece.now c.next_bytes.result.now c.in-Ok.took.bytes (next_of g.F.Follow.stands g.F.Follow.owes g.F.Follow.kind
+          c.args.self.now.follower k.case _ c.args.piece.now c.next_bytes.result.now k.followed c.next_bytes.ensures.line) ok.within.0)
           c.in-Nothing.is ok.came (ok.ok bytes k.kept.rows k.kept.stands) ok.kept.1;
       followed = k.followed;
     }
@@ -81,17 +93,23 @@ returns-in_ok-follow_on-in-Header-clause-taken g c = λ bytes written k.
     let old = c.args.self.now in
     let came = (subst (λ (e : Event). HasCome e old.rows c.push.new.self (take c.in-Ok.took.bytes c.next_bytes.result.now)) c.in-Header.is ok.came).0 in
     let one = first_next old.formula old.rows.heading bytes k.kept.rows k.case c.args.piece.now c.next_bytes.result.now k.kept.tied came
-    (next_of g.F.Follow.stands g.F.Follow.owes g.F.Follow.kind old.follower k.case (written ++ old.text) c.args.piece.now c.next_bytes.result.now k.followed c.next_bytes.ensures.line) in
-    let s = header_step old.formula old.rows c.push.new.self k.case bytes c.args.piece.now c.next_bytes.result.now c.in-Ok.took.bytes c.in-Ok.took.event c.header.result.now k.kept one
+    (next_of g.F.Follow.stands g.F.Follow.owes g.F.Follow.kind old.follower k.case
+    (written ++ old.text) c.args.piece.now c.next_bytes.result.now k.followed c.next_bytes.ensures.line) in
+    let s = header_step old.formula old.rows c.push.new.self k.case bytes c.args.piece.now c.next_bytes.result.now
+    c.in-Ok.took.bytes c.in-Ok.took.event c.header.result.now k.kept one
     ok.within.0 c.in-Header.is ok.came (ok.ok bytes k.kept.rows k.kept.stands) ok.kept.0 ok.kept.1 c.header.ensures in
     let (case, its, follows) = c.in_ok-follow_on-in-Header.ensures.begun s.columns s.is in
     let begun = subst (λ n. IsBegun old.formula n s.columns case) c.line.ensures its in
-    let none = none_open g.F.Follow.stands g.F.Follow.owes g.F.Follow.kind old.follower old.formula old.rows.heading bytes k.kept.rows k.case (written ++ old.text) k.kept.tied came k.followed in
+    let none = none_open g.F.Follow.stands g.F.Follow.owes g.F.Follow.kind old.follower old.formula old.rows.heading bytes
+    k.kept.rows k.case (written ++ old.text) k.kept.tied came k.followed in
     record {
       served = k.served;
       case = Some case;
-      kept = kept_begun old.formula old.rows c.push.new.self k.case bytes (bytes ++ take c.in-Ok.took.bytes c.args.piece.now) c.push.new.self.begun s.heading s.columns case k.kept s.first s.stands
-          (ok.kept.1 ∙ k.kept.least) s.some (subst (λ (l : Limits). HasHeaderLine l old.formula.scale (bytes ++ take c.in-Ok.took.bytes c.args.piece.now) c.push.new.self.begun s.columns) (sym ok.kept.0) s.line) begun;
+      kept = kept_begun old.formula old.rows c.push.new.self k.case bytes
+          (bytes ++ take c.in-Ok.took.bytes c.args.piece.now) c.push.new.self.begun s.heading s.columns case k.kept s.first s.stands
+          (ok.kept.1 ∙ k.kept.least) s.some
+          (subst (λ (l : Limits). HasHeaderLine l old.formula.scale (bytes ++ take c.in-Ok.took.bytes c.args.piece.now) c.push.new.self.begun s.columns)
+          (sym ok.kept.0) s.line) begun;
       followed = subst (λ made. IsOpened g.F.Follow.stands g.F.Follow.owes g.F.Follow.kind c.follow_on.new.follower (Some case) made) (sym none)
           (open_of g.F.Follow.stands g.F.Follow.owes g.F.Follow.kind c.follow_on.new.follower (Some case) [] follows);
     }
@@ -100,16 +118,22 @@ pub returns-in_ok-take_row-in-Row-clause-taken : goal.returns-in_ok-take_row-in-
 returns-in_ok-take_row-in-Row-clause-taken g c = λ bytes written k.
     let ok = c.in-Ok.ensures in
     let old = c.args.self.now in
-    let one = next_of g.F.Follow.stands g.F.Follow.owes g.F.Follow.kind old.follower k.case (written ++ old.text) c.args.piece.now c.next_bytes.result.now k.followed c.next_bytes.ensures.line in
+    let one = next_of g.F.Follow.stands g.F.Follow.owes g.F.Follow.kind old.follower k.case
+    (written ++ old.text) c.args.piece.now c.next_bytes.result.now k.followed c.next_bytes.ensures.line in
     let s = row_step old.formula old.rows c.push.new.self k.case bytes c.args.piece.now c.next_bytes.result.now c.in-Ok.took.bytes c.in-Ok.took.event k.kept
-    (front_same k.case c.args.piece.now c.next_bytes.result.now c.in-Ok.took.bytes one ok.within.0) c.in-Row.is ok.came (ok.ok bytes k.kept.rows k.kept.stands) (ok.next bytes k.kept.rows k.kept.stands) in
-    let (grown, text, followed) = c.in_ok-take_row-in-Row.ensures.ok k.case (written ++ old.text) k.followed (subst (λ (r : Row). CanKeep k.case r) (sym c.row.ensures) s.can) in
+    (front_same k.case c.args.piece.now c.next_bytes.result.now c.in-Ok.took.bytes one ok.within.0) c.in-Row.is ok.came
+    (ok.ok bytes k.kept.rows k.kept.stands) (ok.next bytes k.kept.rows k.kept.stands) in
+    let (grown, text, followed) =
+    c.in_ok-take_row-in-Row.ensures.ok k.case (written ++ old.text) k.followed (subst (λ (r : Row). CanKeep k.case r) (sym c.row.ensures) s.can) in
     record {
       served = k.served;
       case = option_map (with_row c.push.new.self.row) k.case;
-      kept = kept_row old.formula old.rows c.push.new.self k.case bytes (take c.in-Ok.took.bytes c.args.piece.now) c.push.new.self.row k.kept s.stands ok.kept.1 s.same s.can;
-      followed = subst (λ made. IsOpened g.F.Follow.stands g.F.Follow.owes g.F.Follow.kind c.take_row.new.follower (option_map (with_row c.push.new.self.row) k.case) made) (sym (more_text written old.text c.take_row.new.text grown text))
-          (subst (λ (r : Row). IsOpened g.F.Follow.stands g.F.Follow.owes g.F.Follow.kind c.take_row.new.follower (option_map (with_row r) k.case) ((written ++ old.text) ++ grown)) c.row.ensures followed);
+      kept = kept_row old.formula old.rows c.push.new.self k.case bytes
+          (take c.in-Ok.took.bytes c.args.piece.now) c.push.new.self.row k.kept s.stands ok.kept.1 s.same s.can;
+      followed = subst (λ made. IsOpened g.F.Follow.stands g.F.Follow.owes g.F.Follow.kind c.take_row.new.follower
+          (option_map (with_row c.push.new.self.row) k.case) made) (sym (more_text written old.text c.take_row.new.text grown text))
+          (subst (λ (r : Row). IsOpened g.F.Follow.stands g.F.Follow.owes g.F.Follow.kind c.take_row.new.follower
+          (option_map (with_row r) k.case) ((written ++ old.text) ++ grown)) c.row.ensures followed);
     }
 
 pub returns-in_err-take_row-in-Row-clause-taken : goal.returns-in_err-take_row-in-Row-clause-taken
@@ -121,22 +145,27 @@ returns-in_err-take_row-in-Row-clause-taken g c =
     let piece = c.args.piece.now in
     let at = c.in-Ok.took.bytes in
     let row = c.push.new.self.row in
-    let one = next_of g.F.Follow.stands g.F.Follow.owes g.F.Follow.kind old.follower k.case (written ++ old.text) piece c.next_bytes.result.now k.followed c.next_bytes.ensures.line in
+    let one = next_of g.F.Follow.stands g.F.Follow.owes g.F.Follow.kind old.follower k.case
+    (written ++ old.text) piece c.next_bytes.result.now k.followed c.next_bytes.ensures.line in
     let s = row_step old.formula old.rows c.push.new.self k.case bytes piece c.next_bytes.result.now at c.in-Ok.took.event k.kept
-    (front_same k.case piece c.next_bytes.result.now at one ok.within.0) c.in-Row.is ok.came (ok.ok bytes k.kept.rows k.kept.stands) (ok.next bytes k.kept.rows k.kept.stands) in
+    (front_same k.case piece c.next_bytes.result.now at one ok.within.0) c.in-Row.is ok.came
+    (ok.ok bytes k.kept.rows k.kept.stands) (ok.next bytes k.kept.rows k.kept.stands) in
     let kept = kept_row old.formula old.rows c.push.new.self k.case bytes (take at piece) row k.kept s.stands ok.kept.1 s.same s.can in
-    let held = subst (λ (r : Row). IsHeldUp g.F.Follow.kind (option_map (with_row r) k.case) false old.text c.take_row.new.text c.in_err-take_row-in-Row.field-0.0) c.row.ensures
+    let held = subst (λ (r : Row).
+    IsHeldUp g.F.Follow.kind (option_map (with_row r) k.case) false old.text c.take_row.new.text c.in_err-take_row-in-Row.field-0.0) c.row.ensures
     (c.in_err-take_row-in-Row.ensures.err k.case (written ++ old.text) k.followed (subst (λ (r : Row). CanKeep k.case r) (sym c.row.ensures) s.can)) in
     let stop = c.in_err-take_row-in-Row.field-0.0 in
     let parts = sym (append_assoc bytes (take at piece) (drop at piece) ∙ ap (λ b. bytes ++ b) (take-append-drop at piece)) in
     elim (c.in_err-take_row-in-Row.ensures.owing k.case (written ++ old.text) k.followed) [
       | inl whole ↦
-          open_held g.F.Follow.stands g.F.Follow.owes g.F.Follow.kind old.rows.limits old.formula false (bytes ++ piece) (option_map (with_row row) k.case) false old.text c.take_row.new.text
+          open_held g.F.Follow.stands g.F.Follow.owes g.F.Follow.kind old.rows.limits old.formula false (bytes ++ piece)
+          (option_map (with_row row) k.case) false old.text c.take_row.new.text
           c.take_row.new.follower (written ++ c.take_row.new.text) stop held
           (row_held g.F.Follow.stands g.F.Follow.kind old.rows.limits old.formula (bytes ++ piece) false (bytes ++ take at piece) (drop at piece)
           parts false (λ e. absurd (false≢true e)) old.follower k.case row written old.text c.take_row.new.text stop
           (λ case is. subst (λ (l : Limits). IsReadTo l old.formula (bytes ++ take at piece) false case) ok.kept.0
-          (read_of_kept old.formula c.push.new.self case (bytes ++ take at piece) (subst (λ o. IsKept old.formula c.push.new.self o (bytes ++ take at piece)) is kept)))
+          (read_of_kept old.formula c.push.new.self case (bytes ++ take at piece)
+          (subst (λ o. IsKept old.formula c.push.new.self o (bytes ++ take at piece)) is kept)))
           whole held)
       | inr none ↦
           subst (λ (s : StreamStop). IsOpenStop g.F.Follow.stands g.F.Follow.owes g.F.Follow.kind old.rows.limits old.formula false (bytes ++ piece)

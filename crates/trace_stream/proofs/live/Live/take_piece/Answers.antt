@@ -28,10 +28,16 @@ returns-in_err-at-clause-taken g c =
     let p = err_from_is_err_and c.from_residual.result c.from_residual.ensures.1 in
     let piece = c.args.piece.now in
     rw (p.1, p.2) (λ bytes written k.
-    live_fed g.F.Follow.stands g.F.Follow.owes g.F.Follow.kind c.args.self.now.rows.limits c.args.self.now.formula bytes piece (written ++ c.step.new.self.text) c.loop-at.at c.step.new.self.follower c.in_err-at.field-0.0
-    (subst (λ (l : Limits). IsOpenStop g.F.Follow.stands g.F.Follow.owes g.F.Follow.kind l c.args.self.now.formula false ((bytes ++ take c.loop-at.at piece) ++ drop c.loop-at.at piece) c.step.new.self.follower (written ++ c.step.new.self.text) c.in_err-at.field-0.0) c.loop-at.invariant.limits
-    (subst (λ (f : Formula). IsOpenStop g.F.Follow.stands g.F.Follow.owes g.F.Follow.kind c.loop-at.self.rows.limits f false ((bytes ++ take c.loop-at.at piece) ++ drop c.loop-at.at piece) c.step.new.self.follower (written ++ c.step.new.self.text) c.in_err-at.field-0.0) c.loop-at.invariant.formula
-    (subst (λ b. IsOpenStop g.F.Follow.stands g.F.Follow.owes g.F.Follow.kind c.loop-at.self.rows.limits c.loop-at.self.formula false ((bytes ++ take c.loop-at.at piece) ++ b) c.step.new.self.follower (written ++ c.step.new.self.text) c.in_err-at.field-0.0) (rest_is piece c.loop-at.at)
+    live_fed g.F.Follow.stands g.F.Follow.owes g.F.Follow.kind c.args.self.now.rows.limits c.args.self.now.formula bytes piece
+    (written ++ c.step.new.self.text) c.loop-at.at c.step.new.self.follower c.in_err-at.field-0.0
+    (subst (λ (l : Limits). IsOpenStop g.F.Follow.stands g.F.Follow.owes g.F.Follow.kind l c.args.self.now.formula false ((bytes ++ take c.loop-at.at piece)
+    ++ drop c.loop-at.at piece) c.step.new.self.follower (written ++ c.step.new.self.text) c.in_err-at.field-0.0) c.loop-at.invariant.limits
+    (subst (λ (f : Formula). IsOpenStop g.F.Follow.stands g.F.Follow.owes g.F.Follow.kind c.loop-at.self.rows.limits f false
+    ((bytes ++ take c.loop-at.at piece) ++ drop c.loop-at.at piece) c.step.new.self.follower (written ++ c.step.new.self.text) c.in_err-at.field-0.0)
+    c.loop-at.invariant.formula
+    (subst (λ b. IsOpenStop g.F.Follow.stands g.F.Follow.owes g.F.Follow.kind c.loop-at.self.rows.limits c.loop-at.self.formula false
+    ((bytes ++ take c.loop-at.at piece) ++ b) c.step.new.self.follower (written ++ c.step.new.self.text) c.in_err-at.field-0.0)
+    (rest_is piece c.loop-at.at)
     (c.in_err-at.ensures.taken (bytes ++ take c.loop-at.at piece) written (c.loop-at.invariant.taken bytes written k))))))
 
 pub returns-in_err-at-clause-limits : goal.returns-in_err-at-clause-limits

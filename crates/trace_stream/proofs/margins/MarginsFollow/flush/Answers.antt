@@ -8,7 +8,8 @@ use Rattle.trace_stream.specs.declared.margins.Margins.{Margins}
 use Rattle.trace_stream.proofs.margins.MarginsFollow.flush.Goals as goal
 
 -- nothing is ever owed
-followed : (x : Margins) (c : Case) (made : List ℕ) → IsOpen (IsMargined false x) (λ case text. ⊥) margins c made → Follows (IsMargined false x) margins c (made ++ [])
+followed : (x : Margins) (c : Case) (made : List ℕ) → IsOpen (IsMargined false x) (λ case text. ⊥) margins c made
+    → Follows (IsMargined false x) margins c (made ++ [])
 followed x c made (inl k) = subst (λ m. Follows (IsMargined false x) margins c m) (sym (append-nil made)) k
 followed x c made (inr b) = absurd b
 

@@ -21,7 +21,8 @@ step-requires c = record {
 pub returns-in_err-at-clause-taken : goal.returns-in_err-at-clause-taken
 returns-in_err-at-clause-taken c =
     let p = err_from_is_err_and c.from_residual.result c.from_residual.ensures.1 in
-    rw (p.1, p.2) (λ bytes k. fed_err c.args.formula.now c.loop-at.self.rows.limits c.args.self.now.rows.limits bytes c.args.piece.now c.loop-at.at c.in_err-at.field-0.0
+    rw (p.1, p.2) (λ bytes k.
+    fed_err c.args.formula.now c.loop-at.self.rows.limits c.args.self.now.rows.limits bytes c.args.piece.now c.loop-at.at c.in_err-at.field-0.0
     c.loop-at.invariant.limits
     (c.in_err-at.ensures.taken (bytes ++ take c.loop-at.at c.args.piece.now) (c.loop-at.invariant.taken bytes k)))
 

@@ -11,5 +11,6 @@ invariant_of-self g c = (
   search rules,
   search rules,
   subst (λ xs. AreStairs g.P.Shape.function c.self.inside.items.items c.args.lo c.self.inside.high xs) (sym c.drop_earlier.ensures.kept)
-      (later g.P.Shape.function c.self.inside.items.items c.self.inside.low c.args.lo c.self.inside.high c.self.inside.queue.items (search rules) (search rules) c.self.invariant.4),
+      (later g.P.Shape.function c.self.inside.items.items c.self.inside.low c.args.lo c.self.inside.high c.self.inside.queue.items
+      (search rules) (search rules) c.self.invariant.4),
 )

@@ -12,6 +12,8 @@ end-requires-clause-fed c =
 
 pub returns : goal.returns
 returns c = λ case made k t.
-    end_on c.args.self.now (record { early = c.end.new.self; scale = c.args.self.now.scale; digits = c.self-1.given.0 }) case made k c.end.ensures.same.nodes c.end.ensures.same.header refl
-    c.args.text.now c.put_rest.new.text c.decided-decided.result c.in-Ok.holds c.decided-decided.ensures (c.in-Ok.ensures.stands case.trace.rows k.stands.stands) t
+    end_on c.args.self.now (record { early = c.end.new.self; scale = c.args.self.now.scale; digits = c.self-1.given.0 }) case made
+    k c.end.ensures.same.nodes c.end.ensures.same.header refl
+    c.args.text.now c.put_rest.new.text c.decided-decided.result c.in-Ok.holds c.decided-decided.ensures
+    (c.in-Ok.ensures.stands case.trace.rows k.stands.stands) t
     (c.in-Ok.ensures.truth case.trace.rows k.stands.stands) c.in_ok-put_rest.ensures

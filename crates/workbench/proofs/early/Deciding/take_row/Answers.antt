@@ -17,5 +17,6 @@ pub returns : goal.returns
 returns c = λ case made k t.
     let e = c.in-Ok.ensures in
     let st = c.in-Ok.ensures.stands case.trace.rows k.stands.stands in
-    row_on c.args.self.now (record { early = c.feed.new.self; scale = c.args.self.now.scale; digits = c.self-1.given.0 }) case made k c.feed.ensures.same.nodes c.feed.ensures.same.header refl
+    row_on c.args.self.now (record { early = c.feed.new.self; scale = c.args.self.now.scale; digits = c.self-1.given.0 }) case
+    made k c.feed.ensures.same.nodes c.feed.ensures.same.header refl
     c.args.row.now c.args.text.now c.put_answer.new.text c.in-Ok.answer st.0 st.1 c.in_ok-put_answer.ensures

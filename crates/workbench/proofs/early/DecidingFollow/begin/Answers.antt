@@ -8,5 +8,6 @@ new-early-requires c = subst (λ h. IsBound c.args.case.bound c.args.case.formul
 
 pub returns : goal.returns
 returns c =
-    begun (record { early = c.new-early.result; scale = c.scale-scale.result; digits = c.result-1.given.0 }) c.args.case c.requires.case.0 c.requires.case.1 c.requires.none
+    begun (record { early = c.new-early.result; scale = c.scale-scale.result; digits = c.result-1.given.0 }) c.args.case
+    c.requires.case.0 c.requires.case.1 c.requires.none
     c.new-early.ensures.stands c.new-early.ensures.nodes (c.new-early.ensures.header ∙ c.in-Ok.ensures ∙ c.header.ensures) c.scale-scale.ensures.scale

@@ -8,7 +8,9 @@ use Rattle.workbench.proofs.ManyLines.{many_ended}
 use Rattle.workbench.proofs.many.ManyPush.end.Goals as goal
 
 pub finish-finished-requires : goal.finish-finished-requires
-finish-finished-requires g c = let (bytes, text, p) = c.requires in record { formula = c.args.self.now.formula; bytes = bytes; written = text; is = p.stands.taking }
+finish-finished-requires g c =
+    let (bytes, text, p) = c.requires in
+    record { formula = c.args.self.now.formula; bytes = bytes; written = text; is = p.stands.taking }
 
 pub returns-in-Ok-clause-ended : goal.returns-in-Ok-clause-ended
 returns-in-Ok-clause-ended g c = λ bytes text p.
@@ -16,7 +18,8 @@ returns-in-Ok-clause-ended g c = λ bytes text p.
     let mux = c.tell.new.input.mux in
     let held = g.K.Sink.written c.args.out.now in
     let after = g.K.Sink.written c.tell.new.out in
-    subst (λ (r : Result (Unit {0}) Stop). MatchResult r (λ _. IsPush (sessions f) held after bytes true text (IsFinished (HasAll f mux) (sessions f) bytes) (Ok true))
+    subst (λ (r : Result (Unit {0}) Stop).
+    MatchResult r (λ _. IsPush (sessions f) held after bytes true text (IsFinished (HasAll f mux) (sessions f) bytes) (Ok true))
     (λ e. IsPush (sessions f) held after bytes true text (IsFinished (HasAll f mux) (sessions f) bytes) (Err e))) c.in-Ok.is
     (many_ended f c.finish-finished.new.self c.tell.new.input held after bytes text p.owed c.finish-finished.result c.tell.result c.tell.ensures.told
     (c.finish-finished.ensures f bytes text p.stands.taking) c.tell.ensures.done)
@@ -27,7 +30,8 @@ returns-in-Err-clause-ended g c = λ bytes text p.
     let mux = c.tell.new.input.mux in
     let held = g.K.Sink.written c.args.out.now in
     let after = g.K.Sink.written c.tell.new.out in
-    subst (λ (r : Result (Unit {0}) Stop). MatchResult r (λ _. IsPush (sessions f) held after bytes true text (IsFinished (HasAll f mux) (sessions f) bytes) (Ok true))
+    subst (λ (r : Result (Unit {0}) Stop).
+    MatchResult r (λ _. IsPush (sessions f) held after bytes true text (IsFinished (HasAll f mux) (sessions f) bytes) (Ok true))
     (λ e. IsPush (sessions f) held after bytes true text (IsFinished (HasAll f mux) (sessions f) bytes) (Err e))) c.in-Err.is
     (many_ended f c.finish-finished.new.self c.tell.new.input held after bytes text p.owed c.finish-finished.result c.tell.result c.tell.ensures.told
     (c.finish-finished.ensures f bytes text p.stands.taking) c.tell.ensures.done)

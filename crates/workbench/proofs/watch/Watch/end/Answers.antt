@@ -12,18 +12,21 @@ stopped-requires g c =
     let mid = c.finish-finished.new.self in
     fault_there (g.K.Sink.written c.args.out.now) (g.K.Sink.written c.tell.new.out) p true mid.text Bool
     (IsOver WatchesEnd verdicts p.limits p.formula mid p.bytes (p.text ++ mid.text)) c.in-Err.stop
-    (end_told (g.K.Sink.written c.args.out.now) (g.K.Sink.written c.tell.new.out) c.self.inside.live mid p c.self.inside.phase s c.finish-finished.ensures.formula
+    (end_told (g.K.Sink.written c.args.out.now)
+    (g.K.Sink.written c.tell.new.out) c.self.inside.live mid p c.self.inside.phase s c.finish-finished.ensures.formula
     c.finish-finished.result (Err c.in-Err.stop) c.in-Err.ensures.told (c.finish-finished.ensures.over p.bytes p.text s.live))
 
 pub returns-in-Ok-clause-ended : goal.returns-in-Ok-clause-ended
 returns-in-Ok-clause-ended g c = λ p stands.
     let s = subst (λ (w : Watched). StandsFor p w) (sym c.self.view_is) stands in
     let mid = c.finish-finished.new.self in
-    let told = end_told (g.K.Sink.written c.args.out.now) (g.K.Sink.written c.tell.new.out) c.self.inside.live mid p c.self.inside.phase s c.finish-finished.ensures.formula
+    let told = end_told (g.K.Sink.written c.args.out.now)
+    (g.K.Sink.written c.tell.new.out) c.self.inside.live mid p c.self.inside.phase s c.finish-finished.ensures.formula
     c.finish-finished.result (Ok c.in-Ok.holds) c.in-Ok.ensures.told (c.finish-finished.ensures.over p.bytes p.text s.live) in (
       mid.text,
       told.0,
-      has_finished c.self.inside.live mid p c.self.inside.phase s c.finish-finished.ensures.formula c.tell.new.live Ended c.in-Ok.holds c.in-Ok.ensures.done refl told.1,
+      has_finished c.self.inside.live mid p c.self.inside.phase s c.finish-finished.ensures.formula c.tell.new.live Ended
+          c.in-Ok.holds c.in-Ok.ensures.done refl told.1,
     )
 
 pub returns-in-Err-clause-ended : goal.returns-in-Err-clause-ended
@@ -32,5 +35,6 @@ returns-in-Err-clause-ended g c = λ p stands.
     let mid = c.finish-finished.new.self in
     call_stopped (g.K.Sink.written c.args.out.now) (g.K.Sink.written c.tell.new.out) p true mid.text Bool
     (IsOver WatchesEnd verdicts p.limits p.formula mid p.bytes (p.text ++ mid.text)) (λ _ q. HasPushed q c.args.self.now) c.in-Err.stop c.stopped.result
-    (end_told (g.K.Sink.written c.args.out.now) (g.K.Sink.written c.tell.new.out) c.self.inside.live mid p c.self.inside.phase s c.finish-finished.ensures.formula
+    (end_told (g.K.Sink.written c.args.out.now)
+    (g.K.Sink.written c.tell.new.out) c.self.inside.live mid p c.self.inside.phase s c.finish-finished.ensures.formula
     c.finish-finished.result (Err c.in-Err.stop) c.in-Err.ensures.told (c.finish-finished.ensures.over p.bytes p.text s.live)) c.stopped.ensures.fault
