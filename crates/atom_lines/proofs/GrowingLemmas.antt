@@ -7,7 +7,7 @@ use Rattle.std.proofs.lemmas.Option.{slice_get-get_or}
 use Rattle.rational.specs.Time.{Rational, ◌<ʳ◌, ◌≈◌, whole}
 use Rattle.rational.specs.Rational.{IsWithin}
 use Rattle.rational.specs.Line.{at}
-use Rattle.rational.specs.Extended.{Extended, Affine, value_at, Passes, finite, ◌≈ᵉ◌}
+use Rattle.rational.specs.Extended.{Extended, value_at, Passes, finite, ◌≈ᵉ◌}
 use Rattle.rational.specs.Affine.{level}
 use Rattle.rational.proofs.Order.{le_of_same, ge_of_same, le_trans, lt_of_lt_of_le, lt_of_le_of_lt, lt_trans, same_trans, same_sym, le_of_lt}
 use Rattle.rational.proofs.Shift.{lt_whole}
@@ -25,7 +25,7 @@ use Rattle.pl_signal.specs.declared.knot.Knot.{Knot}
 use Rattle.pl_signal.specs.Knots.{stop, HasShape, IsWorth}
 use Rattle.pl_signal.specs.Building.{GoesOn}
 use Rattle.pl_signal.proofs.Telling.{IsFunction, told}
-use Rattle.stl_syntax.specs.Trace.{Row, Trace, IsTrace, AreRows, row_time, first_time, last_time}
+use Rattle.stl_syntax.specs.Trace.{Row, Trace, row_time, first_time, last_time}
 use Rattle.stl_syntax.specs.Trace as trace
 use Rattle.stl_syntax.specs.Truth.{compares, expression}
 use Rattle.stl_syntax.specs.SupInf.{Gives}

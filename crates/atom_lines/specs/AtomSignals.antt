@@ -1,7 +1,6 @@
 -- The signal of an atom over a whole trace: its truth or its margin at each time.
-use Rattle.std.specs.Prelude.{◌^◌, ℕ, ℤ, pos, ◌≤ℤ◌, ◌<ℤ◌, List}
+use Rattle.std.specs.Prelude.{◌^◌, ℕ, pos, ◌≤ℤ◌, ◌<ℤ◌, List}
 use Rattle.rational.specs.Time.{◌≈◌}
-use Rattle.rational.specs.Extended.{Affine}
 use Rattle.value_laws.specs.Members.{ShapeOf}
 use Rattle.pl_signal.specs.declared.knot.Knot.{Knot}
 use Rattle.pl_signal.specs.Knots.{HasShape, IsSignal}

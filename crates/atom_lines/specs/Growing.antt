@@ -4,7 +4,7 @@ use Rattle.rational.specs.Time.{Rational, ◌<ʳ◌, ◌≈◌, whole}
 use Rattle.rational.specs.Rational.{IsWithin}
 use Rattle.rational.specs.Affine.{IsBounded}
 use Rattle.rational.specs.Line.{at}
-use Rattle.rational.specs.Extended.{Extended, Affine, ◌≈ᵉ◌}
+use Rattle.rational.specs.Extended.{Extended, ◌≈ᵉ◌}
 use Rattle.value_laws.specs.Members.{ShapeOf}
 use Rattle.pl_signal.specs.declared.knot.Knot.{Knot}
 use Rattle.pl_signal.specs.Knots.{start, stop, HasShape, IsSignal, IsWorth}

@@ -5,7 +5,6 @@ use Rattle.std.specs.Int.{w64}
 use Rattle.std.specs.Prelude.{slice_get}
 use Rattle.std.specs.Int.RustNames.{unsigned_abs}
 use Rattle.rational.specs.Rational.{Rational, IsWithin, FitsFloor, whole, add, subtract}
-use Rattle.rational.specs.Extended.{Affine}
 use Rattle.rational.proofs.Mixed.{fits_of_within, within_add, within_negate, within_whole, within_more}
 use Rattle.value_laws.specs.Members.{ShapeOf}
 use Rattle.pl_signal.specs.declared.knot.Knot.{Knot}

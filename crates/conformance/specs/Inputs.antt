@@ -1,6 +1,5 @@
 -- The signals that tests give to an evaluation.
-use Rattle.std.specs.Prelude.{◌≡◌, ℕ, ℤ, List, All, length}
-use Rattle.rational.specs.Extended.{Affine}
+use Rattle.std.specs.Prelude.{◌≡◌, ℕ, List, All, length}
 use Rattle.value_laws.specs.Members.{ShapeOf}
 use Rattle.pl_signal.specs.declared.knot.Knot.{Knot}
 use Rattle.stl_syntax.specs.declared.node.Node.{Node}

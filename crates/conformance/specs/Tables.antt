@@ -1,7 +1,7 @@
 -- What tests check of the knots of a signal.
 use Rattle.std.specs.Prelude.{◌≡◌, ◌+◌, ◌^◌, ℕ, List, Some, slice_get}
 use Rattle.rational.specs.Rational.{IsWithin}
-use Rattle.rational.specs.Extended.{Affine, value_at}
+use Rattle.rational.specs.Extended.{value_at}
 use Rattle.rational.specs.Affine.{IsBounded}
 use Rattle.value_laws.specs.Members.{ShapeOf}
 use Rattle.pl_signal.specs.declared.knot.Knot.{Knot}

@@ -1,5 +1,5 @@
 -- What the sets of all nodes tell, where they fit.
-use Rattle.std.proofs.Common.{◌≡◌, ◌⊎◌, inl, inr, refl, sym, ap, subst, ℕ, zero, suc, ◌<◌, ◌≤◌, Bool}
+use Rattle.std.proofs.Common.{◌≡◌, ◌⊎◌, inl, inr, refl, sym, ap, subst, ℕ, zero, suc, ◌<◌, ◌≤◌}
 use Rattle.std.proofs.Common.{true, false, Some, None, List, [], ◌∷◌, length, arith, below_more}
 use Rattle.std.specs.Prelude.{slice_get, slice_index_or}
 use Rattle.rational.specs.Time.{Rational, ◌≤ʳ◌}

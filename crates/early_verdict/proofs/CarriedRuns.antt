@@ -1,9 +1,9 @@
 -- Runs that let go of the times before one, and are carried on from before it, tell the same of the others.
-use Rattle.std.proofs.Common.{◌⊎◌, inl, inr, refl, Bool, true, false, List}
+use Rattle.std.proofs.Common.{inl, inr, refl, Bool, true, false, List}
 use Rattle.std.specs.Prelude.{IsTrue}
-use Rattle.rational.specs.Time.{Rational, Within, ◌≤ʳ◌}
+use Rattle.rational.specs.Time.{Rational, ◌≤ʳ◌}
 use Rattle.rational.proofs.Order.{le_of_lt, le_or_lt, le_trans}
-use Rattle.early_verdict.specs.Cuts.{Place, place, After, Upto}
+use Rattle.early_verdict.specs.Cuts.{place, After}
 use Rattle.early_verdict.specs.Spans.{AreTidy, IsAmong, IsOn, Lies}
 use Rattle.early_verdict.specs.Steps.{HoldsFrom}
 use Rattle.early_verdict.specs.Reaching.{GoesBackBy, IsCarried}

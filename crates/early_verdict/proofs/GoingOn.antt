@@ -20,7 +20,7 @@ use Rattle.early_verdict.specs.Making.{AreMade, AreShownOf}
 use Rattle.early_verdict.specs.Spans.{IsOn}
 use Rattle.early_verdict.specs.Living.{AreLive, IsShown, NetStands, ShownTo}
 use Rattle.early_verdict.specs.Deciding.{last_after, trace_of}
-use Rattle.early_verdict.specs.Fitting.{AreEmpty, Lists, lists_at, lists_of}
+use Rattle.early_verdict.specs.Fitting.{AreEmpty, Lists, lists_at}
 use Rattle.early_verdict.specs.declared.event.Event.{Event}
 use Rattle.early_verdict.specs.declared.sets.Sets.{Sets}
 use Rattle.early_verdict.proofs.AllSets.{AreSound, all_final, all_known, lists_are}

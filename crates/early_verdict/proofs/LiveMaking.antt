@@ -1,5 +1,5 @@
 -- The empty sets of all nodes look at what their children show.
-use Rattle.std.proofs.Common.{◌≡◌, ◌⊎◌, inl, refl, sym, ap, subst, ◌∙◌, ℕ, ◌+◌, ◌-◌, ◌<◌, ◌≤◌, Option, Some, None, List, [], length, arith}
+use Rattle.std.proofs.Common.{◌≡◌, inl, refl, sym, subst, ◌∙◌, ℕ, ◌+◌, ◌-◌, ◌<◌, ◌≤◌, Option, Some, None, List, [], length, arith}
 use Rattle.std.specs.Prelude.{MatchOption, IsSome, slice_get}
 use Rattle.rational.specs.Time.{Rational, later, ◌≤ʳ◌}
 use Rattle.rational.proofs.Order.{le_refl, le_trans}
@@ -8,9 +8,9 @@ use Rattle.stl_syntax.specs.Formula.{HasChildrenBelow}
 use Rattle.stl_syntax.specs.declared.node.Node.{Node}
 use Rattle.stl_syntax.specs.declared.node.Node.TheVariants.{Const, Atom as Leaf, Not, And, Or, Implies, Until, Eventually, Always, Since, Once, Historically}
 use Rattle.early_verdict.specs.Spans.{IsOn, Lies}
-use Rattle.early_verdict.specs.Fitting.{AreEmpty, HasFailBounds}
+use Rattle.early_verdict.specs.Fitting.{HasFailBounds}
 use Rattle.early_verdict.specs.Making.{AreMade, AreShownOf}
-use Rattle.early_verdict.specs.Standing.{ArePartsAsked, AllEmpty, AllTidy, AsksBelow, HasParts, HasSets, IsFrom, left_of, top_at}
+use Rattle.early_verdict.specs.Standing.{ArePartsAsked, AllEmpty, AllTidy, AsksBelow, HasParts, HasSets, left_of, top_at}
 use Rattle.early_verdict.specs.Living.{AreLive, IsLive, IsShown, LooksAt, ReachesAhead, ReachesBack}
 use Rattle.early_verdict.specs.declared.stretch.Stretch.{Stretch}
 use Rattle.early_verdict.specs.declared.sets.Sets.{Sets}

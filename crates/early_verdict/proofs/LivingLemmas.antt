@@ -1,5 +1,5 @@
 -- What nodes look at, where they go on from fewer times, or where their children show other ones.
-use Rattle.std.proofs.Common.{◌≡◌, ◌≢◌, ◌⊎◌, inl, inr, refl, sym, subst, ◌∙◌, ℕ, false, true, Option, Some, None, List}
+use Rattle.std.proofs.Common.{◌≡◌, inl, inr, refl, sym, subst, ◌∙◌, ℕ, false, true, Option, Some, None, List}
 use Rattle.std.specs.Prelude.{MatchOption, IsSome, slice_get}
 use Rattle.rational.specs.Time.{Rational}
 use Rattle.stl_syntax.specs.declared.node.Node.{Node}

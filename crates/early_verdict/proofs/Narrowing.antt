@@ -7,7 +7,6 @@ use Rattle.rational.proofs.Order.{le_of_lt}
 use Rattle.rational.proofs.TimeLemmas.{precedes_le}
 use Rattle.stl_syntax.specs.Trace.{Trace, start}
 use Rattle.stl_syntax.specs.Formula.{HasChildrenBelow, subformula}
-use Rattle.stl_syntax.specs.Early.{Settled, SettledNot}
 use Rattle.stl_syntax.specs.WellFormed.{AreWellFormed}
 use Rattle.stl_syntax.specs.declared.node.Node.{Node}
 use Rattle.stl_syntax.specs.declared.node.Node.TheVariants.{Const, Atom as Leaf, Not, And, Or, Implies, Until, Eventually, Always, Since, Once, Historically}
@@ -19,8 +18,8 @@ use Rattle.early_verdict.specs.Fitting.{Lists, lists_at, no_of, nothing, yes_of,
 use Rattle.early_verdict.specs.Fitting.{ConjunctionFits, DisjunctionFits, ImplicationFits, UntilFits, SinceFits}
 use Rattle.early_verdict.specs.Fitting.{EventuallyFits, AlwaysFits, OnceFits, HistoricallyFits, AreSetsTidy}
 use Rattle.early_verdict.specs.Standing.{AllFit, AllTidy, HasParts, left_of}
-use Rattle.early_verdict.specs.Living.{AreLive, IsLive, IsNarrowed, IsShown, Known, LooksAt, LooksBack, NetStands}
-use Rattle.early_verdict.specs.Letting.{AreApart, AreAskedBy, AreInside, AreLess, IsChild, IsInside, IsLess, IsRun, IsSettledAt, IsUntil}
+use Rattle.early_verdict.specs.Living.{IsLive, IsNarrowed, IsShown, Known, LooksAt, LooksBack, NetStands}
+use Rattle.early_verdict.specs.Letting.{AreApart, AreAskedBy, AreInside, AreLess, IsChild, IsLess, IsRun, IsSettledAt, IsUntil}
 use Rattle.early_verdict.specs.declared.stretch.Stretch.{Stretch}
 use Rattle.early_verdict.specs.declared.grown.Grown.{Grown}
 use Rattle.early_verdict.specs.declared.sets.Sets.{Sets}

@@ -7,12 +7,10 @@ use Rattle.stl_syntax.specs.Formula.{HasChildrenBelow}
 use Rattle.stl_syntax.specs.declared.node.Node.{Node}
 use Rattle.stl_syntax.specs.declared.node.Node.TheVariants.{Const, Atom as Leaf, Not, And, Or, Implies, Until, Eventually, Always, Since, Once, Historically}
 use Rattle.atom_lines.specs.Binding.{Binding}
-use Rattle.rational.specs.Time.{Rational, ◌≤ʳ◌}
-use Rattle.early_verdict.specs.Spans.{IsOn, Lies}
+use Rattle.early_verdict.specs.Spans.{Lies}
 use Rattle.early_verdict.specs.Fitting.{Lists, Fits, HasStepped, HadLists, HasFailBounds, AreSetsTidy, lists_at, nothing}
 use Rattle.early_verdict.specs.Happening.{Had, Happens, Was}
 use Rattle.early_verdict.specs.Standing.{AllGo, AllTidy, AllWere, HadAll, HasParts, LeafGoes, StepsAt, SteppedTo, left_of}
-use Rattle.early_verdict.specs.Showing.{TakesIn}
 use Rattle.early_verdict.specs.Living.{AreLive, HasShown, IsLive, ShowsAt, ShownTo}
 use Rattle.early_verdict.specs.declared.event.Event.{Event}
 use Rattle.early_verdict.specs.declared.stretch.Stretch.{Stretch}

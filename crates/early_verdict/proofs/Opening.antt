@@ -1,7 +1,7 @@
 -- What is known while nothing is decided.
 use Rattle.std.proofs.Common.{◌≡◌, refl, sym, ap, subst, ◌∙◌, ℕ, ◌<◌, Bool, true, Option, Some, None, List, [], ◌∷◌, ◌++◌, length, take, drop}
 use Rattle.std.specs.Prelude.{IfSome}
-use Rattle.stl_syntax.specs.Trace.{Header, Row, Trace, AreRows, row_time, start}
+use Rattle.stl_syntax.specs.Trace.{Header, Row, AreRows}
 use Rattle.stl_syntax.specs.Formula.{Formula, root}
 use Rattle.atom_lines.specs.Binding.{Binding}
 use Rattle.early_verdict.specs.Living.{ComesOn, NetStands}

@@ -1,5 +1,5 @@
 -- Lists that let go of their first stretches, and those that take in what others gained.
-use Rattle.std.proofs.Common.{◌≡◌, ◌⊎◌, inl, inr, sym, subst, zero, Some, None, List, [], ◌∷◌, drop, length, ◌<◌, arith}
+use Rattle.std.proofs.Common.{◌≡◌, ◌⊎◌, inl, inr, sym, subst, Some, None, List, [], ◌∷◌, drop, length, ◌<◌, arith}
 use Rattle.std.specs.Prelude.{◌↔◌, slice_get, slice_index_or, slice_set}
 use Rattle.rational.specs.Time.{Rational}
 use Rattle.early_verdict.specs.Cuts.{Place, place, After, Upto, Before}

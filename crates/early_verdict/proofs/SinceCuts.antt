@@ -1,5 +1,5 @@
 -- A since whose sets between go on from a time on fits what its operands show from as far back as it looks from there.
-use Rattle.std.proofs.Common.{◌≡◌, ◌⊎◌, inl, inr, sym, subst, ℕ, ◌≤◌, true, Some, arith}
+use Rattle.std.proofs.Common.{inl, inr, sym, subst, ℕ, ◌≤◌, Some, arith}
 use Rattle.rational.specs.Time.{Rational, later, ◌≤ʳ◌}
 use Rattle.rational.proofs.Order.{le_trans}
 use Rattle.rational.proofs.TimeLemmas.{later_from, later_more}

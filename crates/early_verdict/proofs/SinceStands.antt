@@ -1,5 +1,5 @@
 -- What stands goes on to stand, where a since lets go of the times before its own, and its operands of those before it looks back.
-use Rattle.std.proofs.Common.{◌≡◌, ◌≢◌, ◌⊎◌, inl, inr, refl, sym, ap, subst, ◌∙◌, ℕ, ◌<◌, ◌≤◌, Bool, true, false, Option, Some, None, List, length, arith}
+use Rattle.std.proofs.Common.{◌≡◌, ◌⊎◌, inl, inr, refl, sym, subst, ◌∙◌, ℕ, ◌<◌, ◌≤◌, true, false, Option, Some, None, List, length, arith}
 use Rattle.std.specs.Prelude.{MatchOption, IsSome, slice_get, slice_index_or}
 use Rattle.rational.specs.Time.{Rational, later, ◌≤ʳ◌}
 use Rattle.rational.proofs.Order.{le_refl, le_trans}
@@ -15,7 +15,6 @@ use Rattle.early_verdict.specs.Spans.{IsOn, Lies}
 use Rattle.early_verdict.specs.Steps.{Tells}
 use Rattle.early_verdict.specs.Fitting.{Lists, lists_at, lists_of, ArePartsTidy, AreSetsTidy, HasFailBounds}
 use Rattle.early_verdict.specs.Fitting.{IsTidy, SayOfParts, SinceFits, SinceHolding, SinceFailing}
-use Rattle.early_verdict.specs.Standing.{HasParts}
 use Rattle.early_verdict.specs.Living.{IsLive, IsShown, NetStands, ReachesBack}
 use Rattle.early_verdict.specs.Letting.{AreLess, ArePartsCut, ArePartsInside, IsAskedFrom, IsChild, IsFailingCut}
 use Rattle.early_verdict.specs.Letting.{IsFailingInside, IsHoldingCut, IsHoldingInside, IsInside, IsLess, IsRunCutAt}

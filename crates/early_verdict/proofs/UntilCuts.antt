@@ -1,20 +1,15 @@
 -- An until whose sets between go on from a time on fits what its operands show from there on.
-use Rattle.std.proofs.Common.{◌≡◌, ◌⊎◌, inl, inr, sym, ap, subst, ◌∙◌, ℕ, Bool, true, false, Option, Some, None}
-use Rattle.std.specs.Prelude.{MatchOption}
-use Rattle.rational.specs.Time.{Rational, later, ◌≤ʳ◌}
+use Rattle.std.proofs.Common.{inl, inr, sym, subst, ℕ, false}
+use Rattle.rational.specs.Time.{Rational, ◌≤ʳ◌}
 use Rattle.rational.proofs.Order.{le_trans}
 use Rattle.rational.proofs.TimeLemmas.{later_from}
-use Rattle.stl_syntax.specs.Trace.{Trace, start}
-use Rattle.stl_syntax.specs.Early.{OpenAhead}
+use Rattle.stl_syntax.specs.Trace.{Trace}
 use Rattle.early_verdict.specs.Spans.{IsOn, Lies}
 use Rattle.early_verdict.specs.Reaching.{GoesOn, GoesTo}
-use Rattle.early_verdict.specs.Readings.{SomeAhead, OnlyAhead}
-use Rattle.early_verdict.specs.Fitting.{Lists, Says, SayOfParts, UntilHolding, UntilFailing, sure_place}
-use Rattle.early_verdict.specs.Letting.{IsCutAt, IsCutTo, IsFailingCut, IsHoldingCut}
+use Rattle.early_verdict.specs.Fitting.{Lists, UntilHolding, UntilFailing, sure_place}
+use Rattle.early_verdict.specs.Letting.{IsCutAt, IsFailingCut, IsHoldingCut}
 use Rattle.early_verdict.specs.declared.stretch.Stretch.{Stretch}
 use Rattle.early_verdict.specs.declared.grown.Grown.{Grown}
-use Rattle.early_verdict.specs.declared.sets.Sets.{Sets}
-use Rattle.early_verdict.specs.declared.sets.Parts.{Parts}
 use Rattle.early_verdict.specs.declared.sets.Holding.{Holding}
 use Rattle.early_verdict.specs.declared.sets.Failing.{Failing}
 use Rattle.early_verdict.proofs.UntilSets.{later_zero_out}

@@ -1,7 +1,7 @@
 -- What stands goes on to stand, where an until and its operands let go of the times before its own.
-use Rattle.std.proofs.Common.{◌≡◌, ◌≢◌, ◌⊎◌, inl, inr, refl, sym, ap, subst, ◌∙◌, ℕ, ◌<◌, Bool, true, false, Option, Some, None, List, length, arith}
+use Rattle.std.proofs.Common.{◌≡◌, ◌⊎◌, inl, inr, refl, sym, subst, ◌∙◌, ℕ, ◌<◌, true, false, Option, Some, None, List, length, arith}
 use Rattle.std.specs.Prelude.{MatchOption, IsSome, slice_get}
-use Rattle.rational.specs.Time.{Rational, later, ◌≤ʳ◌}
+use Rattle.rational.specs.Time.{Rational, ◌≤ʳ◌}
 use Rattle.rational.proofs.Order.{le_refl, le_trans}
 use Rattle.rational.proofs.TimeLemmas.{later_from}
 use Rattle.stl_syntax.specs.Trace.{Trace, start}
@@ -14,8 +14,7 @@ use Rattle.early_verdict.specs.Spans.{IsOn, Lies}
 use Rattle.early_verdict.specs.Steps.{Tells}
 use Rattle.early_verdict.specs.Fitting.{Lists, lists_at, lists_of, ArePartsTidy, AreSetsTidy, HasFailBounds}
 use Rattle.early_verdict.specs.Fitting.{IsTidy, SayOfParts, UntilFits, UntilHolding, UntilFailing}
-use Rattle.early_verdict.specs.Standing.{HasParts}
-use Rattle.early_verdict.specs.Living.{IsLive, LooksAt, NetStands, ReachesAhead}
+use Rattle.early_verdict.specs.Living.{IsLive, NetStands, ReachesAhead}
 use Rattle.early_verdict.specs.Letting.{AreAskedBy, ArePartsCut, ArePartsInside, IsChild, IsFailingCut, IsFailingInside}
 use Rattle.early_verdict.specs.Letting.{IsHoldingCut, IsHoldingInside, IsInside, IsLess, IsRunCutAt, ShowsFrom}
 use Rattle.early_verdict.specs.declared.stretch.Stretch.{Stretch}

@@ -1,11 +1,10 @@
 -- What a refusal of a walk tells: two pieces that count together and cross.
-use Rattle.std.proofs.Common.{◌≡◌, ◌⊎◌, inl, inr, ◌^◌, ℕ, Option, None, Some, Result, Ok, Err, List, [], ◌∷◌, refl, sym, ap, subst}
+use Rattle.std.proofs.Common.{◌≡◌, ◌⊎◌, inl, inr, ℕ, Option, None, Some, Result, Ok, Err, List, [], ◌∷◌, refl, sym, subst}
 use Rattle.std.specs.Prelude.{IfSome, MatchOption, OnErr}
-use Rattle.rational.specs.Time.{Rational, Within, ◌≤ʳ◌, ◌<ʳ◌, ◌≈◌}
-use Rattle.rational.specs.Extended.{Extended, Affine, value_at, ◌≤ᵉ◌, ◌≈ᵉ◌}
+use Rattle.rational.specs.Time.{Rational, ◌≤ʳ◌, ◌<ʳ◌, ◌≈◌}
+use Rattle.rational.specs.Extended.{Extended, value_at, ◌≤ᵉ◌, ◌≈ᵉ◌}
 use Rattle.rational.specs.Affine.{MeetAlone}
 use Rattle.rational.proofs.Order.{le_refl, le_trans, le_of_lt, le_of_same, ge_of_same, lt_of_le_of_lt, lt_of_lt_of_le, not_lt_of_le}
-use Rattle.rational.proofs.ExtendedLemmas.{le_transᵉ}
 use Rattle.rational.proofs.AffineLemmas.{same_reflᵉ, same_symᵉ, lies_between}
 use Rattle.frac128.specs.Value.{value}
 use Rattle.frac128.specs.declared.frac.Frac.{Frac}
@@ -23,9 +22,9 @@ use Rattle.envelope.specs.declared.course.Course.{Course}
 use Rattle.envelope.specs.declared.walk.Item.{Item}
 use Rattle.envelope.specs.declared.walk.Walk.{Walk}
 use Rattle.pl_signal.specs.declared.faults.OpFault.{OpFault}
-use Rattle.envelope.specs.Turns.{HasCome, IsToCome, IsNoBetter, none_of}
+use Rattle.envelope.specs.Turns.{IsToCome, IsNoBetter, none_of}
 use Rattle.envelope.specs.Best.{Has, IsBestFault, IsCrossingOf}
-use Rattle.envelope.specs.Course.{EndsBefore, IsAlone, IsCourseFault, IsEndFault, IsOpenFault, IsReady, IsSettledTo, first_time}
+use Rattle.envelope.specs.Course.{EndsBefore, IsCourseFault, IsEndFault, IsOpenFault, IsReady, IsSettledTo, first_time}
 use Rattle.envelope.specs.Standing.{Part, Counts, IsOneOf, IsPieceOn, IsNone, IsCarried, FirstStays, NothingLeaves, GoesTo, Leaves, Stands}
 use Rattle.envelope.specs.Walking.{IsCrossingOn, IsPiecesFault, IsRefusal, IsRefusedFor, IsStoppedBy}
 use Rattle.envelope.proofs.Bests.{no_better_trans}

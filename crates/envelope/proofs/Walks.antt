@@ -1,11 +1,11 @@
 -- How the calls of a walk change which pieces it stands for.
-use Rattle.std.proofs.Common.{◌≡◌, ◌⊎◌, inl, inr, ◌^◌, Option, None, Some, Result, Ok, Err, List, [], ◌∷◌, true, false, refl, sym, ap, ◌∙◌, subst}
+use Rattle.std.proofs.Common.{◌≡◌, inl, inr, ◌^◌, Option, None, Some, Result, Ok, Err, List, [], ◌∷◌, false, refl, sym, ap, ◌∙◌, subst}
 use Rattle.std.specs.Prelude.{IfErr, IfOk, IfSome, MatchOption}
 use Rattle.rational.specs.Rational.{IsWithin}
-use Rattle.rational.specs.Time.{Rational, Within, ◌≤ʳ◌, ◌<ʳ◌, ◌≈◌}
+use Rattle.rational.specs.Time.{Rational, ◌≤ʳ◌, ◌<ʳ◌, ◌≈◌}
 use Rattle.rational.specs.Extended.{Extended, value_at, Passes, ◌≈ᵉ◌}
 use Rattle.rational.proofs.AffineLemmas.{same_transᵉ}
-use Rattle.rational.specs.Affine.{HasBoundedLevel, IsBounded}
+use Rattle.rational.specs.Affine.{IsBounded}
 use Rattle.rational.proofs.Order.{le_refl, le_trans, le_of_same, lt_of_lt_of_le}
 use Rattle.frac128.specs.Value.{value}
 use Rattle.frac128.specs.declared.frac.Frac.{Frac}
@@ -23,18 +23,18 @@ use Rattle.envelope.specs.declared.course.Course.{Course}
 use Rattle.envelope.specs.declared.walk.Item.{Item}
 use Rattle.envelope.specs.declared.walk.Slope.{Slope}
 use Rattle.envelope.specs.declared.walk.Walk.{Walk}
-use Rattle.envelope.specs.Turns.{HasCome, IsToCome, IsNoBetter, none_of}
+use Rattle.envelope.specs.Turns.{HasCome, IsNoBetter, none_of}
 use Rattle.envelope.specs.Best.{Has, IsBestAt}
-use Rattle.envelope.specs.Course.{EndsBefore, HasPart, HaveLevels, IsAlone, IsSettled, IsSettledShape, IsSettledTo, IsTold, Turns, first_time}
-use Rattle.envelope.specs.Standing.{Part, Counts, IsOneOf, IsBestOf, IsNone, IsItem, IsSlope, AreItems, CanGoOn}
-use Rattle.envelope.specs.Standing.{EachFollowed, EachToCome, Follows, IsFollowed, IsFalling, IsNewItem, Admits}
-use Rattle.envelope.specs.Standing.{Leaves, NothingLeaves, SlopeEndsBy, Stands, piece_of, pieces_with, slope_until}
-use Rattle.envelope.specs.Walking.{CanTake, Climbed, EachEnds, EachLeavesBy, EndsWalk, Finishes, IsCrossingOn}
-use Rattle.envelope.specs.Walking.{IsEnvelope, IsPiecesFault, IsRefusal, IsRefusedFor, IsStoppedBy, LeavesBy}
-use Rattle.envelope.specs.Walking.{StopsAt, Took, TurnsHigh, Walks, climbed_until, climbing, last_turn}
+use Rattle.envelope.specs.Course.{EndsBefore, HasPart, HaveLevels, IsAlone, IsSettled, IsSettledShape, IsSettledTo, IsTold, first_time}
+use Rattle.envelope.specs.Standing.{Part, Counts, IsOneOf, IsBestOf, IsNone, IsSlope, AreItems, CanGoOn}
+use Rattle.envelope.specs.Standing.{EachFollowed, EachToCome, IsFollowed, IsFalling, IsNewItem, Admits}
+use Rattle.envelope.specs.Standing.{SlopeEndsBy, Stands, piece_of, pieces_with, slope_until}
+use Rattle.envelope.specs.Walking.{CanTake, Climbed, EachEnds, EachLeavesBy, EndsWalk, Finishes}
+use Rattle.envelope.specs.Walking.{IsPiecesFault, IsRefusal, IsRefusedFor, IsStoppedBy, LeavesBy}
+use Rattle.envelope.specs.Walking.{Took, TurnsHigh, Walks, climbed_until, climbing, last_turn}
 use Rattle.envelope.proofs.TurnOrder.{at_most_of_come}
-use Rattle.envelope.proofs.Bests.{no_better_back, no_better_refl, no_better_same, no_better_trans, same_of_both}
-use Rattle.envelope.proofs.Standings.{first_stays, low_stays, none_below}
+use Rattle.envelope.proofs.Bests.{no_better_back, no_better_same, same_of_both}
+use Rattle.envelope.proofs.Standings.{first_stays, low_stays}
 use Rattle.envelope.proofs.Sliding.{none_bounded}
 use Rattle.envelope.proofs.Taking.{at_most_to_come, each_to_come}
 use Rattle.envelope.proofs.Climbing.{climb_stands, end_stands}

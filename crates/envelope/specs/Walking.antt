@@ -1,7 +1,6 @@
 -- A walk as its caller sees it: which pieces it stands for, when it can take another, the signal that it ends with, and what it is
 -- refused for.
-use Rattle.std.specs.Prelude.{◌≡◌, ◌⊎◌, ◌^◌, ◌≤◌, List, [], ◌∷◌, Option, Some, None, IfSome, true, ℕ}
-use Rattle.rational.specs.Rational.{IsWithin}
+use Rattle.std.specs.Prelude.{◌≡◌, ◌⊎◌, ◌^◌, ◌≤◌, List, [], ◌∷◌, Option, Some, None, IfSome, ℕ}
 use Rattle.rational.specs.Time.{Rational, ◌≤ʳ◌, ◌<ʳ◌, ◌≈◌, HasDenominator}
 use Rattle.rational.specs.Extended.{Extended}
 use Rattle.rational.specs.Affine.{HasBoundedLevel, MeetAlone}
@@ -15,11 +14,9 @@ use Rattle.pl_signal.specs.declared.faults.WidePair.TheVariants.{Cross, Value}
 use Rattle.pl_signal.specs.declared.faults.OpFault.{OpFault}
 use Rattle.pl_signal.specs.declared.faults.OpFault.TheVariants as F
 use Rattle.pl_signal.specs.Knots.{start, stop, HasShape, IsSignal, IsWorth}
-use Rattle.envelope.specs.declared.best.Best.{Best}
 use Rattle.envelope.specs.declared.turns.Turn.{Turn}
 use Rattle.envelope.specs.declared.course.Course.{Course}
 use Rattle.envelope.specs.declared.walk.Item.{Item}
-use Rattle.envelope.specs.declared.walk.Slope.{Slope}
 use Rattle.envelope.specs.declared.walk.Walk.{Walk}
 use Rattle.envelope.specs.Turns.{HasCome}
 use Rattle.envelope.specs.Course.{Ends, Turns, first_time}

@@ -1,8 +1,8 @@
 -- The window of a node without a far bound: the best over it is the node's margin, and what is in play in it is in play at the node.
-use Rattle.std.proofs.Common.{◌≡◌, ◌⊎◌, inl, inr, ℕ, ◌^◌, Bool, true, false, refl, sym, subst, arith, Option, Some, None, ℤ, pos, ◌<ℤ◌}
-use Rattle.std.specs.Prelude.{IfSome, neg_ℤ}
+use Rattle.std.proofs.Common.{◌≡◌, ◌⊎◌, inl, inr, ℕ, ◌^◌, Bool, true, false, sym, subst, arith, Some, None, ℤ, pos}
+use Rattle.std.specs.Prelude.{neg_ℤ}
 use Rattle.std.proofs.lemmas.Int.{ints}
-use Rattle.rational.specs.Time.{Rational, Within, Precedes, shifted, later, whole, ◌≈◌, ◌≤ʳ◌, ◌<ʳ◌}
+use Rattle.rational.specs.Time.{Rational, shifted, whole, ◌≤ʳ◌, ◌<ʳ◌}
 use Rattle.rational.specs.Extended.{Affine, Extended, minus_infinity, infinity}
 use Rattle.rational.specs.InPlay.{IsEndBehind, IsInPlay, IsLeftLimit, IsRightLimit, window_behind}
 use Rattle.rational.specs.Windows.{Function, Behind}
@@ -11,18 +11,17 @@ use Rattle.rational.proofs.Shift.{lt_whole}
 use Rattle.rational.proofs.WindowLemmas.{inf_over_alike, sup_over_alike}
 use Rattle.pl_signal.specs.declared.joining.Side.{Side}
 use Rattle.pl_signal.specs.declared.joining.Side.TheVariants.{Least, Greatest}
-use Rattle.window_ops.specs.Over.{IsBestOver}
 use Rattle.window_ops.proofs.AheadOver.{shifted_pos}
 use Rattle.window_ops.proofs.BehindOver.{back_before, before_back, none_so_far}
 use Rattle.stl_syntax.specs.Trace.{Trace, start, stop}
-use Rattle.stl_syntax.specs.Formula.{Subformula, historically, once, tree_of}
+use Rattle.stl_syntax.specs.Formula.{Subformula, tree_of}
 use Rattle.stl_syntax.specs.SupInf.{Robustness, margin_setting}
 use Rattle.stl_syntax.specs.WideCause.{IsInPlayAt}
 use Rattle.stl_syntax.specs.declared.node.Node.{Node}
 use Rattle.stl_syntax.specs.declared.node.Node.TheVariants as N
 use Rattle.online_nodes.specs.StreamedWide.{BehindConstant, IsSettledConstant, front_at}
 use Rattle.online_robust.specs.Standing.{IsPastOf, past_window}
-use Rattle.online_robust.specs.Windows.{Holds, InPlayOver, closed}
+use Rattle.online_robust.specs.Windows.{Holds, InPlayOver}
 use Rattle.online_robust.specs.declared.window.Window.{Window}
 use Rattle.online_robust.proofs.BestWindows.{SettledOver, best_over}
 

@@ -1,16 +1,13 @@
 -- The window of a node: the best over it is the node's margin, and what is in play in it is in play at the node.
-use Rattle.std.proofs.Common.{◌≡◌, inl, inr, ℕ, Bool, true, false, refl, sym, ap, subst, Option, Some, None, ℤ, pos}
-use Rattle.std.specs.Prelude.{◌⊎◌, ◌^◌, IfSome, neg_ℤ}
-use Rattle.rational.specs.Time.{Rational, Within, Precedes, shifted, later, whole, ◌≈◌, ◌≤ʳ◌, ◌<ʳ◌}
+use Rattle.std.proofs.Common.{◌≡◌, inl, inr, ℕ, Bool, true, false, sym, subst, Some, None, ℤ, pos}
+use Rattle.std.specs.Prelude.{◌⊎◌, neg_ℤ}
+use Rattle.rational.specs.Time.{Rational, shifted, later, whole, ◌<ʳ◌}
 use Rattle.rational.specs.Extended.{Affine, Extended, minus_infinity, infinity}
-use Rattle.rational.specs.InPlay.{IsInPlay, IsEndPart, IsLimitWithin, IsValueWithin, IsLeftLimit}
-use Rattle.rational.specs.InPlay.{IsRightLimit, IsWideCrossing, IsWideValue, window_ahead, window_behind}
-use Rattle.rational.specs.Windows.{Function, Ahead, Behind, IsInfOver, IsSupOver}
+use Rattle.rational.specs.InPlay.{IsInPlay, IsLimitWithin, IsValueWithin, IsLeftLimit}
+use Rattle.rational.specs.InPlay.{IsRightLimit, window_ahead, window_behind}
+use Rattle.rational.specs.Windows.{Function, Ahead, Behind}
 use Rattle.rational.proofs.Order.{le_of_same, ge_of_same, lt_of_le_of_lt, lt_of_lt_of_le}
 use Rattle.rational.proofs.WindowLemmas.{inf_over_alike, sup_over_alike}
-use Rattle.frac128.specs.Value.{value}
-use Rattle.value_laws.specs.Margins.{margin_function}
-use Rattle.value_laws.specs.declared.margin.Margin.{Margin}
 use Rattle.pl_signal.specs.declared.joining.Side.{Side}
 use Rattle.pl_signal.specs.declared.joining.Side.TheVariants.{Least, Greatest}
 use Rattle.window_ops.specs.Over.{IsBestOver}

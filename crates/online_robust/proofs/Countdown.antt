@@ -3,7 +3,7 @@ use Rattle.std.proofs.Common.{◌≡◌, ◌⊎◌, inl, inr, ℕ, ◌+◌, ◌-
 use Rattle.std.proofs.Common.{length, Option, Some, None, refl, sym, ap, subst, ◌∙◌, get_or, slice_get, arith}
 use Rattle.std.specs.Prelude.{MatchBool, MatchOption, OnOk, Result, Ok, Err, if◌then◌else◌}
 use Rattle.std.proofs.lemmas.List.{get_or-set_same, length-append, length-drop, length-set}
-use Rattle.rational.specs.Time.{Rational, less, shifted, ◌≈◌, ◌≤ʳ◌, ◌<ʳ◌}
+use Rattle.rational.specs.Time.{Rational, less, shifted, ◌≤ʳ◌, ◌<ʳ◌}
 use Rattle.rational.proofs.Order.{le_of_same, le_refl}
 use Rattle.rational.proofs.TimeLemmas.{less_in, less_no}
 use Rattle.frac128.specs.Value.{value}

@@ -1,14 +1,12 @@
 -- The operator of a window's node before it gave out anything.
-use Rattle.std.proofs.Common.{◌≡◌, inl, inr, ℕ, Bool, true, false, [], refl, sym, ap, subst, ◌∙◌, arith, Option, Some, None, ℤ, pos}
-use Rattle.std.specs.Prelude.{neg_ℤ, if◌then◌else◌}
+use Rattle.std.proofs.Common.{◌≡◌, inl, inr, refl, sym, ap, subst, arith, Some, None, pos}
+use Rattle.std.specs.Prelude.{neg_ℤ}
 use Rattle.std.proofs.lemmas.Int.{ints}
-use Rattle.stl_syntax.specs.Trace.{Trace}
 use Rattle.stl_syntax.specs.declared.node.Node.{Node}
 use Rattle.stl_syntax.specs.declared.node.Node.TheVariants as N
-use Rattle.online_robust.specs.Standing.{IsInstantOf, IsPastOf, IsWindowOf, IsWindowOperator, Stands, instant_of}
+use Rattle.online_robust.specs.Standing.{IsInstantOf, IsPastOf, IsWindowOf, IsWindowOperator, instant_of}
 use Rattle.online_robust.specs.Turns.{IsFirstOperator, IsLeaf}
-use Rattle.online_robust.specs.Waiting.{endless_of, lazy_of}
-use Rattle.online_robust.specs.declared.glance.Moved.{Moved}
+use Rattle.online_robust.specs.Waiting.{endless_of}
 use Rattle.online_robust.specs.declared.operator.Operator.{Operator}
 use Rattle.online_robust.specs.declared.operator.Operator.TheVariants as Op
 use Rattle.online_robust.specs.declared.window.Window.{Window}

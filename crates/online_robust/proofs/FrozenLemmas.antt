@@ -1,13 +1,12 @@
 -- The best of two limits and a value at a time.
-use Rattle.std.proofs.Common.{◌≡◌, ◌⊎◌, inl, inr, ℕ, ◌^◌, refl, sym, ap, subst, ◌∙◌, false}
+use Rattle.std.proofs.Common.{◌≡◌, ◌⊎◌, inl, inr, ◌^◌, sym, subst, ◌∙◌, false}
 use Rattle.rational.specs.Time.{Rational}
-use Rattle.rational.specs.Extended.{Extended, value_at, ◌≈ᵉ◌}
+use Rattle.rational.specs.Extended.{value_at, ◌≈ᵉ◌}
 use Rattle.rational.specs.Affine.{IsBounded}
 use Rattle.value_laws.specs.Margins.{is_ramp, margin_function}
 use Rattle.value_laws.specs.declared.margin.Margin.{Margin}
 use Rattle.pl_signal.specs.declared.joining.Side.{Side}
 use Rattle.pl_signal.specs.Joining.{IsChosen}
-use Rattle.envelope.specs.Turns.{IsNoBetter}
 use Rattle.envelope.proofs.Bests.{chosen_better, no_better_trans}
 use Rattle.online_robust.specs.Sweeping.{IsFrozen}
 

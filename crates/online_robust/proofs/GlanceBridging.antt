@@ -1,12 +1,11 @@
 -- From what an operator needs before it goes on to what a window of one instant needs, and back from what it leaves.
 use Rattle.std.proofs.Common.{◌≡◌, ◌⊎◌, inl, inr, ℕ, zero, suc, ◌+◌, ◌<◌, ◌≤◌, Bool, true, false, List, [], ◌∷◌, length}
 use Rattle.std.proofs.Common.{drop, refl, sym, ap, subst, ◌∙◌, arith, Option, Some, None, ℤ, pos, ◌+ℤ◌, ◌<ℤ◌, ◌≤ℤ◌}
-use Rattle.std.specs.Prelude.{MatchBool, IfSome, IsSome, int_lt, cond, neg_ℤ, slice_get}
+use Rattle.std.specs.Prelude.{MatchBool, IfSome, IsSome, int_lt, cond, slice_get}
 use Rattle.std.proofs.lemmas.Int.{ints}
-use Rattle.rational.specs.Rational.{add}
 use Rattle.rational.specs.Time.{Rational, shifted, whole, ◌≈◌, ◌≤ʳ◌, ◌<ʳ◌}
 use Rattle.rational.specs.Windows.{Function}
-use Rattle.rational.proofs.Order.{le_refl, le_trans, le_of_lt, le_of_same, ge_of_same, lt_of_le_of_lt}
+use Rattle.rational.proofs.Order.{le_trans, le_of_same, ge_of_same, lt_of_le_of_lt}
 use Rattle.rational.proofs.Order.{lt_of_lt_of_le, not_lt_of_le, same_refl, same_sym, same_trans}
 use Rattle.rational.proofs.Shift.{le_whole, lt_whole}
 use Rattle.rational.proofs.TimeLemmas.{same_shifted}
@@ -14,11 +13,10 @@ use Rattle.frac128.specs.Value.{value}
 use Rattle.value_laws.specs.Kinds.{margin_shape}
 use Rattle.value_laws.specs.declared.margin.Margin.{Margin}
 use Rattle.pl_signal.specs.declared.knot.Knot.{Knot}
-use Rattle.pl_signal.specs.Moves.{Tells}
 use Rattle.pl_signal.proofs.Telling.{told}
 use Rattle.pl_signal.proofs.Values.{some_is}
 use Rattle.window_ops.proofs.Ends.{le_shifted}
-use Rattle.stl_syntax.specs.Trace.{Trace, start, stop, last_time}
+use Rattle.stl_syntax.specs.Trace.{start, stop, last_time}
 use Rattle.stl_syntax.specs.Formula.{Subformula, subformula, horizon, tree_of}
 use Rattle.stl_syntax.specs.SupInf.{Robustness}
 use Rattle.stl_syntax.specs.Limits.{own_reach}
@@ -29,18 +27,17 @@ use Rattle.online_nodes.specs.Needed.{IsReader}
 use Rattle.online_nodes.specs.StreamedWide.{front_at}
 use Rattle.online_nodes.proofs.RunLaw.{int_order}
 use Rattle.online_robust.specs.Lines.{end_of}
-use Rattle.online_robust.specs.Held.{Edge, Held, edge_at, held_at, held_of}
-use Rattle.online_robust.specs.Told.{IsMovedBy, IsTick}
+use Rattle.online_robust.specs.Held.{Held, edge_at, held_at, held_of}
+use Rattle.online_robust.specs.Told.{IsMovedBy}
 use Rattle.online_robust.specs.Reading.{HasReached, IsStretch, LosesAt}
-use Rattle.online_robust.specs.Glances.{AreToSee, before, within, unseen, CanGlance, Glance, HasGlanced, IsGlanceAt, IsOffset, IsOwnOffset, glance_of}
+use Rattle.online_robust.specs.Glances.{AreToSee, before, within, unseen, CanGlance, Glance, HasGlanced, IsGlanceAt, IsOffset, glance_of}
 use Rattle.online_robust.specs.Standing.{HasStood, IsInstantOf, instant_margin}
 use Rattle.online_robust.specs.Turns.{Turn, Belongs, AreInputs, AreLeft, HasSwept, IsCut, IsInput, IsSwept, StandsNow, back_of, begin_of, from_of, reach_before}
 use Rattle.online_robust.specs.declared.line.MarginLine.{MarginLine}
-use Rattle.online_robust.specs.declared.line.MarginLine.TheVariants.{Point, Gap}
 use Rattle.online_robust.specs.declared.line.Reached.{Reached}
 use Rattle.online_robust.specs.declared.glance.Moved.{Moved}
 use Rattle.online_robust.specs.declared.operator.Operator.TheVariants as Op
-use Rattle.online_robust.proofs.Bridging.{ahead, begins, from_none, from_some, input_within, last_to, small_to, span_from, stood_after, tick_of, tree}
+use Rattle.online_robust.proofs.Bridging.{ahead, begins, from_none, from_some, input_within, small_to, span_from, stood_after, tick_of, tree}
 use Rattle.online_robust.proofs.Builts.{tick_between}
 use Rattle.online_robust.proofs.DroppingLemmas.{held_of-without}
 use Rattle.online_robust.proofs.Looking.{front_by_stop, looks_before, shifted_whole, told_as_far}

@@ -1,50 +1,44 @@
 -- How a window of one instant goes through its input.
-use Rattle.std.proofs.Common.{◌≡◌, ◌⊎◌, inl, inr, ℕ, ◌+◌, ◌<◌, ◌≤◌, ◌^◌, ℤ, pos, Bool, true, false, List, [], ◌∷◌}
-use Rattle.std.proofs.Common.{Option, Some, None, refl, sym, ap, subst, ◌∙◌, length, drop, slice_get, arith}
-use Rattle.std.specs.Prelude.{neg_ℤ, ◌-ℤ◌, ◌+ℤ◌, ◌≤ℤ◌, ◌<ℤ◌, IsTrue, MatchBool, if◌then◌else◌}
-use Rattle.std.specs.Int.RustNames.{unsigned_abs}
+use Rattle.std.proofs.Common.{◌≡◌, ◌⊎◌, inl, inr, ℕ, ◌+◌, ◌<◌, ◌≤◌, ◌^◌, ℤ, Bool, true, false, List, [], ◌∷◌}
+use Rattle.std.proofs.Common.{Some, None, refl, sym, ap, subst, ◌∙◌, length, slice_get, arith}
+use Rattle.std.specs.Prelude.{neg_ℤ, MatchBool, if◌then◌else◌}
 use Rattle.std.proofs.lemmas.Int.{ints}
 use Rattle.std.specs.declared.cmp.Ordering.{Ordering}
 use Rattle.std.specs.declared.cmp.Ordering.TheVariants.{Less, Equal, Greater}
 use Rattle.rational.specs.Rational.{IsOrder, add, whole}
-use Rattle.rational.specs.Time.{Rational, Within, less, shifted, ◌≈◌, ◌≤ʳ◌, ◌<ʳ◌}
-use Rattle.rational.specs.Extended.{Extended, value_at, ◌≈ᵉ◌}
-use Rattle.rational.specs.Affine.{IsBounded}
+use Rattle.rational.specs.Time.{Rational, less, shifted, ◌≈◌, ◌≤ʳ◌, ◌<ʳ◌}
+use Rattle.rational.specs.Extended.{value_at, ◌≈ᵉ◌}
 use Rattle.rational.specs.Windows.{Function}
-use Rattle.rational.proofs.AffineLemmas.{bounded_same, same_symᵉ, same_transᵉ, value_same}
-use Rattle.rational.proofs.Order.{ge_of_same, le_of_lt, le_of_same, le_refl, le_trans, lt_irrefl, lt_of_le_of_lt}
+use Rattle.rational.proofs.AffineLemmas.{bounded_same, same_symᵉ, same_transᵉ}
+use Rattle.rational.proofs.Order.{ge_of_same, le_of_lt, le_of_same, le_refl, le_trans, lt_of_le_of_lt}
 use Rattle.rational.proofs.Order.{lt_of_lt_of_le, not_lt_of_le, same_refl, same_sym, same_trans}
 use Rattle.rational.proofs.TimeFunctions.{IsFunction}
 use Rattle.rational.proofs.TimeLemmas.{less_in, less_no, same_shifted, shifted-add}
 use Rattle.rational.proofs.Shift.{same_shift}
 use Rattle.frac128.specs.Value.{value}
 use Rattle.frac128.specs.declared.frac.Frac.{Frac}
-use Rattle.value_laws.specs.Margins.{is_ramp, margin_base, margin_function}
+use Rattle.value_laws.specs.Margins.{is_ramp, margin_function}
 use Rattle.value_laws.specs.declared.margin.Margin.{Margin}
-use Rattle.pl_signal.specs.declared.joining.Side.{Side}
 use Rattle.window_ops.proofs.Ends.{le_shifted, lt_shifted, lt_shifted_back, le_shifted_back, shift_forth}
 use Rattle.stl_syntax.specs.Trace.{start, stop}
 use Rattle.stl_syntax.specs.SupInf.{Robustness}
 use Rattle.online_robust.specs.Lines.{end_of, margin_of}
 use Rattle.online_robust.specs.Held.{Held, edge_at, held_at, with_edge, without}
-use Rattle.online_robust.specs.Told.{IsMovedBy, IsTick, AreJoined}
+use Rattle.online_robust.specs.Told.{IsMovedBy, IsTick}
 use Rattle.online_robust.specs.Reading.{Begins, IsAhead, IsThere, LosesAt}
 use Rattle.online_robust.specs.Glances.{AreToSee, before, within, unseen, CanStride, Glance, IsGap, IsGlanceAt, IsNothing}
-use Rattle.online_robust.specs.Glances.{IsOffset, IsOwnOffset, IsSeenAs, IsStride, glance_of, looked_at, nothing_of}
-use Rattle.online_robust.specs.Glances.{turns_left}
+use Rattle.online_robust.specs.Glances.{IsOwnOffset, IsSeenAs, IsStride, glance_of, looked_at, nothing_of}
 use Rattle.online_robust.specs.Windows.{IsShifted}
 use Rattle.online_robust.specs.declared.line.MarginLine.{MarginLine}
 use Rattle.online_robust.specs.declared.line.MarginLine.TheVariants.{Point, Gap}
-use Rattle.online_robust.specs.declared.line.Reached.{Reached}
 use Rattle.online_robust.specs.declared.glance.Moved.{Moved}
 use Rattle.online_robust.proofs.JoinedLemmas.{FirstGap, ahead_next, ahead_on, ahead_same, first_of, joined_to, there_at, there_in}
 use Rattle.online_robust.proofs.Losses.{loses_at_none, took, took_held}
-use Rattle.online_robust.proofs.PointwiseLemmas.{TakesTwo, begun_point, begun_rest, begun_some, is_gap, is_point, is_rest, two_lost}
+use Rattle.online_robust.proofs.PointwiseLemmas.{TakesTwo, begun_point, begun_rest, begun_some, is_point, is_rest, two_lost}
 use Rattle.online_robust.proofs.Spreads.{input_is_function}
 use Rattle.online_robust.proofs.TwoLemmas.{there_same}
 use Rattle.online_robust.proofs.Robustly.{robust_is_function, value_alike}
 use Rattle.online_robust.proofs.WindowBounds.{none_bounded, still_moved}
-use Rattle.online_robust.proofs.WindowStops.{base_room}
 
 -- ---- what counts
 

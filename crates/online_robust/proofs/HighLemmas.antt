@@ -1,12 +1,11 @@
 -- How the high end of a window goes on over its input.
-use Rattle.std.proofs.Common.{◌≡◌, ◌≢◌, ◌⊎◌, inl, inr, ℕ, ◌+◌, ◌-◌, ◌<◌, ◌≤◌, ◌^◌, true, false, List, [], ◌∷◌, ◌++◌, Option}
+use Rattle.std.proofs.Common.{◌≡◌, ◌≢◌, ◌⊎◌, inl, inr, ℕ, ◌+◌, ◌-◌, ◌<◌, ◌≤◌, ◌^◌, true, List, [], ◌∷◌, ◌++◌}
 use Rattle.std.proofs.Common.{Some, None, refl, sym, ap, subst, ◌∙◌, length, drop, get_or, slice_get, append_assoc, arith}
-use Rattle.std.specs.Prelude.{IfSome, MatchOption, ℤ}
+use Rattle.std.specs.Prelude.{MatchOption}
 use Rattle.std.proofs.lemmas.List.{get_or-set_other, get_or-set_same, length-set}
 use Rattle.rational.specs.Time.{Rational, shifted, ◌≈◌, ◌≤ʳ◌, ◌<ʳ◌}
 use Rattle.rational.specs.Extended.{value_at}
 use Rattle.rational.specs.Affine.{IsBounded}
-use Rattle.rational.specs.Windows.{Function}
 use Rattle.rational.proofs.Order.{ge_of_same, le_of_lt, le_of_same, le_refl, le_trans, lt_of_le_of_lt, not_lt_of_le}
 use Rattle.rational.proofs.TimeLemmas.{same_shifted}
 use Rattle.frac128.specs.Value.{value}
@@ -17,10 +16,10 @@ use Rattle.pl_signal.specs.declared.faults.OpFault.{OpFault}
 use Rattle.pl_signal.specs.declared.faults.OpFault.TheVariants as F
 use Rattle.stl_syntax.specs.Trace.{start}
 use Rattle.online_robust.specs.Lines.{end_of, margin_of, IsOneLine}
-use Rattle.online_robust.specs.Held.{Edge, Held, edge_at, fresh_at, held_at, held_of, no_edge, with_edge, with_read}
+use Rattle.online_robust.specs.Held.{Edge, Held, edge_at, fresh_at, held_of, no_edge, with_edge, with_read}
 use Rattle.online_robust.specs.Queues.{StandsFor}
 use Rattle.online_robust.specs.Told.{AreJoined}
-use Rattle.online_robust.specs.Sweeping.{EndsAt, IsBefore, IsFrozen, IsNoKnot, IsOn}
+use Rattle.online_robust.specs.Sweeping.{IsBefore, IsFrozen, IsNoKnot, IsOn}
 use Rattle.online_robust.specs.Windows.{IsAt, IsHigh, IsSpread, IsStanding, IsToCome, IsUnfixed, IsUnfixedHigh}
 use Rattle.online_robust.specs.Windows.{Scope, Sheds, gap_of, high_at, input_of, low_at, no_gap}
 use Rattle.online_robust.specs.declared.ends.Gap.{Gap}

@@ -1,17 +1,16 @@
 -- A window of one instant, or an empty one, and the margin of its node.
-use Rattle.std.proofs.Common.{◌≡◌, ◌⊎◌, inl, inr, ℕ, ◌+◌, ◌-◌, ◌≤◌, ℤ, pos, Bool, true, false, List, Option, Some, None, refl, sym, ap, subst, ◌∙◌, arith}
+use Rattle.std.proofs.Common.{◌≡◌, ◌⊎◌, inl, inr, ℕ, ◌+◌, ◌≤◌, ℤ, pos, Bool, true, false, Some, None, refl, sym, ap, subst, ◌∙◌, arith}
 use Rattle.std.specs.Prelude.{neg_ℤ, ◌+ℤ◌, ◌≤ℤ◌, MatchBool, if◌then◌else◌}
 use Rattle.std.proofs.lemmas.Int.{ints}
 use Rattle.rational.specs.Time.{Rational, Within, Precedes, later, shifted, ◌≈◌, ◌≤ʳ◌, ◌<ʳ◌}
-use Rattle.rational.specs.Extended.{Extended, minus_infinity, infinity, ◌≈ᵉ◌, ◌≤ᵉ◌, ◌<ᵉ◌}
-use Rattle.rational.specs.Windows.{Function, Window, Ahead, Behind, IsInfOver, IsSupOver}
+use Rattle.rational.specs.Extended.{Extended, minus_infinity, infinity, ◌≈ᵉ◌, ◌≤ᵉ◌}
+use Rattle.rational.specs.Windows.{Function, Window, Ahead, Behind}
 use Rattle.rational.proofs.ExtendedLemmas.{below_infinity, le_reflᵉ}
 use Rattle.rational.proofs.Order.{ge_of_same, le_of_lt, le_of_same, le_trans, lt_irrefl, lt_of_lt_of_le, not_lt_of_le, same_of_le, same_refl}
 use Rattle.rational.proofs.Sames.{symᵉ}
 use Rattle.rational.proofs.TimeLemmas.{precedes_after, precedes_before}
 use Rattle.rational.proofs.Sups.{sup_of_none, inf_of_none, sup_value_same, inf_value_same}
 use Rattle.rational.proofs.TimeFunctions.{IsFunction}
-use Rattle.envelope.specs.Turns.{none_of}
 use Rattle.pl_signal.specs.declared.joining.Side.{Side}
 use Rattle.pl_signal.specs.declared.joining.Side.TheVariants.{Least, Greatest}
 use Rattle.window_ops.specs.Over.{IsBestOver}

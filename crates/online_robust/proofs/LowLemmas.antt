@@ -1,14 +1,13 @@
 -- How the low end of a window goes on over its input.
-use Rattle.std.proofs.Common.{◌≡◌, ◌≢◌, ◌⊎◌, inl, inr, ℕ, zero, suc, ◌+◌, ◌-◌, ◌<◌, ◌≤◌, ◌^◌, Bool}
+use Rattle.std.proofs.Common.{◌≡◌, ◌⊎◌, inl, inr, ℕ, suc, ◌+◌, ◌-◌, ◌<◌, ◌≤◌, Bool}
 use Rattle.std.proofs.Common.{true, false, List, [], ◌∷◌, ◌++◌, Option, Some, None, refl, sym, ap}
-use Rattle.std.proofs.Common.{subst, ◌∙◌, length, drop, get_or, slice_get, append_assoc, arith}
-use Rattle.std.specs.Prelude.{IfSome, MatchBool, MatchOption}
+use Rattle.std.proofs.Common.{subst, ◌∙◌, length, drop, get_or, slice_get, arith}
+use Rattle.std.specs.Prelude.{MatchBool, MatchOption}
 use Rattle.std.proofs.lemmas.List.{get_or-set_same}
 use Rattle.rational.specs.Time.{Rational, shifted, ◌≈◌, ◌≤ʳ◌, ◌<ʳ◌}
-use Rattle.rational.specs.Extended.{value_at}
 use Rattle.rational.specs.Windows.{Function}
-use Rattle.rational.proofs.Order.{ge_of_same, le_of_lt, le_of_same, le_refl, le_trans, lt_of_le_of_lt}
-use Rattle.rational.proofs.Order.{lt_of_lt_of_le, lt_irrefl, not_lt_of_le, same_refl, same_sym, same_trans}
+use Rattle.rational.proofs.Order.{ge_of_same, le_of_lt, le_of_same, le_trans, lt_of_le_of_lt}
+use Rattle.rational.proofs.Order.{lt_of_lt_of_le, lt_irrefl, not_lt_of_le, same_sym, same_trans}
 use Rattle.rational.proofs.TimeLemmas.{same_shifted}
 use Rattle.frac128.specs.Value.{value}
 use Rattle.frac128.specs.declared.frac.Frac.{Frac}
@@ -18,8 +17,8 @@ use Rattle.stl_syntax.specs.Trace.{start}
 use Rattle.online_robust.specs.Lines.{end_of, margin_of, IsOneLine}
 use Rattle.online_robust.specs.Held.{Edge, Held, edge_at, fresh_at, held_at, held_of, no_edge, with_edge, without}
 use Rattle.online_robust.specs.Queues.{StandsFor}
-use Rattle.online_robust.specs.Reading.{IsThere, Loses, LosesAt}
-use Rattle.online_robust.specs.Sweeping.{AreBy, AreFrozen, AreTicks, EndsAt, IsBefore, IsFrozen, IsNoKnot, IsOn, IsUpTo, Mark, Runs, last_gap}
+use Rattle.online_robust.specs.Reading.{IsThere, LosesAt}
+use Rattle.online_robust.specs.Sweeping.{AreBy, AreFrozen, AreTicks, EndsAt, IsBefore, IsNoKnot, IsUpTo, Mark, Runs, last_gap}
 use Rattle.online_robust.specs.Windows.{AreSeen, AreStanding, IsAt, IsLow, IsSpread, IsStanding, IsToCome}
 use Rattle.online_robust.specs.Windows.{Scope, Sheds, before_start, gap_of, high_at, input_of, low_at, no_gap}
 use Rattle.online_robust.specs.declared.ends.Gap.{Gap}

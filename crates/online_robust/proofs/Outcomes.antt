@@ -1,19 +1,14 @@
 -- What counts at a time over a window is the best over it.
-use Rattle.std.proofs.Common.{◌≡◌, ◌⊎◌, inl, inr, ℕ, ℤ, pos, ◌^◌, Bool, true, false, List, [], ◌∷◌, Option, Some, None, refl, sym, ap, subst, ◌∙◌}
-use Rattle.std.specs.Prelude.{MatchOption}
-use Rattle.rational.specs.Rational.{add, whole}
-use Rattle.rational.specs.Time.{Rational, Within, Precedes, ◌≈◌, ◌≤ʳ◌, ◌<ʳ◌, shifted}
+use Rattle.std.proofs.Common.{◌≡◌, ◌⊎◌, inl, inr, ℕ, pos, Bool, true, false, List, [], ◌∷◌, Some, refl, sym, subst, ◌∙◌}
+use Rattle.rational.specs.Rational.{whole}
+use Rattle.rational.specs.Time.{Rational, Precedes, ◌≈◌, ◌≤ʳ◌, ◌<ʳ◌, shifted}
 use Rattle.rational.specs.Extended.{Extended, finite, minus_infinity, infinity, value_at, ◌≈ᵉ◌}
 use Rattle.rational.specs.Windows.{Function, Window}
-use Rattle.rational.proofs.Order.{le_refl, le_of_lt, le_of_same, ge_of_same, le_or_lt, le_trans, lt_of_le_of_lt}
-use Rattle.rational.proofs.Order.{lt_of_lt_of_le, lt_irrefl, lt_trans, not_lt_of_le, lt_or_same_or_gt, same_refl, same_sym}
-use Rattle.rational.proofs.Order.{same_trans}
-use Rattle.rational.proofs.AffineLemmas.{same_reflᵉ, value_same}
+use Rattle.rational.proofs.Order.{le_of_same, ge_of_same, le_trans, lt_of_le_of_lt}
+use Rattle.rational.proofs.Order.{lt_of_lt_of_le, lt_irrefl, not_lt_of_le, lt_or_same_or_gt}
 use Rattle.rational.proofs.Sames.{symᵉ, transᵉ}
-use Rattle.rational.proofs.TimeLemmas.{precedes_of_lt, precedes_le, shifted-add}
+use Rattle.rational.proofs.TimeLemmas.{precedes_of_lt, precedes_le}
 use Rattle.rational.proofs.TimeFunctions.{IsFunction}
-use Rattle.frac128.specs.Value.{value}
-use Rattle.frac128.specs.declared.frac.Frac.{Frac}
 use Rattle.value_laws.specs.Kinds.{margin_shape}
 use Rattle.value_laws.specs.Margins.{margin_function}
 use Rattle.value_laws.specs.declared.margin.Margin.{Margin}
@@ -22,15 +17,15 @@ use Rattle.pl_signal.specs.declared.joining.Side.TheVariants.{Least, Greatest}
 use Rattle.envelope.specs.Best.{Has, IsBestAt}
 use Rattle.envelope.specs.declared.best.Best.{Best}
 use Rattle.envelope.specs.Turns.{IsNoBetter, none_of}
-use Rattle.envelope.proofs.Bests.{no_better_same, no_better_back, no_better_trans, no_better_refl}
+use Rattle.envelope.proofs.Bests.{no_better_same, no_better_back, no_better_trans}
 use Rattle.window_ops.specs.Going.{Reaches}
 use Rattle.window_ops.specs.Over.{IsBestOver, IsWorse}
-use Rattle.window_ops.proofs.Ends.{le_shifted, lt_shifted}
+use Rattle.window_ops.proofs.Ends.{le_shifted}
 use Rattle.window_ops.proofs.Values.{worse_clash}
 use Rattle.stl_syntax.specs.Trace.{start, stop}
 use Rattle.stl_syntax.specs.SupInf.{Robustness}
-use Rattle.online_robust.specs.Queues.{constant_of, IsAmong, IsBest, IsBestOf, NoneIsBetter}
-use Rattle.online_robust.specs.Sweeping.{AreBy, AreFrozen, IsBefore, IsFrozen, IsOn, IsUpTo, Mark, Runs, last_gap, with_outside}
+use Rattle.online_robust.specs.Queues.{constant_of, IsAmong, IsBest, NoneIsBetter}
+use Rattle.online_robust.specs.Sweeping.{AreFrozen, IsBefore, IsUpTo, Mark, last_gap}
 use Rattle.online_robust.specs.Windows.{Holds, IsCore, Scope, best_of, input_of}
 use Rattle.online_robust.specs.declared.ends.Gap.{Gap}
 use Rattle.online_robust.specs.declared.window.Window.{Window as Wide}

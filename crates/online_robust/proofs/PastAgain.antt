@@ -1,8 +1,8 @@
 -- A window without a low end goes on in a later turn, or begins, over what its input has given out by then; and what it leaves of it.
 use Rattle.std.proofs.Common.{◌≡◌, ◌⊎◌, inl, inr, ℕ, zero, suc, ◌+◌, ◌<◌, ◌≤◌, ◌^◌, Bool, true, false}
 use Rattle.std.proofs.Common.{List, [], ◌∷◌, ◌++◌, length, drop, slice_get, Option, Some, None, refl}
-use Rattle.std.proofs.Common.{sym, ap, subst, ◌∙◌, arith, ℤ, pos, ◌+ℤ◌, ◌≤ℤ◌, ◌<ℤ◌, neg_ℤ}
-use Rattle.std.specs.Prelude.{◌-ℤ◌, IfSome, IsSome, IsSomeAnd, MatchBool, MatchOption, cond, int_lt}
+use Rattle.std.proofs.Common.{sym, ap, subst, ◌∙◌, arith, ℤ, pos, ◌+ℤ◌, ◌≤ℤ◌, ◌<ℤ◌}
+use Rattle.std.specs.Prelude.{IfSome, IsSome, IsSomeAnd, MatchOption, cond, int_lt}
 use Rattle.std.proofs.lemmas.Int.{ints}
 use Rattle.rational.specs.Rational.{IsWithin}
 use Rattle.rational.specs.Time.{Rational, shifted, whole, ◌≈◌, ◌≤ʳ◌, ◌<ʳ◌}
@@ -32,22 +32,20 @@ use Rattle.online_robust.specs.Sweeping.{EndsAt, IsBefore, IsOn}
 use Rattle.online_robust.specs.Told.{AreFit, AreJoined, AreTold, IsMovedBy, IsTick}
 use Rattle.online_robust.specs.Turns.{AreInputs, AreLeft, IsCut, back_of}
 use Rattle.online_robust.specs.WindowPasts.{AreKept, CanPass, HasPassed, IsFitPast, IsFollowed, IsPastAt, IsSettled, IsUnder, StoodPast}
-use Rattle.online_robust.specs.Windows.{HasTold, IsCore, IsOwned, IsSpan, IsStanding, IsToCome, Scope}
-use Rattle.online_robust.specs.Windows.{Sheds, at_time, before_start, best_of, input_of, no_gap, scope_at}
+use Rattle.online_robust.specs.Windows.{HasTold, IsCore, IsOwned, IsStanding, IsToCome, Scope}
+use Rattle.online_robust.specs.Windows.{Sheds, before_start, best_of, input_of, no_gap, scope_at}
 use Rattle.online_robust.specs.declared.ends.Gap.{Gap}
 use Rattle.online_robust.specs.declared.line.MarginLine.{MarginLine}
 use Rattle.online_robust.specs.declared.line.MarginLine.TheVariants as L
 use Rattle.online_robust.specs.declared.line.Reached.{Reached}
 use Rattle.online_robust.specs.declared.past.Past.{Past}
 use Rattle.online_robust.specs.declared.window.Window.{Window}
-use Rattle.online_robust.proofs.Builts.{tick_within}
 use Rattle.online_robust.proofs.PastLemmas.{here_is, met, u_is, v_is}
 use Rattle.online_robust.proofs.PastSteps.{settled_before}
 use Rattle.online_robust.proofs.Spreads.{bounded_on}
 use Rattle.online_robust.proofs.WindowAgain.{IsNext, back_before, fit_tail, front_gap, moved_whole, next_of, no_front, no_none, some_or_none, told_tail}
 use Rattle.online_robust.proofs.WindowBounds.{none_bounded, still_moved}
 use Rattle.online_robust.proofs.WindowPoints.{in_order}
-use Rattle.rational.proofs.Mixed.{within_same}
 
 -- the same window over an input that is told further
 core_again : (f : Subformula) (tr : Trace) (reach : ℕ) (a b c d t : Rational) (w : Window) (none : Margin) (low high : Gap)

@@ -1,24 +1,20 @@
 -- How the high end of a window without a low end goes on over its input.
-use Rattle.std.proofs.Common.{arith, ◌≡◌, ◌≢◌, ◌⊎◌, inl, inr, ℕ, ℤ, pos, neg_ℤ, ◌+◌, ◌-◌, ◌*◌, ◌<◌, ◌≤◌}
-use Rattle.std.proofs.Common.{◌^◌, ◌+ℤ◌, ◌≤ℤ◌, ◌<ℤ◌, Bool, true, false, List, [], ◌∷◌, ◌++◌, Option}
+use Rattle.std.proofs.Common.{arith, ◌≡◌, ◌⊎◌, inl, inr, ℕ, ℤ, pos, neg_ℤ, ◌+◌, ◌-◌, ◌<◌, ◌≤◌}
+use Rattle.std.proofs.Common.{◌^◌, Bool, true, false, List, [], ◌∷◌, ◌++◌, Option}
 use Rattle.std.proofs.Common.{Some, None, refl, sym, ap, subst, ◌∙◌, length, drop, slice_get, get_or}
-use Rattle.std.specs.Prelude.{◌-ℤ◌, IfSome, IsTrue, MatchBool, MatchOption}
-use Rattle.std.proofs.lemmas.Int.{ints}
+use Rattle.std.specs.Prelude.{MatchBool, MatchOption}
 use Rattle.std.proofs.lemmas.List.{get_or-set_same, length-set}
 use Rattle.std.proofs.Math.Nat.{mul-pos}
-use Rattle.rational.specs.Rational.{IsWithin}
-use Rattle.rational.specs.Time.{Rational, Within, less, shifted, whole, ◌≈◌, ◌≤ʳ◌, ◌<ʳ◌}
-use Rattle.rational.specs.Extended.{Extended, minus_infinity, infinity, value_at, ◌≈ᵉ◌}
+use Rattle.rational.specs.Time.{Rational, shifted, ◌≈◌, ◌≤ʳ◌, ◌<ʳ◌}
+use Rattle.rational.specs.Extended.{minus_infinity, infinity, value_at}
 use Rattle.rational.specs.Affine.{IsBounded}
-use Rattle.rational.specs.Windows.{Function}
-use Rattle.rational.proofs.AffineLemmas.{bounded_same, same_reflᵉ, value_same}
-use Rattle.rational.proofs.Order.{ge_of_same, le_of_lt, le_of_same, le_refl, le_trans, lt_irrefl, lt_of_le_of_lt}
-use Rattle.rational.proofs.Order.{lt_of_lt_of_le, not_lt_of_le, same_refl, same_sym, same_trans}
+use Rattle.rational.proofs.AffineLemmas.{bounded_same}
+use Rattle.rational.proofs.Order.{ge_of_same, le_of_lt, le_of_same, le_refl, le_trans, lt_of_le_of_lt}
+use Rattle.rational.proofs.Order.{lt_of_lt_of_le, not_lt_of_le, same_sym, same_trans}
 use Rattle.frac128.specs.Value.{value}
 use Rattle.frac128.specs.declared.frac.Frac.{Frac}
-use Rattle.value_laws.specs.Margins.{is_ramp, margin_base, margin_function}
+use Rattle.value_laws.specs.Margins.{margin_function}
 use Rattle.value_laws.specs.declared.margin.Margin.{Margin}
-use Rattle.pl_signal.specs.declared.joining.Side.{Side}
 use Rattle.pl_signal.specs.declared.faults.OpFault.{OpFault}
 use Rattle.pl_signal.specs.declared.faults.OpFault.TheVariants as F
 use Rattle.envelope.specs.Turns.{none_of}
@@ -28,9 +24,9 @@ use Rattle.online_robust.specs.Held.{Edge, Held, edge_at, fresh_at, held_at, hel
 use Rattle.online_robust.specs.Lines.{end_of, margin_of, IsOneLine}
 use Rattle.online_robust.specs.Queues.{IsBetterOf, IsBestOf}
 use Rattle.online_robust.specs.Reading.{IsThere, LosesAt}
-use Rattle.online_robust.specs.Sweeping.{AreBy, AreFrozen, EndsAt, IsBefore, IsFrozen, IsNoKnot, IsOn, IsUpTo, Mark, Runs, last_gap}
+use Rattle.online_robust.specs.Sweeping.{AreFrozen, EndsAt, IsBefore, IsFrozen, IsNoKnot, IsOn, IsUpTo, Mark}
 use Rattle.online_robust.specs.Told.{AreFit, AreJoined, AreTold, IsMovedBy, IsTick}
-use Rattle.online_robust.specs.WindowPasts.{AreKept, IsFitPast, IsFollowed, IsPastAt, IsSettled, IsUnder, StaysPast}
+use Rattle.online_robust.specs.WindowPasts.{AreKept, IsFollowed, IsPastAt, IsSettled, IsUnder}
 use Rattle.online_robust.specs.Windows.{IsCore, IsStanding, IsTickEnd, IsToCome, IsUnfixed, IsUnfixedUnder}
 use Rattle.online_robust.specs.Windows.{Scope, Sheds, at_time, before_start, gap_of, input_of, no_gap}
 use Rattle.online_robust.specs.declared.ends.Gap.{Gap}
@@ -38,7 +34,6 @@ use Rattle.online_robust.specs.declared.line.MarginLine.{MarginLine}
 use Rattle.online_robust.specs.declared.line.MarginLine.TheVariants as L
 use Rattle.online_robust.specs.declared.line.Reached.{Reached}
 use Rattle.online_robust.specs.declared.past.Past.{Past}
-use Rattle.online_robust.specs.declared.window.Window.{Window}
 use Rattle.online_robust.proofs.HighLemmas.{read_count, read_edge, read_held, read_others}
 use Rattle.online_robust.proofs.JoinedLemmas.{joined_to}
 use Rattle.online_robust.proofs.Losses.{loses_at_both, loses_at_none, took}

@@ -1,41 +1,38 @@
 -- How a window without a low end goes on to its next stop, and over a stretch.
-use Rattle.std.proofs.Common.{arith, ◌≡◌, ◌⊎◌, inl, inr, ℕ, ℤ, pos, neg_ℤ, ◌+◌, ◌*◌, ◌<◌, ◌≤◌, ◌^◌, ◌≤ℤ◌, ◌<ℤ◌, Bool, true}
+use Rattle.std.proofs.Common.{arith, ◌≡◌, ◌⊎◌, inl, inr, ℕ, ℤ, pos, neg_ℤ, ◌+◌, ◌<◌, ◌≤◌, ◌^◌, ◌≤ℤ◌, Bool, true}
 use Rattle.std.proofs.Common.{false, List, [], ◌∷◌, Option, Some, None, refl, sym, ap, subst, ◌∙◌, to_z, of_z, w64}
-use Rattle.std.specs.Prelude.{◌-ℤ◌, IfSome, IsSomeAnd, IsTrue, MatchOption, if◌then◌else◌}
+use Rattle.std.specs.Prelude.{◌-ℤ◌, IfSome, IsSomeAnd, MatchOption, if◌then◌else◌}
 use Rattle.std.specs.Int.RustNames.{unsigned_abs}
 use Rattle.std.proofs.lemmas.Int.{ints}
-use Rattle.rational.specs.Rational.{IsWithin, add, whole}
+use Rattle.rational.specs.Rational.{whole}
 use Rattle.rational.specs.Time.{Rational, less, shifted, ◌≈◌, ◌≤ʳ◌, ◌<ʳ◌}
-use Rattle.rational.specs.Extended.{minus_infinity, infinity, value_at, ◌≈ᵉ◌}
+use Rattle.rational.specs.Extended.{value_at}
 use Rattle.rational.specs.Affine.{IsBounded}
-use Rattle.rational.proofs.AffineLemmas.{value_same}
 use Rattle.rational.proofs.Order.{ge_of_same, le_of_lt, le_of_same, le_refl, le_trans, lt_irrefl, lt_of_le_of_lt}
-use Rattle.rational.proofs.Order.{lt_of_lt_of_le, not_lt_of_le, same_of_le, same_refl, same_sym, same_trans}
+use Rattle.rational.proofs.Order.{lt_of_lt_of_le, not_lt_of_le, same_of_le, same_sym, same_trans}
 use Rattle.rational.proofs.Sames.{symᵉ, transᵉ}
-use Rattle.rational.proofs.TimeLemmas.{less_in, less_no, shifted-add}
+use Rattle.rational.proofs.TimeLemmas.{less_in, less_no}
 use Rattle.frac128.specs.Value.{value}
 use Rattle.frac128.specs.declared.frac.Frac.{Frac}
-use Rattle.value_laws.specs.Margins.{is_ramp, margin_base, margin_function}
+use Rattle.value_laws.specs.Margins.{margin_base, margin_function}
 use Rattle.value_laws.specs.declared.margin.Margin.{Margin}
 use Rattle.pl_signal.specs.declared.knot.Knot.{Knot}
 use Rattle.pl_signal.specs.declared.faults.OpFault.{OpFault}
 use Rattle.pl_signal.specs.declared.joining.Side.{Side}
 use Rattle.envelope.specs.Best.{Has}
 use Rattle.envelope.specs.declared.best.Best.{Best}
-use Rattle.envelope.specs.Turns.{none_of}
-use Rattle.stl_syntax.specs.Trace.{start, stop}
+use Rattle.stl_syntax.specs.Trace.{start}
 use Rattle.window_ops.proofs.Ends.{le_shifted, lt_shifted}
 use Rattle.window_ops.proofs.Shifts.{passed}
 use Rattle.online_robust.specs.Held.{Edge, Held, edge_at}
 use Rattle.online_robust.specs.Queues.{IsBest, IsBestOf}
 use Rattle.online_robust.specs.Reading.{IsBuilt, IsThere}
-use Rattle.online_robust.specs.Sweeping.{EndsAt, IsBefore, IsUpTo}
+use Rattle.online_robust.specs.Sweeping.{EndsAt, IsBefore}
 use Rattle.online_robust.specs.Told.{IsMovedBy, IsTick}
-use Rattle.online_robust.specs.WindowPasts.{AreKept, CanPass, HasPassed, IsFitPast, IsPassing, IsPastAt, IsSettled, IsUnder, StaysPast, past_steps}
+use Rattle.online_robust.specs.WindowPasts.{CanPass, HasPassed, IsFitPast, IsPassing, IsPastAt, IsSettled, IsUnder, StaysPast, past_steps}
 use Rattle.online_robust.specs.Windows.{HasTold, IsCore, IsGone, IsOutcome, IsOwned, IsPointOf, IsShifted, IsSpan}
 use Rattle.online_robust.specs.Windows.{IsStep, IsTopOf, IsUnfixedUnder, IsUnmet, IsWindowFault, LeavesAt, Scope}
 use Rattle.online_robust.specs.Windows.{Sheds, at_time, before_start, best_of, input_of, lines_left}
-use Rattle.online_robust.specs.declared.ends.Gap.{Gap}
 use Rattle.online_robust.specs.declared.line.Reached.{Reached}
 use Rattle.online_robust.specs.declared.past.Past.{Past}
 use Rattle.online_robust.specs.declared.window.Window.{Window}
@@ -46,7 +43,7 @@ use Rattle.online_robust.proofs.TwoLemmas.{there_same}
 use Rattle.online_robust.proofs.Spreads.{input_is_function}
 use Rattle.online_robust.proofs.WindowCore.{between, core_both, core_low, each, later, plays, there, there_fit}
 use Rattle.online_robust.proofs.WindowFaults.{unfixed_fault, unmet_fault}
-use Rattle.online_robust.proofs.WindowPoints.{before_apart, no_sheds, shifted_point}
+use Rattle.online_robust.proofs.WindowPoints.{no_sheds}
 use Rattle.online_robust.proofs.WindowStops.{base_room, ends, up_to}
 use Rattle.online_robust.proofs.WindowTelling.{best_is_function}
 

@@ -1,38 +1,33 @@
 -- A window without a low end that goes on in a turn, and one that begins in it.
-use Rattle.std.proofs.Common.{◌≡◌, ◌≢◌, ◌⊎◌, inl, inr, ℕ, ◌+◌, ◌<◌, ◌≤◌, ◌^◌, Bool, true, false, List, [], ◌∷◌, ◌++◌}
+use Rattle.std.proofs.Common.{◌≡◌, ◌≢◌, ◌⊎◌, inl, inr, ℕ, ◌+◌, ◌<◌, ◌≤◌, ◌^◌, Bool, true, false, List, []}
 use Rattle.std.proofs.Common.{length, refl, sym, ap, subst, ◌∙◌, arith, Option, Some, None, ℤ, pos, ◌+ℤ◌, ◌<ℤ◌, ◌≤ℤ◌}
-use Rattle.std.specs.Prelude.{neg_ℤ, ◌-ℤ◌, MatchBool, MatchOption, IfSome, IsSome, IsSomeAnd, int_lt, cond, slice_get}
+use Rattle.std.specs.Prelude.{neg_ℤ, ◌-ℤ◌, MatchBool, MatchOption, IfSome, IsSomeAnd, int_lt, cond, slice_get}
 use Rattle.std.proofs.lemmas.Int.{ints}
 use Rattle.rational.specs.Rational.{IsWithin}
-use Rattle.rational.specs.Time.{Rational, Precedes, shifted, whole, ◌≈◌, ◌≤ʳ◌, ◌<ʳ◌}
-use Rattle.rational.specs.Extended.{Extended, minus_infinity, infinity, value_at, ◌≈ᵉ◌}
+use Rattle.rational.specs.Time.{Rational, shifted, whole, ◌≈◌, ◌≤ʳ◌, ◌<ʳ◌}
+use Rattle.rational.specs.Extended.{minus_infinity, infinity, value_at, ◌≈ᵉ◌}
 use Rattle.rational.proofs.Order.{le_refl, le_trans, le_of_lt, le_of_same, ge_of_same, lt_of_le_of_lt}
-use Rattle.rational.proofs.Order.{lt_of_lt_of_le, not_lt_of_le, same_refl, same_sym, same_trans}
+use Rattle.rational.proofs.Order.{lt_of_lt_of_le, same_refl, same_sym, same_trans}
 use Rattle.rational.proofs.Shift.{le_whole, lt_whole}
 use Rattle.rational.proofs.TimeLemmas.{same_shifted}
 use Rattle.frac128.specs.Value.{value}
 use Rattle.frac128.specs.declared.frac.Frac.{Frac}
-use Rattle.value_laws.specs.Margins.{is_ramp, margin_function}
-use Rattle.value_laws.specs.declared.margin.Margin.{Margin}
+use Rattle.value_laws.specs.Margins.{margin_function}
 use Rattle.envelope.specs.Turns.{none_of}
-use Rattle.pl_signal.specs.declared.joining.Side.{Side}
 use Rattle.pl_signal.proofs.Values.{some_is}
-use Rattle.stl_syntax.specs.Trace.{Trace, first_time, start, stop}
+use Rattle.stl_syntax.specs.Trace.{start, stop}
 use Rattle.stl_syntax.specs.Formula.{Subformula, subformula}
 use Rattle.stl_syntax.specs.SupInf.{Robustness}
 use Rattle.online_nodes.specs.StreamedWide.{front_at}
 use Rattle.online_nodes.proofs.RunLaw.{int_order}
-use Rattle.online_robust.specs.Held.{Held, edge_at, fresh_at, held_at}
-use Rattle.online_robust.specs.Told.{AreFit, AreTold, IsTick}
-use Rattle.online_robust.specs.Queues.{StandsFor}
-use Rattle.online_robust.specs.Sweeping.{IsBefore}
+use Rattle.online_robust.specs.Held.{Held, edge_at, held_at}
+use Rattle.online_robust.specs.Told.{IsTick}
 use Rattle.online_robust.specs.Reading.{HasReached, IsThere}
 use Rattle.online_robust.specs.Standing.{HasStood, HasPassedTo, HasWaitedPast}
 use Rattle.online_robust.specs.Turns.{Turn, Belongs, AreInputs, IsInput, back_of, begin_of, from_of, reach_before, seen_by}
 use Rattle.online_robust.specs.Waiting.{HasToldPast, IsBegunPast, silent_margin}
 use Rattle.online_robust.specs.WindowPasts.{CanPass, IsFitPast, IsPastAt, IsSettled, StoodPast}
 use Rattle.online_robust.specs.Windows.{HasTold, IsOwned, IsSpan, Scope, at_time, best_of, scope_at}
-use Rattle.online_robust.specs.declared.ends.Gap.{Gap}
 use Rattle.online_robust.specs.declared.endless.Endless.{Endless}
 use Rattle.online_robust.specs.declared.line.MarginLine.{MarginLine}
 use Rattle.online_robust.specs.declared.line.Reached.{Reached}
@@ -40,14 +35,13 @@ use Rattle.online_robust.specs.declared.operator.Operator.TheVariants as Op
 use Rattle.online_robust.specs.declared.past.Past.{Past}
 use Rattle.online_robust.specs.declared.window.Window.{Window}
 use Rattle.online_robust.proofs.Bridging.{from_none, from_some, inputs_of}
-use Rattle.online_robust.proofs.Looking.{looks_before, shifted_whole}
-use Rattle.online_robust.proofs.Robustly.{robust_is_function}
+use Rattle.online_robust.proofs.Looking.{shifted_whole}
 use Rattle.online_robust.proofs.Builts.{tick_within}
 use Rattle.online_robust.proofs.PastAgain.{past_first, past_go_on}
 use Rattle.online_robust.proofs.WindowFaults.{no_later}
 use Rattle.online_robust.proofs.WindowTurnings.{none_there}
 use Rattle.rational.proofs.Mixed.{within_same}
-use Rattle.online_robust.proofs.PastBridging.{far, first_tick, fit, front_last, here, input, of_in, own}
+use Rattle.online_robust.proofs.PastBridging.{first_tick, fit, front_last, here, input, of_in, own}
 use Rattle.online_robust.proofs.PastBridging.{scope_of, stays_begun, to_first, to_last, to_tick, told_far}
 
 -- ---- a window that goes on

@@ -1,12 +1,11 @@
 -- Lines that are shed in two turns.
-use Rattle.std.proofs.Common.{◌≡◌, ◌≢◌, ◌⊎◌, inl, inr, ℕ, zero, suc, ◌+◌, ◌-◌, ◌<◌, ◌≤◌, List, [], ◌∷◌}
-use Rattle.std.proofs.Common.{Option, Some, None, refl, sym, ap, subst, ◌∙◌, drop, length, slice_get, arith}
+use Rattle.std.proofs.Common.{◌≡◌, ◌⊎◌, inl, inr, ℕ, zero, suc, ◌+◌, ◌-◌, ◌<◌, ◌≤◌, List, [], ◌∷◌}
+use Rattle.std.proofs.Common.{refl, ap, subst, ◌∙◌, drop, slice_get, arith}
 use Rattle.std.proofs.lemmas.Bool.{cases_lt}
 use Rattle.std.specs.Prelude.{IfSome}
 use Rattle.rational.specs.Time.{Rational, ◌≤ʳ◌}
-use Rattle.rational.proofs.Order.{le_trans}
 use Rattle.frac128.specs.Value.{value}
-use Rattle.online_robust.specs.Held.{Held, edge_at, held_at}
+use Rattle.online_robust.specs.Held.{Held, held_at}
 use Rattle.online_robust.specs.Lines.{end_of}
 use Rattle.online_robust.specs.Windows.{Sheds}
 use Rattle.online_robust.specs.declared.line.MarginLine.{MarginLine}

@@ -1,14 +1,13 @@
 -- A window whose ends move over its input.
-use Rattle.std.proofs.Common.{◌≡◌, ◌≢◌, ◌⊎◌, inl, inr, ℕ, ℤ, pos, neg_ℤ, ◌+◌, ◌<◌, ◌≤◌, ◌^◌, Bool, true, false, List, []}
-use Rattle.std.proofs.Common.{◌∷◌, ◌++◌, Option, Some, None, refl, sym, ap, subst, ◌∙◌, length, drop, slice_get, arith}
-use Rattle.std.specs.Prelude.{MatchBool}
+use Rattle.std.proofs.Common.{◌≡◌, ◌⊎◌, inl, inr, ℕ, ◌+◌, ◌<◌, ◌≤◌, ◌^◌, true, List, []}
+use Rattle.std.proofs.Common.{◌∷◌, ◌++◌, Option, Some, None, refl, sym, subst}
 use Rattle.rational.specs.Time.{Rational, Within, ◌≈◌, ◌≤ʳ◌, ◌<ʳ◌, shifted}
 use Rattle.rational.specs.Extended.{Extended, minus_infinity, infinity, value_at, ◌≈ᵉ◌}
 use Rattle.rational.specs.Affine.{IsBounded}
 use Rattle.rational.specs.Windows.{Function}
-use Rattle.rational.proofs.Order.{le_refl, le_of_lt, le_of_same, ge_of_same, le_or_lt, le_trans, lt_of_le_of_lt}
-use Rattle.rational.proofs.Order.{lt_of_lt_of_le, lt_irrefl, not_lt_of_le, lt_or_same_or_gt, same_refl, same_sym, same_trans}
-use Rattle.rational.proofs.AffineLemmas.{bounded_same, same_reflᵉ, value_same}
+use Rattle.rational.proofs.Order.{le_of_lt, le_of_same, ge_of_same, le_trans, lt_of_le_of_lt}
+use Rattle.rational.proofs.Order.{lt_of_lt_of_le, lt_irrefl, not_lt_of_le, lt_or_same_or_gt, same_sym, same_trans}
+use Rattle.rational.proofs.AffineLemmas.{bounded_same, value_same}
 use Rattle.rational.proofs.Bounds.{bounded_between}
 use Rattle.rational.proofs.Sames.{symᵉ, transᵉ}
 use Rattle.rational.proofs.TimeFunctions.{IsFunction}
@@ -21,11 +20,10 @@ use Rattle.pl_signal.specs.declared.joining.Side.TheVariants.{Least, Greatest}
 use Rattle.envelope.specs.Turns.{none_of}
 use Rattle.stl_syntax.specs.Trace.{start, stop}
 use Rattle.stl_syntax.specs.SupInf.{Robustness}
-use Rattle.online_robust.specs.Lines.{end_of, margin_of}
 use Rattle.online_robust.specs.Queues.{StandsFor}
-use Rattle.online_robust.specs.Told.{AreFit, AreJoined, AreTold, IsFitLine, IsMovedBy, IsTick, IsToldLine}
-use Rattle.online_robust.specs.Sweeping.{AreBy, AreFrozen, EndsAt, IsBefore, IsFrozen, IsNoKnot, IsOn, IsUpTo, Mark, Runs, last_gap, with_outside}
-use Rattle.online_robust.specs.Windows.{AreSeen, AreStanding, IsFitWindow, IsSpread, IsStanding, IsToCome, Scope, gap_of, input_of, no_gap}
+use Rattle.online_robust.specs.Told.{AreFit, AreJoined, AreTold, IsMovedBy, IsTick}
+use Rattle.online_robust.specs.Sweeping.{AreBy, AreFrozen, EndsAt, IsBefore, IsFrozen, IsNoKnot, IsOn, IsUpTo, Mark, Runs, last_gap}
+use Rattle.online_robust.specs.Windows.{IsSpread, IsStanding, IsToCome, Scope, gap_of, input_of, no_gap}
 use Rattle.online_robust.specs.declared.ends.Gap.{Gap}
 use Rattle.online_robust.specs.declared.line.MarginLine.{MarginLine}
 use Rattle.online_robust.specs.declared.line.MarginLine.TheVariants as L
@@ -34,7 +32,6 @@ use Rattle.online_robust.specs.declared.window.Window.{Window}
 use Rattle.online_robust.proofs.JoinedLemmas.{joined_to}
 use Rattle.online_robust.proofs.Marks.{by_more, frozen_more, frozen_none, last_more, runs_more, seen_more, standing_more_marks, ticks_more}
 use Rattle.online_robust.proofs.Robustly.{robust_is_function}
-use Rattle.online_robust.proofs.WindowLaw.{before_of, up_to_end}
 
 -- the last gap, from the last mark on
 pub last_from : (Q : Function) (reach : ℕ) (from : Rational) (low : Gap) (marks : List Mark) → Runs Q reach from low marks

@@ -1,11 +1,10 @@
 -- From what an operator needs before it goes on to what a window needs without a low end needs whose input has given out nothing, and back from what it leaves.
 use Rattle.std.proofs.Common.{◌≡◌, ◌⊎◌, inl, inr, ℕ, zero, suc, ◌+◌, ◌<◌, ◌≤◌, Bool, true, false, List, [], ◌∷◌}
-use Rattle.std.proofs.Common.{drop, refl, sym, ap, subst, ◌∙◌, arith, Option, Some, None, ℤ, pos, ◌+ℤ◌, ◌<ℤ◌, ◌≤ℤ◌}
-use Rattle.std.specs.Prelude.{MatchOption, IfSome, IsSome, IsSomeAnd, int_lt, cond, neg_ℤ, slice_get}
+use Rattle.std.proofs.Common.{drop, refl, sym, ap, subst, ◌∙◌, arith, Option, Some, None, ℤ, pos, ◌+ℤ◌, ◌<ℤ◌}
+use Rattle.std.specs.Prelude.{MatchOption, IsSome, int_lt, cond, slice_get}
 use Rattle.std.proofs.lemmas.Int.{ints}
 use Rattle.rational.specs.Time.{Rational, Precedes, shifted, whole, ◌≈◌, ◌≤ʳ◌, ◌<ʳ◌}
 use Rattle.rational.specs.Extended.{Extended, minus_infinity, infinity, ◌≈ᵉ◌}
-use Rattle.rational.specs.Windows.{Function}
 use Rattle.rational.proofs.Order.{le_trans, le_of_lt, le_of_same, ge_of_same, lt_of_le_of_lt, not_lt_of_le, same_refl, same_trans}
 use Rattle.rational.proofs.Shift.{lt_whole}
 use Rattle.frac128.specs.Value.{value}
@@ -17,7 +16,7 @@ use Rattle.pl_signal.proofs.Values.{some_is}
 use Rattle.window_ops.proofs.Ends.{le_shifted}
 use Rattle.window_ops.specs.Over.{IsBestOver}
 use Rattle.stl_syntax.specs.Trace.{start, stop}
-use Rattle.stl_syntax.specs.Formula.{Subformula, subformula, tree_of}
+use Rattle.stl_syntax.specs.Formula.{Subformula, subformula}
 use Rattle.stl_syntax.specs.SupInf.{Robustness}
 use Rattle.stl_syntax.specs.Limits.{own_reach}
 use Rattle.stl_syntax.specs.declared.node.Node.{Node}
@@ -28,11 +27,11 @@ use Rattle.online_nodes.proofs.RunLaw.{int_order}
 use Rattle.online_robust.specs.Held.{Edge, Held, edge_at, held_at, held_of}
 use Rattle.online_robust.specs.Told.{IsMovedBy}
 use Rattle.online_robust.specs.Reading.{HasReached, IsStretch, LosesAt}
-use Rattle.online_robust.specs.Glances.{AreToSee, unseen, CanGlance, Glance, HasGlanced, IsGlanceAt, glance_of, nothing_of}
+use Rattle.online_robust.specs.Glances.{unseen, CanGlance, Glance, HasGlanced, IsGlanceAt, glance_of, nothing_of}
 use Rattle.online_robust.specs.Standing.{HasStood, HasPassedTo, HasWaitedPast, IsPastOf, Stands}
 use Rattle.online_robust.specs.Turns.{Turn, Belongs, HasSwept, IsCut, IsSwept, StandsNow, back_of, begin_of, from_of, reach_before, seen_by}
 use Rattle.online_robust.specs.Waiting.{silent_margin, silent_of}
-use Rattle.online_robust.specs.Windows.{Holds, best_of}
+use Rattle.online_robust.specs.Windows.{Holds}
 use Rattle.online_robust.specs.declared.glance.Moved.{Moved}
 use Rattle.online_robust.specs.declared.endless.Endless.{Endless}
 use Rattle.online_robust.specs.declared.line.MarginLine.{MarginLine}
@@ -41,7 +40,7 @@ use Rattle.online_robust.specs.declared.operator.Operator.TheVariants as Op
 use Rattle.online_robust.specs.declared.past.Past.{Past}
 use Rattle.online_robust.specs.declared.window.Window.{Window}
 use Rattle.online_robust.proofs.BestPasts.{best_past}
-use Rattle.online_robust.proofs.Bridging.{from_none, from_some, span_from, stood_after, tick_of, tree}
+use Rattle.online_robust.proofs.Bridging.{from_none, from_some, span_from, stood_after, tree}
 use Rattle.online_robust.proofs.Builts.{tick_between}
 use Rattle.online_robust.proofs.DroppingLemmas.{held_of-without}
 use Rattle.online_robust.proofs.Instants.{best_of_none}

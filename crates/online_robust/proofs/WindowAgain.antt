@@ -12,7 +12,7 @@ use Rattle.rational.proofs.Order.{ge_of_same, le_of_lt, le_of_same, le_refl, le_
 use Rattle.rational.proofs.Order.{lt_of_lt_of_le, not_lt_of_le, same_refl, same_sym, same_trans}
 use Rattle.rational.proofs.Mixed.{parts, within_same}
 use Rattle.rational.proofs.Shift.{le_whole, lt_whole}
-use Rattle.rational.proofs.TimeLemmas.{same_shifted, shifted-add}
+use Rattle.rational.proofs.TimeLemmas.{same_shifted}
 use Rattle.frac128.specs.Value.{value}
 use Rattle.frac128.specs.declared.frac.Frac.{Frac}
 use Rattle.value_laws.specs.Margins.{is_ramp, margin_function}
@@ -24,14 +24,14 @@ use Rattle.stl_syntax.specs.SupInf.{Robustness}
 use Rattle.stl_syntax.specs.Trace.{Trace, first_time, start, stop}
 use Rattle.online_nodes.proofs.RunLaw.{int_order}
 use Rattle.window_ops.proofs.Ends.{le_shifted}
-use Rattle.online_robust.specs.Held.{Edge, Held, edge_at, fresh_at, held_at, held_of}
+use Rattle.online_robust.specs.Held.{Held, edge_at, fresh_at, held_at}
 use Rattle.online_robust.specs.Lines.{end_of}
 use Rattle.online_robust.specs.Queues.{StandsFor}
-use Rattle.online_robust.specs.Sweeping.{AreBy, EndsAt, IsBefore, IsUpTo, Mark, Runs, last_gap}
-use Rattle.online_robust.specs.Told.{AreFit, AreJoined, AreTold, IsMovedBy, IsTick}
-use Rattle.online_robust.specs.Turns.{AreInputs, AreLeft, IsCut, IsCutBy, back_of}
+use Rattle.online_robust.specs.Sweeping.{EndsAt, IsBefore, Mark, Runs, last_gap}
+use Rattle.online_robust.specs.Told.{AreFit, AreJoined, AreTold, IsTick}
+use Rattle.online_robust.specs.Turns.{AreInputs, AreLeft, IsCut, back_of}
 use Rattle.online_robust.specs.Reading.{IsThere}
-use Rattle.online_robust.specs.Windows.{AreSeen, AreStanding, CanSweep, HasCome, HasTold, IsAt, IsFitWindow}
+use Rattle.online_robust.specs.Windows.{AreSeen, AreStanding, CanSweep, HasCome, HasTold, IsFitWindow}
 use Rattle.online_robust.specs.Windows.{IsOwn, IsOwned, IsSpan, IsSpread, IsStanding, IsToCome, Scope, Sheds}
 use Rattle.online_robust.specs.Windows.{StoodOver, at_time, before_start, best_of, input_of, no_gap, scope_at}
 use Rattle.online_robust.specs.declared.ends.Gap.{Gap}
@@ -43,7 +43,7 @@ use Rattle.online_robust.specs.declared.window.Window.{Window}
 use Rattle.online_robust.proofs.Builts.{tick_within}
 use Rattle.online_robust.proofs.WindowBounds.{still_moved}
 use Rattle.online_robust.proofs.WindowPoints.{in_order}
-use Rattle.online_robust.proofs.WindowFirst.{first_spread, spread_told, told_to}
+use Rattle.online_robust.proofs.WindowFirst.{first_spread, spread_told}
 
 -- the lines go on with the point at the end of a gap
 abbrev pub IsNext : Option Frac → List MarginLine → Rational → Type 0

@@ -1,14 +1,13 @@
 -- What counts for a window is bounded, and its bases are moved by no more than the offsets.
-use Rattle.std.proofs.Common.{◌≡◌, ◌⊎◌, inl, inr, ℕ, ℤ, pos, ◌+◌, ◌≤◌, ◌^◌, Bool, true, false, List}
-use Rattle.std.proofs.Common.{[], ◌∷◌, Option, Some, None, refl, sym, ap, subst, ◌∙◌, arith}
-use Rattle.std.specs.Prelude.{neg_ℤ, ◌≤ℤ◌, ◌<ℤ◌, ◌-ℤ◌, IsSomeAnd, IsTrue}
+use Rattle.std.proofs.Common.{◌≡◌, ◌⊎◌, inl, inr, ℕ, ℤ, pos, ◌+◌, ◌≤◌, ◌^◌, true, false, List}
+use Rattle.std.proofs.Common.{[], ◌∷◌, Option, Some, None, refl, sym, subst, arith}
+use Rattle.std.specs.Prelude.{neg_ℤ, ◌≤ℤ◌, ◌<ℤ◌, ◌-ℤ◌, IsTrue}
 use Rattle.std.proofs.lemmas.Int.{ints}
-use Rattle.rational.specs.Time.{Rational, ◌≈◌, ◌≤ʳ◌, ◌<ʳ◌, shifted, whole}
-use Rattle.rational.specs.Extended.{Extended, minus_infinity, infinity, value_at, ◌≈ᵉ◌}
-use Rattle.rational.specs.Affine.{HasBoundedLevel, IsBounded}
+use Rattle.rational.specs.Time.{Rational, ◌≤ʳ◌, shifted}
+use Rattle.rational.specs.Extended.{minus_infinity, infinity, value_at}
+use Rattle.rational.specs.Affine.{IsBounded}
 use Rattle.rational.specs.Windows.{Function}
 use Rattle.rational.proofs.AffineLemmas.{bounded_same}
-use Rattle.rational.proofs.Bounds.{level_bounded}
 use Rattle.rational.proofs.Order.{ge_of_same, le_of_lt, le_refl, le_trans, lt_of_lt_of_le}
 use Rattle.frac128.specs.Value.{value}
 use Rattle.frac128.specs.declared.frac.Frac.{Frac}
@@ -17,19 +16,15 @@ use Rattle.value_laws.specs.declared.margin.Margin.{Margin}
 use Rattle.value_laws.specs.declared.margin.Margin.TheVariants.{Low, High, Fixed, Ramp}
 use Rattle.pl_signal.specs.declared.joining.Side.{Side}
 use Rattle.pl_signal.specs.declared.joining.Side.TheVariants.{Least, Greatest}
-use Rattle.envelope.specs.Best.{Has}
-use Rattle.envelope.specs.declared.best.Best.{Best}
 use Rattle.envelope.specs.Turns.{none_of}
 use Rattle.stl_syntax.specs.Trace.{start}
 use Rattle.online_robust.specs.Held.{Held}
-use Rattle.online_robust.specs.Queues.{IsAmong, IsBest, StandsFor}
-use Rattle.online_robust.specs.Reading.{IsThere}
-use Rattle.online_robust.specs.Sweeping.{AreFrozen, EndsAt, IsBefore, IsFrozen, IsUpTo, Mark, Runs, last_gap}
+use Rattle.online_robust.specs.Queues.{IsAmong, StandsFor}
+use Rattle.online_robust.specs.Sweeping.{AreFrozen, EndsAt, IsBefore, IsUpTo, Mark, Runs}
 use Rattle.online_robust.specs.Told.{IsMovedBy}
-use Rattle.online_robust.specs.Windows.{IsAt, IsOutcome, IsOwn, IsPointOf, IsShifted, IsTopOf, Scope, high_at, input_of, low_at}
+use Rattle.online_robust.specs.Windows.{IsAt, IsShifted, IsTopOf, Scope, high_at, input_of, low_at}
 use Rattle.online_robust.specs.declared.ends.Gap.{Gap}
 use Rattle.online_robust.specs.declared.window.Sweep.{Sweep}
-use Rattle.online_robust.specs.declared.window.Window.{Window}
 use Rattle.online_robust.proofs.WindowLaw.{last_on_of, runs_on, up_to_before, up_to_end}
 
 some_is : {X : Type 0} {a b : X} → Some a ≡ Some b → a ≡ b

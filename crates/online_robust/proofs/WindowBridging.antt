@@ -1,20 +1,17 @@
 -- From what an operator needs before it goes on to what a window with a low end needs, and back from what it leaves.
-use Rattle.std.proofs.Common.{◌≡◌, ◌≢◌, ◌⊎◌, inl, inr, ℕ, ◌+◌, ◌<◌, ◌≤◌, ◌^◌, Bool, true, false, List, [], ◌∷◌, ◌++◌, length}
-use Rattle.std.proofs.Common.{drop, refl, sym, ap, subst, ◌∙◌, arith, Option, Some, None, ℤ, pos, ◌+ℤ◌, ◌<ℤ◌, ◌≤ℤ◌}
-use Rattle.std.specs.Prelude.{◌-ℤ◌, MatchBool, MatchOption, IfSome, IsSome, IsSomeAnd, int_lt, cond, neg_ℤ, slice_get}
+use Rattle.std.proofs.Common.{◌≡◌, ◌⊎◌, inl, inr, ℕ, ◌+◌, ◌<◌, ◌≤◌, Bool, true, false, List, [], length}
+use Rattle.std.proofs.Common.{refl, sym, ap, subst, ◌∙◌, arith, Option, Some, None, ℤ, pos, ◌+ℤ◌, ◌<ℤ◌, ◌≤ℤ◌}
+use Rattle.std.specs.Prelude.{◌-ℤ◌, MatchOption, IfSome, IsSomeAnd, int_lt, cond, slice_get}
 use Rattle.std.proofs.lemmas.Int.{ints}
-use Rattle.rational.specs.Rational.{IsWithin}
-use Rattle.rational.specs.Time.{Rational, Within, shifted, whole, ◌≈◌, ◌≤ʳ◌, ◌<ʳ◌}
-use Rattle.rational.specs.Extended.{Affine, Extended, minus_infinity, infinity, value_at, ◌≈ᵉ◌}
-use Rattle.rational.specs.InPlay.{IsWideCrossing, IsWideValue}
-use Rattle.rational.specs.Windows.{Function}
-use Rattle.rational.proofs.Order.{le_refl, le_trans, le_of_lt, le_of_same, ge_of_same, lt_of_le_of_lt}
+use Rattle.rational.specs.Time.{Rational, shifted, whole, ◌≈◌, ◌≤ʳ◌, ◌<ʳ◌}
+use Rattle.rational.specs.Extended.{Affine}
+use Rattle.rational.specs.InPlay.{IsWideValue}
+use Rattle.rational.proofs.Order.{le_trans, le_of_same, ge_of_same}
 use Rattle.rational.proofs.Order.{lt_of_lt_of_le, not_lt_of_le, same_refl, same_sym, same_trans}
 use Rattle.rational.proofs.Shift.{le_whole, lt_whole}
-use Rattle.rational.proofs.TimeLemmas.{same_shifted}
 use Rattle.frac128.specs.Value.{value}
 use Rattle.value_laws.specs.Kinds.{margin_shape}
-use Rattle.value_laws.specs.Margins.{is_ramp, margin_function}
+use Rattle.value_laws.specs.Margins.{margin_function}
 use Rattle.value_laws.specs.declared.margin.Margin.{Margin}
 use Rattle.pl_signal.specs.declared.knot.Knot.{Knot}
 use Rattle.pl_signal.specs.Moves.{Tells}
@@ -24,7 +21,7 @@ use Rattle.pl_signal.specs.declared.faults.OpFault.TheVariants as Faults
 use Rattle.pl_signal.specs.declared.faults.WidePair.TheVariants.{Cross, Value}
 use Rattle.pl_signal.proofs.Values.{some_is}
 use Rattle.window_ops.proofs.Ends.{le_shifted}
-use Rattle.stl_syntax.specs.Trace.{Trace, first_time, last_time, start, stop}
+use Rattle.stl_syntax.specs.Trace.{start, stop}
 use Rattle.stl_syntax.specs.Formula.{Subformula, subformula, horizon, tree_of}
 use Rattle.stl_syntax.specs.SupInf.{Robustness, margin_setting}
 use Rattle.stl_syntax.specs.Limits.{own_reach}
@@ -35,13 +32,13 @@ use Rattle.online_nodes.specs.Needed.{IsReader}
 use Rattle.online_nodes.specs.StreamedWide.{IsSettledConstant, front_at}
 use Rattle.online_nodes.proofs.RunLaw.{int_order}
 use Rattle.online_robust.specs.Lines.{end_of}
-use Rattle.online_robust.specs.Held.{Edge, Held, edge_at, held_at, held_of}
+use Rattle.online_robust.specs.Held.{Held, edge_at, held_at}
 use Rattle.online_robust.specs.Told.{IsMovedBy, IsTick}
 use Rattle.online_robust.specs.Reading.{IsStretch, IsThere}
 use Rattle.online_robust.specs.Standing.{HasSweptTo, HasWaited, IsWindowOf, Stands}
 use Rattle.online_robust.specs.Turns.{Turn, Belongs, AreInputs, HasSwept, IsCut, IsInput, IsStreamedFault}
 use Rattle.online_robust.specs.Turns.{IsSwept, StandsNow, back_of, begin_of, from_of, reach_before, seen_by}
-use Rattle.online_robust.specs.Windows.{CanSweep, HasCome, InPlayOver, IsFitWindow, IsSettledOver, IsWindowFault, Scope, Sheds, StoodOver, best_of, scope_at}
+use Rattle.online_robust.specs.Windows.{CanSweep, HasCome, InPlayOver, IsFitWindow, IsWindowFault, Scope, Sheds, StoodOver, best_of, scope_at}
 use Rattle.online_robust.specs.declared.lazy.Lazy.{Lazy}
 use Rattle.online_robust.specs.declared.line.MarginLine.{MarginLine}
 use Rattle.online_robust.specs.declared.line.Reached.{Reached}
@@ -49,10 +46,10 @@ use Rattle.online_robust.specs.declared.operator.Operator.TheVariants as Op
 use Rattle.online_robust.specs.declared.window.Sweep.{Sweep}
 use Rattle.online_robust.specs.declared.window.Window.{Window}
 use Rattle.online_robust.proofs.BestWindows.{best_is, in_play_is, settled_is}
-use Rattle.online_robust.proofs.Bridging.{crossing_by, from_none, from_some, input_within, inputs_of, last_to, small_to, span_from, tick_of, tree}
-use Rattle.online_robust.proofs.Looking.{front_by_stop, looks_before, shifted_whole, told_as_far}
+use Rattle.online_robust.proofs.Bridging.{crossing_by, input_within, inputs_of, last_to, tick_of, tree}
+use Rattle.online_robust.proofs.Looking.{front_by_stop, told_as_far}
 use Rattle.online_robust.proofs.Robustly.{robust_is_function}
-use Rattle.online_robust.proofs.WindowAgain.{can_go_on, cut_window, span_same, stood_over}
+use Rattle.online_robust.proofs.WindowAgain.{cut_window, span_same, stood_over}
 use Rattle.online_robust.proofs.WindowNodes.{IsWindowNode, window_node}
 
 -- ---- the end by another pair

@@ -1,5 +1,5 @@
 -- What counts over a window is in play: the parts of the input under its ends, and the constants of the knots between them.
-use Rattle.std.proofs.Common.{arith, ◌≡◌, ◌⊎◌, inl, inr, ℕ, ℤ, pos, ◌^◌, List, [], ◌∷◌, Option, Some, None, refl, sym, ap, subst, ◌∙◌}
+use Rattle.std.proofs.Common.{arith, ◌≡◌, ◌⊎◌, inl, inr, ℤ, List, [], ◌∷◌, Option, Some, None, refl, sym, subst}
 use Rattle.std.proofs.Math.Nat.{mul-pos}
 use Rattle.rational.specs.Rational.{middle}
 use Rattle.rational.specs.Time.{Rational, Within, later, shifted, ◌≈◌, ◌≤ʳ◌, ◌<ʳ◌}
@@ -8,11 +8,11 @@ use Rattle.rational.specs.InPlay.{IsBreakpoint, IsConstant, IsEndPart, IsLeftLim
 use Rattle.rational.specs.InPlay.{IsPart, IsRightLimit, IsValueWithin, inner, start as at_start, stop as at_stop}
 use Rattle.rational.specs.Line.{at}
 use Rattle.rational.specs.Windows.{Function}
-use Rattle.rational.proofs.AffineLemmas.{same_reflᵉ, value_same}
+use Rattle.rational.proofs.AffineLemmas.{same_reflᵉ}
 use Rattle.rational.proofs.LimitLemmas.{earlier_end, later_end, line_on_part, lines_same}
-use Rattle.rational.proofs.Order.{ge_of_same, le_of_lt, le_of_same, le_or_lt, le_refl, le_trans}
+use Rattle.rational.proofs.Order.{ge_of_same, le_of_lt, le_or_lt, le_trans}
 use Rattle.rational.proofs.Order.{left_of_middle, lt_irrefl, lt_of_le_of_lt, lt_of_lt_of_le, lt_or_same_or_gt}
-use Rattle.rational.proofs.Order.{lt_trans, not_lt_of_le, right_of_middle, same_refl, same_sym}
+use Rattle.rational.proofs.Order.{lt_trans, not_lt_of_le, right_of_middle, same_refl}
 use Rattle.rational.proofs.Sames.{symᵉ, transᵉ}
 use Rattle.rational.proofs.TimeFunctions.{IsFunction}
 use Rattle.rational.proofs.TimeLemmas.{precedes_of_lt}
@@ -27,7 +27,7 @@ use Rattle.stl_syntax.specs.SupInf.{Robustness}
 use Rattle.stl_syntax.specs.Trace.{start, stop}
 use Rattle.online_robust.specs.Lines.{IsOneLine}
 use Rattle.online_robust.specs.Queues.{IsAmong}
-use Rattle.online_robust.specs.Sweeping.{AreBy, AreFrozen, EndsAt, IsBefore, IsOn, IsUpTo, Mark, Runs, last_gap}
+use Rattle.online_robust.specs.Sweeping.{AreBy, AreFrozen, EndsAt, IsBefore, IsOn, Mark, Runs}
 use Rattle.online_robust.specs.Windows.{Holds, InPlayOver, IsInPlayOver, IsShifted, Scope, closed, input_of}
 use Rattle.online_robust.specs.declared.ends.Gap.{Gap}
 use Rattle.online_robust.specs.declared.window.Window.{Window}

@@ -1,21 +1,20 @@
 -- What a window refuses is in play before the time up to which it tells.
-use Rattle.std.proofs.Common.{arith, ◌≡◌, ◌⊎◌, inl, inr, ℕ, ℤ, pos, ◌*◌, ◌+◌, ◌<◌, ◌≤◌, ◌^◌, List, Option, Some, None, refl, sym, ap, subst, ◌∙◌}
-use Rattle.std.specs.Prelude.{neg_ℤ, ◌≤ℤ◌, ◌<ℤ◌}
-use Rattle.std.proofs.lemmas.Int.{ints}
+use Rattle.std.proofs.Common.{arith, ◌⊎◌, inl, inr, ℕ, ℤ, pos, ◌<◌, ◌≤◌, ◌^◌, sym, subst}
+use Rattle.std.specs.Prelude.{neg_ℤ, ◌≤ℤ◌}
 use Rattle.std.proofs.Math.Nat.{mul-pos}
-use Rattle.rational.specs.Rational.{middle, whole}
+use Rattle.rational.specs.Rational.{middle}
 use Rattle.rational.specs.Time.{Rational, HasDenominator, Within, later, shifted, ◌≈◌, ◌≤ʳ◌, ◌<ʳ◌}
 use Rattle.rational.specs.Extended.{Affine, affine, always_high, always_low, finite, value_at, ◌≈ᵉ◌}
 use Rattle.rational.specs.Affine.{MeetAlone}
-use Rattle.rational.specs.InPlay.{IsConstant, IsWideCrossing, IsWideValue}
+use Rattle.rational.specs.InPlay.{IsConstant, IsWideValue}
 use Rattle.rational.specs.Line.{at, constant}
 use Rattle.rational.proofs.AffineLemmas.{finite_same, same_reflᵉ}
 use Rattle.rational.proofs.LimitLemmas.{earlier_end}
 use Rattle.rational.proofs.Lines.{at_constant}
-use Rattle.rational.proofs.Order.{ge_of_same, le_of_lt, le_of_same, le_or_lt, le_refl, le_trans, left_of_middle, lt_irrefl}
+use Rattle.rational.proofs.Order.{ge_of_same, le_of_lt, le_of_same, le_or_lt, le_trans, left_of_middle, lt_irrefl}
 use Rattle.rational.proofs.Order.{lt_of_le_of_lt, lt_of_lt_of_le, lt_trans, not_lt_of_le, right_of_middle, same_of_le}
 use Rattle.rational.proofs.Order.{same_sym}
-use Rattle.rational.proofs.Sames.{symᵉ, transᵉ}
+use Rattle.rational.proofs.Sames.{symᵉ}
 use Rattle.rational.proofs.Shift.{le_shift_by}
 use Rattle.rational.proofs.TimeLemmas.{precedes_of_lt, shifted-add}
 use Rattle.frac128.specs.Value.{value}
@@ -26,13 +25,13 @@ use Rattle.value_laws.specs.declared.margin.Margin.{Margin}
 use Rattle.pl_signal.specs.declared.faults.OpFault.{OpFault}
 use Rattle.pl_signal.specs.declared.faults.OpFault.TheVariants as F
 use Rattle.pl_signal.specs.declared.faults.WidePair.TheVariants.{Cross, Value}
-use Rattle.envelope.specs.Best.{Has, IsJoinFault}
+use Rattle.envelope.specs.Best.{IsJoinFault}
 use Rattle.envelope.specs.declared.best.Best.{Best}
 use Rattle.stl_syntax.specs.SupInf.{Robustness}
 use Rattle.stl_syntax.specs.Trace.{start, stop}
 use Rattle.window_ops.proofs.Ends.{at_is, gt_to, le_shifted, lt_shifted, lt_shifted_back}
-use Rattle.online_robust.specs.Windows.{Holds, InPlayOver, IsGone, IsInPlayBefore, IsSettledOver, IsSpan, IsUnfixed}
-use Rattle.online_robust.specs.Windows.{IsUnfixedKnot, IsUnfixedUnder, IsUnmet, IsUnstored, IsWindowFault, Scope, at_time}
+use Rattle.online_robust.specs.Windows.{Holds, InPlayOver, IsGone, IsInPlayBefore, IsSettledOver, IsSpan}
+use Rattle.online_robust.specs.Windows.{IsUnfixedKnot, IsUnfixedUnder, IsWindowFault, Scope, at_time}
 use Rattle.online_robust.specs.Windows.{closed}
 use Rattle.online_robust.specs.declared.ends.Gap.{Gap}
 use Rattle.online_robust.specs.declared.line.Reached.{Reached}

@@ -1,5 +1,5 @@
 -- Where a window stands before it has begun, and what stays as its input is told further.
-use Rattle.std.proofs.Common.{◌≡◌, ◌⊎◌, inl, inr, ℕ, ℤ, ◌^◌, false, List, [], Option, Some, None, refl, sym, subst}
+use Rattle.std.proofs.Common.{◌≡◌, ◌⊎◌, inl, inr, ◌^◌, List, [], Some, refl}
 use Rattle.rational.specs.Time.{Rational, ◌≈◌, ◌≤ʳ◌, ◌<ʳ◌, shifted}
 use Rattle.rational.specs.Extended.{minus_infinity, infinity, value_at, ◌≈ᵉ◌}
 use Rattle.rational.proofs.AffineLemmas.{bounded_same}

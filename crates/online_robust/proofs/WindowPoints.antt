@@ -1,11 +1,11 @@
 -- The points under the ends of a window.
-use Rattle.std.proofs.Common.{◌≡◌, ◌⊎◌, ◌<◌, inl, inr, ℕ, ℤ, pos, ◌+ℤ◌, ◌+◌, ◌≤◌, ◌^◌, Bool, true, false, List, ◌∷◌, Option}
+use Rattle.std.proofs.Common.{◌≡◌, ◌⊎◌, ◌<◌, inl, inr, ℕ, ℤ, pos, ◌+◌, ◌≤◌, ◌^◌, Bool, true, false, List, Option}
 use Rattle.std.proofs.Common.{Some, None, refl, sym, ap, subst, ◌∙◌, slice_get, arith, w64, lit<, to_z, of_z, Result}
 use Rattle.std.specs.Prelude.{neg_ℤ, ◌≤ℤ◌, ◌<ℤ◌, ◌-ℤ◌, IsTrue, IfOk}
 use Rattle.std.specs.Int.RustNames.{unsigned_abs}
 use Rattle.std.proofs.lemmas.Int.{ints}
 use Rattle.rational.specs.Rational.{FitsFloor, IsWithin, add, whole}
-use Rattle.rational.specs.Time.{Rational, shifted, ◌≈◌, ◌≤ʳ◌, ◌<ʳ◌}
+use Rattle.rational.specs.Time.{Rational, shifted, ◌≈◌, ◌<ʳ◌}
 use Rattle.rational.specs.Windows.{Function}
 use Rattle.rational.specs.Extended.{value_at, ◌≈ᵉ◌}
 use Rattle.rational.proofs.AffineLemmas.{value_same}

@@ -1,14 +1,10 @@
 -- How a window goes on over a stretch.
-use Rattle.std.proofs.Common.{arith, ◌≡◌, ◌⊎◌, inl, inr, ℕ, ℤ, pos, ◌+◌, ◌*◌, ◌<◌, ◌≤◌, ◌^◌, List, [], ◌∷◌, Option, Some, None, refl, sym, ap, subst, ◌∙◌}
-use Rattle.std.specs.Prelude.{IsSome}
-use Rattle.rational.specs.Rational.{IsWithin}
+use Rattle.std.proofs.Common.{◌≡◌, ◌⊎◌, inl, inr, ℕ, ◌+◌, ◌<◌, ◌≤◌, List, [], ◌∷◌, Option, Some, None, refl, sym, subst, ◌∙◌}
 use Rattle.rational.specs.Time.{Rational, shifted, ◌≈◌, ◌≤ʳ◌, ◌<ʳ◌}
-use Rattle.rational.specs.Extended.{value_at}
-use Rattle.rational.proofs.Order.{ge_of_same, le_of_lt, le_of_same, le_refl, le_trans, lt_of_le_of_lt}
+use Rattle.rational.proofs.Order.{ge_of_same, le_of_lt, le_of_same, le_refl, le_trans}
 use Rattle.rational.proofs.Order.{lt_of_lt_of_le, not_lt_of_le, same_of_le, same_sym, same_trans}
 use Rattle.frac128.specs.Value.{value}
 use Rattle.frac128.specs.declared.frac.Frac.{Frac}
-use Rattle.value_laws.specs.Margins.{margin_function}
 use Rattle.value_laws.specs.declared.margin.Margin.{Margin}
 use Rattle.pl_signal.specs.declared.knot.Knot.{Knot}
 use Rattle.pl_signal.specs.declared.faults.OpFault.{OpFault}
@@ -22,7 +18,6 @@ use Rattle.online_robust.specs.Told.{IsTick}
 use Rattle.online_robust.specs.Windows.{CanSweep, Goes, HasCome, HasTold, IsAt, IsGoing, IsGone, IsOwned, IsSpan}
 use Rattle.online_robust.specs.Windows.{IsUnfixedHigh, IsUnmet, IsWindowFault, Scope, Sheds, at_time, best_of, steps_left}
 use Rattle.online_robust.specs.declared.line.Reached.{Reached}
-use Rattle.online_robust.specs.declared.window.Place.{Place}
 use Rattle.online_robust.specs.declared.window.Sweep.{Sweep}
 use Rattle.online_robust.specs.declared.window.Window.{Window}
 use Rattle.online_robust.proofs.Builts.{built_first, tick_within}

@@ -1,15 +1,13 @@
 -- How a window goes on to its next stop.
-use Rattle.std.proofs.Common.{arith, ◌≡◌, ◌⊎◌, inl, inr, ℕ, ℤ, pos, neg_ℤ, ◌+◌, ◌^◌, ◌≤ℤ◌, Bool, true}
-use Rattle.std.proofs.Common.{false, List, [], ◌∷◌, Option, Some, None, refl, sym, ap, subst, ◌∙◌}
+use Rattle.std.proofs.Common.{arith, ◌≡◌, ℕ, ℤ, pos, neg_ℤ, ◌+◌, ◌^◌, ◌≤ℤ◌}
+use Rattle.std.proofs.Common.{List, [], ◌∷◌, Option, Some, None, sym, ap, subst, ◌∙◌}
 use Rattle.std.specs.Prelude.{IsSomeAnd}
 use Rattle.std.proofs.lemmas.Int.{ints}
 use Rattle.rational.specs.Rational.{IsWithin}
 use Rattle.rational.specs.Time.{Rational, ◌≈◌, ◌≤ʳ◌, ◌<ʳ◌, shifted}
-use Rattle.rational.specs.Extended.{Extended, finite, infinity, minus_infinity, value_at, ◌≈ᵉ◌}
-use Rattle.rational.specs.Windows.{Function}
+use Rattle.rational.specs.Extended.{Extended, value_at}
 use Rattle.rational.specs.Affine.{IsBounded}
-use Rattle.rational.proofs.Order.{ge_of_same, le_of_lt, le_of_same, le_refl, le_trans, lt_of_le_of_lt, same_sym}
-use Rattle.rational.proofs.Sames.{symᵉ, transᵉ}
+use Rattle.rational.proofs.Order.{ge_of_same, le_of_lt, le_of_same, le_refl, le_trans}
 use Rattle.frac128.specs.Value.{value}
 use Rattle.frac128.specs.declared.frac.Frac.{Frac}
 use Rattle.value_laws.specs.Kinds.{margin_shape}
@@ -18,15 +16,13 @@ use Rattle.value_laws.specs.declared.margin.Margin.{Margin}
 use Rattle.pl_signal.specs.declared.joining.Side.{Side}
 use Rattle.envelope.specs.Best.{Has, IsBestAt}
 use Rattle.envelope.specs.declared.best.Best.{Best}
-use Rattle.envelope.specs.Turns.{none_of}
-use Rattle.stl_syntax.specs.SupInf.{Robustness}
-use Rattle.stl_syntax.specs.Trace.{start, stop as stop_of}
-use Rattle.window_ops.proofs.Ends.{le_shifted, lt_shifted, lt_shifted_back}
+use Rattle.stl_syntax.specs.Trace.{start}
+use Rattle.window_ops.proofs.Ends.{le_shifted}
 use Rattle.online_robust.specs.Held.{Held, edge_at, fresh_at}
 use Rattle.online_robust.specs.Queues.{StandsFor}
-use Rattle.online_robust.specs.Sweeping.{AreBy, AreTicks, EndsAt, IsBefore, IsOn, IsUpTo, Mark, Runs, last_gap}
+use Rattle.online_robust.specs.Sweeping.{AreBy, AreTicks, EndsAt, IsBefore, IsUpTo, Mark, Runs, last_gap}
 use Rattle.online_robust.specs.Told.{AreFit, IsMovedBy, IsTick}
-use Rattle.online_robust.specs.Windows.{Goes, InPlayOver, IsAt, IsCore, IsGoing, IsInPlayOver, IsNextStop, IsOpen}
+use Rattle.online_robust.specs.Windows.{Goes, IsAt, IsCore, IsGoing, IsInPlayOver, IsNextStop, IsOpen}
 use Rattle.online_robust.specs.Windows.{IsOutcome, IsOwned, IsPointOf, IsShifted, IsSpread, IsStep, IsTickEnd}
 use Rattle.online_robust.specs.Windows.{IsToCome, IsTopOf, Keeps, Scope, at_time, best_of, high_at, input_of, low_at}
 use Rattle.online_robust.specs.declared.ends.Gap.{Gap}
@@ -38,8 +34,7 @@ use Rattle.online_robust.specs.declared.window.Window.{Window}
 use Rattle.online_robust.proofs.WindowCore.{between as core_between, each as core_each, later as core_later}
 use Rattle.online_robust.proofs.WindowCore.{plays as core_plays, there as core_there, there_fit as core_there_fit}
 use Rattle.online_robust.proofs.Spreads.{last_from, spread_on}
-use Rattle.online_robust.proofs.WindowLaw.{before_of, before_of_end, last_on_of, runs_on, up_to_of}
-use Rattle.online_robust.proofs.WindowPoints.{before_apart, in_order}
+use Rattle.online_robust.proofs.WindowLaw.{runs_on}
 
 -- a low end that counts does not lie before any time
 not_far : (k : ℤ) → neg_ℤ (pos 4294967295) ≤ℤ k → k ≡ neg_ℤ (pos 4294967296) → ⊥

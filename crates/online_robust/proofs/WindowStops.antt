@@ -1,11 +1,10 @@
 -- Where a window stops next, and the shapes under its ends.
-use Rattle.std.proofs.Common.{◌≡◌, ◌⊎◌, inl, inr, ℕ, ℤ, pos, ◌+◌, ◌≤◌, ◌^◌, Option, Some, None, refl, sym, ap, subst, ◌∙◌, arith}
-use Rattle.std.specs.Prelude.{neg_ℤ, ◌≤ℤ◌, ◌<ℤ◌, ◌-ℤ◌, IfSome, IsSomeAnd}
+use Rattle.std.proofs.Common.{◌≡◌, ◌⊎◌, inl, inr, ℕ, ℤ, pos, ◌≤◌, ◌^◌, Option, Some, None, sym, subst, ◌∙◌, arith}
+use Rattle.std.specs.Prelude.{neg_ℤ, ◌≤ℤ◌, ◌-ℤ◌, IfSome, IsSomeAnd}
 use Rattle.std.specs.Int.RustNames.{unsigned_abs}
 use Rattle.std.proofs.lemmas.Int.{ints}
 use Rattle.rational.specs.Time.{Rational, shifted, ◌≈◌, ◌≤ʳ◌}
-use Rattle.rational.proofs.Order.{ge_of_same, le_of_same, le_trans, same_refl, same_sym, same_trans}
-use Rattle.rational.proofs.TimeLemmas.{same_shifted}
+use Rattle.rational.proofs.Order.{le_of_same, le_trans, same_sym}
 use Rattle.frac128.specs.Value.{value}
 use Rattle.frac128.specs.declared.frac.Frac.{Frac}
 use Rattle.value_laws.specs.Margins.{margin_base}
@@ -13,9 +12,8 @@ use Rattle.value_laws.specs.declared.margin.Margin.{Margin}
 use Rattle.window_ops.proofs.Ends.{le_shifted}
 use Rattle.online_robust.specs.Told.{IsMovedBy}
 use Rattle.online_robust.specs.Sweeping.{EndsAt, IsUpTo}
-use Rattle.online_robust.specs.Windows.{IsFitWindow, IsNextStop, LeavesAt}
+use Rattle.online_robust.specs.Windows.{IsNextStop, LeavesAt}
 use Rattle.online_robust.specs.declared.window.Sweep.{Sweep}
-use Rattle.online_robust.specs.declared.window.Window.{Window}
 
 -- a shape may be moved by an offset of a window
 pub base_room : (reach : ℕ) (p : Margin) (k : ℤ) → IsMovedBy reach p → reach ≤ 4294967295 → neg_ℤ (pos (2 ^ 32)) ≤ℤ k → k ≤ℤ pos (2 ^ 32)

@@ -1,9 +1,9 @@
 -- What a window tells on its way is the best over it.
-use Rattle.std.proofs.Common.{◌≡◌, ◌⊎◌, inl, inr, ℕ, ℤ, ◌+◌, ◌^◌, List, Option, Some, None, refl, sym, ap, subst, ◌∙◌}
+use Rattle.std.proofs.Common.{◌≡◌, ◌⊎◌, inl, inr, ℕ, ◌+◌, ◌^◌, List, Option, refl, sym, subst}
 use Rattle.std.specs.Prelude.{IfSome}
 use Rattle.rational.specs.Rational.{IsWithin}
-use Rattle.rational.specs.Time.{Rational, Precedes, ◌≈◌, ◌≤ʳ◌, ◌<ʳ◌, shifted}
-use Rattle.rational.specs.Extended.{Extended, Passes, minus_infinity, infinity, value_at, ◌≈ᵉ◌}
+use Rattle.rational.specs.Time.{Rational, ◌≈◌, ◌≤ʳ◌, ◌<ʳ◌, shifted}
+use Rattle.rational.specs.Extended.{Extended, Passes, minus_infinity, infinity, value_at}
 use Rattle.rational.specs.Affine.{HasBoundedLevel, IsBounded}
 use Rattle.rational.specs.Windows.{Function}
 use Rattle.rational.proofs.AffineLemmas.{bounded_same, value_same}
@@ -26,7 +26,7 @@ use Rattle.pl_signal.specs.declared.knot.Knot.{Knot}
 use Rattle.pl_signal.specs.declared.faults.OpFault.{OpFault}
 use Rattle.pl_signal.specs.declared.faults.OpFault.TheVariants as F
 use Rattle.pl_signal.specs.declared.faults.WidePair.{WidePair}
-use Rattle.pl_signal.specs.Knots.{HasShape, IsWorth, start as first_of, stop as last_of}
+use Rattle.pl_signal.specs.Knots.{HasShape, IsWorth, stop as last_of}
 use Rattle.envelope.specs.Best.{Has, IsBestAt, IsBestFault, IsJoinFault, IsKept, IsWritten}
 use Rattle.envelope.specs.declared.best.Best.{Best}
 use Rattle.envelope.proofs.Bests.{same_of_both}

@@ -1,22 +1,22 @@
 -- A window that goes on in a turn, and one that begins in it.
-use Rattle.std.proofs.Common.{◌≡◌, ◌≢◌, ◌⊎◌, inl, inr, ℕ, ◌+◌, ◌<◌, ◌≤◌, ◌^◌, Bool, true, false, List, [], ◌∷◌, ◌++◌}
+use Rattle.std.proofs.Common.{◌≡◌, ◌≢◌, ◌⊎◌, inl, inr, ℕ, ◌+◌, ◌<◌, ◌≤◌, Bool, true, false, List, [], ◌++◌}
 use Rattle.std.proofs.Common.{length, refl, sym, ap, subst, ◌∙◌, arith, Option, Some, None, ℤ, pos, ◌+ℤ◌, ◌<ℤ◌, ◌≤ℤ◌}
 use Rattle.std.specs.Prelude.{◌-ℤ◌, MatchBool, MatchOption, IfSome, IsSome, IsSomeAnd, int_lt, cond, slice_get}
 use Rattle.std.proofs.lemmas.Int.{ints}
 use Rattle.rational.specs.Time.{Rational, Precedes, shifted, whole, ◌≈◌, ◌≤ʳ◌, ◌<ʳ◌}
-use Rattle.rational.specs.Extended.{Extended, minus_infinity, infinity, value_at, ◌≈ᵉ◌}
-use Rattle.rational.proofs.Order.{le_refl, le_trans, le_of_lt, le_of_same, ge_of_same, lt_of_le_of_lt}
+use Rattle.rational.specs.Extended.{minus_infinity, infinity, value_at, ◌≈ᵉ◌}
+use Rattle.rational.proofs.Order.{le_trans, le_of_lt, le_of_same, ge_of_same, lt_of_le_of_lt}
 use Rattle.rational.proofs.Order.{lt_of_lt_of_le, not_lt_of_le, same_refl, same_sym, same_trans}
 use Rattle.rational.proofs.Shift.{le_whole, lt_whole}
 use Rattle.rational.proofs.TimeLemmas.{same_shifted}
 use Rattle.frac128.specs.Value.{value}
 use Rattle.frac128.specs.declared.frac.Frac.{Frac}
-use Rattle.value_laws.specs.Margins.{is_ramp, margin_function}
+use Rattle.value_laws.specs.Margins.{margin_function}
 use Rattle.value_laws.specs.declared.margin.Margin.{Margin}
 use Rattle.envelope.specs.Turns.{none_of}
 use Rattle.pl_signal.specs.declared.joining.Side.{Side}
 use Rattle.pl_signal.proofs.Values.{some_is}
-use Rattle.stl_syntax.specs.Trace.{Trace, first_time, start, stop}
+use Rattle.stl_syntax.specs.Trace.{Trace, start, stop}
 use Rattle.stl_syntax.specs.Formula.{Subformula, subformula}
 use Rattle.stl_syntax.specs.SupInf.{Robustness}
 use Rattle.online_nodes.specs.StreamedWide.{front_at}
@@ -39,11 +39,11 @@ use Rattle.online_robust.specs.declared.window.Sweep.{Sweep}
 use Rattle.online_robust.specs.declared.window.Window.{Window}
 use Rattle.online_robust.proofs.Bridging.{from_none, from_some, inputs_of}
 use Rattle.online_robust.proofs.Instants.{best_of_none}
-use Rattle.online_robust.proofs.Looking.{looks_before, shifted_whole}
+use Rattle.online_robust.proofs.Looking.{shifted_whole}
 use Rattle.online_robust.proofs.Robustly.{robust_is_function}
 use Rattle.online_robust.proofs.WindowAgain.{can_begin, can_go_on}
-use Rattle.online_robust.proofs.WindowBounds.{none_bounded, still_moved}
-use Rattle.online_robust.proofs.WindowBridging.{far, first_tick, fit, front_last, here, input, of_in, own}
+use Rattle.online_robust.proofs.WindowBounds.{still_moved}
+use Rattle.online_robust.proofs.WindowBridging.{first_tick, fit, front_last, here, input, of_in, own}
 use Rattle.online_robust.proofs.WindowBridging.{scope_of, stays_begun, to_first, to_last, to_tick, told_far}
 use Rattle.online_robust.proofs.WindowFirst.{first_spread}
 use Rattle.online_robust.proofs.WindowPoints.{in_order}

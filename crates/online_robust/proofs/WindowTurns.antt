@@ -1,14 +1,13 @@
 -- What a window tells at a time where something changes.
-use Rattle.std.proofs.Common.{◌≡◌, ◌⊎◌, inl, inr, ℕ, ℤ, Bool, true, false, List, Option, Some, None, refl, sym, ap, subst, ◌∙◌}
+use Rattle.std.proofs.Common.{◌≡◌, ◌⊎◌, inl, inr, ℕ, ℤ, Bool, true, false, Option, Some, None, refl, sym, ap, subst, ◌∙◌}
 use Rattle.std.specs.Prelude.{IfSome}
-use Rattle.rational.specs.Time.{Rational, Precedes, ◌≈◌, ◌≤ʳ◌, ◌<ʳ◌, shifted}
+use Rattle.rational.specs.Time.{Rational, Precedes, ◌≈◌, shifted}
 use Rattle.rational.specs.Extended.{Extended, minus_infinity, infinity, value_at, ◌≈ᵉ◌}
 use Rattle.rational.specs.Windows.{Function}
-use Rattle.rational.proofs.Order.{le_refl, le_trans, lt_of_le_of_lt}
+use Rattle.rational.proofs.Order.{le_refl}
 use Rattle.rational.proofs.Sames.{symᵉ, transᵉ}
 use Rattle.rational.proofs.TimeLemmas.{precedes_of_lt}
 use Rattle.frac128.specs.Value.{value}
-use Rattle.frac128.specs.declared.frac.Frac.{Frac}
 use Rattle.value_laws.specs.Margins.{margin_function}
 use Rattle.value_laws.specs.declared.margin.Margin.{Margin}
 use Rattle.pl_signal.specs.declared.joining.Side.{Side}
@@ -17,13 +16,13 @@ use Rattle.envelope.specs.Turns.{IsNoBetter, none_of}
 use Rattle.envelope.proofs.Bests.{chosen_better, no_better_back, no_better_refl, no_better_same, no_better_trans}
 use Rattle.stl_syntax.specs.Trace.{start}
 use Rattle.online_robust.specs.Reading.{IsThere}
-use Rattle.online_robust.specs.Sweeping.{EndsAt, IsBefore, IsUpTo, last_gap}
+use Rattle.online_robust.specs.Sweeping.{IsBefore, IsUpTo}
 use Rattle.online_robust.specs.Windows.{IsBetterOf, IsOutcome, IsPointOf, IsShifted, IsCore, IsTopOf, Scope, best_of, input_of}
 use Rattle.online_robust.specs.declared.ends.Gap.{Gap}
 use Rattle.online_robust.specs.declared.window.Window.{Window as Wide}
 use Rattle.online_robust.proofs.Outcomes.{IsIn, IsTopOf as IsTop, outcome, times_of, top_one}
 use Rattle.online_robust.proofs.Spreads.{input_is_function}
-use Rattle.online_robust.proofs.WindowLaw.{IsOneOf, last_on_of, runs_on}
+use Rattle.online_robust.proofs.WindowLaw.{IsOneOf}
 use Rattle.online_robust.proofs.WindowPoints.{before_apart}
 
 some_is : {X : Type 0} {a b : X} → Some a ≡ Some b → a ≡ b

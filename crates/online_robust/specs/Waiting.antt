@@ -1,5 +1,5 @@
 -- A window that waits until its input has given out something.
-use Rattle.std.specs.Prelude.{◌≡◌, ℕ, ◌+ℤ◌, ◌<ℤ◌, ℤ, false, [], Option, Some, None, IfSome, IsSomeAnd, MatchOption, pos, ◌-ℤ◌}
+use Rattle.std.specs.Prelude.{◌≡◌, ℕ, false, [], Option, Some, None, pos, ◌-ℤ◌}
 use Rattle.rational.specs.Rational.{◌≈◌}
 use Rattle.rational.specs.Time.{Rational, whole}
 use Rattle.rational.specs.Extended.{minus_infinity, infinity, value_at, ◌≈ᵉ◌}

@@ -3,7 +3,7 @@ use Rattle.std.specs.Prelude.{◌≡◌, ◌≢◌, ◌⊎◌, ℕ, ℤ, pos, ne
 use Rattle.std.specs.Prelude.{◌≤ℤ◌, if◌then◌else◌, ◌<ℤ◌, Bool, true, false, List, [], ◌∷◌, length, drop}
 use Rattle.std.specs.Prelude.{slice_get, IfSome, IsSome, IsSomeAnd, Option, Some, None, MatchBool}
 use Rattle.rational.specs.Rational.{IsWithin}
-use Rattle.rational.specs.Time.{Rational, HasDenominator, Within, Precedes, less, shifted, whole, ◌≈◌, ◌≤ʳ◌, ◌<ʳ◌}
+use Rattle.rational.specs.Time.{Rational, HasDenominator, Within, Precedes, less, shifted, ◌≈◌, ◌≤ʳ◌, ◌<ʳ◌}
 use Rattle.rational.specs.Affine.{IsBounded}
 use Rattle.rational.specs.Extended.{Affine, Extended, minus_infinity, finite, infinity, value_at, ◌≈ᵉ◌}
 use Rattle.rational.specs.InPlay.{HasTime, IsEndPart, IsLimitWithin, IsValueWithin, IsWideCrossing, IsWideValue}

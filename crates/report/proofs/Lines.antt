@@ -16,7 +16,7 @@ use Rattle.report.specs.SignalVerdicts.{DescribesFunction, AreSignalLines}
 use Rattle.report.specs.VerdictForms.{IsEntry, AreEntries}
 use Rattle.report.specs.Appended.{Grew, GrewInPart, AreEach, Then}
 use Rattle.report.proofs.Growths as growth
-use Rattle.report.proofs.Growths.{grew_then, part_then, part_first, some_then}
+use Rattle.report.proofs.Growths.{grew_then, part_then, some_then}
 use Rattle.report.proofs.Sequences.{each_join, each_exist}
 use Rattle.report.proofs.Spans.{span_text}
 

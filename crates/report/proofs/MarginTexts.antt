@@ -20,7 +20,7 @@ use Rattle.stl_syntax.specs.declared.scale.Scale.{Scale}
 use Rattle.report.specs.Appended.{Grew, GrewInPart, Then, Is}
 use Rattle.report.specs.MarginLines.{IsTimeAfter, IsValueAfter, AreNextLines, AreLaterLines}
 use Rattle.report.proofs.Growths as growth
-use Rattle.report.proofs.Growths.{grew_is, part_none, grew_then, part_then, part_first, grew_as, part_as, some_then}
+use Rattle.report.proofs.Growths.{grew_is, part_none, part_as, some_then}
 use Rattle.report.specs.Numbers.{signed, IsInUnits}
 use Rattle.report.specs.declared.number.Lowest.{Lowest}
 use Rattle.report.proofs.Spans.{number_text}

@@ -1,21 +1,21 @@
 -- The first bytes of an input of several sessions: their faults stay, and what was owed for them is a front of what is owed for all.
-use Rattle.std.proofs.Common.{◌≡◌, ◌⊎◌, inl, inr, ℕ, suc, ◌+◌, ◌*◌, ◌<◌, ◌≤◌, Bool, true, false, List, []}
+use Rattle.std.proofs.Common.{◌≡◌, inl, inr, ℕ, suc, ◌+◌, ◌<◌, ◌≤◌, Bool, true, false, List, []}
 use Rattle.std.proofs.Common.{◌∷◌, ◌++◌, length, refl, sym, ap, ◌∙◌, subst, arith, append-nil, append_assoc}
 use Rattle.std.specs.Prelude.{All, MatchBool}
 use Rattle.std.proofs.lemmas.Bool.{false≢true}
 use Rattle.std.proofs.lemmas.List.Elements.{All-head, All-tail}
 use Rattle.stl_syntax.specs.Characters.{is_among}
 use Rattle.stl_syntax.specs.Formula.{Formula}
-use Rattle.trace_reader.specs.TraceText.{Line, lines, content, is_blank_line}
+use Rattle.trace_reader.specs.TraceText.{Line, lines, is_blank_line}
 use Rattle.trace_reader.specs.Feeds.{HasNoFeed, IsOpenLine}
 use Rattle.trace_reader.proofs.LineLemmas.{IsDone, rest, lines-rest}
 use Rattle.trace_reader.proofs.OpenLines.{Parts, parts, lines-now, open_line, grows}
 use Rattle.trace_stream.proofs.FaultPlaces.{at_true, at_false, to_true, to_false}
-use Rattle.session_mux.specs.Sessions.{Tagged, IsTagged, AreTagged, IsAnswer, AreAnswers}
+use Rattle.session_mux.specs.Sessions.{Tagged, AreTagged, AreAnswers}
 use Rattle.session_mux.specs.Inputs.{InputFault, FaultOfInput, sound, OwesLines}
-use Rattle.session_mux.specs.Taking.{ArePassed, HasLines, IsTaking}
+use Rattle.session_mux.specs.Taking.{ArePassed, IsTaking}
 use Rattle.session_mux.specs.declared.input.Input.{Input}
-use Rattle.session_mux.proofs.Passing.{Later, WithTag, InLine, fault_sized, fault_past, past_fault, passed_done, tagged_open, Passed, passed_front}
+use Rattle.session_mux.proofs.Passing.{Later, WithTag, InLine, fault_sized, past_fault, tagged_open, Passed, passed_front}
 
 -- ---- faults of first lines
 

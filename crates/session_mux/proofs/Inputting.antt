@@ -1,8 +1,8 @@
 -- An input of several sessions: what bytes of a line, a line's end and the end of the input come to.
-use Rattle.std.proofs.Common.{◌≡◌, ◌⊎◌, inl, inr, ℕ, ◌+◌, ◌-◌, ◌*◌, ◌<◌, ◌≤◌, Bool, true, false}
+use Rattle.std.proofs.Common.{◌≡◌, inl, inr, ℕ, ◌+◌, ◌-◌, ◌<◌, ◌≤◌, Bool, true, false}
 use Rattle.std.proofs.Common.{List, [], ◌∷◌, ◌++◌, length, take, drop, refl, sym, ap, ◌∙◌, subst}
 use Rattle.std.proofs.Common.{arith, append-nil, append_assoc, length-append, take-append-drop}
-use Rattle.std.specs.Prelude.{MatchBool, MatchResult, Result, Ok, Err, ◌==◌}
+use Rattle.std.specs.Prelude.{MatchResult, Result, Ok, Err, ◌==◌}
 use Rattle.std.proofs.lemmas.Bool.{false≢true}
 use Rattle.std.proofs.Math.Seq.{take-append_seam}
 use Rattle.std.proofs.lemmas.List.{length_push}
@@ -14,9 +14,9 @@ use Rattle.trace_reader.specs.Feeds.{HasNoFeed}
 use Rattle.trace_reader.proofs.LineLemmas.{rest, lines-append, lines-line, lines-rest}
 use Rattle.trace_reader.proofs.OpenLines.{grows}
 use Rattle.trace_stream.proofs.FaultPlaces.{at_true, at_false}
-use Rattle.session_mux.specs.Sessions.{Tagged, IsTagged, IsAnswer, AreAnswers, AreEnds, AreTagged}
-use Rattle.session_mux.specs.Knowing.{tags_of, IsRoomFor}
-use Rattle.session_mux.specs.Muxes.{Muxed, Past, StandsFor, HasTags, HasTaken, IsEndCall}
+use Rattle.session_mux.specs.Sessions.{Tagged, IsTagged, IsAnswer, AreAnswers, AreTagged}
+use Rattle.session_mux.specs.Knowing.{IsRoomFor}
+use Rattle.session_mux.specs.Muxes.{Muxed, Past, StandsFor, HasTaken, IsEndCall}
 use Rattle.session_mux.specs.Inputs.{InputFault, fault_line, FaultOfInput, sound, faulted, OwesLines}
 use Rattle.session_mux.specs.Taking.{ended_line, IsSized, ArePassed, none, blank, old_tag, new_tag}
 use Rattle.session_mux.specs.Taking.{HasLines, IsTaking, fault_in, IsInputStop, IsLineStop, IsPartStop}

@@ -1,5 +1,5 @@
 -- What is owed to an input of several sessions is one text, and only grows.
-use Rattle.std.proofs.Common.{◌≡◌, ◌⊎◌, inl, inr, ℕ, zero, suc, ◌+◌, ◌-◌, ◌<◌, ◌≤◌, Bool, true, false, List, [], ◌∷◌, ◌++◌}
+use Rattle.std.proofs.Common.{◌≡◌, inl, inr, ℕ, zero, suc, ◌+◌, ◌-◌, ◌<◌, ◌≤◌, Bool, true, false, List, [], ◌∷◌, ◌++◌}
 use Rattle.std.proofs.Common.{length, take, refl, sym, ap, ◌∙◌, subst, arith, append-nil, append_assoc, length-append}
 use Rattle.std.specs.Prelude.{All, MatchBool, codes}
 use Rattle.std.proofs.lemmas.Bool.{false≢true}
@@ -15,7 +15,7 @@ use Rattle.report.proofs.StreamTexts.{IsLonger}
 use Rattle.trace_stream.proofs.FaultPlaces.{at_true, at_false}
 use Rattle.session_mux.specs.Sessions.{Tagged, IsTagged, AreTagged, none, unfinished, blank, next, is_query, own, is_stopped}
 use Rattle.session_mux.specs.Sessions.{prefixed, last_eight, IsAnswer, AreAnswers, AreEnds, tags_after, MuxText}
-use Rattle.session_mux.specs.Inputs.{InputFault, too_many_lines, too_long, bad_tag, too_many_sessions}
+use Rattle.session_mux.specs.Inputs.{InputFault}
 use Rattle.session_mux.specs.Inputs.{fault_line, FaultOfInput, AreLinesBefore, sound, faulted, OwesLines}
 use Rattle.session_mux.proofs.Tagging.{tagged_once}
 use Rattle.session_mux.proofs.Passing.{Later, WithTag, InLine}

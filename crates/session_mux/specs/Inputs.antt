@@ -1,5 +1,5 @@
 -- The lines of an input of several sessions: its first fault, and what is owed for the lines before it.
-use Rattle.std.specs.Prelude.{◌≡◌, ℕ, ◌-◌, ◌≤◌, ◌<◌, suc, Bool, true, false, List, [], ◌∷◌, take, length, codes, IsTrue, MatchBool}
+use Rattle.std.specs.Prelude.{ℕ, ◌-◌, ◌≤◌, ◌<◌, suc, Bool, false, List, [], ◌∷◌, take, length, codes, IsTrue, MatchBool}
 use Rattle.stl_syntax.specs.Characters.{is_among}
 use Rattle.stl_syntax.specs.Choice.{◌or_else◌, Where, Nothing}
 use Rattle.stl_syntax.specs.Formula.{Formula}

@@ -9,9 +9,9 @@ use Rattle.stl_syntax.specs.Names.{reserved, is_name}
 use Rattle.stl_grammar.specs.Tokens.{word}
 use Rattle.stl_grammar.specs.Told.{spelling}
 use Rattle.stl_grammar.specs.Machine as Machine
-use Rattle.stl_grammar.specs.Machine.{Kind, kind, a_name, State, Mark, paren, operator, implication, at_operand}
-use Rattle.stl_grammar.specs.Machine.{at_bound, at_low, at_comma, at_high, at_closing, at_term, at_star, at_name}
-use Rattle.stl_grammar.specs.Machine.{at_sign, at_constant, at_number, at_end, without_operators, step}
+use Rattle.stl_grammar.specs.Machine.{kind, a_name, State, Mark, at_operand}
+use Rattle.stl_grammar.specs.Machine.{at_bound}
+use Rattle.stl_grammar.specs.Machine.{at_sign, at_end, without_operators, step}
 use Rattle.stl_grammar.specs.Parsing.{Parse, parse_step, begin_operand, closed, settled_frames, top_rank, between, IsKnown, back_frame}
 use Rattle.stl_grammar.specs.Judging.{state_of, marks_of, had_of, owner, is_beside, back_is_beside}
 use Rattle.stl_grammar.specs.Taken.{plain}

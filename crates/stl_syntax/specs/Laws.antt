@@ -1,9 +1,9 @@
 -- The laws of the definitions: what holds of every formula, trace and time by what the words mean.
-use Rattle.std.specs.Prelude.{◌≡◌, ◌≢◌, ◌⊎◌, ◌↔◌, ℕ, ◌<◌, List, [], ◌∷◌, length, pos, slice_get, Some, Option, Bool, true, false, MatchBool}
+use Rattle.std.specs.Prelude.{◌≡◌, ◌⊎◌, ◌↔◌, ℕ, ◌<◌, List, ◌∷◌, length, pos, slice_get, Some, Option, Bool, true, false, MatchBool}
 use Rattle.rational.specs.Time.{Rational, Within, Interval, whole, later, negate, ◌≈◌, ◌≤ʳ◌}
 use Rattle.rational.specs.Extended.{Extended, finite, ◌<ᵉ◌, ◌≈ᵉ◌}
-use Rattle.stl_syntax.specs.Trace.{Header, Row, Trace, IsTrace, Continues, IsLike, start, stop, last_time}
-use Rattle.stl_syntax.specs.Formula.{Formula, Subformula, until, since, horizon, root, subformula}
+use Rattle.stl_syntax.specs.Trace.{Header, Row, Trace, IsTrace, Continues, IsLike, start, stop}
+use Rattle.stl_syntax.specs.Formula.{Formula, Subformula, until, since, horizon, root}
 use Rattle.stl_syntax.specs.Print.{IsPrintedFormula}
 use Rattle.stl_syntax.specs.PostOrder.{IsPostOrder, IsTreeFrom}
 use Rattle.stl_syntax.specs.WellFormed.{IsWellFormed}

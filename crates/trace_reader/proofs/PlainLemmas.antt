@@ -9,7 +9,7 @@ use Rattle.std.proofs.lemmas.List.Elements.{All-nil, All-cons}
 use Rattle.std.proofs.lemmas.Bool.{ne_eqb, eq-eqb, cases_eq, false≢true}
 use Rattle.std.proofs.Math.Nat.{pow-suc, mul_assoc}
 use Rattle.std.proofs.lemmas.Nat.{pow-add}
-use Rattle.stl_syntax.specs.Characters.{is_digit, is_space, all, after_first, decimal_value, without_zeros, integer, decimal, ticks}
+use Rattle.stl_syntax.specs.Characters.{is_digit, is_space, all, after_first, decimal_value, without_zeros, integer, decimal}
 use Rattle.stl_syntax.specs.Trace.{Row, IsInRange}
 use Rattle.stl_syntax.specs.declared.scale.Scale.{Scale}
 use Rattle.stl_syntax.proofs.CharacterLemmas.{all-append, all-reverse}

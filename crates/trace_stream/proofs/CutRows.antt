@@ -2,22 +2,22 @@
 use Rattle.std.proofs.Common.{◌≡◌, ◌⊎◌, inl, inr, ℕ, ◌+◌, ◌-◌, ◌<◌, ◌≤◌, Bool, true, false, List}
 use Rattle.std.proofs.Common.{[], ◌∷◌, ◌++◌, length, map, refl, sym, ap, ◌∙◌, subst, arith}
 use Rattle.std.proofs.Common.{append-nil, append_assoc, Some, None, ℤ, pos, ◌+ℤ◌, ◌-ℤ◌, ◌<ℤ◌, ◌≤ℤ◌}
-use Rattle.std.specs.Prelude.{cond, int_lt, MatchBool, ◌≢◌}
+use Rattle.std.specs.Prelude.{cond, int_lt, MatchBool}
 use Rattle.std.proofs.lemmas.Int.{ints}
 use Rattle.rational.specs.Rational.{Rational, ◌≤ʳ◌, whole}
-use Rattle.rational.specs.Time.{Interval, closed, left_open, later}
+use Rattle.rational.specs.Time.{closed, left_open, later}
 use Rattle.rational.proofs.Order.{le_trans, le_of_lt, le_or_lt, same_of_le}
 use Rattle.rational.proofs.TimeLemmas.{later_le}
 use Rattle.rational.proofs.Mixed.{parts}
 use Rattle.rational.proofs.Shift.{le_whole, lt_whole}
 use Rattle.stl_syntax.specs.Formula.{Subformula, horizon}
-use Rattle.stl_syntax.specs.Trace.{Header, Row, Trace, IsTrace, AreRows, AreRowsAfter, Continues, first_time, last_time, start}
+use Rattle.stl_syntax.specs.Trace.{Header, Row, Trace, AreRows, AreRowsAfter, Continues, first_time, last_time}
 use Rattle.stl_syntax.specs.Texts.{AreVerdictLines}
 use Rattle.stl_syntax.specs.Verdicts.{Describes}
 use Rattle.stl_syntax.specs.Stream.{answered_by, IsStretchText, IsNewText, IsRowsText}
 use Rattle.stl_syntax.specs.declared.items.Verdict.{Verdict}
 use Rattle.stl_syntax.proofs.LawProofs.{answers_stay}
-use Rattle.online_nodes.specs.Cuts.{Place, begins, ends, After, Upto, Before, Same}
+use Rattle.online_nodes.specs.Cuts.{Place, begins, After, Before, Same}
 use Rattle.online_nodes.specs.Network.{Front}
 use Rattle.online_nodes.specs.Laws.{answered_to}
 use Rattle.online_nodes.proofs.RunLaw.{some_is, none_is_none, int_order}

@@ -4,7 +4,7 @@ use Rattle.std.proofs.Common.{◌∷◌, ◌++◌, refl, sym, ap, ◌∙◌, sub
 use Rattle.std.specs.Prelude.{◌≢◌, MatchBool, slice_index_or, slice_set}
 use Rattle.std.specs.Option.{option_to_list}
 use Rattle.rational.specs.Rational.{whole, ◌≈◌}
-use Rattle.rational.specs.Time.{Rational, Interval, IsIn, HasTimeBetween}
+use Rattle.rational.specs.Time.{Rational, Interval, HasTimeBetween}
 use Rattle.rational.proofs.Order.{same_refl, same_sym}
 use Rattle.frac128.specs.Spans.{interval}
 use Rattle.frac128.specs.Value.{value}

@@ -1,14 +1,13 @@
 -- Rows whose text is owed: the network takes them without a step. Then a step of every node gives out what all of them answer, and cut row
 -- by row that is their text.
 use Rattle.std.proofs.Common.{◌≡◌, ℕ, ◌+◌, ◌-◌, ◌<◌, Bool, true, false, List, [], ◌∷◌, ◌++◌, length, map, take, drop, refl}
-use Rattle.std.proofs.Common.{sym, ap, ◌∙◌, subst, arith, append-nil, append_assoc, length-append, Some, None, ℤ, pos, inl}
-use Rattle.std.proofs.Common.{inr}
+use Rattle.std.proofs.Common.{sym, ap, ◌∙◌, subst, arith, append-nil, append_assoc, length-append, Some, None, pos}
 use Rattle.std.specs.Prelude.{◌≢◌, cond, MatchBool}
 use Rattle.std.proofs.lemmas.List.Elements.{All-nil, All-cons}
 use Rattle.std.proofs.Math.Seq.{drop-append_seam, take-length, take-append_seam}
 use Rattle.rational.specs.Rational.{whole}
 use Rattle.rational.specs.Time.{closed, left_open}
-use Rattle.stl_syntax.specs.Formula.{Formula, horizon, root, subformula}
+use Rattle.stl_syntax.specs.Formula.{Formula, horizon, root}
 use Rattle.stl_syntax.specs.Trace.{Header, Row, Trace, AreRows, first_time}
 use Rattle.stl_syntax.specs.PostOrder.{IsPostOrder}
 use Rattle.stl_syntax.specs.Verdicts.{Describes, AreAlike}
@@ -27,20 +26,20 @@ use Rattle.online_nodes.proofs.RowsLaw.{rows_of as rows_came, AreRowsSoFar}
 use Rattle.online_nodes.proofs.Writing.{same_itself}
 use Rattle.online_net.specs.Nets.{Parts, Stands}
 use Rattle.trace_stream.specs.Streams.{verdicts, StreamText}
-use Rattle.trace_stream.specs.Cases.{IsCase, Takes, with_row}
+use Rattle.trace_stream.specs.Cases.{with_row}
 use Rattle.trace_stream.specs.Following.{Follows, IsFollowedOn}
 use Rattle.trace_stream.specs.Pendings.{IsTextOfRows}
-use Rattle.trace_stream.specs.Watching.{first_truth, Pass, IsWatched, IsFed, IsOwing, CanTake, HasGivenAll}
+use Rattle.trace_stream.specs.Watching.{first_truth, Pass, IsWatched, IsOwing, CanTake, HasGivenAll}
 use Rattle.trace_stream.specs.declared.case.Case.{Case}
 use Rattle.trace_stream.specs.declared.verdicts.Network.{Network}
 use Rattle.trace_stream.specs.declared.verdicts.Verdicts.{Verdicts}
-use Rattle.trace_stream.proofs.Passes.{state_after, parted, emitted_alike, alike_length, Gives, AreQuiet, quiet_shown, quiet_gives, LeavesRoot, pass_gives}
+use Rattle.trace_stream.proofs.Passes.{state_after, parted, emitted_alike, alike_length, Gives, AreQuiet, quiet_shown, quiet_gives, pass_gives}
 use Rattle.trace_stream.proofs.Taking.{first_alike, emitted_takes}
-use Rattle.trace_stream.proofs.Watched.{no_row, show, shown_by, AreOthers, steps_others, taken_on, rows_at}
+use Rattle.trace_stream.proofs.Watched.{no_row, shown_by, AreOthers, taken_on, rows_at}
 use Rattle.trace_stream.proofs.Watched.{driven_at, driven_emptied, none_driven, after_pass, Passing}
 use Rattle.trace_stream.proofs.Watched.{passing_of, pass_before, front_after, shown_after, rows_told}
 use Rattle.trace_stream.proofs.Cutting.{Leads, describes_leads, alike_sym, leads_alike}
-use Rattle.trace_stream.proofs.CutRows.{whole_trace, LeftTo, rows_cut}
+use Rattle.trace_stream.proofs.CutRows.{LeftTo, rows_cut}
 
 module _ (nodes : List Node) (header : Header) where
   -- the root's place

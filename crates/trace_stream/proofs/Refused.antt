@@ -1,8 +1,7 @@
 -- A stream that is refused for a denominator: which bytes were taken by then, and what was made of them.
-use Rattle.std.proofs.Common.{◌≡◌, ℕ, ◌-◌, ◌^◌, Bool, true, false, List, [], ◌∷◌, ◌++◌, refl, sym, ap, ◌∙◌, subst, Option, Some, None}
+use Rattle.std.proofs.Common.{◌≡◌, ℕ, ◌-◌, ◌^◌, Bool, true, false, List, [], ◌∷◌, ◌++◌, refl, sym, ◌∙◌, subst, Option, Some, None}
 use Rattle.std.specs.Prelude.{option_map, slice_get}
 use Rattle.std.proofs.lemmas.Bool.{false≢true}
-use Rattle.std.proofs.lemmas.List.{append-nil}
 use Rattle.std.proofs.lemmas.Option.{slice_get-map}
 use Rattle.pl_signal.proofs.Values.{some_is}
 use Rattle.stl_syntax.specs.Formula.{Formula, root}
@@ -19,7 +18,7 @@ use Rattle.trace_stream.specs.Cases.{IsCase, with_row}
 use Rattle.trace_stream.specs.Reading.{IsSound, IsKept, IsTied, IsEnded}
 use Rattle.trace_stream.specs.Streams.{Stream, verdicts, early, margins, HasStream, StreamText}
 use Rattle.trace_stream.specs.Wides.{IsNeededByThen, at_row, at_end}
-use Rattle.trace_stream.specs.Following.{Follows, IsFollowed, IsFollowFault, IsUnwritten, IsHeldUp, IsLiveStop, stop_of}
+use Rattle.trace_stream.specs.Following.{IsFollowed, IsFollowFault, IsUnwritten, IsHeldUp, IsLiveStop, stop_of}
 use Rattle.trace_stream.specs.declared.case.Case.{Case}
 use Rattle.trace_stream.specs.declared.fault.StreamStop.{StreamStop}
 use Rattle.trace_stream.specs.declared.follow.FollowFault.{FollowFault}

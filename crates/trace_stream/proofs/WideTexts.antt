@@ -1,5 +1,5 @@
 -- What was made before a refusal for a denominator is the front of what a stream of margins is owed.
-use Rattle.std.proofs.Common.{◌≡◌, ℕ, Bool, true, false, List, [], ◌∷◌, ◌++◌, refl, sym, ap, ◌∙◌, subst, append_assoc, append-nil, Option, Some, None}
+use Rattle.std.proofs.Common.{◌≡◌, ℕ, Bool, true, false, List, [], ◌∷◌, ◌++◌, refl, sym, ap, ◌∙◌, subst, append_assoc, append-nil, Some}
 use Rattle.stl_syntax.specs.Formula.{Formula, root}
 use Rattle.stl_syntax.specs.Scaling.{scaled}
 use Rattle.stl_syntax.specs.Trace.{Header, Row}

@@ -1,5 +1,5 @@
 -- Verdicts that were given out and whose lines are not made yet: what of them lies up to the time that a row answers, and what is left.
-use Rattle.std.specs.Prelude.{◌≡◌, ◌⊎◌, ℕ, ◌-◌, ◌<◌, ◌≤◌, Bool, true, List, [], ◌∷◌, ◌++◌, Option, Some, None, pos}
+use Rattle.std.specs.Prelude.{◌≡◌, ◌⊎◌, ℕ, ◌-◌, ◌<◌, ◌≤◌, true, List, [], ◌∷◌, ◌++◌, Option, Some, None, pos}
 use Rattle.rational.specs.Rational.{whole}
 use Rattle.frac128.specs.Spans.{interval}
 use Rattle.stl_syntax.specs.Texts.{AreVerdictLines}

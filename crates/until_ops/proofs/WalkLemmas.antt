@@ -6,7 +6,7 @@ use Rattle.rational.specs.Rational.{Rational, IsWithin, ◌<ʳ◌, ◌≤ʳ◌, 
 use Rattle.rational.specs.Time.{missing}
 use Rattle.rational.specs.Extended.{IsLeast, value_at}
 use Rattle.rational.specs.Affine.{IsBounded, HasBoundedLevel, MeetAlone}
-use Rattle.rational.specs.InPlay.{IsLineOn, IsBreakpoint, IsCrossing}
+use Rattle.rational.specs.InPlay.{IsBreakpoint, IsCrossing}
 use Rattle.rational.specs.InPlay as I
 use Rattle.rational.proofs.Order.{le_refl, le_of_lt, le_of_same, ge_of_same, le_trans, lt_of_lt_of_le, not_lt_of_le, same_refl, same_sym, same_trans}
 use Rattle.rational.proofs.AffineLemmas.{bounded_same, same_reflᵉ, value_same}

@@ -1,15 +1,12 @@
 -- A window ahead or behind as a window from one offset to another.
-use Rattle.std.proofs.Common.{arith, ◌≡◌, ◌⊎◌, inl, inr, ℕ, ◌*◌, ◌+◌, ◌^◌, ℤ, pos, List, Bool, true, Option, None, Some, refl, sym, ap, ◌∙◌, subst}
-use Rattle.std.specs.Prelude.{neg_ℤ, ◌-ℤ◌, ◌+ℤ◌, ◌≤ℤ◌, IfSome, IsTrue}
-use Rattle.std.proofs.lemmas.Int.{ints}
-use Rattle.rational.specs.Rational.{whole}
-use Rattle.rational.specs.Time.{Rational, Within, Precedes, shifted, later, ◌≤ʳ◌, ◌<ʳ◌, ◌≈◌}
+use Rattle.std.proofs.Common.{arith, ◌≡◌, ◌⊎◌, inl, inr, ℕ, ℤ, pos, List, Bool, true, ap, ◌∙◌}
+use Rattle.std.specs.Prelude.{neg_ℤ, ◌-ℤ◌}
+use Rattle.rational.specs.Time.{Rational, Within, shifted, later, ◌≤ʳ◌, ◌<ʳ◌, ◌≈◌}
 use Rattle.rational.specs.Extended.{Extended, Affine}
-use Rattle.rational.specs.Windows.{Function, Ahead, Behind}
-use Rattle.rational.specs.InPlay.{HasTime, IsInPlay, IsWideCrossing, IsWideValue, window_ahead, window_behind}
-use Rattle.rational.proofs.Order.{le_of_same, ge_of_same, le_trans, lt_of_le_of_lt, lt_of_lt_of_le, not_lt_of_le, same_sym}
-use Rattle.rational.proofs.Mixed.{above_neg, below_neg}
-use Rattle.rational.proofs.TimeLemmas.{precedes_after, precedes_before, precedes_of_lt}
+use Rattle.rational.specs.Windows.{Function, Ahead}
+use Rattle.rational.specs.InPlay.{IsInPlay, IsWideCrossing, IsWideValue, window_ahead}
+use Rattle.rational.proofs.Order.{le_of_same, ge_of_same}
+use Rattle.rational.proofs.TimeLemmas.{precedes_after, precedes_before}
 use Rattle.frac128.specs.Value.{value}
 use Rattle.value_laws.specs.Members.{ShapeOf}
 use Rattle.pl_signal.specs.declared.knot.Knot.{Knot}

@@ -1,22 +1,22 @@
 -- A window behind as a window from one offset to another, both negative.
-use Rattle.std.proofs.Common.{arith, ◌≡◌, ◌⊎◌, inl, inr, ℕ, ◌*◌, ◌+◌, ◌-◌, ◌^◌, ℤ, pos, List, Bool, true, false, Option, None, Some, refl, sym, ap, ◌∙◌, subst}
-use Rattle.std.specs.Prelude.{neg_ℤ, ◌-ℤ◌, ◌+ℤ◌, ◌≤ℤ◌, IfSome, IsTrue}
+use Rattle.std.proofs.Common.{arith, ◌≡◌, ◌⊎◌, inl, inr, ℕ, ◌+◌, ◌-◌, ◌^◌, ℤ, pos, List, Bool, true, false, Option, None, Some, sym, subst}
+use Rattle.std.specs.Prelude.{neg_ℤ, ◌-ℤ◌, ◌+ℤ◌, IfSome}
 use Rattle.std.proofs.lemmas.Int.{ints}
 use Rattle.rational.specs.Rational.{whole}
 use Rattle.rational.specs.Time.{Rational, Within, Precedes, shifted, later, ◌≤ʳ◌, ◌<ʳ◌, ◌≈◌}
-use Rattle.rational.specs.Extended.{Extended, Affine}
-use Rattle.rational.specs.Windows.{Function, Behind}
-use Rattle.rational.specs.InPlay.{HasTime, IsEndBehind, IsInPlay, IsLeftLimit, IsRightLimit, window_behind}
-use Rattle.rational.proofs.Order.{le_of_lt, le_of_same, ge_of_same, le_trans, lt_of_le_of_lt, lt_of_lt_of_le, not_lt_of_le, same_refl, same_sym, same_trans}
+use Rattle.rational.specs.Extended.{Affine}
+use Rattle.rational.specs.Windows.{Behind}
+use Rattle.rational.specs.InPlay.{IsEndBehind, IsInPlay, IsLeftLimit, IsRightLimit, window_behind}
+use Rattle.rational.proofs.Order.{le_of_lt, le_of_same, ge_of_same, le_trans, lt_of_le_of_lt, lt_of_lt_of_le, not_lt_of_le, same_refl, same_trans}
 use Rattle.rational.proofs.Shift.{lt_whole, same_shift}
-use Rattle.rational.proofs.TimeLemmas.{precedes_after, precedes_before, precedes_of_lt, shifted-add}
+use Rattle.rational.proofs.TimeLemmas.{precedes_of_lt, shifted-add}
 use Rattle.frac128.specs.Value.{value}
 use Rattle.value_laws.specs.Members.{ShapeOf}
 use Rattle.pl_signal.specs.declared.knot.Knot.{Knot}
 use Rattle.pl_signal.specs.declared.faults.WidePair.TheVariants.{Cross, Value}
 use Rattle.pl_signal.specs.declared.faults.OpFault.{OpFault}
 use Rattle.pl_signal.specs.declared.faults.OpFault.TheVariants as F
-use Rattle.pl_signal.specs.Knots.{HasShape, IsWorth, start, stop}
+use Rattle.pl_signal.specs.Knots.{IsWorth, start, stop}
 use Rattle.pl_signal.specs.Wide.{HasCause}
 use Rattle.window_ops.specs.declared.offsets.Offsets.{Offsets}
 use Rattle.window_ops.specs.Behind.{IsReach}

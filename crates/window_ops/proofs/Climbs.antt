@@ -1,41 +1,40 @@
 -- A gap that counts as itself while the high end of the window moves over it.
-use Rattle.std.proofs.Common.{◌≡◌, ◌⊎◌, inl, inr, ℕ, ◌+◌, ◌∷◌, ◌^◌, List, true, false, Option, None, Some, refl, sym, ap, ◌∙◌, subst}
-use Rattle.std.specs.Prelude.{slice_get, ◌<ℤ◌, ◌-ℤ◌, neg_ℤ, ◌↔◌, IsTrue, IfSome}
+use Rattle.std.proofs.Common.{◌≡◌, ◌⊎◌, inl, inr, ℕ, ◌+◌, ◌∷◌, ◌^◌, List, true, false, Option, Some, refl, sym, ◌∙◌, subst}
+use Rattle.std.specs.Prelude.{slice_get, ◌-ℤ◌, neg_ℤ, ◌↔◌, IsTrue, IfSome}
 use Rattle.std.proofs.lemmas.Bool.{false≢true}
 use Rattle.rational.specs.Rational.{IsWithin, add, whole}
-use Rattle.rational.specs.Time.{Rational, Within, Precedes, shifted, ◌≤ʳ◌, ◌<ʳ◌, ◌≈◌}
-use Rattle.rational.specs.Extended.{Extended, value_at, ◌≈ᵉ◌}
+use Rattle.rational.specs.Time.{Rational, Precedes, shifted, ◌≤ʳ◌, ◌<ʳ◌, ◌≈◌}
+use Rattle.rational.specs.Extended.{value_at, ◌≈ᵉ◌}
 use Rattle.rational.specs.Affine.{HasBoundedLevel}
 use Rattle.rational.specs.InPlay.{HasTime}
-use Rattle.rational.proofs.Order.{le_refl, le_of_lt, le_of_same, ge_of_same, le_trans, lt_of_le_of_lt, lt_of_lt_of_le}
-use Rattle.rational.proofs.Order.{lt_trans, lt_or_same_or_gt, not_lt_of_le, same_of_le, same_refl, same_sym, same_trans}
+use Rattle.rational.proofs.Order.{le_refl, le_of_lt, le_trans, lt_of_le_of_lt, lt_of_lt_of_le}
+use Rattle.rational.proofs.Order.{lt_trans, lt_or_same_or_gt, not_lt_of_le, same_of_le, same_refl, same_sym}
 use Rattle.rational.proofs.LimitLemmas.{later_end}
 use Rattle.rational.proofs.TimeLemmas.{precedes_le, shifted-add}
 use Rattle.rational.proofs.AffineLemmas.{bounded_same, same_symᵉ, same_transᵉ, value_same}
 use Rattle.frac128.specs.Value.{value}
-use Rattle.frac128.specs.declared.frac.Frac.{Frac}
 use Rattle.value_laws.specs.Members.{ShapeOf, ShapeLaws}
 use Rattle.pl_signal.specs.declared.knot.Knot.{Knot}
 use Rattle.pl_signal.specs.declared.faults.WidePair.{WidePair}
-use Rattle.pl_signal.specs.Knots.{time, HasShape, IsWorth, start, stop}
+use Rattle.pl_signal.specs.Knots.{time, IsWorth, start, stop}
 use Rattle.pl_signal.proofs.Values.{next_rises, shape_after, worth_between, worth_within}
 use Rattle.pl_signal.proofs.Limits.{limits_bounded}
 use Rattle.envelope.specs.declared.turns.Turn.{Turn}
 use Rattle.envelope.specs.declared.walk.Walk.{Walk}
 use Rattle.envelope.specs.Turns.{HasCome, IsToCome, none_of}
-use Rattle.envelope.specs.Standing.{Part, Counts, IsOneOf}
-use Rattle.envelope.specs.Walking.{CanTake, Climbed, IsPiecesFault, Walks, climbed_until}
+use Rattle.envelope.specs.Standing.{Part, IsOneOf}
+use Rattle.envelope.specs.Walking.{Climbed, IsPiecesFault, Walks, climbed_until}
 use Rattle.envelope.proofs.TurnOrder.{at_of_come}
 use Rattle.envelope.proofs.Walks.{take_later}
 use Rattle.envelope.proofs.Bests.{no_better_same}
 use Rattle.window_ops.specs.declared.offsets.Way.{Way}
 use Rattle.window_ops.specs.Over.{IsCauseOver, Over}
-use Rattle.window_ops.specs.Going.{Goes, HasClimbed, InDomain, IsClamped, IsFair, IsNonEmpty, IsStopped, IsWay, ReachesAt, StandsAt, turn_of}
-use Rattle.window_ops.proofs.Counting.{at_most_to_come, clamped_come, clamped_high, clamped_stop, come_clamped, goes_later, refused_of, way_order}
+use Rattle.window_ops.specs.Going.{HasClimbed, InDomain, IsClamped, IsFair, IsNonEmpty, IsStopped, IsWay, ReachesAt, StandsAt, turn_of}
+use Rattle.window_ops.proofs.Counting.{clamped_come, clamped_high, come_clamped, goes_later, refused_of, way_order}
 use Rattle.window_ops.proofs.Covering.{came_gap, come_next, covers_by, strictly_come, strictly_to_come}
 use Rattle.window_ops.proofs.Ends.{shift_forth, to_come_alike}
 use Rattle.window_ops.proofs.Reaching.{end_in_play, reach_gap, time_under}
-use Rattle.window_ops.proofs.Spans.{Span, lt_offsets}
+use Rattle.window_ops.proofs.Spans.{lt_offsets}
 use Rattle.window_ops.proofs.Values.{reaches_same, reaches_value}
 
 -- a turn that lies no later than just after the stop, and is the turn up to there

@@ -1,18 +1,15 @@
 -- What a walk stands for once a piece was counted.
-use Rattle.std.proofs.Common.{arith, pos, ◌≡◌, ◌⊎◌, inl, inr, ◌^◌, ◌∷◌, [], List, Option, None, Some, true, false, refl, sym, ap, ◌∙◌, subst}
+use Rattle.std.proofs.Common.{arith, pos, ◌≡◌, ◌⊎◌, inl, inr, ◌^◌, List, Option, None, Some, true, false, refl, sym, subst}
 use Rattle.std.specs.Prelude.{IfSome, neg_ℤ}
 use Rattle.rational.specs.Rational.{IsWithin}
-use Rattle.rational.specs.Time.{Rational, Within, shifted, ◌≤ʳ◌, ◌<ʳ◌, ◌≈◌}
+use Rattle.rational.specs.Time.{Rational, shifted, ◌≤ʳ◌, ◌<ʳ◌, ◌≈◌}
 use Rattle.rational.specs.Extended.{Extended, value_at, ◌≈ᵉ◌}
-use Rattle.rational.specs.InPlay.{IsWideCrossing}
-use Rattle.rational.proofs.Order.{le_refl, le_of_lt, le_of_same, ge_of_same, le_trans, lt_of_le_of_lt, lt_of_lt_of_le, lt_trans, not_lt_of_le, same_trans}
+use Rattle.rational.proofs.Order.{le_refl, le_of_lt, ge_of_same, le_trans, lt_of_le_of_lt, lt_of_lt_of_le}
 use Rattle.std.proofs.lemmas.Int.{ints}
 use Rattle.rational.proofs.Shift.{le_whole}
 use Rattle.rational.proofs.AffineLemmas.{same_symᵉ, same_transᵉ, same_reflᵉ}
 use Rattle.frac128.specs.Value.{value}
-use Rattle.frac128.specs.declared.frac.Frac.{Frac}
 use Rattle.value_laws.specs.Members.{ShapeOf, ShapeLaws}
-use Rattle.pl_signal.specs.declared.joining.Side.{Side}
 use Rattle.pl_signal.specs.declared.knot.Knot.{Knot}
 use Rattle.pl_signal.specs.declared.faults.WidePair.{WidePair}
 use Rattle.pl_signal.specs.declared.faults.WidePair.TheVariants.{Cross, Value}
@@ -22,19 +19,19 @@ use Rattle.envelope.specs.declared.walk.Item.{Item}
 use Rattle.envelope.specs.declared.walk.Slope.{Slope}
 use Rattle.envelope.specs.declared.walk.Walk.{Walk}
 use Rattle.envelope.specs.Turns.{HasCome, IsToCome, IsNoBetter, none_of}
-use Rattle.envelope.specs.Standing.{Part, Counts, IsOneOf, IsFalling, IsNewItem, IsSlope, Gives, GivesSlope, piece_of, pieces_with, slope_until}
-use Rattle.envelope.specs.Walking.{CanTake, IsCrossingOn, IsPiecesFault, LeavesBy, StopsAt, Took, Walks, last_turn}
+use Rattle.envelope.specs.Standing.{Part, Counts, IsOneOf, IsFalling, IsNewItem, IsSlope, GivesSlope, piece_of, pieces_with, slope_until}
+use Rattle.envelope.specs.Walking.{IsPiecesFault, Took, Walks, last_turn}
 use Rattle.envelope.proofs.TurnOrder.{at_of_come, not_both, to_come_before}
-use Rattle.envelope.proofs.Bests.{no_better_refl, no_better_same, no_better_trans}
+use Rattle.envelope.proofs.Bests.{no_better_same, no_better_trans}
 use Rattle.envelope.proofs.Faulting.{if_some}
 use Rattle.envelope.proofs.Walks.{leaves_later, take_later}
 use Rattle.window_ops.specs.declared.offsets.Way.{Way}
 use Rattle.window_ops.specs.declared.counted.Piece.{Piece}
 use Rattle.window_ops.specs.declared.counted.Extent.TheVariants.{Never}
 use Rattle.window_ops.specs.Over.{InPlay, IsCauseOver}
-use Rattle.window_ops.specs.Going.{CanCount, Goes, HasCounted, HasRefused, HasSlope, InDomain, IsClamped, IsExtent, IsFair}
-use Rattle.window_ops.specs.Going.{IsOn, IsPiece, IsSlopeOf, IsValueOf, IsWay, Offers, OffersSlope, ReachesAt, turn_of}
-use Rattle.window_ops.proofs.Ends.{come_at, to_come_alike}
+use Rattle.window_ops.specs.Going.{CanCount, Goes, HasCounted, HasSlope, InDomain, IsClamped, IsExtent, IsFair}
+use Rattle.window_ops.specs.Going.{IsOn, IsPiece, IsSlopeOf, IsValueOf, IsWay, OffersSlope, turn_of}
+use Rattle.window_ops.proofs.Ends.{come_at}
 use Rattle.window_ops.proofs.Values.{reaches_same}
 
 -- what is to come lies no earlier

@@ -1,21 +1,20 @@
 -- A walk that has counted a piece of the signal has met it.
-use Rattle.std.proofs.Common.{◌≡◌, ◌⊎◌, inl, inr, ℕ, ◌+◌, ◌^◌, List, Bool, true, false, Option, None, Some, not, refl, sym, ap, ◌∙◌, subst}
-use Rattle.std.specs.Prelude.{slice_get, ◌<ℤ◌}
+use Rattle.std.proofs.Common.{◌≡◌, ◌⊎◌, inl, inr, ℕ, ◌+◌, List, Bool, true, false, None, Some, not, refl, sym}
+use Rattle.std.specs.Prelude.{slice_get}
 use Rattle.std.proofs.lemmas.Bool.{false≢true}
-use Rattle.rational.specs.Time.{Rational, Within, Precedes, shifted, ◌≤ʳ◌, ◌<ʳ◌, ◌≈◌}
+use Rattle.rational.specs.Time.{Rational, Precedes, shifted, ◌<ʳ◌, ◌≈◌}
 use Rattle.rational.specs.Extended.{Extended, value_at, ◌≈ᵉ◌}
-use Rattle.rational.specs.Affine.{IsSteady, HasBoundedLevel}
-use Rattle.rational.proofs.Order.{le_refl, le_of_lt, le_of_same, ge_of_same, le_or_lt, le_trans, lt_of_le_of_lt}
-use Rattle.rational.proofs.Order.{lt_of_lt_of_le, lt_or_same_or_gt, not_lt_of_le, same_refl, same_sym, same_trans}
-use Rattle.rational.proofs.TimeLemmas.{precedes_le, precedes_before, precedes_after}
-use Rattle.rational.proofs.AffineLemmas.{same_reflᵉ, same_symᵉ, same_transᵉ, value_same}
+use Rattle.rational.proofs.Order.{le_of_same, ge_of_same}
+use Rattle.rational.proofs.Order.{lt_of_lt_of_le, lt_or_same_or_gt, not_lt_of_le, same_sym}
+use Rattle.rational.proofs.TimeLemmas.{precedes_before, precedes_after}
+use Rattle.rational.proofs.AffineLemmas.{same_symᵉ, same_transᵉ, value_same}
 use Rattle.frac128.specs.Value.{value}
 use Rattle.frac128.specs.declared.frac.Frac.{Frac}
 use Rattle.value_laws.specs.Members.{ShapeOf, ShapeLaws}
 use Rattle.pl_signal.specs.declared.knot.Knot.{Knot}
-use Rattle.pl_signal.specs.Knots.{time, HasShape, IsWorth, start, stop}
-use Rattle.pl_signal.proofs.Values.{next_rises, one_value, shape_after, shape_at, worth_at, worth_between}
-use Rattle.pl_signal.proofs.Limits.{limits_bounded, point_bounded}
+use Rattle.pl_signal.specs.Knots.{time, IsWorth, start, stop}
+use Rattle.pl_signal.proofs.Values.{next_rises, one_value, shape_at, worth_at, worth_between}
+use Rattle.pl_signal.proofs.Limits.{point_bounded}
 use Rattle.envelope.specs.declared.turns.Turn.{Turn}
 use Rattle.envelope.specs.declared.walk.Walk.{Walk}
 use Rattle.envelope.specs.Turns.{HasCome, IsToCome, IsNoBetter}
@@ -25,12 +24,12 @@ use Rattle.envelope.proofs.Bests.{no_better_same, no_better_trans}
 use Rattle.window_ops.specs.declared.offsets.Way.{Way}
 use Rattle.window_ops.specs.declared.counted.Piece.{Piece}
 use Rattle.window_ops.specs.Over.{Over}
-use Rattle.window_ops.specs.Going.{CanCount, GetsBetter, Goes, HasClimbed, HasCounted, InDomain, IsPiece, IsWay, StandsAt, turn_of}
-use Rattle.window_ops.proofs.Counting.{at_most_to_come, goes_later, within_domain}
+use Rattle.window_ops.specs.Going.{CanCount, Goes, HasCounted, InDomain, IsPiece, IsWay, StandsAt, turn_of}
+use Rattle.window_ops.proofs.Counting.{goes_later, within_domain}
 use Rattle.window_ops.proofs.Ends.{come_at, to_come_alike}
-use Rattle.window_ops.proofs.Reaching.{come_precedes, knot_in, left_in_play, low_before_high, point_in_play}
-use Rattle.window_ops.proofs.Reaching.{reach_gap, reach_point, steady_in_play, stretch, to_come_precedes}
-use Rattle.window_ops.proofs.Spans.{Span, lt_offsets}
+use Rattle.window_ops.proofs.Reaching.{come_precedes, knot_in, point_in_play}
+use Rattle.window_ops.proofs.Reaching.{reach_point, to_come_precedes}
+use Rattle.window_ops.proofs.Spans.{Span}
 
 -- a turn just after a time has not come before the one at it
 come_sooner : (k : Frac) (b : Bool) (u : Rational) → HasCome (turn_of k b) u → HasCome (turn_of k false) u

@@ -1,14 +1,14 @@
 -- Turns at which an end of the window comes to a time, by that end.
-use Rattle.std.proofs.Common.{◌≡◌, ◌⊎◌, inl, inr, ℤ, true, false, refl, sym, ◌∙◌, subst}
+use Rattle.std.proofs.Common.{◌≡◌, ◌⊎◌, inl, inr, ℤ, false, refl, sym, ◌∙◌}
 use Rattle.std.specs.Prelude.{neg_ℤ, ◌↔◌}
 use Rattle.std.specs.declared.cmp.Ordering.{Ordering}
 use Rattle.std.specs.declared.cmp.Ordering.TheVariants.{Less, Equal, Greater}
 use Rattle.rational.specs.Rational.{IsOrder, add, whole}
 use Rattle.rational.specs.Time.{Rational, ◌≤ʳ◌, ◌<ʳ◌, ◌≈◌, shifted}
 use Rattle.rational.proofs.Order.{le_of_lt, le_of_same, ge_of_same, le_trans, lt_of_le_of_lt, lt_of_lt_of_le}
-use Rattle.rational.proofs.Order.{same_of_le, same_sym, same_trans, lt_or_same_or_gt, not_lt_of_le}
+use Rattle.rational.proofs.Order.{same_of_le, same_trans, lt_or_same_or_gt, not_lt_of_le}
 use Rattle.rational.proofs.Shift.{le_shift, le_shift_cancel, lt_shift, lt_shift_cancel, same_shift, shift_back}
-use Rattle.rational.proofs.TimeLemmas.{shifted-add, same_shifted}
+use Rattle.rational.proofs.TimeLemmas.{shifted-add}
 use Rattle.frac128.specs.Value.{value}
 use Rattle.frac128.specs.declared.frac.Frac.{Frac}
 use Rattle.envelope.specs.declared.turns.Turn.{Turn}

@@ -1,17 +1,17 @@
 -- The values that stand for a piece: the shape itself, moved, where it counts at one time alone, and else its constant.
-use Rattle.std.proofs.Common.{arith, ◌≡◌, ◌⊎◌, inl, inr, ℕ, ℤ, pos, ◌≤◌, ◌^◌, List, false, true, refl, sym, ap, ◌∙◌, subst}
+use Rattle.std.proofs.Common.{arith, ◌≡◌, ◌⊎◌, inl, inr, ℕ, ℤ, pos, ◌≤◌, ◌^◌, List, false, sym, ap, ◌∙◌, subst}
 use Rattle.std.specs.Prelude.{◌-ℤ◌, neg_ℤ, ◌≤ℤ◌, IsTrue}
 use Rattle.std.specs.Int.RustNames.{unsigned_abs}
 use Rattle.std.proofs.lemmas.Int.{ints}
 use Rattle.std.proofs.lemmas.Bool.{false≢true}
 use Rattle.rational.specs.Rational.{add, whole, middle}
 use Rattle.rational.specs.Time.{Rational, shifted, ◌≤ʳ◌, ◌<ʳ◌, ◌≈◌, HasDenominator}
-use Rattle.rational.specs.Extended.{Extended, Affine, finite, affine, value_at, ◌≈ᵉ◌}
+use Rattle.rational.specs.Extended.{finite, affine, value_at, ◌≈ᵉ◌}
 use Rattle.rational.specs.Affine.{HasBoundedLevel}
 use Rattle.rational.specs.Line.{constant}
 use Rattle.rational.proofs.Lines.{at_constant}
 use Rattle.rational.proofs.LimitLemmas.{earlier_end, later_end}
-use Rattle.rational.proofs.Order.{le_refl, le_of_lt, le_of_same, ge_of_same, le_trans, lt_of_le_of_lt, lt_of_lt_of_le}
+use Rattle.rational.proofs.Order.{le_of_lt, le_of_same, ge_of_same, le_trans, lt_of_le_of_lt, lt_of_lt_of_le}
 use Rattle.rational.proofs.Order.{lt_trans, not_lt_of_le, same_sym, same_trans, left_of_middle, right_of_middle}
 use Rattle.rational.proofs.Shift.{le_shift, shift_back}
 use Rattle.rational.proofs.TimeLemmas.{shifted-add, later_of}
@@ -20,11 +20,10 @@ use Rattle.frac128.specs.Value.{value}
 use Rattle.value_laws.specs.Members.{ShapeOf, ShapeLaws}
 use Rattle.pl_signal.specs.declared.knot.Knot.{Knot}
 use Rattle.pl_signal.specs.declared.faults.WidePair.TheVariants.{Value}
-use Rattle.pl_signal.specs.Knots.{HasShape, start, stop}
+use Rattle.pl_signal.specs.Knots.{start, stop}
 use Rattle.envelope.specs.declared.turns.Turn.{Turn}
 use Rattle.envelope.specs.Turns.{HasCome, IsToCome}
 use Rattle.envelope.proofs.TurnOrder.{at_of_come}
-use Rattle.window_ops.specs.Conditions.{AreNear}
 use Rattle.window_ops.specs.declared.offsets.Way.{Way}
 use Rattle.window_ops.specs.declared.counted.Piece.{Piece}
 use Rattle.window_ops.specs.Over.{IsCauseOver}

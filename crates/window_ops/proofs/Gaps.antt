@@ -1,25 +1,23 @@
 -- A gap that stays as it is, and one that gets better or worse with time, once it was counted.
-use Rattle.std.proofs.Common.{◌≡◌, ◌⊎◌, inl, inr, ℕ, ◌+◌, ◌^◌, List, Bool, true, false, Option, None, Some, refl, sym, ap, ◌∙◌, subst}
-use Rattle.std.specs.Prelude.{slice_get, ◌<ℤ◌, ◌-ℤ◌, neg_ℤ, ◌↔◌, IsTrue}
+use Rattle.std.proofs.Common.{◌≡◌, ◌⊎◌, inl, inr, ℕ, ◌+◌, ◌^◌, List, true, false, Option, None, Some, refl, sym, ◌∙◌, subst}
+use Rattle.std.specs.Prelude.{slice_get, ◌<ℤ◌, neg_ℤ, ◌↔◌}
 use Rattle.std.proofs.lemmas.Bool.{false≢true}
 use Rattle.rational.specs.Rational.{IsWithin, add, whole}
-use Rattle.rational.specs.Time.{Rational, Within, shifted, ◌≤ʳ◌, ◌<ʳ◌, ◌≈◌}
-use Rattle.rational.specs.Extended.{Affine, Extended, value_at, ◌≈ᵉ◌, ◌≤ᵉ◌}
+use Rattle.rational.specs.Time.{Rational, shifted, ◌≤ʳ◌, ◌<ʳ◌, ◌≈◌}
+use Rattle.rational.specs.Extended.{Affine, value_at, ◌≈ᵉ◌}
 use Rattle.rational.specs.InPlay.{IsConstant}
 use Rattle.rational.specs.Affine.{IsBounded, IsSteady, HasBoundedLevel}
 use Rattle.rational.proofs.Order.{le_refl, le_of_lt, le_of_same, ge_of_same, le_or_lt, le_trans, lt_of_le_of_lt}
 use Rattle.rational.proofs.Order.{lt_of_lt_of_le, lt_trans, lt_or_same_or_gt, not_lt_of_le, same_of_le, same_refl, same_sym}
-use Rattle.rational.proofs.Order.{same_trans}
 use Rattle.rational.proofs.LimitLemmas.{earlier_end, later_end}
 use Rattle.rational.proofs.Shift.{le_shift, shift_back}
 use Rattle.rational.proofs.TimeLemmas.{precedes_le, shifted-add}
 use Rattle.rational.proofs.AffineLemmas.{bounded_same, same_symᵉ, same_transᵉ, value_same}
-use Rattle.rational.proofs.Bounds.{HasBounded}
 use Rattle.frac128.specs.Value.{value}
 use Rattle.frac128.specs.declared.frac.Frac.{Frac}
 use Rattle.value_laws.specs.Members.{ShapeOf, ShapeLaws}
 use Rattle.pl_signal.specs.declared.knot.Knot.{Knot}
-use Rattle.pl_signal.specs.Knots.{time, HasShape, IsWorth, start, stop}
+use Rattle.pl_signal.specs.Knots.{time, IsWorth, start, stop}
 use Rattle.pl_signal.proofs.Values.{next_rises, shape_after, worth_between}
 use Rattle.pl_signal.proofs.Limits.{limits_bounded, worth_bounded}
 use Rattle.envelope.specs.declared.turns.Turn.{Turn}
@@ -30,9 +28,8 @@ use Rattle.envelope.specs.Standing.{Part, Counts, IsOneOf}
 use Rattle.envelope.proofs.TurnOrder.{at_of_come}
 use Rattle.envelope.proofs.Bests.{no_better_same, no_better_trans}
 use Rattle.window_ops.specs.declared.offsets.Way.{Way}
-use Rattle.window_ops.specs.declared.counted.Piece.{Piece}
 use Rattle.window_ops.specs.Over.{InPlay, Over}
-use Rattle.window_ops.specs.Going.{CanCount, GetsBetter, GetsWorse, Goes, HasClimbed, HasCounted, HasSlope, InDomain, IsFair}
+use Rattle.window_ops.specs.Going.{CanCount, GetsBetter, GetsWorse, HasClimbed, HasCounted, HasSlope, InDomain}
 use Rattle.window_ops.specs.Going.{IsLowEnd, IsPiece, IsSlopeFrom, IsSlopeOf, IsWay, OffersSlope, ReachesAt, StandsAt, turn_of}
 use Rattle.window_ops.proofs.Counting.{at_most_to_come, goes_later, within_domain}
 use Rattle.window_ops.proofs.Covering.{came_gap, come_next, covers_by, precedes_to_come, strictly_come, strictly_to_come}

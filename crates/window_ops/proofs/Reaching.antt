@@ -1,35 +1,30 @@
 -- What the window reaches of a point and of a gap, and that it is in play.
-use Rattle.std.proofs.Common.{arith, ◌≡◌, ◌⊎◌, inl, inr, ℕ, ℤ, pos, ◌+◌, ◌^◌, List, Bool, true, false, Some, not, refl, sym, ap, subst}
-use Rattle.std.specs.Prelude.{slice_get, neg_ℤ, ◌≤ℤ◌, ◌<ℤ◌}
-use Rattle.std.proofs.lemmas.Int.{ints}
+use Rattle.std.proofs.Common.{◌≡◌, ◌⊎◌, inl, inr, ℕ, ℤ, pos, ◌+◌, ◌^◌, List, Bool, true, false, Some, not, refl, sym}
+use Rattle.std.specs.Prelude.{slice_get}
 use Rattle.std.proofs.lemmas.Bool.{false≢true}
-use Rattle.rational.specs.Rational.{IsWithin, add, whole, middle}
+use Rattle.rational.specs.Rational.{whole, middle}
 use Rattle.rational.specs.Time.{Rational, Within, Precedes, shifted, ◌≤ʳ◌, ◌<ʳ◌, ◌≈◌}
 use Rattle.rational.specs.Extended.{Extended, Affine, value_at, ◌≈ᵉ◌}
-use Rattle.rational.specs.Affine.{IsSteady, IsBounded}
+use Rattle.rational.specs.Affine.{IsSteady}
 use Rattle.rational.specs.InPlay.{HasTime, IsConstant}
 use Rattle.rational.proofs.Order.{le_refl, le_of_lt, le_of_same, ge_of_same, le_or_lt, le_trans, lt_of_le_of_lt}
-use Rattle.rational.proofs.Order.{lt_of_lt_of_le, lt_trans, not_lt_of_le, same_refl, same_sym, same_trans, left_of_middle}
+use Rattle.rational.proofs.Order.{lt_of_lt_of_le, same_refl, left_of_middle}
 use Rattle.rational.proofs.Order.{right_of_middle}
-use Rattle.rational.proofs.Mixed.{within_more, within_same}
 use Rattle.rational.proofs.LimitLemmas.{earlier_end, later_end}
 use Rattle.rational.proofs.Shift.{le_shift_by}
-use Rattle.rational.proofs.TimeLemmas.{precedes_of_lt, shifted-add, later_of, earlier_of}
-use Rattle.rational.proofs.AffineLemmas.{same_symᵉ, same_transᵉ, value_same, passes}
+use Rattle.rational.proofs.TimeLemmas.{precedes_of_lt, shifted-add, later_of}
+use Rattle.rational.proofs.AffineLemmas.{same_symᵉ, same_transᵉ}
 use Rattle.frac128.specs.Value.{value}
 use Rattle.frac128.specs.declared.frac.Frac.{Frac}
 use Rattle.value_laws.specs.Members.{ShapeOf, ShapeLaws}
 use Rattle.pl_signal.specs.declared.knot.Knot.{Knot}
-use Rattle.pl_signal.specs.Knots.{time, HasShape, IsWorth, start, stop}
+use Rattle.pl_signal.specs.Knots.{time, IsWorth, start, stop}
 use Rattle.pl_signal.proofs.Values.{next_rises, worth_at, worth_between, worth_within}
 use Rattle.pl_signal.proofs.Limits.{breakpoint_at, left_limit_in, part_in, right_limit_in}
-use Rattle.envelope.specs.declared.turns.Turn.{Turn}
 use Rattle.envelope.specs.Turns.{HasCome, IsToCome, none_of}
 use Rattle.window_ops.specs.declared.offsets.Way.{Way}
 use Rattle.window_ops.specs.Over.{Over, InPlay}
-use Rattle.window_ops.specs.Going.{InDomain, IsNonEmpty, IsWay, ReachesAt, turn_of}
-use Rattle.window_ops.proofs.Ends.{at_is, come_moved, ge_from, le_from, le_shifted, lt_from, lt_shifted}
-use Rattle.window_ops.proofs.Shifts.{high_from, high_to, low_from, low_to, turned_from, turned_to, within_sum}
+use Rattle.window_ops.specs.Going.{IsWay, ReachesAt, turn_of}
 use Rattle.window_ops.proofs.Values.{reaches_end, reaches_value}
 
 -- the later and the earlier of two times

@@ -1,12 +1,12 @@
 -- Times and shapes moved by an offset.
-use Rattle.std.proofs.Common.{arith, ◌≡◌, Result, Ok, Err, ℤ, pos, ◌^◌, ◌≤◌, ◌∙◌, ap, sym, subst, to_z, of_z, w64, lit<}
+use Rattle.std.proofs.Common.{arith, ◌≡◌, Result, Ok, Err, ℤ, pos, ◌^◌, ◌≤◌, ◌∙◌, ap, sym, to_z, of_z, w64, lit<}
 use Rattle.std.specs.Prelude.{◌-ℤ◌, neg_ℤ, ◌≤ℤ◌, OnOk}
 use Rattle.std.proofs.lemmas.Int.{to_z-of_z, ints}
 use Rattle.rational.specs.Rational.{IsWithin, add, whole, FitsFloor}
-use Rattle.rational.specs.Time.{Rational, ◌≤ʳ◌, ◌≈◌}
+use Rattle.rational.specs.Time.{Rational, ◌≤ʳ◌}
 use Rattle.rational.proofs.Order.{le_trans}
 use Rattle.rational.proofs.Shift.{le_whole}
-use Rattle.rational.proofs.Mixed.{fits_of_within, within_add, within_more, within_whole}
+use Rattle.rational.proofs.Mixed.{fits_of_within, within_add, within_whole}
 use Rattle.window_ops.specs.declared.offsets.Offsets.{Offsets}
 use Rattle.window_ops.specs.Over.{IsSmall}
 

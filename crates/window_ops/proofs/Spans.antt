@@ -1,12 +1,12 @@
 -- From when a piece of a signal counts in a moving window, and until when.
-use Rattle.std.proofs.Common.{arith, ◌≡◌, ◌⊎◌, inl, inr, ℤ, pos, ◌^◌, List, Bool, true, false, not, refl, sym, ap, ◌∙◌, subst}
+use Rattle.std.proofs.Common.{arith, ◌≡◌, ◌⊎◌, inl, inr, ℤ, pos, ◌^◌, List, Bool, true, not, refl, sym, ◌∙◌, subst}
 use Rattle.std.specs.Prelude.{neg_ℤ, ◌≤ℤ◌, ◌<ℤ◌, ◌+ℤ◌, ◌↔◌}
 use Rattle.std.proofs.lemmas.Int.{ints}
 use Rattle.std.proofs.lemmas.Bool.{false≢true}
 use Rattle.std.proofs.Math.Nat.{mul-lt-mul_of_pos_right}
 use Rattle.rational.specs.Rational.{IsWithin, add, whole}
 use Rattle.rational.specs.Time.{Rational, Within, shifted, later, ◌≤ʳ◌, ◌<ʳ◌, ◌≈◌}
-use Rattle.rational.proofs.Order.{le_refl, le_of_lt, le_of_same, ge_of_same, le_trans, lt_of_le_of_lt, lt_of_lt_of_le, same_refl, same_sym, same_trans}
+use Rattle.rational.proofs.Order.{le_refl, le_of_same, ge_of_same, le_trans, lt_of_le_of_lt, lt_of_lt_of_le, same_refl, same_sym, same_trans}
 use Rattle.rational.proofs.Mixed.{within_more, within_same}
 use Rattle.rational.proofs.Shift.{le_shift_by, same_shift, shift_twice}
 use Rattle.rational.proofs.TimeLemmas.{later-add, shifted-add}
@@ -18,10 +18,9 @@ use Rattle.pl_signal.specs.Knots.{start, stop}
 use Rattle.envelope.specs.declared.turns.Turn.{Turn}
 use Rattle.envelope.specs.Turns.{HasCome, IsToCome}
 use Rattle.envelope.proofs.TurnOrder.{at_of_come}
-use Rattle.window_ops.specs.declared.offsets.Offsets.{Offsets}
 use Rattle.window_ops.specs.declared.offsets.Way.{Way}
 use Rattle.window_ops.specs.Going.{IsNonEmpty, IsWay, turn_of}
-use Rattle.window_ops.proofs.Ends.{at_is, come_moved, ge_from, gt_from, le_from, le_shifted}
+use Rattle.window_ops.proofs.Ends.{at_is, come_moved, ge_from, gt_from, le_from}
 use Rattle.window_ops.proofs.Shifts.{high_from, high_to, low_from, low_to, turned_from, turned_to, within_sum}
 
 -- a time lies before what is a tick later

@@ -1,11 +1,10 @@
 -- The signal that a walk over all pieces ends with tells the best over the window.
 use Rattle.std.proofs.Common.{◌≡◌, ◌⊎◌, arith, inl, inr, ℕ, zero, suc, pos, ◌+◌, ◌<◌, ◌^◌, length, List}
 use Rattle.std.proofs.Common.{[], ◌∷◌, Option, None, Some, false, true, refl, sym, ap, ◌∙◌, subst}
-use Rattle.std.specs.Prelude.{IfSome, IsTrue, neg_ℤ, slice_get}
+use Rattle.std.specs.Prelude.{IfSome, neg_ℤ, slice_get}
 use Rattle.std.proofs.lemmas.Bool.{false≢true}
-use Rattle.rational.specs.Time.{Rational, Within, Precedes, shifted, ◌≤ʳ◌, ◌<ʳ◌, ◌≈◌}
-use Rattle.rational.specs.Extended.{Extended, value_at, ◌≤ᵉ◌, ◌<ᵉ◌, ◌≈ᵉ◌}
-use Rattle.rational.specs.Windows.{Function, IsSupOver, IsInfOver}
+use Rattle.rational.specs.Time.{Rational, Precedes, shifted, ◌≤ʳ◌, ◌<ʳ◌, ◌≈◌}
+use Rattle.rational.specs.Extended.{Extended, value_at}
 use Rattle.rational.proofs.Order.{le_refl, le_trans, le_of_lt, le_of_same, ge_of_same, not_lt_of_le, same_sym, same_refl, same_trans}
 use Rattle.rational.proofs.Shift.{same_shift}
 use Rattle.frac128.specs.Value.{value}
@@ -20,7 +19,7 @@ use Rattle.pl_signal.specs.declared.knot.Knot.{Knot}
 use Rattle.pl_signal.specs.declared.faults.OpFault.{OpFault}
 use Rattle.pl_signal.specs.declared.faults.WidePair.{WidePair}
 use Rattle.pl_signal.specs.declared.faults.OpFault.TheVariants as F
-use Rattle.pl_signal.specs.Knots.{HasShape, IsSignal, IsWorth, start, stop, time}
+use Rattle.pl_signal.specs.Knots.{IsSignal, IsWorth, start, stop, time}
 use Rattle.pl_signal.specs.Limits.{IsLimited}
 use Rattle.frac128.specs.declared.frac.Frac.{Frac}
 use Rattle.rational.specs.Rational.{whole}
@@ -38,8 +37,8 @@ use Rattle.envelope.proofs.Walks.{take_later}
 use Rattle.envelope.proofs.Bests.{no_better_trans}
 use Rattle.window_ops.specs.declared.offsets.Offsets.{Offsets}
 use Rattle.window_ops.specs.declared.offsets.Way.{Way}
-use Rattle.window_ops.specs.Over.{BasesOver, BestOver, HasCauseOver, IsCauseOver, IsBestOver, IsMovedOver, IsSmall, IsWorse, Over}
-use Rattle.window_ops.specs.Going.{HasMet, HasRefused, InDomain, IsFair, IsFaultOf, IsWay, StandsBy, turn_of}
+use Rattle.window_ops.specs.Over.{BasesOver, BestOver, HasCauseOver, IsCauseOver, IsMovedOver, IsSmall, IsWorse, Over}
+use Rattle.window_ops.specs.Going.{HasMet, HasRefused, InDomain, IsFaultOf, IsWay, StandsBy, turn_of}
 use Rattle.window_ops.proofs.Covering.{precedes_to_come, strictly_come, strictly_to_come}
 use Rattle.window_ops.proofs.Ends.{come_at, le_shifted, shift_forth}
 use Rattle.window_ops.proofs.Counting.{cause_of}

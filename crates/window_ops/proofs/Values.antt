@@ -1,9 +1,9 @@
 -- Values that are better and worse for a side, and what is reached.
-use Rattle.std.proofs.Common.{◌≡◌, ◌⊎◌, inl, inr}
+use Rattle.std.proofs.Common.{◌⊎◌, inl, inr}
 use Rattle.rational.specs.Time.{Rational, ◌≤ʳ◌, ◌<ʳ◌, ◌≈◌}
-use Rattle.rational.specs.Extended.{Extended, Affine, value_at, ◌≤ᵉ◌, ◌<ᵉ◌, ◌≈ᵉ◌}
+use Rattle.rational.specs.Extended.{Extended, Affine, value_at, ◌≤ᵉ◌, ◌≈ᵉ◌}
 use Rattle.rational.specs.Windows.{Function, Window}
-use Rattle.rational.proofs.ExtendedLemmas.{le_totalᵉ, lt_of_lt_of_leᵉ, lt_of_le_of_ltᵉ, le_of_ltᵉ, le_reflᵉ, clashᵉ}
+use Rattle.rational.proofs.ExtendedLemmas.{le_totalᵉ, lt_of_lt_of_leᵉ, lt_of_le_of_ltᵉ, le_of_ltᵉ, clashᵉ}
 use Rattle.rational.proofs.AffineLemmas.{near_start, near_stop, above_start, above_stop, value_same}
 use Rattle.pl_signal.specs.declared.joining.Side.{Side}
 use Rattle.pl_signal.specs.declared.joining.Side.TheVariants.{Least, Greatest}

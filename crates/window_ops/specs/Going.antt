@@ -1,6 +1,6 @@
 -- A window on its way over a signal: what it has met so far counts as pieces of a walk.
 use Rattle.std.specs.Prelude.{◌≡◌, ◌⊎◌, ◌^◌, ◌↔◌, Bool, true, false, ℕ, slice_get, List, Option, Some}
-use Rattle.std.specs.Prelude.{None, ℤ, pos, neg_ℤ, ◌≤ℤ◌, ◌<ℤ◌, ◌-ℤ◌, ◌+◌, IsTrue, IfSome, MatchOption}
+use Rattle.std.specs.Prelude.{None, pos, ◌<ℤ◌, ◌-ℤ◌, ◌+◌, IsTrue, IfSome, MatchOption}
 use Rattle.rational.specs.Rational.{IsWithin, whole, add}
 use Rattle.rational.specs.Time.{Rational, Within, shifted, ◌≤ʳ◌, ◌<ʳ◌, ◌≈◌}
 use Rattle.rational.specs.Extended.{Extended, value_at, ◌≈ᵉ◌, Affine}

@@ -1,10 +1,10 @@
 -- What each bench hears in what `mux` writes: the stream of its own lines.
-use Rattle.std.proofs.Common.{◌≡◌, ◌⊎◌, inl, inr, ℕ, ◌+◌, Bool, true, false, cond, List, [], ◌∷◌, ◌++◌, length, refl, sym, ap, ◌∙◌, subst, Some}
-use Rattle.std.specs.Prelude.{All, codes, bytes_eq, slice_get, ◌||◌, ◌&&◌, ◌==◌, not as negated, nat_le}
+use Rattle.std.proofs.Common.{◌≡◌, ℕ, ◌+◌, Bool, true, false, cond, List, [], ◌∷◌, ◌++◌, length, refl, sym, ap, ◌∙◌, subst}
+use Rattle.std.specs.Prelude.{All, codes, bytes_eq, ◌||◌, ◌&&◌, ◌==◌}
 use Rattle.std.proofs.lemmas.Bool.{false≢true, eqb-true}
 use Rattle.std.proofs.lemmas.List.Elements.{All-nil, All-cons, All-head, All-tail, All-append}
 use Rattle.std.proofs.lemmas.Slice.Eq.{bytes_eq-Decides}
-use Rattle.stl_syntax.specs.Characters.{is_among, begins_word, goes_on_word, is_digit, all}
+use Rattle.stl_syntax.specs.Characters.{is_among, begins_word, goes_on_word, all}
 use Rattle.stl_syntax.specs.Formula.{Formula}
 use Rattle.stl_syntax.specs.declared.scale.Scale.{Scale}
 use Rattle.stl_syntax.specs.declared.atom.Atom.{Atom as Comparison}
@@ -14,7 +14,7 @@ use Rattle.stl_syntax.specs.declared.node.Node.TheVariants.{Const, Atom as Leaf,
 use Rattle.stl_grammar.specs.Tokens.{IsToken, a_word, an_integer, a_decimal, at_least, at_most}
 use Rattle.stl_grammar.specs.Tokens.{above, below, paren, paren_end, bracket, bracket_end, a_comma}
 use Rattle.stl_grammar.specs.Tokens.{a_star, a_plus, a_minus, nothing as no_tokens, blank, token}
-use Rattle.stl_grammar.specs.Grammar.{top, Token, word, number, relation, open_paren, close_paren, open_bracket, close_bracket, comma, star, plus, minus, Lexes}
+use Rattle.stl_grammar.specs.Grammar.{top, Token, word, number, relation, open_paren, close_paren, star, plus, minus, Lexes}
 use Rattle.stl_grammar.specs.Grammar.{IsTerm, name, scaled, AreTerms, none, more_plus, more_minus, IsAtom, first, signed}
 use Rattle.stl_grammar.specs.Grammar.{IsFormula, IsDisjunct, IsConjunct, IsTimed, IsOperand, disjunct, implies}
 use Rattle.stl_grammar.specs.Grammar.{conjunct, or, timed, and, operand, until, since, not, eventually, always}

@@ -14,7 +14,7 @@ use Rattle.stl_grammar.specs.FormulaRefusals.{IsFormulaOf}
 use Rattle.stl_grammar.proofs.LawProofs.{one_formula}
 use Rattle.report.specs.Report.{Command, check, robust, explain, json, table, Out}
 use Rattle.workbench.specs.Words.{AskCheck}
-use Rattle.workbench.specs.Commands.{Judge, judge, judge_word, IsForm, of_formula}
+use Rattle.workbench.specs.Commands.{Judge, judge, IsForm, of_formula}
 use Rattle.workbench.specs.declared.request.Command.TheVariants.{Check}
 use Rattle.workbench.specs.declared.request.Mode.TheVariants.{Whole}
 use Rattle.workbench.specs.Commands as word

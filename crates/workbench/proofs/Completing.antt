@@ -1,5 +1,5 @@
 -- A run that nothing disturbs is complete.
-use Rattle.std.proofs.Common.{◌≡◌, ◌≢◌, ◌⊎◌, inl, inr, ℕ, ◌≤◌, Bool, true, false, List, [], ◌∷◌, ◌++◌}
+use Rattle.std.proofs.Common.{◌≡◌, ◌≢◌, inl, inr, ℕ, ◌≤◌, Bool, true, false, List, [], ◌++◌}
 use Rattle.std.proofs.Common.{refl, sym, ap, ◌∙◌, subst, arith, append-nil, Option, Some, None}
 use Rattle.std.specs.Io.KnownBytes.{Appends, Consumes, IsAtEnd}
 use Rattle.std.proofs.lemmas.Bool.{false≢true}
@@ -10,7 +10,7 @@ use Rattle.trace_reader.specs.TraceText.{lines}
 use Rattle.trace_reader.specs.declared.refusal.Limits.{Limits}
 use Rattle.report.specs.Report.{Command, check, robust, explain, json, table}
 use Rattle.workbench.specs.Requests.{Stream, verdicts, early, margins, Request, no_form, refused, whole, stream, sessions, generated, Asks, has_input}
-use Rattle.workbench.specs.InputFaults.{Fault, fault_text, whole_limits, IsInputFault}
+use Rattle.workbench.specs.InputFaults.{Fault, whole_limits, IsInputFault}
 use Rattle.workbench.specs.Owed.{limits_of, HasTooMany, OwesLines}
 use Rattle.workbench.specs.Sessions.{InputFault, FaultOfInput}
 use Rattle.trace_stream.specs.Reading.{IsSound, IsWhole}

@@ -1,23 +1,23 @@
 -- The text of an early run goes on with a row, and to the end.
 use Rattle.std.proofs.Common.{◌≡◌, ◌⊎◌, inl, inr, refl, sym, ap, subst, ◌∙◌, ℕ, ◌+◌, ◌<◌, Bool, true, false, Option}
 use Rattle.std.proofs.Common.{Some, None, List, [], ◌∷◌, ◌++◌, length, pos, codes, arith, append_assoc, append-nil}
-use Rattle.std.specs.Prelude.{MatchBool, MatchOption, IfSome, IsTrue, IsFalse, IsSome}
+use Rattle.std.specs.Prelude.{MatchBool, MatchOption, IfSome, IsSome}
 use Rattle.rational.specs.Time.{whole}
-use Rattle.stl_syntax.specs.Trace.{Header, Row, Trace, AreRows, IsTrace, row_time, start, last_time}
+use Rattle.stl_syntax.specs.Trace.{Header, Row, AreRows, IsTrace, row_time, start, last_time}
 use Rattle.stl_syntax.specs.Formula.{Subformula, Formula, root}
 use Rattle.stl_syntax.specs.Truth.{Truth}
 use Rattle.stl_syntax.specs.Scaling.{scaled}
-use Rattle.stl_syntax.specs.Early.{Decides, NoneDecides, FirstDecides}
+use Rattle.stl_syntax.specs.Early.{NoneDecides, FirstDecides}
 use Rattle.stl_syntax.specs.EarlyText.{IsEarlyText, at_row, at_end, not_yet}
 use Rattle.stl_syntax.specs.Texts.{IsNumberText, newline, start_line}
 use Rattle.stl_syntax.specs.declared.scale.Scale.{Scale}
-use Rattle.early_verdict.specs.Deciding.{Kept, IsAnswer, IsTruthAtStart, SetsAre, Stands, WasDecided, last_after, last_of, trace_of}
+use Rattle.early_verdict.specs.Deciding.{IsAnswer, IsTruthAtStart, SetsAre, Stands, WasDecided, last_of, trace_of}
 use Rattle.early_verdict.specs.declared.early.Decided.{Decided}
 use Rattle.early_verdict.proofs.DecideLemmas.{none_more, none_first}
 use Rattle.early_verdict.proofs.RowLemmas.{last_is}
 use Rattle.report.specs.Appended.{Grew}
 use Rattle.report.specs.EarlyLines.{IsDecidedLine}
-use Rattle.trace_stream.specs.Cases.{IsCase, Takes, with_row}
+use Rattle.trace_stream.specs.Cases.{IsCase, with_row}
 use Rattle.trace_stream.specs.Streams.{early, status_of_truth}
 use Rattle.trace_stream.specs.Following.{Follows, IsComplete, IsFollowedOn, IsFollowedOut}
 use Rattle.trace_stream.specs.declared.case.Case.{Case}

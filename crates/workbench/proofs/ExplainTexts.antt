@@ -1,10 +1,10 @@
 -- An explanation is one text.
-use Rattle.std.proofs.Common.{◌≡◌, ◌⊎◌, inl, inr, ℕ, suc, Bool, true, false, List, [], ◌∷◌, ◌++◌, refl, sym, ap, subst, ◌∙◌, reverse, Option, Some, None}
+use Rattle.std.proofs.Common.{◌≡◌, inl, inr, ℕ, suc, Bool, true, false, List, [], ◌∷◌, ◌++◌, refl, sym, ap, subst, ◌∙◌, reverse, Some}
 use Rattle.std.specs.Prelude.{MatchBool, codes, slice_get, ◌&&◌}
 use Rattle.std.proofs.lemmas.List.{reverse-append}
-use Rattle.rational.specs.Time.{Rational, Interval, IsIn, Precedes, Touch, HasTimeBetween, BeginAlike, EndAlike, ◌≤ʳ◌, ◌<ʳ◌, ◌≈◌}
+use Rattle.rational.specs.Time.{Rational, Interval, IsIn, Precedes, ◌≤ʳ◌}
 use Rattle.rational.specs.Rational.{middle}
-use Rattle.rational.proofs.Order.{le_or_lt, le_of_same, left_of_middle, right_of_middle, not_lt_of_le, same_of_le, same_refl, same_sym, same_trans}
+use Rattle.rational.proofs.Order.{le_or_lt, le_of_same, left_of_middle, right_of_middle, not_lt_of_le, same_refl, same_sym, same_trans}
 use Rattle.rational.proofs.TimeLemmas.{precedes_le, precedes_of_lt, precedes_of_room}
 use Rattle.frac128.specs.Spans.{interval}
 use Rattle.frac128.specs.Value.{value}
@@ -12,7 +12,7 @@ use Rattle.frac128.specs.declared.span.Span.{Span}
 use Rattle.stl_syntax.specs.Trace.{Trace, start}
 use Rattle.stl_syntax.specs.Formula.{Formula, Subformula, atom, root, subformula}
 use Rattle.stl_syntax.specs.Truth.{Truth}
-use Rattle.stl_syntax.specs.Kleene.{IsCovered, MustNot}
+use Rattle.stl_syntax.specs.Kleene.{MustNot}
 use Rattle.stl_syntax.specs.Cells.{cells}
 use Rattle.stl_syntax.specs.Kept.{IsSo, ItemsOn, AllCells, Kept, KeptFrom}
 use Rattle.stl_syntax.specs.Texts.{newline, bool_text}

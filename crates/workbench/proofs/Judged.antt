@@ -1,6 +1,6 @@
 -- The answer of a case: the times of its trace, the signals of its atoms, and what the root's signal tells of the formula.
 use Rattle.std.proofs.Common.{◌≡◌, ℕ, zero, suc, pos, ◌+◌, ◌-◌, ◌<◌, ap, Bool, true, false, List, [], ◌∷◌}
-use Rattle.std.proofs.Common.{◌++◌, length, Some, refl, sym, ◌∙◌, subst, arith, length-append, inl}
+use Rattle.std.proofs.Common.{◌++◌, length, Some, refl, sym, ◌∙◌, subst, arith, inl}
 use Rattle.std.specs.Prelude.{slice_get, slice_index_or, MatchBool}
 use Rattle.rational.specs.Time.{Rational, closed, whole, ◌≈◌}
 use Rattle.rational.specs.Extended.{value_at, ◌≈ᵉ◌}

@@ -1,6 +1,6 @@
 -- Several sessions in one input, as a stream: what a piece and the end come to, and the run.
 use Rattle.std.proofs.Common.{◌≡◌, ◌≢◌, inl, inr, ℕ, Bool, true, false, List, [], ◌++◌, refl, sym, ap}
-use Rattle.std.proofs.Common.{◌∙◌, subst, append-nil, append_assoc, arith, Option, Result, Ok, Err}
+use Rattle.std.proofs.Common.{◌∙◌, subst, append-nil, append_assoc, Option, Result, Ok, Err}
 use Rattle.std.specs.Prelude.{MatchResult, OnOk}
 use Rattle.std.specs.Result.{is_err}
 use Rattle.std.proofs.KnownBytes.{Appends-nil}
@@ -18,10 +18,9 @@ use Rattle.workbench.specs.Commands as word
 use Rattle.workbench.specs.Requests.{sessions, AreFor}
 use Rattle.workbench.specs.Running.{IsBegun}
 use Rattle.workbench.specs.Saying.{IsSaid}
-use Rattle.workbench.specs.Sessions.{input_fault_text}
 use Rattle.workbench.specs.Many.{stop_of_input, outcome_of_input, IsInputTold, no_room, told_whole, told_in_part, IsManyAtRest}
 use Rattle.workbench.specs.Pushing.{IsPushed, IsPushStop, IsPush, IsFinished, IsLineOf, IsStreamEnd}
-use Rattle.workbench.specs.Wholes.{status_of, status_of_stop, IsEndLine, EndsSoundly}
+use Rattle.workbench.specs.Wholes.{status_of, IsEndLine, EndsSoundly}
 use Rattle.workbench.specs.Keeping.{Holds, IsLeft, asked, HasRun}
 use Rattle.workbench.specs.declared.many.Many.{Many as Sessions}
 use Rattle.workbench.specs.declared.fault.Stop.{Stop}

@@ -1,5 +1,5 @@
 -- Words of digits, read digit by digit, and the words of a workload.
-use Rattle.std.proofs.Common.{◌≡◌, ◌⊎◌, inl, inr, ℕ, zero, suc, ◌+◌, ◌-◌, ◌*◌, ◌<◌, ◌≤◌, Bool, true, false, List}
+use Rattle.std.proofs.Common.{◌≡◌, ℕ, zero, suc, ◌+◌, ◌-◌, ◌*◌, ◌<◌, ◌≤◌, true, false, List}
 use Rattle.std.proofs.Common.{[], ◌∷◌, ◌++◌, length, take, drop, get_or, refl, sym, ap, ◌∙◌, subst, arith}
 use Rattle.std.specs.Prelude.{codes}
 use Rattle.std.proofs.lemmas.Bool.{and_parts, false≢true}
@@ -7,7 +7,7 @@ use Rattle.std.proofs.lemmas.List.{take-append-drop, take_more, take_all}
 use Rattle.stl_syntax.specs.Characters.{is_digit, all, decimal_value}
 use Rattle.stl_syntax.proofs.CharacterLemmas.{all-push}
 use Rattle.stl_syntax.proofs.DecimalLemmas.{decimal_value-push, decimal_value-append}
-use Rattle.workbench.specs.Commands.{Form, judge, generate, IsForm, of_formula, gen}
+use Rattle.workbench.specs.Commands.{generate, IsForm, gen}
 use Rattle.workbench.specs.Numerals.{IsNumberWord}
 
 -- more digits make no smaller number

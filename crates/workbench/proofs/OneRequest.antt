@@ -8,7 +8,7 @@ use Rattle.stl_grammar.specs.FormulaRefusals.{IsFormulaOf}
 use Rattle.stl_grammar.proofs.LawProofs.{one_formula, one_refusal}
 use Rattle.report.specs.Report.{check, robust, explain, json, table}
 use Rattle.workbench.proofs.NumberWords.{two_words, one_workload}
-use Rattle.workbench.specs.Commands.{Judge, Form, judge, generate, IsForm, of_formula, gen, judge_word}
+use Rattle.workbench.specs.Commands.{Judge, judge, generate, IsForm, of_formula, judge_word}
 use Rattle.workbench.specs.Commands as word
 use Rattle.workbench.specs.Requests.{Request, no_form, refused, whole, stream, sessions, generated, verdicts, early}
 use Rattle.workbench.specs.Requests.{margins, Asks, AreNone, AreFor, AreRefused, IsAsked, IsRefusal, IsUnserved}

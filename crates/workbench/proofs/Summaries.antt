@@ -1,6 +1,6 @@
 -- The summary of a generated trace, from the verdicts of its formula and the walk over its rows.
-use Rattle.std.proofs.Common.{◌≡◌, ℕ, suc, ◌+◌, ◌<◌, ◌≤◌, Bool, true, false, List, [], ◌∷◌, ◌++◌}
-use Rattle.std.proofs.Common.{length, append-nil, Option, Some, refl, sym, ap, ◌∙◌, subst, arith}
+use Rattle.std.proofs.Common.{◌≡◌, ℕ, suc, ◌+◌, ◌<◌, ◌≤◌, Bool, true, false, List, [], ◌++◌}
+use Rattle.std.proofs.Common.{length, append-nil, Some, refl, sym, ap, ◌∙◌, subst, arith}
 use Rattle.std.specs.Prelude.{MatchBool, codes, decimal, slice_get}
 use Rattle.rational.specs.Time.{closed}
 use Rattle.rational.proofs.Order.{same_sym}
@@ -23,7 +23,7 @@ use Rattle.workload.specs.Counting.{line_count, HasStreamLines}
 use Rattle.trace_reader.specs.TraceText.{IsTraceText}
 use Rattle.workload.proofs.TraceBytes.{text_of_trace}
 use Rattle.workload.proofs.JudgedFormula.{judged_text}
-use Rattle.workload.proofs.LineCounts.{count_join, count_verdicts, count_start}
+use Rattle.workload.proofs.LineCounts.{count_join, count_verdicts}
 use Rattle.workload.proofs.SomeLines.{lines_exist}
 use Rattle.workbench.specs.InputFaults.{whole_limits}
 use Rattle.workbench.specs.Reading.{IsReadWhole}

@@ -4,16 +4,16 @@ use Rattle.std.proofs.Common.{Some, None, List, [], ◌∷◌, ◌++◌, length,
 use Rattle.std.specs.Prelude.{MatchBool, int_lt, slice_get}
 use Rattle.std.proofs.lemmas.Bool.{false≢true}
 use Rattle.std.proofs.lemmas.Int.{ints}
-use Rattle.rational.specs.Time.{Rational, ◌≤ʳ◌, ◌<ʳ◌, ◌≈◌, whole}
+use Rattle.rational.specs.Time.{Rational, ◌≤ʳ◌, ◌≈◌, whole}
 use Rattle.rational.specs.Extended.{Extended, ◌≈ᵉ◌}
 use Rattle.rational.proofs.Order.{le_trans, le_of_same, ge_of_same, le_of_lt, same_refl, same_sym, same_trans}
 use Rattle.rational.proofs.AffineLemmas.{same_symᵉ, same_transᵉ}
 use Rattle.rational.proofs.Shift.{le_whole}
 use Rattle.stl_syntax.specs.Trace.{Header, Row, Trace, IsTrace, Continues, AreRows, first_time, last_time}
 use Rattle.stl_syntax.specs.Formula.{Formula, Subformula, root}
-use Rattle.stl_syntax.specs.Knots.{Knot, Piece, Knots, IsInside, Reads}
+use Rattle.stl_syntax.specs.Knots.{Knot, Piece, Knots}
 use Rattle.stl_syntax.specs.SupInf.{Robustness, margin_setting}
-use Rattle.stl_syntax.specs.Verdicts.{IsRobust, IsRobustInside, PiecesGoOn, TellsAfter, DescribesMargins}
+use Rattle.stl_syntax.specs.Verdicts.{IsRobust, IsRobustInside, PiecesGoOn, TellsAfter}
 use Rattle.stl_syntax.specs.Stream.{answered_by, IsRowsText, IsRestText}
 use Rattle.stl_syntax.specs.Texts.{AreMarginLines, ArePieceLines}
 use Rattle.stl_syntax.specs.declared.scale.Scale.{Scale}
@@ -28,7 +28,7 @@ use Rattle.workbench.specs.Settled.{IsAnsweredByRow}
 use Rattle.workbench.specs.SureMargins.{ArePartLines, IsTruePart, AreTrueParts, AreSureMargins, AreSureMarginsByRow}
 use Rattle.workbench.specs.SureMargins.{AreSureMarginsToEnd, AreInTurn, CoverParts, IsMarginCover, ReadsPart, IsMarginText}
 use Rattle.workbench.proofs.MarginTruth.{one_inside, reads}
-use Rattle.workbench.proofs.SureLines.{AnsweredBy, Front, Low, NeverBelow, after_last, answered_is, first_stays}
+use Rattle.workbench.proofs.SureLines.{AnsweredBy, Front, Low, NeverBelow, after_last, answered_is}
 use Rattle.workbench.proofs.SureLines.{front_is, front_of_all, front_rises, low_front, low_later, row_answered}
 
 -- ---- the parts of knots

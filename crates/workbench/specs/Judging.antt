@@ -1,5 +1,5 @@
 -- What judging a trace makes on the way: the signals of a formula's nodes, that of the formula, and the text that a signal of truth gives.
-use Rattle.std.specs.Prelude.{◌≡◌, ℕ, Bool, List, length, All, ◌++◌}
+use Rattle.std.specs.Prelude.{◌≡◌, ℕ, Bool, List, ◌++◌}
 use Rattle.rational.specs.Time.{Rational, ◌≈◌}
 use Rattle.value_laws.specs.Members.{ShapeOf}
 use Rattle.pl_signal.specs.declared.knot.Knot.{Knot}

@@ -1,8 +1,7 @@
 -- The text that a request is owed for the bytes so far, which the input may have ended.
-use Rattle.std.specs.Prelude.{◌≡◌, ℕ, ◌-◌, Bool, true, false, List, [], take}
+use Rattle.std.specs.Prelude.{◌≡◌, ℕ, Bool, true, false, List, []}
 use Rattle.stl_syntax.specs.Formula.{Formula}
 use Rattle.stl_syntax.specs.Trace.{Trace}
-use Rattle.trace_reader.specs.TraceText.{lines}
 use Rattle.stl_syntax.specs.Kept.{most_cells, IsTooMany}
 use Rattle.report.specs.Report.{Command, explain, json, Out, nodes_for}
 pub use Rattle.trace_stream.specs.Streams.{limits_of, StreamText, StreamOf, OwesRows}

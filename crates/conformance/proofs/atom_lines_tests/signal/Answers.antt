@@ -1,4 +1,4 @@
-use Rattle.std.proofs.Common.{◌≡◌, ◌∙◌, ap, Some}
+use Rattle.std.proofs.Common.{◌∙◌, ap, Some}
 use Rattle.stl_syntax.specs.declared.node.Node.{Node}
 use Rattle.conformance.proofs.atom_lines_tests.signal.Goals as goal
 

@@ -1,7 +1,7 @@
 use Rattle.std.proofs.Common.{◌^◌, inl, inr, List, [], ◌∷◌, refl, subst}
 use Rattle.rational.specs.Rational.{IsWithin}
 use Rattle.rational.specs.Time.{Rational}
-use Rattle.rational.specs.Extended.{Extended, Affine, value_at}
+use Rattle.rational.specs.Extended.{value_at}
 use Rattle.rational.specs.Affine.{IsBounded}
 use Rattle.rational.proofs.AffineLemmas.{bounded_same}
 use Rattle.rational.proofs.Bounds.{HasBounded}

@@ -1,8 +1,5 @@
-use Rattle.std.proofs.Common.{◌≡◌, ℕ, ◌∙◌, List, Some, pos, refl, subst}
-use Rattle.std.specs.Prelude.{slice_get}
+use Rattle.std.proofs.Common.{◌≡◌, ℕ, ◌∙◌, List, pos, refl, subst}
 use Rattle.rational.specs.Time.{whole}
-use Rattle.stl_syntax.specs.Formula.{HasChildrenBelow}
-use Rattle.stl_syntax.specs.declared.node.Node.{Node}
 use Rattle.stl_syntax.proofs.PostOrderLemmas.{placed}
 use Rattle.early_verdict.specs.Making.{AreMade, AreShownOf}
 use Rattle.early_verdict.specs.declared.sets.Sets.{Sets}

@@ -1,9 +1,6 @@
-use Rattle.std.proofs.Common.{◌≡◌, sym, subst}
-use Rattle.std.specs.Prelude.{slice_index_or}
+use Rattle.std.proofs.Common.{sym, subst}
 use Rattle.frac128.specs.Value.{value}
 use Rattle.early_verdict.specs.Spans.{Lies}
-use Rattle.early_verdict.specs.Letting.{IsInside}
-use Rattle.early_verdict.specs.declared.sets.Sets.{Sets}
 use Rattle.early_verdict.proofs.LettingLemmas.{asked_at}
 use Rattle.early_verdict.proofs.Splitting.{at_split}
 use Rattle.early_verdict.proofs.letting.ask_from.Goals as goal

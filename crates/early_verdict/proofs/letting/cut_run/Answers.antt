@@ -1,6 +1,5 @@
-use Rattle.std.proofs.Common.{◌≡◌, refl, sym, subst, Option, Some, None}
+use Rattle.std.proofs.Common.{refl, sym, subst, Option, Some}
 use Rattle.std.specs.Prelude.{MatchOption}
-use Rattle.rational.specs.Time.{Rational}
 use Rattle.frac128.specs.Value.{value}
 use Rattle.early_verdict.specs.Fitting.{ArePartsTidy}
 use Rattle.early_verdict.specs.Letting.{ArePartsCut, IsFailingInside, IsHoldingInside}

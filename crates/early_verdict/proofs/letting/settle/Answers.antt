@@ -1,5 +1,4 @@
 use Rattle.std.proofs.Common.{◌⊎◌, inl, inr, sym, subst}
-use Rattle.rational.specs.Time.{Rational}
 use Rattle.early_verdict.specs.Spans.{IsOn, Lies}
 use Rattle.early_verdict.proofs.LettingLemmas.{told_early}
 use Rattle.early_verdict.proofs.letting.settle.Goals as goal

@@ -1,4 +1,3 @@
-use Rattle.std.proofs.Common.{◌≡◌}
 use Rattle.early_verdict.proofs.LettingLemmas.{shows_at}
 use Rattle.early_verdict.proofs.Places.{item_at}
 use Rattle.early_verdict.proofs.Splitting.{at_split}

@@ -1,4 +1,4 @@
-use Rattle.std.proofs.Common.{◌≡◌, ℕ, ◌<◌, Some, Option, List}
+use Rattle.std.proofs.Common.{◌≡◌, ℕ, ◌<◌, Some, Option}
 use Rattle.std.specs.Prelude.{slice_get}
 use Rattle.stl_syntax.specs.Trace.{Trace, start}
 use Rattle.stl_syntax.specs.declared.node.Node.{Node}

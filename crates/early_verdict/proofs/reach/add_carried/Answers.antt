@@ -1,7 +1,6 @@
 use Rattle.std.proofs.Common.{sym, subst, true, false}
 use Rattle.early_verdict.specs.Cuts.{place, After, Upto}
 use Rattle.early_verdict.specs.Reaching.{IsCarried}
-use Rattle.early_verdict.specs.Spans.{Lies}
 use Rattle.early_verdict.proofs.GrowingLemmas.{grows_not}
 use Rattle.early_verdict.proofs.LoopLemmas.{grows_alike}
 use Rattle.early_verdict.proofs.ReachLemmas.{carried_in, carried_to, carried_within}

@@ -1,4 +1,4 @@
-use Rattle.std.proofs.Common.{rules, ◌<◌, sym, subst, inl, inr, length, deque_len}
+use Rattle.std.proofs.Common.{rules, ◌<◌, sym, subst, inl, inr, length}
 use Rattle.std.specs.Prelude.{◌^◌}
 use Rattle.rational.specs.Rational.{IsWithin}
 use Rattle.frac128.specs.Value.{value}

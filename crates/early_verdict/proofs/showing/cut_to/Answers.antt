@@ -1,4 +1,4 @@
-use Rattle.std.proofs.Common.{◌⊎◌, inl, inr, sym, subst}
+use Rattle.std.proofs.Common.{inl, inr, sym, subst}
 use Rattle.rational.proofs.Order.{not_lt_of_le}
 use Rattle.early_verdict.specs.Spans.{Lies}
 use Rattle.early_verdict.proofs.showing.cut_to.Goals as goal

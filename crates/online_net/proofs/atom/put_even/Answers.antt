@@ -1,4 +1,4 @@
-use Rattle.std.proofs.Common.{◌≡◌, ℕ, true, refl, sym, subst, ap, pos, ◌∙◌}
+use Rattle.std.proofs.Common.{ℕ, true, refl, subst, ap, pos, ◌∙◌}
 use Rattle.rational.specs.Rational.{whole}
 use Rattle.frac128.specs.Spans.{interval}
 use Rattle.online_nodes.specs.Cuts.{Place, begins, ends, Same}

@@ -1,4 +1,4 @@
-use Rattle.std.proofs.Common.{◌≡◌, ℕ, Bool, Some, None, false, true, sym, subst, ap, pos, ◌∙◌}
+use Rattle.std.proofs.Common.{◌≡◌, ℕ, Bool, None, false, true, sym, subst, pos, ◌∙◌}
 use Rattle.rational.specs.Rational.{whole}
 use Rattle.online_nodes.specs.Cuts.{place, Same}
 use Rattle.online_nodes.specs.declared.cut.Cut.{Cut}

@@ -1,4 +1,4 @@
-use Rattle.std.proofs.Common.{◌≡◌, refl, sym, subst, Option, Some, None}
+use Rattle.std.proofs.Common.{refl, sym, subst, Option, Some}
 use Rattle.online_robust.specs.Waiting.{HasToldPast, IsBegunPast}
 use Rattle.online_robust.specs.declared.line.Reached.{Reached}
 use Rattle.online_robust.proofs.endless.begun.Goals as goal

@@ -8,10 +8,9 @@ use Rattle.frac128.specs.Value.{value}
 use Rattle.pl_signal.proofs.Values.{some_is}
 use Rattle.stl_syntax.specs.Trace.{start}
 use Rattle.stl_syntax.specs.Limits.{own_reach}
-use Rattle.online_robust.specs.Turns.{Turn, Belongs, begin_of, from_of}
+use Rattle.online_robust.specs.Turns.{begin_of, from_of}
 use Rattle.online_robust.specs.declared.operator.Operator.TheVariants as Op
 use Rattle.online_robust.proofs.GlanceBridging.{can_glance, glance, glance_edges, glance_stands, glance_told}
-use Rattle.online_robust.proofs.operator.sweep_moved.Goals.{After-sweep}
 use Rattle.online_robust.proofs.operator.sweep_moved.Goals as goal
 
 pub unreachable-requires : goal.unreachable-requires

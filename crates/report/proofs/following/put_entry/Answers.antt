@@ -1,4 +1,4 @@
-use Rattle.std.proofs.Common.{◌≡◌, ℕ, ◌-◌, ◌≤◌, List, codes, take, drop, sym, ap, ◌∙◌, arith, subst}
+use Rattle.std.proofs.Common.{◌-◌, codes, take, sym, ap, ◌∙◌, arith, subst}
 use Rattle.frac128.specs.Value.{value}
 use Rattle.stl_syntax.specs.Texts.{IsNumberText}
 use Rattle.report.specs.VerdictForms.{entry_begin, entry_end}

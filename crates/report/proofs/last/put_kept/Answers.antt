@@ -1,5 +1,5 @@
 use Rattle.std.proofs.Common.{arith}
-use Rattle.report.proofs.KeptTexts.{put_length, put_part}
+use Rattle.report.proofs.KeptTexts.{put_part}
 use Rattle.report.proofs.last.put_kept.Goals as goal
 
 pub returns : goal.returns

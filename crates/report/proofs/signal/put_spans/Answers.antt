@@ -1,4 +1,4 @@
-use Rattle.std.proofs.Common.{◌≡◌, ℕ, suc, true, false, ◌+◌, ◌-◌, Some, List, [], ◌∷◌, ◌++◌, length, append-nil, append_assoc, refl, sym, subst, arith}
+use Rattle.std.proofs.Common.{◌≡◌, ℕ, suc, false, ◌+◌, ◌-◌, Some, List, [], ◌∷◌, ◌++◌, length, append-nil, append_assoc, refl, sym, subst, arith}
 use Rattle.std.specs.Prelude.{slice_get}
 use Rattle.std.proofs.lemmas.List.{length-replicate}
 use Rattle.std.proofs.lemmas.Result.{on_ok_weaker, on_err_weaker}

@@ -2,13 +2,12 @@ use Rattle.std.proofs.Common.{◌^◌}
 use Rattle.rational.proofs.Order.{same_sym, same_trans}
 use Rattle.rational.proofs.Field.{same_negate}
 use Rattle.value_laws.proofs.MarginLemmas.{within_opposite}
-use Rattle.pl_signal.specs.Knots.{start, stop, IsWorth}
+use Rattle.pl_signal.specs.Knots.{start, stop}
 use Rattle.pl_signal.specs.Limits.{IsLimited}
 use Rattle.pl_signal.proofs.Limits.{limited_start, limited_stop}
-use Rattle.until_ops.specs.Untils.{SinceOf, UntilOf}
 use Rattle.until_ops.proofs.FaultLemmas.{cause_back, pair_turned}
 use Rattle.until_ops.proofs.UntilLemmas.{AreMirrors, are_back, can_mirror, mirror_limited, mirror_starts, mirror_stops}
-use Rattle.until_ops.proofs.UntilLemmas.{runs_back, since_back, since_limited, starts_back, stops_back, until_bases}
+use Rattle.until_ops.proofs.UntilLemmas.{since_limited, starts_back, stops_back, until_bases}
 use Rattle.until_ops.proofs.UntilLemmas.{until_told}
 use Rattle.until_ops.proofs.until.until_to_end.Given.{Over}
 use Rattle.until_ops.proofs.until.until_to_end.Goals.{In_ok-right, In-Ok}

@@ -1,8 +1,8 @@
-use Rattle.std.proofs.Common.{◌≡◌, ◌⊎◌, inl, inr, true, false, refl, sym, ◌∙◌}
+use Rattle.std.proofs.Common.{◌≡◌, inl, inr, true, false, sym, ◌∙◌}
 use Rattle.std.proofs.lemmas.Bool.{false≢true}
-use Rattle.rational.specs.Time.{Rational, ◌≤ʳ◌, ◌<ʳ◌, ◌≈◌, shifted}
-use Rattle.rational.proofs.Order.{le_of_lt, le_of_same, ge_of_same, le_trans, lt_of_le_of_lt, lt_of_lt_of_le}
-use Rattle.rational.proofs.Order.{lt_irrefl, not_lt_of_le, same_of_le, same_sym, same_trans}
+use Rattle.rational.specs.Time.{Rational, ◌≤ʳ◌, ◌<ʳ◌, ◌≈◌}
+use Rattle.rational.proofs.Order.{le_of_lt, le_of_same, ge_of_same, le_trans, lt_of_le_of_lt}
+use Rattle.rational.proofs.Order.{not_lt_of_le, same_of_le, same_trans}
 use Rattle.rational.proofs.TimeLemmas.{same_shifted}
 use Rattle.frac128.specs.Value.{value}
 use Rattle.envelope.specs.declared.turns.Turn.{Turn}

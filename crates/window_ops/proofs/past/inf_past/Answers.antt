@@ -2,8 +2,8 @@ use Rattle.std.proofs.Common.{arith, ◌≡◌, ℕ, ◌^◌, ◌-◌, pos, ◌�
 use Rattle.std.specs.Prelude.{neg_ℤ, IfSome}
 use Rattle.std.specs.Option.{option_eq}
 use Rattle.std.proofs.lemmas.Bool.{false≢true}
-use Rattle.rational.proofs.Order.{le_of_lt, le_trans}
-use Rattle.pl_signal.specs.declared.joining.Side.TheVariants.{Least, Greatest}
+use Rattle.rational.proofs.Order.{le_trans}
+use Rattle.pl_signal.specs.declared.joining.Side.TheVariants.{Least}
 use Rattle.pl_signal.specs.Knots.{start, stop, IsWorth}
 use Rattle.pl_signal.specs.Moves.{Tells}
 use Rattle.envelope.proofs.Walks.{if_err, if_ok}
@@ -12,7 +12,7 @@ use Rattle.window_ops.specs.Over.{BasesOver, BestOver, HasCauseOver}
 use Rattle.std.proofs.lemmas.Int.{ints}
 use Rattle.rational.proofs.Shift.{le_whole}
 use Rattle.window_ops.proofs.AheadOver.{offsets_is}
-use Rattle.window_ops.proofs.BehindOver.{bases_behind, behind_offsets, below_all, cause_behind, inf_behind, is_reach, reach_of}
+use Rattle.window_ops.proofs.BehindOver.{bases_behind, below_all, cause_behind, inf_behind, is_reach, reach_of}
 use Rattle.window_ops.proofs.past.inf_past.Goals as goal
 
 pub over_window-requires : goal.over_window-requires

@@ -1,11 +1,10 @@
-use Rattle.std.proofs.Common.{◌≡◌, ◌⊎◌, inl, inr, ℕ, ◌+◌, ◌^◌, pos, List, true, false, Option, Some, None, arith, refl, sym, ◌∙◌, subst}
-use Rattle.rational.proofs.Order.{le_refl, le_of_lt, le_of_same, ge_of_same, le_trans}
+use Rattle.std.proofs.Common.{◌+◌, ◌^◌, pos, true, false, arith, sym, ◌∙◌, subst}
+use Rattle.rational.proofs.Order.{le_of_lt, le_trans}
 use Rattle.rational.specs.Rational.{whole}
 use Rattle.rational.specs.Time.{◌≤ʳ◌}
 use Rattle.frac128.specs.Value.{value}
 use Rattle.pl_signal.proofs.Values.{next_rises, shape_after, some_is}
 use Rattle.envelope.proofs.Bests.{on_ok}
-use Rattle.envelope.proofs.Faulting.{err_any, on_err}
 use Rattle.window_ops.specs.Going.{StandsAt, turn_of}
 use Rattle.window_ops.proofs.Reaching.{knot_from, knot_in, knot_to}
 use Rattle.window_ops.proofs.Gaps.{came_falling, came_none, can_falling}

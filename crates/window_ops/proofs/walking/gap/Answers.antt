@@ -1,4 +1,4 @@
-use Rattle.std.proofs.Common.{arith, ◌≡◌, sym, ◌∙◌, subst}
+use Rattle.std.proofs.Common.{arith, sym, ◌∙◌, subst}
 use Rattle.std.proofs.lemmas.Int.{ints}
 use Rattle.rational.specs.Affine.{IsSteady}
 use Rattle.window_ops.specs.Going.{GetsBetter, GetsWorse, HasRefused}

@@ -1,7 +1,7 @@
-use Rattle.std.proofs.Common.{◌≡◌, refl, sym, ◌∙◌, subst}
+use Rattle.std.proofs.Common.{sym, ◌∙◌, subst}
 use Rattle.std.specs.Prelude.{neg_ℤ}
-use Rattle.rational.specs.Time.{Rational, shifted, ◌≤ʳ◌}
-use Rattle.rational.proofs.Order.{ge_of_same, le_of_lt, le_of_same, le_trans}
+use Rattle.rational.specs.Time.{shifted, ◌≤ʳ◌}
+use Rattle.rational.proofs.Order.{ge_of_same, le_of_same, le_trans}
 use Rattle.rational.proofs.TimeLemmas.{shifted-add}
 use Rattle.pl_signal.specs.Knots.{time}
 use Rattle.pl_signal.proofs.Values.{some_is}

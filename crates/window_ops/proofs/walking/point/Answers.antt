@@ -1,13 +1,9 @@
-use Rattle.std.proofs.Common.{◌≡◌, ◌⊎◌, inl, inr, List, Bool, true, false, not, Some, refl, sym, ◌∙◌, subst}
-use Rattle.std.specs.Prelude.{slice_get}
-use Rattle.rational.proofs.Order.{le_refl}
-use Rattle.frac128.specs.Value.{value}
-use Rattle.pl_signal.specs.declared.knot.Knot.{Knot}
+use Rattle.std.proofs.Common.{true, sym, ◌∙◌, subst}
 use Rattle.pl_signal.proofs.Values.{some_is}
 use Rattle.envelope.proofs.Bests.{on_ok}
-use Rattle.window_ops.specs.Going.{IsNonEmpty, StandsAt, turn_of}
+use Rattle.window_ops.specs.Going.{StandsAt, turn_of}
 use Rattle.window_ops.proofs.Covering.{came_point, can_point}
-use Rattle.window_ops.proofs.Spans.{Span, span_point}
+use Rattle.window_ops.proofs.Spans.{span_point}
 use Rattle.window_ops.proofs.Reaching.{knot_from, knot_in, knot_to}
 use Rattle.window_ops.proofs.walking.point.Goals as goal
 

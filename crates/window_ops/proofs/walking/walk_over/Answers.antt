@@ -1,4 +1,4 @@
-use Rattle.std.proofs.Common.{arith, ◌≡◌, ℕ, ◌+◌, ◌-◌, ◌≤◌, List, [], true, false, refl, subst}
+use Rattle.std.proofs.Common.{arith, ◌≡◌, ℕ, ◌+◌, ◌-◌, ◌≤◌, [], true, false, subst}
 use Rattle.std.proofs.lemmas.Option.{slice_get_past}
 use Rattle.window_ops.specs.Going.{StandsBy}
 use Rattle.window_ops.proofs.Told.{knot_there, met_last, met_none, met_past}

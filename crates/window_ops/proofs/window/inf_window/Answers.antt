@@ -1,15 +1,12 @@
-use Rattle.std.proofs.Common.{arith, ◌≡◌, ℕ, ◌^◌, ◌-◌, pos, ◌≤◌, Bool, Option, None, Some, true, eqb, ap, sym, subst}
-use Rattle.std.specs.Prelude.{neg_ℤ, IfSome}
-use Rattle.std.specs.Option.{option_eq}
-use Rattle.std.proofs.lemmas.Bool.{false≢true}
-use Rattle.rational.proofs.Order.{le_of_lt, le_trans}
-use Rattle.pl_signal.specs.declared.joining.Side.TheVariants.{Least, Greatest}
+use Rattle.std.proofs.Common.{arith, ◌≡◌, ℕ, ◌-◌, pos, Bool, true, sym, subst}
+use Rattle.rational.proofs.Order.{le_of_lt}
+use Rattle.pl_signal.specs.declared.joining.Side.TheVariants.{Least}
 use Rattle.pl_signal.specs.Knots.{start, stop, IsWorth}
 use Rattle.pl_signal.specs.Moves.{Tells}
 use Rattle.envelope.proofs.Walks.{if_err, if_ok}
 use Rattle.window_ops.specs.Windows.{InfAhead}
 use Rattle.window_ops.specs.Over.{BasesOver, BestOver, HasCauseOver}
-use Rattle.window_ops.proofs.AheadOver.{ahead_offsets, bases_ahead, cause_ahead, inf_ahead, offsets_is}
+use Rattle.window_ops.proofs.AheadOver.{bases_ahead, cause_ahead, inf_ahead, offsets_is}
 use Rattle.window_ops.proofs.window.inf_window.Goals as goal
 
 pub over_window-requires : goal.over_window-requires

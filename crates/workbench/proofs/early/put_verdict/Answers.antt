@@ -1,5 +1,3 @@
-use Rattle.std.proofs.Common.{◌≡◌, ◌∙◌, ◌++◌, codes, sym, ap, append_assoc}
-use Rattle.stl_syntax.specs.Texts.{newline, start_line}
 use Rattle.workbench.proofs.EarlyFollows.{two_lines}
 use Rattle.workbench.proofs.early.put_verdict.Goals as goal
 

@@ -1,4 +1,4 @@
-use Rattle.std.proofs.Common.{◌≡◌, ◌≢◌, Some, Err, sym, ap, ◌∙◌, subst, arith, Result}
+use Rattle.std.proofs.Common.{◌≡◌, ◌≢◌, Some, ap, ◌∙◌, subst, arith}
 use Rattle.io_edge.specs.InMemory.{CleanBytes}
 use Rattle.stl_syntax.specs.Formula.{Formula}
 use Rattle.workload.specs.Generated.{generated_bytes}

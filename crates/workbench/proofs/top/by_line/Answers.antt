@@ -1,4 +1,4 @@
-use Rattle.std.proofs.Common.{[], refl, sym, ap, ◌∙◌}
+use Rattle.std.proofs.Common.{[], refl, sym, ◌∙◌}
 use Rattle.report.specs.Lines.{line_text}
 use Rattle.workbench.proofs.Leaving.{starved_left}
 use Rattle.workbench.proofs.ManyLines.{many_at_rest, many_soundly, many_fault, many_answer, many_run, formula_stays}

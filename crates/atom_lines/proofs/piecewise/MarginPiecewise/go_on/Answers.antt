@@ -6,7 +6,7 @@ use Rattle.std.proofs.lemmas.Result.{on_ok_weaker}
 use Rattle.rational.specs.Rational.{Rational, ◌≈◌, whole}
 use Rattle.rational.specs.Extended.{value_at, ◌≈ᵉ◌}
 use Rattle.frac128.specs.Value.{value}
-use Rattle.value_laws.specs.Margins.{margin_function, margin_base}
+use Rattle.value_laws.specs.Margins.{margin_function}
 use Rattle.value_laws.specs.Kinds.{margin_shape}
 use Rattle.atom_lines.specs.Told.{by_margin, worth}
 use Rattle.atom_lines.proofs.GrowingLemmas.{before_end, goes_one, margin_row_base}

@@ -1,10 +1,8 @@
 use Rattle.std.proofs.Common.{◌≡◌, [], ◌^◌, false, None, Some, sym, ap, ◌∙◌, subst}
 use Rattle.envelope.specs.declared.best.Best.{Best}
 use Rattle.rational.specs.Rational.{IsWithin}
-use Rattle.rational.proofs.Order.{le_of_same, le_refl}
+use Rattle.rational.proofs.Order.{le_refl}
 use Rattle.frac128.specs.Value.{value}
-use Rattle.envelope.specs.declared.walk.Item.{Item}
-use Rattle.envelope.specs.declared.turns.Turn.{Turn}
 use Rattle.envelope.specs.Course.{first_time}
 use Rattle.envelope.specs.Standing.{CanGoOn, Stands}
 use Rattle.envelope.specs.Walking.{EachLeavesBy}

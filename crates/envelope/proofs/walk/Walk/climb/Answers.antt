@@ -1,4 +1,4 @@
-use Rattle.std.proofs.Common.{inl, inr, Some, ◌∷◌}
+use Rattle.std.proofs.Common.{inr, Some, ◌∷◌}
 use Rattle.envelope.specs.Walking.{climbed_until}
 use Rattle.envelope.proofs.TurnOrder.{at_most_of_come}
 use Rattle.envelope.proofs.Bests.{on_ok}

@@ -1,5 +1,4 @@
-use Rattle.std.proofs.Common.{inl, inr, Some, ◌≡◌, sym, subst}
-use Rattle.rational.specs.Affine.{HasBoundedLevel}
+use Rattle.std.proofs.Common.{inl, inr, subst}
 use Rattle.envelope.specs.Walking.{HasLevel}
 use Rattle.envelope.proofs.Bests.{on_ok}
 use Rattle.envelope.proofs.Faulting.{on_err, stopped_left}

@@ -5,7 +5,7 @@ use Rattle.std.proofs.lemmas.Int.{to_z-of_z}
 use Rattle.std.proofs.lemmas.Result.{err_from_is_err_and}
 use Rattle.rational.specs.Rational.{◌≈◌, whole}
 use Rattle.frac128.specs.Value.{value}
-use Rattle.online_robust.specs.Turns.{Turn, begin_of}
+use Rattle.online_robust.specs.Turns.{begin_of}
 use Rattle.online_robust.specs.Waiting.{IsBegunPast}
 use Rattle.online_robust.proofs.EndlessTurns.{may_begin, step_edges, step_fault, step_stands, step_told}
 use Rattle.online_robust.proofs.PastBridging.{own, scope_of}

@@ -1,6 +1,6 @@
-use Rattle.std.proofs.Common.{rules, ◌≡◌, pos, to_z, of_z, refl, sym, subst, ◌∙◌, None}
+use Rattle.std.proofs.Common.{rules, ◌≡◌, pos, to_z, of_z, refl, subst}
 use Rattle.std.specs.Int.{w64}
-use Rattle.std.specs.Prelude.{Option, Some}
+use Rattle.std.specs.Prelude.{Some}
 use Rattle.std.proofs.lemmas.Int.{to_z-of_z}
 use Rattle.std.proofs.lemmas.Result.{err_from_is_err_and}
 use Rattle.rational.specs.Rational.{◌≈◌, whole}

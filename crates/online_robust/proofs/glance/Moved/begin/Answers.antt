@@ -1,16 +1,16 @@
-use Rattle.std.proofs.Common.{◌≡◌, ℕ, arith, pos, subst, ◌+◌}
+use Rattle.std.proofs.Common.{arith, pos, subst, ◌+◌}
 use Rattle.std.specs.Prelude.{◌-ℤ◌, ◌+ℤ◌}
 use Rattle.std.proofs.lemmas.Int.{ints}
-use Rattle.rational.specs.Rational.{Rational, whole, ◌≈◌}
+use Rattle.rational.specs.Rational.{◌≈◌}
 use Rattle.rational.specs.Time.{shifted, ◌≤ʳ◌, ◌<ʳ◌}
 use Rattle.rational.proofs.Order.{le_of_lt, le_of_same, ge_of_same, le_trans, lt_of_le_of_lt, lt_of_lt_of_le}
-use Rattle.rational.proofs.Order.{lt_irrefl, not_lt_of_le, same_of_le, same_refl, same_sym, same_trans}
+use Rattle.rational.proofs.Order.{not_lt_of_le, same_of_le, same_sym, same_trans}
 use Rattle.rational.proofs.Shift.{lt_whole}
 use Rattle.rational.proofs.TimeLemmas.{same_shifted}
 use Rattle.frac128.specs.Value.{value}
 use Rattle.window_ops.proofs.Ends.{le_shifted}
 use Rattle.stl_syntax.specs.Trace.{start}
-use Rattle.online_robust.specs.Glances.{CanGlance, CanStride, Glance, HasGlanced, IsGlanceAt}
+use Rattle.online_robust.specs.Glances.{HasGlanced}
 use Rattle.online_robust.proofs.Looking.{shifted_whole}
 use Rattle.online_robust.proofs.Losses.{loses_at_both, loses_at_later, loses_at_none}
 use Rattle.online_robust.proofs.PointwiseLemmas.{not_less}

@@ -1,7 +1,5 @@
 use Rattle.std.proofs.Common.{refl, sym, ap, subst, ◌∙◌, Some}
-use Rattle.std.specs.Prelude.{ℕ}
 use Rattle.frac128.specs.Value.{value}
-use Rattle.value_laws.specs.declared.margin.Margin.{Margin}
 use Rattle.online_robust.specs.Glances.{IsGap, IsStride}
 use Rattle.online_robust.specs.declared.line.MarginLine.{MarginLine}
 use Rattle.online_robust.specs.declared.line.Reached.{Reached}

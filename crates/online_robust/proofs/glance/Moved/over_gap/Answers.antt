@@ -1,16 +1,16 @@
-use Rattle.std.proofs.Common.{◌≡◌, ◌≤◌, ◌^◌, arith, pos, subst, sym, refl, ◌∙◌, to_z, of_z, w64}
+use Rattle.std.proofs.Common.{◌^◌, arith, pos, subst, sym, refl, ◌∙◌, to_z, of_z, w64}
 use Rattle.std.specs.Prelude.{neg_ℤ, ◌-ℤ◌}
 use Rattle.std.proofs.lemmas.Int.{ints}
 use Rattle.rational.specs.Rational.{FitsFloor, add, whole}
-use Rattle.rational.specs.Time.{Rational, ◌≈◌}
+use Rattle.rational.specs.Time.{◌≈◌}
 use Rattle.rational.proofs.Order.{le_trans}
 use Rattle.rational.proofs.Shift.{le_whole}
 use Rattle.frac128.specs.Value.{value}
 use Rattle.frac128.specs.declared.frac.Frac.{Frac}
 use Rattle.value_laws.specs.declared.margin.Margin.{Margin}
 use Rattle.window_ops.proofs.Shifts.{fits, negated}
-use Rattle.online_robust.specs.Glances.{Glance, IsGap, IsGlanceAt, IsSeenAs}
-use Rattle.online_robust.specs.Lines.{end_of, margin_of}
+use Rattle.online_robust.specs.Glances.{IsSeenAs}
+use Rattle.online_robust.specs.Lines.{end_of}
 use Rattle.online_robust.specs.Told.{IsMovedBy}
 use Rattle.online_robust.proofs.Glancing.{behind_moves, g, gap_moves, gap_tick, goes_over, goes_within, not_greater}
 use Rattle.online_robust.proofs.PointwiseLemmas.{TakesTwo, has_second}

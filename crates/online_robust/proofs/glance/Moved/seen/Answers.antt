@@ -1,4 +1,4 @@
-use Rattle.std.proofs.Common.{◌≡◌, arith, pos, subst, sym, to_z, of_z, w64}
+use Rattle.std.proofs.Common.{◌≡◌, arith, subst, sym}
 use Rattle.std.specs.Prelude.{◌-ℤ◌, IsTrue, MatchBool}
 use Rattle.std.proofs.lemmas.Int.{ints}
 use Rattle.rational.specs.Rational.{add, whole}

@@ -1,12 +1,11 @@
-use Rattle.std.proofs.Common.{◌≡◌, ℕ, ◌+◌, ◌^◌, sym, subst}
-use Rattle.rational.specs.Rational.{Rational, whole, ◌≈◌}
-use Rattle.rational.specs.Time.{shifted, ◌≤ʳ◌, ◌<ʳ◌}
+use Rattle.std.proofs.Common.{◌+◌, ◌^◌, sym, subst}
+use Rattle.rational.specs.Rational.{◌≈◌}
+use Rattle.rational.specs.Time.{◌≤ʳ◌}
 use Rattle.rational.proofs.Mixed.{within_same}
-use Rattle.rational.proofs.Order.{le_of_lt, le_of_same, ge_of_same, le_trans, lt_of_le_of_lt, lt_of_lt_of_le, same_of_le, same_refl, same_sym, same_trans}
-use Rattle.rational.proofs.TimeLemmas.{same_shifted}
+use Rattle.rational.proofs.Order.{le_of_lt, le_of_same, le_trans, lt_of_le_of_lt, same_of_le, same_refl, same_sym}
 use Rattle.frac128.specs.Value.{value}
 use Rattle.window_ops.proofs.Ends.{le_shifted}
-use Rattle.online_robust.specs.Glances.{CanGlance, CanStride, Glance, IsGlanceAt, IsStride, glance_of}
+use Rattle.online_robust.specs.Glances.{glance_of}
 use Rattle.online_robust.specs.Reading.{IsStretch}
 use Rattle.online_robust.proofs.Builts.{built_done, built_first, built_on, tick_between, tick_within}
 use Rattle.online_robust.proofs.Glancing.{glance_is_function, glance_same}

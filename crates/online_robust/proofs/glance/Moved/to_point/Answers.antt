@@ -1,4 +1,4 @@
-use Rattle.std.proofs.Common.{◌≡◌, ◌≤◌, ◌^◌, arith, pos, subst, sym, refl, to_z, of_z, w64}
+use Rattle.std.proofs.Common.{◌^◌, arith, pos, subst, sym, refl, w64}
 use Rattle.std.specs.Prelude.{neg_ℤ}
 use Rattle.std.proofs.lemmas.Int.{ints}
 use Rattle.rational.specs.Rational.{FitsFloor, add, whole}

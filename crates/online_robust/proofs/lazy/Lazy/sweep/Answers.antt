@@ -1,4 +1,4 @@
-use Rattle.std.proofs.Common.{◌≡◌, ◌≢◌, sym, ◌∙◌, Some, None}
+use Rattle.std.proofs.Common.{◌≡◌, sym, ◌∙◌, Some, None}
 use Rattle.std.specs.Prelude.{Option}
 use Rattle.envelope.proofs.Leaving.{none_there}
 use Rattle.online_robust.specs.declared.line.MarginLine.{MarginLine}

@@ -1,4 +1,3 @@
-use Rattle.std.proofs.Common.{refl}
 use Rattle.online_robust.proofs.PastSteps.{high_passed, room}
 use Rattle.online_robust.proofs.WindowPoints.{shifted_point}
 use Rattle.online_robust.proofs.past.Past.best.Goals as goal

@@ -1,10 +1,8 @@
-use Rattle.std.proofs.Common.{◌≤◌, Option, None, Some, arith, refl, sym, subst}
+use Rattle.std.proofs.Common.{Option, arith, refl, sym, subst}
 use Rattle.std.specs.Prelude.{MatchOption}
 use Rattle.rational.specs.Time.{shifted}
 use Rattle.frac128.specs.Value.{value}
-use Rattle.online_robust.specs.Held.{edge_at}
 use Rattle.online_robust.specs.Sweeping.{EndsAt, IsBefore}
-use Rattle.online_robust.specs.Windows.{lines_left}
 use Rattle.online_robust.specs.declared.line.Reached.{Reached}
 use Rattle.online_robust.proofs.PastSteps.{high_from_passed, high_passed, high_to_passed}
 use Rattle.online_robust.proofs.WindowPoints.{before_apart, no_sheds}

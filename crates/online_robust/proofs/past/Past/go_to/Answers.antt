@@ -1,4 +1,4 @@
-use Rattle.std.proofs.Common.{◌≡◌, ◌<◌, Option, None, refl, sym, ap, subst}
+use Rattle.std.proofs.Common.{◌≡◌, None, refl, sym, ap, subst}
 use Rattle.rational.specs.Time.{shifted}
 use Rattle.frac128.specs.Value.{value}
 use Rattle.online_robust.specs.Held.{edge_at}

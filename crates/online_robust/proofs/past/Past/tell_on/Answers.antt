@@ -1,4 +1,4 @@
-use Rattle.std.proofs.Common.{◌≡◌, ◌^◌, inl, inr, sym, subst}
+use Rattle.std.proofs.Common.{◌^◌, inl, inr, sym, subst}
 use Rattle.std.proofs.lemmas.Result.{err_from_is_err_and}
 use Rattle.rational.specs.Rational.{Rational, IsWithin}
 use Rattle.rational.specs.Time.{◌≤ʳ◌, ◌<ʳ◌}

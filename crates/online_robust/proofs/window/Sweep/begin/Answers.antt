@@ -1,4 +1,4 @@
-use Rattle.std.proofs.Common.{◌≡◌, refl, sym, subst, ◌∙◌}
+use Rattle.std.proofs.Common.{refl, subst}
 use Rattle.std.proofs.lemmas.Result.{err_from_is_err_and}
 use Rattle.rational.specs.Time.{Rational, shifted, ◌<ʳ◌}
 use Rattle.rational.proofs.Order.{lt_of_lt_of_le}
@@ -6,7 +6,7 @@ use Rattle.frac128.specs.Value.{value}
 use Rattle.online_robust.specs.Windows.{at_time}
 use Rattle.online_robust.proofs.PointwiseLemmas.{not_less}
 use Rattle.online_robust.proofs.WindowPoints.{no_sheds}
-use Rattle.online_robust.proofs.WindowRuns.{begun_first, begun_next, begun_told, came_first, falls, goes_none}
+use Rattle.online_robust.proofs.WindowRuns.{begun_first, begun_next, begun_told, came_first, goes_none}
 use Rattle.online_robust.proofs.WindowRuns.{goes_on, going, refused_knot, start_by, start_is, start_tick, stood}
 use Rattle.online_robust.proofs.window.Sweep.begin.Goals as goal
 

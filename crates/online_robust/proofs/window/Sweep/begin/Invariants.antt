@@ -1,4 +1,4 @@
-use Rattle.rational.specs.Time.{Rational, ◌≈◌}
+use Rattle.rational.specs.Time.{Rational}
 use Rattle.frac128.specs.Value.{value}
 use Rattle.std.specs.Prelude.{◌≡◌, ℕ, None}
 use Rattle.online_robust.specs.Held.{edge_at}

@@ -1,4 +1,4 @@
-use Rattle.std.proofs.Common.{subst, sym, refl, ap, ◌∙◌, length}
+use Rattle.std.proofs.Common.{refl, length}
 use Rattle.workbench.proofs.EarlyFollows.{end_on, some_last}
 use Rattle.workbench.proofs.early.Deciding.take_end.Goals as goal
 

@@ -1,4 +1,4 @@
-use Rattle.std.proofs.Common.{subst, sym, refl, ap, ◌∙◌, length}
+use Rattle.std.proofs.Common.{refl}
 use Rattle.workbench.proofs.EarlyFollows.{later_row, row_on, wide_row}
 use Rattle.workbench.proofs.early.Deciding.take_row.Goals as goal
 

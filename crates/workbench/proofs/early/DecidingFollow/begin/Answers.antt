@@ -1,4 +1,4 @@
-use Rattle.std.proofs.Common.{subst, sym, refl, ◌∙◌}
+use Rattle.std.proofs.Common.{subst, sym, ◌∙◌}
 use Rattle.atom_lines.specs.Binding.{IsBound}
 use Rattle.workbench.proofs.EarlyFollows.{begun}
 use Rattle.workbench.proofs.early.DecidingFollow.begin.Goals as goal

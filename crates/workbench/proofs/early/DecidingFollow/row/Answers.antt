@@ -1,5 +1,4 @@
 use Rattle.std.proofs.Common.{false, inl, inr}
-use Rattle.std.proofs.lemmas.Result.{IfOk-weaker}
 use Rattle.trace_stream.specs.Following.{Follows, IsOpen}
 use Rattle.trace_stream.specs.Streams.{early}
 use Rattle.trace_stream.specs.declared.case.Case.{Case}

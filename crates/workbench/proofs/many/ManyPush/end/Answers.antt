@@ -1,4 +1,4 @@
-use Rattle.std.proofs.Common.{true, Bool, Result, Ok, Err, subst}
+use Rattle.std.proofs.Common.{true, Result, Ok, Err, subst}
 use Rattle.std.specs.Prelude.{MatchResult}
 use Rattle.session_mux.specs.Taking.{HasAll}
 use Rattle.workbench.specs.Requests.{sessions}
