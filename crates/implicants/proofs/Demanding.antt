@@ -5,11 +5,11 @@ use Rattle.std.specs.Prelude.{slice_get, Option, None, MatchBool, not}
 use Rattle.std.proofs.lemmas.Option.{slice_get_within}
 use Rattle.rational.specs.Time.{Rational, Within, whole, ◌≤ʳ◌, ◌<ʳ◌, ◌≈◌}
 use Rattle.rational.specs.Rational.{IsWithin}
-use Rattle.rational.specs.Extended.{Extended, finite, value_at, opposite, ◌<ᵉ◌, ◌≤ᵉ◌, Passes}
+use Rattle.rational.specs.Extended.{Extended, IsLeast, finite, value_at, opposite, ◌<ᵉ◌, ◌≤ᵉ◌, Passes}
 use Rattle.rational.specs.Affine.{IsBounded}
 use Rattle.rational.specs.Windows.{Ahead, Behind}
 use Rattle.rational.proofs.Order.{le_trans, le_refl, le_of_same, ge_of_same, same_refl, same_trans}
-use Rattle.rational.proofs.ExtendedLemmas.{clashᵉ, lt_of_lt_of_leᵉ, le_reflᵉ, lt_opposite}
+use Rattle.rational.proofs.ExtendedLemmas.{clashᵉ, lt_of_lt_of_leᵉ, le_reflᵉ, le_transᵉ, least_of, lt_opposite, opposite_le', opposite_twice}
 use Rattle.rational.proofs.AffineLemmas.{bounded_same, same_transᵉ}
 use Rattle.rational.proofs.LevelLemmas.{level_is}
 use Rattle.rational.proofs.Mixed.{within_whole}
@@ -23,7 +23,7 @@ use Rattle.pl_signal.specs.Knots.{start, stop, IsSignal, IsWorth}
 use Rattle.pl_signal.specs.Building.{GoesOn}
 use Rattle.pl_signal.specs.Moves.{Tells}
 use Rattle.pl_signal.proofs.Limits.{limited}
-use Rattle.pl_signal.proofs.Values.{to_stop, some_is}
+use Rattle.pl_signal.proofs.Values.{to_stop, some_is, every_time, worth_within}
 use Rattle.signal_ops.specs.Pointwise.{LeastOf, Negated}
 use Rattle.window_ops.specs.Windows.{SupBehind}
 use Rattle.stl_syntax.specs.Trace.{Trace}
@@ -38,7 +38,7 @@ use Rattle.stl_syntax.proofs.FormulaLemmas.{subformula-at}
 use Rattle.stl_syntax.proofs.LawProofs.{certainty_by_values}
 use Rattle.offline_eval.specs.Making.{IsFit}
 use Rattle.implicants.specs.Keeping.{CoverMore}
-use Rattle.implicants.specs.Demands.{Certain, IsOn, IsOff, StaysFit, AreOn, IsBeside, IsMet, AreCertainties, HandsDown}
+use Rattle.implicants.specs.Demands.{Certain, IsOn, IsOff, IsFull, IsVoid, StaysFit, AreOn, IsBeside, IsMet, AreCertainties, HandsDown}
 use Rattle.implicants.specs.declared.demand.Demand.{Demand}
 use Rattle.implicants.proofs.Growing.{must, must_not}
 
@@ -99,10 +99,21 @@ stays_fit F x y fit tells = record {
   along = record { begins = tells.begins; ends = tells.ends };
 }
 
--- the least of two is more than -1 only where both are
-pub least_on : (x y r : List (Knot Kleene))
+-- what is no less than 1 is so with the other
+least_one : (v w r : Extended) → IsLeast v w r → one ≤ᵉ v → one ≤ᵉ w → one ≤ᵉ r
+least_one v w r is a b = elim is.one_of [ inl h ↦ le_transᵉ one v r a h | inr h ↦ le_transᵉ one w r b h ]
+
+-- the least of two is more than -1 only where both are, and 1 where both are
+pub least_on : (x y r : List (Knot Kleene)) → IsSignal kleene_shape x
     → Tells kleene_shape (LeastOf (IsWorth kleene_shape x) (IsWorth kleene_shape y)) (start x) (stop x) r → AreOn kleene_shape x y r
-least_on x y r tells = record {
+least_on x y r signal tells = record {
+  full = λ t a b.
+      let least = least_of a.v b.v in
+      record {
+        v = least.0;
+        worth = (tells.worth t least.0).1 (worth_within kleene_shape x t a.v signal a.worth, (a.v, b.v, a.worth, b.worth, least.1));
+        full = least_one a.v b.v least.0 least.1 a.full b.full;
+      };
   left = λ t h. (let k = ((tells.worth t h.v).0 h.worth).1 in record { v = k.0; worth = k.2; more = lt_of_lt_of_leᵉ minus_one h.v k.0 h.more k.4.left });
   right = λ t h. (let k = ((tells.worth t h.v).0 h.worth).1 in record { v = k.1; worth = k.3; more = lt_of_lt_of_leᵉ minus_one h.v k.1 h.more k.4.right });
 }
@@ -119,6 +130,32 @@ negated_on x r tells t h =
       worth = ((tells.worth t h.v).0 h.worth).1;
       less = lt_of_lt_of_leᵉ (opposite h.v) (opposite minus_one) one (lt_opposite minus_one h.v h.more) opposite_one;
     }
+
+one_opposite : one ≤ᵉ opposite minus_one
+one_opposite = record { le = lit≤ tt }
+
+-- minus a value is 1 where the value is -1
+pub negated_full : (x r : List (Knot Kleene)) → IsSignal kleene_shape x
+    → Tells kleene_shape (Negated (IsWorth kleene_shape x)) (start x) (stop x) r
+    → (t : Rational) → IsVoid kleene_shape x t → IsFull kleene_shape r t
+negated_full x r signal tells t h = record {
+  v = opposite h.v;
+  worth = (tells.worth t (opposite h.v)).1
+      (worth_within kleene_shape x t h.v signal h.worth, subst (IsWorth kleene_shape x t) (sym (opposite_twice h.v)) h.worth);
+  full = le_transᵉ one (opposite minus_one) (opposite h.v) one_opposite (opposite_le' h.v minus_one h.void);
+}
+
+-- the Sup over a window behind is 1 where some value there is
+pub sup_full : (x r : List (Knot Kleene)) (a b : ℕ) (a_in b_in : Bool)
+    → Tells kleene_shape (SupBehind (start x) (stop x) (IsWorth kleene_shape x) minus_one a (Some b) a_in b_in) (start x) (stop x) r
+    → (t u : Rational) → Within (start x) (stop x) t → Behind (start x) (stop x) a (Some b) a_in b_in t u → IsFull kleene_shape x u → IsFull kleene_shape r t
+sup_full x r a b a_in b_in tells t u inside near h =
+    let here = every_time kleene_shape r t tells.signal (record {
+      above = le_trans (le_of_same tells.begins) inside.above;
+      below = le_trans inside.below (ge_of_same tells.ends);
+    }) in
+    let sup = ((tells.worth t here.0).0 here.1).1 in
+    record { v = here.0; worth = here.1; full = le_transᵉ one h.v here.0 h.full (sup.bound h.v (u, near, h.worth)) }
 
 -- the Sup over a window behind is more than -1 only where some value there is
 pub sup_on : (x r : List (Knot Kleene)) (a b : ℕ) (a_in b_in : Bool)
@@ -156,6 +193,25 @@ module _ (nodes : List Node) (tr : Trace) (items : List Item) (signals : List (L
       let both = sure.values k inside in
       let is = certainty_by_values (subformula nodes k) items tr both.0 both.1 t off.v w.0 w.1 in
       clashᵉ off.v one off.less (is.certain.1 (must some items tr more (subformula nodes k) t m)).at_least
+
+  -- where fewer make a node certain, its signal is certain
+  pub certain_full : (holds : Bool) (k : ℕ) (x : List (Knot Kleene)) (t : Rational) → k < length nodes → slice_get signals k ≡ Some x
+      → Within (trace.start tr) (trace.stop tr) t
+      → (some : List Item) → CoverMore some items → Certain holds (subformula nodes k) some tr t
+      → MatchBool holds (IsFull kleene_shape x t) (IsVoid kleene_shape x t)
+  certain_full holds k x t inside at here some more =
+      let tells = told_at k x inside at in
+      let v = every_time kleene_shape x t tells.signal (record {
+        above = le_trans (le_of_same tells.begins) here.above;
+        below = le_trans here.below (ge_of_same tells.ends);
+      }) in
+      let w = (tells.worth t v.0).0 v.1 in
+      let both = sure.values k inside in
+      let is = certainty_by_values (subformula nodes k) items tr both.0 both.1 t v.0 w.0 w.1 in
+      elim holds as (λ holds. Certain holds (subformula nodes k) some tr t → MatchBool holds (IsFull kleene_shape x t) (IsVoid kleene_shape x t)) [
+        | true ↦ λ m. record { v = v.0; worth = v.1; full = (is.certain.1 (must some items tr more (subformula nodes k) t m)).at_least }
+        | false ↦ λ m. record { v = v.0; worth = v.1; void = (is.certain_not.1 (must_not some items tr more (subformula nodes k) t m)).at_most }
+      ]
 
 -- the Sup over a window behind looks from where the window ahead comes from
 ahead_of : (from to from' to' : Rational) (a b : ℕ) (a_in b_in : Bool) (t u : Rational) → from ≈ from' → to ≈ to'

@@ -21,7 +21,7 @@ use Rattle.stl_syntax.specs.declared.items.Item.{Item}
 use Rattle.stl_syntax.specs.declared.node.Node.{Node}
 use Rattle.stl_syntax.specs.declared.node.Node.TheVariants.{Const, Atom as Leaf, Not, And, Or, Implies, Until, Eventually, Always, Since, Once, Historically}
 use Rattle.offline_eval.specs.Making.{IsFit}
-use Rattle.implicants.specs.Demands.{Certain, IsOn, IsOff, IsDemand, IsAlong, StaysFit, AreOn, IsBeside, IsMet, AreCertainties, HandsDown}
+use Rattle.implicants.specs.Demands.{Certain, IsOn, IsOff, IsFull, IsVoid, IsDemand, IsAlong, StaysFit, AreOn, IsBeside, IsMet, AreCertainties, HandsDown}
 use Rattle.implicants.specs.declared.demand.Demand.{Demand}
 use Rattle.implicants.proofs.Demanding.{fit_over_ticks, told_at, all_down, beside_down, met_down, not_down, IsOther}
 use Rattle.implicants.proofs.Demanding.{right_of, and_true, and_false, or_false, or_true, implies_left, implies_right}
@@ -44,13 +44,27 @@ three_some (Err e) A B C H f a b c = tt
 
 -- a demand where both signals are on, of which the second is on only where another is off
 pub beside_off : (holds off : Bool) (x y other : List (Knot Kleene)) (d : Demand) → off ≡ true
-    → ((t : Rational) → IsOn kleene_shape y t → IsOff kleene_shape other t) → d.holds ≡ holds
+    → ((t : Rational) → IsOn kleene_shape y t → IsOff kleene_shape other t)
+    → ((t : Rational) → IsVoid kleene_shape other t → IsFull kleene_shape y t) → d.holds ≡ holds
     → StaysFit kleene_shape x d.at → AreOn kleene_shape x y d.at → IsBeside kleene_shape holds x other off d
-beside_off holds off x y other d e turned same fit both = record {
+beside_off holds off x y other d e turned void same fit both = record {
   same = same;
   fit = fit;
   on = both.left;
   beside = λ t on. subst (λ b. MatchBool b (IsOff kleene_shape other t) (IsOn kleene_shape other t)) (sym e) (turned t (both.right t on));
+  full = λ t here there. both.full t here
+      (void t (subst (λ b. MatchBool b (IsVoid kleene_shape other t) (IsFull kleene_shape other t)) e there));
+}
+
+-- a demand where both signals are on
+pub beside_on : (holds off : Bool) (x other : List (Knot Kleene)) (d : Demand) → off ≡ false → d.holds ≡ holds
+    → StaysFit kleene_shape x d.at → AreOn kleene_shape x other d.at → IsBeside kleene_shape holds x other off d
+beside_on holds off x other d e same fit both = record {
+  same = same;
+  fit = fit;
+  on = both.left;
+  beside = λ t on. subst (λ b. MatchBool b (IsOff kleene_shape other t) (IsOn kleene_shape other t)) (sym e) (both.right t on);
+  full = λ t here there. both.full t here (subst (λ b. MatchBool b (IsVoid kleene_shape other t) (IsFull kleene_shape other t)) e there);
 }
 
 module _ (holds : Bool) (x : List (Knot Kleene)) (signals : List (List (Knot Kleene))) (n : Node) (i : ℕ) where

@@ -28,3 +28,4 @@ pub mod Needing
 pub mod Turning
 pub mod LastCells
 pub mod Walking
+pub mod SharedTimes

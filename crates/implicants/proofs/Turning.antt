@@ -65,7 +65,7 @@ off_negated x r tells t h = record {
 }
 
 -- a window of one domain is one of the same domain
-window_same : (from to from' to' : Rational) (w : Window) (t u : Rational) → from ≈ from' → to ≈ to' → InWindow from to w t u → InWindow from' to' w t u
+pub window_same : (from to from' to' : Rational) (w : Window) (t u : Rational) → from ≈ from' → to ≈ to' → InWindow from to w t u → InWindow from' to' w t u
 window_same from to from' to' w t u e f h = record {
   inside = record { above = le_trans (ge_of_same e) h.inside.above; below = le_trans h.inside.below (le_of_same f) };
   begins = h.begins;
@@ -113,18 +113,41 @@ open_is holds x w other none enough d is same fit both = record {
   clear = λ t u on h. is.clear t u (both.right t on) h;
 }
 
--- some time of a window is certain where the node over it is
+-- of which the opposite is the one truth is the other
+not_true : (other : Bool) → true ≡ not other → other ≡ false
+not_true true e = absurd cc
+not_true false e = refl
+
+not_false : (other : Bool) → false ≡ not other → other ≡ true
+not_false true e = refl
+not_false false e = absurd cc
+
+-- some time of a window is certain where the node over it is, and each where it is certain of the opposite
 pub some_eventually : (n : Node) (holds : Bool) (p : ℕ) (w : Window) → n ≡ Eventually p w.low w.high w.low_in w.high_in → holds ≡ true → w.low ≤ w.high
     → IsSomeAhead n holds (record { window = w; of = p })
 some_eventually n holds p w e f order = subst (λ m. IsSomeAhead m holds (record { window = w; of = p })) (sym e)
     (subst (λ b. IsSomeAhead (Eventually p w.low w.high w.low_in w.high_in) b (record { window = w; of = p })) (sym f)
-    (record { order = order; child = refl; some = λ at j items tr t h. h }))
+    (record {
+      order = order;
+      child = refl;
+      some = λ at j items tr t h. h;
+      each = λ other e at j items tr t u h near.
+          subst (λ b. Certain b (at p) items tr u) (sym (not_true other e))
+          (subst (λ b. Certain b (tree_of at j (Eventually p w.low w.high w.low_in w.high_in)) items tr t) (not_true other e) h u near);
+    }))
 
 pub some_always : (n : Node) (holds : Bool) (p : ℕ) (w : Window) → n ≡ Always p w.low w.high w.low_in w.high_in → holds ≡ false → w.low ≤ w.high
     → IsSomeAhead n holds (record { window = w; of = p })
 some_always n holds p w e f order = subst (λ m. IsSomeAhead m holds (record { window = w; of = p })) (sym e)
     (subst (λ b. IsSomeAhead (Always p w.low w.high w.low_in w.high_in) b (record { window = w; of = p })) (sym f)
-    (record { order = order; child = refl; some = λ at j items tr t h. h }))
+    (record {
+      order = order;
+      child = refl;
+      some = λ at j items tr t h. h;
+      each = λ other e at j items tr t u h near.
+          subst (λ b. Certain b (at p) items tr u) (sym (not_false other e))
+          (subst (λ b. Certain b (tree_of at j (Always p w.low w.high w.low_in w.high_in)) items tr t) (not_false other e) h u near);
+    }))
 
 -- what follows for one operand of each kind of node
 other_less : (p q k j : ℕ) (i : ℕ) → IsOther p q i k → (p < j) × (q < j) → k < j

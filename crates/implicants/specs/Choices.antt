@@ -1,6 +1,6 @@
 -- What must be certain of a node at some time of a window, and which cells that leaves as the last ones for some time.
 use Rattle.std.specs.Prelude.{◌≡◌, ◌⊎◌, ℕ, suc, slice_set, ◌<◌, ◌≤◌, Bool, true, false, List, Option}
-use Rattle.std.specs.Prelude.{Some, None, slice_get, slice_index_or, IfSome, MatchBool, MatchOption}
+use Rattle.std.specs.Prelude.{Some, None, slice_get, slice_index_or, IfSome, MatchBool, MatchOption, not}
 use Rattle.rational.specs.Time.{Rational, IsIn, Precedes, later, ◌≈◌}
 use Rattle.rational.specs.Windows.{Ahead}
 use Rattle.frac128.specs.Value.{value}
@@ -35,12 +35,14 @@ IsChosen nodes tr items holds i w t =
     (some : List Item) → CoverMore some items → MustNot (root nodes) some tr (trace.start tr)
     → (u : Rational) × InWindow (trace.start tr) (trace.stop tr) w t u × Certain holds (subformula nodes i) some tr u
 
--- where a node is certain, what it is over is certain at some time of the window
+-- where a node is certain, what it is over is certain at some time of the window; where it is certain of the opposite, at each time
 pub record IsSomeAhead (n : Node) (holds : Bool) (a : SomeAhead) : Type 0 where
   pub order : a.window.low ≤ a.window.high
   pub child : IsChild n a.of
   pub some : (at : ℕ → Subformula) (j : ℕ) (items : List Item) (tr : Trace) (t : Rational) → Certain holds (tree_of at j n) items tr t
       → (u : Rational) × InWindow (trace.start tr) (trace.stop tr) a.window t u × Certain holds (at a.of) items tr u
+  pub each : (other : Bool) → holds ≡ not other → (at : ℕ → Subformula) (j : ℕ) (items : List Item) (tr : Trace) (t u : Rational)
+      → Certain other (tree_of at j n) items tr t → InWindow (trace.start tr) (trace.stop tr) a.window t u → Certain other (at a.of) items tr u
 
 -- where a node is certain and the other operand does not suffice, the operand at place i is certain
 pub record IsTurn (n : Node) (holds : Bool) (i : ℕ) (turn : Turn) : Type 0 where

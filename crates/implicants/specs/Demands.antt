@@ -3,7 +3,7 @@ use Rattle.std.specs.Prelude.{◌≡◌, ◌⊎◌, ℕ, zero, suc, ◌+◌, ◌
 use Rattle.std.specs.Prelude.{List, length, Some, slice_get, slice_index_or, slice_set, MatchBool}
 use Rattle.rational.specs.Time.{Rational, IsIn, Within, ◌≈◌}
 use Rattle.rational.specs.Windows.{Behind}
-use Rattle.rational.specs.Extended.{Extended, ◌<ᵉ◌}
+use Rattle.rational.specs.Extended.{Extended, ◌<ᵉ◌, ◌≤ᵉ◌}
 use Rattle.frac128.specs.Spans.{interval}
 use Rattle.frac128.specs.declared.span.Span.{Span}
 use Rattle.value_laws.specs.Members.{ShapeOf}
@@ -45,6 +45,18 @@ module _ (shape : ShapeOf Kleene) where
     pub worth : IsWorth shape x t v
     pub less : v <ᵉ one
 
+  -- it is certainly true there
+  pub record IsFull (x : List (Knot Kleene)) (t : Rational) : Type 0 where
+    pub v : Extended
+    pub worth : IsWorth shape x t v
+    pub full : one ≤ᵉ v
+
+  -- it is certainly false there
+  pub record IsVoid (x : List (Knot Kleene)) (t : Rational) : Type 0 where
+    pub v : Extended
+    pub worth : IsWorth shape x t v
+    pub void : v ≤ᵉ minus_one
+
   -- the node is demanded to be certain wherever the signal is on
   abbrev pub IsDemand : List Node → Trace → List Item → Bool → ℕ → List (Knot Kleene) → Type 0
   IsDemand nodes tr items holds i x = (t : Rational) → IsOn x t → IsDemanded nodes tr items holds i t
@@ -59,24 +71,27 @@ module _ (shape : ShapeOf Kleene) where
     pub fit : IsFit shape y
     pub along : IsAlong x y
 
-  -- the new signal is on only where both are
+  -- the new signal is on only where both are, and certainly true where both are
   pub record AreOn (x y r : List (Knot Kleene)) : Type 0 where
     pub left : (t : Rational) → IsOn r t → IsOn x t
     pub right : (t : Rational) → IsOn r t → IsOn y t
+    pub full : (t : Rational) → IsFull x t → IsFull y t → IsFull r t
 
-  -- the demand of the old signal, only where the other one is off or on
+  -- the demand of the old signal, only where the other one is off or on; certainly where it is certainly so
   pub record IsBeside (holds : Bool) (x other : List (Knot Kleene)) (off : Bool) (d : Demand) : Type 0 where
     pub same : d.holds ≡ holds
     pub fit : StaysFit x d.at
     pub on : (t : Rational) → IsOn d.at t → IsOn x t
     pub beside : (t : Rational) → IsOn d.at t → MatchBool off (IsOff other t) (IsOn other t)
+    pub full : (t : Rational) → IsFull x t → MatchBool off (IsVoid other t) (IsFull other t) → IsFull d.at t
 
-  -- the demand at times that the window meets from a time at which the old signal is on
+  -- the demand at times that the window meets from a time at which the old signal is on; certain from one at which it is certain
   pub record IsMet (holds : Bool) (x : List (Knot Kleene)) (a b : ℕ) (a_in b_in : Bool) (d : Demand) : Type 0 where
     pub same : d.holds ≡ holds
     pub fit : StaysFit x d.at
     pub from : (t : Rational) → IsOn d.at t → (u : Rational) × Behind (start x) (stop x) a (Some b) a_in b_in t u × IsOn x u
     pub inside : (t : Rational) → IsOn d.at t → Within (start x) (stop x) t
+    pub full : (t u : Rational) → Within (start x) (stop x) t → Behind (start x) (stop x) a (Some b) a_in b_in t u → IsFull x u → IsFull d.at t
 
   -- the signals tell what the items leave certain of each node, and each node has values
   pub record AreCertainties (nodes : List Node) (tr : Trace) (items : List Item) (signals : List (List (Knot Kleene))) : Type 0 where

@@ -5,5 +5,6 @@ pub mod Signals
 pub mod Cuts
 pub mod Demands
 pub mod Choices
+pub mod Sharing
 pub mod Explaining
 pub mod Counting

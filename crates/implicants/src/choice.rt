@@ -44,13 +44,13 @@ pub(crate) struct Choice {
 
 /// A window ahead, of which some time is enough, and the node that it is over.
 #[derive(Clone, Copy)]
-struct SomeAhead {
-    window: Window,
-    of: u32,
+pub(crate) struct SomeAhead {
+    pub(crate) window: Window,
+    pub(crate) of: u32,
 }
 
-/// Of which window some time is enough that the node is certainly what `holds` says.
-fn some_ahead(node: &Node, holds: bool) -> Option<SomeAhead>
+/// Of which window some time is enough that the node is certainly what `holds` says, and each time where it is certainly the opposite.
+pub(crate) fn some_ahead(node: &Node, holds: bool) -> Option<SomeAhead>
     requires { HasBounds node.now }
     ensures { IfSome result (IsSomeAhead node.now holds) }
 {
@@ -154,7 +154,7 @@ fn turn_of(node: &Node, holds: bool, i: u32) -> Option<Turn>
 }
 
 /// On where no time of the window ahead has the signal certainly true.
-fn left_off(x: &Signal<Kleene>, window: Window) -> Result<Option<Signal<Kleene>>, Memory>
+pub(crate) fn left_off(x: &Signal<Kleene>, window: Window) -> Result<Option<Signal<Kleene>>, Memory>
     requires fit { IsFit ⟦<Kleene as Shape>⟧ x.now }
     requires order { window.low ≤ window.high }
     ensures { IfOk result (λ o. IfSome o (IsLeft ⟦<Kleene as Shape>⟧ x.now window)) }
@@ -260,6 +260,7 @@ fn handed_to(
         → IsChoice ⟦<Kleene as Shape>⟧ formula.now.nodes trace.now items choice.holds from choice.window choice.at
         → IsChoice ⟦<Kleene as Shape>⟧ formula.now.nodes trace.now items d.holds i d.window d.at)) }
     ensures fit { IfOk result (λ o. IfSome o (λ d. StaysFit ⟦<Kleene as Shape>⟧ choice.at d.at)) }
+    ensures order { IfOk result (λ o. IfSome o (λ d. d.window.low ≤ d.window.high)) }
 {
     let _ = (trace.rows(), last(trace));
     let Choice {
@@ -294,7 +295,7 @@ fn handed_to(
 }
 
 /// The last node with a window ahead on the way from the root to the node at place `i`.
-fn window_above(formula: &Formula, i: u32) -> Option<u32>
+pub(crate) fn window_above(formula: &Formula, i: u32) -> Option<u32>
     ensures { IfSome result (λ w. w < length formula.now.nodes) }
 {
     let mut found = None;
@@ -332,6 +333,7 @@ pub(crate) fn choice_on(
     ensures fit { IfOk result (λ o. IfSome o (λ d. IsFit ⟦<Kleene as Shape>⟧ d.at)) }
     ensures begins { IfOk result (λ o. IfSome o (λ d. start d.at ≈ start_of trace.now)) }
     ensures ends { IfOk result (λ o. IfSome o (λ d. stop d.at ≈ stop_of trace.now)) }
+    ensures order { IfOk result (λ o. IfSome o (λ d. d.window.low ≤ d.window.high)) }
 {
     let Some(w) = window_above(formula, i) else {
         return Ok(None);

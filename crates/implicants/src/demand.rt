@@ -7,7 +7,7 @@ ghost use Rattle.stl_syntax.specs.Formula.{HasChildrenBelow};
 ghost use Rattle.stl_syntax.specs.WellFormed.{HasBounds};
 ghost use Rattle.stl_syntax.specs.Cells.{IsChild};
 ghost use Rattle.offline_eval.specs.Making.{IsFit};
-ghost use Rattle.implicants.specs.Demands.{AreCertainties, AreOn, HandsDown, IsAlong, IsBeside, IsDemand, IsMet, IsOff, IsOn, StaysFit};
+ghost use Rattle.implicants.specs.Demands.{AreCertainties, AreOn, HandsDown, IsAlong, IsBeside, IsDemand, IsFull, IsMet, IsOff, IsOn, IsVoid, StaysFit};
 ghost use Rattle.pl_signal.specs.declared.knot.Knot.{Knot};
 ghost use Rattle.stl_syntax.specs.declared.items.Item.{Item};
 
@@ -59,6 +59,7 @@ pub(crate) fn where_both(
     ensures fit { IfOk result (λ o. IfSome o (λ d. StaysFit ⟦<Kleene as Shape>⟧ x.now d.at)) }
     ensures both { IfOk result (λ o. IfSome o (λ d. AreOn ⟦<Kleene as Shape>⟧ x.now y.now d.at)) }
 {
+    let _ = x.len();
     match lower(x, y) {
         Ok(at) => Ok(Some(Demand { holds, at })),
         Err(OpFault::Memory) => Err(Memory),
@@ -70,14 +71,16 @@ pub(crate) fn where_both(
 pub(crate) fn turned(x: &Signal<Kleene>) -> Result<Signal<Kleene>, Memory>
     requires fit { IsFit ⟦<Kleene as Shape>⟧ x.now }
     ensures fit { IfOk result (StaysFit ⟦<Kleene as Shape>⟧ x.now) }
+    ensures full { IfOk result (λ r. (t : Rational) → IsVoid ⟦<Kleene as Shape>⟧ x.now t → IsFull ⟦<Kleene as Shape>⟧ r t) }
     ensures off { IfOk result (λ r. (t : Rational) → IsOn ⟦<Kleene as Shape>⟧ r t → IsOff ⟦<Kleene as Shape>⟧ x.now t) }
     ensures on { IfOk result (λ r. (t : Rational) → IsOff ⟦<Kleene as Shape>⟧ r t → IsOn ⟦<Kleene as Shape>⟧ x.now t) }
 {
+    let _ = x.len();
     neg(x)
 }
 
 /// The demand where the other operand is not certainly true (`off`), or not certainly false.
-fn beside(
+pub(crate) fn beside(
     holds: bool,
     x: &Signal<Kleene>,
     other: &Signal<Kleene>,
@@ -96,7 +99,7 @@ fn beside(
 }
 
 /// The demand at each time that the window ahead meets from a time at which the signal is on.
-fn met(
+pub(crate) fn met(
     holds: bool,
     x: &Signal<Kleene>,
     low: u32,
@@ -213,29 +216,30 @@ pub(crate) fn operand_to(node: &Node, i: u32) -> Option<u32>
     }
 }
 
-/// What is demanded of the node at place `i` where the formula is to be certainly false at the start, as far as it is known.
-///
-/// `nodes` are the signals of what some cells leave certain of each node.
-pub(crate) fn demand_on(
-    alloc: Global,
+/// What is demanded of the node at place `i`, by what is demanded of the one at place `from`, as far as it is known.
+pub(crate) fn demand_below(
     formula: &Formula,
     trace: &Trace,
     nodes: &Evaluated<Kleene>,
+    from: u32,
     i: u32,
+    demand: Demand,
 ) -> Result<Option<Demand>, Memory>
     requires some { 0 < length trace.now.rows }
+    requires inside { from < length formula.now.nodes }
     requires told { (items : List Item) × AreCertainties ⟦<Kleene as Shape>⟧ formula.now.nodes trace.now items nodes.now }
+    requires fit { IsFit ⟦<Kleene as Shape>⟧ demand.at }
+    requires begins { start demand.at ≈ start_of trace.now }
+    requires ends { stop demand.at ≈ stop_of trace.now }
     ensures demand { IfOk result (λ o. IfSome o (λ d. (items : List Item)
         → AreCertainties ⟦<Kleene as Shape>⟧ formula.now.nodes trace.now items nodes.now
+        → IsDemand ⟦<Kleene as Shape>⟧ formula.now.nodes trace.now items demand.holds from demand.at
         → IsDemand ⟦<Kleene as Shape>⟧ formula.now.nodes trace.now items d.holds i d.at)) }
-    ensures fit { IfOk result (λ o. IfSome o (λ d. IsFit ⟦<Kleene as Shape>⟧ d.at)) }
-    ensures begins { IfOk result (λ o. IfSome o (λ d. start d.at ≈ start_of trace.now)) }
-    ensures ends { IfOk result (λ o. IfSome o (λ d. stop d.at ≈ stop_of trace.now)) }
+    ensures fit { IfOk result (λ o. IfSome o (λ d. StaysFit ⟦<Kleene as Shape>⟧ demand.at d.at)) }
 {
-    let _ = trace.rows();
-    let mut holds = false;
-    let mut at = at_start(alloc, first(trace), last(trace))?;
-    let mut j = formula.len() - 1;
+    let _ = (trace.rows(), last(trace));
+    let Demand { mut holds, mut at } = demand;
+    let mut j = from;
     while i < j {
         let node = formula.node(j);
         let Some(next) = operand_to(node, i) else {
@@ -259,4 +263,29 @@ pub(crate) fn demand_on(
         return Ok(Some(Demand { holds, at }));
     }
     Ok(None)
+}
+
+/// What is demanded of the node at place `i` where the formula is to be certainly false at the start, as far as it is known.
+///
+/// `nodes` are the signals of what some cells leave certain of each node.
+pub(crate) fn demand_on(
+    alloc: Global,
+    formula: &Formula,
+    trace: &Trace,
+    nodes: &Evaluated<Kleene>,
+    i: u32,
+) -> Result<Option<Demand>, Memory>
+    requires some { 0 < length trace.now.rows }
+    requires told { (items : List Item) × AreCertainties ⟦<Kleene as Shape>⟧ formula.now.nodes trace.now items nodes.now }
+    ensures demand { IfOk result (λ o. IfSome o (λ d. (items : List Item)
+        → AreCertainties ⟦<Kleene as Shape>⟧ formula.now.nodes trace.now items nodes.now
+        → IsDemand ⟦<Kleene as Shape>⟧ formula.now.nodes trace.now items d.holds i d.at)) }
+    ensures fit { IfOk result (λ o. IfSome o (λ d. IsFit ⟦<Kleene as Shape>⟧ d.at)) }
+    ensures begins { IfOk result (λ o. IfSome o (λ d. start d.at ≈ start_of trace.now)) }
+    ensures ends { IfOk result (λ o. IfSome o (λ d. stop d.at ≈ stop_of trace.now)) }
+{
+    let _ = trace.rows();
+    let at = at_start(alloc, first(trace), last(trace))?;
+    let root = Demand { holds: false, at };
+    demand_below(formula, trace, nodes, formula.len() - 1, i, root)
 }

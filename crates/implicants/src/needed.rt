@@ -14,6 +14,7 @@ use crate::cells::Cells;
 use crate::choice::choice_on;
 use crate::choosing::mark_chosen;
 use crate::demand::demand_on;
+use crate::sharing::shared_on;
 use frac128::{Frac, Memory, Span};
 use offline_eval::Evaluated;
 use pl_signal::Signal;
@@ -190,6 +191,10 @@ fn mark_needed(
     }
     if let Some(choice) = choice_on(alloc, formula, trace, nodes, i)? {
         mark_chosen(cells, i, left, &choice, marks);
+        return Ok(());
+    }
+    if let Some(shared) = shared_on(alloc, formula, trace, nodes, i)? {
+        mark_touched(cells, i, left, &shared.at, marks);
         return Ok(());
     }
     Ok(())

@@ -46,6 +46,9 @@ returns-clause-choice c =
     c.node.ensures.below c.in-Some-some_ahead.ensures (demand items sure)))
     c.handed_to.ensures.choice
 
+pub returns-clause-order : goal.returns-clause-order
+returns-clause-order c = c.handed_to.ensures.order
+
 pub returns-clause-fit : goal.returns-clause-fit
 returns-clause-fit c = each_in c.handed_to.result _ _ (λ d h. h.fit) c.handed_to.ensures.fit
 

@@ -53,5 +53,8 @@ returns-then-i-j-clause-choice c items sure h =
     subst (λ k. IsChoice kleene_shape c.args.formula.now.nodes c.args.trace.now items c.loop-j.holds k c.args.choice.window c.loop-j.at)
     (sym c.if-i-j.true) (c.loop-j.invariant.choice items sure h)
 
+pub returns-then-i-j-clause-order : goal.returns-then-i-j-clause-order
+returns-then-i-j-clause-order c = c.requires.order
+
 pub returns-then-i-j-clause-fit : goal.returns-then-i-j-clause-fit
 returns-then-i-j-clause-fit c = c.loop-j.invariant.fit

@@ -47,6 +47,24 @@ returns-in-Some-3-clause-needed c =
     c.mark_chosen.new.marks.items told.more c.in-Some-3.choice.holds
     c.in-Some-3.choice.window c.in-Some-3.choice.at told.covered (choice told.more told.told) c.mark_chosen.ensures.put
 
+pub shared_on-requires-clause-told : goal.shared_on-requires-clause-told
+shared_on-requires-clause-told c = (c.requires.told.more, c.requires.told.told)
+
+pub returns-in-Some-4-clause-needed : goal.returns-in-Some-4-clause-needed
+returns-in-Some-4-clause-needed c =
+    let nodes = c.args.formula.now.nodes in
+    let tr = c.args.trace.now in
+    let all = c.args.cells.now.all.items in
+    let old = c.args.marks.now.items in
+    let told = c.requires.told in
+    let leaf = c.in-Some.ensures in
+    let demand = subst (λ o. IfSome o (λ d.
+    (items : List Item) → AreCertainties kleene_shape nodes tr items c.args.nodes.now → IsDemand kleene_shape nodes tr items d.holds c.in-Some.i d.at))
+    c.in-Some-4.is c.in_ok-shared.ensures.demand in
+    marks_needed nodes tr all c.args.cells.now.ends.items c.requires.cells c.args.left old c.mark_touched-in-Some-4.new.marks.items
+    told.more c.in-Some.i leaf.0 c.in-Some-4.shared.holds
+    c.in-Some-4.shared.at leaf.1 told.covered (demand told.more told.told) c.mark_touched-in-Some-4.ensures.more
+
 pub returns-clause-needed : goal.returns-clause-needed
 returns-clause-needed c = no_more_needed c.args.formula.now.nodes c.args.trace.now c.args.cells.now.all.items c.args.left c.args.marks.now.items
 
