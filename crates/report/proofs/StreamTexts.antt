@@ -72,7 +72,7 @@ stream_once p header rows true x y (_, (during, rest, line, a, b, c, is)) (_, (d
     ∙ ap (λ t. during' ++ t ++ line) (rest_once (new_once p) p header (record { header = header; rows = rows }) rest rest' b b')
     ∙ ap (λ t. during' ++ rest' ++ t) (start_once p (record { header = header; rows = rows }) line line' c c') ∙ sym is'
 
--- and rows more make it longer
+-- rows more make a stream's text longer
 pub stream_grows : (p : Subformula) (header : Header) (rows beyond : List Row) (ended : Bool) (x y : List ℕ) → IsStreamText p header rows false x
     → IsStreamText p header (rows ++ beyond) ended y → IsLonger x y
 stream_grows p header rows beyond false x y a b = rows_grow (new_once p) p header [] None rows beyond x y a b
@@ -172,7 +172,7 @@ early_once p header rows ended x y (not_yet o none is) (at_row b' a' r' h' t' e'
 early_once p header rows ended x y (not_yet o none is) (at_end l' d' k' none' c' is') = absurd (false≢true (sym o ∙ d'))
 early_once p header rows ended x y (not_yet o none is) (not_yet o' none' is') = is ∙ sym is'
 
--- and rows more make it longer
+-- rows more make the early text longer
 pub early_grows : (p : Subformula) (header : Header) (rows beyond : List Row) (ended : Bool) (x y : List ℕ) → IsEarlyText p header rows false x
     → IsEarlyText p header (rows ++ beyond) ended y → IsLonger x y
 early_grows p header rows beyond ended x y (not_yet o none is) _ = (y, ap (λ t. t ++ y) (sym is))

@@ -68,7 +68,7 @@ module _ {Stands : List ℕ → List ℕ → Type 0} {q : Request} {before now h
   pub few_pushes : 18446744073709551615 ≤ reads → ⊥
   few_pushes r = omega (arith, r, p.enough, p.is.few)
 
-  -- with a piece more and its text the stream goes on
+  -- with one more piece and its text the stream goes on
   pub go_on : (After : List ℕ → List ℕ → Type 0) (after held_after : Option (List ℕ)) (piece : List ℕ) → Consumes now after piece → 0 < length piece
       → (grown : List ℕ) × Appends held_now held_after grown × IsPushed After q (p.bytes ++ piece) (p.text ++ grown)
       → Pushing After q before after held held_after (reads + 1)

@@ -229,7 +229,7 @@ row_sure p header rows r old text l = record {
 
 -- ---- all rows
 
--- nor does it with a row more
+-- with one row more a front does not lie before the first time either
 pub low_later : (rows : List Row) (r s : Row) (o : Option ℤ) → Low (first_time (rows ++ r ∷ [])) o → Low (first_time ((rows ++ r ∷ []) ++ s ∷ [])) o
 low_later rows r s o h = subst (λ n. Low n o) (sym (first_stays rows r s)) h
 
@@ -311,7 +311,7 @@ pub front_is : (p : Subformula) (rows : List Row) (r : Row) → Front p (rows ++
 front_is p [] r = refl
 front_is p (q ∷ rows) r = ap (λ n. answered_by q.time p n) (last_of q.time rows r)
 
--- and so by the last time of all rows
+-- the front of rows is what is answered at the last time of them
 pub front_of_all : (p : Subformula) (rows : List Row) → rows ≢ [] → Front p rows ≡ answered_by (first_time rows) p (last_time 0 rows)
 front_of_all p [] some = absurd (some refl)
 front_of_all p (r ∷ rows) some = refl
