@@ -18,7 +18,7 @@ use Rattle.online_robust.specs.Turns.{AreInputs, AreLeft, IsInput, back_of, IsCu
 use Rattle.online_robust.specs.Pasts.{IsRest}
 use Rattle.online_robust.specs.declared.line.MarginLine.{MarginLine}
 use Rattle.online_robust.specs.declared.line.MarginLine.TheVariants.{Point, Gap}
-use Rattle.online_robust.proofs.DroppingLemmas.{drop-drop}
+use Rattle.online_nodes.proofs.DroppingLemmas.{drop-drop}
 
 -- ---- dropping
 
