@@ -102,7 +102,7 @@ end_is_there : (t : Rational) (o : Option Frac) → EndsAt o t → is_before_end
 end_is_there t None h = absurd h
 end_is_there t (Some u) h = ap (λ (b : Bool). if b then 1 else 0) (less_no t (value u) (le_of_same h))
 
--- one line fewer to read makes fewer steps, whatever the ends count
+-- one line fewer to read makes up for an end that counts as a step
 pub high_fewer : (new old n o : ℕ) → n ≤ 1 → new < old → 2 * new + n ≤ 2 * old + o
 high_fewer new old n o one less = omega (arith, one, less)
 
