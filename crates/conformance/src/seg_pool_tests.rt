@@ -1,3 +1,4 @@
+//! Two lists of one pool, step by step, with answers by hand.
 use frac128::Memory;
 use seg_pool::*;
 use std::alloc::Global;

@@ -1,1 +1,2 @@
+//! The tests of the reader of traces.
 mod traces;

@@ -29,14 +29,21 @@ pub record AreAlike (a b : Interval) : Type 0 where
   -- and end alike
   pub end : EndAlike a b
 
--- and so the other way round
+-- where one interval is alike to another, that one is alike to it
 pub alike_sym : (a b : Interval) → AreAlike a b → AreAlike b a
 alike_sym a b s = record {
   begin = record { time = same_sym s.begin.time; inside = sym s.begin.inside };
   end = record { time = same_sym s.end.time; inside = sym s.end.inside };
 }
 
--- they have the same times
+-- what is alike to an interval that is alike to another is alike to that one
+pub alike_trans : (a b c : Interval) → AreAlike a b → AreAlike b c → AreAlike a c
+alike_trans a b c s r = record {
+  begin = record { time = same_trans s.begin.time r.begin.time; inside = s.begin.inside ∙ r.begin.inside };
+  end = record { time = same_trans s.end.time r.end.time; inside = s.end.inside ∙ r.end.inside };
+}
+
+-- intervals that are alike have the same times
 pub in_alike : (a b : Interval) (t : Rational) → AreAlike a b → IsIn a t → IsIn b t
 in_alike a b t s h = record {
   above = subst (λ x. Precedes x b.from t) s.begin.inside (precedes_after a.from_in b.from a.from t (ge_of_same s.begin.time) h.above);
@@ -44,14 +51,14 @@ in_alike a b t s h = record {
 }
 
 -- spans one by one alike
-abbrev AreAllAlike : List Interval → List Interval → Type 0
+abbrev pub AreAllAlike : List Interval → List Interval → Type 0
 AreAllAlike [] [] = Unit {0}
 AreAllAlike [] (b ∷ others) = ⊥
 AreAllAlike (a ∷ spans) [] = ⊥
 AreAllAlike (a ∷ spans) (b ∷ others) = AreAlike a b × AreAllAlike spans others
 
 -- the same times have the same cells
-same_cells : (xs ys : List Rational) → AreSameTimes xs ys → AreAllAlike (cells xs) (cells ys)
+pub same_cells : (xs ys : List Rational) → AreSameTimes xs ys → AreAllAlike (cells xs) (cells ys)
 same_cells [] [] s = tt
 same_cells [] (y ∷ []) s = absurd (s.back y (inl (same_refl y)))
 same_cells [] (y ∷ v ∷ ys) s = absurd (s.back y (inl (same_refl y)))
@@ -74,12 +81,6 @@ same_cells (x ∷ u ∷ xs) (y ∷ v ∷ ys) s =
 cover_one : (e g : Item) (i j : ℕ) (t : Rational) → e.node ≡ i → g.node ≡ i → AreAlike (interval e.on) (interval g.on) → (e.node ≡ j) × IsIn (interval e.on) t
     → (g.node ≡ j) × IsIn (interval g.on) t
 cover_one e g i j t a b s h = (b ∙ sym a ∙ h.0, in_alike (interval e.on) (interval g.on) t s h.1)
-
-alike_trans : (a b c : Interval) → AreAlike a b → AreAlike b c → AreAlike a c
-alike_trans a b c s r = record {
-  begin = record { time = same_trans s.begin.time r.begin.time; inside = s.begin.inside ∙ r.begin.inside };
-  end = record { time = same_trans s.end.time r.end.time; inside = s.end.inside ∙ r.end.inside };
-}
 
 module _ (nodes : List Node) (tr : Trace) where
   -- items of one node on spans that are alike cover the same

@@ -27,7 +27,7 @@ all_one zero x i = refl
 all_one (suc n) x zero = refl
 all_one (suc n) x (suc i) = all_one n x i
 
--- a repeated item makes so many
+-- a list of one item, n times, has n items
 pub length_one : {X : Type 0} (n : ℕ) (x : X) → length (replicate n x) ≡ n
 length_one zero x = refl
 length_one (suc n) x = ap suc (length_one n x)

@@ -55,7 +55,7 @@ same_of_most c d h k = by_order (place_order c d)
 pub most_of_before : (c d : Place) → Before c d → AtMost c d
 most_of_before c d b t u = upto_of_before c d t b u
 
--- and so is the same place
+-- a place is no later than another way to write it
 pub most_of_same : (c d : Place) → Same c d → AtMost c d
 most_of_same c d s t u = upto_same c d t s u
 
@@ -165,7 +165,7 @@ pub record IsNew (out : Out) (i : ℕ) (begin end : Place) : Type 0 where
   -- and no truth was found yet
   pub none : out.holds ≡ None
 
--- an answer that was just begun is such
+-- an answer that was just begun is a new one
 pub new_is : (out : Out) (i : ℕ) (from to : Cut) (begin end : Place) → out ≡ record { edge = i; from = from; at = from; to = to; holds = None }
     → Same (place from) begin → Same (place to) end → IsNew out i begin end
 new_is out i from to begin end e s r = subst (λ (o : Out). IsNew o i begin end) (sym e)
@@ -405,7 +405,7 @@ even_put b i first r {e0} {e1} {e2} v holds within later from to is got noted st
 
 -- what is found at a place that is one of the list
 module _ {X : Type 0} (xs : List (Option X)) (i : ℕ) (r : Option X) (within : i < length xs) (is : r ≡ get_or xs i r) where
-  -- the list has that item
+  -- the list has the item that was found at the place
   pub found : slice_get xs i ≡ Some r
   found = by_case (slice_get_cases xs i).1
     where

@@ -53,7 +53,7 @@ unmoved_parts net i op after e' is same still =
     ∙ ap (λ (o : Operator). record net { operators = slice_set net.operators i (Some o) }) still
     ∙ ap (λ os. record net { operators = os }) (set_same net.operators i (Some op) is))
 
--- the other items stay
+-- all items but the one that is set stay as they are
 pub set_other : {X : Type 0} (xs : List X) (i : ℕ) (x : X) (j : ℕ) → j ≢ i → slice_get (slice_set xs i x) j ≡ slice_get xs j
 set_other [] i x j d = refl
 set_other (y ∷ xs) zero x zero d = absurd (d refl)

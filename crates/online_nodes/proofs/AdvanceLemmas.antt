@@ -86,11 +86,11 @@ module _ {x : Situation} {op : Operator} {old : Held} (d : IsDue x op old) {begu
   all_put : HasWorkedOn op.kind old put op.node verdicts
   all_put = put_on (own_edge d.belongs) (among_apart d) work.worked last_got
 
-  -- as many edges as before stand once it was put
+  -- there are as many edges as before once what was told was put
   pub put_count : length put.edges ≡ length old.edges
   put_count = all_put.count
 
-  -- the operator's edge is one of them
+  -- the operator's edge stands among those that were put
   pub put_within : op.node < length put.edges
   put_within = let l = own_edge d.belongs in let n = put_count in omega arith
 
@@ -169,7 +169,7 @@ module _ {x : Situation} {op : Operator} {old : Held} (d : IsDue x op old) {begu
         subst (λ (m : ℕ). length verdicts ≤ m) (room_if_ready d.belongs d.ready)
         (few_min (length verdicts) (2 * held_in old (inputs_of op.kind) + 2) (2 ^ 64 - 1) most all)
 
-    -- the edges are those that a step leaves, if the operator's has room
+    -- the edges are those that a step leaves, if the operator's edge has room
     pub step_stepped : length (held_at put op.node) ≤ 2 ^ 64 - 1 → HasStepped x.nodes x.header x.events op.node old new
     step_stepped counted = record {
       verdicts = verdicts;

@@ -96,11 +96,11 @@ module _ (tr : Trace) (now : ℕ) (small : now ≤ 4294967295) (to : Place) (ear
     pub once_like : (p : Subformula) → IsLike (once a (Some 8589934592) a_in b_in p) (once a None a_in b_in p) tr to
     once_like p = record { there = λ t h e. (e.0, unbounded t e.0 e.1, e.2); back = λ t h e. (e.0, bounded t e.0 h e.1, e.2) }
 
-    -- so is a `historically`
+    -- a `historically` of the largest bound is one without a bound, up to the last row
     pub historically_like : (p : Subformula) → IsLike (historically a (Some 8589934592) a_in b_in p) (historically a None a_in b_in p) tr to
     historically_like p = record { there = λ t h all u w. all u (bounded t u h w); back = λ t h all u w. all u (unbounded t u w) }
 
-  -- and a `since`
+  -- a `since` of the largest bound is one without a bound, up to the last row
   pub since_like : (p q : Subformula) → IsLike (since a (Some 8589934592) p q) (since a None p q) tr to
   since_like p q = record {
     there = λ t h e. (e.0, unbounded true true t e.0 e.1, e.2, e.3);

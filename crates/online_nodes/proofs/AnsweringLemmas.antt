@@ -68,7 +68,7 @@ worked_one kind j old mid own more only is g =
       spare = g.spare;
     }
 
--- the work of a node with two inputs is its work
+-- the work of a node with two inputs on its inputs' edges is the work of its kind
 pub worked_two : (kind : Kind) (left right : ℕ) (old mid : Held) (own : ℕ) (more : List Verdict)
     → ((k : ℕ) → IsInput kind k → (left ≡ k) ⊎ (right ≡ k)) → ((k : ℕ) → (left ≡ k) ⊎ (right ≡ k) → IsInput kind k)
     → HasWorked old mid own left right more → HasWorkedOn kind old mid own more
@@ -170,7 +170,7 @@ pub record HasPutAll (kind : Kind) (old new : Held) (out : Out) : Type 0 where
   -- at most two for each verdict that was held, and two
   pub few : length more ≤ 2 * held_in old (inputs_of kind) + 2
 
--- once what waits is put too, all is put
+-- once what still waits is put too, all is put
 pub put_all : {kind : Kind} {old mid new : Held} {out : Out} {told : Outcome} → ((j : ℕ) → IsInput kind j → j ≢ out.edge)
     → out.edge < length old.edges → HasCarried kind old mid out told → HasFinished mid new told.out → HasPutAll kind old new out
 put_all {kind} {old} {mid} {new} {out} {told} apart own c f =

@@ -165,7 +165,7 @@ same_true (Some f) (Some g) e = ap (λ (z : ℤ). Some z) (by_tests (int_lt f g)
         let u : g ≤ℤ f = int_order f g false a in
         let v : f ≤ℤ g = int_order g f false b in omega (arith, ints)
 
--- and the other way round
+-- fronts that are the same come out as the same
 pub same_refl : (f g : Front) → f ≡ g → same_front f g ≡ true
 same_refl None g e = subst (λ (o : Front). same_front None o ≡ true) e refl
 same_refl (Some f) g e = subst (λ (o : Front). same_front (Some f) o ≡ true) e (by_test (int_lt f f) refl)
@@ -183,7 +183,7 @@ neither true t = ((λ h. absurd (let x : false ≡ true = h in cc)), (λ h. absu
 neither false true = ((λ h. absurd (let x : false ≡ true = h in cc)), (λ h. absurd (let x : true ≡ false = h.1 in cc)))
 neither false false = ((λ h. (refl, refl)), (λ h. refl))
 
--- they come out as different exactly where they are
+-- fronts come out as different exactly where they are
 pub same_or_not : (f g : Front) → (same_front f g ≡ false) ↔ (f ≡ g → ⊥)
 same_or_not f g = (
   (λ h e. absurd (let x : true ≡ false = sym (same_refl f g e) ∙ h in cc)),
@@ -226,19 +226,19 @@ module _ {nodes : List Node} {header : Header} {events : List Event} {op : Opera
   pub own_within : op.node < length nodes
   own_within = slice_get_within nodes op.node b.stands.node b.stands.at
 
-  -- its children stand before it
+  -- the operator's children stand before it
   pub own_below : HasChildrenBelow op.node b.stands.node
   own_below = placed nodes op.node b.stands.node b.formed.post_order b.stands.at
 
-  -- its inputs' edges note their numbers
+  -- the inputs' edges note the numbers of the inputs
   pub notes : NotesInputs e (state nodes events) b.stands.node
   notes j left r = (b.inputs j b.stands.node left b.stands.at r).0
 
-  -- the node at its place is the one that it stands for
+  -- the node at the operator's place is the one that it stands for
   pub node_is : slice_index_or nodes op.node (Const false) ≡ b.stands.node
   node_is = get_or_from_slice_get nodes op.node b.stands.node (Const false) b.stands.at
 
-  -- its inputs have edges
+  -- the operator's inputs have edges
   pub kind_inputs : AreInputs op.kind (length e.edges)
   kind_inputs = subst (λ k. AreInputs k (length e.edges)) (sym b.stands.kind)
       (subst (λ m. AreInputs (kind_of b.stands.node) m) (sym b.edges)
@@ -260,36 +260,36 @@ module _ {nodes : List Node} {header : Header} {events : List Event} {op : Opera
           let top : f ≤ℤ pos now = subst (λ z. f ≤ℤ z) last high.by_now in
           near_of f (horizon (subformula nodes p)) (first_time (state nodes events).rows) now low top (omega (arith, far, most)) small
 
-  -- the node's bounds are in order
+  -- the bounds of the operator's node are in order
   pub own_bounds : HasBounds b.stands.node
   own_bounds = subst HasBounds node_is (b.formed.bounds op.node (Const false) own_within)
 
-  -- and its reach is small
+  -- the reach of the operator's node is small
   pub own_reach_small : own_reach b.stands.node ≤ 4294967295
   own_reach_small =
       let part : own_reach (slice_index_or nodes op.node (Const false)) ≤ reach nodes = get_or-le-sum_by own_reach nodes op.node (Const false) own_within in
       let most = b.formed.reach in
       subst (λ n. own_reach n ≤ 4294967295) node_is (omega (arith, part, most))
 
-  -- its inputs' numbers are near enough to be counted
+  -- the numbers of the operator's inputs are near enough to be counted
   pub kind_near : now ≤ 4294967295 → AreNear op.kind e
   kind_near small =
       subst (λ k. AreNear k e) (sym b.stands.kind)
       (near_is e (state nodes events) op.node b.stands.node own_below own_bounds own_reach_small notes
       (λ p l. number_near small p (omega (arith, l, own_within))))
 
-  -- it has an edge
+  -- the operator has an edge
   pub own_edge : op.node < length e.edges
   own_edge = subst (λ m. op.node < m) (sym b.edges) own_within
 
-  -- the number that it is allowed is that of its node
+  -- the number that the operator is allowed is that of its node
   pub allowed_number : allowed_by op.kind e now ended ≡ allowed_at nodes (state nodes events) op.node
   allowed_number =
       subst (λ k. allowed_by k e now ended ≡ allowed_at nodes (state nodes events) op.node) (sym b.stands.kind)
       (allowed_is e (state nodes events) now b.last b.stands.node ended b.stands.no_atom b.closed notes
       ∙ ap (λ n. allowed n (state nodes events)) (sym node_is))
 
-  -- it is no atom
+  -- the operator's node is no atom
   pub no_atom_here : node_is_atom nodes op.node ≡ false
   no_atom_here = ap is_atom node_is ∙ b.stands.no_atom
 
@@ -301,15 +301,15 @@ module _ {nodes : List Node} {header : Header} {events : List Event} {op : Opera
       let v : g ≡ (state nodes events).fronts op.node = y ∙ b.number in
       rw (u, v, no_atom_here) refl
 
-  -- what its inputs hold is counted alike
+  -- what the operator's inputs hold is what the node's inputs hold
   pub held_is : held_in e (inputs_of op.kind) ≡ held_by_inputs nodes op.node e
   held_is = ap (held_in e) (ap inputs_of b.stands.kind ∙ inputs_are_children b.stands.node ∙ ap children (sym node_is))
 
-  -- where it is ready this is the room that a step may need
+  -- an operator that is ready is given the room that its step may need
   pub room_if_ready : is_ready nodes (state nodes events) op.node ≡ true
       → min (2 * held_in e (inputs_of op.kind) + 2) (2 ^ 64 - 1) ≡ room_of_step nodes events op.node e
   room_if_ready r = rw (r) (ap (λ m. min (2 * m + 2) (2 ^ 64 - 1)) held_is)
 
-  -- and none where it is not
+  -- an operator that is not ready needs no room for a step
   pub no_room : is_ready nodes (state nodes events) op.node ≡ false → 0 ≡ room_of_step nodes events op.node e
   no_room r = rw (r) refl

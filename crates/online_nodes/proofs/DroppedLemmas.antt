@@ -122,15 +122,15 @@ module _ {f : ℤ} {old new : Edge} (dropped : IsDroppedBy f old new) where
   abbrev pub gone : ℕ
   gone = dropped.count - length old.seen
 
-  -- what is unread lacks what was dropped
+  -- what is unread of the edge lacks what was dropped
   pub dropped_fresh : new.fresh ≡ drop gone old.fresh
   dropped_fresh = ap (λ (x : Edge). x.fresh) dropped.is
 
-  -- the number stays
+  -- the edge's number stays
   pub dropped_number : new.number ≡ old.number
   dropped_number = ap (λ (x : Edge). x.number) dropped.is
 
-  -- each dropped verdict ends by then
+  -- each dropped verdict ends by the limit
   pub gone_end : (k : ℕ) → k < gone → IfSome (slice_get old.fresh k) (λ v. value v.on.to ≤ʳ whole f)
   gone_end k l =
       subst (λ (o : Option Verdict). IfSome o (λ v. value v.on.to ≤ʳ whole f)) (get_behind old.seen old.fresh k)

@@ -90,7 +90,7 @@ pub record IsCutBy (limit : Rational) (old new : Edge) : Type 0 where
   -- each of them ends by the limit
   pub ended : (k : ℕ) → k < count → IfSome (slice_get (held_of old) k) (λ v. value v.on.to ≤ʳ limit)
 
--- where none is gone it is so
+-- an edge of which nothing is gone is cut by any limit
 pub cut_none : (limit : Rational) (x : Edge) → IsCutBy limit x x
 cut_none limit x = record { count = 0; is = sym (without-none x); ended = λ k below. absurd (omega arith) }
 

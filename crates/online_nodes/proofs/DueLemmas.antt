@@ -97,7 +97,7 @@ module _ {x : Situation} {op : Operator} {e : Held} (d : IsDue x op e) where
   pub kind_is : op.kind ≡ kind_of d.belongs.stands.node
   kind_is = d.belongs.stands.kind
 
-  -- and the node is its reader
+  -- the operator's node is the reader of each of its inputs
   pub input_reader : (j : ℕ) → IsInput op.kind j → (left : Bool) × IsReader d.belongs.stands.node left j
   input_reader j a =
       let side = input_side d.belongs.stands.node j (subst (λ k. IsInput k j) kind_is a) in
@@ -107,12 +107,12 @@ module _ {x : Situation} {op : Operator} {e : Held} (d : IsDue x op e) where
   pub among_apart : (j : ℕ) → IsInput op.kind j → j ≢ op.node
   among_apart j a = let r = input_reader j a in input_apart d.belongs j r.0 r.1
 
-  -- it is one of the edges
+  -- an input's edge is one of the edges
   pub among_within : (j : ℕ) → IsInput op.kind j → j < length e.edges
   among_within j a = let r = input_reader j a in let l : j < length x.nodes = input_within d.belongs j r.0 r.1 in
       let n = d.belongs.edges in omega arith
 
-  -- it tells the truth of the input
+  -- an input's edge tells the truth of the input
   pub among_telling : (j : ℕ) → IsInput op.kind j → IsTelling (subformula x.nodes j) (trace_in x) (first_in x) x.now (edge_at e j)
   among_telling j a = let r = input_reader j a in telling d.belongs j r.0 r.1
 
@@ -202,26 +202,26 @@ module _ {x : Situation} {op : Operator} {e : Held} (d : IsDue x op e) where
           (λ t u. le_trans u (le_whole (front_later g h)))
 
   module _ {work : Outcome} (g : IsBegun x op work) where
-    -- the node has an edge
+    -- the operator has an edge for what it tells
     pub begun_own : work.out.edge < length e.edges
     begun_own = let l = own_edge d.belongs in let s = g.edge in omega arith
 
-    -- what is told at first is sound
+    -- what is told when the work begins is sound
     pub begun_sound : IsSound work.out
     begun_sound = subst (λ (o : Option Bool). IsSound (record work.out { holds = o })) (sym g.holds)
         (subst (λ (c : Cut). Same (place work.out.from) (place c)) (sym g.at) (same_itself (place work.out.from)))
 
-    -- it begins where the stretch does
+    -- the work begins where the stretch does
     pub begun_at : Same (begins (stretch_of x op)) (place work.out.at)
     begun_at = subst (λ (c : Cut). Same (begins (stretch_of x op)) (place c)) (sym g.at) g.begin
 
-    -- and not beyond its end
+    -- the work does not begin beyond the stretch's end
     pub begun_inside : AtMost (place work.out.at) (place work.out.to)
     begun_inside t u =
         upto_same (end_of x) (place work.out.to) t (same_places g.end)
         (begin_upto t (upto_same (place work.out.at) (begins (stretch_of x op)) t (same_places begun_at) u))
 
-    -- nothing was told yet
+    -- when the work begins nothing was told yet
     pub begun_told : (n : Subformula) (tr : Trace) → HasTold n tr (begins (stretch_of x op)) [] work.out
     begun_told n tr = record {
       last = None;

@@ -103,7 +103,7 @@ module _ (nodes : List Node) (header : Header) where
       subst (λ l. Emitted nodes header (events ++ take ∷ []) j l) (append-nil vs)
       (given_more j initial events take vs [] em (nothing_given j (state_from nodes initial events) (state_from nodes initial events) refl))
 
-  -- nor does the end
+  -- the end gives nothing more out
   pub no_more_by_close : (events : List Event) (j : ℕ) (vs : List Verdict) → Emitted nodes header events j vs
       → Emitted nodes header (events ++ close ∷ []) j vs
   no_more_by_close events j vs em =

@@ -192,7 +192,7 @@ module _ {nodes : List Node} {header : Header} {events : List Event} {op : Opera
       (subst (λ (t : Bool). AreNeeded (first_time (state nodes events).rows) (shown (state nodes events) j) ((state nodes events).fronts edge.reader)
       (reach_back edge.reading t) edge.emitted (held_at e j)) left_is edge.is_needed))
 
-  -- the input is one of the nodes
+  -- the input of such a reader is one of the nodes
   pub input_within : j < length nodes
   input_within =
       let low = child_all (λ p. p < op.node) b.stands.node left j reads

@@ -92,7 +92,7 @@ module _ {nodes : List Node} {header : Header} {events : List Event} {op : Opera
       spare = omega arith;
     }
 
-    -- and the operator stands as before
+    -- the operator of a node that is not ready stands as before
     pub idle_stands : StandsForSteps nodes header (events ++ step op.node ∷ []) op e
     idle_stands = record {
       node = b.stands.node;
@@ -150,7 +150,7 @@ module _ {nodes : List Node} {header : Header} {events : List Event} {op : Opera
       spare = (let s : new.spare ≡ e.spare = ap (λ (y : Held). y.spare) noted in omega (arith, s));
     }
 
-    -- and the operator notes that number
+    -- after a step to a number before the start the operator notes that number
     pub low_stands : StandsForSteps nodes header (events ++ step op.node ∷ []) op new
     low_stands = record {
       node = b.stands.node;
@@ -188,7 +188,7 @@ module _ {nodes : List Node} {header : Header} {events : List Event} {op : Opera
   pub start_is : (start : ℕ) → Some start ≡ e.start → first_time (state nodes events).rows ≡ start
   start_is start is = let both : Some start ≡ Some (first_time (state nodes events).rows) = is ∙ b.start in cc
 
-  -- otherwise the step is due
+  -- a step to a number from the start on is due
   pub here_due : (start front : ℕ) (number : ℤ) → now ≤ 4294967295 → first_time (state nodes events).rows ≡ start → number ≡ pos front
       → start ≤ front → is_ready nodes (state nodes events) op.node ≡ true → allowed_at nodes (state nodes events) op.node ≡ Some number
       → IsDue (situation front) op e

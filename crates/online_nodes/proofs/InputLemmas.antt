@@ -106,7 +106,7 @@ tiles_beyond lo c (v ∷ vs) d (s, b, rest) = by_test (tiles_beyond lo (ends (in
       λ t h. more.2 t (upto_of_before (begins (interval v.on)) (ends (interval v.on)) t b (upto_same c (begins (interval v.on)) t s h)),
     )
 
--- and so do those that end behind a time
+-- verdicts of the truth that end behind a time tell it
 pub told_beyond : (p : Subformula) (tr : Trace) (lo : Rational) (vs : List Verdict) → AreTold p tr vs → AreTold p tr (beyond lo vs)
 told_beyond p tr lo [] h = h
 told_beyond p tr lo (v ∷ vs) h = by_test (told_beyond p tr lo vs h.1) (less lo (value v.on.to)) refl

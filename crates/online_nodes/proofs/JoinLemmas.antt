@@ -395,7 +395,7 @@ same_first xs x y first also = let both = sym first ∙ also in cc
 
 -- where an input has no verdict that was not read, all is told
 module _ (e : Held) (join : Join) (inputs : Inputs) (out : Out) (sound : IsSound out) (inside : AtMost (place out.at) (place out.to)) where
-  -- with nothing more of the left input the turns are done
+  -- where the left input has nothing more the turns are done
   pub left_is_out : fresh_at e inputs.left ≡ [] → HasFilled e e join inputs out out
   left_is_out none =
       record {
@@ -413,7 +413,7 @@ module _ (e : Held) (join : Join) (inputs : Inputs) (out : Out) (sound : IsSound
         );
       }
 
-  -- so they are with nothing more of the right one
+  -- where the right input has nothing more the turns are done
   pub right_is_out : fresh_at e inputs.right ≡ [] → HasFilled e e join inputs out out
   right_is_out none =
       record {

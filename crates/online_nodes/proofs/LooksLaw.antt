@@ -117,7 +117,7 @@ module _ (p : Subformula) (tr : Trace) (a : ℕ) (a_in b_in : Bool) where
           spared = λ t none e. none e.0 (in_begin a t e.0 a_in e.1.begins) (in_end b t e.0 b_in e.1.ends) (e.1.inside, e.2);
         }
 
-    -- `always` looks for a false one
+    -- `always` looks for a false time between two places
     pub always_looks : Looks false (Truth (always a b a_in b_in p) tr) (Counted false p tr) (place_at (pos a) (not a_in)) (place_at (pos b) b_in)
     always_looks =
         record {
@@ -140,7 +140,7 @@ module _ (p : Subformula) (tr : Trace) (a : ℕ) (a_in b_in : Bool) where
         → Behind (start tr) (stop tr) a b a_in b_in t u
     behind t u lo hi within = record { inside = within; begins = from_begin b t u within lo; ends = back_end a t u a_in hi }
 
-    -- `once` looks back for a true one
+    -- `once` looks back for a true time
     pub once_looks : Looks true (Truth (once a b a_in b_in p) tr) (Counted true p tr) (past_begin (start tr) b b_in) (place_at (neg_ℤ (pos a)) a_in)
     once_looks =
         record {
@@ -148,7 +148,7 @@ module _ (p : Subformula) (tr : Trace) (a : ℕ) (a_in b_in : Bool) where
           spared = λ t none e. none e.0 (to_begin b t e.0 e.1.inside e.1.begins) (end_back a t e.0 a_in e.1.ends) (e.1.inside, e.2);
         }
 
-    -- `historically` looks back for a false one
+    -- `historically` looks back for a false time
     pub historically_looks :
         Looks false (Truth (historically a b a_in b_in p) tr) (Counted false p tr) (past_begin (start tr) b b_in) (place_at (neg_ℤ (pos a)) a_in)
     historically_looks =
@@ -178,7 +178,7 @@ module _ (p q : Subformula) (tr : Trace) (a : ℕ) where
         ahead = λ t u lo. le_trans (not_later t a) (begin_in a t u true lo);
       }
 
-  -- `since` looks back for one
+  -- `since` looks back for a true right side, while the left one holds
   pub since_looks : (b : Option ℕ)
       → IsSinceOf (Truth (since a b p q) tr) (Truth p tr) (Counted true q tr) (past_begin (start tr) b true) (place_at (neg_ℤ (pos a)) true)
   since_looks b =
@@ -202,14 +202,14 @@ module _ (p q : Subformula) (tr : Trace) where
   and_joins t false true x y = λ both. x both.0
   and_joins t false false x y = λ both. x both.0
 
-  -- `or` where one is
+  -- `or` is true where one side is
   pub or_joins : IsJoinOf Or (disjunction p q) p q tr
   or_joins t true true x y = inl x
   or_joins t true false x y = inl x
   or_joins t false true x y = inr y
   or_joins t false false x y = λ one. elim one [ inl h ↦ x h | inr h ↦ y h ]
 
-  -- `implies` where the left one is false or the right one true
+  -- `implies` is true where the left side is false or the right one true
   pub implies_joins : IsJoinOf Implies (implication p q) p q tr
   implies_joins t true true x y = λ h. y
   implies_joins t true false x y = λ h. y (h x)

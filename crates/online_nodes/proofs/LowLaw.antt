@@ -175,7 +175,7 @@ module _ (nodes : List Node) (header : Header) (order : IsPostOrder nodes) where
   open_some s i (Historically p a b a_in b_in) f all l c e =
       let w = one_of (moved_by (pos a) (s.fronts p)) (last_row s) f e in (w.1, w.3)
 
-  -- nor does one that is allowed
+  -- a number that a node is allowed lies no further before the start than its horizon
   pub allowed_from : (s : State) (i : ℕ) (n : Node) (f : ℤ) → i < length nodes → slice_get nodes i ≡ Some n → AllFrom s
       → allowed n s ≡ Some f → IsFrom (first_time s.rows) (horizon (subformula nodes i)) f × ((l : ℤ) × (last_row s ≡ Some l))
   allowed_from s i n f l at all e = by_test (s.closed && all_at_end s (children n)) refl

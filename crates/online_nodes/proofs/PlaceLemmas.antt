@@ -71,11 +71,11 @@ upto_of_before c d t h = by_side c.after d.after refl refl h
 pub after_of_before : (c d : Place) (t : Rational) → Before c d → After d t → After c t
 after_of_before c d t h k = elim (sides c t) [ inl u ↦ absurd (not_both d t (upto_of_before c d t h u) k) | inr a ↦ a ]
 
--- being the same goes both ways
+-- if one place is the same as another, that one is the same as it
 pub same_places : {c d : Place} → Same c d → Same d c
 same_places (s, e) = (same_sym s, sym e)
 
--- the same place has the same times before it
+-- times before a place are before another way to write it
 pub upto_same : (c d : Place) (t : Rational) → Same c d → Upto c t → Upto d t
 upto_same c d t (s, e) = by_side c.after d.after e
   where
@@ -85,7 +85,7 @@ upto_same c d t (s, e) = by_side c.after d.after e
     by_side false true e k = absurd (let x : false ≡ true = e in cc)
     by_side false false e k = lt_of_lt_of_le k (le_of_same s)
 
--- and the same behind it
+-- times behind a place are behind another way to write it
 pub after_same : (c d : Place) (t : Rational) → Same c d → After c t → After d t
 after_same c d t s k = elim (sides d t) [ inl u ↦ absurd (not_both c t (upto_same d c t (same_places s) u) k) | inr a ↦ a ]
 
@@ -162,26 +162,26 @@ share b e l h be lh bh le = by_low (place_order b l) (place_order e h)
     by_low (inr (inr x)) (inr (inl s)) = pick b e be (from_b (inl x)) (to_e (inr s))
     by_low (inr (inr x)) (inr (inr y)) = pick b h bh (from_b (inl x)) (to_h (inl y))
 
--- a place that is not later is at most the other
+-- what lies before a place lies before each that does not come before it
 pub at_most_of_not_before : (c d : Place) → (Before d c → ⊥) → (t : Rational) → Upto c t → Upto d t
 at_most_of_not_before c d n t h = elim (place_order c d) [
   | inl x ↦ upto_of_before c d t x h
   | inr x ↦ elim x [ inl s ↦ upto_same c d t s h | inr b ↦ absurd (n b) ]
 ]
 
--- what is before a place is so by another way to write it
+-- a place that is before another is so in another way to write it
 pub same_before : (c d e : Place) → Same c d → Before d e → Before c e
 same_before c d e s h = let t = between d e h in before_through c e t.0 (after_same d c t.0 (same_places s) t.1) t.2
 
--- and the other way round
+-- a place is also before another way to write a later place
 pub before_same : (c d e : Place) → Before c d → Same d e → Before c e
 before_same c d e h s = let t = between c d h in before_through c e t.0 t.1 (upto_same d e t.0 s t.2)
 
--- places are ordered
+-- a place that is before one before a third is before the third
 pub before_trans : (c d e : Place) → Before c d → Before d e → Before c e
 before_trans c d e h k = let t = between c d h in before_through c e t.0 t.1 (upto_of_before d e t.0 k t.2)
 
--- and being the same goes on
+-- places that are the same as one place are the same
 pub same_trans_places : {c d e : Place} → Same c d → Same d e → Same c e
 same_trans_places (s, e) (r, f) = (same_trans s r, e ∙ f)
 

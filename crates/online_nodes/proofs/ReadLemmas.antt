@@ -68,7 +68,7 @@ module _ {nodes : List Node} {header : Header} {events : List Event} {op : Opera
   pub run_sound : IsSound nodes header b.formed.post_order (state nodes events)
   run_sound = sound_of nodes header b.formed.post_order events b.run
 
-  -- the trace so far ends at the last row
+  -- the trace so far ends at the time of the last row
   pub stop_is : stop (trace_of header (state nodes events)) ≡ whole (pos now)
   stop_is = ap (λ (l : ℕ). whole (pos l)) (last_is (state nodes events) now b.last)
 
@@ -116,14 +116,14 @@ module _ {nodes : List Node} {header : Header} {events : List Event} {op : Opera
     input_below = child_all (λ p. p < op.node) b.stands.node left j r
         (children_before nodes header b.formed.post_order op.node b.stands.node (own_within b) b.stands.at)
 
-    -- and is not it
+    -- an input is not its own reader
     pub input_apart : j ≢ op.node
     input_apart same = absurd (omega (arith, input_below, same))
 
     abbrev held_edge : IsEdge nodes header events j (held_at e j)
     held_edge = edge b j left r
 
-    -- its edge notes its number
+    -- an input's edge notes the input's number
     pub number_is : number_at e j ≡ (state nodes events).fronts j
     number_is = (b.inputs j b.stands.node left b.stands.at r).0
 
@@ -190,7 +190,7 @@ module _ {nodes : List Node} {header : Header} {events : List Event} {op : Opera
             by_tiles [] s = absurd (let y : false ≡ true = s.1 in cc)
             by_tiles (v ∷ vs) s = λ t u. upto_same (begins (interval v.on)) (answered_to S None) t (same_places s.0) u
 
-    -- what it holds is what it showed after the step
+    -- what an input's edge holds is what it is to hold after the step
     pub edge_of : (held : List Verdict) → AreNeeded (first_time (state nodes events).rows)
         (shown (after_event nodes (state nodes events) (step op.node)) j)
         ((after_event nodes (state nodes events) (step op.node)).fronts op.node) (reach_back b.stands.node left) held_edge.emitted held

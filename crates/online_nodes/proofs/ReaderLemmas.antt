@@ -168,7 +168,7 @@ module _ (nodes : List Node) (order : IsPostOrder nodes) where
   not_both_sides r (Once p a b i k) j at x y = y
   not_both_sides r (Historically p a b i k) j at x y = y
 
-  -- and read it on the same side
+  -- a node reads one input on one side
   pub one_side : (r : ℕ) (n : Node) (left right : Bool) (j : ℕ) → slice_get nodes r ≡ Some n → IsReader n left j → IsReader n right j → left ≡ right
   one_side r n true true j at x y = refl
   one_side r n false false j at x y = refl

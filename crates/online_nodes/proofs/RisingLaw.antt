@@ -564,7 +564,7 @@ module _ (nodes : List Node) (header : Header) (order : IsPostOrder nodes) where
     rising = rising_after s e may h.bounded h.atoms h.rising;
   }
 
-  -- and so do all events of a run
+  -- all events of a run together keep the numbers sound
   pub sound_from : (s : State) (events : List Event) → IsRunFrom nodes header s events → IsSound s → IsSound (state_from nodes s events)
   sound_from s [] r h = h
   sound_from s (e ∷ events) r h = sound_from (after_event nodes s e) events r.1 (sound_after s e r.0 h)

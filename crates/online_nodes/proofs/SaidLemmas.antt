@@ -116,11 +116,11 @@ said_both {old} {mid} {new} {before} {middle} {after} {holds} {one} {two} within
     }
 
 module _ {old new : Held} {i : ℕ} {v : Verdict} (passed : HasPassed old new i v) where
-  -- the first verdict was read
+  -- the first verdict of the edge was read, and the others are unread
   pub passed-fresh : fresh_at new i ≡ drop 1 (fresh_at old i)
   passed-fresh = ap (λ x. x.fresh) (passed-here passed)
 
-  -- there is one fewer to read
+  -- there is one verdict fewer to read
   pub passed-one : length (fresh_at old i) ≡ suc (length (fresh_at new i))
   passed-one = ap length (first_and_rest (fresh_at old i) v passed.first) ∙ ap (λ l. suc (length l)) (sym passed-fresh)
 

@@ -293,12 +293,12 @@ module _ {old new : Held} {s : Since} {c : Course} {out : Out} {held to : Cut} {
           | inr h ↦ inr (λ t k. h t (whole t k))
         ]
 
-  -- with a left side that holds within the stretch, its end is where what was found counts to
+  -- where the left side holds to the stretch's end, the end is where what was found counts to
   pub ends_here : Before (begins (interval v.on)) (place c.out.to) → Before (place c.run) (place c.out.to)
       → HasDone old new s c (record { out = out; reach = to; run = to })
   ends_here b d = done (record { out = out; reach = to; run = to }) refl (λ x written r of m. cut_here of m b d)
 
-  -- and with one that begins behind it nothing changes
+  -- where the left verdict begins behind the stretch nothing changes at its end
   pub ends_later : (AtMost (place c.out.to) (begins (interval v.on))) ⊎ (AtMost (place c.out.to) (place c.run))
       → HasDone old new s c (record { out = out; reach = c.reach; run = c.run })
   ends_later why = done (record { out = out; reach = c.reach; run = c.run }) refl (λ x written r of m. cut_later of m (whole of m why) why)

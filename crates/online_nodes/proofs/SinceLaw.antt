@@ -285,7 +285,7 @@ module _ {P Q : Truths} {low high : Rational → Place} where
     ahead = λ u a b q v x z. let h = upto_earlier e v u (inside u b) z in (told v x h, within v h);
   }
 
-  -- and so is a left one that holds
+  -- a left verdict that holds is known to its end
   pub knows_left_read : (start at run reach l r e l_stop r_stop : Place)
       → KnowsSince P Q low high start at run reach l r l_stop r_stop → AllAre true P l e
       → ((t : Rational) → After e t → After l t) → KnowsSince P Q low high start at run reach e r l_stop r_stop

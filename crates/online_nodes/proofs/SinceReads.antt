@@ -201,7 +201,7 @@ pub record HasCome (old now : Held) (s : Since) (c here : Course) : Type 0 where
       → IsStaying x s written c r (fresh_at old s.window.of) (fresh_at old s.right)
       → (r' : Reads) × IsStaying x s (written ++ more) here r' (fresh_at now s.window.of) (fresh_at now s.right)
 
--- before the first verdict nothing has changed
+-- before the first verdict nothing has changed, and nothing is put
 pub come_none : (e : Held) (s : Since) (c : Course) → IsSound c.out → AtMost (place c.out.at) (place c.out.to) → CanMoveRun s.window c
     → HasCome e e s c c
 come_none e s c sound inside fits =

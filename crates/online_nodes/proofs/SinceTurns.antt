@@ -115,11 +115,11 @@ module _ {x : Stay} {s : Since} {written : List Verdict} {c : Course} {r : Reads
   left_holds_to {v} first holding e within t after upto =
       subst (λ b. AllAre b (Truth x.p x.tr) r.read (ends (interval v.on))) holding (left-says first) t after (within t upto)
 
-  -- it ends where the left input is answered
+  -- the first left verdict ends no later than the left input is answered
   pub left_within : {v : Verdict} → slice_get fresh_left 0 ≡ Some v → AtMost (ends (interval v.on)) x.stop_left
   left_within {v} first = told_before (Truth x.p x.tr) r.left x.stop_left fresh_left v m.left_tells first
 
-  -- so does the right one
+  -- the first right verdict ends no later than the right input is answered
   pub right_within : {w : Verdict} → slice_get fresh_right 0 ≡ Some w → AtMost (ends (interval w.on)) x.stop_right
   right_within {w} first = told_before (Counted true x.q x.tr) r.right x.stop_right fresh_right w m.right_tells first
 
@@ -160,11 +160,11 @@ module _ {old mid new : Held} {s : Since} {c : Course} {out : Out} {held cut : C
   right_kept = ap (λ y. y.fresh) (passed-other passed s.right (λ same. at.apart (sym same))) ∙ ap (λ y. y.fresh)
       (got-other said.got s.right at.right_apart)
 
-  -- of the left one a verdict was read
+  -- of the left input one verdict was read
   pub left_read : fresh_at new s.window.of ≡ drop 1 (fresh_at old s.window.of)
   left_read = passed-fresh passed ∙ ap (drop 1) kept_left
 
-  -- so there is one fewer to read
+  -- of both inputs together there is one verdict fewer to read
   pub one_read : length (fresh_at new s.window.of) + length (fresh_at new s.right)
       < length (fresh_at old s.window.of) + length (fresh_at old s.right)
   one_read = omega (arith, ap length kept_left, ap length right_kept, passed-one passed)

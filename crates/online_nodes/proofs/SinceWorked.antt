@@ -209,11 +209,11 @@ since_same begin at at' run reach read right right' left_stop right_stop s r k =
 module _ {x : Situation} {op : Operator} {old : Held} {work : Outcome} (d : IsDue x op old) (g : IsBegun x op work) {s : SinceWindow}
     (kind : op.kind ≡ SinceOf s)
     (has : HasSince (formula_of x op) (subformula x.nodes s.window.of) (subformula x.nodes s.right) (trace_in x) s (end_of x)) where
-  -- its left side is an input
+  -- the left side of `since` is an input of the operator
   pub since_left : IsInput op.kind s.window.of
   since_left = subst (λ k. IsInput k s.window.of) (sym kind) (inl refl)
 
-  -- and its right side
+  -- the right side of `since` is an input of the operator
   pub since_right : IsInput op.kind s.right
   since_right = subst (λ k. IsInput k s.right) (sym kind) (inr refl)
 
@@ -436,7 +436,7 @@ module _ {x : Situation} {op : Operator} {old : Held} {work : Outcome} (d : IsDu
       },
     )
 
-  -- at first nothing is known but what the marks say
+  -- when the work begins nothing is known but what the marks say
   pub begun_staying : (r : Reads) × IsStaying stay s [] begun_course r (fresh_at old s.window.of) (fresh_at old s.right)
   begun_staying = by_front op.front refl
     where
@@ -444,7 +444,7 @@ module _ {x : Situation} {op : Operator} {old : Held} {work : Outcome} (d : IsDu
       by_front None h = staying_first h
       by_front (Some f) h = staying_later f h
 
-  -- the window looks back
+  -- the window of `since` looks back
   pub since_backward : IsBackward s.window
   since_backward = record { begin_in = has.begin_in; end_in = has.end_in; low = has.low; order = has.order }
 

@@ -85,9 +85,13 @@ ends_by p tr stretch v (w ∷ vs) (touch, d, told, rest) = le_trans (ge_of_same 
 abbrev pub Agree : Subformula → Trace → Trace → Rational → Type 0
 Agree p tr tr' t = (Truth p tr t → Truth p tr' t) × (Truth p tr' t → Truth p tr t)
 
+-- the traces agree on a stretch
+abbrev pub AgreeOn : Subformula → Trace → Trace → Interval → Type 0
+AgreeOn p tr tr' stretch = (t : Rational) → stretch.from ≤ʳ t → t ≤ʳ stretch.to → Agree p tr tr' t
+
 one_moved : (p : Subformula) (tr tr' : Trace) (stretch : Interval) (v : Verdict) → stretch.from ≤ʳ value v.on.from
     → value v.on.to ≤ʳ stretch.to
-    → ((t : Rational) → stretch.from ≤ʳ t → t ≤ʳ stretch.to → Agree p tr tr' t) → IsTold p tr v → IsTold p tr' v
+    → AgreeOn p tr tr' stretch → IsTold p tr v → IsTold p tr' v
 one_moved p tr tr' stretch v b e agree told = record
     { not_empty = told.not_empty; truth = λ t h. by_holds v.holds (agree t (low t h) (high t h)) (told.truth t h) }
   where
@@ -112,7 +116,7 @@ one_moved p tr tr' stretch v b e agree told = record
 -- a told list, read in another trace that agrees on the stretch
 moved_on : (p : Subformula) (tr tr' : Trace) (stretch : Interval) (v : Verdict) (vs : List Verdict)
     → stretch.from ≤ʳ value v.on.from
-    → ((t : Rational) → stretch.from ≤ʳ t → t ≤ʳ stretch.to → Agree p tr tr' t)
+    → AgreeOn p tr tr' stretch
     → IsTold p tr v → GoesOn p tr stretch v vs → AreTold p tr' (v ∷ vs)
 moved_on p tr tr' stretch v [] b agree told r = (one_moved p tr tr' stretch v b (ends_by p tr stretch v [] r) agree told, tt)
 moved_on p tr tr' stretch v (w ∷ vs) b agree told r = (
@@ -120,8 +124,9 @@ moved_on p tr tr' stretch v (w ∷ vs) b agree told r = (
   moved_on p tr tr' stretch w vs (le_trans b (le_trans (span_ends v p tr told) (ge_of_same r.0.time))) agree r.2 r.3,
 )
 
-described : (p : Subformula) (tr tr' : Trace) (stretch : Interval) (vs : List Verdict)
-    → ((t : Rational) → stretch.from ≤ʳ t → t ≤ʳ stretch.to → Agree p tr tr' t)
+-- verdicts that describe a stretch tell the truth of another trace that agrees on it
+pub described : (p : Subformula) (tr tr' : Trace) (stretch : Interval) (vs : List Verdict)
+    → AgreeOn p tr tr' stretch
     → Describes vs p tr stretch → AreTold p tr' vs
 described p tr tr' stretch [] agree h = absurd h
 described p tr tr' stretch (v ∷ vs) agree h = moved_on p tr tr' stretch v vs (ge_of_same h.0.time) agree h.1 h.2

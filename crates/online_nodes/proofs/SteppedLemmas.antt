@@ -48,7 +48,7 @@ pub reached-other : (old new : Held) (i : ℕ) (n : ℤ) (j : ℕ) → j ≢ i
 reached-other old new i n j other is =
     ap (λ (e : Held). edge_at e j) is ∙ get_or-set_other old.edges i j (with_number (edge_at old i) n) no_edge other
 
--- and as many as before
+-- noting a number leaves as many edges as before
 pub reached-length : (old new : Held) (i : ℕ) (n : ℤ) → new ≡ record old { edges = with_edge old i (with_number (edge_at old i) n) }
     → length new.edges ≡ length old.edges
 reached-length old new i n is = ap (λ (e : Held). length e.edges) is ∙ length-set old.edges i (with_number (edge_at old i) n)

@@ -28,7 +28,7 @@ or_first : Verdict → Option Verdict → Verdict
 or_first d None = d
 or_first d (Some v) = v
 
--- a list with one begins with it
+-- a list with a first item begins with it
 pub first_is : (l : List Verdict) (v : Verdict) → slice_get l 0 ≡ Some v
     → (rest : List Verdict) × (l ≡ v ∷ rest) × (drop 1 l ≡ rest)
 unfolding or_first
@@ -42,7 +42,7 @@ sought_not true false e = refl
 sought_not false true e = refl
 sought_not false false e = absurd (let x : false ≡ true = e in cc)
 
--- one that is not another is the sought one
+-- a truth that does not come out as another than the sought one is the sought one
 pub sought_is : (a b : Bool) → not (beq a b) ≡ false → a ≡ b
 sought_is true true e = refl
 sought_is true false e = absurd (let x : true ≡ false = e in cc)
@@ -54,7 +54,7 @@ pub begin_alike : (r : Place) (k j : ℤ) (i : Bool) (c d : Place) → k ≡ j �
     → Same r (moved_begin j i d)
 begin_alike r k j i c d e f h = subst (λ x. Same r (moved_begin x i d)) e (subst (λ x. Same r (moved_begin k i x)) f h)
 
--- and where it ends
+-- where a window ends depends on the place alone
 pub end_alike : (r : Place) (k j : ℤ) (i : Bool) (c d : Place) → k ≡ j → c ≡ d → Same r (moved_end k i c)
     → Same r (moved_end j i d)
 end_alike r k j i c d e f h = subst (λ x. Same r (moved_end x i d)) e (subst (λ x. Same r (moved_end k i x)) f h)

@@ -113,7 +113,7 @@ module _ {k : Kind} {w : Window} (is : IsWindowKind k w) where
   pub window_input : (j : ℕ) → w.of ≡ j → IsInput k j
   window_input j h = elim is [ inl s ↦ subst (λ k. IsInput k j) (sym s) h | inr s ↦ subst (λ k. IsInput k j) (sym s) h ]
 
-  -- and it has no other
+  -- the node has no input but the window's
   pub input_window : (j : ℕ) → IsInput k j → w.of ≡ j
   input_window j h = elim is [ inl s ↦ subst (λ k. IsInput k j) s h | inr s ↦ subst (λ k. IsInput k j) s h ]
 
@@ -126,7 +126,7 @@ module _ {k : Kind} {w : Window} (is : IsWindowKind k w) where
     | inr s ↦ subst (λ k. KnowsBy k x.nodes (trace_in x) e at reach run) (sym s) h
   ]
 
-  -- and the other way round
+  -- what the window knows of the input is what the marks say
   pub knows_window : (x : Situation) (e : Held) (at reach run : Place) → KnowsBy k x.nodes (trace_in x) e at reach run
       → Knows w.seeks (Counted w.seeks (subformula x.nodes w.of) (trace_in x)) (low_place w) (high_place w) at reach (read_upto e w.of)
       (front_place e w.of)

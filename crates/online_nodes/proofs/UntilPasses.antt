@@ -134,11 +134,11 @@ module _ {x : Stretch} {u : Until} {written : List Verdict} {s : Sweep} {r : Rea
     (of : IsUntil x u (place s.out.to)) (m : IsTurned x u written s r fresh_left fresh_right) (apart : u.window.of ≢ u.right)
     (first_left : slice_get fresh_left 0 ≡ Some v) (first_right : slice_get fresh_right 0 ≡ Some w)
     (holding : v.holds ≡ true) where
-  -- the right verdict ends where its input is answered
+  -- the right verdict ends no later than its input is answered
   pub right_end : AtMost (ends (interval w.on)) x.stop_right
   right_end = told_before (Counted true x.q x.tr) r.right x.stop_right fresh_right w m.right_tells first_right
 
-  -- and the left one
+  -- the left verdict ends no later than its input is answered
   pub left_end : AtMost (ends (interval v.on)) x.stop_left
   left_end = told_before (Truth x.p x.tr) r.left x.stop_left fresh_left v m.left_tells first_left
 
@@ -350,7 +350,7 @@ left_out_settles {e} {u} {s} none =
           ]);
     }
 
--- with nothing more of the right input the turns are done
+-- where the right input has nothing more the turns are done
 pub right_out_settles : {e : Held} {u : Until} {s : Sweep} → fresh_at e u.right ≡ [] → HasSettled e e u s
 right_out_settles {e} {u} {s} none =
     record {

@@ -51,7 +51,7 @@ pub record IsSaidTwice (old mid : Held) (u : Until) (s : Sweep) (found out : Out
 
 module _ {old mid : Held} {u : Until} {s : Sweep} {found out : Out} {first second : Bool} {cut : Cut}
     (said : IsSaidTwice old mid u s found out first second cut) where
-  -- not beyond the end
+  -- what was told of both truths does not go beyond the end
   pub twice-inside : AtMost (place out.at) (place s.out.to)
   twice-inside t h = subst (λ (q : Cut). Upto (place q) t) said.same (said.two.inside t h)
 
@@ -62,14 +62,14 @@ module _ {old mid : Held} {u : Until} {s : Sweep} {found out : Out} {first secon
     | inr h ↦ h
   ]
 
-  -- the second lies behind what counted before
+  -- the second truth lies behind what counted before
   pub twice-beyond : (t : Rational) → After (place found.at) t → Upto (place out.at) t → After (place s.reach) t
   twice-beyond t a upto = elim (sides (place s.reach) t) [
     | inl h ↦ absurd (not_both (place found.at) t (said.one.reached t h (twice-inside t upto)) a)
     | inr h ↦ h
   ]
 
-  -- and further than before
+  -- both truths together lie behind what was told before
   pub twice-later : (t : Rational) → After (place out.at) t → After (place s.out.at) t
   twice-later t a = elim (sides (place s.out.at) t) [
     | inl h ↦ absurd (not_both (place out.at) t (said.two.forward t (said.one.forward t h)) a)

@@ -142,11 +142,11 @@ least_itself z = elim (int_lt z z) as (λ (s : Bool). cond s (Some z) (Some z) �
 module _ {x : Situation} {op : Operator} {old : Held} {work : Outcome} (d : IsDue x op old) (g : IsBegun x op work) {u : UntilWindow}
     (kind : op.kind ≡ UntilOf u)
     (has : HasUntil (formula_of x op) (subformula x.nodes u.window.of) (subformula x.nodes u.right) (trace_in x) u) where
-  -- its left side is an input
+  -- the left side of `until` is an input of the operator
   pub until_left : IsInput op.kind u.window.of
   until_left = subst (λ k. IsInput k u.window.of) (sym kind) (inl refl)
 
-  -- and its right side
+  -- the right side of `until` is an input of the operator
   pub until_right : IsInput op.kind u.right
   until_right = subst (λ k. IsInput k u.right) (sym kind) (inr refl)
 

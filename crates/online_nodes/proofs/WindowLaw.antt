@@ -82,7 +82,7 @@ module _ {seeks : Bool} {P : Truths} {low high : Rational → Place} where
     rest = λ t u a r lo hi h. elim (sides b u) [ inl x ↦ k.rest t u a r lo hi x | inr x ↦ told u x h ];
   }
 
-  -- a sought one is found by the windows that meet it
+  -- a verdict that is sought is found by the windows that meet it
   pub knows_entered : (at b e from to stop : Place) → ((t : Rational) → Before (low t) (high t)) → Before b e → AllAre seeks P b e
       → MeetsAfter high b from → MeetsUpto low e to → ((t : Rational) → After at t → After from t)
       → ((u : Rational) → Upto e u → Upto stop u)

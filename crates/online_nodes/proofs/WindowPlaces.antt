@@ -48,7 +48,7 @@ shift_forth t k = record { same = omega (arith, ap (λ n. n * (t.den * t.den)) s
 pub lt_back : (c t : Rational) (k : ℤ) → add c (whole k) <ʳ t → c <ʳ add t (whole (neg_ℤ k))
 lt_back c t k h = lt_of_le_of_lt (ge_of_same (shift_back c k)) (lt_shift (neg_ℤ k) h)
 
--- and the other way round
+-- what is earlier than another moved back is, moved ahead, earlier than the other
 pub lt_forth : (c t : Rational) (k : ℤ) → c <ʳ add t (whole (neg_ℤ k)) → add c (whole k) <ʳ t
 lt_forth c t k h = lt_of_lt_of_le (lt_shift k h) (le_of_same (shift_forth t k))
 
@@ -56,7 +56,7 @@ lt_forth c t k h = lt_of_lt_of_le (lt_shift k h) (le_of_same (shift_forth t k))
 pub gt_back : (c t : Rational) (k : ℤ) → t <ʳ add c (whole k) → add t (whole (neg_ℤ k)) <ʳ c
 gt_back c t k h = lt_of_lt_of_le (lt_shift (neg_ℤ k) h) (le_of_same (shift_back c k))
 
--- and the other way round
+-- what is, moved back, earlier than another is earlier than the other moved ahead
 pub gt_forth : (c t : Rational) (k : ℤ) → add t (whole (neg_ℤ k)) <ʳ c → t <ʳ add c (whole k)
 gt_forth c t k h = lt_of_le_of_lt (ge_of_same (shift_forth t k)) (lt_shift k h)
 

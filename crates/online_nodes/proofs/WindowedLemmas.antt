@@ -129,7 +129,7 @@ some_in_window w order full t = by_test (int_lt w.begin_by w.end_by) refl
           i.0,
         )
 
--- an empty one has none
+-- an empty window has no times
 pub none_in_window : (w : Window) → w.begin_by ≤ℤ w.end_by → is_empty w ≡ true → (t u : Rational) → After (low_place w t) u
     → Upto (high_place w t) u → ⊥
 none_in_window w order empty t u lo hi = by_test (int_lt w.begin_by w.end_by) refl

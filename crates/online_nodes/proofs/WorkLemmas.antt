@@ -79,15 +79,15 @@ worked_put {old} {new} {own} {left} {right} {more} within apart_left apart_right
     }
 
 module _ {old new : Held} {i : ℕ} {v : Verdict} (passed : HasPassed old new i v) where
-  -- the edge was read by one verdict
+  -- one more verdict of the edge was read
   pub passed-here : edge_at new i ≡ with_read (edge_at old i) v
   passed-here = ap (λ es. get_or es i no_edge) passed.edges ∙ get_or-set_same old.edges i _ no_edge passed.within
 
-  -- the others stay
+  -- the other edges stay
   pub passed-other : (j : ℕ) → j ≢ i → edge_at new j ≡ edge_at old j
   passed-other j other = ap (λ es. get_or es j no_edge) passed.edges ∙ get_or-set_other old.edges i j _ no_edge other
 
-  -- and there are as many
+  -- there are as many edges as before
   pub passed-length : length new.edges ≡ length old.edges
   passed-length = ap length passed.edges ∙ length-set old.edges i _
 

@@ -259,7 +259,7 @@ module _ {x : Situation} {op : Operator} {old : Held} {work : Outcome} (d : IsDu
     pub among_left : IsInput op.kind inputs.left
     among_left = subst (λ k. IsInput k inputs.left) (sym kind) (inl refl)
 
-    -- and the right one
+    -- the right input is one of the operator's
     pub among_right : IsInput op.kind inputs.right
     among_right = subst (λ k. IsInput k inputs.right) (sym kind) (inr refl)
 

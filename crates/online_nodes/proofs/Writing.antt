@@ -244,7 +244,7 @@ module _ (n : Subformula) (tr : Trace) where
       absurd (not_both (ends stretch) t.0 t.2 (after_same (begins stretch) (ends stretch) t.0 same t.1))
   lead_describes stretch (v ∷ vs) last some lead = describes n tr stretch v vs last lead
 
--- a stretch begins as the interval that it is
+-- a stretch begins where the interval does that it is
 pub begin_same : (on i : Interval) (a : Rational) (x : Bool) → on ≡ i → i.from ≡ a → i.from_in ≡ not x
     → Same (record { at = a; after = x }) (begins on)
 begin_same on i a x e f g = (
@@ -253,18 +253,18 @@ begin_same on i a x e f g = (
       (j : Interval). j.from_in) e ∙ g),
 )
 
--- and ends as that
+-- a stretch ends where the interval does that it is
 pub end_same : (on i : Interval) (a : Rational) (x : Bool) → on ≡ i → i.to ≡ a → i.to_in ≡ x
     → Same (record { at = a; after = x }) (ends on)
 end_same on i a x e f g =
     (subst (λ b. b ≈ on.to) (ap (λ (j : Interval). j.to) e ∙ f) (same_refl on.to), sym (ap (λ (j : Interval). j.to_in) e ∙ g))
 
--- before a truth was found nothing was told
+-- where no truth was found yet nothing was told
 pub sound_first : (out : Out) → out.holds ≡ None → IsSound out → Same (place out.from) (place out.at)
 sound_first out e h = subst
     (λ o. MatchOption o (Same (place out.from) (place out.at)) (λ h. Before (place out.from) (place out.at))) e h
 
--- once one was found something was
+-- where a truth was found something was told
 pub sound_later : (out : Out) (b : Bool) → out.holds ≡ Some b → IsSound out → Before (place out.from) (place out.at)
 sound_later out b e h = subst
     (λ o. MatchOption o (Same (place out.from) (place out.at)) (λ h. Before (place out.from) (place out.at))) e h
@@ -276,7 +276,7 @@ same_bool true false e = absurd (let x : false ≡ true = e in cc)
 same_bool false true e = absurd (let x : false ≡ true = e in cc)
 same_bool false false e = refl
 
--- and those that do not differ
+-- truths that come out as different differ
 pub other_bool : (a b : Bool) → beq a b ≡ false → a ≢ b
 other_bool true true e = λ _. let x : true ≡ false = e in cc
 other_bool true false e = λ f. let x : true ≡ false = f in cc

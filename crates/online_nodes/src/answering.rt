@@ -7,14 +7,15 @@ ghost use Rattle.online_nodes.specs.Written.{IsSound, waiting};
 ghost use Rattle.online_nodes.specs.Kinds.{held_in, inputs_of, IsNear};
 ghost use Rattle.online_nodes.specs.Answering.{back_by, is_empty, CanAnswer, CanRelease, CanSweep, HasAnswered};
 ghost use Rattle.online_nodes.specs.Answering.{HasBody, HasReleased, HasReleasedTwo, HasSweptAll, HasToldAll};
+ghost use Rattle.online_nodes.specs.declared.kind.Kind.TheVariants as K;
 
 use crate::cut::Cut;
 use crate::edges::Edges;
 use crate::join::connect;
 use crate::kind::{FOR_EVER, Kind};
 use crate::negation::{constant, negate};
-use crate::since::{Course, since_on};
-use crate::until::until_on;
+use crate::since::{Course, Since, since_on};
+use crate::until::{Until, until_on};
 use crate::window::{Sweep, Window, sweep_on};
 use crate::writer::Out;
 use frac128::Memory;
@@ -95,6 +96,57 @@ fn sweep_all(edges: &mut Edges, window: Window, out: Out, marks: Marks) -> Resul
     })
 }
 
+/// The turns of `until`.
+#[inline(always)]
+fn until_all(edges: &mut Edges, until: Until, out: Out, marks: Marks) -> Result<Outcome, Memory>
+    requires own { out.edge < length edges.old.edges }
+    requires sound { IsSound out }
+    requires inside { AtMost (place out.at) (place out.to) }
+    requires able { CanAnswer (K.Until until) edges.old out.edge marks }
+    ensures told { IfOk result (λ a. HasBody (K.Until until) edges.old edges.new out marks a) }
+    ensures memory { OnErr result (edges.old.spare < 2 * (length (fresh_at edges.old until.window.of) + length (fresh_at edges.old until.right)) + 2) }
+{
+    let sweep = Sweep {
+        out,
+        reach: marks.reach,
+    };
+    let end = until_on(edges, until, sweep)?;
+    let after = Marks {
+        reach: end.reach,
+        run: marks.run,
+    };
+    Ok(Outcome {
+        out: end.out,
+        marks: after,
+    })
+}
+
+/// The turns of `since`.
+#[inline(always)]
+fn since_all(edges: &mut Edges, since: Since, out: Out, marks: Marks) -> Result<Outcome, Memory>
+    requires own { out.edge < length edges.old.edges }
+    requires sound { IsSound out }
+    requires inside { AtMost (place out.at) (place out.to) }
+    requires able { CanAnswer (K.Since since) edges.old out.edge marks }
+    ensures told { IfOk result (λ a. HasBody (K.Since since) edges.old edges.new out marks a) }
+    ensures memory { OnErr result (edges.old.spare < 2 * (length (fresh_at edges.old since.window.of) + length (fresh_at edges.old since.right)) + 2) }
+{
+    let course = Course {
+        out,
+        reach: marks.reach,
+        run: marks.run,
+    };
+    let end = since_on(edges, since, course)?;
+    let after = Marks {
+        reach: end.reach,
+        run: end.run,
+    };
+    Ok(Outcome {
+        out: end.out,
+        marks: after,
+    })
+}
+
 /// The body of a node.
 fn body(edges: &mut Edges, kind: Kind, out: Out, marks: Marks) -> Result<Outcome, Memory>
     requires own { out.edge < length edges.old.edges }
@@ -126,35 +178,12 @@ fn body(edges: &mut Edges, kind: Kind, out: Out, marks: Marks) -> Result<Outcome
             Ok(told)
         }
         Kind::Until(until) => {
-            let sweep = Sweep {
-                out,
-                reach: marks.reach,
-            };
-            let end = until_on(edges, until, sweep)?;
-            let after = Marks {
-                reach: end.reach,
-                run: marks.run,
-            };
-            Ok(Outcome {
-                out: end.out,
-                marks: after,
-            })
+            let told = until_all(edges, until, out, marks)?;
+            Ok(told)
         }
         Kind::Since(since) => {
-            let course = Course {
-                out,
-                reach: marks.reach,
-                run: marks.run,
-            };
-            let end = since_on(edges, since, course)?;
-            let after = Marks {
-                reach: end.reach,
-                run: end.run,
-            };
-            Ok(Outcome {
-                out: end.out,
-                marks: after,
-            })
+            let told = since_all(edges, since, out, marks)?;
+            Ok(told)
         }
     }
 }

@@ -113,7 +113,7 @@ module _ (F : Function) (reach start : ℕ) (f : ℤ) (lines : List MarginLine) 
             };
           }
 
-  -- and one that has told finds it from there on
+  -- a node that has told up to a time finds its input from there on
   pub ahead : (back : ℤ) (t : Rational) → whole back ≈ t → AreInputs F reach start (Some back) f lines → IsAhead F reach t (whole f) lines
   ahead back t e inputs = by_left inputs.left
     where
@@ -248,7 +248,7 @@ module _ (t : Turn) (op : Operator) (e : Held) (to : ℕ) (b : Belongs t op e to
   pub tree : own ≡ tree_of (subformula t.nodes) t.place b.node
   tree = tree_at_node t.nodes b.formed t.place b.node b.at
 
-  -- a node without a number begins at its begin
+  -- a node without a number begins at the begin of its times
   pub from_none : t.before ≡ None → from_of t ≡ whole (pos (begin_of t))
   from_none e = by_before t.before e
     where
@@ -256,7 +256,7 @@ module _ (t : Turn) (op : Operator) (e : Held) (to : ℕ) (b : Belongs t op e to
       by_before None e = refl
       by_before (Some g) e = absurd (let f = e in cc)
 
-  -- and one with a number goes on from there
+  -- a node with a number goes on from there
   pub from_some : (g : ℤ) → t.before ≡ Some g → from_of t ≡ whole g
   from_some g e = by_before t.before e
     where
@@ -264,7 +264,7 @@ module _ (t : Turn) (op : Operator) (e : Held) (to : ℕ) (b : Belongs t op e to
       by_before None e = absurd (let f = e in cc)
       by_before (Some h) e = ap whole (some_is e)
 
-  -- which does not lie before its begin
+  -- a node's number does not lie before the begin of its times
   pub low_before : IfSome t.before (λ g. pos (begin_of t) ≤ℤ g)
   low_before = by_before t.before b.forth
     where
@@ -284,7 +284,7 @@ module _ (t : Turn) (op : Operator) (e : Held) (to : ℕ) (b : Belongs t op e to
       )
       by_before (Some g) h = (le_whole {j = pos (begin_of t)} {k = g} h.0, le_whole {j = g} {k = pos to} (let lt = h.1 in omega (arith, ints, lt)))
 
-  -- the time is one of the rows
+  -- the time of the turn does not lie behind the last row
   pub small_to : to ≤ t.now
   small_to = below t.ended b.number
     where
@@ -292,14 +292,14 @@ module _ (t : Turn) (op : Operator) (e : Held) (to : ℕ) (b : Belongs t op e to
       below true e = omega (arith, ints, e)
       below false e = omega (arith, ints, e)
 
-  -- each number up to it is a tick
+  -- each whole number up to the time of the turn is a tick
   pub tick_of : (n : ℕ) → n ≤ to → IsTick (whole (pos n))
   tick_of n le =
       let top = small_to in
       let most = b.small_now in
       (le_whole {j = pos 0} {k = pos n} (omega (arith, ints)), le_whole {j = pos n} {k = pos 4294967295} (omega (arith, ints, le, top, most)))
 
-  -- and not behind the end
+  -- the time of the turn does not lie behind the trace's end
   pub last_to : whole (pos to) ≤ʳ stop t.trace
   last_to =
       let top = small_to in
@@ -364,7 +364,7 @@ module _ (t : Turn) (x : Negated.Not) (e : Held) (to : ℕ) (b : Belongs t (Op.N
       (back_of (begin_of t) t.before (reach_back k true)) (front_at t.ended (pos t.now) child)
       (held_at e x.of)) b.stands.0 (b.inputs x.of true not_reads))
 
-  -- the negation may go through its input
+  -- a negation may go through its input up to the time of the turn
   pub can_negate : CanNegate not_couple x e
   can_negate = record {
     span = record {
@@ -385,7 +385,7 @@ module _ (t : Turn) (x : Negated.Not) (e : Held) (to : ℕ) (b : Belongs t (Op.N
         (from_of t) (let le = b.from_start in omega (arith, ints, le)) (low_before t (Op.Not x) e to b) (from_none t (Op.Not x) e to b) not_input b.stands.1;
   }
 
-  -- what it tells is the node's margin
+  -- what a negation tells is the node's margin
   pub not_told : (s : List (Knot Margin)) → IsStretch (left_of not_couple true) (reach_before t) (from_of t) (whole (pos to)) s → IsSwept t to s
   not_told s is = record {
     tells = subst (λ p. Tells margin_shape (Robustness p t.trace) (from_of t) (whole (pos to)) s) (sym not_own) is.tells;
@@ -393,7 +393,7 @@ module _ (t : Turn) (x : Negated.Not) (e : Held) (to : ℕ) (b : Belongs t (Op.N
     moved = λ node at p has. moved_same t (Op.Not x) e to b (ap own_reach b.stands.0) node at p (is.moved p has);
   }
 
-  -- the edges are swept up to the time
+  -- a negation's edges are swept up to the time of the turn
   pub not_edges : (e' : Held) (end : Rational) → end ≈ whole (pos to) → LosesAt end x.of e e' → IsNegatedTo not_couple x e' end → HasSwept t e e' to
   not_edges e' end same lost to_end = record {
     inputs = λ node j left at reads. by_side node j left (some_is (sym at ∙ b.at) ∙ b.stands.0) reads;
@@ -418,7 +418,7 @@ module _ (t : Turn) (x : Negated.Not) (e : Held) (to : ℕ) (b : Belongs t (Op.N
               (edge_at e' x.of) b.from_start same lost.here to_end.of))
           by_left false none = absurd none
 
-  -- and the operator stands there
+  -- a negation stands at the time of the turn once it has gone there
   pub not_stands : (x' : Negated.Not) (e' : Held) → x'.of ≡ x.of → IsSome x'.last
       → HasReached (left_of not_couple true) (reach_before t) (whole (pos to)) x'.last
       → StandsNow t (Op.Not x') e' to
@@ -511,7 +511,7 @@ module _ (nodes : List Node) (place : ℕ) (tr : Trace) where
     in_play = λ tau line h. h;
   }
 
-  -- a node with two inputs and no window is such
+  -- a node with two inputs and no window has the margin of both at each time
   pub joint : (n : Node) (x : Two) → IsTwoOf n x → IsJoint nodes place tr n x
   joint (N.And p q) x (l, r, s, u) = subst (IsJoint nodes place tr (N.And p q)) (sym (two_is x p q Least false l r s u)) (least_joint p q x.last)
   joint (N.Or p q) x (l, r, s, u) = subst (IsJoint nodes place tr (N.Or p q)) (sym (two_is x p q Greatest false l r s u)) (greatest_joint p q x.last)
@@ -581,7 +581,7 @@ module _ (t : Turn) (x : Two) (e : Held) (to : ℕ) (b : Belongs t (Op.Two x) e 
       (front_at t.ended (pos t.now) (subformula t.nodes j)) (held_at e j) x.last (from_of t) (let low = b.from_start in omega (arith, ints, le, low))
       (low_before t (Op.Two x) e to b) (from_none t (Op.Two x) e to b) (two_input j side reads) b.stands.1
 
-  -- the connective may go through its inputs
+  -- a connective may go through its inputs up to the time of the turn
   pub can_join : CanJoin two_couple x e
   can_join = record {
     span = record {
@@ -601,7 +601,7 @@ module _ (t : Turn) (x : Two) (e : Held) (to : ℕ) (b : Belongs t (Op.Two x) e 
     right = two_ready x.right false here.right right_to_own;
   }
 
-  -- what it tells is the node's margin
+  -- what a connective tells is the node's margin
   pub two_told : (s : List (Knot Margin)) → IsStretch (both_of two_couple x) (reach_before t) (from_of t) (whole (pos to)) s → IsSwept t to s
   two_told s is = record {
     tells =
@@ -612,7 +612,7 @@ module _ (t : Turn) (x : Two) (e : Held) (to : ℕ) (b : Belongs t (Op.Two x) e 
     moved = λ node at p has. moved_same t (Op.Two x) e to b here.none node at p (is.moved p has);
   }
 
-  -- the edges are swept up to the time
+  -- a connective's edges are swept up to the time of the turn
   pub two_edges : (e' : Held) (end : Rational) → end ≈ whole (pos to) → LosesAtBoth end x.left x.right e e'
       → IsJoinedTo two_couple x e' end → HasSwept t e e' to
   two_edges e' end same lost to_end = record {
@@ -651,7 +651,7 @@ module _ (t : Turn) (x : Two) (e : Held) (to : ℕ) (b : Belongs t (Op.Two x) e 
                 × ((edge_at e' i).number ≡ (edge_at e i).number)) (sym own) right_cut
           ])
 
-  -- and the operator stands there
+  -- a connective stands at the time of the turn once it has gone there
   pub two_stands : (x' : Two) (e' : Held) → x' ≡ record x { last = x'.last } → IsSome x'.last
       → HasReached (both_of two_couple x) (reach_before t) (whole (pos to)) x'.last
       → StandsNow t (Op.Two x') e' to
@@ -662,7 +662,7 @@ module _ (t : Turn) (x : Two) (e : Held) (to : ℕ) (b : Belongs t (Op.Two x) e 
         stood_after (two_of t.nodes t.trace x) (reach_before t) (pos to) x'.last some reached,
       )
 
-  -- a refusal is one of the stream
+  -- what a connective refuses is refused for the node's stream
   pub two_fault : (f : OpFault Margin) → IsCoupleFault two_couple x f → IsStreamedFault t f
   two_fault F.Memory h = tt
   two_fault (F.Wide (Value p at den)) h = absurd h

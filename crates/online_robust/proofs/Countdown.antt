@@ -47,7 +47,7 @@ taken_fewer x v first =
     some_line (s ∷ seen) fresh e = omega arith
 
 module _ (i : ℕ) (e mid : Held) where
-  -- a line that was read is one fewer to read
+  -- once a line was read there is one fewer to read
   pub pass_fewer : (line : MarginLine) → i < length e.edges → slice_get (fresh_at e i) 0 ≡ Some line
       → mid.edges ≡ with_edge e i (with_read (edge_at e i) line) → lines_left (edge_at mid i) < lines_left (edge_at e i)
   pass_fewer line within first read =
@@ -57,7 +57,7 @@ module _ (i : ℕ) (e mid : Held) where
   edge_without within taken =
       ap (λ (es : List Edge). get_or es i no_edge) taken ∙ get_or-set_same e.edges i (without 1 (edge_at e i)) no_edge within
 
-  -- what is dropped leaves no more
+  -- once a line was dropped, or none, there are no more lines left
   pub drop_no_more : (b : Bool) → i < length e.edges
       → MatchBool b ((mid.edges ≡ with_edge e i (without 1 (edge_at e i))) × (mid.start ≡ e.start)) (mid ≡ e)
       → lines_left (edge_at mid i) ≤ lines_left (edge_at e i)
@@ -65,7 +65,7 @@ module _ (i : ℕ) (e mid : Held) where
       subst (λ (x : Edge). lines_left x ≤ lines_left (edge_at e i)) (sym (edge_without within taken)) (without_no_more (edge_at e i))
   drop_no_more false within same = subst (λ (h : Held). lines_left (edge_at h i) ≤ lines_left (edge_at e i)) (sym same) (omega arith)
 
-  -- a line that was taken is one fewer
+  -- once a line was taken there is one fewer left
   pub take_fewer : (line : MarginLine) → i < length e.edges → slice_get (held_at e i) 0 ≡ Some line
       → mid.edges ≡ with_edge e i (without 1 (edge_at e i)) → lines_left (edge_at mid i) < lines_left (edge_at e i)
   take_fewer line within first taken =
@@ -89,7 +89,7 @@ one_at_most : (b : Bool) → (if b then 1 else 0) ≤ 1
 one_at_most true = omega arith
 one_at_most false = omega arith
 
--- an end counts once at most
+-- an end counts as one step at most
 pub end_at_most : (t : Rational) (o : Option Frac) → is_before_end t o ≤ 1
 end_at_most t None = omega arith
 end_at_most t (Some u) = one_at_most (less t (value u))
@@ -102,7 +102,7 @@ end_is_there : (t : Rational) (o : Option Frac) → EndsAt o t → is_before_end
 end_is_there t None h = absurd h
 end_is_there t (Some u) h = ap (λ (b : Bool). if b then 1 else 0) (less_no t (value u) (le_of_same h))
 
--- a line fewer is fewer steps
+-- one line fewer to read makes up for an end that counts as a step
 pub high_fewer : (new old n o : ℕ) → n ≤ 1 → new < old → 2 * new + n ≤ 2 * old + o
 high_fewer new old n o one less = omega (arith, one, less)
 

@@ -1,66 +1,14 @@
 -- What is left of an edge without its first parts.
-use Rattle.std.proofs.Common.{
-  ◌≡◌,
-  inl,
-  inr,
-  Option,
-  None,
-  ℤ,
-  ℕ,
-  zero,
-  suc,
-  ◌+◌,
-  ◌-◌,
-  ◌<◌,
-  List,
-  [],
-  ◌∷◌,
-  ◌++◌,
-  drop,
-  length,
-  Some,
-  IfSome,
-  slice_get,
-  refl,
-  sym,
-  ap,
-  ◌∙◌,
-  arith,
-  length-drop,
-  below_more,
-}
+use Rattle.std.proofs.Common.{◌≡◌, inl, inr, Option, None, ℤ, ℕ, ◌+◌, ◌-◌, ◌<◌, drop, length}
+use Rattle.std.proofs.Common.{Some, IfSome, slice_get, sym, ap, ◌∙◌, arith, length-drop, below_more}
 use Rattle.std.proofs.lemmas.Option.{slice_get_within}
 use Rattle.rational.specs.Rational.{Rational, ◌≤ʳ◌, ◌<ʳ◌, ◌≈◌, whole}
 use Rattle.rational.proofs.Order.{le_trans, le_of_same, ge_of_same, lt_of_le_of_lt, le_or_lt}
 use Rattle.frac128.specs.Value.{value}
+use Rattle.online_nodes.proofs.DroppingLemmas.{drop-drop, drop-both, slice_get-drop}
 use Rattle.online_robust.specs.Lines.{end_of}
 use Rattle.online_robust.specs.declared.line.MarginLine.{MarginLine}
 use Rattle.online_robust.specs.Held.{Edge, held_of, without, IsDroppedBy}
-
-drop-nil : {X : Type 0} (n : ℕ) → drop {A = X} n [] ≡ []
-drop-nil zero = refl
-drop-nil (suc n) = refl
-
--- dropping twice is dropping both at once
-pub drop-drop : {X : Type 0} (a b : ℕ) (ys : List X) → drop a (drop b ys) ≡ drop (b + a) ys
-drop-drop a zero ys = let same : a ≡ 0 + a = omega arith in ap (λ k. drop k ys) same
-drop-drop a (suc b) [] = drop-nil a ∙ sym (drop-nil (suc b + a))
-drop-drop a (suc b) (y ∷ ys) =
-    let same : suc (b + a) ≡ suc b + a = omega arith in
-    drop-drop a b ys ∙ ap (λ k. drop k (y ∷ ys)) same
-
--- what is dropped of two lists is dropped of the first, and then of the second
-pub drop-both : {X : Type 0} (n : ℕ) (xs ys : List X) → drop n (xs ++ ys) ≡ drop n xs ++ drop (n - length xs) ys
-drop-both zero xs ys = let none : 0 ≡ 0 - length xs = omega arith in ap (λ k. xs ++ drop k ys) none
-drop-both (suc n) [] ys = let all : suc n ≡ suc n - 0 = omega arith in ap (λ k. drop k ys) all
-drop-both (suc n) (x ∷ xs) ys =
-    let same : n - length xs ≡ suc n - suc (length xs) = omega arith in drop-both n xs ys ∙ ap (λ k. drop n xs ++ drop k ys) same
-
--- the first item behind n others
-pub slice_get-drop : {X : Type 0} (n : ℕ) (xs : List X) → slice_get (drop n xs) 0 ≡ slice_get xs n
-slice_get-drop zero xs = refl
-slice_get-drop (suc n) [] = refl
-slice_get-drop (suc n) (x ∷ xs) = slice_get-drop n xs
 
 -- an edge without its first lines holds the others
 pub held_of-without : (n : ℕ) (x : Edge) → held_of (without n x) ≡ drop n (held_of x)
@@ -91,7 +39,7 @@ pub record IsCutBy (limit : Rational) (old new : Edge) : Type 0 where
   -- each of them ends by the limit
   pub ended : (k : ℕ) → k < count → IfSome (slice_get (held_of old) k) (λ v. value (end_of v) ≤ʳ limit)
 
--- where none is gone it is so
+-- an edge of which nothing is gone is cut by any limit
 pub cut_none : (limit : Rational) (x : Edge) → IsCutBy limit x x
 cut_none limit x = record { count = 0; is = sym (without-none x); ended = λ k below. absurd (omega arith) }
 

@@ -241,7 +241,7 @@ pub first_of_both : {X : Type 0} (xs ys : List X) → slice_get xs 0 ≡ None �
 first_of_both [] ys none = refl
 first_of_both (x ∷ xs) ys none = cc
 
--- the first of two lists begins both
+-- what begins a list begins that list with another behind it
 pub first_of_first : {X : Type 0} (xs ys : List X) (x : X) → slice_get xs 0 ≡ Some x → slice_get (xs ++ ys) 0 ≡ Some x
 first_of_first [] ys x some = cc
 first_of_first (y ∷ xs) ys x some = some

@@ -68,13 +68,13 @@ module _ (t : Turn) (z : Endless) (e : Held) (to : ℕ) (b : Belongs t (Op.Past 
     abbrev x : Scope
     x = scope_of t z e to b (value s.at)
 
-    -- what it tells is the node's margin
+    -- what the step tells is the node's margin
     pub step_told : (ks : List (Knot Margin)) → IsStretch (best_of (scope_of t z e to b (value s.at)) s.window)
         (reach_before t + own t z e to b) m.from end ks → IsSwept t to ks
     step_told ks is = past_told t z e to b (value s.at) end same m.from m.from_is ks
         (subst (λ (v : Window). IsStretch (best_of x v) (reach_before t + own t z e to b) m.from end ks) m.window is)
 
-    -- a refusal is one of the stream
+    -- what the step refuses is refused for the node's stream
     pub step_fault : (fault : OpFault Margin) → IsWindowFault (scope_of t z e to b (value s.at)) s.window end fault → IsStreamedFault t fault
     step_fault fault is = past_fault t z e to b (value s.at) end same fault (subst (λ (v : Window). IsWindowFault x v end fault) m.window is)
 
@@ -86,11 +86,11 @@ module _ (t : Turn) (z : Endless) (e : Held) (to : ℕ) (b : Belongs t (Op.Past 
       there None h = absurd h
       there (Some r) h = same_trans (subst (λ (u : Rational). u ≈ end) h.0 h.1) same
 
-      -- the edges are swept up to the time
+      -- the edges are swept up to the time of the turn
       pub step_edges : Sheds (shifted end s.window.high) s.window.of e e' → HasSwept t e e' to
       step_edges shed = past_edges t z e to b (value s.at) end same s' e' (kept ∙ m.window) came (there s'.last last) m.begun
           (subst (λ (v : Window). Sheds (shifted end v.high) v.of e e') m.window shed)
 
-      -- and the operator stands there
+      -- the operator stands at the time of the turn
       pub step_stands : (z' : Endless) → z'.window ≡ z.window → z'.past ≡ Some s' → StandsNow t (Op.Past z') e' to
       step_stands z' window is = past_stands t z e to b (value s.at) end same m.from s s' z' e' m.whole_can m.window kept came m.begun last window is

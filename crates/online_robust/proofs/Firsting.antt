@@ -62,7 +62,7 @@ index_front [] x k h = absurd (omega (arith, h))
 index_front (z ∷ xs) x zero h = refl
 index_front (z ∷ xs) x (suc k) h = index_front xs x k (omega (arith, h))
 
--- and its horizon
+-- the list of horizons goes on with the next node's
 pub horizons_more : (nodes : List Node) (i : ℕ) (hs : List ℕ) (h : ℕ) → length hs ≡ i → AreHorizonsBelow i nodes hs → h ≡ horizon (subformula nodes i)
     → (length (hs ++ h ∷ []) ≡ i + 1) × AreHorizonsBelow (i + 1) nodes (hs ++ h ∷ [])
 horizons_more nodes i hs h count are is = (

@@ -281,7 +281,7 @@ module _ (t : Turn) (z : Moved) (e : Held) (to : ℕ) (b : Belongs t (Op.Moved z
             × ((edge_at e' z.of).number ≡ (edge_at e z.of).number)) (sym here.back)
             (cut, loses_number lost.here))))
 
-    -- and the operator stands there
+    -- a window of one instant stands at the time of the turn once it has gone there
     pub glance_stands : (z' : Moved) (e' : Held) → z' ≡ record z { last = z'.last } → IsSome z'.last
         → HasReached (glance_of glance z) (reach_before t + own) end z'.last
         → StandsNow t (Op.Moved z') e' to

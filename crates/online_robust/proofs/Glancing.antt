@@ -189,19 +189,19 @@ module _ (x : Glance) (op : Moved) (old : Held) (t : Rational) (at : IsGlanceAt 
     pub point_is : Point p v ≡ Point starts.1.at starts.1.v
     point_is = begun_point starts.1 (Point p v) first
 
-    -- its time is a tick
+    -- the time of the first point is a tick
     pub point_tick : IsTick (value p)
     point_tick = subst (λ (m : MarginLine). IsTick (value (end_of m))) (sym point_is) starts.1.tick
 
-    -- it is the start
+    -- the first point is at the start
     pub point_when : value p ≈ start x.trace
     point_when = subst (λ (m : MarginLine). value (end_of m) ≈ start x.trace) (sym point_is) starts.1.when
 
-    -- the input has that margin there
+    -- the input has the first point's margin there
     pub point_there : IsThere (input x) x.reach (value p) v
     point_there = subst (λ (m : MarginLine). IsThere (input x) x.reach (value (end_of m)) (margin_of m)) (sym point_is) starts.1.there
 
-    -- which may be moved
+    -- the first point's margin may be moved
     pub point_moves : IsMovedBy x.reach v
     point_moves = point_there.moved
 
@@ -221,26 +221,26 @@ module _ (x : Glance) (op : Moved) (old : Held) (t : Rational) (at : IsGlanceAt 
     pub g : FirstGap (input x) x.reach (shifted t op.by) x.front (held_at old op.of)
     g = (first_of (input x) x.reach (shifted t op.by) x.front (held_at old op.of) gap over.1 first).0
 
-    -- it is that gap
+    -- the gap that was taken is the first gap
     pub gap_is : gap ≡ Gap g.a g.b g.p
     unfolding g
     gap_is = (first_of (input x) x.reach (shifted t op.by) x.front (held_at old op.of) gap over.1 first).1
 
-    -- its end is a tick
+    -- the gap's end is a tick
     pub gap_tick : IsTick (value (end_of gap))
     gap_tick = subst (λ (m : MarginLine). IsTick (value (end_of m))) (sym gap_is) g.gap_fit.1
 
-    -- its margin may be moved
+    -- the gap's margin may be moved
     pub gap_moves : IsMovedBy x.reach (margin_of gap)
     gap_moves = subst (λ (m : MarginLine). IsMovedBy x.reach (margin_of m)) (sym gap_is) g.gap_fit.4
 
     -- the point behind it
     module _ (mid new : Held) (point : MarginLine) (two : TakesTwo old mid new op.of gap point) where
-      -- and so may that of the point behind it
+      -- the margin of the point behind the gap may be moved
       pub behind_moves : IsMovedBy x.reach (margin_of point)
       behind_moves = subst (λ (m : MarginLine). IsMovedBy x.reach (margin_of m)) (sym (is_point two g)) g.point_fit.2
 
-    -- it ends within the trace
+    -- the gap ends within the trace
     pub ends_inside : value g.u ≤ʳ stop x.trace
     ends_inside = le_trans (joined_to (value g.u) x.front (input x) g.rest g.told g.joined) at.last
 
@@ -465,7 +465,7 @@ module _ (x : Glance) (op : Moved) (own : ℕ) (old : Held) (t to : Rational) (a
         after_here : t <ʳ value s
         after_here = lt_shifted_back op.by (lt_of_lt_of_le fg.later (ge_of_same back))
 
-        -- and so is what it tells over the gap
+        -- what it tells over the gap is a stride
         pub goes_over : (m v : Margin) → value s ≤ʳ to → IsSeenAs op (margin_of gap) m → IsSeenAs op (margin_of point) v
             → IsStride x op own t to m (record { at = s; value = v }) old new
         goes_over m v by seen seen_point = record {

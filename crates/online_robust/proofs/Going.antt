@@ -60,7 +60,7 @@ int_below a b lt = by_test (int_lt a b) refl
     by_test true e = e
     by_test false e = let le = int_order a b false e in absurd (omega (arith, ints, lt, le))
 
--- and a number not as less than itself
+-- a number does not come out as less than itself
 pub int_not_below : (a : ℤ) → int_lt a a ≡ false
 int_not_below a = by_test (int_lt a a) refl
   where
@@ -68,15 +68,15 @@ int_not_below a = by_test (int_lt a a) refl
     by_test true e = let lt = int_order a a true e in absurd (omega (arith, ints, lt))
     by_test false e = e
 
--- the edge that was put is there
+-- the edge that was put stands at its place
 pub edge_same : (e : Held) (i : ℕ) (x : Edge) → i < length e.edges → get_or (with_edge e i x) i no_edge ≡ x
 edge_same e i x h = get_or-set_same e.edges i x no_edge h
 
--- the others stay
+-- the edges at other places stay
 pub edge_other : (e : Held) (i j : ℕ) (x : Edge) → j ≢ i → get_or (with_edge e i x) j no_edge ≡ edge_at e j
 edge_other e i j x h = get_or-set_other e.edges i j x no_edge h
 
--- and there are as many
+-- there are as many edges as before once one was put
 pub length-set-edges : (e : Held) (i : ℕ) (x : Edge) → length (with_edge e i x) ≡ length e.edges
 length-set-edges e i x = length-set e.edges i x
 
@@ -182,7 +182,7 @@ module _ (m : Move) (node : ℕ) (op : Operator) (e : Held) (to : ℕ) (with_fir
     forth None e = tt
     forth (Some k) e = subst (λ s. (pos s ≤ℤ k) × (k <ℤ pos to)) (sym begin_is) (before_is k e)
 
-    -- the operator belongs to its edges in each trace that goes on
+    -- the operator belongs to its edges in each trace that goes on from the rows
     pub belongs : Belongs (turn_of m tr) op e to
     belongs = record {
       formed = g.can.nodes.formed;
@@ -212,7 +212,7 @@ module _ (m : Move) (node : ℕ) (op : Operator) (e : Held) (to : ℕ) (with_fir
       stands = g.can.work.1 tr trace (goes_on_from m.old m.new g.can.next tr m.header c);
     }
 
-  -- and in the trace so far
+  -- the operator belongs to its edges in the trace so far
   pub belongs_now : Belongs (turn_of m so_far) op e to
   belongs_now = belongs so_far g.can.trace (itself so_far m.new.ended)
 

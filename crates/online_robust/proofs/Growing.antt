@@ -108,7 +108,7 @@ itself tr ended = record { same_header = refl; more = []; begins = sym (append-n
 abbrev pub GoesOnFrom : Past → Past → Type 0
 GoesOnFrom old new = (tr : Trace) (header : Header) → Continues tr header new.rows new.ended → Continues tr header old.rows old.ended
 
--- one past goes on from the one before
+-- what comes next goes on from the past before
 pub goes_on_from : (old new : Past) → IsNext old new → GoesOnFrom old new
 goes_on_from old new next = next_cases old new next GoesOnFrom
     (λ rows r tr header c. continues_less tr header rows r false c) (λ rows tr header c. continues_open tr header rows true c)
@@ -127,11 +127,11 @@ last_below header q rows r is = last_rises (length header.columns) q.time rows r
 pub front_rises : (p : Subformula) (now later : ℕ) → now ≤ later → front_at false (pos now) p ≤ℤ front_at false (pos later) p
 front_rises p now later le = omega (arith, ints, le)
 
--- the end lets a front only rise
+-- with the end a front does not fall
 pub front_ends : (p : Subformula) (now : ℕ) → front_at false (pos now) p ≤ℤ front_at true (pos now) p
 front_ends p now = omega (arith, ints)
 
--- what is made of two lists is made of each
+-- what is made of two lists together is what is made of each
 pub map-append : {A B : Type 0} (f : A → B) (xs ys : List A) → map f (xs ++ ys) ≡ map f xs ++ map f ys
 map-append f [] ys = refl
 map-append f (x ∷ xs) ys = ap (λ l. f x ∷ l) (map-append f xs ys)

@@ -42,7 +42,7 @@ pub read_others : (i j : ℕ) (old new : Held) (v : MarginLine) → new.edges �
 read_others i j old new v read apart =
     ap (λ (es : List Edge). get_or es j no_edge) read ∙ get_or-set_other old.edges i j (with_read (edge_at old i) v) no_edge apart
 
--- and as many
+-- reading an edge leaves as many edges as before
 pub read_count : (i : ℕ) (old new : Held) (v : MarginLine) → new.edges ≡ with_edge old i (with_read (edge_at old i) v) → length new.edges ≡ length old.edges
 read_count i old new v read = ap (λ (es : List Edge). length es) read ∙ length-set old.edges i (with_read (edge_at old i) v)
 
@@ -267,7 +267,7 @@ module _ (x : Scope) (s : Sweep) (e mid new : Held) (line : MarginLine) (next : 
   pub high_small : IsBounded (2 ^ 31) (value_at (margin_function s.place.high.shape) (value next_is.p))
   high_small = high_from.1.bounded (value next_is.p) (le_of_lt rises) (up_to_end s.place.high.until next_is.ends (le_refl (value next_is.p)))
 
-  -- and so is the new one's
+  -- the next gap's margin is bounded at the point
   pub next_small : (en : HasEntered) → IsBounded (2 ^ 31) (value_at (margin_function next.shape) (value next_is.p))
   next_small en = en.on.bounded (value next_is.p) (le_refl (value next_is.p)) (up_to_before (value next_is.p) next.until en.before)
 

@@ -67,13 +67,13 @@ module _ (t : Turn) (z : Lazy) (e : Held) (to : ℕ) (b : Belongs t (Op.Sweep z)
     abbrev x : Scope
     x = scope_of t z e to b (value s.place.at)
 
-    -- what it tells is the node's margin
+    -- what the step tells is the node's margin
     pub step_told : (ks : List (Knot Margin)) → IsStretch (best_of (scope_of t z e to b (value s.place.at)) s.window)
         (reach_before t + own t z e to b) m.from end ks → IsSwept t to ks
     step_told ks is = window_told t z e to b (value s.place.at) end same m.from m.from_is ks
         (subst (λ (v : Window). IsStretch (best_of x v) (reach_before t + own t z e to b) m.from end ks) m.window is)
 
-    -- a refusal is one of the stream
+    -- what the step refuses is refused for the node's stream
     pub step_fault : (fault : OpFault Margin) → IsWindowFault (scope_of t z e to b (value s.place.at)) s.window end fault → IsStreamedFault t fault
     step_fault fault is = window_fault t z e to b (value s.place.at) end same fault (subst (λ (v : Window). IsWindowFault x v end fault) m.window is)
 
@@ -85,11 +85,11 @@ module _ (t : Turn) (z : Lazy) (e : Held) (to : ℕ) (b : Belongs t (Op.Sweep z)
       there None h = absurd h
       there (Some r) h = same_trans (subst (λ (u : Rational). u ≈ end) h.0 h.1) same
 
-      -- the edges are swept up to the time
+      -- the edges are swept up to the time of the turn
       pub step_edges : Sheds (shifted end s.window.low) s.window.of e e' → HasSwept t e e' to
       step_edges shed = window_edges t z e to b (value s.place.at) end same s' e' (kept ∙ m.window) came (there s'.last last) m.begun
           (subst (λ (v : Window). Sheds (shifted end v.low) v.of e e') m.window shed)
 
-      -- and the operator stands there
+      -- the operator stands at the time of the turn
       pub step_stands : (z' : Lazy) → z'.window ≡ z.window → z'.sweep ≡ Some s' → StandsNow t (Op.Sweep z') e' to
       step_stands z' window is = window_stands t z e to b (value s.place.at) end same m.from s s' z' e' m.whole_can m.window kept came m.begun last window is

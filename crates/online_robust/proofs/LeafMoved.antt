@@ -137,7 +137,7 @@ module _ (m : Move) (w : Work) (e : Held) (can : CanMove m w e) (b : Binding) (b
   new_is : shown_of m.nodes m.new m.place ≡ shown_by false p (m.old.rows ++ r ∷ [])
   new_is = ap (λ (q : Past). shown_by q.ended p q.rows) row.new
 
-  -- so a constant or an atom has moved
+  -- a constant or an atom has moved by a row
   pub leaf_moved : HasMoved m w e noted
   leaf_moved = record {
     more = put.0;
@@ -166,7 +166,7 @@ module _ (m : Move) (w : Work) (e : Held) (can : CanMove m w e) (b : Binding) (b
 
 -- ---- constants
 
--- a constant is such a node
+-- a constant has its margin at the row and since the row before
 pub constant_leaf : (c : Bool) (header : Header) (rows : List Row) (before : Option Row) (r : Row)
     → IsLeafAt (constant c) header rows before r (constant_margin c) (constant_margin c)
 constant_leaf c header rows before r = record {
@@ -226,7 +226,7 @@ module _ (nodes : List Node) (header : Header) (b : Binding) (scale : Scale)
     rows = is;
   }
 
-  -- and an atom
+  -- an atom has its margin at the row and since the row before
   pub atom_leaf : (rows : List Row) (r : Row) (piece v : Margin) → IsAtomPiece b i (last_row_of rows) r piece → IsAtomValue b i r v
       → IsLeafAt (atom i a) header rows (last_row_of rows) r piece v
   atom_leaf rows r piece v is_piece is_value = record {

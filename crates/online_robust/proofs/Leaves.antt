@@ -97,7 +97,7 @@ module _ (p : Subformula) (header : Header) (r : Row) (piece v : Margin) (most :
           all_parts k [],
         )
 
-    -- and tell its margin
+    -- the lines of the first row tell the node's margin
     pub first_told : (more : List MarginLine) → AreRowLines None r piece v more → (tr : Trace) → IsTrace tr → Continues tr header (r ∷ []) false
         → AreMore (Robustness p tr) most r.time None (Some (pos r.time)) more
     first_told more (at, when, e) tr trace c =
@@ -166,7 +166,7 @@ module _ (p : Subformula) (header : Header) (r : Row) (piece v : Margin) (most :
           after_parts k (n ∷ []),
         )))
 
-    -- and tell its margin
+    -- the lines of a later row tell the node's margin
     pub later_told : (more : List MarginLine) → AreRowLines (Some f) r piece v more → (tr : Trace) → IsTrace tr → Continues tr header (q ∷ rows ++ r ∷ []) false
         → AreMore (Robustness p tr) most q.time (shown_by false p (q ∷ rows)) (Some (pos r.time)) more
     later_told more (from, at, a, b, e) tr trace c =

@@ -119,13 +119,13 @@ module _ (p : Passing) where
             (going.shows.held j i node left found reads));
       }
 
-      -- by the row
+      -- the node may move by the row
       pub can_move_by_row : (b : Binding) (before : Option Row) (r : Row) (n : ℕ) → n ≡ i → IsRowNext (move_of p 0) b before r
           → CanMoveByRow (move_of p i) n st e' b before r
       can_move_by_row b before r n is row =
           (sym is, can_move, works.0, record { scale = row.scale; bound = row.bound; last = row.last; new = row.new })
 
-      -- or by the end
+      -- the node may move by the end
       pub can_move_by_end : (now n : ℕ) → n ≡ i → IsEndNext (move_of p 0) now → CanMoveByEnd (move_of p i) n st e' now
       can_move_by_end now n is end = (sym is, can_move, record { last = end.last; new = end.new })
 

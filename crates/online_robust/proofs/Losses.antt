@@ -11,7 +11,8 @@ use Rattle.online_robust.specs.Lines.{end_of}
 use Rattle.online_robust.specs.Held.{Edge, Held, edge_at, held_at, held_of, no_edge, with_edge, without}
 use Rattle.online_robust.specs.Reading.{Loses, LosesAt, LosesAtBoth}
 use Rattle.online_robust.specs.declared.line.MarginLine.{MarginLine}
-use Rattle.online_robust.proofs.DroppingLemmas.{drop-drop, held_of-without, without-none}
+use Rattle.online_nodes.proofs.DroppingLemmas.{drop-drop}
+use Rattle.online_robust.proofs.DroppingLemmas.{held_of-without, without-none}
 
 -- lines are dropped in two turns
 pub without-both : (a b : ℕ) (x : Edge) → without a (without b x) ≡ without (b + a) x
@@ -68,7 +69,7 @@ pub loses_number : {limit : Rational} {x y : Edge} → Loses limit x y → y.num
 loses_number h = ap (λ (e : Edge). e.number) h.is
 
 module _ {limit : Rational} {i : ℕ} where
-  -- nothing is lost
+  -- an edge that stays has lost nothing
   pub loses_at_none : (e : Held) → LosesAt limit i e e
   loses_at_none e = record { here = loses_none limit (edge_at e i); others = λ j a. refl; edges = refl; start = refl }
 
@@ -104,16 +105,16 @@ took_held i old new within taken =
     ap held_of (ap (λ (es : List Edge). get_or es i no_edge) taken ∙ get_or-set_same old.edges i (without 1 (edge_at old i)) no_edge within)
     ∙ held_of-without 1 (edge_at old i)
 
--- and lost by a later limit
+-- what is lost of one edge by a limit is lost by a later one
 pub loses_at_later : {l m : Rational} {i : ℕ} {x y : Held} → l ≤ʳ m → LosesAt l i x y → LosesAt m i x y
 loses_at_later le h = record { here = loses_later le h.here; others = h.others; edges = h.edges; start = h.start }
 
 module _ {limit : Rational} {i k : ℕ} where
-  -- nothing is lost of two edges
+  -- two edges that stay have lost nothing
   pub both_none : (e : Held) → LosesAtBoth limit i k e e
   both_none e = record { left = loses_none limit (edge_at e i); right = loses_none limit (edge_at e k); others = λ j a b. refl; edges = refl; start = refl }
 
-  -- what is lost in two steps is lost
+  -- what is lost of two edges in two steps is lost
   pub both_both : {x y z : Held} → LosesAtBoth limit i k x y → LosesAtBoth limit i k y z → LosesAtBoth limit i k x z
   both_both h g = record {
     left = loses_both h.left g.left;
@@ -133,6 +134,6 @@ module _ {limit : Rational} {i k : ℕ} where
     start = g.start ∙ h.start;
   }
 
--- and lost by a later limit
+-- what is lost of two edges by a limit is lost by a later one
 pub both_later : {l m : Rational} {i k : ℕ} {x y : Held} → l ≤ʳ m → LosesAtBoth l i k x y → LosesAtBoth m i k x y
 both_later le h = record { left = loses_later le h.left; right = loses_later le h.right; others = h.others; edges = h.edges; start = h.start }

@@ -155,7 +155,7 @@ module _ (x : Scope) (w : Window) (begin : Frac) (none : Margin) (low high : Gap
       up None b = tt
       up (Some u) b = le_trans (ge_of_same c.here) (le_of_lt b)
 
-  -- it goes on in the gap behind it
+  -- the low end goes on in the gap behind the knot
   pub low_goes : (c : Leaves) → IsBefore l c.k.after.until
   low_goes c = up c.k.after.until (before_own (input_of x w.side) x.reach (value c.k.at) c.k.after c.marks c.runs)
     where
@@ -241,7 +241,7 @@ module _ (i : ℕ) (e mid new : Held) (low : Gap) (k : Mark) (rest : List Margin
   pub gap_gone : GapGone
   gap_gone = by_stands low.stands refl front dropped
 
-  -- the knot's line is the first that is held
+  -- once the gap's line is gone the knot's is the first that is held
   pub point_first : slice_get (held_at mid i) 0 ≡ Some (L.Point k.at k.point)
   point_first = ap (λ (l : List MarginLine). slice_get (l ++ (edge_at mid i).fresh) 0) gap_gone.seen
 
@@ -261,7 +261,7 @@ module _ (i : ℕ) (e mid new : Held) (low : Gap) (k : Mark) (rest : List Margin
     pub new_fresh : (edge_at new i).fresh ≡ (edge_at e i).fresh
     new_fresh = ap (λ (y : Edge). y.fresh) new_is ∙ gap_gone.fresh
 
-    -- the knot's line is gone too
+    -- the knot's line is gone with the gap's
     pub both_gone : LosesAt limit i e new
     both_gone = loses_at_both gap_gone.lost
         (took limit i mid new (L.Point k.at k.point) mid_within taken start_new point_first (le_of_same here))
@@ -316,14 +316,14 @@ module _ (x : Scope) (s : Sweep) (e mid : Held) (at : IsAt x s e) (low : IsLow x
   first_line : slice_get (held_at mid s.window.of) 0 ≡ Some (L.Point leaving.k.at leaving.k.point)
   first_line = point_first s.window.of e mid mid s.place.low leaving.k leaving.rest (low_at x s.window) at.within leaving.front dropped low.ends leaving.here
 
-  -- there is a line
+  -- the edge holds a line where a knot is left
   pub some_line : slice_get (held_at mid s.window.of) 0 ≡ None → ⊥
   some_line none = absurd (let f : Some (L.Point leaving.k.at leaving.k.point) ≡ None = sym first_line ∙ none in cc)
 
   module _ (new : Held) (line : MarginLine) (next : Gap) (first : slice_get (held_at mid s.window.of) 0 ≡ Some line)
       (taken : new.edges ≡ with_edge mid s.window.of (without 1 (edge_at mid s.window.of))) (start_new : new.start ≡ mid.start)
       (found : MatchOption (slice_get (held_at new s.window.of) 0) (next ≡ no_gap s.none) (λ l. next ≡ gap_of l)) where
-    -- it is the knot's
+    -- the line that is held is the knot's
     pub line_is : line ≡ L.Point leaving.k.at leaving.k.point
     line_is =
         let f : Some line ≡ Some (L.Point leaving.k.at leaving.k.point) = sym first ∙ first_line in
@@ -403,7 +403,7 @@ module _ (x : Scope) (s : Sweep) (e mid : Held) (at : IsAt x s e) (low : IsLow x
         (λ (l : List MarginLine). IsSpread x s.window s.start s.none leaving.k.after s.place.high q leaving.rest l (low_at x s.window) (high_at x s.window))
         (sym fresh_is) spread))
 
-    -- a knot that gives none leaves the constants
+    -- a knot that gives no constant leaves the constants as they are
     pub plain_spread : IsNoKnot (shifted (start x.trace) s.window.low) s.place.low leaving.k
         → IsSpread x s.window s.start s.none next s.place.high s.among (edge_at new s.window.of).seen (fresh_at new s.window.of) (low_at x s.window)
         (high_at x s.window)
@@ -411,7 +411,7 @@ module _ (x : Scope) (s : Sweep) (e mid : Held) (at : IsAt x s e) (low : IsLow x
         (left_plain x s.window s.start s.none s.place.low s.place.high s.among (edge_at e s.window.of).seen (fresh_at e s.window.of)
         (low_at x s.window) (high_at x s.window) at.spread low.ends low.ahead low.order low.reaches leaving plain)
 
-    -- a knot that gives one takes the first with it
+    -- a knot that gives a constant takes the first one with it
     pub frozen_spread : (q : Queue Margin) → ¬ IsNoKnot (shifted (start x.trace) s.window.low) s.place.low leaving.k → q.side ≡ s.among.side
         → ((d : Margin) (cs : List Margin)
         → StandsFor margin_function s.among.older.items s.among.newer.items s.among.side s.among.best (d ∷ cs)

@@ -66,7 +66,7 @@ standing_more gap lines rest more h = by_stands gap.stands h
     by_stands true (a, c, until, is) = (a, c, until, ap (λ (l : List MarginLine). l ++ more) is)
     by_stands false is = ap (λ (l : List MarginLine). l ++ more) is
 
--- and its lines are read behind theirs
+-- the lines of one knot more are read behind those of the others
 pub seen_more : (low : Gap) (marks : List Mark) (k : Mark) (lines tail : List MarginLine) → AreSeen low marks lines → IsStanding k.after tail []
     → AreSeen low (marks ++ k ∷ []) (lines ++ L.Point k.at k.point ∷ tail)
 seen_more low [] k lines tail seen stands = (tail, standing_more low lines [] (L.Point k.at k.point ∷ tail) seen, stands)

@@ -83,21 +83,21 @@ module _ (x : Couple) (op : Not) where
     first_there = subst (λ (m : MarginLine). IsThere (Robustness x.left x.trace) x.reach (value (end_of m)) (margin_of m))
         (sym is_v) (begins old can none).there
 
-    -- at the start
+    -- the first point is at the start
     pub first_when : value (end_of v) ≈ x.from
     first_when = subst (λ (m : MarginLine). value (end_of m) ≈ x.from) (sym is_v) (begins old can none).when
 
-    -- which is a tick
+    -- the first point's time is a tick
     pub first_tick : IsTick (value (end_of v))
     first_tick = subst (λ (m : MarginLine). IsTick (value (end_of m))) (sym is_v) (begins old can none).tick
 
-    -- minus it is what the node has reached
+    -- minus the first point is what the node has reached
     pub first_reached : (at : Frac) (q : Margin) → at ≡ end_of v → IsMinus (margin_of v) q
         → HasReached (left_of x true) x.reach x.from (Some (record { at = at; value = q }))
     first_reached at q e minus = subst (λ (f : Frac). HasReached (left_of x true) x.reach x.from (Some (record { at = f; value = q }))) (sym e)
         (first_when, first_tick, minus_there (margin_of v) q first_there minus)
 
-    -- and it was taken
+    -- the first point was taken
     pub first_negated : (new : Held) → new.edges ≡ with_edge old op.of (without 1 (edge_at old op.of))
         → length new.edges ≡ length old.edges → (at : Frac) → at ≡ end_of v
         → IsNegatedTo x op new (value at)
@@ -124,31 +124,31 @@ module _ (x : Couple) (op : Not) where
     gap_level = subst (λ (m : MarginLine). HasBoundedLevel (2 ^ 31) (margin_function (margin_of m))) (sym (is_gap two g))
         (level_bounded (2 ^ 31) (margin_function g.p) (value g.a) g.gap_fit.2)
 
-    -- and the point's
+    -- the point's margin is bounded
     pub point_level : HasBoundedLevel (2 ^ 31) (margin_function (margin_of point))
     point_level = subst (λ (m : MarginLine). HasBoundedLevel (2 ^ 31) (margin_function (margin_of m))) (sym (is_point two g))
         (level_bounded (2 ^ 31) (margin_function g.v) (value g.u) g.point_fit.1)
 
-    -- the point lies behind
+    -- the point lies behind the time that was reached
     pub later_point : at <ʳ value (end_of point)
     later_point = subst (λ (m : MarginLine). at <ʳ value (end_of m)) (sym (is_point two g)) (lt_of_lt_of_le g.later (le_of_same g.ends))
 
-    -- at a tick
+    -- the point's time is a tick
     pub point_tick : IsTick (value (end_of point))
     point_tick = subst (λ (m : MarginLine). IsTick (value (end_of m))) (sym (is_point two g)) g.point_fit.0
 
-    -- the input has that margin there
+    -- the input has the point's margin there
     pub point_there : IsThere (Robustness x.left x.trace) x.reach (value (end_of point)) (margin_of point)
     point_there = subst (λ (m : MarginLine). IsThere (Robustness x.left x.trace) x.reach (value (end_of m)) (margin_of m)) (sym (is_point two g))
         (there_at (Robustness x.left x.trace) x.reach (robust_is_function x.left x.trace) g.u g.v (value g.u) g.point g.point_fit (same_refl (value g.u)))
 
-    -- minus it is what the node has reached
+    -- minus the point is what the node has reached
     pub point_reached : (f : Frac) (q : Margin) → f ≡ end_of point → IsMinus (margin_of point) q
         → HasReached (left_of x true) x.reach (value f) (Some (record { at = f; value = q }))
     point_reached f q e minus = subst (λ (f : Frac). HasReached (left_of x true) x.reach (value f) (Some (record { at = f; value = q }))) (sym e)
         (same_refl (value (end_of point)), point_tick, minus_there (margin_of point) q point_there minus)
 
-    -- and both were taken
+    -- the gap and the point were taken
     pub point_negated : (f : Frac) → f ≡ end_of point → IsNegatedTo x op new (value f)
     point_negated f e = subst (λ (f : Frac). IsNegatedTo x op new (value f)) (sym e) (record {
       span = to.span;
@@ -172,7 +172,7 @@ module _ (x : Couple) (op : Not) where
         (subst (λ (m : MarginLine). value (end_of m) ≤ʳ value (end_of point)) (sym (is_gap two g))
         (subst (λ (m : MarginLine). value g.b ≤ʳ value (end_of m)) (sym (is_point two g)) (le_of_same g.ends))) (le_refl (value (end_of point)))
 
-    -- so there are fewer turns left
+    -- two lines fewer make fewer turns
     pub fewer_left : turns_left_of op new < turns_left_of op old
     fewer_left =
         let is : length (held_at new op.of) ≡ length g.rest = ap (λ (l : List MarginLine). length l) (is_rest two g) in

@@ -126,7 +126,7 @@ module _ (side : Side) (limit : Rational) where
   steady_all low (k ∷ marks) cs (inr (knot, (c, others, is, frozen, more))) =
       subst AreSteady (sym is) ((λ t u. transᵉ (frozen.constant t) (symᵉ (frozen.constant u))), steady_all k.after marks others more)
 
-  -- so does each of them
+  -- each of the constants stays as it is with time
   pub steady_one : (cs : List Margin) (c : Margin) → AreSteady cs → IsAmong cs c → (t u : Rational)
       → value_at (margin_function c) t ≈ᵉ value_at (margin_function c) u
   steady_one [] c steady one t u = absurd one

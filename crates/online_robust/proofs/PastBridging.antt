@@ -135,15 +135,15 @@ module _ (t : Turn) (z : Endless) (e : Held) (to : ℕ) (b : Belongs t (Op.Past 
   pub first_tick : IsTick (start t.trace)
   first_tick = tick_of t (Op.Past z) e to b (begin_of t) b.from_start
 
-  -- and the time of the turn
+  -- the time of the turn is a tick
   pub to_tick : IsTick (whole (pos to))
   to_tick = tick_of t (Op.Past z) e to b to (omega arith)
 
-  -- which does not lie behind the end
+  -- the time of the turn does not lie behind the end
   pub to_last : whole (pos to) ≤ʳ stop t.trace
   to_last = last_to t (Op.Past z) e to b
 
-  -- nor before the start
+  -- the time of the turn does not lie before the start
   pub to_first : start t.trace ≤ʳ whole (pos to)
   to_first = let from = b.from_start in le_whole {j = pos (begin_of t)} {k = pos to} (omega (arith, ints, from))
 

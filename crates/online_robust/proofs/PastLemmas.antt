@@ -266,11 +266,11 @@ module _ (x : Scope) (p : Past) (e : Held) (at : IsPastAt x p e) where
     followed : IsFollowed r at.lines (edge_at e p.window.of).fresh
     followed = (subst (λ (o : Option Reached). AreKept p.gap o at.lines (edge_at e p.window.of)) some at.kept).1
 
-    -- the point that was reached is at the high end
+    -- the point that was reached is where the high end and the gap's end are
     pub here_is : (value r.at ≈ h) × EndsAt p.gap.until h
     here_is = subst (IsUnder h p.gap) some at.under
 
-    -- it is the point that comes
+    -- at the high end a point comes
     pub met : Comes
     met = comes here_is.1
 
@@ -285,11 +285,11 @@ module _ (x : Scope) (p : Past) (e : Held) (at : IsPastAt x p e) where
     point_is = first_is met.rest (edge_at e p.window.of).fresh
         (subst (λ (z : List MarginLine). IsFollowed r z (edge_at e p.window.of).fresh) met.is followed)
 
-    -- at that time
+    -- the point that comes is at the time that was reached
     pub u_is : met.u ≡ r.at
     u_is = ap end_of point_is
 
-    -- with that margin
+    -- the point that comes has the margin that was reached
     pub v_is : met.v ≡ r.value
     v_is = ap margin_of point_is
 
@@ -387,7 +387,7 @@ module _ (x : Scope) (p : Past) (e : Held) (at : IsPastAt x p e) where
       has_entered = by_follow (fresh_at e p.window.of) refl
           (subst (λ (z : List MarginLine). IsFollowed r z (edge_at e p.window.of).fresh) met.is followed)
 
-      -- whose margin is bounded at the point
+      -- the next gap's margin is bounded at the point
       pub after_small : (en : HasEntered) → IsBounded (2 ^ 31) (value_at (margin_function next.shape) (value met.u))
       after_small en = en.on.bounded (value met.u) (le_refl (value met.u)) (up_to_before (value met.u) next.until en.before)
 
@@ -483,13 +483,13 @@ module _ (x : Scope) (p : Past) (e : Held) (at : IsPastAt x p e) where
     pub gap_gone : GapGone
     gap_gone = by_stands p.gap.stands kept_none.0 dropped
 
-    -- the point's line is the first
+    -- once the gap's line is gone the point's is the first that is held
     pub point_first : slice_get (held_at mid i) 0 ≡ Some (L.Point d.u d.v)
     point_first = ap (λ (z : List MarginLine). slice_get (z ++ fresh_at mid i) 0) gap_gone.seen ∙ ap (λ (z : List MarginLine). slice_get z 0) gap_gone.fresh
 
     module _ (new : Held) (line : MarginLine) (first : slice_get (held_at mid i) 0 ≡ Some line)
         (taken : new.edges ≡ with_edge mid i (without 1 (edge_at mid i))) (start_new : new.start ≡ mid.start) where
-      -- it is the point
+      -- the line that is held is the point's
       pub line_is : line ≡ L.Point d.u d.v
       line_is = some_is (sym first ∙ point_first)
 
@@ -507,7 +507,7 @@ module _ (x : Scope) (p : Past) (e : Held) (at : IsPastAt x p e) where
       pub left_both : LosesAt h i e new
       left_both = loses_at_both gap_gone.lost (took h i mid new (L.Point d.u d.v) gap_gone.mid_in taken start_new point_first (le_of_same d.here))
 
-      -- and nothing else
+      -- nothing was lost but what may be
       pub left_shed : Sheds h i e new
       left_shed = sheds_of h i e new left_both
 
@@ -517,7 +517,7 @@ module _ (x : Scope) (p : Past) (e : Held) (at : IsPastAt x p e) where
       follows (L.Gap a b m ∷ more) joined = inr (a, b, a, m, more, refl, refl)
       follows (L.Point u v ∷ more) joined = absurd joined
 
-      -- the window stands at the point
+      -- once both lines are gone the window stands at the point
       pub past_left : (r : Reached) → r.at ≡ end_of line → r.value ≡ margin_of line
           → IsPastAt x (record p { point = Some r }) new × IsSettled (record p { point = Some r })
       past_left r at_is value_is = (

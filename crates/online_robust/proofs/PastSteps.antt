@@ -49,31 +49,31 @@ use Rattle.online_robust.proofs.WindowTelling.{best_is_function}
 
 -- the high offset as the program has it
 module _ (w : Window) (reach : ℕ) (fit : IsFitPast w reach) where
-  -- the offset is not too far behind
+  -- the high offset lies no further behind than times may be moved
   pub high_from : neg_ℤ (pos (2 ^ 32)) ≤ℤ w.high
   high_from = let h = fit.from in omega (arith, ints, h)
 
-  -- nor too far ahead
+  -- the high offset lies no further ahead than times may be moved
   pub high_to : w.high ≤ℤ pos (2 ^ 32)
   high_to = let h = fit.to in omega (arith, ints, h)
 
-  -- it is handed on as it is
+  -- the high offset is the same number once it was handed on as a word
   pub high_passed : to_z w64 (of_z w64 w.high) ≡ w.high
   high_passed = passed w.high high_from high_to
 
-  -- and then not too far behind
+  -- the offset that was handed on lies no further behind than times may be moved
   pub high_from_passed : neg_ℤ (pos (2 ^ 32)) ≤ℤ to_z w64 (of_z w64 w.high)
   high_from_passed = subst (λ z. neg_ℤ (pos (2 ^ 32)) ≤ℤ z) (sym high_passed) high_from
 
-  -- nor too far ahead
+  -- the offset that was handed on lies no further ahead than times may be moved
   pub high_to_passed : to_z w64 (of_z w64 w.high) ≤ℤ pos (2 ^ 32)
   high_to_passed = subst (λ z. z ≤ℤ pos (2 ^ 32)) (sym high_passed) high_to
 
-  -- the gap ends where it did
+  -- the gap leaves the window at the same time for the offset that was handed on
   pub leaves_at : (until r : Option Frac) → LeavesAt until (to_z w64 (of_z w64 w.high)) r → LeavesAt until w.high r
   leaves_at until r leaves = subst (λ z. LeavesAt until z r) high_passed leaves
 
-  -- a moved base keeps within the limits
+  -- a base moved by the offset keeps within the limits
   pub room : (m : Margin) → IsMovedBy reach m → unsigned_abs (margin_base m -ℤ to_z w64 (of_z w64 w.high)) ≤ 2 ^ 34
   room m moved = subst (λ z. unsigned_abs (margin_base m -ℤ z) ≤ 2 ^ 34) (sym high_passed) (base_room reach m w.high moved fit.small high_from high_to)
 
@@ -135,7 +135,7 @@ module _ (x : Scope) (p : Past) (e : Held) (at : IsPastAt x p e) (to : Rational)
       which (inl same) = inl same
       which (inr h) = inr (inl (ends p.gap.until p.window.high leave t leaves h))
 
-  -- the next stop is later
+  -- the next stop is later than the window's time
   pub goes_later : value p.at <ʳ t
   goes_later = later x p.window p.none (before_start p.none p.start) p.gap (value p.at) at.core to t step
 
@@ -244,7 +244,7 @@ stays_on p q r k g = record {
   last = g.last ∙ k.last;
 }
 
--- the window stays as it is
+-- a window that does not move stays as it is
 pub stays_none : (p : Past) → StaysPast p p
 stays_none p = record { window = refl; start = refl; none = refl; last = refl }
 

@@ -55,7 +55,7 @@ module _ (t : Turn) (z : Endless) (e : Held) (to : ℕ) (b : Belongs t (Op.Past 
   pub going_window : s.window ≡ z.window
   going_window = state.0
 
-  -- it may pass up to the time
+  -- the window may pass up to the time
   pub going : (from : Rational) × (from ≡ from_of t) × CanPass (scope_of t z e to b (value s.at)) (own t z e to b) from (whole (pos to)) s e
       × (pos (begin_of t) ≤ℤ front_at t.ended (pos t.now) (subformula t.nodes z.window.of))
   going = by_before t.before refl state.1
@@ -241,7 +241,7 @@ module _ (t : Turn) (z : Endless) (e : Held) (to : ℕ) (b : Belongs t (Op.Past 
           span = span (whole g) order tick begins;
         }
 
-    -- and it may begin now
+    -- the window that waited may begin now
     pub beginning : (from : Rational) × (from ≡ from_of t) × CanPass x (own t z e to b) from (whole (pos to)) s e
     beginning = by_told z.silent.last t.before refl k.told waited.1.short waited.1.stood b.forth
       where

@@ -66,21 +66,21 @@ module _ {old mid new : Held} {i : ℕ} {v w : MarginLine} (two : TakesTwo old m
 
   -- behind a gap its point was taken
   module _ {P : Function} {reach : ℕ} {at to : Rational} (g : FirstGap P reach at to (held_at old i)) where
-    -- it is the point at the gap's end
+    -- the second line that was taken is the point at the gap's end
     pub is_point : w ≡ Point g.u g.v
     is_point =
         let e : slice_get (drop 1 (Gap g.a g.b g.p ∷ Point g.u g.v ∷ g.rest)) 0 ≡ Some w =
         subst (λ (l : List MarginLine). slice_get (drop 1 l) 0 ≡ Some w) g.is second_held in
         let f : Some (Point g.u g.v) ≡ Some w = e in sym (some_is f)
 
-    -- the first is the gap
+    -- the first line that was taken is the gap
     pub is_gap : v ≡ Gap g.a g.b g.p
     is_gap =
         let e : slice_get (Gap g.a g.b g.p ∷ Point g.u g.v ∷ g.rest) 0 ≡ Some v =
         subst (λ (l : List MarginLine). slice_get l 0 ≡ Some v) g.is two.first in
         let f : Some (Gap g.a g.b g.p) ≡ Some v = e in sym (some_is f)
 
-    -- and the rest goes on
+    -- the edge then holds the lines behind the point
     pub is_rest : held_at new i ≡ g.rest
     is_rest = two_held ∙ ap (λ (l : List MarginLine). drop 1 (drop 1 l)) g.is
 
@@ -111,12 +111,12 @@ module _ (x : Source) where
         (there_at (Robustness x.formula x.trace) x.reach (robust_is_function x.formula x.trace) g.u g.v t g.point g.point_fit
         (same_trans (same_sym g.ends) at_end))
 
-    -- and goes on from there
+    -- the input goes on from the point
     pub read_ahead : IsAhead (Robustness x.formula x.trace) x.reach t x.to (held_at new i)
     read_ahead = subst (λ (l : List MarginLine). IsAhead (Robustness x.formula x.trace) x.reach t x.to l) (sym (is_rest two g))
         (ahead_next (Robustness x.formula x.trace) x.reach (robust_is_function x.formula x.trace) x.at x.to (held_at old i) g t at_end)
 
-    -- what was read is gone
+    -- the lines that were read are gone
     pub read_lost : LosesAt t i old new
     read_lost = two_lost two t (le_of_same end)
         (subst (λ (m : MarginLine). value (end_of m) ≤ʳ t) (sym (is_point two g)) (le_of_same (same_trans (same_sym g.ends) at_end)))
@@ -135,7 +135,7 @@ module _ (x : Source) where
         (there_in (Robustness x.formula x.trace) x.reach (robust_is_function x.formula x.trace) h.0.a h.0.b h.0.p t h.0.gap h.0.gap_fit
         (lt_of_le_of_lt h.0.begun read.after) before_end)
 
-    -- and goes on
+    -- the input goes on within the gap
     pub gap_ahead : IsAhead (Robustness x.formula x.trace) x.reach t x.to lines
     gap_ahead = ahead_on (Robustness x.formula x.trace) x.reach (robust_is_function x.formula x.trace) x.at x.to lines read.ahead h.0 t
         (le_of_lt read.after) before_end
@@ -148,11 +148,11 @@ module _ {P : Function} {reach : ℕ} {from to : Rational} {lines : List MarginL
       let e : slice_get (Point b.at b.v ∷ b.rest) 0 ≡ Some v = subst (λ (l : List MarginLine). slice_get l 0 ≡ Some v) b.is first in
       let f : Some (Point b.at b.v) ≡ Some v = e in sym (some_is f)
 
-  -- and its rest behind
+  -- behind that point the input's lines are the rest
   pub begun_rest : drop 1 lines ≡ b.rest
   begun_rest = ap (λ (l : List MarginLine). drop 1 l) b.is
 
-  -- it holds a line
+  -- the edge of an input that begins holds a line
   pub begun_some : slice_get lines 0 ≡ None → ⊥
   begun_some none =
       let e : slice_get (Point b.at b.v ∷ b.rest) 0 ≡ None = subst (λ (l : List MarginLine). slice_get l 0 ≡ None) b.is none in

@@ -63,7 +63,7 @@ pub lines_false : (s : List (Knot Margin)) → lines_of false s ≡ later_lines 
 lines_false [] = refl
 lines_false (k ∷ knots) = refl
 
--- with it its point stands before them
+-- with the first knot its point stands before the later lines
 pub lines_true : (s : List (Knot Margin)) (k : Knot Margin) → slice_get s 0 ≡ Some k → lines_of true s ≡ (Point k.time k.point ∷ []) ++ later_lines s
 lines_true [] k at = absurd (let e = at in cc)
 lines_true (x ∷ xs) k at = ap (λ z. Point z.time z.point ∷ lines_after x xs) (some_is at)

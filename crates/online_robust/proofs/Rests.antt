@@ -18,7 +18,7 @@ use Rattle.online_robust.specs.Turns.{AreInputs, AreLeft, IsInput, back_of, IsCu
 use Rattle.online_robust.specs.Pasts.{IsRest}
 use Rattle.online_robust.specs.declared.line.MarginLine.{MarginLine}
 use Rattle.online_robust.specs.declared.line.MarginLine.TheVariants.{Point, Gap}
-use Rattle.online_robust.proofs.DroppingLemmas.{drop-drop}
+use Rattle.online_nodes.proofs.DroppingLemmas.{drop-drop}
 
 -- ---- dropping
 
@@ -34,18 +34,18 @@ told_drop F zero lines told = told
 told_drop F (suc n) [] told = tt
 told_drop F (suc n) (x ∷ lines) told = told_drop F n lines told.1
 
--- within the limits
+-- what is left of lines within the limits keeps within them
 pub fit_drop : (reach n : ℕ) (lines : List MarginLine) → AreFit reach lines → AreFit reach (drop n lines)
 fit_drop reach zero lines fit = fit
 fit_drop reach (suc n) [] fit = tt
 fit_drop reach (suc n) (x ∷ lines) fit = fit_drop reach n lines fit.1
 
--- lines that tell tell together
+-- two lists of lines that tell a function tell it together
 pub told_append : (F : Function) (a b : List MarginLine) → AreTold F a → AreTold F b → AreTold F (a ++ b)
 told_append F [] b h k = k
 told_append F (x ∷ a) b h k = (h.0, told_append F a b h.1 k)
 
--- within the limits
+-- two lists of lines within the limits keep within them together
 pub fit_append : (reach : ℕ) (a b : List MarginLine) → AreFit reach a → AreFit reach b → AreFit reach (a ++ b)
 fit_append reach [] b h k = k
 fit_append reach (x ∷ a) b h k = (h.0, fit_append reach a b h.1 k)
@@ -58,7 +58,7 @@ joined_from from other to (Gap a b p ∷ Gap c d q ∷ lines) e h = absurd h
 joined_from from other to (Gap a b p ∷ Point u v ∷ lines) e h = (same_trans h.0 e, h.1, h.2)
 joined_from from other to (Point u v ∷ lines) e h = absurd h
 
--- and go on, the second from the first
+-- lines that go on from lines go on from where those begin
 pub joined_append : (from mid to : Rational) (a b : List MarginLine) → AreJoined from mid a → AreJoined mid to b → AreJoined from to (a ++ b)
 joined_append from mid to [] b h k = joined_from mid from to b (same_sym h) k
 joined_append from mid to (Gap a c p ∷ []) b h k = absurd h
@@ -145,7 +145,7 @@ input_rest F reach start before k f lines rest input is = by_test (int_lt f (pos
 
 -- ---- dropping once more
 
--- an item behind those that were dropped
+-- an item behind those that were dropped stands so many places further on
 pub slice_get-drop-at : {X : Type 0} (n : ℕ) (xs : List X) (k : ℕ) → slice_get (drop n xs) k ≡ slice_get xs (n + k)
 slice_get-drop-at zero xs k = ap (slice_get xs) (omega arith)
 slice_get-drop-at (suc n) [] k = refl
@@ -198,7 +198,7 @@ fit_line_more : (a b : ℕ) (x : MarginLine) → a ≤ b → IsFitLine a x → I
 fit_line_more a b (Point at v) le (t, v', m) = (t, v', moved_more a b v le m)
 fit_line_more a b (Gap from to p) le (s, t, v, w, m) = (s, t, v, w, moved_more a b p le m)
 
--- wider limits hold too
+-- lines within some limits keep within wider ones
 pub fit_more : (a b : ℕ) (lines : List MarginLine) → a ≤ b → AreFit a lines → AreFit b lines
 fit_more a b [] le fit = tt
 fit_more a b (x ∷ lines) le fit = (fit_line_more a b x le fit.0, fit_more a b lines le fit.1)

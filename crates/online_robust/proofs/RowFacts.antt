@@ -35,13 +35,13 @@ module _ (header : Header) where
   number_here p ended [] is = absurd is.rows
   number_here p ended (r ∷ rows) is = refl
 
-  -- and what it shows
+  -- rows give what a node shows
   pub shown_here : (p : Subformula) (ended : Bool) (rows : List Row) → Rows rows
       → shown_by ended p rows ≡ shown_number (first_time rows) (front_at ended (pos (last_time 0 rows)) p)
   shown_here p ended [] is = absurd is.rows
   shown_here p ended (r ∷ rows) is = refl
 
-  -- and its lines tell its margin in each trace that goes on
+  -- a node's lines tell its margin in each trace that goes on from the rows
   pub told_here : (nodes : List Node) (ended : Bool) (i : ℕ) (rows : List Row) (lines : List MarginLine) → Rows rows
       → AreToldOver nodes header ended i rows lines
       → (tr : Trace) → IsTrace tr → Continues tr header rows ended
@@ -50,12 +50,12 @@ module _ (header : Header) where
   told_here nodes ended i [] lines is told = absurd is.rows
   told_here nodes ended i (r ∷ rows) lines is told = told
 
-  -- such a trace has the first time
+  -- a trace that goes on from the rows has their first time
   pub first_goes_on : (tr : Trace) (ended : Bool) (rows : List Row) → Rows rows → Continues tr header rows ended → first_time tr.rows ≡ first_time rows
   first_goes_on tr ended [] is c = absurd is.rows
   first_goes_on tr ended (r ∷ rows) is c = ap first_time c.begins
 
-  -- and ends no earlier
+  -- a trace that goes on from the rows ends no earlier
   pub last_goes_on : (tr : Trace) (ended : Bool) (rows : List Row) → Rows rows → IsTrace tr → Continues tr header rows ended
       → last_time 0 rows ≤ last_time 0 tr.rows
   last_goes_on tr ended [] is trace c = absurd is.rows
@@ -65,7 +65,7 @@ module _ (header : Header) where
       let same : last_time 0 tr.rows ≡ last_time r.time (rows ++ c.more) = ap (last_time 0) c.begins in
       omega (arith, le, same)
 
-  -- with the end it ends there
+  -- a trace that goes on from the rows and their end ends with them
   pub last_at_end : (tr : Trace) (rows : List Row) → Continues tr header rows true → last_time 0 rows ≡ last_time 0 tr.rows
   last_at_end tr rows c = sym (ap (last_time 0) (c.begins ∙ ap (λ l. rows ++ l) (c.whole_input refl) ∙ append-nil rows))
 

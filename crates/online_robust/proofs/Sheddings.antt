@@ -9,7 +9,7 @@ use Rattle.online_robust.specs.Held.{Held, held_at}
 use Rattle.online_robust.specs.Lines.{end_of}
 use Rattle.online_robust.specs.Windows.{Sheds}
 use Rattle.online_robust.specs.declared.line.MarginLine.{MarginLine}
-use Rattle.online_robust.proofs.DroppingLemmas.{drop-drop}
+use Rattle.online_nodes.proofs.DroppingLemmas.{drop-drop}
 use Rattle.online_robust.proofs.Losses.{ended_later}
 
 slice_get-drop_at : (n k : ℕ) (xs : List MarginLine) → slice_get (drop n xs) k ≡ slice_get xs (n + k)

@@ -32,7 +32,7 @@ after_parts k (n ∷ ks) =
     ap (λ l. gap (time k) (time n) (value_at (margin_shape.function k.after) (time k)) (value_at (margin_shape.function k.after) (time n))
     ∷ point (time n) (value_at (margin_shape.function n.point) (time n)) ∷ l) (after_parts n ks)
 
--- with its point they are all parts
+-- the lines behind a knot, with its point, are all its parts
 pub all_parts : (k : Knot Margin) (ks : List (Knot Margin)) → map part_of (lines_of true (k ∷ ks)) ≡ parts_of (knots_of margin_shape (k ∷ ks))
 all_parts k ks = ap (λ l. point (time k) (value_at (margin_shape.function k.point) (time k)) ∷ l) (after_parts k ks)
 
@@ -72,7 +72,7 @@ module _ (F : Function) (from to : Rational) where
     tick : (t : Rational) → Within from to t → IsTick t
     tick t w = (le_trans first.0 w.above, le_trans w.below last.1)
 
-    -- within the limits
+    -- the later lines keep within the limits
     pub fit_after : (k : Knot Margin) (ks : List (Knot Margin)) → AreWorth F from to (k ∷ ks) → IsLimited margin_shape (k ∷ ks)
         → ((p : Margin) → HasShape (k ∷ ks) p → IsMovedBy reach p) → AreFit reach (lines_after k ks)
     fit_after k [] worth limited moved = tt
@@ -86,13 +86,13 @@ module _ (F : Function) (from to : Rational) where
           ),
         )
 
-    -- and so does the first
+    -- the first line and the later ones keep within the limits
     pub fit_first : (k : Knot Margin) (ks : List (Knot Margin)) → AreWorth F from to (k ∷ ks) → IsLimited margin_shape (k ∷ ks)
         → ((p : Margin) → HasShape (k ∷ ks) p → IsMovedBy reach p) → AreFit reach (lines_of true (k ∷ ks))
     fit_first k ks worth limited moved =
         ((tick (time k) (at_first k ks worth).0, limited.0.point, moved k.point (inl refl)), fit_after k ks worth limited moved)
 
--- they go on to the signal's end
+-- the later lines go on to the signal's end
 pub joined_after : (to : Rational) (k : Knot Margin) (ks : List (Knot Margin)) → knots.stop (k ∷ ks) ≈ to → AreJoined (time k) to (lines_after k ks)
 joined_after to k [] ends = ends
 joined_after to k (n ∷ ks) ends = (same_refl (time k), same_refl (time n), joined_after to n ks ends)
@@ -127,7 +127,7 @@ module _ (p : Subformula) (tr : Trace) where
       → TellsAfter p tr to (plain_knot margin_shape k) (pieces_of margin_shape k (n ∷ ks))
   tells_after to k n ks each told ends = (inside k n ks told, told.1.0, goes_on to k n ks each told.1.1 ends)
 
-  -- and so do all
+  -- all parts of a signal's lines tell the margin
   pub tells_closed : (from to : Rational) (k : Knot Margin) (ks : List (Knot Margin)) → Each (IsKnot margin_shape) (k ∷ ks)
       → AreTold (Robustness p tr) (lines_of true (k ∷ ks)) → time k ≈ from → knots.stop (k ∷ ks) ≈ to
       → TellsClosed p tr from to (knots_of margin_shape (k ∷ ks))

@@ -219,7 +219,7 @@ module _ (nodes : List Node) (header : Header) (net : Parts) (past : Past) (give
     row_may e now same is =
         subst (λ x. CanGoByRow passing_row x net.stations net.bound net.last r) (sym (is ∙ ap (begun net.edges net.last) same)) can_row
 
-    -- and then the network stands for the rows with it
+    -- once all nodes have gone on by the row the network stands for the rows with it
     pub row_stands : (e : Held) (stations : List Station) (kept : Row) → kept ≡ r → HasGone passing_row e stations
         → StandsFor nodes header (record { edges = e; stations = stations; bound = net.bound; last = Some kept; closed = net.closed; stopped = net.stopped })
         (with_row past r) given
@@ -286,7 +286,7 @@ module _ (nodes : List Node) (header : Header) (net : Parts) (past : Past) (give
       record { last = has_rows.last; new = refl },
     )
 
-    -- and then the network stands for the rows and the end
+    -- once all nodes have gone on to the end the network stands for the rows and the end
     pub end_stands : (e : Held) (stations : List Station) → HasGone passing_end e stations
         → StandsFor nodes header
         (record { edges = e; stations = stations; bound = net.bound; last = net.last; closed = true; stopped = net.stopped }) (with_end past) given

@@ -43,7 +43,7 @@ module _ (m : Move) (node : ℕ) (op : Operator) (e : Held) (to : ℕ) (with_fir
   pub swept_fault : (f : OpFault Margin) → ((t : Turn) → Belongs t op e to → IsStreamedFault t f) → IsFaultOf m f
   swept_fault f h = h (turn_of m (trace_of m.header m.new)) (belongs_now m node op e to with_first g)
 
-  -- the node has an edge after the sweep
+  -- the node has an edge after its operator went on
   pub swept_edge : (e' : Held) → ((t : Turn) → Belongs t op e to → HasSwept t e e' to) → node < length e'.edges
   swept_edge e' h =
       let count = (h swept_turn.0 swept_turn.1).edges in
@@ -52,7 +52,7 @@ module _ (m : Move) (node : ℕ) (op : Operator) (e : Held) (to : ℕ) (with_fir
       let place = g.place in
       omega (arith, count, all, within, place)
 
-  -- what it told is put on its edge
+  -- what the operator told is put on the node's edge
   pub given_out : (s : List (Knot Margin)) (op' : Operator) (e' e'' e3 : Held) → ((t : Turn) → Belongs t op e to → IsSwept t to s)
       → ((t : Turn) → Belongs t op e to → HasSwept t e e' to) → ((t : Turn) → Belongs t op e to → StandsNow t op' e' to)
       → HasPut node (lines_of with_first s) e' e'' → e3 ≡ record e'' { edges = with_edge e'' node (with_number (edge_at e'' node) (pos to)) }
@@ -87,7 +87,7 @@ module _ (m : Move) (node : ℕ) (op : Operator) (e : Held) (number : ℤ) (g : 
       let place = g.0 in
       omega (arith, all, within, place)
 
-  -- its number is small
+  -- the node's number is small
   pub go_small : number ≤ℤ pos 4294967295
   go_small =
       let is : number ≡ front_at m.new.ended (pos (last_time 0 m.new.rows)) p = some_is (sym g.2 ∙ number_here m.header p m.new.ended m.new.rows can.trace) in
@@ -270,7 +270,7 @@ module _ (m : Move) (node : ℕ) (st : Station) (e : Held) (now : ℕ) (g : CanM
       let can : CanMove m (W.Const c) e = subst (λ w. CanMove m w e) is can_end in
       end_leaf (ap horizon (tree_at_node m.nodes can.nodes.formed m.place (Const c) (can.at ∙ ap Some can.work))) (W.Const c) is
 
-  -- nor has an atom
+  -- an atom has nothing more to give out at the end
   pub end_atom : st.work ≡ W.Atom → HasMoved m W.Atom e e
   end_atom is =
       let can : CanMove m W.Atom e = subst (λ w. CanMove m w e) is can_end in

@@ -156,7 +156,7 @@ module _ (nodes : List Node) (header : Header) (past : Past) (i : ℕ) (given mo
           (front_at past.ended (pos (last_time r.time rows)) (subformula nodes i))
           (told tr is c)).told
 
-  -- and comes as soon as it may
+  -- the line comes as soon as it may
   pub line_timely : AreRowsSoFar header past.rows → IsTimely x
   line_timely rows = by_rows past.rows gave.told rows
     where

@@ -127,7 +127,7 @@ module _ (x : Couple) (op : Two) where
   pub join_stood : (e : Held) (r : _) → CanJoin x op e → op.last ≡ Some r → HasReached (both_of x op) x.reach x.from (Some r)
   join_stood e r can is = subst (HasReached (both_of x op) x.reach x.from) is can.last
 
-  -- and both inputs go on from there
+  -- both inputs go on from where a connective has told
   pub join_stood_to : (e : Held) (r : _) → CanJoin x op e → op.last ≡ Some r → IsJoinedTo x op e (value r.at)
   join_stood_to e r can is =
       let reached = join_stood e r can is in
@@ -142,11 +142,11 @@ module _ (x : Couple) (op : Two) where
         right = subst (IsReady (Robustness x.right x.trace) x.reach x.from x.right_to (held_at e op.right)) is can.right;
       }
 
-  -- one that has not finds the left input from the start on
+  -- a connective that has told nothing finds the left input from the start on
   pub left_begins : (e : Held) → CanJoin x op e → op.last ≡ None → Begins (Robustness x.left x.trace) x.reach x.from x.left_to (held_at e op.left)
   left_begins e can none = subst (IsReady (Robustness x.left x.trace) x.reach x.from x.left_to (held_at e op.left)) none can.left
 
-  -- and the right one
+  -- a connective that has told nothing finds the right input from the start on
   pub right_begins : (e : Held) → CanJoin x op e → op.last ≡ None → Begins (Robustness x.right x.trace) x.reach x.from x.right_to (held_at e op.right)
   right_begins e can none = subst (IsReady (Robustness x.right x.trace) x.reach x.from x.right_to (held_at e op.right)) none can.right
 
@@ -160,7 +160,7 @@ module _ (x : Couple) (op : Two) where
     pub mid_right : held_at mid op.right ≡ held_at old op.right
     mid_right = ap held_of (lost_left.others op.right (λ e. can.apart (sym e)))
 
-    -- and there are as many edges
+    -- there are as many edges once the left one was read
     pub mid_count : length mid.edges ≡ length old.edges
     mid_count = lost_left.edges
 
@@ -176,11 +176,11 @@ module _ (x : Couple) (op : Two) where
     left_there = subst (λ (m : MarginLine). IsThere (Robustness x.left x.trace) x.reach (value (end_of m)) (margin_of m))
         (sym is_v) (left_begins old can none).there
 
-    -- at the start
+    -- the first point of the left input is at the start
     pub left_when : value (end_of v) ≈ x.from
     left_when = subst (λ (m : MarginLine). value (end_of m) ≈ x.from) (sym is_v) (left_begins old can none).when
 
-    -- which is a tick
+    -- the start is a tick
     pub left_tick : IsTick (value (end_of v))
     left_tick = subst (λ (m : MarginLine). IsTick (value (end_of m))) (sym is_v) (left_begins old can none).tick
 
@@ -194,7 +194,7 @@ module _ (x : Couple) (op : Two) where
       together : value (end_of w) ≈ value (end_of v)
       together = same_trans (subst (λ (m : MarginLine). value (end_of m) ≈ x.from) (sym is_w) (right_begins old can none).when) (same_sym left_when)
 
-      -- and so does the right one
+      -- the right input begins with that point
       pub right_there : IsThere (Robustness x.right x.trace) x.reach (value (end_of v)) (margin_of w)
       right_there = there_same (Robustness x.right x.trace) x.reach (value (end_of w)) (value (end_of v)) (margin_of w)
           (robust_is_function x.right x.trace) together
@@ -207,7 +207,7 @@ module _ (x : Couple) (op : Two) where
         lost_first = lost_both can.apart lost_left
             (took (value (end_of v)) op.right mid new w (omega (arith, can.right_in, mid_count)) taken_too start_new second (le_of_same together))
 
-        -- and both inputs go on from there
+        -- both inputs go on from the first point
         pub join_first : IsJoinedTo x op new (value (end_of v))
         join_first = record {
           span = can.span;
@@ -251,7 +251,7 @@ module _ (x : Couple) (op : Two) where
         let g = first_gap (Robustness x.left x.trace) x.reach at x.left_to (held_at e op.left) to.left (lt_of_lt_of_le more to.span.left) in
         absurd (let f : Some (Gap g.a g.b g.p) ≡ None = subst (λ (l : List MarginLine). slice_get l 0 ≡ None) g.is none in cc)
 
-    -- and the right one
+    -- the right edge holds a line
     pub right_some_too : slice_get (held_at e op.right) 0 ≡ None → ⊥
     right_some_too none =
         let g = first_gap (Robustness x.right x.trace) x.reach at x.right_to (held_at e op.right) to.right (lt_of_lt_of_le more to.span.right) in
@@ -264,11 +264,11 @@ module _ (x : Couple) (op : Two) where
       r : (g : FirstGap (Robustness x.right x.trace) x.reach at x.right_to (held_at e op.right)) × (q ≡ Gap g.a g.b g.p)
       r = first_of (Robustness x.right x.trace) x.reach at x.right_to (held_at e op.right) q to.right second
 
-      -- the left line ends behind
+      -- the left line ends behind the time that was reached
       pub left_later : at <ʳ value (end_of p)
       left_later = subst (λ (m : MarginLine). at <ʳ value (end_of m)) (sym l.1) l.0.later
 
-      -- and the right one
+      -- the right line ends behind the time that was reached
       pub right_later : at <ʳ value (end_of q)
       right_later = subst (λ (m : MarginLine). at <ʳ value (end_of m)) (sym r.1) r.0.later
 
@@ -277,7 +277,7 @@ module _ (x : Couple) (op : Two) where
       left_level = subst (λ (m : MarginLine). HasBoundedLevel (2 ^ 31) (margin_function (margin_of m))) (sym l.1)
           (level_bounded (2 ^ 31) (margin_function l.0.p) (value l.0.a) l.0.gap_fit.2)
 
-      -- and the right one
+      -- the right margin is bounded
       pub right_level : HasBoundedLevel (2 ^ 31) (margin_function (margin_of q))
       right_level = subst (λ (m : MarginLine). HasBoundedLevel (2 ^ 31) (margin_function (margin_of m))) (sym r.1)
           (level_bounded (2 ^ 31) (margin_function r.0.p) (value r.0.a) r.0.gap_fit.2)
@@ -286,7 +286,7 @@ module _ (x : Couple) (op : Two) where
       pub left_moved : IsMovedBy x.reach (margin_of p)
       left_moved = subst (λ (m : MarginLine). IsMovedBy x.reach (margin_of m)) (sym l.1) l.0.gap_fit.4
 
-      -- and the right one
+      -- the right margin may be moved
       pub right_moved : IsMovedBy x.reach (margin_of q)
       right_moved = subst (λ (m : MarginLine). IsMovedBy x.reach (margin_of m)) (sym r.1) r.0.gap_fit.4
 
@@ -306,17 +306,17 @@ module _ (x : Couple) (op : Two) where
       -- the left input's margin as it counts
       module _ (m : Margin) (turned : (t : Rational) → value_at (margin_function m) t ≈ᵉ value_turned op.turned (value_at (margin_function (margin_of p)) t))
           (base : IsTrue (is_ramp m) → IsTrue (is_ramp (margin_of p)) × (margin_base m ≡ margin_base (margin_of p))) where
-        -- the left one, as it counts, has this margin up to its end
+        -- the left input, negated or not, has this margin up to its line's end
         pub counted_on : (t : Rational) → at <ʳ t → t <ʳ value (end_of p) → IsThere (left_of x op.turned) x.reach t m
         counted_on t a c = turned_there op.turned (Robustness x.left x.trace) x.reach t (margin_of p) m (robust_is_function x.left x.trace) (left_on t a c)
             (turned t) base
 
-        -- which is bounded
+        -- the margin of the left input, negated or not, is bounded
         pub counted_level : HasBoundedLevel (2 ^ 31) (margin_function m)
         counted_level = level_bounded (2 ^ 31) (margin_function m) (middle at (value (end_of p)))
             (counted_on (middle at (value (end_of p))) (left_of_middle left_later) (right_of_middle left_later)).bounded
 
-        -- and may be moved
+        -- the margin of the left input, negated or not, may be moved
         pub counted_moved : IsMovedBy x.reach m
         counted_moved = moved_as x.reach (margin_of p) m base left_moved
 

@@ -215,7 +215,7 @@ module _ (t : Turn) (z : Lazy) (e : Held) (to : ℕ) (b : Belongs t (Op.Sweep z)
             (subst (λ k. IsCut (back_of (begin_of t) (Some (pos to)) k) (edge_at e z.window.of) (edge_at e' z.window.of)
             × ((edge_at e' z.window.of).number ≡ (edge_at e z.window.of).number)) (sym (here t z e to b).back) (cut, loses_number lost.here))))
 
-    -- and the operator stands there
+    -- a window that waits stands at the time of the turn
     pub wait_stands : (z' : Lazy) (e' : Held) → z' ≡ record z { silent = z'.silent }
         → z'.silent ≡ record z.silent { last = z'.silent.last } → IsSome z'.silent.last
         → HasReached (glance_of silence z.silent) (reach_before t + own t z e to b) end z'.silent.last

@@ -1,4 +1,5 @@
--- From what an operator needs before it goes on to what a window needs without a low end needs whose input has given out nothing, and back from what it leaves.
+-- From what an operator needs before it goes on to what a window without a low end needs whose input has given out nothing, and
+-- back from what it leaves.
 use Rattle.std.proofs.Common.{◌≡◌, ◌⊎◌, inl, inr, ℕ, zero, suc, ◌+◌, ◌<◌, ◌≤◌, Bool, true, false, List, [], ◌∷◌}
 use Rattle.std.proofs.Common.{drop, refl, sym, ap, subst, ◌∙◌, arith, Option, Some, None, ℤ, pos, ◌+ℤ◌, ◌<ℤ◌}
 use Rattle.std.specs.Prelude.{MatchOption, IsSome, int_lt, cond, slice_get}
@@ -212,7 +213,7 @@ module _ (t : Turn) (z : Endless) (e : Held) (to : ℕ) (b : Belongs t (Op.Past 
             (subst (λ k. IsCut (back_of (begin_of t) (Some (pos to)) k) (edge_at e z.window.of) (edge_at e' z.window.of)
             × ((edge_at e' z.window.of).number ≡ (edge_at e z.window.of).number)) (sym (here t z e to b).back) (cut, loses_number lost.here))))
 
-    -- and the operator stands there
+    -- a window that waits stands at the time of the turn
     pub wait_stands : (z' : Endless) (e' : Held) → z' ≡ record z { silent = z'.silent }
         → z'.silent ≡ record z.silent { last = z'.silent.last } → IsSome z'.silent.last
         → HasReached (glance_of silence z.silent) (reach_before t + own t z e to b) end z'.silent.last

@@ -87,7 +87,7 @@ pub told_tail : (P : Function) (xs ys : List MarginLine) → AreTold P (xs ++ ys
 told_tail P [] ys h = h
 told_tail P (x ∷ xs) ys h = told_tail P xs ys h.1
 
--- within the limits
+-- the later of lines within the limits keep within them
 pub fit_tail : (reach : ℕ) (xs ys : List MarginLine) → AreFit reach (xs ++ ys) → AreFit reach ys
 fit_tail reach [] ys h = h
 fit_tail reach (x ∷ xs) ys h = fit_tail reach xs ys h.1

@@ -69,7 +69,7 @@ frozen_bounded Q reach side limit from low (k ∷ marks) cs runs (inr (knot, (d,
     by_one (inr rest) go = go rest
 
 module _ (x : Scope) (s : Sweep) (e : Held) (at : IsAt x s e) where
-  -- so is the best of the constants
+  -- the best of the constants is bounded
   pub top_bounded : (top : Margin)
       → ((cs : List Margin) → StandsFor margin_function s.among.older.items s.among.newer.items s.among.side s.among.best cs
       → IsTopOf margin_function s.among.side s.none cs top) → (t : Rational) → IsBounded (2 ^ 31) (value_at (margin_function top) t)
@@ -82,14 +82,14 @@ module _ (x : Scope) (s : Sweep) (e : Held) (at : IsAt x s e) where
           (bounded_same (2 ^ 31) (value_at (margin_function s.none) t) (none_of s.window.side minus_infinity infinity) (at.spread.none_value t)
           (none_bounded s.window.side))
 
-  -- and the margin under the low end
+  -- the margin under the low end is bounded
   pub low_bounded : (u : Rational) → low_at x s.window ≤ʳ shifted u s.window.low → IsUpTo (shifted u s.window.low) s.place.low.until
       → IsBounded (2 ^ 31) (value_at (margin_function s.place.low.shape) (shifted u s.window.low))
   low_bounded u later up =
       (runs_on (input_of x s.window.side) x.reach at.spread.from s.place.low at.spread.marks at.spread.runs).bounded (shifted u s.window.low)
       (le_trans at.spread.begun later) up
 
-  -- and that under the high end
+  -- the margin under the high end is bounded
   pub high_bounded : low_at x s.window ≤ʳ high_at x s.window → (u : Rational) → high_at x s.window ≤ʳ shifted u s.window.high
       → IsUpTo (shifted u s.window.high) s.place.high.until
       → IsBounded (2 ^ 31) (value_at (margin_function s.place.high.shape) (shifted u s.window.high))
@@ -150,7 +150,7 @@ frozen_still side limit low (k ∷ marks) cs (inr (knot, (d, others, is, frozen,
     by_one (inl e) go = subst (λ (m : Margin). is_ramp m ≡ false) (sym e) frozen.still
     by_one (inr rest) go = go rest
 
--- and may be moved
+-- the best of the constants may be moved
 pub top_moved : (x : Scope) (s : Sweep) (e : Held) → IsAt x s e → (top : Margin)
     → ((cs : List Margin) → StandsFor margin_function s.among.older.items s.among.newer.items s.among.side s.among.best cs
     → IsTopOf margin_function s.among.side s.none cs top) → IsMovedBy x.reach top

@@ -329,7 +329,7 @@ module _ (x : Scope) (side : Side) where
       ends = precedes_of_lt w.high_in r (shifted tau w.high) b;
     }
 
-    -- moved under the low end it is in play
+    -- the gap's margin, moved under the low end, is in play
     pub low_in_play : (p : Margin) → IsShifted gap.shape w.low p → from <ʳ shifted tau w.low → IsBefore (shifted tau w.low) gap.until
         → IsInPlayOver x w tau p
     low_in_play p moved above before v is =
@@ -341,7 +341,7 @@ module _ (x : Scope) (side : Side) where
         let under : r <ʳ c.0 = right_of_middle c.1 in
         ((r, in_window r after (lt_of_lt_of_le under c.3) (inside r (lt_trans above after) (lt_of_lt_of_le under c.2))), inl part)
 
-    -- and so under the high end
+    -- the gap's margin, moved under the high end, is in play
     pub high_in_play : (p : Margin) → IsShifted gap.shape w.high p → from <ʳ shifted tau w.high → IsBefore (shifted tau w.high) gap.until
         → IsInPlayOver x w tau p
     high_in_play p moved above before v is =

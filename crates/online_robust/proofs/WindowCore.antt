@@ -78,7 +78,7 @@ module _ (x : Scope) (w : Window) (none : Margin) (low high : Gap) (l h : Ration
   top_bounded top (inr b) t = subst (λ (m : Margin). IsBounded (2 ^ 31) (value_at (margin_function m) t)) (sym b.1)
       (bounded_same (2 ^ 31) (value_at (margin_function none) t) (none_of w.side minus_infinity infinity) (s.none_value t) (none_bounded w.side))
 
-  -- and may be moved
+  -- the best of the constants may be moved
   pub top_moved : (top : Margin) → IsTopOf margin_function w.side none s.constants top → IsMovedBy x.reach top
   top_moved top (inl b) = still_moved x.reach top
       (frozen_still w.side (shifted (start x.trace) w.low) low s.marks s.constants s.frozen top b.one)
@@ -87,7 +87,7 @@ module _ (x : Scope) (w : Window) (none : Margin) (low high : Gap) (l h : Ration
 -- both ends stand within their gaps and go on to a stop
 module _ (x : Scope) (w : Window) (none : Margin) (low high : Gap) (a : Rational)
     (s : IsCore x w none low high (shifted a w.low) (shifted a w.high)) (to t : Rational) (g : IsStep w low high a to t) where
-  -- the next stop is later
+  -- the next stop is later than the window's time
   pub later : a <ʳ t
   later = by_one g.one
     where
@@ -213,7 +213,7 @@ module _ (x : Scope) (w : Window) (none : Margin) (low high : Gap) (a : Rational
         (high_is : IsPointOf (input_of x w.side) x.reach w.high_in w.high high t at_high)
         (low_is : IsPointOf (input_of x w.side) x.reach w.low_in w.low low t at_low) (m : Margin)
         (outcome : IsOutcome w.side best.top best.low best.high at_high at_low t m) (no_far : w.low ≡ neg_ℤ (pos 4294967296) → at_low ≡ None) where
-      -- it tells the best there
+      -- at the stop the window tells the best
       pub there : start x.trace ≤ʳ t → best_of x w t (value_at (margin_function m) t)
       there from =
           let (low_shape, is_low, low_shifted) = some_and (IsShifted low'.shape w.low) best.low lows in
@@ -241,7 +241,7 @@ module _ (x : Scope) (w : Window) (none : Margin) (low high : Gap) (a : Rational
       by_low own v moved is here (inl (from, to)) = shifted_moved x.reach own v w.low m moved is from to
       by_low own v moved is here (inr far) = absurd (let z : ◌≡◌ {A = Option Margin} None (Some m) = sym (no_far far) ∙ here in cc)
 
-      -- within the limits
+      -- what the window tells at the stop keeps within the limits
       pub there_fit : IsBounded (2 ^ 31) (value_at (margin_function m) t) × ((own : ℕ) → IsOwned w own → IsMovedBy (x.reach + own) m)
       there_fit = by_one outcome.one
         where

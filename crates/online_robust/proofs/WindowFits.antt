@@ -12,19 +12,19 @@ use Rattle.online_robust.specs.Windows.{IsFitWindow}
 use Rattle.online_robust.specs.declared.window.Window.{Window}
 
 module _ (w : Window) (reach : ℕ) (fit : IsFitWindow w reach) where
-  -- the low offset is not too far behind
+  -- the low offset lies no further behind than times may be moved
   pub low_from : neg_ℤ (pos (2 ^ 32)) ≤ℤ w.low
   low_from = omega (arith, ints, fit.low)
 
-  -- nor too far ahead
+  -- the low offset lies no further ahead than times may be moved
   pub low_to : w.low ≤ℤ pos (2 ^ 32)
   low_to = omega (arith, ints, fit.order, fit.high)
 
-  -- nor is the high one too far behind
+  -- the high offset lies no further behind than times may be moved
   pub high_from : neg_ℤ (pos (2 ^ 32)) ≤ℤ w.high
   high_from = omega (arith, ints, fit.order, fit.low)
 
-  -- nor too far ahead
+  -- the high offset lies no further ahead than times may be moved
   pub high_to : w.high ≤ℤ pos (2 ^ 32)
   high_to = omega (arith, ints, fit.high)
 

@@ -66,7 +66,7 @@ pub before_of_end : {t e : Rational} (until : Option Frac) → EndsAt until e �
 before_of_end None h k = absurd h
 before_of_end (Some u) h k = lt_of_lt_of_le k (le_of_same h)
 
--- and is up to it
+-- what is before an end is also up to it
 pub up_to_before : (t : Rational) (until : Option Frac) → IsBefore t until → IsUpTo t until
 up_to_before t None h = tt
 up_to_before t (Some e) h = le_of_lt h

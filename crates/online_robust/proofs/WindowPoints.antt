@@ -110,7 +110,7 @@ module _ (x : Scope) (s : Sweep) (e : Held) (at : IsAt x s e) (t : Rational) (he
     reaches = reaches;
   }
 
-  -- and so the low one
+  -- where the low gap does not end the low end lies before its end
   pub low_before : (EndsAt s.place.low.until (shifted t s.window.low) → ⊥) → IsBefore (low_at x s.window) s.place.low.until
   low_before apart = before_apart s.place.low.until (low_at x s.window) at.spread.low_later
       (λ ends. apart (subst (λ (z : Rational). EndsAt s.place.low.until (shifted z s.window.low)) here ends))
@@ -122,27 +122,27 @@ there_room Q reach t m k there small from to = base_room reach m k there.moved s
 
 -- an offset of a window as the program has it
 module _ (w : Window) (reach : ℕ) (fit : IsFitWindow w reach) where
-  -- the high offset is handed on as it is
+  -- the high offset is the same number once it was handed on as a word
   pub high_passed : to_z w64 (of_z w64 w.high) ≡ w.high
   high_passed = passed w.high (high_from w reach fit) (high_to w reach fit)
 
-  -- and the low one
+  -- the low offset is the same number once it was handed on as a word
   pub low_passed : to_z w64 (of_z w64 w.low) ≡ w.low
   low_passed = passed w.low (low_from w reach fit) (low_to w reach fit)
 
-  -- the high one is then not too far behind
+  -- the high offset that was handed on lies no further behind than times may be moved
   pub high_from_passed : neg_ℤ (pos (2 ^ 32)) ≤ℤ to_z w64 (of_z w64 w.high)
   high_from_passed = subst (λ z. neg_ℤ (pos (2 ^ 32)) ≤ℤ z) (sym high_passed) (high_from w reach fit)
 
-  -- nor too far ahead
+  -- the high offset that was handed on lies no further ahead than times may be moved
   pub high_to_passed : to_z w64 (of_z w64 w.high) ≤ℤ pos (2 ^ 32)
   high_to_passed = subst (λ z. z ≤ℤ pos (2 ^ 32)) (sym high_passed) (high_to w reach fit)
 
-  -- nor is the low one too far behind
+  -- the low offset that was handed on lies no further behind than times may be moved
   pub low_from_passed : neg_ℤ (pos (2 ^ 32)) ≤ℤ to_z w64 (of_z w64 w.low)
   low_from_passed = subst (λ z. neg_ℤ (pos (2 ^ 32)) ≤ℤ z) (sym low_passed) (low_from w reach fit)
 
-  -- nor too far ahead
+  -- the low offset that was handed on lies no further ahead than times may be moved
   pub low_to_passed : to_z w64 (of_z w64 w.low) ≤ℤ pos (2 ^ 32)
   low_to_passed = subst (λ z. z ≤ℤ pos (2 ^ 32)) (sym low_passed) (low_to w reach fit)
 

@@ -82,11 +82,11 @@ module _ (x : Scope) (own : ℕ) (from to : Rational) (s : Sweep) (e : Held) (ca
   pub start_tick : IsTick (value s.start)
   start_tick = can.at.spread.tick
 
-  -- and that of the trace
+  -- the window's start is that of the trace
   pub start_is : value s.start ≈ start x.trace
   start_is = can.at.spread.begins
 
-  -- it does not lie behind the time
+  -- the start does not lie behind the time
   pub start_by : value s.start ≤ʳ to
   start_by = le_trans (le_of_same start_is) (le_trans can.span.begins can.span.order)
 
@@ -238,7 +238,7 @@ goes_on s s' s'' k g = record {
   last = g.last ∙ k.last;
 }
 
--- the window stays as it is
+-- a window that does not move stays as it is
 pub goes_none : (s : Sweep) → Goes s s
 goes_none s = record { window = refl; start = refl; none = refl; last = refl }
 

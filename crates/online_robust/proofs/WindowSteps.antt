@@ -96,7 +96,7 @@ module _ (x : Scope) (s : Sweep) (e : Held) (at : IsAt x s e) where
   pub low_moved : IsMovedBy x.reach s.place.low.shape
   low_moved = (runs_on (input_of x s.window.side) x.reach at.spread.from s.place.low at.spread.marks at.spread.runs).moved
 
-  -- and the high one's
+  -- the high gap's margin may be moved
   pub high_moved : IsMovedBy x.reach s.place.high.shape
   high_moved = subst (λ (g : Gap). IsMovedBy x.reach g.shape) (sym at.spread.last)
       (last_from (input_of x s.window.side) x.reach at.spread.from s.place.low at.spread.marks at.spread.runs).1.moved
@@ -111,7 +111,7 @@ module _ (x : Scope) (s : Sweep) (e : Held) (at : IsAt x s e) where
           let fit' : AreFit x.reach (L.Point p v ∷ rest) = subst (AreFit x.reach) is fit in
           tick_alike same fit'.0.0
 
-  -- and the low one
+  -- the low gap ends at a tick
   pub low_tick : IsTickEnd s.place.low.until
   low_tick = by_marks at.spread.marks at.spread.last at.spread.ticks at.spread.runs
     where
@@ -155,14 +155,14 @@ module _ (x : Scope) (s : Sweep) (e : Held) (at : IsAt x s e) (to : Rational) (o
     one = stop.one;
   }
 
-  -- the next stop is later
+  -- the next stop is later than the window's time
   pub later : x.at <ʳ t
   later = core_later x s.window s.none s.place.low s.place.high x.at core to t step
 
   behind_later : x.behind <ʳ t
   behind_later = subst (λ (z : Rational). z <ʳ t) (sym o.behind) later
 
-  -- and within the limits of times
+  -- the next stop keeps within the limits of times
   pub stop_within : IsWithin (2 ^ 34) t
   stop_within = (le_trans o.within.0 (le_of_lt later), le_trans stop.by o.to_within.1)
 
@@ -170,7 +170,7 @@ module _ (x : Scope) (s : Sweep) (e : Held) (at : IsAt x s e) (to : Rational) (o
   pub at_both : IsAt (at_time x t t) s e
   at_both = at_moved x s e at t t (le_shifted s.window.low (le_of_lt later)) stop.low (le_shifted s.window.high (le_of_lt behind_later)) stop.high
 
-  -- the window stands there
+  -- the window stands at the stop
   pub at_low : IsAt (at_time x t x.behind) s e
   at_low = at_moved x s e at t x.behind (le_shifted s.window.low (le_of_lt later)) stop.low (le_refl (high_at x s.window)) at.spread.high_later
 
@@ -199,7 +199,7 @@ module _ (x : Scope) (s : Sweep) (e : Held) (at : IsAt x s e) (to : Rational) (o
   module _ (s' : Sweep) (e' : Held) (at' : IsAt (at_time x t x.behind) s' e') (keeps : Keeps s s') (high_same : s'.place.high ≡ s.place.high)
       (before' : IsBefore (shifted t s'.window.low) s'.place.low.until)
       (stays : ¬ EndsAt s.place.low.until (shifted t s.window.low) → s' ≡ s) where
-    -- and behind it once its points are gone
+    -- the window stands behind the stop once its points are gone
     pub at_end : IsAt (at_time x t t) s' e'
     at_end = at_moved (at_time x t x.behind) s' e' at' t t (le_refl (shifted t s'.window.low)) at'.spread.low_later
         (le_shifted s'.window.high (le_of_lt behind_later))
@@ -261,7 +261,7 @@ module _ (x : Scope) (s : Sweep) (e : Held) (at : IsAt x s e) (to : Rational) (o
       low_stays : ¬ EndsAt s.place.low.until (shifted t s.window.low) → s'.place.low ≡ s.place.low
       low_stays apart = ap (λ (z : Sweep). z.place.low) (stays apart)
 
-      -- it tells the best there
+      -- at the stop the window tells the best
       pub there : start x.trace ≤ʳ t → best_of x s.window t (value_at (margin_function m) t)
       there = core_there x s.window s.none s.place.low s.place.high x.at core to t step s'.place.low now_at.0 now_before low_stays
           best now_at.1 now_low now_high
@@ -285,7 +285,7 @@ open_of x s s' to g keeps low_same before = record {
   high_before = before;
 }
 
--- two steps are one
+-- two steps of a window, one after the other, are one
 pub goes_both : (s s' s'' : Sweep) → Keeps s s' → Goes s' s'' → Goes s s''
 goes_both s s' s'' k g = record {
   window = g.window ∙ k.window;

@@ -130,7 +130,7 @@ module _ (x : Scope) (w : Window) (to t : Rational) (best : Best Margin) (reache
       le_of_here : {a b : Rational} → a ≡ b → a ≤ʳ b
       le_of_here {a} {b} e = subst (λ (z : Rational). a ≤ʳ z) e (le_refl a)
 
-  -- and is what the window tells there
+  -- the best at the stop is what the window tells there
   pub gone_there : (own : ℕ) → IsOwned w own → start x.trace ≤ʳ x.at → IsThere (best_of x w) (x.reach + own) (value reached.at) reached.value
   gone_there own is begun = subst (λ (z : Rational). IsThere (best_of x w) (x.reach + own) z reached.value) (sym gone.here)
       (record { told = gone.there (le_trans begun (le_of_lt gone.after)); bounded = gone.limited; moved = gone.moved_there own is })
@@ -148,7 +148,7 @@ module _ (x : Scope) (w : Window) (to t : Rational) (best : Best Margin) (reache
     gone_later old ends = subst (λ (z : Rational). last_of old <ʳ z) (sym gone.here)
         (lt_of_le_of_lt (le_of_same ends) (subst (λ (z : Rational). z <ʳ t) going.here gone.after))
 
-    -- and within the limits of times
+    -- the stop keeps within the limits of times
     pub gone_within : IsWithin (2 ^ 34) (value reached.at)
     gone_within = subst (IsWithin (2 ^ 34)) (sym gone.here) (le_trans going.within.0 (le_of_lt gone.after), le_trans gone.by going.to_within.1)
 

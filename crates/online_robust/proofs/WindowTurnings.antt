@@ -59,7 +59,7 @@ module _ (t : Turn) (z : Lazy) (e : Held) (to : ℕ) (b : Belongs t (Op.Sweep z)
   pub going_window : s.window ≡ z.window
   going_window = state.0
 
-  -- it may sweep up to the time
+  -- the window may sweep up to the time
   pub going : (from : Rational) × (from ≡ from_of t) × CanSweep (scope_of t z e to b (value s.place.at)) (own t z e to b) from (whole (pos to)) s e
       × (pos (begin_of t) ≤ℤ front_at t.ended (pos t.now) (subformula t.nodes z.window.of))
   going = by_before t.before refl state.1
@@ -305,7 +305,7 @@ module _ (t : Turn) (z : Lazy) (e : Held) (to : ℕ) (b : Belongs t (Op.Sweep z)
           (sym (back_none (Some g) short)) inputs_now)
           (of_in t z e to b) (told_far t z e to b) (here t z e to b).own (here t z e to b).aside
 
-    -- and it may begin now
+    -- the window that waited may begin now
     pub beginning : (from : Rational) × (from ≡ from_of t) × Result from z.window
     beginning = by_told z.silent.last t.before refl k.told waited.1.short waited.1.stood b.forth
       where

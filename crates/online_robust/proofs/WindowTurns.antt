@@ -43,7 +43,7 @@ better_some side p q other t m is one chosen =
     by_one (inl e) = inl e
     by_one (inr e) = inr (is ∙ ap (λ (n : Margin). Some n) (sym e))
 
--- without another the first is the better
+-- without a second the first is the better of two
 pub better_none : (side : Side) (p : Margin) (other : Option Margin) (t : Rational) → other ≡ None → IsBetterOf side p other t p
 better_none side p other t is = record {
   one = inl refl;

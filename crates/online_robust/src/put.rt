@@ -76,6 +76,7 @@ pub(crate) fn put_signal(
     ensures { OnOk result (HasPut node (lines_of with_first s.now) edges.old edges.new) }
 {
     if with_first {
+        // For the proof alone: that it is a signal is a clause of `len`.
         let _ = s.len();
         let first = s.knot(0);
         put_point(edges, node, first.time, first.point)?;

@@ -86,7 +86,7 @@ behind_in s T t a None i j x u h w = record {
 }
 behind_in s T t a (Some b) i j x u h w = record { inside = w.inside; begins = since_in i b x u w.begins; ends = into j a x u w.ends }
 
--- and one behind
+-- a time in a window from b behind to a behind is one of the window behind
 pub behind_out : (s : ℕ) (T t : Rational) (a : ℕ) (b : Option ℕ) (i j : Bool) (x u : Rational)
     → InWindow (whole (pos s)) T (low_of t b) (behind a) i j x u → Behind (whole (pos s)) T a b j i x u
 behind_out s T t a None i j x u w = record { inside = w.inside; begins = tt; ends = out_of j a x u w.ends }

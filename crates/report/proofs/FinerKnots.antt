@@ -27,12 +27,12 @@ use Rattle.report.proofs.KnotsChange.{Change}
 pub shrink-stretch : (K : ℕ) (p : 0 < K) (t : Rational) → shrink K p (stretch K t) ≈ t
 shrink-stretch K p t = record { same = omega arith }
 
--- another way to write a time has the same part
+-- two ways to write one time have the same K-th part
 pub shrink_same : (K : ℕ) (p : 0 < K) (t u : Rational) → t ≈ u → shrink K p t ≈ shrink K p u
 shrink_same K p t u e =
     same_back K p (same_trans (stretch-shrink K p t) (same_trans e (same_sym (stretch-shrink K p u))))
 
--- parts are ordered as the times
+-- the K-th parts of two times are ordered as the times
 pub shrink_lt : (K : ℕ) (p : 0 < K) (t u : Rational) → t <ʳ u → shrink K p t <ʳ shrink K p u
 shrink_lt K p t u h =
     lt_back K (lt_of_le_of_lt (le_of_same (stretch-shrink K p t)) (lt_of_lt_of_le h (ge_of_same (stretch-shrink K p u))))
@@ -41,7 +41,7 @@ shrink_lt K p t u h =
 pub shrink-stretchᵉ : (M : ℕ) (p : 0 < M) (v : Extended) → shrinkᵉ M p (stretchᵉ M v) ≈ᵉ v
 shrink-stretchᵉ M p v = same_backᵉ M p (shrinkᵉ M p (stretchᵉ M v)) v (stretch-shrinkᵉ M p (stretchᵉ M v))
 
--- another way to write a value has the same part
+-- two ways to write one value have the same M-th part
 pub shrink_sameᵉ : (M : ℕ) (p : 0 < M) (v w : Extended) → v ≈ᵉ w → shrinkᵉ M p v ≈ᵉ shrinkᵉ M p w
 shrink_sameᵉ M p v w e =
     same_backᵉ M p (shrinkᵉ M p v) (shrinkᵉ M p w)
@@ -77,20 +77,20 @@ module _ (K M : ℕ) (kp : 0 < K) (mp : 0 < M) where
   affine_by (affine f) = affine (line_by K M kp f)
   affine_by always_high = always_high
 
-  -- and back
+  -- a function of time in smaller ticks, back in the larger ones
   pub affine_part : Affine → Affine
   affine_part always_low = always_low
   affine_part (affine f) = affine (line_part K M mp f)
   affine_part always_high = always_high
 
-  -- it has the value times M at the time times K
+  -- the function in smaller ticks has M times the value at K times the time
   pub affine_is : (f : Affine) (t : Rational) → value_at (affine_by f) (stretch K t) ≈ᵉ stretchᵉ M (value_at f t)
   unfolding affine_by line_by
   affine_is always_low t = same_reflᵉ minus_infinity
   affine_is (affine f) t = finite_same (at_by f (line_by K M kp f) K M t refl refl refl refl refl)
   affine_is always_high t = same_reflᵉ infinity
 
-  -- and the M-th part at the K-th part
+  -- the function back in the larger ticks has the M-th part of the value at the K-th part of the time
   pub affine_part_is : (f : Affine) (t : Rational) → value_at (affine_part f) (shrink K kp t) ≈ᵉ shrinkᵉ M mp (value_at f t)
   unfolding affine_part line_part
   affine_part_is always_low t = same_reflᵉ minus_infinity
@@ -218,7 +218,7 @@ value_text_by digits m minus_infinity text h = h
 value_text_by digits m (finite x) text h = number_text_by digits m x text h
 value_text_by digits m infinity text h = h
 
--- and back
+-- the text of a value in smaller ticks is that of its part in the larger ones
 pub value_text_back : (digits m : ℕ) (p : 0 < 10 ^ m) (v : Extended) (text : List ℕ) → IsValueText (digits + m) v text
     → IsValueText digits (shrinkᵉ (10 ^ m) p v) text
 value_text_back digits m p minus_infinity text h = h

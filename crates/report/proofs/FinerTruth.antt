@@ -87,7 +87,7 @@ module _ (K : ℕ) (p : 0 < K) {from to from' to' : Rational} (e : AreEnds K fro
     ends = begins_by K p a i u t w.ends;
   }
 
-  -- and so behind
+  -- a time of the larger window behind is one of the window
   pub behind_back : (a : ℕ) (b : Option ℕ) (i j : Bool) (t u : Rational)
       → Behind from' to' (K * a) (option_map (λ b. K * b) b) i j (stretch K t) (stretch K u) → Behind from to a b i j t u
   behind_back a None i j t u w = record { inside = inside_back w.inside; begins = w.begins; ends = begins_back K p a i u t w.ends }
@@ -105,7 +105,7 @@ ahead_at {a = a} {b = b} {i = i} {j = j} {t = t} {u = u} {v = v} e w = record {
   ends = precedes_after j v u (later t b) (ge_of_same e) w.ends;
 }
 
--- another way to write a time is in the window too
+-- another way to write a time of a window behind is in the window too
 pub behind_at : {from to : Rational} {a : ℕ} {b : Option ℕ} {i j : Bool} {t u v : Rational} → u ≈ v → Behind from to a b i j t u → Behind from to a b i j t v
 behind_at {a = a} {b = None} {i = i} {j = j} {t = t} {u = u} {v = v} e w = record {
   inside = record { above = le_trans w.inside.above (le_of_same e); below = le_trans (ge_of_same e) w.inside.below };

@@ -33,7 +33,7 @@ le_stretchᵉ M infinity minus_infinity h = h
 le_stretchᵉ M infinity (finite y) h = h
 le_stretchᵉ M infinity infinity h = tt
 
--- values times M are ordered as the values
+-- M times two values are ordered as the values
 pub lt_stretchᵉ : (M : ℕ) → 0 < M → (v w : Extended) → v <ᵉ w → stretchᵉ M v <ᵉ stretchᵉ M w
 lt_stretchᵉ M p minus_infinity minus_infinity h = h
 lt_stretchᵉ M p minus_infinity (finite y) h = tt
@@ -53,7 +53,7 @@ le_backᵉ M p infinity minus_infinity h = h
 le_backᵉ M p infinity (finite y) h = h
 le_backᵉ M p infinity infinity h = tt
 
--- and the other way round
+-- two values are ordered as M times the values
 pub lt_backᵉ : (M : ℕ) (v w : Extended) → stretchᵉ M v <ᵉ stretchᵉ M w → v <ᵉ w
 lt_backᵉ M minus_infinity minus_infinity h = h
 lt_backᵉ M minus_infinity (finite y) h = tt
@@ -63,11 +63,11 @@ lt_backᵉ M (finite x) (finite y) h = lt_back M h
 lt_backᵉ M (finite x) infinity h = tt
 lt_backᵉ M infinity w h = h
 
--- and are the same where these are
+-- two ways to write one value are, times M, one value
 pub same_stretchᵉ : (M : ℕ) (v w : Extended) → v ≈ᵉ w → stretchᵉ M v ≈ᵉ stretchᵉ M w
 same_stretchᵉ M v w e = record { at_most = le_stretchᵉ M v w e.at_most; at_least = le_stretchᵉ M w v e.at_least }
 
--- and the other way round
+-- two values are the same where M times the values are
 pub same_backᵉ : (M : ℕ) → 0 < M → (v w : Extended) → stretchᵉ M v ≈ᵉ stretchᵉ M w → v ≈ᵉ w
 same_backᵉ M p v w e = record { at_most = le_backᵉ M p v w e.at_most; at_least = le_backᵉ M p w v e.at_least }
 
@@ -89,7 +89,7 @@ least_by M v w r l = record {
   one_of = either (le_stretchᵉ M v r) (le_stretchᵉ M w r) l.one_of;
 }
 
--- the least of values times M is M times the least
+-- r is the least of two values where M times r is the least of M times the values
 pub least_back : (M : ℕ) → 0 < M → (v w r : Extended) → IsLeast (stretchᵉ M v) (stretchᵉ M w) (stretchᵉ M r) → IsLeast v w r
 least_back M p v w r l = record {
   left = le_backᵉ M p r v l.left;
@@ -97,7 +97,7 @@ least_back M p v w r l = record {
   one_of = either (le_backᵉ M p v r) (le_backᵉ M p w r) l.one_of;
 }
 
--- M times the greatest is the greatest of values times M
+-- M times the greatest of two values is the greatest of M times the values
 pub greatest_by : (M : ℕ) (v w r : Extended) → IsGreatest v w r → IsGreatest (stretchᵉ M v) (stretchᵉ M w) (stretchᵉ M r)
 greatest_by M v w r l = record {
   left = le_stretchᵉ M v r l.left;
@@ -105,7 +105,7 @@ greatest_by M v w r l = record {
   one_of = either (le_stretchᵉ M r v) (le_stretchᵉ M r w) l.one_of;
 }
 
--- and the other way round
+-- r is the greatest of two values where M times r is the greatest of M times the values
 pub greatest_back : (M : ℕ) → 0 < M → (v w r : Extended) → IsGreatest (stretchᵉ M v) (stretchᵉ M w) (stretchᵉ M r) → IsGreatest v w r
 greatest_back M p v w r l = record {
   left = le_backᵉ M p v r l.left;
@@ -161,7 +161,7 @@ module _ (M : ℕ) (p : 0 < M) {P Q : Extended → Type 0} (e : AreTimes M p P Q
         (stretchᵉ M v, e.forth v q, lt_of_le_of_ltᵉ w (stretchᵉ M (part w)) (stretchᵉ M v) (whole_is w).at_least (lt_stretchᵉ M p (part w) v m));
   }
 
-  -- the Sup in smaller ticks is M times the Sup
+  -- r is the Sup where M times r is the Sup in smaller ticks
   pub sup_back : (r : Extended) → IsSup minus_infinity Q (stretchᵉ M r) → IsSup minus_infinity P r
   sup_back r h = record {
     at_least = tt;
@@ -182,7 +182,7 @@ module _ (M : ℕ) (p : 0 < M) {P Q : Extended → Type 0} (e : AreTimes M p P Q
         (stretchᵉ M v, e.forth v q, lt_of_lt_of_leᵉ (stretchᵉ M v) (stretchᵉ M (part w)) w (lt_stretchᵉ M p v (part w) m) (whole_is w).at_most);
   }
 
-  -- and so the Inf
+  -- r is the Inf where M times r is the Inf in smaller ticks
   pub inf_back : (r : Extended) → IsInf infinity Q (stretchᵉ M r) → IsInf infinity P r
   inf_back r h = record {
     at_most = below_infinity r;

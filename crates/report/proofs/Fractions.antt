@@ -44,6 +44,6 @@ plain_text negative size h e = ap (λ b. sign_text b ++ decimal size) (sym e) �
 pub whole_text : (num : ℤ) (den : ℕ) → den ≡ 1 → signed_decimal num ≡ fraction_text num den
 whole_text num den e = ap (fraction_text num) (sym e)
 
--- a fraction is written with its denominator
+-- a fraction that is not whole is written with its denominator
 pub parted_text : (num : ℤ) (den : ℕ) → (den == 1) ≡ false → signed_decimal num ++ (codes "/" ++ decimal den) ≡ fraction_text num den
 parted_text num den e = ap (λ b. signed_decimal num ++ (if b then [] else codes "/" ++ decimal den)) (sym e) ∙ den_append num den

@@ -31,7 +31,7 @@ part_first P Q old new (a, rest, p, e) (b, q) = (a, rest ++ b, (a ++ rest, b, p,
 pub grew_as : (P Q : List ℕ → Type 0) (old new : List ℕ) → ((w : List ℕ) → P w → Q w) → Grew P old new → Grew Q old new
 grew_as P Q old new h (a, p, e) = (a, h a p, e)
 
--- and so is a cut
+-- a cut in a text of one kind is one in a text of a wider kind
 pub part_as : (P Q : List ℕ → Type 0) (old new : List ℕ) → ((w : List ℕ) → P w → Q w) → GrewInPart P old new → GrewInPart Q old new
 part_as P Q old new h (a, rest, p, e) = (a, rest, h (a ++ rest) p, e)
 

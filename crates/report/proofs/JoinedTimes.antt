@@ -24,7 +24,7 @@ say_left [] ys i b t h = absurd h
 say_left (e ∷ xs) ys i b t (inl h) = inl h
 say_left (e ∷ xs) ys i b t (inr h) = inr (say_left xs ys i b t h)
 
--- and what the second say
+-- what the second items say both lists say
 pub say_right : (xs ys : List Item) → SayMore ys (xs ++ ys)
 say_right [] ys i b t h = h
 say_right (e ∷ xs) ys i b t h = inr (say_right xs ys i b t h)
@@ -168,7 +168,7 @@ pub joined_say : (items lines : List Item) → IsItemLines items lines → SayMo
 joined_say [] lines j = λ i b t h. absurd h
 joined_say (e ∷ items) lines j = lines_say e e items lines (ends_as_itself e) j
 
--- and nothing more
+-- the lines say nothing that the items do not say
 pub apart_say : (items lines : List Item) → IsItemLines items lines → SayMore lines items
 apart_say [] lines j = subst (λ zs. SayMore zs []) (sym j) (λ i b t h. h)
 apart_say (e ∷ items) lines j = items_say e e items lines (ends_as_itself e) j

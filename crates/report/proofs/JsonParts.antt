@@ -37,7 +37,7 @@ module _ (scale : Scale) where
       (value_after_exists (codes "\",\"margin\":\"") scale.value k.value)
       (word_exists (codes "\"}"))
 
-  -- so has the entry
+  -- the entry of a knot has a text
   pub knot_entry_exists : (lead : List ℕ) (k : Knot) → growth.Some (IsKnotEntry lead scale k)
   knot_entry_exists lead k =
       some_then (IsTimeAfter lead scale.time k.time) (Then (IsValueAfter (codes "\",\"margin\":\"") scale.value k.value) (Is (codes "\"}")))
@@ -55,31 +55,31 @@ module _ (scale : Scale) where
     abbrev pub Span : List ℕ → Type 0
     Span = Then (IsTimeAfter (codes "\",\"on\":\"(") scale.time s.knot.time) Until
 
-    -- and a limit
+    -- the limit of a piece has a text
     pub limit_exists : growth.Some Limit
     limit_exists =
         some_then (IsValueAfter (codes ")\",\"to\":\"") scale.value s.piece.to) (Is (codes "\"}"))
         (value_after_exists (codes ")\",\"to\":\"") scale.value s.piece.to)
         (word_exists (codes "\"}"))
 
-    -- and the end of a piece
+    -- what ends a piece has a text
     pub until_exists : growth.Some Until
     until_exists =
         some_then (IsTimeAfter (codes ",") scale.time s.piece.next.time) Limit (time_after_exists (codes ",") scale.time s.piece.next.time) limit_exists
 
-    -- and its span
+    -- the span of a piece has a text
     pub span_after_exists : growth.Some Span
     span_after_exists =
         some_then (IsTimeAfter (codes "\",\"on\":\"(") scale.time s.knot.time) Until
         (time_after_exists (codes "\",\"on\":\"(") scale.time s.knot.time) until_exists
 
-    -- and its entry
+    -- the entry of a piece has a text
     pub piece_entry_exists : growth.Some (IsPieceEntry scale s)
     piece_entry_exists =
         some_then (IsValueAfter (codes ",{\"from\":\"") scale.value s.piece.from) Span
         (value_after_exists (codes ",{\"from\":\"") scale.value s.piece.from) span_after_exists
 
-    -- and the entry of a knot with the piece after it
+    -- the entry of a knot with the piece after it has a text
     pub step_entry_exists : growth.Some (IsStepEntry scale s)
     step_entry_exists =
         some_then (IsPieceEntry scale s) (IsKnotEntry (codes ",{\"at\":\"") scale s.piece.next) piece_entry_exists
@@ -89,13 +89,13 @@ module _ (scale : Scale) where
   abbrev pub LaterMargins : Knots → List ℕ → Type 0
   LaterMargins knots = Then (AreEach (IsStepEntry scale) (steps_of knots)) (Is (codes "]"))
 
-  -- and those of all later ones
+  -- the entries of all later knots have a text
   pub later_margins_exist : (knots : Knots) → growth.Some (LaterMargins knots)
   later_margins_exist knots =
       some_then (AreEach (IsStepEntry scale) (steps_of knots)) (Is (codes "]")) (each_exist (IsStepEntry scale) step_entry_exists (steps_of knots))
       (word_exists (codes "]"))
 
-  -- and of all margins
+  -- the entries of all margins have a text
   pub margin_entries_exist : (knots : Knots) → growth.Some (AreMarginEntries scale knots)
   margin_entries_exist knots =
       some_then (IsKnotEntry (codes "{\"at\":\"") scale knots.first) (LaterMargins knots) (knot_entry_exists (codes "{\"at\":\"") knots.first)
@@ -112,18 +112,18 @@ module _ (scale : Scale) where
     abbrev pub Named : List ℕ → Type 0
     Named = Then (Is (json_string name)) AfterName
 
-    -- and the span of an item
+    -- the span of an item has a text
     pub on_span_exists : growth.Some OnSpan
     on_span_exists = some_then (IsSpanText scale e.on) (Is (item_end e.holds)) (span_exists scale e.on) (word_exists (item_end e.holds))
 
-    -- and what follows an atom's name
+    -- what follows an atom's name in an item has a text
     pub after_name_exists : growth.Some AfterName
     after_name_exists = some_then (Is (codes ",\"on\":\"")) OnSpan (word_exists (codes ",\"on\":\"")) on_span_exists
 
-    -- and the name
+    -- the name of an item's atom has a text
     pub named_exists : growth.Some Named
     named_exists = some_then (Is (json_string name)) AfterName (word_exists (json_string name)) after_name_exists
 
-    -- and all parts of an item
+    -- all parts of an item together have a text
     pub item_parts_exist : (lead : List ℕ) → growth.Some (ItemParts lead scale e name)
     item_parts_exist lead = some_then (Is lead) Named (word_exists lead) named_exists

@@ -82,6 +82,7 @@ whole_one (pos v) r d p n e l one =
     record { same = omega (arith, l, one, same, ap (λ x. x * d) same, ap (λ x. n * x) one, ap (λ x. r * x) one, mul_parts (pos n) (pos 1)) }
 whole_one (negsuc v) r d p n e l one = absurd (omega (arith, ints, e))
 
+-- the text of a whole number is that of its digits
 pub whole_text : (w : ℤ) (r d : ℕ) (p : 0 < d) (n : ℕ) → w ≡ pos n → r < d → d ≡ 1 → IsNumberText 0 (mixed w r d p) (decimal n)
 whole_text w r d p n e l one = record { num = pos n; den = 1; lowest = lowest_whole (pos n); same = whole_one w r d p n e l one; is = refl }
 

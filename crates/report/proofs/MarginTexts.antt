@@ -49,7 +49,7 @@ module _ {T E : Type 0} (r : Result T E) (digits : ℕ) (m k : Margin) (t : Rati
       → OnOk r (Grew (IsValueText digits (value_at (margin_function m) t)) old new)
   value_ok = subst (λ x. OnOk r (Grew (IsValueText digits (value_at (margin_function x) t)) old new)) (sym same)
 
-  -- and so is a cut in it
+  -- a cut in a value that was appended for one shape is one for another with the same function
   pub value_err : OnErr r (GrewInPart (IsValueText digits (value_at (margin_function k) t)) old new)
       → OnErr r (GrewInPart (IsValueText digits (value_at (margin_function m) t)) old new)
   value_err = subst (λ x. OnErr r (GrewInPart (IsValueText digits (value_at (margin_function x) t)) old new)) (sym same)
@@ -70,11 +70,11 @@ value_exists digits minus_infinity = (codes "-inf", refl)
 value_exists digits (finite x) = number_exists digits x
 value_exists digits infinity = (codes "inf", refl)
 
--- so has a time behind some words
+-- a time behind some words has a text
 pub time_after_exists : (lead : List ℕ) (digits : ℕ) (t : Rational) → growth.Some (IsTimeAfter lead digits t)
 time_after_exists lead digits t = some_then (Is lead) (IsNumberText digits t) (lead, refl) (number_exists digits t)
 
--- and a value behind some words
+-- a value behind some words has a text
 pub value_after_exists : (lead : List ℕ) (digits : ℕ) (v : Extended) → growth.Some (IsValueAfter lead digits v)
 value_after_exists lead digits v = some_then (Is lead) (IsValueText digits v) (lead, refl) (value_exists digits v)
 
@@ -137,7 +137,7 @@ module _ (scale : Scale) where
       let parts = some_then (PieceLimits k p) (Is newline) limits (newline, refl) in
       (parts.0, piece_line k p parts.0 parts.1)
 
-  -- so have all pieces
+  -- a list of pieces has lines
   pub piece_lines_exist : (k : plain.Knot) (pieces : List Piece) → growth.Some (ArePieceLines scale k pieces)
   piece_lines_exist k [] = ([], refl)
   piece_lines_exist k (p ∷ pieces) =

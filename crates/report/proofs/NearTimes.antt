@@ -119,7 +119,7 @@ within_both {t} n m =
 pub lt_by : {t u : Rational} (k : Move) → t <ʳ u → by t k <ʳ by u k
 lt_by {t} {u} k h = record { lt = omega (arith, h.lt) }
 
--- and that of times which may be the same
+-- moving keeps the order of times that may be the same
 pub le_by : {t u : Rational} (k : Move) → t ≤ʳ u → by t k ≤ʳ by u k
 le_by {t} {u} k h = record { le = omega (arith, h.le) }
 
@@ -127,7 +127,7 @@ le_by {t} {u} k h = record { le = omega (arith, h.le) }
 pub back_below : {t a : Rational} (k : Move) → a <ʳ by t k → by a (back k) <ʳ t
 back_below {t} {a} k h = record { lt = omega (arith, h.lt) }
 
--- and what is later is later
+-- what is later than a moved time is, moved back, later than the time
 pub back_above : {t a : Rational} (k : Move) → by t k <ʳ a → t <ʳ by a (back k)
 back_above {t} {a} k h = record { lt = omega (arith, h.lt) }
 

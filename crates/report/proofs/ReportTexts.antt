@@ -43,11 +43,11 @@ module _ (scale : Scale) (f : Formula) (items : List Item) where
   after_formula_exists all =
       some_then (Is (codes ",\"items\":[")) (AreItemEntries scale f items) (word_exists (codes ",\"items\":[")) (list_exists scale f items all)
 
-  -- so has the formula with it
+  -- the formula with what follows it has a text
   pub formula_on_exists : All (IsOfAtom f) items → growth.Some (Then (IsFormulaString f) AfterFormula)
   formula_on_exists all = some_then (IsFormulaString f) AfterFormula formula_exists (after_formula_exists all)
 
-  -- and all up to the items
+  -- a report up to its items has a text
   pub head_exists : All (IsOfAtom f) items → growth.Some (HeadParts scale f items)
   head_exists all = some_then (Is (codes "{\"formula\":")) (Then (IsFormulaString f) AfterFormula) (word_exists (codes "{\"formula\":")) (formula_on_exists all)
 
@@ -66,16 +66,16 @@ module _ (scale : Scale) (truth : List (Knot Truth)) (margins : List (Knot Margi
   pub verdicts_exist : growth.Some (AreEntries truth_shape true scale truth) → growth.Some Verdicts
   verdicts_exist v = some_then (AreEntries truth_shape true scale truth) (Is (codes "}\n")) v (word_exists (codes "}\n"))
 
-  -- and what begins with the truth at the start
+  -- a report from the truth at the start on has a text
   pub start_exists : growth.Some (AreEntries truth_shape true scale truth) → growth.Some FromStart
   start_exists v = some_then (Is (start_member holds)) Verdicts (word_exists (start_member holds)) (verdicts_exist v)
 
-  -- and what begins with the margins
+  -- a report from the margins on has a text
   pub margins_exist : growth.Some (AreEntries truth_shape true scale truth) → growth.Some Margins
   margins_exist v =
       some_then (AreMarginEntries scale (knots_of margin_shape margins)) FromStart (margin_entries_exist scale (knots_of margin_shape margins)) (start_exists v)
 
-  -- and all behind the items
+  -- all of a report behind its items has a text
   pub tail_exists : growth.Some (AreEntries truth_shape true scale truth) → growth.Some (TailParts scale truth margins holds)
   tail_exists v = some_then (Is (codes ",\"margins\":[")) Margins (word_exists (codes ",\"margins\":[")) (margins_exist v)
 

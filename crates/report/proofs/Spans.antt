@@ -21,7 +21,7 @@ pub number_text : (digits : ℕ) (t : Rational) (negative : Bool) (size den : �
     → IsNumberText digits t (fraction_text (signed negative size) den)
 number_text digits t negative size den u = record { num = signed negative size; den = den; lowest = u.lowest; same = u.same; is = refl }
 
--- its two ends make the text of a span
+-- the texts of its two ends make the text of a span
 pub span_text : (scale : Scale) (on : Span) (from to : List ℕ) → IsNumberText scale.time (value on.from) from → IsNumberText scale.time (value on.to) to
     → IsSpanText scale on (before on.from_in ++ from ++ codes "," ++ to ++ after on.to_in)
 span_text scale on from to p q = record { from = from; to = to; from_is = p; to_is = q; is = refl }

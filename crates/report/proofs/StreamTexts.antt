@@ -72,7 +72,7 @@ stream_once p header rows true x y (_, (during, rest, line, a, b, c, is)) (_, (d
     ∙ ap (λ t. during' ++ t ++ line) (rest_once (new_once p) p header (record { header = header; rows = rows }) rest rest' b b')
     ∙ ap (λ t. during' ++ rest' ++ t) (start_once p (record { header = header; rows = rows }) line line' c c') ∙ sym is'
 
--- and rows more make it longer
+-- rows more make a stream's text longer
 pub stream_grows : (p : Subformula) (header : Header) (rows beyond : List Row) (ended : Bool) (x y : List ℕ) → IsStreamText p header rows false x
     → IsStreamText p header (rows ++ beyond) ended y → IsLonger x y
 stream_grows p header rows beyond false x y a b = rows_grow (new_once p) p header [] None rows beyond x y a b
@@ -131,37 +131,50 @@ one_decision p tr true false h k = absurd (settled_once p tr _ h k)
 one_decision p tr false true h k = absurd (settled_once p tr _ k h)
 one_decision p tr false false h k = refl
 
--- two rows that are the first to decide are one
-first_once : (p : Subformula) (header : Header) (before after before' after' : List Row) (r r' : Row) (holds holds' : Bool)
-    → before ++ r ∷ after ≡ before' ++ r' ∷ after'
-    → FirstDecides p header before r holds → FirstDecides p header before' r' holds' → (r ≡ r') × (holds ≡ holds')
-first_once p header before after before' after' r r' holds holds' e a b = by_parting (parted before r after before' r' after' e)
-  where
-    by_parting : Parting before r after before' r' → (r ≡ r') × (holds ≡ holds')
-    by_parting (same f g) = (
-      g,
-      one_decision p _ holds holds' a.decides
-          (subst (λ w. Decides p (record { header = header; rows = before ++ w ∷ [] }) holds') (sym g)
-          (subst (λ l. Decides p (record { header = header; rows = l ++ r' ∷ [] }) holds') (sym f) b.decides)),
-    )
-    by_parting (first rest f) = absurd (b.not_before before rest r holds f a.decides)
-    by_parting (other rest f) = absurd (a.not_before before' rest r' holds' f b.decides)
+-- rows of which one is the first to decide, and the early text for it
+record DecidedAt (p : Subformula) (header : Header) (digits : ℕ) (rows : List Row) (text : List ℕ) : Type 0 where
+  before : List Row
+  after : List Row
+  row : Row
+  parts : rows ≡ before ++ row ∷ after
+  holds : Bool
+  decides : FirstDecides p header before row holds
+  time : List ℕ
+  time_is : IsNumberText digits (row_time row) time
+  is : text ≡ codes "decided at " ++ time ++ newline ++ start_line holds
 
-decided_once : (p : Subformula) (header : Header) (digits : ℕ) (before after before' after' : List Row) (r r' : Row)
-    (holds holds' : Bool) (x y t u : List ℕ) → before ++ r ∷ after ≡ before' ++ r' ∷ after'
-    → FirstDecides p header before r holds → FirstDecides p header before' r' holds' → IsNumberText digits (row_time r) t → IsNumberText digits (row_time r') u
-    → x ≡ codes "decided at " ++ t ++ newline ++ start_line holds → y ≡ codes "decided at " ++ u ++ newline ++ start_line holds' → x ≡ y
-decided_once p header digits before after before' after' r r' holds holds' x y t u e a b s v is is' =
-    let (same_row, same_truth) = first_once p header before after before' after' r r' holds holds' e a b in
-    let times : t ≡ u = number_once digits (same_refl _) (subst (λ w. IsNumberText digits (row_time w) t) same_row s) v in
-    is ∙ ap (λ z. codes "decided at " ++ z ++ newline ++ start_line holds) times
-    ∙ ap (λ h. codes "decided at " ++ u ++ newline ++ start_line h) same_truth ∙ sym is'
+module _ (p : Subformula) (header : Header) (digits : ℕ) (rows : List Row) {x y : List ℕ} (a : DecidedAt p header digits rows x)
+    (b : DecidedAt p header digits rows y) where
+  -- two rows that are the first to decide are one
+  first_once : (a.row ≡ b.row) × (a.holds ≡ b.holds)
+  first_once = by_parting (parted a.before a.row a.after b.before b.row b.after (sym a.parts ∙ b.parts))
+    where
+      by_parting : Parting a.before a.row a.after b.before b.row → (a.row ≡ b.row) × (a.holds ≡ b.holds)
+      by_parting (same f g) = (
+        g,
+        one_decision p _ a.holds b.holds a.decides.decides
+            (subst (λ w. Decides p (record { header = header; rows = a.before ++ w ∷ [] }) b.holds) (sym g)
+            (subst (λ l. Decides p (record { header = header; rows = l ++ b.row ∷ [] }) b.holds) (sym f) b.decides.decides)),
+      )
+      by_parting (first rest f) = absurd (b.decides.not_before a.before rest a.row a.holds f a.decides.decides)
+      by_parting (other rest f) = absurd (a.decides.not_before b.before rest b.row b.holds f b.decides.decides)
+
+  -- and so are their early texts
+  decided_once : x ≡ y
+  decided_once =
+      let (same_row, same_truth) = first_once in
+      let times : a.time ≡ b.time =
+      number_once digits (same_refl _) (subst (λ w. IsNumberText digits (row_time w) a.time) same_row a.time_is) b.time_is in
+      a.is ∙ ap (λ z. codes "decided at " ++ z ++ newline ++ start_line a.holds) times
+      ∙ ap (λ h. codes "decided at " ++ b.time ++ newline ++ start_line h) same_truth ∙ sym b.is
 
 -- the early text is one for its rows
 pub early_once : (p : Subformula) (header : Header) (rows : List Row) (ended : Bool) (x y : List ℕ)
     → IsEarlyText p header rows ended x → IsEarlyText p header rows ended y → x ≡ y
 early_once p header rows ended x y (at_row b a r h t e f s is) (at_row b' a' r' h' t' e' f' s' is') =
-    decided_once p header header.scale.time b a b' a' r r' h h' x y t t' (sym e ∙ e') f f' s s' is is'
+    decided_once p header header.scale.time rows
+    (record { before = b; after = a; row = r; parts = e; holds = h; decides = f; time = t; time_is = s; is = is })
+    (record { before = b'; after = a'; row = r'; parts = e'; holds = h'; decides = f'; time = t'; time_is = s'; is = is' })
 early_once p header rows ended x y (at_row b a r h t e f s is) (at_end l d k none c is') = absurd (none b a r h e f.decides)
 early_once p header rows ended x y (at_row b a r h t e f s is) (not_yet o none is') = absurd (none b a r h e f.decides)
 early_once p header rows ended x y (at_end l d k none c is) (at_row b' a' r' h' t' e' f' s' is') = absurd (none b' a' r' h' e' f'.decides)
@@ -172,15 +185,26 @@ early_once p header rows ended x y (not_yet o none is) (at_row b' a' r' h' t' e'
 early_once p header rows ended x y (not_yet o none is) (at_end l' d' k' none' c' is') = absurd (false≢true (sym o ∙ d'))
 early_once p header rows ended x y (not_yet o none is) (not_yet o' none' is') = is ∙ sym is'
 
--- and rows more make it longer
+-- rows more make the early text longer
 pub early_grows : (p : Subformula) (header : Header) (rows beyond : List Row) (ended : Bool) (x y : List ℕ) → IsEarlyText p header rows false x
     → IsEarlyText p header (rows ++ beyond) ended y → IsLonger x y
 early_grows p header rows beyond ended x y (not_yet o none is) _ = (y, ap (λ t. t ++ y) (sym is))
 early_grows p header rows beyond ended x y (at_end l d k none c is) _ = absurd (false≢true d)
 early_grows p header rows beyond ended x y (at_row b a r h t e f s is) (at_row b' a' r' h' t' e' f' s' is') = (
   [],
-  sym (append-nil x ∙ decided_once p header header.scale.time b (a ++ beyond) b' a' r r' h h' x y t t'
-      (sym (append_assoc b (r ∷ a) beyond) ∙ ap (λ l. l ++ beyond) (sym e) ∙ e') f f' s s' is is'),
+  sym (append-nil x ∙ decided_once p header header.scale.time (rows ++ beyond)
+      (record {
+        before = b;
+        after = a ++ beyond;
+        row = r;
+        parts = ap (λ l. l ++ beyond) e ∙ append_assoc b (r ∷ a) beyond;
+        holds = h;
+        decides = f;
+        time = t;
+        time_is = s;
+        is = is;
+      })
+      (record { before = b'; after = a'; row = r'; parts = e'; holds = h'; decides = f'; time = t'; time_is = s'; is = is' })),
 )
 early_grows p header rows beyond ended x y (at_row b a r h t e f s is) (at_end l d k none c is') =
     absurd (none b (a ++ beyond) r h (ap (λ l. l ++ beyond) e ∙ append_assoc b (r ∷ a) beyond) f.decides)

@@ -22,11 +22,11 @@ shrink K p t = record { up = t.up; down = t.down; den = K * t.den; positive = mu
 pub stretch_le : {t u : Rational} (K : ℕ) → t ≤ʳ u → stretch K t ≤ʳ stretch K u
 stretch_le K h = record { le = let m = mul-le-mul_left K h.le in omega (arith, m) }
 
--- times K are ordered as the numbers
+-- K times two numbers are ordered as the numbers
 pub stretch_lt : {t u : Rational} (K : ℕ) → 0 < K → t <ʳ u → stretch K t <ʳ stretch K u
 stretch_lt K p h = record { lt = let m = mul-lt-mul_of_pos_left h.lt p in omega (arith, m) }
 
--- and are the same where these are
+-- two ways to write one number are, times K, one number
 pub stretch_same : {t u : Rational} (K : ℕ) → t ≈ u → stretch K t ≈ stretch K u
 stretch_same K h = same_of_le (stretch_le K (le_of_same h)) (stretch_le K (ge_of_same h))
 
@@ -36,13 +36,13 @@ le_back {t} {u} K p h = record {
   le = le_of_mul-le-mul_left (let e : K * (t.up * u.den + u.down * t.den) ≤ K * (u.up * t.den + t.down * u.den) = omega (arith, h.le) in e) p;
 }
 
--- and the other way round
+-- two numbers are ordered as K times the numbers
 pub lt_back : {t u : Rational} (K : ℕ) → stretch K t <ʳ stretch K u → t <ʳ u
 lt_back {t} {u} K h = record {
   lt = lt_of_mul-lt-mul_left K (let e : K * (t.up * u.den + u.down * t.den) < K * (u.up * t.den + t.down * u.den) = omega (arith, h.lt) in e);
 }
 
--- and so where they are the same
+-- two numbers are the same where K times the numbers are
 pub same_back : {t u : Rational} (K : ℕ) → 0 < K → stretch K t ≈ stretch K u → t ≈ u
 same_back K p h = same_of_le (le_back K p (le_of_same h)) (le_back K p (ge_of_same h))
 
@@ -50,12 +50,12 @@ same_back K p h = same_of_le (le_back K p (le_of_same h)) (le_back K p (ge_of_sa
 pub stretch-shrink : (K : ℕ) (p : 0 < K) (t : Rational) → stretch K (shrink K p t) ≈ t
 stretch-shrink K p t = record { same = omega arith }
 
--- what precedes precedes, both times K
+-- what precedes another number does so too when both are taken K times
 pub precedes_stretch : (K : ℕ) → 0 < K → (b : Bool) (t u : Rational) → Precedes b t u → Precedes b (stretch K t) (stretch K u)
 precedes_stretch K p true t u h = stretch_le K h
 precedes_stretch K p false t u h = stretch_lt K p h
 
--- and the other way round
+-- what precedes another number when both are taken K times does so itself
 pub precedes_back : (K : ℕ) → 0 < K → (b : Bool) (t u : Rational) → Precedes b (stretch K t) (stretch K u) → Precedes b t u
 precedes_back K p true t u h = le_back K p h
 precedes_back K p false t u h = lt_back K h
@@ -64,11 +64,11 @@ precedes_back K p false t u h = lt_back K h
 pub later_stretch : (K a : ℕ) (t : Rational) → later (stretch K t) (K * a) ≈ stretch K (later t a)
 later_stretch K a t = record { same = omega arith }
 
--- what lies within lies within, all times K
+-- what lies within two numbers does so too when all are taken K times
 pub within_stretched : {t u v : Rational} (K : ℕ) → Within t u v → Within (stretch K t) (stretch K u) (stretch K v)
 within_stretched K h = record { above = stretch_le K h.above; below = stretch_le K h.below }
 
--- and the other way round
+-- what lies within two numbers when all are taken K times does so itself
 pub within_back : {t u v : Rational} (K : ℕ) → 0 < K → Within (stretch K t) (stretch K u) (stretch K v) → Within t u v
 within_back K p h = record { above = le_back K p h.above; below = le_back K p h.below }
 

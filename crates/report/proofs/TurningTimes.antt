@@ -83,7 +83,7 @@ module _ (K : ℕ) (kp : 0 < K) where
   abbrev pub shrunk : Interval → Interval
   shrunk on = record { from = shrink K kp on.from; from_in = on.from_in; to = shrink K kp on.to; to_in = on.to_in }
 
-  -- what precedes precedes, both in larger ticks
+  -- what precedes another time does so in larger ticks too
   pub precedes_shrink : (b : Bool) (t u : Rational) → Precedes b t u → Precedes b (shrink K kp t) (shrink K kp u)
   precedes_shrink b t u h =
       precedes_back K kp b (shrink K kp t) (shrink K kp u)
@@ -103,7 +103,7 @@ module _ (K : ℕ) (kp : 0 < K) where
         (le_of_same (stretch-shrink K kp on.to));
   }
 
-  -- another way to write a time has the same part
+  -- two ways to write one time have the same part
   pub same_shrink : {t u : Rational} → t ≈ u → shrink K kp t ≈ shrink K kp u
   same_shrink {t} {u} e = same_back K kp (same_trans (stretch-shrink K kp t) (same_trans e (same_sym (stretch-shrink K kp u))))
 

@@ -225,6 +225,7 @@ fn put_margin_entries(text: &mut Text, s: &Signal<Margin>, scale: Scale) -> Resu
     ensures ok { OnOk result (Grew (AreMarginEntries scale (knots_of margin_shape s.now)) text.old text.new) }
     ensures err { OnErr result (GrewInPart (AreMarginEntries scale (knots_of margin_shape s.now)) text.old text.new) }
 {
+    // For the proof alone: that it is a signal is a clause of `len`.
     let _ = s.len();
     put_knot_entry(text, b"{\"at\":\"", &s.knot(0), scale)?;
     put_step_entries(text, s, scale)?;
@@ -289,6 +290,7 @@ fn start_of(truth: &Signal<Truth>) -> bool
     ensures worth { IsWorth truth_shape truth.now (start truth.now) (sign_of result) }
     ensures signal { IsSignal truth_shape truth.now }
 {
+    // For the proof alone: that it is a signal is a clause of `len`.
     let _ = truth.len();
     truth.knot(0).point.holds()
 }

@@ -204,6 +204,7 @@ pub fn put_margins(text: &mut Text, s: &Signal<Margin>, scale: Scale) -> Result<
     ensures ok { OnOk result (Grew (AreMarginLines scale (knots_of ⟦<Margin as Shape>⟧ s.now)) text.old text.new) }
     ensures err { OnErr result (GrewInPart (AreMarginLines scale (knots_of ⟦<Margin as Shape>⟧ s.now)) text.old text.new) }
 {
+    // For the proof alone: that it is a signal is a clause of `len`.
     let _ = s.len();
     put_first(text, &s.knot(0), scale)?;
     put_later(text, s, scale)

@@ -42,7 +42,7 @@ module _ (f : Formula) (seen : List Tagged) (x : Tagged) where
   pub answer_of : (reply : List ℕ) → IsReply f x.tag (own_of seen x.tag) x.content reply → IsAnswer f seen x reply
   answer_of reply h = subst (λ (p : Own). Answer p reply) grows h
 
-  -- and the other way round
+  -- the answer to the line among all lines is a reply by what the session has got
   pub reply_of_answer : (reply : List ℕ) → IsAnswer f seen x reply → IsReply f x.tag (own_of seen x.tag) x.content reply
   reply_of_answer reply h = subst (λ (p : Own). Answer p reply) (sym grows) h
 

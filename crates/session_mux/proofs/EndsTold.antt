@@ -118,7 +118,7 @@ told_to_its_end f t all text among (during, rest, answers, ends, e) =
     record { during = during; rest = rest; said = said; said_last = said_last; lines = lines_told; ends = ends_told; text_is = e; told_is = refl } in
     (said ++ said_last, a, told_whole f t all text (said ++ said_last) among a)
 
--- and what others send adds nothing to it
+-- what others send adds nothing to what a session is told to its end
 pub others_add_nothing_at_the_end : OthersAddNothingAtTheEnd
 others_add_nothing_at_the_end f t all others text other told heard same among also a b =
     let mine = told_whole f t all text told among a in

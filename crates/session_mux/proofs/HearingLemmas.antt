@@ -292,7 +292,7 @@ module _ (f : Formula) (t : List ℕ) (names : HasPlainNames f) (is : IsTag t) w
 pub hears_what_it_is_told : EachHearsWhatItIsTold
 hears_what_it_is_told f t all text told names is tags h = heard_told f t names is [] all text told tags h
 
--- and so to the end of the input
+-- to the end of the input too, what stands behind a bench's tag is what its session is told
 pub hears_its_end : EachHearsItsEnd
 hears_its_end f t all text told names is tags a =
     let ends = told_end f t names is [] all a.during a.said tags a.lines in

@@ -331,7 +331,7 @@ pub some_of : (part : List ℕ) → false ≡ (length part == 0) → 0 < length 
 some_of [] e = absurd (false≢true e)
 some_of (c ∷ cs) e = omega arith
 
--- a length that does not come out as nothing is more than nothing
+-- a part of a line whose length is not 0 is not empty
 pub not_none : (part : List ℕ) → false ≡ (length part == 0) → length part ≡ 0 → ⊥
 not_none part e empty = omega (arith, some_of part e, empty)
 
@@ -344,6 +344,6 @@ module _ (piece : List ℕ) (at : ℕ) (taken : take (at + 1) piece ≡ take at 
       ∙ ap (λ p. bytes ++ p) (sym (append_assoc (take at piece) (10 ∷ []) (drop (at + 1) piece))
       ∙ ap (λ p. p ++ drop (at + 1) piece) (sym taken) ∙ take-append-drop (at + 1) piece)
 
-  -- and with its LF the line is the front of the piece
+  -- the bytes before and a line with its LF are the bytes and the front of the piece
   pub piece_front : (bytes : List ℕ) → (bytes ++ take at piece) ++ 10 ∷ [] ≡ bytes ++ take (at + 1) piece
   piece_front bytes = append_assoc bytes (take at piece) (10 ∷ []) ∙ ap (λ p. bytes ++ p) (sym taken)

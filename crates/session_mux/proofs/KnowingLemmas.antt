@@ -87,7 +87,7 @@ set_is [] i y within = absurd (omega (arith, within))
 set_is (z ∷ xs) zero y within = refl
 set_is (z ∷ xs) (suc i) y within = set_is xs i y (omega (arith, within))
 
--- the other items stay
+-- all items but the one that is set stay as they are
 pub set_other : {X : Type 0} (xs : List X) (i j : ℕ) (y : X) → j ≢ i → slice_get (set xs i y) j ≡ slice_get xs j
 set_other [] i j y ne = refl
 set_other (z ∷ xs) zero zero y ne = absurd (ne refl)

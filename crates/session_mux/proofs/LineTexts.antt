@@ -113,10 +113,10 @@ module _ (prefix text before : List ℕ) (first : Buffer (List ℕ)) (rest after
   every : t.front ≡ lines true text
   every = sym (t.split ∙ ap (λ ls. t.front ++ ls) (ap (λ w. lines true w) none ∙ lines-nil true) ∙ append-nil t.front)
 
-  -- once the text is used up each of its lines was put
+  -- once the text is used up all of its lines were put
   pub telling_all : after ≡ before ++ prefixed prefix (lines true text)
   telling_all = t.added ∙ ap (λ ls. before ++ prefixed prefix ls) every
 
-  -- and the last eight are those of all
+  -- once the text is used up the last eight lines are those of all that was told
   pub telling_kept : (told : List (List ℕ)) → first ≡ buffer (keep_last 8 told) 8 → now ≡ buffer (keep_last 8 (told ++ texts text)) 8
   telling_kept told e = t.kept told e ∙ ap (λ ls. buffer (keep_last 8 (told ++ map (λ (l : Line). l.bytes) ls)) 8) every

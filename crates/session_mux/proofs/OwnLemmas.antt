@@ -34,7 +34,7 @@ own_by_other [] line t h = (by_other line t (bytes_eq line.tag t) (is_query line
 own_by_other (x ∷ seen) line t h =
     ap (λ o. cond (bytes_eq x.tag t) (cond (is_query x) o (cond (is_stop x) [] (x.content ++ newline ++ o))) o) (own_by_other seen line t h)
 
--- nor does it stop it
+-- a line of another tag does not stop a session
 pub stopped_by_other : (seen : List Tagged) (line : Tagged) (t : List ℕ) → is_of t line ≡ false → is_stopped (seen ++ line ∷ []) t ≡ is_stopped seen t
 stopped_by_other [] line t h = (by_other line t (bytes_eq line.tag t) (is_query line) refl refl h).1
 stopped_by_other (x ∷ seen) line t h = ap (λ o. cond (bytes_eq x.tag t) (is_stop x || o) o) (stopped_by_other seen line t h)

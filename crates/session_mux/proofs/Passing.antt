@@ -74,7 +74,7 @@ module _ (n : ℕ) (known : List (List ℕ)) (line : Line) (more : List Line) wh
       → Later x → FaultOfInput n known (line ∷ more) x
   past_old sized w b t is a x f = in_tagged sized w b t is x (to_true (Later x) (WithTag t x) (is_among t.tag known) a f)
 
-  -- and a fault of all is one of later lines
+  -- past a line of a known tag, a fault of all lines is one of those behind it
   pub old_past : IsSized n (length line.bytes) → is_blank_line line ≡ false → (t : Tagged) → IsTagged (content line) t
       → is_among t.tag known ≡ true → (x : InputFault)
       → FaultOfInput n known (line ∷ more) x → Later x
@@ -87,7 +87,7 @@ module _ (n : ℕ) (known : List (List ℕ)) (line : Line) (more : List Line) wh
   past_new sized w b t is a room x f = in_tagged sized w b t is x
       (to_false (Later x) (WithTag t x) (is_among t.tag known) a (inr ((λ y g. omega (arith, g.0, room)), f)))
 
-  -- and a fault of all is one of later lines
+  -- past the first line of a tag, a fault of all lines is one of those behind it
   pub new_past : IsSized n (length line.bytes) → is_blank_line line ≡ false → (t : Tagged) → IsTagged (content line) t
       → is_among t.tag known ≡ false → length known < 1024
       → (x : InputFault) → FaultOfInput n known (line ∷ more) x → FaultOfInput (suc n) (t.tag ∷ known) more x

@@ -89,7 +89,7 @@ module _ (tag text line : List ℕ) (whole : EndsInFeed text) where
   cut_in_first before after (a, b, e, k) =
       (a, b ++ told_lines tag line, sym (append_assoc a b (told_lines tag line)) ∙ ap (λ w. w ++ told_lines tag line) e ∙ sym both_lines, k)
 
-  -- and so is a cut in the second, behind the whole first
+  -- a cut in the second of two texts, behind the whole first, is a cut in both
   pub cut_in_second : (before between after : List ℕ) → between ≡ before ++ told_lines tag text → GrewInPart (Is (told_lines tag line)) between after
       → GrewInPart (Is (told_lines tag (text ++ line))) before after
   cut_in_second before between after s (a, b, e, k) = (
@@ -203,7 +203,7 @@ module _ (f : Formula) (limits : Limits) (bytes told : List ℕ) (mid : Live Ver
       (subst (λ (l : Limits). IsTextOf verdicts l mid.formula bytes false (told ++ mid.text)) limit (told_now WatchesRows verdicts mid bytes told k)))
       calm_so_far
 
-  -- once that text is let go the session is open for its next line
+  -- once its text is let go a session is open for its next line
   pub open_now : IsOpen f bytes (told ++ mid.text) (record mid { text = [] })
   open_now = record { formula = formula; limits = limit; empty = refl; stands = live_after WatchesRows verdicts mid bytes told k }
 
@@ -289,7 +289,7 @@ module _ (f : Formula) (o : Own) (told : List ℕ) (was : IsOwnText f o told) (o
             inr (fault.0, fault_stays stream_limits f o.bytes (content ++ newline) false fault.0 fault.1),
           )
 
-  -- and at the end of the input
+  -- a session that has stopped stays as it is at the end of the input
   pub over_at_end : IsOwnText f (stopped_now o) told
   over_at_end = by_stop o.stopped refl
     where
@@ -345,7 +345,7 @@ module _ (f : Formula) (tag : List ℕ) (o p : Own) (content : List ℕ) (no_que
   pub reply_of : (reply : List ℕ) → IsGrowth f tag o p reply → IsReply f tag o content reply
   reply_of reply h = to_false _ _ (asks content) no_question (subst (λ (q : Own). IsGrowth f tag o q reply) (sym then_is) h)
 
-  -- and the other way round
+  -- the reply to its line is the growth of a session
   pub growth_of : (reply : List ℕ) → IsReply f tag o content reply → IsGrowth f tag o p reply
   growth_of reply h = subst (λ (q : Own). IsGrowth f tag o q reply) then_is (at_false _ _ (asks content) no_question h)
 
@@ -396,12 +396,12 @@ module _ (f : Formula) (tag : List ℕ) (o : Own) (content told : List ℕ) (goi
 
   module _ (mid : Live Verdicts) (k : IsLive WatchesRows verdicts mid (o.bytes ++ (content ++ newline)) told)
       (formula : mid.formula ≡ f) (limit : mid.rows.limits ≡ stream_limits) where
-    -- with its line the session's text is what it writes alone
+    -- after a line a session's text is what it writes alone
     pub line_alone : IsOwnText f (next_line o content) (told ++ mid.text)
     line_alone = subst (λ (q : Own). IsOwnText f q (told ++ mid.text)) (sym (line_of_open o content going))
         (alone_so_far f stream_limits all_bytes told mid k formula limit)
 
-    -- and it is open for its next line
+    -- after a line, with its text let go, a session is open for the next
     pub line_open : (new : Live Verdicts) → new ≡ record mid { text = [] } → IsAfterLine f (next_line o content).bytes true new (told ++ mid.text)
     line_open new e =
         subst (λ (q : Own). IsAfterLine f q.bytes true new (told ++ mid.text)) (sym (line_of_open o content going))

@@ -53,7 +53,7 @@ unfolding lines
 no_fault f x (inl (n, h, a, l, k)) = no_header n h a
 no_fault f x (inr (_, (r, (e, (t, z)), y))) = cc
 
--- for no bytes it writes nothing
+-- for no bytes a session writes nothing
 pub nothing_alone : (f : Formula) → Alone f [] false []
 unfolding lines
 nothing_alone f = (None, [], false, [], [], no_header_yet (no_fault f) no_header, refl, inl (no_fault f, refl), refl)
@@ -163,7 +163,7 @@ module _ (f : Formula) (t : List ℕ) where
 pub told_as_alone : EachIsToldAsAlone
 told_as_alone f t all text are = told_on f t [] all [] text (nothing_alone f) are
 
--- and what others send adds nothing to it
+-- what others send adds nothing to what a session is told
 pub others_add_nothing : OthersAddNothing
 others_add_nothing f t all others text other told heard same a b =
     let mine = told_alone f t [] all [] text told (nothing_alone f) a in

@@ -46,7 +46,7 @@ stretch_ends : (p : Subformula) (tr : Trace) (old : Option ℤ) (new : ℤ) (tex
     → IsStretchText p tr (after (first_time tr.rows) old new) text → EndsInFeed text
 stretch_ends p tr old new text (given, is, all) = verdict_lines_end tr.header.scale given text all
 
--- so does what a row newly tells
+-- what a row newly tells ends in an LF, or is nothing
 pub new_ends : (p : Subformula) (tr : Trace) (old new : Option ℤ) (text : List ℕ) → IsNewText p tr old new text → EndsInFeed text
 new_ends p tr old None text h = inl h
 new_ends p tr None (Some new) text h = stretch_ends p tr None new text h
@@ -56,7 +56,7 @@ new_ends p tr (Some old) (Some new) text h = by_order (int_lt old new) h
     by_order true k = stretch_ends p tr (Some old) new text k
     by_order false k = inl k
 
--- and what all rows tell
+-- what all rows tell ends in an LF, or is nothing
 pub rows_end : (p : Subformula) (header : Header) (rows : List Row) (old : Option ℤ) (more : List Row) (text : List ℕ)
     → IsRowsText (IsNewText p) p header rows old more text → EndsInFeed text
 rows_end p header rows old [] text e = inl e
@@ -74,7 +74,7 @@ stream_ends p header rows true text (are, (during, rest, line, on, left, (holds,
     (new_ends p tr (answered_by (first_time rows) p (last_time 0 rows)) (Some _) rest left) refl)
     (inr (codes "start " ++ bool_text holds, is)) e
 
--- and the text of a stream
+-- the text of a stream ends in an LF, or is nothing
 pub rows_stream_ends : (f : Formula) (header : Option Header) (rows : List Row) (whole : Bool) (text : List ℕ)
     → IsRowsStream f header rows whole text → EndsInFeed text
 rows_stream_ends f None rows whole text e = inl e
@@ -106,7 +106,7 @@ unit_ends n (unit.Constant i) = line_ends n (codes "node " ++ decimal i ++ codes
 unit_ends n (unit.Reach sum) = line_ends n (codes "bounds sum to " ++ decimal sum)
 unit_ends n unit.Memory = inr (codes "out of memory", refl)
 
--- and the line of a fault
+-- the line of a fault ends in an LF
 pub fault_ends : (x : Fault) → EndsInFeed (fault_text x)
 fault_ends (of_trace r) = kind_ends r.line r.kind
 fault_ends (unknown n atom term name) = line_ends n (codes "unknown column " ++ name)

@@ -32,7 +32,7 @@ node_unscaled cs k m (Since p q a b) h = tt
 node_unscaled cs k m (Once p a b a_in b_in) h = tt
 node_unscaled cs k m (Historically p a b a_in b_in) h = tt
 
--- columns that a scaled formula has the formula has
+-- a header that has the columns of a scaled formula has those of the formula
 pub columns_unscaled : (cs : List Column) (k m : ℕ) (nodes : List Node) → All (HasColumns cs) (map (scaled_node k m) nodes) → All (HasColumns cs) nodes
 columns_unscaled cs k m [] h = All-nil (HasColumns cs)
 columns_unscaled cs k m (n ∷ nodes) h =

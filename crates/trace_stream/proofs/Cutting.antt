@@ -293,7 +293,7 @@ module _ (p : Subformula) where
       by_holds true e x = e.0 x
       by_holds false e x = λ y. x (e.1 y)
 
-  -- and lead there likewise
+  -- verdicts that lead from c to d for one trace do so for another that agrees where they lie
   pub leads_moves : (tr tr' : Trace) (c d : Place) (vs : List Verdict) → ((t : Rational) → After c t → Upto d t → Agree p tr tr' t) → Leads tr c vs d
       → Leads tr' c vs d
   leads_moves tr tr' c d vs agree l = record { tiles = l.tiles; told = told_moves tr tr' c d vs l.tiles agree l.told; turning = l.turning }
@@ -341,7 +341,7 @@ module _ (p : Subformula) where
   turning_alike (v ∷ vs) [] e t = absurd e
   turning_alike (v ∷ vs) (w ∷ ws) (begin, end, holds, e) t = turns_alike w.holds vs ws e (subst (λ h. TurnsFrom h vs) holds t)
 
-  -- and so do verdicts that are alike
+  -- verdicts that are alike lead from and to the same places
   pub leads_alike : (tr : Trace) (c d : Place) (vs ws : List Verdict) → AreAlike vs ws → Leads tr c vs d → Leads tr c ws d
   leads_alike tr c d vs ws e l = record {
     tiles = tiles_alike c d vs ws e l.tiles;

@@ -10,7 +10,7 @@ use Rattle.trace_stream.specs.declared.fault.StreamStop.{StreamStop}
 pub rest_is : (text : List ℕ) (at : ℕ) → take (length text - at) (drop at text) ≡ drop at text
 rest_is text at = take_all (length text - at) (drop at text) (omega (arith, length-drop at text))
 
--- bytes and a piece up to a place, and a part more, are the piece up to a later place
+-- bytes with a piece up to a place, and n bytes more of it, are the bytes with the piece up to n further on
 pub fed : (bytes piece : List ℕ) (at n : ℕ) → (bytes ++ take at piece) ++ take n (take (length piece - at) (drop at piece)) ≡ bytes ++ take (at + n) piece
 fed bytes piece at n =
     append_assoc bytes (take at piece) (take n (take (length piece - at) (drop at piece)))

@@ -78,7 +78,7 @@ pub ticks_small : (least : Scale) (fs : List (List ℕ)) (g : Heading) → IsSca
 ticks_small least [] g s h = absurd h
 ticks_small least (f ∷ fs) g s h = record { time = omega (arith, s.time, time_small h.0); value = columns_small fs g.columns g.digits least.value h.1 s.value }
 
--- and has fields that make a heading
+-- the header's line has fields that make its heading
 pub heading_is : {ls : List Line} {n : ℕ} {h : Heading} → IsHeaderAt ls n h → (fs : List (List ℕ)) × IsHeading fs h
 heading_is (here {line = l} w b is) = (fields l, is)
 heading_is (later w b p) = heading_is p

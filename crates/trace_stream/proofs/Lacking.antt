@@ -40,7 +40,7 @@ module _ (f : Formula) (n : ℕ) (header : Header) (h : Heading) (e : header ≡
       let ticks : IsUnitFault f (scale_of f.scale h) fault = subst (λ (x : Header). IsUnitFault f x.scale fault) e is in
       (unit n fault, refl, inr (λ x u. none_unknown h.columns f columns u.0 u.1 u.2 u.3, (fault, ticks, refl)))
 
-  -- numbers that do not fit the ticks are no begin
+  -- a header in whose ticks the formula's numbers do not fit begins no case
   pub lacks_unit : All (HasColumns header.columns) f.nodes → (fault : UnitFault)
       → (fault ≡ NoRoom) ⊎ IsUnitFault f header.scale fault → IsNoBegin f n h (stop_of_unit n fault)
   lacks_unit all NoRoom is = tt
@@ -49,21 +49,21 @@ module _ (f : Formula) (n : ℕ) (header : Header) (h : Heading) (e : header ≡
   lacks_unit all (Reach i) (inl e) = absurd (let k = e in cc)
   lacks_unit all (Reach i) (inr is) = lacks_ticks all (Reach i) is
 
-  -- nor is a column that the header lacks
+  -- a header that lacks a column of the formula begins no case
   pub lacks_column : (b : BindFault) → IsBindFault header.columns f b → IsNoBegin f n h (stop_of n b)
   lacks_column (UnknownColumn atom term) (name, u) =
       let mine = subst (λ (x : Header). IsUnknown x.columns f atom term name) e u in
       (unknown n atom term name, (name, named_of f h.columns atom term name mine, refl), inl (atom, term, name, mine, refl))
   lacks_column Memory u = tt
 
-  -- nor one that the scaled formula names
+  -- a header that lacks a column of the scaled formula begins no case
   pub lacks_scaled : (g : Formula) → g ≡ scaled f header.scale → (b : BindFault) → IsBindFault header.columns g b → IsNoBegin f n h (stop_of n b)
   lacks_scaled g is (UnknownColumn atom term) (name, u) =
       lacks_column (UnknownColumn atom term)
       (name, unknown_unscaled header.columns f header.scale atom term name (subst (λ (g : Formula). IsUnknown header.columns g atom term name) is u))
   lacks_scaled g is Memory u = tt
 
-  -- a header that has all is a begin
+  -- a header that lacks nothing begins a case
   pub begun : (c : Case) → c.trace ≡ record { header = header; rows = [] } → c.formula ≡ scaled f header.scale → IsBound c.bound c.formula header
       → All (HasColumns header.columns) c.formula.nodes → ((u : UnitFault) → ¬ IsUnitFault f header.scale u) → IsBegun f n h c
   begun c trace formula bound all fits = record {

@@ -38,13 +38,13 @@ module _ {T : Type 0} (f : Formula) (reader : Reader) (case : Option T) (r : Tra
   with_case some = own (λ none. absurd (false≢true (subst (λ o. is_some o ≡ true) none some)))
 
   module _ (header : Header) (has : r.kind ≡ NoRows → HasHeader f reader) (read : header_read reader ≡ Some header) (end : r.kind ≡ NoRows) where
-    -- a header without rows that lacks something is told so at the end
+    -- where a header without rows lacks something, that is the fault which is told at the end
     pub lacking_header : is_some case ≡ false → (stop : StreamStop)
         → ((h : Heading) → header ≡ header_of f.scale h → IsNoBegin f r.line h stop) → IsLastFault f reader case r stop
     lacking_header none stop no_begin =
         let k = has end in
         of_header k.heading (none_of case none) end k.read (no_begin k.heading (header_is f reader header k read k.heading k.read))
 
-    -- and one that lacks nothing is told of no rows
+    -- where a header without rows lacks nothing, it is told at the end that there are no rows
     pub fitting_header : (c : Case) → ((h : Heading) → header ≡ header_of f.scale h → IsBegun f r.line h c) → IsLastFault f reader case r (Faulty (InTrace r))
     fitting_header c begun = own (λ none e h some x lacks. (begun h (header_is f reader header (has end) read h some)).fits x lacks)

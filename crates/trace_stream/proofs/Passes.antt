@@ -112,7 +112,7 @@ module _ (nodes : List Node) (header : Header) where
     quiet_shown s [] q = refl
     quiet_shown s (e ∷ events) (h, q) = h ∙ quiet_shown (after_event nodes s e) events q
 
-    -- and give nothing out
+    -- quiet events give nothing out
     pub quiet_gives : (s : State) (events : List Event) (vs : List Verdict) → AreQuiet s events → EmittedFrom nodes header k s events vs → vs ≡ []
     quiet_gives s [] vs q em = em
     quiet_gives s (e ∷ events) vs (h, q) (here, later, at, more, eq) =
@@ -303,7 +303,7 @@ alike_append [] b (w ∷ c) d e f = absurd e
 alike_append (v ∷ a) b [] d e f = absurd e
 alike_append (v ∷ a) b (w ∷ c) d (begin, end, holds, e) f = (begin, end, holds, alike_append a b c d e f)
 
--- and have as many verdicts
+-- lists that are alike have as many verdicts
 pub alike_length : (vs ws : List Verdict) → AreAlike vs ws → length vs ≡ length ws
 alike_length [] [] e = refl
 alike_length [] (w ∷ ws) e = absurd e

@@ -1,9 +1,8 @@
 -- A reader with what follows its rows, as a stream: what a piece and the end come to.
 use Rattle.std.proofs.Common.{◌≡◌, ◌≢◌, inl, inr, ℕ, ◌<◌, Bool, true, false, List, [], ◌++◌, length, refl}
-use Rattle.std.proofs.Common.{sym, ap, ◌∙◌, subst, arith, append-nil, append_assoc, Option, Result, Ok, Err}
+use Rattle.std.proofs.Common.{sym, ap, ◌∙◌, subst, arith, append-nil, Option, Result, Ok, Err}
 use Rattle.std.specs.Prelude.{MatchResult, OnOk, option_map}
 use Rattle.std.proofs.KnownBytes.{Appends-nil}
-use Rattle.std.proofs.lemmas.Bool.{false≢true}
 use Rattle.stl_syntax.specs.Formula.{Formula, root}
 use Rattle.trace_reader.specs.Reader.{header_of}
 use Rattle.trace_reader.specs.declared.refusal.Limits.{Limits}
@@ -15,6 +14,7 @@ use Rattle.workbench.specs.Pushing.{IsPushed, IsPushStop, IsPush, IsFinished}
 use Rattle.trace_stream.specs.Reading.{IsWhole}
 use Rattle.workbench.specs.InputFaults.{Fault, fault_text, IsInputFault, AreRowsBefore}
 use Rattle.workbench.specs.Wholes.{status_of_truth}
+use Rattle.workbench.proofs.Beginnings.{begun_before, begun_now}
 use Rattle.trace_stream.specs.Following.{IsTextOf, IsLive, IsAtRest, IsOver, IsDone, IsLiveStop}
 use Rattle.workbench.specs.Telling.{IsToldAs, no_room, told_whole, told_in_part}
 use Rattle.trace_stream.specs.declared.case.Case.{Case}
@@ -58,31 +58,6 @@ due_of_wide early f bytes text ended i den w = absurd w
 due_of_wide margins f bytes text ended i den w = inr (i, den, w)
 
 module _ (kind : Stream) where
-  -- what was owed for the first bytes alone
-  begun_before : (f : Formula) (bytes piece text : List ℕ) (ended : Bool) → OwesRows kind f bytes false text
-      → IsBegun (stream kind f) (bytes ++ piece) ended (text ++ []) []
-  begun_before f bytes piece text ended owed = record {
-    seen = bytes;
-    later = piece;
-    parts = refl;
-    seen_end = false;
-    at_end = λ t. absurd (false≢true t);
-    owed = due_of_owed kind f bytes ((text ++ []) ++ []) false
-        (subst (λ t. OwesRows kind f bytes false t) (sym (append-nil (text ++ []) ∙ append-nil text)) owed);
-  }
-
-  -- what was due for all bytes
-  begun_now : (f : Formula) (bytes text front back made : List ℕ) (ended : Bool) → made ≡ front ++ back
-      → IsDue (stream kind f) bytes ended (text ++ made) → IsBegun (stream kind f) bytes ended (text ++ front) back
-  begun_now f bytes text front back made ended e owed = record {
-    seen = bytes;
-    later = [];
-    parts = sym (append-nil bytes);
-    seen_end = ended;
-    at_end = λ t. (t, refl);
-    owed = subst (λ t. IsDue (stream kind f) bytes ended t) (ap (λ t. text ++ t) e ∙ sym (append_assoc text front back)) owed;
-  }
-
   -- a refusal for a denominator
   wide_of : (limits : Limits) (f : Formula) (bytes text : List ℕ) (ended : Bool) (i den : ℕ) → limits ≡ limits_of kind
       → IsLiveStop kind limits f ended bytes text (Wide i den)
@@ -170,7 +145,8 @@ module _ {F : Type 0} (Stands : F → Case → List ℕ → Type 0) (kind : Stre
         (λ e. IsLiveStop kind mid.rows.limits f false (bytes ++ piece) (text ++ mid.text) e)
         → OnOk result (new ≡ record mid { text = [] })
         → IsPush (stream kind f) held held_after (bytes ++ piece) false text (λ _. IsPushed (IsAtRest Stands kind new) (stream kind f) (bytes ++ piece)) result
-    push_of fed result (no_room kept) h done = ([], kept, inr ([], begun_before kind f bytes piece text false before))
+    push_of fed result (no_room kept) h done =
+        ([], kept, inr ([], begun_before (stream kind f) bytes piece text false (due_of_owed kind f bytes text false before)))
     push_of (Ok x) result (told_whole ne wrote) h done =
         let rest = written_all mid new (bytes ++ piece) text done limits h in
         let formula : new.formula ≡ f = ap (λ (z : Live F). z.formula) done ∙ same in (
@@ -187,7 +163,7 @@ module _ {F : Type 0} (Stands : F → Case → List ℕ → Type 0) (kind : Stre
       (
         part.back,
         part.missing,
-        begun_now kind f (bytes ++ piece) text part.front part.back mid.text false part.parts
+        begun_now (stream kind f) (bytes ++ piece) text part.front part.back mid.text false part.parts
             (due_of_owed kind f (bytes ++ piece) (text ++ mid.text) false
             (subst (λ (g : Formula). OwesRows kind g (bytes ++ piece) false (text ++ mid.text)) same (owed_now mid (bytes ++ piece) text limits h))),
       ),
@@ -198,7 +174,7 @@ module _ {F : Type 0} (Stands : F → Case → List ℕ → Type 0) (kind : Stre
       (
         part.back,
         part.missing,
-        begun_now kind f (bytes ++ piece) text part.front part.back mid.text false part.parts
+        begun_now (stream kind f) (bytes ++ piece) text part.front part.back mid.text false part.parts
             (fault_owed kind mid.rows.limits f (bytes ++ piece) (text ++ mid.text) false stop limits (λ e. ne (ap Err e)) h),
       ),
     )
@@ -241,8 +217,15 @@ module _ {F : Type 0} (Ended : F → Case → List ℕ → Type 0) (kind : Strea
         → MatchResult finished (IsOver Ended kind limits f mid bytes (text ++ mid.text)) (λ e. IsLiveStop kind limits f true bytes (text ++ mid.text) e)
         → OnOk result (new ≡ record mid { text = [] })
         → IsPush (stream kind f) held held_after bytes true text (IsFinished (IsDone Ended kind new) (stream kind f) bytes) result
-    end_of finished result (no_room kept) h done =
-        ([], kept, inr ([], subst (λ b. IsBegun (stream kind f) b true (text ++ []) []) (append-nil bytes) (begun_before kind f bytes [] text true before)))
+    end_of finished result (no_room kept) h done = (
+      [],
+      kept,
+      inr (
+        [],
+        subst (λ b. IsBegun (stream kind f) b true (text ++ []) []) (append-nil bytes)
+            (begun_before (stream kind f) bytes [] text true (due_of_owed kind f bytes text false before)),
+      ),
+    )
     end_of (Ok holds) result (told_whole ne wrote) h done = (
       mid.text,
       wrote,
@@ -259,7 +242,7 @@ module _ {F : Type 0} (Ended : F → Case → List ℕ → Type 0) (kind : Strea
       (
         part.back,
         part.missing,
-        begun_now kind f bytes text part.front part.back mid.text true part.parts
+        begun_now (stream kind f) bytes text part.front part.back mid.text true part.parts
             (due_of_owed kind f bytes (text ++ mid.text) true (owed_whole limits f mid bytes (text ++ mid.text) holds same h)),
       ),
     )
@@ -269,7 +252,7 @@ module _ {F : Type 0} (Ended : F → Case → List ℕ → Type 0) (kind : Strea
       (
         part.back,
         part.missing,
-        begun_now kind f bytes text part.front part.back mid.text true part.parts
+        begun_now (stream kind f) bytes text part.front part.back mid.text true part.parts
             (fault_owed kind limits f bytes (text ++ mid.text) true stop same (λ e. ne (ap Err e)) h),
       ),
     )

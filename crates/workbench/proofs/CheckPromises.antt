@@ -404,55 +404,55 @@ module _ (words : List (List ℕ)) {own : List ℕ} (ask : AskCheck words own) (
       record { rest = p.back; parts = p.parts ∙ ap (λ t. t ++ p.back) (got_is got p.wrote); complete = λ calm. absurd (calm rose) }
 
   module _ {status : ℕ} (r : IsRun words i o e status) where
-    -- its status is at most 7
+    -- the status of such a run is at most 7
     pub run_bound : status ≤ 7
     run_bound = bound (seen r)
 
-    -- it is not told of the usage
+    -- such a run is not refused for its usage
     pub run_form : status ≢ 2
     run_form two = two_is_none i o r.ended two (judge word.check own) (asked_check ask)
 
-    -- it ends with 4 only where the bytes have a fault
+    -- such a run ends with 4 only where the bytes have a fault
     pub run_bad : old.IsBadRightly words status
     run_bad = bad_rightly (seen r)
 
-    -- and does where they have one and nothing comes before
+    -- such a run ends with 4 where the bytes have a fault and nothing else comes before it
     pub run_bad_due : old.IsBadWhereDue words status
     run_bad_due = bad_due (seen r)
 
-    -- it ends with 3 only where the formula is refused, with nothing read
+    -- such a run ends with 3 only where the formula is refused, with nothing read
     pub run_refused : old.IsRefusedRightly words i.before i.after i.ended status
     run_refused = refused_rightly r.moved (seen r)
 
-    -- and does where the formula is refused
+    -- such a run ends with 3 where the formula is refused
     pub run_due : old.IsRefusedWhereDue words i.before i.after i.ended status
     run_due = refused_due r.moved (seen r)
 
-    -- it is answered where nothing is wrong, no device fails and memory suffices
+    -- such a run is answered where nothing is wrong, no device fails and memory suffices
     pub run_answer_due : old.IsAnsweredWhereDue words i.before i.faults i.faults_after o.faults o.faults_after status
     run_answer_due = answered_due r.moved (seen r)
 
-    -- with 5 the source failed
+    -- where such a run ends with 5 the source failed
     pub run_read : status ≡ 5 → Rose i.faults i.faults_after
     run_read = five (seen r)
 
-    -- with 6 the sink failed
+    -- where such a run ends with 6 the sink failed
     pub run_write : status ≡ 6 → Rose o.faults o.faults_after
     run_write = six (seen r)
 
-    -- an answer, and a failed output, come after the whole input
+    -- such a run is answered, or fails at its output, only after the whole input was read
     pub run_all_read : (status ≤ 1) ⊎ (status ≡ 6) → (i.ended ≡ true) × IsAtEnd i.after
     run_all_read = all_read (seen r)
 
-    -- an answer is the right one, written whole
+    -- an answer of such a run is the right one, written whole
     pub run_answered : old.IsAnsweredRightly words i.before i.after o.before o.after status
     run_answered = answered_rightly r.moved r.grew (seen r)
 
-    -- what a failed output has is a front of it
+    -- what was written where the output failed is a front of the answer
     pub run_cut_off : old.IsCutOffRightly words i.before i.after o.before o.after status
     run_cut_off = cut_off_rightly r.moved r.grew (seen r)
 
-    -- and the error stream has the line of its status
+    -- the error stream has the line of the status
     pub run_told : old.IsToldRightly words i.before i.after i.ended e.before e.after e.faults e.faults_after status
     run_told message got = (r.line, line_of r.moved (seen r), message_of r.said message got)
 

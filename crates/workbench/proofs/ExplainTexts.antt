@@ -24,44 +24,11 @@ use Rattle.stl_syntax.specs.declared.scale.Scale.{Scale}
 use Rattle.stl_syntax.specs.Print.{IsAtomText}
 use Rattle.stl_syntax.proofs.PrintLaw.{one_printed}
 use Rattle.implicants.specs.Keeping.{CoverMore}
-use Rattle.implicants.proofs.Counting.{AreSameTimes, first_is_same, rest_is_same, cuts_are_same}
+use Rattle.implicants.proofs.Counting.{cuts_are_same}
 use Rattle.implicants.proofs.Growing.{must_not}
-use Rattle.implicants.proofs.OneExplanation.{AreAlike, alike_sym, in_alike}
+use Rattle.implicants.proofs.OneExplanation.{AreAlike, AreAllAlike, alike_sym, alike_trans, in_alike, same_cells}
 use Rattle.report.specs.Report.{explain, Join, AreJoined, IsItemLines, AreItemLines, IsExplained, Out, nodes_for}
 use Rattle.report.proofs.OneText.{span_once, start_once}
-
-alike_trans : (a b c : Interval) → AreAlike a b → AreAlike b c → AreAlike a c
-alike_trans a b c s r = record {
-  begin = record { time = same_trans s.begin.time r.begin.time; inside = s.begin.inside ∙ r.begin.inside };
-  end = record { time = same_trans s.end.time r.end.time; inside = s.end.inside ∙ r.end.inside };
-}
-
--- spans one by one alike
-abbrev AreAllAlike : List Interval → List Interval → Type 0
-AreAllAlike [] [] = Unit {0}
-AreAllAlike [] (b ∷ others) = ⊥
-AreAllAlike (a ∷ spans) [] = ⊥
-AreAllAlike (a ∷ spans) (b ∷ others) = AreAlike a b × AreAllAlike spans others
-
--- the same times have the same cells
-same_cells : (xs ys : List Rational) → AreSameTimes xs ys → AreAllAlike (cells xs) (cells ys)
-same_cells [] [] s = tt
-same_cells [] (y ∷ []) s = absurd (s.back y (inl (same_refl y)))
-same_cells [] (y ∷ v ∷ ys) s = absurd (s.back y (inl (same_refl y)))
-same_cells (x ∷ []) [] s = absurd (s.there x (inl (same_refl x)))
-same_cells (x ∷ u ∷ xs) [] s = absurd (s.there x (inl (same_refl x)))
-same_cells (x ∷ []) (y ∷ []) s =
-    let e = first_is_same x y [] [] s in
-    (record { begin = record { time = e; inside = refl }; end = record { time = e; inside = refl } }, tt)
-same_cells (x ∷ []) (y ∷ v ∷ ys) s = absurd ((rest_is_same x y [] (v ∷ ys) s).back v (inl (same_refl v)))
-same_cells (x ∷ u ∷ xs) (y ∷ []) s = absurd ((rest_is_same x y (u ∷ xs) [] s).there u (inl (same_refl u)))
-same_cells (x ∷ u ∷ xs) (y ∷ v ∷ ys) s =
-    let rest = rest_is_same x y (u ∷ xs) (v ∷ ys) s in
-    let e = first_is_same x y (u ∷ xs) (v ∷ ys) s in
-    let f = first_is_same u v xs ys rest in (
-      record { begin = record { time = e; inside = refl }; end = record { time = e; inside = refl } },
-      (record { begin = record { time = e; inside = refl }; end = record { time = f; inside = refl } }, same_cells (u ∷ xs) (v ∷ ys) rest),
-    )
 
 -- a span has a time
 time_in : (s : Span) → (t : Rational) × IsIn (interval s) t

@@ -5,7 +5,7 @@ use Rattle.std.specs.Result.{is_err}
 use Rattle.std.proofs.lemmas.Bool.{false≢true}
 use Rattle.std.specs.Io.KnownBytes.{Appends, Consumes}
 use Rattle.std.proofs.KnownBytes.{Appends-nil, Consumes-nil}
-use Rattle.io_edge.specs.Calls.{Drained, Filled, IsAskedOnce}
+use Rattle.io_edge.specs.Calls.{Drained, Filled}
 use Rattle.report.specs.Report.{Command, nodes_for}
 use Rattle.early_verdict.specs.Deciding.{Kept as Deciding}
 use Rattle.stl_syntax.specs.Formula.{Formula, root}
@@ -23,8 +23,8 @@ use Rattle.workbench.specs.Commands.{Judge, judge, generate}
 use Rattle.workbench.specs.Commands as word
 use Rattle.workbench.specs.ErrTexts.{not_streamed_text, out_of_memory}
 use Rattle.workbench.specs.InputFaults.{stream_limits, whole_limits}
-use Rattle.workbench.specs.Requests.{Request, no_form, refused as bad_request, whole, stream, verdicts, early}
-use Rattle.workbench.specs.Requests.{margins, generated, Asks, AreNone, AreFor, IsAsked, IsUnserved, word_of}
+use Rattle.workbench.specs.Requests.{Request, Stream, no_form, refused as bad_request, whole, stream, verdicts, early}
+use Rattle.workbench.specs.Requests.{margins, generated, Asks, AreNone, AreFor, IsAsked, IsUnserved, word_of, word_of_stream}
 use Rattle.workbench.specs.Running.{IsRun, asked as run_asked, settled, unknown as run_unknown}
 use Rattle.workbench.specs.Settled.{bad}
 use Rattle.workbench.specs.Saying.{IsSaid}
@@ -32,9 +32,8 @@ use Rattle.workbench.specs.Deciding.{IsDeciding}
 use Rattle.workbench.specs.declared.early.Deciding.{Deciding as Follower}
 use Rattle.workbench.specs.Keeping.{Holds, IsEarlyOf, IsLeft, IsNetOf, asked, unknown, HasRun}
 use Rattle.workbench.specs.Watches.{Watched, StandsForAll}
-use Rattle.workbench.specs.Wholes.{IsBadEnd, refused, no_room, status_of, status_of_stop, IsEndLine}
-use Rattle.workbench.specs.Pushing.{IsStreamEnd}
-use Rattle.workbench.proofs.StreamSteps.{stream_run}
+use Rattle.workbench.specs.Wholes.{IsBadEnd, refused, no_room, status_of, status_of_stop}
+use Rattle.workbench.proofs.StreamSteps.{HasStreamed, streamed_end, streamed_run}
 use Rattle.workbench.specs.declared.fault.Stop.{Stop}
 use Rattle.workbench.specs.declared.fault.Stop.TheVariants.{Fault as Faulty, Input as FaultyLine, Unread, Unwritten, NoMemory, Wide, TooMany}
 use Rattle.workbench.specs.declared.kept.Kept.{Kept}
@@ -113,10 +112,16 @@ watch_left words f bytes text (Ok false) w old new ask (holds, k) same =
 watch_left words f bytes text (Err stop) w old new ask k same =
     asked (stream verdicts f) ask (inr (inr (not_answer stop), same))
 
--- the answer is kept, or the fault leaves all as it was
-pub kept_fault : (r : Result Bool Stop) (w : Watched) (k : Kept) → is_err r ≡ true → MatchResult r (λ _. k ≡ Watch w) (λ _. k ≡ k)
-kept_fault (Ok holds) w k e = absurd (false≢true e)
-kept_fault (Err stop) w k e = refl
+-- a stream that ends for a reason leaves nothing
+pub streamed_stopped : {s : Stream} {f : Formula} (Done : Formula → List ℕ → List ℕ → Type 0) {i : Drained} {o e : Filled}
+    {ending : Result Bool Stop} {status : ℕ} (words : List (List ℕ)) (old : Kept) → AreFor words (word_of_stream s) f
+    → HasStreamed s f Done i o e ending status → is_err ending ≡ true → HasRun words i o e old old status
+streamed_stopped {s} {f} Done {ending = ending} words old ask x err =
+    streamed_run x words old old ask (stopped_left words (stream s f) (streamed_end x).bytes ending old ask err)
+
+-- a watch that came to its end stands for all bytes
+abbrev pub IsWatched : Watched → Formula → List ℕ → List ℕ → Type 0
+IsWatched w f bytes text = (holds : Bool) × StandsForAll (record { formula = f; limits = stream_limits; bytes = bytes; text = text }) holds w
 
 -- a run that is answered leaves its watch
 pub kept_answer : (r : Result Bool Stop) (w : Watched) (old : Kept) → is_err r ≡ false → MatchResult r (λ _. Watch w ≡ Watch w) (λ _. Watch w ≡ old)
@@ -124,19 +129,13 @@ kept_answer (Ok holds) w old e = refl
 kept_answer (Err stop) w old e = absurd (false≢true (sym e))
 
 -- the run of `watch`
-pub watch_run : (words : List (List ℕ)) (f g h : Formula) (w : Watched) (i : Drained) (o e : Filled) (old new : Kept)
-    → AreFor words word.watch f → g ≡ f → h ≡ f → (ending : Result Bool Stop) (status : ℕ) (line : List ℕ)
-    → status ≡ status_of ending
-    → IsStreamEnd (λ bytes text. (holds : Bool) × StandsForAll (record { formula = g; limits = stream_limits; bytes = bytes; text = text }) holds w)
-    (stream verdicts g) i o ending
-    → IsAskedOnce i → IsEndLine h ending line → IsSaid e.before e.after e.faults e.faults_after line
+pub watch_run : {f : Formula} {i : Drained} {o e : Filled} {ending : Result Bool Stop} {status : ℕ} (words : List (List ℕ)) (w : Watched)
+    (old new : Kept) → AreFor words word.watch f
+    → HasStreamed verdicts f (IsWatched w) i o e ending status
     → MatchResult ending (λ _. new ≡ Watch w) (λ _. new ≡ old) → HasRun words i o e old new status
-watch_run words f g h w i o e old new ask eg eh ending status line same x once told said kept =
-    let y = subst (λ (k : Formula).
-    IsStreamEnd (λ bytes text. (holds : Bool) × StandsForAll (record { formula = k; limits = stream_limits; bytes = bytes; text = text }) holds w)
-    (stream verdicts k) i o ending) eg x in
-    stream_run words verdicts f i o e old new ask ending status line same y once (subst (λ (k : Formula). IsEndLine k ending line) eh told) said
-    (watch_left words f y.bytes y.text ending w old new ask y.left kept)
+watch_run {f} {ending = ending} words w old new ask x kept =
+    let y = streamed_end x in
+    streamed_run x words old new ask (watch_left words f y.bytes y.text ending w old new ask y.left kept)
 
 -- `early` leaves what decided on an answer, and nothing else
 pub early_left : (words : List (List ℕ)) (f : Formula) (bytes : List ℕ) (ending : Result Bool Stop) (x : Deciding) (old new : Kept) → AreFor words word.early f
@@ -164,16 +163,14 @@ early_over f bytes text live (holds, over) e = (
 )
 
 -- the run of `early`
-pub early_run : (words : List (List ℕ)) (f g h : Formula) (x : Deciding) (i : Drained) (o e : Filled) (old new : Kept)
-    → AreFor words word.early f → g ≡ f → h ≡ f
-    → (ending : Result Bool Stop) (status : ℕ) (line : List ℕ) → status ≡ status_of ending → (Done : List ℕ → List ℕ → Type 0)
-    → IsStreamEnd Done (stream early g) i o ending → ((bytes text : List ℕ) → OnOk ending (Done bytes text) → OnOk ending (IsEarlyOf f bytes x))
-    → IsAskedOnce i → IsEndLine h ending line → IsSaid e.before e.after e.faults e.faults_after line → MatchResult ending (λ _. new ≡ Early x) (λ _. new ≡ old)
-    → HasRun words i o e old new status
-early_run words f g h x i o e old new ask eg eh ending status line same Done y as_done once told said kept =
-    let z = subst (λ (k : Formula). IsStreamEnd Done (stream early k) i o ending) eg y in
-    stream_run words early f i o e old new ask ending status line same z once (subst (λ (k : Formula). IsEndLine k ending line) eh told) said
-    (early_left words f z.bytes ending x old new ask (as_done z.bytes z.text z.left) kept)
+pub early_run : {f : Formula} (Done : List ℕ → List ℕ → Type 0) {i : Drained} {o e : Filled} {ending : Result Bool Stop} {status : ℕ}
+    (words : List (List ℕ)) (x : Deciding) (old new : Kept) → AreFor words word.early f
+    → HasStreamed early f (λ _. Done) i o e ending status
+    → ((bytes text : List ℕ) → OnOk ending (Done bytes text) → OnOk ending (IsEarlyOf f bytes x))
+    → MatchResult ending (λ _. new ≡ Early x) (λ _. new ≡ old) → HasRun words i o e old new status
+early_run {f} Done {ending = ending} words x old new ask y as_done kept =
+    let z = streamed_end y in
+    streamed_run y words old new ask (early_left words f z.bytes ending x old new ask (as_done z.bytes z.text z.left) kept)
 
 -- the answer is kept
 pub early_answer : (r : Result Bool Stop) (x : Deciding) (old : Kept) → is_err r ≡ false → MatchResult r (λ _. Early x ≡ Early x) (λ _. Early x ≡ old)
@@ -187,17 +184,6 @@ pub early_of_done : (f : Formula) (live : Live Follower) (ending : Result Bool S
 early_of_done f live (Ok holds) x e is bytes text k =
     let w = early_over f bytes text live k e in subst (λ (y : Deciding). IsEarlyOf f bytes y) (sym (is w.0 w.1)) w.2
 early_of_done f live (Err stop) x e is bytes text k = tt
-
--- the run of `early` on a fault
-pub early_stopped : (words : List (List ℕ)) (f g h : Formula) (i : Drained) (o e : Filled) (old : Kept) → AreFor words word.early f → g ≡ f → h ≡ f
-    → (ending : Result Bool Stop) (status : ℕ) (line : List ℕ) → status ≡ status_of ending → (Done : List ℕ → List ℕ → Type 0)
-    → IsStreamEnd Done (stream early g) i o ending → is_err ending ≡ true
-    → IsAskedOnce i → IsEndLine h ending line → IsSaid e.before e.after e.faults e.faults_after line
-    → HasRun words i o e old old status
-early_stopped words f g h i o e old ask eg eh ending status line same Done y err once told said =
-    let z = subst (λ (k : Formula). IsStreamEnd Done (stream early k) i o ending) eg y in
-    stream_run words early f i o e old old ask ending status line same z once (subst (λ (k : Formula). IsEndLine k ending line) eh told) said
-    (stopped_left words (stream early f) z.bytes ending old ask err)
 
 -- streams of decisions that are one are of one formula
 pub same_formula : (f g : Formula) → stream early f ≡ stream early g → f ≡ g
@@ -244,17 +230,14 @@ margins_over f bytes text live (holds, over) e =
     )
 
 -- the run of `rwatch`
-pub margins_run : (words : List (List ℕ)) (f g h : Formula) (net : Parts) (i : Drained) (o e : Filled) (old new : Kept)
-    → AreFor words word.rwatch f → g ≡ f → h ≡ f
-    → (ending : Result Bool Stop) (status : ℕ) (line : List ℕ) → status ≡ status_of ending → (Done : List ℕ → List ℕ → Type 0)
-    → IsStreamEnd Done (stream margins g) i o ending → ((bytes text : List ℕ) → OnOk ending (Done bytes text) → OnOk ending (IsNetOf f bytes net))
-    → IsAskedOnce i → IsEndLine h ending line → IsSaid e.before e.after e.faults e.faults_after line
-    → MatchResult ending (λ _. new ≡ Margins net) (λ _. new ≡ old)
-    → HasRun words i o e old new status
-margins_run words f g h net i o e old new ask eg eh ending status line same Done y as_done once told said kept =
-    let z = subst (λ (k : Formula). IsStreamEnd Done (stream margins k) i o ending) eg y in
-    stream_run words margins f i o e old new ask ending status line same z once (subst (λ (k : Formula). IsEndLine k ending line) eh told) said
-    (margins_left words f z.bytes ending net old new ask (as_done z.bytes z.text z.left) kept)
+pub margins_run : {f : Formula} (Done : List ℕ → List ℕ → Type 0) {i : Drained} {o e : Filled} {ending : Result Bool Stop} {status : ℕ}
+    (words : List (List ℕ)) (net : Parts) (old new : Kept) → AreFor words word.rwatch f
+    → HasStreamed margins f (λ _. Done) i o e ending status
+    → ((bytes text : List ℕ) → OnOk ending (Done bytes text) → OnOk ending (IsNetOf f bytes net))
+    → MatchResult ending (λ _. new ≡ Margins net) (λ _. new ≡ old) → HasRun words i o e old new status
+margins_run {f} Done {ending = ending} words net old new ask y as_done kept =
+    let z = streamed_end y in
+    streamed_run y words old new ask (margins_left words f z.bytes ending net old new ask (as_done z.bytes z.text z.left) kept)
 
 -- the answer is kept
 pub margins_answer : (r : Result Bool Stop) (net : Parts) (old : Kept) → is_err r ≡ false
@@ -269,17 +252,6 @@ pub net_of_done : (f : Formula) (live : Live Measurer) (ending : Result Bool Sto
 net_of_done f live (Ok holds) net e is bytes text k =
     let w = margins_over f bytes text live k e in subst (λ (y : Parts). IsNetOf f bytes y) (sym (is w.0 w.1)) w.2
 net_of_done f live (Err stop) net e is bytes text k = tt
-
--- the run of `rwatch` on a fault
-pub margins_stopped : (words : List (List ℕ)) (f g h : Formula) (i : Drained) (o e : Filled) (old : Kept) → AreFor words word.rwatch f → g ≡ f → h ≡ f
-    → (ending : Result Bool Stop) (status : ℕ) (line : List ℕ) → status ≡ status_of ending → (Done : List ℕ → List ℕ → Type 0)
-    → IsStreamEnd Done (stream margins g) i o ending → is_err ending ≡ true
-    → IsAskedOnce i → IsEndLine h ending line → IsSaid e.before e.after e.faults e.faults_after line
-    → HasRun words i o e old old status
-margins_stopped words f g h i o e old ask eg eh ending status line same Done y err once told said =
-    let z = subst (λ (k : Formula). IsStreamEnd Done (stream margins k) i o ending) eg y in
-    stream_run words margins f i o e old old ask ending status line same z once (subst (λ (k : Formula). IsEndLine k ending line) eh told) said
-    (stopped_left words (stream margins f) z.bytes ending old ask err)
 
 -- streams of margins that are one are of one formula
 pub same_measured : (f g : Formula) → stream margins f ≡ stream margins g → f ≡ g

@@ -24,6 +24,7 @@ pub mod SureDecisions
 pub mod SureMargins
 pub mod OneRequest
 pub mod EndsOnce
+mod Beginnings
 pub mod AtRest
 pub mod ManyLines
 pub mod BenchesHear

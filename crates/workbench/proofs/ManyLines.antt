@@ -1,6 +1,6 @@
 -- Several sessions in one input, as a stream: what a piece and the end come to, and the run.
 use Rattle.std.proofs.Common.{◌≡◌, ◌≢◌, inl, inr, ℕ, Bool, true, false, List, [], ◌++◌, refl, sym, ap}
-use Rattle.std.proofs.Common.{◌∙◌, subst, append-nil, append_assoc, Option, Result, Ok, Err}
+use Rattle.std.proofs.Common.{◌∙◌, subst, append-nil, Option, Result, Ok, Err}
 use Rattle.std.specs.Prelude.{MatchResult, OnOk}
 use Rattle.std.specs.Result.{is_err}
 use Rattle.std.proofs.KnownBytes.{Appends-nil}
@@ -27,6 +27,7 @@ use Rattle.workbench.specs.declared.fault.Stop.{Stop}
 use Rattle.workbench.specs.declared.fault.Stop.TheVariants.{Fault as Faulty, Input as FaultyLine, Unread, Unwritten, NoMemory, Wide, TooMany}
 use Rattle.workbench.specs.declared.kept.Kept.{Kept}
 use Rattle.workbench.specs.declared.kept.Kept.TheVariants.{Mux}
+use Rattle.workbench.proofs.Beginnings.{begun_before, begun_now}
 use Rattle.workbench.proofs.StreamSteps.{pushed_run}
 use Rattle.workbench.proofs.Leaving.{not_answer}
 
@@ -46,29 +47,6 @@ not_unwritten (Err NoRoom) e = let k = e in cc
 -- ---- pieces
 
 module _ (f : Formula) where
-  -- what was owed for the first bytes alone
-  begun_before : (bytes piece text : List ℕ) (ended : Bool) → OwesLines f bytes false text → IsBegun (sessions f) (bytes ++ piece) ended (text ++ []) []
-  begun_before bytes piece text ended owed = record {
-    seen = bytes;
-    later = piece;
-    parts = refl;
-    seen_end = false;
-    at_end = λ t. absurd (false≢true t);
-    owed = subst (λ t. OwesLines f bytes false t) (sym (append-nil (text ++ []) ∙ append-nil text)) owed;
-  }
-
-  -- what was owed for all bytes
-  begun_now : (bytes text front back made : List ℕ) (ended : Bool) → made ≡ front ++ back → OwesLines f bytes ended (text ++ made)
-      → IsBegun (sessions f) bytes ended (text ++ front) back
-  begun_now bytes text front back made ended e owed = record {
-    seen = bytes;
-    later = [];
-    parts = sym (append-nil bytes);
-    seen_end = ended;
-    at_end = λ t. (t, refl);
-    owed = subst (λ t. OwesLines f bytes ended t) (ap (λ t. text ++ t) e ∙ sym (append_assoc text front back)) owed;
-  }
-
   -- a fault of a line was told
   line_told : (bytes text : List ℕ) (ended : Bool) (stop : InputStop) → stop ≢ NoRoom → IsInputStop f bytes ended text stop
       → IsPushStop (sessions f) bytes ended text (stop_of_input stop)
@@ -124,7 +102,7 @@ module _ (f : Formula) (mid new : Input) (held held_after : Option (List ℕ)) w
       → OnOk result (new ≡ record mid { text = [] })
       → IsPush (sessions f) held held_after (bytes ++ piece) false text
       (λ _. IsPushed (IsManyAtRest (record { formula = f; input = new })) (sessions f) (bytes ++ piece)) result
-  many_pushed bytes piece text before fed result (no_room kept) h done = ([], kept, inr ([], begun_before f bytes piece text false before))
+  many_pushed bytes piece text before fed result (no_room kept) h done = ([], kept, inr ([], begun_before (sessions f) bytes piece text false before))
   many_pushed bytes piece text before (Ok x) result (told_whole ne wrote) h done = (
     mid.text,
     wrote,
@@ -138,7 +116,7 @@ module _ (f : Formula) (mid new : Input) (held held_after : Option (List ℕ)) w
     (
       part.back,
       part.missing,
-      begun_now f (bytes ++ piece) text part.front part.back mid.text false part.parts (owed_so_far f mid (bytes ++ piece) text h),
+      begun_now (sessions f) (bytes ++ piece) text part.front part.back mid.text false part.parts (owed_so_far f mid (bytes ++ piece) text h),
     ),
   )
   many_pushed bytes piece text before (Err stop) result (told_in_part ne part) h done = (
@@ -147,7 +125,7 @@ module _ (f : Formula) (mid new : Input) (held held_after : Option (List ℕ)) w
     (
       part.back,
       part.missing,
-      begun_now f (bytes ++ piece) text part.front part.back mid.text false
+      begun_now (sessions f) (bytes ++ piece) text part.front part.back mid.text false
           part.parts (line_owed f (bytes ++ piece) (text ++ mid.text) false stop (λ e. ne (ap Err e)) h),
     ),
   )
@@ -167,19 +145,19 @@ module _ (f : Formula) (mid new : Input) (held held_after : Option (List ℕ)) w
       → MatchResult result (λ _. IsPush (sessions f) held held_after bytes true text (IsFinished (HasAll f new.mux) (sessions f) bytes) (Ok true))
       (λ e. IsPush (sessions f) held held_after bytes true text (IsFinished (HasAll f new.mux) (sessions f) bytes) (Err e))
   many_ended bytes text before finished result (no_room kept) h done =
-      ([], kept, inr ([], subst (λ b. IsBegun (sessions f) b true (text ++ []) []) (append-nil bytes) (begun_before f bytes [] text true before)))
+      ([], kept, inr ([], subst (λ b. IsBegun (sessions f) b true (text ++ []) []) (append-nil bytes) (begun_before (sessions f) bytes [] text true before)))
   many_ended bytes text before (Ok x) result (told_whole ne wrote) h done = (mid.text, wrote, all_answered bytes text h done)
   many_ended bytes text before (Err stop) result (told_whole ne wrote) h done =
       (mid.text, wrote, line_told f bytes (text ++ mid.text) true stop (λ e. ne (ap Err e)) h)
   many_ended bytes text before (Ok x) result (told_in_part ne part) h done =
-      (part.front, part.wrote, (part.back, part.missing, begun_now f bytes text part.front part.back mid.text true part.parts h.owed))
+      (part.front, part.wrote, (part.back, part.missing, begun_now (sessions f) bytes text part.front part.back mid.text true part.parts h.owed))
   many_ended bytes text before (Err stop) result (told_in_part ne part) h done = (
     part.front,
     part.wrote,
     (
       part.back,
       part.missing,
-      begun_now f bytes text part.front part.back mid.text true part.parts (line_owed f bytes (text ++ mid.text) true stop (λ e. ne (ap Err e)) h),
+      begun_now (sessions f) bytes text part.front part.back mid.text true part.parts (line_owed f bytes (text ++ mid.text) true stop (λ e. ne (ap Err e)) h),
     ),
   )
 

@@ -142,15 +142,15 @@ of_knots c f bytes text tr trace sure knots described has = record {
   truth = true_knots (root (nodes_for f tr)) tr knots described sure;
 }
 
--- what `robust` wrote does
+-- what `robust` wrote tells the truth by its signs and sizes
 pub measured_truth : (f : Formula) (bytes text : List ℕ) (status : ℕ) → IsAnsweredWhole robust f bytes status text → IsMeasured robust f bytes text
 measured_truth f bytes text status a = let (knots, described, lines) = a.written in of_knots robust f bytes text a.tr a.trace a.sure knots described lines
 
--- and what `table` wrote
+-- what `table` wrote tells the truth by its signs and sizes
 pub tabulated_truth : (f : Formula) (bytes text : List ℕ) (status : ℕ) → IsAnsweredWhole table f bytes status text → IsMeasured table f bytes text
 tabulated_truth f bytes text status a = let (knots, described, lines) = a.written in of_knots table f bytes text a.tr a.trace a.sure knots described lines
 
--- and what `json` wrote
+-- what `json` wrote tells the truth by its signs and sizes
 pub reported_truth : (f : Formula) (bytes text : List ℕ) (status : ℕ) → IsAnsweredWhole json f bytes status text → IsMeasured json f bytes text
 reported_truth f bytes text status a =
     let (verdicts, knots, items, holds, report, _, described, _, _, members, is) = a.written in

@@ -139,15 +139,15 @@ pub robust_owed_once : (f : Formula) (bytes : List ℕ) (ended : Bool) (x y : Li
     → OwesAtEnd robust f bytes ended y → x ≡ y
 robust_owed_once f bytes ended x y a b = whole_owed_once robust f (robust_once f) bytes ended x y a b
 
--- so is `table`
+-- `table` is owed one text
 pub table_owed_once : (f : Formula) (bytes : List ℕ) (ended : Bool) (x y : List ℕ) → OwesAtEnd table f bytes ended x → OwesAtEnd table f bytes ended y → x ≡ y
 table_owed_once f bytes ended x y a b = whole_owed_once table f (table_once f) bytes ended x y a b
 
--- and `explain`
+-- `explain` is owed one text
 pub explain_owed_once : (f : Formula) (bytes : List ℕ) (ended : Bool) (x y : List ℕ) → OwesAtEnd explain f bytes ended x
     → OwesAtEnd explain f bytes ended y → x ≡ y
 explain_owed_once f bytes ended x y a b = whole_owed_once explain f (explain_once f) bytes ended x y a b
 
--- and `json`
+-- `json` is owed one text
 pub json_owed_once : (f : Formula) (bytes : List ℕ) (ended : Bool) (x y : List ℕ) → OwesAtEnd json f bytes ended x → OwesAtEnd json f bytes ended y → x ≡ y
 json_owed_once f bytes ended x y a b = whole_owed_once json f (json_once f) bytes ended x y a b

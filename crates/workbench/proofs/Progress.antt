@@ -93,7 +93,7 @@ module _ {limits : Limits} {f : Formula} {before now : Option (List ℕ)} {reade
     sound = subst (λ (x : Limits). IsSound x f p.bytes false) p.same_limits (sound_so_far f reader case p.bytes p.is);
   }
 
-  -- with a piece more the reading goes on
+  -- with one more piece the reading goes on
   pub go_on : (after : Option (List ℕ)) (piece : List ℕ) (later : Reader) (kept : Option Case) → Consumes now after piece → 0 < length piece
       → IsKept f later kept (p.bytes ++ piece) → later.limits ≡ reader.limits → Progress limits f before after later kept (reads + 1)
   go_on after piece later kept c n k l = record {

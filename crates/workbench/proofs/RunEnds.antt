@@ -102,7 +102,7 @@ pub not_unread : {holds : Bool} {text : List ℕ} {held held_after : Option (Lis
 not_unread (all_of_it w) same = let k = same in cc
 not_unread (a_part w) same = let k = same in cc
 
--- nor in any failure but that of the output
+-- writing ends in no failure but that of the output
 pub only_unwritten : {holds : Bool} {text : List ℕ} {held held_after : Option (List ℕ)} {e : Result Bool Stop}
     → IsWrittenWith holds text held held_after e → IsErr e → e ≢ Err Unwritten → ⊥
 only_unwritten (all_of_it w) err other = let k = err in cc
@@ -393,7 +393,7 @@ large_is (Ok true) s = absurd (omega (arith, s))
 large_is (Ok false) s = absurd (omega (arith, s))
 large_is (Err stop) s = refl
 
--- another status is no failed output
+-- a status that is not 6 is no failed output
 pub not_six : (e : Result Bool Stop) → status_of e ≢ 6 → e ≢ Err Unwritten
 not_six e other same = other (ap status_of same)
 

@@ -68,7 +68,7 @@ module _ {Stands : List ℕ → List ℕ → Type 0} {q : Request} {before now h
   pub few_pushes : 18446744073709551615 ≤ reads → ⊥
   few_pushes r = omega (arith, r, p.enough, p.is.few)
 
-  -- with a piece more and its text the stream goes on
+  -- with one more piece and its text the stream goes on
   pub go_on : (After : List ℕ → List ℕ → Type 0) (after held_after : Option (List ℕ)) (piece : List ℕ) → Consumes now after piece → 0 < length piece
       → (grown : List ℕ) × Appends held_now held_after grown × IsPushed After q (p.bytes ++ piece) (p.text ++ grown)
       → Pushing After q before after held held_after (reads + 1)
@@ -240,14 +240,43 @@ pushed_run {Done} words q i o e old new ask input ending status line same x once
       left = left;
     })
 
--- so it is of a stream
-pub stream_run : {Done : List ℕ → List ℕ → Type 0} (words : List (List ℕ)) (s : Stream) (f : Formula) (i : Drained) (o e : Filled)
-    (old new : Kept) → AreFor words (word_of_stream s) f
-    → (ending : Result Bool Stop) (status : ℕ) (line : List ℕ) → status ≡ status_of ending
-    → (x : IsStreamEnd Done (stream s f) i o ending) → IsAskedOnce i → IsEndLine f ending line
-    → IsSaid e.before e.after e.faults e.faults_after line → IsLeft words x.bytes (status_of ending) old new → HasRun words i o e old new status
-stream_run words s f i o e old new ask ending status line same x once told said left =
-    pushed_run words (stream s f) i o e old new ask refl ending status line same x once (line_is s f ending x.line line x.told told) said left
+-- a stream of the formula f was pushed to its end, and its line was told
+pub record HasStreamed (s : Stream) (f : Formula) (Done : Formula → List ℕ → List ℕ → Type 0) (i : Drained) (o e : Filled)
+    (ending : Result Bool Stop) (status : ℕ) : Type 0 where
+  -- the formula of what was pushed
+  pub pushed : Formula
+  -- which is f
+  pub pushed_is : pushed ≡ f
+  -- the formula of the line
+  pub told : Formula
+  -- which is f
+  pub told_is : told ≡ f
+  -- how it came to its end
+  pub came : IsStreamEnd (Done pushed) (stream s pushed) i o ending
+  -- the source was asked for its end once
+  pub once : IsAskedOnce i
+  -- the line
+  pub line : List ℕ
+  -- it is that of the ending
+  pub is_line : IsEndLine told ending line
+  -- and was told
+  pub said : IsSaid e.before e.after e.faults e.faults_after line
+  -- the status is that of the ending
+  pub is_status : status ≡ status_of ending
+
+module _ {s : Stream} {f : Formula} {Done : Formula → List ℕ → List ℕ → Type 0} {i : Drained} {o e : Filled} {ending : Result Bool Stop} {status : ℕ}
+    (x : HasStreamed s f Done i o e ending status) where
+  -- what was pushed is a stream of f
+  pub streamed_end : IsStreamEnd (Done f) (stream s f) i o ending
+  streamed_end = subst (λ (k : Formula). IsStreamEnd (Done k) (stream s k) i o ending) x.pushed_is x.came
+
+  -- its end is that of the run, which leaves this
+  pub streamed_run : (words : List (List ℕ)) (old new : Kept) → AreFor words (word_of_stream s) f
+      → IsLeft words streamed_end.bytes (status_of ending) old new → HasRun words i o e old new status
+  streamed_run words old new ask left =
+      let own : IsEndLine f ending x.line = subst (λ (k : Formula). IsEndLine k ending x.line) x.told_is x.is_line in
+      pushed_run words (stream s f) i o e old new ask refl ending status x.line x.is_status streamed_end x.once
+      (line_is s f ending streamed_end.line x.line streamed_end.told own) x.said left
 
 -- a fault that ends it is one
 pub stream_soundly : {Done : List ℕ → List ℕ → Type 0} (s : Stream) (f : Formula) (i : Drained) (o : Filled)

@@ -1,21 +1,19 @@
 -- The lines of a stream of verdicts are the truth in each trace that goes on from the rows, and in the end they cover the trace.
-use Rattle.std.proofs.Common.{◌≡◌, ◌≢◌, inl, inr, refl, sym, ap, subst, ◌∙◌, ℕ, zero, suc, ◌<◌, ◌≤◌}
+use Rattle.std.proofs.Common.{◌≡◌, ◌≢◌, refl, sym, ap, subst, ◌∙◌, ℕ, zero, suc, ◌<◌, ◌≤◌}
 use Rattle.std.proofs.Common.{Bool, true, false, Option, Some, None, List, [], ◌∷◌, ◌++◌, length}
 use Rattle.std.proofs.Common.{ℤ, pos, ◌+ℤ◌, ◌-ℤ◌, ◌≤ℤ◌, ◌<ℤ◌, arith, append_assoc, append-nil}
 use Rattle.std.specs.Prelude.{MatchBool, int_lt, cond, slice_get}
 use Rattle.std.proofs.lemmas.Bool.{false≢true}
 use Rattle.std.proofs.lemmas.Int.{ints}
-use Rattle.rational.specs.Time.{Rational, ◌≤ʳ◌, ◌<ʳ◌, Interval, IsIn, later, whole, closed, left_open}
-use Rattle.rational.proofs.Order.{le_trans, le_of_same, ge_of_same, le_of_lt}
+use Rattle.rational.specs.Time.{Rational, ◌≤ʳ◌, later, whole, closed, left_open}
+use Rattle.rational.proofs.Order.{le_trans}
 use Rattle.rational.proofs.TimeLemmas.{later_le}
 use Rattle.rational.proofs.Mixed.{parts}
 use Rattle.rational.proofs.Shift.{le_whole}
-use Rattle.frac128.specs.Spans.{interval}
-use Rattle.frac128.specs.Value.{value}
 use Rattle.stl_syntax.specs.Trace.{Header, Row, Trace, IsTrace, Continues, AreRows, AreRowsAfter, first_time, last_time, start, stop}
 use Rattle.stl_syntax.specs.Formula.{Formula, Subformula, root, horizon}
 use Rattle.stl_syntax.specs.Truth.{Truth}
-use Rattle.stl_syntax.specs.Verdicts.{Describes, GoesOn, IsTold}
+use Rattle.stl_syntax.specs.Verdicts.{IsTold}
 use Rattle.stl_syntax.specs.Stream.{answered_by, IsStretchText, IsNewText, IsRowsText, IsRestText, IsStreamText}
 use Rattle.stl_syntax.specs.Texts.{AreVerdictLines}
 use Rattle.stl_syntax.specs.declared.items.Verdict.{Verdict}
@@ -24,62 +22,13 @@ use Rattle.stl_syntax.proofs.LawProofs.{answers_stay}
 use Rattle.online_nodes.specs.Cuts.{begins, ends, Same}
 use Rattle.online_nodes.specs.Laws.{AreTold, AreTiles, answered_to}
 use Rattle.online_nodes.proofs.RunLaw.{int_order, some_is, none_is_none}
-use Rattle.online_nodes.proofs.StayLaw.{Agree}
+use Rattle.online_nodes.proofs.StayLaw.{AgreeOn, described}
 use Rattle.online_nodes.proofs.Writing.{same_itself}
 use Rattle.online_nodes.proofs.EmittedLaw.{describes_tiles, tiles_append}
 use Rattle.report.specs.Report.{nodes_for}
 use Rattle.workbench.specs.Requests.{verdicts}
 use Rattle.workbench.specs.Settled.{IsAnsweredByRow}
 use Rattle.workbench.specs.SureLines.{AreSure, AreSureByRow, AreSureToEnd, IsCoverText, TellAlike, IsWatchText}
-
--- ---- a list read in a trace that agrees on its stretch
-
-span_ends : (v : Verdict) (p : Subformula) (tr : Trace) → IsTold p tr v → value v.on.from ≤ʳ value v.on.to
-span_ends v p tr h = elim h.not_empty [ inl l ↦ le_of_lt l | inr s ↦ le_of_same s.0 ]
-
-ends_by : (p : Subformula) (tr : Trace) (stretch : Interval) (v : Verdict) (vs : List Verdict) → GoesOn p tr stretch v vs → value v.on.to ≤ʳ stretch.to
-ends_by p tr stretch v [] h = le_of_same h.time
-ends_by p tr stretch v (w ∷ vs) (touch, d, told, rest) = le_trans (ge_of_same touch.time) (le_trans (span_ends w p tr told) (ends_by p tr stretch w vs rest))
-
--- the traces agree on a stretch
-abbrev AgreeOn : Subformula → Trace → Trace → Interval → Type 0
-AgreeOn p tr tr' stretch = (t : Rational) → stretch.from ≤ʳ t → t ≤ʳ stretch.to → Agree p tr tr' t
-
-one_moved : (p : Subformula) (tr tr' : Trace) (stretch : Interval) (v : Verdict) → stretch.from ≤ʳ value v.on.from
-    → value v.on.to ≤ʳ stretch.to → AgreeOn p tr tr' stretch
-    → IsTold p tr v → IsTold p tr' v
-one_moved p tr tr' stretch v b e agree told =
-    record { not_empty = told.not_empty; truth = λ t h. by_holds v.holds (agree t (low t h) (high t h)) (told.truth t h) }
-  where
-    by_holds : {A B : Type 0} (b : Bool) → (A → B) × (B → A) → MatchBool b A (¬ A) → MatchBool b B (¬ B)
-    by_holds true e x = e.0 x
-    by_holds false e x = λ y. x (e.1 y)
-
-    low : (t : Rational) → IsIn (interval v.on) t → stretch.from ≤ʳ t
-    low t h = le_trans b (by_end v.on.from_in h.above)
-      where
-        by_end : (i : Bool) → MatchBool i (value v.on.from ≤ʳ t) (value v.on.from <ʳ t) → value v.on.from ≤ʳ t
-        by_end true x = x
-        by_end false x = le_of_lt x
-
-    high : (t : Rational) → IsIn (interval v.on) t → t ≤ʳ stretch.to
-    high t h = le_trans (by_end v.on.to_in h.below) e
-      where
-        by_end : (i : Bool) → MatchBool i (t ≤ʳ value v.on.to) (t <ʳ value v.on.to) → t ≤ʳ value v.on.to
-        by_end true x = x
-        by_end false x = le_of_lt x
-
-moved_on : (p : Subformula) (tr tr' : Trace) (stretch : Interval) (v : Verdict) (vs : List Verdict) → stretch.from ≤ʳ value v.on.from → AgreeOn p tr tr' stretch
-    → IsTold p tr v → GoesOn p tr stretch v vs → AreTold p tr' (v ∷ vs)
-moved_on p tr tr' stretch v [] b agree told r = (one_moved p tr tr' stretch v b (ends_by p tr stretch v [] r) agree told, tt)
-moved_on p tr tr' stretch v (w ∷ vs) b agree told r = (
-  one_moved p tr tr' stretch v b (ends_by p tr stretch v (w ∷ vs) r) agree told,
-  moved_on p tr tr' stretch w vs (le_trans b (le_trans (span_ends v p tr told) (ge_of_same r.0.time))) agree r.2 r.3,
-)
-
-described : (p : Subformula) (tr tr' : Trace) (stretch : Interval) (vs : List Verdict) → AgreeOn p tr tr' stretch → Describes vs p tr stretch → AreTold p tr' vs
-described p tr tr' stretch [] agree h = absurd h
-described p tr tr' stretch (v ∷ vs) agree h = moved_on p tr tr' stretch v vs (ge_of_same h.0.time) agree h.1 h.2
 
 -- ---- rows
 
@@ -229,7 +178,7 @@ row_sure p header rows r old text l = record {
 
 -- ---- all rows
 
--- nor does it with a row more
+-- with one row more a front does not lie before the first time either
 pub low_later : (rows : List Row) (r s : Row) (o : Option ℤ) → Low (first_time (rows ++ r ∷ [])) o → Low (first_time ((rows ++ r ∷ []) ++ s ∷ [])) o
 low_later rows r s o h = subst (λ n. Low n o) (sym (first_stays rows r s)) h
 
@@ -311,7 +260,7 @@ pub front_is : (p : Subformula) (rows : List Row) (r : Row) → Front p (rows ++
 front_is p [] r = refl
 front_is p (q ∷ rows) r = ap (λ n. answered_by q.time p n) (last_of q.time rows r)
 
--- and so by the last time of all rows
+-- the front of rows is what is answered at the last time of them
 pub front_of_all : (p : Subformula) (rows : List Row) → rows ≢ [] → Front p rows ≡ answered_by (first_time rows) p (last_time 0 rows)
 front_of_all p [] some = absurd (some refl)
 front_of_all p (r ∷ rows) some = refl

@@ -215,7 +215,7 @@ module _ (old mid : Live Verdicts) (p : Past) (phase : Phase) (s : StandsFor p (
   abbrev pub Over : Bool → Type 0
   Over holds = IsOver WatchesEnd verdicts p.limits p.formula mid p.bytes (p.text ++ mid.text) holds
 
-  -- a reader that has come to its end is that of a watch that has
+  -- a reader that has come to its end has the watch come to its end
   pub end_over : (holds : Bool) → IsOver WatchesEnd verdicts old.rows.limits old.formula mid p.bytes (p.text ++ mid.text) holds → Over holds
   end_over holds k = subst (λ (l : Limits). IsOver WatchesEnd verdicts l p.formula mid p.bytes (p.text ++ mid.text) holds) s.limits
       (subst (λ (f : Formula). IsOver WatchesEnd verdicts old.rows.limits f mid p.bytes (p.text ++ mid.text) holds) s.formula k)

@@ -42,6 +42,7 @@ fn answer_of(alloc: Global, scale: Scale, s: &Signal<Truth>) -> Result<Answer, M
     requires { scale.time ≤ 6 }
     ensures { IfOk result (λ a. IsSignalText ⟦<Truth as Shape>⟧ scale s.now a.holds a.text) }
 {
+    // For the proof alone: that it is a signal is a clause of `len`.
     let _ = s.len();
     let mut text = Text::new(alloc);
     put_verdicts(&mut text, s, scale)?;

@@ -84,6 +84,7 @@ pub(crate) fn summary(alloc: Global, number: u64, rows: u32) -> Result<Text, Mem
     let truth = truth_of(alloc, &case)?;
     let verdicts = verdicts_of(alloc, &truth)?;
     let streamed = stream_lines(&verdicts, &case.trace, case.formula.horizon());
+    // For the proof alone: that it is a signal is a clause of `len`.
     let _ = truth.len();
     let holds = truth.knot(0).point.holds();
     counts(alloc, rows, verdicts.len(), streamed, holds)

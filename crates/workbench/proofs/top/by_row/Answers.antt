@@ -1,6 +1,6 @@
 use Rattle.std.proofs.Common.{refl, sym, ◌∙◌}
 use Rattle.report.specs.Lines.{line_text}
-use Rattle.workbench.proofs.Leaving.{starved_left, kept_fault, kept_answer, watch_run}
+use Rattle.workbench.proofs.Leaving.{starved_left, streamed_stopped, kept_answer, watch_run, IsWatched}
 use Rattle.workbench.proofs.top.by_row.Goals as goal
 
 pub returns-in-Err-clause-ran : goal.returns-in-Err-clause-ran
@@ -10,16 +10,36 @@ pub returns-then-is_err-clause-ran : goal.returns-then-is_err-clause-ran
 returns-then-is_err-clause-ran g c = λ words ask.
     let told = c.finish-status.ensures.said in
     let e = c.in-Ok.ensures.formula in
-    watch_run words c.args.formula c.in-Ok.watch.live.formula c.formula.result.now c.drain-ending.new.self _ _ _ _ _ ask e
-    (c.formula.ensures ∙ c.drain-ending.ensures.formula ∙ e)
-    c.drain-ending.result c.finish-status.result told.0 c.finish-status.ensures.status c.drain-ending.ensures.ending c.drain-ending.ensures.ends told.1 told.2
-    (kept_fault c.drain-ending.result c.drain-ending.new.self c.args.kept.now (sym c.is_err.ensures.value ∙ c.if-is_err.true))
+    streamed_stopped (IsWatched c.drain-ending.new.self) words c.args.kept.now ask
+    (record {
+      pushed = c.in-Ok.watch.live.formula;
+      pushed_is = e;
+      told = c.formula.result.now;
+      told_is = c.formula.ensures ∙ c.drain-ending.ensures.formula ∙ e;
+      came = c.drain-ending.ensures.ending;
+      once = c.drain-ending.ensures.ends;
+      line = told.0;
+      is_line = told.1;
+      said = told.2;
+      is_status = c.finish-status.ensures.status;
+    })
+    (sym c.is_err.ensures.value ∙ c.if-is_err.true)
 
 pub returns-clause-ran : goal.returns-clause-ran
 returns-clause-ran g c = λ words ask.
     let told = c.finish-status.ensures.said in
     let e = c.in-Ok.ensures.formula in
-    watch_run words c.args.formula c.in-Ok.watch.live.formula c.formula.result.now c.drain-ending.new.self _ _ _ _ _ ask e
-    (c.formula.ensures ∙ c.drain-ending.ensures.formula ∙ e)
-    c.drain-ending.result c.finish-status.result told.0 c.finish-status.ensures.status c.drain-ending.ensures.ending c.drain-ending.ensures.ends told.1 told.2
+    watch_run words c.drain-ending.new.self c.args.kept.now _ ask
+    (record {
+      pushed = c.in-Ok.watch.live.formula;
+      pushed_is = e;
+      told = c.formula.result.now;
+      told_is = c.formula.ensures ∙ c.drain-ending.ensures.formula ∙ e;
+      came = c.drain-ending.ensures.ending;
+      once = c.drain-ending.ensures.ends;
+      line = told.0;
+      is_line = told.1;
+      said = told.2;
+      is_status = c.finish-status.ensures.status;
+    })
     (kept_answer c.drain-ending.result c.drain-ending.new.self c.args.kept.now (sym c.is_err.ensures.value ∙ c.if-is_err.false))
