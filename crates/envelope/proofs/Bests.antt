@@ -1,7 +1,6 @@
 -- The better of two values, and the best of what counts.
 use Rattle.std.proofs.Common.{◌≡◌, ◌⊎◌, inl, inr, Option, None, Some, Result, Ok, Err, refl, sym, ap, ◌∙◌, subst, List}
-use Rattle.std.proofs.lemmas.Bool.{false≢true}
-use Rattle.std.specs.Prelude.{IfErr, IfSome, IsErrAnd, IsOk, OnErr, OnOk, MatchOption}
+use Rattle.std.specs.Prelude.{OnOk, MatchOption}
 use Rattle.rational.specs.Time.{Rational, ◌≤ʳ◌, ◌<ʳ◌, ◌≈◌}
 use Rattle.rational.specs.Extended.{Extended, value_at, ◌≈ᵉ◌, Passes}
 use Rattle.rational.proofs.Order.{lt_trans, lt_of_lt_of_le, lt_of_le_of_lt, le_of_same, ge_of_same, same_refl, same_sym}
@@ -18,12 +17,11 @@ use Rattle.pl_signal.specs.Building.{GoesOn}
 use Rattle.pl_signal.specs.Joining.{IsChosen, IsGapFault, IsSplit, IsTakenAt, Joins}
 use Rattle.pl_signal.specs.declared.faults.WidePair.{WidePair}
 use Rattle.pl_signal.specs.declared.faults.WidePair.TheVariants.{Cross, Value}
-use Rattle.pl_signal.specs.declared.faults.OpFault.{OpFault}
 use Rattle.pl_signal.specs.declared.faults.OpFault.TheVariants as F
 use Rattle.pl_signal.proofs.Choices.{IsTaken}
 use Rattle.envelope.specs.declared.best.Best.{Best}
 use Rattle.envelope.specs.Turns.{IsNoBetter}
-use Rattle.envelope.specs.Best.{Has, IsBestAt, IsBestFault, IsCrossingOf, IsJoinFault, IsKept, IsWritten}
+use Rattle.envelope.specs.Best.{Has, IsBestAt, IsBestFault, IsCrossingOf, IsWritten}
 
 -- a value is no better than itself
 pub no_better_refl : (side : Side) (v : Extended) → IsNoBetter side v v
@@ -371,21 +369,19 @@ module _ {P : Type 0} (shape : ShapeOf P) where
       has (inr e) = inl e
 
   -- a crossing of two of the shapes is one of what counts
-  pub gap_fault : (best : Best P) (p q : P) (from to : Frac) (low high : Rational) (e : OpFault P) → Has best p
-      → Has best q → low ≤ʳ value from → value to ≤ʳ high → IsGapFault shape p q from to e
-      → IsJoinFault shape best low high e
-  gap_fault best p q from to low high F.Memory has_p has_q after before h = tt
-  gap_fault best p q from to low high (F.Wide (Cross a b c d den)) has_p has_q after before (ea, eb, ec, ed, (t, m, n, w)) =
+  pub gap_fault : (best : Best P) (p q : P) (from to : Frac) (low high : Rational) (pair : WidePair P) → Has best p
+      → Has best q → low ≤ʳ value from → value to ≤ʳ high → IsGapFault shape p q from to (F.Wide pair)
+      → IsBestFault shape best low high pair
+  gap_fault best p q from to low high (Cross a b c d den) has_p has_q after before (ea, eb, ec, ed, (t, m, n, w)) =
       subst (λ a. IsCrossingOf shape best low high a b c d den) (sym ea) (subst (λ b. IsCrossingOf shape best low high p b c d den) (sym eb)
       (subst (λ c. IsCrossingOf shape best low high p q c d den) (sym ec) (subst (λ d. IsCrossingOf shape best low high p q from d den) (sym ed)
       (record { first = has_p; second = has_q; after = after; before = before; time = t; meet = m; denominator = n; wide = w }))))
-  gap_fault best p q from to low high (F.Wide (Value a b den)) has_p has_q after before h = absurd h
+  gap_fault best p q from to low high (Value a b den) has_p has_q after before h = absurd h
 
   -- a fault of three shapes, whichever of the two gaps stands first
-  pub fault_swapped : (p q r : P) (low high : Rational) (e : OpFault P) → IsJoinFault shape (three p q r) low high e
-      → IsJoinFault shape (three q p r) low high e
-  fault_swapped p q r low high F.Memory h = tt
-  fault_swapped p q r low high (F.Wide (Cross a b c d den)) h = record {
+  pub fault_swapped : (p q r : P) (low high : Rational) (pair : WidePair P) → IsBestFault shape (three p q r) low high pair
+      → IsBestFault shape (three q p r) low high pair
+  fault_swapped p q r low high (Cross a b c d den) h = record {
     first = has_swapped p q r a h.first;
     second = has_swapped p q r b h.second;
     after = h.after;
@@ -395,7 +391,7 @@ module _ {P : Type 0} (shape : ShapeOf P) where
     denominator = h.denominator;
     wide = h.wide;
   }
-  fault_swapped p q r low high (F.Wide (Value a b den)) h = absurd h
+  fault_swapped p q r low high (Value a b den) h = absurd h
 
   -- the best of the constant and of what there is of the two gaps, taken one after the other
   pub best_at : (side : Side) (top : P) (low high : Option P) (t : Rational) (x y : P)
@@ -451,21 +447,6 @@ module _ {P : Type 0} (shape : ShapeOf P) where
 pub on_ok : {T E A B : Type 0} (r : Result T E) → (A → B) → OnOk r A → OnOk r B
 on_ok (Ok x) f a = f a
 on_ok (Err e) f a = a
-
--- where a result is good only if a first one is, it has what that one has
-pub on_both : {T E U F : Type 0} (A : Type 0) (r : Result T E) (q : Result U F) → OnOk r (IsOk q) → OnOk q A → OnOk r A
-on_both A (Ok x) (Ok y) h a = a
-on_both A (Ok x) (Err e) h a = absurd (false≢true h)
-on_both A (Err e) q h a = tt
-
--- what was kept of a fault
-pub kept_fault : {P : Type 0} (shape : ShapeOf P) (best : Best P) (low high : Rational) {T U E : Type 0}
-    (r : Result T E) (q : Result U (OpFault P)) (kept : Option (WidePair P)) → OnErr r (IsErrAnd q (λ e. IsKept e kept))
-    → IfErr q (IsJoinFault shape best low high) → OnErr r (IfSome kept (IsBestFault shape best low high))
-kept_fault shape best low high (Ok x) q kept h f = tt
-kept_fault shape best low high (Err e) (Ok y) kept h f = absurd h
-kept_fault shape best low high (Err e) (Err F.Memory) kept h f = subst (λ o. IfSome o (IsBestFault shape best low high)) (sym h) tt
-kept_fault shape best low high (Err e) (Err (F.Wide pair)) kept h f = subst (λ o. IfSome o (IsBestFault shape best low high)) (sym h) f
 
 -- what follows from two facts about a success holds on success
 pub on_two : {T E A B C : Type 0} (r : Result T E) → (A → B → C) → OnOk r A → OnOk r B → OnOk r C

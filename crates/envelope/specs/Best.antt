@@ -1,5 +1,5 @@
 -- What counts at a time, the best of it, and a signal that goes on with it.
-use Rattle.std.specs.Prelude.{◌≡◌, ◌⊎◌, ℕ, ◌≤◌, ◌^◌, List, Option, Some, None}
+use Rattle.std.specs.Prelude.{◌≡◌, ◌⊎◌, ℕ, ◌≤◌, ◌^◌, List, Some}
 use Rattle.rational.specs.Time.{Rational, ◌≤ʳ◌, ◌<ʳ◌, ◌≈◌, HasDenominator}
 use Rattle.rational.specs.Extended.{Extended, value_at, Passes}
 use Rattle.rational.specs.Affine.{MeetAlone}
@@ -13,6 +13,7 @@ use Rattle.pl_signal.specs.declared.faults.WidePair.TheVariants.{Cross, Value}
 use Rattle.pl_signal.specs.declared.faults.OpFault.{OpFault}
 use Rattle.pl_signal.specs.declared.faults.OpFault.TheVariants as F
 use Rattle.pl_signal.specs.Knots.{start, stop, HasShape, IsSignal, IsWorth}
+pub use Rattle.pl_signal.specs.Faults.{IsKept}
 use Rattle.envelope.specs.declared.best.Best.{Best}
 use Rattle.envelope.specs.Turns.{IsNoBetter}
 
@@ -55,8 +56,3 @@ module _ {P : Type 0} (shape : ShapeOf P) where
   abbrev pub IsJoinFault : Best P → Rational → Rational → OpFault P → Type 0
   IsJoinFault best from to F.Memory = Unit {0}
   IsJoinFault best from to (F.Wide pair) = IsBestFault best from to pair
-
--- what was refused is kept, and nothing where memory was wanted
-abbrev pub IsKept : {P : Type 0} → OpFault P → Option (WidePair P) → Type 0
-IsKept F.Memory kept = kept ≡ None
-IsKept (F.Wide pair) kept = kept ≡ Some pair

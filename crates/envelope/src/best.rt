@@ -1,5 +1,5 @@
 //! What counts at a time, and a signal that goes on with it.
-ghost use Rattle.std.specs.Prelude.{◌≡◌, ◌⊎◌, ◌^◌, IsTrue, None, Some, IsOk, IsErrAnd, OnOk, OnErr, IfErr, IfSome, MatchOption};
+ghost use Rattle.std.specs.Prelude.{◌≡◌, ◌⊎◌, ◌^◌, IsTrue, None, Some, OnOk, OnErr, IfSome, MatchOption};
 ghost use Rattle.rational.specs.Rational.{IsWithin};
 ghost use Rattle.rational.specs.Time.{◌<ʳ◌};
 ghost use Rattle.rational.specs.Extended.{value_at};
@@ -7,11 +7,11 @@ ghost use Rattle.rational.specs.Affine.{AreSame, HasBoundedLevel};
 ghost use Rattle.frac128.specs.Value.{value};
 ghost use Rattle.pl_signal.specs.Joining.{IsChosen, TurnsOver};
 ghost use Rattle.pl_signal.specs.Knots.{stop};
-ghost use Rattle.envelope.specs.Best.{Has, IsBestAt, IsBestFault, IsJoinFault, IsKept, IsWritten};
+ghost use Rattle.envelope.specs.Best.{Has, IsBestAt, IsBestFault, IsWritten};
 ghost use Rattle.envelope.specs.Turns.{IsNoBetter};
 
 use frac128::{Frac, Memory};
-use pl_signal::{Builder, OpFault, Side, WidePair, chosen, crossing, favour};
+use pl_signal::{Builder, Side, WidePair, chosen, crossing, favour, keep};
 use std::cmp::Ordering;
 use value_laws::Shape;
 
@@ -76,36 +76,13 @@ pub fn write<P: Shape>(
 {
     match (&best.low, &best.high) {
         (None, None) => built.step(best.top, *to, point),
-        (Some(low), None) => keep(built.join(side, low, &best.top, to, point), fault),
-        (None, Some(high)) => keep(built.join(side, high, &best.top, to, point), fault),
-        (Some(low), Some(high)) => keep(
-            join_three(side, built, low, high, &best.top, to, point),
-            fault,
-        ),
+        (Some(low), None) => built.join_kept(side, low, &best.top, to, &point, fault),
+        (None, Some(high)) => built.join_kept(side, high, &best.top, to, &point, fault),
+        (Some(low), Some(high)) => join_three(side, built, low, high, &best.top, to, &point, fault),
     }
 }
 
-/// Keeps what was refused, and tells only that something was.
-fn keep<P: Shape>(
-    joined: Result<(), OpFault<P>>,
-    fault: &mut Option<WidePair<P>>,
-) -> Result<(), Memory>
-    requires { fault.old ≡ None }
-    ensures ok { OnOk result (IsOk joined) }
-    ensures still { OnOk result (fault.new ≡ None) }
-    ensures fault { OnErr result (IsErrAnd joined (λ e. IsKept e fault.new)) }
-{
-    match joined {
-        Ok(()) => Ok(()),
-        Err(OpFault::Memory) => Err(Memory),
-        Err(OpFault::Wide(pair)) => {
-            *fault = Some(pair);
-            Err(Memory)
-        }
-    }
-}
-
-/// Goes on with the best of three shapes up to the time, and with `point` there.
+/// Goes on with the best of three shapes up to the time, and with `point` there. What is refused is put into `fault`.
 fn join_three<P: Shape>(
     side: Side,
     built: &mut Builder<P>,
@@ -113,19 +90,22 @@ fn join_three<P: Shape>(
     q: &P,
     r: &P,
     to: &Frac,
-    point: P,
-) -> Result<(), OpFault<P>>
+    point: &P,
+    fault: &mut Option<WidePair<P>>,
+) -> Result<(), Memory>
     requires order { stop built.old <ʳ value to.now }
     requires from_within { IsWithin (2 ^ 34) (stop built.old) }
     requires to_within { IsWithin (2 ^ 34) (value to.now) }
     requires levels { (x : P) → Has (record { top = r.now; low = Some p.now; high = Some q.now }) x → HasBoundedLevel (2 ^ 31) (P.function x) }
-    ensures ok { OnOk result (IsWritten P.Shape side built.old (record { top = r.now; low = Some p.now; high = Some q.now }) to.now point built.new) }
-    ensures fault { IfErr result (IsJoinFault P.Shape (record { top = r.now; low = Some p.now; high = Some q.now }) (stop built.old) (value to.now)) }
+    requires none { fault.old ≡ None }
+    ensures ok { OnOk result (IsWritten P.Shape side built.old (record { top = r.now; low = Some p.now; high = Some q.now }) to.now point.now built.new) }
+    ensures still { OnOk result (fault.new ≡ None) }
+    ensures fault { OnErr result (IfSome fault.new (IsBestFault P.Shape (record { top = r.now; low = Some p.now; high = Some q.now }) (stop built.old) (value to.now))) }
 {
     let from = built.stop();
     match favour(side, p, q, &from) {
-        Ordering::Greater => join_ordered(side, built, q, p, r, to, point),
-        _ => join_ordered(side, built, p, q, r, to, point),
+        Ordering::Greater => join_ordered(side, built, q, p, r, to, point, fault),
+        _ => join_ordered(side, built, p, q, r, to, point, fault),
     }
 }
 
@@ -137,23 +117,26 @@ fn join_ordered<P: Shape>(
     second: &P,
     r: &P,
     to: &Frac,
-    point: P,
-) -> Result<(), OpFault<P>>
+    point: &P,
+    fault: &mut Option<WidePair<P>>,
+) -> Result<(), Memory>
     requires order { stop built.old <ʳ value to.now }
     requires from_within { IsWithin (2 ^ 34) (stop built.old) }
     requires to_within { IsWithin (2 ^ 34) (value to.now) }
     requires levels { (x : P) → Has (record { top = r.now; low = Some first.now; high = Some second.now }) x → HasBoundedLevel (2 ^ 31) (P.function x) }
     requires better { IsNoBetter side (value_at (P.function second.now) (stop built.old)) (value_at (P.function first.now) (stop built.old)) }
-    ensures ok { OnOk result (IsWritten P.Shape side built.old (record { top = r.now; low = Some first.now; high = Some second.now }) to.now point built.new) }
-    ensures fault { IfErr result (IsJoinFault P.Shape (record { top = r.now; low = Some first.now; high = Some second.now }) (stop built.old) (value to.now)) }
+    requires none { fault.old ≡ None }
+    ensures ok { OnOk result (IsWritten P.Shape side built.old (record { top = r.now; low = Some first.now; high = Some second.now }) to.now point.now built.new) }
+    ensures still { OnOk result (fault.new ≡ None) }
+    ensures fault { OnErr result (IfSome fault.new (IsBestFault P.Shape (record { top = r.now; low = Some first.now; high = Some second.now }) (stop built.old) (value to.now))) }
 {
     let from = built.stop();
     match favour(side, first, second, to) {
         Ordering::Greater => match favour(side, first, second, &from) {
-            Ordering::Less => join_split(side, built, first, second, r, to, point),
-            _ => built.join(side, second, r, to, point),
+            Ordering::Less => join_split(side, built, first, second, r, to, point, fault),
+            _ => built.join_kept(side, second, r, to, point, fault),
         },
-        _ => built.join(side, first, r, to, point),
+        _ => built.join_kept(side, first, r, to, point, fault),
     }
 }
 
@@ -165,8 +148,9 @@ fn join_split<P: Shape>(
     second: &P,
     r: &P,
     to: &Frac,
-    point: P,
-) -> Result<(), OpFault<P>>
+    point: &P,
+    fault: &mut Option<WidePair<P>>,
+) -> Result<(), Memory>
     requires order { stop built.old <ʳ value to.now }
     requires from_within { IsWithin (2 ^ 34) (stop built.old) }
     requires to_within { IsWithin (2 ^ 34) (value to.now) }
@@ -174,12 +158,14 @@ fn join_split<P: Shape>(
     requires turned { TurnsOver (P.function first.now) (P.function second.now) (stop built.old) (value to.now) }
     requires better { IsNoBetter side (value_at (P.function second.now) (stop built.old)) (value_at (P.function first.now) (stop built.old)) }
     requires worse { IsNoBetter side (value_at (P.function first.now) (value to.now)) (value_at (P.function second.now) (value to.now)) }
-    ensures ok { OnOk result (IsWritten P.Shape side built.old (record { top = r.now; low = Some first.now; high = Some second.now }) to.now point built.new) }
-    ensures fault { IfErr result (IsJoinFault P.Shape (record { top = r.now; low = Some first.now; high = Some second.now }) (stop built.old) (value to.now)) }
+    requires none { fault.old ≡ None }
+    ensures ok { OnOk result (IsWritten P.Shape side built.old (record { top = r.now; low = Some first.now; high = Some second.now }) to.now point.now built.new) }
+    ensures still { OnOk result (fault.new ≡ None) }
+    ensures fault { OnErr result (IfSome fault.new (IsBestFault P.Shape (record { top = r.now; low = Some first.now; high = Some second.now }) (stop built.old) (value to.now))) }
 {
     let from = built.stop();
-    let middle = crossing(first, second, &from, to)?;
+    let middle = keep(crossing(first, second, &from, to), fault)?;
     let there = chosen(side, first, r, &middle);
-    built.join(side, first, r, &middle, there)?;
-    built.join(side, second, r, to, point)
+    built.join_kept(side, first, r, &middle, &there, fault)?;
+    built.join_kept(side, second, r, to, point, fault)
 }

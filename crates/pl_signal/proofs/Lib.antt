@@ -11,4 +11,5 @@ pub mod JoiningLemmas
 pub mod Places
 pub mod Limits
 mod FaultLemmas
+pub mod Kept
 pub mod PlainLemmas

@@ -1,5 +1,5 @@
--- Pairs and faults whose shapes are negated, or mirrored in time.
-use Rattle.std.specs.Prelude.{◌≡◌, ◌≤◌, ◌^◌, ℤ, ◌-ℤ◌}
+-- Pairs and faults that are kept beside, or whose shapes are negated, or mirrored in time.
+use Rattle.std.specs.Prelude.{◌≡◌, ◌≤◌, ◌^◌, ℤ, ◌-ℤ◌, Option, Some, None}
 use Rattle.std.specs.Int.RustNames.{unsigned_abs}
 use Rattle.rational.specs.Rational.{Rational, IsWithin, subtract, whole, ◌≈◌}
 use Rattle.rational.specs.Extended.{Affine, value_at, ◌≈ᵉ◌}
@@ -51,6 +51,11 @@ module _ {P : Type 0} (shape : ShapeOf P) where
 abbrev pub OfPair : {P : Type 0} → (WidePair P → Type 0) → OpFault P → Type 0
 OfPair Q F.Memory = Unit {0}
 OfPair Q (F.Wide pair) = Q pair
+
+-- what was refused is kept, and nothing where memory was wanted
+abbrev pub IsKept : {P : Type 0} → OpFault P → Option (WidePair P) → Type 0
+IsKept F.Memory kept = kept ≡ None
+IsKept (F.Wide pair) kept = kept ≡ Some pair
 
 -- want of memory for want of memory, and a pair for a pair
 abbrev pub IsPairwise : {P : Type 0} → (WidePair P → WidePair P → Type 0) → OpFault P → OpFault P → Type 0

@@ -1,5 +1,5 @@
 //! How signals are built.
-ghost use Rattle.std.specs.Prelude.{◌≡◌, ◌<◌, ◌≤◌, ◌+◌, ◌∷◌, ◌++◌, [], ◌^◌, ◌↔◌, List, length, IsTrue, IfOk, IfErr, OnOk, OnErr, vec_len, vec_capacity};
+ghost use Rattle.std.specs.Prelude.{◌≡◌, ◌<◌, ◌≤◌, ◌+◌, ◌∷◌, ◌++◌, [], ◌^◌, ◌↔◌, List, length, None, IsTrue, IfOk, IfErr, IfSome, OnOk, OnErr, vec_len, vec_capacity};
 ghost use Rattle.rational.specs.Rational.{IsWithin};
 ghost use Rattle.rational.specs.Time.{◌<ʳ◌};
 ghost use Rattle.rational.specs.Extended.{value_at, ◌≈ᵉ◌};
@@ -12,8 +12,9 @@ ghost use Rattle.pl_signal.specs.Building.{Continues, GoesOn, MiddleIsBetween};
 ghost use Rattle.pl_signal.specs.Joining.{IsGapFault, Joins};
 ghost use Rattle.pl_signal.specs.declared.faults.OpFault.TheVariants as F;
 
+use crate::faults::fault_of;
 use crate::joining::{Pieces, pieces_over, whole_over};
-use crate::{Knot, OpFault, Side, Signal};
+use crate::{Knot, OpFault, Side, Signal, WidePair};
 use frac128::{Frac, Memory};
 use std::alloc::Global;
 use std::marker::Model;
@@ -115,11 +116,46 @@ impl<P: Shape> Builder<P> {
         ensures wide { IfErr result
             (λ e. (from : Frac) × (value from ≡ stop self.old) × IsGapFault P.Shape p.now q.now from to.now e) }
     {
+        // For the proof alone: the last time is that of a knot.
+        let _ = self.stop();
+        let mut fault = None;
+        match self.join_kept(side, p, q, to, &point, &mut fault) {
+            Ok(()) => Ok(()),
+            Err(Memory) => Err(fault_of(fault)),
+        }
+    }
+
+    /// The same, with what is refused put into `fault`, so that the answer is small. Nothing is put there for want of memory.
+    ///
+    /// # Errors
+    ///
+    /// `Memory` where the two cross at a time that needs a denominator of 2^60 or more, and where memory is wanting.
+    pub fn join_kept(
+        &mut self,
+        side: Side,
+        p: &P,
+        q: &P,
+        to: &Frac,
+        point: &P,
+        fault: &mut Option<WidePair<P>>,
+    ) -> Result<(), Memory>
+        requires order { stop self.old <ʳ value to.now }
+        requires from_within { IsWithin (2 ^ 34) (stop self.old) }
+        requires to_within { IsWithin (2 ^ 34) (value to.now) }
+        requires first { HasBoundedLevel (2 ^ 31) (P.function p.now) }
+        requires second { HasBoundedLevel (2 ^ 31) (P.function q.now) }
+        requires none { fault.old ≡ None }
+        ensures ok { OnOk result (Joins P.Shape side self.old p.now q.now to.now point.now self.new) }
+        ensures still { OnOk result (fault.new ≡ None) }
+        ensures err { OnErr result (self.new ≡ self.old) }
+        ensures wide { OnErr result (IfSome fault.new
+            (λ pair. (from : Frac) × (value from ≡ stop self.old) × IsGapFault P.Shape p.now q.now from to.now (F.Wide pair))) }
+    {
         let from = self.stop();
         if let Some(taken) = whole_over(side, p, q, &from, to) {
             return self.go_along(taken, to, point);
         }
-        self.join_pieces(side, p, q, to, point)
+        self.join_pieces(side, p, q, to, point, fault)
     }
 
     /// The same, with a crossing or not.
@@ -130,40 +166,50 @@ impl<P: Shape> Builder<P> {
         p: &P,
         q: &P,
         to: &Frac,
-        point: P,
-    ) -> Result<(), OpFault<P>>
+        point: &P,
+        fault: &mut Option<WidePair<P>>,
+    ) -> Result<(), Memory>
         requires order { stop self.old <ʳ value to.now }
         requires from_within { IsWithin (2 ^ 34) (stop self.old) }
         requires to_within { IsWithin (2 ^ 34) (value to.now) }
         requires first { HasBoundedLevel (2 ^ 31) (P.function p.now) }
         requires second { HasBoundedLevel (2 ^ 31) (P.function q.now) }
-        ensures ok { OnOk result (Joins P.Shape side self.old p.now q.now to.now point self.new) }
+        requires none { fault.old ≡ None }
+        ensures ok { OnOk result (Joins P.Shape side self.old p.now q.now to.now point.now self.new) }
+        ensures still { OnOk result (fault.new ≡ None) }
         ensures err { OnErr result (self.new ≡ self.old) }
-        ensures wide { IfErr result
-            (λ e. (from : Frac) × (value from ≡ stop self.old) × IsGapFault P.Shape p.now q.now from to.now e) }
+        ensures wide { OnErr result (IfSome fault.new
+            (λ pair. (from : Frac) × (value from ≡ stop self.old) × IsGapFault P.Shape p.now q.now from to.now (F.Wide pair))) }
     {
         let from = self.stop();
-        let taken = pieces_over(side, p, q, &from, to)?;
-        if self.knots.reserve(2).is_err() {
-            return Err(OpFault::Memory);
+        match pieces_over(side, p, q, &from, to) {
+            Ok(taken) => {
+                if self.knots.reserve(2).is_err() {
+                    return Err(Memory);
+                }
+                put_pieces(&mut self.knots, &taken, to, point);
+                Ok(())
+            }
+            Err(OpFault::Memory) => Err(Memory),
+            Err(OpFault::Wide(pair)) => {
+                *fault = Some(pair);
+                Err(Memory)
+            }
         }
-        put_pieces(&mut self.knots, &taken, *to, point);
-        Ok(())
     }
 
     /// Goes on with one shape.
     #[inline(always)]
-    fn go_along(&mut self, after: P, to: &Frac, point: P) -> Result<(), OpFault<P>>
+    fn go_along(&mut self, after: &P, to: &Frac, point: &P) -> Result<(), Memory>
         requires limited { IsWithin (2 ^ 34) (stop self.old) }
         requires later { stop self.old <ʳ value to.now }
-        ensures ok { OnOk result (GoesOn P.Shape self.old after to.now point self.new) }
+        ensures ok { OnOk result (GoesOn P.Shape self.old after.now to.now point.now self.new) }
         ensures err { OnErr result (self.new ≡ self.old) }
-        ensures memory { IfErr result (λ e. e ≡ F.Memory) }
     {
         if self.knots.reserve(1).is_err() {
-            return Err(OpFault::Memory);
+            return Err(Memory);
         }
-        go_on(&mut self.knots, &after, to, &point);
+        go_on(&mut self.knots, after, to, point);
         Ok(())
     }
 
@@ -199,24 +245,24 @@ fn begun<P: Shape>(
 }
 
 /// Goes on with the pieces up to `to`, and with `point` there. There is room for two knots.
-fn put_pieces<P: Shape>(knots: &mut Vec<Knot<P>>, pieces: &Pieces<P>, to: Frac, point: P)
+fn put_pieces<P: Shape>(knots: &mut Vec<Knot<P>>, pieces: &Pieces<P>, to: &Frac, point: &P)
     requires signal { IsSignal P.Shape knots.old.items }
     requires room { vec_len knots.old + 2 ≤ vec_capacity knots.old }
     requires from_within { IsWithin (2 ^ 34) (stop knots.old.items) }
-    requires to_within { IsWithin (2 ^ 34) (value to) }
-    requires order { stop knots.old.items <ʳ value to }
-    requires between { MiddleIsBetween pieces.now (stop knots.old.items) (value to) }
-    ensures { Continues P.Shape knots.old.items pieces.now to point knots.new.items }
+    requires to_within { IsWithin (2 ^ 34) (value to.now) }
+    requires order { stop knots.old.items <ʳ value to.now }
+    requires between { MiddleIsBetween pieces.now (stop knots.old.items) (value to.now) }
+    ensures { Continues P.Shape knots.old.items pieces.now to.now point.now knots.new.items }
 {
-    match *pieces {
-        Pieces::Whole(shape) => go_on(knots, &shape, &to, &point),
+    match pieces {
+        Pieces::Whole(shape) => go_on(knots, shape, to, point),
         Pieces::Split {
             first,
             middle,
             second,
         } => {
-            go_on(knots, &first, &middle, &first);
-            go_on(knots, &second, &to, &point);
+            go_on(knots, first, middle, first);
+            go_on(knots, second, to, point);
         }
     }
 }

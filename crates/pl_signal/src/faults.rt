@@ -1,7 +1,7 @@
 //! Why an operator on signals has no answer.
-ghost use Rattle.std.specs.Prelude.{◌≤◌, ◌^◌};
+ghost use Rattle.std.specs.Prelude.{◌≡◌, ◌≤◌, ◌^◌, None, Ok, IfOk, IsErrAnd, OnErr, OnOk};
 ghost use Rattle.std.specs.Int.RustNames.{unsigned_abs};
-ghost use Rattle.pl_signal.specs.Faults.{HasBoundedLevels, IsNegatedPair, CanMirror, IsMirroredPair, OfPair, IsPairwise};
+ghost use Rattle.pl_signal.specs.Faults.{HasBoundedLevels, IsNegatedPair, CanMirror, IsKept, IsMirroredPair, OfPair, IsPairwise};
 
 use frac128::{Frac, Memory};
 use value_laws::Shape;
@@ -42,6 +42,37 @@ impl<P> From<Memory> for OpFault<P> {
 
     fn from(_: Memory) -> OpFault<P> {
         OpFault::Memory
+    }
+}
+
+/// What was refused: the pair that was kept, or want of memory where none was.
+pub fn fault_of<P: Shape>(kept: Option<WidePair<P>>) -> OpFault<P>
+    ensures { IsKept result kept }
+{
+    match kept {
+        Some(pair) => OpFault::Wide(pair),
+        None => OpFault::Memory,
+    }
+}
+
+/// Keeps in `fault` what was refused, and tells only that something was, so that the answer is small.
+#[inline(always)]
+pub fn keep<T, P: Shape>(
+    done: Result<T, OpFault<P>>,
+    fault: &mut Option<WidePair<P>>,
+) -> Result<T, Memory>
+    requires { fault.old ≡ None }
+    ensures ok { IfOk result (λ x. done ≡ Ok x) }
+    ensures still { OnOk result (fault.new ≡ None) }
+    ensures fault { OnErr result (IsErrAnd done (λ e. IsKept e fault.new)) }
+{
+    match done {
+        Ok(x) => Ok(x),
+        Err(OpFault::Memory) => Err(Memory),
+        Err(OpFault::Wide(pair)) => {
+            *fault = Some(pair);
+            Err(Memory)
+        }
     }
 }
 

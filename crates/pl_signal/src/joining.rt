@@ -88,23 +88,29 @@ pub fn crossing<P: Shape>(p: &P, q: &P, from: &Frac, to: &Frac) -> Result<Frac, 
 
 /// The one of the two that is taken at each time between `from` and `to`, where it is one.
 #[inline(always)]
-pub(crate) fn whole_over<P: Shape>(side: Side, p: &P, q: &P, from: &Frac, to: &Frac) -> Option<P>
+pub(crate) fn whole_over<'a, P: Shape>(
+    side: Side,
+    p: &'a P,
+    q: &'a P,
+    from: &Frac,
+    to: &Frac,
+) -> Option<&'a P>
     requires from_within { IsWithin (2 ^ 34) (value from.now) }
     requires to_within { IsWithin (2 ^ 34) (value to.now) }
-    ensures { IfSome result (λ taken. IsPieces P.Shape side p.now q.now (value from.now) (value to.now) (Whole taken)) }
+    ensures { IfSome result (λ taken. IsPieces P.Shape side p.now q.now (value from.now) (value to.now) (Whole taken.now)) }
 {
     match favour(side, p, q, from) {
         Ordering::Less => match favour(side, p, q, to) {
             Ordering::Greater => None,
-            _ => Some(*p),
+            _ => Some(p),
         },
         Ordering::Equal => match favour(side, p, q, to) {
-            Ordering::Greater => Some(*q),
-            _ => Some(*p),
+            Ordering::Greater => Some(q),
+            _ => Some(p),
         },
         Ordering::Greater => match favour(side, p, q, to) {
             Ordering::Less => None,
-            _ => Some(*q),
+            _ => Some(q),
         },
     }
 }

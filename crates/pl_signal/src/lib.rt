@@ -11,7 +11,7 @@ mod reading;
 mod signal;
 
 pub use builder::Builder;
-pub use faults::{OpFault, WidePair};
+pub use faults::{OpFault, WidePair, fault_of, keep};
 pub use joining::{Side, chosen, crossing, favour};
 pub use knot::Knot;
 pub use reading::{Reading, earlier};

@@ -9,11 +9,14 @@ use Rattle.std.proofs.Math.Seq.{take-append_seam}
 use Rattle.std.proofs.lemmas.Fmt.{decimal_digit}
 use Rattle.std.proofs.lemmas.Int.{ints}
 use Rattle.rational.specs.Rational.{Rational, ◌≈◌, IsOrder, rational_cmp, mixed, ratio, whole}
+use Rattle.rational.specs.Extended.{Extended, minus_infinity, finite, infinity, ◌≈ᵉ◌}
+use Rattle.rational.specs.Affine.{IsOrderᵉ}
+use Rattle.rational.proofs.AffineLemmas.{same_of_finite}
 use Rattle.rational.proofs.Mixed.{mul_parts}
 use Rattle.rational.proofs.Lowest.{lowest_whole}
 use Rattle.rational.proofs.Order.{same_sym, same_trans}
 use Rattle.rational.proofs.Compare.{order_from_cmp}
-use Rattle.stl_syntax.specs.Texts.{IsNumberText}
+use Rattle.stl_syntax.specs.Texts.{IsNumberText, IsValueText}
 use Rattle.report.specs.Before.{IsPut}
 
 -- a time that is the same has the same text
@@ -74,6 +77,24 @@ same_of_cmp a b e = by_order (rational_cmp a b) (order_from_cmp (rational_cmp a 
     by_order Less h e = absurd (let x : false ≡ true = e in cc)
     by_order Equal h e = h
     by_order Greater h e = absurd (let x : false ≡ true = e in cc)
+
+-- and so are two values
+pub same_of_order : (o : Ordering) (v w : Extended) → IsOrderᵉ o v w → is_eq o ≡ true → v ≈ᵉ w
+same_of_order Less v w h e = absurd (let x : false ≡ true = e in cc)
+same_of_order Equal v w h e = h
+same_of_order Greater v w h e = absurd (let x : false ≡ true = e in cc)
+
+-- a value that is the same has the same text
+pub value_of_same : (digits : ℕ) (v w : Extended) (text : List ℕ) → v ≈ᵉ w → IsValueText digits v text → IsValueText digits w text
+value_of_same digits minus_infinity minus_infinity text e h = h
+value_of_same digits minus_infinity (finite w) text e h = absurd e.at_least
+value_of_same digits minus_infinity infinity text e h = absurd e.at_least
+value_of_same digits (finite v) minus_infinity text e h = absurd e.at_most
+value_of_same digits (finite v) (finite w) text e h = number_of_same digits v w text (same_of_finite e) h
+value_of_same digits (finite v) infinity text e h = absurd e.at_least
+value_of_same digits infinity minus_infinity text e h = absurd e.at_most
+value_of_same digits infinity (finite w) text e h = absurd e.at_most
+value_of_same digits infinity infinity text e h = h
 
 -- a whole number that is not below 0, in ticks that are units
 whole_one : (w : ℤ) (r d : ℕ) (p : 0 < d) (n : ℕ) → w ≡ pos n → r < d → d ≡ 1 → mixed w r d p ≈ ratio (pos n *ℤ pos 1) 1 (lowest_whole (pos n)).positive

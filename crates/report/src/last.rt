@@ -67,7 +67,7 @@ pub(crate) fn put_time_before(buf: &mut [u8], end: usize, t: &Frac, digits: u8) 
 
 /// Whether both are one time, by scales with as many decimals.
 #[inline(always)]
-fn is_one_time(first: &Frac, decimals: u8, second: &Frac, digits: u8) -> bool
+pub(crate) fn is_one_time(first: &Frac, decimals: u8, second: &Frac, digits: u8) -> bool
     ensures { IsTrue result → (decimals ≡ digits) × (value first.now ≈ value second.now) }
 {
     if decimals != digits {
@@ -78,7 +78,7 @@ fn is_one_time(first: &Frac, decimals: u8, second: &Frac, digits: u8) -> bool
 
 /// Puts the text that stands in `kept` from `at` on.
 #[inline(always)]
-fn put_kept(buf: &mut [u8], end: usize, kept: &[u8], at: usize) -> usize
+pub(crate) fn put_kept(buf: &mut [u8], end: usize, kept: &[u8], at: usize) -> usize
     requires kept { length kept.now ≡ 32 }
     requires at { at ≤ 32 }
     requires room { 82 ≤ end }
@@ -91,7 +91,7 @@ fn put_kept(buf: &mut [u8], end: usize, kept: &[u8], at: usize) -> usize
 
 /// The 32 bytes before a place.
 #[inline(always)]
-fn bytes_before(buf: &[u8], to: usize) -> [u8; 32]
+pub(crate) fn bytes_before(buf: &[u8], to: usize) -> [u8; 32]
     requires room { 32 ≤ to }
     requires inside { to ≤ length buf.now }
     ensures { result ≡ take 32 (drop (to - 32) buf.now) }

@@ -8,6 +8,7 @@ mod following;
 mod items;
 mod json;
 mod last;
+mod last_value;
 pub mod laws;
 mod line;
 mod listing;

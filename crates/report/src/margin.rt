@@ -13,6 +13,8 @@ ghost use Rattle.report.specs.Before.{Puts};
 ghost use Rattle.report.specs.MarginLines.{IsTimeAfter, IsValueAfter, AreNextLines, AreLaterLines};
 
 use crate::before::{put_lowest, put_word};
+use crate::last::{LastTime, put_time_before};
+use crate::last_value::LastValue;
 use crate::number::{in_units, put_fraction, quotient_in_units};
 use frac128::{Frac, Memory};
 use pl_signal::{Knot, Signal};
@@ -67,7 +69,7 @@ pub(crate) fn put_value_after(
 }
 
 /// Puts the value of a margin at a time, in units.
-fn put_margin(buf: &mut [u8], end: usize, m: &Margin, at: &Frac, digits: u8) -> usize
+pub(crate) fn put_margin(buf: &mut [u8], end: usize, m: &Margin, at: &Frac, digits: u8) -> usize
     requires few { digits ≤ 6 }
     requires time { IsWithin (2 ^ 34) (value at.now) }
     requires room { 82 ≤ end }
@@ -139,8 +141,92 @@ pub(crate) fn put_first(text: &mut Text, k: &Knot<Margin>, scale: Scale) -> Resu
     text.push(&buf[at..])
 }
 
-/// Puts the lines of the piece between two knots and of the second at the end of the buffer.
-fn put_lines(buf: &mut [u8], k: &Knot<Margin>, n: &Knot<Margin>, scale: Scale) -> usize
+/// What was written last of a knot: its time, and its value.
+#[derive(Debug, Drop)]
+struct Written {
+    time: LastTime,
+    value: LastValue,
+}
+
+/// What was written last of knots at even places, and at odd ones: so the texts of two neighbours stand here in turn.
+#[derive(Debug, Drop)]
+struct InTurn {
+    even: Written,
+    odd: Written,
+}
+
+/// Nothing was written yet.
+fn nothing_written() -> Written {
+    Written {
+        time: LastTime::new(),
+        value: LastValue::new(),
+    }
+}
+
+/// Puts the line of a knot, and keeps its texts in `now`.
+fn put_knot_kept(
+    buf: &mut [u8],
+    end: usize,
+    now: &mut Written,
+    k: &Knot<Margin>,
+    scale: Scale,
+) -> usize
+    requires time { scale.time ≤ 6 }
+    requires value { scale.value ≤ 6 }
+    requires within { IsWithin (2 ^ 34) (value k.now.time) }
+    requires room { 200 ≤ end }
+    requires inside { end ≤ length buf.old }
+    ensures { Puts (IsKnotLine scale (plain_knot margin_shape k.now)) 200 buf.old end buf.new result }
+{
+    let line = put_word(buf, end, b"\n");
+    let value = put_margin(buf, line, &k.point, &k.time, scale.value);
+    now.value
+        .keep(buf, value, line, &k.point, &k.time, scale.value);
+    let middle = put_word(buf, value, b"] ");
+    let time = put_time_before(buf, middle, &k.time, scale.time);
+    now.time.keep(buf, time, middle, &k.time, scale.time);
+    put_word(buf, time, b"[")
+}
+
+/// Puts the line of the piece between two knots, with the texts that were written of them where it has the same.
+fn put_piece_kept(
+    buf: &mut [u8],
+    end: usize,
+    before: &Written,
+    now: &Written,
+    k: &Knot<Margin>,
+    n: &Knot<Margin>,
+    scale: Scale,
+) -> usize
+    requires time { scale.time ≤ 6 }
+    requires value { scale.value ≤ 6 }
+    requires from { IsWithin (2 ^ 34) (value k.now.time) }
+    requires to { IsWithin (2 ^ 34) (value n.now.time) }
+    requires room { 400 ≤ end }
+    requires inside { end ≤ length buf.old }
+    ensures { Puts (IsPieceLine scale (plain_knot margin_shape k.now) (plain_piece margin_shape k.now n.now)) 400 buf.old end buf.new result }
+{
+    let line = put_word(buf, end, b"\n");
+    let last = now.value.put(buf, line, &k.after, &n.time, scale.value);
+    let arrow = put_word(buf, last, b" -> ");
+    let first = before.value.put(buf, arrow, &k.after, &k.time, scale.value);
+    let middle = put_word(buf, first, b") ");
+    let to = now.time.put(buf, middle, &n.time, scale.time);
+    let comma = put_word(buf, to, b",");
+    let from = before.time.put(buf, comma, &k.time, scale.time);
+    put_word(buf, from, b"(")
+}
+
+/// Puts the lines of the piece between two knots and of the second at the end of the buffer. What was written of the first stands in
+/// `before`; what is written of the second comes into `now`.
+fn put_lines(
+    buf: &mut [u8],
+    before: &Written,
+    now: &mut Written,
+    k: &Knot<Margin>,
+    n: &Knot<Margin>,
+    scale: Scale,
+) -> usize
     requires time { scale.time ≤ 6 }
     requires value { scale.value ≤ 6 }
     requires from { IsWithin (2 ^ 34) (value k.now.time) }
@@ -149,14 +235,38 @@ fn put_lines(buf: &mut [u8], k: &Knot<Margin>, n: &Knot<Margin>, scale: Scale) -
     ensures { Puts (AreNextLines margin_shape scale k.now n.now) 600 buf.old (length buf.old) buf.new result }
 {
     let end = buf.len();
-    let knot = put_knot(buf, end, n, scale);
-    put_piece(buf, knot, k, n, scale)
+    let knot = put_knot_kept(buf, end, now, n, scale);
+    put_piece_kept(buf, knot, before, now, k, n, scale)
 }
 
-/// Appends the lines of the piece between two knots and of the second.
+/// The same, of the knots at the places before `i` and at `i`.
+fn put_at(
+    buf: &mut [u8],
+    texts: &mut InTurn,
+    i: usize,
+    k: &Knot<Margin>,
+    n: &Knot<Margin>,
+    scale: Scale,
+) -> usize
+    requires time { scale.time ≤ 6 }
+    requires value { scale.value ≤ 6 }
+    requires from { IsWithin (2 ^ 34) (value k.now.time) }
+    requires to { IsWithin (2 ^ 34) (value n.now.time) }
+    requires room { 640 ≤ length buf.old }
+    ensures { Puts (AreNextLines margin_shape scale k.now n.now) 600 buf.old (length buf.old) buf.new result }
+{
+    if i % 2 == 0 {
+        return put_lines(buf, &texts.odd, &mut texts.even, k, n, scale);
+    }
+    put_lines(buf, &texts.even, &mut texts.odd, k, n, scale)
+}
+
+/// Appends the lines of the piece between the knot before place `i` and that at `i`, and of the latter.
 fn put_next(
     text: &mut Text,
     buf: &mut [u8],
+    texts: &mut InTurn,
+    i: usize,
     k: &Knot<Margin>,
     n: &Knot<Margin>,
     scale: Scale,
@@ -170,7 +280,7 @@ fn put_next(
     ensures err { OnErr result (GrewInPart (AreNextLines margin_shape scale k.now n.now) text.old text.new) }
     ensures room { length buf.new ≡ length buf.old }
 {
-    let at = put_lines(buf, k, n, scale);
+    let at = put_at(buf, texts, i, k, n, scale);
     text.push(&buf[at..])
 }
 
@@ -185,8 +295,20 @@ fn put_later(text: &mut Text, s: &Signal<Margin>, scale: Scale) -> Result<(), Me
 {
     let knots = s.len();
     let mut buf = [0u8; 640];
+    let mut texts = InTurn {
+        even: nothing_written(),
+        odd: nothing_written(),
+    };
     for i in 1..knots {
-        put_next(text, &mut buf, &s.knot(i - 1), &s.knot(i), scale)?;
+        put_next(
+            text,
+            &mut buf,
+            &mut texts,
+            i,
+            &s.knot(i - 1),
+            &s.knot(i),
+            scale,
+        )?;
     }
     Ok(())
 }

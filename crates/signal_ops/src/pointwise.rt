@@ -9,7 +9,8 @@ ghost use Rattle.pl_signal.specs.Wide.{HasCause};
 ghost use Rattle.rational.specs.InPlay.{of_two};
 ghost use Rattle.signal_ops.specs.Pointwise.{GreatestOf, IsFault, LeastOf, NamesShapes};
 
-use pl_signal::{Builder, OpFault, Side, Signal, chosen, earlier};
+use frac128::Memory;
+use pl_signal::{Builder, OpFault, Side, Signal, chosen, earlier, fault_of};
 use value_laws::Shape;
 
 /// The least of two signals at each time; both have one domain. Each of its shapes is a shape of one of them.
@@ -82,6 +83,7 @@ fn combined<P: Shape>(side: Side, a: &Signal<P>, b: &Signal<P>) -> Result<Signal
     let first = chosen(side, &x.point, &y.point, &x.time);
     let room = a.len().saturating_add(b.len());
     let mut built = Builder::with_room(a.alloc(), x.time, first, room)?;
+    let mut fault = None;
     let mut i = 0;
     let mut j = 0;
     while i < last {
@@ -90,7 +92,10 @@ fn combined<P: Shape>(side: Side, a: &Signal<P>, b: &Signal<P>) -> Result<Signal
         let left = a.advance(i, &to);
         let right = b.advance(j, &to);
         let point = chosen(side, &left.shape, &right.shape, &to);
-        built.join(side, &p, &q, &to, point)?;
+        match built.join_kept(side, &p, &q, &to, &point, &mut fault) {
+            Ok(()) => {}
+            Err(Memory) => return Err(fault_of(fault)),
+        }
         i = left.place;
         j = right.place;
     }

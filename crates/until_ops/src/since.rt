@@ -1,17 +1,23 @@
 //! Since from the start.
-ghost use Rattle.std.specs.Prelude.{◌≡◌, ◌+◌, ◌<◌, ◌∷◌, [], List, length, IfOk, IfErr};
-ghost use Rattle.rational.specs.Time.{◌≈◌};
+ghost use Rattle.std.specs.Prelude.{◌≡◌, ◌^◌, ◌+◌, ◌<◌, ◌∷◌, [], List, length, None, IfOk, IfErr, IfSome, OnOk, OnErr};
+ghost use Rattle.rational.specs.Rational.{IsWithin};
+ghost use Rattle.rational.specs.Time.{◌≈◌, ◌<ʳ◌};
+ghost use Rattle.rational.specs.Affine.{HasBoundedLevel};
+ghost use Rattle.frac128.specs.Value.{value};
 ghost use Rattle.pl_signal.specs.declared.knot.Knot.{Knot};
 ghost use Rattle.pl_signal.specs.Knots.{start, stop};
+ghost use Rattle.pl_signal.specs.declared.faults.OpFault.TheVariants as F;
 ghost use Rattle.pl_signal.specs.Limits.{IsLimited};
 ghost use Rattle.pl_signal.specs.Moves.{Tells};
 ghost use Rattle.pl_signal.specs.Wide.{HasCause};
+ghost use Rattle.pl_signal.specs.Joining.{IsGapFault};
+ghost use Rattle.until_ops.specs.Courses.{IsCourse, IsCourseFault, IsGap, IsTurn};
 ghost use Rattle.until_ops.specs.Untils.{BasesOfTwo, SinceOf, SinceStep};
 ghost use Rattle.until_ops.specs.Walks.{AreSides, IsPairWithin, Stands, rest};
 
-use crate::course::{Gap, course_over, point, turning};
-use frac128::Frac;
-use pl_signal::{Builder, OpFault, Side, Signal, chosen, earlier};
+use crate::course::{Course, Gap, Turn, course_over, point, turning};
+use frac128::{Frac, Memory};
+use pl_signal::{Builder, OpFault, Side, Signal, WidePair, chosen, earlier, fault_of, keep};
 use value_laws::Shape;
 
 /// Where a walk along both signals stands: the places of their last knots that are not later than `at`, a shape with the since's
@@ -52,8 +58,12 @@ pub fn since_from_start<P: Shape>(p: &Signal<P>, q: &Signal<P>) -> Result<Signal
     let mut now = first(p, q);
     let room = p.len().saturating_add(q.len());
     let mut built = Builder::with_room(p.alloc(), now.at, now.value, room)?;
+    let mut fault = None;
     while now.left < last {
-        now = walk(p, q, &mut built, &now)?;
+        match walk(p, q, &mut built, &now, &mut fault) {
+            Ok(next) => now = next,
+            Err(Memory) => return Err(fault_of(fault)),
+        }
     }
     Ok(built.finish())
 }
@@ -77,28 +87,63 @@ fn first<P: Shape>(p: &Signal<P>, q: &Signal<P>) -> Stand<P>
     }
 }
 
-/// Goes on to the next event: a knot of one of the two, or a crossing of their parts before that.
+/// How far the two keep their order, with what is refused put into `fault`.
+fn turn_kept<P: Shape>(
+    p: &P,
+    q: &P,
+    from: &Frac,
+    next: &Frac,
+    fault: &mut Option<WidePair<P>>,
+) -> Result<Turn, Memory>
+    requires order { value from.now <ʳ value next.now }
+    requires from_within { IsWithin (2 ^ 34) (value from.now) }
+    requires next_within { IsWithin (2 ^ 34) (value next.now) }
+    requires first { HasBoundedLevel (2 ^ 31) (P.function p.now) }
+    requires second { HasBoundedLevel (2 ^ 31) (P.function q.now) }
+    requires none { fault.old ≡ None }
+    ensures ok { IfOk result (IsTurn (P.function p.now) (P.function q.now) from.now next.now) }
+    ensures still { OnOk result (fault.new ≡ None) }
+    ensures wide { OnErr result (IfSome fault.new (λ pair. IsGapFault P.Shape p.now q.now from.now next.now (F.Wide pair))) }
+{
+    keep(turning(p, q, from, next), fault)
+}
+
+/// What the since is on the gap, with what is refused put into `fault`.
+fn course_kept<P: Shape>(gap: &Gap<P>, fault: &mut Option<WidePair<P>>) -> Result<Course<P>, Memory>
+    requires gap { IsGap P.Shape gap.now }
+    requires none { fault.old ≡ None }
+    ensures ok { IfOk result (IsCourse P.Shape gap.now) }
+    ensures still { OnOk result (fault.new ≡ None) }
+    ensures wide { OnErr result (IfSome fault.new (λ pair. IsCourseFault P.Shape gap.now (F.Wide pair))) }
+{
+    keep(course_over(gap), fault)
+}
+
+/// Goes on to the next event: a knot of one of the two, or a crossing of their parts before that. What is refused is put into `fault`.
 fn walk<P: Shape>(
     p: &Signal<P>,
     q: &Signal<P>,
     built: &mut Builder<P>,
     now: &Stand<P>,
-) -> Result<Stand<P>, OpFault<P>>
+    fault: &mut Option<WidePair<P>>,
+) -> Result<Stand<P>, Memory>
     requires sides { AreSides P.Shape p.now q.now }
     requires stands { Stands P.Shape p.now q.now built.old now.now }
     requires more { now.now.left + 1 < length p.now }
+    requires none { fault.old ≡ None }
     ensures ok { IfOk result (Stands P.Shape p.now q.now built.new) }
+    ensures still { OnOk result (fault.new ≡ None) }
     ensures nearer { IfOk result (λ next. rest p.now q.now next < rest p.now q.now now.now) }
-    ensures wide { IfErr result
-        (HasCause P.Shape (SinceStep P.Shape p.now q.now) (start p.now) (stop p.now)) }
-    ensures pair { IfErr result (IsPairWithin (start p.now) (stop p.now)) }
+    ensures wide { OnErr result (IfSome fault.new
+        (λ pair. HasCause P.Shape (SinceStep P.Shape p.now q.now) (start p.now) (stop p.now) (F.Wide pair))) }
+    ensures pair { OnErr result (IfSome fault.new (λ pair. IsPairWithin (start p.now) (stop p.now) (F.Wide pair))) }
 {
     // For the proof alone: that both are signals is a clause of `len`.
     let _ = p.len();
     let _ = q.len();
     let (x, y) = (p.knot(now.left).after, q.knot(now.right).after);
     let next = earlier(&p.knot(now.left + 1).time, &q.knot(now.right + 1).time);
-    let turn = turning(&x, &y, &now.at, &next)?;
+    let turn = turn_kept(&x, &y, &now.at, &next, fault)?;
     let gap = Gap {
         before: now.value,
         left: x,
@@ -106,16 +151,17 @@ fn walk<P: Shape>(
         from: now.at,
         to: turn.time,
     };
-    let course = course_over(&gap)?;
+    let course = course_kept(&gap, fault)?;
     let left = p.advance(now.left, &turn.time);
     let right = q.advance(now.right, &turn.time);
     let value = point(&course, &left.shape, &right.shape, &turn.time);
-    built.join(
+    built.join_kept(
         course.side,
         &course.first,
         &course.second,
         &turn.time,
-        value,
+        &value,
+        fault,
     )?;
     Ok(Stand {
         left: left.place,

@@ -1,5 +1,6 @@
 use Rattle.std.proofs.Common.{inl, inr, refl, subst}
-use Rattle.std.proofs.lemmas.Result.{IfErr-weaker}
+use Rattle.std.proofs.lemmas.Option.{IfSome_then}
+use Rattle.std.proofs.lemmas.Result.{on_err_weaker}
 use Rattle.rational.specs.Time.{◌≤ʳ◌}
 use Rattle.rational.specs.Extended.{value_at}
 use Rattle.rational.proofs.Order.{le_refl}
@@ -17,38 +18,40 @@ returns-in_default-favour g c =
     let at_from = subst (λ u. IsFavour c.args.side c.favour-in-Greater.result (value_at (f c.args.first.now) u)
     (value_at (f c.args.second.now) u)) c.stop-from.ensures.value c.favour-in-Greater.ensures in
     record {
-      ok = on_ok c.join.result
+      ok = on_ok c.join_kept.result
           (written_whole g.P.Shape c.args.side c.args.first.now c.args.second.now c.args.r.now c.args.second.now
-          c.args.point c.args.built.now c.join.new.self c.args.to.now (inr refl)
+          c.args.point.now c.args.built.now c.join_kept.new.self c.args.to.now (inr refl)
           ((whole_second g.P.Shape c.args.side c.args.first.now c.args.second.now (stop c.args.built.now) (value c.args.to.now)
           (taken_second c.args.side c.favour-in-Greater.result (value_at (f c.args.first.now) (stop c.args.built.now))
           (value_at (f c.args.second.now) (stop c.args.built.now)) at_from c.in_default-favour.not-Less)
           (taken_of_greater c.args.side (value_at (f c.args.first.now) (value c.args.to.now))
           (value_at (f c.args.second.now) (value c.args.to.now)) c.in-Greater.ensures)).1))
-          c.join.ensures.ok;
-      fault = IfErr-weaker c.join.result _ _
-          (λ e (from, i, h). gap_fault g.P.Shape (three c.args.first.now c.args.second.now c.args.r.now)
-          c.args.second.now c.args.r.now from c.args.to.now (stop c.args.built.now) (value c.args.to.now) e
-          (inr (inr refl)) (inl refl) (subst (λ u. u ≤ʳ value from) i (le_refl (value from))) (le_refl (value c.args.to.now)) h)
-          c.join.ensures.wide;
+          c.join_kept.ensures.ok;
+      still = c.join_kept.ensures.still;
+      fault = on_err_weaker c.join_kept.result (λ kept. IfSome_then c.join_kept.new.fault kept
+          (λ pair (from, i, h). gap_fault g.P.Shape (three c.args.first.now c.args.second.now c.args.r.now)
+          c.args.second.now c.args.r.now from c.args.to.now (stop c.args.built.now) (value c.args.to.now) pair
+          (inr (inr refl)) (inl refl) (subst (λ u. u ≤ʳ value from) i (le_refl (value from))) (le_refl (value c.args.to.now)) h))
+          c.join_kept.ensures.wide;
     }
 
 pub returns-in_default : goal.returns-in_default
 returns-in_default g c =
     let f = g.P.Shape.function in
     record {
-      ok = on_ok c.join-in_default.result
+      ok = on_ok c.join_kept-in_default.result
           (written_whole g.P.Shape c.args.side c.args.first.now c.args.second.now c.args.r.now c.args.first.now
-          c.args.point c.args.built.now c.join-in_default.new.self c.args.to.now (inl refl)
+          c.args.point.now c.args.built.now c.join_kept-in_default.new.self c.args.to.now (inl refl)
           ((whole_first g.P.Shape c.args.side c.args.first.now c.args.second.now (stop c.args.built.now) (value c.args.to.now)
           (taken_of_no_better c.args.side (value_at (f c.args.second.now) (stop c.args.built.now))
           (value_at (f c.args.first.now) (stop c.args.built.now)) c.requires.better)
           (taken_first c.args.side c.favour.result (value_at (f c.args.first.now) (value c.args.to.now))
           (value_at (f c.args.second.now) (value c.args.to.now)) c.favour.ensures c.in_default.not-Greater)).1))
-          c.join-in_default.ensures.ok;
-      fault = IfErr-weaker c.join-in_default.result _ _
-          (λ e (from, i, h). gap_fault g.P.Shape (three c.args.first.now c.args.second.now c.args.r.now)
-          c.args.first.now c.args.r.now from c.args.to.now (stop c.args.built.now) (value c.args.to.now) e
-          (inr (inl refl)) (inl refl) (subst (λ u. u ≤ʳ value from) i (le_refl (value from))) (le_refl (value c.args.to.now)) h)
-          c.join-in_default.ensures.wide;
+          c.join_kept-in_default.ensures.ok;
+      still = c.join_kept-in_default.ensures.still;
+      fault = on_err_weaker c.join_kept-in_default.result (λ kept. IfSome_then c.join_kept-in_default.new.fault kept
+          (λ pair (from, i, h). gap_fault g.P.Shape (three c.args.first.now c.args.second.now c.args.r.now)
+          c.args.first.now c.args.r.now from c.args.to.now (stop c.args.built.now) (value c.args.to.now) pair
+          (inr (inl refl)) (inl refl) (subst (λ u. u ≤ʳ value from) i (le_refl (value from))) (le_refl (value c.args.to.now)) h))
+          c.join_kept-in_default.ensures.wide;
     }

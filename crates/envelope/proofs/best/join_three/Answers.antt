@@ -1,4 +1,5 @@
-use Rattle.std.proofs.lemmas.Result.{IfErr-weaker}
+use Rattle.std.proofs.lemmas.Option.{IfSome_then}
+use Rattle.std.proofs.lemmas.Result.{on_err_weaker}
 use Rattle.frac128.specs.Value.{value}
 use Rattle.pl_signal.specs.Knots.{stop}
 use Rattle.envelope.proofs.Bests.{on_ok, written_swapped, fault_swapped}
@@ -6,10 +7,10 @@ use Rattle.envelope.proofs.best.join_three.Goals as goal
 
 pub returns-in-Greater-clause-ok : goal.returns-in-Greater-clause-ok
 returns-in-Greater-clause-ok g c = on_ok c.join_ordered.result (written_swapped g.P.Shape c.args.side c.args.q.now
-    c.args.p.now c.args.r.now c.args.point c.args.built.now c.join_ordered.new.built c.args.to.now)
+    c.args.p.now c.args.r.now c.args.point.now c.args.built.now c.join_ordered.new.built c.args.to.now)
     c.join_ordered.ensures.ok
 
 pub returns-in-Greater-clause-fault : goal.returns-in-Greater-clause-fault
-returns-in-Greater-clause-fault g c = IfErr-weaker c.join_ordered.result _ _
-    (λ e h. fault_swapped g.P.Shape c.args.q.now c.args.p.now c.args.r.now (stop c.args.built.now) (value c.args.to.now)
-    e h) c.join_ordered.ensures.fault
+returns-in-Greater-clause-fault g c = on_err_weaker c.join_ordered.result (λ kept. IfSome_then c.join_ordered.new.fault kept
+    (λ pair h. fault_swapped g.P.Shape c.args.q.now c.args.p.now c.args.r.now (stop c.args.built.now) (value c.args.to.now) pair h))
+    c.join_ordered.ensures.fault

@@ -10,4 +10,4 @@ returns c =
     let k = c.args.k.now in
     let n = c.args.n.now in
     puts_then (IsPieceLine s (plain_knot margin_shape k) (plain_piece margin_shape k n))
-    (IsKnotLine s (plain_knot margin_shape n)) c.put_knot-knot.ensures c.put_piece.ensures
+    (IsKnotLine s (plain_knot margin_shape n)) c.put_knot_kept-knot.ensures c.put_piece_kept.ensures

@@ -7,14 +7,14 @@ use Rattle.report.proofs.margin.put_next.Goals as goal
 
 pub returns-clause-ok : goal.returns-clause-ok
 returns-clause-ok c =
-    let buf = c.put_lines-at.new.buf in
-    let at = c.put_lines-at.result in
+    let buf = c.put_at-at.new.buf in
+    let at = c.put_at-at.result in
     let all = take_all (length buf - at) (drop at buf) (omega (arith, length-drop at buf)) in
     on_ok_weaker c.push.result
-    (λ e. pushed_puts (AreNextLines margin_shape c.args.scale c.args.k.now c.args.n.now) c.args.text.now c.push.new.self c.put_lines-at.ensures
+    (λ e. pushed_puts (AreNextLines margin_shape c.args.scale c.args.k.now c.args.n.now) c.args.text.now c.push.new.self c.put_at-at.ensures
     (e ∙ ap (λ w. c.args.text.now ++ w) all)) c.push.ensures.ok
 
 pub returns-clause-err : goal.returns-clause-err
 returns-clause-err c =
     on_err_weaker c.push.result
-    (unpushed_puts (AreNextLines margin_shape c.args.scale c.args.k.now c.args.n.now) c.args.text.now c.push.new.self c.put_lines-at.ensures) c.push.ensures.err
+    (unpushed_puts (AreNextLines margin_shape c.args.scale c.args.k.now c.args.n.now) c.args.text.now c.push.new.self c.put_at-at.ensures) c.push.ensures.err

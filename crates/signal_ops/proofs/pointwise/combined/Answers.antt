@@ -1,5 +1,5 @@
-use Rattle.std.proofs.Common.{◌≡◌, ◌+◌, ◌<◌, ◌≤◌, ◌^◌, length, sym, ◌∙◌, ap, subst, arith}
-use Rattle.std.proofs.lemmas.Result.{err_from_is_err_and}
+use Rattle.std.proofs.Common.{◌≡◌, ◌+◌, ◌<◌, ◌≤◌, ◌^◌, length, refl, sym, ◌∙◌, ap, subst, arith}
+use Rattle.std.proofs.lemmas.Option.{IfSome_then}
 use Rattle.rational.specs.Rational.{IsWithin}
 use Rattle.rational.specs.Time.{Rational, ◌≈◌, ◌<ʳ◌, ◌≤ʳ◌}
 use Rattle.rational.specs.Extended.{value_at}
@@ -9,10 +9,13 @@ use Rattle.pl_signal.specs.Knots.{time, start, stop, IsWorth}
 use Rattle.pl_signal.specs.Moves.{Tells}
 use Rattle.pl_signal.specs.Joining.{ChosenOf}
 use Rattle.pl_signal.specs.Places.{IsPlace}
+use Rattle.pl_signal.specs.declared.faults.OpFault.TheVariants as F
+use Rattle.pl_signal.proofs.Kept.{fault_kept}
 use Rattle.pl_signal.proofs.Values.{shape_at, shape_after}
 use Rattle.pl_signal.proofs.Telling.{told}
 use Rattle.pl_signal.proofs.Moving.{at_knot_within, limited_at, first_is, same_knot, only_ends}
 use Rattle.pl_signal.proofs.Places.{earlier_after, nearer, not_both, at_stop, first_place, more_knots, part_on_gap, begun_before}
+use Rattle.signal_ops.specs.Pointwise.{IsFault, NamesShapes}
 use Rattle.signal_ops.proofs.Negating.{after_bounded}
 use Rattle.signal_ops.proofs.CombiningLemmas.{first_shapes, joined_shapes, chosen_is_function, tells_joined, tells_chosen, fault_of_gap, names_of_gap}
 use Rattle.signal_ops.proofs.pointwise.combined.Given.{Over}
@@ -41,6 +44,7 @@ loop-i-init g c =
           (same_refl (time c.knot-x.result)));
       right = subst (λ s. IsPlace c.args.b.now s 0) ends
           (first_place g.P.Shape c.args.b.now c.knot-y.result (time c.knot-x.result) c.len.ensures.signal c.knot-y.ensures (same_sym together));
+      still = refl;
       shapes = first_shapes g.P.Shape c.args.a.now c.args.b.now c.in_ok-built.built c.knot-x.result.point c.knot-y.result.point c.chosen-first.result
           c.knot-x.result.time (shape_at g.P.Shape c.args.a.now 0 c.knot-x.result c.knot-x.ensures)
           (shape_at g.P.Shape c.args.b.now 0 c.knot-y.result c.knot-y.ensures)
@@ -105,37 +109,37 @@ advance-right-requires-clause-begun g c =
 pub chosen-point-requires : goal.chosen-point-requires
 chosen-point-requires g c = within g (goal.at.chosen-point-requires g c).After-earlier-to
 
-pub join-requires-clause-order : goal.join-requires-clause-order
-join-requires-clause-order g c = order g (goal.at.join-requires-clause-order g c).After-earlier-to
+pub join_kept-requires-clause-order : goal.join_kept-requires-clause-order
+join_kept-requires-clause-order g c = order g (goal.at.join_kept-requires-clause-order g c).After-earlier-to
 
-pub join-requires-clause-to_within : goal.join-requires-clause-to_within
-join-requires-clause-to_within g c = within g (goal.at.join-requires-clause-to_within g c).After-earlier-to
+pub join_kept-requires-clause-to_within : goal.join_kept-requires-clause-to_within
+join_kept-requires-clause-to_within g c = within g (goal.at.join_kept-requires-clause-to_within g c).After-earlier-to
 
-pub join-requires-clause-first : goal.join-requires-clause-first
-join-requires-clause-first g c =
+pub join_kept-requires-clause-first : goal.join_kept-requires-clause-first
+join_kept-requires-clause-first g c =
     after_bounded g.P.Shape c.args.a.now c.loop-i.i c.knot.result c.knot-in-loop-i-2.result c.requires.left c.knot.ensures c.knot-in-loop-i-2.ensures
 
-pub join-requires-clause-second : goal.join-requires-clause-second
-join-requires-clause-second g c = after_bounded g.P.Shape c.args.b.now c.loop-i.j c.knot-in-loop-i.result c.knot-in-loop-i-3.result c.requires.right
+pub join_kept-requires-clause-second : goal.join_kept-requires-clause-second
+join_kept-requires-clause-second g c = after_bounded g.P.Shape c.args.b.now c.loop-i.j c.knot-in-loop-i.result c.knot-in-loop-i-3.result c.requires.right
     c.knot-in-loop-i.ensures c.knot-in-loop-i-3.ensures
 
-pub returns-in_err-join-clause-wide : goal.returns-in_err-join-clause-wide
-returns-in_err-join-clause-wide g c =
-    let p = err_from_is_err_and c.from_residual-in_err-join.result c.from_residual-in_err-join.ensures.1 in
-    let (from, at, fault) = c.in_err-join.ensures.wide in
-    let step = (goal.at.returns-in_err-join-clause-wide g c).After-earlier-to in
-    rw (p.1, p.2) (fault_of_gap g.P.Shape c.args.a.now c.args.b.now c.knot.result.after c.knot-in-loop-i.result.after from c.earlier-to.result
-    c.in_err-join.field-0.0 fault (subst (λ s. start c.args.a.now ≤ʳ s) (sym at) c.loop-i.invariant.above) (below g step)
-    (λ t h l. left_on g step t (subst (λ s. s <ʳ t) at h) l) (λ t h l. right_on g step t (subst (λ s. s <ʳ t) at h) l))
+pub returns-in-Err-clause-wide : goal.returns-in-Err-clause-wide
+returns-in-Err-clause-wide g c =
+    let step = (goal.at.returns-in-Err-clause-wide g c).After-earlier-to in
+    fault_kept (IsFault g.P.Shape (IsWorth g.P.Shape c.args.a.now) (IsWorth g.P.Shape c.args.b.now) (start c.args.a.now) (stop c.args.a.now))
+    c.fault_of.result c.join_kept.new.fault c.fault_of.ensures tt (IfSome_then c.join_kept.new.fault c.in-Err.ensures.wide (λ pair (from, at, fault).
+    fault_of_gap g.P.Shape c.args.a.now c.args.b.now c.knot.result.after c.knot-in-loop-i.result.after from c.earlier-to.result
+    (F.Wide pair) fault (subst (λ s. start c.args.a.now ≤ʳ s) (sym at) c.loop-i.invariant.above) (below g step)
+    (λ t h l. left_on g step t (subst (λ s. s <ʳ t) at h) l) (λ t h l. right_on g step t (subst (λ s. s <ʳ t) at h) l)))
 
-pub returns-in_err-join-clause-named : goal.returns-in_err-join-clause-named
-returns-in_err-join-clause-named g c =
-    let p = err_from_is_err_and c.from_residual-in_err-join.result c.from_residual-in_err-join.ensures.1 in
-    let (from, at, fault) = c.in_err-join.ensures.wide in
-    rw (p.1, p.2) (names_of_gap g.P.Shape c.args.a.now c.args.b.now c.knot.result.after c.knot-in-loop-i.result.after from c.earlier-to.result
-    c.in_err-join.field-0.0 fault
+pub returns-in-Err-clause-named : goal.returns-in-Err-clause-named
+returns-in-Err-clause-named g c =
+    fault_kept (NamesShapes c.args.a.now c.args.b.now) c.fault_of.result c.join_kept.new.fault c.fault_of.ensures tt
+    (IfSome_then c.join_kept.new.fault c.in-Err.ensures.wide (λ pair (from, at, fault).
+    names_of_gap g.P.Shape c.args.a.now c.args.b.now c.knot.result.after c.knot-in-loop-i.result.after from c.earlier-to.result
+    (F.Wide pair) fault
     (shape_after g.P.Shape c.args.a.now c.loop-i.i c.knot.result c.knot.ensures)
-    (shape_after g.P.Shape c.args.b.now c.loop-i.j c.knot-in-loop-i.result c.knot-in-loop-i.ensures))
+    (shape_after g.P.Shape c.args.b.now c.loop-i.j c.knot-in-loop-i.result c.knot-in-loop-i.ensures)))
 
 pub loop-i-smaller : goal.loop-i-smaller
 loop-i-smaller g c =
@@ -148,10 +152,10 @@ loop-i-smaller g c =
 pub loop-i-preserved : goal.loop-i-preserved
 loop-i-preserved g c =
     let step = (goal.at.loop-i-preserved g c).After-earlier-to in
-    let joins = c.in_ok-join.ensures.ok in
+    let joins = c.in-Ok.ensures.ok in
     let ends = sym joins.ends in
     record {
-      tells = tells_joined g.P.Shape c.args.side c.args.a.now c.args.b.now c.loop-i.built c.join.new.self c.knot.result.after
+      tells = tells_joined g.P.Shape c.args.side c.args.a.now c.args.b.now c.loop-i.built c.join_kept.new.self c.knot.result.after
           c.knot-in-loop-i.result.after c.advance-left.result.shape c.advance-right.result.shape c.chosen-point.result c.earlier-to.result
           c.len-last.ensures.signal c.len.ensures.signal c.loop-i.invariant.tells joins (left_on g step) (right_on g step)
           c.advance-left.ensures.worth c.advance-right.ensures.worth c.chosen-point.ensures.value;
@@ -161,7 +165,8 @@ loop-i-preserved g c =
       below = subst (λ s. s ≤ʳ stop c.args.a.now) ends (below g step);
       left = subst (λ s. IsPlace c.args.a.now s c.advance-left.result.place) ends c.advance-left.ensures.place;
       right = subst (λ s. IsPlace c.args.b.now s c.advance-right.result.place) ends c.advance-right.ensures.place;
-      shapes = joined_shapes g.P.Shape c.args.side c.args.a.now c.args.b.now c.loop-i.built c.join.new.self c.knot.result.after
+      still = c.in-Ok.ensures.still;
+      shapes = joined_shapes g.P.Shape c.args.side c.args.a.now c.args.b.now c.loop-i.built c.join_kept.new.self c.knot.result.after
           c.knot-in-loop-i.result.after c.chosen-point.result c.advance-left.result.shape c.advance-right.result.shape c.earlier-to.result
           c.loop-i.invariant.shapes joins (shape_after g.P.Shape c.args.a.now c.loop-i.i c.knot.result c.knot.ensures)
           (shape_after g.P.Shape c.args.b.now c.loop-i.j c.knot-in-loop-i.result c.knot-in-loop-i.ensures)

@@ -1,4 +1,4 @@
-use Rattle.std.proofs.Common.{◌⊎◌, ◌+◌, ◌-◌, ◌^◌, length}
+use Rattle.std.proofs.Common.{◌≡◌, ◌⊎◌, ◌+◌, ◌-◌, ◌^◌, None, length}
 use Rattle.rational.specs.Rational.{IsWithin}
 use Rattle.rational.specs.Time.{◌≈◌, ◌≤ʳ◌}
 use Rattle.pl_signal.specs.Knots.{start, stop, IsWorth, HasShape}
@@ -16,6 +16,7 @@ invariant-loop-i g l = record {
   below : stop l.built ≤ʳ stop l.a;
   left : IsPlace l.a (stop l.built) l.i;
   right : IsPlace l.b (stop l.built) l.j;
+  still : l.fault ≡ None;
   shapes : (p : _) → HasShape l.built p → HasShape l.a p ⊎ HasShape l.b p;
 }
 

@@ -1,9 +1,12 @@
-use Rattle.std.proofs.Common.{◌+◌, ◌^◌, refl, sym, ◌∙◌, rules, subst}
+use Rattle.std.proofs.Common.{◌+◌, ◌^◌, refl, sym, ◌∙◌, subst}
+use Rattle.std.proofs.lemmas.Option.{IfSome_then}
 use Rattle.rational.specs.Rational.{IsWithin}
 use Rattle.rational.specs.Time.{◌<ʳ◌, ◌≤ʳ◌}
 use Rattle.rational.proofs.Order.{le_refl, le_trans, le_of_lt, le_of_same, lt_of_lt_of_le}
 use Rattle.frac128.specs.Value.{value}
 use Rattle.pl_signal.specs.Knots.{time}
+use Rattle.pl_signal.specs.declared.faults.OpFault.TheVariants as F
+use Rattle.pl_signal.proofs.Kept.{on_err_anyway}
 use Rattle.pl_signal.proofs.Moving.{at_knot_within, same_knot}
 use Rattle.pl_signal.proofs.Places.{begun_before, more_knots}
 use Rattle.until_ops.proofs.LimitLemmas.{after_bounded}
@@ -11,7 +14,7 @@ use Rattle.until_ops.proofs.PlayLemmas.{Follows, cross_cause, cross_within, left
 use Rattle.until_ops.proofs.WalkLemmas.{IsNext, IsWalk, begins_before, gap_follows, gap_to, gap_within}
 use Rattle.until_ops.proofs.WalkLemmas.{is_gap, more_right, nearer, played_level, starts_within, walked}
 use Rattle.until_ops.proofs.since.walk.Given.{Over}
-use Rattle.until_ops.proofs.since.walk.Goals.{After-earlier-next, After-course_over, After-join}
+use Rattle.until_ops.proofs.since.walk.Goals.{After-earlier-next, After-course_kept, After-join_kept}
 use Rattle.until_ops.proofs.since.walk.Goals as goal
 
 walk : (g : Over) (c : After-earlier-next g)
@@ -39,24 +42,24 @@ knot-requires-4 g c =
     (le_trans (at_knot_within g.P.Shape c.args.p.now (c.args.now.now.left + 1) c.knot-3.result c.len.ensures.signal c.knot-3.ensures).below
     (le_of_same c.requires.sides.ends)))
 
-pub turning-requires-clause-order : goal.turning-requires-clause-order
-turning-requires-clause-order g c = begins_before (walk g (goal.at.turning-requires-clause-order g c).After-earlier-next)
+pub turn_kept-requires-clause-order : goal.turn_kept-requires-clause-order
+turn_kept-requires-clause-order g c = begins_before (walk g (goal.at.turn_kept-requires-clause-order g c).After-earlier-next)
 
-pub turning-requires-clause-from_within : goal.turning-requires-clause-from_within
-turning-requires-clause-from_within g c = starts_within (walk g (goal.at.turning-requires-clause-from_within g c).After-earlier-next)
+pub turn_kept-requires-clause-from_within : goal.turn_kept-requires-clause-from_within
+turn_kept-requires-clause-from_within g c = starts_within (walk g (goal.at.turn_kept-requires-clause-from_within g c).After-earlier-next)
 
-pub turning-requires-clause-next_within : goal.turning-requires-clause-next_within
-turning-requires-clause-next_within g c =
-    let w = walk g (goal.at.turning-requires-clause-next_within g c).After-earlier-next in
+pub turn_kept-requires-clause-next_within : goal.turn_kept-requires-clause-next_within
+turn_kept-requires-clause-next_within g c =
+    let w = walk g (goal.at.turn_kept-requires-clause-next_within g c).After-earlier-next in
     gap_within w (value c.earlier-next.result) (le_of_lt (begins_before w)) (le_refl (value c.earlier-next.result))
 
-pub turning-requires-clause-first : goal.turning-requires-clause-first
-turning-requires-clause-first g c =
+pub turn_kept-requires-clause-first : goal.turn_kept-requires-clause-first
+turn_kept-requires-clause-first g c =
     after_bounded g.P.Shape c.args.p.now c.args.now.now.left c.knot.result c.knot-3.result c.len.ensures.signal c.requires.sides.left
     c.knot.ensures c.knot-3.ensures
 
-pub turning-requires-clause-second : goal.turning-requires-clause-second
-turning-requires-clause-second g c =
+pub turn_kept-requires-clause-second : goal.turn_kept-requires-clause-second
+turn_kept-requires-clause-second g c =
     after_bounded g.P.Shape c.args.q.now c.args.now.now.right c.knot-2.result c.knot-4.result c.len-2.ensures.signal c.requires.sides.right
     c.knot-2.ensures c.knot-4.ensures
 
@@ -68,54 +71,53 @@ whole_gap g c = let w = walk g c in gap_follows w c.earlier-next.result (begins_
 pub returns-in_err-turn-clause-wide : goal.returns-in_err-turn-clause-wide
 returns-in_err-turn-clause-wide g c =
     let on = whole_gap g (goal.at.returns-in_err-turn-clause-wide g c).After-earlier-next in
-    let fact = cross_cause on c.knot.result.after c.knot-2.result.after (left_plays on) (right_plays on)
-    c.args.now.now.at refl c.in_err-turn.field-0.0 c.in_err-turn.ensures in
-    search (rules, fact)
+    on_err_anyway c.from_residual.result (IfSome_then c.turn_kept.new.fault c.in_err-turn.ensures.wide
+    (λ pair h. cross_cause on c.knot.result.after c.knot-2.result.after (left_plays on) (right_plays on) c.args.now.now.at refl (F.Wide pair) h))
 
 pub returns-in_err-turn-clause-pair : goal.returns-in_err-turn-clause-pair
 returns-in_err-turn-clause-pair g c =
     let on = whole_gap g (goal.at.returns-in_err-turn-clause-pair g c).After-earlier-next in
-    let fact = cross_within on c.knot.result.after c.knot-2.result.after c.args.now.now.at refl c.in_err-turn.field-0.0 c.in_err-turn.ensures in
-    search (rules, fact)
+    on_err_anyway c.from_residual.result (IfSome_then c.turn_kept.new.fault c.in_err-turn.ensures.wide
+    (λ pair h. cross_within on c.knot.result.after c.knot-2.result.after c.args.now.now.at refl (F.Wide pair) h))
 
-pub course_over-requires : goal.course_over-requires
-course_over-requires g c = is_gap (walk g (goal.at.course_over-requires g c).After-earlier-next) c.in_ok-turn.turn c.in_ok-turn.ensures
+pub course_kept-requires-clause-gap : goal.course_kept-requires-clause-gap
+course_kept-requires-clause-gap g c = is_gap (walk g (goal.at.course_kept-requires-clause-gap g c).After-earlier-next) c.in_ok-turn.turn c.in_ok-turn.ensures.ok
 
 -- the gap up to the next event
-gap : (g : Over) (c : After-course_over g)
+gap : (g : Over) (c : After-course_kept g)
     → Follows g.P.Shape c.args.p.now c.args.q.now (gap_to c.args.now.now c.knot.result c.knot-2.result c.in_ok-turn.turn.time)
 gap g c =
-    gap_follows (walk g (goal.at.After-course_over g c).After-earlier-next) c.in_ok-turn.turn.time c.in_ok-turn.ensures.after c.in_ok-turn.ensures.not_later
+    gap_follows (walk g (goal.at.After-course_kept g c).After-earlier-next) c.in_ok-turn.turn.time c.in_ok-turn.ensures.ok.after c.in_ok-turn.ensures.ok.not_later
 
 pub returns-in_err-course-clause-wide : goal.returns-in_err-course-clause-wide
 returns-in_err-course-clause-wide g c =
-    let on = gap g (goal.at.returns-in_err-course-clause-wide g c).After-course_over in
-    let fact = value_cause on c.in_ok-turn.ensures.in_order c.in_err-course.field-0.0 c.in_err-course.ensures in
-    search (rules, fact)
+    let on = gap g (goal.at.returns-in_err-course-clause-wide g c).After-course_kept in
+    on_err_anyway c.from_residual-in_err-course.result (IfSome_then c.course_kept.new.fault c.in_err-course.ensures.wide
+    (λ pair h. value_cause on c.in_ok-turn.ensures.ok.in_order (F.Wide pair) h))
 
 pub returns-in_err-course-clause-pair : goal.returns-in_err-course-clause-pair
 returns-in_err-course-clause-pair g c =
-    let on = gap g (goal.at.returns-in_err-course-clause-pair g c).After-course_over in
-    let fact = value_within on c.in_err-course.field-0.0 c.in_err-course.ensures in
-    search (rules, fact)
+    let on = gap g (goal.at.returns-in_err-course-clause-pair g c).After-course_kept in
+    on_err_anyway c.from_residual-in_err-course.result (IfSome_then c.course_kept.new.fault c.in_err-course.ensures.wide
+    (λ pair h. value_within on (F.Wide pair) h))
 
-pub join-requires-clause-order : goal.join-requires-clause-order
-join-requires-clause-order g c = subst (λ t. t <ʳ value c.in_ok-turn.turn.time) (sym c.requires.stands.ends) c.in_ok-turn.ensures.after
+pub join_kept-requires-clause-order : goal.join_kept-requires-clause-order
+join_kept-requires-clause-order g c = subst (λ t. t <ʳ value c.in_ok-turn.turn.time) (sym c.requires.stands.ends) c.in_ok-turn.ensures.ok.after
 
 pub advance-left-requires-clause-begun : goal.advance-left-requires-clause-begun
 advance-left-requires-clause-begun g c =
     begun_before g.P.Shape c.args.p.now c.args.now.now.left (value c.args.now.now.at) (value c.in_ok-turn.turn.time) c.requires.stands.left
-    c.in_ok-turn.ensures.after
+    c.in_ok-turn.ensures.ok.after
 
 pub advance-right-requires-clause-begun : goal.advance-right-requires-clause-begun
 advance-right-requires-clause-begun g c =
     begun_before g.P.Shape c.args.q.now c.args.now.now.right (value c.args.now.now.at) (value c.in_ok-turn.turn.time) c.requires.stands.right
-    c.in_ok-turn.ensures.after
+    c.in_ok-turn.ensures.ok.after
 
 pub advance-left-requires-clause-next : goal.advance-left-requires-clause-next
 advance-left-requires-clause-next g c = λ k e.
     subst (λ k. value c.in_ok-turn.turn.time ≤ʳ time k) (same_knot g.P.Shape c.args.p.now (c.args.now.now.left + 1) e c.knot-3.ensures)
-    (le_trans c.in_ok-turn.ensures.not_later c.earlier-next.ensures.left)
+    (le_trans c.in_ok-turn.ensures.ok.not_later c.earlier-next.ensures.left)
 
 pub advance-right-requires-clause-more : goal.advance-right-requires-clause-more
 advance-right-requires-clause-more g c = more_right (walk g (goal.at.advance-right-requires-clause-more g c).After-earlier-next)
@@ -123,54 +125,53 @@ advance-right-requires-clause-more g c = more_right (walk g (goal.at.advance-rig
 pub advance-right-requires-clause-next : goal.advance-right-requires-clause-next
 advance-right-requires-clause-next g c = λ k e.
     subst (λ k. value c.in_ok-turn.turn.time ≤ʳ time k) (same_knot g.P.Shape c.args.q.now (c.args.now.now.right + 1) e c.knot-4.ensures)
-    (le_trans c.in_ok-turn.ensures.not_later c.earlier-next.ensures.right)
+    (le_trans c.in_ok-turn.ensures.ok.not_later c.earlier-next.ensures.right)
 
 pub point-value-requires : goal.point-value-requires
 point-value-requires g c =
     gap_within (walk g (goal.at.point-value-requires g c).After-earlier-next)
-    (value c.in_ok-turn.turn.time) (le_of_lt c.in_ok-turn.ensures.after) c.in_ok-turn.ensures.not_later
+    (value c.in_ok-turn.turn.time) (le_of_lt c.in_ok-turn.ensures.ok.after) c.in_ok-turn.ensures.ok.not_later
 
-pub join-requires-clause-from_within : goal.join-requires-clause-from_within
-join-requires-clause-from_within g c =
-    subst (IsWithin (2 ^ 34)) (sym c.requires.stands.ends) (starts_within (walk g (goal.at.join-requires-clause-from_within g c).After-earlier-next))
+pub join_kept-requires-clause-from_within : goal.join_kept-requires-clause-from_within
+join_kept-requires-clause-from_within g c =
+    subst (IsWithin (2 ^ 34)) (sym c.requires.stands.ends) (starts_within (walk g (goal.at.join_kept-requires-clause-from_within g c).After-earlier-next))
 
-pub join-requires-clause-to_within : goal.join-requires-clause-to_within
-join-requires-clause-to_within g c =
-    gap_within (walk g (goal.at.join-requires-clause-to_within g c).After-earlier-next)
-    (value c.in_ok-turn.turn.time) (le_of_lt c.in_ok-turn.ensures.after) c.in_ok-turn.ensures.not_later
+pub join_kept-requires-clause-to_within : goal.join_kept-requires-clause-to_within
+join_kept-requires-clause-to_within g c =
+    gap_within (walk g (goal.at.join_kept-requires-clause-to_within g c).After-earlier-next)
+    (value c.in_ok-turn.turn.time) (le_of_lt c.in_ok-turn.ensures.ok.after) c.in_ok-turn.ensures.ok.not_later
 
-pub join-requires-clause-first : goal.join-requires-clause-first
-join-requires-clause-first g c =
-    played_level (walk g (goal.at.join-requires-clause-first g c).After-earlier-next) c.in_ok-turn.turn.time c.in_ok-course.course.first
-    c.in_ok-course.ensures.first
+pub join_kept-requires-clause-first : goal.join_kept-requires-clause-first
+join_kept-requires-clause-first g c =
+    played_level (walk g (goal.at.join_kept-requires-clause-first g c).After-earlier-next) c.in_ok-turn.turn.time c.in_ok-course.course.first
+    c.in_ok-course.ensures.ok.first
 
-pub join-requires-clause-second : goal.join-requires-clause-second
-join-requires-clause-second g c =
-    played_level (walk g (goal.at.join-requires-clause-second g c).After-earlier-next) c.in_ok-turn.turn.time
-    c.in_ok-course.course.second c.in_ok-course.ensures.second
+pub join_kept-requires-clause-second : goal.join_kept-requires-clause-second
+join_kept-requires-clause-second g c =
+    played_level (walk g (goal.at.join_kept-requires-clause-second g c).After-earlier-next) c.in_ok-turn.turn.time
+    c.in_ok-course.course.second c.in_ok-course.ensures.ok.second
 
-pub returns-in_err-join-clause-wide : goal.returns-in_err-join-clause-wide
-returns-in_err-join-clause-wide g c =
-    let on = gap g (goal.at.returns-in_err-join-clause-wide g c).After-course_over in
-    let w = c.in_err-join.ensures.wide in let course = c.in_ok-course.course in let order = c.in_ok-turn.ensures.in_order in
-    let fact = cross_cause on course.first course.second (played on order course.first c.in_ok-course.ensures.first)
-    (played on order course.second c.in_ok-course.ensures.second) w.0 (w.1 ∙ c.requires.stands.ends) c.in_err-join.field-0.0 w.2 in
-    search (rules, fact)
+pub returns-in_err-join_kept-clause-wide : goal.returns-in_err-join_kept-clause-wide
+returns-in_err-join_kept-clause-wide g c =
+    let on = gap g (goal.at.returns-in_err-join_kept-clause-wide g c).After-course_kept in
+    let course = c.in_ok-course.course in let order = c.in_ok-turn.ensures.ok.in_order in
+    on_err_anyway c.from_residual-in_err-join_kept.result (IfSome_then c.join_kept.new.fault c.in_err-join_kept.ensures.wide
+    (λ pair w. cross_cause on course.first course.second (played on order course.first c.in_ok-course.ensures.ok.first)
+    (played on order course.second c.in_ok-course.ensures.ok.second) w.0 (w.1 ∙ c.requires.stands.ends) (F.Wide pair) w.2))
 
-pub returns-in_err-join-clause-pair : goal.returns-in_err-join-clause-pair
-returns-in_err-join-clause-pair g c =
-    let on = gap g (goal.at.returns-in_err-join-clause-pair g c).After-course_over in
-    let w = c.in_err-join.ensures.wide in
-    let fact = cross_within on c.in_ok-course.course.first c.in_ok-course.course.second w.0 (w.1 ∙ c.requires.stands.ends) c.in_err-join.field-0.0 w.2 in
-    search (rules, fact)
+pub returns-in_err-join_kept-clause-pair : goal.returns-in_err-join_kept-clause-pair
+returns-in_err-join_kept-clause-pair g c =
+    let on = gap g (goal.at.returns-in_err-join_kept-clause-pair g c).After-course_kept in
+    on_err_anyway c.from_residual-in_err-join_kept.result (IfSome_then c.join_kept.new.fault c.in_err-join_kept.ensures.wide
+    (λ pair w. cross_within on c.in_ok-course.course.first c.in_ok-course.course.second w.0 (w.1 ∙ c.requires.stands.ends) (F.Wide pair) w.2))
 
 -- the next event
-event : (g : Over) (c : After-join g)
+event : (g : Over) (c : After-join_kept g)
     → IsNext g.P.Shape c.args.p.now c.args.q.now c.args.now.now c.knot.result c.knot-2.result c.earlier-next.result
     c.in_ok-turn.turn c.in_ok-course.course c.advance-left.result c.advance-right.result c.point-value.result
 event g c = record {
-  turning = c.in_ok-turn.ensures;
-  goes = c.in_ok-course.ensures;
+  turning = c.in_ok-turn.ensures.ok;
+  goes = c.in_ok-course.ensures.ok;
   left = record {
     place = c.advance-left.ensures.place;
     worth = c.advance-left.ensures.worth;
@@ -190,10 +191,10 @@ event g c = record {
 pub returns-clause-ok : goal.returns-clause-ok
 returns-clause-ok g c =
     let at = goal.at.returns-clause-ok g c in
-    walked (walk g at.After-earlier-next) (event g at.After-join) c.join.new.self c.in_ok-join.ensures.ok
+    walked (walk g at.After-earlier-next) (event g at.After-join_kept) c.join_kept.new.self c.in_ok-join_kept.ensures.ok
 
 pub returns-clause-nearer : goal.returns-clause-nearer
 returns-clause-nearer g c =
     let at = goal.at.returns-clause-nearer g c in
     let w = walk g at.After-earlier-next in
-    nearer w (event g at.After-join) c.requires.more (more_right w)
+    nearer w (event g at.After-join_kept) c.requires.more (more_right w)
