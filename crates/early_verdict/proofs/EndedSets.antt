@@ -1,9 +1,9 @@
 -- Once the input has ended, sets that fit tell the truth at each time up to the last row.
-use Rattle.std.proofs.Common.{◌≡◌, ◌⊎◌, inl, inr, refl, sym, subst, ℕ, ◌<◌, Bool, true, false, Option, List}
-use Rattle.std.specs.Prelude.{IsTrue, IsFalse}
+use Rattle.std.proofs.Common.{◌≡◌, ◌⊎◌, inl, inr, refl, sym, subst, ℕ, ◌<◌, Bool, true, false, Option, Some, None, List}
+use Rattle.std.specs.Prelude.{IsTrue, IsFalse, MatchOption}
 use Rattle.rational.specs.Time.{Rational, Within, later, ◌≤ʳ◌}
 use Rattle.rational.specs.Windows.{Ahead, Behind}
-use Rattle.rational.proofs.Order.{le_refl, le_trans}
+use Rattle.rational.proofs.Order.{le_of_lt, le_or_lt, le_refl, le_trans}
 use Rattle.rational.proofs.TimeLemmas.{later_from, precedes_le}
 use Rattle.stl_syntax.specs.Trace.{Trace, start, stop}
 use Rattle.stl_syntax.specs.Formula.{Subformula, tree_of, HasChildrenBelow}
@@ -14,14 +14,15 @@ use Rattle.stl_syntax.specs.declared.node.Node.{Node}
 use Rattle.stl_syntax.specs.declared.node.Node.TheVariants.{Const, Atom as Leaf, Not, And, Or, Implies, Until, Eventually, Always, Since, Once, Historically}
 use Rattle.early_verdict.specs.Spans.{IsOn, Lies, AreTidy}
 use Rattle.early_verdict.specs.Readings.{SomeAhead, OnlyAhead, SomeBehind, OnlyBehind, UntilHolds, UntilFails, SinceHolds, SinceFails}
-use Rattle.early_verdict.specs.Fitting.{Lists, lists_at, lists_of, SayBoth, AreSetsTidy, Fits}
-use Rattle.early_verdict.specs.Living.{IsShown, LooksAt}
+use Rattle.early_verdict.specs.Fitting.{Lists, lists_at, lists_of, SayBoth, SayOfParts, SinceHolding, SinceFailing, AreSetsTidy, ArePartsTidy, Fits}
+use Rattle.early_verdict.specs.Living.{IsShown, LooksAlong, LooksAt, ReachesBack}
 use Rattle.early_verdict.specs.declared.stretch.Stretch.{Stretch}
 use Rattle.early_verdict.specs.declared.sets.Sets.{Sets}
+use Rattle.early_verdict.specs.declared.sets.Parts.{Parts}
 use Rattle.early_verdict.proofs.Gaps.{covers, decided_on}
 use Rattle.early_verdict.proofs.Failures.{at_time, past_time}
 use Rattle.early_verdict.proofs.SinceSets.{along, none_later}
-use Rattle.early_verdict.proofs.Settling.{until_fits, since_fits}
+use Rattle.early_verdict.proofs.Settling.{SaysSince, reaches_along, says_since, until_fits}
 
 -- up to the last row the lists tell the truth at each time that is asked
 pub record Final (tr : Trace) (In : Rational → Type 0) (l : Lists) (p : Subformula) : Type 0 where
@@ -107,6 +108,74 @@ module _ (tr : Trace) (own : Stretch) (s : Sets) (is_yes : s.yes.bounds ≡ own)
         | inr y ↦ inr (v, record { above = a; below = b }, y)
       ]
     ]
+
+    -- since, at times up to the last row
+    since_fails_then : (p q x : ℕ) (y : Option ℕ) → (c : (p < i) × (q < i)) → (t : Rational) → t ≤ʳ stop tr → LooksAlong (start tr) p q x y shown t
+        → ¬ (SinceHolds tr x y (IsOn (at p).yes) (IsOn (at q).yes) t) → SinceFails tr x y (IsOn (at p).no) (IsOn (at q).no) t
+    since_fails_then p q x y c t e (inl k) n u d =
+        let ut = none_later u t x d.ends in
+        let us = le_trans ut e in
+        elim ((known q c.1).all u (k u (along (start tr) x y t u u d (le_refl u) ut)).1 us) [
+          | inr z ↦ inl z
+          | inl z ↦ elim (broken p c.0 u t (λ v w. (k v (along (start tr) x y t u v d w.above w.below)).0) e) [
+            | inl all ↦ absurd (n (u, d, (d.after, inl us), z, all))
+            | inr g ↦ inr g
+          ]
+        ]
+    since_fails_then p q x y c t e (inr (w, f, k, g)) n u d =
+        let ut = none_later u t x d.ends in
+        let us = le_trans ut e in
+        let wt = none_later w t x f.ends in
+        elim (le_or_lt w u) [
+          | inl l ↦ elim ((known q c.1).all u (k u (record { above = l; below = ut })).1 us) [
+            | inr z ↦ inl z
+            | inl z ↦ elim (broken p c.0 u t (λ v m. (k v (record { above = le_trans l m.above; below = m.below })).0) e) [
+              | inl all ↦ absurd (n (u, d, (d.after, inl us), z, all))
+              | inr m ↦ inr m
+            ]
+          ]
+          | inr l ↦ elim g [
+            | inr m ↦ inr (w, record { above = le_of_lt l; below = wt }, subst (λ (z : Lists). IsOn z.no w) (is_at p) m)
+            | inl m ↦ elim (broken p c.0 w t (λ v r. (k v r).0) e) [
+              | inl all ↦ absurd (n (w, f, (f.after, inr wt), subst (λ (z : Lists). IsOn z.yes w) (is_at q) m.1, all))
+              | inr (v, r, z) ↦ inr (v, record { above = le_trans (le_of_lt l) r.above; below = r.below }, z)
+            ]
+          ]
+        ]
+
+    since_final : (p q x : ℕ) (y : Option ℕ) → (c : (p < i) × (q < i))
+        → ((t : Rational) → Lies own t → LooksAlong (start tr) p q x y shown t) → (o : Option Parts)
+        → MatchOption o (Unit {0}) ArePartsTidy → MatchOption o (Unit {0}) (ReachesBack (start tr) y p shown own)
+        → MatchOption o ⊥ (λ z. SinceHolding tr x y (at p) (at q) z.holding × SinceFailing tr x y (at p) (at q) z.failing × SayOfParts s z)
+        → Final tr (Lies own) (lists_of s) (tree_of sub i (Since p q x y))
+    since_final p q x y c a None ty r h = absurd h
+    since_final p q x y c a (Some z) ty r (h, f, say) = record {
+      yes = λ t o e.
+          let g = say.yes.only t o in
+          let (u, d, w, b, k) = (says t (in_yes t g.0) e).holds g.1 in
+          let us = sure_in tr t u e w in
+          (u, met_behind tr x y true true t u d us, (known q c.1).yes u b us, λ v j. (known p c.0).yes v (k v j) (le_trans j.below e));
+      no = λ t o e (u, d, g, j).
+          let m = say.no.only t o in
+          elim ((says t (in_no t m.0) e).fails m.1 u (open_behind tr x y true true t u d)) [
+            | inl b ↦ (known q c.1).no u b d.inside.below g
+            | inr (v, n, b) ↦ (known p c.0).no v b (le_trans n.below e) (j v n)
+          ];
+      all = λ t l e. elim (decided_on s.yes.spans.items t) [
+        | inl o ↦ inl o
+        | inr n ↦ inr (say.no.has t (to_no t l) ((says t l e).failed
+            (since_fails_then p q x y c t e (a t l) (λ m. n (say.yes.has t (to_yes t l) ((says t l e).held m))))))
+      ];
+    }
+      where
+        apart : (n : ℕ) → n < i → (w : Rational) → w ≤ʳ stop tr → IsOn (at n).yes w → ¬ (IsOn (at n).no w)
+        apart n k w e m l = (known n k).no w l e ((known n k).yes w m e)
+
+        says : (t : Rational) → Lies own t → t ≤ʳ stop tr → SaysSince tr x y (at p) (at q) z t
+        says t l e =
+            says_since tr x y (at p) (at q) z h f ty (tidy_at q) t (r.some t l) (r.never t l)
+            (λ w m. apart p c.0 w (le_trans m e)) (λ w m. apart q c.1 w (le_trans m e))
+            (reaches_along tr own x y p q shown (at p) (at q) (is_at p) (is_at q) z r t l (a t l))
 
     -- sets of a node that fit are so once the input has ended
     pub node_final : (n : Node) → HasChildrenBelow i n → HasBounds n → LooksAt n (start tr) shown own s.parts
@@ -198,26 +267,7 @@ module _ (tr : Trace) (own : Stretch) (s : Sets) (is_yes : s.yes.bounds ≡ own)
           | inl z ↦ z
           | inr z ↦ absurd (n (u, d, (d.after, inl r), z))
         ]))
-    node_final (Since p q x y) c o a h =
-        let k = known p c.0 in
-        let m = known q c.1 in
-        let b = since_fits tr own (at p) (at q) s is_yes is_no from tidy (tidy_at q) x y a.1 h in
-        final (SinceHolds tr x y (IsOn (at p).yes) (IsOn (at q).yes)) (SinceFails tr x y (IsOn (at p).no) (IsOn (at q).no)) (tree_of sub i (Since p q x y)) b
-        (λ t f e (u, d, r, g, z). let us = sure_in tr t u e r in
-        (u, met_behind tr x y true true t u d us, m.yes u g us, λ v j. k.yes v (z v j) (le_trans j.below e)))
-        (λ t f e z (u, d, g, j). elim (z u (open_behind tr x y true true t u d)) [
-          | inl i ↦ m.no u i d.inside.below g
-          | inr (v, n, i) ↦ k.no v i (le_trans n.below e) (j v n)
-        ])
-        (λ t l e. one_side (SinceHolds tr x y (IsOn (at p).yes) (IsOn (at q).yes)) (SinceFails tr x y (IsOn (at p).no) (IsOn (at q).no)) b t l
-        (λ n u d. let ut = none_later u t x d.ends in let us = le_trans ut e in
-        elim (m.all u (a.0 t u l (along (start tr) x y t u u d (le_refl u) ut)).1 us) [
-          | inr z ↦ inl z
-          | inl z ↦ elim (broken p c.0 u t (λ v w. (a.0 t v l (along (start tr) x y t u v d w.above w.below)).0) e) [
-            | inl all ↦ absurd (n (u, d, (d.after, inl us), z, all))
-            | inr g ↦ inr g
-          ]
-        ]))
+    node_final (Since p q x y) c o a h = since_final p q x y c a.0 s.parts tidy.parts a.1 h
     node_final (Once p x y x_in y_in) c o a h =
         let k = known p c in
         final (SomeBehind tr x y x_in y_in (IsOn (at p).yes)) (OnlyBehind tr x y x_in y_in (IsOn (at p).no)) (tree_of sub i (Once p x y x_in y_in)) h

@@ -49,6 +49,12 @@ module _ (nodes : List Node) (from : Rational) (old new old_shown new_shown : Li
       let w = showed_at p x.0 x.1 in
       is_shown new_shown p x.0 u x.1 (subst (λ b. Lies b u) (sym w.4.no) (shown_is old_shown p w.2 u w.3 o))
 
+  pub shown_before : (p : ℕ) (u : Rational) → IsShown new_shown p u → IsShown old_shown p u
+  shown_before p u o =
+      let x = sets_at new_shown p (shown_within new_shown p u o) in
+      let w = showed_at p x.0 x.1 in
+      is_shown old_shown p w.2 u w.3 (subst (λ b. Lies b u) w.4.no (shown_is new_shown p x.0 u x.1 o))
+
   -- and the lists have what they had
   lists_still : (p : ℕ) (u : Rational)
       → (IsOn (lists_at old_shown p).yes u → IsOn (lists_at new_shown p).yes u) × (IsOn (lists_at old_shown p).no u → IsOn (lists_at new_shown p).no u)
@@ -80,7 +86,8 @@ module _ (nodes : List Node) (from : Rational) (old new old_shown new_shown : Li
         yes = step.yes ∙ k.yes;
         no = step.no ∙ k.no;
         starts = k.starts;
-        looks = looks_as from k.own k.own (λ t l. l) n old_shown new_shown r.parts s.parts (λ p e. shown_still p) (λ p e. lists_still p) step.parts k.looks;
+        looks = looks_as from k.own k.own (λ t l. l) n old_shown new_shown r.parts s.parts (λ p e. shown_still p)
+            (λ p e. shown_before p) (λ p e. lists_still p) step.parts k.looks;
         left = parts_as n r s old_shown new_shown step.parts (λ p l' q z. let m = showed_at p l' z in (m.2, m.3, m.4.no)) k.left;
         shown_yes = shows.yes ∙ k.shown_yes ∙ sym shows.no;
         shown_starts = λ t l. k.shown_starts t (subst (λ b. Lies b t) shows.no l);

@@ -15,7 +15,7 @@ use Rattle.early_verdict.specs.Fitting.{Lists, lists_at, lists_of, no_of, yes_of
 use Rattle.early_verdict.specs.Standing.{AllTidy}
 use Rattle.early_verdict.specs.Living.{HasShown, IsNarrowed, IsShown, ShowsAt}
 use Rattle.early_verdict.specs.Letting.{AreApart, AreAskedBy, AreInside, AreLess, IsAskedFirst}
-use Rattle.early_verdict.specs.Letting.{IsAskedFrom, IsFirstLeft, IsFirstShown, IsInside, IsLess}
+use Rattle.early_verdict.specs.Letting.{IsAskedFrom, IsEndlessCut, IsEndlessCutAt, IsFirstLeft, IsFirstShown, IsInside, IsLess}
 use Rattle.early_verdict.specs.Letting.{IsRunCut, IsRunCutAt, IsSettled, IsSettledAt, IsUntil, ShowsFrom}
 use Rattle.early_verdict.specs.declared.cut.Cut.{Cut}
 use Rattle.early_verdict.specs.declared.stretch.Stretch.{Stretch}
@@ -189,6 +189,12 @@ still_on old new less p u h =
           (w.2.yes_in u l (subst (λ (z : Lists). IsOn z.yes u) (lists_are old p w.0 w.1) o)),
       λ o. subst (λ (z : Lists). IsOn z.no u) (sym (lists_are new p x.0 x.1)) (w.2.no_in u l (subst (λ (z : Lists). IsOn z.no u) (lists_are old p w.0 w.1) o)),
     )
+
+pub less_shown : (old new : List Sets) → AreLess old new → (p : ℕ) (u : Rational) → IsShown new p u → IsShown old p u
+less_shown old new less p u h =
+    let x = sets_at new p (shown_within new p u h) in
+    let w = less.each p x.0 x.1 in
+    is_shown old p w.0 u w.1 (w.2.less u (shown_is new p x.0 u x.1 h))
 
 -- a time that lies before another does so as much later
 later_lt : (w u : Rational) (k : ℕ) → w <ʳ u → later w k <ʳ later u k
@@ -622,6 +628,18 @@ pub first_no_at : (sets front back : List Sets) (i : ℕ) (d own : Sets) (holds 
     → IsAskedFirst i holds low at sets (front ++ slice_set back 0 own)
 first_no_at sets front back i d own holds low at is e f h k s =
     subst (λ b. IsAskedFirst i b low at sets (front ++ slice_set back 0 own)) (sym is) (first_at sets front back i d own false low at e f h k s)
+
+pub endless_cut_at : (sets front back : List Sets) (i : ℕ) (d own : Sets) (a : ℕ) (xs : List Stretch) → front ≡ take i sets → back ≡ drop i sets
+    → i < length sets → IsEndlessCut a xs (slice_index_or back 0 d) own → IsEndlessCutAt i a xs sets (front ++ slice_set back 0 own)
+endless_cut_at sets front back i d own a xs e f h k = record {
+  was = slice_index_or back 0 d;
+  is = own;
+  at_old = at_split sets back i d f h;
+  at_new = subst (λ ys. slice_get ys i ≡ Some own) (sym (joined_is sets front back i own e f h)) (put_here sets i own h);
+  others = λ j n. subst (λ ys. slice_get ys j ≡ slice_get sets j) (sym (joined_is sets front back i own e f h)) (put_there sets i j own n);
+  count = subst (λ ys. length ys ≡ length sets) (sym (joined_is sets front back i own e f h)) (put_count sets i own);
+  cut = k;
+}
 
 -- of a list whose first is that one, the first alone
 pub take_one : (xs : List Stretch) (s : Stretch) → slice_get xs 0 ≡ Some s → take 1 xs ≡ s ∷ []

@@ -18,6 +18,7 @@ pub mod Failures
 pub mod Telling
 pub mod UntilSets
 pub mod SinceSets
+pub mod DecisiveSets
 pub mod Settling
 pub mod Apart
 pub mod SettledSets
@@ -59,3 +60,5 @@ mod UntilStands
 mod CarriedRuns
 mod SinceCuts
 mod SinceStands
+mod SinceLooks
+mod AnewLemmas

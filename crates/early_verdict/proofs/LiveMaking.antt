@@ -71,17 +71,18 @@ module _ (nodes : List Node) (from : Rational) (live shown : List Sets) (made : 
       ) in ((k.fail u).1 g, (k.stop u).1 g);
     }
 
-    back_parts : (b : Option ℕ) → top_at made.tops i ≤ h.wide → (o : Option Parts) → MatchOption o (Unit {0}) (ArePartsAsked from (top_at made.tops i) h.wide)
-        → MatchOption o (Unit {0}) (ReachesBack from b s.no.bounds)
-    back_parts b far None k = tt
-    back_parts b far (Some x) k = record {
+    back_parts : (b : Option ℕ) (p : ℕ) → top_at made.tops i ≤ h.wide → (o : Option Parts)
+        → MatchOption o (Unit {0}) (ArePartsAsked from (top_at made.tops i) h.wide)
+        → MatchOption o (Unit {0}) (ReachesBack from b p shown s.no.bounds)
+    back_parts b p far None k = tt
+    back_parts b p far (Some x) k = record {
       some = λ t l. let g = in_own t l in ((k.some t).1 g, (k.each t).1 g);
       never = λ t l. let g = in_own t l in ((k.never t).1 g, (k.broken t).1 g);
-      both = λ t u l o. let g : (from ≤ʳ u) × (u ≤ʳ later from h.wide) = (
+      both = λ t u l o i'. let g : (from ≤ʳ u) × (u ≤ʳ later from h.wide) = (
         o.after,
         reach_now from t u (top_at made.tops i) h.wide (in_own t l).1 (none_later u t 0 o.ends) far,
       ) in ((k.both u).1 g, (k.run u).1 g);
-      fail = λ t u l o. let g : (from ≤ʳ u) × (u ≤ʳ later from h.wide) = (
+      fail = λ t u l o i'. let g : (from ≤ʳ u) × (u ≤ʳ later from h.wide) = (
         o.after,
         reach_now from t u (top_at made.tops i) h.wide (in_own t l).1 (none_later u t 0 o.ends) far,
       ) in ((k.fail u).1 g, (k.stop u).1 g);
@@ -120,8 +121,8 @@ module _ (nodes : List Node) (from : Rational) (live shown : List Sets) (made : 
         by_node (Eventually p x y j k) c a w = λ t u l o. there p y c a t u l o.after (precedes_le k u (later t y) o.ends)
         by_node (Always p x y j k) c a w = λ t u l o. there p y c a t u l o.after (precedes_le k u (later t y) o.ends)
         by_node (Since p q x y) c a w = (
-          λ t u l o. let e = none_later u t 0 o.ends in (behind p c.0 a.0 t u l o.after e, behind q c.1 a.1 t u l o.after e),
-          back_parts y (subst (λ z. top_at made.tops i ≤ z) w.0 a.0) s.parts h.asked.parts,
+          λ t l. inl (λ u o. let e = none_later u t 0 o.ends in (behind p c.0 a.0 t u l o.after e, behind q c.1 a.1 t u l o.after e)),
+          back_parts y p (subst (λ z. top_at made.tops i ≤ z) w.0 a.0) s.parts h.asked.parts,
         )
         by_node (Once p x y j k) c a w = λ t u l o. inl (behind p c a t u l o.after (none_later u t x (precedes_le j (later u x) t o.ends)))
         by_node (Historically p x y j k) c a w = λ t u l o. inl (behind p c a t u l o.after (none_later u t x (precedes_le j (later u x) t o.ends)))

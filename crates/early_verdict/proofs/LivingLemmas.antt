@@ -44,11 +44,11 @@ module _ (from : Rational) (own own' : Stretch) (less : (t : Rational) → Lies 
     );
   }
 
-  back_parts : (b : Option ℕ) (old new : Option Parts) → ArePartsKept old new → MatchOption old (Unit {0}) (ReachesBack from b own)
-      → MatchOption new (Unit {0}) (ReachesBack from b own')
-  back_parts b None new e h = subst (λ o. MatchOption o (Unit {0}) (ReachesBack from b own')) (sym e) tt
-  back_parts b (Some x) None e h = absurd e
-  back_parts b (Some x) (Some y) e h = record {
+  back_parts : (b : Option ℕ) (p : ℕ) (shown shown' : List Sets) → ((u : Rational) → IsShown shown' p u → IsShown shown p u) → (old new : Option Parts)
+      → ArePartsKept old new → MatchOption old (Unit {0}) (ReachesBack from b p shown own) → MatchOption new (Unit {0}) (ReachesBack from b p shown' own')
+  back_parts b p shown shown' was None new e h = subst (λ o. MatchOption o (Unit {0}) (ReachesBack from b p shown' own')) (sym e) tt
+  back_parts b p shown shown' was (Some x) None e h = absurd e
+  back_parts b p shown shown' was (Some x) (Some y) e h = record {
     some = λ t l. let k = h.some t (less t l) in (
       in_same x.holding.some.bounds y.holding.some.bounds t e.holding.some k.0,
       in_same x.holding.each.bounds y.holding.each.bounds t e.holding.each k.1,
@@ -57,11 +57,9 @@ module _ (from : Rational) (own own' : Stretch) (less : (t : Rational) → Lies 
       in_same x.failing.never.bounds y.failing.never.bounds t e.failing.never k.0,
       in_same x.failing.broken.bounds y.failing.broken.bounds t e.failing.broken k.1,
     );
-    both = λ t u l o. let k = h.both t u (less t l) o in (
-      in_same x.holding.both.bounds y.holding.both.bounds u e.holding.both k.0,
-      in_same x.holding.run.bounds y.holding.run.bounds u e.holding.run k.1,
-    );
-    fail = λ t u l o. let k = h.fail t u (less t l) o in (
+    both = λ t u l o i. let k = h.both t u (less t l) o (was u i) in
+        (in_same x.holding.both.bounds y.holding.both.bounds u e.holding.both k.0, in_same x.holding.run.bounds y.holding.run.bounds u e.holding.run k.1);
+    fail = λ t u l o i. let k = h.fail t u (less t l) o (was u i) in (
       in_same x.failing.fail.bounds y.failing.fail.bounds u e.failing.fail k.0,
       in_same x.failing.stop.bounds y.failing.stop.bounds u e.failing.stop k.1,
     );
@@ -70,24 +68,35 @@ module _ (from : Rational) (own own' : Stretch) (less : (t : Rational) → Lies 
   -- a node that goes on from fewer times looks at no more
   pub looks_as : (n : Node) (shown shown' : List Sets) (old new : Option Parts)
       → ((p : ℕ) → IsChild p n → (u : Rational) → IsShown shown p u → IsShown shown' p u)
+      → ((p : ℕ) → IsChild p n → (u : Rational) → IsShown shown' p u → IsShown shown p u)
       → ((p : ℕ) → IsChild p n → (u : Rational) → (IsOn (lists_at shown p).yes u → IsOn (lists_at shown' p).yes u)
       × (IsOn (lists_at shown p).no u → IsOn (lists_at shown' p).no u))
       → ArePartsKept old new → LooksAt n from shown own old → LooksAt n from shown' own' new
-  looks_as (Const b) shown shown' old new f g e h = tt
-  looks_as (Leaf a) shown shown' old new f g e h = tt
-  looks_as (Not p) shown shown' old new f g e h = λ t l. f p refl t (h t (less t l))
-  looks_as (And p q) shown shown' old new f g e h = λ t l. let k = h t (less t l) in (f p (inl refl) t k.0, f q (inr refl) t k.1)
-  looks_as (Or p q) shown shown' old new f g e h = λ t l. let k = h t (less t l) in (f p (inl refl) t k.0, f q (inr refl) t k.1)
-  looks_as (Implies p q) shown shown' old new f g e h = λ t l. let k = h t (less t l) in (f p (inl refl) t k.0, f q (inr refl) t k.1)
-  looks_as (Until p q a b) shown shown' old new f g e h =
+  looks_as (Const b) shown shown' old new f i g e h = tt
+  looks_as (Leaf a) shown shown' old new f i g e h = tt
+  looks_as (Not p) shown shown' old new f i g e h = λ t l. f p refl t (h t (less t l))
+  looks_as (And p q) shown shown' old new f i g e h = λ t l. let k = h t (less t l) in (f p (inl refl) t k.0, f q (inr refl) t k.1)
+  looks_as (Or p q) shown shown' old new f i g e h = λ t l. let k = h t (less t l) in (f p (inl refl) t k.0, f q (inr refl) t k.1)
+  looks_as (Implies p q) shown shown' old new f i g e h = λ t l. let k = h t (less t l) in (f p (inl refl) t k.0, f q (inr refl) t k.1)
+  looks_as (Until p q a b) shown shown' old new f i g e h =
       (λ t u l c d. let k = h.0 t u (less t l) c d in (f p (inl refl) u k.0, f q (inr refl) u k.1), ahead_parts b old new e h.1)
-  looks_as (Eventually p a b i j) shown shown' old new f g e h = λ t u l o. f p refl u (h t u (less t l) o)
-  looks_as (Always p a b i j) shown shown' old new f g e h = λ t u l o. f p refl u (h t u (less t l) o)
-  looks_as (Since p q a b) shown shown' old new f g e h =
-      (λ t u l o. let k = h.0 t u (less t l) o in (f p (inl refl) u k.0, f q (inr refl) u k.1), back_parts b old new e h.1)
-  looks_as (Once p a b i j) shown shown' old new f g e h =
+  looks_as (Eventually p a b x y) shown shown' old new f i g e h = λ t u l o. f p refl u (h t u (less t l) o)
+  looks_as (Always p a b x y) shown shown' old new f i g e h = λ t u l o. f p refl u (h t u (less t l) o)
+  looks_as (Since p q a b) shown shown' old new f i g e h = (
+    λ t l. elim (h.0 t (less t l)) [
+      | inl k ↦ inl (λ u o. let m = k u o in (f p (inl refl) u m.0, f q (inr refl) u m.1))
+      | inr (w, o, k, d) ↦ inr (
+        w,
+        o,
+        λ v r. let m = k v r in (f p (inl refl) v m.0, f q (inr refl) v m.1),
+        elim d [ inl y ↦ inl ((g p (inl refl) w).0 y.0, (g q (inr refl) w).0 y.1) | inr y ↦ inr ((g p (inl refl) w).1 y) ],
+      )
+    ],
+    back_parts b p shown shown' (i p (inl refl)) old new e h.1,
+  )
+  looks_as (Once p a b x y) shown shown' old new f i g e h =
       λ t u l o. elim (h t u (less t l) o) [ inl k ↦ inl (f p refl u k) | inr (w, d, k, y) ↦ inr (w, d, f p refl w k, (g p refl w).0 y) ]
-  looks_as (Historically p a b i j) shown shown' old new f g e h =
+  looks_as (Historically p a b x y) shown shown' old new f i g e h =
       λ t u l o. elim (h t u (less t l) o) [ inl k ↦ inl (f p refl u k) | inr (w, d, k, y) ↦ inr (w, d, f p refl w k, (g p refl w).1 y) ]
 
 some_still : (old new : Option Parts) → ArePartsKept old new → IsSome old → IsSome new

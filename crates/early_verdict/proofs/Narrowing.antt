@@ -187,7 +187,7 @@ module _ (nodes : List Node) (tr : Trace) (live new shown : List Sets) (i : ℕ)
     no = k.no_bounds;
     starts = λ t l. was.starts t (less t l);
     looks = looks_as (start tr) was.own at.settled.bounds less n shown shown at.was.parts at.is.parts (λ p e u h. h)
-        (λ p e u. (λ h. h, λ h. h)) (parts_kept at.was.parts at.is.parts k.parts) was.looks;
+        (λ p e u h. h) (λ p e u. (λ h. h, λ h. h)) (parts_kept at.was.parts at.is.parts k.parts) was.looks;
     left = parts_as n at.was at.is shown shown (parts_kept at.was.parts at.is.parts k.parts) (λ p l' e z. (l', z, refl)) was.left;
     shown_yes = was.shown_yes;
     shown_starts = was.shown_starts;
@@ -412,6 +412,7 @@ module _ (nodes : List Node) (formed : AreWellFormed nodes) (tr : Trace) (live l
                 let k = st.have.has j m v w here (sym (same j d) ∙ iv) e in
                 live_by m v v w x refl refl less k
                 (looks_as (start tr) k.own k.own (λ t h. h) m old new v.parts v.parts (λ p c u h. shown_as old new p u (not_its j p m d here c) h)
+                (λ p c u h. shown_as new old p u (sym (not_its j p m d here c)) h)
                 (λ p c u. lists_as old new p u (not_its j p m d here c))
                 (parts_kept v.parts v.parts refl) k.looks)
                 (parts_as m v v old new (parts_kept v.parts v.parts refl) (λ p l' f z. (l', sym (not_its j p m d here (left_child p m f)) ∙ z, refl)) k.left)

@@ -1,24 +1,26 @@
 -- Sets that fit tell what rows settle.
-use Rattle.std.proofs.Common.{◌≡◌, ◌⊎◌, inl, inr, subst, ℕ, ◌<◌, Bool, true, false, Option, List}
+use Rattle.std.proofs.Common.{◌≡◌, ◌⊎◌, inl, inr, subst, ℕ, ◌<◌, Bool, true, false, Option, Some, None, List}
+use Rattle.std.specs.Prelude.{MatchOption}
 use Rattle.rational.specs.Time.{Rational, Within, later, ◌≤ʳ◌}
-use Rattle.rational.proofs.Order.{le_refl, le_trans}
+use Rattle.rational.proofs.Order.{le_of_lt, le_or_lt, le_refl, le_trans}
 use Rattle.rational.proofs.TimeLemmas.{later_from, precedes_le}
 use Rattle.stl_syntax.specs.Trace.{Trace, start}
 use Rattle.stl_syntax.specs.Formula.{Subformula, tree_of, HasChildrenBelow}
-use Rattle.stl_syntax.specs.Early.{OpenAhead, OpenBehind, Settled, SettledNot}
+use Rattle.stl_syntax.specs.Early.{OpenAhead, Settled, SettledNot}
 use Rattle.stl_syntax.specs.WellFormed.{HasBounds}
 use Rattle.stl_syntax.specs.declared.node.Node.{Node}
 use Rattle.stl_syntax.specs.declared.node.Node.TheVariants.{Const, Atom as Leaf, Not, And, Or, Implies, Until, Eventually, Always, Since, Once, Historically}
 use Rattle.early_verdict.specs.Spans.{IsOn, Lies, AreTidy}
 use Rattle.early_verdict.specs.Readings.{SomeAhead, OnlyAhead, SomeBehind, OnlyBehind, UntilHolds, UntilFails, SinceHolds, SinceFails}
-use Rattle.early_verdict.specs.Fitting.{Lists, lists_at, no_of, yes_of, SayBoth, AreSetsTidy, Fits}
-use Rattle.early_verdict.specs.Living.{IsShown, Known, LooksAt, LooksBack}
+use Rattle.early_verdict.specs.Fitting.{Lists, lists_at, no_of, yes_of, SayBoth, SayOfParts, SinceHolding, SinceFailing, AreSetsTidy, ArePartsTidy, Fits}
+use Rattle.early_verdict.specs.Living.{IsShown, Known, LooksAlong, LooksAt, LooksBack, ReachesBack}
 use Rattle.early_verdict.specs.declared.stretch.Stretch.{Stretch}
 use Rattle.early_verdict.specs.declared.sets.Sets.{Sets}
+use Rattle.early_verdict.specs.declared.sets.Parts.{Parts}
 use Rattle.early_verdict.proofs.Apart.{never_both}
 use Rattle.early_verdict.proofs.Telling.{tells_alike}
 use Rattle.early_verdict.proofs.SinceSets.{along, none_later}
-use Rattle.early_verdict.proofs.Settling.{until_fits, since_fits}
+use Rattle.early_verdict.proofs.Settling.{SaysSince, reaches_along, says_since, until_fits}
 
 module _ (tr : Trace) (own : Stretch) (s : Sets) (is_yes : s.yes.bounds ≡ own) (is_no : s.no.bounds ≡ own)
     (from : (t : Rational) → Lies own t → start tr ≤ʳ t) (tidy : AreSetsTidy s) where
@@ -88,24 +90,78 @@ module _ (tr : Trace) (own : Stretch) (s : Sets) (is_yes : s.yes.bounds ≡ own)
       | inr (v, w, x) ↦ inr (v, w, f v (far t v l w.above (le_trans w.below o.ends)).0 x)
     ]
 
-    since_true : (p q a : ℕ) (b : Option ℕ) → ((t u : Rational) → Lies own t → OpenBehind (start tr) 0 b true true t u → IsShown shown p u × IsShown shown q u)
-        → (X Y xs ys : Rational → Type 0) → ((u : Rational) → IsShown shown p u → X u → xs u) → ((u : Rational) → IsShown shown q u → Y u → ys u)
-        → (t : Rational) → Lies own t → SinceHolds tr a b X Y t → SinceHolds tr a b xs ys t
-    since_true p q a b far X Y xs ys f g t l (u, o, c, y, z) = (
+    -- what is settled of since by its operands, as far as they are shown
+    since_true : (p q a : ℕ) (b : Option ℕ) → (c : (p < i) × (q < i)) → (t : Rational) → LooksAlong (start tr) p q a b shown t
+        → SinceHolds tr a b (Settled (sub p) tr) (Settled (sub q) tr) t → SinceHolds tr a b (IsOn (at p).yes) (IsOn (at q).yes) t
+    since_true p q a b c t (inl k) (u, o, r, y, z) = (
       u,
       o,
-      c,
-      g u (far t u l (along (start tr) a b t u u o (le_refl u) (none_later u t a o.ends))).1 y,
-      λ v w. f v (far t v l (along (start tr) a b t u v o w.above w.below)).0 (z v w),
+      r,
+      (known q c.1).yes_in u (k u (along (start tr) a b t u u o (le_refl u) (none_later u t a o.ends))).1 y,
+      λ v w. (known p c.0).yes_in v (k v (along (start tr) a b t u v o w.above w.below)).0 (z v w),
     )
-
-    since_false : (p q a : ℕ) (b : Option ℕ) → ((t u : Rational) → Lies own t → OpenBehind (start tr) 0 b true true t u → IsShown shown p u × IsShown shown q u)
-        → (X Y xs ys : Rational → Type 0) → ((u : Rational) → IsShown shown p u → X u → xs u) → ((u : Rational) → IsShown shown q u → Y u → ys u)
-        → (t : Rational) → Lies own t → SinceFails tr a b X Y t → SinceFails tr a b xs ys t
-    since_false p q a b far X Y xs ys f g t l h u o = elim (h u o) [
-      | inl y ↦ inl (g u (far t u l (along (start tr) a b t u u o (le_refl u) (none_later u t a o.ends))).1 y)
-      | inr (v, w, x) ↦ inr (v, w, f v (far t v l (along (start tr) a b t u v o w.above w.below)).0 x)
+    since_true p q a b c t (inr (w, d, k, e)) (u, o, r, y, z) = elim (le_or_lt w u) [
+      | inl l ↦ (
+        u,
+        o,
+        r,
+        (known q c.1).yes_in u (k u (record { above = l; below = none_later u t a o.ends })).1 y,
+        λ v m. (known p c.0).yes_in v (k v (record { above = le_trans l m.above; below = m.below })).0 (z v m),
+      )
+      | inr l ↦
+          let wt = none_later w t a d.ends in
+          let all = λ (v : Rational) (m : Within w t v).
+          (known p c.0).yes_in v (k v m).0 (z v (record { above = le_trans (le_of_lt l) m.above; below = m.below })) in
+          elim e [
+            | inl g ↦ (w, d, (d.after, inr wt), yes_is q w g.1, all)
+            | inr n ↦ absurd (never_both (sub p) tr w (z w (record { above = le_of_lt l; below = wt })) ((known p c.0).no_out w (no_is p w n)))
+          ]
     ]
+
+    since_false : (p q a : ℕ) (b : Option ℕ) → (c : (p < i) × (q < i)) → (t : Rational) → LooksAlong (start tr) p q a b shown t
+        → SinceFails tr a b (SettledNot (sub p) tr) (SettledNot (sub q) tr) t → SinceFails tr a b (IsOn (at p).no) (IsOn (at q).no) t
+    since_false p q a b c t (inl k) h u o = elim (h u o) [
+      | inl y ↦ inl ((known q c.1).no_in u (k u (along (start tr) a b t u u o (le_refl u) (none_later u t a o.ends))).1 y)
+      | inr (v, w, x) ↦ inr (v, w, (known p c.0).no_in v (k v (along (start tr) a b t u v o w.above w.below)).0 x)
+    ]
+    since_false p q a b c t (inr (w, d, k, e)) h u o = elim (le_or_lt w u) [
+      | inl l ↦ elim (h u o) [
+        | inl y ↦ inl ((known q c.1).no_in u (k u (record { above = l; below = none_later u t a o.ends })).1 y)
+        | inr (v, m, x) ↦ inr (v, m, (known p c.0).no_in v (k v (record { above = le_trans l m.above; below = m.below })).0 x)
+      ]
+      | inr l ↦ elim e [
+        | inr n ↦ inr (w, record { above = le_of_lt l; below = none_later w t a d.ends }, no_is p w n)
+        | inl g ↦ elim (h w d) [
+          | inl y ↦ absurd (never_both (sub q) tr w ((known q c.1).yes_out w (yes_is q w g.1)) y)
+          | inr (v, m, x) ↦ inr (v, record { above = le_trans (le_of_lt l) m.above; below = m.below }, (known p c.0).no_in v (k v m).0 x)
+        ]
+      ]
+    ]
+
+    since_parts : (p q x : ℕ) (y : Option ℕ) → (c : (p < i) × (q < i))
+        → ((t : Rational) → Lies own t → LooksAlong (start tr) p q x y shown t) → (o : Option Parts)
+        → MatchOption o (Unit {0}) ArePartsTidy → MatchOption o (Unit {0}) (ReachesBack (start tr) y p shown own)
+        → MatchOption o ⊥ (λ z. SinceHolding tr x y (at p) (at q) z.holding × SinceFailing tr x y (at p) (at q) z.failing × SayOfParts s z)
+        → SayBoth s (SinceHolds tr x y (Settled (sub p) tr) (Settled (sub q) tr)) (SinceFails tr x y (SettledNot (sub p) tr) (SettledNot (sub q) tr))
+    since_parts p q x y c a None ty r h = absurd h
+    since_parts p q x y c a (Some z) ty r (h, f, say) =
+        said (λ t. IsOn z.holding.some.spans.items t × IsOn z.holding.each.spans.items t) (SinceHolds tr x y (Settled (sub p) tr) (Settled (sub q) tr))
+        (λ t. IsOn z.failing.never.spans.items t ⊎ IsOn z.failing.broken.spans.items t) (SinceFails tr x y (SettledNot (sub p) tr) (SettledNot (sub q) tr))
+        (λ t l g. let (u, o, d, w, k) = (says t l).holds g in (u, o, d, (known q c.1).yes_out u w, λ v m. (known p c.0).yes_out v (k v m)))
+        (λ t l g. (says t l).held (since_true p q x y c t (a t l) g))
+        (λ t l g u o. elim ((says t l).fails g u o) [
+          | inl m ↦ inl ((known q c.1).no_out u m)
+          | inr (v, m, n) ↦ inr (v, m, (known p c.0).no_out v n)
+        ])
+        (λ t l g. (says t l).failed (since_false p q x y c t (a t l) g)) say
+      where
+        apart : (n : ℕ) → n < i → (w : Rational) → IsOn (at n).yes w → ¬ (IsOn (at n).no w)
+        apart n k w m l = never_both (sub n) tr w ((known n k).yes_out w m) ((known n k).no_out w l)
+
+        says : (t : Rational) → Lies own t → SaysSince tr x y (at p) (at q) z t
+        says t l =
+            says_since tr x y (at p) (at q) z h f ty (tidy_at q) t (r.some t l) (r.never t l) (λ w m. apart p c.0 w) (λ w m. apart q c.1 w)
+            (reaches_along tr own x y p q shown (at p) (at q) (is_at p) (is_at q) z r t l (a t l))
 
     -- a node's sets that fit tell what is settled of it
     pub node_told : (n : Node) → HasChildrenBelow i n → HasBounds n → LooksAt n (start tr) shown own s.parts
@@ -170,16 +226,7 @@ module _ (tr : Trace) (own : Stretch) (s : Sets) (is_yes : s.yes.bounds ≡ own)
         (λ t l g u d e. only_ahead p x y x_in y_in a (Settled (sub p) tr) (IsOn (at p).yes) k.yes_in t l g u d)
         (some_ahead p x y x_in y_in a (IsOn (at p).no) (SettledNot (sub p) tr) (λ u l. k.no_out u))
         (some_ahead p x y x_in y_in a (SettledNot (sub p) tr) (IsOn (at p).no) k.no_in) h
-    node_told (Since p q x y) c o a h =
-        let k = known p c.0 in
-        let m = known q c.1 in
-        said (SinceHolds tr x y (IsOn (at p).yes) (IsOn (at q).yes)) (SinceHolds tr x y (Settled (sub p) tr) (Settled (sub q) tr))
-        (SinceFails tr x y (IsOn (at p).no) (IsOn (at q).no)) (SinceFails tr x y (SettledNot (sub p) tr) (SettledNot (sub q) tr))
-        (since_true p q x y a.0 (IsOn (at p).yes) (IsOn (at q).yes) (Settled (sub p) tr) (Settled (sub q) tr) (λ u l. k.yes_out u) (λ u l. m.yes_out u))
-        (since_true p q x y a.0 (Settled (sub p) tr) (Settled (sub q) tr) (IsOn (at p).yes) (IsOn (at q).yes) k.yes_in m.yes_in)
-        (since_false p q x y a.0 (IsOn (at p).no) (IsOn (at q).no) (SettledNot (sub p) tr) (SettledNot (sub q) tr) (λ u l. k.no_out u) (λ u l. m.no_out u))
-        (since_false p q x y a.0 (SettledNot (sub p) tr) (SettledNot (sub q) tr) (IsOn (at p).no) (IsOn (at q).no) k.no_in m.no_in)
-        (since_fits tr own (at p) (at q) s is_yes is_no from tidy (tidy_at q) x y a.1 h)
+    node_told (Since p q x y) c o a h = since_parts p q x y c a.0 s.parts tidy.parts a.1 h
     node_told (Once p x y x_in y_in) c o a h =
         let k = known p c in
         said (SomeBehind tr x y x_in y_in (IsOn (at p).yes)) (SomeBehind tr x y x_in y_in (Settled (sub p) tr))

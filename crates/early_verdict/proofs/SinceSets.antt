@@ -1,5 +1,5 @@
 -- Since by the sets between: where it holds and where it fails.
-use Rattle.std.proofs.Common.{◌⊎◌, inl, inr, ℕ, ◌+◌, ◌*◌, true, List, arith}
+use Rattle.std.proofs.Common.{◌⊎◌, inl, inr, ℕ, ◌+◌, ◌*◌, true, arith}
 use Rattle.std.specs.Prelude.{Option, Some, None, IfSome}
 use Rattle.rational.specs.Time.{Rational, Within, later, ◌≤ʳ◌}
 use Rattle.rational.proofs.Order.{le_refl, le_trans, le_of_lt, le_or_lt}
@@ -8,38 +8,35 @@ use Rattle.stl_syntax.specs.Trace.{Trace, start}
 use Rattle.stl_syntax.specs.Early.{OpenBehind}
 use Rattle.early_verdict.specs.Cuts.{Place, place, After}
 use Rattle.early_verdict.specs.Spans.{Lies, IsOn, AreTidy}
-use Rattle.early_verdict.specs.Steps.{Tells}
 use Rattle.early_verdict.specs.Reaching.{GoesBackBy}
 use Rattle.early_verdict.specs.Readings.{OnlyBehind, SomeBehind, SinceHolds, SinceFails}
 use Rattle.early_verdict.specs.Fitting.{Lists, SinceHolding, SinceFailing}
-use Rattle.early_verdict.specs.declared.stretch.Stretch.{Stretch}
 use Rattle.early_verdict.specs.declared.sets.Holding.{Holding}
 use Rattle.early_verdict.specs.declared.sets.Failing.{Failing}
 use Rattle.early_verdict.proofs.Failures.{at_time, all_or_broken_back}
 use Rattle.early_verdict.proofs.RunLemmas.{after_le}
-use Rattle.early_verdict.proofs.Telling.{tells_alike}
 
 -- t less a
 abbrev pub less_by : Rational → ℕ → Rational
 less_by t a = record { up = t.up; down = t.down + a * t.den; den = t.den; positive = t.positive }
 
-before_end : (t u : Rational) (a : ℕ) → later u a ≤ʳ t → u ≤ʳ less_by t a
+pub before_end : (t u : Rational) (a : ℕ) → later u a ≤ʳ t → u ≤ʳ less_by t a
 before_end t u a h = record { le = omega (arith, h.le) }
 
-to_end : (t u : Rational) (a : ℕ) → u ≤ʳ less_by t a → later u a ≤ʳ t
+pub to_end : (t u : Rational) (a : ℕ) → u ≤ʳ less_by t a → later u a ≤ʳ t
 to_end t u a h = record { le = omega (arith, h.le) }
 
-end_past : (t : Rational) (a : ℕ) → less_by t a ≤ʳ t
+pub end_past : (t : Rational) (a : ℕ) → less_by t a ≤ʳ t
 end_past t a = record { le = omega arith }
 
-past_end : (t u : Rational) (a : ℕ) → less_by t a ≤ʳ u → t ≤ʳ later u a
+pub past_end : (t u : Rational) (a : ℕ) → less_by t a ≤ʳ u → t ≤ʳ later u a
 past_end t u a h = record { le = omega (arith, h.le) }
 
-from_end : (t u : Rational) (a : ℕ) → t ≤ʳ later u a → less_by t a ≤ʳ u
+pub from_end : (t u : Rational) (a : ℕ) → t ≤ʳ later u a → less_by t a ≤ʳ u
 from_end t u a h = record { le = omega (arith, h.le) }
 
 -- u + a is at most t and t at most v + a, so u is at most v
-earlier : (t u v : Rational) (a : ℕ) → later u a ≤ʳ t → t ≤ʳ later v a → u ≤ʳ v
+pub earlier : (t u v : Rational) (a : ℕ) → later u a ≤ʳ t → t ≤ʳ later v a → u ≤ʳ v
 earlier t u v a h k = let c = le_trans h k in record { le = omega (arith, c.le) }
 
 -- a time that is no later after a wait is no later
@@ -51,10 +48,10 @@ pub later_none : (u t : Rational) → u ≤ʳ t → later u 0 ≤ʳ t
 later_none u t h = record { le = omega (arith, h.le) }
 
 -- v is on the way back to the window
-back_way : (from t v : Rational) (a : ℕ) → from ≤ʳ v → t ≤ʳ later v a → v ≤ʳ t → OpenBehind from 0 (Some a) true true t v
+pub back_way : (from t v : Rational) (a : ℕ) → from ≤ʳ v → t ≤ʳ later v a → v ≤ʳ t → OpenBehind from 0 (Some a) true true t v
 back_way from t v a f h k = record { after = f; begins = h; ends = later_none v t k }
 
-still_begins : (b : Option ℕ) (t u w : Rational) → u ≤ʳ w → IfSome b (λ b. t ≤ʳ later u b) → IfSome b (λ b. t ≤ʳ later w b)
+pub still_begins : (b : Option ℕ) (t u w : Rational) → u ≤ʳ w → IfSome b (λ b. t ≤ʳ later u b) → IfSome b (λ b. t ≤ʳ later w b)
 still_begins None t u w h k = k
 still_begins (Some b) t u w h k = le_trans k (later_le b h)
 
@@ -72,17 +69,18 @@ window_begin from t (Some b) = elim (le_or_lt from (less_by t b)) [
   | inr l ↦ (at_time from, λ u h. (h, past_end t u b (le_trans (le_of_lt l) h)), λ u h k. h)
 ]
 
-module _ (tr : Trace) (a : ℕ) (b : Option ℕ) (p q : Lists) (x : Holding) (h : SinceHolding tr a b p q x) (bounds : Stretch) (yes : List Stretch)
-    (own : (t : Rational) → Lies bounds t → Lies x.some.bounds t × Lies x.each.bounds t)
-    (wide : (t u : Rational) → Lies bounds t → OpenBehind (start tr) 0 b true true t u → Lies x.both.bounds u × Lies x.run.bounds u) where
+-- at one time, where the sets between lie as far as the window
+module _ (tr : Trace) (a : ℕ) (b : Option ℕ) (p q : Lists) (x : Holding) (h : SinceHolding tr a b p q x) (t : Rational)
+    (own : Lies x.some.bounds t × Lies x.each.bounds t)
+    (wide : (u : Rational) → OpenBehind (start tr) 0 b true true t u → Lies x.both.bounds u × Lies x.run.bounds u) where
   -- where a run goes back from a time the left operand is there
   last : (v : Rational) → GoesBackBy x.carried (place x.run.bounds.from) p.yes x.both.spans.items v → IsOn p.yes v
   last v (inl (w, l, i, z)) = z v (record { above = l; below = le_refl v })
   last v (inr k) = k.all v k.after (le_refl v)
 
-  back : (t : Rational) → Lies bounds t → SomeBehind tr a b true true (IsOn q.yes) t → OnlyBehind tr 0 (Some a) true true (IsOn x.run.spans.items) t
+  back : SomeBehind tr a b true true (IsOn q.yes) t → OnlyBehind tr 0 (Some a) true true (IsOn x.run.spans.items) t
       → SinceHolds tr a b (IsOn p.yes) (IsOn q.yes) t
-  back t i (u, o, c, y) runs = by_run (run e (le_trans o.after ue) (le_refl e) (end_past t a))
+  back (u, o, c, y) runs = by_run (run e (le_trans o.after ue) (le_refl e) (end_past t a))
     where
       e : Rational
       e = less_by t a
@@ -102,7 +100,7 @@ module _ (tr : Trace) (a : ℕ) (b : Option ℕ) (p q : Lists) (x : Holding) (h 
 
       by_run : GoesBackBy x.carried (place x.run.bounds.from) p.yes x.both.spans.items e → SinceHolds tr a b (IsOn p.yes) (IsOn q.yes) t
       by_run (inr k) =
-          let w = wide t u i (along (start tr) a b t u u o (le_refl u) (le_trans ue (end_past t a))) in
+          let w = wide u (along (start tr) a b t u u o (le_refl u) (le_trans ue (end_past t a))) in
           (u, o, c, y, all_along u o.after (λ v m l. k.all v (after_le (place x.run.bounds.from) u v m w.1.0) l))
       by_run (inl (r, l, j, z)) = elim (le_or_lt u r) [
         | inl k ↦
@@ -116,32 +114,29 @@ module _ (tr : Trace) (a : ℕ) (b : Option ℕ) (p q : Lists) (x : Holding) (h 
         | inr k ↦ (u, o, c, y, all_along u o.after (λ v m n. z v (record { above = le_trans (le_of_lt k) m; below = n })))
       ]
 
-  forth : (t : Rational) → Lies bounds t → SinceHolds tr a b (IsOn p.yes) (IsOn q.yes) t → IsOn x.some.spans.items t × IsOn x.each.spans.items t
-  forth t i (u, o, c, y, z) =
+  pub some_each : SinceHolds tr a b (IsOn p.yes) (IsOn q.yes) t → IsOn x.some.spans.items t × IsOn x.each.spans.items t
+  some_each (u, o, c, y, z) =
       let ut = none_later u t a o.ends in
-      let both = h.both.has u ((wide t u i (along (start tr) a b t u u o (le_refl u) ut)).0)
+      let both = h.both.has u ((wide u (along (start tr) a b t u u o (le_refl u) ut)).0)
       (z u (record { above = le_refl u; below = ut }), y) in (
-        h.some.has t ((own t i).0) (u, o, c, y),
-        h.each.has t ((own t i).1) (λ v w.
+        h.some.has t (own.0) (u, o, c, y),
+        h.each.has t (own.1) (λ v w.
             let vt = none_later v t 0 w.ends in
             let uv = earlier t u v a o.ends w.begins in
-            h.run.has v ((wide t v i (along (start tr) a b t u v o uv vt)).1)
+            h.run.has v ((wide v (along (start tr) a b t u v o uv vt)).1)
             (inl (u, uv, both, λ k l. z k (record { above = l.above; below = le_trans l.below vt })))),
       )
 
-  -- the set of since, where it is certainly true
-  pub since_is_true : Tells bounds yes (λ t. IsOn x.some.spans.items t × IsOn x.each.spans.items t)
-      → Tells bounds yes (SinceHolds tr a b (IsOn p.yes) (IsOn q.yes))
-  since_is_true s = tells_alike bounds yes (λ t. IsOn x.some.spans.items t × IsOn x.each.spans.items t) (SinceHolds tr a b (IsOn p.yes) (IsOn q.yes))
-      (λ t i k. back t i ((h.some.only t k.0).1) ((h.each.only t k.1).1)) forth s
+  -- since, where it is certainly true
+  pub since_true_at : IsOn x.some.spans.items t × IsOn x.each.spans.items t → SinceHolds tr a b (IsOn p.yes) (IsOn q.yes) t
+  since_true_at k = back (h.some.only t k.0).1 (h.each.only t k.1).1
 
-module _ (tr : Trace) (a : ℕ) (b : Option ℕ) (p q : Lists) (x : Failing) (h : SinceFailing tr a b p q x) (bounds : Stretch)
-    (no : List Stretch) (tidy_q : AreTidy q.no) (tidy_fail : AreTidy x.fail.spans.items)
-    (own : (t : Rational) → Lies bounds t → Lies x.never.bounds t × Lies x.broken.bounds t)
-    (wide : (t u : Rational) → Lies bounds t → OpenBehind (start tr) 0 b true true t u → Lies x.fail.bounds u × Lies x.stop.bounds u) where
-  out : (t : Rational) → Lies bounds t → IsOn x.never.spans.items t ⊎ IsOn x.broken.spans.items t → SinceFails tr a b (IsOn p.no) (IsOn q.no) t
-  out t d (inl n) u o = inl ((h.never.only t n).1 u o)
-  out t d (inr n) u o = by_run ((h.broken.only t n).1)
+module _ (tr : Trace) (a : ℕ) (b : Option ℕ) (p q : Lists) (x : Failing) (h : SinceFailing tr a b p q x) (tidy_q : AreTidy q.no)
+    (tidy_fail : AreTidy x.fail.spans.items) (t : Rational) (own : Lies x.never.bounds t × Lies x.broken.bounds t)
+    (wide : (u : Rational) → OpenBehind (start tr) 0 b true true t u → Lies x.fail.bounds u × Lies x.stop.bounds u) where
+  pub since_false_at : IsOn x.never.spans.items t ⊎ IsOn x.broken.spans.items t → SinceFails tr a b (IsOn p.no) (IsOn q.no) t
+  since_false_at (inl n) u o = inl ((h.never.only t n).1 u o)
+  since_false_at (inr n) u o = by_run ((h.broken.only t n).1)
     where
       by_run : SomeBehind tr 0 (Some a) true true (IsOn x.stop.spans.items) t → IsOn q.no u ⊎ ((v : Rational) × Within u t v × IsOn p.no v)
       by_run (v, i, c, s) = by_stop (h.stop.only v s).1
@@ -161,32 +156,26 @@ module _ (tr : Trace) (a : ℕ) (b : Option ℕ) (p q : Lists) (x : Failing) (h 
             | inr k ↦ of_fail (z u (record { above = le_of_lt k; below = uv }))
           ]
           by_stop (inr k) =
-              let w = wide t u d (along (start tr) a b t u u o (le_refl u) (le_trans uv vt)) in
+              let w = wide u (along (start tr) a b t u u o (le_refl u) (le_trans uv vt)) in
               of_fail (k.all u w.1.0 uv)
 
-  into : (t : Rational) → Lies bounds t → SinceFails tr a b (IsOn p.no) (IsOn q.no) t → IsOn x.never.spans.items t ⊎ IsOn x.broken.spans.items t
-  into t i f =
+  pub never_broken : SinceFails tr a b (IsOn p.no) (IsOn q.no) t → IsOn x.never.spans.items t ⊎ IsOn x.broken.spans.items t
+  never_broken f =
       let e = less_by t a in
       let c = window_begin (start tr) t b in
       elim (all_or_broken_back q.no p.no x.fail.spans.items tidy_q tidy_fail c.0 t e (end_past t a)
-      (λ u k l m. h.fail.has u ((wide t u i (window u k l)).0) m)
+      (λ u k l m. h.fail.has u ((wide u (window u k l)).0) m)
       (λ u k l. f u (record { after = (c.1 u k).0; begins = (c.1 u k).1; ends = to_end t u a l }))) [
-        | inl all ↦ inl (h.never.has t ((own t i).0) (λ u o. all u (c.2 u o.after o.begins) (before_end t u a o.ends)))
+        | inl all ↦ inl (h.never.has t (own.0) (λ u o. all u (c.2 u o.after o.begins) (before_end t u a o.ends)))
         | inr (v, w, k, g) ↦
             let sv = (c.1 v k).0 in
-            inr (h.broken.has t ((own t i).1) (
+            inr (h.broken.has t (own.1) (
               v,
               back_way (start tr) t v a sv (past_end t v a w.above) w.below,
               (sv, inr w.below),
-              h.stop.has v ((wide t v i (window v k w.below)).1) (inl g),
+              h.stop.has v ((wide v (window v k w.below)).1) (inl g),
             ))
       ]
     where
       window : (u : Rational) → After (window_begin (start tr) t b).0 u → u ≤ʳ t → OpenBehind (start tr) 0 b true true t u
       window u k l = let m = (window_begin (start tr) t b).1 u k in record { after = m.0; begins = m.1; ends = later_none u t l }
-
-  -- the set of since, where it is certainly false
-  pub since_is_false : Tells bounds no (λ t. IsOn x.never.spans.items t ⊎ IsOn x.broken.spans.items t)
-      → Tells bounds no (SinceFails tr a b (IsOn p.no) (IsOn q.no))
-  since_is_false s = tells_alike bounds no (λ t. IsOn x.never.spans.items t ⊎ IsOn x.broken.spans.items t)
-      (SinceFails tr a b (IsOn p.no) (IsOn q.no)) out into s

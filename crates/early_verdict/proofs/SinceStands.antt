@@ -1,8 +1,8 @@
--- What stands goes on to stand, where a since lets go of the times before its own, and its operands of those before it looks back.
-use Rattle.std.proofs.Common.{◌≡◌, ◌⊎◌, inl, inr, refl, sym, subst, ◌∙◌, ℕ, ◌<◌, ◌≤◌, true, false, Option, Some, None, List, length, arith}
-use Rattle.std.specs.Prelude.{MatchOption, IsSome, slice_get, slice_index_or}
-use Rattle.rational.specs.Time.{Rational, later, ◌≤ʳ◌}
-use Rattle.rational.proofs.Order.{le_refl, le_trans}
+-- What stands goes on to stand, where a since lets go of the times before its own, and its operands of those that it looks at no more.
+use Rattle.std.proofs.Common.{◌≡◌, ◌≢◌, ◌⊎◌, inl, inr, refl, sym, subst, ◌∙◌, ℕ, ◌<◌, ◌≤◌, true, false, Option, Some, None, List, length, arith}
+use Rattle.std.specs.Prelude.{IfSome, MatchOption, IsSome, slice_get, slice_index_or}
+use Rattle.rational.specs.Time.{Rational, Within, later, ◌≤ʳ◌, ◌<ʳ◌}
+use Rattle.rational.proofs.Order.{le_of_lt, le_or_lt, le_refl, le_trans}
 use Rattle.rational.proofs.TimeLemmas.{later_from}
 use Rattle.stl_syntax.specs.Trace.{Trace, start}
 use Rattle.stl_syntax.specs.Early.{OpenBehind}
@@ -12,25 +12,25 @@ use Rattle.stl_syntax.specs.declared.node.Node.TheVariants.{Const, Since}
 use Rattle.stl_syntax.proofs.PostOrderLemmas.{placed, slice_get_at}
 use Rattle.early_verdict.specs.Cuts.{place, Upto}
 use Rattle.early_verdict.specs.Spans.{IsOn, Lies}
-use Rattle.early_verdict.specs.Steps.{Tells}
+use Rattle.early_verdict.specs.Readings.{SinceHolds, SinceFails}
 use Rattle.early_verdict.specs.Fitting.{Lists, lists_at, lists_of, ArePartsTidy, AreSetsTidy, HasFailBounds}
-use Rattle.early_verdict.specs.Fitting.{IsTidy, SayOfParts, SinceFits, SinceHolding, SinceFailing}
-use Rattle.early_verdict.specs.Living.{IsLive, IsShown, NetStands, ReachesBack}
-use Rattle.early_verdict.specs.Letting.{AreLess, ArePartsCut, ArePartsInside, IsAskedFrom, IsChild, IsFailingCut}
-use Rattle.early_verdict.specs.Letting.{IsFailingInside, IsHoldingCut, IsHoldingInside, IsInside, IsLess, IsRunCutAt}
-use Rattle.early_verdict.specs.Letting.{ShowsFrom}
+use Rattle.early_verdict.specs.Fitting.{IsTidy, Says, SayOfParts, SinceFits, SinceHolding, SinceFailing}
+use Rattle.early_verdict.specs.Standing.{AllTidy}
+use Rattle.early_verdict.specs.Living.{IsLive, IsShown, LooksAlong, NetStands, ReachesBack}
+use Rattle.early_verdict.specs.Letting.{AreLess, ArePartsInside, IsAskedFrom, IsChild, IsCutAt, IsFailingInside, IsHoldingInside, IsInside, IsLess, ShowsFrom}
 use Rattle.early_verdict.specs.declared.stretch.Stretch.{Stretch}
 use Rattle.early_verdict.specs.declared.grown.Grown.{Grown}
 use Rattle.early_verdict.specs.declared.sets.Sets.{Sets}
 use Rattle.early_verdict.specs.declared.sets.Parts.{Parts}
-use Rattle.early_verdict.proofs.AllSets.{lists_are, sets_at}
+use Rattle.early_verdict.proofs.AllSets.{is_shown, lists_are, lists_tidy, sets_at, shown_is, shown_within, yes_there, no_there}
 use Rattle.early_verdict.proofs.Childhood.{child_below}
-use Rattle.early_verdict.proofs.LettingLemmas.{both_shown, two_less, two_others, two_shows}
-use Rattle.early_verdict.proofs.Narrowing.{live_by, one_stands, shown_inside}
+use Rattle.early_verdict.proofs.LettingLemmas.{less_shown, still_on, two_less, two_others, two_shows}
+use Rattle.early_verdict.proofs.Narrowing.{lists_apart, live_by, one_stands, shown_begun, shown_inside}
 use Rattle.early_verdict.proofs.PlaceLemmas.{between}
 use Rattle.early_verdict.proofs.Places.{get_within, same_sets}
-use Rattle.early_verdict.proofs.SinceCuts.{broken_in, each_in, failing_back, holding_back, never_in, seen, some_in}
-use Rattle.early_verdict.proofs.SinceSets.{later_none}
+use Rattle.early_verdict.proofs.Settling.{SaysSince, reaches_along, says_since}
+use Rattle.early_verdict.proofs.SinceCuts.{IsBackCut, SeesAnew, SeesNone, failing_back, holding_back}
+use Rattle.early_verdict.proofs.SinceSets.{along, later_none, none_later}
 use Rattle.early_verdict.proofs.StretchLemmas.{rises}
 use Rattle.early_verdict.proofs.UntilCuts.{Agree}
 
@@ -44,14 +44,19 @@ ordered nodes formed i l p q a b at =
     same_node m n e = cc
 
 -- what the sets between were, and what their bounds are
-abbrev HoldAndFail : Trace → ℕ → ℕ → Lists → Lists → Sets → Parts → Type 0
-HoldAndFail tr a b p q s x = SinceHolding tr a (Some b) p q x.holding × SinceFailing tr a (Some b) p q x.failing × SayOfParts s x
+abbrev pub HoldAndFail : Trace → ℕ → Option ℕ → Lists → Lists → Sets → Parts → Type 0
+HoldAndFail tr a b p q s x = SinceHolding tr a b p q x.holding × SinceFailing tr a b p q x.failing × SayOfParts s x
 
 abbrev FailWithin : Stretch → Parts → Type 0
 FailWithin s x = (x.failing.fail.bounds ≡ s) × (x.failing.stop.bounds ≡ s)
 
+-- all of them are cut, or there are none
+abbrev pub AreBackCut : Rational → Rational → Stretch → ℕ → Option ℕ → List Stretch → Option Parts → Option Parts → Type 0
+AreBackCut d from wide a b ys old new = MatchOption old (new ≡ None) (λ x. MatchOption new ⊥ (IsBackCut d from wide a b ys x))
+
 -- the sets between lie within their bounds, and what fails within what the left operand shows
-module _ (nodes : List Node) (tr : Trace) (live old mid new : List Sets) (i p q a b : ℕ) (at : slice_get nodes i ≡ Some (Since p q a (Some b))) (d : Rational)
+module _ (nodes : List Node) (tr : Trace) (live old mid new : List Sets) (i p q a : ℕ) (b : Option ℕ)
+    (at : slice_get nodes i ≡ Some (Since p q a b)) (d : Rational)
     (wide : Stretch) (l' : Sets) (at_left : slice_get new p ≡ Some l') (is_wide : wide ≡ l'.no.bounds)
     (h : IsAskedFrom p d old mid) (g : IsAskedFrom q d mid new)
     (st : NetStands nodes tr live old) (s : Sets) (is : slice_get live i ≡ Some s) where
@@ -68,8 +73,8 @@ module _ (nodes : List Node) (tr : Trace) (live old mid new : List Sets) (i p q 
 
   -- the sets between lie within the bounds
   pub back_inside : ArePartsInside wide s
-  back_inside = by_parts s.parts (st.fit i (Since p q a (Some b)) s at is)
-      ((st.have.has i (Since p q a (Some b)) s shown_here.0 at is shown_here.1).left.1 left_here.0 left_here.1)
+  back_inside = by_parts s.parts (st.fit i (Since p q a b) s at is)
+      ((st.have.has i (Since p q a b) s shown_here.0 at is shown_here.1).left.1 left_here.0 left_here.1)
     where
       by_parts : (o : Option Parts) → MatchOption o ⊥ (HoldAndFail tr a b (lists_at old p) (lists_at old q) s)
           → MatchOption o (Unit {0}) (FailWithin (left_here.0).no.bounds)
@@ -90,38 +95,48 @@ module _ (nodes : List Node) (tr : Trace) (live old mid new : List Sets) (i p q 
         },
       )
 
-module _ (nodes : List Node) (formed : AreWellFormed nodes) (tr : Trace) (live left old mid new : List Sets) (i p q a b : ℕ)
-    (at : slice_get nodes i ≡ Some (Since p q a (Some b))) (order : a ≤ b) (d from : Rational) (back : later d b ≤ʳ from) (wide : Stretch)
-    (cut : IsRunCutAt i d from wide live left) (l' : Sets) (at_left : slice_get new p ≡ Some l') (is_wide : wide ≡ l'.no.bounds)
-    (begins : (t : Rational) → Lies cut.was.no.bounds t → from ≤ʳ t) (h : IsAskedFrom p d old mid) (g : IsAskedFrom q d mid new)
-    (st : NetStands nodes tr live old) where
+module _ (nodes : List Node) (formed : AreWellFormed nodes) (tr : Trace) (live left old mid new : List Sets) (i p q a : ℕ) (b : Option ℕ)
+    (at : slice_get nodes i ≡ Some (Since p q a b)) (d from : Rational) (back : later d a ≤ʳ from)
+    (reach : MatchOption b (start tr <ʳ d) (λ k. later d k ≤ʳ from)) (wide : Stretch) (s r : Sets)
+    (is : slice_get live i ≡ Some s) (ir : slice_get left i ≡ Some r)
+    (same : (j : ℕ) → j ≢ i → slice_get left j ≡ slice_get live j) (count : length left ≡ length live) (same_yes : r.yes ≡ s.yes) (same_no : r.no ≡ s.no)
+    (tidy_cut : MatchOption r.parts (Unit {0}) ArePartsTidy) (cut : AreBackCut d from wide a b (lists_at new q).yes s.parts r.parts)
+    (l' : Sets) (at_left : slice_get new p ≡ Some l') (is_wide : wide ≡ l'.no.bounds)
+    (begins : (t : Rational) → Lies s.no.bounds t → from ≤ʳ t) (h : IsAskedFrom p d old mid) (g : IsAskedFrom q d mid new) (st : NetStands nodes tr live old)
+    (looks_new : (t : Rational) → from ≤ʳ t → LooksAlong (start tr) p q a b old t → LooksAlong (start tr) p q a b new t) where
   small : i < length nodes
-  small = let e = get_within live i cut.was cut.at_old in let c = st.have.count in omega (arith, e, c)
+  small = let e = get_within live i s is in let c = st.have.count in omega (arith, e, c)
 
   less : AreLess old new
   less = two_less p q d old mid new h g
 
-  shows_from : (r : ℕ) (w x : Sets) → IsChild r (Since p q a (Some b)) → slice_get old r ≡ Some w → slice_get new r ≡ Some x → ShowsFrom d w x
-  shows_from r w x c e f = two_shows p q d old mid new h g r w x c e f
+  shows_from : (n : ℕ) (w x : Sets) → IsChild n (Since p q a b) → slice_get old n ≡ Some w → slice_get new n ≡ Some x → ShowsFrom d w x
+  shows_from n w x c e f = two_shows p q d old mid new h g n w x c e f
 
   -- an operand shows from there on what it showed
-  agree_from : (r : ℕ) → IsChild r (Since p q a (Some b)) → Agree d (lists_at old r) (lists_at new r)
-  agree_from r c =
-      let below = child_below i r (Since p q a (Some b)) (placed nodes i (Since p q a (Some b)) formed.post_order at) c in
-      let x = sets_at new r (let e = small in let n = st.have.shown_count in let f = less.count in omega (arith, below, e, n, f)) in
-      let w = less.each r x.0 x.1 in
-      by_sets w.0 x.0 w.1 x.1 w.2 (shows_from r w.0 x.0 c w.1 x.1) (shown_inside nodes tr live old st r w.0 w.1)
+  agree_from : (n : ℕ) → IsChild n (Since p q a b) → Agree d (lists_at old n) (lists_at new n)
+  agree_from n c =
+      let below = child_below i n (Since p q a b) (placed nodes i (Since p q a b) formed.post_order at) c in
+      let x = sets_at new n (let e = small in let m = st.have.shown_count in let f = less.count in omega (arith, below, e, m, f)) in
+      let w = less.each n x.0 x.1 in
+      by_sets w.0 x.0 w.1 x.1 w.2 (shows_from n w.0 x.0 c w.1 x.1) (shown_inside nodes tr live old st n w.0 w.1)
     where
-      by_sets : (w x : Sets) → slice_get old r ≡ Some w → slice_get new r ≡ Some x → IsLess w x → ShowsFrom d w x → IsInside w
-          → Agree d (lists_at old r) (lists_at new r)
+      by_sets : (w x : Sets) → slice_get old n ≡ Some w → slice_get new n ≡ Some x → IsLess w x → ShowsFrom d w x → IsInside w
+          → Agree d (lists_at old n) (lists_at new n)
       by_sets w x e f fewer shows inside =
-          subst (λ (l : Lists). Agree d l (lists_at new r)) (sym (lists_are old r w e))
-          (subst (λ (l : Lists). Agree d (lists_of w) l) (sym (lists_are new r x f)) (record {
+          subst (λ (l : Lists). Agree d l (lists_at new n)) (sym (lists_are old n w e))
+          (subst (λ (l : Lists). Agree d (lists_of w) l) (sym (lists_are new n x f)) (record {
             yes_in = λ t k o. fewer.yes_in t (shows.left t (inside.yes t o) k) o;
             yes_out = fewer.yes_out;
             no_in = λ t k o. fewer.no_in t (shows.left t (inside.no t o) k) o;
             no_out = fewer.no_out;
           }))
+
+  P : Agree d (lists_at old p) (lists_at new p)
+  P = agree_from p (inl refl)
+
+  Q : Agree d (lists_at old q) (lists_at new q)
+  Q = agree_from q (inr refl)
 
   -- the left operand's bounds, as they were
   was_left : (l : Sets) × (slice_get old p ≡ Some l) × IsLess l l'
@@ -133,8 +148,8 @@ module _ (nodes : List Node) (formed : AreWellFormed nodes) (tr : Trace) (live l
   own_shown : (w : Sets) × (slice_get old i ≡ Some w)
   own_shown = sets_at old i (let e = small in let n = st.have.shown_count in omega (arith, e, n))
 
-  was : IsLive (start tr) old (Since p q a (Some b)) cut.was own_shown.0
-  was = st.have.has i (Since p q a (Some b)) cut.was own_shown.0 at cut.at_old own_shown.1
+  was : IsLive (start tr) old (Since p q a b) s own_shown.0
+  was = st.have.has i (Since p q a b) s own_shown.0 at is own_shown.1
 
   begun : (t : Rational) → Lies was.own t → from ≤ʳ t
   begun t l = begins t (subst (λ z. Lies z t) (sym was.no) l)
@@ -146,157 +161,262 @@ module _ (nodes : List Node) (formed : AreWellFormed nodes) (tr : Trace) (live l
   from_now = begun now.0 now.1
 
   d_now : d ≤ʳ now.0
-  d_now = le_trans (later_from d b) (le_trans back from_now)
+  d_now = le_trans (later_from d a) (le_trans back from_now)
 
   -- it looks at its own times
-  itself : (t : Rational) → Lies was.own t → OpenBehind (start tr) 0 (Some b) true true t t
-  itself t l = record { after = was.starts t l; begins = later_from t b; ends = later_none t t (le_refl t) }
+  itself_begins : (o : Option ℕ) (t : Rational) → IfSome o (λ k. t ≤ʳ later t k)
+  itself_begins None t = tt
+  itself_begins (Some k) t = later_from t k
 
-  seen_from : (t u : Rational) → Lies was.own t → OpenBehind (start tr) 0 (Some b) true true t u → d ≤ʳ u
-  seen_from t u l o = seen d from tr a b order (lists_at old p) (lists_at old q) (lists_at new p) (lists_at new q)
-      (agree_from p (inl refl)) (agree_from q (inr refl))
-      now.0 from_now back t u (begun t l) o.begins
+  itself : (t : Rational) → Lies was.own t → OpenBehind (start tr) 0 b true true t t
+  itself t l = record { after = was.starts t l; begins = itself_begins b t; ends = later_none t t (le_refl t) }
 
-  fail_bounds : HasFailBounds cut.was was_left.0
+  now_shown : IsShown old p now.0 × IsShown old q now.0
+  now_shown = elim (was.looks.0 now.0 now.1) [
+    | inl k ↦ k now.0 (itself now.0 now.1)
+    | inr (w, o, k, e) ↦ k now.0 (record { above = none_later w now.0 a o.ends; below = le_refl now.0 })
+  ]
+
+  -- what an operand shows now is none before
+  after_there : (n : ℕ) (c : IsChild n (Since p q a b)) → IsShown old n now.0 → (u : Rational) → IsShown new n u → d ≤ʳ u
+  after_there n c m u k =
+      let x = sets_at new n (shown_within new n u k) in
+      let w = less.each n x.0 x.1 in
+      (shows_from n w.0 x.0 c w.1 x.1).after now.0 (shown_is old n w.0 now.0 w.1 m) d_now u (shown_is new n x.0 u x.1 k)
+
+  fail_bounds : HasFailBounds s was_left.0
   fail_bounds = was.left.1 was_left.0 was_left.1
 
-  less_wide : (s : Stretch) → s ≡ (was_left.0).no.bounds → (t : Rational) → Lies wide t → Lies s t
-  less_wide s e t l = subst (λ z. Lies z t) (sym e) (was_left.2.less t (subst (λ z. Lies z t) is_wide l))
+  less_wide : (z : Stretch) → z ≡ (was_left.0).no.bounds → (t : Rational) → Lies wide t → Lies z t
+  less_wide z e t l = subst (λ z. Lies z t) (sym e) (was_left.2.less t (subst (λ z. Lies z t) is_wide l))
 
-  left_wide : (s : Stretch) → s ≡ (was_left.0).no.bounds → (t : Rational) → Lies s t → d ≤ʳ t → Lies wide t
-  left_wide s e t l f = subst (λ z. Lies z t) (sym is_wide) (shows.left t (subst (λ z. Lies z t) e l) f)
+  left_wide : (z : Stretch) → z ≡ (was_left.0).no.bounds → (t : Rational) → Lies z t → d ≤ʳ t → Lies wide t
+  left_wide z e t l f = subst (λ z. Lies z t) (sym is_wide) (shows.left t (subst (λ z. Lies z t) e l) f)
 
-  -- each of these has a time of the since's own
-  module _ (x y : Parts) (k : IsHoldingCut d from x.holding y.holding) (m : IsFailingCut from wide x.failing y.failing)
-      (r : ReachesBack (start tr) (Some b) was.own x)
+  -- the wide times are none before
+  at_wide : (u : Rational) → Lies wide u → d ≤ʳ u
+  at_wide u l = after_there p (inl refl) now_shown.0 u (is_shown new p l' u at_left (subst (λ z. Lies z u) is_wide l))
+
+  shown_yes : (n : ℕ) (u : Rational) → IsOn (lists_at new n).yes u → IsShown new n u
+  shown_yes n u o =
+      let x = sets_at new n (yes_there new n u o) in
+      let w = less.each n x.0 x.1 in
+      is_shown new n x.0 u x.1
+      ((w.2.inside (shown_inside nodes tr live old st n w.0 w.1)).yes u (subst (λ (l : Lists). IsOn l.yes u) (lists_are new n x.0 x.1) o))
+
+  shown_no : (n : ℕ) (u : Rational) → IsOn (lists_at new n).no u → IsShown new n u
+  shown_no n u o =
+      let x = sets_at new n (no_there new n u o) in
+      let w = less.each n x.0 x.1 in
+      is_shown new n x.0 u x.1
+      ((w.2.inside (shown_inside nodes tr live old st n w.0 w.1)).no u (subst (λ (l : Lists). IsOn l.no u) (lists_are new n x.0 x.1) o))
+
+  begun_q : (u : Rational) → IsOn (lists_at new q).yes u → start tr ≤ʳ u
+  begun_q u o = shown_begun nodes tr live old st q u (less_shown old new less q u (shown_yes q u o))
+
+  after_q : (u : Rational) → IsOn (lists_at new q).no u → d ≤ʳ u
+  after_q u o = after_there q (inr refl) now_shown.1 u (shown_no q u o)
+
+  new_tidy : AllTidy new
+  new_tidy n x e = let w = less.each n x e in w.2.tidy (st.shown_tidy n w.0 w.1)
+
+  apart_new : (n : ℕ) → IsChild n (Since p q a b) → (u : Rational) → IsOn (lists_at new n).yes u → ¬ (IsOn (lists_at new n).no u)
+  apart_new n c u y m = lists_apart nodes tr live old st n u ((agree_from n c).yes_out u y) ((agree_from n c).no_out u m)
+
+  looks_still : (t : Rational) → Lies was.own t → LooksAlong (start tr) p q a b new t
+  looks_still t l = looks_new t (begun t l) (was.looks.0 t l)
+
+  -- of the lists before and now since is told the same at its own times
+  still_holds : (t : Rational) → LooksAlong (start tr) p q a b new t → SinceHolds tr a b (IsOn (lists_at old p).yes) (IsOn (lists_at old q).yes) t
+      → SinceHolds tr a b (IsOn (lists_at new p).yes) (IsOn (lists_at new q).yes) t
+  still_holds t (inl k) (u, o, c, y, z) =
+      let in_p = λ (v : Rational) (i : Within u t v). (still_on old new less p v (k v (along (start tr) a b t u v o i.above i.below)).0).0 (z v i) in
+      (u, o, c, (still_on old new less q u (k u (along (start tr) a b t u u o (le_refl u) (none_later u t a o.ends))).1).0 y, in_p)
+  still_holds t (inr (w, m, k, e)) (u, o, c, y, z) = elim (le_or_lt w u) [
+    | inl l ↦ (
+      u,
+      o,
+      c,
+      (still_on old new less q u (k u (record { above = l; below = none_later u t a o.ends })).1).0 y,
+      λ v i. (still_on old new less p v (k v (record { above = le_trans l i.above; below = i.below })).0).0 (z v i),
+    )
+    | inr l ↦
+        let wt = none_later w t a m.ends in
+        let all = λ (v : Rational) (i : Within w t v).
+        (still_on old new less p v (k v i).0).0 (z v (record { above = le_trans (le_of_lt l) i.above; below = i.below })) in
+        elim e [
+          | inl g ↦ (w, m, (m.after, inr wt), g.1, all)
+          | inr n ↦ absurd (apart_new p (inl refl) w (all w (record { above = le_refl w; below = wt })) n)
+        ]
+  ]
+
+  held_before : (t : Rational) → SinceHolds tr a b (IsOn (lists_at new p).yes) (IsOn (lists_at new q).yes) t
+      → SinceHolds tr a b (IsOn (lists_at old p).yes) (IsOn (lists_at old q).yes) t
+  held_before t (u, o, c, y, z) = (u, o, c, Q.yes_out u y, λ v i. P.yes_out v (z v i))
+
+  still_fails_so : (t : Rational) → LooksAlong (start tr) p q a b new t → SinceFails tr a b (IsOn (lists_at old p).no) (IsOn (lists_at old q).no) t
+      → SinceFails tr a b (IsOn (lists_at new p).no) (IsOn (lists_at new q).no) t
+  still_fails_so t (inl k) f u o = elim (f u o) [
+    | inl y ↦ inl ((still_on old new less q u (k u (along (start tr) a b t u u o (le_refl u) (none_later u t a o.ends))).1).1 y)
+    | inr (v, i, y) ↦ inr (v, i, (still_on old new less p v (k v (along (start tr) a b t u v o i.above i.below)).0).1 y)
+  ]
+  still_fails_so t (inr (w, m, k, e)) f u o = elim (le_or_lt w u) [
+    | inl l ↦ elim (f u o) [
+      | inl y ↦ inl ((still_on old new less q u (k u (record { above = l; below = none_later u t a o.ends })).1).1 y)
+      | inr (v, i, y) ↦ inr (v, i, (still_on old new less p v (k v (record { above = le_trans l i.above; below = i.below })).0).1 y)
+    ]
+    | inr l ↦ elim e [
+      | inr n ↦ inr (w, record { above = le_of_lt l; below = none_later w t a m.ends }, n)
+      | inl g ↦ elim (f w m) [
+        | inl y ↦ absurd (lists_apart nodes tr live old st q w (Q.yes_out w g.1) y)
+        | inr (v, i, y) ↦ inr (v, record { above = le_trans (le_of_lt l) i.above; below = i.below }, (still_on old new less p v (k v i).0).1 y)
+      ]
+    ]
+  ]
+
+  failed_before : (t : Rational) → SinceFails tr a b (IsOn (lists_at new p).no) (IsOn (lists_at new q).no) t
+      → SinceFails tr a b (IsOn (lists_at old p).no) (IsOn (lists_at old q).no) t
+  failed_before t f u o = elim (f u o) [ inl y ↦ inl (Q.no_out u y) | inr (v, i, y) ↦ inr (v, i, P.no_out v y) ]
+
+  module _ (x z : Parts) (k : IsBackCut d from wide a b (lists_at new q).yes x z) (m : ReachesBack (start tr) b p old was.own x)
       (e : FailWithin (was_left.0).no.bounds x) where
-    reach_cut : ReachesBack (start tr) (Some b) was.own y
+    some_left : (o : Option ℕ) → MatchOption o (SeesAnew from a (lists_at new q).yes x.holding.some z.holding.some)
+        (λ n. IsCutAt from x.holding.some z.holding.some)
+        → (t : Rational) → Lies x.holding.some.bounds t → from ≤ʳ t → Lies z.holding.some.bounds t
+    some_left None c t l f = c.left t l f
+    some_left (Some n) c t l f = c.left t l f
+
+    never_left : (o : Option ℕ) → MatchOption o (SeesNone from x.failing.never z.failing.never) (λ n. IsCutAt from x.failing.never z.failing.never)
+        → (t : Rational) → Lies x.failing.never.bounds t → from ≤ʳ t → Lies z.failing.never.bounds t
+    never_left None c t l f = c.left t l f
+    never_left (Some n) c t l f = c.left t l f
+
+    reach_cut : ReachesBack (start tr) b p new was.own z
     reach_cut = record {
-      some = λ t l. let z = r.some t l in (k.some.left t z.0 (begun t l), k.each.left t z.1 (begun t l));
-      never = λ t l. let z = r.never t l in (m.never.left t z.0 (begun t l), m.broken.left t z.1 (begun t l));
-      both = λ t u l o. let z = r.both t u l o in let f = seen_from t u l o in (k.both.left u z.0 f, k.run.left u z.1 f);
-      fail = λ t u l o. let z = r.fail t u l o in let f = seen_from t u l o in (
-        subst (λ v. Lies v u) (sym m.fail.bounds_are) (left_wide x.failing.fail.bounds e.0 u z.0 f),
-        subst (λ v. Lies v u) (sym m.stop.bounds_are) (left_wide x.failing.stop.bounds e.1 u z.1 f),
-      );
+      some = λ t l. let y = m.some t l in (some_left b k.some t y.0 (begun t l), k.each.left t y.1 (begun t l));
+      never = λ t l. let y = m.never t l in (never_left b k.never t y.0 (begun t l), k.broken.left t y.1 (begun t l));
+      both = λ t u l o i.
+          let y = m.both t u l o (less_shown old new less p u i) in
+          let f = after_there p (inl refl) now_shown.0 u i in
+          (k.both.left u y.0 f, k.run.left u y.1 f);
+      fail = λ t u l o i.
+          let y = m.fail t u l o (less_shown old new less p u i) in
+          let f = after_there p (inl refl) now_shown.0 u i in (
+            subst (λ v. Lies v u) (sym k.fail.bounds_are) (left_wide x.failing.fail.bounds e.0 u y.0 f),
+            subst (λ v. Lies v u) (sym k.stop.bounds_are) (left_wide x.failing.stop.bounds e.1 u y.1 f),
+          );
     }
 
-    -- the wide times are none before
-    at_wide : (u : Rational) → Lies wide u → d ≤ʳ u
-    at_wide u l =
-        let z = r.fail now.0 now.0 now.1 (itself now.0 now.1) in
-        shows.after now.0 (subst (λ v. Lies v now.0) e.0 z.0) d_now u (subst (λ v. Lies v u) is_wide l)
+    parts_fit : ArePartsTidy x → ArePartsTidy z → HoldAndFail tr a b (lists_at old p) (lists_at old q) s x
+        → HoldAndFail tr a b (lists_at new p) (lists_at new q) r z
+    parts_fit tidy_x tidy_z (n, f, say) = (
+      holding,
+      failing,
+      record {
+        yes = subst (λ (y : Grown). Says y (λ t. IsOn z.holding.some.spans.items t × IsOn z.holding.each.spans.items t)) (sym same_yes) (record {
+          has = λ t l o. let i = in_yes t l in say.yes.has t l ((before t i).held (held_before t ((after t i).holds o)));
+          only = λ t o.
+              let c = say.yes.only t o in
+              let i = in_yes t c.0 in
+              (c.0, (after t i).held (still_holds t (looks_still t i) ((before t i).holds c.1)));
+        });
+        no = subst (λ (y : Grown). Says y (λ t. IsOn z.failing.never.spans.items t ⊎ IsOn z.failing.broken.spans.items t)) (sym same_no) (record {
+          has = λ t l o. let i = in_no t l in say.no.has t l ((before t i).failed (failed_before t ((after t i).fails o)));
+          only = λ t o.
+              let c = say.no.only t o in
+              let i = in_no t c.0 in
+              (c.0, (after t i).failed (still_fails_so t (looks_still t i) ((before t i).fails c.1)));
+        });
+      },
+    )
+      where
+        in_yes : (t : Rational) → Lies s.yes.bounds t → Lies was.own t
+        in_yes t l = subst (λ y. Lies y t) was.yes l
 
-    parts_fit : HoldAndFail tr a b (lists_at old p) (lists_at old q) cut.was x → HoldAndFail tr a b (lists_at new p) (lists_at new q) cut.is y
-    parts_fit (n, f, s) =
-        let P = agree_from p (inl refl) in
-        let Q = agree_from q (inr refl) in
-        let z = r.some now.0 now.1 in
-        let v = r.never now.0 now.1 in
-        let c = r.both now.0 now.0 now.1 (itself now.0 now.1) in
-        let in_some = some_in d from tr a b order (lists_at old p) (lists_at old q) (lists_at new p)
-        (lists_at new q) P Q now.0 from_now back x.holding y.holding k n c.0 c.1 z.0 z.1 in
-        let in_each = each_in d from tr a b order (lists_at old p) (lists_at old q) (lists_at new p)
-        (lists_at new q) P Q now.0 from_now back x.holding y.holding k n c.0 c.1 z.0 z.1 in
-        let in_never = never_in d from tr a b order (lists_at old p) (lists_at old q) (lists_at new p)
-        (lists_at new q) P Q now.0 from_now back wide x.failing y.failing m f v.0 v.1
-        (less_wide x.failing.fail.bounds e.0) (left_wide x.failing.fail.bounds e.0) (less_wide x.failing.stop.bounds e.1)
-        (left_wide x.failing.stop.bounds e.1) at_wide in
-        let in_broken = broken_in d from tr a b order (lists_at old p) (lists_at old q) (lists_at new p)
-        (lists_at new q) P Q now.0 from_now back wide x.failing y.failing m f v.0 v.1
-        (less_wide x.failing.fail.bounds e.0) (left_wide x.failing.fail.bounds e.0) (less_wide x.failing.stop.bounds e.1)
-        (left_wide x.failing.stop.bounds e.1) at_wide in (
-          holding_back d from tr a b order (lists_at old p) (lists_at old q) (lists_at new p)
-              (lists_at new q) P Q now.0 from_now back x.holding y.holding k n c.0 c.1 z.0 z.1,
-          failing_back d from tr a b order (lists_at old p) (lists_at old q) (lists_at new p)
-              (lists_at new q) P Q now.0 from_now back wide x.failing y.failing m f v.0 v.1
-              (less_wide x.failing.fail.bounds e.0) (left_wide x.failing.fail.bounds e.0) (less_wide x.failing.stop.bounds e.1)
-              (left_wide x.failing.stop.bounds e.1) at_wide,
-          record {
-            yes = subst (λ (g : Grown). Tells g.bounds g.spans.items (λ t. IsOn y.holding.some.spans.items t × IsOn y.holding.each.spans.items t))
-                (sym cut.cut.yes) (record {
-                  has = λ t l o. s.yes.has t l ((k.some.only t o.0).0, (k.each.only t o.1).0);
-                  only = λ t o. let u = s.yes.only t o in let w = begun t (subst (λ z. Lies z t) was.yes u.0) in (u.0, (in_some t w u.1.0, in_each t w u.1.1));
-                });
-            no = subst (λ (g : Grown). Tells g.bounds g.spans.items (λ t. IsOn y.failing.never.spans.items t ⊎ IsOn y.failing.broken.spans.items t))
-                (sym cut.cut.no) (record {
-                  has = λ t l o. s.no.has t l (elim o [ inl u ↦ inl (m.never.only t u).0 | inr u ↦ inr (m.broken.only t u).0 ]);
-                  only = λ t o. let u = s.no.only t o in let w = begun t (subst (λ z. Lies z t) was.no u.0) in (
-                    u.0,
-                    elim u.1 [ inl j ↦ inl (in_never t w j) | inr j ↦ inr (in_broken t w j) ],
-                  );
-                });
-          },
-        )
+        in_no : (t : Rational) → Lies s.no.bounds t → Lies was.own t
+        in_no t l = subst (λ y. Lies y t) was.no l
 
-    parts_tidy : ArePartsTidy y
-    parts_tidy = record {
-      holding = record { both = k.both.tidy; run = k.run.tidy; some = k.some.tidy; each = k.each.tidy };
-      failing = record { fail = m.fail.tidy; stop = m.stop.tidy; never = m.never.tidy; broken = m.broken.tidy };
-    }
+        here : (Lies x.holding.both.bounds now.0 × Lies x.holding.run.bounds now.0)
+        here = m.both now.0 now.0 now.1 (itself now.0 now.1) now_shown.0
+
+        holding : SinceHolding tr a b (lists_at new p) (lists_at new q) z.holding
+        holding = holding_back d from tr a b (lists_at old p) (lists_at old q) (lists_at new p)
+            (lists_at new q) P Q now.0 from_now back reach begun_q after_q wide x z k
+            n here.0 here.1 (m.some now.0 now.1).0 (m.some now.0 now.1).1
+
+        failing : SinceFailing tr a b (lists_at new p) (lists_at new q) z.failing
+        failing = failing_back d from tr a b (lists_at old p) (lists_at old q) (lists_at new p)
+            (lists_at new q) P Q now.0 from_now back reach begun_q after_q wide x z k
+            f (m.never now.0 now.1).0 (m.never now.0 now.1).1 (less_wide x.failing.fail.bounds e.0) (left_wide x.failing.fail.bounds e.0)
+            (less_wide x.failing.stop.bounds e.1) (left_wide x.failing.stop.bounds e.1) at_wide
+
+        before : (t : Rational) → Lies was.own t → SaysSince tr a b (lists_at old p) (lists_at old q) x t
+        before t l =
+            says_since tr a b (lists_at old p) (lists_at old q) x n f tidy_x (lists_tidy old st.shown_tidy q).1 t (m.some t l) (m.never t l)
+            (λ w i. lists_apart nodes tr live old st p w) (λ w i. lists_apart nodes tr live old st q w)
+            (reaches_along tr was.own a b p q old (lists_at old p) (lists_at old q) refl refl x m t l (was.looks.0 t l))
+
+        after : (t : Rational) → Lies was.own t → SaysSince tr a b (lists_at new p) (lists_at new q) z t
+        after t l =
+            says_since tr a b (lists_at new p) (lists_at new q) z holding failing tidy_z (lists_tidy new new_tidy q).1 t
+            (reach_cut.some t l) (reach_cut.never t l)
+            (λ w i. apart_new p (inl refl) w) (λ w i. apart_new q (inr refl) w)
+            (reaches_along tr was.own a b p q new (lists_at new p) (lists_at new q) refl refl z reach_cut t l (looks_still t l))
 
   -- of both or of none
-  by_parts : (R : Parts → Type 0) (S : Parts → Type 0) → ((x y : Parts) → IsHoldingCut d from x.holding y.holding → IsFailingCut from wide x.failing y.failing
-      → ReachesBack (start tr) (Some b) was.own x → FailWithin (was_left.0).no.bounds x → R x → S y)
-      → (N : Type 0) → (o o' : Option Parts) → ArePartsCut d from wide o o' → MatchOption o (Unit {0}) (ReachesBack (start tr) (Some b) was.own)
-      → MatchOption o (Unit {0}) (FailWithin (was_left.0).no.bounds) → MatchOption o N R → MatchOption o' N S
-  by_parts R S f N None o' c r e n = subst (λ z. MatchOption z N S) (sym c) n
-  by_parts R S f N (Some x) None c r e n = absurd c
-  by_parts R S f N (Some x) (Some y) c r e n = f x y c.0 c.1 r e n
+  by_parts : (R : Parts → Type 0) (S : Parts → Type 0) → ((x y : Parts) → IsBackCut d from wide a b (lists_at new q).yes x y
+      → ReachesBack (start tr) b p old was.own x → FailWithin (was_left.0).no.bounds x → ArePartsTidy x → ArePartsTidy y → R x → S y)
+      → (N : Type 0) → (o o' : Option Parts) → AreBackCut d from wide a b (lists_at new q).yes o o'
+      → MatchOption o (Unit {0}) (ReachesBack (start tr) b p old was.own)
+      → MatchOption o (Unit {0}) (FailWithin (was_left.0).no.bounds) → MatchOption o (Unit {0}) ArePartsTidy → MatchOption o' (Unit {0}) ArePartsTidy
+      → MatchOption o N R → MatchOption o' N S
+  by_parts R S f N None o' c m e t u n = subst (λ z. MatchOption z N S) (sym c) n
+  by_parts R S f N (Some x) None c m e t u n = absurd c
+  by_parts R S f N (Some x) (Some y) c m e t u n = f x y c m e t u n
 
   unit_of : (o : Option Parts) → MatchOption o (Unit {0}) (λ x. Unit {0})
   unit_of None = tt
   unit_of (Some x) = tt
 
-  reach_parts : MatchOption cut.is.parts (Unit {0}) (ReachesBack (start tr) (Some b) was.own)
-  reach_parts = by_parts (λ x. Unit {0}) (ReachesBack (start tr) (Some b) was.own) (λ x y k m r e u. reach_cut x y k m r e)
-      (Unit {0}) cut.was.parts cut.is.parts cut.cut.parts
-      was.looks.1 fail_bounds (unit_of cut.was.parts)
+  reach_parts : MatchOption r.parts (Unit {0}) (ReachesBack (start tr) b p new was.own)
+  reach_parts = by_parts (λ x. Unit {0}) (ReachesBack (start tr) b p new was.own) (λ x y k m e t u n. reach_cut x y k m e) (Unit {0}) s.parts r.parts cut
+      was.looks.1 fail_bounds (st.tidy i s is).parts tidy_cut (unit_of s.parts)
 
-  is_some : IsSome cut.is.parts
-  is_some = by_some cut.was.parts cut.is.parts cut.cut.parts was.left.0
+  is_some : IsSome r.parts
+  is_some = by_some s.parts r.parts cut was.left.0
     where
-      by_some : (o o' : Option Parts) → ArePartsCut d from wide o o' → IsSome o → IsSome o'
+      by_some : (o o' : Option Parts) → AreBackCut d from wide a b (lists_at new q).yes o o' → IsSome o → IsSome o'
       by_some None o' c s = absurd (let f : false ≡ true = s in cc)
       by_some (Some x) None c s = absurd c
       by_some (Some x) (Some y) c s = refl
 
-  still_fails : (l : Sets) → slice_get new p ≡ Some l → HasFailBounds cut.is l
-  still_fails l f =
-      subst (λ z. HasFailBounds cut.is z) (same_sets l' l (sym at_left ∙ f))
-      (by_parts (λ x. Unit {0}) (FailWithin l'.no.bounds) (λ x y k m r e u. (m.fail.bounds_are ∙ is_wide, m.stop.bounds_are ∙ is_wide)) (Unit {0})
-      cut.was.parts cut.is.parts cut.cut.parts was.looks.1 fail_bounds (unit_of cut.was.parts))
+  still_within : (l : Sets) → slice_get new p ≡ Some l → HasFailBounds r l
+  still_within l f =
+      subst (λ z. HasFailBounds r z) (same_sets l' l (sym at_left ∙ f))
+      (by_parts (λ x. Unit {0}) (FailWithin l'.no.bounds) (λ x y k m e t u n. (k.fail.bounds_are ∙ is_wide, k.stop.bounds_are ∙ is_wide)) (Unit {0})
+      s.parts r.parts cut was.looks.1 fail_bounds (st.tidy i s is).parts tidy_cut (unit_of s.parts))
 
-  looks_still : (t u : Rational) → Lies was.own t → OpenBehind (start tr) 0 (Some b) true true t u → IsShown new p u × IsShown new q u
-  looks_still t u l o =
-      let k = was.looks.0 t u l o in
-      let f = seen_from t u l o in
-      (both_shown p q d old mid new h g p u f k.0, both_shown p q d old mid new h g q u f k.1)
-
-  mine : (w x : Sets) → slice_get old i ≡ Some w → slice_get new i ≡ Some x → IsLess w x → IsLive (start tr) new (Since p q a (Some b)) cut.is x
+  mine : (w x : Sets) → slice_get old i ≡ Some w → slice_get new i ≡ Some x → IsLess w x → IsLive (start tr) new (Since p q a b) r x
   mine w x e f fewer =
-      live_by nodes formed tr live left old new i (Since p q a (Some b)) at cut.was cut.is cut.at_old cut.at_new cut.others
-      cut.count less (two_others p q d old mid new h g) st
-      (Since p q a (Some b)) cut.was cut.is own_shown.0 x cut.cut.yes cut.cut.no
-      (subst (λ z. IsLess z x) (same_sets w own_shown.0 (sym e ∙ own_shown.1)) fewer) was
-      (looks_still, reach_parts) (is_some, still_fails)
+      live_by nodes formed tr live left old new i (Since p q a b) at s r is ir same count less (two_others p q d old mid new h g) st
+      (Since p q a b) s r own_shown.0 x same_yes same_no (subst (λ z. IsLess z x) (same_sets w own_shown.0 (sym e ∙ own_shown.1)) fewer) was
+      (looks_still, reach_parts) (is_some, still_within)
 
-  fits : SinceFits tr a (Some b) (lists_at new p) (lists_at new q) cut.is
-  fits = by_parts (HoldAndFail tr a b (lists_at old p) (lists_at old q) cut.was) (HoldAndFail tr a b (lists_at new p) (lists_at new q) cut.is)
-      (λ x y k m r e n. parts_fit x y k m r e n) ⊥ cut.was.parts cut.is.parts cut.cut.parts was.looks.1 fail_bounds
-      (st.fit i (Since p q a (Some b)) cut.was at cut.at_old)
+  fits : SinceFits tr a b (lists_at new p) (lists_at new q) r
+  fits = by_parts (HoldAndFail tr a b (lists_at old p) (lists_at old q) s) (HoldAndFail tr a b (lists_at new p) (lists_at new q) r)
+      (λ x y k m e t u n. parts_fit x y k m e t u n) ⊥ s.parts r.parts cut was.looks.1 fail_bounds (st.tidy i s is).parts tidy_cut
+      (st.fit i (Since p q a b) s at is)
 
-  tidy : AreSetsTidy cut.is
+  tidy : AreSetsTidy r
   tidy =
-      let n = st.tidy i cut.was cut.at_old in
+      let n = st.tidy i s is in
       record {
-        yes = subst (λ (g : Grown). IsTidy g) (sym cut.cut.yes) n.yes;
-        no = subst (λ (g : Grown). IsTidy g) (sym cut.cut.no) n.no;
-        parts = by_parts ArePartsTidy ArePartsTidy (λ x y k m r e u. parts_tidy x y k m r e)
-            (Unit {0}) cut.was.parts cut.is.parts cut.cut.parts was.looks.1 fail_bounds n.parts;
+        yes = subst (λ (y : Grown). IsTidy y) (sym same_yes) n.yes;
+        no = subst (λ (y : Grown). IsTidy y) (sym same_no) n.no;
+        parts = tidy_cut;
       }
 
   -- all stands where a since and its operands let go
   pub since_stands : NetStands nodes tr left new
-  since_stands = one_stands nodes formed tr live left old new i (Since p q a (Some b)) at cut.was cut.is cut.at_old cut.at_new cut.others cut.count less
+  since_stands = one_stands nodes formed tr live left old new i (Since p q a b) at s r is ir same count less
       (two_others p q d old mid new h g) st mine fits tidy

@@ -3,7 +3,7 @@ use Rattle.std.specs.Prelude.{◌≡◌, ◌≢◌, ◌⊎◌, ℕ, Bool, false,
 use Rattle.rational.specs.Time.{Rational, later, ◌≤ʳ◌, ◌<ʳ◌}
 use Rattle.stl_syntax.specs.declared.node.Node.{Node}
 use Rattle.stl_syntax.specs.declared.node.Node.TheVariants.{Const, Atom as Leaf, Not, And, Or, Implies, Until, Eventually, Always, Since, Once, Historically}
-use Rattle.early_verdict.specs.Cuts.{Place, place, AtMost, Before, Upto}
+use Rattle.early_verdict.specs.Cuts.{Place, place, After, AtMost, Before, Upto}
 use Rattle.early_verdict.specs.Spans.{IsAmong, IsOn, Lies}
 use Rattle.early_verdict.specs.Steps.{HoldsFrom}
 use Rattle.early_verdict.specs.Fitting.{AreSetsTidy, IsTidy}
@@ -136,6 +136,48 @@ pub record IsRunCut (first from : Rational) (wide : Stretch) (old new : Sets) : 
   pub yes : new.yes ≡ old.yes
   pub no : new.no ≡ old.no
   pub parts : ArePartsCut first from wide old.parts new.parts
+
+-- a set keeps the times that see one of the list, so far before them
+pub record IsSeeing (a : ℕ) (xs : List Stretch) (old new : Grown) : Type 0 where
+  pub tidy : IsTidy new
+  pub bounds : new.bounds ≡ old.bounds
+  pub kept : (t : Rational) → IsOn new.spans.items t → IsOn old.spans.items t × ((u : Rational) × IsOn xs u × (later u a ≤ʳ t))
+  pub left : (t : Rational) → IsOn old.spans.items t → (u : Rational) → IsOn xs u → later u a ≤ʳ t → IsOn new.spans.items t
+
+-- of the sets between of a since without a bound, those of windows that reach to the start: one sees the times that are left, one has none
+pub record IsEndlessPart (a : ℕ) (xs : List Stretch) (x y : Parts) : Type 0 where
+  pub some : IsSeeing a xs x.holding.some y.holding.some
+  pub both : y.holding.both ≡ x.holding.both
+  pub run : y.holding.run ≡ x.holding.run
+  pub each : y.holding.each ≡ x.holding.each
+  pub runs : y.holding.carried ≡ x.holding.carried
+  pub never : y.failing.never.spans.items ≡ []
+  pub never_bounds : y.failing.never.bounds ≡ x.failing.never.bounds
+  pub fail : y.failing.fail ≡ x.failing.fail
+  pub stop : y.failing.stop ≡ x.failing.stop
+  pub broken : y.failing.broken ≡ x.failing.broken
+  pub stops : y.failing.carried ≡ x.failing.carried
+
+pub record IsEndlessCut (a : ℕ) (xs : List Stretch) (old new : Sets) : Type 0 where
+  pub yes : new.yes ≡ old.yes
+  pub no : new.no ≡ old.no
+  pub parts : MatchOption old.parts (new.parts ≡ None) (λ x. MatchOption new.parts ⊥ (IsEndlessPart a xs x))
+
+pub record IsEndlessCutAt (i a : ℕ) (xs : List Stretch) (old new : List Sets) : Type 0 where
+  pub was : Sets
+  pub is : Sets
+  pub at_old : slice_get old i ≡ Some was
+  pub at_new : slice_get new i ≡ Some is
+  pub others : (j : ℕ) → j ≢ i → slice_get new j ≡ slice_get old j
+  pub count : length new ≡ length old
+  pub cut : IsEndlessCut a xs was is
+
+-- a since without a bound begins anew at that time: it lies behind the first that its operands show, and both are true then, or the left one false
+pub record IsDecisive (d : Rational) (own left right : Sets) : Type 0 where
+  pub after_left : After (place left.no.bounds.from) d
+  pub after_right : After (place right.no.bounds.from) d
+  pub first : (m : Rational) × Lies left.no.bounds m × (m <ʳ d)
+  pub decides : MatchOption own.parts (Unit {0}) (λ x. IsOn x.holding.both.spans.items d) ⊎ IsOn left.no.spans.items d
 
 -- the times of the sets between lie within their bounds
 abbrev pub IsGrownInside : Grown → Type 0

@@ -1,6 +1,6 @@
 -- The sets of a net: what each node goes on from, and what it shows the node above it; both only from the times on that are still needed.
 use Rattle.std.specs.Prelude.{◌≡◌, ◌⊎◌, ℕ, zero, suc, ◌-◌, ◌<◌, ◌≤◌, ◌≢◌, Bool, true, false, Option, Some, List, [], ◌∷◌, length, MatchOption, slice_get}
-use Rattle.rational.specs.Time.{Rational, later, ◌≤ʳ◌}
+use Rattle.rational.specs.Time.{Rational, Within, later, ◌≤ʳ◌}
 use Rattle.stl_syntax.specs.Trace.{Row, Trace, start}
 use Rattle.stl_syntax.specs.Formula.{subformula}
 use Rattle.stl_syntax.specs.Early.{OpenAhead, OpenBehind, Settled, SettledNot}
@@ -31,11 +31,21 @@ pub record ReachesAhead (from : Rational) (b : ℕ) (own : Stretch) (x : Parts) 
   pub both : (t u : Rational) → Lies own t → t ≤ʳ u → u ≤ʳ later t b → Lies x.holding.both.bounds u × Lies x.holding.run.bounds u
   pub fail : (t u : Rational) → Lies own t → t ≤ʳ u → u ≤ʳ later t b → Lies x.failing.fail.bounds u × Lies x.failing.stop.bounds u
 
-pub record ReachesBack (from : Rational) (b : Option ℕ) (own : Stretch) (x : Parts) : Type 0 where
+pub record ReachesBack (from : Rational) (b : Option ℕ) (p : ℕ) (shown : List Sets) (own : Stretch) (x : Parts) : Type 0 where
   pub some : (t : Rational) → Lies own t → Lies x.holding.some.bounds t × Lies x.holding.each.bounds t
   pub never : (t : Rational) → Lies own t → Lies x.failing.never.bounds t × Lies x.failing.broken.bounds t
-  pub both : (t u : Rational) → Lies own t → OpenBehind from 0 b true true t u → Lies x.holding.both.bounds u × Lies x.holding.run.bounds u
-  pub fail : (t u : Rational) → Lies own t → OpenBehind from 0 b true true t u → Lies x.failing.fail.bounds u × Lies x.failing.stop.bounds u
+  pub both : (t u : Rational) → Lies own t → OpenBehind from 0 b true true t u → IsShown shown p u
+      → Lies x.holding.both.bounds u × Lies x.holding.run.bounds u
+  pub fail : (t u : Rational) → Lies own t → OpenBehind from 0 b true true t u → IsShown shown p u
+      → Lies x.failing.fail.bounds u × Lies x.failing.stop.bounds u
+
+-- looking back from t since is shown each time of its window up to now; or each from some time of it on that decides it, at which both operands
+-- are true, or the left one is false
+abbrev pub LooksAlong : Rational → ℕ → ℕ → ℕ → Option ℕ → List Sets → Rational → Type 0
+LooksAlong from p q a b shown t =
+    ((u : Rational) → OpenBehind from 0 b true true t u → IsShown shown p u × IsShown shown q u)
+    ⊎ ((w : Rational) × OpenBehind from a b true true t w × ((v : Rational) → Within w t v → IsShown shown p v × IsShown shown q v)
+    × ((IsOn (lists_at shown p).yes w × IsOn (lists_at shown q).yes w) ⊎ IsOn (lists_at shown p).no w))
 
 -- looking back from its own times a node is shown each time of the window; or some that is in the list on that side, which decides it
 abbrev pub LooksBack : (Lists → List Stretch) → Rational → ℕ → Option ℕ → Bool → Bool → ℕ → List Sets → Stretch → Type 0
@@ -57,8 +67,7 @@ LooksAt (Until p q a b) from shown own parts =
 LooksAt (Eventually p a b a_in b_in) from shown own parts = (t u : Rational) → Lies own t → OpenAhead from a b a_in b_in t u → IsShown shown p u
 LooksAt (Always p a b a_in b_in) from shown own parts = (t u : Rational) → Lies own t → OpenAhead from a b a_in b_in t u → IsShown shown p u
 LooksAt (Since p q a b) from shown own parts =
-    ((t u : Rational) → Lies own t → OpenBehind from 0 b true true t u → IsShown shown p u × IsShown shown q u)
-    × MatchOption parts (Unit {0}) (ReachesBack from b own)
+    ((t : Rational) → Lies own t → LooksAlong from p q a b shown t) × MatchOption parts (Unit {0}) (ReachesBack from b p shown own)
 LooksAt (Once p a b a_in b_in) from shown own parts = LooksBack yes_of from a b a_in b_in p shown own
 LooksAt (Historically p a b a_in b_in) from shown own parts = LooksBack no_of from a b a_in b_in p shown own
 

@@ -1,5 +1,5 @@
 //! Sets let go of the times that no later answer needs.
-ghost use Rattle.std.specs.Prelude.{◌≡◌, ◌⊎◌, ◌<◌, ◌^◌, ℕ, IfNone, IfSome, List, MatchOption, Some, length, slice_get};
+ghost use Rattle.std.specs.Prelude.{◌≡◌, ◌⊎◌, ◌<◌, ◌^◌, ℕ, IfNone, IfSome, List, MatchOption, None, Some, length, slice_get};
 ghost use Rattle.rational.specs.Rational.{IsWithin};
 ghost use Rattle.rational.specs.Time.{Rational, later, ◌≤ʳ◌};
 ghost use Rattle.frac128.specs.Value.{value};
@@ -17,6 +17,7 @@ ghost use Rattle.early_verdict.specs.Letting.{IsHoldingInside, IsInside, IsRunCu
 ghost use Rattle.stl_syntax.specs.declared.node.Node.TheVariants.{Since, Until};
 ghost use Rattle.early_verdict.specs.declared.sets.Sets.{Sets as ASets};
 
+use crate::anew::{cut_endless_at, decisive};
 use crate::cut::Cut;
 use crate::grown::Grown;
 use crate::operators::ticks_before;
@@ -110,7 +111,7 @@ fn cut_after(cut: &Cut, ticks: u32) -> Cut
 }
 
 /// So many ticks before the cut.
-fn cut_before(cut: &Cut, ticks: u32) -> Cut
+pub(crate) fn cut_before(cut: &Cut, ticks: u32) -> Cut
     requires { IsWithin (2 ^ 34) (value cut.now.time) }
     ensures { later (value result.time) ticks ≤ʳ value cut.now.time }
 {
@@ -324,6 +325,37 @@ fn bounded_since(node: &Node) -> Option<Back>
     })
 }
 
+/// The operands of a since without a bound, and how far before it its window ends.
+#[derive(Clone, Copy)]
+struct Endless {
+    left: u32,
+    right: u32,
+    low: u32,
+}
+
+/// Those of a since without a bound; of no other node.
+fn endless_since(node: &Node) -> Option<Endless>
+    ensures { IfSome result (λ s. node.now ≡ Since s.left s.right s.low None) }
+{
+    let Node::Since {
+        left,
+        right,
+        low,
+        high,
+    } = node
+    else {
+        return None;
+    };
+    if high.is_some() {
+        return None;
+    }
+    Some(Endless {
+        left: *left,
+        right: *right,
+        low: *low,
+    })
+}
+
 /// The times that the node at the place shows.
 fn shown_at(shown: &[Sets], place: u32) -> Stretch
     requires { place < length shown.now }
@@ -349,6 +381,18 @@ fn let_go_at(live: &mut [Sets], shown: &mut [Sets], formula: &Formula, i: u32)
         ask_both(shown, back.left, back.right, &first);
         let wide = shown_at(shown, back.left);
         cut_run_at(live, at, wide, &first, &own.from);
+        return;
+    }
+    if let Some(anew) = endless_since(node) {
+        let left = &shown[anew.left as usize];
+        let right = &shown[anew.right as usize];
+        let Some(first) = decisive(&live[at], left, right, anew.low, &own.from) else {
+            return;
+        };
+        ask_both(shown, anew.left, anew.right, &first);
+        let wide = shown_at(shown, anew.left);
+        cut_run_at(live, at, wide, &first, &own.from);
+        cut_endless_at(live, at, &shown[anew.right as usize].yes.spans, anew.low);
         return;
     }
     ask_children(shown, node, &own.from);

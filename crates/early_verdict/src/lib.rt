@@ -5,6 +5,7 @@
 //! the last.
 #![tactic(auto)]
 
+mod anew;
 mod atoms;
 mod connectives;
 mod cut;

@@ -54,7 +54,7 @@ fn drop_before(spans: &mut VecDeque<Stretch>, cut: &Cut)
 }
 
 /// Lets go of the times before the cut.
-fn cut_front(spans: &mut VecDeque<Stretch>, cut: &Cut)
+pub(crate) fn cut_front(spans: &mut VecDeque<Stretch>, cut: &Cut)
     requires tidy { AreTidy spans.old.items }
     requires near { IsWithin (2 ^ 34) (value cut.now.time) }
     ensures tidy { AreTidy spans.new.items }

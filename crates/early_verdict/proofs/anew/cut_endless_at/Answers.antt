@@ -1,0 +1,19 @@
+use Rattle.early_verdict.proofs.LettingLemmas.{endless_cut_at}
+use Rattle.early_verdict.proofs.Splitting.{at_split}
+use Rattle.early_verdict.proofs.anew.cut_endless_at.Goals as goal
+
+pub cut_endless-requires-clause-tidy : goal.cut_endless-requires-clause-tidy
+cut_endless-requires-clause-tidy c =
+    let f = c.split_at_mut-from in
+    c.requires.tidy c.args.i _ (at_split c.args.live.now f.result.1.now c.args.i c.index-from-0.result f.ensures.back c.requires.within)
+
+pub cut_endless-requires-clause-inside : goal.cut_endless-requires-clause-inside
+cut_endless-requires-clause-inside c =
+    let f = c.split_at_mut-from in
+    c.requires.inside _ (at_split c.args.live.now f.result.1.now c.args.i c.index-from-0.result f.ensures.back c.requires.within)
+
+pub returns : goal.returns
+returns c =
+    let f = c.split_at_mut-from in
+    endless_cut_at c.args.live.now f.result.0.now f.result.1.now c.args.i c.index-from-0.result c.cut_endless.new.own c.args.low c.args.spans.now.items
+    f.ensures.front f.ensures.back c.requires.within c.cut_endless.ensures
