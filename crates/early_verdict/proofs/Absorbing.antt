@@ -86,7 +86,7 @@ on_first [] ys t h = absurd h
 on_first (x ∷ xs) ys t (inl h) = inl h
 on_first (x ∷ xs) ys t (inr h) = inr (on_first xs ys t h)
 
--- and so is one on the second
+-- a time on the second of two lists is on both together
 pub on_second : (xs ys : List Stretch) (t : Rational) → IsOn ys t → IsOn (xs ++ ys) t
 on_second [] ys t h = h
 on_second (x ∷ xs) ys t h = inr (on_second xs ys t h)

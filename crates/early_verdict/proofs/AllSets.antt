@@ -72,6 +72,7 @@ yes_there [] i u o = absurd o
 yes_there (x ∷ shown) zero u o = omega arith
 yes_there (x ∷ shown) (suc i) u o = let k = yes_there shown i u o in omega (arith, k)
 
+-- a node whose set of false times has a time is one of the nodes that are shown
 pub no_there : (shown : List Sets) (i : ℕ) (u : Rational) → IsOn (lists_at shown i).no u → i < length shown
 no_there [] i u o = absurd o
 no_there (x ∷ shown) zero u o = omega arith
@@ -173,7 +174,7 @@ module _ (nodes : List Node) (tr : Trace) (live shown : List Sets) (formed : Are
         (λ q. (lists_tidy shown shown_tidy q).1) (λ q. (lists_tidy shown shown_tidy q).0) n below (formed.bounds m (Const false) le) h.looks
         (fit m n s.0 at s.1)))
 
-    -- and at the end its truth
+    -- at the end the sets of all nodes tell the truth at each time that they show
     pub all_final : AllFit nodes true tr live shown → (m : ℕ) → m ≤ length nodes → (p : ℕ) → p < m
         → Final tr (IsShown shown p) (lists_at shown p) (subformula nodes p)
     all_final fit zero le p lt = absurd (omega (arith, lt))

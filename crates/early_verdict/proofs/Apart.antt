@@ -12,6 +12,7 @@ not_both_tests : (b : Bool) → IsTrue b → IsFalse b → ⊥
 not_both_tests true t f = cc
 not_both_tests false t f = cc
 
+-- no formula is settled true and settled false at one time
 pub never_both : (p : Subformula) (tr : Trace) (t : Rational) → Settled p tr t → SettledNot p tr t → ⊥
 never_both (constant b) tr t h k = not_both_tests b h k
 never_both (atom i a) tr t h k = not_both_tests (holds_at a tr t) h.1 k.1

@@ -50,7 +50,7 @@ module _ (nodes : List Node) (header : Header) (r : Row) (rows : List Row) (show
   final_root : Final ended (IsShown shown (length nodes - 1)) (lists_at shown (length shown - 1)) (root nodes)
   final_root = subst (λ (l : Lists). Final ended (IsShown shown (length nodes - 1)) l (root nodes)) (sym (root_place nodes shown count)) final
 
-  -- and at the end the truth at the start
+  -- what is answered at the end is the truth at the start
   pub truth_of : (holds : Bool) → IsVerdict shown r.time (Some holds) → IsTruthAtStart (root nodes) ended holds
   truth_of true v = final_root.yes (start ended) v rise
   truth_of false v = final_root.no (start ended) v rise

@@ -43,7 +43,7 @@ happens_first e n s b u f o header x is = record {
   is_first = (f, o);
 }
 
--- this with a later one
+-- this is what comes with a later row
 pub happens_next : (e : Event) (start last n : ℕ) → Same (place e.start) (before_of start) → Same (place e.before) (after_of last)
     → Same (place e.sure) (after_of n)
     → e.first ≡ false → (header : Header) (r : Row) (rows : List Row) (x : Row) → start ≡ r.time → last ≡ (last_after r rows).time → n ≡ x.time
@@ -55,7 +55,7 @@ happens_next e start last n s b u f header r rows x is_start is_last is_now = re
   is_first = f;
 }
 
--- and this with the end
+-- this is what comes with the end
 pub happens_end : (e : Event) (start last : ℕ) → Same (place e.start) (before_of start) → Same (place e.before) (after_of last)
     → Same (place e.sure) (after_of last)
     → e.first ≡ false → (header : Header) (r : Row) (rows : List Row) → start ≡ r.time → last ≡ (last_after r rows).time

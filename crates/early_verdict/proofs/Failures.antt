@@ -122,7 +122,7 @@ module _ (x y z : List Stretch) (tidy_x : AreTidy x) (tidy_z : AreTidy z) where
           | inr none ↦ absurd (none_before s.0 s.1 s.2 (λ w i f b. none w i b f) after v k a o)
         ]
 
-    -- and so behind it
+    -- behind a time too all of the window fails, or the way to it is broken
     pub all_or_broken_back : AllOrBrokenBack c t e
     all_or_broken_back = elim (covers c (past_time e) x tidy_x) [
       | inl all ↦ inl all

@@ -45,7 +45,7 @@ pub none_if : {A : Type 0} (o : Option A) → is_some o ≡ false → o ≡ None
 none_if None e = refl
 none_if (Some x) e = absurd (let f : true ≡ false = e in cc)
 
--- and one that does has an item
+-- an option that comes out as some has an item
 pub some_if : {A : Type 0} (o : Option A) → is_some o ≡ true → (x : A) × (o ≡ Some x)
 some_if None e = absurd (let f : false ≡ true = e in cc)
 some_if (Some x) e = (x, refl)
@@ -115,7 +115,7 @@ pub shown_tidy : (nodes : List Node) (header : Header) (begin : ℕ) (live shown
     → AllTidy shown
 shown_tidy nodes header begin live shown rows x s = (net_of nodes header begin live shown rows x s).1.shown_tidy
 
--- and the root shows something
+-- after a row the root shows something
 pub some_shown : (nodes : List Node) (header : Header) (begin : ℕ) (live shown : List Sets) (rows : List Row) (x : Row)
     → SetsAre nodes header begin live shown (rows ++ x ∷ [])
     → 0 < length nodes → 0 < length shown

@@ -24,7 +24,7 @@ module _ (nodes : List Node) (from : Rational) (old new old_shown new_shown : Li
       let w = sets_at old i (omega (arith, l, c)) in
       (w.0, w.1, h.stepped i w.0 s (omega (arith, l, c, d)) w.1 is)
 
-  -- and what it shows is of what it has and what it showed
+  -- what a node shows now is of what it has and of what it showed before
   pub showed_at : (i : ℕ) (x : Sets) → slice_get new_shown i ≡ Some x
       → (s : Sets) × (slice_get new i ≡ Some s) × (w : Sets) × (slice_get old_shown i ≡ Some w) × HasShown w x s
   showed_at i x is =

@@ -100,7 +100,7 @@ less_then a b c f g = record {
   no_out = λ t o. f.no_out t (g.no_out t o);
 }
 
--- and so are all
+-- all sets hold no more than themselves
 pub none_less : (xs : List Sets) → AreLess xs xs
 none_less xs = record { count = refl; each = λ p x e. (x, e, same_less x) }
 
@@ -168,7 +168,7 @@ module _ (p : ℕ) (from : Rational) (old new : List Sets) (h : IsAskedFrom p fr
   pub tidy_asked : AllTidy old → AllTidy new
   tidy_asked t q x e = let w = one_less.each q x e in w.2.tidy (t q w.0 w.1)
 
-  -- and lies within the bounds
+  -- what is asked for lies within the bounds
   pub inside_asked : AreInside old → AreInside new
   inside_asked t q x e = let w = one_less.each q x e in w.2.inside (t q w.0 w.1)
 
@@ -230,7 +230,7 @@ module _ (p q : ℕ) (from : Rational) (old mid new : List Sets) (h : IsAskedFro
   pub two_less : AreLess old new
   two_less = both_less old mid new (one_less p from old mid h) (one_less q from mid new g)
 
-  -- the other nodes stay
+  -- the nodes beside the two that were asked stay
   pub two_others : (r : ℕ) → ¬ ((p ≡ r) ⊎ (q ≡ r)) → slice_get new r ≡ slice_get old r
   two_others r c = g.others r (λ e. c (inr (sym e))) ∙ h.others r (λ e. c (inl (sym e)))
 
@@ -248,7 +248,7 @@ module _ (p q : ℕ) (from : Rational) (old mid new : List Sets) (h : IsAskedFro
     looks = λ s own parts e f l t o. let k = l t o in (both_shown p t (f t o) k.0, both_shown q t (f t o) k.1);
   }
 
-  -- and so an `or`
+  -- the operands of an `or` are asked for what the node is asked for
   pub asked_or : AreAskedBy (Or p q) from old new
   asked_or = record {
     less = two_less;
@@ -258,7 +258,7 @@ module _ (p q : ℕ) (from : Rational) (old mid new : List Sets) (h : IsAskedFro
     looks = λ s own parts e f l t o. let k = l t o in (both_shown p t (f t o) k.0, both_shown q t (f t o) k.1);
   }
 
-  -- and an implication
+  -- the operands of an implication are asked for what the node is asked for
   pub asked_implies : AreAskedBy (Implies p q) from old new
   asked_implies = record {
     less = two_less;
@@ -316,7 +316,7 @@ module _ (p : ℕ) (from first : Rational) (old new : List Sets) (h : IsAskedFro
       looks = λ s own parts k f l t u o w. still_shown p first old new h p u (λ d. seen_ahead s t u (f t o) w) (l t u o w);
     }
 
-    -- and so an `always`
+    -- the operand of an `always` is asked for what its windows look at
     pub asked_always : AreAskedBy (Always p a b a_in b_in) from old new
     asked_always = record {
       less = one_less p first old new h;
@@ -348,7 +348,7 @@ module _ (p : ℕ) (from first : Rational) (old new : List Sets) (h : IsAskedFro
       ];
     }
 
-    -- and so a `historically`
+    -- the operand of a `historically` is asked for what its windows look at
     pub asked_historically : AreAskedBy (Historically p a (Some b) a_in b_in) from old new
     asked_historically = record {
       less = one_less p first old new h;
@@ -462,6 +462,7 @@ module _ (p low : ℕ) (at : Rational) (old new : List Sets) (apart : AreApart o
       (subst (λ n. record { yes = was.yes; no = n; parts = is.parts } ≡ was) (sym g)
       (subst (λ x. record { yes = was.yes; no = was.no; parts = x } ≡ was) (sym e) refl))
 
+  -- `once` without a bound asks its operand for the stretch around the first time at which it was true
   pub asked_once_first : (a_in b_in : Bool) → IsAskedFirst p true low at old new → AreAskedBy (Once p low None a_in b_in) at old new
   asked_once_first a_in b_in h = by_shows h.shows
     where
@@ -490,6 +491,7 @@ module _ (p low : ℕ) (at : Rational) (old new : List Sets) (apart : AreApart o
                 early.0 early.1 early.2 a_in b_in s begun t (g t o));
           }
 
+  -- `historically` without a bound asks its operand for the stretch around the first time at which it was false
   pub asked_historically_first : (a_in b_in : Bool) → IsAskedFirst p false low at old new → AreAskedBy (Historically p low None a_in b_in) at old new
   asked_historically_first a_in b_in h = by_shows h.shows
     where
@@ -525,7 +527,7 @@ module _ (p low : ℕ) (at : Rational) (old new : List Sets) (apart : AreApart o
   asked_once_by None i j h = asked_once_first i j h
   asked_once_by (Some b) i j (first, e, h) = asked_once p at first old new h low b i j e
 
-  -- without a bound a `historically` asks for all times
+  -- a `historically` asks for the stretch around the first false time, or for the times that its window looks back to
   pub asked_historically_by : (b : Option ℕ) (a_in b_in : Bool)
       → MatchOption b (IsAskedFirst p false low at old new) (λ k. (first : Rational) × (later first k ≤ʳ at) × IsAskedFrom p first old new)
       → AreAskedBy (Historically p low b a_in b_in) at old new
@@ -615,6 +617,7 @@ first_at sets front back i d own holds low at e f h k s = record {
   shows = s;
 }
 
+-- an operand whose true times show the first one alone is asked as its node needs it
 pub first_yes_at : (sets front back : List Sets) (i : ℕ) (d own : Sets) (holds : Bool) (low : ℕ) (at : Rational) → holds ≡ true → front ≡ take i sets
     → back ≡ drop i sets → i < length sets → own.parts ≡ (slice_index_or back 0 d).parts
     → IsFirstShown low at (slice_index_or back 0 d).yes (slice_index_or back 0 d).no own.yes own.no
@@ -622,6 +625,7 @@ pub first_yes_at : (sets front back : List Sets) (i : ℕ) (d own : Sets) (holds
 first_yes_at sets front back i d own holds low at is e f h k s =
     subst (λ b. IsAskedFirst i b low at sets (front ++ slice_set back 0 own)) (sym is) (first_at sets front back i d own true low at e f h k s)
 
+-- an operand whose false times show the first one alone is asked as its node needs it
 pub first_no_at : (sets front back : List Sets) (i : ℕ) (d own : Sets) (holds : Bool) (low : ℕ) (at : Rational) → holds ≡ false → front ≡ take i sets
     → back ≡ drop i sets → i < length sets → own.parts ≡ (slice_index_or back 0 d).parts
     → IsFirstShown low at (slice_index_or back 0 d).no (slice_index_or back 0 d).yes own.no own.yes

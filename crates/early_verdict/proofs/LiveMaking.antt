@@ -186,7 +186,7 @@ module _ (nodes : List Node) (from : Rational) (live shown : List Sets) (made : 
   pub shown_empty : AllEmpty shown
   shown_empty i x f = let s = of_live i x f in (are.has i s.0 x s.1 f).2
 
-  -- which is tidy
+  -- what is shown at first is tidy
   pub shown_tidy : AllTidy shown
   shown_tidy i x f = sets_tidy x (shown_empty i x f)
 

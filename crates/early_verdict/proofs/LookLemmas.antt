@@ -36,7 +36,7 @@ pub told_yes : (old : Option Trace) (s : Sets) (P N : Trace → Rational → Typ
 told_yes None s P N w = w.yes
 told_yes (Some o) s P N w = w.yes
 
--- and the false ones
+-- sets that said both said the false times
 pub told_no : (old : Option Trace) (s : Sets) (P N : Trace → Rational → Type 0) → Was old (λ o x. SayBoth x (P o) (N o)) s → Told old s.no N
 told_no None s P N w = w.no
 told_no (Some o) s P N w = w.no
@@ -87,7 +87,7 @@ module _ (w : Window) (a b : ℕ) (a_in b_in : Bool) (is : IsAhead w a b a_in b_
     pub sure_says : (bounds : Stretch) (own : List Stretch) → Tells bounds own (SeesSure w sure xs) → Tells bounds own (SomeAhead tr a b a_in b_in (IsOn xs))
     sure_says bounds own = tells_alike bounds own (SeesSure w sure xs) (SomeAhead tr a b a_in b_in (IsOn xs)) (λ t l. sure_out t) (λ t l. sure_into t)
 
-    -- and the other way round
+    -- what tells of some time ahead tells of a window that sees a sure time
     pub sure_said : (bounds : Stretch) (own : List Stretch) → Tells bounds own (SomeAhead tr a b a_in b_in (IsOn xs)) → Tells bounds own (SeesSure w sure xs)
     sure_said bounds own = tells_alike bounds own (SomeAhead tr a b a_in b_in (IsOn xs)) (SeesSure w sure xs) (λ t l. sure_into t) (λ t l. sure_out t)
 
@@ -103,7 +103,7 @@ module _ (w : Window) (a b : ℕ) (a_in b_in : Bool) (is : IsAhead w a b a_in b_
         → Tells bounds own (SeesOnly w st xs)
     only_said bounds own = tells_alike bounds own (OnlyAhead false tr a b a_in b_in (IsOn xs)) (SeesOnly w st xs) (λ t l. only_into t) (λ t l. only_out t)
 
-    -- and the other way round, up to the sure times
+    -- what tells of a window that sees only such times, up to the sure ones, tells of all times ahead
     pub only_says : (ended : Bool) (sure : Place) → Same sure (sure_place tr) → (bounds : Stretch) (own : List Stretch)
         → Tells bounds own (SeesOnlyTo ended w st sure xs) → Tells bounds own (OnlyAhead ended tr a b a_in b_in (IsOn xs))
     only_says false sure to bounds own =
@@ -131,7 +131,7 @@ module _ (w : Window) (a : ℕ) (b : Option ℕ) (a_in b_in : Bool) (is : IsBehi
     pub one_says : (bounds : Stretch) (own : List Stretch) → Tells bounds own (SeesOne w xs) → Tells bounds own (SomeBehind tr a b a_in b_in (IsOn xs))
     one_says bounds own = tells_alike bounds own (SeesOne w xs) (SomeBehind tr a b a_in b_in (IsOn xs)) (λ t l. one_out t) (λ t l. one_into t)
 
-    -- and the other way round
+    -- what tells of some time behind tells of a window that sees a time
     pub one_said : (bounds : Stretch) (own : List Stretch) → Tells bounds own (SomeBehind tr a b a_in b_in (IsOn xs)) → Tells bounds own (SeesOne w xs)
     one_said bounds own = tells_alike bounds own (SomeBehind tr a b a_in b_in (IsOn xs)) (SeesOne w xs) (λ t l. one_into t) (λ t l. one_out t)
 
@@ -142,7 +142,7 @@ module _ (w : Window) (a : ℕ) (b : Option ℕ) (a_in b_in : Bool) (is : IsBehi
         (λ t l f u o. f u (after_same (start_place tr) st u (same_places begins) o.after) (sees_back t u o))
         (λ t l f u k s. f u (opens_back t u (after_same st (start_place tr) u begins k) s))
 
-    -- and the other way round
+    -- what tells of all times behind tells of a window that sees only such times
     pub back_said : (bounds : Stretch) (own : List Stretch) → Tells bounds own (OnlyBehind tr a b a_in b_in (IsOn xs)) → Tells bounds own (SeesOnly w st xs)
     back_said bounds own = tells_alike bounds own (OnlyBehind tr a b a_in b_in (IsOn xs)) (SeesOnly w st xs)
         (λ t l f u k s. f u (opens_back t u (after_same st (start_place tr) u begins k) s))
@@ -166,7 +166,7 @@ module _ (e : Event) (tr : Trace) (x : Grown) (l : List Stretch) where
   was_sure (Some o) w a b a_in b_in is h none from told =
       sure_said w a b a_in b_in is o (place e.before) h.sure_before.1 l (from_was o h.sure_before.0 from) x.bounds x.spans.items told
 
-  -- what was said of some time behind was said of it
+  -- what was said of some time behind was said of the window
   pub was_one : (old : Option Trace) (w : Window) (a : ℕ) (b : Option ℕ) (a_in b_in : Bool) → IsBehind w a b a_in b_in → Happens e old tr → WasList old l
       → ((u : Rational) → IsOn l u → start tr ≤ʳ u) → Told old x (λ o. SomeBehind o a b a_in b_in (IsOn l))
       → Tells x.bounds x.spans.items (SeesOne w l)
@@ -174,14 +174,14 @@ module _ (e : Event) (tr : Trace) (x : Grown) (l : List Stretch) where
   was_one (Some o) w a b a_in b_in is h none from told =
       one_said w a b a_in b_in is o l (from_was o h.sure_before.0 from) x.bounds x.spans.items told
 
-  -- what was said of all times ahead was said of it
+  -- what was said of all times ahead was said of the window
   pub was_only : (old : Option Trace) (w : Window) (a b : ℕ) (a_in b_in : Bool) → IsAhead w a b a_in b_in → Happens e old tr
       → Told old x (λ o. OnlyAhead false o a b a_in b_in (IsOn l)) → WasTold old x (SeesOnly w (place e.start) l)
   was_only None w a b a_in b_in is h told = told
   was_only (Some o) w a b a_in b_in is h told =
       only_said w a b a_in b_in is o (place e.start) (start_was o h.sure_before.0 h.starts) l x.bounds x.spans.items told
 
-  -- and so of all times behind
+  -- what was said of all times behind was said of the window
   pub was_back : (old : Option Trace) (w : Window) (a : ℕ) (b : Option ℕ) (a_in b_in : Bool) → IsBehind w a b a_in b_in → Happens e old tr
       → Told old x (λ o. OnlyBehind o a b a_in b_in (IsOn l)) → WasTold old x (SeesOnly w (place e.start) l)
   was_back None w a b a_in b_in is h told = told

@@ -72,7 +72,7 @@ sets_tidy s e = record { yes = tidy_of s.yes e.yes; no = tidy_of s.no e.no; part
 pub some_sets : (a b : Sets) → Some a ≡ Some b → a ≡ b
 some_sets a b e = cc
 
--- and one node
+-- an option has one node
 pub some_node : (a b : Node) → Some a ≡ Some b → a ≡ b
 some_node a b e = cc
 
@@ -199,7 +199,7 @@ last_or_before zero (suc n) h = inl (omega arith)
 last_or_before (suc j) zero h = absurd (omega arith)
 last_or_before (suc j) (suc n) h = elim (last_or_before j n (omega arith)) [ inl l ↦ inl (omega arith) | inr e ↦ inr (ap suc e) ]
 
--- and those of one more
+-- the sets that are made for the nodes so far, with those of one more, are made for one node more
 pub one_more : (nodes : List Node) (from : Rational) (tops : List ℕ) (sets : List Sets) (more : Sets)
     → ((j : ℕ) (n : Node) (s : Sets) → slice_get nodes j ≡ Some n → slice_get sets j ≡ Some s → IsMade from (top_at tops j) n (take j sets) s)
     → ((n : Node) → slice_get nodes (length sets) ≡ Some n → IsMade from (top_at tops (length sets)) n sets more)

@@ -306,6 +306,7 @@ lists_as xs ys p u e =
 
 -- what nodes show is from the start on, and the lists of what they show have no time in common
 module _ (nodes : List Node) (tr : Trace) (live shown : List Sets) (st : NetStands nodes tr live shown) where
+  -- a time that a node shows does not lie before the start
   pub shown_begun : (p : ℕ) (u : Rational) → IsShown shown p u → start tr ≤ʳ u
   shown_begun p u h =
       let l = shown_within shown p u h in
@@ -316,6 +317,7 @@ module _ (nodes : List Node) (tr : Trace) (live shown : List Sets) (st : NetStan
       let x = sets_at shown p l in
       (st.have.has p n.0 s.0 x.0 n.1 s.1 x.1).shown_starts u (shown_is shown p x.0 u x.1 h)
 
+  -- no node has a time among its true times and among its false ones
   pub lists_apart : (p : ℕ) (u : Rational) → IsOn (lists_at shown p).yes u → ¬ (IsOn (lists_at shown p).no u)
   lists_apart p u y n =
       let l = yes_there shown p u y in
@@ -323,6 +325,7 @@ module _ (nodes : List Node) (tr : Trace) (live shown : List Sets) (st : NetStan
       let k = st.known p (omega (arith, l, d)) in
       never_both (subformula nodes p) tr u (k.yes_out u y) (k.no_out u n)
 
+  -- the true times and the false times of all nodes that are shown lie apart
   pub are_apart : AreApart shown
   are_apart p x is t y n =
       lists_apart p t (subst (λ (l : Lists). IsOn l.yes t) (sym (lists_are shown p x is)) y)
@@ -485,7 +488,7 @@ module _ (nodes : List Node) (formed : AreWellFormed nodes) (tr : Trace) (live o
         (asked.looks (start tr) k.own s.parts (shown_begun nodes tr live old st) (begun k.own k.no) k.looks) (st.fit i n s at is)
   ]
 
-  -- and where one shows fewer times that are asked for
+  -- the network stands where one node shows fewer times that are asked for
   pub asked_stands : NetStands nodes tr live new
   asked_stands = one_stands nodes formed tr live live old new i n at s s is is (λ j d. refl) refl asked.less asked.others st mine fits (st.tidy i s is)
 
@@ -503,7 +506,7 @@ module _ (nodes : List Node) (tr : Trace) (live shown : List Sets) (st : NetStan
       let w = fits_within n.0 false tr (lists_at shown) s (st.fit p n.0 s n.1 is) in
       record { yes = λ t o. subst (λ z. Lies z t) (k.yes ∙ sym k.no) (w.yes_within t o); no = w.no_within }
 
-  -- and so does what they show
+  -- what all nodes show lies within their bounds
   pub shown_inside : AreInside shown
   shown_inside p x ix =
       let l = get_within shown p x ix in

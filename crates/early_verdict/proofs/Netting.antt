@@ -109,7 +109,7 @@ shown_on i mid live old xs new same h at = record {
         let p = same_sets at.own s (sym at.at_live ∙ o) in
         subst (λ z. HasShown x r z) p (subst (λ z. HasShown z r at.own) c (subst (λ z. HasShown at.was z at.own) d at.shown))
 
--- which is tidy
+-- what nodes show stays tidy with one node more
 pub shown_tidy_on : (i : ℕ) (live mid new : List Sets) → AllTidy mid → ShowsAt i live mid new → AllTidy new
 shown_tidy_on i live mid new h at j s e = by_place (nat_is j i)
   where

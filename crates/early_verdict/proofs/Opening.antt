@@ -81,7 +81,7 @@ module _ (f : Formula) (b : Binding) (header : Header) (r : Row) (rows : List Ro
       truth_of f.nodes header r rows new_shown (on.shows.count ∙ stand.have.shown_count) k.0 k.1 (rise_of header r rows o.so_far) holds
       (subst (λ k. IsVerdict new_shown k (Some holds)) o.sets_are.0 v)
 
-  -- and there is an answer
+  -- at the end there is an answer
   pub end_some : IsVerdict new_shown begin None → ⊥
   end_some v =
       let k = end_final b f header r rows last e live shown new new_shown o.formed o.some o.bound o.so_far ended happens stand

@@ -48,13 +48,13 @@ module _ (s : Sets) (x : Parts) (is : s.parts ≡ Some x) where
     until_holding_was None w = (parts_empty w).holding
     until_holding_was (Some o) w = (until_of o w).0
 
-    -- and what said that it fails
+    -- what said that an until fails said it before
     pub until_failing_was : (old : Option Trace) → Was old (λ o. UntilFits false o a b p q) s
         → MatchOption old (IsFailingEmpty x.failing) (λ o. UntilFailing false o a b p q x.failing)
     until_failing_was None w = (parts_empty w).failing
     until_failing_was (Some o) w = (until_of o w).1
 
-    -- and its own sets
+    -- an until's own sets said so before
     pub until_own_was : (old : Option Trace) → Was old (λ o. UntilFits false o a b p q) s → OwnWere s x
     until_own_was None w = own_empty s x w (parts_empty w)
     until_own_was (Some o) w = own_said s x ((until_of o w).2)
@@ -69,13 +69,13 @@ module _ (s : Sets) (x : Parts) (is : s.parts ≡ Some x) where
     since_holding_was None w = (parts_empty w).holding
     since_holding_was (Some o) w = (since_of o w).0
 
-    -- and what said that it fails
+    -- what said that a since fails said it before
     pub since_failing_was : (old : Option Trace) → Was old (λ o. SinceFits o a b p q) s
         → MatchOption old (IsFailingEmpty x.failing) (λ o. SinceFailing o a b p q x.failing)
     since_failing_was None w = (parts_empty w).failing
     since_failing_was (Some o) w = (since_of o w).1
 
-    -- and its own sets
+    -- a since's own sets said so before
     pub since_own_was : (old : Option Trace) → Was old (λ o. SinceFits o a b p q) s → OwnWere s x
     since_own_was None w = own_empty s x w (parts_empty w)
     since_own_was (Some o) w = own_said s x ((since_of o w).2)

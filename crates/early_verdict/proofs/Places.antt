@@ -36,7 +36,7 @@ put_there (x ∷ xs) zero (suc j) s n = refl
 put_there (x ∷ xs) (suc i) zero s n = refl
 put_there (x ∷ xs) (suc i) (suc j) s n = put_there xs i j s (λ e. n (ap suc e))
 
--- and there are as many
+-- once one node's sets are put there are as many as before
 pub put_count : (xs : List Sets) (i : ℕ) (s : Sets) → length (put xs i s) ≡ length xs
 unfolding put
 put_count [] i s = refl

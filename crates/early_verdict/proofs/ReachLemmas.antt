@@ -63,7 +63,7 @@ module _ (before sure : Place) (s part p : Stretch) (is : (t : Rational) → Lie
       begun : (v : Rational) → After (place part.from) v → After (place p.from) v
       begun v a = after_from (place p.from) (place part.from) v (at_most_of_not_before (place p.from) (place part.from) h.0) a
 
-  -- and the other way round
+  -- a run that has a new time, and all new ones before it, comes to the part
   pub from_newly : (w : Rational) → IsNew before sure s w → Lies p w → ((v : Rational) → IsNew before sure s v → v ≤ʳ w → Lies p v)
       → HoldsFrom p (place part.from)
   from_newly w n l all = (
@@ -84,7 +84,7 @@ module _ (xs : List Stretch) (c : Place) (carried : Bool) (tidy : AreTidy xs) wh
     all = λ v b l. on_one xs p v m (after_from (place p.from) c v (at_most_of_not_before (place p.from) c h.0) b, upto_le (place p.to) v t l u);
   }
 
-  -- and to no time behind it
+  -- a run that is carried comes to no time behind a stretch that holds from the place
   pub carried_within : (p : Stretch) → IsAmong p xs → HoldsFrom p c → (t : Rational) → IsCarried carried c xs t → Upto (place p.to) t
   carried_within p m h t k = elim (sides (place p.to) t) [ inl u ↦ u | inr a ↦ absurd (gap a) ]
     where

@@ -21,7 +21,7 @@ pub last_pushed : (t : ℕ) (rows : List Row) (x : Row) → last_time t (rows ++
 last_pushed t [] x = refl
 last_pushed t (s ∷ rows) x = last_pushed s.time rows x
 
--- and so is the last row
+-- the last of rows with one more is that one
 pub last_row_pushed : (r : Row) (rows : List Row) (x : Row) → last_after r (rows ++ x ∷ []) ≡ x
 last_row_pushed r [] x = refl
 last_row_pushed r (s ∷ rows) x = last_row_pushed s rows x

@@ -148,13 +148,13 @@ decided_both P Q (inl p) (inl q) = inl (p, q)
 decided_both P Q (inr n) q = inr (λ h. n h.0)
 decided_both P Q (inl p) (inr n) = inr (λ h. n h.1)
 
--- and so is either of them
+-- where two things are decided it is decided whether one of them is so
 pub decided_either : (P Q : Type 0) → P ⊎ ¬ P → Q ⊎ ¬ Q → (P ⊎ Q) ⊎ ¬ (P ⊎ Q)
 decided_either P Q (inl p) q = inl (inl p)
 decided_either P Q (inr n) (inl q) = inl (inr q)
 decided_either P Q (inr n) (inr m) = inr (λ h. elim h [ inl p ↦ n p | inr q ↦ m q ])
 
--- and its contrary
+-- where a thing is decided its contrary is
 pub decided_not : (P : Type 0) → P ⊎ ¬ P → (¬ P) ⊎ ¬ (¬ P)
 decided_not P (inl p) = inr (λ n. n p)
 decided_not P (inr n) = inl n

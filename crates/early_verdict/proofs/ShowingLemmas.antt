@@ -63,7 +63,7 @@ pub ends_after : (c : Place) (xs : List Stretch) (s : Stretch) → slice_get xs 
 ends_after c [] s e h = tt
 ends_after c (x ∷ xs) s e h = subst (λ r. Before c (place r.to)) (sym (some_same x s e)) h
 
--- and so does an empty list
+-- an empty list ends behind each place
 pub ends_none : (c : Place) (xs : List Stretch) → xs ≡ [] → EndsAfter c xs
 ends_none c xs e = subst (λ l. EndsAfter c l) (sym e) tt
 

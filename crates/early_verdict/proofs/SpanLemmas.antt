@@ -147,7 +147,7 @@ on_with_old [] (suc at) j t h = absurd h
 on_with_old (x ∷ xs) (suc at) j t (inl h) = inl h
 on_with_old (x ∷ xs) (suc at) j t (inr h) = inr (on_with_old xs at j t h)
 
--- and a time on that is on the list or in the one
+-- a time on a list with one stretch more is on the list or in that stretch
 pub on_with : (xs : List Stretch) (at : ℕ) (j : Stretch) (t : Rational) → IsOn (with_one xs at j) t → IsOn xs t ⊎ Lies j t
 on_with xs zero j t (inl h) = inr h
 on_with xs zero j t (inr h) = inl h

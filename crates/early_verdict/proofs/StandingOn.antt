@@ -118,7 +118,7 @@ module _ (x : Kept) (rows : List Row) (st : Stands x rows false) (none : x.decid
     by = stands_by;
   }
 
-  -- and answers what the row decides
+  -- what is answered at a row is what the row decides
   pub fed_answer : IsAnswer (root x.nodes) x.header rows r (decided_now r.time verdict)
   fed_answer = by_verdict verdict v
     where
@@ -162,7 +162,7 @@ module _ (x : Kept) (rows : List Row) (st : Stands x rows false) (d : Decided) (
         (WasDecided (root x.nodes) x.header (rows ++ r ∷ []))) (sym is) (still_decided (root x.nodes) x.header rows d r was);
   }
 
-  -- and no later row is the first that decides
+  -- once a row has decided no later row is the first that decides
   pub passed_answer : (r : Row) (b : Bool) → FirstDecides (root x.nodes) x.header rows r b → ⊥
   passed_answer r b f = not_again (root x.nodes) x.header rows d r b was f
 

@@ -85,13 +85,13 @@ ends_at w t r = ends_by_it w t (room_in (pos 0) w.high true w.high_in t r)
 pub begins_at : (w : Window) (k : ℤ) (t : Rational) → (k <ℤ pos 0) ⊎ ((k ≡ pos 0) × IsTrue w.low_in × IsTrue true) → After (low_place k w.low_in t) t
 begins_at w k t r = begins_by_it w k t (room_in k (pos 0) w.low_in true t r)
 
--- and the other way round
+-- where a time does not lie behind its window's end the upper bound is above 0, or 0 with its end in
 pub ended_at : (w : Window) (t : Rational) → Upto (high_place w.high w.high_in t) t → (pos 0 <ℤ w.high) ⊎ ((pos 0 ≡ w.high) × IsTrue true × IsTrue w.high_in)
 ended_at w t h =
     room_out (pos 0) w.high true w.high_in t
     (before_through (low_place (pos 0) true t) (high_place w.high w.high_in t) t (le_of_same (add_zero t)) h)
 
--- and the other way round
+-- where a time lies behind its window's begin the lower bound is below 0, or 0 with its end in
 pub begun_at : (w : Window) (k : ℤ) (t : Rational) → After (low_place k w.low_in t) t → (k <ℤ pos 0) ⊎ ((k ≡ pos 0) × IsTrue w.low_in × IsTrue true)
 begun_at w k t h =
     room_out k (pos 0) w.low_in true t (before_through (low_place k w.low_in t) (high_place (pos 0) true t) t h (ge_of_same (add_zero t)))

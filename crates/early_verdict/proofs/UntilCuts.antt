@@ -45,7 +45,7 @@ module _ (from : Rational) (tr : Trace) (a b : ℕ) (p q p' q' : Lists) (ap' : A
     pub some_in : (u : Rational) → from ≤ʳ u → IsOn x.some.spans.items u → IsOn y.some.spans.items u
     some_in = kept_in from x.some y.some k.some (λ t o. (h.some.only t o).0)
 
-    -- and those all of whose way is of the run
+    -- times all of whose way is of the run stay so within what is kept
     pub each_in : (u : Rational) → from ≤ʳ u → IsOn x.each.spans.items u → IsOn y.each.spans.items u
     each_in = kept_in from x.each y.each k.each (λ t o. (h.each.only t o).0)
 
@@ -104,7 +104,7 @@ module _ (from : Rational) (tr : Trace) (a b : ℕ) (p q p' q' : Lists) (ap' : A
     pub never_in : (u : Rational) → from ≤ʳ u → IsOn x.never.spans.items u → IsOn y.never.spans.items u
     never_in = kept_in from x.never y.never k.never (λ t o. (h.never.only t o).0)
 
-    -- and those whose way is broken
+    -- times whose way is broken stay so within what is kept
     pub broken_in : (u : Rational) → from ≤ʳ u → IsOn x.broken.spans.items u → IsOn y.broken.spans.items u
     broken_in = kept_in from x.broken y.broken k.broken (λ t o. (h.broken.only t o).0)
 

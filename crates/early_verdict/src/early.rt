@@ -128,6 +128,7 @@ impl Early {
         ensures header { result.header ≡ header }
         ensures bound { result.bound ≡ bound }
     {
+        // For the proof alone: that the formula is well formed is a clause of `len`.
         let _ = formula.len();
         Early {
             alloc,

@@ -212,7 +212,7 @@ module _ (nodes : List Node) (tr : Trace) where
     -- and no more than the limit
     pub few : count ≤ most_cells
 
-  -- at first there is no node and no cell
+  -- before the first node there are no cells
   pub cuts_begin : (done : List (Vec Frac Global)) → done ≡ [] → AreCutsTo 0 done 0
   cuts_begin done e = record {
     cuts = subst (AreCutsFrom nodes tr (length nodes - 0)) (sym e)

@@ -38,7 +38,7 @@ pub among_right : (xs ys : List Rational) (t : Rational) → IsAmong ys t → Is
 among_right [] ys t m = m
 among_right (x ∷ xs) ys t m = inr (among_right xs ys t m)
 
--- another way to write a time is among them too
+-- a time is among others however it is written
 pub among_alike : (xs : List Rational) (t u : Rational) → t ≈ u → IsAmong xs u → IsAmong xs t
 among_alike [] t u e m = m
 among_alike (x ∷ xs) t u e (inl f) = inl (same_trans e f)

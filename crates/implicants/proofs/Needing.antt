@@ -76,6 +76,7 @@ touches_between x i k n on at next h (t, inside, above, below) = (
   },
 )
 
+-- where one time precedes another it is earlier, or both are one time that is in
 pub not_empty_of : (a b : Bool) (x y : Rational) → Precedes (a && b) x y → (x <ʳ y) ⊎ ((x ≈ y) × IsTrue a × IsTrue b)
 not_empty_of true true x y h = elim (le_or_lt y x) [ inl k ↦ inr (same_of_le h k, refl, refl) | inr k ↦ inl k ]
 not_empty_of true false x y h = inl h

@@ -274,6 +274,7 @@ module _ (nodes : List Node) (tr : Trace) (items : List Item) where
 
   -- marks that are put anew before the cells that are judged
   module _ (n : ℕ) (kept new : List Bool) (more : MarksNeeded nodes tr items n kept new) where
+    -- the cells that are kept so far are kept of the new marks too
     pub kept_anew : (marks : List Bool) → AreKept n marks kept → AreKept n new kept
     kept_anew marks is = record {
       count = is.count;
@@ -283,6 +284,7 @@ module _ (nodes : List Node) (tr : Trace) (items : List Item) where
       under = more.stay;
     }
 
+    -- while nothing is kept yet the new marks are sure
     pub sure_anew : AreBlank n kept → AreSure n new
     sure_anew blank c h m = elim (more.only c m) [ inl k ↦ absurd (blank_not kept n c blank h k) | inr k ↦ k.1 ]
 

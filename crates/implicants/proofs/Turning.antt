@@ -46,6 +46,7 @@ each_in (Err e) G H f h = tt
 pub stays_self : (x : List (Knot Kleene)) → IsFit kleene_shape x → StaysFit kleene_shape x x
 stays_self x fit = record { fit = fit; along = record { begins = same_refl (start x); ends = same_refl (stop x) } }
 
+-- a signal that is fit along a second, which is fit along a first, is fit along the first
 pub stays_on : (x y z : List (Knot Kleene)) → StaysFit kleene_shape x y → StaysFit kleene_shape y z → StaysFit kleene_shape x z
 stays_on x y z a b = record {
   fit = b.fit;
@@ -85,12 +86,14 @@ left_is x some r w signal tells fit off = record {
       record { v = y.0; worth = y.1; less = lt_of_le_of_ltᵉ y.0 o.v one (sup.bound y.0 (u, h, y.1)) o.less };
 }
 
+-- where the window's signal is on, the operand's is off at each time of the window
 pub none_true : (x r : List (Knot Kleene)) (enough : Bool) (w : Window) → enough ≡ true → IsLeft kleene_shape x w r → IsNoneAhead kleene_shape x enough w r
 none_true x r enough w e left = record {
   fit = left.fit;
   clear = λ t u on h. subst (λ b. MatchBool b (IsOff kleene_shape x u) (IsOn kleene_shape x u)) (sym e) (left.off t u on h);
 }
 
+-- where the window's signal of the turned operand is on, the operand's is on at each time of the window
 pub none_false : (x y r : List (Knot Kleene)) (enough : Bool) (w : Window) → enough ≡ false → StaysFit kleene_shape x y
     → ((t : Rational) → IsOff kleene_shape y t → IsOn kleene_shape x t)
     → IsLeft kleene_shape y w r → IsNoneAhead kleene_shape x enough w r
@@ -103,6 +106,7 @@ none_false x y r enough w e fit turned left = record {
       (turned u (left.off t u on (window_same (start x) (stop x) (start y) (stop y) w t u (same_sym fit.along.begins) (same_sym fit.along.ends) h)));
 }
 
+-- a demand that is on only where the node's signal and that of a clear window are is open
 pub open_is : (holds : Bool) (x : List (Knot Kleene)) (w : Window) (other none : List (Knot Kleene)) (enough : Bool) (d : Demand)
     → IsNoneAhead kleene_shape other enough w none → d.holds ≡ holds
     → StaysFit kleene_shape x d.at → AreOn kleene_shape x none d.at → IsOpen kleene_shape holds x w other enough d
@@ -136,6 +140,7 @@ some_eventually n holds p w e f order = subst (λ m. IsSomeAhead m holds (record
           (subst (λ b. Certain b (tree_of at j (Eventually p w.low w.high w.low_in w.high_in)) items tr t) (not_true other e) h u near);
     }))
 
+-- some time of a window is certainly false where `always` over it is
 pub some_always : (n : Node) (holds : Bool) (p : ℕ) (w : Window) → n ≡ Always p w.low w.high w.low_in w.high_in → holds ≡ false → w.low ≤ w.high
     → IsSomeAhead n holds (record { window = w; of = p })
 some_always n holds p w e f order = subst (λ m. IsSomeAhead m holds (record { window = w; of = p })) (sym e)
@@ -154,6 +159,7 @@ other_less : (p q k j : ℕ) (i : ℕ) → IsOther p q i k → (p < j) × (q < j
 other_less p q k j i (inl (s, f)) b = subst (λ z. z < j) (sym f) b.1
 other_less p q k j i (inr (s, f)) b = subst (λ z. z < j) (sym f) b.0
 
+-- of the operand of `not` the other truth is demanded
 pub turn_not : (n : Node) (holds turned : Bool) (i p : ℕ) → n ≡ Not p → IsChild n i → turned ≡ not holds
     → IsTurn n holds i (record { holds = turned; beside = None })
 turn_not n holds turned i p e child f = subst (λ m. IsTurn m holds i (record { holds = turned; beside = None })) (sym e)
@@ -163,6 +169,7 @@ turn_not n holds turned i p e child f = subst (λ m. IsTurn m holds i (record { 
           subst (λ k. Certain turned (at k) items tr t) (subst (λ m. IsChild m i) e child) (not_down holds turned f at j p items tr t h);
     })
 
+-- of both operands of `and` truth is demanded where it is demanded of the node
 pub turn_and : (n : Node) (holds : Bool) (i p q : ℕ) → n ≡ And p q → IsChild n i → holds ≡ true → IsTurn n holds i (record { holds = true; beside = None })
 turn_and n holds i p q e child f = subst (λ m. IsTurn m holds i (record { holds = true; beside = None })) (sym e)
     (record {
@@ -171,6 +178,7 @@ turn_and n holds i p q e child f = subst (λ m. IsTurn m holds i (record { holds
           and_true p q i (subst (λ m. IsChild m i) e child) at j items tr t (subst (λ b. Certain b (tree_of at j (And p q)) items tr t) f h);
     })
 
+-- of both operands of `or` falsity is demanded where it is demanded of the node
 pub turn_or : (n : Node) (holds : Bool) (i p q : ℕ) → n ≡ Or p q → IsChild n i → holds ≡ false → IsTurn n holds i (record { holds = false; beside = None })
 turn_or n holds i p q e child f = subst (λ m. IsTurn m holds i (record { holds = false; beside = None })) (sym e)
     (record {
@@ -179,6 +187,7 @@ turn_or n holds i p q e child f = subst (λ m. IsTurn m holds i (record { holds 
           or_false p q i (subst (λ m. IsChild m i) e child) at j items tr t (subst (λ b. Certain b (tree_of at j (Or p q)) items tr t) f h);
     })
 
+-- of one operand of `and` falsity is demanded where the other one is not certainly false
 pub turn_and_beside : (n : Node) (holds : Bool) (i p q k : ℕ) → n ≡ And p q → IsChild n i → IsOther p q i k → holds ≡ false
     → IsTurn n holds i (record { holds = false; beside = Some (record { other = k; enough = false }) })
 turn_and_beside n holds i p q k e child other f =
@@ -189,6 +198,7 @@ turn_and_beside n holds i p q k e child other f =
           and_false p q i k (subst (λ m. IsChild m i) e child) other at j items tr t clear (subst (λ b. Certain b (tree_of at j (And p q)) items tr t) f h);
     })
 
+-- of one operand of `or` truth is demanded where the other one is not certainly true
 pub turn_or_beside : (n : Node) (holds : Bool) (i p q k : ℕ) → n ≡ Or p q → IsChild n i → IsOther p q i k → holds ≡ true
     → IsTurn n holds i (record { holds = true; beside = Some (record { other = k; enough = true }) })
 turn_or_beside n holds i p q k e child other f =

@@ -32,6 +32,7 @@ lt_or_le j c = grind arith
 abbrev pub NoneFrom : List Item → ℕ → Bool → ℕ → ℕ → Type 0
 NoneFrom all i holds p c = (j : ℕ) (e : Item) → slice_get all j ≡ Some e → p ≤ j → j < c → e.node ≡ i → e.holds ≡ holds → ⊥
 
+-- where no cell of the node and its truth stands behind a place, nor at it, none stands from it on
 pub none_more : (all : List Item) (i : ℕ) (holds : Bool) (p c : ℕ)
     → ((e : Item) → slice_get all p ≡ Some e → e.node ≡ i → e.holds ≡ holds → ⊥) → NoneFrom all i holds (suc p) c
     → NoneFrom all i holds p c
@@ -40,9 +41,11 @@ none_more all i holds p c not_such none j f s h l n k = elim (le_cases p j h) [
   | inr g ↦ none j f s g l n k
 ]
 
+-- where no cell of the node and its truth stands behind the place, it is that of the last one
 pub last_found : (all : List Item) (i : ℕ) (holds : Bool) (p c : ℕ) → NoneFrom all i holds (suc p) c → IsLastBefore all i holds c (Some p)
 last_found all i holds p c none j e s l n k = elim (lt_or_le p j) [ inl h ↦ absurd (none j e s (omega (arith, h)) l n k) | inr h ↦ h ]
 
+-- where no cell of the node and its truth stands from the first place on there is no last one
 pub last_none : (all : List Item) (i : ℕ) (holds : Bool) (c : ℕ) → NoneFrom all i holds 0 c → IsLastBefore all i holds c None
 last_none all i holds c none j e s l n k = none j e s (omega arith) l n k
 
@@ -50,6 +53,7 @@ last_none all i holds c none j e s l n k = none j e s (omega arith) l n k
 abbrev pub NoneMarked : List Item → List Bool → ℕ → ℕ → ℕ → Type 0
 NoneMarked all marks i left b = (j : ℕ) (e : Item) → slice_get all j ≡ Some e → left ≤ j → j < b → IsMarked marks j → e.node ≡ i → ⊥
 
+-- where no marked cell of the node stands before a place, nor at it, none stands before the next
 pub unmarked_more : (all : List Item) (marks : List Bool) (i left b : ℕ)
     → ((e : Item) → slice_get all b ≡ Some e → IsMarked marks b → e.node ≡ i → ⊥) → NoneMarked all marks i left b
     → NoneMarked all marks i left (suc b)
@@ -58,9 +62,11 @@ unmarked_more all marks i left b bar none j f s h l m n = elim (lt_or_le j b) [
   | inr g ↦ let is_b : j ≡ b = omega (arith, g, l) in bar f (subst (λ z. slice_get all z ≡ Some f) is_b s) (subst (IsMarked marks) is_b m) n
 ]
 
+-- where no marked cell of the node stands before the place, it is that of the first one
 pub first_found : (all : List Item) (marks : List Bool) (i left b : ℕ) → NoneMarked all marks i left b → IsFirstBehind all marks i left (Some b)
 first_found all marks i left b none j e s h m n = elim (lt_or_le j b) [ inl g ↦ absurd (none j e s h g m n) | inr g ↦ g ]
 
+-- where no marked cell of the node stands before the end there is no first one
 pub first_none : (all : List Item) (marks : List Bool) (i left b : ℕ) → length marks ≤ b → length marks ≡ length all
     → NoneMarked all marks i left b → IsFirstBehind all marks i left None
 first_none all marks i left b over count none j e s h m n = none j e s h (let g = within all j e s in omega (arith, over, count, g)) m n
@@ -90,6 +96,7 @@ later_back : (t : Rational) (by : ℕ) → later (add t (whole (neg_ℤ (pos by)
 later_back t zero = omega arith
 later_back t (suc n) = omega arith
 
+-- a time that is another moved back is, so much later, that other
 pub moved_later : (r t : Rational) (k : ℤ) (by : ℕ) → k ≡ neg_ℤ (pos by) → r ≈ add t (whole k) → later r by ≈ t
 moved_later r t k by e h = same_trans (same_later by (subst (λ k. r ≈ add t (whole k)) e h)) (later_back t by)
 
@@ -97,6 +104,7 @@ moved_later r t k by e h = same_trans (same_later by (subst (λ k. r ≈ add t (
 later_lt : (t u : Rational) (k : ℕ) → t <ʳ u → later t k <ʳ later u k
 later_lt t u k h = record { lt = omega (arith, h.lt) }
 
+-- a window that begins behind an end, moved back by its lower bound, has no time up to that end
 pub past_end : (a b : Bool) (r to t u : Rational) (low : ℕ) → later r low ≈ to → Precedes (not (a && b)) r t → Precedes a u to → ¬ Precedes b (later t low) u
 past_end true true r to t u low e h k m = not_lt_of_le (le_trans m (le_trans k (ge_of_same e))) (later_lt r t low h)
 past_end true false r to t u low e h k m = not_lt_of_le (le_trans k (le_trans (ge_of_same e) (later_le low h))) m
@@ -130,6 +138,7 @@ pub past_at : (w : Window) (on : Span) (t : Rational) → IsIn (interval on) t �
 past_at w on t i None f = tt
 past_at w on t i (Some s) f = f t i
 
+-- a window that is short of a span from each time of another span is so from any one of them
 pub short_at : (w : Window) (on : Span) (t : Rational) → IsIn (interval on) t → (o : Option Span)
     → IfSome o (λ s. (t : Rational) → IsIn (interval on) t → IsShort w t s) → IfSome o (IsShort w t)
 short_at w on t i None f = tt
@@ -198,10 +207,12 @@ module _ (all : List Item) (i : ℕ) (holds : Bool) (w : Window) (x : List (Knot
   puts_length c marks new (inl e) = ap length e
   puts_length c marks new (inr (e, cell)) = ap length e ∙ length-set marks c true
 
+  -- a mark that is put at a place leaves those before it blank
   pub puts_blank : (c : ℕ) (marks new : List Bool) → AreBlank (suc c) marks → PutsLast kleene_shape all i holds w x c marks new → AreBlank c new
   puts_blank c marks new blank (inl e) = subst (AreBlank c) (sym e) (blank_fewer marks c (suc c) (omega arith) blank)
   puts_blank c marks new blank (inr (e, cell)) = subst (AreBlank c) (sym e) (blank_set marks c blank)
 
+  -- before its first step a walk has put no marks
   pub puts_none : (left : ℕ) (marks : List Bool) → PutsLasts kleene_shape all i holds w x left marks marks
   puts_none left marks = record { stay = λ c h. h; only = λ c h. inl h }
 
@@ -211,5 +222,6 @@ pub first_before : (all : List Item) (marks : List Bool) (i c : ℕ) (behind : O
 first_before all marks i c behind blank first j e s h m n =
     elim (lt_or_le j (c + 1)) [ inl b ↦ absurd (blank_not marks (c + 1) j blank b m) | inr b ↦ first j e s b m n ]
 
+-- of the places from c on c is the first
 pub first_here : (all : List Item) (marks : List Bool) (i c : ℕ) → IsFirstBehind all marks i c (Some c)
 first_here all marks i c j e s h m n = h

@@ -119,6 +119,7 @@ fn add_cells(
     ensures { OnOk result ((here : List Cell) × (items.new.items ≡ items.old.items ++ here)
         × ItemsOn formula.now.nodes trace.now node (cells (times_of times.now)) here) }
 {
+    // For the proof alone: that it is a trace, the formula well formed and this one a signal are clauses of these calls.
     let _ = (trace.rows(), formula.len(), signal.len());
     let mut place = 0;
     let first = times[0];
@@ -150,6 +151,7 @@ fn add_atom(
     requires told { AreTruths ⟦<Truth as Shape>⟧ formula.now.nodes trace.now nodes.now }
     ensures { OnOk result (AddsNode formula.now.nodes trace.now i items.old.items items.new.items) }
 {
+    // For the proof alone: that the formula is well formed is a clause of `len`.
     let _ = formula.len();
     told_have_values::<Truth>();
     match formula.node(i) {

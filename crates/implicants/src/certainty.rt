@@ -87,6 +87,7 @@ fn atom_of(
     ensures { IfOk result (IsAtomCertainty ⟦<Kleene as Shape>⟧ formula.now.nodes trace.now
         (remaining left kept.now cells.now.all.items) i) }
 {
+    // For the proof alone: that it is a trace, and where it starts, are clauses of these calls.
     let _ = (trace.rows(), first(trace));
     let stop = last(trace);
     let from = begin_of(cells, i);
@@ -182,6 +183,7 @@ pub(crate) fn certainties<L: Ledger>(
 {
     let atoms = atoms_of(alloc, formula, trace, cells, left, kept)?;
     told_have_values::<Kleene>();
+    // For the proof alone: that the formula is well formed is a clause of `len`.
     let _ = formula.len();
     match eval(alloc, formula, first(trace), last(trace), atoms, steps) {
         Ok(nodes) => Ok(nodes),
@@ -197,6 +199,7 @@ pub(crate) fn is_certainly_false(formula: &Formula, nodes: &Evaluated<Kleene>) -
         → TellsFailure result formula.now.nodes tr items }
 {
     let root = nodes.signal(formula.len() - 1);
+    // For the proof alone: that it is a signal is a clause of `len`.
     let _ = root.len();
     is_known_false(&root.knot(0).point)
 }

@@ -159,6 +159,7 @@ pub(crate) fn left_off(x: &Signal<Kleene>, window: Window) -> Result<Option<Sign
     requires order { window.low ≤ window.high }
     ensures { IfOk result (λ o. IfSome o (IsLeft ⟦<Kleene as Shape>⟧ x.now window)) }
 {
+    // For the proof alone: that it is a signal is a clause of `len`.
     let _ = x.len();
     match sup_window(x, window.low, window.high, window.low_in, window.high_in) {
         Ok(some) => {
@@ -262,6 +263,7 @@ fn handed_to(
     ensures fit { IfOk result (λ o. IfSome o (λ d. StaysFit ⟦<Kleene as Shape>⟧ choice.at d.at)) }
     ensures order { IfOk result (λ o. IfSome o (λ d. d.window.low ≤ d.window.high)) }
 {
+    // For the proof alone: that it is a trace, and where it ends, are clauses of these calls.
     let _ = (trace.rows(), last(trace));
     let Choice {
         mut holds,

@@ -255,6 +255,7 @@ fn cuts_of(
     requires done { AreCutsFrom formula.now.nodes trace.now (i + 1) done.now }
     ensures { IfOk result (λ times. AreCuts formula.now.nodes trace.now i (times_of times.items)) }
 {
+    // For the proof alone: that it is a trace is a clause of `rows`.
     let _ = trace.rows();
     told_have_values::<Truth>();
     let count = formula.len();

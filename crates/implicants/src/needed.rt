@@ -137,6 +137,7 @@ fn mark_touched(cells: &Cells, i: u32, left: usize, at: &Signal<Kleene>, marks: 
     ensures more { MarksMore marks.old.items marks.new.items (λ c. (c < left) × (e : Cell) × (slice_get cells.now.all.items c ≡ Some e)
         × (e.node ≡ i) × Touches ⟦<Kleene as Shape>⟧ at.now e.on) }
 {
+    // For the proof alone: that it is a signal is a clause of `len`.
     let _ = at.len();
     let mut place = 0;
     for c in 0..left {

@@ -35,6 +35,7 @@ fn is_full(value: &Kleene) -> bool
 fn begins_full(x: &Signal<Kleene>) -> bool
     ensures { IsTrue result → IsFull ⟦<Kleene as Shape>⟧ x.now (start x.now) }
 {
+    // For the proof alone: that it is a signal is a clause of `len`.
     let _ = x.len();
     let knot = x.knot(0);
     is_full(&knot.point)
@@ -45,6 +46,7 @@ fn none_before(x: &Signal<Kleene>, by: u32, inside: bool) -> Result<Option<Signa
     requires fit { IsFit ⟦<Kleene as Shape>⟧ x.now }
     ensures { IfOk result (λ o. IfSome o (IsNoneBefore ⟦<Kleene as Shape>⟧ x.now by inside)) }
 {
+    // For the proof alone: that it is a signal is a clause of `len`.
     let _ = x.len();
     match sup_past(x, by, None, inside, true) {
         Ok(some) => {
@@ -61,6 +63,7 @@ fn shared_by(holds: bool, x: &Signal<Kleene>, window: Window) -> Result<Option<D
     requires fit { IsFit ⟦<Kleene as Shape>⟧ x.now }
     ensures { IfOk result (λ o. IfSome o (IsShared ⟦<Kleene as Shape>⟧ holds x.now window)) }
 {
+    // For the proof alone: that it is a signal is a clause of `len`.
     let _ = x.len();
     let behind = Window {
         low: 0,
