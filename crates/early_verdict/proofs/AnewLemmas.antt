@@ -52,6 +52,7 @@ moved_after c a t = by_side c.after
     by_side true h = let l = lt_of_le_of_lt (le_of_same (later-add c.at a)) h in record { lt = omega (arith, l.lt) }
     by_side false h = before_end t c.at a (le_trans (le_of_same (later-add c.at a)) h)
 
+-- and what sees a time after the place, so much before it, lies after the place that was moved on
 pub after_moved : (c : Place) (a : ℕ) (t u : Rational) → After c u → later u a ≤ʳ t → After (moved_begin (pos a) true c) t
 after_moved c a t u h m = by_side c.after h
   where

@@ -41,6 +41,7 @@ module _ (tr : Trace) (a : ℕ) (b : Option ℕ) (p q : Lists) (t w : Rational) 
     last v (inl (r, l, i, z)) = z v (record { above = l; below = le_refl v })
     last v (inr k) = k.all v k.after (le_refl v)
 
+    -- where each time of the way back is one of the runs, since holds
     pub decided_true : OnlyBehind tr 0 (Some a) true true (IsOn x.run.spans.items) t → SinceHolds tr a b (IsOn p.yes) (IsOn q.yes) t
     decided_true runs = by_run (run (less_by t a) (le_trans in_window.after we) (le_refl (less_by t a)) (end_past t a))
       where
@@ -64,6 +65,7 @@ module _ (tr : Trace) (a : ℕ) (b : Option ℕ) (p q : Lists) (t w : Rational) 
             let i = (wide w (le_refl w) wt).1 in
             from_there (all_along w in_window.after (λ v m n. k.all v (after_le (place x.run.bounds.from) w v m i.0) n))
 
+    -- and where since holds its sets have the time
     pub true_decided : SinceHolds tr a b (IsOn p.yes) (IsOn q.yes) t → IsOn x.some.spans.items t × IsOn x.each.spans.items t
     true_decided (u, o, c, y, z) = (h.some.has t own.0 (u, o, c, y), h.each.has t own.1 each_run)
       where
@@ -93,6 +95,7 @@ module _ (tr : Trace) (a : ℕ) (b : Option ℕ) (p q : Lists) (t w : Rational) 
 
   module _ (x : Failing) (h : SinceFailing tr a b p q x) (tidy_q : AreTidy q.no) (tidy_fail : AreTidy x.fail.spans.items)
       (own : Lies x.never.bounds t × Lies x.broken.bounds t) (wide : (v : Rational) → w ≤ʳ v → v ≤ʳ t → Lies x.fail.bounds v × Lies x.stop.bounds v) where
+    -- where one of the failing sets has the time, since fails
     pub decided_false : IsOn x.never.spans.items t ⊎ IsOn x.broken.spans.items t → SinceFails tr a b (IsOn p.no) (IsOn q.no) t
     decided_false (inl n) u o = (inl ((h.never.only t n).1 u o))
     decided_false (inr n) u o = by_run (h.broken.only t n).1
@@ -127,6 +130,7 @@ module _ (tr : Trace) (a : ℕ) (b : Option ℕ) (p q : Lists) (t w : Rational) 
               ]
             ]
 
+    -- and where since fails one of them has it
     pub false_decided : SinceFails tr a b (IsOn p.no) (IsOn q.no) t → IsOn x.never.spans.items t ⊎ IsOn x.broken.spans.items t
     false_decided f =
         let e = less_by t a in

@@ -49,6 +49,7 @@ module _ (nodes : List Node) (from : Rational) (old new old_shown new_shown : Li
       let w = showed_at p x.0 x.1 in
       is_shown new_shown p x.0 u x.1 (subst (λ b. Lies b u) (sym w.4.no) (shown_is old_shown p w.2 u w.3 o))
 
+  -- what is shown after the event was shown before it
   pub shown_before : (p : ℕ) (u : Rational) → IsShown new_shown p u → IsShown old_shown p u
   shown_before p u o =
       let x = sets_at new_shown p (shown_within new_shown p u o) in

@@ -190,6 +190,7 @@ still_on old new less p u h =
       λ o. subst (λ (z : Lists). IsOn z.no u) (sym (lists_are new p x.0 x.1)) (w.2.no_in u l (subst (λ (z : Lists). IsOn z.no u) (lists_are old p w.0 w.1) o)),
     )
 
+-- what is shown still was shown
 pub less_shown : (old new : List Sets) → AreLess old new → (p : ℕ) (u : Rational) → IsShown new p u → IsShown old p u
 less_shown old new less p u h =
     let x = sets_at new p (shown_within new p u h) in
@@ -633,6 +634,7 @@ pub first_no_at : (sets front back : List Sets) (i : ℕ) (d own : Sets) (holds 
 first_no_at sets front back i d own holds low at is e f h k s =
     subst (λ b. IsAskedFirst i b low at sets (front ++ slice_set back 0 own)) (sym is) (first_at sets front back i d own false low at e f h k s)
 
+-- what is made anew at a place is made anew in the list
 pub endless_cut_at : (sets front back : List Sets) (i : ℕ) (d own : Sets) (a : ℕ) (xs : List Stretch) → front ≡ take i sets → back ≡ drop i sets
     → i < length sets → IsEndlessCut a xs (slice_index_or back 0 d) own → IsEndlessCutAt i a xs sets (front ++ slice_set back 0 own)
 endless_cut_at sets front back i d own a xs e f h k = record {

@@ -60,11 +60,16 @@ Reaches tr a b p q x t =
 
 -- what the sets between say of since at one time
 pub record SaysSince (tr : Trace) (a : ℕ) (b : Option ℕ) (p q : Lists) (x : Parts) (t : Rational) : Type 0 where
+  -- where its sets have the time since holds
   pub holds : IsOn x.holding.some.spans.items t × IsOn x.holding.each.spans.items t → SinceHolds tr a b (IsOn p.yes) (IsOn q.yes) t
+  -- and where it holds they have it
   pub held : SinceHolds tr a b (IsOn p.yes) (IsOn q.yes) t → IsOn x.holding.some.spans.items t × IsOn x.holding.each.spans.items t
+  -- where one of the failing sets has the time it fails
   pub fails : IsOn x.failing.never.spans.items t ⊎ IsOn x.failing.broken.spans.items t → SinceFails tr a b (IsOn p.no) (IsOn q.no) t
+  -- and where it fails one has it
   pub failed : SinceFails tr a b (IsOn p.no) (IsOn q.no) t → IsOn x.failing.never.spans.items t ⊎ IsOn x.failing.broken.spans.items t
 
+-- the sets between say of since at a time what it is there
 pub says_since : (tr : Trace) (a : ℕ) (b : Option ℕ) (p q : Lists) (x : Parts) → SinceHolding tr a b p q x.holding → SinceFailing tr a b p q x.failing
     → ArePartsTidy x → AreTidy q.no → (t : Rational) → Lies x.holding.some.bounds t × Lies x.holding.each.bounds t
     → Lies x.failing.never.bounds t × Lies x.failing.broken.bounds t → ((w : Rational) → w ≤ʳ t → IsOn p.yes w → ¬ (IsOn p.no w))

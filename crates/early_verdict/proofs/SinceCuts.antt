@@ -22,28 +22,46 @@ no_later d u b e = record { le = omega (arith, e.le) }
 
 -- a set of times that see some time of a list, so far before them; and one that has none
 pub record SeesAnew (from : Rational) (a : ℕ) (xs : List Stretch) (old new : Grown) : Type 0 where
+  -- its stretches rise
   pub tidy : IsTidy new
+  -- its bounds are no wider than they were
   pub less : (t : Rational) → Lies new.bounds t → Lies old.bounds t
+  -- and have each time that is later on
   pub left : (t : Rational) → Lies old.bounds t → from ≤ʳ t → Lies new.bounds t
+  -- of its times those stay that see one of the list
   pub has : (t : Rational) → Lies new.bounds t → IsOn old.spans.items t → (u : Rational) → IsOn xs u → later u a ≤ʳ t → IsOn new.spans.items t
+  -- and each of its times sees one
   pub only : (t : Rational) → IsOn new.spans.items t → Lies new.bounds t × ((u : Rational) × IsOn xs u × (later u a ≤ʳ t))
 
 pub record SeesNone (from : Rational) (old new : Grown) : Type 0 where
+  -- it has no time
   pub none : new.spans.items ≡ []
+  -- its bounds have each time that is later on
   pub left : (t : Rational) → Lies old.bounds t → from ≤ʳ t → Lies new.bounds t
+  -- and none before, where they had one later on
   pub after : (t : Rational) → Lies old.bounds t → from ≤ʳ t → (u : Rational) → Lies new.bounds u → from ≤ʳ u
 
 -- how the sets between are cut: those of the operands and of runs at the first time, the others at the node's own
 pub record IsBackCut (d from : Rational) (wide : Stretch) (a : ℕ) (b : Option ℕ) (ys : List Stretch) (x z : Parts) : Type 0 where
+  -- the times of both operands go on from the first time
   pub both : IsCutAt d x.holding.both z.holding.both
+  -- and so do the runs that hold
   pub run : IsCutAt d x.holding.run z.holding.run
+  -- the times that see only runs go on from the own cut
   pub each : IsCutAt from x.holding.each z.holding.each
+  -- whether a run goes on from before is said anew
   pub runs : BeginsAtOnce z.holding.carried z.holding.run
+  -- what sees the right operand is cut; without a bound it is made anew
   pub some : MatchOption b (SeesAnew from a ys x.holding.some z.holding.some) (λ k. IsCutAt from x.holding.some z.holding.some)
+  -- failures go as far as the left operand is shown
   pub fail : IsCutTo wide x.failing.fail z.failing.fail
+  -- and so do the runs that fail
   pub stop : IsCutTo wide x.failing.stop z.failing.stop
+  -- the times that see such a run go on from the own cut
   pub broken : IsCutAt from x.failing.broken z.failing.broken
+  -- whether one goes on from before is said anew
   pub stops : BeginsAtOnce z.failing.carried z.failing.stop
+  -- what sees failures alone is cut; without a bound it has none
   pub never : MatchOption b (SeesNone from x.failing.never z.failing.never) (λ k. IsCutAt from x.failing.never z.failing.never)
 
 module _ (d from : Rational) (tr : Trace) (a : ℕ) (b : Option ℕ) (p q p' q' : Lists) (P : Agree d p p') (Q : Agree d q q') (now : Rational)

@@ -89,6 +89,7 @@ module _ (nodes : List Node) (formed : AreWellFormed nodes) (tr : Trace) (live l
       at_w : IsShown new p w × IsShown new q w
       at_w = still w (record { above = le_refl w; below = none_later w t a o.ends })
 
+  -- what stands goes on to stand, where a since with a bound lets go
   pub bounded_stands : NetStands nodes tr left new
   bounded_stands = since_stands nodes formed tr live left old mid new i p q a (Some b) at d from
       (le_trans (later_more d a b order) back) back wide cut.was cut.is
@@ -209,6 +210,7 @@ module _ (nodes : List Node) (formed : AreWellFormed nodes) (tr : Trace) (live h
   half_cut : ArePartsCut d from wide cut.was.parts anew.was.parts
   half_cut = subst (λ (s : Sets). ArePartsCut d from wide cut.was.parts s.parts) same_half cut.cut.parts
 
+  -- and where one without a bound begins anew
   pub endless_stands : NetStands nodes tr left new
   endless_stands = since_stands nodes formed tr live left old mid new i p q a None at d from back start_before wide cut.was anew.is
       cut.at_old anew.at_new (λ j n. anew.others j n ∙ cut.others j n) (anew.count ∙ cut.count)
@@ -221,6 +223,7 @@ module _ (nodes : List Node) (formed : AreWellFormed nodes) (tr : Trace) (live h
 
 -- where the sets between of one node are cut, all are tidy still, and of those that see to the start the times lie within the bounds
 module _ (live half : List Sets) (i : ℕ) (d from : Rational) (wide : Stretch) (cut : IsRunCutAt i d from wide live half) where
+  -- all sets are tidy still
   pub half_tidy : AllTidy live → AllTidy half
   half_tidy t j s e = elim (nat_is j i) [
     | inl h ↦ subst AreSetsTidy (same_sets cut.is s (sym cut.at_new ∙ subst (λ k. slice_get half k ≡ Some s) h e)) here
@@ -237,6 +240,7 @@ module _ (live half : List Sets) (i : ℕ) (d from : Rational) (wide : Stretch) 
         parts = tidy_parts d from wide cut.was.parts cut.is.parts cut.cut.parts was.parts;
       }
 
+  -- the times of the one that sees to the start lie within its bounds
   pub half_inside : (s : Sets) → slice_get half i ≡ Some s → MatchOption s.parts (Unit {0}) (λ x. IsGrownInside x.holding.some)
   half_inside s e =
       subst (λ (z : Sets). MatchOption z.parts (Unit {0}) (λ x. IsGrownInside x.holding.some)) (same_sets cut.is s (sym cut.at_new ∙ e))

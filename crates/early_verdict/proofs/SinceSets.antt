@@ -20,18 +20,23 @@ use Rattle.early_verdict.proofs.RunLemmas.{after_le}
 abbrev pub less_by : Rational → ℕ → Rational
 less_by t a = record { up = t.up; down = t.down + a * t.den; den = t.den; positive = t.positive }
 
+-- what is at most t after a wait is at most t less the wait
 pub before_end : (t u : Rational) (a : ℕ) → later u a ≤ʳ t → u ≤ʳ less_by t a
 before_end t u a h = record { le = omega (arith, h.le) }
 
+-- and back
 pub to_end : (t u : Rational) (a : ℕ) → u ≤ʳ less_by t a → later u a ≤ʳ t
 to_end t u a h = record { le = omega (arith, h.le) }
 
+-- t less a wait is at most t
 pub end_past : (t : Rational) (a : ℕ) → less_by t a ≤ʳ t
 end_past t a = record { le = omega arith }
 
+-- what is no earlier than t less a wait is, after it, no earlier than t
 pub past_end : (t u : Rational) (a : ℕ) → less_by t a ≤ʳ u → t ≤ʳ later u a
 past_end t u a h = record { le = omega (arith, h.le) }
 
+-- and back
 pub from_end : (t u : Rational) (a : ℕ) → t ≤ʳ later u a → less_by t a ≤ʳ u
 from_end t u a h = record { le = omega (arith, h.le) }
 
@@ -51,6 +56,7 @@ later_none u t h = record { le = omega (arith, h.le) }
 pub back_way : (from t v : Rational) (a : ℕ) → from ≤ʳ v → t ≤ʳ later v a → v ≤ʳ t → OpenBehind from 0 (Some a) true true t v
 back_way from t v a f h k = record { after = f; begins = h; ends = later_none v t k }
 
+-- a time after one of the window begins the window too
 pub still_begins : (b : Option ℕ) (t u w : Rational) → u ≤ʳ w → IfSome b (λ b. t ≤ʳ later u b) → IfSome b (λ b. t ≤ʳ later w b)
 still_begins None t u w h k = k
 still_begins (Some b) t u w h k = le_trans k (later_le b h)
@@ -114,6 +120,7 @@ module _ (tr : Trace) (a : ℕ) (b : Option ℕ) (p q : Lists) (x : Holding) (h 
         | inr k ↦ (u, o, c, y, all_along u o.after (λ v m n. z v (record { above = le_trans (le_of_lt k) m; below = n })))
       ]
 
+  -- where since holds its sets have the time
   pub some_each : SinceHolds tr a b (IsOn p.yes) (IsOn q.yes) t → IsOn x.some.spans.items t × IsOn x.each.spans.items t
   some_each (u, o, c, y, z) =
       let ut = none_later u t a o.ends in
@@ -134,6 +141,7 @@ module _ (tr : Trace) (a : ℕ) (b : Option ℕ) (p q : Lists) (x : Holding) (h 
 module _ (tr : Trace) (a : ℕ) (b : Option ℕ) (p q : Lists) (x : Failing) (h : SinceFailing tr a b p q x) (tidy_q : AreTidy q.no)
     (tidy_fail : AreTidy x.fail.spans.items) (t : Rational) (own : Lies x.never.bounds t × Lies x.broken.bounds t)
     (wide : (u : Rational) → OpenBehind (start tr) 0 b true true t u → Lies x.fail.bounds u × Lies x.stop.bounds u) where
+  -- where one of the failing sets has the time, since fails there
   pub since_false_at : IsOn x.never.spans.items t ⊎ IsOn x.broken.spans.items t → SinceFails tr a b (IsOn p.no) (IsOn q.no) t
   since_false_at (inl n) u o = inl ((h.never.only t n).1 u o)
   since_false_at (inr n) u o = by_run ((h.broken.only t n).1)
@@ -159,6 +167,7 @@ module _ (tr : Trace) (a : ℕ) (b : Option ℕ) (p q : Lists) (x : Failing) (h 
               let w = wide u (along (start tr) a b t u u o (le_refl u) (le_trans uv vt)) in
               of_fail (k.all u w.1.0 uv)
 
+  -- where since fails one of its failing sets has the time
   pub never_broken : SinceFails tr a b (IsOn p.no) (IsOn q.no) t → IsOn x.never.spans.items t ⊎ IsOn x.broken.spans.items t
   never_broken f =
       let e = less_by t a in
