@@ -7,7 +7,7 @@ ghost use Rattle.stl_syntax.specs.Formula.{HasChildrenBelow};
 ghost use Rattle.stl_syntax.specs.WellFormed.{HasBounds};
 ghost use Rattle.stl_syntax.specs.Cells.{IsChild};
 ghost use Rattle.offline_eval.specs.Making.{IsFit};
-ghost use Rattle.implicants.specs.Demands.{AreCertainties, AreOn, HandsDown, IsAlong, IsBeside, IsDemand, IsFull, IsMet, IsOff, IsOn, IsVoid, StaysFit};
+ghost use Rattle.implicants.specs.Demands.{AreCertainties, AreOn, HandsDown, IsAlong, IsBeside, IsDemand, IsFull, IsMet, IsMetBehind, IsOff, IsOn, IsVoid, StaysFit};
 ghost use Rattle.pl_signal.specs.declared.knot.Knot.{Knot};
 ghost use Rattle.stl_syntax.specs.declared.items.Item.{Item};
 
@@ -20,7 +20,7 @@ use std::alloc::Global;
 use stl_syntax::{Formula, Node};
 use trace_reader::Trace;
 use value_laws::{Kleene, Shape};
-use window_ops::sup_past;
+use window_ops::{sup_past, sup_window};
 
 /// What is demanded of a node: wherever `at` is not certainly false, that the node is certainly true (`holds`), or certainly false.
 #[derive(Drop)]
@@ -125,6 +125,106 @@ pub(crate) fn other_than(p: u32, q: u32, i: u32) -> u32
     if p == i { q } else { p }
 }
 
+/// The upper bound of a window behind, or where it has none a length that no two times of a trace are more apart than.
+fn upper_bound(low: u32, high: Option<u32>) -> u32
+    requires { IfSome high (λ b. low ≤ b) }
+    ensures order { low ≤ result }
+    ensures is { IfSome high (λ b. result ≡ b) }
+{
+    match high {
+        Some(b) => b,
+        None => 4_294_967_295,
+    }
+}
+
+/// The demand at each time that the window behind meets from a time at which the signal is on.
+fn met_behind(
+    holds: bool,
+    x: &Signal<Kleene>,
+    low: u32,
+    high: Option<u32>,
+    low_in: bool,
+    high_in: bool,
+) -> Result<Option<Demand>, Memory>
+    requires fit { IsFit ⟦<Kleene as Shape>⟧ x.now }
+    requires order { IfSome high (λ b. low ≤ b) }
+    ensures { IfOk result (λ o. IfSome o (IsMetBehind ⟦<Kleene as Shape>⟧ holds x.now low high low_in high_in)) }
+{
+    let far = upper_bound(low, high);
+    match sup_window(x, low, far, low_in, high_in) {
+        Ok(at) => Ok(Some(Demand { holds, at })),
+        Err(OpFault::Memory) => Err(Memory),
+        Err(OpFault::Wide(_)) => Ok(None),
+    }
+}
+
+/// The demand on the operand at place `i` of a node with a window, of which `holds` is demanded wherever `at` is on: where that is
+/// so only if the operand is so at each time of the window.
+fn for_window(
+    node: &Node,
+    holds: bool,
+    at: &Signal<Kleene>,
+    i: u32,
+) -> Result<Option<Demand>, Memory>
+    requires fit { IsFit ⟦<Kleene as Shape>⟧ at.now }
+    requires bounds { HasBounds node.now }
+    requires child { IsChild node.now i }
+    ensures { (signals : List (List (Knot Kleene)))
+        → IfOk result (λ o. IfSome o (HandsDown ⟦<Kleene as Shape>⟧ node.now holds at.now signals i)) }
+{
+    match node {
+        Node::Eventually {
+            low,
+            high,
+            low_in,
+            high_in,
+            ..
+        } => {
+            if holds {
+                return Ok(None);
+            }
+            met(false, at, *low, *high, *low_in, *high_in)
+        }
+        Node::Always {
+            low,
+            high,
+            low_in,
+            high_in,
+            ..
+        } => {
+            if holds {
+                return met(true, at, *low, *high, *low_in, *high_in);
+            }
+            Ok(None)
+        }
+        Node::Once {
+            low,
+            high,
+            low_in,
+            high_in,
+            ..
+        } => {
+            if holds {
+                return Ok(None);
+            }
+            met_behind(false, at, *low, *high, *low_in, *high_in)
+        }
+        Node::Historically {
+            low,
+            high,
+            low_in,
+            high_in,
+            ..
+        } => {
+            if holds {
+                return met_behind(true, at, *low, *high, *low_in, *high_in);
+            }
+            Ok(None)
+        }
+        _ => Ok(None),
+    }
+}
+
 /// The demand on the operand at place `i` of a node of which `holds` is demanded wherever `at` is on, as far as one is known.
 fn for_operand(
     node: &Node,
@@ -164,31 +264,7 @@ fn for_operand(
             }
             beside(true, &at, nodes.signal(*p), false)
         }
-        Node::Eventually {
-            low,
-            high,
-            low_in,
-            high_in,
-            ..
-        } => {
-            if holds {
-                return Ok(None);
-            }
-            met(false, &at, *low, *high, *low_in, *high_in)
-        }
-        Node::Always {
-            low,
-            high,
-            low_in,
-            high_in,
-            ..
-        } => {
-            if holds {
-                return met(true, &at, *low, *high, *low_in, *high_in);
-            }
-            Ok(None)
-        }
-        _ => Ok(None),
+        _ => for_window(node, holds, &at, i),
     }
 }
 

@@ -1,6 +1,5 @@
 use Rattle.implicants.proofs.Descending.{each_some, hands_not, hands_and, hands_or, hands_implies, hands_and_beside}
-use Rattle.implicants.proofs.Descending.{hands_or_beside, hands_implied_left, hands_implied_right, hands_eventually}
-use Rattle.implicants.proofs.Descending.{hands_always}
+use Rattle.implicants.proofs.Descending.{hands_or_beside, hands_implied_left, hands_implied_right}
 use Rattle.implicants.proofs.demand.for_operand.Goals as goal
 
 pub returns-then-holds : goal.returns-then-holds
@@ -70,19 +69,8 @@ returns-else-p-i c = each_some c.beside-in-Implies.result _ _
     c.requires.child c.if-p-i.false c.signal-in-Implies.ensures c.if-not-holds.false is)
     c.beside-in-Implies.ensures
 
-pub returns-then-holds-4 : goal.returns-then-holds-4
-returns-then-holds-4 c = each_some c.met-then-holds-4.result _ _
-    (λ d is. hands_always c.args.holds c.args.at c.args.nodes.now c.args.node.now c.args.i c.in-Always.of c.in-Always.low
-    c.in-Always.high c.in-Always.low_in c.in-Always.high_in d
-    c.in-Always.is c.requires.child c.if-holds-4.true is)
-    c.met-then-holds-4.ensures
-
 pub returns-in-Not : goal.returns-in-Not
 returns-in-Not c = hands_not c.args.holds c.args.at c.args.nodes.now c.args.node.now c.args.i c.in-Not.field-0 c.in-Not.is c.requires.child c.requires.fit
 
-pub returns-else-holds-3 : goal.returns-else-holds-3
-returns-else-holds-3 c = each_some c.met.result _ _
-    (λ d is. hands_eventually c.args.holds c.args.at c.args.nodes.now c.args.node.now c.args.i c.in-Eventually.of
-    c.in-Eventually.low c.in-Eventually.high c.in-Eventually.low_in
-    c.in-Eventually.high_in d c.in-Eventually.is c.requires.child c.if-holds-3.false is)
-    c.met.ensures
+pub returns-in_default : goal.returns-in_default
+returns-in_default c = c.for_window.ensures c.args.nodes.now
