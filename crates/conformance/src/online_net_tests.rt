@@ -169,8 +169,8 @@ fn formula_of(alloc: Global, dice: &mut Dice, of: &Recording) -> Result<Making, 
     Ok(made)
 }
 
-/// A network with the rows that it is fed, the number of columns, the time of the last row, the number of nodes, and how often one
-/// stepped.
+/// A network with the rows that it is fed, the number of columns, the time of the last row, the number of nodes, how often one
+/// stepped, and how many rows were refused.
 #[derive(Drop)]
 struct Driven<'a> {
     net: Net,
@@ -180,6 +180,7 @@ struct Driven<'a> {
     last: Option<u32>,
     nodes: u32,
     steps: u32,
+    refused: u32,
     ghost wide: { net.bound.width ≡ columns },
     ghost counted: { length net.operators ≡ nodes },
     ghost late: { option_map (λ (r : ARow). r.time) net.last ≡ last },
@@ -219,6 +220,7 @@ fn begin_on<'a>(
         last: None,
         nodes: formula.len(),
         steps: 0,
+        refused: 0,
     })
 }
 
@@ -245,6 +247,25 @@ impl<'a> Driven<'a> {
         };
         self.last = Some(row.time());
         Ok(Some(row.time()))
+    }
+
+    /// Stops where the network takes one more row, in place of refusing it for the end.
+    fn refuse(&mut self, rt: &impl Abort, line: &str) {
+        let Ok(took) = self.reader.push(line.as_bytes()) else {
+            panic!(rt; "row");
+        };
+        let Event::Row = took.event else {
+            panic!(rt; "no row");
+        };
+        let row = self.reader.row();
+        assert!(rt; row.columns() == self.columns);
+        if let Some(last) = self.last {
+            assert!(rt; last < row.time());
+        }
+        let Err(NetFault::Closed) = self.net.feed(row) else {
+            panic!(rt; "feed");
+        };
+        self.refused = self.refused.saturating_add(1);
     }
 
     /// The end of the rows.
@@ -499,5 +520,24 @@ fn a_step_moves_a_node_that_is_ready(rt: HostRuntime) -> Result<(), Fail> {
     assert_eq!(&rt; of.close(&rt), Err(NetFault::Closed));
     assert!(&rt; of.step(&rt, 1));
     assert_eq!(&rt; of.shown(&rt, 1), (false, Some(5), 3));
+    Ok(())
+}
+
+#[test]
+fn a_network_that_was_closed_takes_no_row_and_goes_on_to_step(rt: HostRuntime) -> Result<(), Fail> {
+    let alloc = rt.alloc();
+    let mut of = begin_on(&rt, alloc, "eventually[0,2] x >= 5", "time,x\n0,0\n5,5\n")?;
+    assert_eq!(&rt; of.row(&rt)?, Some(0));
+    assert_eq!(&rt; of.row(&rt)?, Some(5));
+    assert_eq!(&rt; of.close(&rt), Ok(()));
+    of.refuse(&rt, "7,0\n");
+    assert_eq!(&rt; of.refused, 1);
+    assert_eq!(&rt; of.close(&rt), Err(NetFault::Closed));
+    assert_eq!(&rt; of.shown(&rt, 0), (false, Some(5), 3));
+    assert_eq!(&rt; of.shown(&rt, 1), (true, None, 0));
+    assert!(&rt; of.step(&rt, 1));
+    assert_eq!(&rt; of.shown(&rt, 1), (false, Some(5), 2));
+    assert!(&rt; of.take().is_some() && of.take().is_some() && of.take().is_none());
+    assert_eq!(&rt; of.close(&rt), Err(NetFault::Closed));
     Ok(())
 }

@@ -1,9 +1,9 @@
 -- What is demanded of a node hands down what is demanded of its operands.
 use Rattle.std.proofs.Common.{◌≡◌, ℕ, pos, negsuc, ◌<◌, ◌-◌, ◌^◌, ◌⊎◌, inl, inr, Bool, true, false, List}
 use Rattle.std.proofs.Common.{[], ◌∷◌, length, Some, sym, subst, ◌∙◌, arith, lit≤}
-use Rattle.std.specs.Prelude.{slice_get, Option, None, MatchBool, not}
+use Rattle.std.specs.Prelude.{slice_get, Option, None, IfSome, MatchBool, not}
 use Rattle.std.proofs.lemmas.Option.{slice_get_within}
-use Rattle.rational.specs.Time.{Rational, Within, whole, ◌≤ʳ◌, ◌<ʳ◌, ◌≈◌}
+use Rattle.rational.specs.Time.{Rational, Within, Precedes, later, whole, ◌≤ʳ◌, ◌<ʳ◌, ◌≈◌}
 use Rattle.rational.specs.Rational.{IsWithin}
 use Rattle.rational.specs.Extended.{Extended, IsLeast, finite, value_at, opposite, ◌<ᵉ◌, ◌≤ᵉ◌, Passes}
 use Rattle.rational.specs.Affine.{IsBounded}
@@ -25,7 +25,7 @@ use Rattle.pl_signal.specs.Moves.{Tells}
 use Rattle.pl_signal.proofs.Limits.{limited}
 use Rattle.pl_signal.proofs.Values.{to_stop, some_is, every_time, worth_within}
 use Rattle.signal_ops.specs.Pointwise.{LeastOf, Negated}
-use Rattle.window_ops.specs.Windows.{SupBehind}
+use Rattle.window_ops.specs.Windows.{SupAhead, SupBehind}
 use Rattle.stl_syntax.specs.Trace.{Trace}
 use Rattle.stl_syntax.specs.Trace as trace
 use Rattle.stl_syntax.specs.Formula.{Subformula, subformula, tree_of, HasChildrenBelow}
@@ -33,12 +33,12 @@ use Rattle.stl_syntax.specs.Kleene.{Must, MustNot}
 use Rattle.stl_syntax.specs.SupInf.{SupInf, one, minus_one, certainty_setting}
 use Rattle.stl_syntax.specs.declared.items.Item.{Item}
 use Rattle.stl_syntax.specs.declared.node.Node.{Node}
-use Rattle.stl_syntax.specs.declared.node.Node.TheVariants.{Not, And, Or, Implies, Eventually, Always}
+use Rattle.stl_syntax.specs.declared.node.Node.TheVariants.{Not, And, Or, Implies, Eventually, Always, Once, Historically}
 use Rattle.stl_syntax.proofs.FormulaLemmas.{subformula-at}
 use Rattle.stl_syntax.proofs.LawProofs.{certainty_by_values}
 use Rattle.offline_eval.specs.Making.{IsFit}
 use Rattle.implicants.specs.Keeping.{CoverMore}
-use Rattle.implicants.specs.Demands.{Certain, IsOn, IsOff, IsFull, IsVoid, StaysFit, AreOn, IsBeside, IsMet, AreCertainties, HandsDown}
+use Rattle.implicants.specs.Demands.{Certain, IsOn, IsOff, IsFull, IsVoid, StaysFit, AreOn, IsBeside, IsMet, IsMetBehind, AreCertainties, HandsDown}
 use Rattle.implicants.specs.declared.demand.Demand.{Demand}
 use Rattle.implicants.proofs.Growing.{must, must_not}
 
@@ -165,6 +165,22 @@ sup_on x r a b a_in b_in tells t h =
     let k = ((tells.worth t h.v).0 h.worth).1.reached minus_one (le_reflᵉ minus_one) h.more in
     (k.1.0, k.1.1, record { v = k.0; worth = k.1.2; more = k.2 })
 
+-- the Sup over a window ahead is more than -1 only where some value there is, and that time looks back to here
+pub sup_ahead_on : (x r : List (Knot Kleene)) (a far : ℕ) (b : Option ℕ) (a_in b_in : Bool) → IfSome b (λ b. far ≡ b)
+    → Tells kleene_shape (SupAhead (start x) (stop x) (IsWorth kleene_shape x) minus_one a far a_in b_in) (start x) (stop x) r
+    → (t : Rational) → IsOn kleene_shape r t → (u : Rational) × Behind (start x) (stop x) a b a_in b_in u t × IsOn kleene_shape x u
+sup_ahead_on x r a far b a_in b_in e tells t h =
+    let w = (tells.worth t h.v).0 h.worth in
+    let k = w.1.reached minus_one (le_reflᵉ minus_one) h.more in (
+      k.1.0,
+      record { inside = w.0; begins = within_bound k.1.0 b e k.1.1.ends; ends = k.1.1.begins },
+      record { v = k.0; worth = k.1.2; more = k.2 },
+    )
+  where
+    within_bound : (u : Rational) (b : Option ℕ) → IfSome b (λ b. far ≡ b) → Precedes b_in u (later t far) → IfSome b (λ b. Precedes b_in u (later t b))
+    within_bound u None e h = tt
+    within_bound u (Some n) e h = subst (λ m. Precedes b_in u (later t m)) e h
+
 module _ (nodes : List Node) (tr : Trace) (items : List Item) (signals : List (List (Knot Kleene)))
     (sure : AreCertainties kleene_shape nodes tr items signals) where
   -- each signal of a node tells the node's three-valued truth
@@ -282,6 +298,26 @@ module _ (holds : Bool) (x : List (Knot Kleene)) (signals : List (List (Knot Kle
         (subst (λ p. Certain holds p some tr f.0) (subformula-at nodes j n at below) (before f.0 f.2 some more m)));
   }
 
+  -- the demand of a window behind
+  pub behind_down : (n : Node) (i a : ℕ) (b : Option ℕ) (a_in b_in below_holds : Bool) (d : Demand)
+      → IsMetBehind kleene_shape below_holds x a b a_in b_in d
+      → ((at : ℕ → Subformula) (j : ℕ) (some : List Item) (tr : Trace) (t u : Rational) → Behind (trace.start tr) (trace.stop tr) a b a_in b_in u t
+      → Certain holds (tree_of at j n) some tr u → Certain below_holds (at i) some tr t)
+      → Hands n i d
+  behind_down n i a b a_in b_in below_holds d is follows = record {
+    fit = is.fit;
+    demand = λ nodes tr items j at below sure begins ends before t on some more m.
+        let f = is.from t on in
+        subst (λ b. Certain b (subformula nodes i) some tr t) (sym is.same)
+        (follows (subformula nodes) j some tr t f.0
+        (record {
+          inside = record { above = le_trans (ge_of_same begins) f.1.inside.above; below = le_trans f.1.inside.below (le_of_same ends) };
+          begins = f.1.begins;
+          ends = f.1.ends;
+        })
+        (subst (λ p. Certain holds p some tr f.0) (subformula-at nodes j n at below) (before f.0 f.2 some more m)));
+  }
+
 -- negation turns what is demanded
 pub not_down : (holds turned : Bool) → turned ≡ not holds → (at : ℕ → Subformula) (j p : ℕ) (some : List Item) (tr : Trace) (t : Rational)
     → Certain holds (tree_of at j (Not p)) some tr t → Certain turned (at p) some tr t
@@ -360,6 +396,18 @@ eventually_false p i a b a_in b_in e at j some tr t u w h = subst (λ k. MustNot
 pub always_true : (p i a b : ℕ) (a_in b_in : Bool) → p ≡ i → (at : ℕ → Subformula) (j : ℕ) (some : List Item) (tr : Trace) (t u : Rational)
     → Ahead (trace.start tr) (trace.stop tr) a b a_in b_in u t → Certain true (tree_of at j (Always p a b a_in b_in)) some tr u → Certain true (at i) some tr t
 always_true p i a b a_in b_in e at j some tr t u w h = subst (λ k. Must (at k) some tr t) e (h t w)
+
+-- so for the windows behind
+pub once_false : (p i a : ℕ) (b : Option ℕ) (a_in b_in : Bool) → p ≡ i → (at : ℕ → Subformula) (j : ℕ) (some : List Item) (tr : Trace) (t u : Rational)
+    → Behind (trace.start tr) (trace.stop tr) a b a_in b_in u t
+    → Certain false (tree_of at j (Once p a b a_in b_in)) some tr u → Certain false (at i) some tr t
+once_false p i a b a_in b_in e at j some tr t u w h = subst (λ k. MustNot (at k) some tr t) e (h t w)
+
+pub historically_true : (p i a : ℕ) (b : Option ℕ) (a_in b_in : Bool) → p ≡ i
+    → (at : ℕ → Subformula) (j : ℕ) (some : List Item) (tr : Trace) (t u : Rational)
+    → Behind (trace.start tr) (trace.stop tr) a b a_in b_in u t
+    → Certain true (tree_of at j (Historically p a b a_in b_in)) some tr u → Certain true (at i) some tr t
+historically_true p i a b a_in b_in e at j some tr t u w h = subst (λ k. Must (at k) some tr t) e (h t w)
 
 -- a signal of one instant, and one that goes on from it certainly false
 pub instant_on : (at : Frac) (p : Kleene) (r : List (Knot Kleene)) (from : ℕ) (t : Rational)

@@ -21,11 +21,11 @@ use Rattle.stl_syntax.specs.declared.items.Item.{Item}
 use Rattle.stl_syntax.specs.declared.node.Node.{Node}
 use Rattle.stl_syntax.specs.declared.node.Node.TheVariants.{Const, Atom as Leaf, Not, And, Or, Implies, Until, Eventually, Always, Since, Once, Historically}
 use Rattle.offline_eval.specs.Making.{IsFit}
-use Rattle.implicants.specs.Demands.{Certain, IsOn, IsOff, IsFull, IsVoid, IsDemand, IsAlong, StaysFit, AreOn, IsBeside, IsMet, AreCertainties, HandsDown}
+use Rattle.implicants.specs.Demands.{Certain, IsOn, IsOff, IsFull, IsVoid, IsDemand, IsAlong, StaysFit, AreOn, IsBeside, IsMet, IsMetBehind, AreCertainties, HandsDown}
 use Rattle.implicants.specs.declared.demand.Demand.{Demand}
-use Rattle.implicants.proofs.Demanding.{fit_over_ticks, told_at, all_down, beside_down, met_down, not_down, IsOther}
+use Rattle.implicants.proofs.Demanding.{fit_over_ticks, told_at, all_down, beside_down, met_down, behind_down, not_down, IsOther}
 use Rattle.implicants.proofs.Demanding.{right_of, and_true, and_false, or_false, or_true, implies_left, implies_right}
-use Rattle.implicants.proofs.Demanding.{implied_left, implied_right, eventually_false, always_true}
+use Rattle.implicants.proofs.Demanding.{implied_left, implied_right, eventually_false, always_true, once_false, historically_true}
 
 -- what follows of each demand follows of a demand that may be missing
 pub each_some : {E : Type 0} (r : Result (Option Demand) E) (G H : Demand → Type 0) → ((d : Demand) → G d → H d)
@@ -169,6 +169,21 @@ module _ (holds : Bool) (x : List (Knot Kleene)) (signals : List (List (Knot Kle
       (met_down holds x signals (Always p a b a_in b_in) i a b a_in b_in true d met
       (λ at j some tr t u w h. always_true p i a b a_in b_in (subst (λ m. IsChild m i) e child) at j some tr t u w
       (certain_as true is (tree_of at j (Always p a b a_in b_in)) some tr u h)))
+
+  -- so for the windows behind
+  pub hands_once : (p a : ℕ) (b : Option ℕ) (a_in b_in : Bool) (d : Demand) → n ≡ Once p a b a_in b_in → IsChild n i → holds ≡ false
+      → IsMetBehind kleene_shape false x a b a_in b_in d → Hands d
+  hands_once p a b a_in b_in d e child is met = subst (λ m. HandsDown kleene_shape m holds x signals i d) (sym e)
+      (behind_down holds x signals (Once p a b a_in b_in) i a b a_in b_in false d met
+      (λ at j some tr t u w h. once_false p i a b a_in b_in (subst (λ m. IsChild m i) e child) at j some tr t u w
+      (certain_as false is (tree_of at j (Once p a b a_in b_in)) some tr u h)))
+
+  pub hands_historically : (p a : ℕ) (b : Option ℕ) (a_in b_in : Bool) (d : Demand) → n ≡ Historically p a b a_in b_in → IsChild n i → holds ≡ true
+      → IsMetBehind kleene_shape true x a b a_in b_in d → Hands d
+  hands_historically p a b a_in b_in d e child is met = subst (λ m. HandsDown kleene_shape m holds x signals i d) (sym e)
+      (behind_down holds x signals (Historically p a b a_in b_in) i a b a_in b_in true d met
+      (λ at j some tr t u w h. historically_true p i a b a_in b_in (subst (λ m. IsChild m i) e child) at j some tr t u w
+      (certain_as true is (tree_of at j (Historically p a b a_in b_in)) some tr u h)))
 
 -- the operands of a node stand before it
 pub child_inside : (j i : ℕ) (n : Node) → HasChildrenBelow j n → IsChild n i → i < j

@@ -1,6 +1,6 @@
 -- What must be certain of a node wherever the formula is certainly false at the start.
 use Rattle.std.specs.Prelude.{◌≡◌, ◌⊎◌, ℕ, zero, suc, ◌+◌, ◌<◌, Bool, true, false, if◌then◌else◌}
-use Rattle.std.specs.Prelude.{List, length, Some, slice_get, slice_index_or, slice_set, MatchBool}
+use Rattle.std.specs.Prelude.{List, length, Option, Some, slice_get, slice_index_or, slice_set, MatchBool}
 use Rattle.rational.specs.Time.{Rational, IsIn, Within, ◌≈◌}
 use Rattle.rational.specs.Windows.{Behind}
 use Rattle.rational.specs.Extended.{Extended, ◌<ᵉ◌, ◌≤ᵉ◌}
@@ -92,6 +92,12 @@ module _ (shape : ShapeOf Kleene) where
     pub from : (t : Rational) → IsOn d.at t → (u : Rational) × Behind (start x) (stop x) a (Some b) a_in b_in t u × IsOn x u
     pub inside : (t : Rational) → IsOn d.at t → Within (start x) (stop x) t
     pub full : (t u : Rational) → Within (start x) (stop x) t → Behind (start x) (stop x) a (Some b) a_in b_in t u → IsFull x u → IsFull d.at t
+
+  -- the demand at times of the window behind a time at which the old signal is on
+  pub record IsMetBehind (holds : Bool) (x : List (Knot Kleene)) (a : ℕ) (b : Option ℕ) (a_in b_in : Bool) (d : Demand) : Type 0 where
+    pub same : d.holds ≡ holds
+    pub fit : StaysFit x d.at
+    pub from : (t : Rational) → IsOn d.at t → (u : Rational) × Behind (start x) (stop x) a b a_in b_in u t × IsOn x u
 
   -- the signals tell what the items leave certain of each node, and each node has values
   pub record AreCertainties (nodes : List Node) (tr : Trace) (items : List Item) (signals : List (List (Knot Kleene))) : Type 0 where

@@ -1,5 +1,5 @@
 //! What must be certain of a node wherever the formula is certainly false at the start, from the root down.
-ghost use Rattle.std.specs.Prelude.{◌≡◌, ◌⊎◌, ◌<◌, ◌≤◌, ℕ, List, Some, length, slice_get, pos, true, false, IfOk, IfSome};
+ghost use Rattle.std.specs.Prelude.{◌≡◌, ◌⊎◌, ◌<◌, ◌≤◌, ℕ, List, Some, length, slice_get, pos, IfOk, IfSome};
 ghost use Rattle.rational.specs.Time.{Rational, whole, ◌≈◌};
 ghost use Rattle.pl_signal.specs.Knots.{start, stop};
 ghost use Rattle.stl_syntax.specs.Trace.{start as start_of, stop as stop_of};
@@ -7,7 +7,7 @@ ghost use Rattle.stl_syntax.specs.Formula.{HasChildrenBelow};
 ghost use Rattle.stl_syntax.specs.WellFormed.{HasBounds};
 ghost use Rattle.stl_syntax.specs.Cells.{IsChild};
 ghost use Rattle.offline_eval.specs.Making.{IsFit};
-ghost use Rattle.implicants.specs.Demands.{AreCertainties, AreOn, HandsDown, IsAlong, IsBeside, IsDemand, IsFull, IsMet, IsOff, IsOn, IsVoid, StaysFit};
+ghost use Rattle.implicants.specs.Demands.{AreCertainties, AreOn, HandsDown, IsAlong, IsBeside, IsDemand, IsFull, IsMet, IsMetBehind, IsOff, IsOn, IsVoid, StaysFit};
 ghost use Rattle.pl_signal.specs.declared.knot.Knot.{Knot};
 ghost use Rattle.stl_syntax.specs.declared.items.Item.{Item};
 
@@ -20,7 +20,7 @@ use std::alloc::Global;
 use stl_syntax::{Formula, Node};
 use trace_reader::Trace;
 use value_laws::{Kleene, Shape};
-use window_ops::sup_past;
+use window_ops::{sup_past, sup_window};
 
 /// What is demanded of a node: wherever `at` is not certainly false, that the node is certainly true (`holds`), or certainly false.
 #[derive(Drop)]
@@ -59,7 +59,6 @@ pub(crate) fn where_both(
     ensures fit { IfOk result (λ o. IfSome o (λ d. StaysFit ⟦<Kleene as Shape>⟧ x.now d.at)) }
     ensures both { IfOk result (λ o. IfSome o (λ d. AreOn ⟦<Kleene as Shape>⟧ x.now y.now d.at)) }
 {
-    // For the proof alone: that it is a signal is a clause of `len`.
     let _ = x.len();
     match lower(x, y) {
         Ok(at) => Ok(Some(Demand { holds, at })),
@@ -76,7 +75,6 @@ pub(crate) fn turned(x: &Signal<Kleene>) -> Result<Signal<Kleene>, Memory>
     ensures off { IfOk result (λ r. (t : Rational) → IsOn ⟦<Kleene as Shape>⟧ r t → IsOff ⟦<Kleene as Shape>⟧ x.now t) }
     ensures on { IfOk result (λ r. (t : Rational) → IsOff ⟦<Kleene as Shape>⟧ r t → IsOn ⟦<Kleene as Shape>⟧ x.now t) }
 {
-    // For the proof alone: that it is a signal is a clause of `len`.
     let _ = x.len();
     neg(x)
 }
@@ -127,30 +125,65 @@ pub(crate) fn other_than(p: u32, q: u32, i: u32) -> u32
     if p == i { q } else { p }
 }
 
-/// The demand on the operand at place `i` of a node that has to be certainly true wherever `at` is on, as far as one is known.
-fn for_true(
+/// The upper bound of a window behind, or where it has none a length that no two times of a trace are more apart than.
+fn upper_bound(low: u32, high: Option<u32>) -> u32
+    requires { IfSome high (λ b. low ≤ b) }
+    ensures order { low ≤ result }
+    ensures is { IfSome high (λ b. result ≡ b) }
+{
+    match high {
+        Some(b) => b,
+        None => 4_294_967_295,
+    }
+}
+
+/// The demand at each time that the window behind meets from a time at which the signal is on.
+fn met_behind(
+    holds: bool,
+    x: &Signal<Kleene>,
+    low: u32,
+    high: Option<u32>,
+    low_in: bool,
+    high_in: bool,
+) -> Result<Option<Demand>, Memory>
+    requires fit { IsFit ⟦<Kleene as Shape>⟧ x.now }
+    requires order { IfSome high (λ b. low ≤ b) }
+    ensures { IfOk result (λ o. IfSome o (IsMetBehind ⟦<Kleene as Shape>⟧ holds x.now low high low_in high_in)) }
+{
+    let far = upper_bound(low, high);
+    match sup_window(x, low, far, low_in, high_in) {
+        Ok(at) => Ok(Some(Demand { holds, at })),
+        Err(OpFault::Memory) => Err(Memory),
+        Err(OpFault::Wide(_)) => Ok(None),
+    }
+}
+
+/// The demand on the operand at place `i` of a node with a window, of which `holds` is demanded wherever `at` is on: where that is
+/// so only if the operand is so at each time of the window.
+fn for_window(
     node: &Node,
-    at: Signal<Kleene>,
-    nodes: &Evaluated<Kleene>,
+    holds: bool,
+    at: &Signal<Kleene>,
     i: u32,
 ) -> Result<Option<Demand>, Memory>
-    requires fit { IsFit ⟦<Kleene as Shape>⟧ at }
-    requires below { HasChildrenBelow (length nodes.now) node.now }
+    requires fit { IsFit ⟦<Kleene as Shape>⟧ at.now }
     requires bounds { HasBounds node.now }
     requires child { IsChild node.now i }
-    requires others { (k : ℕ) (x : List (Knot Kleene)) → slice_get nodes.now k ≡ Some x
-        → IsFit ⟦<Kleene as Shape>⟧ x × IsAlong ⟦<Kleene as Shape>⟧ at x }
-    ensures { IfOk result (λ o. IfSome o (HandsDown ⟦<Kleene as Shape>⟧ node.now true at nodes.now i)) }
+    ensures { (signals : List (List (Knot Kleene)))
+        → IfOk result (λ o. IfSome o (HandsDown ⟦<Kleene as Shape>⟧ node.now holds at.now signals i)) }
 {
     match node {
-        Node::Not(_) => Ok(Some(Demand { holds: false, at })),
-        Node::And(_, _) => Ok(Some(Demand { holds: true, at })),
-        Node::Or(p, q) => beside(true, &at, nodes.signal(other_than(*p, *q, i)), true),
-        Node::Implies(p, q) => {
-            if *p == i {
-                return beside(false, &at, nodes.signal(*q), true);
+        Node::Eventually {
+            low,
+            high,
+            low_in,
+            high_in,
+            ..
+        } => {
+            if holds {
+                return Ok(None);
             }
-            beside(true, &at, nodes.signal(*p), false)
+            met(false, at, *low, *high, *low_in, *high_in)
         }
         Node::Always {
             low,
@@ -158,38 +191,36 @@ fn for_true(
             low_in,
             high_in,
             ..
-        } => met(true, &at, *low, *high, *low_in, *high_in),
-        _ => Ok(None),
-    }
-}
-
-/// The demand on the operand at place `i` of a node that has to be certainly false wherever `at` is on, as far as one is known.
-fn for_false(
-    node: &Node,
-    at: Signal<Kleene>,
-    nodes: &Evaluated<Kleene>,
-    i: u32,
-) -> Result<Option<Demand>, Memory>
-    requires fit { IsFit ⟦<Kleene as Shape>⟧ at }
-    requires below { HasChildrenBelow (length nodes.now) node.now }
-    requires bounds { HasBounds node.now }
-    requires child { IsChild node.now i }
-    requires others { (k : ℕ) (x : List (Knot Kleene)) → slice_get nodes.now k ≡ Some x
-        → IsFit ⟦<Kleene as Shape>⟧ x × IsAlong ⟦<Kleene as Shape>⟧ at x }
-    ensures { IfOk result (λ o. IfSome o (HandsDown ⟦<Kleene as Shape>⟧ node.now false at nodes.now i)) }
-{
-    match node {
-        Node::Not(_) => Ok(Some(Demand { holds: true, at })),
-        Node::And(p, q) => beside(false, &at, nodes.signal(other_than(*p, *q, i)), false),
-        Node::Or(_, _) => Ok(Some(Demand { holds: false, at })),
-        Node::Implies(p, _) => Ok(Some(Demand { holds: *p == i, at })),
-        Node::Eventually {
+        } => {
+            if holds {
+                return met(true, at, *low, *high, *low_in, *high_in);
+            }
+            Ok(None)
+        }
+        Node::Once {
             low,
             high,
             low_in,
             high_in,
             ..
-        } => met(false, &at, *low, *high, *low_in, *high_in),
+        } => {
+            if holds {
+                return Ok(None);
+            }
+            met_behind(false, at, *low, *high, *low_in, *high_in)
+        }
+        Node::Historically {
+            low,
+            high,
+            low_in,
+            high_in,
+            ..
+        } => {
+            if holds {
+                return met_behind(true, at, *low, *high, *low_in, *high_in);
+            }
+            Ok(None)
+        }
         _ => Ok(None),
     }
 }
@@ -210,10 +241,31 @@ fn for_operand(
         → IsFit ⟦<Kleene as Shape>⟧ x × IsAlong ⟦<Kleene as Shape>⟧ at x }
     ensures { IfOk result (λ o. IfSome o (HandsDown ⟦<Kleene as Shape>⟧ node.now holds at nodes.now i)) }
 {
-    if holds {
-        return for_true(node, at, nodes, i);
+    match node {
+        Node::Not(_) => Ok(Some(Demand { holds: !holds, at })),
+        Node::And(p, q) => {
+            if holds {
+                return Ok(Some(Demand { holds, at }));
+            }
+            beside(false, &at, nodes.signal(other_than(*p, *q, i)), false)
+        }
+        Node::Or(p, q) => {
+            if holds {
+                return beside(true, &at, nodes.signal(other_than(*p, *q, i)), true);
+            }
+            Ok(Some(Demand { holds, at }))
+        }
+        Node::Implies(p, q) => {
+            if !holds {
+                return Ok(Some(Demand { holds: *p == i, at }));
+            }
+            if *p == i {
+                return beside(false, &at, nodes.signal(*q), true);
+            }
+            beside(true, &at, nodes.signal(*p), false)
+        }
+        _ => for_window(node, holds, &at, i),
     }
-    for_false(node, at, nodes, i)
 }
 
 /// Towards which operand of a node the node at place `i` lies, where operands stand before it and the left one first.
@@ -261,7 +313,6 @@ pub(crate) fn demand_below(
         → IsDemand ⟦<Kleene as Shape>⟧ formula.now.nodes trace.now items d.holds i d.at)) }
     ensures fit { IfOk result (λ o. IfSome o (λ d. StaysFit ⟦<Kleene as Shape>⟧ demand.at d.at)) }
 {
-    // For the proof alone: that it is a trace, and where it ends, are clauses of these calls.
     let _ = (trace.rows(), last(trace));
     let Demand { mut holds, mut at } = demand;
     let mut j = from;
@@ -309,7 +360,6 @@ pub(crate) fn demand_on(
     ensures begins { IfOk result (λ o. IfSome o (λ d. start d.at ≈ start_of trace.now)) }
     ensures ends { IfOk result (λ o. IfSome o (λ d. stop d.at ≈ stop_of trace.now)) }
 {
-    // For the proof alone: that it is a trace is a clause of `rows`.
     let _ = trace.rows();
     let at = at_start(alloc, first(trace), last(trace))?;
     let root = Demand { holds: false, at };

@@ -68,7 +68,7 @@ fault_there f mux front more text all ended k l e fault =
     )
 
 -- so of a stored one
-stored_there : (f : Formula) (mux : Muxed) (front more : List Line) (text all : List ℕ) (ended : Bool)
+pub stored_there : (f : Formula) (mux : Muxed) (front more : List Line) (text all : List ℕ) (ended : Bool)
     (k : HasLines f mux front text) (x : LineFault) (n : ℕ) → n ≡ 1 + length front → x.line ≡ n → lines ended all ≡ front ++ more
     → FaultOfInput (1 + length front) k.after more (fault_in (1 + length front) x.kind) → IsInputStop f all ended text (Faulty x)
 stored_there f mux front more text all ended k x n number at e fault =
@@ -92,7 +92,7 @@ unsized_there f mux front line more text all ended k n size (Faulty x) number fi
 unsized_there f mux front line more text all ended k n size NoMemory number fits e u = absurd u
 
 -- the sessions refused it
-refused_fault : (f : Formula) (mux : Muxed) (front : List Line) (line text : List ℕ) (more : List Line)
+pub refused_fault : (f : Formula) (mux : Muxed) (front : List Line) (line text : List ℕ) (more : List Line)
     (k : HasLines f mux front text) (l : LineKind) → IsSized (1 + length front) (length line)
     → is_blank_line (ended_line line) ≡ false → IsRefusedBy (record { formula = f; seen = k.tagged }) line l
     → FaultOfInput (1 + length front) k.after (ended_line line ∷ more) (fault_in (1 + length front) l)

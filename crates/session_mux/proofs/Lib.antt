@@ -16,3 +16,7 @@ pub mod FrontLines
 pub mod OwedLines
 pub mod PlainTexts
 pub mod HearingLemmas
+pub mod FrontFaults
+pub mod FrontTexts
+pub mod RunLemmas
+pub mod RunInputs

@@ -264,7 +264,8 @@ answers_alone : (f : Formula) (bytes : List ℕ) {all : List Tagged} {whole : Bo
 answers_alone f bytes text (sound calm are) m = m
 answers_alone f bytes text (faulted x g are) m = m
 
-take_past : {X : Type 0} (xs ys : List X) (n m : ℕ) → n ≡ length xs + m → take n (xs ++ ys) ≡ xs ++ take m ys
+-- a take that goes past the first of two lists
+pub take_past : {X : Type 0} (xs ys : List X) (n m : ℕ) → n ≡ length xs + m → take n (xs ++ ys) ≡ xs ++ take m ys
 take_past [] ys n m e = let same : n ≡ m = omega (arith, e) in ap (λ k. take k ys) same
 take_past (x ∷ xs) ys zero m e = absurd (omega (arith, e))
 take_past (x ∷ xs) ys (suc n) m e = ap (λ l. x ∷ l) (take_past xs ys n m (omega (arith, e)))

@@ -68,7 +68,8 @@ module _ (f : Formula) (tag : List ℕ) (o p : Own) (told grown : List ℕ) (was
 -- ---- a text and then another
 
 module _ (tag text line : List ℕ) (whole : EndsInFeed text) where
-  both_lines : told_lines tag (text ++ line) ≡ told_lines tag text ++ told_lines tag line
+  -- the lines of two texts, of which the first is whole, are told one after the other
+  pub both_lines : told_lines tag (text ++ line) ≡ told_lines tag text ++ told_lines tag line
   both_lines = ap (λ ls. prefixed (tag ++ codes " ") ls) (lines_joined text line whole)
       ∙ flat_map-append (λ (l : Line). (tag ++ codes " ") ++ l.bytes ++ newline) (lines true text) (lines true line)
 

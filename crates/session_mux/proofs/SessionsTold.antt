@@ -19,7 +19,7 @@ use Rattle.trace_stream.proofs.OneFault.{one_fault}
 use Rattle.trace_stream.proofs.OwedRows.{stream_owed_once}
 
 -- the stream of rows under a header is that of verdicts
-stream_of : (f : Formula) (header : Option Header) (rows : List Row) (whole : Bool) (s : List ℕ) → IsRowsStream f header rows whole s
+pub stream_of : (f : Formula) (header : Option Header) (rows : List Row) (whole : Bool) (s : List ℕ) → IsRowsStream f header rows whole s
     → StreamOf verdicts f header rows whole s
 stream_of f None rows whole s h = h
 stream_of f (Some header) rows whole s h = h

@@ -9,3 +9,4 @@ pub mod Muxes
 pub mod Inputs
 pub mod Taking
 pub mod Hearing
+pub mod Running

@@ -1,15 +1,18 @@
 //! An input of several sessions, whose lines are cut from the pieces of its bytes.
 ghost use Rattle.std.specs.Prelude.{◌≡◌, ◌<◌, ◌≤◌, ◌++◌, ◌∷◌, ◌+◌, ℕ, List, [], true, false, length, take, MatchResult, OnOk};
 ghost use Rattle.stl_syntax.specs.Formula.{Formula as Parsed};
-ghost use Rattle.trace_reader.specs.TraceText.{content};
 ghost use Rattle.trace_reader.specs.Feeds.{HasNoFeed};
 ghost use Rattle.trace_reader.proofs.LineLemmas.{rest};
-ghost use Rattle.session_mux.specs.Muxes.{Past, StandsFor};
+ghost use Rattle.stl_syntax.specs.Texts.{newline};
+ghost use Rattle.session_mux.specs.Sessions.{IsTag};
+ghost use Rattle.session_mux.specs.Muxes.{Past, StandsFor, HasTaken};
+ghost use Rattle.session_mux.specs.Running.{IsRunRefused};
 ghost use Rattle.session_mux.specs.Taking.{ended_line, IsSized, HasLines, IsTaking, HasTakenSome, IsInputStop};
 ghost use Rattle.session_mux.specs.Taking.{IsLineStop, IsPartStop, HasAll, IsHanded, IsNotHanded, IsUnsized};
 
 use crate::fault::MuxFault;
 use crate::mux::Mux;
+use crate::run::{content_of, front_tag, gather};
 use crate::stop::{InputStop, LineFault, LineKind};
 use memchr::memchr;
 use std::alloc::Global;
@@ -24,12 +27,16 @@ const LONGEST: usize = 4_113;
 /// An input of several sessions: its sessions, the bytes of a line that has not ended, how many lines have, and the text that was made
 /// and that is to be written.
 ///
+/// Lines of one session that follow one another in a piece are handed to it together: it makes their answers in one step of its network,
+/// where they would take one each. `run` is room for their contents.
+///
 /// `IsTaking` says when it stands for the bytes that it took, and for the text that was taken from it. After a refusal it stands for
 /// nothing: its text is that of the lines before the fault, and no more is asked of it.
 #[derive(Drop)]
 pub struct Input {
     mux: Mux,
     part: Text,
+    run: Text,
     whole: u64,
     text: Text,
 }
@@ -54,19 +61,6 @@ fn sized(number: u64, size: usize) -> Result<(), InputStop>
     Ok(())
 }
 
-/// A line's bytes without one CR at the end.
-fn content_of(line: &[u8]) -> &[u8]
-    ensures { result.now ≡ content (ended_line line.now) }
-{
-    let Some((last, others)) = line.split_last() else {
-        return line;
-    };
-    if *last == b'\r' {
-        return others;
-    }
-    line
-}
-
 /// Hands line `number` to the sessions.
 fn hand(mux: &mut Mux, number: u64, line: &[u8], text: &mut Text) -> Result<(), InputStop>
     requires { (p : Past) × StandsFor p mux.old }
@@ -81,6 +75,30 @@ fn hand(mux: &mut Mux, number: u64, line: &[u8], text: &mut Text) -> Result<(), 
     }
 }
 
+/// Hands the contents of lines with one tag, each with its LF, to their session. The first of them is line `number`.
+fn hand_run(
+    mux: &mut Mux,
+    number: u64,
+    tag: &[u8],
+    contents: &[u8],
+    text: &mut Text,
+) -> Result<(), InputStop>
+    requires stands { (p : Past) × StandsFor p mux.old }
+    requires tag { IsTag tag.now }
+    requires some { 0 < length contents.now }
+    ensures { (p : Past) (content : List ℕ) → StandsFor p mux.old → contents.now ≡ content ++ newline → MatchResult result
+        (λ _. HasTaken p (record { tag = tag.now; content = content }) mux.new text.old text.new)
+        (IsRunRefused p number tag.now text.old text.new) }
+{
+    match mux.take(tag, &contents[..contents.len() - 1], text) {
+        Ok(()) => Ok(()),
+        Err(MuxFault::TooManySessions) => Err(refused(number, LineKind::TooManySessions)),
+        Err(MuxFault::BadTag | MuxFault::Stopped | MuxFault::Ended | MuxFault::Memory) => {
+            Err(InputStop::NoMemory)
+        }
+    }
+}
+
 impl Input {
     /// Takes no bytes yet. It takes no memory.
     pub fn new(alloc: Global, formula: Formula) -> Input
@@ -90,6 +108,7 @@ impl Input {
         Input {
             mux: Mux::new(alloc, formula),
             part: Text::new(alloc),
+            run: Text::new(alloc),
             whole: 0,
             text: Text::new(alloc),
         }
@@ -129,8 +148,38 @@ impl Input {
         Ok(())
     }
 
+    /// Hands the lines at the front of a piece that one session takes together to it, and answers how many bytes they have: none where the
+    /// piece begins with another line.
+    fn take_run(&mut self, piece: &[u8]) -> Result<usize, InputStop>
+        requires taking { HasTakenSome self.old }
+        requires whole { self.old.part ≡ [] }
+        ensures taken { (f : Parsed) (bytes written : List ℕ) → IsTaking f self.old bytes written → MatchResult result
+            (λ n. IsTaking f self.new (bytes ++ take n piece.now) written)
+            (λ e. IsInputStop f (bytes ++ piece.now) false (written ++ self.new.text) e) }
+        ensures within { MatchResult result (λ n. n ≤ length piece.now) (λ _. Unit {0}) }
+    {
+        let Some(tag) = front_tag(piece) else {
+            return Ok(0);
+        };
+        let Ok(run) = gather(&mut self.run, tag, piece, MOST_LINES - self.whole) else {
+            return Err(InputStop::NoMemory);
+        };
+        if run.lines == 0 {
+            return Ok(0);
+        }
+        hand_run(
+            &mut self.mux,
+            self.whole + 1,
+            tag,
+            self.run.bytes(),
+            &mut self.text,
+        )?;
+        self.whole += run.lines;
+        Ok(run.bytes)
+    }
+
     /// Takes bytes of a piece, up to and with its first LF, and answers how many.
-    fn step(&mut self, piece: &[u8]) -> Result<usize, InputStop>
+    fn take_line(&mut self, piece: &[u8]) -> Result<usize, InputStop>
         requires { HasTakenSome self.old }
         ensures taken { (f : Parsed) (bytes written : List ℕ) → IsTaking f self.old bytes written → MatchResult result
             (λ n. IsTaking f self.new (bytes ++ take n piece.now) written)
@@ -149,6 +198,24 @@ impl Input {
                 Ok(piece.len())
             }
         }
+    }
+
+    /// Takes some bytes of a piece: lines that go to one session together, or bytes up to and with the first LF. It answers how many.
+    fn step(&mut self, piece: &[u8]) -> Result<usize, InputStop>
+        requires { HasTakenSome self.old }
+        ensures taken { (f : Parsed) (bytes written : List ℕ) → IsTaking f self.old bytes written → MatchResult result
+            (λ n. IsTaking f self.new (bytes ++ take n piece.now) written)
+            (λ e. IsInputStop f (bytes ++ piece.now) false (written ++ self.new.text) e) }
+        ensures within { MatchResult result (λ n. n ≤ length piece.now) (λ _. Unit {0}) }
+        ensures progress { MatchResult result (λ n. 0 < length piece.now → 0 < n) (λ _. Unit {0}) }
+    {
+        if self.part.bytes().is_empty() {
+            let taken = self.take_run(piece)?;
+            if taken > 0 {
+                return Ok(taken);
+            }
+        }
+        self.take_line(piece)
     }
 
     /// Takes all bytes of a piece. The text grows by the answers to the lines that end in it.
@@ -219,6 +286,7 @@ impl Input {
         let Input {
             mux,
             part: _part,
+            run: _run,
             whole: _whole,
             text: _text,
         } = self;

@@ -8,6 +8,7 @@ pub mod laws;
 mod line;
 mod mux;
 mod recent;
+mod run;
 mod session;
 mod stop;
 mod tag;

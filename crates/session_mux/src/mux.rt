@@ -1,5 +1,6 @@
 //! Sessions in one input.
-ghost use Rattle.std.specs.Prelude.{◌≡◌, [], length, MatchResult};
+ghost use Rattle.std.specs.Prelude.{◌≡◌, ◌++◌, ◌∷◌, [], length, MatchResult};
+ghost use Rattle.session_mux.specs.Sessions.{IsTag};
 ghost use Rattle.session_mux.specs.Knowing.{tags_of};
 ghost use Rattle.session_mux.specs.Muxes.{Past, StandsFor, HasTags, IsLineCall, IsEndCall, Moves, IsLate, IsAllowed, phase_after};
 
@@ -102,6 +103,25 @@ impl Mux {
             return Err(MuxFault::BadTag);
         };
         let outcome = self.known.answer(line.tag, line.content, out);
+        self.phase = after_line(self.phase, outcome);
+        outcome
+    }
+
+    /// Takes a line of the input by its tag and its content, as `line` takes it whole. The content may be that of several lines, with an LF
+    /// after each but the last.
+    pub(crate) fn take(
+        &mut self,
+        tag: &[u8],
+        content: &[u8],
+        out: &mut Text,
+    ) -> Result<(), MuxFault>
+        requires { IsTag tag.now }
+        ensures taken { (p : Past) → StandsFor p self.old → IsLineCall p (tag.now ++ 32 ∷ content.now) self.old self.new out.old out.new result }
+        ensures phase { Moves Phase.Taking self.old self.new result }
+        ensures late { IsLate result → out.new ≡ out.old }
+    {
+        allow(self.phase)?;
+        let outcome = self.known.answer(tag, content, out);
         self.phase = after_line(self.phase, outcome);
         outcome
     }

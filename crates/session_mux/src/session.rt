@@ -40,16 +40,6 @@ pub(crate) struct Session {
     recent: Recent,
 }
 
-/// The formula once more.
-fn copied(formula: &Formula) -> Result<Formula, Memory>
-    ensures { IfOk result (λ f. f ≡ formula.now) }
-{
-    match formula.clone() {
-        Ok(formula) => Ok(formula),
-        Err(_) => Err(Memory),
-    }
-}
-
 /// The tag's bytes.
 fn named(alloc: Global, tag: &[u8]) -> Result<Text, Memory>
     ensures { IfOk result (λ t. t ≡ tag.now) }
@@ -60,14 +50,14 @@ fn named(alloc: Global, tag: &[u8]) -> Result<Text, Memory>
 }
 
 /// Whether the content asks for the last lines.
-fn asks(content: &[u8]) -> bool
+pub(crate) fn asks(content: &[u8]) -> bool
     ensures { result ≡ is_query content.now }
 {
     content == b"?".as_slice()
 }
 
 /// Whether the content ends its session.
-fn stops(content: &[u8]) -> bool
+pub(crate) fn stops(content: &[u8]) -> bool
     ensures { result ≡ is_stop content.now }
 {
     content == b".".as_slice()
@@ -197,7 +187,7 @@ impl Session {
         ensures told { IfOk result (λ s. HasTold formula.now (record { bytes = []; stopped = false }) [] s) }
     {
         let tag = named(alloc, tag)?;
-        let live = Live::new(alloc, copied(formula)?, LIMITS)?;
+        let live = Live::new(alloc, formula.copied()?, LIMITS)?;
         let recent = no_lines(alloc)?;
         Ok(Session {
             alloc,

@@ -5,7 +5,7 @@ ghost use Rattle.session_mux.specs.Sessions.{is_tag_byte as is_of_tag, Tagged, I
 ghost use Rattle.session_mux.specs.Tags.{number_of as number};
 
 /// The most bytes of a tag.
-const LONGEST: usize = 16;
+pub(crate) const LONGEST: usize = 16;
 
 /// Whether all bytes are spaces and tabs.
 pub(crate) fn is_blank(line: &[u8]) -> bool
@@ -30,7 +30,7 @@ fn is_tag_byte(byte: u8) -> bool
 }
 
 /// How many bytes at the front of a line may be of a tag.
-fn tag_len(line: &[u8]) -> usize
+pub(crate) fn tag_len(line: &[u8]) -> usize
     ensures within { result ≤ length line.now }
     ensures front { all is_of_tag (take result line.now) ≡ true }
     ensures stops { StopsAt is_of_tag (drop result line.now) }

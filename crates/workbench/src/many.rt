@@ -21,16 +21,6 @@ pub(crate) struct Many {
     input: Input,
 }
 
-/// The formula once more.
-fn copied(formula: &Formula) -> Result<Formula, Memory>
-    ensures { IfOk result (λ f. f ≡ formula.now) }
-{
-    match formula.clone() {
-        Ok(formula) => Ok(formula),
-        Err(_) => Err(Memory),
-    }
-}
-
 impl Many {
     /// No bytes of the input yet.
     ///
@@ -40,7 +30,7 @@ impl Many {
         ensures rest { IfOk result (λ m. IsManyAtRest m [] []) }
         ensures formula { IfOk result (λ m. m.formula ≡ formula) }
     {
-        match copied(&formula) {
+        match formula.copied() {
             Ok(same) => Ok(Many {
                 formula,
                 input: Input::new(alloc, same),

@@ -3,4 +3,4 @@ use Rattle.session_mux.proofs.Inputting.{taking_none}
 use Rattle.session_mux.proofs.input.Input.new.Goals as goal
 
 pub returns-clause-live : goal.returns-clause-live
-returns-clause-live c = taking_none c.args.formula _ c.new-2.ensures c.new-3.ensures refl c.new.ensures
+returns-clause-live c = taking_none c.args.formula _ c.new-2.ensures c.new-4.ensures refl c.new.ensures
