@@ -53,7 +53,8 @@ module _ (limits : Limits) (x : TraceRefusal) where
   early_after s h n count last [] tail f low = absurd (omega (arith, low, from_after s h n count last tail f))
   early_after s h n count last (l ∷ front) tail (inl a) low = inl a
   early_after s h n count last (l ∷ front) tail (inr (sound, (w, m))) low =
-      let blank = λ (f : FaultAfter limits s h false (suc n) count last (front ++ tail) x). early_after s h (suc n) count last front tail f (omega (arith, low)) in
+      let blank =
+      λ (f : FaultAfter limits s h false (suc n) count last (front ++ tail) x). early_after s h (suc n) count last front tail f (omega (arith, low)) in
       let more = λ (r : Row) (f : FaultAfter limits s h false (suc n) (suc count) (Some r.time) (front ++ tail) x).
       early_after s h (suc n) (suc count) (Some r.time) front tail f (omega (arith, low)) in
       inr (sound, (w, either (is_blank_line l) _ _ _ _ blank (λ f. elim f [ inl a ↦ inl a | inr a ↦ inr (a.0, (a.1.0, a.1.1, more a.1.0 a.1.2)) ]) m))

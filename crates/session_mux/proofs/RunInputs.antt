@@ -1,6 +1,7 @@
 -- Lines of one session that follow one another in an input: what it stands for once their session took them together.
 use Rattle.std.proofs.Common.{◌≡◌, inl, inr, refl, sym, ap, subst, ◌∙◌, ℕ, suc, ◌+◌, ◌-◌, ◌*◌, ◌<◌, ◌≤◌, Bool, true, false}
-use Rattle.std.proofs.Common.{List, [], ◌∷◌, ◌++◌, append_assoc, append-nil, length, take, drop, arith, length-append, take-append-drop, take-add, length-drop, get_or}
+use Rattle.std.proofs.Common.{List, [], ◌∷◌, ◌++◌, append_assoc, append-nil, length, take, drop}
+use Rattle.std.proofs.Common.{arith, length-append, take-append-drop, take-add, length-drop, get_or}
 use Rattle.std.specs.Prelude.{All, bytes_eq, ◌&&◌, ◌||◌, ◌==◌, map, Ok, Err}
 use Rattle.std.proofs.lemmas.Bool.{false≢true, eqb-true}
 use Rattle.std.proofs.lemmas.Grind.{flat_map-append}
@@ -269,7 +270,8 @@ gathered_on t piece most n count old mid new content m g less own with_content w
     record {
       lines = g.lines ++ l ∷ [];
       each = All-append (IsRunLine t) g.lines (l ∷ []) g.each (All-cons (IsRunLine t) l [] own.is (All-nil (IsRunLine t)));
-      taken = take-add n m piece ∙ ap (λ b. b ++ take m (drop n piece)) g.taken ∙ ap (λ b. bytes_of g.lines ++ b) (here ∙ sym (append-nil (own.bytes ++ newline)))
+      taken = take-add n m piece ∙ ap (λ b. b ++ take m (drop n piece)) g.taken
+          ∙ ap (λ b. bytes_of g.lines ++ b) (here ∙ sym (append-nil (own.bytes ++ newline)))
           ∙ sym (flat_map-append (λ (k : RunLine). k.bytes ++ newline) g.lines (l ∷ []));
       within = own_within t piece content n m g.within own;
       are = (let a = g.are in omega (arith, a, length_push g.lines l));
@@ -339,20 +341,6 @@ gathered_some t piece most n count contents g some = by_lines g.lines g.are g.co
     by_lines (l ∷ ls) e k =
         let (c, ends) = contents_end l ls in
         omega (arith, ap length (k ∙ ends), length-append c newline)
-
--- the room for a run is nothing that an input stands for
-pub taking_with : (f : Formula) (i : Input) (room bytes written : List ℕ) → IsTaking f i bytes written → IsTaking f (record i { run = room }) (bytes ++ []) written
-taking_with f i room bytes written k = subst (λ b. IsTaking f (record i { run = room }) b written) (sym (append-nil bytes)) (record {
-  front = k.front;
-  free = k.free;
-  joins = k.joins;
-  count = k.count;
-  few = k.few;
-  part_few = k.part_few;
-  short = k.short;
-  small = k.small;
-  taken = k.taken;
-})
 
 module _ (f : Formula) (i : Input) (bytes written piece : List ℕ) (k : IsTaking f i bytes written) (t : List ℕ) (is_tag : IsTag t) (n count : ℕ)
     (contents : List ℕ) (g : HasGathered t piece (8589934592 - i.whole) n count contents) (empty : i.part ≡ []) (some : count ≡ 0 → ⊥) where

@@ -275,8 +275,10 @@ module _ (tag : List ℕ) where
             → answer ≡ told_lines tag grown → (b : Bool) → is_stopped seen tag ≡ b → AreAnswers f seen (tagged_of tag (l ∷ ls)) answer
         by_stop told grown so all text true stop =
             let same : with_bytes (own_of seen tag) (contents_of (l ∷ ls)) ≡ own_of seen tag =
-            ap (λ b. cond b (own_of seen tag) (let q : Own = record { bytes = own seen tag ++ contents_of (l ∷ ls); stopped = is_stopped seen tag } in q)) stop in
-            let none = nothing_more (own seen tag) (is_stopped seen tag) told grown so (subst (λ (o : Own). Alone f o.bytes o.stopped (told ++ grown)) same all) in
+            ap (λ b. cond b (own_of seen tag) (let q : Own = record { bytes = own seen tag ++ contents_of (l ∷ ls); stopped = is_stopped seen tag } in q))
+            stop in
+            let none =
+            nothing_more (own seen tag) (is_stopped seen tag) told grown so (subst (λ (o : Own). Alone f o.bytes o.stopped (told ++ grown)) same all) in
             subst (λ t. AreAnswers f seen (tagged_of tag (l ∷ ls)) t) (sym (text ∙ ap (told_lines tag) none ∙ none_told))
             (stopped_answers seen (l ∷ ls) each stop told so)
         by_stop told grown so all text false going =

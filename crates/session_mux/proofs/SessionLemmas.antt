@@ -33,7 +33,7 @@ use Rattle.session_mux.specs.declared.session.Session.{Session}
 use Rattle.session_mux.proofs.RecentLemmas.{prefixed_last}
 use Rattle.session_mux.proofs.SessionsTold.{text_alone_once}
 use Rattle.session_mux.proofs.TextLemmas.{EndsInFeed, alone_ends, text_ends, ends_tail, lines_joined}
-use Rattle.session_mux.proofs.TextLemmas.{texts_joined, alone_of, alone_faulted, alone_stays, text_stays}
+use Rattle.session_mux.proofs.TextLemmas.{texts_joined, alone_of, alone_faulted, alone_stays}
 
 -- ---- parts of replies
 
@@ -153,32 +153,6 @@ pub stopped_at : (f : Formula) (bytes told : List ℕ) (live : Live Verdicts) (a
 stopped_at f bytes told live all text ended stop open_for h =
     subst (λ (g : Formula). IsLiveStop verdicts stream_limits g ended all text stop) open_for.formula
     (subst (λ (l : Limits). IsLiveStop verdicts l live.formula ended all text stop) open_for.limits h)
-
--- a reader that stopped in the first bytes stopped in all
-pub stop_stays : (limits : Limits) (f : Formula) (bytes more text : List ℕ) (stop : StreamStop)
-    → IsLiveStop verdicts limits f false bytes text stop → IsLiveStop verdicts limits f false (bytes ++ more) text stop
-stop_stays limits f bytes more text (Faulty fault) (x, is, input, t) = (
-  x,
-  is,
-  fault_stays limits f bytes more false x input,
-  text_stays limits f bytes more text (x, input) t,
-)
-stop_stays limits f bytes more text NoMemory h = tt
-stop_stays limits f bytes more text (Wide i den) h = absurd h
-
--- a content and then its LF
-pub fed_line : (r : Result (Unit {0}) StreamStop) (new : Live Verdicts) (limits mid_limits : Limits) (f mid_formula : Formula)
-    (bytes content written text : List ℕ) → mid_limits ≡ limits → mid_formula ≡ f
-    → MatchResult r (λ _. IsLive WatchesRows verdicts new ((bytes ++ content) ++ newline) written)
-    (λ e. IsLiveStop verdicts mid_limits mid_formula false ((bytes ++ content) ++ newline) text e)
-    → MatchResult r (λ _. IsLive WatchesRows verdicts new (bytes ++ (content ++ newline)) written)
-    (λ e. IsLiveStop verdicts limits f false (bytes ++ (content ++ newline)) text e)
-fed_line (Ok x) new limits mid_limits f mid_formula bytes content written text e k h =
-    subst (λ b. IsLive WatchesRows verdicts new b written) (append_assoc bytes content newline) h
-fed_line (Err stop) new limits mid_limits f mid_formula bytes content written text e k h =
-    subst (λ b. IsLiveStop verdicts limits f false b text stop) (append_assoc bytes content newline)
-    (subst (λ (g : Formula). IsLiveStop verdicts limits g false ((bytes ++ content) ++ newline) text stop) k
-    (subst (λ (l : Limits). IsLiveStop verdicts l mid_formula false ((bytes ++ content) ++ newline) text stop) e h))
 
 -- what stopped it is one of the formula
 pub reason_of : (limits : Limits) (f : Formula) (bytes text : List ℕ) (ended : Bool) (stop : StreamStop)

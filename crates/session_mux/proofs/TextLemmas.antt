@@ -194,16 +194,3 @@ ends_tail (c ∷ a) b (inr (d ∷ x, e)) = ends_tail a b (inr (x, tail_of c d (a
 -- the text of the rows so far is whole lines
 pub text_ends : (limits : Limits) (f : Formula) (bytes : List ℕ) (ended : Bool) (text : List ℕ) → IsTextOf verdicts limits f bytes ended text → EndsInFeed text
 text_ends limits f bytes ended text t = rows_stream_ends f t.header t.rows t.whole text (stream_is f t.header t.rows t.whole text t.is)
-
--- after a fault more bytes change no text
-pub text_stays : (limits : Limits) (f : Formula) (bytes more text : List ℕ) → ((x : Fault) × IsInputFault limits f bytes false x)
-    → IsTextOf verdicts limits f bytes false text
-    → IsTextOf verdicts limits f (bytes ++ more) false text
-text_stays limits f bytes more text fault t =
-    let open_still : t.whole ≡ false = going_on t.before refl in record {
-      header = t.header;
-      rows = t.rows;
-      whole = false;
-      before = rows_stay limits f bytes more false fault (subst (λ (w : Bool). AreRowsBefore limits f bytes false t.header t.rows w) open_still t.before);
-      is = subst (λ (w : Bool). StreamOf verdicts f t.header t.rows w text) open_still t.is;
-    }

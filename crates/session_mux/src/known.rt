@@ -25,7 +25,7 @@ pub(crate) struct Found {
 }
 
 /// The sessions in the order of their first lines, and the place of each by its tag's number. The tag of the line before is tried
-/// first, since benches send many lines at once.
+/// first, since benches send many lines at once. `room` is room for a line and its LF.
 #[derive(Drop)]
 pub(crate) struct Known {
     alloc: Global,
@@ -33,6 +33,7 @@ pub(crate) struct Known {
     sessions: Vec<Session>,
     places: BTreeMap<u128, usize>,
     last: Found,
+    room: Text,
 }
 
 impl Known {
@@ -50,6 +51,7 @@ impl Known {
                 number: 0,
                 place: 0,
             },
+            room: Text::new(alloc),
         }
     }
 
@@ -136,7 +138,7 @@ impl Known {
         ensures few { length self.new.sessions.items ≤ 1024 }
     {
         let place = self.place_for(tag)?;
-        match self.sessions[place].line(content, out) {
+        match self.sessions[place].line(content, &mut self.room, out) {
             Ok(()) => Ok(()),
             Err(_) => Err(MuxFault::Memory),
         }

@@ -63,8 +63,8 @@ pub(crate) fn stops(content: &[u8]) -> bool
     content == b".".as_slice()
 }
 
-/// Hands a line of a trace, with its LF, to the reader.
-fn feed_line(live: &mut Live<Verdicts>, content: &[u8]) -> Result<(), StreamStop>
+/// Hands a line of a trace, with its LF, to the reader: both at once, so that it takes the line in one step. `room` is room for them.
+fn feed_line(live: &mut Live<Verdicts>, content: &[u8], room: &mut Text) -> Result<(), StreamStop>
     requires { HasLived WatchesRows verdicts live.old }
     ensures taken { (bytes written : List ℕ) → IsLive WatchesRows verdicts live.old bytes written → MatchResult result
         (λ _. IsLive WatchesRows verdicts live.new (bytes ++ (content.now ++ newline)) written)
@@ -72,8 +72,14 @@ fn feed_line(live: &mut Live<Verdicts>, content: &[u8]) -> Result<(), StreamStop
     ensures limits { live.new.rows.limits ≡ live.old.rows.limits }
     ensures formula { live.new.formula ≡ live.old.formula }
 {
-    live.feed(content)?;
-    live.feed(b"\n")
+    room.clear();
+    let Ok(()) = room.push(content) else {
+        return Err(StreamStop::NoMemory);
+    };
+    let Ok(()) = room.push(b"\n") else {
+        return Err(StreamStop::NoMemory);
+    };
+    live.feed(room.bytes())
 }
 
 /// Tells the line of a trace's first fault.
@@ -127,6 +133,7 @@ fn take_with(
     tag: &[u8],
     recent: &mut Recent,
     content: &[u8],
+    room: &mut Text,
     out: &mut Text,
 ) -> Result<bool, Memory>
     requires room { recent.old.capacity ≡ 8 }
@@ -137,7 +144,7 @@ fn take_with(
         (IsAfterLine f (next_line o content.now).bytes goes_on live.new))
         (λ _. IsCutShort (IsGrowth f tag.now o (next_line o content.now)) out.old out.new) }
 {
-    match feed_line(live, content) {
+    match feed_line(live, content, room) {
         Ok(()) => {
             tell(alloc, tag, recent, live.text(), out)?;
             live.clear();
@@ -198,7 +205,7 @@ impl Session {
     }
 
     /// Takes a line of the trace, and tells what it answers.
-    fn take(&mut self, content: &[u8], out: &mut Text) -> Result<(), Memory>
+    fn take(&mut self, content: &[u8], room: &mut Text, out: &mut Text) -> Result<(), Memory>
         requires { HasSomeTold self.old }
         ensures { (f : Parsed) (o : Own) (told : List ℕ) → HasTold f o told self.old → MatchResult result
             (λ _. HasReplied f (next_line o content.now) self.old self.new (IsGrowth f self.old.tag o (next_line o content.now)) out.old out.new)
@@ -211,6 +218,7 @@ impl Session {
                 self.tag.bytes(),
                 &mut self.recent,
                 content,
+                room,
                 out,
             )?,
             None => return Ok(()),
@@ -239,11 +247,17 @@ impl Session {
         Ok(())
     }
 
-    /// Takes the content of a line, and tells what it answers.
+    /// Takes the content of a line, and tells what it answers. The content may be that of several lines, with an LF after each but the last.
+    /// `room` is room for it and its LF.
     ///
     /// # Errors
     /// Want of memory. A first part of the answer was added.
-    pub(crate) fn line(&mut self, content: &[u8], out: &mut Text) -> Result<(), Memory>
+    pub(crate) fn line(
+        &mut self,
+        content: &[u8],
+        room: &mut Text,
+        out: &mut Text,
+    ) -> Result<(), Memory>
         requires { HasSomeTold self.old }
         ensures { (f : Parsed) (o : Own) (told : List ℕ) → HasTold f o told self.old → MatchResult result
             (λ _. HasReplied f (with_content o content.now) self.old self.new (IsReply f self.old.tag o content.now) out.old out.new)
@@ -255,6 +269,6 @@ impl Session {
         if stops(content) {
             return self.end(out);
         }
-        self.take(content, out)
+        self.take(content, room, out)
     }
 }
