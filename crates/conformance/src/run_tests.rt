@@ -31,7 +31,7 @@ pub(crate) struct Devices {
 pub(crate) struct Ended {
     pub(crate) status: u8,
     pub(crate) out: MemSink,
-    err: MemSink,
+    pub(crate) err: MemSink,
 }
 
 /// Pieces of this size, and no fault.

@@ -1,8 +1,9 @@
 //! `rwatch` beside `robust`, over generated formulas, traces and pieces of the bytes: its lines lead from one to the next, so that each time
-//! is told once, and joined where only a row parts them they are those of `robust`.
-use super::run_tests::{Case, pieces, runs};
+//! is told once, and joined where only a row parts them they are those of `robust`. Where it is refused for a denominator, `robust` on the
+//! rows that had come names the same one, or answers, and then tells what `rwatch` told before.
+use super::run_tests::{Case, Devices, pieces, runs};
 use super::slow::Temporal;
-use super::slow_tests::{Dice, bound, bound_text};
+use super::slow_tests::{Dice, bound};
 use std::alloc::{AllocError, Global};
 use std::test::Fail;
 
@@ -72,16 +73,32 @@ fn is_one_line(before: &Gap<'_>, value: &str, after: &Gap<'_>) -> bool {
     }
 }
 
+/// Whether the lines tell a point at the time.
+fn has_point(lines: &str, at: &str) -> bool {
+    for line in lines.lines() {
+        if let Some((time, _)) = point_of(line)
+            && time == at
+        {
+            return true;
+        }
+    }
+    false
+}
+
 /// The lines of a margin so far, joined: those that stand for good, the last gap, if there is one, and the last point.
+///
+/// Two gaps are joined where they are of one line; beside the lines of `robust`, whose numbers may be too large to reckon with here,
+/// where those tell no point and the margin does not jump.
 #[derive(Drop)]
-struct Joined<'a> {
+struct Joined<'a, 'b> {
+    beside: Option<&'b str>,
     text: String,
     gap: Option<Gap<'a>>,
     at: &'a str,
     value: &'a str,
 }
 
-impl<'a> Joined<'a> {
+impl<'a, 'b> Joined<'a, 'b> {
     /// The last gap and the last point stand for good.
     fn settle(&mut self) -> Result<(), AllocError> {
         if let Some(gap) = self.gap {
@@ -92,12 +109,22 @@ impl<'a> Joined<'a> {
         write!(self.text, "[{at}] {value}\n")
     }
 
+    /// Whether the last gap goes on in the one that comes.
+    fn goes_on(&self, before: &Gap<'_>, after: &Gap<'_>) -> bool {
+        match self.beside {
+            Some(lines) => {
+                before.right == self.value && after.left == self.value && !has_point(lines, self.at)
+            }
+            None => is_one_line(before, self.value, after),
+        }
+    }
+
     /// A gap comes, and the point at its end.
     fn take(&mut self, gap: Gap<'a>, value: &'a str) -> Result<(), AllocError> {
         let last = self.gap;
         let mut next = gap;
         if let Some(before) = last
-            && is_one_line(&before, self.value, &gap)
+            && self.goes_on(&before, &gap)
         {
             next.from = before.from;
             next.left = before.left;
@@ -112,14 +139,19 @@ impl<'a> Joined<'a> {
 }
 
 /// The lines of a margin, joined where only a row parts them; None where they do not lead from one to the next.
-fn join_lines(alloc: Global, text: &str) -> Result<Option<String>, AllocError> {
+fn join_lines<'a, 'b>(
+    alloc: Global,
+    text: &'a str,
+    beside: Option<&'b str>,
+) -> Result<Option<Joined<'a, 'b>>, AllocError> {
     let mut all = Joined {
+        beside,
         text: String::new(alloc),
         gap: None,
         at: "",
         value: "",
     };
-    let mut open: Option<Gap<'_>> = None;
+    let mut open: Option<Gap<'a>> = None;
     for line in text.lines() {
         match (open, gap_of(line), point_of(line)) {
             (None, Some(gap), None) if gap.from == all.at => open = Some(gap),
@@ -137,9 +169,45 @@ fn join_lines(alloc: Global, text: &str) -> Result<Option<String>, AllocError> {
     if open.is_some() {
         return Ok(None);
     }
-    all.settle()?;
-    let Joined { text, .. } = all;
-    Ok(Some(text))
+    Ok(Some(all))
+}
+
+/// How long a tick of a bound is, and how much a step of a value.
+#[derive(Clone, Copy)]
+struct Size {
+    tick: u32,
+    unit: i64,
+}
+
+const SMALL: Size = Size { tick: 1, unit: 1 };
+
+/// So long and so steep that some margins need a denominator of 2^60 or more.
+const HUGE: Size = Size {
+    tick: 130_000_001,
+    unit: 1_860_000,
+};
+
+impl Size {
+    /// So many ticks, in a huge case one more or less.
+    fn ticks(&self, dice: &mut Dice, count: u8) -> u32 {
+        let all = u32::from(count).saturating_mul(self.tick);
+        if count == 0 || self.tick == 1 {
+            return all;
+        }
+        all.saturating_add(u32::from(dice.roll(3)))
+            .saturating_sub(1)
+    }
+
+    /// A value from -9 to 9 steps, in a huge case up to three more or less.
+    fn value(&self, dice: &mut Dice) -> i64 {
+        let steps = i64::from(dice.roll(19)) - 9;
+        let all = steps.saturating_mul(self.unit);
+        if self.unit == 1 {
+            return all;
+        }
+        all.saturating_add(i64::from(dice.roll(7)))
+            .saturating_sub(3)
+    }
 }
 
 /// An atom over a ramp and a step column.
@@ -167,11 +235,32 @@ const WINDOWS: [Temporal; 4] = [
     Temporal::Historically,
 ];
 
+/// The text of some bound of a window.
+fn within(
+    alloc: Global,
+    dice: &mut Dice,
+    window: Temporal,
+    size: Size,
+) -> Result<String, AllocError> {
+    let bound = bound(dice, window);
+    let open = if bound.low_in { "[" } else { "]" };
+    let close = if bound.high_in { "]" } else { "[" };
+    let low = size.ticks(dice, bound.low);
+    match bound.high {
+        Some(last) => {
+            let wide = size.ticks(dice, last.saturating_sub(bound.low));
+            let high = low.saturating_add(wide);
+            format!(in alloc; "{open}{low},{high}{close}")
+        }
+        None => format!(in alloc; "{open}{low},inf{close}"),
+    }
+}
+
 /// A window, a negation or a connective over a formula.
-fn over(alloc: Global, dice: &mut Dice, text: &str) -> Result<String, AllocError> {
+fn over(alloc: Global, dice: &mut Dice, text: &str, size: Size) -> Result<String, AllocError> {
     let form = usize::from(dice.roll(8));
     if let Some(window) = WINDOWS.get(form) {
-        let within = bound_text(alloc, &bound(dice, *window))?;
+        let within = within(alloc, dice, *window, size)?;
         let word = window.word();
         return format!(in alloc; "{word}{within} ({text})");
     }
@@ -184,36 +273,49 @@ fn over(alloc: Global, dice: &mut Dice, text: &str) -> Result<String, AllocError
     }
 }
 
-/// A formula of some operators in one another.
-fn formula(alloc: Global, dice: &mut Dice) -> Result<String, AllocError> {
+/// A formula of so many operators in one another.
+fn formula(
+    alloc: Global,
+    dice: &mut Dice,
+    operators: u8,
+    size: Size,
+) -> Result<String, AllocError> {
     let mut text = atom(alloc, dice)?;
-    for _ in 0..dice.roll(5) {
-        text = over(alloc, dice, text.as_str())?;
+    for _ in 0..operators {
+        text = over(alloc, dice, text.as_str(), size)?;
     }
     Ok(text)
 }
 
-/// A trace of at most eight rows, one to four ticks apart, whose values are below 10.
-fn trace(alloc: Global, dice: &mut Dice) -> Result<String, AllocError> {
-    let mut text = String::from_str(alloc, "time,x,q:step\n")?;
+/// A trace of at most eight rows, one to four ticks apart, whose values are of at most nine steps.
+fn trace(alloc: Global, dice: &mut Dice, header: &str, size: Size) -> Result<String, AllocError> {
+    let mut text = String::from_str(alloc, header)?;
     let mut time = 0u32;
     for _ in 0..dice.roll(8).saturating_add(1) {
-        let x = i64::from(dice.roll(19)) - 9;
-        let q = i64::from(dice.roll(19)) - 9;
+        let (x, q) = (size.value(dice), size.value(dice));
         write!(text, "{time},{x},{q}\n")?;
-        time = time.wrapping_add(u32::from(dice.roll(4).saturating_add(1)));
+        let apart = dice.roll(4).saturating_add(1);
+        time = time.saturating_add(size.ticks(dice, apart));
     }
     Ok(text)
 }
 
-/// What a command writes for pieces of a size, with its status.
+/// What a command writes, what it tells, and its status.
+#[derive(Drop)]
+struct Reply {
+    status: u8,
+    out: String,
+    err: String,
+}
+
+/// What a command answers for pieces of a size.
 fn answer(
     alloc: Global,
     command: &str,
     text: &str,
     input: &str,
     size: usize,
-) -> Result<(u8, String), Fail> {
+) -> Result<Reply, Fail> {
     let words: &[&str] = &[command, text];
     let case = Case {
         words,
@@ -222,11 +324,78 @@ fn answer(
         err: "",
         status: 0,
     };
-    let end = runs(alloc, case, pieces(size))?;
-    Ok((
-        end.status,
-        String::from_utf8_lossy(alloc, end.out.written())?,
-    ))
+    let devices = Devices {
+        room: 65536,
+        ..pieces(size)
+    };
+    let end = runs(alloc, case, devices)?;
+    Ok(Reply {
+        status: end.status,
+        out: String::from_utf8_lossy(alloc, end.out.written())?,
+        err: String::from_utf8_lossy(alloc, end.err.written())?,
+    })
+}
+
+/// Whether the lines, joined, are those of `robust`.
+fn are_the_same<'b>(
+    alloc: Global,
+    lines: &str,
+    whole: &str,
+    beside: Option<&'b str>,
+) -> Result<bool, AllocError> {
+    let Some(mut all) = join_lines(alloc, lines, beside)? else {
+        return Ok(false);
+    };
+    all.settle()?;
+    Ok(all.text.as_str() == whole)
+}
+
+/// Whether the lines, joined, are the first of `robust`, as far as no later line can be joined to them.
+fn are_the_first(alloc: Global, lines: &str, whole: &str) -> Result<bool, AllocError> {
+    match join_lines(alloc, lines, Some(whole))? {
+        Some(all) => Ok(whole.starts_with(all.text.as_str())),
+        None => Ok(false),
+    }
+}
+
+/// The first rows of a trace on which `rwatch` is refused as it is on all of them.
+fn rows_by(alloc: Global, text: &str, input: &str, refused: &Reply) -> Result<String, Fail> {
+    let mut rows = String::new(alloc);
+    for line in input.lines() {
+        write!(rows, "{line}\n")?;
+        let end = answer(alloc, "rwatch", text, rows.as_str(), 4096)?;
+        if end.status == refused.status && end.out == refused.out && end.err == refused.err {
+            return Ok(rows);
+        }
+    }
+    Ok(rows)
+}
+
+/// Whether the line is that of a denominator of 2^60 or more.
+fn is_wide(line: &str) -> bool {
+    let Some(rest) = line.strip_prefix("wide: node ") else {
+        return false;
+    };
+    let Some((_, den)) = rest.split_once(" needs denominator ") else {
+        return false;
+    };
+    match den.trim_end().parse::<u128>() {
+        Ok(den) => den >= 1 << 60,
+        Err(_) => false,
+    }
+}
+
+/// Whether a refusal is for a denominator, and `robust` on the rows that had come names the same, or answers and tells what was told before.
+fn is_beside(alloc: Global, text: &str, input: &str, refused: &Reply) -> Result<bool, Fail> {
+    if refused.status != 8 || !is_wide(refused.err.as_str()) {
+        return Ok(false);
+    }
+    let rows = rows_by(alloc, text, input, refused)?;
+    let whole = answer(alloc, "robust", text, rows.as_str(), 4096)?;
+    if whole.status == 0 {
+        return Ok(are_the_first(alloc, refused.out.as_str(), whole.out.as_str())?);
+    }
+    Ok(whole.status == 8 && whole.err == refused.err)
 }
 
 #[test]
@@ -234,15 +403,57 @@ fn the_lines_are_those_of_robust(rt: HostRuntime) -> Result<(), Fail> {
     let alloc = rt.alloc();
     let mut dice = Dice { state: 2028 };
     for case in 0..400 {
-        let (text, input) = (formula(alloc, &mut dice)?, trace(alloc, &mut dice)?);
+        let operators = dice.roll(5);
+        let text = formula(alloc, &mut dice, operators, SMALL)?;
+        let input = trace(alloc, &mut dice, "time,x,q:step\n", SMALL)?;
         let size = usize::from(dice.roll(40)).saturating_add(1);
         let whole = answer(alloc, "robust", text.as_str(), input.as_str(), 4096)?;
         let came = answer(alloc, "rwatch", text.as_str(), input.as_str(), size)?;
-        assert!(rt; whole.0 == 0 && came.0 == 0, "case {case}: {text}");
-        let Some(lines) = join_lines(alloc, came.1.as_str())? else {
-            panic!(rt; "case {case}: {text}: a gap or an overlap");
-        };
-        assert!(rt; lines == whole.1, "case {case}: {text}");
+        assert!(rt;
+            whole.status == 0 && came.status == 0,
+            "case {case}: {text}"
+        );
+        assert!(rt;
+            are_the_same(alloc, came.out.as_str(), whole.out.as_str(), None)?,
+            "case {case}: {text}"
+        );
     }
+    Ok(())
+}
+
+#[test]
+fn what_is_refused_has_come(rt: HostRuntime) -> Result<(), Fail> {
+    let alloc = rt.alloc();
+    let mut dice = Dice { state: 61 };
+    let (mut refused, mut told) = (0u32, 0u32);
+    for case in 0..300 {
+        let operators = dice.roll(4).saturating_add(2);
+        let text = formula(alloc, &mut dice, operators, HUGE)?;
+        let input = trace(alloc, &mut dice, "time,x,q\n", HUGE)?;
+        let size = usize::from(dice.roll(40)).saturating_add(1);
+        let came = answer(alloc, "rwatch", text.as_str(), input.as_str(), size)?;
+        if came.status == 0 {
+            let whole = answer(alloc, "robust", text.as_str(), input.as_str(), 4096)?;
+            assert!(rt;
+                are_the_same(
+                    alloc,
+                    came.out.as_str(),
+                    whole.out.as_str(),
+                    Some(whole.out.as_str())
+                )?,
+                "case {case}: {text}"
+            );
+        } else {
+            assert!(rt;
+                is_beside(alloc, text.as_str(), input.as_str(), &came)?,
+                "case {case}: {text}"
+            );
+            refused = refused.saturating_add(1);
+            if !came.out.is_empty() {
+                told = told.saturating_add(1);
+            }
+        }
+    }
+    assert!(rt; refused >= 8 && told >= 7, "{refused}, {told}");
     Ok(())
 }
