@@ -1,5 +1,5 @@
 //! What must be certain of a node wherever the formula is certainly false at the start, from the root down.
-ghost use Rattle.std.specs.Prelude.{◌≡◌, ◌⊎◌, ◌<◌, ◌≤◌, ℕ, List, Some, length, slice_get, pos, true, false, IfOk, IfSome};
+ghost use Rattle.std.specs.Prelude.{◌≡◌, ◌⊎◌, ◌<◌, ◌≤◌, ℕ, List, Some, length, slice_get, pos, IfOk, IfSome};
 ghost use Rattle.rational.specs.Time.{Rational, whole, ◌≈◌};
 ghost use Rattle.pl_signal.specs.Knots.{start, stop};
 ghost use Rattle.stl_syntax.specs.Trace.{start as start_of, stop as stop_of};
@@ -122,73 +122,6 @@ pub(crate) fn other_than(p: u32, q: u32, i: u32) -> u32
     if p == i { q } else { p }
 }
 
-/// The demand on the operand at place `i` of a node that has to be certainly true wherever `at` is on, as far as one is known.
-fn for_true(
-    node: &Node,
-    at: Signal<Kleene>,
-    nodes: &Evaluated<Kleene>,
-    i: u32,
-) -> Result<Option<Demand>, Memory>
-    requires fit { IsFit ⟦<Kleene as Shape>⟧ at }
-    requires below { HasChildrenBelow (length nodes.now) node.now }
-    requires bounds { HasBounds node.now }
-    requires child { IsChild node.now i }
-    requires others { (k : ℕ) (x : List (Knot Kleene)) → slice_get nodes.now k ≡ Some x
-        → IsFit ⟦<Kleene as Shape>⟧ x × IsAlong ⟦<Kleene as Shape>⟧ at x }
-    ensures { IfOk result (λ o. IfSome o (HandsDown ⟦<Kleene as Shape>⟧ node.now true at nodes.now i)) }
-{
-    match node {
-        Node::Not(_) => Ok(Some(Demand { holds: false, at })),
-        Node::And(_, _) => Ok(Some(Demand { holds: true, at })),
-        Node::Or(p, q) => beside(true, &at, nodes.signal(other_than(*p, *q, i)), true),
-        Node::Implies(p, q) => {
-            if *p == i {
-                return beside(false, &at, nodes.signal(*q), true);
-            }
-            beside(true, &at, nodes.signal(*p), false)
-        }
-        Node::Always {
-            low,
-            high,
-            low_in,
-            high_in,
-            ..
-        } => met(true, &at, *low, *high, *low_in, *high_in),
-        _ => Ok(None),
-    }
-}
-
-/// The demand on the operand at place `i` of a node that has to be certainly false wherever `at` is on, as far as one is known.
-fn for_false(
-    node: &Node,
-    at: Signal<Kleene>,
-    nodes: &Evaluated<Kleene>,
-    i: u32,
-) -> Result<Option<Demand>, Memory>
-    requires fit { IsFit ⟦<Kleene as Shape>⟧ at }
-    requires below { HasChildrenBelow (length nodes.now) node.now }
-    requires bounds { HasBounds node.now }
-    requires child { IsChild node.now i }
-    requires others { (k : ℕ) (x : List (Knot Kleene)) → slice_get nodes.now k ≡ Some x
-        → IsFit ⟦<Kleene as Shape>⟧ x × IsAlong ⟦<Kleene as Shape>⟧ at x }
-    ensures { IfOk result (λ o. IfSome o (HandsDown ⟦<Kleene as Shape>⟧ node.now false at nodes.now i)) }
-{
-    match node {
-        Node::Not(_) => Ok(Some(Demand { holds: true, at })),
-        Node::And(p, q) => beside(false, &at, nodes.signal(other_than(*p, *q, i)), false),
-        Node::Or(_, _) => Ok(Some(Demand { holds: false, at })),
-        Node::Implies(p, _) => Ok(Some(Demand { holds: *p == i, at })),
-        Node::Eventually {
-            low,
-            high,
-            low_in,
-            high_in,
-            ..
-        } => met(false, &at, *low, *high, *low_in, *high_in),
-        _ => Ok(None),
-    }
-}
-
 /// The demand on the operand at place `i` of a node of which `holds` is demanded wherever `at` is on, as far as one is known.
 fn for_operand(
     node: &Node,
@@ -205,10 +138,55 @@ fn for_operand(
         → IsFit ⟦<Kleene as Shape>⟧ x × IsAlong ⟦<Kleene as Shape>⟧ at x }
     ensures { IfOk result (λ o. IfSome o (HandsDown ⟦<Kleene as Shape>⟧ node.now holds at nodes.now i)) }
 {
-    if holds {
-        return for_true(node, at, nodes, i);
+    match node {
+        Node::Not(_) => Ok(Some(Demand { holds: !holds, at })),
+        Node::And(p, q) => {
+            if holds {
+                return Ok(Some(Demand { holds, at }));
+            }
+            beside(false, &at, nodes.signal(other_than(*p, *q, i)), false)
+        }
+        Node::Or(p, q) => {
+            if holds {
+                return beside(true, &at, nodes.signal(other_than(*p, *q, i)), true);
+            }
+            Ok(Some(Demand { holds, at }))
+        }
+        Node::Implies(p, q) => {
+            if !holds {
+                return Ok(Some(Demand { holds: *p == i, at }));
+            }
+            if *p == i {
+                return beside(false, &at, nodes.signal(*q), true);
+            }
+            beside(true, &at, nodes.signal(*p), false)
+        }
+        Node::Eventually {
+            low,
+            high,
+            low_in,
+            high_in,
+            ..
+        } => {
+            if holds {
+                return Ok(None);
+            }
+            met(false, &at, *low, *high, *low_in, *high_in)
+        }
+        Node::Always {
+            low,
+            high,
+            low_in,
+            high_in,
+            ..
+        } => {
+            if holds {
+                return met(true, &at, *low, *high, *low_in, *high_in);
+            }
+            Ok(None)
+        }
+        _ => Ok(None),
     }
-    for_false(node, at, nodes, i)
 }
 
 /// Towards which operand of a node the node at place `i` lies, where operands stand before it and the left one first.
