@@ -22,7 +22,7 @@ use Rattle.stl_syntax.proofs.LawProofs.{answers_stay}
 use Rattle.online_nodes.specs.Cuts.{begins, ends, Same}
 use Rattle.online_nodes.specs.Laws.{AreTold, AreTiles, answered_to}
 use Rattle.online_nodes.proofs.RunLaw.{int_order, some_is, none_is_none}
-use Rattle.online_nodes.proofs.StayLaw.{AgreeOn, described}
+use Rattle.online_nodes.proofs.StayLaw.{Agree, AgreeOn, described}
 use Rattle.online_nodes.proofs.Writing.{same_itself}
 use Rattle.online_nodes.proofs.EmittedLaw.{describes_tiles, tiles_append}
 use Rattle.report.specs.Report.{nodes_for}
