@@ -59,6 +59,7 @@ pub(crate) fn where_both(
     ensures fit { IfOk result (λ o. IfSome o (λ d. StaysFit ⟦<Kleene as Shape>⟧ x.now d.at)) }
     ensures both { IfOk result (λ o. IfSome o (λ d. AreOn ⟦<Kleene as Shape>⟧ x.now y.now d.at)) }
 {
+    // For the proof alone: that it is a signal is a clause of `len`.
     let _ = x.len();
     match lower(x, y) {
         Ok(at) => Ok(Some(Demand { holds, at })),
@@ -75,6 +76,7 @@ pub(crate) fn turned(x: &Signal<Kleene>) -> Result<Signal<Kleene>, Memory>
     ensures off { IfOk result (λ r. (t : Rational) → IsOn ⟦<Kleene as Shape>⟧ r t → IsOff ⟦<Kleene as Shape>⟧ x.now t) }
     ensures on { IfOk result (λ r. (t : Rational) → IsOff ⟦<Kleene as Shape>⟧ r t → IsOn ⟦<Kleene as Shape>⟧ x.now t) }
 {
+    // For the proof alone: that it is a signal is a clause of `len`.
     let _ = x.len();
     neg(x)
 }
@@ -313,6 +315,7 @@ pub(crate) fn demand_below(
         → IsDemand ⟦<Kleene as Shape>⟧ formula.now.nodes trace.now items d.holds i d.at)) }
     ensures fit { IfOk result (λ o. IfSome o (λ d. StaysFit ⟦<Kleene as Shape>⟧ demand.at d.at)) }
 {
+    // For the proof alone: that it is a trace, and where it ends, are clauses of these calls.
     let _ = (trace.rows(), last(trace));
     let Demand { mut holds, mut at } = demand;
     let mut j = from;
@@ -360,6 +363,7 @@ pub(crate) fn demand_on(
     ensures begins { IfOk result (λ o. IfSome o (λ d. start d.at ≈ start_of trace.now)) }
     ensures ends { IfOk result (λ o. IfSome o (λ d. stop d.at ≈ stop_of trace.now)) }
 {
+    // For the proof alone: that it is a trace is a clause of `rows`.
     let _ = trace.rows();
     let at = at_start(alloc, first(trace), last(trace))?;
     let root = Demand { holds: false, at };
