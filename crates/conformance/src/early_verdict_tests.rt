@@ -208,7 +208,7 @@ fn rows_decide_as_worked_by_hand(rt: HostRuntime) -> Result<(), Fail> {
 type Late = (&'static str, u32, (u32, bool));
 
 /// So long that the sets have let go, several times, of what they held of the first rows.
-const LATE: [Late; 8] = [
+const LATE: [Late; 11] = [
     ("always[0,150] eventually[0,5] y >= 1", 199, (152, true)),
     ("always[0,150] eventually[0,5] y >= 1", 100, (106, false)),
     ("always[0,150] (x >= 1 until[0,5] y >= 1)", 199, (152, true)),
@@ -224,6 +224,17 @@ const LATE: [Late; 8] = [
         "always[0,150] (x >= 1 since[0,5] y >= 1)",
         100,
         (106, false),
+    ),
+    ("always[0,150] (x >= 1 since y >= 1)", 100, (150, true)),
+    (
+        "always[0,150] (once[0,4] y >= 1 since y >= 1)",
+        199,
+        (148, true),
+    ),
+    (
+        "always[0,150] (once[0,4] y >= 1 since y >= 1)",
+        100,
+        (105, false),
     ),
 ];
 
