@@ -74,7 +74,7 @@ impl<P: Shape> Walk<P> {
     /// # Errors
     ///
     /// `Memory` where memory is wanting or a crossing is refused: `refusal` tells which. The walk is of no use then.
-    pub fn admit(&mut self, from: &Turn, item: Item<P>) -> Result<(), Memory>
+    pub fn admit(&mut self, from: &Turn, item: &Item<P>) -> Result<(), Memory>
         requires can { CanTake P.Shape self.old from.now }
         requires within { IsWithin (2 ^ 34) (value_of from.now.at) }
         requires new { IsNewItem P.Shape from.now item }
@@ -82,7 +82,7 @@ impl<P: Shape> Walk<P> {
         ensures took { OnOk result (Took P.Shape from.now item self.old self.new) }
         ensures fault { OnErr result (StopsAt P.Shape from.now from.now (λ parts. parts) self.old self.new) }
     {
-        self.take(from, &item)
+        self.take(from, item)
     }
 
     /// The gap counts from the one turn until the other, as the high end of the window moves over it.

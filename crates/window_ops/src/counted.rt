@@ -1,12 +1,7 @@
 //! What a piece of a signal counts as in a window on its way: a constant, frozen at a time of the piece, and then its slope.
-ghost use Rattle.std.specs.Prelude.{◌≡◌, None, true, false, OnOk, OnErr};
-ghost use Rattle.rational.specs.Time.{◌≤ʳ◌, ◌≈◌, shifted};
-ghost use Rattle.frac128.specs.Value.{value as value_of};
-ghost use Rattle.envelope.specs.Turns.{IsToCome};
-ghost use Rattle.window_ops.specs.Going.{CanCount, HasCounted, HasRefused, IsClamped, IsExtent, IsValueOf, IsWay};
 
 use crate::offsets::{Way, at_high, at_low};
-use envelope::{Item, Slope, Turn, Walk};
+use envelope::{Item, Turn, Walk};
 use frac128::{Frac, Memory};
 use pl_signal::{Signal, WidePair};
 use std::cmp::Ordering;
@@ -15,11 +10,9 @@ use value_laws::Shape;
 /// The value of a shape at a time: it counts from one turn until another, and then as its slope, if it has one.
 #[derive(Clone, Copy)]
 pub(crate) struct Piece<P> {
-    pub(crate) shape: P,
     pub(crate) at: Frac,
     pub(crate) from: Turn,
-    pub(crate) until: Turn,
-    pub(crate) slope: Option<Slope<P>>,
+    pub(crate) item: Item<P>,
 }
 
 /// How long what lies between two turns counts in a domain.
@@ -41,24 +34,18 @@ pub(crate) fn count<P: Shape>(
     way: &Way,
     walk: &mut Walk<P>,
     fault: &mut Option<WidePair<P>>,
-    piece: &Piece<P>,
+    piece: &mut Piece<P>,
 ) -> Result<(), Memory>
-    requires way { IsWay P.Shape s.now way.now }
-    requires none { fault.old ≡ None }
-    requires can { CanCount P.Shape s.now way.now piece.now walk.old }
-    ensures counted { OnOk result ((c : CanCount P.Shape s.now way.now piece.now walk.old) → HasCounted P.Shape s.now way.now piece.now walk.old walk.new c) }
-    ensures still { OnOk result (fault.new ≡ None) }
-    ensures fault { OnErr result (HasRefused P.Shape s.now way.now fault.new walk.new) }
 {
-    match extent_of(way, &piece.at, &piece.from, &piece.until) {
+    match extent_of(way, &piece.at, &piece.from, &piece.item.until) {
         Extent::Never => Ok(()),
-        Extent::AtLow => admit(s, way, walk, piece, at_low(&way.over, &piece.shape)),
-        Extent::AtHigh => admit(s, way, walk, piece, at_high(&way.over, &piece.shape)),
-        Extent::Long => match piece.shape.fix(&piece.at) {
+        Extent::AtLow => { let v = at_low(&way.over, &piece.item.value); admit(s, way, walk, piece, v) }
+        Extent::AtHigh => { let v = at_high(&way.over, &piece.item.value); admit(s, way, walk, piece, v) }
+        Extent::Long => match piece.item.value.fix(&piece.at) {
             Ok(value) => admit(s, way, walk, piece, value),
             Err(wide) => {
                 *fault = Some(WidePair::Value {
-                    p: piece.shape,
+                    p: piece.item.value,
                     at: piece.at,
                     den: wide.den,
                 });
@@ -73,29 +60,31 @@ fn admit<P: Shape>(
     s: &Signal<P>,
     way: &Way,
     walk: &mut Walk<P>,
-    piece: &Piece<P>,
+    piece: &mut Piece<P>,
     value: P,
 ) -> Result<(), Memory>
-    requires way { IsWay P.Shape s.now way.now }
-    requires can { CanCount P.Shape s.now way.now piece.now walk.old }
-    requires value { IsValueOf P.Shape s.now way.now piece.now value }
-    ensures counted { OnOk result ((c : CanCount P.Shape s.now way.now piece.now walk.old) → HasCounted P.Shape s.now way.now piece.now walk.old walk.new c) }
-    ensures fault { OnErr result (HasRefused P.Shape s.now way.now None walk.new) }
 {
     // For the proof alone: the signal is what the walk's parts are pieces of.
     let _ = s;
-    let from = clamped(way, &piece.from);
-    let item = Item {
-        value,
-        until: piece.until,
-        slope: piece.slope,
+    let begin = Turn {
+        at: way.start,
+        just_after: false,
     };
-    walk.admit(&from, item)
+    piece.item.value = value;
+    walk.admit(clamped_to(&begin, &piece.from), &piece.item)
+}
+
+/// The turn, or the start where it lies before.
+#[inline(always)]
+fn clamped_to<'a>(begin: &'a Turn, from: &'a Turn) -> &'a Turn {
+    match from.at.cmp(&begin.at) {
+        Ordering::Less => begin,
+        _ => from,
+    }
 }
 
 /// The turn, or the start where it lies before.
 pub(crate) fn clamped(way: &Way, from: &Turn) -> Turn
-    ensures { IsClamped way.now from.now result }
 {
     match from.at.cmp(&way.start) {
         Ordering::Less => Turn {
@@ -108,11 +97,6 @@ pub(crate) fn clamped(way: &Way, from: &Turn) -> Turn
 
 /// How long what lies between the turns counts in the domain.
 fn extent_of(way: &Way, at: &Frac, from: &Turn, until: &Turn) -> Extent
-    requires order { value_of way.now.start ≤ʳ value_of way.now.stop }
-    requires to_come { IsToCome until.now (value_of from.now.at) }
-    requires low_at { until.now.just_after ≡ true → shifted (value_of until.now.at) way.now.over.low ≈ value_of at.now }
-    requires high_at { from.now.just_after ≡ false → shifted (value_of from.now.at) way.now.over.high ≈ value_of at.now }
-    ensures { IsExtent way.now at.now from.now until.now result }
 {
     // For the proof alone: the time is that of the value that is taken.
     let _ = at;

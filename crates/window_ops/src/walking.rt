@@ -19,9 +19,9 @@ ghost use Rattle.window_ops.specs.Over.{BasesOver, BestOver, HasCauseOver, IsSma
 
 use crate::counted::{Piece, clamped, count};
 use crate::offsets::{Offsets, Way, at_high, at_low, leaves, low_of, meets};
-use envelope::{Slope, Turn, Walk, trend};
+use envelope::{Item, Slope, Turn, Walk, trend};
 use frac128::{Frac, Memory};
-use pl_signal::{Knot, OpFault, Side, Signal, WidePair};
+use pl_signal::{Knot, OpFault, Side, Signal, WidePair, favour};
 use std::cmp::Ordering;
 use value_laws::Shape;
 
@@ -90,9 +90,24 @@ fn walk_over<P: Shape>(
             return Ok(());
         }
         gap(s, i - 1, way, walk, fault)?;
+        if is_spare(s, i, way) {
+            continue;
+        }
         point(s, i, way, walk, fault)?;
     }
     Ok(())
+}
+
+/// Whether the point of the knot is no better than the gaps on both its sides: a window of some length that holds it holds a part of one of them.
+fn is_spare<P: Shape>(s: &Signal<P>, i: usize, way: &Way) -> bool {
+    if way.over.low == way.over.high || i + 1 == s.len() {
+        return false;
+    }
+    let knot = s.knot(i);
+    if favour(way.side, &s.knot(i - 1).after, &knot.point, &knot.time).is_gt() {
+        return false;
+    }
+    !favour(way.side, &knot.after, &knot.point, &knot.time).is_gt()
 }
 
 /// Whether no time lies in the window.
@@ -134,14 +149,12 @@ fn point<P: Shape>(
     ensures fault { OnErr result (HasRefused P.Shape s.now way.now fault.new walk.new) }
 {
     let knot = s.knot(i);
-    let piece = Piece {
-        shape: knot.point,
+    let mut piece = Piece {
         at: knot.time,
         from: meets(&way.over, &knot.time, !way.over.high_in),
-        until: leaves(&way.over, &knot.time, way.over.low_in),
-        slope: None,
+        item: Item { value: knot.point, until: leaves(&way.over, &knot.time, way.over.low_in), slope: None },
     };
-    count(s, way, walk, fault, &piece)
+    count(s, way, walk, fault, &mut piece)
 }
 
 /// Lets the gap after a knot count.
@@ -213,14 +226,8 @@ fn steady<P: Shape>(
     let next = s.knot(i + 1);
     let from = meets(&way.over, &knot.time, true);
     let until = leaves(&way.over, &next.time, false);
-    let piece = Piece {
-        shape: knot.after,
-        at: knot.time,
-        from,
-        until,
-        slope: None,
-    };
-    count(s, way, walk, fault, &piece)
+    let mut piece = Piece { at: knot.time, from, item: Item { value: knot.after, until, slope: None } };
+    count(s, way, walk, fault, &mut piece)
 }
 
 /// A gap that gets better with time counts as itself while the high end moves over it, and then as its limit.
@@ -248,14 +255,8 @@ fn rising<P: Shape>(
     climb(s, i, &knot, &next, way, walk)?;
     let from = meets(&way.over, &next.time, false);
     let until = leaves(&way.over, &next.time, false);
-    let piece = Piece {
-        shape: knot.after,
-        at: next.time,
-        from,
-        until,
-        slope: None,
-    };
-    count(s, way, walk, fault, &piece)
+    let mut piece = Piece { at: next.time, from, item: Item { value: knot.after, until, slope: None } };
+    count(s, way, walk, fault, &mut piece)
 }
 
 /// A gap that gets worse with time counts as its limit, and then as itself while the low end moves over it.
@@ -289,14 +290,8 @@ fn falling<P: Shape>(
     let from = meets(&way.over, &knot.time, true);
     let until = leaves(&way.over, &at, true);
     let slope = slope_of(way, &knot.after, &until, last);
-    let piece = Piece {
-        shape: knot.after,
-        at,
-        from,
-        until,
-        slope,
-    };
-    count(s, way, walk, fault, &piece)
+    let mut piece = Piece { at, from, item: Item { value: knot.after, until, slope } };
+    count(s, way, walk, fault, &mut piece)
 }
 
 /// The gap under the low end from one turn until another, if that end comes past the one in the domain.
