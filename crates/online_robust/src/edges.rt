@@ -86,6 +86,7 @@ impl Edges {
     /// # Errors
     ///
     /// `Memory` where there is no memory, and then nothing changes. With a spare of 1 it never comes.
+    #[inline(never)]
     pub fn put(&mut self, edge: u32, piece: MarginLine) -> Result<(), Memory>
         requires { edge < length self.old.edges }
         ensures put { OnOk result (self.new.edges ≡ with_edge self.old edge (with_more (edge_at self.old edge) (piece ∷ []))) }
@@ -117,6 +118,7 @@ impl Edges {
     }
 
     /// Takes out the first part of an edge. None where the edge holds none.
+    #[inline(never)]
     pub fn take(&mut self, edge: u32) -> Option<MarginLine>
         requires { edge < length self.old.edges }
         ensures first { result ≡ slice_get (held_at self.old edge) 0 }
@@ -175,6 +177,7 @@ impl Edges {
     }
 
     /// Reads the first part of an edge that was not read, and gives it. It takes no memory.
+    #[inline(never)]
     pub(crate) fn pass(&mut self, edge: u32) -> MarginLine
         requires edge { edge < length self.old.edges }
         requires some { 0 < length (fresh_at self.old edge) }

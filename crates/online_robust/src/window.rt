@@ -78,6 +78,7 @@ pub(crate) struct Sweep {
 }
 
 /// The gap that comes next at the back end of what was read, which is read; nothing where there is none.
+#[inline(always)]
 pub(crate) fn enter(edges: &mut Edges, of: u32, none: Margin) -> Gap
     requires { of < length edges.old.edges }
     ensures { MatchOption (slice_get (fresh_at edges.old of) 0) ((result ≡ no_gap none) × (edges.new ≡ edges.old))
@@ -150,6 +151,7 @@ fn or_better(side: Side, best: Margin, other: Option<Margin>, t: &Frac) -> Margi
 }
 
 /// The best at a time of what counts about it, and of the points under the ends.
+#[inline(always)]
 pub(crate) fn worth(
     side: Side,
     inside: &Best<Margin>,
@@ -357,6 +359,7 @@ impl Sweep {
     }
 
     /// What counts between here and the next time at which that may change.
+    #[inline(always)]
     fn best(&self) -> Best<Margin>
         requires { (x : Scope) × IsFitWindow self.now.window x.reach × IsMovedBy x.reach self.now.place.low.shape
             × IsMovedBy x.reach self.now.place.high.shape }
@@ -508,6 +511,7 @@ impl Sweep {
     }
 
     /// Goes on to the next time at which what counts may change, or to the time `to`.
+    #[inline(always)]
     fn go_on(&mut self, edges: &mut Edges, to: &Frac) -> Result<Gone, OpFault<Margin>>
         requires { (x : Scope) × IsAt x self.old edges.old × IsGoing x self.old (value to.now) }
         ensures stands { (x : Scope) → IsAt x self.old edges.old → IsGoing x self.old (value to.now)

@@ -150,6 +150,7 @@ impl<T> Pool<T> {
     /// # Errors
     ///
     /// The item itself, where there is no memory, and then nothing changes. With spare room for one item it never comes.
+    #[inline(always)]
     pub fn push_back(&mut self, list: u32, item: T) -> Result<(), T>
         requires { list < length self.old.all }
         ensures pushed { OnOk result (self.new.all ≡ with_list self.old list (list_at self.old list ++ item ∷ [])) }
@@ -172,6 +173,7 @@ impl<T> Pool<T> {
     }
 
     /// Takes the first item of a list, which makes room for one more. None where the list is empty.
+    #[inline(always)]
     pub fn pop_front(&mut self, list: u32) -> Option<T>
         requires { list < length self.old.all }
         ensures first { result ≡ slice_get (list_at self.old list) 0 }
