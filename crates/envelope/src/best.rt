@@ -57,6 +57,10 @@ fn or_better<P: Shape>(side: Side, p: &P, other: &Option<P>, t: &Frac) -> P
 }
 
 /// Goes on with the best of what counts up to the time, and with `point` there. Where a crossing is refused it is put into `fault`.
+///
+/// # Errors
+///
+/// `Memory` where memory is wanting or a crossing is refused.
 pub fn write<P: Shape>(
     side: Side,
     built: &mut Builder<P>,

@@ -5,3 +5,4 @@ pub mod Sizes
 pub mod Gap
 pub mod Spans
 pub mod Ratios
+pub mod Cuts

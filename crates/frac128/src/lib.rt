@@ -1,7 +1,8 @@
-//! Exact fractions of up to 128 bits, ramps over them, and a counter of steps.
+//! Exact fractions of up to 128 bits, spans and places of time, ramps over them, and a counter of steps.
 #![tactic(auto)]
 
 mod arith;
+mod cut;
 mod frac;
 mod ramp;
 mod ratio;
@@ -9,6 +10,7 @@ mod span;
 mod steps;
 
 pub use arith::{gcd, gcd_of_wide};
+pub use cut::Cut;
 pub use frac::{Frac, Memory, WideFrac};
 pub use ramp::Ramp;
 pub use ratio::{Ratio, cmp_ratio};

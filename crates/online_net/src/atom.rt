@@ -4,7 +4,8 @@ ghost use Rattle.std.specs.Prelude.{◌≡◌, ◌<◌, ◌≤◌, ℕ, length, 
 ghost use Rattle.rational.specs.Rational.{whole};
 ghost use Rattle.frac128.specs.Value.{value};
 ghost use Rattle.frac128.specs.Spans.{interval};
-ghost use Rattle.online_nodes.specs.Cuts.{place, begins, ends, AtMost, Same};
+ghost use Rattle.rational.specs.Places.{begins, ends, AtMost, Same};
+ghost use Rattle.frac128.specs.Cuts.{place};
 ghost use Rattle.stl_syntax.specs.Trace.{Row as ARow};
 ghost use Rattle.value_laws.specs.declared.truth.Truth.{Truth as ATruth};
 ghost use Rattle.online_nodes.specs.Held.{Held, edge_at, with_edge, with_number};
@@ -15,8 +16,8 @@ ghost use Rattle.atom_lines.specs.declared.truth.TruthPiece.TheVariants.{Whole};
 ghost use Rattle.online_net.specs.Atoms.{after_row, before_row, begun, HasSaidThree, HasBegun, IsThrough, HasPutAtom, HasPutAtoms};
 
 use atom_lines::{Bound, TruthPiece, truth_point, truth_step};
-use frac128::{Frac, Memory, Span};
-use online_nodes::{Cut, Edges, Operator, Out};
+use frac128::{Cut, Frac, Memory, Span};
+use online_nodes::{Edges, Operator, Out};
 use stl_syntax::Verdict;
 use trace_reader::Row;
 

@@ -6,7 +6,8 @@ use Rattle.rational.specs.Rational.{Rational}
 use Rattle.frac128.specs.Spans.{interval}
 use Rattle.stl_syntax.specs.Truth.{Truth}
 use Rattle.stl_syntax.specs.declared.items.Verdict.{Verdict}
-use Rattle.online_nodes.specs.Cuts.{Place, place, begins, ends, moved_begin, moved_end, After, Upto, AtMost, Before, Same}
+use Rattle.rational.specs.Places.{Place, begins, ends, moved_begin, moved_end, After, Upto, AtMost, Before, Same}
+use Rattle.frac128.specs.Cuts.{place}
 use Rattle.online_nodes.specs.Held.{Held, fresh_at}
 use Rattle.online_nodes.specs.Reading.{AllAre, Tells, MeetsUpto}
 use Rattle.online_nodes.specs.Written.{HasSaidBoth}
@@ -25,13 +26,13 @@ use Rattle.online_nodes.specs.Sinces.{
   IsStaying,
   Stay,
 }
-use Rattle.online_nodes.specs.declared.cut.Cut.{Cut}
+use Rattle.frac128.specs.declared.cut.Cut.{Cut}
 use Rattle.online_nodes.specs.declared.since.Course.{Course}
 use Rattle.online_nodes.specs.declared.since.Since.{Since}
 use Rattle.online_nodes.specs.declared.writer.Out.{Out}
 use Rattle.online_nodes.proofs.GotLemmas.{got-length, got-other}
 use Rattle.online_nodes.proofs.JoinLemmas.{after_at_most, worked_then_pass}
-use Rattle.online_nodes.proofs.PlaceLemmas.{
+use Rattle.rational.proofs.PlaceLemmas.{
   sides,
   not_both,
   place_order,

@@ -5,21 +5,22 @@ use Rattle.rational.proofs.Order.{le_or_lt, le_of_lt}
 use Rattle.frac128.specs.Spans.{interval}
 use Rattle.stl_syntax.specs.Truth.{Truth}
 use Rattle.stl_syntax.specs.declared.items.Verdict.{Verdict}
-use Rattle.online_nodes.specs.Cuts.{Place, place, begins, ends, moved_begin, After, Upto, AtMost, Before, Same}
+use Rattle.rational.specs.Places.{Place, begins, ends, moved_begin, After, Upto, AtMost, Before, Same}
+use Rattle.frac128.specs.Cuts.{place}
 use Rattle.online_nodes.specs.Held.{Held, fresh_at}
 use Rattle.online_nodes.specs.Reading.{AllAre, Tells}
 use Rattle.online_nodes.specs.Written.{HasSaidBoth, IsSound, waiting}
 use Rattle.online_nodes.specs.Sweeps.{Counted}
 use Rattle.online_nodes.specs.Untils.{Reads}
 use Rattle.online_nodes.specs.Sinces.{HasDone, HasRested, IsSince, IsSpent, IsStaying, Stay}
-use Rattle.online_nodes.specs.declared.cut.Cut.{Cut}
+use Rattle.frac128.specs.declared.cut.Cut.{Cut}
 use Rattle.online_nodes.specs.declared.since.Course.{Course}
 use Rattle.online_nodes.specs.declared.since.Since.{Since}
 use Rattle.online_nodes.specs.declared.writer.Out.{Out}
 use Rattle.online_nodes.proofs.GotLemmas.{got-other}
 use Rattle.online_nodes.proofs.JoinLemmas.{after_at_most}
-use Rattle.online_nodes.proofs.PlaceLemmas.{not_both, between, place_order, upto_of_before, upto_same}
-use Rattle.online_nodes.proofs.PlaceLemmas.{after_same, same_before, same_places, at_most_of_not_before}
+use Rattle.rational.proofs.PlaceLemmas.{not_both, between, place_order, upto_of_before, upto_same}
+use Rattle.rational.proofs.PlaceLemmas.{after_same, same_before, same_places, at_most_of_not_before}
 use Rattle.online_nodes.proofs.SinceLaw.{goes_on, went_on, fails, settled, knows_new_run, knows_later}
 use Rattle.online_nodes.proofs.SinceTurns.{IsWorking, left-first, left-says, run_behind, staying-remembers}
 use Rattle.online_nodes.proofs.UntilLaw.{after_later}

@@ -4,7 +4,8 @@ use Rattle.std.proofs.Common.{Some, slice_get, refl, sym, subst, ◌∙◌, arit
 use Rattle.std.proofs.lemmas.List.{append-nil}
 use Rattle.frac128.specs.Spans.{interval}
 use Rattle.stl_syntax.specs.declared.items.Verdict.{Verdict}
-use Rattle.online_nodes.specs.Cuts.{Place, place, begins, ends, moved_begin, Upto, AtMost, Before, Same}
+use Rattle.rational.specs.Places.{Place, begins, ends, moved_begin, Upto, AtMost, Before, Same}
+use Rattle.frac128.specs.Cuts.{place}
 use Rattle.online_nodes.specs.Held.{Held, fresh_at}
 use Rattle.online_nodes.specs.Reading.{AllAre}
 use Rattle.online_nodes.specs.Written.{IsSound, waiting}
@@ -25,14 +26,14 @@ use Rattle.online_nodes.specs.Sinces.{
   IsTurn,
   Stay,
 }
-use Rattle.online_nodes.specs.declared.cut.Cut.{Cut}
+use Rattle.frac128.specs.declared.cut.Cut.{Cut}
 use Rattle.online_nodes.specs.declared.since.Course.{Course}
 use Rattle.online_nodes.specs.declared.since.Since.{Since}
 use Rattle.online_nodes.specs.declared.since.Turn.{Turn}
 use Rattle.online_nodes.specs.declared.since.Turn.TheVariants.{More, Done}
 use Rattle.online_nodes.specs.declared.writer.Out.{Out}
 use Rattle.online_nodes.proofs.JoinLemmas.{after_at_most}
-use Rattle.online_nodes.proofs.PlaceLemmas.{not_both, between, upto_of_before, upto_same, before_trans, same_before, same_places}
+use Rattle.rational.proofs.PlaceLemmas.{not_both, between, upto_of_before, upto_same, before_trans, same_before, same_places}
 use Rattle.online_nodes.proofs.SinceLaw.{knows_right_fails, knows_right_read}
 use Rattle.online_nodes.proofs.SinceCounts.{IsFound, counts_right, counts_left, counts_done}
 use Rattle.online_nodes.proofs.SinceEnds.{rest_done}

@@ -10,7 +10,8 @@ use Rattle.rational.proofs.TimeLemmas.{later_from, later-add}
 use Rattle.frac128.specs.Spans.{interval}
 use Rattle.stl_syntax.specs.Truth.{Truth}
 use Rattle.stl_syntax.specs.declared.items.Verdict.{Verdict}
-use Rattle.online_nodes.specs.Cuts.{Place, place, begins, ends, moved_begin, moved_end, After, Upto, AtMost, Before, Same}
+use Rattle.rational.specs.Places.{Place, begins, ends, moved_begin, moved_end, After, Upto, AtMost, Before, Same}
+use Rattle.frac128.specs.Cuts.{place}
 use Rattle.online_nodes.specs.Held.{Held, fresh_at}
 use Rattle.online_nodes.specs.Reading.{AllAre, Tells, KnowsSince, SinceRemembers}
 use Rattle.online_nodes.specs.Written.{HasSaidBoth, IsSound}
@@ -18,13 +19,13 @@ use Rattle.online_nodes.specs.Working.{HasPassed, HasWorked}
 use Rattle.online_nodes.specs.Sweeps.{Counted, low_place, high_place}
 use Rattle.online_nodes.specs.Untils.{Reads}
 use Rattle.online_nodes.specs.Sinces.{CanMoveRun, HasMoved, HasReadLeft, IsSince, IsSpent, IsStaying, Stay}
-use Rattle.online_nodes.specs.declared.cut.Cut.{Cut}
+use Rattle.frac128.specs.declared.cut.Cut.{Cut}
 use Rattle.online_nodes.specs.declared.since.Course.{Course}
 use Rattle.online_nodes.specs.declared.since.Since.{Since}
 use Rattle.online_nodes.specs.declared.writer.Out.{Out}
 use Rattle.online_nodes.proofs.GotLemmas.{got-other}
 use Rattle.online_nodes.proofs.JoinLemmas.{after_at_most, worked_then_pass}
-use Rattle.online_nodes.proofs.PlaceLemmas.{sides, not_both, upto_of_before, upto_same, after_same, after_of_before, before_trans, same_places}
+use Rattle.rational.proofs.PlaceLemmas.{sides, not_both, upto_of_before, upto_same, after_same, after_of_before, before_trans, same_places}
 use Rattle.online_nodes.proofs.SaidLemmas.{passed-fresh, passed-one}
 use Rattle.online_nodes.proofs.SinceLaw.{goes_on, went_on, fails, not_yet, remembers_of, knows_new_run, knows_left_read, knows_later}
 use Rattle.online_nodes.proofs.UntilCounts.{meets_from}

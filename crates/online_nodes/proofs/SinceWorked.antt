@@ -43,7 +43,8 @@ use Rattle.online_nodes.specs.Stepping.{
   stretch_of,
   trace_in,
 }
-use Rattle.online_nodes.specs.Cuts.{After, AtMost, Before, Place, Same, Upto, begins, ends, moved_begin, place}
+use Rattle.rational.specs.Places.{After, AtMost, Before, Place, Same, Upto, begins, ends, moved_begin}
+use Rattle.frac128.specs.Cuts.{place}
 use Rattle.online_nodes.specs.Held.{Held, fresh_at, number_at}
 use Rattle.online_nodes.specs.Kinds.{held_in, inputs_of, open_by}
 use Rattle.online_nodes.specs.Operators.{IsSinceKnown, KnowsBy, behind, first_place, front_place, kind_of, place_of, read_upto}
@@ -53,7 +54,7 @@ use Rattle.online_nodes.specs.Sweeps.{Counted, high_place, low_place}
 use Rattle.online_nodes.specs.Untils.{Reads}
 use Rattle.online_nodes.specs.Working.{HasWorked}
 use Rattle.online_nodes.specs.Written.{waiting}
-use Rattle.online_nodes.specs.declared.cut.Cut.{Cut}
+use Rattle.frac128.specs.declared.cut.Cut.{Cut}
 use Rattle.online_nodes.specs.declared.kind.Kind.TheVariants.{Since as SinceOf}
 use Rattle.online_nodes.specs.declared.operator.Operator.{Operator}
 use Rattle.online_nodes.specs.declared.since.Course.{Course}
@@ -80,7 +81,7 @@ use Rattle.online_nodes.proofs.TellingLemmas.{at_most_order, fresh_counted, fres
 use Rattle.online_nodes.proofs.AnsweringLemmas.{fresh_few, worked_two}
 use Rattle.online_nodes.proofs.JoinLemmas.{after_at_most}
 use Rattle.online_nodes.proofs.LooksLaw.{since_looks}
-use Rattle.online_nodes.proofs.PlaceLemmas.{
+use Rattle.rational.proofs.PlaceLemmas.{
   after_same,
   before_same,
   before_trans,

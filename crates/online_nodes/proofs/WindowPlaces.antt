@@ -35,7 +35,7 @@ use Rattle.rational.proofs.Order.{
 }
 use Rattle.rational.proofs.Shift.{lt_shift, same_shift, shift_back}
 use Rattle.rational.proofs.Mixed.{parts}
-use Rattle.online_nodes.specs.Cuts.{Place, moved_begin, moved_end}
+use Rattle.rational.specs.Places.{Place, moved_begin, moved_end}
 use Rattle.online_nodes.specs.Reading.{MeetsAfter, MeetsUpto}
 
 shift_forth : (t : Rational) (k : ℤ) → add (add t (whole (neg_ℤ k))) (whole k) ≈ t

@@ -29,7 +29,7 @@ use Rattle.stl_syntax.specs.declared.node.Node.TheVariants.{
   Once,
   Historically,
 }
-use Rattle.online_nodes.specs.Cuts.{After, Before, Place, Upto}
+use Rattle.rational.specs.Places.{After, Before, Place, Upto}
 use Rattle.online_nodes.specs.Looking.{place_at}
 use Rattle.online_nodes.specs.Operators.{ahead, behind, kind_of}
 use Rattle.online_nodes.specs.Reading.{Looks}

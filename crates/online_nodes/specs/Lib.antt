@@ -4,7 +4,6 @@ pub mod Driven
 pub mod StreamedWide
 pub mod MarginStream
 pub mod MarginEdges
-pub mod Cuts
 pub mod Reading
 pub mod Held
 pub mod Queues

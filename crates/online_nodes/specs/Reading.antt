@@ -3,7 +3,7 @@ use Rattle.std.specs.Prelude.{Bool, true, not, MatchBool, List, [], ◌∷◌}
 use Rattle.rational.specs.Time.{Rational, ◌≤ʳ◌}
 use Rattle.frac128.specs.Spans.{interval}
 use Rattle.stl_syntax.specs.declared.items.Verdict.{Verdict}
-use Rattle.online_nodes.specs.Cuts.{Place, begins, ends, After, Upto, Before, Same}
+use Rattle.rational.specs.Places.{Place, begins, ends, After, Upto, Before, Same}
 
 -- a predicate of time
 abbrev pub Truths : Type 1

@@ -9,14 +9,15 @@ use Rattle.stl_syntax.specs.Trace.{Trace}
 use Rattle.stl_syntax.specs.Formula.{Subformula}
 use Rattle.stl_syntax.specs.Truth.{Truth}
 use Rattle.stl_syntax.specs.declared.items.Verdict.{Verdict}
-use Rattle.online_nodes.specs.Cuts.{Place, place, begins, ends, moved_begin, After, Upto, AtMost, Before}
+use Rattle.rational.specs.Places.{Place, begins, ends, moved_begin, After, Upto, AtMost, Before}
+use Rattle.frac128.specs.Cuts.{place}
 use Rattle.online_nodes.specs.Held.{Held, fresh_at}
 use Rattle.online_nodes.specs.Reading.{Tells, IsSinceOf, KnowsSince}
 use Rattle.online_nodes.specs.Written.{HasTold, HasSaidBoth, IsSound, waiting}
 use Rattle.online_nodes.specs.Working.{HasPassed, HasWorked}
 use Rattle.online_nodes.specs.Sweeps.{Counted, low_place, high_place}
 use Rattle.online_nodes.specs.Untils.{Reads}
-use Rattle.online_nodes.specs.declared.cut.Cut.{Cut}
+use Rattle.frac128.specs.declared.cut.Cut.{Cut}
 use Rattle.online_nodes.specs.declared.window.Window.{Window}
 use Rattle.online_nodes.specs.declared.since.Since.{Since}
 use Rattle.online_nodes.specs.declared.since.Course.{Course}

@@ -1,15 +1,15 @@
 //! The connectives, one verdict of each input at a time.
 
 ghost use Rattle.std.specs.Prelude.{◌≡◌, ◌≢◌, ◌+◌, ◌*◌, ◌<◌, length, IfOk, OnErr, MatchOption};
-ghost use Rattle.online_nodes.specs.Cuts.{place, AtMost};
+ghost use Rattle.rational.specs.Places.{AtMost};
+ghost use Rattle.frac128.specs.Cuts.{place};
 ghost use Rattle.online_nodes.specs.Held.{fresh_at};
 ghost use Rattle.online_nodes.specs.Written.{IsSound};
 ghost use Rattle.online_nodes.specs.Joins.{joined, HasFilled, HasJoined, HasPaused, HasReadBoth};
 
-use crate::cut::Cut;
 use crate::edges::Edges;
 use crate::writer::Out;
-use frac128::Memory;
+use frac128::{Cut, Memory};
 
 /// A connective of two inputs.
 #[derive(Clone, Copy, Debug)]
@@ -61,8 +61,8 @@ fn read_both(edges: &mut Edges, join: Join, inputs: Inputs, out: Out) -> Result<
     let Some(w) = edges.next(inputs.right) else {
         return Ok(None);
     };
-    let v_end = Cut::end(&v);
-    let w_end = Cut::end(&w);
+    let v_end = Cut::end(&v.on);
+    let w_end = Cut::end(&w.on);
     let both = v_end.earlier(w_end);
     if out.end().precedes(&both) {
         return Ok(None);

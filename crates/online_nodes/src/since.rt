@@ -5,16 +5,16 @@ ghost use Rattle.std.specs.Int.{w64};
 ghost use Rattle.rational.specs.Rational.{FitsFloor, add, whole};
 ghost use Rattle.frac128.specs.Value.{value};
 ghost use Rattle.stl_syntax.specs.declared.items.Verdict.{Verdict as Told};
-ghost use Rattle.online_nodes.specs.Cuts.{place, AtMost};
+ghost use Rattle.rational.specs.Places.{AtMost};
+ghost use Rattle.frac128.specs.Cuts.{place};
 ghost use Rattle.online_nodes.specs.Held.{fresh_at};
 ghost use Rattle.online_nodes.specs.Written.{IsSound};
 ghost use Rattle.online_nodes.specs.Sinces.{CanMove, CanMoveRun, IsBackward, HasGoneOn, HasPassedFirst, HasRested, HasSinceTold, IsTurn};
 
-use crate::cut::Cut;
 use crate::edges::Edges;
 use crate::window::Window;
 use crate::writer::Out;
-use frac128::Memory;
+use frac128::{Cut, Memory};
 use stl_syntax::Verdict;
 
 /// Since by its right input's window, whose `of` is the left input, and the right input.
@@ -70,7 +70,7 @@ fn go_on(edges: &mut Edges, since: Since, course: Course, v: Verdict) -> Result<
     ensures gone { IfOk result (λ turn. HasGoneOn edges.old edges.new since course v turn) }
     ensures memory { OnErr result (edges.old.spare < 2) }
 {
-    let end = Cut::end(&v);
+    let end = Cut::end(&v.on);
     if course.out.end().precedes(&end) {
         let done = rest(edges, course)?;
         return Ok(Turn::Done(done));
@@ -103,8 +103,8 @@ fn end_run(edges: &mut Edges, since: Since, course: Course, v: Verdict) -> Resul
     ensures turned { IfOk result (λ turn. IsTurn edges.old edges.new since course turn) }
     ensures memory { OnErr result (edges.old.spare < 2) }
 {
-    let end = Cut::end(&v);
-    let begin = Cut::begin(&v);
+    let end = Cut::end(&v.on);
+    let begin = Cut::begin(&v.on);
     let held = course.reach.earlier(begin);
     let to = course.out.end();
     if to.precedes(&end) {
@@ -151,8 +151,8 @@ fn pass_first(
     ensures passed { IfOk result (λ turn. HasPassedFirst edges.old edges.new since course v w turn) }
     ensures memory { OnErr result (edges.old.spare < 2) }
 {
-    let end = Cut::end(&v);
-    let last = Cut::end(&w).shift_begin(since.window.begin_by, since.window.begin_in);
+    let end = Cut::end(&v.on);
+    let last = Cut::end(&w.on).shift_begin(since.window.begin_by, since.window.begin_in);
     if !end.precedes(&last) {
         let _ = edges.pass(since.right);
         return Ok(Turn::More(course));
@@ -191,13 +191,13 @@ fn count(
     ensures turned { IfOk result (λ turn. IsTurn edges.old edges.new since course turn) }
     ensures memory { OnErr result (edges.old.spare < 4) }
 {
-    let w_end = Cut::end(&w);
-    let from = Cut::begin(&w).later(course.run);
+    let w_end = Cut::end(&w.on);
+    let from = Cut::begin(&w.on).later(course.run);
     if !from.precedes(&w_end) {
         let _ = edges.pass(since.right);
         return Ok(Turn::More(course));
     }
-    let v_end = Cut::end(&v);
+    let v_end = Cut::end(&v.on);
     let begin = from.shift_begin(since.window.begin_by, since.window.begin_in);
     if !begin.precedes(&v_end) {
         let turn = go_on(edges, since, course, v)?;

@@ -2,12 +2,12 @@
 
 ghost use Rattle.std.specs.Prelude.{◌≡◌, ◌<◌, length, IfOk, OnOk, OnErr, None};
 ghost use Rattle.frac128.specs.Spans.{interval};
-ghost use Rattle.online_nodes.specs.Cuts.{place, AtMost, Before, Same, begins, ends};
+ghost use Rattle.rational.specs.Places.{AtMost, Before, Same, begins, ends};
+ghost use Rattle.frac128.specs.Cuts.{place};
 ghost use Rattle.online_nodes.specs.Written.{HasAnswer, HasFinished, HasSaidBoth, HasWritten, IsSound, IsPutBack, Reaches, waiting};
 
-use crate::cut::Cut;
 use crate::edges::Edges;
-use frac128::{Memory, Span};
+use frac128::{Cut, Memory, Span};
 use stl_syntax::Verdict;
 
 /// Writes the verdicts of a stretch onto an edge. Each call says the verdict from where the last one ended; neighbours that

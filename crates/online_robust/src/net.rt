@@ -17,14 +17,14 @@ ghost use Rattle.online_robust.specs.declared.line.MarginLine.{MarginLine as Lin
 
 use crate::edges::Edges;
 use crate::line::MarginLine;
-use crate::station::{Station, from_start, horizon_of, work_of};
+use crate::station::{Station, from_start, work_of};
 use atom_lines::Bound;
 use frac128::Memory;
 use offline_eval::WideCause;
 use pl_signal::OpFault;
 use std::alloc::Global;
 use std::marker::Model;
-use stl_syntax::Formula;
+use stl_syntax::{Formula, horizon_of};
 use trace_reader::Row;
 use value_laws::Margin;
 

@@ -1,7 +1,5 @@
 //! A node of the network: by how much it lags behind the rows, and what it does.
-ghost use Rattle.std.specs.Prelude.{◌≡◌, ◌<◌, ◌≤◌, ◌≤ℤ◌, ◌<ℤ◌, ◌^◌, ℕ, ℤ, pos, negsuc, length, IfErr, OnOk, IsTrue, ◌↔◌, MatchOption, Some, None, false, true};
-ghost use Rattle.stl_syntax.specs.Formula.{HasChildrenBelow, horizon};
-ghost use Rattle.stl_syntax.specs.Horizons.{horizon_above};
+ghost use Rattle.std.specs.Prelude.{◌≡◌, ◌<◌, ◌≤◌, ◌≤ℤ◌, ◌<ℤ◌, pos, length, IfErr, OnOk, IsTrue, ◌↔◌, MatchOption, Some, None, false, true};
 ghost use Rattle.stl_syntax.specs.Trace.{Header};
 ghost use Rattle.stl_syntax.specs.declared.node.Node.{Node as ANode};
 ghost use Rattle.stl_syntax.specs.WellFormed.{HasBounds};
@@ -59,37 +57,6 @@ pub(crate) fn work_of(node: &Node) -> Work
     match Operator::new(node) {
         Some(operator) => Work::Operator(operator),
         None => leaf_of(node),
-    }
-}
-
-/// The horizon of a node, from those of the nodes before it.
-pub(crate) fn horizon_of(before: &[u64], node: &Node) -> u64
-    requires below { HasChildrenBelow (length before.now) node.now }
-    requires small { horizon_above before.now node.now < 2 ^ 32 }
-    ensures { result ≡ horizon_above before.now node.now }
-{
-    match node {
-        Node::Const(_) | Node::Atom(_) => 0,
-        Node::Not(p) => before[*p as usize],
-        Node::And(p, q) | Node::Or(p, q) | Node::Implies(p, q) => before[*p as usize].max(
-            before[*q as usize],
-        ),
-        Node::Until {
-            left,
-            right,
-            high,
-            ..
-        } => *high as u64 + before[*left as usize].max(before[*right as usize]),
-        Node::Eventually { of, high, .. } | Node::Always { of, high, .. } => *high as u64
-            + before[*of as usize],
-        Node::Since {
-            left,
-            right,
-            low,
-            ..
-        } => before[*left as usize].max(before[*right as usize].saturating_sub(*low as u64)),
-        Node::Once { of, low, .. } | Node::Historically { of, low, .. } =>
-            before[*of as usize].saturating_sub(*low as u64),
     }
 }
 

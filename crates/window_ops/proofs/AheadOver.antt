@@ -40,7 +40,7 @@ module _ (from to : Rational) (a b : ℕ) (a_in b_in : Bool) where
     ends = precedes_before b_in u (shifted t (pos b)) (later t b) o.ends (le_of_same (shifted_pos t b));
   }
 
-  -- and the other way round
+  -- a time of the window ahead lies between the offsets of that window
   pub over_of_ahead : (t u : Rational) → Ahead from to a b a_in b_in t u → Over from to (ahead_offsets a b a_in b_in) t u
   over_of_ahead t u o = record {
     inside = o.inside;

@@ -78,7 +78,7 @@ module _ (from to : Rational) (first : whole (pos 0) ≤ʳ from) (last : to <ʳ 
     behind_of_over None t u o = record { inside = o.inside; begins = tt; ends = before_back a_in t u a o.ends }
     behind_of_over (Some b) t u o = record { inside = o.inside; begins = after_back b_in t u b o.begins; ends = before_back a_in t u a o.ends }
 
-    -- and the other way round, for a time of the domain
+    -- a time of the window behind that the domain reaches lies between the offsets of that window
     pub over_of_behind : (b : Option ℕ) (t u : Rational) → t ≤ʳ to → Behind from to a b a_in b_in t u → Over from to (behind_offsets a b a_in b_in) t u
     over_of_behind None t u h o = record {
       inside = o.inside;

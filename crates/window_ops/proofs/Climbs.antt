@@ -44,7 +44,7 @@ module _ (way : Way) (until stopped : Turn) where
   stopped_at (inl (e, h)) = subst (λ (u : Turn). value u.at ≤ʳ value way.stop) (sym e) h
   stopped_at (inr (e, h)) = subst (λ (u : Turn). value u.at ≤ʳ value way.stop) (sym e) (le_refl (value way.stop))
 
-  -- and keeps within the limits of times
+  -- the time of a stopped turn keeps within the limits of times
   pub stopped_within : IsWithin (2 ^ 34) (value way.stop) → IsWithin (2 ^ 34) (value until.at) → IsStopped way until stopped
       → IsWithin (2 ^ 34) (value stopped.at)
   stopped_within a b (inl (e, h)) = subst (λ (u : Turn). IsWithin (2 ^ 34) (value u.at)) (sym e) b
@@ -55,7 +55,7 @@ module _ (way : Way) (until stopped : Turn) where
   to_come_until (inl (e, h)) t b m = subst (λ u. IsToCome u t) e m
   to_come_until (inr (e, h)) t b m = inl (lt_of_le_of_lt b h)
 
-  -- and the other way round
+  -- what has not come at the turn has not come at the stopped turn
   pub to_come_stopped : IsStopped way until stopped → (t : Rational) → t ≤ʳ value way.stop → IsToCome until t → IsToCome stopped t
   to_come_stopped (inl (e, h)) t b m = subst (λ u. IsToCome u t) (sym e) m
   to_come_stopped (inr (e, h)) t b m = subst (λ u. IsToCome u t) (sym e) (by_order (lt_or_same_or_gt t (value way.stop)))
@@ -72,7 +72,7 @@ module _ (way : Way) (until stopped : Turn) where
   come_stopped (inr (e, h)) t (inl m) = subst (λ u. HasCome u t) (sym e) (inl (lt_of_lt_of_le h (at_of_come until t m)))
   come_stopped (inr (e, h)) t (inr m) = subst (λ u. HasCome u t) (sym e) (inl m)
 
-  -- what has come at the stopped turn has come at the turn, or lies behind the end
+  -- what has come at the stopped turn has come at the turn too, or lies behind the domain's end
   pub stopped_come : IsStopped way until stopped → (t : Rational) → HasCome stopped t → HasCome until t ⊎ (value way.stop <ʳ t)
   stopped_come (inl (e, h)) t m = inl (subst (λ u. HasCome u t) e m)
   stopped_come (inr (e, h)) t m = inr (after (subst (λ u. HasCome u t) e m))

@@ -46,17 +46,17 @@ module _ (way : Way) (from clamped : Turn) where
   clamped_start (inl (e, h)) = subst (λ (u : Turn). value way.start ≤ʳ value u.at) (sym e) h
   clamped_start (inr (e, h)) = subst (λ (u : Turn). value way.start ≤ʳ value u.at) (sym e) (le_refl (value way.start))
 
-  -- nor earlier than the turn itself
+  -- a turn that was clamped comes no earlier than it did before
   pub clamped_after : IsClamped way from clamped → value from.at ≤ʳ value clamped.at
   clamped_after (inl (e, h)) = subst (λ (u : Turn). value from.at ≤ʳ value u.at) (sym e) (le_refl (value from.at))
   clamped_after (inr (e, h)) = subst (λ (u : Turn). value from.at ≤ʳ value u.at) (sym e) (le_of_lt h)
 
-  -- nor later than what both precede
+  -- a turn that was clamped comes no later than a time that neither it nor the domain's start comes after
   pub clamped_stop : (to : Rational) → value way.start ≤ʳ to → value from.at ≤ʳ to → IsClamped way from clamped → value clamped.at ≤ʳ to
   clamped_stop to a b (inl (e, h)) = subst (λ (u : Turn). value u.at ≤ʳ to) (sym e) b
   clamped_stop to a b (inr (e, h)) = subst (λ (u : Turn). value u.at ≤ʳ to) (sym e) a
 
-  -- and keeps within the limits of times
+  -- the time of a clamped turn keeps within the limits of times
   pub clamped_within : IsWithin (2 ^ 34) (value way.start) → IsWithin (2 ^ 34) (value from.at) → IsClamped way from clamped
       → IsWithin (2 ^ 34) (value clamped.at)
   clamped_within a b (inl (e, h)) = subst (λ (u : Turn). IsWithin (2 ^ 34) (value u.at)) (sym e) b
@@ -67,7 +67,7 @@ module _ (way : Way) (from clamped : Turn) where
   clamped_come (inl (e, h)) t m = subst (λ u. HasCome u t) e m
   clamped_come (inr (e, h)) t m = inl (lt_of_lt_of_le h (at_of_come (turn_of way.start false) t (subst (λ u. HasCome u t) e m)))
 
-  -- and the other way round, from the start on
+  -- what has come at the turn, from the domain's start on, has come at the clamped turn
   pub come_clamped : IsClamped way from clamped → (t : Rational) → value way.start ≤ʳ t → HasCome from t → HasCome clamped t
   come_clamped (inl (e, h)) t s m = subst (λ u. HasCome u t) (sym e) m
   come_clamped (inr (e, h)) t s m = subst (λ u. HasCome u t) (sym e) (come_at way.start t s)
@@ -367,11 +367,11 @@ module _ {P : Type 0} (shape : ShapeOf P) (laws : ShapeLaws shape) (knots : List
     le_trans k (le_trans is_way.last (le_whole {j = pos (2 ^ 32)} {k = pos (2 ^ 34)} (omega (arith, ints)))),
   )
 
-  -- so does its start
+  -- the start of the domain keeps within the limits
   pub start_within : IsWithin (2 ^ 34) (value way.start)
   start_within = subst (IsWithin (2 ^ 34)) (sym is_way.starts) (within_domain (start knots) (le_refl (start knots)) is_way.order)
 
-  -- and its end
+  -- the end of the domain keeps within the limits
   pub stop_within : IsWithin (2 ^ 34) (value way.stop)
   stop_within = subst (IsWithin (2 ^ 34)) (sym is_way.stops) (within_domain (stop knots) is_way.order (le_refl (stop knots)))
 

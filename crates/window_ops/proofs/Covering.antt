@@ -124,7 +124,7 @@ module _ {P : Type 0} (shape : ShapeOf P) (laws : ShapeLaws shape) (knots : List
       in_play = λ t a b h m line constant. point_in_play shape laws knots way is_way i k t line here (point_over t h m) constant;
     }
 
-    -- it may be counted when the walk stands before it
+    -- a knot's point may be counted when the walk stands before it
     pub can_point : (parts : List (Part P)) (old : Walk P) → StandsAt shape knots way (turn_of k.time false) parts old
         → CanCount shape knots way (record { shape = k.point; at = k.time; from = from; until = until; slope = None }) old
     can_point parts old before = record {
@@ -140,7 +140,7 @@ module _ {P : Type 0} (shape : ShapeOf P) (laws : ShapeLaws shape) (knots : List
           (shifted t way.over.low) h) before.goes;
     }
 
-    -- and once it was counted the walk stands behind it
+    -- once a knot's point was counted the walk stands behind it
     pub came_point : (parts : List (Part P)) (old new : Walk P) (before : StandsAt shape knots way (turn_of k.time false) parts old)
         (counted : HasCounted shape knots way (record { shape = k.point; at = k.time; from = from; until = until; slope = None }) old new
         (can_point parts old before))

@@ -47,35 +47,35 @@ module _ (a r : Rational) (k : ℤ) (is : r ≈ add a (whole (neg_ℤ k))) where
   pub at_is : shifted r k ≈ a
   at_is = same_trans (shifted-add r k) (same_trans (same_shift k is) (shift_forth a k))
 
-  -- later than the turn, and so moved
+  -- a time later than r is, moved by k, later than a
   pub lt_to : {t : Rational} → r <ʳ t → a <ʳ shifted t k
   lt_to h = lt_of_le_of_lt (ge_of_same at_is) (lt_shifted k h)
 
-  -- and the other way round
+  -- a time that is later than a once it was moved by k is later than r
   pub lt_from : {t : Rational} → a <ʳ shifted t k → r <ʳ t
   lt_from h = lt_shifted_back k (lt_of_le_of_lt (le_of_same at_is) h)
 
-  -- no earlier than the turn, and so moved
+  -- a time no earlier than r is, moved by k, no earlier than a
   pub le_to : {t : Rational} → r ≤ʳ t → a ≤ʳ shifted t k
   le_to h = le_trans (ge_of_same at_is) (le_shifted k h)
 
-  -- and the other way round
+  -- a time that is no earlier than a once it was moved by k is no earlier than r
   pub le_from : {t : Rational} → a ≤ʳ shifted t k → r ≤ʳ t
   le_from h = le_shifted_back k (le_trans (le_of_same at_is) h)
 
-  -- earlier than the turn, and so moved
+  -- a time earlier than r is, moved by k, earlier than a
   pub gt_to : {t : Rational} → t <ʳ r → shifted t k <ʳ a
   gt_to h = lt_of_lt_of_le (lt_shifted k h) (le_of_same at_is)
 
-  -- and the other way round
+  -- a time that is earlier than a once it was moved by k is earlier than r
   pub gt_from : {t : Rational} → shifted t k <ʳ a → t <ʳ r
   gt_from h = lt_shifted_back k (lt_of_lt_of_le h (ge_of_same at_is))
 
-  -- no later than the turn, and so moved
+  -- a time no later than r is, moved by k, no later than a
   pub ge_to : {t : Rational} → t ≤ʳ r → shifted t k ≤ʳ a
   ge_to h = le_trans (le_shifted k h) (le_of_same at_is)
 
-  -- and the other way round
+  -- a time that is no later than a once it was moved by k is no later than r
   pub ge_from : {t : Rational} → shifted t k ≤ʳ a → t ≤ʳ r
   ge_from h = le_shifted_back k (le_trans h (ge_of_same at_is))
 

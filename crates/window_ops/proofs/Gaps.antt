@@ -107,7 +107,7 @@ module _ {P : Type 0} (shape : ShapeOf P) (laws : ShapeLaws shape) (knots : List
           (λ t h. h) (λ t h. come_next k.time n.time true false rises (shifted t way.over.low) h) before.goes;
     }
 
-    -- and once it was counted the walk stands behind it
+    -- once a gap that stays as it is was counted the walk stands behind it
     pub came_steady : (parts : List (Part P)) (old new : Walk P) (before : StandsAt shape knots way (turn_of k.time true) parts old)
         (counted : HasCounted shape knots way (record { shape = k.after; at = k.time; from = from; until = until; slope = None }) old new
         (can_steady parts old before))
@@ -172,7 +172,7 @@ module _ {P : Type 0} (shape : ShapeOf P) (laws : ShapeLaws shape) (knots : List
           (λ t h. h) (λ t h. come_next k.time n.time true false rises (shifted t way.over.low) h) climbed.goes;
     }
 
-    -- and once it was counted the walk stands behind it
+    -- once a gap that gets better was counted the walk stands behind it
     pub came_rising : (parts : List (Part P)) (old mid new : Walk P) → StandsAt shape knots way (turn_of k.time true) parts old
         → (climbed : HasClimbed shape knots way k n parts mid)
         (counted : HasCounted shape knots way (record { shape = k.after; at = n.time; from = from; until = until; slope = None }) mid new
@@ -383,7 +383,7 @@ module _ {P : Type 0} (shape : ShapeOf P) (laws : ShapeLaws shape) (knots : List
               (λ t h. h) (λ t h. inl (lt_of_le_of_lt low_end.after (strictly_come at (shifted t way.over.low) h))) before.goes;
         }
 
-        -- and once it was counted the walk stands behind it
+        -- once a gap that gets worse was counted the walk stands behind it
         pub came_falling : (parts : List (Part P)) (old new : Walk P) (before : StandsAt shape knots way (turn_of k.time true) parts old)
             (counted : HasCounted shape knots way (record { shape = k.after; at = at; from = from; until = until; slope = slope }) old new
             (can_falling parts old before))

@@ -67,7 +67,7 @@ module _ {P : Type 0} (shape : ShapeOf P) (laws : ShapeLaws shape) (knots : List
   pub knot_from : (i : ℕ) (k : Knot P) → slice_get knots i ≡ Some k → whole (pos 0) ≤ʳ time k
   knot_from i k h = le_trans is_way.first (knot_in i k h).above
 
-  -- and none after the last time that can be counted
+  -- no knot comes after the last time that can be counted
   pub knot_to : (i : ℕ) (k : Knot P) → slice_get knots i ≡ Some k → time k ≤ʳ whole (pos (2 ^ 32))
   knot_to i k h = le_trans (knot_in i k h).below is_way.last
 

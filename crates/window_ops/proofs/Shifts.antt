@@ -33,19 +33,19 @@ pub fits : (a : Rational) (z : ℤ) → whole (pos 0) ≤ʳ a → a ≤ʳ whole 
 fits a z from to low high = fits_of_within w64 (2 ^ 33) (lit< tt) (within_sum a z from to low high)
 
 module _ (over : Offsets) (small : IsSmall over) where
-  -- the low offset is not too far behind
+  -- the low offset lies no further behind than times may be moved
   pub low_from : neg_ℤ (pos (2 ^ 32)) ≤ℤ over.low
   low_from = small.from
 
-  -- nor too far ahead
+  -- the low offset lies no further ahead than times may be moved
   pub low_to : over.low ≤ℤ pos (2 ^ 32)
   low_to = omega (arith, ints, small.order, small.to)
 
-  -- nor is the high one too far behind
+  -- the high offset lies no further behind than times may be moved
   pub high_from : neg_ℤ (pos (2 ^ 32)) ≤ℤ over.high
   high_from = omega (arith, ints, small.order, small.from)
 
-  -- nor too far ahead
+  -- the high offset lies no further ahead than times may be moved
   pub high_to : over.high ≤ℤ pos (2 ^ 32)
   high_to = small.to
 

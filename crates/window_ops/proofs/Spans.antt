@@ -51,21 +51,21 @@ module _ {P : Type 0} (shape : ShapeOf P) (laws : ShapeLaws shape) (knots : List
   pub record Span (a b : Frac) (after_a after_b : Bool) (from until : Turn) : Type 0 where
     -- the piece counts from when the high end has come to its begin
     pub from_is : (t : Rational) → HasCome from t ↔ HasCome (turn_of a after_a) (shifted t way.over.high)
-    -- until the low end has come to its end
+    -- the piece counts until the low end has come to its end
     pub until_is : (t : Rational) → HasCome until t ↔ HasCome (turn_of b after_b) (shifted t way.over.low)
-    -- the first turn keeps within the limits of times
+    -- the turn from which the piece counts keeps within the limits of times
     pub from_within : IsWithin (2 ^ 34) (value from.at)
-    -- and the second
+    -- the turn until which the piece counts keeps within the limits of times
     pub until_within : IsWithin (2 ^ 34) (value until.at)
-    -- what has come at the second has come at the first
+    -- what has come at the turn until which the piece counts has come at the turn from which it counts
     pub in_order : (t : Rational) → HasCome until t → HasCome from t
-    -- the second is still to come at the first
+    -- the turn until which the piece counts is still to come at the turn from which it counts
     pub to_come : IsToCome until (value from.at)
-    -- one of them lies within the domain
+    -- the piece counts until no later than the domain's end, or from no earlier than its start
     pub aside : (value until.at ≤ʳ stop knots) ⊎ (start knots ≤ʳ value from.at)
-    -- at the second the low end is at the piece's end
+    -- at the turn until which the piece counts the low end is at the piece's end
     pub low_at : shifted (value until.at) way.over.low ≈ value b
-    -- at the first the high end is at its begin
+    -- at the turn from which the piece counts the high end is at the piece's begin
     pub high_at : shifted (value from.at) way.over.high ≈ value a
 
   -- a time of the domain moved lies within limits

@@ -138,13 +138,13 @@ module _ {P : Type 0} (shape : ShapeOf P) (laws : ShapeLaws shape) (knots : List
   pub can_end : CanTake shape walk (turn_of way.stop true)
   can_end = (met.goes.can (turn_of way.stop true) at_end).0
 
-  -- what it ends with is the best of all pieces that it met
+  -- what the walk ends with is the best of all pieces that it met
   pub ends_with : (r : List (Knot P)) → Finishes shape (turn_of way.stop true) walk r → IsEnvelope shape way.side (start knots) (stop knots) met.parts r
   ends_with r h = subst (λ u. IsEnvelope shape way.side (start knots) u met.parts r) is_way.stops
       (h way.side (start knots) met.goes.pos met.parts (met.goes.can (turn_of way.stop true) at_end).1
       (subst (λ u. Walks shape way.side (start knots) u met.goes.pos met.parts walk) (sym is_way.stops) met.goes.walks))
 
-  -- a refusal there has its cause in the window
+  -- a refusal at the end of the walk has its cause in the window
   pub stops_with : (e : OpFault P) → FinishStops shape (turn_of way.stop true) walk e → HasCauseOver shape knots way.over e
   stops_with e h = refused_at_end e (subst (λ u. IsRefusedFor shape met.parts (start knots) u e) is_way.stops
       (h way.side (start knots) met.goes.pos met.parts (met.goes.can (turn_of way.stop true) at_end).1

@@ -92,7 +92,7 @@ pub better_of : (side : Side) (f : Affine) → IsTrendFor side Greater f → Get
 better_of Greatest f h t u order = grown f t u h order
 better_of Least f h t u order = shrunk f t u h order
 
--- one that falls away from it gets worse
+-- a line that falls away from a side gets worse for it
 pub worse_of : (side : Side) (f : Affine) → IsTrendFor side Less f → GetsWorse side f
 worse_of Greatest f h t u order = shrunk f t u h order
 worse_of Least f h t u order = grown f t u h order

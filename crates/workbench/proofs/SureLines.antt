@@ -19,7 +19,7 @@ use Rattle.stl_syntax.specs.Texts.{AreVerdictLines}
 use Rattle.stl_syntax.specs.declared.items.Verdict.{Verdict}
 use Rattle.stl_syntax.specs.declared.scale.Scale.{Scale}
 use Rattle.stl_syntax.proofs.LawProofs.{answers_stay}
-use Rattle.online_nodes.specs.Cuts.{begins, ends, Same}
+use Rattle.rational.specs.Places.{begins, ends, Same}
 use Rattle.online_nodes.specs.Laws.{AreTold, AreTiles, answered_to}
 use Rattle.online_nodes.proofs.RunLaw.{int_order, some_is, none_is_none}
 use Rattle.online_nodes.proofs.StayLaw.{AgreeOn, described}

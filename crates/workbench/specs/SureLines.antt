@@ -7,7 +7,7 @@ use Rattle.stl_syntax.specs.Formula.{Formula, Subformula, root}
 use Rattle.stl_syntax.specs.Verdicts.{Describes}
 use Rattle.stl_syntax.specs.Texts.{AreVerdictLines, IsStartLine}
 use Rattle.stl_syntax.specs.declared.items.Verdict.{Verdict}
-use Rattle.online_nodes.specs.Cuts.{begins, ends}
+use Rattle.rational.specs.Places.{begins, ends}
 use Rattle.online_nodes.specs.Laws.{AreTold, AreTiles}
 use Rattle.report.specs.Report.{nodes_for}
 use Rattle.workbench.specs.InputFaults.{stream_limits}

@@ -1,5 +1,6 @@
 use Rattle.std.proofs.Common.{sym, subst}
-use Rattle.online_nodes.specs.Cuts.{place, Upto}
+use Rattle.rational.specs.Places.{Upto}
+use Rattle.frac128.specs.Cuts.{place}
 use Rattle.online_net.proofs.Saying.{said_three}
 use Rattle.online_net.proofs.atom.say_turn.Goals as goal
 

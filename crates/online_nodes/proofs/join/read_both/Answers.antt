@@ -2,12 +2,13 @@ use Rattle.std.proofs.Common.{refl, sym, subst, ◌∙◌, arith}
 use Rattle.frac128.specs.Spans.{interval}
 use Rattle.stl_syntax.specs.declared.items.Verdict.{Verdict}
 use Rattle.online_nodes.specs.Working.{HasPassed}
-use Rattle.online_nodes.specs.declared.cut.Cut.{Cut}
-use Rattle.online_nodes.specs.Cuts.{place, ends, AtMost, Before, Upto}
+use Rattle.frac128.specs.declared.cut.Cut.{Cut}
+use Rattle.rational.specs.Places.{ends, AtMost, Before, Upto}
+use Rattle.frac128.specs.Cuts.{place}
 use Rattle.online_nodes.specs.Held.{fresh_at}
 use Rattle.online_nodes.specs.Written.{HasAnswer}
 use Rattle.online_nodes.proofs.GotLemmas.{got-length}
-use Rattle.online_nodes.proofs.PlaceLemmas.{upto_of_before, at_most_of_not_before}
+use Rattle.rational.proofs.PlaceLemmas.{upto_of_before, at_most_of_not_before}
 use Rattle.online_nodes.proofs.WorkLemmas.{passed-length}
 use Rattle.online_nodes.proofs.JoinLemmas.{
   said_of_both,

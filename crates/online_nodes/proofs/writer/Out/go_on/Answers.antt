@@ -1,10 +1,10 @@
 use Rattle.std.proofs.Common.{◌≡◌, Some, [], ◌∷◌, refl, sym, ap, subst, ◌∙◌, arith}
 use Rattle.std.proofs.lemmas.List.{append-nil}
 use Rattle.online_nodes.specs.declared.writer.Out.{Out}
-use Rattle.online_nodes.specs.Cuts.{place}
+use Rattle.frac128.specs.Cuts.{place}
 use Rattle.online_nodes.specs.Written.{HasTold, waiting}
 use Rattle.online_nodes.proofs.GotLemmas.{got_none}
-use Rattle.online_nodes.proofs.PlaceLemmas.{same_before, before_trans}
+use Rattle.rational.proofs.PlaceLemmas.{same_before, before_trans}
 use Rattle.online_nodes.proofs.Writing.{first_told, same_told, turned, same_bool, other_bool, sound_first, sound_later}
 use Rattle.online_nodes.proofs.writer.Out.go_on.Goals as goal
 

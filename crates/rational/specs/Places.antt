@@ -1,8 +1,6 @@
--- Places between times, and what is told between them.
-use Rattle.std.specs.Prelude.{◌≡◌, ◌⊎◌, Bool, true, false, not, ℕ, zero, suc, ◌||◌, ◌&&◌, ℤ, MatchBool}
+-- Places between times: just before a time, or just after it. With places the ends of intervals need no cases.
+use Rattle.std.specs.Prelude.{◌≡◌, ◌⊎◌, Bool, true, false, not, ◌||◌, ◌&&◌, ℤ, MatchBool}
 use Rattle.rational.specs.Time.{Rational, ◌≤ʳ◌, ◌<ʳ◌, ◌≈◌, Interval, add, whole}
-use Rattle.frac128.specs.Value.{value}
-use Rattle.online_nodes.specs.declared.cut.Cut.{Cut}
 
 -- a place just before a time, or just after it
 pub record Place : Type 0 where
@@ -30,21 +28,13 @@ Before c d = (c.at <ʳ d.at) ⊎ ((c.at ≈ d.at) × (c.after ≡ false) × (d.a
 abbrev pub Same : Place → Place → Type 0
 Same c d = (c.at ≈ d.at) × (c.after ≡ d.after)
 
--- a beginning moved by k, where the window's end is in or out; and an end
+-- what lies before c lies before d
+abbrev pub AtMost : Place → Place → Type 0
+AtMost c d = (t : Rational) → Upto c t → Upto d t
+
+-- a place moved by k, where what is moved has that end in or out: a beginning, and an end
 abbrev pub moved_begin : ℤ → Bool → Place → Place
 moved_begin k inside c = record { at = add c.at (whole k); after = c.after || not inside }
 
 abbrev pub moved_end : ℤ → Bool → Place → Place
 moved_end k inside c = record { at = add c.at (whole k); after = c.after && inside }
-
--- the side of a time on which a cut of the program lies, and the place that it stands for
-abbrev pub is_after : ℕ → Bool
-is_after zero = false
-is_after (suc n) = true
-
-abbrev pub place : Cut → Place
-place c = record { at = value c.time; after = is_after c.side }
-
--- what lies before c lies before d
-abbrev pub AtMost : Place → Place → Type 0
-AtMost c d = (t : Rational) → Upto c t → Upto d t

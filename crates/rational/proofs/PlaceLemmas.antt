@@ -1,4 +1,4 @@
--- The order of places.
+-- The order of places between times.
 use Rattle.std.proofs.Common.{◌≡◌, ◌⊎◌, inl, inr, Bool, true, false, not, ◌&&◌, sym, ◌∙◌, refl}
 use Rattle.std.specs.Prelude.{MatchBool}
 use Rattle.rational.specs.Rational.{Rational, ◌≤ʳ◌, ◌<ʳ◌, ◌≈◌, middle}
@@ -20,7 +20,7 @@ use Rattle.rational.proofs.Order.{
 }
 use Rattle.rational.specs.Time.{HasTimeBetween}
 use Rattle.rational.proofs.TimeLemmas.{room_of_precedes, precedes_of_lt}
-use Rattle.online_nodes.specs.Cuts.{Place, After, Upto, Before, Same}
+use Rattle.rational.specs.Places.{Place, After, Upto, Before, Same}
 
 -- each time lies on one side of a place
 pub sides : (c : Place) (t : Rational) → Upto c t ⊎ After c t

@@ -1,6 +1,6 @@
-use Rattle.online_nodes.specs.Cuts.{place}
-use Rattle.online_nodes.proofs.PlaceLemmas.{upto_of_before, at_most_of_not_before}
-use Rattle.online_nodes.proofs.cut.Cut.later.Goals as goal
+use Rattle.frac128.specs.Cuts.{place}
+use Rattle.rational.proofs.PlaceLemmas.{upto_of_before, at_most_of_not_before}
+use Rattle.frac128.proofs.cut.Cut.later.Goals as goal
 
 pub returns-then-precedes-clause-first : goal.returns-then-precedes-clause-first
 returns-then-precedes-clause-first c t h =

@@ -7,12 +7,13 @@ ghost use Rattle.std.specs.Prelude.{◌≡◌, ◌⊎◌, ◌↔◌, IsTrue, tru
 ghost use Rattle.rational.specs.Rational.{FitsFloor, add, whole};
 ghost use Rattle.std.specs.Int.{w64};
 ghost use Rattle.frac128.specs.Value.{value};
-ghost use Rattle.online_nodes.specs.Cuts.{place, Before, AtMost, begins, ends, moved_begin, moved_end, Same};
+ghost use Rattle.rational.specs.Places.{Before, AtMost, begins, ends, moved_begin, moved_end, Same};
+ghost use Rattle.frac128.specs.Cuts.{place};
 ghost use Rattle.frac128.specs.Spans.{interval};
 
-use frac128::Frac;
+use crate::frac::Frac;
+use crate::span::Span;
 use std::cmp::Ordering;
-use stl_syntax::Verdict;
 
 /// The place just before a time, or just after it.
 #[derive(Clone, Copy, Debug)]
@@ -45,25 +46,25 @@ impl Cut {
         }
     }
 
-    /// Where a verdict begins.
+    /// Where a span begins.
     #[inline(always)]
-    pub fn begin(v: &Verdict) -> Cut
-        ensures { place result ≡ begins (interval v.now.on) }
+    pub fn begin(on: &Span) -> Cut
+        ensures { place result ≡ begins (interval on.now) }
     {
         Cut {
-            time: v.on.from,
-            side: u64::from(!v.on.from_in),
+            time: on.from,
+            side: u64::from(!on.from_in),
         }
     }
 
-    /// Where a verdict ends.
+    /// Where a span ends.
     #[inline(always)]
-    pub fn end(v: &Verdict) -> Cut
-        ensures { place result ≡ ends (interval v.now.on) }
+    pub fn end(on: &Span) -> Cut
+        ensures { place result ≡ ends (interval on.now) }
     {
         Cut {
-            time: v.on.to,
-            side: u64::from(v.on.to_in),
+            time: on.to,
+            side: u64::from(on.to_in),
         }
     }
 
