@@ -100,7 +100,8 @@ fn join_three<P: Shape>(
     requires none { fault.old ≡ None }
     ensures ok { OnOk result (IsWritten P.Shape side built.old (record { top = r.now; low = Some p.now; high = Some q.now }) to.now point.now built.new) }
     ensures still { OnOk result (fault.new ≡ None) }
-    ensures fault { OnErr result (IfSome fault.new (IsBestFault P.Shape (record { top = r.now; low = Some p.now; high = Some q.now }) (stop built.old) (value to.now))) }
+    ensures fault { OnErr result
+        (IfSome fault.new (IsBestFault P.Shape (record { top = r.now; low = Some p.now; high = Some q.now }) (stop built.old) (value to.now))) }
 {
     let from = built.stop();
     match favour(side, p, q, &from) {
@@ -126,9 +127,11 @@ fn join_ordered<P: Shape>(
     requires levels { (x : P) → Has (record { top = r.now; low = Some first.now; high = Some second.now }) x → HasBoundedLevel (2 ^ 31) (P.function x) }
     requires better { IsNoBetter side (value_at (P.function second.now) (stop built.old)) (value_at (P.function first.now) (stop built.old)) }
     requires none { fault.old ≡ None }
-    ensures ok { OnOk result (IsWritten P.Shape side built.old (record { top = r.now; low = Some first.now; high = Some second.now }) to.now point.now built.new) }
+    ensures ok { OnOk result
+        (IsWritten P.Shape side built.old (record { top = r.now; low = Some first.now; high = Some second.now }) to.now point.now built.new) }
     ensures still { OnOk result (fault.new ≡ None) }
-    ensures fault { OnErr result (IfSome fault.new (IsBestFault P.Shape (record { top = r.now; low = Some first.now; high = Some second.now }) (stop built.old) (value to.now))) }
+    ensures fault { OnErr result (IfSome fault.new
+        (IsBestFault P.Shape (record { top = r.now; low = Some first.now; high = Some second.now }) (stop built.old) (value to.now))) }
 {
     let from = built.stop();
     match favour(side, first, second, to) {
@@ -159,9 +162,11 @@ fn join_split<P: Shape>(
     requires better { IsNoBetter side (value_at (P.function second.now) (stop built.old)) (value_at (P.function first.now) (stop built.old)) }
     requires worse { IsNoBetter side (value_at (P.function first.now) (value to.now)) (value_at (P.function second.now) (value to.now)) }
     requires none { fault.old ≡ None }
-    ensures ok { OnOk result (IsWritten P.Shape side built.old (record { top = r.now; low = Some first.now; high = Some second.now }) to.now point.now built.new) }
+    ensures ok { OnOk result
+        (IsWritten P.Shape side built.old (record { top = r.now; low = Some first.now; high = Some second.now }) to.now point.now built.new) }
     ensures still { OnOk result (fault.new ≡ None) }
-    ensures fault { OnErr result (IfSome fault.new (IsBestFault P.Shape (record { top = r.now; low = Some first.now; high = Some second.now }) (stop built.old) (value to.now))) }
+    ensures fault { OnErr result (IfSome fault.new
+        (IsBestFault P.Shape (record { top = r.now; low = Some first.now; high = Some second.now }) (stop built.old) (value to.now))) }
 {
     let from = built.stop();
     let middle = keep(crossing(first, second, &from, to), fault)?;

@@ -403,6 +403,7 @@ pub once_false : (p i a : ℕ) (b : Option ℕ) (a_in b_in : Bool) → p ≡ i �
     → Certain false (tree_of at j (Once p a b a_in b_in)) some tr u → Certain false (at i) some tr t
 once_false p i a b a_in b_in e at j some tr t u w h = subst (λ k. MustNot (at k) some tr t) e (h t w)
 
+-- where `historically` is certainly true, so is its operand at each time of the window behind
 pub historically_true : (p i a : ℕ) (b : Option ℕ) (a_in b_in : Bool) → p ≡ i
     → (at : ℕ → Subformula) (j : ℕ) (some : List Item) (tr : Trace) (t u : Rational)
     → Behind (trace.start tr) (trace.stop tr) a b a_in b_in u t

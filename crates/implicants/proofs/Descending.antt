@@ -21,7 +21,8 @@ use Rattle.stl_syntax.specs.declared.items.Item.{Item}
 use Rattle.stl_syntax.specs.declared.node.Node.{Node}
 use Rattle.stl_syntax.specs.declared.node.Node.TheVariants.{Const, Atom as Leaf, Not, And, Or, Implies, Until, Eventually, Always, Since, Once, Historically}
 use Rattle.offline_eval.specs.Making.{IsFit}
-use Rattle.implicants.specs.Demands.{Certain, IsOn, IsOff, IsFull, IsVoid, IsDemand, IsAlong, StaysFit, AreOn, IsBeside, IsMet, IsMetBehind, AreCertainties, HandsDown}
+use Rattle.implicants.specs.Demands.{Certain, IsOn, IsOff, IsFull, IsVoid, IsDemand, IsAlong, StaysFit}
+use Rattle.implicants.specs.Demands.{AreOn, IsBeside, IsMet, IsMetBehind, AreCertainties, HandsDown}
 use Rattle.implicants.specs.declared.demand.Demand.{Demand}
 use Rattle.implicants.proofs.Demanding.{fit_over_ticks, told_at, all_down, beside_down, met_down, behind_down, not_down, IsOther}
 use Rattle.implicants.proofs.Demanding.{right_of, and_true, and_false, or_false, or_true, implies_left, implies_right}
@@ -178,6 +179,7 @@ module _ (holds : Bool) (x : List (Knot Kleene)) (signals : List (List (Knot Kle
       (λ at j some tr t u w h. once_false p i a b a_in b_in (subst (λ m. IsChild m i) e child) at j some tr t u w
       (certain_as false is (tree_of at j (Once p a b a_in b_in)) some tr u h)))
 
+  -- a `historically` that has to be certainly true hands down that its operand is, at each time that its windows meet
   pub hands_historically : (p a : ℕ) (b : Option ℕ) (a_in b_in : Bool) (d : Demand) → n ≡ Historically p a b a_in b_in → IsChild n i → holds ≡ true
       → IsMetBehind kleene_shape true x a b a_in b_in d → Hands d
   hands_historically p a b a_in b_in d e child is met = subst (λ m. HandsDown kleene_shape m holds x signals i d) (sym e)

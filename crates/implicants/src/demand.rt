@@ -7,7 +7,8 @@ ghost use Rattle.stl_syntax.specs.Formula.{HasChildrenBelow};
 ghost use Rattle.stl_syntax.specs.WellFormed.{HasBounds};
 ghost use Rattle.stl_syntax.specs.Cells.{IsChild};
 ghost use Rattle.offline_eval.specs.Making.{IsFit};
-ghost use Rattle.implicants.specs.Demands.{AreCertainties, AreOn, HandsDown, IsAlong, IsBeside, IsDemand, IsFull, IsMet, IsMetBehind, IsOff, IsOn, IsVoid, StaysFit};
+ghost use Rattle.implicants.specs.Demands.{AreCertainties, AreOn, HandsDown, IsAlong, IsBeside, IsDemand};
+ghost use Rattle.implicants.specs.Demands.{IsFull, IsMet, IsMetBehind, IsOff, IsOn, IsVoid, StaysFit};
 ghost use Rattle.pl_signal.specs.declared.knot.Knot.{Knot};
 ghost use Rattle.stl_syntax.specs.declared.items.Item.{Item};
 

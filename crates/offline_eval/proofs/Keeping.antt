@@ -199,6 +199,7 @@ module _ {P : Type 0} (shape : ShapeOf P) (from to : ℕ) where
       by_place false h = sound k x h
 
 module _ {P : Type 0} (shape : ShapeOf P) (nodes : List Node) (s : Setting) where
+  -- a stack of no signals tells the first no nodes
   pub stack_none : (done : List (List (Knot P))) → done ≡ [] → TellsStack shape nodes s 0 done
   stack_none done e = record {
     told = λ k x at. absurd (none k x (subst (λ l. slice_get l k ≡ Some x) e at));
@@ -266,6 +267,7 @@ module _ {P : Type 0} (shape : ShapeOf P) (nodes : List Node) (s : Setting) wher
       at = ap (λ l. slice_get l (length nodes - 1)) e ∙ ap (slice_get (rest ++ x ∷ [])) long ∙ at_end rest x
 
 module _ {P : Type 0} (shape : ShapeOf P) (from to : ℕ) (nodes : List Node) where
+  -- no signals are a stack before the first node
   pub stack_empty : (done : List (List (Knot P))) → done ≡ [] → IsStack shape from to nodes 0 done
   stack_empty done e = record { count = ap length e; sound = λ k x at. absurd (none k x (subst (λ l. slice_get l k ≡ Some x) e at)) }
     where

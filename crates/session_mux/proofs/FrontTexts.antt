@@ -86,7 +86,9 @@ module _ (f : Formula) (a b : List ℕ) (p : Parts a []) where
 
   -- no fault yet, and one of all bytes stands behind the first lines
   record IsCalm : Type 0 where
+    -- the bytes of the front have no fault
     pub calm : (x : Fault) → ¬ Faulted a x
+    -- a fault of all the bytes stands in a line behind those of the front
     pub behind : (x : Fault) → Faulted (a ++ b) x → length p.front < line_of x
 
   -- the first bytes have a fault, or none

@@ -113,9 +113,11 @@ module _ (tag : List ℕ) where
 
   -- the marks
   module _ (l : RunLine) (ls : List RunLine) (each : All (IsRunLine tag) (l ∷ ls)) (c : List ℕ) (e : contents_of (l ∷ ls) ≡ c ++ newline) where
+    -- the content of several lines together is no query
     pub run_no_query : asks c ≡ false
     run_no_query = no_marks tag 63 (λ z. absurd (omega (arith, z))) l ls c (All-head (IsRunLine tag) l ls each).no_query e
 
+    -- nor does it end its session
     pub run_no_stop : stops c ≡ false
     run_no_stop = no_marks tag 46 (λ z. absurd (omega (arith, z))) l ls c (All-head (IsRunLine tag) l ls each).no_stop e
 

@@ -29,14 +29,16 @@ meets shape p q from to done middle is h =
 pub chosen-there-requires : goal.chosen-there-requires
 chosen-there-requires g c =
     let m =
-    meets g.P.Shape c.args.first.now c.args.second.now c.stop-from.result c.args.to.now c.crossing.result c.in_ok-middle.middle c.in_ok-middle.ensures.ok c.crossing.ensures in
+    meets g.P.Shape c.args.first.now c.args.second.now c.stop-from.result c.args.to.now c.crossing.result c.in_ok-middle.middle
+    c.in_ok-middle.ensures.ok c.crossing.ensures in
     within_between (2 ^ 34) (subst (IsWithin (2 ^ 34)) (sym c.stop-from.ensures.value) c.requires.from_within)
     c.requires.to_within (le_of_lt m.after) (le_of_lt m.before)
 
 pub join_kept-requires-clause-to_within : goal.join_kept-requires-clause-to_within
 join_kept-requires-clause-to_within g c =
     let m =
-    meets g.P.Shape c.args.first.now c.args.second.now c.stop-from.result c.args.to.now c.crossing.result c.in_ok-middle.middle c.in_ok-middle.ensures.ok c.crossing.ensures in
+    meets g.P.Shape c.args.first.now c.args.second.now c.stop-from.result c.args.to.now c.crossing.result c.in_ok-middle.middle
+    c.in_ok-middle.ensures.ok c.crossing.ensures in
     within_between (2 ^ 34) (subst (IsWithin (2 ^ 34)) (sym c.stop-from.ensures.value) c.requires.from_within)
     c.requires.to_within (le_of_lt m.after) (le_of_lt m.before)
 
@@ -54,7 +56,8 @@ returns-in_err-middle-clause-fault g c =
 pub returns-in_err-join_kept-clause-fault : goal.returns-in_err-join_kept-clause-fault
 returns-in_err-join_kept-clause-fault g c =
     let m =
-    meets g.P.Shape c.args.first.now c.args.second.now c.stop-from.result c.args.to.now c.crossing.result c.in_ok-middle.middle c.in_ok-middle.ensures.ok c.crossing.ensures in
+    meets g.P.Shape c.args.first.now c.args.second.now c.stop-from.result c.args.to.now c.crossing.result c.in_ok-middle.middle
+    c.in_ok-middle.ensures.ok c.crossing.ensures in
     on_err_anyway c.from_residual-in_err-join_kept.result (IfSome_then c.join_kept.new.fault c.in_err-join_kept.ensures.wide (λ pair (from, e, h).
     gap_fault g.P.Shape (three c.args.first.now c.args.second.now c.args.r.now) c.args.first.now
     c.args.r.now from c.in_ok-middle.middle (stop c.args.built.now) (value c.args.to.now) pair
@@ -63,7 +66,8 @@ returns-in_err-join_kept-clause-fault g c =
 pub join_kept-requires-2-clause-from_within : goal.join_kept-requires-2-clause-from_within
 join_kept-requires-2-clause-from_within g c =
     let m =
-    meets g.P.Shape c.args.first.now c.args.second.now c.stop-from.result c.args.to.now c.crossing.result c.in_ok-middle.middle c.in_ok-middle.ensures.ok c.crossing.ensures in
+    meets g.P.Shape c.args.first.now c.args.second.now c.stop-from.result c.args.to.now c.crossing.result c.in_ok-middle.middle
+    c.in_ok-middle.ensures.ok c.crossing.ensures in
     subst (IsWithin (2 ^ 34)) (sym c.in_ok-join_kept.ensures.ok.ends)
     (within_between (2 ^ 34) (subst (IsWithin (2 ^ 34)) (sym c.stop-from.ensures.value) c.requires.from_within)
     c.requires.to_within (le_of_lt m.after) (le_of_lt m.before))
@@ -73,7 +77,8 @@ returns-clause-ok g c =
     let f = g.P.Shape.function in
     let m = subst (λ u. MeetAlone (f c.args.first.now) (f c.args.second.now) u (value c.args.to.now)
     (value c.in_ok-middle.middle)) c.stop-from.ensures.value
-    (meets g.P.Shape c.args.first.now c.args.second.now c.stop-from.result c.args.to.now c.crossing.result c.in_ok-middle.middle c.in_ok-middle.ensures.ok c.crossing.ensures) in
+    (meets g.P.Shape c.args.first.now c.args.second.now c.stop-from.result c.args.to.now c.crossing.result c.in_ok-middle.middle
+    c.in_ok-middle.ensures.ok c.crossing.ensures) in
     on_ok c.join_kept-2.result
     (written_split g.P.Shape c.args.side c.args.first.now c.args.second.now c.args.r.now c.chosen-there.result
     c.args.point.now c.args.built.now c.join_kept.new.self c.join_kept-2.new.self c.in_ok-middle.middle c.args.to.now
@@ -95,6 +100,7 @@ returns-clause-fault g c = on_err_weaker c.join_kept-2.result (λ kept. IfSome_t
     after : (from : Frac) → value from ≡ stop c.join_kept.new.self → stop c.args.built.now ≤ʳ value from
     after from i =
         let m =
-        meets g.P.Shape c.args.first.now c.args.second.now c.stop-from.result c.args.to.now c.crossing.result c.in_ok-middle.middle c.in_ok-middle.ensures.ok c.crossing.ensures in
+        meets g.P.Shape c.args.first.now c.args.second.now c.stop-from.result c.args.to.now c.crossing.result
+        c.in_ok-middle.middle c.in_ok-middle.ensures.ok c.crossing.ensures in
         subst (λ u. stop c.args.built.now ≤ʳ u) (sym i) (subst (λ u. stop c.args.built.now ≤ʳ u) (sym c.in_ok-join_kept.ensures.ok.ends)
         (subst (λ u. u ≤ʳ value c.in_ok-middle.middle) c.stop-from.ensures.value (le_of_lt m.after)))

@@ -6,7 +6,8 @@ use Rattle.implicants.proofs.demand.for_window.Goals as goal
 
 pub returns-else-holds : goal.returns-else-holds
 returns-else-holds c signals = each_some c.met.result _ _
-    (λ d is. hands_eventually c.args.holds c.args.at.now signals c.args.node.now c.args.i c.in-Eventually.of c.in-Eventually.low c.in-Eventually.high c.in-Eventually.low_in
+    (λ d is. hands_eventually c.args.holds c.args.at.now signals c.args.node.now c.args.i c.in-Eventually.of c.in-Eventually.low
+    c.in-Eventually.high c.in-Eventually.low_in
     c.in-Eventually.high_in d c.in-Eventually.is c.requires.child c.if-holds.false is)
     c.met.ensures
 
@@ -31,6 +32,7 @@ met_behind-requires-then-holds-4-clause-order c =
 
 pub returns-then-holds-4 : goal.returns-then-holds-4
 returns-then-holds-4 c signals = each_some c.met_behind-then-holds-4.result _ _
-    (λ d is. hands_historically c.args.holds c.args.at.now signals c.args.node.now c.args.i c.in-Historically.of c.in-Historically.low c.in-Historically.high c.in-Historically.low_in
+    (λ d is. hands_historically c.args.holds c.args.at.now signals c.args.node.now c.args.i c.in-Historically.of
+    c.in-Historically.low c.in-Historically.high c.in-Historically.low_in
     c.in-Historically.high_in d c.in-Historically.is c.requires.child c.if-holds-4.true is)
     c.met_behind-then-holds-4.ensures

@@ -12,4 +12,5 @@ returns-clause-ok g c =
 pub returns-clause-wide : goal.returns-clause-wide
 returns-clause-wide g c =
     on_err_weaker c.keep.result (λ is. kept_fault (IsTurn (g.P.Shape.function c.args.p.now) (g.P.Shape.function c.args.q.now) c.args.from.now c.args.next.now)
-    (IsGapFault g.P.Shape c.args.p.now c.args.q.now c.args.from.now c.args.next.now) c.turning.result c.keep.new.fault is c.turning.ensures) c.keep.ensures.fault
+    (IsGapFault g.P.Shape c.args.p.now c.args.q.now c.args.from.now c.args.next.now) c.turning.result c.keep.new.fault is c.turning.ensures)
+    c.keep.ensures.fault

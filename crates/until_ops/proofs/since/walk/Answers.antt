@@ -87,7 +87,8 @@ course_kept-requires-clause-gap g c = is_gap (walk g (goal.at.course_kept-requir
 gap : (g : Over) (c : After-course_kept g)
     → Follows g.P.Shape c.args.p.now c.args.q.now (gap_to c.args.now.now c.knot.result c.knot-2.result c.in_ok-turn.turn.time)
 gap g c =
-    gap_follows (walk g (goal.at.After-course_kept g c).After-earlier-next) c.in_ok-turn.turn.time c.in_ok-turn.ensures.ok.after c.in_ok-turn.ensures.ok.not_later
+    gap_follows (walk g (goal.at.After-course_kept g c).After-earlier-next) c.in_ok-turn.turn.time c.in_ok-turn.ensures.ok.after
+    c.in_ok-turn.ensures.ok.not_later
 
 pub returns-in_err-course-clause-wide : goal.returns-in_err-course-clause-wide
 returns-in_err-course-clause-wide g c =
