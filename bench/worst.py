@@ -60,7 +60,7 @@ def nested(words, bounds, depth, leaf):
 
 def formulas(rows):
     """The families, by name. A row is about 10 ticks after the one before it."""
-    long, short = f"[0,{10 * rows}]", "[0,25]"
+    long, short, both = f"[0,{10 * rows}]", "[0,25]", "a >= 0 and b >= 0"
     prime = lambda k: f"[{PRIMES[k % 20]},{PRIMES[k % 20] + 10 * PRIMES[(k * 7) % 20]}]"
     some = {
         "until left": chain_left("until", prime, 30, atom), "until right": chain_right("until", prime, 30, atom),
@@ -80,6 +80,11 @@ def formulas(rows):
         "kept cells": f"eventually{long} (a >= 0 and b >= 0)", "kept in a window": f"always[0,{5 * rows}] eventually[0,{5 * rows}] (a >= 0 and b >= 0)",
         "kept here and there": f"eventually{long} always[0,20] (a >= 0 and b >= 0)", "kept of many": f"eventually{long} ({tree('and', lambda k: '', 4, atom)})",
         "kept of windows": f"eventually{long} (always{short} a >= 0 and always{short} b >= 0)",
+        "kept by until": f"true until{long} ({both})", "kept by since": f"eventually{long} (true since[0,20] ({both}))",
+        "kept in until": f"eventually{long} (a >= 0 until[0,20] ({both}))", "kept before until": f"always[0,{5 * rows}] (true until[0,{5 * rows}] ({both}))",
+        "kept behind": f"eventually{long} historically[0,20] ({both})", "kept at some time": f"always[0,5] eventually{long} always[0,20] ({both})",
+        "kept in windows": f"eventually{long} always[0,20] always[0,20] ({both})", "kept in turn": f"eventually{long} always[0,20] eventually[0,20] ({both})",
+        "kept of implications": f"eventually{long} always[0,20] (a >= 0 implies b >= 5)",
     }
     return {name: text for name, text in some.items() if len(text) <= 8192}
 
@@ -98,18 +103,25 @@ def traces(rows, dice):
 
 
 def write(path, trace, rows):
+    """The trace alone, and beside it the same as the one session of an input of many."""
     name, time, step, values = trace
-    with open(path, "w") as out:
-        out.write("time," + ",".join(c + (":step" if step else "") for c in COLUMNS) + "\n")
+    with open(path, "w") as out, open(tagged(path), "w") as session:
+        lines = ["time," + ",".join(c + (":step" if step else "") for c in COLUMNS)]
         for row in range(rows):
-            out.write(f"{time(row)}," + ",".join(map(str, values(row))) + "\n")
+            lines.append(f"{time(row)}," + ",".join(map(str, values(row))))
+        out.writelines(line + "\n" for line in lines)
+        session.writelines(f"bench {line}\n" for line in lines)
+
+
+def tagged(path):
+    return path + ".tagged"
 
 
 def run(program, command, formula, path, limit):
     """Status (None where the limit was passed), CPU seconds and MB of one run."""
     def bound():
         resource.setrlimit(resource.RLIMIT_CPU, (limit, limit))
-    with open(path) as trace:
+    with open(tagged(path) if command == "mux" else path) as trace:
         child = subprocess.Popen([program, command, formula], stdin=trace, stdout=subprocess.DEVNULL, stderr=subprocess.DEVNULL, preexec_fn=bound)
         _, status, used = os.wait4(child.pid, 0)
         child.returncode = code = os.waitstatus_to_exitcode(status)
@@ -117,7 +129,7 @@ def run(program, command, formula, path, limit):
 
 
 def commands(program):
-    """The commands of the usage line that take one formula and read one recording."""
+    """The commands of the usage line that take one formula and read one input."""
     line = subprocess.run([program], capture_output=True, text=True).stderr
     return [word.split()[0] for word in line.removeprefix("usage: ").strip().split(" | ") if word.endswith(" F")]
 
@@ -130,7 +142,7 @@ def measure(options, folder):
         paths = [os.path.join(folder, f"{index}.{rows}") for rows in halves]
         for path, rows in zip(paths, halves):
             write(path, list(traces(rows, random.Random(7)))[index], rows)
-        for family in texts[1]:
+        for family in [family for family in texts[1] if options.families in family]:
             for command in options.commands:
                 status, took, memory = run(options.program, command, texts[1][family], paths[1], options.limit)
                 _, before, _ = run(options.program, command, texts[0][family], paths[0], options.limit) if took > options.show else (0, 0, 0)
@@ -150,6 +162,7 @@ def main():
     parser.add_argument("--report", type=float, default=5, help="from how many seconds on a case is told at once")
     parser.add_argument("--top", type=int, default=5, help="how many cases of each command are printed")
     parser.add_argument("--commands", type=lambda text: text.split(","))
+    parser.add_argument("--families", default="", help="a word that the names of the formulas have that are run; without it all are")
     options = parser.parse_args()
     options.commands = options.commands or commands(options.program)
     with tempfile.TemporaryDirectory() as folder:
@@ -161,4 +174,5 @@ def main():
             print(f"{command:8} {family:20} {name:11} {ended:>6} {took:8.2f} {took / options.rows * 1e6:7.1f} {growth:6.2f} {memory:6.0f}")
 
 
-main()
+if __name__ == "__main__":
+    main()

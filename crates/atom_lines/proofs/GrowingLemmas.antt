@@ -38,7 +38,7 @@ use Rattle.atom_lines.specs.Binding.{Binding, IsFor, HasRow, AreNeighbours}
 use Rattle.atom_lines.specs.Gaps.{along}
 use Rattle.atom_lines.specs.Rows.{row_of, values_at}
 use Rattle.atom_lines.specs.Sums.{reach}
-use Rattle.atom_lines.specs.Told.{Told, by_truth, worth, reading_of}
+use Rattle.atom_lines.specs.How.{How, by_truth, worth, reading_of}
 use Rattle.atom_lines.specs.Growing.{IsRowBase, GoesAlong, HasGrown}
 use Rattle.atom_lines.specs.AtomSignals.{IsAtomSignal}
 use Rattle.atom_lines.proofs.SumLemmas.{tied, expression_at_row, expression_along}
@@ -85,7 +85,7 @@ margin_row_base m n h e = by_kind (cases_eq' (is_ramp m))
     by_kind (inl k) = row_base n (margin_base m) h (e k)
     by_kind (inr k) = subst IsRowBase (sym (others_base m k)) zero_base
 
-module _ {P : Type 0} (shape : ShapeOf P) (told : Told) (rel : Rel) (g : Gap) (next : ℤ) where
+module _ {P : Type 0} (shape : ShapeOf P) (told : How) (rel : Rel) (g : Gap) (next : ℤ) where
   abbrev first : Rational
   first = whole (pos g.first)
 
@@ -189,7 +189,7 @@ last_time_at time (r ∷ []) n d h = let e : n ≡ 0 = omega (arith, h) in subst
 last_time_at time (r ∷ s ∷ rows) zero d h = absurd (omega (arith, h))
 last_time_at time (r ∷ s ∷ rows) (suc n) d h = last_time_at r.time (s ∷ rows) n d (omega (arith, h))
 
-module _ {P : Type 0} (shape : ShapeOf P) (told_as : Told) (b : Binding) (i : ℕ) (tr : Trace) (k : BoundAtom) (here : slice_get b.atoms i ≡ Some (Some k)) where
+module _ {P : Type 0} (shape : ShapeOf P) (told_as : How) (b : Binding) (i : ℕ) (tr : Trace) (k : BoundAtom) (here : slice_get b.atoms i ≡ Some (Some k)) where
   -- what is worth the sum at a row is what the trace gives there
   at_row : (n : ℕ) (next : ℤ) (a : Atom) → IsFor b i a tr → n < length tr.rows → next ≡ reach k (values_at tr n) (values_at tr n)
       → (t : Rational) (v : Extended) → t ≈ row_time (row_of tr n)
@@ -291,7 +291,7 @@ module _ {P : Type 0} (shape : ShapeOf P) (told_as : Told) (b : Binding) (i : �
       by_part a for t v (inr (inr (when, w))) = at_row r next a for within at_next t v (subst (λ m. t ≈ whole (pos m)) s when) w
 
 -- what a trace gives an atom is a function of time
-given_is_function : (told_as : Told) (tr : Trace) (i : ℕ) (a : Atom) → IsFunction (Gives (reading_of told_as tr) i a)
+given_is_function : (told_as : How) (tr : Trace) (i : ℕ) (a : Atom) → IsFunction (Gives (reading_of told_as tr) i a)
 given_is_function told_as tr i a = record {
   alike = λ t u v w e s h.
       gives told_as tr i a u w (same_transᵉ w v (worth told_as a.rel (expression a tr u)) (same_symᵉ v w s)
@@ -303,7 +303,7 @@ given_is_function told_as tr i a = record {
 }
 
 -- a signal that has grown to the last row is the atom's
-pub whole_signal : {P : Type 0} (shape : ShapeOf P) (told_as : Told) (b : Binding) (i : ℕ) (tr : Trace) (n : ℕ) (s : List (Knot P)) → length tr.rows ≡ suc n
+pub whole_signal : {P : Type 0} (shape : ShapeOf P) (told_as : How) (b : Binding) (i : ℕ) (tr : Trace) (n : ℕ) (s : List (Knot P)) → length tr.rows ≡ suc n
     → HasGrown shape told_as b i tr n s → IsAtomSignal shape (reading_of told_as) b i tr s
 whole_signal shape told_as b i tr n s e grown = record {
   signal = grown.signal;

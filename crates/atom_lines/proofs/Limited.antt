@@ -16,7 +16,7 @@ use Rattle.stl_syntax.specs.declared.rel.Rel.{Rel}
 use Rattle.stl_syntax.specs.declared.rel.Rel.TheVariants.{AtLeast, Above, AtMost, Below}
 use Rattle.atom_lines.specs.declared.gap.Gap.{Gap}
 use Rattle.atom_lines.specs.Gaps.{along}
-use Rattle.atom_lines.specs.Told.{Told, by_truth, by_margin, worth}
+use Rattle.atom_lines.specs.How.{How, by_truth, by_margin, worth}
 use Rattle.atom_lines.proofs.Crossings.{at_first, at_second}
 use Rattle.rational.proofs.Mixed.{within_whole}
 
@@ -31,7 +31,7 @@ turned_within {y} h AtMost = (le_negate h.1, le_negate h.0)
 turned_within {y} h Below = (le_negate h.1, le_negate h.0)
 
 -- what an atom is worth is bounded where its sum is
-pub worth_bounded : (told : Told) (rel : Rel) (y : Rational) → IsWithin (2 ^ 31) y → IsBounded (2 ^ 31) (worth told rel y)
+pub worth_bounded : (told : How) (rel : Rel) (y : Rational) → IsWithin (2 ^ 31) y → IsBounded (2 ^ 31) (worth told rel y)
 worth_bounded by_truth rel y h = truth_within (compares rel y)
 worth_bounded by_margin rel y h = turned_within h rel
 

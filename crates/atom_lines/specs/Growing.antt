@@ -19,7 +19,7 @@ use Rattle.atom_lines.specs.Binding.{Binding, IsFor}
 use Rattle.atom_lines.specs.Gaps.{along}
 use Rattle.atom_lines.specs.Rows.{row_of, values_at}
 use Rattle.atom_lines.specs.Sums.{sum_over, reach}
-use Rattle.atom_lines.specs.Told.{Told, worth, reading_of}
+use Rattle.atom_lines.specs.How.{How, worth, reading_of}
 
 -- a time of a row
 abbrev pub IsRowBase : ℤ → Type 0
@@ -36,7 +36,7 @@ IsReachAt b i tr k n = (atom : BoundAtom) → slice_get b.atoms i ≡ Some (Some
 
 module _ {P : Type 0} (shape : ShapeOf P) where
   -- the signal goes on over the gap, and has at its end what `next` is worth
-  pub record GoesAlong (told : Told) (rel : Rel) (g : Gap) (next : ℤ) (old new : List (Knot P)) : Type 0 where
+  pub record GoesAlong (told : How) (rel : Rel) (g : Gap) (next : ℤ) (old new : List (Knot P)) : Type 0 where
     pub signal : IsSignal shape new
     pub begins : start new ≡ start old
     pub ends : stop new ≈ whole (pos g.second)
@@ -47,7 +47,7 @@ module _ {P : Type 0} (shape : ShapeOf P) where
     pub bases : (p : P) → HasShape new p → HasShape old p ⊎ IsRowBase (shape.base p)
 
   -- the signal tells the atom from the start of the trace to row k
-  pub record HasGrown (told : Told) (b : Binding) (i : ℕ) (tr : Trace) (k : ℕ) (s : List (Knot P)) : Type 0 where
+  pub record HasGrown (told : How) (b : Binding) (i : ℕ) (tr : Trace) (k : ℕ) (s : List (Knot P)) : Type 0 where
     pub signal : IsSignal shape s
     pub begins : start s ≈ trace.start tr
     pub ends : stop s ≈ row_time (row_of tr k)

@@ -2,7 +2,7 @@ pub mod Binding
 pub mod Faults
 pub mod Sums
 pub mod Rows
-pub mod Told
+pub mod How
 pub mod Gaps
 pub mod Pieces
 pub mod Points

@@ -5,7 +5,7 @@ ghost use Rattle.rational.specs.Rational.{Rational, ◌≈◌, whole};
 ghost use Rattle.rational.specs.Extended.{value_at, ◌≈ᵉ◌};
 ghost use Rattle.pl_signal.specs.Knots.{stop};
 ghost use Rattle.atom_lines.specs.Growing.{GoesAlong, IsRowBase};
-ghost use Rattle.atom_lines.specs.Told.{Told, worth};
+ghost use Rattle.atom_lines.specs.How.{How, worth};
 
 use crate::gap::Gap;
 use crate::margin::{margin_at, margin_between};
@@ -18,7 +18,7 @@ use value_laws::{Margin, Shape, Truth};
 /// A shape in which an atom is told, at rows and on the gaps between them.
 pub(crate) trait Piecewise: Shape {
     /// How it is told.
-    ghost told: { Told };
+    ghost told: { How };
 
     /// What a comparison is worth whose sum lies `value` above its constant.
     fn point(rel: Rel, value: i64) -> Self
@@ -34,7 +34,7 @@ pub(crate) trait Piecewise: Shape {
 }
 
 impl Piecewise for Truth {
-    ghost use Rattle.atom_lines.specs.Told.{by_truth};
+    ghost use Rattle.atom_lines.specs.How.{by_truth};
 
     ghost told = { by_truth };
 
@@ -61,7 +61,7 @@ impl Piecewise for Truth {
 }
 
 impl Piecewise for Margin {
-    ghost use Rattle.atom_lines.specs.Told.{by_margin};
+    ghost use Rattle.atom_lines.specs.How.{by_margin};
 
     ghost told = { by_margin };
 

@@ -1,11 +1,11 @@
 //! The signal of an atom over a whole trace.
 ghost use Rattle.std.specs.Prelude.{◌≡◌, ◌<◌, ◌-◌, length, IfOk};
-ghost use Rattle.stl_syntax.specs.Trace.{Trace as Table};
+ghost use Rattle.stl_syntax.specs.Trace.{Trace as Recorded};
 ghost use Rattle.stl_syntax.specs.SupInf.{Reading};
 ghost use Rattle.atom_lines.specs.Binding.{IsAtomNode};
 ghost use Rattle.atom_lines.specs.AtomSignals.{IsAtomSignal};
 ghost use Rattle.atom_lines.specs.Growing.{HasGrown, IsReachAt};
-ghost use Rattle.atom_lines.specs.Told.{reading_of};
+ghost use Rattle.atom_lines.specs.How.{reading_of};
 
 use crate::bound::Bound;
 use crate::cells::row_at;
@@ -22,7 +22,7 @@ use value_laws::{Margin, Shape, Truth};
 /// A shape in which an atom is told over a whole trace: by its truth or by its margin.
 pub trait AtomShape: Shape {
     /// How the trace is read: as truths, 1 and -1, or as margins.
-    ghost reading: { Table → Reading };
+    ghost reading: { Recorded → Reading };
 
     /// The atom's truth or margin at every time of the trace.
     fn of_atom(

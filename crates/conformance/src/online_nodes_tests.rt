@@ -1,10 +1,11 @@
 //! The edges of a network and the writer of a node's verdicts, by their public calls.
 ghost use Rattle.std.specs.Prelude.{◌≡◌, ◌<◌, length, IfOk, IfSome, OnOk};
-ghost use Rattle.online_nodes.specs.Cuts.{place, AtMost};
+ghost use Rattle.rational.specs.Places.{AtMost};
+ghost use Rattle.frac128.specs.Cuts.{place};
 ghost use Rattle.online_nodes.specs.Written.{IsSound};
 
-use frac128::{Frac, Memory, Span};
-use online_nodes::{Cut, Edges, Out};
+use frac128::{Cut, Frac, Memory, Span};
+use online_nodes::{Edges, Out};
 use std::alloc::Global;
 use std::test::Fail;
 use stl_syntax::Verdict;

@@ -2,12 +2,13 @@
 use Rattle.std.proofs.Common.{◌≡◌, ◌⊎◌, inl, inr, refl, sym, ap, subst, ◌∙◌, ℕ, ◌≤◌, List, [], ◌∷◌, ◌++◌, Some, length, take, drop, append_assoc}
 use Rattle.std.specs.Prelude.{slice_get}
 use Rattle.rational.specs.Time.{Rational}
-use Rattle.early_verdict.specs.Cuts.{place, After, Upto, Before, AtMost}
+use Rattle.rational.specs.Places.{After, Upto, Before, AtMost}
+use Rattle.frac128.specs.Cuts.{place}
 use Rattle.early_verdict.specs.Spans.{Lies, IsOn, BeginsAfter, AreTidy, EndBefore, NoneEndsBefore}
 use Rattle.early_verdict.specs.Joining.{Notes, Absorbs}
-use Rattle.early_verdict.specs.declared.cut.Cut.{Cut}
+use Rattle.frac128.specs.declared.cut.Cut.{Cut}
 use Rattle.early_verdict.specs.declared.stretch.Stretch.{Stretch}
-use Rattle.early_verdict.proofs.PlaceLemmas.{sides, not_both, before_through}
+use Rattle.rational.proofs.PlaceLemmas.{sides, not_both, before_through}
 use Rattle.early_verdict.proofs.MakingLemmas.{before_from, before_to, not_itself}
 use Rattle.early_verdict.proofs.SpanLemmas.{
   without,

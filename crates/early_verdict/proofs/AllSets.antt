@@ -87,7 +87,7 @@ pub record AreSound (Yes No : ℕ → Rational → Type 0) (live shown : List Se
   pub no : (i : ℕ) (s x : Sets) → slice_get live i ≡ Some s → slice_get shown i ≡ Some x → (u : Rational)
       → IsOn x.no.spans.items u → No i u ⊎ IsOn s.no.spans.items u
 
-module _ (nodes : List Node) (tr : Trace) (live shown : List Sets) (formed : AreWellFormed nodes) (have : AreLive nodes (start tr) live shown)
+module _ {nodes : List Node} (tr : Trace) {live shown : List Sets} (formed : AreWellFormed nodes) (have : AreLive nodes (start tr) live shown)
     (tidy : AllTidy live) (shown_tidy : AllTidy shown) where
   module _ (sound : AreSound (λ i. Settled (subformula nodes i) tr) (λ i. SettledNot (subformula nodes i) tr) live shown) where
     known_of : (i : ℕ) (n : Node) (s x : Sets) → slice_get nodes i ≡ Some n → slice_get live i ≡ Some s → slice_get shown i ≡ Some x

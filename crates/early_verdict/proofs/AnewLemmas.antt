@@ -6,12 +6,13 @@ use Rattle.rational.specs.Time.{later}
 use Rattle.rational.proofs.Order.{ge_of_same, le_of_lt, le_of_same, le_refl, le_trans, lt_of_le_of_lt, lt_of_lt_of_le, same_of_le}
 use Rattle.rational.proofs.Shift.{le_shift, lt_shift}
 use Rattle.rational.proofs.TimeLemmas.{later-add}
-use Rattle.early_verdict.specs.Cuts.{Place, place, After, Before, Upto, is_after, moved_begin}
+use Rattle.rational.specs.Places.{Place, After, Before, Upto, moved_begin}
+use Rattle.frac128.specs.Cuts.{place, is_after}
 use Rattle.early_verdict.specs.Spans.{AreTidy, IsAmong, IsOn, Lies}
 use Rattle.early_verdict.specs.Reaching.{IsLastEnd}
 use Rattle.early_verdict.specs.declared.stretch.Stretch.{Stretch}
 use Rattle.early_verdict.proofs.Gaps.{on_same}
-use Rattle.early_verdict.proofs.PlaceLemmas.{after_of_before, between, sides}
+use Rattle.rational.proofs.PlaceLemmas.{after_of_before, between, sides}
 use Rattle.early_verdict.proofs.RunLemmas.{after_le, le_through, on_one, upto_le}
 use Rattle.early_verdict.proofs.SinceSets.{before_end, less_by, to_end}
 use Rattle.early_verdict.proofs.SpanLemmas.{rest_after, some_same}

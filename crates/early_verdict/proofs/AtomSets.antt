@@ -7,7 +7,7 @@ use Rattle.stl_syntax.specs.Trace.{Row, Trace, row_time, start, stop}
 use Rattle.stl_syntax.specs.Truth.{holds_at}
 use Rattle.stl_syntax.specs.declared.atom.Atom.{Atom}
 use Rattle.atom_lines.specs.Binding.{AreNeighbours}
-use Rattle.early_verdict.specs.Cuts.{Place, After, Upto, Same}
+use Rattle.rational.specs.Places.{Place, After, Upto, Same}
 use Rattle.early_verdict.specs.Spans.{Lies, IsOn, Grows}
 use Rattle.early_verdict.specs.Steps.{Tells, Gains}
 use Rattle.early_verdict.specs.Adding.{Enlarges, HasAdded, HasGrown, HasRested, Piece, AfterRow, IsNextRow, before_row, after_row}
@@ -15,7 +15,7 @@ use Rattle.early_verdict.specs.Fitting.{AtomFits, AreSetsTidy, HasStepped}
 use Rattle.early_verdict.specs.Happening.{Was}
 use Rattle.early_verdict.specs.declared.stretch.Stretch.{Stretch}
 use Rattle.early_verdict.specs.declared.sets.Sets.{Sets}
-use Rattle.early_verdict.proofs.PlaceLemmas.{upto_same, after_same, same_places}
+use Rattle.rational.proofs.PlaceLemmas.{upto_same, after_same, same_places}
 use Rattle.early_verdict.proofs.GrowingLemmas.{grows_not}
 use Rattle.early_verdict.proofs.LoopLemmas.{grows_then, grows_alike}
 use Rattle.early_verdict.proofs.Absorbing.{no_more, on_append, on_first, on_second}
@@ -28,11 +28,9 @@ added_then a b c P Q f g = record {
   parts = g.parts ∙ f.parts;
   yes_bounds = g.yes_bounds ∙ f.yes_bounds;
   no_bounds = g.no_bounds ∙ f.no_bounds;
-  yes = grows_then a.yes.bounds a.yes.spans.items b.yes.spans.items c.yes.spans.items a.yes.fresh.items b.yes.fresh.items c.yes.fresh.items
-      (P true) (Q true) (λ t. P true t ⊎ Q true t) (λ t h. h) (λ t h. h) f.yes
+  yes = grows_then (λ t h. h) (λ t h. h) f.yes
       (subst (λ s. Grows s b.yes.spans.items c.yes.spans.items b.yes.fresh.items c.yes.fresh.items (Q true)) f.yes_bounds g.yes);
-  no = grows_then a.no.bounds a.no.spans.items b.no.spans.items c.no.spans.items a.no.fresh.items b.no.fresh.items c.no.fresh.items
-      (P false) (Q false) (λ t. P false t ⊎ Q false t) (λ t h. h) (λ t h. h) f.no
+  no = grows_then (λ t h. h) (λ t h. h) f.no
       (subst (λ s. Grows s b.no.spans.items c.no.spans.items b.no.fresh.items c.no.fresh.items (Q false)) f.no_bounds g.no);
 }
 
@@ -44,9 +42,9 @@ added_alike a b P Q f g h = record {
   parts = h.parts;
   yes_bounds = h.yes_bounds;
   no_bounds = h.no_bounds;
-  yes = grows_alike a.yes.bounds a.yes.spans.items b.yes.spans.items a.yes.fresh.items b.yes.fresh.items (P true) (Q true)
+  yes = grows_alike
       (λ t l. f true t) (λ t l. g true t) h.yes;
-  no = grows_alike a.no.bounds a.no.spans.items b.no.spans.items a.no.fresh.items b.no.fresh.items (P false) (Q false)
+  no = grows_alike
       (λ t l. f false t) (λ t l. g false t) h.no;
 }
 
@@ -57,8 +55,8 @@ added_none a P tidy n = record {
   parts = refl;
   yes_bounds = refl;
   no_bounds = refl;
-  yes = grows_not a.yes.bounds a.yes.spans.items a.yes.fresh.items (P true) (λ t l. n true t);
-  no = grows_not a.no.bounds a.no.spans.items a.no.fresh.items (P false) (λ t l. n false t);
+  yes = grows_not (P true) (λ t l. n true t);
+  no = grows_not (P false) (λ t l. n false t);
 }
 
 -- the piece between two places, by one set
@@ -70,11 +68,10 @@ true_added a b from to tidy parts bounds same g = record {
   parts = parts;
   yes_bounds = bounds;
   no_bounds = ap (λ x. x.bounds) same;
-  yes = grows_alike a.yes.bounds a.yes.spans.items b.yes.spans.items a.yes.fresh.items b.yes.fresh.items
-      (λ t. After from t × Upto to t) (Piece true from to true)
+  yes = grows_alike
       (λ t l h. (refl, h.0, h.1)) (λ t l h. (h.1, h.2)) g;
   no = subst (λ x. Grows a.no.bounds a.no.spans.items x.spans.items a.no.fresh.items x.fresh.items (Piece true from to false)) (sym same)
-      (grows_not a.no.bounds a.no.spans.items a.no.fresh.items (Piece true from to false) (λ t l h. let e = h.0 in cc));
+      (grows_not (Piece true from to false) (λ t l h. let e = h.0 in cc));
 }
 
 -- times at which the atom is false grow the one set alone
@@ -86,10 +83,10 @@ false_added a b from to tidy parts bounds same g = record {
   parts = parts;
   yes_bounds = ap (λ x. x.bounds) same;
   no_bounds = bounds;
-  no = grows_alike a.no.bounds a.no.spans.items b.no.spans.items a.no.fresh.items b.no.fresh.items (λ t. After from t × Upto to t) (Piece false from to false)
+  no = grows_alike
       (λ t l h. (refl, h.0, h.1)) (λ t l h. (h.1, h.2)) g;
   yes = subst (λ x. Grows a.yes.bounds a.yes.spans.items x.spans.items a.yes.fresh.items x.fresh.items (Piece false from to true)) (sym same)
-      (grows_not a.yes.bounds a.yes.spans.items a.yes.fresh.items (Piece false from to true) (λ t l h. let e = h.0 in cc));
+      (grows_not (Piece false from to true) (λ t l h. let e = h.0 in cc));
 }
 
 -- what was added made both sets grow

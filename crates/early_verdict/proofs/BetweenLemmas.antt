@@ -1,11 +1,11 @@
 -- How a set grows by those stretches of a list that have a time between two places.
 use Rattle.std.proofs.Common.{◌⊎◌, inl, inr, ℕ, zero, suc, List, [], ◌∷◌, take, drop}
 use Rattle.rational.specs.Time.{Rational}
-use Rattle.early_verdict.specs.Cuts.{Place, After, Upto}
+use Rattle.rational.specs.Places.{Place, After, Upto}
 use Rattle.early_verdict.specs.Spans.{Lies, AreTidy, BeginsAfter, EndBefore, Grows}
 use Rattle.early_verdict.specs.Steps.{BySome}
 use Rattle.early_verdict.specs.declared.stretch.Stretch.{Stretch}
-use Rattle.early_verdict.proofs.PlaceLemmas.{not_both}
+use Rattle.rational.proofs.PlaceLemmas.{not_both}
 use Rattle.early_verdict.proofs.GrowingLemmas.{grows_not}
 use Rattle.early_verdict.proofs.LoopLemmas.{grows_alike}
 use Rattle.early_verdict.proofs.SpanLemmas.{front_upto, rest_after, tidy_drop}
@@ -31,7 +31,7 @@ module _ (Q : Stretch → Rational → Type 0) (from to : Place) (bounds : Stret
     (meets : (s : Stretch) (t : Rational) → Q s t → (u : Rational) × (Lies s u × After from u × Upto to u)) where
   -- none of those that end before the one place has such a time
   pub between_first : (own fresh : List Stretch) → EndBefore from (take at spans) → Grows bounds own own fresh fresh (BySome Q (take at spans))
-  between_first own fresh front = grows_not bounds own fresh (BySome Q (take at spans)) (λ t b h.
+  between_first own fresh front = grows_not (BySome Q (take at spans)) (λ t b h.
       let s = some_by Q (take at spans) t h in
       let u = meets s.0 t s.2 in
       not_both from u.0 (front_upto from (take at spans) u.0 front (on_one (take at spans) s.0 u.0 s.1 u.1.0)) u.1.1)
@@ -40,7 +40,7 @@ module _ (Q : Stretch → Rational → Type 0) (from to : Place) (bounds : Stret
   pub between_last : (old new told fresh : List Stretch) → AreTidy spans → BeginsAfter to (drop at spans)
       → Grows bounds old new told fresh (BySome Q (take at spans)) → Grows bounds old new told fresh (BySome Q spans)
   between_last old new told fresh tidy b =
-      grows_alike bounds old new told fresh (BySome Q (take at spans)) (BySome Q spans) (λ t l h. by_front Q spans at t h)
+      grows_alike (λ t l h. by_front Q spans at t h)
       (λ t l h. elim (by_parts Q spans at t h) [
         | inl k ↦ k
         | inr k ↦

@@ -3,7 +3,8 @@ use Rattle.std.proofs.Common.{inl, inr, refl, Bool, true, false, List}
 use Rattle.std.specs.Prelude.{IsTrue}
 use Rattle.rational.specs.Time.{Rational, ◌≤ʳ◌}
 use Rattle.rational.proofs.Order.{le_of_lt, le_or_lt, le_trans}
-use Rattle.early_verdict.specs.Cuts.{place, After}
+use Rattle.rational.specs.Places.{After}
+use Rattle.frac128.specs.Cuts.{place}
 use Rattle.early_verdict.specs.Spans.{AreTidy, IsAmong, IsOn, Lies}
 use Rattle.early_verdict.specs.Steps.{HoldsFrom}
 use Rattle.early_verdict.specs.Reaching.{GoesBackBy, IsCarried}
@@ -12,7 +13,7 @@ use Rattle.early_verdict.specs.Letting.{BeginsAtOnce}
 use Rattle.early_verdict.specs.declared.stretch.Stretch.{Stretch}
 use Rattle.early_verdict.specs.declared.grown.Grown.{Grown}
 use Rattle.early_verdict.proofs.MakingLemmas.{after_from}
-use Rattle.early_verdict.proofs.PlaceLemmas.{at_most_of_not_before, between, sides}
+use Rattle.rational.proofs.PlaceLemmas.{at_most_of_not_before, between, sides}
 use Rattle.early_verdict.proofs.ReachLemmas.{carried_in}
 use Rattle.early_verdict.proofs.RunLemmas.{after_le, le_through, on_one, upto_le}
 

@@ -5,7 +5,7 @@ use Rattle.rational.specs.Time.{Rational, Within, ◌≤ʳ◌}
 use Rattle.rational.proofs.Order.{le_refl, le_trans, le_of_lt, le_or_lt}
 use Rattle.stl_syntax.specs.Trace.{Trace, start}
 use Rattle.stl_syntax.specs.Early.{OpenBehind}
-use Rattle.early_verdict.specs.Cuts.{place}
+use Rattle.frac128.specs.Cuts.{place}
 use Rattle.early_verdict.specs.Spans.{AreTidy, IsOn, Lies}
 use Rattle.early_verdict.specs.Reaching.{GoesBackBy}
 use Rattle.early_verdict.specs.Readings.{OnlyBehind, SomeBehind, SinceHolds, SinceFails}

@@ -173,9 +173,9 @@ module _ (tr : Trace) (own : Stretch) (s : Sets) (is_yes : s.yes.bounds ≡ own)
 
         says : (t : Rational) → Lies own t → t ≤ʳ stop tr → SaysSince tr x y (at p) (at q) z t
         says t l e =
-            says_since tr x y (at p) (at q) z h f ty (tidy_at q) t (r.some t l) (r.never t l)
+            says_since z h f ty (tidy_at q) t (r.some t l) (r.never t l)
             (λ w m. apart p c.0 w (le_trans m e)) (λ w m. apart q c.1 w (le_trans m e))
-            (reaches_along tr own x y p q shown (at p) (at q) (is_at p) (is_at q) z r t l (a t l))
+            (reaches_along tr x q (is_at p) (is_at q) r t l (a t l))
 
     -- sets of a node that fit are so once the input has ended
     pub node_final : (n : Node) → HasChildrenBelow i n → HasBounds n → LooksAt n (start tr) shown own s.parts

@@ -2,11 +2,12 @@
 use Rattle.std.proofs.Common.{◌≡◌, ◌⊎◌, inl, inr, refl, sym, ap, subst, ◌∙◌, ℕ, suc, ◌-◌, List, [], ◌∷◌, ◌++◌, length, arith}
 use Rattle.std.specs.Prelude.{slice_set}
 use Rattle.rational.specs.Time.{Rational}
-use Rattle.early_verdict.specs.Cuts.{Place, place, After, Upto, Before}
+use Rattle.rational.specs.Places.{Place, After, Upto, Before}
+use Rattle.frac128.specs.Cuts.{place}
 use Rattle.early_verdict.specs.Spans.{Lies, IsOn, BeginsAfter, AreTidy, EndBefore, Grows}
 use Rattle.early_verdict.specs.Ending.{IsLast}
 use Rattle.early_verdict.specs.declared.stretch.Stretch.{Stretch}
-use Rattle.early_verdict.proofs.PlaceLemmas.{sides, not_both, upto_of_before, after_of_before, at_most_of_not_before, before_trans}
+use Rattle.rational.proofs.PlaceLemmas.{sides, not_both, upto_of_before, after_of_before, at_most_of_not_before, before_trans}
 use Rattle.early_verdict.proofs.MakingLemmas.{after_from}
 use Rattle.early_verdict.proofs.StretchLemmas.{rises}
 use Rattle.early_verdict.proofs.Absorbing.{no_more, on_append, on_first, on_second}
@@ -108,26 +109,40 @@ tidy_lengthened last longer front old new e f from tidy =
     let h = subst AreTidy e tidy in
     subst AreTidy (sym f) (tidy_behind front longer (tidy_front front last h) (subst (λ c. EndBefore (place c) front) (sym from) (front_ends front last h)))
 
--- and has grown by the part up to whose end it goes: `gap` is what is new of it
-module _ (part last longer gap : Stretch) (front : List Stretch) (tidy : AreTidy (front ++ last ∷ []))
-    (from : longer.from ≡ last.from) (to : longer.to ≡ part.to)
-    (gap_from : gap.from ≡ last.to) (gap_to : gap.to ≡ part.to) (begins : ¬ (Before (place part.from) (place last.from)))
-    (reaches : ¬ (Before (place last.to) (place part.from))) (ends : Before (place last.to) (place part.to)) where
+-- a stretch is lengthened up to the end of a part that reaches it: `gap` is what is new of it
+pub record IsLonger (part last gap longer : Stretch) : Type 0 where
+  -- the longer one begins where the last begins
+  pub from : longer.from ≡ last.from
+  -- and ends where the part ends
+  pub to : longer.to ≡ part.to
+  -- what is new begins where the last ends
+  pub gap_from : gap.from ≡ last.to
+  -- and ends where the part ends
+  pub gap_to : gap.to ≡ part.to
+  -- the part does not begin before the last
+  pub begins : ¬ (Before (place part.from) (place last.from))
+  -- nor behind it
+  pub reaches : ¬ (Before (place last.to) (place part.from))
+  -- and ends behind it
+  pub ends : Before (place last.to) (place part.to)
+
+-- the list that ends with it has grown by the part
+module _ {part last gap longer : Stretch} (front : List Stretch) (tidy : AreTidy (front ++ last ∷ [])) (is : IsLonger part last gap longer) where
   after_last : (t : Rational) → After (place part.from) t → After (place last.from) t
-  after_last t a = after_from (place last.from) (place part.from) t (at_most_of_not_before (place last.from) (place part.from) begins) a
+  after_last t a = after_from (place last.from) (place part.from) t (at_most_of_not_before (place last.from) (place part.from) is.begins) a
 
   in_longer : (t : Rational) → After (place last.from) t → Upto (place part.to) t → Lies longer t
-  in_longer t a u = (subst (λ c. After (place c) t) (sym from) a, subst (λ c. Upto (place c) t) (sym to) u)
+  in_longer t a u = (subst (λ c. After (place c) t) (sym is.from) a, subst (λ c. Upto (place c) t) (sym is.to) u)
 
   of_longer : (t : Rational) → Lies longer t → Lies last t ⊎ Lies gap t
   of_longer t l = elim (sides (place last.to) t) [
-    | inl u ↦ inl (subst (λ c. After (place c) t) from l.0, u)
-    | inr a ↦ inr (subst (λ c. After (place c) t) (sym gap_from) a, subst (λ c. Upto (place c) t) (to ∙ sym gap_to) l.1)
+    | inl u ↦ inl (subst (λ c. After (place c) t) is.from l.0, u)
+    | inr a ↦ inr (subst (λ c. After (place c) t) (sym is.gap_from) a, subst (λ c. Upto (place c) t) (is.to ∙ sym is.gap_to) l.1)
   ]
 
   -- what is new lies after the last stretch, and in the part
   past_last : (t : Rational) → Lies gap t → After (place last.to) t × Upto (place part.to) t
-  past_last t l = (subst (λ c. After (place c) t) gap_from l.0, subst (λ c. Upto (place c) t) gap_to l.1)
+  past_last t l = (subst (λ c. After (place c) t) is.gap_from l.0, subst (λ c. Upto (place c) t) is.gap_to l.1)
 
   grows_longer : (told fresh : List Stretch) → fresh ≡ told ++ gap ∷ [] → Grows part (front ++ last ∷ []) (front ++ longer ∷ []) told fresh (Lies part)
   grows_longer told fresh noted = record {
@@ -136,7 +151,7 @@ module _ (part last longer gap : Stretch) (front : List Stretch) (tidy : AreTidy
     keeps = λ t h. elim (on_append front (last ∷ []) t h) [
       | inl f ↦ on_first front (longer ∷ []) t f
       | inr k ↦ elim k [
-        | inl l ↦ on_second front (longer ∷ []) t (inl (in_longer t l.0 (upto_of_before (place last.to) (place part.to) t ends l.1)))
+        | inl l ↦ on_second front (longer ∷ []) t (inl (in_longer t l.0 (upto_of_before (place last.to) (place part.to) t is.ends l.1)))
         | inr n ↦ absurd n
       ]
     ];
@@ -144,7 +159,7 @@ module _ (part last longer gap : Stretch) (front : List Stretch) (tidy : AreTidy
     only = λ t h. elim (parted t h) [
       | inl o ↦ inl o
       | inr l ↦ let k = past_last t l in let p : Lies part t =
-          (after_from (place part.from) (place last.to) t (at_most_of_not_before (place part.from) (place last.to) reaches) k.0, k.1) in inr (p, p)
+          (after_from (place part.from) (place last.to) t (at_most_of_not_before (place part.from) (place last.to) is.reaches) k.0, k.1) in inr (p, p)
     ];
     gained = λ t h. elim (parted t h) [ inl o ↦ inl o | inr l ↦ inr (inl l) ];
     news = λ t h. elim h [
@@ -171,19 +186,17 @@ module _ (part last longer gap : Stretch) (front : List Stretch) (tidy : AreTidy
       ]
 
 -- so of a list and what it became
-pub grows_lengthened : (part last longer gap : Stretch) (front old new told fresh : List Stretch) → old ≡ front ++ last ∷ [] → new ≡ front ++ longer ∷ []
-    → fresh ≡ told ++ gap ∷ [] → longer.from ≡ last.from → longer.to ≡ part.to → gap.from ≡ last.to → gap.to ≡ part.to → AreTidy old
-    → ¬ (Before (place part.from) (place last.from)) → ¬ (Before (place last.to) (place part.from)) → Before (place last.to) (place part.to)
-    → Grows part old new told fresh (Lies part)
-grows_lengthened part last longer gap front old new told fresh e f noted from to gap_from gap_to tidy begins reaches ends =
+pub grows_lengthened : {part last longer gap : Stretch} {old new told fresh : List Stretch} (front : List Stretch) → old ≡ front ++ last ∷ []
+    → new ≡ front ++ longer ∷ [] → fresh ≡ told ++ gap ∷ [] → AreTidy old → IsLonger part last gap longer → Grows part old new told fresh (Lies part)
+grows_lengthened {part} {last} {longer} {new = new} {told = told} {fresh = fresh} front e f noted tidy is =
     subst (λ xs. Grows part xs new told fresh (Lies part)) (sym e)
     (subst (λ xs. Grows part (front ++ last ∷ []) xs told fresh (Lies part)) (sym f)
-    (grows_longer part last longer gap front (subst AreTidy e tidy) from to gap_from gap_to begins reaches ends told fresh noted))
+    (grows_longer front (subst AreTidy e tidy) is told fresh noted))
 
 -- what a set grows by within a part of its bounds, it grows by within them
-pub grows_within : (bounds part : Stretch) (old new told fresh : List Stretch) (P : Rational → Type 0) → ((t : Rational) → Lies part t → Lies bounds t × P t)
+pub grows_within : {bounds part : Stretch} {old new told fresh : List Stretch} {P : Rational → Type 0} → ((t : Rational) → Lies part t → Lies bounds t × P t)
     → ((t : Rational) → Lies bounds t → P t → Lies part t) → Grows part old new told fresh (Lies part) → Grows bounds old new told fresh P
-grows_within bounds part old new told fresh P out into g = record {
+grows_within out into g = record {
   more = g.more;
   noted = g.noted;
   keeps = g.keeps;

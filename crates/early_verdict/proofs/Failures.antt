@@ -3,11 +3,12 @@
 use Rattle.std.proofs.Common.{◌⊎◌, inl, inr, true, false, List}
 use Rattle.rational.specs.Time.{Rational, Within, ◌≤ʳ◌, ◌<ʳ◌}
 use Rattle.rational.proofs.Order.{le_refl, le_trans, le_of_lt, le_or_lt, same_of_le}
-use Rattle.early_verdict.specs.Cuts.{Place, place, After, Upto}
+use Rattle.rational.specs.Places.{Place, After, Upto}
+use Rattle.frac128.specs.Cuts.{place}
 use Rattle.early_verdict.specs.Spans.{Lies, IsOn, IsAmong, AreTidy}
 use Rattle.early_verdict.specs.Reaching.{GoesTo, GoesBack}
 use Rattle.early_verdict.specs.declared.stretch.Stretch.{Stretch}
-use Rattle.early_verdict.proofs.PlaceLemmas.{sides, before_through}
+use Rattle.rational.proofs.PlaceLemmas.{sides, before_through}
 use Rattle.early_verdict.proofs.RunLemmas.{le_through, upto_le, after_le, one_of, on_one}
 use Rattle.early_verdict.proofs.Gaps.{gap_next, gap_last, meets, covers, on_same}
 

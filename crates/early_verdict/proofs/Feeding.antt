@@ -8,11 +8,11 @@ use Rattle.atom_lines.specs.Binding.{Binding, IsBound}
 use Rattle.stl_syntax.specs.declared.node.Node.{Node}
 use Rattle.early_verdict.specs.Standing.{AllTidy}
 use Rattle.early_verdict.specs.Living.{NetStands}
-use Rattle.early_verdict.specs.Deciding.{Kept, IsAnswer, IsVerdict, SetsAre, Stands, decided_by, last_of}
+use Rattle.early_verdict.specs.Deciding.{Kept, IsAnswer, SetsAre, Stands, decided_by, last_of}
 use Rattle.early_verdict.specs.declared.sets.Sets.{Sets}
 use Rattle.early_verdict.specs.declared.early.Decided.{Decided}
 use Rattle.early_verdict.proofs.DecideLemmas.{none_first}
-use Rattle.early_verdict.proofs.StandingOn.{bound_any, decided_now, fed_answer, fed_stands, passed_answer, passed_stands}
+use Rattle.early_verdict.proofs.StandingOn.{IsTaken, bound_any, decided_now, fed_answer, fed_stands, passed_answer, passed_stands}
 
 -- nothing is taken yet
 pub fresh : (b : Binding) (f : Formula) (header : Header) (live shown : List Sets) → AreWellFormed f.nodes → 0 < length f.nodes → IsBound b f header
@@ -51,7 +51,7 @@ some_if None e = absurd (let f : false ≡ true = e in cc)
 some_if (Some x) e = (x, refl)
 
 -- where what stands for the rows goes on to stand for them
-sets_as : (nodes : List Node) (header : Header) (begin : ℕ) (live shown left left_shown : List Sets) (rows : List Row) (x : Row)
+pub sets_as : (nodes : List Node) (header : Header) (begin : ℕ) (live shown left left_shown : List Sets) (rows : List Row) (x : Row)
     → ((tr : Trace) → NetStands nodes tr live shown → NetStands nodes tr left left_shown) → SetsAre nodes header begin live shown (rows ++ x ∷ [])
     → SetsAre nodes header begin left left_shown (rows ++ x ∷ [])
 sets_as nodes header begin live shown left left_shown [] x f s = (s.0, f _ s.1)
@@ -65,22 +65,16 @@ net_of nodes header begin live shown [] x s = (_, s.1)
 net_of nodes header begin live shown (r ∷ rows) x s = (_, s.1)
 
 -- a row while nothing is decided
-pub fed_by : (x : Kept) (rows : List Row) (r kept : Row) (begin : ℕ) (live shown left left_shown : List Sets) (verdict : Option Bool) (decided : Option Decided)
-    → Stands x rows false → x.decided ≡ None → length r.values ≡ x.bound.width → IfSome x.last (λ q. q.time < r.time)
-    → SetsAre x.nodes x.header begin live shown (rows ++ r ∷ []) → IsVerdict shown begin verdict
-    → (decided ≡ None → (tr : Trace) → NetStands x.nodes tr live shown → NetStands x.nodes tr left left_shown) → kept ≡ r
-    → decided ≡ decided_now r.time verdict
+pub fed_by : {x : Kept} {rows : List Row} {r kept : Row} {begin : ℕ} {left left_shown : List Sets} {verdict : Option Bool} {decided : Option Decided}
+    → IsTaken x rows r begin left left_shown verdict → kept ≡ r → decided ≡ decided_now r.time verdict
     → Stands (record x { live = left; shown = left_shown; begin = begin; last = Some kept; decided = decided })
     (rows ++ r ∷ []) false × IsAnswer (root x.nodes) x.header rows r decided
-fed_by x rows r kept begin live shown left left_shown verdict decided st none width later are v let_go same is =
-    let go : decided_now r.time verdict ≡ None → SetsAre x.nodes x.header begin left left_shown (rows ++ r ∷ []) =
-    λ e. sets_as x.nodes x.header begin live shown left left_shown rows r (let_go (is ∙ e)) are in (
-      subst (λ k. Stands (record x { live = left; shown = left_shown; begin = begin; last = Some k; decided = decided }) (rows ++ r ∷ []) false) (sym same)
-          (subst (λ d. Stands (record x { live = left; shown = left_shown; begin = begin; last = Some r; decided = d }) (rows ++ r ∷ []) false) (sym is)
-          (fed_stands x rows st none r width later begin live shown left left_shown are verdict v go)),
-      subst (λ d. IsAnswer (root x.nodes) x.header rows r d) (sym is)
-          (fed_answer x rows st none r width later begin live shown left left_shown are verdict v go),
-    )
+fed_by {x} {rows} {r} {begin = begin} {left = left} {left_shown = left_shown} {decided = decided} t same is = (
+  subst (λ k. Stands (record x { live = left; shown = left_shown; begin = begin; last = Some k; decided = decided }) (rows ++ r ∷ []) false) (sym same)
+      (subst (λ d. Stands (record x { live = left; shown = left_shown; begin = begin; last = Some r; decided = d }) (rows ++ r ∷ []) false) (sym is)
+      (fed_stands t)),
+  subst (λ d. IsAnswer (root x.nodes) x.header rows r d) (sym is) (fed_answer t),
+)
 
 -- a row after the one that decided
 pub passed_by : (x : Kept) (rows : List Row) (r kept : Row) → Stands x rows false → is_some x.decided ≡ true → length r.values ≡ x.bound.width

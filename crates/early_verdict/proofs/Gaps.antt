@@ -3,12 +3,13 @@ use Rattle.std.proofs.Common.{◌⊎◌, inl, inr, sym, subst, List, [], ◌∷�
 use Rattle.rational.specs.Time.{Rational, ◌≤ʳ◌}
 use Rattle.rational.proofs.Order.{le_of_same, ge_of_same}
 use Rattle.rational.specs.Rational.{◌≈◌}
-use Rattle.early_verdict.specs.Cuts.{Place, place, After, Upto, Before}
+use Rattle.rational.specs.Places.{Place, After, Upto, Before}
+use Rattle.frac128.specs.Cuts.{place}
 use Rattle.early_verdict.specs.Spans.{IsOn, IsAmong, AreTidy}
 use Rattle.early_verdict.specs.Steps.{HoldsFrom}
 use Rattle.early_verdict.specs.declared.stretch.Stretch.{Stretch}
-use Rattle.early_verdict.proofs.PlaceLemmas.{sides, not_both, between, share, before_trans, before_through}
-use Rattle.early_verdict.proofs.PlaceLemmas.{upto_of_before, after_of_before, at_most_of_not_before}
+use Rattle.rational.proofs.PlaceLemmas.{sides, not_both, between, share, before_trans, before_through}
+use Rattle.rational.proofs.PlaceLemmas.{upto_of_before, after_of_before, at_most_of_not_before}
 use Rattle.early_verdict.proofs.MakingLemmas.{after_from}
 use Rattle.early_verdict.proofs.StretchLemmas.{rises}
 use Rattle.early_verdict.proofs.SpanLemmas.{rest_after}

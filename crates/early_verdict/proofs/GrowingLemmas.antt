@@ -8,9 +8,9 @@ use Rattle.early_verdict.proofs.Absorbing.{no_more}
 use Rattle.early_verdict.proofs.SpanLemmas.{with_one, on_with, on_with_new, on_with_old, tidy_with}
 
 -- with no times in the bounds nothing grows
-pub grows_not : (bounds : Stretch) (spans fresh : List Stretch) (P : Rational → Type 0) → ((t : Rational) → Lies bounds t → P t → ⊥)
+pub grows_not : {bounds : Stretch} {spans fresh : List Stretch} (P : Rational → Type 0) → ((t : Rational) → Lies bounds t → P t → ⊥)
     → Grows bounds spans spans fresh fresh P
-grows_not bounds spans fresh P none = record {
+grows_not {fresh = fresh} P none = record {
   more = [];
   noted = no_more fresh;
   keeps = λ t h. h;
@@ -21,10 +21,10 @@ grows_not bounds spans fresh P none = record {
 }
 
 -- with the joined stretch in the room that was made for it the set has grown by the part
-pub grows_by : (bounds : Stretch) (at : ℕ) (part joined : Stretch) (old left new told fresh : List Stretch) (P : Rational → Type 0)
+pub grows_by : {bounds : Stretch} {at : ℕ} {part joined : Stretch} {old left new told fresh : List Stretch} {P : Rational → Type 0}
     → ((t : Rational) → Lies part t → Lies bounds t × P t) → ((t : Rational) → Lies bounds t → P t → Lies part t)
     → Absorbs at part joined old left told fresh → new ≡ with_one left at joined → Grows bounds old new told fresh P
-grows_by bounds at part joined old left new told fresh P out into a is = record {
+grows_by {at = at} {joined = joined} {left = left} {new = new} out into a is = record {
   more = a.more;
   noted = a.noted;
   keeps = λ t h. there t (elim (a.left t h) [ inl k ↦ on_with_old left at joined t k | inr k ↦ on_with_new left at joined t k ]);
@@ -47,7 +47,7 @@ grows_by bounds at part joined old left new told fresh P out into a is = record 
     here t h = on_with left at joined t (subst (λ xs. IsOn xs t) is h)
 
 -- and rises as it did
-pub tidy_by : (at : ℕ) (part joined : Stretch) (old left new told fresh : List Stretch) → AreTidy left
+pub tidy_by : {at : ℕ} {part joined : Stretch} {old left new told fresh : List Stretch} → AreTidy left
     → Absorbs at part joined old left told fresh → new ≡ with_one left at joined → AreTidy new
-tidy_by at part joined old left new told fresh tidy a is =
+tidy_by {at} {joined = joined} {left = left} tidy a is =
     subst AreTidy (sym is) (tidy_with left at joined tidy a.front a.rest)

@@ -1,4 +1,4 @@
--- An event leaves what all nodes look at as it was.
+-- An entry leaves what all nodes look at as it was.
 use Rattle.std.proofs.Common.{◌≡◌, inl, inr, sym, subst, ◌∙◌, ℕ, ◌<◌, Some, List, length, arith}
 use Rattle.std.specs.Prelude.{slice_get}
 use Rattle.rational.specs.Time.{Rational}
@@ -13,9 +13,9 @@ use Rattle.early_verdict.proofs.LivingLemmas.{looks_as, parts_as}
 use Rattle.early_verdict.proofs.Netting.{nodes_at}
 use Rattle.early_verdict.proofs.Places.{get_within}
 
-module _ (nodes : List Node) (from : Rational) (old new old_shown new_shown : List Sets) (h : SteppedTo (length nodes) old new)
+module _ {nodes : List Node} {from : Rational} {old new old_shown new_shown : List Sets} (h : SteppedTo (length nodes) old new)
     (g : ShownTo (length nodes) new old_shown new_shown) (have : AreLive nodes from old old_shown) where
-  -- a node's sets were there before the event
+  -- a node's sets were there before the entry
   pub was_at : (i : ℕ) (s : Sets) → slice_get new i ≡ Some s → (r : Sets) × (slice_get old i ≡ Some r) × HasStepped r s
   was_at i s is =
       let l = get_within new i s is in
@@ -49,7 +49,7 @@ module _ (nodes : List Node) (from : Rational) (old new old_shown new_shown : Li
       let w = showed_at p x.0 x.1 in
       is_shown new_shown p x.0 u x.1 (subst (λ b. Lies b u) (sym w.4.no) (shown_is old_shown p w.2 u w.3 o))
 
-  -- what is shown after the event was shown before it
+  -- what is shown after the entry was shown before it
   pub shown_before : (p : ℕ) (u : Rational) → IsShown new_shown p u → IsShown old_shown p u
   shown_before p u o =
       let x = sets_at new_shown p (shown_within new_shown p u o) in

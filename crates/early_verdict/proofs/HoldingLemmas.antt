@@ -1,11 +1,12 @@
 -- Which stretch of a list holds the times just after a place.
 use Rattle.std.proofs.Common.{◌≡◌, inl, inr, sym, subst, ◌∙◌, ℕ, zero, suc, List, [], ◌∷◌, Some, take, drop}
 use Rattle.std.specs.Prelude.{slice_get}
-use Rattle.early_verdict.specs.Cuts.{Place, place, Before}
+use Rattle.rational.specs.Places.{Place, Before}
+use Rattle.frac128.specs.Cuts.{place}
 use Rattle.early_verdict.specs.Spans.{IsAmong, AreTidy, BeginsAfter, EndBefore, NoneEndsBefore}
 use Rattle.early_verdict.specs.Steps.{HoldsFrom}
 use Rattle.early_verdict.specs.declared.stretch.Stretch.{Stretch}
-use Rattle.early_verdict.proofs.PlaceLemmas.{before_trans, at_most_of_not_before}
+use Rattle.rational.proofs.PlaceLemmas.{before_trans, at_most_of_not_before}
 use Rattle.early_verdict.proofs.MakingLemmas.{before_from, not_itself}
 use Rattle.early_verdict.proofs.SpanLemmas.{some_same, no_stretch}
 use Rattle.early_verdict.proofs.RunLemmas.{among_after}

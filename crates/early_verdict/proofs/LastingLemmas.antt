@@ -1,15 +1,16 @@
--- Sets of the times all of whose window a set has: at their first event, and where no row follows.
+-- Sets of the times all of whose window a set has: at their first entry, and where no row follows.
 use Rattle.std.proofs.Common.{◌≡◌, ◌⊎◌, inl, inr, subst, ℕ, zero, suc, ℤ, Option, Some, None, List, [], ◌∷◌, take, drop}
 use Rattle.std.specs.Prelude.{IfSome, MatchOption}
 use Rattle.rational.specs.Rational.{Rational}
-use Rattle.early_verdict.specs.Cuts.{Place, place, After, Upto, Before}
+use Rattle.rational.specs.Places.{Place, After, Upto, Before}
+use Rattle.frac128.specs.Cuts.{place}
 use Rattle.early_verdict.specs.Spans.{IsOn, AreTidy, BeginsAfter, EndBefore, Grows}
 use Rattle.early_verdict.specs.Windows.{Sees, low_place, high_place}
 use Rattle.early_verdict.specs.Steps.{BySome, HeldAt, SeesOnly, Tells, Gains}
 use Rattle.early_verdict.specs.Lasting.{SeesNone, SeesOnlyBy, BeginsFrom, IsRunTo}
 use Rattle.early_verdict.specs.declared.stretch.Stretch.{Stretch}
 use Rattle.early_verdict.specs.declared.window.Window.{Window}
-use Rattle.early_verdict.proofs.PlaceLemmas.{sides, not_both, between, before_through, at_most_of_not_before}
+use Rattle.rational.proofs.PlaceLemmas.{sides, not_both, between, before_through, at_most_of_not_before}
 use Rattle.early_verdict.proofs.MakingLemmas.{after_from}
 use Rattle.early_verdict.proofs.SpanLemmas.{rest_after}
 use Rattle.early_verdict.proofs.RunLemmas.{le_through, upto_le, later_before, decided, decided_either, decided_not}
@@ -53,14 +54,14 @@ none_or_one w start t = elim (decided start far) [
       | inr n ↦ inl (λ u a s. n (before_through (low_place k w.low_in t) far u (g u s.begins) s.ends))
     ]
 
--- what the first event adds
+-- what the first entry adds
 abbrev pub BeginsAll : Window → Place → List Stretch → List Stretch → Rational → Type 0
 BeginsAll w start spans fresh t = SeesNone w start t ⊎ BySome (HeldAt w start spans) fresh t
 
 -- at the first row the set has the times all of whose window the other has
-pub first_tells : (w : Window) (start : Place) (bounds : Stretch) (old new told fresh x fx : List Stretch) → AreTidy x → old ≡ [] → Gains [] x fx
+pub first_tells : {bounds : Stretch} {old new told fresh x fx : List Stretch} (w : Window) (start : Place) → AreTidy x → old ≡ [] → Gains [] x fx
     → Grows bounds old new told fresh (BeginsAll w start x fx) → Tells bounds new (SeesOnly w start x)
-first_tells w start bounds old new told fresh x fx tidy none gx g = record {
+first_tells {x = x} {fx = fx} w start tidy none gx g = record {
   has = λ t b s. elim (none_or_one w start t) [
     | inl n ↦ g.adds t b (inl n)
     | inr o ↦ elim (gx.gained o.0 (s o.0 o.1 o.2)) [
@@ -138,10 +139,10 @@ module _ (w : Window) (start from : Place) where
             (r.0, r.1, λ v a. let i = r.2 v a in (i.0, f v i.1))
       ]
 
--- what the last event adds beside what the set gained
-pub last_tells : (w : Window) (start last from : Place) (bounds : Stretch) (old new told fresh x : List Stretch) → IsRunTo x last from
+-- what the last entry adds beside what the set gained
+pub last_tells : {bounds : Stretch} {old new told fresh x : List Stretch} (w : Window) (start last from : Place) → IsRunTo x last from
     → Tells bounds old (SeesOnly w start x) → Grows bounds old new told fresh (BeginsFrom w start from) → Tells bounds new (SeesOnlyBy w start last x)
-last_tells w start last from bounds old new told fresh x run h g = record {
+last_tells {x = x} w start last from run h g = record {
   has = λ t b s. elim (decided_begin w start from t) [
     | inl k ↦ g.adds t b k
     | inr n ↦ g.keeps t (h.has t b (all t s n))

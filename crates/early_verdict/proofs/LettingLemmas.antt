@@ -1,6 +1,6 @@
 -- How nodes let go of times, one at a time.
 use Rattle.std.proofs.Common.{◌≡◌, ◌⊎◌, inl, inr, refl, sym, ap, subst, ◌∙◌, ℕ, ◌<◌, Bool, true}
-use Rattle.std.proofs.Common.{false, Option, Some, None, List, [], ◌∷◌, ◌++◌, length, take, drop, arith}
+use Rattle.std.proofs.Common.{false, Option, Some, None, List, [], ◌∷◌, ◌++◌, take, arith}
 use Rattle.std.specs.Prelude.{MatchBool, MatchOption, slice_get, slice_index_or, slice_set}
 use Rattle.rational.specs.Time.{Precedes, Rational, later, ◌≤ʳ◌, ◌<ʳ◌}
 use Rattle.rational.proofs.Order.{le_of_lt, le_trans, lt_of_lt_of_le, not_lt_of_le}
@@ -8,25 +8,26 @@ use Rattle.rational.proofs.TimeLemmas.{later_le, precedes_le}
 use Rattle.stl_syntax.specs.Early.{OpenAhead, OpenBehind}
 use Rattle.stl_syntax.specs.declared.node.Node.{Node}
 use Rattle.stl_syntax.specs.declared.node.Node.TheVariants.{Not, And, Or, Implies, Until, Eventually, Always, Once, Historically}
-use Rattle.early_verdict.specs.Cuts.{Place, place, After, AtMost, Before, Upto}
+use Rattle.rational.specs.Places.{Place, After, AtMost, Before, Upto}
+use Rattle.frac128.specs.Cuts.{place}
 use Rattle.early_verdict.specs.Spans.{AreTidy, IsAmong, IsOn, Lies}
 use Rattle.early_verdict.specs.Steps.{HoldsFrom}
 use Rattle.early_verdict.specs.Fitting.{Lists, lists_at, lists_of, no_of, yes_of}
 use Rattle.early_verdict.specs.Standing.{AllTidy}
 use Rattle.early_verdict.specs.Living.{HasShown, IsNarrowed, IsShown, ShowsAt}
 use Rattle.early_verdict.specs.Letting.{AreApart, AreAskedBy, AreInside, AreLess, IsAskedFirst}
-use Rattle.early_verdict.specs.Letting.{IsAskedFrom, IsEndlessCut, IsEndlessCutAt, IsFirstLeft, IsFirstShown, IsInside, IsLess}
+use Rattle.early_verdict.specs.Letting.{IsAskedFrom, IsEndlessCut, IsEndlessCutAt, IsFirstLeft, IsFirstShown, IsLess}
 use Rattle.early_verdict.specs.Letting.{IsRunCut, IsRunCutAt, IsSettled, IsSettledAt, IsUntil, ShowsFrom}
-use Rattle.early_verdict.specs.declared.cut.Cut.{Cut}
+use Rattle.frac128.specs.declared.cut.Cut.{Cut}
 use Rattle.early_verdict.specs.declared.stretch.Stretch.{Stretch}
 use Rattle.early_verdict.specs.declared.grown.Grown.{Grown}
 use Rattle.early_verdict.specs.declared.sets.Sets.{Sets}
 use Rattle.early_verdict.proofs.AllSets.{is_shown, lists_are, sets_at, shown_is, shown_within}
 use Rattle.early_verdict.proofs.MakingLemmas.{after_from}
 use Rattle.early_verdict.proofs.Netting.{nat_is}
-use Rattle.early_verdict.proofs.PlaceLemmas.{at_most_of_not_before, between, not_both, sides}
-use Rattle.early_verdict.proofs.Places.{lists_by, put_count, put_here, put_there, same_sets}
-use Rattle.early_verdict.proofs.Splitting.{at_split, joined_is}
+use Rattle.rational.proofs.PlaceLemmas.{at_most_of_not_before, between, not_both, sides}
+use Rattle.early_verdict.proofs.Places.{lists_by, same_sets}
+use Rattle.early_verdict.proofs.Splitting.{IsSplit, count_there, new_there, old_there, others_there}
 use Rattle.early_verdict.proofs.StretchLemmas.{rises}
 use Rattle.early_verdict.proofs.RunLemmas.{earlier_after, le_through, on_one, upto_le}
 use Rattle.early_verdict.proofs.Telling.{parts_tidy}
@@ -105,7 +106,7 @@ pub none_less : (xs : List Sets) → AreLess xs xs
 none_less xs = record { count = refl; each = λ p x e. (x, e, same_less x) }
 
 -- where one node is asked from a time on
-module _ (p : ℕ) (from : Rational) (old new : List Sets) (h : IsAskedFrom p from old new) where
+module _ {p : ℕ} {from : Rational} {old new : List Sets} (h : IsAskedFrom p from old new) where
   -- one node's fewer times are fewer of all
   pub one_less : AreLess old new
   one_less = record { count = h.count; each = each }
@@ -217,19 +218,19 @@ pub none_asked : (n : Node) (from : Rational) (xs : List Sets) → ¬ (IsUntil n
 none_asked n from xs u = record { less = none_less xs; others = λ p c. refl; run = λ r. refl; looks = λ s own parts k f l. l; cut = λ e. absurd (u e) }
 
 -- a negation asks its operand for its own times
-pub asked_not : (p : ℕ) (from : Rational) (old new : List Sets) → IsAskedFrom p from old new → AreAskedBy (Not p) from old new
-asked_not p from old new h = record {
-  less = one_less p from old new h;
+pub asked_not : {p : ℕ} {from : Rational} {old new : List Sets} → IsAskedFrom p from old new → AreAskedBy (Not p) from old new
+asked_not {p} h = record {
+  less = one_less h;
   others = λ q c. h.others q (λ e. c (sym e));
   run = λ r. absurd r;
   cut = λ e. absurd e;
-  looks = λ s own parts k f l t o. still_shown p from old new h p t (λ d. f t o) (l t o);
+  looks = λ s own parts k f l t o. still_shown h p t (λ d. f t o) (l t o);
 }
 
-module _ (p q : ℕ) (from : Rational) (old mid new : List Sets) (h : IsAskedFrom p from old mid) (g : IsAskedFrom q from mid new) where
+module _ {p q : ℕ} {from : Rational} {old mid new : List Sets} (h : IsAskedFrom p from old mid) (g : IsAskedFrom q from mid new) where
   -- fewer times of two nodes are fewer of all
   pub two_less : AreLess old new
-  two_less = both_less old mid new (one_less p from old mid h) (one_less q from mid new g)
+  two_less = both_less old mid new (one_less h) (one_less g)
 
   -- the nodes beside the two that were asked stay
   pub two_others : (r : ℕ) → ¬ ((p ≡ r) ⊎ (q ≡ r)) → slice_get new r ≡ slice_get old r
@@ -237,7 +238,7 @@ module _ (p q : ℕ) (from : Rational) (old mid new : List Sets) (h : IsAskedFro
 
   -- from there on what was shown is shown
   pub both_shown : (r : ℕ) (t : Rational) → from ≤ʳ t → IsShown old r t → IsShown new r t
-  both_shown r t f l = still_shown q from mid new g r t (λ d. f) (still_shown p from old mid h r t (λ d. f) l)
+  both_shown r t f l = still_shown g r t (λ d. f) (still_shown h r t (λ d. f) l)
 
   -- an `and` asks both sides
   pub asked_and : AreAskedBy (And p q) from old new
@@ -272,21 +273,21 @@ module _ (p q : ℕ) (from : Rational) (old mid new : List Sets) (h : IsAskedFro
   -- both show the times from there on
   pub two_shows : (r : ℕ) (w x : Sets) → (p ≡ r) ⊎ (q ≡ r) → slice_get old r ≡ Some w → slice_get new r ≡ Some x → ShowsFrom from w x
   two_shows r w x c e f =
-      let y = (one_less q from mid new g).each r x f in
+      let y = (one_less g).each r x f in
       by_mid y.0 y.1 y.2
     where
       by_mid : (y : Sets) → slice_get mid r ≡ Some y → IsLess y x → ShowsFrom from w x
       by_mid y m less = record {
-        left = λ t l k. shown_left q from mid new g r y x m f t (shown_left p from old mid h r w y e m t l k) k;
+        left = λ t l k. shown_left g r y x m f t (shown_left h r w y e m t l k) k;
         after = λ t l k u o. elim c [
           | inl d ↦
-              shown_after p from old mid h w y (subst (λ j. slice_get old j ≡ Some w) (sym d) e)
+              shown_after h w y (subst (λ j. slice_get old j ≡ Some w) (sym d) e)
               (subst (λ j. slice_get mid j ≡ Some y) (sym d) m) t l k u (less.less u o)
           | inr d ↦
-              shown_after q from mid new g y x (subst (λ j. slice_get mid j ≡ Some y) (sym d) m) (subst (λ j. slice_get new j ≡ Some x) (sym d) f) t
-              (shown_left p from old mid h r w y e m t l k) k u o
+              shown_after g y x (subst (λ j. slice_get mid j ≡ Some y) (sym d) m) (subst (λ j. slice_get new j ≡ Some x) (sym d) f) t
+              (shown_left h r w y e m t l k) k u o
         ];
-        ends = λ t u. shown_ends q from mid new g r y x m f t (shown_ends p from old mid h r w y e m t u);
+        ends = λ t u. shown_ends g r y x m f t (shown_ends h r w y e m t u);
       }
 
   -- until looks on from its own times alone
@@ -302,7 +303,7 @@ module _ (p q : ℕ) (from : Rational) (old mid new : List Sets) (h : IsAskedFro
     );
   }
 
-module _ (p : ℕ) (from first : Rational) (old new : List Sets) (h : IsAskedFrom p first old new) where
+module _ {p : ℕ} (from : Rational) {first : Rational} {old new : List Sets} (h : IsAskedFrom p first old new) where
   module _ (a b : ℕ) (a_in b_in : Bool) (begins : first ≤ʳ later from a) where
     seen_ahead : (start t u : Rational) → from ≤ʳ t → OpenAhead start a b a_in b_in t u → first ≤ʳ u
     seen_ahead start t u f o = le_trans begins (le_trans (later_le a f) (precedes_le a_in (later t a) u o.begins))
@@ -310,21 +311,21 @@ module _ (p : ℕ) (from first : Rational) (old new : List Sets) (h : IsAskedFro
     -- an `eventually` asks for the times from its window's begin on
     pub asked_eventually : AreAskedBy (Eventually p a b a_in b_in) from old new
     asked_eventually = record {
-      less = one_less p first old new h;
+      less = one_less h;
       others = λ q c. h.others q (λ e. c (sym e));
       run = λ r. absurd r;
       cut = λ e. absurd e;
-      looks = λ s own parts k f l t u o w. still_shown p first old new h p u (λ d. seen_ahead s t u (f t o) w) (l t u o w);
+      looks = λ s own parts k f l t u o w. still_shown h p u (λ d. seen_ahead s t u (f t o) w) (l t u o w);
     }
 
     -- the operand of an `always` is asked for what its windows look at
     pub asked_always : AreAskedBy (Always p a b a_in b_in) from old new
     asked_always = record {
-      less = one_less p first old new h;
+      less = one_less h;
       others = λ q c. h.others q (λ e. c (sym e));
       run = λ r. absurd r;
       cut = λ e. absurd e;
-      looks = λ s own parts k f l t u o w. still_shown p first old new h p u (λ d. seen_ahead s t u (f t o) w) (l t u o w);
+      looks = λ s own parts k f l t u o w. still_shown h p u (λ d. seen_ahead s t u (f t o) w) (l t u o w);
     }
 
   module _ (a b : ℕ) (a_in b_in : Bool) (begins : later first b ≤ʳ from) where
@@ -337,30 +338,30 @@ module _ (p : ℕ) (from first : Rational) (old new : List Sets) (h : IsAskedFro
     -- a `once` asks for the times that its window looks back to
     pub asked_once : AreAskedBy (Once p a (Some b) a_in b_in) from old new
     asked_once = record {
-      less = one_less p first old new h;
+      less = one_less h;
       others = λ q c. h.others q (λ e. c (sym e));
       run = λ r. absurd r;
       cut = λ e. absurd e;
       looks = λ s own parts k f l t u o w. elim (l t u o w) [
-        | inl m ↦ inl (still_shown p first old new h p u (λ d. seen_behind s t u (f t o) w) m)
+        | inl m ↦ inl (still_shown h p u (λ d. seen_behind s t u (f t o) w) m)
         | inr (v, d, m, z) ↦
-            let n = still_shown p first old new h p v (λ e. seen_behind s t v (f t o) d) m in
-            inr (v, d, n, (still_on old new (one_less p first old new h) p v n).0 z)
+            let n = still_shown h p v (λ e. seen_behind s t v (f t o) d) m in
+            inr (v, d, n, (still_on old new (one_less h) p v n).0 z)
       ];
     }
 
     -- the operand of a `historically` is asked for what its windows look at
     pub asked_historically : AreAskedBy (Historically p a (Some b) a_in b_in) from old new
     asked_historically = record {
-      less = one_less p first old new h;
+      less = one_less h;
       others = λ q c. h.others q (λ e. c (sym e));
       run = λ r. absurd r;
       cut = λ e. absurd e;
       looks = λ s own parts k f l t u o w. elim (l t u o w) [
-        | inl m ↦ inl (still_shown p first old new h p u (λ d. seen_behind s t u (f t o) w) m)
+        | inl m ↦ inl (still_shown h p u (λ d. seen_behind s t u (f t o) w) m)
         | inr (v, d, m, z) ↦
-            let n = still_shown p first old new h p v (λ e. seen_behind s t v (f t o) d) m in
-            inr (v, d, n, (still_on old new (one_less p first old new h) p v n).1 z)
+            let n = still_shown h p v (λ e. seen_behind s t v (f t o) d) m in
+            inr (v, d, n, (still_on old new (one_less h) p v n).1 z)
       ];
     }
 
@@ -387,13 +388,12 @@ module _ (p low : ℕ) (at : Rational) (old new : List Sets) (apart : AreApart o
         let u = m.2 w.0 w.2 in
         (w.0, (w.1, u.0), lt_of_lt_of_le (later_lt w.0 limit.at low (before_side limit w.0 e u.1)) k)
 
-    -- what decides a node is shown to it
-    seen_first : (side : Lists → List Stretch) (s : Stretch) → IsAmong s (side (lists_of h.was)) → side (lists_of h.is) ≡ s ∷ []
-        → IsInside h.was → h.is.no.bounds ≡ s
-        → ((t : Rational) → IsOn (side (lists_of h.was)) t → Lies h.was.no.bounds t) → (w : Rational) → Lies s w → later w low <ʳ at
+    -- what decides a node is shown to it: where the first stretch of a list is all that is left of it
+    seen_first : (side : Lists → List Stretch) (s : Stretch) → IsAmong s (side (lists_of h.was)) → side (lists_of h.is) ≡ s ∷ [] → h.is.no.bounds ≡ s
+        → ((t : Rational) → IsOn (side (lists_of h.was)) t → Lies h.was.no.bounds t) → (w : Rational) × Lies s w × (later w low <ʳ at)
         → (a_in b_in : Bool) (start : Rational) → ((q : ℕ) (u : Rational) → IsShown old q u → start ≤ʳ u) → (t : Rational) → at ≤ʳ t
         → (v : Rational) × OpenBehind start low None a_in b_in t v × IsShown new p v × IsOn (side (lists_at new p)) v
-    seen_first side s among left within bounds lies w l before a_in b_in start begun t e = (
+    seen_first side s among left bounds lies (w, l, before) a_in b_in start begun t = λ e. (
       w,
       record {
         after = begun p w (is_shown old p h.was w h.at_old (lies w (on_one (side (lists_of h.was)) s w among l)));
@@ -481,15 +481,14 @@ module _ (p low : ℕ) (at : Rational) (old new : List Sets) (apart : AreApart o
             ];
           }
       by_shows (inr (limit, k, e, f)) =
-          let early = early_time true h limit k e f.part f.begins in
           record {
             less = first_less true h (first_yes h.was h.is h.at_old h.parts limit f);
             others = λ q c. h.others q (λ e. c (sym e));
             run = λ r. absurd r;
             cut = λ e. absurd e;
             looks = λ s own parts begun g l t u o w.
-                inr (seen_first true h yes_of f.part f.among f.left (inside p h.was h.at_old) f.other_bounds (inside p h.was h.at_old).yes
-                early.0 early.1 early.2 a_in b_in s begun t (g t o));
+                inr (seen_first true h yes_of f.part f.among f.left f.other_bounds (inside p h.was h.at_old).yes
+                (early_time true h limit k e f.part f.begins) a_in b_in s begun t (g t o));
           }
 
   -- `historically` without a bound asks its operand for the stretch around the first time at which it was false
@@ -510,15 +509,14 @@ module _ (p low : ℕ) (at : Rational) (old new : List Sets) (apart : AreApart o
             ];
           }
       by_shows (inr (limit, k, e, f)) =
-          let early = early_time false h limit k e f.part f.begins in
           record {
             less = first_less false h (first_no h.was h.is h.at_old h.parts limit f);
             others = λ q c. h.others q (λ e. c (sym e));
             run = λ r. absurd r;
             cut = λ e. absurd e;
             looks = λ s own parts begun g l t u o w.
-                inr (seen_first false h no_of f.part f.among f.left (inside p h.was h.at_old) f.bounds (inside p h.was h.at_old).no
-                early.0 early.1 early.2 a_in b_in s begun t (g t o));
+                inr (seen_first false h no_of f.part f.among f.left f.bounds (inside p h.was h.at_old).no
+                (early_time false h limit k e f.part f.begins) a_in b_in s begun t (g t o));
           }
 
   -- a bound that may be wanting
@@ -526,29 +524,29 @@ module _ (p low : ℕ) (at : Rational) (old new : List Sets) (apart : AreApart o
       → MatchOption b (IsAskedFirst p true low at old new) (λ k. (first : Rational) × (later first k ≤ʳ at) × IsAskedFrom p first old new)
       → AreAskedBy (Once p low b a_in b_in) at old new
   asked_once_by None i j h = asked_once_first i j h
-  asked_once_by (Some b) i j (first, e, h) = asked_once p at first old new h low b i j e
+  asked_once_by (Some b) i j (first, e, h) = asked_once at h low b i j e
 
   -- a `historically` asks for the stretch around the first false time, or for the times that its window looks back to
   pub asked_historically_by : (b : Option ℕ) (a_in b_in : Bool)
       → MatchOption b (IsAskedFirst p false low at old new) (λ k. (first : Rational) × (later first k ≤ʳ at) × IsAskedFrom p first old new)
       → AreAskedBy (Historically p low b a_in b_in) at old new
   asked_historically_by None i j h = asked_historically_first i j h
-  asked_historically_by (Some b) i j (first, e, h) = asked_historically p at first old new h low b i j e
+  asked_historically_by (Some b) i j (first, e, h) = asked_historically at h low b i j e
 
--- what is put back at a place
-pub asked_at : (sets front back : List Sets) (i : ℕ) (d own : Sets) (from : Rational) (b : Stretch) → front ≡ take i sets → back ≡ drop i sets → i < length sets
+-- what is put back at a place of a list that was split there: narrower sets
+pub asked_at : {sets front back : List Sets} {i : ℕ} (d own : Sets) (from : Rational) (b : Stretch) → IsSplit sets i front back
     → IsNarrowed b (slice_index_or back 0 d) own → ((t : Rational) → Lies b t → Lies (slice_index_or back 0 d).no.bounds t)
     → ((t : Rational) → Lies (slice_index_or back 0 d).no.bounds t → Lies b t ⊎ (t <ʳ from))
     → ((t : Rational) → Lies (slice_index_or back 0 d).no.bounds t → from ≤ʳ t → (u : Rational) → Lies b u → from ≤ʳ u)
     → ((t : Rational) → Lies (slice_index_or back 0 d).no.bounds t → Upto (place b.to) t) → IsAskedFrom i from sets (front ++ slice_set back 0 own)
-asked_at sets front back i d own from b e f h n less left after ends = record {
+asked_at {back = back} d own from b p n less left after ends = record {
   was = slice_index_or back 0 d;
   is = own;
   bounds = b;
-  at_old = at_split sets back i d f h;
-  at_new = subst (λ xs. slice_get xs i ≡ Some own) (sym (joined_is sets front back i own e f h)) (put_here sets i own h);
-  others = λ j n. subst (λ xs. slice_get xs j ≡ slice_get sets j) (sym (joined_is sets front back i own e f h)) (put_there sets i j own n);
-  count = subst (λ xs. length xs ≡ length sets) (sym (joined_is sets front back i own e f h)) (put_count sets i own);
+  at_old = old_there p d;
+  at_new = new_there p own;
+  others = others_there p own;
+  count = count_there p own;
   narrowed = n;
   less = less;
   left = left;
@@ -557,93 +555,91 @@ asked_at sets front back i d own from b e f h n less left after ends = record {
 }
 
 -- what is settled at a place is settled in the list
-pub settled_at : (shown sets front back : List Sets) (i : ℕ) (d own x : Sets) → front ≡ take i sets → back ≡ drop i sets → i < length sets
+pub settled_at : {shown sets front back : List Sets} {i : ℕ} {x : Sets} (d own : Sets) → IsSplit sets i front back
     → slice_get shown i ≡ Some x → IsSettled x (slice_index_or back 0 d) own → IsSettledAt i shown sets (front ++ slice_set back 0 own)
-settled_at shown sets front back i d own x e f h is s = record {
+settled_at {back = back} {x = x} d own p is s = record {
   was = slice_index_or back 0 d;
   is = own;
   x = x;
-  at_old = at_split sets back i d f h;
-  at_new = subst (λ xs. slice_get xs i ≡ Some own) (sym (joined_is sets front back i own e f h)) (put_here sets i own h);
   at_shown = is;
-  others = λ j n. subst (λ xs. slice_get xs j ≡ slice_get sets j) (sym (joined_is sets front back i own e f h)) (put_there sets i j own n);
-  count = subst (λ xs. length xs ≡ length sets) (sym (joined_is sets front back i own e f h)) (put_count sets i own);
+  at_old = old_there p d;
+  at_new = new_there p own;
+  others = others_there p own;
+  count = count_there p own;
   settled = s;
 }
 
 -- what is shown at a place is shown in the list
-pub shows_at : (live sets front back : List Sets) (i : ℕ) (d own s : Sets) → front ≡ take i sets → back ≡ drop i sets
-    → i < length sets → slice_get live i ≡ Some s
+pub shows_at : {live sets front back : List Sets} {i : ℕ} {s : Sets} (d own : Sets) → IsSplit sets i front back → slice_get live i ≡ Some s
     → HasShown (slice_index_or back 0 d) own s → ShowsAt i live sets (front ++ slice_set back 0 own)
-shows_at live sets front back i d own s e f h is k = record {
+shows_at {back = back} {s = s} d own p is k = record {
   own = s;
   was = slice_index_or back 0 d;
   is = own;
   at_live = is;
-  at_old = at_split sets back i d f h;
-  at_new = subst (λ xs. slice_get xs i ≡ Some own) (sym (joined_is sets front back i own e f h)) (put_here sets i own h);
-  others = λ j n. subst (λ xs. slice_get xs j ≡ slice_get sets j) (sym (joined_is sets front back i own e f h)) (put_there sets i j own n);
-  count = subst (λ xs. length xs ≡ length sets) (sym (joined_is sets front back i own e f h)) (put_count sets i own);
+  at_old = old_there p d;
+  at_new = new_there p own;
+  others = others_there p own;
+  count = count_there p own;
   shown = k;
 }
 
 -- a run that is cut at a place is cut in the list
-pub run_cut_at : (sets front back : List Sets) (i : ℕ) (d own : Sets) (first from : Rational) (wide : Stretch)
-    → front ≡ take i sets → back ≡ drop i sets → i < length sets
+pub run_cut_at : {sets front back : List Sets} {i : ℕ} (d own : Sets) (first from : Rational) (wide : Stretch) → IsSplit sets i front back
     → IsRunCut first from wide (slice_index_or back 0 d) own → IsRunCutAt i first from wide sets (front ++ slice_set back 0 own)
-run_cut_at sets front back i d own first from wide e f h k = record {
+run_cut_at {back = back} d own first from wide p k = record {
   was = slice_index_or back 0 d;
   is = own;
-  at_old = at_split sets back i d f h;
-  at_new = subst (λ xs. slice_get xs i ≡ Some own) (sym (joined_is sets front back i own e f h)) (put_here sets i own h);
-  others = λ j n. subst (λ xs. slice_get xs j ≡ slice_get sets j) (sym (joined_is sets front back i own e f h)) (put_there sets i j own n);
-  count = subst (λ xs. length xs ≡ length sets) (sym (joined_is sets front back i own e f h)) (put_count sets i own);
+  at_old = old_there p d;
+  at_new = new_there p own;
+  others = others_there p own;
+  count = count_there p own;
   cut = k;
 }
 
-first_at : (sets front back : List Sets) (i : ℕ) (d own : Sets) (holds : Bool) (low : ℕ) (at : Rational) → front ≡ take i sets
-    → back ≡ drop i sets → i < length sets
+-- an operand of whose times of a truth the first one alone is shown is asked as its node needs it
+first_at : {sets front back : List Sets} {i : ℕ} (d own : Sets) (holds : Bool) (low : ℕ) (at : Rational) → IsSplit sets i front back
     → own.parts ≡ (slice_index_or back 0 d).parts
     → MatchBool holds (IsFirstShown low at (slice_index_or back 0 d).yes (slice_index_or back 0 d).no own.yes own.no)
     (IsFirstShown low at (slice_index_or back 0 d).no (slice_index_or back 0 d).yes own.no own.yes)
     → IsAskedFirst i holds low at sets (front ++ slice_set back 0 own)
-first_at sets front back i d own holds low at e f h k s = record {
+first_at {back = back} d own holds low at p k s = record {
   was = slice_index_or back 0 d;
   is = own;
-  at_old = at_split sets back i d f h;
-  at_new = subst (λ xs. slice_get xs i ≡ Some own) (sym (joined_is sets front back i own e f h)) (put_here sets i own h);
-  others = λ j n. subst (λ xs. slice_get xs j ≡ slice_get sets j) (sym (joined_is sets front back i own e f h)) (put_there sets i j own n);
-  count = subst (λ xs. length xs ≡ length sets) (sym (joined_is sets front back i own e f h)) (put_count sets i own);
+  at_old = old_there p d;
+  at_new = new_there p own;
+  others = others_there p own;
+  count = count_there p own;
   parts = k;
   shows = s;
 }
 
--- an operand whose true times show the first one alone is asked as its node needs it
-pub first_yes_at : (sets front back : List Sets) (i : ℕ) (d own : Sets) (holds : Bool) (low : ℕ) (at : Rational) → holds ≡ true → front ≡ take i sets
-    → back ≡ drop i sets → i < length sets → own.parts ≡ (slice_index_or back 0 d).parts
+-- one whose true times show the first alone
+pub first_yes_at : {sets front back : List Sets} {i : ℕ} {holds : Bool} (d own : Sets) (low : ℕ) (at : Rational) → holds ≡ true → IsSplit sets i front back
+    → own.parts ≡ (slice_index_or back 0 d).parts
     → IsFirstShown low at (slice_index_or back 0 d).yes (slice_index_or back 0 d).no own.yes own.no
     → IsAskedFirst i holds low at sets (front ++ slice_set back 0 own)
-first_yes_at sets front back i d own holds low at is e f h k s =
-    subst (λ b. IsAskedFirst i b low at sets (front ++ slice_set back 0 own)) (sym is) (first_at sets front back i d own true low at e f h k s)
+first_yes_at {sets} {front} {back} {i} d own low at is p k s =
+    subst (λ b. IsAskedFirst i b low at sets (front ++ slice_set back 0 own)) (sym is) (first_at d own true low at p k s)
 
--- an operand whose false times show the first one alone is asked as its node needs it
-pub first_no_at : (sets front back : List Sets) (i : ℕ) (d own : Sets) (holds : Bool) (low : ℕ) (at : Rational) → holds ≡ false → front ≡ take i sets
-    → back ≡ drop i sets → i < length sets → own.parts ≡ (slice_index_or back 0 d).parts
+-- one whose false times show the first alone
+pub first_no_at : {sets front back : List Sets} {i : ℕ} {holds : Bool} (d own : Sets) (low : ℕ) (at : Rational) → holds ≡ false → IsSplit sets i front back
+    → own.parts ≡ (slice_index_or back 0 d).parts
     → IsFirstShown low at (slice_index_or back 0 d).no (slice_index_or back 0 d).yes own.no own.yes
     → IsAskedFirst i holds low at sets (front ++ slice_set back 0 own)
-first_no_at sets front back i d own holds low at is e f h k s =
-    subst (λ b. IsAskedFirst i b low at sets (front ++ slice_set back 0 own)) (sym is) (first_at sets front back i d own false low at e f h k s)
+first_no_at {sets} {front} {back} {i} d own low at is p k s =
+    subst (λ b. IsAskedFirst i b low at sets (front ++ slice_set back 0 own)) (sym is) (first_at d own false low at p k s)
 
 -- what is made anew at a place is made anew in the list
-pub endless_cut_at : (sets front back : List Sets) (i : ℕ) (d own : Sets) (a : ℕ) (xs : List Stretch) → front ≡ take i sets → back ≡ drop i sets
-    → i < length sets → IsEndlessCut a xs (slice_index_or back 0 d) own → IsEndlessCutAt i a xs sets (front ++ slice_set back 0 own)
-endless_cut_at sets front back i d own a xs e f h k = record {
+pub endless_cut_at : {sets front back : List Sets} {i : ℕ} (d own : Sets) (a : ℕ) (xs : List Stretch) → IsSplit sets i front back
+    → IsEndlessCut a xs (slice_index_or back 0 d) own → IsEndlessCutAt i a xs sets (front ++ slice_set back 0 own)
+endless_cut_at {back = back} d own a xs p k = record {
   was = slice_index_or back 0 d;
   is = own;
-  at_old = at_split sets back i d f h;
-  at_new = subst (λ ys. slice_get ys i ≡ Some own) (sym (joined_is sets front back i own e f h)) (put_here sets i own h);
-  others = λ j n. subst (λ ys. slice_get ys j ≡ slice_get sets j) (sym (joined_is sets front back i own e f h)) (put_there sets i j own n);
-  count = subst (λ ys. length ys ≡ length sets) (sym (joined_is sets front back i own e f h)) (put_count sets i own);
+  at_old = old_there p d;
+  at_new = new_there p own;
+  others = others_there p own;
+  count = count_there p own;
   cut = k;
 }
 

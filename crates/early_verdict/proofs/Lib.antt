@@ -1,4 +1,3 @@
-pub mod PlaceLemmas
 pub mod MakingLemmas
 pub mod StretchLemmas
 pub mod SpanLemmas
@@ -40,7 +39,7 @@ pub mod Operating
 pub mod Windowing
 pub mod Having
 pub mod DecideLemmas
-pub mod EventLemmas
+pub mod EntryLemmas
 pub mod GoingOn
 pub mod StandingOn
 pub mod PartSets

@@ -6,7 +6,8 @@ use Rattle.rational.proofs.Order.{le_refl, le_trans, same_of_le}
 use Rattle.rational.proofs.TimeLemmas.{later_from, precedes_le, precedes_before, precedes_after}
 use Rattle.stl_syntax.specs.Trace.{Trace, start, stop}
 use Rattle.stl_syntax.specs.Early.{OpenAhead, OpenBehind}
-use Rattle.early_verdict.specs.Cuts.{Place, place, Same}
+use Rattle.rational.specs.Places.{Place, Same}
+use Rattle.frac128.specs.Cuts.{place}
 use Rattle.early_verdict.specs.Spans.{IsOn}
 use Rattle.early_verdict.specs.Steps.{Tells, Gains, SeesOne, SeesOnly}
 use Rattle.early_verdict.specs.Sure.{SeesSure}
@@ -16,12 +17,12 @@ use Rattle.early_verdict.specs.Readings.{SomeAhead, OnlyAhead, SomeBehind, OnlyB
 use Rattle.early_verdict.specs.Fitting.{Lists, nothing, Says, SayBoth, IsEmpty, start_place, sure_place}
 use Rattle.early_verdict.specs.Happening.{Happens, Had, Was}
 use Rattle.early_verdict.specs.Looking.{IsAhead, IsBehind, WasTold, WasList, SeesOnlyTo}
-use Rattle.early_verdict.specs.declared.event.Event.{Event}
+use Rattle.early_verdict.specs.declared.entry.Entry.{Entry}
 use Rattle.early_verdict.specs.declared.stretch.Stretch.{Stretch}
 use Rattle.early_verdict.specs.declared.grown.Grown.{Grown}
 use Rattle.early_verdict.specs.declared.sets.Sets.{Sets}
 use Rattle.early_verdict.specs.declared.window.Window.{Window}
-use Rattle.early_verdict.proofs.PlaceLemmas.{after_same, upto_same, same_places}
+use Rattle.rational.proofs.PlaceLemmas.{after_same, upto_same, same_places}
 use Rattle.early_verdict.proofs.Gaps.{on_same}
 use Rattle.early_verdict.proofs.SinceSets.{none_later}
 use Rattle.early_verdict.proofs.Telling.{tells_alike, tells_none, none_of}
@@ -149,7 +150,7 @@ module _ (w : Window) (a : ℕ) (b : Option ℕ) (a_in b_in : Bool) (is : IsBehi
         (λ t l f u o. f u (after_same (start_place tr) st u (same_places begins) o.after) (sees_back t u o))
 
 -- what the sets of windows told before, in the words of lists
-module _ (e : Event) (tr : Trace) (x : Grown) (l : List Stretch) where
+module _ (e : Entry) (tr : Trace) (x : Grown) (l : List Stretch) where
   -- the starts of both traces are one
   start_was : (o : Trace) → start o ≡ start tr → Same (place e.start) (start_place tr) → Same (place e.start) (start_place o)
   start_was o s h = subst (λ r. Same (place e.start) (record { at = r; after = false })) (sym s) h

@@ -2,21 +2,22 @@
 use Rattle.std.proofs.Common.{◌≡◌, ◌⊎◌, inl, inr, sym, ap, subst, ◌∙◌, ℕ, zero, suc, ◌+◌, List, [], ◌∷◌, ◌++◌, Some, take, drop, append_assoc, add-one}
 use Rattle.std.specs.Prelude.{slice_get}
 use Rattle.rational.specs.Time.{Rational}
-use Rattle.early_verdict.specs.Cuts.{place, After, Upto}
+use Rattle.rational.specs.Places.{After, Upto}
+use Rattle.frac128.specs.Cuts.{place}
 use Rattle.early_verdict.specs.Spans.{Lies, IsOn, AreTidy, BeginsAfter, EndBefore, Grows}
 use Rattle.early_verdict.specs.Steps.{BySome, Common}
-use Rattle.early_verdict.specs.declared.cut.Cut.{Cut}
+use Rattle.frac128.specs.declared.cut.Cut.{Cut}
 use Rattle.early_verdict.specs.declared.stretch.Stretch.{Stretch}
 use Rattle.early_verdict.proofs.Absorbing.{on_append, on_first, on_second}
-use Rattle.early_verdict.proofs.PlaceLemmas.{not_both}
+use Rattle.rational.proofs.PlaceLemmas.{not_both}
 use Rattle.early_verdict.proofs.GrowingLemmas.{grows_not}
 use Rattle.early_verdict.proofs.SpanLemmas.{some_same, no_stretch, on_parts, front_upto, rest_after, tidy_drop}
 
 -- what is added twice is added
-pub grows_then : (bounds : Stretch) (old mid new told some fresh : List Stretch) (P Q R : Rational → Type 0)
+pub grows_then : {bounds : Stretch} {old mid new told some fresh : List Stretch} {P Q R : Rational → Type 0}
     → ((t : Rational) → P t ⊎ Q t → R t) → ((t : Rational) → R t → P t ⊎ Q t)
     → Grows bounds old mid told some P → Grows bounds mid new some fresh Q → Grows bounds old new told fresh R
-grows_then bounds old mid new told some fresh P Q R into out f g = record {
+grows_then {told = told} into out f g = record {
   more = f.more ++ g.more;
   noted = g.noted ∙ ap (λ xs. xs ++ g.more) f.noted ∙ append_assoc told f.more g.more;
   keeps = λ t h. g.keeps t (f.keeps t h);
@@ -36,9 +37,9 @@ grows_then bounds old mid new told some fresh P Q R into out f g = record {
 }
 
 -- what grows by some times grows by those, however they are said
-pub grows_alike : (bounds : Stretch) (old new told fresh : List Stretch) (P Q : Rational → Type 0) → ((t : Rational) → Lies bounds t → P t → Q t)
+pub grows_alike : {bounds : Stretch} {old new told fresh : List Stretch} {P Q : Rational → Type 0} → ((t : Rational) → Lies bounds t → P t → Q t)
     → ((t : Rational) → Lies bounds t → Q t → P t) → Grows bounds old new told fresh P → Grows bounds old new told fresh Q
-grows_alike bounds old new told fresh P Q f g a = record {
+grows_alike f g a = record {
   more = a.more;
   noted = a.noted;
   keeps = a.keeps;
@@ -68,13 +69,12 @@ by_less Q (x ∷ xs) (suc i) s t e (inl h) = inl (inl h)
 by_less Q (x ∷ xs) (suc i) s t e (inr h) = elim (by_less Q xs i s t e h) [ inl k ↦ inl (inr k) | inr k ↦ inr k ]
 
 -- a set that has grown by the first of a list grows by one more of it
-pub grows_on : (Q : Stretch → Rational → Type 0) (xs : List Stretch) (i : ℕ) (s : Stretch) (bounds bounds' : Stretch)
-    (old mid new told some fresh : List Stretch)
+pub grows_on : {s bounds bounds' : Stretch} {old mid new told some fresh : List Stretch} (Q : Stretch → Rational → Type 0) (xs : List Stretch) (i : ℕ)
     → bounds' ≡ bounds → slice_get xs i ≡ Some s → Grows bounds old mid told some (BySome Q (take i xs)) → Grows bounds' mid new some fresh (Q s)
     → Grows bounds old new told fresh (BySome Q (take (i + 1) xs))
-grows_on Q xs i s bounds bounds' old mid new told some fresh is e f g =
+grows_on {s} {bounds} {old = old} {mid = mid} {new = new} {told = told} {some = some} {fresh = fresh} Q xs i is e f g =
     subst (λ k. Grows bounds old new told fresh (BySome Q (take k xs))) (sym (add-one i))
-    (grows_then bounds old mid new told some fresh (BySome Q (take i xs)) (Q s) (BySome Q (take (suc i) xs)) (λ t h. by_more Q xs i s t e h)
+    (grows_then (λ t h. by_more Q xs i s t e h)
     (λ t h. by_less Q xs i s t e h) f (subst (λ b. Grows b mid new some fresh (Q s)) is g))
 
 -- the first of a list, one more
@@ -102,23 +102,23 @@ on_front (x ∷ xs) (suc at) t (inl h) = inl h
 on_front (x ∷ xs) (suc at) t (inr h) = inr (on_front xs at t h)
 
 -- what a part has in common with those before it
-pub common_first : (bounds part : Stretch) (spans own fresh : List Stretch) (at : ℕ) → EndBefore (place part.from) (take at spans)
+pub common_first : {bounds : Stretch} {own fresh : List Stretch} (part : Stretch) (spans : List Stretch) (at : ℕ) → EndBefore (place part.from) (take at spans)
     → Grows bounds own own fresh fresh (Common (take at spans) part)
-common_first bounds part spans own fresh at front =
-    grows_not bounds own fresh (Common (take at spans) part)
+common_first {bounds} {own} {fresh} part spans at front =
+    grows_not (Common (take at spans) part)
     (λ t b h. not_both (place part.from) t (front_upto (place part.from) (take at spans) t front h.1) h.0.0)
 
 -- with one more
-pub common_on : (bounds bounds' part next : Stretch) (from to : Cut) (spans old mid new told some fresh : List Stretch) (at : ℕ) → bounds' ≡ bounds
+pub common_on : {bounds bounds' next : Stretch} {old mid new told some fresh : List Stretch} (part : Stretch) (from to : Cut)
+    (spans : List Stretch) (at : ℕ) → bounds' ≡ bounds
     → slice_get spans at ≡ Some next → ((t : Rational) → Lies part t × Lies next t → After (place from) t × Upto (place to) t)
     → ((t : Rational) → After (place from) t × Upto (place to) t → Lies part t × Lies next t)
     → Grows bounds old mid told some (Common (take at spans) part)
     → Grows bounds' mid new some fresh (λ t. After (place from) t × Upto (place to) t)
     → Grows bounds old new told fresh (Common (take (at + 1) spans) part)
-common_on bounds bounds' part next from to spans old mid new told some fresh at is e into out f g =
+common_on {bounds} {next = next} {old = old} {mid = mid} {new = new} {told = told} {some = some} {fresh = fresh} part from to spans at is e into out f g =
     subst (λ k. Grows bounds old new told fresh (Common (take k spans) part)) (sym (add-one at))
-    (grows_then bounds old mid new told some fresh (Common (take at spans) part) (λ t. After (place from) t × Upto (place to) t)
-    (Common (take (suc at) spans) part)
+    (grows_then
     (λ t h. elim h [
       | inl c ↦ (c.0, on_more spans at next t e (inl c.1))
       | inr k ↦ let x = out t k in (x.0, on_more spans at next t e (inr x.1))
@@ -127,10 +127,11 @@ common_on bounds bounds' part next from to spans old mid new told some fresh at 
     f (subst (λ b. Grows b mid new some fresh (λ t. After (place from) t × Upto (place to) t)) is g))
 
 -- and with all that begin before it ends
-pub common_last : (bounds part : Stretch) (spans old new told fresh : List Stretch) (at : ℕ) → AreTidy spans → BeginsAfter (place part.to) (drop at spans)
+pub common_last : {bounds : Stretch} {old new told fresh : List Stretch} (part : Stretch) (spans : List Stretch) (at : ℕ)
+    → AreTidy spans → BeginsAfter (place part.to) (drop at spans)
     → Grows bounds old new told fresh (Common (take at spans) part) → Grows bounds old new told fresh (Common spans part)
-common_last bounds part spans old new told fresh at tidy b =
-    grows_alike bounds old new told fresh (Common (take at spans) part) (Common spans part) (λ t l h. (h.0, on_front spans at t h.1))
+common_last part spans at tidy b =
+    grows_alike (λ t l h. (h.0, on_front spans at t h.1))
     (λ t l h. elim (on_parts spans at t h.1) [
       | inl k ↦ (h.0, k)
       | inr k ↦ absurd (not_both (place part.to) t h.0.1 (rest_after (place part.to) (drop at spans) t (tidy_drop spans at tidy) b k))

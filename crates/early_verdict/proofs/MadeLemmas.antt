@@ -1,4 +1,4 @@
--- The empty sets of all nodes of a formula are such as an event begins with.
+-- The empty sets of all nodes of a formula are such as an entry begins with.
 use Rattle.std.proofs.Common.{◌≡◌, ◌⊎◌, inl, inr, refl, sym, subst, ap, ◌∙◌, ℕ, zero, suc, ◌+◌, ◌<◌, pos}
 use Rattle.std.proofs.Common.{true, false, Option, Some, None, List, [], ◌∷◌, ◌++◌, length, take, arith}
 use Rattle.std.specs.Prelude.{slice_get, MatchOption}
@@ -11,7 +11,8 @@ use Rattle.rational.proofs.Order.{le_trans, le_of_same, ge_of_same}
 use Rattle.stl_syntax.specs.Formula.{HasChildrenBelow}
 use Rattle.stl_syntax.specs.declared.node.Node.{Node}
 use Rattle.stl_syntax.specs.declared.node.Node.TheVariants.{Const, Atom as Leaf, Not, And, Or, Implies, Until, Eventually, Always, Since, Once, Historically}
-use Rattle.early_verdict.specs.Cuts.{place, Same}
+use Rattle.rational.specs.Places.{Same}
+use Rattle.frac128.specs.Cuts.{place}
 use Rattle.early_verdict.specs.Spans.{AreTidy}
 use Rattle.early_verdict.specs.Fitting.{AreEmpty, ArePartsEmpty, AreSetsTidy, ArePartsTidy, HasFailBounds, IsEmpty, IsTidy}
 use Rattle.early_verdict.specs.Standing.{ArePartsAsked, HasSets, IsFrom, left_of, top_at}
@@ -21,7 +22,7 @@ use Rattle.early_verdict.specs.declared.stretch.Stretch.{Stretch}
 use Rattle.early_verdict.specs.declared.sets.Sets.{Sets}
 use Rattle.early_verdict.specs.declared.sets.Parts.{Parts}
 use Rattle.early_verdict.specs.declared.grown.Grown.{Grown}
-use Rattle.early_verdict.proofs.PlaceLemmas.{after_same, upto_same, same_places}
+use Rattle.rational.proofs.PlaceLemmas.{after_same, upto_same, same_places}
 
 same_tick : (m k : ℕ) → later (whole (pos m)) k ≈ whole (pos (m + k))
 same_tick m k = omega arith
@@ -258,19 +259,20 @@ top_of [] i r e = absurd (let x : None ≡ Some r = e in cc)
 top_of (x ∷ xs) zero r e = let s : x ≡ r = cc in sym s
 top_of (x ∷ xs) (suc i) r e = top_of xs i r e
 
+-- an empty set within the bounds of another's false times
+abbrev pub IsEmptyIn : Sets → Sets → Type 0
+IsEmptyIn s x = (x.yes.bounds ≡ s.no.bounds) × (x.no.bounds ≡ s.no.bounds) × AreEmpty x
+
 -- one more empty set for those that are shown
-pub shown_more : (live shown : List Sets) (s x : Sets) (k : ℕ) → slice_get live k ≡ Some s → length shown ≡ k
-    → ((i : ℕ) (s x : Sets) → slice_get live i ≡ Some s → slice_get shown i ≡ Some x → (x.yes.bounds ≡ s.no.bounds) × (x.no.bounds ≡ s.no.bounds) × AreEmpty x)
-    → x.yes.bounds ≡ s.no.bounds → x.no.bounds ≡ s.no.bounds → AreEmpty x
-    → (i : ℕ) (r y : Sets) → slice_get live i ≡ Some r → slice_get (shown ++ x ∷ []) i ≡ Some y
-    → (y.yes.bounds ≡ r.no.bounds) × (y.no.bounds ≡ r.no.bounds) × AreEmpty y
-shown_more live shown s x k at count h same_yes same_no empty i r y e f = elim (last_or_before i (length shown) within) [
+pub shown_more : {s : Sets} {k : ℕ} (live shown : List Sets) (x : Sets) → slice_get live k ≡ Some s → length shown ≡ k
+    → ((i : ℕ) (s x : Sets) → slice_get live i ≡ Some s → slice_get shown i ≡ Some x → IsEmptyIn s x) → IsEmptyIn s x
+    → (i : ℕ) (r y : Sets) → slice_get live i ≡ Some r → slice_get (shown ++ x ∷ []) i ≡ Some y → IsEmptyIn r y
+shown_more {s} live shown x at count h own i r y e f = elim (last_or_before i (length shown) within) [
   | inl l ↦ h i r y e (sym (still_there shown x i l) ∙ f)
   | inr is ↦
       let a : x ≡ y = some_sets x y (sym (at_its_end shown x) ∙ subst (λ j. slice_get (shown ++ x ∷ []) j ≡ Some y) is f) in
       let b : s ≡ r = some_sets s r (sym at ∙ subst (λ j. slice_get live j ≡ Some r) (is ∙ count) e) in
-      subst (λ q. (y.yes.bounds ≡ q.no.bounds) × (y.no.bounds ≡ q.no.bounds) × AreEmpty y) b
-      (subst (λ q. (q.yes.bounds ≡ s.no.bounds) × (q.no.bounds ≡ s.no.bounds) × AreEmpty q) a (same_yes, same_no, empty))
+      subst (λ q. IsEmptyIn q y) b (subst (λ q. IsEmptyIn s q) a own)
 ]
   where
     within : i < length shown + 1

@@ -3,11 +3,12 @@ use Rattle.std.proofs.Common.{◌≡◌, ◌⊎◌, inl, inr, subst, sym, Bool, 
 use Rattle.std.specs.Prelude.{MatchBool}
 use Rattle.rational.specs.Rational.{Rational, IsWithin, ◌≤ʳ◌, ◌<ʳ◌, middle}
 use Rattle.rational.proofs.Order.{le_or_lt, le_trans, le_of_lt, le_of_same, not_lt_of_le, left_of_middle, right_of_middle}
-use Rattle.early_verdict.specs.Cuts.{Place, place, After, Upto, Before, AtMost}
+use Rattle.rational.specs.Places.{Place, After, Upto, Before, AtMost}
+use Rattle.frac128.specs.Cuts.{place}
 use Rattle.early_verdict.specs.Spans.{Lies}
-use Rattle.early_verdict.specs.declared.cut.Cut.{Cut}
+use Rattle.frac128.specs.declared.cut.Cut.{Cut}
 use Rattle.early_verdict.specs.declared.stretch.Stretch.{Stretch}
-use Rattle.early_verdict.proofs.PlaceLemmas.{sides, not_both, between, before_through}
+use Rattle.rational.proofs.PlaceLemmas.{sides, not_both, between, before_through}
 
 -- what comes after a later place comes after an earlier one
 pub before_from : (c d e : Place) → AtMost c d → Before d e → Before c e

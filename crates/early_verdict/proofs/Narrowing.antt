@@ -11,7 +11,7 @@ use Rattle.stl_syntax.specs.WellFormed.{AreWellFormed}
 use Rattle.stl_syntax.specs.declared.node.Node.{Node}
 use Rattle.stl_syntax.specs.declared.node.Node.TheVariants.{Const, Atom as Leaf, Not, And, Or, Implies, Until, Eventually, Always, Since, Once, Historically}
 use Rattle.stl_syntax.proofs.PostOrderLemmas.{placed}
-use Rattle.early_verdict.specs.Cuts.{Place, After}
+use Rattle.rational.specs.Places.{Place, After}
 use Rattle.early_verdict.specs.Spans.{IsOn, Lies}
 use Rattle.early_verdict.specs.Readings.{SomeAhead, OnlyAhead, SomeBehind, OnlyBehind}
 use Rattle.early_verdict.specs.Fitting.{Lists, lists_at, no_of, nothing, yes_of, Fits, SayBoth, SayOfParts, NegationFits}
@@ -93,18 +93,20 @@ module _ (tr : Trace) (own : Stretch) (s : Sets) (y : s.yes.bounds ≡ own) (n :
     (agree : (p : ℕ) → Known (IsShown new p) (lists_at new p) (IsOn (lists_at old p).yes) (IsOn (lists_at old p).no))
     (apart : (p : ℕ) (u : Rational) → IsOn (lists_at old p).yes u → ¬ (IsOn (lists_at old p).no u)) where
   -- looking back, where what decides it may stand for the others
-  back_some : (side : Lists → List Stretch) (p a : ℕ) (b : Option ℕ) (i j : Bool) → LooksBack side (start tr) a b i j p new own → (X : Rational → Type 0)
-      → ((u : Rational) → IsShown new p u → X u → IsOn (side (lists_at new p)) u) → (t : Rational) → Lies own t → SomeBehind tr a b i j X t
+  back_some : {X : Rational → Type 0} (side : Lists → List Stretch) (p a : ℕ) (b : Option ℕ) (i j : Bool)
+      → LooksBack side (start tr) a b i j p new own → ((u : Rational) → IsShown new p u → X u → IsOn (side (lists_at new p)) u)
+      → (t : Rational) → Lies own t → SomeBehind tr a b i j X t
       → SomeBehind tr a b i j (IsOn (side (lists_at new p))) t
-  back_some side p a b i j far X f t l (u, w, c, x) = elim (far t u l w) [
+  back_some side p a b i j far f t l (u, w, c, x) = elim (far t u l w) [
     | inl k ↦ (u, w, c, f u k x)
     | inr (v, d, k, z) ↦ (v, d, (d.after, inr (none_later v t a (precedes_le i (later v a) t d.ends))), z)
   ]
 
-  back_only : (side : Lists → List Stretch) (p a : ℕ) (b : Option ℕ) (i j : Bool) → LooksBack side (start tr) a b i j p new own → (X ys : Rational → Type 0)
-      → ((u : Rational) → IsShown new p u → X u → ys u) → ((u : Rational) → IsOn (side (lists_at new p)) u → X u → ⊥) → (t : Rational) → Lies own t
+  back_only : {X ys : Rational → Type 0} (side : Lists → List Stretch) (p a : ℕ) (b : Option ℕ) (i j : Bool)
+      → LooksBack side (start tr) a b i j p new own → ((u : Rational) → IsShown new p u → X u → ys u)
+      → ((u : Rational) → IsOn (side (lists_at new p)) u → X u → ⊥) → (t : Rational) → Lies own t
       → OnlyBehind tr a b i j X t → OnlyBehind tr a b i j ys t
-  back_only side p a b i j far X ys f g t l y u w = elim (far t u l w) [ inl k ↦ f u k (y u w) | inr (v, d, k, z) ↦ absurd (g v z (y v d)) ]
+  back_only side p a b i j far f g t l y = λ u w. elim (far t u l w) [ inl k ↦ f u k (y u w) | inr (v, d, k, z) ↦ absurd (g v z (y v d)) ]
 
   alike : (P P' N N' : Rational → Type 0) → ((t : Rational) → Lies own t → P t → P' t) → ((t : Rational) → P' t → P t)
       → ((t : Rational) → Lies own t → N t → N' t) → ((t : Rational) → N' t → N t) → SayBoth s P N → SayBoth s P' N'
@@ -164,22 +166,22 @@ module _ (tr : Trace) (own : Stretch) (s : Sets) (y : s.yes.bounds ≡ own) (n :
       let k = agree p in
       alike (SomeBehind tr a b i j (IsOn (lists_at old p).yes)) (SomeBehind tr a b i j (IsOn (lists_at new p).yes))
       (OnlyBehind tr a b i j (IsOn (lists_at old p).no)) (OnlyBehind tr a b i j (IsOn (lists_at new p).no))
-      (back_some yes_of p a b i j l (IsOn (lists_at old p).yes) k.yes_in) (λ t (u, w, c, x). (u, w, c, k.yes_out u x))
-      (back_only yes_of p a b i j l (IsOn (lists_at old p).no) (IsOn (lists_at new p).no) k.no_in (λ u z y. apart p u (k.yes_out u z) y))
+      (back_some yes_of p a b i j l k.yes_in) (λ t (u, w, c, x). (u, w, c, k.yes_out u x))
+      (back_only yes_of p a b i j l k.no_in (λ u z y. apart p u (k.yes_out u z) y))
       (λ t g u w. k.no_out u (g u w)) h
   fits_local (Historically p a b i j) r n l h =
       let k = agree p in
       alike (OnlyBehind tr a b i j (IsOn (lists_at old p).yes)) (OnlyBehind tr a b i j (IsOn (lists_at new p).yes))
       (SomeBehind tr a b i j (IsOn (lists_at old p).no)) (SomeBehind tr a b i j (IsOn (lists_at new p).no))
-      (back_only no_of p a b i j l (IsOn (lists_at old p).yes) (IsOn (lists_at new p).yes) k.yes_in (λ u z y. apart p u y (k.no_out u z)))
+      (back_only no_of p a b i j l k.yes_in (λ u z y. apart p u y (k.no_out u z)))
       (λ t g u w. k.yes_out u (g u w))
-      (back_some no_of p a b i j l (IsOn (lists_at old p).no) k.no_in) (λ t (u, w, c, x). (u, w, c, k.no_out u x)) h
+      (back_some no_of p a b i j l k.no_in) (λ t (u, w, c, x). (u, w, c, k.no_out u x)) h
 
 same_node : (a b : Node) → Some a ≡ Some b → a ≡ b
 same_node a b e = cc
 
 -- one node goes on from fewer times
-module _ (nodes : List Node) (tr : Trace) (live new shown : List Sets) (i : ℕ) (at : IsSettledAt i shown live new) (st : NetStands nodes tr live shown) where
+module _ {nodes : List Node} {tr : Trace} {live new shown : List Sets} {i : ℕ} (at : IsSettledAt i shown live new) (st : NetStands nodes tr live shown) where
   live_here : (n : Node) → slice_get nodes i ≡ Some n → IsLive (start tr) shown n at.is at.x
   live_here n here = record {
     own = at.settled.bounds;
@@ -305,7 +307,7 @@ lists_as xs ys p u e =
     let d = lists_by xs ys p (sym e) in (λ o. subst (λ (l : Lists). IsOn l.yes u) d o, λ o. subst (λ (l : Lists). IsOn l.no u) d o)
 
 -- what nodes show is from the start on, and the lists of what they show have no time in common
-module _ (nodes : List Node) (tr : Trace) (live shown : List Sets) (st : NetStands nodes tr live shown) where
+module _ {nodes : List Node} {tr : Trace} {live shown : List Sets} (st : NetStands nodes tr live shown) where
   -- a time that a node shows does not lie before the start
   pub shown_begun : (p : ℕ) (u : Rational) → IsShown shown p u → start tr ≤ʳ u
   shown_begun p u h =
@@ -332,8 +334,8 @@ module _ (nodes : List Node) (tr : Trace) (live shown : List Sets) (st : NetStan
       (subst (λ (l : Lists). IsOn l.no t) (sym (lists_are shown p x is)) n)
 
 -- the children of one node show fewer times, and its own sets go on to fit them
-module _ (nodes : List Node) (formed : AreWellFormed nodes) (tr : Trace) (live left old new : List Sets) (i : ℕ) (n : Node)
-    (at : slice_get nodes i ≡ Some n) (s r : Sets)
+module _ {nodes : List Node} (formed : AreWellFormed nodes) {tr : Trace} {live : List Sets} (left : List Sets) {old new : List Sets} (i : ℕ) {n : Node}
+    (at : slice_get nodes i ≡ Some n) {s r : Sets}
     (is : slice_get live i ≡ Some s) (ir : slice_get left i ≡ Some r)
     (same : (j : ℕ) → j ≢ i → slice_get left j ≡ slice_get live j) (count : length left ≡ length live)
     (less : AreLess old new) (others : (p : ℕ) → ¬ (IsChild p n) → slice_get new p ≡ slice_get old p) (st : NetStands nodes tr live old) where
@@ -459,9 +461,9 @@ module _ (nodes : List Node) (formed : AreWellFormed nodes) (tr : Trace) (live l
     }
 
 -- a node that is no until
-module _ (nodes : List Node) (formed : AreWellFormed nodes) (tr : Trace) (live old new : List Sets) (i : ℕ) (n : Node)
-    (at : slice_get nodes i ≡ Some n) (s : Sets)
-    (is : slice_get live i ≡ Some s) (from : Rational) (begins : (t : Rational) → Lies s.no.bounds t → from ≤ʳ t) (asked : AreAskedBy n from old new)
+module _ {nodes : List Node} (formed : AreWellFormed nodes) {tr : Trace} {live old new : List Sets} (i : ℕ) {n : Node}
+    (at : slice_get nodes i ≡ Some n) {s : Sets}
+    (is : slice_get live i ≡ Some s) {from : Rational} (begins : (t : Rational) → Lies s.no.bounds t → from ≤ʳ t) (asked : AreAskedBy n from old new)
     (st : NetStands nodes tr live old) (plain : ¬ (IsUntil n)) where
   begun : (own : Stretch) → s.no.bounds ≡ own → (t : Rational) → Lies own t → from ≤ʳ t
   begun own e t l = begins t (subst (λ z. Lies z t) (sym e) l)
@@ -469,8 +471,8 @@ module _ (nodes : List Node) (formed : AreWellFormed nodes) (tr : Trace) (live o
   mine : (w x : Sets) → slice_get old i ≡ Some w → slice_get new i ≡ Some x → IsLess w x → IsLive (start tr) new n s x
   mine w x e f less =
       let k = st.have.has i n s w at is e in
-      live_by nodes formed tr live live old new i n at s s is is (λ j d. refl) refl asked.less asked.others st n s s w x refl refl less k
-      (asked.looks (start tr) k.own s.parts (shown_begun nodes tr live old st) (begun k.own k.no) k.looks)
+      live_by formed {live = live} live i at is is (λ j d. refl) refl asked.less asked.others st n s s w x refl refl less k
+      (asked.looks (start tr) k.own s.parts (shown_begun st) (begun k.own k.no) k.looks)
       (parts_as n s s old new (parts_kept s.parts s.parts refl)
       (λ p l' g z. (l', subst (λ xs. slice_get xs p ≡ Some l') (asked.run (run_of_left n plain p g)) z, refl)) k.left)
 
@@ -483,17 +485,17 @@ module _ (nodes : List Node) (formed : AreWellFormed nodes) (tr : Trace) (live o
     | inr h ↦
         let k = st.have.has i n s shown_i.0 at is shown_i.1 in
         fits_local tr k.own s k.yes k.no old new
-        (agree nodes formed tr live live old new i n at s s is is (λ j d. refl) refl asked.less asked.others st)
-        (lists_apart nodes tr live old st) n h plain
-        (asked.looks (start tr) k.own s.parts (shown_begun nodes tr live old st) (begun k.own k.no) k.looks) (st.fit i n s at is)
+        (agree formed {live = live} live i at is is (λ j d. refl) refl asked.less asked.others st)
+        (lists_apart st) n h plain
+        (asked.looks (start tr) k.own s.parts (shown_begun st) (begun k.own k.no) k.looks) (st.fit i n s at is)
   ]
 
   -- the network stands where one node shows fewer times that are asked for
   pub asked_stands : NetStands nodes tr live new
-  asked_stands = one_stands nodes formed tr live live old new i n at s s is is (λ j d. refl) refl asked.less asked.others st mine fits (st.tidy i s is)
+  asked_stands = one_stands formed {live = live} live i at is is (λ j d. refl) refl asked.less asked.others st mine fits (st.tidy i s is)
 
 -- what stands lies within its bounds
-module _ (nodes : List Node) (tr : Trace) (live shown : List Sets) (st : NetStands nodes tr live shown) where
+module _ {nodes : List Node} {tr : Trace} {live shown : List Sets} (st : NetStands nodes tr live shown) where
   -- what the nodes go on from lies within the bounds
   pub live_inside : AreInside live
   live_inside p s is =

@@ -1,4 +1,4 @@
--- One event goes on from node to node.
+-- One entry goes on from node to node.
 use Rattle.std.proofs.Common.{◌≡◌, ◌≢◌, ◌⊎◌, inl, inr, refl, sym, ap, subst, ◌∙◌, ℕ, zero, suc, ◌+◌, ◌<◌, ◌≤◌}
 use Rattle.std.proofs.Common.{false, Option, Some, None, List, [], ◌∷◌, length, take, arith, below_more}
 use Rattle.std.specs.Prelude.{MatchOption, IsSome, slice_get}
@@ -12,7 +12,7 @@ use Rattle.early_verdict.specs.Fitting.{Lists, Fits, HasStepped, HadLists, HasFa
 use Rattle.early_verdict.specs.Happening.{Had, Happens, Was}
 use Rattle.early_verdict.specs.Standing.{AllGo, AllTidy, AllWere, HadAll, HasParts, LeafGoes, StepsAt, SteppedTo, left_of}
 use Rattle.early_verdict.specs.Living.{AreLive, HasShown, IsLive, ShowsAt, ShownTo}
-use Rattle.early_verdict.specs.declared.event.Event.{Event}
+use Rattle.early_verdict.specs.declared.entry.Entry.{Entry}
 use Rattle.early_verdict.specs.declared.stretch.Stretch.{Stretch}
 use Rattle.early_verdict.specs.declared.sets.Sets.{Sets}
 use Rattle.early_verdict.specs.declared.sets.Parts.{Parts}
@@ -118,8 +118,8 @@ shown_tidy_on i live mid new h at j s e = by_place (nat_is j i)
     by_place (inr n) = h j s (sym (at.others j n) ∙ e)
 
 -- what has stepped goes on from what was, and shows so
-module _ (nodes : List Node) (b : Binding) (e : Event) (before : Option Row) (r : Row) (old : Option Trace) (tr : Trace)
-    (first mid first_shown mid_shown : List Sets)
+module _ {nodes : List Node} (b : Binding) {e : Entry} (before : Option Row) (r : Row) {old : Option Trace} {tr : Trace}
+    {first first_shown : List Sets}
     (happens : Happens e old tr) (have : AreLive nodes (start tr) first first_shown) (go : AllGo nodes b e old tr before r)
     (were : AllWere old nodes first first_shown) where
   -- what was empty before any row had no list
@@ -131,9 +131,10 @@ module _ (nodes : List Node) (b : Binding) (e : Event) (before : Option Row) (r 
       by_old (Some o) w = tt
 
   -- what a child that has stepped had
-  child_had : (i : ℕ) → SteppedTo i first mid → ShownTo i mid first_shown mid_shown → (p : ℕ) (n : Node) (x : Sets) → p < i → slice_get nodes p ≡ Some n
+  child_had : {mid mid_shown : List Sets} (i : ℕ) → SteppedTo i first mid → ShownTo i mid first_shown mid_shown
+      → (p : ℕ) (n : Node) (x : Sets) → p < i → slice_get nodes p ≡ Some n
       → slice_get mid_shown p ≡ Some x → Had old tr (lists_at first_shown p) x
-  child_had i g h p n x l at is =
+  child_had {mid} {mid_shown} i g h p n x l at is =
       let q = get_within mid_shown p x is in
       let w = sets_at first_shown p (let c = h.count in omega (arith, q, c)) in
       let o = sets_at first p (let c = h.count in let d = have.count in let f = have.shown_count in omega (arith, q, c, d, f)) in
@@ -159,10 +160,10 @@ module _ (nodes : List Node) (b : Binding) (e : Event) (before : Option Row) (r 
       }
 
   -- until and since have their sets between
-  has_parts : (i : ℕ) → SteppedTo i first mid → ShownTo i mid first_shown mid_shown → (n : Node) (s x : Sets)
+  has_parts : {mid mid_shown : List Sets} (i : ℕ) → SteppedTo i first mid → ShownTo i mid first_shown mid_shown → (n : Node) (s x : Sets)
       → slice_get nodes i ≡ Some n → slice_get first i ≡ Some s
       → slice_get first_shown i ≡ Some x → HasParts n s (take i mid_shown)
-  has_parts i g h n s x at is ix = by_left (left_of n) (have.has i n s x at is ix).left
+  has_parts {mid} {mid_shown} i g h n s x at is ix = by_left (left_of n) (have.has i n s x at is ix).left
     where
       fail_bounds : (l l' : Sets) → l'.no.bounds ≡ l.no.bounds → HasFailBounds s l → HasFailBounds s l'
       fail_bounds l l' q f = by_parts s.parts f
@@ -212,23 +213,23 @@ module _ (nodes : List Node) (b : Binding) (e : Event) (before : Option Row) (r 
       by_old (Some o) w = w i n s at is
 
   -- one node more fits
-  pub fits_on : (i : ℕ) (new new_shown : List Sets) (n : Node)
-      → ((j : ℕ) (m : Node) → slice_get nodes j ≡ Some m → HasChildrenBelow j m) → SteppedTo i first mid
-      → ShownTo i mid first_shown mid_shown → (at : StepsAt i mid new)
-      → ((j : ℕ) → j ≢ i → slice_get new_shown j ≡ slice_get mid_shown j) → slice_get nodes i ≡ Some n
+  pub fits_on : {i : ℕ} {mid mid_shown new new_shown : List Sets} {n : Node} → SteppedTo i first mid → ShownTo i mid first_shown mid_shown
+      → (at : StepsAt i mid new) → ShowsAt i new mid_shown new_shown → ((j : ℕ) (m : Node) → slice_get nodes j ≡ Some m → HasChildrenBelow j m)
+      → slice_get nodes i ≡ Some n
       → ((j : ℕ) (m : Node) (s : Sets) → j < i → slice_get nodes j ≡ Some m → slice_get mid j ≡ Some s → Fits m e.ended tr (lists_at mid_shown) s)
       → ((was : ℕ → Lists) → Happens e old tr → HadAll old tr was (take i mid_shown) → HasParts n at.was (take i mid_shown)
       → LeafGoes b i e old tr before r at.was n
       → Was old (λ o. Fits n false o was) at.was → Fits n e.ended tr (lists_at (take i mid_shown)) at.is)
       → (j : ℕ) (m : Node) (s : Sets) → j < i + 1 → slice_get nodes j ≡ Some m → slice_get new j ≡ Some s → Fits m e.ended tr (lists_at new_shown) s
-  fits_on i new new_shown n below h g at others here fit last j m s l node is = by_place (nat_or j i (omega (arith, l)))
+  fits_on {i} {mid} {mid_shown} {new} {new_shown} {n} h g at shows below here fit last =
+      λ j m s l node is. by_place j m s node is (nat_or j i (omega (arith, l)))
     where
       was_here : slice_get first i ≡ Some at.was
       was_here = sym (h.others i (omega arith)) ∙ at.at_old
 
       -- the children's lists are as they were
       lists_stay : (k : ℕ) → k ≤ i → (p : ℕ) → p < k → lists_at mid_shown p ≡ lists_at new_shown p
-      lists_stay k o p f = lists_by mid_shown new_shown p (sym (others p (omega (arith, f, o))))
+      lists_stay k o p f = lists_by mid_shown new_shown p (sym (shows.others p (omega (arith, f, o))))
 
       lists_taken : (p : ℕ) → p < i → lists_at (take i mid_shown) p ≡ lists_at new_shown p
       lists_taken p f = lists_by (take i mid_shown) mid_shown p (taken_at mid_shown i p f) ∙ lists_stay i (omega arith) p f
@@ -253,10 +254,11 @@ module _ (nodes : List Node) (b : Binding) (e : Event) (before : Option Row) (r 
           (last (lists_at first_shown) happens had (has_parts i h g n at.was shown_here.0 here was_here shown_here.1)
           (leaf_goes i n at.was shown_here.0 here was_here shown_here.1) (own_was i n at.was here was_here))
 
-      by_place : (j < i) ⊎ (j ≡ i) → Fits m e.ended tr (lists_at new_shown) s
-      by_place (inl f) = fits_alike m j e.ended tr (lists_at mid_shown) (lists_at new_shown) s (below j m node) (lists_stay j (omega (arith, f)))
+      by_place : (j : ℕ) (m : Node) (s : Sets) → slice_get nodes j ≡ Some m → slice_get new j ≡ Some s → (j < i) ⊎ (j ≡ i)
+          → Fits m e.ended tr (lists_at new_shown) s
+      by_place j m s node is (inl f) = fits_alike m j e.ended tr (lists_at mid_shown) (lists_at new_shown) s (below j m node) (lists_stay j (omega (arith, f)))
           (fit j m s f node (sym (at.others j (omega (arith, f))) ∙ is))
-      by_place (inr q) =
+      by_place j m s node is (inr q) =
           let a : slice_get nodes i ≡ Some m = subst (λ k. slice_get nodes k ≡ Some m) q node in
           let c : slice_get new i ≡ Some s = subst (λ k. slice_get new k ≡ Some s) q is in
           subst (λ x. Fits x e.ended tr (lists_at new_shown) s) (same_nodes n m (sym here ∙ a))

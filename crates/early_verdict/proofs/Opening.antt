@@ -4,10 +4,10 @@ use Rattle.std.specs.Prelude.{IfSome}
 use Rattle.stl_syntax.specs.Trace.{Header, Row, AreRows}
 use Rattle.stl_syntax.specs.Formula.{Formula, root}
 use Rattle.atom_lines.specs.Binding.{Binding}
-use Rattle.early_verdict.specs.Living.{ComesOn, NetStands}
+use Rattle.early_verdict.specs.Living.{ComesOn}
 use Rattle.early_verdict.specs.Happening.{Happens}
 use Rattle.early_verdict.specs.Deciding.{IsOpen, IsTruthAtStart, IsVerdict, last_after, last_of, trace_of}
-use Rattle.early_verdict.specs.declared.event.Event.{Event}
+use Rattle.early_verdict.specs.declared.entry.Entry.{Entry}
 use Rattle.early_verdict.specs.declared.sets.Sets.{Sets}
 use Rattle.early_verdict.proofs.GoingOn.{end_final}
 use Rattle.early_verdict.proofs.DecideLemmas.{some_truth, truth_of}
@@ -67,24 +67,23 @@ open_next f b header rows begin last live shown q some o =
     let w = some_rows rows q (sym o.ends ∙ some) in (w.0, w.1, w.2, subst (λ l. IsOpen f b header l begin last live shown) w.2 o)
 
 -- once the input has ended, what the root says is the truth
-module _ (f : Formula) (b : Binding) (header : Header) (r : Row) (rows : List Row) (begin : ℕ) (before : Option Row) (live shown new new_shown : List Sets)
-    (o : IsOpen f b header (r ∷ rows) begin before live shown) (last : Row) (e : Event) (ended : e.ended ≡ true)
-    (happens : Happens e (Some (trace_of header (r ∷ rows))) (trace_of header (r ∷ rows))) (on : ComesOn f.nodes b e None last live new shown new_shown) where
-  stand : NetStands f.nodes (trace_of header (r ∷ rows)) live shown
-  stand = o.sets_are.1
+module _ {f : Formula} {b : Binding} {header : Header} {r : Row} {rows : List Row} {begin : ℕ} {before : Option Row} {last : Row} {e : Entry}
+    {live shown new new_shown : List Sets} (o : IsOpen f b header (r ∷ rows) begin before live shown)
+    (on : ComesOn f.nodes b e None last live new shown new_shown) (ended : e.ended ≡ true)
+    (happens : Happens e (Some (trace_of header (r ∷ rows))) (trace_of header (r ∷ rows))) where
+  count : length new_shown ≡ length f.nodes
+  count = on.shows.count ∙ o.sets_are.1.have.shown_count
 
   -- at the end what is answered is the truth at the start
   pub end_truth : (holds : Bool) → IsVerdict new_shown begin (Some holds) → IsTruthAtStart (root f.nodes) (trace_of header (r ∷ rows)) holds
   end_truth holds v =
-      let k = end_final b f header r rows last e live shown new new_shown o.formed o.some o.bound o.so_far ended happens stand
-      on.stepped on.shows on.tidy on.fits in
-      truth_of f.nodes header r rows new_shown (on.shows.count ∙ stand.have.shown_count) k.0 k.1 (rise_of header r rows o.so_far) holds
+      let k = end_final o on ended happens in
+      truth_of f.nodes header r rows new_shown count k.0 k.1 (rise_of header r rows o.so_far) holds
       (subst (λ k. IsVerdict new_shown k (Some holds)) o.sets_are.0 v)
 
   -- at the end there is an answer
   pub end_some : IsVerdict new_shown begin None → ⊥
   end_some v =
-      let k = end_final b f header r rows last e live shown new new_shown o.formed o.some o.bound o.so_far ended happens stand
-      on.stepped on.shows on.tidy on.fits in
-      some_truth f.nodes header r rows new_shown (on.shows.count ∙ stand.have.shown_count) k.0 k.1 (rise_of header r rows o.so_far)
+      let k = end_final o on ended happens in
+      some_truth f.nodes header r rows new_shown count k.0 k.1 (rise_of header r rows o.so_far)
       (subst (λ k. IsVerdict new_shown k None) o.sets_are.0 v)

@@ -1,4 +1,4 @@
--- What the sets of until and since, and those between, told before an event.
+-- What the sets of until and since, and those between, told before an entry.
 use Rattle.std.proofs.Common.{◌≡◌, ◌⊎◌, inl, inr, subst, ℕ, false, Option, Some, None}
 use Rattle.std.specs.Prelude.{MatchOption}
 use Rattle.stl_syntax.specs.Trace.{Trace}

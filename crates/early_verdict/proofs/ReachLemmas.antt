@@ -3,13 +3,14 @@ use Rattle.std.proofs.Common.{◌⊎◌, inl, inr, Bool, true, false, List}
 use Rattle.std.specs.Prelude.{◌↔◌, IsTrue}
 use Rattle.rational.specs.Rational.{Rational, ◌≤ʳ◌}
 use Rattle.rational.specs.Time.{Within}
-use Rattle.early_verdict.specs.Cuts.{Place, place, After, Upto, AtMost}
+use Rattle.rational.specs.Places.{Place, After, Upto, AtMost}
+use Rattle.frac128.specs.Cuts.{place}
 use Rattle.early_verdict.specs.Spans.{Lies, IsOn, IsAmong, AreTidy, Grows}
 use Rattle.early_verdict.specs.Steps.{BySome, HoldsFrom, Tells, Gains}
 use Rattle.early_verdict.specs.Reaching.{IsNew, ReachesIn, ReachesAt, ReachesBy, ReachedIn, ReachedAt, GoesOn, GoesTo, GoesBack, GoesBackBy, IsCarried}
 use Rattle.early_verdict.specs.declared.stretch.Stretch.{Stretch}
 use Rattle.rational.proofs.Order.{le_refl}
-use Rattle.early_verdict.proofs.PlaceLemmas.{sides, not_both, between, before_through, after_of_before, at_most_of_not_before}
+use Rattle.rational.proofs.PlaceLemmas.{sides, not_both, between, before_through, after_of_before, at_most_of_not_before}
 use Rattle.early_verdict.proofs.StretchLemmas.{rises}
 use Rattle.early_verdict.proofs.MakingLemmas.{after_from}
 use Rattle.early_verdict.proofs.RunLemmas.{le_through, upto_le, after_le, gap_before, gap_after, earlier_after, one_of, on_one, holds_all, decided_among}
@@ -105,7 +106,7 @@ module _ (xs : List Stretch) (c : Place) (carried : Bool) (tidy : AreTidy xs) wh
         ),
       )
 
--- what an event adds: for what the set and the runs gained, for what became sure, and what the set gained itself
+-- what an entry adds: for what the set and the runs gained, for what became sure, and what the set gained itself
 abbrev pub ReachesAnew : List Stretch → List Stretch → List Stretch → List Stretch → Place → Place → Rational → Type 0
 ReachesAnew runs more spans fresh before sure t =
     ((BySome (ReachesAt runs spans sure) fresh t ⊎ BySome (ReachesAt runs spans sure) more t) ⊎ BySome (ReachesBy runs spans before sure) spans t)
@@ -119,7 +120,7 @@ abbrev pub ReachedNew : List Stretch → List Stretch → List Stretch → List 
 ReachedNew runs more spans fresh t = BySome (ReachedAt runs spans) fresh t ⊎ BySome (ReachedAt runs spans) more t
 
 -- runs z that became z', and a set y that became y', which lies in them
-module _ (z z' fz y y' fy : List Stretch) (gz : Gains z z' fz) (gy : Gains y y' fy) (tidy : AreTidy z') (inside : (t : Rational) → IsOn y' t → IsOn z' t) where
+module _ {z z' fz y y' fy : List Stretch} (gz : Gains z z' fz) (gy : Gains y y' fy) (tidy : AreTidy z') (inside : (t : Rational) → IsOn y' t → IsOn z' t) where
   -- a run in a stretch that holds the first times of no part that was gained was there before
   old_run : (p : Stretch) → IsAmong p z' → ¬ ((f : Stretch) × IsAmong f fz × HoldsFrom p (place f.from)) → (v : Rational) → Lies p v → IsOn z v
   old_run p m n v l = elim (gz.gained v (on_one z' p v m l)) [
@@ -135,7 +136,7 @@ module _ (z z' fz y y' fy : List Stretch) (gz : Gains z z' fz) (gy : Gains y y' 
   gained_run : (p : Stretch) → ((x : Stretch) × IsAmong x fz × HoldsFrom p (place x.from)) ⊎ ¬ ((x : Stretch) × IsAmong x fz × HoldsFrom p (place x.from))
   gained_run p = decided_among (λ x. HoldsFrom p (place x.from)) (λ x. decided_from p (place x.from)) fz
 
-  module _ (bounds : Stretch) (old new told fresh : List Stretch) where
+  module _ {bounds : Stretch} {old new told fresh : List Stretch} where
     -- times from which the runs go on to a sure time
     pub reach_tells : (before sure : Place) → AtMost before sure → Tells bounds old (GoesOn z y before)
         → Grows bounds old new told fresh (ReachesAnew z' fz y' fy before sure) → Tells bounds new (GoesOn z' y' sure)

@@ -3,10 +3,11 @@ use Rattle.std.proofs.Common.{◌⊎◌, inl, inr, refl, sym, subst, Bool, true,
 use Rattle.std.specs.Prelude.{MatchBool}
 use Rattle.rational.specs.Rational.{Rational, ◌≤ʳ◌, ◌<ʳ◌}
 use Rattle.rational.proofs.Order.{le_trans, le_of_lt, lt_of_lt_of_le, lt_of_le_of_lt}
-use Rattle.early_verdict.specs.Cuts.{Place, place, After, Upto, Before}
+use Rattle.rational.specs.Places.{Place, After, Upto, Before}
+use Rattle.frac128.specs.Cuts.{place}
 use Rattle.early_verdict.specs.Spans.{Lies, IsOn, IsAmong, AreTidy, BeginsAfter}
 use Rattle.early_verdict.specs.declared.stretch.Stretch.{Stretch}
-use Rattle.early_verdict.proofs.PlaceLemmas.{not_both, between, before_trans, place_order, after_of_before, upto_of_before, upto_same, same_places, after_same}
+use Rattle.rational.proofs.PlaceLemmas.{not_both, between, before_trans, place_order, after_of_before, upto_of_before, upto_same, same_places, after_same}
 use Rattle.early_verdict.proofs.StretchLemmas.{rises}
 use Rattle.early_verdict.proofs.SpanLemmas.{begins_through, rest_after}
 

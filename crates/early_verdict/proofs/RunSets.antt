@@ -1,10 +1,11 @@
--- What the sets between told before an event, in the words of lists.
+-- What the sets between told before an entry, in the words of lists.
 use Rattle.std.proofs.Common.{◌≡◌, ◌⊎◌, inl, inr, sym, subst, ℕ, Bool, true, false, Option, Some, None, List}
 use Rattle.std.specs.Prelude.{IsTrue, MatchOption}
 use Rattle.rational.specs.Time.{Rational, ◌≤ʳ◌}
 use Rattle.stl_syntax.specs.Trace.{Trace, start}
 use Rattle.stl_syntax.specs.Early.{OpenAhead}
-use Rattle.early_verdict.specs.Cuts.{Place, place, Same}
+use Rattle.rational.specs.Places.{Place, Same}
+use Rattle.frac128.specs.Cuts.{place}
 use Rattle.early_verdict.specs.Spans.{Lies, IsOn}
 use Rattle.early_verdict.specs.Steps.{Tells, SeesOne, SeesOnly}
 use Rattle.early_verdict.specs.Sure.{SeesSure}
@@ -13,12 +14,12 @@ use Rattle.early_verdict.specs.Readings.{SomeAhead, OnlyAhead, SomeBehind, OnlyB
 use Rattle.early_verdict.specs.Fitting.{Lists, sure_place, UntilHolding, UntilFailing, SinceHolding, SinceFailing, IsHoldingEmpty, IsFailingEmpty}
 use Rattle.early_verdict.specs.Happening.{Happens}
 use Rattle.early_verdict.specs.Looking.{IsAhead, IsBehind, WasTold, WasList}
-use Rattle.early_verdict.specs.declared.event.Event.{Event}
+use Rattle.early_verdict.specs.declared.entry.Entry.{Entry}
 use Rattle.early_verdict.specs.declared.stretch.Stretch.{Stretch}
 use Rattle.early_verdict.specs.declared.sets.Holding.{Holding}
 use Rattle.early_verdict.specs.declared.sets.Failing.{Failing}
 use Rattle.early_verdict.specs.declared.window.Window.{Window}
-use Rattle.early_verdict.proofs.PlaceLemmas.{upto_same, same_places}
+use Rattle.rational.proofs.PlaceLemmas.{upto_same, same_places}
 use Rattle.early_verdict.proofs.Telling.{tells_alike, tells_none, none_of}
 use Rattle.early_verdict.proofs.LookLemmas.{Told, was_sure, was_one, was_only, was_back, one_said}
 
@@ -37,7 +38,7 @@ goes_on_says bounds own runs spans c d s = tells_alike bounds own (GoesOn runs s
 none_carried : (b : Bool) → b ≡ false → IsTrue b → ⊥
 none_carried b e t = cc
 
-module _ (e : Event) (tr : Trace) (old : Option Trace) (h : Happens e old tr) (p q : Lists) where
+module _ (e : Entry) (tr : Trace) (old : Option Trace) (h : Happens e old tr) (p q : Lists) where
   -- until, where it holds
   module _ (a b : ℕ) (w up_to : Window) (is : IsAhead w a b true true) (is_up : IsAhead up_to 0 a true true) (x : Holding)
       (was : MatchOption old (IsHoldingEmpty x) (λ o. UntilHolding o a b p q x)) (none : WasList old p.yes) (none_q : WasList old q.yes)

@@ -2,13 +2,14 @@
 use Rattle.std.proofs.Common.{◌⊎◌, inl, inr, refl, subst, Option, Some, None, ℤ, List, [], ◌∷◌}
 use Rattle.std.specs.Prelude.{IfSome, MatchOption}
 use Rattle.rational.specs.Time.{Rational, ◌≤ʳ◌}
-use Rattle.early_verdict.specs.Cuts.{Place, place, After, Upto, Before}
+use Rattle.rational.specs.Places.{Place, After, Upto, Before}
+use Rattle.frac128.specs.Cuts.{place}
 use Rattle.early_verdict.specs.Spans.{Lies, IsOn, IsAmong, AreTidy, Grows}
 use Rattle.early_verdict.specs.Windows.{Sees, SeesPart, IsHeld, low_place, high_place}
 use Rattle.early_verdict.specs.Steps.{BySome, HoldsFrom, Common, HeldAt, SeesOnly, SeesOne, Tells, Gains}
 use Rattle.early_verdict.specs.declared.stretch.Stretch.{Stretch}
 use Rattle.early_verdict.specs.declared.window.Window.{Window}
-use Rattle.early_verdict.proofs.PlaceLemmas.{before_through, at_most_of_not_before}
+use Rattle.rational.proofs.PlaceLemmas.{before_through, at_most_of_not_before}
 use Rattle.early_verdict.proofs.MakingLemmas.{after_from}
 use Rattle.early_verdict.proofs.RunLemmas.{
   le_through,
@@ -39,7 +40,7 @@ by_some Q [] s t m q = absurd m
 by_some Q (x ∷ xs) s t (inl e) q = inl (subst (λ r. Q r t) e q)
 by_some Q (x ∷ xs) s t (inr m) q = inr (by_some Q xs s t m q)
 
-module _ (bounds : Stretch) (old mid new told some fresh : List Stretch) (x x' fx y y' fy : List Stretch) (gx : Gains x x' fx) (gy : Gains y y' fy) where
+module _ {bounds : Stretch} {old mid new told some fresh : List Stretch} {x x' fx y y' fy : List Stretch} (gx : Gains x x' fx) (gy : Gains y y' fy) where
   -- either of two sets
   pub either_tells : Tells bounds old (λ t. IsOn x t ⊎ IsOn y t) → Grows bounds old mid told some (BySome Lies fx)
       → Grows bounds mid new some fresh (BySome Lies fy) → Tells bounds new (λ t. IsOn x' t ⊎ IsOn y' t)
@@ -84,9 +85,9 @@ module _ (bounds : Stretch) (old mid new told some fresh : List Stretch) (x x' f
   }
 
 -- a set as it is
-pub same_tells : (bounds : Stretch) (old new told fresh x x' fx : List Stretch) → Gains x x' fx → Tells bounds old (IsOn x)
+pub same_tells : {bounds : Stretch} {old new told fresh x x' fx : List Stretch} → Gains x x' fx → Tells bounds old (IsOn x)
     → Grows bounds old new told fresh (BySome Lies fx) → Tells bounds new (IsOn x')
-same_tells bounds old new told fresh x x' fx gx h g = record {
+same_tells {fx = fx} gx h g = record {
   has = λ t b o. elim (gx.gained t o) [
     | inl k ↦ g.keeps t (h.has t b k)
     | inr k ↦ let p = one_of fx t k in g.adds t b (by_some Lies fx p.0 t p.1 p.2)
@@ -97,7 +98,7 @@ same_tells bounds old new told fresh x x' fx gx h g = record {
   ];
 }
 
-module _ (w : Window) (bounds : Stretch) (old new told fresh x x' fx : List Stretch) (gx : Gains x x' fx) where
+module _ (w : Window) {bounds : Stretch} {old new told fresh x x' fx : List Stretch} (gx : Gains x x' fx) where
   -- some time of the window
   pub some_tells : Tells bounds old (SeesOne w x) → Grows bounds old new told fresh (BySome (SeesPart w) fx) → Tells bounds new (SeesOne w x')
   some_tells h g = record {
@@ -205,7 +206,7 @@ module _ (w : Window) (xs : List Stretch) (start : Place) (tidy : AreTidy xs) wh
         ),
       )
 
-module _ (w : Window) (bounds : Stretch) (old new told fresh x x' fx : List Stretch) (gx : Gains x x' fx) (start : Place) (tidy : AreTidy x') where
+module _ (w : Window) {bounds : Stretch} {old new told fresh x x' fx : List Stretch} (gx : Gains x x' fx) (start : Place) (tidy : AreTidy x') where
   -- each time of the window
   pub each_tells : Tells bounds old (SeesOnly w start x) → Grows bounds old new told fresh (BySome (HeldAt w start x') fx)
       → Tells bounds new (SeesOnly w start x')

@@ -44,35 +44,40 @@ module _ (tr : Trace) (own : Stretch) (s : Sets) (is_yes : s.yes.bounds ≡ own)
     no_is p u o = subst (λ (l : Lists). IsOn l.no u) (is_at p) o
 
     -- some time of a window ahead is of a child's list, or each is
-    some_ahead : (p a b : ℕ) (a_in b_in : Bool) → ((t u : Rational) → Lies own t → OpenAhead (start tr) a b a_in b_in t u → IsShown shown p u)
-        → (X xs : Rational → Type 0) → ((u : Rational) → IsShown shown p u → X u → xs u)
+    some_ahead : {X xs : Rational → Type 0} (p a b : ℕ) (a_in b_in : Bool)
+        → ((t u : Rational) → Lies own t → OpenAhead (start tr) a b a_in b_in t u → IsShown shown p u)
+        → ((u : Rational) → IsShown shown p u → X u → xs u)
         → (t : Rational) → Lies own t → SomeAhead tr a b a_in b_in X t → SomeAhead tr a b a_in b_in xs t
-    some_ahead p a b a_in b_in far X xs f t l (u, o, c, y) = (u, o, c, f u (far t u l o) y)
+    some_ahead p a b a_in b_in far f t l (u, o, c, y) = (u, o, c, f u (far t u l o) y)
 
-    only_ahead : (p a b : ℕ) (a_in b_in : Bool) → ((t u : Rational) → Lies own t → OpenAhead (start tr) a b a_in b_in t u → IsShown shown p u)
-        → (X xs : Rational → Type 0) → ((u : Rational) → IsShown shown p u → X u → xs u)
+    only_ahead : {X xs : Rational → Type 0} (p a b : ℕ) (a_in b_in : Bool)
+        → ((t u : Rational) → Lies own t → OpenAhead (start tr) a b a_in b_in t u → IsShown shown p u)
+        → ((u : Rational) → IsShown shown p u → X u → xs u)
         → (t : Rational) → Lies own t → ((u : Rational) → OpenAhead (start tr) a b a_in b_in t u → X u)
         → (u : Rational) → OpenAhead (start tr) a b a_in b_in t u → xs u
-    only_ahead p a b a_in b_in far X xs f t l y u o = f u (far t u l o) (y u o)
+    only_ahead p a b a_in b_in far f t l y u o = f u (far t u l o) (y u o)
 
     -- so behind, where what decides it may stand for the others
-    some_behind : (side : Lists → List Stretch) (p a : ℕ) (b : Option ℕ) (a_in b_in : Bool) → LooksBack side (start tr) a b a_in b_in p shown own
-        → (X xs : Rational → Type 0) → ((u : Rational) → IsShown shown p u → X u → xs u) → ((u : Rational) → IsOn (side (lists_at shown p)) u → xs u)
+    some_behind : {X xs : Rational → Type 0} (side : Lists → List Stretch) (p a : ℕ) (b : Option ℕ) (a_in b_in : Bool)
+        → LooksBack side (start tr) a b a_in b_in p shown own
+        → ((u : Rational) → IsShown shown p u → X u → xs u) → ((u : Rational) → IsOn (side (lists_at shown p)) u → xs u)
         → (t : Rational) → Lies own t → SomeBehind tr a b a_in b_in X t → SomeBehind tr a b a_in b_in xs t
-    some_behind side p a b a_in b_in far X xs f g t l (u, o, c, y) = elim (far t u l o) [
+    some_behind side p a b a_in b_in far f g t l (u, o, c, y) = elim (far t u l o) [
       | inl k ↦ (u, o, c, f u k y)
       | inr (w, d, k, z) ↦ (w, d, (d.after, inr (none_later w t a (precedes_le a_in (later w a) t d.ends))), g w z)
     ]
 
-    only_behind : (side : Lists → List Stretch) (p a : ℕ) (b : Option ℕ) (a_in b_in : Bool) → LooksBack side (start tr) a b a_in b_in p shown own
-        → (X xs : Rational → Type 0) → ((u : Rational) → IsShown shown p u → X u → xs u) → ((u : Rational) → IsOn (side (lists_at shown p)) u → X u → ⊥)
+    only_behind : {X xs : Rational → Type 0} (side : Lists → List Stretch) (p a : ℕ) (b : Option ℕ) (a_in b_in : Bool)
+        → LooksBack side (start tr) a b a_in b_in p shown own
+        → ((u : Rational) → IsShown shown p u → X u → xs u) → ((u : Rational) → IsOn (side (lists_at shown p)) u → X u → ⊥)
         → (t : Rational) → Lies own t → OnlyBehind tr a b a_in b_in X t → OnlyBehind tr a b a_in b_in xs t
-    only_behind side p a b a_in b_in far X xs f g t l y u o = elim (far t u l o) [ inl k ↦ f u k (y u o) | inr (w, d, k, z) ↦ absurd (g w z (y w d)) ]
+    only_behind side p a b a_in b_in far f g t l y = λ u o. elim (far t u l o) [ inl k ↦ f u k (y u o) | inr (w, d, k, z) ↦ absurd (g w z (y w d)) ]
 
-    until_true : (p q a b : ℕ) → ((t u : Rational) → Lies own t → t ≤ʳ u → u ≤ʳ later t b → IsShown shown p u × IsShown shown q u)
-        → (X Y xs ys : Rational → Type 0) → ((u : Rational) → IsShown shown p u → X u → xs u) → ((u : Rational) → IsShown shown q u → Y u → ys u)
+    until_true : {X Y xs ys : Rational → Type 0} (p q a b : ℕ)
+        → ((t u : Rational) → Lies own t → t ≤ʳ u → u ≤ʳ later t b → IsShown shown p u × IsShown shown q u)
+        → ((u : Rational) → IsShown shown p u → X u → xs u) → ((u : Rational) → IsShown shown q u → Y u → ys u)
         → (t : Rational) → Lies own t → UntilHolds tr a b X Y t → UntilHolds tr a b xs ys t
-    until_true p q a b far X Y xs ys f g t l (u, o, c, y, z) = (
+    until_true p q a b far f g t l (u, o, c, y, z) = (
       u,
       o,
       c,
@@ -80,12 +85,13 @@ module _ (tr : Trace) (own : Stretch) (s : Sets) (is_yes : s.yes.bounds ≡ own)
       λ v w. f v (far t v l w.above (le_trans w.below o.ends)).0 (z v w),
     )
 
-    until_false : (p q a b : ℕ) → ((t u : Rational) → Lies own t → t ≤ʳ u → u ≤ʳ later t b → IsShown shown p u × IsShown shown q u)
-        → (X Y xs ys : Rational → Type 0) → ((u : Rational) → IsShown shown p u → X u → xs u) → ((u : Rational) → IsShown shown q u → Y u → ys u)
+    until_false : {X Y xs ys : Rational → Type 0} (p q a b : ℕ)
+        → ((t u : Rational) → Lies own t → t ≤ʳ u → u ≤ʳ later t b → IsShown shown p u × IsShown shown q u)
+        → ((u : Rational) → IsShown shown p u → X u → xs u) → ((u : Rational) → IsShown shown q u → Y u → ys u)
         → (t : Rational) → Lies own t
         → ((u : Rational) → OpenAhead (start tr) a b true true t u → Y u ⊎ ((v : Rational) × Within t u v × X v))
         → (u : Rational) → OpenAhead (start tr) a b true true t u → ys u ⊎ ((v : Rational) × Within t u v × xs v)
-    until_false p q a b far X Y xs ys f g t l h u o = elim (h u o) [
+    until_false p q a b far f g t l h u o = elim (h u o) [
       | inl y ↦ inl (g u (far t u l (le_trans (later_from t a) o.begins) o.ends).1 y)
       | inr (v, w, x) ↦ inr (v, w, f v (far t v l w.above (le_trans w.below o.ends)).0 x)
     ]
@@ -160,8 +166,8 @@ module _ (tr : Trace) (own : Stretch) (s : Sets) (is_yes : s.yes.bounds ≡ own)
 
         says : (t : Rational) → Lies own t → SaysSince tr x y (at p) (at q) z t
         says t l =
-            says_since tr x y (at p) (at q) z h f ty (tidy_at q) t (r.some t l) (r.never t l) (λ w m. apart p c.0 w) (λ w m. apart q c.1 w)
-            (reaches_along tr own x y p q shown (at p) (at q) (is_at p) (is_at q) z r t l (a t l))
+            says_since z h f ty (tidy_at q) t (r.some t l) (r.never t l) (λ w m. apart p c.0 w) (λ w m. apart q c.1 w)
+            (reaches_along tr x q (is_at p) (is_at q) r t l (a t l))
 
     -- a node's sets that fit tell what is settled of it
     pub node_told : (n : Node) → HasChildrenBelow i n → HasBounds n → LooksAt n (start tr) shown own s.parts
@@ -204,43 +210,43 @@ module _ (tr : Trace) (own : Stretch) (s : Sets) (is_yes : s.yes.bounds ≡ own)
         let m = known q c.1 in
         said (UntilHolds tr x y (IsOn (at p).yes) (IsOn (at q).yes)) (UntilHolds tr x y (Settled (sub p) tr) (Settled (sub q) tr))
         (UntilFails false tr x y (IsOn (at p).no) (IsOn (at q).no)) (SettledNot (tree_of sub i (Until p q x y)) tr)
-        (until_true p q x y a.0 (IsOn (at p).yes) (IsOn (at q).yes) (Settled (sub p) tr) (Settled (sub q) tr) (λ u l. k.yes_out u) (λ u l. m.yes_out u))
-        (until_true p q x y a.0 (Settled (sub p) tr) (Settled (sub q) tr) (IsOn (at p).yes) (IsOn (at q).yes) k.yes_in m.yes_in)
-        (λ t l g. until_false p q x y a.0 (IsOn (at p).no) (IsOn (at q).no) (SettledNot (sub p) tr) (SettledNot (sub q) tr)
+        (until_true p q x y a.0 (λ u l. k.yes_out u) (λ u l. m.yes_out u))
+        (until_true p q x y a.0 k.yes_in m.yes_in)
+        (λ t l g. until_false p q x y a.0
         (λ u l. k.no_out u) (λ u l. m.no_out u) t l (λ u d. g u d tt))
-        (λ t l g u d e. until_false p q x y a.0 (SettledNot (sub p) tr) (SettledNot (sub q) tr) (IsOn (at p).no) (IsOn (at q).no) k.no_in m.no_in t l g u d)
+        (λ t l g u d e. until_false p q x y a.0 k.no_in m.no_in t l g u d)
         (until_fits tr own (at p) (at q) s is_yes is_no from tidy (tidy_at q) false x y o a.1 h)
     node_told (Eventually p x y x_in y_in) c o a h =
         let k = known p c in
         said (SomeAhead tr x y x_in y_in (IsOn (at p).yes)) (SomeAhead tr x y x_in y_in (Settled (sub p) tr))
         (OnlyAhead false tr x y x_in y_in (IsOn (at p).no)) (SettledNot (tree_of sub i (Eventually p x y x_in y_in)) tr)
-        (some_ahead p x y x_in y_in a (IsOn (at p).yes) (Settled (sub p) tr) (λ u l. k.yes_out u))
-        (some_ahead p x y x_in y_in a (Settled (sub p) tr) (IsOn (at p).yes) k.yes_in)
-        (λ t l g. only_ahead p x y x_in y_in a (IsOn (at p).no) (SettledNot (sub p) tr) (λ u l. k.no_out u) t l (λ u d. g u d tt))
-        (λ t l g u d e. only_ahead p x y x_in y_in a (SettledNot (sub p) tr) (IsOn (at p).no) k.no_in t l g u d) h
+        (some_ahead p x y x_in y_in a (λ u l. k.yes_out u))
+        (some_ahead p x y x_in y_in a k.yes_in)
+        (λ t l g. only_ahead p x y x_in y_in a (λ u l. k.no_out u) t l (λ u d. g u d tt))
+        (λ t l g u d e. only_ahead p x y x_in y_in a k.no_in t l g u d) h
     node_told (Always p x y x_in y_in) c o a h =
         let k = known p c in
         said (OnlyAhead false tr x y x_in y_in (IsOn (at p).yes)) (Settled (tree_of sub i (Always p x y x_in y_in)) tr)
         (SomeAhead tr x y x_in y_in (IsOn (at p).no)) (SomeAhead tr x y x_in y_in (SettledNot (sub p) tr))
-        (λ t l g. only_ahead p x y x_in y_in a (IsOn (at p).yes) (Settled (sub p) tr) (λ u l. k.yes_out u) t l (λ u d. g u d tt))
-        (λ t l g u d e. only_ahead p x y x_in y_in a (Settled (sub p) tr) (IsOn (at p).yes) k.yes_in t l g u d)
-        (some_ahead p x y x_in y_in a (IsOn (at p).no) (SettledNot (sub p) tr) (λ u l. k.no_out u))
-        (some_ahead p x y x_in y_in a (SettledNot (sub p) tr) (IsOn (at p).no) k.no_in) h
+        (λ t l g. only_ahead p x y x_in y_in a (λ u l. k.yes_out u) t l (λ u d. g u d tt))
+        (λ t l g u d e. only_ahead p x y x_in y_in a k.yes_in t l g u d)
+        (some_ahead p x y x_in y_in a (λ u l. k.no_out u))
+        (some_ahead p x y x_in y_in a k.no_in) h
     node_told (Since p q x y) c o a h = since_parts p q x y c a.0 s.parts tidy.parts a.1 h
     node_told (Once p x y x_in y_in) c o a h =
         let k = known p c in
         said (SomeBehind tr x y x_in y_in (IsOn (at p).yes)) (SomeBehind tr x y x_in y_in (Settled (sub p) tr))
         (OnlyBehind tr x y x_in y_in (IsOn (at p).no)) (OnlyBehind tr x y x_in y_in (SettledNot (sub p) tr))
         (λ t l (u, w, c, z). (u, w, c, k.yes_out u z))
-        (some_behind yes_of p x y x_in y_in a (Settled (sub p) tr) (IsOn (at p).yes) k.yes_in (λ u z. yes_is p u z))
+        (some_behind yes_of p x y x_in y_in a k.yes_in (λ u z. yes_is p u z))
         (λ t l g u w. k.no_out u (g u w))
-        (only_behind yes_of p x y x_in y_in a (SettledNot (sub p) tr) (IsOn (at p).no) k.no_in
+        (only_behind yes_of p x y x_in y_in a k.no_in
         (λ u z n. never_both (sub p) tr u (k.yes_out u (yes_is p u z)) n)) h
     node_told (Historically p x y x_in y_in) c o a h =
         let k = known p c in
         said (OnlyBehind tr x y x_in y_in (IsOn (at p).yes)) (OnlyBehind tr x y x_in y_in (Settled (sub p) tr))
         (SomeBehind tr x y x_in y_in (IsOn (at p).no)) (SomeBehind tr x y x_in y_in (SettledNot (sub p) tr))
         (λ t l g u w. k.yes_out u (g u w))
-        (only_behind no_of p x y x_in y_in a (Settled (sub p) tr) (IsOn (at p).yes) k.yes_in (λ u z n. never_both (sub p) tr u n (k.no_out u (no_is p u z))))
+        (only_behind no_of p x y x_in y_in a k.yes_in (λ u z n. never_both (sub p) tr u n (k.no_out u (no_is p u z))))
         (λ t l (u, w, c, z). (u, w, c, k.no_out u z))
-        (some_behind no_of p x y x_in y_in a (SettledNot (sub p) tr) (IsOn (at p).no) k.no_in (λ u z. no_is p u z)) h
+        (some_behind no_of p x y x_in y_in a k.no_in (λ u z. no_is p u z)) h

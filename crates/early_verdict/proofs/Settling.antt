@@ -70,17 +70,17 @@ pub record SaysSince (tr : Trace) (a : ℕ) (b : Option ℕ) (p q : Lists) (x : 
   pub failed : SinceFails tr a b (IsOn p.no) (IsOn q.no) t → IsOn x.failing.never.spans.items t ⊎ IsOn x.failing.broken.spans.items t
 
 -- the sets between say of since at a time what it is there
-pub says_since : (tr : Trace) (a : ℕ) (b : Option ℕ) (p q : Lists) (x : Parts) → SinceHolding tr a b p q x.holding → SinceFailing tr a b p q x.failing
+pub says_since : {tr : Trace} {a : ℕ} {b : Option ℕ} {p q : Lists} (x : Parts) → SinceHolding tr a b p q x.holding → SinceFailing tr a b p q x.failing
     → ArePartsTidy x → AreTidy q.no → (t : Rational) → Lies x.holding.some.bounds t × Lies x.holding.each.bounds t
     → Lies x.failing.never.bounds t × Lies x.failing.broken.bounds t → ((w : Rational) → w ≤ʳ t → IsOn p.yes w → ¬ (IsOn p.no w))
     → ((w : Rational) → w ≤ʳ t → IsOn q.yes w → ¬ (IsOn q.no w)) → Reaches tr a b p q x t → SaysSince tr a b p q x t
-says_since tr a b p q x h f tidy tidy_q t own_yes own_no apart_p apart_q (inl wide) = record {
+says_since {tr} {a} {b} {p} {q} x h f tidy tidy_q t own_yes own_no apart_p apart_q (inl wide) = record {
   holds = since_true_at tr a b p q x.holding h t own_yes (λ u o. (wide u o).0);
   held = some_each tr a b p q x.holding h t own_yes (λ u o. (wide u o).0);
   fails = since_false_at tr a b p q x.failing f tidy_q tidy.failing.fail t own_no (λ u o. (wide u o).1);
   failed = never_broken tr a b p q x.failing f tidy_q tidy.failing.fail t own_no (λ u o. (wide u o).1);
 }
-says_since tr a b p q x h f tidy tidy_q t own_yes own_no apart_p apart_q (inr (w, o, wide, d)) =
+says_since {tr} {a} {b} {p} {q} x h f tidy tidy_q t own_yes own_no apart_p apart_q (inr (w, o, wide, d)) =
     let wt = le_trans (before_end t w a o.ends) (end_past t a) in
     record {
       holds = λ k. decided_true tr a b p q t w o (apart_p w wt) (apart_q w wt) d x.holding h own_yes (λ v l m. (wide v l m).0) (h.each.only t k.1).1;
@@ -90,11 +90,11 @@ says_since tr a b p q x h f tidy tidy_q t own_yes own_no apart_p apart_q (inr (w
     }
 
 -- what the operands of since show, and how far its sets between reach
-pub reaches_along : (tr : Trace) (own : Stretch) (a : ℕ) (b : Option ℕ) (l r : ℕ) (shown : List Sets) (p q : Lists)
-    → lists_at shown l ≡ p → lists_at shown r ≡ q → (x : Parts)
+pub reaches_along : {own : Stretch} {b : Option ℕ} {l : ℕ} {shown : List Sets} {p q : Lists} {x : Parts} (tr : Trace) (a r : ℕ)
+    → lists_at shown l ≡ p → lists_at shown r ≡ q
     → ReachesBack (start tr) b l shown own x → (t : Rational) → Lies own t → LooksAlong (start tr) l r a b shown t → Reaches tr a b p q x t
-reaches_along tr own a b l r shown p q e f x k t i (inl s) = inl (λ u o. let m = (s u o).0 in (k.both t u i o m, k.fail t u i o m))
-reaches_along tr own a b l r shown p q e f x k t i (inr (w, o, s, d)) = inr (
+reaches_along tr a r e f k t i (inl s) = inl (λ u o. let m = (s u o).0 in (k.both t u i o m, k.fail t u i o m))
+reaches_along {b = b} tr a r e f k t i (inr (w, o, s, d)) = inr (
   w,
   o,
   λ v m n.

@@ -3,12 +3,13 @@ use Rattle.std.proofs.Common.{◌≡◌, ◌⊎◌, inl, inr, refl, sym, subst, 
 use Rattle.std.specs.Prelude.{slice_get, ◌↔◌}
 use Rattle.rational.specs.Rational.{Rational, ◌≤ʳ◌}
 use Rattle.rational.proofs.Order.{le_refl}
-use Rattle.early_verdict.specs.Cuts.{Place, place, After, Upto, Before}
+use Rattle.rational.specs.Places.{Place, After, Upto, Before}
+use Rattle.frac128.specs.Cuts.{place}
 use Rattle.early_verdict.specs.Spans.{Lies, IsOn, AreTidy, BeginsAfter, EndBefore, NoneEndsBefore}
 use Rattle.early_verdict.specs.Reaching.{IsFirstBegin, IsLastEnd}
 use Rattle.early_verdict.specs.declared.stretch.Stretch.{Stretch}
 use Rattle.early_verdict.proofs.StretchLemmas.{rises}
-use Rattle.early_verdict.proofs.PlaceLemmas.{sides, not_both, between, upto_of_before, after_of_before, at_most_of_not_before}
+use Rattle.rational.proofs.PlaceLemmas.{sides, not_both, between, upto_of_before, after_of_before, at_most_of_not_before}
 use Rattle.early_verdict.proofs.MakingLemmas.{after_from}
 use Rattle.early_verdict.proofs.SpanLemmas.{some_same, no_stretch, on_at, on_parts, front_of, front_upto, rest_after, reaches_at, from_one_on}
 use Rattle.early_verdict.proofs.LoopLemmas.{on_less}

@@ -2,12 +2,13 @@
 use Rattle.std.proofs.Common.{◌≡◌, ◌⊎◌, inl, inr, sym, subst, Some, None, List, [], ◌∷◌, drop, length, ◌<◌, arith}
 use Rattle.std.specs.Prelude.{◌↔◌, slice_get, slice_index_or, slice_set}
 use Rattle.rational.specs.Time.{Rational}
-use Rattle.early_verdict.specs.Cuts.{Place, place, After, Upto, Before}
+use Rattle.rational.specs.Places.{Place, After, Upto, Before}
+use Rattle.frac128.specs.Cuts.{place}
 use Rattle.early_verdict.specs.Spans.{IsOn, Lies, AreTidy, Grows}
 use Rattle.early_verdict.specs.Steps.{BySome}
 use Rattle.early_verdict.specs.Showing.{EndsAfter, TakesIn}
 use Rattle.early_verdict.specs.declared.stretch.Stretch.{Stretch}
-use Rattle.early_verdict.proofs.PlaceLemmas.{after_of_before, at_most_of_not_before, before_trans, between, sides}
+use Rattle.rational.proofs.PlaceLemmas.{after_of_before, at_most_of_not_before, before_trans, between, sides}
 use Rattle.early_verdict.proofs.RunLemmas.{after_le, among_after, le_through, one_of, on_one}
 use Rattle.early_verdict.proofs.SetLaws.{by_some, some_by}
 use Rattle.early_verdict.proofs.SpanLemmas.{some_same}

@@ -8,7 +8,8 @@ use Rattle.stl_syntax.specs.Trace.{Trace, start}
 use Rattle.stl_syntax.specs.WellFormed.{AreWellFormed}
 use Rattle.stl_syntax.specs.declared.node.Node.{Node}
 use Rattle.stl_syntax.specs.declared.node.Node.TheVariants.{Since}
-use Rattle.early_verdict.specs.Cuts.{place, After}
+use Rattle.rational.specs.Places.{After}
+use Rattle.frac128.specs.Cuts.{place}
 use Rattle.early_verdict.specs.Spans.{AreTidy, IsOn, Lies}
 use Rattle.early_verdict.specs.Fitting.{ArePartsTidy, AreSetsTidy, IsTidy, Lists, lists_at}
 use Rattle.early_verdict.specs.Standing.{AllTidy}
@@ -57,23 +58,23 @@ bounded_parts d from wide a b ys (Some x) (Some y) (k, m) = record {
   never = m.never;
 }
 
-module _ (nodes : List Node) (formed : AreWellFormed nodes) (tr : Trace) (live left old mid new : List Sets) (i p q a b : ℕ)
-    (at : slice_get nodes i ≡ Some (Since p q a (Some b))) (order : a ≤ b) (d from : Rational) (back : later d b ≤ʳ from) (wide : Stretch)
-    (cut : IsRunCutAt i d from wide live left) (l' : Sets) (at_left : slice_get new p ≡ Some l') (is_wide : wide ≡ l'.no.bounds)
+module _ {nodes : List Node} (formed : AreWellFormed nodes) {tr : Trace} {live left old mid new : List Sets} {i p q a b : ℕ}
+    (at : slice_get nodes i ≡ Some (Since p q a (Some b))) (order : a ≤ b) {d from : Rational} (back : later d b ≤ʳ from) {wide : Stretch}
+    (cut : IsRunCutAt i d from wide live left) {l' : Sets} (at_left : slice_get new p ≡ Some l') (is_wide : wide ≡ l'.no.bounds)
     (begins : (t : Rational) → Lies cut.was.no.bounds t → from ≤ʳ t) (h : IsAskedFrom p d old mid) (g : IsAskedFrom q d mid new)
     (st : NetStands nodes tr live old) where
   looks : (t : Rational) → from ≤ʳ t → LooksAlong (start tr) p q a (Some b) old t → LooksAlong (start tr) p q a (Some b) new t
   looks t f (inl k) = inl (λ u o.
       let m = k u o in
       let e = no_later d u b (le_trans back (le_trans f o.begins)) in
-      (both_shown p q d old mid new h g p u e m.0, both_shown p q d old mid new h g q u e m.1))
+      (both_shown h g p u e m.0, both_shown h g q u e m.1))
   looks t f (inr (w, o, k, e)) = inr (
     w,
     o,
     still,
     elim e [
-      | inl y ↦ inl ((still_on old new (two_less p q d old mid new h g) p w at_w.0).0 y.0, (still_on old new (two_less p q d old mid new h g) q w at_w.1).0 y.1)
-      | inr n ↦ inr ((still_on old new (two_less p q d old mid new h g) p w at_w.0).1 n)
+      | inl y ↦ inl ((still_on old new (two_less h g) p w at_w.0).0 y.0, (still_on old new (two_less h g) q w at_w.1).0 y.1)
+      | inr n ↦ inr ((still_on old new (two_less h g) p w at_w.0).1 n)
     ],
   )
     where
@@ -84,18 +85,18 @@ module _ (nodes : List Node) (formed : AreWellFormed nodes) (tr : Trace) (live l
       still v n =
           let m = k v n in
           let j = le_trans first n.above in
-          (both_shown p q d old mid new h g p v j m.0, both_shown p q d old mid new h g q v j m.1)
+          (both_shown h g p v j m.0, both_shown h g q v j m.1)
 
       at_w : IsShown new p w × IsShown new q w
       at_w = still w (record { above = le_refl w; below = none_later w t a o.ends })
 
   -- what stands goes on to stand, where a since with a bound lets go
   pub bounded_stands : NetStands nodes tr left new
-  bounded_stands = since_stands nodes formed tr live left old mid new i p q a (Some b) at d from
-      (le_trans (later_more d a b order) back) back wide cut.was cut.is
+  bounded_stands = since_stands formed left i at
+      (le_trans (later_more d a b order) back) back
       cut.at_old cut.at_new cut.others cut.count cut.cut.yes cut.cut.no
       (tidy_parts d from wide cut.was.parts cut.is.parts cut.cut.parts (st.tidy i cut.was cut.at_old).parts)
-      (bounded_parts d from wide a b (lists_at new q).yes cut.was.parts cut.is.parts cut.cut.parts) l' at_left is_wide begins h g st looks
+      (bounded_parts d from wide a b (lists_at new q).yes cut.was.parts cut.is.parts cut.cut.parts) at_left is_wide begins h g st looks
 
 -- without a bound the sets that see to the start are made anew
 module _ (d from : Rational) (wide : Stretch) (a : ℕ) (ys : List Stretch) where
@@ -127,14 +128,14 @@ module _ (d from : Rational) (wide : Stretch) (a : ℕ) (ys : List Stretch) wher
     };
   }
 
-module _ (nodes : List Node) (formed : AreWellFormed nodes) (tr : Trace) (live half left old mid new : List Sets) (i p q a : ℕ)
-    (at : slice_get nodes i ≡ Some (Since p q a None)) (d from : Rational) (back : later d a ≤ʳ from) (wide : Stretch)
-    (cut : IsRunCutAt i d from wide live half) (anew : IsEndlessCutAt i a (lists_at new q).yes half left) (l' : Sets) (at_left : slice_get new p ≡ Some l')
+module _ {nodes : List Node} (formed : AreWellFormed nodes) {tr : Trace} {live half left old mid new : List Sets} {i p q a : ℕ}
+    (at : slice_get nodes i ≡ Some (Since p q a None)) {d from : Rational} (back : later d a ≤ʳ from) {wide : Stretch}
+    (cut : IsRunCutAt i d from wide live half) (anew : IsEndlessCutAt i a (lists_at new q).yes half left) {l' : Sets} (at_left : slice_get new p ≡ Some l')
     (is_wide : wide ≡ l'.no.bounds) (begins : (t : Rational) → Lies cut.was.no.bounds t → from ≤ʳ t) (h : IsAskedFrom p d old mid) (g : IsAskedFrom q d mid new)
-    (wl wr : Sets) (at_l : slice_get old p ≡ Some wl) (at_r : slice_get old q ≡ Some wr) (dec : IsDecisive d cut.was wl wr)
+    {wl wr : Sets} (at_l : slice_get old p ≡ Some wl) (at_r : slice_get old q ≡ Some wr) (dec : IsDecisive d cut.was wl wr)
     (st : NetStands nodes tr live old) where
   start_before : start tr <ʳ d
-  start_before = let m = dec.first in lt_of_le_of_lt (shown_begun nodes tr live old st p m.0 (is_shown old p wl m.0 at_l m.1)) m.2
+  start_before = let m = dec.first in lt_of_le_of_lt (shown_begun st p m.0 (is_shown old p wl m.0 at_l m.1)) m.2
 
   decides : (IsOn (lists_at old p).yes d × IsOn (lists_at old q).yes d) ⊎ IsOn (lists_at old p).no d
   decides = elim dec.decides [
@@ -157,8 +158,8 @@ module _ (nodes : List Node) (formed : AreWellFormed nodes) (tr : Trace) (live h
     record { after = le_of_lt start_before; begins = tt; ends = ends },
     still,
     elim decides [
-      | inl y ↦ inl ((still_on old new (two_less p q d old mid new h g) p d at_d.0).0 y.0, (still_on old new (two_less p q d old mid new h g) q d at_d.1).0 y.1)
-      | inr n ↦ inr ((still_on old new (two_less p q d old mid new h g) p d at_d.0).1 n)
+      | inl y ↦ inl ((still_on old new (two_less h g) p d at_d.0).0 y.0, (still_on old new (two_less h g) q d at_d.1).0 y.1)
+      | inr n ↦ inr ((still_on old new (two_less h g) p d at_d.0).1 n)
     ],
   )
     where
@@ -177,8 +178,8 @@ module _ (nodes : List Node) (formed : AreWellFormed nodes) (tr : Trace) (live h
       still : (v : Rational) → Within d t v → IsShown new p v × IsShown new q v
       still v n =
           let m = now_shown t dt k in (
-            both_shown p q d old mid new h g p v n.above (between_them p wl at_l dec.after_left m.0 v n.above n.below),
-            both_shown p q d old mid new h g q v n.above (between_them q wr at_r dec.after_right m.1 v n.above n.below),
+            both_shown h g p v n.above (between_them p wl at_l dec.after_left m.0 v n.above n.below),
+            both_shown h g q v n.above (between_them q wr at_r dec.after_right m.1 v n.above n.below),
           )
 
       at_d : IsShown new p d × IsShown new q d
@@ -212,17 +213,17 @@ module _ (nodes : List Node) (formed : AreWellFormed nodes) (tr : Trace) (live h
 
   -- and where one without a bound begins anew
   pub endless_stands : NetStands nodes tr left new
-  endless_stands = since_stands nodes formed tr live left old mid new i p q a None at d from back start_before wide cut.was anew.is
+  endless_stands = since_stands formed left i at back start_before
       cut.at_old anew.at_new (λ j n. anew.others j n ∙ cut.others j n) (anew.count ∙ cut.count)
       (anew.cut.yes ∙ subst (λ (s : Sets). s.yes ≡ cut.was.yes) same_half cut.cut.yes)
       (anew.cut.no ∙ subst (λ (s : Sets). s.no ≡ cut.was.no) same_half cut.cut.no)
       (tidy_anew anew.was.parts anew.is.parts anew.cut.parts
       (tidy_parts d from wide cut.was.parts anew.was.parts half_cut (st.tidy i cut.was cut.at_old).parts))
-      (endless_parts d from wide a (lists_at new q).yes cut.was.parts anew.was.parts anew.is.parts half_cut anew.cut.parts) l'
+      (endless_parts d from wide a (lists_at new q).yes cut.was.parts anew.was.parts anew.is.parts half_cut anew.cut.parts)
       at_left is_wide begins h g st looks_anew
 
 -- where the sets between of one node are cut, all are tidy still, and of those that see to the start the times lie within the bounds
-module _ (live half : List Sets) (i : ℕ) (d from : Rational) (wide : Stretch) (cut : IsRunCutAt i d from wide live half) where
+module _ {live half : List Sets} {i : ℕ} {d from : Rational} {wide : Stretch} (cut : IsRunCutAt i d from wide live half) where
   -- all sets are tidy still
   pub half_tidy : AllTidy live → AllTidy half
   half_tidy t j s e = elim (nat_is j i) [

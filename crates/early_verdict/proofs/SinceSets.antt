@@ -6,7 +6,8 @@ use Rattle.rational.proofs.Order.{le_refl, le_trans, le_of_lt, le_or_lt}
 use Rattle.rational.proofs.TimeLemmas.{later_le}
 use Rattle.stl_syntax.specs.Trace.{Trace, start}
 use Rattle.stl_syntax.specs.Early.{OpenBehind}
-use Rattle.early_verdict.specs.Cuts.{Place, place, After}
+use Rattle.rational.specs.Places.{Place, After}
+use Rattle.frac128.specs.Cuts.{place}
 use Rattle.early_verdict.specs.Spans.{Lies, IsOn, AreTidy}
 use Rattle.early_verdict.specs.Reaching.{GoesBackBy}
 use Rattle.early_verdict.specs.Readings.{OnlyBehind, SomeBehind, SinceHolds, SinceFails}

@@ -10,7 +10,8 @@ use Rattle.stl_syntax.specs.WellFormed.{AreWellFormed, HasBounds}
 use Rattle.stl_syntax.specs.declared.node.Node.{Node}
 use Rattle.stl_syntax.specs.declared.node.Node.TheVariants.{Const, Since}
 use Rattle.stl_syntax.proofs.PostOrderLemmas.{placed, slice_get_at}
-use Rattle.early_verdict.specs.Cuts.{place, Upto}
+use Rattle.rational.specs.Places.{Upto}
+use Rattle.frac128.specs.Cuts.{place}
 use Rattle.early_verdict.specs.Spans.{IsOn, Lies}
 use Rattle.early_verdict.specs.Readings.{SinceHolds, SinceFails}
 use Rattle.early_verdict.specs.Fitting.{Lists, lists_at, lists_of, ArePartsTidy, AreSetsTidy, HasFailBounds}
@@ -26,7 +27,7 @@ use Rattle.early_verdict.proofs.AllSets.{is_shown, lists_are, lists_tidy, sets_a
 use Rattle.early_verdict.proofs.Childhood.{child_below}
 use Rattle.early_verdict.proofs.LettingLemmas.{less_shown, still_on, two_less, two_others, two_shows}
 use Rattle.early_verdict.proofs.Narrowing.{lists_apart, live_by, one_stands, shown_begun, shown_inside}
-use Rattle.early_verdict.proofs.PlaceLemmas.{between}
+use Rattle.rational.proofs.PlaceLemmas.{between}
 use Rattle.early_verdict.proofs.Places.{get_within, same_sets}
 use Rattle.early_verdict.proofs.Settling.{SaysSince, reaches_along, says_since}
 use Rattle.early_verdict.proofs.SinceCuts.{IsBackCut, SeesAnew, SeesNone, failing_back, holding_back}
@@ -55,21 +56,21 @@ abbrev pub AreBackCut : Rational → Rational → Stretch → ℕ → Option ℕ
 AreBackCut d from wide a b ys old new = MatchOption old (new ≡ None) (λ x. MatchOption new ⊥ (IsBackCut d from wide a b ys x))
 
 -- the sets between lie within their bounds, and what fails within what the left operand shows
-module _ (nodes : List Node) (tr : Trace) (live old mid new : List Sets) (i p q a : ℕ) (b : Option ℕ)
-    (at : slice_get nodes i ≡ Some (Since p q a b)) (d : Rational)
-    (wide : Stretch) (l' : Sets) (at_left : slice_get new p ≡ Some l') (is_wide : wide ≡ l'.no.bounds)
+module _ {nodes : List Node} {tr : Trace} {live old mid new : List Sets} (i : ℕ) {p q a : ℕ} {b : Option ℕ}
+    (at : slice_get nodes i ≡ Some (Since p q a b)) {d : Rational}
+    {wide : Stretch} {l' : Sets} (at_left : slice_get new p ≡ Some l') (is_wide : wide ≡ l'.no.bounds)
     (h : IsAskedFrom p d old mid) (g : IsAskedFrom q d mid new)
-    (st : NetStands nodes tr live old) (s : Sets) (is : slice_get live i ≡ Some s) where
+    (st : NetStands nodes tr live old) {s : Sets} (is : slice_get live i ≡ Some s) where
   shown_here : (w : Sets) × (slice_get old i ≡ Some w)
   shown_here = sets_at old i (let e = get_within live i s is in let c = st.have.count in let f = st.have.shown_count in omega (arith, e, c, f))
 
   left_here : (l : Sets) × (slice_get old p ≡ Some l) × IsLess l l'
-  left_here = (two_less p q d old mid new h g).each p l' at_left
+  left_here = (two_less h g).each p l' at_left
 
   up_to : (z : Stretch) → z ≡ (left_here.0).no.bounds → (t : Rational) → Lies z t → Upto (place wide.to) t
   up_to z e t l =
       subst (λ (v : Stretch). Upto (place v.to) t) (sym is_wide)
-      ((two_shows p q d old mid new h g p left_here.0 l' (inl refl) left_here.1 at_left).ends t (subst (λ (v : Stretch). Upto (place v.to) t) e l.1))
+      ((two_shows h g p left_here.0 l' (inl refl) left_here.1 at_left).ends t (subst (λ (v : Stretch). Upto (place v.to) t) e l.1))
 
   -- the sets between lie within the bounds
   pub back_inside : ArePartsInside wide s
@@ -95,23 +96,24 @@ module _ (nodes : List Node) (tr : Trace) (live old mid new : List Sets) (i p q 
         },
       )
 
-module _ (nodes : List Node) (formed : AreWellFormed nodes) (tr : Trace) (live left old mid new : List Sets) (i p q a : ℕ) (b : Option ℕ)
-    (at : slice_get nodes i ≡ Some (Since p q a b)) (d from : Rational) (back : later d a ≤ʳ from)
-    (reach : MatchOption b (start tr <ʳ d) (λ k. later d k ≤ʳ from)) (wide : Stretch) (s r : Sets)
+module _ {nodes : List Node} (formed : AreWellFormed nodes) {tr : Trace} {live : List Sets} (left : List Sets)
+    {old mid new : List Sets} (i : ℕ) {p q a : ℕ} {b : Option ℕ}
+    (at : slice_get nodes i ≡ Some (Since p q a b)) {d from : Rational} (back : later d a ≤ʳ from)
+    (reach : MatchOption b (start tr <ʳ d) (λ k. later d k ≤ʳ from)) {wide : Stretch} {s r : Sets}
     (is : slice_get live i ≡ Some s) (ir : slice_get left i ≡ Some r)
     (same : (j : ℕ) → j ≢ i → slice_get left j ≡ slice_get live j) (count : length left ≡ length live) (same_yes : r.yes ≡ s.yes) (same_no : r.no ≡ s.no)
     (tidy_cut : MatchOption r.parts (Unit {0}) ArePartsTidy) (cut : AreBackCut d from wide a b (lists_at new q).yes s.parts r.parts)
-    (l' : Sets) (at_left : slice_get new p ≡ Some l') (is_wide : wide ≡ l'.no.bounds)
+    {l' : Sets} (at_left : slice_get new p ≡ Some l') (is_wide : wide ≡ l'.no.bounds)
     (begins : (t : Rational) → Lies s.no.bounds t → from ≤ʳ t) (h : IsAskedFrom p d old mid) (g : IsAskedFrom q d mid new) (st : NetStands nodes tr live old)
     (looks_new : (t : Rational) → from ≤ʳ t → LooksAlong (start tr) p q a b old t → LooksAlong (start tr) p q a b new t) where
   small : i < length nodes
   small = let e = get_within live i s is in let c = st.have.count in omega (arith, e, c)
 
   less : AreLess old new
-  less = two_less p q d old mid new h g
+  less = two_less h g
 
   shows_from : (n : ℕ) (w x : Sets) → IsChild n (Since p q a b) → slice_get old n ≡ Some w → slice_get new n ≡ Some x → ShowsFrom d w x
-  shows_from n w x c e f = two_shows p q d old mid new h g n w x c e f
+  shows_from n w x c e f = two_shows h g n w x c e f
 
   -- an operand shows from there on what it showed
   agree_from : (n : ℕ) → IsChild n (Since p q a b) → Agree d (lists_at old n) (lists_at new n)
@@ -119,7 +121,7 @@ module _ (nodes : List Node) (formed : AreWellFormed nodes) (tr : Trace) (live l
       let below = child_below i n (Since p q a b) (placed nodes i (Since p q a b) formed.post_order at) c in
       let x = sets_at new n (let e = small in let m = st.have.shown_count in let f = less.count in omega (arith, below, e, m, f)) in
       let w = less.each n x.0 x.1 in
-      by_sets w.0 x.0 w.1 x.1 w.2 (shows_from n w.0 x.0 c w.1 x.1) (shown_inside nodes tr live old st n w.0 w.1)
+      by_sets w.0 x.0 w.1 x.1 w.2 (shows_from n w.0 x.0 c w.1 x.1) (shown_inside st n w.0 w.1)
     where
       by_sets : (w x : Sets) → slice_get old n ≡ Some w → slice_get new n ≡ Some x → IsLess w x → ShowsFrom d w x → IsInside w
           → Agree d (lists_at old n) (lists_at new n)
@@ -202,17 +204,17 @@ module _ (nodes : List Node) (formed : AreWellFormed nodes) (tr : Trace) (live l
       let x = sets_at new n (yes_there new n u o) in
       let w = less.each n x.0 x.1 in
       is_shown new n x.0 u x.1
-      ((w.2.inside (shown_inside nodes tr live old st n w.0 w.1)).yes u (subst (λ (l : Lists). IsOn l.yes u) (lists_are new n x.0 x.1) o))
+      ((w.2.inside (shown_inside st n w.0 w.1)).yes u (subst (λ (l : Lists). IsOn l.yes u) (lists_are new n x.0 x.1) o))
 
   shown_no : (n : ℕ) (u : Rational) → IsOn (lists_at new n).no u → IsShown new n u
   shown_no n u o =
       let x = sets_at new n (no_there new n u o) in
       let w = less.each n x.0 x.1 in
       is_shown new n x.0 u x.1
-      ((w.2.inside (shown_inside nodes tr live old st n w.0 w.1)).no u (subst (λ (l : Lists). IsOn l.no u) (lists_are new n x.0 x.1) o))
+      ((w.2.inside (shown_inside st n w.0 w.1)).no u (subst (λ (l : Lists). IsOn l.no u) (lists_are new n x.0 x.1) o))
 
   begun_q : (u : Rational) → IsOn (lists_at new q).yes u → start tr ≤ʳ u
-  begun_q u o = shown_begun nodes tr live old st q u (less_shown old new less q u (shown_yes q u o))
+  begun_q u o = shown_begun st q u (less_shown old new less q u (shown_yes q u o))
 
   after_q : (u : Rational) → IsOn (lists_at new q).no u → d ≤ʳ u
   after_q u o = after_there q (inr refl) now_shown.1 u (shown_no q u o)
@@ -221,7 +223,7 @@ module _ (nodes : List Node) (formed : AreWellFormed nodes) (tr : Trace) (live l
   new_tidy n x e = let w = less.each n x e in w.2.tidy (st.shown_tidy n w.0 w.1)
 
   apart_new : (n : ℕ) → IsChild n (Since p q a b) → (u : Rational) → IsOn (lists_at new n).yes u → ¬ (IsOn (lists_at new n).no u)
-  apart_new n c u y m = lists_apart nodes tr live old st n u ((agree_from n c).yes_out u y) ((agree_from n c).no_out u m)
+  apart_new n c u y m = lists_apart st n u ((agree_from n c).yes_out u y) ((agree_from n c).no_out u m)
 
   looks_still : (t : Rational) → Lies was.own t → LooksAlong (start tr) p q a b new t
   looks_still t l = looks_new t (begun t l) (was.looks.0 t l)
@@ -268,7 +270,7 @@ module _ (nodes : List Node) (formed : AreWellFormed nodes) (tr : Trace) (live l
     | inr l ↦ elim e [
       | inr n ↦ inr (w, record { above = le_of_lt l; below = none_later w t a m.ends }, n)
       | inl g ↦ elim (f w m) [
-        | inl y ↦ absurd (lists_apart nodes tr live old st q w (Q.yes_out w g.1) y)
+        | inl y ↦ absurd (lists_apart st q w (Q.yes_out w g.1) y)
         | inr (v, i, y) ↦ inr (v, record { above = le_trans (le_of_lt l) i.above; below = i.below }, (still_on old new less p v (k v i).0).1 y)
       ]
     ]
@@ -352,16 +354,16 @@ module _ (nodes : List Node) (formed : AreWellFormed nodes) (tr : Trace) (live l
 
         before : (t : Rational) → Lies was.own t → SaysSince tr a b (lists_at old p) (lists_at old q) x t
         before t l =
-            says_since tr a b (lists_at old p) (lists_at old q) x n f tidy_x (lists_tidy old st.shown_tidy q).1 t (m.some t l) (m.never t l)
-            (λ w i. lists_apart nodes tr live old st p w) (λ w i. lists_apart nodes tr live old st q w)
-            (reaches_along tr was.own a b p q old (lists_at old p) (lists_at old q) refl refl x m t l (was.looks.0 t l))
+            says_since x n f tidy_x (lists_tidy old st.shown_tidy q).1 t (m.some t l) (m.never t l)
+            (λ w i. lists_apart st p w) (λ w i. lists_apart st q w)
+            (reaches_along tr a q refl refl m t l (was.looks.0 t l))
 
         after : (t : Rational) → Lies was.own t → SaysSince tr a b (lists_at new p) (lists_at new q) z t
         after t l =
-            says_since tr a b (lists_at new p) (lists_at new q) z holding failing tidy_z (lists_tidy new new_tidy q).1 t
+            says_since z holding failing tidy_z (lists_tidy new new_tidy q).1 t
             (reach_cut.some t l) (reach_cut.never t l)
             (λ w i. apart_new p (inl refl) w) (λ w i. apart_new q (inr refl) w)
-            (reaches_along tr was.own a b p q new (lists_at new p) (lists_at new q) refl refl z reach_cut t l (looks_still t l))
+            (reaches_along tr a q refl refl reach_cut t l (looks_still t l))
 
   -- of both or of none
   by_parts : (R : Parts → Type 0) (S : Parts → Type 0) → ((x y : Parts) → IsBackCut d from wide a b (lists_at new q).yes x y
@@ -398,7 +400,7 @@ module _ (nodes : List Node) (formed : AreWellFormed nodes) (tr : Trace) (live l
 
   mine : (w x : Sets) → slice_get old i ≡ Some w → slice_get new i ≡ Some x → IsLess w x → IsLive (start tr) new (Since p q a b) r x
   mine w x e f fewer =
-      live_by nodes formed tr live left old new i (Since p q a b) at s r is ir same count less (two_others p q d old mid new h g) st
+      live_by formed left i at is ir same count less (two_others h g) st
       (Since p q a b) s r own_shown.0 x same_yes same_no (subst (λ z. IsLess z x) (same_sets w own_shown.0 (sym e ∙ own_shown.1)) fewer) was
       (looks_still, reach_parts) (is_some, still_within)
 
@@ -418,5 +420,4 @@ module _ (nodes : List Node) (formed : AreWellFormed nodes) (tr : Trace) (live l
 
   -- all stands where a since and its operands let go
   pub since_stands : NetStands nodes tr left new
-  since_stands = one_stands nodes formed tr live left old new i (Since p q a b) at s r is ir same count less
-      (two_others p q d old mid new h g) st mine fits tidy
+  since_stands = one_stands formed left i at is ir same count less (two_others h g) st mine fits tidy

@@ -23,11 +23,12 @@ use Rattle.std.proofs.Common.{
 }
 use Rattle.std.specs.Prelude.{slice_get}
 use Rattle.rational.specs.Time.{Rational}
-use Rattle.early_verdict.specs.Cuts.{Place, place, After, Upto, Before}
+use Rattle.rational.specs.Places.{Place, After, Upto, Before}
+use Rattle.frac128.specs.Cuts.{place}
 use Rattle.early_verdict.specs.Spans.{Lies, IsOn, BeginsAfter, AreTidy, EndBefore, NoneEndsBefore}
 use Rattle.early_verdict.specs.declared.stretch.Stretch.{Stretch}
 use Rattle.early_verdict.proofs.StretchLemmas.{rises}
-use Rattle.early_verdict.proofs.PlaceLemmas.{before_trans, after_of_before, upto_of_before}
+use Rattle.rational.proofs.PlaceLemmas.{before_trans, after_of_before, upto_of_before}
 
 -- the list without what stands at the place; with a stretch put in there
 abbrev pub without : List Stretch → ℕ → List Stretch

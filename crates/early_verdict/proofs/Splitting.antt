@@ -1,5 +1,6 @@
 -- A list of sets that is split at a place, and what is put there.
-use Rattle.std.proofs.Common.{◌≡◌, refl, sym, ap, subst, ◌∙◌, ℕ, zero, suc, ◌<◌, Some, List, [], ◌∷◌, ◌++◌, length, take, drop, Result, Ok, Err, OnOk, arith}
+use Rattle.std.proofs.Common.{◌≡◌, ◌≢◌, refl, sym, ap, subst, ◌∙◌, ℕ, zero, suc, ◌<◌, Some, List}
+use Rattle.std.proofs.Common.{[], ◌∷◌, ◌++◌, length, take, drop, Result, Ok, Err, OnOk, arith}
 use Rattle.std.specs.Prelude.{slice_get, slice_set, slice_index_or}
 use Rattle.early_verdict.specs.Fitting.{HasStepped}
 use Rattle.early_verdict.specs.Standing.{AllTidy, StepsAt}
@@ -28,16 +29,45 @@ pub joined_is : (sets front back : List Sets) (i : ℕ) (own : Sets) → front �
 joined_is sets front back i own e f h =
     ap (λ xs. xs ++ slice_set back 0 own) e ∙ ap (λ xs. take i sets ++ slice_set xs 0 own) f ∙ put_joined sets i own h
 
+-- a list of sets that is split before a place: those in front of it, and those from it on
+pub record IsSplit (sets : List Sets) (i : ℕ) (front back : List Sets) : Type 0 where
+  -- those in front are the first of the list
+  pub front_is : front ≡ take i sets
+  -- and those from the place on the others
+  pub back_is : back ≡ drop i sets
+  -- there is one at the place
+  pub within : i < length sets
+
+module _ {sets front back : List Sets} {i : ℕ} (p : IsSplit sets i front back) where
+  -- the first of the back stands at the place
+  pub old_there : (d : Sets) → slice_get sets i ≡ Some (slice_index_or back 0 d)
+  old_there d = at_split sets back i d p.back_is p.within
+
+  joined : (own : Sets) → front ++ slice_set back 0 own ≡ put sets i own
+  joined own = joined_is sets front back i own p.front_is p.back_is p.within
+
+  -- what is put there stands there once both parts are joined
+  pub new_there : (own : Sets) → slice_get (front ++ slice_set back 0 own) i ≡ Some own
+  new_there own = subst (λ xs. slice_get xs i ≡ Some own) (sym (joined own)) (put_here sets i own p.within)
+
+  -- the other places have what they had
+  pub others_there : (own : Sets) (j : ℕ) → j ≢ i → slice_get (front ++ slice_set back 0 own) j ≡ slice_get sets j
+  others_there own j n = subst (λ xs. slice_get xs j ≡ slice_get sets j) (sym (joined own)) (put_there sets i j own n)
+
+  -- and there are as many
+  pub count_there : (own : Sets) → length (front ++ slice_set back 0 own) ≡ length sets
+  count_there own = subst (λ xs. length xs ≡ length sets) (sym (joined own)) (put_count sets i own)
+
 -- one place stepped
-abbrev pub steps_at : (sets front back : List Sets) (i : ℕ) (d own : Sets) → front ≡ take i sets → back ≡ drop i sets → i < length sets
+abbrev pub steps_at : {sets front back : List Sets} {i : ℕ} (d own : Sets) → IsSplit sets i front back
     → HasStepped (slice_index_or back 0 d) own → StepsAt i sets (front ++ slice_set back 0 own)
-steps_at sets front back i d own e f h step = record {
+steps_at {back = back} d own p step = record {
   was = slice_index_or back 0 d;
   is = own;
-  at_old = at_split sets back i d f h;
-  at_new = subst (λ xs. slice_get xs i ≡ Some own) (sym (joined_is sets front back i own e f h)) (put_here sets i own h);
-  others = λ j n. subst (λ xs. slice_get xs j ≡ slice_get sets j) (sym (joined_is sets front back i own e f h)) (put_there sets i j own n);
-  count = subst (λ xs. length xs ≡ length sets) (sym (joined_is sets front back i own e f h)) (put_count sets i own);
+  at_old = old_there p d;
+  at_new = new_there p own;
+  others = others_there p own;
+  count = count_there p own;
   stepped = step;
 }
 

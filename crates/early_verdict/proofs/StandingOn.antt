@@ -65,13 +65,36 @@ decided_on nodes header (r ∷ rows) x begin live shown verdict some (e, s) v =
 abbrev pub decided_now : ℕ → Option Bool → Option Decided
 decided_now t verdict = option_map (λ holds. record { at = t; holds = holds }) verdict
 
-module _ (x : Kept) (rows : List Row) (st : Stands x rows false) (none : x.decided ≡ None) (r : Row) (width : length r.values ≡ x.bound.width)
-    (later : IfSome x.last (λ q. q.time < r.time)) (begin : ℕ) (live shown left left_shown : List Sets)
-    (are : SetsAre x.nodes x.header begin live shown (rows ++ r ∷ []))
-    (verdict : Option Bool) (v : IsVerdict shown begin verdict)
-    (let_go : decided_now r.time verdict ≡ None → SetsAre x.nodes x.header begin left left_shown (rows ++ r ∷ [])) where
+-- what is kept with a row
+abbrev pub with_row : Kept → Row → ℕ → List Sets → List Sets → Option Bool → Kept
+with_row x r begin left left_shown verdict =
+    record x { live = left; shown = left_shown; begin = begin; last = Some r; decided = decided_now r.time verdict }
+
+-- a row is taken while nothing is decided: `verdict` is what the sets say then, `left` and `left_shown` are what is kept of them
+pub record IsTaken (x : Kept) (rows : List Row) (r : Row) (begin : ℕ) (left left_shown : List Sets) (verdict : Option Bool) : Type 0 where
+  -- it stood for the rows before
+  pub stood : Stands x rows false
+  -- and had decided nothing
+  pub undecided : x.decided ≡ None
+  -- the row has the columns of the atoms
+  pub width : length r.values ≡ x.bound.width
+  -- and is later than the last
+  pub later : IfSome x.last (λ q. q.time < r.time)
+  -- what the nodes go on from after the row
+  pub live : List Sets
+  -- and what they show
+  pub shown : List Sets
+  -- the sets tell what the rows with it settle
+  pub are : SetsAre x.nodes x.header begin live shown (rows ++ r ∷ [])
+  -- they say this of the start
+  pub says : IsVerdict shown begin verdict
+  -- what is kept of them tells the same as long as nothing is decided
+  pub kept : decided_now r.time verdict ≡ None → SetsAre x.nodes x.header begin left left_shown (rows ++ r ∷ [])
+
+module _ {x : Kept} {rows : List Row} {r : Row} {begin : ℕ} {left left_shown : List Sets} {verdict : Option Bool}
+    (t : IsTaken x rows r begin left left_shown verdict) where
   none_yet : NoneDecides (root x.nodes) x.header rows
-  none_yet = by_none x.decided none st.by
+  none_yet = by_none x.decided t.undecided t.stood.by
     where
       by_none : (d : Option Decided) → d ≡ None
           → MatchOption d (NoneDecides (root x.nodes) x.header rows × (x.ended ≡ false → SetsAre x.nodes x.header x.begin x.live x.shown rows))
@@ -80,54 +103,51 @@ module _ (x : Kept) (rows : List Row) (st : Stands x rows false) (none : x.decid
       by_none None n h = h.0
       by_none (Some d) n h = absurd (let f : Some d ≡ None = n in cc)
 
-  -- what is kept with the row
-  abbrev pub with_row : Kept
-  with_row = record x { live = left; shown = left_shown; begin = begin; last = Some r; decided = decided_now r.time verdict }
+  -- what the sets say of the start, the rows decide
+  decides : (o : Option Bool) → IsVerdict t.shown begin o
+      → MatchOption o ((b : Bool) → Decides (root x.nodes) (trace_of x.header (rows ++ r ∷ [])) b → ⊥)
+      (λ b. Decides (root x.nodes) (trace_of x.header (rows ++ r ∷ [])) b)
+  decides o u = decided_on x.nodes x.header rows r begin t.live t.shown o t.stood.some t.are u
 
-  stands_by : StandsBy with_row (rows ++ r ∷ [])
-  stands_by = by_verdict verdict v let_go
+  stands_by : StandsBy (with_row x r begin left left_shown verdict) (rows ++ r ∷ [])
+  stands_by = by_verdict verdict t.says t.kept
     where
-      by_verdict : (o : Option Bool) → IsVerdict shown begin o → (decided_now r.time o ≡ None → SetsAre x.nodes x.header begin left left_shown (rows ++ r ∷ []))
+      by_verdict : (o : Option Bool) → IsVerdict t.shown begin o
+          → (decided_now r.time o ≡ None → SetsAre x.nodes x.header begin left left_shown (rows ++ r ∷ []))
           → MatchOption (decided_now r.time o)
           (NoneDecides (root x.nodes) x.header (rows ++ r ∷ []) × (x.ended ≡ false → SetsAre x.nodes x.header begin left left_shown (rows ++ r ∷ [])))
           (WasDecided (root x.nodes) x.header (rows ++ r ∷ []))
-      by_verdict None u g = (
-        none_more (root x.nodes) x.header rows r none_yet (decided_on x.nodes x.header rows r begin live shown None st.some are u),
-        λ o. g refl,
-      )
+      by_verdict None u g = (none_more (root x.nodes) x.header rows r none_yet (decides None u), λ o. g refl)
       by_verdict (Some holds) u g = record {
         before = rows;
         row = r;
         after = [];
         among = refl;
         at = refl;
-        first = record { decides = decided_on x.nodes x.header rows r begin live shown (Some holds) st.some are u; not_before = none_yet };
+        first = record { decides = decides (Some holds) u; not_before = none_yet };
       }
 
   -- after a row it stands for the rows with it
-  pub fed_stands : Stands with_row (rows ++ r ∷ []) false
+  pub fed_stands : Stands (with_row x r begin left left_shown verdict) (rows ++ r ∷ []) false
   fed_stands = record {
-    formed = st.formed;
-    some = st.some;
-    scale = st.scale;
-    bound = st.bound;
-    so_far = rows_on (length x.header.columns) rows x.last r st.so_far st.last later (width ∙ st.bound.width);
-    running = st.running;
-    is_ended = st.is_ended;
+    formed = t.stood.formed;
+    some = t.stood.some;
+    scale = t.stood.scale;
+    bound = t.stood.bound;
+    so_far = rows_on (length x.header.columns) rows x.last r t.stood.so_far t.stood.last t.later (t.width ∙ t.stood.bound.width);
+    running = t.stood.running;
+    is_ended = t.stood.is_ended;
     last = last_on rows r;
     by = stands_by;
   }
 
   -- what is answered at a row is what the row decides
   pub fed_answer : IsAnswer (root x.nodes) x.header rows r (decided_now r.time verdict)
-  fed_answer = by_verdict verdict v
+  fed_answer = by_verdict verdict t.says
     where
-      by_verdict : (o : Option Bool) → IsVerdict shown begin o → IsAnswer (root x.nodes) x.header rows r (decided_now r.time o)
-      by_verdict None u = λ b f. decided_on x.nodes x.header rows r begin live shown None st.some are u b f.decides
-      by_verdict (Some holds) u = (
-        refl,
-        record { decides = decided_on x.nodes x.header rows r begin live shown (Some holds) st.some are u; not_before = none_yet },
-      )
+      by_verdict : (o : Option Bool) → IsVerdict t.shown begin o → IsAnswer (root x.nodes) x.header rows r (decided_now r.time o)
+      by_verdict None u = λ b f. decides None u b f.decides
+      by_verdict (Some holds) u = (refl, record { decides = decides (Some holds) u; not_before = none_yet })
 
 -- a row after one that has decided
 module _ (x : Kept) (rows : List Row) (st : Stands x rows false) (d : Decided) (is : x.decided ≡ Some d) where

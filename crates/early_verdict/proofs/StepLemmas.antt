@@ -1,4 +1,4 @@
--- What a set gained in one event, and what it tells then.
+-- What a set gained in one entry, and what it tells then.
 use Rattle.std.proofs.Common.{◌≡◌, ◌⊎◌, inl, inr, refl, sym, subst, ◌∙◌, List, [], ◌++◌}
 use Rattle.rational.specs.Time.{Rational}
 use Rattle.early_verdict.specs.Spans.{IsOn, Grows}
@@ -8,9 +8,9 @@ use Rattle.early_verdict.specs.declared.grown.Grown.{Grown}
 use Rattle.early_verdict.proofs.LoopLemmas.{grows_then}
 
 -- where nothing was told before, what is told is what was gained
-pub gains_of : (bounds : Stretch) (old new told fresh : List Stretch) (P : Rational → Type 0) → told ≡ []
+pub gains_of : {bounds : Stretch} {old new told fresh : List Stretch} {P : Rational → Type 0} → told ≡ []
     → Grows bounds old new told fresh P → Gains old new fresh
-gains_of bounds old new told fresh P none g = record {
+gains_of {fresh = fresh} none g = record {
   kept = g.keeps;
   gained = λ t n. elim (g.gained t n) [ inl o ↦ inl o | inr m ↦ inr (subst (λ xs. IsOn xs t) (sym all) m) ];
   own = λ t m. (g.news t (subst (λ xs. IsOn xs t) all m)).0;
@@ -19,19 +19,16 @@ gains_of bounds old new told fresh P none g = record {
     all : fresh ≡ g.more
     all = g.noted ∙ subst (λ xs. xs ++ g.more ≡ g.more) (sym none) refl
 
--- both steps of an event
-pub gains_both : (bounds bounds' : Stretch) (old mid new told some fresh : List Stretch) (P Q : Rational → Type 0) → bounds' ≡ bounds → told ≡ []
-    → Grows bounds old mid told some P → Grows bounds' mid new some fresh Q → Gains old new fresh
-gains_both bounds bounds' old mid new told some fresh P Q is none f g =
-    gains_of bounds old new told fresh (λ t. P t ⊎ Q t) none
-    (grows_then bounds old mid new told some fresh P Q (λ t. P t ⊎ Q t) (λ t h. h) (λ t h. h) f
-    (subst (λ b. Grows b mid new some fresh Q) is g))
+-- both steps of an entry
+pub gains_both : {bounds : Stretch} {old mid new told some fresh : List Stretch} {P Q : Rational → Type 0} → told ≡ []
+    → Grows bounds old mid told some P → Grows bounds mid new some fresh Q → Gains old new fresh
+gains_both {P = P} {Q = Q} none f g = gains_of none (grows_then {R = λ t. P t ⊎ Q t} (λ t h. h) (λ t h. h) f g)
 
--- two steps of an event are one
-pub grown_then : (own mid new : Grown) (told : List Stretch) (P Q : Rational → Type 0) → mid.bounds ≡ own.bounds
+-- two steps of an entry are one
+pub grown_then : {told : List Stretch} {P Q : Rational → Type 0} (own mid new : Grown) → mid.bounds ≡ own.bounds
     → Grows own.bounds own.spans.items mid.spans.items told mid.fresh.items P
     → Grows mid.bounds mid.spans.items new.spans.items mid.fresh.items new.fresh.items Q
     → Grows own.bounds own.spans.items new.spans.items told new.fresh.items (λ t. P t ⊎ Q t)
-grown_then own mid new told P Q is f g =
-    grows_then own.bounds own.spans.items mid.spans.items new.spans.items told mid.fresh.items new.fresh.items P Q (λ t. P t ⊎ Q t) (λ t h. h) (λ t h. h) f
+grown_then {Q = Q} own mid new is f g =
+    grows_then (λ t h. h) (λ t h. h) f
     (subst (λ b. Grows b mid.spans.items new.spans.items mid.fresh.items new.fresh.items Q) is g)

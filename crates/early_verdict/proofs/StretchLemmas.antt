@@ -3,7 +3,8 @@ use Rattle.std.proofs.Common.{◌≡◌, inl, inr, refl, Bool, true, false, not,
 use Rattle.rational.specs.Time.{HasTimeBetween}
 use Rattle.rational.proofs.Order.{lt_or_same_or_gt, not_lt_of_le, le_of_same}
 use Rattle.rational.proofs.TimeLemmas.{precedes_of_room, room_of_precedes, precedes_of_lt}
-use Rattle.early_verdict.specs.Cuts.{Place, place, Before}
+use Rattle.rational.specs.Places.{Place, Before}
+use Rattle.frac128.specs.Cuts.{place}
 use Rattle.early_verdict.specs.declared.stretch.Stretch.{Stretch}
 
 -- between two places there is room exactly where the one comes before the other

@@ -1,22 +1,22 @@
 -- A set of the times whose windows see a sure time goes on to tell so.
 use Rattle.std.proofs.Common.{◌⊎◌, inl, inr, List}
 use Rattle.rational.specs.Time.{Rational}
-use Rattle.early_verdict.specs.Cuts.{Place, AtMost}
+use Rattle.rational.specs.Places.{Place, AtMost}
 use Rattle.early_verdict.specs.Spans.{Lies, IsOn, Grows}
 use Rattle.early_verdict.specs.Steps.{BySome, Tells, Gains}
 use Rattle.early_verdict.specs.Sure.{SeesWithin, SeesUpto, SeesItself, SeesSure}
 use Rattle.early_verdict.specs.declared.stretch.Stretch.{Stretch}
 use Rattle.early_verdict.specs.declared.window.Window.{Window}
-use Rattle.early_verdict.proofs.PlaceLemmas.{sides}
+use Rattle.rational.proofs.PlaceLemmas.{sides}
 use Rattle.early_verdict.proofs.RunLemmas.{one_of, on_one}
 use Rattle.early_verdict.proofs.SetLaws.{some_by, by_some}
 
--- what an event adds to it: for what the input gained, as far as that was sure before; for all that became sure; and what the input gained itself
+-- what an entry adds to it: for what the input gained, as far as that was sure before; for all that became sure; and what the input gained itself
 abbrev pub BecomesSure : Window → Place → Place → List Stretch → List Stretch → Rational → Type 0
 BecomesSure w before sure spans fresh t =
     (BySome (SeesUpto w before) fresh t ⊎ BySome (SeesWithin w before sure) spans t) ⊎ SeesItself w fresh t
 
-module _ (w : Window) (before sure : Place) (bounds : Stretch) (old new told fresh x x' fx : List Stretch) where
+module _ (w : Window) (before sure : Place) {bounds : Stretch} {old new told fresh x x' fx : List Stretch} where
   -- with what becomes sure the set tells which windows see a sure time
   pub sure_tells : AtMost before sure → Gains x x' fx → Tells bounds old (SeesSure w before x)
       → Grows bounds old new told fresh (BecomesSure w before sure x' fx) → Tells bounds new (SeesSure w sure x')

@@ -46,7 +46,7 @@ had_yes old tr l s h = by_first old h.first
     by_first None e = λ t o. subst (λ (m : Lists). IsOn m.yes t) e o
     by_first (Some o) e = tt
 
--- before the first event a list had no time
+-- before the first entry a list had no time
 pub had_no : (old : Option Trace) (tr : Trace) (l : Lists) (s : Sets) → Had old tr l s → MatchOption old ((t : Rational) → IsOn l.no t → ⊥) (λ o. Unit {0})
 had_no old tr l s h = by_first old h.first
   where

@@ -5,13 +5,14 @@ use Rattle.rational.specs.Rational.{Rational, ◌≤ʳ◌, ◌<ʳ◌, ◌≈◌,
 use Rattle.rational.proofs.Order.{lt_or_same_or_gt, le_or_lt, le_trans, le_of_same, ge_of_same, same_of_le, not_lt_of_le}
 use Rattle.rational.proofs.Field.{add_zero}
 use Rattle.rational.proofs.Shift.{le_whole}
-use Rattle.early_verdict.specs.Cuts.{Place, place, After, Upto, Before, Same}
+use Rattle.rational.specs.Places.{Place, After, Upto, Before, Same}
+use Rattle.frac128.specs.Cuts.{place}
 use Rattle.early_verdict.specs.Spans.{Lies}
 use Rattle.early_verdict.specs.Windows.{low_place, high_place}
 use Rattle.early_verdict.specs.Steps.{HoldsFrom}
 use Rattle.early_verdict.specs.declared.stretch.Stretch.{Stretch}
 use Rattle.early_verdict.specs.declared.window.Window.{Window}
-use Rattle.early_verdict.proofs.PlaceLemmas.{sides, not_both, between, before_through, same_before, same_places}
+use Rattle.rational.proofs.PlaceLemmas.{sides, not_both, between, before_through, same_before, same_places}
 use Rattle.early_verdict.proofs.RunLemmas.{upto_le, after_le}
 use Rattle.early_verdict.proofs.WindowLemmas.{room_in, room_out}
 

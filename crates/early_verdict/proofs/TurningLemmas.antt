@@ -7,13 +7,14 @@ use Rattle.rational.proofs.Order.{le_of_lt, lt_or_same_or_gt, le_of_same, ge_of_
 use Rattle.stl_syntax.specs.Trace.{Row, Trace, row_time}
 use Rattle.stl_syntax.specs.Truth.{holds_at}
 use Rattle.stl_syntax.specs.declared.atom.Atom.{Atom}
-use Rattle.early_verdict.specs.Cuts.{Place, place, After, Upto, Same, AtMost}
+use Rattle.rational.specs.Places.{Place, After, Upto, Same, AtMost}
+use Rattle.frac128.specs.Cuts.{place}
 use Rattle.early_verdict.specs.Adding.{AddsOnce, HasAdded, HasGrown, Piece, Turns, BetweenRows, before_row, after_row}
 use Rattle.early_verdict.specs.Fitting.{AreSetsTidy}
 use Rattle.early_verdict.specs.declared.atoms.Pending.{Pending}
-use Rattle.early_verdict.specs.declared.cut.Cut.{Cut}
+use Rattle.frac128.specs.declared.cut.Cut.{Cut}
 use Rattle.early_verdict.specs.declared.sets.Sets.{Sets}
-use Rattle.early_verdict.proofs.PlaceLemmas.{sides, not_both, upto_same, after_same, same_places}
+use Rattle.rational.proofs.PlaceLemmas.{sides, not_both, upto_same, after_same, same_places}
 use Rattle.early_verdict.proofs.MakingLemmas.{after_from}
 use Rattle.early_verdict.proofs.AtomSets.{added_alike, added_then, grown_none, grown_of}
 

@@ -5,7 +5,7 @@ use Rattle.rational.proofs.Order.{le_refl, le_trans, le_of_lt, le_or_lt, same_of
 use Rattle.rational.proofs.TimeLemmas.{later_from, later_more}
 use Rattle.stl_syntax.specs.Trace.{Trace, start, stop}
 use Rattle.stl_syntax.specs.Early.{OpenAhead, IsSure}
-use Rattle.early_verdict.specs.Cuts.{Place, Upto}
+use Rattle.rational.specs.Places.{Place, Upto}
 use Rattle.early_verdict.specs.Spans.{Lies, IsOn, AreTidy}
 use Rattle.early_verdict.specs.Steps.{Tells}
 use Rattle.early_verdict.specs.Reaching.{GoesOn}

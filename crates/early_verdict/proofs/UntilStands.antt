@@ -9,7 +9,8 @@ use Rattle.stl_syntax.specs.WellFormed.{AreWellFormed}
 use Rattle.stl_syntax.specs.declared.node.Node.{Node}
 use Rattle.stl_syntax.specs.declared.node.Node.TheVariants.{Until}
 use Rattle.stl_syntax.proofs.PostOrderLemmas.{placed}
-use Rattle.early_verdict.specs.Cuts.{place, Upto}
+use Rattle.rational.specs.Places.{Upto}
+use Rattle.frac128.specs.Cuts.{place}
 use Rattle.early_verdict.specs.Spans.{IsOn, Lies}
 use Rattle.early_verdict.specs.Steps.{Tells}
 use Rattle.early_verdict.specs.Fitting.{Lists, lists_at, lists_of, ArePartsTidy, AreSetsTidy, HasFailBounds}
@@ -24,17 +25,17 @@ use Rattle.early_verdict.specs.declared.sets.Parts.{Parts}
 use Rattle.early_verdict.proofs.AllSets.{lists_are, sets_at}
 use Rattle.early_verdict.proofs.Childhood.{child_below}
 use Rattle.early_verdict.proofs.Narrowing.{live_by, one_stands, shown_begun, shown_inside}
-use Rattle.early_verdict.proofs.PlaceLemmas.{between}
+use Rattle.rational.proofs.PlaceLemmas.{between}
 use Rattle.early_verdict.proofs.Places.{get_within, same_sets}
 use Rattle.early_verdict.proofs.StretchLemmas.{rises}
 use Rattle.early_verdict.proofs.UntilCuts.{Agree, broken_in, each_in, failing_cut, holding_cut, never_in, some_in}
 
 -- the sets between lie within their bounds, and what fails within what the left operand shows
-module _ (nodes : List Node) (tr : Trace) (live old new : List Sets) (i p q a b : ℕ)
-    (at : slice_get nodes i ≡ Some (Until p q a b)) (from : Rational) (wide : Stretch)
-    (l' : Sets) (at_left : slice_get new p ≡ Some l') (is_wide : wide ≡ l'.no.bounds)
+module _ {nodes : List Node} {tr : Trace} {live old new : List Sets} (i : ℕ) {p q a b : ℕ}
+    (at : slice_get nodes i ≡ Some (Until p q a b)) {from : Rational} {wide : Stretch}
+    {l' : Sets} (at_left : slice_get new p ≡ Some l') (is_wide : wide ≡ l'.no.bounds)
     (asked : AreAskedBy (Until p q a b) from old new) (st : NetStands nodes tr live old)
-    (s : Sets) (is : slice_get live i ≡ Some s) where
+    {s : Sets} (is : slice_get live i ≡ Some s) where
   shown_here : (w : Sets) × (slice_get old i ≡ Some w)
   shown_here = sets_at old i (let e = get_within live i s is in let c = st.have.count in let d = st.have.shown_count in omega (arith, e, c, d))
 
@@ -72,9 +73,9 @@ module _ (nodes : List Node) (tr : Trace) (live old new : List Sets) (i p q a b 
         },
       )
 
-module _ (nodes : List Node) (formed : AreWellFormed nodes) (tr : Trace) (live left old new : List Sets) (i p q a b : ℕ)
+module _ {nodes : List Node} (formed : AreWellFormed nodes) {tr : Trace} {live left old new : List Sets} {i p q a b : ℕ}
     (at : slice_get nodes i ≡ Some (Until p q a b))
-    (from : Rational) (wide : Stretch) (cut : IsRunCutAt i from from wide live left) (l' : Sets)
+    {from : Rational} {wide : Stretch} (cut : IsRunCutAt i from from wide live left) {l' : Sets}
     (at_left : slice_get new p ≡ Some l') (is_wide : wide ≡ l'.no.bounds)
     (begins : (t : Rational) → Lies cut.was.no.bounds t → from ≤ʳ t) (asked : AreAskedBy (Until p q a b) from old new) (st : NetStands nodes tr live old) where
   small : i < length nodes
@@ -86,7 +87,7 @@ module _ (nodes : List Node) (formed : AreWellFormed nodes) (tr : Trace) (live l
       let below = child_below i r (Until p q a b) (placed nodes i (Until p q a b) formed.post_order at) c in
       let x = sets_at new r (let e = small in let d = st.have.shown_count in let f = asked.less.count in omega (arith, below, e, d, f)) in
       let w = asked.less.each r x.0 x.1 in
-      by_sets w.0 x.0 w.1 x.1 w.2 (asked.cut tt r w.0 x.0 c w.1 x.1) (shown_inside nodes tr live old st r w.0 w.1)
+      by_sets w.0 x.0 w.1 x.1 w.2 (asked.cut tt r w.0 x.0 c w.1 x.1) (shown_inside st r w.0 w.1)
     where
       by_sets : (w x : Sets) → slice_get old r ≡ Some w → slice_get new r ≡ Some x → IsLess w x → ShowsFrom from w x → IsInside w
           → Agree from (lists_at old r) (lists_at new r)
@@ -242,10 +243,9 @@ module _ (nodes : List Node) (formed : AreWellFormed nodes) (tr : Trace) (live l
 
   mine : (w x : Sets) → slice_get old i ≡ Some w → slice_get new i ≡ Some x → IsLess w x → IsLive (start tr) new (Until p q a b) cut.is x
   mine w x e f less =
-      live_by nodes formed tr live left old new i
-      (Until p q a b) at cut.was cut.is cut.at_old cut.at_new cut.others cut.count asked.less asked.others st (Until p q a b)
+      live_by formed left i at cut.at_old cut.at_new cut.others cut.count asked.less asked.others st (Until p q a b)
       cut.was cut.is own_shown.0 x cut.cut.yes cut.cut.no (subst (λ z. IsLess z x) (same_sets w own_shown.0 (sym e ∙ own_shown.1)) less) was
-      ((asked.looks (start tr) was.own cut.was.parts (shown_begun nodes tr live old st) begun was.looks).0, reach_parts) (is_some, still_fails)
+      ((asked.looks (start tr) was.own cut.was.parts (shown_begun st) begun was.looks).0, reach_parts) (is_some, still_fails)
 
   fits : UntilFits false tr a b (lists_at new p) (lists_at new q) cut.is
   fits = by_parts
@@ -268,5 +268,4 @@ module _ (nodes : List Node) (formed : AreWellFormed nodes) (tr : Trace) (live l
 
   -- all stands where an until lets go
   pub until_stands : NetStands nodes tr left new
-  until_stands = one_stands nodes formed tr live left old new i
-      (Until p q a b) at cut.was cut.is cut.at_old cut.at_new cut.others cut.count asked.less asked.others st mine fits tidy
+  until_stands = one_stands formed left i at cut.at_old cut.at_new cut.others cut.count asked.less asked.others st mine fits tidy

@@ -23,11 +23,12 @@ use Rattle.rational.proofs.Order.{
 }
 use Rattle.rational.proofs.Shift.{lt_shift, same_shift, shift_back}
 use Rattle.rational.proofs.Mixed.{parts, fits_of_within, within_add, within_whole}
-use Rattle.early_verdict.specs.Cuts.{Place, place, After, Upto, Before, moved_begin, moved_end}
+use Rattle.rational.specs.Places.{Place, After, Upto, Before, moved_begin, moved_end}
+use Rattle.frac128.specs.Cuts.{place}
 use Rattle.early_verdict.specs.Windows.{SeesPart, low_place, high_place}
 use Rattle.early_verdict.specs.declared.stretch.Stretch.{Stretch}
 use Rattle.early_verdict.specs.declared.window.Window.{Window}
-use Rattle.early_verdict.proofs.PlaceLemmas.{share, before_through, between, place_order, upto_of_before, upto_same}
+use Rattle.rational.proofs.PlaceLemmas.{share, before_through, between, place_order, upto_of_before, upto_same}
 use Rattle.early_verdict.proofs.StretchLemmas.{rises}
 
 -- a bound fits

@@ -6,7 +6,7 @@ use Rattle.rational.specs.Time.{Rational, ◌≤ʳ◌, ◌<ʳ◌, later, add, wh
 use Rattle.rational.proofs.Order.{le_trans, le_of_same, ge_of_same, lt_of_lt_of_le, lt_of_le_of_lt}
 use Rattle.rational.proofs.Shift.{le_shift, lt_shift, le_shift_cancel, lt_shift_cancel}
 use Rattle.rational.proofs.TimeLemmas.{later-add}
-use Rattle.early_verdict.specs.Cuts.{After, Upto}
+use Rattle.rational.specs.Places.{After, Upto}
 use Rattle.early_verdict.specs.Windows.{low_place, high_place}
 use Rattle.early_verdict.specs.Looking.{IsAhead, IsBehind}
 use Rattle.early_verdict.specs.declared.window.Window.{Window}

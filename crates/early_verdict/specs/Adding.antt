@@ -5,7 +5,8 @@ use Rattle.stl_syntax.specs.Trace.{Row, Trace, row_time, start, stop}
 use Rattle.stl_syntax.specs.Truth.{holds_at}
 use Rattle.stl_syntax.specs.declared.atom.Atom.{Atom}
 use Rattle.atom_lines.specs.Binding.{HasRow, AreNeighbours}
-use Rattle.early_verdict.specs.Cuts.{Place, place, After, Upto, AtMost}
+use Rattle.rational.specs.Places.{Place, After, Upto, AtMost}
+use Rattle.frac128.specs.Cuts.{place}
 use Rattle.early_verdict.specs.Spans.{Grows, IsOn}
 use Rattle.early_verdict.specs.Fitting.{AreSetsTidy}
 use Rattle.early_verdict.specs.declared.atoms.Pending.{Pending}

@@ -1,6 +1,7 @@
 -- Where a stretch belongs in a list, as far as that is seen at the list's end: words of private contracts.
 use Rattle.std.specs.Prelude.{◌≡◌, List, [], ◌∷◌, ◌++◌}
-use Rattle.early_verdict.specs.Cuts.{Place, place, Before}
+use Rattle.rational.specs.Places.{Place, Before}
+use Rattle.frac128.specs.Cuts.{place}
 use Rattle.early_verdict.specs.Spans.{EndBefore}
 use Rattle.early_verdict.specs.declared.stretch.Stretch.{Stretch}
 use Rattle.early_verdict.specs.declared.ending.End.{End}

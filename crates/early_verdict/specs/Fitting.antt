@@ -7,7 +7,8 @@ use Rattle.stl_syntax.specs.Early.{OpenAhead}
 use Rattle.stl_syntax.specs.declared.atom.Atom.{Atom}
 use Rattle.stl_syntax.specs.declared.node.Node.{Node}
 use Rattle.stl_syntax.specs.declared.node.Node.TheVariants.{Const, Atom as Leaf, Not, And, Or, Implies, Until, Eventually, Always, Since, Once, Historically}
-use Rattle.early_verdict.specs.Cuts.{Place, place}
+use Rattle.rational.specs.Places.{Place}
+use Rattle.frac128.specs.Cuts.{place}
 use Rattle.early_verdict.specs.Spans.{IsOn, AreTidy}
 use Rattle.early_verdict.specs.Steps.{Tells, Gains}
 use Rattle.early_verdict.specs.Reaching.{GoesOn, GoesTo, GoesBackBy}
@@ -220,7 +221,7 @@ pub record GainsFailing (old new : Failing) : Type 0 where
   pub never : Gains old.never.spans.items new.never.spans.items new.never.fresh.items
   pub broken : Gains old.broken.spans.items new.broken.spans.items new.broken.fresh.items
 
--- a node's sets after an event
+-- a node's sets after an entry
 pub record HasStepped (old new : Sets) : Type 0 where
   pub tidy : AreSetsTidy new
   pub yes : new.yes.bounds ≡ old.yes.bounds

@@ -4,20 +4,21 @@ use Rattle.rational.specs.Rational.{IsWithin}
 use Rattle.rational.specs.Time.{Rational, ◌≤ʳ◌}
 use Rattle.frac128.specs.Value.{value}
 use Rattle.stl_syntax.specs.Trace.{Trace, start}
-use Rattle.early_verdict.specs.Cuts.{place, AtMost, Same}
+use Rattle.rational.specs.Places.{AtMost, Same}
+use Rattle.frac128.specs.Cuts.{place}
 use Rattle.early_verdict.specs.Spans.{IsOn, Lies}
 use Rattle.early_verdict.specs.Fitting.{Lists, nothing, HadLists, AreEmpty, start_place, sure_place}
-use Rattle.early_verdict.specs.declared.event.Event.{Event}
+use Rattle.early_verdict.specs.declared.entry.Entry.{Entry}
 use Rattle.early_verdict.specs.declared.sets.Sets.{Sets}
 
 -- no time ceases to be sure, and the times are small
-pub record IsEvent (e : Event) : Type 0 where
+pub record IsEntry (e : Entry) : Type 0 where
   pub order : AtMost (place e.before) (place e.sure)
   pub near_start : IsWithin (2 ^ 34) (value e.start.time)
   pub near_sure : IsWithin (2 ^ 34) (value e.sure.time)
 
 -- the trace goes on from the one before it, if there is one
-pub record Happens (e : Event) (old : Option Trace) (tr : Trace) : Type 0 where
+pub record Happens (e : Entry) (old : Option Trace) (tr : Trace) : Type 0 where
   pub starts : Same (place e.start) (start_place tr)
   pub sure_to : Same (place e.sure) (sure_place tr)
   pub sure_before : MatchOption old (Same (place e.before) (start_place tr)) (λ o. (start o ≡ start tr) × Same (place e.before) (sure_place o))

@@ -1,7 +1,8 @@
 -- How stretches of a list are joined with one that they touch: words of private contracts.
 use Rattle.std.specs.Prelude.{◌≡◌, ◌⊎◌, ◌↔◌, ℕ, ◌≤◌, List, ◌++◌, length, take, drop}
 use Rattle.rational.specs.Time.{Rational}
-use Rattle.early_verdict.specs.Cuts.{Place, place, After, Upto}
+use Rattle.rational.specs.Places.{Place, After, Upto}
+use Rattle.frac128.specs.Cuts.{place}
 use Rattle.early_verdict.specs.Spans.{Lies, IsOn, BeginsAfter, EndBefore}
 use Rattle.early_verdict.specs.declared.stretch.Stretch.{Stretch}
 

@@ -1,7 +1,7 @@
 -- Windows that are met with the times from the start on, and with those up to the last.
 use Rattle.std.specs.Prelude.{◌⊎◌, List, MatchOption}
 use Rattle.rational.specs.Time.{Rational}
-use Rattle.early_verdict.specs.Cuts.{Place, After, Upto, Before, AtMost}
+use Rattle.rational.specs.Places.{Place, After, Upto, Before, AtMost}
 use Rattle.early_verdict.specs.Spans.{IsOn}
 use Rattle.early_verdict.specs.Windows.{Sees, low_place}
 use Rattle.early_verdict.specs.declared.stretch.Stretch.{Stretch}

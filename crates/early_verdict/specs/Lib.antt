@@ -1,4 +1,3 @@
-pub mod Cuts
 pub mod Spans
 pub mod Joining
 pub mod Ending

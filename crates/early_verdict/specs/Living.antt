@@ -11,7 +11,7 @@ use Rattle.early_verdict.specs.Steps.{Gains}
 use Rattle.early_verdict.specs.Fitting.{Lists, lists_at, no_of, yes_of, AreSetsTidy}
 use Rattle.atom_lines.specs.Binding.{Binding}
 use Rattle.early_verdict.specs.Happening.{Happens}
-use Rattle.early_verdict.specs.declared.event.Event.{Event}
+use Rattle.early_verdict.specs.declared.entry.Entry.{Entry}
 use Rattle.early_verdict.specs.Standing.{AllFit, AllGo, AllTidy, AllWere, HasParts, SteppedTo}
 use Rattle.early_verdict.specs.Showing.{TakesIn}
 use Rattle.early_verdict.specs.declared.stretch.Stretch.{Stretch}
@@ -115,7 +115,7 @@ pub record NetStands (nodes : List Node) (tr : Trace) (live shown : List Sets) :
   pub known : AllKnown nodes tr shown
   pub root : IsShown shown (length nodes - 1) (start tr)
 
--- what a node shows after an event, by what its sets gained
+-- what a node shows after an entry, by what its sets gained
 pub record HasShown (old new s : Sets) : Type 0 where
   pub tidy : AreSetsTidy new
   pub yes : new.yes.bounds ≡ old.yes.bounds
@@ -143,8 +143,8 @@ pub record ShownTo (n : ℕ) (live old new : List Sets) : Type 0 where
   pub shown : (j : ℕ) (s x x' : Sets) → j < n → slice_get live j ≡ Some s → slice_get old j ≡ Some x → slice_get new j ≡ Some x' → HasShown x x' s
   pub others : (j : ℕ) → n ≤ j → slice_get new j ≡ slice_get old j
 
--- one event over all nodes: each steps, shows what it gained, and fits then what its children show
-pub record ComesOn (nodes : List Node) (b : Binding) (e : Event) (before : Option Row) (r : Row) (live new shown new_shown : List Sets) : Type 0 where
+-- one entry over all nodes: each steps, shows what it gained, and fits then what its children show
+pub record ComesOn (nodes : List Node) (b : Binding) (e : Entry) (before : Option Row) (r : Row) (live new shown new_shown : List Sets) : Type 0 where
   pub stepped : SteppedTo (length nodes) live new
   pub shows : ShownTo (length nodes) new shown new_shown
   pub tidy : AllTidy new × AllTidy new_shown

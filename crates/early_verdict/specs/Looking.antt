@@ -2,7 +2,7 @@
 use Rattle.std.specs.Prelude.{◌≡◌, ◌↔◌, ℕ, Bool, Option, List, [], IfSome, MatchOption, MatchBool}
 use Rattle.rational.specs.Time.{Rational, later, Precedes}
 use Rattle.stl_syntax.specs.Trace.{Trace}
-use Rattle.early_verdict.specs.Cuts.{Place}
+use Rattle.rational.specs.Places.{Place}
 use Rattle.early_verdict.specs.Windows.{Sees}
 use Rattle.early_verdict.specs.Steps.{SeesOnly}
 use Rattle.early_verdict.specs.Lasting.{SeesOnlyBy}

@@ -1,7 +1,8 @@
 -- Times from which one set goes on without a break to a time of another, or back from which it does.
 use Rattle.std.specs.Prelude.{◌⊎◌, Bool, IsTrue, List}
 use Rattle.rational.specs.Time.{Rational, Within, ◌≤ʳ◌}
-use Rattle.early_verdict.specs.Cuts.{Place, place, After, Upto}
+use Rattle.rational.specs.Places.{Place, After, Upto}
+use Rattle.frac128.specs.Cuts.{place}
 use Rattle.early_verdict.specs.Spans.{Lies, IsOn, IsAmong}
 use Rattle.early_verdict.specs.Steps.{HoldsFrom}
 use Rattle.early_verdict.specs.declared.stretch.Stretch.{Stretch}

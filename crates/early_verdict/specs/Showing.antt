@@ -1,7 +1,8 @@
 -- What a set takes in of what another one gained.
 use Rattle.std.specs.Prelude.{◌⊎◌, List, [], ◌∷◌}
 use Rattle.rational.specs.Time.{Rational}
-use Rattle.early_verdict.specs.Cuts.{Place, place, Before}
+use Rattle.rational.specs.Places.{Place, Before}
+use Rattle.frac128.specs.Cuts.{place}
 use Rattle.early_verdict.specs.Spans.{Lies, IsOn}
 use Rattle.early_verdict.specs.declared.stretch.Stretch.{Stretch}
 

@@ -1,4 +1,4 @@
--- What the sets of all nodes keep from event to event.
+-- What the sets of all nodes keep from entry to entry.
 use Rattle.std.specs.Prelude.{◌≡◌, ◌↔◌, ◌⊎◌, ℕ, ◌+◌, ◌≤◌, ◌<◌, ◌≢◌, Bool, false, Option, Some, None}
 use Rattle.std.specs.Prelude.{List, length, MatchOption, MatchBool, IsSome, slice_get, slice_index_or}
 use Rattle.rational.specs.Time.{Rational, later, ◌≤ʳ◌}
@@ -10,7 +10,7 @@ use Rattle.early_verdict.specs.Fitting.{Fits, AreSetsTidy, AreEmpty, HasStepped,
 use Rattle.atom_lines.specs.Binding.{Binding, IsFor, IsAtomNode}
 use Rattle.early_verdict.specs.Adding.{IsNextRow}
 use Rattle.early_verdict.specs.Happening.{Was, Had, Happens}
-use Rattle.early_verdict.specs.declared.event.Event.{Event}
+use Rattle.early_verdict.specs.declared.entry.Entry.{Entry}
 use Rattle.stl_syntax.specs.declared.atom.Atom.{Atom}
 use Rattle.early_verdict.specs.declared.stretch.Stretch.{Stretch}
 use Rattle.early_verdict.specs.declared.sets.Sets.{Sets}
@@ -99,11 +99,11 @@ abbrev pub HasParts : Node → Sets → List Sets → Type 0
 HasParts n s below = MatchOption (left_of n) (Unit {0}) (λ p. IsSome s.parts × ((l : Sets) → slice_get below p ≡ Some l → HasFailBounds s l))
 
 -- an atom's sets go on with the row, and stay at the end of the input
-abbrev pub GoesOnWith : Event → Option Trace → Trace → Option Row → Row → Atom → Type 0
+abbrev pub GoesOnWith : Entry → Option Trace → Trace → Option Row → Row → Atom → Type 0
 GoesOnWith e old tr before r a = MatchBool e.ended (old ≡ Some tr) (IsNextRow a old tr before r)
 
 -- so does an atom among the nodes
-abbrev pub LeafGoes : Binding → ℕ → Event → Option Trace → Trace → Option Row → Row → Sets → Node → Type 0
+abbrev pub LeafGoes : Binding → ℕ → Entry → Option Trace → Trace → Option Row → Row → Sets → Node → Type 0
 LeafGoes b i e old tr before r s (Leaf a) =
     IsFor b i a tr × GoesOnWith e old tr before r a × ((t : Rational) → Lies s.yes.bounds t ⊎ Lies s.no.bounds t → start tr ≤ʳ t)
 LeafGoes b i e old tr before r s n = Unit {0}
@@ -130,7 +130,7 @@ LooksBehind (Historically p a b i j) = Unit {0}
 LooksBehind n = ⊥
 
 -- the sets of an operator go on from fitting the trace before to fitting the trace now, by what those of its children gained
-abbrev pub GoesBy : Node → Event → List Sets → Sets → Sets → Type 0
+abbrev pub GoesBy : Node → Entry → List Sets → Sets → Sets → Type 0
 GoesBy n e below own new =
     (old : Option Trace) (tr : Trace) (was : ℕ → Lists) → Happens e old tr → HadAll old tr was below → HasParts n own below
     → Was old (λ o. Fits n false o was) own → Fits n e.ended tr (lists_at below) new
@@ -156,7 +156,7 @@ abbrev pub AllEmpty : List Sets → Type 0
 AllEmpty sets = (i : ℕ) (s : Sets) → slice_get sets i ≡ Some s → AreEmpty s
 
 -- each atom goes on with the row, or stays at the end of the input
-abbrev pub AllGo : List Node → Binding → Event → Option Trace → Trace → Option Row → Row → Type 0
+abbrev pub AllGo : List Node → Binding → Entry → Option Trace → Trace → Option Row → Row → Type 0
 AllGo nodes b e old tr before r =
     (i : ℕ) (a : Atom) → slice_get nodes i ≡ Some (Leaf a) → IsFor b i a tr × GoesOnWith e old tr before r a
 

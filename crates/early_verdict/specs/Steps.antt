@@ -1,7 +1,8 @@
--- What one event adds to a set of each kind, and what sets of each kind tell.
+-- What one entry adds to a set of each kind, and what sets of each kind tell.
 use Rattle.std.specs.Prelude.{◌⊎◌, List, [], ◌∷◌}
 use Rattle.rational.specs.Time.{Rational}
-use Rattle.early_verdict.specs.Cuts.{Place, place, After, Before}
+use Rattle.rational.specs.Places.{Place, After, Before}
+use Rattle.frac128.specs.Cuts.{place}
 use Rattle.early_verdict.specs.Spans.{Lies, IsOn, IsAmong}
 use Rattle.early_verdict.specs.Windows.{Sees, IsHeld}
 use Rattle.early_verdict.specs.declared.stretch.Stretch.{Stretch}
@@ -36,7 +37,7 @@ pub record Tells (bounds : Stretch) (spans : List Stretch) (P : Rational → Typ
   pub has : (t : Rational) → Lies bounds t → P t → IsOn spans t
   pub only : (t : Rational) → IsOn spans t → Lies bounds t × P t
 
--- what a list gained in one event
+-- what a list gained in one entry
 pub record Gains (before after more : List Stretch) : Type 0 where
   pub kept : (t : Rational) → IsOn before t → IsOn after t
   pub gained : (t : Rational) → IsOn after t → IsOn before t ⊎ IsOn more t

@@ -1,7 +1,8 @@
--- Times that an event makes sure, and what they add.
+-- Times that an entry makes sure, and what they add.
 use Rattle.std.specs.Prelude.{◌⊎◌, List}
 use Rattle.rational.specs.Time.{Rational}
-use Rattle.early_verdict.specs.Cuts.{Place, place, After, Upto}
+use Rattle.rational.specs.Places.{Place, After, Upto}
+use Rattle.frac128.specs.Cuts.{place}
 use Rattle.early_verdict.specs.Spans.{Lies, IsOn}
 use Rattle.early_verdict.specs.Windows.{Sees}
 use Rattle.early_verdict.specs.Steps.{BySome}

@@ -1,7 +1,8 @@
 -- Windows of time: what they see from a time, and the times that see something.
 use Rattle.std.specs.Prelude.{◌⊎◌, Bool, not, ℤ, MatchOption, IfSome}
 use Rattle.rational.specs.Time.{Rational, add, whole}
-use Rattle.early_verdict.specs.Cuts.{Place, place, After, Upto, Before}
+use Rattle.rational.specs.Places.{Place, After, Upto, Before}
+use Rattle.frac128.specs.Cuts.{place}
 use Rattle.early_verdict.specs.Spans.{Lies}
 use Rattle.early_verdict.specs.declared.stretch.Stretch.{Stretch}
 use Rattle.early_verdict.specs.declared.window.Window.{Window}

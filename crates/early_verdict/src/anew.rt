@@ -9,13 +9,13 @@ ghost use Rattle.early_verdict.specs.Standing.{AllTidy};
 ghost use Rattle.early_verdict.specs.Letting.{IsDecisive, IsEndlessCut, IsEndlessCutAt, IsGrownInside, IsSeeing};
 ghost use Rattle.early_verdict.specs.declared.sets.Sets.{Sets as ASets};
 
-use crate::cut::Cut;
 use crate::grown::Grown;
 use crate::letting::cut_before;
 use crate::sets::Sets;
 use crate::shared::last_end;
 use crate::showing::{cut_front, front};
 use crate::stretch::Stretch;
+use frac128::Cut;
 use std::collections::VecDeque;
 
 /// The last time that the spans have in the part, if there is a last one.

@@ -6,15 +6,15 @@ ghost use Rattle.stl_syntax.specs.Trace.{Trace, start};
 ghost use Rattle.stl_syntax.specs.declared.atom.Atom.{Atom};
 ghost use Rattle.atom_lines.specs.Binding.{AreNeighbours, IsAtomNode, IsFor};
 ghost use Rattle.early_verdict.specs.Adding.{AddsOnce, AfterRow, BetweenRows, HasAdded, HasGrown, HasRested, IsNextRow, Piece, Turns, before_row};
-ghost use Rattle.early_verdict.specs.Cuts.{place, Same};
+ghost use Rattle.rational.specs.Places.{Same};
+ghost use Rattle.frac128.specs.Cuts.{place};
 ghost use Rattle.early_verdict.specs.Spans.{Lies};
 ghost use Rattle.early_verdict.specs.Fitting.{AreSetsTidy, AtomFits, HasStepped};
 ghost use Rattle.early_verdict.specs.Happening.{Was};
 
-use crate::cut::Cut;
 use crate::sets::Sets;
 use atom_lines::{Bound, TruthPiece, truth_piece, truth_point};
-use frac128::Memory;
+use frac128::{Cut, Memory};
 use trace_reader::Row;
 
 /// Just before a time in ticks.

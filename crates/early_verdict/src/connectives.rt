@@ -1,4 +1,4 @@
-//! One event over the sets of constants, negations and connectives.
+//! One entry over the sets of constants, negations and connectives.
 ghost use Rattle.std.specs.Prelude.{◌≡◌, OnOk, Option};
 ghost use Rattle.stl_syntax.specs.Trace.{Trace};
 ghost use Rattle.early_verdict.specs.Fitting.{Lists, lists_of, AreSetsTidy, IsTidy, HasStepped, ConstantFits};
@@ -6,7 +6,7 @@ ghost use Rattle.early_verdict.specs.Fitting.{NegationFits, ConjunctionFits, Dis
 ghost use Rattle.early_verdict.specs.Spans.{Grows, Lies};
 ghost use Rattle.early_verdict.specs.Happening.{Had, Happens, Was};
 
-use crate::event::Event;
+use crate::entry::Entry;
 use crate::grown::Grown;
 use crate::sets::Sets;
 use frac128::Memory;
@@ -22,16 +22,16 @@ fn fill(own: &mut Grown) -> Result<(), Memory>
     own.add(bounds.from, bounds.to)
 }
 
-/// A constant: decided at all times from the first event on.
-pub(crate) fn step_constant(own: &mut Sets, holds: bool, event: &Event) -> Result<(), Memory>
+/// A constant: decided at all times from the first entry on.
+pub(crate) fn step_constant(own: &mut Sets, holds: bool, entry: &Entry) -> Result<(), Memory>
     requires { AreSetsTidy own.old }
     ensures stepped { OnOk result (HasStepped own.old own.new) }
-    ensures fits { OnOk result ((old : Option Trace) (tr : Trace) → Happens event.now old tr
+    ensures fits { OnOk result ((old : Option Trace) (tr : Trace) → Happens entry.now old tr
         → Was old (λ o. ConstantFits holds) own.old → ConstantFits holds own.new) }
 {
     own.yes.rest();
     own.no.rest();
-    if !event.first {
+    if !entry.first {
         return Ok(());
     }
     if holds {

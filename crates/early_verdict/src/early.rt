@@ -8,7 +8,7 @@ ghost use Rattle.early_verdict.specs.Living.{NetStands};
 ghost use Rattle.stl_syntax.specs.Formula.{root};
 ghost use Rattle.atom_lines.specs.Binding.{IsBound};
 
-use crate::events::{end_sets, root_verdict, take_row};
+use crate::entries::{end_sets, root_verdict, take_row};
 use crate::letting::let_go;
 use crate::sets::Net;
 use atom_lines::Bound;

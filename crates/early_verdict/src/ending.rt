@@ -1,13 +1,13 @@
 //! What is added at the end of a list of stretches, where most of what a row brings belongs.
 ghost use Rattle.std.specs.Prelude.{◌≡◌, ◌++◌, ◌∷◌, [], List, OnOk, IfSome, IfNone};
-ghost use Rattle.early_verdict.specs.Cuts.{place, Before};
+ghost use Rattle.rational.specs.Places.{Before};
+ghost use Rattle.frac128.specs.Cuts.{place};
 ghost use Rattle.early_verdict.specs.Spans.{AreTidy, EndBefore, Grows, Lies};
 ghost use Rattle.early_verdict.specs.Ending.{BelongsAt, IsLast};
 ghost use Rattle.early_verdict.specs.declared.stretch.Stretch.{Stretch as AStretch};
 
-use crate::cut::Cut;
 use crate::stretch::Stretch;
-use frac128::Memory;
+use frac128::{Cut, Memory};
 use std::collections::VecDeque;
 
 /// Where in a list a stretch belongs, as far as that is seen at the list's end.

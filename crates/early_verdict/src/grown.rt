@@ -1,9 +1,8 @@
 //! Sets of times that only grow, as stretches that rise and do not touch, with what they gained of late.
-use crate::cut::Cut;
 use crate::ending::{End, end_for, lengthen, put_last};
 use crate::stretch::Stretch;
 use crate::touching::{holding, put_in};
-use frac128::Memory;
+use frac128::{Cut, Memory};
 use std::alloc::Global;
 use std::collections::VecDeque;
 
@@ -19,7 +18,8 @@ impl Grown {
     ghost use Rattle.std.specs.Prelude.{◌≡◌, ◌↔◌, [], IsTrue, OnOk};
     ghost use Rattle.rational.specs.Rational.{whole};
     ghost use Rattle.rational.specs.Time.{Rational};
-    ghost use Rattle.early_verdict.specs.Cuts.{After, Upto, place};
+    ghost use Rattle.rational.specs.Places.{After, Upto};
+    ghost use Rattle.frac128.specs.Cuts.{place};
     ghost use Rattle.early_verdict.specs.Spans.{AreTidy, Grows, IsOn};
 
     /// No times yet; it takes no memory.

@@ -1,17 +1,16 @@
 //! What the input of a window gained, added to the set of the times whose windows see it, or lie in it.
 ghost use Rattle.std.specs.Prelude.{◌≡◌, OnOk};
-ghost use Rattle.early_verdict.specs.Cuts.{place};
+ghost use Rattle.frac128.specs.Cuts.{place};
 ghost use Rattle.early_verdict.specs.Spans.{AreTidy, Grows};
 ghost use Rattle.early_verdict.specs.Windows.{SeesPart};
 ghost use Rattle.early_verdict.specs.Steps.{BySome, HeldAt};
 
-use crate::cut::Cut;
 use crate::grown::Grown;
 use crate::seeing::{add_held, add_seeing};
 use crate::stretch::Stretch;
 use crate::touching::holding;
 use crate::window::Window;
-use frac128::Memory;
+use frac128::{Cut, Memory};
 use std::collections::VecDeque;
 
 /// Adds the times from which some time of one of the parts lies in the window.

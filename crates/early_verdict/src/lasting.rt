@@ -2,16 +2,15 @@
 ghost use Rattle.std.specs.Prelude.{◌≡◌, ◌^◌, OnOk};
 ghost use Rattle.rational.specs.Rational.{IsWithin};
 ghost use Rattle.frac128.specs.Value.{value};
-ghost use Rattle.early_verdict.specs.Cuts.{place};
+ghost use Rattle.frac128.specs.Cuts.{place};
 ghost use Rattle.early_verdict.specs.Spans.{AreTidy, Grows};
 ghost use Rattle.early_verdict.specs.Lasting.{BeginsFrom, IsRunTo, SeesNone};
 
-use crate::cut::Cut;
 use crate::grown::Grown;
 use crate::stretch::Stretch;
 use crate::touching::{begins_by, first_reaching};
 use crate::window::Window;
-use frac128::Memory;
+use frac128::{Cut, Memory};
 use std::collections::VecDeque;
 
 /// Adds the times whose window has no time from the start on.

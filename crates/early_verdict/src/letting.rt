@@ -6,7 +6,8 @@ ghost use Rattle.frac128.specs.Value.{value};
 ghost use Rattle.stl_syntax.specs.Trace.{Trace as ATrace};
 ghost use Rattle.stl_syntax.specs.Formula.{HasChildrenBelow};
 ghost use Rattle.stl_syntax.specs.WellFormed.{AreWellFormed};
-ghost use Rattle.early_verdict.specs.Cuts.{place, After, Upto};
+ghost use Rattle.rational.specs.Places.{After, Upto};
+ghost use Rattle.frac128.specs.Cuts.{place};
 ghost use Rattle.early_verdict.specs.Spans.{AreTidy, IsOn};
 ghost use Rattle.early_verdict.specs.Fitting.{AreSetsTidy, IsFailingTidy, IsHoldingTidy};
 ghost use Rattle.early_verdict.specs.Standing.{AllTidy};
@@ -18,13 +19,13 @@ ghost use Rattle.stl_syntax.specs.declared.node.Node.TheVariants.{Since, Until};
 ghost use Rattle.early_verdict.specs.declared.sets.Sets.{Sets as ASets};
 
 use crate::anew::{cut_endless_at, decisive};
-use crate::cut::Cut;
 use crate::grown::Grown;
 use crate::operators::ticks_before;
 use crate::sets::{Failing, Holding, Net, Sets};
 use crate::showing::{bounds_from, cut_to, front, narrow};
 use crate::stretch::Stretch;
 use crate::touching::holding;
+use frac128::Cut;
 use std::collections::VecDeque;
 use stl_syntax::{Formula, Node};
 

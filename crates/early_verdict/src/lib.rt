@@ -8,11 +8,10 @@
 mod anew;
 mod atoms;
 mod connectives;
-mod cut;
 mod early;
 mod ending;
-mod event;
-mod events;
+mod entries;
+mod entry;
 mod grown;
 mod held;
 mod lasting;

@@ -1,39 +1,39 @@
-//! One event over the sets of operators whose windows lie ahead or behind.
+//! One entry over the sets of operators whose windows lie ahead or behind.
 ghost use Rattle.std.specs.Prelude.{◌≡◌, OnOk, Option, List, Bool, ℕ, true, false};
 ghost use Rattle.stl_syntax.specs.Trace.{Trace};
-ghost use Rattle.early_verdict.specs.Cuts.{place};
+ghost use Rattle.frac128.specs.Cuts.{place};
 ghost use Rattle.early_verdict.specs.Steps.{Gains, SeesOnly};
 ghost use Rattle.early_verdict.specs.Fitting.{Lists, lists_of, Says, AreEmpty, IsEmpty, AreSetsTidy, IsTidy};
 ghost use Rattle.early_verdict.specs.Fitting.{HasStepped, EventuallyFits, AlwaysFits, OnceFits, HistoricallyFits};
-ghost use Rattle.early_verdict.specs.Happening.{Had, Happens, IsEvent, Was};
+ghost use Rattle.early_verdict.specs.Happening.{Had, Happens, IsEntry, Was};
 ghost use Rattle.early_verdict.specs.Looking.{IsAhead, IsBehind, WasTold, WasList, SeesOnlyTo};
 ghost use Rattle.early_verdict.specs.declared.stretch.Stretch.{Stretch};
 
-use crate::event::Event;
+use crate::entry::Entry;
 use crate::grown::Grown;
 use crate::sets::Sets;
 use crate::window::Window;
 use frac128::Memory;
 
 /// The times each of whose window, all of it, is one of the set.
-pub(crate) fn each_open(own: &mut Grown, x: &Grown, event: &Event, w: &Window) -> Result<(), Memory>
+pub(crate) fn each_open(own: &mut Grown, x: &Grown, entry: &Entry, w: &Window) -> Result<(), Memory>
     requires own { IsTidy own.old }
     requires input { IsTidy x.now }
-    requires event { IsEvent event.now }
-    requires none { event.now.first ≡ true → IsEmpty own.old }
+    requires entry { IsEntry entry.now }
+    requires none { entry.now.first ≡ true → IsEmpty own.old }
     ensures tidy { OnOk result (IsTidy own.new) }
     ensures bounds { own.new.bounds ≡ own.old.bounds }
     ensures gains { OnOk result (Gains own.old.spans.items own.new.spans.items own.new.fresh.items) }
-    ensures tells { OnOk result ((old : Option Trace) (tr : Trace) (x' : List Stretch) → Happens event.now old tr
+    ensures tells { OnOk result ((old : Option Trace) (tr : Trace) (x' : List Stretch) → Happens entry.now old tr
         → Gains x' x.now.spans.items x.now.fresh.items → WasList old x'
-        → WasTold old own.old (SeesOnly w.now (place event.now.start) x')
-        → Says own.new (SeesOnly w.now (place event.now.start) x.now.spans.items)) }
+        → WasTold old own.old (SeesOnly w.now (place entry.now.start) x')
+        → Says own.new (SeesOnly w.now (place entry.now.start) x.now.spans.items)) }
 {
-    if event.first {
-        own.each_first(x, &event.start, w)?;
+    if entry.first {
+        own.each_first(x, &entry.start, w)?;
         return Ok(());
     }
-    own.each(x, &event.start, w)?;
+    own.each(x, &entry.start, w)?;
     Ok(())
 }
 
@@ -41,26 +41,26 @@ pub(crate) fn each_open(own: &mut Grown, x: &Grown, event: &Event, w: &Window) -
 pub(crate) fn each_ahead(
     own: &mut Grown,
     x: &Grown,
-    event: &Event,
+    entry: &Entry,
     w: &Window,
 ) -> Result<(), Memory>
     requires own { IsTidy own.old }
     requires input { IsTidy x.now }
-    requires event { IsEvent event.now }
-    requires none { event.now.first ≡ true → IsEmpty own.old }
+    requires entry { IsEntry entry.now }
+    requires none { entry.now.first ≡ true → IsEmpty own.old }
     ensures tidy { OnOk result (IsTidy own.new) }
     ensures bounds { own.new.bounds ≡ own.old.bounds }
     ensures gains { OnOk result (Gains own.old.spans.items own.new.spans.items own.new.fresh.items) }
-    ensures tells { OnOk result ((old : Option Trace) (tr : Trace) (x' : List Stretch) → Happens event.now old tr
+    ensures tells { OnOk result ((old : Option Trace) (tr : Trace) (x' : List Stretch) → Happens entry.now old tr
         → Gains x' x.now.spans.items x.now.fresh.items → WasList old x'
-        → WasTold old own.old (SeesOnly w.now (place event.now.start) x')
-        → Says own.new (SeesOnlyTo event.now.ended w.now (place event.now.start) (place event.now.sure) x.now.spans.items)) }
+        → WasTold old own.old (SeesOnly w.now (place entry.now.start) x')
+        → Says own.new (SeesOnlyTo entry.now.ended w.now (place entry.now.start) (place entry.now.sure) x.now.spans.items)) }
 {
-    if event.ended {
-        own.each_last(x, &event.start, &event.sure, w)?;
+    if entry.ended {
+        own.each_last(x, &entry.start, &entry.sure, w)?;
         return Ok(());
     }
-    each_open(own, x, event, w)?;
+    each_open(own, x, entry, w)?;
     Ok(())
 }
 
@@ -69,51 +69,51 @@ pub(crate) fn step_eventually(
     own: &mut Sets,
     p: &Sets,
     w: &Window,
-    event: &Event,
+    entry: &Entry,
 ) -> Result<(), Memory>
     requires own { AreSetsTidy own.old }
     requires operand { AreSetsTidy p.now }
-    requires event { IsEvent event.now }
-    requires none { event.now.first ≡ true → AreEmpty own.old }
+    requires entry { IsEntry entry.now }
+    requires none { entry.now.first ≡ true → AreEmpty own.old }
     ensures stepped { OnOk result (HasStepped own.old own.new) }
     ensures fits { OnOk result ((old : Option Trace) (tr : Trace) (p' : Lists) (a b : ℕ) (a_in b_in : Bool) → IsAhead w.now a b a_in b_in
-        → Happens event.now old tr → Had old tr p' p.now → Was old (λ o. EventuallyFits false o a b a_in b_in p') own.old
-        → EventuallyFits event.now.ended tr a b a_in b_in (lists_of p.now) own.new) }
+        → Happens entry.now old tr → Had old tr p' p.now → Was old (λ o. EventuallyFits false o a b a_in b_in p') own.old
+        → EventuallyFits entry.now.ended tr a b a_in b_in (lists_of p.now) own.new) }
 {
-    own.yes.some_sure(&p.yes, &event.before, &event.sure, w)?;
-    each_ahead(&mut own.no, &p.no, event, w)?;
+    own.yes.some_sure(&p.yes, &entry.before, &entry.sure, w)?;
+    each_ahead(&mut own.no, &p.no, entry, w)?;
     Ok(())
 }
 
 /// Each time of a window ahead.
-pub(crate) fn step_always(own: &mut Sets, p: &Sets, w: &Window, event: &Event) -> Result<(), Memory>
+pub(crate) fn step_always(own: &mut Sets, p: &Sets, w: &Window, entry: &Entry) -> Result<(), Memory>
     requires own { AreSetsTidy own.old }
     requires operand { AreSetsTidy p.now }
-    requires event { IsEvent event.now }
-    requires none { event.now.first ≡ true → AreEmpty own.old }
+    requires entry { IsEntry entry.now }
+    requires none { entry.now.first ≡ true → AreEmpty own.old }
     ensures stepped { OnOk result (HasStepped own.old own.new) }
     ensures fits { OnOk result ((old : Option Trace) (tr : Trace) (p' : Lists) (a b : ℕ) (a_in b_in : Bool) → IsAhead w.now a b a_in b_in
-        → Happens event.now old tr → Had old tr p' p.now → Was old (λ o. AlwaysFits false o a b a_in b_in p') own.old
-        → AlwaysFits event.now.ended tr a b a_in b_in (lists_of p.now) own.new) }
+        → Happens entry.now old tr → Had old tr p' p.now → Was old (λ o. AlwaysFits false o a b a_in b_in p') own.old
+        → AlwaysFits entry.now.ended tr a b a_in b_in (lists_of p.now) own.new) }
 {
-    own.no.some_sure(&p.no, &event.before, &event.sure, w)?;
-    each_ahead(&mut own.yes, &p.yes, event, w)?;
+    own.no.some_sure(&p.no, &entry.before, &entry.sure, w)?;
+    each_ahead(&mut own.yes, &p.yes, entry, w)?;
     Ok(())
 }
 
 /// Some time of a window behind.
-pub(crate) fn step_once(own: &mut Sets, p: &Sets, w: &Window, event: &Event) -> Result<(), Memory>
+pub(crate) fn step_once(own: &mut Sets, p: &Sets, w: &Window, entry: &Entry) -> Result<(), Memory>
     requires own { AreSetsTidy own.old }
     requires operand { AreSetsTidy p.now }
-    requires event { IsEvent event.now }
-    requires none { event.now.first ≡ true → AreEmpty own.old }
+    requires entry { IsEntry entry.now }
+    requires none { entry.now.first ≡ true → AreEmpty own.old }
     ensures stepped { OnOk result (HasStepped own.old own.new) }
     ensures fits { OnOk result ((old : Option Trace) (tr : Trace) (p' : Lists) (a : ℕ) (b : Option ℕ) (a_in b_in : Bool) → IsBehind w.now a b a_in b_in
-        → Happens event.now old tr → Had old tr p' p.now → Was old (λ o. OnceFits o a b a_in b_in p') own.old
+        → Happens entry.now old tr → Had old tr p' p.now → Was old (λ o. OnceFits o a b a_in b_in p') own.old
         → OnceFits tr a b a_in b_in (lists_of p.now) own.new) }
 {
     own.yes.some(&p.yes, w)?;
-    each_open(&mut own.no, &p.no, event, w)?;
+    each_open(&mut own.no, &p.no, entry, w)?;
     Ok(())
 }
 
@@ -122,18 +122,18 @@ pub(crate) fn step_historically(
     own: &mut Sets,
     p: &Sets,
     w: &Window,
-    event: &Event,
+    entry: &Entry,
 ) -> Result<(), Memory>
     requires own { AreSetsTidy own.old }
     requires operand { AreSetsTidy p.now }
-    requires event { IsEvent event.now }
-    requires none { event.now.first ≡ true → AreEmpty own.old }
+    requires entry { IsEntry entry.now }
+    requires none { entry.now.first ≡ true → AreEmpty own.old }
     ensures stepped { OnOk result (HasStepped own.old own.new) }
     ensures fits { OnOk result ((old : Option Trace) (tr : Trace) (p' : Lists) (a : ℕ) (b : Option ℕ) (a_in b_in : Bool) → IsBehind w.now a b a_in b_in
-        → Happens event.now old tr → Had old tr p' p.now → Was old (λ o. HistoricallyFits o a b a_in b_in p') own.old
+        → Happens entry.now old tr → Had old tr p' p.now → Was old (λ o. HistoricallyFits o a b a_in b_in p') own.old
         → HistoricallyFits tr a b a_in b_in (lists_of p.now) own.new) }
 {
     own.no.some(&p.no, w)?;
-    each_open(&mut own.yes, &p.yes, event, w)?;
+    each_open(&mut own.yes, &p.yes, entry, w)?;
     Ok(())
 }

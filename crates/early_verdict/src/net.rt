@@ -1,16 +1,16 @@
-//! One event over the sets of all nodes, in post-order.
+//! One entry over the sets of all nodes, in post-order.
 ghost use Rattle.std.specs.Prelude.{◌≡◌, ◌≤◌, ◌<◌, ◌+◌, ◌≢◌, ℕ, OnOk, IfOk, IfSome, List, Option, Some, None, Bool, true, false, length, slice_get, take};
 ghost use Rattle.stl_syntax.specs.Trace.{Trace, start};
 ghost use Rattle.stl_syntax.specs.Formula.{HasChildrenBelow};
 ghost use Rattle.stl_syntax.specs.declared.node.Node.{Node as ANode};
 ghost use Rattle.early_verdict.specs.Fitting.{Lists, Fits, AreEmpty, AreSetsTidy, HasStepped, lists_at};
-ghost use Rattle.early_verdict.specs.Happening.{Happens, IsEvent, Was};
+ghost use Rattle.early_verdict.specs.Happening.{Happens, IsEntry, Was};
 ghost use Rattle.early_verdict.specs.declared.sets.Sets.{Sets as ASets};
 ghost use Rattle.early_verdict.specs.Standing.{AllEmpty, AllTidy, HadAll, HasParts, LeafGoes, LeafIsBound, StepsAt};
 ghost use Rattle.early_verdict.specs.Living.{ComesOn, HasShown, ShowsAt};
 
 use crate::atoms::{rest, step_atom};
-use crate::event::Event;
+use crate::entry::Entry;
 use crate::operators::step_operator;
 use crate::sets::Sets;
 use crate::showing::take_in;
@@ -27,34 +27,34 @@ fn step_node(
     bound: &Bound,
     before: &Option<Row>,
     row: &Row,
-    event: &Event,
+    entry: &Entry,
 ) -> Result<(), Memory>
     requires own { AreSetsTidy own.old }
     requires below { AllTidy below.now }
     requires few { length below.now < 256 }
     requires children { HasChildrenBelow (length below.now) node.now }
-    requires event { IsEvent event.now }
-    requires none { event.now.first ≡ true → AreEmpty own.old }
+    requires entry { IsEntry entry.now }
+    requires none { entry.now.first ≡ true → AreEmpty own.old }
     requires atom { LeafIsBound bound.now (length below.now) node.now }
     requires first { IfSome before.now (λ r. length r.values ≡ bound.now.width) }
     requires second { length row.now.values ≡ bound.now.width }
     requires later { IfSome before.now (λ r. r.time < row.now.time) }
     ensures stepped { OnOk result (HasStepped own.old own.new) }
-    ensures fits { OnOk result ((old : Option Trace) (tr : Trace) (was : ℕ → Lists) → Happens event.now old tr
+    ensures fits { OnOk result ((old : Option Trace) (tr : Trace) (was : ℕ → Lists) → Happens entry.now old tr
         → HadAll old tr was below.now → HasParts node.now own.old below.now
-        → LeafGoes bound.now (length below.now) event.now old tr before.now row.now own.old node.now
-        → Was old (λ o. Fits node.now false o was) own.old → Fits node.now event.now.ended tr (lists_at below.now) own.new) }
+        → LeafGoes bound.now (length below.now) entry.now old tr before.now row.now own.old node.now
+        → Was old (λ o. Fits node.now false o was) own.old → Fits node.now entry.now.ended tr (lists_at below.now) own.new) }
 {
     match node {
         Node::Atom(_) => {
-            if event.ended {
+            if entry.ended {
                 rest(own);
                 return Ok(());
             }
             step_atom(own, bound, below.len() as u32, before, row)?;
             Ok(())
         }
-        _ => step_operator(own, node, below, event),
+        _ => step_operator(own, node, below, entry),
     }
 }
 
@@ -67,7 +67,7 @@ fn step_at(
     bound: &Bound,
     before: &Option<Row>,
     row: &Row,
-    event: &Event,
+    entry: &Entry,
 ) -> Result<(), Memory>
     requires within { i < length live.old }
     requires shown_within { i < length shown.now }
@@ -75,22 +75,22 @@ fn step_at(
     requires tidy { AllTidy live.old }
     requires shown_tidy { AllTidy shown.now }
     requires children { HasChildrenBelow i node.now }
-    requires event { IsEvent event.now }
-    requires none { event.now.first ≡ true → (s : ASets) → slice_get live.old i ≡ Some s → AreEmpty s }
+    requires entry { IsEntry entry.now }
+    requires none { entry.now.first ≡ true → (s : ASets) → slice_get live.old i ≡ Some s → AreEmpty s }
     requires atom { LeafIsBound bound.now i node.now }
     requires first { IfSome before.now (λ r. length r.values ≡ bound.now.width) }
     requires second { length row.now.values ≡ bound.now.width }
     requires later { IfSome before.now (λ r. r.time < row.now.time) }
     ensures { OnOk result ((stepped : StepsAt i live.old live.new)
-        × ((old : Option Trace) (tr : Trace) (was : ℕ → Lists) → Happens event.now old tr
+        × ((old : Option Trace) (tr : Trace) (was : ℕ → Lists) → Happens entry.now old tr
         → HadAll old tr was (take i shown.now) → HasParts node.now stepped.was (take i shown.now)
-        → LeafGoes bound.now i event.now old tr before.now row.now stepped.was node.now
-        → Was old (λ o. Fits node.now false o was) stepped.was → Fits node.now event.now.ended tr (lists_at (take i shown.now)) stepped.is)) }
+        → LeafGoes bound.now i entry.now old tr before.now row.now stepped.was node.now
+        → Was old (λ o. Fits node.now false o was) stepped.was → Fits node.now entry.now.ended tr (lists_at (take i shown.now)) stepped.is)) }
 {
     let (_, from) = live.split_at_mut(i);
     let own = &mut from[0];
     let below = &shown[..i];
-    step_node(own, node, below, bound, before, row, event)
+    step_node(own, node, below, bound, before, row, entry)
 }
 
 /// Shows what the sets at a place gained.
@@ -115,7 +115,7 @@ fn show(shown: &mut Sets, own: &Sets) -> Result<(), Memory>
     Ok(())
 }
 
-/// One event over all sets: a row, or, once it has ended, the end of the input, whose last row is given again.
+/// One entry over all sets: a row, or, once it has ended, the end of the input, whose last row is given again.
 pub(crate) fn step_all(
     live: &mut [Sets],
     shown: &mut [Sets],
@@ -123,19 +123,19 @@ pub(crate) fn step_all(
     bound: &Bound,
     before: &Option<Row>,
     row: &Row,
-    event: &Event,
+    entry: &Entry,
 ) -> Result<(), Memory>
     requires count { length live.old ≡ length formula.now.nodes }
     requires shown_count { length shown.old ≡ length formula.now.nodes }
     requires tidy { AllTidy live.old }
     requires shown_tidy { AllTidy shown.old }
-    requires event { IsEvent event.now }
-    requires none { event.now.first ≡ true → AllEmpty live.old }
+    requires entry { IsEntry entry.now }
+    requires none { entry.now.first ≡ true → AllEmpty live.old }
     requires atoms { (i : ℕ) (n : ANode) → slice_get formula.now.nodes i ≡ Some n → LeafIsBound bound.now i n }
     requires first { IfSome before.now (λ r. length r.values ≡ bound.now.width) }
     requires second { length row.now.values ≡ bound.now.width }
     requires later { IfSome before.now (λ r. r.time < row.now.time) }
-    ensures { OnOk result (ComesOn formula.now.nodes bound.now event.now before.now row.now live.old live.new shown.old shown.new) }
+    ensures { OnOk result (ComesOn formula.now.nodes bound.now entry.now before.now row.now live.old live.new shown.old shown.new) }
 {
     let count = formula.len();
     for i in 0..count {
@@ -147,7 +147,7 @@ pub(crate) fn step_all(
             bound,
             before,
             row,
-            event,
+            entry,
         )?;
         show_at(shown, live, i as usize)?;
     }

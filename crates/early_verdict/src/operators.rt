@@ -1,17 +1,17 @@
-//! One event over the sets of an operator, by those of its children.
+//! One entry over the sets of an operator, by those of its children.
 ghost use Rattle.std.specs.Prelude.{◌≡◌, ◌<◌, ◌^◌, ℕ, OnOk, Option, Some, slice_get, pos, true, length, unsigned_abs, ◌≤◌};
 ghost use lib.IntN.{neg_ℤ};
 ghost use Rattle.stl_syntax.specs.Formula.{HasChildrenBelow};
 ghost use Rattle.stl_syntax.specs.declared.node.Node.TheVariants.{Not, And, Or, Implies, Until, Eventually, Always, Since, Once, Historically};
 ghost use Rattle.early_verdict.specs.Looking.{IsAhead, IsBehind};
 ghost use Rattle.early_verdict.specs.Fitting.{AreEmpty, AreSetsTidy, HasStepped};
-ghost use Rattle.early_verdict.specs.Happening.{IsEvent};
+ghost use Rattle.early_verdict.specs.Happening.{IsEntry};
 ghost use Rattle.early_verdict.specs.Standing.{AllTidy, GoesBy, IsOperator, LooksAhead, LooksBehind};
 
 use crate::connectives::{
     step_conjunction, step_constant, step_disjunction, step_implication, step_negation,
 };
-use crate::event::Event;
+use crate::entry::Entry;
 use crate::looks::{step_always, step_eventually, step_historically, step_once};
 use crate::runs::{step_since, step_until};
 use crate::sets::Sets;
@@ -70,14 +70,14 @@ fn at(below: &[Sets], place: u32) -> &Sets
 }
 
 /// A negation.
-fn go_negation(own: &mut Sets, of: u32, below: &[Sets], event: &Event) -> Result<(), Memory>
+fn go_negation(own: &mut Sets, of: u32, below: &[Sets], entry: &Entry) -> Result<(), Memory>
     requires own { AreSetsTidy own.old }
     requires below { AllTidy below.now }
     requires of { of < length below.now }
-    requires event { IsEvent event.now }
-    requires none { event.now.first ≡ true → AreEmpty own.old }
+    requires entry { IsEntry entry.now }
+    requires none { entry.now.first ≡ true → AreEmpty own.old }
     ensures stepped { OnOk result (HasStepped own.old own.new) }
-    ensures fits { OnOk result (GoesBy (Not of) event.now below.now own.old own.new) }
+    ensures fits { OnOk result (GoesBy (Not of) entry.now below.now own.old own.new) }
 {
     step_negation(own, at(below, of))?;
     Ok(())
@@ -89,16 +89,16 @@ fn go_conjunction(
     left: u32,
     right: u32,
     below: &[Sets],
-    event: &Event,
+    entry: &Entry,
 ) -> Result<(), Memory>
     requires own { AreSetsTidy own.old }
     requires below { AllTidy below.now }
     requires left { left < length below.now }
     requires right { right < length below.now }
-    requires event { IsEvent event.now }
-    requires none { event.now.first ≡ true → AreEmpty own.old }
+    requires entry { IsEntry entry.now }
+    requires none { entry.now.first ≡ true → AreEmpty own.old }
     ensures stepped { OnOk result (HasStepped own.old own.new) }
-    ensures fits { OnOk result (GoesBy (And left right) event.now below.now own.old own.new) }
+    ensures fits { OnOk result (GoesBy (And left right) entry.now below.now own.old own.new) }
 {
     step_conjunction(own, at(below, left), at(below, right))?;
     Ok(())
@@ -110,16 +110,16 @@ fn go_disjunction(
     left: u32,
     right: u32,
     below: &[Sets],
-    event: &Event,
+    entry: &Entry,
 ) -> Result<(), Memory>
     requires own { AreSetsTidy own.old }
     requires below { AllTidy below.now }
     requires left { left < length below.now }
     requires right { right < length below.now }
-    requires event { IsEvent event.now }
-    requires none { event.now.first ≡ true → AreEmpty own.old }
+    requires entry { IsEntry entry.now }
+    requires none { entry.now.first ≡ true → AreEmpty own.old }
     ensures stepped { OnOk result (HasStepped own.old own.new) }
-    ensures fits { OnOk result (GoesBy (Or left right) event.now below.now own.old own.new) }
+    ensures fits { OnOk result (GoesBy (Or left right) entry.now below.now own.old own.new) }
 {
     step_disjunction(own, at(below, left), at(below, right))?;
     Ok(())
@@ -131,16 +131,16 @@ fn go_implication(
     left: u32,
     right: u32,
     below: &[Sets],
-    event: &Event,
+    entry: &Entry,
 ) -> Result<(), Memory>
     requires own { AreSetsTidy own.old }
     requires below { AllTidy below.now }
     requires left { left < length below.now }
     requires right { right < length below.now }
-    requires event { IsEvent event.now }
-    requires none { event.now.first ≡ true → AreEmpty own.old }
+    requires entry { IsEntry entry.now }
+    requires none { entry.now.first ≡ true → AreEmpty own.old }
     ensures stepped { OnOk result (HasStepped own.old own.new) }
-    ensures fits { OnOk result (GoesBy (Implies left right) event.now below.now own.old own.new) }
+    ensures fits { OnOk result (GoesBy (Implies left right) entry.now below.now own.old own.new) }
 {
     step_implication(own, at(below, left), at(below, right))?;
     Ok(())
@@ -161,18 +161,18 @@ fn go_eventually(
     of: u32,
     b: Bounds<u32>,
     below: &[Sets],
-    event: &Event,
+    entry: &Entry,
 ) -> Result<(), Memory>
     requires own { AreSetsTidy own.old }
     requires below { AllTidy below.now }
     requires of { of < length below.now }
-    requires event { IsEvent event.now }
-    requires none { event.now.first ≡ true → AreEmpty own.old }
+    requires entry { IsEntry entry.now }
+    requires none { entry.now.first ≡ true → AreEmpty own.old }
     ensures stepped { OnOk result (HasStepped own.old own.new) }
-    ensures fits { OnOk result (GoesBy (Eventually of b.low b.high b.low_in b.high_in) event.now below.now own.old own.new) }
+    ensures fits { OnOk result (GoesBy (Eventually of b.low b.high b.low_in b.high_in) entry.now below.now own.old own.new) }
 {
     let w = ahead(b.low, b.high, b.low_in, b.high_in);
-    step_eventually(own, at(below, of), &w, event)?;
+    step_eventually(own, at(below, of), &w, entry)?;
     Ok(())
 }
 
@@ -182,18 +182,18 @@ fn go_always(
     of: u32,
     b: Bounds<u32>,
     below: &[Sets],
-    event: &Event,
+    entry: &Entry,
 ) -> Result<(), Memory>
     requires own { AreSetsTidy own.old }
     requires below { AllTidy below.now }
     requires of { of < length below.now }
-    requires event { IsEvent event.now }
-    requires none { event.now.first ≡ true → AreEmpty own.old }
+    requires entry { IsEntry entry.now }
+    requires none { entry.now.first ≡ true → AreEmpty own.old }
     ensures stepped { OnOk result (HasStepped own.old own.new) }
-    ensures fits { OnOk result (GoesBy (Always of b.low b.high b.low_in b.high_in) event.now below.now own.old own.new) }
+    ensures fits { OnOk result (GoesBy (Always of b.low b.high b.low_in b.high_in) entry.now below.now own.old own.new) }
 {
     let w = ahead(b.low, b.high, b.low_in, b.high_in);
-    step_always(own, at(below, of), &w, event)?;
+    step_always(own, at(below, of), &w, entry)?;
     Ok(())
 }
 
@@ -203,18 +203,18 @@ fn go_once(
     of: u32,
     b: Bounds<Option<u32>>,
     below: &[Sets],
-    event: &Event,
+    entry: &Entry,
 ) -> Result<(), Memory>
     requires own { AreSetsTidy own.old }
     requires below { AllTidy below.now }
     requires of { of < length below.now }
-    requires event { IsEvent event.now }
-    requires none { event.now.first ≡ true → AreEmpty own.old }
+    requires entry { IsEntry entry.now }
+    requires none { entry.now.first ≡ true → AreEmpty own.old }
     ensures stepped { OnOk result (HasStepped own.old own.new) }
-    ensures fits { OnOk result (GoesBy (Once of b.low b.high b.low_in b.high_in) event.now below.now own.old own.new) }
+    ensures fits { OnOk result (GoesBy (Once of b.low b.high b.low_in b.high_in) entry.now below.now own.old own.new) }
 {
     let w = behind(b.low, b.high, b.low_in, b.high_in);
-    step_once(own, at(below, of), &w, event)?;
+    step_once(own, at(below, of), &w, entry)?;
     Ok(())
 }
 
@@ -224,18 +224,18 @@ fn go_historically(
     of: u32,
     b: Bounds<Option<u32>>,
     below: &[Sets],
-    event: &Event,
+    entry: &Entry,
 ) -> Result<(), Memory>
     requires own { AreSetsTidy own.old }
     requires below { AllTidy below.now }
     requires of { of < length below.now }
-    requires event { IsEvent event.now }
-    requires none { event.now.first ≡ true → AreEmpty own.old }
+    requires entry { IsEntry entry.now }
+    requires none { entry.now.first ≡ true → AreEmpty own.old }
     ensures stepped { OnOk result (HasStepped own.old own.new) }
-    ensures fits { OnOk result (GoesBy (Historically of b.low b.high b.low_in b.high_in) event.now below.now own.old own.new) }
+    ensures fits { OnOk result (GoesBy (Historically of b.low b.high b.low_in b.high_in) entry.now below.now own.old own.new) }
 {
     let w = behind(b.low, b.high, b.low_in, b.high_in);
-    step_historically(own, at(below, of), &w, event)?;
+    step_historically(own, at(below, of), &w, entry)?;
     Ok(())
 }
 
@@ -247,20 +247,20 @@ fn go_until(
     low: u32,
     high: u32,
     below: &[Sets],
-    event: &Event,
+    entry: &Entry,
 ) -> Result<(), Memory>
     requires own { AreSetsTidy own.old }
     requires below { AllTidy below.now }
     requires left { left < length below.now }
     requires right { right < length below.now }
-    requires event { IsEvent event.now }
-    requires none { event.now.first ≡ true → AreEmpty own.old }
+    requires entry { IsEntry entry.now }
+    requires none { entry.now.first ≡ true → AreEmpty own.old }
     ensures stepped { OnOk result (HasStepped own.old own.new) }
-    ensures fits { OnOk result (GoesBy (Until left right low high) event.now below.now own.old own.new) }
+    ensures fits { OnOk result (GoesBy (Until left right low high) entry.now below.now own.old own.new) }
 {
     let w = ahead(low, high, true, true);
     let up_to = ahead(0, low, true, true);
-    step_until(own, at(below, left), at(below, right), &w, &up_to, event)?;
+    step_until(own, at(below, left), at(below, right), &w, &up_to, entry)?;
     Ok(())
 }
 
@@ -272,33 +272,33 @@ fn go_since(
     low: u32,
     high: Option<u32>,
     below: &[Sets],
-    event: &Event,
+    entry: &Entry,
 ) -> Result<(), Memory>
     requires own { AreSetsTidy own.old }
     requires below { AllTidy below.now }
     requires left { left < length below.now }
     requires right { right < length below.now }
-    requires event { IsEvent event.now }
-    requires none { event.now.first ≡ true → AreEmpty own.old }
+    requires entry { IsEntry entry.now }
+    requires none { entry.now.first ≡ true → AreEmpty own.old }
     ensures stepped { OnOk result (HasStepped own.old own.new) }
-    ensures fits { OnOk result (GoesBy (Since left right low high) event.now below.now own.old own.new) }
+    ensures fits { OnOk result (GoesBy (Since left right low high) entry.now below.now own.old own.new) }
 {
     let w = behind(low, high, true, true);
     let down_to = behind(0, Some(low), true, true);
-    step_since(own, at(below, left), at(below, right), &w, &down_to, event)?;
+    step_since(own, at(below, left), at(below, right), &w, &down_to, entry)?;
     Ok(())
 }
 
 /// Steps the sets of an operator whose one operand is looked at ahead.
-fn step_ahead(own: &mut Sets, node: &Node, below: &[Sets], event: &Event) -> Result<(), Memory>
+fn step_ahead(own: &mut Sets, node: &Node, below: &[Sets], entry: &Entry) -> Result<(), Memory>
     requires own { AreSetsTidy own.old }
     requires below { AllTidy below.now }
     requires children { HasChildrenBelow (length below.now) node.now }
     requires operator { LooksAhead node.now }
-    requires event { IsEvent event.now }
-    requires none { event.now.first ≡ true → AreEmpty own.old }
+    requires entry { IsEntry entry.now }
+    requires none { entry.now.first ≡ true → AreEmpty own.old }
     ensures stepped { OnOk result (HasStepped own.old own.new) }
-    ensures fits { OnOk result (GoesBy node.now event.now below.now own.old own.new) }
+    ensures fits { OnOk result (GoesBy node.now entry.now below.now own.old own.new) }
 {
     match node {
         Node::Eventually {
@@ -314,7 +314,7 @@ fn step_ahead(own: &mut Sets, node: &Node, below: &[Sets], event: &Event) -> Res
                 low_in: *low_in,
                 high_in: *high_in,
             };
-            go_eventually(own, *of, b, below, event)
+            go_eventually(own, *of, b, below, entry)
         }
         Node::Always {
             of,
@@ -329,22 +329,22 @@ fn step_ahead(own: &mut Sets, node: &Node, below: &[Sets], event: &Event) -> Res
                 low_in: *low_in,
                 high_in: *high_in,
             };
-            go_always(own, *of, b, below, event)
+            go_always(own, *of, b, below, entry)
         }
         _ => unreachable!(),
     }
 }
 
 /// Steps the sets of an operator whose one operand is looked at behind.
-fn step_behind(own: &mut Sets, node: &Node, below: &[Sets], event: &Event) -> Result<(), Memory>
+fn step_behind(own: &mut Sets, node: &Node, below: &[Sets], entry: &Entry) -> Result<(), Memory>
     requires own { AreSetsTidy own.old }
     requires below { AllTidy below.now }
     requires children { HasChildrenBelow (length below.now) node.now }
     requires operator { LooksBehind node.now }
-    requires event { IsEvent event.now }
-    requires none { event.now.first ≡ true → AreEmpty own.old }
+    requires entry { IsEntry entry.now }
+    requires none { entry.now.first ≡ true → AreEmpty own.old }
     ensures stepped { OnOk result (HasStepped own.old own.new) }
-    ensures fits { OnOk result (GoesBy node.now event.now below.now own.old own.new) }
+    ensures fits { OnOk result (GoesBy node.now entry.now below.now own.old own.new) }
 {
     match node {
         Node::Once {
@@ -360,7 +360,7 @@ fn step_behind(own: &mut Sets, node: &Node, below: &[Sets], event: &Event) -> Re
                 low_in: *low_in,
                 high_in: *high_in,
             };
-            go_once(own, *of, b, below, event)
+            go_once(own, *of, b, below, entry)
         }
         Node::Historically {
             of,
@@ -375,7 +375,7 @@ fn step_behind(own: &mut Sets, node: &Node, below: &[Sets], event: &Event) -> Re
                 low_in: *low_in,
                 high_in: *high_in,
             };
-            go_historically(own, *of, b, below, event)
+            go_historically(own, *of, b, below, entry)
         }
         _ => unreachable!(),
     }
@@ -386,37 +386,37 @@ pub(crate) fn step_operator(
     own: &mut Sets,
     node: &Node,
     below: &[Sets],
-    event: &Event,
+    entry: &Entry,
 ) -> Result<(), Memory>
     requires own { AreSetsTidy own.old }
     requires below { AllTidy below.now }
     requires children { HasChildrenBelow (length below.now) node.now }
     requires operator { IsOperator node.now }
-    requires event { IsEvent event.now }
-    requires none { event.now.first ≡ true → AreEmpty own.old }
+    requires entry { IsEntry entry.now }
+    requires none { entry.now.first ≡ true → AreEmpty own.old }
     ensures stepped { OnOk result (HasStepped own.old own.new) }
-    ensures fits { OnOk result (GoesBy node.now event.now below.now own.old own.new) }
+    ensures fits { OnOk result (GoesBy node.now entry.now below.now own.old own.new) }
 {
     match node {
-        Node::Const(holds) => step_constant(own, *holds, event),
+        Node::Const(holds) => step_constant(own, *holds, entry),
         Node::Atom(_) => unreachable!(),
-        Node::Not(of) => go_negation(own, *of, below, event),
-        Node::And(left, right) => go_conjunction(own, *left, *right, below, event),
-        Node::Or(left, right) => go_disjunction(own, *left, *right, below, event),
-        Node::Implies(left, right) => go_implication(own, *left, *right, below, event),
+        Node::Not(of) => go_negation(own, *of, below, entry),
+        Node::And(left, right) => go_conjunction(own, *left, *right, below, entry),
+        Node::Or(left, right) => go_disjunction(own, *left, *right, below, entry),
+        Node::Implies(left, right) => go_implication(own, *left, *right, below, entry),
         Node::Until {
             left,
             right,
             low,
             high,
-        } => go_until(own, *left, *right, *low, *high, below, event),
+        } => go_until(own, *left, *right, *low, *high, below, entry),
         Node::Since {
             left,
             right,
             low,
             high,
-        } => go_since(own, *left, *right, *low, *high, below, event),
-        Node::Eventually { .. } | Node::Always { .. } => step_ahead(own, node, below, event),
-        Node::Once { .. } | Node::Historically { .. } => step_behind(own, node, below, event),
+        } => go_since(own, *left, *right, *low, *high, below, entry),
+        Node::Eventually { .. } | Node::Always { .. } => step_ahead(own, node, below, entry),
+        Node::Once { .. } | Node::Historically { .. } => step_behind(own, node, below, entry),
     }
 }

@@ -1,16 +1,15 @@
 //! Runs that reach a time of another set, ahead or behind.
 ghost use Rattle.std.specs.Prelude.{◌≡◌, OnOk};
-ghost use Rattle.early_verdict.specs.Cuts.{place};
+ghost use Rattle.frac128.specs.Cuts.{place};
 ghost use Rattle.early_verdict.specs.Spans.{AreTidy, Grows};
 ghost use Rattle.early_verdict.specs.Steps.{BySome};
 ghost use Rattle.early_verdict.specs.Reaching.{IsCarried, ReachedAt, ReachesAt, ReachesBy, ReachesIn};
 
-use crate::cut::Cut;
 use crate::grown::Grown;
 use crate::shared::{first_begin, last_end};
 use crate::stretch::Stretch;
 use crate::touching::{begins_by, first_reaching, holding};
-use frac128::Memory;
+use frac128::{Cut, Memory};
 use std::collections::VecDeque;
 
 /// Adds the times of the run from which on it has a sure time of the spans.

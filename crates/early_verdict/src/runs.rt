@@ -1,14 +1,14 @@
-//! One event over the sets of until and since.
+//! One entry over the sets of until and since.
 ghost use Rattle.std.specs.Prelude.{◌≡◌, OnOk, Option, Some, ℕ, true, false, MatchOption, IsSome};
 ghost use Rattle.stl_syntax.specs.Trace.{Trace};
 ghost use Rattle.early_verdict.specs.Fitting.{Lists, lists_of, AreEmpty, AreSetsTidy, IsHoldingTidy, IsFailingTidy};
 ghost use Rattle.early_verdict.specs.Fitting.{IsHoldingEmpty, IsFailingEmpty, GainsHolding, GainsFailing};
 ghost use Rattle.early_verdict.specs.Fitting.{HasFailBounds, HasStepped, KeepsHolding, KeepsFailing, UntilHolding};
 ghost use Rattle.early_verdict.specs.Fitting.{UntilFailing, SinceHolding, SinceFailing, UntilFits, SinceFits};
-ghost use Rattle.early_verdict.specs.Happening.{Had, Happens, IsEvent, Was};
+ghost use Rattle.early_verdict.specs.Happening.{Had, Happens, IsEntry, Was};
 ghost use Rattle.early_verdict.specs.Looking.{IsAhead, IsBehind};
 
-use crate::event::Event;
+use crate::entry::Entry;
 use crate::looks::{each_ahead, each_open};
 use crate::sets::{Failing, Holding, Sets};
 use crate::window::Window;
@@ -22,26 +22,26 @@ fn until_holds(
     q: &Sets,
     w: &Window,
     up_to: &Window,
-    event: &Event,
+    entry: &Entry,
 ) -> Result<(), Memory>
     requires own { IsHoldingTidy own.old }
     requires left { AreSetsTidy p.now }
     requires right { AreSetsTidy q.now }
-    requires event { IsEvent event.now }
-    requires none { event.now.first ≡ true → IsHoldingEmpty own.old }
+    requires entry { IsEntry entry.now }
+    requires none { entry.now.first ≡ true → IsHoldingEmpty own.old }
     ensures tidy { OnOk result (IsHoldingTidy own.new) }
     ensures bounds { OnOk result (KeepsHolding own.old own.new) }
     ensures gains { OnOk result (GainsHolding own.old own.new) }
     ensures fits { OnOk result ((old : Option Trace) (tr : Trace) (p' q' : Lists) (a b : ℕ) → IsAhead w.now a b true true → IsAhead up_to.now 0 a true true
-        → Happens event.now old tr → Had old tr p' p.now → Had old tr q' q.now
+        → Happens entry.now old tr → Had old tr p' p.now → Had old tr q' q.now
         → MatchOption old (IsHoldingEmpty own.old) (λ o. UntilHolding o a b p' q' own.old)
         → UntilHolding tr a b (lists_of p.now) (lists_of q.now) own.new) }
 {
     own.both.both(&p.yes, &q.yes)?;
     own.run
-        .reach_sure(&p.yes, &own.both, &event.before, &event.sure)?;
-    own.some.some_sure(&q.yes, &event.before, &event.sure, w)?;
-    each_open(&mut own.each, &own.run, event, up_to)?;
+        .reach_sure(&p.yes, &own.both, &entry.before, &entry.sure)?;
+    own.some.some_sure(&q.yes, &entry.before, &entry.sure, w)?;
+    each_open(&mut own.each, &own.run, entry, up_to)?;
     Ok(())
 }
 
@@ -53,25 +53,25 @@ fn until_fails(
     q: &Sets,
     w: &Window,
     up_to: &Window,
-    event: &Event,
+    entry: &Entry,
 ) -> Result<(), Memory>
     requires own { IsFailingTidy own.old }
     requires left { AreSetsTidy p.now }
     requires right { AreSetsTidy q.now }
-    requires event { IsEvent event.now }
-    requires none { event.now.first ≡ true → IsFailingEmpty own.old }
+    requires entry { IsEntry entry.now }
+    requires none { entry.now.first ≡ true → IsFailingEmpty own.old }
     ensures tidy { OnOk result (IsFailingTidy own.new) }
     ensures bounds { OnOk result (KeepsFailing own.old own.new) }
     ensures gains { OnOk result (GainsFailing own.old own.new) }
     ensures fits { OnOk result ((old : Option Trace) (tr : Trace) (p' q' : Lists) (a b : ℕ) → IsAhead w.now a b true true → IsAhead up_to.now 0 a true true
-        → Happens event.now old tr → Had old tr p' p.now → Had old tr q' q.now
+        → Happens entry.now old tr → Had old tr p' p.now → Had old tr q' q.now
         → own.old.fail.bounds ≡ p.now.no.bounds → own.old.stop.bounds ≡ p.now.no.bounds
         → MatchOption old (IsFailingEmpty own.old) (λ o. UntilFailing false o a b p' q' own.old)
-        → UntilFailing event.now.ended tr a b (lists_of p.now) (lists_of q.now) own.new) }
+        → UntilFailing entry.now.ended tr a b (lists_of p.now) (lists_of q.now) own.new) }
 {
     own.fail.either(&p.no, &q.no)?;
     own.stop.reach(&own.fail, &p.no)?;
-    each_ahead(&mut own.never, &q.no, event, w)?;
+    each_ahead(&mut own.never, &q.no, entry, w)?;
     own.broken.some(&own.stop, up_to)?;
     Ok(())
 }
@@ -84,26 +84,26 @@ fn since_holds(
     q: &Sets,
     w: &Window,
     down_to: &Window,
-    event: &Event,
+    entry: &Entry,
 ) -> Result<(), Memory>
     requires own { IsHoldingTidy own.old }
     requires left { AreSetsTidy p.now }
     requires right { AreSetsTidy q.now }
-    requires event { IsEvent event.now }
-    requires none { event.now.first ≡ true → IsHoldingEmpty own.old }
+    requires entry { IsEntry entry.now }
+    requires none { entry.now.first ≡ true → IsHoldingEmpty own.old }
     ensures tidy { OnOk result (IsHoldingTidy own.new) }
     ensures bounds { OnOk result (KeepsHolding own.old own.new) }
     ensures gains { OnOk result (GainsHolding own.old own.new) }
     ensures fits { OnOk result ((old : Option Trace) (tr : Trace) (p' q' : Lists) (a : ℕ) (b : Option ℕ)
         → IsBehind w.now a b true true → IsBehind down_to.now 0 (Some a) true true
-        → Happens event.now old tr → Had old tr p' p.now → Had old tr q' q.now
+        → Happens entry.now old tr → Had old tr p' p.now → Had old tr q' q.now
         → MatchOption old (IsHoldingEmpty own.old) (λ o. SinceHolding o a b p' q' own.old)
         → SinceHolding tr a b (lists_of p.now) (lists_of q.now) own.new) }
 {
     own.both.both(&p.yes, &q.yes)?;
     own.run.reach_back(&p.yes, &own.both, own.carried)?;
     own.some.some(&q.yes, w)?;
-    each_open(&mut own.each, &own.run, event, down_to)?;
+    each_open(&mut own.each, &own.run, entry, down_to)?;
     Ok(())
 }
 
@@ -115,26 +115,26 @@ fn since_fails(
     q: &Sets,
     w: &Window,
     down_to: &Window,
-    event: &Event,
+    entry: &Entry,
 ) -> Result<(), Memory>
     requires own { IsFailingTidy own.old }
     requires left { AreSetsTidy p.now }
     requires right { AreSetsTidy q.now }
-    requires event { IsEvent event.now }
-    requires none { event.now.first ≡ true → IsFailingEmpty own.old }
+    requires entry { IsEntry entry.now }
+    requires none { entry.now.first ≡ true → IsFailingEmpty own.old }
     ensures tidy { OnOk result (IsFailingTidy own.new) }
     ensures bounds { OnOk result (KeepsFailing own.old own.new) }
     ensures gains { OnOk result (GainsFailing own.old own.new) }
     ensures fits { OnOk result ((old : Option Trace) (tr : Trace) (p' q' : Lists) (a : ℕ) (b : Option ℕ)
         → IsBehind w.now a b true true → IsBehind down_to.now 0 (Some a) true true
-        → Happens event.now old tr → Had old tr p' p.now → Had old tr q' q.now
+        → Happens entry.now old tr → Had old tr p' p.now → Had old tr q' q.now
         → own.old.fail.bounds ≡ p.now.no.bounds → own.old.stop.bounds ≡ p.now.no.bounds
         → MatchOption old (IsFailingEmpty own.old) (λ o. SinceFailing o a b p' q' own.old)
         → SinceFailing tr a b (lists_of p.now) (lists_of q.now) own.new) }
 {
     own.fail.either(&p.no, &q.no)?;
     own.stop.reach_back(&own.fail, &p.no, own.carried)?;
-    each_open(&mut own.never, &q.no, event, w)?;
+    each_open(&mut own.never, &q.no, entry, w)?;
     own.broken.some(&own.stop, down_to)?;
     Ok(())
 }
@@ -146,26 +146,26 @@ pub(crate) fn step_until(
     q: &Sets,
     w: &Window,
     up_to: &Window,
-    event: &Event,
+    entry: &Entry,
 ) -> Result<(), Memory>
     requires own { AreSetsTidy own.old }
     requires left { AreSetsTidy p.now }
     requires right { AreSetsTidy q.now }
-    requires event { IsEvent event.now }
-    requires none { event.now.first ≡ true → AreEmpty own.old }
+    requires entry { IsEntry entry.now }
+    requires none { entry.now.first ≡ true → AreEmpty own.old }
     ensures stepped { OnOk result (HasStepped own.old own.new) }
     ensures fits { OnOk result ((old : Option Trace) (tr : Trace) (p' q' : Lists) (a b : ℕ) → IsAhead w.now a b true true → IsAhead up_to.now 0 a true true
-        → Happens event.now old tr → Had old tr p' p.now → Had old tr q' q.now → HasFailBounds own.old p.now
+        → Happens entry.now old tr → Had old tr p' p.now → Had old tr q' q.now → HasFailBounds own.old p.now
         → IsSome own.old.parts → Was old (λ o. UntilFits false o a b p' q') own.old
-        → UntilFits event.now.ended tr a b (lists_of p.now) (lists_of q.now) own.new) }
+        → UntilFits entry.now.ended tr a b (lists_of p.now) (lists_of q.now) own.new) }
 {
     let Some(parts) = &mut own.parts else {
         own.yes.rest();
         own.no.rest();
         return Ok(());
     };
-    until_holds(&mut parts.holding, p, q, w, up_to, event)?;
-    until_fails(&mut parts.failing, p, q, w, up_to, event)?;
+    until_holds(&mut parts.holding, p, q, w, up_to, entry)?;
+    until_fails(&mut parts.failing, p, q, w, up_to, entry)?;
     own.yes.both(&parts.holding.some, &parts.holding.each)?;
     own.no.either(&parts.failing.never, &parts.failing.broken)?;
     Ok(())
@@ -178,17 +178,17 @@ pub(crate) fn step_since(
     q: &Sets,
     w: &Window,
     down_to: &Window,
-    event: &Event,
+    entry: &Entry,
 ) -> Result<(), Memory>
     requires own { AreSetsTidy own.old }
     requires left { AreSetsTidy p.now }
     requires right { AreSetsTidy q.now }
-    requires event { IsEvent event.now }
-    requires none { event.now.first ≡ true → AreEmpty own.old }
+    requires entry { IsEntry entry.now }
+    requires none { entry.now.first ≡ true → AreEmpty own.old }
     ensures stepped { OnOk result (HasStepped own.old own.new) }
     ensures fits { OnOk result ((old : Option Trace) (tr : Trace) (p' q' : Lists) (a : ℕ) (b : Option ℕ)
         → IsBehind w.now a b true true → IsBehind down_to.now 0 (Some a) true true
-        → Happens event.now old tr → Had old tr p' p.now → Had old tr q' q.now → HasFailBounds own.old p.now
+        → Happens entry.now old tr → Had old tr p' p.now → Had old tr q' q.now → HasFailBounds own.old p.now
         → IsSome own.old.parts → Was old (λ o. SinceFits o a b p' q') own.old → SinceFits tr a b (lists_of p.now) (lists_of q.now) own.new) }
 {
     let Some(parts) = &mut own.parts else {
@@ -196,8 +196,8 @@ pub(crate) fn step_since(
         own.no.rest();
         return Ok(());
     };
-    since_holds(&mut parts.holding, p, q, w, down_to, event)?;
-    since_fails(&mut parts.failing, p, q, w, down_to, event)?;
+    since_holds(&mut parts.holding, p, q, w, down_to, entry)?;
+    since_fails(&mut parts.failing, p, q, w, down_to, entry)?;
     own.yes.both(&parts.holding.some, &parts.holding.each)?;
     own.no.either(&parts.failing.never, &parts.failing.broken)?;
     Ok(())

@@ -1,14 +1,13 @@
 //! The times that see a stretch in their window, and those whose window a stretch holds.
 ghost use Rattle.std.specs.Prelude.{◌≡◌, OnOk};
-ghost use Rattle.early_verdict.specs.Cuts.{place};
+ghost use Rattle.frac128.specs.Cuts.{place};
 ghost use Rattle.early_verdict.specs.Spans.{AreTidy, Grows};
 ghost use Rattle.early_verdict.specs.Windows.{IsHeld, SeesPart};
 
-use crate::cut::Cut;
 use crate::grown::Grown;
 use crate::stretch::Stretch;
 use crate::window::Window;
-use frac128::Memory;
+use frac128::{Cut, Memory};
 
 /// Adds the times from which some time of the part lies in the window.
 pub(crate) fn add_seeing(own: &mut Grown, part: &Stretch, w: &Window) -> Result<(), Memory>

@@ -1,14 +1,14 @@
 //! The first and the last times that a list of stretches has within one.
 ghost use Rattle.std.specs.Prelude.{◌≡◌, ◌↔◌, IfSome, IfNone, Some, slice_get};
 ghost use Rattle.rational.specs.Time.{Rational};
-ghost use Rattle.early_verdict.specs.Cuts.{place};
+ghost use Rattle.frac128.specs.Cuts.{place};
 ghost use Rattle.early_verdict.specs.Spans.{AreTidy, IsOn, Lies};
 ghost use Rattle.early_verdict.specs.Reaching.{IsFirstBegin, IsLastEnd};
 ghost use Rattle.early_verdict.specs.declared.stretch.Stretch.{Stretch};
 
-use crate::cut::Cut;
 use crate::stretch::Stretch;
 use crate::touching::{begins_by, first_reaching};
+use frac128::Cut;
 use std::collections::VecDeque;
 
 /// What the stretch at the place has within the part.

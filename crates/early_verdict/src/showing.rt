@@ -3,17 +3,17 @@ ghost use Rattle.std.specs.Prelude.{◌≡◌, ◌⊎◌, ◌^◌, OnOk, IfSome,
 ghost use Rattle.rational.specs.Rational.{IsWithin};
 ghost use Rattle.rational.specs.Time.{Rational, ◌≤ʳ◌, ◌<ʳ◌};
 ghost use Rattle.frac128.specs.Value.{value};
-ghost use Rattle.early_verdict.specs.Cuts.{place, After, Upto};
+ghost use Rattle.rational.specs.Places.{After, Upto};
+ghost use Rattle.frac128.specs.Cuts.{place};
 ghost use Rattle.early_verdict.specs.Spans.{AreTidy, IsOn, Lies};
 ghost use Rattle.early_verdict.specs.Steps.{Gains};
 ghost use Rattle.early_verdict.specs.Showing.{EndsAfter, TakesIn};
 ghost use Rattle.early_verdict.specs.Letting.{IsCutAt, IsGrownInside};
 
-use crate::cut::Cut;
 use crate::grown::Grown;
 use crate::pointwise::add_all;
 use crate::stretch::Stretch;
-use frac128::Memory;
+use frac128::{Cut, Memory};
 use std::collections::VecDeque;
 
 /// Takes in what the other set gained, as far as it lies in the bounds, and notes what is new of it.

@@ -1,6 +1,5 @@
-//! What one event makes of a set of each kind.
+//! What one entry makes of a set of each kind.
 
-use crate::cut::Cut;
 use crate::grown::Grown;
 use crate::held::{add_all_held, add_all_seeing};
 use crate::lasting::{add_beginning, add_unseeing, run_to};
@@ -8,14 +7,15 @@ use crate::pointwise::{add_all, add_all_common};
 use crate::reach::{add_all_reached, add_all_reaching, add_carried, add_reaching_between};
 use crate::sure::{add_all_sure, add_seeing_between, add_themselves};
 use crate::window::Window;
-use frac128::Memory;
+use frac128::{Cut, Memory};
 
 impl Grown {
     ghost use Rattle.std.specs.Prelude.{◌≡◌, ◌^◌, ◌⊎◌, List, [], OnOk};
     ghost use Rattle.rational.specs.Rational.{IsWithin};
     ghost use Rattle.rational.specs.Time.{Rational};
     ghost use Rattle.frac128.specs.Value.{value};
-    ghost use Rattle.early_verdict.specs.Cuts.{AtMost, place};
+    ghost use Rattle.rational.specs.Places.{AtMost};
+    ghost use Rattle.frac128.specs.Cuts.{place};
     ghost use Rattle.early_verdict.specs.Spans.{AreTidy, IsOn, Lies};
     ghost use Rattle.early_verdict.specs.Steps.{Gains, SeesOne, SeesOnly, Tells};
     ghost use Rattle.early_verdict.specs.Sure.{SeesSure};
@@ -146,7 +146,7 @@ impl Grown {
         add_themselves(self, &x.fresh, w)
     }
 
-    /// The times from which each time of the window, as far as it lies from the start on, is one of the set, at the set's first event.
+    /// The times from which each time of the window, as far as it lies from the start on, is one of the set, at the set's first entry.
     ///
     /// # Errors
     ///

@@ -3,9 +3,9 @@ ghost use Rattle.std.specs.Prelude.{◌^◌, ◌&&◌, not};
 ghost use Rattle.rational.specs.Rational.{IsWithin};
 ghost use Rattle.rational.specs.Time.{HasTimeBetween};
 ghost use Rattle.frac128.specs.Value.{value};
-ghost use Rattle.early_verdict.specs.Cuts.{is_after};
+ghost use Rattle.frac128.specs.Cuts.{is_after};
 
-use crate::cut::Cut;
+use frac128::Cut;
 
 /// The times between two places, of which there are some. Times are in ticks.
 #[derive(Clone, Copy, Debug)]
@@ -21,7 +21,8 @@ impl Stretch {
     ghost use Rattle.std.specs.Prelude.{◌≡◌, ◌≤◌, ◌≤ℤ◌, ◌⊎◌, ◌↔◌, IfNone, IfSome, false, true, unsigned_abs};
     ghost use Rattle.rational.specs.Time.{Rational};
     ghost use Rattle.rational.specs.Rational.{whole};
-    ghost use Rattle.early_verdict.specs.Cuts.{place, After, AtMost, Before, Same, Upto};
+    ghost use Rattle.rational.specs.Places.{After, AtMost, Before, Same, Upto};
+    ghost use Rattle.frac128.specs.Cuts.{place};
     ghost use Rattle.early_verdict.specs.Spans.{Lies};
 
     /// From just before the one tick to just after the other.

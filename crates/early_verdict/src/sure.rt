@@ -1,18 +1,17 @@
 //! What became sure of the input of a window, added to the set of the times whose windows see it.
 ghost use Rattle.std.specs.Prelude.{◌≡◌, OnOk};
-ghost use Rattle.early_verdict.specs.Cuts.{place};
+ghost use Rattle.frac128.specs.Cuts.{place};
 ghost use Rattle.early_verdict.specs.Spans.{AreTidy, Grows};
 ghost use Rattle.early_verdict.specs.Steps.{BySome};
 ghost use Rattle.early_verdict.specs.Sure.{SeesItself, SeesUpto, SeesWithin};
 
-use crate::cut::Cut;
 use crate::grown::Grown;
 use crate::pointwise::add_all;
 use crate::seeing::add_seeing;
 use crate::stretch::Stretch;
 use crate::touching::{begins_by, first_reaching};
 use crate::window::Window;
-use frac128::Memory;
+use frac128::{Cut, Memory};
 use std::collections::VecDeque;
 
 /// Adds the times from which some time of the part between the two cuts lies in the window.

@@ -1,15 +1,15 @@
 //! The stretches of a list that another one touches.
 ghost use Rattle.std.specs.Prelude.{◌≡◌, ◌≤◌, ◌++◌, ◌∷◌, ◌↔◌, List, length, take, drop, slice_get, Some, IfOk, OnOk, IfSome, IfNone};
 ghost use Rattle.rational.specs.Time.{Rational};
-ghost use Rattle.early_verdict.specs.Cuts.{After, Upto, Before, place};
+ghost use Rattle.rational.specs.Places.{After, Upto, Before};
+ghost use Rattle.frac128.specs.Cuts.{place};
 ghost use Rattle.early_verdict.specs.Spans.{AreTidy, BeginsAfter, EndBefore, Grows, IsAmong, Lies, NoneEndsBefore};
 ghost use Rattle.early_verdict.specs.Steps.{HoldsFrom};
 ghost use Rattle.early_verdict.specs.declared.stretch.Stretch.{Stretch};
 ghost use Rattle.early_verdict.specs.Joining.{Absorbs, Notes};
 
-use crate::cut::Cut;
 use crate::stretch::Stretch;
-use frac128::Memory;
+use frac128::{Cut, Memory};
 use std::collections::VecDeque;
 
 /// The place of the first stretch that does not end before the cut.

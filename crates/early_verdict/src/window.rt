@@ -3,7 +3,7 @@ ghost use Rattle.std.specs.Prelude.{◌≡◌, ◌≤◌, ◌<ℤ◌, ◌^◌, �
 ghost use lib.IntN.{neg_ℤ};
 ghost use Rattle.early_verdict.specs.Bounds.{reach_of};
 
-use crate::cut::Cut;
+use frac128::Cut;
 
 /// From a time the window goes from `low` to `high` ticks after it, each end in or out; without `low` it has no beginning. Behind,
 /// these are at or below 0.
@@ -38,7 +38,8 @@ impl Window {
     ghost use Rattle.rational.specs.Rational.{IsWithin};
     ghost use Rattle.rational.specs.Time.{Rational};
     ghost use Rattle.frac128.specs.Value.{value};
-    ghost use Rattle.early_verdict.specs.Cuts.{place, After, Before, Upto};
+    ghost use Rattle.rational.specs.Places.{After, Before, Upto};
+    ghost use Rattle.frac128.specs.Cuts.{place};
     ghost use Rattle.early_verdict.specs.Windows.{Sees, high_place, low_place};
 
     /// Whether no window has a time.

@@ -7,17 +7,17 @@ use Rattle.frac128.specs.Value.{value}
 use Rattle.value_laws.specs.Members.{ShapeOf, ShapeLaws}
 use Rattle.pl_signal.specs.declared.joining.Side.{Side}
 use Rattle.envelope.specs.declared.turns.Turn.{Turn}
-use Rattle.envelope.specs.declared.course.Course.{Course}
+use Rattle.envelope.specs.declared.so_far.SoFar.{SoFar}
 use Rattle.envelope.specs.declared.walk.Item.{Item}
 use Rattle.envelope.specs.declared.walk.Slope.{Slope}
 use Rattle.envelope.specs.Turns.{HasCome, IsToCome, IsNoBetter, none_of}
-use Rattle.envelope.specs.Course.{Turns}
+use Rattle.envelope.specs.SoFar.{Turns}
 use Rattle.envelope.specs.Standing.{Part, Counts, IsOneOf, IsBestOf, IsNone, IsFalling, IsBelow, AllBelow, IsFollowed}
 use Rattle.envelope.specs.Standing.{EachToCome, AllWorse, FirstStays, FirstHasCome, NothingLeaves, SomethingLeaves}
-use Rattle.envelope.specs.Standing.{Gives, GivesSlope, IsWorthless, Keeps, More, Stands, piece_of, pieces_with}
+use Rattle.envelope.specs.Standing.{Gives, GivesSlope, Keeps, More, Stands, piece_of, pieces_with}
 use Rattle.envelope.proofs.TurnOrder.{at_of_come, come_or_not, not_both}
 use Rattle.envelope.proofs.Rows.{snoc_empty}
-use Rattle.envelope.proofs.Admitting.{keeps_with, keeps_without, more_with, worthless_piece}
+use Rattle.envelope.proofs.Admitting.{keeps_with, more_with}
 use Rattle.envelope.proofs.Passing.{best_of_more, carried_more, changes_of_more, turned_stands}
 use Rattle.envelope.proofs.Standings.{first_stays}
 use Rattle.envelope.proofs.Bests.{no_better_trans}
@@ -41,7 +41,7 @@ module _ {P : Type 0} (shape : ShapeOf P) (laws : ShapeLaws shape) (from : Turn)
     (item : Item P) (within : value from.at ≤ʳ to)
     (later : (t : Rational) → HasCome item.until t → HasCome from t) (item_to_come : IsToCome item.until (value from.at)) where
   -- before the turn nothing leaves
-  nothing_before : (side : Side) (course : Course P) (low_until : Turn) (items : List (Item P))
+  nothing_before : (side : Side) (course : SoFar P) (low_until : Turn) (items : List (Item P))
       → Stands shape side from to parts course low_until items → (t : Rational) → IsToCome from t
       → NothingLeaves course.after low_until items t
   nothing_before side course low_until items s t to_come = by_case (leaves_or_not course.after.low low_until items t)
@@ -51,7 +51,7 @@ module _ {P : Type 0} (shape : ShapeOf P) (laws : ShapeLaws shape) (from : Turn)
       by_case (inr h) = absurd (not_both from t (s.later t h) to_come)
 
   -- where nothing is left that is better, the new constant is the best
-  pub admitted_first : (old new : Course P) (low_until : Turn) (dropped : List (Item P)) → IsFalling shape old.side from
+  pub admitted_first : (old new : SoFar P) (low_until : Turn) (dropped : List (Item P)) → IsFalling shape old.side from
       to item → IsFollowed old.after.low low_until dropped item → EachToCome dropped (value from.at)
       → AllWorse shape old.side (value from.at) item.value dropped → Stands shape old.side from to parts old low_until dropped
       → Turns shape old from (record { top = item.value; low = old.after.low; high = old.after.high }) new
@@ -74,7 +74,7 @@ module _ {P : Type 0} (shape : ShapeOf P) (laws : ShapeLaws shape) (from : Turn)
           (sym e) (subst (λ o. MatchOption o (HasCome item.until t) (λ _. HasCome low_until t)) e h))
 
   -- where a better constant stays, the new one waits behind it
-  pub admitted_behind : (side : Side) (course : Course P) (low_until : Turn) (q : Item P)
+  pub admitted_behind : (side : Side) (course : SoFar P) (low_until : Turn) (q : Item P)
       (front dropped : List (Item P)) → IsFalling shape side from to item → IsFollowed course.after.low low_until
       (q ∷ front ++ dropped) item → EachToCome (q ∷ front ++ dropped) (value from.at)
       → AllWorse shape side (value from.at) item.value dropped
@@ -149,50 +149,6 @@ module _ {P : Type 0} (shape : ShapeOf P) (laws : ShapeLaws shape) (from : Turn)
         one_of = by_kept best.one_of;
       }
         where
-          by_kept : IsNoBetter side v (none_of side shape.lowest shape.highest) ⊎ ((x : Part P) × IsOneOf parts x
-              × Counts x t × IsNoBetter side v (value_at (shape.function x.shape) t))
-              → IsNoBetter side v (none_of side shape.lowest shape.highest)
-              ⊎ ((x : Part P) × IsOneOf (pieces_with from item parts) x × Counts x t × IsNoBetter side v
-              (value_at (shape.function x.shape) t))
-          by_kept (inl k) = inl k
-          by_kept (inr (x, one, c, k)) = inr (x, more.kept x one, c, k)
-
-  -- a worthless piece is taken by leaving all as it is
-  pub admitted_worthless : (side : Side) (course : Course P) (low_until : Turn) (items : List (Item P)) → IsWorthless shape side item
-      → Stands shape side from to parts course low_until items → Stands shape side from to (pieces_with from item parts) course low_until items
-  admitted_worthless side course low_until items w s = record {
-    told = λ t v first most n h. by_turn t v (s.told t v first most n h) (come_or_not from t);
-    keeps = keeps_without shape side from to parts item w later course.after low_until items s.keeps;
-    later = s.later;
-    before = λ b h. carried_more shape side from from to parts (pieces_with from item parts) more course.before
-        (λ t. (b <ʳ t) × (t <ʳ value course.at)) (s.before b h);
-    after = carried_more shape side from from to parts (pieces_with from item parts) more course.after
-        (λ t. (value course.at <ʳ t) × NothingLeaves course.after low_until items t) s.after;
-    shapes = λ p m. by_shape p (s.shapes p m);
-  }
-    where
-      more : More from parts (pieces_with from item parts)
-      more = more_with from item parts later
-
-      by_shape : (p : P) → IsNone shape side p ⊎ ((x : Part P) × IsOneOf parts x × (x.shape ≡ p)) → IsNone shape side p
-          ⊎ ((x : Part P) × IsOneOf (pieces_with from item parts) x × (x.shape ≡ p))
-      by_shape p (inl n) = inl n
-      by_shape p (inr (x, one, e)) = inr (x, more.kept x one, e)
-
-      by_turn : (t : Rational) (v : Extended) → IsBestOf shape side parts t v → HasCome from t ⊎ IsToCome from t
-          → IsBestOf shape side (pieces_with from item parts) t v
-      by_turn t v best (inr to_come) = best_of_more shape side from parts (pieces_with from item parts) more t v to_come best
-      by_turn t v best (inl h) = record {
-        floor = best.floor;
-        bound = λ x one c. by_piece x c (worthless_piece shape side from to parts item w later item.slope refl x one);
-        one_of = by_kept best.one_of;
-      }
-        where
-          by_piece : (x : Part P) → Counts x t → IsOneOf parts x ⊎ ((t : Rational) → IsNoBetter side (value_at (shape.function x.shape) t)
-              (none_of side shape.lowest shape.highest)) → IsNoBetter side (value_at (shape.function x.shape) t) v
-          by_piece x c (inl one) = best.bound x one c
-          by_piece x c (inr n) = no_better_trans side (value_at (shape.function x.shape) t) (none_of side shape.lowest shape.highest) v (n t) best.floor
-
           by_kept : IsNoBetter side v (none_of side shape.lowest shape.highest) ⊎ ((x : Part P) × IsOneOf parts x
               × Counts x t × IsNoBetter side v (value_at (shape.function x.shape) t))
               → IsNoBetter side v (none_of side shape.lowest shape.highest)

@@ -13,7 +13,7 @@ use Rattle.envelope.specs.declared.walk.Slope.{Slope}
 use Rattle.envelope.specs.Turns.{HasCome, IsToCome, IsNoBetter, none_of}
 use Rattle.envelope.specs.Standing.{Part, Counts, IsOneOf, IsPieceOn, IsTop, Gives, GivesSlope, SomeGives, Promises}
 use Rattle.envelope.specs.Standing.{SlopeEndsBy, IsFalling, IsBelow, AllBelow, AreStairs, IsSlopeBacked, AreBacked}
-use Rattle.envelope.specs.Standing.{IsWorthless, Keeps, AllWorse, EachFollowed, EachToCome, More, piece_of, pieces_with}
+use Rattle.envelope.specs.Standing.{Keeps, AllWorse, EachFollowed, EachToCome, More, piece_of, pieces_with}
 use Rattle.envelope.proofs.Bests.{no_better_refl, no_better_trans}
 use Rattle.envelope.proofs.TurnOrder.{at_of_come, to_come_first}
 
@@ -279,52 +279,3 @@ module _ {P : Type 0} (shape : ShapeOf P) (side : Side) (from : Turn) (to : Rati
         by_piece t x h most (Some slope) e (inl m) c = by_value t x m c
         by_piece t x h most (Some slope) e (inr (inl m)) c = by_slope t x slope e m c
         by_piece t x h most (Some slope) e (inr (inr one)) c = by_old t x h most (k.kept t x h most one c)
-
-module _ {P : Type 0} (shape : ShapeOf P) (side : Side) (from : Turn) (to : Rational) (parts : List (Part P)) (item : Item P)
-    (w : IsWorthless shape side item) (later : (t : Rational) → HasCome item.until t → HasCome from t) where
-  more_flat : More from parts (pieces_with from item parts)
-  more_flat = more_with from item parts later
-
-  -- the piece of a worthless item is one of the old ones, or no better than none
-  pub worthless_piece : (o : Option (Slope P)) → item.slope ≡ o → (x : Part P) → IsOneOf (piece_of from item o parts) x
-      → IsOneOf parts x ⊎ ((t : Rational) → IsNoBetter side (value_at (shape.function x.shape) t) (none_of side shape.lowest shape.highest))
-  worthless_piece None e x (inl m) = inr (λ t. subst (λ (y : Part P). IsNoBetter side (value_at (shape.function y.shape) t)
-      (none_of side shape.lowest shape.highest)) (sym m) (w.worse t))
-  worthless_piece None e x (inr one) = inl one
-  worthless_piece (Some slope) e x one = absurd (let f = w.flat in cc)
-
-  backed_more : (items : List (Item P)) → AreBacked shape side from to parts items → AreBacked shape side from to (pieces_with from item parts) items
-  backed_more [] b = tt
-  backed_more (q ∷ items) b = (
-    let (x, one, e, on, end) = b.0 in (x, more_flat.kept x one, e, on, end),
-    slope_more q.slope q.until b.1,
-    backed_more items b.2,
-  )
-    where
-      slope_more : (o : Option (Slope P)) (until : Turn) → IsSlopeBacked shape side from to parts o until
-          → IsSlopeBacked shape side from to (pieces_with from item parts) o until
-      slope_more None until b = tt
-      slope_more (Some slope) until (x, one, e, on, end) = (x, more_flat.kept x one, e, on, end)
-
-  -- so the walk keeps what it kept
-  pub keeps_without : (best : Best P) (low_until : Turn) (items : List (Item P)) → Keeps shape side from to parts best low_until items
-      → Keeps shape side from to (pieces_with from item parts) best low_until items
-  keeps_without best low_until items k = record {
-    kept = λ t x h most one c. by_piece t x h most (worthless_piece item.slope refl x one) c;
-    backed = backed_more items k.backed;
-    low = λ p e. let (x, one, is, on, end) = k.low p e in (x, more_flat.kept x one, is, on, end);
-    high = λ p e. let (x, one, is, on) = k.high p e in (x, more_flat.kept x one, is, on);
-    top = k.top;
-    stairs = k.stairs;
-  }
-    where
-      Given : Rational → Part P → Type 0
-      Given t x = IsNoBetter side (value_at (shape.function x.shape) t) (none_of side shape.lowest shape.highest)
-          ⊎ ((p : P) × Promises best low_until items t p × IsNoBetter side (value_at (shape.function x.shape) t) (value_at (shape.function p) t))
-          ⊎ ((x.until ≡ None) × (best.high ≡ Some x.shape))
-
-      by_piece : (t : Rational) (x : Part P) → HasCome from t → t ≤ʳ to
-          → IsOneOf parts x ⊎ ((t : Rational) → IsNoBetter side (value_at (shape.function x.shape) t) (none_of side shape.lowest shape.highest))
-          → Counts x t → Given t x
-      by_piece t x h most (inl one) c = k.kept t x h most one c
-      by_piece t x h most (inr n) c = inl (n t)

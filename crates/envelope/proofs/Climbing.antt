@@ -4,10 +4,10 @@ use Rattle.rational.specs.Time.{Rational, ◌≤ʳ◌}
 use Rattle.rational.specs.Extended.{value_at}
 use Rattle.value_laws.specs.Members.{ShapeOf, ShapeLaws}
 use Rattle.envelope.specs.declared.turns.Turn.{Turn}
-use Rattle.envelope.specs.declared.course.Course.{Course}
+use Rattle.envelope.specs.declared.so_far.SoFar.{SoFar}
 use Rattle.envelope.specs.declared.walk.Item.{Item}
 use Rattle.envelope.specs.Turns.{HasCome, IsToCome, IsNoBetter, none_of}
-use Rattle.envelope.specs.Course.{Turns}
+use Rattle.envelope.specs.SoFar.{Turns}
 use Rattle.envelope.specs.Standing.{Part, Counts, IsOneOf, FirstHasCome, NothingLeaves, SomethingLeaves, Promises, Keeps, Changes, Stands}
 use Rattle.envelope.specs.Walking.{EachEnds, climbing, climbed_until}
 use Rattle.envelope.proofs.TurnOrder.{not_both}
@@ -15,7 +15,7 @@ use Rattle.envelope.proofs.Admitted.{leaves_or_not}
 use Rattle.envelope.proofs.Sliding.{backed_more}
 use Rattle.envelope.proofs.Passing.{turned_stands}
 
-module _ {P : Type 0} (shape : ShapeOf P) (laws : ShapeLaws shape) (turn : Turn) (to : Rational) (old new : Course P)
+module _ {P : Type 0} (shape : ShapeOf P) (laws : ShapeLaws shape) (turn : Turn) (to : Rational) (old new : SoFar P)
     (low_until : Turn) (items : List (Item P)) (parts : List (Part P)) (ends : EachEnds parts)
     (low_first : (p : P) → old.after.low ≡ Some p → (t : Rational) → FirstHasCome items t → HasCome low_until t) where
   no_end : (x : Part P) → IsOneOf parts x → ¬ (x.until ≡ None)

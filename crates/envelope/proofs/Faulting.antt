@@ -18,13 +18,13 @@ use Rattle.pl_signal.specs.Knots.{start, stop, IsSignal}
 use Rattle.pl_signal.proofs.Values.{to_stop}
 use Rattle.envelope.specs.declared.best.Best.{Best}
 use Rattle.envelope.specs.declared.turns.Turn.{Turn}
-use Rattle.envelope.specs.declared.course.Course.{Course}
+use Rattle.envelope.specs.declared.so_far.SoFar.{SoFar}
 use Rattle.envelope.specs.declared.walk.Item.{Item}
 use Rattle.envelope.specs.declared.walk.Walk.{Walk}
 use Rattle.pl_signal.specs.declared.faults.OpFault.{OpFault}
 use Rattle.envelope.specs.Turns.{IsToCome, IsNoBetter, none_of}
 use Rattle.envelope.specs.Best.{Has, IsBestFault, IsCrossingOf}
-use Rattle.envelope.specs.Course.{EndsBefore, IsCourseFault, IsEndFault, IsOpenFault, IsReady, IsSettledTo, first_time}
+use Rattle.envelope.specs.SoFar.{EndsBefore, IsSoFarFault, IsEndFault, IsOpenFault, IsReady, IsSettledTo, first_time}
 use Rattle.envelope.specs.Standing.{Part, Counts, IsOneOf, IsPieceOn, IsNone, IsCarried, FirstStays, NothingLeaves, GoesTo, Leaves, Stands}
 use Rattle.envelope.specs.Walking.{IsCrossingOn, IsPiecesFault, IsRefusal, IsRefusedFor, IsStoppedBy}
 use Rattle.envelope.proofs.Bests.{no_better_trans}
@@ -168,8 +168,8 @@ start_to_stop shape (k ∷ ks) s = to_stop shape k ks s.each
 
 module _ {P : Type 0} (shape : ShapeOf P) (laws : ShapeLaws shape) where
   -- what a course refuses before its last knot
-  pub course_fault : (side : Side) (pos : Turn) (to : Rational) (parts : List (Part P)) (course : Course P) (low_until : Turn) (items : List (Item P))
-      (pair : WidePair P) → IsReady shape course → Stands shape side pos to parts course low_until items → IsCourseFault shape course pair
+  pub course_fault : (side : Side) (pos : Turn) (to : Rational) (parts : List (Part P)) (course : SoFar P) (low_until : Turn) (items : List (Item P))
+      (pair : WidePair P) → IsReady shape course → Stands shape side pos to parts course low_until items → IsSoFarFault shape course pair
       → IsPiecesFault shape parts (first_time course course.built) (value course.at) pair
   course_fault side pos to parts course low_until items pair ready s h = by_built course.built refl h
     where
@@ -199,28 +199,28 @@ module _ {P : Type 0} (shape : ShapeOf P) (laws : ShapeLaws shape) where
   -- a refusal where only some of what leaves has left
   pub stopped_going : (turn : Turn) (old mid : Walk P) (fault : Option (WidePair P))
       → GoesTo shape turn old.course old.low_until old.queue.items mid.course mid.low_until mid.queue.items
-      → IfSome fault (IsCourseFault shape mid.course) → IsStoppedBy shape turn old fault
+      → IfSome fault (IsSoFarFault shape mid.course) → IsStoppedBy shape turn old fault
   stopped_going turn old mid fault g h pos to parts come s =
       let (n, after, m) = g.stands parts pos to come s in
-      if_some fault (IsCourseFault shape mid.course)
+      if_some fault (IsSoFarFault shape mid.course)
       (IsPiecesFault shape parts (first_time old.course old.course.built) (value turn.at))
       (λ pair f. raised parts (first_time mid.course mid.course.built) (first_time old.course old.course.built)
       (value mid.course.at) (value turn.at) pair g.first g.at
       (course_fault old.course.side n to parts mid.course mid.low_until mid.queue.items pair g.can.ready m f)) h
 
   -- and where all of it has
-  pub stopped_left : (turn : Turn) (old : Walk P) (mid : Course P) (low_mid : Turn) (items_mid : List (Item P)) (fault : Option (WidePair P))
+  pub stopped_left : (turn : Turn) (old : Walk P) (mid : SoFar P) (low_mid : Turn) (items_mid : List (Item P)) (fault : Option (WidePair P))
       → Leaves shape turn old.course old.low_until old.queue.items mid low_mid items_mid
-      → IfSome fault (IsCourseFault shape mid) → IsStoppedBy shape turn old fault
+      → IfSome fault (IsSoFarFault shape mid) → IsStoppedBy shape turn old fault
   stopped_left turn old mid low_mid items_mid fault l h pos to parts come s =
-      if_some fault (IsCourseFault shape mid)
+      if_some fault (IsSoFarFault shape mid)
       (IsPiecesFault shape parts (first_time old.course old.course.built) (value turn.at))
       (λ pair f. raised parts (first_time mid mid.built) (first_time old.course old.course.built)
       (value mid.at) (value turn.at) pair l.first l.at
       (course_fault old.course.side turn to parts mid low_mid items_mid pair l.can.ready (l.stands parts pos to come s) f)) h
 
   -- a refusal on the way to the end
-  pub stopped_ending : (turn : Turn) (old : Walk P) (mid : Course P) (low_mid : Turn) (items_mid : List (Item P)) (fault : Option (WidePair P))
+  pub stopped_ending : (turn : Turn) (old : Walk P) (mid : SoFar P) (low_mid : Turn) (items_mid : List (Item P)) (fault : Option (WidePair P))
       → Leaves shape turn old.course old.low_until old.queue.items mid low_mid items_mid
       → IfSome fault (IsEndFault shape mid (value turn.at)) → IsStoppedBy shape turn old fault
   stopped_ending turn old mid low_mid items_mid fault l h pos to parts come s =

@@ -8,12 +8,12 @@ use Rattle.rational.proofs.Order.{le_trans}
 use Rattle.frac128.specs.Value.{value}
 use Rattle.value_laws.specs.Members.{ShapeOf}
 use Rattle.envelope.specs.declared.turns.Turn.{Turn}
-use Rattle.envelope.specs.declared.course.Course.{Course}
+use Rattle.envelope.specs.declared.so_far.SoFar.{SoFar}
 use Rattle.envelope.specs.declared.walk.Item.{Item}
 use Rattle.envelope.specs.declared.walk.Slope.{Slope}
 use Rattle.pl_signal.specs.declared.joining.Side.{Side}
 use Rattle.envelope.specs.Turns.{HasCome, IsToCome}
-use Rattle.envelope.specs.Course.{first_time}
+use Rattle.envelope.specs.SoFar.{first_time}
 use Rattle.envelope.proofs.TurnOrder.{at_most_of_come}
 use Rattle.envelope.proofs.Sliding.{backed_later, piece_later, stairs_later}
 use Rattle.envelope.specs.Standing.{Part, FirstStays, FirstHasCome, NothingLeaves, SomethingLeaves, Stands}
@@ -29,7 +29,7 @@ some_turn e = cc
 
 module _ {P : Type 0} (shape : ShapeOf P) where
   -- the gap under the low end
-  pub passes_out : (old new : Course P) (low_until : Turn) (items : List (Item P)) (p : P) → old.after.low ≡ Some p
+  pub passes_out : (old new : SoFar P) (low_until : Turn) (items : List (Item P)) (p : P) → old.after.low ≡ Some p
       → CanGoOn shape new low_until items → IsPassed shape low_until old low_until items new low_until items
       → new.side ≡ old.side → first_time new new.built ≡ first_time old old.built
       → value new.at ≤ʳ value low_until.at → new.after.low ≡ None → Passes shape old low_until items new low_until items
@@ -51,7 +51,7 @@ module _ {P : Type 0} (shape : ShapeOf P) where
       fewer n = omega arith
 
   -- the first item
-  pub passes_in : (old new : Course P) (low_until low_until' : Turn) (first : Item P) (items : List (Item P))
+  pub passes_in : (old new : SoFar P) (low_until low_until' : Turn) (first : Item P) (items : List (Item P))
       → old.after.low ≡ None → CanGoOn shape new low_until' items → IsPassed shape first.until old low_until
       (first ∷ items) new low_until' items → new.side ≡ old.side → first_time new new.built ≡ first_time old old.built
       → value new.at ≤ʳ value first.until.at → new.after.low ≡ slope_shape first.slope
@@ -83,7 +83,7 @@ module _ {P : Type 0} (shape : ShapeOf P) where
           subst (λ u. HasCome u t) (sym is) (subst (λ o. SlopeEndsBy o item.until) e f.each.0.slope t h)
 
   -- the same of a result
-  pub out_of : {T E : Type 0} (r : Result T E) (old new : Course P) (low_until low_until' : Turn)
+  pub out_of : {T E : Type 0} (r : Result T E) (old new : SoFar P) (low_until low_until' : Turn)
       (items items' : List (Item P)) (p : P) → old.after.low ≡ Some p → low_until' ≡ low_until → items' ≡ items
       → OnOk r (CanGoOn shape new low_until' items')
       → OnOk r (IsPassed shape low_until old low_until items new low_until' items') → OnOk r (new.side ≡ old.side)
@@ -98,7 +98,7 @@ module _ {P : Type 0} (shape : ShapeOf P) where
   out_of (Err e) old new low_until low_until' items items' p low u i can passed side first at none = tt
 
   -- where a call that lets the first constant go succeeds, that item is passed
-  pub in_of : {T E : Type 0} (r : Result T E) (old new : Course P) (low_until low_until' : Turn) (first : Item P)
+  pub in_of : {T E : Type 0} (r : Result T E) (old new : SoFar P) (low_until low_until' : Turn) (first : Item P)
       (items items' all : List (Item P)) → old.after.low ≡ None → all ≡ first ∷ items → items' ≡ items
       → OnOk r (CanGoOn shape new low_until' items')
       → OnOk r (IsPassed shape first.until old low_until (first ∷ items) new low_until' items')
@@ -166,7 +166,7 @@ something_left (Some p) low_until items t e h = absurd (cc)
 
 -- a walk that stands at a turn stands at a later one, where nothing leaves between
 pub stands_later : {P : Type 0} (shape : ShapeOf P) (side : Side) (pos turn : Turn) (to : Rational)
-    (parts : List (Part P)) (course : Course P) (low_until : Turn) (items : List (Item P))
+    (parts : List (Part P)) (course : SoFar P) (low_until : Turn) (items : List (Item P))
     → ((t : Rational) → HasCome turn t → HasCome pos t)
     → ((t : Rational) → SomethingLeaves course.after low_until items t → HasCome turn t)
     → Stands shape side pos to parts course low_until items → Stands shape side turn to parts course low_until items
@@ -188,13 +188,13 @@ stands_later shape side pos turn to parts course low_until items come later s = 
 
 module _ {P : Type 0} (shape : ShapeOf P) (turn : Turn) where
   -- at the beginning nothing has gone
-  pub goes_none : (old : Course P) (low_until : Turn) (items : List (Item P)) → CanGoOn shape old low_until items
+  pub goes_none : (old : SoFar P) (low_until : Turn) (items : List (Item P)) → CanGoOn shape old low_until items
       → value old.at ≤ʳ value turn.at → GoesTo shape turn old low_until items old low_until items
   goes_none old low_until items can at =
       record { can = can; side = refl; first = refl; at = at; followed = λ item f. f; stands = λ parts pos to come s. (pos, come, s) }
 
   -- one more that leaves no later than the turn
-  pub goes_on : (old mid new : Course P) (low_until low_mid low_new : Turn) (items items_mid items_new : List (Item P))
+  pub goes_on : (old mid new : SoFar P) (low_until low_mid low_new : Turn) (items items_mid items_new : List (Item P))
       (next : Turn) → GoesTo shape turn old low_until items mid low_mid items_mid → leaving_by mid.after.low low_mid
       items_mid ≡ Some next
       → ((t : Rational) → HasCome turn t → HasCome next t) → Passes shape mid low_mid items_mid new low_new items_new
@@ -216,7 +216,7 @@ module _ {P : Type 0} (shape : ShapeOf P) (turn : Turn) where
   }
 
   -- what is left leaves after the turn
-  pub gone : (old new : Course P) (low_until low_until' : Turn) (items items' : List (Item P))
+  pub gone : (old new : SoFar P) (low_until low_until' : Turn) (items items' : List (Item P))
       → GoesTo shape turn old low_until items new low_until' items' → NothingLeaves new.after low_until' items'
       (value turn.at)
       → ((t : Rational) → SomethingLeaves new.after low_until' items' t → HasCome turn t) → Leaves shape turn old low_until items new low_until' items'

@@ -1,6 +1,7 @@
 pub mod TurnOrder
 pub mod Bests
-pub mod Courses
+pub mod Trends
+pub mod SoFarLemmas
 pub mod Standings
 pub mod Passing
 pub mod Sliding
@@ -12,3 +13,4 @@ pub mod Taking
 pub mod Climbing
 pub mod Faulting
 pub mod Walks
+pub mod Hiding

@@ -8,11 +8,11 @@ use Rattle.value_laws.specs.Members.{ShapeOf, ShapeLaws}
 use Rattle.pl_signal.specs.declared.joining.Side.{Side}
 use Rattle.envelope.specs.declared.best.Best.{Best}
 use Rattle.envelope.specs.declared.turns.Turn.{Turn}
-use Rattle.envelope.specs.declared.course.Course.{Course}
+use Rattle.envelope.specs.declared.so_far.SoFar.{SoFar}
 use Rattle.envelope.specs.declared.walk.Item.{Item}
 use Rattle.envelope.specs.Turns.{HasCome, IsToCome, IsNoBetter, none_of}
 use Rattle.envelope.specs.Best.{Has, IsBestAt}
-use Rattle.envelope.specs.Course.{HasPart, IsAlone, IsSettledTo, IsTold, Turns, Moves, same_knot, same_best, new_knot, first_time}
+use Rattle.envelope.specs.SoFar.{HasPart, IsAlone, IsSettledTo, IsTold, Turns, Moves, same_knot, same_best, new_knot, first_time}
 use Rattle.envelope.specs.Standing.{Part, Counts, Changes, More, IsOneOf, IsPieceOn, IsBestOf, IsNone}
 use Rattle.envelope.specs.Standing.{FirstHasCome, NothingLeaves, SomethingLeaves, Keeps, IsCarried, Stands}
 use Rattle.envelope.proofs.TurnOrder.{not_both}
@@ -110,7 +110,7 @@ same_pieces turn parts = record { kept = λ x one. (x, one, refl, λ t h c. c); 
 module _ {P : Type 0} (shape : ShapeOf P) (laws : ShapeLaws shape) (parts parts' : List (Part P)) (pos turn : Turn)
     (to : Rational) (changes : Changes turn parts parts') where
   -- after a turn to what is promised from there on, the walk stands at that turn
-  pub turned_stands : (old new : Course P) (next : Best P) (low_until low_until' : Turn) (items items' : List (Item P))
+  pub turned_stands : (old new : SoFar P) (next : Best P) (low_until low_until' : Turn) (items items' : List (Item P))
       → Stands shape old.side pos to parts old low_until items → Turns shape old turn next new
       → ((t : Rational) → IsToCome turn t → NothingLeaves old.after low_until items t) → Keeps shape old.side turn to
       parts' next low_until' items' → ((p : P) → next.low ≡ Some p → (t : Rational) → FirstHasCome items' t

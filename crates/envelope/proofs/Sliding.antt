@@ -12,11 +12,11 @@ use Rattle.pl_signal.specs.declared.joining.Side.TheVariants.{Least, Greatest}
 use Rattle.pl_signal.specs.declared.joining.Side.{Side}
 use Rattle.envelope.specs.declared.best.Best.{Best}
 use Rattle.envelope.specs.declared.turns.Turn.{Turn}
-use Rattle.envelope.specs.declared.course.Course.{Course}
+use Rattle.envelope.specs.declared.so_far.SoFar.{SoFar}
 use Rattle.envelope.specs.declared.walk.Item.{Item}
 use Rattle.envelope.specs.declared.walk.Slope.{Slope}
 use Rattle.envelope.specs.Turns.{HasCome, IsToCome, IsNoBetter, none_of}
-use Rattle.envelope.specs.Course.{HaveLevels, Turns}
+use Rattle.envelope.specs.SoFar.{HaveLevels, Turns}
 use Rattle.envelope.specs.Standing.{Part, IsOneOf, IsPieceOn, IsEndingPieceOn, IsTop, GivesSlope, Promises, FirstHasCome}
 use Rattle.envelope.specs.Standing.{SomethingLeaves, AllFollow, SlopeEndsBy, IsNext, IsSlope, AreItems, CanGoOn, IsFalling}
 use Rattle.envelope.specs.Standing.{AllBelow, AreStairs, IsSlopeBacked, AreBacked, Keeps, slope_shape, slope_until}
@@ -53,13 +53,13 @@ none_bounded shape laws Least p t h = bounded_same (2 ^ 31) (value_at (shape.fun
     (record { at_most = laws.highest_is_greatest p t; at_least = h }) laws.highest_bounded
 
 module _ {P : Type 0} (shape : ShapeOf P) where
-  later_of_first : (course : Course P) (items : List (Item P)) (turn : Turn) → AreItems shape course items
+  later_of_first : (course : SoFar P) (items : List (Item P)) (turn : Turn) → AreItems shape course items
       → ((t : Rational) → FirstHasCome items t → HasCome turn t) → AllLater turn items
   later_of_first course [] turn a h = tt
   later_of_first course (item ∷ items) turn a h = (λ t k. h t k, later_of_follows item items turn (λ t k. h t k) a.1)
 
   -- after a turn the items can still come next
-  items_on : (old new : Course P) (turn : Turn) (items : List (Item P)) → value new.at ≤ʳ value turn.at
+  items_on : (old new : SoFar P) (turn : Turn) (items : List (Item P)) → value new.at ≤ʳ value turn.at
       → AllLater turn items → AreItems shape old items → AreItems shape new items
   items_on old new turn [] at l a = tt
   items_on old new turn (item ∷ items) at l a = (
@@ -69,7 +69,7 @@ module _ {P : Type 0} (shape : ShapeOf P) where
   )
 
   -- a walk can go on after the gap under the low end has left
-  pub can_slide_out : (old new : Course P) (low_until : Turn) (items : List (Item P)) (next : Best P) (p : P)
+  pub can_slide_out : (old new : SoFar P) (low_until : Turn) (items : List (Item P)) (next : Best P) (p : P)
       → CanGoOn shape old low_until items → old.after.low ≡ Some p → next.low ≡ None → Turns shape old low_until next
       new → CanGoOn shape new low_until items
   can_slide_out old new low_until items next p can low none turns = record {
@@ -79,7 +79,7 @@ module _ {P : Type 0} (shape : ShapeOf P) where
   }
 
   -- a walk can go on after the first constant has left and its slope has come
-  pub can_slide_in : (old new : Course P) (low_until low_until' : Turn) (first : Item P) (items : List (Item P))
+  pub can_slide_in : (old new : SoFar P) (low_until low_until' : Turn) (first : Item P) (items : List (Item P))
       (next : Best P) → CanGoOn shape old low_until (first ∷ items) → next.low ≡ slope_shape first.slope
       → low_until' ≡ slope_until first.slope low_until → Turns shape old first.until next new
       → CanGoOn shape new low_until' items
@@ -109,7 +109,7 @@ module _ {P : Type 0} (shape : ShapeOf P) where
           )
 
   -- what leaves next after the first item leaves no earlier
-  pub later_in : (old : Course P) (low_until : Turn) (first : Item P) (items : List (Item P)) (top : P)
+  pub later_in : (old : SoFar P) (low_until : Turn) (first : Item P) (items : List (Item P)) (top : P)
       (high : Option P) → CanGoOn shape old low_until (first ∷ items) → (t : Rational)
       → SomethingLeaves (record { top = top; low = slope_shape first.slope; high = high }) (slope_until first.slope low_until) items t → HasCome first.until t
   later_in old low_until first items top high can t = by_slope first.slope refl
@@ -120,7 +120,7 @@ module _ {P : Type 0} (shape : ShapeOf P) where
       by_slope (Some slope) e h = (subst (λ o. IsSlope shape o first.until) e can.queue.0.slope).2 t h
 
   -- the shapes of what is left are compared within limits
-  pub levels_in : (course : Course P) (low_until : Turn) (first : Item P) (items : List (Item P)) (top : P)
+  pub levels_in : (course : SoFar P) (low_until : Turn) (first : Item P) (items : List (Item P)) (top : P)
       (side : Side) → CanGoOn shape course low_until (first ∷ items) → ShapeLaws shape → IsTop shape side items top
       → HaveLevels shape (record { top = top; low = slope_shape first.slope; high = course.after.high })
   levels_in course low_until first items top side can laws is p (inl m) = subst (λ q. HasBoundedLevel (2 ^ 31)

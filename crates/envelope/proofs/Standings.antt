@@ -12,7 +12,7 @@ use Rattle.envelope.specs.declared.turns.Turn.{Turn}
 use Rattle.envelope.specs.declared.walk.Item.{Item}
 use Rattle.envelope.specs.Turns.{HasCome, IsToCome, IsNoBetter, none_of}
 use Rattle.envelope.specs.Best.{Has, IsBestAt}
-use Rattle.envelope.specs.Course.{IsSettledTo}
+use Rattle.envelope.specs.SoFar.{IsSettledTo}
 use Rattle.envelope.specs.Standing.{Part, Counts, IsOneOf, IsPieceOn, IsBestOf, IsNone, SomeGives, Promises, FirstStays}
 use Rattle.envelope.specs.Standing.{FirstHasCome, NothingLeaves, IsTop, AllBelow, AreBacked, AreStairs, Keeps, IsCarried}
 use Rattle.envelope.proofs.Bests.{no_better_refl, no_better_trans}

@@ -7,15 +7,15 @@ use Rattle.frac128.specs.Value.{value}
 use Rattle.value_laws.specs.Members.{ShapeOf, ShapeLaws}
 use Rattle.envelope.specs.declared.best.Best.{Best}
 use Rattle.envelope.specs.declared.turns.Turn.{Turn}
-use Rattle.envelope.specs.declared.course.Course.{Course}
+use Rattle.envelope.specs.declared.so_far.SoFar.{SoFar}
 use Rattle.envelope.specs.declared.walk.Item.{Item}
 use Rattle.envelope.specs.Turns.{IsToCome, IsNoBetter}
-use Rattle.envelope.specs.Course.{Turns}
+use Rattle.envelope.specs.SoFar.{Turns}
 use Rattle.envelope.specs.Standing.{FirstStays, Follows, AllFollow, EachFollowed, EachToCome, IsFollowed, AreItems, IsFalling}
-use Rattle.envelope.specs.Standing.{AllWorse, IsNewItem, IsWorthless, RisesTo, Leaves, Admits, Stands, pieces_with}
+use Rattle.envelope.specs.Standing.{AllWorse, IsNewItem, RisesTo, Leaves, Admits, Stands, pieces_with}
 use Rattle.envelope.proofs.TurnOrder.{to_come_first}
 use Rattle.envelope.proofs.Standings.{first_stays, low_stays}
-use Rattle.envelope.proofs.Admitted.{admitted_first, admitted_behind, admitted_worthless}
+use Rattle.envelope.proofs.Admitted.{admitted_first, admitted_behind}
 
 -- what is to come lies no earlier
 pub at_most_to_come : (turn : Turn) (t : Rational) → IsToCome turn t → t ≤ʳ value turn.at
@@ -41,12 +41,12 @@ module _ {P : Type 0} where
 
 module _ {P : Type 0} (shape : ShapeOf P) where
   -- where the first item has not left by t, none has
-  pub each_to_come : (course : Course P) (items : List (Item P)) (t : Rational) → AreItems shape course items → FirstStays items t → EachToCome items t
+  pub each_to_come : (course : SoFar P) (items : List (Item P)) (t : Rational) → AreItems shape course items → FirstStays items t → EachToCome items t
   each_to_come course [] t a h = tt
   each_to_come course (item ∷ items) t a h = (h, rest_to_come item items t a.1 h)
 
   -- the items that stay, and the new one behind them
-  items_with : (old new : Course P) (from : Turn) (item : Item P) (front dropped : List (Item P))
+  items_with : (old new : SoFar P) (from : Turn) (item : Item P) (front dropped : List (Item P))
       → value new.at ≤ʳ value from.at → IsNewItem shape from item → EachToCome (front ++ dropped) (value from.at)
       → EachFollowed (front ++ dropped) item → AreItems shape old (front ++ dropped)
       → AreItems shape new (front ++ item ∷ [])
@@ -75,12 +75,12 @@ module _ {P : Type 0} (shape : ShapeOf P) where
     items_with old new from item front dropped at n c.1 f.1 a.2,
   )
 
-module _ {P : Type 0} (shape : ShapeOf P) (laws : ShapeLaws shape) (from : Turn) (item : Item P) (old mid : Course P)
+module _ {P : Type 0} (shape : ShapeOf P) (laws : ShapeLaws shape) (from : Turn) (item : Item P) (old mid : SoFar P)
     (low_until low_mid : Turn) (items dropped : List (Item P)) (n : IsNewItem shape from item)
     (f : IsFollowed old.after.low low_until items item)
     (worse : AllWorse shape mid.side (value from.at) item.value dropped) where
   -- where nothing better is left
-  taken_first : (new : Course P) → Leaves shape from old low_until items mid low_mid dropped → Turns shape mid from
+  taken_first : (new : SoFar P) → Leaves shape from old low_until items mid low_mid dropped → Turns shape mid from
       (record { top = item.value; low = mid.after.low; high = mid.after.high }) new
       → Admits shape from item old low_until items new low_mid (item ∷ [])
   taken_first new l turns = record {
@@ -143,7 +143,7 @@ module _ {P : Type 0} (shape : ShapeOf P) (laws : ShapeLaws shape) (from : Turn)
           l.still)
 
   -- a walk that has let go what left, dropped the worse items and risen to the new constant has admitted the item
-  pub taken : (front : List (Item P)) (new : Course P) → ((rest : List (Item P)) (x : Item P) → front ≡ rest ++ x ∷ []
+  pub taken : (front : List (Item P)) (new : SoFar P) → ((rest : List (Item P)) (x : Item P) → front ≡ rest ++ x ∷ []
       → IsNoBetter mid.side (value_at (shape.function item.value) (value from.at)) (value_at (shape.function x.value)
       (value from.at)))
       → Leaves shape from old low_until items mid low_mid (front ++ dropped) → RisesTo shape from item.value mid front
@@ -151,18 +151,3 @@ module _ {P : Type 0} (shape : ShapeOf P) (laws : ShapeLaws shape) (from : Turn)
   taken [] new last l r = taken_first new l r
   taken (q ∷ front) new last l r = subst (λ m. Admits shape from item old low_until items m low_mid
       (q ∷ front ++ item ∷ [])) (sym r) (taken_behind q front last l)
-
-module _ {P : Type 0} (shape : ShapeOf P) (laws : ShapeLaws shape) (from : Turn) (item : Item P) (old mid : Course P)
-    (low_until low_mid : Turn) (items rest : List (Item P)) (n : IsNewItem shape from item) (w : IsWorthless shape mid.side item) where
-  -- so has one that has let go what left, where the item is worthless
-  pub taken_worthless : Leaves shape from old low_until items mid low_mid rest → Admits shape from item old low_until items mid low_mid rest
-  taken_worthless l = record {
-    can = l.can;
-    side = l.side;
-    first = l.first;
-    at = l.at;
-    followed = λ x h g. l.followed x g;
-    stands = λ parts pos to come within falling s. subst (λ side. Stands shape side from to (pieces_with from item parts) mid low_mid rest) l.side
-        (admitted_worthless shape laws from to parts item within n.later n.to_come mid.side mid low_mid rest w
-        (subst (λ side. Stands shape side from to parts mid low_mid rest) (sym l.side) (l.stands parts pos to come s)));
-  }

@@ -19,19 +19,19 @@ use Rattle.pl_signal.specs.Knots.{start as start_of, stop, HasShape, IsSignal, I
 use Rattle.pl_signal.proofs.Values.{some_is, worth_within}
 use Rattle.envelope.specs.declared.best.Best.{Best}
 use Rattle.envelope.specs.declared.turns.Turn.{Turn}
-use Rattle.envelope.specs.declared.course.Course.{Course}
+use Rattle.envelope.specs.declared.so_far.SoFar.{SoFar}
 use Rattle.envelope.specs.declared.walk.Item.{Item}
 use Rattle.envelope.specs.declared.walk.Slope.{Slope}
 use Rattle.envelope.specs.declared.walk.Walk.{Walk}
 use Rattle.envelope.specs.Turns.{HasCome, IsNoBetter, none_of}
 use Rattle.envelope.specs.Best.{Has, IsBestAt}
-use Rattle.envelope.specs.Course.{EndsBefore, HasPart, HaveLevels, IsAlone, IsSettled, IsSettledShape, IsSettledTo, IsTold, first_time}
+use Rattle.envelope.specs.SoFar.{EndsBefore, HasPart, HaveLevels, IsAlone, IsSettled, IsSettledShape, IsSettledTo, IsTold, first_time}
 use Rattle.envelope.specs.Standing.{Part, Counts, IsOneOf, IsBestOf, IsNone, IsSlope, AreItems, CanGoOn}
 use Rattle.envelope.specs.Standing.{EachFollowed, EachToCome, IsFollowed, IsFalling, IsNewItem, Admits}
 use Rattle.envelope.specs.Standing.{SlopeEndsBy, Stands, piece_of, pieces_with, slope_until}
 use Rattle.envelope.specs.Walking.{CanTake, Climbed, EachEnds, EachLeavesBy, EndsWalk, Finishes}
 use Rattle.envelope.specs.Walking.{IsPiecesFault, IsRefusal, IsRefusedFor, IsStoppedBy, LeavesBy}
-use Rattle.envelope.specs.Walking.{Took, TurnsHigh, Walks, climbed_until, climbing, last_turn}
+use Rattle.envelope.specs.Walking.{HasTaken, TurnsHigh, Walks, climbed_until, climbing, last_turn}
 use Rattle.envelope.proofs.TurnOrder.{at_most_of_come}
 use Rattle.envelope.proofs.Bests.{no_better_back, no_better_same, same_of_both}
 use Rattle.envelope.proofs.Standings.{first_stays, low_stays}
@@ -87,7 +87,7 @@ module _ {P : Type 0} (shape : ShapeOf P) where
 
   -- a piece that was admitted was taken
   pub took_of : (from : Turn) (item : Item P) (old new : Walk P) → IsNewItem shape from item → LeavesBy old item.until
-      → Admits shape from item old.course old.low_until old.queue.items new.course new.low_until new.queue.items → Took shape from item old new
+      → Admits shape from item old.course old.low_until old.queue.items new.course new.low_until new.queue.items → HasTaken shape from item old new
   took_of from item old new is leaves a = record {
     can = record { can = a.can; order = a.at };
     leaves = leaves_of new last (a.followed last (record { until = after item.slope refl; slope = by_slope item.slope refl })
@@ -139,7 +139,7 @@ module _ {P : Type 0} (shape : ShapeOf P) where
       }
 
   -- the items that are still to leave can come next
-  items_stay : (old new : Course P) (turn : Turn) (items : List (Item P)) → value new.at ≤ʳ value turn.at → EachToCome items (value turn.at)
+  items_stay : (old new : SoFar P) (turn : Turn) (items : List (Item P)) → value new.at ≤ʳ value turn.at → EachToCome items (value turn.at)
       → AreItems shape old items → AreItems shape new items
   items_stay old new turn [] at c a = tt
   items_stay old new turn (x ∷ items) at c a = (
@@ -289,7 +289,7 @@ module _ {P : Type 0} (shape : ShapeOf P) where
           s.told t v (subst (λ u. u ≤ʳ t) h.ended.begins within.above) last
           (nothing_sooner h.mid.after new.low_until new.queue.items t (value turn.at) last h.left.still) (h.ended.worth t v m)
 
-module _ {P : Type 0} (shape : ShapeOf P) (laws : ShapeLaws shape) (side : Side) (course : Course P) (none : P)
+module _ {P : Type 0} (shape : ShapeOf P) (laws : ShapeLaws shape) (side : Side) (course : SoFar P) (none : P)
     (is_none : (t : Rational) → value_at (shape.function none) t ≈ᵉ none_of side shape.lowest shape.highest)
     (none_still : shape.moves none ≡ false)
     (of_side : course.side ≡ side) (built : course.built ≡ None)

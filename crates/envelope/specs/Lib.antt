@@ -1,5 +1,5 @@
 pub mod Turns
 pub mod Best
-pub mod Course
+pub mod SoFar
 pub mod Standing
 pub mod Walking

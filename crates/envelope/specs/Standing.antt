@@ -9,12 +9,12 @@ use Rattle.value_laws.specs.Members.{ShapeOf}
 use Rattle.pl_signal.specs.declared.joining.Side.{Side}
 use Rattle.envelope.specs.declared.best.Best.{Best}
 use Rattle.envelope.specs.declared.turns.Turn.{Turn}
-use Rattle.envelope.specs.declared.course.Course.{Course}
+use Rattle.envelope.specs.declared.so_far.SoFar.{SoFar}
 use Rattle.envelope.specs.declared.walk.Item.{Item}
 use Rattle.envelope.specs.declared.walk.Slope.{Slope}
 use Rattle.envelope.specs.Turns.{HasCome, IsToCome, IsNoBetter, none_of}
 use Rattle.envelope.specs.Best.{Has}
-use Rattle.envelope.specs.Course.{Turns, HasPart, IsAlone, IsReady, IsSettledTo, IsTold, first_time}
+use Rattle.envelope.specs.SoFar.{Turns, HasPart, IsAlone, IsReady, IsSettledTo, IsTold, first_time}
 
 -- a piece: a shape that counts from a turn on until another, or for ever
 pub record Part (P : Type 0) : Type 0 where
@@ -143,7 +143,7 @@ AllFollow first (item ∷ items) = Follows first item × AllFollow first items
 
 module _ {P : Type 0} (shape : ShapeOf P) where
   -- the turn may come next
-  pub record IsNext (course : Course P) (turn : Turn) : Type 0 where
+  pub record IsNext (course : SoFar P) (turn : Turn) : Type 0 where
     pub order : value course.at ≤ʳ value turn.at
     pub within : IsWithin (2 ^ 34) (value turn.at)
 
@@ -154,18 +154,18 @@ module _ {P : Type 0} (shape : ShapeOf P) where
       (shape.function slope.shape) × ((t : Rational) → HasCome slope.until t → HasCome until t)
 
   -- an item of the queue: its turns come no earlier than the last knot, and its shapes are within limits
-  pub record IsItem (course : Course P) (item : Item P) : Type 0 where
+  pub record IsItem (course : SoFar P) (item : Item P) : Type 0 where
     pub next : IsNext course item.until
     pub level : HasBoundedLevel (2 ^ 31) (shape.function item.value)
     pub slope : IsSlope item.slope item.until
 
   -- all are items, and each leaves no earlier than those before it
-  abbrev pub AreItems : Course P → List (Item P) → Type 0
+  abbrev pub AreItems : SoFar P → List (Item P) → Type 0
   AreItems course [] = Unit {0}
   AreItems course (item ∷ items) = IsItem course item × AllFollow item items × AreItems course items
 
   -- a walk of these parts can go on
-  pub record CanGoOn (course : Course P) (low_until : Turn) (items : List (Item P)) : Type 0 where
+  pub record CanGoOn (course : SoFar P) (low_until : Turn) (items : List (Item P)) : Type 0 where
     pub ready : IsReady shape course
     pub low : (p : P) → course.after.low ≡ Some p → IsNext course low_until × ((t : Rational) → FirstHasCome items t → HasCome low_until t)
     pub queue : AreItems course items
@@ -222,7 +222,7 @@ module _ {P : Type 0} (shape : ShapeOf P) (side : Side) (pos : Turn) (to : Ratio
     IsCarried best On = IsAlone best ⊎ ((p : P) → Has best p → IsNone shape side p ⊎ IsPieceOn parts p On)
 
     -- the walk stands at the turn, with these pieces behind it
-    pub record Stands (course : Course P) (low_until : Turn) (items : List (Item P)) : Type 0 where
+    pub record Stands (course : SoFar P) (low_until : Turn) (items : List (Item P)) : Type 0 where
       pub told : (t : Rational) (v : Extended) → first_time course course.built ≤ʳ t → t ≤ʳ to
           → NothingLeaves course.after low_until items t → IsTold shape course t v → IsBestOf shape side parts t v
       pub keeps : Keeps course.after low_until items
@@ -282,14 +282,14 @@ pub record More {P : Type 0} (turn : Turn) (parts parts' : List (Part P)) : Type
   pub new : (x : Part P) → IsOneOf parts' x → IsOneOf parts x ⊎ ((t : Rational) → Counts x t → HasCome turn t)
 
 -- after the turn the walk stands there, whatever pieces it stood for
-abbrev pub IsPassed : {P : Type 0} → ShapeOf P → Turn → Course P → Turn → List (Item P) → Course P → Turn → List (Item P) → Type 0
+abbrev pub IsPassed : {P : Type 0} → ShapeOf P → Turn → SoFar P → Turn → List (Item P) → SoFar P → Turn → List (Item P) → Type 0
 IsPassed {P} shape turn old low_until items new low_until' items' =
     (parts : List (Part P)) (pos : Turn) (to : Rational) → Stands shape old.side pos to parts old low_until items
     → Stands shape old.side turn to parts new low_until' items'
 
 -- what is passed leaves at that turn: the walk stands there, no knot lies later, and there is less to leave
-pub record Passes {P : Type 0} (shape : ShapeOf P) (old : Course P) (low_until : Turn) (items : List (Item P))
-    (new : Course P) (low_until' : Turn) (items' : List (Item P)) : Type 0 where
+pub record Passes {P : Type 0} (shape : ShapeOf P) (old : SoFar P) (low_until : Turn) (items : List (Item P))
+    (new : SoFar P) (low_until' : Turn) (items' : List (Item P)) : Type 0 where
   pub can : CanGoOn shape new low_until' items'
   pub side : new.side ≡ old.side
   pub first : first_time new new.built ≡ first_time old old.built
@@ -299,8 +299,8 @@ pub record Passes {P : Type 0} (shape : ShapeOf P) (old : Course P) (low_until :
   pub followed : (item : Item P) → IsFollowed old.after.low low_until items item → IsFollowed new.after.low low_until' items' item
 
 -- what leaves up to a turn has left, so far or all: the walk stands at some turn that comes no later, whatever pieces it stood for
-pub record GoesTo {P : Type 0} (shape : ShapeOf P) (turn : Turn) (old : Course P) (low_until : Turn)
-    (items : List (Item P)) (new : Course P) (low_until' : Turn) (items' : List (Item P)) : Type 0 where
+pub record GoesTo {P : Type 0} (shape : ShapeOf P) (turn : Turn) (old : SoFar P) (low_until : Turn)
+    (items : List (Item P)) (new : SoFar P) (low_until' : Turn) (items' : List (Item P)) : Type 0 where
   pub can : CanGoOn shape new low_until' items'
   pub side : new.side ≡ old.side
   pub first : first_time new new.built ≡ first_time old old.built
@@ -311,8 +311,8 @@ pub record GoesTo {P : Type 0} (shape : ShapeOf P) (turn : Turn) (old : Course P
       → (next : Turn) × ((t : Rational) → HasCome turn t → HasCome next t) × Stands shape old.side next to parts new low_until' items'
 
 -- all that leaves up to the turn has left, and the walk stands at the turn
-pub record Leaves {P : Type 0} (shape : ShapeOf P) (turn : Turn) (old : Course P) (low_until : Turn)
-    (items : List (Item P)) (new : Course P) (low_until' : Turn) (items' : List (Item P)) : Type 0 where
+pub record Leaves {P : Type 0} (shape : ShapeOf P) (turn : Turn) (old : SoFar P) (low_until : Turn)
+    (items : List (Item P)) (new : SoFar P) (low_until' : Turn) (items' : List (Item P)) : Type 0 where
   pub can : CanGoOn shape new low_until' items'
   pub side : new.side ≡ old.side
   pub first : first_time new new.built ≡ first_time old old.built
@@ -323,11 +323,6 @@ pub record Leaves {P : Type 0} (shape : ShapeOf P) (turn : Turn) (old : Course P
       → Stands shape old.side pos to parts old low_until items
       → Stands shape old.side turn to parts new low_until' items'
 
--- an item without a slope whose constant is at no time better than no value
-pub record IsWorthless {P : Type 0} (shape : ShapeOf P) (side : Side) (item : Item P) : Type 0 where
-  pub flat : item.slope ≡ None
-  pub worse : (t : Rational) → IsNoBetter side (value_at (shape.function item.value) t) (none_of side shape.lowest shape.highest)
-
 -- an item that may be admitted at the turn: it leaves after it
 pub record IsNewItem {P : Type 0} (shape : ShapeOf P) (from : Turn) (item : Item P) : Type 0 where
   pub within : IsWithin (2 ^ 34) (value item.until.at)
@@ -337,13 +332,13 @@ pub record IsNewItem {P : Type 0} (shape : ShapeOf P) (from : Turn) (item : Item
   pub to_come : IsToCome item.until (value from.at)
 
 -- where no item is left the constant is the best from the turn on, and else nothing changes
-abbrev pub RisesTo : {P : Type 0} → ShapeOf P → Turn → P → Course P → List (Item P) → Course P → Type 0
+abbrev pub RisesTo : {P : Type 0} → ShapeOf P → Turn → P → SoFar P → List (Item P) → SoFar P → Type 0
 RisesTo shape from top old [] new = Turns shape old from (record { top = top; low = old.after.low; high = old.after.high }) new
 RisesTo shape from top old (item ∷ items) new = new ≡ old
 
 -- the walk stands at the turn, with the pieces of the item too
-pub record Admits {P : Type 0} (shape : ShapeOf P) (from : Turn) (item : Item P) (old : Course P) (low_until : Turn)
-    (items : List (Item P)) (new : Course P) (low_until' : Turn) (items' : List (Item P)) : Type 0 where
+pub record Admits {P : Type 0} (shape : ShapeOf P) (from : Turn) (item : Item P) (old : SoFar P) (low_until : Turn)
+    (items : List (Item P)) (new : SoFar P) (low_until' : Turn) (items' : List (Item P)) : Type 0 where
   pub can : CanGoOn shape new low_until' items'
   pub side : new.side ≡ old.side
   pub first : first_time new new.built ≡ first_time old old.built

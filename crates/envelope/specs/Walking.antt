@@ -2,7 +2,7 @@
 -- refused for.
 use Rattle.std.specs.Prelude.{◌≡◌, ◌⊎◌, ◌^◌, ◌≤◌, List, [], ◌∷◌, Option, Some, None, IfSome, ℕ}
 use Rattle.rational.specs.Time.{Rational, ◌≤ʳ◌, ◌<ʳ◌, ◌≈◌, HasDenominator}
-use Rattle.rational.specs.Extended.{Extended}
+use Rattle.rational.specs.Extended.{Extended, value_at}
 use Rattle.rational.specs.Affine.{HasBoundedLevel, MeetAlone}
 use Rattle.frac128.specs.Value.{value}
 use Rattle.frac128.specs.declared.frac.Frac.{Frac}
@@ -15,11 +15,11 @@ use Rattle.pl_signal.specs.declared.faults.OpFault.{OpFault}
 use Rattle.pl_signal.specs.declared.faults.OpFault.TheVariants as F
 use Rattle.pl_signal.specs.Knots.{start, stop, HasShape, IsSignal, IsWorth}
 use Rattle.envelope.specs.declared.turns.Turn.{Turn}
-use Rattle.envelope.specs.declared.course.Course.{Course}
+use Rattle.envelope.specs.declared.so_far.SoFar.{SoFar}
 use Rattle.envelope.specs.declared.walk.Item.{Item}
 use Rattle.envelope.specs.declared.walk.Walk.{Walk}
-use Rattle.envelope.specs.Turns.{HasCome}
-use Rattle.envelope.specs.Course.{Ends, Turns, first_time}
+use Rattle.envelope.specs.Turns.{HasCome, IsToCome, IsNoBetter}
+use Rattle.envelope.specs.SoFar.{Ends, Turns, first_time}
 use Rattle.envelope.specs.Standing.{Part, Counts, IsOneOf, IsBestOf, IsNone, IsFalling, CanGoOn, Leaves, SlopeEndsBy, Stands, pieces_with, slope_until}
 
 -- each piece has an end
@@ -62,7 +62,7 @@ module _ {P : Type 0} (shape : ShapeOf P) where
     pub stands : Stands shape side pos to parts walk.course walk.low_until walk.queue.items
 
   -- the item was taken, at the turn
-  pub record Took (from : Turn) (item : Item P) (old new : Walk P) : Type 0 where
+  pub record HasTaken (from : Turn) (item : Item P) (old new : Walk P) : Type 0 where
     pub can : CanTake new from
     pub leaves : LeavesBy new (last_turn item)
     pub walks : (side : Side) (start to : Rational) (pos : Turn) (parts : List (Part P)) → ((t : Rational) → HasCome from t → HasCome pos t)
@@ -75,6 +75,12 @@ module _ {P : Type 0} (shape : ShapeOf P) where
     pub leaves : (last : Turn) → LeavesBy old last → LeavesBy new last
     pub walks : (side : Side) (start to : Rational) (pos : Turn) (parts : List (Part P)) → ((t : Rational) → HasCome from t → HasCome pos t)
         → Walks side start to pos parts old → Walks side start to until (climbed_until gap from until ∷ parts) new
+
+  -- until the turn one of the pieces that the walk stands for counts and is no worse than the shape
+  abbrev pub Hides : Walk P → Turn → P → Type 0
+  Hides walk until p = (side : Side) (start to : Rational) (pos : Turn) (parts : List (Part P)) → Walks side start to pos parts walk
+      → value until.at ≤ʳ to → (t : Rational) → HasCome pos t → IsToCome until t
+      → (x : Part P) × IsOneOf parts x × Counts x t × IsNoBetter side (value_at (shape.function p) t) (value_at (shape.function x.shape) t)
 
   -- two pieces that count together cross, between the times `from` and `to`, at a time with the denominator
   pub record IsCrossingOn (parts : List (Part P)) (from to : Rational) (p q : P) (a b : Frac) (den : ℕ) : Type 0 where
@@ -129,13 +135,13 @@ module _ {P : Type 0} (shape : ShapeOf P) where
 
   -- the high end has come to the shape at the turn, or has left one
   pub record TurnsHigh (turn : Turn) (high : Option P) (old new : Walk P) : Type 0 where
-    pub mid : Course P
+    pub mid : SoFar P
     pub left : Leaves shape turn old.course old.low_until old.queue.items mid new.low_until new.queue.items
     pub turned : Turns shape mid turn (record { top = mid.after.top; low = mid.after.low; high = high }) new.course
 
   -- all that leaves up to the end has left, and the course has gone there
   pub record EndsWalk (turn : Turn) (old new : Walk P) : Type 0 where
-    pub mid : Course P
+    pub mid : SoFar P
     pub left : Leaves shape turn old.course old.low_until old.queue.items mid new.low_until new.queue.items
     pub ended : Ends shape mid (value turn.at) new.course
 

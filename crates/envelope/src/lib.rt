@@ -3,10 +3,10 @@
 #![tactic(auto)]
 
 mod best;
-mod course;
+mod so_far;
 mod turns;
 mod walk;
 
 pub use best::{Best, write};
-pub use turns::{Turn, is_later, of_none, trend};
+pub use turns::{Turn, is_later, is_worthless, of_none, trend};
 pub use walk::{Item, Slope, Walk};

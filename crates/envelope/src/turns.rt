@@ -3,7 +3,7 @@ ghost use Rattle.std.specs.Prelude.{◌≡◌, IsTrue, false};
 ghost use Rattle.rational.specs.Time.{Rational};
 ghost use Rattle.rational.specs.Extended.{value_at, ◌≈ᵉ◌};
 ghost use Rattle.frac128.specs.Value.{value};
-ghost use Rattle.envelope.specs.Turns.{HasCome, IsToCome, IsTrendFor, none_of};
+ghost use Rattle.envelope.specs.Turns.{HasCome, IsNoBetter, IsToCome, IsTrendFor, none_of};
 
 use frac128::Frac;
 use pl_signal::Side;
@@ -39,6 +39,13 @@ pub fn of_none<P: Shape>(side: Side) -> P
         Side::Greatest => P::least(),
         Side::Least => P::greatest(),
     }
+}
+
+/// Yes only where the shape is at no time better than no value. A no says nothing: it costs time alone.
+pub fn is_worthless<P: Shape>(side: Side, shape: &P) -> bool
+    ensures { IsTrue result → (t : Rational) → IsNoBetter side (value_at (P.function shape.now) t) (none_of side P.lowest P.highest) }
+{
+    P::same(shape, &of_none(side))
 }
 
 /// Whether the values of a shape go from worse to better with time, stay, or go from better to worse.

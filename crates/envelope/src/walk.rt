@@ -5,18 +5,18 @@ ghost use Rattle.rational.specs.Rational.{IsWithin};
 ghost use Rattle.rational.specs.Time.{Rational, ◌≤ʳ◌};
 ghost use Rattle.frac128.specs.Value.{value as value_of};
 ghost use Rattle.rational.specs.Affine.{HasBoundedLevel};
-ghost use Rattle.envelope.specs.Course.{IsCourseFault, IsReady, first_time};
+ghost use Rattle.envelope.specs.SoFar.{IsSoFarFault, IsReady, first_time};
 ghost use Rattle.envelope.specs.Standing.{Admits, CanGoOn, IsDropped, IsFollowed, IsNewItem, IsPassed, RisesTo};
-ghost use Rattle.envelope.specs.Standing.{IsTop, IsWorthless, Leaves, Passes, leaving_by, slope_shape, slope_until};
+ghost use Rattle.envelope.specs.Standing.{IsTop, Leaves, Passes, leaving_by, slope_shape, slope_until};
 ghost use Rattle.envelope.specs.Turns.{HasCome};
-ghost use Rattle.envelope.specs.Walking.{CanTake, Climbed, EndsWalk, FinishStops, Finishes, HasLevel, IsRefusal};
-ghost use Rattle.envelope.specs.Walking.{IsStoppedBy, LeavesBy, StopsAt, Took, TurnsHigh, Walks, climbed_until};
+ghost use Rattle.envelope.specs.Walking.{CanTake, Climbed, EndsWalk, FinishStops, Finishes, HasLevel, Hides, IsRefusal};
+ghost use Rattle.envelope.specs.Walking.{IsStoppedBy, LeavesBy, StopsAt, HasTaken, TurnsHigh, Walks, climbed_until};
 ghost use Rattle.envelope.specs.declared.turns.Turn.{Turn};
 ghost use Rattle.pl_signal.specs.declared.faults.OpFault.TheVariants as F;
 
 use crate::best::Best;
-use crate::course::Course;
-use crate::turns::{Turn, is_later, of_none};
+use crate::so_far::SoFar;
+use crate::turns::{Turn, is_later, of_none, trend};
 use frac128::{Frac, Memory};
 use pl_signal::{OpFault, Side, Signal, favour};
 use std::alloc::Global;
@@ -42,7 +42,7 @@ pub struct Item<P> {
 /// The pieces so far: the signal of their best, and those of them that may be the best later on.
 #[derive(Drop)]
 pub struct Walk<P: Shape> {
-    course: Course<P>,
+    course: SoFar<P>,
     /// Until when the gap under the low end counts, if there is one.
     low_until: Turn,
     /// Each is worse than the one before, and counts no shorter.
@@ -62,7 +62,7 @@ impl<P: Shape> Walk<P> {
             just_after: false,
         };
         Walk {
-            course: Course::begin(alloc, side, at, of_none(side)),
+            course: SoFar::begin(alloc, side, at, of_none(side)),
             low_until,
             queue: VecDeque::new(alloc),
         }
@@ -74,15 +74,15 @@ impl<P: Shape> Walk<P> {
     /// # Errors
     ///
     /// `Memory` where memory is wanting or a crossing is refused: `refusal` tells which. The walk is of no use then.
-    pub fn admit(&mut self, from: &Turn, item: Item<P>) -> Result<(), Memory>
+    pub fn admit(&mut self, from: &Turn, item: &Item<P>) -> Result<(), Memory>
         requires can { CanTake P.Shape self.old from.now }
         requires within { IsWithin (2 ^ 34) (value_of from.now.at) }
-        requires new { IsNewItem P.Shape from.now item }
-        requires leaves { LeavesBy self.old item.until }
-        ensures took { OnOk result (Took P.Shape from.now item self.old self.new) }
+        requires new { IsNewItem P.Shape from.now item.now }
+        requires leaves { LeavesBy self.old item.now.until }
+        ensures took { OnOk result (HasTaken P.Shape from.now item.now self.old self.new) }
         ensures fault { OnErr result (StopsAt P.Shape from.now from.now (λ parts. parts) self.old self.new) }
     {
-        self.take(from, &item)
+        self.take(from, item)
     }
 
     /// The gap counts from the one turn until the other, as the high end of the window moves over it.
@@ -101,6 +101,28 @@ impl<P: Shape> Walk<P> {
     {
         self.turn_high(from, Some(gap))?;
         self.turn_high(until, None)
+    }
+
+    /// Yes only where the first constant counts until past the turn, and is at no time up to there worse than the gap, which does not
+    /// get worse. A no says nothing: it costs time alone.
+    pub fn hides(&self, until: &Turn, gap: &P) -> bool
+        requires within { IsWithin (2 ^ 34) (value_of until.now.at) }
+        ensures { IsTrue result → Hides P.Shape self.now until.now gap.now }
+    {
+        let Some(first) = self.queue.front() else {
+            return false;
+        };
+        if !is_later(&first.until, until) {
+            return false;
+        }
+        match trend(self.course.side, gap) {
+            Ordering::Less => return false,
+            _ => {}
+        }
+        match favour(self.course.side, &first.value, gap, &until.at) {
+            Ordering::Greater => false,
+            _ => true,
+        }
     }
 
     /// The signal of the best of the pieces, once all that begins up to the time `stop` has been taken.
@@ -190,9 +212,6 @@ impl<P: Shape> Walk<P> {
         ensures fault { OnErr result (IsStoppedBy P.Shape from.now self.old self.new.course.fault) }
     {
         self.leave(from)?;
-        if is_worthless(self.course.side, item) {
-            return Ok(());
-        }
         if self.queue.reserve(1).is_err() {
             return Err(Memory);
         }
@@ -213,7 +232,7 @@ impl<P: Shape> Walk<P> {
         ensures items { self.new.queue.items ≡ self.old.queue.items }
         ensures room { deque_capacity self.new.queue ≡ deque_capacity self.old.queue }
         ensures until { self.new.low_until ≡ self.old.low_until }
-        ensures fault { OnErr result (IfSome self.new.course.fault (IsCourseFault P.Shape self.old.course)) }
+        ensures fault { OnErr result (IfSome self.new.course.fault (IsSoFarFault P.Shape self.old.course)) }
     {
         if !self.queue.is_empty() {
             return Ok(());
@@ -264,7 +283,7 @@ impl<P: Shape> Walk<P> {
         requires can { CanGoOn P.Shape self.old.course self.old.low_until self.old.queue.items }
         ensures ok { OnOk result
             (Passes P.Shape self.old.course self.old.low_until self.old.queue.items self.new.course self.new.low_until self.new.queue.items) }
-        ensures fault { OnErr result (IfSome self.new.course.fault (IsCourseFault P.Shape self.old.course)) }
+        ensures fault { OnErr result (IfSome self.new.course.fault (IsSoFarFault P.Shape self.old.course)) }
     {
         if self.course.after.low.is_some() {
             return self.slide_out();
@@ -288,7 +307,7 @@ impl<P: Shape> Walk<P> {
         ensures none { OnOk result (self.new.course.after.low ≡ None) }
         ensures until { self.new.low_until ≡ self.old.low_until }
         ensures items { self.new.queue.items ≡ self.old.queue.items }
-        ensures fault { OnErr result (IfSome self.new.course.fault (IsCourseFault P.Shape self.old.course)) }
+        ensures fault { OnErr result (IfSome self.new.course.fault (IsSoFarFault P.Shape self.old.course)) }
     {
         let next = Best {
             top: self.course.after.top,
@@ -311,7 +330,7 @@ impl<P: Shape> Walk<P> {
         ensures low { OnOk result (self.new.course.after.low ≡ slope_shape first.now.slope) }
         ensures until { self.new.low_until ≡ slope_until first.now.slope self.old.low_until }
         ensures items { self.new.queue.items ≡ self.old.queue.items }
-        ensures fault { OnErr result (IfSome self.new.course.fault (IsCourseFault P.Shape self.old.course)) }
+        ensures fault { OnErr result (IfSome self.new.course.fault (IsSoFarFault P.Shape self.old.course)) }
     {
         let next = Best {
             top: self.top(),
@@ -351,16 +370,6 @@ fn until_of<P: Shape>(slope: &Option<Slope<P>>, other: Turn) -> Turn
         Some(slope) => slope.until,
         None => other,
     }
-}
-
-/// Whether the item never gives more than no piece does.
-fn is_worthless<P: Shape>(side: Side, item: &Item<P>) -> bool
-    ensures { IsTrue result → IsWorthless P.Shape side item.now }
-{
-    if item.slope.is_some() {
-        return false;
-    }
-    P::same(&item.value, &of_none(side))
 }
 
 /// Drops the items at the end of the queue that are no better than the value at `t`.

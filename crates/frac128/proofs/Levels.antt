@@ -10,7 +10,7 @@ use Rattle.std.specs.Cmp.{int_cmp_is}
 use Rattle.std.proofs.lemmas.Cmp.{int_ranked}
 use Rattle.rational.specs.Rational.{Rational, part_above, part_below, mixed, fraction, IsOrder}
 use Rattle.rational.proofs.Mixed.{parts}
-use Rattle.frac128.proofs.Gaps.{above, below, above_le, below_le, sum_parts}
+use Rattle.frac128.proofs.Differences.{above, below, above_le, below_le, sum_parts}
 
 -- X * e against Y
 scaled_parts : (x : ℤ) (e : ℕ) → part_above (x *ℤ pos e) + part_below x * e ≡ part_below (x *ℤ pos e) + part_above x * e
@@ -159,4 +159,54 @@ moved_down here ahead w sum x climb run d r h j k =
 
     by_parts : part_above x + part_below sum + part_above w * (run * d) ≡ part_below x + part_above sum + part_below w * (run * d)
         → x ≡ sum -ℤ w *ℤ pos (run * d)
+    by_parts e = omega (arith, parts)
+
+-- two numbers over one denominator are in the order of their difference and 0
+pub order_of_difference : (o : Ordering) (a b : Rational) (x y z : ℤ) → a.den ≡ b.den → x ≡ pos a.up -ℤ pos a.down → y ≡ pos b.up -ℤ pos b.down
+    → z ≡ x -ℤ y → o ≡ int_cmp z (pos 0) → IsOrder o a b
+order_of_difference o a b x y z d h j k e = by_order o (int_ranked z (pos 0) o e)
+  where
+    apart : part_above z + a.down + b.up ≡ part_below z + a.up + b.down
+    apart = omega (arith, parts)
+
+    up_den : a.up * a.den ≡ a.up * b.den
+    up_den = ap (λ n. a.up * n) d
+
+    down_den : a.down * a.den ≡ a.down * b.den
+    down_den = ap (λ n. a.down * n) d
+
+    by_order : (o : Ordering) → MatchOrdering o (z <ℤ pos 0) (z ≡ pos 0) (pos 0 <ℤ z) → IsOrder o a b
+    by_order Less l = record {
+      lt = let m : z <ℤ pos 0 = l in let n : part_above z < part_below z = omega (arith, parts) in
+          let q : a.up + b.down < b.up + a.down = omega (arith, apart) in omega (arith, mul-lt-mul_of_pos_right q a.positive, up_den, down_den);
+    }
+    by_order Equal l = record {
+      same = let m : z ≡ pos 0 = l in let n : part_above z ≡ part_below z = omega (arith, parts) in
+          let q : a.up + b.down ≡ b.up + a.down = omega (arith, apart) in omega (arith, ap (λ n. n * a.den) q, up_den, down_den);
+    }
+    by_order Greater l = record {
+      lt = let m : pos 0 <ℤ z = l in let n : part_below z < part_above z = omega (arith, parts) in
+          let q : b.up + a.down < a.up + b.down = omega (arith, apart) in omega (arith, mul-lt-mul_of_pos_right q a.positive, up_den, down_den);
+    }
+
+-- the difference of two sums over one denominator is the sum of the differences
+pub sums_apart : (here there ahead x y z rise other climb : ℤ) (d r : ℕ) → ahead ≡ here *ℤ pos 1 -ℤ there *ℤ pos 1 → climb ≡ rise -ℤ other
+    → x ≡ here *ℤ pos d +ℤ rise *ℤ pos r → y ≡ there *ℤ pos d +ℤ other *ℤ pos r → z ≡ ahead *ℤ pos d +ℤ climb *ℤ pos r → z ≡ x -ℤ y
+sums_apart here there ahead x y z rise other climb d r h j k l m =
+    by_parts (omega (
+      arith,
+      sum_parts here rise x r d k,
+      sum_parts there other y r d l,
+      sum_parts ahead climb z r d m,
+      ap (λ n. n * d) first,
+      ap (λ n. n * r) second,
+    ))
+  where
+    first : part_above ahead + part_below here + part_above there ≡ part_below ahead + part_above here + part_below there
+    first = omega (arith, parts)
+
+    second : part_above climb + part_below rise + part_above other ≡ part_below climb + part_above rise + part_below other
+    second = omega (arith, parts)
+
+    by_parts : part_above z + part_below x + part_above y ≡ part_below z + part_above x + part_below y → z ≡ x -ℤ y
     by_parts e = omega (arith, parts)

@@ -6,8 +6,8 @@ mod Rests
 mod Ratios
 mod Ahead
 pub mod Moves
-mod Gaps
-mod RampGaps
+mod Differences
+mod RampDifferences
 mod Meets
 mod Levels
 mod Plains

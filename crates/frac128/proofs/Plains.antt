@@ -15,7 +15,7 @@ use Rattle.frac128.specs.Line.{line}
 use Rattle.frac128.specs.Lowest.{IsWide}
 use Rattle.frac128.specs.Value.{value}
 use Rattle.frac128.proofs.Fractions.{HasDenominator-value}
-use Rattle.frac128.proofs.Gaps.{everywhere_zero}
+use Rattle.frac128.proofs.Differences.{everywhere_zero}
 use Rattle.frac128.proofs.Making.{not_wide}
 
 at_base : (t0 v0 rise : ℤ) (run k : ℕ) (p : 0 < run) (q : 0 < k) → at (ramp_line t0 v0 rise run p) (mixed t0 0 k q) ≈ whole v0

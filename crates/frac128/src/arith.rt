@@ -1,5 +1,5 @@
 //! Whole numbers of 128 bits.
-ghost use Rattle.std.specs.Prelude.{◌≡◌, ◌+◌, ◌*◌, ◌%◌, ◌<◌, ◌≤◌, ◌^◌, pos, ◌+ℤ◌, ◌-ℤ◌, ◌*ℤ◌, ◌<ℤ◌};
+ghost use Rattle.std.specs.Prelude.{◌≡◌, ◌+◌, ◌*◌, ◌%◌, ◌<◌, ◌≤◌, ◌^◌, pos, ◌+ℤ◌, ◌-ℤ◌, ◌*ℤ◌, ◌<ℤ◌, MatchOption};
 ghost use Rattle.std.specs.Int.{IsGcd, trailing_zeros, w64};
 ghost use Rattle.std.specs.Int.RustNames.{unsigned_abs};
 ghost use Rattle.std.specs.Ordering.{nat_cmp};
@@ -36,6 +36,17 @@ pub(crate) fn sum_of_products(a: i128, b: i128, c: i128, d: i128) -> i128
     ensures small { unsigned_abs result ≤ unsigned_abs a * unsigned_abs b + unsigned_abs c * unsigned_abs d }
 {
     a * b + c * d
+}
+
+/// The number in 64 bits, where it has no more.
+#[inline(always)]
+pub(crate) fn narrow(n: i128) -> Option<i64>
+    ensures { MatchOption result (2 ^ 63 ≤ unsigned_abs n) (λ x. x ≡ n) }
+{
+    if n >= -(1 << 63) && n < 1 << 63 {
+        return Some(n as i64);
+    }
+    None
 }
 
 /// The greatest common divisor of two numbers of 128 bits: by Euclid until both have 64, and then by `gcd`.

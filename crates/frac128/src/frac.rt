@@ -8,10 +8,6 @@ ghost use Rattle.frac128.specs.Lowest.{HasDenominator, IsLowest, IsWide};
 use crate::arith::{gcd, gcd_of_wide, split, sum_of_products};
 use std::cmp::Ordering;
 
-/// Want of memory.
-#[derive(Clone, Copy, Debug, PartialEq, Eq)]
-pub struct Memory;
-
 /// A number whose denominator in lowest terms, `den`, is 2^60 or more, so that no `Frac` holds it.
 #[derive(Clone, Copy, Debug, PartialEq, Eq)]
 pub struct WideFrac {

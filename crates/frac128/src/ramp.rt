@@ -7,12 +7,12 @@ ghost use Rattle.frac128.specs.Lowest.{HasDenominator, IsWide};
 ghost use Rattle.frac128.specs.Sizes.{AreSmall};
 
 mod crossing;
-mod gap;
+mod difference;
 
-use crate::arith::{determinant, sum_of_products};
+use crate::arith::{determinant, narrow, sum_of_products};
 use crate::frac::{Frac, WideFrac};
 use crate::ratio::{Ratio, cmp_ratio};
-use gap::Gap;
+use difference::{Difference, sign_ahead};
 use std::cmp::Ordering;
 
 /// The line that at `t0` has the value `v0`, and rises by `rise` in the time `run`.
@@ -31,7 +31,7 @@ pub struct Ramp {
 }
 
 impl Ramp {
-    ghost use Rattle.frac128.specs.Value.{denominator, rest_part, value};
+    ghost use Rattle.frac128.specs.Value.{denominator, rest_part, value, whole_part};
     ghost use Rattle.frac128.specs.Line.{base, base_value, line, rise_in_run, run_time};
     ghost use Rattle.rational.specs.Line.{Falls, Level, Rises, at};
     ghost use Rattle.rational.specs.Rational.{IsOrder, IsWithin, ◌≈◌};
@@ -76,6 +76,7 @@ impl Ramp {
     fn on_tick(&self, gap: i128) -> Ratio
         requires { unsigned_abs gap ≤ 2 ^ 35 }
         ensures num { result.num ≡ self.now.v0 *ℤ pos self.now.run +ℤ self.now.rise *ℤ gap }
+        ensures small_num { unsigned_abs result.num ≤ 2 ^ 67 }
         ensures den { result.den ≡ pos self.now.run }
         ensures small { unsigned_abs result.den < 2 ^ 92 }
     {
@@ -88,6 +89,17 @@ impl Ramp {
             ),
             den: i128::from(self.run),
         }
+    }
+
+    /// The value at the floor of `t`, times `run`.
+    #[inline(always)]
+    fn at_floor(&self, t: &Frac) -> i128
+        requires { IsWithin (2 ^ 34) (value t.now) }
+        ensures value { result ≡ self.now.v0 *ℤ pos self.now.run +ℤ self.now.rise *ℤ (whole_part t.now -ℤ self.now.t0) }
+        ensures small { unsigned_abs result ≤ 2 ^ 67 }
+    {
+        let gap = t.whole() - self.t0;
+        self.on_tick(i128::from(gap)).num
     }
 
     /// The value at `t` as a `Frac`. Err exactly where its denominator in lowest terms is 2^60 or more, which it carries.
@@ -188,6 +200,7 @@ impl Ramp {
     }
 
     /// Whether both have one value at every time.
+    #[inline(always)]
     pub fn same(&self, other: &Ramp) -> bool
         ensures { IsTrue result ↔ ((t : Rational) → at (line self.now) t ≈ at (line other.now) t) }
     {
@@ -202,7 +215,7 @@ impl Ramp {
     fn lies_on(&self, other: &Ramp) -> bool
         ensures { IsTrue result ↔ ((t : Rational) → at (line self.now) t ≈ at (line other.now) t) }
     {
-        Gap::of(self, other).is_zero()
+        Difference::of(self, other).is_zero()
     }
 
     /// The order of both values at `t`.
@@ -224,7 +237,22 @@ impl Ramp {
         requires { IsWithin (2 ^ 34) (value t.now) }
         ensures { IsOrder result (at (line self.now) (value t.now)) (at (line other.now) (value t.now)) }
     {
-        Gap::of(self, other).sign_at(t)
+        if self.run != other.run {
+            return self.cmp_apart(other, t);
+        }
+        let here = self.at_floor(t);
+        let there = other.at_floor(t);
+        let ahead = determinant(here, 1, there, 1);
+        sign_ahead(ahead, i128::from(self.rise - other.rise), t.rest(), t.den())
+    }
+
+    /// The same, where the runs are two.
+    #[inline(never)]
+    fn cmp_apart(&self, other: &Ramp, t: &Frac) -> Ordering
+        requires { IsWithin (2 ^ 34) (value t.now) }
+        ensures { IsOrder result (at (line self.now) (value t.now)) (at (line other.now) (value t.now)) }
+    {
+        Difference::of(self, other).sign_at(t)
     }
 
     /// The order of the value at `t` and `c`.
@@ -244,32 +272,51 @@ impl Ramp {
         requires { IsWithin (2 ^ 34) (value t.now) }
         ensures { IsOrder result (at (line self.now) (value t.now)) (value c.now) }
     {
-        let here = sum_of_products(
-            self.offset(),
-            1,
-            i128::from(self.rise),
-            i128::from(t.whole()),
-        );
+        let here = self.at_floor(t);
         let ahead = determinant(here, 1, i128::from(c.whole()), i128::from(self.run));
         self.cmp_ahead(ahead, t, c)
     }
 
     /// The order of `ahead + rise * r` and `run * s`, where r and s are what lies above the whole parts of `t` and `c`.
+    #[inline(always)]
     fn cmp_ahead(&self, ahead: i128, t: &Frac, c: &Frac) -> Ordering
+        requires { run_time self.now < 2 ^ 32 }
         ensures { result ≡ int_cmp
             ((ahead *ℤ pos (denominator t.now) +ℤ rise_in_run self.now *ℤ pos (rest_part t.now)) *ℤ pos (denominator c.now))
             (pos (run_time self.now * rest_part c.now * denominator t.now)) }
     {
-        let run = i128::from(self.run);
-        if ahead.unsigned_abs() >= 1 << 33 {
+        let Some(near) = narrow(ahead) else {
             return ahead.cmp(&0);
-        }
-        let den = i128::from(t.den());
-        let top = sum_of_products(ahead, den, i128::from(self.rise), i128::from(t.rest()));
+        };
+        let top = sum_of_products(
+            i128::from(near),
+            i128::from(t.den()),
+            i128::from(self.rise),
+            i128::from(t.rest()),
+        );
         if c.rest() == 0 {
             return top.cmp(&0);
         }
-        let other = run * i128::from(c.rest());
+        self.cmp_over(top, t, c)
+    }
+
+    /// The order of `top` over the denominator of `t`, and `run * s`, where s is what lies above the whole part of `c`: by one
+    /// product on each side where both fit 64 bits.
+    #[inline(never)]
+    fn cmp_over(&self, top: i128, t: &Frac, c: &Frac) -> Ordering
+        ensures { result ≡ int_cmp
+            (top *ℤ pos (denominator c.now))
+            (pos (run_time self.now * rest_part c.now * denominator t.now)) }
+    {
+        let den = i128::from(t.den());
+        let other = i128::from(self.run) * i128::from(c.rest());
+        if let Some(x) = narrow(top) {
+            if let Some(y) = narrow(other) {
+                let left = i128::from(x) * i128::from(c.den());
+                let right = i128::from(y) * den;
+                return left.cmp(&right);
+            }
+        }
         cmp_ratio(top, den, other, i128::from(c.den()))
     }
 

@@ -1,7 +1,8 @@
 -- What is demanded of a node hands down what is demanded of its operands.
 use Rattle.std.proofs.Common.{◌≡◌, ℕ, pos, negsuc, ◌<◌, ◌-◌, ◌^◌, ◌⊎◌, inl, inr, Bool, true, false, List}
-use Rattle.std.proofs.Common.{[], ◌∷◌, length, Some, sym, subst, ◌∙◌, arith, lit≤}
-use Rattle.std.specs.Prelude.{slice_get, Option, None, IfSome, MatchBool, not}
+use Rattle.std.proofs.Common.{[], ◌∷◌, length, Some, refl, sym, subst, ◌∙◌, arith, lit≤}
+use Rattle.std.specs.Prelude.{slice_get, Option, None, IfSome, MatchBool, not, nat_eq}
+use Rattle.std.proofs.lemmas.Bool.Decides.{nat_tests}
 use Rattle.std.proofs.lemmas.Option.{slice_get_within}
 use Rattle.rational.specs.Time.{Rational, Within, Precedes, later, whole, ◌≤ʳ◌, ◌<ʳ◌, ◌≈◌}
 use Rattle.rational.specs.Rational.{IsWithin}
@@ -230,7 +231,7 @@ module _ (nodes : List Node) (tr : Trace) (items : List Item) (signals : List (L
       ]
 
 -- the Sup over a window behind looks from where the window ahead comes from
-ahead_of : (from to from' to' : Rational) (a b : ℕ) (a_in b_in : Bool) (t u : Rational) → from ≈ from' → to ≈ to'
+pub ahead_of : (from to from' to' : Rational) (a b : ℕ) (a_in b_in : Bool) (t u : Rational) → from ≈ from' → to ≈ to'
     → Within from to t → Behind from to a (Some b) a_in b_in t u
     → Ahead from' to' a b a_in b_in u t
 ahead_of from to from' to' a b a_in b_in t u e f w h = record {
@@ -373,6 +374,21 @@ implies_left p q i e at j some tr t h = subst (λ k. Must (at k) some tr t) e h.
 pub implies_right : (p q i : ℕ) → q ≡ i → (at : ℕ → Subformula) (j : ℕ) (some : List Item) (tr : Trace) (t : Rational)
     → Certain false (tree_of at j (Implies p q)) some tr t → Certain false (at i) some tr t
 implies_right p q i e at j some tr t h = subst (λ k. MustNot (at k) some tr t) e h.1
+
+-- so each operand is certain, the left one true and the other one false
+pub implies_down : (p q i : ℕ) → (p ≡ i) ⊎ (q ≡ i) → (at : ℕ → Subformula) (j : ℕ) (some : List Item) (tr : Trace) (t : Rational)
+    → Certain false (tree_of at j (Implies p q)) some tr t → Certain (nat_eq p i) (at i) some tr t
+implies_down p q i child at j some tr t h = by_test (nat_eq p i) refl
+  where
+    test_same : nat_eq p i ≡ true → p ≡ i
+    test_same f = grind (arith, nat_tests)
+
+    test_other : nat_eq p i ≡ false → ¬ (p ≡ i)
+    test_other f = λ s. grind (arith, nat_tests)
+
+    by_test : (b : Bool) → nat_eq p i ≡ b → Certain b (at i) some tr t
+    by_test true f = implies_left p q i (test_same f) at j some tr t h
+    by_test false f = implies_right p q i (right_of p q i child (test_other f)) at j some tr t h
 
 -- one that is certainly true has one of the two, where the other is left open
 pub implied_left : (p q i : ℕ) → p ≡ i → (at : ℕ → Subformula) (j : ℕ) (some : List Item) (tr : Trace) (t : Rational)

@@ -3,7 +3,6 @@ use Rattle.std.proofs.Common.{◌≡◌, ℕ, ◌<◌, ◌≤◌, ◌-◌, ◌^�
 use Rattle.std.specs.Prelude.{slice_get, Option, None, IfOk, IfSome, MatchBool, not, nat_eq}
 use Rattle.std.specs.declared.result.Result.{Result}
 use Rattle.std.specs.declared.result.Result.TheVariants.{Ok, Err}
-use Rattle.std.proofs.lemmas.Bool.Decides.{nat_tests}
 use Rattle.std.proofs.lemmas.Option.{slice_get_within}
 use Rattle.rational.specs.Time.{Rational, ◌≈◌}
 use Rattle.rational.proofs.Order.{same_sym, same_trans}
@@ -25,7 +24,7 @@ use Rattle.implicants.specs.Demands.{Certain, IsOn, IsOff, IsFull, IsVoid, IsDem
 use Rattle.implicants.specs.Demands.{AreOn, IsBeside, IsMet, IsMetBehind, AreCertainties, HandsDown}
 use Rattle.implicants.specs.declared.demand.Demand.{Demand}
 use Rattle.implicants.proofs.Demanding.{fit_over_ticks, told_at, all_down, beside_down, met_down, behind_down, not_down, IsOther}
-use Rattle.implicants.proofs.Demanding.{right_of, and_true, and_false, or_false, or_true, implies_left, implies_right}
+use Rattle.implicants.proofs.Demanding.{right_of, and_true, and_false, or_false, or_true, implies_down}
 use Rattle.implicants.proofs.Demanding.{implied_left, implied_right, eventually_false, always_true, once_false, historically_true}
 
 -- what follows of each demand follows of a demand that may be missing
@@ -101,20 +100,8 @@ module _ (holds : Bool) (x : List (Knot Kleene)) (signals : List (List (Knot Kle
   pub hands_implies : (p q : ℕ) → n ≡ Implies p q → IsChild n i → IsFit kleene_shape x → holds ≡ false → Hands (record { holds = nat_eq p i; at = x })
   hands_implies p q e child fit is = subst (λ m. HandsDown kleene_shape m holds x signals i (record { holds = nat_eq p i; at = x })) (sym e)
       (all_down holds x signals (Implies p q) i (record { holds = nat_eq p i; at = x }) fit refl
-      (λ at j some tr t h. by_test at j some tr t (certain_as false is (tree_of at j (Implies p q)) some tr t h)
-      (nat_eq p i) refl))
-    where
-      test_same : nat_eq p i ≡ true → p ≡ i
-      test_same f = grind (arith, nat_tests)
-
-      test_other : nat_eq p i ≡ false → ¬ (p ≡ i)
-      test_other f = λ s. grind (arith, nat_tests)
-
-      by_test : (at : ℕ → Subformula) (j : ℕ) (some : List Item) (tr : Trace) (t : Rational)
-          → Certain false (tree_of at j (Implies p q)) some tr t → (b : Bool) → nat_eq p i ≡ b
-          → Certain b (at i) some tr t
-      by_test at j some tr t h true f = implies_left p q i (test_same f) at j some tr t h
-      by_test at j some tr t h false f = implies_right p q i (right_of p q i (subst (λ m. IsChild m i) e child) (test_other f)) at j some tr t h
+      (λ at j some tr t h. implies_down p q i (subst (λ m. IsChild m i) e child) at j some tr t
+      (certain_as false is (tree_of at j (Implies p q)) some tr t h)))
 
   -- the other operand stands before the node
   other_below : (p q k j : ℕ) → IsOther p q i k → (p < j) × (q < j) → k < j

@@ -29,3 +29,4 @@ pub mod Turning
 pub mod LastCells
 pub mod Walking
 pub mod SharedTimes
+pub mod HeldUp

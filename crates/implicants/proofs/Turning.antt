@@ -1,6 +1,6 @@
 -- What is demanded of some time of a window hands down what is demanded of some time of an operand.
-use Rattle.std.proofs.Common.{◌≡◌, ℕ, ◌<◌, ◌≤◌, inl, inr, Bool, true, false, List, length, Some, refl, sym, subst, arith, lit≤}
-use Rattle.std.specs.Prelude.{slice_get, Option, None, IfOk, IfSome, MatchBool, not}
+use Rattle.std.proofs.Common.{◌≡◌, ℕ, ◌<◌, ◌≤◌, ◌⊎◌, inl, inr, Bool, true, false, List, length, Some, refl, sym, subst, arith, lit≤}
+use Rattle.std.specs.Prelude.{slice_get, Option, None, IfOk, IfSome, MatchBool, not, nat_eq}
 use Rattle.std.specs.declared.result.Result.{Result}
 use Rattle.std.specs.declared.result.Result.TheVariants.{Ok, Err}
 use Rattle.std.proofs.lemmas.Option.{slice_get_within}
@@ -23,18 +23,19 @@ use Rattle.stl_syntax.specs.SupInf.{one, minus_one}
 use Rattle.stl_syntax.specs.Cells.{IsChild}
 use Rattle.stl_syntax.specs.declared.items.Item.{Item}
 use Rattle.stl_syntax.specs.declared.node.Node.{Node}
-use Rattle.stl_syntax.specs.declared.node.Node.TheVariants.{Not, And, Or, Eventually, Always}
+use Rattle.stl_syntax.specs.declared.node.Node.TheVariants.{Not, And, Or, Implies, Eventually, Always}
 use Rattle.stl_syntax.proofs.FormulaLemmas.{subformula-at}
 use Rattle.offline_eval.specs.Making.{IsFit}
 use Rattle.implicants.specs.Keeping.{CoverMore}
 use Rattle.implicants.specs.Demands.{Certain, IsOn, IsOff, StaysFit, AreOn, AreCertainties, IsDemand}
-use Rattle.implicants.specs.Choices.{InWindow, IsChoice, IsSomeAhead, IsTurn, IsLeft, IsNoneAhead, IsOpen, HandsChoice}
+use Rattle.implicants.specs.Choices.{InWindow, IsChoice, IsSomeAhead, IsAsked, IsLeft, IsNoneAhead, IsOpen, HandsChoice}
 use Rattle.implicants.specs.declared.demand.Demand.{Demand}
 use Rattle.implicants.specs.declared.choice.Window.{Window}
 use Rattle.implicants.specs.declared.choice.SomeAhead.{SomeAhead}
-use Rattle.implicants.specs.declared.choice.Turn.{Turn}
+use Rattle.implicants.specs.declared.choice.Asked.{Asked}
 use Rattle.implicants.specs.declared.choice.Beside.{Beside}
 use Rattle.implicants.proofs.Demanding.{told_at, on_not_false, off_not_true, not_down, IsOther, and_true, and_false, or_true, or_false}
+use Rattle.implicants.proofs.Demanding.{right_of, implies_down, implied_left, implied_right}
 
 -- what follows of each answer follows of one that may be missing
 pub each_in : {E X : Type 0} (r : Result (Option X) E) (G H : X → Type 0) → ((x : X) → G x → H x) → IfOk r (λ o. IfSome o G) → IfOk r (λ o. IfSome o H)
@@ -161,8 +162,8 @@ other_less p q k j i (inr (s, f)) b = subst (λ z. z < j) (sym f) b.0
 
 -- of the operand of `not` the other truth is demanded
 pub turn_not : (n : Node) (holds turned : Bool) (i p : ℕ) → n ≡ Not p → IsChild n i → turned ≡ not holds
-    → IsTurn n holds i (record { holds = turned; beside = None })
-turn_not n holds turned i p e child f = subst (λ m. IsTurn m holds i (record { holds = turned; beside = None })) (sym e)
+    → IsAsked n holds i (record { holds = turned; beside = None })
+turn_not n holds turned i p e child f = subst (λ m. IsAsked m holds i (record { holds = turned; beside = None })) (sym e)
     (record {
       below = tt;
       down = λ at j items tr t clear h.
@@ -170,8 +171,8 @@ turn_not n holds turned i p e child f = subst (λ m. IsTurn m holds i (record { 
     })
 
 -- of both operands of `and` truth is demanded where it is demanded of the node
-pub turn_and : (n : Node) (holds : Bool) (i p q : ℕ) → n ≡ And p q → IsChild n i → holds ≡ true → IsTurn n holds i (record { holds = true; beside = None })
-turn_and n holds i p q e child f = subst (λ m. IsTurn m holds i (record { holds = true; beside = None })) (sym e)
+pub turn_and : (n : Node) (holds : Bool) (i p q : ℕ) → n ≡ And p q → IsChild n i → holds ≡ true → IsAsked n holds i (record { holds = true; beside = None })
+turn_and n holds i p q e child f = subst (λ m. IsAsked m holds i (record { holds = true; beside = None })) (sym e)
     (record {
       below = tt;
       down = λ at j items tr t clear h.
@@ -179,8 +180,8 @@ turn_and n holds i p q e child f = subst (λ m. IsTurn m holds i (record { holds
     })
 
 -- of both operands of `or` falsity is demanded where it is demanded of the node
-pub turn_or : (n : Node) (holds : Bool) (i p q : ℕ) → n ≡ Or p q → IsChild n i → holds ≡ false → IsTurn n holds i (record { holds = false; beside = None })
-turn_or n holds i p q e child f = subst (λ m. IsTurn m holds i (record { holds = false; beside = None })) (sym e)
+pub turn_or : (n : Node) (holds : Bool) (i p q : ℕ) → n ≡ Or p q → IsChild n i → holds ≡ false → IsAsked n holds i (record { holds = false; beside = None })
+turn_or n holds i p q e child f = subst (λ m. IsAsked m holds i (record { holds = false; beside = None })) (sym e)
     (record {
       below = tt;
       down = λ at j items tr t clear h.
@@ -189,9 +190,9 @@ turn_or n holds i p q e child f = subst (λ m. IsTurn m holds i (record { holds 
 
 -- of one operand of `and` falsity is demanded where the other one is not certainly false
 pub turn_and_beside : (n : Node) (holds : Bool) (i p q k : ℕ) → n ≡ And p q → IsChild n i → IsOther p q i k → holds ≡ false
-    → IsTurn n holds i (record { holds = false; beside = Some (record { other = k; enough = false }) })
+    → IsAsked n holds i (record { holds = false; beside = Some (record { other = k; enough = false }) })
 turn_and_beside n holds i p q k e child other f =
-    subst (λ m. IsTurn m holds i (record { holds = false; beside = Some (record { other = k; enough = false }) })) (sym e)
+    subst (λ m. IsAsked m holds i (record { holds = false; beside = Some (record { other = k; enough = false }) })) (sym e)
     (record {
       below = λ j b. other_less p q k j i other b;
       down = λ at j items tr t clear h.
@@ -200,17 +201,41 @@ turn_and_beside n holds i p q k e child other f =
 
 -- of one operand of `or` truth is demanded where the other one is not certainly true
 pub turn_or_beside : (n : Node) (holds : Bool) (i p q k : ℕ) → n ≡ Or p q → IsChild n i → IsOther p q i k → holds ≡ true
-    → IsTurn n holds i (record { holds = true; beside = Some (record { other = k; enough = true }) })
+    → IsAsked n holds i (record { holds = true; beside = Some (record { other = k; enough = true }) })
 turn_or_beside n holds i p q k e child other f =
-    subst (λ m. IsTurn m holds i (record { holds = true; beside = Some (record { other = k; enough = true }) })) (sym e)
+    subst (λ m. IsAsked m holds i (record { holds = true; beside = Some (record { other = k; enough = true }) })) (sym e)
     (record {
       below = λ j b. other_less p q k j i other b;
       down = λ at j items tr t clear h.
           or_true p q i k (subst (λ m. IsChild m i) e child) other at j items tr t clear (subst (λ b. Certain b (tree_of at j (Or p q)) items tr t) f h);
     })
 
+-- of the operands of an implication that is to be false the left one is to be true, and the right one false
+pub turn_implies : (holds : Bool) (i p q : ℕ) → (p ≡ i) ⊎ (q ≡ i) → holds ≡ false → IsAsked (Implies p q) holds i (record { holds = nat_eq p i; beside = None })
+turn_implies holds i p q child f = record {
+  below = tt;
+  down = λ at j items tr t clear h. implies_down p q i child at j items tr t (subst (λ b. Certain b (tree_of at j (Implies p q)) items tr t) f h);
+}
+
+-- of one that is to be true the left operand is to be false, where the right one is not certainly true
+pub turn_implied_left : (holds : Bool) (i p q : ℕ) → p ≡ i → holds ≡ true
+    → IsAsked (Implies p q) holds i (record { holds = false; beside = Some (record { other = q; enough = true }) })
+turn_implied_left holds i p q e f = record {
+  below = λ j b. b.1;
+  down = λ at j items tr t clear h. implied_left p q i e at j items tr t clear (subst (λ b. Certain b (tree_of at j (Implies p q)) items tr t) f h);
+}
+
+-- and the right one is to be true, where the left one is not certainly false
+pub turn_implied_right : (holds : Bool) (i p q : ℕ) → (p ≡ i) ⊎ (q ≡ i) → (¬ (p ≡ i)) → holds ≡ true
+    → IsAsked (Implies p q) holds i (record { holds = true; beside = Some (record { other = p; enough = false }) })
+turn_implied_right holds i p q child other f = record {
+  below = λ j b. b.0;
+  down = λ at j items tr t clear h.
+      implied_right p q i (right_of p q i child other) at j items tr t clear (subst (λ b. Certain b (tree_of at j (Implies p q)) items tr t) f h);
+}
+
 module _ (n : Node) (holds : Bool) (x : List (Knot Kleene)) (w : Window) (signals : List (List (Knot Kleene))) (i : ℕ)
-    (turn : Turn) (is : IsTurn n holds i turn) where
+    (turn : Asked) (is : IsAsked n holds i turn) where
   -- where no other operand can be enough, the same times are demanded
   pub hands_all : turn.beside ≡ None → IsFit kleene_shape x → HandsChoice kleene_shape n holds x w signals i (record { holds = turn.holds; at = x })
   hands_all e fit = record {

@@ -23,7 +23,7 @@ use Rattle.implicants.specs.Demands.{Certain, IsOn, IsOff, StaysFit, AreCertaint
 use Rattle.implicants.specs.declared.demand.Demand.{Demand}
 use Rattle.implicants.specs.declared.choice.Window.{Window}
 use Rattle.implicants.specs.declared.choice.SomeAhead.{SomeAhead}
-use Rattle.implicants.specs.declared.choice.Turn.{Turn}
+use Rattle.implicants.specs.declared.choice.Asked.{Asked}
 
 -- u lies in the window from t on, as far as that lies between `from` and `to`
 abbrev pub InWindow : Rational → Rational → Window → Rational → Rational → Type 0
@@ -45,7 +45,7 @@ pub record IsSomeAhead (n : Node) (holds : Bool) (a : SomeAhead) : Type 0 where
       → Certain other (tree_of at j n) items tr t → InWindow (trace.start tr) (trace.stop tr) a.window t u → Certain other (at a.of) items tr u
 
 -- where a node is certain and the other operand does not suffice, the operand at place i is certain
-pub record IsTurn (n : Node) (holds : Bool) (i : ℕ) (turn : Turn) : Type 0 where
+pub record IsAsked (n : Node) (holds : Bool) (i : ℕ) (turn : Asked) : Type 0 where
   pub below : IfSome turn.beside (λ b. (j : ℕ) → HasChildrenBelow j n → b.other < j)
   pub down : (at : ℕ → Subformula) (j : ℕ) (items : List Item) (tr : Trace) (t : Rational)
       → IfSome turn.beside (λ b. ¬ Certain b.enough (at b.other) items tr t) → Certain holds (tree_of at j n) items tr t → Certain turn.holds (at i) items tr t

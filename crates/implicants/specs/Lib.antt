@@ -4,6 +4,7 @@ pub mod Certainty
 pub mod Signals
 pub mod Cuts
 pub mod Demands
+pub mod Lasting
 pub mod Choices
 pub mod Sharing
 pub mod Explaining

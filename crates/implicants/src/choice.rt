@@ -8,10 +8,11 @@ ghost use Rattle.stl_syntax.specs.Trace.{start as start_of, stop as stop_of};
 ghost use Rattle.stl_syntax.specs.Formula.{HasChildrenBelow};
 ghost use Rattle.stl_syntax.specs.WellFormed.{HasBounds};
 ghost use Rattle.stl_syntax.specs.Cells.{IsChild};
+ghost use Rattle.stl_syntax.specs.declared.node.Node.TheVariants.{Implies};
 ghost use Rattle.stl_syntax.specs.declared.items.Item.{Item};
 ghost use Rattle.offline_eval.specs.Making.{IsFit};
 ghost use Rattle.implicants.specs.Demands.{AreCertainties, IsAlong, IsOff, IsOn, StaysFit};
-ghost use Rattle.implicants.specs.Choices.{HandsChoice, IsChoice, IsLeft, IsNoneAhead, IsOpen, IsSomeAhead, IsTurn};
+ghost use Rattle.implicants.specs.Choices.{HandsChoice, IsChoice, IsLeft, IsNoneAhead, IsOpen, IsSomeAhead, IsAsked};
 
 use crate::demand::{Demand, demand_on, operand_to, other_than, turned, where_both};
 use crate::trace_ends::last;
@@ -104,29 +105,58 @@ struct Beside {
 
 /// Which certainty of an operand follows from that of the node, where the other operand does not suffice.
 #[derive(Clone, Copy)]
-struct Turn {
+struct Asked {
     holds: bool,
     beside: Option<Beside>,
 }
 
+/// What follows for the operand at place `i` of an implication that is certainly what `holds` says.
+fn turn_of_implies(p: u32, q: u32, holds: bool, i: u32) -> Asked
+    requires child { IsChild (Implies p q) i }
+    ensures { IsAsked (Implies p q) holds i result }
+{
+    if !holds {
+        return Asked {
+            holds: p == i,
+            beside: None,
+        };
+    }
+    if p == i {
+        return Asked {
+            holds: false,
+            beside: Some(Beside {
+                other: q,
+                enough: true,
+            }),
+        };
+    }
+    Asked {
+        holds: true,
+        beside: Some(Beside {
+            other: p,
+            enough: false,
+        }),
+    }
+}
+
 /// What follows for the operand at place `i` where a node without a window is certainly what `holds` says.
-fn turn_of(node: &Node, holds: bool, i: u32) -> Option<Turn>
+fn turn_of(node: &Node, holds: bool, i: u32) -> Option<Asked>
     requires child { IsChild node.now i }
-    ensures { IfSome result (IsTurn node.now holds i) }
+    ensures { IfSome result (IsAsked node.now holds i) }
 {
     match node {
-        Node::Not(_) => Some(Turn {
+        Node::Not(_) => Some(Asked {
             holds: !holds,
             beside: None,
         }),
         Node::And(p, q) => {
             if holds {
-                return Some(Turn {
+                return Some(Asked {
                     holds: true,
                     beside: None,
                 });
             }
-            Some(Turn {
+            Some(Asked {
                 holds: false,
                 beside: Some(Beside {
                     other: other_than(*p, *q, i),
@@ -136,12 +166,12 @@ fn turn_of(node: &Node, holds: bool, i: u32) -> Option<Turn>
         }
         Node::Or(p, q) => {
             if !holds {
-                return Some(Turn {
+                return Some(Asked {
                     holds: false,
                     beside: None,
                 });
             }
-            Some(Turn {
+            Some(Asked {
                 holds: true,
                 beside: Some(Beside {
                     other: other_than(*p, *q, i),
@@ -149,6 +179,7 @@ fn turn_of(node: &Node, holds: bool, i: u32) -> Option<Turn>
                 }),
             })
         }
+        Node::Implies(p, q) => Some(turn_of_implies(*p, *q, holds, i)),
         _ => None,
     }
 }
@@ -317,7 +348,7 @@ pub(crate) fn window_above(formula: &Formula, i: u32) -> Option<u32>
 }
 
 /// What is demanded of some time of the node at place `i` where the formula is to be certainly false at the start, as far as it is
-/// known: where some time of the last window above it is enough, and nothing but `not`, `and` and `or` stands between.
+/// known: where some time of the last window above it is enough, and nothing but `not`, `and`, `or` and `implies` stands between.
 ///
 /// `nodes` are the signals of what some cells leave certain of each node.
 pub(crate) fn choice_on(

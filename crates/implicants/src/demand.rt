@@ -12,6 +12,7 @@ ghost use Rattle.implicants.specs.Demands.{IsFull, IsMet, IsMetBehind, IsOff, Is
 ghost use Rattle.pl_signal.specs.declared.knot.Knot.{Knot};
 ghost use Rattle.stl_syntax.specs.declared.items.Item.{Item};
 
+use crate::lasting::{for_since, for_until};
 use crate::trace_ends::{first, last, tick};
 use frac128::Memory;
 use offline_eval::Evaluated;
@@ -141,7 +142,7 @@ fn upper_bound(low: u32, high: Option<u32>) -> u32
 }
 
 /// The demand at each time that the window behind meets from a time at which the signal is on.
-fn met_behind(
+pub(crate) fn met_behind(
     holds: bool,
     x: &Signal<Kleene>,
     low: u32,
@@ -158,6 +159,49 @@ fn met_behind(
         Ok(at) => Ok(Some(Demand { holds, at })),
         Err(OpFault::Memory) => Err(Memory),
         Err(OpFault::Wide(_)) => Ok(None),
+    }
+}
+
+/// The demand on the operand at place `i` of a node with a window behind, of which `holds` is demanded wherever `at` is on: where
+/// that is so only if the operand is so at each time of the window.
+fn for_behind(
+    node: &Node,
+    holds: bool,
+    at: &Signal<Kleene>,
+    i: u32,
+) -> Result<Option<Demand>, Memory>
+    requires fit { IsFit ⟦<Kleene as Shape>⟧ at.now }
+    requires bounds { HasBounds node.now }
+    requires child { IsChild node.now i }
+    ensures { (signals : List (List (Knot Kleene)))
+        → IfOk result (λ o. IfSome o (HandsDown ⟦<Kleene as Shape>⟧ node.now holds at.now signals i)) }
+{
+    match node {
+        Node::Once {
+            low,
+            high,
+            low_in,
+            high_in,
+            ..
+        } => {
+            if holds {
+                return Ok(None);
+            }
+            met_behind(false, at, *low, *high, *low_in, *high_in)
+        }
+        Node::Historically {
+            low,
+            high,
+            low_in,
+            high_in,
+            ..
+        } => {
+            if holds {
+                return met_behind(true, at, *low, *high, *low_in, *high_in);
+            }
+            Ok(None)
+        }
+        _ => Ok(None),
     }
 }
 
@@ -200,31 +244,7 @@ fn for_window(
             }
             Ok(None)
         }
-        Node::Once {
-            low,
-            high,
-            low_in,
-            high_in,
-            ..
-        } => {
-            if holds {
-                return Ok(None);
-            }
-            met_behind(false, at, *low, *high, *low_in, *high_in)
-        }
-        Node::Historically {
-            low,
-            high,
-            low_in,
-            high_in,
-            ..
-        } => {
-            if holds {
-                return met_behind(true, at, *low, *high, *low_in, *high_in);
-            }
-            Ok(None)
-        }
-        _ => Ok(None),
+        _ => for_behind(node, holds, at, i),
     }
 }
 
@@ -267,6 +287,8 @@ fn for_operand(
             }
             beside(true, &at, nodes.signal(*p), false)
         }
+        Node::Until { .. } => for_until(node, holds, &at, nodes, i),
+        Node::Since { .. } => for_since(node, holds, &at, nodes, i),
         _ => for_window(node, holds, &at, i),
     }
 }

@@ -17,7 +17,8 @@ use Rattle.stl_syntax.specs.Formula.{Subformula, atom}
 use Rattle.stl_syntax.specs.Truth.{Truth, holds_at}
 use Rattle.stl_syntax.specs.declared.atom.Atom.{Atom}
 use Rattle.stl_syntax.specs.declared.items.Verdict.{Verdict}
-use Rattle.online_nodes.specs.Cuts.{Place, place, begins, ends, Upto, AtMost, Before, Same}
+use Rattle.rational.specs.Places.{Place, begins, ends, Upto, AtMost, Before, Same}
+use Rattle.frac128.specs.Cuts.{place}
 use Rattle.online_nodes.specs.Held.{Held, edge_at, no_edge, with_edge, with_more, with_number}
 use Rattle.frac128.specs.Value.{value}
 use Rattle.frac128.specs.declared.frac.Frac.{Frac}
@@ -28,15 +29,15 @@ use Rattle.atom_lines.specs.Pieces.{TellsGap}
 use Rattle.atom_lines.specs.declared.truth.TruthPiece.{TruthPiece}
 use Rattle.atom_lines.specs.declared.truth.TruthPiece.TheVariants.{Whole}
 use Rattle.value_laws.specs.declared.truth.Truth.{Truth as ATruth}
-use Rattle.online_nodes.specs.Reading.{AllAre}
+use Rattle.online_nodes.specs.Truths.{AllAre}
 use Rattle.frac128.specs.Spans.{interval}
 use Rattle.online_nodes.specs.Written.{HasAnswer, HasFinished, HasGot, HasTold, Lead, Reaches}
 use Rattle.online_nodes.proofs.GotLemmas.{got_both, got_none, got-here, got-other, got-length}
 use Rattle.online_net.specs.Atoms.{HasSaidThree, HasBegun, IsThrough, IsPut, HasPutAtom, HasPutAtoms, StandsNext, row_stretch, before_row, after_row}
-use Rattle.online_nodes.specs.declared.cut.Cut.{Cut}
+use Rattle.frac128.specs.declared.cut.Cut.{Cut}
 use Rattle.online_nodes.specs.declared.writer.Out.{Out}
-use Rattle.online_nodes.proofs.PlaceLemmas.{sides, not_both, place_order, between, same_places, same_trans_places}
-use Rattle.online_nodes.proofs.PlaceLemmas.{before_trans, before_same, same_before, room_of_before, upto_of_before, upto_same}
+use Rattle.rational.proofs.PlaceLemmas.{sides, not_both, place_order, between, same_places, same_trans_places}
+use Rattle.rational.proofs.PlaceLemmas.{before_trans, before_same, same_before, room_of_before, upto_of_before, upto_same}
 use Rattle.online_nodes.proofs.Writing.{told_same, same_itself, lead_describes}
 
 -- places of which neither comes after the other are one

@@ -8,9 +8,10 @@ use Rattle.stl_syntax.specs.Verdicts.{Describes}
 use Rattle.stl_syntax.specs.declared.atom.Atom.{Atom}
 use Rattle.stl_syntax.specs.declared.items.Verdict.{Verdict}
 use Rattle.atom_lines.specs.Binding.{Binding, IsFor, HasRow, AreNeighbours}
-use Rattle.online_nodes.specs.Cuts.{Place, place, begins, AtMost, Same}
+use Rattle.rational.specs.Places.{Place, begins, AtMost, Same}
+use Rattle.frac128.specs.Cuts.{place}
 use Rattle.online_nodes.specs.Held.{Edge, Held, edge_at, with_more, with_number}
-use Rattle.online_nodes.specs.Reading.{AllAre}
+use Rattle.online_nodes.specs.Truths.{AllAre}
 use Rattle.online_nodes.specs.Written.{HasGot, HasTold, IsSound}
 use Rattle.online_nodes.specs.declared.writer.Out.{Out}
 use Rattle.online_nodes.specs.declared.operator.Operator.{Operator}

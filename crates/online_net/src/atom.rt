@@ -4,7 +4,8 @@ ghost use Rattle.std.specs.Prelude.{◌≡◌, ◌<◌, ◌≤◌, ℕ, length, 
 ghost use Rattle.rational.specs.Rational.{whole};
 ghost use Rattle.frac128.specs.Value.{value};
 ghost use Rattle.frac128.specs.Spans.{interval};
-ghost use Rattle.online_nodes.specs.Cuts.{place, begins, ends, AtMost, Same};
+ghost use Rattle.rational.specs.Places.{begins, ends, AtMost, Same};
+ghost use Rattle.frac128.specs.Cuts.{place};
 ghost use Rattle.stl_syntax.specs.Trace.{Row as ARow};
 ghost use Rattle.value_laws.specs.declared.truth.Truth.{Truth as ATruth};
 ghost use Rattle.online_nodes.specs.Held.{Held, edge_at, with_edge, with_number};
@@ -15,8 +16,8 @@ ghost use Rattle.atom_lines.specs.declared.truth.TruthPiece.TheVariants.{Whole};
 ghost use Rattle.online_net.specs.Atoms.{after_row, before_row, begun, HasSaidThree, HasBegun, IsThrough, HasPutAtom, HasPutAtoms};
 
 use atom_lines::{Bound, TruthPiece, truth_point, truth_step};
-use frac128::{Frac, Memory, Span};
-use online_nodes::{Cut, Edges, Operator, Out};
+use frac128::{Cut, Frac, Memory, Span};
+use online_nodes::{Edges, Operator, Out};
 use stl_syntax::Verdict;
 use trace_reader::Row;
 
@@ -44,7 +45,7 @@ fn note(edges: &mut Edges, node: u32, n: u32)
 
 /// A truth that turns over at a time: before it, at it, and after it.
 #[derive(Clone, Copy)]
-struct Turn {
+struct Flip {
     before: bool,
     at: Frac,
     point: bool,
@@ -52,7 +53,7 @@ struct Turn {
 }
 
 /// Says the truth before the time at which it turns over, at it, and after it up to a place.
-fn say_turn(edges: &mut Edges, out: Out, turn: Turn, end: Cut) -> Result<Out, Memory>
+fn say_flip(edges: &mut Edges, out: Out, turn: Flip, end: Cut) -> Result<Out, Memory>
     requires edge { out.edge < length edges.old.edges }
     requires sound { IsSound out }
     requires inside { AtMost (place out.at) (place out.to) }
@@ -100,13 +101,13 @@ fn say_gap(
             point,
             after,
         } => {
-            let turn = Turn {
+            let turn = Flip {
                 before: before.holds(),
                 at,
                 point: point.holds(),
                 after: after.holds(),
             };
-            let said = say_turn(edges, out, turn, end)?;
+            let said = say_flip(edges, out, turn, end)?;
             Ok(said)
         }
     }

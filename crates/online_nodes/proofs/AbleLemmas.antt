@@ -4,7 +4,7 @@ use Rattle.std.proofs.lemmas.Int.{ints}
 use Rattle.stl_syntax.specs.Formula.{Subformula}
 use Rattle.stl_syntax.specs.Trace.{Trace}
 use Rattle.online_nodes.specs.Answering.{AreNearEnds, CanAnswer, CanRelease, HaveTwo, IsInput}
-use Rattle.online_nodes.specs.Cuts.{Place}
+use Rattle.rational.specs.Places.{Place}
 use Rattle.online_nodes.specs.Held.{Held}
 use Rattle.online_nodes.specs.Kinds.{IsNear, inputs_of}
 use Rattle.online_nodes.specs.Stepping.{Situation, IsBegun, IsDue}

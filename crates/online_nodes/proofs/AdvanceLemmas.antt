@@ -11,7 +11,8 @@ use Rattle.online_nodes.specs.Needed.{IsEdge, IsReader}
 use Rattle.online_nodes.specs.Answering.{HasAnswered, HasReleased, HasWorkedOn, IsInput, IsSide, looks_by}
 use Rattle.online_nodes.specs.Belonging.{HasStepped, StandsForSteps, room_of_step, trace_of}
 use Rattle.online_nodes.specs.Stepping.{Situation, HasWorkedOut, IsBegun, IsDue, end_of, first_in, formula_of, state_in, stretch_of, trace_in}
-use Rattle.online_nodes.specs.Cuts.{Before, Place, Same, begins, ends, place}
+use Rattle.rational.specs.Places.{Before, Place, Same, begins, ends}
+use Rattle.frac128.specs.Cuts.{place}
 use Rattle.online_nodes.specs.Held.{Edge, Held, edge_at, fresh_at, held_at, held_of, number_at, with_edge, with_more, with_number, IsDroppedBy}
 use Rattle.online_nodes.specs.Kinds.{held_in, inputs_of}
 use Rattle.online_nodes.specs.Laws.{beyond}

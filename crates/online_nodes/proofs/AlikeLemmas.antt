@@ -13,11 +13,12 @@ use Rattle.stl_syntax.specs.Trace.{Trace, first_time, start, stop}
 use Rattle.stl_syntax.specs.Formula.{Subformula, once, historically, since}
 use Rattle.stl_syntax.specs.Truth.{Truth}
 use Rattle.stl_syntax.specs.declared.items.Verdict.{Verdict}
-use Rattle.online_nodes.specs.Cuts.{AtMost, Place, Upto, begins, ends, place}
-use Rattle.online_nodes.specs.Reading.{Is}
+use Rattle.rational.specs.Places.{AtMost, Place, Upto, begins, ends}
+use Rattle.frac128.specs.Cuts.{place}
+use Rattle.online_nodes.specs.Truths.{Is}
 use Rattle.online_nodes.specs.Written.{HasTold, IsPending, Lead}
 use Rattle.online_nodes.specs.declared.writer.Out.{Out}
-use Rattle.online_nodes.proofs.PlaceLemmas.{upto_of_before, upto_same}
+use Rattle.rational.proofs.PlaceLemmas.{upto_of_before, upto_same}
 
 -- two formulas of one truth up to a place
 pub record IsLike (m n : Subformula) (tr : Trace) (to : Place) : Type 0 where

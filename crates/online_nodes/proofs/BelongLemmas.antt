@@ -31,7 +31,7 @@ use Rattle.stl_syntax.specs.declared.node.Node.TheVariants.{
 use Rattle.online_nodes.specs.Network.{Event, Front, State, last_row, open_number, allowed, allowed_at}
 use Rattle.online_nodes.specs.Network.{all_at_end, is_atom, node_is_atom, same_front, state, initial, IsReady}
 use Rattle.online_nodes.specs.Needed.{IsReader}
-use Rattle.online_nodes.specs.Cuts.{place}
+use Rattle.frac128.specs.Cuts.{place}
 use Rattle.online_nodes.specs.Held.{Held, edge_at, number_at}
 use Rattle.online_nodes.specs.Kinds.{inputs_of, AreInputs, AreNear, HasNear, IsNear, all_stand_at, open_by, allowed_by, held_in}
 use Rattle.online_nodes.specs.Operators.{kind_of, KnowsBy}

@@ -37,13 +37,13 @@ use Rattle.rational.proofs.Order.{le_of_lt, le_trans, not_lt_of_le}
 use Rattle.frac128.specs.Spans.{interval}
 use Rattle.frac128.specs.Value.{value}
 use Rattle.stl_syntax.specs.declared.items.Verdict.{Verdict}
-use Rattle.online_nodes.specs.Cuts.{AtMost, Before, Place, Same, Upto, begins, ends}
+use Rattle.rational.specs.Places.{AtMost, Before, Place, Same, Upto, begins, ends}
 use Rattle.online_nodes.specs.Held.{Edge, IsDroppedBy}
 use Rattle.online_nodes.specs.Operators.{first_place}
-use Rattle.online_nodes.specs.Reading.{Tells, Truths}
+use Rattle.online_nodes.specs.Truths.{Tells, Truths}
 use Rattle.online_nodes.proofs.TellingLemmas.{tells_first}
 use Rattle.online_nodes.proofs.StepFacts.{just_after}
-use Rattle.online_nodes.proofs.PlaceLemmas.{same_places, upto_of_before, upto_same}
+use Rattle.rational.proofs.PlaceLemmas.{same_places, upto_of_before, upto_same}
 use Rattle.online_nodes.proofs.Writing.{same_itself}
 use Rattle.std.specs.Prelude.{MatchBool}
 

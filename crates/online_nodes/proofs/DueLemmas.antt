@@ -23,12 +23,13 @@ use Rattle.online_nodes.specs.Stepping.{
   stretch_of,
   trace_in,
 }
-use Rattle.online_nodes.specs.Cuts.{AtMost, Before, Same, Upto, begins, place}
+use Rattle.rational.specs.Places.{AtMost, Before, Same, Upto, begins}
+use Rattle.frac128.specs.Cuts.{place}
 use Rattle.online_nodes.specs.Held.{Held, edge_at, number_at}
 use Rattle.online_nodes.specs.Kinds.{all_stand_at, allowed_by, inputs_of, open_by}
 use Rattle.online_nodes.specs.Operators.{KnowsBy, front_place, kind_of, place_of, read_upto}
 use Rattle.online_nodes.specs.Written.{HasTold, IsPending, IsSound}
-use Rattle.online_nodes.specs.declared.cut.Cut.{Cut}
+use Rattle.frac128.specs.declared.cut.Cut.{Cut}
 use Rattle.online_nodes.specs.declared.kind.Kind.{Kind}
 use Rattle.online_nodes.specs.declared.kind.Kind.TheVariants.{Const as Constant, Not as Negation, Join as Connective}
 use Rattle.online_nodes.specs.declared.kind.Kind.TheVariants.{Ahead, Behind, Until as UntilOf, Since as SinceOf}
@@ -37,7 +38,7 @@ use Rattle.online_nodes.specs.declared.answering.Outcome.{Outcome}
 use Rattle.online_nodes.proofs.BelongLemmas.{allowed_number, inputs_are_children, no_atom_here, own_below, own_edge, same_refl, same_true}
 use Rattle.online_nodes.proofs.HeldFacts.{input_within}
 use Rattle.online_nodes.proofs.TellingLemmas.{IsTelling}
-use Rattle.online_nodes.proofs.PlaceLemmas.{same_places, upto_same}
+use Rattle.rational.proofs.PlaceLemmas.{same_places, upto_same}
 use Rattle.online_nodes.proofs.ReadLemmas.{allowed_by_now, input_apart, never_less, read_first, telling}
 use Rattle.online_nodes.proofs.ReaderLemmas.{input_side, inputs_apart, side_reads}
 use Rattle.online_nodes.proofs.RunLaw.{and_left, int_order, some_is}

@@ -19,8 +19,8 @@ use Rattle.online_nodes.specs.Network.{Event, take, Front, State, last_row, show
 use Rattle.online_nodes.specs.Network.{state_from, initial, state, EmittedAt, EmittedFrom, Emitted, IsRunFrom, IsRun, MayCome}
 use Rattle.online_nodes.specs.Needed.{IsTaken, none, other, next, nothing_left}
 use Rattle.online_nodes.specs.Laws.{AreTiles, answered_to, IsWhole}
-use Rattle.online_nodes.specs.Cuts.{Place, begins, ends, Before, Same}
-use Rattle.online_nodes.proofs.PlaceLemmas.{same_trans_places}
+use Rattle.rational.specs.Places.{Place, begins, ends, Before, Same}
+use Rattle.rational.proofs.PlaceLemmas.{same_trans_places}
 use Rattle.online_nodes.proofs.Writing.{same_itself}
 use Rattle.online_nodes.proofs.RunLaw.{none_is_none, int_order}
 use Rattle.online_nodes.proofs.RisingLaw.{same_is, IsSound, sound_after, event_later, sound_of}

@@ -58,7 +58,7 @@ use Rattle.online_nodes.specs.Network.{
   MayCome,
 }
 use Rattle.online_nodes.specs.Needed.{AreMeeting, AreNeeded, IsEdge, IsReader}
-use Rattle.online_nodes.specs.Cuts.{Place, AtMost}
+use Rattle.rational.specs.Places.{Place, AtMost}
 use Rattle.online_nodes.specs.Held.{Held, held_at}
 use Rattle.online_nodes.specs.Laws.{answered_to, beyond, AreTiles, AreTold, IsWhole}
 use Rattle.online_nodes.specs.Operators.{place_of}

@@ -10,8 +10,8 @@ use Rattle.frac128.specs.Value.{value}
 use Rattle.online_nodes.specs.Needed.{Meets, AreMeeting}
 use Rattle.stl_syntax.specs.declared.items.Verdict.{Verdict}
 use Rattle.online_nodes.specs.Laws.{AreTiles, beyond}
-use Rattle.online_nodes.specs.Cuts.{Place, begins, ends, After, Upto, Before, Same}
-use Rattle.online_nodes.proofs.PlaceLemmas.{
+use Rattle.rational.specs.Places.{Place, begins, ends, After, Upto, Before, Same}
+use Rattle.rational.proofs.PlaceLemmas.{
   place_order,
   between,
   after_of_before,

@@ -23,7 +23,7 @@ use Rattle.online_nodes.specs.Network.{
 }
 use Rattle.online_nodes.specs.Needed.{AreNeeded, IsEdge, IsReader}
 use Rattle.online_nodes.specs.Belonging.{Belongs, HasStepped, StandsForSteps, is_ready, room_of_step, trace_of}
-use Rattle.online_nodes.specs.Cuts.{place}
+use Rattle.frac128.specs.Cuts.{place}
 use Rattle.online_nodes.specs.Stepping.{Situation, IsDue}
 use Rattle.online_nodes.specs.Held.{Edge, Held, edge_at, fresh_at, held_at, held_of, number_at, with_edge, with_number}
 use Rattle.online_nodes.specs.Operators.{KnowsBy}

@@ -9,13 +9,13 @@ use Rattle.stl_syntax.specs.Trace.{Trace, start, stop}
 use Rattle.stl_syntax.specs.Formula.{Subformula}
 use Rattle.stl_syntax.specs.Truth.{Truth}
 use Rattle.stl_syntax.specs.declared.items.Verdict.{Verdict}
-use Rattle.online_nodes.specs.Cuts.{Place, begins, ends, After, Upto, AtMost}
+use Rattle.rational.specs.Places.{Place, begins, ends, After, Upto, AtMost}
 use Rattle.online_nodes.specs.Laws.{AreTiles, AreTold, beyond}
 use Rattle.online_nodes.specs.Operators.{first_place}
-use Rattle.online_nodes.specs.Reading.{Is, Tells}
+use Rattle.online_nodes.specs.Truths.{Is, Tells}
 use Rattle.online_nodes.specs.Sweeps.{Counted}
 use Rattle.online_nodes.proofs.HeldLaw.{is_in}
-use Rattle.online_nodes.proofs.PlaceLemmas.{sides, not_both, upto_of_before, upto_same, after_same, same_before}
+use Rattle.rational.proofs.PlaceLemmas.{sides, not_both, upto_of_before, upto_same, after_same, same_before}
 use Rattle.online_nodes.proofs.Writing.{same_itself}
 
 -- verdicts that lead on without gap and are told tell the truth

@@ -33,17 +33,18 @@ use Rattle.stl_syntax.specs.Trace.{Trace}
 use Rattle.stl_syntax.specs.Formula.{Subformula}
 use Rattle.stl_syntax.specs.Truth.{Truth}
 use Rattle.stl_syntax.specs.declared.items.Verdict.{Verdict}
-use Rattle.online_nodes.specs.Cuts.{Place, place, ends, After, Upto, AtMost, Before}
+use Rattle.rational.specs.Places.{Place, ends, After, Upto, AtMost, Before}
+use Rattle.frac128.specs.Cuts.{place}
 use Rattle.online_nodes.specs.Held.{Held, fresh_at}
-use Rattle.online_nodes.specs.Reading.{AllAre}
+use Rattle.online_nodes.specs.Truths.{AllAre}
 use Rattle.online_nodes.specs.Written.{HasAnswer, HasTold, IsSound, Reaches}
 use Rattle.online_nodes.specs.Working.{HasPassed, HasWorked}
 use Rattle.online_nodes.specs.Joins.{joined, IsJoinOf, IsReadTo, IsJoining, HasPaused, HasReadBoth, HasFilled, HasJoined}
-use Rattle.online_nodes.specs.declared.cut.Cut.{Cut}
+use Rattle.frac128.specs.declared.cut.Cut.{Cut}
 use Rattle.online_nodes.specs.declared.join.Join.{Join}
 use Rattle.online_nodes.specs.declared.join.Inputs.{Inputs}
 use Rattle.online_nodes.specs.declared.writer.Out.{Out}
-use Rattle.online_nodes.proofs.PlaceLemmas.{sides, not_both, between, same_places, upto_same}
+use Rattle.rational.proofs.PlaceLemmas.{sides, not_both, between, same_places, upto_same}
 use Rattle.online_nodes.proofs.GotLemmas.{got-other}
 use Rattle.online_nodes.proofs.SaidLemmas.{passed-fresh, passed-one}
 use Rattle.online_nodes.proofs.WorkLemmas.{passed-other, first_and_rest, worked_none, worked_pass, worked_put, worked_both}

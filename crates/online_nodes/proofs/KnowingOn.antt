@@ -8,13 +8,13 @@ use Rattle.stl_syntax.specs.Trace.{Trace, start, stop as last}
 use Rattle.stl_syntax.specs.Formula.{Subformula}
 use Rattle.stl_syntax.specs.Truth.{Truth}
 use Rattle.stl_syntax.specs.declared.items.Verdict.{Verdict}
-use Rattle.online_nodes.specs.Cuts.{Place, ends, After, Upto, AtMost, Before, Same}
-use Rattle.online_nodes.specs.Reading.{Truths, Is, AllFrom, Knows}
+use Rattle.rational.specs.Places.{Place, ends, After, Upto, AtMost, Before, Same}
+use Rattle.online_nodes.specs.Truths.{Truths, Is, AllFrom, Knows}
 use Rattle.online_nodes.specs.Sweeps.{Counted, low_place, high_place}
 use Rattle.online_nodes.specs.Operators.{IsUntilKnown, IsSinceKnown}
 use Rattle.online_nodes.specs.declared.since.Since.{Since as SinceWindow}
 use Rattle.online_nodes.specs.declared.until.Until.{Until as UntilWindow}
-use Rattle.online_nodes.proofs.PlaceLemmas.{sides, not_both, place_order, between, same_places, upto_same, upto_of_before, after_same}
+use Rattle.rational.proofs.PlaceLemmas.{sides, not_both, place_order, between, same_places, upto_same, upto_of_before, after_same}
 
 -- two truths are one up to a place, from a time on
 abbrev pub Agrees : Rational → Place → Truths → Truths → Type 0

@@ -1,4 +1,3 @@
-pub mod PlaceLemmas
 pub mod Writing
 pub mod GotLemmas
 pub mod RunLaw

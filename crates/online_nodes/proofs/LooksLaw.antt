@@ -21,8 +21,8 @@ use Rattle.stl_syntax.specs.Formula.{
   since,
 }
 use Rattle.stl_syntax.specs.Truth.{Truth}
-use Rattle.online_nodes.specs.Cuts.{After, Upto}
-use Rattle.online_nodes.specs.Reading.{Looks, IsUntilOf, IsSinceOf}
+use Rattle.rational.specs.Places.{After, Upto}
+use Rattle.online_nodes.specs.Truths.{Looks, IsUntilOf, IsSinceOf}
 use Rattle.online_nodes.specs.Sweeps.{Counted}
 use Rattle.online_nodes.specs.Joins.{IsJoinOf}
 use Rattle.online_nodes.specs.Negations.{IsNotOf}

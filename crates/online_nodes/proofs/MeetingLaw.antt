@@ -13,8 +13,8 @@ use Rattle.stl_syntax.specs.declared.items.Verdict.{Verdict}
 use Rattle.online_nodes.specs.Network.{Front, needed}
 use Rattle.online_nodes.specs.Needed.{Meets, AreMeeting, AreNeeded}
 use Rattle.online_nodes.specs.Laws.{AreTiles, answered_to, beyond}
-use Rattle.online_nodes.specs.Cuts.{Place, begins, ends, After, Upto, Same}
-use Rattle.online_nodes.proofs.PlaceLemmas.{between, after_of_before, after_same, upto_of_before, upto_same, same_places, not_both}
+use Rattle.rational.specs.Places.{Place, begins, ends, After, Upto, Same}
+use Rattle.rational.proofs.PlaceLemmas.{between, after_of_before, after_same, upto_of_before, upto_same, same_places, not_both}
 use Rattle.online_nodes.proofs.Writing.{in_upto}
 use Rattle.online_nodes.proofs.HeldLaw.{is_in, meeting_is_suffix, tiled_inside}
 use Rattle.online_nodes.proofs.RunLaw.{int_order}

@@ -7,10 +7,10 @@ use Rattle.rational.proofs.Order.{le_trans, le_of_lt, lt_of_le_of_lt, lt_of_lt_o
 use Rattle.rational.proofs.Shift.{le_whole, lt_whole}
 use Rattle.frac128.specs.Spans.{interval}
 use Rattle.stl_syntax.specs.declared.items.Verdict.{Verdict}
-use Rattle.online_nodes.specs.Cuts.{Place, begins, ends, Upto, AtMost, Before, Same}
+use Rattle.rational.specs.Places.{Place, begins, ends, Upto, AtMost, Before, Same}
 use Rattle.online_nodes.specs.Laws.{AreTiles, answered_to}
 use Rattle.online_nodes.specs.Operators.{place_of, first_place}
-use Rattle.online_nodes.proofs.PlaceLemmas.{same_places, upto_same, after_same, same_before}
+use Rattle.rational.proofs.PlaceLemmas.{same_places, upto_same, after_same, same_before}
 use Rattle.online_nodes.proofs.Writing.{same_itself}
 use Rattle.online_nodes.proofs.KnowingOn.{ReadsOn}
 

@@ -28,10 +28,10 @@ use Rattle.online_nodes.specs.Network.{
 }
 use Rattle.online_nodes.specs.Needed.{IsReader, IsEdge, AreNeeded}
 use Rattle.online_nodes.specs.Laws.{AreTiles, IsWhole, NeverLess, answered_to, beyond}
-use Rattle.online_nodes.specs.Cuts.{AtMost, Place, begins}
+use Rattle.rational.specs.Places.{AtMost, Place, begins}
 use Rattle.online_nodes.specs.Held.{Held, edge_at, fresh_at, held_at, number_at}
 use Rattle.online_nodes.specs.Operators.{first_place, place_of, front_place, read_upto}
-use Rattle.online_nodes.specs.Reading.{Tells}
+use Rattle.online_nodes.specs.Truths.{Tells}
 use Rattle.online_nodes.specs.Belonging.{Belongs, trace_of}
 use Rattle.online_nodes.specs.declared.operator.Operator.{Operator}
 use Rattle.online_nodes.proofs.BelongLemmas.{no_atom_here, own_within}
@@ -40,7 +40,7 @@ use Rattle.online_nodes.proofs.EmittedLaw.{emitted_tiles, front_shown}
 use Rattle.online_nodes.proofs.FrameLaw.{other_step}
 use Rattle.online_nodes.proofs.HeldFacts.{edge, held_is, input_within, needed_part, needs}
 use Rattle.online_nodes.proofs.InputLemmas.{tells_of}
-use Rattle.online_nodes.proofs.PlaceLemmas.{same_places, upto_same}
+use Rattle.rational.proofs.PlaceLemmas.{same_places, upto_same}
 use Rattle.online_nodes.proofs.ReaderLemmas.{child_all}
 use Rattle.online_nodes.proofs.RisingLaw.{IsSound, children_before, sound_of}
 use Rattle.online_nodes.proofs.RunLaw.{none_is_none, some_is}

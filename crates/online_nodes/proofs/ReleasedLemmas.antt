@@ -14,11 +14,12 @@ use Rattle.stl_syntax.specs.declared.items.Verdict.{Verdict}
 use Rattle.online_nodes.specs.Network.{Front, least}
 use Rattle.online_nodes.specs.Answering.{IsInput, IsSide, is_empty, looks_by}
 use Rattle.online_nodes.specs.Stepping.{Situation, HasWorkedOut, IsDue, LeavesLater, end_of, first_in, trace_in}
-use Rattle.online_nodes.specs.Cuts.{After, AtMost, Before, Place, Upto, begins, ends, moved_begin, place}
+use Rattle.rational.specs.Places.{After, AtMost, Before, Place, Upto, begins, ends, moved_begin}
+use Rattle.frac128.specs.Cuts.{place}
 use Rattle.online_nodes.specs.Held.{Edge, Held, edge_at, fresh_at, held_of, number_at, IsDroppedBy}
 use Rattle.online_nodes.specs.Kinds.{open_by}
 use Rattle.online_nodes.specs.Operators.{IsSinceKnown, IsUntilKnown, KnowsBy, first_place, front_place, place_of, read_upto}
-use Rattle.online_nodes.specs.Reading.{Knows, KnowsSince, Tells}
+use Rattle.online_nodes.specs.Truths.{Knows, KnowsSince, Tells}
 use Rattle.online_nodes.specs.Sinces.{IsBackward}
 use Rattle.online_nodes.specs.Sweeps.{Counted, CountsBeyond, high_place, low_place}
 use Rattle.online_nodes.specs.declared.answering.Outcome.{Outcome}
@@ -34,7 +35,7 @@ use Rattle.online_nodes.specs.declared.window.Window.{Window}
 use Rattle.online_nodes.proofs.DroppedLemmas.{dropped_number, dropped_parts, dropped_read, dropped_tells, ends_by_number, tells_some}
 use Rattle.online_nodes.proofs.DueLemmas.{among_telling, due_cases}
 use Rattle.online_nodes.proofs.JoinLemmas.{after_at_most}
-use Rattle.online_nodes.proofs.PlaceLemmas.{not_both, upto_of_before}
+use Rattle.rational.proofs.PlaceLemmas.{not_both, upto_of_before}
 use Rattle.online_nodes.proofs.RunLaw.{moved}
 use Rattle.online_nodes.proofs.StepFacts.{just_after}
 use Rattle.online_nodes.proofs.SinceWorked.{has_since}

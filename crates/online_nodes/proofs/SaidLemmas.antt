@@ -30,15 +30,16 @@ use Rattle.stl_syntax.specs.Trace.{Trace}
 use Rattle.stl_syntax.specs.Formula.{Subformula}
 use Rattle.stl_syntax.specs.Truth.{Truth}
 use Rattle.stl_syntax.specs.declared.items.Verdict.{Verdict}
-use Rattle.online_nodes.specs.Cuts.{Place, place, AtMost, Upto}
+use Rattle.rational.specs.Places.{Place, AtMost, Upto}
+use Rattle.frac128.specs.Cuts.{place}
 use Rattle.online_nodes.specs.Held.{Held, fresh_at}
-use Rattle.online_nodes.specs.Reading.{AllAre}
+use Rattle.online_nodes.specs.Truths.{AllAre}
 use Rattle.online_nodes.specs.Written.{HasAnswer, HasGot, HasSaidBoth, HasTold, IsSound, Reaches, waiting}
 use Rattle.online_nodes.specs.Working.{HasPassed, HasWorked}
-use Rattle.online_nodes.specs.declared.cut.Cut.{Cut}
+use Rattle.frac128.specs.declared.cut.Cut.{Cut}
 use Rattle.online_nodes.specs.declared.writer.Out.{Out}
 use Rattle.online_nodes.proofs.GotLemmas.{got_both}
-use Rattle.online_nodes.proofs.PlaceLemmas.{sides, not_both}
+use Rattle.rational.proofs.PlaceLemmas.{sides, not_both}
 use Rattle.online_nodes.proofs.WorkLemmas.{passed-here, first_and_rest, worked_put, worked_pass, worked_both}
 
 -- two answers, the one up to the cut `middle` and the other from there on, put at most two verdicts

@@ -6,9 +6,10 @@ use Rattle.rational.specs.Rational.{Rational}
 use Rattle.frac128.specs.Spans.{interval}
 use Rattle.stl_syntax.specs.Truth.{Truth}
 use Rattle.stl_syntax.specs.declared.items.Verdict.{Verdict}
-use Rattle.online_nodes.specs.Cuts.{Place, place, begins, ends, moved_begin, moved_end, After, Upto, AtMost, Before, Same}
+use Rattle.rational.specs.Places.{Place, begins, ends, moved_begin, moved_end, After, Upto, AtMost, Before, Same}
+use Rattle.frac128.specs.Cuts.{place}
 use Rattle.online_nodes.specs.Held.{Held, fresh_at}
-use Rattle.online_nodes.specs.Reading.{AllAre, Tells, MeetsUpto}
+use Rattle.online_nodes.specs.Truths.{AllAre, Tells, MeetsUpto}
 use Rattle.online_nodes.specs.Written.{HasSaidBoth}
 use Rattle.online_nodes.specs.Working.{HasPassed, HasWorked}
 use Rattle.online_nodes.specs.Sweeps.{Counted, low_place, high_place}
@@ -25,13 +26,13 @@ use Rattle.online_nodes.specs.Sinces.{
   IsStaying,
   Stay,
 }
-use Rattle.online_nodes.specs.declared.cut.Cut.{Cut}
-use Rattle.online_nodes.specs.declared.since.Course.{Course}
+use Rattle.frac128.specs.declared.cut.Cut.{Cut}
+use Rattle.online_nodes.specs.declared.since.Wrote.{Wrote}
 use Rattle.online_nodes.specs.declared.since.Since.{Since}
 use Rattle.online_nodes.specs.declared.writer.Out.{Out}
 use Rattle.online_nodes.proofs.GotLemmas.{got-length, got-other}
 use Rattle.online_nodes.proofs.JoinLemmas.{after_at_most, worked_then_pass}
-use Rattle.online_nodes.proofs.PlaceLemmas.{
+use Rattle.rational.proofs.PlaceLemmas.{
   sides,
   not_both,
   place_order,
@@ -64,7 +65,7 @@ use Rattle.online_nodes.proofs.WindowPlaces.{meets_after, meets_upto}
 use Rattle.online_nodes.proofs.WorkLemmas.{passed-other, worked_put, worked_both}
 
 -- what both inputs' next verdicts tell, and from where to where it counts
-pub record IsFound (old mid : Held) (s : Since) (c : Course) (out : Out) (held begin last reach from : Cut) (v w : Verdict) : Type 0 where
+pub record IsFound (old mid : Held) (s : Since) (c : Wrote) (out : Out) (held begin last reach from : Cut) (v w : Verdict) : Type 0 where
   -- the walk stands so
   pub at : IsWorking old s c
   -- the window looks back
@@ -105,7 +106,7 @@ pub record IsFound (old mid : Held) (s : Since) (c : Course) (out : Out) (held b
   pub reach_one : (reach ≡ c.reach) ⊎ (reach ≡ last)
 
 -- a verdict of the left input, which holds, was read after that
-left_step : {old new : Held} {s : Since} {c : Course} {v : Verdict} → IsWorking old s c → slice_get (fresh_at old s.window.of) 0 ≡ Some v
+left_step : {old new : Held} {s : Since} {c : Wrote} {v : Verdict} → IsWorking old s c → slice_get (fresh_at old s.window.of) 0 ≡ Some v
     → v.holds ≡ true → HasPassed old new s.window.of v → AtMost (ends (interval v.on)) (place c.out.to)
     → ((t : Rational) → After (place c.reach) t → After (ends (interval v.on)) t)
     → ((w : Verdict) → slice_get (fresh_at old s.right) 0 ≡ Some w
@@ -135,7 +136,7 @@ left_step {old} {new} {s} {c} {v} at first holding passed to_end beyond spent {x
       spent = inr (λ w is_first. inl (spent w (ap (λ f. slice_get f 0) (sym right_now) ∙ is_first)));
     }
 
-module _ {old mid : Held} {s : Since} {c : Course} {out : Out} {held begin last reach from : Cut} {v w : Verdict}
+module _ {old mid : Held} {s : Since} {c : Wrote} {out : Out} {held begin last reach from : Cut} {v w : Verdict}
     (g : IsFound old mid s c out held begin last reach from v w) where
   kept_left : fresh_at mid s.window.of ≡ fresh_at old s.window.of
   kept_left = ap (λ y. y.fresh) (got-other g.said.got s.window.of g.at.left_apart)
@@ -315,7 +316,7 @@ module _ {old mid : Held} {s : Since} {c : Course} {out : Out} {held begin last 
       }
 
   -- both go on beyond the stretch
-  pub counts_done : {new : Held} {end : Course} → HasRested mid new (record { out = out; reach = reach; run = c.run }) end
+  pub counts_done : {new : Held} {end : Wrote} → HasRested mid new (record { out = out; reach = reach; run = c.run }) end
       → Before (place out.to) (ends (interval v.on))
       → Before (ends (interval v.on)) (moved_begin s.window.begin_by s.window.begin_in (ends (interval w.on))) → HasDone old new s c end
   counts_done {new} {end} rested beyond sooner =

@@ -5,21 +5,22 @@ use Rattle.rational.proofs.Order.{le_or_lt, le_of_lt}
 use Rattle.frac128.specs.Spans.{interval}
 use Rattle.stl_syntax.specs.Truth.{Truth}
 use Rattle.stl_syntax.specs.declared.items.Verdict.{Verdict}
-use Rattle.online_nodes.specs.Cuts.{Place, place, begins, ends, moved_begin, After, Upto, AtMost, Before, Same}
+use Rattle.rational.specs.Places.{Place, begins, ends, moved_begin, After, Upto, AtMost, Before, Same}
+use Rattle.frac128.specs.Cuts.{place}
 use Rattle.online_nodes.specs.Held.{Held, fresh_at}
-use Rattle.online_nodes.specs.Reading.{AllAre, Tells}
+use Rattle.online_nodes.specs.Truths.{AllAre, Tells}
 use Rattle.online_nodes.specs.Written.{HasSaidBoth, IsSound, waiting}
 use Rattle.online_nodes.specs.Sweeps.{Counted}
 use Rattle.online_nodes.specs.Untils.{Reads}
 use Rattle.online_nodes.specs.Sinces.{HasDone, HasRested, IsSince, IsSpent, IsStaying, Stay}
-use Rattle.online_nodes.specs.declared.cut.Cut.{Cut}
-use Rattle.online_nodes.specs.declared.since.Course.{Course}
+use Rattle.frac128.specs.declared.cut.Cut.{Cut}
+use Rattle.online_nodes.specs.declared.since.Wrote.{Wrote}
 use Rattle.online_nodes.specs.declared.since.Since.{Since}
 use Rattle.online_nodes.specs.declared.writer.Out.{Out}
 use Rattle.online_nodes.proofs.GotLemmas.{got-other}
 use Rattle.online_nodes.proofs.JoinLemmas.{after_at_most}
-use Rattle.online_nodes.proofs.PlaceLemmas.{not_both, between, place_order, upto_of_before, upto_same}
-use Rattle.online_nodes.proofs.PlaceLemmas.{after_same, same_before, same_places, at_most_of_not_before}
+use Rattle.rational.proofs.PlaceLemmas.{not_both, between, place_order, upto_of_before, upto_same}
+use Rattle.rational.proofs.PlaceLemmas.{after_same, same_before, same_places, at_most_of_not_before}
 use Rattle.online_nodes.proofs.SinceLaw.{goes_on, went_on, fails, settled, knows_new_run, knows_later}
 use Rattle.online_nodes.proofs.SinceTurns.{IsWorking, left-first, left-says, run_behind, staying-remembers}
 use Rattle.online_nodes.proofs.UntilLaw.{after_later}
@@ -31,7 +32,7 @@ at_most_to : (c d : Place) → (Before d c → ⊥) → AtMost c d
 at_most_to c d n = at_most_of_not_before c d n
 
 -- a stretch to the end of which the left input holds, and beyond what was found nothing counts
-pub record IsRest (x : Stay) (s : Since) (c : Course) (r : Reads) (fresh_right : List Verdict) : Type 0 where
+pub record IsRest (x : Stay) (s : Since) (c : Wrote) (r : Reads) (fresh_right : List Verdict) : Type 0 where
   -- the left side holds up to the end
   pub holds : AllAre true (Truth x.p x.tr) r.read (place c.out.to)
   -- where nothing counts any more `since` is false
@@ -40,7 +41,7 @@ pub record IsRest (x : Stay) (s : Since) (c : Course) (r : Reads) (fresh_right :
   pub spent : IsSpent s fresh_right (place c.out.to) (place c.run)
 
 -- what is told of such a stretch
-pub rest_staying : {old new : Held} {x : Stay} {s : Since} {written : List Verdict} {c end : Course} {r : Reads} {fresh_left fresh_right : List Verdict}
+pub rest_staying : {old new : Held} {x : Stay} {s : Since} {written : List Verdict} {c end : Wrote} {r : Reads} {fresh_left fresh_right : List Verdict}
     → IsSince x s (place c.out.to) → IsStaying x s written c r fresh_left fresh_right → IsRest x s c r fresh_right
     → (g : HasRested old new c end) → IsStaying x s (written ++ g.said.more) end r fresh_left fresh_right
 rest_staying {old} {new} {x} {s} {written} {c} {end} {r} {fresh_left} {fresh_right} of m is g =
@@ -69,7 +70,7 @@ rest_staying {old} {new} {x} {s} {written} {c} {end} {r} {fresh_left} {fresh_rig
     (sym g.run) there)
 
 -- once such a stretch is told to its end
-pub rest_done : {old new : Held} {s : Since} {c end : Course} → IsWorking old s c → HasRested old new c end
+pub rest_done : {old new : Held} {s : Since} {c end : Wrote} → IsWorking old s c → HasRested old new c end
     → ((v : Verdict) → slice_get (fresh_at old s.window.of) 0 ≡ Some v → Before (place c.out.to) (ends (interval v.on)))
     → ((x : Stay) (written : List Verdict) (r : Reads) → IsSince x s (place c.out.to)
     → IsStaying x s written c r (fresh_at old s.window.of) (fresh_at old s.right) → IsRest x s c r (fresh_at old s.right))
@@ -100,7 +101,7 @@ rest_done {old} {new} {s} {c} {end} at g left is =
           );
     }
 
-module _ {x : Stay} {s : Since} {written : List Verdict} {c : Course} {r : Reads} {fresh_left fresh_right : List Verdict}
+module _ {x : Stay} {s : Since} {written : List Verdict} {c : Wrote} {r : Reads} {fresh_left fresh_right : List Verdict}
     (of : IsSince x s (place c.out.to)) (m : IsStaying x s written c r fresh_left fresh_right) where
   -- all of the left input was read
   pub left_out_rests : fresh_left ≡ [] → IsRest x s c r fresh_right
@@ -130,7 +131,7 @@ module _ {x : Stay} {s : Since} {written : List Verdict} {c : Course} {r : Reads
       (same_places (subst (λ f. Tells (Counted true x.q x.tr) r.right f x.stop_right) none m.right_tells)) (of.right_enough t u a h)))
 
 -- where the left input fails at the end of the stretch
-module _ {old new : Held} {s : Since} {c : Course} {out : Out} {held to : Cut} {v : Verdict} (at : IsWorking old s c)
+module _ {old new : Held} {s : Since} {c : Wrote} {out : Out} {held to : Cut} {v : Verdict} (at : IsWorking old s c)
     (first : slice_get (fresh_at old s.window.of) 0 ≡ Some v) (failing : v.holds ≡ false)
     (said : HasSaidBoth old new c.out true held to out) (to_is : to ≡ c.out.to)
     (held_reach : AtMost (place held) (place c.reach)) (held_begin : AtMost (place held) (begins (interval v.on)))
@@ -144,7 +145,7 @@ module _ {old new : Held} {s : Since} {c : Course} {out : Out} {held to : Cut} {
   all : AtMost (place c.out.to) (place out.at)
   all t h = said.reached t (subst (λ (q : Cut). Upto (place q) t) (sym to_is) h) h
 
-  done : (end : Course) → end.out ≡ out
+  done : (end : Wrote) → end.out ≡ out
       → ((x : Stay) (written : List Verdict) (r : Reads) → IsSince x s (place c.out.to)
       → IsStaying x s written c r (fresh_at old s.window.of) (fresh_at old s.right)
       → (r' : Reads) × IsStaying x s (written ++ said.more) end r' (fresh_at old s.window.of) (fresh_at old s.right)

@@ -2,9 +2,9 @@
 use Rattle.std.proofs.Common.{◌⊎◌, inl, inr, true, false}
 use Rattle.rational.specs.Rational.{Rational, ◌≤ʳ◌}
 use Rattle.rational.proofs.Order.{le_refl}
-use Rattle.online_nodes.specs.Cuts.{Place, After, Upto, Before}
-use Rattle.online_nodes.specs.Reading.{Truths, AllAre, AllFrom, HoldsFrom, IsReason, IsSinceOf, SinceRemembers, KnowsSince, MeetsAfter, MeetsUpto}
-use Rattle.online_nodes.proofs.PlaceLemmas.{share, between, sides, not_both, before_through, after_of_before}
+use Rattle.rational.specs.Places.{Place, After, Upto, Before}
+use Rattle.online_nodes.specs.Truths.{Truths, AllAre, AllFrom, HoldsFrom, IsReason, IsSinceOf, SinceRemembers, KnowsSince, MeetsAfter, MeetsUpto}
+use Rattle.rational.proofs.PlaceLemmas.{share, between, sides, not_both, before_through, after_of_before}
 use Rattle.online_nodes.proofs.UntilLaw.{after_later, upto_earlier, in_order}
 
 module _ {N P Q : Truths} {low high : Rational → Place} (since : IsSinceOf N P Q low high) where

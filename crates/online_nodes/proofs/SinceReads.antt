@@ -4,9 +4,10 @@ use Rattle.std.proofs.Common.{Some, slice_get, refl, sym, subst, ◌∙◌, arit
 use Rattle.std.proofs.lemmas.List.{append-nil}
 use Rattle.frac128.specs.Spans.{interval}
 use Rattle.stl_syntax.specs.declared.items.Verdict.{Verdict}
-use Rattle.online_nodes.specs.Cuts.{Place, place, begins, ends, moved_begin, Upto, AtMost, Before, Same}
+use Rattle.rational.specs.Places.{Place, begins, ends, moved_begin, Upto, AtMost, Before, Same}
+use Rattle.frac128.specs.Cuts.{place}
 use Rattle.online_nodes.specs.Held.{Held, fresh_at}
-use Rattle.online_nodes.specs.Reading.{AllAre}
+use Rattle.online_nodes.specs.Truths.{AllAre}
 use Rattle.online_nodes.specs.Written.{IsSound, waiting}
 use Rattle.online_nodes.specs.Working.{HasPassed, HasWorked}
 use Rattle.online_nodes.specs.Sweeps.{Counted}
@@ -25,14 +26,14 @@ use Rattle.online_nodes.specs.Sinces.{
   IsTurn,
   Stay,
 }
-use Rattle.online_nodes.specs.declared.cut.Cut.{Cut}
-use Rattle.online_nodes.specs.declared.since.Course.{Course}
+use Rattle.frac128.specs.declared.cut.Cut.{Cut}
+use Rattle.online_nodes.specs.declared.since.Wrote.{Wrote}
 use Rattle.online_nodes.specs.declared.since.Since.{Since}
-use Rattle.online_nodes.specs.declared.since.Turn.{Turn}
-use Rattle.online_nodes.specs.declared.since.Turn.TheVariants.{More, Done}
+use Rattle.online_nodes.specs.declared.since.Step.{Step}
+use Rattle.online_nodes.specs.declared.since.Step.TheVariants.{More, Done}
 use Rattle.online_nodes.specs.declared.writer.Out.{Out}
 use Rattle.online_nodes.proofs.JoinLemmas.{after_at_most}
-use Rattle.online_nodes.proofs.PlaceLemmas.{not_both, between, upto_of_before, upto_same, before_trans, same_before, same_places}
+use Rattle.rational.proofs.PlaceLemmas.{not_both, between, upto_of_before, upto_same, before_trans, same_before, same_places}
 use Rattle.online_nodes.proofs.SinceLaw.{knows_right_fails, knows_right_read}
 use Rattle.online_nodes.proofs.SinceCounts.{IsFound, counts_right, counts_left, counts_done}
 use Rattle.online_nodes.proofs.SinceEnds.{rest_done}
@@ -58,8 +59,8 @@ false_of_not true is = cc
 false_of_not false is = refl
 
 -- the left input went on: it was read, or the stretch is told to its end
-pub go_on_turn : {old : Held} {s : Since} {c : Course} {v : Verdict} → IsWorking old s c → slice_get (fresh_at old s.window.of) 0 ≡ Some v
-    → v.holds ≡ true → CanMoveRun s.window c → IsLeftRead old s c (ends (interval v.on)) → (new : Held) (turn : Turn)
+pub go_on_turn : {old : Held} {s : Since} {c : Wrote} {v : Verdict} → IsWorking old s c → slice_get (fresh_at old s.window.of) 0 ≡ Some v
+    → v.holds ≡ true → CanMoveRun s.window c → IsLeftRead old s c (ends (interval v.on)) → (new : Held) (turn : Step)
     → HasGoneOn old new s c v turn → IsTurn old new s c turn
 go_on_turn at first holding fits why new (More next) gone = left_over at first holding fits why gone
 go_on_turn {old} {s} {c} {v} at first holding fits why new (Done end) (rested, beyond) =
@@ -76,7 +77,7 @@ go_on_turn {old} {s} {c} {v} at first holding fits why new (Done end) (rested, b
     })
 
 -- the right input fails next
-pub right_fails_over : {old new : Held} {s : Since} {c : Course} {w : Verdict} → IsWorking old s c → slice_get (fresh_at old s.right) 0 ≡ Some w
+pub right_fails_over : {old new : Held} {s : Since} {c : Wrote} {w : Verdict} → IsWorking old s c → slice_get (fresh_at old s.right) 0 ≡ Some w
     → w.holds ≡ false → HasPassed old new s.right w → CanMoveRun s.window c → s.window.begin_in ≡ true → IsSound c.out
     → AtMost (place c.out.at) (place c.out.to) → HasMoved old new s c c
 right_fails_over {old} {new} {s} {c} {w} at first failing passed fits inside sound within =
@@ -86,7 +87,7 @@ right_fails_over {old} {new} {s} {c} {w} at first failing passed fits inside sou
     (subst (λ b. AllAre b (Counted true x.q x.tr) r.right (ends (interval w.on))) failing (right-first of m first).2) (right_within of m first))
 
 -- it holds no longer than to where the run began
-pub stale_over : {old new : Held} {s : Since} {c : Course} {w : Verdict} {from : Place} → IsWorking old s c
+pub stale_over : {old new : Held} {s : Since} {c : Wrote} {w : Verdict} {from : Place} → IsWorking old s c
     → slice_get (fresh_at old s.right) 0 ≡ Some w → IsLaterOf (begins (interval w.on)) (place c.run) from → AtMost (ends (interval w.on)) from
     → HasPassed old new s.right w → CanMoveRun s.window c → s.window.begin_in ≡ true → IsSound c.out → AtMost (place c.out.at) (place c.out.to)
     → HasMoved old new s c c
@@ -109,7 +110,7 @@ stale_over {old} {new} {s} {c} {w} {from} at first is ended passed fits inside s
     ]
 
 -- what both inputs' next verdicts tell: from where to where it would count
-pub record AreBoth (old : Held) (s : Since) (c : Course) (begin from : Place) (v w : Verdict) : Type 0 where
+pub record AreBoth (old : Held) (s : Since) (c : Wrote) (begin from : Place) (v w : Verdict) : Type 0 where
   -- the walk stands so
   pub at : IsWorking old s c
   -- the window has its begin
@@ -127,7 +128,7 @@ pub record AreBoth (old : Held) (s : Since) (c : Course) (begin from : Place) (v
   -- from where the window meets it
   pub begin_is : Same begin (moved_begin s.window.begin_by s.window.begin_in from)
 
-module _ {old : Held} {s : Since} {c : Course} {begin from : Place} {v w : Verdict} (g : AreBoth old s c begin from v w) where
+module _ {old : Held} {s : Since} {c : Wrote} {begin from : Place} {v w : Verdict} (g : AreBoth old s c begin from v w) where
   ends_after : (y : Verdict) → slice_get (fresh_at old s.right) 0 ≡ Some y
       → Before begin (moved_begin s.window.begin_by s.window.begin_in (ends (interval y.on)))
   ends_after y first =
@@ -147,7 +148,7 @@ module _ {old : Held} {s : Since} {c : Course} {begin from : Place} {v w : Verdi
   }
 
   -- it counts only beyond the stretch
-  pub not_in_stretch : {new : Held} {end : Course} → Before begin (ends (interval v.on)) → Before (place c.out.to) begin → HasRested old new c end
+  pub not_in_stretch : {new : Held} {end : Wrote} → Before begin (ends (interval v.on)) → Before (place c.out.to) begin → HasRested old new c end
       → HasDone old new s c end
   not_in_stretch in_run beyond rested =
       let past : Before (place c.out.to) (ends (interval v.on)) = before_trans (place c.out.to) begin (ends (interval v.on)) beyond in_run in
@@ -166,16 +167,16 @@ module _ {old : Held} {s : Since} {c : Course} {begin from : Place} {v w : Verdi
       })
 
 -- it counts from now on, and one of the verdicts was read, or the stretch is told to its end
-pub found_turn : {old mid : Held} {s : Since} {c : Course} {out : Out} {held begin last reach from : Cut} {v w : Verdict}
-    → IsFound old mid s c out held begin last reach from v w → CanMoveRun s.window c → (new : Held) (turn : Turn)
+pub found_turn : {old mid : Held} {s : Since} {c : Wrote} {out : Out} {held begin last reach from : Cut} {v w : Verdict}
+    → IsFound old mid s c out held begin last reach from v w → CanMoveRun s.window c → (new : Held) (turn : Step)
     → HasPassedFirst mid new s (record { out = out; reach = reach; run = c.run }) v w turn → IsTurn old new s c turn
 found_turn {old} {mid} {s} {c} {out} {held} {begin} {last} {reach} g fits new (More next) (is, which) =
-    subst (λ (q : Course). HasMoved old new s c q) (sym is)
+    subst (λ (q : Wrote). HasMoved old new s c q) (sym is)
     (elim which [ inl right ↦ counts_right g fits right | inr left ↦ counts_left g fits left.0 left.1 left.2 ])
 found_turn g fits new (Done end) (rested, beyond, sooner) = counts_done g rested beyond sooner
 
 -- some verdicts were read, and at most two put for each
-pub record HasCome (old now : Held) (s : Since) (c here : Course) : Type 0 where
+pub record HasCome (old now : Held) (s : Since) (c here : Wrote) : Type 0 where
   -- what was put on the node's edge
   pub more : List Verdict
   -- at most two for each verdict that was read
@@ -202,7 +203,7 @@ pub record HasCome (old now : Held) (s : Since) (c here : Course) : Type 0 where
       → (r' : Reads) × IsStaying x s (written ++ more) here r' (fresh_at now s.window.of) (fresh_at now s.right)
 
 -- before the first verdict nothing has changed, and nothing is put
-pub come_none : (e : Held) (s : Since) (c : Course) → IsSound c.out → AtMost (place c.out.at) (place c.out.to) → CanMoveRun s.window c
+pub come_none : (e : Held) (s : Since) (c : Wrote) → IsSound c.out → AtMost (place c.out.at) (place c.out.to) → CanMoveRun s.window c
     → HasCome e e s c c
 come_none e s c sound inside fits =
     record {
@@ -220,7 +221,7 @@ come_none e s c sound inside fits =
     }
 
 -- one turn more goes on from those before
-pub come_one : {old now new : Held} {s : Since} {c here next : Course} → HasCome old now s c here → HasMoved now new s here next
+pub come_one : {old now new : Held} {s : Since} {c here next : Wrote} → HasCome old now s c here → HasMoved now new s here next
     → HasCome old new s c next
 come_one {old} {now} {new} {s} {c} {here} {next} come one =
     record {
@@ -243,7 +244,7 @@ come_one {old} {now} {new} {s} {c} {here} {next} come one =
     }
 
 -- the turns and the end of the stretch tell `since` on it
-pub come_done : {old now new : Held} {s : Since} {c here end : Course} → HasCome old now s c here → HasDone now new s here end
+pub come_done : {old now new : Held} {s : Since} {c here end : Wrote} → HasCome old now s c here → HasDone now new s here end
     → HasSinceTold old new s c end
 come_done {old} {now} {new} {s} {c} {here} {end} come one =
     record {

@@ -10,21 +10,22 @@ use Rattle.rational.proofs.TimeLemmas.{later_from, later-add}
 use Rattle.frac128.specs.Spans.{interval}
 use Rattle.stl_syntax.specs.Truth.{Truth}
 use Rattle.stl_syntax.specs.declared.items.Verdict.{Verdict}
-use Rattle.online_nodes.specs.Cuts.{Place, place, begins, ends, moved_begin, moved_end, After, Upto, AtMost, Before, Same}
+use Rattle.rational.specs.Places.{Place, begins, ends, moved_begin, moved_end, After, Upto, AtMost, Before, Same}
+use Rattle.frac128.specs.Cuts.{place}
 use Rattle.online_nodes.specs.Held.{Held, fresh_at}
-use Rattle.online_nodes.specs.Reading.{AllAre, Tells, KnowsSince, SinceRemembers}
+use Rattle.online_nodes.specs.Truths.{AllAre, Tells, KnowsSince, SinceRemembers}
 use Rattle.online_nodes.specs.Written.{HasSaidBoth, IsSound}
 use Rattle.online_nodes.specs.Working.{HasPassed, HasWorked}
 use Rattle.online_nodes.specs.Sweeps.{Counted, low_place, high_place}
 use Rattle.online_nodes.specs.Untils.{Reads}
 use Rattle.online_nodes.specs.Sinces.{CanMoveRun, HasMoved, HasReadLeft, IsSince, IsSpent, IsStaying, Stay}
-use Rattle.online_nodes.specs.declared.cut.Cut.{Cut}
-use Rattle.online_nodes.specs.declared.since.Course.{Course}
+use Rattle.frac128.specs.declared.cut.Cut.{Cut}
+use Rattle.online_nodes.specs.declared.since.Wrote.{Wrote}
 use Rattle.online_nodes.specs.declared.since.Since.{Since}
 use Rattle.online_nodes.specs.declared.writer.Out.{Out}
 use Rattle.online_nodes.proofs.GotLemmas.{got-other}
 use Rattle.online_nodes.proofs.JoinLemmas.{after_at_most, worked_then_pass}
-use Rattle.online_nodes.proofs.PlaceLemmas.{sides, not_both, upto_of_before, upto_same, after_same, after_of_before, before_trans, same_places}
+use Rattle.rational.proofs.PlaceLemmas.{sides, not_both, upto_of_before, upto_same, after_same, after_of_before, before_trans, same_places}
 use Rattle.online_nodes.proofs.SaidLemmas.{passed-fresh, passed-one}
 use Rattle.online_nodes.proofs.SinceLaw.{goes_on, went_on, fails, not_yet, remembers_of, knows_new_run, knows_left_read, knows_later}
 use Rattle.online_nodes.proofs.UntilCounts.{meets_from}
@@ -77,7 +78,7 @@ pub after_later_of : {a b c : Place} → IsLaterOf a b c → (t : Rational) → 
 after_later_of {a} {b} {c} is t x y = elim is.one [ inl h ↦ after_at_most c a t h x | inr h ↦ after_at_most c b t h y ]
 
 -- where since works
-pub record IsWorking (old : Held) (s : Since) (c : Course) : Type 0 where
+pub record IsWorking (old : Held) (s : Since) (c : Wrote) : Type 0 where
   -- the node has an edge
   pub own : c.out.edge < length old.edges
   -- it is not that of the left input
@@ -87,7 +88,7 @@ pub record IsWorking (old : Held) (s : Since) (c : Course) : Type 0 where
   -- and the two inputs' differ
   pub apart : s.window.of ≢ s.right
 
-module _ {x : Stay} {s : Since} {written : List Verdict} {c : Course} {r : Reads} {fresh_left fresh_right : List Verdict}
+module _ {x : Stay} {s : Since} {written : List Verdict} {c : Wrote} {r : Reads} {fresh_left fresh_right : List Verdict}
     (of : IsSince x s (place c.out.to)) (m : IsStaying x s written c r fresh_left fresh_right) where
   -- in the trace, what is known says what holds of the node
   pub staying-remembers : SinceRemembers (Truth x.n x.tr) (Truth x.p x.tr) (Counted true x.q x.tr) (low_place s.window) (high_place s.window)
@@ -150,7 +151,7 @@ module _ {x : Stay} {s : Since} {written : List Verdict} {c : Course} {r : Reads
       t a b u
 
 -- the lists once the left input's next verdict was read
-module _ {old mid new : Held} {s : Since} {c : Course} {out : Out} {held cut : Cut} {v : Verdict} (at : IsWorking old s c)
+module _ {old mid new : Held} {s : Since} {c : Wrote} {out : Out} {held cut : Cut} {v : Verdict} (at : IsWorking old s c)
     (said : HasSaidBoth old mid c.out true held cut out) (passed : HasPassed mid new s.window.of v) where
   kept_left : fresh_at mid s.window.of ≡ fresh_at old s.window.of
   kept_left = ap (λ y. y.fresh) (got-other said.got s.window.of at.left_apart)
@@ -174,7 +175,7 @@ module _ {old mid new : Held} {s : Since} {c : Course} {out : Out} {held cut : C
   all_worked = worked_then_pass (worked_put at.own at.left_apart at.right_apart said.got) passed (λ same. at.left_apart (sym same)) (inl refl)
 
 -- the left input fails up to within the stretch: its run ends
-pub run_over : {old mid new : Held} {s : Since} {c : Course} {out : Out} {held cut : Cut} {v y : Verdict} → IsWorking old s c
+pub run_over : {old mid new : Held} {s : Since} {c : Wrote} {out : Out} {held cut : Cut} {v y : Verdict} → IsWorking old s c
     → slice_get (fresh_at old s.window.of) 0 ≡ Some v → v.holds ≡ false → HasSaidBoth old mid c.out true held cut out
     → AtMost (place held) (place c.reach) → AtMost (place held) (begins (interval v.on))
     → (held ≡ c.reach) ⊎ (place held ≡ begins (interval v.on))
@@ -239,7 +240,7 @@ run_over {old} {mid} {new} {s} {c} {out} {held} {cut} {v} {y} at first failing s
     }
 
 -- what the node fails up to, and what was read of the right input there
-pub record IsLeftRead (old : Held) (s : Since) (c : Course) (e : Place) : Type 0 where
+pub record IsLeftRead (old : Held) (s : Since) (c : Wrote) (e : Place) : Type 0 where
   -- where nothing counts any more `since` is false
   pub falls : (x : Stay) (written : List Verdict) (r : Reads) → IsSince x s (place c.out.to)
       → IsStaying x s written c r (fresh_at old s.window.of) (fresh_at old s.right)
@@ -249,7 +250,7 @@ pub record IsLeftRead (old : Held) (s : Since) (c : Course) (e : Place) : Type 0
       → Before e (moved_begin s.window.begin_by s.window.begin_in (ends (interval w.on)))
 
 -- the left input holds up to within the stretch, and was read
-pub left_over : {old new : Held} {s : Since} {c next : Course} {v : Verdict} → IsWorking old s c → slice_get (fresh_at old s.window.of) 0 ≡ Some v
+pub left_over : {old new : Held} {s : Since} {c next : Wrote} {v : Verdict} → IsWorking old s c → slice_get (fresh_at old s.window.of) 0 ≡ Some v
     → v.holds ≡ true → CanMoveRun s.window c → IsLeftRead old s c (ends (interval v.on)) → HasReadLeft old new s c v next
     → HasMoved old new s c next
 left_over {old} {new} {s} {c} {next} {v} at first holding fits why g =
@@ -311,7 +312,7 @@ left_over {old} {new} {s} {c} {next} {v} at first holding fits why g =
     }
 
 -- the right input's next verdict was read, and nothing put
-module _ {old new : Held} {s : Since} {c : Course} {w : Verdict} (at : IsWorking old s c)
+module _ {old new : Held} {s : Since} {c : Wrote} {w : Verdict} (at : IsWorking old s c)
     (first : slice_get (fresh_at old s.right) 0 ≡ Some w) (passed : HasPassed old new s.right w) where
   -- the left input stays unread
   pub left_stays : fresh_at new s.window.of ≡ fresh_at old s.window.of

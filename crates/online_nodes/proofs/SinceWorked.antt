@@ -43,20 +43,21 @@ use Rattle.online_nodes.specs.Stepping.{
   stretch_of,
   trace_in,
 }
-use Rattle.online_nodes.specs.Cuts.{After, AtMost, Before, Place, Same, Upto, begins, ends, moved_begin, place}
+use Rattle.rational.specs.Places.{After, AtMost, Before, Place, Same, Upto, begins, ends, moved_begin}
+use Rattle.frac128.specs.Cuts.{place}
 use Rattle.online_nodes.specs.Held.{Held, fresh_at, number_at}
 use Rattle.online_nodes.specs.Kinds.{held_in, inputs_of, open_by}
 use Rattle.online_nodes.specs.Operators.{IsSinceKnown, KnowsBy, behind, first_place, front_place, kind_of, place_of, read_upto}
-use Rattle.online_nodes.specs.Reading.{IsSinceOf, KnowsSince, Tells, Truths}
+use Rattle.online_nodes.specs.Truths.{IsSinceOf, KnowsSince, Tells, Truths}
 use Rattle.online_nodes.specs.Sinces.{CanMove, CanMoveRun, HasSinceTold, IsBackward, IsSince, IsStaying, Stay}
 use Rattle.online_nodes.specs.Sweeps.{Counted, high_place, low_place}
 use Rattle.online_nodes.specs.Untils.{Reads}
 use Rattle.online_nodes.specs.Working.{HasWorked}
 use Rattle.online_nodes.specs.Written.{waiting}
-use Rattle.online_nodes.specs.declared.cut.Cut.{Cut}
+use Rattle.frac128.specs.declared.cut.Cut.{Cut}
 use Rattle.online_nodes.specs.declared.kind.Kind.TheVariants.{Since as SinceOf}
 use Rattle.online_nodes.specs.declared.operator.Operator.{Operator}
-use Rattle.online_nodes.specs.declared.since.Course.{Course}
+use Rattle.online_nodes.specs.declared.since.Wrote.{Wrote}
 use Rattle.online_nodes.specs.declared.since.Since.{Since as SinceWindow}
 use Rattle.online_nodes.specs.declared.answering.Outcome.{Outcome}
 use Rattle.online_nodes.specs.declared.writer.Out.{Out}
@@ -80,7 +81,7 @@ use Rattle.online_nodes.proofs.TellingLemmas.{at_most_order, fresh_counted, fres
 use Rattle.online_nodes.proofs.AnsweringLemmas.{fresh_few, worked_two}
 use Rattle.online_nodes.proofs.JoinLemmas.{after_at_most}
 use Rattle.online_nodes.proofs.LooksLaw.{since_looks}
-use Rattle.online_nodes.proofs.PlaceLemmas.{
+use Rattle.rational.proofs.PlaceLemmas.{
   after_same,
   before_same,
   before_trans,
@@ -320,7 +321,7 @@ module _ {x : Situation} {op : Operator} {old : Held} {work : Outcome} (d : IsDu
               let is : w ≡ v = (let y : Some w ≡ Some v = e in cc) in
               subst (λ (y : Verdict). AtMost (begins (interval y.on)) (place work.out.at)) is h
 
-  abbrev pub begun_course : Course
+  abbrev pub begun_course : Wrote
   begun_course = record { out = work.out; reach = work.marks.reach; run = work.marks.run }
 
   left_tells : Tells (Truth (subformula x.nodes s.window.of) (trace_in x)) (read_upto old s.window.of) (fresh_at old s.window.of)

@@ -32,16 +32,17 @@ use Rattle.stl_syntax.specs.declared.node.Node.TheVariants.{
 use Rattle.online_nodes.specs.Network.{Event, Front, least, State, last_row, shown, after_event, state, reach_back, needed, EmittedAt, IsRun, MayCome}
 use Rattle.rational.specs.Time.{Interval}
 use Rattle.online_nodes.specs.Needed.{IsReader, AreMeeting, AreNeeded, IsEdge}
-use Rattle.online_nodes.specs.Cuts.{Place, place, begins, ends, Upto, AtMost, Before, Same}
+use Rattle.rational.specs.Places.{Place, begins, ends, Upto, AtMost, Before, Same}
+use Rattle.frac128.specs.Cuts.{place}
 use Rattle.online_nodes.specs.Held.{Held, edge_at, fresh_at, number_at}
 use Rattle.online_nodes.specs.Laws.{AreTiles, answered_to, IsWhole, NeverLess}
 use Rattle.online_nodes.specs.Operators.{ahead, behind, kind_of, KnowsBy, place_of, first_place, read_upto, front_place}
 use Rattle.online_nodes.specs.Sweeps.{Counted, low_place, high_place}
-use Rattle.online_nodes.specs.Reading.{Knows}
+use Rattle.online_nodes.specs.Truths.{Knows}
 use Rattle.online_nodes.specs.declared.window.Window.{Window}
 use Rattle.online_nodes.specs.Belonging.{StandsForSteps, trace_of}
 use Rattle.online_nodes.specs.declared.operator.Operator.{Operator}
-use Rattle.online_nodes.proofs.PlaceLemmas.{same_places, upto_same, upto_of_before}
+use Rattle.rational.proofs.PlaceLemmas.{same_places, upto_same, upto_of_before}
 use Rattle.online_nodes.proofs.RunLaw.{some_is, int_order, lesser}
 use Rattle.online_nodes.proofs.RisingLaw.{IsSound, sound_after, sound_of, event_later, reader_behind, children_before, least_of, least_rises, since_left_behind}
 use Rattle.online_nodes.proofs.StayLaw.{shown_is, first_same, agrees, goes_on_before}

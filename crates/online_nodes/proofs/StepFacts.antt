@@ -12,7 +12,7 @@ use Rattle.rational.proofs.TimeLemmas.{less_in, less_no}
 use Rattle.frac128.specs.Spans.{interval}
 use Rattle.frac128.specs.Value.{value}
 use Rattle.stl_syntax.specs.declared.items.Verdict.{Verdict}
-use Rattle.online_nodes.specs.Cuts.{Place, begins, ends, Upto, AtMost, Before}
+use Rattle.rational.specs.Places.{Place, begins, ends, Upto, AtMost, Before}
 use Rattle.online_nodes.specs.Held.{Edge, held_of, IsDroppedBy}
 use Rattle.online_nodes.specs.Laws.{answered_to, beyond, AreTiles}
 use Rattle.online_nodes.specs.Needed.{AreMeeting, AreNeeded}
@@ -22,7 +22,7 @@ use Rattle.online_nodes.proofs.DroppingLemmas.{held_of-without}
 use Rattle.online_nodes.proofs.HeldFacts.{needed_part}
 use Rattle.online_nodes.proofs.HeldLaw.{meeting_is_suffix}
 use Rattle.online_nodes.proofs.MeetingLaw.{beyond_later, needed_first}
-use Rattle.online_nodes.proofs.PlaceLemmas.{same_places, upto_same}
+use Rattle.rational.proofs.PlaceLemmas.{same_places, upto_same}
 use Rattle.online_nodes.proofs.RunLaw.{int_order, some_is}
 
 -- a list without those of its first verdicts that end by a time, of which the next one ends later, is what is left by that time

@@ -27,12 +27,13 @@ use Rattle.stl_syntax.specs.Trace.{Trace}
 use Rattle.stl_syntax.specs.Formula.{Subformula}
 use Rattle.stl_syntax.specs.declared.items.Verdict.{Verdict}
 use Rattle.frac128.specs.Spans.{interval}
-use Rattle.online_nodes.specs.Cuts.{Place, place, begins, moved_begin, Before, Upto, AtMost}
+use Rattle.rational.specs.Places.{Place, begins, moved_begin, Before, Upto, AtMost}
+use Rattle.frac128.specs.Cuts.{place}
 use Rattle.online_nodes.specs.Held.{Held, fresh_at}
 use Rattle.online_nodes.specs.Sweeps.{HasEnded, HasRead, HasStopped, HasSwept, IsSwept, IsWindowOf}
 use Rattle.online_nodes.specs.Working.{HasWorked}
 use Rattle.online_nodes.specs.Written.{HasGot, IsSound, waiting}
-use Rattle.online_nodes.specs.declared.cut.Cut.{Cut}
+use Rattle.frac128.specs.declared.cut.Cut.{Cut}
 use Rattle.online_nodes.specs.declared.window.Window.{Window}
 use Rattle.online_nodes.specs.declared.window.Sweep.{Sweep}
 use Rattle.online_nodes.proofs.DroppingLemmas.{drop-drop}

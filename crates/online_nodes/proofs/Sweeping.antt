@@ -9,13 +9,14 @@ use Rattle.stl_syntax.specs.Trace.{Trace}
 use Rattle.stl_syntax.specs.Formula.{Subformula}
 use Rattle.stl_syntax.specs.Truth.{Truth}
 use Rattle.stl_syntax.specs.declared.items.Verdict.{Verdict}
-use Rattle.online_nodes.specs.Cuts.{Place, place, begins, ends, After, Upto, Before, Same, moved_begin, moved_end}
-use Rattle.online_nodes.specs.Reading.{AllAre, Tells, Remembers, MeetsAfter, MeetsUpto}
+use Rattle.rational.specs.Places.{Place, begins, ends, After, Upto, Before, Same, moved_begin, moved_end}
+use Rattle.frac128.specs.Cuts.{place}
+use Rattle.online_nodes.specs.Truths.{AllAre, Tells, Remembers, MeetsAfter, MeetsUpto}
 use Rattle.online_nodes.specs.Written.{HasTold}
 use Rattle.online_nodes.specs.Sweeps.{low_place, high_place, Counted, IsWindowOf, IsSwept, Settles}
 use Rattle.online_nodes.specs.declared.window.Window.{Window}
 use Rattle.online_nodes.specs.declared.window.Sweep.{Sweep}
-use Rattle.online_nodes.proofs.PlaceLemmas.{sides, not_both, before_same, same_before, same_places, after_same, upto_same, upto_of_before}
+use Rattle.rational.proofs.PlaceLemmas.{sides, not_both, before_same, same_before, same_places, after_same, upto_same, upto_of_before}
 use Rattle.online_nodes.proofs.WindowLaw.{before_it, settled, remembers_of, knows_passed, knows_entered}
 use Rattle.online_nodes.proofs.WindowPlaces.{meets_after, meets_upto}
 

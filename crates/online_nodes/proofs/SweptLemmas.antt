@@ -26,15 +26,16 @@ use Rattle.online_nodes.specs.Stepping.{
   stretch_of,
   trace_in,
 }
-use Rattle.online_nodes.specs.Cuts.{After, Place, Same, Upto, begins, moved_begin, place}
+use Rattle.rational.specs.Places.{After, Place, Same, Upto, begins, moved_begin}
+use Rattle.frac128.specs.Cuts.{place}
 use Rattle.online_nodes.specs.Held.{Held, fresh_at, held_at, number_at}
 use Rattle.online_nodes.specs.Kinds.{held_in, inputs_of, open_by}
 use Rattle.online_nodes.specs.Operators.{KnowsBy, front_place, place_of, read_upto}
-use Rattle.online_nodes.specs.Reading.{Is, Knows, Truths}
+use Rattle.online_nodes.specs.Truths.{Is, Knows, Truths}
 use Rattle.online_nodes.specs.Sweeps.{Counted, CountsBeyond, FitsIn, HasSwept, IsWindowOf, high_place, low_place}
 use Rattle.online_nodes.specs.Working.{HasWorked}
 use Rattle.online_nodes.specs.Written.{waiting}
-use Rattle.online_nodes.specs.declared.cut.Cut.{Cut}
+use Rattle.frac128.specs.declared.cut.Cut.{Cut}
 use Rattle.online_nodes.specs.declared.kind.Kind.{Kind}
 use Rattle.online_nodes.specs.declared.kind.Kind.TheVariants.{Ahead, Behind}
 use Rattle.online_nodes.specs.declared.operator.Operator.{Operator}
@@ -59,7 +60,7 @@ use Rattle.online_nodes.proofs.TellingLemmas.{fresh_counted, fresh_within}
 use Rattle.online_nodes.proofs.AnsweringLemmas.{fresh_few, worked_one}
 use Rattle.online_nodes.proofs.JoinLemmas.{after_at_most}
 use Rattle.online_nodes.proofs.Writing.{same_itself}
-use Rattle.online_nodes.proofs.PlaceLemmas.{after_same, sides, not_both, same_before, same_places, same_trans_places, upto_same}
+use Rattle.rational.proofs.PlaceLemmas.{after_same, sides, not_both, same_before, same_places, same_trans_places, upto_same}
 use Rattle.online_nodes.proofs.ReadLemmas.{stop_is}
 use Rattle.online_nodes.proofs.RunLaw.{lesser, moved}
 use Rattle.online_nodes.proofs.WindowedLemmas.{HasWindow, ahead_node, behind_node, fits_moved, none_in_window, some_in_window}

@@ -13,14 +13,14 @@ use Rattle.stl_syntax.specs.Trace.{Trace, start, stop}
 use Rattle.stl_syntax.specs.Formula.{Subformula}
 use Rattle.stl_syntax.specs.Truth.{Truth}
 use Rattle.stl_syntax.specs.declared.items.Verdict.{Verdict}
-use Rattle.online_nodes.specs.Cuts.{Place, begins, ends, After, AtMost, Before, Same, Upto}
+use Rattle.rational.specs.Places.{Place, begins, ends, After, AtMost, Before, Same, Upto}
 use Rattle.online_nodes.specs.Held.{Edge, held_of}
 use Rattle.online_nodes.specs.Operators.{first_place, place_of}
-use Rattle.online_nodes.specs.Reading.{Tells, Truths}
+use Rattle.online_nodes.specs.Truths.{Tells, Truths}
 use Rattle.online_nodes.specs.Sweeps.{Counted}
 use Rattle.online_nodes.proofs.InputLemmas.{counted_tells}
 use Rattle.online_nodes.proofs.JoinLemmas.{after_at_most}
-use Rattle.online_nodes.proofs.PlaceLemmas.{after_same, same_before, same_places, same_trans_places, upto_of_before, upto_same}
+use Rattle.rational.proofs.PlaceLemmas.{after_same, same_before, same_places, same_trans_places, upto_of_before, upto_same}
 use Rattle.online_nodes.proofs.Writing.{same_itself}
 
 -- a place that is not later does not lie at a later time

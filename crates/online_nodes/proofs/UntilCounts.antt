@@ -4,20 +4,21 @@ use Rattle.std.proofs.lemmas.List.{append-nil}
 use Rattle.rational.specs.Rational.{Rational}
 use Rattle.frac128.specs.Spans.{interval}
 use Rattle.stl_syntax.specs.declared.items.Verdict.{Verdict}
-use Rattle.online_nodes.specs.Cuts.{Place, place, begins, ends, AtMost, Before, Same, moved_begin, moved_end}
+use Rattle.rational.specs.Places.{Place, begins, ends, AtMost, Before, Same, moved_begin, moved_end}
+use Rattle.frac128.specs.Cuts.{place}
 use Rattle.online_nodes.specs.Held.{Held, fresh_at}
-use Rattle.online_nodes.specs.Reading.{MeetsAfter, MeetsUpto}
+use Rattle.online_nodes.specs.Truths.{MeetsAfter, MeetsUpto}
 use Rattle.online_nodes.specs.Working.{HasPassed, HasWorked}
 use Rattle.online_nodes.specs.Written.{IsSound}
 use Rattle.online_nodes.specs.Sweeps.{low_place, high_place}
 use Rattle.online_nodes.specs.Untils.{IsTurned, HasPassedOne, HasSettled, HasTurned}
-use Rattle.online_nodes.specs.declared.cut.Cut.{Cut}
+use Rattle.frac128.specs.declared.cut.Cut.{Cut}
 use Rattle.online_nodes.specs.declared.window.Sweep.{Sweep}
 use Rattle.online_nodes.specs.declared.until.Until.{Until}
 use Rattle.online_nodes.specs.declared.writer.Out.{Out}
 use Rattle.online_nodes.proofs.GotLemmas.{got-other}
 use Rattle.online_nodes.proofs.JoinLemmas.{after_at_most, worked_then_pass}
-use Rattle.online_nodes.proofs.PlaceLemmas.{sides, not_both, upto_of_before, upto_same, after_same, same_places}
+use Rattle.rational.proofs.PlaceLemmas.{sides, not_both, upto_of_before, upto_same, after_same, same_places}
 use Rattle.online_nodes.proofs.SaidLemmas.{passed-one}
 use Rattle.online_nodes.proofs.WindowPlaces.{meets_after, meets_upto}
 use Rattle.online_nodes.proofs.WorkLemmas.{passed-other, worked_none, worked_put}

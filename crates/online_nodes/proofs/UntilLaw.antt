@@ -3,9 +3,9 @@ use Rattle.std.proofs.Common.{◌⊎◌, inl, inr, Bool, true, false}
 use Rattle.std.specs.Prelude.{MatchBool}
 use Rattle.rational.specs.Rational.{Rational, ◌≤ʳ◌, ◌<ʳ◌}
 use Rattle.rational.proofs.Order.{le_refl, le_trans, le_of_lt, lt_of_lt_of_le, lt_of_le_of_lt, le_or_lt}
-use Rattle.online_nodes.specs.Cuts.{Place, After, Upto, Before}
-use Rattle.online_nodes.specs.Reading.{Truths, AllAre, AllFrom, HoldsFrom, IsUntilOf, UntilRemembers, KnowsUntil, MeetsAfter, MeetsUpto}
-use Rattle.online_nodes.proofs.PlaceLemmas.{share, between, sides, not_both, before_through, place_order, after_of_before, after_same}
+use Rattle.rational.specs.Places.{Place, After, Upto, Before}
+use Rattle.online_nodes.specs.Truths.{Truths, AllAre, AllFrom, HoldsFrom, IsUntilOf, UntilRemembers, KnowsUntil, MeetsAfter, MeetsUpto}
+use Rattle.rational.proofs.PlaceLemmas.{share, between, sides, not_both, before_through, place_order, after_of_before, after_same}
 
 -- a time after one that lies after the place lies after it; a time before one that lies before it, before it
 pub after_later : (c : Place) (t u : Rational) → After c t → t ≤ʳ u → After c u

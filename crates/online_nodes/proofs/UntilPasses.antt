@@ -5,18 +5,19 @@ use Rattle.rational.proofs.Order.{same_sym}
 use Rattle.frac128.specs.Spans.{interval}
 use Rattle.stl_syntax.specs.Truth.{Truth}
 use Rattle.stl_syntax.specs.declared.items.Verdict.{Verdict}
-use Rattle.online_nodes.specs.Cuts.{Place, place, begins, ends, After, Upto, AtMost, Before, Same}
+use Rattle.rational.specs.Places.{Place, begins, ends, After, Upto, AtMost, Before, Same}
+use Rattle.frac128.specs.Cuts.{place}
 use Rattle.online_nodes.specs.Held.{Held, fresh_at}
-use Rattle.online_nodes.specs.Reading.{Truths, AllAre, Tells, KnowsUntil, MeetsAfter, MeetsUpto}
+use Rattle.online_nodes.specs.Truths.{Truths, AllAre, Tells, KnowsUntil, MeetsAfter, MeetsUpto}
 use Rattle.online_nodes.specs.Written.{HasTold}
 use Rattle.online_nodes.specs.Working.{HasPassed}
 use Rattle.online_nodes.specs.Sweeps.{Counted, low_place, high_place}
 use Rattle.online_nodes.specs.Untils.{Stretch, Reads, IsUntil, IsTurned, HasPassedOne, HasSettled}
-use Rattle.online_nodes.specs.declared.cut.Cut.{Cut}
+use Rattle.frac128.specs.declared.cut.Cut.{Cut}
 use Rattle.online_nodes.specs.declared.window.Sweep.{Sweep}
 use Rattle.online_nodes.specs.declared.until.Until.{Until}
 use Rattle.online_nodes.proofs.JoinLemmas.{after_at_most}
-use Rattle.online_nodes.proofs.PlaceLemmas.{
+use Rattle.rational.proofs.PlaceLemmas.{
   sides,
   not_both,
   between,

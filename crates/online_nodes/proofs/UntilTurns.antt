@@ -4,20 +4,21 @@ use Rattle.rational.specs.Rational.{Rational}
 use Rattle.frac128.specs.Spans.{interval}
 use Rattle.stl_syntax.specs.Truth.{Truth}
 use Rattle.stl_syntax.specs.declared.items.Verdict.{Verdict}
-use Rattle.online_nodes.specs.Cuts.{Place, place, ends, After, Upto, AtMost, Before}
+use Rattle.rational.specs.Places.{Place, ends, After, Upto, AtMost, Before}
+use Rattle.frac128.specs.Cuts.{place}
 use Rattle.online_nodes.specs.Held.{Held, fresh_at}
-use Rattle.online_nodes.specs.Reading.{Truths, AllAre, Tells, KnowsUntil, UntilRemembers}
+use Rattle.online_nodes.specs.Truths.{Truths, AllAre, Tells, KnowsUntil, UntilRemembers}
 use Rattle.online_nodes.specs.Written.{Reaches}
 use Rattle.online_nodes.specs.Working.{HasPassed}
 use Rattle.online_nodes.specs.Sweeps.{Counted, low_place, high_place}
 use Rattle.online_nodes.specs.Untils.{Stretch, Reads, IsUntil, IsTurned, HasSettled, HasTurned}
-use Rattle.online_nodes.specs.declared.cut.Cut.{Cut}
+use Rattle.frac128.specs.declared.cut.Cut.{Cut}
 use Rattle.online_nodes.specs.declared.window.Sweep.{Sweep}
 use Rattle.online_nodes.specs.declared.until.Until.{Until}
 use Rattle.online_nodes.specs.declared.writer.Out.{Out}
 use Rattle.online_nodes.proofs.GotLemmas.{got-other}
 use Rattle.online_nodes.proofs.JoinLemmas.{after_at_most, worked_then_pass}
-use Rattle.online_nodes.proofs.PlaceLemmas.{sides, not_both, upto_of_before}
+use Rattle.rational.proofs.PlaceLemmas.{sides, not_both, upto_of_before}
 use Rattle.online_nodes.proofs.SaidLemmas.{HasAnswers, passed-fresh, passed-one}
 use Rattle.online_nodes.proofs.UntilLaw.{after_later, fails, remembers_of, knows_new_run, knows_right_dropped}
 use Rattle.online_nodes.proofs.WorkLemmas.{passed-other, first_and_rest, worked_put}

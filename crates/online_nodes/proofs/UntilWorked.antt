@@ -43,17 +43,18 @@ use Rattle.online_nodes.specs.Stepping.{
   stretch_of,
   trace_in,
 }
-use Rattle.online_nodes.specs.Cuts.{After, Before, Place, Same, Upto, begins, ends, place}
+use Rattle.rational.specs.Places.{After, Before, Place, Same, Upto, begins, ends}
+use Rattle.frac128.specs.Cuts.{place}
 use Rattle.online_nodes.specs.Held.{Held, fresh_at, number_at}
 use Rattle.online_nodes.specs.Kinds.{held_in, inputs_of, open_by}
 use Rattle.online_nodes.specs.Looking.{place_at}
 use Rattle.online_nodes.specs.Operators.{IsUntilKnown, KnowsBy, ahead, first_place, front_place, kind_of, place_of, read_upto}
-use Rattle.online_nodes.specs.Reading.{IsUntilOf, KnowsUntil, Tells}
+use Rattle.online_nodes.specs.Truths.{IsUntilOf, KnowsUntil, Tells}
 use Rattle.online_nodes.specs.Sweeps.{Counted, FitsIn, high_place, low_place}
 use Rattle.online_nodes.specs.Untils.{HasUntilTold, IsTurned, IsUntil, Reads, Stretch}
 use Rattle.online_nodes.specs.Working.{HasWorked}
 use Rattle.online_nodes.specs.Written.{waiting}
-use Rattle.online_nodes.specs.declared.cut.Cut.{Cut}
+use Rattle.frac128.specs.declared.cut.Cut.{Cut}
 use Rattle.online_nodes.specs.declared.kind.Kind.TheVariants.{Until as UntilOf}
 use Rattle.online_nodes.specs.declared.operator.Operator.{Operator}
 use Rattle.online_nodes.specs.declared.until.Until.{Until as UntilWindow}
@@ -65,7 +66,7 @@ use Rattle.online_nodes.proofs.TellingLemmas.{fresh_counted, fresh_tells, fresh_
 use Rattle.online_nodes.proofs.AnsweringLemmas.{fresh_few, worked_two}
 use Rattle.online_nodes.proofs.JoinLemmas.{after_at_most}
 use Rattle.online_nodes.proofs.LooksLaw.{until_looks}
-use Rattle.online_nodes.proofs.PlaceLemmas.{after_same, sides, not_both, same_places, same_trans_places, upto_same}
+use Rattle.rational.proofs.PlaceLemmas.{after_same, sides, not_both, same_places, same_trans_places, upto_same}
 use Rattle.online_nodes.proofs.ReadLemmas.{stop_is}
 use Rattle.online_nodes.proofs.RunLaw.{lesser, moved, some_is}
 use Rattle.online_nodes.proofs.SweptLemmas.{beyond_trace, window_ends}

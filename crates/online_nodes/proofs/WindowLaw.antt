@@ -1,9 +1,9 @@
 -- A window's truth by what was read of its input.
 use Rattle.std.proofs.Common.{◌⊎◌, inl, inr, Bool, not}
 use Rattle.rational.specs.Rational.{Rational}
-use Rattle.online_nodes.specs.Cuts.{Place, After, Upto, Before}
-use Rattle.online_nodes.specs.Reading.{Truths, Is, AllAre, Looks, Remembers, Knows, MeetsAfter, MeetsUpto}
-use Rattle.online_nodes.proofs.PlaceLemmas.{share, sides, not_both, before_through, place_order, after_of_before, after_same}
+use Rattle.rational.specs.Places.{Place, After, Upto, Before}
+use Rattle.online_nodes.specs.Truths.{Truths, Is, AllAre, Looks, Remembers, Knows, MeetsAfter, MeetsUpto}
+use Rattle.rational.proofs.PlaceLemmas.{share, sides, not_both, before_through, place_order, after_of_before, after_same}
 
 module _ {seeks : Bool} {N P : Truths} {low high : Rational → Place} where
   -- nothing was found yet

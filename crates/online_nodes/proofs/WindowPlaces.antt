@@ -35,8 +35,8 @@ use Rattle.rational.proofs.Order.{
 }
 use Rattle.rational.proofs.Shift.{lt_shift, same_shift, shift_back}
 use Rattle.rational.proofs.Mixed.{parts}
-use Rattle.online_nodes.specs.Cuts.{Place, moved_begin, moved_end}
-use Rattle.online_nodes.specs.Reading.{MeetsAfter, MeetsUpto}
+use Rattle.rational.specs.Places.{Place, moved_begin, moved_end}
+use Rattle.online_nodes.specs.Truths.{MeetsAfter, MeetsUpto}
 
 shift_forth : (t : Rational) (k : ℤ) → add (add t (whole (neg_ℤ k))) (whole k) ≈ t
 shift_forth t k = record { same = omega (arith, ap (λ n. n * (t.den * t.den)) step) }

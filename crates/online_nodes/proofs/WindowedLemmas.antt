@@ -29,10 +29,10 @@ use Rattle.stl_syntax.specs.declared.node.Node.TheVariants.{
   Once,
   Historically,
 }
-use Rattle.online_nodes.specs.Cuts.{After, Before, Place, Upto}
+use Rattle.rational.specs.Places.{After, Before, Place, Upto}
 use Rattle.online_nodes.specs.Looking.{place_at}
 use Rattle.online_nodes.specs.Operators.{ahead, behind, kind_of}
-use Rattle.online_nodes.specs.Reading.{Looks}
+use Rattle.online_nodes.specs.Truths.{Looks}
 use Rattle.online_nodes.specs.Sweeps.{Counted, low_place, high_place}
 use Rattle.online_nodes.specs.Answering.{is_empty}
 use Rattle.online_nodes.specs.declared.kind.Kind.TheVariants.{Ahead, Behind}

@@ -34,13 +34,14 @@ use Rattle.online_nodes.specs.Stepping.{
   stretch_of,
   trace_in,
 }
-use Rattle.online_nodes.specs.Cuts.{AtMost, Place, Same, Upto, begins, place}
+use Rattle.rational.specs.Places.{AtMost, Place, Same, Upto, begins}
+use Rattle.frac128.specs.Cuts.{place}
 use Rattle.online_nodes.specs.Held.{Held, fresh_at, number_at}
 use Rattle.online_nodes.specs.Joins.{HasJoined, IsJoinOf, IsJoining}
 use Rattle.online_nodes.specs.Kinds.{held_in, inputs_of, open_by}
 use Rattle.online_nodes.specs.Negations.{HasNegated, IsNegating, IsNotOf}
 use Rattle.online_nodes.specs.Operators.{KnowsBy, front_place, kind_of, place_of, read_upto}
-use Rattle.online_nodes.specs.Reading.{Is, Tells, Truths}
+use Rattle.online_nodes.specs.Truths.{Is, Tells, Truths}
 use Rattle.online_nodes.specs.Working.{HasWorked}
 use Rattle.online_nodes.specs.Written.{HasGot, waiting}
 use Rattle.online_nodes.specs.declared.join.Join.{Join}
@@ -65,7 +66,7 @@ use Rattle.online_nodes.proofs.DueLemmas.{
 use Rattle.online_nodes.proofs.GotLemmas.{got-here, got-length, got-other}
 use Rattle.online_nodes.proofs.TellingLemmas.{fresh_tells, tells_first}
 use Rattle.online_nodes.proofs.LooksLaw.{and_joins, implies_joins, not_denies, or_joins}
-use Rattle.online_nodes.proofs.PlaceLemmas.{between, not_both, place_order, same_places, same_trans_places, upto_same}
+use Rattle.rational.proofs.PlaceLemmas.{between, not_both, place_order, same_places, same_trans_places, upto_same}
 use Rattle.online_nodes.proofs.RunLaw.{lesser}
 use Rattle.online_nodes.proofs.WorkLemmas.{read_none}
 

@@ -11,12 +11,13 @@ use Rattle.stl_syntax.specs.Formula.{Subformula}
 use Rattle.stl_syntax.specs.Truth.{Truth}
 use Rattle.stl_syntax.specs.Verdicts.{Describes, GoesOn, IsTold}
 use Rattle.stl_syntax.specs.declared.items.Verdict.{Verdict}
-use Rattle.online_nodes.specs.Cuts.{Place, place, After, Upto, Before, Same, begins, ends}
-use Rattle.online_nodes.specs.Reading.{Truths, AllAre}
+use Rattle.rational.specs.Places.{Place, After, Upto, Before, Same, begins, ends}
+use Rattle.frac128.specs.Cuts.{place}
+use Rattle.online_nodes.specs.Truths.{Truths, AllAre}
 use Rattle.online_nodes.specs.Written.{Lead, HasTold, IsSound}
-use Rattle.online_nodes.specs.declared.cut.Cut.{Cut}
+use Rattle.frac128.specs.declared.cut.Cut.{Cut}
 use Rattle.online_nodes.specs.declared.writer.Out.{Out}
-use Rattle.online_nodes.proofs.PlaceLemmas.{
+use Rattle.rational.proofs.PlaceLemmas.{
   sides,
   not_both,
   between,

@@ -3,7 +3,8 @@
 use Rattle.std.specs.Prelude.{◌≡◌, ◌≢◌, ◌⊎◌, ℕ, ◌+◌, ◌<◌, ◌≤◌, Bool, true, false, not, ◌&&◌}
 use Rattle.std.specs.Prelude.{if◌then◌else◌, List, length, ℤ, pos, neg_ℤ, ◌+ℤ◌, int_lt, Some, slice_get}
 use Rattle.stl_syntax.specs.declared.items.Verdict.{Verdict}
-use Rattle.online_nodes.specs.Cuts.{place, AtMost}
+use Rattle.rational.specs.Places.{AtMost}
+use Rattle.frac128.specs.Cuts.{place}
 use Rattle.online_nodes.specs.Held.{Held, edge_at, fresh_at, with_more, IsDroppedBy}
 use Rattle.online_nodes.specs.Written.{HasAnswer, HasFinished}
 use Rattle.online_nodes.specs.Working.{IsReadOn}

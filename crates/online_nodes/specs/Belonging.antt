@@ -23,7 +23,7 @@ use Rattle.online_nodes.specs.Needed.{IsEdge, IsReader}
 use Rattle.stl_syntax.specs.declared.items.Verdict.{Verdict}
 use Rattle.stl_syntax.specs.declared.node.Node.{Node}
 use Rattle.stl_syntax.specs.declared.node.Node.TheVariants.{Const}
-use Rattle.online_nodes.specs.Cuts.{place}
+use Rattle.frac128.specs.Cuts.{place}
 use Rattle.online_nodes.specs.Held.{Held, edge_at, fresh_at, held_at, number_at}
 use Rattle.online_nodes.specs.Kinds.{held_in}
 use Rattle.online_nodes.specs.Operators.{kind_of, KnowsBy}

@@ -6,9 +6,10 @@ use Rattle.stl_syntax.specs.Trace.{Trace}
 use Rattle.stl_syntax.specs.Formula.{Subformula}
 use Rattle.stl_syntax.specs.Truth.{Truth}
 use Rattle.stl_syntax.specs.declared.items.Verdict.{Verdict}
-use Rattle.online_nodes.specs.Cuts.{Place, place, ends, AtMost}
+use Rattle.rational.specs.Places.{Place, ends, AtMost}
+use Rattle.frac128.specs.Cuts.{place}
 use Rattle.online_nodes.specs.Held.{Held, fresh_at}
-use Rattle.online_nodes.specs.Reading.{Is, Tells}
+use Rattle.online_nodes.specs.Truths.{Is, Tells}
 use Rattle.online_nodes.specs.Written.{HasTold, IsSound}
 use Rattle.online_nodes.specs.Working.{HasWorked}
 use Rattle.online_nodes.specs.declared.join.Join.{Join}
@@ -39,6 +40,10 @@ pub record IsJoining (n p q : Subformula) (tr : Trace) (begin : Place) (written 
   pub told : HasTold n tr begin written out
   pub left_read : IsReadTo p tr out left stop_left fresh_left
   pub right_read : IsReadTo q tr out right stop_right fresh_right
+
+-- a verdict ends at a place
+abbrev pub EndsAt : Verdict → Place → Type 0
+EndsAt v end = AtMost (ends (interval v.on)) end × AtMost end (ends (interval v.on))
 
 -- nothing changed, and where both inputs have a verdict that was not read, both reach beyond the stretch
 pub record HasPaused (old new : Held) (inputs : Inputs) (out : Out) : Type 0 where

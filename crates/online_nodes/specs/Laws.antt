@@ -15,7 +15,7 @@ use Rattle.online_nodes.specs.Driven.{IsDriven}
 use Rattle.online_nodes.specs.StreamedWide.{front_at}
 use Rattle.stl_syntax.specs.declared.items.Verdict.{Verdict}
 use Rattle.stl_syntax.specs.declared.node.Node.{Node}
-use Rattle.online_nodes.specs.Cuts.{Place, begins, ends, After, Upto, Before, Same}
+use Rattle.rational.specs.Places.{Place, begins, ends, After, Upto, Before, Same}
 
 -- between two places there is a time
 abbrev pub HasTimesBetween : Type 0

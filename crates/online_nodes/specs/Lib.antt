@@ -4,8 +4,7 @@ pub mod Driven
 pub mod StreamedWide
 pub mod MarginStream
 pub mod MarginEdges
-pub mod Cuts
-pub mod Reading
+pub mod Truths
 pub mod Held
 pub mod Queues
 pub mod Written

@@ -16,8 +16,8 @@ use Rattle.stl_syntax.specs.Formula.{
   since,
 }
 use Rattle.stl_syntax.specs.Truth.{Truth}
-use Rattle.online_nodes.specs.Cuts.{Place, After}
-use Rattle.online_nodes.specs.Reading.{Looks, IsUntilOf, IsSinceOf, KnowsUntil, KnowsSince, UntilRemembers, SinceRemembers}
+use Rattle.rational.specs.Places.{Place, After}
+use Rattle.online_nodes.specs.Truths.{Looks, IsUntilOf, IsSinceOf, KnowsUntil, KnowsSince, UntilRemembers, SinceRemembers}
 use Rattle.online_nodes.specs.Sweeps.{Counted}
 use Rattle.online_nodes.specs.Joins.{IsJoinOf}
 use Rattle.online_nodes.specs.Negations.{IsNotOf}

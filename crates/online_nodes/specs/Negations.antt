@@ -6,9 +6,10 @@ use Rattle.stl_syntax.specs.Trace.{Trace}
 use Rattle.stl_syntax.specs.Formula.{Subformula}
 use Rattle.stl_syntax.specs.Truth.{Truth}
 use Rattle.stl_syntax.specs.declared.items.Verdict.{Verdict}
-use Rattle.online_nodes.specs.Cuts.{Place, place, ends, AtMost}
+use Rattle.rational.specs.Places.{Place, ends, AtMost}
+use Rattle.frac128.specs.Cuts.{place}
 use Rattle.online_nodes.specs.Held.{Held, fresh_at}
-use Rattle.online_nodes.specs.Reading.{Is}
+use Rattle.online_nodes.specs.Truths.{Is}
 use Rattle.online_nodes.specs.Written.{HasTold, IsSound}
 use Rattle.online_nodes.specs.Working.{HasWorked}
 use Rattle.online_nodes.specs.Joins.{IsReadTo}

@@ -38,9 +38,9 @@ use Rattle.stl_syntax.specs.declared.node.Node.TheVariants.{
   Once,
   Historically,
 }
-use Rattle.online_nodes.specs.Cuts.{Place, begins, ends, After, Upto, AtMost, Before}
+use Rattle.rational.specs.Places.{Place, begins, ends, After, Upto, AtMost, Before}
 use Rattle.online_nodes.specs.Held.{Held, fresh_at, number_at}
-use Rattle.online_nodes.specs.Reading.{Knows, KnowsUntil, KnowsSince}
+use Rattle.online_nodes.specs.Truths.{Knows, KnowsUntil, KnowsSince}
 use Rattle.online_nodes.specs.Sweeps.{Counted, low_place, high_place}
 use Rattle.online_nodes.specs.declared.join.Join.TheVariants.{And as Conjunction, Or as Disjunction, Implies as Implication}
 use Rattle.online_nodes.specs.declared.kind.Kind.{Kind}

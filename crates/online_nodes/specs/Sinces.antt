@@ -9,19 +9,20 @@ use Rattle.stl_syntax.specs.Trace.{Trace}
 use Rattle.stl_syntax.specs.Formula.{Subformula}
 use Rattle.stl_syntax.specs.Truth.{Truth}
 use Rattle.stl_syntax.specs.declared.items.Verdict.{Verdict}
-use Rattle.online_nodes.specs.Cuts.{Place, place, begins, ends, moved_begin, After, Upto, AtMost, Before}
+use Rattle.rational.specs.Places.{Place, begins, ends, moved_begin, After, Upto, AtMost, Before}
+use Rattle.frac128.specs.Cuts.{place}
 use Rattle.online_nodes.specs.Held.{Held, fresh_at}
-use Rattle.online_nodes.specs.Reading.{Tells, IsSinceOf, KnowsSince}
+use Rattle.online_nodes.specs.Truths.{Tells, IsSinceOf, KnowsSince}
 use Rattle.online_nodes.specs.Written.{HasTold, HasSaidBoth, IsSound, waiting}
 use Rattle.online_nodes.specs.Working.{HasPassed, HasWorked}
 use Rattle.online_nodes.specs.Sweeps.{Counted, low_place, high_place}
 use Rattle.online_nodes.specs.Untils.{Reads}
-use Rattle.online_nodes.specs.declared.cut.Cut.{Cut}
+use Rattle.frac128.specs.declared.cut.Cut.{Cut}
 use Rattle.online_nodes.specs.declared.window.Window.{Window}
 use Rattle.online_nodes.specs.declared.since.Since.{Since}
-use Rattle.online_nodes.specs.declared.since.Course.{Course}
-use Rattle.online_nodes.specs.declared.since.Turn.{Turn}
-use Rattle.online_nodes.specs.declared.since.Turn.TheVariants.{More, Done}
+use Rattle.online_nodes.specs.declared.since.Wrote.{Wrote}
+use Rattle.online_nodes.specs.declared.since.Step.{Step}
+use Rattle.online_nodes.specs.declared.since.Step.TheVariants.{More, Done}
 
 -- a window of the past, with both ends in
 pub record IsBackward (w : Window) : Type 0 where
@@ -35,7 +36,7 @@ abbrev pub CanMove : Window → Verdict → Type 0
 CanMove w v = FitsFloor w64 (add (value v.on.from) (whole w.begin_by)) × FitsFloor w64 (add (value v.on.to) (whole w.begin_by))
     × FitsFloor w64 (add (value v.on.to) (whole w.end_by))
 
-abbrev pub CanMoveRun : Window → Course → Type 0
+abbrev pub CanMoveRun : Window → Wrote → Type 0
 CanMoveRun w c = FitsFloor w64 (add (value c.run.time) (whole w.begin_by))
 
 -- a node p since q in a trace: where the trace and its stretch begin, up to where its inputs are answered, and what was not read of the
@@ -67,7 +68,7 @@ IsSpent s fresh read run =
     (w : Verdict) → slice_get fresh 0 ≡ Some w → Before read (moved_begin s.window.begin_by s.window.begin_in (ends (interval w.on))) ⊎ AtMost read run
 
 -- what was written is told, what is known of the inputs is so, and what was not read of them tells them from there on
-pub record IsStaying (x : Stay) (s : Since) (written : List Verdict) (c : Course) (r : Reads) (fresh_left fresh_right : List Verdict) : Type 0 where
+pub record IsStaying (x : Stay) (s : Since) (written : List Verdict) (c : Wrote) (r : Reads) (fresh_left fresh_right : List Verdict) : Type 0 where
   pub told : HasTold x.n x.tr x.begin written c.out
   pub knows : KnowsSince (Truth x.p x.tr) (Counted true x.q x.tr) (low_place s.window) (high_place s.window)
       x.start (place c.out.at) (place c.run) (place c.reach) r.read r.right x.stop_left x.stop_right
@@ -86,7 +87,7 @@ pub record IsStaying (x : Stay) (s : Since) (written : List Verdict) (c : Course
   pub spent : (fresh_left ≡ x.first) ⊎ IsSpent s fresh_right r.read (place c.run)
 
 -- a verdict was read, at most two were put, and what was known and told goes on
-pub record HasMoved (old new : Held) (s : Since) (c next : Course) : Type 0 where
+pub record HasMoved (old new : Held) (s : Since) (c next : Wrote) : Type 0 where
   pub more : List Verdict
   pub few : length more ≤ 2
   pub owed : length more + waiting next.out.holds ≤ 2 + waiting c.out.holds
@@ -103,7 +104,7 @@ pub record HasMoved (old new : Held) (s : Since) (c next : Course) : Type 0 wher
       → (r' : Reads) × IsStaying x s (written ++ more) next r' (fresh_at new s.window.of) (fresh_at new s.right)
 
 -- the stretch is told to its end, and what is left of the inputs reaches beyond it
-pub record HasDone (old new : Held) (s : Since) (c end : Course) : Type 0 where
+pub record HasDone (old new : Held) (s : Since) (c end : Wrote) : Type 0 where
   pub more : List Verdict
   pub few : length more ≤ 2 + length (fresh_at new s.window.of) + length (fresh_at new s.right)
   pub owed : length more + waiting end.out.holds
@@ -122,13 +123,13 @@ pub record HasDone (old new : Held) (s : Since) (c end : Course) : Type 0 where
       → (r' : Reads) × IsStaying x s (written ++ more) end r' (fresh_at new s.window.of) (fresh_at new s.right)
       × IsSpent s (fresh_at new s.right) (place c.out.to) (place end.run)
 
--- one turn
-abbrev pub IsTurn : Held → Held → Since → Course → Turn → Type 0
+-- one step
+abbrev pub IsTurn : Held → Held → Since → Wrote → Step → Type 0
 IsTurn old new s c (More next) = HasMoved old new s c next
 IsTurn old new s c (Done end) = HasDone old new s c end
 
 -- all that both inputs had ready was taken, and the stretch is told to its end
-pub record HasSinceTold (old new : Held) (s : Since) (c end : Course) : Type 0 where
+pub record HasSinceTold (old new : Held) (s : Since) (c end : Wrote) : Type 0 where
   pub more : List Verdict
   pub few : length more ≤ 2 * (length (fresh_at old s.window.of) + length (fresh_at old s.right)) + 2
   pub owed : length more + waiting end.out.holds
@@ -146,13 +147,13 @@ pub record HasSinceTold (old new : Held) (s : Since) (c end : Course) : Type 0 w
       × IsSpent s (fresh_at new s.right) (place c.out.to) (place end.run)
 
 -- what was found was told, and then its opposite, to the end of the stretch
-pub record HasRested (old new : Held) (c end : Course) : Type 0 where
+pub record HasRested (old new : Held) (c end : Wrote) : Type 0 where
   pub said : HasSaidBoth old new c.out true c.reach c.out.to end.out
   pub reach : end.reach ≡ c.reach
   pub run : end.run ≡ c.run
 
 -- the left input's verdict v was read, and up to its end what was found was told, and then its opposite
-pub record HasReadLeft (old new : Held) (s : Since) (c : Course) (v : Verdict) (next : Course) : Type 0 where
+pub record HasReadLeft (old new : Held) (s : Since) (c : Wrote) (v : Verdict) (next : Wrote) : Type 0 where
   pub mid : Held
   pub held : Cut
   pub cut : Cut
@@ -167,7 +168,7 @@ pub record HasReadLeft (old new : Held) (s : Since) (c : Course) (v : Verdict) (
   pub run : next.run ≡ c.run
 
 -- it was read, or it reaches beyond the stretch, which was told to its end
-abbrev pub HasGoneOn : Held → Held → Since → Course → Verdict → Turn → Type 0
+abbrev pub HasGoneOn : Held → Held → Since → Wrote → Verdict → Step → Type 0
 HasGoneOn old new s c v (More next) = HasReadLeft old new s c v next
 HasGoneOn old new s c v (Done end) = HasRested old new c end × Before (place c.out.to) (ends (interval v.on))
 
@@ -177,7 +178,7 @@ pub record HasReadRight (old new : Held) (s : Since) (v w : Verdict) : Type 0 wh
   pub sooner : AtMost (moved_begin s.window.begin_by s.window.begin_in (ends (interval w.on))) (ends (interval v.on))
 
 -- of both verdicts the one that ends first was read, or the left one reaches beyond the stretch, which was told to its end
-abbrev pub HasPassedFirst : Held → Held → Since → Course → Verdict → Verdict → Turn → Type 0
+abbrev pub HasPassedFirst : Held → Held → Since → Wrote → Verdict → Verdict → Step → Type 0
 HasPassedFirst old new s c v w (More next) =
     (next ≡ c) × (HasReadRight old new s v w
     ⊎ (HasPassed old new s.window.of v

@@ -10,7 +10,8 @@ use Rattle.stl_syntax.specs.declared.items.Verdict.{Verdict}
 use Rattle.stl_syntax.specs.declared.node.Node.{Node}
 use Rattle.online_nodes.specs.Answering.{HasWorkedOn, is_empty}
 use Rattle.online_nodes.specs.Belonging.{Belongs, is_ready, trace_of}
-use Rattle.online_nodes.specs.Cuts.{Before, Place, Same, begins, ends, place}
+use Rattle.rational.specs.Places.{Before, Place, Same, begins, ends}
+use Rattle.frac128.specs.Cuts.{place}
 use Rattle.online_nodes.specs.Held.{Held, fresh_at}
 use Rattle.online_nodes.specs.Kinds.{held_in, inputs_of}
 use Rattle.online_nodes.specs.Operators.{KnowsBy}

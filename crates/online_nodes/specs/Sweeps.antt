@@ -9,9 +9,10 @@ use Rattle.stl_syntax.specs.Trace.{Trace, start, stop as last}
 use Rattle.stl_syntax.specs.Formula.{Subformula}
 use Rattle.stl_syntax.specs.Truth.{Truth}
 use Rattle.stl_syntax.specs.declared.items.Verdict.{Verdict}
-use Rattle.online_nodes.specs.Cuts.{Place, place, begins, moved_begin, After, Upto, AtMost, Before}
+use Rattle.rational.specs.Places.{Place, begins, moved_begin, After, Upto, AtMost, Before}
+use Rattle.frac128.specs.Cuts.{place}
 use Rattle.online_nodes.specs.Held.{Held, fresh_at}
-use Rattle.online_nodes.specs.Reading.{Truths, Is, Tells, Looks, Knows}
+use Rattle.online_nodes.specs.Truths.{Truths, Is, Tells, Looks, Knows}
 use Rattle.online_nodes.specs.Written.{HasTold, HasGot, IsSound, waiting}
 use Rattle.online_nodes.specs.Working.{HasWorked}
 use Rattle.online_nodes.specs.declared.window.Window.{Window}

@@ -24,10 +24,11 @@ use Rattle.stl_syntax.specs.Formula.{Subformula}
 use Rattle.stl_syntax.specs.Truth.{Truth}
 use Rattle.stl_syntax.specs.Verdicts.{Describes}
 use Rattle.stl_syntax.specs.declared.items.Verdict.{Verdict}
-use Rattle.online_nodes.specs.Cuts.{Place, place, begins, ends, After, Upto, AtMost, Before, Same}
-use Rattle.online_nodes.specs.Reading.{AllAre, Is}
+use Rattle.rational.specs.Places.{Place, begins, ends, After, Upto, AtMost, Before, Same}
+use Rattle.frac128.specs.Cuts.{place}
+use Rattle.online_nodes.specs.Truths.{AllAre, Is}
 use Rattle.online_nodes.specs.Held.{Held, edge_at, with_edge, with_more}
-use Rattle.online_nodes.specs.declared.cut.Cut.{Cut}
+use Rattle.frac128.specs.declared.cut.Cut.{Cut}
 use Rattle.online_nodes.specs.declared.writer.Out.{Out}
 
 -- the spans lead from c to d, each tells the truth, and neighbours differ; `before` is the verdict before the first, `last` the last one

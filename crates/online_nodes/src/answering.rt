@@ -1,7 +1,8 @@
 //! One answer of a node: its body by its kind, and what is let go of its inputs' edges then.
 
 ghost use Rattle.std.specs.Prelude.{◌≡◌, ◌≢◌, ◌+◌, ◌*◌, ◌<◌, ◌≤ℤ◌, ◌+ℤ◌, neg_ℤ, length, not, pos, IfOk, OnErr, None};
-ghost use Rattle.online_nodes.specs.Cuts.{place, AtMost};
+ghost use Rattle.rational.specs.Places.{AtMost};
+ghost use Rattle.frac128.specs.Cuts.{place};
 ghost use Rattle.online_nodes.specs.Held.{fresh_at};
 ghost use Rattle.online_nodes.specs.Written.{IsSound, waiting};
 ghost use Rattle.online_nodes.specs.Kinds.{held_in, inputs_of, IsNear};
@@ -9,16 +10,15 @@ ghost use Rattle.online_nodes.specs.Answering.{back_by, is_empty, CanAnswer, Can
 ghost use Rattle.online_nodes.specs.Answering.{HasBody, HasReleased, HasReleasedTwo, HasSweptAll, HasToldAll};
 ghost use Rattle.online_nodes.specs.declared.kind.Kind.TheVariants as K;
 
-use crate::cut::Cut;
 use crate::edges::Edges;
 use crate::join::connect;
 use crate::kind::{FOR_EVER, Kind};
 use crate::negation::{constant, negate};
-use crate::since::{Course, Since, since_on};
+use crate::since::{Since, Wrote, since_on};
 use crate::until::{Until, until_on};
 use crate::window::{Sweep, Window, sweep_on};
 use crate::writer::Out;
-use frac128::Memory;
+use frac128::{Cut, Memory};
 
 /// What an operator keeps in mind: up to where what was read counts, and where the left input's run began.
 #[derive(Clone, Copy, Debug)]
@@ -131,7 +131,7 @@ fn since_all(edges: &mut Edges, since: Since, out: Out, marks: Marks) -> Result<
     ensures told { IfOk result (λ a. HasBody (K.Since since) edges.old edges.new out marks a) }
     ensures memory { OnErr result (edges.old.spare < 2 * (length (fresh_at edges.old since.window.of) + length (fresh_at edges.old since.right)) + 2) }
 {
-    let course = Course {
+    let course = Wrote {
         out,
         reach: marks.reach,
         run: marks.run,

@@ -4,16 +4,13 @@
 //! operator goes on in the middle of its input's edge with no walk, and to read a verdict takes no memory.
 
 ghost use Rattle.std.specs.Prelude.{◌≡◌, ◌*◌, ◌+◌, ◌<◌, ◌≤◌, ◌^◌, [], ◌∷◌, length, replicate, slice_get};
-ghost use Rattle.std.specs.Prelude.{IfOk, IsOk, OnOk, OnErr, None, Some, IsTrue, ◌↔◌, ℕ, map, All};
-ghost use Rattle.rational.specs.Rational.{◌≤ʳ◌};
-ghost use Rattle.frac128.specs.Value.{value};
+ghost use Rattle.std.specs.Prelude.{IfOk, IsOk, OnOk, OnErr, None, Some, ℕ, map, All};
 ghost use Rattle.online_nodes.specs.Queues.{edge_of, IsQueue};
 ghost use Rattle.online_nodes.specs.Held.{edge_at, fresh_at, held_at, no_edge, number_at, with_edge, with_more, with_number, with_read, without, IsDroppedBy};
 
 use crate::queue::Queue;
-use frac128::{Frac, Memory};
+use frac128::Memory;
 use std::alloc::Global;
-use std::cmp::Ordering;
 use std::marker::Model;
 use stl_syntax::Verdict;
 
@@ -88,7 +85,7 @@ impl Edges {
     /// # Errors
     ///
     /// `Memory` where there is no memory, and then nothing changes. With a spare of 1 it never comes.
-    #[inline(never)]
+    #[inline(always)]
     pub fn put(&mut self, edge: u32, piece: Verdict) -> Result<(), Memory>
         requires { edge < length self.old.edges }
         ensures put { OnOk result (self.new.edges ≡ with_edge self.old edge (with_more (edge_at self.old edge) (piece ∷ []))) }
@@ -104,6 +101,22 @@ impl Edges {
             }
             Err(_) => Err(Memory),
         }
+    }
+
+    /// As `put`, and never in the place of the call: for what is put seldom.
+    ///
+    /// # Errors
+    ///
+    /// As `put`.
+    #[inline(never)]
+    pub(crate) fn put_seldom(&mut self, edge: u32, piece: Verdict) -> Result<(), Memory>
+        requires { edge < length self.old.edges }
+        ensures put { OnOk result (self.new.edges ≡ with_edge self.old edge (with_more (edge_at self.old edge) (piece ∷ []))) }
+        ensures start { self.new.start ≡ self.old.start }
+        ensures falls_by_one { OnOk result (self.old.spare ≤ self.new.spare + 1) }
+        ensures had_room { 0 < self.old.spare → IsOk result }
+    {
+        self.put(edge, piece)
     }
 
     /// Notes a node's number.
@@ -196,15 +209,6 @@ impl Edges {
         self.queues[edge as usize].pass()
     }
 
-    /// The first verdict of an edge.
-    #[inline(always)]
-    fn first(&self, edge: u32) -> Option<Verdict>
-        requires { edge < length self.now.edges }
-        ensures { result ≡ slice_get (held_at self.now edge) 0 }
-    {
-        self.queues[edge as usize].first()
-    }
-
     /// Drops from the front of an edge what ends by the time `limit`.
     pub(crate) fn drop_by(&mut self, edge: u32, limit: i64)
         requires { edge < length self.old.edges }
@@ -213,13 +217,7 @@ impl Edges {
         ensures start { self.new.start ≡ self.old.start }
         ensures spare { self.old.spare ≤ self.new.spare }
     {
-        let end = Frac::of(limit);
-        while let Some(v) = self.first(edge) {
-            if !ends_by(&v, &end) {
-                return;
-            }
-            let _ = self.take(edge);
-        }
+        self.queues[edge as usize].drop_by(limit);
     }
 }
 
@@ -234,16 +232,4 @@ fn make_room(queues: &mut Vec<Queue>, room: usize) -> Result<(), Memory>
         queues[i].reserve(room)?;
     }
     Ok(())
-}
-
-/// Whether the verdict ends by the time `end`.
-#[inline(always)]
-fn ends_by(v: &Verdict, end: &Frac) -> bool
-    ensures { IsTrue result ↔ value v.now.on.to ≤ʳ value end.now }
-{
-    match v.on.to.cmp(end) {
-        Ordering::Less => true,
-        Ordering::Equal => true,
-        Ordering::Greater => false,
-    }
 }

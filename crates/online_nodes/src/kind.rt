@@ -4,6 +4,7 @@ ghost use Rattle.std.specs.Prelude.{◌≡◌, ◌≤ℤ◌, ◌+◌, ◌*◌, �
 ghost use Rattle.online_nodes.specs.Network.{least, moved_by, same_front};
 ghost use Rattle.online_nodes.specs.Held.{Held, held_at, number_at};
 ghost use Rattle.online_nodes.specs.Operators.{ahead, behind, kind_of};
+ghost use Rattle.online_nodes.specs.declared.kind.Kind.TheVariants.{Join as Connective};
 ghost use Rattle.online_nodes.specs.Kinds.{allowed_by, all_stand_at, held_in, open_by, inputs_of, AreInputs, AreNear};
 
 use crate::edges::Edges;
@@ -69,6 +70,13 @@ fn behind_of(
     }
 }
 
+/// A connective of these two inputs.
+fn join_of(join: Join, left: u32, right: u32) -> Kind
+    ensures { result ≡ Connective join (record { left = left; right = right }) }
+{
+    Kind::Join(join, Inputs { left, right })
+}
+
 /// What the operator of a node does. Atoms have none; theirs says false.
 pub(crate) fn kind_of_node(node: &Node) -> Kind
     ensures { result ≡ kind_of node.now }
@@ -77,29 +85,9 @@ pub(crate) fn kind_of_node(node: &Node) -> Kind
         Node::Const(holds) => Kind::Const(*holds),
         Node::Atom(_) => Kind::Const(false),
         Node::Not(of) => Kind::Not(*of),
-        Node::And(left, right) => Kind::Join(
-            Join::And,
-            Inputs {
-                left: *left,
-                right: *right,
-            },
-        ),
-        Node::Or(left, right) => Kind::Join(
-            Join::Or,
-            Inputs {
-                left: *left,
-                right: *right,
-            },
-        ),
-        Node::Implies(left, right) => {
-            Kind::Join(
-                Join::Implies,
-                Inputs {
-                    left: *left,
-                    right: *right,
-                },
-            )
-        }
+        Node::And(left, right) => join_of(Join::And, *left, *right),
+        Node::Or(left, right) => join_of(Join::Or, *left, *right),
+        Node::Implies(left, right) => join_of(Join::Implies, *left, *right),
         Node::Until {
             left,
             right,

@@ -1,9 +1,8 @@
-//! Streaming operators: places between times, the edges of a network, the writer of a node's verdicts, the bodies of all nodes with
+//! Streaming operators: the edges of a network, the writer of a node's verdicts, the bodies of all nodes with
 //! what they let go, the operator of a node with its step, and the laws on which operators rest.
 #![tactic(auto)]
 
 mod answering;
-mod cut;
 mod edges;
 mod join;
 mod kind;
@@ -16,7 +15,6 @@ mod until;
 mod window;
 mod writer;
 
-pub use cut::Cut;
 pub use edges::Edges;
 pub use laws::{
     connectives_join, each_has_one_reader, edges_grow, emitted_is_whole, emitted_stays,

@@ -1,15 +1,15 @@
 //! Negation, one verdict of the input at a time, and constants.
 
 ghost use Rattle.std.specs.Prelude.{◌≡◌, ◌≢◌, ◌+◌, ◌<◌, length, IfOk, OnErr, MatchOption};
-ghost use Rattle.online_nodes.specs.Cuts.{place, AtMost};
+ghost use Rattle.rational.specs.Places.{AtMost};
+ghost use Rattle.frac128.specs.Cuts.{place};
 ghost use Rattle.online_nodes.specs.Held.{fresh_at};
 ghost use Rattle.online_nodes.specs.Written.{HasAnswer, IsSound};
 ghost use Rattle.online_nodes.specs.Negations.{HasDenied, HasNegated, HasReadNext, HasWaited};
 
-use crate::cut::Cut;
 use crate::edges::Edges;
 use crate::writer::Out;
-use frac128::Memory;
+use frac128::{Cut, Memory};
 
 /// Reads the next verdict of the input. None where there is none, or where it reaches beyond the stretch, and then nothing
 /// changed.
@@ -27,7 +27,7 @@ fn read_next(edges: &mut Edges, of: u32, out: Out) -> Result<Option<Out>, Memory
     let Some(v) = edges.next(of) else {
         return Ok(None);
     };
-    let v_end = Cut::end(&v);
+    let v_end = Cut::end(&v.on);
     if out.end().precedes(&v_end) {
         return Ok(None);
     }

@@ -10,11 +10,10 @@ ghost use Rattle.online_nodes.specs.Kinds.{held_in, inputs_of};
 ghost use Rattle.online_nodes.specs.Stepping.{Situation, IsBegun, IsDue, IsDueSomewhere, IsFor};
 
 use crate::answering::{Marks, Outcome, answer, release};
-use crate::cut::Cut;
 use crate::edges::Edges;
 use crate::kind::{Kind, is_same, kind_of_node};
 use crate::writer::Out;
-use frac128::Memory;
+use frac128::{Cut, Memory};
 use stl_syntax::Formula;
 
 /// What a node keeps beside its edges, of a fixed size.

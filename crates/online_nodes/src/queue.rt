@@ -1,11 +1,14 @@
 //! One edge as a queue: its verdicts lie in one ring, in order, and a count says how many of them its reader has read. So to read a
 //! verdict moves nothing.
 
-ghost use Rattle.std.specs.Prelude.{◌≡◌, ◌+◌, ◌-◌, ◌<◌, ◌≤◌, ◌∷◌, [], ℕ, length, slice_get, IsOk, OnErr, OnOk};
-ghost use Rattle.online_nodes.specs.Held.{held_of, no_edge, with_more, with_number, with_read, without};
+ghost use Rattle.std.specs.Prelude.{◌≡◌, ◌+◌, ◌-◌, ◌<◌, ◌≤◌, ◌∷◌, [], ℕ, length, slice_get, ◌↔◌, IsOk, IsTrue, OnErr, OnOk};
+ghost use Rattle.rational.specs.Rational.{◌≤ʳ◌};
+ghost use Rattle.frac128.specs.Value.{value};
+ghost use Rattle.online_nodes.specs.Held.{held_of, no_edge, with_more, with_number, with_read, without, IsDroppedBy};
 
-use frac128::Memory;
+use frac128::{Frac, Memory};
 use std::alloc::Global;
+use std::cmp::Ordering;
 use std::collections::VecDeque;
 use stl_syntax::Verdict;
 
@@ -46,10 +49,11 @@ impl Queue {
         ensures memory { OnErr result (edge_of self.new ≡ edge_of self.old) }
         ensures still { (spare : ℕ) → IsQueue spare self.old → OnErr result (IsQueue spare self.new) }
     {
-        match self.items.push_back(piece) {
-            Ok(()) => Ok(()),
-            Err(_) => Err(Memory),
+        if self.items.len() == self.items.capacity() {
+            self.reserve(1)?;
         }
+        self.items.push_back_reserved(piece);
+        Ok(())
     }
 
     /// Takes out the first verdict. None where it holds none.
@@ -65,11 +69,28 @@ impl Queue {
         first
     }
 
+    /// Drops from the front what ends by the time `limit`.
+    #[inline(always)]
+    pub(crate) fn drop_by(&mut self, limit: i64)
+        requires { IsQueue 0 self.old }
+        ensures dropped { IsDroppedBy limit (edge_of self.old) (edge_of self.new) }
+        ensures kept { (spare : ℕ) → IsQueue spare self.old → IsQueue spare self.new }
+    {
+        let end = Frac::of(limit);
+        while let Some(v) = self.first() {
+            if !ends_by(&v, &end) {
+                return;
+            }
+            let _ = self.take();
+        }
+    }
+
     /// Makes room for `n` verdicts.
     ///
     /// # Errors
     ///
     /// `Memory` where there is no memory.
+    #[inline(never)]
     pub(crate) fn reserve(&mut self, n: usize) -> Result<(), Memory>
         requires { IsQueue 0 self.old }
         ensures same { edge_of self.new ≡ edge_of self.old }
@@ -110,7 +131,7 @@ impl Queue {
 
     /// The first verdict.
     #[inline(always)]
-    pub(crate) fn first(&self) -> Option<Verdict>
+    fn first(&self) -> Option<Verdict>
         ensures { result ≡ slice_get (held_of (edge_of self.now)) 0 }
     {
         match self.items.front() {
@@ -142,5 +163,17 @@ impl Queue {
         ensures { result ≡ (edge_of self.now).number }
     {
         self.number
+    }
+}
+
+/// Whether the verdict ends by the time `end`.
+#[inline(always)]
+fn ends_by(v: &Verdict, end: &Frac) -> bool
+    ensures { IsTrue result ↔ value v.now.on.to ≤ʳ value end.now }
+{
+    match v.on.to.cmp(end) {
+        Ordering::Less => true,
+        Ordering::Equal => true,
+        Ordering::Greater => false,
     }
 }

@@ -5,16 +5,16 @@ ghost use Rattle.std.specs.Int.{w64};
 ghost use Rattle.rational.specs.Rational.{FitsFloor, add, whole};
 ghost use Rattle.frac128.specs.Value.{value};
 ghost use Rattle.stl_syntax.specs.declared.items.Verdict.{Verdict as Told};
-ghost use Rattle.online_nodes.specs.Cuts.{place, AtMost};
+ghost use Rattle.rational.specs.Places.{AtMost};
+ghost use Rattle.frac128.specs.Cuts.{place};
 ghost use Rattle.online_nodes.specs.Held.{fresh_at};
 ghost use Rattle.online_nodes.specs.Written.{IsSound};
 ghost use Rattle.online_nodes.specs.Sinces.{CanMove, CanMoveRun, IsBackward, HasGoneOn, HasPassedFirst, HasRested, HasSinceTold, IsTurn};
 
-use crate::cut::Cut;
 use crate::edges::Edges;
 use crate::window::Window;
 use crate::writer::Out;
-use frac128::Memory;
+use frac128::{Cut, Memory};
 use stl_syntax::Verdict;
 
 /// Since by its right input's window, whose `of` is the left input, and the right input.
@@ -26,22 +26,22 @@ pub(crate) struct Since {
 
 /// What was written of a stretch, up to where what was found counts, and where the left input's run began.
 #[derive(Clone, Copy, Debug)]
-pub(crate) struct Course {
+pub(crate) struct Wrote {
     pub(crate) out: Out,
     pub(crate) reach: Cut,
     pub(crate) run: Cut,
 }
 
-/// One turn: a verdict was read, or the stretch is told to its end.
+/// One step: a verdict was read, or the stretch is told to its end.
 #[derive(Clone, Copy, Debug)]
-enum Turn {
-    More(Course),
-    Done(Course),
+enum Step {
+    More(Wrote),
+    Done(Wrote),
 }
 
 /// Tells the rest of the stretch, through which the left input holds: beyond what was found nothing counts in it.
 #[inline(always)]
-fn rest(edges: &mut Edges, course: Course) -> Result<Course, Memory>
+fn rest(edges: &mut Edges, course: Wrote) -> Result<Wrote, Memory>
     requires own { course.out.edge < length edges.old.edges }
     requires sound { IsSound course.out }
     requires inside { AtMost (place course.out.at) (place course.out.to) }
@@ -51,7 +51,7 @@ fn rest(edges: &mut Edges, course: Course) -> Result<Course, Memory>
     let out = course
         .out
         .turn(edges, true, course.reach, course.out.end())?;
-    Ok(Course {
+    Ok(Wrote {
         out,
         reach: course.reach,
         run: course.run,
@@ -60,7 +60,7 @@ fn rest(edges: &mut Edges, course: Course) -> Result<Course, Memory>
 
 /// The left input holds next: it is read, and up to where its verdict ends only what was found counts.
 #[inline(always)]
-fn go_on(edges: &mut Edges, since: Since, course: Course, v: Verdict) -> Result<Turn, Memory>
+fn go_on(edges: &mut Edges, since: Since, course: Wrote, v: Verdict) -> Result<Step, Memory>
     requires left { since.window.of < length edges.old.edges }
     requires own { course.out.edge < length edges.old.edges }
     requires left_apart { since.window.of ≢ course.out.edge }
@@ -70,15 +70,15 @@ fn go_on(edges: &mut Edges, since: Since, course: Course, v: Verdict) -> Result<
     ensures gone { IfOk result (λ turn. HasGoneOn edges.old edges.new since course v turn) }
     ensures memory { OnErr result (edges.old.spare < 2) }
 {
-    let end = Cut::end(&v);
+    let end = Cut::end(&v.on);
     if course.out.end().precedes(&end) {
         let done = rest(edges, course)?;
-        return Ok(Turn::Done(done));
+        return Ok(Step::Done(done));
     }
     let held = course.reach.earlier(end);
     let out = course.out.turn(edges, true, held, end)?;
     let _ = edges.pass(since.window.of);
-    Ok(Turn::More(Course {
+    Ok(Step::More(Wrote {
         out,
         reach: course.reach,
         run: course.run,
@@ -86,7 +86,7 @@ fn go_on(edges: &mut Edges, since: Since, course: Course, v: Verdict) -> Result<
 }
 
 /// The left input fails next: its run ends, and with it all that was found.
-fn end_run(edges: &mut Edges, since: Since, course: Course, v: Verdict) -> Result<Turn, Memory>
+fn end_run(edges: &mut Edges, since: Since, course: Wrote, v: Verdict) -> Result<Step, Memory>
     requires left { since.window.of < length edges.old.edges }
     requires right { since.right < length edges.old.edges }
     requires own { course.out.edge < length edges.old.edges }
@@ -103,20 +103,20 @@ fn end_run(edges: &mut Edges, since: Since, course: Course, v: Verdict) -> Resul
     ensures turned { IfOk result (λ turn. IsTurn edges.old edges.new since course turn) }
     ensures memory { OnErr result (edges.old.spare < 2) }
 {
-    let end = Cut::end(&v);
-    let begin = Cut::begin(&v);
+    let end = Cut::end(&v.on);
+    let begin = Cut::begin(&v.on);
     let held = course.reach.earlier(begin);
     let to = course.out.end();
     if to.precedes(&end) {
         let out = course.out.turn(edges, true, held, to)?;
         if !begin.precedes(&to) || !course.run.precedes(&to) {
-            return Ok(Turn::Done(Course {
+            return Ok(Step::Done(Wrote {
                 out,
                 reach: course.reach,
                 run: course.run,
             }));
         }
-        return Ok(Turn::Done(Course {
+        return Ok(Step::Done(Wrote {
             out,
             reach: to,
             run: to,
@@ -124,7 +124,7 @@ fn end_run(edges: &mut Edges, since: Since, course: Course, v: Verdict) -> Resul
     }
     let out = course.out.turn(edges, true, held, end)?;
     let _ = edges.pass(since.window.of);
-    Ok(Turn::More(Course {
+    Ok(Step::More(Wrote {
         out,
         reach: end,
         run: end,
@@ -136,10 +136,10 @@ fn end_run(edges: &mut Edges, since: Since, course: Course, v: Verdict) -> Resul
 fn pass_first(
     edges: &mut Edges,
     since: Since,
-    course: Course,
+    course: Wrote,
     v: Verdict,
     w: Verdict,
-) -> Result<Turn, Memory>
+) -> Result<Step, Memory>
     requires left { since.window.of < length edges.old.edges }
     requires right { since.right < length edges.old.edges }
     requires own { course.out.edge < length edges.old.edges }
@@ -151,28 +151,28 @@ fn pass_first(
     ensures passed { IfOk result (λ turn. HasPassedFirst edges.old edges.new since course v w turn) }
     ensures memory { OnErr result (edges.old.spare < 2) }
 {
-    let end = Cut::end(&v);
-    let last = Cut::end(&w).shift_begin(since.window.begin_by, since.window.begin_in);
+    let end = Cut::end(&v.on);
+    let last = Cut::end(&w.on).shift_begin(since.window.begin_by, since.window.begin_in);
     if !end.precedes(&last) {
         let _ = edges.pass(since.right);
-        return Ok(Turn::More(course));
+        return Ok(Step::More(course));
     }
     if course.out.end().precedes(&end) {
         let done = rest(edges, course)?;
-        return Ok(Turn::Done(done));
+        return Ok(Step::Done(done));
     }
     let _ = edges.pass(since.window.of);
-    Ok(Turn::More(course))
+    Ok(Step::More(course))
 }
 
 /// Both inputs hold next: what the right one tells within the left one's run counts, from the time moved by the window on.
 fn count(
     edges: &mut Edges,
     since: Since,
-    course: Course,
+    course: Wrote,
     v: Verdict,
     w: Verdict,
-) -> Result<Turn, Memory>
+) -> Result<Step, Memory>
     requires left { since.window.of < length edges.old.edges }
     requires right { since.right < length edges.old.edges }
     requires own { course.out.edge < length edges.old.edges }
@@ -191,13 +191,13 @@ fn count(
     ensures turned { IfOk result (λ turn. IsTurn edges.old edges.new since course turn) }
     ensures memory { OnErr result (edges.old.spare < 4) }
 {
-    let w_end = Cut::end(&w);
-    let from = Cut::begin(&w).later(course.run);
+    let w_end = Cut::end(&w.on);
+    let from = Cut::begin(&w.on).later(course.run);
     if !from.precedes(&w_end) {
         let _ = edges.pass(since.right);
-        return Ok(Turn::More(course));
+        return Ok(Step::More(course));
     }
-    let v_end = Cut::end(&v);
+    let v_end = Cut::end(&v.on);
     let begin = from.shift_begin(since.window.begin_by, since.window.begin_in);
     if !begin.precedes(&v_end) {
         let turn = go_on(edges, since, course, v)?;
@@ -205,7 +205,7 @@ fn count(
     }
     if course.out.end().precedes(&begin) {
         let done = rest(edges, course)?;
-        return Ok(Turn::Done(done));
+        return Ok(Step::Done(done));
     }
     let out = course
         .out
@@ -214,12 +214,12 @@ fn count(
         .reach
         .later(w_end.shift_end(since.window.end_by, since.window.end_in));
     let run = course.run;
-    let turn = pass_first(edges, since, Course { out, reach, run }, v, w)?;
+    let turn = pass_first(edges, since, Wrote { out, reach, run }, v, w)?;
     Ok(turn)
 }
 
 /// Reads the next verdict of one of the inputs, or tells the stretch to its end where that needs no more.
-fn read_since(edges: &mut Edges, since: Since, course: Course) -> Result<Turn, Memory>
+fn read_since(edges: &mut Edges, since: Since, course: Wrote) -> Result<Step, Memory>
     requires left { since.window.of < length edges.old.edges }
     requires right { since.right < length edges.old.edges }
     requires own { course.out.edge < length edges.old.edges }
@@ -237,7 +237,7 @@ fn read_since(edges: &mut Edges, since: Since, course: Course) -> Result<Turn, M
 {
     let Some(v) = edges.next(since.window.of) else {
         let done = rest(edges, course)?;
-        return Ok(Turn::Done(done));
+        return Ok(Step::Done(done));
     };
     if !v.holds {
         let turn = end_run(edges, since, course, v)?;
@@ -249,7 +249,7 @@ fn read_since(edges: &mut Edges, since: Since, course: Course) -> Result<Turn, M
     };
     if !w.holds {
         let _ = edges.pass(since.right);
-        return Ok(Turn::More(course));
+        return Ok(Step::More(course));
     }
     let turn = count(edges, since, course, v, w)?;
     Ok(turn)
@@ -260,7 +260,7 @@ fn read_since(edges: &mut Edges, since: Since, course: Course) -> Result<Turn, M
 /// # Errors
 ///
 /// `Memory` where there is no memory, which never comes with a spare of twice the verdicts that were not read, plus 2.
-pub(crate) fn since_on(edges: &mut Edges, since: Since, course: Course) -> Result<Course, Memory>
+pub(crate) fn since_on(edges: &mut Edges, since: Since, course: Wrote) -> Result<Wrote, Memory>
     requires left { since.window.of < length edges.old.edges }
     requires right { since.right < length edges.old.edges }
     requires own { course.out.edge < length edges.old.edges }
@@ -280,8 +280,8 @@ pub(crate) fn since_on(edges: &mut Edges, since: Since, course: Course) -> Resul
     let mut here = course;
     loop {
         match read_since(edges, since, here)? {
-            Turn::More(next) => here = next,
-            Turn::Done(end) => return Ok(end),
+            Step::More(next) => here = next,
+            Step::Done(end) => return Ok(end),
         }
     }
 }

@@ -2,16 +2,16 @@
 
 ghost use Rattle.std.specs.Prelude.{◌≡◌, ◌≢◌, ◌+◌, ◌*◌, ◌<◌, ℕ, length, slice_get, IfOk, OnErr, MatchOption, Some, true, false};
 ghost use Rattle.stl_syntax.specs.declared.items.Verdict.{Verdict as Told};
-ghost use Rattle.online_nodes.specs.Cuts.{place, AtMost};
+ghost use Rattle.rational.specs.Places.{AtMost};
+ghost use Rattle.frac128.specs.Cuts.{place};
 ghost use Rattle.online_nodes.specs.Held.{fresh_at};
 ghost use Rattle.online_nodes.specs.Written.{IsSound};
 ghost use Rattle.online_nodes.specs.Sweeps.{FitsIn};
 ghost use Rattle.online_nodes.specs.Untils.{HasPassedOne, HasSettled, HasTurned, HasUntilEnded, HasUntilTold};
 
-use crate::cut::Cut;
 use crate::edges::Edges;
 use crate::window::{Sweep, Window};
-use frac128::Memory;
+use frac128::{Cut, Memory};
 use stl_syntax::Verdict;
 
 /// Until by its right input's window, whose `of` is the left input, and the right input.
@@ -42,7 +42,7 @@ fn new_run(
         (λ next. HasTurned edges.old edges.new until sweep next)) }
     ensures memory { OnErr result (edges.old.spare < 2) }
 {
-    let v_end = Cut::end(&v);
+    let v_end = Cut::end(&v.on);
     if sweep.out.end().precedes(&v_end) {
         return Ok(None);
     }
@@ -61,7 +61,7 @@ fn pass_ended(edges: &mut Edges, until: Until, v: Verdict, w: Verdict)
     requires first_right { slice_get (fresh_at edges.old until.right) 0 ≡ Some w }
     ensures { HasPassedOne edges.old edges.new until v w }
 {
-    if Cut::end(&w).precedes(&Cut::end(&v)) {
+    if Cut::end(&w.on).precedes(&Cut::end(&v.on)) {
         let _ = edges.pass(until.right);
         return;
     }
@@ -95,10 +95,10 @@ fn count_both(
         (λ next. HasTurned edges.old edges.new until sweep next)) }
     ensures memory { OnErr result (edges.old.spare < 2) }
 {
-    let v_begin = Cut::begin(&v);
-    let w_begin = Cut::begin(&w);
-    let v_end = Cut::end(&v);
-    let w_end = Cut::end(&w);
+    let v_begin = Cut::begin(&v.on);
+    let w_begin = Cut::begin(&w.on);
+    let v_end = Cut::end(&v.on);
+    let w_end = Cut::end(&w.on);
     let begin = v_begin.later(w_begin);
     let end = v_end.earlier(w_end);
     if !begin.precedes(&end) {

@@ -2,15 +2,15 @@
 
 ghost use Rattle.std.specs.Prelude.{◌≡◌, ◌≢◌, ◌+◌, ◌*◌, ◌<◌, ℕ, length, slice_get, IfOk, OnErr, MatchOption, Some};
 ghost use Rattle.stl_syntax.specs.declared.items.Verdict.{Verdict as Told};
-ghost use Rattle.online_nodes.specs.Cuts.{place, AtMost};
+ghost use Rattle.rational.specs.Places.{AtMost};
+ghost use Rattle.frac128.specs.Cuts.{place};
 ghost use Rattle.online_nodes.specs.Held.{fresh_at};
 ghost use Rattle.online_nodes.specs.Written.{IsSound};
 ghost use Rattle.online_nodes.specs.Sweeps.{FitsIn, HasEnded, HasRead, HasStopped, HasSwept};
 
-use crate::cut::Cut;
 use crate::edges::Edges;
 use crate::writer::Out;
-use frac128::Memory;
+use frac128::{Cut, Memory};
 
 /// A window by what a time that was found counts for: from `begin_by` later to `end_by` later, each end in or out.
 #[derive(Clone, Copy, Debug)]
@@ -51,14 +51,14 @@ fn read_one(edges: &mut Edges, window: Window, sweep: Sweep) -> Result<Option<Sw
         let _ = edges.pass(window.of);
         return Ok(Some(sweep));
     }
-    let begin = Cut::begin(&v).shift_begin(window.begin_by, window.begin_in);
+    let begin = Cut::begin(&v.on).shift_begin(window.begin_by, window.begin_in);
     if sweep.out.end().precedes(&begin) {
         return Ok(None);
     }
     let found = sweep.out.upto(edges, window.seeks, sweep.reach)?;
     let out = found.upto(edges, !window.seeks, begin)?;
     let _ = edges.pass(window.of);
-    let reach = Cut::end(&v).shift_end(window.end_by, window.end_in);
+    let reach = Cut::end(&v.on).shift_end(window.end_by, window.end_in);
     Ok(Some(Sweep { out, reach }))
 }
 

@@ -2,12 +2,12 @@
 
 ghost use Rattle.std.specs.Prelude.{◌≡◌, ◌<◌, length, IfOk, OnOk, OnErr, None};
 ghost use Rattle.frac128.specs.Spans.{interval};
-ghost use Rattle.online_nodes.specs.Cuts.{place, AtMost, Before, Same, begins, ends};
+ghost use Rattle.rational.specs.Places.{AtMost, Before, Same, begins, ends};
+ghost use Rattle.frac128.specs.Cuts.{place};
 ghost use Rattle.online_nodes.specs.Written.{HasAnswer, HasFinished, HasSaidBoth, HasWritten, IsSound, IsPutBack, Reaches, waiting};
 
-use crate::cut::Cut;
 use crate::edges::Edges;
-use frac128::{Memory, Span};
+use frac128::{Cut, Memory, Span};
 use stl_syntax::Verdict;
 
 /// Writes the verdicts of a stretch onto an edge. Each call says the verdict from where the last one ended; neighbours that
@@ -72,6 +72,19 @@ impl Out {
         Ok(())
     }
 
+    /// Puts that span onto the edge where the truth turns over.
+    #[inline(always)]
+    fn write_turn(self, edges: &mut Edges, holds: bool) -> Result<(), Memory>
+        requires edge { self.edge < length edges.old.edges }
+        requires some { Before (place self.from) (place self.at) }
+        ensures put { OnOk result (IsPutBack edges.old edges.new self holds) }
+        ensures memory { OnErr result (edges.old.spare ≡ 0) }
+    {
+        let on = self.span();
+        edges.put_seldom(self.edge, Verdict { on, holds })?;
+        Ok(())
+    }
+
     /// The verdict up to a later place.
     #[inline(always)]
     fn go_on(self, edges: &mut Edges, holds: bool, cut: Cut) -> Result<Out, Memory>
@@ -94,7 +107,7 @@ impl Out {
         if before == holds {
             return Ok(next);
         }
-        self.write(edges, before)?;
+        self.write_turn(edges, before)?;
         Ok(Out {
             edge: self.edge,
             from: self.at,

@@ -38,11 +38,11 @@ use Rattle.online_nodes.proofs.RunLaw.{int_order}
 use Rattle.online_robust.specs.Lines.{end_of}
 use Rattle.online_robust.specs.Held.{Edge, Held, edge_at, held_at, held_of}
 use Rattle.online_robust.specs.Told.{AreTold, AreFit, AreJoined, IsMovedBy, IsTick}
-use Rattle.online_robust.specs.Reading.{Begins, HasReached, IsAhead, IsReady, IsStretch, Loses, LosesAt, LosesAtBoth, turned_by}
+use Rattle.online_robust.specs.ReadLines.{Begins, HasReached, IsAhead, IsReady, IsStretch, Loses, LosesAt, LosesAtBoth, turned_by}
 use Rattle.online_robust.specs.Couples.{both_of, left_of, right_of, CanJoin, CanNegate, Couple, IsCoupleFault, IsJoinedTo, IsNegatedTo}
 use Rattle.online_robust.specs.Standing.{HasStood, IsTwoOf, two_of}
-use Rattle.online_robust.specs.Turns.{Turn, Belongs, AreInputs, AreLeft, HasSwept, IsCut, IsInput, IsStreamedFault}
-use Rattle.online_robust.specs.Turns.{IsSwept, StandsNow, back_of, begin_of, from_of, reach_before}
+use Rattle.online_robust.specs.Steps.{Step, Belongs, AreInputs, AreLeft, HasSwept, IsCut, IsInput, IsStreamedFault}
+use Rattle.online_robust.specs.Steps.{IsSwept, StandsNow, back_of, begin_of, from_of, reach_before}
 use Rattle.online_robust.specs.declared.line.MarginLine.{MarginLine}
 use Rattle.online_robust.specs.declared.line.MarginLine.TheVariants.{Point, Gap}
 use Rattle.online_robust.specs.declared.line.Reached.{Reached}
@@ -240,7 +240,7 @@ kept_two (N.Historically p a c i k) x last h = h
 
 -- ---- any operator
 
-module _ (t : Turn) (op : Operator) (e : Held) (to : ℕ) (b : Belongs t op e to) where
+module _ (t : Step) (op : Operator) (e : Held) (to : ℕ) (b : Belongs t op e to) where
   abbrev own : Subformula
   own = subformula t.nodes t.place
 
@@ -332,7 +332,7 @@ module _ (t : Turn) (op : Operator) (e : Held) (to : ℕ) (b : Belongs t op e to
 
 -- ---- a negation
 
-module _ (t : Turn) (x : Negated.Not) (e : Held) (to : ℕ) (b : Belongs t (Op.Not x) e to) where
+module _ (t : Step) (x : Negated.Not) (e : Held) (to : ℕ) (b : Belongs t (Op.Not x) e to) where
   abbrev child : Subformula
   child = subformula t.nodes x.of
 
@@ -526,7 +526,7 @@ module _ (nodes : List Node) (place : ℕ) (tr : Trace) where
   joint (N.Once p a c i k) x h = absurd h
   joint (N.Historically p a c i k) x h = absurd h
 
-module _ (t : Turn) (x : Two) (e : Held) (to : ℕ) (b : Belongs t (Op.Two x) e to) where
+module _ (t : Step) (x : Two) (e : Held) (to : ℕ) (b : Belongs t (Op.Two x) e to) where
   abbrev left_child : Subformula
   left_child = subformula t.nodes x.left
 

@@ -23,7 +23,7 @@ use Rattle.pl_signal.specs.Knots.{stop, HasShape, IsWorth}
 use Rattle.pl_signal.proofs.Limits.{limited}
 use Rattle.pl_signal.proofs.Telling.{TellsSoFar, told, tells_first, tells_on, tells_join}
 use Rattle.online_robust.specs.Told.{IsMovedBy, IsTick}
-use Rattle.online_robust.specs.Reading.{IsBuilt, IsStretch, IsThere}
+use Rattle.online_robust.specs.ReadLines.{IsBuilt, IsStretch, IsThere}
 
 -- a time of 32 bits lies within the limits
 pub tick_within : {t : Rational} → IsTick t → IsWithin (2 ^ 34) t

@@ -19,7 +19,7 @@ use Rattle.pl_signal.specs.declared.joining.Side.TheVariants.{Least, Greatest}
 use Rattle.pl_signal.specs.Joining.{IsChosen, ChosenOf}
 use Rattle.pl_signal.proofs.Choices.{chosen_same, chosen_once}
 use Rattle.online_robust.specs.Told.{IsMovedBy}
-use Rattle.online_robust.specs.Reading.{IsThere, turned_by, value_turned}
+use Rattle.online_robust.specs.ReadLines.{IsThere, turned_by, value_turned}
 
 -- minus a function of time is one
 pub turned_is_function : (b : Bool) (P : Function) → IsFunction P → IsFunction (turned_by b P)

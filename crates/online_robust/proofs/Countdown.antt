@@ -12,7 +12,7 @@ use Rattle.value_laws.specs.declared.margin.Margin.{Margin}
 use Rattle.online_robust.specs.Held.{Edge, Held, edge_at, fresh_at, held_at, held_of, no_edge, with_edge, with_read, without}
 use Rattle.online_robust.specs.Sweeping.{EndsAt, IsBefore}
 use Rattle.online_robust.specs.Windows.{gap_of, is_before_end, lines_left, no_gap, steps_left}
-use Rattle.online_robust.specs.declared.ends.Gap.{Gap}
+use Rattle.online_robust.specs.declared.ends.Rim.{Rim}
 use Rattle.online_robust.specs.declared.line.MarginLine.{MarginLine}
 use Rattle.online_robust.specs.declared.window.Place.{Place}
 use Rattle.online_robust.specs.declared.window.Window.{Window}
@@ -72,7 +72,7 @@ module _ (i : ℕ) (e mid : Held) where
       subst (λ (x : Edge). lines_left x < lines_left (edge_at e i)) (sym (edge_without within taken)) (taken_fewer (edge_at e i) line first)
 
   -- a gap that is entered leaves no more
-  pub enter_no_more : (none : Margin) (next : Gap) → i < length e.edges
+  pub enter_no_more : (none : Margin) (next : Rim) → i < length e.edges
       → MatchOption (slice_get (fresh_at e i) 0) ((next ≡ no_gap none) × (mid ≡ e))
       (λ l. (next ≡ gap_of l) × (mid.edges ≡ with_edge e i (with_read (edge_at e i) l)) × (mid.start ≡ e.start))
       → lines_left (edge_at mid i) ≤ lines_left (edge_at e i)

@@ -23,7 +23,7 @@ use Rattle.online_robust.specs.Lines.{end_of}
 use Rattle.online_robust.specs.Told.{AreTold, AreJoined}
 use Rattle.frac128.specs.declared.frac.Frac.{Frac}
 use Rattle.value_laws.specs.declared.margin.Margin.{Margin}
-use Rattle.online_robust.specs.Turns.{AreInputs, AreLeft, back_of}
+use Rattle.online_robust.specs.Steps.{AreInputs, AreLeft, back_of}
 use Rattle.online_robust.specs.Pasts.{Past, trace_of, part_of, shown_of, Gave, IsRest}
 use Rattle.online_robust.specs.declared.line.MarginLine.{MarginLine}
 use Rattle.online_robust.specs.declared.line.MarginLine.TheVariants.{Point, Gap}

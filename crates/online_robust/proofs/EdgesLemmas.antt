@@ -16,6 +16,7 @@ use Rattle.std.proofs.Common.{
   [],
   ◌∷◌,
   ◌++◌,
+  take,
   drop,
   length,
   get_or,
@@ -47,6 +48,7 @@ use Rattle.std.proofs.lemmas.List.{
 }
 use Rattle.std.proofs.lemmas.Option.{slice_get_within}
 use Rattle.std.proofs.lemmas.List.Sums.{sum_by-cons}
+use Rattle.pl_signal.proofs.Values.{some_is}
 use Rattle.seg_pool.proofs.ListsLemmas.{set-set_same}
 use Rattle.online_robust.specs.declared.line.MarginLine.{MarginLine}
 use Rattle.online_robust.specs.Held.{Held, Edge, no_edge, edges_of, with_more, with_read, with_number, without, HasTwoLists}
@@ -251,6 +253,11 @@ pub empty_of_none : {X : Type 0} (xs : List X) → slice_get xs 0 ≡ None → x
 empty_of_none [] none = refl
 empty_of_none (x ∷ xs) none = cc
 
+-- a list's first item by itself
+take_first : {X : Type 0} (xs : List X) (v : X) → slice_get xs 0 ≡ Some v → take 1 xs ≡ v ∷ []
+take_first [] v some = cc
+take_first (x ∷ xs) v some = ap (λ y. y ∷ []) (some_is some)
+
 module _ (numbers : List (Option ℤ)) (lists : List (List MarginLine)) (i : ℕ) (two : HasTwoLists lists numbers)
     (within : i < length numbers) where
   -- a part goes behind what was not read
@@ -322,6 +329,19 @@ module _ (numbers : List (Option ℤ)) (lists : List (List MarginLine)) (i : ℕ
       (edges_changed (fresh_changes numbers lists i two within (drop 1 (get_or lists (2 * i + 1) []))))
       ∙ set-set_same (edges_of numbers lists) i _ _
       ∙ ap (λ x. set (edges_of numbers lists) i (with_read x v)) (sym (edge_at-edges_of numbers lists i within))
+
+  -- the same, as a pool says it
+  pub moved_changes : (v : MarginLine) → slice_get (get_or lists (2 * i + 1) []) 0 ≡ Some v
+      → edges_of numbers (set (set lists (2 * i + 1) (drop 1 (get_or lists (2 * i + 1) []))) (2 * i)
+      (get_or lists (2 * i) [] ++ take 1 (get_or lists (2 * i + 1) [])))
+      ≡ set (edges_of numbers lists) i (with_read (get_or (edges_of numbers lists) i no_edge) v)
+  moved_changes v first =
+      let passed : List (List MarginLine) = set lists (2 * i + 1) (drop 1 (get_or lists (2 * i + 1) [])) in
+      let seen : get_or passed (2 * i) [] ≡ get_or lists (2 * i) [] = read_at lists (2 * i + 1) (2 * i) _ (λ same. omega arith) in
+      ap (λ items. edges_of numbers (set passed (2 * i) (get_or lists (2 * i) [] ++ items)))
+      (take_first (get_or lists (2 * i + 1) []) v first)
+      ∙ ap (λ items. edges_of numbers (set passed (2 * i) (items ++ v ∷ []))) (sym seen)
+      ∙ pass_changes v
 
   -- the number noted changes
   pub reach_changes : (n : ℤ) → edges_of (set numbers i (Some n)) lists

@@ -10,21 +10,21 @@ use Rattle.pl_signal.specs.declared.faults.OpFault.{OpFault}
 use Rattle.stl_syntax.specs.Formula.{subformula}
 use Rattle.online_nodes.specs.StreamedWide.{front_at}
 use Rattle.online_robust.specs.Held.{Held, held_at}
-use Rattle.online_robust.specs.Reading.{IsStretch, IsThere}
-use Rattle.online_robust.specs.Turns.{Turn, Belongs, HasSwept, IsStreamedFault, IsSwept, StandsNow, begin_of, from_of, reach_before}
+use Rattle.online_robust.specs.ReadLines.{IsStretch, IsThere}
+use Rattle.online_robust.specs.Steps.{Step, Belongs, HasSwept, IsStreamedFault, IsSwept, StandsNow, begin_of, from_of, reach_before}
 use Rattle.online_robust.specs.Waiting.{IsBegunPast}
 use Rattle.online_robust.specs.WindowPasts.{CanPass, HasPassed}
 use Rattle.online_robust.specs.Windows.{IsWindowFault, Scope, Sheds, best_of}
 use Rattle.online_robust.specs.declared.endless.Endless.{Endless}
 use Rattle.online_robust.specs.declared.line.Reached.{Reached}
 use Rattle.online_robust.specs.declared.operator.Operator.TheVariants as Op
-use Rattle.online_robust.specs.declared.past.Past.{Past}
+use Rattle.online_robust.specs.declared.ever.Ever.{Ever}
 use Rattle.online_robust.specs.declared.window.Window.{Window}
 use Rattle.online_robust.proofs.PastBridging.{own, scope_of, pass_same, past_edges, past_fault, past_stands, past_told}
 use Rattle.online_robust.proofs.PastTurnings.{beginning, going, going_window, has_begun}
 
 -- a window that may go on up to a number, which is `end`
-pub record MayPass (t : Turn) (z : Endless) (e : Held) (to : ℕ) (b : Belongs t (Op.Past z) e to) (s : Past) (end : Rational) : Type 0 where
+pub record MayPass (t : Step) (z : Endless) (e : Held) (to : ℕ) (b : Belongs t (Op.Ever z) e to) (s : Ever) (end : Rational) : Type 0 where
   -- from where it tells
   pub from : Rational
   -- which is where the node goes on
@@ -38,7 +38,7 @@ pub record MayPass (t : Turn) (z : Endless) (e : Held) (to : ℕ) (b : Belongs t
   -- its input has begun
   pub begun : pos (begin_of t) ≤ℤ front_at t.ended (pos t.now) (subformula t.nodes z.window.of)
 
-module _ (t : Turn) (z : Endless) (e : Held) (to : ℕ) (b : Belongs t (Op.Past z) e to) (s : Past) (end : Rational) (same : end ≈ whole (pos to)) where
+module _ (t : Step) (z : Endless) (e : Held) (to : ℕ) (b : Belongs t (Op.Ever z) e to) (s : Ever) (end : Rational) (same : end ≈ whole (pos to)) where
   -- one that was made before
   pub may_go_on : z.past ≡ Some s → MayPass t z e to b s end
   may_go_on is = record {
@@ -78,7 +78,7 @@ module _ (t : Turn) (z : Endless) (e : Held) (to : ℕ) (b : Belongs t (Op.Past 
     pub step_fault : (fault : OpFault Margin) → IsWindowFault (scope_of t z e to b (value s.at)) s.window end fault → IsStreamedFault t fault
     step_fault fault is = past_fault t z e to b (value s.at) end same fault (subst (λ (v : Window). IsWindowFault x v end fault) m.window is)
 
-    module _ (s' : Past) (e' : Held) (kept : s'.window ≡ s.window) (came : HasPassed (scope_of t z e to b (value s.at)) s' e')
+    module _ (s' : Ever) (e' : Held) (kept : s'.window ≡ s.window) (came : HasPassed (scope_of t z e to b (value s.at)) s' e')
         (last : IsSomeAnd s'.last (λ r. (value r.at ≡ value s'.at) × (value r.at ≈ end)
         × IsThere (best_of (scope_of t z e to b (value s.at)) s.window) (reach_before t + own t z e to b) (value r.at) r.value)) where
       there : (o : Option Reached) → IsSomeAnd o (λ r. (value r.at ≡ value s'.at) × (value r.at ≈ end)
@@ -92,5 +92,5 @@ module _ (t : Turn) (z : Endless) (e : Held) (to : ℕ) (b : Belongs t (Op.Past 
           (subst (λ (v : Window). Sheds (shifted end v.high) v.of e e') m.window shed)
 
       -- the operator stands at the time of the turn
-      pub step_stands : (z' : Endless) → z'.window ≡ z.window → z'.past ≡ Some s' → StandsNow t (Op.Past z') e' to
+      pub step_stands : (z' : Endless) → z'.window ≡ z.window → z'.past ≡ Some s' → StandsNow t (Op.Ever z') e' to
       step_stands z' window is = past_stands t z e to b (value s.at) end same m.from s s' z' e' m.whole_can m.window kept came m.begun last window is

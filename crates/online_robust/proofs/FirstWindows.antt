@@ -5,7 +5,7 @@ use Rattle.std.proofs.lemmas.Int.{ints}
 use Rattle.stl_syntax.specs.declared.node.Node.{Node}
 use Rattle.stl_syntax.specs.declared.node.Node.TheVariants as N
 use Rattle.online_robust.specs.Standing.{IsInstantOf, IsPastOf, IsWindowOf, IsWindowOperator, instant_of}
-use Rattle.online_robust.specs.Turns.{IsFirstOperator, IsLeaf}
+use Rattle.online_robust.specs.Steps.{IsFirstOperator, IsLeaf}
 use Rattle.online_robust.specs.Waiting.{endless_of}
 use Rattle.online_robust.specs.declared.operator.Operator.{Operator}
 use Rattle.online_robust.specs.declared.operator.Operator.TheVariants as Op
@@ -60,7 +60,7 @@ first_window n w op is (inr (equal, same)) =
     subst (λ (o : Operator). IsFirstOperator n (Some o)) (sym same) (no_leaf n w is, λ nodes place tr. (instant_is n w is equal, refl))
 
 -- so does that of a window without a low end
-pub first_past : (n : Node) (w : Window) → IsPastOf n w → IsFirstOperator n (Some (Op.Past (endless_of w)))
+pub first_past : (n : Node) (w : Window) → IsPastOf n w → IsFirstOperator n (Some (Op.Ever (endless_of w)))
 first_past n w is = (leafless n is, λ nodes place tr. (is, (refl, record { silent = refl; short = tt; stood = refl })))
   where
     leafless : (n : Node) → IsPastOf n w → ¬ IsLeaf n

@@ -29,10 +29,10 @@ use Rattle.online_nodes.proofs.RunLaw.{int_order}
 use Rattle.online_robust.specs.Lines.{end_of}
 use Rattle.online_robust.specs.Held.{Held, edge_at, held_at, held_of}
 use Rattle.online_robust.specs.Told.{IsMovedBy}
-use Rattle.online_robust.specs.Reading.{HasReached, IsStretch, LosesAt}
+use Rattle.online_robust.specs.ReadLines.{HasReached, IsStretch, LosesAt}
 use Rattle.online_robust.specs.Glances.{AreToSee, before, within, unseen, CanGlance, Glance, HasGlanced, IsGlanceAt, IsOffset, glance_of}
 use Rattle.online_robust.specs.Standing.{HasStood, IsInstantOf, instant_margin}
-use Rattle.online_robust.specs.Turns.{Turn, Belongs, AreInputs, AreLeft, HasSwept, IsCut, IsInput, IsSwept, StandsNow, back_of, begin_of, from_of, reach_before}
+use Rattle.online_robust.specs.Steps.{Step, Belongs, AreInputs, AreLeft, HasSwept, IsCut, IsInput, IsSwept, StandsNow, back_of, begin_of, from_of, reach_before}
 use Rattle.online_robust.specs.declared.line.MarginLine.{MarginLine}
 use Rattle.online_robust.specs.declared.line.Reached.{Reached}
 use Rattle.online_robust.specs.declared.glance.Moved.{Moved}
@@ -81,7 +81,7 @@ keeps_all limit lines zero later ended = refl
 keeps_all limit [] (suc n) later ended = refl
 keeps_all limit (x ∷ lines) (suc n) later ended = absurd (not_lt_of_le (ended 0 (omega arith)) later)
 
-module _ (t : Turn) (z : Moved) (e : Held) (to : ℕ) (b : Belongs t (Op.Moved z) e to) where
+module _ (t : Step) (z : Moved) (e : Held) (to : ℕ) (b : Belongs t (Op.Moved z) e to) where
   abbrev child : Subformula
   child = subformula t.nodes z.of
 

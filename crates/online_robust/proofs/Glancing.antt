@@ -25,7 +25,7 @@ use Rattle.stl_syntax.specs.SupInf.{Robustness}
 use Rattle.online_robust.specs.Lines.{end_of, margin_of}
 use Rattle.online_robust.specs.Held.{Held, edge_at, held_at, with_edge, without}
 use Rattle.online_robust.specs.Told.{IsMovedBy, IsTick}
-use Rattle.online_robust.specs.Reading.{Begins, IsAhead, IsThere, LosesAt}
+use Rattle.online_robust.specs.ReadLines.{Begins, IsAhead, IsThere, LosesAt}
 use Rattle.online_robust.specs.Glances.{AreToSee, before, within, unseen, CanStride, Glance, IsGap, IsGlanceAt, IsNothing}
 use Rattle.online_robust.specs.Glances.{IsOwnOffset, IsSeenAs, IsStride, glance_of, looked_at, nothing_of}
 use Rattle.online_robust.specs.Windows.{IsShifted}

@@ -36,7 +36,7 @@ use Rattle.online_nodes.specs.StreamedWide.{front_at}
 use Rattle.online_robust.specs.Held.{Edge, Held, edge_at, held_at, held_of, no_edge, number_at, with_edge, with_more, with_number}
 use Rattle.online_robust.specs.Told.{AreTold, AreFit, AreJoined, IsTick, IsMovedBy}
 use Rattle.online_robust.specs.Standing.{Stands}
-use Rattle.online_robust.specs.Turns.{IsLeaf, Turn, Belongs, IsSwept, HasSwept, StandsNow, AreInputs, IsInput, back_of, from_of, seen_by}
+use Rattle.online_robust.specs.Steps.{IsLeaf, Step, Belongs, IsSwept, HasSwept, StandsNow, AreInputs, IsInput, back_of, from_of, seen_by}
 use Rattle.online_robust.specs.Putting.{lines_after, lines_of, HasPut}
 use Rattle.online_robust.specs.Pasts.{trace_of, part_of, shown_of, IsRest, IsHeld}
 use Rattle.online_robust.specs.Moving.{Move, AreMore, CanGiveOut, HasMoved, turn_of}
@@ -266,7 +266,7 @@ module _ (m : Move) (node : ℕ) (op : Operator) (e : Held) (to : ℕ) (with_fir
     shown_new = number_shown p m.new.ended rows (pos to) g.number (let le = g.from_start in omega (arith, ints, le))
 
     -- the turn in a trace, where the number before is known
-    abbrev turn_at : Trace → Option ℤ → Turn
+    abbrev turn_at : Trace → Option ℤ → Step
     turn_at tr before = record { nodes = m.nodes; place = m.place; trace = tr; now = now; ended = m.new.ended; before = before }
 
     abbrev TellsFrom : Trace → Rational → Type 0

@@ -16,7 +16,7 @@ use Rattle.online_nodes.specs.MarginEdges.{AreNewParts, AreEmittedParts, shown_n
 use Rattle.online_nodes.specs.StreamedWide.{front_at}
 use Rattle.online_nodes.proofs.RunLaw.{int_order}
 use Rattle.online_robust.specs.Told.{AreTold, AreFit, AreJoined}
-use Rattle.online_robust.specs.Turns.{AreInputs, AreLeft, IsInput}
+use Rattle.online_robust.specs.Steps.{AreInputs, AreLeft, IsInput}
 use Rattle.online_robust.specs.Moving.{AreMore, IsNext}
 use Rattle.online_robust.specs.Pasts.{Past, with_row, with_end, trace_of, part_of, shown_of, Gave, AreToldOver}
 use Rattle.online_robust.specs.declared.line.MarginLine.{MarginLine}

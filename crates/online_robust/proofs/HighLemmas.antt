@@ -22,7 +22,7 @@ use Rattle.online_robust.specs.Told.{AreJoined}
 use Rattle.online_robust.specs.Sweeping.{IsBefore, IsFrozen, IsNoKnot, IsOn}
 use Rattle.online_robust.specs.Windows.{IsAt, IsHigh, IsSpread, IsStanding, IsToCome, IsUnfixed, IsUnfixedHigh}
 use Rattle.online_robust.specs.Windows.{Scope, Sheds, gap_of, high_at, input_of, low_at, no_gap}
-use Rattle.online_robust.specs.declared.ends.Gap.{Gap}
+use Rattle.online_robust.specs.declared.ends.Rim.{Rim}
 use Rattle.online_robust.specs.declared.line.MarginLine.{MarginLine}
 use Rattle.online_robust.specs.declared.line.MarginLine.TheVariants as L
 use Rattle.online_robust.specs.declared.queue.Queue.{Queue}
@@ -58,7 +58,7 @@ read_held x v first =
 some_is : {X : Type 0} {a b : X} → Some a ≡ Some b → a ≡ b
 some_is h = cc
 
-module _ (x : Scope) (s : Sweep) (e mid new : Held) (line : MarginLine) (next : Gap) (at : IsAt x s e) (high : IsHigh x s)
+module _ (x : Scope) (s : Sweep) (e mid new : Held) (line : MarginLine) (next : Rim) (at : IsAt x s e) (high : IsHigh x s)
     (first : slice_get (fresh_at e s.window.of) 0 ≡ Some line) (read : mid.edges ≡ with_edge e s.window.of (with_read (edge_at e s.window.of) line))
     (start_mid : mid.start ≡ e.start)
     (entered : MatchOption (slice_get (fresh_at mid s.window.of) 0) ((next ≡ no_gap s.none) × (new ≡ mid))
@@ -134,10 +134,10 @@ module _ (x : Scope) (s : Sweep) (e mid new : Held) (line : MarginLine) (next : 
         on = subst (IsOn (input_of x s.window.side) x.reach (value next_is.p)) (sym gap)
             (nothing_behind x s.window s.start s.none s.place.low s.place.high s.among (edge_at e s.window.of).seen (fresh_at e s.window.of)
             (low_at x s.window) (high_at x s.window) at.spread next_is is high.more);
-        before = subst (λ (g : Gap). IsBefore (value next_is.p) g.until) (sym gap) tt;
+        before = subst (λ (g : Rim). IsBefore (value next_is.p) g.until) (sym gap) tt;
         stands = inr gap;
-        standing = subst (λ (g : Gap). IsStanding g [] []) (sym gap) refl;
-        come = subst (λ (g : Gap). IsToCome x g.until []) (sym gap) (
+        standing = subst (λ (g : Rim). IsStanding g [] []) (sym gap) refl;
+        come = subst (λ (g : Rim). IsToCome x g.until []) (sym gap) (
           refl,
           goes_beyond x s.window s.start s.none s.place.low s.place.high s.among
               (edge_at e s.window.of).seen (fresh_at e s.window.of) (low_at x s.window) (high_at x s.window) at.spread next_is is high.more,
@@ -161,10 +161,10 @@ module _ (x : Scope) (s : Sweep) (e mid new : Held) (line : MarginLine) (next : 
         tail = L.Gap a b g ∷ [];
         rest = L.Point u v ∷ r;
         on = subst (IsOn (input_of x s.window.side) x.reach (value next_is.p)) (sym gap) on;
-        before = subst (λ (h : Gap). IsBefore (value next_is.p) h.until) (sym gap) before;
-        stands = inl (ap (λ (h : Gap). h.stands) gap);
-        standing = subst (λ (h : Gap). IsStanding h (L.Gap a b g ∷ []) []) (sym gap) (a, b, refl, refl);
-        come = subst (λ (h : Gap). IsToCome x h.until (L.Point u v ∷ r)) (sym gap) come;
+        before = subst (λ (h : Rim). IsBefore (value next_is.p) h.until) (sym gap) before;
+        stands = inl (ap (λ (h : Rim). h.stands) gap);
+        standing = subst (λ (h : Rim). IsStanding h (L.Gap a b g ∷ []) []) (sym gap) (a, b, refl, refl);
+        come = subst (λ (h : Rim). IsToCome x h.until (L.Point u v ∷ r)) (sym gap) come;
         seen_is = ap (λ (y : Edge). y.seen) new_edge ∙ ap (λ (l : List MarginLine). l ++ L.Gap a b g ∷ []) mid_seen
             ∙ append_assoc (edge_at e s.window.of).seen (L.Point next_is.p next_is.v ∷ []) (L.Gap a b g ∷ []);
         fresh_is = ap (λ (y : Edge). y.fresh) new_edge ∙ ap (λ (l : List MarginLine). drop 1 l) (mid_fresh ∙ is);
@@ -257,7 +257,7 @@ module _ (x : Scope) (s : Sweep) (e mid new : Held) (line : MarginLine) (next : 
 
   -- the gap about the high end, up to the point
   high_from : (m : Rational) × IsOn (input_of x s.window.side) x.reach m s.place.high × IsBefore m s.place.high.until
-  high_from = subst (λ (g : Gap). (m : Rational) × IsOn (input_of x s.window.side) x.reach m g × IsBefore m g.until) (sym at.spread.last)
+  high_from = subst (λ (g : Rim). (m : Rational) × IsOn (input_of x s.window.side) x.reach m g × IsBefore m g.until) (sym at.spread.last)
       (last_from (input_of x s.window.side) x.reach at.spread.from s.place.low at.spread.marks at.spread.runs)
 
   rises : high_from.0 <ʳ value next_is.p

@@ -16,7 +16,7 @@ use Rattle.online_nodes.specs.Needed.{IsReader}
 use Rattle.online_nodes.proofs.RunLaw.{int_order}
 use Rattle.online_robust.specs.Held.{Edge, Held, edge_at, held_at, held_of, number_at, with_edge, with_more, with_number}
 use Rattle.online_robust.specs.Standing.{Stands}
-use Rattle.online_robust.specs.Turns.{back_of, seen_by}
+use Rattle.online_robust.specs.Steps.{back_of, seen_by}
 use Rattle.online_robust.specs.Pasts.{trace_of, part_of, number_of, shown_of, IsRest, IsWork}
 use Rattle.online_robust.specs.Moving.{Move, AreMore, CanMove, HasMoved}
 use Rattle.online_robust.specs.declared.line.MarginLine.{MarginLine}

@@ -15,7 +15,7 @@ use Rattle.value_laws.specs.Margins.{margin_function}
 use Rattle.value_laws.specs.declared.margin.Margin.{Margin}
 use Rattle.online_robust.specs.Lines.{end_of}
 use Rattle.online_robust.specs.Told.{AreFit, AreJoined, AreTold, IsFitLine, IsToldLine}
-use Rattle.online_robust.specs.Reading.{IsAhead, IsThere}
+use Rattle.online_robust.specs.ReadLines.{IsAhead, IsThere}
 use Rattle.online_robust.specs.declared.line.MarginLine.{MarginLine}
 use Rattle.online_robust.specs.declared.line.MarginLine.TheVariants.{Point, Gap}
 

@@ -10,8 +10,8 @@ use Rattle.pl_signal.specs.declared.faults.OpFault.{OpFault}
 use Rattle.stl_syntax.specs.Formula.{subformula}
 use Rattle.online_nodes.specs.StreamedWide.{front_at}
 use Rattle.online_robust.specs.Held.{Held, held_at}
-use Rattle.online_robust.specs.Reading.{IsStretch, IsThere}
-use Rattle.online_robust.specs.Turns.{Turn, Belongs, HasSwept, IsStreamedFault, IsSwept, StandsNow, begin_of, from_of, reach_before}
+use Rattle.online_robust.specs.ReadLines.{IsStretch, IsThere}
+use Rattle.online_robust.specs.Steps.{Step, Belongs, HasSwept, IsStreamedFault, IsSwept, StandsNow, begin_of, from_of, reach_before}
 use Rattle.online_robust.specs.Waiting.{IsBegun}
 use Rattle.online_robust.specs.Windows.{CanSweep, HasCome, IsWindowFault, Scope, Sheds, best_of}
 use Rattle.online_robust.specs.declared.lazy.Lazy.{Lazy}
@@ -23,7 +23,7 @@ use Rattle.online_robust.proofs.WindowBridging.{own, scope_of, sweep_same, windo
 use Rattle.online_robust.proofs.WindowTurnings.{beginning, going, going_window, has_begun}
 
 -- a window that may go on up to a number, which is `end`
-pub record MaySweep (t : Turn) (z : Lazy) (e : Held) (to : ℕ) (b : Belongs t (Op.Sweep z) e to) (s : Sweep) (end : Rational) : Type 0 where
+pub record MaySweep (t : Step) (z : Lazy) (e : Held) (to : ℕ) (b : Belongs t (Op.Sweep z) e to) (s : Sweep) (end : Rational) : Type 0 where
   -- from where it tells
   pub from : Rational
   -- which is where the node goes on
@@ -37,7 +37,7 @@ pub record MaySweep (t : Turn) (z : Lazy) (e : Held) (to : ℕ) (b : Belongs t (
   -- its input has begun
   pub begun : pos (begin_of t) ≤ℤ front_at t.ended (pos t.now) (subformula t.nodes z.window.of)
 
-module _ (t : Turn) (z : Lazy) (e : Held) (to : ℕ) (b : Belongs t (Op.Sweep z) e to) (s : Sweep) (end : Rational) (same : end ≈ whole (pos to)) where
+module _ (t : Step) (z : Lazy) (e : Held) (to : ℕ) (b : Belongs t (Op.Sweep z) e to) (s : Sweep) (end : Rational) (same : end ≈ whole (pos to)) where
   -- one that was made before
   pub may_go_on : z.sweep ≡ Some s → MaySweep t z e to b s end
   may_go_on is = record {

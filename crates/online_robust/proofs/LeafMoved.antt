@@ -25,7 +25,7 @@ use Rattle.online_nodes.specs.MarginEdges.{AreNewParts}
 use Rattle.online_nodes.specs.Needed.{IsReader}
 use Rattle.online_nodes.specs.StreamedWide.{front_at}
 use Rattle.online_robust.specs.Held.{Held, edge_at, no_edge, with_edge, with_more, with_number}
-use Rattle.online_robust.specs.Turns.{seen_by}
+use Rattle.online_robust.specs.Steps.{seen_by}
 use Rattle.online_robust.specs.Putting.{constant_margin, AreRowLines, HasPutRow, IsAtomPiece, IsAtomValue}
 use Rattle.online_robust.specs.Pasts.{Past, trace_of, part_of, shown_of, number_by, shown_by, IsWork}
 use Rattle.online_robust.specs.Moving.{Move, AreMore, CanMove, HasMoved, IsRowNext, last_row_of, last_row_after}

@@ -1,6 +1,7 @@
 mod EdgesLemmas
 pub mod DroppingLemmas
 mod QueueLemmas
+mod Refusing
 mod Emitting
 mod Growing
 mod Rests

@@ -8,7 +8,7 @@ use Rattle.stl_syntax.specs.Trace.{stop, last_time}
 use Rattle.stl_syntax.specs.Formula.{subformula, horizon}
 use Rattle.online_nodes.specs.StreamedWide.{front_at}
 use Rattle.online_robust.specs.Held.{Held}
-use Rattle.online_robust.specs.Turns.{Turn, Belongs, begin_of}
+use Rattle.online_robust.specs.Steps.{Step, Belongs, begin_of}
 use Rattle.online_robust.specs.declared.operator.Operator.{Operator}
 use Rattle.online_robust.proofs.Bridging.{small_to}
 
@@ -16,7 +16,7 @@ use Rattle.online_robust.proofs.Bridging.{small_to}
 pub shifted_whole : (k j : ℤ) → shifted (whole k) j ≈ whole (k +ℤ j)
 shifted_whole k j = omega (arith, ints)
 
-module _ (t : Turn) (op : Operator) (e : Held) (to : ℕ) (b : Belongs t op e to) (of : ℕ) where
+module _ (t : Step) (op : Operator) (e : Held) (to : ℕ) (b : Belongs t op e to) (of : ℕ) where
   abbrev front_of : ℤ
   front_of = front_at t.ended (pos t.now) (subformula t.nodes of)
 

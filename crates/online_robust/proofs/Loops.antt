@@ -15,7 +15,7 @@ use Rattle.atom_lines.specs.Binding.{Binding}
 use Rattle.online_nodes.specs.Network.{reach_back}
 use Rattle.online_nodes.specs.Needed.{IsReader}
 use Rattle.online_robust.specs.Held.{Held, held_at, number_at}
-use Rattle.online_robust.specs.Turns.{seen_by}
+use Rattle.online_robust.specs.Steps.{seen_by}
 use Rattle.online_robust.specs.Pasts.{Past, number_of, Gave, IsHeld, IsWork}
 use Rattle.online_robust.specs.Moving.{CanMove, CanMoveByRow, CanMoveByEnd, HasMoved, IsRowNext, IsEndNext, IsFaultOf}
 use Rattle.online_robust.specs.Nets.{Shows, Passing, past_at, move_of, CanGo, Going, HasGone, IsGoFault, IsFaultAt}

@@ -9,7 +9,7 @@ use Rattle.rational.proofs.Order.{le_trans}
 use Rattle.frac128.specs.Value.{value}
 use Rattle.online_robust.specs.Lines.{end_of}
 use Rattle.online_robust.specs.Held.{Edge, Held, edge_at, held_at, held_of, no_edge, with_edge, without}
-use Rattle.online_robust.specs.Reading.{Loses, LosesAt, LosesAtBoth}
+use Rattle.online_robust.specs.ReadLines.{Loses, LosesAt, LosesAtBoth}
 use Rattle.online_robust.specs.declared.line.MarginLine.{MarginLine}
 use Rattle.online_nodes.proofs.DroppingLemmas.{drop-drop}
 use Rattle.online_robust.proofs.DroppingLemmas.{held_of-without, without-none}

@@ -17,11 +17,11 @@ use Rattle.stl_syntax.specs.Trace.{start}
 use Rattle.online_robust.specs.Lines.{end_of, margin_of, IsOneLine}
 use Rattle.online_robust.specs.Held.{Edge, Held, edge_at, fresh_at, held_at, held_of, no_edge, with_edge, without}
 use Rattle.online_robust.specs.Queues.{StandsFor}
-use Rattle.online_robust.specs.Reading.{IsThere, LosesAt}
+use Rattle.online_robust.specs.ReadLines.{IsThere, LosesAt}
 use Rattle.online_robust.specs.Sweeping.{AreBy, AreFrozen, AreTicks, EndsAt, IsBefore, IsNoKnot, IsUpTo, Mark, Runs, last_gap}
 use Rattle.online_robust.specs.Windows.{AreSeen, AreStanding, IsAt, IsLow, IsSpread, IsStanding, IsToCome}
 use Rattle.online_robust.specs.Windows.{Scope, Sheds, before_start, gap_of, high_at, input_of, low_at, no_gap}
-use Rattle.online_robust.specs.declared.ends.Gap.{Gap}
+use Rattle.online_robust.specs.declared.ends.Rim.{Rim}
 use Rattle.online_robust.specs.declared.line.MarginLine.{MarginLine}
 use Rattle.online_robust.specs.declared.line.MarginLine.TheVariants as L
 use Rattle.online_robust.specs.declared.queue.Queue.{Queue}
@@ -38,7 +38,7 @@ ends_up : {t u : Rational} (o : Option Frac) → EndsAt o t → IsUpTo u o → u
 ends_up None e h = absurd e
 ends_up (Some f) e h = le_trans h (le_of_same e)
 
-before_own : (Q : Function) (reach : ℕ) (from : Rational) (low : Gap) (marks : List Mark) → Runs Q reach from low marks → IsBefore from low.until
+before_own : (Q : Function) (reach : ℕ) (from : Rational) (low : Rim) (marks : List Mark) → Runs Q reach from low marks → IsBefore from low.until
 before_own Q reach from low [] runs = runs.1
 before_own Q reach from low (k ∷ marks) runs = by_until low.until runs.1
   where
@@ -46,7 +46,7 @@ before_own Q reach from low (k ∷ marks) runs = by_until low.until runs.1
     by_until None e = absurd e
     by_until (Some u) e = lt_of_lt_of_le runs.2 (ge_of_same e)
 
-module _ (x : Scope) (w : Window) (begin : Frac) (none : Margin) (low high : Gap) (q : Queue Margin) (seen fresh : List MarginLine) (l h : Rational)
+module _ (x : Scope) (w : Window) (begin : Frac) (none : Margin) (low high : Rim) (q : Queue Margin) (seen fresh : List MarginLine) (l h : Rational)
     (s : IsSpread x w begin none low high q seen fresh l h) (ends : EndsAt low.until l) (ahead : Rational) (order : l <ʳ ahead)
     (reaches : IsUpTo ahead high.until) where
   -- what the low end stands on: the first mark
@@ -85,7 +85,7 @@ module _ (x : Scope) (w : Window) (begin : Frac) (none : Margin) (low high : Gap
   by_marks : (ms : List Mark) → s.marks ≡ ms → Leaves
   by_marks [] e =
       let last : high ≡ low = s.last ∙ ap (last_gap low) e in
-      absurd (lt_irrefl (lt_of_lt_of_le order (ends_up high.until (subst (λ (g : Gap). EndsAt g.until l) (sym last) ends) reaches)))
+      absurd (lt_irrefl (lt_of_lt_of_le order (ends_up high.until (subst (λ (g : Rim). EndsAt g.until l) (sym last) ends) reaches)))
   by_marks (k ∷ marks) e =
       let runs = subst (Runs (input_of x w.side) x.reach s.from low) e s.runs in
       let seen' = subst (λ (ms : List Mark). AreSeen low ms seen) e s.seen_is in
@@ -205,7 +205,7 @@ sheds_of limit i old new h = record {
   start = h.start;
 }
 
-module _ (i : ℕ) (e mid new : Held) (low : Gap) (k : Mark) (rest : List MarginLine) (limit : Rational) (within : i < length e.edges)
+module _ (i : ℕ) (e mid new : Held) (low : Rim) (k : Mark) (rest : List MarginLine) (limit : Rational) (within : i < length e.edges)
     (front : IsStanding low (edge_at e i).seen (L.Point k.at k.point ∷ rest))
     (dropped : MatchBool low.stands ((mid.edges ≡ with_edge e i (without 1 (edge_at e i))) × (mid.start ≡ e.start)) (mid ≡ e))
     (ends : EndsAt low.until limit) (here : value k.at ≈ limit) where
@@ -267,19 +267,19 @@ module _ (i : ℕ) (e mid new : Held) (low : Gap) (k : Mark) (rest : List Margin
         (took limit i mid new (L.Point k.at k.point) mid_within taken start_new point_first (le_of_same here))
 
 -- the gap that comes to the front is that behind the mark
-pub front_is : (x : Scope) (none : Margin) (k : Mark) (marks : List Mark) (high : Gap) (rest fresh : List MarginLine)
+pub front_is : (x : Scope) (none : Margin) (k : Mark) (marks : List Mark) (high : Rim) (rest fresh : List MarginLine)
     → (k.after.stands ≡ true) ⊎ ((k.after ≡ no_gap none) × (marks ≡ [])) → AreSeen k.after marks rest → high ≡ last_gap k.after marks
-    → IsToCome x high.until fresh → (next : Gap)
+    → IsToCome x high.until fresh → (next : Rim)
     → MatchOption (slice_get (rest ++ fresh) 0) (next ≡ no_gap none) (λ line. next ≡ gap_of line) → next ≡ k.after
 front_is x none k marks high rest fresh (inr (e, nil)) seen last come next found =
-    let rest_nil : rest ≡ [] = no_lines k.after (ap (λ (g : Gap). g.stands) e) (subst (λ (ms : List Mark). AreSeen k.after ms rest) nil seen) in
+    let rest_nil : rest ≡ [] = no_lines k.after (ap (λ (g : Rim). g.stands) e) (subst (λ (ms : List Mark). AreSeen k.after ms rest) nil seen) in
     let high_is : high ≡ no_gap none = last ∙ ap (last_gap k.after) nil ∙ e in
-    let fresh_nil : fresh ≡ [] = (subst (λ (g : Gap). IsToCome x g.until fresh) high_is come).0 in
+    let fresh_nil : fresh ≡ [] = (subst (λ (g : Rim). IsToCome x g.until fresh) high_is come).0 in
     let none_there : slice_get (rest ++ fresh) 0 ≡ None =
     ap (λ (l : List MarginLine). slice_get (l ++ fresh) 0) rest_nil ∙ ap (λ (l : List MarginLine). slice_get l 0) fresh_nil in
     subst (λ o. MatchOption o (next ≡ no_gap none) (λ line. next ≡ gap_of line)) none_there found ∙ sym e
   where
-    no_lines : (g : Gap) → g.stands ≡ false → AreSeen g [] rest → rest ≡ []
+    no_lines : (g : Rim) → g.stands ≡ false → AreSeen g [] rest → rest ≡ []
     no_lines g e h = by_bool g.stands e h
       where
         by_bool : (b : Bool) → b ≡ false → MatchBool b ((a c : Frac) × (g.until ≡ Some c) × (rest ≡ L.Gap a c g.shape ∷ [])) (rest ≡ []) → rest ≡ []
@@ -320,7 +320,7 @@ module _ (x : Scope) (s : Sweep) (e mid : Held) (at : IsAt x s e) (low : IsLow x
   pub some_line : slice_get (held_at mid s.window.of) 0 ≡ None → ⊥
   some_line none = absurd (let f : Some (L.Point leaving.k.at leaving.k.point) ≡ None = sym first_line ∙ none in cc)
 
-  module _ (new : Held) (line : MarginLine) (next : Gap) (first : slice_get (held_at mid s.window.of) 0 ≡ Some line)
+  module _ (new : Held) (line : MarginLine) (next : Rim) (first : slice_get (held_at mid s.window.of) 0 ≡ Some line)
       (taken : new.edges ≡ with_edge mid s.window.of (without 1 (edge_at mid s.window.of))) (start_new : new.start ≡ mid.start)
       (found : MatchOption (slice_get (held_at new s.window.of) 0) (next ≡ no_gap s.none) (λ l. next ≡ gap_of l)) where
     -- the line that is held is the knot's
@@ -365,7 +365,7 @@ module _ (x : Scope) (s : Sweep) (e mid : Held) (at : IsAt x s e) (low : IsLow x
         → (value u ≤ʳ shifted (value s.start) s.window.low) ⊎ IsOneLine s.place.low.shape m next.shape (value u)
         → IsNoKnot (shifted (start x.trace) s.window.low) s.place.low leaving.k
     plain_is u m a f h = by_kind
-        (subst (λ (g : Gap). (value leaving.k.at ≤ʳ shifted (value s.start) s.window.low)
+        (subst (λ (g : Rim). (value leaving.k.at ≤ʳ shifted (value s.start) s.window.low)
         ⊎ IsOneLine s.place.low.shape leaving.k.point g.shape (value leaving.k.at)) next_is
         (subst (λ (n : Margin). (value leaving.k.at ≤ʳ shifted (value s.start) s.window.low)
         ⊎ IsOneLine s.place.low.shape n next.shape (value leaving.k.at)) (f ∙ ap margin_of line_is)
@@ -387,14 +387,14 @@ module _ (x : Scope) (s : Sweep) (e mid : Held) (at : IsAt x s e) (low : IsLow x
     knot_is u m a f counts not (inl one) =
         not (subst (λ (g : Frac). IsOneLine s.place.low.shape m next.shape (value g)) (sym (a ∙ ap end_of line_is))
         (subst (λ (n : Margin). IsOneLine s.place.low.shape n next.shape (value leaving.k.at)) (sym (f ∙ ap margin_of line_is))
-        (subst (λ (g : Gap). IsOneLine s.place.low.shape leaving.k.point g.shape (value leaving.k.at)) (sym next_is) one)))
+        (subst (λ (g : Rim). IsOneLine s.place.low.shape leaving.k.point g.shape (value leaving.k.at)) (sym next_is) one)))
 
     placed : (q : Queue Margin)
         → IsSpread x s.window s.start s.none leaving.k.after s.place.high q leaving.rest (fresh_at e s.window.of) (low_at x s.window) (high_at x s.window)
         → IsSpread x s.window s.start s.none next s.place.high q (edge_at new s.window.of).seen (fresh_at new s.window.of) (low_at x s.window)
         (high_at x s.window)
     placed q spread = subst
-        (λ (g : Gap). IsSpread x s.window s.start s.none g s.place.high q (edge_at new s.window.of).seen (fresh_at new s.window.of) (low_at x s.window)
+        (λ (g : Rim). IsSpread x s.window s.start s.none g s.place.high q (edge_at new s.window.of).seen (fresh_at new s.window.of) (low_at x s.window)
         (high_at x s.window)) (sym next_is)
         (subst
         (λ (l : List MarginLine). IsSpread x s.window s.start s.none leaving.k.after s.place.high q l (fresh_at new s.window.of) (low_at x s.window)
@@ -424,7 +424,7 @@ module _ (x : Scope) (s : Sweep) (e mid : Held) (at : IsAt x s e) (low : IsLow x
 
     -- the low end lies before the end of its gap
     pub before_goes : IsBefore (low_at x s.window) next.until
-    before_goes = subst (λ (g : Gap). IsBefore (low_at x s.window) g.until) (sym next_is)
+    before_goes = subst (λ (g : Rim). IsBefore (low_at x s.window) g.until) (sym next_is)
         (low_goes x s.window s.start s.none s.place.low s.place.high s.among (edge_at e s.window.of).seen (fresh_at e s.window.of)
         (low_at x s.window) (high_at x s.window) at.spread low.ends low.ahead low.order low.reaches leaving)
 

@@ -13,7 +13,7 @@ use Rattle.online_nodes.specs.Network.{reach_back}
 use Rattle.online_nodes.specs.Needed.{IsReader}
 use Rattle.online_nodes.proofs.ReadersLaw.{one_reader, root_unread}
 use Rattle.online_robust.specs.Held.{Edge, Held, edge_at, held_at, held_of, number_at, with_more, with_number}
-use Rattle.online_robust.specs.Turns.{seen_by}
+use Rattle.online_robust.specs.Steps.{seen_by}
 use Rattle.online_robust.specs.Pasts.{Past, trace_of, number_of, Gave, IsHeld, IsWork}
 use Rattle.online_robust.specs.Moving.{AreStreamed, IsNext, HasMoved}
 use Rattle.online_robust.specs.Nets.{Shows}

@@ -17,7 +17,7 @@ use Rattle.stl_syntax.specs.SupInf.{Robustness}
 use Rattle.online_robust.specs.Lines.{end_of, margin_of}
 use Rattle.online_robust.specs.Held.{Held, edge_at, held_at, with_edge, without}
 use Rattle.online_robust.specs.Told.{IsMovedBy, IsTick}
-use Rattle.online_robust.specs.Reading.{Begins, HasReached, IsAhead, IsBuilt, IsReady, IsThere, LosesAt}
+use Rattle.online_robust.specs.ReadLines.{Begins, HasReached, IsAhead, IsBuilt, IsReady, IsThere, LosesAt}
 use Rattle.online_robust.specs.Couples.{CanNegate, Couple, IsNegatedTo, left_of, turns_left_of}
 use Rattle.online_robust.specs.declared.line.MarginLine.{MarginLine}
 use Rattle.online_robust.specs.declared.line.MarginLine.TheVariants.{Point, Gap}

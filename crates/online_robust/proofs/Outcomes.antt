@@ -27,7 +27,7 @@ use Rattle.stl_syntax.specs.SupInf.{Robustness}
 use Rattle.online_robust.specs.Queues.{constant_of, IsAmong, IsBest, NoneIsBetter}
 use Rattle.online_robust.specs.Sweeping.{AreFrozen, IsBefore, IsUpTo, Mark, last_gap}
 use Rattle.online_robust.specs.Windows.{Holds, IsCore, Scope, best_of, input_of}
-use Rattle.online_robust.specs.declared.ends.Gap.{Gap}
+use Rattle.online_robust.specs.declared.ends.Rim.{Rim}
 use Rattle.online_robust.specs.declared.window.Window.{Window as Wide}
 use Rattle.online_robust.proofs.Spreads.{input_is_function}
 use Rattle.online_robust.proofs.WindowLaw.{AreUnder, IsOneOf, IsSpanned, IsWindow, before_of, last_on_of, runs_later, runs_on, window_bound, window_reached}
@@ -101,7 +101,7 @@ best_over x w t r floor bound reached = by_side w.side floor bounded reached_in
 -- the constants are those that the best of them is no worse than
 module _ (side : Side) (limit : Rational) where
   -- a constant is one at each time
-  pub constant_stays : (low : Gap) (marks : List Mark) (cs : List Margin) (c : Margin) (t u : Rational) → AreFrozen side limit low marks cs → IsAmong cs c
+  pub constant_stays : (low : Rim) (marks : List Mark) (cs : List Margin) (c : Margin) (t u : Rational) → AreFrozen side limit low marks cs → IsAmong cs c
       → value_at (margin_function c) t ≈ᵉ value_at (margin_function c) u
   constant_stays low [] cs c t u frozen one = absurd (subst (λ (l : List Margin). IsAmong l c) frozen one)
   constant_stays low (k ∷ marks) cs c t u (inl (skip, frozen)) one = constant_stays k.after marks cs c t u frozen one
@@ -120,7 +120,7 @@ module _ (side : Side) (limit : Rational) where
   AreSteady (c ∷ cs) = ((t u : Rational) → value_at (margin_function c) t ≈ᵉ value_at (margin_function c) u) × AreSteady cs
 
   -- constants stay as they are with time
-  pub steady_all : (low : Gap) (marks : List Mark) (cs : List Margin) → AreFrozen side limit low marks cs → AreSteady cs
+  pub steady_all : (low : Rim) (marks : List Mark) (cs : List Margin) → AreFrozen side limit low marks cs → AreSteady cs
   steady_all low [] cs frozen = subst AreSteady (sym frozen) tt
   steady_all low (k ∷ marks) cs (inl (skip, frozen)) = steady_all k.after marks cs frozen
   steady_all low (k ∷ marks) cs (inr (knot, (c, others, is, frozen, more))) =
@@ -158,7 +158,7 @@ pub record IsTopOf (side : Side) (cs : List Margin) (top : Margin) : Type 0 wher
   -- the top is the best of the constants, or none
   pub best : IsBest margin_function side cs top ⊎ ((cs ≡ []) × ((t : Rational) → value_at (margin_function top) t ≈ᵉ none_of side minus_infinity infinity))
 
-module _ (x : Scope) (w : Wide) (none : Margin) (low high : Gap) (l h : Rational) (s : IsCore x w none low high l h) where
+module _ (x : Scope) (w : Wide) (none : Margin) (low high : Rim) (l h : Rational) (s : IsCore x w none low high l h) where
   -- a time at which the ends stand within the gaps about them
   pub record IsIn (t : Rational) : Type 0 where
     -- the time is one of the trace
@@ -184,7 +184,7 @@ module _ (x : Scope) (w : Wide) (none : Margin) (low high : Gap) (l h : Rational
       order = i.order;
       last = i.high_after;
       by = s.by;
-      until = λ u b. before_of (last_gap low s.marks).until b (subst (λ (g : Gap). IsUpTo (shifted t w.high) g.until) s.last i.high_before);
+      until = λ u b. before_of (last_gap low s.marks).until b (subst (λ (g : Rim). IsUpTo (shifted t w.high) g.until) s.last i.high_before);
     }
 
     top_stays : (u : Rational) → value_at (margin_function top) u ≈ᵉ constant_of margin_function top
@@ -242,7 +242,7 @@ module _ (x : Scope) (w : Wide) (none : Margin) (low high : Gap) (l h : Rational
         best_over x w t v (floor_any w.side v)
         (λ u y inside has. window_bound (input_of x w.side) x.reach (input_is_function x w.side) w.side (none_of w.side minus_infinity infinity)
         (shifted (start x.trace) w.low) (shifted t w.low) h (shifted t w.high) low s.marks s.constants (w.low_in ≡ true) (w.high_in ≡ true) (times_of w t) v
-        spanned window left (subst (λ (g : Gap). IsNoBetter w.side (value_at (margin_function g.shape) (shifted t w.high)) v) s.last right)
+        spanned window left (subst (λ (g : Rim). IsNoBetter w.side (value_at (margin_function g.shape) (shifted t w.high)) v) s.last right)
         (top_under v under) at_low at_high u y inside has)
         (window_reached (input_of x w.side) x.reach (input_is_function x w.side) w.side (none_of w.side minus_infinity infinity)
         (shifted (start x.trace) w.low) (shifted t w.low) h (shifted t w.high) low s.marks s.constants (w.low_in ≡ true) (w.high_in ≡ true) (times_of w t) v
@@ -276,9 +276,9 @@ module _ (x : Scope) (w : Wide) (none : Margin) (low high : Gap) (l h : Rational
             (b.bound high_shape (inr (inr is_high)))
 
         high_told : input_of x w.side (shifted t w.high) (value_at (margin_function high.shape) (shifted t w.high))
-        high_told = subst (λ (g : Gap). input_of x w.side (shifted t w.high) (value_at (margin_function g.shape) (shifted t w.high))) (sym s.last)
+        high_told = subst (λ (g : Rim). input_of x w.side (shifted t w.high) (value_at (margin_function g.shape) (shifted t w.high))) (sym s.last)
             ((last_on_of (input_of x w.side) x.reach s.from h low s.marks (le_trans s.begun l_h) s.by s.runs).told (shifted t w.high) i.high_after
-            (subst (λ (g : Gap). IsBefore (shifted t w.high) g.until) s.last inside_high))
+            (subst (λ (g : Rim). IsBefore (shifted t w.high) g.until) s.last inside_high))
 
         by_one : ((p : Margin) × Has best p × IsNoBetter w.side v (value_at (margin_function p) t))
             → IsOneOf (input_of x w.side) x.reach (input_is_function x w.side) w.side (none_of w.side minus_infinity infinity)
@@ -291,7 +291,7 @@ module _ (x : Scope) (w : Wide) (none : Margin) (low high : Gap) (l h : Rational
             (no_better_same w.side (value_at (margin_function low_shape) t) (value_at (margin_function low.shape) (shifted t w.low)) low_at))
         by_one (p, inr (inr e), le) =
             let same : high_shape ≡ p = some_is (sym is_high ∙ e) in
-            IsOneOf.high_limit (subst (λ (g : Gap). IsNoBetter w.side v (value_at (margin_function g.shape) (shifted t w.high))) s.last
+            IsOneOf.high_limit (subst (λ (g : Rim). IsNoBetter w.side v (value_at (margin_function g.shape) (shifted t w.high))) s.last
             (no_better_trans w.side v (value_at (margin_function high_shape) t) (value_at (margin_function high.shape) (shifted t w.high))
             (subst (λ (m : Margin). IsNoBetter w.side v (value_at (margin_function m) t)) (sym same) le)
             (no_better_same w.side (value_at (margin_function high_shape) t) (value_at (margin_function high.shape) (shifted t w.high)) high_at)))

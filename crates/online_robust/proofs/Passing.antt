@@ -18,7 +18,7 @@ use Rattle.online_nodes.specs.StreamedWide.{front_at}
 use Rattle.online_nodes.proofs.RunLaw.{int_order}
 use Rattle.online_robust.specs.Lines.{end_of}
 use Rattle.online_robust.specs.Told.{AreTold, AreFit, AreJoined}
-use Rattle.online_robust.specs.Turns.{back_of}
+use Rattle.online_robust.specs.Steps.{back_of}
 use Rattle.online_robust.specs.Pasts.{Past, trace_of, shown_by, IsRest, IsHeld}
 use Rattle.online_robust.specs.Moving.{AreStreamed, AreMore, IsNext}
 use Rattle.online_robust.specs.declared.line.MarginLine.{MarginLine}

@@ -27,18 +27,18 @@ use Rattle.window_ops.proofs.Ends.{lt_shifted}
 use Rattle.online_robust.specs.Held.{Held, edge_at, fresh_at, held_at}
 use Rattle.online_robust.specs.Lines.{end_of}
 use Rattle.online_robust.specs.Queues.{IsBestOf}
-use Rattle.online_robust.specs.Reading.{IsThere}
+use Rattle.online_robust.specs.ReadLines.{IsThere}
 use Rattle.online_robust.specs.Sweeping.{EndsAt, IsBefore, IsOn}
 use Rattle.online_robust.specs.Told.{AreFit, AreJoined, AreTold, IsMovedBy, IsTick}
-use Rattle.online_robust.specs.Turns.{AreInputs, AreLeft, IsCut, back_of}
+use Rattle.online_robust.specs.Steps.{AreInputs, AreLeft, IsCut, back_of}
 use Rattle.online_robust.specs.WindowPasts.{AreKept, CanPass, HasPassed, IsFitPast, IsFollowed, IsPastAt, IsSettled, IsUnder, StoodPast}
 use Rattle.online_robust.specs.Windows.{HasTold, IsCore, IsOwned, IsStanding, IsToCome, Scope}
 use Rattle.online_robust.specs.Windows.{Sheds, before_start, best_of, input_of, no_gap, scope_at}
-use Rattle.online_robust.specs.declared.ends.Gap.{Gap}
+use Rattle.online_robust.specs.declared.ends.Rim.{Rim}
 use Rattle.online_robust.specs.declared.line.MarginLine.{MarginLine}
 use Rattle.online_robust.specs.declared.line.MarginLine.TheVariants as L
 use Rattle.online_robust.specs.declared.line.Reached.{Reached}
-use Rattle.online_robust.specs.declared.past.Past.{Past}
+use Rattle.online_robust.specs.declared.ever.Ever.{Ever}
 use Rattle.online_robust.specs.declared.window.Window.{Window}
 use Rattle.online_robust.proofs.PastLemmas.{here_is, met, u_is, v_is}
 use Rattle.online_robust.proofs.PastSteps.{settled_before}
@@ -48,7 +48,7 @@ use Rattle.online_robust.proofs.WindowBounds.{none_bounded, still_moved}
 use Rattle.online_robust.proofs.WindowPoints.{in_order}
 
 -- the same window over an input that is told further
-core_again : (f : Subformula) (tr : Trace) (reach : ℕ) (a b c d t : Rational) (w : Window) (none : Margin) (low high : Gap)
+core_again : (f : Subformula) (tr : Trace) (reach : ℕ) (a b c d t : Rational) (w : Window) (none : Margin) (low high : Rim)
     (l h : Rational) (B : List Margin → Type 0)
     → (s : IsCore (scope_at f tr reach a b t) w none low high l h) → B s.constants
     → (r : IsCore (scope_at f tr reach c d t) w none low high l h) × B r.constants
@@ -73,7 +73,7 @@ core_again f tr reach a b c d t w none low high l h B s best = (
 )
 
 -- a window that was told before, over what its input has given out by now
-module _ (f : Subformula) (tr : Trace) (reach own : ℕ) (g : ℤ) (p : Past) (e : Held) (st : StoodPast f tr reach own (whole g) p (edge_at e p.window.of).seen)
+module _ (f : Subformula) (tr : Trace) (reach own : ℕ) (g : ℤ) (p : Ever) (e : Held) (st : StoodPast f tr reach own (whole g) p (edge_at e p.window.of).seen)
     (front : ℤ) (inputs : AreInputs (Robustness f tr) reach (first_time tr.rows)
     (back_of (first_time tr.rows) (Some g) p.window.high) front (held_at e p.window.of))
     (bound : Rational) (some : IsSome p.gap.until) (by_front : shifted (value p.at) p.window.high ≤ʳ whole front) where
@@ -110,15 +110,15 @@ module _ (f : Subformula) (tr : Trace) (reach own : ℕ) (g : ℤ) (p : Past) (e
               let one : L.Gap a c p.gap.shape ∷ (more ++ fresh) ≡ L.Point at v ∷ rest = sym (ap (λ (l : List MarginLine). l ++ fresh) gap) ∙ is in
               absurd (let z : Some (L.Gap a c p.gap.shape) ≡ Some (L.Point at v) = ap (λ (l : List MarginLine). slice_get l 0) one in cc)
           by_back false (from, le, joined, later) = next_of p.none p.gap [] seen fresh from (whole front) stands standing tt some joined
-      by_kind (inr (inl is)) = absurd (no_none (subst (λ (y : Gap). IsSome y.until) is some))
+      by_kind (inr (inl is)) = absurd (no_none (subst (λ (y : Rim). IsSome y.until) is some))
       by_kind (inr (inr is)) =
           let before : shifted (value p.at) p.window.high <ʳ value p.start =
-          subst (λ (y : Gap). IsBefore (shifted (value p.at) p.window.high) y.until) is (settled_before p st.settled none) in
+          subst (λ (y : Rim). IsBefore (shifted (value p.at) p.window.high) y.until) is (settled_before p st.settled none) in
           let nothing = back_before (first_time tr.rows) g p.window.high (shifted (value p.at) p.window.high) high_is
           (lt_of_lt_of_le before (le_of_same st.was.begins)) in
           let (at, v, rest, all, when, joined) = subst (λ (o : Option ℤ). AreLeft (first_time tr.rows) o front (seen ++ fresh)) nothing inputs.left in
-          let nil = no_front p.gap seen [] (ap (λ (y : Gap). y.stands) is) standing in
-          subst (λ (y : Gap). IsNext y.until fresh (whole front)) (sym is) (
+          let nil = no_front p.gap seen [] (ap (λ (y : Rim). y.stands) is) standing in
+          subst (λ (y : Rim). IsNext y.until fresh (whole front)) (sym is) (
             at,
             v,
             rest,
@@ -282,7 +282,7 @@ module _ (f : Subformula) (tr : Trace) (reach own : ℕ) (g : ℤ) (p : Past) (e
       }
 
 -- a later turn
-pub past_go_on : (f : Subformula) (tr : Trace) (reach own : ℕ) (g : ℤ) (p : Past) (e : Held) → StoodPast f tr reach own (whole g) p (edge_at e p.window.of).seen
+pub past_go_on : (f : Subformula) (tr : Trace) (reach own : ℕ) (g : ℤ) (p : Ever) (e : Held) → StoodPast f tr reach own (whole g) p (edge_at e p.window.of).seen
     → (front to : ℤ)
     → AreInputs (Robustness f tr) reach (first_time tr.rows) (back_of (first_time tr.rows) (Some g) p.window.high) front (held_at e p.window.of)
     → p.window.of < length e.edges → g <ℤ to → start tr ≤ʳ whole g → IsTick (whole g) → IsTick (whole to) → whole to ≤ʳ stop tr
@@ -336,7 +336,7 @@ past_go_on f tr reach own g p e st front to inputs of_in order begun from_tick t
     by_last (Some r) (here, there) = (here, subst (λ (z : Rational). z ≈ whole g) (sym here) st.at, there)
 
 -- a window whose high end lies before the start, over an input that has given out its first lines
-pub past_first : (f : Subformula) (tr : Trace) (reach : ℕ) (p : Past) (e : Held) (front : ℤ) (bound : Rational) → value p.start ≈ start tr
+pub past_first : (f : Subformula) (tr : Trace) (reach : ℕ) (p : Ever) (e : Held) (front : ℤ) (bound : Rational) → value p.start ≈ start tr
     → ((t : Rational) → value_at (margin_function p.none) t ≈ᵉ none_of p.window.side minus_infinity infinity) → is_ramp p.none ≡ false
     → p.gap ≡ before_start p.none p.start → p.point ≡ None → p.best ≡ None → IsWithin (2 ^ 34) (value p.at)
     → shifted (value p.at) p.window.high <ʳ value p.start
@@ -358,14 +358,14 @@ past_first f tr reach p e front bound begins none_value still gap point best nea
     core = core.0;
     best = core.1;
     lines = fresh_at e p.window.of;
-    to_come = subst (λ (g : Gap). IsToCome x g.until (fresh_at e p.window.of)) (sym gap) to_come;
+    to_come = subst (λ (g : Rim). IsToCome x g.until (fresh_at e p.window.of)) (sym gap) to_come;
     kept = subst (λ (o : Option Reached). AreKept p.gap o (fresh_at e p.window.of) (edge_at e p.window.of)) (sym point)
-        (subst (λ (g : Gap). IsStanding g (edge_at e p.window.of).seen []) (sym gap) nil, refl);
+        (subst (λ (g : Rim). IsStanding g (edge_at e p.window.of).seen []) (sym gap) nil, refl);
     under = subst (λ (o : Option Reached). IsUnder (shifted (value p.at) p.window.high) p.gap o) (sym point) tt;
     stands = inr (inr gap);
   },
   subst (λ (o : Option Reached). MatchOption o (IsBefore (shifted (value p.at) p.window.high) p.gap.until) (λ r. Unit {0})) (sym point)
-      (subst (λ (g : Gap). IsBefore (shifted (value p.at) p.window.high) g.until) (sym gap) early),
+      (subst (λ (g : Rim). IsBefore (shifted (value p.at) p.window.high) g.until) (sym gap) early),
 )
   where
     x : Scope
@@ -425,14 +425,14 @@ past_first f tr reach p e front bound begins none_value still gap point best nea
     core : (d : IsCore x p.window p.none (before_start p.none p.start) p.gap (shifted (value p.at) p.window.low) (shifted (value p.at) p.window.high))
         × IsBestOf margin_function p.window.side d.constants p.best
     core = subst
-        (λ (g : Gap). (d : IsCore x p.window p.none (before_start p.none p.start) g (shifted (value p.at) p.window.low) (shifted (value p.at) p.window.high))
+        (λ (g : Rim). (d : IsCore x p.window p.none (before_start p.none p.start) g (shifted (value p.at) p.window.low) (shifted (value p.at) p.window.high))
         × IsBestOf margin_function p.window.side d.constants p.best) (sym gap)
         (subst
         (λ (o : Option Margin). (d : IsCore x p.window p.none (before_start p.none p.start) (before_start p.none p.start) (shifted (value p.at) p.window.low)
         (shifted (value p.at) p.window.high)) × IsBestOf margin_function p.window.side d.constants o) (sym best) first)
 
 -- a window that has told its input up to a number is kept for the next turn
-pub stood_past : (x : Scope) (own : ℕ) (from : Rational) (to : ℤ) (old p : Past) (old_e e : Held) → CanPass x own from (whole to) old old_e → HasPassed x p e
+pub stood_past : (x : Scope) (own : ℕ) (from : Rational) (to : ℤ) (old p : Ever) (old_e e : Held) → CanPass x own from (whole to) old old_e → HasPassed x p e
     → p.window ≡ old.window
     → IsSomeAnd p.last (λ r. (value r.at ≡ value p.at) × (value r.at ≈ whole to) × IsThere (best_of x old.window) (x.reach + own) (value r.at) r.value)
     → StoodPast x.formula x.trace x.reach own (whole to) p (edge_at e p.window.of).seen
@@ -514,7 +514,7 @@ stood_past x own from to old p old_e e can came same last = record {
     goes (inr end) (inl none) = inl end.1
 
 -- what it does not need is gone from the edge, and nothing else
-pub cut_past : (x : Scope) (first : ℕ) (to : ℤ) (back : Option ℤ) (front : ℤ) (p : Past) (e' e : Held) → start x.trace ≈ whole (pos first) → HasPassed x p e
+pub cut_past : (x : Scope) (first : ℕ) (to : ℤ) (back : Option ℤ) (front : ℤ) (p : Ever) (e' e : Held) → start x.trace ≈ whole (pos first) → HasPassed x p e
     → value p.at ≈ whole to → (F : Function) (reach : ℕ) → AreInputs F reach first back front (held_at e' p.window.of)
     → (int_lt (to +ℤ p.window.high) (pos first) ≡ true → back ≡ None) → Sheds (shifted (whole to) p.window.high) p.window.of e' e
     → IsCut (back_of first (Some to) p.window.high) (edge_at e' p.window.of) (edge_at e p.window.of)
@@ -557,12 +557,12 @@ cut_past x first to back front p e' e starts came at F reach inputs early shed =
             subst (λ (l : List MarginLine). IsRest (l ++ fresh_at e p.window.of)) (sym gap) (lt_of_le_of_lt (ge_of_same at_limit) before')
         by_gap standing is before (inr (inr gap)) =
             let before' : shifted (value p.at) p.window.high <ʳ value p.start =
-            subst (λ (g : Gap). IsBefore (shifted (value p.at) p.window.high) g.until) gap before in
+            subst (λ (g : Rim). IsBefore (shifted (value p.at) p.window.high) g.until) gap before in
             absurd (not_lt_of_le (le_whole le) (lt_of_le_of_lt (ge_of_same at_limit)
             (lt_of_lt_of_le before' (le_trans (le_of_same came.0.begins) (le_of_same starts)))))
         by_gap standing is before (inr (inl gap)) =
-            let seen_nil = no_front p.gap (edge_at e p.window.of).seen [] (ap (λ (g : Gap). g.stands) gap) standing in
-            let none : p.gap.until ≡ None = ap (λ (g : Gap). g.until) gap in
+            let seen_nil = no_front p.gap (edge_at e p.window.of).seen [] (ap (λ (g : Rim). g.stands) gap) standing in
+            let none : p.gap.until ≡ None = ap (λ (g : Rim). g.until) gap in
             let lines_nil = (subst (λ (o : Option Frac). IsToCome x o came.0.lines) none came.0.to_come).0 in
             subst IsRest (sym (ap (λ (l : List MarginLine). l ++ fresh_at e p.window.of) seen_nil ∙ is ∙ lines_nil)) tt
 

@@ -34,17 +34,17 @@ use Rattle.online_nodes.proofs.RunLaw.{int_order}
 use Rattle.online_robust.specs.Lines.{end_of}
 use Rattle.online_robust.specs.Held.{Held, edge_at, held_at}
 use Rattle.online_robust.specs.Told.{IsMovedBy, IsTick}
-use Rattle.online_robust.specs.Reading.{IsStretch, IsThere}
+use Rattle.online_robust.specs.ReadLines.{IsStretch, IsThere}
 use Rattle.online_robust.specs.Standing.{HasPassedTo, HasWaitedPast, IsPastOf, Stands}
-use Rattle.online_robust.specs.Turns.{Turn, Belongs, AreInputs, HasSwept, IsCut, IsInput, IsStreamedFault}
-use Rattle.online_robust.specs.Turns.{IsSwept, StandsNow, back_of, begin_of, from_of, reach_before, seen_by}
+use Rattle.online_robust.specs.Steps.{Step, Belongs, AreInputs, HasSwept, IsCut, IsInput, IsStreamedFault}
+use Rattle.online_robust.specs.Steps.{IsSwept, StandsNow, back_of, begin_of, from_of, reach_before, seen_by}
 use Rattle.online_robust.specs.WindowPasts.{CanPass, HasPassed, IsFitPast, StoodPast}
 use Rattle.online_robust.specs.Windows.{InPlayOver, IsWindowFault, Scope, Sheds, best_of, scope_at}
 use Rattle.online_robust.specs.declared.endless.Endless.{Endless}
 use Rattle.online_robust.specs.declared.line.MarginLine.{MarginLine}
 use Rattle.online_robust.specs.declared.line.Reached.{Reached}
 use Rattle.online_robust.specs.declared.operator.Operator.TheVariants as Op
-use Rattle.online_robust.specs.declared.past.Past.{Past}
+use Rattle.online_robust.specs.declared.ever.Ever.{Ever}
 use Rattle.online_robust.specs.declared.window.Window.{Window}
 use Rattle.online_robust.proofs.BestPasts.{best_past, in_play_past, settled_past}
 use Rattle.online_robust.proofs.Bridging.{crossing_by, input_within, inputs_of, last_to, tick_of, tree}
@@ -57,7 +57,7 @@ use Rattle.online_robust.proofs.PastNodes.{IsPastNode, past_node}
 -- ---- the end by another pair
 
 -- a window that may go on up to a time may go on up to it by another pair
-pub pass_same : (x : Scope) (own : ℕ) (from to end : Rational) (p : Past) (e : Held) → to ≈ end → x.bound ≡ shifted to p.window.high → CanPass x own from to p e
+pub pass_same : (x : Scope) (own : ℕ) (from to end : Rational) (p : Ever) (e : Held) → to ≈ end → x.bound ≡ shifted to p.window.high → CanPass x own from to p e
     → CanPass x own from end p e
 pass_same x own from to end p e same bound can = record {
   at = can.at;
@@ -83,7 +83,7 @@ value_by A B from to p u den more h = record {
   wide = h.wide;
 }
 
-module _ (t : Turn) (z : Endless) (e : Held) (to : ℕ) (b : Belongs t (Op.Past z) e to) where
+module _ (t : Step) (z : Endless) (e : Held) (to : ℕ) (b : Belongs t (Op.Ever z) e to) where
   abbrev w : Window
   w = z.window
 
@@ -101,7 +101,7 @@ module _ (t : Turn) (z : Endless) (e : Held) (to : ℕ) (b : Belongs t (Op.Past 
   here = past_node (subformula t.nodes) t.place b.node z.window b.stands.0
 
   own_tree : subformula t.nodes t.place ≡ tree_of (subformula t.nodes) t.place b.node
-  own_tree = tree t (Op.Past z) e to b
+  own_tree = tree t (Op.Ever z) e to b
 
   -- its input looks as far as the node, less the offset
   pub far : (pos (horizon (subformula t.nodes z.window.of)) +ℤ z.window.high) ≤ℤ pos (horizon (subformula t.nodes t.place))
@@ -129,19 +129,19 @@ module _ (t : Turn) (z : Endless) (e : Held) (to : ℕ) (b : Belongs t (Op.Past 
 
   -- the input has an edge
   pub of_in : z.window.of < length e.edges
-  of_in = input_within t (Op.Past z) e to b z.window.of true here.reads
+  of_in = input_within t (Op.Ever z) e to b z.window.of true here.reads
 
   -- the start is a tick
   pub first_tick : IsTick (start t.trace)
-  first_tick = tick_of t (Op.Past z) e to b (begin_of t) b.from_start
+  first_tick = tick_of t (Op.Ever z) e to b (begin_of t) b.from_start
 
   -- the time of the turn is a tick
   pub to_tick : IsTick (whole (pos to))
-  to_tick = tick_of t (Op.Past z) e to b to (omega arith)
+  to_tick = tick_of t (Op.Ever z) e to b to (omega arith)
 
   -- the time of the turn does not lie behind the end
   pub to_last : whole (pos to) ≤ʳ stop t.trace
-  to_last = last_to t (Op.Past z) e to b
+  to_last = last_to t (Op.Ever z) e to b
 
   -- the time of the turn does not lie before the start
   pub to_first : start t.trace ≤ʳ whole (pos to)
@@ -149,12 +149,12 @@ module _ (t : Turn) (z : Endless) (e : Held) (to : ℕ) (b : Belongs t (Op.Past 
 
   -- the input's front does not lie behind the end
   pub front_last : whole (front_at t.ended (pos t.now) (subformula t.nodes z.window.of)) ≤ʳ stop t.trace
-  front_last = front_by_stop t (Op.Past z) e to b z.window.of
+  front_last = front_by_stop t (Op.Ever z) e to b z.window.of
 
   -- the input is told as far as the window looks, or to the end
   pub told_far : (shifted (whole (pos to)) z.window.high ≤ʳ whole (front_at t.ended (pos t.now) (subformula t.nodes z.window.of)))
       ⊎ ((whole (front_at t.ended (pos t.now) (subformula t.nodes z.window.of)) ≈ stop t.trace) × (whole (pos to) ≈ stop t.trace))
-  told_far = told_as_far t (Op.Past z) e to b z.window.of z.window.high far
+  told_far = told_as_far t (Op.Ever z) e to b z.window.of z.window.high far
 
   -- how much earlier its input stands is the same at every number, but at the end
   pub stays_begun : (g : ℤ) → t.before ≡ Some g → (whole g ≈ stop t.trace)
@@ -232,7 +232,7 @@ module _ (t : Turn) (z : Endless) (e : Held) (to : ℕ) (b : Belongs t (Op.Past 
     )
 
     -- of its input's edge what is not needed has gone
-    pub past_edges : (s : Past) (e' : Held) → s.window ≡ z.window → HasPassed x s e' → value s.at ≈ whole (pos to) → pos (begin_of t) ≤ℤ F
+    pub past_edges : (s : Ever) (e' : Held) → s.window ≡ z.window → HasPassed x s e' → value s.at ≈ whole (pos to) → pos (begin_of t) ≤ℤ F
         → Sheds (shifted end z.window.high) z.window.of e e' → HasSwept t e e' to
     past_edges s e' window came there begun shed = record {
       inputs = λ node j left found reads. by_node node j left (some_is (sym found ∙ b.at)) reads;
@@ -297,15 +297,15 @@ module _ (t : Turn) (z : Endless) (e : Held) (to : ℕ) (b : Belongs t (Op.Past 
             × ((edge_at e' z.window.of).number ≡ (edge_at e z.window.of).number)) (sym here.back) (cut, shed.number))))
 
     -- it stands for its node at the number
-    pub past_stands : (from : Rational) (old s : Past) (z' : Endless) (e' : Held) → CanPass x own from (whole (pos to)) old e
+    pub past_stands : (from : Rational) (old s : Ever) (z' : Endless) (e' : Held) → CanPass x own from (whole (pos to)) old e
         → old.window ≡ z.window → s.window ≡ old.window
         → HasPassed x s e' → pos (begin_of t) ≤ℤ F
         → IsSomeAnd s.last (λ r. (value r.at ≡ value s.at) × (value r.at ≈ end) × IsThere (best_of x old.window) (reach_before t + own) (value r.at) r.value)
-        → z'.window ≡ z.window → z'.past ≡ Some s → StandsNow t (Op.Past z') e' to
+        → z'.window ≡ z.window → z'.past ≡ Some s → StandsNow t (Op.Ever z') e' to
     past_stands from old s z' e' can old_window s_window came begun last window is node found =
-        subst (λ (k : Node). Stands k t.nodes t.place t.trace (Some (pos to)) (Op.Past z') (seen_by k e')) (some_is (sym b.at ∙ found)) (
+        subst (λ (k : Node). Stands k t.nodes t.place t.trace (Some (pos to)) (Op.Ever z') (seen_by k e')) (some_is (sym b.at ∙ found)) (
           subst (IsPastOf b.node) (sym window) b.stands.0,
-          subst (λ (o : Option Past). MatchOption o ((seen_by b.node e' ≡ []) × HasWaitedPast z' (begin_of t) (reach_before t + own) (Some (pos to)))
+          subst (λ (o : Option Ever). MatchOption o ((seen_by b.node e' ≡ []) × HasWaitedPast z' (begin_of t) (reach_before t + own) (Some (pos to)))
               (λ s. (s.window ≡ z'.window) × HasPassedTo t.nodes t.place t.trace z'.window.of own s (seen_by b.node e') (pos to))) (sym is)
               (s_window ∙ old_window ∙ sym window, swept),
         )

@@ -23,17 +23,17 @@ use Rattle.stl_syntax.specs.Trace.{start, stop}
 use Rattle.online_robust.specs.Held.{Edge, Held, edge_at, fresh_at, held_at, held_of, no_edge, with_edge, with_read, without}
 use Rattle.online_robust.specs.Lines.{end_of, margin_of, IsOneLine}
 use Rattle.online_robust.specs.Queues.{IsBetterOf, IsBestOf}
-use Rattle.online_robust.specs.Reading.{IsThere, LosesAt}
+use Rattle.online_robust.specs.ReadLines.{IsThere, LosesAt}
 use Rattle.online_robust.specs.Sweeping.{AreFrozen, EndsAt, IsBefore, IsFrozen, IsNoKnot, IsOn, IsUpTo, Mark}
 use Rattle.online_robust.specs.Told.{AreFit, AreJoined, AreTold, IsMovedBy, IsTick}
 use Rattle.online_robust.specs.WindowPasts.{AreKept, IsFollowed, IsPastAt, IsSettled, IsUnder}
 use Rattle.online_robust.specs.Windows.{IsCore, IsStanding, IsTickEnd, IsToCome, IsUnfixed, IsUnfixedUnder}
 use Rattle.online_robust.specs.Windows.{Scope, Sheds, at_time, before_start, gap_of, input_of, no_gap}
-use Rattle.online_robust.specs.declared.ends.Gap.{Gap}
+use Rattle.online_robust.specs.declared.ends.Rim.{Rim}
 use Rattle.online_robust.specs.declared.line.MarginLine.{MarginLine}
 use Rattle.online_robust.specs.declared.line.MarginLine.TheVariants as L
 use Rattle.online_robust.specs.declared.line.Reached.{Reached}
-use Rattle.online_robust.specs.declared.past.Past.{Past}
+use Rattle.online_robust.specs.declared.ever.Ever.{Ever}
 use Rattle.online_robust.proofs.HighLemmas.{read_count, read_edge, read_held, read_others}
 use Rattle.online_robust.proofs.JoinedLemmas.{joined_to}
 use Rattle.online_robust.proofs.Losses.{loses_at_both, loses_at_none, took}
@@ -48,7 +48,7 @@ use Rattle.online_robust.proofs.WindowPoints.{no_sheds}
 some_is : {X : Type 0} {a b : X} → Some a ≡ Some b → a ≡ b
 some_is h = cc
 
-module _ (x : Scope) (p : Past) (e : Held) (at : IsPastAt x p e) where
+module _ (x : Scope) (p : Ever) (e : Held) (at : IsPastAt x p e) where
   abbrev pub h : Rational
   h = shifted (value p.at) p.window.high
 
@@ -119,7 +119,7 @@ module _ (x : Scope) (p : Past) (e : Held) (at : IsPastAt x p e) where
 
   -- the gap that stands behind the point
   gap_behind : (c : Comes) (a b : Frac) (m : Margin) (w : Frac) (v : Margin) (rest : List MarginLine) → c.rest ≡ L.Gap a b m ∷ L.Point w v ∷ rest
-      → (g : Gap) → g ≡ record { shape = m; until = Some b; stands = true }
+      → (g : Rim) → g ≡ record { shape = m; until = Some b; stands = true }
       → IsOn (input_of x p.window.side) x.reach (value c.u) g × IsBefore (value c.u) g.until × IsToCome x g.until (L.Point w v ∷ rest)
   gap_behind c a b m w v rest is g g_is =
       let told = subst (AreTold (Robustness x.formula x.trace)) is c.told in
@@ -127,7 +127,7 @@ module _ (x : Scope) (p : Past) (e : Held) (at : IsPastAt x p e) where
       let joined = subst (AreJoined (value c.u) x.front) is c.joined in
       let before : value c.u <ʳ value b = lt_of_le_of_lt (ge_of_same joined.0) told.0.0 in
       let to_front : value w ≤ʳ x.front = joined_to (value w) x.front (Robustness x.formula x.trace) rest told.1.1 joined.2 in
-      subst (λ (z : Gap). IsOn (input_of x p.window.side) x.reach (value c.u) z × IsBefore (value c.u) z.until × IsToCome x z.until (L.Point w v ∷ rest))
+      subst (λ (z : Rim). IsOn (input_of x p.window.side) x.reach (value c.u) z × IsBefore (value c.u) z.until × IsToCome x z.until (L.Point w v ∷ rest))
       (sym g_is) (
         record {
           told = λ t y z. inl (
@@ -145,10 +145,10 @@ module _ (x : Scope) (p : Past) (e : Held) (at : IsPastAt x p e) where
       )
 
   -- where there is none the input has ended
-  nothing_behind : (c : Comes) → c.rest ≡ [] → h <ʳ x.bound → (g : Gap) → g ≡ no_gap p.none
+  nothing_behind : (c : Comes) → c.rest ≡ [] → h <ʳ x.bound → (g : Rim) → g ≡ no_gap p.none
       → IsOn (input_of x p.window.side) x.reach (value c.u) g × IsBefore (value c.u) g.until × IsToCome x g.until []
   nothing_behind c is more g g_is = subst
-      (λ (z : Gap). IsOn (input_of x p.window.side) x.reach (value c.u) z × IsBefore (value c.u) z.until × IsToCome x z.until []) (sym g_is)
+      (λ (z : Rim). IsOn (input_of x p.window.side) x.reach (value c.u) z × IsBefore (value c.u) z.until × IsToCome x z.until []) (sym g_is)
       (by_ended at.ended, tt, (refl, beyond))
     where
       at_front : value c.u ≈ x.front
@@ -168,7 +168,7 @@ module _ (x : Scope) (p : Past) (e : Held) (at : IsPastAt x p e) where
 
   -- the gap about the high end, up to the point
   pub high_from : (m : Rational) × IsOn (input_of x p.window.side) x.reach m p.gap × IsBefore m p.gap.until
-  high_from = subst (λ (g : Gap). (m : Rational) × IsOn (input_of x p.window.side) x.reach m g × IsBefore m g.until) (sym at.core.last)
+  high_from = subst (λ (g : Rim). (m : Rational) × IsOn (input_of x p.window.side) x.reach m g × IsBefore m g.until) (sym at.core.last)
       (last_from (input_of x p.window.side) x.reach at.core.from (before_start p.none p.start) at.core.marks at.core.runs)
 
   -- the gap's margin may be moved
@@ -193,7 +193,7 @@ module _ (x : Scope) (p : Past) (e : Held) (at : IsPastAt x p e) where
       low_of t k is = subst (λ (z : ℤ). shifted t z <ʳ t) (sym is) (record { lt = let q = mul-pos t.positive t.positive in omega (arith, q) })
 
   -- the high end has gone on over the point: one mark more
-  module _ (c : Comes) (next : Gap) (on : IsOn (input_of x p.window.side) x.reach (value c.u) next) (before : IsBefore (value c.u) next.until) where
+  module _ (c : Comes) (next : Rim) (on : IsOn (input_of x p.window.side) x.reach (value c.u) next) (before : IsBefore (value c.u) next.until) where
     abbrev pub mark : Mark
     mark = record { at = c.u; point = c.v; after = next }
 
@@ -209,7 +209,7 @@ module _ (x : Scope) (p : Past) (e : Held) (at : IsPastAt x p e) where
       constants = cs;
       begun = at.core.begun;
       runs = runs_more (input_of x p.window.side) x.reach at.core.from (before_start p.none p.start) at.core.marks mark at.core.runs
-          (subst (λ (g : Gap). EndsAt g.until (value c.u)) at.core.last c.ends) c.there on before;
+          (subst (λ (g : Rim). EndsAt g.until (value c.u)) at.core.last c.ends) c.there on before;
       by = by_more h at.core.marks mark at.core.by (le_of_same c.here);
       last = sym (last_more (before_start p.none p.start) at.core.marks mark);
       low_later = at.core.low_later;
@@ -236,7 +236,7 @@ module _ (x : Scope) (p : Past) (e : Held) (at : IsPastAt x p e) where
     gone_plain one = (
       gone at.core.constants
           (frozen_none p.window.side (shifted (start x.trace) p.window.low) (before_start p.none p.start) at.core.marks mark at.core.constants at.core.frozen
-          (subst (λ (g : Gap). IsNoKnot (shifted (start x.trace) p.window.low) g mark) at.core.last (inl one))),
+          (subst (λ (g : Rim). IsNoKnot (shifted (start x.trace) p.window.low) g mark) at.core.last (inl one))),
       at.best,
     )
 
@@ -249,8 +249,8 @@ module _ (x : Scope) (p : Past) (e : Held) (at : IsPastAt x p e) where
     gone_frozen k r knot frozen better = (
       gone (at.core.constants ++ k ∷ [])
           (frozen_more p.window.side (shifted (start x.trace) p.window.low) (before_start p.none p.start) at.core.marks mark at.core.constants k at.core.frozen
-          (λ no. not_plain (subst (λ (g : Gap). IsNoKnot (shifted (start x.trace) p.window.low) g mark) (sym at.core.last) no))
-          (subst (λ (g : Gap). IsFrozen p.window.side g.shape c.v next.shape (value c.u) k) at.core.last frozen)),
+          (λ no. not_plain (subst (λ (g : Rim). IsNoKnot (shifted (start x.trace) p.window.low) g mark) (sym at.core.last) no))
+          (subst (λ (g : Rim). IsFrozen p.window.side g.shape c.v next.shape (value c.u) k) at.core.last frozen)),
       best_behind margin_function p.window.side at.core.constants p.best k r at.best better,
     )
       where
@@ -299,7 +299,7 @@ module _ (x : Scope) (p : Past) (e : Held) (at : IsPastAt x p e) where
         (up_to_end p.gap.until met.ends (le_refl (value met.u)))
 
     -- the gap behind it was entered
-    module _ (more : h <ʳ x.bound) (new : Held) (next : Gap)
+    module _ (more : h <ʳ x.bound) (new : Held) (next : Rim)
         (entered : MatchOption (slice_get (fresh_at e p.window.of) 0) ((next ≡ no_gap p.none) × (new ≡ e))
         (λ y. (next ≡ gap_of y) × (new.edges ≡ with_edge e p.window.of (with_read (edge_at e p.window.of) y)) × (new.start ≡ e.start))) where
       pub record HasEntered : Type 0 where
@@ -331,7 +331,7 @@ module _ (x : Scope) (p : Past) (e : Held) (at : IsPastAt x p e) where
             before = before;
             come = come;
             kept = (
-              subst (λ (g : Gap). IsStanding g (edge_at new p.window.of).seen []) (sym gap)
+              subst (λ (g : Rim). IsStanding g (edge_at new p.window.of).seen []) (sym gap)
                   (subst (λ (y : Held). (edge_at y p.window.of).seen ≡ []) (sym same) kept),
               subst (λ (y : Held). fresh_at y p.window.of ≡ []) (sym same) (is ∙ nil),
             );
@@ -359,7 +359,7 @@ module _ (x : Scope) (p : Past) (e : Held) (at : IsPastAt x p e) where
                 before = before;
                 come = come;
                 kept = (
-                  subst (λ (g : Gap). IsStanding g (edge_at new p.window.of).seen []) (sym gap) (
+                  subst (λ (g : Rim). IsStanding g (edge_at new p.window.of).seen []) (sym gap) (
                     a,
                     b,
                     refl,
@@ -367,7 +367,7 @@ module _ (x : Scope) (p : Past) (e : Held) (at : IsPastAt x p e) where
                   ),
                   ap (λ (y : Edge). y.fresh) new_edge ∙ ap (λ (z : List MarginLine). drop 1 z) f_is,
                 );
-                stands = inl (ap (λ (g : Gap). g.stands) gap);
+                stands = inl (ap (λ (g : Rim). g.stands) gap);
                 shed = λ limit. record {
                   count = 0;
                   is = ap held_of new_edge ∙ read_held (edge_at e p.window.of) (L.Gap a b m) some';

@@ -26,7 +26,7 @@ use Rattle.window_ops.proofs.Ends.{le_shifted, lt_shifted}
 use Rattle.window_ops.proofs.Shifts.{passed}
 use Rattle.online_robust.specs.Held.{Edge, Held, edge_at}
 use Rattle.online_robust.specs.Queues.{IsBest, IsBestOf}
-use Rattle.online_robust.specs.Reading.{IsBuilt, IsThere}
+use Rattle.online_robust.specs.ReadLines.{IsBuilt, IsThere}
 use Rattle.online_robust.specs.Sweeping.{EndsAt, IsBefore}
 use Rattle.online_robust.specs.Told.{IsMovedBy, IsTick}
 use Rattle.online_robust.specs.WindowPasts.{CanPass, HasPassed, IsFitPast, IsPassing, IsPastAt, IsSettled, IsUnder, StaysPast, past_steps}
@@ -34,7 +34,7 @@ use Rattle.online_robust.specs.Windows.{HasTold, IsCore, IsGone, IsOutcome, IsOw
 use Rattle.online_robust.specs.Windows.{IsStep, IsTopOf, IsUnfixedUnder, IsUnmet, IsWindowFault, LeavesAt, Scope}
 use Rattle.online_robust.specs.Windows.{Sheds, at_time, before_start, best_of, input_of, lines_left}
 use Rattle.online_robust.specs.declared.line.Reached.{Reached}
-use Rattle.online_robust.specs.declared.past.Past.{Past}
+use Rattle.online_robust.specs.declared.ever.Ever.{Ever}
 use Rattle.online_robust.specs.declared.window.Window.{Window}
 use Rattle.online_robust.proofs.Builts.{built_first, tick_within}
 use Rattle.online_robust.proofs.PastLemmas.{met, v_is}
@@ -86,7 +86,7 @@ low_early t s k is up down =
     early = record { lt = omega (arith, ints) }
 
 -- the point that is kept is that of the input under the high end
-pub kept_there : (x : Scope) (p : Past) (e : Held) (at : IsPastAt x p e) (r : Reached) → p.point ≡ Some r
+pub kept_there : (x : Scope) (p : Ever) (e : Held) (at : IsPastAt x p e) (r : Reached) → p.point ≡ Some r
     → IsThere (input_of x p.window.side) x.reach (shifted (value p.at) p.window.high) r.value
 kept_there x p e at r some =
     let k = met x p e at r some in
@@ -105,11 +105,11 @@ top_of side none top None cs nil is = inr (nil, is)
 top_of side none top (Some b) cs best is = inl (subst (λ (m : Margin). IsBest margin_function side cs m) (sym is) best)
 
 -- the high end lies before the end of its gap
-pub settled_before : (p : Past) → IsSettled p → p.point ≡ None → IsBefore (shifted (value p.at) p.window.high) p.gap.until
+pub settled_before : (p : Ever) → IsSettled p → p.point ≡ None → IsBefore (shifted (value p.at) p.window.high) p.gap.until
 settled_before p settled none =
     subst (λ (o : Option Reached). MatchOption o (IsBefore (shifted (value p.at) p.window.high) p.gap.until) (λ r. Unit {0})) none settled
 
-module _ (x : Scope) (p : Past) (e : Held) (at : IsPastAt x p e) (to : Rational) (going : IsPassing x p to)
+module _ (x : Scope) (p : Ever) (e : Held) (at : IsPastAt x p e) (to : Rational) (going : IsPassing x p to)
     (none : p.point ≡ None) (first : Frac) (leave : Option Frac)
     (leaves : LeavesAt p.gap.until p.window.high leave) (by_to : value first ≤ʳ to) (by_leave : IfSome leave (λ u. value first ≤ʳ value u))
     (one : (value first ≡ to) ⊎ IsSomeAnd leave (λ u. value first ≡ value u)) where
@@ -215,7 +215,7 @@ module _ (x : Scope) (p : Past) (e : Held) (at : IsPastAt x p e) (to : Rational)
             (λ _. refl) best low_then.1 lows highs at_high None high_is no_low_point m outcome (λ far. refl)
 
   -- a step fewer is left
-  pub step_fewer : (y : Edge) (q : Past) → value q.at ≡ t → lines_left y ≤ lines_left (edge_at e p.window.of)
+  pub step_fewer : (y : Edge) (q : Ever) → value q.at ≡ t → lines_left y ≤ lines_left (edge_at e p.window.of)
       → (EndsAt p.gap.until (shifted t p.window.high) → lines_left y < lines_left (edge_at e p.window.of))
       → past_steps q y to < lines_left (edge_at e p.window.of) + 1
   step_fewer y q here no_more fewer = subst (λ (z : Rational). lines_left y + (if less z to then 1 else 0) < lines_left (edge_at e p.window.of) + 1) (sym here)
@@ -236,7 +236,7 @@ module _ (x : Scope) (p : Past) (e : Held) (at : IsPastAt x p e) (to : Rational)
           omega (arith, less', one')
 
 -- one step after the other
-pub stays_on : (p q r : Past) → StaysPast p q → StaysPast q r → StaysPast p r
+pub stays_on : (p q r : Ever) → StaysPast p q → StaysPast q r → StaysPast p r
 stays_on p q r k g = record {
   window = g.window ∙ k.window;
   start = g.start ∙ k.start;
@@ -245,11 +245,11 @@ stays_on p q r k g = record {
 }
 
 -- a window that does not move stays as it is
-pub stays_none : (p : Past) → StaysPast p p
+pub stays_none : (p : Ever) → StaysPast p p
 stays_none p = record { window = refl; start = refl; none = refl; last = refl }
 
 -- where the high end has gone on it stands within its gap
-pub passing_on : (x : Scope) (p q : Past) (to : Rational) → IsPassing x p to → StaysPast p q → q.at ≡ p.at → q.point ≡ None
+pub passing_on : (x : Scope) (p q : Ever) (to : Rational) → IsPassing x p to → StaysPast p q → q.at ≡ p.at → q.point ≡ None
     → IsBefore (shifted (value q.at) q.window.high) q.gap.until → IsPassing x q to
 passing_on x p q to g stays same none before = record {
   before = subst (λ (f : Frac). value f <ʳ to) (sym same) g.before;
@@ -260,7 +260,7 @@ passing_on x p q to g stays same none before = record {
 }
 
 -- what is kept of what was told changes nothing of it
-pub with_last : (x : Scope) (p : Past) (e : Held) → IsPastAt x p e → (o : Option Reached) → IsPastAt x (record p { last = o }) e
+pub with_last : (x : Scope) (p : Ever) (e : Held) → IsPastAt x p e → (o : Option Reached) → IsPastAt x (record p { last = o }) e
 with_last x p e at o = record {
   within = at.within;
   fit = at.fit;
@@ -281,13 +281,13 @@ with_last x p e at o = record {
 }
 
 -- a step fewer is left
-pub fewer_both : (p : Past) (x y : Edge) (to : Rational) (n : ℕ) → value p.at <ʳ to → lines_left y ≤ lines_left x → n < lines_left y + 1 → n < past_steps p x to
+pub fewer_both : (p : Ever) (x y : Edge) (to : Rational) (n : ℕ) → value p.at <ʳ to → lines_left y ≤ lines_left x → n < lines_left y + 1 → n < past_steps p x to
 fewer_both p x y to n before no_more step =
     let one : ◌≡◌ {A = ℕ} (if less (value p.at) to then 1 else 0) 1 = ap (λ (b : Bool). if b then 1 else 0) (less_in (value p.at) to before) in
     omega (arith, one, no_more, step)
 
 -- each stop leaves fewer steps
-pub past_falls : (old new : Past) (x y : Held) (to : Rational) → new.window ≡ old.window
+pub past_falls : (old new : Ever) (x y : Held) (to : Rational) → new.window ≡ old.window
     → past_steps new (edge_at y old.window.of) to < past_steps old (edge_at x old.window.of) to
     → past_steps new (edge_at y new.window.of) to < past_steps old (edge_at x old.window.of) to
 past_falls old new x y to same less' =
@@ -296,7 +296,7 @@ past_falls old new x y to same less' =
 -- ---- a stretch
 
 -- the window goes on to its start, or has come to it
-pub record IsBegun (x : Scope) (own : ℕ) (old p : Past) (old_e e : Held) (r : Reached) : Type 0 where
+pub record IsBegun (x : Scope) (own : ℕ) (old p : Ever) (old_e e : Held) (r : Reached) : Type 0 where
   -- the window has passed up to there
   pub came : HasPassed x p e
   -- and reached that point
@@ -309,7 +309,7 @@ pub record IsBegun (x : Scope) (own : ℕ) (old p : Past) (old_e e : Held) (r : 
   pub shed : Sheds (shifted (value p.at) old.window.high) old.window.of old_e e
 
 -- it tells the stretch up to where it has come
-pub record IsSwept (x : Scope) (own : ℕ) (from to : Rational) (old p : Past) (old_e e : Held) (r : Reached) (knots : List (Knot Margin)) : Type 0 where
+pub record IsSwept (x : Scope) (own : ℕ) (from to : Rational) (old p : Ever) (old_e e : Held) (r : Reached) (knots : List (Knot Margin)) : Type 0 where
   -- the window has passed up to there
   pub came : HasPassed x p e
   -- and reached that point
@@ -325,7 +325,7 @@ pub record IsSwept (x : Scope) (own : ℕ) (from to : Rational) (old p : Past) (
   -- nothing was lost but what may be
   pub shed : Sheds (shifted (value p.at) old.window.high) old.window.of old_e e
 
-module _ (x : Scope) (own : ℕ) (from to : Rational) (s : Past) (e : Held) (can : CanPass x own from to s e) where
+module _ (x : Scope) (own : ℕ) (from to : Rational) (s : Ever) (e : Held) (can : CanPass x own from to s e) where
   -- the start does not lie behind the time
   pub start_by : value s.start ≤ʳ to
   start_by = le_trans (le_of_same can.at.begins) (le_trans can.span.begins can.span.order)
@@ -352,7 +352,7 @@ module _ (x : Scope) (own : ℕ) (from to : Rational) (s : Past) (e : Held) (can
       (told.0, told.1, told.2)
 
   -- once it has come to the start
-  pub begun_told : (now : Past) (now_e : Held) (r : Reached) → s.last ≡ None → IsBegun x own s now e now_e r → value s.start ≤ʳ value r.at
+  pub begun_told : (now : Ever) (now_e : Held) (r : Reached) → s.last ≡ None → IsBegun x own s now e now_e r → value s.start ≤ʳ value r.at
       → (value r.at ≡ value now.at) × (value r.at ≈ from) × IsThere (best_of x s.window) (x.reach + own) (value r.at) r.value
   begun_told now now_e r none b reached =
       let told : HasTold (at_time x (value s.at) (value s.at)) own from s.window None =
@@ -365,7 +365,7 @@ module _ (x : Scope) (own : ℕ) (from to : Rational) (s : Past) (e : Held) (can
       )
 
   -- where it tells from
-  pub swept_first : (now : Past) (now_e : Held) (r : Reached) (built : List (Knot Margin)) → HasPassed x now now_e
+  pub swept_first : (now : Ever) (now_e : Held) (r : Reached) (built : List (Knot Margin)) → HasPassed x now now_e
       → (value r.at ≡ value now.at) × (value r.at ≈ from) × IsThere (best_of x s.window) (x.reach + own) (value r.at) r.value
       → built ≡ record { time = r.at; point = r.value; after = r.value } ∷ [] → Sheds (shifted (value now.at) s.window.high) s.window.of e now_e
       → IsSwept x own from to s now e now_e r built
@@ -380,7 +380,7 @@ module _ (x : Scope) (own : ℕ) (from to : Rational) (s : Past) (e : Held) (can
     shed = shed;
   }
 
-  module _ (now : Past) (now_e : Held) (goes : StaysPast s now) (came : HasPassed x now now_e) where
+  module _ (now : Ever) (now_e : Held) (goes : StaysPast s now) (came : HasPassed x now now_e) where
     -- it may go on before the time `to`
     pub going : (until : Rational) → IsTick until → until ≤ʳ to → value now.at <ʳ until → IsPassing x now until
     going until tick by before = record {
@@ -406,14 +406,14 @@ module _ (x : Scope) (own : ℕ) (from to : Rational) (s : Past) (e : Held) (can
         subst (λ (w : Window). IsWindowFault x w to f) goes.window
         (unmet_fault x (value now.at) now.window to t best reached gone at (ge_of_same same) begun can.span.ends f h)
 
-    sheds_on : (next : Past) (next_e : Held) → value now.at ≤ʳ value next.at → Sheds (shifted (value next.at) now.window.high) now.window.of now_e next_e
+    sheds_on : (next : Ever) (next_e : Held) → value now.at ≤ʳ value next.at → Sheds (shifted (value next.at) now.window.high) now.window.of now_e next_e
         → Sheds (shifted (value now.at) s.window.high) s.window.of e now_e → Sheds (shifted (value next.at) s.window.high) s.window.of e next_e
     sheds_on next next_e rises shed shed' = sheds_both (shifted (value next.at) s.window.high) s.window.of e now_e next_e
         (sheds_later (shifted (value now.at) s.window.high) (shifted (value next.at) s.window.high) s.window.of e now_e (le_shifted s.window.high rises) shed')
         (subst (λ (w : Window). Sheds (shifted (value next.at) w.high) w.of now_e next_e) goes.window shed)
 
     -- a step to the start
-    pub begun_next : (next : Past) (next_e : Held) (r : Reached) (until : Frac) (best : Best Margin) → HasPassed x next next_e → value until ≈ start x.trace
+    pub begun_next : (next : Ever) (next_e : Held) (r : Reached) (until : Frac) (best : Best Margin) → HasPassed x next next_e → value until ≈ start x.trace
         → IsGone (at_time x (value now.at) (value now.at)) now.window (value until) (value next.at) best r
         → Sheds (shifted (value next.at) now.window.high) now.window.of now_e next_e
         → Sheds (shifted (value now.at) s.window.high) s.window.of e now_e → IsBegun x own s next e next_e r
@@ -431,7 +431,7 @@ module _ (x : Scope) (own : ℕ) (from to : Rational) (s : Past) (e : Held) (can
         owns is = subst (λ (w : Window). IsOwned w own) (sym goes.window) is
 
     -- a step that is told
-    pub swept_next : (next : Past) (next_e : Held) (r r' : Reached) (built built' : List (Knot Margin)) → HasPassed x next next_e
+    pub swept_next : (next : Ever) (next_e : Held) (r r' : Reached) (built built' : List (Knot Margin)) → HasPassed x next next_e
         → IsSwept x own from to s now e now_e r built
         → (value r'.at ≡ value next.at) × IsThere (best_of x now.window) (x.reach + own) (value r'.at) r'.value
         → IsBuilt (best_of x now.window) (x.reach + own) from (value next.at) built'

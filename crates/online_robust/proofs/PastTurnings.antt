@@ -22,9 +22,9 @@ use Rattle.online_nodes.specs.StreamedWide.{front_at}
 use Rattle.online_nodes.proofs.RunLaw.{int_order}
 use Rattle.online_robust.specs.Held.{Held, edge_at, held_at}
 use Rattle.online_robust.specs.Told.{IsTick}
-use Rattle.online_robust.specs.Reading.{HasReached, IsThere}
+use Rattle.online_robust.specs.ReadLines.{HasReached, IsThere}
 use Rattle.online_robust.specs.Standing.{HasStood, HasPassedTo, HasWaitedPast}
-use Rattle.online_robust.specs.Turns.{Turn, Belongs, AreInputs, IsInput, back_of, begin_of, from_of, reach_before, seen_by}
+use Rattle.online_robust.specs.Steps.{Step, Belongs, AreInputs, IsInput, back_of, begin_of, from_of, reach_before, seen_by}
 use Rattle.online_robust.specs.Waiting.{HasToldPast, IsBegunPast, silent_margin}
 use Rattle.online_robust.specs.WindowPasts.{CanPass, IsFitPast, IsPastAt, IsSettled, StoodPast}
 use Rattle.online_robust.specs.Windows.{HasTold, IsOwned, IsSpan, Scope, at_time, best_of, scope_at}
@@ -32,7 +32,7 @@ use Rattle.online_robust.specs.declared.endless.Endless.{Endless}
 use Rattle.online_robust.specs.declared.line.MarginLine.{MarginLine}
 use Rattle.online_robust.specs.declared.line.Reached.{Reached}
 use Rattle.online_robust.specs.declared.operator.Operator.TheVariants as Op
-use Rattle.online_robust.specs.declared.past.Past.{Past}
+use Rattle.online_robust.specs.declared.ever.Ever.{Ever}
 use Rattle.online_robust.specs.declared.window.Window.{Window}
 use Rattle.online_robust.proofs.Bridging.{from_none, from_some, inputs_of}
 use Rattle.online_robust.proofs.Looking.{shifted_whole}
@@ -46,9 +46,9 @@ use Rattle.online_robust.proofs.PastBridging.{scope_of, stays_begun, to_first, t
 
 -- ---- a window that goes on
 
-module _ (t : Turn) (z : Endless) (e : Held) (to : ℕ) (b : Belongs t (Op.Past z) e to) (s : Past) (is : z.past ≡ Some s) where
+module _ (t : Step) (z : Endless) (e : Held) (to : ℕ) (b : Belongs t (Op.Ever z) e to) (s : Ever) (is : z.past ≡ Some s) where
   state : (s.window ≡ z.window) × IsSomeAnd t.before (HasPassedTo t.nodes t.place t.trace z.window.of (own t z e to b) s (seen_by b.node e))
-  state = subst (λ (o : Option Past). MatchOption o ((seen_by b.node e ≡ []) × HasWaitedPast z (begin_of t) (reach_before t + own t z e to b) t.before)
+  state = subst (λ (o : Option Ever). MatchOption o ((seen_by b.node e ≡ []) × HasWaitedPast z (begin_of t) (reach_before t + own t z e to b) t.before)
       (λ s. (s.window ≡ z.window) × IsSomeAnd t.before (HasPassedTo t.nodes t.place t.trace z.window.of (own t z e to b) s (seen_by b.node e)))) is b.stands.1
 
   -- the window that goes on is the node's
@@ -75,7 +75,7 @@ module _ (t : Turn) (z : Endless) (e : Held) (to : ℕ) (b : Belongs t (Op.Past 
           (front_at t.ended (pos t.now) (subformula t.nodes z.window.of)) (held_at e z.window.of)) before (input t z e to b)) in
           let last : whole g ≤ʳ whole (pos to) = le_of_lt (lt_whole forth.1) in (
             whole g,
-            sym (from_some t (Op.Past z) e to b g before),
+            sym (from_some t (Op.Ever z) e to b g before),
             subst (λ (v : Window). CanPass (scope_at (subformula t.nodes z.window.of) t.trace (reach_before t)
                 (whole (front_at t.ended (pos t.now) (subformula t.nodes z.window.of)))
                 (shifted (whole (pos to)) v.high) (value s.at)) (own t z e to b) (whole g) (whole (pos to)) s e) state.0
@@ -98,10 +98,10 @@ module _ (t : Turn) (z : Endless) (e : Held) (to : ℕ) (b : Belongs t (Op.Past 
 
 -- ---- a window that begins
 
-module _ (t : Turn) (z : Endless) (e : Held) (to : ℕ) (b : Belongs t (Op.Past z) e to) (none : z.past ≡ None) where
+module _ (t : Step) (z : Endless) (e : Held) (to : ℕ) (b : Belongs t (Op.Ever z) e to) (none : z.past ≡ None) where
   -- a window that waited has seen nothing
   pub waited : (seen_by b.node e ≡ []) × HasWaitedPast z (begin_of t) (reach_before t + own t z e to b) t.before
-  waited = subst (λ (o : Option Past). MatchOption o ((seen_by b.node e ≡ []) × HasWaitedPast z (begin_of t) (reach_before t + own t z e to b) t.before)
+  waited = subst (λ (o : Option Ever). MatchOption o ((seen_by b.node e ≡ []) × HasWaitedPast z (begin_of t) (reach_before t + own t z e to b) t.before)
       (λ s. (s.window ≡ z.window) × IsSomeAnd t.before (HasPassedTo t.nodes t.place t.trace z.window.of (own t z e to b) s (seen_by b.node e)))) none b.stands.1
 
   -- its edge has read nothing
@@ -151,7 +151,7 @@ module _ (t : Turn) (z : Endless) (e : Held) (to : ℕ) (b : Belongs t (Op.Past 
       by_test true f h = absurd (some (ap (λ (l : List MarginLine). slice_get l 0) h))
       by_test false f inputs = (int_order (front_at t.ended (pos t.now) (subformula t.nodes z.window.of)) (pos (begin_of t)) false f, inputs)
 
-  module _ (some : slice_get (held_at e z.window.of) 0 ≢ None) (s : Past) (k : IsBegunPast z.window (begin_of t) z.silent.last s) where
+  module _ (some : slice_get (held_at e z.window.of) 0 ≢ None) (s : Ever) (k : IsBegunPast z.window (begin_of t) z.silent.last s) where
     abbrev f : Subformula
     f = subformula t.nodes z.window.of
 
@@ -249,12 +249,12 @@ module _ (t : Turn) (z : Endless) (e : Held) (to : ℕ) (b : Belongs t (Op.Past 
             → IfSome before (λ g. (g +ℤ z.window.high) <ℤ pos (begin_of t))
             → HasStood (silent_margin z.window.side) (reach_before t + own t z e to b) before o → IfSome before (λ g. (pos (begin_of t) ≤ℤ g) × (g <ℤ pos to))
             → (from : Rational) × (from ≡ from_of t) × CanPass x (own t z e to b) from (whole (pos to)) s e
-        by_told None None is told short stood forth = (start t.trace, sym (from_none t (Op.Past z) e to b is), first_turn told.0 told.1)
+        by_told None None is told short stood forth = (start t.trace, sym (from_none t (Op.Ever z) e to b is), first_turn told.0 told.1)
         by_told None (Some g) is told short (r, kept, reached) forth = absurd (let y : ◌≡◌ {A = Option Reached} None (Some r) = kept in cc)
         by_told (Some r) None is told short stood forth = absurd (let y : ◌≡◌ {A = Option Reached} (Some r) None = stood in cc)
         by_told (Some r) (Some g) is told short (r', kept, reached) forth = (
           whole g,
-          sym (from_some t (Op.Past z) e to b g is),
+          sym (from_some t (Op.Ever z) e to b g is),
           later_turn g r told.0 told.1 short
               (subst (λ (q : Reached). HasReached (silent_margin z.window.side) (reach_before t + own t z e to b) (whole g) (Some q))
               (sym (some_is kept)) reached) forth.0 forth.1,

@@ -10,7 +10,7 @@ use Rattle.frac128.specs.Value.{value}
 use Rattle.stl_syntax.specs.SupInf.{Robustness}
 use Rattle.online_robust.specs.Lines.{end_of, margin_of}
 use Rattle.online_robust.specs.Held.{Held, edge_at, held_at, with_edge, without}
-use Rattle.online_robust.specs.Reading.{Begins, IsAhead, IsThere, LosesAt}
+use Rattle.online_robust.specs.ReadLines.{Begins, IsAhead, IsThere, LosesAt}
 use Rattle.online_robust.specs.Couples.{IsReadTo, Source}
 use Rattle.online_robust.specs.declared.line.MarginLine.{MarginLine}
 use Rattle.online_robust.specs.declared.line.MarginLine.TheVariants.{Point, Gap}

@@ -15,7 +15,7 @@ use Rattle.online_nodes.specs.Needed.{IsReader}
 use Rattle.online_nodes.specs.StreamedWide.{IsUnstreamed, front_at}
 use Rattle.online_nodes.specs.MarginEdges.{shown_number}
 use Rattle.online_robust.specs.Held.{Held, edge_at}
-use Rattle.online_robust.specs.Turns.{back_of, seen_by}
+use Rattle.online_robust.specs.Steps.{back_of, seen_by}
 
 -- the node reads the place, or it does not
 abbrev pub MayRead : Node → ℕ → Type 0

@@ -14,7 +14,7 @@ use Rattle.online_robust.specs.Lines.{end_of}
 use Rattle.online_robust.specs.Held.{Edge, held_of}
 use Rattle.value_laws.specs.declared.margin.Margin.{Margin}
 use Rattle.online_robust.specs.Told.{AreTold, AreFit, AreJoined, IsFitLine, IsMovedBy}
-use Rattle.online_robust.specs.Turns.{AreInputs, AreLeft, IsInput, back_of, IsCut}
+use Rattle.online_robust.specs.Steps.{AreInputs, AreLeft, IsInput, back_of, IsCut}
 use Rattle.online_robust.specs.Pasts.{IsRest}
 use Rattle.online_robust.specs.declared.line.MarginLine.{MarginLine}
 use Rattle.online_robust.specs.declared.line.MarginLine.TheVariants.{Point, Gap}

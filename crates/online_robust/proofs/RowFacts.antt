@@ -14,7 +14,7 @@ use Rattle.stl_syntax.proofs.LawProofs.{last_from}
 use Rattle.online_nodes.specs.MarginEdges.{shown_number}
 use Rattle.online_nodes.specs.StreamedWide.{front_at}
 use Rattle.online_nodes.proofs.RunLaw.{int_order}
-use Rattle.online_robust.specs.Turns.{IsInput}
+use Rattle.online_robust.specs.Steps.{IsInput}
 use Rattle.online_robust.specs.Moving.{IsNext}
 use Rattle.online_robust.specs.Pasts.{Past, trace_of, number_by, shown_by, AreToldOver}
 use Rattle.online_robust.specs.declared.line.MarginLine.{MarginLine}

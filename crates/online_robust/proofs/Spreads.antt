@@ -24,7 +24,7 @@ use Rattle.online_robust.specs.Queues.{StandsFor}
 use Rattle.online_robust.specs.Told.{AreFit, AreJoined, AreTold, IsMovedBy, IsTick}
 use Rattle.online_robust.specs.Sweeping.{AreBy, AreFrozen, EndsAt, IsBefore, IsFrozen, IsNoKnot, IsOn, IsUpTo, Mark, Runs, last_gap}
 use Rattle.online_robust.specs.Windows.{IsSpread, IsStanding, IsToCome, Scope, gap_of, input_of, no_gap}
-use Rattle.online_robust.specs.declared.ends.Gap.{Gap}
+use Rattle.online_robust.specs.declared.ends.Rim.{Rim}
 use Rattle.online_robust.specs.declared.line.MarginLine.{MarginLine}
 use Rattle.online_robust.specs.declared.line.MarginLine.TheVariants as L
 use Rattle.online_robust.specs.declared.queue.Queue.{Queue}
@@ -34,7 +34,7 @@ use Rattle.online_robust.proofs.Marks.{by_more, frozen_more, frozen_none, last_m
 use Rattle.online_robust.proofs.Robustly.{robust_is_function}
 
 -- the last gap, from the last mark on
-pub last_from : (Q : Function) (reach : ℕ) (from : Rational) (low : Gap) (marks : List Mark) → Runs Q reach from low marks
+pub last_from : (Q : Function) (reach : ℕ) (from : Rational) (low : Rim) (marks : List Mark) → Runs Q reach from low marks
     → (m : Rational) × IsOn Q reach m (last_gap low marks) × IsBefore m (last_gap low marks).until
 last_from Q reach from low [] runs = (from, runs.0, runs.1)
 last_from Q reach from low (k ∷ marks) runs = last_from Q reach (value k.at) k.after marks runs.4
@@ -87,7 +87,7 @@ bounded_on p a b t ha hb le le' = by_order (lt_or_same_or_gt a t) (lt_or_same_or
     by_order (inl x) (inr (inl e)) = at b e hb
     by_order (inl x) (inr (inr g)) = absurd (not_lt_of_le le' g)
 
-module _ (x : Scope) (w : Window) (begin : Frac) (none : Margin) (low high : Gap) (q : Queue Margin) (seen fresh : List MarginLine) (l h : Rational)
+module _ (x : Scope) (w : Window) (begin : Frac) (none : Margin) (low high : Rim) (q : Queue Margin) (seen fresh : List MarginLine) (l h : Rational)
     (s : IsSpread x w begin none low high q seen fresh l h) where
   abbrev pub Q : Function
   Q = input_of x w.side
@@ -233,7 +233,7 @@ module _ (x : Scope) (w : Window) (begin : Frac) (none : Margin) (low high : Gap
       }
 
   -- the high end has gone on over the point: one mark more
-  module _ (c : ComesNext) (next : Gap) (tail rest' : List MarginLine) (on : IsOn Q x.reach (value c.p) next) (before : IsBefore (value c.p) next.until)
+  module _ (c : ComesNext) (next : Rim) (tail rest' : List MarginLine) (on : IsOn Q x.reach (value c.p) next) (before : IsBefore (value c.p) next.until)
       (stands : (next.stands ≡ true) ⊎ (next ≡ no_gap none)) (standing : IsStanding next tail []) (come : IsToCome x next.until rest')
       (q' : Queue Margin) (side' : q'.side ≡ w.side) where
     abbrev pub mark : Mark
@@ -254,7 +254,7 @@ module _ (x : Scope) (w : Window) (begin : Frac) (none : Margin) (low high : Gap
       marks = s.marks ++ mark ∷ [];
       constants = cs;
       begun = s.begun;
-      runs = runs_more Q x.reach s.from low s.marks mark s.runs (subst (λ (g : Gap). EndsAt g.until (value c.p)) s.last c.ends)
+      runs = runs_more Q x.reach s.from low s.marks mark s.runs (subst (λ (g : Rim). EndsAt g.until (value c.p)) s.last c.ends)
           (record { told = c.point; bounded = c.bounded; moved = c.moved }) on before;
       by = by_more h s.marks mark s.by (le_of_same c.here);
       ticks = ticks_more s.marks mark s.ticks c.tick;
@@ -264,7 +264,7 @@ module _ (x : Scope) (w : Window) (begin : Frac) (none : Margin) (low high : Gap
       frozen = frozen;
       side = side';
       among = among;
-      standing = standing_more_marks none low s.marks mark (value c.p) s.standing (subst (λ (g : Gap). EndsAt g.until (value c.p)) s.last c.ends) stands;
+      standing = standing_more_marks none low s.marks mark (value c.p) s.standing (subst (λ (g : Rim). EndsAt g.until (value c.p)) s.last c.ends) stands;
       seen_is = seen_more low s.marks mark seen tail s.seen_is standing;
       low_stands = s.low_stands;
       to_come = come;
@@ -287,7 +287,7 @@ module _ (x : Scope) (w : Window) (begin : Frac) (none : Margin) (low high : Gap
         → IsSpread x w begin none low next q' (seen ++ L.Point c.p c.v ∷ tail) rest' l h
     gone_plain e plain = gone s.constants
         (frozen_none w.side (shifted (start x.trace) w.low) low s.marks mark s.constants s.frozen
-        (subst (λ (g : Gap). IsNoKnot (shifted (start x.trace) w.low) g mark) s.last plain))
+        (subst (λ (g : Rim). IsNoKnot (shifted (start x.trace) w.low) g mark) s.last plain))
         (subst (λ (r : Queue Margin). StandsFor margin_function r.older.items r.newer.items r.side r.best s.constants) (sym e) s.among)
 
     -- and else its constant came
@@ -297,6 +297,6 @@ module _ (x : Scope) (w : Window) (begin : Frac) (none : Margin) (low high : Gap
         → IsSpread x w begin none low next q' (seen ++ L.Point c.p c.v ∷ tail) rest' l h
     gone_frozen k knot frozen come' same = gone (s.constants ++ k ∷ [])
         (frozen_more w.side (shifted (start x.trace) w.low) low s.marks mark s.constants k s.frozen
-        (λ no. knot (subst (λ (g : Gap). IsNoKnot (shifted (start x.trace) w.low) g mark) (sym s.last) no))
-        (subst (λ (g : Gap). IsFrozen w.side g.shape c.v next.shape (value c.p) k) s.last frozen))
+        (λ no. knot (subst (λ (g : Rim). IsNoKnot (shifted (start x.trace) w.low) g mark) (sym s.last) no))
+        (subst (λ (g : Rim). IsFrozen w.side g.shape c.v next.shape (value c.p) k) s.last frozen))
         (subst (λ (b : Side). StandsFor margin_function q'.older.items q'.newer.items b q'.best (s.constants ++ k ∷ [])) (sym same) (come' s.constants s.among))

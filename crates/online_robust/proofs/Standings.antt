@@ -15,7 +15,7 @@ use Rattle.online_nodes.proofs.ReadersLaw.{has_reader}
 use Rattle.online_robust.specs.Held.{Edge, Held, edge_at, held_at, no_edge, with_edge, without}
 use Rattle.online_robust.specs.Firsts.{AreFirstStations, IsFirstWork}
 use Rattle.online_robust.specs.Standing.{Stands}
-use Rattle.online_robust.specs.Turns.{seen_by}
+use Rattle.online_robust.specs.Steps.{seen_by}
 use Rattle.online_robust.specs.Pasts.{Past, with_row, with_end, part_of, Gave, IsWork}
 use Rattle.online_robust.specs.Moving.{last_row_of, last_row_after}
 use Rattle.online_robust.specs.Nets.{begun, first_row_of, no_past, AreRowsSoFar, CanGoByEnd, CanGoByRow, HasGone, IsFault}

@@ -15,7 +15,7 @@ use Rattle.atom_lines.specs.Binding.{Binding, IsAtomNode}
 use Rattle.online_nodes.specs.Needed.{IsReader}
 use Rattle.online_nodes.specs.StreamedWide.{front_at}
 use Rattle.online_robust.specs.Held.{Held, edge_at, number_at, with_edge, with_number}
-use Rattle.online_robust.specs.Turns.{Turn, Belongs, HasSwept, IsStreamedFault, IsSwept, StandsNow}
+use Rattle.online_robust.specs.Steps.{Step, Belongs, HasSwept, IsStreamedFault, IsSwept, StandsNow}
 use Rattle.online_robust.specs.Putting.{constant_margin, lines_of, HasPut, HasPutAtom, HasPutRow, IsAtomPiece, IsAtomValue}
 use Rattle.online_robust.specs.Pasts.{Past, trace_of, number_by, shown_by, number_of, shown_of}
 use Rattle.online_robust.specs.Moving.{Move, CanMove, CanGiveOut, CanGoTo, CanMoveByRow, CanMoveByEnd}
@@ -36,15 +36,15 @@ use Rattle.std.proofs.lemmas.Option.{slice_get_within}
 -- ---- an operator gives out
 
 module _ (m : Move) (node : ℕ) (op : Operator) (e : Held) (to : ℕ) (with_first : Bool) (g : CanGiveOut m node op e to with_first) where
-  abbrev pub swept_turn : (t : Turn) × Belongs t op e to
+  abbrev pub swept_turn : (t : Step) × Belongs t op e to
   swept_turn = (turn_of m (trace_of m.header m.new), belongs_now m node op e to with_first g)
 
   -- a refusal of an operator is one of its node
-  pub swept_fault : (f : OpFault Margin) → ((t : Turn) → Belongs t op e to → IsStreamedFault t f) → IsFaultOf m f
+  pub swept_fault : (f : OpFault Margin) → ((t : Step) → Belongs t op e to → IsStreamedFault t f) → IsFaultOf m f
   swept_fault f h = h (turn_of m (trace_of m.header m.new)) (belongs_now m node op e to with_first g)
 
   -- the node has an edge after its operator went on
-  pub swept_edge : (e' : Held) → ((t : Turn) → Belongs t op e to → HasSwept t e e' to) → node < length e'.edges
+  pub swept_edge : (e' : Held) → ((t : Step) → Belongs t op e to → HasSwept t e e' to) → node < length e'.edges
   swept_edge e' h =
       let count = (h swept_turn.0 swept_turn.1).edges in
       let all = g.can.edges in
@@ -53,8 +53,8 @@ module _ (m : Move) (node : ℕ) (op : Operator) (e : Held) (to : ℕ) (with_fir
       omega (arith, count, all, within, place)
 
   -- what the operator told is put on the node's edge
-  pub given_out : (s : List (Knot Margin)) (op' : Operator) (e' e'' e3 : Held) → ((t : Turn) → Belongs t op e to → IsSwept t to s)
-      → ((t : Turn) → Belongs t op e to → HasSwept t e e' to) → ((t : Turn) → Belongs t op e to → StandsNow t op' e' to)
+  pub given_out : (s : List (Knot Margin)) (op' : Operator) (e' e'' e3 : Held) → ((t : Step) → Belongs t op e to → IsSwept t to s)
+      → ((t : Step) → Belongs t op e to → HasSwept t e e' to) → ((t : Step) → Belongs t op e to → StandsNow t op' e' to)
       → HasPut node (lines_of with_first s) e' e'' → e3 ≡ record e'' { edges = with_edge e'' node (with_number (edge_at e'' node) (pos to)) }
       → HasMoved m (W.Operator op') e e3
   given_out s op' e' e'' e3 swept left stands put is =

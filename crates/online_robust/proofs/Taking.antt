@@ -17,7 +17,7 @@ use Rattle.online_nodes.specs.StreamedWide.{front_at}
 use Rattle.online_nodes.proofs.ReadersLaw.{root_unread}
 use Rattle.online_robust.specs.Held.{Edge, Held, edge_at, held_at, held_of, no_edge, number_at, with_edge, without}
 use Rattle.online_robust.specs.Told.{AreTold, AreFit, IsFitLine, IsToldLine}
-use Rattle.online_robust.specs.Turns.{AreInputs, IsInput, seen_by}
+use Rattle.online_robust.specs.Steps.{AreInputs, IsInput, seen_by}
 use Rattle.online_robust.specs.Pasts.{Past, number_of, Gave, AreToldOver, IsHeld, IsWork}
 use Rattle.online_robust.specs.Moving.{AreStreamed}
 use Rattle.online_robust.specs.Nets.{Shows, AreRowsSoFar, IsTimely}

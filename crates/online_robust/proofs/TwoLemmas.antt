@@ -27,7 +27,7 @@ use Rattle.stl_syntax.specs.SupInf.{Robustness}
 use Rattle.online_robust.specs.Lines.{end_of, margin_of}
 use Rattle.online_robust.specs.Held.{Held, edge_at, held_at, held_of, with_edge, without}
 use Rattle.online_robust.specs.Told.{IsMovedBy, IsTick}
-use Rattle.online_robust.specs.Reading.{Begins, HasReached, IsAhead, IsBuilt, IsReady, IsThere, LosesAt, LosesAtBoth, value_turned}
+use Rattle.online_robust.specs.ReadLines.{Begins, HasReached, IsAhead, IsBuilt, IsReady, IsThere, LosesAt, LosesAtBoth, value_turned}
 use Rattle.online_robust.specs.Couples.{CanJoin, Couple, IsCoupleFault, IsJoinedTo, Source, both_of, left_of, right_of}
 use Rattle.online_robust.specs.declared.line.MarginLine.{MarginLine}
 use Rattle.online_robust.specs.declared.line.MarginLine.TheVariants.{Point, Gap}

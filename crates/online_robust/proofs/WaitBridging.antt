@@ -25,10 +25,10 @@ use Rattle.online_nodes.specs.StreamedWide.{front_at}
 use Rattle.online_nodes.proofs.RunLaw.{int_order}
 use Rattle.online_robust.specs.Held.{Edge, Held, edge_at, held_at, held_of}
 use Rattle.online_robust.specs.Told.{IsMovedBy}
-use Rattle.online_robust.specs.Reading.{HasReached, IsStretch, LosesAt}
+use Rattle.online_robust.specs.ReadLines.{HasReached, IsStretch, LosesAt}
 use Rattle.online_robust.specs.Glances.{unseen, CanGlance, Glance, HasGlanced, IsGlanceAt, glance_of, nothing_of}
 use Rattle.online_robust.specs.Standing.{HasStood, HasSweptTo, HasWaited, IsWindowOf, Stands}
-use Rattle.online_robust.specs.Turns.{Turn, Belongs, HasSwept, IsCut, IsSwept, StandsNow, back_of, begin_of, from_of, reach_before, seen_by}
+use Rattle.online_robust.specs.Steps.{Step, Belongs, HasSwept, IsCut, IsSwept, StandsNow, back_of, begin_of, from_of, reach_before, seen_by}
 use Rattle.online_robust.specs.Waiting.{silent_margin, silent_of}
 use Rattle.online_robust.specs.Windows.{Holds, best_of, scope_at}
 use Rattle.online_robust.specs.declared.glance.Moved.{Moved}
@@ -60,7 +60,7 @@ no_lines : (lines : List MarginLine) → slice_get lines 0 ≡ None → lines �
 no_lines [] none = refl
 no_lines (x ∷ lines) none = absurd (let z : ◌≡◌ {A = Option MarginLine} (Some x) None = none in cc)
 
-module _ (t : Turn) (z : Lazy) (e : Held) (to : ℕ) (b : Belongs t (Op.Sweep z) e to) (none : z.sweep ≡ None)
+module _ (t : Step) (z : Lazy) (e : Held) (to : ℕ) (b : Belongs t (Op.Sweep z) e to) (none : z.sweep ≡ None)
     (empty : slice_get (held_at e z.window.of) 0 ≡ None) where
   abbrev w : Window
   w = z.window

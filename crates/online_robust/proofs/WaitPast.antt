@@ -27,10 +27,10 @@ use Rattle.online_nodes.specs.StreamedWide.{front_at}
 use Rattle.online_nodes.proofs.RunLaw.{int_order}
 use Rattle.online_robust.specs.Held.{Edge, Held, edge_at, held_at, held_of}
 use Rattle.online_robust.specs.Told.{IsMovedBy}
-use Rattle.online_robust.specs.Reading.{HasReached, IsStretch, LosesAt}
+use Rattle.online_robust.specs.ReadLines.{HasReached, IsStretch, LosesAt}
 use Rattle.online_robust.specs.Glances.{unseen, CanGlance, Glance, HasGlanced, IsGlanceAt, glance_of, nothing_of}
 use Rattle.online_robust.specs.Standing.{HasStood, HasPassedTo, HasWaitedPast, IsPastOf, Stands}
-use Rattle.online_robust.specs.Turns.{Turn, Belongs, HasSwept, IsCut, IsSwept, StandsNow, back_of, begin_of, from_of, reach_before, seen_by}
+use Rattle.online_robust.specs.Steps.{Step, Belongs, HasSwept, IsCut, IsSwept, StandsNow, back_of, begin_of, from_of, reach_before, seen_by}
 use Rattle.online_robust.specs.Waiting.{silent_margin, silent_of}
 use Rattle.online_robust.specs.Windows.{Holds}
 use Rattle.online_robust.specs.declared.glance.Moved.{Moved}
@@ -38,7 +38,7 @@ use Rattle.online_robust.specs.declared.endless.Endless.{Endless}
 use Rattle.online_robust.specs.declared.line.MarginLine.{MarginLine}
 use Rattle.online_robust.specs.declared.line.Reached.{Reached}
 use Rattle.online_robust.specs.declared.operator.Operator.TheVariants as Op
-use Rattle.online_robust.specs.declared.past.Past.{Past}
+use Rattle.online_robust.specs.declared.ever.Ever.{Ever}
 use Rattle.online_robust.specs.declared.window.Window.{Window}
 use Rattle.online_robust.proofs.BestPasts.{best_past}
 use Rattle.online_robust.proofs.Bridging.{from_none, from_some, span_from, stood_after, tree}
@@ -62,7 +62,7 @@ no_lines : (lines : List MarginLine) → slice_get lines 0 ≡ None → lines �
 no_lines [] none = refl
 no_lines (x ∷ lines) none = absurd (let z : ◌≡◌ {A = Option MarginLine} (Some x) None = none in cc)
 
-module _ (t : Turn) (z : Endless) (e : Held) (to : ℕ) (b : Belongs t (Op.Past z) e to) (none : z.past ≡ None)
+module _ (t : Step) (z : Endless) (e : Held) (to : ℕ) (b : Belongs t (Op.Ever z) e to) (none : z.past ≡ None)
     (empty : slice_get (held_at e z.window.of) 0 ≡ None) where
   abbrev w : Window
   w = z.window
@@ -86,7 +86,7 @@ module _ (t : Turn) (z : Endless) (e : Held) (to : ℕ) (b : Belongs t (Op.Past 
   nil = no_lines (held_at e w.of) empty
 
   short : (pos to +ℤ z.window.high) <ℤ pos (begin_of t)
-  short = looks_before t (Op.Past z) e to b w.of w.high (far t z e to b) (not_begun t z e to b none empty)
+  short = looks_before t (Op.Ever z) e to b w.of w.high (far t z e to b) (not_begun t z e to b none empty)
 
   abbrev pub silence : Glance
   silence = record {
@@ -124,8 +124,8 @@ module _ (t : Turn) (z : Endless) (e : Held) (to : ℕ) (b : Belongs t (Op.Past 
       stands = by_before t.before refl last stood;
       offset = (silent_at last end).offset;
       own_by = let o = (here t z e to b).own in record { from = o.high_from; to = o.high_to };
-      order = le_trans (span_from t (Op.Past z) e to b).1 (ge_of_same same);
-      from_tick = tick_between (first_tick t z e to b) (to_tick t z e to b) (span_from t (Op.Past z) e to b).0 (span_from t (Op.Past z) e to b).1;
+      order = le_trans (span_from t (Op.Ever z) e to b).1 (ge_of_same same);
+      from_tick = tick_between (first_tick t z e to b) (to_tick t z e to b) (span_from t (Op.Ever z) e to b).0 (span_from t (Op.Ever z) e to b).1;
       to_tick = let tick = to_tick t z e to b in (le_trans tick.0 (ge_of_same same), le_trans (le_of_same same) tick.1);
       bound = le_shifted w.high (le_of_same same);
     }
@@ -133,12 +133,12 @@ module _ (t : Turn) (z : Endless) (e : Held) (to : ℕ) (b : Belongs t (Op.Past 
         by_before : (o : Option ℤ) → t.before ≡ o → (last : Option Reached) → HasStood (silent_margin z.window.side) most o last
             → HasGlanced silence (op last) most e (from_of t) last
         by_before None is None stood =
-            (subst (λ (s : Rational). s ≈ start t.trace) (sym (from_none t (Op.Past z) e to b is)) (same_refl (start t.trace)), λ u early. silent_at None u)
+            (subst (λ (s : Rational). s ≈ start t.trace) (sym (from_none t (Op.Ever z) e to b is)) (same_refl (start t.trace)), λ u early. silent_at None u)
         by_before None is (Some r) stood = absurd (let y : ◌≡◌ {A = Option Reached} (Some r) None = stood in cc)
         by_before (Some g) is None (r, kept, reached) = absurd (let y : ◌≡◌ {A = Option Reached} None (Some r) = kept in cc)
         by_before (Some g) is (Some r) (q, kept, reached) = (
           silent_at (Some r) (value r.at),
-          subst (λ (s : Rational). HasReached (silent_margin z.window.side) most s (Some r)) (sym (from_some t (Op.Past z) e to b g is))
+          subst (λ (s : Rational). HasReached (silent_margin z.window.side) most s (Some r)) (sym (from_some t (Op.Ever z) e to b g is))
               (subst (λ (y : Reached). HasReached (silent_margin z.window.side) most (whole g) (Some y)) (sym (some_is kept)) reached),
         )
 
@@ -155,7 +155,7 @@ module _ (t : Turn) (z : Endless) (e : Held) (to : ℕ) (b : Belongs t (Op.Past 
             signal = is.tells.signal;
             worth = λ u v h.
                 let (within, there) = (is.tells.worth u v).0 h in
-                subst (λ p. Robustness p t.trace u v) (sym (tree t (Op.Past z) e to b))
+                subst (λ p. Robustness p t.trace u v) (sym (tree t (Op.Ever z) e to b))
                 (best_past (subformula t.nodes) t.place b.node w t.trace b.stands.0 (first_tick t z e to b).0 u v
                 (le_trans within.below (le_trans (le_of_same same) (to_tick t z e to b).1)) (best_none u v within.below there));
           }) is.tells.begins (same_trans is.tells.ends same);
@@ -217,11 +217,11 @@ module _ (t : Turn) (z : Endless) (e : Held) (to : ℕ) (b : Belongs t (Op.Past 
     pub wait_stands : (z' : Endless) (e' : Held) → z' ≡ record z { silent = z'.silent }
         → z'.silent ≡ record z.silent { last = z'.silent.last } → IsSome z'.silent.last
         → HasReached (glance_of silence z.silent) (reach_before t + own t z e to b) end z'.silent.last
-        → LosesAt (shifted end z.silent.by) z.silent.of e e' → StandsNow t (Op.Past z') e' to
+        → LosesAt (shifted end z.silent.by) z.silent.of e e' → StandsNow t (Op.Ever z') e' to
     wait_stands z' e' kept silent some given lost node found =
-        subst (λ (k : Node). Stands k t.nodes t.place t.trace (Some (pos to)) (Op.Past z') (seen_by k e')) (some_is (sym b.at ∙ found)) (
+        subst (λ (k : Node). Stands k t.nodes t.place t.trace (Some (pos to)) (Op.Ever z') (seen_by k e')) (some_is (sym b.at ∙ found)) (
           subst (λ (v : Window). IsPastOf b.node v) (sym window) b.stands.0,
-          subst (λ (o : Option Past). MatchOption o ((seen_by b.node e' ≡ []) × HasWaitedPast z' (begin_of t) most (Some (pos to)))
+          subst (λ (o : Option Ever). MatchOption o ((seen_by b.node e' ≡ []) × HasWaitedPast z' (begin_of t) most (Some (pos to)))
               (λ s. (s.window ≡ z'.window) × HasPassedTo t.nodes t.place t.trace z'.window.of (own t z e to b) s (seen_by b.node e') (pos to)))
               (sym no_past) (nothing_seen, still),
         )

@@ -29,12 +29,12 @@ use Rattle.online_robust.specs.Lines.{end_of}
 use Rattle.online_robust.specs.Queues.{StandsFor}
 use Rattle.online_robust.specs.Sweeping.{EndsAt, IsBefore, Mark, Runs, last_gap}
 use Rattle.online_robust.specs.Told.{AreFit, AreJoined, AreTold, IsTick}
-use Rattle.online_robust.specs.Turns.{AreInputs, AreLeft, IsCut, back_of}
-use Rattle.online_robust.specs.Reading.{IsThere}
+use Rattle.online_robust.specs.Steps.{AreInputs, AreLeft, IsCut, back_of}
+use Rattle.online_robust.specs.ReadLines.{IsThere}
 use Rattle.online_robust.specs.Windows.{AreSeen, AreStanding, CanSweep, HasCome, HasTold, IsFitWindow}
 use Rattle.online_robust.specs.Windows.{IsOwn, IsOwned, IsSpan, IsSpread, IsStanding, IsToCome, Scope, Sheds}
 use Rattle.online_robust.specs.Windows.{StoodOver, at_time, before_start, best_of, input_of, no_gap, scope_at}
-use Rattle.online_robust.specs.declared.ends.Gap.{Gap}
+use Rattle.online_robust.specs.declared.ends.Rim.{Rim}
 use Rattle.online_robust.specs.declared.line.MarginLine.{MarginLine}
 use Rattle.online_robust.specs.declared.line.MarginLine.TheVariants as L
 use Rattle.online_robust.specs.declared.line.Reached.{Reached}
@@ -62,7 +62,7 @@ pub no_none : IsSome {T = Frac} None → ⊥
 no_none h = absurd (let z : false ≡ true = h in cc)
 
 -- behind what was read comes the point at the end of the last gap
-pub next_of : (none : Margin) (low : Gap) (marks : List Mark) (seen fresh : List MarginLine) (from to : Rational) → low.stands ≡ true → AreSeen low marks seen
+pub next_of : (none : Margin) (low : Rim) (marks : List Mark) (seen fresh : List MarginLine) (from to : Rational) → low.stands ≡ true → AreSeen low marks seen
     → AreStanding none marks → IsSome (last_gap low marks).until → AreJoined from to (seen ++ fresh) → IsNext (last_gap low marks).until fresh to
 next_of none low [] seen fresh from to stands is standing some joined = by_stands low.stands stands is
   where
@@ -80,7 +80,7 @@ next_of none low (k ∷ marks) seen fresh from to stands (rest, is, more) ((inl 
     by_stands true e (a, c, until, is') go = go (subst (λ (l : List MarginLine). AreJoined from to (l ++ fresh)) is' joined).2
     by_stands false e h go = absurd (let z : false ≡ true = e in cc)
 next_of none low (k ∷ marks) seen fresh from to stands (rest, is, more) ((inr (e, nil)), standing) some joined =
-    absurd (no_none (subst (λ (g : Gap). IsSome g.until) e (subst (λ (l : List Mark). IsSome (last_gap k.after l).until) nil some)))
+    absurd (no_none (subst (λ (g : Rim). IsSome g.until) e (subst (λ (l : List Mark). IsSome (last_gap k.after l).until) nil some)))
 
 -- the later of lines that tell still tell
 pub told_tail : (P : Function) (xs ys : List MarginLine) → AreTold P (xs ++ ys) → AreTold P ys
@@ -105,7 +105,7 @@ some_is : {X : Type 0} {a b : X} → Some a ≡ Some b → a ≡ b
 some_is h = cc
 
 -- the first of the lines that were read is the low gap, if it stands on the edge
-pub front_gap : (low : Gap) (marks : List Mark) (seen : List MarginLine) → low.stands ≡ true → AreSeen low marks seen
+pub front_gap : (low : Rim) (marks : List Mark) (seen : List MarginLine) → low.stands ≡ true → AreSeen low marks seen
     → (a c : Frac) × (rest : List MarginLine) × (low.until ≡ Some c) × (seen ≡ L.Gap a c low.shape ∷ rest)
 front_gap low [] seen stands is = by_stands low.stands stands is
   where
@@ -122,7 +122,7 @@ front_gap low (k ∷ marks) seen stands (rest, is, more) = by_stands low.stands 
     by_stands false e h = absurd (let z : false ≡ true = e in cc)
 
 -- else it is the first mark's point
-pub no_front : (low : Gap) (seen rest : List MarginLine) → low.stands ≡ false → IsStanding low seen rest → seen ≡ rest
+pub no_front : (low : Rim) (seen rest : List MarginLine) → low.stands ≡ false → IsStanding low seen rest → seen ≡ rest
 no_front low seen rest stands is = by_stands low.stands stands is
   where
     by_stands : (b : Bool) → b ≡ false → MatchBool b ((a c : Frac) × (low.until ≡ Some c) × (seen ≡ L.Gap a c low.shape ∷ rest)) (seen ≡ rest) → seen ≡ rest
@@ -152,7 +152,7 @@ module _ (f : Subformula) (tr : Trace) (reach own : ℕ) (g : ℤ) (s : Sweep) (
   marks = st.spread.marks
 
   some_last : IsSome (last_gap s.place.low marks).until
-  some_last = subst (λ (h : Gap). IsSome h.until) st.spread.last some
+  some_last = subst (λ (h : Rim). IsSome h.until) st.spread.last some
 
   low_is : shifted (value s.place.at) s.window.low ≈ whole (g +ℤ s.window.low)
   low_is = moved_whole (value s.place.at) g s.window.low st.at
@@ -174,20 +174,20 @@ module _ (f : Subformula) (tr : Trace) (reach own : ℕ) (g : ℤ) (s : Sweep) (
   by_start : s.place.low ≡ before_start s.none s.start → IsNext (last_gap s.place.low marks).until fresh (whole front)
   by_start is_low =
       let before : shifted (value s.place.at) s.window.low <ʳ value s.start =
-      subst (λ (l : Gap). IsBefore (shifted (value s.place.at) s.window.low) l.until) is_low st.low_before in
+      subst (λ (l : Rim). IsBefore (shifted (value s.place.at) s.window.low) l.until) is_low st.low_before in
       let none = back_before (first_time tr.rows) g s.window.low (shifted (value s.place.at) s.window.low) low_is
       (lt_of_lt_of_le before (le_of_same st.spread.begins)) in
       by_marks marks refl st.spread.seen_is st.spread.standing some_last
       (subst (λ (o : Option ℤ). AreLeft (first_time tr.rows) o front (seen ++ fresh)) none inputs.left)
     where
       stands : s.place.low.stands ≡ false
-      stands = ap (λ (l : Gap). l.stands) is_low
+      stands = ap (λ (l : Rim). l.stands) is_low
 
       by_marks : (ms : List Mark) → marks ≡ ms → AreSeen s.place.low ms seen → AreStanding s.none ms → IsSome (last_gap s.place.low ms).until
           → AreLeft (first_time tr.rows) None front (seen ++ fresh) → IsNext (last_gap s.place.low ms).until fresh (whole front)
       by_marks [] e' is standing some' (at, v, rest, all, when, joined) =
           let nil = no_front s.place.low seen [] stands is in
-          subst (λ (l : Gap). IsNext l.until fresh (whole front)) (sym is_low) (
+          subst (λ (l : Rim). IsNext l.until fresh (whole front)) (sym is_low) (
             at,
             v,
             rest,
@@ -202,7 +202,7 @@ module _ (f : Subformula) (tr : Trace) (reach own : ℕ) (g : ℤ) (s : Sweep) (
           next_of s.none k.after ms rest' fresh (value at) (whole front) stands' more standing some'
           (subst (λ (l : List MarginLine). AreJoined (value at) (whole front) l) (sym tail) joined)
       by_marks (k ∷ ms) e' seen_is ((inr (is, nil)), standing) some' left =
-          absurd (no_none (subst (λ (h : Gap). IsSome h.until) is (subst (λ (l : List Mark). IsSome (last_gap k.after l).until) nil some')))
+          absurd (no_none (subst (λ (h : Rim). IsSome h.until) is (subst (λ (l : List Mark). IsSome (last_gap k.after l).until) nil some')))
 
   by_low : (s.place.low.stands ≡ true) ⊎ (s.place.low ≡ no_gap s.none) ⊎ (s.place.low ≡ before_start s.none s.start)
       → IsNext (last_gap s.place.low marks).until fresh (whole front)
@@ -213,12 +213,12 @@ module _ (f : Subformula) (tr : Trace) (reach own : ℕ) (g : ℤ) (s : Sweep) (
       by_marks : (ms : List Mark) → marks ≡ ms
           → Runs (input_of (scope_at f tr reach st.front st.bound (value s.place.at)) s.window.side) reach st.spread.from s.place.low ms
           → IsSome (last_gap s.place.low ms).until → ⊥
-      by_marks [] e' runs some' = no_none (subst (λ (l : Gap). IsSome l.until) is some')
-      by_marks (k ∷ ms) e' runs some' = subst (λ (l : Gap). EndsAt l.until (value k.at)) is runs.1
+      by_marks [] e' runs some' = no_none (subst (λ (l : Rim). IsSome l.until) is some')
+      by_marks (k ∷ ms) e' runs some' = subst (λ (l : Rim). EndsAt l.until (value k.at)) is runs.1
 
   -- what is to be read of it
   to_come : (bound : Rational) → IsToCome (scope_at f tr reach (whole front) bound (value s.place.at)) s.place.high.until fresh
-  to_come bound = by_until s.place.high.until (subst (λ (h : Gap). IsNext h.until fresh (whole front)) (sym st.spread.last) (by_low st.spread.low_stands))
+  to_come bound = by_until s.place.high.until (subst (λ (h : Rim). IsNext h.until fresh (whole front)) (sym st.spread.last) (by_low st.spread.low_stands))
       st.spread.to_come
     where
       by_until : (o : Option Frac) → IsNext o fresh (whole front)
@@ -337,7 +337,7 @@ can_begin f tr reach own s e front to begins none_value still low high at last s
       here = refl;
       behind = refl;
       within = at_within;
-      low_before = subst (λ (g : Gap). IsBefore (shifted (value s.place.at) s.window.low) g.until) (sym low) low_early;
+      low_before = subst (λ (g : Rim). IsBefore (shifted (value s.place.at) s.window.low) g.until) (sym low) low_early;
       last = subst (λ (o : Option Reached). HasTold x own (start tr) s.window o) (sym last) (same_refl (start tr), early);
       span = record {
         offsets = fit.order;
@@ -409,9 +409,9 @@ can_begin f tr reach own s e front to begins none_value still low high at last s
     placed : IsSpread x s.window s.start s.none s.place.low s.place.high s.among (edge_at e s.window.of).seen (fresh_at e s.window.of)
         (shifted (value s.place.at) s.window.low) (shifted (value s.place.at) s.window.high)
     placed =
-        subst (λ (g : Gap). IsSpread x s.window s.start s.none g s.place.high s.among (edge_at e s.window.of).seen (fresh_at e s.window.of)
+        subst (λ (g : Rim). IsSpread x s.window s.start s.none g s.place.high s.among (edge_at e s.window.of).seen (fresh_at e s.window.of)
         (shifted (value s.place.at) s.window.low) (shifted (value s.place.at) s.window.high)) (sym low)
-        (subst (λ (g : Gap). IsSpread x s.window s.start s.none (before_start s.none s.start) g s.among (edge_at e s.window.of).seen (fresh_at e s.window.of)
+        (subst (λ (g : Rim). IsSpread x s.window s.start s.none (before_start s.none s.start) g s.among (edge_at e s.window.of).seen (fresh_at e s.window.of)
         (shifted (value s.place.at) s.window.low) (shifted (value s.place.at) s.window.high)) (sym high)
         (subst (λ (l : List MarginLine). IsSpread x s.window s.start s.none (before_start s.none s.start) (before_start s.none s.start) s.among l
         (fresh_at e s.window.of) (shifted (value s.place.at) s.window.low) (shifted (value s.place.at) s.window.high)) (sym nil) spread))
@@ -499,7 +499,7 @@ cut_window x first to back front s e' e starts came at F reach inputs early shed
             by_gap (edge_at e s.window.of).seen (edge_at e s.window.of).fresh a c s.place.low.shape more is (lt_of_le_of_lt (ge_of_same at_limit) before)
         by_low (inr (inr is)) =
             let before : shifted (value s.place.at) s.window.low <ʳ value s.start =
-            subst (λ (g : Gap). IsBefore (shifted (value s.place.at) s.window.low) g.until) is came.low_before in
+            subst (λ (g : Rim). IsBefore (shifted (value s.place.at) s.window.low) g.until) is came.low_before in
             absurd (not_lt_of_le (le_whole le) (lt_of_le_of_lt (ge_of_same at_limit)
             (lt_of_lt_of_le before (le_trans (le_of_same came.at.spread.begins) (le_of_same starts)))))
         by_low (inr (inl is)) = by_marks came.at.spread.marks came.at.spread.runs came.at.spread.seen_is came.at.spread.last
@@ -507,10 +507,10 @@ cut_window x first to back front s e' e starts came at F reach inputs early shed
             by_marks : (ms : List Mark) → Runs (input_of x s.window.side) x.reach came.at.spread.from s.place.low ms
                 → AreSeen s.place.low ms (edge_at e s.window.of).seen → s.place.high ≡ last_gap s.place.low ms
                 → IfSome (slice_get (held_at e s.window.of) 0) (λ l. whole (to +ℤ s.window.low) <ʳ value (end_of l))
-            by_marks (k ∷ ms) runs seen last = absurd (subst (λ (g : Gap). EndsAt g.until (value k.at)) is runs.1)
+            by_marks (k ∷ ms) runs seen last = absurd (subst (λ (g : Rim). EndsAt g.until (value k.at)) is runs.1)
             by_marks [] runs seen last =
-                let seen_nil = no_front s.place.low (edge_at e s.window.of).seen [] (ap (λ (g : Gap). g.stands) is) seen in
-                let none : s.place.high.until ≡ None = ap (λ (g : Gap). g.until) (last ∙ is) in
+                let seen_nil = no_front s.place.low (edge_at e s.window.of).seen [] (ap (λ (g : Rim). g.stands) is) seen in
+                let none : s.place.high.until ≡ None = ap (λ (g : Rim). g.until) (last ∙ is) in
                 let fresh_nil = (subst (λ (o : Option Frac). IsToCome (at_time x (value s.place.at) (value s.place.at)) o (fresh_at e s.window.of)) none
                 came.at.spread.to_come).0 in
                 let held_nil : held_at e s.window.of ≡ [] =

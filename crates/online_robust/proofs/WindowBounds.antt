@@ -23,7 +23,7 @@ use Rattle.online_robust.specs.Queues.{IsAmong, StandsFor}
 use Rattle.online_robust.specs.Sweeping.{AreFrozen, EndsAt, IsBefore, IsUpTo, Mark, Runs}
 use Rattle.online_robust.specs.Told.{IsMovedBy}
 use Rattle.online_robust.specs.Windows.{IsAt, IsShifted, IsTopOf, Scope, high_at, input_of, low_at}
-use Rattle.online_robust.specs.declared.ends.Gap.{Gap}
+use Rattle.online_robust.specs.declared.ends.Rim.{Rim}
 use Rattle.online_robust.specs.declared.window.Sweep.{Sweep}
 use Rattle.online_robust.proofs.WindowLaw.{last_on_of, runs_on, up_to_before, up_to_end}
 
@@ -35,7 +35,7 @@ pub none_bounded : (side : Side) → IsBounded (2 ^ 31) (none_of side minus_infi
 none_bounded Greatest = tt
 none_bounded Least = tt
 
-goes_on : (Q : Function) (reach : ℕ) (from : Rational) (low : Gap) (marks : List Mark) → Runs Q reach from low marks → IsBefore from low.until
+goes_on : (Q : Function) (reach : ℕ) (from : Rational) (low : Rim) (marks : List Mark) → Runs Q reach from low marks → IsBefore from low.until
 goes_on Q reach from low [] runs = runs.1
 goes_on Q reach from low (k ∷ marks) runs = by_until low.until runs.1
   where
@@ -44,7 +44,7 @@ goes_on Q reach from low (k ∷ marks) runs = by_until low.until runs.1
     by_until (Some u) e = lt_of_lt_of_le runs.2 (ge_of_same e)
 
 -- the constants of the knots are bounded
-pub frozen_bounded : (Q : Function) (reach : ℕ) (side : Side) (limit from : Rational) (low : Gap) (marks : List Mark) (cs : List Margin)
+pub frozen_bounded : (Q : Function) (reach : ℕ) (side : Side) (limit from : Rational) (low : Rim) (marks : List Mark) (cs : List Margin)
     → Runs Q reach from low marks → AreFrozen side limit low marks cs → (c : Margin) → IsAmong cs c → (t : Rational)
     → IsBounded (2 ^ 31) (value_at (margin_function c) t)
 frozen_bounded Q reach side limit from low [] cs runs frozen c one t = absurd (subst (λ (l : List Margin). IsAmong l c) frozen one)
@@ -94,10 +94,10 @@ module _ (x : Scope) (s : Sweep) (e : Held) (at : IsAt x s e) where
       → IsUpTo (shifted u s.window.high) s.place.high.until
       → IsBounded (2 ^ 31) (value_at (margin_function s.place.high.shape) (shifted u s.window.high))
   high_bounded order u later up =
-      subst (λ (g : Gap). IsBounded (2 ^ 31) (value_at (margin_function g.shape) (shifted u s.window.high))) (sym at.spread.last)
+      subst (λ (g : Rim). IsBounded (2 ^ 31) (value_at (margin_function g.shape) (shifted u s.window.high))) (sym at.spread.last)
       ((last_on_of (input_of x s.window.side) x.reach at.spread.from (high_at x s.window) s.place.low at.spread.marks (le_trans at.spread.begun order)
       at.spread.by at.spread.runs).bounded (shifted u s.window.high) later
-      (subst (λ (g : Gap). IsUpTo (shifted u s.window.high) g.until) at.spread.last up))
+      (subst (λ (g : Rim). IsUpTo (shifted u s.window.high) g.until) at.spread.last up))
 
 -- a moved shape is bounded where the shape is
 pub shifted_bounded : (p : Margin) (k : ℤ) (q : Margin) (u : Rational) → IsShifted p k q → IsBounded (2 ^ 31) (value_at (margin_function p) (shifted u k))
@@ -139,7 +139,7 @@ still_moved reach (Fixed c) e = (omega (arith, ints), omega (arith, ints))
 still_moved reach (Ramp f) e = absurd (let z : true ≡ false = e in cc)
 
 -- a constant stays as it is with time
-pub frozen_still : (side : Side) (limit : Rational) (low : Gap) (marks : List Mark) (cs : List Margin) → AreFrozen side limit low marks cs → (c : Margin)
+pub frozen_still : (side : Side) (limit : Rational) (low : Rim) (marks : List Mark) (cs : List Margin) → AreFrozen side limit low marks cs → (c : Margin)
     → IsAmong cs c → is_ramp c ≡ false
 frozen_still side limit low [] cs frozen c one = absurd (subst (λ (l : List Margin). IsAmong l c) frozen one)
 frozen_still side limit low (k ∷ marks) cs (inl (skip, frozen)) c one = frozen_still side limit k.after marks cs frozen c one

@@ -34,10 +34,10 @@ use Rattle.online_nodes.proofs.RunLaw.{int_order}
 use Rattle.online_robust.specs.Lines.{end_of}
 use Rattle.online_robust.specs.Held.{Held, edge_at, held_at}
 use Rattle.online_robust.specs.Told.{IsMovedBy, IsTick}
-use Rattle.online_robust.specs.Reading.{IsStretch, IsThere}
+use Rattle.online_robust.specs.ReadLines.{IsStretch, IsThere}
 use Rattle.online_robust.specs.Standing.{HasSweptTo, HasWaited, IsWindowOf, Stands}
-use Rattle.online_robust.specs.Turns.{Turn, Belongs, AreInputs, HasSwept, IsCut, IsInput, IsStreamedFault}
-use Rattle.online_robust.specs.Turns.{IsSwept, StandsNow, back_of, begin_of, from_of, reach_before, seen_by}
+use Rattle.online_robust.specs.Steps.{Step, Belongs, AreInputs, HasSwept, IsCut, IsInput, IsStreamedFault}
+use Rattle.online_robust.specs.Steps.{IsSwept, StandsNow, back_of, begin_of, from_of, reach_before, seen_by}
 use Rattle.online_robust.specs.Windows.{CanSweep, HasCome, InPlayOver, IsFitWindow, IsWindowFault, Scope, Sheds, StoodOver, best_of, scope_at}
 use Rattle.online_robust.specs.declared.lazy.Lazy.{Lazy}
 use Rattle.online_robust.specs.declared.line.MarginLine.{MarginLine}
@@ -85,7 +85,7 @@ value_by A B from to p u den more h = record {
   wide = h.wide;
 }
 
-module _ (t : Turn) (z : Lazy) (e : Held) (to : ℕ) (b : Belongs t (Op.Sweep z) e to) where
+module _ (t : Step) (z : Lazy) (e : Held) (to : ℕ) (b : Belongs t (Op.Sweep z) e to) where
   abbrev w : Window
   w = z.window
 

@@ -29,7 +29,7 @@ use Rattle.online_robust.specs.Lines.{IsOneLine}
 use Rattle.online_robust.specs.Queues.{IsAmong}
 use Rattle.online_robust.specs.Sweeping.{AreBy, AreFrozen, EndsAt, IsBefore, IsOn, Mark, Runs}
 use Rattle.online_robust.specs.Windows.{Holds, InPlayOver, IsInPlayOver, IsShifted, Scope, closed, input_of}
-use Rattle.online_robust.specs.declared.ends.Gap.{Gap}
+use Rattle.online_robust.specs.declared.ends.Rim.{Rim}
 use Rattle.online_robust.specs.declared.window.Window.{Window}
 use Rattle.online_robust.proofs.Robustly.{robust_is_function}
 use Rattle.online_robust.proofs.WindowLaw.{before_of_end, runs_on}
@@ -99,7 +99,7 @@ module _ (x : Scope) (side : Side) where
     )
 
   -- a knot: a gap that ends at a time, the point there, and the gap behind it, that are not of one function
-  module _ (low : Gap) (k : Mark) (from : Rational) (on : IsOn Q x.reach from low) (ends : EndsAt low.until (value k.at)) (rises : from <ʳ value k.at)
+  module _ (low : Rim) (k : Mark) (from : Rational) (on : IsOn Q x.reach from low) (ends : EndsAt low.until (value k.at)) (rises : from <ʳ value k.at)
       (point : Q (value k.at) (value_at (margin_function k.point) (value k.at))) (after : IsOn Q x.reach (value k.at) k.after)
       (goes : IsBefore (value k.at) k.after.until) (knot : IsOneLine low.shape k.point k.after.shape (value k.at) → ⊥) where
     abbrev pub u : Rational
@@ -254,7 +254,7 @@ module _ (x : Scope) (side : Side) where
         )
 
   -- a gap goes on behind the mark before it
-  pub own_before : (from : Rational) (low : Gap) (marks : List Mark) → Runs Q x.reach from low marks → IsBefore from low.until
+  pub own_before : (from : Rational) (low : Rim) (marks : List Mark) → Runs Q x.reach from low marks → IsBefore from low.until
   own_before from low [] runs = runs.1
   own_before from low (k ∷ marks) (on, ends, rises, point, rest) = by_until low.until ends
     where
@@ -263,7 +263,7 @@ module _ (x : Scope) (side : Side) where
       by_until (Some u) e = lt_of_lt_of_le rises (ge_of_same e)
 
   -- each of the constants between the ends is in play
-  pub constant_in_play : (w : Window) (tau h limit from : Rational) (low : Gap) (marks : List Mark) (cs : List Margin) → Runs Q x.reach from low marks
+  pub constant_in_play : (w : Window) (tau h limit from : Rational) (low : Rim) (marks : List Mark) (cs : List Margin) → Runs Q x.reach from low marks
       → AreFrozen side limit low marks cs → IsBefore (shifted tau w.low) low.until → h <ʳ shifted tau w.high → AreBy h marks
       → (c : Margin) → IsAmong cs c → (v : Rational) → value_at (margin_function c) tau ≈ᵉ finite v
       → InPlayOver P (start x.trace) (stop x.trace) w tau (margin_function c)
@@ -298,7 +298,7 @@ module _ (x : Scope) (side : Side) where
       by_one (inr one') go = go one'
 
   -- the part under an end, which stands within a gap, is in play
-  module _ (w : Window) (tau : Rational) (order : shifted tau w.low <ʳ shifted tau w.high) (gap : Gap) (from : Rational) (on : IsOn Q x.reach from gap) where
+  module _ (w : Window) (tau : Rational) (order : shifted tau w.low <ʳ shifted tau w.high) (gap : Rim) (from : Rational) (on : IsOn Q x.reach from gap) where
     end_part : (by : ℤ) (p : Margin) → IsShifted gap.shape by p → (by ≡ w.low) ⊎ (by ≡ w.high) → from <ʳ shifted tau by
         → (b : Rational) → shifted tau by <ʳ b → ((t : Rational) → t <ʳ b → IsBefore t gap.until) → (v : Rational)
         → value_at (margin_function p) tau ≈ᵉ finite v

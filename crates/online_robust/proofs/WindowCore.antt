@@ -21,7 +21,7 @@ use Rattle.window_ops.proofs.Ends.{le_shifted, lt_shifted, lt_shifted_back}
 use Rattle.online_robust.specs.Sweeping.{AreBy, EndsAt, IsBefore, IsOn, IsUpTo, Mark}
 use Rattle.online_robust.specs.Told.{IsMovedBy}
 use Rattle.online_robust.specs.Windows.{InPlayOver, IsCore, IsInPlayOver, IsOutcome, IsOwned, IsPointOf, IsShifted, IsStep, IsTopOf, Scope, best_of, input_of}
-use Rattle.online_robust.specs.declared.ends.Gap.{Gap}
+use Rattle.online_robust.specs.declared.ends.Rim.{Rim}
 use Rattle.online_robust.specs.declared.window.Window.{Window}
 use Rattle.online_robust.proofs.Outcomes.{IsIn, best_between}
 use Rattle.online_robust.proofs.WindowLaw.{before_of, before_of_end, last_on_of, runs_on, up_to_of}
@@ -34,7 +34,7 @@ some_and : (P : Margin → Type 0) (o : Option Margin) → IsSomeAnd o P → (m 
 some_and P None h = absurd h
 some_and P (Some m) h = (m, refl, h)
 
-module _ (x : Scope) (w : Window) (none : Margin) (low high : Gap) (l h : Rational) (s : IsCore x w none low high l h) where
+module _ (x : Scope) (w : Window) (none : Margin) (low high : Rim) (l h : Rational) (s : IsCore x w none low high l h) where
   -- both ends move on within their gaps, and the constants stay
   pub core_on : (l' h' : Rational) → l ≤ʳ l' → IsUpTo l' low.until → h ≤ʳ h' → IsUpTo h' high.until → (B : List Margin → Type 0) → B s.constants
       → (d : IsCore x w none low high l' h') × B d.constants
@@ -67,7 +67,7 @@ module _ (x : Scope) (w : Window) (none : Margin) (low high : Gap) (l h : Ration
 
   -- the gap about the high end, from where that end is on
   high_on : l ≤ʳ h → IsOn (input_of x w.side) x.reach h high
-  high_on l_h = subst (λ (g : Gap). IsOn (input_of x w.side) x.reach h g) (sym s.last)
+  high_on l_h = subst (λ (g : Rim). IsOn (input_of x w.side) x.reach h g) (sym s.last)
       (last_on_of (input_of x w.side) x.reach s.from h low s.marks (le_trans s.begun l_h) s.by s.runs)
 
   -- the best of the constants is bounded
@@ -85,7 +85,7 @@ module _ (x : Scope) (w : Window) (none : Margin) (low high : Gap) (l h : Ration
   top_moved top (inr b) = subst (IsMovedBy x.reach) (sym b.1) s.none_moved
 
 -- both ends stand within their gaps and go on to a stop
-module _ (x : Scope) (w : Window) (none : Margin) (low high : Gap) (a : Rational)
+module _ (x : Scope) (w : Window) (none : Margin) (low high : Rim) (a : Rational)
     (s : IsCore x w none low high (shifted a w.low) (shifted a w.high)) (to t : Rational) (g : IsStep w low high a to t) where
   -- the next stop is later than the window's time
   pub later : a <ʳ t
@@ -108,7 +108,7 @@ module _ (x : Scope) (w : Window) (none : Margin) (low high : Gap) (a : Rational
       (le_refl (shifted a w.high)) s.high_later B b
 
   -- the low gap's margin, moved by the low offset
-  low_fit : (low : Gap) → (w.low ≡ neg_ℤ (pos 4294967296) → is_ramp low.shape ≡ false) → (p : Margin)
+  low_fit : (low : Rim) → (w.low ≡ neg_ℤ (pos 4294967296) → is_ramp low.shape ≡ false) → (p : Margin)
       → IsShifted low.shape w.low p → IsMovedBy x.reach low.shape
       → (own : ℕ) → ((neg_ℤ (pos own) ≤ℤ w.low) × (w.low ≤ℤ pos own)) ⊎ (w.low ≡ neg_ℤ (pos 4294967296)) → IsMovedBy (x.reach + own) p
   low_fit low still p moved is own (inl (from, to)) = shifted_moved x.reach own low.shape w.low p moved is from to
@@ -196,17 +196,17 @@ module _ (x : Scope) (w : Window) (none : Margin) (low high : Gap) (a : Rational
   high_seen point is = seen_of (input_of x w.side) x.reach w.high_in w.high high t point g.high
       (λ before. (high_on x w none low high (shifted a w.low) (shifted a w.high) s order_at).told (shifted t w.high) (lt_shifted w.high later) before) is
 
-  low_seen : (low' : Gap) → (¬ EndsAt low.until (shifted t w.low) → low' ≡ low) → (point : Option Margin)
+  low_seen : (low' : Rim) → (¬ EndsAt low.until (shifted t w.low) → low' ≡ low) → (point : Option Margin)
       → IsPointOf (input_of x w.side) x.reach w.low_in w.low low t point → IsSeen (input_of x w.side) x.reach w.low_in w.low low' t point
   low_seen low' stays None (inl out) = inl out
   low_seen low' stays None (inr apart) = inr
-      (subst (λ (g : Gap). input_of x w.side (shifted t w.low) (value_at (margin_function g.shape) (shifted t w.low))) (sym (stays apart))
+      (subst (λ (g : Rim). input_of x w.side (shifted t w.low) (value_at (margin_function g.shape) (shifted t w.low))) (sym (stays apart))
       ((low_on x w none low high (shifted a w.low) (shifted a w.high) s).told (shifted t w.low) (lt_of_le_of_lt s.begun (lt_shifted w.low later))
       (before_apart low.until (shifted t w.low) g.low apart)))
   low_seen low' stays (Some m) (is, ends, there) = (is, there)
 
   -- at the stop, where the low end has gone on
-  module _ (low' : Gap) (s' : IsCore x w none low' high (shifted t w.low) (shifted a w.high)) (before' : IsBefore (shifted t w.low) low'.until)
+  module _ (low' : Rim) (s' : IsCore x w none low' high (shifted t w.low) (shifted a w.high)) (before' : IsBefore (shifted t w.low) low'.until)
       (stays : ¬ EndsAt low.until (shifted t w.low) → low' ≡ low) where
     module _ (best : Best Margin) (top : IsTopOf margin_function w.side none s'.constants best.top) (lows : IsSomeAnd best.low (IsShifted low'.shape w.low))
         (highs : IsSomeAnd best.high (IsShifted high.shape w.high)) (at_high at_low : Option Margin)

@@ -33,7 +33,7 @@ use Rattle.window_ops.proofs.Ends.{at_is, gt_to, le_shifted, lt_shifted, lt_shif
 use Rattle.online_robust.specs.Windows.{Holds, InPlayOver, IsGone, IsInPlayBefore, IsSettledOver, IsSpan}
 use Rattle.online_robust.specs.Windows.{IsUnfixedKnot, IsUnfixedUnder, IsWindowFault, Scope, at_time}
 use Rattle.online_robust.specs.Windows.{closed}
-use Rattle.online_robust.specs.declared.ends.Gap.{Gap}
+use Rattle.online_robust.specs.declared.ends.Rim.{Rim}
 use Rattle.online_robust.specs.declared.line.Reached.{Reached}
 use Rattle.online_robust.specs.declared.window.Window.{Window}
 use Rattle.online_robust.proofs.WindowCauses.{knot_in_play, knot_within}
@@ -114,7 +114,7 @@ module _ (x : Scope) (w : Window) (to : Rational) where
   }
 
 -- a refused constant of a knot
-module _ (x : Scope) (own : ℕ) (from to : Rational) (w : Window) (span : IsSpan x w own from to) (p : Rational) (by : p <ʳ to) (gap : Gap) where
+module _ (x : Scope) (own : ℕ) (from to : Rational) (w : Window) (span : IsSpan x w own from to) (p : Rational) (by : p <ʳ to) (gap : Rim) where
   knot_fault : (q : Margin) (a : Frac) (den : ℕ) → IsUnfixedKnot (at_time x p p) w gap (F.Wide (Value q a den)) → IsWindowFault x w to (F.Wide (Value q a den))
   knot_fault q a den h = by_start (le_or_lt (start x.trace) p)
     where

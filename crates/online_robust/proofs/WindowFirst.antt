@@ -14,7 +14,7 @@ use Rattle.online_robust.specs.Queues.{StandsFor}
 use Rattle.online_robust.specs.Sweeping.{IsOn}
 use Rattle.online_robust.specs.Told.{IsMovedBy, IsTick}
 use Rattle.online_robust.specs.Windows.{IsFitWindow, IsSpread, IsToCome, Scope, before_start, input_of}
-use Rattle.online_robust.specs.declared.ends.Gap.{Gap}
+use Rattle.online_robust.specs.declared.ends.Rim.{Rim}
 use Rattle.online_robust.specs.declared.line.MarginLine.{MarginLine}
 use Rattle.online_robust.specs.declared.queue.Queue.{Queue}
 use Rattle.online_robust.specs.declared.window.Window.{Window}
@@ -71,7 +71,7 @@ abbrev pub told_to : Scope → Rational → Rational → Scope
 told_to x front bound = record { formula = x.formula; trace = x.trace; reach = x.reach; front = front; bound = bound; at = x.at; behind = x.behind }
 
 -- the window stands over an input that is told further
-pub spread_told : (x : Scope) (front bound : Rational) (w : Window) (begin : Frac) (none : Margin) (low high : Gap) (q : Queue Margin)
+pub spread_told : (x : Scope) (front bound : Rational) (w : Window) (begin : Frac) (none : Margin) (low high : Rim) (q : Queue Margin)
     (seen fresh more : List MarginLine) (l h : Rational) → IsSpread x w begin none low high q seen fresh l h
     → (start x.trace ≤ʳ front) × (front ≤ʳ stop x.trace) → (bound ≤ʳ front) ⊎ (front ≈ stop x.trace) → IsToCome (told_to x front bound) high.until more
     → IsSpread (told_to x front bound) w begin none low high q seen more l h

@@ -24,7 +24,7 @@ use Rattle.window_ops.proofs.Values.{reaches_end, reaches_same, reaches_value, w
 use Rattle.online_robust.specs.Lines.{IsOneLine}
 use Rattle.online_robust.specs.Queues.{IsAmong}
 use Rattle.online_robust.specs.Sweeping.{AreBy, AreFrozen, IsBefore, IsFrozen, IsOn, IsUpTo, EndsAt, Mark, Runs, last_gap}
-use Rattle.online_robust.specs.declared.ends.Gap.{Gap}
+use Rattle.online_robust.specs.declared.ends.Rim.{Rim}
 
 -- a function of time is no better on a stretch than at one of its ends
 pub no_better_an_end : (side : Side) (f : Affine) (a b u : Rational) → a ≤ʳ u → u ≤ʳ b
@@ -73,7 +73,7 @@ up_to_before t (Some e) h = le_of_lt h
 
 module _ (Q : Function) (reach : ℕ) where
   -- a gap from a later time on
-  pub on_later : (from later : Rational) (gap : Gap) → from ≤ʳ later → IsOn Q reach from gap → IsOn Q reach later gap
+  pub on_later : (from later : Rational) (gap : Rim) → from ≤ʳ later → IsOn Q reach from gap → IsOn Q reach later gap
   on_later from later gap le on = record {
     told = λ t h k. on.told t (lt_of_le_of_lt le h) k;
     bounded = λ t h k. on.bounded t (le_trans le h) k;
@@ -81,26 +81,26 @@ module _ (Q : Function) (reach : ℕ) where
   }
 
   -- knots that run on have the first gap
-  pub runs_on : (from : Rational) (low : Gap) (marks : List Mark) → Runs Q reach from low marks → IsOn Q reach from low
+  pub runs_on : (from : Rational) (low : Rim) (marks : List Mark) → Runs Q reach from low marks → IsOn Q reach from low
   runs_on from low [] r = r.0
   runs_on from low (k ∷ marks) r = r.0
 
   -- and all behind it, before its first mark
-  pub runs_later : (from later : Rational) (low : Gap) (marks : List Mark) → from ≤ʳ later → IsBefore later low.until → Runs Q reach from low marks
+  pub runs_later : (from later : Rational) (low : Rim) (marks : List Mark) → from ≤ʳ later → IsBefore later low.until → Runs Q reach from low marks
       → Runs Q reach later low marks
   runs_later from later low [] le before r = (on_later from later low le r.0, before)
   runs_later from later low (k ∷ marks) le before (on, ends, order, point, rest) =
       (on_later from later low le on, ends, before_of_end low.until ends before, point, rest)
 
   -- the last gap, from the last mark on
-  pub last_on_of : (from at : Rational) (low : Gap) (marks : List Mark) → from ≤ʳ at → AreBy at marks → Runs Q reach from low marks
+  pub last_on_of : (from at : Rational) (low : Rim) (marks : List Mark) → from ≤ʳ at → AreBy at marks → Runs Q reach from low marks
       → IsOn Q reach at (last_gap low marks)
   last_on_of from at low [] le by r = on_later from at low le r.0
   last_on_of from at low (k ∷ marks) le by (on, ends, order, point, rest) = last_on_of (value k.at) at k.after marks by.0 by.1 rest
 
   module _ (is : IsFunction Q) where
     -- a mark on one line is left out
-    merged_on : (from : Rational) (low : Gap) (k : Mark) → IsOn Q reach from low → EndsAt low.until (value k.at)
+    merged_on : (from : Rational) (low : Rim) (k : Mark) → IsOn Q reach from low → EndsAt low.until (value k.at)
         → from <ʳ value k.at → Q (value k.at) (value_at (margin_function k.point) (value k.at)) → IsOn Q reach (value k.at) k.after
         → IsOneLine low.shape k.point k.after.shape (value k.at) → IsOn Q reach from k.after
     merged_on from low k on ends order point after one = record {
@@ -128,7 +128,7 @@ module _ (Q : Function) (reach : ℕ) where
             (on.bounded t h (up_to_end low.until ends (le_of_lt l)))
 
     -- a knot on one line with both gaps is none
-    pub merged : (from : Rational) (low : Gap) (k : Mark) (marks : List Mark) → Runs Q reach from low (k ∷ marks)
+    pub merged : (from : Rational) (low : Rim) (k : Mark) (marks : List Mark) → Runs Q reach from low (k ∷ marks)
         → IsOneLine low.shape k.point k.after.shape (value k.at) → Runs Q reach from k.after marks
     merged from low k [] (on, ends, order, point, rest) one =
         (merged_on from low k on ends order point.told rest.0 one, before_of k.after.until order (up_to_before (value k.at) k.after.until rest.1))
@@ -142,7 +142,7 @@ module _ (Q : Function) (reach : ℕ) where
       AreUnder (c ∷ cs) = ((t : Rational) → IsNoBetter side (value_at (margin_function c) t) r) × AreUnder cs
 
       -- strictly inside the window no value is better than the limits at the ends and the constants
-      pub inside : (from : Rational) (low : Gap) (marks : List Mark) (cs : List Margin) → Runs Q reach from low marks → AreFrozen side limit low marks cs
+      pub inside : (from : Rational) (low : Rim) (marks : List Mark) (cs : List Margin) → Runs Q reach from low marks → AreFrozen side limit low marks cs
           → limit ≤ʳ from → from <ʳ h → AreBy h marks → ((t : Rational) → t <ʳ h → IsBefore t (last_gap low marks).until)
           → IsNoBetter side (value_at (margin_function low.shape) from) r
           → IsNoBetter side (value_at (margin_function (last_gap low marks).shape) h) r → AreUnder cs
@@ -199,7 +199,7 @@ module _ (Q : Function) (reach : ℕ) where
           (c.0, c.1, c.3, λ u l. before_end k.after.until runs.1 (lt_of_lt_of_le l c.2))
 
       -- what is reached at a mark
-      mark_reached : (from : Rational) (low : Gap) (k : Mark) (marks : List Mark) (c : Margin) → Runs Q reach from low (k ∷ marks) → value k.at ≤ʳ m
+      mark_reached : (from : Rational) (low : Rim) (k : Mark) (marks : List Mark) (c : Margin) → Runs Q reach from low (k ∷ marks) → value k.at ≤ʳ m
           → ((u : Rational) → from <ʳ u → u <ʳ h → W u) → ((u : Rational) → u <ʳ h → IsBefore u (last_gap k.after marks).until)
           → IsFrozen side low.shape k.point k.after.shape (value k.at) c
           → Reaches side none W Q (value_at (margin_function c) (value k.at))
@@ -225,7 +225,7 @@ module _ (Q : Function) (reach : ℕ) where
               (λ t a b. (in_window t (lt_trans rises a) (lt_of_lt_of_le b g.2), on_after.told t a (g.3 t b))))
 
       -- each constant is reached strictly inside the window
-      pub constant_reached : (from : Rational) (low : Gap) (marks : List Mark) (cs : List Margin) (c : Margin) (t : Rational) → Runs Q reach from low marks
+      pub constant_reached : (from : Rational) (low : Rim) (marks : List Mark) (cs : List Margin) (c : Margin) (t : Rational) → Runs Q reach from low marks
           → AreFrozen side limit low marks cs → ((u : Rational) → from <ʳ u → u <ʳ h → W u) → AreBy m marks
           → ((u : Rational) → u <ʳ h → IsBefore u (last_gap low marks).until) → IsAmong cs c → Reaches side none W Q (value_at (margin_function c) t)
       constant_reached from low [] cs c t runs frozen in_window by until one =
@@ -248,7 +248,7 @@ module _ (Q : Function) (reach : ℕ) where
     reaches_of : (side : Side) (none : Extended) (W : Window) (r v : Extended) → IsNoBetter side r v → Reaches side none W Q v → Reaches side none W Q r
     reaches_of side none W r v le h w floor worse = h w floor (worse_than_better side w r v worse le)
 
-    module _ (side : Side) (none : Extended) (limit l m h : Rational) (low : Gap) (marks : List Mark) (cs : List Margin) where
+    module _ (side : Side) (none : Extended) (limit l m h : Rational) (low : Rim) (marks : List Mark) (cs : List Margin) where
       -- between the ends of the window
       pub record IsSpanned : Type 0 where
         -- the knots run on from the low end

@@ -11,7 +11,7 @@ use Rattle.online_nodes.specs.Network.{reach_back}
 use Rattle.online_nodes.specs.Needed.{IsReader}
 use Rattle.online_robust.specs.Held.{Held, edge_at}
 use Rattle.online_robust.specs.Standing.{IsWindowOf, ahead_window, behind_window}
-use Rattle.online_robust.specs.Turns.{seen_by}
+use Rattle.online_robust.specs.Steps.{seen_by}
 use Rattle.online_robust.specs.Windows.{IsOwn}
 use Rattle.online_robust.specs.declared.window.Window.{Window}
 

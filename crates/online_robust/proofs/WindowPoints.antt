@@ -17,12 +17,12 @@ use Rattle.rational.proofs.Shift.{lt_whole}
 use Rattle.rational.proofs.TimeLemmas.{shifted-add}
 use Rattle.frac128.specs.Value.{value}
 use Rattle.frac128.specs.declared.frac.Frac.{Frac}
-use Rattle.frac128.specs.declared.frac.Memory.{Memory}
+use Rattle.frac128.specs.declared.memory.Memory.{Memory}
 use Rattle.value_laws.specs.Margins.{is_ramp, margin_base, margin_function}
 use Rattle.value_laws.specs.declared.margin.Margin.{Margin}
 use Rattle.online_robust.specs.Lines.{margin_of}
 use Rattle.online_robust.specs.Held.{Held, edge_at, fresh_at}
-use Rattle.online_robust.specs.Reading.{IsThere}
+use Rattle.online_robust.specs.ReadLines.{IsThere}
 use Rattle.online_robust.specs.Sweeping.{EndsAt, IsBefore, IsUpTo}
 use Rattle.online_robust.specs.Windows.{IsAt, IsFitWindow, IsHigh, IsLow, IsPointOf, IsShifted, Scope, Sheds, high_at, input_of, low_at}
 use Rattle.online_robust.specs.declared.line.MarginLine.{MarginLine}

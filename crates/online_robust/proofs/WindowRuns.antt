@@ -12,7 +12,7 @@ use Rattle.envelope.specs.declared.best.Best.{Best}
 use Rattle.stl_syntax.specs.Trace.{start}
 use Rattle.window_ops.proofs.Ends.{le_shifted, lt_shifted}
 use Rattle.online_robust.specs.Held.{Held, edge_at}
-use Rattle.online_robust.specs.Reading.{IsBuilt, IsThere}
+use Rattle.online_robust.specs.ReadLines.{IsBuilt, IsThere}
 use Rattle.online_robust.specs.Sweeping.{IsBefore, IsUpTo}
 use Rattle.online_robust.specs.Told.{IsTick}
 use Rattle.online_robust.specs.Windows.{CanSweep, Goes, HasCome, HasTold, IsAt, IsGoing, IsGone, IsOwned, IsSpan}

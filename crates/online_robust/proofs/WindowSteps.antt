@@ -25,7 +25,7 @@ use Rattle.online_robust.specs.Told.{AreFit, IsMovedBy, IsTick}
 use Rattle.online_robust.specs.Windows.{Goes, IsAt, IsCore, IsGoing, IsInPlayOver, IsNextStop, IsOpen}
 use Rattle.online_robust.specs.Windows.{IsOutcome, IsOwned, IsPointOf, IsShifted, IsSpread, IsStep, IsTickEnd}
 use Rattle.online_robust.specs.Windows.{IsToCome, IsTopOf, Keeps, Scope, at_time, best_of, high_at, input_of, low_at}
-use Rattle.online_robust.specs.declared.ends.Gap.{Gap}
+use Rattle.online_robust.specs.declared.ends.Rim.{Rim}
 use Rattle.online_robust.specs.declared.line.MarginLine.{MarginLine}
 use Rattle.online_robust.specs.declared.line.MarginLine.TheVariants as L
 use Rattle.online_robust.specs.declared.queue.Queue.{Queue}
@@ -46,7 +46,7 @@ come_same x at behind None fresh h = h
 come_same x at behind (Some u) fresh h = h
 
 -- a window stands alike at another way to write its time
-pub spread_same : (x : Scope) (at behind : Rational) (w : Window) (begin : Frac) (none : Margin) (low high : Gap)
+pub spread_same : (x : Scope) (at behind : Rational) (w : Window) (begin : Frac) (none : Margin) (low high : Rim)
     (q : Queue Margin) (seen fresh : List MarginLine)
     (l h : Rational) → IsSpread x w begin none low high q seen fresh l h → IsSpread (at_time x at behind) w begin none low high q seen fresh l h
 spread_same x at behind w begin none low high q seen fresh l h s = record {
@@ -98,7 +98,7 @@ module _ (x : Scope) (s : Sweep) (e : Held) (at : IsAt x s e) where
 
   -- the high gap's margin may be moved
   pub high_moved : IsMovedBy x.reach s.place.high.shape
-  high_moved = subst (λ (g : Gap). IsMovedBy x.reach g.shape) (sym at.spread.last)
+  high_moved = subst (λ (g : Rim). IsMovedBy x.reach g.shape) (sym at.spread.last)
       (last_from (input_of x s.window.side) x.reach at.spread.from s.place.low at.spread.marks at.spread.runs).1.moved
 
   -- the high gap ends at a tick
@@ -121,7 +121,7 @@ module _ (x : Scope) (s : Sweep) (e : Held) (at : IsAt x s e) where
 
       by_marks : (ms : List Mark) → s.place.high ≡ last_gap s.place.low ms → AreTicks ms
           → Runs (input_of x s.window.side) x.reach at.spread.from s.place.low ms → IsTickEnd s.place.low.until
-      by_marks [] last ticks runs = subst (λ (g : Gap). IsTickEnd g.until) last high_tick
+      by_marks [] last ticks runs = subst (λ (g : Rim). IsTickEnd g.until) last high_tick
       by_marks (k ∷ ms) last ticks runs = tick_end s.place.low.until (value k.at) runs.1 ticks.0
 
 module _ (x : Scope) (s : Sweep) (e : Held) (at : IsAt x s e) (to : Rational) (o : IsOpen x s to) (t : Rational) (stop : IsNextStop s to t) where
@@ -203,7 +203,7 @@ module _ (x : Scope) (s : Sweep) (e : Held) (at : IsAt x s e) (to : Rational) (o
     pub at_end : IsAt (at_time x t t) s' e'
     at_end = at_moved (at_time x t x.behind) s' e' at' t t (le_refl (shifted t s'.window.low)) at'.spread.low_later
         (le_shifted s'.window.high (le_of_lt behind_later))
-        (subst (λ (g : Gap). IsUpTo (shifted t s'.window.high) g.until) (sym high_same)
+        (subst (λ (g : Rim). IsUpTo (shifted t s'.window.high) g.until) (sym high_same)
         (subst (λ (w : Window). IsUpTo (shifted t w.high) s.place.high.until) (sym keeps.window) stop.high))
 
     module _ (best : Best Margin)
@@ -215,7 +215,7 @@ module _ (x : Scope) (s : Sweep) (e : Held) (at : IsAt x s e) (to : Rational) (o
         (low_is : IsPointOf (input_of x s.window.side) x.reach s.window.low_in s.window.low s.place.low t at_low) (m : Margin)
         (outcome : IsOutcome s'.window.side best.top best.low best.high at_high at_low t m) where
       -- the window then, with what counts
-      abbrev At : Window → Margin → Gap → Rational → Type 0
+      abbrev At : Window → Margin → Rim → Rational → Type 0
       At w none high h = (c : IsCore x w none s'.place.low high (shifted t w.low) (shifted h w.high)) × IsTopOf margin_function w.side none c.constants best.top
 
       then_at : At s'.window s'.none s'.place.high x.behind
@@ -243,7 +243,7 @@ module _ (x : Scope) (s : Sweep) (e : Held) (at : IsAt x s e) (to : Rational) (o
       now_at = subst (λ (z : Rational). At s.window s.none s.place.high z) o.behind
           (subst (λ (w : Window). At w s.none s.place.high x.behind) keeps.window
           (subst (λ (n : Margin). At s'.window n s.place.high x.behind) keeps.none
-          (subst (λ (g : Gap). At s'.window s'.none g x.behind) high_same then_at)))
+          (subst (λ (g : Rim). At s'.window s'.none g x.behind) high_same then_at)))
 
       now_before : IsBefore (shifted t s.window.low) s'.place.low.until
       now_before = subst (λ (w : Window). IsBefore (shifted t w.low) s'.place.low.until) keeps.window before'
@@ -253,7 +253,7 @@ module _ (x : Scope) (s : Sweep) (e : Held) (at : IsAt x s e) (to : Rational) (o
 
       now_high : IsSomeAnd best.high (IsShifted s.place.high.shape s.window.high)
       now_high = subst (λ (w : Window). IsSomeAnd best.high (IsShifted s.place.high.shape w.high)) keeps.window
-          (subst (λ (g : Gap). IsSomeAnd best.high (IsShifted g.shape s'.window.high)) high_same highs)
+          (subst (λ (g : Rim). IsSomeAnd best.high (IsShifted g.shape s'.window.high)) high_same highs)
 
       now_outcome : IsOutcome s.window.side best.top best.low best.high at_high at_low t m
       now_outcome = subst (λ (w : Window). IsOutcome w.side best.top best.low best.high at_high at_low t m) keeps.window outcome
@@ -280,7 +280,7 @@ open_of x s s' to g keeps low_same before = record {
   within = g.within;
   to_within = g.to_within;
   before = g.before;
-  low_before = subst (λ (p : Gap). IsBefore (low_at x s'.window) p.until) (sym low_same)
+  low_before = subst (λ (p : Rim). IsBefore (low_at x s'.window) p.until) (sym low_same)
       (subst (λ (w : Window). IsBefore (low_at x w) s.place.low.until) (sym keeps.window) g.low_before);
   high_before = before;
 }

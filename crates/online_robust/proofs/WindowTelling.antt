@@ -33,7 +33,7 @@ use Rattle.envelope.proofs.Bests.{same_of_both}
 use Rattle.window_ops.specs.Over.{IsBestOver}
 use Rattle.stl_syntax.specs.Trace.{start, stop}
 use Rattle.stl_syntax.specs.SupInf.{Robustness}
-use Rattle.online_robust.specs.Reading.{IsBuilt, IsThere}
+use Rattle.online_robust.specs.ReadLines.{IsBuilt, IsThere}
 use Rattle.online_robust.specs.Told.{IsMovedBy}
 use Rattle.online_robust.specs.Windows.{Holds, IsGoing, IsGone, IsOwned, Scope, best_of}
 use Rattle.online_robust.specs.declared.line.Reached.{Reached}

@@ -25,12 +25,12 @@ use Rattle.online_robust.specs.Held.{Held, edge_at, fresh_at, held_at}
 use Rattle.online_robust.specs.Told.{AreFit, AreTold, IsTick}
 use Rattle.online_robust.specs.Queues.{StandsFor}
 use Rattle.online_robust.specs.Sweeping.{IsBefore}
-use Rattle.online_robust.specs.Reading.{HasReached, IsThere}
+use Rattle.online_robust.specs.ReadLines.{HasReached, IsThere}
 use Rattle.online_robust.specs.Standing.{HasStood, HasSweptTo, HasWaited}
-use Rattle.online_robust.specs.Turns.{Turn, Belongs, AreInputs, IsInput, back_of, begin_of, from_of, reach_before, seen_by}
+use Rattle.online_robust.specs.Steps.{Step, Belongs, AreInputs, IsInput, back_of, begin_of, from_of, reach_before, seen_by}
 use Rattle.online_robust.specs.Waiting.{HasTold, IsBegun, silent_margin}
 use Rattle.online_robust.specs.Windows.{CanSweep, Holds, IsFitWindow, IsOwn, IsSpread, IsToCome, Scope, StoodOver, before_start, best_of, scope_at}
-use Rattle.online_robust.specs.declared.ends.Gap.{Gap}
+use Rattle.online_robust.specs.declared.ends.Rim.{Rim}
 use Rattle.online_robust.specs.declared.lazy.Lazy.{Lazy}
 use Rattle.online_robust.specs.declared.line.MarginLine.{MarginLine}
 use Rattle.online_robust.specs.declared.line.Reached.{Reached}
@@ -50,7 +50,7 @@ use Rattle.online_robust.proofs.WindowPoints.{in_order}
 
 -- ---- a window that goes on
 
-module _ (t : Turn) (z : Lazy) (e : Held) (to : ℕ) (b : Belongs t (Op.Sweep z) e to) (s : Sweep) (is : z.sweep ≡ Some s) where
+module _ (t : Step) (z : Lazy) (e : Held) (to : ℕ) (b : Belongs t (Op.Sweep z) e to) (s : Sweep) (is : z.sweep ≡ Some s) where
   state : (s.window ≡ z.window) × IsSomeAnd t.before (HasSweptTo t.nodes t.place t.trace z.window.of (own t z e to b) s (seen_by b.node e))
   state = subst (λ (o : Option Sweep). MatchOption o ((seen_by b.node e ≡ []) × HasWaited z (begin_of t) (reach_before t + own t z e to b) t.before)
       (λ s. (s.window ≡ z.window) × IsSomeAnd t.before (HasSweptTo t.nodes t.place t.trace z.window.of (own t z e to b) s (seen_by b.node e)))) is b.stands.2
@@ -113,8 +113,8 @@ begun_spread : (f : Subformula) (tr : Trace) (reach : ℕ) (w : Window) (first :
     (shifted at s.window.low) (shifted at s.window.high)
 begun_spread f tr reach w first told s seen fresh front bound at k starts fit tick within ended inputs nil early =
     subst (λ (v : Window). IsSpread x v s.start s.none s.place.low s.place.high s.among seen fresh (shifted at v.low) (shifted at v.high)) (sym k.window)
-    (subst (λ (g : Gap). IsSpread x w s.start s.none g s.place.high s.among seen fresh (shifted at w.low) (shifted at w.high)) (sym k.low)
-    (subst (λ (g : Gap). IsSpread x w s.start s.none (before_start s.none s.start) g s.among seen fresh (shifted at w.low) (shifted at w.high)) (sym k.high)
+    (subst (λ (g : Rim). IsSpread x w s.start s.none g s.place.high s.among seen fresh (shifted at w.low) (shifted at w.high)) (sym k.low)
+    (subst (λ (g : Rim). IsSpread x w s.start s.none (before_start s.none s.start) g s.among seen fresh (shifted at w.low) (shifted at w.high)) (sym k.high)
     (subst (λ (l : List MarginLine). IsSpread x w s.start s.none (before_start s.none s.start)
     (before_start s.none s.start) s.among l fresh (shifted at w.low) (shifted at w.high)) (sym nil)
     (first_spread x w s.start s.none s.among fresh at fit
@@ -159,7 +159,7 @@ none_there f tr reach most front bound at w u v early there = record {
     weak true a d h = h
     weak false a d h = le_of_lt h
 
-module _ (t : Turn) (z : Lazy) (e : Held) (to : ℕ) (b : Belongs t (Op.Sweep z) e to) (none : z.sweep ≡ None) where
+module _ (t : Step) (z : Lazy) (e : Held) (to : ℕ) (b : Belongs t (Op.Sweep z) e to) (none : z.sweep ≡ None) where
   -- a window that waited has seen nothing
   pub waited : (seen_by b.node e ≡ []) × HasWaited z (begin_of t) (reach_before t + own t z e to b) t.before
   waited = subst (λ (o : Option Sweep). MatchOption o ((seen_by b.node e ≡ []) × HasWaited z (begin_of t) (reach_before t + own t z e to b) t.before)
@@ -268,10 +268,10 @@ module _ (t : Turn) (z : Lazy) (e : Held) (to : ℕ) (b : Belongs t (Op.Sweep z)
             (shifted (whole (pos to)) z.window.high) (value s.place.at) k (same_refl (start t.trace)) (fit t z e to b)
             (first_tick t z e to b) in_front (by_told (told_far t z e to b))
             inputs_now nothing_seen early;
-        low_before = subst (λ (g : Gap). IsBefore (shifted (value s.place.at) s.window.low) g.until) (sym k.low)
+        low_before = subst (λ (g : Rim). IsBefore (shifted (value s.place.at) s.window.low) g.until) (sym k.low)
             (subst (λ (v : Window). shifted (value s.place.at) v.low <ʳ value s.start) (sym k.window)
             (lt_of_lt_of_le (in_order (value s.place.at) z.window.low z.window.high b.stands.1) (le_trans (le_of_lt early) (ge_of_same k.begins))));
-        goes_on = inr (subst (λ (g : Gap). IsSome g.until) (sym k.high) refl);
+        goes_on = inr (subst (λ (g : Rim). IsSome g.until) (sym k.high) refl);
         last = subst (λ (o : Option Reached). IsSomeAnd o (λ r. (value r.at ≡ value s.place.at)
             × IsThere (best_of (scope_at f t.trace (reach_before t) (whole F) (shifted (whole (pos to)) z.window.high) (value s.place.at)) s.window)
             (reach_before t + own t z e to b) (value r.at) r.value))

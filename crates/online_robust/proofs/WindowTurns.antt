@@ -15,10 +15,10 @@ use Rattle.pl_signal.specs.Joining.{IsChosen}
 use Rattle.envelope.specs.Turns.{IsNoBetter, none_of}
 use Rattle.envelope.proofs.Bests.{chosen_better, no_better_back, no_better_refl, no_better_same, no_better_trans}
 use Rattle.stl_syntax.specs.Trace.{start}
-use Rattle.online_robust.specs.Reading.{IsThere}
+use Rattle.online_robust.specs.ReadLines.{IsThere}
 use Rattle.online_robust.specs.Sweeping.{IsBefore, IsUpTo}
 use Rattle.online_robust.specs.Windows.{IsBetterOf, IsOutcome, IsPointOf, IsShifted, IsCore, IsTopOf, Scope, best_of, input_of}
-use Rattle.online_robust.specs.declared.ends.Gap.{Gap}
+use Rattle.online_robust.specs.declared.ends.Rim.{Rim}
 use Rattle.online_robust.specs.declared.window.Window.{Window as Wide}
 use Rattle.online_robust.proofs.Outcomes.{IsIn, IsTopOf as IsTop, outcome, times_of, top_one}
 use Rattle.online_robust.proofs.Spreads.{input_is_function}
@@ -93,19 +93,19 @@ worth_is side top low high at_high at_low t left limits over m a b c d = record 
     fourth (inr f) = inr (inr (inr (inr f)))
 
 -- what stands under an end: the point, where there is one, and else the gap's own value
-abbrev pub IsSeen : Function → ℕ → Bool → ℤ → Gap → Rational → Option Margin → Type 0
+abbrev pub IsSeen : Function → ℕ → Bool → ℤ → Rim → Rational → Option Margin → Type 0
 IsSeen Q reach inside by gap t None = (inside ≡ false) ⊎ Q (shifted t by) (value_at (margin_function gap.shape) (shifted t by))
 IsSeen Q reach inside by gap t (Some m) = (inside ≡ true) × ((v : Margin) × IsThere Q reach (shifted t by) v × IsShifted v by m)
 
 -- seen from a gap that goes up to the end
-pub seen_of : (Q : Function) (reach : ℕ) (inside : Bool) (by : ℤ) (gap : Gap) (t : Rational) (point : Option Margin) → IsUpTo (shifted t by) gap.until
+pub seen_of : (Q : Function) (reach : ℕ) (inside : Bool) (by : ℤ) (gap : Rim) (t : Rational) (point : Option Margin) → IsUpTo (shifted t by) gap.until
     → (IsBefore (shifted t by) gap.until → Q (shifted t by) (value_at (margin_function gap.shape) (shifted t by)))
     → IsPointOf Q reach inside by gap t point → IsSeen Q reach inside by gap t point
 seen_of Q reach inside by gap t None reaches told (inl e) = inl e
 seen_of Q reach inside by gap t None reaches told (inr apart) = inr (told (before_apart gap.until (shifted t by) reaches apart))
 seen_of Q reach inside by gap t (Some m) reaches told (is, ends, there) = (is, there)
 
-module _ (x : Scope) (w : Wide) (none : Margin) (low high : Gap) (l h : Rational) (s : IsCore x w none low high l h) where
+module _ (x : Scope) (w : Wide) (none : Margin) (low high : Rim) (l h : Rational) (s : IsCore x w none low high l h) where
   -- the best of the constants is the top
   pub top_is : (top : Margin) → IsTopOf margin_function w.side none s.constants top → IsTop w.side s.constants top
   top_is top (inl b) = record { best = inl b }
@@ -143,7 +143,7 @@ module _ (x : Scope) (w : Wide) (none : Margin) (low high : Gap) (l h : Rational
             (no_better_back w.side (value_at (margin_function high_shape) t)
             (value_at (margin_function high.shape) (shifted t w.high)) (high_moved.value t)) o.of_high
 
-        point_bound : (inside : Bool) (by : ℤ) (gap : Gap) (point : Option Margin)
+        point_bound : (inside : Bool) (by : ℤ) (gap : Rim) (point : Option Margin)
             → IsNoBetter w.side (value_at (margin_function gap.shape) (shifted t by)) (value_at (margin_function m) t) → IsSeen Q x.reach inside by gap t point
             → IfSome point (λ (n : Margin). IsNoBetter w.side (value_at (margin_function n) t) (value_at (margin_function m) t))
             → inside ≡ true → (y : Extended) → Q (shifted t by) y
@@ -193,7 +193,7 @@ module _ (x : Scope) (w : Wide) (none : Margin) (low high : Gap) (l h : Rational
         one (inr (inr (inl e))) hs ls =
             let same : high_shape ≡ m = some_is e in
             IsOneOf.high_limit
-            (subst (λ (g : Gap). IsNoBetter w.side (value_at (margin_function m) t) (value_at (margin_function g.shape) (shifted t w.high))) s.last
+            (subst (λ (g : Rim). IsNoBetter w.side (value_at (margin_function m) t) (value_at (margin_function g.shape) (shifted t w.high))) s.last
             (subst (λ (k : Margin). IsNoBetter w.side (value_at (margin_function k) t) (value_at (margin_function high.shape) (shifted t w.high))) same
             (no_better_same w.side (value_at (margin_function high_shape) t) (value_at (margin_function high.shape) (shifted t w.high)) (high_moved.value t))))
         one (inr (inr (inr (inl e)))) hs ls = high_there at_high hs e

@@ -15,7 +15,7 @@ use Rattle.stl_syntax.specs.Formula.{Subformula}
 use Rattle.stl_syntax.specs.SupInf.{Robustness}
 use Rattle.online_robust.specs.Held.{Held, held_at}
 use Rattle.online_robust.specs.Lines.{end_of}
-use Rattle.online_robust.specs.Reading.{HasReached, IsAhead, IsReady, turned_by}
+use Rattle.online_robust.specs.ReadLines.{HasReached, IsAhead, IsReady, turned_by}
 use Rattle.online_robust.specs.Told.{IsTick}
 use Rattle.online_robust.specs.declared.line.MarginLine.{MarginLine}
 use Rattle.online_robust.specs.declared.pointwise.Not.{Not}

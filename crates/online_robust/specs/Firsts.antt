@@ -6,7 +6,7 @@ use Rattle.stl_syntax.specs.declared.atom.Atom.{Atom}
 use Rattle.stl_syntax.specs.declared.node.Node.{Node}
 use Rattle.stl_syntax.specs.declared.node.Node.TheVariants.{Const, Atom as Leaf}
 use Rattle.online_robust.specs.Standing.{Stands}
-use Rattle.online_robust.specs.Turns.{IsLeaf}
+use Rattle.online_robust.specs.Steps.{IsLeaf}
 use Rattle.online_robust.specs.declared.station.Station.{Station}
 use Rattle.online_robust.specs.declared.station.Work.{Work}
 use Rattle.online_robust.specs.declared.station.Work.TheVariants as W

@@ -12,7 +12,7 @@ use Rattle.stl_syntax.specs.Trace.{Trace, start, stop}
 use Rattle.stl_syntax.specs.Formula.{Subformula}
 use Rattle.stl_syntax.specs.SupInf.{Robustness}
 use Rattle.online_robust.specs.Held.{Held, held_at}
-use Rattle.online_robust.specs.Reading.{Begins, HasReached, IsAhead, IsThere, LosesAt}
+use Rattle.online_robust.specs.ReadLines.{Begins, HasReached, IsAhead, IsThere, LosesAt}
 use Rattle.online_robust.specs.Sweeping.{with_outside}
 use Rattle.online_robust.specs.Told.{IsMovedBy, IsTick}
 use Rattle.online_robust.specs.Windows.{IsShifted}

@@ -19,7 +19,7 @@ use Rattle.online_nodes.specs.Needed.{IsReader}
 use Rattle.online_nodes.specs.StreamedWide.{IsUnstreamed}
 use Rattle.online_robust.specs.Held.{Held, edge_at, held_at, number_at, with_more, with_number}
 use Rattle.online_robust.specs.Told.{AreTold, AreFit, AreJoined}
-use Rattle.online_robust.specs.Turns.{Turn, AreInputs, IsStreamedFault, seen_by}
+use Rattle.online_robust.specs.Steps.{Step, AreInputs, IsStreamedFault, seen_by}
 use Rattle.online_robust.specs.Pasts.{Past, with_row, with_end, trace_of, part_of, number_of, shown_of, IsHeld, IsWork}
 use Rattle.online_robust.specs.declared.line.MarginLine.{MarginLine}
 use Rattle.online_robust.specs.declared.operator.Operator.{Operator}
@@ -130,7 +130,7 @@ abbrev pub CanMoveByEnd : Move → ℕ → Station → Held → ℕ → Type 0
 CanMoveByEnd m node st e now = (m.place ≡ node) × CanMove m st.work e × IsEndNext m now
 
 -- the turn of the node's operator in a trace
-abbrev pub turn_of : Move → Trace → Turn
+abbrev pub turn_of : Move → Trace → Step
 turn_of m tr = record {
   nodes = m.nodes;
   place = m.place;

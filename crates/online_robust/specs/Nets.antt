@@ -17,7 +17,7 @@ use Rattle.online_nodes.specs.Network.{reach_back}
 use Rattle.online_nodes.specs.Needed.{IsReader}
 use Rattle.online_robust.specs.Held.{Held, held_at, number_at}
 use Rattle.online_robust.specs.Told.{IsTick, IsToldLine}
-use Rattle.online_robust.specs.Turns.{seen_by}
+use Rattle.online_robust.specs.Steps.{seen_by}
 use Rattle.online_robust.specs.Pasts.{Past, trace_of, part_of, number_of, Gave, IsHeld, IsWork}
 use Rattle.online_robust.specs.Moving.{Move, AreStreamed, IsNext, IsRowNext, IsEndNext, IsFaultOf, last_row_of}
 use Rattle.online_robust.specs.declared.line.MarginLine.{MarginLine}

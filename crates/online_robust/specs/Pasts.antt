@@ -17,7 +17,7 @@ use Rattle.online_nodes.specs.StreamedWide.{front_at}
 use Rattle.online_robust.specs.Lines.{end_of}
 use Rattle.online_robust.specs.Held.{Held}
 use Rattle.online_robust.specs.Standing.{Stands}
-use Rattle.online_robust.specs.Turns.{IsLeaf, IsInput, back_of, seen_by}
+use Rattle.online_robust.specs.Steps.{IsLeaf, IsInput, back_of, seen_by}
 use Rattle.online_robust.specs.declared.line.MarginLine.{MarginLine}
 use Rattle.online_robust.specs.declared.line.MarginLine.TheVariants.{Point, Gap}
 use Rattle.online_robust.specs.declared.station.Station.{Station}

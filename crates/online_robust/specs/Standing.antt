@@ -12,7 +12,7 @@ use Rattle.stl_syntax.specs.Limits.{own_reach, reach}
 use Rattle.stl_syntax.specs.SupInf.{Robustness}
 use Rattle.stl_syntax.specs.declared.node.Node.{Node}
 use Rattle.stl_syntax.specs.declared.node.Node.TheVariants.{Not, And, Or, Implies, Eventually, Always, Once, Historically}
-use Rattle.online_robust.specs.Reading.{HasReached, turned_by}
+use Rattle.online_robust.specs.ReadLines.{HasReached, turned_by}
 use Rattle.online_robust.specs.Glances.{glance_over}
 use Rattle.online_robust.specs.Waiting.{lazy_of, silent_margin, silent_of}
 use Rattle.online_robust.specs.Windows.{StoodOver}
@@ -24,7 +24,7 @@ use Rattle.online_robust.specs.declared.pointwise.Two.{Two}
 use Rattle.online_robust.specs.declared.glance.Moved.{Moved}
 use Rattle.online_robust.specs.declared.endless.Endless.{Endless}
 use Rattle.online_robust.specs.declared.lazy.Lazy.{Lazy}
-use Rattle.online_robust.specs.declared.past.Past.{Past}
+use Rattle.online_robust.specs.declared.ever.Ever.{Ever}
 use Rattle.online_robust.specs.WindowPasts.{StoodPast}
 use Rattle.online_robust.specs.declared.window.Sweep.{Sweep}
 use Rattle.online_robust.specs.declared.window.Window.{Window}
@@ -112,7 +112,7 @@ pub record HasWaitedPast (z : Endless) (begin most : ℕ) (before : Option ℤ) 
   pub short : IfSome before (λ g. (g +ℤ z.window.high) <ℤ pos begin)
   pub stood : HasStood (silent_margin z.window.side) most before z.silent.last
 
-abbrev pub HasPassedTo : List Node → ℕ → Trace → ℕ → ℕ → Past → List MarginLine → ℤ → Type 0
+abbrev pub HasPassedTo : List Node → ℕ → Trace → ℕ → ℕ → Ever → List MarginLine → ℤ → Type 0
 HasPassedTo nodes place tr of own p seen g =
     StoodPast (subformula nodes of) tr (reach (take place nodes)) own (whole g) p seen
     × ((whole g ≈ stop tr) ⊎ (pos (first_time tr.rows) ≤ℤ ((g +ℤ pos (horizon (subformula nodes place))) -ℤ pos (horizon (subformula nodes of)))))
@@ -127,7 +127,7 @@ Stands n nodes place tr before (Op.Sweep z) seen =
     IsWindowOf n z.window × (z.window.low <ℤ z.window.high)
     × MatchOption z.sweep ((seen ≡ []) × HasWaited z (first_time tr.rows) (reach (take place nodes) + own_reach n) before)
     (λ s. (s.window ≡ z.window) × IsSomeAnd before (HasSweptTo nodes place tr z.window.of (own_reach n) s seen))
-Stands n nodes place tr before (Op.Past z) seen =
+Stands n nodes place tr before (Op.Ever z) seen =
     IsPastOf n z.window
     × MatchOption z.past ((seen ≡ []) × HasWaitedPast z (first_time tr.rows) (reach (take place nodes) + own_reach n) before)
     (λ p. (p.window ≡ z.window) × IsSomeAnd before (HasPassedTo nodes place tr z.window.of (own_reach n) p seen))

@@ -11,9 +11,9 @@ use Rattle.value_laws.specs.declared.margin.Margin.{Margin}
 use Rattle.pl_signal.specs.declared.joining.Side.{Side}
 use Rattle.envelope.specs.Turns.{IsNoBetter}
 use Rattle.online_robust.specs.Lines.{IsOneLine}
-use Rattle.online_robust.specs.Reading.{IsThere}
+use Rattle.online_robust.specs.ReadLines.{IsThere}
 use Rattle.online_robust.specs.Told.{IsMovedBy, IsTick}
-use Rattle.online_robust.specs.declared.ends.Gap.{Gap}
+use Rattle.online_robust.specs.declared.ends.Rim.{Rim}
 
 -- the function inside the domain, and the value of no values outside
 abbrev pub with_outside : Function → Rational → Rational → Extended → Function
@@ -35,7 +35,7 @@ EndsAt None t = ⊥
 EndsAt (Some u) t = value u ≈ t
 
 -- from a time on the gap's margin is the function, within the limits
-pub record IsOn (Q : Function) (reach : ℕ) (from : Rational) (gap : Gap) : Type 0 where
+pub record IsOn (Q : Function) (reach : ℕ) (from : Rational) (gap : Rim) : Type 0 where
   pub told : (t : Rational) → from <ʳ t → IsBefore t gap.until → Q t (value_at (margin_function gap.shape) t)
   pub bounded : (t : Rational) → from ≤ʳ t → IsUpTo t gap.until → IsBounded (2 ^ 31) (value_at (margin_function gap.shape) t)
   pub moved : IsMovedBy reach gap.shape
@@ -44,7 +44,7 @@ pub record IsOn (Q : Function) (reach : ℕ) (from : Rational) (gap : Gap) : Typ
 pub record Mark : Type 0 where
   pub at : Frac
   pub point : Margin
-  pub after : Gap
+  pub after : Rim
 
 -- the marks have times of 32 bits
 abbrev pub AreTicks : List Mark → Type 0
@@ -52,7 +52,7 @@ AreTicks [] = Unit {0}
 AreTicks (k ∷ marks) = IsTick (value k.at) × AreTicks marks
 
 -- the gap behind the last mark
-abbrev pub last_gap : Gap → List Mark → Gap
+abbrev pub last_gap : Rim → List Mark → Rim
 last_gap low [] = low
 last_gap low (k ∷ marks) = last_gap k.after marks
 
@@ -62,14 +62,14 @@ AreBy t [] = Unit {0}
 AreBy t (k ∷ marks) = (value k.at ≤ʳ t) × AreBy t marks
 
 -- from a time on: the low gap up to the first mark, that mark's point, the gap behind it up to the next mark, and so on
-abbrev pub Runs : Function → ℕ → Rational → Gap → List Mark → Type 0
+abbrev pub Runs : Function → ℕ → Rational → Rim → List Mark → Type 0
 Runs Q reach from low [] = IsOn Q reach from low × IsBefore from low.until
 Runs Q reach from low (k ∷ marks) =
     IsOn Q reach from low × EndsAt low.until (value k.at) × (from <ʳ value k.at) × IsThere Q reach (value k.at) k.point
     × Runs Q reach (value k.at) k.after marks
 
 -- a mark that gives no constant: the gaps about it and its point are of one function, or it comes too early
-abbrev pub IsNoKnot : Rational → Gap → Mark → Type 0
+abbrev pub IsNoKnot : Rational → Rim → Mark → Type 0
 IsNoKnot limit low k = IsOneLine low.shape k.point k.after.shape (value k.at) ⊎ (value k.at ≤ʳ limit)
 
 -- the constant is the best of two limits at a time and of the value there
@@ -83,7 +83,7 @@ pub record IsFrozen (side : Side) (before point after : Margin) (u : Rational) (
   pub right : IsNoBetter side (value_at (margin_function after) u) (value_at (margin_function of) u)
 
 -- the constants of the marks that are knots after the limit, in order
-abbrev pub AreFrozen : Side → Rational → Gap → List Mark → List Margin → Type 0
+abbrev pub AreFrozen : Side → Rational → Rim → List Mark → List Margin → Type 0
 AreFrozen side limit low [] cs = cs ≡ []
 AreFrozen side limit low (k ∷ marks) cs =
     (IsNoKnot limit low k × AreFrozen side limit k.after marks cs)

@@ -15,7 +15,7 @@ use Rattle.online_robust.specs.declared.glance.Moved.{Moved}
 use Rattle.online_robust.specs.declared.endless.Endless.{Endless}
 use Rattle.online_robust.specs.declared.lazy.Lazy.{Lazy}
 use Rattle.online_robust.specs.declared.line.Reached.{Reached}
-use Rattle.online_robust.specs.declared.past.Past.{Past}
+use Rattle.online_robust.specs.declared.ever.Ever.{Ever}
 use Rattle.online_robust.specs.declared.window.Sweep.{Sweep}
 use Rattle.online_robust.specs.declared.window.Window.{Window}
 
@@ -53,11 +53,11 @@ pub record IsBegun (w : Window) (start : ℕ) (reached : Option Reached) (s : Sw
   pub told : HasTold start reached s
 
 -- the same of a window without a low end
-abbrev pub HasToldPast : ℕ → Option Reached → Past → Type 0
+abbrev pub HasToldPast : ℕ → Option Reached → Ever → Type 0
 HasToldPast start None p = (value p.at ≈ whole (pos start -ℤ pos 4294967296)) × (p.last ≡ None)
 HasToldPast start (Some r) p = (p.at ≡ r.at) × (p.last ≡ Some r)
 
-pub record IsBegunPast (w : Window) (first : ℕ) (reached : Option Reached) (p : Past) : Type 0 where
+pub record IsBegunPast (w : Window) (first : ℕ) (reached : Option Reached) (p : Ever) : Type 0 where
   pub window : p.window ≡ w
   pub begins : value p.start ≈ whole (pos first)
   pub none : (t : Rational) → value_at (margin_function p.none) t ≈ᵉ none_of w.side minus_infinity infinity

@@ -11,15 +11,15 @@ use Rattle.stl_syntax.specs.Trace.{Trace, start, stop}
 use Rattle.stl_syntax.specs.Formula.{Subformula}
 use Rattle.online_robust.specs.Held.{Edge, Held, edge_at}
 use Rattle.online_robust.specs.Queues.{IsBestOf}
-use Rattle.online_robust.specs.Reading.{IsThere}
+use Rattle.online_robust.specs.ReadLines.{IsThere}
 use Rattle.online_robust.specs.Sweeping.{EndsAt, IsBefore}
 use Rattle.online_robust.specs.Told.{IsTick}
 use Rattle.online_robust.specs.Windows.{HasTold, IsCore, IsSpan, IsStanding, IsToCome, Scope, at_time, before_start, best_of, lines_left, no_gap, scope_at}
-use Rattle.online_robust.specs.declared.ends.Gap.{Gap}
+use Rattle.online_robust.specs.declared.ends.Rim.{Rim}
 use Rattle.online_robust.specs.declared.line.MarginLine.{MarginLine}
 use Rattle.online_robust.specs.declared.line.MarginLine.TheVariants as L
 use Rattle.online_robust.specs.declared.line.Reached.{Reached}
-use Rattle.online_robust.specs.declared.past.Past.{Past}
+use Rattle.online_robust.specs.declared.ever.Ever.{Ever}
 use Rattle.online_robust.specs.declared.window.Window.{Window}
 
 -- the low end lies before any time, and the high end is not ahead
@@ -38,17 +38,17 @@ IsFollowed r lines rest =
     × (lines ≡ L.Point r.at r.value ∷ L.Gap c b m ∷ more))
 
 -- what is to come from the end of the gap about the high end on: the point there was not taken yet; or it was, and it alone is kept
-abbrev pub AreKept : Gap → Option Reached → List MarginLine → Edge → Type 0
+abbrev pub AreKept : Rim → Option Reached → List MarginLine → Edge → Type 0
 AreKept gap None lines x = IsStanding gap x.seen [] × (x.fresh ≡ lines)
 AreKept gap (Some r) lines x = (x.seen ≡ []) × IsFollowed r lines x.fresh
 
 -- where a point is kept the high end stands on it
-abbrev pub IsUnder : Rational → Gap → Option Reached → Type 0
+abbrev pub IsUnder : Rational → Rim → Option Reached → Type 0
 IsUnder h gap None = Unit {0}
 IsUnder h gap (Some r) = (value r.at ≈ h) × EndsAt gap.until h
 
 -- the window stands over its input at the time from which its high end is counted
-pub record IsPastAt (x : Scope) (p : Past) (e : Held) : Type 0 where
+pub record IsPastAt (x : Scope) (p : Ever) (e : Held) : Type 0 where
   pub within : p.window.of < length e.edges
   pub fit : IsFitPast p.window x.reach
   pub tick : IsTick (value p.start)
@@ -67,41 +67,41 @@ pub record IsPastAt (x : Scope) (p : Past) (e : Held) : Type 0 where
   pub stands : (p.gap.stands ≡ true) ⊎ (p.gap ≡ no_gap p.none) ⊎ (p.gap ≡ before_start p.none p.start)
 
 -- where the high end stands on a point, that is kept
-abbrev pub IsSettled : Past → Type 0
+abbrev pub IsSettled : Ever → Type 0
 IsSettled p = MatchOption p.point (IsBefore (shifted (value p.at) p.window.high) p.gap.until) (λ r. Unit {0})
 
 -- all but the time, the gap, the point and the constant stays
-pub record StaysPast (old new : Past) : Type 0 where
+pub record StaysPast (old new : Ever) : Type 0 where
   pub window : new.window ≡ old.window
   pub start : new.start ≡ old.start
   pub none : new.none ≡ old.none
   pub last : new.last ≡ old.last
 
 -- a window goes on to another time
-pub record IsPassing (x : Scope) (p : Past) (to : Rational) : Type 0 where
+pub record IsPassing (x : Scope) (p : Ever) (to : Rational) : Type 0 where
   pub before : value p.at <ʳ to
   pub tick : IsTick to
   pub more : shifted (value p.at) p.window.high <ʳ x.bound
   pub settled : IsSettled p
 
 -- at most so many steps are left: each takes a point, or is the last
-abbrev pub past_steps : Past → Edge → Rational → ℕ
+abbrev pub past_steps : Ever → Edge → Rational → ℕ
 past_steps p x to = lines_left x + (if less (value p.at) to then 1 else 0)
 
 -- a window may go on from one time up to another, over its input
-pub record CanPass (x : Scope) (own : ℕ) (from to : Rational) (p : Past) (e : Held) : Type 0 where
+pub record CanPass (x : Scope) (own : ℕ) (from to : Rational) (p : Ever) (e : Held) : Type 0 where
   pub at : IsPastAt x p e
   pub settled : IsSettled p
   pub last : HasTold (at_time x (value p.at) (value p.at)) own from p.window p.last
   pub span : IsSpan x p.window own from to
 
 -- the window has come to a time
-abbrev pub HasPassed : Scope → Past → Held → Type 0
+abbrev pub HasPassed : Scope → Ever → Held → Type 0
 HasPassed x p e = IsPastAt x p e × IsSettled p
 
 -- a window was told up to g, where its value is kept: it stands over its input as that was told up to some time then, with what it has read of
 -- it, and goes on unless g is the end
-pub record StoodPast (f : Subformula) (tr : Trace) (reach own : ℕ) (g : Rational) (p : Past) (seen : List MarginLine) : Type 0 where
+pub record StoodPast (f : Subformula) (tr : Trace) (reach own : ℕ) (g : Rational) (p : Ever) (seen : List MarginLine) : Type 0 where
   pub at : value p.at ≈ g
   pub front : Rational
   pub bound : Rational

@@ -27,10 +27,10 @@ use Rattle.stl_syntax.specs.SupInf.{Robustness}
 use Rattle.online_robust.specs.Lines.{end_of, margin_of, IsOneLine}
 use Rattle.online_robust.specs.Held.{Edge, Held, edge_at, fresh_at, held_at}
 use Rattle.online_robust.specs.Queues.{IsBest, StandsFor}
-use Rattle.online_robust.specs.Reading.{IsThere}
+use Rattle.online_robust.specs.ReadLines.{IsThere}
 use Rattle.online_robust.specs.Told.{AreFit, AreJoined, AreTold, IsMovedBy, IsTick}
 use Rattle.online_robust.specs.Sweeping.{AreBy, AreFrozen, AreTicks, EndsAt, IsBefore, IsOn, IsUpTo, Mark, Runs, last_gap, with_outside}
-use Rattle.online_robust.specs.declared.ends.Gap.{Gap}
+use Rattle.online_robust.specs.declared.ends.Rim.{Rim}
 use Rattle.online_robust.specs.declared.line.MarginLine.{MarginLine}
 use Rattle.online_robust.specs.declared.line.Reached.{Reached}
 use Rattle.online_robust.specs.declared.line.MarginLine.TheVariants as L
@@ -72,12 +72,12 @@ pub record IsFitWindow (w : Window) (reach : ℕ) : Type 0 where
   pub small : reach ≤ 4294967295
 
 -- the lines are the gap, if it stands on the edge
-abbrev pub IsStanding : Gap → List MarginLine → List MarginLine → Type 0
+abbrev pub IsStanding : Rim → List MarginLine → List MarginLine → Type 0
 IsStanding gap lines rest =
     MatchBool gap.stands ((a b : Frac) × (gap.until ≡ Some b) × (lines ≡ L.Gap a b gap.shape ∷ rest)) (lines ≡ rest)
 
 -- the low gap and the marks are what the high end has read and the low end has not left
-abbrev pub AreSeen : Gap → List Mark → List MarginLine → Type 0
+abbrev pub AreSeen : Rim → List Mark → List MarginLine → Type 0
 AreSeen low [] lines = IsStanding low lines []
 AreSeen low (k ∷ marks) lines =
     (rest : List MarginLine) × IsStanding low lines (L.Point k.at k.point ∷ rest) × AreSeen k.after marks rest
@@ -96,19 +96,19 @@ IsToCome x (Some u) lines =
     × AreTold (Robustness x.formula x.trace) lines × AreFit x.reach lines × AreJoined (value p) x.front rest
 
 -- the gap of a line
-abbrev pub gap_of : MarginLine → Gap
+abbrev pub gap_of : MarginLine → Rim
 gap_of v = record { shape = margin_of v; until = Some (end_of v); stands = true }
 
 -- what lies before the start
-abbrev pub before_start : Margin → Frac → Gap
+abbrev pub before_start : Margin → Frac → Rim
 before_start none begin = record { shape = none; until = Some begin; stands = false }
 
 -- no gap
-abbrev pub no_gap : Margin → Gap
+abbrev pub no_gap : Margin → Rim
 no_gap none = record { shape = none; until = None; stands = false }
 
 -- a window with its ends at two times: the gap about each end, the marks between, and what of them stands where
-pub record IsSpread (x : Scope) (w : Window) (begin : Frac) (none : Margin) (low high : Gap) (q : Queue Margin) (seen fresh : List MarginLine) (l h : Rational)
+pub record IsSpread (x : Scope) (w : Window) (begin : Frac) (none : Margin) (low high : Rim) (q : Queue Margin) (seen fresh : List MarginLine) (l h : Rational)
     : Type 0 where
   pub fit : IsFitWindow w x.reach
   pub tick : IsTick (value begin)
@@ -136,7 +136,7 @@ pub record IsSpread (x : Scope) (w : Window) (begin : Frac) (none : Margin) (low
   pub to_come : IsToCome x high.until fresh
 
 -- the gaps about the ends of a window at two times, the marks between, and the constants that these give
-pub record IsCore (x : Scope) (w : Window) (none : Margin) (low high : Gap) (l h : Rational) : Type 0 where
+pub record IsCore (x : Scope) (w : Window) (none : Margin) (low high : Rim) (l h : Rational) : Type 0 where
   pub order : w.low <ℤ w.high
   pub still : w.low ≡ neg_ℤ (pos 4294967296) → is_ramp low.shape ≡ false
   pub none_value : (t : Rational) → value_at (margin_function none) t ≈ᵉ none_of w.side minus_infinity infinity
@@ -204,7 +204,7 @@ IsUnfixed before point after u (F.Wide (Cross p q a b den)) = ⊥
 IsUnfixed before point after u (F.Wide (Value p at den)) = IsUnstored before point after u p at den
 
 -- it is that of a knot under the high end, which is strictly inside the window after the start
-pub record IsUnfixedKnot (x : Scope) (w : Window) (gap : Gap) (fault : OpFault Margin) : Type 0 where
+pub record IsUnfixedKnot (x : Scope) (w : Window) (gap : Rim) (fault : OpFault Margin) : Type 0 where
   pub k : Mark
   pub here : value k.at ≈ high_at x w
   pub counts : shifted (start x.trace) w.low <ʳ value k.at
@@ -219,7 +219,7 @@ pub record IsUnfixedKnot (x : Scope) (w : Window) (gap : Gap) (fault : OpFault M
   pub by_front : value k.at ≤ʳ x.front
   pub unfixed : IsUnfixed gap.shape k.point k.after.shape k.at fault
 
-abbrev pub IsUnfixedUnder : Scope → Window → Gap → OpFault Margin → Type 0
+abbrev pub IsUnfixedUnder : Scope → Window → Rim → OpFault Margin → Type 0
 IsUnfixedUnder x w gap F.Memory = Unit {0}
 IsUnfixedUnder x w gap (F.Wide pair) = IsUnfixedKnot x w gap (F.Wide pair)
 
@@ -260,7 +260,7 @@ pub record IsNextStop (s : Sweep) (to t : Rational) : Type 0 where
   pub one : (t ≡ to) ⊎ EndsAt s.place.high.until (shifted t s.window.high) ⊎ EndsAt s.place.low.until (shifted t s.window.low)
 
 -- both ends go on from a time, at which they stand within the gaps about them, to a stop
-pub record IsStep (w : Window) (l h : Gap) (at to t : Rational) : Type 0 where
+pub record IsStep (w : Window) (l h : Rim) (at to t : Rational) : Type 0 where
   pub before : at <ʳ to
   pub low_before : IsBefore (shifted at w.low) l.until
   pub high_before : IsBefore (shifted at w.high) h.until
@@ -270,7 +270,7 @@ pub record IsStep (w : Window) (l h : Gap) (at to t : Rational) : Type 0 where
   pub one : (t ≡ to) ⊎ EndsAt h.until (shifted t w.high) ⊎ EndsAt l.until (shifted t w.low)
 
 -- the point under an end that is in, moved back by that end's offset; none where the end is out or stands on no point
-abbrev pub IsPointOf : Function → ℕ → Bool → ℤ → Gap → Rational → Option Margin → Type 0
+abbrev pub IsPointOf : Function → ℕ → Bool → ℤ → Rim → Rational → Option Margin → Type 0
 IsPointOf Q reach inside by gap t None = (inside ≡ false) ⊎ (EndsAt gap.until (shifted t by) → ⊥)
 IsPointOf Q reach inside by gap t (Some m) =
     (inside ≡ true) × EndsAt gap.until (shifted t by) × ((v : Margin) × IsThere Q reach (shifted t by) v × IsShifted v by m)

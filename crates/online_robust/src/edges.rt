@@ -86,6 +86,7 @@ impl Edges {
     /// # Errors
     ///
     /// `Memory` where there is no memory, and then nothing changes. With a spare of 1 it never comes.
+    #[inline(always)]
     pub fn put(&mut self, edge: u32, piece: MarginLine) -> Result<(), Memory>
         requires { edge < length self.old.edges }
         ensures put { OnOk result (self.new.edges ≡ with_edge self.old edge (with_more (edge_at self.old edge) (piece ∷ []))) }
@@ -117,6 +118,7 @@ impl Edges {
     }
 
     /// Takes out the first part of an edge. None where the edge holds none.
+    #[inline(always)]
     pub fn take(&mut self, edge: u32) -> Option<MarginLine>
         requires { edge < length self.old.edges }
         ensures first { result ≡ slice_get (held_at self.old edge) 0 }
@@ -183,12 +185,10 @@ impl Edges {
         ensures start { self.new.start ≡ self.old.start }
         ensures spare { self.old.spare ≤ self.new.spare }
     {
-        let Some(v) = self.pool.pop_front(2 * edge + 1) else {
+        let Some(v) = self.next(edge) else {
             unreachable!()
         };
-        let Ok(()) = self.pool.push_back(2 * edge, v) else {
-            unreachable!()
-        };
+        self.pool.pass(2 * edge + 1, 2 * edge);
         v
     }
 

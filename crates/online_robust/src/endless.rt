@@ -1,17 +1,18 @@
 //! A window without a low end, which begins once its input has given out something.
-ghost use Rattle.std.specs.Prelude.{◌≡◌, ◌≢◌, OnOk, IfOk, IfErr, IsSome, None, slice_get};
+ghost use Rattle.std.specs.Prelude.{◌≡◌, ◌≢◌, OnOk, IfOk, IsSome, None, slice_get, OnErr};
 ghost use Rattle.online_robust.specs.Held.{held_at};
-ghost use Rattle.online_robust.specs.Turns.{Turn, Belongs, BelongsSomewhere, HasSwept, IsStreamedFault, IsSwept, StandsNow};
+ghost use Rattle.online_robust.specs.Steps.{Step, Belongs, BelongsSomewhere, HasSwept, IsStreamedFault, IsSwept, StandsNow};
 ghost use Rattle.online_robust.specs.Waiting.{IsBegunPast, endless_of};
 ghost use Rattle.online_robust.specs.declared.operator.Operator.TheVariants as Op;
+ghost use Rattle.online_robust.specs.Refusing.{told_by};
 
 use crate::edges::Edges;
+use crate::ever::Ever;
 use crate::glance::Moved;
 use crate::line::Reached;
-use crate::past::Past;
 use crate::window::Window;
-use frac128::Frac;
-use pl_signal::{OpFault, Signal};
+use frac128::{Frac, Memory};
+use pl_signal::{Signal, WidePair};
 use std::alloc::Global;
 use value_laws::Margin;
 
@@ -20,14 +21,14 @@ use value_laws::Margin;
 pub(crate) struct Endless {
     pub(crate) window: Window,
     pub(crate) silent: Moved,
-    pub(crate) past: Option<Past>,
+    pub(crate) past: Option<Ever>,
 }
 
 /// A window that was told up to where the empty one was.
-fn begun(window: Window, start: u32, told: Option<Reached>) -> Past
+fn begun(window: Window, start: u32, told: Option<Reached>) -> Ever
     ensures { IsBegunPast window start told result }
 {
-    let mut past = Past::new(window, start);
+    let mut past = Ever::new(window, start);
     match told {
         Some(reached) => {
             past.stand(reached);
@@ -61,18 +62,21 @@ impl Endless {
         alloc: Global,
         edges: &mut Edges,
         to: u32,
-    ) -> Result<Signal<Margin>, OpFault<Margin>>
-        requires belongs { BelongsSomewhere (Op.Past self.old) edges.old to }
+        fault: &mut Option<WidePair<Margin>>,
+    ) -> Result<Signal<Margin>, Memory>
+        requires belongs { BelongsSomewhere (Op.Ever self.old) edges.old to }
         requires some { IsSome self.old.past }
-        ensures told { (t : Turn) → Belongs t (Op.Past self.old) edges.old to → IfOk result (IsSwept t to) }
-        ensures edges { (t : Turn) → Belongs t (Op.Past self.old) edges.old to → OnOk result (HasSwept t edges.old edges.new to) }
-        ensures stands { (t : Turn) → Belongs t (Op.Past self.old) edges.old to → OnOk result (StandsNow t (Op.Past self.new) edges.new to) }
-        ensures wide { (t : Turn) → Belongs t (Op.Past self.old) edges.old to → IfErr result (IsStreamedFault t) }
+        requires unset { fault.old ≡ None }
+        ensures told { (t : Step) → Belongs t (Op.Ever self.old) edges.old to → IfOk result (IsSwept t to) }
+        ensures edges { (t : Step) → Belongs t (Op.Ever self.old) edges.old to → OnOk result (HasSwept t edges.old edges.new to) }
+        ensures stands { (t : Step) → Belongs t (Op.Ever self.old) edges.old to → OnOk result (StandsNow t (Op.Ever self.new) edges.new to) }
+        ensures still { OnOk result (fault.new ≡ None) }
+        ensures wide { (t : Step) → Belongs t (Op.Ever self.old) edges.old to → OnErr result (IsStreamedFault t (told_by fault.new)) }
     {
         let end = Frac::of(i64::from(to));
         match &mut self.past {
             Some(past) => {
-                let swept = past.sweep(alloc, edges, &end)?;
+                let swept = past.sweep(alloc, edges, &end, fault)?;
                 Ok(swept)
             }
             None => unreachable!(),
@@ -80,19 +84,13 @@ impl Endless {
     }
 
     /// Nothing is to be seen yet.
-    fn wait(
-        &mut self,
-        alloc: Global,
-        edges: &mut Edges,
-        to: u32,
-    ) -> Result<Signal<Margin>, OpFault<Margin>>
-        requires belongs { BelongsSomewhere (Op.Past self.old) edges.old to }
+    fn wait(&mut self, alloc: Global, edges: &mut Edges, to: u32) -> Result<Signal<Margin>, Memory>
+        requires belongs { BelongsSomewhere (Op.Ever self.old) edges.old to }
         requires none { self.old.past ≡ None }
         requires empty { slice_get (held_at edges.old self.old.window.of) 0 ≡ None }
-        ensures told { (t : Turn) → Belongs t (Op.Past self.old) edges.old to → IfOk result (IsSwept t to) }
-        ensures edges { (t : Turn) → Belongs t (Op.Past self.old) edges.old to → OnOk result (HasSwept t edges.old edges.new to) }
-        ensures stands { (t : Turn) → Belongs t (Op.Past self.old) edges.old to → OnOk result (StandsNow t (Op.Past self.new) edges.new to) }
-        ensures wide { (t : Turn) → Belongs t (Op.Past self.old) edges.old to → IfErr result (IsStreamedFault t) }
+        ensures told { (t : Step) → Belongs t (Op.Ever self.old) edges.old to → IfOk result (IsSwept t to) }
+        ensures edges { (t : Step) → Belongs t (Op.Ever self.old) edges.old to → OnOk result (HasSwept t edges.old edges.new to) }
+        ensures stands { (t : Step) → Belongs t (Op.Ever self.old) edges.old to → OnOk result (StandsNow t (Op.Ever self.new) edges.new to) }
     {
         let Some(start) = edges.start() else {
             unreachable!()
@@ -100,7 +98,7 @@ impl Endless {
         let end = Frac::of(i64::from(to));
         match self.silent.sweep(alloc, edges, start, &end) {
             Ok(swept) => Ok(swept),
-            Err(_) => Err(OpFault::Memory),
+            Err(Memory) => Err(Memory),
         }
     }
 
@@ -110,21 +108,24 @@ impl Endless {
         alloc: Global,
         edges: &mut Edges,
         to: u32,
-    ) -> Result<Signal<Margin>, OpFault<Margin>>
-        requires belongs { BelongsSomewhere (Op.Past self.old) edges.old to }
+        fault: &mut Option<WidePair<Margin>>,
+    ) -> Result<Signal<Margin>, Memory>
+        requires belongs { BelongsSomewhere (Op.Ever self.old) edges.old to }
         requires none { self.old.past ≡ None }
         requires some { slice_get (held_at edges.old self.old.window.of) 0 ≢ None }
-        ensures told { (t : Turn) → Belongs t (Op.Past self.old) edges.old to → IfOk result (IsSwept t to) }
-        ensures edges { (t : Turn) → Belongs t (Op.Past self.old) edges.old to → OnOk result (HasSwept t edges.old edges.new to) }
-        ensures stands { (t : Turn) → Belongs t (Op.Past self.old) edges.old to → OnOk result (StandsNow t (Op.Past self.new) edges.new to) }
-        ensures wide { (t : Turn) → Belongs t (Op.Past self.old) edges.old to → IfErr result (IsStreamedFault t) }
+        requires unset { fault.old ≡ None }
+        ensures told { (t : Step) → Belongs t (Op.Ever self.old) edges.old to → IfOk result (IsSwept t to) }
+        ensures edges { (t : Step) → Belongs t (Op.Ever self.old) edges.old to → OnOk result (HasSwept t edges.old edges.new to) }
+        ensures stands { (t : Step) → Belongs t (Op.Ever self.old) edges.old to → OnOk result (StandsNow t (Op.Ever self.new) edges.new to) }
+        ensures still { OnOk result (fault.new ≡ None) }
+        ensures wide { (t : Step) → Belongs t (Op.Ever self.old) edges.old to → OnErr result (IsStreamedFault t (told_by fault.new)) }
     {
         let Some(start) = edges.start() else {
             unreachable!()
         };
         let end = Frac::of(i64::from(to));
         let mut past = begun(self.window, start, self.silent.last);
-        let swept = past.sweep(alloc, edges, &end)?;
+        let swept = past.sweep(alloc, edges, &end, fault)?;
         self.past = Some(past);
         Ok(swept)
     }
@@ -139,18 +140,21 @@ impl Endless {
         alloc: Global,
         edges: &mut Edges,
         to: u32,
-    ) -> Result<Signal<Margin>, OpFault<Margin>>
-        requires { BelongsSomewhere (Op.Past self.old) edges.old to }
-        ensures told { (t : Turn) → Belongs t (Op.Past self.old) edges.old to → IfOk result (IsSwept t to) }
-        ensures edges { (t : Turn) → Belongs t (Op.Past self.old) edges.old to → OnOk result (HasSwept t edges.old edges.new to) }
-        ensures stands { (t : Turn) → Belongs t (Op.Past self.old) edges.old to → OnOk result (StandsNow t (Op.Past self.new) edges.new to) }
-        ensures wide { (t : Turn) → Belongs t (Op.Past self.old) edges.old to → IfErr result (IsStreamedFault t) }
+        fault: &mut Option<WidePair<Margin>>,
+    ) -> Result<Signal<Margin>, Memory>
+        requires can { BelongsSomewhere (Op.Ever self.old) edges.old to }
+        requires unset { fault.old ≡ None }
+        ensures told { (t : Step) → Belongs t (Op.Ever self.old) edges.old to → IfOk result (IsSwept t to) }
+        ensures edges { (t : Step) → Belongs t (Op.Ever self.old) edges.old to → OnOk result (HasSwept t edges.old edges.new to) }
+        ensures stands { (t : Step) → Belongs t (Op.Ever self.old) edges.old to → OnOk result (StandsNow t (Op.Ever self.new) edges.new to) }
+        ensures still { OnOk result (fault.new ≡ None) }
+        ensures wide { (t : Step) → Belongs t (Op.Ever self.old) edges.old to → OnErr result (IsStreamedFault t (told_by fault.new)) }
     {
         if self.past.is_some() {
-            return self.go_on(alloc, edges, to);
+            return self.go_on(alloc, edges, to, fault);
         }
         match edges.first(self.window.of) {
-            Some(_) => self.begin(alloc, edges, to),
+            Some(_) => self.begin(alloc, edges, to, fault),
             None => self.wait(alloc, edges, to),
         }
     }

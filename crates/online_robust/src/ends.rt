@@ -11,7 +11,7 @@ use value_laws::{Margin, Shape};
 /// The gap about an end of the window, up to where it is known to go. Before the start, and after the end of the input, it is the
 /// value of no time, and stands on no edge.
 #[derive(Clone, Copy, Debug)]
-pub(crate) struct Gap {
+pub(crate) struct Rim {
     pub(crate) shape: Margin,
     pub(crate) until: Option<Frac>,
     pub(crate) stands: bool,
@@ -61,12 +61,12 @@ pub(crate) fn is_same(t: &Frac, u: &Frac) -> bool
     }
 }
 
-impl Gap {
+impl Rim {
     /// What stands beyond the rows, up to a time.
-    pub(crate) fn nothing(none: Margin, until: Option<Frac>) -> Gap
+    pub(crate) fn nothing(none: Margin, until: Option<Frac>) -> Rim
         ensures { result ≡ record { shape = none; until = until; stands = false } }
     {
-        Gap {
+        Rim {
             shape: none,
             until,
             stands: false,

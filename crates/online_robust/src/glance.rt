@@ -6,7 +6,7 @@ ghost use Rattle.frac128.specs.Value.{value as value_of};
 ghost use Rattle.stl_syntax.specs.Trace.{start as start_of};
 ghost use Rattle.online_robust.specs.Held.{held_at};
 ghost use Rattle.online_robust.specs.Told.{IsMovedBy};
-ghost use Rattle.online_robust.specs.Reading.{HasReached, IsStretch, LosesAt};
+ghost use Rattle.online_robust.specs.ReadLines.{HasReached, IsStretch, LosesAt};
 ghost use Rattle.online_robust.specs.Glances.{CanGlance, Glance, IsGlanceAt, IsNothing, IsOffset, IsSeenAs, IsGap, CanStride, IsStride, glance_of};
 ghost use Rattle.online_robust.specs.declared.line.MarginLine.TheVariants as L;
 

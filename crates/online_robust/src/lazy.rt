@@ -1,16 +1,17 @@
 //! A window with a low end, which begins once its input has given out something.
-ghost use Rattle.std.specs.Prelude.{◌≡◌, ◌≢◌, OnOk, IfOk, IfErr, IsSome, None, slice_get};
+ghost use Rattle.std.specs.Prelude.{◌≡◌, ◌≢◌, OnOk, IfOk, IsSome, None, slice_get, OnErr};
 ghost use Rattle.online_robust.specs.Held.{held_at};
-ghost use Rattle.online_robust.specs.Turns.{Turn, Belongs, BelongsSomewhere, HasSwept, IsStreamedFault, IsSwept, StandsNow};
+ghost use Rattle.online_robust.specs.Steps.{Step, Belongs, BelongsSomewhere, HasSwept, IsStreamedFault, IsSwept, StandsNow};
 ghost use Rattle.online_robust.specs.Waiting.{IsBegun, lazy_of};
 ghost use Rattle.online_robust.specs.declared.operator.Operator.TheVariants as Op;
+ghost use Rattle.online_robust.specs.Refusing.{told_by};
 
 use crate::edges::Edges;
 use crate::glance::Moved;
 use crate::line::Reached;
 use crate::window::{Sweep, Window};
-use frac128::Frac;
-use pl_signal::{OpFault, Signal};
+use frac128::{Frac, Memory};
+use pl_signal::{Signal, WidePair};
 use std::alloc::Global;
 use value_laws::Margin;
 
@@ -60,18 +61,21 @@ impl Lazy {
         alloc: Global,
         edges: &mut Edges,
         to: u32,
-    ) -> Result<Signal<Margin>, OpFault<Margin>>
+        fault: &mut Option<WidePair<Margin>>,
+    ) -> Result<Signal<Margin>, Memory>
         requires belongs { BelongsSomewhere (Op.Sweep self.old) edges.old to }
         requires some { IsSome self.old.sweep }
-        ensures told { (t : Turn) → Belongs t (Op.Sweep self.old) edges.old to → IfOk result (IsSwept t to) }
-        ensures edges { (t : Turn) → Belongs t (Op.Sweep self.old) edges.old to → OnOk result (HasSwept t edges.old edges.new to) }
-        ensures stands { (t : Turn) → Belongs t (Op.Sweep self.old) edges.old to → OnOk result (StandsNow t (Op.Sweep self.new) edges.new to) }
-        ensures wide { (t : Turn) → Belongs t (Op.Sweep self.old) edges.old to → IfErr result (IsStreamedFault t) }
+        requires unset { fault.old ≡ None }
+        ensures told { (t : Step) → Belongs t (Op.Sweep self.old) edges.old to → IfOk result (IsSwept t to) }
+        ensures edges { (t : Step) → Belongs t (Op.Sweep self.old) edges.old to → OnOk result (HasSwept t edges.old edges.new to) }
+        ensures stands { (t : Step) → Belongs t (Op.Sweep self.old) edges.old to → OnOk result (StandsNow t (Op.Sweep self.new) edges.new to) }
+        ensures still { OnOk result (fault.new ≡ None) }
+        ensures wide { (t : Step) → Belongs t (Op.Sweep self.old) edges.old to → OnErr result (IsStreamedFault t (told_by fault.new)) }
     {
         let end = Frac::of(i64::from(to));
         match &mut self.sweep {
             Some(sweep) => {
-                let swept = sweep.sweep(alloc, edges, &end)?;
+                let swept = sweep.sweep(alloc, edges, &end, fault)?;
                 Ok(swept)
             }
             None => unreachable!(),
@@ -79,19 +83,13 @@ impl Lazy {
     }
 
     /// Nothing is to be seen yet.
-    fn wait(
-        &mut self,
-        alloc: Global,
-        edges: &mut Edges,
-        to: u32,
-    ) -> Result<Signal<Margin>, OpFault<Margin>>
+    fn wait(&mut self, alloc: Global, edges: &mut Edges, to: u32) -> Result<Signal<Margin>, Memory>
         requires belongs { BelongsSomewhere (Op.Sweep self.old) edges.old to }
         requires none { self.old.sweep ≡ None }
         requires empty { slice_get (held_at edges.old self.old.window.of) 0 ≡ None }
-        ensures told { (t : Turn) → Belongs t (Op.Sweep self.old) edges.old to → IfOk result (IsSwept t to) }
-        ensures edges { (t : Turn) → Belongs t (Op.Sweep self.old) edges.old to → OnOk result (HasSwept t edges.old edges.new to) }
-        ensures stands { (t : Turn) → Belongs t (Op.Sweep self.old) edges.old to → OnOk result (StandsNow t (Op.Sweep self.new) edges.new to) }
-        ensures wide { (t : Turn) → Belongs t (Op.Sweep self.old) edges.old to → IfErr result (IsStreamedFault t) }
+        ensures told { (t : Step) → Belongs t (Op.Sweep self.old) edges.old to → IfOk result (IsSwept t to) }
+        ensures edges { (t : Step) → Belongs t (Op.Sweep self.old) edges.old to → OnOk result (HasSwept t edges.old edges.new to) }
+        ensures stands { (t : Step) → Belongs t (Op.Sweep self.old) edges.old to → OnOk result (StandsNow t (Op.Sweep self.new) edges.new to) }
     {
         let Some(start) = edges.start() else {
             unreachable!()
@@ -99,7 +97,7 @@ impl Lazy {
         let end = Frac::of(i64::from(to));
         match self.silent.sweep(alloc, edges, start, &end) {
             Ok(swept) => Ok(swept),
-            Err(_) => Err(OpFault::Memory),
+            Err(Memory) => Err(Memory),
         }
     }
 
@@ -109,21 +107,24 @@ impl Lazy {
         alloc: Global,
         edges: &mut Edges,
         to: u32,
-    ) -> Result<Signal<Margin>, OpFault<Margin>>
+        fault: &mut Option<WidePair<Margin>>,
+    ) -> Result<Signal<Margin>, Memory>
         requires belongs { BelongsSomewhere (Op.Sweep self.old) edges.old to }
         requires none { self.old.sweep ≡ None }
         requires some { slice_get (held_at edges.old self.old.window.of) 0 ≢ None }
-        ensures told { (t : Turn) → Belongs t (Op.Sweep self.old) edges.old to → IfOk result (IsSwept t to) }
-        ensures edges { (t : Turn) → Belongs t (Op.Sweep self.old) edges.old to → OnOk result (HasSwept t edges.old edges.new to) }
-        ensures stands { (t : Turn) → Belongs t (Op.Sweep self.old) edges.old to → OnOk result (StandsNow t (Op.Sweep self.new) edges.new to) }
-        ensures wide { (t : Turn) → Belongs t (Op.Sweep self.old) edges.old to → IfErr result (IsStreamedFault t) }
+        requires unset { fault.old ≡ None }
+        ensures told { (t : Step) → Belongs t (Op.Sweep self.old) edges.old to → IfOk result (IsSwept t to) }
+        ensures edges { (t : Step) → Belongs t (Op.Sweep self.old) edges.old to → OnOk result (HasSwept t edges.old edges.new to) }
+        ensures stands { (t : Step) → Belongs t (Op.Sweep self.old) edges.old to → OnOk result (StandsNow t (Op.Sweep self.new) edges.new to) }
+        ensures still { OnOk result (fault.new ≡ None) }
+        ensures wide { (t : Step) → Belongs t (Op.Sweep self.old) edges.old to → OnErr result (IsStreamedFault t (told_by fault.new)) }
     {
         let Some(start) = edges.start() else {
             unreachable!()
         };
         let end = Frac::of(i64::from(to));
         let mut sweep = begun(alloc, self.window, start, self.silent.last);
-        let swept = sweep.sweep(alloc, edges, &end)?;
+        let swept = sweep.sweep(alloc, edges, &end, fault)?;
         self.sweep = Some(sweep);
         Ok(swept)
     }
@@ -138,18 +139,21 @@ impl Lazy {
         alloc: Global,
         edges: &mut Edges,
         to: u32,
-    ) -> Result<Signal<Margin>, OpFault<Margin>>
-        requires { BelongsSomewhere (Op.Sweep self.old) edges.old to }
-        ensures told { (t : Turn) → Belongs t (Op.Sweep self.old) edges.old to → IfOk result (IsSwept t to) }
-        ensures edges { (t : Turn) → Belongs t (Op.Sweep self.old) edges.old to → OnOk result (HasSwept t edges.old edges.new to) }
-        ensures stands { (t : Turn) → Belongs t (Op.Sweep self.old) edges.old to → OnOk result (StandsNow t (Op.Sweep self.new) edges.new to) }
-        ensures wide { (t : Turn) → Belongs t (Op.Sweep self.old) edges.old to → IfErr result (IsStreamedFault t) }
+        fault: &mut Option<WidePair<Margin>>,
+    ) -> Result<Signal<Margin>, Memory>
+        requires can { BelongsSomewhere (Op.Sweep self.old) edges.old to }
+        requires unset { fault.old ≡ None }
+        ensures told { (t : Step) → Belongs t (Op.Sweep self.old) edges.old to → IfOk result (IsSwept t to) }
+        ensures edges { (t : Step) → Belongs t (Op.Sweep self.old) edges.old to → OnOk result (HasSwept t edges.old edges.new to) }
+        ensures stands { (t : Step) → Belongs t (Op.Sweep self.old) edges.old to → OnOk result (StandsNow t (Op.Sweep self.new) edges.new to) }
+        ensures still { OnOk result (fault.new ≡ None) }
+        ensures wide { (t : Step) → Belongs t (Op.Sweep self.old) edges.old to → OnErr result (IsStreamedFault t (told_by fault.new)) }
     {
         if self.sweep.is_some() {
-            return self.go_on(alloc, edges, to);
+            return self.go_on(alloc, edges, to, fault);
         }
         match edges.first(self.window.of) {
-            Some(_) => self.begin(alloc, edges, to),
+            Some(_) => self.begin(alloc, edges, to, fault),
             None => self.wait(alloc, edges, to),
         }
     }

@@ -5,12 +5,12 @@
 mod edges;
 mod endless;
 mod ends;
+mod ever;
 mod glance;
 mod lazy;
 mod line;
 mod net;
 mod operator;
-mod past;
 mod pointwise;
 mod put;
 mod queue;

@@ -17,14 +17,15 @@ ghost use Rattle.online_robust.specs.declared.line.MarginLine.{MarginLine as Lin
 
 use crate::edges::Edges;
 use crate::line::MarginLine;
-use crate::station::{Station, from_start, horizon_of, work_of};
+use crate::station::{Station, from_start, work_of};
+use crate::window::refused;
 use atom_lines::Bound;
 use frac128::Memory;
 use offline_eval::WideCause;
 use pl_signal::OpFault;
 use std::alloc::Global;
 use std::marker::Model;
-use stl_syntax::Formula;
+use stl_syntax::{Formula, horizon_of};
 use trace_reader::Row;
 use value_laws::Margin;
 
@@ -134,10 +135,11 @@ fn take_row_all(
     ensures fault { (p : Passing) → CanGoByRow p edges.old stations.old.items bound.now before.now row.now → IfErr result (IsGoFault p) }
     ensures nodes { length stations.new.items ≡ length stations.old.items }
 {
+    let mut fault = None;
     for i in 0..stations.len() {
-        match stations[i].take_row(alloc, edges, i as u32, bound, before, row) {
+        match stations[i].take_row(alloc, edges, i as u32, bound, before, row, &mut fault) {
             Ok(()) => {}
-            Err(fault) => return Err(fault_at(i as u32, fault)),
+            Err(Memory) => return Err(fault_at(i as u32, refused(fault))),
         }
     }
     Ok(())
@@ -155,10 +157,11 @@ fn take_end_all(
     ensures fault { (p : Passing) → CanGoByEnd p edges.old stations.old.items now → IfErr result (IsGoFault p) }
     ensures nodes { length stations.new.items ≡ length stations.old.items }
 {
+    let mut fault = None;
     for i in 0..stations.len() {
-        match stations[i].take_end(alloc, edges, i as u32, now) {
+        match stations[i].take_end(alloc, edges, i as u32, now, &mut fault) {
             Ok(()) => {}
-            Err(fault) => return Err(fault_at(i as u32, fault)),
+            Err(Memory) => return Err(fault_at(i as u32, refused(fault))),
         }
     }
     Ok(())

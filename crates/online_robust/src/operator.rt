@@ -1,11 +1,12 @@
 //! The operator of a node: what it keeps in mind of its inputs, and how it goes on.
-ghost use Rattle.std.specs.Prelude.{◌≡◌, ◌≤◌, ◌≤ℤ◌, if◌then◌else◌, false, IfOk, IfErr, IfSome, MatchOption, OnOk, Some, None};
+ghost use Rattle.std.specs.Prelude.{◌≡◌, ◌≤◌, ◌≤ℤ◌, if◌then◌else◌, false, IfOk, IfSome, MatchOption, OnOk, Some, None, OnErr};
 ghost use Rattle.stl_syntax.specs.WellFormed.{HasBounds, IsInOrder};
 ghost use Rattle.online_nodes.specs.StreamedWide.{IsUnstreamed};
 ghost use Rattle.online_robust.specs.Standing.{IsWindowOperator, ahead_window, behind_window, past_window};
 ghost use Rattle.online_robust.specs.Waiting.{endless_of};
 ghost use Rattle.online_robust.specs.declared.operator.Operator.TheVariants as Op;
-ghost use Rattle.online_robust.specs.Turns.{Turn, Belongs, BelongsSomewhere, HasSwept, IsFirstOperator, IsStreamedFault, IsSwept, StandsNow};
+ghost use Rattle.online_robust.specs.Steps.{Step, Belongs, BelongsSomewhere, HasSwept, IsFirstOperator, IsStreamedFault, IsSwept, StandsNow};
+ghost use Rattle.online_robust.specs.Refusing.{told_by};
 
 use crate::edges::Edges;
 use crate::endless::Endless;
@@ -13,8 +14,8 @@ use crate::glance::Moved;
 use crate::lazy::Lazy;
 use crate::pointwise::{Not, Two};
 use crate::window::Window;
-use frac128::Frac;
-use pl_signal::{OpFault, Side, Signal};
+use frac128::{Frac, Memory};
+use pl_signal::{Side, Signal, WidePair};
 use std::alloc::Global;
 use stl_syntax::Node;
 use value_laws::Margin;
@@ -26,7 +27,7 @@ pub(crate) enum Operator {
     Two(Two),
     Moved(Moved),
     Sweep(Lazy),
-    Past(Endless),
+    Ever(Endless),
 }
 
 /// A negation before anything was told.
@@ -84,12 +85,12 @@ fn ahead(of: u32, side: Side, low: u32, high: u32, low_in: bool, high_in: bool) 
 /// That of a window behind: without a low end where it has no far bound.
 fn behind(of: u32, side: Side, low: u32, high: Option<u32>, low_in: bool, high_in: bool) -> Operator
     requires { IsInOrder low high }
-    ensures { MatchOption high (result ≡ Op.Past (endless_of (past_window of side low low_in)))
+    ensures { MatchOption high (result ≡ Op.Ever (endless_of (past_window of side low low_in)))
         (λ b. IsWindowOperator (behind_window of side low b low_in high_in) result) }
 {
     match high {
         Some(high) => window(of, side, -i64::from(high), -i64::from(low), high_in, low_in),
-        None => Operator::Past(Endless::new(Window {
+        None => Operator::Ever(Endless::new(Window {
             of,
             side,
             low: -4294967296,
@@ -116,17 +117,16 @@ fn sweep_not(
     alloc: Global,
     edges: &mut Edges,
     to: u32,
-) -> Result<Signal<Margin>, OpFault<Margin>>
+) -> Result<Signal<Margin>, Memory>
     requires { BelongsSomewhere (Op.Not not.old) edges.old to }
-    ensures told { (t : Turn) → Belongs t (Op.Not not.old) edges.old to → IfOk result (IsSwept t to) }
-    ensures edges { (t : Turn) → Belongs t (Op.Not not.old) edges.old to → OnOk result (HasSwept t edges.old edges.new to) }
-    ensures stands { (t : Turn) → Belongs t (Op.Not not.old) edges.old to → OnOk result (StandsNow t (Op.Not not.new) edges.new to) }
-    ensures wide { (t : Turn) → Belongs t (Op.Not not.old) edges.old to → IfErr result (IsStreamedFault t) }
+    ensures told { (t : Step) → Belongs t (Op.Not not.old) edges.old to → IfOk result (IsSwept t to) }
+    ensures edges { (t : Step) → Belongs t (Op.Not not.old) edges.old to → OnOk result (HasSwept t edges.old edges.new to) }
+    ensures stands { (t : Step) → Belongs t (Op.Not not.old) edges.old to → OnOk result (StandsNow t (Op.Not not.new) edges.new to) }
 {
     let end = Frac::of(i64::from(to));
     match not.sweep(alloc, edges, &end) {
         Ok(swept) => Ok(swept),
-        Err(_) => Err(OpFault::Memory),
+        Err(Memory) => Err(Memory),
     }
 }
 
@@ -136,17 +136,20 @@ fn sweep_two(
     alloc: Global,
     edges: &mut Edges,
     to: u32,
-) -> Result<Signal<Margin>, OpFault<Margin>>
-    requires { BelongsSomewhere (Op.Two two.old) edges.old to }
-    ensures told { (t : Turn) → Belongs t (Op.Two two.old) edges.old to → IfOk result (IsSwept t to) }
-    ensures edges { (t : Turn) → Belongs t (Op.Two two.old) edges.old to → OnOk result (HasSwept t edges.old edges.new to) }
-    ensures stands { (t : Turn) → Belongs t (Op.Two two.old) edges.old to → OnOk result (StandsNow t (Op.Two two.new) edges.new to) }
-    ensures wide { (t : Turn) → Belongs t (Op.Two two.old) edges.old to → IfErr result (IsStreamedFault t) }
+    fault: &mut Option<WidePair<Margin>>,
+) -> Result<Signal<Margin>, Memory>
+    requires can { BelongsSomewhere (Op.Two two.old) edges.old to }
+    requires unset { fault.old ≡ None }
+    ensures told { (t : Step) → Belongs t (Op.Two two.old) edges.old to → IfOk result (IsSwept t to) }
+    ensures edges { (t : Step) → Belongs t (Op.Two two.old) edges.old to → OnOk result (HasSwept t edges.old edges.new to) }
+    ensures stands { (t : Step) → Belongs t (Op.Two two.old) edges.old to → OnOk result (StandsNow t (Op.Two two.new) edges.new to) }
+    ensures still { OnOk result (fault.new ≡ None) }
+    ensures wide { (t : Step) → Belongs t (Op.Two two.old) edges.old to → OnErr result (IsStreamedFault t (told_by fault.new)) }
 {
     let end = Frac::of(i64::from(to));
-    match two.sweep(alloc, edges, &end) {
+    match two.sweep(alloc, edges, &end, fault) {
         Ok(swept) => Ok(swept),
-        Err(fault) => Err(fault),
+        Err(Memory) => Err(Memory),
     }
 }
 
@@ -156,12 +159,11 @@ fn sweep_moved(
     alloc: Global,
     edges: &mut Edges,
     to: u32,
-) -> Result<Signal<Margin>, OpFault<Margin>>
+) -> Result<Signal<Margin>, Memory>
     requires { BelongsSomewhere (Op.Moved moved.old) edges.old to }
-    ensures told { (t : Turn) → Belongs t (Op.Moved moved.old) edges.old to → IfOk result (IsSwept t to) }
-    ensures edges { (t : Turn) → Belongs t (Op.Moved moved.old) edges.old to → OnOk result (HasSwept t edges.old edges.new to) }
-    ensures stands { (t : Turn) → Belongs t (Op.Moved moved.old) edges.old to → OnOk result (StandsNow t (Op.Moved moved.new) edges.new to) }
-    ensures wide { (t : Turn) → Belongs t (Op.Moved moved.old) edges.old to → IfErr result (IsStreamedFault t) }
+    ensures told { (t : Step) → Belongs t (Op.Moved moved.old) edges.old to → IfOk result (IsSwept t to) }
+    ensures edges { (t : Step) → Belongs t (Op.Moved moved.old) edges.old to → OnOk result (HasSwept t edges.old edges.new to) }
+    ensures stands { (t : Step) → Belongs t (Op.Moved moved.old) edges.old to → OnOk result (StandsNow t (Op.Moved moved.new) edges.new to) }
 {
     let Some(start) = edges.start() else {
         unreachable!()
@@ -169,7 +171,7 @@ fn sweep_moved(
     let end = Frac::of(i64::from(to));
     match moved.sweep(alloc, edges, start, &end) {
         Ok(swept) => Ok(swept),
-        Err(_) => Err(OpFault::Memory),
+        Err(Memory) => Err(Memory),
     }
 }
 
@@ -229,19 +231,22 @@ impl Operator {
         alloc: Global,
         edges: &mut Edges,
         to: u32,
-    ) -> Result<Signal<Margin>, OpFault<Margin>>
-        requires { BelongsSomewhere self.old edges.old to }
-        ensures told { (t : Turn) → Belongs t self.old edges.old to → IfOk result (IsSwept t to) }
-        ensures edges { (t : Turn) → Belongs t self.old edges.old to → OnOk result (HasSwept t edges.old edges.new to) }
-        ensures stands { (t : Turn) → Belongs t self.old edges.old to → OnOk result (StandsNow t self.new edges.new to) }
-        ensures wide { (t : Turn) → Belongs t self.old edges.old to → IfErr result (IsStreamedFault t) }
+        fault: &mut Option<WidePair<Margin>>,
+    ) -> Result<Signal<Margin>, Memory>
+        requires can { BelongsSomewhere self.old edges.old to }
+        requires unset { fault.old ≡ None }
+        ensures told { (t : Step) → Belongs t self.old edges.old to → IfOk result (IsSwept t to) }
+        ensures edges { (t : Step) → Belongs t self.old edges.old to → OnOk result (HasSwept t edges.old edges.new to) }
+        ensures stands { (t : Step) → Belongs t self.old edges.old to → OnOk result (StandsNow t self.new edges.new to) }
+        ensures still { OnOk result (fault.new ≡ None) }
+        ensures wide { (t : Step) → Belongs t self.old edges.old to → OnErr result (IsStreamedFault t (told_by fault.new)) }
     {
         match self {
             Operator::Not(not) => sweep_not(not, alloc, edges, to),
-            Operator::Two(two) => sweep_two(two, alloc, edges, to),
+            Operator::Two(two) => sweep_two(two, alloc, edges, to, fault),
             Operator::Moved(moved) => sweep_moved(moved, alloc, edges, to),
-            Operator::Sweep(window) => window.sweep(alloc, edges, to),
-            Operator::Past(window) => window.sweep(alloc, edges, to),
+            Operator::Sweep(window) => window.sweep(alloc, edges, to, fault),
+            Operator::Ever(window) => window.sweep(alloc, edges, to, fault),
         }
     }
 }

@@ -1,5 +1,5 @@
 //! Negation and the connectives over a stretch.
-ghost use Rattle.std.specs.Prelude.{◌≡◌, ◌<◌, ◌≤◌, ◌^◌, true, IsSome, IsTrue, length, IfOk, OnOk, IfErr, Some};
+ghost use Rattle.std.specs.Prelude.{◌≡◌, ◌<◌, ◌≤◌, ◌^◌, true, IsSome, IsTrue, length, IfOk, OnOk, Some, OnErr, None};
 ghost use Rattle.rational.specs.Rational.{Rational, ◌≈◌, ◌<ʳ◌};
 ghost use Rattle.rational.specs.Extended.{value_at, ◌≈ᵉ◌};
 ghost use Rattle.rational.specs.Affine.{HasBoundedLevel};
@@ -9,14 +9,15 @@ ghost use Rattle.stl_syntax.specs.SupInf.{Robustness};
 ghost use Rattle.online_robust.specs.Held.{held_at};
 ghost use Rattle.online_robust.specs.Lines.{end_of};
 ghost use Rattle.online_robust.specs.Told.{IsTick};
-ghost use Rattle.online_robust.specs.Reading.{HasReached, IsAhead, IsBuilt, IsStretch, IsThere, LosesAt, LosesAtBoth, value_turned};
+ghost use Rattle.online_robust.specs.ReadLines.{HasReached, IsAhead, IsBuilt, IsStretch, IsThere, LosesAt, LosesAtBoth, value_turned};
 ghost use Rattle.online_robust.specs.Couples.{CanJoin, CanNegate, Couple, IsCoupleFault, IsJoinedTo, IsNegatedTo};
 ghost use Rattle.online_robust.specs.Couples.{IsReadTo, Source, both_of, left_of, right_of, turns_left, turns_left_of};
+ghost use Rattle.online_robust.specs.Refusing.{told_by};
 
 use crate::edges::Edges;
 use crate::line::{MarginLine, Reached};
 use frac128::{Frac, Memory};
-use pl_signal::{Builder, OpFault, Side, Signal, chosen, earlier};
+use pl_signal::{Builder, Side, Signal, WidePair, chosen, earlier};
 use std::alloc::Global;
 use std::cmp::Ordering;
 use value_laws::{Margin, Shape};
@@ -193,10 +194,12 @@ impl Two {
         built: &mut Builder<Margin>,
         at: &Frac,
         to: &Frac,
-    ) -> Result<Reached, OpFault<Margin>>
+        fault: &mut Option<WidePair<Margin>>,
+    ) -> Result<Reached, Memory>
         requires order { value at.now <ʳ value to.now }
         requires joined { (x : Couple) × IsJoinedTo x self.now edges.old (value at.now) × (value to.now ≈ x.to)
             × IsBuilt (both_of x self.now) x.reach x.from (value at.now) built.old }
+        requires unset { fault.old ≡ None }
         ensures reached { (x : Couple) → IsJoinedTo x self.now edges.old (value at.now) → value to.now ≈ x.to
             → IfOk result (λ r. HasReached (both_of x self.now) x.reach (value r.at) (Some r)) }
         ensures joined { (x : Couple) → IsJoinedTo x self.now edges.old (value at.now) → value to.now ≈ x.to
@@ -207,8 +210,9 @@ impl Two {
         ensures lost { IfOk result (λ r. LosesAtBoth (value r.at) self.now.left self.now.right edges.old edges.new) }
         ensures nearer { IfOk result
             (λ r. turns_left self.now edges.new (value r.at) (value to.now) < turns_left self.now edges.old (value at.now) (value to.now)) }
+        ensures still { OnOk result (fault.new ≡ None) }
         ensures wide { (x : Couple) → IsJoinedTo x self.now edges.old (value at.now) → value to.now ≈ x.to
-            → IsBuilt (both_of x self.now) x.reach x.from (value at.now) built.old → IfErr result (IsCoupleFault x self.now) }
+            → IsBuilt (both_of x self.now) x.reach x.from (value at.now) built.old → OnErr result (IsCoupleFault x self.now (told_by fault.new)) }
     {
         let Some(p) = edges.first(self.left) else {
             unreachable!()
@@ -220,7 +224,14 @@ impl Two {
         let x = up_to(edges, self.left, &p, &t);
         let y = up_to(edges, self.right, &q, &t);
         let value = self.of_both(x, y, &t);
-        built.join(self.side, &self.left_of(p.margin()), &q.margin(), &t, value)?;
+        built.join_kept(
+            self.side,
+            &self.left_of(p.margin()),
+            &q.margin(),
+            &t,
+            &value,
+            fault,
+        )?;
         Ok(Reached { at: t, value })
     }
 
@@ -234,8 +245,10 @@ impl Two {
         alloc: Global,
         edges: &mut Edges,
         to: &Frac,
-    ) -> Result<Signal<Margin>, OpFault<Margin>>
-        requires { (x : Couple) × CanJoin x self.old edges.old × (value to.now ≈ x.to) }
+        fault: &mut Option<WidePair<Margin>>,
+    ) -> Result<Signal<Margin>, Memory>
+        requires can { (x : Couple) × CanJoin x self.old edges.old × (value to.now ≈ x.to) }
+        requires unset { fault.old ≡ None }
         ensures told { (x : Couple) → CanJoin x self.old edges.old → value to.now ≈ x.to
             → IfOk result (IsStretch (both_of x self.old) x.reach x.from x.to) }
         ensures reached { (x : Couple) → CanJoin x self.old edges.old → value to.now ≈ x.to
@@ -244,13 +257,14 @@ impl Two {
         ensures lost { OnOk result (LosesAtBoth (value to.now) self.old.left self.old.right edges.old edges.new) }
         ensures ahead { (x : Couple) → CanJoin x self.old edges.old → value to.now ≈ x.to → OnOk result (IsJoinedTo x self.old edges.new (value to.now)) }
         ensures kept { self.new ≡ record self.old { last = self.new.last } }
-        ensures wide { (x : Couple) → CanJoin x self.old edges.old → value to.now ≈ x.to → IfErr result (IsCoupleFault x self.old) }
+        ensures still { OnOk result (fault.new ≡ None) }
+        ensures wide { (x : Couple) → CanJoin x self.old edges.old → value to.now ≈ x.to → OnErr result (IsCoupleFault x self.old (told_by fault.new)) }
     {
         let mut reached = self.begin(edges);
         let mut built = Builder::start(alloc, reached.at, reached.value)?;
         while let Ordering::Less = reached.at.cmp(to) {
             let at = reached.at;
-            reached = self.turn(edges, &mut built, &at, to)?;
+            reached = self.turn(edges, &mut built, &at, to, fault)?;
         }
         self.last = Some(reached);
         Ok(built.finish())

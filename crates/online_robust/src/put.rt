@@ -16,6 +16,7 @@ use trace_reader::Row;
 use value_laws::Margin;
 
 /// Puts a point.
+#[inline(always)]
 fn put_point(edges: &mut Edges, node: u32, at: Frac, value: Margin) -> Result<(), Memory>
     requires { node < length edges.old.edges }
     ensures { OnOk result (HasPut node (Part.Point at value ∷ []) edges.old edges.new) }
@@ -24,6 +25,7 @@ fn put_point(edges: &mut Edges, node: u32, at: Frac, value: Margin) -> Result<()
 }
 
 /// Puts a gap and the point that ends it.
+#[inline(never)]
 fn put_pair(
     edges: &mut Edges,
     node: u32,

@@ -1,23 +1,23 @@
 //! A node of the network: by how much it lags behind the rows, and what it does.
-ghost use Rattle.std.specs.Prelude.{◌≡◌, ◌<◌, ◌≤◌, ◌≤ℤ◌, ◌<ℤ◌, ◌^◌, ℕ, ℤ, pos, negsuc, length, IfErr, OnOk, IsTrue, ◌↔◌, MatchOption, Some, None, false, true};
-ghost use Rattle.stl_syntax.specs.Formula.{HasChildrenBelow, horizon};
-ghost use Rattle.stl_syntax.specs.Horizons.{horizon_above};
+ghost use Rattle.std.specs.Prelude.{◌≡◌, ◌<◌, ◌≤◌, ◌≤ℤ◌, ◌<ℤ◌, pos, length, OnOk, OnErr, IsTrue, ◌↔◌, MatchOption, Some};
+ghost use Rattle.std.specs.Prelude.{None, false, true};
 ghost use Rattle.stl_syntax.specs.Trace.{Header};
 ghost use Rattle.stl_syntax.specs.declared.node.Node.{Node as ANode};
 ghost use Rattle.stl_syntax.specs.WellFormed.{HasBounds};
 ghost use Rattle.online_nodes.specs.StreamedWide.{IsUnstreamed};
-ghost use Rattle.online_robust.specs.Turns.{IsLeaf};
+ghost use Rattle.online_robust.specs.Steps.{IsLeaf};
 ghost use Rattle.online_robust.specs.Putting.{lines_of, HasPutOut};
 ghost use Rattle.online_robust.specs.Moving.{Move, CanGiveOut, CanGoTo, CanMoveByRow, CanMoveByEnd, HasMoved, IsFaultOf};
 ghost use Rattle.online_robust.specs.Firsts.{IsFirstWork};
 ghost use Rattle.online_robust.specs.declared.station.Work.TheVariants as W;
+ghost use Rattle.online_robust.specs.Refusing.{told_by};
 
 use crate::edges::Edges;
 use crate::operator::Operator;
 use crate::put::{put_atom, put_const, put_signal};
 use atom_lines::Bound;
 use frac128::Memory;
-use pl_signal::{OpFault, Signal};
+use pl_signal::{Signal, WidePair};
 use std::alloc::Global;
 use stl_syntax::Node;
 use trace_reader::Row;
@@ -59,37 +59,6 @@ pub(crate) fn work_of(node: &Node) -> Work
     match Operator::new(node) {
         Some(operator) => Work::Operator(operator),
         None => leaf_of(node),
-    }
-}
-
-/// The horizon of a node, from those of the nodes before it.
-pub(crate) fn horizon_of(before: &[u64], node: &Node) -> u64
-    requires below { HasChildrenBelow (length before.now) node.now }
-    requires small { horizon_above before.now node.now < 2 ^ 32 }
-    ensures { result ≡ horizon_above before.now node.now }
-{
-    match node {
-        Node::Const(_) | Node::Atom(_) => 0,
-        Node::Not(p) => before[*p as usize],
-        Node::And(p, q) | Node::Or(p, q) | Node::Implies(p, q) => before[*p as usize].max(
-            before[*q as usize],
-        ),
-        Node::Until {
-            left,
-            right,
-            high,
-            ..
-        } => *high as u64 + before[*left as usize].max(before[*right as usize]),
-        Node::Eventually { of, high, .. } | Node::Always { of, high, .. } => *high as u64
-            + before[*of as usize],
-        Node::Since {
-            left,
-            right,
-            low,
-            ..
-        } => before[*left as usize].max(before[*right as usize].saturating_sub(*low as u64)),
-        Node::Once { of, low, .. } | Node::Historically { of, low, .. } =>
-            before[*of as usize].saturating_sub(*low as u64),
     }
 }
 
@@ -148,20 +117,23 @@ fn give_out(
     node: u32,
     to: u32,
     with_first: bool,
-) -> Result<(), OpFault<Margin>>
-    requires { (m : Move) × CanGiveOut m node operator.old edges.old to with_first }
+    fault: &mut Option<WidePair<Margin>>,
+) -> Result<(), Memory>
+    requires can { (m : Move) × CanGiveOut m node operator.old edges.old to with_first }
+    requires unset { fault.old ≡ None }
     ensures moved { (m : Move) → CanGiveOut m node operator.old edges.old to with_first
         → OnOk result (HasMoved m (W.Operator operator.new) edges.old edges.new) }
-    ensures fault { (m : Move) → CanGiveOut m node operator.old edges.old to with_first → IfErr result (IsFaultOf m) }
+    ensures still { OnOk result (fault.new ≡ None) }
+    ensures fault { (m : Move) → CanGiveOut m node operator.old edges.old to with_first → OnErr result (IsFaultOf m (told_by fault.new)) }
 {
-    match operator.sweep(alloc, edges, to) {
+    match operator.sweep(alloc, edges, to, fault) {
         Ok(swept) => {
             let Ok(()) = put_out(edges, node, &swept, with_first, to) else {
-                return Err(OpFault::Memory);
+                return Err(Memory);
             };
             Ok(())
         }
-        Err(fault) => Err(fault),
+        Err(Memory) => Err(Memory),
     }
 }
 
@@ -173,11 +145,14 @@ fn go_on(
     operator: &mut Operator,
     node: u32,
     number: i64,
-) -> Result<(), OpFault<Margin>>
-    requires { (m : Move) × CanGoTo m node operator.old edges.old number }
+    fault: &mut Option<WidePair<Margin>>,
+) -> Result<(), Memory>
+    requires can { (m : Move) × CanGoTo m node operator.old edges.old number }
+    requires unset { fault.old ≡ None }
     ensures moved { (m : Move) → CanGoTo m node operator.old edges.old number
         → OnOk result (HasMoved m (W.Operator operator.new) edges.old edges.new) }
-    ensures fault { (m : Move) → CanGoTo m node operator.old edges.old number → IfErr result (IsFaultOf m) }
+    ensures still { OnOk result (fault.new ≡ None) }
+    ensures fault { (m : Move) → CanGoTo m node operator.old edges.old number → OnErr result (IsFaultOf m (told_by fault.new)) }
 {
     let before = edges.number(node);
     let Some(start) = edges.start() else {
@@ -190,7 +165,15 @@ fn go_on(
     if is_at(before, number) {
         return Ok(());
     }
-    give_out(alloc, edges, operator, node, to, !was_shown(before, start))
+    give_out(
+        alloc,
+        edges,
+        operator,
+        node,
+        to,
+        !was_shown(before, start),
+        fault,
+    )
 }
 
 impl Station {
@@ -207,12 +190,15 @@ impl Station {
         bound: &Bound,
         before: &Option<Row>,
         row: &Row,
-    ) -> Result<(), OpFault<Margin>>
-        requires { (m : Move) × CanMoveByRow m node self.old edges.old bound.now before.now row.now }
+        fault: &mut Option<WidePair<Margin>>,
+    ) -> Result<(), Memory>
+        requires can { (m : Move) × CanMoveByRow m node self.old edges.old bound.now before.now row.now }
+        requires unset { fault.old ≡ None }
         ensures ahead { self.new.ahead ≡ self.old.ahead }
         ensures moved { (m : Move) → CanMoveByRow m node self.old edges.old bound.now before.now row.now
             → OnOk result (HasMoved m self.new.work edges.old edges.new) }
-        ensures fault { (m : Move) → CanMoveByRow m node self.old edges.old bound.now before.now row.now → IfErr result (IsFaultOf m) }
+        ensures still { OnOk result (fault.new ≡ None) }
+        ensures fault { (m : Move) → CanMoveByRow m node self.old edges.old bound.now before.now row.now → OnErr result (IsFaultOf m (told_by fault.new)) }
     {
         let now = i64::from(row.time());
         match &mut self.work {
@@ -227,7 +213,14 @@ impl Station {
                 Ok(())
             }
             Work::Operator(operator) => {
-                go_on(alloc, edges, operator, node, now - i64::from(self.ahead))
+                go_on(
+                    alloc,
+                    edges,
+                    operator,
+                    node,
+                    now - i64::from(self.ahead),
+                    fault,
+                )
             }
         }
     }
@@ -243,16 +236,19 @@ impl Station {
         edges: &mut Edges,
         node: u32,
         now: u32,
-    ) -> Result<(), OpFault<Margin>>
-        requires { (m : Move) × CanMoveByEnd m node self.old edges.old now }
+        fault: &mut Option<WidePair<Margin>>,
+    ) -> Result<(), Memory>
+        requires can { (m : Move) × CanMoveByEnd m node self.old edges.old now }
+        requires unset { fault.old ≡ None }
         ensures ahead { self.new.ahead ≡ self.old.ahead }
         ensures moved { (m : Move) → CanMoveByEnd m node self.old edges.old now → OnOk result (HasMoved m self.new.work edges.old edges.new) }
-        ensures fault { (m : Move) → CanMoveByEnd m node self.old edges.old now → IfErr result (IsFaultOf m) }
+        ensures still { OnOk result (fault.new ≡ None) }
+        ensures fault { (m : Move) → CanMoveByEnd m node self.old edges.old now → OnErr result (IsFaultOf m (told_by fault.new)) }
     {
         match &mut self.work {
             Work::Const(_) => Ok(()),
             Work::Atom => Ok(()),
-            Work::Operator(operator) => go_on(alloc, edges, operator, node, i64::from(now)),
+            Work::Operator(operator) => go_on(alloc, edges, operator, node, i64::from(now), fault),
         }
     }
 }

@@ -2,19 +2,18 @@
 
 ghost use Rattle.std.specs.Prelude.{◌≡◌, ◌⊎◌, ◌↔◌, ◌<◌, ◌≤◌, ◌^◌, ◌+◌, ◌*◌, ◌-ℤ◌, ℕ, ◌≢◌, List, [], Some};
 ghost use Rattle.std.specs.Prelude.{None, true, false, pos, neg_ℤ, ◌≤ℤ◌, IsTrue, length, slice_get, IfOk};
-ghost use Rattle.std.specs.Prelude.{OnOk, IfErr, IfSome, IsSomeAnd, MatchBool, MatchOption, MatchResult};
+ghost use Rattle.std.specs.Prelude.{OnOk, IfSome, IsSomeAnd, MatchBool, MatchOption, OnErr};
 ghost use Rattle.rational.specs.Rational.{Rational, IsWithin, ◌≈◌, whole};
 ghost use Rattle.rational.specs.Time.{◌<ʳ◌, ◌≤ʳ◌, shifted};
 ghost use Rattle.rational.specs.Extended.{value_at, minus_infinity, infinity, ◌≈ᵉ◌};
 ghost use Rattle.rational.specs.Affine.{IsBounded};
 ghost use Rattle.frac128.specs.Value.{value};
 ghost use Rattle.value_laws.specs.Margins.{is_ramp, margin_function};
-ghost use Rattle.envelope.specs.Best.{IsKept};
 ghost use Rattle.envelope.specs.Turns.{none_of};
 ghost use Rattle.online_robust.specs.Held.{edge_at, fresh_at, held_at, with_edge, with_read, without};
 ghost use Rattle.online_robust.specs.Sweeping.{EndsAt, IsBefore, IsFrozen, IsUpTo};
 ghost use Rattle.online_robust.specs.Lines.{IsOneLine};
-ghost use Rattle.online_robust.specs.Reading.{IsBuilt, IsStretch, IsThere};
+ghost use Rattle.online_robust.specs.ReadLines.{IsBuilt, IsStretch, IsThere};
 ghost use Rattle.pl_signal.specs.Knots.{stop as last_of};
 ghost use Rattle.stl_syntax.specs.Trace.{start as start_of};
 ghost use Rattle.online_robust.specs.Told.{IsMovedBy, IsTick};
@@ -24,9 +23,10 @@ ghost use Rattle.online_robust.specs.Windows.{IsGone, IsHigh, IsUnfixed, IsUnfix
 ghost use Rattle.online_robust.specs.Windows.{IsNextStop, IsOpen, IsOutcome, IsOwned, IsPointOf, IsShifted, IsTickEnd};
 ghost use Rattle.online_robust.specs.Windows.{IsTopOf, LeavesAt, at_time, before_start, best_of, gap_of as gap_that, high_at};
 ghost use Rattle.online_robust.specs.Windows.{input_of, is_before_end, lines_left, low_at, no_gap, steps_left};
+ghost use Rattle.online_robust.specs.Refusing.{told_by};
 
 use crate::edges::Edges;
-use crate::ends::{Gap, is_one, is_same};
+use crate::ends::{Rim, is_one, is_same};
 use crate::line::{MarginLine, Reached};
 use crate::queue::Queue;
 use envelope::{Best, of_none, write};
@@ -52,8 +52,8 @@ pub(crate) struct Window {
 #[derive(Clone, Copy, Debug)]
 pub(crate) struct Place {
     pub(crate) at: Frac,
-    pub(crate) low: Gap,
-    pub(crate) high: Gap,
+    pub(crate) low: Rim,
+    pub(crate) high: Rim,
 }
 
 /// A step of a window: what counts on the way, and the margin at its end.
@@ -78,7 +78,8 @@ pub(crate) struct Sweep {
 }
 
 /// The gap that comes next at the back end of what was read, which is read; nothing where there is none.
-pub(crate) fn enter(edges: &mut Edges, of: u32, none: Margin) -> Gap
+#[inline(always)]
+pub(crate) fn enter(edges: &mut Edges, of: u32, none: Margin) -> Rim
     requires { of < length edges.old.edges }
     ensures { MatchOption (slice_get (fresh_at edges.old of) 0) ((result ≡ no_gap none) × (edges.new ≡ edges.old))
         (λ line. (result ≡ gap_that line) × (edges.new.edges ≡ with_edge edges.old of (with_read (edge_at edges.old of) line))
@@ -86,26 +87,26 @@ pub(crate) fn enter(edges: &mut Edges, of: u32, none: Margin) -> Gap
 {
     match edges.next(of) {
         Some(_) => gap_of(&edges.pass(of)),
-        None => Gap::nothing(none, None),
+        None => Rim::nothing(none, None),
     }
 }
 
 /// The first gap of an edge; nothing where there is none.
-fn front(edges: &Edges, of: u32, none: Margin) -> Gap
+fn front(edges: &Edges, of: u32, none: Margin) -> Rim
     requires { of < length edges.now.edges }
     ensures { MatchOption (slice_get (held_at edges.now of) 0) (result ≡ no_gap none) (λ line. result ≡ gap_that line) }
 {
     match edges.first(of) {
         Some(line) => gap_of(&line),
-        None => Gap::nothing(none, None),
+        None => Rim::nothing(none, None),
     }
 }
 
 /// The gap of a line.
-fn gap_of(line: &MarginLine) -> Gap
+fn gap_of(line: &MarginLine) -> Rim
     ensures { result ≡ gap_that line.now }
 {
-    Gap {
+    Rim {
         shape: line.margin(),
         until: Some(line.end()),
         stands: true,
@@ -119,22 +120,29 @@ pub(crate) fn frozen(
     point: &Margin,
     after: &Margin,
     u: &Frac,
-) -> Result<Margin, OpFault<Margin>>
+    fault: &mut Option<WidePair<Margin>>,
+) -> Result<Margin, Memory>
     requires within { IsWithin (2 ^ 34) (value u.now) }
     requires before { IsBounded (2 ^ 31) (value_at (margin_function before.now) (value u.now)) }
     requires point { IsBounded (2 ^ 31) (value_at (margin_function point.now) (value u.now)) }
     requires after { IsBounded (2 ^ 31) (value_at (margin_function after.now) (value u.now)) }
-    ensures { MatchResult result (IsFrozen side before.now point.now after.now (value u.now)) (IsUnfixed before.now point.now after.now u.now) }
+    requires unset { fault.old ≡ None }
+    ensures frozen { IfOk result (IsFrozen side before.now point.now after.now (value u.now)) }
+    ensures still { OnOk result (fault.new ≡ None) }
+    ensures fault { OnErr result (IsUnfixed before.now point.now after.now u.now (told_by fault.new)) }
 {
     let first = chosen(side, before, point, u);
     let best = chosen(side, &first, after, u);
     match best.fix(u) {
         Ok(constant) => Ok(constant),
-        Err(refused) => Err(OpFault::Wide(WidePair::Value {
-            p: best,
-            at: *u,
-            den: refused.den,
-        })),
+        Err(refused) => {
+            *fault = Some(WidePair::Value {
+                p: best,
+                at: *u,
+                den: refused.den,
+            });
+            Err(Memory)
+        }
     }
 }
 
@@ -150,6 +158,7 @@ fn or_better(side: Side, best: Margin, other: Option<Margin>, t: &Frac) -> Margi
 }
 
 /// The best at a time of what counts about it, and of the points under the ends.
+#[inline(always)]
 pub(crate) fn worth(
     side: Side,
     inside: &Best<Margin>,
@@ -178,7 +187,7 @@ pub(crate) fn first_of(t: &Frac, other: &Option<Frac>) -> Frac
     }
 }
 
-impl Gap {
+impl Rim {
     /// When the end of a window that is `by` later comes to the end of the gap.
     pub(crate) fn leaves(&self, by: i64) -> Option<Frac>
         requires from { neg_ℤ (pos (2 ^ 32)) ≤ℤ by }
@@ -224,7 +233,7 @@ impl Sweep {
         let begin = i64::from(start);
         let start = Frac::of(begin);
         let none = of_none(window.side);
-        let before = Gap::nothing(none, Some(start));
+        let before = Rim::nothing(none, Some(start));
         Sweep {
             window,
             start,
@@ -274,14 +283,20 @@ impl Sweep {
     }
 
     /// The high end stands on a point, and goes on: the gap behind it is known.
-    fn go_high(&mut self, edges: &mut Edges) -> Result<(), OpFault<Margin>>
-        requires { (x : Scope) × IsAt x self.old edges.old × IsHigh x self.old }
+    fn go_high(
+        &mut self,
+        edges: &mut Edges,
+        fault: &mut Option<WidePair<Margin>>,
+    ) -> Result<(), Memory>
+        requires can { (x : Scope) × IsAt x self.old edges.old × IsHigh x self.old }
+        requires unset { fault.old ≡ None }
         ensures stands { (x : Scope) → IsAt x self.old edges.old → IsHigh x self.old
             → OnOk result (IsAt x self.new edges.new × IsBefore (high_at x self.new.window) self.new.place.high.until) }
         ensures kept { OnOk result (Keeps self.old self.new × (self.new.place.low ≡ self.old.place.low)) }
         ensures shed { OnOk result ((limit : Rational) → Sheds limit self.old.window.of edges.old edges.new) }
         ensures fewer { OnOk result (lines_left (edge_at edges.new self.old.window.of) < lines_left (edge_at edges.old self.old.window.of)) }
-        ensures wide { (x : Scope) → IsAt x self.old edges.old → IsHigh x self.old → IfErr result (IsUnfixedHigh x self.old) }
+        ensures still { OnOk result (fault.new ≡ None) }
+        ensures wide { (x : Scope) → IsAt x self.old edges.old → IsHigh x self.old → OnErr result (IsUnfixedHigh x self.old (told_by fault.new)) }
     {
         let line = edges.pass(self.window.of);
         let u = line.end();
@@ -297,6 +312,7 @@ impl Sweep {
             &point,
             &next.shape,
             &u,
+            fault,
         )?;
         self.among.come(constant)?;
         self.place.high = next;
@@ -357,6 +373,7 @@ impl Sweep {
     }
 
     /// What counts between here and the next time at which that may change.
+    #[inline(always)]
     fn best(&self) -> Best<Margin>
         requires { (x : Scope) × IsFitWindow self.now.window x.reach × IsMovedBy x.reach self.now.place.low.shape
             × IsMovedBy x.reach self.now.place.high.shape }
@@ -459,9 +476,14 @@ impl Sweep {
     }
 
     /// Where the high end stands on a point, it goes on.
-    fn high_on(&mut self, edges: &mut Edges) -> Result<(), OpFault<Margin>>
+    fn high_on(
+        &mut self,
+        edges: &mut Edges,
+        fault: &mut Option<WidePair<Margin>>,
+    ) -> Result<(), Memory>
         requires at { (x : Scope) × IsAt x self.old edges.old × (x.behind ≡ value self.old.place.at) × (high_at x self.old.window <ʳ x.bound) }
         requires within { IsWithin (2 ^ 34) (value self.old.place.at) }
+        requires unset { fault.old ≡ None }
         ensures stands { (x : Scope) → IsAt x self.old edges.old → x.behind ≡ value self.old.place.at → high_at x self.old.window <ʳ x.bound
             → OnOk result (IsAt x self.new edges.new × IsBefore (high_at x self.new.window) self.new.place.high.until) }
         ensures kept { OnOk result (Keeps self.old self.new × (self.new.place.low ≡ self.old.place.low)) }
@@ -470,11 +492,12 @@ impl Sweep {
             + is_before_end (shifted (value self.old.place.at) self.old.window.high) self.new.place.high.until
             ≤ 2 * lines_left (edge_at edges.old self.old.window.of)
             + is_before_end (shifted (value self.old.place.at) self.old.window.high) self.old.place.high.until) }
+        ensures still { OnOk result (fault.new ≡ None) }
         ensures wide { (x : Scope) → IsAt x self.old edges.old → x.behind ≡ value self.old.place.at → high_at x self.old.window <ʳ x.bound
-            → IfErr result (IsUnfixedHigh x self.old) }
+            → OnErr result (IsUnfixedHigh x self.old (told_by fault.new)) }
     {
         if self.place.high.ends_at(self.window.high, &self.place.at) {
-            return self.go_high(edges);
+            return self.go_high(edges, fault);
         }
         Ok(())
     }
@@ -508,8 +531,15 @@ impl Sweep {
     }
 
     /// Goes on to the next time at which what counts may change, or to the time `to`.
-    fn go_on(&mut self, edges: &mut Edges, to: &Frac) -> Result<Gone, OpFault<Margin>>
-        requires { (x : Scope) × IsAt x self.old edges.old × IsGoing x self.old (value to.now) }
+    #[inline(always)]
+    fn go_on(
+        &mut self,
+        edges: &mut Edges,
+        to: &Frac,
+        fault: &mut Option<WidePair<Margin>>,
+    ) -> Result<Gone, Memory>
+        requires can { (x : Scope) × IsAt x self.old edges.old × IsGoing x self.old (value to.now) }
+        requires unset { fault.old ≡ None }
         ensures stands { (x : Scope) → IsAt x self.old edges.old → IsGoing x self.old (value to.now)
             → OnOk result (IsAt (at_time x (value self.new.place.at) (value self.new.place.at)) self.new edges.new
             × IsBefore (shifted (value self.new.place.at) self.new.window.low) self.new.place.low.until) }
@@ -520,16 +550,22 @@ impl Sweep {
             → OnOk result (Sheds (shifted (value self.new.place.at) self.old.window.low) self.old.window.of edges.old edges.new) }
         ensures fewer { OnOk result (steps_left self.old.window self.new.place (edge_at edges.new self.old.window.of) (value to.now)
             < steps_left self.old.window self.old.place (edge_at edges.old self.old.window.of) (value to.now)) }
-        ensures wide { (x : Scope) → IsAt x self.old edges.old → IsGoing x self.old (value to.now) → IfErr result (IsUnfixedHigh x self.old) }
+        ensures still { OnOk result (fault.new ≡ None) }
+        ensures wide { (x : Scope) → IsAt x self.old edges.old → IsGoing x self.old (value to.now) → OnErr result (IsUnfixedHigh x self.old (told_by fault.new)) }
     {
-        self.high_on(edges)?;
+        self.high_on(edges, fault)?;
         let gone = self.go_to(edges, to)?;
         Ok(gone)
     }
 
     /// Where it was told before; or goes on to the start.
-    fn begin(&mut self, edges: &mut Edges) -> Result<Reached, OpFault<Margin>>
-        requires { (x : Scope) × (own : ℕ) × (from to : Rational) × CanSweep x own from to self.old edges.old }
+    fn begin(
+        &mut self,
+        edges: &mut Edges,
+        fault: &mut Option<WidePair<Margin>>,
+    ) -> Result<Reached, Memory>
+        requires can { (x : Scope) × (own : ℕ) × (from to : Rational) × CanSweep x own from to self.old edges.old }
+        requires unset { fault.old ≡ None }
         ensures stands { (x : Scope) (own : ℕ) (from to : Rational) → CanSweep x own from to self.old edges.old → OnOk result (HasCome x self.new edges.new) }
         ensures told { (x : Scope) (own : ℕ) (from to : Rational) → CanSweep x own from to self.old edges.old
             → IfOk result (λ r.
@@ -537,8 +573,9 @@ impl Sweep {
         ensures kept { OnOk result (Goes self.old self.new) }
         ensures shed { (x : Scope) (own : ℕ) (from to : Rational) → CanSweep x own from to self.old edges.old
             → OnOk result (Sheds (shifted (value self.new.place.at) self.old.window.low) self.old.window.of edges.old edges.new) }
+        ensures still { OnOk result (fault.new ≡ None) }
         ensures wide { (x : Scope) (own : ℕ) (from to : Rational) → CanSweep x own from to self.old edges.old
-            → IfErr result (IsWindowFault x self.old.window to) }
+            → OnErr result (IsWindowFault x self.old.window to (told_by fault.new)) }
     {
         if let Some(reached) = self.last {
             return Ok(reached);
@@ -549,7 +586,7 @@ impl Sweep {
             value: self.none,
         };
         while let Ordering::Less = reached.at.cmp(&start) {
-            let gone = self.go_on(edges, &start)?;
+            let gone = self.go_on(edges, &start, fault)?;
             reached = gone.to;
         }
         Ok(reached)
@@ -561,9 +598,11 @@ impl Sweep {
         edges: &mut Edges,
         built: &mut Builder<Margin>,
         to: &Frac,
-    ) -> Result<Reached, OpFault<Margin>>
+        fault: &mut Option<WidePair<Margin>>,
+    ) -> Result<Reached, Memory>
         requires at { (x : Scope) × IsAt x self.old edges.old × IsGoing x self.old (value to.now) }
         requires ends { last_of built.old ≈ value self.old.place.at }
+        requires unset { fault.old ≡ None }
         ensures stands { (x : Scope) → IsAt x self.old edges.old → IsGoing x self.old (value to.now)
             → OnOk result (IsAt (at_time x (value self.new.place.at) (value self.new.place.at)) self.new edges.new
             × IsBefore (shifted (value self.new.place.at) self.new.window.low) self.new.place.low.until) }
@@ -573,8 +612,10 @@ impl Sweep {
         ensures reached { (x : Scope) → IsAt x self.old edges.old → IsGoing x self.old (value to.now) → start_of x.trace ≤ʳ x.at
             → (own : ℕ) → IsOwned self.old.window own
             → IfOk result (λ r. (value r.at ≡ value self.new.place.at) × IsThere (best_of x self.old.window) (x.reach + own) (value r.at) r.value) }
+        ensures still { OnOk result (fault.new ≡ None) }
         ensures fault { (x : Scope) → IsAt x self.old edges.old → IsGoing x self.old (value to.now)
-            → IfErr result (λ f. IsUnfixedHigh x self.old f ⊎ IsUnmet x self.old.window (value to.now) (last_of built.old) f) }
+            → OnErr result (IsUnfixedHigh x self.old (told_by fault.new)
+            ⊎ IsUnmet x self.old.window (value to.now) (last_of built.old) (told_by fault.new)) }
         ensures fewer { OnOk result (steps_left self.old.window self.new.place (edge_at edges.new self.old.window.of) (value to.now)
             < steps_left self.old.window self.old.place (edge_at edges.old self.old.window.of) (value to.now)) }
         ensures later { IfOk result (λ r. (value self.old.place.at <ʳ value r.at) × (value r.at ≤ʳ value to.now)) }
@@ -582,18 +623,17 @@ impl Sweep {
         ensures shed { (x : Scope) → IsAt x self.old edges.old → IsGoing x self.old (value to.now)
             → OnOk result (Sheds (shifted (value self.new.place.at) self.old.window.low) self.old.window.of edges.old edges.new) }
     {
-        let gone = self.go_on(edges, to)?;
-        let mut fault = None;
+        let gone = self.go_on(edges, to, fault)?;
         match write(
             self.window.side,
             built,
             &gone.best,
             &gone.to.at,
             gone.to.value,
-            &mut fault,
+            fault,
         ) {
             Ok(()) => Ok(gone.to),
-            Err(Memory) => Err(refused(fault)),
+            Err(Memory) => Err(Memory),
         }
     }
 
@@ -607,8 +647,10 @@ impl Sweep {
         alloc: Global,
         edges: &mut Edges,
         to: &Frac,
-    ) -> Result<Signal<Margin>, OpFault<Margin>>
-        requires { (x : Scope) × (own : ℕ) × (from : Rational) × CanSweep x own from (value to.now) self.old edges.old }
+        fault: &mut Option<WidePair<Margin>>,
+    ) -> Result<Signal<Margin>, Memory>
+        requires can { (x : Scope) × (own : ℕ) × (from : Rational) × CanSweep x own from (value to.now) self.old edges.old }
+        requires unset { fault.old ≡ None }
         ensures told { (x : Scope) (own : ℕ) (from : Rational) → CanSweep x own from (value to.now) self.old edges.old
             → IfOk result (IsStretch (best_of x self.old.window) (x.reach + own) from (value to.now)) }
         ensures stands { (x : Scope) (own : ℕ) (from : Rational) → CanSweep x own from (value to.now) self.old edges.old
@@ -619,13 +661,14 @@ impl Sweep {
         ensures kept { OnOk result ((self.new.window ≡ self.old.window) × (self.new.start ≡ self.old.start) × (self.new.none ≡ self.old.none)) }
         ensures shed { (x : Scope) (own : ℕ) (from : Rational) → CanSweep x own from (value to.now) self.old edges.old
             → OnOk result (Sheds (shifted (value to.now) self.old.window.low) self.old.window.of edges.old edges.new) }
+        ensures still { OnOk result (fault.new ≡ None) }
         ensures wide { (x : Scope) (own : ℕ) (from : Rational) → CanSweep x own from (value to.now) self.old edges.old
-            → IfErr result (IsWindowFault x self.old.window (value to.now)) }
+            → OnErr result (IsWindowFault x self.old.window (value to.now) (told_by fault.new)) }
     {
-        let mut reached = self.begin(edges)?;
+        let mut reached = self.begin(edges, fault)?;
         let mut built = Builder::start(alloc, reached.at, reached.value)?;
         while let Ordering::Less = reached.at.cmp(to) {
-            reached = self.tell_on(edges, &mut built, to)?;
+            reached = self.tell_on(edges, &mut built, to, fault)?;
         }
         self.last = Some(reached);
         Ok(built.finish())
@@ -634,7 +677,7 @@ impl Sweep {
 
 /// What was refused, or want of memory.
 pub(crate) fn refused(fault: Option<WidePair<Margin>>) -> OpFault<Margin>
-    ensures { IsKept result fault }
+    ensures { result ≡ told_by fault }
 {
     match fault {
         Some(pair) => OpFault::Wide(pair),

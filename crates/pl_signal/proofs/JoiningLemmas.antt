@@ -118,6 +118,12 @@ module _ {P : Type 0} (shape : ShapeOf P) where
       by_shape r (inr (inl e)) = of_second r e
       by_shape r (inr (inr e)) = inr (inr (inr e))
 
+  -- a signal that goes on with the one shape that is chosen all over the gap joins what is chosen
+  pub joins_alone : (b : Side) (old new : List (Knot P)) (p q s point : P) (to : Frac) → (s ≡ p) ⊎ (s ≡ q)
+      → ((t : Rational) → stop old <ʳ t → t <ʳ value to → IsTakenAt shape b p q s t)
+      → GoesOn shape old s to point new → Joins shape b old p q to point new
+  joins_alone b old new p q s point to one is on = joins_whole b old new p q s point to (one, is) on
+
   -- a signal that goes on with the pieces joins what is chosen
   pub joins : (b : Side) (old new : List (Knot P)) (p q point : P) (to : Frac) (pieces : Pieces P) → IsPieces shape b p q (stop old) (value to) pieces
       → Continues shape old pieces to point new

@@ -1,14 +1,14 @@
 -- Signals read side by side, by the places of their knots.
-use Rattle.std.proofs.Common.{◌≡◌, ℕ, ◌+◌, ◌-◌, ◌<◌, ◌≤◌, ◌⊎◌, inl, inr, List, [], ◌∷◌, length, get_or, Some, refl, sym, subst, arith}
+use Rattle.std.proofs.Common.{◌≡◌, ℕ, ◌+◌, ◌-◌, ◌<◌, ◌≤◌, ◌⊎◌, ◌↔◌, IsTrue, true, false, inl, inr, List, [], ◌∷◌, length, get_or, Some, refl, sym, subst, arith}
 use Rattle.std.specs.Prelude.{slice_get}
 use Rattle.std.specs.declared.cmp.Ordering.{Ordering}
 use Rattle.std.specs.declared.cmp.Ordering.TheVariants.{Less, Equal, Greater}
-use Rattle.std.proofs.lemmas.Bool.{cases_lt}
+use Rattle.std.proofs.lemmas.Bool.{cases_lt, false≢true}
 use Rattle.std.proofs.lemmas.Option.{slice_get_past, slice_get-get_or}
 use Rattle.rational.specs.Rational.{IsOrder}
 use Rattle.rational.specs.Time.{Rational, ◌≤ʳ◌, ◌<ʳ◌, ◌≈◌}
 use Rattle.rational.specs.Extended.{value_at}
-use Rattle.rational.proofs.Order.{le_of_lt, le_of_same, ge_of_same, lt_of_lt_of_le, lt_of_le_of_lt, not_lt_of_le, same_of_le, same_refl}
+use Rattle.rational.proofs.Order.{le_of_lt, le_of_same, ge_of_same, lt_of_lt_of_le, lt_of_le_of_lt, lt_or_same_or_gt, not_lt_of_le, same_of_le, same_refl}
 use Rattle.value_laws.specs.Members.{ShapeOf}
 use Rattle.pl_signal.specs.declared.knot.Knot.{Knot}
 use Rattle.pl_signal.specs.Knots.{time, stop, IsWorth, IsSignal}
@@ -20,6 +20,23 @@ pub later_than : (o : Ordering) {a b : Rational} → IsOrder o a b → b ≤ʳ a
 later_than Less h k n = absurd (not_lt_of_le k h)
 later_than Equal h k n = absurd (n refl)
 later_than Greater h k n = h
+
+-- what is not after a time, and not equal to it, is before it
+pub before_unless : {a b : Rational} → b ≤ʳ a → ¬ (a ≈ b) → b <ʳ a
+before_unless {a} {b} h n = by_order (lt_or_same_or_gt a b)
+  where
+    by_order : (a <ʳ b) ⊎ (a ≈ b) ⊎ (b <ʳ a) → b <ʳ a
+    by_order (inl l) = absurd (not_lt_of_le h l)
+    by_order (inr (inl e)) = absurd (n e)
+    by_order (inr (inr l)) = l
+
+-- true says that two times are equal which are
+pub says_equal : {a b : Rational} → a ≈ b → IsTrue true ↔ (a ≈ b)
+says_equal e = (λ t. e, λ k. refl)
+
+-- false says so of a time and an earlier one
+pub says_later : {a b : Rational} → b <ʳ a → IsTrue false ↔ (a ≈ b)
+says_later h = (λ t. absurd (false≢true t), λ e. absurd (not_lt_of_le (le_of_same e) h))
 
 -- the earlier of two later times is later
 pub earlier_after : {at to x y : Rational} → at <ʳ x → at <ʳ y → (to ≡ x) ⊎ (to ≡ y) → at <ʳ to

@@ -62,9 +62,7 @@ impl<P: Shape> Builder<P> {
     pub fn with_room(alloc: Global, at: Frac, point: P, room: usize) -> Result<Builder<P>, Memory>
         ensures { IfOk result (λ b. b ≡ record { time = at; point = point; after = point } ∷ []) }
     {
-        let Ok(knots) = Vec::with_capacity(alloc, room) else {
-            return Err(Memory);
-        };
+        let knots = Vec::with_capacity(alloc, room)?;
         begun(alloc, knots, at, point)
     }
 
@@ -90,9 +88,7 @@ impl<P: Shape> Builder<P> {
         ensures ok { OnOk result (GoesOn P.Shape self.old after at point self.new) }
         ensures err { OnErr result (self.new ≡ self.old) }
     {
-        if self.knots.reserve(1).is_err() {
-            return Err(Memory);
-        }
+        self.knots.reserve(1)?;
         go_on(&mut self.knots, &after, &at, &point);
         Ok(())
     }
@@ -130,6 +126,7 @@ impl<P: Shape> Builder<P> {
     /// # Errors
     ///
     /// `Memory` where the two cross at a time that needs a denominator of 2^60 or more, and where memory is wanting.
+    #[inline(always)]
     pub fn join_kept(
         &mut self,
         side: Side,
@@ -184,9 +181,7 @@ impl<P: Shape> Builder<P> {
         let from = self.stop();
         match pieces_over(side, p, q, &from, to) {
             Ok(taken) => {
-                if self.knots.reserve(2).is_err() {
-                    return Err(Memory);
-                }
+                self.knots.reserve(2)?;
                 put_pieces(&mut self.knots, &taken, to, point);
                 Ok(())
             }
@@ -198,17 +193,19 @@ impl<P: Shape> Builder<P> {
         }
     }
 
-    /// Goes on with one shape.
+    /// The same as `step`, with no copies of what it is given.
+    ///
+    /// # Errors
+    ///
+    /// `Memory` where memory is wanting.
     #[inline(always)]
-    fn go_along(&mut self, after: &P, to: &Frac, point: &P) -> Result<(), Memory>
+    pub fn go_along(&mut self, after: &P, to: &Frac, point: &P) -> Result<(), Memory>
         requires limited { IsWithin (2 ^ 34) (stop self.old) }
         requires later { stop self.old <ʳ value to.now }
         ensures ok { OnOk result (GoesOn P.Shape self.old after.now to.now point.now self.new) }
         ensures err { OnErr result (self.new ≡ self.old) }
     {
-        if self.knots.reserve(1).is_err() {
-            return Err(Memory);
-        }
+        self.knots.reserve(1)?;
         go_on(&mut self.knots, after, to, point);
         Ok(())
     }
@@ -238,9 +235,7 @@ fn begun<P: Shape>(
         point,
         after: point,
     };
-    if knots.push(only).is_err() {
-        return Err(Memory);
-    }
+    knots.push(only)?;
     Ok(Builder { alloc, knots })
 }
 

@@ -7,12 +7,12 @@ mod joining;
 mod knot;
 pub mod laws;
 mod moves;
-mod reading;
+mod sample;
 mod signal;
 
 pub use builder::Builder;
 pub use faults::{OpFault, WidePair, fault_of, keep};
 pub use joining::{Side, chosen, crossing, favour};
 pub use knot::Knot;
-pub use reading::{Reading, earlier};
+pub use sample::{Next, Sample, earlier};
 pub use signal::Signal;

@@ -175,9 +175,7 @@ fn instant<P: Shape>(alloc: Global, at: &Frac, point: P) -> Result<Vec<Knot<P>>,
     ensures { IfOk result (λ r. r.items ≡ record { time = at.now; point = point; after = point } ∷ []) }
 {
     let mut knots = Vec::new(alloc);
-    if knots.push(ending(at, point)).is_err() {
-        return Err(Memory);
-    }
+    knots.push(ending(at, point))?;
     Ok(knots)
 }
 
@@ -197,17 +195,9 @@ fn between<P: Shape>(
     ensures { IfOk result (λ r. r.items ≡ first ∷ slice_range knots.now from to ++ last ∷ []) }
 {
     let inner = &knots[from..to];
-    let Ok(mut built) = Vec::with_capacity(alloc, to - from + 2) else {
-        return Err(Memory);
-    };
-    if built.push(first).is_err() {
-        return Err(Memory);
-    }
-    if built.extend_from_slice(inner).is_err() {
-        return Err(Memory);
-    }
-    if built.push(last).is_err() {
-        return Err(Memory);
-    }
+    let mut built = Vec::with_capacity(alloc, to - from + 2)?;
+    built.push(first)?;
+    built.extend_from_slice(inner)?;
+    built.push(last)?;
     Ok(built)
 }

@@ -7,6 +7,7 @@ pub mod Sup
 pub mod Through
 pub mod Shift
 pub mod TimeLemmas
+pub mod PlaceLemmas
 pub mod ExtendedLemmas
 pub mod WindowLemmas
 pub mod AffineLemmas

@@ -8,3 +8,4 @@ pub mod InPlay
 pub mod Onward
 pub mod UntilParts
 pub mod Knots
+pub mod Places

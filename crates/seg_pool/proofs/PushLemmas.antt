@@ -73,7 +73,7 @@ module _ {T : Type 0} where
       }
 
   -- a list's last cell has a new key behind it, and every other cell is as it was
-  pub record IsPushed (cells now : Slab (Cell T)) (labels labels' : Labels) (list last key : ℕ) (item : T) : Type 0 where
+  pub record IsPushed (cells now : Slab (Cell T)) (labels labels' : Labels) (list last key : ℕ) (added : Cell T) : Type 0 where
     -- the cell that was last
     pub back : Cell T
     -- where it stood
@@ -85,7 +85,7 @@ module _ {T : Type 0} where
     -- at its place
     pub back_placed : labels'.place last ≡ labels.place last
     -- the new cell
-    pub fresh : get now key ≡ Some (cell_of item 0)
+    pub fresh : get now key ≡ Some added
     -- it is of the list
     pub owned : labels'.owner key ≡ list
     -- behind the one that was last
@@ -93,8 +93,8 @@ module _ {T : Type 0} where
     -- every other cell stays
     pub others : (k : ℕ) (cell : Cell T) → k ≢ last → get cells k ≡ Some cell → KeepsKey cells now labels labels' k
 
-  module _ (cells now : Slab (Cell T)) (labels labels' : Labels) (list last key : ℕ) (item : T)
-      (pushed : IsPushed cells now labels labels' list last key item) where
+  module _ (cells now : Slab (Cell T)) (labels labels' : Labels) (list last key : ℕ) (added : Cell T)
+      (pushed : IsPushed cells now labels labels' list last key added) where
     -- the list's chain is longer by one
     grown_chain : (n low k : ℕ) → IsChain cells labels list last (suc n) low k → IsChain now labels' list key (suc (suc n)) low k
     grown_chain zero low k chain =
@@ -102,7 +102,7 @@ module _ {T : Type 0} where
         let level : labels.place k ≡ labels.place last = ap labels.place here in
         let above : low ≤ labels'.place last = omega (arith, chain.3, pushed.back_placed) in
         let tail : IsChain now labels' list key 1 (labels'.place last + 1) key =
-        (cell_of item 0, pushed.fresh, pushed.owned, omega (arith, pushed.placed, pushed.back_placed), λ _. refl, tt) in
+        (added, pushed.fresh, pushed.owned, omega (arith, pushed.placed, pushed.back_placed), λ _. refl, tt) in
         rw here (cell_of pushed.back.item key, pushed.now_back, pushed.back_owned, above, λ e. absurd (omega (arith, e)), tail)
     grown_chain (suc n) low k chain =
         let kept = pushed.others k chain.0 (not_end cells labels list last n low k chain) chain.1 in
@@ -118,36 +118,36 @@ module _ {T : Type 0} where
 
     -- and so is its list of items
     grown_items : (n low k : ℕ) → IsChain cells labels list last (suc n) low k
-        → items_from now (suc (suc n)) k ≡ items_from cells (suc n) k ++ item ∷ []
+        → items_from now (suc (suc n)) k ≡ items_from cells (suc n) k ++ added.item ∷ []
     grown_items zero low k chain =
         let here : k ≡ last = chain.4 refl in
         rw here (
         items_from-found now 1 last _ pushed.now_back
         ∙ ap (λ items. pushed.back.item ∷ items) (items_from-found now 0 key _ pushed.fresh)
-        ∙ sym (ap (λ items. items ++ item ∷ []) (items_from-found cells 0 last _ pushed.was_back))
+        ∙ sym (ap (λ items. items ++ added.item ∷ []) (items_from-found cells 0 last _ pushed.was_back))
         )
     grown_items (suc n) low k chain =
         let kept = pushed.others k chain.0 (not_end cells labels list last n low k chain) chain.1 in
         items_from-found now (suc (suc n)) k chain.0 (kept.slot ∙ chain.1)
         ∙ ap (λ items. chain.0.item ∷ items) (grown_items n (labels.place k + 1) chain.0.next chain.5)
-        ∙ sym (ap (λ items. items ++ item ∷ []) (items_from-found cells (suc n) k chain.0 chain.1))
+        ∙ sym (ap (λ items. items ++ added.item ∷ []) (items_from-found cells (suc n) k chain.0 chain.1))
 
 -- every cell is as it was after an insertion
-pub inserted_keeps : {T : Type 0} {cells inserted : Slab (Cell T)} {key : ℕ} {item : T} → get cells key ≡ None
-    → Updates cells inserted key (Some (cell_of item 0)) → (k : ℕ) (cell : Cell T) → get cells k ≡ Some cell
+pub inserted_keeps : {T : Type 0} {cells inserted : Slab (Cell T)} {key : ℕ} {added : Cell T} → get cells key ≡ None
+    → Updates cells inserted key (Some added) → (k : ℕ) (cell : Cell T) → get cells k ≡ Some cell
     → get inserted k ≡ get cells k
 inserted_keeps {cells = cells} {key = key} vacant updates k cell found = updates.others k
     (not_vacant cells key k cell vacant found)
 
-module _ {T : Type 0} {cells inserted : Slab (Cell T)} {ends : List Ends} {spare key : ℕ} {item : T} (list : ℕ)
+module _ {T : Type 0} {cells inserted : Slab (Cell T)} {ends : List Ends} {spare key : ℕ} {added : Cell T} (list : ℕ)
     (sound : IsSound cells ends spare) (vacant : get cells key ≡ None)
-    (updates : Updates cells inserted key (Some (cell_of item 0))) where
+    (updates : Updates cells inserted key (Some added)) where
   -- the first item of a list that was empty
   pushed_first : (first last : ℕ)
-      → ChangesList cells inserted ends list (extended (record { first = first; last = last; len = 0 }) key) (item ∷ [])
+      → ChangesList cells inserted ends list (extended (record { first = first; last = last; len = 0 }) key) (added.item ∷ [])
   pushed_first first last =
       changes_list cells inserted ends list _ _ sound.labels (labelled sound.labels key list 0) sound.listed
-      (cell_of item 0, updates.changed, relabel-same sound.labels.owner key list, omega arith, λ _. refl, tt)
+      (added, updates.changed, relabel-same sound.labels.owner key list, omega arith, λ _. refl, tt)
       (items_from-found inserted 0 key _ updates.changed)
       (λ other differs. record {
         at = λ k cell found owned placed. keeps_labelled cells inserted sound.labels key list 0 k cell vacant
@@ -157,7 +157,7 @@ module _ {T : Type 0} {cells inserted : Slab (Cell T)} {ends : List Ends} {spare
   -- the insertion and the link from the list's last cell
   linked_pushed : (now : Slab (Cell T)) (last : ℕ) → IsEnd cells sound.labels list last 0
       → now ≡ linked inserted last (get inserted last) key
-      → IsPushed cells now sound.labels (labelled sound.labels key list (sound.labels.place last + 1)) list last key item
+      → IsPushed cells now sound.labels (labelled sound.labels key list (sound.labels.place last + 1)) list last key added
   linked_pushed now last back is_linked =
       let found : get inserted last ≡ Some back.cell = inserted_keeps vacant updates last back.cell back.found ∙ back.found in
       let other = not_vacant cells key last back.cell vacant back.found in
@@ -183,14 +183,14 @@ module _ {T : Type 0} {cells inserted : Slab (Cell T)} {ends : List Ends} {spare
       → IsListed cells sound.labels list (record { first = first; last = last; len = suc n })
       → now ≡ linked inserted last (get inserted last) key
       → ChangesList cells now ends list (extended (record { first = first; last = last; len = suc n }) key) (items_from cells
-      (suc n) first ++ item ∷ [])
+      (suc n) first ++ added.item ∷ [])
   pushed_behind now n first last chain is_linked =
       let back = end_of cells sound.labels list last n 0 first chain in
       let pushed = linked_pushed now last back is_linked in
       let labels' = labelled sound.labels key list (sound.labels.place last + 1) in
       changes_list cells now ends list _ _ sound.labels labels' sound.listed
-      (rw (add-one (suc n)) (grown_chain cells now sound.labels labels' list last key item pushed n 0 first chain))
-      (rw (add-one (suc n)) (grown_items cells now sound.labels labels' list last key item pushed n 0 first chain))
+      (rw (add-one (suc n)) (grown_chain cells now sound.labels labels' list last key added pushed n 0 first chain))
+      (rw (add-one (suc n)) (grown_items cells now sound.labels labels' list last key added pushed n 0 first chain))
       (λ other differs. record {
         at = λ k cell found owned placed. pushed.others k cell (λ same. differs
             (sym owned ∙ ap sound.labels.owner same ∙ back.owned)) found;
@@ -198,11 +198,11 @@ module _ {T : Type 0} {cells inserted : Slab (Cell T)} {ends : List Ends} {spare
 
   -- what an insertion and the link to it change
   pub pushed : {now : Slab (Cell T)} {read : Ends} → HasEnds ends list read → now ≡ pointing inserted read.len read.last key
-      → ChangesList cells now ends list (extended read key) (items_of cells read ++ item ∷ [])
+      → ChangesList cells now ends list (extended read key) (items_of cells read ++ added.item ∷ [])
   pushed {now} {read} has is_pointing = by_len read.len (rw has.is at (sound.listed list)) is_pointing
     where
       by_len : (len : ℕ) → IsListed cells sound.labels list (record read { len = len })
           → now ≡ pointing inserted len read.last key
-          → ChangesList cells now ends list (extended (record read { len = len }) key) (items_from cells len read.first ++ item ∷ [])
+          → ChangesList cells now ends list (extended (record read { len = len }) key) (items_from cells len read.first ++ added.item ∷ [])
       by_len zero chain is_pointing = rw is_pointing (pushed_first read.first read.last)
       by_len (suc n) chain is_pointing = pushed_behind now n read.first read.last chain is_pointing

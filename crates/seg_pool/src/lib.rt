@@ -4,11 +4,11 @@
 //! and a look at the front take constant time. Only `new_list`, `reserve` and a push with no spare room take memory.
 #![tactic(auto)]
 
-ghost use Rattle.std.specs.Prelude.{◌≡◌, ◌+◌, ◌-◌, ◌<◌, ◌≤◌, ◌^◌, [], ◌∷◌, ◌++◌, length, drop, slice_get, OnOk, OnErr, IfErr, IfOk, IsOk, OnSome, IfNone};
+ghost use Rattle.std.specs.Prelude.{◌≡◌, ◌≢◌, ◌+◌, ◌-◌, ◌<◌, ◌≤◌, ◌^◌, [], ◌∷◌, ◌++◌, length, drop, slice_get, OnOk, OnErr, IfErr, IfOk, IsOk, OnSome, IfNone};
 ghost use Rattle.std.specs.Option.{option_copied};
 ghost use Rattle.slab.specs.Slab.{ContainsKey};
 ghost use Rattle.seg_pool.specs.Chain.{extended, pointing};
-ghost use Rattle.seg_pool.specs.Lists.{list_at, live, with_list};
+ghost use Rattle.seg_pool.specs.Lists.{list_at, live, with_list, with_passed};
 
 mod walk;
 
@@ -150,6 +150,7 @@ impl<T> Pool<T> {
     /// # Errors
     ///
     /// The item itself, where there is no memory, and then nothing changes. With spare room for one item it never comes.
+    #[inline(always)]
     pub fn push_back(&mut self, list: u32, item: T) -> Result<(), T>
         requires { list < length self.old.all }
         ensures pushed { OnOk result (self.new.all ≡ with_list self.old list (list_at self.old list ++ item ∷ [])) }
@@ -172,6 +173,7 @@ impl<T> Pool<T> {
     }
 
     /// Takes the first item of a list, which makes room for one more. None where the list is empty.
+    #[inline(always)]
     pub fn pop_front(&mut self, list: u32) -> Option<T>
         requires { list < length self.old.all }
         ensures first { result ≡ slice_get (list_at self.old list) 0 }
@@ -191,6 +193,30 @@ impl<T> Pool<T> {
         };
         self.spare = self.cells.capacity() - self.cells.len();
         Some(item)
+    }
+
+    /// Moves the first item of a list behind the last one of another list, where it keeps its place in memory. Nothing
+    /// changes where there is none.
+    #[inline(always)]
+    pub fn pass(&mut self, from: u32, to: u32)
+        requires lists { (from < length self.old.all) × (to < length self.old.all) }
+        requires apart { to ≢ from }
+        ensures passed { self.new.all ≡ with_passed self.old from to }
+        ensures spare { self.new.spare ≡ self.old.spare }
+    {
+        let source = self.lists[from as usize];
+        if source.len == 0 {
+            return;
+        }
+        // for the proof alone: all items can be counted, so those of the longer list can
+        let _all = self.cells.len();
+        self.lists[from as usize] = Ends {
+            first: self.cells[source.first].next,
+            last: source.last,
+            len: source.len - 1,
+        };
+        let target = self.lists[to as usize];
+        self.lists[to as usize] = extend(&mut self.cells, target, source.first);
     }
 
     /// The first item of a list, which stays there. None where the list is empty.

@@ -10,7 +10,7 @@ ghost use Rattle.rational.specs.InPlay.{of_two};
 ghost use Rattle.signal_ops.specs.Pointwise.{GreatestOf, IsFault, LeastOf, NamesShapes};
 
 use frac128::Memory;
-use pl_signal::{Builder, OpFault, Side, Signal, chosen, earlier, fault_of};
+use pl_signal::{Builder, Next, OpFault, Side, Signal, chosen, fault_of};
 use value_laws::Shape;
 
 /// The least of two signals at each time; both have one domain. Each of its shapes is a shape of one of them.
@@ -88,9 +88,10 @@ fn combined<P: Shape>(side: Side, a: &Signal<P>, b: &Signal<P>) -> Result<Signal
     let mut j = 0;
     while i < last {
         let (p, q) = (a.knot(i).after, b.knot(j).after);
-        let to = earlier(&a.knot(i + 1).time, &b.knot(j + 1).time);
-        let left = a.advance(i, &to);
-        let right = b.advance(j, &to);
+        let next = Next::of(&a.knot(i + 1).time, &b.knot(j + 1).time);
+        let to = next.time;
+        let left = a.advance(i, next.left, &to);
+        let right = b.advance(j, next.right, &to);
         let point = chosen(side, &left.shape, &right.shape, &to);
         match built.join_kept(side, &p, &q, &to, &point, &mut fault) {
             Ok(()) => {}

@@ -10,7 +10,7 @@ use Rattle.stl_syntax.specs.declared.node.Node.{Node}
 use Rattle.stl_grammar.specs.Grammar.{IsFormula, FormulaText, time_digits, value_digits}
 use Rattle.stl_grammar.specs.FormulaRefusals.{IsFormulaOf, IsFormulaFault, IsLateFault, TokenFault}
 use Rattle.stl_grammar.specs.Parsing.{Parse, settled_drafts}
-use Rattle.stl_grammar.specs.Reading.{IsRead, IsParsed}
+use Rattle.stl_grammar.specs.ReadText.{IsRead, IsParsed}
 use Rattle.stl_grammar.specs.Building.{AreNodes, IsBuilt, time_decimals, value_decimals}
 use Rattle.stl_grammar.specs.Drafts.{nodes_in}
 use Rattle.stl_grammar.proofs.RefusalExamples.{passed}

@@ -1,6 +1,6 @@
 -- The first token of a text.
 use Rattle.std.proofs.Common.{◌≡◌, ℕ, suc, zero, ◌+◌, ◌-◌, ◌<◌, ◌≤◌, min, Bool, true, false, List, [], ◌∷◌}
-use Rattle.std.proofs.Common.{◌++◌, length, take, drop, get_or, refl, sym, ap, ◌∙◌, arith, append_assoc}
+use Rattle.std.proofs.Common.{◌++◌, length, take, drop, get_or, refl, sym, ap, ◌∙◌, subst, arith, append_assoc}
 use Rattle.std.specs.Prelude.{◌==◌, ◌||◌, nat_lt, nat_le, IsTrue, MatchBool}
 use Rattle.std.specs.Str.{IsAscii}
 use Rattle.std.proofs.lemmas.Bool.{eqb-true}
@@ -10,7 +10,7 @@ use Rattle.stl_syntax.specs.Characters.{is_digit, begins_word, goes_on_word, all
 use Rattle.stl_grammar.specs.Tokens.{Token, word, number, relation, decimal_number, IsToken, a_word, an_integer, a_decimal}
 use Rattle.stl_syntax.specs.Names.{reserved, is_name}
 use Rattle.stl_grammar.specs.declared.decimal.Decimal.{Decimal}
-use Rattle.stl_grammar.specs.Told.{Tells, TellsNumber, IsNumber, IsLarge, spelling, IsLexeme, has_equal}
+use Rattle.stl_grammar.specs.Spelling.{Tells, TellsNumber, IsNumber, IsLarge, spelling, IsLexeme, has_equal}
 use Rattle.stl_syntax.proofs.DecimalLemmas.{all-without_zeros}
 use Rattle.stl_grammar.specs.declared.token.Keyword.{Keyword}
 use Rattle.stl_grammar.specs.declared.token.Token.{Token as Code}
@@ -93,6 +93,21 @@ point_at (c ∷ d ∷ more) h =
     let e : c ≡ 46 = grind (arith, nat_tests, h) in let k : is_digit d ≡ true = grind (arith, h) in
     (rw e refl, omega arith, k)
 
+-- behind the point of a number of the value v come l digits, of which k are kept; they make the value u
+pub record HasDecimals (decimals : List ℕ) (v l k u : ℕ) : Type 0 where
+  -- there are as many
+  pub within : l ≤ length decimals
+  -- they are digits
+  pub digits : all is_digit (take l decimals) ≡ true
+  -- and no more follow
+  pub stops : StopsAt is_digit (drop l decimals)
+  -- those that are kept are some of them
+  pub few : k ≤ length (take l decimals)
+  -- which are all but the zeros at the end
+  pub kept : take k (take l decimals) ≡ without_zeros (take l decimals)
+  -- with them the value is this, or both are beyond
+  pub value : min u 4294967296 ≡ min (decimal_value v (take k (take l decimals))) 4294967296
+
 -- a number at the front of a text: w digits, of the value v
 module _ (text rest : List ℕ) (w v : ℕ) (some : 0 < length rest) (first : is_digit (get_or rest 0 0) ≡ true) (within : w ≤ length rest)
     (front : all is_digit (take w rest) ≡ true) (stops : StopsAt is_digit (drop w rest))
@@ -114,24 +129,20 @@ module _ (text rest : List ℕ) (w v : ℕ) (some : 0 < length rest) (first : is
       }
 
   -- with l decimals, of which k are kept
-  pub decimal_lexeme : (l k u : ℕ) (d : Decimal) → begins_decimals (drop w rest) ≡ true → l ≤ length (drop (w + 1) rest)
-      → all is_digit (take l (drop (w + 1) rest)) ≡ true
-      → StopsAt is_digit (drop l (drop (w + 1) rest)) → k ≤ length (take l (drop (w + 1) rest))
-      → take k (take l (drop (w + 1) rest)) ≡ without_zeros (take l (drop (w + 1) rest))
-      → min u 4294967296 ≡ min (decimal_value v (take k (take l (drop (w + 1) rest)))) 4294967296 → TellsNumber u k d
+  pub decimal_lexeme : (l k u : ℕ) (d : Decimal) → begins_decimals (drop w rest) ≡ true → HasDecimals (drop (w + 1) rest) v l k u → TellsNumber u k d
       → IsLexeme text rest (Number d) (w + 1 + l)
-  decimal_lexeme l k u d b m f s n z e h =
+  decimal_lexeme l k u d b x h =
       let p = point_at (drop w rest) b in
       let same : drop 1 (drop w rest) ≡ drop (w + 1) rest = drop-drop 1 w rest in
       let starts : drop w rest ≡ 46 ∷ drop (w + 1) rest = rw same at p.0 in
       let more : 0 < length (drop (w + 1) rest) = rw same at p.1 in
       let digit : is_digit (get_or (drop (w + 1) rest) 0 0) ≡ true = rw same at p.2 in
       let fraction : List ℕ = take l (drop (w + 1) rest) in
-      let size : length fraction ≡ l = length-take-le l (drop (w + 1) rest) m in
-      let kept : length (without_zeros fraction) ≡ k = ap length (sym z) ∙ length-take-le k fraction n in
+      let size : length fraction ≡ l = length-take-le l (drop (w + 1) rest) x.within in
+      let kept : length (without_zeros fraction) ≡ k = ap length (sym x.kept) ∙ length-take-le k fraction x.few in
       let exact : min u 4294967296 ≡ min (decimal_value 0 (take w rest ++ without_zeros fraction)) 4294967296 =
-      e ∙ ap (λ xs. min (decimal_value v xs) 4294967296) z ∙ decimal_value-min v (decimal_value 0 (take w rest)) (without_zeros fraction) value
-      ∙ ap (λ x. min x 4294967296) (sym (decimal_value-append 0 (take w rest) (without_zeros fraction))) in
+      x.value ∙ ap (λ xs. min (decimal_value v xs) 4294967296) x.kept ∙ decimal_value-min v (decimal_value 0 (take w rest)) (without_zeros fraction) value
+      ∙ ap (λ y. min y 4294967296) (sym (decimal_value-append 0 (take w rest) (without_zeros fraction))) in
       record {
         bytes = take w rest ++ 46 ∷ fraction;
         after = drop l (drop (w + 1) rest);
@@ -140,7 +151,7 @@ module _ (text rest : List ℕ) (w v : ℕ) (some : 0 < length rest) (first : is
             ∙ ap (λ xs. take w rest ++ 46 ∷ xs) (take-append-drop l (drop (w + 1) rest)) ∙ ap (λ xs. take w rest ++ xs) (sym starts) ∙ take-append-drop w rest);
         size = length_two (take w rest) fraction w l (length-take-le w rest within) size;
         reads = decimal_token (take w rest) fraction (drop l (drop (w + 1) rest)) digits
-            (omega (arith, size, front_some is_digit (drop (w + 1) rest) l more digit s)) front f s;
+            (omega (arith, size, front_some is_digit (drop (w + 1) rest) l more digit x.stops)) front x.digits x.stops;
         tells = tells_number u _ _ d exact (rw kept h);
       }
     where
@@ -150,13 +161,10 @@ module _ (text rest : List ℕ) (w v : ℕ) (some : 0 < length rest) (first : is
       length_two (x ∷ xs) ys (suc a) b h k = omega (arith, length_two xs ys a b (omega (arith, h)) k)
 
   -- the same of slices that are these
-  pub decimal_lexeme_of : (others decimals : List ℕ) → others ≡ drop w rest → decimals ≡ drop 1 others → (l k u : ℕ) (d : Decimal)
-      → begins_decimals others ≡ true → l ≤ length decimals → all is_digit (take l decimals) ≡ true → StopsAt is_digit (drop l decimals)
-      → k ≤ length (take l decimals) → take k (take l decimals) ≡ without_zeros (take l decimals)
-      → min u 4294967296 ≡ min (decimal_value v (take k (take l decimals))) 4294967296 → TellsNumber u k d → IsLexeme text rest (Number d) (w + 1 + l)
-  decimal_lexeme_of others decimals o i l k u d b m f s n z e h =
-      let e' : decimals ≡ drop (w + 1) rest = i ∙ ap (drop 1) o ∙ drop-drop 1 w rest in
-      decimal_lexeme l k u d (rw o at b) (rw e' at m) (rw e' at f) (rw e' at s) (rw e' at n) (rw e' at z) (rw e' at e) h
+  pub decimal_lexeme_of : {decimals : List ℕ} (others : List ℕ) → others ≡ drop w rest → decimals ≡ drop 1 others → (l k u : ℕ) (d : Decimal)
+      → begins_decimals others ≡ true → HasDecimals decimals v l k u → TellsNumber u k d → IsLexeme text rest (Number d) (w + 1 + l)
+  decimal_lexeme_of others o i l k u d b x h =
+      decimal_lexeme l k u d (rw o at b) (subst (λ ds. HasDecimals ds v l k u) (i ∙ ap (drop 1) o ∙ drop-drop 1 w rest) x) h
 
   -- so for slices
   pub whole_lexeme_of : (others : List ℕ) → others ≡ drop w rest → (d : Decimal) → begins_decimals others ≡ false

@@ -13,7 +13,7 @@ pub mod ParserView
 pub mod ParserFit
 pub mod OneParse
 pub mod LawProofs
-pub mod JudgeLaw
+pub mod RefusingLaw
 pub mod ReadLaw
 pub mod Rescaled
 pub mod ParserReads

@@ -4,7 +4,7 @@ use Rattle.std.specs.Prelude.{Option, Some, None, not, ◌==◌}
 use Rattle.std.proofs.Math.Bool.{and-true, and-false}
 use Rattle.stl_syntax.specs.declared.rel.Rel.{Rel}
 use Rattle.stl_grammar.specs.declared.fault.What.{What}
-use Rattle.stl_grammar.specs.declared.fault.What.TheVariants.{Operand, Number, Bracket, Star, Name, Term, Relation, Constant, Paren, End}
+use Rattle.stl_grammar.specs.declared.fault.What.TheVariants.{Operand, Number, Bracket, Star, Term, Relation, Constant, Paren, End}
 use Rattle.stl_grammar.specs.Tokens.{Token, word, number, relation, open_paren, close_paren, open_bracket, close_bracket, comma, star, plus, minus}
 use Rattle.stl_grammar.specs.FormulaRefusals.{Pending, a_paren, an_operator, an_implies, after_operand, after_paren}
 use Rattle.stl_grammar.specs.FormulaRefusals.{ends_constant, pending_after, pending, has_paren, after_whole, expected}
@@ -446,16 +446,16 @@ module _ (h : Bool) (marks : List Mark) (n : ℕ) where
       split false d = let y = rw d at e in absurd (cc)
 
   -- a name after m other terms
-  name_view : (m : ℕ) (p : Place) (what : What) → is_operand what ≡ false → (before : List Token) → expected before ≡ what
+  name_view : {m : ℕ} {what : What} (p : Place) → is_operand what ≡ false → (before : List Token) → expected before ≡ what
       → pending before ≡ all_pending marks → nodes_made before ≡ n
       → terms_made before ≡ m → (w : List ℕ) (k : Kind) → kind w ≡ k → (next : State) → step_name m (there p) k ≡ Some next → View next (word w ∷ before)
-  name_view m p what y before x q c z w a_name f next e = same_view _ next _ e (record {
+  name_view {what = what} p y before x q c z w a_name f next e = same_view _ next _ e (record {
     shape = a_sign f;
     pend = pending_word w a_name before f ∙ q;
     count = count_word w a_name what before n f x c ∙ ap (λ b. if b then suc n else n) y;
     terms = terms_word w a_name before f ∙ ap (λ i. suc i) z;
   })
-  name_view m p what y before x q c z w _ f next e = absurd (cc)
+  name_view p y before x q c z w _ f next e = absurd (cc)
 
   term_terms : {m : ℕ} {before : List Token} → Shape (at_term m) before → Terms before
   term_terms (first_term s b) = signed_first s b
@@ -470,7 +470,7 @@ module _ (h : Bool) (marks : List Mark) (n : ℕ) where
     terms = z;
   })
   term_view m before x q c z (word w) next e =
-      name_view m (at_term m) Term refl before (shape_expected (at_term m) before marks x q) q c z w (kind w) refl next e
+      name_view (at_term m) refl before (shape_expected (at_term m) before marks x q) q c z w (kind w) refl next e
   term_view m before x q c z _ next e = absurd (cc)
 
   star_view : (m : ℕ) (before : List Token) → pending before ≡ all_pending marks → nodes_made before ≡ n → terms_made before ≡ m
@@ -482,7 +482,7 @@ module _ (h : Bool) (marks : List Mark) (n : ℕ) where
       → nodes_made before ≡ n → terms_made before ≡ m
       → (t : Token) (next : State) → step_at (at_name m) (there (at_name m)) t ≡ Some next → View next (t ∷ before)
   coefficient_view m before x q c z (word w) next e =
-      name_view m (at_name m) Name refl before (shape_expected (at_name m) before marks x q) q c z w (kind w) refl next e
+      name_view (at_name m) refl before (shape_expected (at_name m) before marks x q) q c z w (kind w) refl next e
   coefficient_view m before x q c z _ next e = absurd (cc)
 
   sign_view : {m : ℕ} {before : List Token} → Shape (at_sign m) before → pending before ≡ all_pending marks → nodes_made before ≡ n → terms_made before ≡ m

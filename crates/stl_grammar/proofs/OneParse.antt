@@ -202,10 +202,9 @@ abbrev after_timed : List (List ℕ)
 after_timed = codes "and" ∷ after_conjunct
 
 -- texts of at most n tokens are read in one way, where these words may follow
-abbrev Same : (ℕ → List Token → List Node → Type 0) → List (List ℕ) → ℕ → Type 0
-Same R words n = (k : ℕ) (ts us r r' : List Token) (ns ms : List Node) → length ts ≤ n → Ends words r → Ends words r' → R k ts ns
-    → R k us ms → ts ++ r ≡ us ++ r'
-    → (ns ≡ ms) × (r ≡ r')
+record Same (R : ℕ → List Token → List Node → Type 0) (words : List (List ℕ)) (n : ℕ) : Type 0 where
+  one_way : {k : ℕ} {ts us : List Token} {ns ms : List Node} (r r' : List Token) → length ts ≤ n → Ends words r → Ends words r' → R k ts ns
+      → R k us ms → ts ++ r ≡ us ++ r' → (ns ≡ ms) × (r ≡ r')
 
 -- further operands of a connective that groups to the left
 data More (R : ℕ → List Token → List Node → Type 0) (w : List ℕ) (node : ℕ → ℕ → Node) (k : ℕ) : List Node → List Token → List Node → Type 0 where
@@ -229,17 +228,18 @@ module _ (R : ℕ → List Token → List Node → Type 0) (w : List ℕ) (node 
   more_ends k (more q m) words r h = inl refl
 
   more_same : (n : ℕ) (words : List (List ℕ)) → ¬ OneOf w words → Same R (w ∷ words) n
-      → (k : ℕ) {ns all all' : List Node} {ts us : List Token} (r r' : List Token)
+      → {k : ℕ} {ns all all' : List Node} {ts us : List Token} (r r' : List Token)
       → More R w node k ns ts all → More R w node k ns us all' → length ts ≤ n → Ends words r → Ends words r' → ts ++ r ≡ us ++ r' → (all ≡ all') × (r ≡ r')
-  more_same n words fresh same k r r' none none l f g h = (refl, h)
-  more_same n words fresh same k r r' none (more q m) l f g h = let z = rw h at f in absurd (fresh z)
-  more_same n words fresh same k r r' (more q m) none l f g h = let z = rw (← h) at g in absurd (fresh z)
-  more_same n words fresh same k r r' (more {ns = ns} {ms} {us = us} {ts} q m) (more {ms = ms'} {us = us'} {ts = ts'} q' m') l f g h =
+  more_same n words fresh same r r' none none l f g h = (refl, h)
+  more_same n words fresh same r r' none (more q m) l f g h = let z = rw h at f in absurd (fresh z)
+  more_same n words fresh same r r' (more q m) none l f g h = let z = rw (← h) at g in absurd (fresh z)
+  more_same n words fresh same {k} r r' (more {ns = ns} {ms} {us = us} {ts} q m) (more {ms = ms'} {us = us'} {ts = ts'} q' m') l f g h =
       let e : us ++ ts ++ r ≡ us' ++ ts' ++ r' = cc in
-      let x = same (k + length ns) us us' (ts ++ r) (ts' ++ r') ms ms' (omega (arith, length-append us ts))
+      let i : length us ≤ n = omega (arith, length-append us ts) in
+      let x = same.one_way (ts ++ r) (ts' ++ r') i
       (more_ends k m words r f) (more_ends k m' words r' g) q q'
       (sym (append_assoc us ts r) ∙ (e ∙ append_assoc us' ts' r')) in
-      more_same n words fresh same k r r' m (rw x.0 m') (omega (arith, length-append us ts)) f g x.1
+      more_same n words fresh same r r' m (rw x.0 m') (omega (arith, length-append us ts)) f g x.1
 
 no_until : ¬ OneOf (codes "until") after_timed
 no_until (inl e) = cc
@@ -299,50 +299,51 @@ last_part : (ts us vs : List Token) (t : Token) (n : ℕ) → length (ts ++ t �
 last_part ts us vs t n l = omega (arith, length-append (ts ++ t ∷ us) vs, length-append ts (t ∷ us))
 
 -- operands of at most n tokens are read in one way, whatever follows
-abbrev OperandSame : Scale → ℕ → Type 0
-OperandSame s n = (k : ℕ) (ts us r r' : List Token) (ns ms : List Node) → length ts ≤ n → IsOperand s k ts ns
-    → IsOperand s k us ms → ts ++ r ≡ us ++ r' → (ns ≡ ms) × (r ≡ r')
+record OperandSame (s : Scale) (n : ℕ) : Type 0 where
+  one_operand : {k : ℕ} {ts us : List Token} {ns ms : List Node} (r r' : List Token) → length ts ≤ n → IsOperand s k ts ns
+      → IsOperand s k us ms → ts ++ r ≡ us ++ r' → (ns ≡ ms) × (r ≡ r')
 
 module _ (s : Scale) (n : ℕ) (same : OperandSame s n) where
-  timed_same : Same (IsTimed s) after_timed n
-  timed_same k ts us r r' ns ms l f g (operand p) (operand q) h = same k ts us r r' ns ms l p q h
-  timed_same k ts us r r' ns ms l f g (operand p) (until {ts = ts'} {us = bs'} {vs = vs'} {ns = ns'} q b q') h =
-      let x = same k ts ts' r (word (codes "until") ∷ bs' ++ vs' ++ r') ns ns' l p q (h ∙ simp append_assoc) in
+  timed_same : {k : ℕ} {ts us : List Token} {ns ms : List Node} (r r' : List Token) → length ts ≤ n → Ends after_timed r → Ends after_timed r'
+      → IsTimed s k ts ns → IsTimed s k us ms → ts ++ r ≡ us ++ r' → (ns ≡ ms) × (r ≡ r')
+  timed_same r r' l f g (operand p) (operand q) h = same.one_operand r r' l p q h
+  timed_same r r' l f g (operand p) (until {ts = ts'} {us = bs'} {vs = vs'} q b q') h =
+      let x = same.one_operand r (word (codes "until") ∷ bs' ++ vs' ++ r') l p q (h ∙ simp append_assoc) in
       let z = rw x.1 at f in absurd (no_until z)
-  timed_same k ts us r r' ns ms l f g (operand p) (since {ts = ts'} {us = bs'} {vs = vs'} {ns = ns'} q b q') h =
-      let x = same k ts ts' r (word (codes "since") ∷ bs' ++ vs' ++ r') ns ns' l p q (h ∙ simp append_assoc) in
+  timed_same r r' l f g (operand p) (since {ts = ts'} {us = bs'} {vs = vs'} q b q') h =
+      let x = same.one_operand r (word (codes "since") ∷ bs' ++ vs' ++ r') l p q (h ∙ simp append_assoc) in
       let z = rw x.1 at f in absurd (no_since z)
-  timed_same k ts us r r' ns ms l f g (until {ts = gs} {us = bs} {vs} {ns = ks} p b p') (operand q) h =
-      let x = same k gs us (word (codes "until") ∷ bs ++ vs ++ r) r' ks ms (first_part gs bs vs (word (codes "until")) n l) p q
+  timed_same r r' l f g (until {ts = gs} {us = bs} {vs} p b p') (operand q) h =
+      let x = same.one_operand (word (codes "until") ∷ bs ++ vs ++ r) r' (first_part gs bs vs (word (codes "until")) n l) p q
       (simp append_assoc (simp append_assoc at h)) in
       let z = rw (← x.1) at g in absurd (no_until z)
-  timed_same k ts us r r' ns ms l f g (since {ts = gs} {us = bs} {vs} {ns = ks} p b p') (operand q) h =
-      let x = same k gs us (word (codes "since") ∷ bs ++ vs ++ r) r' ks ms (first_part gs bs vs (word (codes "since")) n l) p q
+  timed_same r r' l f g (since {ts = gs} {us = bs} {vs} p b p') (operand q) h =
+      let x = same.one_operand (word (codes "since") ∷ bs ++ vs ++ r) r' (first_part gs bs vs (word (codes "since")) n l) p q
       (simp append_assoc (simp append_assoc at h)) in
       let z = rw (← x.1) at g in absurd (no_since z)
-  timed_same k ts us r r' ns ms l f g (until {ts = gs} {us = bs} {vs} {ns = ks} p b p') (since {ts = cs} {us = ds} {vs = es} {ns = cs'} q d q') h =
-      let x = same k gs cs (word (codes "until") ∷ bs ++ vs ++ r) (word (codes "since") ∷ ds ++ es ++ r') ks cs'
+  timed_same r r' l f g (until {ts = gs} {us = bs} {vs} p b p') (since {ts = cs} {us = ds} {vs = es} q d q') h =
+      let x = same.one_operand (word (codes "until") ∷ bs ++ vs ++ r) (word (codes "since") ∷ ds ++ es ++ r')
       (first_part gs bs vs (word (codes "until")) n l) p q (simp append_assoc (simp append_assoc at h)) in
       absurd (until_since (same_word _ _ _ _ x.1))
-  timed_same k ts us r r' ns ms l f g (since {ts = gs} {us = bs} {vs} {ns = ks} p b p') (until {ts = cs} {us = ds} {vs = es} {ns = cs'} q d q') h =
-      let x = same k gs cs (word (codes "since") ∷ bs ++ vs ++ r) (word (codes "until") ∷ ds ++ es ++ r') ks cs'
+  timed_same r r' l f g (since {ts = gs} {us = bs} {vs} p b p') (until {ts = cs} {us = ds} {vs = es} q d q') h =
+      let x = same.one_operand (word (codes "since") ∷ bs ++ vs ++ r) (word (codes "until") ∷ ds ++ es ++ r')
       (first_part gs bs vs (word (codes "since")) n l) p q (simp append_assoc (simp append_assoc at h)) in
       absurd (until_since (sym (same_word _ _ _ _ x.1)))
-  timed_same k ts us r r' ns ms l f g (until {ts = gs} {us = bs} {vs} {ns = ks} {ms = ps} p b p')
-      (until {ts = cs} {us = ds} {vs = es} {ns = cs'} {ms = qs} q d q') h =
-      let x = same k gs cs (word (codes "until") ∷ bs ++ vs ++ r) (word (codes "until") ∷ ds ++ es ++ r') ks cs'
+  timed_same r r' l f g (until {ts = gs} {us = bs} {vs} p b p')
+      (until {ts = cs} {us = ds} {vs = es} q d q') h =
+      let x = same.one_operand (word (codes "until") ∷ bs ++ vs ++ r) (word (codes "until") ∷ ds ++ es ++ r')
       (first_part gs bs vs (word (codes "until")) n l) p q (simp append_assoc (simp append_assoc at h)) in
       let e : bs ++ vs ++ r ≡ ds ++ es ++ r' = same_rest _ _ _ _ x.1 in
       let y = until_same (vs ++ r) (es ++ r') b d (sym (append_assoc bs vs r) ∙ (e ∙ append_assoc ds es r')) in
-      let z = same (k + length ks) vs es r r' ps qs (last_part gs bs vs (word (codes "until")) n l) p' (rw x.0 q') y.2 in
+      let z = same.one_operand r r' (last_part gs bs vs (word (codes "until")) n l) p' (rw x.0 q') y.2 in
       (rw (x.0, y.0, y.1, z.0) refl, z.1)
-  timed_same k ts us r r' ns ms l f g (since {ts = gs} {us = bs} {vs} {ns = ks} {ms = ps} p b p')
-      (since {ts = cs} {us = ds} {vs = es} {ns = cs'} {ms = qs} q d q') h =
-      let x = same k gs cs (word (codes "since") ∷ bs ++ vs ++ r) (word (codes "since") ∷ ds ++ es ++ r') ks cs'
+  timed_same r r' l f g (since {ts = gs} {us = bs} {vs} p b p')
+      (since {ts = cs} {us = ds} {vs = es} q d q') h =
+      let x = same.one_operand (word (codes "since") ∷ bs ++ vs ++ r) (word (codes "since") ∷ ds ++ es ++ r')
       (first_part gs bs vs (word (codes "since")) n l) p q (simp append_assoc (simp append_assoc at h)) in
       let e : bs ++ vs ++ r ≡ ds ++ es ++ r' = same_rest _ _ _ _ x.1 in
       let y = since_same (vs ++ r) (es ++ r') b d (sym (append_assoc bs vs r) ∙ (e ∙ append_assoc ds es r')) (operand_bracket r p') (operand_bracket r' q') in
-      let z = same (k + length ks) vs es r r' ps qs (last_part gs bs vs (word (codes "since")) n l) p' (rw x.0 q') y.2 in
+      let z = same.one_operand r r' (last_part gs bs vs (word (codes "since")) n l) p' (rw x.0 q') y.2 in
       (rw (x.0, y.0, y.1, z.0) refl, z.1)
 
 -- the left side of a conjunction, as the first operand and further ones
@@ -374,41 +375,45 @@ disjunct_list {s} {k} (or {ts = ts} {us} {ns} {ms} c t) =
     )
 
 module _ (R : ℕ → List Token → List Node → Type 0) (w : List ℕ) (node : ℕ → ℕ → Node) (words : List (List ℕ)) (fresh : ¬ OneOf w words) where
-  listed_same : (n : ℕ) → Same R (w ∷ words) n → (k : ℕ) (ts us r r' : List Token) (ns ms : List Node) → length ts ≤ n → Ends words r → Ends words r'
-      → Listed R w node k ts ns → Listed R w node k us ms → ts ++ r ≡ us ++ r' → (ns ≡ ms) × (r ≡ r')
-  listed_same n same k ts us r r' ns ms l f g x y h =
+  listed_same : (n : ℕ) → Same R (w ∷ words) n → (k : ℕ) {ts us : List Token} (r r' : List Token) {ns ms : List Node} → length ts ≤ n
+      → Ends words r → Ends words r' → Listed R w node k ts ns → Listed R w node k us ms → ts ++ r ≡ us ++ r' → (ns ≡ ms) × (r ≡ r')
+  listed_same n same k r r' l f g x y h =
       let e : x.0 ++ (x.1 ++ r) ≡ y.0 ++ (y.1 ++ r') = simp append_assoc at (rw (x.5, y.5) at h) in
       let j : length x.0 + length x.1 ≤ n = omega (arith, ap (λ z. length z) x.5, length-append x.0 x.1) in
-      let a = same k x.0 y.0 (x.1 ++ r) (y.1 ++ r') x.2 y.2 (omega arith) (more_ends R w node k x.4 words r f)
+      let i : length x.0 ≤ n = omega arith in
+      let a = same.one_way (x.1 ++ r) (y.1 ++ r') i (more_ends R w node k x.4 words r f)
       (more_ends R w node k y.4 words r' g) x.3 y.3 e in
-      more_same R w node n words fresh same k r r' x.4 (rw a.0 y.4) (omega arith) f g a.1
+      more_same R w node n words fresh same r r' x.4 (rw a.0 y.4) (omega arith) f g a.1
 
 module _ (s : Scale) (n : ℕ) (same : OperandSame s n) where
-  conjunct_same : Same (IsConjunct s) after_conjunct n
-  conjunct_same k ts us r r' ns ms l f g p q h =
-      listed_same (IsTimed s) (codes "and") And after_conjunct no_and n (timed_same s n same) k ts us r r' ns ms l f g (conjunct_list p) (conjunct_list q) h
+  conjunct_same : {k : ℕ} {ts us : List Token} {ns ms : List Node} (r r' : List Token) → length ts ≤ n → Ends after_conjunct r → Ends after_conjunct r'
+      → IsConjunct s k ts ns → IsConjunct s k us ms → ts ++ r ≡ us ++ r' → (ns ≡ ms) × (r ≡ r')
+  conjunct_same {k} r r' l f g p q h =
+      listed_same (IsTimed s) (codes "and") And after_conjunct no_and n (record { one_way = timed_same s n same }) k r r' l f g
+      (conjunct_list p) (conjunct_list q) h
 
-  disjunct_same : Same (IsDisjunct s) after_disjunct n
-  disjunct_same k ts us r r' ns ms l f g p q h =
-      listed_same (IsConjunct s) (codes "or") Or after_disjunct no_or n conjunct_same k ts us r r' ns ms l f g (disjunct_list p) (disjunct_list q) h
+  disjunct_same : {k : ℕ} {ts us : List Token} {ns ms : List Node} (r r' : List Token) → length ts ≤ n → Ends after_disjunct r → Ends after_disjunct r'
+      → IsDisjunct s k ts ns → IsDisjunct s k us ms → ts ++ r ≡ us ++ r' → (ns ≡ ms) × (r ≡ r')
+  disjunct_same {k} r r' l f g p q h =
+      listed_same (IsConjunct s) (codes "or") Or after_disjunct no_or n (record { one_way = conjunct_same }) k r r' l f g (disjunct_list p) (disjunct_list q) h
 
   formula_same : (k : ℕ) {ts us : List Token} (r r' : List Token) {ns ms : List Node} → length ts ≤ n → Ends [] r → Ends [] r'
       → IsFormula s k ts ns → IsFormula s k us ms → ts ++ r ≡ us ++ r' → (ns ≡ ms) × (r ≡ r')
   formula_same k r r' l f g (disjunct {ts = ts} {ns} p) (disjunct {ts = us} {ns = ms} q) h =
-      disjunct_same k ts us r r' ns ms l (ends_more _ [] r f) (ends_more _ [] r' g) p q h
+      disjunct_same r r' l (ends_more _ [] r f) (ends_more _ [] r' g) p q h
   formula_same k r r' l f g (disjunct {ts = ts} {ns} p) (implies {ts = us} {us = vs} {ns = ms} q e) h =
-      let x = disjunct_same k ts us r (word (codes "implies") ∷ vs ++ r') ns ms l (ends_more _ [] r f) (inl refl) p q (h
+      let x = disjunct_same r (word (codes "implies") ∷ vs ++ r') l (ends_more _ [] r f) (inl refl) p q (h
       ∙ append_assoc us (word (codes "implies") ∷ vs) r') in
       absurd (rw x.1 at f)
   formula_same k r r' l f g (implies {ts = ts} {us = vs} {ns = ns} p e) (disjunct {ts = us} {ns = ms} q) h =
       let j : length ts ≤ n = omega (arith, length-append ts (word (codes "implies") ∷ vs)) in
-      let x = disjunct_same k ts us (word (codes "implies") ∷ vs ++ r) r' ns ms j (inl refl) (ends_more _ [] r' g) p q
+      let x = disjunct_same (word (codes "implies") ∷ vs ++ r) r' j (inl refl) (ends_more _ [] r' g) p q
       (sym (append_assoc ts (word (codes "implies") ∷ vs) r) ∙ h) in
       absurd (rw (← x.1) at g)
-  formula_same k r r' l f g (implies {ts = ts} {us = vs} {ns = ns} {ms = ps} p e) (implies {ts = us} {us = xs} {ns = ms} {ms = qs} q d) h =
+  formula_same k r r' l f g (implies {ts = ts} {us = vs} {ns = ns} p e) (implies {ts = us} {us = xs} {ns = ms} q d) h =
       let j : length ts ≤ n = omega (arith, length-append ts (word (codes "implies") ∷ vs)) in
       let i : length vs ≤ n = omega (arith, length-append ts (word (codes "implies") ∷ vs)) in
-      let x = disjunct_same k ts us (word (codes "implies") ∷ vs ++ r) (word (codes "implies") ∷ xs ++ r') ns ms j (inl refl) (inl refl) p q
+      let x = disjunct_same (word (codes "implies") ∷ vs ++ r) (word (codes "implies") ∷ xs ++ r') j (inl refl) (inl refl) p q
       (sym (append_assoc ts (word (codes "implies") ∷ vs) r) ∙ (h ∙ append_assoc us (word (codes "implies") ∷ xs) r')) in
       let y = formula_same (k + length ns) r r' i f g e (rw x.0 d) (same_rest _ _ _ _ x.1) in
       (rw (x.0, y.0) refl, y.1)
@@ -427,82 +432,85 @@ operand_length (atom (first {ts = ts} {us} {vs} {rel = p} t u c)) = omega (arith
 operand_length (atom (signed {us = us} {vs} {rel = p} u c)) = omega (arith, length-append us (relation p ∷ vs))
 
 -- operands are read in one way, whatever follows
-operand_same : (s : Scale) (n : ℕ) → OperandSame s n
-operand_same s zero k ts us r r' ns ms l p q h = let x = operand_length p in absurd (omega arith)
-operand_same s (suc n) k ts us r r' ns ms l (not {ts = vs} {ns = ps} p) (not {ts = xs} {ns = qs} q) h =
-    let y = operand_same s n k vs xs r r' ps qs (omega arith) p q (same_rest _ _ _ _ h) in (rw y.0 refl, y.1)
-operand_same s (suc n) k ts us r r' ns ms l (not {ts = vs} p) (atom a) h = let x = atom_word (codes "not") (vs ++ r) r' a h in absurd (cc)
-operand_same s (suc n) k ts us r r' ns ms l (not p) _ h = absurd (apart (ts ++ r) (us ++ r') refl h)
-operand_same s (suc n) k ts us r r' ns ms l (eventually {ts = vs} {us = bs} {ns = ps} b p) (eventually {ts = xs} {us = ds} {ns = qs} d q) h =
+operand_same : (s : Scale) (n : ℕ) {k : ℕ} {ts us : List Token} {ns ms : List Node} (r r' : List Token) → length ts ≤ n → IsOperand s k ts ns
+    → IsOperand s k us ms → ts ++ r ≡ us ++ r' → (ns ≡ ms) × (r ≡ r')
+operand_same s zero r r' l p q h = let x = operand_length p in absurd (omega arith)
+operand_same s (suc n) r r' l (not {ts = vs} p) (not {ts = xs} q) h =
+    let j : length vs ≤ n = omega arith in
+    let y = operand_same s n r r' j p q (same_rest _ _ _ _ h) in (rw y.0 refl, y.1)
+operand_same s (suc n) r r' l (not {ts = vs} p) (atom a) h = let x = atom_word (codes "not") (vs ++ r) r' a h in absurd (cc)
+operand_same s (suc n) r r' l (not p) _ h = absurd (apart _ _ refl h)
+operand_same s (suc n) r r' l (eventually {ts = vs} {us = bs} b p) (eventually {ts = xs} {us = ds} d q) h =
     let e : bs ++ vs ++ r ≡ ds ++ xs ++ r' = same_rest _ _ _ _ h in
     let x = window_same (vs ++ r) (xs ++ r') b d (sym (append_assoc bs vs r) ∙ (e ∙ append_assoc ds xs r')) in
     let j : length vs ≤ n = omega (arith, length-append bs vs) in
-    let y = operand_same s n k vs xs r r' ps qs j p q x.4 in
+    let y = operand_same s n r r' j p q x.4 in
     (rw (x.0, x.1, x.2, x.3, y.0) refl, y.1)
-operand_same s (suc n) k ts us r r' ns ms l (eventually {ts = vs} {us = bs} b p) (atom a) h =
+operand_same s (suc n) r r' l (eventually {ts = vs} {us = bs} b p) (atom a) h =
     let x = atom_word (codes "eventually") (bs ++ vs ++ r) r' a h in
     absurd (cc)
-operand_same s (suc n) k ts us r r' ns ms l (eventually b p) _ h = absurd (apart (ts ++ r) (us ++ r') refl h)
-operand_same s (suc n) k ts us r r' ns ms l (always {ts = vs} {us = bs} {ns = ps} b p) (always {ts = xs} {us = ds} {ns = qs} d q) h =
+operand_same s (suc n) r r' l (eventually b p) _ h = absurd (apart _ _ refl h)
+operand_same s (suc n) r r' l (always {ts = vs} {us = bs} b p) (always {ts = xs} {us = ds} d q) h =
     let e : bs ++ vs ++ r ≡ ds ++ xs ++ r' = same_rest _ _ _ _ h in
     let x = window_same (vs ++ r) (xs ++ r') b d (sym (append_assoc bs vs r) ∙ (e ∙ append_assoc ds xs r')) in
     let j : length vs ≤ n = omega (arith, length-append bs vs) in
-    let y = operand_same s n k vs xs r r' ps qs j p q x.4 in
+    let y = operand_same s n r r' j p q x.4 in
     (rw (x.0, x.1, x.2, x.3, y.0) refl, y.1)
-operand_same s (suc n) k ts us r r' ns ms l (always {ts = vs} {us = bs} b p) (atom a) h =
+operand_same s (suc n) r r' l (always {ts = vs} {us = bs} b p) (atom a) h =
     let x = atom_word (codes "always") (bs ++ vs ++ r) r' a h in
     absurd (cc)
-operand_same s (suc n) k ts us r r' ns ms l (always b p) _ h = absurd (apart (ts ++ r) (us ++ r') refl h)
-operand_same s (suc n) k ts us r r' ns ms l (once {ts = vs} {us = bs} {ns = ps} b p) (once {ts = xs} {us = ds} {ns = qs} d q) h =
+operand_same s (suc n) r r' l (always b p) _ h = absurd (apart _ _ refl h)
+operand_same s (suc n) r r' l (once {ts = vs} {us = bs} b p) (once {ts = xs} {us = ds} d q) h =
     let e : bs ++ vs ++ r ≡ ds ++ xs ++ r' = same_rest _ _ _ _ h in
     let x = past_same (vs ++ r) (xs ++ r') b d (sym (append_assoc bs vs r) ∙ (e ∙ append_assoc ds xs r')) (operand_bracket r p) (operand_bracket r' q) in
     let j : length vs ≤ n = omega (arith, length-append bs vs) in
-    let y = operand_same s n k vs xs r r' ps qs j p q x.4 in
+    let y = operand_same s n r r' j p q x.4 in
     (rw (x.0, x.1, x.2, x.3, y.0) refl, y.1)
-operand_same s (suc n) k ts us r r' ns ms l (once {ts = vs} {us = bs} b p) (atom a) h = let x = atom_word (codes "once") (bs ++ vs ++ r) r' a h in absurd (cc)
-operand_same s (suc n) k ts us r r' ns ms l (once b p) _ h = absurd (apart (ts ++ r) (us ++ r') refl h)
-operand_same s (suc n) k ts us r r' ns ms l (historically {ts = vs} {us = bs} {ns = ps} b p) (historically {ts = xs} {us = ds} {ns = qs} d q) h =
+operand_same s (suc n) r r' l (once {ts = vs} {us = bs} b p) (atom a) h = let x = atom_word (codes "once") (bs ++ vs ++ r) r' a h in absurd (cc)
+operand_same s (suc n) r r' l (once b p) _ h = absurd (apart _ _ refl h)
+operand_same s (suc n) r r' l (historically {ts = vs} {us = bs} b p) (historically {ts = xs} {us = ds} d q) h =
     let e : bs ++ vs ++ r ≡ ds ++ xs ++ r' = same_rest _ _ _ _ h in
     let x = past_same (vs ++ r) (xs ++ r') b d (sym (append_assoc bs vs r) ∙ (e ∙ append_assoc ds xs r')) (operand_bracket r p) (operand_bracket r' q) in
     let j : length vs ≤ n = omega (arith, length-append bs vs) in
-    let y = operand_same s n k vs xs r r' ps qs j p q x.4 in
+    let y = operand_same s n r r' j p q x.4 in
     (rw (x.0, x.1, x.2, x.3, y.0) refl, y.1)
-operand_same s (suc n) k ts us r r' ns ms l (historically {ts = vs} {us = bs} b p) (atom a) h =
+operand_same s (suc n) r r' l (historically {ts = vs} {us = bs} b p) (atom a) h =
     let x = atom_word (codes "historically") (bs ++ vs ++ r) r' a h in
     absurd (cc)
-operand_same s (suc n) k ts us r r' ns ms l (historically b p) _ h = absurd (apart (ts ++ r) (us ++ r') refl h)
-operand_same s (suc n) k ts us r r' ns ms l always_true always_true h = (refl, same_rest _ _ _ _ h)
-operand_same s (suc n) k ts us r r' ns ms l always_true (atom a) h = let x = atom_word (codes "true") r r' a h in absurd (cc)
-operand_same s (suc n) k ts us r r' ns ms l always_true _ h = absurd (apart (ts ++ r) (us ++ r') refl h)
-operand_same s (suc n) k ts us r r' ns ms l always_false always_false h = (refl, same_rest _ _ _ _ h)
-operand_same s (suc n) k ts us r r' ns ms l always_false (atom a) h = let x = atom_word (codes "false") r r' a h in absurd (cc)
-operand_same s (suc n) k ts us r r' ns ms l always_false _ h = absurd (apart (ts ++ r) (us ++ r') refl h)
-operand_same s (suc n) k ts us r r' ns ms l (parens {ts = vs} p) (parens {ts = xs} q) h =
+operand_same s (suc n) r r' l (historically b p) _ h = absurd (apart _ _ refl h)
+operand_same s (suc n) r r' l always_true always_true h = (refl, same_rest _ _ _ _ h)
+operand_same s (suc n) r r' l always_true (atom a) h = let x = atom_word (codes "true") r r' a h in absurd (cc)
+operand_same s (suc n) r r' l always_true _ h = absurd (apart _ _ refl h)
+operand_same s (suc n) r r' l always_false always_false h = (refl, same_rest _ _ _ _ h)
+operand_same s (suc n) r r' l always_false (atom a) h = let x = atom_word (codes "false") r r' a h in absurd (cc)
+operand_same s (suc n) r r' l always_false _ h = absurd (apart _ _ refl h)
+operand_same s (suc n) {k} r r' l (parens {ts = vs} p) (parens {ts = xs} q) h =
     let e : vs ++ close_paren ∷ [] ++ r ≡ xs ++ close_paren ∷ [] ++ r' = same_rest _ _ _ _ h in
     let j : length vs ≤ n = omega (arith, length-append vs (close_paren ∷ [])) in
-    let x = formula_same s n (operand_same s n) k (close_paren ∷ r) (close_paren ∷ r') j tt tt p q
+    let x = formula_same s n (record { one_operand = operand_same s n }) k (close_paren ∷ r) (close_paren ∷ r') j tt tt p q
     (sym (append_assoc vs (close_paren ∷ []) r) ∙ (e ∙ append_assoc xs (close_paren ∷ []) r')) in
     (x.0, same_rest _ _ _ _ x.1)
-operand_same s (suc n) k ts us r r' ns ms l (parens {ts = vs} p) (atom a) h = absurd (atom_paren (vs ++ close_paren ∷ [] ++ r) r' a h)
-operand_same s (suc n) k ts us r r' ns ms l (parens p) _ h = absurd (apart (ts ++ r) (us ++ r') refl h)
-operand_same s (suc n) k ts us r r' ns ms l (atom a) (atom b) h = let x = atom_same r r' a b h in (rw x.0 refl, x.1)
-operand_same s (suc n) k ts us r r' ns ms l (atom a) (not {ts = xs} q) h = let x = atom_word (codes "not") (xs ++ r') r a (sym h) in absurd (cc)
-operand_same s (suc n) k ts us r r' ns ms l (atom a) (eventually {ts = xs} {us = ds} d q) h =
+operand_same s (suc n) r r' l (parens {ts = vs} p) (atom a) h = absurd (atom_paren (vs ++ close_paren ∷ [] ++ r) r' a h)
+operand_same s (suc n) r r' l (parens p) _ h = absurd (apart _ _ refl h)
+operand_same s (suc n) r r' l (atom a) (atom b) h = let x = atom_same r r' a b h in (rw x.0 refl, x.1)
+operand_same s (suc n) r r' l (atom a) (not {ts = xs} q) h = let x = atom_word (codes "not") (xs ++ r') r a (sym h) in absurd (cc)
+operand_same s (suc n) r r' l (atom a) (eventually {ts = xs} {us = ds} d q) h =
     let x = atom_word (codes "eventually") (ds ++ xs ++ r') r a (sym h) in
     absurd (cc)
-operand_same s (suc n) k ts us r r' ns ms l (atom a) (always {ts = xs} {us = ds} d q) h =
+operand_same s (suc n) r r' l (atom a) (always {ts = xs} {us = ds} d q) h =
     let x = atom_word (codes "always") (ds ++ xs ++ r') r a (sym h) in
     absurd (cc)
-operand_same s (suc n) k ts us r r' ns ms l (atom a) (once {ts = xs} {us = ds} d q) h =
+operand_same s (suc n) r r' l (atom a) (once {ts = xs} {us = ds} d q) h =
     let x = atom_word (codes "once") (ds ++ xs ++ r') r a (sym h) in
     absurd (cc)
-operand_same s (suc n) k ts us r r' ns ms l (atom a) (historically {ts = xs} {us = ds} d q) h =
+operand_same s (suc n) r r' l (atom a) (historically {ts = xs} {us = ds} d q) h =
     let x = atom_word (codes "historically") (ds ++ xs ++ r') r a (sym h) in
     absurd (cc)
-operand_same s (suc n) k ts us r r' ns ms l (atom a) always_true h = let x = atom_word (codes "true") r' r a (sym h) in absurd (cc)
-operand_same s (suc n) k ts us r r' ns ms l (atom a) always_false h = let x = atom_word (codes "false") r' r a (sym h) in absurd (cc)
-operand_same s (suc n) k ts us r r' ns ms l (atom a) (parens {ts = xs} q) h = absurd (atom_paren (xs ++ close_paren ∷ [] ++ r') r a (sym h))
+operand_same s (suc n) r r' l (atom a) always_true h = let x = atom_word (codes "true") r' r a (sym h) in absurd (cc)
+operand_same s (suc n) r r' l (atom a) always_false h = let x = atom_word (codes "false") r' r a (sym h) in absurd (cc)
+operand_same s (suc n) r r' l (atom a) (parens {ts = xs} q) h = absurd (atom_paren (xs ++ close_paren ∷ [] ++ r') r a (sym h))
 
 -- tokens are a formula in at most one way
 pub nodes_unique : {s : Scale} {k : ℕ} {ts : List Token} {ns ms : List Node} → IsFormula s k ts ns → IsFormula s k ts ms → ns ≡ ms
-nodes_unique {s} {k} {ts} f g = (formula_same s (length ts) (operand_same s (length ts)) k {ts = ts} {us = ts} [] [] (omega arith) tt tt f g refl).0
+nodes_unique {s} {k} {ts} f g =
+    (formula_same s (length ts) (record { one_operand = operand_same s (length ts) }) k {ts = ts} {us = ts} [] [] (omega arith) tt tt f g refl).0

@@ -11,10 +11,9 @@ use Rattle.stl_syntax.specs.declared.atom.Atom.{Atom}
 use Rattle.stl_syntax.specs.declared.atom.Term.{Term}
 use Rattle.stl_syntax.specs.declared.rel.Rel.{Rel}
 use Rattle.stl_syntax.specs.declared.node.Node.{Node}
-use Rattle.stl_syntax.specs.declared.node.Node.TheVariants.{Atom as Leaf, Not as TheNot, And as TheAnd, Or as TheOr}
-use Rattle.stl_syntax.specs.declared.node.Node.TheVariants.{Implies as TheImplies, Until as TheUntil}
+use Rattle.stl_syntax.specs.declared.node.Node.TheVariants.{Atom as Leaf, Not as TheNot}
 use Rattle.stl_syntax.specs.declared.node.Node.TheVariants.{Eventually as TheEventually, Always as TheAlways}
-use Rattle.stl_syntax.specs.declared.node.Node.TheVariants.{Since as TheSince, Once as TheOnce}
+use Rattle.stl_syntax.specs.declared.node.Node.TheVariants.{Once as TheOnce}
 use Rattle.stl_syntax.specs.declared.node.Node.TheVariants.{Historically as TheHistorically}
 use Rattle.stl_grammar.specs.Grammar.{top, Token, word, number, relation, close_paren, open_bracket, close_bracket, comma}
 use Rattle.stl_grammar.specs.Grammar.{IsConstant, plain, positive, negative, IsTerm, scaled, AreTerms, more_plus, more_minus}
@@ -25,21 +24,21 @@ use Rattle.stl_grammar.specs.Grammar.IsPast.{nothing as since_nothing, bounded a
 use Rattle.stl_grammar.specs.Grammar.{IsFormula, IsDisjunct, IsConjunct, IsTimed, IsOperand, disjunct, implies}
 use Rattle.stl_grammar.specs.Grammar.{conjunct, or, timed, and, operand, until, since, not, eventually, always}
 use Rattle.stl_grammar.specs.Grammar.{once, historically, always_true, always_false, parens, atom}
-use Rattle.stl_grammar.specs.Told.{Tells}
+use Rattle.stl_grammar.specs.Spelling.{Tells}
 use Rattle.stl_grammar.specs.Taken.{Taken}
 use Rattle.stl_grammar.specs.Drafts.{ticks_of, past_low, past_high, past_low_in, past_high_in, one_in, two_in, nodes_in}
 use Rattle.stl_grammar.specs.Parsing.{Parse, infix_rank, rank, top_rank, node_of_frame, settled_drafts, settled_frames}
 use Rattle.stl_grammar.specs.Parsing.{settled, coefficient, signed, may_be_open, back, bounded_frame, back_frame, parse_step}
 use Rattle.stl_grammar.specs.Parsing.{between}
-use Rattle.stl_grammar.specs.Judging.{bad_in}
+use Rattle.stl_grammar.specs.Refusing.{bad_in}
 use Rattle.stl_grammar.specs.declared.decimal.Decimal.{Decimal}
 use Rattle.stl_grammar.specs.declared.token.Keyword.TheVariants.{True, False, Not, And, Or, Implies, Until, Since, Eventually, Always, Once, Historically, Inf}
 use Rattle.stl_grammar.specs.declared.token.Token.{Token as Code}
 use Rattle.stl_grammar.specs.declared.token.Token.TheVariants.{Keyword as IsKeyword, Number, Relation, OpenParen, CloseParen}
 use Rattle.stl_grammar.specs.declared.token.Token.TheVariants.{OpenBracket, CloseBracket, Comma, Star, Plus, Minus}
 use Rattle.stl_grammar.specs.declared.draft.Window.{Window}
-use Rattle.stl_grammar.specs.declared.draft.Past.{Past}
-use Rattle.stl_grammar.specs.declared.draft.Past.TheVariants.{Whole, From, Within}
+use Rattle.stl_grammar.specs.declared.draft.PastBound.{PastBound}
+use Rattle.stl_grammar.specs.declared.draft.PastBound.TheVariants.{Whole, From, Within}
 use Rattle.stl_grammar.specs.declared.draft.Prefix.{Prefix}
 use Rattle.stl_grammar.specs.declared.draft.Prefix.TheVariants.{Not as Negation, Eventually as AtSome, Always as AtEach}
 use Rattle.stl_grammar.specs.declared.draft.Prefix.TheVariants.{Once as BackAtSome, Historically as BackAtEach}
@@ -305,7 +304,7 @@ module _ (text : List ℕ) (frames : List Frame) (drafts : List Draft) (n : ℕ)
 
   abbrev PastRead : ℕ → Back → ℕ → Option ℕ → Bool → Bool → List Token → Parse → Type 0
   PastRead digits b low high x y ts q =
-      (z : Past) × (past_low digits z ≡ low) × (past_high digits z ≡ high) × (past_low_in z ≡ x) × (past_high_in z ≡ y)
+      (z : PastBound) × (past_low digits z ≡ low) × (past_high digits z ≡ high) × (past_low_in z ≡ x) × (past_high_in z ≡ y)
       × Reads text (at Operand (back_frame b z (length drafts - 1) ∷ frames) drafts [] n) ts q
 
   -- no bound, before an operand
@@ -457,11 +456,11 @@ operand_state frames drafts j l = rw (frames_stay 5 frames l, drafts_stay 5 fram
 le_self : (n : ℕ) → nat_le n n ≡ true
 le_self n = grind (arith, nat_tests)
 
-two_nodes : (s : Scale) (k : ℕ) (ns ms : List Node) (drafts xs ys : List Draft) (o : Infix) (x : Node) → length drafts ≡ k
+two_nodes : {k : ℕ} {ns ms : List Node} {x : Node} (s : Scale) (drafts xs ys : List Draft) (o : Infix) → length drafts ≡ k
     → nodes_in s xs ≡ ns → nodes_in s ys ≡ ms
     → two_in s.time o (top k ns) (top (k + length ns) ms) ≡ x
     → nodes_in s (xs ++ ys ++ Two o (length (drafts ++ xs) - 1) (length (drafts ++ xs ++ ys) - 1) ∷ []) ≡ ns ++ ms ++ x ∷ []
-two_nodes s k ns ms drafts xs ys o x e f g h =
+two_nodes {k} {ns} {ms} s drafts xs ys o e f g h =
     let i : length (drafts ++ xs) - 1 ≡ top k ns = last_is s k drafts xs ns e f in
     let j : length (drafts ++ xs ++ ys) - 1 ≡ top (k + length ns) ms = last_is s (k + length ns) (drafts ++ xs) ys ms (count_is s k drafts xs ns e f) g in
     nodes_in-append s (xs ++ ys) (Two o (length (drafts ++ xs) - 1) (length (drafts ++ xs ++ ys) - 1) ∷ [])
@@ -476,11 +475,12 @@ two_drafts drafts xs ys d = simp append_assoc
 abbrev Leaves : Scale → ℕ → List Node → List Frame → List Draft → Parse → Type 0
 Leaves s r ns frames drafts q = (xs : List Draft) × (nodes_in s xs ≡ ns) × Ended r q frames (drafts ++ xs)
 
-two_ends : (s : Scale) (k : ℕ) (ns ms : List Node) (frames : List Frame) (drafts xs ys : List Draft) (o : Infix) (x : Node)
-    (r : ℕ) (q : Parse) → length drafts ≡ k
-    → nodes_in s xs ≡ ns → nodes_in s ys ≡ ms → two_in s.time o (top k ns) (top (k + length ns) ms) ≡ x → infix_rank o ≤ r → top_rank frames < infix_rank o
-    → Ended r q (Between o (length (drafts ++ xs) - 1) ∷ frames) (drafts ++ xs ++ ys) → Leaves s (infix_rank o) (ns ++ ms ++ x ∷ []) frames drafts q
-two_ends s k ns ms frames drafts xs ys o x r q e f g h l t d =
+two_ends : {k : ℕ} {ns ms : List Node} {frames : List Frame} {x : Node} {r : ℕ} {q : Parse} (s : Scale)
+    (drafts xs ys : List Draft) (o : Infix) → length drafts ≡ k
+    → nodes_in s xs ≡ ns → nodes_in s ys ≡ ms → two_in s.time o (top k ns) (top (k + length ns) ms) ≡ x
+    → Ended r q (Between o (length (drafts ++ xs) - 1) ∷ frames) (drafts ++ xs ++ ys) → infix_rank o ≤ r → top_rank frames < infix_rank o
+    → Leaves s (infix_rank o) (ns ++ ms ++ x ∷ []) frames drafts q
+two_ends {frames = frames} {r = r} {q = q} s drafts xs ys o e f g h d l t =
     let i = length (drafts ++ xs) - 1 in
     let last : Draft = Two o (length (drafts ++ xs) - 1) (length (drafts ++ xs ++ ys) - 1) in
     let y = ended_less (infix_rank o) r q (Between o (length (drafts ++ xs) - 1) ∷ frames) (drafts ++ xs ++ ys) l d in
@@ -489,7 +489,7 @@ two_ends s k ns ms frames drafts xs ys o x r q e f g h l t d =
     let b : settled_drafts (infix_rank o) (Between o (length (drafts ++ xs) - 1) ∷ frames) (drafts ++ xs ++ ys) ≡ drafts ++ (xs ++ ys ++ last ∷ []) =
     rw (le_self (infix_rank o)) (drafts_stay (infix_rank o) frames (drafts ++ xs ++ ys ++ last ∷ []) t ∙ two_drafts drafts xs ys last) in (
       xs ++ ys ++ last ∷ [],
-      two_nodes s k ns ms drafts xs ys o x e f g h,
+      two_nodes s drafts xs ys o e f g h,
       record { place = y.place; terms = y.terms; frame = y.frame ∙ a; draft = y.draft ∙ b },
     )
 
@@ -544,7 +544,7 @@ module _ (text : List ℕ) (s : Scale) where
         let last : Draft = Two Then (length (drafts ++ xs) - 1) (length (drafts ++ xs ++ ys) - 1) in
         let y : Ended 1 q (settled_frames 1 frames) (settled_drafts 1 frames (drafts ++ xs ++ ys ++ last ∷ [])) = j in (
           xs ++ ys ++ last ∷ [],
-          two_nodes s k ns ms drafts xs ys Then (TheImplies (top k ns) (top (k + length ns) ms)) e g i refl,
+          two_nodes s drafts xs ys Then e g i refl,
           rw (two_drafts drafts xs ys last) at y,
         )
 
@@ -560,7 +560,7 @@ module _ (text : List ℕ) (s : Scale) where
         keyword_told text Or c j) (or_step text sp.0 frames (drafts ++ xs) h) in
         let (ys, i, j) = conjunct_left c (Between Either (length (drafts ++ xs) - 1) ∷ frames) (drafts ++ xs) (suc sp.0.made) q
         (omega arith) (count_is s k drafts xs ns e g) step in
-        two_ends s k ns ms frames drafts xs ys Either (TheOr (top k ns) (top (k + length ns) ms)) 3 q e g i refl (omega arith) l j
+        two_ends s drafts xs ys Either e g i refl j (omega arith) l
 
     conjunct_left : {k : ℕ} {ts : List Token} {ns : List Node} → IsConjunct s k ts ns
         → (frames : List Frame) (drafts : List Draft) (n : ℕ) (q : Parse) → top_rank frames < 3
@@ -574,7 +574,7 @@ module _ (text : List ℕ) (s : Scale) where
         keyword_told text And c j) (and_step text sp.0 frames (drafts ++ xs) h) in
         let (ys, i, j) = timed_left t (Between Both (length (drafts ++ xs) - 1) ∷ frames) (drafts ++ xs) (suc sp.0.made) q
         (omega arith) (count_is s k drafts xs ns e g) step in
-        two_ends s k ns ms frames drafts xs ys Both (TheAnd (top k ns) (top (k + length ns) ms)) 4 q e g i refl (omega arith) l j
+        two_ends s drafts xs ys Both e g i refl j (omega arith) l
 
     timed_left : {k : ℕ} {ts : List Token} {ns : List Node} → IsTimed s k ts ns
         → (frames : List Frame) (drafts : List Draft) (n : ℕ) (q : Parse) → top_rank frames < 4
@@ -592,8 +592,8 @@ module _ (text : List ℕ) (s : Scale) where
         let (w, low, high, c, d, more) = until_reads text frames (drafts ++ xs) (suc j) vs b' step in
         let (ys, i, f', g') =
         operand_left p' (Between (UpTo w) (length (drafts ++ xs) - 1) ∷ frames) (drafts ++ xs) (suc j) q (count_is s k drafts xs ns e f) more in
-        two_ends s k ns ms frames drafts xs ys (UpTo w) (TheUntil (top k ns) (top (k + length ns) ms) a b) 5 q e f f' (rw (low, high) refl) (omega arith) l
-        (operand_ended q (Between (UpTo w) (length (drafts ++ xs) - 1) ∷ frames) (drafts ++ xs ++ ys) i (omega arith) g')
+        two_ends s drafts xs ys (UpTo w) e f f' (rw (low, high) refl)
+        (operand_ended q (Between (UpTo w) (length (drafts ++ xs) - 1) ∷ frames) (drafts ++ xs ++ ys) i (omega arith) g') (omega arith) l
     timed_left {k} (since {a = a} {b} {ts = ts} {us} {vs} {ns} {ms} p b' p') frames drafts n q l e r =
         let sp = reads_split ts (word (codes "since") ∷ (us ++ vs)) (rw (append_assoc ts (word (codes "since") ∷ us) vs) at r) in
         let (xs, j, f, g) = operand_left p frames drafts n sp.0 e sp.1 in
@@ -604,8 +604,8 @@ module _ (text : List ℕ) (s : Scale) where
         let (z, low, high, c, d, more) = since_reads text frames (drafts ++ xs) (suc j) vs b' p' step in
         let (ys, i, f', g') =
         operand_left p' (Between (After z) (length (drafts ++ xs) - 1) ∷ frames) (drafts ++ xs) (suc j) q (count_is s k drafts xs ns e f) more in
-        two_ends s k ns ms frames drafts xs ys (After z) (TheSince (top k ns) (top (k + length ns) ms) a b) 5 q e f f' (rw (low, high) refl) (omega arith) l
-        (operand_ended q (Between (After z) (length (drafts ++ xs) - 1) ∷ frames) (drafts ++ xs ++ ys) i (omega arith) g')
+        two_ends s drafts xs ys (After z) e f f' (rw (low, high) refl)
+        (operand_ended q (Between (After z) (length (drafts ++ xs) - 1) ∷ frames) (drafts ++ xs ++ ys) i (omega arith) g') (omega arith) l
 
     operand_left : {k : ℕ} {ts : List Token} {ns : List Node} → IsOperand s k ts ns
         → (frames : List Frame) (drafts : List Draft) (n : ℕ) (q : Parse) → length drafts ≡ k

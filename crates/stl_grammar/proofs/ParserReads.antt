@@ -8,10 +8,10 @@ use Rattle.stl_syntax.specs.Characters.{is_among}
 use Rattle.stl_syntax.specs.Names.{reserved, is_name}
 use Rattle.stl_syntax.specs.declared.rel.Rel.{Rel}
 use Rattle.stl_grammar.specs.Tokens.{Token, word, number, relation, open_paren, close_paren, open_bracket, close_bracket, comma, star, plus, minus}
-use Rattle.stl_grammar.specs.Told.{Tells, spelling, IsNumber, IsNameAt}
+use Rattle.stl_grammar.specs.Spelling.{Tells, spelling, IsNumber, IsNameAt}
 use Rattle.stl_grammar.specs.Taken.{Taken, none, more, empty_parse}
 use Rattle.stl_grammar.specs.Parsing.{Parse, parse_step, between}
-use Rattle.stl_grammar.specs.Judging.{bad_in, number_in}
+use Rattle.stl_grammar.specs.Refusing.{bad_in, number_in}
 use Rattle.stl_grammar.specs.FormulaRefusals.{passes_limit}
 use Rattle.stl_grammar.specs.declared.decimal.Decimal.{Decimal}
 use Rattle.stl_grammar.specs.declared.token.Keyword.{Keyword}

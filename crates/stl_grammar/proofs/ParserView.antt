@@ -7,13 +7,13 @@ use Rattle.std.proofs.lemmas.List.{length_push}
 use Rattle.stl_syntax.specs.Characters.{is_among, begins_word, goes_on_word, all}
 use Rattle.stl_syntax.specs.Names.{reserved, is_name}
 use Rattle.stl_grammar.specs.Tokens.{word}
-use Rattle.stl_grammar.specs.Told.{spelling}
+use Rattle.stl_grammar.specs.Spelling.{spelling}
 use Rattle.stl_grammar.specs.Machine as Machine
 use Rattle.stl_grammar.specs.Machine.{kind, a_name, State, Mark, at_operand}
 use Rattle.stl_grammar.specs.Machine.{at_bound}
 use Rattle.stl_grammar.specs.Machine.{at_sign, at_end, without_operators, step}
 use Rattle.stl_grammar.specs.Parsing.{Parse, parse_step, begin_operand, closed, settled_frames, top_rank, between, IsKnown, back_frame}
-use Rattle.stl_grammar.specs.Judging.{state_of, marks_of, had_of, owner, is_beside, back_is_beside}
+use Rattle.stl_grammar.specs.Refusing.{state_of, marks_of, had_of, owner, is_beside, back_is_beside}
 use Rattle.stl_grammar.specs.Taken.{plain}
 use Rattle.stl_grammar.proofs.WordKinds.{name_kind}
 use Rattle.stl_grammar.specs.declared.decimal.Decimal.{Decimal}
@@ -23,7 +23,7 @@ use Rattle.stl_grammar.specs.declared.token.Token.TheVariants.{Keyword as IsKeyw
 use Rattle.stl_grammar.specs.declared.token.Token.TheVariants.{CloseParen, OpenBracket, CloseBracket, Comma, Star, Plus, Minus}
 use Rattle.stl_grammar.specs.declared.draft.Infix.{Infix}
 use Rattle.stl_grammar.specs.declared.draft.Infix.TheVariants.{And as Both, Or as Either, Implies as Then, Until as UpTo, Since as After}
-use Rattle.stl_grammar.specs.declared.draft.Past.TheVariants.{Whole}
+use Rattle.stl_grammar.specs.declared.draft.PastBound.TheVariants.{Whole}
 use Rattle.stl_grammar.specs.declared.draft.Frame.{Frame}
 use Rattle.stl_grammar.specs.declared.draft.Frame.TheVariants.{Paren as Opened, Prefix as Before, Infix as Between}
 use Rattle.stl_grammar.specs.declared.draft.Draft.{Draft}

@@ -10,12 +10,12 @@ use Rattle.stl_grammar.specs.Tokens.{a_star, a_plus, a_minus, Lexes, nothing, to
 use Rattle.stl_grammar.specs.FormulaRefusals.{TokenFault, blank, bad_byte, here, later, at_end, BeginsNoToken, MayEnd, RefusedAt, expected}
 use Rattle.stl_grammar.specs.Machine.{run, ends_at}
 use Rattle.stl_grammar.specs.Parsing.{Parse, parse_step}
-use Rattle.stl_grammar.specs.Judging.{state_of, refused, expected_in, place_at, marks_of}
+use Rattle.stl_grammar.specs.Refusing.{state_of, refused, expected_in, place_at, marks_of}
 use Rattle.stl_grammar.specs.Taken.{Taken, none, more, plain, empty_parse}
-use Rattle.stl_grammar.specs.Reading.{Advances, Refuses, Stops, IsRead}
+use Rattle.stl_grammar.specs.ReadText.{Advances, Refuses, Stops, IsRead}
 use Rattle.stl_grammar.proofs.ParserView.{IsFit}
 use Rattle.stl_grammar.proofs.ParserFit.{Holds, fit_step}
-use Rattle.stl_grammar.proofs.JudgeLaw.{judged, taken, IsTaken, expected_same}
+use Rattle.stl_grammar.proofs.RefusingLaw.{judged, taken, IsTaken, expected_same}
 use Rattle.stl_grammar.proofs.MachineBegins.{run_ends}
 use Rattle.stl_grammar.proofs.MachineRuns.{run_goes_on}
 use Rattle.stl_grammar.proofs.MachineView.{run_expected}

@@ -30,26 +30,37 @@ among_none : (w : List ℕ) (words : List (List ℕ)) → is_among w words ≡ f
 among_none w [] h = tt
 among_none w (v ∷ words) h = let p = or_parts (bytes_eq w v) (is_among w words) h in (p.0, among_none w words p.1)
 
+-- it holds of the words for constants
+abbrev pub OfConstants : (List ℕ → Type 0) → Type 0
+OfConstants P = P (codes "true") × P (codes "false") × P (codes "inf")
+
+-- of those before one operand
+abbrev pub OfPrefixes : (List ℕ → Type 0) → Type 0
+OfPrefixes P = P (codes "not") × P (codes "eventually") × P (codes "always") × P (codes "once") × P (codes "historically")
+
+-- and of those between two
+abbrev pub OfInfixes : (List ℕ → Type 0) → Type 0
+OfInfixes P = P (codes "and") × P (codes "or") × P (codes "implies") × P (codes "until") × P (codes "since")
+
 -- what holds of each word of the grammar, and of each name, holds of every word
-pub by_words : (P : List ℕ → Type 0) → P (codes "true") → P (codes "false") → P (codes "not") → P (codes "and") → P (codes "or") → P (codes "implies")
-    → P (codes "until") → P (codes "since") → P (codes "eventually") → P (codes "always") → P (codes "once") → P (codes "historically") → P (codes "inf")
-    → ((w : List ℕ) → is_among w reserved ≡ false → P w) → (w : List ℕ) → P w
-by_words P t f n a o i u s e l c y x name w = split (is_among w reserved) refl
+pub by_words : (P : List ℕ → Type 0) → OfConstants P → OfPrefixes P → OfInfixes P → ((w : List ℕ) → is_among w reserved ≡ false → P w)
+    → (w : List ℕ) → P w
+by_words P constant before between name w = split (is_among w reserved) refl
   where
     one : OneOf w reserved → P w
-    one (inl h) = rw h t
-    one (inr (inl h)) = rw h f
-    one (inr (inr (inl h))) = rw h n
-    one (inr (inr (inr (inl h)))) = rw h a
-    one (inr (inr (inr (inr (inl h))))) = rw h o
-    one (inr (inr (inr (inr (inr (inl h)))))) = rw h i
-    one (inr (inr (inr (inr (inr (inr (inl h))))))) = rw h u
-    one (inr (inr (inr (inr (inr (inr (inr (inl h)))))))) = rw h s
-    one (inr (inr (inr (inr (inr (inr (inr (inr (inl h))))))))) = rw h e
-    one (inr (inr (inr (inr (inr (inr (inr (inr (inr (inl h)))))))))) = rw h l
-    one (inr (inr (inr (inr (inr (inr (inr (inr (inr (inr (inl h))))))))))) = rw h c
-    one (inr (inr (inr (inr (inr (inr (inr (inr (inr (inr (inr (inl h)))))))))))) = rw h y
-    one (inr (inr (inr (inr (inr (inr (inr (inr (inr (inr (inr (inr (inl h))))))))))))) = rw h x
+    one (inl h) = rw h constant.0
+    one (inr (inl h)) = rw h constant.1
+    one (inr (inr (inl h))) = rw h before.0
+    one (inr (inr (inr (inl h)))) = rw h between.0
+    one (inr (inr (inr (inr (inl h))))) = rw h between.1
+    one (inr (inr (inr (inr (inr (inl h)))))) = rw h between.2
+    one (inr (inr (inr (inr (inr (inr (inl h))))))) = rw h between.3
+    one (inr (inr (inr (inr (inr (inr (inr (inl h)))))))) = rw h between.4
+    one (inr (inr (inr (inr (inr (inr (inr (inr (inl h))))))))) = rw h before.1
+    one (inr (inr (inr (inr (inr (inr (inr (inr (inr (inl h)))))))))) = rw h before.2
+    one (inr (inr (inr (inr (inr (inr (inr (inr (inr (inr (inl h))))))))))) = rw h before.3
+    one (inr (inr (inr (inr (inr (inr (inr (inr (inr (inr (inr (inl h)))))))))))) = rw h before.4
+    one (inr (inr (inr (inr (inr (inr (inr (inr (inr (inr (inr (inr (inl h))))))))))))) = rw h constant.2
     one (inr (inr (inr (inr (inr (inr (inr (inr (inr (inr (inr (inr (inr h))))))))))))) = absurd h
 
     split : (b : Bool) → is_among w reserved ≡ b → P w
@@ -98,41 +109,43 @@ is_word _ = true
 -- the words that end an operand
 pub among_constants : (w : List ℕ) → is_among w constants ≡ ends_operand (kind w)
 unfolding kind
-among_constants = by_words (λ w. is_among w constants ≡ ends_operand (kind w)) refl refl refl refl refl refl refl refl refl refl refl refl refl
+among_constants = by_words (λ w. is_among w constants ≡ ends_operand (kind w)) (refl, refl, refl) (refl, refl, refl, refl, refl) (refl, refl, refl, refl, refl)
     (λ w h. let (t, (f, (n, (a, (o, (i, (u, (s, (e, (l, (c, (y, (x, z))))))))))))) = among_none w reserved h in rw (t, f, n, a, o, i, u, s, e, l, c, y, x) refl)
 
 -- the words before an operand
 pub among_prefixes : (w : List ℕ) → is_among w prefixes ≡ has_operand (kind w)
 unfolding kind
-among_prefixes = by_words (λ w. is_among w prefixes ≡ has_operand (kind w)) refl refl refl refl refl refl refl refl refl refl refl refl refl
+among_prefixes = by_words (λ w. is_among w prefixes ≡ has_operand (kind w)) (refl, refl, refl) (refl, refl, refl, refl, refl) (refl, refl, refl, refl, refl)
     (λ w h. let (t, (f, (n, (a, (o, (i, (u, (s, (e, (l, (c, (y, (x, z))))))))))))) = among_none w reserved h in rw (t, f, n, a, o, i, u, s, e, l, c, y, x) refl)
 
 -- the word `implies`
 pub among_implies : (w : List ℕ) → is_among w (codes "implies" ∷ []) ≡ is_implication (kind w)
 unfolding kind
-among_implies = by_words (λ w. is_among w (codes "implies" ∷ []) ≡ is_implication (kind w)) refl refl refl refl refl refl refl refl refl refl refl refl refl
+among_implies = by_words (λ w. is_among w (codes "implies" ∷ []) ≡ is_implication (kind w)) (refl, refl, refl)
+    (refl, refl, refl, refl, refl) (refl, refl, refl, refl, refl)
     (λ w h. let (t, (f, (n, (a, (o, (i, (u, (s, (e, (l, (c, (y, (x, z))))))))))))) = among_none w reserved h in rw (t, f, n, a, o, i, u, s, e, l, c, y, x) refl)
 
 -- the word `inf`
 pub among_inf : (w : List ℕ) → is_among w (codes "inf" ∷ []) ≡ is_inf (kind w)
 unfolding kind
-among_inf = by_words (λ w. is_among w (codes "inf" ∷ []) ≡ is_inf (kind w)) refl refl refl refl refl refl refl refl refl refl refl refl refl
+among_inf = by_words (λ w. is_among w (codes "inf" ∷ []) ≡ is_inf (kind w)) (refl, refl, refl) (refl, refl, refl, refl, refl) (refl, refl, refl, refl, refl)
     (λ w h. let (t, (f, (n, (a, (o, (i, (u, (s, (e, (l, (c, (y, (x, z))))))))))))) = among_none w reserved h in rw (t, f, n, a, o, i, u, s, e, l, c, y, x) refl)
 
 -- the word `until`
 pub among_until : (w : List ℕ) → is_among w (codes "until" ∷ []) ≡ is_until (kind w)
 unfolding kind
-among_until = by_words (λ w. is_among w (codes "until" ∷ []) ≡ is_until (kind w)) refl refl refl refl refl refl refl refl refl refl refl refl refl
+among_until = by_words (λ w. is_among w (codes "until" ∷ []) ≡ is_until (kind w)) (refl, refl, refl)
+    (refl, refl, refl, refl, refl) (refl, refl, refl, refl, refl)
     (λ w h. let (t, (f, (n, (a, (o, (i, (u, (s, (e, (l, (c, (y, (x, z))))))))))))) = among_none w reserved h in rw (t, f, n, a, o, i, u, s, e, l, c, y, x) refl)
 
 -- the words that look ahead
 pub among_ahead : (w : List ℕ) → is_among w ahead ≡ looks_ahead (kind w)
 unfolding kind
-among_ahead = by_words (λ w. is_among w ahead ≡ looks_ahead (kind w)) refl refl refl refl refl refl refl refl refl refl refl refl refl
+among_ahead = by_words (λ w. is_among w ahead ≡ looks_ahead (kind w)) (refl, refl, refl) (refl, refl, refl, refl, refl) (refl, refl, refl, refl, refl)
     (λ w h. let (t, (f, (n, (a, (o, (i, (u, (s, (e, (l, (c, (y, (x, z))))))))))))) = among_none w reserved h in rw (t, f, n, a, o, i, u, s, e, l, c, y, x) refl)
 
 -- all words of the grammar
 pub among_reserved : (w : List ℕ) → is_among w reserved ≡ is_word (kind w)
 unfolding kind
-among_reserved = by_words (λ w. is_among w reserved ≡ is_word (kind w)) refl refl refl refl refl refl refl refl refl refl refl refl refl
+among_reserved = by_words (λ w. is_among w reserved ≡ is_word (kind w)) (refl, refl, refl) (refl, refl, refl, refl, refl) (refl, refl, refl, refl, refl)
     (λ w h. rw (h, name_kind w h) refl)

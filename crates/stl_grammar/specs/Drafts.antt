@@ -6,8 +6,8 @@ use Rattle.stl_syntax.specs.declared.node.Node.{Node}
 use Rattle.stl_syntax.specs.declared.node.Node.TheVariants.{Const, Atom as Leaf, Not, And, Or, Implies, Until, Eventually, Always, Since, Once, Historically}
 use Rattle.stl_grammar.specs.Sums.{Comparison}
 use Rattle.stl_grammar.specs.declared.decimal.Decimal.{Decimal}
-use Rattle.stl_grammar.specs.declared.draft.Past.{Past}
-use Rattle.stl_grammar.specs.declared.draft.Past.TheVariants.{Whole, From, Within}
+use Rattle.stl_grammar.specs.declared.draft.PastBound.{PastBound}
+use Rattle.stl_grammar.specs.declared.draft.PastBound.TheVariants.{Whole, From, Within}
 use Rattle.stl_grammar.specs.declared.draft.Prefix.{Prefix}
 use Rattle.stl_grammar.specs.declared.draft.Prefix.TheVariants.{Not as Negation, Eventually as AtSome, Always as AtEach}
 use Rattle.stl_grammar.specs.declared.draft.Prefix.TheVariants.{Once as BackAtSome, Historically as BackAtEach}
@@ -25,22 +25,22 @@ abbrev pub limit_of : ℕ → Comparison → ℤ
 limit_of digits c = if c.negative then neg_ℤ (pos (ticks_of digits c.limit)) else pos (ticks_of digits c.limit)
 
 -- the ends of a bound that looks back
-abbrev pub past_low : ℕ → Past → ℕ
+abbrev pub past_low : ℕ → PastBound → ℕ
 past_low digits Whole = 0
 past_low digits (From low low_in) = ticks_of digits low
 past_low digits (Within w) = ticks_of digits w.low
 
-abbrev pub past_high : ℕ → Past → Option ℕ
+abbrev pub past_high : ℕ → PastBound → Option ℕ
 past_high digits Whole = None
 past_high digits (From low low_in) = None
 past_high digits (Within w) = Some (ticks_of digits w.high)
 
-abbrev pub past_low_in : Past → Bool
+abbrev pub past_low_in : PastBound → Bool
 past_low_in Whole = true
 past_low_in (From low low_in) = low_in
 past_low_in (Within w) = w.low_in
 
-abbrev pub past_high_in : Past → Bool
+abbrev pub past_high_in : PastBound → Bool
 past_high_in Whole = true
 past_high_in (From low low_in) = true
 past_high_in (Within w) = w.high_in

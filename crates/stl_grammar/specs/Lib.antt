@@ -1,13 +1,13 @@
 pub mod Tokens
 pub mod Grammar
 pub mod FormulaRefusals
-pub mod Told
+pub mod Spelling
 pub mod Machine
 pub mod Laws
 pub mod Sums
 pub mod Parsing
-pub mod Judging
+pub mod Refusing
 pub mod Taken
-pub mod Reading
+pub mod ReadText
 pub mod Drafts
 pub mod Building

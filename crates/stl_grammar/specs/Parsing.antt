@@ -11,8 +11,8 @@ use Rattle.stl_grammar.specs.declared.token.Token.{Token}
 use Rattle.stl_grammar.specs.declared.token.Token.TheVariants.{Keyword as IsKeyword, Name, Number, Relation, OpenParen}
 use Rattle.stl_grammar.specs.declared.token.Token.TheVariants.{CloseParen, OpenBracket, CloseBracket, Comma, Star, Plus, Minus}
 use Rattle.stl_grammar.specs.declared.draft.Window.{Window}
-use Rattle.stl_grammar.specs.declared.draft.Past.{Past}
-use Rattle.stl_grammar.specs.declared.draft.Past.TheVariants.{Whole, From, Within}
+use Rattle.stl_grammar.specs.declared.draft.PastBound.{PastBound}
+use Rattle.stl_grammar.specs.declared.draft.PastBound.TheVariants.{Whole, From, Within}
 use Rattle.stl_grammar.specs.declared.draft.Prefix.TheVariants.{Not as Negation, Eventually as AtSome, Always as AtEach}
 use Rattle.stl_grammar.specs.declared.draft.Prefix.TheVariants.{Once as BackAtSome, Historically as BackAtEach}
 use Rattle.stl_grammar.specs.declared.draft.Infix.{Infix}
@@ -146,7 +146,7 @@ bounded_frame TAlways w left = Before (AtEach w)
 bounded_frame TOnce w left = Before (BackAtSome (Within w))
 bounded_frame THistorically w left = Before (BackAtEach (Within w))
 
-abbrev pub back_frame : Back → Past → ℕ → Frame
+abbrev pub back_frame : Back → PastBound → ℕ → Frame
 back_frame BSince b left = Between (After b) left
 back_frame BOnce b left = Before (BackAtSome b)
 back_frame BHistorically b left = Before (BackAtEach b)

@@ -2,9 +2,9 @@
 use Rattle.std.specs.Prelude.{◌≡◌, ℕ, false, List, [], ◌∷◌, Some}
 use Rattle.stl_grammar.specs.Tokens as Tokens
 use Rattle.stl_grammar.specs.Tokens.{word, number, relation, open_paren, close_paren, open_bracket, close_bracket, comma, star, plus, minus}
-use Rattle.stl_grammar.specs.Told.{Tells, spelling}
+use Rattle.stl_grammar.specs.Spelling.{Tells, spelling}
 use Rattle.stl_grammar.specs.Parsing.{Parse, parse_step, between}
-use Rattle.stl_grammar.specs.Judging.{bad_in, disorder_in}
+use Rattle.stl_grammar.specs.Refusing.{bad_in, disorder_in}
 use Rattle.stl_grammar.specs.declared.token.Token.{Token as Code}
 use Rattle.stl_grammar.specs.declared.token.Token.TheVariants.{Keyword as IsKeyword, Name, Number, Relation, OpenParen}
 use Rattle.stl_grammar.specs.declared.token.Token.TheVariants.{CloseParen, OpenBracket, CloseBracket, Comma, Star, Plus, Minus}

@@ -15,7 +15,7 @@ pub(crate) struct Window {
 
 /// The bound of an operator that looks back.
 #[derive(Clone, Copy)]
-pub(crate) enum Past {
+pub(crate) enum PastBound {
     /// It was left out.
     Whole,
     /// It has no upper end.
@@ -29,8 +29,8 @@ pub(crate) enum Prefix {
     Not,
     Eventually(Window),
     Always(Window),
-    Once(Past),
-    Historically(Past),
+    Once(PastBound),
+    Historically(PastBound),
 }
 
 /// A two-operand operator; the ends of a bound are in.
@@ -40,7 +40,7 @@ pub(crate) enum Infix {
     Or,
     Implies,
     Until(Window),
-    Since(Past),
+    Since(PastBound),
 }
 
 /// What is open: a parenthesis, or an operator whose last operand is not at its end.

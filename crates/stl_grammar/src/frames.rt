@@ -1,6 +1,6 @@
 //! What is open while a formula is read: parentheses, operators that wait for an operand, bounds.
 ghost use Rattle.std.specs.Prelude.{◌≡◌, ◌≤◌, ◌<◌, ◌∷◌, [], length, IfOk, MatchOption};
-ghost use Rattle.stl_grammar.specs.Judging.{marks_of, marks_in, parens_in};
+ghost use Rattle.stl_grammar.specs.Refusing.{marks_of, marks_in, parens_in};
 ghost use Rattle.stl_grammar.specs.Machine.{in_paren};
 ghost use Rattle.stl_grammar.specs.Parsing.{infix_rank, top_rank, rank as frame_rank};
 
@@ -19,7 +19,7 @@ pub(crate) struct Frames {
 impl Model for Frames {
     ghost use Rattle.std.specs.Prelude.{List, reverse};
     ghost use Rattle.stl_grammar.specs.declared.draft.Frame.{Frame};
-    ghost use Rattle.stl_grammar.specs.Judging.{AreCounted};
+    ghost use Rattle.stl_grammar.specs.Refusing.{AreCounted};
 
     ghost Value = { List Frame };
 

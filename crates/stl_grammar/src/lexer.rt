@@ -3,7 +3,7 @@ ghost use Rattle.std.specs.Prelude.{◌≡◌, ◌<◌, ◌≤◌, ◌+◌, ℕ,
 ghost use Rattle.stl_syntax.specs.Characters.{is_among, begins_word as begins_name, is_digit as is_digit_byte};
 ghost use Rattle.stl_grammar.specs.Grammar.{reserved};
 ghost use Rattle.stl_grammar.specs.FormulaRefusals.{BeginsNoToken};
-ghost use Rattle.stl_grammar.specs.Told.{spelling, has_equal, IsLexeme};
+ghost use Rattle.stl_grammar.specs.Spelling.{spelling, has_equal, IsLexeme};
 
 use crate::chars::{begins_word, digits_len, is_digit, word_len};
 use crate::number::{begins_decimals, kept_decimals, number, value_after};

@@ -1,7 +1,7 @@
 //! The value of digits, told exactly as far as a formula may need it.
 ghost use Rattle.std.specs.Prelude.{◌≡◌, ◌<◌, ◌≤◌, min, length, take, drop, true};
 ghost use Rattle.stl_syntax.specs.Characters.{is_digit, all, decimal_value, without_zeros, begins_decimals as has_decimals};
-ghost use Rattle.stl_grammar.specs.Told.{TellsNumber};
+ghost use Rattle.stl_grammar.specs.Spelling.{TellsNumber};
 
 use crate::chars;
 use crate::decimal::Decimal;

@@ -4,7 +4,7 @@ ghost use Rattle.stl_syntax.specs.Names.{is_name};
 ghost use Rattle.stl_grammar.specs.Parsing.{signed, between, may_be_open as may_be_out, back_may_be_open, top_rank};
 
 use crate::decimal::Decimal;
-use crate::draft::{Draft, Frame, Infix, Past, Prefix, Sum, Window};
+use crate::draft::{Draft, Frame, Infix, PastBound, Prefix, Sum, Window};
 use crate::fault::What;
 use crate::frames::Frames;
 use crate::place::{Back, Place, Timed};
@@ -67,7 +67,7 @@ fn make_term(
 
 impl Parser {
     ghost use Rattle.std.specs.Prelude.{List, ℕ, suc, Some, None, MatchBool, true, false, take, drop, nat_lt};
-    ghost use Rattle.stl_grammar.specs.Judging.{depth_of, expected_in, place_at, marks_of};
+    ghost use Rattle.stl_grammar.specs.Refusing.{depth_of, expected_in, place_at, marks_of};
     ghost use Rattle.stl_grammar.specs.Machine.{ends_at};
     ghost use Rattle.stl_grammar.specs.Parsing.{Parse, settled, settled_drafts, moved, begun, opened as opened_by, completed};
     ghost use Rattle.stl_grammar.specs.Parsing.{with_term, begin_keyword as keyword_begins, begin_operand as operand_begins};
@@ -311,7 +311,7 @@ impl Parser {
         let Some(of) = back(of) else {
             return Ok(false);
         };
-        self.open(back_frame(of, Past::Whole, self.last()))?;
+        self.open(back_frame(of, PastBound::Whole, self.last()))?;
         self.begin_operand(text, token)
     }
 
@@ -350,12 +350,12 @@ impl Parser {
         token: Token,
     ) -> Result<bool, AllocError>
         ensures { IfOk result (λ taken. Gives (bound_ends (closing_of (back_may_be_open of) token)
-            (λ high_in. frame_back of (Past.From low low_in) (length self.old.drafts - 1)) self.old) taken self.new) }
+            (λ high_in. frame_back of (PastBound.From low low_in) (length self.old.drafts - 1)) self.old) taken self.new) }
     {
         if closing(past_may_be_open(of), token).is_none() {
             return Ok(false);
         }
-        self.open(back_frame(of, Past::From { low, low_in }, self.last()))?;
+        self.open(back_frame(of, PastBound::From { low, low_in }, self.last()))?;
         Ok(true)
     }
 

@@ -2,19 +2,19 @@
 ghost use Rattle.std.specs.Prelude.{◌≡◌, ◌⊎◌, ◌<◌, ◌≤◌, [], length, slice_index, false, MatchResult};
 ghost use Rattle.stl_syntax.specs.Characters.{is_blank as is_blank_byte};
 ghost use Rattle.stl_grammar.specs.FormulaRefusals.{TokenFault};
-ghost use Rattle.stl_grammar.specs.Reading.{Advances, Stops, IsRead};
+ghost use Rattle.stl_grammar.specs.ReadText.{Advances, Stops, IsRead};
 
 use crate::chars::is_blank;
 use crate::fault::FormulaFault;
-use crate::judge::take;
 use crate::lexer::lex;
 use crate::parser::Parser;
+use crate::refuse::take;
 use crate::token::Token;
 use std::alloc::Global;
 
 /// A text that was read: its tokens, and the parser after them.
 #[derive(Drop)]
-pub(crate) struct Reading {
+pub(crate) struct ReadText {
     pub(crate) parser: Parser,
     pub(crate) tokens: Vec<Token>,
 }
@@ -47,7 +47,7 @@ fn advance(
 }
 
 /// Reads the text, which is refused at the first token with a refusal.
-pub(crate) fn read(alloc: Global, text: &[u8]) -> Result<Reading, FormulaFault>
+pub(crate) fn read(alloc: Global, text: &[u8]) -> Result<ReadText, FormulaFault>
     requires { length text.now ≤ 8192 }
     ensures { MatchResult result
         (λ a. IsRead text.now a.parser a.tokens.items)
@@ -72,5 +72,5 @@ pub(crate) fn read(alloc: Global, text: &[u8]) -> Result<Reading, FormulaFault>
             what: parser.expected(),
         });
     }
-    Ok(Reading { parser, tokens })
+    Ok(ReadText { parser, tokens })
 }

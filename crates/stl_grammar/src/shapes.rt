@@ -1,13 +1,13 @@
 //! Which bounds an operator takes, and what is open after it.
 ghost use Rattle.std.specs.Prelude.{◌≡◌, ◌<◌, ◌≤◌, IfOk};
-ghost use Rattle.stl_grammar.specs.Judging.{is_beside as stands_beside, back_is_beside as back_beside, in_bound as bound_at};
+ghost use Rattle.stl_grammar.specs.Refusing.{is_beside as stands_beside, back_is_beside as back_beside, in_bound as bound_at};
 ghost use Rattle.stl_grammar.specs.Parsing.{rank, back as back_of, may_be_open as may_be_out, back_may_be_open};
 ghost use Rattle.stl_grammar.specs.Parsing.{opening as opening_of, closing as closing_of, bounded_frame as frame_of};
 ghost use Rattle.stl_grammar.specs.Parsing.{back_frame as frame_back, next_place as place_after, coefficient as coefficient_of};
 ghost use Rattle.stl_grammar.specs.Parsing.{node_of_frame, settled_frames, settled_drafts};
 
 use crate::decimal::Decimal;
-use crate::draft::{Draft, Frame, Infix, Past, Prefix, Window};
+use crate::draft::{Draft, Frame, Infix, PastBound, Prefix, Window};
 use crate::frames::Frames;
 use crate::place::{Back, Place, Timed};
 use crate::token::{Keyword, Token};
@@ -77,18 +77,18 @@ pub(crate) fn bounded_frame(of: Timed, window: Window, left: usize) -> Frame
             left,
         },
         Timed::Since => Frame::Infix {
-            operator: Infix::Since(Past::Within(window)),
+            operator: Infix::Since(PastBound::Within(window)),
             left,
         },
         Timed::Eventually => Frame::Prefix(Prefix::Eventually(window)),
         Timed::Always => Frame::Prefix(Prefix::Always(window)),
-        Timed::Once => Frame::Prefix(Prefix::Once(Past::Within(window))),
-        Timed::Historically => Frame::Prefix(Prefix::Historically(Past::Within(window))),
+        Timed::Once => Frame::Prefix(Prefix::Once(PastBound::Within(window))),
+        Timed::Historically => Frame::Prefix(Prefix::Historically(PastBound::Within(window))),
     }
 }
 
 /// An operator that looks back with its bound, and the left operand where it has one.
-pub(crate) fn back_frame(of: Back, past: Past, left: usize) -> Frame
+pub(crate) fn back_frame(of: Back, past: PastBound, left: usize) -> Frame
     ensures { result ≡ frame_back of past left }
 {
     match of {

@@ -2,13 +2,13 @@
 ghost use Rattle.std.specs.Prelude.{◌≡◌, ◌⊎◌, IfOk, IfErr};
 ghost use Rattle.stl_syntax.specs.Characters.{is_blank as is_blank_byte, all};
 ghost use Rattle.stl_grammar.specs.FormulaRefusals.{IsFormulaOf, IsFormulaFault, IsLateFault};
-ghost use Rattle.stl_grammar.specs.Reading.{IsRead, IsParsed};
+ghost use Rattle.stl_grammar.specs.ReadText.{IsRead, IsParsed};
 
 use crate::build::build;
 use crate::chars::is_blank;
 use crate::digits::{time_decimals, value_decimals};
 use crate::fault::FormulaFault;
-use crate::reader::{Reading, read};
+use crate::reader::{ReadText, read};
 use std::alloc::Global;
 use stl_syntax::{Formula, Scale};
 
@@ -55,12 +55,12 @@ pub fn parse(alloc: Global, text: &str) -> Result<Formula, FormulaFault>
 }
 
 /// The formula of a text that was read.
-fn finish(alloc: Global, text: &[u8], reading: Reading) -> Result<Formula, FormulaFault>
+fn finish(alloc: Global, text: &[u8], reading: ReadText) -> Result<Formula, FormulaFault>
     requires read { IsRead text.now reading.parser reading.tokens.items }
     ensures ok { IfOk result (λ f. IsParsed text.now f) }
     ensures fault { IfErr result (λ r. (r ≡ FormulaFault.Memory) ⊎ IsLateFault text.now r) }
 {
-    let Reading { parser, tokens } = reading;
+    let ReadText { parser, tokens } = reading;
     let scale = Scale {
         time: time_decimals(&tokens),
         value: value_decimals(&tokens),

@@ -6,7 +6,7 @@ ghost use Rattle.stl_grammar.specs.Building.{signed_size};
 ghost use Rattle.stl_grammar.specs.Drafts.{ticks_of, past_low, past_high, past_low_in, past_high_in, one_in, two_in};
 
 use crate::decimal::Decimal;
-use crate::draft::{Infix, Past, Prefix};
+use crate::draft::{Infix, PastBound, Prefix};
 use stl_syntax::Node;
 
 /// How many ticks of so many digits the last decimal is worth.
@@ -46,7 +46,7 @@ fn bound(number: Decimal, digits: u8) -> u32
 }
 
 /// The ends of a bound that looks back.
-fn ends(past: Past, digits: u8) -> (u32, Option<u32>)
+fn ends(past: PastBound, digits: u8) -> (u32, Option<u32>)
     requires digits { digits ≤ 6 }
     requires order { IsInOrder (past_low digits past) (past_high digits past) }
     requires reach { reach_of_bound (past_low digits past) (past_high digits past) ≤ 4294967295 }
@@ -54,21 +54,21 @@ fn ends(past: Past, digits: u8) -> (u32, Option<u32>)
     ensures high { result.1 ≡ past_high digits past }
 {
     match past {
-        Past::Whole => (0, None),
-        Past::From { low, .. } => (bound(low, digits), None),
-        Past::Within(window) => (bound(window.low, digits), Some(bound(window.high, digits))),
+        PastBound::Whole => (0, None),
+        PastBound::From { low, .. } => (bound(low, digits), None),
+        PastBound::Within(window) => (bound(window.low, digits), Some(bound(window.high, digits))),
     }
 }
 
 /// Whether the ends of a bound that looks back are in.
-fn ends_in(past: Past) -> (bool, bool)
+fn ends_in(past: PastBound) -> (bool, bool)
     ensures low { result.0 ≡ past_low_in past }
     ensures high { result.1 ≡ past_high_in past }
 {
     match past {
-        Past::Whole => (true, true),
-        Past::From { low_in, .. } => (low_in, true),
-        Past::Within(window) => (window.low_in, window.high_in),
+        PastBound::Whole => (true, true),
+        PastBound::From { low_in, .. } => (low_in, true),
+        PastBound::Within(window) => (window.low_in, window.high_in),
     }
 }
 
@@ -81,15 +81,15 @@ pub(crate) fn constant_size(number: Decimal, digits: u8) -> u64
 }
 
 /// What a bound that looks back adds to the reach.
-fn past_reach(past: Past, digits: u8) -> u64
+fn past_reach(past: PastBound, digits: u8) -> u64
     requires { digits ≤ 6 }
     ensures value { result ≡ reach_of_bound (past_low digits past) (past_high digits past) }
     ensures small { result ≤ 4294967295000000 }
 {
     match past {
-        Past::Whole => 0,
-        Past::From { low, .. } => ticks(low, digits),
-        Past::Within(window) => ticks(window.high, digits),
+        PastBound::Whole => 0,
+        PastBound::From { low, .. } => ticks(low, digits),
+        PastBound::Within(window) => ticks(window.high, digits),
     }
 }
 

@@ -5,6 +5,8 @@ use Rattle.rational.specs.Rational.{Rational, ◌≤ʳ◌, ◌<ʳ◌, ◌≈◌,
 use Rattle.rational.proofs.Order.{lt_or_same_or_gt, le_of_same, le_of_lt, lt_of_lt_of_le, lt_of_le_of_lt, lt_trans}
 use Rattle.rational.proofs.Order.{not_lt_of_le, same_trans, same_sym, same_refl, left_of_middle, right_of_middle}
 use Rattle.rational.specs.Time.{Interval, IsIn, IsNotEmpty, Touch}
+use Rattle.rational.specs.Places.{Place, begins, ends, Same, Before}
+use Rattle.rational.proofs.PlaceLemmas.{place_order}
 use Rattle.frac128.specs.Spans.{interval}
 use Rattle.stl_syntax.specs.Trace.{Trace}
 use Rattle.stl_syntax.specs.Formula.{Subformula}
@@ -12,49 +14,18 @@ use Rattle.stl_syntax.specs.Truth.{Truth}
 use Rattle.stl_syntax.specs.Verdicts.{IsTold, GoesOn, Describes, AreAlike}
 use Rattle.stl_syntax.specs.declared.items.Verdict.{Verdict}
 
--- a place between times: just before a time, or just after it
-record Cut : Type 0 where
-  at : Rational
-  after : Bool
-
-abbrev begins : Interval → Cut
-begins on = record { at = on.from; after = not on.from_in }
-
-abbrev ends : Interval → Cut
-ends on = record { at = on.to; after = on.to_in }
-
-abbrev Same : Cut → Cut → Type 0
-Same c d = (c.at ≈ d.at) × (c.after ≡ d.after)
-
-abbrev Before : Cut → Cut → Type 0
-Before c d = (c.at <ʳ d.at) ⊎ ((c.at ≈ d.at) × (c.after ≡ false) × (d.after ≡ true))
-
-cut_order : (c d : Cut) → Before c d ⊎ Same c d ⊎ Before d c
-cut_order c d = by_time (lt_or_same_or_gt c.at d.at)
-  where
-    by_side : (a b : Bool) → c.after ≡ a → d.after ≡ b → c.at ≈ d.at → Before c d ⊎ Same c d ⊎ Before d c
-    by_side true true e f s = inr (inl (s, e ∙ sym f))
-    by_side true false e f s = inr (inr (inr (same_sym s, f, e)))
-    by_side false true e f s = inl (inr (s, e, f))
-    by_side false false e f s = inr (inl (s, e ∙ sym f))
-
-    by_time : (c.at <ʳ d.at) ⊎ (c.at ≈ d.at) ⊎ (d.at <ʳ c.at) → Before c d ⊎ Same c d ⊎ Before d c
-    by_time (inl l) = inl (inl l)
-    by_time (inr (inl s)) = by_side c.after d.after refl refl s
-    by_time (inr (inr l)) = inr (inr (inl l))
-
--- the time t lies between the cuts
-record Between (c d : Cut) (t : Rational) : Type 0 where
+-- the time t lies between the places
+record Between (c d : Place) (t : Rational) : Type 0 where
   after : (c.at <ʳ t) ⊎ ((c.at ≈ t) × (c.after ≡ false))
   before : (t <ʳ d.at) ⊎ ((t ≈ d.at) × (d.after ≡ true))
 
--- between two cuts there is a time
-dense : (c d : Cut) → Before c d → (t : Rational) × Between c d t
+-- between two places there is a time
+dense : (c d : Place) → Before c d → (t : Rational) × Between c d t
 dense c d (inl l) = (middle c.at d.at, record { after = inl (left_of_middle l); before = inl (right_of_middle l) })
 dense c d (inr (s, e, f)) = (c.at, record { after = inr (same_refl c.at, e); before = inr (s, f) })
 
--- a time before a cut is before each later cut
-wider : (c d e : Cut) (t : Rational) → Before d e ⊎ Same d e → Between c d t → Between c e t
+-- a time before a place is before each later place
+wider : (c d e : Place) (t : Rational) → Before d e ⊎ Same d e → Between c d t → Between c e t
 wider c d e t w b = record { after = b.after; before = by_both w b.before }
   where
     by_both : Before d e ⊎ Same d e → (t <ʳ d.at) ⊎ ((t ≈ d.at) × (d.after ≡ true)) → (t <ʳ e.at) ⊎ ((t ≈ e.at) × (e.after ≡ true))
@@ -65,7 +36,7 @@ wider c d e t w b = record { after = b.after; before = by_both w b.before }
     by_both (inr (s, g)) (inl m) = inl (lt_of_lt_of_le m (le_of_same s))
     by_both (inr (s, g)) (inr (r, f)) = inr (same_trans r s, sym g ∙ f)
 
-earlier : (c d e : Cut) (t : Rational) → Before c d ⊎ Same c d → Between d e t → Between c e t
+earlier : (c d e : Place) (t : Rational) → Before c d ⊎ Same c d → Between d e t → Between c e t
 earlier c d e t w b = record { after = by_both w b.after; before = b.before }
   where
     by_both : Before c d ⊎ Same c d → (d.at <ʳ t) ⊎ ((d.at ≈ t) × (d.after ≡ false)) → (c.at <ʳ t) ⊎ ((c.at ≈ t) × (c.after ≡ false))
@@ -95,10 +66,10 @@ in_span v t b = record { above = by_begin (interval v.on).from_in refl b.after; 
     by_end false e (inl l) = l
     by_end false e (inr (s, f)) = absurd (let x : true ≡ false = sym f ∙ e in cc)
 
-same_sym_cut : {c d : Cut} → Same c d → Same d c
+same_sym_cut : {c d : Place} → Same c d → Same d c
 same_sym_cut (s, e) = (same_sym s, sym e)
 
-before_irrefl : (c d : Cut) → Before c d → Before d c ⊎ Same d c → ⊥
+before_irrefl : (c d : Place) → Before c d → Before d c ⊎ Same d c → ⊥
 before_irrefl c d h k = let t = dense c d h in no_time t.0 (wider c d c t.0 k t.1)
   where
     no_time : (t : Rational) → Between c c t → ⊥
@@ -138,7 +109,7 @@ same_truth p tr v w t h k i j = by_truth v.holds w.holds (h.truth t i) (k.truth 
 overlap : (p : Subformula) (tr : Trace) (v w : Verdict) → IsTold p tr v → IsTold p tr w
     → Before (begins (interval w.on)) (begins (interval v.on)) ⊎ Same (begins (interval w.on)) (begins (interval v.on))
     → Before (begins (interval v.on)) (ends (interval w.on)) → v.holds ≡ w.holds
-overlap p tr v w h k b l = by_order (cut_order (ends (interval v.on)) (ends (interval w.on)))
+overlap p tr v w h k b l = by_order (place_order (ends (interval v.on)) (ends (interval w.on)))
   where
     at_time : (t : Rational) → Between (begins (interval v.on)) (ends (interval v.on)) t
         → Between (begins (interval v.on)) (ends (interval w.on)) t → v.holds ≡ w.holds
@@ -157,8 +128,8 @@ overlap p tr v w h k b l = by_order (cut_order (ends (interval v.on)) (ends (int
     by_order (inr (inl o)) = at_time full.0 full.1 (wider (begins (interval v.on)) (ends (interval v.on)) (ends (interval w.on)) full.0 (inr o) full.1)
     by_order (inr (inr o)) = at_time part.0 (wider (begins (interval v.on)) (ends (interval w.on)) (ends (interval v.on)) part.0 (inl o) part.1) part.1
 
-before_trans : (c d e : Cut) → Before c d ⊎ Same c d → Before d e ⊎ Same d e → Before c e ⊎ Same c e
-before_trans c d e h k = by_order (cut_order c e)
+before_trans : (c d e : Place) → Before c d ⊎ Same c d → Before d e ⊎ Same d e → Before c e ⊎ Same c e
+before_trans c d e h k = by_order (place_order c e)
   where
     by_order : Before c e ⊎ Same c e ⊎ Before e c → Before c e ⊎ Same c e
     by_order (inl o) = inl o
@@ -183,7 +154,7 @@ ends_by p tr stretch v (x ∷ xs) h =
     (before_trans (begins (interval x.on)) (ends (interval x.on)) (ends stretch)
     (inl (not_empty_cut (interval x.on) h.2.not_empty)) (ends_by p tr stretch x xs h.3))
 
-same_before : (c d e : Cut) → Same c d → Before d e → Before c e
+same_before : (c d e : Place) → Same c d → Before d e → Before c e
 same_before c d e s (inl l) = inl (lt_of_le_of_lt (le_of_same s.0) l)
 same_before c d e s (inr (r, f, g)) = inr (same_trans s.0 r, s.1 ∙ f, g)
 
@@ -216,7 +187,7 @@ told_alike p tr v w a b s =
 ends_alike : (p : Subformula) (tr : Trace) (stretch : Interval) (v : Verdict) (vs : List Verdict) (w : Verdict) (ws : List Verdict)
     → IsTold p tr v → IsTold p tr w → Same (begins (interval v.on)) (begins (interval w.on)) → GoesOn p tr stretch v vs → GoesOn p tr stretch w ws
     → Same (ends (interval v.on)) (ends (interval w.on))
-ends_alike p tr stretch v vs w ws a b s g h = by_order (cut_order (ends (interval v.on)) (ends (interval w.on)))
+ends_alike p tr stretch v vs w ws a b s g h = by_order (place_order (ends (interval v.on)) (ends (interval w.on)))
   where
     by_order : Before (ends (interval v.on)) (ends (interval w.on)) ⊎ Same (ends (interval v.on)) (ends (interval w.on))
         ⊎ Before (ends (interval w.on)) (ends (interval v.on))
@@ -234,7 +205,7 @@ no_more p tr stretch v x xs g s =
     (before_trans (ends stretch) (ends (interval v.on)) (begins (interval x.on)) (inr (same_sym_cut s))
     (inr (same_sym_cut (touch_cut (interval v.on) (interval x.on) g.0)))))
 
-same_trans_cut : {c d e : Cut} → Same c d → Same d e → Same c e
+same_trans_cut : {c d e : Place} → Same c d → Same d e → Same c e
 same_trans_cut (s, e) (r, f) = (same_trans s r, e ∙ f)
 
 rest_alike : (p : Subformula) (tr : Trace) (stretch : Interval) (v : Verdict) (vs : List Verdict) (w : Verdict) (ws : List Verdict)

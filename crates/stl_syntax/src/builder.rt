@@ -59,9 +59,7 @@ impl FormulaBuilder {
     {
         let place = self.nodes.len() as u32;
         node.keeps_limits();
-        if self.nodes.push(node).is_err() {
-            return Err(Memory);
-        }
+        self.nodes.push(node)?;
         Ok(place)
     }
 

@@ -49,10 +49,7 @@ impl Formula {
     pub fn copied(&self) -> Result<Formula, Memory>
         ensures { IfOk result (λ f. f ≡ self.now) }
     {
-        match self.clone() {
-            Ok(formula) => Ok(formula),
-            Err(_) => Err(Memory),
-        }
+        Ok(self.clone()?)
     }
 
     /// The nodes in post-order.

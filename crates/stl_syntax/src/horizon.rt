@@ -1,5 +1,5 @@
 //! How far after a time a trace must reach before the truth there is known.
-ghost use Rattle.std.specs.Prelude.{◌≡◌, ◌<◌, ◌≤◌, ◌^◌, ℕ, length};
+ghost use Rattle.std.specs.Prelude.{◌≡◌, ◌<◌, ◌^◌, length};
 ghost use Rattle.stl_syntax.specs.Formula.{HasChildrenBelow, horizon, root};
 ghost use Rattle.stl_syntax.specs.Horizons.{horizon_above};
 ghost use Rattle.stl_syntax.specs.WellFormed.{AreWellFormed};
@@ -18,15 +18,14 @@ pub(crate) fn last_horizon(nodes: &[Node]) -> u64
 {
     let mut table = [0; MOST_NODES];
     for (i, node) in nodes.iter().enumerate() {
-        table[i] = horizon_of(&table, i, node);
+        table[i] = horizon_of(&table, node);
     }
     table[nodes.len() - 1]
 }
 
-/// The horizon of the node at place `i`, from those of the places before it.
-fn horizon_of(before: &[u64; MOST_NODES], i: usize, node: &Node) -> u64
-    requires few { i ≤ 256 }
-    requires below { HasChildrenBelow i node.now }
+/// The horizon of a node, from those of the nodes before it.
+pub fn horizon_of(before: &[u64], node: &Node) -> u64
+    requires below { HasChildrenBelow (length before.now) node.now }
     requires small { horizon_above before.now node.now < 2 ^ 32 }
     ensures { result ≡ horizon_above before.now node.now }
 {

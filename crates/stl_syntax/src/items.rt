@@ -54,10 +54,8 @@ impl Items {
         ensures ok { OnOk result (self.new ≡ self.old ++ item ∷ []) }
         ensures err { OnErr result (self.new ≡ self.old) }
     {
-        match self.list.push(item) {
-            Ok(()) => Ok(()),
-            Err(_) => Err(Memory),
-        }
+        self.list.push(item)?;
+        Ok(())
     }
 
     /// How many items there are.

@@ -20,6 +20,7 @@ mod text;
 pub use atom::{Atom, Term, make_atom};
 pub use builder::FormulaBuilder;
 pub use formula::Formula;
+pub use horizon::horizon_of;
 pub use items::{Item, Items, Verdict};
 pub use name::Name;
 pub use node::Node;

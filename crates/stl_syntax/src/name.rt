@@ -24,10 +24,8 @@ impl Name {
     pub(crate) fn make(alloc: Global, text: &str) -> Result<Name, Memory>
         ensures { IfOk result (λ n. n ≡ text.now) }
     {
-        match String::from_str(alloc, text) {
-            Ok(text) => Ok(Name { text }),
-            Err(_) => Err(Memory),
-        }
+        let text = String::from_str(alloc, text)?;
+        Ok(Name { text })
     }
 
     /// The name as a text.

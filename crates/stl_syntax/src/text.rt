@@ -45,10 +45,8 @@ impl Text {
         ensures ok { OnOk result (self.new ≡ self.old ++ piece.now) }
         ensures err { OnErr result (self.new ≡ self.old) }
     {
-        match self.bytes.extend_from_slice(piece) {
-            Ok(()) => Ok(()),
-            Err(_) => Err(Memory),
-        }
+        self.bytes.extend_from_slice(piece)?;
+        Ok(())
     }
 
     /// Takes all bytes away. Their memory stays for what is appended next.

@@ -16,7 +16,7 @@ use Rattle.trace_reader.specs.Feeds.{HasNoFeed, rows_after}
 use Rattle.trace_reader.specs.Progress.{Progress, last_of, Judges, blank, heading, row, bad_heading, bad_row}
 use Rattle.trace_reader.specs.Reader.{Reader, StandsFor, HasTaken, GoesOn, FaultsOn, ReadsOn, AreRising}
 use Rattle.trace_reader.specs.Reader.{IsFaultOfAll, HoldLines, HasReadBefore, IsNextRow, header_of, last_seen}
-use Rattle.trace_reader.specs.Reading.{made, IsLineRefusal, HasEnded}
+use Rattle.trace_reader.specs.LineReader.{made, IsLineRefusal, HasEnded}
 use Rattle.trace_reader.specs.declared.refusal.Limits.{Limits}
 use Rattle.trace_reader.specs.declared.refusal.TraceRefusal.{TraceRefusal}
 use Rattle.trace_reader.specs.declared.refusal.TraceKind.{TraceKind}

@@ -17,13 +17,13 @@ use Rattle.trace_reader.specs.Cut.{Fits}
 use Rattle.trace_reader.specs.TraceRefusals.{IsFirstFault}
 use Rattle.trace_reader.specs.Progress.{Progress, Judges, blank, heading, row, bad_heading, bad_row}
 use Rattle.trace_reader.specs.Reader.{Reader, StandsFor, HasTaken, IsFaultOfAll, HoldLines, HasReadBefore, HasCome, EndsWithFeed, feed}
-use Rattle.trace_reader.specs.Reading.{made, state, HasEnded, IsWithin, IsStart, IsLineRefusal}
+use Rattle.trace_reader.specs.LineReader.{made, state, HasEnded, IsWithin, IsStart, IsLineRefusal}
 use Rattle.trace_reader.specs.declared.refusal.Limits.{Limits}
 use Rattle.trace_reader.specs.declared.refusal.TraceRefusal.{TraceRefusal}
 use Rattle.trace_reader.specs.declared.refusal.TraceKind.{TraceKind}
 use Rattle.trace_reader.specs.declared.event.Event.{Event}
 use Rattle.trace_reader.specs.declared.event.Event.TheVariants.{Nothing, Header as IsTheHeader, Row as IsARow}
-use Rattle.trace_reader.specs.declared.reading.Reading.{Reading}
+use Rattle.trace_reader.specs.declared.line_reader.LineReader.{LineReader}
 use Rattle.trace_reader.proofs.ReaderSteps.{stands, taken_going, taken_closed, judged_bad, closed_breaks}
 use Rattle.trace_reader.proofs.ReaderSteps.{going_breaks, taken_start, ended_between, ended_closed}
 use Rattle.trace_reader.proofs.ReaderSteps.{ended_bad, number, number_going, broken_some, read_before}
@@ -49,7 +49,7 @@ judged_kept {old = old} {new} (bad_heading k b n f same) = same ∙ ap (λ (x : 
 judged_kept {old = old} {new} (bad_row h k b n f same) = same ∙ ap (λ (x : Bool). record old { fresh = x }) (sym (ap (λ (p : Progress). p.fresh) same))
 
 -- what came with a judged line
-pub judged_come : {limits : Limits} {line : List ℕ} {e : Event} (old new : Reading) (before : List ℕ) → Judges limits line old.table new.table (Ok e)
+pub judged_come : {limits : Limits} {line : List ℕ} {e : Event} (old new : LineReader) (before : List ℕ) → Judges limits line old.table new.table (Ok e)
     → HasCome e (state limits old) (state limits new) (before ++ 10 ∷ [])
 judged_come old new before (blank b same) = (ap (λ (p : Progress). p.heading) same, ap (λ (p : Progress). p.row) same, ap (λ (p : Progress). p.count) same)
 judged_come old new before (heading g b o is sound same) =
@@ -57,7 +57,7 @@ judged_come old new before (heading g b o is sound same) =
 judged_come old new before (row g b o is sound range width up room same) =
     (subst IsSome (sym o) refl, ap (λ (p : Progress). p.heading) same, omega (arith, ap (λ (p : Progress). p.count) same), feed before)
 
-module _ (limits : Limits) (old new : Reading) (w : IsWithin limits old) where
+module _ (limits : Limits) (old new : LineReader) (w : IsWithin limits old) where
   -- bytes without LF that were kept
   module _ (part : List ℕ) (free : HasNoFeed part) (begun : new.lines.begun ≡ begun_after old.lines.begun old.lines.line (length part)) where
     -- the reader stays within its limits
@@ -164,7 +164,7 @@ module _ (limits : Limits) (old new : Reading) (w : IsWithin limits old) where
     finish_least judged = judged_least judged
 
 -- nothing was read
-pub start_stands : (limits : Limits) (least : Scale) (p : Reading) → IsStart least p → StandsFor (state limits p) [] []
+pub start_stands : (limits : Limits) (least : Scale) (p : LineReader) → IsStart least p → StandsFor (state limits p) [] []
 start_stands limits least p h =
     let begun : p.lines.begun ≡ 0 = ap (λ (c : Cut). c.begun) h.lines in
     let line : p.lines.line ≡ [] = ap (λ (c : Cut). c.line) h.lines in
@@ -224,13 +224,13 @@ take_on at n piece taken e l k =
     ∙ take_at (take at piece ++ taken) (drop n (drop at piece)) (at + n) (length-append (take at piece) taken ∙ omega (arith, a, b))
 
 -- the end, between lines and after a last line without LF
-pub last_between : (limits : Limits) (old : Reading) → old.lines.line ≡ [] → (bytes : List ℕ) (rows : List Row) → StandsFor (state limits old) bytes rows
+pub last_between : (limits : Limits) (old : LineReader) → old.lines.line ≡ [] → (bytes : List ℕ) (rows : List Row) → StandsFor (state limits old) bytes rows
     → HasEnded limits old.table old.lines.begun bytes rows
 last_between limits old e bytes rows s =
     ended_between limits old.table old.lines.begun bytes rows (subst (λ l. HasTaken (made limits old.table old.lines.begun l) bytes rows) e s.taken)
 
 -- a last line without a fault
-pub last_closed : (limits : Limits) (old new : Reading) → IsWithin limits old → 0 < length old.lines.line → (e : Event)
+pub last_closed : (limits : Limits) (old new : LineReader) → IsWithin limits old → 0 < length old.lines.line → (e : Event)
     → Judges limits (old.lines.line ++ []) old.table new.table (Ok e)
     → (bytes : List ℕ) (rows : List Row) → StandsFor (state limits old) bytes rows
     → HasEnded limits new.table old.lines.begun bytes (rows_after e rows new.table.row)
@@ -238,14 +238,14 @@ last_closed limits old new w some e judged bytes rows s =
     ended_closed limits old.table old.lines.begun old.lines.line bytes rows s.taken some w.begun w.line new.table e judged
 
 -- or with one
-pub last_bad : (limits : Limits) (old new : Reading) → IsWithin limits old → 0 < length old.lines.line → (x : TraceRefusal) → x.line ≡ old.lines.begun
+pub last_bad : (limits : Limits) (old new : LineReader) → IsWithin limits old → 0 < length old.lines.line → (x : TraceRefusal) → x.line ≡ old.lines.begun
     → Judges limits (old.lines.line ++ []) old.table new.table (Err x.kind)
     → (bytes : List ℕ) (rows : List Row) → StandsFor (state limits old) bytes rows → IsFirstFault bytes true limits old.table.least x
 last_bad limits old new w some x at judged bytes rows s =
     ended_bad limits old.table old.lines.begun old.lines.line bytes rows s.taken some w.begun w.line new.table x at judged
 
 -- a fault of the last line comes after what was read
-pub last_before : (limits : Limits) (old : Reading) → 0 < length old.lines.line → (x : TraceRefusal) → x.line ≡ old.lines.begun
+pub last_before : (limits : Limits) (old : LineReader) → 0 < length old.lines.line → (x : TraceRefusal) → x.line ≡ old.lines.begun
     → (bytes : List ℕ) (rows : List Row) → StandsFor (state limits old) bytes rows → HasReadBefore x.line old.table.heading old.table.least bytes rows
 last_before limits old some x at bytes rows s =
     let line : 0 < length (old.lines.line ++ []) = omega (arith, some, ap length (append-nil old.lines.line)) in

@@ -12,8 +12,8 @@ pub mod FieldFaults
 pub mod Headings
 pub mod RowLines
 pub mod Progress
-pub mod Table
+pub mod Content
 pub mod Two
 pub mod Reader
-pub mod Reading
+pub mod LineReader
 pub mod ReaderParts

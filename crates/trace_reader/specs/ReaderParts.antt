@@ -1,7 +1,7 @@
 -- What a reader keeps.
 use Rattle.std.specs.Prelude.{◌≡◌, ◌^◌, ◌≤◌, None, false}
 use Rattle.trace_reader.specs.Reader.{Reader}
-use Rattle.trace_reader.specs.Reading.{state, IsWithin}
+use Rattle.trace_reader.specs.LineReader.{state, IsWithin}
 use Rattle.trace_reader.specs.declared.rows.Rows.TheInside.{Inside}
 
 abbrev pub reader_of : Inside → Reader

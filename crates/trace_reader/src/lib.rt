@@ -1,6 +1,7 @@
 //! The bytes of traces.
 #![tactic(auto)]
 
+mod content;
 mod digits;
 mod event;
 mod field;
@@ -8,16 +9,15 @@ mod header;
 mod heading;
 pub mod laws;
 mod line;
+mod line_reader;
 mod name;
 mod number;
 mod plain;
-mod reading;
 mod refusal;
 mod room;
 mod row;
 mod row_line;
 mod rows;
-mod table;
 mod trace;
 mod two_rows;
 

@@ -1,9 +1,28 @@
 //! Reads the fields of a row.
+ghost use Rattle.std.specs.Prelude.{◌≡◌, ◌≤◌, length, take};
+
 use crate::field::{count_fields, cut_field};
 use crate::number::{read_time, read_value};
 use crate::plain::{line_end, plain_time, plain_value};
 use crate::room::Heading;
 use crate::{Row, TraceKind};
+
+/// A piece of so many bytes at most is copied before it is read in place, since a number is read in place where bytes stand behind it.
+const SHORT: usize = 128;
+
+/// Room for a short piece, and for as many bytes behind it as a number may want.
+const ROOM: usize = 144;
+
+/// The bytes of a short piece, with room behind them.
+#[inline(always)]
+fn padded(piece: &[u8]) -> [u8; ROOM]
+    requires { length piece.now ≤ 128 }
+    ensures { take (length piece.now) result ≡ piece.now }
+{
+    let mut room = [0u8; ROOM];
+    room[..piece.len()].copy_from_slice(piece);
+    room
+}
 
 impl Heading {
     ghost use Rattle.std.specs.Prelude.{◌≡◌, ◌≤◌, suc, length, Some, MatchResult, MatchOption};
@@ -86,5 +105,31 @@ impl Heading {
             at += next.len + 1;
         }
         line_end(piece, at)
+    }
+
+    /// As `read_plain`, of a short piece: with room behind it, so that a number may stand at its end.
+    #[inline(never)]
+    fn read_padded(&self, row: &mut Row, piece: &[u8]) -> Option<usize>
+        requires { length piece.now ≤ 128 }
+        ensures { MatchOption result (Unit {0}) (λ n. IsPlainRow self.now piece.now n row.new) }
+    {
+        let room = padded(piece);
+        let size = self.read_plain(row, &room)?;
+        if size > piece.len() {
+            return None;
+        }
+        Some(size)
+    }
+
+    /// Reads a row of plain numbers that the piece begins with, also where the piece ends with it. What it does not read may be a row
+    /// all the same.
+    #[inline(always)]
+    pub(crate) fn plain_row(&self, row: &mut Row, piece: &[u8]) -> Option<usize>
+        ensures { MatchOption result (Unit {0}) (λ n. IsPlainRow self.now piece.now n row.new) }
+    {
+        if piece.len() <= SHORT {
+            return self.read_padded(row, piece);
+        }
+        self.read_plain(row, piece)
     }
 }

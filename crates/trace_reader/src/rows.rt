@@ -1,5 +1,5 @@
 //! The reader of a trace, piece by piece.
-use crate::reading::Reading;
+use crate::line_reader::LineReader;
 use crate::{Event, Header, Limits, Row, Took, TraceRefusal};
 use frac128::Memory;
 use std::alloc::Global;
@@ -11,7 +11,7 @@ use stl_syntax::Scale;
 #[derive(Drop)]
 pub struct Rows {
     limits: Limits,
-    reading: Reading,
+    reading: LineReader,
     refusal: Option<TraceRefusal>,
     ended: bool,
 }
@@ -54,7 +54,7 @@ impl Rows {
     {
         Ok(Rows {
             limits,
-            reading: Reading::new(alloc, least)?,
+            reading: LineReader::new(alloc, least)?,
             refusal: None,
             ended: false,
         })

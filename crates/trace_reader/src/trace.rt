@@ -13,9 +13,9 @@ pub struct Trace {
 }
 
 impl Model for Trace {
-    ghost use Rattle.stl_syntax.specs.Trace.{Trace as Table};
+    ghost use Rattle.stl_syntax.specs.Trace.{Trace as Recorded};
 
-    ghost Value = { Table };
+    ghost Value = { Recorded };
 
     ghost use Rattle.trace_reader.specs.Trace.{trace_of, IsKept};
 

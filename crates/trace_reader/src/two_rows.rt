@@ -81,9 +81,9 @@ impl TwoRows {
         ensures last { self.new.last ≡ self.old.last }
     {
         if self.turned {
-            return heading.read_plain(&mut self.first, piece);
+            return heading.plain_row(&mut self.first, piece);
         }
-        heading.read_plain(&mut self.second, piece)
+        heading.plain_row(&mut self.second, piece)
     }
 
     /// The row that was read becomes the last one.

@@ -17,7 +17,7 @@ use Rattle.stl_syntax.specs.Verdicts.{Describes}
 use Rattle.stl_syntax.specs.Stream.{answered_by, IsStretchText, IsNewText, IsRowsText}
 use Rattle.stl_syntax.specs.declared.items.Verdict.{Verdict}
 use Rattle.stl_syntax.proofs.LawProofs.{answers_stay}
-use Rattle.online_nodes.specs.Cuts.{Place, begins, After, Before, Same}
+use Rattle.rational.specs.Places.{Place, begins, After, Before, Same}
 use Rattle.online_nodes.specs.Network.{Front}
 use Rattle.online_nodes.specs.Laws.{answered_to}
 use Rattle.online_nodes.proofs.RunLaw.{some_is, none_is_none, int_order}

@@ -16,11 +16,11 @@ use Rattle.stl_syntax.specs.Verdicts.{Describes, GoesOn, IsTold, AreAlike}
 use Rattle.stl_syntax.specs.Texts.{AreVerdictLines, IsVerdictLine}
 use Rattle.stl_syntax.specs.declared.items.Verdict.{Verdict}
 use Rattle.stl_syntax.specs.declared.scale.Scale.{Scale}
-use Rattle.online_nodes.specs.Cuts.{Place, begins, ends, After, Upto, Before, Same}
+use Rattle.rational.specs.Places.{Place, begins, ends, After, Upto, Before, Same}
 use Rattle.online_nodes.specs.Laws.{AreTiles, AreTold}
-use Rattle.online_nodes.proofs.PlaceLemmas.{not_both, place_order, upto_of_before, after_of_before}
-use Rattle.online_nodes.proofs.PlaceLemmas.{same_places, upto_same, after_same, between, same_before}
-use Rattle.online_nodes.proofs.PlaceLemmas.{before_same, before_trans, same_trans_places, room_of_before}
+use Rattle.rational.proofs.PlaceLemmas.{not_both, place_order, upto_of_before, after_of_before}
+use Rattle.rational.proofs.PlaceLemmas.{same_places, upto_same, after_same, between, same_before}
+use Rattle.rational.proofs.PlaceLemmas.{before_same, before_trans, same_trans_places, room_of_before}
 use Rattle.online_nodes.proofs.Writing.{in_after, in_upto, some_in}
 use Rattle.online_nodes.proofs.HeldLaw.{is_in}
 use Rattle.online_nodes.proofs.MeetingLaw.{tiled_upto}

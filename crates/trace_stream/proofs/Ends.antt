@@ -18,7 +18,7 @@ use Rattle.trace_reader.specs.declared.event.Event.TheVariants.{Row as IsARow}
 use Rattle.trace_reader.proofs.LineLemmas.{rest, lines-rest}
 use Rattle.trace_reader.specs.InputFaults.{Fault, of_trace, IsHeaderAt, IsLack, IsInputFault}
 use Rattle.trace_stream.specs.Cases.{IsLacking, IsCase, IsNoBegin, IsHeaderOf, with_row, CanKeep}
-use Rattle.trace_stream.specs.Reading.{IsEnded, IsRefused, IsTied, IsKept, HasHeader, IsLastFault, of_header, own}
+use Rattle.trace_stream.specs.CaseReader.{IsEnded, IsRefused, IsTied, IsKept, HasHeader, IsLastFault, of_header, own}
 use Rattle.trace_stream.specs.declared.case.Case.{Case}
 use Rattle.trace_stream.specs.declared.fault.StreamStop.{StreamStop}
 use Rattle.trace_stream.specs.declared.fault.StreamStop.TheVariants.{Fault as Faulty, NoMemory, Wide}

@@ -10,7 +10,7 @@ use Rattle.trace_reader.proofs.FirstFaultStays.{first_fault_stays}
 use Rattle.trace_reader.proofs.LineLemmas.{rest}
 use Rattle.trace_reader.proofs.OpenLines.{parts, lines-now, open_line}
 use Rattle.trace_reader.specs.InputFaults.{Fault, of_trace, IsHeaderAt, here, later, IsLack, IsInputFault}
-use Rattle.trace_stream.specs.Reading.{IsSound}
+use Rattle.trace_stream.specs.CaseReader.{IsSound}
 use Rattle.trace_stream.proofs.HeaderLines.{header_stays, header_within}
 
 -- a header among the lines stands before the unfinished one

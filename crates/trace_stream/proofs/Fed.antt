@@ -3,7 +3,7 @@ use Rattle.std.proofs.Common.{◌≡◌, ℕ, ◌+◌, ◌-◌, false, List, ◌
 use Rattle.std.proofs.Common.{take-append-drop, take-add, append_assoc, arith, length-drop, take_all}
 use Rattle.stl_syntax.specs.Formula.{Formula}
 use Rattle.trace_reader.specs.declared.refusal.Limits.{Limits}
-use Rattle.trace_stream.specs.Reading.{IsRefused}
+use Rattle.trace_stream.specs.CaseReader.{IsRefused}
 use Rattle.trace_stream.specs.declared.fault.StreamStop.{StreamStop}
 
 -- the rest of a piece

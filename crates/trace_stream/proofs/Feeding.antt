@@ -23,7 +23,7 @@ use Rattle.trace_reader.proofs.LineLemmas.{lines-append}
 use Rattle.trace_reader.proofs.ReaderTakes.{through_parts}
 use Rattle.trace_reader.specs.InputFaults.{Fault, of_trace, unknown, unit, IsHeaderAt, IsLack, IsInputFault}
 use Rattle.trace_stream.specs.Cases.{IsLacking, IsBegun, IsNoBegin, IsHeaderOf, with_row, CanKeep}
-use Rattle.trace_stream.specs.Reading.{IsRefused, IsTied, IsKept}
+use Rattle.trace_stream.specs.CaseReader.{IsRefused, IsTied, IsKept}
 use Rattle.trace_stream.specs.declared.case.Case.{Case}
 use Rattle.trace_stream.specs.declared.fault.StreamStop.{StreamStop}
 use Rattle.trace_stream.specs.declared.fault.StreamStop.TheVariants.{Fault as Faulty, NoMemory, Wide}

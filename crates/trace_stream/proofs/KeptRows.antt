@@ -10,7 +10,7 @@ use Rattle.trace_reader.specs.TraceRefusals.{IsFirstFault}
 use Rattle.trace_reader.specs.Reader.{Reader, StandsFor, HasRead, header_of}
 use Rattle.trace_reader.specs.InputFaults.{Fault, IsLack, IsInputFault, AreRowsBefore, no_header_yet, sound}
 use Rattle.trace_reader.proofs.LineLemmas.{lines-nil}
-use Rattle.trace_stream.specs.Reading.{IsSound, IsKept, IsTied}
+use Rattle.trace_stream.specs.CaseReader.{IsSound, IsKept, IsTied}
 use Rattle.trace_stream.specs.declared.case.Case.{Case}
 use Rattle.trace_stream.proofs.HeaderLines.{no_header}
 use Rattle.trace_stream.proofs.Feeding.{no_lack}

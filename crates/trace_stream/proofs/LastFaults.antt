@@ -10,7 +10,7 @@ use Rattle.trace_reader.specs.Reader.{Reader, header_of, header_read}
 use Rattle.trace_reader.specs.declared.refusal.TraceRefusal.{TraceRefusal}
 use Rattle.trace_reader.specs.declared.refusal.TraceKind.TheVariants.{NoRows}
 use Rattle.trace_stream.specs.Cases.{IsBegun, IsNoBegin}
-use Rattle.trace_stream.specs.Reading.{HasHeader, IsLastFault, of_header, own}
+use Rattle.trace_stream.specs.CaseReader.{HasHeader, IsLastFault, of_header, own}
 use Rattle.trace_stream.specs.declared.case.Case.{Case}
 use Rattle.trace_stream.specs.declared.fault.TraceFault.TheVariants.{Trace as InTrace}
 use Rattle.trace_stream.specs.declared.fault.StreamStop.{StreamStop}

@@ -17,7 +17,7 @@ use Rattle.online_robust.specs.Lining.{ArePartLines}
 use Rattle.online_robust.specs.Moving.{Move, turn_of, last_row_of, last_row_after}
 use Rattle.online_robust.specs.Nets.{Parts, StandsFor, IsFault, IsGiven, IsWideIn, AreAllGiven}
 use Rattle.online_robust.specs.Pasts.{Past, part_of, trace_of}
-use Rattle.online_robust.specs.Turns.{IsStreamedCause}
+use Rattle.online_robust.specs.Steps.{IsStreamedCause}
 use Rattle.online_robust.specs.declared.line.MarginLine.{MarginLine}
 use Rattle.online_robust.specs.declared.net.RobustFault.{RobustFault}
 use Rattle.online_robust.specs.declared.net.RobustFault.TheVariants as R

@@ -15,7 +15,7 @@ use Rattle.trace_reader.specs.TraceText.{Heading, lines, AreTraceLines, TraceOf}
 use Rattle.trace_reader.specs.Reader.{Reader, HasRead, header_of}
 use Rattle.trace_reader.specs.declared.refusal.Limits.{Limits}
 use Rattle.trace_stream.specs.Cases.{IsCase, with_row}
-use Rattle.trace_stream.specs.Reading.{IsSound, IsKept, IsTied, IsEnded}
+use Rattle.trace_stream.specs.CaseReader.{IsSound, IsKept, IsTied, IsEnded}
 use Rattle.trace_stream.specs.Streams.{Stream, verdicts, early, margins, HasStream, StreamText}
 use Rattle.trace_stream.specs.Wides.{IsNeededByThen, at_row, at_end}
 use Rattle.trace_stream.specs.Following.{IsFollowed, IsFollowFault, IsUnwritten, IsHeldUp, IsLiveStop, stop_of}

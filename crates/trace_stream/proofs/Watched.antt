@@ -23,7 +23,7 @@ use Rattle.stl_syntax.specs.declared.items.Verdict.{Verdict}
 use Rattle.stl_syntax.specs.declared.node.Node.{Node}
 use Rattle.online_nodes.specs.Network.{Event, row, step, close, take as taken, is_atom, node_is_atom, initial}
 use Rattle.online_nodes.specs.Network.{after_event, state_from, state, State, Front, shown, IsRun, Emitted, EmittedFrom}
-use Rattle.online_nodes.specs.Cuts.{begins, ends, Before, Same}
+use Rattle.rational.specs.Places.{begins, ends, Before, Same}
 use Rattle.online_nodes.specs.Driven.{rows_of, steps_of, takes, pass_of, IsEmptied, IsDriven, nothing, by_rows, by_end}
 use Rattle.online_nodes.specs.Needed.{IsTaken, none as none_taken, other}
 use Rattle.online_nodes.specs.Laws.{AreTiles, AreTold, IsWhole}

@@ -8,7 +8,7 @@ use Rattle.trace_reader.specs.InputFaults.{AreRowsBefore, sound}
 use Rattle.trace_reader.specs.TraceText.{TraceOf}
 use Rattle.report.proofs.StreamTexts.{IsLonger}
 use Rattle.trace_stream.specs.Streams.{margins, limits_of, StreamOf, OwesRows}
-use Rattle.trace_stream.specs.Reading.{IsSound}
+use Rattle.trace_stream.specs.CaseReader.{IsSound}
 use Rattle.trace_stream.specs.Wides.{IsWideRows, at_row, at_end, IsWideByRow}
 use Rattle.trace_stream.proofs.MarginTexts.{margin_stream_grows}
 use Rattle.trace_stream.proofs.RowsBefore.{GoesOnFrom, from_none, from_some, rows_go_on, rows_once}

@@ -6,7 +6,7 @@ use Rattle.trace_reader.specs.declared.refusal.Limits.{Limits}
 use Rattle.trace_stream.specs.Streams.{Stream, margins, limits_of, HasStream, StreamText, StreamOf, IsLastVerdict, status_of_truth}
 use Rattle.trace_reader.specs.InputFaults.{Fault, IsInputFault, AreRowsBefore}
 use Rattle.trace_stream.specs.Cases.{IsFault, IsCase, Takes}
-use Rattle.trace_stream.specs.Reading.{IsKept, IsWhole}
+use Rattle.trace_stream.specs.CaseReader.{IsKept, IsWhole}
 use Rattle.trace_stream.specs.Wides.{IsNeededByThen, IsWideStream}
 use Rattle.trace_stream.specs.declared.case.Case.{Case}
 use Rattle.trace_stream.specs.declared.fault.StreamStop.{StreamStop}

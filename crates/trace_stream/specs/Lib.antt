@@ -1,6 +1,6 @@
 pub mod Streams
 pub mod Cases
-pub mod Reading
+pub mod CaseReader
 pub mod Wides
 pub mod Following
 pub mod Pendings

@@ -5,7 +5,7 @@ use Rattle.frac128.specs.Spans.{interval}
 use Rattle.stl_syntax.specs.Texts.{AreVerdictLines}
 use Rattle.stl_syntax.specs.declared.items.Verdict.{Verdict}
 use Rattle.stl_syntax.specs.declared.scale.Scale.{Scale}
-use Rattle.online_nodes.specs.Cuts.{Place, begins, ends, Before, Same}
+use Rattle.rational.specs.Places.{Place, begins, ends, Before, Same}
 
 -- the place just after a time
 abbrev pub just_after : ℕ → Place

@@ -11,7 +11,7 @@ use Rattle.online_nodes.specs.MarginStream.{IsMarginStream}
 use Rattle.online_nodes.specs.StreamedWide.{IsStreamedCrossing, IsStreamedValue}
 use Rattle.trace_reader.specs.TraceText.{TraceOf}
 use Rattle.trace_reader.specs.declared.refusal.Limits.{Limits}
-use Rattle.trace_stream.specs.Reading.{IsSound}
+use Rattle.trace_stream.specs.CaseReader.{IsSound}
 use Rattle.trace_stream.specs.Streams.{Stream, margins}
 
 -- a pair of functions, or a constant, that is in play at node i once these rows have come, or all where the input has ended, needs this

@@ -4,20 +4,20 @@
 #![tactic(auto)]
 
 mod case;
+mod case_reader;
 mod fault;
 mod follow;
 mod line;
 mod live;
 mod margins;
 mod pending;
-mod reading;
 mod verdicts;
 
 pub use case::Case;
+pub use case_reader::CaseReader;
 pub use fault::{StreamStop, TraceFault};
 pub use follow::{Follow, FollowFault};
 pub use line::fault_line;
 pub use live::Live;
 pub use margins::Margins;
-pub use reading::Reading;
 pub use verdicts::Verdicts;

@@ -13,9 +13,9 @@ ghost use Rattle.trace_stream.specs.Following.{IsLiveOpen, HasLivedOpen, IsLastT
 ghost use Rattle.trace_stream.specs.declared.case.Case.{Case as Of};
 
 use crate::case::{Case, begin};
+use crate::case_reader::{last_fault, next_bytes};
 use crate::fault::{StreamStop, TraceFault};
 use crate::follow::{Follow, FollowFault};
-use crate::reading::{last_fault, next_bytes};
 use frac128::Memory;
 use std::alloc::Global;
 use stl_syntax::{Formula, Text};

@@ -1,12 +1,11 @@
 //! Verdicts whose lines are not made yet, and that are cut where the answer of a row ends.
 ghost use Rattle.std.specs.Prelude.{◌≡◌, ◌↔◌, ◌++◌, ◌∷◌, [], ◌≤◌, IsTrue, IfOk};
 ghost use Rattle.frac128.specs.Spans.{interval};
-ghost use Rattle.online_nodes.specs.Cuts.{Before, begins, ends};
+ghost use Rattle.rational.specs.Places.{Before, begins, ends};
 ghost use Rattle.report.specs.Appended.{Grew};
 ghost use Rattle.trace_stream.specs.Pendings.{just_after, GoesBeyond, IsNextUpTo, IsCut, IsPartBefore, IsPartAfter, IsTextUpTo};
 
-use frac128::{Frac, Memory, Span};
-use online_nodes::Cut;
+use frac128::{Cut, Frac, Memory, Span};
 use report::{LastTime, put_verdict_after};
 use std::alloc::Global;
 use std::collections::VecDeque;
@@ -33,7 +32,7 @@ impl Model for Pending {
 fn begins_by(verdict: &Verdict, front: u32) -> bool
     ensures { IsTrue result ↔ Before (begins (interval verdict.now.on)) (just_after front) }
 {
-    Cut::begin(verdict).precedes(&Cut::after_whole(i64::from(front)))
+    Cut::begin(&verdict.on).precedes(&Cut::after_whole(i64::from(front)))
 }
 
 /// Whether a verdict goes on beyond the time `front`.
@@ -41,7 +40,7 @@ fn begins_by(verdict: &Verdict, front: u32) -> bool
 fn goes_beyond(verdict: &Verdict, front: u32) -> bool
     ensures { IsTrue result ↔ Before (just_after front) (ends (interval verdict.now.on)) }
 {
-    Cut::after_whole(i64::from(front)).precedes(&Cut::end(verdict))
+    Cut::after_whole(i64::from(front)).precedes(&Cut::end(&verdict.on))
 }
 
 /// What of a verdict lies up to the time `front`.

@@ -1,16 +1,22 @@
 -- What a since is on a gap: the ways in which it is the least or the greatest of two shapes.
-use Rattle.std.proofs.Common.{◌≡◌, ◌⊎◌, inl, inr, refl}
+use Rattle.std.proofs.Common.{◌≡◌, ◌⊎◌, ◌∙◌, inl, inr, refl, subst, sym}
 use Rattle.std.specs.declared.cmp.Ordering.{Ordering}
 use Rattle.std.specs.declared.cmp.Ordering.TheVariants.{Less, Equal, Greater}
 use Rattle.rational.specs.Rational.{Rational, ◌<ʳ◌, ◌≤ʳ◌}
 use Rattle.rational.specs.Extended.{Extended, ◌≤ᵉ◌, ◌≈ᵉ◌, IsLeast, IsGreatest, Affine, value_at}
 use Rattle.rational.specs.Affine.{IsOrderᵉ, IsTrend}
 use Rattle.rational.proofs.Order.{le_or_lt, same_of_le}
-use Rattle.rational.proofs.ExtendedLemmas.{le_transᵉ}
+use Rattle.rational.proofs.ExtendedLemmas.{le_reflᵉ, le_transᵉ}
 use Rattle.rational.proofs.AffineLemmas.{value_same, lies_between}
 use Rattle.rational.proofs.ExtendedLemmas.{greatest_of}
+use Rattle.frac128.specs.Value.{value}
+use Rattle.value_laws.specs.Members.{ShapeOf}
+use Rattle.pl_signal.specs.declared.joining.Side.{Side}
 use Rattle.pl_signal.specs.declared.joining.Side.TheVariants.{Least, Greatest}
 use Rattle.pl_signal.specs.Joining.{IsChosen}
+use Rattle.until_ops.specs.declared.course.Course.{Course}
+use Rattle.until_ops.specs.declared.course.Gap.{Gap}
+use Rattle.until_ops.specs.Courses.{IsCourse, IsPlayed}
 use Rattle.rational.specs.Onward.{Climbs, Sinks, IsBelow, IsOnward}
 use Rattle.rational.proofs.AffineMeetings.{between}
 use Rattle.rational.proofs.ExtendedLemmas.{le_of_ltᵉ}
@@ -139,3 +145,26 @@ within_ends f l t r x a b h k = by_end (le_or_lt r t)
       | inl m ↦ le_transᵉ x (value_at f l) (value_at f t) h m.0
       | inr m ↦ le_transᵉ x (value_at f r) (value_at f t) k m.0
     ]
+
+-- a value is what is chosen of itself
+pub chosen_of_itself : (side : Side) (v : Extended) → IsChosen side v v v
+chosen_of_itself Least v = record { left = le_reflᵉ v; right = le_reflᵉ v; one_of = inl (le_reflᵉ v) }
+chosen_of_itself Greatest v = record { left = le_reflᵉ v; right = le_reflᵉ v; one_of = inl (le_reflᵉ v) }
+
+-- a course that is one shape goes where the shape goes
+pub only_course : {P : Type 0} (shape : ShapeOf P) (gap : Gap P) (course : Course P) (x : P) → course.side ≡ Least → course.first ≡ x
+    → course.second ≡ x → IsPlayed shape gap x
+    → ((t : Rational) (v : Extended) → value gap.from <ʳ t → t ≤ʳ value gap.to
+    → IsChosen Least (value_at (shape.function x) t) (value_at (shape.function x) t) v
+    → IsOnward (value_at (shape.function gap.before) (value gap.from)) (shape.function gap.left) (shape.function gap.right)
+    (value gap.from) t v)
+    → IsCourse shape gap course
+only_course {P} shape gap course x s f e played goes = record {
+  one = λ _. e ∙ sym f;
+  first = subst (IsPlayed shape gap) (sym f) played;
+  second = subst (IsPlayed shape gap) (sym e) played;
+  onward = λ t v a b chosen. goes t v a b
+      (subst (λ d. IsChosen d (value_at (shape.function x) t) (value_at (shape.function x) t) v) s
+      (subst (λ y. IsChosen course.side (value_at (shape.function x) t) (value_at (shape.function y) t) v) e
+      (subst (λ y. IsChosen course.side (value_at (shape.function y) t) (value_at (shape.function course.second) t) v) f chosen)));
+}

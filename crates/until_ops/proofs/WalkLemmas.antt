@@ -1,10 +1,10 @@
 -- How a walk along two signals stands: at the first instant, and from event to event.
-use Rattle.std.proofs.Common.{◌≡◌, ℕ, ◌+◌, ◌-◌, ◌*◌, ◌<◌, ◌^◌, ◌⊎◌, inl, inr, List, [], ◌∷◌, length}
+use Rattle.std.proofs.Common.{◌≡◌, ℕ, ◌+◌, ◌-◌, ◌*◌, ◌<◌, ◌^◌, ◌⊎◌, ◌↔◌, inl, inr, List, [], ◌∷◌, length}
 use Rattle.std.proofs.Common.{Some, Bool, IsTrue, true, false, refl, sym, ◌∙◌, subst, ap, arith}
 use Rattle.std.specs.Prelude.{slice_get, MatchBool}
 use Rattle.rational.specs.Rational.{Rational, IsWithin, ◌<ʳ◌, ◌≤ʳ◌, ◌≈◌}
 use Rattle.rational.specs.Time.{missing}
-use Rattle.rational.specs.Extended.{IsLeast, value_at}
+use Rattle.rational.specs.Extended.{Affine, IsLeast, value_at}
 use Rattle.rational.specs.Affine.{IsBounded, HasBoundedLevel, MeetAlone}
 use Rattle.rational.specs.InPlay.{IsBreakpoint, IsCrossing}
 use Rattle.rational.specs.InPlay as I
@@ -15,23 +15,23 @@ use Rattle.frac128.specs.Value.{value}
 use Rattle.frac128.specs.declared.frac.Frac.{Frac}
 use Rattle.value_laws.specs.Members.{ShapeOf}
 use Rattle.pl_signal.specs.declared.knot.Knot.{Knot}
-use Rattle.pl_signal.specs.declared.reading.Reading.{Reading}
+use Rattle.pl_signal.specs.declared.sample.Sample.{Sample}
 use Rattle.pl_signal.specs.Knots.{time, start, stop, HasShape, IsWorth}
 use Rattle.pl_signal.proofs.Telling.{TellsSoFar, tells_first, tells_join}
 use Rattle.pl_signal.proofs.Values.{worth_at, shape_at, shape_after}
 use Rattle.pl_signal.proofs.Moving.{first_is, same_knot, at_knot_within, clip_within}
 use Rattle.until_ops.specs.declared.course.Course.{Course}
 use Rattle.until_ops.specs.declared.course.Gap.{Gap}
-use Rattle.until_ops.specs.declared.course.Turn.{Turn}
+use Rattle.until_ops.specs.declared.course.Meet.{Meet}
 use Rattle.until_ops.specs.declared.since.Stand.{Stand}
 use Rattle.pl_signal.specs.Joining.{Joins}
 use Rattle.pl_signal.specs.Places.{IsPlace}
-use Rattle.until_ops.specs.Courses.{IsPointOf, IsOfGap, IsPlayed, IsCourse, IsTurn, IsGap}
+use Rattle.until_ops.specs.Courses.{IsPointOf, IsOfGap, IsPlayed, IsCourse, IsMeet, IsGap}
 use Rattle.until_ops.specs.Untils.{SinceOf, BasesOfTwo}
 use Rattle.until_ops.specs.Walks.{AreSides, CrossHere, BreakHere, Stands, rest}
 use Rattle.until_ops.proofs.LimitLemmas.{after_small}
 use Rattle.pl_signal.proofs.Limits.{breakpoint_at, worth_bounded, point_bounded}
-use Rattle.pl_signal.proofs.Places.{first_place, earlier_after, more_knots, not_both, part_on_gap}
+use Rattle.pl_signal.proofs.Places.{first_place, earlier_after, more_knots, not_both, part_on_gap, says_later}
 use Rattle.until_ops.proofs.PlayLemmas.{Follows, is_since}
 use Rattle.until_ops.proofs.SinceLemmas.{AreSignals, start_value, gap_value, end_value}
 use Rattle.rational.proofs.Events.{breakpoint_same}
@@ -242,7 +242,7 @@ module _ {P : Type 0} {shape : ShapeOf P} {p q built : List (Knot P)} {now : Sta
   right_begins = right_small (value now.at) (le_refl (value now.at)) (le_of_lt begins_before)
 
   -- the gap up to a turn is one of the walk
-  pub is_gap : (turn : Turn) → IsTurn (shape.function k.after) (shape.function l.after) now.at next turn → IsGap shape (gap_to now k l turn.time)
+  pub is_gap : (turn : Meet) → IsMeet (shape.function k.after) (shape.function l.after) now.at next turn → IsGap shape (gap_to now k l turn.time)
   is_gap turn is = record {
     later = is.after;
     from_within = starts_within;
@@ -275,11 +275,22 @@ module _ {P : Type 0} {shape : ShapeOf P} {p q built : List (Knot P)} {now : Sta
   played_shape to x (inr (inl e)) = inr (inl (subst (HasShape q) (sym e) (shape_after shape q now.right l w.at.at_l)))
   played_shape to x (inr (inr (o, of_gap, fixed, still))) = inr (inr still)
 
+-- the next event is at the next knot of a side where that is the earlier knot, and the two do not meet before it
+pub reaches_next : {f h : Affine} {from next : Frac} {at : Rational} {is_next reached : Bool} (turn : Meet) → IsMeet f h from next turn
+    → MatchBool turn.met (reached ≡ false) (reached ≡ is_next) → value next ≤ʳ at → IsTrue is_next ↔ (at ≈ value next)
+    → IsTrue reached ↔ (at ≈ value turn.time)
+reaches_next {f} {h} {from} {next} {at} {is_next} {reached} turn m r later e = by_meeting turn.met m.kind r
+  where
+    by_meeting : (met : Bool) → MatchBool met (MeetAlone f h (value from) (value next) (value turn.time)) (turn.time ≡ next)
+        → MatchBool met (reached ≡ false) (reached ≡ is_next) → IsTrue reached ↔ (at ≈ value turn.time)
+    by_meeting true k r = subst (λ b. IsTrue b ↔ (at ≈ value turn.time)) (sym r) (says_later (lt_of_lt_of_le k.before later))
+    by_meeting false k r = subst (λ b. IsTrue b ↔ (at ≈ value turn.time)) (sym r) (subst (λ t. IsTrue is_next ↔ (at ≈ value t)) (sym k) e)
+
 -- the next event of a walk: how the since goes on up to it, and both signals read at it
 pub record IsNext {P : Type 0} (shape : ShapeOf P) (p q : List (Knot P)) (now : Stand P) (k l : Knot P) (next : Frac)
-    (turn : Turn) (course : Course P) (x y : Reading P) (v : P) : Type 0 where
+    (turn : Meet) (course : Course P) (x y : Sample P) (v : P) : Type 0 where
   -- the next event is the next knot, or a crossing of the two gaps
-  pub turning : IsTurn (shape.function k.after) (shape.function l.after) now.at next turn
+  pub turning : IsMeet (shape.function k.after) (shape.function l.after) now.at next turn
   -- up to it the since goes on by this course
   pub goes : IsCourse shape (gap_to now k l turn.time) course
   -- the left side is read at the event
@@ -294,16 +305,16 @@ pub record IsNext {P : Type 0} (shape : ShapeOf P) (p q : List (Knot P)) (now : 
       (value_at (shape.function v) (value turn.time))
 
 -- the next event is a crossing of both parts, or the next knot
-abbrev IsEvent : {P : Type 0} → ShapeOf P → Stand P → Knot P → Knot P → Frac → Turn → Bool → Type 0
+abbrev IsEvent : {P : Type 0} → ShapeOf P → Stand P → Knot P → Knot P → Frac → Meet → Bool → Type 0
 IsEvent shape now k l next turn met =
     MatchBool met (MeetAlone (shape.function k.after) (shape.function l.after) (value now.at) (value next) (value turn.time)) (turn.time ≡ next)
 
 -- where the walk stands then
-abbrev pub next_stand : {P : Type 0} → Turn → Reading P → Reading P → P → Stand P
+abbrev pub next_stand : {P : Type 0} → Meet → Sample P → Sample P → P → Stand P
 next_stand turn x y v = record { left = x.place; right = y.place; at = turn.time; value = v; met = turn.met }
 
-module _ {P : Type 0} {shape : ShapeOf P} {p q built : List (Knot P)} {now : Stand P} {k l m n : Knot P} {next : Frac} {turn : Turn} {course : Course P}
-    {x y : Reading P} {v : P} (w : IsWalk shape p q built now k l m n next) (e : IsNext shape p q now k l next turn course x y v) where
+module _ {P : Type 0} {shape : ShapeOf P} {p q built : List (Knot P)} {now : Stand P} {k l m n : Knot P} {next : Frac} {turn : Meet} {course : Course P}
+    {x y : Sample P} {v : P} (w : IsWalk shape p q built now k l m n next) (e : IsNext shape p q now k l next turn course x y v) where
   follows : Follows shape p q (gap_to now k l turn.time)
   follows = gap_follows w turn.time e.turning.after e.turning.not_later
 

@@ -1,5 +1,5 @@
 -- What a since is on a gap on which both sides are affine and in one order: the least or the greatest of two shapes.
-use Rattle.std.specs.Prelude.{◌≡◌, ◌⊎◌, ◌≤◌, ◌^◌, false, MatchBool}
+use Rattle.std.specs.Prelude.{◌≡◌, ◌⊎◌, ◌≤◌, ◌^◌, false, IsTrue, MatchBool}
 use Rattle.rational.specs.Rational.{Rational, ◌<ʳ◌, ◌≤ʳ◌, IsWithin}
 use Rattle.rational.specs.Time.{HasDenominator}
 use Rattle.rational.specs.Extended.{Extended, finite, ◌≈ᵉ◌, IsLeast, IsGreatest, Affine, value_at}
@@ -13,7 +13,7 @@ use Rattle.pl_signal.specs.declared.faults.OpFault.{OpFault}
 use Rattle.pl_signal.specs.declared.faults.OpFault.TheVariants as F
 use Rattle.until_ops.specs.declared.course.Course.{Course}
 use Rattle.until_ops.specs.declared.course.Gap.{Gap}
-use Rattle.until_ops.specs.declared.course.Turn.{Turn}
+use Rattle.until_ops.specs.declared.course.Meet.{Meet}
 use Rattle.pl_signal.specs.declared.joining.Side.{Side}
 use Rattle.pl_signal.specs.Joining.{IsChosen}
 
@@ -26,7 +26,7 @@ pub record IsPointOf (side : Side) (x y p q v : Extended) : Type 0 where
   pub is_value : IsLeast p most v
 
 -- the next time at which the two come out of order, or where nothing does so before it, the next time
-pub record IsTurn (f h : Affine) (from next : Frac) (turn : Turn) : Type 0 where
+pub record IsMeet (f h : Affine) (from next : Frac) (turn : Meet) : Type 0 where
   pub after : value from <ʳ value turn.time
   pub not_later : value turn.time ≤ʳ value next
   pub in_order : InOrder f h (value from) (value turn.time)
@@ -77,6 +77,7 @@ module _ {P : Type 0} (shape : ShapeOf P) where
 
   -- at each time of the gap, and as it ends, the since is the least or the greatest of the two
   pub record IsCourse (gap : Gap P) (course : Course P) : Type 0 where
+    pub one : IsTrue course.alone → course.second ≡ course.first
     pub first : IsPlayed gap course.first
     pub second : IsPlayed gap course.second
     pub onward : (t : Rational) (v : Extended) → value gap.from <ʳ t → t ≤ʳ value gap.to

@@ -6,9 +6,9 @@ ghost use Rattle.rational.specs.Extended.{value_at, ◌≤ᵉ◌};
 ghost use Rattle.rational.specs.Affine.{IsBounded, HasBoundedLevel};
 ghost use Rattle.frac128.specs.Value.{value};
 ghost use Rattle.pl_signal.specs.declared.joining.Side.TheVariants.{Least};
-ghost use Rattle.pl_signal.specs.Joining.{IsGapFault};
+ghost use Rattle.pl_signal.specs.Joining.{IsChosen, IsGapFault};
 ghost use Rattle.rational.specs.Onward.{InOrder, IsBelow, Climbs, Sinks};
-ghost use Rattle.until_ops.specs.Courses.{IsCourse, IsCourseFault, IsFixed, IsGap, IsPointOf, IsStart, IsTurn, IsValueFault};
+ghost use Rattle.until_ops.specs.Courses.{IsCourse, IsCourseFault, IsFixed, IsGap, IsPointOf, IsStart, IsMeet, IsValueFault};
 
 use frac128::Frac;
 use pl_signal::{OpFault, Side, WidePair, chosen, crossing};
@@ -17,7 +17,7 @@ use value_laws::Shape;
 
 /// The end of a stretch on which two shapes keep their order, and whether they cross there.
 #[derive(Clone, Copy)]
-pub(crate) struct Turn {
+pub(crate) struct Meet {
     pub(crate) time: Frac,
     pub(crate) met: bool,
 }
@@ -32,32 +32,33 @@ pub(crate) struct Gap<P> {
     pub(crate) to: Frac,
 }
 
-/// The least of two shapes at each time, or the greatest.
+/// The least of two shapes at each time, or the greatest; `alone` says that both are one shape.
 #[derive(Clone, Copy)]
 pub(crate) struct Course<P> {
     pub(crate) side: Side,
     pub(crate) first: P,
     pub(crate) second: P,
+    pub(crate) alone: bool,
 }
 
 /// How far the two keep their order from `from` on: up to where they cross, or up to `next`.
-pub(crate) fn turning<P: Shape>(p: &P, q: &P, from: &Frac, next: &Frac) -> Result<Turn, OpFault<P>>
+pub(crate) fn turning<P: Shape>(p: &P, q: &P, from: &Frac, next: &Frac) -> Result<Meet, OpFault<P>>
     requires order { value from.now <ʳ value next.now }
     requires from_within { IsWithin (2 ^ 34) (value from.now) }
     requires next_within { IsWithin (2 ^ 34) (value next.now) }
     requires first { HasBoundedLevel (2 ^ 31) (P.function p.now) }
     requires second { HasBoundedLevel (2 ^ 31) (P.function q.now) }
     ensures { MatchResult result
-        (IsTurn (P.function p.now) (P.function q.now) from.now next.now)
+        (IsMeet (P.function p.now) (P.function q.now) from.now next.now)
         (IsGapFault P.Shape p.now q.now from.now next.now) }
 {
-    let none = Turn {
+    let none = Meet {
         time: *next,
         met: false,
     };
     match P::cmp_at(p, q, from) {
         Ordering::Less => match P::cmp_at(p, q, next) {
-            Ordering::Greater => Ok(Turn {
+            Ordering::Greater => Ok(Meet {
                 time: crossing(p, q, from, next)?,
                 met: true,
             }),
@@ -65,7 +66,7 @@ pub(crate) fn turning<P: Shape>(p: &P, q: &P, from: &Frac, next: &Frac) -> Resul
         },
         Ordering::Equal => Ok(none),
         Ordering::Greater => match P::cmp_at(p, q, next) {
-            Ordering::Less => Ok(Turn {
+            Ordering::Less => Ok(Meet {
                 time: crossing(p, q, from, next)?,
                 met: true,
             }),
@@ -128,12 +129,15 @@ fn constant<P: Shape>(x: &P, at: &Frac) -> Result<P, OpFault<P>>
 
 /// The one shape alone.
 fn only<P: Copy>(x: &P) -> Course<P>
-    ensures { result ≡ record { side = Least; first = x.now; second = x.now } }
+    ensures side { result.side ≡ Least }
+    ensures first { result.first ≡ x.now }
+    ensures second { result.second ≡ x.now }
 {
     Course {
         side: Side::Least,
         first: *x,
         second: *x,
+        alone: true,
     }
 }
 
@@ -171,6 +175,7 @@ fn above<P: Shape>(gap: &Gap<P>, low: &P, top: &P) -> Result<Course<P>, OpFault<
             side: Side::Least,
             first: gap.left,
             second: level,
+            alone: false,
         });
     }
     if let Ordering::Greater = P::cmp_at(low, &gap.right, &gap.from) {
@@ -196,25 +201,43 @@ fn raised<P: Shape>(gap: &Gap<P>, low: &P, top: &P) -> Result<Course<P>, OpFault
             side: Side::Least,
             first: gap.left,
             second: level,
+            alone: false,
         });
     }
     Ok(Course {
         side: Side::Greatest,
         first: level,
         second: gap.right,
+        alone: false,
     })
+}
+
+/// The shape of the course that is taken at a time.
+fn limit_of<P: Shape>(course: &Course<P>, at: &Frac) -> P
+    requires within { IsWithin (2 ^ 34) (value at.now) }
+    requires one { IsTrue course.now.alone → course.now.second ≡ course.now.first }
+    ensures one { (result ≡ course.now.first) ⊎ (result ≡ course.now.second) }
+    ensures value { IsChosen course.now.side
+        (value_at (P.function course.now.first) (value at.now)) (value_at (P.function course.now.second) (value at.now))
+        (value_at (P.function result) (value at.now)) }
+{
+    if course.alone {
+        return course.first;
+    }
+    chosen(course.side, &course.first, &course.second, at)
 }
 
 /// A shape with the value of the since at the end of a gap, from its course there and from what both sides are at that time.
 pub(crate) fn point<P: Shape>(course: &Course<P>, left: &P, right: &P, at: &Frac) -> P
-    requires { IsWithin (2 ^ 34) (value at.now) }
+    requires within { IsWithin (2 ^ 34) (value at.now) }
+    requires one { IsTrue course.now.alone → course.now.second ≡ course.now.first }
     ensures one { (result ≡ course.now.first) ⊎ (result ≡ course.now.second) ⊎ (result ≡ left.now) ⊎ (result ≡ right.now) }
     ensures value { IsPointOf course.now.side
         (value_at (P.function course.now.first) (value at.now)) (value_at (P.function course.now.second) (value at.now))
         (value_at (P.function left.now) (value at.now)) (value_at (P.function right.now) (value at.now))
         (value_at (P.function result) (value at.now)) }
 {
-    let limit = chosen(course.side, &course.first, &course.second, at);
+    let limit = limit_of(course, at);
     let most = chosen(Side::Greatest, right, &limit, at);
     chosen(Side::Least, left, &most, at)
 }

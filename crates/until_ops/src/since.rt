@@ -1,5 +1,5 @@
 //! Since from the start.
-ghost use Rattle.std.specs.Prelude.{◌≡◌, ◌^◌, ◌+◌, ◌<◌, ◌∷◌, [], List, length, None, IfOk, IfErr, IfSome, OnOk, OnErr};
+ghost use Rattle.std.specs.Prelude.{◌≡◌, ◌^◌, ◌+◌, ◌<◌, ◌∷◌, [], List, length, None, false, IsTrue, MatchBool, IfOk, IfErr, IfSome, OnOk, OnErr};
 ghost use Rattle.rational.specs.Rational.{IsWithin};
 ghost use Rattle.rational.specs.Time.{◌≈◌, ◌<ʳ◌};
 ghost use Rattle.rational.specs.Affine.{HasBoundedLevel};
@@ -10,14 +10,15 @@ ghost use Rattle.pl_signal.specs.declared.faults.OpFault.TheVariants as F;
 ghost use Rattle.pl_signal.specs.Limits.{IsLimited};
 ghost use Rattle.pl_signal.specs.Moves.{Tells};
 ghost use Rattle.pl_signal.specs.Wide.{HasCause};
-ghost use Rattle.pl_signal.specs.Joining.{IsGapFault};
-ghost use Rattle.until_ops.specs.Courses.{IsCourse, IsCourseFault, IsGap, IsTurn};
+ghost use Rattle.frac128.specs.declared.frac.Frac.{Frac};
+ghost use Rattle.pl_signal.specs.Joining.{IsGapFault, Joins};
+ghost use Rattle.until_ops.specs.Courses.{IsCourse, IsCourseFault, IsGap, IsMeet};
 ghost use Rattle.until_ops.specs.Untils.{BasesOfTwo, SinceOf, SinceStep};
 ghost use Rattle.until_ops.specs.Walks.{AreSides, IsPairWithin, Stands, rest};
 
-use crate::course::{Course, Gap, Turn, course_over, point, turning};
+use crate::course::{Course, Gap, Meet, course_over, point, turning};
 use frac128::{Frac, Memory};
-use pl_signal::{Builder, OpFault, Side, Signal, WidePair, chosen, earlier, fault_of, keep};
+use pl_signal::{Builder, Next, OpFault, Side, Signal, WidePair, chosen, fault_of, keep};
 use value_laws::Shape;
 
 /// Where a walk along both signals stands: the places of their last knots that are not later than `at`, a shape with the since's
@@ -94,14 +95,14 @@ fn turn_kept<P: Shape>(
     from: &Frac,
     next: &Frac,
     fault: &mut Option<WidePair<P>>,
-) -> Result<Turn, Memory>
+) -> Result<Meet, Memory>
     requires order { value from.now <ʳ value next.now }
     requires from_within { IsWithin (2 ^ 34) (value from.now) }
     requires next_within { IsWithin (2 ^ 34) (value next.now) }
     requires first { HasBoundedLevel (2 ^ 31) (P.function p.now) }
     requires second { HasBoundedLevel (2 ^ 31) (P.function q.now) }
     requires none { fault.old ≡ None }
-    ensures ok { IfOk result (IsTurn (P.function p.now) (P.function q.now) from.now next.now) }
+    ensures ok { IfOk result (IsMeet (P.function p.now) (P.function q.now) from.now next.now) }
     ensures still { OnOk result (fault.new ≡ None) }
     ensures wide { OnErr result (IfSome fault.new (λ pair. IsGapFault P.Shape p.now q.now from.now next.now (F.Wide pair))) }
 {
@@ -117,6 +118,43 @@ fn course_kept<P: Shape>(gap: &Gap<P>, fault: &mut Option<WidePair<P>>) -> Resul
     ensures wide { OnErr result (IfSome fault.new (λ pair. IsCourseFault P.Shape gap.now (F.Wide pair))) }
 {
     keep(course_over(gap), fault)
+}
+
+/// Whether a knot at the next time is reached: where the two do not cross before it.
+fn is_reached(is_next: bool, met: bool) -> bool
+    ensures { MatchBool met (result ≡ false) (result ≡ is_next) }
+{
+    if met {
+        return false;
+    }
+    is_next
+}
+
+/// Goes on by the course on the open gap up to `to`, and with `point` there. What is refused is put into `fault`.
+fn follow<P: Shape>(
+    built: &mut Builder<P>,
+    course: &Course<P>,
+    to: &Frac,
+    point: &P,
+    fault: &mut Option<WidePair<P>>,
+) -> Result<(), Memory>
+    requires order { stop built.old <ʳ value to.now }
+    requires from_within { IsWithin (2 ^ 34) (stop built.old) }
+    requires to_within { IsWithin (2 ^ 34) (value to.now) }
+    requires first { HasBoundedLevel (2 ^ 31) (P.function course.now.first) }
+    requires second { HasBoundedLevel (2 ^ 31) (P.function course.now.second) }
+    requires one { IsTrue course.now.alone → course.now.second ≡ course.now.first }
+    requires none { fault.old ≡ None }
+    ensures ok { OnOk result (Joins P.Shape course.now.side built.old course.now.first course.now.second to.now point.now built.new) }
+    ensures still { OnOk result (fault.new ≡ None) }
+    ensures wide { OnErr result (IfSome fault.new
+        (λ pair. (from : Frac) × (value from ≡ stop built.old)
+        × IsGapFault P.Shape course.now.first course.now.second from to.now (F.Wide pair))) }
+{
+    if course.alone {
+        return built.go_along(&course.first, to, point);
+    }
+    built.join_kept(course.side, &course.first, &course.second, to, point, fault)
 }
 
 /// Goes on to the next event: a knot of one of the two, or a crossing of their parts before that. What is refused is put into `fault`.
@@ -142,8 +180,8 @@ fn walk<P: Shape>(
     let _ = p.len();
     let _ = q.len();
     let (x, y) = (p.knot(now.left).after, q.knot(now.right).after);
-    let next = earlier(&p.knot(now.left + 1).time, &q.knot(now.right + 1).time);
-    let turn = turn_kept(&x, &y, &now.at, &next, fault)?;
+    let next = Next::of(&p.knot(now.left + 1).time, &q.knot(now.right + 1).time);
+    let turn = turn_kept(&x, &y, &now.at, &next.time, fault)?;
     let gap = Gap {
         before: now.value,
         left: x,
@@ -152,17 +190,10 @@ fn walk<P: Shape>(
         to: turn.time,
     };
     let course = course_kept(&gap, fault)?;
-    let left = p.advance(now.left, &turn.time);
-    let right = q.advance(now.right, &turn.time);
+    let left = p.advance(now.left, is_reached(next.left, turn.met), &turn.time);
+    let right = q.advance(now.right, is_reached(next.right, turn.met), &turn.time);
     let value = point(&course, &left.shape, &right.shape, &turn.time);
-    built.join_kept(
-        course.side,
-        &course.first,
-        &course.second,
-        &turn.time,
-        &value,
-        fault,
-    )?;
+    follow(built, &course, &turn.time, &value, fault)?;
     Ok(Stand {
         left: left.place,
         right: right.place,

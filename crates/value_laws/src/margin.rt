@@ -126,6 +126,7 @@ impl Shape for Margin {
         }
     }
 
+    #[inline(always)]
     fn same(p: &Margin, q: &Margin) -> bool {
         match (p, q) {
             (Margin::Ramp(f), Margin::Ramp(g)) => f.same(g),

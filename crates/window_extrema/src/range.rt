@@ -57,15 +57,13 @@ impl<P: Shape> RangeMax<P> {
         ensures high { IfOk result (λ r. r.high ≡ 0) }
         ensures spent { IfOk result (λ r. r.spent ≡ 0) }
     {
-        match VecDeque::with_capacity(alloc, items.len()) {
-            Ok(queue) => Ok(RangeMax {
-                items,
-                queue,
-                low: 0,
-                high: 0,
-            }),
-            Err(_) => Err(Memory),
-        }
+        let queue = VecDeque::with_capacity(alloc, items.len())?;
+        Ok(RangeMax {
+            items,
+            queue,
+            low: 0,
+            high: 0,
+        })
     }
 
     /// The place of a greatest item from place `lo` up to, but not including, place `hi`; None exactly where there is no place.

@@ -23,15 +23,15 @@ use Rattle.envelope.specs.declared.turns.Turn.{Turn}
 use Rattle.envelope.specs.declared.walk.Walk.{Walk}
 use Rattle.envelope.specs.Turns.{HasCome, IsToCome, none_of}
 use Rattle.envelope.specs.Standing.{Part, IsOneOf}
-use Rattle.envelope.specs.Walking.{Climbed, IsPiecesFault, Walks, climbed_until}
+use Rattle.envelope.specs.Walking.{Climbed, Hides, IsPiecesFault, Walks, climbed_until}
 use Rattle.envelope.proofs.TurnOrder.{at_of_come}
 use Rattle.envelope.proofs.Walks.{take_later}
-use Rattle.envelope.proofs.Bests.{no_better_same}
+use Rattle.envelope.proofs.Bests.{no_better_back, no_better_same, no_better_trans}
 use Rattle.window_ops.specs.declared.offsets.Way.{Way}
 use Rattle.window_ops.specs.Over.{IsCauseOver, Over}
 use Rattle.window_ops.specs.Going.{HasClimbed, InDomain, IsClamped, IsFair, IsNonEmpty, IsStopped, IsWay, ReachesAt, StandsAt, turn_of}
 use Rattle.window_ops.proofs.Counting.{clamped_come, clamped_high, come_clamped, goes_later, refused_of, way_order}
-use Rattle.window_ops.proofs.Covering.{came_gap, come_next, covers_by, strictly_come, strictly_to_come}
+use Rattle.window_ops.proofs.Covering.{came_gap, come_next, covers_worse, strictly_come, strictly_to_come}
 use Rattle.window_ops.proofs.Ends.{shift_forth, to_come_alike}
 use Rattle.window_ops.proofs.Reaching.{end_in_play, reach_gap, time_under}
 use Rattle.window_ops.proofs.Spans.{lt_offsets}
@@ -91,14 +91,14 @@ module _ {P : Type 0} (shape : ShapeOf P) (laws : ShapeLaws shape) (knots : List
   -- a gap that is not met in the domain changes nothing
   pub never_climbs : (parts : List (Part P)) (old : Walk P) → from.just_after ≡ true → until.just_after ≡ false
       → (value way.stop ≤ʳ value from.at) ⊎ (value until.at ≤ʳ value way.start)
-      → StandsAt shape knots way (turn_of k.time true) parts old → HasClimbed shape knots way k n parts old
+      → StandsAt shape knots way i k true parts old → HasClimbed shape knots way k n parts old
   never_climbs parts old from_after until_after never before = record {
     parts = parts;
     kept = λ x one. one;
     goes = goes_later shape laws knots way is_way (turn_of k.time true) (turn_of k.time true) (turn_of n.time false) (turn_of k.time true) parts old
         (λ t h. come_next k.time n.time true false rises (shifted t way.over.high) h) (λ t h. h) before.goes;
-    offers = λ t d on. absurd (by_never t d ((from_is t).1 on.0) (to_come_alike (turn_of n.time false) until
-        (shifted t way.over.high) t (until_is t).0 on.1) never);
+    covers = λ t d on to_come. absurd (by_never t d ((from_is t).1 on) (to_come_alike (turn_of n.time false) until
+        (shifted t way.over.high) t (until_is t).0 to_come) never);
   }
     where
       after_from : (t : Rational) → HasCome from t → value from.at <ʳ t
@@ -194,8 +194,39 @@ module _ {P : Type 0} (shape : ShapeOf P) (laws : ShapeLaws shape) (knots : List
         by_case (inr m) = come_clamped way from begin begins t (le_trans (way_order shape laws knots way is_way)
             (le_of_lt m)) (inl (lt_trans before_stop m))
 
+    -- from when the high end has come into the gap until it has left it the climb counts
+    counts : (t : Rational) → InDomain shape knots way t → HasCome (turn_of k.time true) (shifted t way.over.high)
+        → IsToCome (turn_of n.time false) (shifted t way.over.high) → HasCome begin t × IsToCome end t
+    counts t d on to_come = (
+      come_clamped way from begin begins t (subst (λ u. u ≤ʳ t) (sym is_way.starts) d.above) ((from_is t).1 on),
+      to_come_stopped way until end stops t (subst (λ u. t ≤ʳ u) (sym is_way.stops) d.below)
+          (to_come_alike (turn_of n.time false) until (shifted t way.over.high) t (until_is t).0 to_come),
+    )
+
+    -- a gap that a part hides is climbed by leaving all as it is
+    pub hidden_climbs : (parts : List (Part P)) (old : Walk P) → Hides shape old end gap → StandsAt shape knots way i k true parts old
+        → HasClimbed shape knots way k n parts old
+    hidden_climbs parts old hides before = record {
+      parts = parts;
+      kept = λ x one. one;
+      goes = goes_later shape laws knots way is_way (turn_of k.time true) (turn_of k.time true) (turn_of n.time false) (turn_of k.time true) parts old
+          (λ t h. come_next k.time n.time true false rises (shifted t way.over.high) h) (λ t h. h) before.goes;
+      covers = λ t d on to_come. let (h, m) = counts t d on to_come in
+          let (x, one, c, worse) = hides way.side (start knots) (stop knots) before.goes.pos parts before.goes.walks
+          (subst (λ u. value end.at ≤ʳ u) is_way.stops (stopped_at way until end stops)) t
+          ((before.goes.can begin (clamped_high shape laws knots way is_way from begin (turn_of k.time true) begins (λ t h. (from_is t).0 h))).1 t h) m in
+          inr (
+            x,
+            one,
+            c,
+            no_better_trans way.side (value_at (shape.function k.after) (shifted t way.over.high)) (value_at (shape.function gap) t)
+                (value_at (shape.function x.shape) t)
+                (no_better_back way.side (value_at (shape.function gap) t) (value_at (shape.function k.after) (shifted t way.over.high)) (moved t)) worse,
+          );
+    }
+
     -- the gap has counted
-    pub climbs : (parts : List (Part P)) (old new : Walk P) → Climbed shape begin end gap old new → StandsAt shape knots way (turn_of k.time true) parts old
+    pub climbs : (parts : List (Part P)) (old new : Walk P) → Climbed shape begin end gap old new → StandsAt shape knots way i k true parts old
         → HasClimbed shape knots way k n parts new
     climbs parts old new climbed before = record {
       parts = climbed_until gap begin end ∷ parts;
@@ -209,15 +240,11 @@ module _ {P : Type 0} (shape : ShapeOf P) (laws : ShapeLaws shape) (knots : List
         leaves = λ turn f. climbed.leaves turn (before.goes.leaves turn f);
         fair = λ x one. fair x one;
       };
-      offers = λ t d on. (
+      covers = λ t d on to_come. inr (
         climbed_until gap begin end,
         inl refl,
-        (
-          come_clamped way from begin begins t (subst (λ u. u ≤ʳ t) (sym is_way.starts) d.above) ((from_is t).1 on.0),
-          to_come_stopped way until end stops t (subst (λ u. t ≤ʳ u) (sym is_way.stops) d.below)
-              (to_come_alike (turn_of n.time false) until (shifted t way.over.high) t (until_is t).0 on.1),
-        ),
-        moved t,
+        counts t d on to_come,
+        no_better_back way.side (value_at (shape.function gap) t) (value_at (shape.function k.after) (shifted t way.over.high)) (moved t),
       );
     }
       where
@@ -236,7 +263,7 @@ module _ {P : Type 0} (shape : ShapeOf P) (laws : ShapeLaws shape) (knots : List
 
     -- a refusal on the way has a cause
     pub climb_refused : (parts : List (Part P)) (old : Walk P) (fault : Option (WidePair P)) (before : StandsAt shape knots way
-        (turn_of k.time true) parts old)
+        i k true parts old)
         → (((t : Rational) → HasCome begin t → HasCome before.goes.pos t) → Walks shape way.side (start knots) (stop knots) before.goes.pos parts old
         → IfSome fault (IsPiecesFault shape (climbed_until gap begin end ∷ parts) (start knots) (value end.at)))
         → IfSome fault (IsCauseOver shape knots way.over)
@@ -255,16 +282,16 @@ module _ {P : Type 0} (shape : ShapeOf P) (laws : ShapeLaws shape) (knots : List
   rising_times = next_rises shape knots i k n is_way.signal.each here next
 
   -- in a window of one instant that is all of the gap
-  pub came_instant : (parts : List (Part P)) (old new : Walk P) → way.over.low ≡ way.over.high → StandsAt shape knots way (turn_of k.time true) parts old
-      → (climbed : HasClimbed shape knots way k n parts new) → StandsAt shape knots way (turn_of n.time false) climbed.parts new
+  pub came_instant : (parts : List (Part P)) (old new : Walk P) → way.over.low ≡ way.over.high → StandsAt shape knots way i k true parts old
+      → (climbed : HasClimbed shape knots way k n parts new) → StandsAt shape knots way (i + 1) n false climbed.parts new
   came_instant parts old new one before climbed = came_gap shape laws knots way is_way i k n here next parts old before climbed.parts new
       (turn_of n.time false) (turn_of k.time true)
       climbed.kept (λ t h. h) (λ t h. come_next k.time n.time true false rising_times (shifted t way.over.low) h) climbed.goes
-      (λ t u d over a b.
+      (λ t u d over a b c e.
       let above = precedes_le way.over.high_in u (shifted t way.over.high) over.ends in
       let below = subst (λ z. shifted t z ≤ʳ u) one (precedes_le way.over.low_in (shifted t way.over.low) u over.begins) in
-      covers_by shape laws knots way is_way climbed.parts t (value_at (shape.function k.after) u) (value_at
+      covers_worse shape laws knots way is_way climbed.parts t (value_at (shape.function k.after) u) (value_at
       (shape.function k.after) (shifted t way.over.high))
       (no_better_same way.side (value_at (shape.function k.after) u) (value_at (shape.function k.after)
       (shifted t way.over.high)) (value_same (shape.function k.after) (same_of_le above below)))
-      (climbed.offers t d (inl (lt_of_lt_of_le a above), inl (lt_of_le_of_lt below b))))
+      (climbed.covers t d (inl c) (inl (subst (λ z. shifted t z <ʳ time n) one e))))

@@ -20,7 +20,7 @@ use Rattle.envelope.specs.declared.walk.Slope.{Slope}
 use Rattle.envelope.specs.declared.walk.Walk.{Walk}
 use Rattle.envelope.specs.Turns.{HasCome, IsToCome, IsNoBetter, none_of}
 use Rattle.envelope.specs.Standing.{Part, Counts, IsOneOf, IsFalling, IsNewItem, IsSlope, GivesSlope, piece_of, pieces_with, slope_until}
-use Rattle.envelope.specs.Walking.{IsPiecesFault, Took, Walks, last_turn}
+use Rattle.envelope.specs.Walking.{IsPiecesFault, HasTaken, Walks, last_turn}
 use Rattle.envelope.proofs.TurnOrder.{at_of_come, not_both, to_come_before}
 use Rattle.envelope.proofs.Bests.{no_better_same, no_better_trans}
 use Rattle.envelope.proofs.Faulting.{if_some}
@@ -96,10 +96,10 @@ module _ {P : Type 0} (shape : ShapeOf P) (laws : ShapeLaws shape) (knots : List
   module _ (piece : Piece P) (value' : P) (clamped : Turn) (is_clamped : IsClamped way piece.from clamped) (v : IsValueOf shape knots way piece value')
       (order : value way.start ≤ʳ value way.stop) where
     abbrev part : Part P
-    part = record { shape = value'; from = clamped; until = Some piece.until }
+    part = record { shape = value'; from = clamped; until = Some piece.item.until }
 
     -- at a time at which the part may count the value is that of the piece
-    on_clamped : (t : Rational) → value clamped.at ≤ʳ t → t ≤ʳ value way.stop → IsToCome piece.until t → IsOn way piece.from piece.until t
+    on_clamped : (t : Rational) → value clamped.at ≤ʳ t → t ≤ʳ value way.stop → IsToCome piece.item.until t → IsOn way piece.from piece.item.until t
     on_clamped t after before to_come = record {
       start = le_trans (clamped_start way piece.from clamped is_clamped) after;
       stop = before;
@@ -108,11 +108,11 @@ module _ {P : Type 0} (shape : ShapeOf P) (laws : ShapeLaws shape) (knots : List
     }
 
     value_part : (high low : Turn) → IsPiece shape knots way high low piece → IsFair shape knots way
-        (record { shape = value'; from = clamped; until = Some piece.until })
+        (record { shape = value'; from = clamped; until = Some piece.item.until })
     value_part high low is = record {
       reached = λ t d c. reaches_same way.side (none_of way.side shape.lowest shape.highest) _ _
-          (value_at (shape.function piece.shape) (value piece.at)) (value_at (shape.function value') t)
-          (same_symᵉ (value_at (shape.function value') t) (value_at (shape.function piece.shape) (value piece.at))
+          (value_at (shape.function piece.item.value) (value piece.at)) (value_at (shape.function value') t)
+          (same_symᵉ (value_at (shape.function value') t) (value_at (shape.function piece.item.value) (value piece.at))
           (v.is t (on_clamped t (at_of_come clamped t c.0) (subst (λ u. t ≤ʳ u) (sym is_way.stops) d.below) c.1)))
           (is.reached t d (clamped_come way piece.from clamped is_clamped t c.0) c.1);
       in_play = λ a tau b first after before last on. is.in_play tau (lt_of_le_of_lt first after) (lt_of_lt_of_le before last)
@@ -122,44 +122,44 @@ module _ {P : Type 0} (shape : ShapeOf P) (laws : ShapeLaws shape) (knots : List
     }
 
     abbrev item : Item P
-    item = record { value = value'; until = piece.until; slope = piece.slope }
+    item = record { value = value'; until = piece.item.until; slope = piece.item.slope }
 
-    ends_later : (t : Rational) → HasCome piece.until t → value way.start <ʳ t ⊎ IsClamped way piece.from clamped → value way.start ≤ʳ t
+    ends_later : (t : Rational) → HasCome piece.item.until t → value way.start <ʳ t ⊎ IsClamped way piece.from clamped → value way.start ≤ʳ t
     ends_later t h (inl k) = le_of_lt k
     ends_later t h (inr k) = by_ends v.ends h
       where
-        by_ends : (value way.start <ʳ value piece.until.at) ⊎ ((value piece.until.at ≈ value way.start) × (piece.until.just_after ≡ true))
-            → HasCome piece.until t
+        by_ends : (value way.start <ʳ value piece.item.until.at) ⊎ ((value piece.item.until.at ≈ value way.start) × (piece.item.until.just_after ≡ true))
+            → HasCome piece.item.until t
             → value way.start ≤ʳ t
-        by_ends (inl m) h = le_trans (le_of_lt m) (at_of_come piece.until t h)
-        by_ends (inr m) h = le_trans (ge_of_same m.0) (at_of_come piece.until t h)
+        by_ends (inl m) h = le_trans (le_of_lt m) (at_of_come piece.item.until t h)
+        by_ends (inr m) h = le_trans (ge_of_same m.0) (at_of_come piece.item.until t h)
 
     -- the item may be admitted
-    pub new_item : (high low last : Turn) → IsPiece shape knots way high low piece → HasSlope shape knots way piece last piece.slope
-        → IsNewItem shape clamped (record { value = value'; until = piece.until; slope = piece.slope })
+    pub new_item : (high low last : Turn) → IsPiece shape knots way high low piece → HasSlope shape knots way piece last piece.item.slope
+        → IsNewItem shape clamped (record { value = value'; until = piece.item.until; slope = piece.item.slope })
     new_item high low last is slope = record {
       within = is.until_within;
       level = v.level;
-      slope = by_slope piece.slope slope;
+      slope = by_slope piece.item.slope slope;
       later = λ t h. come_clamped way piece.from clamped is_clamped t (ends_later t h (inr is_clamped)) (is.in_order t h);
       to_come = by_clamped is_clamped;
     }
       where
-        by_slope : (o : Option (Slope P)) → HasSlope shape knots way piece last o → IsSlope shape o piece.until
+        by_slope : (o : Option (Slope P)) → HasSlope shape knots way piece last o → IsSlope shape o piece.item.until
         by_slope None h = tt
         by_slope (Some slope) h = (h.within, h.level, h.later)
 
-        by_ends : (value way.start <ʳ value piece.until.at) ⊎ ((value piece.until.at ≈ value way.start) × (piece.until.just_after ≡ true))
-            → IsToCome piece.until (value way.start)
+        by_ends : (value way.start <ʳ value piece.item.until.at) ⊎ ((value piece.item.until.at ≈ value way.start) × (piece.item.until.just_after ≡ true))
+            → IsToCome piece.item.until (value way.start)
         by_ends (inl m) = inl m
         by_ends (inr m) = inr m
 
-        by_clamped : IsClamped way piece.from clamped → IsToCome piece.until (value clamped.at)
-        by_clamped (inl (e, h)) = subst (λ (u : Turn). IsToCome piece.until (value u.at)) (sym e) is.to_come
-        by_clamped (inr (e, h)) = subst (λ (u : Turn). IsToCome piece.until (value u.at)) (sym e) (by_ends v.ends)
+        by_clamped : IsClamped way piece.from clamped → IsToCome piece.item.until (value clamped.at)
+        by_clamped (inl (e, h)) = subst (λ (u : Turn). IsToCome piece.item.until (value u.at)) (sym e) is.to_come
+        by_clamped (inr (e, h)) = subst (λ (u : Turn). IsToCome piece.item.until (value u.at)) (sym e) (by_ends v.ends)
 
-    falling : (high low last : Turn) → IsPiece shape knots way high low piece → HasSlope shape knots way piece last piece.slope
-        → IsFalling shape way.side clamped (stop knots) (record { value = value'; until = piece.until; slope = piece.slope })
+    falling : (high low last : Turn) → IsPiece shape knots way high low piece → HasSlope shape knots way piece last piece.item.slope
+        → IsFalling shape way.side clamped (stop knots) (record { value = value'; until = piece.item.until; slope = piece.item.slope })
     falling high low last is slope = record {
       falls = λ t u p q after order before g h. by_give t u p q after order before g h;
       keeps = λ t u after order before to_come. no_better_same way.side (value_at (shape.function value') t) (value_at (shape.function value') u)
@@ -169,30 +169,30 @@ module _ {P : Type 0} (shape : ShapeOf P) (laws : ShapeLaws shape) (knots : List
     }
       where
         c : Extended
-        c = value_at (shape.function piece.shape) (value piece.at)
+        c = value_at (shape.function piece.item.value) (value piece.at)
 
-        earlier : (t u : Rational) → t ≤ʳ u → IsToCome piece.until u → IsToCome piece.until t
-        earlier t u order k = to_come_before piece.until t u order k
+        earlier : (t u : Rational) → t ≤ʳ u → IsToCome piece.item.until u → IsToCome piece.item.until t
+        earlier t u order k = to_come_before piece.item.until t u order k
 
-        is_c : (t : Rational) → value clamped.at ≤ʳ t → t ≤ʳ stop knots → IsToCome piece.until t → value_at
-            (shape.function value') t ≈ᵉ value_at (shape.function piece.shape) (value piece.at)
+        is_c : (t : Rational) → value clamped.at ≤ʳ t → t ≤ʳ stop knots → IsToCome piece.item.until t → value_at
+            (shape.function value') t ≈ᵉ value_at (shape.function piece.item.value) (value piece.at)
         is_c t after before to_come = v.is t (on_clamped t after (subst (λ u. t ≤ʳ u) (sym is_way.stops) before) to_come)
 
-        no_worse : (t : Rational) → value clamped.at ≤ʳ t → t ≤ʳ stop knots → IsToCome piece.until t
-            → IsNoBetter way.side (value_at (shape.function piece.shape) (value piece.at)) (value_at (shape.function value') t)
-        no_worse t after before to_come = no_better_same way.side (value_at (shape.function piece.shape)
+        no_worse : (t : Rational) → value clamped.at ≤ʳ t → t ≤ʳ stop knots → IsToCome piece.item.until t
+            → IsNoBetter way.side (value_at (shape.function piece.item.value) (value piece.at)) (value_at (shape.function value') t)
+        no_worse t after before to_come = no_better_same way.side (value_at (shape.function piece.item.value)
             (value piece.at)) (value_at (shape.function value') t)
-            (same_symᵉ (value_at (shape.function value') t) (value_at (shape.function piece.shape) (value piece.at)) (is_c t after before to_come))
+            (same_symᵉ (value_at (shape.function value') t) (value_at (shape.function piece.item.value) (value piece.at)) (is_c t after before to_come))
 
         by_slope : (t u : Rational) (p q : P) (o : Option (Slope P)) → HasSlope shape knots way piece last o → value clamped.at ≤ʳ t → t ≤ʳ u
             → u ≤ʳ stop knots
-            → (IsToCome piece.until t × (p ≡ value')) ⊎ (HasCome piece.until t × GivesSlope o t p) → HasCome piece.until u → GivesSlope o u q
+            → (IsToCome piece.item.until t × (p ≡ value')) ⊎ (HasCome piece.item.until t × GivesSlope o t p) → HasCome piece.item.until u → GivesSlope o u q
             → IsNoBetter way.side (value_at (shape.function q) u) (value_at (shape.function p) t)
         by_slope t u p q None s after order before g h m = absurd m
         by_slope t u p q (Some slope) s after order before (inl g) h m =
             subst (λ x. IsNoBetter way.side (value_at (shape.function x) u) (value_at (shape.function p) t)) (sym m.1)
             (subst (λ x. IsNoBetter way.side (value_at (shape.function slope.shape) u) (value_at (shape.function x) t)) (sym g.1)
-            (no_better_trans way.side (value_at (shape.function slope.shape) u) (value_at (shape.function piece.shape)
+            (no_better_trans way.side (value_at (shape.function slope.shape) u) (value_at (shape.function piece.item.value)
             (value piece.at)) (value_at (shape.function value') t)
             (s.worse u h) (no_worse t after (le_trans order before) g.0)))
         by_slope t u p q (Some slope) s after order before (inr g) h m =
@@ -201,8 +201,8 @@ module _ {P : Type 0} (shape : ShapeOf P) (laws : ShapeLaws shape) (knots : List
             (s.falls t u order))
 
         by_give : (t u : Rational) (p q : P) → value clamped.at ≤ʳ t → t ≤ʳ u → u ≤ʳ stop knots
-            → (IsToCome piece.until t × (p ≡ value')) ⊎ (HasCome piece.until t × GivesSlope piece.slope t p)
-            → (IsToCome piece.until u × (q ≡ value')) ⊎ (HasCome piece.until u × GivesSlope piece.slope u q)
+            → (IsToCome piece.item.until t × (p ≡ value')) ⊎ (HasCome piece.item.until t × GivesSlope piece.item.slope t p)
+            → (IsToCome piece.item.until u × (q ≡ value')) ⊎ (HasCome piece.item.until u × GivesSlope piece.item.slope u q)
             → IsNoBetter way.side (value_at (shape.function q) u) (value_at (shape.function p) t)
         by_give t u p q after order before (inl g) (inl h) =
             subst (λ x. IsNoBetter way.side (value_at (shape.function x) u) (value_at (shape.function p) t)) (sym h.1)
@@ -210,15 +210,16 @@ module _ {P : Type 0} (shape : ShapeOf P) (laws : ShapeLaws shape) (knots : List
             (no_better_trans way.side (value_at (shape.function value') u) c (value_at (shape.function value') t)
             (no_better_same way.side (value_at (shape.function value') u) c (is_c u (le_trans after order) before h.0))
             (no_worse t after (le_trans order before) g.0)))
-        by_give t u p q after order before (inr g) (inl h) = absurd (not_both piece.until t g.0 (earlier t u order h.0))
-        by_give t u p q after order before g (inr h) = by_slope t u p q piece.slope slope after order before g h.0 h.1
+        by_give t u p q after order before (inr g) (inl h) = absurd (not_both piece.item.until t g.0 (earlier t u order h.0))
+        by_give t u p q after order before g (inr h) = by_slope t u p q piece.item.slope slope after order before g h.0 h.1
 
     -- the piece was counted by its value
     pub counted_of : (old new : Walk P) (c : CanCount shape knots way piece old)
-        → Took shape clamped (record { value = value'; until = piece.until; slope = piece.slope }) old new → HasCounted shape knots way piece old new c
+        → HasTaken shape clamped (record { value = value'; until = piece.item.until; slope = piece.item.slope }) old new
+        → HasCounted shape knots way piece old new c
     counted_of old new c took = record {
       parts = pieces_with clamped item c.parts;
-      kept = kept piece.slope;
+      kept = kept piece.item.slope;
       goes = record {
         pos = clamped;
         walks = took.walks way.side (start knots) (stop knots) c.goes.pos c.parts came
@@ -226,12 +227,12 @@ module _ {P : Type 0} (shape : ShapeOf P) (laws : ShapeLaws shape) (knots : List
             (subst (λ u. value piece.from.at ≤ʳ u) is_way.stops v.begins) is_clamped)
             (falling c.high c.low c.last c.is c.slope) c.goes.walks;
         can = λ turn f. (take_later shape new clamped turn (back turn f) took.can, back turn f);
-        leaves = λ turn f. leaves_later new (last_turn item) turn (λ t h. left piece.slope c.slope t (f t h)) took.leaves;
-        fair = λ x one. fair piece.slope c.slope x one;
+        leaves = λ turn f. leaves_later new (last_turn item) turn (λ t h. left piece.item.slope c.slope t (f t h)) took.leaves;
+        fair = λ x one. fair piece.item.slope c.slope x one;
       };
       offers = λ t d on. (
         part,
-        first piece.slope,
+        first piece.item.slope,
         (come_clamped way piece.from clamped is_clamped t (subst (λ u. u ≤ʳ t) (sym is_way.starts) d.above) on.0, on.1),
         v.is t (record {
           start = subst (λ u. u ≤ʳ t) (sym is_way.starts) d.above;
@@ -240,7 +241,7 @@ module _ {P : Type 0} (shape : ShapeOf P) (laws : ShapeLaws shape) (knots : List
           to_come = on.1;
         }),
       );
-      offers_slope = offered piece.slope;
+      offers_slope = offered piece.item.slope;
     }
       where
         came : (t : Rational) → HasCome clamped t → HasCome c.goes.pos t
@@ -259,7 +260,7 @@ module _ {P : Type 0} (shape : ShapeOf P) (laws : ShapeLaws shape) (knots : List
                 (subst (λ u. value piece.from.at ≤ʳ u) is_way.stops v.begins) is_clamped) m)
 
         left : (o : Option (Slope P)) → HasSlope shape knots way piece c.last o → (t : Rational) → HasCome c.last (shifted t way.over.low)
-            → HasCome (slope_until o piece.until) t
+            → HasCome (slope_until o piece.item.until) t
         left None s t h = s t h
         left (Some slope) s t h = (s.ends t).1 h
 
@@ -282,7 +283,7 @@ module _ {P : Type 0} (shape : ShapeOf P) (laws : ShapeLaws shape) (knots : List
         offered : (o : Option (Slope P)) → OffersSlope shape knots way (piece_of clamped item o c.parts) piece o
         offered None = tt
         offered (Some slope) = λ t d on. (
-          record { shape = slope.shape; from = piece.until; until = Some slope.until },
+          record { shape = slope.shape; from = piece.item.until; until = Some slope.until },
           inr (inl refl),
           on,
           same_reflᵉ (value_at (shape.function slope.shape) t),
@@ -290,23 +291,23 @@ module _ {P : Type 0} (shape : ShapeOf P) (laws : ShapeLaws shape) (knots : List
 
   -- a piece that never counts in the domain changes nothing
   pub never_counted : (piece : Piece P) (old : Walk P) (c : CanCount shape knots way piece old) → value way.start ≤ʳ value way.stop
-      → IsExtent way piece.at piece.from piece.until Never → HasCounted shape knots way piece old old c
+      → IsExtent way piece.at piece.from piece.item.until Never → HasCounted shape knots way piece old old c
   never_counted piece old c order never = record {
     parts = c.parts;
     kept = λ x one. one;
-    goes = goes_later c.high c.low c.high c.last c.parts old (λ t h. h) (λ t h. (c.is.until t).0 (last_come piece.slope c.slope t h)) c.goes;
+    goes = goes_later c.high c.low c.high c.last c.parts old (λ t h. h) (λ t h. (c.is.until t).0 (last_come piece.item.slope c.slope t h)) c.goes;
     offers = λ t d on. absurd (by_never t never (subst (λ u. u ≤ʳ t) (sym is_way.starts) d.above) (subst
         (λ u. t ≤ʳ u) (sym is_way.stops) d.below) on.0 on.1);
-    offers_slope = by_slope piece.slope c.slope;
+    offers_slope = by_slope piece.item.slope c.slope;
   }
     where
-      by_never : (t : Rational) → IsExtent way piece.at piece.from piece.until Never → value way.start ≤ʳ t → t ≤ʳ value way.stop
-          → HasCome piece.from t → IsToCome piece.until t → ⊥
+      by_never : (t : Rational) → IsExtent way piece.at piece.from piece.item.until Never → value way.start ≤ʳ t → t ≤ʳ value way.stop
+          → HasCome piece.from t → IsToCome piece.item.until t → ⊥
       by_never t (inl n) s e h k = n t s k
       by_never t (inr n) s e h k = n t e h
 
       last_come : (o : Option (Slope P)) → HasSlope shape knots way piece c.last o → (t : Rational) → HasCome c.last (shifted t way.over.low)
-          → HasCome piece.until t
+          → HasCome piece.item.until t
       last_come None s t h = s t h
       last_come (Some slope) s t h = s.later t ((s.ends t).1 h)
 
@@ -314,9 +315,10 @@ module _ {P : Type 0} (shape : ShapeOf P) (laws : ShapeLaws shape) (knots : List
       by_slope None s = tt
       by_slope (Some slope) s = λ t d on. absurd (by_kind slope s t d on.0 never)
         where
-          by_kind : (slope : Slope P) → IsSlopeOf shape knots way piece c.last slope → (t : Rational) → InDomain shape knots way t → HasCome piece.until t
-              → IsExtent way piece.at piece.from piece.until Never → ⊥
-          by_kind slope s t d h (inl n) = n (value way.start) (le_refl (value way.start)) (subst (λ u. IsToCome piece.until u) (sym is_way.starts) s.begins)
+          by_kind : (slope : Slope P) → IsSlopeOf shape knots way piece c.last slope → (t : Rational) → InDomain shape knots way t → HasCome piece.item.until t
+              → IsExtent way piece.at piece.from piece.item.until Never → ⊥
+          by_kind slope s t d h (inl n) =
+              n (value way.start) (le_refl (value way.start)) (subst (λ u. IsToCome piece.item.until u) (sym is_way.starts) s.begins)
           by_kind slope s t d h (inr n) = n t (subst (λ u. t ≤ʳ u) (sym is_way.stops) d.below) (c.is.in_order t h)
 
   -- two parts that count together and cross are in play

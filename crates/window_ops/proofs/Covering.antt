@@ -1,35 +1,35 @@
 -- A walk that has counted a piece of the signal has met it.
-use Rattle.std.proofs.Common.{◌≡◌, ◌⊎◌, inl, inr, ℕ, ◌+◌, List, Bool, true, false, None, Some, not, refl, sym}
+use Rattle.std.proofs.Common.{arith, ◌≡◌, ◌⊎◌, inl, inr, ℕ, ◌+◌, ◌-◌, ◌<◌, List, Bool, true, false, None, Some, not, refl, sym, ◌∙◌, subst}
 use Rattle.std.specs.Prelude.{slice_get}
 use Rattle.std.proofs.lemmas.Bool.{false≢true}
-use Rattle.rational.specs.Time.{Rational, Precedes, shifted, ◌<ʳ◌, ◌≈◌}
-use Rattle.rational.specs.Extended.{Extended, value_at, ◌≈ᵉ◌}
-use Rattle.rational.proofs.Order.{le_of_same, ge_of_same}
-use Rattle.rational.proofs.Order.{lt_of_lt_of_le, lt_or_same_or_gt, not_lt_of_le, same_sym}
-use Rattle.rational.proofs.TimeLemmas.{precedes_before, precedes_after}
+use Rattle.rational.specs.Time.{Rational, Precedes, shifted, ◌≤ʳ◌, ◌<ʳ◌, ◌≈◌}
+use Rattle.rational.specs.Extended.{Affine, Extended, value_at, ◌≈ᵉ◌}
+use Rattle.rational.proofs.Order.{le_of_lt, le_of_same, ge_of_same, le_or_lt}
+use Rattle.rational.proofs.Order.{lt_of_le_of_lt, lt_of_lt_of_le, lt_or_same_or_gt, not_lt_of_le, same_sym}
+use Rattle.rational.proofs.TimeLemmas.{precedes_before, precedes_after, precedes_le}
 use Rattle.rational.proofs.AffineLemmas.{same_symᵉ, same_transᵉ, value_same}
 use Rattle.frac128.specs.Value.{value}
 use Rattle.frac128.specs.declared.frac.Frac.{Frac}
 use Rattle.value_laws.specs.Members.{ShapeOf, ShapeLaws}
 use Rattle.pl_signal.specs.declared.knot.Knot.{Knot}
 use Rattle.pl_signal.specs.Knots.{time, IsWorth, start, stop}
-use Rattle.pl_signal.proofs.Values.{next_rises, one_value, shape_at, worth_at, worth_between}
+use Rattle.pl_signal.proofs.Values.{next_rises, one_value, shape_at, some_is, worth_at, worth_between}
 use Rattle.pl_signal.proofs.Limits.{point_bounded}
 use Rattle.envelope.specs.declared.turns.Turn.{Turn}
 use Rattle.envelope.specs.declared.walk.Walk.{Walk}
-use Rattle.envelope.specs.Turns.{HasCome, IsToCome, IsNoBetter}
+use Rattle.envelope.specs.Turns.{HasCome, IsToCome, IsNoBetter, none_of}
 use Rattle.envelope.specs.Standing.{Part, Counts, IsOneOf}
 use Rattle.envelope.proofs.TurnOrder.{at_of_come}
 use Rattle.envelope.proofs.Bests.{no_better_same, no_better_trans}
 use Rattle.window_ops.specs.declared.offsets.Way.{Way}
 use Rattle.window_ops.specs.declared.counted.Piece.{Piece}
 use Rattle.window_ops.specs.Over.{Over}
-use Rattle.window_ops.specs.Going.{CanCount, Goes, HasCounted, InDomain, IsPiece, IsWay, StandsAt, turn_of}
+use Rattle.window_ops.specs.Going.{CanCount, Goes, HasCounted, InDomain, IsCovered, IsLeft, IsPiece, IsSpare, IsWay, StandsAt, turn_of}
 use Rattle.window_ops.proofs.Counting.{goes_later, within_domain}
 use Rattle.window_ops.proofs.Ends.{come_at, to_come_alike}
 use Rattle.window_ops.proofs.Reaching.{come_precedes, knot_in, point_in_play}
 use Rattle.window_ops.proofs.Reaching.{reach_point, to_come_precedes}
-use Rattle.window_ops.proofs.Spans.{Span}
+use Rattle.window_ops.proofs.Spans.{Span, lt_offsets}
 
 -- a turn just after a time has not come before the one at it
 come_sooner : (k : Frac) (b : Bool) (u : Rational) → HasCome (turn_of k b) u → HasCome (turn_of k false) u
@@ -70,29 +70,116 @@ precedes_to_come true k u h = by_order (lt_or_same_or_gt u (value k))
 precedes_to_come false k u h = inl h
 
 module _ {P : Type 0} (shape : ShapeOf P) (laws : ShapeLaws shape) (knots : List (Knot P)) (way : Way) (is_way : IsWay shape knots way) where
-  -- what covers a time, among more parts
-  covers_more : (parts parts' : List (Part P)) (t : Rational) (v : Extended) → ((x : Part P) → IsOneOf parts x → IsOneOf parts' x)
-      → (x : Part P) × IsOneOf parts x × Counts x t × IsNoBetter way.side v (value_at (shape.function x.shape) t)
-      → (x : Part P) × IsOneOf parts' x × Counts x t × IsNoBetter way.side v (value_at (shape.function x.shape) t)
-  covers_more parts parts' t v kept (x, one, c, n) = (x, kept x one, c, n)
+  -- what is covered stays so among more parts
+  pub covers_more : (parts parts' : List (Part P)) (t : Rational) (v : Extended) → ((x : Part P) → IsOneOf parts x → IsOneOf parts' x)
+      → IsCovered shape knots way parts t v → IsCovered shape knots way parts' t v
+  covers_more parts parts' t v kept (inl h) = inl h
+  covers_more parts parts' t v kept (inr (x, one, c, n)) = inr (x, kept x one, c, n)
+
+  -- and so is what is no better
+  pub covers_worse : (parts : List (Part P)) (t : Rational) (v w : Extended) → IsNoBetter way.side v w
+      → IsCovered shape knots way parts t w → IsCovered shape knots way parts t v
+  covers_worse parts t v w h (inl n) = inl (no_better_trans way.side v w (none_of way.side shape.lowest shape.highest) h n)
+  covers_worse parts t v w h (inr (x, one, c, n)) = inr (x, one, c, no_better_trans way.side v w (value_at (shape.function x.shape) t) h n)
 
   -- a part that is worth as much covers what is no better
   pub covers_by : (parts : List (Part P)) (t : Rational) (v w : Extended) → IsNoBetter way.side v w
       → (x : Part P) × IsOneOf parts x × Counts x t × (value_at (shape.function x.shape) t ≈ᵉ w)
-      → (x : Part P) × IsOneOf parts x × Counts x t × IsNoBetter way.side v (value_at (shape.function x.shape) t)
-  covers_by parts t v w h (x, one, c, e) = (
+      → IsCovered shape knots way parts t v
+  covers_by parts t v w h (x, one, c, e) = covers_worse parts t v w h (inr (
     x,
     one,
     c,
-    no_better_trans way.side v w (value_at (shape.function x.shape) t) h
-        (no_better_same way.side w (value_at (shape.function x.shape) t) (same_symᵉ (value_at (shape.function x.shape) t) w e)),
-  )
+    no_better_same way.side w (value_at (shape.function x.shape) t) (same_symᵉ (value_at (shape.function x.shape) t) w e),
+  ))
+
+  -- the low end lies no later than what the window holds
+  pub low_in_window : (t u : Rational) → Over (start knots) (stop knots) way.over t u → shifted t way.over.low ≤ʳ u
+  low_in_window t u over = precedes_le way.over.low_in (shifted t way.over.low) u over.begins
+
+  -- the high end lies no earlier than what the window holds
+  pub high_in_window : (t u : Rational) → Over (start knots) (stop knots) way.over t u → u ≤ʳ shifted t way.over.high
+  high_in_window t u over = precedes_le way.over.high_in u (shifted t way.over.high) over.ends
+
+  -- a walk that has covered the value at a knot, or leaves it to the gap after it, stands behind the knot
+  module _ (i : ℕ) (k : Knot P) (here : slice_get knots i ≡ Some k) (parts parts' : List (Part P)) (old new : Walk P)
+      (before : StandsAt shape knots way i k false parts old) where
+    -- what the signal is worth at the time of the knot is the value of the knot's point
+    pub value_there : (u : Rational) (v : Extended) → IsWorth shape knots u v → value k.time ≈ u → v ≈ᵉ value_at (shape.function k.point) (time k)
+    value_there u v worth e = same_transᵉ v (value_at (shape.function k.point) u) (value_at (shape.function k.point) (time k))
+        (one_value shape knots u v (value_at (shape.function k.point) u) is_way.signal worth (worth_at shape knots i k u here (same_sym e)))
+        (value_same (shape.function k.point) (same_sym e))
+
+    -- where what the knot is worth is covered, or left to the gap after it, the walk stands behind the knot
+    pub came_knot : ((x : Part P) → IsOneOf parts x → IsOneOf parts' x) → Goes shape knots way (turn_of k.time true) (turn_of k.time true) parts' new
+        → ((t u : Rational) (v : Extended) → InDomain shape knots way t → Over (start knots) (stop knots) way.over t u → value k.time ≈ u
+        → v ≈ᵉ value_at (shape.function k.point) (time k) → IsCovered shape knots way parts' t v ⊎ IsLeft shape knots way k t u v)
+        → StandsAt shape knots way i k true parts' new
+    came_knot kept goes there = record {
+      goes = goes;
+      covered = λ t u v d over sooner worth. by_time t u v d over worth sooner;
+      limit = λ t u j p is at e d over low. covers_more parts parts' t (value_at (shape.function p.after) u) kept
+          (before.limit t u j p is at e d over low);
+    }
+      where
+        earlier : (t u : Rational) (v : Extended) → u <ʳ value k.time → IsCovered shape knots way parts t v ⊎ IsLeft shape knots way k t u v
+            → IsCovered shape knots way parts' t v
+        earlier t u v h (inl c) = covers_more parts parts' t v kept c
+        earlier t u v h (inr left) = absurd (not_lt_of_le (ge_of_same left.at) h)
+
+        by_time : (t u : Rational) (v : Extended) → InDomain shape knots way t → Over (start knots) (stop knots) way.over t u → IsWorth shape knots u v
+            → IsToCome (turn_of k.time true) u → IsCovered shape knots way parts' t v ⊎ IsLeft shape knots way k t u v
+        by_time t u v d over worth (inl h) = inl (earlier t u v h (before.covered t u v d over (inl h) worth))
+        by_time t u v d over worth (inr h) = there t u v d over h.0 (value_there u v worth h.0)
+
+  -- a knot whose point is left out
+  module _ (i : ℕ) (k : Knot P) (here : slice_get knots i ≡ Some k) (parts : List (Part P)) (walk : Walk P)
+      (before : StandsAt shape knots way i k false parts walk) where
+    past_knot : Goes shape knots way (turn_of k.time true) (turn_of k.time true) parts walk
+    past_knot = goes_later shape laws knots way is_way (turn_of k.time false) (turn_of k.time false) (turn_of k.time true) (turn_of k.time true) parts walk
+        (λ t h. come_sooner k.time true (shifted t way.over.high) h) (λ t h. come_sooner k.time true (shifted t way.over.low) h) before.goes
+
+    -- a point that is no better than no value
+    pub came_worthless : ((u : Rational) → IsNoBetter way.side (value_at (shape.function k.point) u) (none_of way.side shape.lowest shape.highest))
+        → StandsAt shape knots way i k true parts walk
+    came_worthless worse = came_knot i k here parts parts walk walk before (λ x one. one) past_knot
+        (λ t u v d over e is. inl (inl (no_better_trans way.side v (value_at (shape.function k.point) (time k))
+        (none_of way.side shape.lowest shape.highest)
+        (no_better_same way.side v (value_at (shape.function k.point) (time k)) is) (worse (time k)))))
+
+    -- a point that is no better than the gaps beside it: a window that begins before it reaches into the first, and else it is left to the second
+    pub came_spare : 0 < i → (p n : Knot P) → slice_get knots (i - 1) ≡ Some p → slice_get knots (i + 1) ≡ Some n → IsSpare shape knots way i
+        → StandsAt shape knots way i k true parts walk
+    came_spare some p n at next spare = came_knot i k here parts parts walk walk before (λ x one. one) past_knot
+        (λ t u v d over e is. by_order t u v d over e is (le_or_lt u (shifted t way.over.low)))
+      where
+        no_better : (f : Affine) (u : Rational) (v : Extended) → value k.time ≈ u → v ≈ᵉ value_at (shape.function k.point) (time k)
+            → IsNoBetter way.side (value_at (shape.function k.point) (time k)) (value_at f (time k)) → IsNoBetter way.side v (value_at f u)
+        no_better f u v e is h = no_better_trans way.side v (value_at (shape.function k.point) (time k)) (value_at f u)
+            (no_better_same way.side v (value_at (shape.function k.point) (time k)) is)
+            (no_better_trans way.side (value_at (shape.function k.point) (time k)) (value_at f (time k)) (value_at f u) h
+            (no_better_same way.side (value_at f (time k)) (value_at f u) (value_same f e)))
+
+        by_order : (t u : Rational) (v : Extended) → InDomain shape knots way t → Over (start knots) (stop knots) way.over t u → value k.time ≈ u
+            → v ≈ᵉ value_at (shape.function k.point) (time k) → (u ≤ʳ shifted t way.over.low) ⊎ (shifted t way.over.low <ʳ u)
+            → IsCovered shape knots way parts t v ⊎ IsLeft shape knots way k t u v
+        by_order t u v d over e is (inl h) = inr (record {
+          at = same_sym e;
+          begins = h;
+          ends = lt_of_le_of_lt h (lt_offsets t way.over.low way.over.high spare.wide);
+          inner = lt_of_le_of_lt (ge_of_same e) (lt_of_lt_of_le (next_rises shape knots i k n is_way.signal.each here next)
+              (knot_in shape laws knots way is_way (i + 1) n next).below);
+          worse = no_better (shape.function k.after) u v e is (spare.after k here);
+        })
+        by_order t u v d over e is (inr h) = inl (covers_worse parts t v (value_at (shape.function p.after) u)
+            (no_better (shape.function p.after) u v e is (spare.before p k at here))
+            (before.limit t u (i - 1) p (omega (arith, some)) at (same_sym e) d over h))
 
   -- the point of a knot
   module _ (i : ℕ) (k : Knot P) (here : slice_get knots i ≡ Some k) (from until : Turn)
       (span : Span shape laws knots way is_way k.time k.time (not way.over.high_in) way.over.low_in from until) where
     abbrev point_piece : Piece P
-    point_piece = record { shape = k.point; at = k.time; from = from; until = until; slope = None }
+    point_piece = record { at = k.time; from = from; item = record { value = k.point; until = until; slope = None } }
 
     point_over : (t : Rational) → HasCome from t → IsToCome until t → Over (start knots) (stop knots) way.over t (time k)
     point_over t h m = record {
@@ -104,7 +191,7 @@ module _ {P : Type 0} (shape : ShapeOf P) (laws : ShapeLaws shape) (knots : List
 
     -- a knot's point is a piece that counts from the high end until the low end has passed
     pub point_is : IsPiece shape knots way (turn_of k.time (not way.over.high_in)) (turn_of k.time way.over.low_in)
-        (record { shape = k.point; at = k.time; from = from; until = until; slope = None })
+        (record { at = k.time; from = from; item = record { value = k.point; until = until; slope = None } })
     point_is = record {
       from = span.from_is;
       until = span.until_is;
@@ -125,8 +212,8 @@ module _ {P : Type 0} (shape : ShapeOf P) (laws : ShapeLaws shape) (knots : List
     }
 
     -- it may be counted when the walk stands before it
-    pub can_point : (parts : List (Part P)) (old : Walk P) → StandsAt shape knots way (turn_of k.time false) parts old
-        → CanCount shape knots way (record { shape = k.point; at = k.time; from = from; until = until; slope = None }) old
+    pub can_point : (parts : List (Part P)) (old : Walk P) → StandsAt shape knots way i k false parts old
+        → CanCount shape knots way (record { at = k.time; from = from; item = record { value = k.point; until = until; slope = None } }) old
     can_point parts old before = record {
       high = turn_of k.time (not way.over.high_in);
       low = turn_of k.time way.over.low_in;
@@ -141,82 +228,80 @@ module _ {P : Type 0} (shape : ShapeOf P) (laws : ShapeLaws shape) (knots : List
     }
 
     -- and once it was counted the walk stands behind it
-    pub came_point : (parts : List (Part P)) (old new : Walk P) (before : StandsAt shape knots way (turn_of k.time false) parts old)
-        (counted : HasCounted shape knots way (record { shape = k.point; at = k.time; from = from; until = until; slope = None }) old new
+    pub came_point : (parts : List (Part P)) (old new : Walk P) (before : StandsAt shape knots way i k false parts old)
+        (counted : HasCounted shape knots way (record { at = k.time; from = from; item = record { value = k.point; until = until; slope = None } }) old new
         (can_point parts old before))
-        → StandsAt shape knots way (turn_of k.time true) counted.parts new
+        → StandsAt shape knots way i k true counted.parts new
     unfolding can_point
-    came_point parts old new before counted = record {
-      goes = goes_later shape laws knots way is_way (turn_of k.time (not way.over.high_in)) (turn_of k.time way.over.low_in)
-          (turn_of k.time true) (turn_of k.time true) counted.parts new
-          (λ t h. come_later k.time (not way.over.high_in) (shifted t way.over.high) h) (λ t h. come_later k.time way.over.low_in
-          (shifted t way.over.low) h) counted.goes;
-      covered = λ t u v d over sooner worth. by_time t u v d over worth sooner;
-    }
-      where
-        at_knot : (t u : Rational) (v : Extended) → InDomain shape knots way t → Over (start knots) (stop knots) way.over t u → IsWorth shape knots u v
-            → value k.time ≈ u
-            → (x : Part P) × IsOneOf counted.parts x × Counts x t × IsNoBetter way.side v (value_at (shape.function x.shape) t)
-        at_knot t u v d over worth e = covers_by counted.parts t v (value_at (shape.function k.point) (time k))
-            (no_better_same way.side v (value_at (shape.function k.point) (time k))
-            (same_transᵉ v (value_at (shape.function k.point) u) (value_at (shape.function k.point) (time k))
-            (one_value shape knots u v (value_at (shape.function k.point) u) is_way.signal worth (worth_at shape knots i k u here (same_sym e)))
-            (value_same (shape.function k.point) (same_sym e))))
-            (counted.offers t d (
-              (span.from_is t).1 (precedes_come way.over.high_in k.time (shifted t way.over.high)
-                  (precedes_after way.over.high_in (time k) u (shifted t way.over.high) (le_of_same e) over.ends)),
-              to_come_alike (turn_of k.time way.over.low_in) until (shifted t way.over.low) t (span.until_is t).0
-                  (precedes_to_come way.over.low_in k.time (shifted t way.over.low)
-                  (precedes_before way.over.low_in (shifted t way.over.low) u (time k) over.begins (ge_of_same e))),
-            ))
-
-        by_time : (t u : Rational) (v : Extended) → InDomain shape knots way t → Over (start knots) (stop knots) way.over t u → IsWorth shape knots u v
-            → IsToCome (turn_of k.time true) u
-            → (x : Part P) × IsOneOf counted.parts x × Counts x t × IsNoBetter way.side v (value_at (shape.function x.shape) t)
-        by_time t u v d over worth (inl h) = covers_more parts counted.parts t v counted.kept (before.covered t u v d over (inl h) worth)
-        by_time t u v d over worth (inr h) = at_knot t u v d over worth h.0
+    came_point parts old new before counted = came_knot i k here parts counted.parts old new before counted.kept
+        (goes_later shape laws knots way is_way (turn_of k.time (not way.over.high_in)) (turn_of k.time way.over.low_in)
+        (turn_of k.time true) (turn_of k.time true) counted.parts new
+        (λ t h. come_later k.time (not way.over.high_in) (shifted t way.over.high) h) (λ t h. come_later k.time way.over.low_in
+        (shifted t way.over.low) h) counted.goes)
+        (λ t u v d over e is. inl (covers_by counted.parts t v (value_at (shape.function k.point) (time k))
+        (no_better_same way.side v (value_at (shape.function k.point) (time k)) is)
+        (counted.offers t d (
+          (span.from_is t).1 (precedes_come way.over.high_in k.time (shifted t way.over.high)
+              (precedes_after way.over.high_in (time k) u (shifted t way.over.high) (le_of_same e) over.ends)),
+          to_come_alike (turn_of k.time way.over.low_in) until (shifted t way.over.low) t (span.until_is t).0
+              (precedes_to_come way.over.low_in k.time (shifted t way.over.low)
+              (precedes_before way.over.low_in (shifted t way.over.low) u (time k) over.begins (ge_of_same e))),
+        ))))
 
   -- a gap
   module _ (i : ℕ) (k n : Knot P) (here : slice_get knots i ≡ Some k) (next : slice_get knots (i + 1) ≡ Some n) (parts : List (Part P)) (old : Walk P)
-      (before : StandsAt shape knots way (turn_of k.time true) parts old) where
+      (before : StandsAt shape knots way i k true parts old) where
     rises : time k <ʳ time n
     rises = next_rises shape knots i k n is_way.signal.each here next
 
-    -- all before the next knot is met, where the gap is
+    -- all before the next knot is covered, where the gap is with its two ends, as far as the window reaches into it
     pub came_gap : (parts' : List (Part P)) (new : Walk P) (high low : Turn) → ((x : Part P) → IsOneOf parts x → IsOneOf parts' x)
         → ((t : Rational) → HasCome (turn_of n.time false) (shifted t way.over.high) → HasCome high (shifted t way.over.high))
         → ((t : Rational) → HasCome (turn_of n.time false) (shifted t way.over.low) → HasCome low (shifted t way.over.low))
         → Goes shape knots way high low parts' new
-        → ((t u : Rational) → InDomain shape knots way t → Over (start knots) (stop knots) way.over t u → time k <ʳ u → u <ʳ time n
-        → (x : Part P) × IsOneOf parts' x × Counts x t × IsNoBetter way.side (value_at (shape.function k.after) u) (value_at (shape.function x.shape) t))
-        → StandsAt shape knots way (turn_of n.time false) parts' new
+        → ((t u : Rational) → InDomain shape knots way t → Over (start knots) (stop knots) way.over t u → time k ≤ʳ u → u ≤ʳ time n
+        → time k <ʳ shifted t way.over.high → shifted t way.over.low <ʳ time n → IsCovered shape knots way parts' t (value_at (shape.function k.after) u))
+        → StandsAt shape knots way (i + 1) n false parts' new
     came_gap parts' new high low kept h l goes inner = record {
       goes = goes_later shape laws knots way is_way high low (turn_of n.time false) (turn_of n.time false) parts' new h l goes;
-      covered = λ t u v d over sooner worth. by_order t u v d over sooner worth (lt_or_same_or_gt (time k) u);
+      covered = λ t u v d over sooner worth. inl (by_order t u v d over (strictly_to_come n.time u sooner) worth (lt_or_same_or_gt (time k) u));
+      limit = λ t u j p is at e d over below. subst (λ (q : Knot P). IsCovered shape knots way parts' t (value_at (shape.function q.after) u))
+          (some_is (sym here ∙ subst (λ x. slice_get knots x ≡ Some p) (same_place j is) at))
+          (inner t u d over (le_of_lt (lt_of_lt_of_le rises (ge_of_same e))) (le_of_same e)
+          (lt_of_lt_of_le (lt_of_lt_of_le rises (ge_of_same e)) (high_in_window t u over)) (lt_of_lt_of_le below (le_of_same e)));
     }
       where
-        in_gap : (t u : Rational) (v : Extended) → InDomain shape knots way t → Over (start knots) (stop knots) way.over t u → time k <ʳ u
-            → u <ʳ time n → IsWorth shape knots u v
-            → (x : Part P) × IsOneOf parts' x × Counts x t × IsNoBetter way.side v (value_at (shape.function x.shape) t)
-        in_gap t u v d over a b worth =
-            let (x, one, c, m) = inner t u d over a b in (
-              x,
-              one,
-              c,
-              no_better_trans way.side v (value_at (shape.function k.after) u) (value_at (shape.function x.shape) t)
-                  (no_better_same way.side v (value_at (shape.function k.after) u)
-                  (one_value shape knots u v (value_at (shape.function k.after) u) is_way.signal worth
-                  (worth_between shape knots i k n u here next a b))) m,
-            )
+        same_place : (j : ℕ) → j + 1 ≡ i + 1 → j ≡ i
+        same_place j is = omega (arith, is)
 
-        before_next : (u : Rational) → IsToCome (turn_of n.time false) u → u <ʳ time n
-        before_next u (inl m) = m
-        before_next u (inr m) = absurd (false≢true m.1)
+        in_gap : (t u : Rational) (v : Extended) → InDomain shape knots way t → Over (start knots) (stop knots) way.over t u → time k <ʳ u
+            → u <ʳ time n → IsWorth shape knots u v → IsCovered shape knots way parts' t v
+        in_gap t u v d over a b worth = covers_worse parts' t v (value_at (shape.function k.after) u)
+            (no_better_same way.side v (value_at (shape.function k.after) u)
+            (one_value shape knots u v (value_at (shape.function k.after) u) is_way.signal worth (worth_between shape knots i k n u here next a b)))
+            (inner t u d over (le_of_lt a) (le_of_lt b) (lt_of_lt_of_le a (high_in_window t u over)) (lt_of_le_of_lt (low_in_window t u over) b))
+
+        -- what was left at the knot before it is covered by the gap
+        at_knot : (t u : Rational) (v : Extended) → InDomain shape knots way t → Over (start knots) (stop knots) way.over t u → time k ≈ u
+            → u <ʳ time n → IsCovered shape knots way parts t v ⊎ IsLeft shape knots way k t u v → IsCovered shape knots way parts' t v
+        at_knot t u v d over e b (inl c) = covers_more parts parts' t v kept c
+        at_knot t u v d over e b (inr left) = covers_worse parts' t v (value_at (shape.function k.after) u) left.worse
+            (inner t u d over (le_of_same e) (le_of_lt b) (lt_of_le_of_lt (le_of_same e) left.ends) (lt_of_le_of_lt (low_in_window t u over) b))
+
+        earlier : (t u : Rational) (v : Extended) → u <ʳ time k → IsCovered shape knots way parts t v ⊎ IsLeft shape knots way k t u v
+            → IsCovered shape knots way parts' t v
+        earlier t u v a (inl c) = covers_more parts parts' t v kept c
+        earlier t u v a (inr left) = absurd (not_lt_of_le (ge_of_same left.at) a)
 
         by_order : (t u : Rational) (v : Extended) → InDomain shape knots way t → Over (start knots) (stop knots) way.over t u
-            → IsToCome (turn_of n.time false) u → IsWorth shape knots u v
-            → (time k <ʳ u) ⊎ (time k ≈ u) ⊎ (u <ʳ time k)
-            → (x : Part P) × IsOneOf parts' x × Counts x t × IsNoBetter way.side v (value_at (shape.function x.shape) t)
-        by_order t u v d over sooner worth (inl a) = in_gap t u v d over a (before_next u sooner) worth
-        by_order t u v d over sooner worth (inr (inl e)) = covers_more parts parts' t v kept (before.covered t u v d over (inr (e, refl)) worth)
-        by_order t u v d over sooner worth (inr (inr a)) = covers_more parts parts' t v kept (before.covered t u v d over (inl a) worth)
+            → u <ʳ time n → IsWorth shape knots u v → (time k <ʳ u) ⊎ (time k ≈ u) ⊎ (u <ʳ time k) → IsCovered shape knots way parts' t v
+        by_order t u v d over b worth (inl a) = in_gap t u v d over a b worth
+        by_order t u v d over b worth (inr (inl e)) = at_knot t u v d over e b (before.covered t u v d over (inr (e, refl)) worth)
+        by_order t u v d over b worth (inr (inr a)) = earlier t u v a (before.covered t u v d over (inl a) worth)
+
+    -- a gap that is no better than no value is met as it is
+    pub came_nothing : ((u : Rational) → IsNoBetter way.side (value_at (shape.function k.after) u) (none_of way.side shape.lowest shape.highest))
+        → StandsAt shape knots way (i + 1) n false parts old
+    came_nothing worse = came_gap parts old (turn_of k.time true) (turn_of k.time true) (λ x one. one)
+        (λ t h. come_next k.time n.time true false rises (shifted t way.over.high) h)
+        (λ t h. come_next k.time n.time true false rises (shifted t way.over.low) h) before.goes (λ t u d over a b c e. inl (worse u))

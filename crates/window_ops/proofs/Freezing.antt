@@ -47,36 +47,37 @@ module _ {P : Type 0} (shape : ShapeOf P) (laws : ShapeLaws shape) (knots : List
   module _ (piece : Piece P) (high low : Turn) (is : IsPiece shape knots way high low piece) where
     -- a shape moved by an offset stands for the piece where it counts at one time alone
     pub moved_value : (by : ℤ) (moved : P) → ((t : Rational) → value_at (shape.function moved) t ≈ᵉ value_at
-        (shape.function piece.shape) (add t (whole by)))
-        → (IsTrue (shape.moves moved) → IsTrue (shape.moves piece.shape) × (shape.base moved ≡ shape.base piece.shape -ℤ by))
-        → ((t : Rational) → IsOn way piece.from piece.until t → shifted t by ≈ value piece.at)
-        → (by ≡ way.over.high) ⊎ ((by ≡ way.over.low) × (value piece.until.at ≤ʳ value way.stop) × (shifted
-        (value piece.until.at) way.over.low ≈ value piece.at))
-        → value piece.from.at ≤ʳ value way.stop → IsBeforeEnd way piece.until → IsValueOf shape knots way piece moved
+        (shape.function piece.item.value) (add t (whole by)))
+        → (IsTrue (shape.moves moved) → IsTrue (shape.moves piece.item.value) × (shape.base moved ≡ shape.base piece.item.value -ℤ by))
+        → ((t : Rational) → IsOn way piece.from piece.item.until t → shifted t by ≈ value piece.at)
+        → (by ≡ way.over.high) ⊎ ((by ≡ way.over.low) × (value piece.item.until.at ≤ʳ value way.stop) × (shifted
+        (value piece.item.until.at) way.over.low ≈ value piece.at))
+        → value piece.from.at ≤ʳ value way.stop → IsBeforeEnd way piece.item.until → IsValueOf shape knots way piece moved
     moved_value by moved values base once offset begins ends = record {
       is = λ t on. at_time t (once t on);
       frozen = λ a tau b first after before last on. absurd (apart a tau b first after before last on);
-      based = λ m. (piece.shape, is.of_signal, (base m).0, by_offset (base m).1 offset);
+      based = λ m. (piece.item.value, is.of_signal, (base m).0, by_offset (base m).1 offset);
       level = level;
       begins = begins;
       ends = ends;
     }
       where
         at_time : (t : Rational) → shifted t by ≈ value piece.at → value_at (shape.function moved) t ≈ᵉ value_at
-            (shape.function piece.shape) (value piece.at)
-        at_time t e = same_transᵉ (value_at (shape.function moved) t) (value_at (shape.function piece.shape)
-            (add t (whole by))) (value_at (shape.function piece.shape) (value piece.at))
-            (values t) (value_same (shape.function piece.shape) (same_trans (same_sym (shifted-add t by)) e))
+            (shape.function piece.item.value) (value piece.at)
+        at_time t e = same_transᵉ (value_at (shape.function moved) t) (value_at (shape.function piece.item.value)
+            (add t (whole by))) (value_at (shape.function piece.item.value) (value piece.at))
+            (values t) (value_same (shape.function piece.item.value) (same_trans (same_sym (shifted-add t by)) e))
 
         level : HasBoundedLevel (2 ^ 31) (shape.function moved)
         level steady t =
             let u = add (value piece.at) (whole (neg_ℤ by)) in
-            bounded_same (2 ^ 31) (value_at (shape.function moved) t) (value_at (shape.function piece.shape) (value piece.at))
+            bounded_same (2 ^ 31) (value_at (shape.function moved) t) (value_at (shape.function piece.item.value) (value piece.at))
             (same_transᵉ (value_at (shape.function moved) t) (value_at (shape.function moved) u) (value_at
-            (shape.function piece.shape) (value piece.at)) (steady t u)
+            (shape.function piece.item.value) (value piece.at)) (steady t u)
             (at_time u (same_trans (shifted-add u by) (shift_forth (value piece.at) by)))) is.small
 
-        on_of : (t : Rational) → start knots ≤ʳ t → t ≤ʳ stop knots → HasCome piece.from t → IsToCome piece.until t → IsOn way piece.from piece.until t
+        on_of : (t : Rational) → start knots ≤ʳ t → t ≤ʳ stop knots → HasCome piece.from t → IsToCome piece.item.until t
+            → IsOn way piece.from piece.item.until t
         on_of t s e h k = record {
           start = subst (λ u. u ≤ʳ t) (sym is_way.starts) s;
           stop = subst (λ u. t ≤ʳ u) (sym is_way.stops) e;
@@ -85,7 +86,7 @@ module _ {P : Type 0} (shape : ShapeOf P) (laws : ShapeLaws shape) (knots : List
         }
 
         apart : (a tau b : Rational) → start knots ≤ʳ a → a <ʳ tau → tau <ʳ b → b ≤ʳ stop knots
-            → ((t : Rational) → a <ʳ t → t <ʳ b → HasCome piece.from t × IsToCome piece.until t) → ⊥
+            → ((t : Rational) → a <ʳ t → t <ʳ b → HasCome piece.from t × IsToCome piece.item.until t) → ⊥
         apart a tau b first after before last on =
             let m = middle tau b in
             let x = on tau after before in
@@ -95,38 +96,39 @@ module _ {P : Type 0} (shape : ShapeOf P) (laws : ShapeLaws shape) (knots : List
             (le_trans (le_of_lt (right_of_middle before)) last) y.0 y.1) in
             not_lt_of_le (le_shifted_back by (le_of_same (same_trans f (same_sym e)))) (left_of_middle before)
 
-        by_offset : shape.base moved ≡ shape.base piece.shape -ℤ by → (by ≡ way.over.high) ⊎ ((by ≡ way.over.low) × (value piece.until.at ≤ʳ value way.stop)
-            × (shifted (value piece.until.at) way.over.low ≈ value piece.at))
-            → (shape.base moved ≡ shape.base piece.shape -ℤ way.over.high)
-            ⊎ ((shape.base moved ≡ shape.base piece.shape -ℤ way.over.low) × (shifted (start knots) (neg_ℤ way.over.low) ≤ʳ stop knots))
-        by_offset e (inl f) = inl (e ∙ ap (λ k. shape.base piece.shape -ℤ k) f)
+        by_offset : shape.base moved ≡ shape.base piece.item.value -ℤ by
+            → (by ≡ way.over.high) ⊎ ((by ≡ way.over.low) × (value piece.item.until.at ≤ʳ value way.stop)
+            × (shifted (value piece.item.until.at) way.over.low ≈ value piece.at))
+            → (shape.base moved ≡ shape.base piece.item.value -ℤ way.over.high)
+            ⊎ ((shape.base moved ≡ shape.base piece.item.value -ℤ way.over.low) × (shifted (start knots) (neg_ℤ way.over.low) ≤ʳ stop knots))
+        by_offset e (inl f) = inl (e ∙ ap (λ k. shape.base piece.item.value -ℤ k) f)
         by_offset e (inr (f, before, g)) = inr (
-          e ∙ ap (λ k. shape.base piece.shape -ℤ k) f,
+          e ∙ ap (λ k. shape.base piece.item.value -ℤ k) f,
           le_trans (le_of_same (shifted-add (start knots) (neg_ℤ way.over.low)))
               (le_trans (le_shift (neg_ℤ way.over.low) (le_trans is.after_start (le_trans (ge_of_same g)
-              (le_of_same (shifted-add (value piece.until.at) way.over.low)))))
-              (le_trans (le_of_same (shift_back (value piece.until.at) way.over.low)) (subst (λ u. value piece.until.at ≤ʳ u) is_way.stops before))),
+              (le_of_same (shifted-add (value piece.item.until.at) way.over.low)))))
+              (le_trans (le_of_same (shift_back (value piece.item.until.at) way.over.low)) (subst (λ u. value piece.item.until.at ≤ʳ u) is_way.stops before))),
         )
 
     -- the constant with the value stands for the piece
-    pub frozen_value : (fixed : P) → ((t : Rational) → value_at (shape.function fixed) t ≈ᵉ value_at (shape.function piece.shape) (value piece.at))
+    pub frozen_value : (fixed : P) → ((t : Rational) → value_at (shape.function fixed) t ≈ᵉ value_at (shape.function piece.item.value) (value piece.at))
         → shape.moves fixed ≡ false
-        → value way.start <ʳ value piece.until.at → value piece.from.at <ʳ value way.stop → IsValueOf shape knots way piece fixed
+        → value way.start <ʳ value piece.item.until.at → value piece.from.at <ʳ value way.stop → IsValueOf shape knots way piece fixed
     frozen_value fixed values still ends begins = record {
       is = λ t on. values t;
       frozen = λ a tau b first after before last on t. same_symᵉ (value_at (shape.function fixed) t)
-          (value_at (shape.function piece.shape) (value piece.at)) (values t);
+          (value_at (shape.function piece.item.value) (value piece.at)) (values t);
       based = λ m. absurd (false≢true (sym still ∙ m));
-      level = λ steady t. bounded_same (2 ^ 31) (value_at (shape.function fixed) t) (value_at (shape.function piece.shape)
+      level = λ steady t. bounded_same (2 ^ 31) (value_at (shape.function fixed) t) (value_at (shape.function piece.item.value)
           (value piece.at)) (values t) is.small;
       begins = le_of_lt begins;
       ends = inl ends;
     }
 
     -- a value that is refused is in play at a time inside the domain
-    pub frozen_fault : (v : Rational) (den : ℕ) → value_at (shape.function piece.shape) (value piece.at) ≈ᵉ finite v → HasDenominator v den → 2 ^ 60 ≤ den
-        → value way.start <ʳ value piece.until.at → value piece.from.at <ʳ value way.stop → value piece.from.at <ʳ value piece.until.at
-        → IsCauseOver shape knots way.over (Value piece.shape piece.at den)
+    pub frozen_fault : (v : Rational) (den : ℕ) → value_at (shape.function piece.item.value) (value piece.at) ≈ᵉ finite v → HasDenominator v den → 2 ^ 60 ≤ den
+        → value way.start <ʳ value piece.item.until.at → value piece.from.at <ʳ value way.stop → value piece.from.at <ʳ value piece.item.until.at
+        → IsCauseOver shape knots way.over (Value piece.item.value piece.at den)
     frozen_fault v den e has wide ends begins order =
         let m = later_of (value way.start) (value piece.from.at) in
         let c = earlier_end (before_stop m.0 m.1.least) (before_until m.0 m.1.least) in
@@ -137,13 +139,13 @@ module _ {P : Type 0} (shape : ShapeOf P) (laws : ShapeLaws shape) (knots : List
           after_start = subst (λ u. u <ʳ tau) is_way.starts (lt_of_le_of_lt m.1.left above);
           before_stop = subst (λ u. tau <ʳ u) is_way.stops (lt_of_lt_of_le below c.2);
           value = v;
-          is_value = same_symᵉ (value_at (shape.function piece.shape) (value piece.at)) (finite v) e;
+          is_value = same_symᵉ (value_at (shape.function piece.item.value) (value piece.at)) (finite v) e;
           line = affine (constant v);
           constant = λ t. finite_same (same_sym (at_constant v t));
           in_play = is.in_play tau (subst (λ u. u <ʳ tau) is_way.starts (lt_of_le_of_lt m.1.left above))
               (subst (λ u. tau <ʳ u) is_way.stops (lt_of_lt_of_le below c.2))
               (inl (lt_of_le_of_lt m.1.right above)) (inl (lt_of_lt_of_le below c.3)) (affine (constant v))
-              (λ t. same_transᵉ (value_at (shape.function piece.shape) (value piece.at)) (finite v) (value_at
+              (λ t. same_transᵉ (value_at (shape.function piece.item.value) (value piece.at)) (finite v) (value_at
               (affine (constant v)) t) e (finite_same (same_sym (at_constant v t))));
           denominator = has;
           wide = wide;
@@ -152,12 +154,12 @@ module _ {P : Type 0} (shape : ShapeOf P) (laws : ShapeLaws shape) (knots : List
         start_before_stop : value way.start <ʳ value way.stop
         start_before_stop = by_side is.aside
           where
-            by_side : (value piece.until.at ≤ʳ stop knots) ⊎ (start knots ≤ʳ value piece.from.at) → value way.start <ʳ value way.stop
-            by_side (inl h) = lt_of_lt_of_le ends (subst (λ u. value piece.until.at ≤ʳ u) (sym is_way.stops) h)
+            by_side : (value piece.item.until.at ≤ʳ stop knots) ⊎ (start knots ≤ʳ value piece.from.at) → value way.start <ʳ value way.stop
+            by_side (inl h) = lt_of_lt_of_le ends (subst (λ u. value piece.item.until.at ≤ʳ u) (sym is_way.stops) h)
             by_side (inr h) = lt_of_le_of_lt (subst (λ u. u ≤ʳ value piece.from.at) (sym is_way.starts) h) begins
 
         before_stop : (m : Rational) → ((x : Rational) → value way.start ≤ʳ x → value piece.from.at ≤ʳ x → m ≤ʳ x) → m <ʳ value way.stop
         before_stop m least = let c = later_end start_before_stop begins in lt_of_le_of_lt (least c.0 c.2 c.3) c.1
 
-        before_until : (m : Rational) → ((x : Rational) → value way.start ≤ʳ x → value piece.from.at ≤ʳ x → m ≤ʳ x) → m <ʳ value piece.until.at
+        before_until : (m : Rational) → ((x : Rational) → value way.start ≤ʳ x → value piece.from.at ≤ʳ x → m ≤ʳ x) → m <ʳ value piece.item.until.at
         before_until m least = let c = later_end ends order in lt_of_le_of_lt (least c.0 c.2 c.3) c.1

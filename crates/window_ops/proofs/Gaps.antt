@@ -11,7 +11,7 @@ use Rattle.rational.proofs.Order.{le_refl, le_of_lt, le_of_same, ge_of_same, le_
 use Rattle.rational.proofs.Order.{lt_of_lt_of_le, lt_trans, lt_or_same_or_gt, not_lt_of_le, same_of_le, same_refl, same_sym}
 use Rattle.rational.proofs.LimitLemmas.{earlier_end, later_end}
 use Rattle.rational.proofs.Shift.{le_shift, shift_back}
-use Rattle.rational.proofs.TimeLemmas.{precedes_le, shifted-add}
+use Rattle.rational.proofs.TimeLemmas.{shifted-add}
 use Rattle.rational.proofs.AffineLemmas.{bounded_same, same_symᵉ, same_transᵉ, value_same}
 use Rattle.frac128.specs.Value.{value}
 use Rattle.frac128.specs.declared.frac.Frac.{Frac}
@@ -24,15 +24,16 @@ use Rattle.envelope.specs.declared.turns.Turn.{Turn}
 use Rattle.envelope.specs.declared.walk.Slope.{Slope}
 use Rattle.envelope.specs.declared.walk.Walk.{Walk}
 use Rattle.envelope.specs.Turns.{HasCome, IsToCome, IsNoBetter, none_of}
-use Rattle.envelope.specs.Standing.{Part, Counts, IsOneOf}
+use Rattle.envelope.specs.Standing.{Part}
 use Rattle.envelope.proofs.TurnOrder.{at_of_come}
 use Rattle.envelope.proofs.Bests.{no_better_same, no_better_trans}
 use Rattle.window_ops.specs.declared.offsets.Way.{Way}
 use Rattle.window_ops.specs.Over.{InPlay, Over}
-use Rattle.window_ops.specs.Going.{CanCount, GetsBetter, GetsWorse, HasClimbed, HasCounted, HasSlope, InDomain}
+use Rattle.window_ops.specs.Going.{CanCount, GetsBetter, GetsWorse, HasClimbed, HasCounted, HasSlope, InDomain, IsCovered}
 use Rattle.window_ops.specs.Going.{IsLowEnd, IsPiece, IsSlopeFrom, IsSlopeOf, IsWay, OffersSlope, ReachesAt, StandsAt, turn_of}
 use Rattle.window_ops.proofs.Counting.{at_most_to_come, goes_later, within_domain}
-use Rattle.window_ops.proofs.Covering.{came_gap, come_next, covers_by, precedes_to_come, strictly_come, strictly_to_come}
+use Rattle.window_ops.proofs.Covering.{came_gap, come_next, covers_by, covers_more, covers_worse, high_in_window, low_in_window}
+use Rattle.window_ops.proofs.Covering.{precedes_to_come, strictly_come, strictly_to_come}
 use Rattle.window_ops.proofs.Ends.{come_at, le_shifted, le_shifted_back, lt_shifted, shift_forth, to_come_alike}
 use Rattle.window_ops.proofs.Reaching.{end_in_play, knot_in, later_than_both, left_in_play, reach_gap, right_in_play, steady_in_play, time_under}
 use Rattle.window_ops.proofs.Spans.{Span, lt_offsets}
@@ -46,17 +47,11 @@ module _ {P : Type 0} (shape : ShapeOf P) (laws : ShapeLaws shape) (knots : List
   apart : (t : Rational) → shifted t way.over.low <ʳ shifted t way.over.high
   apart t = lt_offsets t way.over.low way.over.high wide
 
-  low_in_window : (t u : Rational) → Over (start knots) (stop knots) way.over t u → shifted t way.over.low ≤ʳ u
-  low_in_window t u over = precedes_le way.over.low_in (shifted t way.over.low) u over.begins
-
-  high_in_window : (t u : Rational) → Over (start knots) (stop knots) way.over t u → u ≤ʳ shifted t way.over.high
-  high_in_window t u over = precedes_le way.over.high_in u (shifted t way.over.high) over.ends
-
   -- a gap that stays as it is
   module _ (steady : IsSteady (shape.function k.after)) (from until : Turn) (span : Span shape laws knots way is_way k.time n.time true false from until)
       (from_after : from.just_after ≡ true) (until_after : until.just_after ≡ false) where
     steady_is : IsPiece shape knots way (turn_of k.time true) (turn_of n.time false)
-        (record { shape = k.after; at = k.time; from = from; until = until; slope = None })
+        (record { at = k.time; from = from; item = record { value = k.after; until = until; slope = None } })
     steady_is = record {
       from = span.from_is;
       until = span.until_is;
@@ -94,8 +89,8 @@ module _ {P : Type 0} (shape : ShapeOf P) (laws : ShapeLaws shape) (knots : List
             (reach_gap shape laws knots way is_way i k n here next t l.0 r.0 l.0 l.1 r.2 l.2 r.3 r.1 (inl (same_refl l.0)))
 
     -- a gap that stays as it is may be counted when the walk stands before it
-    pub can_steady : (parts : List (Part P)) (old : Walk P) → StandsAt shape knots way (turn_of k.time true) parts old
-        → CanCount shape knots way (record { shape = k.after; at = k.time; from = from; until = until; slope = None }) old
+    pub can_steady : (parts : List (Part P)) (old : Walk P) → StandsAt shape knots way i k true parts old
+        → CanCount shape knots way (record { at = k.time; from = from; item = record { value = k.after; until = until; slope = None } }) old
     can_steady parts old before = record {
       high = turn_of k.time true;
       low = turn_of n.time false;
@@ -108,27 +103,27 @@ module _ {P : Type 0} (shape : ShapeOf P) (laws : ShapeLaws shape) (knots : List
     }
 
     -- and once it was counted the walk stands behind it
-    pub came_steady : (parts : List (Part P)) (old new : Walk P) (before : StandsAt shape knots way (turn_of k.time true) parts old)
-        (counted : HasCounted shape knots way (record { shape = k.after; at = k.time; from = from; until = until; slope = None }) old new
+    pub came_steady : (parts : List (Part P)) (old new : Walk P) (before : StandsAt shape knots way i k true parts old)
+        (counted : HasCounted shape knots way (record { at = k.time; from = from; item = record { value = k.after; until = until; slope = None } }) old new
         (can_steady parts old before))
-        → StandsAt shape knots way (turn_of n.time false) counted.parts new
+        → StandsAt shape knots way (i + 1) n false counted.parts new
     unfolding can_steady
     came_steady parts old new before counted = came_gap shape laws knots way is_way i k n here next parts old before counted.parts new
         (turn_of k.time true) (turn_of n.time false)
         counted.kept (λ t h. come_next k.time n.time true false rises (shifted t way.over.high) h) (λ t h. h) counted.goes
-        (λ t u d over a b. covers_by shape laws knots way is_way counted.parts t (value_at (shape.function k.after) u)
+        (λ t u d over a b c e. covers_by shape laws knots way is_way counted.parts t (value_at (shape.function k.after) u)
         (value_at (shape.function k.after) (time k))
         (no_better_same way.side (value_at (shape.function k.after) u) (value_at (shape.function k.after) (time k)) (steady u (time k)))
         (counted.offers t d (
-          (span.from_is t).1 (inl (lt_of_lt_of_le a (high_in_window t u over))),
-          to_come_alike (turn_of n.time false) until (shifted t way.over.low) t (span.until_is t).0 (inl (lt_of_le_of_lt (low_in_window t u over) b)),
+          (span.from_is t).1 (inl c),
+          to_come_alike (turn_of n.time false) until (shifted t way.over.low) t (span.until_is t).0 (inl e),
         )))
 
   -- a gap that gets better
   module _ (better : GetsBetter way.side (shape.function k.after)) (from until : Turn)
       (span : Span shape laws knots way is_way n.time n.time false false from until) where
     rising_is : IsPiece shape knots way (turn_of n.time false) (turn_of n.time false)
-        (record { shape = k.after; at = n.time; from = from; until = until; slope = None })
+        (record { at = n.time; from = from; item = record { value = k.after; until = until; slope = None } })
     rising_is = record {
       from = span.from_is;
       until = span.until_is;
@@ -159,7 +154,7 @@ module _ {P : Type 0} (shape : ShapeOf P) (laws : ShapeLaws shape) (knots : List
 
     -- a gap that gets better may be counted once the high end has climbed over it
     pub can_rising : (parts : List (Part P)) (mid : Walk P) → HasClimbed shape knots way k n parts mid
-        → CanCount shape knots way (record { shape = k.after; at = n.time; from = from; until = until; slope = None }) mid
+        → CanCount shape knots way (record { at = n.time; from = from; item = record { value = k.after; until = until; slope = None } }) mid
     can_rising parts mid climbed = record {
       high = turn_of n.time false;
       low = turn_of n.time false;
@@ -173,33 +168,33 @@ module _ {P : Type 0} (shape : ShapeOf P) (laws : ShapeLaws shape) (knots : List
     }
 
     -- and once it was counted the walk stands behind it
-    pub came_rising : (parts : List (Part P)) (old mid new : Walk P) → StandsAt shape knots way (turn_of k.time true) parts old
+    pub came_rising : (parts : List (Part P)) (old mid new : Walk P) → StandsAt shape knots way i k true parts old
         → (climbed : HasClimbed shape knots way k n parts mid)
-        (counted : HasCounted shape knots way (record { shape = k.after; at = n.time; from = from; until = until; slope = None }) mid new
+        (counted : HasCounted shape knots way (record { at = n.time; from = from; item = record { value = k.after; until = until; slope = None } }) mid new
         (can_rising parts mid climbed))
-        → StandsAt shape knots way (turn_of n.time false) counted.parts new
+        → StandsAt shape knots way (i + 1) n false counted.parts new
     unfolding can_rising
     came_rising parts old mid new before climbed counted = came_gap shape laws knots way is_way i k n here next parts old before counted.parts new
         (turn_of n.time false) (turn_of n.time false)
         (λ x one. counted.kept x (climbed.kept x one)) (λ t h. h) (λ t h. h) counted.goes
-        (λ t u d over a b. by_high t u d over a b (le_or_lt (time n) (shifted t way.over.high)))
+        (λ t u d over a b c e. by_high t u d over b c e (le_or_lt (time n) (shifted t way.over.high)))
       where
-        by_high : (t u : Rational) → InDomain shape knots way t → Over (start knots) (stop knots) way.over t u → time k <ʳ u → u <ʳ time n
+        by_high : (t u : Rational) → InDomain shape knots way t → Over (start knots) (stop knots) way.over t u → u ≤ʳ time n
+            → time k <ʳ shifted t way.over.high → shifted t way.over.low <ʳ time n
             → (time n ≤ʳ shifted t way.over.high) ⊎ (shifted t way.over.high <ʳ time n)
-            → (x : Part P) × IsOneOf counted.parts x × Counts x t × IsNoBetter way.side (value_at (shape.function k.after) u)
-            (value_at (shape.function x.shape) t)
-        by_high t u d over a b (inl c) = covers_by shape laws knots way is_way counted.parts t (value_at
+            → IsCovered shape knots way counted.parts t (value_at (shape.function k.after) u)
+        by_high t u d over b c e (inl m) = covers_by shape laws knots way is_way counted.parts t (value_at
             (shape.function k.after) u) (value_at (shape.function k.after) (time n))
-            (better u (time n) (le_of_lt b))
+            (better u (time n) b)
             (counted.offers t d (
-              (span.from_is t).1 (come_at n.time (shifted t way.over.high) c),
-              to_come_alike (turn_of n.time false) until (shifted t way.over.low) t (span.until_is t).0 (inl (lt_of_le_of_lt (low_in_window t u over) b)),
+              (span.from_is t).1 (come_at n.time (shifted t way.over.high) m),
+              to_come_alike (turn_of n.time false) until (shifted t way.over.low) t (span.until_is t).0 (inl e),
             ))
-        by_high t u d over a b (inr c) =
-            let (x, one, counts, e) = climbed.offers t d (inl (lt_of_lt_of_le a (high_in_window t u over)), inl c) in
-            covers_by shape laws knots way is_way counted.parts t (value_at (shape.function k.after) u)
+        by_high t u d over b c e (inr m) = covers_worse shape laws knots way is_way counted.parts t (value_at (shape.function k.after) u)
             (value_at (shape.function k.after) (shifted t way.over.high))
-            (better u (shifted t way.over.high) (high_in_window t u over)) (x, counted.kept x one, counts, e)
+            (better u (shifted t way.over.high) (high_in_window shape laws knots way is_way t u over))
+            (covers_more shape laws knots way is_way climbed.parts counted.parts t (value_at (shape.function k.after) (shifted t way.over.high)) counted.kept
+            (climbed.covers t d (inl c) (inl m)))
 
   -- a gap that gets worse, from the place of the low end
   module _ (worse : GetsWorse way.side (shape.function k.after)) (at : Frac) (low_end : IsLowEnd way (time k) (time n) (value at)) (from until : Turn)
@@ -242,7 +237,7 @@ module _ {P : Type 0} (shape : ShapeOf P) (laws : ShapeLaws shape) (knots : List
         (shifted t way.over.low)) (last_within : IsWithin (2 ^ 34) (value last.at))
         (slope : Option (Slope P)) where
       falling_is : IsPiece shape knots way (turn_of k.time true) (turn_of at true)
-          (record { shape = k.after; at = at; from = from; until = until; slope = slope })
+          (record { at = at; from = from; item = record { value = k.after; until = until; slope = slope } })
       falling_is = record {
         from = span.from_is;
         until = span.until_is;
@@ -279,7 +274,7 @@ module _ {P : Type 0} (shape : ShapeOf P) (laws : ShapeLaws shape) (knots : List
       IsGapSlope o = IsSlopeFrom shape way k.after until last o
 
       slope_is : (s : Slope P) → IsGapSlope (Some s) → IsSlopeOf shape knots way
-          (record { shape = k.after; at = at; from = from; until = until; slope = slope }) (turn_of n.time false) s
+          (record { at = at; from = from; item = record { value = k.after; until = until; slope = slope } }) (turn_of n.time false) s
       slope_is s (values, ends, base, stops) = record {
         ends = λ t. subst (λ u. HasCome u t ↔ HasCome (turn_of n.time false) (shifted t way.over.low)) (sym ends) (last_is t);
         within = subst (λ (u : Turn). IsWithin (2 ^ 34) (value u.at)) (sym ends) last_within;
@@ -365,13 +360,13 @@ module _ {P : Type 0} (shape : ShapeOf P) (laws : ShapeLaws shape) (knots : List
 
       module _ (is : IsGapSlope slope) where
         has_slope : (o : Option (Slope P)) → IsGapSlope o → HasSlope shape knots way
-            (record { shape = k.after; at = at; from = from; until = until; slope = slope }) (turn_of n.time false) o
+            (record { at = at; from = from; item = record { value = k.after; until = until; slope = slope } }) (turn_of n.time false) o
         has_slope None h = λ t m. (span.until_is t).1 (inl (lt_of_lt_of_le low_end.before (at_of_come (turn_of n.time false) (shifted t way.over.low) m)))
         has_slope (Some s) h = slope_is s h
 
         -- a gap that gets worse may be counted when the walk stands before it
-        pub can_falling : (parts : List (Part P)) (old : Walk P) → StandsAt shape knots way (turn_of k.time true) parts old
-            → CanCount shape knots way (record { shape = k.after; at = at; from = from; until = until; slope = slope }) old
+        pub can_falling : (parts : List (Part P)) (old : Walk P) → StandsAt shape knots way i k true parts old
+            → CanCount shape knots way (record { at = at; from = from; item = record { value = k.after; until = until; slope = slope } }) old
         can_falling parts old before = record {
           high = turn_of k.time true;
           low = turn_of at true;
@@ -384,27 +379,26 @@ module _ {P : Type 0} (shape : ShapeOf P) (laws : ShapeLaws shape) (knots : List
         }
 
         -- and once it was counted the walk stands behind it
-        pub came_falling : (parts : List (Part P)) (old new : Walk P) (before : StandsAt shape knots way (turn_of k.time true) parts old)
-            (counted : HasCounted shape knots way (record { shape = k.after; at = at; from = from; until = until; slope = slope }) old new
+        pub came_falling : (parts : List (Part P)) (old new : Walk P) (before : StandsAt shape knots way i k true parts old)
+            (counted : HasCounted shape knots way (record { at = at; from = from; item = record { value = k.after; until = until; slope = slope } }) old new
             (can_falling parts old before))
-            → StandsAt shape knots way (turn_of n.time false) counted.parts new
+            → StandsAt shape knots way (i + 1) n false counted.parts new
         unfolding can_falling
         came_falling parts old new before counted = came_gap shape laws knots way is_way i k n here next parts old before counted.parts new
             (turn_of k.time true) (turn_of n.time false)
             counted.kept (λ t h. come_next k.time n.time true false rises (shifted t way.over.high) h) (λ t h. h) counted.goes
-            (λ t u d over a b. by_low t u d over a b (le_or_lt (shifted t way.over.low) (value at)))
+            (λ t u d over a b c e. by_low t u d over a c e (le_or_lt (shifted t way.over.low) (value at)))
           where
-            at_most : (t u : Rational) → InDomain shape knots way t → Over (start knots) (stop knots) way.over t u → time k <ʳ u
+            at_most : (t u : Rational) → InDomain shape knots way t → Over (start knots) (stop knots) way.over t u → time k ≤ʳ u
                 → (value at ≡ time k) ⊎ (value at ≈ shifted (value way.start) way.over.low) → value at ≤ʳ u
-            at_most t u d over a (inl e) = subst (λ v. v ≤ʳ u) (sym e) (le_of_lt a)
-            at_most t u d over a (inr e) = le_trans (le_of_same e) (le_trans (low_after t d.above) (low_in_window t u over))
+            at_most t u d over a (inl e) = subst (λ v. v ≤ʳ u) (sym e) a
+            at_most t u d over a (inr e) = le_trans (le_of_same e) (le_trans (low_after t d.above) (low_in_window shape laws knots way is_way t u over))
 
-            by_slope : (t u : Rational) → InDomain shape knots way t → Over (start knots) (stop knots) way.over t u → u <ʳ time n
-                → value at <ʳ shifted t way.over.low
+            by_slope : (t u : Rational) → InDomain shape knots way t → Over (start knots) (stop knots) way.over t u
+                → shifted t way.over.low <ʳ time n → value at <ʳ shifted t way.over.low
                 → (o : Option (Slope P)) → IsGapSlope o → OffersSlope shape knots way counted.parts
-                (record { shape = k.after; at = at; from = from; until = until; slope = slope }) o
-                → (x : Part P) × IsOneOf counted.parts x × Counts x t × IsNoBetter way.side (value_at
-                (shape.function k.after) u) (value_at (shape.function x.shape) t)
+                (record { at = at; from = from; item = record { value = k.after; until = until; slope = slope } }) o
+                → IsCovered shape knots way counted.parts t (value_at (shape.function k.after) u)
             by_slope t u d over b c None h offers = absurd (not_lt_of_le (le_trans (subst (λ v. t ≤ʳ v)
                 (sym is_way.stops) d.below) h) (after_until ((span.until_is t).1 (inl c))))
               where
@@ -418,36 +412,35 @@ module _ {P : Type 0} (shape : ShapeOf P) (laws : ShapeLaws shape) (knots : List
                 covers_by shape laws knots way is_way counted.parts t (value_at (shape.function k.after) u) (value_at (shape.function s.shape) t)
                 (no_better_trans way.side (value_at (shape.function k.after) u) (value_at (shape.function k.after)
                 (shifted t way.over.low)) (value_at (shape.function s.shape) t)
-                (worse (shifted t way.over.low) u (low_in_window t u over))
+                (worse (shifted t way.over.low) u (low_in_window shape laws knots way is_way t u over))
                 (no_better_same way.side (value_at (shape.function k.after) (shifted t way.over.low)) (value_at (shape.function s.shape) t)
                 (same_symᵉ (value_at (shape.function s.shape) t) (value_at (shape.function k.after) (shifted t way.over.low)) moved)))
                 (offers t d (
                   (span.until_is t).1 (inl c),
                   subst (λ v. IsToCome v t) (sym h.1) (to_come_alike (turn_of n.time false) last (shifted t way.over.low) t
-                      (last_is t).0 (inl (lt_of_le_of_lt (low_in_window t u over) b))),
+                      (last_is t).0 (inl b)),
                 ))
 
-            by_low : (t u : Rational) → InDomain shape knots way t → Over (start knots) (stop knots) way.over t u → time k <ʳ u → u <ʳ time n
+            by_low : (t u : Rational) → InDomain shape knots way t → Over (start knots) (stop knots) way.over t u → time k ≤ʳ u
+                → time k <ʳ shifted t way.over.high → shifted t way.over.low <ʳ time n
                 → (shifted t way.over.low ≤ʳ value at) ⊎ (value at <ʳ shifted t way.over.low)
-                → (x : Part P) × IsOneOf counted.parts x × Counts x t × IsNoBetter way.side (value_at
-                (shape.function k.after) u) (value_at (shape.function x.shape) t)
-            by_low t u d over a b (inl c) = covers_by shape laws knots way is_way counted.parts t (value_at
+                → IsCovered shape knots way counted.parts t (value_at (shape.function k.after) u)
+            by_low t u d over a c e (inl m) = covers_by shape laws knots way is_way counted.parts t (value_at
                 (shape.function k.after) u) (value_at (shape.function k.after) (value at))
                 (worse (value at) u (at_most t u d over a low_end.one_of))
                 (counted.offers t d (
-                  (span.from_is t).1 (inl (lt_of_lt_of_le a (high_in_window t u over))),
+                  (span.from_is t).1 (inl c),
                   to_come_alike (turn_of at true) until (shifted t way.over.low) t (span.until_is t).0
-                      (precedes_to_come true at (shifted t way.over.low) c),
+                      (precedes_to_come true at (shifted t way.over.low) m),
                 ))
-            by_low t u d over a b (inr c) = by_slope t u d over b c slope is counted.offers_slope
+            by_low t u d over a c e (inr m) = by_slope t u d over e m slope is counted.offers_slope
 
   -- a gap that the low end has left behind at the start is met
   pub came_none : (parts : List (Part P)) (old : Walk P) (last : Turn) → shifted (value last.at) way.over.low ≈ time n → value last.at ≤ʳ value way.start
-      → StandsAt shape knots way (turn_of k.time true) parts old → StandsAt shape knots way (turn_of n.time false) parts old
+      → StandsAt shape knots way i k true parts old → StandsAt shape knots way (i + 1) n false parts old
   came_none parts old last at before_start before = came_gap shape laws knots way is_way i k n here next parts old before parts old
       (turn_of k.time true) (turn_of k.time true)
       (λ x one. one) (λ t h. come_next k.time n.time true false rises (shifted t way.over.high) h) (λ t h. come_next k.time n.time true false rises
       (shifted t way.over.low) h) before.goes
-      (λ t u d over a b. absurd (not_lt_of_le (le_trans (ge_of_same at) (le_trans (le_shifted way.over.low
-      (le_trans before_start (subst (λ v. v ≤ʳ t) (sym is_way.starts) d.above)))
-      (low_in_window t u over))) b))
+      (λ t u d over a b c e. absurd (not_lt_of_le (le_trans (ge_of_same at) (le_shifted way.over.low
+      (le_trans before_start (subst (λ v. v ≤ʳ t) (sym is_way.starts) d.above)))) e))

@@ -38,7 +38,7 @@ use Rattle.envelope.proofs.Bests.{no_better_trans}
 use Rattle.window_ops.specs.declared.offsets.Offsets.{Offsets}
 use Rattle.window_ops.specs.declared.offsets.Way.{Way}
 use Rattle.window_ops.specs.Over.{BasesOver, BestOver, HasCauseOver, IsCauseOver, IsMovedOver, IsSmall, IsWorse, Over}
-use Rattle.window_ops.specs.Going.{HasMet, HasRefused, InDomain, IsFaultOf, IsWay, StandsBy, turn_of}
+use Rattle.window_ops.specs.Going.{HasMet, HasRefused, InDomain, IsCovered, IsFaultOf, IsLeft, IsWay, StandsBy, turn_of}
 use Rattle.window_ops.proofs.Covering.{precedes_to_come, strictly_come, strictly_to_come}
 use Rattle.window_ops.proofs.Ends.{come_at, le_shifted, shift_forth}
 use Rattle.window_ops.proofs.Counting.{cause_of}
@@ -75,9 +75,11 @@ module _ {P : Type 0} (shape : ShapeOf P) (laws : ShapeLaws shape) (knots : List
   -- no value in the window is better than the best of the parts
   bound : (t : Rational) (v : Extended) → InDomain shape knots way t → IsBestOf shape way.side met.parts t v
       → (w : Extended) → ((u : Rational) × Over (start knots) (stop knots) way.over t u × IsWorth shape knots u w) → IsNoBetter way.side w v
-  bound t v d best w (u, m, f) =
-      let (x, one, c, n) = met.covered t u w d m f in
-      no_better_trans way.side w (value_at (shape.function x.shape) t) v n (best.bound x one c)
+  bound t v d best w (u, m, f) = by_case (met.covered t u w d m f)
+    where
+      by_case : IsCovered shape knots way met.parts t w → IsNoBetter way.side w v
+      by_case (inl n) = no_better_trans way.side w (none_of way.side shape.lowest shape.highest) v n best.floor
+      by_case (inr (x, one, c, n)) = no_better_trans way.side w (value_at (shape.function x.shape) t) v n (best.bound x one c)
 
   -- and it is reached
   reached : (t : Rational) (v : Extended) → InDomain shape knots way t → IsBestOf shape way.side met.parts t v
@@ -205,35 +207,46 @@ begun_stands shape laws knots way is_way walk can leaves walks k here = record {
   };
   covered = λ t u v d over sooner worth. absurd (not_lt_of_le over.inside.above (subst (λ w. u <ʳ w)
       (sym (first_knot knots k here)) (strictly_to_come k.time u sooner)));
+  limit = λ t u j p is at e d over low. absurd (omega (arith, is));
 }
 
 module _ {P : Type 0} (shape : ShapeOf P) (laws : ShapeLaws shape) (knots : List (Knot P)) (way : Way) (is_way : IsWay shape knots way) where
-  -- a walk that stands just after a knot that no window comes past has met all
+  -- a walk that stands just after a knot that no window comes past has met all, if nothing is left to a gap
   pub met_at : (i : ℕ) (k : Knot P) (walk : Walk P) (parts : List (Part P)) → slice_get knots i ≡ Some k → StandsBy shape knots way i true parts walk
-      → ((t u : Rational) → InDomain shape knots way t → Over (start knots) (stop knots) way.over t u → u ≤ʳ time k) → HasMet shape knots way walk
-  met_at i k walk parts here stands all = record {
+      → ((t u : Rational) → InDomain shape knots way t → Over (start knots) (stop knots) way.over t u → u ≤ʳ time k)
+      → ((t u : Rational) (v : Extended) → InDomain shape knots way t → ¬ IsLeft shape knots way k t u v) → HasMet shape knots way walk
+  met_at i k walk parts here stands all none_left = record {
     high = turn_of k.time true;
     low = turn_of k.time true;
     parts = parts;
     goes = (stands k here).goes;
-    covered = λ t u v d over worth. (stands k here).covered t u v d over (precedes_to_come true k.time u (all t u d over)) worth;
+    covered = λ t u v d over worth. by_case t u v d ((stands k here).covered t u v d over (precedes_to_come true k.time u (all t u d over)) worth);
   }
+    where
+      by_case : (t u : Rational) (v : Extended) → InDomain shape knots way t → IsCovered shape knots way parts t v ⊎ IsLeft shape knots way k t u v
+          → IsCovered shape knots way parts t v
+      by_case t u v d (inl c) = c
+      by_case t u v d (inr left) = absurd (none_left t u v d left)
 
   -- the last knot
   pub met_last : (i : ℕ) (k : Knot P) (walk : Walk P) (parts : List (Part P)) → slice_get knots i ≡ Some k → slice_get knots (i + 1) ≡ None
       → StandsBy shape knots way i true parts walk → HasMet shape knots way walk
   met_last i k walk parts here end stands = met_at i k walk parts here stands
       (λ t u d over. subst (λ w. u ≤ʳ w) (stop_at shape knots i k here end) over.inside.below)
+      (λ t u v d left. not_lt_of_le (ge_of_same left.at) (subst (λ w. u <ʳ w) (stop_at shape knots i k here end) left.inner))
 
   -- a knot that the window does not come past
   pub met_past : (i : ℕ) (k : Knot P) (walk : Walk P) (parts : List (Part P)) → slice_get knots i ≡ Some k
       → stop knots ≤ʳ shifted (time k) (neg_ℤ way.over.high)
       → StandsBy shape knots way i true parts walk → HasMet shape knots way walk
   met_past i k walk parts here past stands = met_at i k walk parts here stands
-      (λ t u d over. le_trans (precedes_le way.over.high_in u (shifted t way.over.high) over.ends)
-      (le_trans (le_shifted way.over.high (le_trans d.below past))
-      (le_of_same (same_trans (shifted-add (shifted (time k) (neg_ℤ way.over.high)) way.over.high)
-      (same_trans (same_shift way.over.high (shifted-add (time k) (neg_ℤ way.over.high))) (shift_forth (time k) way.over.high))))))
+      (λ t u d over. le_trans (precedes_le way.over.high_in u (shifted t way.over.high) over.ends) (high_end t d))
+      (λ t u v d left. not_lt_of_le (le_trans (high_end t d) (ge_of_same left.at)) left.ends)
+    where
+      high_end : (t : Rational) → InDomain shape knots way t → shifted t way.over.high ≤ʳ time k
+      high_end t d = le_trans (le_shifted way.over.high (le_trans d.below past))
+          (le_of_same (same_trans (shifted-add (shifted (time k) (neg_ℤ way.over.high)) way.over.high)
+          (same_trans (same_shift way.over.high (shifted-add (time k) (neg_ℤ way.over.high))) (shift_forth (time k) way.over.high))))
 
   -- a window without times meets nothing
   pub met_none : (k : Knot P) (walk : Walk P) → slice_get knots 0 ≡ Some k → way.over.low ≡ way.over.high

@@ -3,16 +3,13 @@ use Rattle.std.proofs.Common.{◌⊎◌, inl, inr}
 use Rattle.rational.specs.Time.{Rational, ◌≤ʳ◌, ◌<ʳ◌, ◌≈◌}
 use Rattle.rational.specs.Extended.{Extended, Affine, value_at, ◌≤ᵉ◌, ◌≈ᵉ◌}
 use Rattle.rational.specs.Windows.{Function, Window}
-use Rattle.rational.proofs.ExtendedLemmas.{le_totalᵉ, lt_of_lt_of_leᵉ, lt_of_le_of_ltᵉ, le_of_ltᵉ, clashᵉ}
+use Rattle.rational.proofs.ExtendedLemmas.{le_totalᵉ, lt_of_lt_of_leᵉ, lt_of_le_of_ltᵉ, clashᵉ}
 use Rattle.rational.proofs.AffineLemmas.{near_start, near_stop, above_start, above_stop, value_same}
 use Rattle.pl_signal.specs.declared.joining.Side.{Side}
 use Rattle.pl_signal.specs.declared.joining.Side.TheVariants.{Least, Greatest}
-use Rattle.std.specs.declared.cmp.Ordering.TheVariants.{Less, Equal, Greater}
-use Rattle.rational.specs.Affine.{Grows, IsSteady, Shrinks}
-use Rattle.rational.proofs.Order.{le_or_lt, same_of_le}
-use Rattle.envelope.specs.Turns.{IsNoBetter, IsTrendFor}
+use Rattle.envelope.specs.Turns.{IsNoBetter}
 use Rattle.window_ops.specs.Over.{IsWorse}
-use Rattle.window_ops.specs.Going.{GetsBetter, GetsWorse, Reaches}
+use Rattle.window_ops.specs.Going.{Reaches}
 
 -- what is worse than a value is worse than a better one
 pub worse_than_better : (side : Side) (w v x : Extended) → IsWorse side w v → IsNoBetter side v x → IsWorse side w x
@@ -67,32 +64,3 @@ reaches_end side none W F f l r e order is on w floor worse =
         (value_at f e) (value_at f l) (value_same f s)))
     by_end (inr s) = inr (worse_than_better side w (value_at f e) (value_at f r) worse (no_better_of_same side
         (value_at f e) (value_at f r) (value_same f s)))
-
--- what a trend says of later values
-pub steady_of : (side : Side) (f : Affine) → IsTrendFor side Equal f → IsSteady f
-steady_of Greatest f h = h
-steady_of Least f h = h
-
-grown : (f : Affine) (t u : Rational) → Grows f → t ≤ʳ u → value_at f t ≤ᵉ value_at f u
-grown f t u h order = by_order (le_or_lt u t)
-  where
-    by_order : (u ≤ʳ t) ⊎ (t <ʳ u) → value_at f t ≤ᵉ value_at f u
-    by_order (inl k) = (value_same f (same_of_le order k)).at_most
-    by_order (inr k) = le_of_ltᵉ (value_at f t) (value_at f u) (h t u k)
-
-shrunk : (f : Affine) (t u : Rational) → Shrinks f → t ≤ʳ u → value_at f u ≤ᵉ value_at f t
-shrunk f t u h order = by_order (le_or_lt u t)
-  where
-    by_order : (u ≤ʳ t) ⊎ (t <ʳ u) → value_at f u ≤ᵉ value_at f t
-    by_order (inl k) = (value_same f (same_of_le order k)).at_least
-    by_order (inr k) = le_of_ltᵉ (value_at f u) (value_at f t) (h t u k)
-
--- a line that rises towards a side gets better for it
-pub better_of : (side : Side) (f : Affine) → IsTrendFor side Greater f → GetsBetter side f
-better_of Greatest f h t u order = grown f t u h order
-better_of Least f h t u order = shrunk f t u h order
-
--- one that falls away from it gets worse
-pub worse_of : (side : Side) (f : Affine) → IsTrendFor side Less f → GetsWorse side f
-worse_of Greatest f h t u order = shrunk f t u h order
-worse_of Least f h t u order = grown f t u h order

@@ -1,6 +1,6 @@
 -- A window on its way over a signal: what it has met so far counts as pieces of a walk.
 use Rattle.std.specs.Prelude.{◌≡◌, ◌⊎◌, ◌^◌, ◌↔◌, Bool, true, false, ℕ, slice_get, List, Option, Some}
-use Rattle.std.specs.Prelude.{None, pos, ◌<ℤ◌, ◌-ℤ◌, ◌+◌, IsTrue, IfSome, MatchOption}
+use Rattle.std.specs.Prelude.{None, pos, ◌<ℤ◌, ◌-ℤ◌, ◌+◌, ◌-◌, ◌<◌, length, IsTrue, IfSome, MatchOption}
 use Rattle.rational.specs.Rational.{IsWithin, whole, add}
 use Rattle.rational.specs.Time.{Rational, Within, shifted, ◌≤ʳ◌, ◌<ʳ◌, ◌≈◌}
 use Rattle.rational.specs.Extended.{Extended, value_at, ◌≈ᵉ◌, Affine}
@@ -151,51 +151,51 @@ module _ {P : Type 0} (shape : ShapeOf P) (knots : List (Knot P)) where
     -- the piece counts while the high end has met the one turn and the low end has not met the other
     pub record IsPiece (high low : Turn) (piece : Piece P) : Type 0 where
       pub from : (t : Rational) → HasCome piece.from t ↔ HasCome high (shifted t way.over.high)
-      pub until : (t : Rational) → HasCome piece.until t ↔ HasCome low (shifted t way.over.low)
+      pub until : (t : Rational) → HasCome piece.item.until t ↔ HasCome low (shifted t way.over.low)
       pub from_within : IsWithin (2 ^ 34) (value piece.from.at)
-      pub until_within : IsWithin (2 ^ 34) (value piece.until.at)
+      pub until_within : IsWithin (2 ^ 34) (value piece.item.until.at)
       pub at_within : IsWithin (2 ^ 34) (value piece.at)
-      pub in_order : (t : Rational) → HasCome piece.until t → HasCome piece.from t
-      pub to_come : IsToCome piece.until (value piece.from.at)
-      pub aside : (value piece.until.at ≤ʳ stop knots) ⊎ (start knots ≤ʳ value piece.from.at)
-      pub low_at : piece.until.just_after ≡ true → shifted (value piece.until.at) way.over.low ≈ value piece.at
+      pub in_order : (t : Rational) → HasCome piece.item.until t → HasCome piece.from t
+      pub to_come : IsToCome piece.item.until (value piece.from.at)
+      pub aside : (value piece.item.until.at ≤ʳ stop knots) ⊎ (start knots ≤ʳ value piece.from.at)
+      pub low_at : piece.item.until.just_after ≡ true → shifted (value piece.item.until.at) way.over.low ≈ value piece.at
       pub high_at : piece.from.just_after ≡ false → shifted (value piece.from.at) way.over.high ≈ value piece.at
       pub after_start : start knots ≤ʳ value piece.at
-      pub small : IsBounded (2 ^ 31) (value_at (shape.function piece.shape) (value piece.at))
-      pub of_signal : HasShape knots piece.shape
-      pub reached : (t : Rational) → InDomain t → HasCome piece.from t → IsToCome piece.until t → ReachesAt t
-          (value_at (shape.function piece.shape) (value piece.at))
-      pub in_play : (t : Rational) → start knots <ʳ t → t <ʳ stop knots → HasCome piece.from t → IsToCome piece.until t → (line : Affine)
-          → IsConstant line (value_at (shape.function piece.shape) (value piece.at)) → InPlay shape knots way.over t line
+      pub small : IsBounded (2 ^ 31) (value_at (shape.function piece.item.value) (value piece.at))
+      pub of_signal : HasShape knots piece.item.value
+      pub reached : (t : Rational) → InDomain t → HasCome piece.from t → IsToCome piece.item.until t → ReachesAt t
+          (value_at (shape.function piece.item.value) (value piece.at))
+      pub in_play : (t : Rational) → start knots <ʳ t → t <ʳ stop knots → HasCome piece.from t → IsToCome piece.item.until t → (line : Affine)
+          → IsConstant line (value_at (shape.function piece.item.value) (value piece.at)) → InPlay shape knots way.over t line
 
     -- its slope goes on from the value, ever worse, while the low end moves over the gap
     pub record IsSlopeOf (piece : Piece P) (last : Turn) (slope : Slope P) : Type 0 where
       pub ends : (t : Rational) → HasCome slope.until t ↔ HasCome last (shifted t way.over.low)
       pub within : IsWithin (2 ^ 34) (value slope.until.at)
       pub level : HasBoundedLevel (2 ^ 31) (shape.function slope.shape)
-      pub begins : IsToCome piece.until (start knots)
-      pub later : (t : Rational) → HasCome slope.until t → HasCome piece.until t
-      pub worse : (t : Rational) → HasCome piece.until t → IsNoBetter way.side (value_at (shape.function slope.shape) t)
-          (value_at (shape.function piece.shape) (value piece.at))
+      pub begins : IsToCome piece.item.until (start knots)
+      pub later : (t : Rational) → HasCome slope.until t → HasCome piece.item.until t
+      pub worse : (t : Rational) → HasCome piece.item.until t → IsNoBetter way.side (value_at (shape.function slope.shape) t)
+          (value_at (shape.function piece.item.value) (value piece.at))
       pub falls : (t u : Rational) → t ≤ʳ u → IsNoBetter way.side (value_at (shape.function slope.shape) u) (value_at (shape.function slope.shape) t)
-      pub fair : IsFair (record { shape = slope.shape; from = piece.until; until = Some slope.until })
+      pub fair : IsFair (record { shape = slope.shape; from = piece.item.until; until = Some slope.until })
 
     -- the slope, if there is one
     abbrev pub HasSlope : Piece P → Turn → Option (Slope P) → Type 0
-    HasSlope piece last None = (t : Rational) → HasCome last (shifted t way.over.low) → HasCome piece.until t
+    HasSlope piece last None = (t : Rational) → HasCome last (shifted t way.over.low) → HasCome piece.item.until t
     HasSlope piece last (Some slope) = IsSlopeOf piece last slope
 
     -- the value stands for the piece where it counts in the domain; on a stretch it is a constant
     pub record IsValueOf (piece : Piece P) (value' : P) : Type 0 where
-      pub is : (t : Rational) → IsOn way piece.from piece.until t → value_at (shape.function value') t ≈ᵉ value_at
-          (shape.function piece.shape) (value piece.at)
+      pub is : (t : Rational) → IsOn way piece.from piece.item.until t → value_at (shape.function value') t ≈ᵉ value_at
+          (shape.function piece.item.value) (value piece.at)
       pub frozen : (a tau b : Rational) → start knots ≤ʳ a → a <ʳ tau → tau <ʳ b → b ≤ʳ stop knots
-          → ((t : Rational) → a <ʳ t → t <ʳ b → HasCome piece.from t × IsToCome piece.until t)
-          → IsConstant (shape.function value') (value_at (shape.function piece.shape) (value piece.at))
+          → ((t : Rational) → a <ʳ t → t <ʳ b → HasCome piece.from t × IsToCome piece.item.until t)
+          → IsConstant (shape.function value') (value_at (shape.function piece.item.value) (value piece.at))
       pub based : IsMovedOver shape knots way.over value'
       pub level : HasBoundedLevel (2 ^ 31) (shape.function value')
       pub begins : value piece.from.at ≤ʳ value way.stop
-      pub ends : IsBeforeEnd way piece.until
+      pub ends : IsBeforeEnd way piece.item.until
 
     -- the walk waits for the piece
     pub record CanCount (piece : Piece P) (walk : Walk P) : Type 0 where
@@ -203,44 +203,69 @@ module _ {P : Type 0} (shape : ShapeOf P) (knots : List (Knot P)) where
       pub low : Turn
       pub last : Turn
       pub is : IsPiece high low piece
-      pub slope : HasSlope piece last piece.slope
+      pub slope : HasSlope piece last piece.item.slope
       pub parts : List (Part P)
       pub goes : Goes high low parts walk
 
     -- the slope is offered, if there is one
     abbrev pub OffersSlope : List (Part P) → Piece P → Option (Slope P) → Type 0
     OffersSlope parts piece None = Unit {0}
-    OffersSlope parts piece (Some slope) = Offers parts (λ t. HasCome piece.until t × IsToCome slope.until t) (λ t. value_at (shape.function slope.shape) t)
+    OffersSlope parts piece (Some slope) = Offers parts (λ t. HasCome piece.item.until t × IsToCome slope.until t) (λ t. value_at (shape.function slope.shape) t)
 
     -- the piece was counted: the walk stands for more parts, of which one is the piece's value, and one its slope
     pub record HasCounted (piece : Piece P) (old new : Walk P) (c : CanCount piece old) : Type 0 where
       pub parts : List (Part P)
       pub kept : (x : Part P) → IsOneOf c.parts x → IsOneOf parts x
       pub goes : Goes c.high c.last parts new
-      pub offers : Offers parts (λ t. HasCome piece.from t × IsToCome piece.until t) (λ _. value_at (shape.function piece.shape) (value piece.at))
-      pub offers_slope : OffersSlope parts piece piece.slope
+      pub offers : Offers parts (λ t. HasCome piece.from t × IsToCome piece.item.until t) (λ _. value_at (shape.function piece.item.value) (value piece.at))
+      pub offers_slope : OffersSlope parts piece piece.item.slope
 
-    -- the walk has met all that lies before the turn
-    pub record StandsAt (cursor : Turn) (parts : List (Part P)) (walk : Walk P) : Type 0 where
-      pub goes : Goes cursor cursor parts walk
-      pub covered : (t u : Rational) (v : Extended) → InDomain t → Over (start knots) (stop knots) way.over t u → IsToCome cursor u
-          → IsWorth shape knots u v → (x : Part P) × IsOneOf parts x × Counts x t × IsNoBetter way.side v (value_at (shape.function x.shape) t)
+    -- v is no better than no value is, or than a part that counts at t
+    abbrev pub IsCovered : List (Part P) → Rational → Extended → Type 0
+    IsCovered parts t v = IsNoBetter way.side v (none_of way.side shape.lowest shape.highest)
+        ⊎ ((x : Part P) × IsOneOf parts x × Counts x t × IsNoBetter way.side v (value_at (shape.function x.shape) t))
+
+    -- v, which the signal has at the knot, is left to the gap after it: the window at t begins there, and the gap is no worse
+    pub record IsLeft (k : Knot P) (t u : Rational) (v : Extended) : Type 0 where
+      pub at : u ≈ value k.time
+      pub begins : u ≤ʳ shifted t way.over.low
+      pub ends : u <ʳ shifted t way.over.high
+      pub inner : u <ʳ stop knots
+      pub worse : IsNoBetter way.side v (value_at (shape.function k.after) u)
+
+    -- the walk stands before the knot at that place, or just after it: what the window has met of the signal is covered, but for what is
+    -- left to the next gap; and so is the limit of the gap before, in each window that reaches into it
+    pub record StandsAt (i : ℕ) (k : Knot P) (after : Bool) (parts : List (Part P)) (walk : Walk P) : Type 0 where
+      pub goes : Goes (turn_of k.time after) (turn_of k.time after) parts walk
+      pub covered : (t u : Rational) (v : Extended) → InDomain t → Over (start knots) (stop knots) way.over t u → IsToCome (turn_of k.time after) u
+          → IsWorth shape knots u v → IsCovered parts t v ⊎ IsLeft k t u v
+      pub limit : (t u : Rational) (j : ℕ) (p : Knot P) → j + 1 ≡ i → slice_get knots j ≡ Some p → u ≈ value k.time → InDomain t
+          → Over (start knots) (stop knots) way.over t u → shifted t way.over.low <ʳ u → IsCovered parts t (value_at (shape.function p.after) u)
 
     -- the same of a knot by its place
     abbrev pub StandsBy : ℕ → Bool → List (Part P) → Walk P → Type 0
-    StandsBy i after parts walk = (k : Knot P) → slice_get knots i ≡ Some k → StandsAt (turn_of k.time after) parts walk
+    StandsBy i after parts walk = (k : Knot P) → slice_get knots i ≡ Some k → StandsAt i k after parts walk
+
+    -- the point of the knot is no better than the gaps on both its sides, and the window has some length
+    pub record IsSpare (i : ℕ) : Type 0 where
+      pub wide : way.over.low <ℤ way.over.high
+      pub before : (p k : Knot P) → slice_get knots (i - 1) ≡ Some p → slice_get knots i ≡ Some k
+          → IsNoBetter way.side (value_at (shape.function k.point) (value k.time)) (value_at (shape.function p.after) (value k.time))
+      pub after : (k : Knot P) → slice_get knots i ≡ Some k
+          → IsNoBetter way.side (value_at (shape.function k.point) (value k.time)) (value_at (shape.function k.after) (value k.time))
+      pub inner : i + 1 < length knots
 
     -- the gap counts as itself while the high end moves over it
     pub record HasClimbed (k n : Knot P) (old_parts : List (Part P)) (new : Walk P) : Type 0 where
       pub parts : List (Part P)
       pub kept : (x : Part P) → IsOneOf old_parts x → IsOneOf parts x
       pub goes : Goes (turn_of n.time false) (turn_of k.time true) parts new
-      pub offers : Offers parts (λ t. HasCome (turn_of k.time true) (shifted t way.over.high) × IsToCome (turn_of n.time false) (shifted t way.over.high))
-          (λ t. value_at (shape.function k.after) (shifted t way.over.high))
+      pub covers : (t : Rational) → InDomain t → HasCome (turn_of k.time true) (shifted t way.over.high)
+          → IsToCome (turn_of n.time false) (shifted t way.over.high) → IsCovered parts t (value_at (shape.function k.after) (shifted t way.over.high))
 
     abbrev pub ClimbsOver : ℕ → Walk P → Walk P → Type 0
     ClimbsOver i old new = (k n : Knot P) (parts : List (Part P)) → slice_get knots i ≡ Some k → slice_get knots (i + 1) ≡ Some n
-        → StandsAt (turn_of k.time true) parts old → HasClimbed k n parts new
+        → StandsAt i k true parts old → HasClimbed k n parts new
 
     -- from the one place the walk has come to the other
     abbrev pub ComesTo : ℕ → Bool → ℕ → Bool → Walk P → Walk P → Type 0
@@ -257,4 +282,4 @@ module _ {P : Type 0} (shape : ShapeOf P) (knots : List (Knot P)) where
       pub parts : List (Part P)
       pub goes : Goes high low parts walk
       pub covered : (t u : Rational) (v : Extended) → InDomain t → Over (start knots) (stop knots) way.over t u
-          → IsWorth shape knots u v → (x : Part P) × IsOneOf parts x × Counts x t × IsNoBetter way.side v (value_at (shape.function x.shape) t)
+          → IsWorth shape knots u v → IsCovered parts t v

@@ -3,23 +3,22 @@ ghost use Rattle.std.specs.Prelude.{◌≡◌, None, true, false, OnOk, OnErr};
 ghost use Rattle.rational.specs.Time.{◌≤ʳ◌, ◌≈◌, shifted};
 ghost use Rattle.frac128.specs.Value.{value as value_of};
 ghost use Rattle.envelope.specs.Turns.{IsToCome};
-ghost use Rattle.window_ops.specs.Going.{CanCount, HasCounted, HasRefused, IsClamped, IsExtent, IsValueOf, IsWay};
+ghost use Rattle.window_ops.specs.Going.{CanCount, HasCounted, HasRefused, IsClamped, IsExtent, IsValueOf, IsWay, turn_of};
 
 use crate::offsets::{Way, at_high, at_low};
-use envelope::{Item, Slope, Turn, Walk};
+use envelope::{Item, Turn, Walk};
 use frac128::{Frac, Memory};
 use pl_signal::{Signal, WidePair};
 use std::cmp::Ordering;
 use value_laws::Shape;
 
-/// The value of a shape at a time: it counts from one turn until another, and then as its slope, if it has one.
+/// The value of the item's shape at a time: it counts from a turn until the item's, and then as its slope, if it has one. Once it
+/// is counted, what stands for that value in the walk is in the item.
 #[derive(Clone, Copy)]
 pub(crate) struct Piece<P> {
-    pub(crate) shape: P,
     pub(crate) at: Frac,
     pub(crate) from: Turn,
-    pub(crate) until: Turn,
-    pub(crate) slope: Option<Slope<P>>,
+    pub(crate) item: Item<P>,
 }
 
 /// How long what lies between two turns counts in a domain.
@@ -41,24 +40,24 @@ pub(crate) fn count<P: Shape>(
     way: &Way,
     walk: &mut Walk<P>,
     fault: &mut Option<WidePair<P>>,
-    piece: &Piece<P>,
+    piece: &mut Piece<P>,
 ) -> Result<(), Memory>
     requires way { IsWay P.Shape s.now way.now }
     requires none { fault.old ≡ None }
-    requires can { CanCount P.Shape s.now way.now piece.now walk.old }
-    ensures counted { OnOk result ((c : CanCount P.Shape s.now way.now piece.now walk.old) → HasCounted P.Shape s.now way.now piece.now walk.old walk.new c) }
+    requires can { CanCount P.Shape s.now way.now piece.old walk.old }
+    ensures counted { OnOk result ((c : CanCount P.Shape s.now way.now piece.old walk.old) → HasCounted P.Shape s.now way.now piece.old walk.old walk.new c) }
     ensures still { OnOk result (fault.new ≡ None) }
     ensures fault { OnErr result (HasRefused P.Shape s.now way.now fault.new walk.new) }
 {
-    match extent_of(way, &piece.at, &piece.from, &piece.until) {
+    match extent_of(way, &piece.at, &piece.from, &piece.item.until) {
         Extent::Never => Ok(()),
-        Extent::AtLow => admit(s, way, walk, piece, at_low(&way.over, &piece.shape)),
-        Extent::AtHigh => admit(s, way, walk, piece, at_high(&way.over, &piece.shape)),
-        Extent::Long => match piece.shape.fix(&piece.at) {
-            Ok(value) => admit(s, way, walk, piece, value),
+        Extent::AtLow => admit(s, way, walk, at_low(&way.over, &piece.item.value), piece),
+        Extent::AtHigh => admit(s, way, walk, at_high(&way.over, &piece.item.value), piece),
+        Extent::Long => match piece.item.value.fix(&piece.at) {
+            Ok(value) => admit(s, way, walk, value, piece),
             Err(wide) => {
                 *fault = Some(WidePair::Value {
-                    p: piece.shape,
+                    p: piece.item.value,
                     at: piece.at,
                     den: wide.den,
                 });
@@ -73,36 +72,41 @@ fn admit<P: Shape>(
     s: &Signal<P>,
     way: &Way,
     walk: &mut Walk<P>,
-    piece: &Piece<P>,
     value: P,
+    piece: &mut Piece<P>,
 ) -> Result<(), Memory>
     requires way { IsWay P.Shape s.now way.now }
-    requires can { CanCount P.Shape s.now way.now piece.now walk.old }
-    requires value { IsValueOf P.Shape s.now way.now piece.now value }
-    ensures counted { OnOk result ((c : CanCount P.Shape s.now way.now piece.now walk.old) → HasCounted P.Shape s.now way.now piece.now walk.old walk.new c) }
+    requires can { CanCount P.Shape s.now way.now piece.old walk.old }
+    requires value { IsValueOf P.Shape s.now way.now piece.old value }
+    ensures counted { OnOk result ((c : CanCount P.Shape s.now way.now piece.old walk.old) → HasCounted P.Shape s.now way.now piece.old walk.old walk.new c) }
     ensures fault { OnErr result (HasRefused P.Shape s.now way.now None walk.new) }
 {
     // For the proof alone: the signal is what the walk's parts are pieces of.
     let _ = s;
-    let from = clamped(way, &piece.from);
-    let item = Item {
-        value,
-        until: piece.until,
-        slope: piece.slope,
-    };
-    walk.admit(&from, item)
+    let begin = start_of(way);
+    let from = clamped(way, &begin, &piece.from);
+    piece.item.value = value;
+    walk.admit(from, &piece.item)
 }
 
-/// The turn, or the start where it lies before.
-pub(crate) fn clamped(way: &Way, from: &Turn) -> Turn
-    ensures { IsClamped way.now from.now result }
+/// The turn at which the domain begins.
+pub(crate) fn start_of(way: &Way) -> Turn
+    ensures { result ≡ turn_of way.now.start false }
+{
+    Turn {
+        at: way.start,
+        just_after: false,
+    }
+}
+
+/// The turn, or that of the start where it lies before.
+pub(crate) fn clamped<'a>(way: &Way, begin: &'a Turn, from: &'a Turn) -> &'a Turn
+    requires { begin.now ≡ turn_of way.now.start false }
+    ensures { IsClamped way.now from.now result.now }
 {
     match from.at.cmp(&way.start) {
-        Ordering::Less => Turn {
-            at: way.start,
-            just_after: false,
-        },
-        _ => *from,
+        Ordering::Less => begin,
+        _ => from,
     }
 }
 

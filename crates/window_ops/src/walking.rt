@@ -14,14 +14,14 @@ ghost use Rattle.pl_signal.specs.declared.knot.Knot.{Knot};
 ghost use Rattle.envelope.specs.Standing.{Part};
 ghost use Rattle.window_ops.specs.Conditions.{AreNear};
 ghost use Rattle.window_ops.specs.Going.{ClimbsOver, ComesTo, GetsBetter, GetsWorse, HasMet, HasRefused, IsFaultOf};
-ghost use Rattle.window_ops.specs.Going.{IsLowEnd, IsNonEmpty, IsSlopeFrom, IsStopped, IsWay, StandsBy};
+ghost use Rattle.window_ops.specs.Going.{IsLowEnd, IsNonEmpty, IsSlopeFrom, IsSpare, IsStopped, IsWay, StandsBy};
 ghost use Rattle.window_ops.specs.Over.{BasesOver, BestOver, HasCauseOver, IsSmall};
 
-use crate::counted::{Piece, clamped, count};
+use crate::counted::{Piece, clamped, count, start_of};
 use crate::offsets::{Offsets, Way, at_high, at_low, leaves, low_of, meets};
-use envelope::{Slope, Turn, Walk, trend};
+use envelope::{Item, Slope, Turn, Walk, is_worthless, trend};
 use frac128::{Frac, Memory};
-use pl_signal::{Knot, OpFault, Side, Signal, WidePair};
+use pl_signal::{Knot, OpFault, Side, Signal, WidePair, favour};
 use std::cmp::Ordering;
 use value_laws::Shape;
 
@@ -90,7 +90,7 @@ fn walk_over<P: Shape>(
             return Ok(());
         }
         gap(s, i - 1, way, walk, fault)?;
-        point(s, i, way, walk, fault)?;
+        later_point(s, i, way, walk, fault)?;
     }
     Ok(())
 }
@@ -116,7 +116,58 @@ fn is_past<P: Shape>(s: &Signal<P>, i: usize, way: &Way) -> bool
     }
 }
 
-/// Lets the point of a knot count.
+/// Lets the point of a knot that is not the first count, unless it is spare.
+fn later_point<P: Shape>(
+    s: &Signal<P>,
+    i: usize,
+    way: &Way,
+    walk: &mut Walk<P>,
+    fault: &mut Option<WidePair<P>>,
+) -> Result<(), Memory>
+    requires later { 0 < i }
+    requires place { i < length s.now }
+    requires way { IsWay P.Shape s.now way.now }
+    requires some { IsNonEmpty way.now.over }
+    requires none { fault.old ≡ None }
+    requires stands { (parts : List (Part P)) × StandsBy P.Shape s.now way.now i false parts walk.old }
+    ensures comes { OnOk result (ComesTo P.Shape s.now way.now i false i true walk.old walk.new) }
+    ensures still { OnOk result (fault.new ≡ None) }
+    ensures fault { OnErr result (HasRefused P.Shape s.now way.now fault.new walk.new) }
+{
+    if is_spare(s, i, way) {
+        return Ok(());
+    }
+    point(s, i, way, walk, fault)
+}
+
+/// Whether the point of the knot, which is neither the first nor the last, is no better than the gaps on both its sides: a window of some
+/// length that holds it reaches into one of them.
+fn is_spare<P: Shape>(s: &Signal<P>, i: usize, way: &Way) -> bool
+    requires later { 0 < i }
+    requires place { i < length s.now }
+    requires way { IsWay P.Shape s.now way.now }
+    ensures { IsTrue result → IsSpare P.Shape s.now way.now i }
+{
+    let count = s.len();
+    if way.over.low == way.over.high {
+        return false;
+    }
+    if i + 1 == count {
+        return false;
+    }
+    let knot = s.knot(i);
+    let before = s.knot(i - 1);
+    match favour(way.side, &before.after, &knot.point, &knot.time) {
+        Ordering::Greater => return false,
+        _ => {}
+    }
+    match favour(way.side, &knot.after, &knot.point, &knot.time) {
+        Ordering::Greater => false,
+        _ => true,
+    }
+}
+
+/// Lets the point of a knot count, unless it is worthless.
 fn point<P: Shape>(
     s: &Signal<P>,
     i: usize,
@@ -134,14 +185,19 @@ fn point<P: Shape>(
     ensures fault { OnErr result (HasRefused P.Shape s.now way.now fault.new walk.new) }
 {
     let knot = s.knot(i);
-    let piece = Piece {
-        shape: knot.point,
+    if is_worthless(way.side, &knot.point) {
+        return Ok(());
+    }
+    let mut piece = Piece {
         at: knot.time,
         from: meets(&way.over, &knot.time, !way.over.high_in),
-        until: leaves(&way.over, &knot.time, way.over.low_in),
-        slope: None,
+        item: Item {
+            value: knot.point,
+            until: leaves(&way.over, &knot.time, way.over.low_in),
+            slope: None,
+        },
     };
-    count(s, way, walk, fault, &piece)
+    count(s, way, walk, fault, &mut piece)
 }
 
 /// Lets the gap after a knot count.
@@ -189,7 +245,7 @@ fn instant<P: Shape>(s: &Signal<P>, i: usize, way: &Way, walk: &mut Walk<P>) -> 
     climb(s, i, &knot, &next, way, walk)
 }
 
-/// A gap that stays as it is counts as a constant.
+/// A gap that stays as it is counts as a constant, unless it is worthless.
 fn steady<P: Shape>(
     s: &Signal<P>,
     i: usize,
@@ -211,16 +267,21 @@ fn steady<P: Shape>(
     let _ = s.len();
     let knot = s.knot(i);
     let next = s.knot(i + 1);
+    if is_worthless(way.side, &knot.after) {
+        return Ok(());
+    }
     let from = meets(&way.over, &knot.time, true);
     let until = leaves(&way.over, &next.time, false);
-    let piece = Piece {
-        shape: knot.after,
+    let mut piece = Piece {
         at: knot.time,
         from,
-        until,
-        slope: None,
+        item: Item {
+            value: knot.after,
+            until,
+            slope: None,
+        },
     };
-    count(s, way, walk, fault, &piece)
+    count(s, way, walk, fault, &mut piece)
 }
 
 /// A gap that gets better with time counts as itself while the high end moves over it, and then as its limit.
@@ -248,14 +309,16 @@ fn rising<P: Shape>(
     climb(s, i, &knot, &next, way, walk)?;
     let from = meets(&way.over, &next.time, false);
     let until = leaves(&way.over, &next.time, false);
-    let piece = Piece {
-        shape: knot.after,
+    let mut piece = Piece {
         at: next.time,
         from,
-        until,
-        slope: None,
+        item: Item {
+            value: knot.after,
+            until,
+            slope: None,
+        },
     };
-    count(s, way, walk, fault, &piece)
+    count(s, way, walk, fault, &mut piece)
 }
 
 /// A gap that gets worse with time counts as its limit, and then as itself while the low end moves over it.
@@ -289,14 +352,16 @@ fn falling<P: Shape>(
     let from = meets(&way.over, &knot.time, true);
     let until = leaves(&way.over, &at, true);
     let slope = slope_of(way, &knot.after, &until, last);
-    let piece = Piece {
-        shape: knot.after,
+    let mut piece = Piece {
         at,
         from,
-        until,
-        slope,
+        item: Item {
+            value: knot.after,
+            until,
+            slope,
+        },
     };
-    count(s, way, walk, fault, &piece)
+    count(s, way, walk, fault, &mut piece)
 }
 
 /// The gap under the low end from one turn until another, if that end comes past the one in the domain.
@@ -332,7 +397,7 @@ fn low_end(way: &Way, time: &Frac, next: &Frac) -> Frac
     }
 }
 
-/// A gap counts as itself while the high end moves over it, as far as it does so in the domain.
+/// A gap counts as itself while the high end moves over it, as far as it does so in the domain and is not hidden.
 fn climb<P: Shape>(
     s: &Signal<P>,
     i: usize,
@@ -356,9 +421,13 @@ fn climb<P: Shape>(
     let until = meets(&way.over, &next.time, false);
     if lasts(way, &from, &until) {
         let gap = at_high(&way.over, &knot.after);
-        let begin = clamped(way, &from);
+        let start = start_of(way);
+        let begin = clamped(way, &start, &from);
         let end = stopped(way, &until);
-        return walk.climb(&begin, &end, gap);
+        if walk.hides(&end, &gap) {
+            return Ok(());
+        }
+        return walk.climb(begin, &end, gap);
     }
     Ok(())
 }

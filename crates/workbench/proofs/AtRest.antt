@@ -8,10 +8,10 @@ use Rattle.trace_reader.specs.Reader.{header_of}
 use Rattle.trace_reader.specs.declared.refusal.Limits.{Limits}
 use Rattle.workbench.specs.Requests.{Stream, verdicts, early, margins, stream}
 use Rattle.workbench.specs.Owed.{limits_of, StreamText, StreamOf, OwesRows}
-use Rattle.workbench.specs.Settled.{IsAnswered, IsWide}
+use Rattle.workbench.specs.Ended.{IsAnswered, IsWide}
 use Rattle.workbench.specs.Running.{IsBegun, IsDue}
 use Rattle.workbench.specs.Pushing.{IsPushed, IsPushStop, IsPush, IsFinished}
-use Rattle.trace_stream.specs.Reading.{IsWhole}
+use Rattle.trace_stream.specs.CaseReader.{IsWhole}
 use Rattle.workbench.specs.InputFaults.{Fault, fault_text, IsInputFault, AreRowsBefore}
 use Rattle.workbench.specs.Wholes.{status_of_truth}
 use Rattle.workbench.proofs.Beginnings.{begun_before, begun_now}

@@ -33,7 +33,7 @@ use Rattle.session_mux.proofs.SessionsTold.{text_alone_once, own_of_lines}
 use Rattle.session_mux.proofs.HearingLemmas.{hears_its_end}
 use Rattle.session_mux.proofs.OwedLines.{tagged_lines_once}
 use Rattle.workbench.specs.Requests.{sessions}
-use Rattle.workbench.specs.Settled.{IsAnswered}
+use Rattle.workbench.specs.Ended.{IsAnswered}
 
 -- ---- the names of a formula that was read
 

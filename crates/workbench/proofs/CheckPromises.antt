@@ -14,21 +14,21 @@ use Rattle.stl_grammar.specs.FormulaRefusals.{IsFormulaOf}
 use Rattle.stl_grammar.proofs.LawProofs.{one_formula}
 use Rattle.report.specs.Report.{Command, check, robust, explain, json, table, Out}
 use Rattle.workbench.specs.Words.{AskCheck}
-use Rattle.workbench.specs.Commands.{Judge, judge, IsForm, of_formula}
+use Rattle.workbench.specs.Commands.{Verb, judge, IsForm, of_formula}
 use Rattle.workbench.specs.declared.request.Command.TheVariants.{Check}
 use Rattle.workbench.specs.declared.request.Mode.TheVariants.{Whole}
 use Rattle.workbench.specs.Commands as word
 use Rattle.workbench.specs.Requests.{Request, no_form, refused, whole, stream, sessions, generated, verdicts, early, margins}
 use Rattle.workbench.specs.Requests.{Asks, AreNone, IsAsked, word_of, IsRefusal, AreHeld, is_held, has_input, usage_line}
 use Rattle.workbench.specs.Owed.{OwesAtEnd, not_yet, faulty as faulty_at_end, too_many, at_end}
-use Rattle.workbench.specs.Settled.{TellsTruth, none, bad, faulty, answered, wide, overfull}
+use Rattle.workbench.specs.Ended.{TellsTruth, none, bad, faulty, answered, wide, overfull}
 use Rattle.workbench.specs.Running.{IsBegun, IsEnd, settled, unread, unwritten, no_memory, HasEnded, IsReadOut, asked, unknown, IsRun}
 use Rattle.workbench.specs.Saying.{IsSaid, whole as all_said, part as part_said}
 use Rattle.workbench.specs.InputFaults.{Fault, fault_text, whole_limits, IsInputFault}
-use Rattle.trace_stream.specs.Reading.{IsWhole, IsSound}
+use Rattle.trace_stream.specs.CaseReader.{IsWhole, IsSound}
 use Rattle.workbench.specs.ErrTexts.{out_of_memory, read_fault, write_fault}
 use Rattle.workbench.specs.Promises as old
-use Rattle.workbench.specs.Promises.{AreNoForm, AskForBad, AskFor, Took, Got, IsChecked, IsCutOff, IsErrLine, IsMessage}
+use Rattle.workbench.specs.Promises.{AreNoForm, AskForBad, AskFor, Drew, Got, IsChecked, IsCutOff, IsErrLine, IsMessage}
 use Rattle.workbench.proofs.NumberWords.{two_words}
 use Rattle.trace_stream.proofs.FaultsStay.{unsound}
 use Rattle.workbench.proofs.NoForm.{two_is_none}
@@ -50,7 +50,7 @@ not_both : {words : List (List ℕ)} {f : Formula} {line : List ℕ} → AskFor 
 not_both {words} {f} {line} a b = let (r, fault, e) = b.bad in (subst (λ t. IsFormulaOf t f) (one_text a.form b.form) a.is).sound r fault
 
 -- told bytes that were taken are those that were consumed
-took_is : {before after : Option (List ℕ)} {bytes read : List ℕ} → Took before after bytes → Consumes before after read → read ≡ bytes
+took_is : {before after : Option (List ℕ)} {bytes read : List ℕ} → Drew before after bytes → Consumes before after read → read ≡ bytes
 took_is {before} {after} {bytes} {read} t h =
     let told : Consumes (Some (bytes ++ t.left)) (Some t.left) read =
     subst (λ a. Consumes (Some (bytes ++ t.left)) a read) t.now (subst (λ b. Consumes b after read) t.was h) in
@@ -78,7 +78,7 @@ pub data IsBuiltRequest : Request → Type 0 where
   of_check : (f : Formula) → IsBuiltRequest (whole check f)
 
 -- they ask for no other command
-check_alone : {words : List (List ℕ)} {own : List ℕ} → AskCheck words own → (command : Judge) (text : List ℕ)
+check_alone : {words : List (List ℕ)} {own : List ℕ} → AskCheck words own → (command : Verb) (text : List ℕ)
     → IsAsked words (judge command text) → command ≡ word.check
 check_alone {words} {own} ask command text a =
     (one_judged command word.check text own a.is (subst (λ ws. IsForm ws (judge word.check own)) (sym ask) (of_formula word.check))).0
@@ -467,5 +467,5 @@ held_word table text = refl
 -- the words of a command are few and short enough to be held
 pub all_held : (words : List (List ℕ)) (c : Command) (f : Formula) → Asks words (whole c f) → AreHeld words
 all_held words c f ask (judge command text) a =
-    subst (λ (j : Judge). is_held (judge j text) ≡ true) (one_judged (word_of c) command ask.text text ask.form.is a.is).0 (held_word c text)
+    subst (λ (j : Verb). is_held (judge j text) ≡ true) (one_judged (word_of c) command ask.text text ask.form.is a.is).0 (held_word c text)
 all_held words c f ask (word.generate n rows) a = refl

@@ -13,11 +13,11 @@ use Rattle.workbench.specs.Requests.{Stream, verdicts, early, margins, Request, 
 use Rattle.workbench.specs.InputFaults.{Fault, whole_limits, IsInputFault}
 use Rattle.workbench.specs.Owed.{limits_of, HasTooMany, OwesLines}
 use Rattle.workbench.specs.Sessions.{InputFault, FaultOfInput}
-use Rattle.trace_stream.specs.Reading.{IsSound, IsWhole}
+use Rattle.trace_stream.specs.CaseReader.{IsSound, IsWhole}
 use Rattle.workbench.specs.Generator.{IsSummary}
-use Rattle.workbench.specs.Settled.{TellsTruth, IsVerdict, IsLastVerdict, HasFault, IsAnswered, IsAnsweredWhole}
-use Rattle.workbench.specs.Settled.{IsAnsweredByRow, IsWide, IsOverfull, IsSettled, none, bad, faulty, answered, wide}
-use Rattle.workbench.specs.Settled.{overfull}
+use Rattle.workbench.specs.Ended.{TellsTruth, IsVerdict, IsLastVerdict, HasFault, IsAnswered, IsAnsweredWhole}
+use Rattle.workbench.specs.Ended.{IsAnsweredByRow, IsWide, IsOverfull, EndsWith, none, bad, faulty, answered, wide}
+use Rattle.workbench.specs.Ended.{overfull}
 use Rattle.workbench.specs.Running.{IsEnd, settled, unread, unwritten, no_memory, IsReadOut, HasEnded, asked, unknown, IsRun}
 use Rattle.workbench.specs.Complete.{AreFit, IsUndisturbed, IsComplete, answered as complete_answer, wide as complete_wide}
 use Rattle.workbench.specs.Complete.{overfull as complete_overfull, no_memory as complete_starved, IsOwnStatus, IsCompleteRun}
@@ -159,7 +159,7 @@ abbrev Own : Request → List ℕ → List ℕ → ℕ → Type 0
 Own request bytes text status = IsOwnStatus request status × IsComplete request bytes text status
 
 own_settled : (request : Request) (read left text line : List ℕ) (ended : Bool) (status : ℕ) → AreFit request (read ++ left)
-    → (status ≢ 7 → ended ≡ true → left ≡ []) → IsSettled read ended request status line text → Own request (read ++ left) text status
+    → (status ≢ 7 → ended ≡ true → left ≡ []) → EndsWith read ended request status line text → Own request (read ++ left) text status
 own_settled request read left text line ended status fit at none = absurd fit
 own_settled request read left text line ended status fit at bad = absurd fit
 own_settled request read left text line ended status fit at (faulty h prompt owed) =
@@ -179,7 +179,7 @@ own_end request i o read left text line status fit calm quiet at (unwritten rest
 own_end request i o read left text line status fit calm quiet at (no_memory known begun timely) = (starved_own request (read ++ left) fit, complete_starved)
 
 -- the end of a request that reads nothing
-made_settled : (number rows : ℕ) (read text line : List ℕ) (ended : Bool) {status : ℕ} → IsSettled read ended (generated number rows) status line text
+made_settled : (number rows : ℕ) (read text line : List ℕ) (ended : Bool) {status : ℕ} → EndsWith read ended (generated number rows) status line text
     → (status ≡ 0) × IsSummary number rows text
 made_settled number rows read text line ended (faulty h prompt owed) = absurd h
 made_settled number rows read text line ended (answered h) = h

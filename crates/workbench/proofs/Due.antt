@@ -7,10 +7,10 @@ use Rattle.stl_syntax.specs.Formula.{Formula}
 use Rattle.report.specs.Report.{Command, check, robust, explain, json, table}
 use Rattle.workbench.specs.Requests.{Request, no_form, refused, whole, stream, sessions, generated, Stream, verdicts, early, margins, has_input}
 use Rattle.workbench.specs.Owed.{OwesAtEnd, not_yet, faulty as faulty_at_end, too_many, at_end}
-use Rattle.workbench.specs.Settled.{TellsTruth, IsVerdict, IsLastVerdict, IsAnswered, HasFault, none, bad, faulty, answered, wide, overfull}
+use Rattle.workbench.specs.Ended.{TellsTruth, IsVerdict, IsLastVerdict, IsAnswered, HasFault, none, bad, faulty, answered, wide, overfull}
 use Rattle.workbench.specs.Running.{IsBegun, IsEnd, settled, unread, unwritten, no_memory}
 use Rattle.workbench.specs.InputFaults.{whole_limits, IsInputFault}
-use Rattle.trace_stream.specs.Reading.{IsSound}
+use Rattle.trace_stream.specs.CaseReader.{IsSound}
 
 some_more : (text rest : List ℕ) → rest ≢ [] → text ++ rest ≡ [] → ⊥
 some_more [] rest h e = h e

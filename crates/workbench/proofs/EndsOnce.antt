@@ -5,7 +5,7 @@ use Rattle.io_edge.specs.Calls.{Drained, Filled, IsAskedOnce}
 use Rattle.stl_syntax.specs.Formula.{Formula}
 use Rattle.report.specs.Report.{Command}
 use Rattle.workbench.specs.Requests.{Request, no_form, refused, whole, stream, sessions, generated, Asks, has_input}
-use Rattle.workbench.specs.Settled.{none, bad, faulty, answered, wide, overfull, IsAnswered}
+use Rattle.workbench.specs.Ended.{none, bad, faulty, answered, wide, overfull, IsAnswered}
 use Rattle.workbench.specs.Running.{IsEnd, settled, unread, unwritten, no_memory, HasEnded, asked, unknown, HasSaidItsEnd}
 use Rattle.workbench.proofs.Due.{begun_sound}
 use Rattle.workbench.proofs.OneRequest.{one_request}

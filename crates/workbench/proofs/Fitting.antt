@@ -18,8 +18,8 @@ use Rattle.workload.proofs.Listed.{all_of}
 use Rattle.workload.proofs.RowLines.{heading}
 use Rattle.workload.proofs.TraceBytes.{header, header_first, is_heading, rest_bytes, bytes_of_trace}
 use Rattle.workbench.specs.InputFaults.{Fault, whole_limits, IsHeaderAt, here, later, IsUnknownIn, IsUnitIn, IsInputFault}
-use Rattle.trace_stream.specs.Reading.{IsSound}
-use Rattle.workbench.specs.Reading.{IsStop, IsReadFault}
+use Rattle.trace_stream.specs.CaseReader.{IsSound}
+use Rattle.workbench.specs.FromSource.{IsStop, IsReadFault}
 use Rattle.workbench.specs.declared.fault.Stop.{Stop}
 use Rattle.workbench.specs.declared.fault.Stop.TheVariants.{Fault as Faulty, Input as FaultyLine, Unread, Unwritten, NoMemory, Wide, TooMany}
 use Rattle.trace_stream.proofs.FaultsStay.{unsound}

@@ -36,7 +36,7 @@ use Rattle.report.proofs.SignalLaw.{truth_at, signal_describes}
 use Rattle.trace_stream.specs.declared.case.Case.{Case}
 use Rattle.trace_stream.specs.Cases.{IsCase}
 use Rattle.workbench.specs.Answers.{IsJudged}
-use Rattle.workbench.specs.Judging.{setting_of, IsRootOf, IsSignalText}
+use Rattle.workbench.specs.Answering.{setting_of, IsRootOf, IsSignalText}
 
 -- a row for places behind the last one
 pub no_row : Row

@@ -16,17 +16,17 @@ use Rattle.online_robust.specs.Pasts.{part_of}
 use Rattle.trace_stream.specs.Margining.{IsMargined}
 use Rattle.trace_stream.specs.declared.margins.Margins.{Margins as Measurer}
 use Rattle.stl_grammar.specs.FormulaRefusals.{IsFormulaOf}
-use Rattle.trace_stream.specs.Reading.{IsWhole}
+use Rattle.trace_stream.specs.CaseReader.{IsWhole}
 use Rattle.trace_stream.specs.Following.{IsDone}
 use Rattle.trace_stream.specs.declared.live.Live.{Live}
-use Rattle.workbench.specs.Commands.{Judge, judge, generate}
+use Rattle.workbench.specs.Commands.{Verb, judge, generate}
 use Rattle.workbench.specs.Commands as word
 use Rattle.workbench.specs.ErrTexts.{not_streamed_text, out_of_memory}
 use Rattle.workbench.specs.InputFaults.{stream_limits, whole_limits}
 use Rattle.workbench.specs.Requests.{Request, Stream, no_form, refused as bad_request, whole, stream, verdicts, early}
 use Rattle.workbench.specs.Requests.{margins, generated, Asks, AreNone, AreFor, IsAsked, IsUnserved, word_of, word_of_stream}
 use Rattle.workbench.specs.Running.{IsRun, asked as run_asked, settled, unknown as run_unknown}
-use Rattle.workbench.specs.Settled.{bad}
+use Rattle.workbench.specs.Ended.{bad}
 use Rattle.workbench.specs.Saying.{IsSaid}
 use Rattle.workbench.specs.Deciding.{IsDeciding}
 use Rattle.workbench.specs.declared.early.Deciding.{Deciding as Follower}
@@ -51,7 +51,7 @@ pub made_left : {words : List (List ℕ)} {i : Drained} {o e : Filled} {status :
 made_left number rows old new form same run = record { run = run; left = asked (generated number rows) form (inr (inl refl, same)) }
 
 -- nor does a text that gives no formula
-pub refused_left : {words : List (List ℕ)} {text : List ℕ} {i : Drained} {o e : Filled} {line : List ℕ} (j : Judge)
+pub refused_left : {words : List (List ℕ)} {text : List ℕ} {i : Drained} {o e : Filled} {line : List ℕ} (j : Verb)
     (old new : Kept) (status : ℕ) → IsAsked words (judge j text)
     → IsBadEnd text status line → new ≡ old → IsRun words i o e status → HasRun words i o e old new status
 refused_left {words} {text} {i} {o} {e} j old new _ form (refused {line = line} b) same run = record {
@@ -67,7 +67,7 @@ pub whole_left : {words : List (List ℕ)} {i : Drained} {o e : Filled} {status 
 whole_left c f old new ask same run = record { run = run; left = asked (whole c f) ask (inr (inl refl, same)) }
 
 -- nor does a stream for which there is no room
-pub starved_left : {words : List (List ℕ)} {j : Judge} {f : Formula} (i : Drained) (o e : Filled) (old new : Kept) (line : List ℕ)
+pub starved_left : {words : List (List ℕ)} {j : Verb} {f : Formula} (i : Drained) (o e : Filled) (old new : Kept) (line : List ℕ)
     → AreFor words j f → line ≡ out_of_memory
     → i.after ≡ i.before → o.after ≡ o.before → IsSaid e.before e.after e.faults e.faults_after line → new ≡ old → HasRun words i o e old new 7
 starved_left {words} {j} i o e old new line ask is same_in same_out said same = record {

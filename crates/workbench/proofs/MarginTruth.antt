@@ -15,10 +15,10 @@ use Rattle.stl_syntax.specs.SupInf.{Robustness, margin_setting}
 use Rattle.stl_syntax.specs.Verdicts.{IsRobust, IsRobustInside, PiecesGoOn, TellsAfter, DescribesMargins}
 use Rattle.stl_syntax.proofs.LawProofs.{values_are_of_times}
 use Rattle.report.specs.Report.{Command, robust, json, table, nodes_for}
-use Rattle.workbench.specs.Settled.{TellTruth, IsAnsweredWhole}
+use Rattle.workbench.specs.Ended.{TellTruth, IsAnsweredWhole}
 use Rattle.workbench.specs.Measured.{IsBelowSize, AreTrueKnots, HasKnots, IsMeasured}
 use Rattle.workbench.specs.InputFaults.{whole_limits}
-use Rattle.trace_stream.specs.Reading.{IsWhole}
+use Rattle.trace_stream.specs.CaseReader.{IsWhole}
 
 -- a trace is like itself, and close to itself
 close_to_itself : (tr : Trace) (p : Subformula) → AreClose (whole (pos 0)) tr tr p

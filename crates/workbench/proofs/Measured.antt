@@ -28,8 +28,8 @@ use Rattle.report.specs.Table.{IsTableText}
 use Rattle.report.proofs.MarginLaw.{knots_describe}
 use Rattle.trace_stream.specs.declared.case.Case.{Case}
 use Rattle.trace_stream.specs.Cases.{IsCase}
-use Rattle.workbench.specs.Judging.{IsFaultIn, IsRootOf, denominator_of, stop_of_fault}
-use Rattle.workbench.specs.Settled.{TellTruth, IsNeeded}
+use Rattle.workbench.specs.Answering.{IsFaultIn, IsRootOf, denominator_of, stop_of_fault}
+use Rattle.workbench.specs.Ended.{TellTruth, IsNeeded}
 use Rattle.workbench.specs.Wholes.{IsAnswerOf, IsUnanswered}
 use Rattle.workbench.specs.declared.fault.Stop.{Stop}
 use Rattle.workbench.specs.declared.fault.Stop.TheVariants.{Fault as Faulty, Input as FaultyLine, Unread, Unwritten, NoMemory, Wide, TooMany}

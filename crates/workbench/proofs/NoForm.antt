@@ -6,12 +6,12 @@ use Rattle.workbench.specs.Requests.{Request, no_form, refused, whole, stream, s
 use Rattle.workbench.specs.Requests as request
 use Rattle.workbench.specs.Commands.{judge, generate}
 use Rattle.workbench.specs.Commands as word
-use Rattle.workbench.specs.Settled.{IsSettled, none, bad, faulty, answered, wide, overfull}
+use Rattle.workbench.specs.Ended.{EndsWith, none, bad, faulty, answered, wide, overfull}
 use Rattle.workbench.specs.Running.{IsEnd, settled, unread, unwritten, no_memory, HasEnded, asked, unknown}
 use Rattle.workbench.proofs.Due.{small_answer}
 
 by_settled : {words : List (List ℕ)} {bytes : List ℕ} (i : Drained) (r : Request) {status : ℕ} {line text : List ℕ} → Asks words r
-    → IsSettled bytes i.ended r status line text
+    → EndsWith bytes i.ended r status line text
     → status ≡ 2 → AreNone words
 by_settled i r a none s = a
 by_settled i r a bad s = absurd (omega (arith, s))

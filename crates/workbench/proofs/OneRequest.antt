@@ -8,7 +8,7 @@ use Rattle.stl_grammar.specs.FormulaRefusals.{IsFormulaOf}
 use Rattle.stl_grammar.proofs.LawProofs.{one_formula, one_refusal}
 use Rattle.report.specs.Report.{check, robust, explain, json, table}
 use Rattle.workbench.proofs.NumberWords.{two_words, one_workload}
-use Rattle.workbench.specs.Commands.{Judge, judge, generate, IsForm, of_formula, judge_word}
+use Rattle.workbench.specs.Commands.{Verb, judge, generate, IsForm, of_formula, judge_word}
 use Rattle.workbench.specs.Commands as word
 use Rattle.workbench.specs.Requests.{Request, no_form, refused, whole, stream, sessions, generated, verdicts, early}
 use Rattle.workbench.specs.Requests.{margins, Asks, AreNone, AreFor, AreRefused, IsAsked, IsRefusal, IsUnserved}
@@ -17,7 +17,7 @@ use Rattle.workbench.specs.ErrTexts.{formula_fault_text, not_streamed_text}
 -- ---- forms
 
 -- the command of a word
-command_word : List ℕ → Option Judge
+command_word : List ℕ → Option Verb
 command_word text =
     if bytes_eq text (codes "check") then Some word.check else if bytes_eq text (codes "watch") then Some word.watch
     else if bytes_eq text (codes "robust") then Some word.robust else if bytes_eq text (codes "explain") then Some word.explain
@@ -25,7 +25,7 @@ command_word text =
     else if bytes_eq text (codes "early") then Some word.early else if bytes_eq text (codes "mux") then Some word.mux
     else if bytes_eq text (codes "rwatch") then Some word.rwatch else None
 
-word_back : (j : Judge) → command_word (judge_word j) ≡ Some j
+word_back : (j : Verb) → command_word (judge_word j) ≡ Some j
 unfolding command_word
 word_back word.check = refl
 word_back word.watch = refl
@@ -37,14 +37,14 @@ word_back word.early = refl
 word_back word.mux = refl
 word_back word.rwatch = refl
 
-one_word : (j k : Judge) → judge_word j ≡ judge_word k → j ≡ k
+one_word : (j k : Verb) → judge_word j ≡ judge_word k → j ≡ k
 one_word j k e = let same : Some j ≡ Some k = sym (word_back j) ∙ ap command_word e ∙ word_back k in cc
 
-judged_form : {words : List (List ℕ)} {j : Judge} {text : List ℕ} → IsForm words (judge j text) → words ≡ judge_word j ∷ text ∷ []
+judged_form : {words : List (List ℕ)} {j : Verb} {text : List ℕ} → IsForm words (judge j text) → words ≡ judge_word j ∷ text ∷ []
 judged_form (of_formula j) = refl
 
 -- words of a command's form are of no other
-pub one_judged : {words : List (List ℕ)} (j k : Judge) (text other : List ℕ) → IsForm words (judge j text)
+pub one_judged : {words : List (List ℕ)} (j k : Verb) (text other : List ℕ) → IsForm words (judge j text)
     → IsForm words (judge k other) → (j ≡ k) × (text ≡ other)
 one_judged j k text other a b =
     let e : judge_word j ∷ text ∷ [] ≡ judge_word k ∷ other ∷ [] = sym (judged_form a) ∙ judged_form b in
@@ -53,7 +53,7 @@ one_judged j k text other a b =
 -- ---- what is asked for
 
 -- the request of a command for a formula
-request_of : Judge → Formula → Request
+request_of : Verb → Formula → Request
 request_of word.check f = whole check f
 request_of word.watch f = stream verdicts f
 request_of word.robust f = whole robust f
@@ -68,7 +68,7 @@ request_of word.rwatch f = stream margins f
 data AskedAs (words : List (List ℕ)) (r : Request) : Type 0 where
   as_none : AreNone words → r ≡ no_form → AskedAs words r
   as_bad : (line : List ℕ) → AreRefused words line → r ≡ refused line → AskedAs words r
-  as_judged : (j : Judge) (f : Formula) → AreFor words j f → r ≡ request_of j f → AskedAs words r
+  as_judged : (j : Verb) (f : Formula) → AreFor words j f → r ≡ request_of j f → AskedAs words r
   as_made : (n rows : ℕ) → IsAsked words (generate n rows) → r ≡ generated n rows → AskedAs words r
 
 asked_as : (words : List (List ℕ)) (r : Request) → Asks words r → AskedAs words r
@@ -87,7 +87,7 @@ asked_as words (sessions f) a = as_judged word.mux f a refl
 asked_as words (generated n rows) a = as_made n rows a refl
 
 -- a text is refused with one line
-one_unserved : (j : Judge) (f : Formula) (i k : ℕ) → IsUnserved j f i → IsUnserved j f k → i ≡ k
+one_unserved : (j : Verb) (f : Formula) (i k : ℕ) → IsUnserved j f i → IsUnserved j f k → i ≡ k
 one_unserved word.rwatch f i k a b = one_first IsUnstreamed f.nodes i k a b
 one_unserved word.check f i k a b = absurd a
 one_unserved word.watch f i k a b = absurd a
@@ -98,7 +98,7 @@ one_unserved word.table f i k a b = absurd a
 one_unserved word.early f i k a b = absurd a
 one_unserved word.mux f i k a b = absurd a
 
-one_line : (j : Judge) (text line other : List ℕ) → IsRefusal j text line → IsRefusal j text other → line ≡ other
+one_line : (j : Verb) (text line other : List ℕ) → IsRefusal j text line → IsRefusal j text other → line ≡ other
 one_line j text line other (inl (r, fault, e)) (inl (q, fault', e')) = e ∙ ap formula_fault_text (one_refusal text r q fault fault') ∙ sym e'
 one_line j text line other (inl (r, fault, e)) (inr (f, i, is, un, e')) = absurd (is.sound r fault)
 one_line j text line other (inr (f, i, is, un, e)) (inl (r, fault, e')) = absurd (is.sound r fault)
@@ -107,11 +107,11 @@ one_line j text line other (inr (f, i, is, un, e)) (inr (g, k, is', un', e')) =
     e ∙ ap not_streamed_text (one_unserved j g i k (subst (λ (h : Formula). IsUnserved j h i) same un) un') ∙ sym e'
 
 -- a text that is refused is one of no formula that is served
-not_both : (j : Judge) (text line : List ℕ) (f : Formula) → IsRefusal j text line → IsFormulaOf text f → ((i : ℕ) → ¬ IsUnserved j f i) → ⊥
+not_both : (j : Verb) (text line : List ℕ) (f : Formula) → IsRefusal j text line → IsFormulaOf text f → ((i : ℕ) → ¬ IsUnserved j f i) → ⊥
 not_both j text line f (inl (r, fault, e)) is served = is.sound r fault
 not_both j text line f (inr (g, i, is, un, e)) is' served = served i (subst (λ (h : Formula). IsUnserved j h i) (one_formula text g f is.read is'.read) un)
 
-refusal_of : {words : List (List ℕ)} {line : List ℕ} (a : AreRefused words line) (j : Judge) (text : List ℕ)
+refusal_of : {words : List (List ℕ)} {line : List ℕ} (a : AreRefused words line) (j : Verb) (text : List ℕ)
     → IsAsked words (judge j text) → IsRefusal j text line
 refusal_of {words} {line} a j text form =
     let e = one_judged a.command j a.text text a.form.is form.is in

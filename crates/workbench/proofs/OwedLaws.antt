@@ -21,7 +21,7 @@ use Rattle.workbench.proofs.ExplainTexts.{explain_once}
 use Rattle.workbench.proofs.JsonTexts.{json_once}
 use Rattle.workbench.specs.Requests.{Stream, verdicts, early, margins, stream, sessions}
 use Rattle.workbench.specs.Running.{IsBegun, IsDue}
-use Rattle.trace_stream.specs.Reading.{IsWhole}
+use Rattle.trace_stream.specs.CaseReader.{IsWhole}
 use Rattle.workbench.specs.Owed.{OwesRows, OwesLines, HasTooMany, OwesAtEnd, not_yet as not_yet_owed, faulty, too_many, at_end as at_end_owed}
 use Rattle.workbench.specs.InputFaults.{whole_limits}
 

@@ -11,8 +11,8 @@ use Rattle.stl_syntax.specs.Formula.{Formula}
 use Rattle.trace_reader.specs.Reader.{Reader}
 use Rattle.trace_reader.specs.declared.refusal.Limits.{Limits}
 use Rattle.workbench.specs.InputFaults.{IsInputFault}
-use Rattle.trace_stream.specs.Reading.{IsSound, IsRefused, IsKept, HasKept, IsEnded, IsWhole}
-use Rattle.workbench.specs.Reading.{IsRead, IsReadPromptly, IsReadWhole, IsReadInPart, IsStop}
+use Rattle.trace_stream.specs.CaseReader.{IsSound, IsRefused, IsKept, HasKept, IsEnded, IsWhole}
+use Rattle.workbench.specs.FromSource.{IsRead, IsReadPromptly, IsReadWhole, IsReadInPart, IsStop}
 use Rattle.trace_stream.specs.declared.case.Case.{Case}
 use Rattle.trace_stream.specs.declared.fault.StreamStop.{StreamStop}
 use Rattle.trace_stream.specs.declared.fault.StreamStop.TheVariants.{Fault as Faulty, NoMemory, Wide}

@@ -18,7 +18,7 @@ use Rattle.report.specs.Report.{explain, IsExplained as Described, IsItemLines, 
 use Rattle.report.proofs.JoinedTimes.{SayMore, joined_say, line_without}
 use Rattle.report.proofs.JoinedCells.{cover_as, so_as}
 use Rattle.workbench.specs.Answers.{HoldsAtStart}
-use Rattle.workbench.specs.Settled.{Refute, KeptRefute, TellsTruth, IsAnsweredWhole}
+use Rattle.workbench.specs.Ended.{Refute, KeptRefute, TellsTruth, IsAnsweredWhole}
 use Rattle.workbench.specs.Accounts.{AreReasons, IsRefutation, IsAccount}
 
 -- what is kept of a violation refutes the formula, since the answer does

@@ -37,10 +37,10 @@ use Rattle.trace_stream.specs.declared.case.Case.{Case}
 use Rattle.workbench.specs.declared.fault.Stop.{Stop}
 use Rattle.workbench.specs.declared.fault.Stop.TheVariants.{Fault as Faulty, Input as FaultyLine, Unread, Unwritten, NoMemory, Wide, TooMany}
 use Rattle.trace_stream.specs.Cases.{IsCase}
-use Rattle.workbench.specs.Judging.{IsRootOf}
+use Rattle.workbench.specs.Answering.{IsRootOf}
 use Rattle.workbench.specs.Owed.{IsUnexplained}
 use Rattle.workbench.specs.Reasons.{truth_of, items_of}
-use Rattle.workbench.specs.Settled.{TellsTruth, TellTruth}
+use Rattle.workbench.specs.Ended.{TellsTruth, TellTruth}
 use Rattle.workbench.specs.Wholes.{IsAnswerOf, IsUnanswered, status_of_truth}
 use Rattle.workbench.proofs.Reasoned.{nodes_of, few_cells}
 use Rattle.workbench.proofs.Refuting.{kept_refute}

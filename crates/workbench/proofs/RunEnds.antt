@@ -9,15 +9,15 @@ use Rattle.stl_syntax.specs.Formula.{Formula}
 use Rattle.stl_syntax.specs.Trace.{Trace}
 use Rattle.report.specs.Report.{Command, check, robust, explain, json, table, Out}
 use Rattle.workbench.specs.Answers.{IsJudged}
-use Rattle.workbench.specs.Commands.{Judge, judge, generate, IsForm, of_formula, judge_word}
+use Rattle.workbench.specs.Commands.{Verb, judge, generate, IsForm, of_formula, judge_word}
 use Rattle.workbench.specs.Requests.{no_form, refused as bad_request, whole as of_whole, IsAsked, IsAmong, built_commands}
 use Rattle.workbench.specs.Requests.{AreNone, AreOfNoFormula, generated, AreFor, word_of, usage_line, IsUnserved}
 use Rattle.workbench.specs.Owed.{OwesAtEnd, not_yet, faulty as faulty_at_end, at_end as owed_at_end}
-use Rattle.workbench.specs.Settled.{IsPrompt, none, bad, faulty, answered as settled_answer, wide as settled_wide, overfull as settled_overfull}
+use Rattle.workbench.specs.Ended.{IsPrompt, none, bad, faulty, answered as settled_answer, wide as settled_wide, overfull as settled_overfull}
 use Rattle.workbench.specs.Running.{IsTimely, IsEnd, settled, unread, unwritten, no_memory, HasEnded, asked, unknown, IsRun}
 use Rattle.workbench.specs.Saying.{IsSaid}
 use Rattle.workbench.specs.InputFaults.{Fault, whole_limits, IsInputFault}
-use Rattle.workbench.specs.Reading.{IsReadWhole, IsReadPromptly, IsStop}
+use Rattle.workbench.specs.FromSource.{IsReadWhole, IsReadPromptly, IsStop}
 use Rattle.workbench.specs.Writing.{IsPartWritten}
 use Rattle.workbench.specs.declared.request.Command.TheVariants.{Check, Robust, Explain, Json, Table}
 use Rattle.workbench.specs.declared.request.Mode.{Mode}
@@ -35,7 +35,7 @@ use Rattle.workbench.specs.Made.{IsMade, written, cut_off, no_room as no_room_fo
 -- ---- words
 
 -- the words of the form of a command
-pub word_form : {words : List (List ℕ)} {j : Judge} {text : List ℕ} → IsForm words (judge j text) → words ≡ judge_word j ∷ text ∷ []
+pub word_form : {words : List (List ℕ)} {j : Verb} {text : List ℕ} → IsForm words (judge j text) → words ≡ judge_word j ∷ text ∷ []
 word_form (of_formula j) = refl
 
 is_built : (m : Mode) → IsAmong (judge_of m) built_commands
@@ -203,7 +203,7 @@ made_run {words} number rows i o e _ _ form (no_room_for_it same_out) same said 
 }
 
 -- a text that gives no formula
-pub refused_run : {words : List (List ℕ)} {text : List ℕ} (j : Judge) (i : Drained) (o e : Filled) (status : ℕ) (line : List ℕ)
+pub refused_run : {words : List (List ℕ)} {text : List ℕ} (j : Verb) (i : Drained) (o e : Filled) (status : ℕ) (line : List ℕ)
     → IsAsked words (judge j text) → IsBadEnd text status line
     → i.after ≡ i.before → o.after ≡ o.before → IsSaid e.before e.after e.faults e.faults_after line → IsRun words i o e status
 refused_run {words} {text} j i o e status line form end same_in same_out said = record {

@@ -13,7 +13,7 @@ use Rattle.std.proofs.lemmas.Bool.{false≢true}
 use Rattle.report.specs.Report.{robust}
 use Rattle.workbench.specs.Requests.{verdicts, stream, sessions, whole}
 use Rattle.workbench.specs.Owed.{Owes, not_yet, sound as no_lines_fault}
-use Rattle.workbench.specs.Settled.{HasFault, IsSettled, faulty, answered}
+use Rattle.workbench.specs.Ended.{HasFault, EndsWith, faulty, answered}
 use Rattle.workbench.specs.Sessions.{none, Tagged, is_tag_byte, IsTagged, alone, followed, tag, Alone, MuxText, FaultOfInput, bad_tag}
 use Rattle.stl_syntax.specs.declared.rel.Rel.TheVariants.{AtLeast}
 use Rattle.stl_syntax.specs.declared.node.Node.TheVariants.{Atom as Leaf}
@@ -111,7 +111,7 @@ unfolding lines
 watch_begins = record { header = None; rows = []; whole = false; before = no_header_yet no_fault no_heading; is = refl }
 
 -- `watch` of a header without its column ends with 4 and one line, and writes nothing
-watch_lacks : IsSettled x_bytes false (stream verdicts z_formula) 4 unknown_z []
+watch_lacks : EndsWith x_bytes false (stream verdicts z_formula) 4 unknown_z []
 unfolding lines fields digits
 watch_lacks = faulty (lack, lacking false, refl) (record {
   before = [];
@@ -123,7 +123,7 @@ watch_lacks = faulty (lack, lacking false, refl) (record {
 }) (record { header = None; rows = []; whole = false; before = faulted_header lack (lacking false) no_heading; is = refl })
 
 -- `mux` of no bytes ends with 0 and writes nothing
-mux_of_nothing : IsSettled [] true (sessions z_formula) 0 [] []
+mux_of_nothing : EndsWith [] true (sessions z_formula) 0 [] []
 unfolding lines
 mux_of_nothing = answered (
   refl,

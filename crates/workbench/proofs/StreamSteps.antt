@@ -12,7 +12,7 @@ use Rattle.stl_syntax.specs.Formula.{Formula}
 use Rattle.session_mux.specs.Taking.{fault_of}
 use Rattle.workbench.specs.Requests.{Request, no_form, has_input, Stream, stream, word_of_stream, AreFor, Asks}
 use Rattle.workbench.specs.Owed.{Owes, OwesByThen}
-use Rattle.workbench.specs.Settled.{HasFault, IsPrompt, IsAnswered, IsWide, faulty, answered, wide}
+use Rattle.workbench.specs.Ended.{HasFault, IsPrompt, IsAnswered, IsWide, faulty, answered, wide}
 use Rattle.workbench.specs.Running.{IsBegun, IsTimely, IsEnd, settled, unread, unwritten, no_memory, asked}
 use Rattle.workbench.specs.Saying.{IsSaid}
 use Rattle.workbench.specs.Sessions.{input_fault_text}

@@ -26,12 +26,12 @@ use Rattle.workload.proofs.JudgedFormula.{judged_text}
 use Rattle.workload.proofs.LineCounts.{count_join, count_verdicts}
 use Rattle.workload.proofs.SomeLines.{lines_exist}
 use Rattle.workbench.specs.InputFaults.{whole_limits}
-use Rattle.workbench.specs.Reading.{IsReadWhole}
+use Rattle.workbench.specs.FromSource.{IsReadWhole}
 use Rattle.report.specs.SignalVerdicts.{DescribesFunction}
 use Rattle.report.proofs.SignalLaw.{truth_at, signal_describes}
 use Rattle.trace_stream.specs.Cases.{IsCase}
 use Rattle.workbench.specs.Generator.{IsSummary}
-use Rattle.workbench.specs.Judging.{IsRootOf}
+use Rattle.workbench.specs.Answering.{IsRootOf}
 use Rattle.workbench.proofs.Endings.{some_rows}
 use Rattle.workbench.proofs.Judged.{at_start}
 use Rattle.trace_stream.specs.declared.case.Case.{Case}

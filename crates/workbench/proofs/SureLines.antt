@@ -19,7 +19,7 @@ use Rattle.stl_syntax.specs.Texts.{AreVerdictLines}
 use Rattle.stl_syntax.specs.declared.items.Verdict.{Verdict}
 use Rattle.stl_syntax.specs.declared.scale.Scale.{Scale}
 use Rattle.stl_syntax.proofs.LawProofs.{answers_stay}
-use Rattle.online_nodes.specs.Cuts.{begins, ends, Same}
+use Rattle.rational.specs.Places.{begins, ends, Same}
 use Rattle.online_nodes.specs.Laws.{AreTold, AreTiles, answered_to}
 use Rattle.online_nodes.proofs.RunLaw.{int_order, some_is, none_is_none}
 use Rattle.online_nodes.proofs.StayLaw.{Agree, AgreeOn, described}
@@ -27,7 +27,7 @@ use Rattle.online_nodes.proofs.Writing.{same_itself}
 use Rattle.online_nodes.proofs.EmittedLaw.{describes_tiles, tiles_append}
 use Rattle.report.specs.Report.{nodes_for}
 use Rattle.workbench.specs.Requests.{verdicts}
-use Rattle.workbench.specs.Settled.{IsAnsweredByRow}
+use Rattle.workbench.specs.Ended.{IsAnsweredByRow}
 use Rattle.workbench.specs.SureLines.{AreSure, AreSureByRow, AreSureToEnd, IsCoverText, TellAlike, IsWatchText}
 
 -- ---- rows
@@ -280,7 +280,7 @@ front_rises first p s u (Some f) (Some g) l a b =
     omega (arith, ints)
 
 -- rows that came lead from the start to their front
-record Course (p : Subformula) (header : Header) (first : ℕ) (old new : Option ℤ) (tr : Trace) (text : List ℕ) : Type 0 where
+record Passage (p : Subformula) (header : Header) (first : ℕ) (old new : Option ℤ) (tr : Trace) (text : List ℕ) : Type 0 where
   verdicts : List Verdict
   lines : AreVerdictLines header.scale verdicts text
   told : AreTold p tr verdicts
@@ -301,10 +301,10 @@ led_append first old (Some m) (Some f) vs ws a b = tiles_append (answered_to fir
 module _ (p : Subformula) (header : Header) (tr : Trace) (ok : IsTrace tr) (first : ℕ) (starts : first ≡ first_time tr.rows) where
   course : (rows : List Row) (old : Option ℤ) (more : List Row) (text : List ℕ) → tr.header ≡ header → tr.rows ≡ rows ++ more
       → AreRows (length header.columns) (rows ++ more)
-      → old ≡ Front p rows → IsRowsText (IsNewText p) p header rows old more text → Course p header first old (Front p (rows ++ more)) tr text
+      → old ≡ Front p rows → IsRowsText (IsNewText p) p header rows old more text → Passage p header first old (Front p (rows ++ more)) tr text
   course rows old [] text same is are e t =
       let end : Front p (rows ++ []) ≡ old = ap (Front p) (append-nil rows) ∙ sym e in
-      subst (λ (o : Option ℤ). Course p header first old o tr text) (sym end) (record { verdicts = []; lines = t; told = tt; led = none_led first old })
+      subst (λ (o : Option ℤ). Passage p header first old o tr text) (sym end) (record { verdicts = []; lines = t; told = tt; led = none_led first old })
   course rows old (r ∷ more) text same is are e (here, later, new, rest, parts) =
       let at : rows ++ r ∷ more ≡ (rows ++ r ∷ []) ++ more = sym (append_assoc rows (r ∷ []) more) in
       let begin : first_time (rows ++ r ∷ []) ≡ first = first_so_far rows more (is) ∙ sym starts in
@@ -314,7 +314,7 @@ module _ (p : Subformula) (header : Header) (tr : Trace) (ok : IsTrace tr) (firs
       let goes : Continues tr header (rows ++ r ∷ []) false =
       record { same_header = same; more = more; begins = is ∙ at; whole_input = λ k. absurd (false≢true k) } in
       let led : Led (first_time (rows ++ r ∷ [])) old l.verdicts (answered_by (first_time (rows ++ r ∷ [])) p r.time) = l.led (rises rows e begin are) in
-      subst (λ rs. Course p header first old (Front p rs) tr text) (sym at) (record {
+      subst (λ rs. Passage p header first old (Front p rs) tr text) (sym at) (record {
         verdicts = l.verdicts ++ c.verdicts;
         lines = subst (λ t. AreVerdictLines header.scale (l.verdicts ++ c.verdicts) t) (sym parts)
             (lines_append header.scale l.verdicts c.verdicts here later l.lines c.lines);

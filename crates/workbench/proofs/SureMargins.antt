@@ -24,7 +24,7 @@ use Rattle.online_nodes.specs.MarginStream.{TellsLeftOpen, IsNewMargins, IsMargi
 use Rattle.online_nodes.proofs.RunLaw.{int_order}
 use Rattle.report.specs.Report.{nodes_for}
 use Rattle.workbench.specs.Requests.{margins}
-use Rattle.workbench.specs.Settled.{IsAnsweredByRow}
+use Rattle.workbench.specs.Ended.{IsAnsweredByRow}
 use Rattle.workbench.specs.SureMargins.{ArePartLines, IsTruePart, AreTrueParts, AreSureMargins, AreSureMarginsByRow}
 use Rattle.workbench.specs.SureMargins.{AreSureMarginsToEnd, AreInTurn, CoverParts, IsMarginCover, ReadsPart, IsMarginText}
 use Rattle.workbench.proofs.MarginTruth.{one_inside, reads}
@@ -258,7 +258,7 @@ margins_are_sure_to_end p header rows text (are, (during, rest, t, at_end, is)) 
 -- ---- the cover
 
 -- rows that came lead from the start to their front
-record Course (p : Subformula) (header : Header) (first : ℕ) (old new : Option ℤ) (tr : Trace) (text : List ℕ) : Type 0 where
+record Passage (p : Subformula) (header : Header) (first : ℕ) (old new : Option ℤ) (tr : Trace) (text : List ℕ) : Type 0 where
   parts : List Part
   lines : ArePartLines header.scale parts text
   told : AreTrueParts p tr parts
@@ -280,10 +280,10 @@ led_append first (Some o) (Some m) (Some f) xs ys a b = turn_append (whole o) (w
 module _ (p : Subformula) (header : Header) (tr : Trace) (ok : IsTrace tr) (first : ℕ) (starts : first ≡ first_time tr.rows) where
   course : (rows : List Row) (old : Option ℤ) (more : List Row) (text : List ℕ) → tr.header ≡ header → tr.rows ≡ rows ++ more
       → AreRows (length header.columns) (rows ++ more)
-      → old ≡ Front p rows → IsRowsText (IsNewMargins p) p header rows old more text → Course p header first old (Front p (rows ++ more)) tr text
+      → old ≡ Front p rows → IsRowsText (IsNewMargins p) p header rows old more text → Passage p header first old (Front p (rows ++ more)) tr text
   course rows old [] text same is are e t =
       let end : Front p (rows ++ []) ≡ old = ap (Front p) (append-nil rows) ∙ sym e in
-      subst (λ (o : Option ℤ). Course p header first old o tr text) (sym end) (record { parts = []; lines = t; told = tt; led = none_led first old })
+      subst (λ (o : Option ℤ). Passage p header first old o tr text) (sym end) (record { parts = []; lines = t; told = tt; led = none_led first old })
   course rows old (r ∷ more) text same is are e (here, later, new, rest, parts) =
       let at : rows ++ r ∷ more ≡ (rows ++ r ∷ []) ++ more = sym (append_assoc rows (r ∷ []) more) in
       let begin : first_time (rows ++ r ∷ []) ≡ first = first_so_far rows more (is) ∙ sym starts in
@@ -293,7 +293,7 @@ module _ (p : Subformula) (header : Header) (tr : Trace) (ok : IsTrace tr) (firs
       let goes : Continues tr header (rows ++ r ∷ []) false =
       record { same_header = same; more = more; begins = is ∙ at; whole_input = λ k. absurd (false≢true k) } in
       let led : Led (first_time (rows ++ r ∷ [])) old l.parts (answered_by (first_time (rows ++ r ∷ [])) p r.time) = l.led (rises rows e begin are) in
-      subst (λ rs. Course p header first old (Front p rs) tr text) (sym at) (record {
+      subst (λ rs. Passage p header first old (Front p rs) tr text) (sym at) (record {
         parts = l.parts ++ c.parts;
         lines = subst (λ t. ArePartLines header.scale (l.parts ++ c.parts) t) (sym parts)
             (lines_append header.scale l.parts c.parts here later l.lines c.lines);

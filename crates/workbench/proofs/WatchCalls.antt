@@ -9,7 +9,7 @@ use Rattle.stl_syntax.specs.declared.scale.UnitFault.TheVariants as unit_fault
 use Rattle.trace_reader.specs.declared.refusal.Limits.{Limits}
 use Rattle.io_edge.specs.Calls.{Drained, Filled}
 use Rattle.workbench.specs.Answers.{HoldsAtStart}
-use Rattle.workbench.specs.Settled.{TellsTruth}
+use Rattle.workbench.specs.Ended.{TellsTruth}
 use Rattle.trace_stream.specs.Cases.{IsFault}
 use Rattle.workbench.specs.InputFaults.{Fault, of_trace, unknown, unit, stream_limits, IsInputFault}
 use Rattle.workbench.specs.Requests.{stream, verdicts}

@@ -9,8 +9,8 @@ use Rattle.stl_syntax.specs.declared.items.Item.{Item}
 use Rattle.report.specs.Report.{IsItemLines, AreItemLines, nodes_for}
 use Rattle.workbench.specs.Answers.{HoldsAtStart}
 use Rattle.workbench.specs.InputFaults.{whole_limits}
-use Rattle.trace_stream.specs.Reading.{IsWhole}
-use Rattle.workbench.specs.Settled.{Refute}
+use Rattle.trace_stream.specs.CaseReader.{IsWhole}
+use Rattle.workbench.specs.Ended.{Refute}
 
 -- the lines are those of the cells that are kept, where neighbours that touch are one; they refute the formula, and without any one of
 -- them it is not certainly false

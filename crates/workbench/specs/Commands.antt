@@ -3,19 +3,19 @@ use Rattle.std.specs.Prelude.{◌≡◌, ℕ, ◌≤◌, ◌<◌, ◌^◌, true,
 use Rattle.stl_syntax.specs.Characters.{is_digit, all, decimal_value}
 
 -- the commands that take a formula
-pub data Judge : Type 0 where
-  check : Judge
-  watch : Judge
-  robust : Judge
-  explain : Judge
-  json : Judge
-  table : Judge
-  early : Judge
-  mux : Judge
-  rwatch : Judge
+pub data Verb : Type 0 where
+  check : Verb
+  watch : Verb
+  robust : Verb
+  explain : Verb
+  json : Verb
+  table : Verb
+  early : Verb
+  mux : Verb
+  rwatch : Verb
 
 -- the word of a command
-abbrev pub judge_word : Judge → List ℕ
+abbrev pub judge_word : Verb → List ℕ
 judge_word check = codes "check"
 judge_word watch = codes "watch"
 judge_word robust = codes "robust"
@@ -28,12 +28,12 @@ judge_word rwatch = codes "rwatch"
 
 -- a formula to be judged by a command, or a number and how many rows to generate
 pub data Form : Type 0 where
-  judge : Judge → List ℕ → Form
+  judge : Verb → List ℕ → Form
   generate : ℕ → ℕ → Form
 
 -- the words, each with what it asks for
 pub data IsForm : List (List ℕ) → Form → Type 0 where
-  of_formula : {formula : List ℕ} (j : Judge) → IsForm (judge_word j ∷ formula ∷ []) (judge j formula)
+  of_formula : {formula : List ℕ} (j : Verb) → IsForm (judge_word j ∷ formula ∷ []) (judge j formula)
   gen : (c d : ℕ) (digits rows : List ℕ) → all is_digit (c ∷ digits) ≡ true → decimal_value 0 (c ∷ digits) < 2 ^ 64
       → all is_digit (d ∷ rows) ≡ true → 1 ≤ decimal_value 0 (d ∷ rows) → decimal_value 0 (d ∷ rows) ≤ 200000
       → IsForm (codes "gen" ∷ (c ∷ digits) ∷ (d ∷ rows) ∷ []) (generate (decimal_value 0 (c ∷ digits)) (decimal_value 0 (d ∷ rows)))

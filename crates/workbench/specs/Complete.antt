@@ -8,8 +8,8 @@ use Rattle.workbench.specs.Requests.{verdicts, early, margins, Request, whole, s
 use Rattle.workbench.specs.InputFaults.{whole_limits}
 use Rattle.workbench.specs.Owed.{limits_of}
 use Rattle.workbench.specs.Sessions.{InputFault, FaultOfInput}
-use Rattle.trace_stream.specs.Reading.{IsSound}
-use Rattle.workbench.specs.Settled.{IsAnswered, IsWide, IsOverfull}
+use Rattle.trace_stream.specs.CaseReader.{IsSound}
+use Rattle.workbench.specs.Ended.{IsAnswered, IsWide, IsOverfull}
 
 -- the bytes have no fault for the request: for one of a trace they are those of one with the formula's columns, in ticks that hold its
 -- numbers; for one of several sessions no line of the input has a fault of its own

@@ -12,7 +12,7 @@ use Rattle.report.specs.Report.{nodes_for}
 use Rattle.session_mux.specs.Muxes.{Muxed, HasTags}
 use Rattle.session_mux.specs.declared.mux.Phase.TheVariants.{Ended}
 use Rattle.trace_reader.specs.TraceText.{lines}
-use Rattle.trace_stream.specs.Reading.{IsWhole}
+use Rattle.trace_stream.specs.CaseReader.{IsWhole}
 use Rattle.workbench.specs.InputFaults.{stream_limits, whole_limits}
 use Rattle.workbench.specs.Requests.{Request, stream, verdicts, early, margins, sessions, Asks}
 use Rattle.workbench.specs.Running.{IsKeptRightly, IsRun}

@@ -18,7 +18,7 @@ use Rattle.report.specs.Json.{IsReportData}
 use Rattle.report.specs.Table.{IsTableText}
 use Rattle.report.specs.Report.{Command, robust, json, table, nodes_for}
 use Rattle.workbench.specs.InputFaults.{whole_limits}
-use Rattle.trace_stream.specs.Reading.{IsWhole}
+use Rattle.trace_stream.specs.CaseReader.{IsWhole}
 
 -- e lies below the size of r
 abbrev pub IsBelowSize : Rational → Extended → Type 0

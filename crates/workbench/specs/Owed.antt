@@ -8,7 +8,7 @@ pub use Rattle.trace_stream.specs.Streams.{limits_of, StreamText, StreamOf, Owes
 use Rattle.workbench.specs.Answers.{HoldsAtStart}
 use Rattle.workbench.specs.Requests.{Request, no_form, refused, whole, stream, sessions, generated}
 use Rattle.workbench.specs.InputFaults.{Fault, whole_limits, IsInputFault}
-use Rattle.trace_stream.specs.Reading.{IsWhole}
+use Rattle.trace_stream.specs.CaseReader.{IsWhole}
 pub use Rattle.session_mux.specs.Inputs.{fault_line, AreLinesBefore, sound, faulted, OwesLines}
 use Rattle.workbench.specs.Generator.{IsSummary}
 

@@ -10,7 +10,7 @@ use Rattle.workbench.specs.Words.{AskCheck}
 use Rattle.workbench.specs.Requests.{usage_line}
 use Rattle.workbench.specs.InputFaults.{Fault, fault_text, whole_limits, IsInputFault}
 use Rattle.workbench.specs.Answers.{HoldsAtStart}
-use Rattle.trace_stream.specs.Reading.{IsWhole, IsSound}
+use Rattle.trace_stream.specs.CaseReader.{IsWhole, IsSound}
 use Rattle.workbench.specs.ErrTexts.{formula_fault_text, out_of_memory, read_fault, write_fault}
 
 -- the text is refused with this line
@@ -34,7 +34,7 @@ pub record AskFor (words : List (List ℕ)) (f : Formula) : Type 0 where
   pub is : IsFormulaOf text f
 
 -- the device told its bytes, and these were taken from their front
-pub record Took (before after : Option (List ℕ)) (bytes : List ℕ) : Type 0 where
+pub record Drew (before after : Option (List ℕ)) (bytes : List ℕ) : Type 0 where
   pub left : List ℕ
   pub was : before ≡ Some (bytes ++ left)
   pub now : after ≡ Some left
@@ -71,12 +71,12 @@ IsBadWhereDue words status = (line : List ℕ) → AskForBad words line → (sta
 -- 4 comes only where the bytes that were read have a first fault for the formula
 abbrev pub IsRefusedRightly : List (List ℕ) → Option (List ℕ) → Option (List ℕ) → Bool → ℕ → Type 0
 IsRefusedRightly words left left_after ended status =
-    status ≡ 4 → (f : Formula) (bytes : List ℕ) → AskFor words f → Took left left_after bytes → (x : Fault) × IsInputFault whole_limits f bytes ended x
+    status ≡ 4 → (f : Formula) (bytes : List ℕ) → AskFor words f → Drew left left_after bytes → (x : Fault) × IsInputFault whole_limits f bytes ended x
 
 -- where the bytes that were read have one, 4 comes, if memory is not wanting
 abbrev pub IsRefusedWhereDue : List (List ℕ) → Option (List ℕ) → Option (List ℕ) → Bool → ℕ → Type 0
 IsRefusedWhereDue words left left_after ended status =
-    (f : Formula) (bytes : List ℕ) (x : Fault) → AskFor words f → Took left left_after bytes → IsInputFault whole_limits f bytes ended x
+    (f : Formula) (bytes : List ℕ) (x : Fault) → AskFor words f → Drew left left_after bytes → IsInputFault whole_limits f bytes ended x
     → (status ≡ 4) ⊎ (status ≡ 7)
 
 -- where the words ask for a formula, the source holds the bytes of a trace for it and no device fails, there is an answer, if memory is not wanting
@@ -88,13 +88,13 @@ IsAnsweredWhereDue words left faults faults_after out_faults out_faults_after st
 -- 0 and 1 tell the truth at the start, and the whole text was written
 abbrev pub IsAnsweredRightly : List (List ℕ) → Option (List ℕ) → Option (List ℕ) → Option (List ℕ) → Option (List ℕ) → ℕ → Type 0
 IsAnsweredRightly words left left_after held held_after status =
-    status ≤ 1 → (f : Formula) (bytes text : List ℕ) → AskFor words f → Took left left_after bytes → Got held held_after text
+    status ≤ 1 → (f : Formula) (bytes text : List ℕ) → AskFor words f → Drew left left_after bytes → Got held held_after text
     → IsChecked f bytes text status
 
 -- on 6 the text was written without its last part
 abbrev pub IsCutOffRightly : List (List ℕ) → Option (List ℕ) → Option (List ℕ) → Option (List ℕ) → Option (List ℕ) → ℕ → Type 0
 IsCutOffRightly words left left_after held held_after status =
-    status ≡ 6 → (f : Formula) (bytes text : List ℕ) → AskFor words f → Took left left_after bytes → Got held held_after text
+    status ≡ 6 → (f : Formula) (bytes text : List ℕ) → AskFor words f → Drew left left_after bytes → Got held held_after text
     → IsCutOff f bytes text
 
 -- the line on the error stream for each status
@@ -103,7 +103,7 @@ pub data IsErrLine (words : List (List ℕ)) (left left_after : Option (List ℕ
   no_form : IsErrLine words left left_after ended 2 usage_line
   bad_text : {line : List ℕ} → AskForBad words line → IsErrLine words left left_after ended 3 line
   first_fault : {line : List ℕ}
-      → ((f : Formula) (bytes : List ℕ) → AskFor words f → Took left left_after bytes
+      → ((f : Formula) (bytes : List ℕ) → AskFor words f → Drew left left_after bytes
       → (x : Fault) × IsInputFault whole_limits f bytes ended x × (line ≡ fault_text x))
       → IsErrLine words left left_after ended 4 line
   unread : IsErrLine words left left_after ended 5 read_fault

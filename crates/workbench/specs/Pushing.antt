@@ -4,7 +4,7 @@ use Rattle.std.specs.Io.KnownBytes.{Appends, Consumes, IsAtEnd}
 use Rattle.io_edge.specs.Calls.{Drained, Filled}
 use Rattle.workbench.specs.Requests.{Request, stream, has_input}
 use Rattle.workbench.specs.Owed.{Owes, OwesByThen}
-use Rattle.workbench.specs.Settled.{HasFault, IsAnswered, IsWide}
+use Rattle.workbench.specs.Ended.{HasFault, IsAnswered, IsWide}
 use Rattle.workbench.specs.Running.{IsBegun, IsEnd}
 use Rattle.trace_stream.specs.Cases.{IsFault}
 use Rattle.session_mux.specs.Taking.{fault_of}

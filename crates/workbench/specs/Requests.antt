@@ -7,7 +7,7 @@ use Rattle.stl_grammar.specs.FormulaRefusals.{IsFormulaOf, IsFormulaFault}
 use Rattle.stl_grammar.specs.declared.fault.FormulaFault.{FormulaFault}
 use Rattle.report.specs.Report.{Command, check, robust, explain, json, table}
 pub use Rattle.trace_stream.specs.Streams.{Stream, verdicts, early, margins}
-use Rattle.workbench.specs.Commands.{Judge, Form, judge, generate, IsForm, judge_word}
+use Rattle.workbench.specs.Commands.{Verb, Form, judge, generate, IsForm, judge_word}
 use Rattle.workbench.specs.Commands as word
 use Rattle.workbench.specs.ErrTexts.{formula_fault_text, not_streamed_text}
 
@@ -21,7 +21,7 @@ pub data Request : Type 0 where
   generated : ℕ → ℕ → Request
 
 -- the word of a command that holds the whole trace
-abbrev pub word_of : Command → Judge
+abbrev pub word_of : Command → Verb
 word_of check = word.check
 word_of robust = word.robust
 word_of explain = word.explain
@@ -29,23 +29,23 @@ word_of json = word.json
 word_of table = word.table
 
 -- the word of a stream
-abbrev pub word_of_stream : Stream → Judge
+abbrev pub word_of_stream : Stream → Verb
 word_of_stream verdicts = word.watch
 word_of_stream early = word.early
 word_of_stream margins = word.rwatch
 
 -- the commands that are built, in the order in which the usage line names them: those before `gen`, and those after it
-abbrev pub first_commands : List Judge
+abbrev pub first_commands : List Verb
 first_commands = word.check ∷ word.watch ∷ word.robust ∷ word.explain ∷ word.json ∷ word.table ∷ []
 
-abbrev pub later_commands : List Judge
+abbrev pub later_commands : List Verb
 later_commands = word.early ∷ word.mux ∷ word.rwatch ∷ []
 
-abbrev pub built_commands : List Judge
+abbrev pub built_commands : List Verb
 built_commands = first_commands ++ later_commands
 
 -- the command is in the list
-abbrev pub IsAmong : Judge → List Judge → Type 0
+abbrev pub IsAmong : Verb → List Verb → Type 0
 IsAmong command [] = ⊥
 IsAmong command (j ∷ commands) = (command ≡ j) ⊎ IsAmong command commands
 
@@ -55,7 +55,7 @@ IsBuilt (judge command text) = IsAmong command built_commands
 IsBuilt (generate number rows) = Unit {0}
 
 -- the forms of commands, with a bar between two
-abbrev pub forms_text : List Judge → List ℕ
+abbrev pub forms_text : List Verb → List ℕ
 forms_text [] = []
 forms_text (j ∷ []) = judge_word j ++ codes " F"
 forms_text (j ∷ k ∷ commands) = judge_word j ++ codes " F | " ++ forms_text (k ∷ commands)
@@ -75,7 +75,7 @@ AreNone words = (form : Form) → ¬ IsAsked words form
 
 -- the words are of no form that has a formula
 abbrev pub AreOfNoFormula : List (List ℕ) → Type 0
-AreOfNoFormula words = (command : Judge) (text : List ℕ) → ¬ IsAsked words (judge command text)
+AreOfNoFormula words = (command : Verb) (text : List ℕ) → ¬ IsAsked words (judge command text)
 
 -- the words ask for a trace to be generated
 abbrev pub AskToGenerate : List (List ℕ) → Type 0
@@ -86,17 +86,17 @@ abbrev pub IsBadText : List ℕ → List ℕ → Type 0
 IsBadText text line = (r : FormulaFault) × IsFormulaFault text r × (line ≡ formula_fault_text r)
 
 -- node i is the first that keeps the command from serving the formula
-abbrev pub IsUnserved : Judge → Formula → ℕ → Type 0
+abbrev pub IsUnserved : Verb → Formula → ℕ → Type 0
 IsUnserved word.rwatch f i = IsFirstUnstreamed f.nodes i
 IsUnserved command f i = ⊥
 
 -- the command refuses the text with this line: it is no formula, or one that the command does not serve
-abbrev pub IsRefusal : Judge → List ℕ → List ℕ → Type 0
+abbrev pub IsRefusal : Verb → List ℕ → List ℕ → Type 0
 IsRefusal command text line =
     IsBadText text line ⊎ ((f : Formula) × (i : ℕ) × IsFormulaOf text f × IsUnserved command f i × (line ≡ not_streamed_text i))
 
 -- the words are of the command's form, with the text of this formula, which the command serves
-pub record AreFor (words : List (List ℕ)) (command : Judge) (f : Formula) : Type 0 where
+pub record AreFor (words : List (List ℕ)) (command : Verb) (f : Formula) : Type 0 where
   pub text : List ℕ
   pub form : IsAsked words (judge command text)
   pub is : IsFormulaOf text f
@@ -104,7 +104,7 @@ pub record AreFor (words : List (List ℕ)) (command : Judge) (f : Formula) : Ty
 
 -- the words are of a form, with a text that is refused with this line
 pub record AreRefused (words : List (List ℕ)) (line : List ℕ) : Type 0 where
-  pub command : Judge
+  pub command : Verb
   pub text : List ℕ
   pub form : IsAsked words (judge command text)
   pub is : IsRefusal command text line

@@ -5,7 +5,7 @@ use Rattle.io_edge.specs.Causes.{next_count}
 use Rattle.io_edge.specs.Calls.{Drained, Filled, HasFailed, HasRefused, IsAskedOnce}
 use Rattle.workbench.specs.Requests.{Request, no_form, stream, margins, Asks, AreNone, has_input}
 use Rattle.workbench.specs.Owed.{Owes, OwesByThen}
-use Rattle.workbench.specs.Settled.{HasFault, IsWide, IsSettled}
+use Rattle.workbench.specs.Ended.{HasFault, IsWide, EndsWith}
 use Rattle.workbench.specs.ErrTexts.{out_of_memory, read_fault, write_fault}
 use Rattle.workbench.specs.Saying.{IsSaid}
 
@@ -30,7 +30,7 @@ IsTimely request bytes text =
 
 -- how a request ends: what was read, what was written, the status and the line
 pub data IsEnd (request : Request) (i : Drained) (o : Filled) (bytes text : List ℕ) : ℕ → List ℕ → Type 0 where
-  settled : {status : ℕ} {line : List ℕ} → IsSettled bytes i.ended request status line text → IsEnd request i o bytes text status line
+  settled : {status : ℕ} {line : List ℕ} → EndsWith bytes i.ended request status line text → IsEnd request i o bytes text status line
   unread : has_input request ≡ true → i.ended ≡ false → HasFailed i → ((line : List ℕ) → ¬ HasFault request bytes false line) → Owes request bytes false text
       → IsEnd request i o bytes text 5 read_fault
   unwritten : (rest : List ℕ) → rest ≢ [] → HasRefused o → IsBegun request bytes i.ended text rest → IsTimely request bytes text

@@ -10,7 +10,7 @@ use Rattle.stl_syntax.specs.declared.scale.Scale.{Scale}
 use Rattle.online_nodes.specs.MarginEdges.{Part, point, gap, IsPartLine}
 use Rattle.report.specs.Report.{nodes_for}
 use Rattle.workbench.specs.InputFaults.{stream_limits}
-use Rattle.trace_stream.specs.Reading.{IsWhole}
+use Rattle.trace_stream.specs.CaseReader.{IsWhole}
 
 -- the lines of the parts in order
 abbrev pub ArePartLines : Scale → List Part → List ℕ → Type 0

@@ -10,7 +10,7 @@ use Rattle.report.specs.Report.{nodes_for}
 use Rattle.workbench.specs.Answers.{HoldsAtStart}
 use Rattle.trace_stream.specs.Cases.{IsNamed}
 use Rattle.workbench.specs.InputFaults.{Fault, of_trace, unknown, unit, IsInputFault}
-use Rattle.trace_stream.specs.Reading.{IsSound, IsWhole}
+use Rattle.trace_stream.specs.CaseReader.{IsSound, IsWhole}
 use Rattle.workbench.specs.Requests.{verdicts}
 use Rattle.trace_stream.specs.Following.{IsTextOf, IsLive, IsOver}
 pub use Rattle.trace_stream.specs.Watching.{WatchesRows, WatchesEnd}

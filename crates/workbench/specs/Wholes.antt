@@ -7,15 +7,15 @@ use Rattle.stl_grammar.specs.declared.fault.FormulaFault.{FormulaFault}
 use Rattle.stl_grammar.specs.declared.fault.FormulaFault.TheVariants as fault
 use Rattle.report.specs.Report.{Command, check, robust, explain, json, table, Out}
 use Rattle.std.specs.Io.KnownBytes.{Appends}
-use Rattle.workbench.specs.Commands.{Judge}
+use Rattle.workbench.specs.Commands.{Verb}
 use Rattle.workbench.specs.Commands as word
 use Rattle.workbench.specs.Requests.{IsBadText, word_of}
 use Rattle.workbench.specs.Owed.{HasTooMany}
-use Rattle.workbench.specs.Settled.{IsVerdict, IsSure, HasWide}
+use Rattle.workbench.specs.Ended.{IsVerdict, IsSure, HasWide}
 use Rattle.workbench.specs.InputFaults.{Fault, fault_text, whole_limits}
 use Rattle.trace_stream.specs.Cases.{IsFault}
 use Rattle.session_mux.specs.Taking.{fault_of}
-use Rattle.workbench.specs.Reading.{IsReadWhole, IsStop}
+use Rattle.workbench.specs.FromSource.{IsReadWhole, IsStop}
 use Rattle.workbench.specs.Sessions.{input_fault_text}
 use Rattle.workbench.specs.Writing.{IsPartWritten}
 pub use Rattle.trace_stream.specs.Streams.{status_of_truth}
@@ -37,7 +37,7 @@ command_of Json = json
 command_of Table = table
 
 -- the command of a way to answer
-abbrev pub judge_of : Mode → Judge
+abbrev pub judge_of : Mode → Verb
 judge_of (Whole c) = word_of (command_of c)
 judge_of Watch = word.watch
 judge_of Early = word.early

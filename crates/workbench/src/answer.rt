@@ -5,7 +5,7 @@ ghost use Rattle.stl_syntax.specs.SupInf.{truths};
 ghost use Rattle.atom_lines.specs.Binding.{IsBound};
 ghost use Rattle.trace_stream.specs.Cases.{IsCase};
 ghost use Rattle.workbench.specs.Answers.{IsJudged};
-ghost use Rattle.workbench.specs.Judging.{IsRootOf, IsSignalText};
+ghost use Rattle.workbench.specs.Answering.{IsRootOf, IsSignalText};
 
 use crate::signals::root_of;
 use frac128::Memory;

@@ -9,7 +9,7 @@ ghost use Rattle.session_mux.specs.SessionsAlone.{lines_of};
 ghost use Rattle.session_mux.specs.Telling.{texts};
 ghost use Rattle.workbench.specs.Requests.{sessions};
 ghost use Rattle.workbench.specs.Sessions.{Tagged, AreTagged, tags_after, own, Alone};
-ghost use Rattle.workbench.specs.Settled.{IsAnswered};
+ghost use Rattle.workbench.specs.Ended.{IsAnswered};
 
 /// Of what `mux` wrote in the end, the lines that begin with a tag and a space, answers to queries left out, are the text that the bytes
 /// of the tag's own lines get alone: the stream of their rows, and the line of their first fault.

@@ -7,7 +7,7 @@ ghost use Rattle.workbench.specs.Promises.{IsAnsweredWhereDue, IsAnsweredRightly
 ghost use Rattle.stl_syntax.specs.Formula.{Formula};
 ghost use Rattle.report.specs.Report.{Command, robust, explain, json, table};
 ghost use Rattle.workbench.specs.Requests.{Request, Asks, AreHeld, AreNone, whole, has_input};
-ghost use Rattle.workbench.specs.Settled.{HasFault, IsAnsweredWhole};
+ghost use Rattle.workbench.specs.Ended.{HasFault, IsAnsweredWhole};
 ghost use Rattle.workbench.specs.Accounts.{IsAccount};
 ghost use Rattle.workbench.specs.Measured.{IsMeasured};
 ghost use Rattle.workbench.specs.Words.{AskCheck};

@@ -6,7 +6,7 @@ ghost use Rattle.stl_syntax.specs.Trace.{Header, Row, Trace, IsTrace};
 ghost use Rattle.stl_syntax.specs.Stream.{IsStreamText};
 ghost use Rattle.online_nodes.specs.MarginStream.{IsMarginStream};
 ghost use Rattle.workbench.specs.Requests.{margins, verdicts};
-ghost use Rattle.workbench.specs.Settled.{IsAnsweredByRow};
+ghost use Rattle.workbench.specs.Ended.{IsAnsweredByRow};
 ghost use Rattle.workbench.specs.SureDecisions.{EndsWithStart, IsSureDecision};
 ghost use Rattle.workbench.specs.SureLines.{AreSureByRow, AreSureToEnd, IsWatchText};
 ghost use Rattle.workbench.specs.SureMargins.{AreSureMarginsByRow, AreSureMarginsToEnd, IsMarginText};

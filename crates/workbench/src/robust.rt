@@ -6,7 +6,7 @@ ghost use Rattle.stl_syntax.specs.Formula.{Formula as Parsed};
 ghost use Rattle.stl_syntax.specs.SupInf.{margins};
 ghost use Rattle.report.specs.Report.{robust};
 ghost use Rattle.trace_stream.specs.Cases.{IsCase};
-ghost use Rattle.workbench.specs.Judging.{denominator_of, stop_of_fault, IsRootOf};
+ghost use Rattle.workbench.specs.Answering.{denominator_of, stop_of_fault, IsRootOf};
 ghost use Rattle.workbench.specs.Wholes.{IsAnswerOf, IsUnanswered};
 
 use crate::answer::Answer;

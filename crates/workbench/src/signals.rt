@@ -7,7 +7,7 @@ ghost use Rattle.stl_syntax.specs.declared.node.Node.TheVariants.{Atom as Leaf};
 ghost use Rattle.atom_lines.specs.AtomSignals.{IsAtomSignal};
 ghost use Rattle.atom_lines.specs.Binding.{IsBound};
 ghost use Rattle.offline_eval.specs.Inputs.{is_atom};
-ghost use Rattle.workbench.specs.Judging.{IsFaultIn, IsRootOf, IsStackOf};
+ghost use Rattle.workbench.specs.Answering.{IsFaultIn, IsRootOf, IsStackOf};
 
 use atom_lines::{AtomShape, atom_signal};
 use frac128::Memory;

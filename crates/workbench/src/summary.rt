@@ -8,7 +8,7 @@ ghost use Rattle.workbench.specs.Generator.{IsSummary};
 
 use crate::answer::truth_of;
 use crate::fault::Stop;
-use crate::reading::read_trace;
+use crate::from_source::read_trace;
 use crate::top::LIMITS;
 use frac128::Memory;
 use io_edge::CleanSource;

@@ -6,7 +6,7 @@ ghost use Rattle.rational.specs.Line.{AreOpposite};
 ghost use Rattle.frac128.specs.Lowest.{HasDenominator};
 
 use super::Ramp;
-use super::gap::Gap;
+use super::difference::Difference;
 use crate::arith::determinant;
 use crate::frac::{Frac, WideFrac};
 use crate::ratio::Ratio;
@@ -25,7 +25,7 @@ impl Ramp {
             (λ q. ¬ (AreParallel (line self.now) (line other.now)) × MeetAt (line self.now) (line other.now) (fraction q.num q.den)) }
         ensures small { IfSome result (λ q. (unsigned_abs q.num ≤ 2 ^ 99) × (unsigned_abs q.den ≤ 2 ^ 64)) }
     {
-        Gap::of(self, other).root()
+        Difference::of(self, other).root()
     }
 
     /// The one time at which the value is `c`. None exactly where the ramp is level.
@@ -58,7 +58,7 @@ impl Ramp {
             (λ f. CrossAt (line self.now) (line other.now) (value from.now) (value to.now) (value f)))
             (λ e. (t : Rational) × CrossAt (line self.now) (line other.now) (value from.now) (value to.now) t × HasDenominator t e.den × (2 ^ 60 ≤ e.den)) }
     {
-        let gap = Gap::of(self, other);
+        let gap = Difference::of(self, other);
         if !are_opposite(gap.sign_at(from), gap.sign_at(to)) {
             return Ok(None);
         }

@@ -2,7 +2,7 @@ use Rattle.std.proofs.Common.{rules, ◌≡◌, ◌+◌, ◌-◌, suc, sym, subs
 use Rattle.std.specs.Int.{w64}
 use Rattle.std.proofs.lemmas.Int.{to_z-of_z}
 use Rattle.atom_lines.specs.Growing.{IsReachAt, HasGrown}
-use Rattle.atom_lines.specs.Told.{reading_of}
+use Rattle.atom_lines.specs.How.{reading_of}
 use Rattle.atom_lines.specs.AtomSignals.{IsAtomSignal}
 use Rattle.atom_lines.proofs.GrowingLemmas.{whole_signal}
 use Rattle.atom_lines.proofs.signal.signal_of.Goals as goal

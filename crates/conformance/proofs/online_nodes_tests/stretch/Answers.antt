@@ -1,8 +1,9 @@
 use Rattle.std.proofs.Common.{sym, subst}
-use Rattle.online_nodes.specs.Cuts.{place, AtMost}
+use Rattle.rational.specs.Places.{AtMost}
+use Rattle.frac128.specs.Cuts.{place}
 use Rattle.online_nodes.specs.Written.{IsSound}
 use Rattle.online_nodes.specs.declared.writer.Out.{Out}
-use Rattle.online_nodes.proofs.PlaceLemmas.{upto_of_before}
+use Rattle.rational.proofs.PlaceLemmas.{upto_of_before}
 use Rattle.online_nodes.proofs.Writing.{same_itself}
 use Rattle.conformance.proofs.online_nodes_tests.stretch.Goals as goal
 

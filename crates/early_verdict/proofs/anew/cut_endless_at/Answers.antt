@@ -15,5 +15,5 @@ cut_endless-requires-clause-inside c =
 pub returns : goal.returns
 returns c =
     let f = c.split_at_mut-from in
-    endless_cut_at c.args.live.now f.result.0.now f.result.1.now c.args.i c.index-from-0.result c.cut_endless.new.own c.args.low c.args.spans.now.items
-    f.ensures.front f.ensures.back c.requires.within c.cut_endless.ensures
+    endless_cut_at c.index-from-0.result c.cut_endless.new.own c.args.low c.args.spans.now.items
+    (record { front_is = f.ensures.front; back_is = f.ensures.back; within = c.requires.within }) c.cut_endless.ensures

@@ -3,7 +3,8 @@ use Rattle.std.specs.Prelude.{IfSome, MatchOption}
 use Rattle.rational.proofs.Order.{le_of_lt, le_trans}
 use Rattle.rational.proofs.TimeLemmas.{later_le}
 use Rattle.frac128.specs.Value.{value}
-use Rattle.early_verdict.specs.Cuts.{After, Before, is_after, place}
+use Rattle.rational.specs.Places.{After, Before}
+use Rattle.frac128.specs.Cuts.{is_after, place}
 use Rattle.early_verdict.specs.Spans.{IsOn, Lies}
 use Rattle.early_verdict.specs.declared.stretch.Stretch.{Stretch}
 use Rattle.early_verdict.proofs.AnewLemmas.{after_earlier, time_before}

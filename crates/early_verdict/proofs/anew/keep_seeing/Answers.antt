@@ -3,12 +3,13 @@ use Rattle.std.specs.Prelude.{◌^◌, unsigned_abs}
 use Rattle.std.specs.Int.{w64}
 use Rattle.rational.specs.Rational.{FitsFloor, add, whole}
 use Rattle.frac128.specs.Value.{value}
-use Rattle.early_verdict.specs.Cuts.{Same, place, moved_begin}
+use Rattle.rational.specs.Places.{Same, moved_begin}
+use Rattle.frac128.specs.Cuts.{place}
 use Rattle.early_verdict.specs.Spans.{AreTidy, IsOn, Lies}
 use Rattle.early_verdict.specs.declared.stretch.Stretch.{Stretch}
 use Rattle.early_verdict.proofs.AnewLemmas.{after_moved, after_shared, first_begins, sees_one}
 use Rattle.early_verdict.proofs.HoldingLemmas.{among_at}
-use Rattle.early_verdict.proofs.PlaceLemmas.{after_same, same_places}
+use Rattle.rational.proofs.PlaceLemmas.{after_same, same_places}
 use Rattle.early_verdict.proofs.WindowLemmas.{near_fits, move_fits}
 use Rattle.early_verdict.proofs.anew.keep_seeing.Goals as goal
 

@@ -1,5 +1,5 @@
 use Rattle.std.proofs.Common.{refl}
-use Rattle.early_verdict.specs.Cuts.{place}
+use Rattle.frac128.specs.Cuts.{place}
 use Rattle.early_verdict.proofs.AnewLemmas.{at_last, on_right}
 use Rattle.early_verdict.proofs.anew.last_time.Goals as goal
 

@@ -1,6 +1,6 @@
 use Rattle.std.proofs.Common.{refl, sym, subst}
 use Rattle.early_verdict.specs.Adding.{HasAdded, Piece}
-use Rattle.early_verdict.specs.Cuts.{place}
+use Rattle.frac128.specs.Cuts.{place}
 use Rattle.early_verdict.specs.declared.sets.Sets.{Sets}
 use Rattle.early_verdict.proofs.AtomSets.{true_added, false_added}
 use Rattle.early_verdict.proofs.atoms.add_truth.Goals as goal

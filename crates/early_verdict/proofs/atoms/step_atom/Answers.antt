@@ -3,8 +3,9 @@ use Rattle.rational.specs.Time.{whole}
 use Rattle.rational.proofs.Order.{same_refl}
 use Rattle.stl_syntax.specs.Trace.{row_time}
 use Rattle.early_verdict.specs.Adding.{AfterRow, Piece, before_row}
-use Rattle.early_verdict.specs.Cuts.{place, Same}
-use Rattle.early_verdict.specs.declared.cut.Cut.{Cut}
+use Rattle.rational.specs.Places.{Same}
+use Rattle.frac128.specs.Cuts.{place}
+use Rattle.frac128.specs.declared.cut.Cut.{Cut}
 use Rattle.early_verdict.proofs.AtomSets.{atom_fits, atom_stepped, grown_of, grown_then, near_of}
 use Rattle.early_verdict.proofs.TurningLemmas.{adds_row}
 use Rattle.early_verdict.proofs.atoms.step_atom.Goals as goal

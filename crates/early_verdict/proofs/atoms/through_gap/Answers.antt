@@ -1,9 +1,10 @@
 use Rattle.std.proofs.Common.{◌≡◌, ℕ, true, sym, subst, pos, ◌∙◌}
 use Rattle.rational.specs.Time.{whole}
 use Rattle.frac128.specs.Value.{value}
-use Rattle.early_verdict.specs.Cuts.{place, Same}
+use Rattle.rational.specs.Places.{Same}
+use Rattle.frac128.specs.Cuts.{place}
 use Rattle.early_verdict.specs.declared.atoms.Pending.{Pending}
-use Rattle.early_verdict.specs.declared.cut.Cut.{Cut}
+use Rattle.frac128.specs.declared.cut.Cut.{Cut}
 use Rattle.early_verdict.proofs.AtomSets.{grown_none, grown_then}
 use Rattle.early_verdict.proofs.TurningLemmas.{adds_split, adds_whole, after_time, before_time, if_good, on_if, turned_grown}
 use Rattle.early_verdict.proofs.atoms.through_gap.Goals as goal

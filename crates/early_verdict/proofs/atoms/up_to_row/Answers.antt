@@ -2,9 +2,10 @@ use Rattle.std.proofs.Common.{◌≡◌, ℕ, false, sym, subst, pos}
 use Rattle.std.specs.Prelude.{IfSome}
 use Rattle.rational.specs.Time.{whole}
 use Rattle.atom_lines.specs.Binding.{AreNeighbours}
-use Rattle.early_verdict.specs.Cuts.{place, Same}
+use Rattle.rational.specs.Places.{Same}
+use Rattle.frac128.specs.Cuts.{place}
 use Rattle.early_verdict.specs.Adding.{AddsOnce, AfterRow, BetweenRows, before_row}
-use Rattle.early_verdict.specs.declared.cut.Cut.{Cut}
+use Rattle.frac128.specs.declared.cut.Cut.{Cut}
 use Rattle.early_verdict.proofs.AtomSets.{grown_none, grown_then}
 use Rattle.early_verdict.proofs.TurningLemmas.{adds_at_row, adds_first, if_good, on_if, turned_grown}
 use Rattle.early_verdict.proofs.atoms.up_to_row.Goals as goal

@@ -1,4 +1,4 @@
-use Rattle.early_verdict.specs.Cuts.{place}
+use Rattle.frac128.specs.Cuts.{place}
 use Rattle.early_verdict.proofs.EndingLemmas.{all_end, none_end}
 use Rattle.early_verdict.proofs.ending.end_for.Goals as goal
 

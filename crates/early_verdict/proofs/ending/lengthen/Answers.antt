@@ -1,6 +1,6 @@
 use Rattle.std.proofs.Common.{refl}
-use Rattle.early_verdict.specs.Cuts.{place}
-use Rattle.early_verdict.proofs.PlaceLemmas.{before_trans}
+use Rattle.frac128.specs.Cuts.{place}
+use Rattle.rational.proofs.PlaceLemmas.{before_trans}
 use Rattle.early_verdict.proofs.StretchLemmas.{rises, room_of_before}
 use Rattle.early_verdict.proofs.EndingLemmas.{grows_lengthened, grows_none, tidy_lengthened}
 use Rattle.early_verdict.proofs.ending.lengthen.Goals as goal
@@ -36,8 +36,13 @@ returns-clause-tidy c =
 pub returns-clause-ok : goal.returns-clause-ok
 returns-clause-ok c =
     let front = c.requires.last.0 in
-    let last = c.args.last.now in
-    let part = c.args.part.now in
-    grows_lengthened part last _ _ front c.args.spans.now.items c.set_last.new.spans.items c.args.fresh.now.items c.push.new.self.items c.requires.last.1
-    (c.set_last.ensures front last c.requires.last.1) c.in-Ok.ensures.items refl refl refl refl c.requires.tidy c.requires.begins c.requires.reaches
-    (c.precedes.ensures.0 c.if-not-precedes.false)
+    grows_lengthened front c.requires.last.1 (c.set_last.ensures front c.args.last.now c.requires.last.1) c.in-Ok.ensures.items c.requires.tidy
+    (record {
+      from = refl;
+      to = refl;
+      gap_from = refl;
+      gap_to = refl;
+      begins = c.requires.begins;
+      reaches = c.requires.reaches;
+      ends = c.precedes.ensures.0 c.if-not-precedes.false;
+    })

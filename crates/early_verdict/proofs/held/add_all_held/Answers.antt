@@ -1,7 +1,7 @@
 use Rattle.std.proofs.Common.{◌∙◌, refl, subst, take, length}
 use Rattle.std.proofs.lemmas.List.{take_all}
 use Rattle.std.proofs.lemmas.Option.{slice_get_read}
-use Rattle.early_verdict.specs.Cuts.{place}
+use Rattle.frac128.specs.Cuts.{place}
 use Rattle.early_verdict.specs.Spans.{Grows}
 use Rattle.early_verdict.specs.Steps.{BySome, HeldAt}
 use Rattle.early_verdict.proofs.GrowingLemmas.{grows_not}
@@ -12,7 +12,7 @@ pub loop-part-init : goal.loop-part-init
 loop-part-init c = record {
   tidy = c.requires.own;
   bounds = refl;
-  grows = grows_not c.args.own.now.bounds c.args.own.now.spans.items c.args.own.now.fresh.items
+  grows = grows_not
       (BySome (HeldAt c.args.w.now (place c.args.start.now) c.args.spans.now.items) (take 0 c.args.parts.now)) (λ t b h. h);
 }
 
@@ -25,8 +25,7 @@ loop-part-preserved c =
       tidy = c.in_ok-add_held_by.ensures.tidy;
       bounds = c.add_held_by.ensures.bounds ∙ c.loop-part.invariant.bounds;
       grows = grows_on (HeldAt c.args.w.now (place c.args.start.now) c.args.spans.now.items) c.args.parts.now
-          c.loop-part.part-index c.part-item.result own.bounds here.bounds own.spans.items here.spans.items
-          new.spans.items own.fresh.items here.fresh.items new.fresh.items c.loop-part.invariant.bounds
+          c.loop-part.part-index c.loop-part.invariant.bounds
           (slice_get_read c.args.parts.now (length c.args.parts.now) c.loop-part.part-index c.part-item.result refl c.loop-part-test.true c.part-item.is)
           c.loop-part.invariant.grows c.in_ok-add_held_by.ensures.ok;
     }

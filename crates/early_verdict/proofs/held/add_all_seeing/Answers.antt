@@ -12,7 +12,7 @@ pub loop-part-init : goal.loop-part-init
 loop-part-init c = record {
   tidy = c.requires;
   bounds = refl;
-  grows = grows_not c.args.own.now.bounds c.args.own.now.spans.items c.args.own.now.fresh.items
+  grows = grows_not
       (BySome (SeesPart c.args.w.now) (take 0 c.args.parts.now)) (λ t b h. h);
 }
 
@@ -24,9 +24,7 @@ loop-part-preserved c =
     record {
       tidy = c.in_ok-add_seeing.ensures.tidy;
       bounds = c.add_seeing.ensures.bounds ∙ c.loop-part.invariant.bounds;
-      grows = grows_on (SeesPart c.args.w.now) c.args.parts.now c.loop-part.part-index c.part-item.result own.bounds here.bounds
-          own.spans.items here.spans.items
-          new.spans.items own.fresh.items here.fresh.items new.fresh.items c.loop-part.invariant.bounds
+      grows = grows_on (SeesPart c.args.w.now) c.args.parts.now c.loop-part.part-index c.loop-part.invariant.bounds
           (slice_get_read c.args.parts.now (length c.args.parts.now) c.loop-part.part-index c.part-item.result refl c.loop-part-test.true c.part-item.is)
           c.loop-part.invariant.grows c.in_ok-add_seeing.ensures.ok;
     }

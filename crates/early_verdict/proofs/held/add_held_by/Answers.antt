@@ -1,5 +1,5 @@
 use Rattle.std.proofs.Common.{subst}
-use Rattle.early_verdict.specs.Cuts.{place}
+use Rattle.frac128.specs.Cuts.{place}
 use Rattle.early_verdict.specs.Spans.{Grows}
 use Rattle.early_verdict.specs.Windows.{IsHeld}
 use Rattle.early_verdict.specs.Steps.{HeldAt}
@@ -11,7 +11,7 @@ use Rattle.early_verdict.proofs.held.add_held_by.Goals as goal
 
 pub returns-in-None-clause-ok : goal.returns-in-None-clause-ok
 returns-in-None-clause-ok c =
-    grows_not c.args.own.now.bounds c.args.own.now.spans.items c.args.own.now.fresh.items
+    grows_not
     (HeldAt c.args.w.now (place c.args.start.now) c.args.spans.now.items c.args.part.now)
     (λ t b h. c.in-None.ensures.none h.0 h.1 h.2)
 
@@ -28,7 +28,7 @@ returns-in-Some-clause-ok c =
     on_ok c.add_held.result
     (Grows own.bounds own.spans.items new.spans.items own.fresh.items new.fresh.items (IsHeld w start span))
     (Grows own.bounds own.spans.items new.spans.items own.fresh.items new.fresh.items (HeldAt w start spans part))
-    (grows_alike own.bounds own.spans.items new.spans.items own.fresh.items new.fresh.items (IsHeld w start span) (HeldAt w start spans part)
+    (grows_alike
     (λ t b h. (span, found.0, found.1, h))
     (λ t b h. subst (λ s. IsHeld w start s t) (one_holds (place part.from) spans span h.0 c.requires.spans found.0 h.1 found.1 h.2) h.3))
     c.add_held.ensures.ok

@@ -2,10 +2,11 @@ use Rattle.std.proofs.Common.{inl, inr, sym, subst, ◌≤◌, ◌^◌}
 use Rattle.std.specs.Prelude.{◌↔◌, unsigned_abs, MatchOption}
 use Rattle.rational.specs.Time.{Rational}
 use Rattle.early_verdict.specs.Bounds.{reach_of}
-use Rattle.early_verdict.specs.Cuts.{place, After, Upto, Before}
+use Rattle.rational.specs.Places.{After, Upto, Before}
+use Rattle.frac128.specs.Cuts.{place}
 use Rattle.early_verdict.specs.Windows.{low_place}
 use Rattle.early_verdict.specs.Lasting.{BeginsFrom}
-use Rattle.early_verdict.proofs.PlaceLemmas.{sides, not_both}
+use Rattle.rational.proofs.PlaceLemmas.{sides, not_both}
 use Rattle.early_verdict.proofs.GrowingLemmas.{grows_not}
 use Rattle.early_verdict.proofs.LoopLemmas.{grows_alike}
 use Rattle.early_verdict.proofs.WindowLemmas.{on_good, near_fits}
@@ -17,8 +18,7 @@ returns-then-not-precedes-clause-ok c =
     let new = c.add.new.self in
     let bounds = c.bounds-bounds.result in
     on_good c.add.result c.add.ensures.ok
-    (grows_alike own.bounds own.spans.items new.spans.items own.fresh.items new.fresh.items (λ t. After (place bounds.from) t × Upto (place bounds.to) t)
-    (BeginsFrom c.args.w.now (place c.args.start.now) (place c.args.from.now))
+    (grows_alike
     (λ t b h. inl (λ x. let e = c.precedes.ensures.1 x in let f = c.if-not-precedes.true in cc))
     (λ t b h. subst (λ x. After (place x.from) t × Upto (place x.to) t) (sym c.bounds-bounds.ensures) b))
 
@@ -34,8 +34,7 @@ returns-in-Some-clause-ok c =
     let new = c.add-in-Some.new.self in
     let bounds = c.bounds-bounds.result in
     on_good c.add-in-Some.result c.add-in-Some.ensures.ok
-    (grows_alike own.bounds own.spans.items new.spans.items own.fresh.items new.fresh.items
-    (λ t. After (place c.before_low.result) t × Upto (place bounds.to) t) (BeginsFrom w (place c.args.start.now) from)
+    (grows_alike
     (λ t b h. inr (subst (λ l. MatchOption l ⊥ (λ k. ¬ (Before (low_place k w.low_in t) from))) (sym c.in-Some.is)
     (λ x. not_both (place c.before_low.result) t ((low t).1 x) h.0)))
     (λ t b h. (
@@ -54,7 +53,7 @@ returns-in-None-clause-ok c =
     let w = c.args.w.now in
     let own = c.args.own.now in
     let from = place c.args.from.now in
-    grows_not own.bounds own.spans.items own.fresh.items (BeginsFrom w (place c.args.start.now) from)
+    grows_not (BeginsFrom w (place c.args.start.now) from)
     (λ t b h. elim h [
       | inl n ↦ n (c.precedes.ensures.0 c.if-not-precedes.false)
       | inr m ↦ subst (λ l. MatchOption l ⊥ (λ k. ¬ (Before (low_place k w.low_in t) from))) c.in-None.is m

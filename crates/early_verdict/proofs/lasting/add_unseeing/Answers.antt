@@ -1,8 +1,8 @@
 use Rattle.std.proofs.Common.{inl, inr, sym, subst}
-use Rattle.early_verdict.specs.Cuts.{place, After, Upto}
+use Rattle.rational.specs.Places.{After, Upto}
+use Rattle.frac128.specs.Cuts.{place}
 use Rattle.early_verdict.specs.Windows.{high_place}
-use Rattle.early_verdict.specs.Lasting.{SeesNone}
-use Rattle.early_verdict.proofs.PlaceLemmas.{sides, not_both, before_through}
+use Rattle.rational.proofs.PlaceLemmas.{sides, not_both, before_through}
 use Rattle.early_verdict.proofs.LoopLemmas.{grows_alike}
 use Rattle.early_verdict.proofs.LastingLemmas.{seen_from}
 use Rattle.early_verdict.proofs.WindowLemmas.{on_good}
@@ -14,8 +14,7 @@ returns-then-is_never-clause-ok c =
     let new = c.add.new.self in
     let bounds = c.bounds-bounds.result in
     on_good c.add.result c.add.ensures.ok
-    (grows_alike own.bounds own.spans.items new.spans.items own.fresh.items new.fresh.items (λ t. After (place bounds.from) t × Upto (place bounds.to) t)
-    (SeesNone c.args.w.now (place c.args.start.now)) (λ t b h u a s. c.is_never.ensures.never c.if-is_never.true t u s)
+    (grows_alike (λ t b h u a s. c.is_never.ensures.never c.if-is_never.true t u s)
     (λ t b h. subst (λ x. After (place x.from) t × Upto (place x.to) t) (sym c.bounds-bounds.ensures) b))
 
 pub returns-clause-ok : goal.returns-clause-ok
@@ -27,7 +26,7 @@ returns-clause-ok c =
     let bounds = c.bounds-bounds.result in
     let past = place c.past_high.result in
     on_good c.add-2.result c.add-2.ensures.ok
-    (grows_alike own.bounds own.spans.items new.spans.items own.fresh.items new.fresh.items (λ t. After (place bounds.from) t × Upto past t) (SeesNone w start)
+    (grows_alike
     (λ t b h u a s. not_both past t h.1 ((c.past_high.ensures t).1 (before_through start (high_place w.high w.high_in t) u a s.ends)))
     (λ t b h. (
       subst (λ x. After (place x.from) t) (sym c.bounds-bounds.ensures) b.0,

@@ -1,5 +1,5 @@
-use Rattle.early_verdict.specs.Cuts.{place}
-use Rattle.early_verdict.proofs.PlaceLemmas.{not_both, at_most_of_not_before}
+use Rattle.frac128.specs.Cuts.{place}
+use Rattle.rational.proofs.PlaceLemmas.{not_both, at_most_of_not_before}
 use Rattle.early_verdict.proofs.SpanLemmas.{on_at, reaches_at}
 use Rattle.early_verdict.proofs.RunLemmas.{gap_before}
 use Rattle.early_verdict.proofs.HoldingLemmas.{among_at}

@@ -8,37 +8,34 @@ use Rattle.early_verdict.proofs.letting.ask_children.Goals as goal
 pub returns-in-Not : goal.returns-in-Not
 returns-in-Not c =
     subst (λ n. AreAskedBy n (value c.args.cut.now.time) c.args.shown.now c.ask_from.new.shown) (sym c.in-Not.is)
-    (asked_not c.in-Not.of (value c.args.cut.now.time) c.args.shown.now c.ask_from.new.shown c.ask_from.ensures)
+    (asked_not c.ask_from.ensures)
 
 pub returns-in-And : goal.returns-in-And
 returns-in-And c =
     subst (λ n. AreAskedBy n (value c.args.cut.now.time) c.args.shown.now c.ask_both.new.shown) (sym c.in-And.is)
-    (asked_and c.in-And.left c.in-And.right (value c.args.cut.now.time) c.args.shown.now c.ask_both.ensures.0 c.ask_both.new.shown
-    c.ask_both.ensures.1 c.ask_both.ensures.2)
+    (asked_and c.ask_both.ensures.1 c.ask_both.ensures.2)
 
 pub returns-in-Or : goal.returns-in-Or
 returns-in-Or c =
     subst (λ n. AreAskedBy n (value c.args.cut.now.time) c.args.shown.now c.ask_both-in-Or.new.shown) (sym c.in-Or.is)
-    (asked_or c.in-Or.left c.in-Or.right (value c.args.cut.now.time) c.args.shown.now c.ask_both-in-Or.ensures.0
-    c.ask_both-in-Or.new.shown c.ask_both-in-Or.ensures.1 c.ask_both-in-Or.ensures.2)
+    (asked_or c.ask_both-in-Or.ensures.1 c.ask_both-in-Or.ensures.2)
 
 pub returns-in-Implies : goal.returns-in-Implies
 returns-in-Implies c =
     subst (λ n. AreAskedBy n (value c.args.cut.now.time) c.args.shown.now c.ask_both-in-Implies.new.shown) (sym c.in-Implies.is)
-    (asked_implies c.in-Implies.left c.in-Implies.right (value c.args.cut.now.time) c.args.shown.now c.ask_both-in-Implies.ensures.0
-    c.ask_both-in-Implies.new.shown c.ask_both-in-Implies.ensures.1 c.ask_both-in-Implies.ensures.2)
+    (asked_implies c.ask_both-in-Implies.ensures.1 c.ask_both-in-Implies.ensures.2)
 
 pub returns-in-Eventually : goal.returns-in-Eventually
 returns-in-Eventually c =
     subst (λ n. AreAskedBy n (value c.args.cut.now.time) c.args.shown.now c.ask_ahead.new.shown) (sym c.in-Eventually.is)
-    (asked_eventually c.in-Eventually.of (value c.args.cut.now.time) c.ask_ahead.ensures.0 c.args.shown.now c.ask_ahead.new.shown
-    c.ask_ahead.ensures.2 c.in-Eventually.low c.in-Eventually.high c.in-Eventually.low_in c.in-Eventually.high_in c.ask_ahead.ensures.1)
+    (asked_eventually (value c.args.cut.now.time) c.ask_ahead.ensures.2 c.in-Eventually.low c.in-Eventually.high
+    c.in-Eventually.low_in c.in-Eventually.high_in c.ask_ahead.ensures.1)
 
 pub returns-in-Always : goal.returns-in-Always
 returns-in-Always c =
     subst (λ n. AreAskedBy n (value c.args.cut.now.time) c.args.shown.now c.ask_ahead-in-Always.new.shown) (sym c.in-Always.is)
-    (asked_always c.in-Always.of (value c.args.cut.now.time) c.ask_ahead-in-Always.ensures.0 c.args.shown.now c.ask_ahead-in-Always.new.shown
-    c.ask_ahead-in-Always.ensures.2 c.in-Always.low c.in-Always.high c.in-Always.low_in c.in-Always.high_in c.ask_ahead-in-Always.ensures.1)
+    (asked_always (value c.args.cut.now.time) c.ask_ahead-in-Always.ensures.2 c.in-Always.low c.in-Always.high c.in-Always.low_in
+    c.in-Always.high_in c.ask_ahead-in-Always.ensures.1)
 
 pub returns-in-Once : goal.returns-in-Once
 returns-in-Once c =
@@ -57,9 +54,7 @@ returns-in-Historically c =
 pub returns-in-Until : goal.returns-in-Until
 returns-in-Until c =
     subst (λ n. AreAskedBy n (value c.args.cut.now.time) c.args.shown.now c.ask_both-in-Until.new.shown) (sym c.in-Until.is)
-    (asked_until c.in-Until.left c.in-Until.right (value c.args.cut.now.time) c.args.shown.now c.ask_both-in-Until.ensures.0
-    c.ask_both-in-Until.new.shown c.ask_both-in-Until.ensures.1
-    c.ask_both-in-Until.ensures.2 c.in-Until.low c.in-Until.high)
+    (asked_until c.ask_both-in-Until.ensures.1 c.ask_both-in-Until.ensures.2 c.in-Until.low c.in-Until.high)
 
 pub returns : goal.returns
 returns c = let n : ¬ (IsUntil c.args.node.now) = search rules in none_asked c.args.node.now (value c.args.cut.now.time) c.args.shown.now n

@@ -25,9 +25,8 @@ narrow_both-requires-clause-no c = λ t o.
 pub returns : goal.returns
 returns c =
     let f = c.split_at_mut-from in
-    asked_at c.args.shown.now f.result.0.now f.result.1.now c.args.place c.index-from-0.result c.narrow_both.new.own
-    (value c.args.cut.now.time) c.bounds_from.result
-    f.ensures.front f.ensures.back c.requires.within c.narrow_both.ensures
+    asked_at c.index-from-0.result c.narrow_both.new.own (value c.args.cut.now.time) c.bounds_from.result
+    (record { front_is = f.ensures.front; back_is = f.ensures.back; within = c.requires.within }) c.narrow_both.ensures
     (λ t l. subst (λ b. Lies b t) c.bounds-within.ensures (c.bounds_from.ensures.within t l))
     (λ t l. c.bounds_from.ensures.left t (subst (λ b. Lies b t) (sym c.bounds-within.ensures) l))
     (λ t l. c.bounds_from.ensures.after t (subst (λ b. Lies b t) (sym c.bounds-within.ensures) l))

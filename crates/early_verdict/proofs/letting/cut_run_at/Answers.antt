@@ -16,6 +16,5 @@ cut_run-requires-clause-inside c =
 pub returns : goal.returns
 returns c =
     let f = c.split_at_mut-from in
-    run_cut_at c.args.live.now f.result.0.now f.result.1.now c.args.i c.index-from-0.result c.cut_run.new.own
-    (value c.args.first.now.time) (value c.args.cut.now.time) c.args.wide
-    f.ensures.front f.ensures.back c.requires.within c.cut_run.ensures
+    run_cut_at c.index-from-0.result c.cut_run.new.own (value c.args.first.now.time) (value c.args.cut.now.time) c.args.wide
+    (record { front_is = f.ensures.front; back_is = f.ensures.back; within = c.requires.within }) c.cut_run.ensures

@@ -1,11 +1,11 @@
-use Rattle.std.proofs.Common.{◌≡◌, ◌<◌, ◌∙◌, ap, inl, inr, refl, subst, sym, ℕ, List, Option, Some, None, length, arith}
+use Rattle.std.proofs.Common.{◌≡◌, ◌<◌, ◌∙◌, ap, inl, inr, refl, subst, sym, ℕ, List, Option, Some, length, arith}
 use Rattle.std.specs.Prelude.{slice_get}
 use Rattle.frac128.specs.Value.{value}
 use Rattle.stl_syntax.specs.WellFormed.{AreWellFormed}
 use Rattle.stl_syntax.specs.declared.node.Node.{Node}
 use Rattle.stl_syntax.specs.declared.node.Node.TheVariants.{Since, Until}
 use Rattle.stl_syntax.proofs.PostOrderLemmas.{placed}
-use Rattle.early_verdict.specs.Cuts.{place}
+use Rattle.frac128.specs.Cuts.{place}
 use Rattle.early_verdict.specs.Spans.{AreTidy, Lies}
 use Rattle.early_verdict.specs.declared.sets.Sets.{Sets}
 use Rattle.early_verdict.specs.Fitting.{AreSetsTidy, Lists}
@@ -21,14 +21,14 @@ use Rattle.early_verdict.proofs.Narrowing.{are_apart, asked_stands, children_mor
 use Rattle.early_verdict.proofs.letting.let_go_at.Goals as goal
 
 -- the operands of a since stand before it
-left_there : (nodes : List Node) (i p q a : ℕ) (b : Option ℕ) (n : ℕ) → AreWellFormed nodes → i < length nodes → n ≡ length nodes
+left_there : {nodes : List Node} {p q a : ℕ} {b : Option ℕ} {n : ℕ} (i : ℕ) → AreWellFormed nodes → i < length nodes → n ≡ length nodes
     → slice_get nodes i ≡ Some (Since p q a b) → p < n
-left_there nodes i p q a b n formed h e at =
+left_there {nodes} {p} {q} {a} {b} i formed h e at =
     let below = child_below i p (Since p q a b) (placed nodes i (Since p q a b) formed.post_order at) (inl refl) in omega (arith, below, h, e)
 
-right_there : (nodes : List Node) (i p q a : ℕ) (b : Option ℕ) (n : ℕ) → AreWellFormed nodes → i < length nodes → n ≡ length nodes
+right_there : {nodes : List Node} {p q a : ℕ} {b : Option ℕ} {n : ℕ} (i : ℕ) → AreWellFormed nodes → i < length nodes → n ≡ length nodes
     → slice_get nodes i ≡ Some (Since p q a b) → q < n
-right_there nodes i p q a b n formed h e at =
+right_there {nodes} {p} {q} {a} {b} i formed h e at =
     let below = child_below i q (Since p q a b) (placed nodes i (Since p q a b) formed.post_order at) (inr refl) in omega (arith, below, h, e)
 
 pub settle_at-requires-clause-live : goal.settle_at-requires-clause-live
@@ -41,7 +41,7 @@ pub settle_at-requires-clause-tidy : goal.settle_at-requires-clause-tidy
 settle_at-requires-clause-tidy c = c.requires.stands.1.tidy
 
 pub settle_at-requires-clause-inside : goal.settle_at-requires-clause-inside
-settle_at-requires-clause-inside c = live_inside c.args.formula.now.nodes c.requires.stands.0 c.args.live.now c.args.shown.now c.requires.stands.1
+settle_at-requires-clause-inside c = live_inside c.requires.stands.1
 
 pub ask_children-requires-clause-children : goal.ask_children-requires-clause-children
 ask_children-requires-clause-children c =
@@ -54,10 +54,10 @@ pub ask_children-requires-clause-tidy : goal.ask_children-requires-clause-tidy
 ask_children-requires-clause-tidy c = c.requires.stands.1.shown_tidy
 
 pub ask_children-requires-clause-inside : goal.ask_children-requires-clause-inside
-ask_children-requires-clause-inside c = shown_inside c.args.formula.now.nodes c.requires.stands.0 c.args.live.now c.args.shown.now c.requires.stands.1
+ask_children-requires-clause-inside c = shown_inside c.requires.stands.1
 
 pub ask_children-requires-clause-apart : goal.ask_children-requires-clause-apart
-ask_children-requires-clause-apart c = are_apart c.args.formula.now.nodes c.requires.stands.0 c.args.live.now c.args.shown.now c.requires.stands.1
+ask_children-requires-clause-apart c = are_apart c.requires.stands.1
 
 -- a since that has a bound
 pub ask_both-requires-clause-left : goal.ask_both-requires-clause-left
@@ -86,7 +86,7 @@ pub ask_both-requires-clause-tidy : goal.ask_both-requires-clause-tidy
 ask_both-requires-clause-tidy c = c.requires.stands.1.shown_tidy
 
 pub ask_both-requires-clause-inside : goal.ask_both-requires-clause-inside
-ask_both-requires-clause-inside c = shown_inside c.args.formula.now.nodes c.requires.stands.0 c.args.live.now c.args.shown.now c.requires.stands.1
+ask_both-requires-clause-inside c = shown_inside c.requires.stands.1
 
 pub shown_at-wide-requires : goal.shown_at-wide-requires
 shown_at-wide-requires c =
@@ -98,7 +98,7 @@ shown_at-wide-requires c =
     let a = c.requires.stands.1.have.shown_count in
     let b = c.requires.within in
     let h = c.ask_both.ensures in
-    let d = (two_less back.left back.right (value c.cut_before-first.result.time) c.args.shown.now h.0 c.ask_both.new.shown h.1 h.2).count in
+    let d = (two_less h.1 h.2).count in
     omega (arith, below, a, b, d)
 
 pub cut_run_at-requires-clause-within : goal.cut_run_at-requires-clause-within
@@ -110,19 +110,17 @@ cut_run_at-requires-clause-within c =
 
 pub cut_run_at-requires-clause-tidy : goal.cut_run_at-requires-clause-tidy
 cut_run_at-requires-clause-tidy c =
-    (settled_stands c.args.formula.now.nodes c.requires.stands.0 c.args.live.now c.settle_at.new.live c.args.shown.now c.args.i
+    (settled_stands
     c.settle_at.ensures c.requires.stands.1).tidy
 
 pub cut_run_at-requires-clause-inside : goal.cut_run_at-requires-clause-inside
 cut_run_at-requires-clause-inside c s is =
-    let nodes = c.args.formula.now.nodes in
-    let back = c.in-Some.back in
     let u = c.in-Some.ensures in
     let w = c.shown_at-wide.ensures in
     let h = c.ask_both.ensures in
-    back_inside nodes c.requires.stands.0 c.settle_at.new.live c.args.shown.now h.0 c.ask_both.new.shown c.args.i back.left back.right u.0 (Some back.most)
-    (c.node-node.ensures.node ∙ ap Some u.1) (value c.cut_before-first.result.time) c.shown_at-wide.result w.0 w.1 w.2 h.1 h.2
-    (settled_stands nodes c.requires.stands.0 c.args.live.now c.settle_at.new.live c.args.shown.now c.args.i c.settle_at.ensures c.requires.stands.1) s is
+    back_inside c.args.i
+    (c.node-node.ensures.node ∙ ap Some u.1) w.1 w.2 h.1 h.2
+    (settled_stands c.settle_at.ensures c.requires.stands.1) is
 
 pub returns-in-Some : goal.returns-in-Some
 returns-in-Some c = λ tr st.
@@ -137,13 +135,12 @@ returns-in-Some c = λ tr st.
     let l : c.args.i < length mid = let a = c.settle_at.ensures.count in let b = st.have.count in let d = c.requires.within in omega (arith, a, b, d) in
     let same : c.index-live-at.result ≡ cut.was =
     same_sets c.index-live-at.result cut.was (sym (item_at mid c.args.i c.index-live-at.result l c.index-live-at.is) ∙ cut.at_old) in
-    bounded_stands nodes c.requires.formed tr mid c.cut_run_at.new.live c.args.shown.now h.0 c.ask_both.new.shown c.args.i back.left back.right u.0 back.most at
-    (ordered nodes c.requires.formed c.args.i c.requires.within back.left back.right u.0 back.most at)
-    (value c.cut_before-first.result.time) (value c.bounds-own.result.from.time) c.cut_before-first.ensures c.shown_at-wide.result cut w.0 w.1 w.2
+    bounded_stands c.requires.formed at
+    (ordered nodes c.requires.formed c.args.i c.requires.within back.left back.right u.0 back.most at) c.cut_before-first.ensures cut w.1 w.2
     (λ t o. le_after (place c.bounds-own.result.from) t
     (subst (λ b. Lies b t) (sym c.bounds-own.ensures) (subst (λ (z : Sets). Lies z.no.bounds t) c.index-live-at.is
     (subst (λ (z : Sets). Lies z.no.bounds t) (sym same) o))).0)
-    h.1 h.2 (settled_stands nodes tr c.args.live.now mid c.args.shown.now c.args.i c.settle_at.ensures st)
+    h.1 h.2 (settled_stands c.settle_at.ensures st)
 
 -- a since without a bound
 pub decisive-requires-clause-own : goal.decisive-requires-clause-own
@@ -153,7 +150,7 @@ decisive-requires-clause-own c =
     let l : c.args.i < length mid = let a = c.settle_at.ensures.count in let b = st.1.have.count in let d = c.requires.within in omega (arith, a, b, d) in
     let own = c.index-live-at-in-Some-endless_since in
     subst (λ (z : Sets). AreSetsTidy z) own.is
-    ((settled_stands c.args.formula.now.nodes st.0 c.args.live.now mid c.args.shown.now c.args.i c.settle_at.ensures st.1).tidy c.args.i
+    ((settled_stands c.settle_at.ensures st.1).tidy c.args.i
     own.result (item_at mid c.args.i own.result l own.is))
 
 pub decisive-requires-clause-left : goal.decisive-requires-clause-left
@@ -161,23 +158,21 @@ decisive-requires-clause-left c =
     let anew = c.in-Some-endless_since.anew in
     c.requires.stands.1.shown_tidy anew.left c.index-shown-anew.result
     (item_at c.args.shown.now anew.left c.index-shown-anew.result
-    (left_there c.args.formula.now.nodes c.args.i anew.left anew.right anew.low None (length c.args.shown.now) c.requires.formed c.requires.within
+    (left_there c.args.i c.requires.formed c.requires.within
     c.requires.stands.1.have.shown_count (c.node-node.ensures.node ∙ ap Some c.in-Some-endless_since.ensures)) c.index-shown-anew.is)
 
 pub returns-in_default-decisive : goal.returns-in_default-decisive
 returns-in_default-decisive c = λ tr st.
-    settled_stands c.args.formula.now.nodes tr c.args.live.now c.settle_at.new.live c.args.shown.now c.args.i c.settle_at.ensures st
+    settled_stands c.settle_at.ensures st
 
 pub ask_both-requires-in-Some-endless_since-clause-left : goal.ask_both-requires-in-Some-endless_since-clause-left
 ask_both-requires-in-Some-endless_since-clause-left c =
-    let anew = c.in-Some-endless_since.anew in
-    left_there c.args.formula.now.nodes c.args.i anew.left anew.right anew.low None (length c.args.shown.now) c.requires.formed c.requires.within
+    left_there c.args.i c.requires.formed c.requires.within
     c.requires.stands.1.have.shown_count (c.node-node.ensures.node ∙ ap Some c.in-Some-endless_since.ensures)
 
 pub ask_both-requires-in-Some-endless_since-clause-right : goal.ask_both-requires-in-Some-endless_since-clause-right
 ask_both-requires-in-Some-endless_since-clause-right c =
-    let anew = c.in-Some-endless_since.anew in
-    right_there c.args.formula.now.nodes c.args.i anew.left anew.right anew.low None (length c.args.shown.now) c.requires.formed c.requires.within
+    right_there c.args.i c.requires.formed c.requires.within
     c.requires.stands.1.have.shown_count (c.node-node.ensures.node ∙ ap Some c.in-Some-endless_since.ensures)
 
 pub ask_both-requires-in-Some-endless_since-clause-tidy : goal.ask_both-requires-in-Some-endless_since-clause-tidy
@@ -185,16 +180,14 @@ ask_both-requires-in-Some-endless_since-clause-tidy c = c.requires.stands.1.show
 
 pub ask_both-requires-in-Some-endless_since-clause-inside : goal.ask_both-requires-in-Some-endless_since-clause-inside
 ask_both-requires-in-Some-endless_since-clause-inside c =
-    shown_inside c.args.formula.now.nodes c.requires.stands.0 c.args.live.now c.args.shown.now c.requires.stands.1
+    shown_inside c.requires.stands.1
 
 pub shown_at-wide-requires-in-Some-endless_since : goal.shown_at-wide-requires-in-Some-endless_since
 shown_at-wide-requires-in-Some-endless_since c =
-    let anew = c.in-Some-endless_since.anew in
-    let below = left_there c.args.formula.now.nodes c.args.i anew.left anew.right anew.low None (length c.args.shown.now) c.requires.formed c.requires.within
+    let below = left_there c.args.i c.requires.formed c.requires.within
     c.requires.stands.1.have.shown_count (c.node-node.ensures.node ∙ ap Some c.in-Some-endless_since.ensures) in
     let h = c.ask_both-in-Some-endless_since.ensures in
-    let d = (two_less anew.left anew.right
-    (value c.in-Some-decisive.first.time) c.args.shown.now h.0 c.ask_both-in-Some-endless_since.new.shown h.1 h.2).count in
+    let d = (two_less h.1 h.2).count in
     omega (arith, below, d)
 
 pub cut_run_at-requires-in-Some-endless_since-clause-within : goal.cut_run_at-requires-in-Some-endless_since-clause-within
@@ -206,19 +199,15 @@ cut_run_at-requires-in-Some-endless_since-clause-within c =
 
 pub cut_run_at-requires-in-Some-endless_since-clause-tidy : goal.cut_run_at-requires-in-Some-endless_since-clause-tidy
 cut_run_at-requires-in-Some-endless_since-clause-tidy c =
-    (settled_stands c.args.formula.now.nodes c.requires.stands.0 c.args.live.now c.settle_at.new.live c.args.shown.now c.args.i
+    (settled_stands
     c.settle_at.ensures c.requires.stands.1).tidy
 
 pub cut_run_at-requires-in-Some-endless_since-clause-inside : goal.cut_run_at-requires-in-Some-endless_since-clause-inside
 cut_run_at-requires-in-Some-endless_since-clause-inside c s is =
-    let nodes = c.args.formula.now.nodes in
-    let anew = c.in-Some-endless_since.anew in
     let w = c.shown_at-wide-in-Some-endless_since.ensures in
     let h = c.ask_both-in-Some-endless_since.ensures in
-    back_inside nodes c.requires.stands.0 c.settle_at.new.live c.args.shown.now h.0 c.ask_both-in-Some-endless_since.new.shown c.args.i
-    anew.left anew.right anew.low None (c.node-node.ensures.node ∙ ap Some c.in-Some-endless_since.ensures)
-    (value c.in-Some-decisive.first.time) c.shown_at-wide-in-Some-endless_since.result w.0 w.1 w.2 h.1 h.2
-    (settled_stands nodes c.requires.stands.0 c.args.live.now c.settle_at.new.live c.args.shown.now c.args.i c.settle_at.ensures c.requires.stands.1) s is
+    back_inside c.args.i (c.node-node.ensures.node ∙ ap Some c.in-Some-endless_since.ensures) w.1 w.2 h.1 h.2
+    (settled_stands c.settle_at.ensures c.requires.stands.1) is
 
 pub cut_endless_at-requires-clause-within : goal.cut_endless_at-requires-clause-within
 cut_endless_at-requires-clause-within c =
@@ -230,23 +219,21 @@ cut_endless_at-requires-clause-within c =
 
 pub cut_endless_at-requires-clause-tidy : goal.cut_endless_at-requires-clause-tidy
 cut_endless_at-requires-clause-tidy c =
-    half_tidy c.settle_at.new.live c.cut_run_at-in-Some-endless_since.new.live c.args.i (value c.in-Some-decisive.first.time)
-    (value c.bounds-own.result.from.time) c.shown_at-wide-in-Some-endless_since.result c.cut_run_at-in-Some-endless_since.ensures
-    (settled_stands c.args.formula.now.nodes c.requires.stands.0 c.args.live.now c.settle_at.new.live c.args.shown.now c.args.i
+    half_tidy c.cut_run_at-in-Some-endless_since.ensures
+    (settled_stands
     c.settle_at.ensures c.requires.stands.1).tidy
 
 pub cut_endless_at-requires-clause-inside : goal.cut_endless_at-requires-clause-inside
 cut_endless_at-requires-clause-inside c =
-    half_inside c.settle_at.new.live c.cut_run_at-in-Some-endless_since.new.live c.args.i (value c.in-Some-decisive.first.time)
-    (value c.bounds-own.result.from.time) c.shown_at-wide-in-Some-endless_since.result c.cut_run_at-in-Some-endless_since.ensures
+    half_inside c.cut_run_at-in-Some-endless_since.ensures
 
 pub cut_endless_at-requires-clause-spans : goal.cut_endless_at-requires-clause-spans
 cut_endless_at-requires-clause-spans c =
     let anew = c.in-Some-endless_since.anew in
     let h = c.ask_both-in-Some-endless_since.ensures in
     let new = c.ask_both-in-Some-endless_since.new.shown in
-    let less = two_less anew.left anew.right (value c.in-Some-decisive.first.time) c.args.shown.now h.0 new h.1 h.2 in
-    let below = right_there c.args.formula.now.nodes c.args.i anew.left anew.right anew.low None (length c.args.shown.now) c.requires.formed c.requires.within
+    let less = two_less h.1 h.2 in
+    let below = right_there c.args.i c.requires.formed c.requires.within
     c.requires.stands.1.have.shown_count (c.node-node.ensures.node ∙ ap Some c.in-Some-endless_since.ensures) in
     let l : anew.right < length new = let d = less.count in omega (arith, below, d) in
     let shows = c.index-shown-anew-in-Some-endless_since-2 in
@@ -255,13 +242,11 @@ cut_endless_at-requires-clause-spans c =
 
 pub returns-in-Some-endless_since : goal.returns-in-Some-endless_since
 returns-in-Some-endless_since c = λ tr st.
-    let nodes = c.args.formula.now.nodes in
     let mid = c.settle_at.new.live in
     let old = c.args.shown.now in
     let new = c.ask_both-in-Some-endless_since.new.shown in
     let anew = c.in-Some-endless_since.anew in
     let first = value c.in-Some-decisive.first.time in
-    let from = value c.bounds-own.result.from.time in
     let w = c.shown_at-wide-in-Some-endless_since.ensures in
     let h = c.ask_both-in-Some-endless_since.ensures in
     let cut = c.cut_run_at-in-Some-endless_since.ensures in
@@ -273,26 +258,25 @@ returns-in-Some-endless_since c = λ tr st.
     let same_own : c.index-live-at-in-Some-endless_since.result ≡ cut.was =
     same_sets c.index-live-at-in-Some-endless_since.result cut.was
     (sym (item_at mid c.args.i c.index-live-at-in-Some-endless_since.result l c.index-live-at-in-Some-endless_since.is) ∙ cut.at_old) in
-    let below_left = left_there nodes c.args.i anew.left anew.right anew.low None (length old) c.requires.formed c.requires.within st.have.shown_count at in
-    let below_right = right_there nodes c.args.i anew.left anew.right anew.low None (length old) c.requires.formed c.requires.within st.have.shown_count at in
-    let less = two_less anew.left anew.right first old h.0 new h.1 h.2 in
+    let below_left = left_there c.args.i c.requires.formed c.requires.within st.have.shown_count at in
+    let below_right = right_there c.args.i c.requires.formed c.requires.within st.have.shown_count at in
+    let less = two_less h.1 h.2 in
     let l_new : anew.right < length new = let d = less.count in omega (arith, below_right, d) in
     let lists = lists_are new anew.right c.index-shown-anew-in-Some-endless_since-2.result (item_at new anew.right
     c.index-shown-anew-in-Some-endless_since-2.result l_new c.index-shown-anew-in-Some-endless_since-2.is) in
-    endless_stands nodes c.requires.formed tr mid half c.cut_endless_at.new.live old h.0 new c.args.i anew.left anew.right anew.low at
-    first from c.in-Some-decisive.ensures.0 c.shown_at-wide-in-Some-endless_since.result cut
+    endless_stands c.requires.formed at c.in-Some-decisive.ensures.0 cut
     (subst (λ (z : Lists). IsEndlessCutAt c.args.i anew.low z.yes half c.cut_endless_at.new.live) (sym lists)
     (subst (λ (z : Sets). IsEndlessCutAt c.args.i anew.low z.yes.spans.items half c.cut_endless_at.new.live)
-    (sym c.index-shown-anew-in-Some-endless_since-2.is) c.cut_endless_at.ensures)) w.0 w.1 w.2
+    (sym c.index-shown-anew-in-Some-endless_since-2.is) c.cut_endless_at.ensures)) w.1 w.2
     (λ t o. le_after (place c.bounds-own.result.from) t
     (subst (λ b. Lies b t) (sym c.bounds-own.ensures) (subst (λ (z : Sets). Lies z.no.bounds t) c.index-live-at.is
     (subst (λ (z : Sets). Lies z.no.bounds t) (sym same) o))).0)
-    h.1 h.2 c.index-shown-anew.result c.index-shown-anew-in-Some-endless_since.result
+    h.1 h.2
     (item_at old anew.left c.index-shown-anew.result below_left c.index-shown-anew.is)
     (item_at old anew.right c.index-shown-anew-in-Some-endless_since.result below_right c.index-shown-anew-in-Some-endless_since.is)
     (subst (λ (z : Sets). IsDecisive first z c.index-shown-anew.result c.index-shown-anew-in-Some-endless_since.result)
     (sym c.index-live-at-in-Some-endless_since.is ∙ same_own) c.in-Some-decisive.ensures.1)
-    (settled_stands nodes tr c.args.live.now mid old c.args.i c.settle_at.ensures st)
+    (settled_stands c.settle_at.ensures st)
 
 -- an until
 pub shown_at-wide-requires-in-Some-left_of_until : goal.shown_at-wide-requires-in-Some-left_of_until
@@ -315,23 +299,19 @@ cut_run_at-requires-in-Some-left_of_until-clause-within c =
 
 pub cut_run_at-requires-in-Some-left_of_until-clause-tidy : goal.cut_run_at-requires-in-Some-left_of_until-clause-tidy
 cut_run_at-requires-in-Some-left_of_until-clause-tidy c =
-    (settled_stands c.args.formula.now.nodes c.requires.stands.0 c.args.live.now c.settle_at.new.live c.args.shown.now c.args.i
+    (settled_stands
     c.settle_at.ensures c.requires.stands.1).tidy
 
 pub cut_run_at-requires-in-Some-left_of_until-clause-inside : goal.cut_run_at-requires-in-Some-left_of_until-clause-inside
 cut_run_at-requires-in-Some-left_of_until-clause-inside c s is =
-    let nodes = c.args.formula.now.nodes in
     let u = c.in-Some-left_of_until.ensures.some in
     let w = c.shown_at-wide-in-Some-left_of_until.ensures in
-    parts_inside nodes c.requires.stands.0 c.settle_at.new.live c.args.shown.now c.ask_children.new.shown c.args.i
-    c.in-Some-left_of_until.left u.0 u.1 u.2 (c.node-node.ensures.node ∙ ap Some u.3)
-    (value c.bounds-own.result.from.time) c.shown_at-wide-in-Some-left_of_until.result w.0 w.1 w.2
+    parts_inside c.args.i (c.node-node.ensures.node ∙ ap Some u.3) w.1 w.2
     (subst (λ n. AreAskedBy n (value c.bounds-own.result.from.time) c.args.shown.now c.ask_children.new.shown) u.3 c.ask_children.ensures)
-    (settled_stands nodes c.requires.stands.0 c.args.live.now c.settle_at.new.live c.args.shown.now c.args.i c.settle_at.ensures c.requires.stands.1) s is
+    (settled_stands c.settle_at.ensures c.requires.stands.1) is
 
 pub returns-in-Some-left_of_until : goal.returns-in-Some-left_of_until
 returns-in-Some-left_of_until c = λ tr st.
-    let nodes = c.args.formula.now.nodes in
     let mid = c.settle_at.new.live in
     let u = c.in-Some-left_of_until.ensures.some in
     let w = c.shown_at-wide-in-Some-left_of_until.ensures in
@@ -339,24 +319,22 @@ returns-in-Some-left_of_until c = λ tr st.
     let l : c.args.i < length mid = let a = c.settle_at.ensures.count in let b = st.have.count in let d = c.requires.within in omega (arith, a, b, d) in
     let same : c.index-live-at.result ≡ cut.was =
     same_sets c.index-live-at.result cut.was (sym (item_at mid c.args.i c.index-live-at.result l c.index-live-at.is) ∙ cut.at_old) in
-    until_stands nodes c.requires.formed tr mid c.cut_run_at-in-Some-left_of_until.new.live c.args.shown.now
-    c.ask_children.new.shown c.args.i c.in-Some-left_of_until.left u.0 u.1 u.2
-    (c.node-node.ensures.node ∙ ap Some u.3) (value c.bounds-own.result.from.time) c.shown_at-wide-in-Some-left_of_until.result cut w.0 w.1 w.2
+    until_stands c.requires.formed
+    (c.node-node.ensures.node ∙ ap Some u.3) cut w.1 w.2
     (λ t o. le_after (place c.bounds-own.result.from) t
     (subst (λ b. Lies b t) (sym c.bounds-own.ensures) (subst (λ (z : Sets). Lies z.no.bounds t) c.index-live-at.is
     (subst (λ (z : Sets). Lies z.no.bounds t) (sym same) o))).0)
     (subst (λ n. AreAskedBy n (value c.bounds-own.result.from.time) c.args.shown.now c.ask_children.new.shown) u.3 c.ask_children.ensures)
-    (settled_stands nodes tr c.args.live.now mid c.args.shown.now c.args.i c.settle_at.ensures st)
+    (settled_stands c.settle_at.ensures st)
 
 pub returns-in_default-left_of_until : goal.returns-in_default-left_of_until
 returns-in_default-left_of_until c = λ tr st.
-    let nodes = c.args.formula.now.nodes in
     let mid = c.settle_at.new.live in
     let s = c.index-live-at.result in
     let e = c.settle_at.ensures in
     let l : c.args.i < length mid = let a = e.count in let b = st.have.count in let d = c.requires.within in omega (arith, a, b, d) in
-    asked_stands nodes c.requires.formed tr mid c.args.shown.now c.ask_children.new.shown c.args.i c.node-node.result.now c.node-node.ensures.node s
-    (item_at mid c.args.i s l c.index-live-at.is) (value c.bounds-own.result.from.time)
+    asked_stands c.requires.formed c.args.i c.node-node.ensures.node
+    (item_at mid c.args.i s l c.index-live-at.is)
     (λ t o. le_after (place c.bounds-own.result.from) t
     (subst (λ b. Lies b t) (sym c.bounds-own.ensures) (subst (λ (z : Sets). Lies z.no.bounds t) c.index-live-at.is o)).0) c.ask_children.ensures
-    (settled_stands nodes tr c.args.live.now mid c.args.shown.now c.args.i e st) c.in_default-left_of_until.ensures.none
+    (settled_stands e st) c.in_default-left_of_until.ensures.none

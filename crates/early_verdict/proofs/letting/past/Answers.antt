@@ -1,6 +1,6 @@
-use Rattle.early_verdict.specs.Cuts.{place}
+use Rattle.frac128.specs.Cuts.{place}
 use Rattle.early_verdict.proofs.LettingLemmas.{past_one}
-use Rattle.early_verdict.proofs.PlaceLemmas.{not_both}
+use Rattle.rational.proofs.PlaceLemmas.{not_both}
 use Rattle.early_verdict.proofs.letting.past.Goals as goal
 
 pub returns-in-Some : goal.returns-in-Some

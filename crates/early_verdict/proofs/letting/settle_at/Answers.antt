@@ -16,6 +16,5 @@ settle-requires-clause-inside c =
 pub returns : goal.returns
 returns c =
     let f = c.split_at_mut-from in
-    settled_at c.args.shown.now c.args.live.now f.result.0.now f.result.1.now c.args.i c.index-from-0.result c.settle.new.own
-    c.index-shown-i.result f.ensures.front f.ensures.back
-    c.requires.live (item_at c.args.shown.now c.args.i c.index-shown-i.result c.requires.shown c.index-shown-i.is) c.settle.ensures
+    settled_at c.index-from-0.result c.settle.new.own (record { front_is = f.ensures.front; back_is = f.ensures.back; within = c.requires.live })
+    (item_at c.args.shown.now c.args.i c.index-shown-i.result c.requires.shown c.index-shown-i.is) c.settle.ensures

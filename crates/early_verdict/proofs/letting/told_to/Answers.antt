@@ -1,7 +1,7 @@
 use Rattle.std.proofs.Common.{inl, inr}
-use Rattle.early_verdict.specs.Cuts.{place}
+use Rattle.frac128.specs.Cuts.{place}
 use Rattle.early_verdict.proofs.LettingLemmas.{past_one}
-use Rattle.early_verdict.proofs.PlaceLemmas.{sides}
+use Rattle.rational.proofs.PlaceLemmas.{sides}
 use Rattle.early_verdict.proofs.letting.told_to.Goals as goal
 
 pub runs-init : goal.runs-init

@@ -1,6 +1,6 @@
 use Rattle.std.proofs.Common.{false}
 use Rattle.stl_syntax.specs.Trace.{start}
-use Rattle.early_verdict.specs.Cuts.{place}
+use Rattle.frac128.specs.Cuts.{place}
 use Rattle.early_verdict.specs.Spans.{IsOn}
 use Rattle.early_verdict.specs.Readings.{SomeAhead, OnlyAhead}
 use Rattle.early_verdict.proofs.Telling.{says_of}
@@ -9,7 +9,7 @@ use Rattle.early_verdict.proofs.looks.step_always.Goals as goal
 
 pub returns-clause-fits : goal.returns-clause-fits
 returns-clause-fits c = λ old tr p a b a_in b_in is h had w.
-    let e = c.args.event.now in
+    let e = c.args.entry.now in
     let s = c.args.own.now in
     let x = c.args.p.now in
     let some = told_no old s (λ o. OnlyAhead false o a b a_in b_in (IsOn p.yes)) (λ o. SomeAhead o a b a_in b_in (IsOn p.no)) w in

@@ -1,5 +1,5 @@
 use Rattle.stl_syntax.specs.Trace.{start}
-use Rattle.early_verdict.specs.Cuts.{place}
+use Rattle.frac128.specs.Cuts.{place}
 use Rattle.early_verdict.specs.Spans.{IsOn}
 use Rattle.early_verdict.specs.Readings.{SomeBehind, OnlyBehind}
 use Rattle.early_verdict.proofs.Telling.{says_of}
@@ -8,7 +8,7 @@ use Rattle.early_verdict.proofs.looks.step_once.Goals as goal
 
 pub returns-clause-fits : goal.returns-clause-fits
 returns-clause-fits c = λ old tr p a b a_in b_in is h had w.
-    let e = c.args.event.now in
+    let e = c.args.entry.now in
     let s = c.args.own.now in
     let x = c.args.p.now in
     let some = told_yes old s (λ o. SomeBehind o a b a_in b_in (IsOn p.yes)) (λ o. OnlyBehind o a b a_in b_in (IsOn p.no)) w in

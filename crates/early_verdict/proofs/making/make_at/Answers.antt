@@ -5,7 +5,8 @@ use Rattle.std.proofs.lemmas.Int.{to_z-of_z, fits_signed_from_abs}
 use mir.Val.{hbits}
 use Rattle.rational.specs.Rational.{whole}
 use Rattle.stl_syntax.specs.Formula.{HasChildrenBelow}
-use Rattle.early_verdict.specs.Cuts.{place, Same}
+use Rattle.rational.specs.Places.{Same}
+use Rattle.frac128.specs.Cuts.{place}
 use Rattle.early_verdict.specs.Standing.{left_of}
 use Rattle.early_verdict.specs.Making.{HasPartsFor}
 use Rattle.early_verdict.specs.declared.sets.Sets.{Sets}

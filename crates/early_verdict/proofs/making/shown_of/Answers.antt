@@ -2,9 +2,8 @@ use Rattle.std.proofs.Common.{◌≡◌, ◌∙◌, ◌+◌, ◌++◌, ◌∷◌
 use Rattle.std.proofs.lemmas.List.{length-append}
 use Rattle.std.proofs.lemmas.Option.{slice_get_read}
 use Rattle.std.specs.Prelude.{slice_get}
-use Rattle.early_verdict.specs.Fitting.{AreEmpty}
 use Rattle.early_verdict.specs.declared.sets.Sets.{Sets}
-use Rattle.early_verdict.proofs.MadeLemmas.{shown_more}
+use Rattle.early_verdict.proofs.MadeLemmas.{IsEmptyIn, shown_more}
 use Rattle.early_verdict.proofs.making.shown_of.Goals as goal
 
 nothing_at : (xs : List Sets) (i : ℕ) (x : Sets) → xs ≡ [] → slice_get xs i ≡ Some x → ⊥
@@ -27,9 +26,9 @@ loop-own-preserved c =
     record {
       count = subst (λ xs. length xs ≡ c.loop-own.own-index + 1) (sym pushed) (length-append all (more ∷ []) ∙ ap (λ k. k + 1) c.loop-own.invariant.count);
       has = subst (λ (xs : List Sets). (i : ℕ) (s x : Sets) → slice_get c.args.live.now i ≡ Some s → slice_get xs i ≡ Some x
-          → (x.yes.bounds ≡ s.no.bounds) × (x.no.bounds ≡ s.no.bounds) × AreEmpty x) (sym pushed)
-          (shown_more c.args.live.now all own more c.loop-own.own-index read c.loop-own.invariant.count c.loop-own.invariant.has
-          (c.new.ensures.yes ∙ c.bounds.ensures) (c.new.ensures.no ∙ c.bounds.ensures) c.new.ensures.empty);
+          → IsEmptyIn s x) (sym pushed)
+          (shown_more c.args.live.now all more read c.loop-own.invariant.count c.loop-own.invariant.has
+          (c.new.ensures.yes ∙ c.bounds.ensures, c.new.ensures.no ∙ c.bounds.ensures, c.new.ensures.empty));
     }
 
 pub returns : goal.returns

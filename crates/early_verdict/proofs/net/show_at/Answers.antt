@@ -11,6 +11,5 @@ show-requires c =
 pub returns : goal.returns
 returns c =
     let f = c.split_at_mut-from in
-    shows_at c.args.live.now c.args.shown.now f.result.0.now f.result.1.now c.args.i c.index-from-0.result c.show.new.shown
-    c.index-live-i.result f.ensures.front f.ensures.back
-    c.requires.within (item_at c.args.live.now c.args.i c.index-live-i.result c.requires.live_within c.index-live-i.is) c.in_ok-show.ensures
+    shows_at c.index-from-0.result c.show.new.shown (record { front_is = f.ensures.front; back_is = f.ensures.back; within = c.requires.within })
+    (item_at c.args.live.now c.args.i c.index-live-i.result c.requires.live_within c.index-live-i.is) c.in_ok-show.ensures

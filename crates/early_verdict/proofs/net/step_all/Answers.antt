@@ -37,9 +37,8 @@ loop-i-preserved c =
       tidy = tidy_on i mid new v.tidy at;
       shown_tidy = shown_tidy_on i new mid_shown new_shown v.shown_tidy shows;
       fits = λ old tr h have go were.
-          fits_on nodes c.args.bound.now c.args.event.now c.args.before.now c.args.row.now old tr first mid c.args.shown.now
-          mid_shown h have go were i new new_shown
-          c.node.result.now (λ j m e. placed nodes j m c.len-count.ensures.well_formed.nodes.post_order e) v.stepped v.shows at shows.others c.node.ensures.node
+          fits_on c.args.bound.now c.args.before.now c.args.row.now h have go were v.stepped v.shows at shows
+          (λ j m e. placed nodes j m c.len-count.ensures.well_formed.nodes.post_order e) c.node.ensures.node
           (v.fits old tr h have go were) (λ was. c.in_ok-step_at.ensures.1 old tr was);
     }
 

@@ -15,8 +15,8 @@ invariant-loop-i l = record {
   shows : ShownTo l.i l.live l.initial.shown l.shown;
   tidy : AllTidy l.live;
   shown_tidy : AllTidy l.shown;
-  fits : (old : Option Trace) (tr : Trace) → Happens l.event old tr → AreLive l.formula.nodes (start tr) l.initial.live l.initial.shown
-      → AllGo l.formula.nodes l.bound l.event old tr l.before l.row → AllWere old l.formula.nodes l.initial.live l.initial.shown
+  fits : (old : Option Trace) (tr : Trace) → Happens l.entry old tr → AreLive l.formula.nodes (start tr) l.initial.live l.initial.shown
+      → AllGo l.formula.nodes l.bound l.entry old tr l.before l.row → AllWere old l.formula.nodes l.initial.live l.initial.shown
       → (j : ℕ) (m : Node) (s : Sets) → j < l.i → slice_get l.formula.nodes j ≡ Some m → slice_get l.live j ≡ Some s
-      → Fits m l.event.ended tr (lists_at l.shown) s;
+      → Fits m l.entry.ended tr (lists_at l.shown) s;
 }

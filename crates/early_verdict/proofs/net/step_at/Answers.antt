@@ -33,15 +33,14 @@ step_node-requires-clause-atom c =
 pub returns : goal.returns
 returns c =
     let f = c.split_at_mut-from in
-    let live = c.args.live.now in
     let shown = c.args.shown.now in
     let i = c.args.i in
     let n = c.args.node.now in
     let own : Sets = slice_index_or f.result.1.now 0 c.index-from-0.result in
     let size : length (take i shown) ≡ i = length_front shown i c.requires.shown_within in
     on_two c.step_node.result c.step_node.ensures.stepped c.step_node.ensures.fits (λ step fits. (
-      steps_at live f.result.0.now f.result.1.now i c.index-from-0.result c.step_node.new.own f.ensures.front f.ensures.back c.requires.within step,
+      steps_at c.index-from-0.result c.step_node.new.own (record { front_is = f.ensures.front; back_is = f.ensures.back; within = c.requires.within }) step,
       λ old tr was h had parts leaf w.
           fits old tr was h had parts
-          (subst (λ (k : ℕ). LeafGoes c.args.bound.now k c.args.event.now old tr c.args.before.now c.args.row.now own n) (sym size) leaf) w,
+          (subst (λ (k : ℕ). LeafGoes c.args.bound.now k c.args.entry.now old tr c.args.before.now c.args.row.now own n) (sym size) leaf) w,
     ))

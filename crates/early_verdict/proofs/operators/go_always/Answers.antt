@@ -5,7 +5,7 @@ use Rattle.early_verdict.proofs.operators.go_always.Goals as goal
 pub returns-clause-fits : goal.returns-clause-fits
 returns-clause-fits c = λ old tr was h had parts w.
     let b = c.args.b in
-    one_list (λ l. AlwaysFits c.args.event.now.ended tr b.low b.high b.low_in b.high_in l c.step_always.new.own) c.args.below.now
+    one_list (λ l. AlwaysFits c.args.entry.now.ended tr b.low b.high b.low_in b.high_in l c.step_always.new.own) c.args.below.now
     c.args.of c.at.result.now c.at.ensures.at
     (c.in_ok-step_always.ensures.fits old tr (was c.args.of) b.low b.high b.low_in b.high_in c.ahead-w.ensures h
     (had c.args.of c.at.result.now c.at.ensures.at) w)

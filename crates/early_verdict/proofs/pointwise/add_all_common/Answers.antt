@@ -11,7 +11,7 @@ pub loop-part-init : goal.loop-part-init
 loop-part-init c = record {
   tidy = c.requires.own;
   bounds = refl;
-  grows = grows_not c.args.own.now.bounds c.args.own.now.spans.items c.args.own.now.fresh.items
+  grows = grows_not
       (BySome (Common c.args.spans.now.items) (take 0 c.args.parts.now)) (λ t b h. h);
 }
 
@@ -23,9 +23,7 @@ loop-part-preserved c =
     record {
       tidy = c.in_ok-add_common.ensures.tidy;
       bounds = c.add_common.ensures.bounds ∙ c.loop-part.invariant.bounds;
-      grows = grows_on (Common c.args.spans.now.items) c.args.parts.now c.loop-part.part-index c.part-item.result own.bounds
-          here.bounds own.spans.items here.spans.items
-          new.spans.items own.fresh.items here.fresh.items new.fresh.items c.loop-part.invariant.bounds
+      grows = grows_on (Common c.args.spans.now.items) c.args.parts.now c.loop-part.part-index c.loop-part.invariant.bounds
           (slice_get_read c.args.parts.now (length c.args.parts.now) c.loop-part.part-index c.part-item.result refl c.loop-part-test.true c.part-item.is)
           c.loop-part.invariant.grows c.in_ok-add_common.ensures.ok;
     }

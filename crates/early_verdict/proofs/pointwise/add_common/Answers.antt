@@ -1,6 +1,6 @@
 use Rattle.std.proofs.Common.{◌<◌, ◌∙◌, refl, length, arith}
 use Rattle.std.proofs.lemmas.Option.{slice_get_within}
-use Rattle.early_verdict.specs.Cuts.{place}
+use Rattle.frac128.specs.Cuts.{place}
 use Rattle.early_verdict.proofs.MakingLemmas.{after_from, after_one, upto_one}
 use Rattle.early_verdict.proofs.LoopLemmas.{common_first, common_on, common_last}
 use Rattle.early_verdict.proofs.pointwise.add_common.Goals as goal
@@ -10,7 +10,7 @@ loop-next-init c = record {
   within = c.first_reaching-at.ensures.within;
   tidy = c.requires.own;
   bounds = refl;
-  grows = common_first c.args.own.now.bounds c.args.part.now c.args.spans.now.items c.args.own.now.spans.items c.args.own.now.fresh.items
+  grows = common_first c.args.part.now c.args.spans.now.items
       c.first_reaching-at.result c.first_reaching-at.ensures.front;
 }
 
@@ -26,8 +26,7 @@ loop-next-preserved c =
       within = omega arith;
       tidy = c.in_ok-add.ensures.tidy;
       bounds = c.add.ensures.bounds ∙ c.loop-next.invariant.bounds;
-      grows = common_on own.bounds here.bounds part next c.later.result c.earlier.result c.args.spans.now.items own.spans.items here.spans.items
-          new.spans.items own.fresh.items here.fresh.items new.fresh.items c.loop-next.at c.loop-next.invariant.bounds c.in-Some.ensures.some.0
+      grows = common_on part c.later.result c.earlier.result c.args.spans.now.items c.loop-next.at c.loop-next.invariant.bounds c.in-Some.ensures.some.0
           (λ t h. (
             after_one part.from next.from c.later.result t c.later.ensures.one h.0.0 h.1.0,
             upto_one part.to next.to c.earlier.result t c.earlier.ensures.one h.0.1 h.1.1,
@@ -43,5 +42,5 @@ pub returns-clause-ok : goal.returns-clause-ok
 returns-clause-ok c =
     let own = c.args.own.now in
     let here = c.loop-next.own in
-    common_last own.bounds c.args.part.now c.args.spans.now.items own.spans.items here.spans.items own.fresh.items here.fresh.items c.loop-next.at
+    common_last c.args.part.now c.args.spans.now.items c.loop-next.at
     c.requires.spans c.in_default.ensures.none c.loop-next.invariant.grows

@@ -15,7 +15,7 @@ loop-part-init c =
     record {
       tidy = c.requires.own;
       bounds = refl;
-      grows = grows_not own.bounds own.spans.items own.fresh.items (BySome q (take 0 c.args.parts.now)) (λ t b h. h);
+      grows = grows_not (BySome q (take 0 c.args.parts.now)) (λ t b h. h);
     }
 
 pub loop-part-preserved : goal.loop-part-preserved
@@ -27,8 +27,7 @@ loop-part-preserved c =
     record {
       tidy = c.in_ok-add_reached_at.ensures.tidy;
       bounds = c.add_reached_at.ensures.bounds ∙ c.loop-part.invariant.bounds;
-      grows = grows_on q c.args.parts.now c.loop-part.part-index c.part-item.result own.bounds here.bounds own.spans.items here.spans.items
-          new.spans.items own.fresh.items here.fresh.items new.fresh.items c.loop-part.invariant.bounds
+      grows = grows_on q c.args.parts.now c.loop-part.part-index c.loop-part.invariant.bounds
           (slice_get_read c.args.parts.now (length c.args.parts.now) c.loop-part.part-index c.part-item.result refl c.loop-part-test.true c.part-item.is)
           c.loop-part.invariant.grows c.in_ok-add_reached_at.ensures.ok;
     }

@@ -1,5 +1,5 @@
 use Rattle.std.proofs.Common.{sym, subst, true, false}
-use Rattle.early_verdict.specs.Cuts.{place, After, Upto}
+use Rattle.frac128.specs.Cuts.{place}
 use Rattle.early_verdict.specs.Reaching.{IsCarried}
 use Rattle.early_verdict.proofs.GrowingLemmas.{grows_not}
 use Rattle.early_verdict.proofs.LoopLemmas.{grows_alike}
@@ -10,7 +10,7 @@ use Rattle.early_verdict.proofs.reach.add_carried.Goals as goal
 pub returns-then-not-carried-clause-ok : goal.returns-then-not-carried-clause-ok
 returns-then-not-carried-clause-ok c =
     let own = c.args.own.now in
-    grows_not own.bounds own.spans.items own.fresh.items (IsCarried c.args.carried (place own.bounds.from) c.args.runs.now.items)
+    grows_not (IsCarried c.args.carried (place own.bounds.from) c.args.runs.now.items)
     (λ t b h. let e = h.on in let f = c.if-not-carried.true in cc)
 
 pub returns-in-None-clause-ok : goal.returns-in-None-clause-ok
@@ -18,7 +18,7 @@ returns-in-None-clause-ok c =
     let own = c.args.own.now in
     let runs = c.args.runs.now.items in
     let at = place c.bounds-bounds.result.from in
-    grows_not own.bounds own.spans.items own.fresh.items (IsCarried c.args.carried (place own.bounds.from) runs)
+    grows_not (IsCarried c.args.carried (place own.bounds.from) runs)
     (λ t b h.
     let p = carried_in runs at c.args.carried c.requires.runs t (subst (λ s. IsCarried c.args.carried (place s.from) runs t) (sym c.bounds-bounds.ensures) h) in
     c.in-None.ensures.none p.0 p.1 p.2)
@@ -32,8 +32,7 @@ returns-in-Some-clause-ok c =
     let run = c.in-Some.run' in
     let found = c.in-Some.ensures.some in
     on_good c.add.result c.add.ensures.ok
-    (grows_alike own.bounds own.spans.items new.spans.items own.fresh.items new.fresh.items (λ t. After at t × Upto (place run.to) t)
-    (IsCarried c.args.carried (place own.bounds.from) runs)
+    (grows_alike
     (λ t b h. subst (λ s. IsCarried c.args.carried (place s.from) runs t) c.bounds-bounds.ensures
     (carried_to runs at c.args.carried c.requires.runs run found.0 found.1 c.if-not-carried.false t h.0 h.1))
     (λ t b h.

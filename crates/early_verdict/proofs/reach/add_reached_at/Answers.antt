@@ -1,5 +1,5 @@
 use Rattle.std.proofs.Common.{subst}
-use Rattle.early_verdict.specs.Cuts.{place, After, Upto}
+use Rattle.frac128.specs.Cuts.{place}
 use Rattle.early_verdict.specs.Reaching.{ReachedIn, ReachedAt}
 use Rattle.early_verdict.proofs.GrowingLemmas.{grows_not}
 use Rattle.early_verdict.proofs.LoopLemmas.{grows_alike}
@@ -11,7 +11,7 @@ use Rattle.early_verdict.proofs.reach.add_reached_at.Goals as goal
 pub returns-in_default-clause-ok : goal.returns-in_default-clause-ok
 returns-in_default-clause-ok c =
     let own = c.args.own.now in
-    grows_not own.bounds own.spans.items own.fresh.items (ReachedAt c.args.runs.now.items c.args.spans.now.items c.args.part.now)
+    grows_not (ReachedAt c.args.runs.now.items c.args.spans.now.items c.args.part.now)
     (λ t b h. c.in_default.ensures.none h.0 h.1 h.2)
 
 pub returns-in-None-clause-ok : goal.returns-in-None-clause-ok
@@ -22,7 +22,7 @@ returns-in-None-clause-ok c =
     let part = c.args.part.now in
     let run = c.in-Some.run' in
     let found = c.in-Some.ensures.some in
-    grows_not own.bounds own.spans.items own.fresh.items (ReachedAt runs spans part) (λ t b h.
+    grows_not (ReachedAt runs spans part) (λ t b h.
     let r = subst (λ p. ReachedIn spans p t) (one_holds (place part.from) runs run h.0 c.requires.runs found.0 h.1 found.1 h.2) h.3 in
     c.in-None.ensures.none r.1.0 r.1.2.0 r.1.2.1)
 
@@ -37,8 +37,7 @@ returns-in-Some-first_begin-clause-ok c =
     let begin = c.in-Some-first_begin.begin in
     let found = c.in-Some.ensures.some in
     on_good c.add.result c.add.ensures.ok
-    (grows_alike own.bounds own.spans.items new.spans.items own.fresh.items new.fresh.items (λ t. After (place begin) t × Upto (place run.to) t)
-    (ReachedAt runs spans part)
+    (grows_alike
     (λ t b h.
     let u = c.in-Some-first_begin.ensures.some.reached t h.0 in
     (run, found.0, found.1, ((after_le (place run.from) u.0 t u.1 u.2.0.0, h.1), u)))

@@ -1,4 +1,4 @@
-use Rattle.early_verdict.specs.Cuts.{place, After, Upto}
+use Rattle.frac128.specs.Cuts.{place}
 use Rattle.early_verdict.specs.Reaching.{ReachesIn}
 use Rattle.early_verdict.proofs.GrowingLemmas.{grows_not}
 use Rattle.early_verdict.proofs.LoopLemmas.{grows_alike}
@@ -9,13 +9,13 @@ use Rattle.early_verdict.proofs.reach.add_reaching.Goals as goal
 pub returns-in_default-clause-ok : goal.returns-in_default-clause-ok
 returns-in_default-clause-ok c =
     let own = c.args.own.now in
-    grows_not own.bounds own.spans.items own.fresh.items (ReachesIn c.args.spans.now.items (place c.args.sure.now) c.args.run.now)
+    grows_not (ReachesIn c.args.spans.now.items (place c.args.sure.now) c.args.run.now)
     (λ t b h. let u = h.1 in c.in_default.ensures.none u.0 u.2.0.0 u.2.2 u.2.0)
 
 pub returns-in-None-clause-ok : goal.returns-in-None-clause-ok
 returns-in-None-clause-ok c =
     let own = c.args.own.now in
-    grows_not own.bounds own.spans.items own.fresh.items (ReachesIn c.args.spans.now.items (place c.args.sure.now) c.args.run.now)
+    grows_not (ReachesIn c.args.spans.now.items (place c.args.sure.now) c.args.run.now)
     (λ t b h. let u = h.1 in c.in-None.ensures.none u.0 ((c.in-Some.ensures.some u.0).1 (u.2.0.0, u.2.2, u.2.0)) u.2.1)
 
 pub returns-in-Some-last_end-clause-ok : goal.returns-in-Some-last_end-clause-ok
@@ -25,8 +25,7 @@ returns-in-Some-last_end-clause-ok c =
     let run = c.args.run.now in
     let end = c.in-Some-last_end.end in
     on_good c.add.result c.add.ensures.ok
-    (grows_alike own.bounds own.spans.items new.spans.items own.fresh.items new.fresh.items (λ t. After (place run.from) t × Upto (place end) t)
-    (ReachesIn c.args.spans.now.items (place c.args.sure.now) run)
+    (grows_alike
     (λ t b h.
     let u = c.in-Some-last_end.ensures.some.reached t h.1 in
     let x = (c.in-Some.ensures.some u.0).0 u.2.0 in

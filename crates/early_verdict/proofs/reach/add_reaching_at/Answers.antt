@@ -1,5 +1,5 @@
 use Rattle.std.proofs.Common.{subst}
-use Rattle.early_verdict.specs.Cuts.{place}
+use Rattle.frac128.specs.Cuts.{place}
 use Rattle.early_verdict.specs.Reaching.{ReachesIn, ReachesAt}
 use Rattle.early_verdict.proofs.GrowingLemmas.{grows_not}
 use Rattle.early_verdict.proofs.LoopLemmas.{grows_alike}
@@ -10,7 +10,7 @@ use Rattle.early_verdict.proofs.reach.add_reaching_at.Goals as goal
 pub returns-in-None-clause-ok : goal.returns-in-None-clause-ok
 returns-in-None-clause-ok c =
     let own = c.args.own.now in
-    grows_not own.bounds own.spans.items own.fresh.items
+    grows_not
     (ReachesAt c.args.runs.now.items c.args.spans.now.items (place c.args.sure.now) c.args.part.now)
     (λ t b h. c.in-None.ensures.none h.0 h.1 h.2)
 
@@ -25,6 +25,6 @@ returns-in-Some-clause-ok c =
     let run = c.in-Some.run' in
     let found = c.in-Some.ensures.some in
     on_good c.add_reaching.result c.add_reaching.ensures.ok
-    (grows_alike own.bounds own.spans.items new.spans.items own.fresh.items new.fresh.items (ReachesIn spans sure run) (ReachesAt runs spans sure part)
+    (grows_alike
     (λ t b h. (run, found.0, found.1, h))
     (λ t b h. subst (λ p. ReachesIn spans sure p t) (one_holds (place part.from) runs run h.0 c.requires.runs found.0 h.1 found.1 h.2) h.3))

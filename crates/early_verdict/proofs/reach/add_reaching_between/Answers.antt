@@ -1,6 +1,6 @@
 use Rattle.std.proofs.Common.{◌<◌, ◌∙◌, refl, length, arith}
 use Rattle.std.proofs.lemmas.Option.{slice_get_within}
-use Rattle.early_verdict.specs.Cuts.{place}
+use Rattle.frac128.specs.Cuts.{place}
 use Rattle.early_verdict.specs.Reaching.{ReachesBy}
 use Rattle.early_verdict.proofs.LoopLemmas.{grows_on}
 use Rattle.early_verdict.proofs.BetweenLemmas.{between_first, between_last}
@@ -30,8 +30,7 @@ loop-next-preserved c =
       tidy = c.in_ok-add_reaching_by.ensures.tidy;
       bounds = c.add_reaching_by.ensures.bounds ∙ c.loop-next.invariant.bounds;
       grows = grows_on (ReachesBy c.args.runs.now.items c.args.spans.now.items (place c.args.before.now) (place c.args.sure.now))
-          c.args.spans.now.items c.loop-next.at next own.bounds
-          here.bounds own.spans.items here.spans.items new.spans.items own.fresh.items here.fresh.items new.fresh.items c.loop-next.invariant.bounds
+          c.args.spans.now.items c.loop-next.at c.loop-next.invariant.bounds
           c.in-Some.ensures.some.0 c.loop-next.invariant.grows c.in_ok-add_reaching_by.ensures.ok;
     }
 

@@ -1,5 +1,5 @@
-use Rattle.early_verdict.specs.Cuts.{place}
-use Rattle.early_verdict.specs.Reaching.{ReachesAt, ReachesBy, IsNew}
+use Rattle.frac128.specs.Cuts.{place}
+use Rattle.early_verdict.specs.Reaching.{ReachesBy, IsNew}
 use Rattle.rational.specs.Time.{Rational}
 use Rattle.std.specs.Prelude.{◌↔◌}
 use Rattle.early_verdict.specs.Spans.{Lies}
@@ -12,7 +12,7 @@ use Rattle.early_verdict.proofs.reach.add_reaching_by.Goals as goal
 pub returns-in-None-clause-ok : goal.returns-in-None-clause-ok
 returns-in-None-clause-ok c =
     let own = c.args.own.now in
-    grows_not own.bounds own.spans.items own.fresh.items
+    grows_not
     (ReachesBy c.args.runs.now.items c.args.spans.now.items (place c.args.before.now) (place c.args.sure.now) c.args.part.now)
     (λ t b h. let w = h.3 in c.in-None.ensures.none w.0 w.1.1 w.1.2 w.1.0)
 
@@ -30,7 +30,6 @@ returns-in-Some-clause-ok c =
       λ h. (c.in-Some.ensures.some t).1 (h.1, h.2, h.0),
     ) in
     on_good c.add_reaching_at.result c.add_reaching_at.ensures.ok
-    (grows_alike own.bounds own.spans.items new.spans.items own.fresh.items new.fresh.items (ReachesAt runs spans sure part)
-    (ReachesBy runs spans before sure c.args.part.now)
+    (grows_alike
     (λ t b h. (h.0, h.1, h.3, newly before sure c.args.part.now part h.0 is h.2))
     (λ t b h. let w = h.3 in (h.0, h.1, from_newly before sure c.args.part.now part h.0 is w.0 w.1 w.2 w.3, h.2)))

@@ -1,6 +1,6 @@
 use Rattle.std.proofs.Common.{◌⊎◌, true, Some, inl, sym, subst, ◌∙◌}
 use Rattle.rational.specs.Time.{Rational}
-use Rattle.early_verdict.specs.Cuts.{place}
+use Rattle.frac128.specs.Cuts.{place}
 use Rattle.early_verdict.specs.Spans.{Lies, IsOn}
 use Rattle.early_verdict.specs.Reaching.{GoesBackBy}
 use Rattle.early_verdict.specs.Readings.{SomeBehind}
@@ -12,7 +12,7 @@ use Rattle.early_verdict.proofs.runs.since_fails.Goals as goal
 
 pub returns-clause-fits : goal.returns-clause-fits
 returns-clause-fits c = λ old tr p q a b is is_down h hp hq same_fail same_stop was.
-    let e = c.args.event.now in
+    let e = c.args.entry.now in
     let x = c.args.own.now in
     let P = c.args.p.now in
     let Q = c.args.q.now in

@@ -2,7 +2,7 @@ use Rattle.std.proofs.Common.{◌⊎◌, true, inl, refl, sym, subst, ◌∙◌}
 use Rattle.rational.specs.Time.{Rational}
 use Rattle.stl_syntax.specs.Trace.{start}
 use Rattle.stl_syntax.specs.Early.{OpenAhead}
-use Rattle.early_verdict.specs.Cuts.{place}
+use Rattle.frac128.specs.Cuts.{place}
 use Rattle.early_verdict.specs.Spans.{Lies, IsOn}
 use Rattle.early_verdict.specs.Reaching.{GoesTo}
 use Rattle.early_verdict.proofs.Telling.{says_of}
@@ -12,7 +12,7 @@ use Rattle.early_verdict.proofs.runs.until_fails.Goals as goal
 
 pub returns-clause-fits : goal.returns-clause-fits
 returns-clause-fits c = λ old tr p q a b is is_up h hp hq same_fail same_stop was.
-    let e = c.args.event.now in
+    let e = c.args.entry.now in
     let x = c.args.own.now in
     let P = c.args.p.now in
     let Q = c.args.q.now in

@@ -1,6 +1,6 @@
 use Rattle.std.proofs.Common.{true, false}
 use Rattle.stl_syntax.specs.Trace.{start}
-use Rattle.early_verdict.specs.Cuts.{place}
+use Rattle.frac128.specs.Cuts.{place}
 use Rattle.early_verdict.specs.Spans.{IsOn}
 use Rattle.early_verdict.specs.Reaching.{GoesOn}
 use Rattle.early_verdict.specs.Readings.{SomeAhead}
@@ -12,7 +12,7 @@ use Rattle.early_verdict.proofs.runs.until_holds.Goals as goal
 
 pub returns-clause-fits : goal.returns-clause-fits
 returns-clause-fits c = λ old tr p q a b is is_up h hp hq was.
-    let e = c.args.event.now in
+    let e = c.args.entry.now in
     let x = c.args.own.now in
     let P = c.args.p.now in
     let Q = c.args.q.now in

@@ -3,10 +3,11 @@ use Rattle.std.proofs.Common.{◌≤◌, ◌^◌}
 use Rattle.rational.specs.Time.{Rational}
 use Rattle.early_verdict.specs.Bounds.{reach_of}
 use Rattle.std.specs.Prelude.{◌↔◌, unsigned_abs, MatchOption}
-use Rattle.early_verdict.specs.Cuts.{place, After, Upto, Before}
+use Rattle.rational.specs.Places.{After, Upto, Before}
+use Rattle.frac128.specs.Cuts.{place}
 use Rattle.early_verdict.specs.Spans.{Grows}
 use Rattle.early_verdict.specs.Windows.{IsHeld, low_place}
-use Rattle.early_verdict.proofs.PlaceLemmas.{sides, not_both}
+use Rattle.rational.proofs.PlaceLemmas.{sides, not_both}
 use Rattle.early_verdict.proofs.GrowingLemmas.{grows_not}
 use Rattle.early_verdict.proofs.LoopLemmas.{grows_alike}
 use Rattle.early_verdict.proofs.WindowLemmas.{on_ok, near_fits}
@@ -22,8 +23,7 @@ returns-then-not-precedes-clause-ok c =
     (Grows own.bounds own.spans.items new.spans.items own.fresh.items new.fresh.items
     (λ t. After (place c.bounds-bounds.result.from) t × Upto (place c.past_high-to.result) t))
     (Grows own.bounds own.spans.items new.spans.items own.fresh.items new.fresh.items held)
-    (grows_alike own.bounds own.spans.items new.spans.items own.fresh.items new.fresh.items
-    (λ t. After (place c.bounds-bounds.result.from) t × Upto (place c.past_high-to.result) t) held
+    (grows_alike
     (λ t b h. (
       inl (λ x. let e = c.precedes.ensures.1 x in let f = c.if-not-precedes.true in cc),
       λ x. not_both (place c.past_high-to.result) t h.1 ((c.past_high-to.ensures t).1 x),
@@ -49,8 +49,7 @@ returns-in-Some-clause-ok c =
     (Grows own.bounds own.spans.items new.spans.items own.fresh.items new.fresh.items
     (λ t. After (place c.before_low.result) t × Upto (place c.past_high-to.result) t))
     (Grows own.bounds own.spans.items new.spans.items own.fresh.items new.fresh.items held)
-    (grows_alike own.bounds own.spans.items new.spans.items own.fresh.items new.fresh.items
-    (λ t. After (place c.before_low.result) t × Upto (place c.past_high-to.result) t) held
+    (grows_alike
     (λ t b h. (
       inr (subst (λ l. MatchOption l ⊥ (λ k. ¬ (Before (low_place k w.low_in t) (place span.from)))) (sym c.in-Some.is)
           (λ x. not_both (place c.before_low.result) t ((low t).1 x) h.0)),
@@ -73,7 +72,7 @@ pub returns-in-None-clause-ok : goal.returns-in-None-clause-ok
 returns-in-None-clause-ok c =
     let w = c.args.w.now in
     let span = c.args.span.now in
-    grows_not c.args.own.now.bounds c.args.own.now.spans.items c.args.own.now.fresh.items (IsHeld w (place c.args.start.now) span)
+    grows_not (IsHeld w (place c.args.start.now) span)
     (λ t b h. elim h.0 [
       | inl n ↦ n (c.precedes.ensures.0 c.if-not-precedes.false)
       | inr m ↦ subst (λ l. MatchOption l ⊥ (λ k. ¬ (Before (low_place k w.low_in t) (place span.from)))) c.in-None.is m

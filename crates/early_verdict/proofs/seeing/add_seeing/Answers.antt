@@ -3,7 +3,8 @@ use Rattle.std.proofs.Common.{◌≤◌, ◌^◌}
 use Rattle.rational.specs.Time.{Rational}
 use Rattle.early_verdict.specs.Bounds.{reach_of}
 use Rattle.std.specs.Prelude.{◌↔◌, unsigned_abs, IfSome}
-use Rattle.early_verdict.specs.Cuts.{place, After, Upto, Before}
+use Rattle.rational.specs.Places.{After, Upto, Before}
+use Rattle.frac128.specs.Cuts.{place}
 use Rattle.early_verdict.specs.Spans.{Grows}
 use Rattle.early_verdict.specs.Windows.{SeesPart, low_place}
 use Rattle.early_verdict.proofs.GrowingLemmas.{grows_not}
@@ -13,7 +14,7 @@ use Rattle.early_verdict.proofs.seeing.add_seeing.Goals as goal
 
 pub returns-then-is_never-clause-ok : goal.returns-then-is_never-clause-ok
 returns-then-is_never-clause-ok c =
-    grows_not c.args.own.now.bounds c.args.own.now.spans.items c.args.own.now.fresh.items (SeesPart c.args.w.now c.args.part.now)
+    grows_not (SeesPart c.args.w.now c.args.part.now)
     (λ t b s. c.is_never.ensures.never c.if-is_never.true t s.0 s.2)
 
 pub returns-in-Some-clause-ok : goal.returns-in-Some-clause-ok
@@ -30,8 +31,7 @@ returns-in-Some-clause-ok c =
     (Grows own.bounds own.spans.items new.spans.items own.fresh.items new.fresh.items
     (λ t. After (place c.past_high-from.result) t × Upto (place c.before_low.result) t))
     (Grows own.bounds own.spans.items new.spans.items own.fresh.items new.fresh.items (SeesPart w part))
-    (grows_alike own.bounds own.spans.items new.spans.items own.fresh.items new.fresh.items
-    (λ t. After (place c.past_high-from.result) t × Upto (place c.before_low.result) t) (SeesPart w part)
+    (grows_alike
     (λ t b h. sees_part w part t (c.is_never.ensures.room c.if-is_never.false t) ((c.past_high-from.ensures t).0 h.0)
     (subst (λ l. IfSome l (λ k. Before (low_place k w.low_in t) (place part.to))) (sym c.in-Some.is) ((low t).0 h.1)))
     (λ t b s. let x = part_seen w part t s in (
@@ -50,8 +50,7 @@ returns-in-None-clause-ok c =
     (Grows own.bounds own.spans.items new.spans.items own.fresh.items new.fresh.items
     (λ t. After (place c.past_high-from.result) t × Upto (place c.bounds-bounds.result.to) t))
     (Grows own.bounds own.spans.items new.spans.items own.fresh.items new.fresh.items (SeesPart w part))
-    (grows_alike own.bounds own.spans.items new.spans.items own.fresh.items new.fresh.items
-    (λ t. After (place c.past_high-from.result) t × Upto (place c.bounds-bounds.result.to) t) (SeesPart w part)
+    (grows_alike
     (λ t b h. sees_part w part t (c.is_never.ensures.room c.if-is_never.false t) ((c.past_high-from.ensures t).0 h.0)
     (subst (λ l. IfSome l (λ k. Before (low_place k w.low_in t) (place part.to))) (sym c.in-None.is) tt))
     (λ t b s. (

@@ -1,6 +1,6 @@
 use Rattle.std.proofs.Common.{false}
 use Rattle.frac128.specs.Value.{value}
-use Rattle.early_verdict.specs.Cuts.{place}
+use Rattle.frac128.specs.Cuts.{place}
 use Rattle.early_verdict.proofs.ShowingLemmas.{ends_of}
 use Rattle.early_verdict.proofs.showing.bounds_from.Goals as goal
 

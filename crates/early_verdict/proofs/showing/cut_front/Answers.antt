@@ -2,8 +2,9 @@ use Rattle.std.proofs.Common.{rules, ◌<◌, sym, subst, inl, inr, length}
 use Rattle.std.specs.Prelude.{◌^◌}
 use Rattle.rational.specs.Rational.{IsWithin}
 use Rattle.frac128.specs.Value.{value}
-use Rattle.early_verdict.specs.Cuts.{place, Before}
-use Rattle.early_verdict.specs.declared.cut.Cut.{Cut}
+use Rattle.rational.specs.Places.{Before}
+use Rattle.frac128.specs.Cuts.{place}
+use Rattle.frac128.specs.declared.cut.Cut.{Cut}
 use Rattle.early_verdict.proofs.MakingLemmas.{after_from}
 use Rattle.early_verdict.proofs.ShowingLemmas.{cut_kept, first_ends}
 use Rattle.early_verdict.proofs.StretchLemmas.{rises, room_of_before}

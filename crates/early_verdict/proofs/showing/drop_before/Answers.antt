@@ -1,4 +1,4 @@
-use Rattle.early_verdict.specs.Cuts.{place}
+use Rattle.frac128.specs.Cuts.{place}
 use Rattle.early_verdict.proofs.ShowingLemmas.{ends_after, ends_none, fewer, none_dropped, one_dropped}
 use Rattle.early_verdict.proofs.showing.drop_before.Goals as goal
 

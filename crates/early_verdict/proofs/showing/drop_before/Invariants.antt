@@ -1,5 +1,5 @@
 use Rattle.std.proofs.Common.{length}
-use Rattle.early_verdict.specs.Cuts.{place}
+use Rattle.frac128.specs.Cuts.{place}
 use Rattle.early_verdict.proofs.ShowingLemmas.{Dropped}
 use Rattle.early_verdict.proofs.showing.drop_before.Given as goal
 

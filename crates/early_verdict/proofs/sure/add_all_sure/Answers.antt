@@ -1,7 +1,7 @@
 use Rattle.std.proofs.Common.{◌∙◌, refl, subst, take, length}
 use Rattle.std.proofs.lemmas.List.{take_all}
 use Rattle.std.proofs.lemmas.Option.{slice_get_read}
-use Rattle.early_verdict.specs.Cuts.{place}
+use Rattle.frac128.specs.Cuts.{place}
 use Rattle.early_verdict.specs.Spans.{Grows}
 use Rattle.early_verdict.specs.Steps.{BySome}
 use Rattle.early_verdict.specs.Sure.{SeesUpto}
@@ -16,7 +16,7 @@ loop-part-init c =
     record {
       tidy = c.requires;
       bounds = refl;
-      grows = grows_not own.bounds own.spans.items own.fresh.items (BySome q (take 0 c.args.parts.now)) (λ t b h. h);
+      grows = grows_not (BySome q (take 0 c.args.parts.now)) (λ t b h. h);
     }
 
 pub loop-part-preserved : goal.loop-part-preserved
@@ -28,8 +28,7 @@ loop-part-preserved c =
     record {
       tidy = c.in_ok-add_seeing_within.ensures.tidy;
       bounds = c.add_seeing_within.ensures.bounds ∙ c.loop-part.invariant.bounds;
-      grows = grows_on q c.args.parts.now c.loop-part.part-index c.part-item.result own.bounds here.bounds own.spans.items here.spans.items
-          new.spans.items own.fresh.items here.fresh.items new.fresh.items c.loop-part.invariant.bounds
+      grows = grows_on q c.args.parts.now c.loop-part.part-index c.loop-part.invariant.bounds
           (slice_get_read c.args.parts.now (length c.args.parts.now) c.loop-part.part-index c.part-item.result refl c.loop-part-test.true c.part-item.is)
           c.loop-part.invariant.grows c.in_ok-add_seeing_within.ensures.ok;
     }

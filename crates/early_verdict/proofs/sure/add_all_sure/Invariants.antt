@@ -1,5 +1,5 @@
 use Rattle.std.proofs.Common.{◌≡◌, take}
-use Rattle.early_verdict.specs.Cuts.{place}
+use Rattle.frac128.specs.Cuts.{place}
 use Rattle.early_verdict.specs.Spans.{AreTidy, Grows}
 use Rattle.early_verdict.specs.Steps.{BySome}
 use Rattle.early_verdict.specs.Sure.{SeesUpto}

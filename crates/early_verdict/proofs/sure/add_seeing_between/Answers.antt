@@ -1,6 +1,6 @@
 use Rattle.std.proofs.Common.{◌<◌, ◌∙◌, refl, length, arith}
 use Rattle.std.proofs.lemmas.Option.{slice_get_within}
-use Rattle.early_verdict.specs.Cuts.{place}
+use Rattle.frac128.specs.Cuts.{place}
 use Rattle.early_verdict.specs.Sure.{SeesWithin}
 use Rattle.early_verdict.proofs.LoopLemmas.{grows_on}
 use Rattle.early_verdict.proofs.BetweenLemmas.{between_first, between_last}
@@ -28,8 +28,8 @@ loop-next-preserved c =
       within = omega arith;
       tidy = c.in_ok-add_seeing_within.ensures.tidy;
       bounds = c.add_seeing_within.ensures.bounds ∙ c.loop-next.invariant.bounds;
-      grows = grows_on (SeesWithin c.args.w.now (place c.args.from.now) (place c.args.to.now)) c.args.spans.now.items c.loop-next.at next own.bounds
-          here.bounds own.spans.items here.spans.items new.spans.items own.fresh.items here.fresh.items new.fresh.items c.loop-next.invariant.bounds
+      grows = grows_on (SeesWithin c.args.w.now (place c.args.from.now) (place c.args.to.now)) c.args.spans.now.items
+          c.loop-next.at c.loop-next.invariant.bounds
           c.in-Some.ensures.some.0 c.loop-next.invariant.grows c.in_ok-add_seeing_within.ensures.ok;
     }
 

@@ -1,5 +1,3 @@
-use Rattle.early_verdict.specs.Spans.{Lies}
-use Rattle.early_verdict.specs.Steps.{BySome}
 use Rattle.early_verdict.specs.Sure.{SeesItself}
 use Rattle.early_verdict.proofs.GrowingLemmas.{grows_not}
 use Rattle.early_verdict.proofs.LoopLemmas.{grows_alike}
@@ -9,7 +7,7 @@ use Rattle.early_verdict.proofs.sure.add_themselves.Goals as goal
 pub returns-then-not-sees_itself-clause-ok : goal.returns-then-not-sees_itself-clause-ok
 returns-then-not-sees_itself-clause-ok c =
     let own = c.args.own.now in
-    grows_not own.bounds own.spans.items own.fresh.items (SeesItself c.args.w.now c.args.parts.now)
+    grows_not (SeesItself c.args.w.now c.args.parts.now)
     (λ t b h. c.sees_itself.ensures.no c.if-not-sees_itself.true t h.1)
 
 pub returns-clause-ok : goal.returns-clause-ok
@@ -17,5 +15,4 @@ returns-clause-ok c =
     let own = c.args.own.now in
     let new = c.add_all.new.own in
     on_good c.add_all.result c.add_all.ensures.ok
-    (grows_alike own.bounds own.spans.items new.spans.items own.fresh.items new.fresh.items (BySome Lies c.args.parts.now)
-    (SeesItself c.args.w.now c.args.parts.now) (λ t b h. (h, c.sees_itself.ensures.yes c.if-not-sees_itself.false t)) (λ t b h. h.0))
+    (grows_alike (λ t b h. (h, c.sees_itself.ensures.yes c.if-not-sees_itself.false t)) (λ t b h. h.0))

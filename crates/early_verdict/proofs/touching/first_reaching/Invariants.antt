@@ -1,5 +1,5 @@
 use Rattle.std.proofs.Common.{◌≤◌, ◌-◌, length, take, drop}
-use Rattle.early_verdict.specs.Cuts.{place}
+use Rattle.frac128.specs.Cuts.{place}
 use Rattle.early_verdict.specs.Spans.{EndBefore, NoneEndsBefore}
 use Rattle.early_verdict.proofs.touching.first_reaching.Given as goal
 

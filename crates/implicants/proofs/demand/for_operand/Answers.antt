@@ -72,5 +72,11 @@ returns-else-p-i c = each_some c.beside-in-Implies.result _ _
 pub returns-in-Not : goal.returns-in-Not
 returns-in-Not c = hands_not c.args.holds c.args.at c.args.nodes.now c.args.node.now c.args.i c.in-Not.field-0 c.in-Not.is c.requires.child c.requires.fit
 
+pub returns-in-Until : goal.returns-in-Until
+returns-in-Until c = c.for_until.ensures
+
+pub returns-in-Since : goal.returns-in-Since
+returns-in-Since c = c.for_since.ensures
+
 pub returns-in_default : goal.returns-in_default
 returns-in_default c = c.for_window.ensures c.args.nodes.now

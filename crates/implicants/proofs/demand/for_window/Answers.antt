@@ -1,7 +1,4 @@
-use Rattle.std.proofs.Common.{subst}
-use Rattle.stl_syntax.specs.WellFormed.{HasBounds}
-use Rattle.offline_eval.proofs.WindowLemmas.{in_order}
-use Rattle.implicants.proofs.Descending.{each_some, hands_eventually, hands_always, hands_once, hands_historically}
+use Rattle.implicants.proofs.Descending.{each_some, hands_eventually, hands_always}
 use Rattle.implicants.proofs.demand.for_window.Goals as goal
 
 pub returns-else-holds : goal.returns-else-holds
@@ -17,22 +14,5 @@ returns-then-holds-2 c signals = each_some c.met-then-holds-2.result _ _
     c.in-Always.high_in d c.in-Always.is c.requires.child c.if-holds-2.true is)
     c.met-then-holds-2.ensures
 
-pub met_behind-requires-clause-order : goal.met_behind-requires-clause-order
-met_behind-requires-clause-order c = in_order c.in-Once.low c.in-Once.high (subst HasBounds c.in-Once.is c.requires.bounds).0
-
-pub returns-else-holds-3 : goal.returns-else-holds-3
-returns-else-holds-3 c signals = each_some c.met_behind.result _ _
-    (λ d is. hands_once c.args.holds c.args.at.now signals c.args.node.now c.args.i c.in-Once.of c.in-Once.low c.in-Once.high c.in-Once.low_in
-    c.in-Once.high_in d c.in-Once.is c.requires.child c.if-holds-3.false is)
-    c.met_behind.ensures
-
-pub met_behind-requires-then-holds-4-clause-order : goal.met_behind-requires-then-holds-4-clause-order
-met_behind-requires-then-holds-4-clause-order c =
-    in_order c.in-Historically.low c.in-Historically.high (subst HasBounds c.in-Historically.is c.requires.bounds).0
-
-pub returns-then-holds-4 : goal.returns-then-holds-4
-returns-then-holds-4 c signals = each_some c.met_behind-then-holds-4.result _ _
-    (λ d is. hands_historically c.args.holds c.args.at.now signals c.args.node.now c.args.i c.in-Historically.of
-    c.in-Historically.low c.in-Historically.high c.in-Historically.low_in
-    c.in-Historically.high_in d c.in-Historically.is c.requires.child c.if-holds-4.true is)
-    c.met_behind-then-holds-4.ensures
+pub returns-in_default : goal.returns-in_default
+returns-in_default c = c.for_behind.ensures

@@ -1,7 +1,7 @@
 use Rattle.std.proofs.Common.{ℕ, true, refl, subst, ap, pos, ◌∙◌}
 use Rattle.rational.specs.Rational.{whole}
 use Rattle.frac128.specs.Spans.{interval}
-use Rattle.online_nodes.specs.Cuts.{Place, begins, ends, Same}
+use Rattle.rational.specs.Places.{Place, begins, ends, Same}
 use Rattle.online_nodes.specs.Held.{Held, edge_at, with_edge, with_number}
 use Rattle.online_net.proofs.Saying.{even_put}
 use Rattle.online_net.proofs.atom.put_even.Goals as goal

@@ -1,7 +1,8 @@
 use Rattle.std.proofs.Common.{◌≡◌, ℕ, Bool, None, false, true, sym, subst, pos, ◌∙◌}
 use Rattle.rational.specs.Rational.{whole}
-use Rattle.online_nodes.specs.Cuts.{place, Same}
-use Rattle.online_nodes.specs.declared.cut.Cut.{Cut}
+use Rattle.rational.specs.Places.{Same}
+use Rattle.frac128.specs.Cuts.{place}
+use Rattle.frac128.specs.declared.cut.Cut.{Cut}
 use Rattle.online_net.specs.Atoms.{after_row, before_row}
 use Rattle.online_net.proofs.Saying.{IsNew, new_is, first_begun}
 use Rattle.online_net.proofs.atom.put_first.Goals as goal

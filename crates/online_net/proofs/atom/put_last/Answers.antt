@@ -1,7 +1,8 @@
 use Rattle.std.proofs.Common.{◌≡◌, ℕ, Bool, true, subst, ap, pos, ◌∙◌}
 use Rattle.rational.specs.Rational.{whole}
-use Rattle.online_nodes.specs.Cuts.{place, Same}
-use Rattle.online_nodes.specs.declared.cut.Cut.{Cut}
+use Rattle.rational.specs.Places.{Same}
+use Rattle.frac128.specs.Cuts.{place}
+use Rattle.frac128.specs.declared.cut.Cut.{Cut}
 use Rattle.online_nodes.specs.Held.{Held, edge_at, with_edge, with_number}
 use Rattle.online_net.proofs.Saying.{atom_put}
 use Rattle.online_net.proofs.atom.put_last.Goals as goal

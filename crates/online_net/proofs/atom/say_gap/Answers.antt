@@ -1,7 +1,8 @@
 use Rattle.std.proofs.Common.{◌≡◌, ℕ, Bool, false, true, sym, subst, pos, ◌∙◌}
 use Rattle.rational.specs.Rational.{whole}
-use Rattle.online_nodes.specs.Cuts.{place, Same}
-use Rattle.online_nodes.specs.declared.cut.Cut.{Cut}
+use Rattle.rational.specs.Places.{Same}
+use Rattle.frac128.specs.Cuts.{place}
+use Rattle.frac128.specs.declared.cut.Cut.{Cut}
 use Rattle.online_net.specs.Atoms.{after_row}
 use Rattle.online_net.proofs.Saying.{new_is, new_inside, whole_begun, turn_begun}
 use Rattle.stl_syntax.specs.Trace.{row_time}
@@ -21,8 +22,8 @@ upto-requires-clause-inside c = new_inside c.args.first.now c.args.row.now c.arg
     (at_row c.after_tick-from.result c.time.result c.args.first.now.time true c.time.ensures c.after_tick-from.ensures)
     (at_row c.after_tick-to.result c.time-3.result c.args.row.now.time true c.time-3.ensures c.after_tick-to.ensures))
 
-pub say_turn-requires-clause-inside : goal.say_turn-requires-clause-inside
-say_turn-requires-clause-inside c = new_inside c.args.first.now c.args.row.now c.args.node c.new-out.result c.requires.later
+pub say_flip-requires-clause-inside : goal.say_flip-requires-clause-inside
+say_flip-requires-clause-inside c = new_inside c.args.first.now c.args.row.now c.args.node c.new-out.result c.requires.later
     (new_is c.new-out.result c.args.node c.after_tick-from.result c.after_tick-to.result (after_row c.args.first.now) (after_row c.args.row.now)
     c.new-out.ensures
     (at_row c.after_tick-from.result c.time.result c.args.first.now.time true c.time.ensures c.after_tick-from.ensures)

@@ -1,6 +1,7 @@
 use Rattle.std.proofs.Common.{sym, subst, ◌∙◌}
-use Rattle.online_nodes.specs.declared.cut.Cut.{Cut}
-use Rattle.online_nodes.specs.Cuts.{place, Upto, AtMost}
+use Rattle.frac128.specs.declared.cut.Cut.{Cut}
+use Rattle.rational.specs.Places.{Upto, AtMost}
+use Rattle.frac128.specs.Cuts.{place}
 use Rattle.online_nodes.specs.Written.{HasAnswer}
 use Rattle.online_nodes.specs.Joins.{joined}
 use Rattle.online_nodes.proofs.EdgesLemmas.{empty_of_none}

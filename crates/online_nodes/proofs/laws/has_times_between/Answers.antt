@@ -1,4 +1,4 @@
-use Rattle.online_nodes.proofs.PlaceLemmas.{between}
+use Rattle.rational.proofs.PlaceLemmas.{between}
 use Rattle.online_nodes.proofs.laws.has_times_between.Goals as goal
 
 pub returns : goal.returns

@@ -1,6 +1,7 @@
 use Rattle.std.proofs.Common.{◌≡◌, sym, ap, subst, ◌∙◌, length, arith}
-use Rattle.online_nodes.specs.Cuts.{place, Upto}
-use Rattle.online_nodes.specs.declared.cut.Cut.{Cut}
+use Rattle.rational.specs.Places.{Upto}
+use Rattle.frac128.specs.Cuts.{place}
+use Rattle.frac128.specs.declared.cut.Cut.{Cut}
 use Rattle.online_nodes.proofs.NegationLemmas.{gone_none, gone_one, gone_to_end}
 use Rattle.online_nodes.proofs.SaidLemmas.{on_err}
 use Rattle.online_nodes.proofs.negation.negate.Goals as goal

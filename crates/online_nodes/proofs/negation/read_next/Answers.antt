@@ -2,11 +2,12 @@ use Rattle.std.proofs.Common.{refl, sym, subst, ◌∙◌, arith}
 use Rattle.frac128.specs.Spans.{interval}
 use Rattle.stl_syntax.specs.declared.items.Verdict.{Verdict}
 use Rattle.online_nodes.specs.Working.{HasPassed}
-use Rattle.online_nodes.specs.declared.cut.Cut.{Cut}
-use Rattle.online_nodes.specs.Cuts.{Place, place, ends, AtMost, Before, Upto}
+use Rattle.frac128.specs.declared.cut.Cut.{Cut}
+use Rattle.rational.specs.Places.{Place, ends, AtMost, Before, Upto}
+use Rattle.frac128.specs.Cuts.{place}
 use Rattle.online_nodes.specs.Held.{fresh_at}
 use Rattle.online_nodes.proofs.GotLemmas.{got-length}
-use Rattle.online_nodes.proofs.PlaceLemmas.{upto_of_before, at_most_of_not_before}
+use Rattle.rational.proofs.PlaceLemmas.{upto_of_before, at_most_of_not_before}
 use Rattle.online_nodes.proofs.JoinLemmas.{same_first}
 use Rattle.online_nodes.proofs.NegationLemmas.{IsSaidOf, next_was_read}
 use Rattle.online_nodes.proofs.negation.read_next.Goals as goal

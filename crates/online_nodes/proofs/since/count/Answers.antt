@@ -3,13 +3,14 @@ use Rattle.std.specs.Int.{w64}
 use Rattle.rational.specs.Rational.{FitsFloor, add, whole}
 use Rattle.frac128.specs.Spans.{interval}
 use Rattle.frac128.specs.Value.{value}
-use Rattle.online_nodes.specs.Cuts.{Place, place, begins, ends, moved_begin, moved_end, AtMost, Before, Same, Upto}
+use Rattle.rational.specs.Places.{Place, begins, ends, moved_begin, moved_end, AtMost, Before, Same, Upto}
+use Rattle.frac128.specs.Cuts.{place}
 use Rattle.online_nodes.specs.Held.{fresh_at}
 use Rattle.online_nodes.specs.Working.{HasPassed}
 use Rattle.stl_syntax.specs.declared.items.Verdict.{Verdict}
-use Rattle.online_nodes.specs.declared.cut.Cut.{Cut}
+use Rattle.frac128.specs.declared.cut.Cut.{Cut}
 use Rattle.online_nodes.proofs.JoinLemmas.{same_first}
-use Rattle.online_nodes.proofs.PlaceLemmas.{at_most_of_not_before}
+use Rattle.rational.proofs.PlaceLemmas.{at_most_of_not_before}
 use Rattle.online_nodes.proofs.Sweeping.{begin_alike, end_alike, fits_alike}
 use Rattle.online_nodes.proofs.SaidLemmas.{on_err}
 use Rattle.online_nodes.proofs.SinceCounts.{IsFound}

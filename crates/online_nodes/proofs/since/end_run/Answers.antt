@@ -2,11 +2,12 @@ use Rattle.std.proofs.Common.{inl, inr, ap, sym, subst, ◌∙◌, arith}
 use Rattle.frac128.specs.Spans.{interval}
 use Rattle.std.specs.Int.{w64}
 use Rattle.rational.specs.Rational.{Rational, FitsFloor, add, whole}
-use Rattle.online_nodes.specs.Cuts.{Place, place, begins, ends, AtMost, Before, Upto}
+use Rattle.rational.specs.Places.{Place, begins, ends, AtMost, Before, Upto}
+use Rattle.frac128.specs.Cuts.{place}
 use Rattle.online_nodes.specs.Working.{HasPassed}
-use Rattle.online_nodes.specs.declared.cut.Cut.{Cut}
+use Rattle.frac128.specs.declared.cut.Cut.{Cut}
 use Rattle.online_nodes.proofs.GotLemmas.{got-length}
-use Rattle.online_nodes.proofs.PlaceLemmas.{at_most_of_not_before}
+use Rattle.rational.proofs.PlaceLemmas.{at_most_of_not_before}
 use Rattle.online_nodes.proofs.SinceTurns.{IsWorking, run_over}
 use Rattle.online_nodes.proofs.SinceEnds.{ends_here, ends_later}
 use Rattle.online_nodes.proofs.since.end_run.Goals as goal

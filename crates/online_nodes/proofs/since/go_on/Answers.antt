@@ -1,13 +1,14 @@
 use Rattle.std.proofs.Common.{slice_get, refl, ◌≡◌, ap, sym, subst, ◌∙◌, arith}
 use Rattle.frac128.specs.Spans.{interval}
-use Rattle.online_nodes.specs.Cuts.{Place, place, ends, AtMost, Before, Upto}
+use Rattle.rational.specs.Places.{Place, ends, AtMost, Before, Upto}
+use Rattle.frac128.specs.Cuts.{place}
 use Rattle.online_nodes.specs.Held.{fresh_at}
 use Rattle.online_nodes.specs.Working.{HasPassed}
 use Rattle.stl_syntax.specs.declared.items.Verdict.{Verdict}
-use Rattle.online_nodes.specs.declared.cut.Cut.{Cut}
+use Rattle.frac128.specs.declared.cut.Cut.{Cut}
 use Rattle.online_nodes.proofs.GotLemmas.{got-length, got-other}
 use Rattle.online_nodes.proofs.JoinLemmas.{same_first}
-use Rattle.online_nodes.proofs.PlaceLemmas.{at_most_of_not_before}
+use Rattle.rational.proofs.PlaceLemmas.{at_most_of_not_before}
 use Rattle.online_nodes.proofs.since.go_on.Goals as goal
 
 pub returns-then-precedes-clause-gone : goal.returns-then-precedes-clause-gone

@@ -2,13 +2,14 @@ use Rattle.std.proofs.Common.{rules, refl, ◌≡◌, inl, inr, ap, subst, to_z,
 use Rattle.std.specs.Int.{w64}
 use Rattle.frac128.specs.Spans.{interval}
 use Rattle.frac128.specs.Value.{value}
-use Rattle.online_nodes.specs.Cuts.{Place, place, ends, moved_begin, AtMost, Before, Same, Upto}
+use Rattle.rational.specs.Places.{Place, ends, moved_begin, AtMost, Before, Same, Upto}
+use Rattle.frac128.specs.Cuts.{place}
 use Rattle.online_nodes.specs.Held.{fresh_at}
 use Rattle.online_nodes.specs.Working.{HasPassed}
 use Rattle.stl_syntax.specs.declared.items.Verdict.{Verdict}
-use Rattle.online_nodes.specs.declared.cut.Cut.{Cut}
+use Rattle.frac128.specs.declared.cut.Cut.{Cut}
 use Rattle.online_nodes.proofs.JoinLemmas.{same_first}
-use Rattle.online_nodes.proofs.PlaceLemmas.{at_most_of_not_before, before_same, same_places, upto_same}
+use Rattle.rational.proofs.PlaceLemmas.{at_most_of_not_before, before_same, same_places, upto_same}
 use Rattle.online_nodes.proofs.Sweeping.{begin_alike, fits_alike}
 use Rattle.online_nodes.proofs.since.pass_first.Goals as goal
 

@@ -1,7 +1,8 @@
 use Rattle.std.proofs.Common.{sym, ap, subst, ◌∙◌, slice_get, arith}
-use Rattle.online_nodes.specs.Cuts.{place, Upto}
+use Rattle.rational.specs.Places.{Upto}
+use Rattle.frac128.specs.Cuts.{place}
 use Rattle.online_nodes.specs.Held.{fresh_at}
-use Rattle.online_nodes.specs.declared.cut.Cut.{Cut}
+use Rattle.frac128.specs.declared.cut.Cut.{Cut}
 use Rattle.online_nodes.proofs.DroppingLemmas.{slice_get-drop}
 use Rattle.online_nodes.proofs.SaidLemmas.{on_err}
 use Rattle.online_nodes.proofs.SinceReads.{come_none, come_one, come_done}

@@ -2,9 +2,10 @@ use Rattle.std.proofs.Common.{rules, inl, inr, refl, sym, ap, subst, true, false
 use Rattle.std.specs.Int.{w64}
 use Rattle.rational.specs.Rational.{FitsFloor, add, whole}
 use Rattle.frac128.specs.Value.{value}
-use Rattle.online_nodes.specs.declared.cut.Cut.{Cut}
-use Rattle.online_nodes.specs.Cuts.{Place, place, AtMost, Before, Same, Upto, moved_begin, moved_end}
-use Rattle.online_nodes.proofs.PlaceLemmas.{at_most_of_not_before}
+use Rattle.frac128.specs.declared.cut.Cut.{Cut}
+use Rattle.rational.specs.Places.{Place, AtMost, Before, Same, Upto, moved_begin, moved_end}
+use Rattle.frac128.specs.Cuts.{place}
+use Rattle.rational.proofs.PlaceLemmas.{at_most_of_not_before}
 use Rattle.online_nodes.proofs.SaidLemmas.{answered_twice}
 use Rattle.online_nodes.proofs.Sweeping.{begin_alike, end_alike, fits_alike}
 use Rattle.online_nodes.proofs.UntilTurns.{IsSaidTwice}

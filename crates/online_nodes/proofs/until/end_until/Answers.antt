@@ -1,12 +1,13 @@
 use Rattle.std.proofs.Common.{slice_get, true, ap, ◌∙◌, sym, subst, ◌≡◌, inl, inr, arith}
-use Rattle.online_nodes.specs.Cuts.{place, Upto}
+use Rattle.rational.specs.Places.{Upto}
+use Rattle.frac128.specs.Cuts.{place}
 use Rattle.stl_syntax.specs.Truth.{Truth}
 use Rattle.online_nodes.specs.Held.{fresh_at}
-use Rattle.online_nodes.specs.Reading.{Tells}
+use Rattle.online_nodes.specs.Truths.{Tells}
 use Rattle.online_nodes.specs.Sweeps.{Counted}
-use Rattle.online_nodes.specs.declared.cut.Cut.{Cut}
+use Rattle.frac128.specs.declared.cut.Cut.{Cut}
 use Rattle.online_nodes.proofs.GotLemmas.{got-length, got-other}
-use Rattle.online_nodes.proofs.PlaceLemmas.{sides, not_both}
+use Rattle.rational.proofs.PlaceLemmas.{sides, not_both}
 use Rattle.online_nodes.proofs.SaidLemmas.{answered_twice, on_err}
 use Rattle.online_nodes.proofs.UntilLaw.{knows_later}
 use Rattle.online_nodes.proofs.UntilTurns.{turned-remembers}

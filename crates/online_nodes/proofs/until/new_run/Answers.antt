@@ -1,11 +1,12 @@
 use Rattle.std.proofs.Common.{sym, ap, subst, length, true, false, arith}
-use Rattle.online_nodes.specs.declared.cut.Cut.{Cut}
-use Rattle.online_nodes.specs.Cuts.{Place, place, AtMost, Before, Upto}
+use Rattle.frac128.specs.declared.cut.Cut.{Cut}
+use Rattle.rational.specs.Places.{Place, AtMost, Before, Upto}
+use Rattle.frac128.specs.Cuts.{place}
 use Rattle.std.proofs.lemmas.Option.{slice_get_within}
 use Rattle.online_nodes.specs.Held.{fresh_at}
 use Rattle.online_nodes.specs.Working.{HasPassed}
 use Rattle.online_nodes.proofs.GotLemmas.{got-length, got-other}
-use Rattle.online_nodes.proofs.PlaceLemmas.{upto_of_before, at_most_of_not_before}
+use Rattle.rational.proofs.PlaceLemmas.{upto_of_before, at_most_of_not_before}
 use Rattle.online_nodes.proofs.SaidLemmas.{answered_twice, on_err}
 use Rattle.online_nodes.proofs.UntilTurns.{IsSaidTwice, run_ended, fails_beyond}
 use Rattle.online_nodes.proofs.until.new_run.Goals as goal

@@ -1,11 +1,12 @@
 use Rattle.std.proofs.Common.{◌≡◌, inl, inr, sym, subst}
 use Rattle.frac128.specs.Spans.{interval}
 use Rattle.stl_syntax.specs.declared.items.Verdict.{Verdict}
-use Rattle.online_nodes.specs.Cuts.{Place, place, ends, AtMost, Before, Upto}
+use Rattle.rational.specs.Places.{Place, ends, AtMost, Before, Upto}
+use Rattle.frac128.specs.Cuts.{place}
 use Rattle.online_nodes.specs.Held.{fresh_at}
 use Rattle.online_nodes.specs.Working.{HasPassed}
 use Rattle.online_nodes.proofs.JoinLemmas.{same_first}
-use Rattle.online_nodes.proofs.PlaceLemmas.{at_most_of_not_before}
+use Rattle.rational.proofs.PlaceLemmas.{at_most_of_not_before}
 use Rattle.online_nodes.proofs.until.pass_ended.Goals as goal
 
 pub returns-then-precedes : goal.returns-then-precedes

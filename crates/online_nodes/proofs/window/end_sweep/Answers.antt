@@ -1,8 +1,9 @@
 use Rattle.std.proofs.Common.{sym, subst, ◌≡◌, inl, inr, arith}
-use Rattle.online_nodes.specs.Cuts.{place, Upto}
-use Rattle.online_nodes.specs.declared.cut.Cut.{Cut}
+use Rattle.rational.specs.Places.{Upto}
+use Rattle.frac128.specs.Cuts.{place}
+use Rattle.frac128.specs.declared.cut.Cut.{Cut}
 use Rattle.online_nodes.proofs.GotLemmas.{got-length}
-use Rattle.online_nodes.proofs.PlaceLemmas.{sides, not_both}
+use Rattle.rational.proofs.PlaceLemmas.{sides, not_both}
 use Rattle.online_nodes.proofs.SaidLemmas.{answered_twice, on_err}
 use Rattle.online_nodes.proofs.Sweeping.{found_part}
 use Rattle.online_nodes.proofs.WindowLaw.{knows_later}

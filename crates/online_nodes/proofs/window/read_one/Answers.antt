@@ -5,8 +5,9 @@ use Rattle.std.proofs.lemmas.Option.{slice_get_within}
 use Rattle.frac128.specs.Value.{value}
 use Rattle.frac128.specs.Spans.{interval}
 use Rattle.online_nodes.specs.Working.{HasPassed}
-use Rattle.online_nodes.specs.declared.cut.Cut.{Cut}
-use Rattle.online_nodes.specs.Cuts.{Place, place, ends, Same, Upto, Before, begins, moved_begin}
+use Rattle.frac128.specs.declared.cut.Cut.{Cut}
+use Rattle.rational.specs.Places.{Place, ends, Same, Upto, Before, begins, moved_begin}
+use Rattle.frac128.specs.Cuts.{place}
 use Rattle.online_nodes.specs.Held.{fresh_at}
 use Rattle.online_nodes.specs.Sweeps.{IsSwept}
 use Rattle.online_nodes.proofs.Sweeping.{
@@ -25,7 +26,7 @@ use Rattle.online_nodes.proofs.Sweeping.{
   end_alike,
   fits_alike,
 }
-use Rattle.online_nodes.proofs.PlaceLemmas.{sides, not_both, at_most_of_not_before}
+use Rattle.rational.proofs.PlaceLemmas.{sides, not_both, at_most_of_not_before}
 use Rattle.online_nodes.proofs.GotLemmas.{got-length, got-other}
 use Rattle.online_nodes.proofs.WorkLemmas.{worked_pass}
 use Rattle.online_nodes.proofs.SaidLemmas.{answered_twice, on_err, passed-fresh, passed-one, worked_read}

@@ -1,16 +1,17 @@
 use Rattle.std.proofs.Common.{◌≡◌, ◌<◌, ◌+◌, ◌∙◌, Some, suc, length, ap, arith, refl, sym, subst}
 use Rattle.std.specs.Prelude.{slice_get, slice_set}
 use Rattle.std.proofs.lemmas.Option.{slice_get-get_or}
+use Rattle.online_robust.specs.Moving.{IsFaultOf}
 use Rattle.online_robust.specs.Nets.{Going, move_of}
 use Rattle.online_robust.proofs.Moved.{length-slice_set}
 use Rattle.online_robust.proofs.Loops.{can_move_by_row, going_first, going_next, gone_last, go_fault}
 use Rattle.online_robust.proofs.net.take_row_all.Goals as goal
 
 pub loop-i-init : goal.loop-i-init
-loop-i-init c = (refl, λ p g. going_first p c.args.edges.now c.args.stations.now.items g.0)
+loop-i-init c = (refl, (λ p g. going_first p c.args.edges.now c.args.stations.now.items g.0), refl)
 
-pub take_row-requires : goal.take_row-requires
-take_row-requires c =
+pub take_row-requires-clause-can : goal.take_row-requires-clause-can
+take_row-requires-clause-can c =
     let (p, g) = c.requires in
     let all = g.0.shows.stations in
     let same = c.loop-i.invariant.0 in
@@ -36,15 +37,15 @@ returns-in-Err-clause-fault c = λ p g.
     let here : slice_get c.loop-i.stations.items c.loop-i.i ≡ Some c.index_mut.result.now =
     slice_get-get_or c.loop-i.stations.items c.loop-i.i c.index_mut.result.now low ∙ ap Some (sym c.index_mut.ensures.value) in
     go_fault p c.args.edges.now c.args.stations.now.items g.0 c.loop-i.i c.loop-i.edges c.loop-i.stations.items c.index_mut.result.now within
-    here (c.loop-i.invariant.1 p g) c.loop-i.i refl c.in-Err.fault c.fault_at.result
-    (c.in-Err.ensures.fault (move_of p c.loop-i.i)
+    here (c.loop-i.invariant.1 p g) c.loop-i.i refl c.refused.result c.fault_at.result
+    (subst (IsFaultOf (move_of p c.loop-i.i)) (sym c.refused.ensures) (c.in-Err.ensures.fault (move_of p c.loop-i.i)
     (can_move_by_row p c.args.edges.now c.args.stations.now.items g.0 c.loop-i.i c.loop-i.edges c.loop-i.stations.items c.index_mut.result.now within
-    here (c.loop-i.invariant.1 p g) c.args.bound.now c.args.before.now c.args.row.now c.loop-i.i refl g.1)) c.fault_at.ensures
+    here (c.loop-i.invariant.1 p g) c.args.bound.now c.args.before.now c.args.row.now c.loop-i.i refl g.1))) c.fault_at.ensures
 
 pub loop-i-preserved : goal.loop-i-preserved
 loop-i-preserved c = (
   length-slice_set c.loop-i.stations.items c.loop-i.i c.take_row.new.self ∙ c.loop-i.invariant.0,
-  λ p g.
+  (λ p g.
       let all = g.0.shows.stations in
       let same = c.loop-i.invariant.0 in
       let test = c.loop-i-test.true in
@@ -59,7 +60,8 @@ loop-i-preserved c = (
       here (c.loop-i.invariant.1 p g) c.take_row.new.edges c.take_row.new.self c.take_row.ensures.ahead
       (c.in-Ok.ensures.moved (move_of p c.loop-i.i)
       (can_move_by_row p c.args.edges.now c.args.stations.now.items g.0 c.loop-i.i c.loop-i.edges c.loop-i.stations.items c.index_mut.result.now within
-      here (c.loop-i.invariant.1 p g) c.args.bound.now c.args.before.now c.args.row.now c.loop-i.i refl g.1))),
+      here (c.loop-i.invariant.1 p g) c.args.bound.now c.args.before.now c.args.row.now c.loop-i.i refl g.1)))),
+  c.in-Ok.ensures.still,
 )
 
 pub returns-clause-gone : goal.returns-clause-gone
@@ -73,3 +75,6 @@ returns-in-Err-clause-nodes c = length-slice_set c.loop-i.stations.items c.loop-
 
 pub returns-clause-nodes : goal.returns-clause-nodes
 returns-clause-nodes c = c.loop-i.invariant.0
+
+pub take_row-requires-clause-unset : goal.take_row-requires-clause-unset
+take_row-requires-clause-unset c = c.loop-i.invariant.2

@@ -1,4 +1,4 @@
-use Rattle.std.proofs.Common.{◌≡◌, length}
+use Rattle.std.proofs.Common.{◌≡◌, None, length}
 use Rattle.online_robust.specs.Nets.{CanGoByRow, Going, Passing}
 use Rattle.online_robust.proofs.net.take_row_all.Given as goal
 
@@ -6,3 +6,4 @@ abbrev pub invariant-loop-i : goal.invariant-loop-i
 invariant-loop-i l =
     (length l.stations.items ≡ length l.initial.stations.items)
     × ((p : Passing) → CanGoByRow p l.initial.edges l.initial.stations.items l.bound l.before l.row → Going p l.i l.edges l.stations.items)
+    × (l.fault ≡ None)

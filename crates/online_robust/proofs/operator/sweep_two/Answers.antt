@@ -3,12 +3,13 @@ use Rattle.std.specs.Int.{w64}
 use Rattle.std.proofs.lemmas.Int.{to_z-of_z}
 use Rattle.rational.specs.Rational.{◌≈◌, whole}
 use Rattle.frac128.specs.Value.{value}
+use Rattle.online_robust.specs.Refusing.{told_by}
 use Rattle.online_robust.proofs.Bridging.{can_join, two_couple, two_edges, two_stands, two_told, two_fault}
 use Rattle.online_robust.proofs.operator.sweep_two.Goals as goal
 
-pub sweep-requires : goal.sweep-requires
-sweep-requires c =
-    let (t, b) = c.requires in
+pub sweep-requires-clause-can : goal.sweep-requires-clause-can
+sweep-requires-clause-can c =
+    let (t, b) = c.requires.can in
     let to : to_z w64 (of_z w64 c.from.result) ≡ pos c.args.to = search (rules, to_z-of_z) in
     let end : value c.of-end.result ≈ whole (pos c.args.to) = subst (λ n. value c.of-end.result ≈ whole n) to c.of-end.ensures.value in
     (two_couple t c.args.two.now c.args.edges.now c.args.to b, can_join t c.args.two.now c.args.edges.now c.args.to b, end)
@@ -38,5 +39,5 @@ pub returns-in-Err-clause-wide : goal.returns-in-Err-clause-wide
 returns-in-Err-clause-wide c = λ t b.
     let to : to_z w64 (of_z w64 c.from.result) ≡ pos c.args.to = search (rules, to_z-of_z) in
     let end : value c.of-end.result ≈ whole (pos c.args.to) = subst (λ n. value c.of-end.result ≈ whole n) to c.of-end.ensures.value in
-    two_fault t c.args.two.now c.args.edges.now c.args.to b c.in-Err.fault
+    two_fault t c.args.two.now c.args.edges.now c.args.to b (told_by c.sweep.new.fault)
     (c.in-Err.ensures.wide (two_couple t c.args.two.now c.args.edges.now c.args.to b) (can_join t c.args.two.now c.args.edges.now c.args.to b) end)

@@ -7,7 +7,7 @@ use Rattle.stl_syntax.specs.SupInf.{Robustness}
 use Rattle.value_laws.specs.declared.margin.Margin.{Margin}
 use Rattle.online_robust.specs.Lines.{end_of}
 use Rattle.online_robust.specs.Held.{held_at}
-use Rattle.online_robust.specs.Reading.{IsThere}
+use Rattle.online_robust.specs.ReadLines.{IsThere}
 use Rattle.online_robust.proofs.Losses.{loses_at_none}
 use Rattle.online_robust.proofs.PointwiseLemmas.{TakesTwo, above_of, gap_ahead, gap_there, read_ahead, read_lost, read_there}
 use Rattle.online_robust.proofs.pointwise.up_to.Goals.{After-margin, After-margin-in_default}

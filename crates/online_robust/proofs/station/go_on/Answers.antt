@@ -21,9 +21,9 @@ returns-then-is_at-clause-moved c = λ m g.
     go_same m c.args.node c.args.operator.now c.args.edges.now c.args.number g
     (sym c.number-before.ensures ∙ c.is_at.ensures.0 c.if-is_at.true ∙ ap Some back)
 
-pub give_out-requires : goal.give_out-requires
-give_out-requires c =
-    let (m, g) = c.requires in
+pub give_out-requires-clause-can : goal.give_out-requires-clause-can
+give_out-requires-clause-can c =
+    let (m, g) = c.requires.can in
     let back : to_z w64 (of_z w64 c.args.number) ≡ c.args.number = search (rules, to_z-of_z) in
     let can =
     go_give m c.args.node c.args.operator.now c.args.edges.now c.args.number g c.in-Some.start c.in-Some-from_start.to

@@ -8,13 +8,13 @@ fix-requires-clause-small c = three_bounded c.args.side c.args.before.now c.args
     (value c.args.u.now) c.chosen-first.ensures.one c.chosen-first.ensures.value c.chosen-best.ensures.one c.chosen-best.ensures.value
     c.requires.before c.requires.point c.requires.after
 
-pub returns-in-Ok : goal.returns-in-Ok
-returns-in-Ok c = three_frozen c.args.side c.args.before.now c.args.point.now c.args.after.now c.chosen-first.result c.chosen-best.result
+pub returns-in-Ok-clause-frozen : goal.returns-in-Ok-clause-frozen
+returns-in-Ok-clause-frozen c = three_frozen c.args.side c.args.before.now c.args.point.now c.args.after.now c.chosen-first.result c.chosen-best.result
     (value c.args.u.now) c.chosen-first.ensures.one c.chosen-first.ensures.value c.chosen-best.ensures.one c.chosen-best.ensures.value
     c.in-Ok.constant c.in-Ok.ensures.value.0 c.in-Ok.ensures.value.1
 
-pub returns-in-Err : goal.returns-in-Err
-returns-in-Err c =
+pub returns-in-Err-clause-fault : goal.returns-in-Err-clause-fault
+returns-in-Err-clause-fault c =
     let (v, is, has, wide) = c.in-Err.ensures.value in
     record {
       one = of_three c.args.side c.args.before.now c.args.point.now c.args.after.now c.chosen-first.result c.chosen-best.result (value c.args.u.now)

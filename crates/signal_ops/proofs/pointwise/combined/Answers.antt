@@ -1,4 +1,4 @@
-use Rattle.std.proofs.Common.{◌≡◌, ◌+◌, ◌<◌, ◌≤◌, ◌^◌, length, refl, sym, ◌∙◌, ap, subst, arith}
+use Rattle.std.proofs.Common.{◌≡◌, ◌+◌, ◌<◌, ◌≤◌, ◌^◌, ◌↔◌, IsTrue, length, refl, sym, ◌∙◌, ap, subst, arith}
 use Rattle.std.proofs.lemmas.Option.{IfSome_then}
 use Rattle.rational.specs.Rational.{IsWithin}
 use Rattle.rational.specs.Time.{Rational, ◌≈◌, ◌<ʳ◌, ◌≤ʳ◌}
@@ -19,7 +19,7 @@ use Rattle.signal_ops.specs.Pointwise.{IsFault, NamesShapes}
 use Rattle.signal_ops.proofs.Negating.{after_bounded}
 use Rattle.signal_ops.proofs.CombiningLemmas.{first_shapes, joined_shapes, chosen_is_function, tells_joined, tells_chosen, fault_of_gap, names_of_gap}
 use Rattle.signal_ops.proofs.pointwise.combined.Given.{Over}
-use Rattle.signal_ops.proofs.pointwise.combined.Goals.{After-earlier-to}
+use Rattle.signal_ops.proofs.pointwise.combined.Goals.{After-of-next}
 use Rattle.signal_ops.proofs.pointwise.combined.Goals as goal
 
 pub loop-i-init : goal.loop-i-init
@@ -60,34 +60,34 @@ knot-requires-in-loop-i-3 g c =
     (lt_of_lt_of_le before_a (le_trans stop_a (le_of_same c.requires.ends)))
 
 -- the next time is later than the last one, in the domain and within 2^34
-order : (g : Over) (c : After-earlier-to g) → stop c.loop-i.built <ʳ value c.earlier-to.result
-order g c = earlier_after {to = value c.earlier-to.result} (c.loop-i.invariant.left.later c.knot-in-loop-i-2.result c.knot-in-loop-i-2.ensures)
-    (c.loop-i.invariant.right.later c.knot-in-loop-i-3.result c.knot-in-loop-i-3.ensures) c.earlier-to.ensures.one
+order : (g : Over) (c : After-of-next g) → stop c.loop-i.built <ʳ value c.of-next.result.time
+order g c = earlier_after {to = value c.of-next.result.time} (c.loop-i.invariant.left.later c.knot-in-loop-i-2.result c.knot-in-loop-i-2.ensures)
+    (c.loop-i.invariant.right.later c.knot-in-loop-i-3.result c.knot-in-loop-i-3.ensures) c.of-next.ensures.one
 
-below : (g : Over) (c : After-earlier-to g) → value c.earlier-to.result ≤ʳ stop c.args.a.now
-below g c = le_trans c.earlier-to.ensures.left
+below : (g : Over) (c : After-of-next g) → value c.of-next.result.time ≤ʳ stop c.args.a.now
+below g c = le_trans c.of-next.ensures.before_left
     (at_knot_within g.P.Shape c.args.a.now (c.loop-i.i + 1) c.knot-in-loop-i-2.result c.len-last.ensures.signal c.knot-in-loop-i-2.ensures).below
 
-within : (g : Over) (c : After-earlier-to g) → IsWithin (2 ^ 34) (value c.earlier-to.result)
+within : (g : Over) (c : After-of-next g) → IsWithin (2 ^ 34) (value c.of-next.result.time)
 within g c = (
   le_trans c.loop-i.invariant.within.0 (le_of_lt (order g c)),
-  le_trans c.earlier-to.ensures.left
+  le_trans c.of-next.ensures.before_left
       (limited_at g.P.Shape c.args.a.now (c.loop-i.i + 1) c.knot-in-loop-i-2.result c.requires.left c.knot-in-loop-i-2.ensures).1,
 )
 
 -- both signals on the gap up to it
-left_on : (g : Over) (c : After-earlier-to g) (t : Rational) → stop c.loop-i.built <ʳ t → t <ʳ value c.earlier-to.result
+left_on : (g : Over) (c : After-of-next g) (t : Rational) → stop c.loop-i.built <ʳ t → t <ʳ value c.of-next.result.time
     → IsWorth g.P.Shape c.args.a.now t (value_at (g.P.Shape.function c.knot.result.after) t)
 left_on g c t h l = part_on_gap g.P.Shape c.args.a.now c.loop-i.i c.knot.result c.knot-in-loop-i-2.result (stop c.loop-i.built)
-    (value c.earlier-to.result) t c.loop-i.invariant.left c.knot.ensures c.knot-in-loop-i-2.ensures c.earlier-to.ensures.left h l
+    (value c.of-next.result.time) t c.loop-i.invariant.left c.knot.ensures c.knot-in-loop-i-2.ensures c.of-next.ensures.before_left h l
 
-right_on : (g : Over) (c : After-earlier-to g) (t : Rational) → stop c.loop-i.built <ʳ t → t <ʳ value c.earlier-to.result
+right_on : (g : Over) (c : After-of-next g) (t : Rational) → stop c.loop-i.built <ʳ t → t <ʳ value c.of-next.result.time
     → IsWorth g.P.Shape c.args.b.now t (value_at (g.P.Shape.function c.knot-in-loop-i.result.after) t)
 right_on g c t h l = part_on_gap g.P.Shape c.args.b.now c.loop-i.j c.knot-in-loop-i.result c.knot-in-loop-i-3.result (stop c.loop-i.built)
-    (value c.earlier-to.result) t c.loop-i.invariant.right c.knot-in-loop-i.ensures c.knot-in-loop-i-3.ensures c.earlier-to.ensures.right h l
+    (value c.of-next.result.time) t c.loop-i.invariant.right c.knot-in-loop-i.ensures c.knot-in-loop-i-3.ensures c.of-next.ensures.before_right h l
 
 -- the right signal has a knot behind its place too
-more : (g : Over) (c : After-earlier-to g) → c.loop-i.j + 1 < length c.args.b.now
+more : (g : Over) (c : After-of-next g) → c.loop-i.j + 1 < length c.args.b.now
 more g c = more_knots g.P.Shape c.args.b.now c.loop-i.j c.knot-in-loop-i.result (stop c.loop-i.built) c.loop-i.invariant.right
     c.knot-in-loop-i.ensures (lt_of_lt_of_le (c.loop-i.invariant.left.later c.knot-in-loop-i-2.result c.knot-in-loop-i-2.ensures)
     (le_trans (at_knot_within g.P.Shape c.args.a.now (c.loop-i.i + 1) c.knot-in-loop-i-2.result c.len-last.ensures.signal
@@ -95,25 +95,35 @@ more g c = more_knots g.P.Shape c.args.b.now c.loop-i.j c.knot-in-loop-i.result 
 
 pub advance-left-requires-clause-begun : goal.advance-left-requires-clause-begun
 advance-left-requires-clause-begun g c =
-    begun_before g.P.Shape c.args.a.now c.loop-i.i (stop c.loop-i.built) (value c.earlier-to.result) c.loop-i.invariant.left
-    (order g (goal.at.advance-left-requires-clause-begun g c).After-earlier-to)
+    begun_before g.P.Shape c.args.a.now c.loop-i.i (stop c.loop-i.built) (value c.of-next.result.time) c.loop-i.invariant.left
+    (order g (goal.at.advance-left-requires-clause-begun g c).After-of-next)
 
 pub advance-right-requires-clause-more : goal.advance-right-requires-clause-more
-advance-right-requires-clause-more g c = more g (goal.at.advance-right-requires-clause-more g c).After-earlier-to
+advance-right-requires-clause-more g c = more g (goal.at.advance-right-requires-clause-more g c).After-of-next
 
 pub advance-right-requires-clause-begun : goal.advance-right-requires-clause-begun
 advance-right-requires-clause-begun g c =
-    begun_before g.P.Shape c.args.b.now c.loop-i.j (stop c.loop-i.built) (value c.earlier-to.result) c.loop-i.invariant.right
-    (order g (goal.at.advance-right-requires-clause-begun g c).After-earlier-to)
+    begun_before g.P.Shape c.args.b.now c.loop-i.j (stop c.loop-i.built) (value c.of-next.result.time) c.loop-i.invariant.right
+    (order g (goal.at.advance-right-requires-clause-begun g c).After-of-next)
+
+pub advance-left-requires-clause-reaches : goal.advance-left-requires-clause-reaches
+advance-left-requires-clause-reaches g c = λ k e.
+    subst (λ k. IsTrue c.of-next.result.left ↔ (time k ≈ value c.of-next.result.time))
+    (same_knot g.P.Shape c.args.a.now (c.loop-i.i + 1) e c.knot-in-loop-i-2.ensures) c.of-next.ensures.left
+
+pub advance-right-requires-clause-reaches : goal.advance-right-requires-clause-reaches
+advance-right-requires-clause-reaches g c = λ k e.
+    subst (λ k. IsTrue c.of-next.result.right ↔ (time k ≈ value c.of-next.result.time))
+    (same_knot g.P.Shape c.args.b.now (c.loop-i.j + 1) e c.knot-in-loop-i-3.ensures) c.of-next.ensures.right
 
 pub chosen-point-requires : goal.chosen-point-requires
-chosen-point-requires g c = within g (goal.at.chosen-point-requires g c).After-earlier-to
+chosen-point-requires g c = within g (goal.at.chosen-point-requires g c).After-of-next
 
 pub join_kept-requires-clause-order : goal.join_kept-requires-clause-order
-join_kept-requires-clause-order g c = order g (goal.at.join_kept-requires-clause-order g c).After-earlier-to
+join_kept-requires-clause-order g c = order g (goal.at.join_kept-requires-clause-order g c).After-of-next
 
 pub join_kept-requires-clause-to_within : goal.join_kept-requires-clause-to_within
-join_kept-requires-clause-to_within g c = within g (goal.at.join_kept-requires-clause-to_within g c).After-earlier-to
+join_kept-requires-clause-to_within g c = within g (goal.at.join_kept-requires-clause-to_within g c).After-of-next
 
 pub join_kept-requires-clause-first : goal.join_kept-requires-clause-first
 join_kept-requires-clause-first g c =
@@ -125,10 +135,10 @@ join_kept-requires-clause-second g c = after_bounded g.P.Shape c.args.b.now c.lo
 
 pub returns-in-Err-clause-wide : goal.returns-in-Err-clause-wide
 returns-in-Err-clause-wide g c =
-    let step = (goal.at.returns-in-Err-clause-wide g c).After-earlier-to in
+    let step = (goal.at.returns-in-Err-clause-wide g c).After-of-next in
     fault_kept (IsFault g.P.Shape (IsWorth g.P.Shape c.args.a.now) (IsWorth g.P.Shape c.args.b.now) (start c.args.a.now) (stop c.args.a.now))
     c.fault_of.result c.join_kept.new.fault c.fault_of.ensures tt (IfSome_then c.join_kept.new.fault c.in-Err.ensures.wide (λ pair (from, at, fault).
-    fault_of_gap g.P.Shape c.args.a.now c.args.b.now c.knot.result.after c.knot-in-loop-i.result.after from c.earlier-to.result
+    fault_of_gap g.P.Shape c.args.a.now c.args.b.now c.knot.result.after c.knot-in-loop-i.result.after from c.of-next.result.time
     (F.Wide pair) fault (subst (λ s. start c.args.a.now ≤ʳ s) (sym at) c.loop-i.invariant.above) (below g step)
     (λ t h l. left_on g step t (subst (λ s. s <ʳ t) at h) l) (λ t h l. right_on g step t (subst (λ s. s <ʳ t) at h) l)))
 
@@ -136,7 +146,7 @@ pub returns-in-Err-clause-named : goal.returns-in-Err-clause-named
 returns-in-Err-clause-named g c =
     fault_kept (NamesShapes c.args.a.now c.args.b.now) c.fault_of.result c.join_kept.new.fault c.fault_of.ensures tt
     (IfSome_then c.join_kept.new.fault c.in-Err.ensures.wide (λ pair (from, at, fault).
-    names_of_gap g.P.Shape c.args.a.now c.args.b.now c.knot.result.after c.knot-in-loop-i.result.after from c.earlier-to.result
+    names_of_gap g.P.Shape c.args.a.now c.args.b.now c.knot.result.after c.knot-in-loop-i.result.after from c.of-next.result.time
     (F.Wide pair) fault
     (shape_after g.P.Shape c.args.a.now c.loop-i.i c.knot.result c.knot.ensures)
     (shape_after g.P.Shape c.args.b.now c.loop-i.j c.knot-in-loop-i.result c.knot-in-loop-i.ensures)))
@@ -145,18 +155,18 @@ pub loop-i-smaller : goal.loop-i-smaller
 loop-i-smaller g c =
     let inside_a : c.loop-i.i + 1 < length c.args.a.now = let more = c.loop-i-test.true in let count = c.len-last.ensures.value in omega arith in
     nearer (length c.args.a.now) (length c.args.b.now) c.loop-i.i c.loop-i.j c.advance-left.result.place c.advance-right.result.place
-    inside_a (more g (goal.at.loop-i-smaller g c).After-earlier-to) c.advance-left.ensures.moved c.advance-right.ensures.moved
+    inside_a (more g (goal.at.loop-i-smaller g c).After-of-next) c.advance-left.ensures.moved c.advance-right.ensures.moved
     (not_both g.P.Shape c.args.a.now c.args.b.now (c.loop-i.i + 1) (c.loop-i.j + 1) c.knot-in-loop-i-2.result c.knot-in-loop-i-3.result
-    (value c.earlier-to.result) c.knot-in-loop-i-2.ensures c.knot-in-loop-i-3.ensures c.earlier-to.ensures.one)
+    (value c.of-next.result.time) c.knot-in-loop-i-2.ensures c.knot-in-loop-i-3.ensures c.of-next.ensures.one)
 
 pub loop-i-preserved : goal.loop-i-preserved
 loop-i-preserved g c =
-    let step = (goal.at.loop-i-preserved g c).After-earlier-to in
+    let step = (goal.at.loop-i-preserved g c).After-of-next in
     let joins = c.in-Ok.ensures.ok in
     let ends = sym joins.ends in
     record {
       tells = tells_joined g.P.Shape c.args.side c.args.a.now c.args.b.now c.loop-i.built c.join_kept.new.self c.knot.result.after
-          c.knot-in-loop-i.result.after c.advance-left.result.shape c.advance-right.result.shape c.chosen-point.result c.earlier-to.result
+          c.knot-in-loop-i.result.after c.advance-left.result.shape c.advance-right.result.shape c.chosen-point.result c.of-next.result.time
           c.len-last.ensures.signal c.len.ensures.signal c.loop-i.invariant.tells joins (left_on g step) (right_on g step)
           c.advance-left.ensures.worth c.advance-right.ensures.worth c.chosen-point.ensures.value;
       begins = subst (λ s. s ≈ start c.args.a.now) (sym joins.begins) c.loop-i.invariant.begins;
@@ -167,7 +177,7 @@ loop-i-preserved g c =
       right = subst (λ s. IsPlace c.args.b.now s c.advance-right.result.place) ends c.advance-right.ensures.place;
       still = c.in-Ok.ensures.still;
       shapes = joined_shapes g.P.Shape c.args.side c.args.a.now c.args.b.now c.loop-i.built c.join_kept.new.self c.knot.result.after
-          c.knot-in-loop-i.result.after c.chosen-point.result c.advance-left.result.shape c.advance-right.result.shape c.earlier-to.result
+          c.knot-in-loop-i.result.after c.chosen-point.result c.advance-left.result.shape c.advance-right.result.shape c.of-next.result.time
           c.loop-i.invariant.shapes joins (shape_after g.P.Shape c.args.a.now c.loop-i.i c.knot.result c.knot.ensures)
           (shape_after g.P.Shape c.args.b.now c.loop-i.j c.knot-in-loop-i.result c.knot-in-loop-i.ensures)
           c.advance-left.ensures.shape c.advance-right.ensures.shape c.chosen-point.ensures.one;

@@ -19,7 +19,14 @@ returns c =
     let others : List ℕ = take (length c.args.rest.now - w.result) (drop w.result c.args.rest.now) in
     decimal_lexeme_of text c.args.rest.now w.result c.value_after-value.result c.requires.some c.requires.first w.ensures.within
     w.ensures.front w.ensures.stops c.value_after-value.ensures
-    others _ (rest_is w.result c.args.rest.now) (rest_is 1 others) c.digits_len-len.result c.kept_decimals-kept.result c.value_after.result c.number-2.result
-    (sym c.begins_decimals.ensures ∙ c.if-not-begins_decimals.false) c.digits_len-len.ensures.within
-    c.digits_len-len.ensures.front c.digits_len-len.ensures.stops
-    c.kept_decimals-kept.ensures.within c.kept_decimals-kept.ensures.kept c.value_after.ensures c.number-2.ensures
+    others (rest_is w.result c.args.rest.now) (rest_is 1 others) c.digits_len-len.result c.kept_decimals-kept.result c.value_after.result c.number-2.result
+    (sym c.begins_decimals.ensures ∙ c.if-not-begins_decimals.false)
+    (record {
+      within = c.digits_len-len.ensures.within;
+      digits = c.digits_len-len.ensures.front;
+      stops = c.digits_len-len.ensures.stops;
+      few = c.kept_decimals-kept.ensures.within;
+      kept = c.kept_decimals-kept.ensures.kept;
+      value = c.value_after.ensures;
+    })
+    c.number-2.ensures

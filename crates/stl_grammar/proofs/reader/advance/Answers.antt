@@ -1,8 +1,8 @@
 -- A token of the text is taken or refused.
 use Rattle.std.proofs.Common.{◌≡◌, ◌+◌, ◌-◌, ◌≤◌, ◌<◌, ℕ, List, length, drop, sym, ap, ◌∙◌, arith}
 use Rattle.std.proofs.lemmas.List.{length-drop, length-append}
-use Rattle.stl_grammar.specs.Told.{IsLexeme}
-use Rattle.stl_grammar.proofs.JudgeLaw.{tells_known}
+use Rattle.stl_grammar.specs.Spelling.{IsLexeme}
+use Rattle.stl_grammar.proofs.RefusingLaw.{tells_known}
 use Rattle.stl_grammar.specs.declared.token.Token.{Token as Code}
 use Rattle.stl_grammar.proofs.reader.advance.Goals as goal
 

@@ -3,7 +3,7 @@ use Rattle.std.proofs.Common.{◌≡◌, ◌≤◌, ap, sym, ◌∙◌, subst, f
 use Rattle.std.proofs.lemmas.Result.{IfOk-weaker}
 use Rattle.stl_syntax.specs.Characters.{is_blank, all}
 use Rattle.stl_grammar.specs.FormulaRefusals.{TokenFault}
-use Rattle.stl_grammar.specs.Reading.{IsParsed}
+use Rattle.stl_grammar.specs.ReadText.{IsParsed}
 use Rattle.stl_grammar.specs.declared.fault.FormulaFault.{FormulaFault}
 use Rattle.stl_grammar.proofs.FinishLaw.{formula_of}
 use Rattle.stl_grammar.proofs.text.parse.Goals as goal

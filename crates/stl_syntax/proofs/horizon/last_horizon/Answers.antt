@@ -3,6 +3,7 @@ use Rattle.std.specs.Prelude.{Some, slice_get, slice_index}
 use Rattle.std.proofs.lemmas.Option.{slice_get_read}
 use Rattle.stl_syntax.specs.Formula.{subformula, horizon, root, HasChildrenBelow}
 use Rattle.stl_syntax.specs.Horizons.{horizon_above}
+use Rattle.stl_syntax.proofs.FormulaLemmas.{below_later}
 use Rattle.stl_syntax.proofs.PostOrderLemmas.{placed}
 use Rattle.stl_syntax.proofs.HorizonLemmas.{horizon-above, horizons-set, horizon_within}
 use Rattle.stl_syntax.proofs.horizon.last_horizon.Goals as goal
@@ -18,7 +19,9 @@ above : (c : goal.After-table-1) → horizon (subformula c.args.nodes.now c.loop
 above c = horizon-above c.args.nodes.now c.loop-i.table c.loop-i.i c.index-nodes-i.result (below c) (at c) c.loop-i.invariant.1
 
 pub horizon_of-requires-clause-below : goal.horizon_of-requires-clause-below
-horizon_of-requires-clause-below c = below c
+horizon_of-requires-clause-below c =
+    below_later c.loop-i.i (length c.loop-i.table) c.index-nodes-i.result
+    (omega (arith, c.loop-i-test.true, c.requires.nodes.few, c.loop-i.invariant.0)) (below c)
 
 pub horizon_of-requires-clause-small : goal.horizon_of-requires-clause-small
 horizon_of-requires-clause-small c =

@@ -1,8 +1,9 @@
 use Rattle.std.proofs.Common.{rules, to_z, of_z, w64, ◌≡◌, sym, subst, pos, true}
 use Rattle.rational.specs.Rational.{whole}
 use Rattle.frac128.specs.Spans.{interval}
-use Rattle.online_nodes.specs.Cuts.{Place, place, begins, Before, Same}
-use Rattle.online_nodes.proofs.PlaceLemmas.{before_same, same_places}
+use Rattle.rational.specs.Places.{Place, begins, Before, Same}
+use Rattle.frac128.specs.Cuts.{place}
+use Rattle.rational.proofs.PlaceLemmas.{before_same, same_places}
 use Rattle.trace_stream.specs.Pendings.{just_after}
 use Rattle.trace_stream.proofs.pending.begins_by.Goals as goal
 

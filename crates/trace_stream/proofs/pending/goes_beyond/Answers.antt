@@ -1,8 +1,9 @@
 use Rattle.std.proofs.Common.{rules, to_z, of_z, w64, ◌≡◌, sym, subst, pos, true}
 use Rattle.rational.specs.Rational.{whole}
 use Rattle.frac128.specs.Spans.{interval}
-use Rattle.online_nodes.specs.Cuts.{Place, place, ends, Before, Same}
-use Rattle.online_nodes.proofs.PlaceLemmas.{same_before, same_places}
+use Rattle.rational.specs.Places.{Place, ends, Before, Same}
+use Rattle.frac128.specs.Cuts.{place}
+use Rattle.rational.proofs.PlaceLemmas.{same_before, same_places}
 use Rattle.trace_stream.specs.Pendings.{just_after}
 use Rattle.trace_stream.proofs.pending.goes_beyond.Goals as goal
 

@@ -1,4 +1,5 @@
 use Rattle.std.proofs.Common.{inl, inr, refl}
+use Rattle.std.proofs.lemmas.Bool.{false≢true}
 use Rattle.rational.specs.Extended.{value_at}
 use Rattle.frac128.specs.Value.{value}
 use Rattle.rational.proofs.Order.{le_of_lt}
@@ -16,6 +17,7 @@ returns-in-Greater g c =
     let top = value_at (f c.args.top.now) (value gap.from) in
     let level = f c.in_ok-level.level in
     record {
+      one = λ h. absurd (false≢true h);
       first = inl refl;
       second = inr (inr (c.args.low.now, start.low_of, c.in_ok-level.ensures.0, c.in_ok-level.ensures.1));
       onward = λ t v a b chosen. by_low_under (value_at (f gap.before) (value gap.from)) (f gap.left) (f gap.right)
@@ -40,6 +42,7 @@ returns g c =
     let top = value_at (f c.args.top.now) (value gap.from) in
     let level = f c.in_ok-level.level in
     record {
+      one = λ h. absurd (false≢true h);
       first = inr (inr (c.args.low.now, start.low_of, c.in_ok-level.ensures.0, c.in_ok-level.ensures.1));
       second = inr (inl refl);
       onward = λ t v a b chosen. by_low_over (value_at (f gap.before) (value gap.from)) (f gap.left) (f gap.right)

@@ -1,7 +1,7 @@
-use Rattle.std.proofs.Common.{◌+◌, ◌^◌, refl, sym, ◌∙◌, subst}
+use Rattle.std.proofs.Common.{◌+◌, ◌^◌, ◌↔◌, IsTrue, refl, sym, ◌∙◌, subst}
 use Rattle.std.proofs.lemmas.Option.{IfSome_then}
 use Rattle.rational.specs.Rational.{IsWithin}
-use Rattle.rational.specs.Time.{◌<ʳ◌, ◌≤ʳ◌}
+use Rattle.rational.specs.Time.{◌<ʳ◌, ◌≤ʳ◌, ◌≈◌}
 use Rattle.rational.proofs.Order.{le_refl, le_trans, le_of_lt, le_of_same, lt_of_lt_of_le}
 use Rattle.frac128.specs.Value.{value}
 use Rattle.pl_signal.specs.Knots.{time}
@@ -12,14 +12,14 @@ use Rattle.pl_signal.proofs.Places.{begun_before, more_knots}
 use Rattle.until_ops.proofs.LimitLemmas.{after_bounded}
 use Rattle.until_ops.proofs.PlayLemmas.{Follows, cross_cause, cross_within, left_plays, played, right_plays, value_cause, value_within}
 use Rattle.until_ops.proofs.WalkLemmas.{IsNext, IsWalk, begins_before, gap_follows, gap_to, gap_within}
-use Rattle.until_ops.proofs.WalkLemmas.{is_gap, more_right, nearer, played_level, starts_within, walked}
+use Rattle.until_ops.proofs.WalkLemmas.{is_gap, more_right, nearer, played_level, reaches_next, starts_within, walked}
 use Rattle.until_ops.proofs.since.walk.Given.{Over}
-use Rattle.until_ops.proofs.since.walk.Goals.{After-earlier-next, After-course_kept, After-join_kept}
+use Rattle.until_ops.proofs.since.walk.Goals.{After-of-next, After-course_kept, After-follow}
 use Rattle.until_ops.proofs.since.walk.Goals as goal
 
-walk : (g : Over) (c : After-earlier-next g)
+walk : (g : Over) (c : After-of-next g)
     → IsWalk g.P.Shape c.args.p.now c.args.q.now c.args.built.now c.args.now.now c.knot.result c.knot-2.result c.knot-3.result c.knot-4.result
-    c.earlier-next.result
+    c.of-next.result.time
 walk g c = record {
   two = record { laws = assumption g.met.P.Shape; left = c.len.ensures.signal; right = c.len-2.ensures.signal };
   sides = c.requires.sides;
@@ -29,9 +29,9 @@ walk g c = record {
     at_l = c.knot-2.ensures;
     at_m = c.knot-3.ensures;
     at_n = c.knot-4.ensures;
-    left = c.earlier-next.ensures.left;
-    right = c.earlier-next.ensures.right;
-    one = c.earlier-next.ensures.one;
+    left = c.of-next.ensures.before_left;
+    right = c.of-next.ensures.before_right;
+    one = c.of-next.ensures.one;
   };
 }
 
@@ -43,15 +43,15 @@ knot-requires-4 g c =
     (le_of_same c.requires.sides.ends)))
 
 pub turn_kept-requires-clause-order : goal.turn_kept-requires-clause-order
-turn_kept-requires-clause-order g c = begins_before (walk g (goal.at.turn_kept-requires-clause-order g c).After-earlier-next)
+turn_kept-requires-clause-order g c = begins_before (walk g (goal.at.turn_kept-requires-clause-order g c).After-of-next)
 
 pub turn_kept-requires-clause-from_within : goal.turn_kept-requires-clause-from_within
-turn_kept-requires-clause-from_within g c = starts_within (walk g (goal.at.turn_kept-requires-clause-from_within g c).After-earlier-next)
+turn_kept-requires-clause-from_within g c = starts_within (walk g (goal.at.turn_kept-requires-clause-from_within g c).After-of-next)
 
 pub turn_kept-requires-clause-next_within : goal.turn_kept-requires-clause-next_within
 turn_kept-requires-clause-next_within g c =
-    let w = walk g (goal.at.turn_kept-requires-clause-next_within g c).After-earlier-next in
-    gap_within w (value c.earlier-next.result) (le_of_lt (begins_before w)) (le_refl (value c.earlier-next.result))
+    let w = walk g (goal.at.turn_kept-requires-clause-next_within g c).After-of-next in
+    gap_within w (value c.of-next.result.time) (le_of_lt (begins_before w)) (le_refl (value c.of-next.result.time))
 
 pub turn_kept-requires-clause-first : goal.turn_kept-requires-clause-first
 turn_kept-requires-clause-first g c =
@@ -64,30 +64,30 @@ turn_kept-requires-clause-second g c =
     c.knot-2.ensures c.knot-4.ensures
 
 -- the whole gap up to the next knot
-whole_gap : (g : Over) (c : After-earlier-next g)
-    → Follows g.P.Shape c.args.p.now c.args.q.now (gap_to c.args.now.now c.knot.result c.knot-2.result c.earlier-next.result)
-whole_gap g c = let w = walk g c in gap_follows w c.earlier-next.result (begins_before w) (le_refl (value c.earlier-next.result))
+whole_gap : (g : Over) (c : After-of-next g)
+    → Follows g.P.Shape c.args.p.now c.args.q.now (gap_to c.args.now.now c.knot.result c.knot-2.result c.of-next.result.time)
+whole_gap g c = let w = walk g c in gap_follows w c.of-next.result.time (begins_before w) (le_refl (value c.of-next.result.time))
 
 pub returns-in_err-turn-clause-wide : goal.returns-in_err-turn-clause-wide
 returns-in_err-turn-clause-wide g c =
-    let on = whole_gap g (goal.at.returns-in_err-turn-clause-wide g c).After-earlier-next in
+    let on = whole_gap g (goal.at.returns-in_err-turn-clause-wide g c).After-of-next in
     on_err_anyway c.from_residual.result (IfSome_then c.turn_kept.new.fault c.in_err-turn.ensures.wide
     (λ pair h. cross_cause on c.knot.result.after c.knot-2.result.after (left_plays on) (right_plays on) c.args.now.now.at refl (F.Wide pair) h))
 
 pub returns-in_err-turn-clause-pair : goal.returns-in_err-turn-clause-pair
 returns-in_err-turn-clause-pair g c =
-    let on = whole_gap g (goal.at.returns-in_err-turn-clause-pair g c).After-earlier-next in
+    let on = whole_gap g (goal.at.returns-in_err-turn-clause-pair g c).After-of-next in
     on_err_anyway c.from_residual.result (IfSome_then c.turn_kept.new.fault c.in_err-turn.ensures.wide
     (λ pair h. cross_within on c.knot.result.after c.knot-2.result.after c.args.now.now.at refl (F.Wide pair) h))
 
 pub course_kept-requires-clause-gap : goal.course_kept-requires-clause-gap
-course_kept-requires-clause-gap g c = is_gap (walk g (goal.at.course_kept-requires-clause-gap g c).After-earlier-next) c.in_ok-turn.turn c.in_ok-turn.ensures.ok
+course_kept-requires-clause-gap g c = is_gap (walk g (goal.at.course_kept-requires-clause-gap g c).After-of-next) c.in_ok-turn.turn c.in_ok-turn.ensures.ok
 
 -- the gap up to the next event
 gap : (g : Over) (c : After-course_kept g)
     → Follows g.P.Shape c.args.p.now c.args.q.now (gap_to c.args.now.now c.knot.result c.knot-2.result c.in_ok-turn.turn.time)
 gap g c =
-    gap_follows (walk g (goal.at.After-course_kept g c).After-earlier-next) c.in_ok-turn.turn.time c.in_ok-turn.ensures.ok.after
+    gap_follows (walk g (goal.at.After-course_kept g c).After-of-next) c.in_ok-turn.turn.time c.in_ok-turn.ensures.ok.after
     c.in_ok-turn.ensures.ok.not_later
 
 pub returns-in_err-course-clause-wide : goal.returns-in_err-course-clause-wide
@@ -102,8 +102,8 @@ returns-in_err-course-clause-pair g c =
     on_err_anyway c.from_residual-in_err-course.result (IfSome_then c.course_kept.new.fault c.in_err-course.ensures.wide
     (λ pair h. value_within on (F.Wide pair) h))
 
-pub join_kept-requires-clause-order : goal.join_kept-requires-clause-order
-join_kept-requires-clause-order g c = subst (λ t. t <ʳ value c.in_ok-turn.turn.time) (sym c.requires.stands.ends) c.in_ok-turn.ensures.ok.after
+pub follow-requires-clause-order : goal.follow-requires-clause-order
+follow-requires-clause-order g c = subst (λ t. t <ʳ value c.in_ok-turn.turn.time) (sym c.requires.stands.ends) c.in_ok-turn.ensures.ok.after
 
 pub advance-left-requires-clause-begun : goal.advance-left-requires-clause-begun
 advance-left-requires-clause-begun g c =
@@ -118,57 +118,75 @@ advance-right-requires-clause-begun g c =
 pub advance-left-requires-clause-next : goal.advance-left-requires-clause-next
 advance-left-requires-clause-next g c = λ k e.
     subst (λ k. value c.in_ok-turn.turn.time ≤ʳ time k) (same_knot g.P.Shape c.args.p.now (c.args.now.now.left + 1) e c.knot-3.ensures)
-    (le_trans c.in_ok-turn.ensures.ok.not_later c.earlier-next.ensures.left)
+    (le_trans c.in_ok-turn.ensures.ok.not_later c.of-next.ensures.before_left)
 
 pub advance-right-requires-clause-more : goal.advance-right-requires-clause-more
-advance-right-requires-clause-more g c = more_right (walk g (goal.at.advance-right-requires-clause-more g c).After-earlier-next)
+advance-right-requires-clause-more g c = more_right (walk g (goal.at.advance-right-requires-clause-more g c).After-of-next)
 
 pub advance-right-requires-clause-next : goal.advance-right-requires-clause-next
 advance-right-requires-clause-next g c = λ k e.
     subst (λ k. value c.in_ok-turn.turn.time ≤ʳ time k) (same_knot g.P.Shape c.args.q.now (c.args.now.now.right + 1) e c.knot-4.ensures)
-    (le_trans c.in_ok-turn.ensures.ok.not_later c.earlier-next.ensures.right)
+    (le_trans c.in_ok-turn.ensures.ok.not_later c.of-next.ensures.before_right)
 
-pub point-value-requires : goal.point-value-requires
-point-value-requires g c =
-    gap_within (walk g (goal.at.point-value-requires g c).After-earlier-next)
+pub advance-left-requires-clause-reaches : goal.advance-left-requires-clause-reaches
+advance-left-requires-clause-reaches g c = λ k e.
+    subst (λ k. IsTrue c.is_reached.result ↔ (time k ≈ value c.in_ok-turn.turn.time))
+    (same_knot g.P.Shape c.args.p.now (c.args.now.now.left + 1) e c.knot-3.ensures)
+    (reaches_next c.in_ok-turn.turn c.in_ok-turn.ensures.ok c.is_reached.ensures c.of-next.ensures.before_left c.of-next.ensures.left)
+
+pub advance-right-requires-clause-reaches : goal.advance-right-requires-clause-reaches
+advance-right-requires-clause-reaches g c = λ k e.
+    subst (λ k. IsTrue c.is_reached-2.result ↔ (time k ≈ value c.in_ok-turn.turn.time))
+    (same_knot g.P.Shape c.args.q.now (c.args.now.now.right + 1) e c.knot-4.ensures)
+    (reaches_next c.in_ok-turn.turn c.in_ok-turn.ensures.ok c.is_reached-2.ensures c.of-next.ensures.before_right c.of-next.ensures.right)
+
+pub point-value-requires-clause-within : goal.point-value-requires-clause-within
+point-value-requires-clause-within g c =
+    gap_within (walk g (goal.at.point-value-requires-clause-within g c).After-of-next)
     (value c.in_ok-turn.turn.time) (le_of_lt c.in_ok-turn.ensures.ok.after) c.in_ok-turn.ensures.ok.not_later
 
-pub join_kept-requires-clause-from_within : goal.join_kept-requires-clause-from_within
-join_kept-requires-clause-from_within g c =
-    subst (IsWithin (2 ^ 34)) (sym c.requires.stands.ends) (starts_within (walk g (goal.at.join_kept-requires-clause-from_within g c).After-earlier-next))
+pub point-value-requires-clause-one : goal.point-value-requires-clause-one
+point-value-requires-clause-one g c = c.in_ok-course.ensures.ok.one
 
-pub join_kept-requires-clause-to_within : goal.join_kept-requires-clause-to_within
-join_kept-requires-clause-to_within g c =
-    gap_within (walk g (goal.at.join_kept-requires-clause-to_within g c).After-earlier-next)
+pub follow-requires-clause-one : goal.follow-requires-clause-one
+follow-requires-clause-one g c = c.in_ok-course.ensures.ok.one
+
+pub follow-requires-clause-from_within : goal.follow-requires-clause-from_within
+follow-requires-clause-from_within g c =
+    subst (IsWithin (2 ^ 34)) (sym c.requires.stands.ends) (starts_within (walk g (goal.at.follow-requires-clause-from_within g c).After-of-next))
+
+pub follow-requires-clause-to_within : goal.follow-requires-clause-to_within
+follow-requires-clause-to_within g c =
+    gap_within (walk g (goal.at.follow-requires-clause-to_within g c).After-of-next)
     (value c.in_ok-turn.turn.time) (le_of_lt c.in_ok-turn.ensures.ok.after) c.in_ok-turn.ensures.ok.not_later
 
-pub join_kept-requires-clause-first : goal.join_kept-requires-clause-first
-join_kept-requires-clause-first g c =
-    played_level (walk g (goal.at.join_kept-requires-clause-first g c).After-earlier-next) c.in_ok-turn.turn.time c.in_ok-course.course.first
+pub follow-requires-clause-first : goal.follow-requires-clause-first
+follow-requires-clause-first g c =
+    played_level (walk g (goal.at.follow-requires-clause-first g c).After-of-next) c.in_ok-turn.turn.time c.in_ok-course.course.first
     c.in_ok-course.ensures.ok.first
 
-pub join_kept-requires-clause-second : goal.join_kept-requires-clause-second
-join_kept-requires-clause-second g c =
-    played_level (walk g (goal.at.join_kept-requires-clause-second g c).After-earlier-next) c.in_ok-turn.turn.time
+pub follow-requires-clause-second : goal.follow-requires-clause-second
+follow-requires-clause-second g c =
+    played_level (walk g (goal.at.follow-requires-clause-second g c).After-of-next) c.in_ok-turn.turn.time
     c.in_ok-course.course.second c.in_ok-course.ensures.ok.second
 
-pub returns-in_err-join_kept-clause-wide : goal.returns-in_err-join_kept-clause-wide
-returns-in_err-join_kept-clause-wide g c =
-    let on = gap g (goal.at.returns-in_err-join_kept-clause-wide g c).After-course_kept in
+pub returns-in_err-follow-clause-wide : goal.returns-in_err-follow-clause-wide
+returns-in_err-follow-clause-wide g c =
+    let on = gap g (goal.at.returns-in_err-follow-clause-wide g c).After-course_kept in
     let course = c.in_ok-course.course in let order = c.in_ok-turn.ensures.ok.in_order in
-    on_err_anyway c.from_residual-in_err-join_kept.result (IfSome_then c.join_kept.new.fault c.in_err-join_kept.ensures.wide
+    on_err_anyway c.from_residual-in_err-follow.result (IfSome_then c.follow.new.fault c.in_err-follow.ensures.wide
     (λ pair w. cross_cause on course.first course.second (played on order course.first c.in_ok-course.ensures.ok.first)
     (played on order course.second c.in_ok-course.ensures.ok.second) w.0 (w.1 ∙ c.requires.stands.ends) (F.Wide pair) w.2))
 
-pub returns-in_err-join_kept-clause-pair : goal.returns-in_err-join_kept-clause-pair
-returns-in_err-join_kept-clause-pair g c =
-    let on = gap g (goal.at.returns-in_err-join_kept-clause-pair g c).After-course_kept in
-    on_err_anyway c.from_residual-in_err-join_kept.result (IfSome_then c.join_kept.new.fault c.in_err-join_kept.ensures.wide
+pub returns-in_err-follow-clause-pair : goal.returns-in_err-follow-clause-pair
+returns-in_err-follow-clause-pair g c =
+    let on = gap g (goal.at.returns-in_err-follow-clause-pair g c).After-course_kept in
+    on_err_anyway c.from_residual-in_err-follow.result (IfSome_then c.follow.new.fault c.in_err-follow.ensures.wide
     (λ pair w. cross_within on c.in_ok-course.course.first c.in_ok-course.course.second w.0 (w.1 ∙ c.requires.stands.ends) (F.Wide pair) w.2))
 
 -- the next event
-event : (g : Over) (c : After-join_kept g)
-    → IsNext g.P.Shape c.args.p.now c.args.q.now c.args.now.now c.knot.result c.knot-2.result c.earlier-next.result
+event : (g : Over) (c : After-follow g)
+    → IsNext g.P.Shape c.args.p.now c.args.q.now c.args.now.now c.knot.result c.knot-2.result c.of-next.result.time
     c.in_ok-turn.turn c.in_ok-course.course c.advance-left.result c.advance-right.result c.point-value.result
 event g c = record {
   turning = c.in_ok-turn.ensures.ok;
@@ -192,10 +210,10 @@ event g c = record {
 pub returns-clause-ok : goal.returns-clause-ok
 returns-clause-ok g c =
     let at = goal.at.returns-clause-ok g c in
-    walked (walk g at.After-earlier-next) (event g at.After-join_kept) c.join_kept.new.self c.in_ok-join_kept.ensures.ok
+    walked (walk g at.After-of-next) (event g at.After-follow) c.follow.new.built c.in_ok-follow.ensures.ok
 
 pub returns-clause-nearer : goal.returns-clause-nearer
 returns-clause-nearer g c =
     let at = goal.at.returns-clause-nearer g c in
-    let w = walk g at.After-earlier-next in
-    nearer w (event g at.After-join_kept) c.requires.more (more_right w)
+    let w = walk g at.After-of-next in
+    nearer w (event g at.After-follow) c.requires.more (more_right w)

@@ -26,7 +26,8 @@ pub at_low-requires : goal.at_low-requires
 at_low-requires g c = record {
   small = c.requires.way.small;
   room = let s = low_small g.P.Shape (assumption g.met.P.Shape) c.args.s.now c.args.way.now c.requires.way in
-      room (g.P.Shape.base c.args.piece.now.shape) c.args.way.now.over.low (c.requires.way.near c.args.piece.now.shape c.requires.can.is.of_signal) s.0 s.1;
+      room (g.P.Shape.base c.args.piece.now.item.value) c.args.way.now.over.low
+      (c.requires.way.near c.args.piece.now.item.value c.requires.can.is.of_signal) s.0 s.1;
 }
 
 pub admit-requires : goal.admit-requires
@@ -51,8 +52,8 @@ pub at_high-requires : goal.at_high-requires
 at_high-requires g c = record {
   small = c.requires.way.small;
   room = let s = high_small g.P.Shape (assumption g.met.P.Shape) c.args.s.now c.args.way.now c.requires.way in
-      room (g.P.Shape.base c.args.piece.now.shape) c.args.way.now.over.high
-      (c.requires.way.near c.args.piece.now.shape c.requires.can.is.of_signal) s.0 s.1;
+      room (g.P.Shape.base c.args.piece.now.item.value) c.args.way.now.over.high
+      (c.requires.way.near c.args.piece.now.item.value c.requires.can.is.of_signal) s.0 s.1;
 }
 
 pub admit-requires-in-AtHigh : goal.admit-requires-in-AtHigh

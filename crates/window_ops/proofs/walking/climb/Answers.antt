@@ -5,7 +5,7 @@ use Rattle.envelope.proofs.Bests.{on_ok}
 use Rattle.envelope.proofs.Faulting.{on_err}
 use Rattle.window_ops.specs.Going.{HasClimbed, StandsAt, turn_of}
 use Rattle.window_ops.proofs.Reaching.{knot_from, knot_in, knot_to}
-use Rattle.window_ops.proofs.Climbs.{climb_level, climb_order, climb_refused, climbs, never_climbs, stopped_within}
+use Rattle.window_ops.proofs.Climbs.{climb_level, climb_order, climb_refused, climbs, hidden_climbs, never_climbs, stopped_within}
 use Rattle.window_ops.proofs.Counting.{clamped_high, clamped_within, start_within, stop_within}
 use Rattle.window_ops.proofs.Ends.{come_moved}
 use Rattle.window_ops.proofs.Freezing.{high_small, room}
@@ -38,11 +38,11 @@ at_high-gap-requires g c = record {
 pub climb-requires : goal.climb-requires
 climb-requires g c =
     let before = c.requires.stands.1 c.args.knot.now c.requires.here in record {
-      can = (before.goes.can c.clamped-begin.result (clamped_high g.P.Shape
-          (assumption g.met.P.Shape) c.args.s.now c.args.way.now c.requires.way c.meets-from.result c.clamped-begin.result
+      can = (before.goes.can c.clamped-begin.result.now (clamped_high g.P.Shape
+          (assumption g.met.P.Shape) c.args.s.now c.args.way.now c.requires.way c.meets-from.result c.clamped-begin.result.now
           (turn_of c.args.knot.now.time true) c.clamped-begin.ensures (λ t h. ((come_moved c.meets-from.result
           (turn_of c.args.knot.now.time true) c.args.way.now.over.high c.meets-from.ensures.at c.meets-from.ensures.after) t).0 h))).0;
-      from_within = clamped_within c.args.way.now c.meets-from.result c.clamped-begin.result (start_within g.P.Shape
+      from_within = clamped_within c.args.way.now c.meets-from.result c.clamped-begin.result.now (start_within g.P.Shape
           (assumption g.met.P.Shape) c.args.s.now c.args.way.now c.requires.way)
           (moved_within g.P.Shape (assumption g.met.P.Shape) c.args.s.now c.args.way.now c.requires.way
           (value c.args.knot.now.time) (value c.meets-from.result.at) c.args.way.now.over.high
@@ -64,7 +64,7 @@ climb-requires g c =
           (turn_of c.args.knot.now.time true) c.args.way.now.over.high c.meets-from.ensures.at c.meets-from.ensures.after)
           (come_moved c.meets-until.result (turn_of c.args.next.now.time false) c.args.way.now.over.high c.meets-until.ensures.at
           c.meets-until.ensures.after)
-          c.clamped-begin.result c.stopped-end.result c.clamped-begin.ensures c.stopped-end.ensures c.at_high-gap.result c.at_high-gap.ensures.value
+          c.clamped-begin.result.now c.stopped-end.result c.clamped-begin.ensures c.stopped-end.ensures c.at_high-gap.result c.at_high-gap.ensures.value
           c.at_high-gap.ensures.base c.requires.some
           (c.lasts.ensures.yes c.if-lasts.true).1 (c.lasts.ensures.yes c.if-lasts.true).0;
       level = climb_level g.P.Shape (assumption g.met.P.Shape) c.args.s.now c.args.way.now c.requires.way c.args.i c.args.knot.now c.args.next.now
@@ -72,7 +72,7 @@ climb-requires g c =
           (turn_of c.args.knot.now.time true) c.args.way.now.over.high c.meets-from.ensures.at c.meets-from.ensures.after)
           (come_moved c.meets-until.result (turn_of c.args.next.now.time false) c.args.way.now.over.high c.meets-until.ensures.at
           c.meets-until.ensures.after)
-          c.clamped-begin.result c.stopped-end.result c.clamped-begin.ensures c.stopped-end.ensures c.at_high-gap.result c.at_high-gap.ensures.value
+          c.clamped-begin.result.now c.stopped-end.result c.clamped-begin.ensures c.stopped-end.ensures c.at_high-gap.result c.at_high-gap.ensures.value
           c.at_high-gap.ensures.base c.requires.some
           (c.lasts.ensures.yes c.if-lasts.true).1 (c.lasts.ensures.yes c.if-lasts.true).0;
     }
@@ -85,11 +85,11 @@ returns-then-lasts-clause-climbed g c = on_ok c.climb.result (λ climbed k n par
     c.requires.next c.meets-from.result c.meets-until.result (come_moved c.meets-from.result
     (turn_of c.args.knot.now.time true) c.args.way.now.over.high c.meets-from.ensures.at c.meets-from.ensures.after)
     (come_moved c.meets-until.result (turn_of c.args.next.now.time false) c.args.way.now.over.high c.meets-until.ensures.at c.meets-until.ensures.after)
-    c.clamped-begin.result c.stopped-end.result c.clamped-begin.ensures c.stopped-end.ensures c.at_high-gap.result c.at_high-gap.ensures.value
+    c.clamped-begin.result.now c.stopped-end.result c.clamped-begin.ensures c.stopped-end.ensures c.at_high-gap.result c.at_high-gap.ensures.value
     c.at_high-gap.ensures.base c.requires.some
     (c.lasts.ensures.yes c.if-lasts.true).1 (c.lasts.ensures.yes c.if-lasts.true).0
     parts c.args.walk.now c.climb.new.self climbed
-    (subst (λ k. StandsAt g.P.Shape c.args.s.now c.args.way.now (turn_of k.time true) parts c.args.walk.now)
+    (subst (λ k. StandsAt g.P.Shape c.args.s.now c.args.way.now c.args.i k true parts c.args.walk.now)
     (some_is (sym there ∙ c.requires.here)) stands)))) c.climb.ensures.climbed
 
 pub returns-then-lasts-clause-fault : goal.returns-then-lasts-clause-fault
@@ -100,7 +100,7 @@ returns-then-lasts-clause-fault g c =
     c.requires.next c.meets-from.result c.meets-until.result (come_moved c.meets-from.result
     (turn_of c.args.knot.now.time true) c.args.way.now.over.high c.meets-from.ensures.at c.meets-from.ensures.after)
     (come_moved c.meets-until.result (turn_of c.args.next.now.time false) c.args.way.now.over.high c.meets-until.ensures.at c.meets-until.ensures.after)
-    c.clamped-begin.result c.stopped-end.result c.clamped-begin.ensures c.stopped-end.ensures c.at_high-gap.result c.at_high-gap.ensures.value
+    c.clamped-begin.result.now c.stopped-end.result c.clamped-begin.ensures c.stopped-end.ensures c.at_high-gap.result c.at_high-gap.ensures.value
     c.at_high-gap.ensures.base c.requires.some
     (c.lasts.ensures.yes c.if-lasts.true).1 (c.lasts.ensures.yes c.if-lasts.true).0
     c.requires.stands.0 c.args.walk.now c.climb.new.self.course.fault before
@@ -115,5 +115,36 @@ returns-clause-climbed g c k n parts there after stands =
     (turn_of c.args.knot.now.time true) c.args.way.now.over.high c.meets-from.ensures.at c.meets-from.ensures.after)
     (come_moved c.meets-until.result (turn_of c.args.next.now.time false) c.args.way.now.over.high c.meets-until.ensures.at c.meets-until.ensures.after)
     parts c.args.walk.now c.meets-from.ensures.after c.meets-until.ensures.after (c.lasts.ensures.no c.if-lasts.false)
-    (subst (λ k. StandsAt g.P.Shape c.args.s.now c.args.way.now (turn_of k.time true) parts c.args.walk.now)
+    (subst (λ k. StandsAt g.P.Shape c.args.s.now c.args.way.now c.args.i k true parts c.args.walk.now)
     (some_is (sym there ∙ c.requires.here)) stands)))
+
+pub hides-requires : goal.hides-requires
+hides-requires g c = record {
+  within = stopped_within c.args.way.now c.meets-until.result c.stopped-end.result (stop_within g.P.Shape
+      (assumption g.met.P.Shape) c.args.s.now c.args.way.now c.requires.way)
+      (moved_within g.P.Shape (assumption g.met.P.Shape) c.args.s.now c.args.way.now c.requires.way
+      (value c.args.next.now.time) (value c.meets-until.result.at) c.args.way.now.over.high
+      (knot_in g.P.Shape (assumption g.met.P.Shape) c.args.s.now c.args.way.now c.requires.way
+      (c.args.i + 1) c.args.next.now c.requires.next).above (knot_in g.P.Shape
+      (assumption g.met.P.Shape) c.args.s.now c.args.way.now c.requires.way (c.args.i + 1) c.args.next.now c.requires.next).below
+      (high_from c.args.way.now.over c.requires.way.small)
+      (high_to c.args.way.now.over c.requires.way.small) c.meets-until.ensures.at) c.stopped-end.ensures;
+}
+
+pub returns-then-hides : goal.returns-then-hides
+returns-then-hides g c = record {
+  climbed = λ k n parts there after stands.
+      subst (λ k. HasClimbed g.P.Shape c.args.s.now c.args.way.now k n parts c.args.walk.now) (some_is (sym c.requires.here ∙ there))
+      (subst (λ n. HasClimbed g.P.Shape c.args.s.now c.args.way.now c.args.knot.now n parts c.args.walk.now) (some_is (sym c.requires.next ∙ after))
+      (hidden_climbs g.P.Shape (assumption g.met.P.Shape) c.args.s.now c.args.way.now c.requires.way c.args.i c.args.knot.now c.args.next.now c.requires.here
+      c.requires.next c.meets-from.result c.meets-until.result (come_moved c.meets-from.result
+      (turn_of c.args.knot.now.time true) c.args.way.now.over.high c.meets-from.ensures.at c.meets-from.ensures.after)
+      (come_moved c.meets-until.result (turn_of c.args.next.now.time false) c.args.way.now.over.high c.meets-until.ensures.at c.meets-until.ensures.after)
+      c.clamped-begin.result.now c.stopped-end.result c.clamped-begin.ensures c.stopped-end.ensures c.at_high-gap.result c.at_high-gap.ensures.value
+      c.at_high-gap.ensures.base c.requires.some
+      (c.lasts.ensures.yes c.if-lasts.true).1 (c.lasts.ensures.yes c.if-lasts.true).0
+      parts c.args.walk.now (c.hides.ensures c.if-hides.true)
+      (subst (λ k. StandsAt g.P.Shape c.args.s.now c.args.way.now c.args.i k true parts c.args.walk.now)
+      (some_is (sym there ∙ c.requires.here)) stands)));
+  fault = tt;
+}

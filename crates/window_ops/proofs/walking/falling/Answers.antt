@@ -118,7 +118,7 @@ returns-clause-comes g c = on_ok c.count.result (λ counted parts stands.
     (low_to c.args.way.now.over c.requires.way.small) c.leaves-last.ensures.at) c.slope_of-slope.result c.slope_of-slope.ensures parts
     c.args.walk.now before) in (
       h.parts,
-      λ n there. subst (λ n. StandsAt g.P.Shape c.args.s.now c.args.way.now (turn_of n.time false) h.parts c.count.new.walk)
+      λ n there. subst (λ n. StandsAt g.P.Shape c.args.s.now c.args.way.now (c.args.i + 1) n false h.parts c.count.new.walk)
           (some_is (sym c.knot-next.ensures ∙ there))
           (came_falling g.P.Shape (assumption g.met.P.Shape) c.args.s.now c.args.way.now c.requires.way c.args.i c.knot-knot.result
           c.knot-next.result c.knot-knot.ensures c.knot-next.ensures c.requires.wide
@@ -149,7 +149,7 @@ pub returns-in_default : goal.returns-in_default
 returns-in_default g c = record {
   comes = λ parts stands. (
     parts,
-    λ n there. subst (λ n. StandsAt g.P.Shape c.args.s.now c.args.way.now (turn_of n.time false) parts c.args.walk.now)
+    λ n there. subst (λ n. StandsAt g.P.Shape c.args.s.now c.args.way.now (c.args.i + 1) n false parts c.args.walk.now)
         (some_is (sym c.knot-next.ensures ∙ there))
         (came_none g.P.Shape (assumption g.met.P.Shape) c.args.s.now c.args.way.now c.requires.way c.args.i c.knot-knot.result c.knot-next.result
         c.knot-knot.ensures c.knot-next.ensures c.requires.wide parts c.args.walk.now c.leaves-last.result

@@ -4,8 +4,8 @@ use Rattle.rational.specs.Affine.{IsSteady}
 use Rattle.window_ops.specs.Going.{GetsBetter, GetsWorse, HasRefused}
 use Rattle.pl_signal.proofs.Values.{some_is}
 use Rattle.envelope.proofs.Faulting.{on_err}
+use Rattle.envelope.proofs.Trends.{better_of, steady_of, worse_of}
 use Rattle.window_ops.proofs.Shifts.{equal_offsets, ok_any}
-use Rattle.window_ops.proofs.Values.{better_of, steady_of, worse_of}
 use Rattle.window_ops.proofs.walking.gap.Goals as goal
 
 pub instant-requires : goal.instant-requires

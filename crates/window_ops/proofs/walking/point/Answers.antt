@@ -1,8 +1,8 @@
 use Rattle.std.proofs.Common.{true, sym, ◌∙◌, subst}
 use Rattle.pl_signal.proofs.Values.{some_is}
 use Rattle.envelope.proofs.Bests.{on_ok}
-use Rattle.window_ops.specs.Going.{StandsAt, turn_of}
-use Rattle.window_ops.proofs.Covering.{came_point, can_point}
+use Rattle.window_ops.specs.Going.{StandsAt}
+use Rattle.window_ops.proofs.Covering.{came_point, came_worthless, can_point}
 use Rattle.window_ops.proofs.Spans.{span_point}
 use Rattle.window_ops.proofs.Reaching.{knot_from, knot_in, knot_to}
 use Rattle.window_ops.proofs.walking.point.Goals as goal
@@ -48,9 +48,21 @@ returns-clause-comes g c = on_ok c.count.result (λ counted parts stands.
     span parts c.args.walk.now before in
     let h = counted can in (
       h.parts,
-      λ k here. subst (λ k. StandsAt g.P.Shape c.args.s.now c.args.way.now (turn_of k.time true) h.parts c.count.new.walk)
+      λ k here. subst (λ k. StandsAt g.P.Shape c.args.s.now c.args.way.now c.args.i k true h.parts c.count.new.walk)
           (some_is (sym c.knot-knot.ensures ∙ here))
           (came_point g.P.Shape (assumption g.met.P.Shape) c.args.s.now c.args.way.now c.requires.way c.args.i c.knot-knot.result c.knot-knot.ensures
           c.meets.result c.leaves.result
           span parts c.args.walk.now c.count.new.walk before h),
     )) c.count.ensures.counted
+
+pub returns-then-is_worthless : goal.returns-then-is_worthless
+returns-then-is_worthless g c = record {
+  comes = λ parts stands. (
+    parts,
+    λ k here. subst (λ k. StandsAt g.P.Shape c.args.s.now c.args.way.now c.args.i k true parts c.args.walk.now) (some_is (sym c.knot-knot.ensures ∙ here))
+        (came_worthless g.P.Shape (assumption g.met.P.Shape) c.args.s.now c.args.way.now c.requires.way c.args.i c.knot-knot.result c.knot-knot.ensures
+        parts c.args.walk.now (stands c.knot-knot.result c.knot-knot.ensures) (c.is_worthless.ensures c.if-is_worthless.true)),
+  );
+  still = c.requires.none;
+  fault = tt;
+}

@@ -4,7 +4,7 @@ use Rattle.frac128.specs.Value.{value}
 use Rattle.pl_signal.proofs.Values.{some_is}
 use Rattle.envelope.proofs.Bests.{on_ok}
 use Rattle.envelope.proofs.Faulting.{err_any}
-use Rattle.window_ops.specs.Going.{HasRefused, StandsAt, turn_of}
+use Rattle.window_ops.specs.Going.{HasRefused, StandsAt}
 use Rattle.window_ops.proofs.Reaching.{knot_from, knot_in, knot_to}
 use Rattle.window_ops.proofs.Gaps.{came_rising, can_rising}
 use Rattle.window_ops.proofs.Spans.{span_wide}
@@ -78,7 +78,7 @@ returns-clause-comes g c = on_ok c.count.result (λ counted parts stands.
     c.meets-from.ensures.at c.meets-from.ensures.after c.leaves-until.ensures.at c.leaves-until.ensures.after c.requires.wide
     (le_refl (value c.knot-next.result.time))) parts c.climb.new.walk climbed) in (
       h.parts,
-      λ n there. subst (λ n. StandsAt g.P.Shape c.args.s.now c.args.way.now (turn_of n.time false) h.parts c.count.new.walk)
+      λ n there. subst (λ n. StandsAt g.P.Shape c.args.s.now c.args.way.now (c.args.i + 1) n false h.parts c.count.new.walk)
           (some_is (sym c.knot-next.ensures ∙ there))
           (came_rising g.P.Shape (assumption g.met.P.Shape) c.args.s.now c.args.way.now c.requires.way c.args.i c.knot-knot.result c.knot-next.result
           c.knot-knot.ensures c.knot-next.ensures c.requires.wide

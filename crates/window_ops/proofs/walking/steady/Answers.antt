@@ -2,8 +2,9 @@ use Rattle.std.proofs.Common.{◌+◌, true, false, arith, sym, ◌∙◌, subst
 use Rattle.rational.proofs.Order.{le_of_lt}
 use Rattle.pl_signal.proofs.Values.{next_rises, some_is}
 use Rattle.envelope.proofs.Bests.{on_ok}
-use Rattle.window_ops.specs.Going.{StandsAt, turn_of}
+use Rattle.window_ops.specs.Going.{StandsAt}
 use Rattle.window_ops.proofs.Reaching.{knot_from, knot_in, knot_to}
+use Rattle.window_ops.proofs.Covering.{came_nothing}
 use Rattle.window_ops.proofs.Gaps.{came_steady, can_steady}
 use Rattle.window_ops.proofs.Spans.{span_wide}
 use Rattle.window_ops.proofs.walking.steady.Goals as goal
@@ -65,7 +66,7 @@ returns-clause-comes g c = on_ok c.count.result (λ counted parts stands.
     (le_of_lt (next_rises g.P.Shape c.args.s.now c.args.i c.knot-knot.result c.knot-next.result c.requires.way.signal.each c.knot-knot.ensures
     c.knot-next.ensures))) c.meets-from.ensures.after c.leaves-until.ensures.after parts c.args.walk.now before) in (
       h.parts,
-      λ n there. subst (λ n. StandsAt g.P.Shape c.args.s.now c.args.way.now (turn_of n.time false) h.parts c.count.new.walk)
+      λ n there. subst (λ n. StandsAt g.P.Shape c.args.s.now c.args.way.now (c.args.i + 1) n false h.parts c.count.new.walk)
           (some_is (sym c.knot-next.ensures ∙ there))
           (came_steady g.P.Shape (assumption g.met.P.Shape) c.args.s.now c.args.way.now c.requires.way c.args.i c.knot-knot.result c.knot-next.result
           c.knot-knot.ensures c.knot-next.ensures c.requires.wide
@@ -83,3 +84,17 @@ returns-clause-comes g c = on_ok c.count.result (λ counted parts stands.
           c.knot-knot.ensures c.knot-next.ensures))) c.meets-from.ensures.after c.leaves-until.ensures.after parts c.args.walk.now
           c.count.new.walk before h),
     )) c.count.ensures.counted
+
+pub returns-then-is_worthless : goal.returns-then-is_worthless
+returns-then-is_worthless g c = record {
+  comes = λ parts stands. (
+    parts,
+    λ n there. subst (λ n. StandsAt g.P.Shape c.args.s.now c.args.way.now (c.args.i + 1) n false parts c.args.walk.now)
+        (some_is (sym c.knot-next.ensures ∙ there))
+        (came_nothing g.P.Shape (assumption g.met.P.Shape) c.args.s.now c.args.way.now c.requires.way c.args.i c.knot-knot.result c.knot-next.result
+        c.knot-knot.ensures c.knot-next.ensures parts c.args.walk.now (stands c.knot-knot.result c.knot-knot.ensures)
+        (c.is_worthless.ensures c.if-is_worthless.true)),
+  );
+  still = c.requires.none;
+  fault = tt;
+}

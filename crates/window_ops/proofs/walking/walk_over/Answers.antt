@@ -61,9 +61,10 @@ gap-requires g c = record {
   stands = c.loop-i.invariant.stands;
 }
 
-pub point-requires-in-loop-i : goal.point-requires-in-loop-i
-point-requires-in-loop-i g c =
+pub later_point-requires : goal.later_point-requires
+later_point-requires g c =
     let h = c.in_ok-gap.ensures.comes c.loop-i.invariant.stands.0 c.loop-i.invariant.stands.1 in record {
+      later = let a = c.loop-i.auto.i in omega (arith, a);
       place = let b = c.loop-i-test.true in let e = c.len-count.ensures.value in omega (arith, b, e);
       way = c.requires.way;
       some = c.is_empty.ensures.not c.if-is_empty.false;
@@ -74,10 +75,10 @@ point-requires-in-loop-i g c =
 pub loop-i-preserved : goal.loop-i-preserved
 loop-i-preserved g c =
     let h = c.in_ok-gap.ensures.comes c.loop-i.invariant.stands.0 c.loop-i.invariant.stands.1 in
-    let p = c.in_ok-point-2.ensures.comes h.0 (subst (λ j. StandsBy g.P.Shape c.args.s.now c.args.way.now j false h.0 c.gap.new.walk)
+    let p = c.in_ok-later_point.ensures.comes h.0 (subst (λ j. StandsBy g.P.Shape c.args.s.now c.args.way.now j false h.0 c.gap.new.walk)
     (back_on c.loop-i.i c.loop-i.auto.i) h.1) in record {
-      stands = (p.0, subst (λ j. StandsBy g.P.Shape c.args.s.now c.args.way.now j true p.0 c.point-in-loop-i.new.walk) (on_back c.loop-i.i) p.1);
-      none = c.in_ok-point-2.ensures.still;
+      stands = (p.0, subst (λ j. StandsBy g.P.Shape c.args.s.now c.args.way.now j true p.0 c.later_point.new.walk) (on_back c.loop-i.i) p.1);
+      none = c.in_ok-later_point.ensures.still;
     }
 
 pub returns : goal.returns

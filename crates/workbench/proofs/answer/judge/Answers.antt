@@ -1,7 +1,7 @@
 use Rattle.std.proofs.Common.{subst}
 use Rattle.std.proofs.lemmas.Result.{IfOk-weaker}
 use Rattle.value_laws.specs.Kinds.{truth_shape}
-use Rattle.workbench.specs.Judging.{IsSignalText}
+use Rattle.workbench.specs.Answering.{IsSignalText}
 use Rattle.workbench.proofs.Judged.{judged}
 use Rattle.workbench.proofs.answer.judge.Goals as goal
 

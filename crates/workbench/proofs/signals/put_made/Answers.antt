@@ -1,5 +1,5 @@
 use Rattle.std.proofs.Common.{◌+◌}
-use Rattle.workbench.specs.Judging.{setting_of}
+use Rattle.workbench.specs.Answering.{setting_of}
 use Rattle.workbench.proofs.Judged.{over_same, stands_back, stands_over}
 use Rattle.workbench.proofs.signals.put_made.Goals as goal
 

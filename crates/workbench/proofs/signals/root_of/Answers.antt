@@ -1,7 +1,7 @@
 use Rattle.std.proofs.Common.{◌≡◌, ◌-◌, ◌<◌, ◌∙◌, length, refl, sym, subst, arith}
 use Rattle.stl_syntax.specs.Trace.{first_time, last_time}
 use Rattle.offline_eval.specs.Keeping.{TellsStack}
-use Rattle.workbench.specs.Judging.{setting_of}
+use Rattle.workbench.specs.Answering.{setting_of}
 use Rattle.workbench.proofs.Judged.{root_told}
 use Rattle.workbench.proofs.signals.root_of.Goals as goal
 

@@ -1,4 +1,4 @@
-use Rattle.workbench.specs.Judging.{IsStackOf}
+use Rattle.workbench.specs.Answering.{IsStackOf}
 use Rattle.workbench.proofs.signals.root_of.Given as goal
 
 abbrev pub invariant-loop-i : goal.invariant-loop-i

@@ -3,7 +3,7 @@ use Rattle.io_edge.specs.InMemory.{CleanBytes}
 use Rattle.stl_syntax.specs.Formula.{Formula}
 use Rattle.workload.specs.Generated.{generated_bytes}
 use Rattle.workbench.specs.InputFaults.{whole_limits}
-use Rattle.workbench.specs.Reading.{IsReadWhole, IsStop}
+use Rattle.workbench.specs.FromSource.{IsReadWhole, IsStop}
 use Rattle.workbench.specs.declared.fault.Stop.TheVariants.{Unread}
 use Rattle.workbench.proofs.Fitting.{only_memory}
 use Rattle.workbench.proofs.Summaries.{read_generated}

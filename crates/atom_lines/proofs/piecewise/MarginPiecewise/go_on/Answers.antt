@@ -8,7 +8,7 @@ use Rattle.rational.specs.Extended.{value_at, ◌≈ᵉ◌}
 use Rattle.frac128.specs.Value.{value}
 use Rattle.value_laws.specs.Margins.{margin_function}
 use Rattle.value_laws.specs.Kinds.{margin_shape}
-use Rattle.atom_lines.specs.Told.{by_margin, worth}
+use Rattle.atom_lines.specs.How.{by_margin, worth}
 use Rattle.atom_lines.proofs.GrowingLemmas.{before_end, goes_one, margin_row_base}
 use Rattle.atom_lines.proofs.piecewise.MarginPiecewise.go_on.Goals as goal
 

@@ -9,7 +9,7 @@ use Rattle.rational.proofs.Mixed.{tick_within}
 use Rattle.frac128.specs.Value.{value}
 use Rattle.stl_syntax.specs.Truth.{compares}
 use Rattle.atom_lines.specs.Gaps.{along}
-use Rattle.atom_lines.specs.Told.{by_truth}
+use Rattle.atom_lines.specs.How.{by_truth}
 use Rattle.atom_lines.proofs.GrowingLemmas.{before_end, between_within, goes_one, goes_two, truth_worth, zero_base}
 use Rattle.atom_lines.proofs.piecewise.TruthPiecewise.go_on.Goals as goal
 

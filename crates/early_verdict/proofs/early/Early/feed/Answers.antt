@@ -6,7 +6,7 @@ use Rattle.early_verdict.specs.Standing.{AllTidy}
 use Rattle.early_verdict.specs.Deciding.{Kept, IsAnswer, IsVerdict, Stands}
 use Rattle.early_verdict.specs.declared.sets.Sets.{Sets}
 use Rattle.early_verdict.proofs.StandingOn.{decided_now, open_of}
-use Rattle.early_verdict.proofs.Feeding.{as_ended, fed_by, net_of, none_if, passed_by, shown_tidy, some_shown, unended}
+use Rattle.early_verdict.proofs.Feeding.{as_ended, fed_by, net_of, none_if, passed_by, sets_as, shown_tidy, some_shown, unended}
 use Rattle.early_verdict.specs.contracts.early.Early.{the_view}
 use Rattle.early_verdict.proofs.early.Early.feed.Goals as goal
 use Rattle.early_verdict.proofs.early.Early.feed.Goals.{After-result-1}
@@ -97,10 +97,21 @@ fed c rows st =
     let later = subst (λ (z : Kept). IfSome z.last (λ q. q.time < r.time)) (sym c.self.view_is) c.requires.later in
     let none = none_if c.self.inside.decided (sym c.is_some.ensures ∙ c.if-is_some.false) in
     let are = c.in-Ok-take_row.ensures x.header rows (open_of x c.self.inside.formula rows refl st none) in
-    fed_by x rows r c.in-Ok.kept c.in-Ok-take_row.begin c.take_row.new.net.live.items c.take_row.new.net.shown.items
-    c.let_go_by.new.net.live.items c.let_go_by.new.net.shown.items c.root_verdict.result c.decided_at-decided.result
-    st none width later are (subst (λ (xs : List Sets). IsVerdict xs c.in-Ok-take_row.begin c.root_verdict.result) c.deref.ensures.value c.root_verdict.ensures)
-    c.let_go_by.ensures c.in-Ok.ensures (c.decided_at-decided.ensures ∙ ap (λ (t : ℕ). decided_now t c.root_verdict.result) c.time.ensures)
+    let live = c.take_row.new.net.live.items in
+    let shown = c.take_row.new.net.shown.items in
+    let is = c.decided_at-decided.ensures ∙ ap (λ (t : ℕ). decided_now t c.root_verdict.result) c.time.ensures in
+    fed_by {x = x} {rows = rows} {r = r} (record {
+      stood = st;
+      undecided = none;
+      width = width;
+      later = later;
+      live = live;
+      shown = shown;
+      are = are;
+      says = subst (λ (xs : List Sets). IsVerdict xs c.in-Ok-take_row.begin c.root_verdict.result) c.deref.ensures.value c.root_verdict.ensures;
+      kept = λ e. sets_as x.nodes x.header c.in-Ok-take_row.begin live shown c.let_go_by.new.net.live.items c.let_go_by.new.net.shown.items rows r
+          (c.let_go_by.ensures (is ∙ e)) are;
+    }) c.in-Ok.ensures is
 
 pub invariant_of-self-2 : goal.invariant_of-self-2
 invariant_of-self-2 c running =

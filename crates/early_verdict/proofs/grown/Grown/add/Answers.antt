@@ -1,4 +1,5 @@
-use Rattle.early_verdict.specs.Cuts.{place, After, Upto}
+use Rattle.rational.specs.Places.{After, Upto}
+use Rattle.frac128.specs.Cuts.{place}
 use Rattle.early_verdict.proofs.GrowingLemmas.{grows_not}
 use Rattle.early_verdict.proofs.EndingLemmas.{grows_within}
 use Rattle.early_verdict.proofs.WindowLemmas.{on_good}
@@ -6,30 +7,24 @@ use Rattle.early_verdict.proofs.grown.Grown.add.Goals as goal
 
 pub returns-in_default-clause-ok : goal.returns-in_default-clause-ok
 returns-in_default-clause-ok c =
-    grows_not c.args.self.now.bounds c.args.self.now.spans.items c.args.self.now.fresh.items
+    grows_not
     (λ t. After (place c.args.from) t × Upto (place c.args.to) t)
     (λ t b p. c.in_default.ensures.none t p.0 p.1 b)
 
 pub returns-in-Behind-clause-ok : goal.returns-in-Behind-clause-ok
 returns-in-Behind-clause-ok c =
     on_good c.put_last.result c.put_last.ensures.ok
-    (grows_within c.args.self.now.bounds c.in-Some.part c.args.self.now.spans.items c.put_last.new.spans.items
-    c.args.self.now.fresh.items c.put_last.new.fresh.items
-    (λ t. After (place c.args.from) t × Upto (place c.args.to) t)
+    (grows_within
     (λ t h. let x = (c.in-Some.ensures.some t).0 h in (x.2, (x.0, x.1))) (λ t b p. (c.in-Some.ensures.some t).1 (p.0, p.1, b)))
 
 pub returns-in-In-clause-ok : goal.returns-in-In-clause-ok
 returns-in-In-clause-ok c =
     on_good c.lengthen.result c.lengthen.ensures.ok
-    (grows_within c.args.self.now.bounds c.in-Some.part c.args.self.now.spans.items c.lengthen.new.spans.items
-    c.args.self.now.fresh.items c.lengthen.new.fresh.items
-    (λ t. After (place c.args.from) t × Upto (place c.args.to) t)
+    (grows_within
     (λ t h. let x = (c.in-Some.ensures.some t).0 h in (x.2, (x.0, x.1))) (λ t b p. (c.in-Some.ensures.some t).1 (p.0, p.1, b)))
 
 pub returns-in-Anywhere-clause-ok : goal.returns-in-Anywhere-clause-ok
 returns-in-Anywhere-clause-ok c =
     on_good c.put_in.result c.put_in.ensures.ok
-    (grows_within c.args.self.now.bounds c.in-Some.part c.args.self.now.spans.items c.put_in.new.spans.items
-    c.args.self.now.fresh.items c.put_in.new.fresh.items
-    (λ t. After (place c.args.from) t × Upto (place c.args.to) t)
+    (grows_within
     (λ t h. let x = (c.in-Some.ensures.some t).0 h in (x.2, (x.0, x.1))) (λ t b p. (c.in-Some.ensures.some t).1 (p.0, p.1, b)))

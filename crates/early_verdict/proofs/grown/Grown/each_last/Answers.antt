@@ -1,48 +1,38 @@
-use Rattle.std.proofs.Common.{◌⊎◌, subst}
-use Rattle.early_verdict.specs.Cuts.{place}
+use Rattle.std.proofs.Common.{OnOk, subst}
+use Rattle.frac128.specs.Cuts.{place}
 use Rattle.early_verdict.specs.Spans.{Grows}
 use Rattle.early_verdict.specs.Steps.{BySome, HeldAt}
 use Rattle.early_verdict.specs.Lasting.{BeginsFrom}
 use Rattle.early_verdict.proofs.WindowLemmas.{on_good}
-use Rattle.early_verdict.proofs.StepLemmas.{gains_of, grown_then}
+use Rattle.early_verdict.proofs.StepLemmas.{gains_both}
 use Rattle.early_verdict.proofs.SetLaws.{each_tells}
 use Rattle.early_verdict.proofs.LastingLemmas.{last_tells}
+use Rattle.early_verdict.proofs.grown.Grown.each_last.Goals.{After-add_beginning}
 use Rattle.early_verdict.proofs.grown.Grown.each_last.Goals as goal
 
-pub returns-clause-gains : goal.returns-clause-gains
-returns-clause-gains c =
+-- what the set grew by for what the other gained, and what by the end
+grown : (c : After-add_beginning) → OnOk c.add_beginning.result
+    (Grows c.args.self.now.bounds c.args.self.now.spans.items c.add_all_held.new.own.spans.items c.clear.new.self.items c.add_all_held.new.own.fresh.items
+    (BySome (HeldAt c.args.w.now (place c.args.start.now) c.args.x.now.spans.items) c.args.x.now.fresh.items)
+    × Grows c.args.self.now.bounds c.add_all_held.new.own.spans.items c.add_beginning.new.own.spans.items c.add_all_held.new.own.fresh.items
+    c.add_beginning.new.own.fresh.items (BeginsFrom c.args.w.now (place c.args.start.now) (place c.run_to.result)))
+grown c =
     let w = c.args.w.now in
     let start = place c.args.start.now in
-    let last = place c.args.last.now in
-    let from = place c.run_to.result in
-    let x = c.args.x.now.spans.items in
-    let fx = c.args.x.now.fresh.items in
-    let told = c.clear.new.self.items in
     let own = c.args.self.now in
-    let first = c.add_all_held.new.own in
+    let mid = c.add_all_held.new.own in
     let new = c.add_beginning.new.own in
-    let f = subst (λ xs. Grows own.bounds own.spans.items first.spans.items told first.fresh.items (BySome (HeldAt w start x) xs)) c.deref.ensures.value
-    c.in_ok-add_all_held.ensures.ok in
-    on_good c.add_beginning.result c.add_beginning.ensures.ok
-    (λ k. gains_of own.bounds own.spans.items new.spans.items told new.fresh.items
-    (λ t. BySome (HeldAt w start x) fx t ⊎ BeginsFrom w start from t) c.clear.ensures.items
-    (grown_then own first new told (BySome (HeldAt w start x) fx) (BeginsFrom w start from) c.add_all_held.ensures.bounds f k))
+    on_good c.add_beginning.result c.add_beginning.ensures.ok (λ k. (
+      subst (λ xs. Grows own.bounds own.spans.items mid.spans.items c.clear.new.self.items mid.fresh.items
+          (BySome (HeldAt w start c.args.x.now.spans.items) xs)) c.deref.ensures.value c.in_ok-add_all_held.ensures.ok,
+      subst (λ b. Grows b mid.spans.items new.spans.items mid.fresh.items new.fresh.items (BeginsFrom w start (place c.run_to.result)))
+          c.add_all_held.ensures.bounds k,
+    ))
+
+pub returns-clause-gains : goal.returns-clause-gains
+returns-clause-gains c = on_good c.add_beginning.result (grown c) (λ g. gains_both c.clear.ensures.items g.0 g.1)
 
 pub returns-clause-tells : goal.returns-clause-tells
-returns-clause-tells c =
-    let w = c.args.w.now in
-    let start = place c.args.start.now in
-    let last = place c.args.last.now in
-    let from = place c.run_to.result in
-    let x = c.args.x.now.spans.items in
-    let fx = c.args.x.now.fresh.items in
-    let told = c.clear.new.self.items in
-    let own = c.args.self.now in
-    let first = c.add_all_held.new.own in
-    let new = c.add_beginning.new.own in
-    let f = subst (λ xs. Grows own.bounds own.spans.items first.spans.items told first.fresh.items (BySome (HeldAt w start x) xs)) c.deref.ensures.value
-    c.in_ok-add_all_held.ensures.ok in
-    on_good c.add_beginning.result c.add_beginning.ensures.ok
-    (λ k y gx t. last_tells w start last from own.bounds first.spans.items new.spans.items first.fresh.items new.fresh.items x c.run_to.ensures.run
-    (each_tells w own.bounds own.spans.items first.spans.items told first.fresh.items y x fx gx start c.requires.input t f)
-    (subst (λ b. Grows b first.spans.items new.spans.items first.fresh.items new.fresh.items (BeginsFrom w start from)) c.add_all_held.ensures.bounds k))
+returns-clause-tells c = on_good c.add_beginning.result (grown c) (λ g y gx t.
+    last_tells c.args.w.now (place c.args.start.now) (place c.args.last.now) (place c.run_to.result) c.run_to.ensures.run
+    (each_tells c.args.w.now gx (place c.args.start.now) c.requires.input t g.0) g.1)

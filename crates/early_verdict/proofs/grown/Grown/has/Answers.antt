@@ -2,7 +2,8 @@ use Rattle.std.proofs.Common.{◌≡◌, true, false, refl, subst, ℤ}
 use Rattle.std.specs.Int.{w64}
 use Rattle.std.proofs.lemmas.Int.{to_z-of_z}
 use Rattle.rational.specs.Rational.{whole}
-use Rattle.early_verdict.specs.Cuts.{place, Same}
+use Rattle.rational.specs.Places.{Same}
+use Rattle.frac128.specs.Cuts.{place}
 use Rattle.early_verdict.proofs.RunLemmas.{one_of, on_one}
 use Rattle.early_verdict.proofs.TickLemmas.{at_time, from_time}
 use Rattle.early_verdict.proofs.grown.Grown.has.Goals as goal

@@ -1,15 +1,20 @@
-use Rattle.std.proofs.Common.{◌⊎◌, ◌∙◌, subst}
-use Rattle.early_verdict.specs.Cuts.{place}
+use Rattle.std.proofs.Common.{◌⊎◌, ◌∙◌, OnOk, subst}
+use Rattle.frac128.specs.Cuts.{place}
 use Rattle.early_verdict.specs.Spans.{Grows}
 use Rattle.early_verdict.specs.Steps.{BySome}
 use Rattle.early_verdict.specs.Reaching.{IsCarried, ReachedAt}
 use Rattle.early_verdict.proofs.WindowLemmas.{on_good}
 use Rattle.early_verdict.proofs.StepLemmas.{gains_of, grown_then}
 use Rattle.early_verdict.proofs.ReachLemmas.{ReachedNew, back_tells}
+use Rattle.early_verdict.proofs.grown.Grown.reach_back.Goals.{After-add_carried}
 use Rattle.early_verdict.proofs.grown.Grown.reach_back.Goals as goal
 
-pub returns-clause-gains : goal.returns-clause-gains
-returns-clause-gains c =
+-- what the set grew by
+grown : (c : After-add_carried) → OnOk c.add_carried.result (Grows c.args.self.now.bounds c.args.self.now.spans.items c.add_carried.new.own.spans.items
+    c.clear.new.self.items c.add_carried.new.own.fresh.items
+    (λ t. ReachedNew c.args.runs.now.spans.items c.args.runs.now.fresh.items c.args.x.now.spans.items c.args.x.now.fresh.items t
+    ⊎ IsCarried c.args.carried (place c.args.self.now.bounds.from) c.args.runs.now.spans.items t))
+grown c =
     let told = c.clear.new.self.items in
     let z = c.args.runs.now.spans.items in
     let fz = c.args.runs.now.fresh.items in
@@ -21,37 +26,18 @@ returns-clause-gains c =
     let new = c.add_carried.new.own in
     let f = subst (λ xs. Grows own.bounds own.spans.items first.spans.items told first.fresh.items (BySome (ReachedAt z x) xs)) c.deref.ensures.value
     c.in_ok-add_all_reached.ensures.ok in
-    let g = grown_then own first second told (BySome (ReachedAt z x) fx) (BySome (ReachedAt z x) fz) c.add_all_reached.ensures.bounds f
+    let g = grown_then own first second c.add_all_reached.ensures.bounds f
     (subst (λ xs. Grows first.bounds first.spans.items second.spans.items first.fresh.items second.fresh.items (BySome (ReachedAt z x) xs))
     c.deref-2.ensures.value
     c.in_ok-add_all_reached-2.ensures.ok) in
     let is = c.add_all_reached-2.ensures.bounds ∙ c.add_all_reached.ensures.bounds in
     on_good c.add_carried.result c.add_carried.ensures.ok
-    (λ k. gains_of own.bounds own.spans.items new.spans.items told new.fresh.items
-    (λ t. ReachedNew z fz x fx t ⊎ IsCarried c.args.carried (place second.bounds.from) z t) c.clear.ensures.items
-    (grown_then own second new told (ReachedNew z fz x fx) (IsCarried c.args.carried (place second.bounds.from) z) is g k))
+    (λ k. subst (λ s. Grows own.bounds own.spans.items new.spans.items told new.fresh.items
+    (λ t. ReachedNew z fz x fx t ⊎ IsCarried c.args.carried (place s.from) z t)) is (grown_then own second new is g k))
+
+pub returns-clause-gains : goal.returns-clause-gains
+returns-clause-gains c = on_good c.add_carried.result (grown c) (λ g. gains_of c.clear.ensures.items g)
 
 pub returns-clause-tells : goal.returns-clause-tells
-returns-clause-tells c =
-    let told = c.clear.new.self.items in
-    let z = c.args.runs.now.spans.items in
-    let fz = c.args.runs.now.fresh.items in
-    let x = c.args.x.now.spans.items in
-    let fx = c.args.x.now.fresh.items in
-    let own = c.args.self.now in
-    let first = c.add_all_reached.new.own in
-    let second = c.add_all_reached-2.new.own in
-    let new = c.add_carried.new.own in
-    let f = subst (λ xs. Grows own.bounds own.spans.items first.spans.items told first.fresh.items (BySome (ReachedAt z x) xs)) c.deref.ensures.value
-    c.in_ok-add_all_reached.ensures.ok in
-    let g = grown_then own first second told (BySome (ReachedAt z x) fx) (BySome (ReachedAt z x) fz) c.add_all_reached.ensures.bounds f
-    (subst (λ xs. Grows first.bounds first.spans.items second.spans.items first.fresh.items second.fresh.items (BySome (ReachedAt z x) xs))
-    c.deref-2.ensures.value
-    c.in_ok-add_all_reached-2.ensures.ok) in
-    let is = c.add_all_reached-2.ensures.bounds ∙ c.add_all_reached.ensures.bounds in
-    on_good c.add_carried.result c.add_carried.ensures.ok
-    (λ k y v gz gx inside t. back_tells y z fz v x fx gz gx c.requires.runs inside own.bounds own.spans.items new.spans.items told new.fresh.items
-    c.args.carried (place own.bounds.from) t
-    (subst (λ s. Grows own.bounds own.spans.items new.spans.items told new.fresh.items
-    (λ w. ReachedNew z fz x fx w ⊎ IsCarried c.args.carried (place s.from) z w)) is
-    (grown_then own second new told (ReachedNew z fz x fx) (IsCarried c.args.carried (place second.bounds.from) z) is g k)))
+returns-clause-tells c = on_good c.add_carried.result (grown c) (λ g y v gz gx inside t.
+    back_tells gz gx c.requires.runs inside c.args.carried (place c.args.self.now.bounds.from) t g)

@@ -1,7 +1,7 @@
 use Rattle.std.proofs.Common.{inl, inr, subst, sym, ◌^◌}
 use Rattle.rational.specs.Rational.{IsWithin}
 use Rattle.frac128.specs.Value.{value}
-use Rattle.early_verdict.specs.Cuts.{place}
+use Rattle.frac128.specs.Cuts.{place}
 use Rattle.early_verdict.proofs.MakingLemmas.{after_from, before_from, before_to, in_hull}
 use Rattle.early_verdict.proofs.StretchLemmas.{rises, room_of_before}
 use Rattle.early_verdict.proofs.stretch.Stretch.hull.Goals as goal

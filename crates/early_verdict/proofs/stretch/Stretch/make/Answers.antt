@@ -1,6 +1,6 @@
 use Rattle.std.proofs.Common.{◌^◌}
-use Rattle.early_verdict.specs.Cuts.{place}
-use Rattle.early_verdict.proofs.PlaceLemmas.{before_through}
+use Rattle.frac128.specs.Cuts.{place}
+use Rattle.rational.proofs.PlaceLemmas.{before_through}
 use Rattle.early_verdict.proofs.MakingLemmas.{after_from, after_one, upto_one, near_between}
 use Rattle.early_verdict.proofs.StretchLemmas.{room_of_before}
 use Rattle.early_verdict.proofs.stretch.Stretch.make.Goals as goal

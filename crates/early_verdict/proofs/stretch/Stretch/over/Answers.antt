@@ -4,8 +4,9 @@ use Rattle.std.proofs.lemmas.Int.{to_z-of_z}
 use Rattle.rational.specs.Rational.{whole}
 use Rattle.rational.proofs.Order.{same_sym}
 use Rattle.rational.proofs.Mixed.{within_same, within_more, within_whole}
-use Rattle.early_verdict.specs.Cuts.{Place, place, Same}
-use Rattle.early_verdict.proofs.PlaceLemmas.{same_before, before_same, same_places}
+use Rattle.rational.specs.Places.{Place, Same}
+use Rattle.frac128.specs.Cuts.{place}
+use Rattle.rational.proofs.PlaceLemmas.{same_before, before_same, same_places}
 use Rattle.early_verdict.proofs.StretchLemmas.{room_of_before}
 use Rattle.early_verdict.proofs.TickLemmas.{ticks_rise}
 use Rattle.early_verdict.proofs.stretch.Stretch.over.Goals as goal

@@ -2,8 +2,9 @@ use Rattle.std.proofs.Common.{◌≡◌, ◌∙◌, ap, subst, sym, neg_ℤ, to_
 use Rattle.std.specs.Int.{w64}
 use Rattle.rational.specs.Rational.{FitsFloor, add, whole}
 use Rattle.frac128.specs.Value.{value}
-use Rattle.early_verdict.specs.Cuts.{place, moved_end, Same}
-use Rattle.early_verdict.proofs.PlaceLemmas.{upto_same, same_places}
+use Rattle.rational.specs.Places.{moved_end, Same}
+use Rattle.frac128.specs.Cuts.{place}
+use Rattle.rational.proofs.PlaceLemmas.{upto_same, same_places}
 use Rattle.early_verdict.proofs.WindowLemmas.{near_fits, move_fits, begins_before}
 use Rattle.early_verdict.proofs.window.Window.before_low.Goals as goal
 

@@ -2,9 +2,9 @@ use Rattle.std.proofs.Common.{◌≡◌, ◌≤◌, ◌^◌, ◌⊎◌, Bool, tr
 use Rattle.std.specs.Prelude.{IfSome, IsTrue, IsFalse, unsigned_abs, ◌<ℤ◌}
 use Rattle.std.specs.Int.{w64}
 use Rattle.early_verdict.specs.Bounds.{reach_of}
-use Rattle.early_verdict.specs.Cuts.{After, Before}
+use Rattle.rational.specs.Places.{After, Before}
 use Rattle.early_verdict.specs.Windows.{low_place, high_place}
-use Rattle.early_verdict.proofs.PlaceLemmas.{before_through}
+use Rattle.rational.proofs.PlaceLemmas.{before_through}
 use Rattle.early_verdict.proofs.WindowLemmas.{near_fits, room_in, room_out}
 use Rattle.early_verdict.proofs.window.Window.is_never.Goals as goal
 

@@ -1,7 +1,7 @@
 use Rattle.std.proofs.Common.{◌≡◌, ◌≤◌, ◌^◌, ◌⊎◌, true, sym, subst, ℤ, pos}
 use Rattle.std.specs.Prelude.{IfSome, IsTrue, unsigned_abs, ◌<ℤ◌}
 use Rattle.early_verdict.specs.Bounds.{reach_of}
-use Rattle.early_verdict.specs.Cuts.{After}
+use Rattle.rational.specs.Places.{After}
 use Rattle.early_verdict.specs.Windows.{low_place}
 use Rattle.early_verdict.proofs.WindowLemmas.{near_fits}
 use Rattle.early_verdict.proofs.TickLemmas.{ends_at, begins_at, ended_at, begun_at}

@@ -6,11 +6,11 @@ use Rattle.envelope.proofs.Walks.{followed_of, stops_of, took_of}
 use Rattle.envelope.proofs.walk.Walk.admit.Goals as goal
 
 pub take-requires-clause-followed : goal.take-requires-clause-followed
-take-requires-clause-followed g c = followed_of c.args.self.now c.args.item c.requires.leaves
+take-requires-clause-followed g c = followed_of c.args.self.now c.args.item.now c.requires.leaves
 
 pub returns-clause-took : goal.returns-clause-took
 returns-clause-took g c = on_ok c.take.result
-    (λ a. took_of g.P.Shape c.args.from.now c.args.item c.args.self.now c.take.new.self c.requires.new c.requires.leaves a)
+    (λ a. took_of g.P.Shape c.args.from.now c.args.item.now c.args.self.now c.take.new.self c.requires.new c.requires.leaves a)
     c.take.ensures.ok
 
 pub returns-clause-fault : goal.returns-clause-fault

@@ -3,7 +3,7 @@ use Rattle.envelope.specs.declared.best.Best.{Best}
 use Rattle.rational.specs.Rational.{IsWithin}
 use Rattle.rational.proofs.Order.{le_refl}
 use Rattle.frac128.specs.Value.{value}
-use Rattle.envelope.specs.Course.{first_time}
+use Rattle.envelope.specs.SoFar.{first_time}
 use Rattle.envelope.specs.Standing.{CanGoOn, Stands}
 use Rattle.envelope.specs.Walking.{EachLeavesBy}
 use Rattle.rational.specs.Time.{◌≤ʳ◌}

@@ -2,7 +2,7 @@ use Rattle.std.proofs.Common.{◌∷◌, sym, ap, ◌∙◌, subst}
 use Rattle.std.specs.Prelude.{MatchOption}
 use Rattle.envelope.specs.declared.best.Best.{Best}
 use Rattle.envelope.specs.Turns.{HasCome, IsToCome}
-use Rattle.envelope.specs.Course.{HaveLevels}
+use Rattle.envelope.specs.SoFar.{HaveLevels}
 use Rattle.envelope.specs.Standing.{Keeps, SomethingLeaves, slope_shape}
 use Rattle.envelope.proofs.Bests.{on_ok}
 use Rattle.envelope.proofs.Passing.{same_pieces, turned_stands}

@@ -2,11 +2,11 @@ use Rattle.std.proofs.Common.{List, ◌∷◌, ◌++◌, [], sym, ap, ◌∙◌,
 use Rattle.envelope.specs.declared.walk.Item.{Item}
 use Rattle.std.specs.Prelude.{IfSome}
 use Rattle.frac128.specs.Value.{value}
-use Rattle.envelope.specs.Course.{first_time}
+use Rattle.envelope.specs.SoFar.{first_time}
 use Rattle.envelope.specs.Walking.{IsPiecesFault}
 use Rattle.envelope.specs.Standing.{Admits, Leaves}
 use Rattle.envelope.proofs.Faulting.{err_any, stopped_left}
-use Rattle.envelope.proofs.Taking.{taken, taken_worthless}
+use Rattle.envelope.proofs.Taking.{taken}
 use Rattle.envelope.proofs.walk.Walk.take.Goals as goal
 
 pub rise-requires-clause-ready : goal.rise-requires-clause-ready
@@ -48,11 +48,3 @@ returns-in_err-rise-clause-fault g c = err_any c.from_residual-in_err-rise.resul
     (stopped_left g.P.Shape (assumption g.met.P.Shape) c.args.from.now c.args.self.now c.leave.new.self.course
     c.leave.new.self.low_until c.leave.new.self.queue.items
     c.rise.new.self.course.fault c.in_ok-leave.ensures.ok c.in_err-rise.ensures.fault)
-
-pub returns-then-is_worthless : goal.returns-then-is_worthless
-returns-then-is_worthless g c = record {
-  ok = taken_worthless g.P.Shape (assumption g.met.P.Shape) c.args.from.now c.args.item.now c.args.self.now.course c.leave.new.self.course
-      c.args.self.now.low_until c.leave.new.self.low_until c.args.self.now.queue.items c.leave.new.self.queue.items c.requires.new
-      (c.is_worthless.ensures c.if-is_worthless.true) c.in_ok-leave.ensures.ok;
-  fault = tt;
-}

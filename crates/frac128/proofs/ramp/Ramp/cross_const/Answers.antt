@@ -3,7 +3,7 @@ use Rattle.std.specs.Int.RustNames.{unsigned_abs}
 use Rattle.std.proofs.lemmas.Int.{ints}
 use mir.Syntax.{w128}
 use Rattle.frac128.proofs.Fractions.{whole_of_within}
-use Rattle.frac128.proofs.RampGaps.{ConstantGap, reaching, reaching_den}
+use Rattle.frac128.proofs.RampDifferences.{ConstantGap, reaching, reaching_den}
 use Rattle.frac128.proofs.ramp.Ramp.cross_const.Goals as goal
 
 pub determinant-num-requires : goal.determinant-num-requires

@@ -1,5 +1,5 @@
 use Rattle.frac128.specs.Line.{line}
-use Rattle.frac128.proofs.Gaps.{meeting}
+use Rattle.frac128.proofs.Differences.{meeting}
 use Rattle.frac128.proofs.ramp.Ramp.cross_ramp.Goals as goal
 
 pub returns-clause-meets : goal.returns-clause-meets

@@ -1,5 +1,5 @@
 use Rattle.frac128.specs.Line.{line}
-use Rattle.frac128.proofs.Gaps.{zero_everywhere, everywhere_zero}
+use Rattle.frac128.proofs.Differences.{zero_everywhere, everywhere_zero}
 use Rattle.frac128.proofs.ramp.Ramp.lies_on.Goals as goal
 
 pub returns : goal.returns

@@ -4,7 +4,7 @@ use Rattle.rational.proofs.Order.{same_refl, same_sym}
 use Rattle.rational.proofs.Lines.{at_constant}
 use Rattle.rational.proofs.Compare.{order_same}
 use Rattle.rational.proofs.Meetings.{parallels_do_not_cross}
-use Rattle.frac128.proofs.RampGaps.{parallel_of_level}
+use Rattle.frac128.proofs.RampDifferences.{parallel_of_level}
 use Rattle.frac128.specs.Line.{line}
 use Rattle.frac128.specs.Value.{value}
 use Rattle.frac128.proofs.Meets.{Ends, refuted, uncrossed, crossing_fits, crossing_made, crossing_wide}

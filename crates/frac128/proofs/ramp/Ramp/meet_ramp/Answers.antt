@@ -1,7 +1,7 @@
 use Rattle.std.proofs.Common.{Some, None, refl}
 use Rattle.rational.specs.Line.{gap_line}
 use Rattle.rational.proofs.Meetings.{order_of_gap, parallels_do_not_cross}
-use Rattle.frac128.proofs.Gaps.{meeting}
+use Rattle.frac128.proofs.Differences.{meeting}
 use Rattle.frac128.specs.Line.{line}
 use Rattle.frac128.specs.Value.{value}
 use Rattle.frac128.proofs.Meets.{Ends, refuted, uncrossed, crossing_fits, crossing_made, crossing_wide}

@@ -11,3 +11,11 @@ sum_of_products-requires c =
     let rise : unsigned_abs (to_z w128 (of_z w128 c.from-3.result)) ≤ 2 ^ 31 = omega (arith, ints) in
     let gap : unsigned_abs (to_z w128 (of_z w128 c.args.gap)) ≤ 2 ^ 35 = omega (arith, ints, c.requires) in
     omega (arith, ints, mul-le-mul v0 run, mul-le-mul rise gap)
+
+pub returns-clause-small_num : goal.returns-clause-small_num
+returns-clause-small_num c =
+    let v0 : unsigned_abs (to_z w128 (of_z w128 c.from.result)) ≤ 2 ^ 31 = omega (arith, ints) in
+    let run : unsigned_abs (to_z w128 (of_z w128 c.from-2.result)) ≤ 2 ^ 32 = omega (arith, ints) in
+    let rise : unsigned_abs (to_z w128 (of_z w128 c.from-3.result)) ≤ 2 ^ 31 = omega (arith, ints) in
+    let gap : unsigned_abs (to_z w128 (of_z w128 c.args.gap)) ≤ 2 ^ 35 = omega (arith, ints, c.requires) in
+    omega (arith, ints, mul-le-mul v0 run, mul-le-mul rise gap, c.sum_of_products.ensures.small)

@@ -1,7 +1,8 @@
 use Rattle.std.proofs.Common.{Some, None, [], ◌∷◌, ◌++◌, sym, ap, subst, arith}
 use Rattle.std.proofs.lemmas.List.{append-nil}
 use Rattle.stl_syntax.specs.Verdicts.{Describes}
-use Rattle.online_nodes.specs.Cuts.{place, begins, ends}
+use Rattle.rational.specs.Places.{begins, ends}
+use Rattle.frac128.specs.Cuts.{place}
 use Rattle.online_nodes.specs.Written.{Lead, waiting}
 use Rattle.online_nodes.proofs.GotLemmas.{got_none}
 use Rattle.online_nodes.proofs.Writing.{lead_describes, lead_to, put_last, put_none, sound_later}

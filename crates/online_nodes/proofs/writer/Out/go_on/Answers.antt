@@ -1,10 +1,10 @@
 use Rattle.std.proofs.Common.{◌≡◌, Some, [], ◌∷◌, refl, sym, ap, subst, ◌∙◌, arith}
 use Rattle.std.proofs.lemmas.List.{append-nil}
 use Rattle.online_nodes.specs.declared.writer.Out.{Out}
-use Rattle.online_nodes.specs.Cuts.{place}
+use Rattle.frac128.specs.Cuts.{place}
 use Rattle.online_nodes.specs.Written.{HasTold, waiting}
 use Rattle.online_nodes.proofs.GotLemmas.{got_none}
-use Rattle.online_nodes.proofs.PlaceLemmas.{same_before, before_trans}
+use Rattle.rational.proofs.PlaceLemmas.{same_before, before_trans}
 use Rattle.online_nodes.proofs.Writing.{first_told, same_told, turned, same_bool, other_bool, sound_first, sound_later}
 use Rattle.online_nodes.proofs.writer.Out.go_on.Goals as goal
 
@@ -65,7 +65,7 @@ returns-then-before-holds-clause-written c =
 
 pub returns-clause-written : goal.returns-clause-written
 returns-clause-written c =
-    let p = c.in_ok-write.ensures.put in
+    let p = c.in_ok-write_turn.ensures.put in
     record {
       at = refl;
       answer = record {

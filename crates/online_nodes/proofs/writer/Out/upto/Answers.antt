@@ -1,10 +1,11 @@
 use Rattle.std.proofs.Common.{◌≡◌, [], refl, sym, subst, arith}
 use Rattle.std.proofs.lemmas.List.{append-nil}
-use Rattle.online_nodes.specs.declared.cut.Cut.{Cut}
-use Rattle.online_nodes.specs.Cuts.{place, Upto, Before}
+use Rattle.frac128.specs.declared.cut.Cut.{Cut}
+use Rattle.rational.specs.Places.{Upto, Before}
+use Rattle.frac128.specs.Cuts.{place}
 use Rattle.online_nodes.specs.Written.{HasTold}
 use Rattle.online_nodes.proofs.GotLemmas.{got_none}
-use Rattle.online_nodes.proofs.PlaceLemmas.{upto_of_before, at_most_of_not_before, not_both}
+use Rattle.rational.proofs.PlaceLemmas.{upto_of_before, at_most_of_not_before, not_both}
 use Rattle.online_nodes.proofs.Writing.{earlier_upto}
 use Rattle.online_nodes.proofs.writer.Out.upto.Goals as goal
 

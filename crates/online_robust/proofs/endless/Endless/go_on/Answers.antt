@@ -2,15 +2,16 @@ use Rattle.std.proofs.Common.{rules, ◌≡◌, pos, to_z, of_z, refl, subst}
 use Rattle.std.specs.Int.{w64}
 use Rattle.std.specs.Prelude.{Some}
 use Rattle.std.proofs.lemmas.Int.{to_z-of_z}
-use Rattle.std.proofs.lemmas.Result.{err_from_is_err_and}
 use Rattle.rational.specs.Rational.{◌≈◌, whole}
 use Rattle.frac128.specs.Value.{value}
+use Rattle.online_robust.specs.Refusing.{told_by}
+use Rattle.pl_signal.proofs.Kept.{on_err_anyway}
 use Rattle.online_robust.proofs.EndlessTurns.{may_go_on, step_edges, step_fault, step_stands, step_told}
 use Rattle.online_robust.proofs.PastBridging.{own, scope_of}
 use Rattle.online_robust.proofs.endless.Endless.go_on.Goals as goal
 
-pub sweep-requires : goal.sweep-requires
-sweep-requires c =
+pub sweep-requires-clause-can : goal.sweep-requires-clause-can
+sweep-requires-clause-can c =
     let (t, b) = c.requires.belongs in
     let to : to_z w64 (of_z w64 c.from.result) ≡ pos c.args.to = search (rules, to_z-of_z) in
     let end : value c.of-end.result ≈ whole (pos c.args.to) = subst (λ n. value c.of-end.result ≈ whole n) to c.of-end.ensures.value in
@@ -22,11 +23,10 @@ returns-in_err-swept-in-Some-clause-wide c = λ t b.
     let to : to_z w64 (of_z w64 c.from.result) ≡ pos c.args.to = search (rules, to_z-of_z) in
     let end : value c.of-end.result ≈ whole (pos c.args.to) = subst (λ n. value c.of-end.result ≈ whole n) to c.of-end.ensures.value in
     let m = may_go_on t c.args.self.now c.args.edges.now c.args.to b c.in-Some.past (value c.of-end.result) end c.in-Some.is in
-    let p = err_from_is_err_and c.from_residual.result c.from_residual.ensures.1 in
-    let h = step_fault t c.args.self.now c.args.edges.now c.args.to b c.in-Some.past (value c.of-end.result) end m c.in_err-swept-in-Some.field-0.0
+    let h = step_fault t c.args.self.now c.args.edges.now c.args.to b c.in-Some.past (value c.of-end.result) end m (told_by c.sweep.new.fault)
     (c.in_err-swept-in-Some.ensures.wide (scope_of t c.args.self.now c.args.edges.now c.args.to b (value c.in-Some.past.at))
     (own t c.args.self.now c.args.edges.now c.args.to b) m.from m.can) in
-    rw (p.1, p.2) h
+    on_err_anyway c.from_residual.result h
 
 pub returns-clause-told : goal.returns-clause-told
 returns-clause-told c = λ t b.

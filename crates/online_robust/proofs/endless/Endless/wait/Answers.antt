@@ -7,7 +7,7 @@ use Rattle.rational.proofs.Order.{same_refl}
 use Rattle.frac128.specs.Value.{value}
 use Rattle.pl_signal.proofs.Values.{some_is}
 use Rattle.stl_syntax.specs.Trace.{start}
-use Rattle.online_robust.specs.Turns.{begin_of, from_of}
+use Rattle.online_robust.specs.Steps.{begin_of, from_of}
 use Rattle.online_robust.proofs.PastBridging.{own}
 use Rattle.online_robust.proofs.WaitPast.{can_wait, silence, wait_edges, wait_stands, wait_told}
 use Rattle.online_robust.proofs.endless.Endless.wait.Goals as goal

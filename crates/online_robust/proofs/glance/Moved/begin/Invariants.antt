@@ -4,7 +4,7 @@ use Rattle.rational.specs.Time.{shifted, ◌≤ʳ◌}
 use Rattle.frac128.specs.Value.{value}
 use Rattle.stl_syntax.specs.Trace.{start as start_of}
 use Rattle.online_robust.specs.Glances.{CanGlance, Glance, IsGlanceAt, glance_of, turns_left}
-use Rattle.online_robust.specs.Reading.{IsThere, LosesAt}
+use Rattle.online_robust.specs.ReadLines.{IsThere, LosesAt}
 use Rattle.online_robust.proofs.glance.Moved.begin.Given as goal
 
 abbrev pub invariant-loop-edges : goal.invariant-loop-edges

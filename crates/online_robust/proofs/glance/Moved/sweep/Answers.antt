@@ -6,7 +6,7 @@ use Rattle.rational.proofs.Order.{le_of_lt, le_of_same, le_trans, lt_of_le_of_lt
 use Rattle.frac128.specs.Value.{value}
 use Rattle.window_ops.proofs.Ends.{le_shifted}
 use Rattle.online_robust.specs.Glances.{glance_of}
-use Rattle.online_robust.specs.Reading.{IsStretch}
+use Rattle.online_robust.specs.ReadLines.{IsStretch}
 use Rattle.online_robust.proofs.Builts.{built_done, built_first, built_on, tick_between, tick_within}
 use Rattle.online_robust.proofs.Glancing.{glance_is_function, glance_same}
 use Rattle.online_robust.proofs.Losses.{loses_at_both, loses_at_later}

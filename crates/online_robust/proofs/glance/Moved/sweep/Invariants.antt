@@ -5,7 +5,7 @@ use Rattle.rational.specs.Time.{shifted, ◌≤ʳ◌}
 use Rattle.frac128.specs.Value.{value}
 use Rattle.stl_syntax.specs.Trace.{start as start_of}
 use Rattle.online_robust.specs.Glances.{CanGlance, Glance, IsGlanceAt, glance_of, turns_left}
-use Rattle.online_robust.specs.Reading.{HasReached, IsBuilt, LosesAt}
+use Rattle.online_robust.specs.ReadLines.{HasReached, IsBuilt, LosesAt}
 use Rattle.online_robust.proofs.glance.Moved.sweep.Given as goal
 
 abbrev pub invariant-loop-self : goal.invariant-loop-self

@@ -4,7 +4,7 @@ use Rattle.pl_signal.specs.declared.joining.Side.TheVariants.{Least, Greatest}
 use Rattle.stl_syntax.specs.declared.node.Node.{Node}
 use Rattle.stl_syntax.specs.declared.node.Node.TheVariants as N
 use Rattle.online_robust.specs.Standing.{IsWindowOperator, ahead_window, behind_window, past_window}
-use Rattle.online_robust.specs.Turns.{IsFirstOperator}
+use Rattle.online_robust.specs.Steps.{IsFirstOperator}
 use Rattle.online_robust.specs.Waiting.{endless_of}
 use Rattle.online_robust.specs.declared.operator.Operator.{Operator}
 use Rattle.online_robust.specs.declared.operator.Operator.TheVariants as Op
@@ -31,7 +31,7 @@ returns-in-Once c =
     subst (λ (n : Node). IsFirstOperator n (Some c.behind.result)) (sym a.is)
     (by_high a.high c.behind.ensures)
   where
-    by_high : (high : Option ℕ) → MatchOption high (c.behind.result ≡ Op.Past (endless_of (past_window c.in-Once.of Greatest c.in-Once.low c.in-Once.low_in)))
+    by_high : (high : Option ℕ) → MatchOption high (c.behind.result ≡ Op.Ever (endless_of (past_window c.in-Once.of Greatest c.in-Once.low c.in-Once.low_in)))
         (λ b. IsWindowOperator (behind_window c.in-Once.of Greatest c.in-Once.low b c.in-Once.low_in c.in-Once.high_in) c.behind.result)
         → IsFirstOperator (N.Once c.in-Once.of c.in-Once.low high c.in-Once.low_in c.in-Once.high_in) (Some c.behind.result)
     by_high None is = subst (λ (op : Operator). IsFirstOperator (N.Once c.in-Once.of c.in-Once.low None c.in-Once.low_in c.in-Once.high_in) (Some op)) (sym is)
@@ -47,7 +47,7 @@ returns-in-Historically c =
     (by_high a.high c.behind-in-Historically.ensures)
   where
     by_high : (high : Option ℕ) → MatchOption high
-        (c.behind-in-Historically.result ≡ Op.Past (endless_of (past_window c.in-Historically.of Least c.in-Historically.low c.in-Historically.low_in)))
+        (c.behind-in-Historically.result ≡ Op.Ever (endless_of (past_window c.in-Historically.of Least c.in-Historically.low c.in-Historically.low_in)))
         (λ b. IsWindowOperator (behind_window c.in-Historically.of Least c.in-Historically.low b c.in-Historically.low_in c.in-Historically.high_in)
         c.behind-in-Historically.result)
         → IsFirstOperator (N.Historically c.in-Historically.of c.in-Historically.low high c.in-Historically.low_in c.in-Historically.high_in)

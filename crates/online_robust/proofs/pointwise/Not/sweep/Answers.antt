@@ -3,7 +3,7 @@ use Rattle.rational.specs.Time.{◌≈◌, ◌<ʳ◌}
 use Rattle.rational.proofs.Order.{le_of_same, ge_of_same, le_trans, lt_of_lt_of_le, same_of_le, same_refl, same_trans}
 use Rattle.frac128.specs.Value.{value}
 use Rattle.stl_syntax.specs.SupInf.{Robustness}
-use Rattle.online_robust.specs.Reading.{IsStretch}
+use Rattle.online_robust.specs.ReadLines.{IsStretch}
 use Rattle.online_robust.specs.Couples.{CanNegate, Couple, left_of}
 use Rattle.online_robust.proofs.Builts.{built_done, built_first, tick_between}
 use Rattle.online_robust.proofs.Choosing.{turned_is_function}

@@ -2,7 +2,7 @@ use Rattle.std.proofs.Common.{true}
 use Rattle.rational.specs.Time.{◌≈◌}
 use Rattle.frac128.specs.Value.{value}
 use Rattle.std.specs.Prelude.{Some}
-use Rattle.online_robust.specs.Reading.{HasReached, IsBuilt, LosesAt}
+use Rattle.online_robust.specs.ReadLines.{HasReached, IsBuilt, LosesAt}
 use Rattle.online_robust.specs.Couples.{CanNegate, Couple, IsNegatedTo, left_of, turns_left_of}
 use Rattle.online_robust.proofs.pointwise.Not.sweep.Given as goal
 

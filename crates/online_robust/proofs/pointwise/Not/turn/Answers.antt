@@ -10,7 +10,7 @@ use Rattle.value_laws.specs.declared.margin.Margin.{Margin}
 use Rattle.stl_syntax.specs.SupInf.{Robustness}
 use Rattle.online_robust.specs.Lines.{margin_of}
 use Rattle.online_robust.specs.Held.{held_at}
-use Rattle.online_robust.specs.Reading.{LosesAt}
+use Rattle.online_robust.specs.ReadLines.{LosesAt}
 use Rattle.online_robust.specs.Couples.{Couple, IsNegatedTo}
 use Rattle.online_robust.proofs.Builts.{tick_between, tick_within}
 use Rattle.online_robust.proofs.JoinedLemmas.{first_gap}

@@ -6,7 +6,7 @@ use Rattle.value_laws.specs.declared.margin.Margin.{Margin}
 use Rattle.stl_syntax.specs.SupInf.{Robustness}
 use Rattle.online_robust.specs.Lines.{end_of, margin_of}
 use Rattle.online_robust.specs.Told.{IsTick}
-use Rattle.online_robust.specs.Reading.{IsThere, LosesAtBoth}
+use Rattle.online_robust.specs.ReadLines.{IsThere, LosesAtBoth}
 use Rattle.online_robust.specs.Couples.{IsJoinedTo}
 use Rattle.online_robust.proofs.Losses.{both_none}
 use Rattle.online_robust.proofs.PointwiseLemmas.{begun_some}

@@ -1,10 +1,11 @@
 use Rattle.std.proofs.Common.{sym, subst}
-use Rattle.std.proofs.lemmas.Result.{err_from_is_err_and}
 use Rattle.rational.specs.Time.{◌≈◌}
 use Rattle.rational.proofs.Order.{ge_of_same, le_trans, same_of_le, same_refl, same_trans}
 use Rattle.frac128.specs.Value.{value}
-use Rattle.online_robust.specs.Reading.{IsStretch}
-use Rattle.online_robust.specs.Couples.{CanJoin, Couple, both_of}
+use Rattle.online_robust.specs.ReadLines.{IsStretch}
+use Rattle.online_robust.specs.Couples.{CanJoin, Couple, IsCoupleFault, both_of}
+use Rattle.pl_signal.proofs.Kept.{on_err_anyway}
+use Rattle.online_robust.proofs.Refusing.{memory_told}
 use Rattle.online_robust.proofs.Builts.{built_done, built_first, tick_between}
 use Rattle.online_robust.proofs.Losses.{both_both, both_later}
 use Rattle.online_robust.proofs.TwoLemmas.{both_is, joined_same_time}
@@ -13,7 +14,7 @@ use Rattle.online_robust.proofs.pointwise.Two.sweep.Goals.{After-finish}
 use Rattle.online_robust.proofs.pointwise.Two.sweep.Goals as goal
 
 pub begin-reached-requires : goal.begin-reached-requires
-begin-reached-requires c = let (x, can, e) = c.requires in (x, can)
+begin-reached-requires c = let (x, can, e) = c.requires.can in (x, can)
 
 pub loop-at-init : goal.loop-at-init
 loop-at-init c = record {
@@ -24,7 +25,8 @@ loop-at-init c = record {
         built_first (both_of x c.args.self.now) x.reach (both_is x c.args.self.now)
             c.begin-reached.result.at c.begin-reached.result.value x.from c.in_ok-built.built reached.2 reached.0 c.in_ok-built.ensures,
       );
-  lost = let (x, can, e) = c.requires in
+  still = c.requires.unset;
+  lost = let (x, can, e) = c.requires.can in
       both_later (le_trans (c.begin-reached.ensures.joined x can).to (ge_of_same e)) c.begin-reached.ensures.lost;
 }
 
@@ -33,7 +35,7 @@ turn-requires-clause-order c = c.in-Less.ensures
 
 pub turn-requires-clause-joined : goal.turn-requires-clause-joined
 turn-requires-clause-joined c =
-    let (x, can, e) = c.requires in
+    let (x, can, e) = c.requires.can in
     let (reached, to, built) = c.loop-at.invariant.went x can e in (x, to, e, built)
 
 pub loop-at-preserved : goal.loop-at-preserved
@@ -44,7 +46,8 @@ loop-at-preserved c = record {
         c.in_ok-reached.ensures.joined x to e,
         c.in_ok-reached.ensures.built x to e built,
       );
-  lost = let (x, can, e) = c.requires in
+  still = c.in_ok-reached.ensures.still;
+  lost = let (x, can, e) = c.requires.can in
       let (reached, to, built) = c.loop-at.invariant.went x can e in
       both_both c.loop-at.invariant.lost
       (both_later (le_trans (c.in_ok-reached.ensures.joined x to e).to (ge_of_same e)) c.in_ok-reached.ensures.lost);
@@ -83,5 +86,14 @@ returns-clause-ahead c x can e =
 pub returns-in_err-reached-clause-wide : goal.returns-in_err-reached-clause-wide
 returns-in_err-reached-clause-wide c x can e =
     let (reached, to, built) = c.loop-at.invariant.went x can e in
-    let p = err_from_is_err_and c.from_residual-in_err-reached.result c.from_residual-in_err-reached.ensures.1 in
-    let h = c.in_err-reached.ensures.wide x to e built in rw (p.1, p.2) h
+    let h = c.in_err-reached.ensures.wide x to e built in on_err_anyway c.from_residual-in_err-reached.result h
+
+pub returns-in_err-built-clause-wide : goal.returns-in_err-built-clause-wide
+returns-in_err-built-clause-wide c x can e =
+    on_err_anyway c.from_residual.result (memory_told (IsCoupleFault x c.args.self.now) c.args.fault.now c.requires.unset tt)
+
+pub returns-clause-still : goal.returns-clause-still
+returns-clause-still c = c.loop-at.invariant.still
+
+pub turn-requires-clause-unset : goal.turn-requires-clause-unset
+turn-requires-clause-unset c = c.loop-at.invariant.still

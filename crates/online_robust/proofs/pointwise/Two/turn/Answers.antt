@@ -1,6 +1,5 @@
 use Rattle.std.proofs.Common.{◌≡◌, inl, inr, Some, sym, subst, ap, ◌∙◌, ◌^◌, slice_get, length, arith}
 use Rattle.std.specs.Prelude.{IsTrue}
-use Rattle.std.proofs.lemmas.Result.{err_from_is_err_and}
 use Rattle.rational.specs.Time.{Rational, ◌≈◌}
 use Rattle.rational.specs.Extended.{value_at, ◌≈ᵉ◌}
 use Rattle.rational.specs.Affine.{HasBoundedLevel}
@@ -15,8 +14,11 @@ use Rattle.stl_syntax.specs.SupInf.{Robustness}
 use Rattle.online_robust.specs.Lines.{margin_of}
 use Rattle.online_robust.specs.Held.{held_at, held_of}
 use Rattle.online_robust.specs.Told.{IsTick}
-use Rattle.online_robust.specs.Reading.{IsAhead, IsThere, value_turned}
-use Rattle.online_robust.specs.Couples.{Couple, IsJoinedTo, IsReadTo}
+use Rattle.online_robust.specs.ReadLines.{IsAhead, IsThere, value_turned}
+use Rattle.online_robust.specs.Couples.{Couple, IsCoupleFault, IsJoinedTo, IsReadTo}
+use Rattle.pl_signal.specs.declared.faults.OpFault.TheVariants as F
+use Rattle.pl_signal.proofs.Kept.{on_err_anyway}
+use Rattle.online_robust.proofs.Refusing.{each_told}
 use Rattle.online_robust.proofs.Builts.{tick_between, tick_within}
 use Rattle.online_robust.proofs.Losses.{both_of as lost_both}
 use Rattle.online_robust.proofs.TwoLemmas.{IsStop, built_joined, counted_level, joined_fault, left_later}
@@ -123,20 +125,20 @@ left_of-requires c =
     (left_level x c.args.self.now c.args.edges.now (value c.args.at.now) to (lt_of_lt_of_le c.requires.order (le_of_same e)) c.in-Some.p c.in-Some-first.q
     (sym c.first.ensures ∙ c.in-Some.is) (sym c.first-2.ensures ∙ c.in-Some-first.is))
 
-pub join-requires-clause-order : goal.join-requires-clause-order
-join-requires-clause-order c =
+pub join_kept-requires-clause-order : goal.join_kept-requires-clause-order
+join_kept-requires-clause-order c =
     let (x, to, e, built) = c.requires.joined in
-    lt_of_le_of_lt (le_of_same built.ends) (stop_at (goal.at.join-requires-clause-order c).After-earlier-t x to e).after
+    lt_of_le_of_lt (le_of_same built.ends) (stop_at (goal.at.join_kept-requires-clause-order c).After-earlier-t x to e).after
 
-pub join-requires-clause-from_within : goal.join-requires-clause-from_within
-join-requires-clause-from_within c =
+pub join_kept-requires-clause-from_within : goal.join_kept-requires-clause-from_within
+join_kept-requires-clause-from_within c =
     let (x, to, e, built) = c.requires.joined in
     within_same (2 ^ 34) (same_sym built.ends) (tick_within (tick_between to.span.begin to.span.end (le_trans to.span.first to.from) to.to))
 
-pub join-requires-clause-to_within : goal.join-requires-clause-to_within
-join-requires-clause-to_within c =
+pub join_kept-requires-clause-to_within : goal.join_kept-requires-clause-to_within
+join_kept-requires-clause-to_within c =
     let (x, to, e, built) = c.requires.joined in
-    tick_within (tick_at (goal.at.join-requires-clause-to_within c).After-earlier-t x to e)
+    tick_within (tick_at (goal.at.join_kept-requires-clause-to_within c).After-earlier-t x to e)
 
 -- what the left input counts as
 turned_at : (c : After-left_of) → (t : Rational)
@@ -151,32 +153,32 @@ based_at c = subst
     (λ (m : Margin). IsTrue (is_ramp c.left_of.result) → IsTrue (is_ramp m) × (margin_base c.left_of.result ≡ margin_base m))
     c.margin.ensures c.left_of.ensures.base
 
-pub join-requires-clause-first : goal.join-requires-clause-first
-join-requires-clause-first c =
+pub join_kept-requires-clause-first : goal.join_kept-requires-clause-first
+join_kept-requires-clause-first c =
     let (x, to, e, built) = c.requires.joined in
     counted_level x c.args.self.now c.args.edges.now (value c.args.at.now) to (lt_of_lt_of_le c.requires.order (le_of_same e)) c.in-Some.p c.in-Some-first.q
     (sym c.first.ensures ∙ c.in-Some.is) (sym c.first-2.ensures ∙ c.in-Some-first.is) c.left_of.result
-    (turned_at (goal.at.join-requires-clause-first c).After-left_of) (based_at (goal.at.join-requires-clause-first c).After-left_of)
+    (turned_at (goal.at.join_kept-requires-clause-first c).After-left_of) (based_at (goal.at.join_kept-requires-clause-first c).After-left_of)
 
-pub join-requires-clause-second : goal.join-requires-clause-second
-join-requires-clause-second c =
+pub join_kept-requires-clause-second : goal.join_kept-requires-clause-second
+join_kept-requires-clause-second c =
     let (x, to, e, built) = c.requires.joined in
     subst (λ (m : Margin). HasBoundedLevel (2 ^ 31) (margin_function m)) (sym c.margin-2.ensures)
     (right_level x c.args.self.now c.args.edges.now (value c.args.at.now) to (lt_of_lt_of_le c.requires.order (le_of_same e)) c.in-Some.p c.in-Some-first.q
     (sym c.first.ensures ∙ c.in-Some.is) (sym c.first-2.ensures ∙ c.in-Some-first.is))
 
-pub returns-in_err-join-clause-wide : goal.returns-in_err-join-clause-wide
-returns-in_err-join-clause-wide c x to e built =
-    let p = err_from_is_err_and c.from_residual.result c.from_residual.ensures.1 in
-    let (from, at, fault) = c.in_err-join.ensures.wide in
-    let step = (goal.at.returns-in_err-join-clause-wide c).After-earlier-t in
+pub returns-in_err-join_kept-clause-wide : goal.returns-in_err-join_kept-clause-wide
+returns-in_err-join_kept-clause-wide c x to e built =
+    let step = (goal.at.returns-in_err-join_kept-clause-wide c).After-earlier-t in
+    let left = (goal.at.returns-in_err-join_kept-clause-wide c).After-left_of in
     let s = stop_at step x to e in
-    rw (p.1, p.2) (joined_fault x c.args.self.now c.args.edges.now (value c.args.at.now) to (lt_of_lt_of_le c.requires.order (le_of_same e)) c.in-Some.p
-    c.in-Some-first.q (sym c.first.ensures ∙ c.in-Some.is) (sym c.first-2.ensures ∙ c.in-Some-first.is) c.left_of.result
-    (turned_at (goal.at.returns-in_err-join-clause-wide c).After-left_of) (based_at (goal.at.returns-in_err-join-clause-wide c).After-left_of)
+    on_err_anyway c.from_residual.result (each_told (IsCoupleFault x c.args.self.now) c.join_kept.new.fault tt c.in_err-join_kept.ensures.wide
+    (λ pair (from, at, fault). joined_fault x c.args.self.now c.args.edges.now (value c.args.at.now) to
+    (lt_of_lt_of_le c.requires.order (le_of_same e)) c.in-Some.p c.in-Some-first.q (sym c.first.ensures ∙ c.in-Some.is)
+    (sym c.first-2.ensures ∙ c.in-Some-first.is) c.left_of.result (turned_at left) (based_at left)
     c.earlier-t.result s.left s.right s.after (le_trans s.by (le_of_same e)) from (subst (λ (t : Rational). t ≈ value c.args.at.now) (sym at) built.ends)
-    c.in_err-join.field-0.0
-    (subst (λ (m : Margin). IsGapFault margin_shape c.left_of.result m from c.earlier-t.result c.in_err-join.field-0.0) c.margin-2.ensures fault))
+    (F.Wide pair)
+    (subst (λ (m : Margin). IsGapFault margin_shape c.left_of.result m from c.earlier-t.result (F.Wide pair)) c.margin-2.ensures fault)))
 
 pub returns-clause-reached : goal.returns-clause-reached
 returns-clause-reached c x to e =
@@ -216,10 +218,10 @@ returns-clause-built c x to e built =
     built_joined x c.args.self.now c.args.edges.now (value c.args.at.now) to (lt_of_lt_of_le c.requires.order (le_of_same e)) c.in-Some.p
     c.in-Some-first.q (sym c.first.ensures ∙ c.in-Some.is) (sym c.first-2.ensures ∙ c.in-Some-first.is) c.left_of.result
     (turned_at (goal.at.returns-clause-built c).After-left_of) (based_at (goal.at.returns-clause-built c).After-left_of)
-    c.earlier-t.result s.left s.right s.after (le_trans s.by (le_of_same e)) c.of_both-value.result c.args.built.now c.join.new.self built
+    c.earlier-t.result s.left s.right s.after (le_trans s.by (le_of_same e)) c.of_both-value.result c.args.built.now c.join_kept.new.self built
     (subst (λ (m : Margin).
-    Joins margin_shape c.args.self.now.side c.args.built.now c.left_of.result m c.earlier-t.result c.of_both-value.result c.join.new.self)
-    c.margin-2.ensures c.in_ok-join.ensures.ok)
+    Joins margin_shape c.args.self.now.side c.args.built.now c.left_of.result m c.earlier-t.result c.of_both-value.result c.join_kept.new.self)
+    c.margin-2.ensures c.in_ok-join_kept.ensures.ok)
     (c.of_both-value.ensures x (there_left (goal.at.returns-clause-built c).After-up_to-y x (read_left step x to e))
     (there_right (goal.at.returns-clause-built c).After-up_to-y x
     (read_right (goal.at.returns-clause-built c).After-up_to-x x to e s)))

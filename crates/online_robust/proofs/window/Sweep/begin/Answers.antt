@@ -1,9 +1,10 @@
 use Rattle.std.proofs.Common.{refl, subst}
-use Rattle.std.proofs.lemmas.Result.{err_from_is_err_and}
 use Rattle.rational.specs.Time.{Rational, shifted, ◌<ʳ◌}
 use Rattle.rational.proofs.Order.{lt_of_lt_of_le}
 use Rattle.frac128.specs.Value.{value}
 use Rattle.online_robust.specs.Windows.{at_time}
+use Rattle.online_robust.specs.Refusing.{told_by}
+use Rattle.pl_signal.proofs.Kept.{on_err_anyway}
 use Rattle.online_robust.proofs.PointwiseLemmas.{not_less}
 use Rattle.online_robust.proofs.WindowPoints.{no_sheds}
 use Rattle.online_robust.proofs.WindowRuns.{begun_first, begun_next, begun_told, came_first, goes_none}
@@ -30,11 +31,12 @@ loop-self-init c = record {
   goes = goes_none c.args.self.now;
   none = c.in_default.is;
   start = refl;
+  still = c.requires.unset;
 }
 
-pub go_on-requires : goal.go_on-requires
-go_on-requires c =
-    let (x, own, from, to, can) = c.requires in
+pub go_on-requires-clause-can : goal.go_on-requires-clause-can
+go_on-requires-clause-can c =
+    let (x, own, from, to, can) = c.requires.can in
     let b = c.loop-self.invariant.begun x own from to can in
     let before = subst (λ (z : Rational). z <ʳ value c.args.self.now.start) b.here c.in-Less.ensures in (
       at_time x (value c.loop-self.self.place.at) (value c.loop-self.self.place.at),
@@ -51,11 +53,10 @@ returns-in_err-gone-clause-wide c x own from to can =
     let by = start_by x own from to c.args.self.now c.args.edges.now can in
     let goes = going x own from to c.args.self.now c.args.edges.now can c.loop-self.self c.loop-self.edges c.loop-self.invariant.goes b.came b.later
     (value c.args.self.now.start) (start_tick x own from to c.args.self.now c.args.edges.now can) by before in
-    let p = err_from_is_err_and c.from_residual.result c.from_residual.ensures.1 in
     let h = refused_knot x own from to c.args.self.now c.args.edges.now can c.loop-self.self c.loop-self.edges c.loop-self.invariant.goes b.came b.later
-    (lt_of_lt_of_le before by) c.in_err-gone.field-0.0
+    (lt_of_lt_of_le before by) (told_by c.go_on.new.fault)
     (c.in_err-gone.ensures.wide (at_time x (value c.loop-self.self.place.at) (value c.loop-self.self.place.at)) b.came.at goes) in
-    rw (p.1, p.2) h
+    on_err_anyway c.from_residual.result h
 
 pub loop-self-preserved : goal.loop-self-preserved
 loop-self-preserved c = record {
@@ -75,6 +76,7 @@ loop-self-preserved c = record {
   goes = goes_on c.args.self.now c.loop-self.self c.go_on.new.self c.loop-self.invariant.goes c.in_ok-gone.ensures.kept;
   none = c.loop-self.invariant.none;
   start = c.loop-self.invariant.start;
+  still = c.in_ok-gone.ensures.still;
 }
 
 pub returns-clause-stands : goal.returns-clause-stands
@@ -90,3 +92,9 @@ returns-clause-kept c = c.loop-self.invariant.goes
 
 pub returns-clause-shed : goal.returns-clause-shed
 returns-clause-shed c x own from to can = (c.loop-self.invariant.begun x own from to can).shed
+
+pub returns-clause-still : goal.returns-clause-still
+returns-clause-still c = c.loop-self.invariant.still
+
+pub go_on-requires-clause-unset : goal.go_on-requires-clause-unset
+go_on-requires-clause-unset c = c.loop-self.invariant.still

@@ -13,6 +13,7 @@ invariant-loop-self l = record {
   goes : Goes l.fn.self l.self;
   none : l.fn.self.last ≡ None;
   start : l.start ≡ l.fn.self.start;
+  still : l.fault ≡ None;
 }
 
 abbrev pub decreases-loop-self : goal.decreases-loop-self

@@ -1,5 +1,4 @@
 use Rattle.std.proofs.Common.{◌<◌, ◌^◌, List, sym, subst, length, arith}
-use Rattle.std.proofs.lemmas.Result.{err_from_is_err_and}
 use Rattle.rational.specs.Rational.{IsWithin}
 use Rattle.rational.specs.Extended.{value_at}
 use Rattle.rational.specs.Affine.{IsBounded}
@@ -9,8 +8,11 @@ use Rattle.value_laws.specs.Margins.{margin_function}
 use Rattle.value_laws.specs.declared.margin.Margin.{Margin}
 use Rattle.online_robust.specs.Held.{edge_at, fresh_at}
 use Rattle.online_robust.specs.Sweeping.{IsFrozen}
-use Rattle.online_robust.specs.Windows.{IsAt, IsHigh, Scope, high_at, lines_left, low_at}
+use Rattle.online_robust.specs.Windows.{IsAt, IsHigh, IsUnfixedHigh, Scope, high_at, lines_left, low_at}
 use Rattle.online_robust.specs.declared.line.MarginLine.{MarginLine}
+use Rattle.online_robust.specs.Refusing.{told_by}
+use Rattle.pl_signal.proofs.Kept.{on_err_anyway}
+use Rattle.online_robust.proofs.Refusing.{memory_told}
 use Rattle.online_robust.proofs.Builts.{tick_within}
 use Rattle.online_robust.proofs.Countdown.{enter_no_more, pass_fewer}
 use Rattle.online_robust.proofs.HighLemmas.{HasEntered, before_goes, frozen_spread, has_entered, high_small, knot_is, next_is}
@@ -21,7 +23,7 @@ use Rattle.online_robust.proofs.window.Sweep.go_high.Goals as goal
 
 pub pass-line-requires-clause-some : goal.pass-line-requires-clause-some
 pass-line-requires-clause-some c =
-    let (x, at, high) = c.requires in
+    let (x, at, high) = c.requires.can in
     let n = comes_next x c.args.self.now.window c.args.self.now.start c.args.self.now.none c.args.self.now.place.low c.args.self.now.place.high
     c.args.self.now.among (edge_at c.args.edges.now c.args.self.now.window.of).seen (fresh_at c.args.edges.now c.args.self.now.window.of)
     (low_at x c.args.self.now.window) (high_at x c.args.self.now.window) at.spread high.ends in
@@ -29,7 +31,7 @@ pass-line-requires-clause-some c =
 
 pub enter-next-requires : goal.enter-next-requires
 enter-next-requires c =
-    let (x, at, high) = c.requires in
+    let (x, at, high) = c.requires.can in
     let count = read_count c.args.self.now.window.of c.args.edges.now c.pass-line.new.self c.pass-line.result c.pass-line.ensures.read in
     let within = at.within in
     omega (arith, count, within)
@@ -42,7 +44,7 @@ entered c x at high = has_entered x c.args.self.now c.args.edges.now c.pass-line
 
 pub is_plain-requires-clause-within : goal.is_plain-requires-clause-within
 is_plain-requires-clause-within c =
-    let (x, at, high) = c.requires in
+    let (x, at, high) = c.requires.can in
     let n = next_is x c.args.self.now c.args.edges.now c.pass-line.new.self c.enter-next.new.edges c.pass-line.result c.enter-next.result
     at high c.pass-line.ensures.first c.pass-line.ensures.read c.pass-line.ensures.start c.enter-next.ensures in
     let is = point_at x c.args.self.now c.args.edges.now c.pass-line.new.self c.enter-next.new.edges c.pass-line.result c.enter-next.result
@@ -68,11 +70,11 @@ returns-then-is_plain-clause-stands c x at high =
 
 pub returns-then-is_plain-clause-shed : goal.returns-then-is_plain-clause-shed
 returns-then-is_plain-clause-shed c =
-    let (x, at, high) = c.requires in (entered (goal.at.returns-then-is_plain-clause-shed c).After-enter-next x at high).shed
+    let (x, at, high) = c.requires.can in (entered (goal.at.returns-then-is_plain-clause-shed c).After-enter-next x at high).shed
 
 pub frozen-requires-clause-before : goal.frozen-requires-clause-before
 frozen-requires-clause-before c =
-    let (x, at, high) = c.requires in
+    let (x, at, high) = c.requires.can in
     let is = point_at x c.args.self.now c.args.edges.now c.pass-line.new.self c.enter-next.new.edges c.pass-line.result c.enter-next.result
     at high c.pass-line.ensures.first c.pass-line.ensures.read c.pass-line.ensures.start c.enter-next.ensures c.end-u.result c.end-u.ensures in
     subst (λ (f : Frac). IsBounded (2 ^ 31) (value_at (margin_function c.args.self.now.place.high.shape) (value f))) (sym is)
@@ -81,7 +83,7 @@ frozen-requires-clause-before c =
 
 pub frozen-requires-clause-point : goal.frozen-requires-clause-point
 frozen-requires-clause-point c =
-    let (x, at, high) = c.requires in
+    let (x, at, high) = c.requires.can in
     let n = next_is x c.args.self.now c.args.edges.now c.pass-line.new.self c.enter-next.new.edges c.pass-line.result c.enter-next.result
     at high c.pass-line.ensures.first c.pass-line.ensures.read c.pass-line.ensures.start c.enter-next.ensures in
     let is = point_at x c.args.self.now c.args.edges.now c.pass-line.new.self c.enter-next.new.edges c.pass-line.result c.enter-next.result
@@ -93,7 +95,7 @@ frozen-requires-clause-point c =
 
 pub frozen-requires-clause-after : goal.frozen-requires-clause-after
 frozen-requires-clause-after c =
-    let (x, at, high) = c.requires in
+    let (x, at, high) = c.requires.can in
     let en = entered (goal.at.frozen-requires-clause-after c).After-enter-next x at high in
     let is = point_at x c.args.self.now c.args.edges.now c.pass-line.new.self c.enter-next.new.edges c.pass-line.result c.enter-next.result
     at high c.pass-line.ensures.first c.pass-line.ensures.read c.pass-line.ensures.start c.enter-next.ensures c.end-u.result c.end-u.ensures in
@@ -103,13 +105,16 @@ frozen-requires-clause-after c =
 
 pub returns-in_err-constant-clause-wide : goal.returns-in_err-constant-clause-wide
 returns-in_err-constant-clause-wide c x at high =
-    let p = err_from_is_err_and c.from_residual.result c.from_residual.ensures.1 in
     let en = entered (goal.at.returns-in_err-constant-clause-wide c).After-enter-next x at high in
     let h = unfixed_high x c.args.self.now c.args.edges.now c.pass-line.new.self c.enter-next.new.edges c.pass-line.result c.enter-next.result
     at high c.pass-line.ensures.first c.pass-line.ensures.read c.pass-line.ensures.start c.enter-next.ensures en c.end-u.result c.margin-point.result
     c.end-u.ensures c.margin-point.ensures (c.is_plain.ensures.counts c.if-is_plain.false) (c.is_plain.ensures.knot c.if-is_plain.false)
-    c.in_err-constant.field-0.0 c.in_err-constant.ensures in
-    rw (p.1, p.2) h
+    (told_by c.frozen.new.fault) c.in_err-constant.ensures.fault in
+    on_err_anyway c.from_residual.result h
+
+pub returns-in_err-come-clause-wide : goal.returns-in_err-come-clause-wide
+returns-in_err-come-clause-wide c x at high =
+    on_err_anyway c.from_residual-in_err-come.result (memory_told (IsUnfixedHigh x c.args.self.now) c.frozen.new.fault c.in_ok-constant.ensures.still tt)
 
 pub returns-clause-stands : goal.returns-clause-stands
 returns-clause-stands c x at high =
@@ -126,7 +131,7 @@ returns-clause-stands c x at high =
     let frozen = subst (λ (f : Frac). IsFrozen c.args.self.now.window.side c.args.self.now.place.high.shape n.v c.enter-next.result.shape (value f)
     c.in_ok-constant.constant) is
     (subst (λ (m : Margin). IsFrozen c.args.self.now.window.side c.args.self.now.place.high.shape m c.enter-next.result.shape (value c.end-u.result)
-    c.in_ok-constant.constant) same c.in_ok-constant.ensures) in
+    c.in_ok-constant.constant) same c.in_ok-constant.ensures.frozen) in
     let count = (en.shed (value c.end-u.result)).edges in
     let within = at.within in (
       record {
@@ -141,12 +146,12 @@ returns-clause-stands c x at high =
 
 pub returns-clause-shed : goal.returns-clause-shed
 returns-clause-shed c =
-    let (x, at, high) = c.requires in (entered (goal.at.returns-clause-shed c).After-enter-next x at high).shed
+    let (x, at, high) = c.requires.can in (entered (goal.at.returns-clause-shed c).After-enter-next x at high).shed
 
 fewer : (c : After-enter-next) → lines_left (edge_at c.enter-next.new.edges c.args.self.now.window.of)
     < lines_left (edge_at c.args.edges.now c.args.self.now.window.of)
 fewer c =
-    let (x, at, high) = c.requires in
+    let (x, at, high) = c.requires.can in
     let within = at.within in
     let count = read_count c.args.self.now.window.of c.args.edges.now c.pass-line.new.self c.pass-line.result c.pass-line.ensures.read in
     let passed = pass_fewer c.args.self.now.window.of c.args.edges.now c.pass-line.new.self c.pass-line.result within c.pass-line.ensures.first

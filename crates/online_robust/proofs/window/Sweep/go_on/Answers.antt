@@ -1,12 +1,13 @@
 use Rattle.std.proofs.Common.{◌^◌, ◌∙◌, ◌+◌, ◌*◌, ◌<◌, subst}
-use Rattle.std.proofs.lemmas.Result.{err_from_is_err_and}
 use Rattle.frac128.specs.Value.{value}
 use Rattle.rational.specs.Rational.{IsWithin}
 use Rattle.rational.specs.Time.{Rational, shifted, ◌<ʳ◌}
 use Rattle.online_robust.specs.Held.{edge_at}
 use Rattle.online_robust.specs.Sweeping.{IsBefore}
-use Rattle.online_robust.specs.Windows.{IsGone, Sheds, lines_left, steps_left}
+use Rattle.online_robust.specs.Windows.{IsGone, IsUnfixedHigh, Sheds, lines_left, steps_left}
 use Rattle.online_robust.specs.declared.window.Window.{Window}
+use Rattle.pl_signal.proofs.Kept.{on_err_anyway}
+use Rattle.online_robust.proofs.Refusing.{memory_told}
 use Rattle.online_robust.proofs.Countdown.{both_fewer}
 use Rattle.online_robust.proofs.Sheddings.{sheds_both}
 use Rattle.online_robust.proofs.WindowSteps.{goes_both, open_of}
@@ -14,17 +15,17 @@ use Rattle.online_robust.proofs.window.Sweep.go_on.Goals as goal
 
 pub high_on-requires-clause-at : goal.high_on-requires-clause-at
 high_on-requires-clause-at c =
-    let (x, at, going) = c.requires in
+    let (x, at, going) = c.requires.can in
     (x, at, going.behind ∙ going.here, going.more)
 
 pub high_on-requires-clause-within : goal.high_on-requires-clause-within
 high_on-requires-clause-within c =
-    let (x, at, going) = c.requires in
+    let (x, at, going) = c.requires.can in
     subst (IsWithin (2 ^ 34)) going.here going.within
 
 pub go_to-requires : goal.go_to-requires
 go_to-requires c =
-    let (x, at, going) = c.requires in
+    let (x, at, going) = c.requires.can in
     let went = c.in_ok-high_on.ensures.stands x at (going.behind ∙ going.here) going.more in
     (x, went.0, open_of x c.args.self.now c.high_on.new.self (value c.args.to.now) going c.in_ok-high_on.ensures.kept.0 c.in_ok-high_on.ensures.kept.1 went.1)
 
@@ -56,18 +57,16 @@ returns-clause-shed c x at going =
 
 pub returns-in_err-high_on-clause-wide : goal.returns-in_err-high_on-clause-wide
 returns-in_err-high_on-clause-wide c x at going =
-    let p = err_from_is_err_and c.from_residual.result c.from_residual.ensures.1 in
     let h = c.in_err-high_on.ensures.wide x at (going.behind ∙ going.here) going.more in
-    rw (p.1, p.2) h
+    on_err_anyway c.from_residual.result h
 
 pub returns-in_err-gone-clause-wide : goal.returns-in_err-gone-clause-wide
 returns-in_err-gone-clause-wide c x at going =
-    let p = err_from_is_err_and c.from_residual-in_err-gone.result c.from_residual-in_err-gone.ensures.1 in
-    rw (p.1, p.2) tt
+    on_err_anyway c.from_residual-in_err-gone.result (memory_told (IsUnfixedHigh x c.args.self.now) c.high_on.new.fault c.in_ok-high_on.ensures.still tt)
 
 pub returns-clause-fewer : goal.returns-clause-fewer
 returns-clause-fewer c =
-    let (x, at, going) = c.requires in
+    let (x, at, going) = c.requires.can in
     let went = c.in_ok-high_on.ensures.stands x at (going.behind ∙ going.here) going.more in
     let ahead = open_of x c.args.self.now c.high_on.new.self (value c.args.to.now) going c.in_ok-high_on.ensures.kept.0 c.in_ok-high_on.ensures.kept.1 went.1 in
     let high_before = subst (λ (z : Rational). IsBefore (shifted z c.args.self.now.window.high) c.high_on.new.self.place.high.until) (going.behind ∙ going.here)
@@ -78,3 +77,6 @@ returns-clause-fewer c =
     (edge_at c.args.edges.now c.args.self.now.window.of) (edge_at c.high_on.new.edges c.args.self.now.window.of)
     (edge_at c.go_to.new.edges c.args.self.now.window.of) (value c.args.to.now)
     (subst (λ (z : Rational). z <ʳ value c.args.to.now) going.here going.before) high_before c.in_ok-high_on.ensures.fewer step
+
+pub returns-clause-still : goal.returns-clause-still
+returns-clause-still c = c.in_ok-high_on.ensures.still

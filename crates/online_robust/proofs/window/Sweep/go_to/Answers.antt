@@ -4,7 +4,7 @@ use Rattle.frac128.specs.Value.{value}
 use Rattle.online_robust.specs.Held.{edge_at}
 use Rattle.online_robust.specs.Sweeping.{EndsAt}
 use Rattle.online_robust.specs.Windows.{at_time, lines_left}
-use Rattle.online_robust.specs.declared.ends.Gap.{Gap}
+use Rattle.online_robust.specs.declared.ends.Rim.{Rim}
 use Rattle.online_robust.proofs.Countdown.{go_fewer}
 use Rattle.online_robust.proofs.WindowSteps.{at_both, at_end, at_low, between, each, high_moved, high_tick}
 use Rattle.online_robust.proofs.WindowSteps.{later, low_moved, low_tick, plays, stop_within, there, there_fit}
@@ -132,5 +132,5 @@ returns-clause-fewer c x at ready =
         ⊎ (lines_left (edge_at c.low_point.new.edges c.args.self.now.window.of) < lines_left (edge_at c.args.edges.now c.args.self.now.window.of))
     which (inl same) = inl same
     which (inr (inl ends)) = inr (inl
-        (subst (λ (g : Gap). EndsAt g.until (shifted (value c.next_stop-t.result) c.args.self.now.window.high)) (sym c.in_ok-at_low.ensures.kept.1) ends))
+        (subst (λ (g : Rim). EndsAt g.until (shifted (value c.next_stop-t.result) c.args.self.now.window.high)) (sym c.in_ok-at_low.ensures.kept.1) ends))
     which (inr (inr ends)) = inr (inr (c.in_ok-at_low.ensures.fewer ends))

@@ -14,8 +14,8 @@ ends_at-requires-clause-from c = high_from_passed c.args.self.now.window c.requi
 pub ends_at-requires-clause-to : goal.ends_at-requires-clause-to
 ends_at-requires-clause-to c = high_to_passed c.args.self.now.window c.requires.at.0.reach c.requires.at.1.spread.fit
 
-pub go_high-requires : goal.go_high-requires
-go_high-requires c =
+pub go_high-requires-clause-can : goal.go_high-requires-clause-can
+go_high-requires-clause-can c =
     let (x, at, here, more) = c.requires.at in
     let ends = subst (λ z. EndsAt c.args.self.now.place.high.until (shifted (value c.args.self.now.place.at) z))
     (high_passed c.args.self.now.window x.reach at.spread.fit) (c.ends_at.ensures.yes c.if-ends_at.true) in

@@ -1,13 +1,15 @@
 use Rattle.std.proofs.Common.{◌+◌, ℕ, sym, subst}
-use Rattle.std.proofs.lemmas.Result.{err_from_is_err_and}
 use Rattle.rational.specs.Time.{Rational, shifted, ◌≈◌, ◌≤ʳ◌, ◌<ʳ◌}
 use Rattle.rational.proofs.Order.{le_refl, le_trans, same_of_le}
 use Rattle.frac128.specs.Value.{value}
 use Rattle.pl_signal.specs.Knots.{stop as last_of}
 use Rattle.window_ops.proofs.Ends.{le_shifted}
-use Rattle.online_robust.specs.Reading.{IsBuilt, IsStretch}
-use Rattle.online_robust.specs.Windows.{CanSweep, IsGoing, IsOwned, Scope, at_time, best_of}
+use Rattle.online_robust.specs.ReadLines.{IsBuilt, IsStretch}
+use Rattle.online_robust.specs.Windows.{CanSweep, IsGoing, IsOwned, IsWindowFault, Scope, at_time, best_of}
 use Rattle.online_robust.specs.declared.window.Window.{Window}
+use Rattle.online_robust.specs.Refusing.{told_by}
+use Rattle.pl_signal.proofs.Kept.{on_err_anyway}
+use Rattle.online_robust.proofs.Refusing.{memory_told}
 use Rattle.online_robust.proofs.Builts.{built_done}
 use Rattle.online_robust.proofs.PointwiseLemmas.{not_less}
 use Rattle.online_robust.proofs.Sheddings.{sheds_later}
@@ -16,14 +18,18 @@ use Rattle.online_robust.proofs.WindowRuns.{at_by, goes_on, going, refused_eithe
 use Rattle.online_robust.proofs.window.Sweep.sweep.Goals.{After-cmp, After-finish}
 use Rattle.online_robust.proofs.window.Sweep.sweep.Goals as goal
 
-pub begin-requires : goal.begin-requires
-begin-requires c = let (x, own, from, can) = c.requires in (x, own, from, value c.args.to.now, can)
+pub begin-requires-clause-can : goal.begin-requires-clause-can
+begin-requires-clause-can c = let (x, own, from, can) = c.requires.can in (x, own, from, value c.args.to.now, can)
 
 pub returns-in_err-reached-clause-wide : goal.returns-in_err-reached-clause-wide
 returns-in_err-reached-clause-wide c x own from can =
-    let p = err_from_is_err_and c.from_residual.result c.from_residual.ensures.1 in
     let h = c.in_err-reached.ensures.wide x own from (value c.args.to.now) can in
-    rw (p.1, p.2) h
+    on_err_anyway c.from_residual.result h
+
+pub returns-in_err-built-clause-wide : goal.returns-in_err-built-clause-wide
+returns-in_err-built-clause-wide c x own from can =
+    on_err_anyway c.from_residual-in_err-built.result
+    (memory_told (IsWindowFault x c.args.self.now.window (value c.args.to.now)) c.begin.new.fault c.in_ok-reached.ensures.still tt)
 
 pub loop-self-init : goal.loop-self-init
 loop-self-init c = record {
@@ -33,6 +39,7 @@ loop-self-init c = record {
       (c.in_ok-reached.ensures.told x own from (value c.args.to.now) can) c.in_ok-built.ensures
       (c.in_ok-reached.ensures.shed x own from (value c.args.to.now) can);
   goes = c.in_ok-reached.ensures.kept;
+  still = c.in_ok-reached.ensures.still;
 }
 
 going_on : (c : After-cmp) → (x : Scope) (own : ℕ) (from : Rational) → CanSweep x own from (value c.args.to.now) c.args.self.now c.args.edges.now
@@ -50,25 +57,24 @@ going_on c x own from can less =
 
 pub tell_on-requires-clause-at : goal.tell_on-requires-clause-at
 tell_on-requires-clause-at c =
-    let (x, own, from, can) = c.requires in (
+    let (x, own, from, can) = c.requires.can in (
       at_time x (value c.loop-self.self.place.at) (value c.loop-self.self.place.at),
       (c.loop-self.invariant.swept x own from can).came.at,
       (going_on (goal.at.tell_on-requires-clause-at c).After-cmp x own from can c.in-Less.ensures).0,
     )
 
 pub tell_on-requires-clause-ends : goal.tell_on-requires-clause-ends
-tell_on-requires-clause-ends c = let (x, own, from, can) = c.requires in (c.loop-self.invariant.swept x own from can).built.ends
+tell_on-requires-clause-ends c = let (x, own, from, can) = c.requires.can in (c.loop-self.invariant.swept x own from can).built.ends
 
 pub returns-in_err-reached-2-clause-wide : goal.returns-in_err-reached-2-clause-wide
 returns-in_err-reached-2-clause-wide c x own from can =
     let w = c.loop-self.invariant.swept x own from can in
     let goes = going_on (goal.at.returns-in_err-reached-2-clause-wide c).After-cmp x own from can c.in-Less.ensures in
-    let p = err_from_is_err_and c.from_residual-in_err-reached-2.result c.from_residual-in_err-reached-2.ensures.1 in
     let h = refused_either x own from (value c.args.to.now) c.args.self.now c.args.edges.now can c.loop-self.self c.loop-self.edges c.loop-self.invariant.goes
     w.came (le_trans (at_by x own from (value c.args.to.now) c.args.self.now c.args.edges.now can) w.later) (le_trans can.span.begins w.later) goes.1
-    (last_of c.loop-self.built) w.built.ends c.in_err-reached-2.field-0.0
+    (last_of c.loop-self.built) w.built.ends (told_by c.tell_on.new.fault)
     (c.in_err-reached-2.ensures.fault (at_time x (value c.loop-self.self.place.at) (value c.loop-self.self.place.at)) w.came.at goes.0) in
-    rw (p.1, p.2) h
+    on_err_anyway c.from_residual-in_err-reached-2.result h
 
 pub loop-self-preserved : goal.loop-self-preserved
 loop-self-preserved c = record {
@@ -87,6 +93,7 @@ loop-self-preserved c = record {
       (c.in_ok-reached-2.ensures.reached here w.came.at goes.0 begun own owns) (c.in_ok-reached-2.ensures.told here w.came.at goes.0 begun own owns from built)
       c.in_ok-reached-2.ensures.later (c.in_ok-reached-2.ensures.shed here w.came.at goes.0);
   goes = goes_on c.args.self.now c.loop-self.self c.tell_on.new.self c.loop-self.invariant.goes c.in_ok-reached-2.ensures.kept;
+  still = c.in_ok-reached-2.ensures.still;
 }
 
 ended : (c : After-finish) → (x : Scope) (own : ℕ) (from : Rational) → CanSweep x own from (value c.args.to.now) c.args.self.now c.args.edges.now
@@ -124,3 +131,9 @@ returns-clause-shed c x own from can =
     let w = c.loop-self.invariant.swept x own from can in
     sheds_later (shifted (value c.loop-self.self.place.at) c.args.self.now.window.low) (shifted (value c.args.to.now) c.args.self.now.window.low)
     c.args.self.now.window.of c.args.edges.now c.loop-self.edges (le_shifted c.args.self.now.window.low w.by) w.shed
+
+pub returns-clause-still : goal.returns-clause-still
+returns-clause-still c = c.loop-self.invariant.still
+
+pub tell_on-requires-clause-unset : goal.tell_on-requires-clause-unset
+tell_on-requires-clause-unset c = c.loop-self.invariant.still

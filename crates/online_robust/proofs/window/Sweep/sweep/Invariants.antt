@@ -1,6 +1,6 @@
 use Rattle.rational.specs.Time.{Rational}
 use Rattle.frac128.specs.Value.{value}
-use Rattle.std.specs.Prelude.{ℕ}
+use Rattle.std.specs.Prelude.{◌≡◌, ℕ, None}
 use Rattle.online_robust.specs.Held.{edge_at}
 use Rattle.online_robust.specs.Windows.{CanSweep, Goes, Scope, steps_left}
 use Rattle.online_robust.proofs.WindowRuns.{IsSwept}
@@ -11,6 +11,7 @@ invariant-loop-self l = record {
   swept : (x : Scope) (own : ℕ) (from : Rational) → CanSweep x own from (value l.to) l.fn.self l.fn.edges
       → IsSwept x own from (value l.to) l.fn.self l.self l.fn.edges l.edges l.reached l.built;
   goes : Goes l.fn.self l.self;
+  still : l.fault ≡ None;
 }
 
 abbrev pub decreases-loop-self : goal.decreases-loop-self

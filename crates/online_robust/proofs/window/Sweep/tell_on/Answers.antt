@@ -1,5 +1,4 @@
 use Rattle.std.proofs.Common.{◌≡◌, ◌^◌, inl, inr, sym, subst}
-use Rattle.std.proofs.lemmas.Result.{err_from_is_err_and}
 use Rattle.rational.specs.Rational.{Rational, IsWithin}
 use Rattle.rational.specs.Time.{◌≤ʳ◌, ◌<ʳ◌}
 use Rattle.rational.proofs.Mixed.{within_same}
@@ -9,11 +8,14 @@ use Rattle.value_laws.specs.Kinds.{margin_shape}
 use Rattle.pl_signal.specs.Knots.{stop as last_of}
 use Rattle.envelope.specs.Best.{IsWritten}
 use Rattle.online_robust.specs.declared.window.Window.{Window}
+use Rattle.online_robust.specs.Refusing.{told_by}
+use Rattle.pl_signal.proofs.Kept.{on_err_anyway}
+use Rattle.online_robust.proofs.Refusing.{told_kept}
 use Rattle.online_robust.proofs.WindowTelling.{gone_later, gone_there, gone_within, kept_fault, levels, written_at}
 use Rattle.online_robust.proofs.window.Sweep.tell_on.Goals as goal
 
-pub go_on-requires : goal.go_on-requires
-go_on-requires c = c.requires.at
+pub go_on-requires-clause-can : goal.go_on-requires-clause-can
+go_on-requires-clause-can c = c.requires.at
 
 pub write-requires-clause-order : goal.write-requires-clause-order
 write-requires-clause-order c =
@@ -80,15 +82,20 @@ returns-in-Err-clause-fault c x at going = inr (
   c.in_ok-gone.gone.to,
   value c.go_on.new.self.place.at,
   c.in_ok-gone.ensures.told x at going,
-  kept_fault c.in_ok-gone.gone.best (last_of c.args.built.now) (value c.in_ok-gone.gone.to.at) c.refused.result c.write.new.fault c.refused.ensures
-      c.in-Err.ensures.fault,
+  kept_fault c.in_ok-gone.gone.best (last_of c.args.built.now) (value c.in_ok-gone.gone.to.at) (told_by c.write.new.fault) c.write.new.fault
+      (told_kept c.write.new.fault) c.in-Err.ensures.fault,
 )
 
 pub returns-in_err-gone-clause-fault : goal.returns-in_err-gone-clause-fault
 returns-in_err-gone-clause-fault c x at going =
-    let p = err_from_is_err_and c.from_residual.result c.from_residual.ensures.1 in
     let h = c.in_err-gone.ensures.wide x at going in
-    rw (p.1, p.2) (inl h)
+    on_err_anyway c.from_residual.result (inl h)
 
 pub returns-in-Ok-clause-fewer : goal.returns-in-Ok-clause-fewer
 returns-in-Ok-clause-fewer c = c.in_ok-gone.ensures.fewer
+
+pub write-requires-clause-none : goal.write-requires-clause-none
+write-requires-clause-none c = c.in_ok-gone.ensures.still
+
+pub returns-in-Ok-clause-still : goal.returns-in-Ok-clause-still
+returns-in-Ok-clause-still c = c.in-Ok.ensures.still

@@ -5,8 +5,8 @@ use Rattle.pl_signal.specs.Joining.{IsGapFault, IsPieces}
 use Rattle.pl_signal.proofs.JoiningLemmas.{joins}
 use Rattle.pl_signal.proofs.builder.Builder.join_pieces.Goals as goal
 
-pub returns-else-is_err-clause-ok : goal.returns-else-is_err-clause-ok
-returns-else-is_err-clause-ok g c =
+pub returns-in_ok-reserve-in-Ok-clause-ok : goal.returns-in_ok-reserve-in-Ok-clause-ok
+returns-in_ok-reserve-in-Ok-clause-ok g c =
     joins g.P.Shape c.args.side c.args.self.now c.put_pieces.new.knots.items c.args.p.now c.args.q.now c.args.point.now c.args.to.now c.in-Ok.taken
     (subst (λ s. IsPieces g.P.Shape c.args.side c.args.p.now c.args.q.now s (value c.args.to.now) c.in-Ok.taken) c.stop-from.ensures.value
     c.in-Ok.ensures)

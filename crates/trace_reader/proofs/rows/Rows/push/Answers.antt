@@ -1,6 +1,6 @@
 -- A row that came can be taken.
 use Rattle.std.proofs.Common.{take}
-use Rattle.trace_reader.specs.Reading.{state}
+use Rattle.trace_reader.specs.LineReader.{state}
 use Rattle.trace_reader.proofs.ReaderSteps.{next_row}
 use Rattle.trace_reader.proofs.ReaderTakes.{came_some, going_on}
 use Rattle.trace_reader.proofs.rows.Rows.push.Goals as goal

@@ -8,7 +8,7 @@ use Rattle.trace_reader.specs.declared.event.Event.{Event}
 use Rattle.trace_reader.specs.declared.refusal.Limits.{Limits}
 use Rattle.trace_stream.specs.Cases.{IsNoBegin, IsBegun, CanKeep, with_row}
 use Rattle.trace_stream.specs.Following.{IsOpened, IsHeldUp, IsOpenStop}
-use Rattle.trace_stream.specs.Reading.{IsKept}
+use Rattle.trace_stream.specs.CaseReader.{IsKept}
 use Rattle.trace_stream.specs.declared.fault.StreamStop.{StreamStop}
 use Rattle.trace_stream.proofs.Feeding.{HasHeaderLine, front_same, first_next, header_step, row_step, nothing_step, kept_begun, kept_row}
 use Rattle.trace_stream.proofs.Living.{next_of, live_refused, live_lacks, none_open, open_of, open_held, more_text}

@@ -1,0 +1,40 @@
+use Rattle.std.proofs.Common.{rules, ◌≡◌, sym, subst, ap, ◌∙◌, ◌++◌, length, take, drop, List}
+use Rattle.early_verdict.specs.Standing.{AllEmpty, AllTidy}
+use Rattle.early_verdict.specs.Living.{ComesOn}
+use Rattle.early_verdict.specs.declared.sets.Sets.{Sets}
+use Rattle.early_verdict.proofs.Opening.{sets_written}
+use Rattle.early_verdict.proofs.entries.step_sets.Goals as goal
+
+pub step_all-requires-clause-count : goal.step_all-requires-clause-count
+step_all-requires-clause-count c = ap (λ (xs : List Sets). length xs) c.deref_mut.ensures.value ∙ c.requires.count
+
+pub step_all-requires-clause-shown_count : goal.step_all-requires-clause-shown_count
+step_all-requires-clause-shown_count c = ap (λ (xs : List Sets). length xs) c.deref_mut-2.ensures.value ∙ c.requires.shown_count
+
+pub step_all-requires-clause-tidy : goal.step_all-requires-clause-tidy
+step_all-requires-clause-tidy c = subst (λ (xs : List Sets). AllTidy xs) (sym c.deref_mut.ensures.value) c.requires.tidy
+
+pub step_all-requires-clause-shown_tidy : goal.step_all-requires-clause-shown_tidy
+step_all-requires-clause-shown_tidy c = subst (λ (xs : List Sets). AllTidy xs) (sym c.deref_mut-2.ensures.value) c.requires.shown_tidy
+
+pub step_all-requires-clause-none : goal.step_all-requires-clause-none
+step_all-requires-clause-none c = λ f. subst (λ (xs : List Sets). AllEmpty xs) (sym c.deref_mut.ensures.value) (c.requires.none f)
+
+pub returns : goal.returns
+returns c =
+    let nodes = c.args.formula.now.nodes in
+    let b = c.args.bound.now in
+    let e = c.args.entry.now in
+    let before = c.args.before.now in
+    let r = c.args.row.now in
+    let live = c.args.net.now.live in
+    let shown = c.args.net.now.shown in
+    let new = c.step_all.new.live in
+    let new_shown = c.step_all.new.shown in
+    let long : length new ≡ live.len = search rules in
+    let long_shown : length new_shown ≡ shown.len = search rules in
+    subst (λ (xs : List Sets). ComesOn nodes b e before r live.items xs shown.items (take shown.len (new_shown ++ drop (length new_shown) shown.items)))
+    (sets_written new live.items live.len long)
+    (subst (λ (xs : List Sets). ComesOn nodes b e before r live.items new shown.items xs) (sets_written new_shown shown.items shown.len long_shown)
+    (subst (λ (xs : List Sets). ComesOn nodes b e before r xs new shown.items new_shown) c.deref_mut.ensures.value
+    (subst (λ (xs : List Sets). ComesOn nodes b e before r c.deref_mut.result.now new xs new_shown) c.deref_mut-2.ensures.value c.in_ok-step_all.ensures)))

@@ -1,0 +1,43 @@
+use Rattle.std.proofs.Common.{◌≡◌, ℕ, ◌∙◌, List, pos, refl, subst}
+use Rattle.rational.specs.Time.{whole}
+use Rattle.stl_syntax.proofs.PostOrderLemmas.{placed}
+use Rattle.early_verdict.specs.Making.{AreMade, AreShownOf}
+use Rattle.early_verdict.specs.declared.sets.Sets.{Sets}
+use Rattle.early_verdict.proofs.GoingOn.{first_stand, leaves_bound}
+use Rattle.early_verdict.proofs.LiveMaking.{shown_tidy}
+use Rattle.early_verdict.proofs.entries.take_first.Goals as goal
+
+are : (live seen shown : List Sets) → seen ≡ live → AreShownOf seen shown → AreShownOf live shown
+are live seen shown e h = subst (λ (xs : List Sets). AreShownOf xs shown) e h
+
+pub step_sets-requires-clause-count : goal.step_sets-requires-clause-count
+step_sets-requires-clause-count c = c.in_ok-live.ensures.have.count
+
+pub step_sets-requires-clause-shown_count : goal.step_sets-requires-clause-shown_count
+step_sets-requires-clause-shown_count c =
+    (are c.in_ok-live.live.items c.deref.result.now c.in_ok-shown.shown.items c.deref.ensures.value c.in_ok-shown.ensures).count
+    ∙ c.in_ok-live.ensures.have.count
+
+pub step_sets-requires-clause-tidy : goal.step_sets-requires-clause-tidy
+step_sets-requires-clause-tidy c = c.in_ok-live.ensures.tidy
+
+pub step_sets-requires-clause-shown_tidy : goal.step_sets-requires-clause-shown_tidy
+step_sets-requires-clause-shown_tidy c =
+    shown_tidy c.args.formula.now.nodes (whole (pos c.time.result)) c.in_ok-live.live.items c.in_ok-shown.shown.items c.in_ok-live.ensures
+    (are c.in_ok-live.live.items c.deref.result.now c.in_ok-shown.shown.items c.deref.ensures.value c.in_ok-shown.ensures)
+    (λ i n at. placed c.args.formula.now.nodes i n c.requires.open.1.formed.post_order at)
+
+pub step_sets-requires-clause-none : goal.step_sets-requires-clause-none
+step_sets-requires-clause-none c = λ f. c.in_ok-live.ensures.empty
+
+pub step_sets-requires-clause-atoms : goal.step_sets-requires-clause-atoms
+step_sets-requires-clause-atoms c = leaves_bound c.args.bound.now c.args.formula.now c.requires.open.0 c.requires.open.1.bound
+
+pub returns : goal.returns
+returns c = λ header o. (
+  refl,
+  first_stand o (subst (λ (t : ℕ). AreMade c.args.formula.now.nodes (whole (pos t)) c.in_ok-live.live.items) c.time.ensures c.in_ok-live.ensures)
+      (are c.in_ok-live.live.items c.deref.result.now c.in_ok-shown.shown.items c.deref.ensures.value c.in_ok-shown.ensures)
+      c.in_ok-step_sets.ensures c.requires.width c.first_entry-entry.ensures.open
+      (c.first_entry-entry.ensures.happens header c.args.row.now c.time-2.ensures),
+)

@@ -1,0 +1,521 @@
+-- A parser refuses a token as the refusals say.
+use Rattle.std.proofs.Common.{◌≡◌, ℕ, ◌+◌, ◌-◌, ◌<◌, ◌≤◌, List, [], ◌∷◌, length, refl, sym, ap}
+use Rattle.std.proofs.Common.{◌∙◌, subst, Bool, true, false, if◌then◌else◌, arith, inl, inr, ◌⊎◌}
+use Rattle.std.specs.Prelude.{nat_le, nat_lt, ◌||◌, not, Option, Some, None, option_map, IsTrue, MatchBool, codes}
+use Rattle.std.proofs.lemmas.Bool.Decides.{nat_tests}
+use Rattle.std.proofs.lemmas.List.{take_at, length-append, length-drop}
+use Rattle.std.proofs.lemmas.Option.{same_Some}
+use Rattle.stl_syntax.specs.Characters.{is_among}
+use Rattle.stl_syntax.specs.Choice.{◌or_else◌, Where}
+use Rattle.stl_syntax.specs.Names.{is_name}
+use Rattle.stl_grammar.specs.Tokens.{Token, word, number}
+use Rattle.stl_grammar.specs.FormulaRefusals.{MayBegin, RefusedAt, pending, nodes_made, expected}
+use Rattle.stl_grammar.specs.FormulaRefusals.{is_unbounded, begins_fifth_term, is_bad_number, is_out_of_order}
+use Rattle.stl_grammar.specs.FormulaRefusals.{begins_future_bound, passes_limit, opens_bound, ahead}
+use Rattle.stl_grammar.specs.Spelling.{Tells, IsLarge, spelling}
+use Rattle.stl_grammar.specs.Machine as Machine
+use Rattle.stl_grammar.specs.Machine.{State, Mark, Owner, of_until, of_since, of_future, of_past, step_bound}
+use Rattle.stl_grammar.specs.Machine.{step_at, at_operand, at_bound, at_low, at_comma, at_high, at_closing}
+use Rattle.stl_grammar.specs.Machine.{at_term, at_star, at_name, at_sign, at_constant, at_number, at_end, kind}
+use Rattle.stl_grammar.specs.Machine.{run, step, expected_at, fifth_at, disorder_at, future_at, in_paren}
+use Rattle.stl_grammar.specs.Parsing.{Parse, parse_step, between, IsKnown}
+use Rattle.stl_grammar.specs.Refusing.{state_of, refused, refused_after, late_in, unbounded_in, fifth_in, bad_in}
+use Rattle.stl_grammar.specs.Refusing.{disorder_in, future_in, expected_in, depth_of, place_at, number_in}
+use Rattle.stl_grammar.specs.Taken.{plain}
+use Rattle.stl_syntax.proofs.PostOrderLemmas.{or_false}
+use Rattle.stl_grammar.proofs.ParserView.{IsFit, view_step, known_kind}
+use Rattle.stl_grammar.proofs.RefusalExamples.{passed, not_refused}
+use Rattle.stl_grammar.proofs.WordKinds.{among_ahead, among_inf}
+use Rattle.stl_grammar.proofs.MachineBegins.{step_begins}
+use Rattle.stl_grammar.proofs.MachineRuns.{step_stops, step_runs}
+use Rattle.stl_grammar.proofs.MachineView.{run_expected, run_depth, run_nodes, run_bad_number, run_fifth, run_disorder, run_future}
+use Rattle.stl_grammar.specs.declared.decimal.Decimal.{Decimal}
+use Rattle.stl_grammar.specs.declared.token.Keyword.TheVariants.{True, False, Not, And, Or, Implies, Until, Since, Eventually, Always, Once, Historically, Inf}
+use Rattle.stl_grammar.specs.declared.token.Token.{Token as Code}
+use Rattle.stl_grammar.specs.declared.token.Token.TheVariants.{Keyword as IsKeyword, Name, Number, Relation, OpenParen}
+use Rattle.stl_grammar.specs.declared.token.Token.TheVariants.{CloseParen, OpenBracket, CloseBracket, Comma, Star, Plus, Minus}
+use Rattle.stl_grammar.specs.declared.place.Place.{Place}
+use Rattle.stl_grammar.specs.declared.place.Place.TheVariants.{Operand, Bound, Low, Comma as AtComma, High, Closing}
+use Rattle.stl_grammar.specs.declared.place.Place.TheVariants.{ClosingInf, Term as AtTerm, Star as AtStar, Name as AtName}
+use Rattle.stl_grammar.specs.declared.place.Place.TheVariants.{Sign, Constant, Number as AtNumber, End}
+use Rattle.stl_grammar.specs.declared.fault.What.{What}
+use Rattle.stl_grammar.specs.declared.fault.What.TheVariants.{Operand as WhatOperand, Number as WhatNumber, Comma as WhatComma}
+use Rattle.stl_grammar.specs.declared.fault.What.TheVariants.{Bracket as WhatBracket, Star as WhatStar, Name as WhatName}
+use Rattle.stl_grammar.specs.declared.fault.What.TheVariants.{Term as WhatTerm, Relation as WhatRelation}
+use Rattle.stl_grammar.specs.declared.fault.What.TheVariants.{Constant as WhatConstant, Paren as WhatParen, End as WhatEnd}
+use Rattle.stl_grammar.specs.declared.fault.FormulaFault.{FormulaFault}
+use Rattle.stl_grammar.specs.declared.fault.FormulaFault.TheVariants.{Expected, BadNumber, BoundOrder, UnboundedFuture, TooManyTerms, TooDeep, TooManyNodes}
+
+-- the code tells a number past every limit
+abbrev pub TellsLarge : Code → Token → Type 0
+TellsLarge (Number d) t = (nat_le d.decimals 6 ≡ false) × IsLarge t
+TellsLarge _ t = ⊥
+
+-- the code tells the token exactly, or a large number
+pub tells_plain : (text : List ℕ) (c : Code) (t : Token) → Tells text c t → (t ≡ plain text c) ⊎ TellsLarge c t
+tells_plain text (IsKeyword w) t h = inl h
+tells_plain text (Name from to) t (name, e, at) =
+    let size : to - from ≡ length name = omega (arith, at.ends) in
+    let same : between from to text ≡ name = rw (size, at.stands) (take_at name at.after (length name) refl) in
+    inl (e ∙ ap word (sym same))
+tells_plain text (Number d) t h = by_size (nat_le d.decimals 6) refl h
+  where
+    by_size : (q : Bool) → nat_le d.decimals 6 ≡ q → MatchBool q (t ≡ number d.value d.decimals) (IsLarge t)
+        → (t ≡ plain text (Number d)) ⊎ TellsLarge (Number d) t
+    by_size true e h = inl h
+    by_size false e h = inr (e, h)
+tells_plain text (Relation r) t h = inl h
+tells_plain text OpenParen t h = inl h
+tells_plain text CloseParen t h = inl h
+tells_plain text OpenBracket t h = inl h
+tells_plain text CloseBracket t h = inl h
+tells_plain text Comma t h = inl h
+tells_plain text Star t h = inl h
+tells_plain text Plus t h = inl h
+tells_plain text Minus t h = inl h
+
+-- a name that the code tells stands in the text
+some_name : (w : List ℕ) → IsTrue (is_name w) → 0 < length w
+some_name [] h = absurd (cc)
+some_name (c ∷ w) h = omega arith
+
+-- a token that is told is known
+pub tells_known : (text : List ℕ) (c : Code) (t : Token) → Tells text c t → IsKnown text c
+tells_known text (IsKeyword w) t h = tt
+tells_known text (Name from to) t (name, e, at) =
+    let size : to - from ≡ length name = omega (arith, at.ends) in
+    let same : between from to text ≡ name = rw (size, at.stands) (take_at name at.after (length name) refl) in
+    let long : length text - from ≡ length name + length at.after = sym (length-drop from text) ∙ ap length at.stands ∙ length-append name at.after in
+    (omega (arith, at.ends), omega (arith, at.ends, long, some_name name at.good), subst (λ w. IsTrue (is_name w)) (sym same) at.good)
+tells_known text (Number d) t h = tt
+tells_known text (Relation r) t h = tt
+tells_known text OpenParen t h = tt
+tells_known text CloseParen t h = tt
+tells_known text OpenBracket t h = tt
+tells_known text CloseBracket t h = tt
+tells_known text Comma t h = tt
+tells_known text Star t h = tt
+tells_known text Plus t h = tt
+tells_known text Minus t h = tt
+
+future_same : (place : Place) (n : ℕ) → future_at (place_at place n) ≡ future_in place
+future_same Operand n = refl
+future_same (Bound of) n = refl
+future_same (Low of i) n = refl
+future_same (AtComma of i low) n = refl
+future_same (High of i low) n = refl
+future_same (Closing of i low high) n = refl
+future_same (ClosingInf of i low) n = refl
+future_same (AtTerm negative) n = refl
+future_same (AtStar negative coef) n = refl
+future_same (AtName negative coef) n = refl
+future_same Sign n = refl
+future_same (Constant rel) n = refl
+future_same (AtNumber rel negative) n = refl
+future_same End n = refl
+
+-- what is expected is that of the place
+pub expected_same : (place : Place) (n : ℕ) (p : Parse) → p.place ≡ place → expected_at (state_of p).place (state_of p).marks ≡ expected_in p
+expected_same Operand n p e = rw e refl
+expected_same (Bound of) n p e = rw e refl
+expected_same (Low of i) n p e = rw e refl
+expected_same (AtComma of i low) n p e = rw e refl
+expected_same (High of i low) n p e = rw e refl
+expected_same (Closing of i low high) n p e = rw e refl
+expected_same (ClosingInf of i low) n p e = rw e refl
+expected_same (AtTerm negative) n p e = rw e refl
+expected_same (AtStar negative coef) n p e = rw e refl
+expected_same (AtName negative coef) n p e = rw e refl
+expected_same Sign n p e = rw e refl
+expected_same (Constant rel) n p e = rw e refl
+expected_same (AtNumber rel negative) n p e = rw e refl
+expected_same End n p e = rw e refl
+
+passes_end : (b : Bool) (n k : ℕ) → passes_limit (if b then WhatParen else WhatEnd) n k ≡ (nat_lt 0 k || nat_lt 16 n)
+passes_end true n k = refl
+passes_end false n k = refl
+
+passes_same : (place : Place) (m : ℕ) (marks : List Mark) (n k : ℕ)
+    → passes_limit (expected_at (place_at place m) marks) n k ≡ passes_limit (number_in place) n k
+passes_same Operand m marks n k = refl
+passes_same (Bound of) m marks n k = refl
+passes_same (Low of i) m marks n k = refl
+passes_same (AtComma of i low) m marks n k = refl
+passes_same (High of i low) m marks n k = refl
+passes_same (Closing of i low high) m marks n k = refl
+passes_same (ClosingInf of i low) m marks n k = refl
+passes_same (AtTerm negative) m marks n k = refl
+passes_same (AtStar negative coef) m marks n k = refl
+passes_same (AtName negative coef) m marks n k = refl
+passes_same Sign m marks n k = refl
+passes_same (Constant rel) m marks n k = refl
+passes_same (AtNumber rel negative) m marks n k = refl
+passes_same End m marks n k = passes_end (in_paren marks) n k
+
+-- a large number passes each limit
+passes_large : (what : What) (n k : ℕ) → IsTrue (nat_lt 6 k || nat_lt 4294967295 n) → passes_limit what n k ≡ true
+passes_large WhatOperand n k h = grind (arith, nat_tests, h)
+passes_large WhatNumber n k h = grind (arith, nat_tests, h)
+passes_large WhatComma n k h = grind (arith, nat_tests, h)
+passes_large WhatBracket n k h = grind (arith, nat_tests, h)
+passes_large WhatStar n k h = grind (arith, nat_tests, h)
+passes_large WhatName n k h = grind (arith, nat_tests, h)
+passes_large WhatTerm n k h = grind (arith, nat_tests, h)
+passes_large WhatRelation n k h = grind (arith, nat_tests, h)
+passes_large WhatConstant n k h = grind (arith, nat_tests, h)
+passes_large WhatParen n k h = grind (arith, nat_tests, h)
+passes_large WhatEnd n k h = grind (arith, nat_tests, h)
+
+code_passes : (what : What) (v d : ℕ) → nat_le d 6 ≡ false → passes_limit what v d ≡ true
+code_passes what v d h = passes_large what v d (let e : nat_lt 6 d ≡ true = grind (arith, nat_tests, h) in rw e refl)
+
+fifth_same : (text : List ℕ) (place : Place) (n : ℕ) (c : Code) → fifth_at (place_at place n) (plain text c) ≡ fifth_in place n c
+fifth_same text Operand n c = refl
+fifth_same text (Bound of) n c = refl
+fifth_same text (Low of i) n c = refl
+fifth_same text (AtComma of i low) n c = refl
+fifth_same text (High of i low) n c = refl
+fifth_same text (Closing of i low high) n c = refl
+fifth_same text (ClosingInf of i low) n c = refl
+fifth_same text (AtTerm negative) n c = refl
+fifth_same text (AtStar negative coef) n c = refl
+fifth_same text (AtName negative coef) n c = refl
+fifth_same text Sign n (IsKeyword w) = refl
+fifth_same text Sign n (Name from to) = refl
+fifth_same text Sign n (Number d) = refl
+fifth_same text Sign n (Relation r) = refl
+fifth_same text Sign n OpenParen = refl
+fifth_same text Sign n CloseParen = refl
+fifth_same text Sign n OpenBracket = refl
+fifth_same text Sign n CloseBracket = refl
+fifth_same text Sign n Comma = refl
+fifth_same text Sign n Star = refl
+fifth_same text Sign n Plus = refl
+fifth_same text Sign n Minus = refl
+fifth_same text (Constant rel) n c = refl
+fifth_same text (AtNumber rel negative) n c = refl
+fifth_same text End n c = refl
+
+disorder_same : (text : List ℕ) (place : Place) (n : ℕ) (c : Code) → disorder_at (place_at place n) (plain text c) ≡ disorder_in place c
+disorder_same text Operand n c = refl
+disorder_same text (Bound of) n c = refl
+disorder_same text (Low of i) n c = refl
+disorder_same text (AtComma of i low) n c = refl
+disorder_same text (High of i low) n (IsKeyword w) = refl
+disorder_same text (High of i low) n (Name from to) = refl
+disorder_same text (High of i low) n (Number d) = refl
+disorder_same text (High of i low) n (Relation r) = refl
+disorder_same text (High of i low) n OpenParen = refl
+disorder_same text (High of i low) n CloseParen = refl
+disorder_same text (High of i low) n OpenBracket = refl
+disorder_same text (High of i low) n CloseBracket = refl
+disorder_same text (High of i low) n Comma = refl
+disorder_same text (High of i low) n Star = refl
+disorder_same text (High of i low) n Plus = refl
+disorder_same text (High of i low) n Minus = refl
+disorder_same text (Closing of i low high) n c = refl
+disorder_same text (ClosingInf of i low) n c = refl
+disorder_same text (AtTerm negative) n c = refl
+disorder_same text (AtStar negative coef) n c = refl
+disorder_same text (AtName negative coef) n c = refl
+disorder_same text Sign n c = refl
+disorder_same text (Constant rel) n c = refl
+disorder_same text (AtNumber rel negative) n c = refl
+disorder_same text End n c = refl
+
+fifth_number : (place : Place) (m : ℕ) (n k : ℕ) (d : Decimal) → fifth_at (place_at place m) (number n k) ≡ fifth_in place m (Number d)
+fifth_number Operand m n k d = refl
+fifth_number (Bound of) m n k d = refl
+fifth_number (Low of i) m n k d = refl
+fifth_number (AtComma of i low) m n k d = refl
+fifth_number (High of i low) m n k d = refl
+fifth_number (Closing of i low high) m n k d = refl
+fifth_number (ClosingInf of i low) m n k d = refl
+fifth_number (AtTerm negative) m n k d = refl
+fifth_number (AtStar negative coef) m n k d = refl
+fifth_number (AtName negative coef) m n k d = refl
+fifth_number Sign m n k d = refl
+fifth_number (Constant rel) m n k d = refl
+fifth_number (AtNumber rel negative) m n k d = refl
+fifth_number End m n k d = refl
+
+-- what operators look ahead
+unbounded_same : (text rest : List ℕ) (before : List Token) (place : Place) (c : Code) → IsKnown text c → begins_future_bound before ≡ future_in place
+    → is_unbounded before (plain text c) rest ≡ unbounded_in place c rest
+unfolding kind
+unbounded_same text rest before place (IsKeyword True) k f = refl
+unbounded_same text rest before place (IsKeyword False) k f = refl
+unbounded_same text rest before place (IsKeyword Not) k f = refl
+unbounded_same text rest before place (IsKeyword And) k f = refl
+unbounded_same text rest before place (IsKeyword Or) k f = refl
+unbounded_same text rest before place (IsKeyword Implies) k f = refl
+unbounded_same text rest before place (IsKeyword Until) k f = or_false (not (opens_bound (spelling Until) rest))
+unbounded_same text rest before place (IsKeyword Since) k f = refl
+unbounded_same text rest before place (IsKeyword Eventually) k f = or_false (not (opens_bound (spelling Eventually) rest))
+unbounded_same text rest before place (IsKeyword Always) k f = or_false (not (opens_bound (spelling Always) rest))
+unbounded_same text rest before place (IsKeyword Once) k f = refl
+unbounded_same text rest before place (IsKeyword Historically) k f = refl
+unbounded_same text rest before place (IsKeyword Inf) k f = f
+unbounded_same text rest before place (Name from to) k f =
+    let e = known_kind text from to k in
+    let a : is_among (between from to text) ahead ≡ false = rw (among_ahead (between from to text), e) refl in
+    let b : is_among (between from to text) (codes "inf" ∷ []) ≡ false = rw (among_inf (between from to text), e) refl in
+    rw (a, b) refl
+unbounded_same text rest before place (Number d) k f = refl
+unbounded_same text rest before place (Relation r) k f = refl
+unbounded_same text rest before place OpenParen k f = refl
+unbounded_same text rest before place CloseParen k f = refl
+unbounded_same text rest before place OpenBracket k f = refl
+unbounded_same text rest before place CloseBracket k f = refl
+unbounded_same text rest before place Comma k f = refl
+unbounded_same text rest before place Star k f = refl
+unbounded_same text rest before place Plus k f = refl
+unbounded_same text rest before place Minus k f = refl
+
+-- two numbers lead to states that differ in their place alone
+abbrev pub Alike : Option State → Option State → Type 0
+Alike None None = Unit {0}
+Alike None (Some b) = ⊥
+Alike (Some a) None = ⊥
+Alike (Some a) (Some b) = (a.marks ≡ b.marks) × (a.nodes ≡ b.nodes)
+
+bound_alike : (o : Owner) (st : State) (n k m j : ℕ) → Alike (step_bound o st (number n k)) (step_bound o st (number m j))
+bound_alike of_until st n k m j = tt
+bound_alike of_since st n k m j = (refl, refl)
+bound_alike of_future st n k m j = tt
+bound_alike of_past st n k m j = (refl, refl)
+
+numbers_alike : (q : Machine.Place) (st : State) (n k m j : ℕ) → Alike (step_at q st (number n k)) (step_at q st (number m j))
+numbers_alike at_operand st n k m j = (refl, refl)
+numbers_alike (at_bound o) st n k m j = bound_alike o st n k m j
+numbers_alike (at_low o) st n k m j = (refl, refl)
+numbers_alike (at_comma o a i) st n k m j = tt
+numbers_alike (at_high o a i) st n k m j = (refl, refl)
+numbers_alike (at_closing o) st n k m j = closing_alike o
+  where
+    closing_alike : (o : Owner) → Alike (step_at (at_closing o) st (number n k)) (step_at (at_closing o) st (number m j))
+    closing_alike of_until = tt
+    closing_alike of_since = tt
+    closing_alike of_future = tt
+    closing_alike of_past = tt
+numbers_alike (at_term i) st n k m j = (refl, refl)
+numbers_alike (at_star i) st n k m j = tt
+numbers_alike (at_name i) st n k m j = tt
+numbers_alike (at_sign i) st n k m j = tt
+numbers_alike at_constant st n k m j = (refl, refl)
+numbers_alike at_number st n k m j = (refl, refl)
+numbers_alike at_end st n k m j = tt
+
+-- of two refusals in order, the first where its test says so
+pub choose : {A : Type 0} (P : Type 0) (a : A) (G : A → Type 0) (b : Bool) → (b ≡ true → P) → (b ≡ false → ¬ P)
+    → (rest : Option A) → ((r : A) → rest ≡ Some r → G r)
+    → (r : A) → (if b then Some a else rest) ≡ Some r → (Where P a or_else G) r
+choose P a G true y n rest g r e = inl (y refl, cc)
+choose P a G false y n rest g r e = inr (passed P a (n refl), g r e)
+
+last_one : {A : Type 0} (P : Type 0) (a : A) (b : Bool) → (b ≡ true → P) → (r : A) → (if b then Some a else None) ≡ Some r → Where P a r
+last_one P a true y r e = (y refl, cc)
+last_one P a false y r e = absurd (cc)
+
+none_of : {A : Type 0} (a : A) (b : Bool) (rest : Option A) → (if b then Some a else rest) ≡ None → (b ≡ false) × (rest ≡ None)
+none_of a true rest e = absurd (cc)
+none_of a false rest e = (refl, e)
+
+-- a token after tokens that led to the parser's state
+module _ (text rest : List ℕ) (before : List Token) (p : Parse) (c : Code) (t : Token) (at : ℕ)
+    (runs : run before ≡ Some (state_of p)) (fit : IsFit p) (tells : Tells text c t) where
+  known : IsKnown text c
+  known = tells_known text c t tells
+
+  stepped : Alike (option_map state_of (parse_step text p c)) (step (state_of p) t)
+  stepped = by_kind (tells_plain text c t tells)
+    where
+      same : (o : Option State) → Alike o o
+      same None = tt
+      same (Some a) = (refl, refl)
+
+      large : (c : Code) → TellsLarge c t → IsKnown text c → Alike (option_map state_of (parse_step text p c)) (step (state_of p) t)
+      large (Number d) (e, (n, k, f, l)) sees =
+          rw (view_step text p (Number d) sees fit, f) (numbers_alike (state_of p).place (state_of p) d.value d.decimals n k)
+      large _ h sees = absurd h
+
+      by_kind : (t ≡ plain text c) ⊎ TellsLarge c t → Alike (option_map state_of (parse_step text p c)) (step (state_of p) t)
+      by_kind (inl e) = rw (view_step text p c known fit, e) (same (step (state_of p) (plain text c)))
+      by_kind (inr h) = large c h known
+
+  stops : parse_step text p c ≡ None → ¬ MayBegin (t ∷ before)
+  stops e = by_step (step (state_of p) t) refl (rw e at stepped)
+    where
+      by_step : (o : Option State) → step (state_of p) t ≡ o → Alike None o → ¬ MayBegin (t ∷ before)
+      by_step None e h = step_stops before (state_of p) t runs e
+      by_step (Some next) e h = absurd h
+
+  goes : (q : Parse) → parse_step text p c ≡ Some q → MayBegin (t ∷ before) × (length (pending (t ∷ before)) ≡ depth_of q) × (nodes_made (t ∷ before) ≡ q.made)
+  goes q e = by_step (step (state_of p) t) refl (rw e at stepped)
+    where
+      by_step : (o : Option State) → step (state_of p) t ≡ o → Alike (Some (state_of q)) o
+          → MayBegin (t ∷ before) × (length (pending (t ∷ before)) ≡ depth_of q) × (nodes_made (t ∷ before) ≡ q.made)
+      by_step None e h = absurd h
+      by_step (Some next) e h =
+          let r : run (t ∷ before) ≡ Some next = step_runs before (state_of p) t runs ∙ e in
+          (step_begins before (state_of p) next t runs e, run_depth (t ∷ before) next r ∙ ap length (sym h.0), run_nodes (t ∷ before) next r ∙ sym h.1)
+
+  unbounded : is_unbounded before t rest ≡ unbounded_in p.place c rest
+  unbounded = by_kind (tells_plain text c t tells)
+    where
+      future : begins_future_bound before ≡ future_in p.place
+      future = run_future before (state_of p) runs ∙ future_same p.place (length p.terms)
+
+      large : (c : Code) → TellsLarge c t → is_unbounded before t rest ≡ unbounded_in p.place c rest
+      large (Number d) (e, (n, k, f, l)) = rw f refl
+      large _ h = absurd h
+
+      by_kind : (t ≡ plain text c) ⊎ TellsLarge c t → is_unbounded before t rest ≡ unbounded_in p.place c rest
+      by_kind (inl e) = rw e (unbounded_same text rest before p.place c known future)
+      by_kind (inr h) = large c h
+
+  fifth : begins_fifth_term before t ≡ fifth_in p.place (length p.terms) c
+  fifth = run_fifth before (state_of p) runs t ∙ by_kind (tells_plain text c t tells)
+    where
+      large : (c : Code) → TellsLarge c t → fifth_at (place_at p.place (length p.terms)) t ≡ fifth_in p.place (length p.terms) c
+      large (Number d) (e, (n, k, f, l)) = rw f (fifth_number p.place (length p.terms) n k d)
+      large _ h = absurd h
+
+      by_kind : (t ≡ plain text c) ⊎ TellsLarge c t → fifth_at (place_at p.place (length p.terms)) t ≡ fifth_in p.place (length p.terms) c
+      by_kind (inl e) = rw e (fifth_same text p.place (length p.terms) c)
+      by_kind (inr h) = large c h
+
+  bad : is_bad_number before t ≡ bad_in p.place c
+  bad = by_kind (tells_plain text c t tells)
+    where
+      exact : (c : Code) → is_bad_number before (plain text c) ≡ bad_in p.place c
+      exact (Number d) = run_bad_number before (state_of p) runs d.value d.decimals ∙ passes_same p.place (length p.terms) (state_of p).marks d.value d.decimals
+      exact (IsKeyword w) = refl
+      exact (Name from to) = refl
+      exact (Relation r) = refl
+      exact OpenParen = refl
+      exact CloseParen = refl
+      exact OpenBracket = refl
+      exact CloseBracket = refl
+      exact Comma = refl
+      exact Star = refl
+      exact Plus = refl
+      exact Minus = refl
+
+      large : (c : Code) → TellsLarge c t → is_bad_number before t ≡ bad_in p.place c
+      large (Number d) (e, (n, k, f, l)) =
+          rw (f, code_passes (number_in p.place) d.value d.decimals e)
+          (run_bad_number before (state_of p) runs n k ∙ passes_large (expected_at (state_of p).place (state_of p).marks) n k l)
+      large _ h = absurd h
+
+      by_kind : (t ≡ plain text c) ⊎ TellsLarge c t → is_bad_number before t ≡ bad_in p.place c
+      by_kind (inl e) = rw e (exact c)
+      by_kind (inr h) = large c h
+
+  -- a number that is not refused is told exactly
+  pub exact_where_good : bad_in p.place c ≡ false → t ≡ plain text c
+  exact_where_good g = by_kind (tells_plain text c t tells)
+    where
+      large : (c : Code) → TellsLarge c t → bad_in p.place c ≡ false → t ≡ plain text c
+      large (Number d) (e, (n, k, f, l)) g = absurd (let h = code_passes (number_in p.place) d.value d.decimals e in cc)
+      large _ h g = absurd h
+
+      by_kind : (t ≡ plain text c) ⊎ TellsLarge c t → t ≡ plain text c
+      by_kind (inl e) = e
+      by_kind (inr h) = large c h g
+
+  disorder : bad_in p.place c ≡ false → is_out_of_order before t ≡ disorder_in p.place c
+  disorder g = run_disorder before (state_of p) runs t ∙ rw (exact_where_good g) (disorder_same text p.place (length p.terms) c)
+
+  late : (r : FormulaFault) → late_in p.place (length p.terms) c at ≡ Some r
+      → (Where (IsTrue (begins_fifth_term before t)) (TooManyTerms at)
+      or_else Where (IsTrue (is_bad_number before t)) (BadNumber at)
+      or_else Where (IsTrue (is_out_of_order before t)) (BoundOrder at)) r
+  late =
+      choose (IsTrue (begins_fifth_term before t)) (TooManyTerms at) _ (fifth_in p.place (length p.terms) c) (λ e. fifth ∙ e)
+      (λ e h. let x = sym fifth ∙ h in cc) _
+      (by_bad (bad_in p.place c) refl)
+    where
+      by_bad : (b : Bool) → bad_in p.place c ≡ b → (r : FormulaFault)
+          → (if b then Some (BadNumber at) else if disorder_in p.place c then Some (BoundOrder at) else None) ≡ Some r
+          → (Where (IsTrue (is_bad_number before t)) (BadNumber at) or_else Where (IsTrue (is_out_of_order before t)) (BoundOrder at)) r
+      by_bad true e r h = inl (bad ∙ e, sym (same_Some _ _ h))
+      by_bad false e r h =
+          inr (
+            passed (IsTrue (is_bad_number before t)) (BadNumber at) (λ x. let y = sym bad ∙ x in cc),
+            last_one (IsTrue (is_out_of_order before t)) (BoundOrder at) (disorder_in p.place c) (λ d. disorder e ∙ d) r h,
+          )
+
+  -- what the parser refuses is refused
+  pub judged : (r : FormulaFault) → refused text p c rest at ≡ Some r → RefusedAt before t rest at r
+  judged =
+      choose (IsTrue (is_unbounded before t rest)) (UnboundedFuture at) _ (unbounded_in p.place c rest) (λ e. unbounded ∙ e)
+      (λ e h. let x = sym unbounded ∙ h in cc) _
+      (by_step (parse_step text p c) refl)
+    where
+      deep : (q : Parse) → parse_step text p c ≡ Some q → nat_lt 64 (depth_of q) ≡ true → 64 < length (pending (t ∷ before))
+      deep q e h = let g = (goes q e).1 in grind (arith, nat_tests, h, g)
+
+      flat : (q : Parse) → parse_step text p c ≡ Some q → nat_lt 64 (depth_of q) ≡ false → ¬ (64 < length (pending (t ∷ before)))
+      flat q e h l = let g = (goes q e).1 in let k : depth_of q ≤ 64 = grind (arith, nat_tests, h) in omega (arith, g, l)
+
+      many : (q : Parse) → parse_step text p c ≡ Some q → nat_lt 256 q.made ≡ true → 256 < nodes_made (t ∷ before)
+      many q e h = let g = (goes q e).2 in grind (arith, nat_tests, h, g)
+
+      few : (q : Parse) → parse_step text p c ≡ Some q → nat_lt 256 q.made ≡ false → ¬ (256 < nodes_made (t ∷ before))
+      few q e h l = let g = (goes q e).2 in let k : q.made ≤ 256 = grind (arith, nat_tests, h) in omega (arith, g, l)
+
+      by_step : (o : Option Parse) → parse_step text p c ≡ o → (r : FormulaFault) → refused_after p c at o ≡ Some r
+          → (Where (¬ MayBegin (t ∷ before)) (Expected at (expected before))
+          or_else Where (64 < length (pending (t ∷ before))) (TooDeep at)
+          or_else Where (256 < nodes_made (t ∷ before)) (TooManyNodes at)
+          or_else Where (IsTrue (begins_fifth_term before t)) (TooManyTerms at)
+          or_else Where (IsTrue (is_bad_number before t)) (BadNumber at)
+          or_else Where (IsTrue (is_out_of_order before t)) (BoundOrder at)) r
+      by_step None e r h =
+          inl (stops e, sym (same_Some _ _ h) ∙ ap (Expected at) (sym (run_expected before (state_of p) runs ∙ expected_same p.place 0 p refl)))
+      by_step (Some q) e r h =
+          inr (
+            passed (¬ MayBegin (t ∷ before)) _ (λ n. n (goes q e).0),
+            choose (64 < length (pending (t ∷ before))) (TooDeep at) _ (nat_lt 64 (depth_of q)) (deep q e) (flat q e) _
+                (choose (256 < nodes_made (t ∷ before)) (TooManyNodes at) _ (nat_lt 256 q.made) (many q e) (few q e) _ late) r h,
+          )
+
+  -- what follows from no refusal
+  pub record IsTaken (q : Parse) : Type 0 where
+    -- the token, as the code has it
+    pub exact : t ≡ plain text c
+    -- the machine goes on by it
+    pub next : run (t ∷ before) ≡ Some (state_of q)
+    -- nothing refuses it
+    pub free : (x : FormulaFault) → ¬ RefusedAt before t rest at x
+    -- there is room for a node more
+    pub few : q.made ≤ 256
+    -- its number does not pass its limit
+    pub good : bad_in p.place c ≡ false
+    -- its bound is in order
+    pub order : disorder_in p.place c ≡ false
+
+  -- a token that the parser takes is refused by nothing
+  pub taken : (q : Parse) → refused text p c rest at ≡ None → parse_step text p c ≡ Some q → IsTaken q
+  taken q e f =
+      let a = none_of _ _ _ e in
+      let b : refused_after p c at (Some q) ≡ None = rw f at a.1 in
+      let d = none_of _ _ _ b in
+      let m = none_of _ _ _ d.1 in
+      let l = none_of _ _ _ m.1 in
+      let n = none_of _ _ _ l.1 in
+      let o = none_of _ _ _ n.1 in
+      let g = goes q f in
+      let deep : depth_of q ≤ 64 = let x : nat_lt 64 (depth_of q) ≡ false = d.0 in grind (arith, nat_tests, x) in
+      let made : q.made ≤ 256 = let x : nat_lt 256 q.made ≡ false = m.0 in grind (arith, nat_tests, x) in
+      let same : t ≡ plain text c = exact_where_good n.0 in
+      record {
+        exact = same;
+        next = step_runs before (state_of p) t runs ∙ (ap (step (state_of p)) same ∙ (sym (view_step text p c known fit) ∙ ap (option_map state_of) f));
+        free = not_refused before t rest at (unbounded ∙ a.0) g.0 (omega (arith, g.1, deep)) (omega (arith, g.2, made))
+            (fifth ∙ l.0) (bad ∙ n.0) (disorder n.0 ∙ o.0);
+        few = made;
+        good = n.0;
+        order = o.0;
+      }

@@ -1,0 +1,19 @@
+use Rattle.std.proofs.Common.{◌≡◌, ◌≤◌, ◌-◌, ◌++◌, ℕ, List, length, take}
+use Rattle.stl_syntax.specs.Trace.{Row}
+use Rattle.trace_reader.specs.Reader.{StandsFor}
+use Rattle.trace_reader.specs.LineReader.{state, IsWithin}
+use Rattle.trace_reader.proofs.line_reader.LineReader.take.Given as goal
+
+abbrev pub invariant-loop-at : goal.invariant-loop-at
+invariant-loop-at l = record {
+  within : l.at ≤ length l.piece;
+  bounds : IsWithin l.limits l.self;
+  table : (l.self.table.heading ≡ l.initial.self.table.heading) × (l.self.table.row ≡ l.initial.self.table.row)
+      × (l.self.table.count ≡ l.initial.self.table.count)
+      × (l.self.table.least ≡ l.initial.self.table.least);
+  stands : (bytes : List ℕ) (rows : List Row) → StandsFor (state l.limits l.initial.self) bytes rows
+      → StandsFor (state l.limits l.self) (bytes ++ take l.at l.piece) rows;
+}
+
+abbrev pub decreases-loop-at : goal.decreases-loop-at
+decreases-loop-at l = length l.piece - l.at
