@@ -2,12 +2,11 @@
 ghost use Rattle.std.specs.Prelude.{◌≡◌, length, option_map, false};
 ghost use Rattle.stl_syntax.specs.Trace.{Row as ARow};
 
-use super::evals::parsed;
+use super::given::{WHOLE, parsed};
 use super::plain_early::{Reading, Says, SoFar, decided};
 use super::plain_net::Link;
 use super::slow::Temporal;
 use super::slow_tests::{Dice, Recording, atom, bound, bound_text, generated};
-use super::traces::WHOLE;
 use atom_lines::bind;
 use early_verdict::{Decided, Early};
 use std::alloc::{AllocError, Global};

@@ -2,11 +2,10 @@
 ghost use Rattle.std.specs.Prelude.{◌≡◌, length, option_map, false};
 ghost use Rattle.stl_syntax.specs.Trace.{Row as ARow};
 
-use super::evals::parsed;
+use super::given::{WHOLE, parsed};
 use super::plain_net::{Act, Link, Model, Plain, Stretch, fresh_node};
 use super::slow::{Temporal, judged};
 use super::slow_tests::{Dice, Recording, atom, bound, bound_text, generated, is_so};
-use super::traces::WHOLE;
 use atom_lines::bind;
 use frac128::Frac;
 use online_net::{Net, NetFault};

@@ -1,5 +1,5 @@
 //! `explain` as a whole: tables of explanations from outside, over sources and sinks in memory.
-use crate::explain_tests::waves;
+use crate::given::waves;
 use crate::run_tests::{Case, agrees, agrees_however_cut, pieces};
 use std::test::Fail;
 
