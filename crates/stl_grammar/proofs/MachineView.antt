@@ -1,6 +1,8 @@
 -- What the refusals read off the tokens is what the machine's state says.
 use Rattle.std.proofs.Common.{◌≡◌, ℕ, suc, List, [], ◌∷◌, length, refl, ap, sym, ◌∙◌, Bool, true, false, if◌then◌else◌}
 use Rattle.std.specs.Prelude.{Option, Some, None, not, ◌==◌}
+use Rattle.std.proofs.lemmas.Option.{same_Some, none-some}
+use Rattle.std.proofs.lemmas.Bool.{false≢true}
 use Rattle.std.proofs.Math.Bool.{and-true, and-false}
 use Rattle.stl_syntax.specs.declared.rel.Rel.{Rel}
 use Rattle.stl_grammar.specs.declared.fault.What.{What}
@@ -64,12 +66,12 @@ owner_begins an_until o e = refl
 owner_begins a_since o e = refl
 owner_begins a_future o e = refl
 owner_begins a_past o e = refl
-owner_begins _ o e = absurd (cc)
+owner_begins _ o e = absurd (none-some o e)
 
 begin_expected : (k : Kind) (whole : List Token) → begins_kind k ≡ true → word_expected k whole ≡ Operand
-begin_expected a_constant whole e = absurd (cc)
-begin_expected an_inf whole e = absurd (cc)
-begin_expected a_name whole e = absurd (cc)
+begin_expected a_constant whole e = absurd (false≢true e)
+begin_expected an_inf whole e = absurd (false≢true e)
+begin_expected a_name whole e = absurd (false≢true e)
 begin_expected _ whole e = refl
 
 data IsBracket : Token → Type 0 where
@@ -194,7 +196,7 @@ whole_expected : (before : List Token) (marks : List Mark) → pending before �
 whole_expected before marks e = ap (λ z. if has_paren z then Paren else End) e ∙ ap (λ b. if b then Paren else End) (paren_pending marks)
 
 owner_low : (k : Kind) (o : Owner) → owner k ≡ Some o → is_inf k ≡ false
-owner_low an_inf o e = absurd (cc)
+owner_low an_inf o e = absurd (none-some o e)
 owner_low _ o e = refl
 
 -- what is expected, by the place
@@ -232,7 +234,7 @@ record View (s : State) (before : List Token) : Type 0 where
   terms : terms_made before ≡ terms_at s.place
 
 same_view : (a b : State) (before : List Token) → Some a ≡ Some b → View a before → View b before
-same_view a b before e v = let f : a ≡ b = cc in rw (← f) v
+same_view a b before e v = let f : a ≡ b = same_Some a b e in rw (← f) v
 
 count_token : (t : Token) (what : What) (before : List Token) (n : ℕ) → expected before ≡ what → nodes_made before ≡ n
     → nodes_made (t ∷ before) ≡ (if makes_node what t then suc n else n)
@@ -250,17 +252,17 @@ operand_pending (operator ∷ marks) = operand_pending marks
 operand_pending (implication ∷ marks) = refl
 
 closed_pending : (marks : List Mark) (n : ℕ) (next : State) → closed marks n ≡ Some next → after_paren (all_pending marks) ≡ all_pending next.marks
-closed_pending [] n next e = absurd (cc)
+closed_pending [] n next e = absurd (none-some next e)
 closed_pending (paren h ∷ marks) n next e =
-    let f : record { place = at_end; had = h; marks = without_operators marks; nodes = n } ≡ next = cc in
+    let f : record { place = at_end; had = h; marks = without_operators marks; nodes = n } ≡ next = same_Some _ next e in
     operand_pending marks ∙ ap (λ s. all_pending s.marks) f
 closed_pending (operator ∷ marks) n next e = closed_pending marks n next e
 closed_pending (implication ∷ marks) n next e = closed_pending marks n next e
 
 closed_place : (marks : List Mark) (n : ℕ) (next : State) → closed marks n ≡ Some next → (next.place ≡ at_end) × (next.nodes ≡ n)
-closed_place [] n next e = absurd (cc)
+closed_place [] n next e = absurd (none-some next e)
 closed_place (paren h ∷ marks) n next e =
-    let f : record { place = at_end; had = h; marks = without_operators marks; nodes = n } ≡ next = cc in (rw (← f) refl, rw (← f) refl)
+    let f : record { place = at_end; had = h; marks = without_operators marks; nodes = n } ≡ next = same_Some _ next e in (rw (← f) refl, rw (← f) refl)
 closed_place (operator ∷ marks) n next e = closed_place marks n next e
 closed_place (implication ∷ marks) n next e = closed_place marks n next e
 
@@ -302,7 +304,7 @@ module _ (h : Bool) (marks : List Mark) (n : ℕ) (before : List Token) where
     count = count_word w a_name Operand before n f (begins_expected before b) c;
     terms = terms_word w a_name before f ∙ ap (λ z. suc z) t;
   })
-  word_view p b q c t w _ f next e = absurd (cc)
+  word_view p b q c t w _ f next e = absurd (none-some next e)
 
   begin_view : (p : Place) → Begins before → pending before ≡ all_pending marks → nodes_made before ≡ n → terms_made before ≡ 0
       → (t : Token) (next : State) → begin_operand (now p) t ≡ Some next → View next (t ∷ before)
@@ -331,7 +333,7 @@ module _ (h : Bool) (marks : List Mark) (n : ℕ) (before : List Token) where
     count = count_token minus Operand before n (begins_expected before b) c;
     terms = z;
   })
-  begin_view p b q c z _ next e = absurd (cc)
+  begin_view p b q c z _ next e = absurd (none-some next e)
 
 -- brackets
 opens_bracket : (o : Owner) (t : Token) → opens o t ≡ true → IsBracket t
@@ -381,7 +383,7 @@ module _ (h : Bool) (marks : List Mark) (n : ℕ) where
     where
       back : (b : Bool) → looks_back o ≡ b → opens o t ≡ false → View next (t ∷ word w ∷ more)
       back true r d = begin_view h marks n (word w ∷ more) (at_bound o) (a_word k f (owner_begins k o g)) q c z t next (rw (d, r) at e)
-      back false r d = let x = rw (d, r) at e in absurd (cc)
+      back false r d = let x = rw (d, r) at e in absurd (none-some next x)
 
       split : (b : Bool) → opens o t ≡ b → View next (t ∷ word w ∷ more)
       split true d = let s = opens_bracket o t d in same_view _ next _ (rw d at e) (record {
@@ -400,12 +402,12 @@ module _ (h : Bool) (marks : List Mark) (n : ℕ) where
     count = count_token (number a j) Number (b ∷ word w ∷ more) n (shape_expected (at_low o) (b ∷ word w ∷ more) marks (a_low k s f g) q) c;
     terms = z;
   })
-  low_view (a_low k s f g) q c z _ next e = absurd (cc)
+  low_view (a_low k s f g) q c z _ next e = absurd (none-some next e)
 
   comma_view : {o : Owner} {a j : ℕ} {before : List Token} → Shape (at_comma o a j) before → pending before ≡ all_pending marks → nodes_made before ≡ n
       → (t : Token) (next : State) → step_at (at_comma o a j) (there (at_comma o a j)) t ≡ Some next → View next (t ∷ before)
   comma_view (a_comma k s f g) q c comma next e = same_view _ next _ e (record { shape = a_high k s f g; pend = q; count = c; terms = refl })
-  comma_view (a_comma k s f g) q c _ next e = absurd (cc)
+  comma_view (a_comma k s f g) q c _ next e = absurd (none-some next e)
 
   inf_view : (o : Owner) (a j : ℕ) (before : List Token) → pending (comma ∷ before) ≡ all_pending marks → nodes_made (comma ∷ before) ≡ n
       → (w : List ℕ) (k : Kind) → kind w ≡ k → (next : State) → step_inf o (there (at_high o a j)) k ≡ Some next → View next (word w ∷ comma ∷ before)
@@ -418,15 +420,15 @@ module _ (h : Bool) (marks : List Mark) (n : ℕ) where
         count = count_word w an_inf Number (comma ∷ before) n f refl c;
         terms = terms_word w an_inf (comma ∷ before) f;
       })
-      split false d = let x = rw d at e in absurd (cc)
-  inf_view o a j before q c w _ f next e = absurd (cc)
+      split false d = let x = rw d at e in absurd (none-some next x)
+  inf_view o a j before q c w _ f next e = absurd (none-some next e)
 
   high_view : {o : Owner} {a j : ℕ} {before : List Token} → Shape (at_high o a j) before → pending before ≡ all_pending marks → nodes_made before ≡ n
       → (t : Token) (next : State) → step_at (at_high o a j) (there (at_high o a j)) t ≡ Some next → View next (t ∷ before)
   high_view (a_high k s f g) q c (number b i) next e = same_view _ next _ e (record { shape = closing_number; pend = q; count = c; terms = refl })
   high_view (a_high {t = b} {w = w} {before = more} {o = o} {a = a} {j} k s f g) q c (word v) next e =
       inf_view o a j (number a j ∷ b ∷ word w ∷ more) q c v (kind v) refl next e
-  high_view (a_high k s f g) q c _ next e = absurd (cc)
+  high_view (a_high k s f g) q c _ next e = absurd (none-some next e)
 
   closing_begins : {o : Owner} {before : List Token} → Shape (at_closing o) before → (t : Token) → IsBracket t → Begins (t ∷ before)
   closing_begins closing_number t s = after_number s
@@ -443,7 +445,7 @@ module _ (h : Bool) (marks : List Mark) (n : ℕ) where
         count = bracket_nodes t before s ∙ c;
         terms = bracket_terms t before s;
       })
-      split false d = let y = rw d at e in absurd (cc)
+      split false d = let y = rw d at e in absurd (none-some next y)
 
   -- a name after m other terms
   name_view : {m : ℕ} {what : What} (p : Place) → is_operand what ≡ false → (before : List Token) → expected before ≡ what
@@ -455,7 +457,7 @@ module _ (h : Bool) (marks : List Mark) (n : ℕ) where
     count = count_word w a_name what before n f x c ∙ ap (λ b. if b then suc n else n) y;
     terms = terms_word w a_name before f ∙ ap (λ i. suc i) z;
   })
-  name_view p y before x q c z w _ f next e = absurd (cc)
+  name_view p y before x q c z w _ f next e = absurd (none-some next e)
 
   term_terms : {m : ℕ} {before : List Token} → Shape (at_term m) before → Terms before
   term_terms (first_term s b) = signed_first s b
@@ -471,19 +473,19 @@ module _ (h : Bool) (marks : List Mark) (n : ℕ) where
   })
   term_view m before x q c z (word w) next e =
       name_view (at_term m) refl before (shape_expected (at_term m) before marks x q) q c z w (kind w) refl next e
-  term_view m before x q c z _ next e = absurd (cc)
+  term_view m before x q c z _ next e = absurd (none-some next e)
 
   star_view : (m : ℕ) (before : List Token) → pending before ≡ all_pending marks → nodes_made before ≡ n → terms_made before ≡ m
       → (t : Token) (next : State) → step_at (at_star m) (there (at_star m)) t ≡ Some next → View next (t ∷ before)
   star_view m before q c z star next e = same_view _ next _ e (record { shape = the_name; pend = q; count = c; terms = z })
-  star_view m before q c z _ next e = absurd (cc)
+  star_view m before q c z _ next e = absurd (none-some next e)
 
   coefficient_view : (m : ℕ) (before : List Token) → Shape (at_name m) before → pending before ≡ all_pending marks
       → nodes_made before ≡ n → terms_made before ≡ m
       → (t : Token) (next : State) → step_at (at_name m) (there (at_name m)) t ≡ Some next → View next (t ∷ before)
   coefficient_view m before x q c z (word w) next e =
       name_view (at_name m) refl before (shape_expected (at_name m) before marks x q) q c z w (kind w) refl next e
-  coefficient_view m before x q c z _ next e = absurd (cc)
+  coefficient_view m before x q c z _ next e = absurd (none-some next e)
 
   sign_view : {m : ℕ} {before : List Token} → Shape (at_sign m) before → pending before ≡ all_pending marks → nodes_made before ≡ n → terms_made before ≡ m
       → (t : Token) (next : State) → step_at (at_sign m) (there (at_sign m)) t ≡ Some next → View next (t ∷ before)
@@ -500,7 +502,7 @@ module _ (h : Bool) (marks : List Mark) (n : ℕ) where
     terms = z;
   })
   sign_view (a_sign f) q c z (relation r) next e = same_view _ next _ e (record { shape = the_constant; pend = q; count = c; terms = refl })
-  sign_view (a_sign f) q c z _ next e = absurd (cc)
+  sign_view (a_sign f) q c z _ next e = absurd (none-some next e)
 
   constant_view : {before : List Token} → Shape at_constant before → pending before ≡ all_pending marks → nodes_made before ≡ n
       → (t : Token) (next : State) → step_at at_constant (there at_constant) t ≡ Some next → View next (t ∷ before)
@@ -508,7 +510,7 @@ module _ (h : Bool) (marks : List Mark) (n : ℕ) where
       same_view _ next _ e (record { shape = end_number; pend = ap after_operand q ∙ operand_pending marks; count = c; terms = refl })
   constant_view the_constant q c plus next e = same_view _ next _ e (record { shape = the_number a_plus; pend = q; count = c; terms = refl })
   constant_view the_constant q c minus next e = same_view _ next _ e (record { shape = the_number a_minus; pend = q; count = c; terms = refl })
-  constant_view the_constant q c _ next e = absurd (cc)
+  constant_view the_constant q c _ next e = absurd (none-some next e)
 
   number_view : {before : List Token} → Shape at_number before → pending before ≡ all_pending marks → nodes_made before ≡ n
       → (t : Token) (next : State) → step_at at_number (there at_number) t ≡ Some next → View next (t ∷ before)
@@ -519,7 +521,7 @@ module _ (h : Bool) (marks : List Mark) (n : ℕ) where
     count = count_token (number i k) Constant (s ∷ relation r ∷ more) n (shape_expected at_number (s ∷ relation r ∷ more) marks (the_number y) q) c;
     terms = signed_terms s r more y;
   })
-  number_view (the_number y) q c _ next e = absurd (cc)
+  number_view (the_number y) q c _ next e = absurd (none-some next e)
 
   connective_view : (before : List Token) → pending before ≡ all_pending marks → nodes_made before ≡ n
       → (w : List ℕ) (k : Kind) → kind w ≡ k → (next : State) → step_connective (there at_end) k ≡ Some next → View next (word w ∷ before)
@@ -538,7 +540,7 @@ module _ (h : Bool) (marks : List Mark) (n : ℕ) where
   connective_view before q c w an_until f next e = split h refl
     where
       split : (b : Bool) → h ≡ b → View next (word w ∷ before)
-      split true d = let x = rw d at e in absurd (cc)
+      split true d = let x = rw d at e in absurd (none-some next x)
       split false d = same_view _ next _ (rw d at e) (record {
         shape = a_bound an_until f refl;
         pend = pending_word w an_until before f ∙ q;
@@ -548,14 +550,14 @@ module _ (h : Bool) (marks : List Mark) (n : ℕ) where
   connective_view before q c w a_since f next e = split h refl
     where
       split : (b : Bool) → h ≡ b → View next (word w ∷ before)
-      split true d = let x = rw d at e in absurd (cc)
+      split true d = let x = rw d at e in absurd (none-some next x)
       split false d = same_view _ next _ (rw d at e) (record {
         shape = a_bound a_since f refl;
         pend = pending_word w a_since before f ∙ q;
         count = count_word w a_since (expected before) before n f refl c;
         terms = terms_word w a_since before f;
       })
-  connective_view before q c w _ f next e = absurd (cc)
+  connective_view before q c w _ f next e = absurd (none-some next e)
 
   paren_view : (before : List Token) → pending before ≡ all_pending marks → nodes_made before ≡ n → (next : State)
       → closed marks n ≡ Some next → View next (close_paren ∷ before)
@@ -570,7 +572,7 @@ module _ (h : Bool) (marks : List Mark) (n : ℕ) where
       → (t : Token) (next : State) → step_at at_end (there at_end) t ≡ Some next → View next (t ∷ before)
   end_view before q c (word w) next e = connective_view before q c w (kind w) refl next e
   end_view before q c close_paren next e = paren_view before q c next e
-  end_view before q c _ next e = absurd (cc)
+  end_view before q c _ next e = absurd (none-some next e)
 
   operand_view : {before : List Token} → Shape at_operand before → pending before ≡ all_pending marks → nodes_made before ≡ n → terms_made before ≡ 0
       → (t : Token) (next : State) → begin_operand (there at_operand) t ≡ Some next → View next (t ∷ before)
@@ -596,7 +598,7 @@ run_view [] s e = same_view start s [] e (record { shape = an_operand nothing; p
 run_view (t ∷ before) s e = split (run before) refl (λ x f. run_view before x f)
   where
     split : (o : Option State) → run before ≡ o → ((x : State) → run before ≡ Some x → View x before) → View s (t ∷ before)
-    split None f g = let z = rw f at e in absurd (cc)
+    split None f g = let z = rw f at e in absurd (none-some s z)
     split (Some x) f g = step_view x.had x.marks x.nodes x.place before (g x f) t s (rw f at e)
 
 -- what is expected
@@ -703,11 +705,11 @@ run_disorder before s e t = shape_order s.place before t (run_view before s e).s
 
 -- the upper end of a bound that looks ahead
 owner_ahead : (k : Kind) (o : Owner) → owner k ≡ Some o → looks_ahead k ≡ not (looks_back o)
-owner_ahead an_until o e = let f : of_until ≡ o = cc in rw (← f) refl
-owner_ahead a_since o e = let f : of_since ≡ o = cc in rw (← f) refl
-owner_ahead a_future o e = let f : of_future ≡ o = cc in rw (← f) refl
-owner_ahead a_past o e = let f : of_past ≡ o = cc in rw (← f) refl
-owner_ahead _ o e = absurd (cc)
+owner_ahead an_until o e = let f : of_until ≡ o = same_Some of_until o e in rw (← f) refl
+owner_ahead a_since o e = let f : of_since ≡ o = same_Some of_since o e in rw (← f) refl
+owner_ahead a_future o e = let f : of_future ≡ o = same_Some of_future o e in rw (← f) refl
+owner_ahead a_past o e = let f : of_past ≡ o = same_Some of_past o e in rw (← f) refl
+owner_ahead _ o e = absurd (none-some o e)
 
 begins_future : (before : List Token) → Begins before → begins_future_bound before ≡ false
 begins_future before nothing = refl
