@@ -125,6 +125,13 @@ pub record IsFed (old new : Kept) (row : Row) (answer : Option Decided) : Type 0
   pub last : new.last ≡ Some row
   pub decided : new.decided ≡ decided_by old.decided answer
 
+-- it took the end of the input
+pub record IsOver (old new : Kept) : Type 0 where
+  pub running : old.stopped ≡ false
+  pub still_running : new.stopped ≡ false
+  pub ended : new.ended ≡ true
+  pub last : new.last ≡ old.last
+
 -- why a call was refused: an earlier one answered want of memory, and nothing changes; want of memory stops it
 abbrev pub IsFault : Kept → Kept → EarlyFault → Type 0
 IsFault old new Stopped = (old.stopped ≡ true) × (new ≡ old)

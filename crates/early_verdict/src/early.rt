@@ -2,7 +2,7 @@
 //!
 //! An early verdict stands for the rows that it took, and whether they have ended. It stores none of them: what its sets tell is what the
 //! rows settle, whatever they were; and of that it keeps what a later answer may look at.
-ghost use Rattle.std.specs.Prelude.{◌≡◌, ◌<◌, ◌++◌, ◌∷◌, [], List, length, IfOk, IfSome, IsSome, MatchResult, IfErr, None, true, false, option_map};
+ghost use Rattle.std.specs.Prelude.{◌≡◌, ◌<◌, ◌++◌, ◌∷◌, [], List, length, IfOk, IfSome, IsSome, MatchResult, None, true, false, option_map};
 ghost use Rattle.stl_syntax.specs.Trace.{Row as ARow, Trace as ATrace};
 ghost use Rattle.early_verdict.specs.Living.{NetStands};
 ghost use Rattle.stl_syntax.specs.Formula.{root};
@@ -118,7 +118,7 @@ fn let_go_by(net: &mut Net, formula: &Formula, decided: &Option<Decided>)
 }
 
 impl Early {
-    ghost use Rattle.early_verdict.specs.Deciding.{IsAnswer, IsFault, IsFed, IsFor, IsTruthAtStart, Stands, trace_of};
+    ghost use Rattle.early_verdict.specs.Deciding.{IsAnswer, IsFault, IsFed, IsFor, IsOver, IsTruthAtStart, Stands, trace_of};
 
     /// Nothing is decided yet; it takes no memory. It stands for no rows.
     pub fn new(alloc: Global, formula: Formula, bound: Bound, header: Header) -> Early
@@ -208,7 +208,7 @@ impl Early {
     pub fn end(&mut self) -> Result<bool, EarlyFault>
         requires open { self.old.ended ≡ false }
         requires fed { IsSome self.old.last }
-        ensures fault { IfErr result (IsFault self.old self.new) }
+        ensures answer { MatchResult result (λ holds. IsOver self.old self.new) (IsFault self.old self.new) }
         ensures truth { (rows : List ARow) → Stands self.old rows false
             → IfOk result (IsTruthAtStart (root self.old.nodes) (trace_of self.old.header rows)) }
         ensures stands { (rows : List ARow) → Stands self.old rows false → IfOk result (λ holds. Stands self.new rows true) }

@@ -1,18 +1,23 @@
 -- A gap that the first constant of a walk hides.
-use Rattle.std.proofs.Common.{arith, ◌≡◌, ◌⊎◌, inl, inr, List, [], ◌∷◌, ◌<◌, length, refl, sym, ap, ◌∙◌, subst}
+use Rattle.std.proofs.Common.{arith, ◌≡◌, ◌↔◌, inl, inr, List, [], ◌∷◌, ◌<◌, length, refl, sym, ap, ◌∙◌, subst, pos as pos_ℤ}
+use Rattle.std.proofs.Common.{Less, Greater}
 use Rattle.std.specs.Prelude.{slice_index_or}
-use Rattle.rational.specs.Time.{Rational, ◌≤ʳ◌}
-use Rattle.rational.specs.Extended.{value_at}
+use Rattle.rational.specs.Rational.{whole}
+use Rattle.rational.specs.Time.{Rational, ◌≤ʳ◌, ◌<ʳ◌}
+use Rattle.rational.specs.Extended.{Extended, Affine, value_at}
+use Rattle.rational.proofs.ExtendedLemmas.{clashᵉ}
 use Rattle.rational.proofs.Order.{le_of_lt, ge_of_same}
 use Rattle.frac128.specs.Value.{value}
 use Rattle.value_laws.specs.Members.{ShapeOf}
 use Rattle.pl_signal.specs.declared.joining.Side.{Side}
+use Rattle.pl_signal.specs.declared.joining.Side.TheVariants.{Least, Greatest}
+use Rattle.pl_signal.specs.Joining.{IsFavour}
 use Rattle.envelope.specs.declared.turns.Turn.{Turn}
 use Rattle.envelope.specs.declared.walk.Item.{Item}
 use Rattle.envelope.specs.declared.walk.Walk.{Walk}
-use Rattle.envelope.specs.Turns.{HasCome, IsToCome, IsNoBetter}
+use Rattle.envelope.specs.Turns.{HasCome, IsToCome, IsNoBetter, IsTrendFor, GetsNoWorse}
 use Rattle.envelope.specs.Standing.{Part, Counts, IsOneOf, Stands}
-use Rattle.envelope.specs.Walking.{Hides}
+use Rattle.envelope.specs.Walking.{Hides, IsUnder}
 use Rattle.envelope.proofs.Bests.{no_better_trans}
 use Rattle.envelope.proofs.TurnOrder.{at_of_come, to_come_before}
 
@@ -62,3 +67,29 @@ pub hidden : {P : Type 0} (shape : ShapeOf P) (walk : Walk P) (until : Turn) (ga
 hidden shape walk until gap first [] some at is stays better there = absurd (omega (arith, some))
 hidden shape walk until gap first (item ∷ items) some at is stays better there =
     hidden_by shape walk until gap first items (is ∙ ap (λ x. x ∷ items) (sym at)) stays better there
+
+-- of two times the one is later
+zero_one : whole (pos_ℤ 0) <ʳ whole (pos_ℤ 1)
+zero_one = record { lt = omega arith }
+
+-- what gets worse does not get no worse
+pub gets_worse : {X : Type 0} (side : Side) (f : Affine) → IsTrendFor side Less f → GetsNoWorse side f → X
+gets_worse Greatest f h k = clashᵉ (value_at f (whole (pos_ℤ 1))) (value_at f (whole (pos_ℤ 0))) (h (whole (pos_ℤ 0)) (whole (pos_ℤ 1)) zero_one)
+    (k (whole (pos_ℤ 0)) (whole (pos_ℤ 1)) (le_of_lt zero_one))
+gets_worse Least f h k = clashᵉ (value_at f (whole (pos_ℤ 0))) (value_at f (whole (pos_ℤ 1))) (h (whole (pos_ℤ 0)) (whole (pos_ℤ 1)) zero_one)
+    (k (whole (pos_ℤ 0)) (whole (pos_ℤ 1)) (le_of_lt zero_one))
+
+-- a value that another is favoured to is worse than it
+pub not_favoured : {X : Type 0} (side : Side) (v w : Extended) → IsFavour side Greater v w → IsNoBetter side w v → X
+not_favoured Greatest v w h k = clashᵉ v w h k
+not_favoured Least v w h k = clashᵉ w v h k
+
+module _ {P : Type 0} (shape : ShapeOf P) (side : Side) (until : Turn) (gap : P) where
+  -- whether the first constant is under the gap is told of that constant
+  pub under_first : (first : Item P) (items : List (Item P)) → 0 < length items → first ≡ slice_index_or items 0 first
+      → IsUnder shape side items until gap ↔ IsUnder shape side (first ∷ []) until gap
+  under_first first [] some at = absurd (omega (arith, some))
+  under_first first (item ∷ items) some at = (
+    λ h. subst (λ x. IsUnder shape side (x ∷ []) until gap) (sym at) h,
+    λ h. subst (λ x. IsUnder shape side (x ∷ []) until gap) at h,
+  )

@@ -2,8 +2,9 @@
 use Rattle.std.specs.Prelude.{◌≡◌, ◌⊎◌, false, true}
 use Rattle.std.specs.declared.cmp.Ordering.{Ordering}
 use Rattle.std.specs.Ordering.{MatchOrdering}
-use Rattle.rational.specs.Time.{Rational, ◌<ʳ◌, ◌≈◌}
-use Rattle.rational.specs.Extended.{Extended, Affine, ◌≤ᵉ◌}
+use Rattle.rational.specs.Time.{Rational, ◌≤ʳ◌, ◌<ʳ◌, ◌≈◌}
+use Rattle.rational.specs.Places.{Place}
+use Rattle.rational.specs.Extended.{Extended, Affine, ◌≤ᵉ◌, value_at}
 use Rattle.rational.specs.Affine.{Shrinks, IsSteady, Grows}
 use Rattle.frac128.specs.Value.{value}
 use Rattle.pl_signal.specs.declared.joining.Side.{Side}
@@ -18,6 +19,10 @@ HasCome turn t = (value turn.at <ʳ t) ⊎ ((value turn.at ≈ t) × (turn.just_
 abbrev pub IsToCome : Turn → Rational → Type 0
 IsToCome turn t = (t <ʳ value turn.at) ⊎ ((value turn.at ≈ t) × (turn.just_after ≡ true))
 
+-- it comes at a place between times
+abbrev pub place_of : Turn → Place
+place_of turn = record { at = value turn.at; after = turn.just_after }
+
 -- the Sup of no values is the least of the type, and the Inf the greatest
 abbrev pub none_of : Side → Extended → Extended → Extended
 none_of Greatest lowest highest = lowest
@@ -27,6 +32,10 @@ none_of Least lowest highest = highest
 abbrev pub IsNoBetter : Side → Extended → Extended → Type 0
 IsNoBetter Greatest v w = v ≤ᵉ w
 IsNoBetter Least v w = w ≤ᵉ v
+
+-- the function is at no time better than later
+abbrev pub GetsNoWorse : Side → Affine → Type 0
+GetsNoWorse side f = (t u : Rational) → t ≤ʳ u → IsNoBetter side (value_at f t) (value_at f u)
 
 -- the trend of a function towards better values: less, the same, or greater
 abbrev pub IsTrendFor : Side → Ordering → Affine → Type 0

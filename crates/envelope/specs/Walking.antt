@@ -2,6 +2,7 @@
 -- refused for.
 use Rattle.std.specs.Prelude.{◌≡◌, ◌⊎◌, ◌^◌, ◌≤◌, List, [], ◌∷◌, Option, Some, None, IfSome, ℕ}
 use Rattle.rational.specs.Time.{Rational, ◌≤ʳ◌, ◌<ʳ◌, ◌≈◌, HasDenominator}
+use Rattle.rational.specs.Places.{Before}
 use Rattle.rational.specs.Extended.{Extended, value_at}
 use Rattle.rational.specs.Affine.{HasBoundedLevel, MeetAlone}
 use Rattle.frac128.specs.Value.{value}
@@ -18,7 +19,7 @@ use Rattle.envelope.specs.declared.turns.Turn.{Turn}
 use Rattle.envelope.specs.declared.so_far.SoFar.{SoFar}
 use Rattle.envelope.specs.declared.walk.Item.{Item}
 use Rattle.envelope.specs.declared.walk.Walk.{Walk}
-use Rattle.envelope.specs.Turns.{HasCome, IsToCome, IsNoBetter}
+use Rattle.envelope.specs.Turns.{HasCome, IsToCome, IsNoBetter, GetsNoWorse, place_of}
 use Rattle.envelope.specs.SoFar.{Ends, Turns, first_time}
 use Rattle.envelope.specs.Standing.{Part, Counts, IsOneOf, IsBestOf, IsNone, IsFalling, CanGoOn, Leaves, SlopeEndsBy, Stands, pieces_with, slope_until}
 
@@ -81,6 +82,12 @@ module _ {P : Type 0} (shape : ShapeOf P) where
   Hides walk until p = (side : Side) (start to : Rational) (pos : Turn) (parts : List (Part P)) → Walks side start to pos parts walk
       → value until.at ≤ʳ to → (t : Rational) → HasCome pos t → IsToCome until t
       → (x : Part P) × IsOneOf parts x × Counts x t × IsNoBetter side (value_at (shape.function p) t) (value_at (shape.function x.shape) t)
+
+  -- the first constant leaves after the turn and is no worse there than the shape, which gets no worse
+  abbrev pub IsUnder : Side → List (Item P) → Turn → P → Type 0
+  IsUnder side [] until p = ⊥
+  IsUnder side (item ∷ items) until p = Before (place_of until) (place_of item.until) × GetsNoWorse side (shape.function p)
+      × IsNoBetter side (value_at (shape.function p) (value until.at)) (value_at (shape.function item.value) (value until.at))
 
   -- two pieces that count together cross, between the times `from` and `to`, at a time with the denominator
   pub record IsCrossingOn (parts : List (Part P)) (from to : Rational) (p q : P) (a b : Frac) (den : ℕ) : Type 0 where

@@ -8,5 +8,5 @@ mod turns;
 mod walk;
 
 pub use best::{Best, write};
-pub use turns::{Turn, is_later, is_worthless, of_none, trend};
+pub use turns::{Turn, is_worthless, of_none, trend};
 pub use walk::{Item, Slope, Walk};

@@ -1,9 +1,10 @@
 //! Turns of what counts in a window, and what counts where nothing does.
-ghost use Rattle.std.specs.Prelude.{◌≡◌, IsTrue, false};
+ghost use Rattle.std.specs.Prelude.{◌≡◌, ◌↔◌, IsTrue, false};
 ghost use Rattle.rational.specs.Time.{Rational};
+ghost use Rattle.rational.specs.Places.{Before};
 ghost use Rattle.rational.specs.Extended.{value_at, ◌≈ᵉ◌};
 ghost use Rattle.frac128.specs.Value.{value};
-ghost use Rattle.envelope.specs.Turns.{HasCome, IsNoBetter, IsToCome, IsTrendFor, none_of};
+ghost use Rattle.envelope.specs.Turns.{HasCome, IsNoBetter, IsToCome, IsTrendFor, none_of, place_of};
 
 use frac128::Frac;
 use pl_signal::Side;
@@ -18,7 +19,8 @@ pub struct Turn {
 }
 
 /// Whether the one change comes after the other.
-pub fn is_later(turn: &Turn, other: &Turn) -> bool
+pub(crate) fn is_later(turn: &Turn, other: &Turn) -> bool
+    ensures exact { IsTrue result ↔ Before (place_of other.now) (place_of turn.now) }
     ensures later { IsTrue result → (t : Rational) → HasCome turn.now t → HasCome other.now t }
     ensures strict { IsTrue result → IsToCome turn.now (value other.now.at) }
     ensures not_later { result ≡ false → (t : Rational) → HasCome other.now t → HasCome turn.now t }
@@ -41,9 +43,9 @@ pub fn of_none<P: Shape>(side: Side) -> P
     }
 }
 
-/// Yes only where the shape is at no time better than no value. A no says nothing: it costs time alone.
+/// Whether the shape is at no time better than no value.
 pub fn is_worthless<P: Shape>(side: Side, shape: &P) -> bool
-    ensures { IsTrue result → (t : Rational) → IsNoBetter side (value_at (P.function shape.now) t) (none_of side P.lowest P.highest) }
+    ensures { IsTrue result ↔ ((t : Rational) → IsNoBetter side (value_at (P.function shape.now) t) (none_of side P.lowest P.highest)) }
 {
     P::same(shape, &of_none(side))
 }

@@ -1,5 +1,5 @@
 //! A walk over pieces that come one after another, of which the best is written: a queue of those that may still be the best.
-ghost use Rattle.std.specs.Prelude.{◌≡◌, ◌∷◌, [], ◌≤◌, ◌^◌, length, IsTrue, IsSome, Some, None, true, false, OnOk, OnErr, IfSome, IfOk, IfErr};
+ghost use Rattle.std.specs.Prelude.{◌≡◌, ◌↔◌, ◌∷◌, [], ◌≤◌, ◌^◌, length, IsTrue, IsSome, Some, None, true, false, OnOk, OnErr, IfSome, IfOk, IfErr};
 ghost use Rattle.std.specs.VecDeque.{deque_capacity};
 ghost use Rattle.rational.specs.Rational.{IsWithin};
 ghost use Rattle.rational.specs.Time.{Rational, ◌≤ʳ◌};
@@ -10,7 +10,7 @@ ghost use Rattle.envelope.specs.Standing.{Admits, CanGoOn, IsDropped, IsFollowed
 ghost use Rattle.envelope.specs.Standing.{IsTop, Leaves, Passes, leaving_by, slope_shape, slope_until};
 ghost use Rattle.envelope.specs.Turns.{HasCome};
 ghost use Rattle.envelope.specs.Walking.{CanTake, Climbed, EndsWalk, FinishStops, Finishes, HasLevel, Hides, IsRefusal};
-ghost use Rattle.envelope.specs.Walking.{IsStoppedBy, LeavesBy, StopsAt, HasTaken, TurnsHigh, Walks, climbed_until};
+ghost use Rattle.envelope.specs.Walking.{IsStoppedBy, IsUnder, LeavesBy, StopsAt, HasTaken, TurnsHigh, Walks, climbed_until};
 ghost use Rattle.envelope.specs.declared.turns.Turn.{Turn};
 ghost use Rattle.pl_signal.specs.declared.faults.OpFault.TheVariants as F;
 
@@ -103,11 +103,12 @@ impl<P: Shape> Walk<P> {
         self.turn_high(until, None)
     }
 
-    /// Yes only where the first constant counts until past the turn, and is at no time up to there worse than the gap, which does not
-    /// get worse. A no says nothing: it costs time alone.
+    /// Whether the gap gets no worse with time, and the first constant counts until past the turn and is no worse there than the gap.
+    /// Then the constant is no worse at any time up to the turn, and the gap need not be taken.
     pub fn hides(&self, until: &Turn, gap: &P) -> bool
         requires within { IsWithin (2 ^ 34) (value_of until.now.at) }
-        ensures { IsTrue result → Hides P.Shape self.now until.now gap.now }
+        ensures exact { IsTrue result ↔ IsUnder P.Shape self.now.course.side self.now.queue.items until.now gap.now }
+        ensures hides { IsTrue result → Hides P.Shape self.now until.now gap.now }
     {
         let Some(first) = self.queue.front() else {
             return false;

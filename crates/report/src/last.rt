@@ -1,6 +1,6 @@
 //! The text of the time that was written last. A verdict mostly begins where the one before it ended, and then the text is copied.
-ghost use Rattle.std.specs.Prelude.{◌≡◌, ◌≤◌, ◌-◌, length, take, drop, decimal, IsTrue, MatchOption};
-ghost use Rattle.rational.specs.Rational.{◌≈◌};
+ghost use Rattle.std.specs.Prelude.{◌≡◌, ◌≤◌, ◌-◌, length, take, drop, decimal, pos, IsTrue, MatchOption};
+ghost use Rattle.rational.specs.Rational.{◌≈◌, whole};
 ghost use Rattle.frac128.specs.Value.{value};
 ghost use Rattle.stl_syntax.specs.Texts.{IsNumberText};
 ghost use Rattle.report.specs.Before.{IsPut, Puts};
@@ -103,7 +103,9 @@ pub(crate) fn bytes_before(buf: &[u8], to: usize) -> [u8; 32]
 
 impl LastTime {
     /// Nothing was written yet: it has the text of the time 0.
-    pub fn new() -> LastTime {
+    pub fn new() -> LastTime
+        ensures { value result ≈ whole (pos 0) }
+    {
         LastTime {
             time: Frac::of(0),
             digits: 0,

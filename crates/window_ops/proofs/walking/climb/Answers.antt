@@ -143,7 +143,7 @@ returns-then-hides g c = record {
       c.clamped-begin.result.now c.stopped-end.result c.clamped-begin.ensures c.stopped-end.ensures c.at_high-gap.result c.at_high-gap.ensures.value
       c.at_high-gap.ensures.base c.requires.some
       (c.lasts.ensures.yes c.if-lasts.true).1 (c.lasts.ensures.yes c.if-lasts.true).0
-      parts c.args.walk.now (c.hides.ensures c.if-hides.true)
+      parts c.args.walk.now (c.hides.ensures.hides c.if-hides.true)
       (subst (λ k. StandsAt g.P.Shape c.args.s.now c.args.way.now c.args.i k true parts c.args.walk.now)
       (some_is (sym there ∙ c.requires.here)) stands)));
   fault = tt;

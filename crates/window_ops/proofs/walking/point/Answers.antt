@@ -61,7 +61,7 @@ returns-then-is_worthless g c = record {
     parts,
     λ k here. subst (λ k. StandsAt g.P.Shape c.args.s.now c.args.way.now c.args.i k true parts c.args.walk.now) (some_is (sym c.knot-knot.ensures ∙ here))
         (came_worthless g.P.Shape (assumption g.met.P.Shape) c.args.s.now c.args.way.now c.requires.way c.args.i c.knot-knot.result c.knot-knot.ensures
-        parts c.args.walk.now (stands c.knot-knot.result c.knot-knot.ensures) (c.is_worthless.ensures c.if-is_worthless.true)),
+        parts c.args.walk.now (stands c.knot-knot.result c.knot-knot.ensures) (c.is_worthless.ensures.0 c.if-is_worthless.true)),
   );
   still = c.requires.none;
   fault = tt;

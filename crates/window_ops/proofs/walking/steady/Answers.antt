@@ -93,7 +93,7 @@ returns-then-is_worthless g c = record {
         (some_is (sym c.knot-next.ensures ∙ there))
         (came_nothing g.P.Shape (assumption g.met.P.Shape) c.args.s.now c.args.way.now c.requires.way c.args.i c.knot-knot.result c.knot-next.result
         c.knot-knot.ensures c.knot-next.ensures parts c.args.walk.now (stands c.knot-knot.result c.knot-knot.ensures)
-        (c.is_worthless.ensures c.if-is_worthless.true)),
+        (c.is_worthless.ensures.0 c.if-is_worthless.true)),
   );
   still = c.requires.none;
   fault = tt;
