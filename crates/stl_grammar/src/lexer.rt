@@ -10,6 +10,42 @@ use crate::number::{begins_decimals, kept_decimals, number, value_after};
 use crate::token::{Keyword, Lexeme, Token};
 use stl_syntax::Rel;
 
+/// The word with this spelling that looks back, or is the end of a bound: the last three of the grammar.
+fn past_keyword(word: &[u8]) -> Option<Keyword>
+    ensures { MatchOption result (is_among word.now (drop 10 reserved) ≡ false) (λ w. word.now ≡ spelling w) }
+{
+    match word {
+        b"once" => Some(Keyword::Once),
+        b"historically" => Some(Keyword::Historically),
+        b"inf" => Some(Keyword::Inf),
+        _ => None,
+    }
+}
+
+/// The word with this spelling of one operand and a bound, or the end of a bound: the last five of the grammar.
+fn bounded_keyword(word: &[u8]) -> Option<Keyword>
+    ensures { MatchOption result (is_among word.now (drop 8 reserved) ≡ false) (λ w. word.now ≡ spelling w) }
+{
+    match word {
+        b"eventually" => Some(Keyword::Eventually),
+        b"always" => Some(Keyword::Always),
+        _ => past_keyword(word),
+    }
+}
+
+/// The word with this spelling, where it is none of the first four.
+fn later_keyword(word: &[u8]) -> Option<Keyword>
+    ensures { MatchOption result (is_among word.now (drop 4 reserved) ≡ false) (λ w. word.now ≡ spelling w) }
+{
+    match word {
+        b"or" => Some(Keyword::Or),
+        b"implies" => Some(Keyword::Implies),
+        b"until" => Some(Keyword::Until),
+        b"since" => Some(Keyword::Since),
+        _ => bounded_keyword(word),
+    }
+}
+
 /// The word of the grammar with this spelling.
 fn keyword(word: &[u8]) -> Option<Keyword>
     ensures { MatchOption result (is_among word.now reserved ≡ false) (λ w. word.now ≡ spelling w) }
@@ -19,16 +55,7 @@ fn keyword(word: &[u8]) -> Option<Keyword>
         b"false" => Some(Keyword::False),
         b"not" => Some(Keyword::Not),
         b"and" => Some(Keyword::And),
-        b"or" => Some(Keyword::Or),
-        b"implies" => Some(Keyword::Implies),
-        b"until" => Some(Keyword::Until),
-        b"since" => Some(Keyword::Since),
-        b"eventually" => Some(Keyword::Eventually),
-        b"always" => Some(Keyword::Always),
-        b"once" => Some(Keyword::Once),
-        b"historically" => Some(Keyword::Historically),
-        b"inf" => Some(Keyword::Inf),
-        _ => None,
+        _ => later_keyword(word),
     }
 }
 
