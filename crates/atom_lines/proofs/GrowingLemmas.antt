@@ -2,14 +2,17 @@
 use Rattle.std.proofs.Common.{◌≡◌, ℕ, zero, suc, ℤ, pos, nat_abs, ◌<◌, ◌≤◌, ◌^◌, ◌<ℤ◌, ◌⊎◌, inl, inr, Bool}
 use Rattle.std.proofs.Common.{true, false, List, [], ◌∷◌, length, get_or, Some, refl, sym, subst, ◌∙◌, arith}
 use Rattle.std.specs.Prelude.{slice_get, IsTrue}
+use Rattle.std.specs.declared.cmp.Ordering.{Ordering}
+use Rattle.std.specs.declared.cmp.Ordering.TheVariants.{Less, Equal, Greater}
 use Rattle.std.proofs.lemmas.Int.{ints}
 use Rattle.std.proofs.lemmas.Option.{slice_get-get_or}
-use Rattle.rational.specs.Time.{Rational, ◌<ʳ◌, ◌≈◌, whole}
-use Rattle.rational.specs.Rational.{IsWithin}
+use Rattle.rational.specs.Time.{Rational, ◌≤ʳ◌, ◌<ʳ◌, ◌≈◌, whole}
+use Rattle.rational.specs.Rational.{IsOrder, IsWithin}
 use Rattle.rational.specs.Line.{at}
 use Rattle.rational.specs.Extended.{Extended, value_at, Passes, finite, ◌≈ᵉ◌}
 use Rattle.rational.specs.Affine.{level}
-use Rattle.rational.proofs.Order.{le_of_same, ge_of_same, le_trans, lt_of_lt_of_le, lt_of_le_of_lt, lt_trans, same_trans, same_sym, le_of_lt}
+use Rattle.rational.proofs.Order.{le_of_same, ge_of_same, le_refl, le_trans, le_or_lt, lt_irrefl, lt_of_lt_of_le, lt_of_le_of_lt, lt_trans}
+use Rattle.rational.proofs.Order.{same_refl, same_trans, same_sym, same_of_le, le_of_lt}
 use Rattle.rational.proofs.Shift.{lt_whole}
 use Rattle.rational.proofs.Mixed.{within_whole, tick_within}
 use Rattle.rational.proofs.AffineLemmas.{same_symᵉ, same_transᵉ, bounded_same}
@@ -22,7 +25,7 @@ use Rattle.value_laws.specs.declared.margin.Margin.{Margin}
 use Rattle.value_laws.specs.Margins.{is_ramp, margin_base, others_base}
 use Rattle.value_laws.specs.Members.{ShapeOf}
 use Rattle.pl_signal.specs.declared.knot.Knot.{Knot}
-use Rattle.pl_signal.specs.Knots.{stop, HasShape, IsWorth}
+use Rattle.pl_signal.specs.Knots.{start, stop, HasShape, IsSignal, IsWorth}
 use Rattle.pl_signal.specs.Building.{GoesOn}
 use Rattle.pl_signal.proofs.Telling.{IsFunction, told}
 use Rattle.stl_syntax.specs.Trace.{Row, Trace, row_time, first_time, last_time}
@@ -39,7 +42,7 @@ use Rattle.atom_lines.specs.Gaps.{along}
 use Rattle.atom_lines.specs.Rows.{row_of, values_at}
 use Rattle.atom_lines.specs.Sums.{reach}
 use Rattle.atom_lines.specs.How.{How, by_truth, worth, reading_of}
-use Rattle.atom_lines.specs.Growing.{IsRowBase, GoesAlong, HasGrown}
+use Rattle.atom_lines.specs.Growing.{IsRowBase, CatchesUp, GoesAlong, HasGrown}
 use Rattle.atom_lines.specs.AtomSignals.{IsAtomSignal}
 use Rattle.atom_lines.proofs.SumLemmas.{tied, expression_at_row, expression_along}
 use Rattle.rational.specs.Affine.{IsBounded}
@@ -85,6 +88,52 @@ margin_row_base m n h e = by_kind (cases_eq' (is_ramp m))
     by_kind (inl k) = row_base n (margin_base m) h (e k)
     by_kind (inr k) = subst IsRowBase (sym (others_base m k)) zero_base
 
+module _ {P : Type 0} (shape : ShapeOf P) (steady : P) (to : ℕ) where
+  -- a signal that goes on with one shape up to the time
+  pub caught_up : (end : Frac) (old new : List (Knot P)) → value end ≈ whole (pos to) → stop old <ʳ value end
+      → GoesOn shape old steady end steady new → CatchesUp shape steady to old new
+  caught_up end old new h l on = record {
+    signal = on.signal;
+    begins = on.begins;
+    later = le_of_lt (subst (λ x. stop old <ʳ x) (sym on.ends) l);
+    ends = subst (λ x. x ≈ whole (pos to)) (sym on.ends) h;
+    worth = λ t v w. by_part t v ((on.worth t v).0 w);
+    shapes = λ p s. by_shape p (on.shapes p s);
+  }
+    where
+      by_part : (t : Rational) (v : Extended) → IsWorth shape old t v
+          ⊎ ((stop old <ʳ t) × (t <ʳ value end) × Passes (shape.function steady) t v) ⊎ ((t ≈ value end) × Passes (shape.function steady) t v)
+          → IsWorth shape old t v ⊎ ((stop old <ʳ t) × (t ≤ʳ whole (pos to)) × (v ≈ᵉ value_at (shape.function steady) t))
+      by_part t v (inl w) = inl w
+      by_part t v (inr (inl (a, z, p))) = inr (a, le_trans (le_of_lt z) (le_of_same h), p)
+      by_part t v (inr (inr (e, p))) = inr (lt_of_lt_of_le l (ge_of_same e), le_of_same (same_trans e h), p)
+
+      by_shape : (p : P) → HasShape old p ⊎ (p ≡ steady) ⊎ (p ≡ steady) → HasShape old p ⊎ (p ≡ steady)
+      by_shape p (inl s) = inl s
+      by_shape p (inr (inl s)) = inr s
+      by_shape p (inr (inr s)) = inr s
+
+  -- and one that has come there
+  pub caught_already : (old : List (Knot P)) → IsSignal shape old → stop old ≈ whole (pos to) → CatchesUp shape steady to old old
+  caught_already old s h = record {
+    signal = s;
+    begins = refl;
+    later = le_refl (stop old);
+    ends = h;
+    worth = λ t v w. inl w;
+    shapes = λ p w. inl w;
+  }
+
+-- what is not less
+pub not_less : (o : Ordering) {a b : Rational} → IsOrder o a b → ¬ (o ≡ Less) → b ≤ʳ a
+not_less Less h n = absurd (n refl)
+not_less Equal h n = ge_of_same h
+not_less Greater h n = le_of_lt h
+
+-- the two rows of a gap
+pub gap_in_order : (g : Gap) → whole (pos g.first) <ʳ whole (pos g.second)
+gap_in_order g = before_end g (same_refl (whole (pos g.first))) (same_refl (whole (pos g.second)))
+
 module _ {P : Type 0} (shape : ShapeOf P) (told : How) (rel : Rel) (g : Gap) (next : ℤ) where
   abbrev first : Rational
   first = whole (pos g.first)
@@ -92,91 +141,168 @@ module _ {P : Type 0} (shape : ShapeOf P) (told : How) (rel : Rel) (g : Gap) (ne
   abbrev second : Rational
   second = whole (pos g.second)
 
-  -- over one shape
-  pub goes_one : (old new : List (Knot P)) (after point : P) (end : Frac) → g.second < 2 ^ 32 → stop old ≈ first
-      → value end ≈ second → GoesOn shape old after end point new
+  -- what the signal is worth so far, up to the gap, on it, or at its end
+  abbrev Part : List (Knot P) → Rational → Extended → Type 0
+  Part old t v = IsWorth shape old t v ⊎ ((stop old <ʳ t) × (t ≤ʳ first) × (v ≈ᵉ worth told rel (whole g.from)))
+      ⊎ ((first <ʳ t) × (t <ʳ second) × (v ≈ᵉ worth told rel (at (along g) t)))
+      ⊎ ((t ≈ second) × (v ≈ᵉ worth told rel (whole next)))
+
+  -- nothing is added where all is worth the same up to the second row
+  pub goes_still : (old : List (Knot P)) → IsSignal shape old → IsWithin (2 ^ 34) (stop old) → stop old ≤ʳ first
+      → worth told rel (whole g.from) ≈ᵉ worth told rel (whole next)
+      → ((t : Rational) → first <ʳ t → t <ʳ second → worth told rel (at (along g) t) ≈ᵉ worth told rel (whole next))
+      → GoesAlong shape told rel g next old old
+  goes_still old s w l e on = record {
+    signal = s;
+    begins = refl;
+    later = le_refl (stop old);
+    ends = le_trans l (le_of_lt (gap_in_order g));
+    late = w;
+    worth = λ t v h. inl h;
+    before = λ h. e;
+    on = λ t a b c. on t b c;
+    bases = λ p h. inl h;
+  }
+
+  -- over one shape, once the signal has caught up with the gap
+  pub goes_one : (old mid new : List (Knot P)) (steady after point : P) (end : Frac) → g.second < 2 ^ 32 → value end ≈ second
+      → CatchesUp shape steady g.first old mid → GoesOn shape mid after end point new
+      → ((t : Rational) → value_at (shape.function steady) t ≈ᵉ worth told rel (whole g.from))
       → ((t : Rational) → first <ʳ t → t <ʳ second → value_at (shape.function after) t ≈ᵉ worth told rel (at (along g) t))
       → ((t : Rational) → value_at (shape.function point) t ≈ᵉ worth told rel (whole next))
-      → IsRowBase (shape.base after) → IsRowBase (shape.base point) → GoesAlong shape told rel g next old new
-  goes_one old new after point end m e h on gap here b c = record {
+      → IsRowBase (shape.base steady) → IsRowBase (shape.base after) → IsRowBase (shape.base point) → GoesAlong shape told rel g next old new
+  goes_one old mid new steady after point end m h up on was gap here a b c = record {
     signal = on.signal;
-    begins = on.begins;
-    ends = subst (λ x. x ≈ second) (sym on.ends) h;
-    late = tick_within g.second m (subst (λ x. x ≈ second) (sym on.ends) h);
+    begins = on.begins ∙ up.begins;
+    later = le_trans up.later (le_trans (le_of_same up.ends) (le_trans (le_of_lt (gap_in_order g)) (ge_of_same ends)));
+    ends = le_of_same ends;
+    late = tick_within g.second m ends;
     worth = λ t v w. by_part t v ((on.worth t v).0 w);
+    before = λ l. absurd (lt_irrefl (lt_trans l (lt_of_lt_of_le (gap_in_order g) (ge_of_same ends))));
+    on = λ t l p q. absurd (lt_irrefl (lt_of_lt_of_le (lt_trans l q) (ge_of_same ends)));
     bases = λ p s. by_shape p (on.shapes p s);
   }
     where
-      by_part : (t : Rational) (v : Extended) → IsWorth shape old t v
-          ⊎ ((stop old <ʳ t) × (t <ʳ value end) × Passes (shape.function after) t v) ⊎ ((t ≈ value end) × Passes (shape.function point) t v)
-          → IsWorth shape old t v ⊎ ((stop old <ʳ t) × (t <ʳ second) × (v ≈ᵉ worth told rel (at (along g) t)))
-          ⊎ ((t ≈ second) × (v ≈ᵉ worth told rel (whole next)))
-      by_part t v (inl w) = inl w
-      by_part t v (inr (inl (a, z, p))) =
-          let soon : t <ʳ second = lt_of_lt_of_le z (le_of_same h) in
-          inr (inl (
-            a,
-            soon,
-            same_transᵉ v (value_at (shape.function after) t) (worth told rel (at (along g) t)) p (gap t (lt_of_le_of_lt (ge_of_same e) a) soon),
-          ))
-      by_part t v (inr (inr (a, p))) = inr (inr (same_trans a h, same_transᵉ v (value_at (shape.function point) t) (worth told rel (whole next)) p (here t)))
+      ends : stop new ≈ second
+      ends = subst (λ x. x ≈ second) (sym on.ends) h
 
-      by_shape : (p : P) → HasShape old p ⊎ (p ≡ after) ⊎ (p ≡ point) → HasShape old p ⊎ IsRowBase (shape.base p)
-      by_shape p (inl s) = inl s
+      by_mid : (t : Rational) (v : Extended) → IsWorth shape old t v ⊎ ((stop old <ʳ t) × (t ≤ʳ first) × (v ≈ᵉ value_at (shape.function steady) t))
+          → Part old t v
+      by_mid t v (inl w) = inl w
+      by_mid t v (inr (l, z, p)) = inr (inl (l, z, same_transᵉ v (value_at (shape.function steady) t) (worth told rel (whole g.from)) p (was t)))
+
+      by_part : (t : Rational) (v : Extended) → IsWorth shape mid t v
+          ⊎ ((stop mid <ʳ t) × (t <ʳ value end) × Passes (shape.function after) t v) ⊎ ((t ≈ value end) × Passes (shape.function point) t v)
+          → Part old t v
+      by_part t v (inl w) = by_mid t v (up.worth t v w)
+      by_part t v (inr (inl (l, z, p))) =
+          let past : first <ʳ t = lt_of_le_of_lt (ge_of_same up.ends) l in
+          let soon : t <ʳ second = lt_of_lt_of_le z (le_of_same h) in
+          inr (inr (inl (
+            past,
+            soon,
+            same_transᵉ v (value_at (shape.function after) t) (worth told rel (at (along g) t)) p (gap t past soon),
+          )))
+      by_part t v (inr (inr (e, p))) =
+          inr (inr (inr (same_trans e h, same_transᵉ v (value_at (shape.function point) t) (worth told rel (whole next)) p (here t))))
+
+      by_old : (p : P) → HasShape old p ⊎ (p ≡ steady) → HasShape old p ⊎ IsRowBase (shape.base p)
+      by_old p (inl s) = inl s
+      by_old p (inr s) = inr (subst (λ q. IsRowBase (shape.base q)) (sym s) a)
+
+      by_shape : (p : P) → HasShape mid p ⊎ (p ≡ after) ⊎ (p ≡ point) → HasShape old p ⊎ IsRowBase (shape.base p)
+      by_shape p (inl s) = by_old p (up.shapes p s)
       by_shape p (inr (inl s)) = inr (subst (λ q. IsRowBase (shape.base q)) (sym s) b)
       by_shape p (inr (inr s)) = inr (subst (λ q. IsRowBase (shape.base q)) (sym s) c)
 
-  -- what the signal is worth so far, on the gap, or at its end
-  abbrev Part : List (Knot P) → Rational → Extended → Type 0
-  Part old t v = IsWorth shape old t v ⊎ ((stop old <ʳ t) × (t <ʳ second) × (v ≈ᵉ worth told rel (at (along g) t)))
-      ⊎ ((t ≈ second) × (v ≈ᵉ worth told rel (whole next)))
+  -- up to a turn inside the gap
+  pub record Turned (old mid : List (Knot P)) (before there : P) (turn : Frac) : Type 0 where
+    pub late : stop old ≤ʳ first
+    pub after_first : first <ʳ value turn
+    pub before_second : value turn <ʳ second
+    pub goes : GoesOn shape old before turn there mid
+    pub begins : (t : Rational) → value_at (shape.function before) t ≈ᵉ worth told rel (whole g.from)
+    pub until_then : (t : Rational) → first <ʳ t → t <ʳ value turn → value_at (shape.function before) t ≈ᵉ worth told rel (at (along g) t)
+    pub at_turn : (t : Rational) → t ≈ value turn → value_at (shape.function there) t ≈ᵉ worth told rel (at (along g) t)
 
-  -- over two, with a point between them
-  pub goes_two : (old mid new : List (Knot P)) (before there after point : P) (turn end : Frac) → g.second < 2 ^ 32
-      → stop old ≈ first → value end ≈ second → first <ʳ value turn → value turn <ʳ second
-      → GoesOn shape old before turn there mid → GoesOn shape mid after end point new
-      → ((t : Rational) → first <ʳ t → t <ʳ value turn → value_at (shape.function before) t ≈ᵉ worth told rel (at (along g) t))
-      → ((t : Rational) → t ≈ value turn → value_at (shape.function there) t ≈ᵉ worth told rel (at (along g) t))
-      → ((t : Rational) → value turn <ʳ t → t <ʳ second → value_at (shape.function after) t ≈ᵉ worth told rel (at (along g) t))
-      → ((t : Rational) → value_at (shape.function point) t ≈ᵉ worth told rel (whole next))
-      → ((p : P) → IsRowBase (shape.base p)) → GoesAlong shape told rel g next old new
-  goes_two old mid new before there after point turn end m e h low high on off until_then at_turn from_then here b = record {
-    signal = off.signal;
-    begins = off.begins ∙ on.begins;
-    ends = subst (λ x. x ≈ second) (sym off.ends) h;
-    late = tick_within g.second m (subst (λ x. x ≈ second) (sym off.ends) h);
-    worth = λ t v w. by_part t v ((off.worth t v).0 w);
+  by_turn : (old mid : List (Knot P)) (before there : P) (turn : Frac) → Turned old mid before there turn
+      → (t : Rational) (v : Extended) → IsWorth shape mid t v → Part old t v
+  by_turn old mid before there turn d t v h = by_part ((d.goes.worth t v).0 h)
+    where
+      by_place : (stop old <ʳ t) → (t <ʳ value turn) → Passes (shape.function before) t v → (t ≤ʳ first) ⊎ (first <ʳ t) → Part old t v
+      by_place l z p (inl le) = inr (inl (l, le, same_transᵉ v (value_at (shape.function before) t) (worth told rel (whole g.from)) p (d.begins t)))
+      by_place l z p (inr lt) =
+          inr (inr (inl (
+            lt,
+            lt_trans z d.before_second,
+            same_transᵉ v (value_at (shape.function before) t) (worth told rel (at (along g) t)) p (d.until_then t lt z),
+          )))
+
+      by_part : IsWorth shape old t v ⊎ ((stop old <ʳ t) × (t <ʳ value turn) × Passes (shape.function before) t v)
+          ⊎ ((t ≈ value turn) × Passes (shape.function there) t v) → Part old t v
+      by_part (inl w) = inl w
+      by_part (inr (inl (l, z, p))) = by_place l z p (le_or_lt t first)
+      by_part (inr (inr (e, p))) =
+          inr (inr (inl (
+            lt_of_lt_of_le d.after_first (ge_of_same e),
+            lt_of_le_of_lt (le_of_same e) d.before_second,
+            same_transᵉ v (value_at (shape.function there) t) (worth told rel (at (along g) t)) p (d.at_turn t e),
+          )))
+
+  -- over a gap with a turn, from which all is worth the same
+  pub goes_turn : (old mid : List (Knot P)) (before there : P) (turn : Frac) → g.first < 2 ^ 32 → g.second < 2 ^ 32
+      → Turned old mid before there turn
+      → ((t : Rational) → value turn <ʳ t → t <ʳ second → worth told rel (at (along g) t) ≈ᵉ worth told rel (whole next))
+      → ((p : P) → IsRowBase (shape.base p)) → GoesAlong shape told rel g next old mid
+  goes_turn old mid before there turn n m d from_then b = record {
+    signal = d.goes.signal;
+    begins = d.goes.begins;
+    later = le_trans d.late (le_of_lt past);
+    ends = le_of_lt (subst (λ x. x <ʳ second) (sym d.goes.ends) d.before_second);
+    late = subst (IsWithin (2 ^ 34)) (sym d.goes.ends) (between_within g.first g.second n m d.after_first d.before_second);
+    worth = λ t v w. by_turn old mid before there turn d t v w;
+    before = λ l. absurd (lt_irrefl (lt_trans l past));
+    on = λ t l p q. from_then t (subst (λ x. x <ʳ t) d.goes.ends l) q;
     bases = λ p s. inr (b p);
   }
     where
-      by_first : (t : Rational) (v : Extended) → IsWorth shape old t v ⊎ ((stop old <ʳ t) × (t <ʳ value turn) × Passes (shape.function before) t v)
-          ⊎ ((t ≈ value turn) × Passes (shape.function there) t v) → Part old t v
-      by_first t v (inl w) = inl w
-      by_first t v (inr (inl (a, z, p))) =
-          inr (inl (
-            a,
-            lt_trans z high,
-            same_transᵉ v (value_at (shape.function before) t) (worth told rel (at (along g) t)) p (until_then t (lt_of_le_of_lt (ge_of_same e) a) z),
-          ))
-      by_first t v (inr (inr (a, p))) =
-          inr (inl (
-            lt_of_le_of_lt (le_of_same e) (lt_of_lt_of_le low (ge_of_same a)),
-            lt_of_le_of_lt (le_of_same a) high,
-            same_transᵉ v (value_at (shape.function there) t) (worth told rel (at (along g) t)) p (at_turn t a),
-          ))
+      past : first <ʳ stop mid
+      past = subst (λ x. first <ʳ x) (sym d.goes.ends) d.after_first
+
+  -- over two shapes, with a point between them
+  pub goes_two : (old mid new : List (Knot P)) (before there after point : P) (turn end : Frac) → g.second < 2 ^ 32 → value end ≈ second
+      → Turned old mid before there turn → GoesOn shape mid after end point new
+      → ((t : Rational) → value turn <ʳ t → t <ʳ second → value_at (shape.function after) t ≈ᵉ worth told rel (at (along g) t))
+      → ((t : Rational) → value_at (shape.function point) t ≈ᵉ worth told rel (whole next))
+      → ((p : P) → IsRowBase (shape.base p)) → GoesAlong shape told rel g next old new
+  goes_two old mid new before there after point turn end m h d off from_then here b = record {
+    signal = off.signal;
+    begins = off.begins ∙ d.goes.begins;
+    later = le_trans d.late (le_trans (le_of_lt (gap_in_order g)) (ge_of_same ends));
+    ends = le_of_same ends;
+    late = tick_within g.second m ends;
+    worth = λ t v w. by_part t v ((off.worth t v).0 w);
+    before = λ l. absurd (lt_irrefl (lt_trans l (lt_of_lt_of_le (gap_in_order g) (ge_of_same ends))));
+    on = λ t l p q. absurd (lt_irrefl (lt_of_lt_of_le (lt_trans l q) (ge_of_same ends)));
+    bases = λ p s. inr (b p);
+  }
+    where
+      ends : stop new ≈ second
+      ends = subst (λ x. x ≈ second) (sym off.ends) h
 
       by_part : (t : Rational) (v : Extended) → IsWorth shape mid t v ⊎ ((stop mid <ʳ t) × (t <ʳ value end) × Passes (shape.function after) t v)
           ⊎ ((t ≈ value end) × Passes (shape.function point) t v) → Part old t v
-      by_part t v (inl w) = by_first t v ((on.worth t v).0 w)
-      by_part t v (inr (inl (a, z, p))) =
-          let past : value turn <ʳ t = subst (λ x. x <ʳ t) on.ends a in
+      by_part t v (inl w) = by_turn old mid before there turn d t v w
+      by_part t v (inr (inl (l, z, p))) =
+          let past : value turn <ʳ t = subst (λ x. x <ʳ t) d.goes.ends l in
           let soon : t <ʳ second = lt_of_lt_of_le z (le_of_same h) in
-          inr (inl (
-            lt_of_le_of_lt (le_of_same e) (lt_trans low past),
+          inr (inr (inl (
+            lt_trans d.after_first past,
             soon,
             same_transᵉ v (value_at (shape.function after) t) (worth told rel (at (along g) t)) p (from_then t past soon),
-          ))
-      by_part t v (inr (inr (a, p))) = inr (inr (same_trans a h, same_transᵉ v (value_at (shape.function point) t) (worth told rel (whole next)) p (here t)))
+          )))
+      by_part t v (inr (inr (e, p))) =
+          inr (inr (inr (same_trans e h, same_transᵉ v (value_at (shape.function point) t) (worth told rel (whole next)) p (here t))))
 
 first_time_at : (rows : List Row) (d : Row) → 0 < length rows → first_time rows ≡ (get_or rows 0 d).time
 first_time_at [] d h = absurd (omega arith)
@@ -189,15 +315,32 @@ last_time_at time (r ∷ []) n d h = let e : n ≡ 0 = omega (arith, h) in subst
 last_time_at time (r ∷ s ∷ rows) zero d h = absurd (omega (arith, h))
 last_time_at time (r ∷ s ∷ rows) (suc n) d h = last_time_at r.time (s ∷ rows) n d (omega (arith, h))
 
+-- what a trace gives an atom is a function of time
+given_is_function : (told_as : How) (tr : Trace) (i : ℕ) (a : Atom) → IsFunction (Gives (reading_of told_as tr) i a)
+given_is_function told_as tr i a = record {
+  alike = λ t u v w e s h.
+      gives told_as tr i a u w (same_transᵉ w v (worth told_as a.rel (expression a tr u)) (same_symᵉ v w s)
+      (same_transᵉ v (worth told_as a.rel (expression a tr t)) (worth told_as a.rel (expression a tr u))
+      (given told_as tr i a t v h) (worth_same told_as a.rel (same_expression a tr e))));
+  one = λ t v w h k.
+      same_transᵉ v (worth told_as a.rel (expression a tr t)) w (given told_as tr i a t v h)
+      (same_symᵉ w (worth told_as a.rel (expression a tr t)) (given told_as tr i a t w k));
+}
+
 module _ {P : Type 0} (shape : ShapeOf P) (told_as : How) (b : Binding) (i : ℕ) (tr : Trace) (k : BoundAtom) (here : slice_get b.atoms i ≡ Some (Some k)) where
+  -- the sum at a row is the atom's expression there
+  row_is : (n : ℕ) (next : ℤ) (a : Atom) → IsFor b i a tr → n < length tr.rows → next ≡ reach k (values_at tr n) (values_at tr n)
+      → (t : Rational) → t ≈ row_time (row_of tr n) → expression a tr t ≈ whole next
+  row_is n next a for h e t when =
+      let has : HasRow tr (row_of tr n) = (n, slice_get-get_or tr.rows n (record { time = 0; values = [] }) h) in
+      subst (λ z. expression a tr t ≈ whole z) (sym e) (expression_at_row b i k here a tr for (row_of tr n) t has when)
+
   -- what is worth the sum at a row is what the trace gives there
   at_row : (n : ℕ) (next : ℤ) (a : Atom) → IsFor b i a tr → n < length tr.rows → next ≡ reach k (values_at tr n) (values_at tr n)
       → (t : Rational) (v : Extended) → t ≈ row_time (row_of tr n)
       → v ≈ᵉ worth told_as k.rel (whole next) → Gives (reading_of told_as tr) i a t v
   at_row n next a for h e t v when w =
-      let has : HasRow tr (row_of tr n) = (n, slice_get-get_or tr.rows n (record { time = 0; values = [] }) h) in
-      let is : expression a tr t ≈ whole next =
-      subst (λ z. expression a tr t ≈ whole z) (sym e) (expression_at_row b i k here a tr for (row_of tr n) t has when) in
+      let is : expression a tr t ≈ whole next = row_is n next a for h e t when in
       let one : v ≈ᵉ worth told_as a.rel (whole next) = subst (λ q. v ≈ᵉ worth told_as q (whole next)) (tied b i k here a tr for).rel w in
       gives told_as tr i a t v
       (same_transᵉ v (worth told_as a.rel (whole next)) (worth told_as a.rel (expression a tr t)) one (worth_same told_as a.rel (same_sym is)))
@@ -210,12 +353,13 @@ module _ {P : Type 0} (shape : ShapeOf P) (told_as : How) (b : Binding) (i : ℕ
   begun from at point n time is size some e when w c = record {
     signal = record { some = omega arith; each = (record { rising = tt; needed = tt; ends = refl }, tt) };
     begins = subst (λ n. value at ≈ whole (pos n)) (sym (first_time_at tr.rows (record { time = 0; values = [] }) some)) when;
-    ends = when;
+    ends = le_of_same when;
     early = tick_within n time is;
     late = tick_within n time is;
     small = small;
     bases = by_shape;
     worth = λ a for t v h. by_part a for t v h;
+    since = λ a for t low high. absurd (lt_irrefl (lt_of_lt_of_le low (le_trans high (ge_of_same when))));
   }
     where
       by_shape : (p : P) → (p ≡ point) ⊎ (p ≡ point) ⊎ ⊥ → IsRowBase (shape.base p)
@@ -238,6 +382,21 @@ module _ {P : Type 0} (shape : ShapeOf P) (told_as : How) (b : Binding) (i : ℕ
       by_part a for t v (inr (inl x)) = absurd x
       by_part a for t v (inr (inr x)) = absurd x
 
+  -- while the atom stays as it is at row n, what is worth the sum there is what the trace gives
+  while_still : (n : ℕ) (next : ℤ) (s : List (Knot P)) (a : Atom) → IsFor b i a tr → n < length tr.rows
+      → next ≡ reach k (values_at tr n) (values_at tr n) → HasGrown shape told_as b i tr n s
+      → (t : Rational) (v : Extended) → stop s <ʳ t → t ≤ʳ row_time (row_of tr n) → v ≈ᵉ worth told_as k.rel (whole next)
+      → Gives (reading_of told_as tr) i a t v
+  while_still n next s a for h e grown t v low high w =
+      let there = row_time (row_of tr n) in
+      let is : expression a tr there ≈ whole next = row_is n next a for h e there (same_refl there) in
+      let one : v ≈ᵉ worth told_as a.rel (whole next) = subst (λ q. v ≈ᵉ worth told_as q (whole next)) (tied b i k here a tr for).rel w in
+      let two : v ≈ᵉ worth told_as a.rel (expression a tr there) =
+      same_transᵉ v (worth told_as a.rel (whole next)) (worth told_as a.rel (expression a tr there)) one (worth_same told_as a.rel (same_sym is)) in
+      gives told_as tr i a t v
+      (same_transᵉ v (worth told_as a.rel (expression a tr there)) (worth told_as a.rel (expression a tr t)) two
+      (same_symᵉ (worth told_as a.rel (expression a tr t)) (worth told_as a.rel (expression a tr there)) (grown.since a for t low high)))
+
   -- and grown over a gap
   pub grown_on : (r n : ℕ) (g : Gap) (next : ℤ) (old new : List (Knot P)) → nat_abs next ≤ 2 ^ 31 → r ≡ suc n → r < length tr.rows
       → g.first ≡ (row_of tr n).time → g.second ≡ (row_of tr r).time
@@ -246,74 +405,131 @@ module _ {P : Type 0} (shape : ShapeOf P) (told_as : How) (b : Binding) (i : ℕ
   grown_on r n g next old new size e within f s from to at_next grown goes = record {
     signal = goes.signal;
     begins = subst (λ x. x ≈ trace.start tr) (sym goes.begins) grown.begins;
-    ends = subst (λ m. stop new ≈ whole (pos m)) s goes.ends;
+    ends = subst (λ m. stop new ≤ʳ whole (pos m)) s goes.ends;
     early = subst (IsWithin (2 ^ 34)) (sym goes.begins) grown.early;
     late = goes.late;
     small = λ t v h. small t v (goes.worth t v h);
     bases = λ p h. by_shape p (goes.bases p h);
     worth = λ a for t v h. by_part a for t v (goes.worth t v h);
+    since = λ a for t low high. by_place a for t low high (le_or_lt t (whole (pos g.first)));
   }
     where
+      before : n < length tr.rows
+      before = omega (arith, e, within)
+
       by_shape : (p : P) → HasShape old p ⊎ IsRowBase (shape.base p) → IsRowBase (shape.base p)
       by_shape p (inl h) = grown.bases p h
       by_shape p (inr h) = h
 
-      small : (t : Rational) (v : Extended)
-          → IsWorth shape old t v ⊎ ((stop old <ʳ t) × (t <ʳ whole (pos g.second)) × (v ≈ᵉ worth told_as k.rel (at (along g) t)))
-          ⊎ ((t ≈ whole (pos g.second)) × (v ≈ᵉ worth told_as k.rel (whole next)))
-          → IsBounded (2 ^ 31) v
+      small : (t : Rational) (v : Extended) → Part shape told_as k.rel g next old t v → IsBounded (2 ^ 31) v
       small t v (inl w) = grown.small t v w
-      small t v (inr (inl (low, high, w))) =
-          let past : whole (pos g.first) <ʳ t = subst (λ m. whole (pos m) <ʳ t) (sym f) (lt_of_le_of_lt (ge_of_same grown.ends) low) in
+      small t v (inr (inl (low, high, w))) = bounded_same (2 ^ 31) v (worth told_as k.rel (whole g.from)) w
+          (worth_bounded told_as k.rel (whole g.from) (within_whole (2 ^ 31) g.from g.small_from))
+      small t v (inr (inr (inl (past, high, w)))) =
           bounded_same (2 ^ 31) v (worth told_as k.rel (at (along g) t)) w (worth_bounded told_as k.rel (at (along g) t) (along_within g t past high))
-      small t v (inr (inr (when, w))) = bounded_same (2 ^ 31) v (worth told_as k.rel (whole next)) w
+      small t v (inr (inr (inr (when, w)))) = bounded_same (2 ^ 31) v (worth told_as k.rel (whole next)) w
           (worth_bounded told_as k.rel (whole next) (within_whole (2 ^ 31) next size))
 
       has : AreNeighbours tr (row_of tr n) (row_of tr r)
       has = (
         n,
-        slice_get-get_or tr.rows n (record { time = 0; values = [] }) (omega (arith, e, within)),
+        slice_get-get_or tr.rows n (record { time = 0; values = [] }) before,
         subst (λ m. slice_get tr.rows m ≡ Some (row_of tr r)) e (slice_get-get_or tr.rows r (record { time = 0; values = [] }) within),
       )
 
-      by_part : (a : Atom) → IsFor b i a tr → (t : Rational) (v : Extended)
-          → IsWorth shape old t v ⊎ ((stop old <ʳ t) × (t <ʳ whole (pos g.second)) × (v ≈ᵉ worth told_as k.rel (at (along g) t)))
-          ⊎ ((t ≈ whole (pos g.second)) × (v ≈ᵉ worth told_as k.rel (whole next)))
-          → Gives (reading_of told_as tr) i a t v
+      on_way : (a : Atom) → IsFor b i a tr → (t : Rational) → whole (pos g.first) <ʳ t → t <ʳ whole (pos g.second) → expression a tr t ≈ at (along g) t
+      on_way a for t past soon = expression_along b i k here a tr for g (row_of tr n) (row_of tr r) t f s from to has
+          (subst (λ m. whole (pos m) <ʳ t) f past) (subst (λ m. t <ʳ whole (pos m)) s soon)
+
+      by_part : (a : Atom) → IsFor b i a tr → (t : Rational) (v : Extended) → Part shape told_as k.rel g next old t v → Gives (reading_of told_as tr) i a t v
       by_part a for t v (inl w) = grown.worth a for t v w
       by_part a for t v (inr (inl (low, high, w))) =
-          let past : row_time (row_of tr n) <ʳ t = lt_of_le_of_lt (ge_of_same grown.ends) low in
-          let soon : t <ʳ row_time (row_of tr r) = subst (λ m. t <ʳ whole (pos m)) s high in
-          let is = expression_along b i k here a tr for g (row_of tr n) (row_of tr r) t f s from to has past soon in
+          while_still n g.from old a for before from grown t v low (subst (λ m. t ≤ʳ whole (pos m)) f high) w
+      by_part a for t v (inr (inr (inl (past, soon, w)))) =
           let one : v ≈ᵉ worth told_as a.rel (at (along g) t) = subst (λ q. v ≈ᵉ worth told_as q (at (along g) t)) (tied b i k here a tr for).rel w in
           gives told_as tr i a t v
-          (same_transᵉ v (worth told_as a.rel (at (along g) t)) (worth told_as a.rel (expression a tr t)) one (worth_same told_as a.rel (same_sym is)))
-      by_part a for t v (inr (inr (when, w))) = at_row r next a for within at_next t v (subst (λ m. t ≈ whole (pos m)) s when) w
+          (same_transᵉ v (worth told_as a.rel (at (along g) t)) (worth told_as a.rel (expression a tr t)) one
+          (worth_same told_as a.rel (same_sym (on_way a for t past soon))))
+      by_part a for t v (inr (inr (inr (when, w)))) = at_row r next a for within at_next t v (subst (λ m. t ≈ whole (pos m)) s when) w
 
--- what a trace gives an atom is a function of time
-given_is_function : (told_as : How) (tr : Trace) (i : ℕ) (a : Atom) → IsFunction (Gives (reading_of told_as tr) i a)
-given_is_function told_as tr i a = record {
-  alike = λ t u v w e s h.
-      gives told_as tr i a u w (same_transᵉ w v (worth told_as a.rel (expression a tr u)) (same_symᵉ v w s)
-      (same_transᵉ v (worth told_as a.rel (expression a tr t)) (worth told_as a.rel (expression a tr u))
-      (given told_as tr i a t v h) (worth_same told_as a.rel (same_expression a tr e))));
-  one = λ t v w h k.
-      same_transᵉ v (worth told_as a.rel (expression a tr t)) w (given told_as tr i a t v h)
-      (same_symᵉ w (worth told_as a.rel (expression a tr t)) (given told_as tr i a t w k));
-}
+      -- what is worth the sum at the second row is worth what the atom is there
+      up_to : (a : Atom) → IsFor b i a tr → (y : Rational) → worth told_as k.rel y ≈ᵉ worth told_as k.rel (whole next)
+          → worth told_as a.rel y ≈ᵉ worth told_as a.rel (expression a tr (row_time (row_of tr r)))
+      up_to a for y w =
+          let there = row_time (row_of tr r) in
+          let is : expression a tr there ≈ whole next = row_is r next a for within at_next there (same_refl there) in
+          let one : worth told_as a.rel y ≈ᵉ worth told_as a.rel (whole next) =
+          subst (λ q. worth told_as q y ≈ᵉ worth told_as q (whole next)) (tied b i k here a tr for).rel w in
+          same_transᵉ (worth told_as a.rel y) (worth told_as a.rel (whole next)) (worth told_as a.rel (expression a tr there)) one
+          (worth_same told_as a.rel (same_sym is))
 
--- a signal that has grown to the last row is the atom's
-pub whole_signal : {P : Type 0} (shape : ShapeOf P) (told_as : How) (b : Binding) (i : ℕ) (tr : Trace) (n : ℕ) (s : List (Knot P)) → length tr.rows ≡ suc n
-    → HasGrown shape told_as b i tr n s → IsAtomSignal shape (reading_of told_as) b i tr s
-whole_signal shape told_as b i tr n s e grown = record {
-  signal = grown.signal;
-  begins = grown.begins;
-  ends = ends;
-  tells = λ a for. told shape (Gives (reading_of told_as tr) i a) (trace.start tr) (trace.stop tr) s (given_is_function told_as tr i a)
-      (record { signal = grown.signal; worth = grown.worth a for }) grown.begins ends;
-  bases = grown.bases;
-  limited = limited shape s grown.signal grown.small grown.early grown.late;
-}
-  where
-    ends : stop s ≈ trace.stop tr
-    ends = subst (λ m. stop s ≈ whole (pos m)) (sym (last_time_at 0 tr.rows n (record { time = 0; values = [] }) e)) grown.ends
+      after : (a : Atom) → IsFor b i a tr → (t : Rational) → stop new <ʳ t → t ≤ʳ row_time (row_of tr r) → whole (pos g.first) <ʳ t
+          → (whole (pos g.second) ≤ʳ t) ⊎ (t <ʳ whole (pos g.second))
+          → worth told_as a.rel (expression a tr t) ≈ᵉ worth told_as a.rel (expression a tr (row_time (row_of tr r)))
+      after a for t low high past (inl le) =
+          worth_same told_as a.rel (same_expression a tr (same_of_le high (subst (λ m. whole (pos m) ≤ʳ t) s le)))
+      after a for t low high past (inr soon) =
+          let there = row_time (row_of tr r) in
+          same_transᵉ (worth told_as a.rel (expression a tr t)) (worth told_as a.rel (at (along g) t)) (worth told_as a.rel (expression a tr there))
+          (worth_same told_as a.rel (on_way a for t past soon)) (up_to a for (at (along g) t) (goes.on t low past soon))
+
+      by_place : (a : Atom) → IsFor b i a tr → (t : Rational) → stop new <ʳ t → t ≤ʳ row_time (row_of tr r)
+          → (t ≤ʳ whole (pos g.first)) ⊎ (whole (pos g.first) <ʳ t)
+          → worth told_as a.rel (expression a tr t) ≈ᵉ worth told_as a.rel (expression a tr (row_time (row_of tr r)))
+      by_place a for t low high (inr past) = after a for t low high past (le_or_lt (whole (pos g.second)) t)
+      by_place a for t low high (inl le) =
+          let mid = row_time (row_of tr n) in
+          let there = row_time (row_of tr r) in
+          let is : expression a tr mid ≈ whole g.from = row_is n g.from a for before from mid (same_refl mid) in
+          let one : worth told_as a.rel (expression a tr t) ≈ᵉ worth told_as a.rel (expression a tr mid) =
+          grown.since a for t (lt_of_le_of_lt goes.later low) (subst (λ m. t ≤ʳ whole (pos m)) f le) in
+          let two : worth told_as a.rel (expression a tr t) ≈ᵉ worth told_as a.rel (whole g.from) =
+          same_transᵉ (worth told_as a.rel (expression a tr t)) (worth told_as a.rel (expression a tr mid)) (worth told_as a.rel (whole g.from)) one
+          (worth_same told_as a.rel is) in
+          same_transᵉ (worth told_as a.rel (expression a tr t)) (worth told_as a.rel (whole g.from)) (worth told_as a.rel (expression a tr there)) two
+          (up_to a for (whole g.from) (goes.before (lt_of_lt_of_le low le)))
+
+  -- a signal that has grown to the last row, and then was caught up with it, is the atom's
+  pub whole_signal : (n time : ℕ) (next : ℤ) (steady : P) (old new : List (Knot P)) → nat_abs next ≤ 2 ^ 31 → length tr.rows ≡ suc n
+      → time < 2 ^ 32 → time ≡ (row_of tr n).time → next ≡ reach k (values_at tr n) (values_at tr n)
+      → ((t : Rational) → value_at (shape.function steady) t ≈ᵉ worth told_as k.rel (whole next)) → IsRowBase (shape.base steady)
+      → HasGrown shape told_as b i tr n old → CatchesUp shape steady time old new → IsAtomSignal shape (reading_of told_as) b i tr new
+  whole_signal n time next steady old new size e few at_time at_next is base grown up = record {
+    signal = up.signal;
+    begins = begins;
+    ends = ends;
+    tells = λ a for. told shape (Gives (reading_of told_as tr) i a) (trace.start tr) (trace.stop tr) new (given_is_function told_as tr i a)
+        (record { signal = up.signal; worth = λ t v h. by_part a for t v (up.worth t v h) }) begins ends;
+    bases = λ p h. by_shape p (up.shapes p h);
+    limited = limited shape new up.signal (λ t v h. small t v (up.worth t v h)) (subst (IsWithin (2 ^ 34)) (sym up.begins) grown.early)
+        (tick_within time few up.ends);
+  }
+    where
+      within : n < length tr.rows
+      within = omega (arith, e)
+
+      begins : start new ≈ trace.start tr
+      begins = subst (λ x. x ≈ trace.start tr) (sym up.begins) grown.begins
+
+      ends : stop new ≈ trace.stop tr
+      ends = subst (λ m. stop new ≈ whole (pos m)) (at_time ∙ sym (last_time_at 0 tr.rows n (record { time = 0; values = [] }) e)) up.ends
+
+      by_shape : (p : P) → HasShape old p ⊎ (p ≡ steady) → IsRowBase (shape.base p)
+      by_shape p (inl h) = grown.bases p h
+      by_shape p (inr h) = subst (λ q. IsRowBase (shape.base q)) (sym h) base
+
+      worth_is : (t : Rational) (v : Extended) → v ≈ᵉ value_at (shape.function steady) t → v ≈ᵉ worth told_as k.rel (whole next)
+      worth_is t v w = same_transᵉ v (value_at (shape.function steady) t) (worth told_as k.rel (whole next)) w (is t)
+
+      small : (t : Rational) (v : Extended) → IsWorth shape old t v ⊎ ((stop old <ʳ t) × (t ≤ʳ whole (pos time)) × (v ≈ᵉ value_at (shape.function steady) t))
+          → IsBounded (2 ^ 31) v
+      small t v (inl w) = grown.small t v w
+      small t v (inr (low, high, w)) = bounded_same (2 ^ 31) v (worth told_as k.rel (whole next)) (worth_is t v w)
+          (worth_bounded told_as k.rel (whole next) (within_whole (2 ^ 31) next size))
+
+      by_part : (a : Atom) → IsFor b i a tr → (t : Rational) (v : Extended)
+          → IsWorth shape old t v ⊎ ((stop old <ʳ t) × (t ≤ʳ whole (pos time)) × (v ≈ᵉ value_at (shape.function steady) t))
+          → Gives (reading_of told_as tr) i a t v
+      by_part a for t v (inl w) = grown.worth a for t v w
+      by_part a for t v (inr (low, high, w)) =
+          while_still n next old a for within at_next grown t v low (subst (λ m. t ≤ʳ whole (pos m)) at_time high) (worth_is t v w)

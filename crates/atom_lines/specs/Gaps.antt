@@ -1,5 +1,5 @@
 -- The gap between two rows, and an atom's sum, less its constant, on it.
-use Rattle.std.specs.Prelude.{◌-◌, pos, ◌-ℤ◌, ◌⊎◌, ◌<ℤ◌}
+use Rattle.std.specs.Prelude.{ℤ, ◌-◌, pos, ◌-ℤ◌, ◌⊎◌, ◌<ℤ◌}
 use Rattle.std.proofs.Math.Nat.{sub-pos_iff_lt}
 use Rattle.rational.specs.Line.{Line, ramp_line}
 use Rattle.atom_lines.specs.declared.gap.Gap.{Gap}
@@ -11,3 +11,7 @@ along g = ramp_line (pos g.first) g.from (g.to -ℤ g.from) (g.second - g.first)
 -- the sum has opposite signs at the two ends
 abbrev pub Passes : Gap → Type 0
 Passes g = ((g.from <ℤ pos 0) × (pos 0 <ℤ g.to)) ⊎ ((pos 0 <ℤ g.from) × (g.to <ℤ pos 0))
+
+-- the sum has one sign at the two ends, and at the second row
+abbrev pub AreOfSign : Gap → ℤ → Type 0
+AreOfSign g next = ((pos 0 <ℤ g.from) × (pos 0 <ℤ g.to) × (pos 0 <ℤ next)) ⊎ ((g.from <ℤ pos 0) × (g.to <ℤ pos 0) × (next <ℤ pos 0))

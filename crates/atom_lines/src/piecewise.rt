@@ -1,10 +1,12 @@
 //! How a signal of an atom grows by a row.
-ghost use Rattle.std.specs.Prelude.{◌≡◌, ◌≤◌, ◌^◌, pos, OnOk};
+ghost use Rattle.std.specs.Prelude.{◌≡◌, ◌≤◌, ◌^◌, pos, OnOk, IsTrue};
 ghost use Rattle.std.specs.Int.RustNames.{unsigned_abs};
-ghost use Rattle.rational.specs.Rational.{Rational, ◌≈◌, whole};
+ghost use Rattle.rational.specs.Rational.{Rational, IsWithin, whole};
+ghost use Rattle.rational.specs.Time.{◌≤ʳ◌};
 ghost use Rattle.rational.specs.Extended.{value_at, ◌≈ᵉ◌};
-ghost use Rattle.pl_signal.specs.Knots.{stop};
-ghost use Rattle.atom_lines.specs.Growing.{GoesAlong, IsRowBase};
+ghost use Rattle.pl_signal.specs.Knots.{stop, IsSignal};
+ghost use Rattle.atom_lines.specs.Gaps.{AreOfSign};
+ghost use Rattle.atom_lines.specs.Growing.{CatchesUp, GoesAlong, IsRowBase};
 ghost use Rattle.atom_lines.specs.How.{How, worth};
 
 use crate::gap::Gap;
@@ -12,6 +14,7 @@ use crate::margin::{margin_at, margin_between};
 use crate::truth::{TruthPiece, truth_at, truth_between};
 use frac128::{Frac, Memory};
 use pl_signal::Builder;
+use std::cmp::Ordering;
 use stl_syntax::Rel;
 use value_laws::{Margin, Shape, Truth};
 
@@ -26,10 +29,13 @@ pub(crate) trait Piecewise: Shape {
         ensures worth { (t : Rational) → value_at (Self.function result) t ≈ᵉ worth told rel (whole value) }
         ensures base { IsRowBase (Self.base result) };
 
-    /// Goes on over a gap; at its end the sum lies `next` above the constant.
+    /// Goes on over a gap, at whose end the sum lies `next` above the constant. Where the signal ends before the gap, the atom is
+    /// worth up to there what it is at the first row; and where it stays so up to the second row, the signal is left as it is.
     fn go_on(signal: &mut Builder<Self>, rel: Rel, gap: &Gap, next: i64) -> Result<(), Memory>
         requires next { unsigned_abs next ≤ 2 ^ 31 }
-        requires begins { stop signal.old ≈ whole (pos gap.now.first) }
+        requires signal { IsSignal Self.Shape signal.old }
+        requires limited { IsWithin (2 ^ 34) (stop signal.old) }
+        requires late { stop signal.old ≤ʳ whole (pos gap.now.first) }
         ensures { OnOk result (GoesAlong Self.Shape told rel gap.now next signal.old signal.new) };
 }
 
@@ -43,10 +49,16 @@ impl Piecewise for Truth {
     }
 
     fn go_on(signal: &mut Builder<Truth>, rel: Rel, gap: &Gap, next: i64) -> Result<(), Memory> {
+        if keeps_sign(gap, next) {
+            return Ok(());
+        }
         let end = Frac::of(i64::from(gap.second));
         let last = truth_at(rel, next);
         match truth_between(rel, gap) {
-            TruthPiece::Whole(truth) => signal.step(truth, end, last),
+            TruthPiece::Whole(truth) => {
+                catch_up(signal, &truth_at(rel, gap.from), gap.first)?;
+                signal.step(truth, end, last)
+            }
             TruthPiece::Split {
                 before,
                 at,
@@ -54,6 +66,9 @@ impl Piecewise for Truth {
                 after,
             } => {
                 signal.step(before, at, point)?;
+                if last.holds() == after.holds() {
+                    return Ok(());
+                }
                 signal.step(after, end, last)
             }
         }
@@ -70,7 +85,42 @@ impl Piecewise for Margin {
     }
 
     fn go_on(signal: &mut Builder<Margin>, rel: Rel, gap: &Gap, next: i64) -> Result<(), Memory> {
+        if stays(gap, next) {
+            return Ok(());
+        }
         let end = Frac::of(i64::from(gap.second));
+        catch_up(signal, &margin_at(rel, gap.from), gap.first)?;
         signal.step(margin_between(rel, gap), end, margin_at(rel, next))
+    }
+}
+
+/// Whether the sum lies on one side of the constant over the gap, and at its ends.
+fn keeps_sign(gap: &Gap, next: i64) -> bool
+    ensures { IsTrue result → AreOfSign gap.now next }
+{
+    if gap.from > 0 {
+        return gap.to > 0 && next > 0;
+    }
+    gap.from < 0 && gap.to < 0 && next < 0
+}
+
+/// Whether the sum stays the same over the gap, and at its ends.
+fn stays(gap: &Gap, next: i64) -> bool
+    ensures from { IsTrue result → gap.now.to ≡ gap.now.from }
+    ensures next { IsTrue result → next ≡ gap.now.from }
+{
+    gap.from == gap.to && gap.from == next
+}
+
+/// Goes on with one shape up to the time, where the signal ends before it.
+pub(crate) fn catch_up<P: Shape>(signal: &mut Builder<P>, steady: &P, to: u32) -> Result<(), Memory>
+    requires limited { IsWithin (2 ^ 34) (stop signal.old) }
+    requires late { stop signal.old ≤ʳ whole (pos to) }
+    ensures { OnOk result (CatchesUp P.Shape steady.now to signal.old signal.new) }
+{
+    let end = Frac::of(i64::from(to));
+    match signal.stop().cmp(&end) {
+        Ordering::Less => signal.go_along(steady, &end, steady),
+        _ => Ok(()),
     }
 }

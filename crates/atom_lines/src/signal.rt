@@ -9,7 +9,7 @@ ghost use Rattle.atom_lines.specs.How.{reading_of};
 
 use crate::bound::Bound;
 use crate::cells::row_at;
-use crate::piecewise::Piecewise;
+use crate::piecewise::{Piecewise, catch_up};
 use crate::points::gap_on;
 use crate::sum::reach_of;
 use crate::tied::BoundAtom;
@@ -167,5 +167,26 @@ fn signal_of<P: Piecewise>(
     for r in 1..trace.rows() {
         from = advance(&mut signal, bound, node, trace, r, from)?;
     }
+    finished(signal, bound, node, trace, from)
+}
+
+/// The signal up to the last row, where the sum is `from`.
+fn finished<P: Piecewise>(
+    mut signal: Builder<P>,
+    bound: &Bound,
+    node: u32,
+    trace: &Trace,
+    from: i64,
+) -> Result<Signal<P>, Memory>
+    requires atom { IsAtomNode bound.now node }
+    requires columns { length trace.now.header.columns ≡ bound.now.width }
+    requires some { 0 < length trace.now.rows }
+    requires from { IsReachAt bound.now node trace.now (length trace.now.rows - 1) from }
+    requires grown { HasGrown P.Shape P.told bound.now node trace.now (length trace.now.rows - 1) signal }
+    ensures { IfOk result (IsAtomSignal P.Shape (reading_of P.told) bound.now node trace.now) }
+{
+    let atom = bound.atom(node);
+    let last = trace.time(trace.rows() - 1);
+    catch_up(&mut signal, &P::point(atom.rel, from), last)?;
     Ok(signal.finish())
 }

@@ -5,7 +5,7 @@ ghost use Rattle.rational.specs.Line.{at};
 ghost use Rattle.frac128.specs.Value.{value, denominator};
 ghost use Rattle.stl_syntax.specs.Truth.{compares};
 ghost use Rattle.atom_lines.specs.Gaps.{along, Passes};
-ghost use Rattle.atom_lines.specs.Pieces.{TellsGap};
+ghost use Rattle.atom_lines.specs.Pieces.{BeginsWith, TellsGap};
 
 use crate::gap::Gap;
 use frac128::Frac;
@@ -42,9 +42,9 @@ pub(crate) fn truth_at(rel: Rel, value: i64) -> Truth
 
 /// The time inside the gap at which a sum that changes its sign is 0.
 #[inline(never)]
-fn crossing(gap: &Gap) -> Frac
-    requires { Passes gap.now }
-    ensures zero { at (along gap.now) (value result) ≈ whole (pos 0) }
+fn crossing(gap: Gap) -> Frac
+    requires { Passes gap }
+    ensures zero { at (along gap) (value result) ≈ whole (pos 0) }
     ensures small { denominator result ≤ 2 ^ 31 }
 {
     let before = gap.from.unsigned_abs();
@@ -65,12 +65,13 @@ fn changes_sign(gap: &Gap) -> bool
 /// The truth of a comparison on the open gap.
 #[inline(always)]
 pub(crate) fn truth_between(rel: Rel, gap: &Gap) -> TruthPiece
-    ensures { TellsGap (whole (pos gap.now.first)) (whole (pos gap.now.second)) (λ t. compares rel (at (along gap.now) t)) result }
+    ensures tells { TellsGap (whole (pos gap.now.first)) (whole (pos gap.now.second)) (λ t. compares rel (at (along gap.now) t)) result }
+    ensures begins { BeginsWith (compares rel (whole gap.now.from)) result }
 {
     if changes_sign(gap) {
         return TruthPiece::Split {
             before: truth_at(rel, gap.from),
-            at: crossing(gap),
+            at: crossing(*gap),
             point: truth_at(rel, 0),
             after: truth_at(rel, gap.to),
         };

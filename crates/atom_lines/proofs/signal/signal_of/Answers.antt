@@ -2,9 +2,6 @@ use Rattle.std.proofs.Common.{rules, ◌≡◌, ◌+◌, ◌-◌, suc, sym, subs
 use Rattle.std.specs.Int.{w64}
 use Rattle.std.proofs.lemmas.Int.{to_z-of_z}
 use Rattle.atom_lines.specs.Growing.{IsReachAt, HasGrown}
-use Rattle.atom_lines.specs.How.{reading_of}
-use Rattle.atom_lines.specs.AtomSignals.{IsAtomSignal}
-use Rattle.atom_lines.proofs.GrowingLemmas.{whole_signal}
 use Rattle.atom_lines.proofs.signal.signal_of.Goals as goal
 
 pub loop-r-init : goal.loop-r-init
@@ -32,10 +29,16 @@ loop-r-preserved g c =
           (sym e) c.in_ok-from.ensures.grown;
     }
 
-pub returns : goal.returns
-returns g c =
-    let count : length c.args.trace.now.rows ≡ suc (c.loop-r.r - 1) =
+pub finished-requires-clause-from : goal.finished-requires-clause-from
+finished-requires-clause-from g c =
+    let e : c.loop-r.r - 1 ≡ length c.args.trace.now.rows - 1 =
     (let a = c.rows-r-end.ensures.count in let b = c.loop-r-test.false in let d = c.loop-r.auto.r-end in
     let f = c.loop-r.auto.r in let h = c.requires.some in omega arith) in
-    subst (IsAtomSignal g.P.Shape (reading_of g.P.Piecewise.told) c.args.bound.now c.args.node c.args.trace.now) (sym c.finish.ensures.value)
-    (whole_signal g.P.Shape g.P.Piecewise.told c.args.bound.now c.args.node c.args.trace.now (c.loop-r.r - 1) c.loop-r.signal count c.loop-r.invariant.grown)
+    subst (λ m. IsReachAt c.args.bound.now c.args.node c.args.trace.now m (to_z w64 c.loop-r.from-bits)) e c.loop-r.invariant.sum
+
+pub finished-requires-clause-grown : goal.finished-requires-clause-grown
+finished-requires-clause-grown g c =
+    let e : c.loop-r.r - 1 ≡ length c.args.trace.now.rows - 1 =
+    (let a = c.rows-r-end.ensures.count in let b = c.loop-r-test.false in let d = c.loop-r.auto.r-end in
+    let f = c.loop-r.auto.r in let h = c.requires.some in omega arith) in
+    subst (λ m. HasGrown g.P.Shape g.P.Piecewise.told c.args.bound.now c.args.node c.args.trace.now m c.loop-r.signal) e c.loop-r.invariant.grown

@@ -11,7 +11,7 @@ use Rattle.atom_lines.proofs.truth.crossing.Goals as goal
 
 pub returns-clause-zero : goal.returns-clause-zero
 returns-clause-zero c =
-    let g = c.args.gap.now in
+    let g = c.args.gap in
     let b = c.unsigned_abs-before.result in
     let rise = b + c.unsigned_abs.result in
     let length = c.from.result in
@@ -28,7 +28,7 @@ returns-clause-zero c =
 
 pub returns-clause-small : goal.returns-clause-small
 returns-clause-small c =
-    let g = c.args.gap.now in
+    let g = c.args.gap in
     let t = c.mixed.result in
     let b = c.unsigned_abs-before.result in
     let rise = b + c.unsigned_abs.result in
