@@ -1,14 +1,7 @@
 -- What is left of an edge without its first parts.
-use Rattle.std.proofs.Common.{◌≡◌, inl, inr, Option, None, ℤ, ℕ, ◌+◌, ◌-◌, ◌<◌, drop, length}
-use Rattle.std.proofs.Common.{Some, IfSome, slice_get, sym, ap, ◌∙◌, arith, length-drop, below_more}
-use Rattle.std.proofs.lemmas.Option.{slice_get_within}
-use Rattle.rational.specs.Rational.{Rational, ◌≤ʳ◌, ◌<ʳ◌, ◌≈◌, whole}
-use Rattle.rational.proofs.Order.{le_trans, le_of_same, ge_of_same, lt_of_le_of_lt, le_or_lt}
-use Rattle.frac128.specs.Value.{value}
-use Rattle.online_nodes.proofs.DroppingLemmas.{drop-drop, drop-both, slice_get-drop}
-use Rattle.online_robust.specs.Lines.{end_of}
-use Rattle.online_robust.specs.declared.line.MarginLine.{MarginLine}
-use Rattle.online_robust.specs.Held.{Edge, held_of, without, IsDroppedBy}
+use Rattle.std.proofs.Common.{◌≡◌, ℕ, ◌-◌, drop, length, sym, ap, arith}
+use Rattle.online_nodes.proofs.DroppingLemmas.{drop-both}
+use Rattle.online_robust.specs.Held.{Edge, held_of, without}
 
 -- an edge without its first lines holds the others
 pub held_of-without : (n : ℕ) (x : Edge) → held_of (without n x) ≡ drop n (held_of x)
@@ -19,70 +12,3 @@ pub without-none : (x : Edge) → without 0 x ≡ x
 without-none x =
     let none : 0 - length x.seen ≡ 0 = omega arith in
     ap (λ k. record { seen = x.seen; fresh = drop k x.fresh; number = x.number }) none
-
--- one part more is dropped
-pub without-one_more : (n : ℕ) (x : Edge) → without 1 (without n x) ≡ without (n + 1) x
-without-one_more n x =
-    let count : (n - length x.seen) + (1 - length (drop n x.seen)) ≡ n + 1 - length x.seen = omega (arith, length-drop n x.seen)
-    in
-    ap (λ s. record { seen = s; fresh = drop (1 - length (drop n x.seen)) (drop (n - length x.seen) x.fresh); number = x.number })
-    (drop-drop 1 n x.seen)
-    ∙ ap (λ f. record { seen = drop (n + 1) x.seen; fresh = f; number = x.number })
-    (drop-drop (1 - length (drop n x.seen)) (n - length x.seen) x.fresh ∙ ap (λ k. drop k x.fresh) count)
-
--- some parts are gone from the front, and each of them ends by the limit
-pub record IsCutBy (limit : Rational) (old new : Edge) : Type 0 where
-  -- how many are gone
-  pub count : ℕ
-  -- the edge is the old one without them
-  pub is : new ≡ without count old
-  -- each of them ends by the limit
-  pub ended : (k : ℕ) → k < count → IfSome (slice_get (held_of old) k) (λ v. value (end_of v) ≤ʳ limit)
-
--- an edge of which nothing is gone is cut by any limit
-pub cut_none : (limit : Rational) (x : Edge) → IsCutBy limit x x
-cut_none limit x = record { count = 0; is = sym (without-none x); ended = λ k below. absurd (omega arith) }
-
--- one more may go that ends by the limit
-pub cut_one : {limit : Rational} {old new : Edge} (v : MarginLine) → IsCutBy limit old new → slice_get (held_of new) 0 ≡ Some v
-    → value (end_of v) ≤ʳ limit → IsCutBy limit old (without 1 new)
-cut_one {limit} {old} {new} v cut first ended =
-    let here : slice_get (held_of old) cut.count ≡ Some v =
-    sym (slice_get-drop cut.count (held_of old))
-    ∙ sym (ap (λ xs. slice_get xs 0) (ap held_of cut.is ∙ held_of-without cut.count old)) ∙ first in
-    record {
-      count = cut.count + 1;
-      is = ap (without 1) cut.is ∙ without-one_more cut.count old;
-      ended = below_more (λ k. IfSome (slice_get (held_of old) k) (λ w. value (end_of w) ≤ʳ limit)) cut.count cut.ended
-          (rw here ended);
-    }
-
--- one part fewer is held
-pub fewer_held : (x : Edge) (v : MarginLine) → slice_get (held_of x) 0 ≡ Some v → length (held_of (without 1 x)) < length (held_of x)
-fewer_held x v first =
-    let some : 0 < length (held_of x) = slice_get_within (held_of x) 0 v first in
-    let long : length (held_of (without 1 x)) ≡ length (drop 1 (held_of x)) = ap length (held_of-without 1 x) in
-    omega (arith, length-drop 1 (held_of x))
-
--- and what is left begins with a later end
-pub dropped_by : {limit : ℤ} {end : Rational} {old new : Edge} → IsCutBy end old new → end ≈ whole limit
-    → IfSome (slice_get (held_of new) 0) (λ v. end <ʳ value (end_of v)) → IsDroppedBy limit old new
-dropped_by {limit} {end} {old} {new} cut same rest =
-    record {
-      count = cut.count;
-      is = cut.is;
-      ended = λ k below. each (slice_get (held_of old) k) (cut.ended k below);
-      rest = beyond (slice_get (held_of new) 0) rest;
-    }
-  where
-    each : (o : Option MarginLine) → IfSome o (λ v. value (end_of v) ≤ʳ end) → IfSome o (λ v. value (end_of v) ≤ʳ whole limit)
-    each None h = h
-    each (Some v) h = le_trans h (le_of_same same)
-
-    beyond : (o : Option MarginLine) → IfSome o (λ v. end <ʳ value (end_of v)) → IfSome o (λ v. whole limit <ʳ value (end_of v))
-    beyond None h = h
-    beyond (Some v) h = lt_of_le_of_lt (ge_of_same same) h
-
--- a number that is not at most another is above it
-pub above_of_not : (a b : Rational) → (a ≤ʳ b → ⊥) → b <ʳ a
-above_of_not a b not_le = elim (le_or_lt a b) [ inl le ↦ absurd (not_le le) | inr lt ↦ lt ]

@@ -220,10 +220,10 @@ module _ (nodes : List Node) (header : Header) (net : Parts) (past : Past) (give
         subst (λ x. CanGoByRow passing_row x net.stations net.bound net.last r) (sym (is ∙ ap (begun net.edges net.last) same)) can_row
 
     -- once all nodes have gone on by the row the network stands for the rows with it
-    pub row_stands : (e : Held) (stations : List Station) (kept : Row) → kept ≡ r → HasGone passing_row e stations
-        → StandsFor nodes header (record { edges = e; stations = stations; bound = net.bound; last = Some kept; closed = net.closed; stopped = net.stopped })
+    pub row_stands : (e : Held) (stations : List Station) (last : Option Row) → last ≡ Some r → HasGone passing_row e stations
+        → StandsFor nodes header (record { edges = e; stations = stations; bound = net.bound; last = last; closed = net.closed; stopped = net.stopped })
         (with_row past r) given
-    row_stands e stations kept same gone = record {
+    row_stands e stations last same gone = record {
       keeps = record {
         streamed = keeps.streamed;
         scale = keeps.scale;
@@ -231,7 +231,7 @@ module _ (nodes : List Node) (header : Header) (net : Parts) (past : Past) (give
         rows = soon header (past.rows ++ r ∷ []) can_row.0.trace;
         small = can_row.0.small;
         start = gone.start ∙ sym (first_row-append past.rows r);
-        last = ap Some same ∙ sym (last_row-append past.rows r);
+        last = same ∙ sym (last_row-append past.rows r);
         closed = opened;
         some = λ h. absurd (false≢true h);
         running = keeps.running;

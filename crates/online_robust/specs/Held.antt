@@ -16,14 +16,9 @@ use Rattle.std.specs.Prelude.{
   Option,
   Some,
   None,
-  IfSome,
-  slice_get,
   slice_index_or,
   slice_set,
 }
-use Rattle.rational.specs.Rational.{◌≤ʳ◌, ◌<ʳ◌, whole}
-use Rattle.frac128.specs.Value.{value}
-use Rattle.online_robust.specs.Lines.{end_of}
 use Rattle.online_robust.specs.declared.line.MarginLine.{MarginLine}
 
 -- one edge: the parts that its reader has read and may still need, those that it has not read, and the node's number
@@ -79,13 +74,6 @@ without n x = record { seen = drop n x.seen; fresh = drop (n - length x.seen) x.
 -- the edge with this number
 abbrev pub with_number : Edge → ℤ → Edge
 with_number x n = record { seen = x.seen; fresh = x.fresh; number = Some n }
-
--- what ends by the time `limit` is gone from the front of the edge, and the first part that is left ends later
-pub record IsDroppedBy (limit : ℤ) (old new : Edge) : Type 0 where
-  pub count : ℕ
-  pub is : new ≡ without count old
-  pub ended : (k : ℕ) → k < count → IfSome (slice_get (held_of old) k) (λ v. value (end_of v) ≤ʳ whole limit)
-  pub rest : IfSome (slice_get (held_of new) 0) (λ v. whole limit <ʳ value (end_of v))
 
 -- the edges of a pool's lists: list 2 * i has what was read of edge i, and the next list what was not. No public clause cites it
 abbrev pub edges_of : List (Option ℤ) → List (List MarginLine) → List Edge

@@ -4,17 +4,15 @@
 //! operator goes on in the middle of its input's edge with no walk, and to read a part takes no memory.
 
 ghost use Rattle.std.specs.Prelude.{◌≡◌, ◌*◌, ◌+◌, ◌<◌, ◌≤◌, ◌^◌, [], ◌∷◌, length, replicate, slice_get, IfOk};
-ghost use Rattle.std.specs.Prelude.{IsOk, OnOk, OnErr, OnSome, IfNone, IfSome, None, Some, IsTrue, ◌↔◌};
-ghost use Rattle.rational.specs.Rational.{◌≤ʳ◌};
-ghost use Rattle.frac128.specs.Value.{value};
-ghost use Rattle.online_robust.specs.Lines.{end_of};
-ghost use Rattle.online_robust.specs.Held.{edge_at, fresh_at, held_at, no_edge, number_at, with_edge, with_more, with_number, with_read, without, IsDroppedBy};
+ghost use Rattle.std.specs.Prelude.{IsOk, OnOk, OnErr, None, Some};
+ghost use Rattle.std.specs.Option.{option_copied};
+ghost use Rattle.online_robust.specs.declared.line.MarginLine.{MarginLine as Line};
+ghost use Rattle.online_robust.specs.Held.{edge_at, fresh_at, held_at, no_edge, number_at, with_edge, with_more, with_number, with_read, without};
 
 use crate::line::MarginLine;
-use frac128::{Frac, Memory};
+use frac128::Memory;
 use seg_pool::Pool;
 use std::alloc::Global;
-use std::cmp::Ordering;
 use std::marker::Model;
 
 /// For each node the parts that its reader may still need and the number noted last, and the time of the first row.
@@ -132,6 +130,22 @@ impl Edges {
         }
     }
 
+    /// Drops the first part of an edge, if there is one.
+    #[inline(always)]
+    pub(crate) fn skip(&mut self, edge: u32)
+        requires { edge < length self.old.edges }
+        ensures taken { self.new.edges ≡ with_edge self.old edge (without 1 (edge_at self.old edge)) }
+        ensures start { self.new.start ≡ self.old.start }
+        ensures spare { self.old.spare ≤ self.new.spare }
+    {
+        match self.pool.pop_front(2 * edge) {
+            Some(_first) => {}
+            None => {
+                let _ = self.pool.pop_front(2 * edge + 1);
+            }
+        }
+    }
+
     /// How many parts an edge holds.
     pub fn held(&self, edge: u32) -> usize
         requires { edge < length self.now.edges }
@@ -176,20 +190,23 @@ impl Edges {
         }
     }
 
-    /// Reads the first part of an edge that was not read, and gives it. It takes no memory.
-    pub(crate) fn pass(&mut self, edge: u32) -> MarginLine
-        requires edge { edge < length self.old.edges }
-        requires some { 0 < length (fresh_at self.old edge) }
-        ensures first { slice_get (fresh_at self.old edge) 0 ≡ Some result }
-        ensures read { self.new.edges ≡ with_edge self.old edge (with_read (edge_at self.old edge) result) }
+    /// The same, where it stands.
+    pub(crate) fn unread(&self, edge: u32) -> Option<&MarginLine>
+        requires { edge < length self.now.edges }
+        ensures { option_copied result ≡ slice_get (fresh_at self.now edge) 0 }
+    {
+        self.pool.front(2 * edge + 1)
+    }
+
+    /// The first part of an edge that was not read is read. It takes no memory.
+    pub(crate) fn pass(&mut self, edge: u32)
+        requires { edge < length self.old.edges }
+        ensures read { (v : Line) → slice_get (fresh_at self.old edge) 0 ≡ Some v
+            → self.new.edges ≡ with_edge self.old edge (with_read (edge_at self.old edge) v) }
         ensures start { self.new.start ≡ self.old.start }
         ensures spare { self.old.spare ≤ self.new.spare }
     {
-        let Some(v) = self.next(edge) else {
-            unreachable!()
-        };
         self.pool.pass(2 * edge + 1, 2 * edge);
-        v
     }
 
     /// The first part of an edge.
@@ -203,31 +220,14 @@ impl Edges {
         }
     }
 
-    /// Drops from the front of an edge what ends by the time `limit`.
-    pub(crate) fn drop_by(&mut self, edge: u32, limit: i64)
-        requires { edge < length self.old.edges }
-        ensures dropped { IsDroppedBy limit (edge_at self.old edge) (edge_at self.new edge) }
-        ensures others { self.new.edges ≡ with_edge self.old edge (edge_at self.new edge) }
-        ensures start { self.new.start ≡ self.old.start }
-        ensures spare { self.old.spare ≤ self.new.spare }
+    /// The same, where it stands.
+    pub(crate) fn ahead(&self, edge: u32) -> Option<&MarginLine>
+        requires { edge < length self.now.edges }
+        ensures { option_copied result ≡ slice_get (held_at self.now edge) 0 }
     {
-        let end = Frac::of(limit);
-        while let Some(v) = self.first(edge) {
-            if !ends_by(&v, &end) {
-                return;
-            }
-            let _ = self.take(edge);
+        match self.pool.front(2 * edge) {
+            Some(v) => Some(v),
+            None => self.unread(edge),
         }
-    }
-}
-
-/// Whether the part ends by the time `end`.
-fn ends_by(v: &MarginLine, end: &Frac) -> bool
-    ensures { IsTrue result ↔ value (end_of v.now) ≤ʳ value end.now }
-{
-    match v.end().cmp(end) {
-        Ordering::Less => true,
-        Ordering::Equal => true,
-        Ordering::Greater => false,
     }
 }

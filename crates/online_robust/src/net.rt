@@ -4,7 +4,7 @@
 //! that it stands for, what the past says.
 
 ghost use Rattle.std.specs.Prelude.{◌≡◌, ◌≢◌, ◌<◌, ◌-◌, ◌++◌, ◌∷◌, [], ℕ, List, length, slice_get, IfOk, IfErr, IfSome};
-ghost use Rattle.std.specs.Prelude.{IfNone, MatchOption, MatchResult, OnOk, Some, None, true, false, pos, option_map};
+ghost use Rattle.std.specs.Prelude.{IfNone, MatchOption, MatchResult, OnOk, OnErr, Some, None, true, false, pos, option_map};
 ghost use Rattle.stl_syntax.specs.Trace.{Header};
 ghost use Rattle.stl_syntax.specs.declared.node.Node.{Node as ANode};
 ghost use Rattle.atom_lines.specs.Binding.{Binding, IsBound};
@@ -120,6 +120,20 @@ fn begin_at(edges: &mut Edges, before: &Option<Row>, now: u32)
     }
 }
 
+/// Keeps a row in the place of the last one.
+#[inline(always)]
+fn keep_row(last: &mut Option<Row>, row: &Row) -> Result<(), Memory>
+    ensures kept { OnOk result (last.new ≡ Some row.now) }
+    ensures memory { OnErr result (last.new ≡ last.old) }
+{
+    if let Some(kept) = last {
+        kept.take_over(row);
+        return Ok(());
+    }
+    *last = Some(row.copy()?);
+    Ok(())
+}
+
 /// Every node goes on by a row, after the one before.
 fn take_row_all(
     alloc: Global,
@@ -222,10 +236,6 @@ impl RobustNet {
         if self.closed {
             return Err(RobustFault::Closed);
         }
-        let Ok(kept) = row.copy() else {
-            self.stopped = true;
-            return Err(RobustFault::Memory);
-        };
         let now = row.time();
         begin_at(&mut self.edges, &self.last, now);
         match take_row_all(
@@ -237,7 +247,10 @@ impl RobustNet {
             row,
         ) {
             Ok(()) => {
-                self.last = Some(kept);
+                let Ok(()) = keep_row(&mut self.last, row) else {
+                    self.stopped = true;
+                    return Err(RobustFault::Memory);
+                };
                 Ok(())
             }
             Err(fault) => {

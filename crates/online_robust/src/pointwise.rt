@@ -53,11 +53,13 @@ fn up_to(edges: &mut Edges, of: u32, gap: &MarginLine, t: &Frac) -> Margin
 {
     match gap.end().cmp(t) {
         Ordering::Equal => {
-            let _ = edges.take(of);
-            let Some(point) = edges.take(of) else {
+            edges.skip(of);
+            let Some(point) = edges.ahead(of) else {
                 unreachable!()
             };
-            point.margin()
+            let value = point.margin();
+            edges.skip(of);
+            value
         }
         _ => gap.margin(),
     }

@@ -85,8 +85,12 @@ pub(crate) fn enter(edges: &mut Edges, of: u32, none: Margin) -> Rim
         (λ line. (result ≡ gap_that line) × (edges.new.edges ≡ with_edge edges.old of (with_read (edge_at edges.old of) line))
         × (edges.new.start ≡ edges.old.start)) }
 {
-    match edges.next(of) {
-        Some(_) => gap_of(&edges.pass(of)),
+    match edges.unread(of) {
+        Some(line) => {
+            let gap = gap_of(line);
+            edges.pass(of);
+            gap
+        }
         None => Rim::nothing(none, None),
     }
 }
@@ -96,8 +100,8 @@ fn front(edges: &Edges, of: u32, none: Margin) -> Rim
     requires { of < length edges.now.edges }
     ensures { MatchOption (slice_get (held_at edges.now of) 0) (result ≡ no_gap none) (λ line. result ≡ gap_that line) }
 {
-    match edges.first(of) {
-        Some(line) => gap_of(&line),
+    match edges.ahead(of) {
+        Some(line) => gap_of(line),
         None => Rim::nothing(none, None),
     }
 }
@@ -298,9 +302,12 @@ impl Sweep {
         ensures still { OnOk result (fault.new ≡ None) }
         ensures wide { (x : Scope) → IsAt x self.old edges.old → IsHigh x self.old → OnErr result (IsUnfixedHigh x self.old (told_by fault.new)) }
     {
-        let line = edges.pass(self.window.of);
+        let Some(line) = edges.unread(self.window.of) else {
+            unreachable!()
+        };
         let u = line.end();
         let point = line.margin();
+        edges.pass(self.window.of);
         let next = enter(edges, self.window.of, self.none);
         if self.is_plain(&self.place.high.shape, &point, &next.shape, &u) {
             self.place.high = next;
@@ -328,7 +335,7 @@ impl Sweep {
             (edges.new ≡ edges.old) }
     {
         if self.place.low.stands {
-            let _ = edges.take(self.window.of);
+            edges.skip(self.window.of);
         }
     }
 
@@ -345,11 +352,12 @@ impl Sweep {
         ensures fewer { OnOk result (lines_left (edge_at edges.new self.old.window.of) < lines_left (edge_at edges.old self.old.window.of)) }
     {
         self.drop_gap(edges);
-        let Some(line) = edges.take(self.window.of) else {
+        let Some(line) = edges.ahead(self.window.of) else {
             unreachable!()
         };
         let u = line.end();
         let point = line.margin();
+        edges.skip(self.window.of);
         let next = front(edges, self.window.of, self.none);
         if self.is_plain(&self.place.low.shape, &point, &next.shape, &u) {
             self.place.low = next;

@@ -53,8 +53,8 @@ returns-in-Err-clause-wide c nodes header past given stands =
     c.time-now.ensures c.begin_at.ensures in
     fault_is_wide pass c.in-Err.fault (c.in-Err.ensures.fault pass may)
 
-pub invariant_of-self-in-Ok-take_row_all : goal.invariant_of-self-in-Ok-take_row_all
-invariant_of-self-in-Ok-take_row_all c running =
+pub invariant_of-self : goal.invariant_of-self
+invariant_of-self c running =
     let (nodes, header, past, given, st) = c.self.invariant c.if-self.false in
     let r = c.args.row.now in
     let width = subst (λ (p : Parts). length r.values ≡ p.bound.width) (sym c.self.view_is) c.requires.width in
@@ -69,12 +69,12 @@ invariant_of-self-in-Ok-take_row_all c running =
       with_row past r,
       given,
       row_stands nodes header net past given st r width later small c.if-self-2.false c.take_row_all.new.edges
-          c.take_row_all.new.stations.items c.in-Ok.kept c.in-Ok.ensures
-          (c.in-Ok-take_row_all.ensures.gone pass may),
+          c.take_row_all.new.stations.items c.keep_row.new.last c.in-Ok-keep_row.ensures.kept
+          (c.in-Ok.ensures.gone pass may),
     )
 
-pub returns-in-Ok-take_row_all-clause-stands : goal.returns-in-Ok-take_row_all-clause-stands
-returns-in-Ok-take_row_all-clause-stands c nodes header past given stands =
+pub returns-in-Ok-keep_row-clause-stands : goal.returns-in-Ok-keep_row-clause-stands
+returns-in-Ok-keep_row-clause-stands c nodes header past given stands =
     let st = subst (λ (p : Parts). StandsFor nodes header p past given) (sym c.self.view_is) stands in
     let r = c.args.row.now in
     let width = subst (λ (p : Parts). length r.values ≡ p.bound.width) (sym c.self.view_is) c.requires.width in
@@ -85,11 +85,14 @@ returns-in-Ok-take_row_all-clause-stands c nodes header past given stands =
     let may = row_may nodes header net past given st r width later small c.if-self-2.false c.begin_at.new.edges c.time-now.result
     c.time-now.ensures c.begin_at.ensures in
     row_stands nodes header net past given st r width later small c.if-self-2.false c.take_row_all.new.edges
-    c.take_row_all.new.stations.items c.in-Ok.kept c.in-Ok.ensures
-    (c.in-Ok-take_row_all.ensures.gone pass may)
+    c.take_row_all.new.stations.items c.keep_row.new.last c.in-Ok-keep_row.ensures.kept
+    (c.in-Ok.ensures.gone pass may)
 
-pub returns-in-Ok-take_row_all-clause-nodes : goal.returns-in-Ok-take_row_all-clause-nodes
-returns-in-Ok-take_row_all-clause-nodes c = c.take_row_all.ensures.nodes ∙ ap (λ (p : Parts). length p.stations) c.self.view_is
+pub returns-in-Ok-keep_row-clause-nodes : goal.returns-in-Ok-keep_row-clause-nodes
+returns-in-Ok-keep_row-clause-nodes c = c.take_row_all.ensures.nodes ∙ ap (λ (p : Parts). length p.stations) c.self.view_is
 
 pub returns-in-Err-clause-nodes : goal.returns-in-Err-clause-nodes
 returns-in-Err-clause-nodes c = c.take_row_all.ensures.nodes ∙ ap (λ (p : Parts). length p.stations) c.self.view_is
+
+pub returns-in_default-clause-nodes : goal.returns-in_default-clause-nodes
+returns-in_default-clause-nodes c = c.take_row_all.ensures.nodes ∙ ap (λ (p : Parts). length p.stations) c.self.view_is
