@@ -1,22 +1,23 @@
 -- A network stands for a past: a new one for no rows, and one that took a row, or the end, for the past with it.
-use Rattle.std.proofs.Common.{◌≡◌, ◌≢◌, inl, inr, ℕ, suc, zero, ◌-◌, ◌^◌, ◌<◌, ◌≤◌, true, false, List, [], ◌∷◌, ◌++◌}
+use Rattle.std.proofs.Common.{◌≡◌, ◌≢◌, ◌⊎◌, inl, inr, ℕ, ℤ, suc, zero, ◌-◌, ◌^◌, ◌<◌, ◌≤◌, true, false, List, [], ◌∷◌, ◌++◌}
 use Rattle.std.proofs.Common.{length, drop, refl, sym, ap, subst, ◌∙◌, arith, append-nil, Option, Some, None, get_or}
-use Rattle.std.specs.Prelude.{IfSome, map, option_map, replicate, slice_get}
-use Rattle.std.proofs.lemmas.Bool.{false≢true}
+use Rattle.std.specs.Prelude.{◌==◌, Bool, IfSome, map, option_map, replicate, slice_get}
+use Rattle.std.proofs.lemmas.Bool.{eq-eqb, false≢true}
 use Rattle.stl_syntax.specs.Trace.{AreRowsAfter, Header, Row, IsTrace, first_time, last_time}
-use Rattle.stl_syntax.specs.Formula.{Formula}
+use Rattle.stl_syntax.specs.Formula.{Formula, subformula}
 use Rattle.stl_syntax.specs.WellFormed.{IsWellFormed}
 use Rattle.stl_syntax.specs.declared.node.Node.{Node}
 use Rattle.stl_syntax.specs.declared.node.Node.TheVariants.{Const, Atom as Leaf, Not, And, Or, Implies, Until, Eventually, Always, Since, Once, Historically}
 use Rattle.atom_lines.specs.Binding.{Binding, IsBound}
-use Rattle.online_nodes.specs.MarginEdges.{IsMarginEdge, IsMarginRootEdge}
+use Rattle.online_nodes.specs.MarginEdges.{AreEmittedParts, IsMarginEdge, IsMarginRootEdge}
+use Rattle.online_nodes.specs.Network.{reach_back}
 use Rattle.online_nodes.specs.StreamedWide.{IsUnstreamed}
 use Rattle.online_nodes.proofs.ReadersLaw.{has_reader}
 use Rattle.online_robust.specs.Held.{Edge, Held, edge_at, held_at, no_edge, with_edge, without}
 use Rattle.online_robust.specs.Firsts.{AreFirstStations, IsFirstWork}
 use Rattle.online_robust.specs.Standing.{Stands}
-use Rattle.online_robust.specs.Steps.{seen_by}
-use Rattle.online_robust.specs.Pasts.{Past, with_row, with_end, part_of, Gave, IsWork}
+use Rattle.online_robust.specs.Steps.{back_of, seen_by}
+use Rattle.online_robust.specs.Pasts.{Past, with_row, with_end, part_of, shown_of, Gave, IsRest, IsWork}
 use Rattle.online_robust.specs.Moving.{last_row_of, last_row_after}
 use Rattle.online_robust.specs.Nets.{begun, first_row_of, no_past, AreRowsSoFar, CanGoByEnd, CanGoByRow, HasGone, IsFault}
 use Rattle.online_robust.specs.Nets.{IsGoFault, IsHeldBy, IsNear, IsTaken, IsTimely, IsWideIn, Keeps, Parts, Passing}
@@ -34,6 +35,7 @@ use Rattle.online_robust.specs.declared.station.Work.{Work}
 use Rattle.online_robust.specs.declared.station.Work.TheVariants as W
 use Rattle.online_robust.proofs.Emitting.{last_appended}
 use Rattle.online_robust.proofs.EdgeTouches.{margin_edge}
+use Rattle.online_robust.proofs.Rests.{drop_none}
 use Rattle.online_robust.proofs.Taking.{first_and_rest, held_none, line_timely, line_told, shows_next, shows_none, shows_same}
 
 -- ---- a new network
@@ -158,6 +160,39 @@ drop_given (x ∷ given) held = drop_given given held
 length_map : (xs : List MarginLine) → length xs ≡ length (map part_of xs)
 length_map [] = refl
 length_map (x ∷ xs) = ap suc (length_map xs)
+
+-- two numbers are one, or they are not
+same_or_not : (p j : ℕ) → (p ≡ j) ⊎ (p ≢ j)
+same_or_not p j = by_test (p == j) refl
+  where
+    by_test : (t : Bool) → (p == j) ≡ t → (p ≡ j) ⊎ (p ≢ j)
+    by_test true e = inl (grind (arith, e))
+    by_test false e = inr (λ x. absurd (let y = eq-eqb p j x in cc))
+
+-- no parts are those of no lines
+no_lines : (lines : List MarginLine) → map part_of lines ≡ [] → lines ≡ []
+no_lines [] e = refl
+no_lines (x ∷ lines) e = absurd (let l = ap length e in omega (arith, l))
+
+-- what follows in no lines is none
+none_after : (given held : List MarginLine) → given ++ held ≡ [] → held ≡ []
+none_after [] held e = e
+none_after (x ∷ given) held e = absurd (let l = ap length e in omega (arith, l))
+
+-- nothing is left of no lines
+none_left : (back : Option ℤ) (lines rest : List MarginLine) → lines ≡ [] → IsRest back lines rest → rest ≡ []
+none_left None lines rest e is = is ∙ e
+none_left (Some limit) lines rest e is = is.1 ∙ drop_none is.0 lines e
+
+-- before the first row no node gave anything out
+nothing_given : (nodes : List Node) (header : Header) (past : Past) (i : ℕ) (lines : List MarginLine) → (past.ended ≡ true → past.rows ≢ []) → past.rows ≡ []
+    → Gave nodes header past i lines → lines ≡ []
+nothing_given nodes header past i lines some none gave =
+    no_lines lines (by_end past.ended refl (subst (λ rows. AreEmittedParts (subformula nodes i) header rows past.ended (map part_of lines)) none gave.parts))
+  where
+    by_end : (ended : Bool) → past.ended ≡ ended → AreEmittedParts (subformula nodes i) header [] ended (map part_of lines) → map part_of lines ≡ []
+    by_end true e parts = absurd (some e none)
+    by_end false e parts = parts
 
 is_trace : (header : Header) (rows : List Row) → AreRowsSoFar header rows → rows ≢ [] → IsTrace (record { header = header; rows = rows })
 is_trace header [] are some = absurd (some refl)
@@ -388,9 +423,23 @@ module _ (nodes : List Node) (header : Header) (net : Parts) (past : Past) (give
       near (Point at v) h = within (value at) h
       near (Gap from to p) h = (within (value from) h.0, within (value to) h.1)
 
+  -- before the first row an edge holds nothing
+  nothing_held : (i : ℕ) → i < length nodes → past.rows ≡ [] → held_at net.edges i ≡ []
+  nothing_held i within none = by_place (same_or_not i last_node)
+    where
+      by_place : (i ≡ last_node) ⊎ (i ≢ last_node) → held_at net.edges i ≡ []
+      by_place (inl same) = ap (held_at net.edges) same ∙ none_after given (held_at net.edges last_node)
+          (nothing_given nodes header past last_node (given ++ held_at net.edges last_node) keeping.some none stands.shows.root)
+      by_place (inr apart) =
+          let reader = has_reader nodes keeping.streamed.one_root i within apart in
+          let (lines, gave, rest) = stands.shows.held i reader.reader reader.node reader.left reader.at reader.reads in
+          none_left (back_of (first_time past.rows) (shown_of nodes past reader.reader) (reach_back reader.node reader.left)) lines (held_at net.edges i)
+          (nothing_given nodes header past i lines keeping.some none gave) rest
+
   -- what an edge holds
   pub held_by : (i : ℕ) → i < length net.stations → IsHeldBy nodes header past (length given) i (length (held_at net.edges i))
-  held_by i low = (map part_of (held_at net.edges i), length_map (held_at net.edges i), others, own)
+  held_by i low =
+      (map part_of (held_at net.edges i), length_map (held_at net.edges i), λ none. ap (map part_of) (nothing_held i within none), others, own)
     where
       within : i < length nodes
       within = let count = stands.shows.stations in omega (arith, low, count)

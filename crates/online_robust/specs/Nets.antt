@@ -203,9 +203,11 @@ abbrev pub begun : Held → Option Row → ℕ → Held
 begun e None now = record e { start = Some now }
 begun e (Some first) now = e
 
--- the edge of a node holds so many parts: those of what it gave out that its reader still needs, and the root's those that were not taken
+-- the edge of a node holds so many parts: none before the first row; then those of what it gave out that its reader still needs, and the
+-- root's those that were not taken
 abbrev pub IsHeldBy : List Node → Header → Past → ℕ → ℕ → ℕ → Type 0
 IsHeldBy nodes header past taken node count =
     (held : List Part) × (count ≡ length held)
+    × (past.rows ≡ [] → held ≡ [])
     × (node ≢ length nodes - 1 → past.rows ≢ [] → IsMarginEdge nodes header past.rows past.ended node held)
     × (node ≡ length nodes - 1 → IsMarginRootEdge nodes header past.rows past.ended taken held)
