@@ -46,12 +46,25 @@ use Rattle.online_nodes.proofs.StepFacts.{just_after}
 use Rattle.rational.proofs.PlaceLemmas.{same_places, upto_of_before, upto_same}
 use Rattle.online_nodes.proofs.Writing.{same_itself}
 use Rattle.std.specs.Prelude.{MatchBool}
+use Rattle.std.proofs.lemmas.Option.{same_Some, none-some}
 
 -- an item behind others
 get_behind : {X : Type 0} (xs ys : List X) (k : ℕ) → slice_get (xs ++ ys) (length xs + k) ≡ slice_get ys k
 get_behind [] ys k = ap (slice_get ys) (let e : 0 + k ≡ k = omega arith in e)
 get_behind (x ∷ xs) ys k =
     ap (slice_get (x ∷ (xs ++ ys))) (let e : suc (length xs) + k ≡ suc (length xs + k) = omega arith in e) ∙ get_behind xs ys k
+
+suc_below : (k n : ℕ) → k < n → suc k < suc n
+suc_below k n l = omega arith
+
+some_below : (n : ℕ) → 0 < suc n
+some_below n = omega arith
+
+behind_below : (k a b : ℕ) → k < a - b → b + k < a
+behind_below k a b l = omega arith
+
+below_suc : (a n : ℕ) → a ≡ suc n → 0 < a
+below_suc a n e = omega (arith, e)
 
 -- a verdict that ends by a number ends no later than just after it
 pub ends_by_number : (f : ℤ) (v : Verdict) → value v.on.to ≤ʳ whole f → AtMost (ends (interval v.on)) (just_after f)
@@ -74,7 +87,7 @@ module _ (P : Truths) (f : ℤ) where
   read_after_drop from [] stop (suc n) h ended = ((λ t u. u), inl refl)
   read_after_drop from (v ∷ vs) stop zero h ended = ((λ t u. u), inl refl)
   read_after_drop from (v ∷ vs) stop (suc n) (s, b, all, rest) ended =
-      by_rest (read_after_drop (ends (interval v.on)) vs stop n rest (λ k l. ended (suc k) (omega arith)))
+      by_rest (read_after_drop (ends (interval v.on)) vs stop n rest (λ k l. ended (suc k) (suc_below k n l)))
     where
       next : Same (ends (interval v.on)) (first_place vs stop)
       next = (tells_first P (ends (interval v.on)) vs stop rest).1
@@ -87,7 +100,7 @@ module _ (P : Truths) (f : ℤ) where
         (λ t u. later t (upto_same (ends (interval v.on)) (first_place vs stop) t next
             (upto_of_before from (ends (interval v.on)) t b (upto_same (begins (interval v.on)) from t (same_places s) u)))),
         inr (elim which [
-          | inl e ↦ λ t u. ends_by_number f v (ended 0 (omega arith)) t
+          | inl e ↦ λ t u. ends_by_number f v (ended 0 (some_below n)) t
               (upto_same (first_place vs stop) (ends (interval v.on)) t (same_places next)
               (subst (λ l. Upto (first_place l stop) t) e u))
           | inr h ↦ h
@@ -104,9 +117,9 @@ module _ (P : Truths) where
   -- where it begins comes before its first verdict's end
   pub tells_some : (vs : List Verdict) (d : Place) (v : Verdict) → Tells P (first_place vs d) vs d → slice_get vs 0 ≡ Some v
       → Before (first_place vs d) (ends (interval v.on))
-  tells_some [] d v h e = absurd (let y : None ≡ Some v = e in cc)
+  tells_some [] d v h e = absurd (none-some v e)
   tells_some (w ∷ vs) d v h e =
-      let is : w ≡ v = (let y : Some w ≡ Some v = e in cc) in
+      let is : w ≡ v = same_Some w v e in
       subst (λ (y : Verdict). Before (begins (interval w.on)) (ends (interval y.on))) is h.1
 
 -- where the first one ends later, none is dropped
@@ -115,7 +128,7 @@ pub none_dropped : (f : ℤ) (vs : List Verdict) (n : ℕ) → ((k : ℕ) → k 
 none_dropped f [] zero ended later = refl
 none_dropped f [] (suc n) ended later = refl
 none_dropped f (v ∷ vs) zero ended later = refl
-none_dropped f (v ∷ vs) (suc n) ended later = absurd (not_lt_of_le (ended 0 (omega arith)) (later v refl))
+none_dropped f (v ∷ vs) (suc n) ended later = absurd (not_lt_of_le (ended 0 (some_below n)) (later v refl))
 
 module _ {f : ℤ} {old new : Edge} (dropped : IsDroppedBy f old new) where
   -- how many of those that were not read are gone
@@ -134,7 +147,7 @@ module _ {f : ℤ} {old new : Edge} (dropped : IsDroppedBy f old new) where
   pub gone_end : (k : ℕ) → k < gone → IfSome (slice_get old.fresh k) (λ v. value v.on.to ≤ʳ whole f)
   gone_end k l =
       subst (λ (o : Option Verdict). IfSome o (λ v. value v.on.to ≤ʳ whole f)) (get_behind old.seen old.fresh k)
-      (dropped.ended (length old.seen + k) (omega arith))
+      (dropped.ended (length old.seen + k) (behind_below k dropped.count (length old.seen) l))
 
   -- where the reader reads on: as before, or no later than just after the number
   pub dropped_read : (P : Truths) (from stop : Place) → Tells P from old.fresh stop
@@ -174,7 +187,7 @@ module _ {f : ℤ} {old new : Edge} (dropped : IsDroppedBy f old new) where
               ⊎ ((v : Verdict) × (slice_get old.fresh 0 ≡ Some v) × (value v.on.to ≤ʳ whole f) × AtMost (first_place new.fresh stop) (just_after f))
           by_gone zero z = inl (dropped_fresh ∙ ap (λ n. drop n old.fresh) z)
           by_gone (suc n) z =
-              inr (v, first, subst (λ (o : Option Verdict). IfSome o (λ v. value v.on.to ≤ʳ whole f)) first (gone_end 0 (omega (arith, z))), by)
+              inr (v, first, subst (λ (o : Option Verdict). IfSome o (λ v. value v.on.to ≤ʳ whole f)) first (gone_end 0 (below_suc gone n z)), by)
 
   -- nothing that was not read is gone, where its first ends later
   pub dropped_none : ((v : Verdict) → slice_get old.fresh 0 ≡ Some v → whole f <ʳ value v.on.to) → new.fresh ≡ old.fresh

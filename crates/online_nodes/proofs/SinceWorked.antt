@@ -3,6 +3,8 @@ use Rattle.std.proofs.Common.{◌≡◌, inl, inr, refl, sym, ap, subst, ◌∙�
 use Rattle.std.proofs.Common.{Option, Some, None, List, [], ◌∷◌, length, slice_get, ℤ, pos, ◌+ℤ◌, ◌≤ℤ◌, arith}
 use Rattle.std.specs.Prelude.{◌*◌, ◌&&◌, int_lt, MatchBool}
 use Rattle.std.proofs.lemmas.Int.{ints}
+use Rattle.std.proofs.lemmas.Option.{same_Some, none-some}
+use Rattle.std.proofs.lemmas.Bool.{false≢true}
 use Rattle.rational.specs.Rational.{Rational, ◌≤ʳ◌, ◌<ʳ◌, whole}
 use Rattle.rational.proofs.Order.{le_of_lt, le_trans, lt_of_lt_of_le}
 use Rattle.rational.proofs.Shift.{le_whole}
@@ -55,6 +57,7 @@ use Rattle.online_nodes.specs.Untils.{Reads}
 use Rattle.online_nodes.specs.Working.{HasWorked}
 use Rattle.online_nodes.specs.Written.{waiting}
 use Rattle.frac128.specs.declared.cut.Cut.{Cut}
+use Rattle.online_nodes.specs.declared.kind.Kind.{Kind}
 use Rattle.online_nodes.specs.declared.kind.Kind.TheVariants.{Since as SinceOf}
 use Rattle.online_nodes.specs.declared.operator.Operator.{Operator}
 use Rattle.online_nodes.specs.declared.since.Wrote.{Wrote}
@@ -126,6 +129,14 @@ and_false : (b : Bool) → (b && false) ≡ false
 and_false true = refl
 and_false false = refl
 
+-- whether a kind is that of `since`
+abbrev is_since : Kind → Bool
+is_since (SinceOf x) = true
+is_since _ = false
+
+same_since : (x y : SinceWindow) → SinceOf x ≡ SinceOf y → x ≡ y
+same_since x y e = cc
+
 module _ (at : ℕ → Subformula) (i : ℕ) (tr : Trace) (to : Place) where
   since_has : (m n : Subformula) (p q a b : ℕ) → IsLike m n tr to → a ≤ b → b ≤ 8589934592
       → IsSinceOf (Truth m tr) (Truth (at p) tr) (Counted true (at q) tr) (low_place (behind p a (Some b) true true true))
@@ -157,19 +168,19 @@ module _ (at : ℕ → Subformula) (i : ℕ) (tr : Trace) (to : Place) where
     pub since_node : (n : Node) (s : SinceWindow) → kind_of n ≡ SinceOf s → HasBounds n → own_reach n ≤ 4294967295
         → HasSince (tree_of at i n) (at s.window.of) (at s.right) tr s to
     since_node (Since p q a b) s e h r =
-        let same : record { window = behind p a b true true true; right = q } ≡ s = cc in
+        let same : record { window = behind p a b true true true; right = q } ≡ s = same_since _ s e in
         subst (λ (v : SinceWindow). HasSince (tree_of at i (Since p q a b)) (at v.window.of) (at v.right) tr v to) same (any_since p q a b h r)
-    since_node (Const c) s e h r = absurd (let x : kind_of (Const c) ≡ SinceOf s = e in cc)
-    since_node (Leaf l) s e h r = absurd (let x : kind_of (Leaf l) ≡ SinceOf s = e in cc)
-    since_node (Not q) s e h r = absurd (let x : kind_of (Not q) ≡ SinceOf s = e in cc)
-    since_node (And p q) s e h r = absurd (let x : kind_of (And p q) ≡ SinceOf s = e in cc)
-    since_node (Or p q) s e h r = absurd (let x : kind_of (Or p q) ≡ SinceOf s = e in cc)
-    since_node (Implies p q) s e h r = absurd (let x : kind_of (Implies p q) ≡ SinceOf s = e in cc)
-    since_node (Until p q c k) s e h r = absurd (let x : kind_of (Until p q c k) ≡ SinceOf s = e in cc)
-    since_node (Eventually p a b x y) s e h r = absurd (let z : kind_of (Eventually p a b x y) ≡ SinceOf s = e in cc)
-    since_node (Always p a b x y) s e h r = absurd (let z : kind_of (Always p a b x y) ≡ SinceOf s = e in cc)
-    since_node (Once p a b x y) s e h r = absurd (let z : kind_of (Once p a b x y) ≡ SinceOf s = e in cc)
-    since_node (Historically p a b x y) s e h r = absurd (let z : kind_of (Historically p a b x y) ≡ SinceOf s = e in cc)
+    since_node (Const c) s e h r = absurd (false≢true (ap is_since e))
+    since_node (Leaf l) s e h r = absurd (false≢true (ap is_since e))
+    since_node (Not q) s e h r = absurd (false≢true (ap is_since e))
+    since_node (And p q) s e h r = absurd (false≢true (ap is_since e))
+    since_node (Or p q) s e h r = absurd (false≢true (ap is_since e))
+    since_node (Implies p q) s e h r = absurd (false≢true (ap is_since e))
+    since_node (Until p q c k) s e h r = absurd (false≢true (ap is_since e))
+    since_node (Eventually p a b x y) s e h r = absurd (false≢true (ap is_since e))
+    since_node (Always p a b x y) s e h r = absurd (false≢true (ap is_since e))
+    since_node (Once p a b x y) s e h r = absurd (false≢true (ap is_since e))
+    since_node (Historically p a b x y) s e h r = absurd (false≢true (ap is_since e))
 
 -- a place that is not later, before another one
 pub at_most_before : (c d e : Place) → AtMost c d → Before d e → Before c e
@@ -316,9 +327,9 @@ module _ {x : Situation} {op : Operator} {old : Held} {work : Outcome} (d : IsDu
         where
           by_list : (vs : List Verdict) → slice_get vs 0 ≡ Some v → AtMost (first_place vs (front_place old s.window.of)) (place work.out.at)
               → AtMost (begins (interval v.on)) (place work.out.at)
-          by_list [] e h = absurd (let y : None ≡ Some v = e in cc)
+          by_list [] e h = absurd (none-some v e)
           by_list (w ∷ vs) e h =
-              let is : w ≡ v = (let y : Some w ≡ Some v = e in cc) in
+              let is : w ≡ v = same_Some w v e in
               subst (λ (y : Verdict). AtMost (begins (interval y.on)) (place work.out.at)) is h
 
   abbrev pub begun_course : Wrote

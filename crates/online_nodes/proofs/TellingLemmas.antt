@@ -2,6 +2,7 @@
 use Rattle.std.proofs.Common.{◌≡◌, ◌⊎◌, inl, inr, sym, ap, subst, ◌∙◌, ℕ, zero, suc, Bool, true}
 use Rattle.std.proofs.Common.{false, Some, None, List, [], ◌∷◌, ◌++◌, slice_get, ℤ, pos, ◌≤ℤ◌}
 use Rattle.std.specs.Prelude.{MatchBool}
+use Rattle.std.proofs.lemmas.Option.{same_Some, none-some}
 use Rattle.rational.specs.Rational.{Rational, ◌≤ʳ◌, ◌<ʳ◌, whole}
 use Rattle.rational.specs.Time.{Within}
 use Rattle.rational.proofs.Order.{le_or_lt, le_of_lt, le_of_same, le_trans, left_of_middle, not_lt_of_le, right_of_middle}
@@ -74,9 +75,9 @@ module _ (P : Truths) where
   -- each verdict lies between, and is not empty
   pub tells_between : (c : Place) (vs : List Verdict) (d : Place) → Tells P c vs d → (k : ℕ) (v : Verdict) → slice_get vs k ≡ Some v
       → AtMost c (begins (interval v.on)) × AtMost (ends (interval v.on)) d × Before (begins (interval v.on)) (ends (interval v.on))
-  tells_between c [] d h k v e = absurd (let x : None ≡ Some v = e in cc)
+  tells_between c [] d h k v e = absurd (none-some v e)
   tells_between c (w ∷ vs) d (s, b, all, rest) zero v e =
-      let is : w ≡ v = (let x : Some w ≡ Some v = e in cc) in
+      let is : w ≡ v = same_Some w v e in
       subst (λ (x : Verdict). AtMost c (begins (interval x.on)) × AtMost (ends (interval x.on)) d × Before (begins (interval x.on)) (ends
       (interval x.on))) is (
         (λ t u. upto_same c (begins (interval w.on)) t s u),
@@ -86,6 +87,9 @@ module _ (P : Truths) where
   tells_between c (w ∷ vs) d (s, b, all, rest) (suc k) v e =
       let more = tells_between (ends (interval w.on)) vs d rest k v e in
       ((λ t u. more.0 t (upto_of_before c (ends (interval w.on)) t b u)), more.1, more.2)
+
+not_empty : (v : Verdict) (vs : List Verdict) → v ∷ vs ≡ [] → ⊥
+not_empty v vs e = cc
 
 -- an input's edge: what it holds tells the input up to where that is answered; it lies within the rows, where there is some
 pub record IsTelling (p : Subformula) (tr : Trace) (first now : ℕ) (x : Edge) : Type 0 where
@@ -110,7 +114,7 @@ module _ {p : Subformula} {tr : Trace} {first now : ℕ} {x : Edge} (telling : I
     where
       by_seen : (xs : List Verdict) → xs ++ x.fresh ≡ [] → x.fresh ≡ []
       by_seen [] e = e
-      by_seen (v ∷ xs) e = absurd (let y : v ∷ (xs ++ x.fresh) ≡ [] = e in cc)
+      by_seen (v ∷ xs) e = absurd (not_empty v (xs ++ x.fresh) e)
 
   -- within the rows
   pub fresh_within : (k : ℕ) (v : Verdict) → slice_get x.fresh k ≡ Some v
@@ -121,7 +125,7 @@ module _ {p : Subformula} {tr : Trace} {first now : ℕ} {x : Edge} (telling : I
           ⊎ (AtMost (record { at = whole (pos first); after = false }) telling.from × (f : ℤ) × (x.number ≡ Some f) × (f ≤ℤ pos now))
           → (whole (pos first) ≤ʳ value v.on.from) × (value v.on.from ≤ʳ value v.on.to) × (value v.on.to ≤ʳ whole (pos now))
       by_late (inl none) =
-          absurd (let y : None ≡ Some v = sym (ap (λ l. slice_get l k) (fresh_none none)) ∙ e in cc)
+          absurd (none-some v (sym (ap (λ l. slice_get l k) (fresh_none none)) ∙ e))
       by_late (inr (low, f, number, high)) =
           let between = tells_between (Truth p tr) fresh_from.0 x.fresh (place_of x.number) fresh_from.2 k v e in
           let to : (place_of x.number).at ≡ whole f = ap (λ o. (place_of o).at) number in (

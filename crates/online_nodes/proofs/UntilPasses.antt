@@ -1,5 +1,6 @@
 -- Until where its left input holds: what is known once the verdict that ends first was read.
 use Rattle.std.proofs.Common.{◌≡◌, ◌≢◌, ◌⊎◌, inl, inr, true, false, List, [], ◌∷◌, drop, Some, slice_get, refl, sym, ap, subst, ◌∙◌}
+use Rattle.std.proofs.lemmas.Option.{same_Some, none-some}
 use Rattle.rational.specs.Rational.{Rational}
 use Rattle.rational.proofs.Order.{same_sym}
 use Rattle.frac128.specs.Spans.{interval}
@@ -93,7 +94,7 @@ module _ {x : Stretch} {u : Until} {written : List Verdict} {s : Sweep} {r : Rea
         tight = tight;
         ahead = λ z is_first.
             let same : Some z ≡ Some v = sym (ap (λ f. slice_get f 0) (sym left_now) ∙ is_first) ∙ first_left in
-            let is : z ≡ v = cc in
+            let is : z ≡ v = same_Some z v same in
             subst (λ (q : Verdict). Before read (ends (interval q.on))) (sym is) ahead;
       }
 
@@ -121,9 +122,9 @@ module _ {x : Stretch} {u : Until} {written : List Verdict} {s : Sweep} {r : Rea
 -- what an input tells lies before where it is answered
 pub told_before : (P : Truths) (c d : Place) (fresh : List Verdict) (v : Verdict) → Tells P c fresh d → slice_get fresh 0 ≡ Some v
     → AtMost (ends (interval v.on)) d
-told_before P c d [] v tells first = cc
+told_before P c d [] v tells first = absurd (none-some v first)
 told_before P c d (w ∷ vs) v tells first =
-    let is : w ≡ v = let both : Some w ≡ Some v = first in cc in
+    let is : w ≡ v = same_Some w v first in
     λ t h. rest (ends (interval w.on)) vs tells.3 t (subst (λ (q : Verdict). Upto (ends (interval q.on)) t) (sym is) h)
   where
     rest : (e : Place) (ws : List Verdict) → Tells P e ws d → (t : Rational) → Upto e t → Upto d t

@@ -1,5 +1,6 @@
 -- The turns of until.
 use Rattle.std.proofs.Common.{◌≡◌, ◌≢◌, inl, inr, ◌<◌, Bool, true, false, List, [], ◌∷◌, drop, length, Some, slice_get, refl, sym, ap, subst, ◌∙◌, arith}
+use Rattle.std.proofs.lemmas.Option.{same_Some, none-some}
 use Rattle.rational.specs.Rational.{Rational}
 use Rattle.frac128.specs.Spans.{interval}
 use Rattle.stl_syntax.specs.Truth.{Truth}
@@ -26,9 +27,9 @@ use Rattle.online_nodes.proofs.WorkLemmas.{passed-other, first_and_rest, worked_
 -- the next verdict of a list that tells goes on from where it begins
 pub goes_on_from : (P : Truths) (c d : Place) (fresh : List Verdict) (v : Verdict) → Tells P c fresh d → slice_get fresh 0 ≡ Some v
     → Before c (ends (interval v.on))
-goes_on_from P c d [] v tells first = cc
+goes_on_from P c d [] v tells first = absurd (none-some v first)
 goes_on_from P c d (w ∷ vs) v tells first =
-    let is : w ≡ v = let both : Some w ≡ Some v = first in cc in
+    let is : w ≡ v = same_Some w v first in
     subst (λ (x : Verdict). Before c (ends (interval x.on))) is tells.1
 
 -- what was said twice, and up to where

@@ -3,6 +3,8 @@ use Rattle.std.proofs.Common.{◌≡◌, inl, inr, refl, sym, ap, subst, ◌∙�
 use Rattle.std.proofs.Common.{Option, Some, None, List, [], ◌∷◌, length, slice_get, ℤ, pos, neg_ℤ, ◌≤ℤ◌, arith}
 use Rattle.std.specs.Prelude.{◌*◌, ◌&&◌, cond, int_lt}
 use Rattle.std.proofs.lemmas.Int.{ints}
+use Rattle.std.proofs.lemmas.Option.{same_Some, none-some}
+use Rattle.std.proofs.lemmas.Bool.{false≢true}
 use Rattle.rational.specs.Rational.{Rational, ◌≤ʳ◌, ◌<ʳ◌, whole}
 use Rattle.rational.proofs.Order.{le_of_lt, le_trans, not_lt_of_le}
 use Rattle.rational.proofs.Shift.{le_whole}
@@ -55,6 +57,7 @@ use Rattle.online_nodes.specs.Untils.{HasUntilTold, IsTurned, IsUntil, Reads, St
 use Rattle.online_nodes.specs.Working.{HasWorked}
 use Rattle.online_nodes.specs.Written.{waiting}
 use Rattle.frac128.specs.declared.cut.Cut.{Cut}
+use Rattle.online_nodes.specs.declared.kind.Kind.{Kind}
 use Rattle.online_nodes.specs.declared.kind.Kind.TheVariants.{Until as UntilOf}
 use Rattle.online_nodes.specs.declared.operator.Operator.{Operator}
 use Rattle.online_nodes.specs.declared.until.Until.{Until as UntilWindow}
@@ -94,6 +97,14 @@ and_false : (b : Bool) → (b && false) ≡ false
 and_false true = refl
 and_false false = refl
 
+-- whether a kind is that of `until`
+abbrev is_until : Kind → Bool
+is_until (UntilOf x) = true
+is_until _ = false
+
+same_until : (x y : UntilWindow) → UntilOf x ≡ UntilOf y → x ≡ y
+same_until x y e = cc
+
 module _ (at : ℕ → Subformula) (i : ℕ) (tr : Trace) where
   until_has : (p q a b : ℕ) → a ≤ b → b ≤ 4294967295
       → HasUntil (tree_of at i (Until p q a b)) (at p) (at q) tr (record { window = ahead p a b true true true; right = q })
@@ -113,19 +124,19 @@ module _ (at : ℕ → Subformula) (i : ℕ) (tr : Trace) where
   pub until_node : (n : Node) (u : UntilWindow) → kind_of n ≡ UntilOf u → HasBounds n → own_reach n ≤ 4294967295
       → HasUntil (tree_of at i n) (at u.window.of) (at u.right) tr u
   until_node (Until p q a b) u e h r =
-      let s : record { window = ahead p a b true true true; right = q } ≡ u = cc in
+      let s : record { window = ahead p a b true true true; right = q } ≡ u = same_until _ u e in
       subst (λ (v : UntilWindow). HasUntil (tree_of at i (Until p q a b)) (at v.window.of) (at v.right) tr v) s (until_has p q a b h r)
-  until_node (Const c) u e h r = absurd (let x : kind_of (Const c) ≡ UntilOf u = e in cc)
-  until_node (Leaf l) u e h r = absurd (let x : kind_of (Leaf l) ≡ UntilOf u = e in cc)
-  until_node (Not q) u e h r = absurd (let x : kind_of (Not q) ≡ UntilOf u = e in cc)
-  until_node (And p q) u e h r = absurd (let x : kind_of (And p q) ≡ UntilOf u = e in cc)
-  until_node (Or p q) u e h r = absurd (let x : kind_of (Or p q) ≡ UntilOf u = e in cc)
-  until_node (Implies p q) u e h r = absurd (let x : kind_of (Implies p q) ≡ UntilOf u = e in cc)
-  until_node (Eventually p a b x y) u e h r = absurd (let z : kind_of (Eventually p a b x y) ≡ UntilOf u = e in cc)
-  until_node (Always p a b x y) u e h r = absurd (let z : kind_of (Always p a b x y) ≡ UntilOf u = e in cc)
-  until_node (Since p q c k) u e h r = absurd (let x : kind_of (Since p q c k) ≡ UntilOf u = e in cc)
-  until_node (Once p a b x y) u e h r = absurd (let z : kind_of (Once p a b x y) ≡ UntilOf u = e in cc)
-  until_node (Historically p a b x y) u e h r = absurd (let z : kind_of (Historically p a b x y) ≡ UntilOf u = e in cc)
+  until_node (Const c) u e h r = absurd (false≢true (ap is_until e))
+  until_node (Leaf l) u e h r = absurd (false≢true (ap is_until e))
+  until_node (Not q) u e h r = absurd (false≢true (ap is_until e))
+  until_node (And p q) u e h r = absurd (false≢true (ap is_until e))
+  until_node (Or p q) u e h r = absurd (false≢true (ap is_until e))
+  until_node (Implies p q) u e h r = absurd (false≢true (ap is_until e))
+  until_node (Eventually p a b x y) u e h r = absurd (false≢true (ap is_until e))
+  until_node (Always p a b x y) u e h r = absurd (false≢true (ap is_until e))
+  until_node (Since p q c k) u e h r = absurd (false≢true (ap is_until e))
+  until_node (Once p a b x y) u e h r = absurd (false≢true (ap is_until e))
+  until_node (Historically p a b x y) u e h r = absurd (false≢true (ap is_until e))
 
 -- what lies before both places lies before the lesser one
 least_place : (o q : Front) (f : ℤ) → least o q ≡ Some f → (t : Rational) → Upto (place_of o) t → Upto (place_of q) t → Upto (place_of (Some f)) t
@@ -134,8 +145,8 @@ least_place (Some g) (Some h) f e t a b = by_test (int_lt h g) refl
     by_test : (s : Bool) → int_lt h g ≡ s → t ≤ʳ whole f
     by_test true x = subst (λ (z : ℤ). t ≤ʳ whole z) (some_is h f (sym (ap (λ (s : Bool). cond s (Some h) (Some g)) x) ∙ e)) b
     by_test false x = subst (λ (z : ℤ). t ≤ʳ whole z) (some_is g f (sym (ap (λ (s : Bool). cond s (Some h) (Some g)) x) ∙ e)) a
-least_place None q f e t a b = absurd (let x : None ≡ Some f = e in cc)
-least_place (Some g) None f e t a b = absurd (let x : None ≡ Some f = e in cc)
+least_place None q f e t a b = absurd (none-some f e)
+least_place (Some g) None f e t a b = absurd (none-some f e)
 
 least_itself : (z : ℤ) → least (Some z) (Some z) ≡ Some z
 least_itself z = elim (int_lt z z) as (λ (s : Bool). cond s (Some z) (Some z) ≡ Some z) [ true ↦ refl | false ↦ refl ]
@@ -281,9 +292,9 @@ module _ {x : Situation} {op : Operator} {old : Held} {work : Outcome} (d : IsDu
           by_list : (vs : List Verdict) → Tells (Truth (subformula x.nodes u.window.of) (trace_in x)) (first_place vs (front_place old u.window.of)) vs
               (front_place old u.window.of) → slice_get vs 0 ≡ Some v
               → Before (first_place vs (front_place old u.window.of)) (ends (interval v.on))
-          by_list [] h e = absurd (let y : None ≡ Some v = e in cc)
+          by_list [] h e = absurd (none-some v e)
           by_list (w ∷ vs) h e =
-              let is : w ≡ v = (let y : Some w ≡ Some v = e in cc) in
+              let is : w ≡ v = same_Some w v e in
               subst (λ (y : Verdict). Before (begins (interval w.on)) (ends (interval y.on))) is h.1
 
   -- and later what was known is
