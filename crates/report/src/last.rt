@@ -128,6 +128,22 @@ impl LastTime {
         put_time_before(buf, end, t, digits)
     }
 
+    /// Puts the text of a time, and keeps it.
+    #[inline(always)]
+    pub(crate) fn put_next(&mut self, buf: &mut [u8], end: usize, t: &Frac, digits: u8) -> usize
+        requires digits { digits ≤ 6 }
+        requires room { 82 ≤ end }
+        requires inside { end ≤ length buf.old }
+        ensures { Puts (IsNumberText digits (value t.now)) 82 buf.old end buf.new result }
+    {
+        if is_one_time(&self.time, self.digits, t, digits) {
+            return put_kept(buf, end, &self.kept, self.at);
+        }
+        let at = put_time_before(buf, end, t, digits);
+        self.keep(buf, at, end, t, digits);
+        at
+    }
+
     /// Keeps a time, whose text stands in the buffer from `from` to `to`, unless that has more than 32 bytes.
     #[inline(always)]
     pub(crate) fn keep(&mut self, buf: &[u8], from: usize, to: usize, t: &Frac, digits: u8)

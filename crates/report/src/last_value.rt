@@ -80,6 +80,29 @@ impl LastValue {
         put_margin(buf, end, m, t, digits)
     }
 
+    /// Puts the value of a margin at a time, in units, and keeps it.
+    pub(crate) fn put_next(
+        &mut self,
+        buf: &mut [u8],
+        end: usize,
+        m: &Margin,
+        t: &Frac,
+        digits: u8,
+    ) -> usize
+        requires few { digits ≤ 6 }
+        requires time { IsWithin (2 ^ 34) (value t.now) }
+        requires room { 82 ≤ end }
+        requires inside { end ≤ length buf.old }
+        ensures { Puts (IsValueText digits (value_at (margin_function m.now) (value t.now))) 82 buf.old end buf.new result }
+    {
+        if is_one_value(&self.margin, &self.time, self.digits, m, t, digits) {
+            return put_kept(buf, end, &self.kept, self.at);
+        }
+        let at = put_margin(buf, end, m, t, digits);
+        self.keep(buf, at, end, m, t, digits);
+        at
+    }
+
     /// Keeps the value of a margin at a time, whose text stands in the buffer from `from` to `to`, unless that has more than 32 bytes.
     #[inline(always)]
     pub(crate) fn keep(

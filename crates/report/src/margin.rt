@@ -13,8 +13,8 @@ ghost use Rattle.report.specs.Before.{Puts};
 ghost use Rattle.report.specs.MarginLines.{IsTimeAfter, IsValueAfter, AreNextLines, AreLaterLines};
 
 use crate::before::{put_lowest, put_word};
-use crate::last::{LastTime, put_time_before};
-use crate::last_value::LastValue;
+use crate::last::put_time_before;
+use crate::last_part::LastPart;
 use crate::number::{in_units, put_fraction, quotient_in_units};
 use frac128::{Frac, Memory};
 use pl_signal::{Knot, Signal};
@@ -96,39 +96,12 @@ fn put_knot(buf: &mut [u8], end: usize, k: &Knot<Margin>, scale: Scale) -> usize
     let line = put_word(buf, end, b"\n");
     let value = put_margin(buf, line, &k.point, &k.time, scale.value);
     let middle = put_word(buf, value, b"] ");
-    let time = put_lowest(buf, middle, &in_units(&k.time, scale.time));
+    let time = put_time_before(buf, middle, &k.time, scale.time);
     put_word(buf, time, b"[")
 }
 
-/// Puts the line of the piece between two knots.
-pub(crate) fn put_piece(
-    buf: &mut [u8],
-    end: usize,
-    k: &Knot<Margin>,
-    n: &Knot<Margin>,
-    scale: Scale,
-) -> usize
-    requires time { scale.time ≤ 6 }
-    requires value { scale.value ≤ 6 }
-    requires from { IsWithin (2 ^ 34) (value k.now.time) }
-    requires to { IsWithin (2 ^ 34) (value n.now.time) }
-    requires room { 400 ≤ end }
-    requires inside { end ≤ length buf.old }
-    ensures { Puts (IsPieceLine scale (plain_knot margin_shape k.now) (plain_piece margin_shape k.now n.now)) 400 buf.old end buf.new result }
-{
-    let line = put_word(buf, end, b"\n");
-    let last = put_margin(buf, line, &k.after, &n.time, scale.value);
-    let arrow = put_word(buf, last, b" -> ");
-    let first = put_margin(buf, arrow, &k.after, &k.time, scale.value);
-    let middle = put_word(buf, first, b") ");
-    let to = put_lowest(buf, middle, &in_units(&n.time, scale.time));
-    let comma = put_word(buf, to, b",");
-    let from = put_lowest(buf, comma, &in_units(&k.time, scale.time));
-    put_word(buf, from, b"(")
-}
-
 /// Appends the line of the first knot.
-pub(crate) fn put_first(text: &mut Text, k: &Knot<Margin>, scale: Scale) -> Result<(), Memory>
+fn put_first(text: &mut Text, k: &Knot<Margin>, scale: Scale) -> Result<(), Memory>
     requires time { scale.time ≤ 6 }
     requires value { scale.value ≤ 6 }
     requires within { IsWithin (2 ^ 34) (value k.now.time) }
@@ -141,33 +114,18 @@ pub(crate) fn put_first(text: &mut Text, k: &Knot<Margin>, scale: Scale) -> Resu
     text.push(&buf[at..])
 }
 
-/// What was written last of a knot: its time, and its value.
-#[derive(Debug, Drop)]
-struct Written {
-    time: LastTime,
-    value: LastValue,
-}
-
 /// What was written last of knots at even places, and at odd ones: so the texts of two neighbours stand here in turn.
 #[derive(Debug, Drop)]
 struct InTurn {
-    even: Written,
-    odd: Written,
-}
-
-/// Nothing was written yet.
-fn nothing_written() -> Written {
-    Written {
-        time: LastTime::new(),
-        value: LastValue::new(),
-    }
+    even: LastPart,
+    odd: LastPart,
 }
 
 /// Puts the line of a knot, and keeps its texts in `now`.
 fn put_knot_kept(
     buf: &mut [u8],
     end: usize,
-    now: &mut Written,
+    now: &mut LastPart,
     k: &Knot<Margin>,
     scale: Scale,
 ) -> usize
@@ -192,8 +150,8 @@ fn put_knot_kept(
 fn put_piece_kept(
     buf: &mut [u8],
     end: usize,
-    before: &Written,
-    now: &Written,
+    before: &LastPart,
+    now: &LastPart,
     k: &Knot<Margin>,
     n: &Knot<Margin>,
     scale: Scale,
@@ -221,8 +179,8 @@ fn put_piece_kept(
 /// `before`; what is written of the second comes into `now`.
 fn put_lines(
     buf: &mut [u8],
-    before: &Written,
-    now: &mut Written,
+    before: &LastPart,
+    now: &mut LastPart,
     k: &Knot<Margin>,
     n: &Knot<Margin>,
     scale: Scale,
@@ -296,8 +254,8 @@ fn put_later(text: &mut Text, s: &Signal<Margin>, scale: Scale) -> Result<(), Me
     let knots = s.len();
     let mut buf = [0u8; 640];
     let mut texts = InTurn {
-        even: nothing_written(),
-        odd: nothing_written(),
+        even: LastPart::new(),
+        odd: LastPart::new(),
     };
     for i in 1..knots {
         put_next(

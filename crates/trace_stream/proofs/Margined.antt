@@ -30,6 +30,7 @@ use Rattle.trace_stream.specs.Margining.{past_of, denominator_of, fault_of, Give
 use Rattle.trace_stream.specs.declared.case.Case.{Case}
 use Rattle.trace_stream.specs.declared.follow.FollowFault.{FollowFault}
 use Rattle.trace_stream.specs.declared.follow.FollowFault.TheVariants as F
+use Rattle.report.specs.declared.last_part.LastPart.{LastPart}
 use Rattle.trace_stream.specs.declared.margins.Margins.{Margins}
 
 -- ---- rows
@@ -74,10 +75,10 @@ none_taken g m text s = record {
 }
 
 -- one line more
-pub one_taken : (g : Given) (m : Margins) (net : Parts) (line : MarginLine) (old mid new here : List ℕ) (h : HasTaken g m old mid)
+pub one_taken : (g : Given) (m : Margins) (net : Parts) (last : LastPart) (line : MarginLine) (old mid new here : List ℕ) (h : HasTaken g m old mid)
     → IsGiven g.nodes g.header g.past (g.lines ++ h.more) net line → IsPartLine m.formula.scale (part_of line) here → new ≡ mid ++ here
-    → HasTaken g (record { net = net; formula = m.formula }) old new
-one_taken g m net line old mid new here h given is longer =
+    → HasTaken g (record m { net = net; last = last }) old new
+one_taken g m net last line old mid new here h given is longer =
     let (text, lines, e) = h.text in
     record {
       more = h.more ++ line ∷ [];
@@ -92,7 +93,7 @@ one_taken g m net line old mid new here h given is longer =
 
 -- nothing is left
 pub all_taken : (g : Given) (m : Margins) (net : Parts) (old new : List ℕ) (h : HasTaken g m old new)
-    → AreAllGiven g.nodes g.header g.past (g.lines ++ h.more) net → HasTakenAll g (record { net = net; formula = m.formula }) old new
+    → AreAllGiven g.nodes g.header g.past (g.lines ++ h.more) net → HasTakenAll g (record m { net = net }) old new
 all_taken g m net old new h all = record { taken = record { more = h.more; stands = all.stands; text = h.text }; all = all.parts }
 
 -- ---- faults

@@ -17,7 +17,7 @@ use crate::follow::{Follow, FollowFault};
 use frac128::Memory;
 use online_robust::{MarginLine, RobustFault, RobustNet};
 use pl_signal::WidePair;
-use report::{MarginPart, put_margin_line};
+use report::{LastPart, MarginPart, put_margin_line_after};
 use std::alloc::Global;
 use stl_syntax::{Formula, Text};
 use trace_reader::Row;
@@ -28,6 +28,8 @@ use value_laws::Margin;
 pub struct Margins {
     net: RobustNet,
     formula: Formula,
+    /// What was written last.
+    last: LastPart,
 }
 
 /// A part that the root gave out, for its line.
@@ -76,6 +78,7 @@ impl Margins {
         let Margins {
             net,
             formula: _formula,
+            last: _last,
         } = self;
         net
     }
@@ -89,7 +92,7 @@ impl Margins {
         ensures formula { self.new.formula ≡ self.old.formula }
     {
         while let Some(line) = self.net.take() {
-            put_margin_line(text, &part_of(line), self.formula.scale())?;
+            put_margin_line_after(text, &mut self.last, &part_of(line), self.formula.scale())?;
         }
         Ok(())
     }
@@ -158,7 +161,11 @@ impl Follow for Margins {
             trace: _trace,
         } = case;
         let net = RobustNet::new(alloc, &formula, bound)?;
-        Ok(Margins { net, formula })
+        Ok(Margins {
+            net,
+            formula,
+            last: LastPart::new(),
+        })
     }
 
     fn row(&mut self, row: &Row, text: &mut Text) -> Result<(), FollowFault> {

@@ -3,12 +3,12 @@ use Rattle.std.specs.Prelude.{OnErr}
 use Rattle.report.specs.Appended.{GrewInPart}
 use Rattle.report.specs.PartLines.{IsPartLine}
 use Rattle.report.specs.declared.part.MarginPart.{MarginPart}
-use Rattle.report.proofs.part.put_margin_line.Goals as goal
+use Rattle.report.proofs.part.put_margin_line_after.Goals as goal
 
 pub returns-in-Point-clause-err : goal.returns-in-Point-clause-err
 returns-in-Point-clause-err c =
-    subst (λ (l : MarginPart). OnErr c.put_first.result (GrewInPart (IsPartLine c.args.scale l) c.args.text.now c.put_first.new.text))
-    (sym c.in-Point.is) c.put_first.ensures.err
+    subst (λ (l : MarginPart). OnErr c.put_point.result (GrewInPart (IsPartLine c.args.scale l) c.args.text.now c.put_point.new.text))
+    (sym c.in-Point.is) c.put_point.ensures.err
 
 pub returns-in-Gap-clause-err : goal.returns-in-Gap-clause-err
 returns-in-Gap-clause-err c =

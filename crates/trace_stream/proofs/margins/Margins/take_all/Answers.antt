@@ -15,8 +15,8 @@ loop-line-preserved c = record {
   formula = c.loop-line.invariant.formula;
   taken = λ g s.
       let h = c.loop-line.invariant.taken g s in
-      let (here, is, longer) = c.in_ok-put_margin_line.ensures.ok in
-      one_taken g c.loop-line.self c.take.new.self c.in-Some.line c.args.text.now c.loop-line.text c.put_margin_line.new.text here h
+      let (here, is, longer) = c.in_ok-put_margin_line_after.ensures.ok in
+      one_taken g c.loop-line.self c.take.new.self c.put_margin_line_after.new.last c.in-Some.line c.args.text.now c.loop-line.text c.put_margin_line_after.new.text here h
       (c.in-Some.ensures.taken g.nodes g.header g.past (g.lines ++ h.more) h.stands)
       (c.part_of.ensures.same c.loop-line.self.formula.scale here
       (subst (λ t. IsPartLine t c.part_of.result here) c.scale.ensures.scale is)) longer;
@@ -35,5 +35,5 @@ returns-clause-taken c = λ g s.
 pub returns-clause-formula : goal.returns-clause-formula
 returns-clause-formula c = c.loop-line.invariant.formula
 
-pub returns-in_err-put_margin_line-clause-formula : goal.returns-in_err-put_margin_line-clause-formula
-returns-in_err-put_margin_line-clause-formula c = c.loop-line.invariant.formula
+pub returns-in_err-put_margin_line_after-clause-formula : goal.returns-in_err-put_margin_line_after-clause-formula
+returns-in_err-put_margin_line_after-clause-formula c = c.loop-line.invariant.formula
