@@ -1,7 +1,8 @@
 -- Since, verdict by verdict.
-use Rattle.std.proofs.Common.{◌≡◌, inl, inr, ◌+◌, ◌*◌, ◌≤◌, Bool, not, true, false, List, [], ◌++◌, length}
+use Rattle.std.proofs.Common.{◌≡◌, inl, inr, ℕ, ◌+◌, ◌*◌, ◌≤◌, ◌<◌, Bool, not, true, false, List, [], ◌++◌, length}
 use Rattle.std.proofs.Common.{Some, slice_get, refl, sym, subst, ◌∙◌, arith, append_assoc, length-append}
 use Rattle.std.proofs.lemmas.List.{append-nil}
+use Rattle.std.proofs.lemmas.Option.{same_Some}
 use Rattle.frac128.specs.Spans.{interval}
 use Rattle.stl_syntax.specs.declared.items.Verdict.{Verdict}
 use Rattle.rational.specs.Places.{Place, begins, ends, moved_begin, Upto, AtMost, Before, Same}
@@ -67,7 +68,7 @@ go_on_turn {old} {s} {c} {v} at first holding fits why new (Done end) (rested, b
     rest_done at rested
     (λ y other.
     let both : Some v ≡ Some y = sym first ∙ other in
-    let is : v ≡ y = cc in
+    let is : v ≡ y = same_Some v y both in
     subst (λ (q : Verdict). Before (place c.out.to) (ends (interval q.on))) is beyond)
     (λ x written r of m. record {
       holds = left_holds_to of m first holding (place c.out.to) (λ t h. upto_of_before (place c.out.to) (ends (interval v.on)) t beyond h);
@@ -133,7 +134,7 @@ module _ {old : Held} {s : Since} {c : Wrote} {begin from : Place} {v w : Verdic
       → Before begin (moved_begin s.window.begin_by s.window.begin_in (ends (interval y.on)))
   ends_after y first =
       let both : Some w ≡ Some y = sym g.first_right ∙ first in
-      let is : w ≡ y = cc in
+      let is : w ≡ y = same_Some w y both in
       subst (λ (q : Verdict). Before begin (moved_begin s.window.begin_by s.window.begin_in (ends (interval q.on)))) is
       (same_before begin (moved_begin s.window.begin_by s.window.begin_in from)
       (moved_begin s.window.begin_by s.window.begin_in (ends (interval w.on))) g.begin_is
@@ -155,7 +156,7 @@ module _ {old : Held} {s : Since} {c : Wrote} {begin from : Place} {v w : Verdic
       rest_done g.at rested
       (λ y other.
       let both : Some v ≡ Some y = sym g.first_left ∙ other in
-      let is : v ≡ y = cc in
+      let is : v ≡ y = same_Some v y both in
       subst (λ (q : Verdict). Before (place c.out.to) (ends (interval q.on))) is past)
       (λ x written r of m. record {
         holds = left_holds_to of m g.first_left g.left_holds (place c.out.to)
@@ -202,14 +203,31 @@ pub record HasCome (old now : Held) (s : Since) (c here : Wrote) : Type 0 where
       → IsStaying x s written c r (fresh_at old s.window.of) (fresh_at old s.right)
       → (r' : Reads) × IsStaying x s (written ++ more) here r' (fresh_at now s.window.of) (fresh_at now s.right)
 
+-- how many verdicts of both inputs are not read
+abbrev unread : Held → Since → ℕ
+unread h s = length (fresh_at h s.window.of) + length (fresh_at h s.right)
+
+-- how much was put, where n of o verdicts are left and m were before the last step
+none_few : (n : ℕ) → 0 + 2 * n ≤ 2 * n
+none_few n = omega arith
+
+none_owed : (n w : ℕ) → 0 + w + 2 * n ≤ 2 * n + w
+none_owed n w = omega arith
+
+few_on : (n m o : ℕ) {l : ℕ} (a b : ℕ) → l ≡ a + b → a + 2 * m ≤ 2 * o → b ≤ 2 → n < m → l + 2 * n ≤ 2 * o
+few_on n m o a b e h k f = omega (arith, e, h, k, f)
+
+owed_on : (n m o v w x : ℕ) {l : ℕ} (a b : ℕ) → l ≡ a + b → a + w + 2 * m ≤ 2 * o + v → b + x ≤ 2 + w → n < m → l + x + 2 * n ≤ 2 * o + v
+owed_on n m o v w x a b e h k f = omega (arith, e, h, k, f)
+
 -- before the first verdict nothing has changed, and nothing is put
 pub come_none : (e : Held) (s : Since) (c : Wrote) → IsSound c.out → AtMost (place c.out.at) (place c.out.to) → CanMoveRun s.window c
     → HasCome e e s c c
 come_none e s c sound inside fits =
     record {
       more = [];
-      few = omega arith;
-      owed = omega arith;
+      few = none_few (unread e s);
+      owed = none_owed (unread e s) (waiting c.out.holds);
       worked = worked_none e c.out.edge s.window.of s.right;
       edge = refl;
       end = refl;
@@ -226,8 +244,10 @@ pub come_one : {old now new : Held} {s : Since} {c here next : Wrote} → HasCom
 come_one {old} {now} {new} {s} {c} {here} {next} come one =
     record {
       more = come.more ++ one.more;
-      few = omega (arith, come.few, one.few, one.fewer, length-append come.more one.more);
-      owed = omega (arith, come.owed, one.owed, one.fewer, length-append come.more one.more);
+      few = few_on (unread new s) (unread now s) (unread old s) (length come.more) (length one.more)
+          (length-append come.more one.more) come.few one.few one.fewer;
+      owed = owed_on (unread new s) (unread now s) (unread old s) (waiting c.out.holds) (waiting here.out.holds) (waiting next.out.holds)
+          (length come.more) (length one.more) (length-append come.more one.more) come.owed one.owed one.fewer;
       worked = worked_both come.worked (subst (λ i. HasWorked now new i s.window.of s.right one.more) come.edge one.worked);
       edge = one.edge ∙ come.edge;
       end = one.end ∙ come.end;

@@ -2,6 +2,7 @@
 use Rattle.std.proofs.Common.{◌≡◌, ℕ, ◌+◌, List, [], ◌∷◌, ◌++◌, length, refl, ap, sym, ◌∙◌, Bool, true, false, append_assoc}
 use Rattle.std.specs.Prelude.{codes, reverse, Option, Some, None}
 use Rattle.std.proofs.lemmas.List.{append-nil, reverse-append}
+use Rattle.std.proofs.lemmas.Option.{same_Some, none-some}
 use Rattle.stl_syntax.specs.Characters.{is_among}
 use Rattle.stl_syntax.specs.declared.scale.Scale.{Scale}
 use Rattle.stl_syntax.specs.declared.atom.Term.{Term}
@@ -426,7 +427,7 @@ abbrev HoldsAt : State → List Token → Type 0
 HoldsAt s whole = Holds s.place s.had s.marks whole
 
 same_state : (a b : State) (whole : List Token) → Some a ≡ Some b → HoldsAt a whole → HoldsAt b whole
-same_state a b whole e h = let f : a ≡ b = cc in rw (← f) h
+same_state a b whole e h = let f : a ≡ b = same_Some a b e in rw (← f) h
 
 -- one token more, and then those
 shifted : (h : Bool) (marks : List Mark) (whole : List Token) (t : Token) (us : List Token) → After h marks (whole ++ t ∷ us)
@@ -447,7 +448,7 @@ module _ (h : Bool) (marks : List Mark) (n : ℕ) (p : Place) (whole : List Toke
   begins_word x = by_words (λ w. (next : State) → begin_word now (kind w) ≡ Some next → HoldsAt next (whole ++ word w ∷ [])) (
     λ next e. same_state _ next _ e (finish x _ (λ k. (_, always_true))),
     λ next e. same_state _ next _ e (finish x _ (λ k. (_, always_false))),
-    λ next e. absurd (cc),
+    λ next e. absurd (none-some next e),
   ) (
     λ next e. same_state _ next _ e (inside_operator _ x fills_not),
     λ next e. same_state _ next _ e (λ us b.
@@ -459,7 +460,8 @@ module _ (h : Bool) (marks : List Mark) (n : ℕ) (p : Place) (whole : List Toke
     λ next e. same_state _ next _ e (λ us b.
         shifted_awaits h (operator ∷ marks) whole _ us (inside_operator (word (codes "historically") ∷ us) x (fills_historically us (past_fits b)))),
   )
-      (λ next e. absurd (cc), λ next e. absurd (cc), λ next e. absurd (cc), λ next e. absurd (cc), λ next e. absurd (cc))
+      (λ next e. absurd (none-some next e), λ next e. absurd (none-some next e), λ next e. absurd (none-some next e),
+       λ next e. absurd (none-some next e), λ next e. absurd (none-some next e))
       (λ w g next e. same_state _ next _ (rw (name_kind w g) at e)
       (λ us b. shifted h _ whole _ us (finish x (word w ∷ us) (term_operand (word w ∷ us) (term_tail (plain_name w g b))))))
 
@@ -470,12 +472,12 @@ module _ (h : Bool) (marks : List Mark) (n : ℕ) (p : Place) (whole : List Toke
   begins x open_paren next e = same_state _ next _ e (rw append-nil at (level {a = []} {b = []} (in_parens x) no_hole alone))
   begins x plus next e = same_state _ next _ e (λ us b. shifted h _ whole _ us (finish x (plus ∷ us) (plus_operand us b)))
   begins x minus next e = same_state _ next _ e (λ us b. shifted h _ whole _ us (finish x (minus ∷ us) (minus_operand us b)))
-  begins x (relation r) next e = absurd (cc)
-  begins x close_paren next e = absurd (cc)
-  begins x open_bracket next e = absurd (cc)
-  begins x close_bracket next e = absurd (cc)
-  begins x comma next e = absurd (cc)
-  begins x star next e = absurd (cc)
+  begins x (relation r) next e = absurd (none-some next e)
+  begins x close_paren next e = absurd (none-some next e)
+  begins x open_bracket next e = absurd (none-some next e)
+  begins x close_bracket next e = absurd (none-some next e)
+  begins x comma next e = absurd (none-some next e)
+  begins x star next e = absurd (none-some next e)
 
   bounds : (o : Owner) → ((us : List Token) → Bound o us → Awaits h marks (whole ++ us)) → (t : Token) (next : State)
       → step_bound o now t ≡ Some next → HoldsAt next (whole ++ t ∷ [])
@@ -483,7 +485,7 @@ module _ (h : Bool) (marks : List Mark) (n : ℕ) (p : Place) (whole : List Toke
     where
       left : (b : Bool) → looks_back o ≡ b → opens o t ≡ false → HoldsAt next (whole ++ t ∷ [])
       left true f g = begins (rw append-nil at (x [] (left_out f))) t next (rw (g, f) at e)
-      left false f g = let z = rw (g, f) at e in absurd (cc)
+      left false f g = let z = rw (g, f) at e in absurd (none-some next z)
 
       opened : (b : Bool) → opens o t ≡ b → HoldsAt next (whole ++ t ∷ [])
       opened true f = same_state _ next _ (rw f at e) (λ us b. shifted_awaits h marks whole t us (x (t ∷ us) (opening t f b)))
@@ -496,20 +498,22 @@ module _ (h : Bool) (marks : List Mark) (n : ℕ) (p : Place) (whole : List Toke
     where
       closed_by : (b : Bool) → closes o t ≡ b → HoldsAt next (whole ++ t ∷ [])
       closed_by true f = same_state _ next _ (rw f at e) (x (t ∷ []) (the_end t f))
-      closed_by false f = let z = rw f at e in absurd (cc)
+      closed_by false f = let z = rw f at e in absurd (none-some next z)
 
   infinite : (o : Owner) → ((us : List Token) → High o us → Awaits h marks (whole ++ us)) → (w : List ℕ) (next : State) → step_inf o now (kind w) ≡ Some next
       → HoldsAt next (whole ++ word w ∷ [])
   unfolding kind
   infinite o x = by_words (λ w. (next : State) → step_inf o now (kind w) ≡ Some next → HoldsAt next (whole ++ word w ∷ []))
-      (λ next e. absurd (cc), λ next e. absurd (cc), λ next e. back (looks_back o) refl next e)
-      (λ next e. absurd (cc), λ next e. absurd (cc), λ next e. absurd (cc), λ next e. absurd (cc), λ next e. absurd (cc))
-      (λ next e. absurd (cc), λ next e. absurd (cc), λ next e. absurd (cc), λ next e. absurd (cc), λ next e. absurd (cc))
-      (λ w g next e. let z = rw (name_kind w g) at e in absurd (cc))
+      (λ next e. absurd (none-some next e), λ next e. absurd (none-some next e), λ next e. back (looks_back o) refl next e)
+      (λ next e. absurd (none-some next e), λ next e. absurd (none-some next e), λ next e. absurd (none-some next e),
+       λ next e. absurd (none-some next e), λ next e. absurd (none-some next e))
+      (λ next e. absurd (none-some next e), λ next e. absurd (none-some next e), λ next e. absurd (none-some next e),
+       λ next e. absurd (none-some next e), λ next e. absurd (none-some next e))
+      (λ w g next e. let z = rw (name_kind w g) at e in absurd (none-some next z))
     where
       back : (b : Bool) → looks_back o ≡ b → (next : State) → step_inf o now an_inf ≡ Some next → HoldsAt next (whole ++ word (codes "inf") ∷ [])
       back true f next e = same_state _ next _ (rw f at e) (λ us b. shifted_awaits h marks whole _ us (x (word (codes "inf") ∷ us) (no_upper f b)))
-      back false f next e = let z = rw f at e in absurd (cc)
+      back false f next e = let z = rw f at e in absurd (none-some next z)
 
   names : (m : ℕ) (w : List ℕ)
       → (is_among w reserved ≡ false → (us : List Token) → SignTail us → After h (without_operators marks) (whole ++ word w ∷ us)) → (next : State)
@@ -527,22 +531,23 @@ module _ (h : Bool) (marks : List Mark) (n : ℕ) (p : Place) (whole : List Toke
   connects : After h marks whole → (w : List ℕ) (next : State) → step_connective now (kind w) ≡ Some next → HoldsAt next (whole ++ word w ∷ [])
   unfolding kind
   connects x = by_words (λ w. (next : State) → step_connective now (kind w) ≡ Some next → HoldsAt next (whole ++ word w ∷ []))
-      (λ next e. absurd (cc), λ next e. absurd (cc), λ next e. absurd (cc))
-      (λ next e. absurd (cc), λ next e. absurd (cc), λ next e. absurd (cc), λ next e. absurd (cc), λ next e. absurd (cc)) (
+      (λ next e. absurd (none-some next e), λ next e. absurd (none-some next e), λ next e. absurd (none-some next e))
+      (λ next e. absurd (none-some next e), λ next e. absurd (none-some next e), λ next e. absurd (none-some next e),
+       λ next e. absurd (none-some next e), λ next e. absurd (none-some next e)) (
         λ next e. same_state _ next _ e (after_and x),
         λ next e. same_state _ next _ e (after_or x),
         λ next e. same_state _ next _ e (after_implies x),
         λ next e. fresh_until h refl next e,
         λ next e. fresh_since h refl next e,
       )
-      (λ w g next e. let z = rw (name_kind w g) at e in absurd (cc))
+      (λ w g next e. let z = rw (name_kind w g) at e in absurd (none-some next z))
     where
       fresh_until : (b : Bool) → h ≡ b → (next : State) → step_connective now an_until ≡ Some next → HoldsAt next (whole ++ word (codes "until") ∷ [])
-      fresh_until true f next e = let z = rw f at e in absurd (cc)
+      fresh_until true f next e = let z = rw f at e in absurd (none-some next z)
       fresh_until false f next e = same_state _ next _ (rw f at e) (λ us b. after_until (rw f at x) us b)
 
       fresh_since : (b : Bool) → h ≡ b → (next : State) → step_connective now a_since ≡ Some next → HoldsAt next (whole ++ word (codes "since") ∷ [])
-      fresh_since true f next e = let z = rw f at e in absurd (cc)
+      fresh_since true f next e = let z = rw f at e in absurd (none-some next z)
       fresh_since false f next e = same_state _ next _ (rw f at e) (λ us b. after_since (rw f at x) us b)
 
 a_parens : (f : List Token) → AFormula f → AnOperand (open_paren ∷ f ++ close_paren ∷ [])
@@ -550,7 +555,7 @@ a_parens f p k = (_, parens (p k).1)
 
 closes_base : {marks : List Mark} {pre : List Token} → Base marks pre → (n : ℕ) (next : State) → closed marks n ≡ Some next → (f : List Token) → AFormula f
     → HoldsAt next (pre ++ (f ++ close_paren ∷ []))
-closes_base bottom n next e f p = absurd (cc)
+closes_base bottom n next e f p = absurd (none-some next e)
 closes_base (implied b) n next e f p = closes_base b n next e f p
 closes_base (in_parens {h = h} {marks} {pre = pre} w) n next e f p =
     same_state _ next _ e (rw (append_assoc pre (open_paren ∷ []) (f ++ close_paren ∷ [])) (finish w (open_paren ∷ f ++ close_paren ∷ []) (a_parens f p)))
@@ -569,59 +574,59 @@ module _ (h : Bool) (marks : List Mark) (n : ℕ) (whole : List Token) where
   low_holds : (o : Owner) → Holds (at_low o) h marks whole → (t : Token) (next : State)
       → step_at (at_low o) (at (at_low o)) t ≡ Some next → HoldsAt next (whole ++ t ∷ [])
   low_holds o x (number a j) next e = same_state _ next _ e (λ us b. shifted_awaits h marks whole _ us (x (number a j ∷ us) (lower a j b)))
-  low_holds o x _ next e = absurd (cc)
+  low_holds o x _ next e = absurd (none-some next e)
 
   comma_holds : (o : Owner) (a j : ℕ) → Holds (at_comma o a j) h marks whole → (t : Token) (next : State)
       → step_at (at_comma o a j) (at (at_comma o a j)) t ≡ Some next
       → HoldsAt next (whole ++ t ∷ [])
   comma_holds o a j x comma next e = same_state _ next _ e (λ us b. shifted_awaits h marks whole _ us (x (comma ∷ us) (then_high b)))
-  comma_holds o a j x _ next e = absurd (cc)
+  comma_holds o a j x _ next e = absurd (none-some next e)
 
   high_holds : (o : Owner) (a j : ℕ) → Holds (at_high o a j) h marks whole → (t : Token) (next : State)
       → step_at (at_high o a j) (at (at_high o a j)) t ≡ Some next
       → HoldsAt next (whole ++ t ∷ [])
   high_holds o a j x (number b k) next e = same_state _ next _ e (λ us c. shifted_awaits h marks whole _ us (x (number b k ∷ us) (upper b k c)))
   high_holds o a j x (word w) next e = infinite h marks n (at_high o a j) whole o x w next e
-  high_holds o a j x _ next e = absurd (cc)
+  high_holds o a j x _ next e = absurd (none-some next e)
 
   term_holds : (m : ℕ) → Holds (at_term m) h marks whole → (t : Token) (next : State)
       → step_at (at_term m) (at (at_term m)) t ≡ Some next → HoldsAt next (whole ++ t ∷ [])
   term_holds m x (number a j) next e = same_state _ next _ e (λ us b. shifted h _ whole _ us (x (number a j ∷ us) (a_coefficient a j b)))
   term_holds m x (word w) next e = names h marks n (at_term m) whole m w (λ g us b. x (word w ∷ us) (plain_name w g b)) next e
-  term_holds m x _ next e = absurd (cc)
+  term_holds m x _ next e = absurd (none-some next e)
 
   star_holds : (m : ℕ) → Holds (at_star m) h marks whole → (t : Token) (next : State)
       → step_at (at_star m) (at (at_star m)) t ≡ Some next → HoldsAt next (whole ++ t ∷ [])
   star_holds m x star next e = same_state _ next _ e (λ us b. shifted h _ whole _ us (x (star ∷ us) (a_star b)))
-  star_holds m x _ next e = absurd (cc)
+  star_holds m x _ next e = absurd (none-some next e)
 
   name_holds : (m : ℕ) → Holds (at_name m) h marks whole → (t : Token) (next : State)
       → step_at (at_name m) (at (at_name m)) t ≡ Some next → HoldsAt next (whole ++ t ∷ [])
   name_holds m x (word w) next e = names h marks n (at_name m) whole m w (λ g us b. x (word w ∷ us) (the_name w g b)) next e
-  name_holds m x _ next e = absurd (cc)
+  name_holds m x _ next e = absurd (none-some next e)
 
   sign_holds : (m : ℕ) → Holds (at_sign m) h marks whole → (t : Token) (next : State)
       → step_at (at_sign m) (at (at_sign m)) t ≡ Some next → HoldsAt next (whole ++ t ∷ [])
   sign_holds m x plus next e = same_state _ next _ e (λ us b. shifted h _ whole _ us (x (plus ∷ us) (a_plus b)))
   sign_holds m x minus next e = same_state _ next _ e (λ us b. shifted h _ whole _ us (x (minus ∷ us) (a_minus b)))
   sign_holds m x (relation r) next e = same_state _ next _ e (λ us b. shifted h _ whole _ us (x (relation r ∷ us) (a_relation r b)))
-  sign_holds m x _ next e = absurd (cc)
+  sign_holds m x _ next e = absurd (none-some next e)
 
   constant_holds : Holds at_constant h marks whole → (t : Token) (next : State)
       → step_at at_constant (at at_constant) t ≡ Some next → HoldsAt next (whole ++ t ∷ [])
   constant_holds x (number a j) next e = same_state _ next _ e (x (number a j ∷ []) (a_number a j))
   constant_holds x plus next e = same_state _ next _ e (λ us b. shifted h _ whole _ us (x (plus ∷ us) (after_plus b)))
   constant_holds x minus next e = same_state _ next _ e (λ us b. shifted h _ whole _ us (x (minus ∷ us) (after_minus b)))
-  constant_holds x _ next e = absurd (cc)
+  constant_holds x _ next e = absurd (none-some next e)
 
   number_holds : Holds at_number h marks whole → (t : Token) (next : State) → step_at at_number (at at_number) t ≡ Some next → HoldsAt next (whole ++ t ∷ [])
   number_holds x (number a j) next e = same_state _ next _ e (x (number a j ∷ []) (the_number a j))
-  number_holds x _ next e = absurd (cc)
+  number_holds x _ next e = absurd (none-some next e)
 
   end_holds : Holds at_end h marks whole → (t : Token) (next : State) → step_at at_end (at at_end) t ≡ Some next → HoldsAt next (whole ++ t ∷ [])
   end_holds x (word w) next e = connects h marks n at_end whole x w next e
   end_holds x close_paren next e = closes_paren x n next e
-  end_holds x _ next e = absurd (cc)
+  end_holds x _ next e = absurd (none-some next e)
 
   step_holds : (p : Place) → Holds p h marks whole → (t : Token) (next : State) → step (at p) t ≡ Some next → HoldsAt next (whole ++ t ∷ [])
   step_holds at_operand x t next e = begins h marks n at_operand whole x t next e

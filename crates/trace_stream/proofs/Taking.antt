@@ -4,7 +4,7 @@ use Rattle.std.proofs.Common.{take, drop, refl, sym, ap, ◌∙◌, subst, arith
 use Rattle.std.specs.Prelude.{◌↔◌, if◌then◌else◌, IsTrue, cond, slice_get, slice_index_or}
 use Rattle.std.proofs.lemmas.Bool.{false≢true}
 use Rattle.std.proofs.lemmas.List.{take_more, drop-take, drop-append-le, length-take-le}
-use Rattle.std.proofs.lemmas.Option.{slice_get_within, slice_get_cases, get_or_from_slice_get}
+use Rattle.std.proofs.lemmas.Option.{slice_get_within, slice_get_cases, get_or_from_slice_get, same_Some, none-some}
 use Rattle.stl_syntax.specs.Formula.{Formula}
 use Rattle.stl_syntax.specs.Trace.{Header}
 use Rattle.stl_syntax.specs.Verdicts.{AreAlike}
@@ -28,6 +28,29 @@ use Rattle.trace_stream.proofs.Passes.{steps_append, alike_append, emitted_alike
 
 -- ---- lists
 
+plus_suc : (k n : ℕ) → k + suc n ≡ k + n + 1
+plus_suc k n = omega arith
+
+suc_plus : (k n : ℕ) → suc (k + n) ≡ k + suc n
+suc_plus k n = omega arith
+
+plus_none : (k : ℕ) → k ≡ k + 0
+plus_none k = omega arith
+
+within_none : (k l : ℕ) → k ≤ l → k + 0 ≤ l
+within_none k l h = omega (arith, h)
+
+within_suc : (k n l : ℕ) → k + n < l → k + suc n ≤ l
+within_suc k n l h = omega (arith, h)
+
+-- of m verdicts one more is taken
+fewer_left : (a b e f s t n m : ℕ) → a ≡ e - s → b ≡ f - t → s ≡ n → t ≡ suc n → e ≡ m → f ≡ m → n < m → b < a
+fewer_left a b e f s t n m x y old new size size' within = omega (arith, x, y, old, new, size, size', within)
+
+-- where nothing stands at the next place all are taken
+all_of : (t l g k : ℕ) → t ≡ k → l ≡ g → l ≤ t → k ≤ g → k ≡ g
+all_of t l g k same size past within = omega (arith, same, size, past, within)
+
 -- one element more is taken
 pub take_on : {X : Type 0} (xs : List X) (i : ℕ) (x : X) → slice_get xs i ≡ Some x → take (i + 1) xs ≡ take i xs ++ x ∷ []
 take_on xs i x h = take_more xs i x (slice_get_within xs i x h) ∙ ap (λ y. take i xs ++ y ∷ []) (get_or_from_slice_get xs i x x h)
@@ -38,7 +61,7 @@ take_behind : {X : Type 0} (xs : List X) (k n : ℕ) (x : X) → slice_get xs (k
 take_behind xs k n x h =
     let within : k + n < length xs = slice_get_within xs (k + n) x h in
     let size : length (take (k + n) xs) ≡ k + n = length-take-le (k + n) xs (omega (arith, within)) in
-    let same : k + suc n ≡ k + n + 1 = omega arith in
+    let same : k + suc n ≡ k + n + 1 = plus_suc k n in
     sym (drop-take k (suc n) xs)
     ∙ ap (λ j. drop k (take j xs)) same
     ∙ ap (drop k) (take_on xs (k + n) x h)
@@ -47,7 +70,7 @@ take_behind xs k n x h =
 
 -- where nothing stands the list has ended
 past_end : {X : Type 0} (xs : List X) (i : ℕ) → slice_get xs i ≡ None → length xs ≤ i
-past_end xs i e = elim (slice_get_cases xs i).1 [ inl s ↦ absurd (let h : Some s.0 ≡ None = sym s.2 ∙ e in cc) | inr n ↦ n.0 ]
+past_end xs i e = elim (slice_get_cases xs i).1 [ inl s ↦ absurd (none-some s.0 (sym e ∙ s.2)) | inr n ↦ n.0 ]
 
 -- ---- steps
 
@@ -78,10 +101,10 @@ line_alike scale v w line same is =
 -- an element of a list that is like another
 alike_at : (vs ws : List Verdict) (i : ℕ) (v : Verdict) → AreAlike vs ws → slice_get vs i ≡ Some v
     → (w : Verdict) × (slice_get ws i ≡ Some w) × AreAlike (v ∷ []) (w ∷ [])
-alike_at [] ws i v e at = absurd (let h = at in cc)
+alike_at [] ws i v e at = absurd (none-some v at)
 alike_at (x ∷ vs) [] i v e at = absurd e
 alike_at (x ∷ vs) (y ∷ ws) zero v e at =
-    let same : x ≡ v = (let h = at in cc) in (y, refl, subst (λ (z : Verdict). AreAlike (z ∷ []) (y ∷ [])) same (e.0, e.1, e.2, tt))
+    let same : x ≡ v = same_Some x v at in (y, refl, subst (λ (z : Verdict). AreAlike (z ∷ []) (y ∷ [])) same (e.0, e.1, e.2, tt))
 alike_at (x ∷ vs) (y ∷ ws) (suc i) v e at = alike_at vs ws i v e.3 at
 
 -- ---- takes
@@ -121,7 +144,7 @@ module _ (nodes : List Node) (header : Header) where
       (emitted_alike nodes header (length nodes - 1) (events ++ taken ∷ []) r'.emitted next.emitted r'.is_emitted given) in
       let old : length (held_at net.edges (length nodes - 1)) ≡ length r.emitted - r.taken = ap length r.is ∙ length-drop r.taken r.emitted in
       let new : length (held_at net'.edges (length nodes - 1)) ≡ length r'.emitted - r'.taken = ap length r'.is ∙ length-drop r'.taken r'.emitted in
-      omega (arith, old, new, same, same', size, size', within)
+      fewer_left _ _ _ _ _ _ next.taken (length next.emitted) old new same same' size size' within
 
   -- the same by the number of the network's operators
   pub measure_falls : (events : List Event) (net net' : Parts) (v : Verdict) → Stands nodes header net events → IsNext nodes header events (Some v)
@@ -139,10 +162,10 @@ module _ (p : Pass) (given : Emitted p.nodes p.header p.events (length p.nodes -
   -- before the first take
   pub none_yet : (v : Network) (text : List ℕ) → CanTake p v → HasTaken p 0 v text text
   none_yet v text can =
-      let same : p.taken ≡ p.taken + 0 = omega arith in
+      let same : p.taken ≡ p.taken + 0 = plus_none p.taken in
       let few : p.taken ≤ length p.given = taken_within p.nodes p.header can.taken p.given can.given in
       record {
-        within = omega (arith, few);
+        within = within_none p.taken (length p.given) few;
         stands = subst (λ l. Stands p.nodes p.header v.net l) (sym (append-nil p.events)) can.stands;
         taken = subst (λ l. IsTaken p.nodes p.header l (p.taken + 0)) (sym (append-nil p.events))
             (subst (λ k. IsTaken p.nodes p.header p.events k) same can.taken);
@@ -169,12 +192,12 @@ module _ (p : Pass) (given : Emitted p.nodes p.header p.events (length p.nodes -
       let (w, at, same) = next_one n v h.taken next in
       let within : p.taken + n < length p.given = slice_get_within p.given (p.taken + n) w at in
       let (grown, lines, is) = h.lines in
-      let longer : p.taken + suc n ≡ p.taken + n + 1 = omega arith in
-      let up : suc (p.taken + n) ≡ p.taken + suc n = omega arith in
+      let longer : p.taken + suc n ≡ p.taken + n + 1 = plus_suc p.taken n in
+      let up : suc (p.taken + n) ≡ p.taken + suc n = suc_plus p.taken n in
       let first : take (p.taken + suc n) p.given ≡ take (p.taken + n) p.given ++ w ∷ [] =
       ap (λ k. take k p.given) longer ∙ take_on p.given (p.taken + n) w at in
       record {
-        within = omega (arith, within);
+        within = within_suc p.taken n (length p.given) within;
         stands = subst (λ l. Stands p.nodes p.header after.net l) (takes_on p.events n) stands;
         taken = subst (λ l. IsTaken p.nodes p.header l (p.taken + suc n)) (takes_on p.events n)
             (subst (λ k. IsTaken p.nodes p.header ((p.events ++ takes n) ++ taken ∷ []) k) up (next_taken p.given (given_on n) within h.taken));
@@ -204,12 +227,12 @@ module _ (p : Pass) (given : Emitted p.nodes p.header p.events (length p.nodes -
   gives_one n v before after old mid new h next stands start more =
       let (w, at, same) = next_one n v h.taken next in
       let within : p.taken + n < length p.given = slice_get_within p.given (p.taken + n) w at in
-      let longer : p.taken + suc n ≡ p.taken + n + 1 = omega arith in
-      let up : suc (p.taken + n) ≡ p.taken + suc n = omega arith in
+      let longer : p.taken + suc n ≡ p.taken + n + 1 = plus_suc p.taken n in
+      let up : suc (p.taken + n) ≡ p.taken + suc n = suc_plus p.taken n in
       let first : take (p.taken + suc n) p.given ≡ take (p.taken + n) p.given ++ w ∷ [] =
       ap (λ k. take k p.given) longer ∙ take_on p.given (p.taken + n) w at in
       record {
-        within = omega (arith, within);
+        within = within_suc p.taken n (length p.given) within;
         stands = subst (λ l. Stands p.nodes p.header after.net l) (takes_on p.events n) stands;
         taken = subst (λ l. IsTaken p.nodes p.header l (p.taken + suc n)) (takes_on p.events n)
             (subst (λ k. IsTaken p.nodes p.header ((p.events ++ takes n) ++ taken ∷ []) k) up (next_taken p.given (given_on n) within h.taken));
@@ -229,8 +252,7 @@ module _ (p : Pass) (given : Emitted p.nodes p.header p.events (length p.nodes -
       let size : length next.emitted ≡ length p.given = alike_length next.emitted p.given
       (emitted_alike p.nodes p.header (length p.nodes - 1) (p.events ++ takes n) next.emitted p.given next.is_emitted (given_on n)) in
       let past : length next.emitted ≤ next.taken = past_end next.emitted next.taken (sym next.is) in
-      let within = h.within in
-      omega (arith, same, size, past, within)
+      all_of next.taken (length next.emitted) (length p.given) (p.taken + n) same size past h.within
 
   -- a take that finds none: all was taken
   pub all_taken : (n : ℕ) (v : Network) (old new : List ℕ) → HasTaken p n v old new → IsNext p.nodes p.header (p.events ++ takes n) None
@@ -240,8 +262,7 @@ module _ (p : Pass) (given : Emitted p.nodes p.header p.events (length p.nodes -
       let size : length next.emitted ≡ length p.given = alike_length next.emitted p.given
       (emitted_alike p.nodes p.header (length p.nodes - 1) (p.events ++ takes n) next.emitted p.given next.is_emitted (given_on n)) in
       let past : length next.emitted ≤ next.taken = past_end next.emitted next.taken (sym next.is) in
-      let within = h.within in
-      omega (arith, same, size, past, within)
+      all_of next.taken (length next.emitted) (length p.given) (p.taken + n) same size past h.within
 
 -- ---- steps
 

@@ -1,4 +1,5 @@
-use Rattle.std.proofs.Common.{refl, sym, subst, arith}
+use Rattle.std.proofs.Common.{◌<◌, ◌∙◌, refl, sym, subst}
+use Rattle.std.proofs.lemmas.Bool.{true≢false}
 use Rattle.frac128.specs.Spans.{interval}
 use Rattle.stl_syntax.specs.declared.items.Verdict.{Verdict}
 use Rattle.online_nodes.specs.Working.{HasPassed}
@@ -43,8 +44,8 @@ pub returns-then-precedes-2-clause-read : goal.returns-then-precedes-2-clause-re
 returns-then-precedes-2-clause-read c =
     let to_end : AtMost (place c.earlier-both.result) (place c.args.out.to) =
     at_most_of_not_before (place c.earlier-both.result) (place c.args.out.to)
-    (λ b. let e = c.precedes.ensures.1 (subst (λ (q : Cut). Before (place q) (place c.earlier-both.result)) (sym c.end.ensures) b) in
-    let f = c.if-precedes.false in cc) in
+    (λ b. true≢false (sym (c.precedes.ensures.1 (subst (λ (q : Cut). Before (place q) (place c.earlier-both.result)) (sym c.end.ensures) b))
+    ∙ c.if-precedes.false)) in
     let said = said_of_both c.requires.first_left c.requires.first_right c.requires.own c.requires.left_apart c.requires.right_apart c.requires.apart
     (subst (λ b. HasAnswer c.args.edges.now c.upto.new.edges c.args.out b c.in_ok-next.next) c.of.ensures c.in_ok-next.ensures.said)
     c.in_ok-next.ensures.reaches
@@ -52,7 +53,7 @@ returns-then-precedes-2-clause-read c =
     (place c.earlier-both.result) c.earlier-both.ensures.second c.end-w_end.ensures) to_end in
     let passed : HasPassed c.upto.new.edges c.pass.new.self c.args.inputs.right c.pass.result =
     record {
-      within = omega (arith, got-length said.said.got, c.requires.right);
+      within = subst (λ n. c.args.inputs.right < n) (sym (got-length said.said.got)) c.requires.right;
       first = c.pass.ensures.first;
       edges = c.pass.ensures.read;
       start = c.pass.ensures.start;
@@ -66,8 +67,8 @@ pub returns-then-precedes-3-clause-read : goal.returns-then-precedes-3-clause-re
 returns-then-precedes-3-clause-read c =
     let to_end : AtMost (place c.earlier-both.result) (place c.args.out.to) =
     at_most_of_not_before (place c.earlier-both.result) (place c.args.out.to)
-    (λ b. let e = c.precedes.ensures.1 (subst (λ (q : Cut). Before (place q) (place c.earlier-both.result)) (sym c.end.ensures) b) in
-    let f = c.if-precedes.false in cc) in
+    (λ b. true≢false (sym (c.precedes.ensures.1 (subst (λ (q : Cut). Before (place q) (place c.earlier-both.result)) (sym c.end.ensures) b))
+    ∙ c.if-precedes.false)) in
     let said = said_of_both c.requires.first_left c.requires.first_right c.requires.own c.requires.left_apart c.requires.right_apart c.requires.apart
     (subst (λ b. HasAnswer c.args.edges.now c.upto.new.edges c.args.out b c.in_ok-next.next) c.of.ensures c.in_ok-next.ensures.said)
     c.in_ok-next.ensures.reaches
@@ -75,7 +76,7 @@ returns-then-precedes-3-clause-read c =
     (place c.earlier-both.result) c.earlier-both.ensures.second c.end-w_end.ensures) to_end in
     let passed : HasPassed c.upto.new.edges c.pass-2.new.self c.args.inputs.left c.pass-2.result =
     record {
-      within = omega (arith, got-length said.said.got, c.requires.left);
+      within = subst (λ n. c.args.inputs.left < n) (sym (got-length said.said.got)) c.requires.left;
       first = c.pass-2.ensures.first;
       edges = c.pass-2.ensures.read;
       start = c.pass-2.ensures.start;
@@ -83,15 +84,15 @@ returns-then-precedes-3-clause-read c =
     } in
     let v_ended : AtMost (ends (interval c.args.v.on)) (place c.earlier-both.result) =
     named_at_most (place c.earlier-both.result) c.end-v_end.ensures (at_most_of_not_before (place c.end-v_end.result) (place c.earlier-both.result)
-    (λ b. let e = c.precedes-2.ensures.1 b in let f = c.if-precedes-2.false in cc)) in
+    (λ b. true≢false (sym (c.precedes-2.ensures.1 b) ∙ c.if-precedes-2.false))) in
     left_was_read said passed v_ended
 
 pub returns-clause-read : goal.returns-clause-read
 returns-clause-read c =
     let to_end : AtMost (place c.earlier-both.result) (place c.args.out.to) =
     at_most_of_not_before (place c.earlier-both.result) (place c.args.out.to)
-    (λ b. let e = c.precedes.ensures.1 (subst (λ (q : Cut). Before (place q) (place c.earlier-both.result)) (sym c.end.ensures) b) in
-    let f = c.if-precedes.false in cc) in
+    (λ b. true≢false (sym (c.precedes.ensures.1 (subst (λ (q : Cut). Before (place q) (place c.earlier-both.result)) (sym c.end.ensures) b))
+    ∙ c.if-precedes.false)) in
     let said = said_of_both c.requires.first_left c.requires.first_right c.requires.own c.requires.left_apart c.requires.right_apart c.requires.apart
     (subst (λ b. HasAnswer c.args.edges.now c.upto.new.edges c.args.out b c.in_ok-next.next) c.of.ensures c.in_ok-next.ensures.said)
     c.in_ok-next.ensures.reaches
@@ -99,7 +100,7 @@ returns-clause-read c =
     (place c.earlier-both.result) c.earlier-both.ensures.second c.end-w_end.ensures) to_end in
     let passed : HasPassed c.upto.new.edges c.pass-2.new.self c.args.inputs.left c.pass-2.result =
     record {
-      within = omega (arith, got-length said.said.got, c.requires.left);
+      within = subst (λ n. c.args.inputs.left < n) (sym (got-length said.said.got)) c.requires.left;
       first = c.pass-2.ensures.first;
       edges = c.pass-2.ensures.read;
       start = c.pass-2.ensures.start;
@@ -107,7 +108,7 @@ returns-clause-read c =
     } in
     let also : HasPassed c.pass-2.new.self c.pass-3.new.self c.args.inputs.right c.pass-3.result =
     record {
-      within = omega (arith, got-length said.said.got, passed-length passed, c.requires.right);
+      within = subst (λ n. c.args.inputs.right < n) (sym (passed-length passed ∙ got-length said.said.got)) c.requires.right;
       first = c.pass-3.ensures.first;
       edges = c.pass-3.ensures.read;
       start = c.pass-3.ensures.start;
@@ -115,8 +116,8 @@ returns-clause-read c =
     } in
     let v_ended : AtMost (ends (interval c.args.v.on)) (place c.earlier-both.result) =
     named_at_most (place c.earlier-both.result) c.end-v_end.ensures (at_most_of_not_before (place c.end-v_end.result) (place c.earlier-both.result)
-    (λ b. let e = c.precedes-2.ensures.1 b in let f = c.if-precedes-2.false in cc)) in
+    (λ b. true≢false (sym (c.precedes-2.ensures.1 b) ∙ c.if-precedes-2.false))) in
     let w_ended : AtMost (ends (interval c.args.w.on)) (place c.earlier-both.result) =
     named_at_most (place c.earlier-both.result) c.end-w_end.ensures (at_most_of_not_before (place c.end-w_end.result) (place c.earlier-both.result)
-    (λ b. let e = c.precedes-3.ensures.1 b in let f = c.if-precedes-3.false in cc)) in
+    (λ b. true≢false (sym (c.precedes-3.ensures.1 b) ∙ c.if-precedes-3.false))) in
     both_were_read said passed also v_ended w_ended

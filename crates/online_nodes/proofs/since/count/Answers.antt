@@ -1,5 +1,6 @@
 use Rattle.std.proofs.Common.{rules, refl, ◌≡◌, inl, inr, ap, sym, subst, ◌∙◌, arith, to_z, of_z, to_z-of_z}
 use Rattle.std.specs.Int.{w64}
+use Rattle.std.proofs.lemmas.Bool.{true≢false}
 use Rattle.rational.specs.Rational.{FitsFloor, add, whole}
 use Rattle.frac128.specs.Spans.{interval}
 use Rattle.frac128.specs.Value.{value}
@@ -185,7 +186,7 @@ returns-clause-turned c =
           (c.precedes-2.ensures.0 c.if-not-precedes-2.false);
       to_end = subst (λ (q : Cut). AtMost (place c.shift_begin-begin.result) (place q)) c.end.ensures
           (at_most_of_not_before (place c.shift_begin-begin.result) (place c.end.result)
-          (λ b. let x = c.precedes-3.ensures.1 b in let y = c.if-precedes.false in cc));
+          (λ b. true≢false (sym (c.precedes-3.ensures.1 b) ∙ c.if-precedes.false)));
       held_reach = c.earlier.ensures.first;
       held_end = λ t h. subst (λ (q : Place). Upto q t) c.end-v_end.ensures (c.earlier.ensures.second t h);
       held_one = elim c.earlier.ensures.one [ inl e ↦ inl e | inr e ↦ inr (ap place e ∙ c.end-v_end.ensures) ];

@@ -1,6 +1,7 @@
 use Rattle.std.proofs.Common.{inl, inr, ap, sym, subst, ◌∙◌, arith}
 use Rattle.frac128.specs.Spans.{interval}
 use Rattle.std.specs.Int.{w64}
+use Rattle.std.proofs.lemmas.Bool.{true≢false}
 use Rattle.rational.specs.Rational.{Rational, FitsFloor, add, whole}
 use Rattle.rational.specs.Places.{Place, begins, ends, AtMost, Before, Upto}
 use Rattle.frac128.specs.Cuts.{place}
@@ -72,7 +73,7 @@ returns-clause-turned c =
     v_end
     (subst (λ (q : Cut). AtMost (place c.end-end.result) (place q)) c.end-to.ensures
     (at_most_of_not_before (place c.end-end.result) (place c.end-to.result)
-    (λ b. let x = c.precedes.ensures.1 b in let y = c.if-precedes.false in cc)))
+    (λ b. true≢false (sym (c.precedes.ensures.1 b) ∙ c.if-precedes.false))))
     passed
     (subst (λ (q : Rational). FitsFloor w64 (add q (whole c.args.since.window.begin_by))) (sym (ap (λ (q : Place). q.at) v_end))
     c.requires.fits_left.1)

@@ -1,5 +1,6 @@
-use Rattle.std.proofs.Common.{rules, refl, ◌≡◌, inl, inr, ap, subst, to_z, of_z, to_z-of_z}
+use Rattle.std.proofs.Common.{sym, ◌∙◌, rules, refl, ◌≡◌, inl, inr, ap, subst, to_z, of_z, to_z-of_z}
 use Rattle.std.specs.Int.{w64}
+use Rattle.std.proofs.lemmas.Bool.{true≢false}
 use Rattle.frac128.specs.Spans.{interval}
 use Rattle.frac128.specs.Value.{value}
 use Rattle.rational.specs.Places.{Place, ends, moved_begin, AtMost, Before, Same, Upto}
@@ -81,6 +82,6 @@ returns-clause-passed c =
         subst (λ (q : Cut). AtMost (ends (interval c.args.v.on)) (place q)) c.end-2.ensures
             (subst (λ (q : Place). AtMost q (place c.end-2.result)) c.end-end.ensures
             (at_most_of_not_before (place c.end-end.result) (place c.end-2.result)
-            (λ b. let x = c.precedes-2.ensures.1 b in let y = c.if-precedes.false in cc))),
+            (λ b. true≢false (sym (c.precedes-2.ensures.1 b) ∙ c.if-precedes.false)))),
       ),
     )

@@ -1,4 +1,5 @@
 use Rattle.std.proofs.Common.{◌≡◌, ◌∙◌, sym, subst}
+use Rattle.std.proofs.lemmas.Option.{none-some}
 use Rattle.online_nodes.specs.Held.{fresh_at}
 use Rattle.online_nodes.specs.Working.{HasPassed}
 use Rattle.stl_syntax.specs.declared.items.Verdict.{Verdict}
@@ -15,7 +16,7 @@ returns-in_default-clause-turned c =
     let at : IsWorking c.args.edges.now c.args.since c.args.course =
     record { own = c.requires.own; left_apart = c.requires.left_apart; right_apart = c.requires.right_apart; apart = c.requires.apart } in
     let none = no_first (fresh_at c.args.edges.now c.args.since.window.of) (sym c.next.ensures ∙ c.in_default.is) in
-    rest_done at c.in_ok-done.ensures.rested (λ v first. absurd (let x = sym first ∙ sym c.next.ensures ∙ c.in_default.is in cc))
+    rest_done at c.in_ok-done.ensures.rested (λ v first. absurd (none-some v (sym (sym first ∙ sym c.next.ensures ∙ c.in_default.is))))
     (λ x written r of m. left_out_rests of m none)
 
 pub returns-in_default-next-clause-turned : goal.returns-in_default-next-clause-turned
@@ -26,7 +27,7 @@ returns-in_default-next-clause-turned c =
     go_on_turn at (sym c.next.ensures ∙ c.in-Some.is) (true_of_not c.in-Some.v.holds c.if-not-v.false) c.requires.fits_run
     (record {
       falls = λ x written r of m t a b to u. right_out_falls of m none t a b to;
-      spent = λ w first. absurd (let x = sym first ∙ sym c.next-2.ensures ∙ c.in_default-next.is in cc);
+      spent = λ w first. absurd (none-some w (sym (sym first ∙ sym c.next-2.ensures ∙ c.in_default-next.is)));
     })
     c.go_on.new.edges c.in_ok-turn-2.turn c.in_ok-turn-2.ensures.gone
 

@@ -1,5 +1,6 @@
-use Rattle.std.proofs.Common.{rules, inl, inr, refl, sym, ap, subst, true, false, to_z, of_z, to_z-of_z}
+use Rattle.std.proofs.Common.{◌∙◌, rules, inl, inr, refl, sym, ap, subst, true, false, to_z, of_z, to_z-of_z}
 use Rattle.std.specs.Int.{w64}
+use Rattle.std.proofs.lemmas.Bool.{true≢false}
 use Rattle.rational.specs.Rational.{FitsFloor, add, whole}
 use Rattle.frac128.specs.Value.{value}
 use Rattle.frac128.specs.declared.cut.Cut.{Cut}
@@ -129,7 +130,6 @@ returns-clause-turned c =
     } in
     let to_end : AtMost (place c.shift_begin-from.result) (place c.args.sweep.out.to) =
     at_most_of_not_before (place c.shift_begin-from.result) (place c.args.sweep.out.to)
-    (λ b. let e = c.precedes-2.ensures.1 (subst (λ (q : Cut). Before (place q) (place c.shift_begin-from.result)) (sym c.end.ensures) b) in
-    let f = c.if-precedes.false in cc) in
+    (λ b. true≢false (sym (c.precedes-2.ensures.1 (subst (λ (q : Cut). Before (place q) (place c.shift_begin-from.result)) (sym c.end.ensures) b)) ∙ c.if-precedes.false)) in
     counts_now {reach = c.shift_end-reach.result} next
     (c.precedes.ensures.0 c.if-not-precedes.false) from_is said to_end reach_is c.pass_ended-2.ensures

@@ -2,6 +2,8 @@ use Rattle.std.proofs.Common.{rules, refl, sym, ◌∙◌, ap, subst, ◌≡◌,
 use Rattle.std.specs.Int.{w64}
 use Rattle.std.proofs.lemmas.List.{append-nil}
 use Rattle.std.proofs.lemmas.Option.{slice_get_within}
+use Rattle.std.proofs.lemmas.Bool.{true≢false}
+use Rattle.std.proofs.lemmas.Option.{none-some}
 use Rattle.frac128.specs.Value.{value}
 use Rattle.frac128.specs.Spans.{interval}
 use Rattle.online_nodes.specs.Working.{HasPassed}
@@ -36,7 +38,7 @@ pub returns-in_default-clause-read : goal.returns-in_default-clause-read
 returns-in_default-clause-read c =
     record {
       same = refl;
-      beyond = λ v first. absurd (let x = sym first ∙ sym c.next.ensures ∙ c.in_default.is in cc);
+      beyond = λ v first. absurd (none-some v (sym (sym first ∙ sym c.next.ensures ∙ c.in_default.is)));
       settles = λ n p tr begin written read stop of m.
           none_left n p tr c.args.window begin written read stop c.args.sweep of
           (subst (λ l. IsSwept n p tr c.args.window begin written c.args.sweep read stop l)
@@ -187,8 +189,8 @@ returns-clause-read c =
                   | inl h ↦ absurd (not_both (place c.in_ok-out.out.at) t (two.reached t h
                       (subst (λ (q : Cut). Upto (place q) t) (sym same)
                       (at_most_of_not_before from (place s.out.to)
-                      (λ b. let x = c.precedes.ensures.1 (subst (λ (q : Cut). Before (place q) from)
-                      (sym c.end.ensures) b) in let y = c.if-precedes.false in cc) t h))) a)
+                      (λ b. true≢false (sym (c.precedes.ensures.1 (subst (λ (q : Cut). Before (place q) from)
+                      (sym c.end.ensures) b)) ∙ c.if-precedes.false)) t h))) a)
                   | inr h ↦ h
                 ])
                 told m'),
