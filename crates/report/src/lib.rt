@@ -32,7 +32,7 @@ pub use last_part::LastPart;
 pub use line::{Detail, Line, put_line};
 pub use listing::verdicts_of;
 pub use margin::put_margins;
-pub use part::{MarginPart, put_margin_line_after};
+pub use part::{MarginPart, put_margin_line, put_margin_line_after};
 pub use signal::put_verdicts;
 pub use table::put_table;
 pub use verdict::{put_start, put_verdict, put_verdict_after};

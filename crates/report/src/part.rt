@@ -126,10 +126,26 @@ fn put_gap(
 }
 
 /// Appends the line of a part of a margin: a point with its value, or a gap with its limits. Times and values are in units of the
-/// scale, in lowest terms. `last` has what was written last, so that a part that begins there takes its texts over.
+/// scale, in lowest terms.
 ///
 /// # Errors
 /// Want of memory. The text then has a first part of the line.
+pub fn put_margin_line(text: &mut Text, line: &MarginPart, scale: Scale) -> Result<(), Memory>
+    requires time { scale.time ≤ 6 }
+    requires value { scale.value ≤ 6 }
+    requires within { IsPartWithin (2 ^ 34) line.now }
+    ensures ok { OnOk result (Grew (IsPartLine scale line.now) text.old text.new) }
+    ensures err { OnErr result (GrewInPart (IsPartLine scale line.now) text.old text.new) }
+{
+    let mut last = LastPart::new();
+    put_margin_line_after(text, &mut last, line, scale)
+}
+
+/// Appends the line of a part of a margin, as `put_margin_line`. `last` has what was written last, so that a part that begins there
+/// takes its texts over.
+///
+/// # Errors
+/// As `put_margin_line`.
 pub fn put_margin_line_after(
     text: &mut Text,
     last: &mut LastPart,
