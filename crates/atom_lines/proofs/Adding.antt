@@ -1,7 +1,9 @@
 -- A sum that grows by a term, and how large it can be.
 use Rattle.std.proofs.Common.{◌≡◌, ℕ, ℤ, ◌+◌, ◌*◌, ◌^◌, ◌<◌, ◌≤◌, ◌+ℤ◌, ◌-ℤ◌, ◌*ℤ◌, List, length, get_or, drop, nat_abs, ap, arith}
-use Rattle.std.proofs.lemmas.Int.{ints}
-use Rattle.std.proofs.lemmas.List.{drop_more}
+use Rattle.std.proofs.Common.{FitsSigned, to_z, of_z, sym, subst, ◌∙◌, pos}
+use Rattle.std.specs.Int.{w32, w64}
+use Rattle.std.proofs.lemmas.Int.{ints, to_z-of_z}
+use Rattle.std.proofs.lemmas.List.{drop_more, drop_all}
 use Rattle.atom_lines.specs.declared.tied.BoundTerm.{BoundTerm}
 use Rattle.atom_lines.specs.declared.tied.BoundAtom.{BoundAtom}
 use Rattle.atom_lines.specs.Sums.{cell, sum_over, reach}
@@ -31,3 +33,57 @@ rise_small a first second h k = omega (arith, ints, h, k)
 pub reach_small : (a : BoundAtom) (first second : List ℤ) → nat_abs a.limit ≤ 1073741824
     → nat_abs (sum_over a.terms.items first second) ≤ 2 ^ 30 → nat_abs (reach a first second) ≤ 2 ^ 31
 reach_small a first second h k = omega (arith, ints, h, k)
+
+small_fits : (z : ℤ) → nat_abs z ≤ 2 ^ 32 → FitsSigned w64 z
+small_fits z h = omega (arith, ints, h)
+
+-- a small number is read as it was written
+pub read_back : (z : ℤ) → nat_abs z ≤ 2 ^ 32 → to_z w64 (of_z w64 z) ≡ z
+read_back z h = to_z-of_z w64 z (small_fits z h)
+
+fits_word : (z : ℤ) → nat_abs z ≤ 2 ^ 30 → FitsSigned w32 z
+fits_word z h = omega (arith, ints, h)
+
+-- a constant within its limit is read as it is
+pub limit_read : (z limit : ℤ) → nat_abs limit ≤ 2 ^ 30 → z ≡ to_z w32 (of_z w32 limit) → z ≡ limit
+limit_read z limit h e = e ∙ to_z-of_z w32 limit (fits_word limit h)
+
+small_sum : (s t : ℤ) (i n : ℕ) → nat_abs s ≤ i * 2 ^ 28 → i < n → n ≤ 4 → nat_abs t ≤ 2 ^ 28 → nat_abs (s +ℤ t) ≤ 2 ^ 32
+small_sum s t i n h l few k = omega (arith, ints, h, l, few, k)
+
+small_less : (s z : ℤ) (i n : ℕ) → nat_abs s ≤ i * 2 ^ 28 → i ≤ n → n ≤ 4 → nat_abs z ≤ 2 ^ 30 → nat_abs (s -ℤ z) ≤ 2 ^ 32
+small_less s z i n h l few k = omega (arith, ints, h, l, few, k)
+
+-- the sum with the next term fits
+pub sum_fits : (s t : ℤ) (i n : ℕ) → nat_abs s ≤ i * 2 ^ 28 → i < n → n ≤ 4 → nat_abs t ≤ 2 ^ 28 → FitsSigned w64 (s +ℤ to_z w64 (of_z w64 t))
+sum_fits s t i n h l few k =
+    subst (λ x. FitsSigned w64 (s +ℤ x)) (sym (read_back t (omega (arith, k)))) (small_fits (s +ℤ t) (small_sum s t i n h l few k))
+
+-- and without the constant
+pub less_fits : (s z : ℤ) (i n : ℕ) → nat_abs s ≤ i * 2 ^ 28 → i ≤ n → n ≤ 4 → nat_abs z ≤ 2 ^ 30 → FitsSigned w64 (s -ℤ to_z w64 (of_z w64 z))
+less_fits s z i n h l few k =
+    subst (λ x. FitsSigned w64 (s -ℤ x)) (sym (read_back z (omega (arith, k)))) (small_fits (s -ℤ z) (small_less s z i n h l few k))
+
+-- the sum of all terms
+pub whole_sum : (terms : List BoundTerm) (first second : List ℤ) (s : ℤ) (i : ℕ) → length terms ≤ i
+    → (s +ℤ sum_over (drop i terms) first second) ≡ sum_over terms first second → s ≡ sum_over terms first second
+whole_sum terms first second s i past e =
+    let rest : sum_over (drop i terms) first second ≡ pos 0 = ap (λ ks. sum_over ks first second) (drop_all i terms past) in
+    omega (arith, ints, e, rest)
+
+-- is small
+pub whole_small : (s total : ℤ) (i n : ℕ) → nat_abs s ≤ i * 2 ^ 28 → i ≤ n → n ≤ 4 → s ≡ total → nat_abs total ≤ 2 ^ 30
+whole_small s total i n h l few e = subst (λ x. nat_abs x ≤ 2 ^ 30) e (by_count s i n h l few)
+  where
+    by_count : (s : ℤ) (i n : ℕ) → nat_abs s ≤ i * 2 ^ 28 → i ≤ n → n ≤ 4 → nat_abs s ≤ 2 ^ 30
+    by_count s i n h l few = omega (arith, h, l, few)
+
+-- and without the constant it is the atom's
+pub reach_read : (a : BoundAtom) (first second : List ℤ) (s z : ℤ) (i : ℕ) → nat_abs s ≤ i * 2 ^ 28 → i ≤ length a.terms.items
+    → length a.terms.items ≤ 4 → nat_abs a.limit ≤ 2 ^ 30 → z ≡ a.limit → s ≡ sum_over a.terms.items first second
+    → to_z w64 (of_z w64 (s -ℤ to_z w64 (of_z w64 z))) ≡ reach a first second
+reach_read a first second s z i h l few k e is =
+    let small : nat_abs z ≤ 2 ^ 30 = subst (λ x. nat_abs x ≤ 2 ^ 30) (sym e) k in
+    ap (λ x. to_z w64 (of_z w64 (s -ℤ x))) (read_back z (omega (arith, small)))
+    ∙ read_back (s -ℤ z) (small_less s z i (length a.terms.items) h l few small)
+    ∙ ap (λ x. x -ℤ z) is ∙ ap (λ x. sum_over a.terms.items first second -ℤ x) e
