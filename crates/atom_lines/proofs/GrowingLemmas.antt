@@ -215,6 +215,43 @@ module _ {P : Type 0} (shape : ShapeOf P) (told : How) (rel : Rel) (g : Gap) (ne
       by_shape p (inr (inl s)) = inr (subst (λ q. IsRowBase (shape.base q)) (sym s) b)
       by_shape p (inr (inr s)) = inr (subst (λ q. IsRowBase (shape.base q)) (sym s) c)
 
+  -- over one shape, which the atom has from where the signal ends
+  pub goes_level : (old new : List (Knot P)) (after point : P) (end : Frac) → g.second < 2 ^ 32 → value end ≈ second → stop old ≤ʳ first
+      → GoesOn shape old after end point new
+      → ((t : Rational) → value_at (shape.function after) t ≈ᵉ worth told rel (whole g.from))
+      → ((t : Rational) → first <ʳ t → t <ʳ second → value_at (shape.function after) t ≈ᵉ worth told rel (at (along g) t))
+      → ((t : Rational) → value_at (shape.function point) t ≈ᵉ worth told rel (whole next))
+      → ((p : P) → IsRowBase (shape.base p)) → GoesAlong shape told rel g next old new
+  goes_level old new after point end m h late on was gap here b = record {
+    signal = on.signal;
+    begins = on.begins;
+    later = le_trans late (le_trans (le_of_lt (gap_in_order g)) (ge_of_same ends));
+    ends = le_of_same ends;
+    late = tick_within g.second m ends;
+    before = λ l. absurd (lt_irrefl (lt_trans l (lt_of_lt_of_le (gap_in_order g) (ge_of_same ends))));
+    on = λ t l p q. absurd (lt_irrefl (lt_of_lt_of_le (lt_trans l q) (ge_of_same ends)));
+    worth = λ t v w. by_part t v ((on.worth t v).0 w);
+    bases = λ p s. inr (b p);
+  }
+    where
+      ends : stop new ≈ second
+      ends = subst (λ x. x ≈ second) (sym on.ends) h
+
+      by_place : (t : Rational) (v : Extended) → (stop old <ʳ t) → (t <ʳ value end) → Passes (shape.function after) t v → (t ≤ʳ first) ⊎ (first <ʳ t)
+          → Part old t v
+      by_place t v l z p (inl le) = inr (inl (l, le, same_transᵉ v (value_at (shape.function after) t) (worth told rel (whole g.from)) p (was t)))
+      by_place t v l z p (inr lt) =
+          let soon : t <ʳ second = lt_of_lt_of_le z (le_of_same h) in
+          inr (inr (inl (lt, soon, same_transᵉ v (value_at (shape.function after) t) (worth told rel (at (along g) t)) p (gap t lt soon))))
+
+      by_part : (t : Rational) (v : Extended) → IsWorth shape old t v
+          ⊎ ((stop old <ʳ t) × (t <ʳ value end) × Passes (shape.function after) t v) ⊎ ((t ≈ value end) × Passes (shape.function point) t v)
+          → Part old t v
+      by_part t v (inl w) = inl w
+      by_part t v (inr (inl (l, z, p))) = by_place t v l z p (le_or_lt t first)
+      by_part t v (inr (inr (e, p))) =
+          inr (inr (inr (same_trans e h, same_transᵉ v (value_at (shape.function point) t) (worth told rel (whole next)) p (here t))))
+
   -- up to a turn inside the gap
   pub record Turned (old mid : List (Knot P)) (before there : P) (turn : Frac) : Type 0 where
     pub late : stop old ≤ʳ first

@@ -21,8 +21,3 @@ pub record IsSplit (from to : Rational) (test : Rational → Bool) (before : Tru
 abbrev pub TellsGap : Rational → Rational → (Rational → Bool) → TruthPiece → Type 0
 TellsGap from to test (Whole w) = (t : Rational) → from <ʳ t → t <ʳ to → test t ≡ w.holds
 TellsGap from to test (Split before at point after) = IsSplit from to test before at point after
-
--- a split begins with that truth
-abbrev pub BeginsWith : Bool → TruthPiece → Type 0
-BeginsWith first (Whole w) = Unit {0}
-BeginsWith first (Split before at point after) = before.holds ≡ first

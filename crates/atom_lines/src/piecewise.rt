@@ -5,13 +5,13 @@ ghost use Rattle.rational.specs.Rational.{Rational, IsWithin, whole};
 ghost use Rattle.rational.specs.Time.{◌≤ʳ◌};
 ghost use Rattle.rational.specs.Extended.{value_at, ◌≈ᵉ◌};
 ghost use Rattle.pl_signal.specs.Knots.{stop, IsSignal};
-ghost use Rattle.atom_lines.specs.Gaps.{AreOfSign};
+ghost use Rattle.atom_lines.specs.Gaps.{Passes};
 ghost use Rattle.atom_lines.specs.Growing.{CatchesUp, GoesAlong, IsRowBase};
-ghost use Rattle.atom_lines.specs.How.{How, worth};
+ghost use Rattle.atom_lines.specs.How.{How, by_truth, worth};
 
 use crate::gap::Gap;
 use crate::margin::{margin_at, margin_between};
-use crate::truth::{TruthPiece, truth_at, truth_between};
+use crate::truth::{changes_sign, crossing, keeps_sign, truth_at};
 use frac128::{Frac, Memory};
 use pl_signal::Builder;
 use std::cmp::Ordering;
@@ -52,26 +52,10 @@ impl Piecewise for Truth {
         if keeps_sign(gap, next) {
             return Ok(());
         }
-        let end = Frac::of(i64::from(gap.second));
-        let last = truth_at(rel, next);
-        match truth_between(rel, gap) {
-            TruthPiece::Whole(truth) => {
-                catch_up(signal, &truth_at(rel, gap.from), gap.first)?;
-                signal.step(truth, end, last)
-            }
-            TruthPiece::Split {
-                before,
-                at,
-                point,
-                after,
-            } => {
-                signal.step(before, at, point)?;
-                if last.holds() == after.holds() {
-                    return Ok(());
-                }
-                signal.step(after, end, last)
-            }
+        if changes_sign(gap) {
+            return turn_over(signal, rel, gap, next);
         }
+        stay_over(signal, rel, gap, next)
     }
 }
 
@@ -94,14 +78,42 @@ impl Piecewise for Margin {
     }
 }
 
-/// Whether the sum lies on one side of the constant over the gap, and at its ends.
-fn keeps_sign(gap: &Gap, next: i64) -> bool
-    ensures { IsTrue result → AreOfSign gap.now next }
+/// Goes on over a gap in which the truth turns over.
+fn turn_over(signal: &mut Builder<Truth>, rel: Rel, gap: &Gap, next: i64) -> Result<(), Memory>
+    requires passes { Passes gap.now }
+    requires limited { IsWithin (2 ^ 34) (stop signal.old) }
+    requires late { stop signal.old ≤ʳ whole (pos gap.now.first) }
+    ensures { OnOk result (GoesAlong ⟦<Truth as Shape>⟧ by_truth rel gap.now next signal.old signal.new) }
 {
-    if gap.from > 0 {
-        return gap.to > 0 && next > 0;
+    let at = crossing(*gap);
+    let end = Frac::of(i64::from(gap.second));
+    let before = truth_at(rel, gap.from);
+    let point = truth_at(rel, 0);
+    signal.go_along(&before, &at, &point)?;
+    if next == gap.to {
+        return Ok(());
     }
-    gap.from < 0 && gap.to < 0 && next < 0
+    let after = truth_at(rel, gap.to);
+    let last = truth_at(rel, next);
+    signal.go_along(&after, &end, &last)
+}
+
+/// Goes on over a gap with one truth.
+fn stay_over(signal: &mut Builder<Truth>, rel: Rel, gap: &Gap, next: i64) -> Result<(), Memory>
+    requires stays { ¬ Passes gap.now }
+    requires limited { IsWithin (2 ^ 34) (stop signal.old) }
+    requires late { stop signal.old ≤ʳ whole (pos gap.now.first) }
+    ensures { OnOk result (GoesAlong ⟦<Truth as Shape>⟧ by_truth rel gap.now next signal.old signal.new) }
+{
+    let end = Frac::of(i64::from(gap.second));
+    let before = truth_at(rel, gap.from);
+    let after = truth_at(rel, gap.from + gap.to);
+    let last = truth_at(rel, next);
+    if before.holds() == after.holds() {
+        return signal.go_along(&after, &end, &last);
+    }
+    catch_up(signal, &before, gap.first)?;
+    signal.go_along(&after, &end, &last)
 }
 
 /// Whether the sum stays the same over the gap, and at its ends.

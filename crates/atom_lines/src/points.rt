@@ -16,7 +16,7 @@ use crate::gap::Gap;
 use crate::margin::{margin_at, margin_between};
 use crate::sum::{reach_of, reaches_of};
 use crate::tied::BoundAtom;
-use crate::truth::{TruthPiece, truth_at, truth_between};
+use crate::truth::{TruthPiece, truth_at, truth_between, truth_onward};
 use trace_reader::Row;
 use value_laws::{Margin, Truth};
 
@@ -115,7 +115,7 @@ pub fn truth_step(bound: &Bound, node: u32, first: &Row, second: &Row) -> (Truth
     let atom = bound.atom(node);
     let from = reach_of(atom, first, first);
     let (gap, next) = gap_on(atom, first.time(), from, first, second.time(), second);
-    (truth_between(atom.rel, &gap), truth_at(atom.rel, next))
+    truth_onward(atom.rel, &gap, next)
 }
 
 /// The atom's margin on the open gap between two rows, the second right after the first, in ticks: a ramp from the time of the

@@ -4,8 +4,8 @@ ghost use Rattle.rational.specs.Rational.{◌≈◌, whole};
 ghost use Rattle.rational.specs.Line.{at};
 ghost use Rattle.frac128.specs.Value.{value, denominator};
 ghost use Rattle.stl_syntax.specs.Truth.{compares};
-ghost use Rattle.atom_lines.specs.Gaps.{along, Passes};
-ghost use Rattle.atom_lines.specs.Pieces.{BeginsWith, TellsGap};
+ghost use Rattle.atom_lines.specs.Gaps.{along, AreOfSign, Passes};
+ghost use Rattle.atom_lines.specs.Pieces.{TellsGap};
 
 use crate::gap::Gap;
 use frac128::Frac;
@@ -42,7 +42,7 @@ pub(crate) fn truth_at(rel: Rel, value: i64) -> Truth
 
 /// The time inside the gap at which a sum that changes its sign is 0.
 #[inline(never)]
-fn crossing(gap: Gap) -> Frac
+pub(crate) fn crossing(gap: Gap) -> Frac
     requires { Passes gap }
     ensures zero { at (along gap) (value result) ≈ whole (pos 0) }
     ensures small { denominator result ≤ 2 ^ 31 }
@@ -56,7 +56,7 @@ fn crossing(gap: Gap) -> Frac
 }
 
 /// Whether the sum has opposite signs at the two ends.
-fn changes_sign(gap: &Gap) -> bool
+pub(crate) fn changes_sign(gap: &Gap) -> bool
     ensures { IsTrue result ↔ Passes gap.now }
 {
     gap.from < 0 && gap.to > 0 || gap.from > 0 && gap.to < 0
@@ -65,8 +65,7 @@ fn changes_sign(gap: &Gap) -> bool
 /// The truth of a comparison on the open gap.
 #[inline(always)]
 pub(crate) fn truth_between(rel: Rel, gap: &Gap) -> TruthPiece
-    ensures tells { TellsGap (whole (pos gap.now.first)) (whole (pos gap.now.second)) (λ t. compares rel (at (along gap.now) t)) result }
-    ensures begins { BeginsWith (compares rel (whole gap.now.from)) result }
+    ensures { TellsGap (whole (pos gap.now.first)) (whole (pos gap.now.second)) (λ t. compares rel (at (along gap.now) t)) result }
 {
     if changes_sign(gap) {
         return TruthPiece::Split {
@@ -77,4 +76,27 @@ pub(crate) fn truth_between(rel: Rel, gap: &Gap) -> TruthPiece
         };
     }
     TruthPiece::Whole(truth_at(rel, gap.from + gap.to))
+}
+
+/// Whether the sum lies on one side of the constant over the gap, and at its ends.
+pub(crate) fn keeps_sign(gap: &Gap, next: i64) -> bool
+    ensures { IsTrue result → AreOfSign gap.now next }
+{
+    if gap.from > 0 {
+        return gap.to > 0 && next > 0;
+    }
+    gap.from < 0 && gap.to < 0 && next < 0
+}
+
+/// The truth of a comparison on the open gap, and at its end, where the sum lies `next` above the constant.
+#[inline(always)]
+pub(crate) fn truth_onward(rel: Rel, gap: &Gap, next: i64) -> (TruthPiece, Truth)
+    ensures tells { TellsGap (whole (pos gap.now.first)) (whole (pos gap.now.second)) (λ t. compares rel (at (along gap.now) t)) result.0 }
+    ensures point { result.1.holds ≡ compares rel (whole next) }
+{
+    let last = truth_at(rel, next);
+    if keeps_sign(gap, next) {
+        return (TruthPiece::Whole(last), last);
+    }
+    (truth_between(rel, gap), last)
 }

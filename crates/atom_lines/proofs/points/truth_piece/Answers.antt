@@ -21,7 +21,7 @@ returns c = λ a tr for has.
     let rel = (tied b c.args.node k c.atom-atom.ensures.at a tr for).rel in
     let piece = subst (λ n. TellsGap (whole (pos n)) (whole (pos s.time)) (λ t. compares k.rel (at (along g) t)) c.truth_between.result) h.first
     (subst (λ n. TellsGap (whole (pos g.first)) (whole (pos n)) (λ t. compares k.rel (at (along g) t)) c.truth_between.result)
-    h.second c.truth_between.ensures.tells) in
+    h.second c.truth_between.ensures) in
     gap_same (row_time r) (row_time s) (λ t. compares k.rel (at (along g) t)) (holds_at a tr) c.truth_between.result
     (λ t low high. compare_same a.rel (expression_along b c.args.node k c.atom-atom.ensures.at a tr for g r s t h.first h.second h.from h.to has low high)
     ∙ ap (λ q. compares q (at (along g) t)) (sym rel))

@@ -24,10 +24,10 @@ returns-clause-piece c = λ a tr for has.
     let first : g.first ≡ r.time = h.first ∙ c.time.ensures in
     let second : g.second ≡ s.time = h.second ∙ c.time-2.ensures in
     let rel = (tied b c.args.node k c.atom-atom.ensures.at a tr for).rel in
-    let piece = subst (λ n. TellsGap (whole (pos n)) (whole (pos s.time)) (λ t. compares k.rel (at (along g) t)) c.truth_between.result) first
-    (subst (λ n. TellsGap (whole (pos g.first)) (whole (pos n)) (λ t. compares k.rel (at (along g) t)) c.truth_between.result)
-    second c.truth_between.ensures.tells) in
-    gap_same (row_time r) (row_time s) (λ t. compares k.rel (at (along g) t)) (holds_at a tr) c.truth_between.result
+    let piece = subst (λ n. TellsGap (whole (pos n)) (whole (pos s.time)) (λ t. compares k.rel (at (along g) t)) c.truth_onward.result.0) first
+    (subst (λ n. TellsGap (whole (pos g.first)) (whole (pos n)) (λ t. compares k.rel (at (along g) t)) c.truth_onward.result.0)
+    second c.truth_onward.ensures.tells) in
+    gap_same (row_time r) (row_time s) (λ t. compares k.rel (at (along g) t)) (holds_at a tr) c.truth_onward.result.0
     (λ t low high. compare_same a.rel (expression_along b c.args.node k c.atom-atom.ensures.at a tr for g r s t first second h.from h.to has low high)
     ∙ ap (λ q. compares q (at (along g) t)) (sym rel))
     piece
@@ -42,4 +42,4 @@ returns-clause-point c = λ a tr t for has e.
     compare_same a.rel (expression_at_row b c.args.node k c.atom-atom.ensures.at a tr for r t has e)
     ∙ ap (λ q. compares q (whole (reach k r.values r.values))) (sym rel)
     ∙ ap (λ n. compares k.rel (whole n)) (sym sum)
-    ∙ sym c.truth_at.ensures
+    ∙ sym c.truth_onward.ensures.point

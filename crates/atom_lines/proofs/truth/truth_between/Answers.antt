@@ -9,8 +9,8 @@ use Rattle.atom_lines.specs.Gaps.{Passes}
 use Rattle.atom_lines.proofs.Crossings.{turn_at, one_truth}
 use Rattle.atom_lines.proofs.truth.truth_between.Goals as goal
 
-pub returns-then-changes_sign-clause-tells : goal.returns-then-changes_sign-clause-tells
-returns-then-changes_sign-clause-tells c =
+pub returns-then-changes_sign : goal.returns-then-changes_sign
+returns-then-changes_sign c =
     let g = c.args.gap.now in
     let from : to_z w64 (of_z w64 g.from) ≡ g.from = search (rules, to_z-of_z) in
     let to : to_z w64 (of_z w64 g.to) ≡ g.to = search (rules, to_z-of_z) in
@@ -29,14 +29,8 @@ returns-then-changes_sign-clause-tells c =
       small = c.crossing.ensures.small;
     }
 
-pub returns-then-changes_sign-clause-begins : goal.returns-then-changes_sign-clause-begins
-returns-then-changes_sign-clause-begins c =
-    let g = c.args.gap.now in
-    let from : to_z w64 (of_z w64 g.from) ≡ g.from = search (rules, to_z-of_z) in
-    c.truth_at.ensures ∙ ap (λ n. compares c.args.rel (whole n)) from
-
-pub returns-clause-tells : goal.returns-clause-tells
-returns-clause-tells c = λ t a b.
+pub returns : goal.returns
+returns c = λ t a b.
     let g = c.args.gap.now in
     let stays : ¬ Passes g = λ p. true≢false (sym (c.changes_sign.ensures.1 p) ∙ c.if-changes_sign.false) in
     let sum : c.truth_at-2.result.holds ≡ compares c.args.rel (whole (g.from +ℤ g.to)) = search (rules, to_z-of_z) in
