@@ -3,18 +3,20 @@ use Rattle.std.proofs.Common.{◌≡◌, ◌≢◌, inl, inr, refl, sym, ap, sub
 use Rattle.std.proofs.Common.{Option, Some, None, List, [], ◌∷◌, ◌++◌, length, ℤ, pos, ◌+ℤ◌, arith, length-append}
 use Rattle.std.specs.Prelude.{◌-◌, min, option_map}
 use Rattle.rational.specs.Rational.{whole}
+use Rattle.stl_syntax.specs.Trace.{Header, Trace}
 use Rattle.stl_syntax.specs.Verdicts.{Describes}
 use Rattle.stl_syntax.specs.declared.items.Verdict.{Verdict}
 use Rattle.stl_syntax.specs.declared.node.Node.{Node}
-use Rattle.online_nodes.specs.Network.{State, after_event, answered, shown, step, reach_back}
+use Rattle.online_nodes.specs.Network.{Event, State, after_event, answered, shown, step, reach_back}
 use Rattle.online_nodes.specs.Needed.{IsEdge, IsReader}
 use Rattle.online_nodes.specs.Answering.{HasAnswered, HasReleased, HasWorkedOn, IsInput, IsSide, looks_by}
 use Rattle.online_nodes.specs.Belonging.{HasStepped, StandsForSteps, room_of_step, trace_of}
 use Rattle.online_nodes.specs.Stepping.{Situation, HasWorkedOut, IsBegun, IsDue, end_of, first_in, formula_of, state_in, stretch_of, trace_in}
 use Rattle.rational.specs.Places.{Before, Place, Same, begins, ends}
 use Rattle.frac128.specs.Cuts.{place}
+use Rattle.frac128.specs.declared.cut.Cut.{Cut}
 use Rattle.online_nodes.specs.Held.{Edge, Held, edge_at, fresh_at, held_at, held_of, number_at, with_edge, with_more, with_number, IsDroppedBy}
-use Rattle.online_nodes.specs.Kinds.{held_in, inputs_of}
+use Rattle.online_nodes.specs.Kinds.{held_in, inputs_of, keeps_marks}
 use Rattle.online_nodes.specs.Laws.{beyond}
 use Rattle.online_nodes.specs.Operators.{KnowsBy}
 use Rattle.online_nodes.specs.Working.{IsReadOn}
@@ -70,6 +72,31 @@ put_on {kind} {old} {mid} {put} {own} {more} {last} within apart w got =
 -- a list that fits in twice what is held, and in an edge that can be counted
 few_min : (n a b : ℕ) → n ≤ a → n ≤ b → n ≤ min a b
 few_min n a b h k = omega (arith, h, k)
+
+-- what a node that keeps nothing in mind knows of its inputs it knows whatever its marks are
+plain_knows : (k : Kind) → keeps_marks k ≡ false → (nodes : List Node) (tr : Trace) (e : Held) (at reach run other_reach other_run : Place)
+    → KnowsBy k nodes tr e at reach run → KnowsBy k nodes tr e at other_reach other_run
+plain_knows (Constant b) plain nodes tr e at reach run reach_2 run_2 h = h
+plain_knows (Negation p) plain nodes tr e at reach run reach_2 run_2 h = h
+plain_knows (Connective join inputs) plain nodes tr e at reach run reach_2 run_2 h = h
+plain_knows (Ahead w) plain nodes tr e at reach run reach_2 run_2 h = absurd (let z : true ≡ false = plain in cc)
+plain_knows (Behind w) plain nodes tr e at reach run reach_2 run_2 h = absurd (let z : true ≡ false = plain in cc)
+plain_knows (UntilOf u) plain nodes tr e at reach run reach_2 run_2 h = absurd (let z : true ≡ false = plain in cc)
+plain_knows (SinceOf s) plain nodes tr e at reach run reach_2 run_2 h = absurd (let z : true ≡ false = plain in cc)
+
+-- so its operator stands for the steps whatever its marks are
+pub plain_stands : (nodes : List Node) (header : Header) (events : List Event) (op : Operator) (e : Held) (front : ℕ) (reach run : Cut)
+    → keeps_marks op.kind ≡ false → StandsForSteps nodes header events (record op { front = Some front; reach = reach; run = run }) e
+    → StandsForSteps nodes header events (record op { front = Some front }) e
+plain_stands nodes header events op e front reach run plain s = record {
+  node = s.node;
+  at = s.at;
+  no_atom = s.no_atom;
+  kind = s.kind;
+  front = s.front;
+  unread = s.unread;
+  knows = plain_knows op.kind plain nodes _ e _ (place reach) (place run) (place op.reach) (place op.run) s.knows;
+}
 
 -- a step to a front that is not below the start, part by part
 module _ {x : Situation} {op : Operator} {old : Held} (d : IsDue x op old) {begun : Outcome} (g : IsBegun x op begun) {put : Held} {marks : Marks}

@@ -1,5 +1,5 @@
 -- What an operator does, by its kind and the edges alone: its inputs, the number that it may have, and what its inputs hold.
-use Rattle.std.specs.Prelude.{ℕ, ◌+◌, ◌<◌, Bool, true, ◌&&◌, if◌then◌else◌, List, [], ◌∷◌, length, ℤ, pos, negsuc, ◌≤ℤ◌, Option, Some, IfSome}
+use Rattle.std.specs.Prelude.{ℕ, ◌+◌, ◌<◌, Bool, true, false, ◌&&◌, if◌then◌else◌, List, [], ◌∷◌, length, ℤ, pos, negsuc, ◌≤ℤ◌, Option, Some, IfSome}
 use Rattle.online_nodes.specs.Network.{least, moved_by, same_front}
 use Rattle.online_nodes.specs.Held.{Held, held_at, number_at}
 use Rattle.online_nodes.specs.declared.kind.Kind.{Kind}
@@ -14,6 +14,16 @@ inputs_of (Ahead w) = w.of ∷ []
 inputs_of (Behind w) = w.of ∷ []
 inputs_of (Until u) = u.window.of ∷ u.right ∷ []
 inputs_of (Since s) = s.window.of ∷ s.right ∷ []
+
+-- something is kept in mind of the inputs between steps
+abbrev pub keeps_marks : Kind → Bool
+keeps_marks (Const b) = false
+keeps_marks (Not p) = false
+keeps_marks (Join join inputs) = false
+keeps_marks (Ahead w) = true
+keeps_marks (Behind w) = true
+keeps_marks (Until u) = true
+keeps_marks (Since s) = true
 
 -- the inputs stand below n
 abbrev pub AreInputs : Kind → ℕ → Type 0

@@ -1,11 +1,12 @@
 //! One answer of a node: its body by its kind, and what is let go of its inputs' edges then.
 
-ghost use Rattle.std.specs.Prelude.{◌≡◌, ◌≢◌, ◌+◌, ◌*◌, ◌<◌, ◌≤ℤ◌, ◌+ℤ◌, neg_ℤ, length, not, pos, IfOk, OnErr, None};
+ghost use Rattle.std.specs.Prelude.{◌≡◌, ◌≢◌, ◌+◌, ◌*◌, ◌<◌, ◌≤ℤ◌, ◌+ℤ◌, neg_ℤ, length, not, pos, IfOk, OnErr, OnOk, None, true, false};
 ghost use Rattle.rational.specs.Places.{AtMost};
 ghost use Rattle.frac128.specs.Cuts.{place};
 ghost use Rattle.online_nodes.specs.Held.{fresh_at};
 ghost use Rattle.online_nodes.specs.Written.{IsSound, waiting};
-ghost use Rattle.online_nodes.specs.Kinds.{held_in, inputs_of, IsNear};
+ghost use Rattle.online_nodes.specs.Kinds.{held_in, inputs_of, keeps_marks, IsNear};
+ghost use Rattle.online_nodes.specs.declared.answering.Marks.{Marks as Kept};
 ghost use Rattle.online_nodes.specs.Answering.{back_by, is_empty, CanAnswer, CanRelease, CanSweep, HasAnswered};
 ghost use Rattle.online_nodes.specs.Answering.{HasBody, HasReleased, HasReleasedTwo, HasSweptAll, HasToldAll};
 ghost use Rattle.online_nodes.specs.declared.kind.Kind.TheVariants as K;
@@ -147,33 +148,45 @@ fn since_all(edges: &mut Edges, since: Since, out: Out, marks: Marks) -> Result<
     })
 }
 
-/// The body of a node.
+/// The body of a constant, a negation or a connective, which keeps nothing in mind.
+fn plain_body(edges: &mut Edges, kind: &Kind, out: Out) -> Result<Out, Memory>
+    requires own { out.edge < length edges.old.edges }
+    requires sound { IsSound out }
+    requires inside { AtMost (place out.at) (place out.to) }
+    requires able { (marks : Kept) × CanAnswer kind.now edges.old out.edge marks }
+    requires plain { keeps_marks kind.now ≡ false }
+    ensures told { (marks : Kept) → IfOk result (λ end. HasBody kind.now edges.old edges.new out marks (record { out = end; marks = marks })) }
+    ensures memory { OnErr result (edges.old.spare < 2 * held_in edges.old (inputs_of kind.now) + 2) }
+{
+    match kind {
+        Kind::Const(holds) => {
+            let end = constant(edges, *holds, out)?;
+            Ok(end)
+        }
+        Kind::Not(of) => {
+            let end = negate(edges, *of, out)?;
+            Ok(end)
+        }
+        Kind::Join(join, inputs) => {
+            let end = connect(edges, *join, *inputs, out)?;
+            Ok(end)
+        }
+        Kind::Ahead(_) | Kind::Behind(_) | Kind::Until(_) | Kind::Since(_) => unreachable!(),
+    }
+}
+
+/// The body of a window, of until or of since.
 fn body(edges: &mut Edges, kind: Kind, out: Out, marks: Marks) -> Result<Outcome, Memory>
     requires own { out.edge < length edges.old.edges }
     requires sound { IsSound out }
     requires inside { AtMost (place out.at) (place out.to) }
     requires able { CanAnswer kind edges.old out.edge marks }
+    requires keeps { keeps_marks kind ≡ true }
     ensures told { IfOk result (λ a. HasBody kind edges.old edges.new out marks a) }
     ensures memory { OnErr result (edges.old.spare < 2 * held_in edges.old (inputs_of kind) + 2) }
 {
     match kind {
-        Kind::Const(holds) => {
-            let told = tell_all(edges, holds, out, marks)?;
-            Ok(told)
-        }
-        Kind::Not(of) => {
-            let end = negate(edges, of, out)?;
-            Ok(Outcome { out: end, marks })
-        }
-        Kind::Join(join, inputs) => {
-            let end = connect(edges, join, inputs, out)?;
-            Ok(Outcome { out: end, marks })
-        }
-        Kind::Ahead(window) => {
-            let told = sweep_all(edges, window, out, marks)?;
-            Ok(told)
-        }
-        Kind::Behind(window) => {
+        Kind::Ahead(window) | Kind::Behind(window) => {
             let told = sweep_all(edges, window, out, marks)?;
             Ok(told)
         }
@@ -185,6 +198,7 @@ fn body(edges: &mut Edges, kind: Kind, out: Out, marks: Marks) -> Result<Outcome
             let told = since_all(edges, since, out, marks)?;
             Ok(told)
         }
+        Kind::Const(_) | Kind::Not(_) | Kind::Join(_, _) => unreachable!(),
     }
 }
 
@@ -199,12 +213,33 @@ pub(crate) fn answer(edges: &mut Edges, kind: Kind, out: Out, marks: Marks) -> R
     requires inside { AtMost (place out.at) (place out.to) }
     requires nothing { out.holds ≡ None }
     requires able { CanAnswer kind edges.old out.edge marks }
+    requires keeps { keeps_marks kind ≡ true }
     ensures answered { IfOk result (λ after. HasAnswered kind edges.old edges.new out marks after) }
     ensures memory { OnErr result (edges.old.spare < 2 * held_in edges.old (inputs_of kind) + 2) }
 {
     let told = body(edges, kind, out, marks)?;
     told.out.finish(edges)?;
     Ok(told.marks)
+}
+
+/// As `answer`, for a node that keeps nothing in mind.
+///
+/// # Errors
+///
+/// As `answer`.
+pub(crate) fn answer_plain(edges: &mut Edges, kind: &Kind, out: Out) -> Result<(), Memory>
+    requires own { out.edge < length edges.old.edges }
+    requires sound { IsSound out }
+    requires inside { AtMost (place out.at) (place out.to) }
+    requires nothing { out.holds ≡ None }
+    requires able { (marks : Kept) × CanAnswer kind.now edges.old out.edge marks }
+    requires plain { keeps_marks kind.now ≡ false }
+    ensures answered { (marks : Kept) → OnOk result (HasAnswered kind.now edges.old edges.new out marks marks) }
+    ensures memory { OnErr result (edges.old.spare < 2 * held_in edges.old (inputs_of kind.now) + 2) }
+{
+    let end = plain_body(edges, kind, out)?;
+    end.finish(edges)?;
+    Ok(())
 }
 
 /// A front, `by` earlier.
@@ -228,6 +263,7 @@ fn release_two(edges: &mut Edges, left: u32, left_by: i64, right: u32, right_by:
 }
 
 /// Drops from the inputs' edges what is needed no more, once the node's number is `front`.
+#[inline(always)]
 pub(crate) fn release(edges: &mut Edges, kind: Kind, front: i64)
     requires able { CanRelease kind edges.old }
     requires near { IsNear front }

@@ -5,7 +5,7 @@ ghost use Rattle.online_nodes.specs.Network.{least, moved_by, same_front};
 ghost use Rattle.online_nodes.specs.Held.{Held, held_at, number_at};
 ghost use Rattle.online_nodes.specs.Operators.{ahead, behind, kind_of};
 ghost use Rattle.online_nodes.specs.declared.kind.Kind.TheVariants.{Join as Connective};
-ghost use Rattle.online_nodes.specs.Kinds.{allowed_by, all_stand_at, held_in, open_by, inputs_of, AreInputs, AreNear};
+ghost use Rattle.online_nodes.specs.Kinds.{allowed_by, all_stand_at, held_in, keeps_marks, open_by, inputs_of, AreInputs, AreNear};
 
 use crate::edges::Edges;
 use crate::join::{Inputs, Join};
@@ -176,6 +176,17 @@ fn stands_at(f: Option<i64>, now: u32) -> bool
 }
 
 impl Kind {
+    /// Whether something is kept in mind of the inputs between steps: for windows, until and since.
+    #[inline(always)]
+    pub(crate) fn keeps_marks(&self) -> bool
+        ensures { result ≡ keeps_marks self.now }
+    {
+        match self {
+            Kind::Const(_) | Kind::Not(_) | Kind::Join(_, _) => false,
+            Kind::Ahead(_) | Kind::Behind(_) | Kind::Until(_) | Kind::Since(_) => true,
+        }
+    }
+
     /// Whether all inputs stand at the last row's time.
     fn all_stand_at(self, edges: &Edges, now: u32) -> bool
         requires { AreInputs self (length edges.now.edges) }

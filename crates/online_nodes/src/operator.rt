@@ -6,10 +6,10 @@ ghost use Rattle.stl_syntax.specs.Trace.{Header};
 ghost use Rattle.online_nodes.specs.Network.{Event, step, state, node_is_atom, allowed_at, IsReady};
 ghost use Rattle.stl_syntax.specs.declared.node.Node.{Node as ANode};
 ghost use Rattle.online_nodes.specs.Held.{Held, edge_at};
-ghost use Rattle.online_nodes.specs.Kinds.{held_in, inputs_of};
+ghost use Rattle.online_nodes.specs.Kinds.{held_in, inputs_of, keeps_marks};
 ghost use Rattle.online_nodes.specs.Stepping.{Situation, IsBegun, IsDue, IsDueSomewhere, IsFor};
 
-use crate::answering::{Marks, Outcome, answer, release};
+use crate::answering::{Marks, Outcome, answer, answer_plain, release};
 use crate::edges::Edges;
 use crate::kind::{Kind, is_same, kind_of_node};
 use crate::writer::Out;
@@ -98,6 +98,7 @@ impl Operator {
     }
 
     /// The writer of the stretch up to a front, on which nothing is written yet, and what is kept in mind as it begins.
+    #[inline(always)]
     fn begin(&self, start: u32, front: u32) -> Outcome
         ensures { (x : Situation) → IsFor x start front → IsBegun x self.now result }
     {
@@ -121,6 +122,28 @@ impl Operator {
         }
     }
 
+    /// As `step_to`, for a node that keeps nothing in mind.
+    #[inline(always)]
+    fn step_plain(&mut self, edges: &mut Edges, start: u32, front: u32) -> Result<(), Memory>
+        requires due { IsDueSomewhere self.old edges.old start front }
+        requires plain { keeps_marks self.old.kind ≡ false }
+        ensures node { self.new.node ≡ self.old.node }
+        ensures stepped { (x : Situation) → IsFor x start front → IsDue x self.old edges.old
+            → OnOk result (HasStepped x.nodes x.header x.events self.old.node edges.old edges.new) }
+        ensures stands { (x : Situation) → IsFor x start front → IsDue x self.old edges.old
+            → OnOk result (StandsForSteps x.nodes x.header (x.events ++ step self.old.node ∷ []) self.new edges.new) }
+        ensures memory { OnErr result (edges.old.spare < 2 * held_in edges.old (inputs_of self.old.kind) + 2) }
+    {
+        let begun = self.begin(start, front);
+        answer_plain(edges, &self.kind, begun.out)?;
+        // for the proof alone: what the edge holds can be counted, so what was put can
+        let _all = edges.held(self.node);
+        release(edges, self.kind, i64::from(front));
+        edges.reach(self.node, i64::from(front));
+        self.front = Some(front);
+        Ok(())
+    }
+
     /// A step to a front that is not below the start.
     fn step_to(&mut self, edges: &mut Edges, start: u32, front: u32) -> Result<(), Memory>
         requires { IsDueSomewhere self.old edges.old start front }
@@ -131,6 +154,9 @@ impl Operator {
             → OnOk result (StandsForSteps x.nodes x.header (x.events ++ step self.old.node ∷ []) self.new edges.new) }
         ensures memory { OnErr result (edges.old.spare < 2 * held_in edges.old (inputs_of self.old.kind) + 2) }
     {
+        if !self.kind.keeps_marks() {
+            return self.step_plain(edges, start, front);
+        }
         let begun = self.begin(start, front);
         let marks = answer(edges, self.kind, begun.out, begun.marks)?;
         // for the proof alone: what the edge holds can be counted, so what was put can
