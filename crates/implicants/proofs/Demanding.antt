@@ -59,7 +59,8 @@ shape_bounded p t v h =
     (same_transᵉ v (value_at (kleene_shape.function p) t) (finite (whole (kleene_value p.known))) h (level_is (kleene_value p.known) t))
     (level_bounded p.known)
 
-worth_bounded : (x : List (Knot Kleene)) (t : Rational) (v : Extended) → IsWorth kleene_shape x t v → IsBounded (2 ^ 31) v
+-- a three-valued signal is worth no more than 2^31
+pub worth_bounded : (x : List (Knot Kleene)) (t : Rational) (v : Extended) → IsWorth kleene_shape x t v → IsBounded (2 ^ 31) v
 worth_bounded [] t v w = absurd w
 worth_bounded (k ∷ []) t v (inl w) = shape_bounded k.point t v w.worth
 worth_bounded (k ∷ []) t v (inr (inl w)) = absurd w
@@ -68,7 +69,8 @@ worth_bounded (k ∷ n ∷ x) t v (inl w) = shape_bounded k.point t v w.worth
 worth_bounded (k ∷ n ∷ x) t v (inr (inl w)) = shape_bounded k.after t v w.worth
 worth_bounded (k ∷ n ∷ x) t v (inr (inr w)) = worth_bounded (n ∷ x) t v w
 
-start_to_stop : (x : List (Knot Kleene)) → IsSignal kleene_shape x → start x ≤ʳ stop x
+-- a signal does not end before it starts
+pub start_to_stop : (x : List (Knot Kleene)) → IsSignal kleene_shape x → start x ≤ʳ stop x
 start_to_stop [] s = le_refl (whole (pos 0))
 start_to_stop (k ∷ x) s = to_stop kleene_shape k x s.each
 

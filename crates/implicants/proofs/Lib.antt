@@ -30,3 +30,6 @@ pub mod LastCells
 pub mod Walking
 pub mod SharedTimes
 pub mod HeldUp
+pub mod Helping
+pub mod Nearing
+pub mod NeededNear

@@ -44,7 +44,8 @@ more_than o = elim o as (λ o. (¬ (o ≡ Some false)) → minus_one <ᵉ finite
       [ true ↦ λ h. record { lt = lit< tt } | false ↦ λ h. absurd (h refl) ]
 ]
 
-shape_on : (p : Kleene) (t : Rational) → (¬ (p.known ≡ Some false)) → minus_one <ᵉ value_at (kleene_shape.function p) t
+-- where a shape is not certainly false it is more than -1
+pub shape_on : (p : Kleene) (t : Rational) → (¬ (p.known ≡ Some false)) → minus_one <ᵉ value_at (kleene_shape.function p) t
 shape_on p t h = lt_of_lt_of_leᵉ minus_one (finite (whole (kleene_value p.known))) (value_at (kleene_shape.function p) t) (more_than p.known h)
     (level_is (kleene_value p.known) t).at_least
 

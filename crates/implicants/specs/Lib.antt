@@ -7,5 +7,7 @@ pub mod Demands
 pub mod Lasting
 pub mod Choices
 pub mod Sharing
+pub mod Signs
+pub mod Nearby
 pub mod Explaining
 pub mod Counting

@@ -36,7 +36,7 @@ fn shape_of(cell: &Item, stays: bool) -> Kleene
 }
 
 /// What the cell at place `c` says of its atom, if it is among the first `left` cells or is kept; else nothing.
-fn shape_at(cells: &Cells, left: usize, kept: &[bool], c: usize) -> Kleene
+pub(crate) fn shape_at(cells: &Cells, left: usize, kept: &[bool], c: usize) -> Kleene
     requires within { c < length cells.now.all.items }
     requires marks { length kept.now ≡ length cells.now.all.items }
     ensures { (e : Cell) → slice_get cells.now.all.items c ≡ Some e → result.known ≡ known_at (stays left kept.now c) e }
@@ -60,7 +60,7 @@ fn ended(mut signal: Builder<Kleene>, to: u32) -> Result<Signal<Kleene>, Memory>
 }
 
 /// Where the cells of the node at place `i` begin.
-fn begin_of(cells: &Cells, i: u32) -> usize
+pub(crate) fn begin_of(cells: &Cells, i: u32) -> usize
     requires { i < length cells.now.ends.items }
     ensures { result ≡ begins cells.now.ends.items i }
 {

@@ -19,7 +19,7 @@ use stl_syntax::Item;
 use value_laws::{Kleene, Shape};
 
 /// The cell at a place.
-fn cell_at(cells: &Cells, p: usize) -> Item
+pub(crate) fn cell_at(cells: &Cells, p: usize) -> Item
     requires { p < length cells.now.all.items }
     ensures { slice_get cells.now.all.items p ≡ Some result }
 {

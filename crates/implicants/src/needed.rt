@@ -14,6 +14,7 @@ use crate::cells::Cells;
 use crate::choice::choice_on;
 use crate::choosing::mark_chosen;
 use crate::demand::demand_on;
+use crate::nearby::mark_nearby;
 use crate::sharing::shared_on;
 use frac128::{Frac, Memory, Span};
 use offline_eval::Evaluated;
@@ -25,7 +26,7 @@ use trace_reader::Trace;
 use value_laws::{Kleene, Shape};
 
 /// Whether the value is more than certainly false.
-fn is_on(value: &Kleene) -> bool
+pub(crate) fn is_on(value: &Kleene) -> bool
     ensures { IsTrue result → ¬ (value.now.known ≡ Some false) }
 {
     match value.known() {
@@ -35,7 +36,7 @@ fn is_on(value: &Kleene) -> bool
 }
 
 /// Whether the span has the time.
-fn has_time(on: &Span, t: &Frac) -> bool
+pub(crate) fn has_time(on: &Span, t: &Frac) -> bool
     ensures { IsTrue result → IsIn (interval on.now) (value t.now) }
 {
     let begun = match on.from.cmp(t) {
@@ -171,6 +172,7 @@ fn mark_needed(
     cells: &Cells,
     nodes: &Evaluated<Kleene>,
     left: usize,
+    tries: usize,
     marks: &mut Vec<bool>,
 ) -> Result<(), Memory>
     requires some { 0 < length trace.now.rows }
@@ -189,6 +191,9 @@ fn mark_needed(
     if let Some(demand) = demand_on(alloc, formula, trace, nodes, i)? {
         mark_touched(cells, i, left, &demand.at, marks);
         return Ok(());
+    }
+    if tries > 0 {
+        return mark_nearby(alloc, formula, trace, cells, left, tries, marks);
     }
     if let Some(choice) = choice_on(alloc, formula, trace, nodes, i)? {
         mark_chosen(cells, i, left, &choice, marks);
@@ -221,6 +226,7 @@ pub(crate) fn marked_anew(
     cells: &Cells,
     nodes: &Option<Evaluated<Kleene>>,
     left: usize,
+    tries: usize,
     kept: &[bool],
 ) -> Result<Vec<bool>, Memory>
     requires some { 0 < length trace.now.rows }
@@ -237,6 +243,6 @@ pub(crate) fn marked_anew(
     let Some(nodes) = nodes else {
         return Ok(marks);
     };
-    mark_needed(alloc, formula, trace, cells, nodes, left, &mut marks)?;
+    mark_needed(alloc, formula, trace, cells, nodes, left, tries, &mut marks)?;
     Ok(marks)
 }

@@ -1,0 +1,91 @@
+//! Which certainty of each node helps the formula to be certainly false.
+ghost use Rattle.std.specs.Prelude.{◌≡◌, length, IsTrue, IfOk, IfSome};
+ghost use Rattle.stl_syntax.specs.Formula.{HasChildrenBelow};
+ghost use Rattle.implicants.specs.Signs.{AreSigned, AreSigns};
+
+use frac128::Memory;
+use std::alloc::Global;
+use stl_syntax::{Formula, Node};
+
+/// Puts the signs of the operands of a node that has this one.
+fn put_signs(node: &Node, sign: bool, signs: &mut Vec<bool>)
+    requires { HasChildrenBelow (length signs.old.items) node.now }
+    ensures { length signs.new.items ≡ length signs.old.items }
+{
+    match node {
+        Node::Const(_) | Node::Atom(_) => {}
+        Node::Not(p) => signs[*p as usize] = !sign,
+        Node::And(p, q) | Node::Or(p, q) => {
+            signs[*p as usize] = sign;
+            signs[*q as usize] = sign;
+        }
+        Node::Implies(p, q) => {
+            signs[*p as usize] = !sign;
+            signs[*q as usize] = sign;
+        }
+        Node::Until { left, right, .. } | Node::Since { left, right, .. } => {
+            signs[*left as usize] = sign;
+            signs[*right as usize] = sign;
+        }
+        Node::Eventually { of, .. }
+        | Node::Always { of, .. }
+        | Node::Once { of, .. }
+        | Node::Historically { of, .. } => signs[*of as usize] = sign,
+    }
+}
+
+/// Whether the operands of a node that has this sign have theirs.
+fn are_signed(node: &Node, sign: bool, signs: &[bool]) -> bool
+    requires { HasChildrenBelow (length signs.now) node.now }
+    ensures { IsTrue result → AreSigned signs.now node.now sign }
+{
+    match node {
+        Node::Const(_) | Node::Atom(_) => true,
+        Node::Not(p) => signs[*p as usize] != sign,
+        Node::And(p, q) | Node::Or(p, q) => {
+            signs[*p as usize] == sign && signs[*q as usize] == sign
+        }
+        Node::Implies(p, q) => signs[*p as usize] != sign && signs[*q as usize] == sign,
+        Node::Until { left, right, .. } | Node::Since { left, right, .. } => {
+            signs[*left as usize] == sign && signs[*right as usize] == sign
+        }
+        Node::Eventually { of, .. }
+        | Node::Always { of, .. }
+        | Node::Once { of, .. }
+        | Node::Historically { of, .. } => signs[*of as usize] == sign,
+    }
+}
+
+/// Whether each node has the sign that the one above it gives it, and the root that of false.
+fn are_signs(formula: &Formula, signs: &[bool]) -> bool
+    requires { length signs.now ≡ length formula.now.nodes }
+    ensures { IsTrue result → AreSigns formula.now.nodes signs.now }
+{
+    let count = formula.len();
+    for j in 0..count {
+        if !are_signed(formula.node(j), signs[j as usize], signs) {
+            return false;
+        }
+    }
+    !signs[count as usize - 1]
+}
+
+/// The sign of each node: whether it helps the formula to be certainly false that the node is certainly true, or certainly false.
+pub(crate) fn signs_of(alloc: Global, formula: &Formula) -> Result<Option<Vec<bool>>, Memory>
+    ensures { IfOk result (λ o. IfSome o (λ signs. AreSigns formula.now.nodes signs.items)) }
+{
+    let count = formula.len();
+    let Ok(mut signs) = vec![in alloc; false; count as usize] else {
+        return Err(Memory);
+    };
+    let mut j = count;
+    while j > 0 {
+        j -= 1;
+        let sign = signs[j as usize];
+        put_signs(formula.node(j), sign, &mut signs);
+    }
+    if are_signs(formula, &signs) {
+        return Ok(Some(signs));
+    }
+    Ok(None)
+}
