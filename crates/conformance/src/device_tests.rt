@@ -1,10 +1,11 @@
 //! Every command over devices of which one call fails, each in turn, that failed before, or that have too little room, and over inputs
 //! that end after each byte.
-use crate::run_tests::{Case, Devices, agrees, agrees_so_far, pieces, sink, strings};
-use io_edge::{MemSource, Sink, Source};
+use crate::run_tests::{
+    Case, Devices, agrees, agrees_so_far, pieces, sink, source, status_of, strings,
+};
+use io_edge::{MemSink, MemSource, Sink, Source};
 use std::alloc::Global;
 use std::test::Fail;
-use workbench::{Kept, run};
 
 /// The commands that hold the whole trace: what they write for `x >= 5` on `RISE`, and the status.
 const WHOLE: [(&str, &str, u8); 5] = [
@@ -252,34 +253,32 @@ fn an_output_may_have_any_room(rt: HostRuntime) -> Result<(), Fail> {
     Ok(())
 }
 
+/// Whether a call of each device fails.
+fn have_failed(input: &mut MemSource, out: &mut MemSink, err: &mut MemSink) -> bool {
+    let mut none = [0u8; 1];
+    input.read(&mut none).is_err() && out.write(b"x").is_err() && err.write(b"x").is_err()
+}
+
+/// Whether the devices hold what a case tells, and have failed once.
+fn hold(case: Case<'_>, input: &MemSource, out: &MemSink, err: &MemSink) -> bool {
+    out.written() == case.out.as_bytes()
+        && err.written() == case.err.as_bytes()
+        && input.faults() == 1
+        && out.faults() == 1
+        && err.faults() == 1
+}
+
 /// Whether a case is answered over devices of which a call has failed before.
 fn is_answered_after_faults(alloc: Global, case: Case<'_>) -> Result<bool, Fail> {
     let words = strings(alloc, case.words)?;
-    let bytes = Vec::from_slice(alloc, case.input.as_bytes())?;
-    let mut input = MemSource::new(bytes, 4096, Vec::from_slice(alloc, &[1])?);
+    let mut input = source(alloc, case.input.as_bytes(), 4096, 1)?;
     let mut out = sink(alloc, 4096, 4096, 1)?;
     let mut err = sink(alloc, 4096, 4096, 1)?;
-    let mut none = [0u8; 1];
-    let failed = input.read(&mut none).is_err()
-        && out.write(b"x").is_err()
-        && err.write(b"x").is_err();
-    let status = run(
-        alloc,
-        &words,
-        &mut input,
-        &mut out,
-        &mut err,
-        &mut Kept::Nothing,
-    );
-    Ok(
-        failed
-            && status == case.status
-            && out.written() == case.out.as_bytes()
-            && err.written() == case.err.as_bytes()
-            && input.faults() == 1
-            && out.faults() == 1
-            && err.faults() == 1,
-    )
+    if !have_failed(&mut input, &mut out, &mut err) {
+        return Ok(false);
+    }
+    let status = status_of(alloc, &words, &mut input, &mut out, &mut err);
+    Ok(status == case.status && hold(case, &input, &out, &err))
 }
 
 #[test]
@@ -353,20 +352,34 @@ fn first_bytes(alloc: Global, count: usize) -> Result<String, Fail> {
     Ok(text)
 }
 
+/// Whether a command of `x >= 5` on the first bytes of `RISE` is answered so.
+fn answers_front(
+    alloc: Global,
+    command: &str,
+    count: usize,
+    out: &str,
+    err: &str,
+    status: u8,
+) -> Result<bool, Fail> {
+    let input = first_bytes(alloc, count)?;
+    let case = Case {
+        words: &[command, "x >= 5"],
+        input: input.as_str(),
+        out,
+        err,
+        status,
+    };
+    agrees(alloc, case, pieces(3))
+}
+
 #[test]
 fn an_input_may_end_after_each_byte(rt: HostRuntime) -> Result<(), Fail> {
-    let alloc = rt.alloc();
     for (count, err) in CUTS {
-        let input = first_bytes(alloc, count)?;
         for (command, _, _) in WHOLE {
-            let case = Case {
-                words: &[command, "x >= 5"],
-                input: input.as_str(),
-                out: "",
-                err,
-                status: 4,
-            };
-            assert!(rt; agrees(alloc, case, pieces(3))?, "{command}, {count} bytes");
+            assert!(rt;
+                answers_front(rt.alloc(), command, count, "", err, 4)?,
+                "{command}, {count} bytes"
+            );
         }
     }
     Ok(())
@@ -383,18 +396,13 @@ const FIRST: [(&str, &str); 3] = [
 fn a_stream_answers_the_rows_before_the_byte_at_which_an_input_ends(
     rt: HostRuntime,
 ) -> Result<(), Fail> {
-    let alloc = rt.alloc();
     for (count, err) in CUTS {
-        let input = first_bytes(alloc, count)?;
         for (command, out) in FIRST {
-            let case = Case {
-                words: &[command, "x >= 5"],
-                input: input.as_str(),
-                out: if count < 11 { "" } else { out },
-                err,
-                status: 4,
-            };
-            assert!(rt; agrees(alloc, case, pieces(3))?, "{command}, {count} bytes");
+            let told = if count < 11 { "" } else { out };
+            assert!(rt;
+                answers_front(rt.alloc(), command, count, told, err, 4)?,
+                "{command}, {count} bytes"
+            );
         }
     }
     Ok(())
@@ -449,19 +457,15 @@ const FRONTS: [(&str, &str, &str, u8); 8] = [
 
 #[test]
 fn a_row_may_lack_its_line_feed(rt: HostRuntime) -> Result<(), Fail> {
-    let alloc = rt.alloc();
     for (command, ten, fifteen, status) in FRONTS {
-        for (count, out) in [(10, ten), (15, fifteen)] {
-            let input = first_bytes(alloc, count)?;
-            let case = Case {
-                words: &[command, "x >= 5"],
-                input: input.as_str(),
-                out,
-                err: "",
-                status,
-            };
-            assert!(rt; agrees(alloc, case, pieces(3))?, "{command}, {count} bytes");
-        }
+        assert!(rt;
+            answers_front(rt.alloc(), command, 10, ten, "", status)?,
+            "{command}, 10 bytes"
+        );
+        assert!(rt;
+            answers_front(rt.alloc(), command, 15, fifteen, "", status)?,
+            "{command}, 15 bytes"
+        );
     }
     Ok(())
 }

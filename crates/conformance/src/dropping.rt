@@ -188,6 +188,21 @@ fn is_known(cells: &[Cell], kept: &[bool], place: usize, eighth: usize) -> bool 
     false
 }
 
+/// The truth that an atom may have at each eighth, by the cells that are kept.
+fn possible(
+    alloc: Global,
+    cells: &[Cell],
+    kept: &[bool],
+    place: usize,
+    truth: &[bool],
+) -> Result<Vec<bool>, AllocError> {
+    let mut possible = Vec::new(alloc);
+    for (eighth, holds) in truth.iter().enumerate() {
+        possible.push(*holds || !is_known(cells, kept, place, eighth))?;
+    }
+    Ok(possible)
+}
+
 /// Whether the formula is certainly false at the start by the cells that are kept: it is false there where each atom is taken to be
 /// true outside of them. The formulas have no negation, so that this is what is certain.
 fn is_certainly_false(
@@ -204,11 +219,7 @@ fn is_certainly_false(
             };
             judged(alloc, operator.word, &operator.bound, p, q)?
         } else {
-            let mut possible = Vec::new(alloc);
-            for (eighth, holds) in part.judged.truth.iter().enumerate() {
-                possible.push(*holds || !is_known(cells, kept, place, eighth))?;
-            }
-            possible
+            possible(alloc, cells, kept, place, &part.judged.truth)?
         };
         values.push(value)?;
     }
@@ -253,16 +264,14 @@ fn kept_of(alloc: Global, parts: &[Part], cells: &[Cell]) -> Result<Vec<bool>, A
     Ok(kept)
 }
 
-/// What `explain` has to write for a formula that is false at the start, of a trace whose first time is in halves of a tick.
-pub(crate) fn explained(alloc: Global, parts: &[Part], first: usize) -> Result<String, AllocError> {
-    let halves = match parts.last() {
-        Some(root) => root.judged.truth.len() / 4 + 1,
-        None => 1,
-    };
-    let cuts = cuts_of(alloc, parts, halves)?;
-    let cells = cells_of(alloc, parts, &cuts, halves)?;
-    let kept = kept_of(alloc, parts, &cells)?;
-    let mut text = String::from_str(alloc, "start false\n")?;
+/// Appends the lines of the cells that are kept, each for those that join.
+fn put_lines(
+    text: &mut String,
+    parts: &[Part],
+    first: usize,
+    cells: &[Cell],
+    kept: &[bool],
+) -> Result<(), AllocError> {
     let mut line: Option<Cell> = None;
     for (cell, keep) in cells.iter().zip(kept.iter()) {
         if !*keep {
@@ -273,13 +282,27 @@ pub(crate) fn explained(alloc: Global, parts: &[Part], first: usize) -> Result<S
             if open.joins(cell) {
                 next.from = open.from;
             } else {
-                put_line(&mut text, parts, first, &open)?;
+                put_line(text, parts, first, &open)?;
             }
         }
         line = Some(next);
     }
     if let Some(open) = line {
-        put_line(&mut text, parts, first, &open)?;
+        put_line(text, parts, first, &open)?;
     }
+    Ok(())
+}
+
+/// What `explain` has to write for a formula that is false at the start, of a trace whose first time is in halves of a tick.
+pub(crate) fn explained(alloc: Global, parts: &[Part], first: usize) -> Result<String, AllocError> {
+    let halves = match parts.last() {
+        Some(root) => root.judged.truth.len() / 4 + 1,
+        None => 1,
+    };
+    let cuts = cuts_of(alloc, parts, halves)?;
+    let cells = cells_of(alloc, parts, &cuts, halves)?;
+    let kept = kept_of(alloc, parts, &cells)?;
+    let mut text = String::from_str(alloc, "start false\n")?;
+    put_lines(&mut text, parts, first, &cells, &kept)?;
     Ok(text)
 }

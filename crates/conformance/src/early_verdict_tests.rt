@@ -181,24 +181,39 @@ const WORKED: [Worked; 18] = [
     ),
 ];
 
+/// The row that decides, with the verdict, of at most so many rows; no row decides after it.
+fn first_decided(rt: &impl Abort, fed: &mut Fed<'_>, rows: u32) -> Option<(u32, bool)> {
+    let mut seen = None;
+    for _ in 0..rows {
+        let Some((time, answer)) = fed.row(rt) else {
+            break;
+        };
+        if let Some(decided) = answer {
+            assert!(rt; seen.is_none(), "twice");
+            assert!(rt; decided.at == time, "at");
+            seen = Some((time, decided.holds));
+        }
+    }
+    seen
+}
+
+/// Stops where the rows decide the formula otherwise, or the end does.
+fn expect_decided(
+    rt: &impl Abort,
+    mut fed: Fed<'_>,
+    rows: u32,
+    first: Option<(u32, bool)>,
+    holds: bool,
+) {
+    assert!(rt; first_decided(rt, &mut fed, rows) == first);
+    assert!(rt; fed.end(rt) == holds, "end");
+}
+
 #[test]
 fn rows_decide_as_worked_by_hand(rt: HostRuntime) -> Result<(), Fail> {
-    let alloc = rt.alloc();
-    for (i, (text, input, first, holds)) in WORKED.iter().enumerate() {
-        let mut fed = begin_on(&rt, alloc, text, input)?;
-        let mut seen = None;
-        for _ in 0..100 {
-            let Some((time, answer)) = fed.row(&rt) else {
-                break;
-            };
-            if let Some(decided) = answer {
-                assert!(rt; seen.is_none(), "row {i}: twice");
-                assert!(rt; decided.at == time, "row {i}: at");
-                seen = Some((time, decided.holds));
-            }
-        }
-        assert!(rt; seen == *first, "row {i}");
-        assert!(rt; fed.end(&rt) == *holds, "row {i}: end");
+    for (text, input, first, holds) in WORKED {
+        let fed = begin_on(&rt, rt.alloc(), text, input)?;
+        expect_decided(&rt, fed, 100, first, holds);
     }
     Ok(())
 }
@@ -250,22 +265,10 @@ fn many_rows(alloc: Global, until: u32) -> Result<String, AllocError> {
 
 #[test]
 fn rows_decide_late_as_worked_by_hand(rt: HostRuntime) -> Result<(), Fail> {
-    let alloc = rt.alloc();
-    for (i, (text, until, first)) in LATE.iter().enumerate() {
-        let input = many_rows(alloc, *until)?;
-        let mut fed = begin_on(&rt, alloc, text, &input)?;
-        let mut seen = None;
-        for _ in 0..200 {
-            let Some((time, answer)) = fed.row(&rt) else {
-                break;
-            };
-            if let Some(decided) = answer {
-                assert!(rt; seen.is_none(), "late {i}: twice");
-                seen = Some((time, decided.holds));
-            }
-        }
-        assert!(rt; seen == Some(*first), "late {i}");
-        assert!(rt; fed.end(&rt) == first.1, "late {i}: end");
+    for (text, until, first) in LATE {
+        let input = many_rows(rt.alloc(), until)?;
+        let fed = begin_on(&rt, rt.alloc(), text, &input)?;
+        expect_decided(&rt, fed, 200, Some(first), first.1);
     }
     Ok(())
 }
@@ -356,17 +359,29 @@ impl Making {
         self.add(alloc, Says::Timed(operator, within, j, j), (j, j), text)
     }
 
-    /// An operator on the last two open nodes.
-    fn join(&mut self, alloc: Global, dice: &mut Dice) -> Result<(), AllocError> {
-        let (Some((q, j)), Some((p, i))) = (self.open.pop(), self.open.pop()) else {
-            return Ok(());
-        };
-        if dice.roll(3) == 0 {
-            let link = LINKS[usize::from(dice.roll(3) % 3)];
-            let word = link.word();
-            let text = format!(in alloc; "({p}) {word} ({q})")?;
-            return self.add(alloc, Says::Linked(link, i, j), (i, j), text);
-        }
+    /// A connective of two nodes.
+    fn join_linked(
+        &mut self,
+        alloc: Global,
+        dice: &mut Dice,
+        left: &(String, usize),
+        right: &(String, usize),
+    ) -> Result<(), AllocError> {
+        let link = LINKS[usize::from(dice.roll(3) % 3)];
+        let word = link.word();
+        let (i, j) = (left.1, right.1);
+        let text = format!(in alloc; "({}) {word} ({})", left.0, right.0)?;
+        self.add(alloc, Says::Linked(link, i, j), (i, j), text)
+    }
+
+    /// An operator of time on two nodes.
+    fn join_timed(
+        &mut self,
+        alloc: Global,
+        dice: &mut Dice,
+        left: &(String, usize),
+        right: &(String, usize),
+    ) -> Result<(), AllocError> {
         let operator = if dice.flip() {
             Temporal::Until
         } else {
@@ -379,8 +394,20 @@ impl Making {
                 .saturating_add(usize::from(within.high.unwrap_or(0)));
         }
         let (word, times) = (operator.word(), bound_text(alloc, &within)?);
-        let text = format!(in alloc; "({p}) {word}{times} ({q})")?;
+        let (i, j) = (left.1, right.1);
+        let text = format!(in alloc; "({}) {word}{times} ({})", left.0, right.0)?;
         self.add(alloc, Says::Timed(operator, within, i, j), (i, j), text)
+    }
+
+    /// An operator on the last two open nodes.
+    fn join(&mut self, alloc: Global, dice: &mut Dice) -> Result<(), AllocError> {
+        let (Some(right), Some(left)) = (self.open.pop(), self.open.pop()) else {
+            return Ok(());
+        };
+        if dice.roll(3) == 0 {
+            return self.join_linked(alloc, dice, &left, &right);
+        }
+        self.join_timed(alloc, dice, &left, &right)
     }
 
     /// One node more, whatever the dice say.
@@ -414,6 +441,44 @@ fn formula_of(alloc: Global, dice: &mut Dice, of: &Recording) -> Result<Making, 
     Ok(made)
 }
 
+/// How many eighths of a tick the plain reading looks at.
+fn width(made: &Making) -> usize {
+    let eighths = match made.nodes.first() {
+        Some(node) => node.truth.len(),
+        None => 0,
+    };
+    eighths
+        .saturating_add(made.ahead.saturating_mul(8))
+        .saturating_add(8)
+}
+
+/// Stops where a row decides otherwise than the plain reading says of the rows up to it.
+fn expect_rows(
+    rt: &impl Abort,
+    alloc: Global,
+    fed: &mut Fed<'_>,
+    made: &Making,
+    begin: usize,
+) -> Result<(), Fail> {
+    let wide = width(made);
+    let mut known = false;
+    for _ in 0..10 {
+        let Some((time, answer)) = fed.row(rt) else {
+            break;
+        };
+        let last = (time as usize).saturating_sub(begin).saturating_mul(8);
+        let read = decided(alloc, &made.nodes, SoFar { last, wide })?;
+        let first = if known { None } else { read };
+        let told = match answer {
+            Some(decided) => Some(decided.holds),
+            None => None,
+        };
+        assert!(rt; told == first, "at {time}");
+        known = known || read.is_some();
+    }
+    Ok(())
+}
+
 /// Stops where the rows of a trace decide a formula otherwise than the plain reading of them says.
 fn expect_as_read(
     rt: &impl Abort,
@@ -423,30 +488,7 @@ fn expect_as_read(
     of: &Recording,
 ) -> Result<(), Fail> {
     let mut fed = begin_on(rt, alloc, text, &of.input)?;
-    let eighths = match made.nodes.first() {
-        Some(node) => node.truth.len(),
-        None => 0,
-    };
-    let wide = eighths
-        .saturating_add(made.ahead.saturating_mul(8))
-        .saturating_add(8);
-    let mut known = false;
-    for _ in 0..10 {
-        let Some((time, answer)) = fed.row(rt) else {
-            break;
-        };
-        let last = (time as usize)
-            .saturating_sub(usize::from(of.first))
-            .saturating_mul(8);
-        let read = decided(alloc, &made.nodes, SoFar { last, wide })?;
-        let first = if known { None } else { read };
-        let told = match answer {
-            Some(decided) => Some(decided.holds),
-            None => None,
-        };
-        assert!(rt; told == first, "{text} at {time}");
-        known = known || read.is_some();
-    }
+    expect_rows(rt, alloc, &mut fed, made, usize::from(of.first))?;
     let holds = match made.nodes.last() {
         Some(root) => root.truth.first() == Some(&true),
         None => false,

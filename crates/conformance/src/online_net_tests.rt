@@ -33,6 +33,18 @@ const TIMED: [Temporal; 6] = [
 
 const LINKS: [Link; 3] = [Link::And, Link::Or, Link::Implies];
 
+/// The text of an operator of time on two nodes.
+fn timed_text(
+    alloc: Global,
+    operator: Temporal,
+    times: &str,
+    left: &(String, usize),
+    right: &(String, usize),
+) -> Result<String, AllocError> {
+    let word = operator.word();
+    format!(in alloc; "({}) {word}{times} ({})", left.0, right.0)
+}
+
 impl Making {
     /// The truth of a node.
     fn truth(&self, i: usize) -> &[bool] {
@@ -101,31 +113,54 @@ impl Making {
         self.add(alloc, Act::Timed(operator, within, j, j), truth, text)
     }
 
-    /// An operator on the last two open nodes.
-    fn join(&mut self, alloc: Global, dice: &mut Dice) -> Result<(), AllocError> {
-        let (Some((q, j)), Some((p, i))) = (self.open.pop(), self.open.pop()) else {
-            return Ok(());
+    /// An operator of time on two nodes.
+    fn join_timed(
+        &mut self,
+        alloc: Global,
+        dice: &mut Dice,
+        left: &(String, usize),
+        right: &(String, usize),
+    ) -> Result<(), AllocError> {
+        let operator = if dice.flip() {
+            Temporal::Until
+        } else {
+            Temporal::Since
         };
-        if dice.flip() {
-            let operator = if dice.flip() {
-                Temporal::Until
-            } else {
-                Temporal::Since
-            };
-            let within = bound(dice, operator);
-            let truth = judged(alloc, operator, &within, self.truth(i), self.truth(j))?;
-            let (word, times) = (operator.word(), bound_text(alloc, &within)?);
-            let text = format!(in alloc; "({p}) {word}{times} ({q})")?;
-            return self.add(alloc, Act::Timed(operator, within, i, j), truth, text);
-        }
+        let within = bound(dice, operator);
+        let (i, j) = (left.1, right.1);
+        let truth = judged(alloc, operator, &within, self.truth(i), self.truth(j))?;
+        let text = timed_text(alloc, operator, &bound_text(alloc, &within)?, left, right)?;
+        self.add(alloc, Act::Timed(operator, within, i, j), truth, text)
+    }
+
+    /// A connective of two nodes.
+    fn join_linked(
+        &mut self,
+        alloc: Global,
+        dice: &mut Dice,
+        left: &(String, usize),
+        right: &(String, usize),
+    ) -> Result<(), AllocError> {
         let link = LINKS[usize::from(dice.roll(3) % 3)];
+        let (i, j) = (left.1, right.1);
         let mut truth = Vec::new(alloc);
         for (s, t) in self.truth(i).iter().zip(self.truth(j).iter()) {
             truth.push(link.of(*s, *t))?;
         }
         let word = link.word();
-        let text = format!(in alloc; "({p}) {word} ({q})")?;
+        let text = format!(in alloc; "({}) {word} ({})", left.0, right.0)?;
         self.add(alloc, Act::Linked(i, j), truth, text)
+    }
+
+    /// An operator on the last two open nodes.
+    fn join(&mut self, alloc: Global, dice: &mut Dice) -> Result<(), AllocError> {
+        let (Some(right), Some(left)) = (self.open.pop(), self.open.pop()) else {
+            return Ok(());
+        };
+        if dice.flip() {
+            return self.join_timed(alloc, dice, &left, &right);
+        }
+        self.join_linked(alloc, dice, &left, &right)
     }
 
     /// One node more, whatever the dice say.
@@ -432,33 +467,47 @@ fn run_both(
     Ok(())
 }
 
+/// A run of the network of a formula beside the model of its nodes, over the rows of a recording.
+fn run_made(
+    rt: &impl Abort,
+    alloc: Global,
+    dice: &mut Dice,
+    of: &Recording,
+    nodes: Vec<Plain>,
+    text: &str,
+) -> Result<(), Fail> {
+    let mut net = begin_on(rt, alloc, text, of.input.as_str())?;
+    let mut model = Model {
+        nodes,
+        first: i64::from(of.first),
+        now: None,
+        ended: false,
+        taken: 0,
+    };
+    assert!(rt; net.nodes as usize == model.nodes.len(), "{text}");
+    run_both(rt, dice, &mut net, &mut model)
+}
+
+/// A recording and a formula by the dice: their run, and what `check` says of them.
+fn run_any(rt: &impl Abort, alloc: Global, dice: &mut Dice) -> Result<(), Fail> {
+    let of = generated(alloc, dice)?;
+    let mut made = formula_of(alloc, dice, &of)?;
+    let Some((text, root)) = made.open.pop() else {
+        panic!(rt; "no formula");
+    };
+    let truth = Vec::from_slice(alloc, made.truth(root))?;
+    run_made(rt, alloc, dice, &of, made.nodes, text.as_str())?;
+    assert!(rt; is_so(alloc, &of, text.as_str(), &truth)?, "{text}");
+    Ok(())
+}
+
 #[test]
 fn the_network_is_the_plain_model_in_every_order_of_its_events(
     rt: HostRuntime,
 ) -> Result<(), Fail> {
-    let alloc = rt.alloc();
     let mut dice = Dice { state: 1977 };
-    for case in 0..200 {
-        let of = generated(alloc, &mut dice)?;
-        let mut made = formula_of(alloc, &mut dice, &of)?;
-        let Some((text, root)) = made.open.pop() else {
-            panic!(&rt; "no formula");
-        };
-        let truth = Vec::from_slice(alloc, made.truth(root))?;
-        let mut net = begin_on(&rt, alloc, text.as_str(), of.input.as_str())?;
-        let mut model = Model {
-            nodes: made.nodes,
-            first: i64::from(of.first),
-            now: None,
-            ended: false,
-            taken: 0,
-        };
-        assert!(&rt;
-            net.nodes as usize == model.nodes.len(),
-            "case {case}: {text}"
-        );
-        run_both(&rt, &mut dice, &mut net, &mut model)?;
-        assert!(&rt; is_so(alloc, &of, text.as_str(), &truth)?, "check");
+    for _case in 0..200 {
+        run_any(&rt, rt.alloc(), &mut dice)?;
     }
     Ok(())
 }
@@ -472,11 +521,8 @@ fn still_rows(alloc: Global) -> Result<String, AllocError> {
     Ok(input)
 }
 
-/// What the edges of an input and of a window on it hold after rows at each whole time, each followed by a step and all takes, and
-/// what the input's edge holds before the last step.
-fn held_after(rt: &impl Abort, alloc: Global, text: &str) -> Result<(usize, usize, usize), Fail> {
-    let input = still_rows(alloc)?;
-    let mut of = begin_on(rt, alloc, text, input.as_str())?;
+/// Feeds 101 rows, each followed by a step of the root and all takes; what the input's edge holds before the last step.
+fn feed_all(rt: &impl Abort, of: &mut Driven<'_>) -> Result<usize, Fail> {
     let mut before = 0;
     for _ in 0..101u32 {
         assert!(rt; of.row(rt)?.is_some());
@@ -487,6 +533,15 @@ fn held_after(rt: &impl Abort, alloc: Global, text: &str) -> Result<(usize, usiz
         }
     }
     assert!(rt; of.row(rt)?.is_none());
+    Ok(before)
+}
+
+/// What the edges of an input and of a window on it hold after rows at each whole time, each followed by a step and all takes, and
+/// what the input's edge holds before the last step.
+fn held_after(rt: &impl Abort, alloc: Global, text: &str) -> Result<(usize, usize, usize), Fail> {
+    let input = still_rows(alloc)?;
+    let mut of = begin_on(rt, alloc, text, input.as_str())?;
+    let before = feed_all(rt, &mut of)?;
     let (_, _, input) = of.shown(rt, 0);
     let (_, _, root) = of.shown(rt, 1);
     Ok((input, root, before))
@@ -504,39 +559,63 @@ fn an_edge_holds_what_its_reader_may_still_need(rt: HostRuntime) -> Result<(), F
     Ok(())
 }
 
+/// Feeds two rows, at 0 and at 5.
+fn feed_two(rt: &impl Abort, of: &mut Driven<'_>) -> Result<(), Fail> {
+    assert_eq!(rt; of.row(rt)?, Some(0));
+    assert_eq!(rt; of.row(rt)?, Some(5));
+    Ok(())
+}
+
+/// Steps of the root before the end.
+fn expect_steps(rt: &impl Abort, of: &mut Driven<'_>) {
+    assert_eq!(rt; of.shown(rt, 1), (true, None, 0));
+    assert!(rt; of.step(rt, 1));
+    assert_eq!(rt; of.shown(rt, 1), (false, Some(3), 2));
+    assert!(rt; !of.step(rt, 1));
+}
+
+/// The end, and a step of the root after it.
+fn expect_last_step(rt: &impl Abort, of: &mut Driven<'_>) {
+    assert_eq!(rt; of.close(rt), Ok(()));
+    assert_eq!(rt; of.close(rt), Err(NetFault::Closed));
+    assert!(rt; of.step(rt, 1));
+    assert_eq!(rt; of.shown(rt, 1), (false, Some(5), 3));
+}
+
 #[test]
 fn a_step_moves_a_node_that_is_ready(rt: HostRuntime) -> Result<(), Fail> {
-    let alloc = rt.alloc();
     let input = "time,x\n0,0\n5,5\n10,0\n";
-    let mut of = begin_on(&rt, alloc, "eventually[0,2] x >= 5", input)?;
-    assert_eq!(&rt; of.row(&rt)?, Some(0));
-    assert_eq!(&rt; of.row(&rt)?, Some(5));
-    assert_eq!(&rt; of.shown(&rt, 1), (true, None, 0));
-    assert!(&rt; of.step(&rt, 1));
-    assert_eq!(&rt; of.shown(&rt, 1), (false, Some(3), 2));
-    assert!(&rt; !of.step(&rt, 1));
-    assert_eq!(&rt; of.close(&rt), Ok(()));
-    assert_eq!(&rt; of.close(&rt), Err(NetFault::Closed));
-    assert!(&rt; of.step(&rt, 1));
-    assert_eq!(&rt; of.shown(&rt, 1), (false, Some(5), 3));
+    let mut of = begin_on(&rt, rt.alloc(), "eventually[0,2] x >= 5", input)?;
+    feed_two(&rt, &mut of)?;
+    expect_steps(&rt, &mut of);
+    expect_last_step(&rt, &mut of);
     Ok(())
+}
+
+/// A row after the end, which is refused.
+fn expect_refusal(rt: &impl Abort, of: &mut Driven<'_>) {
+    assert_eq!(rt; of.close(rt), Ok(()));
+    of.refuse(rt, "7,0\n");
+    assert_eq!(rt; of.refused, 1);
+    assert_eq!(rt; of.close(rt), Err(NetFault::Closed));
+}
+
+/// A step of the root after the end, and all takes.
+fn expect_takes(rt: &impl Abort, of: &mut Driven<'_>) {
+    assert_eq!(rt; of.shown(rt, 0), (false, Some(5), 3));
+    assert_eq!(rt; of.shown(rt, 1), (true, None, 0));
+    assert!(rt; of.step(rt, 1));
+    assert_eq!(rt; of.shown(rt, 1), (false, Some(5), 2));
+    assert!(rt; of.take().is_some() && of.take().is_some() && of.take().is_none());
+    assert_eq!(rt; of.close(rt), Err(NetFault::Closed));
 }
 
 #[test]
 fn a_network_that_was_closed_takes_no_row_and_goes_on_to_step(rt: HostRuntime) -> Result<(), Fail> {
-    let alloc = rt.alloc();
-    let mut of = begin_on(&rt, alloc, "eventually[0,2] x >= 5", "time,x\n0,0\n5,5\n")?;
-    assert_eq!(&rt; of.row(&rt)?, Some(0));
-    assert_eq!(&rt; of.row(&rt)?, Some(5));
-    assert_eq!(&rt; of.close(&rt), Ok(()));
-    of.refuse(&rt, "7,0\n");
-    assert_eq!(&rt; of.refused, 1);
-    assert_eq!(&rt; of.close(&rt), Err(NetFault::Closed));
-    assert_eq!(&rt; of.shown(&rt, 0), (false, Some(5), 3));
-    assert_eq!(&rt; of.shown(&rt, 1), (true, None, 0));
-    assert!(&rt; of.step(&rt, 1));
-    assert_eq!(&rt; of.shown(&rt, 1), (false, Some(5), 2));
-    assert!(&rt; of.take().is_some() && of.take().is_some() && of.take().is_none());
-    assert_eq!(&rt; of.close(&rt), Err(NetFault::Closed));
+    let input = "time,x\n0,0\n5,5\n";
+    let mut of = begin_on(&rt, rt.alloc(), "eventually[0,2] x >= 5", input)?;
+    feed_two(&rt, &mut of)?;
+    expect_refusal(&rt, &mut of);
+    expect_takes(&rt, &mut of);
     Ok(())
 }

@@ -64,16 +64,41 @@ pub(crate) fn sink(alloc: Global, room: usize, most: usize, fails: u64) -> Resul
     }
 }
 
+/// An input of these bytes that gives at most so many a call, and of which one call fails.
+pub(crate) fn source(
+    alloc: Global,
+    bytes: &[u8],
+    most: usize,
+    fails: u64,
+) -> Result<MemSource, Fail> {
+    let fails = Vec::from_slice(alloc, &[fails])?;
+    let bytes = Vec::from_slice(alloc, bytes)?;
+    Ok(MemSource::new(bytes, most.max(1), fails))
+}
+
+/// The status of a run, of which nothing is kept.
+pub(crate) fn status_of(
+    alloc: Global,
+    words: &Vec<String>,
+    input: &mut MemSource,
+    out: &mut MemSink,
+    err: &mut MemSink,
+) -> u8 {
+    run(alloc, words, input, out, err, &mut Kept::Nothing)
+}
+
 /// Runs the words over the input.
 pub(crate) fn runs(alloc: Global, case: Case<'_>, devices: Devices) -> Result<Ended, Fail> {
     let words = strings(alloc, case.words)?;
-    let bytes = Vec::from_slice(alloc, case.input.as_bytes())?;
-    let fails = Vec::from_slice(alloc, &[devices.read_fails])?;
-    let mut input = MemSource::new(bytes, devices.read_most.max(1), fails);
+    let mut input = source(
+        alloc,
+        case.input.as_bytes(),
+        devices.read_most,
+        devices.read_fails,
+    )?;
     let mut out = sink(alloc, devices.room, devices.write_most, devices.write_fails)?;
     let mut err = sink(alloc, 4096, devices.write_most, devices.tell_fails)?;
-    let mut kept = Kept::Nothing;
-    let status = run(alloc, &words, &mut input, &mut out, &mut err, &mut kept);
+    let status = status_of(alloc, &words, &mut input, &mut out, &mut err);
     Ok(Ended { status, out, err })
 }
 

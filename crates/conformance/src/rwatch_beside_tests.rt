@@ -398,61 +398,97 @@ fn is_beside(alloc: Global, text: &str, input: &str, refused: &Reply) -> Result<
     Ok(whole.status == 8 && whole.err == refused.err)
 }
 
+/// A formula, a trace, and the size of the pieces in which `rwatch` gets it.
+#[derive(Drop)]
+struct Asked {
+    text: String,
+    input: String,
+    piece: usize,
+}
+
+/// The next by the dice.
+fn asked(
+    alloc: Global,
+    dice: &mut Dice,
+    operators: u8,
+    header: &str,
+    size: Size,
+) -> Result<Asked, Fail> {
+    let text = formula(alloc, dice, operators, size)?;
+    let input = trace(alloc, dice, header, size)?;
+    let piece = usize::from(dice.roll(40)).saturating_add(1);
+    Ok(Asked { text, input, piece })
+}
+
+/// What `robust` answers.
+fn answer_whole(alloc: Global, of: &Asked) -> Result<Reply, Fail> {
+    answer(alloc, "robust", of.text.as_str(), of.input.as_str(), 4096)
+}
+
+/// What `rwatch` answers.
+fn answer_rows(alloc: Global, of: &Asked) -> Result<Reply, Fail> {
+    answer(
+        alloc,
+        "rwatch",
+        of.text.as_str(),
+        of.input.as_str(),
+        of.piece,
+    )
+}
+
+/// Whether both answer, with the same lines once they are joined.
+fn both_answer(alloc: Global, of: &Asked) -> Result<bool, Fail> {
+    let whole = answer_whole(alloc, of)?;
+    let came = answer_rows(alloc, of)?;
+    if whole.status != 0 || came.status != 0 {
+        return Ok(false);
+    }
+    Ok(are_the_same(alloc, came.out.as_str(), whole.out.as_str(), None)?)
+}
+
 #[test]
 fn the_lines_are_those_of_robust(rt: HostRuntime) -> Result<(), Fail> {
-    let alloc = rt.alloc();
     let mut dice = Dice { state: 2028 };
     for case in 0..400 {
         let operators = dice.roll(5);
-        let text = formula(alloc, &mut dice, operators, SMALL)?;
-        let input = trace(alloc, &mut dice, "time,x,q:step\n", SMALL)?;
-        let size = usize::from(dice.roll(40)).saturating_add(1);
-        let whole = answer(alloc, "robust", text.as_str(), input.as_str(), 4096)?;
-        let came = answer(alloc, "rwatch", text.as_str(), input.as_str(), size)?;
-        assert!(rt;
-            whole.status == 0 && came.status == 0,
-            "case {case}: {text}"
-        );
-        assert!(rt;
-            are_the_same(alloc, came.out.as_str(), whole.out.as_str(), None)?,
-            "case {case}: {text}"
-        );
+        let of = asked(rt.alloc(), &mut dice, operators, "time,x,q:step\n", SMALL)?;
+        assert!(rt; both_answer(rt.alloc(), &of)?, "case {case}: {}", of.text);
     }
     Ok(())
 }
 
+/// Whether the lines that came, joined, are those of `robust`, whose points may be too large to reckon with.
+fn is_beside_whole(alloc: Global, of: &Asked, came: &str) -> Result<bool, Fail> {
+    let whole = answer_whole(alloc, of)?;
+    let lines = whole.out.as_str();
+    Ok(are_the_same(alloc, came, lines, Some(lines))?)
+}
+
+/// How often `rwatch` is refused, once or never, and how often it is after lines; None where it is not beside `robust`.
+fn refusals(alloc: Global, of: &Asked) -> Result<Option<(u32, u32)>, Fail> {
+    let came = answer_rows(alloc, of)?;
+    if came.status == 0 {
+        let is_so = is_beside_whole(alloc, of, came.out.as_str())?;
+        return Ok(if is_so { Some((0, 0)) } else { None });
+    }
+    if !is_beside(alloc, of.text.as_str(), of.input.as_str(), &came)? {
+        return Ok(None);
+    }
+    Ok(Some((1, u32::from(!came.out.is_empty()))))
+}
+
 #[test]
 fn what_is_refused_has_come(rt: HostRuntime) -> Result<(), Fail> {
-    let alloc = rt.alloc();
     let mut dice = Dice { state: 61 };
     let (mut refused, mut told) = (0u32, 0u32);
     for case in 0..300 {
         let operators = dice.roll(4).saturating_add(2);
-        let text = formula(alloc, &mut dice, operators, HUGE)?;
-        let input = trace(alloc, &mut dice, "time,x,q\n", HUGE)?;
-        let size = usize::from(dice.roll(40)).saturating_add(1);
-        let came = answer(alloc, "rwatch", text.as_str(), input.as_str(), size)?;
-        if came.status == 0 {
-            let whole = answer(alloc, "robust", text.as_str(), input.as_str(), 4096)?;
-            assert!(rt;
-                are_the_same(
-                    alloc,
-                    came.out.as_str(),
-                    whole.out.as_str(),
-                    Some(whole.out.as_str())
-                )?,
-                "case {case}: {text}"
-            );
-        } else {
-            assert!(rt;
-                is_beside(alloc, text.as_str(), input.as_str(), &came)?,
-                "case {case}: {text}"
-            );
-            refused = refused.saturating_add(1);
-            if !came.out.is_empty() {
-                told = told.saturating_add(1);
-            }
-        }
+        let of = asked(rt.alloc(), &mut dice, operators, "time,x,q\n", HUGE)?;
+        let Some((more, lines)) = refusals(rt.alloc(), &of)? else {
+            panic!(rt; "case {case}: {}", of.text);
+        };
+        refused = refused.saturating_add(more);
+        told = told.saturating_add(lines);
     }
     assert!(rt; refused >= 8 && told >= 7, "{refused}, {told}");
     Ok(())

@@ -1,13 +1,13 @@
 //! Several sessions in one input: a table from outside, refusals in their order, and sessions that come at random against `watch`
 //! of each one's own lines.
-use io_edge::{MemSink, MemSource};
+use super::run_tests::{sink, source, status_of, strings};
+use io_edge::MemSink;
 use session_mux::{Mux, MuxFault};
 use std::alloc::Global;
 use std::process::Abort;
 use std::test::Fail;
 use stl_grammar::parse;
 use stl_syntax::Text;
-use workbench::{Kept, run};
 
 fn mux(rt: &impl Abort, alloc: Global, text: &str) -> Mux {
     let Ok(formula) = parse(alloc, text) else {
@@ -86,9 +86,26 @@ fn lines_are_refused_in_order(rt: HostRuntime) -> Result<(), Fail> {
         );
     }
     assert!(rt; mux.sessions() == 0 && out.bytes().is_empty());
+    Ok(())
+}
+
+#[test]
+fn a_tag_may_have_16_bytes(rt: HostRuntime) -> Result<(), Fail> {
+    let alloc = rt.alloc();
+    let mut mux = mux(&rt, alloc, "x >= 1");
+    let mut out = Text::new(alloc);
     assert!(rt; mux.line(b"abcdefghijklmnop", &mut out) == Ok(()) && mux.sessions() == 1);
     assert!(rt; mux.end(&mut out) == Ok(()));
     assert!(rt; out.bytes() == b"abcdefghijklmnop line 1: no header\n".as_slice());
+    Ok(())
+}
+
+#[test]
+fn nothing_is_taken_after_the_end(rt: HostRuntime) -> Result<(), Fail> {
+    let alloc = rt.alloc();
+    let mut mux = mux(&rt, alloc, "x >= 1");
+    let mut out = Text::new(alloc);
+    assert!(rt; take(&mut mux, "a", &mut out) == Ok(()));
     assert!(rt; mux.line(b"", &mut out) == Err(MuxFault::Ended));
     assert!(rt;
         mux.line(b"-a", &mut out) == Err(MuxFault::Ended)
@@ -98,20 +115,34 @@ fn lines_are_refused_in_order(rt: HostRuntime) -> Result<(), Fail> {
     Ok(())
 }
 
+/// Begins a session for each of the first numbers, and answers whether all were taken.
+fn begun(alloc: Global, mux: &mut Mux, count: u64, out: &mut Text) -> Result<bool, Fail> {
+    for i in 0..count {
+        let line = format!(in alloc; "s{i} time,x")?;
+        if mux.line(line.as_bytes(), out) != Ok(()) {
+            return Ok(false);
+        }
+    }
+    Ok(true)
+}
+
 #[test]
 fn there_are_at_most_1024_sessions(rt: HostRuntime) -> Result<(), Fail> {
     let alloc = rt.alloc();
     let mut mux = mux(&rt, alloc, "x >= 1");
     let mut out = Text::new(alloc);
-    for i in 0..1024 {
-        let line = format!(in alloc; "s{i} time,x")?;
-        assert!(rt;
-            mux.line(line.as_bytes(), &mut out) == Ok(()),
-            "session {i}"
-        );
-    }
+    assert!(rt; begun(alloc, &mut mux, 1024, &mut out)?);
     assert!(rt; mux.line(b"one_more time,x", &mut out) == Err(MuxFault::TooManySessions));
     assert!(rt; mux.line(b"-", &mut out) == Err(MuxFault::BadTag) && mux.sessions() == 1024);
+    Ok(())
+}
+
+#[test]
+fn the_first_and_the_last_of_1024_sessions_are_told(rt: HostRuntime) -> Result<(), Fail> {
+    let alloc = rt.alloc();
+    let mut mux = mux(&rt, alloc, "x >= 1");
+    let mut out = Text::new(alloc);
+    assert!(rt; begun(alloc, &mut mux, 1024, &mut out)?);
     assert!(rt;
         mux.line(b"s1023 0,1", &mut out) == Ok(()) && mux.line(b"s0 0,0", &mut out) == Ok(())
     );
@@ -146,26 +177,38 @@ fn shuffled(state: u64) -> u64 {
         .wrapping_add(1_442_695_040_888_963_407)
 }
 
+/// The first line of a bench.
+fn first_line(random: u64) -> &'static str {
+    match random >> 33 & 31 {
+        0 => "time,z",
+        1 => "time,x,x",
+        2 => " ",
+        _ => "time,x",
+    }
+}
+
+/// A line that is no row, or None.
+fn other_line(random: u64) -> Option<&'static str> {
+    match random >> 44 & 127 {
+        0 => Some("."),
+        1 => Some("0,0"),
+        2 => Some("? "),
+        3 => Some(""),
+        4..=12 => Some("?"),
+        _ => None,
+    }
+}
+
 /// What a bench sends next.
 fn content(alloc: Global, bench: &mut Sender, random: u64) -> Result<String, Fail> {
-    let value = random >> 40 & 15;
     if bench.own.bytes().is_empty() {
-        return Ok(match random >> 33 & 31 {
-            0 => String::from_str(alloc, "time,z")?,
-            1 => String::from_str(alloc, "time,x,x")?,
-            2 => String::from_str(alloc, " ")?,
-            _ => String::from_str(alloc, "time,x")?,
-        });
+        return Ok(String::from_str(alloc, first_line(random))?);
     }
     bench.time = bench.time.wrapping_add(1 + (random >> 36 & 3));
-    Ok(match random >> 44 & 127 {
-        0 => String::from_str(alloc, ".")?,
-        1 => String::from_str(alloc, "0,0")?,
-        2 => String::from_str(alloc, "? ")?,
-        3 => String::from_str(alloc, "")?,
-        4..=12 => String::from_str(alloc, "?")?,
-        _ => format!(in alloc; "{},{value}", bench.time)?,
-    })
+    match other_line(random) {
+        Some(line) => Ok(String::from_str(alloc, line)?),
+        None => Ok(format!(in alloc; "{},{}", bench.time, random >> 40 & 15)?),
+    }
 }
 
 /// Keeps what a bench sent, as far as it is of its trace.
@@ -200,47 +243,52 @@ fn hear(bench: &mut Sender, mark: &[u8], text: &[u8]) -> Result<u64, Fail> {
     Ok(others)
 }
 
+/// Adds a line after the tag and the mark of a query.
+fn put_told(all: &mut Text, tag: &str, line: &[u8]) -> Result<(), Fail> {
+    all.push(tag.as_bytes())?;
+    all.push(b" ? ")?;
+    all.push(line)?;
+    all.push(b"\n")?;
+    Ok(())
+}
+
 /// The last eight lines of a text, each after the tag and the mark of a query.
 fn recent(alloc: Global, tag: &str, text: &[u8]) -> Result<Text, Fail> {
     let count = text.iter().filter(|byte| **byte == b'\n').count();
     let mut all = Text::new(alloc);
     for (i, line) in text.split(|byte| *byte == b'\n').enumerate() {
         if i < count && count - i <= 8 {
-            all.push(tag.as_bytes())?;
-            all.push(b" ? ")?;
-            all.push(line)?;
-            all.push(b"\n")?;
+            put_told(&mut all, tag, line)?;
         }
     }
     Ok(all)
 }
 
-fn sink(alloc: Global) -> Result<MemSink, Fail> {
-    let fails = Vec::from_slice(alloc, &[0])?;
-    match MemSink::new(alloc, 1 << 20, 4096, fails) {
-        Ok(sink) => Ok(sink),
-        Err(memory) => Err(Fail::from(memory)),
-    }
-}
-
-/// What `watch` writes for these bytes, with the line of their fault.
-fn alone(alloc: Global, formula: &str, bytes: &[u8]) -> Result<Text, Fail> {
-    let mut words = Vec::new(alloc);
-    words.push(String::from_str(alloc, "watch")?)?;
-    words.push(String::from_str(alloc, formula)?)?;
-    let mut input = MemSource::new(
-        Vec::from_slice(alloc, bytes)?,
-        4096,
-        Vec::from_slice(alloc, &[0])?,
-    );
-    let mut out = sink(alloc)?;
-    let mut err = sink(alloc)?;
-    let mut kept = Kept::Nothing;
-    let _ = run(alloc, &words, &mut input, &mut out, &mut err, &mut kept);
+/// What was written to both.
+fn both(alloc: Global, out: &MemSink, err: &MemSink) -> Result<Text, Fail> {
     let mut all = Text::new(alloc);
     all.push(out.written())?;
     all.push(err.written())?;
     Ok(all)
+}
+
+/// What `watch` writes for these bytes, with the line of their fault.
+fn alone(alloc: Global, formula: &str, bytes: &[u8]) -> Result<Text, Fail> {
+    let words = strings(alloc, &["watch", formula])?;
+    let mut input = source(alloc, bytes, 4096, 0)?;
+    let mut out = sink(alloc, 1 << 20, 4096, 0)?;
+    let mut err = sink(alloc, 1 << 20, 4096, 0)?;
+    let _ = status_of(alloc, &words, &mut input, &mut out, &mut err);
+    both(alloc, &out, &err)
+}
+
+/// Whether the answer to a bench's line is right as far as that is known at once.
+fn is_right(alloc: Global, bench: &mut Sender, content: &str, told: &[u8]) -> Result<bool, Fail> {
+    if content == "?" {
+        let recent = recent(alloc, bench.tag.as_str(), bench.told.bytes())?;
+        return Ok(told == recent.bytes());
+    }
+    Ok(hear(bench, b" ", told)? == 0)
 }
 
 /// Sends the next line of a bench, and answers whether its answer is right as far as that is known at once.
@@ -248,13 +296,74 @@ fn send(alloc: Global, mux: &mut Mux, bench: &mut Sender, random: u64) -> Result
     let content = content(alloc, bench, random)?;
     let line = format!(in alloc; "{} {content}", bench.tag)?;
     let mut out = Text::new(alloc);
-    let taken = mux.line(line.as_bytes(), &mut out) == Ok(());
-    note(bench, content.as_str())?;
-    if content.as_str() == "?" {
-        let recent = recent(alloc, bench.tag.as_str(), bench.told.bytes())?;
-        return Ok(taken && out.bytes() == recent.bytes());
+    if mux.line(line.as_bytes(), &mut out) != Ok(()) {
+        return Ok(false);
     }
-    Ok(taken && hear(bench, b" ", out.bytes())? == 0)
+    note(bench, content.as_str())?;
+    is_right(alloc, bench, content.as_str(), out.bytes())
+}
+
+/// Nine benches that have sent nothing.
+fn nine(alloc: Global) -> Result<Vec<Sender>, Fail> {
+    let mut benches = Vec::new(alloc);
+    for i in 0..9 {
+        benches.push(numbered(alloc, i)?)?;
+    }
+    Ok(benches)
+}
+
+/// Sends lines of benches that are drawn, and answers whether each was answered rightly.
+fn sent(
+    alloc: Global,
+    mux: &mut Mux,
+    benches: &mut Vec<Sender>,
+    random: &mut u64,
+) -> Result<bool, Fail> {
+    for _lines in 0..4000 {
+        *random = shuffled(*random);
+        let place = (*random >> 56) as usize % 9;
+        if let Some(bench) = benches.get_mut(place) {
+            if !send(alloc, mux, bench, *random)? {
+                return Ok(false);
+            }
+        }
+    }
+    Ok(true)
+}
+
+/// Whether each bench was told what `watch` writes of its own lines.
+fn are_as_alone(
+    alloc: Global,
+    formula: &str,
+    benches: &mut Vec<Sender>,
+    last: &[u8],
+) -> Result<bool, Fail> {
+    for bench in benches.iter_mut() {
+        let _ = hear(bench, b" ", last)?;
+        let alone = alone(alloc, formula, bench.own.bytes())?;
+        if bench.told.bytes() != alone.bytes() {
+            return Ok(false);
+        }
+    }
+    Ok(true)
+}
+
+/// Whether benches that come at random are told as each one alone.
+fn told_as_alone(
+    alloc: Global,
+    mux: &mut Mux,
+    formula: &str,
+    random: &mut u64,
+) -> Result<bool, Fail> {
+    let mut benches = nine(alloc)?;
+    if !sent(alloc, mux, &mut benches, random)? {
+        return Ok(false);
+    }
+    let mut out = Text::new(alloc);
+    if mux.end(&mut out) != Ok(()) {
+        return Ok(false);
+    }
+    are_as_alone(alloc, formula, &mut benches, out.bytes())
 }
 
 #[test]
@@ -268,24 +377,10 @@ fn sessions_that_come_at_random_are_told_as_alone(rt: HostRuntime) -> Result<(),
     let mut random = 7;
     for formula in formulas {
         let mut mux = mux(&rt, alloc, formula);
-        let mut benches = Vec::new(alloc);
-        for i in 0..9 {
-            benches.push(numbered(alloc, i)?)?;
-        }
-        for _lines in 0..4000 {
-            random = shuffled(random);
-            let place = (random >> 56) as usize % 9;
-            if let Some(bench) = benches.get_mut(place) {
-                assert!(rt; send(alloc, &mut mux, bench, random)?);
-            }
-        }
-        let mut out = Text::new(alloc);
-        assert!(rt; mux.end(&mut out) == Ok(()));
-        for bench in benches.iter_mut() {
-            let _ = hear(bench, b" ", out.bytes())?;
-            let alone = alone(alloc, formula, bench.own.bytes())?;
-            assert!(rt; bench.told.bytes() == alone.bytes(), "{}", bench.tag);
-        }
+        assert!(rt;
+            told_as_alone(alloc, &mut mux, formula, &mut random)?,
+            "{formula}"
+        );
     }
     Ok(())
 }

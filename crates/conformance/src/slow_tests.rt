@@ -54,12 +54,27 @@ impl Recording {
         }
         Ok(())
     }
+
+    /// One row more after that of a time and two values, and its own.
+    fn go_on(
+        &mut self,
+        dice: &mut Dice,
+        (time, x, q): (u32, i64, i64),
+    ) -> Result<(u32, i64, i64), AllocError> {
+        let ticks = dice.roll(3).saturating_add(1);
+        let (next_x, next_q) = (dice.level(), dice.level());
+        self.gap(ticks, (x, q), next_x)?;
+        let time = time.wrapping_add(u32::from(ticks));
+        self.times.push(time)?;
+        write!(self.input, "{time},{next_x},{next_q}\n")?;
+        Ok((time, next_x, next_q))
+    }
 }
 
 /// A trace of at most four rows, one to three ticks apart, whose values are from -1 to 1.
 pub(crate) fn generated(alloc: Global, dice: &mut Dice) -> Result<Recording, AllocError> {
     let first = dice.roll(3);
-    let (mut x, mut q) = (dice.level(), dice.level());
+    let (x, q) = (dice.level(), dice.level());
     let mut made = Recording {
         input: format!(in alloc; "time,x,q:step\n{first},{x},{q}\n")?,
         first,
@@ -67,18 +82,12 @@ pub(crate) fn generated(alloc: Global, dice: &mut Dice) -> Result<Recording, All
         ramp: Vec::new(alloc),
         step: Vec::new(alloc),
     };
-    let mut time = u32::from(first);
+    let mut last = (u32::from(first), x, q);
     for _ in 0..dice.roll(4) {
-        let ticks = dice.roll(3).saturating_add(1);
-        let (next_x, next_q) = (dice.level(), dice.level());
-        made.gap(ticks, (x, q), next_x)?;
-        time = time.wrapping_add(u32::from(ticks));
-        (x, q) = (next_x, next_q);
-        made.times.push(time)?;
-        write!(made.input, "{time},{x},{q}\n")?;
+        last = made.go_on(dice, last)?;
     }
-    made.ramp.push(x)?;
-    made.step.push(q)?;
+    made.ramp.push(last.1)?;
+    made.step.push(last.2)?;
     Ok(made)
 }
 
@@ -254,46 +263,70 @@ fn is_told(alloc: Global, dice: &mut Dice, of: &Recording, formula: &Judged) -> 
     )
 }
 
+/// Whether an operator on atoms is told as the slow evaluation says.
+fn one_is_told(alloc: Global, dice: &mut Dice, operator: Temporal) -> Result<bool, Fail> {
+    let of = generated(alloc, dice)?;
+    let (p, q) = (atom(alloc, dice, &of)?, atom(alloc, dice, &of)?);
+    let one = joined(alloc, dice, operator, &p, &q)?;
+    is_told(alloc, dice, &of, &one)
+}
+
 #[test]
 fn each_temporal_operator_is_judged_as_a_slow_evaluation_does(rt: HostRuntime) -> Result<(), Fail> {
-    let alloc = rt.alloc();
     let mut dice = Dice { state: 2004 };
     for case in 0..40 {
-        for inner in OPERATORS {
-            let of = generated(alloc, &mut dice)?;
-            let (p, q) = (atom(alloc, &mut dice, &of)?, atom(alloc, &mut dice, &of)?);
-            let one = joined(alloc, &mut dice, inner, &p, &q)?;
-            let text = one.text.as_str();
+        for operator in OPERATORS {
+            let word = operator.word();
             assert!(rt;
-                is_told(alloc, &mut dice, &of, &one)?,
-                "case {case}: {text}"
+                one_is_told(rt.alloc(), &mut dice, operator)?,
+                "case {case}: {word}"
             );
         }
     }
     Ok(())
 }
 
+/// An operator on atoms, in another one.
+fn in_another(
+    alloc: Global,
+    dice: &mut Dice,
+    of: &Recording,
+    inner: Temporal,
+    outer: Temporal,
+) -> Result<Judged, AllocError> {
+    let (p, q) = (atom(alloc, dice, of)?, atom(alloc, dice, of)?);
+    let one = joined(alloc, dice, inner, &p, &q)?;
+    if dice.flip() {
+        joined(alloc, dice, outer, &p, &one)
+    } else {
+        joined(alloc, dice, outer, &one, &q)
+    }
+}
+
+/// Whether it is told as the slow evaluation says.
+fn two_are_told(
+    alloc: Global,
+    dice: &mut Dice,
+    inner: Temporal,
+    outer: Temporal,
+) -> Result<bool, Fail> {
+    let of = generated(alloc, dice)?;
+    let two = in_another(alloc, dice, &of, inner, outer)?;
+    is_told(alloc, dice, &of, &two)
+}
+
 #[test]
 fn a_temporal_operator_in_another_is_judged_as_a_slow_evaluation_does(
     rt: HostRuntime,
 ) -> Result<(), Fail> {
-    let alloc = rt.alloc();
     let mut dice = Dice { state: 2013 };
     for case in 0..6 {
         for inner in OPERATORS {
             for outer in OPERATORS {
-                let of = generated(alloc, &mut dice)?;
-                let (p, q) = (atom(alloc, &mut dice, &of)?, atom(alloc, &mut dice, &of)?);
-                let one = joined(alloc, &mut dice, inner, &p, &q)?;
-                let two = if dice.flip() {
-                    joined(alloc, &mut dice, outer, &p, &one)?
-                } else {
-                    joined(alloc, &mut dice, outer, &one, &q)?
-                };
-                let text = two.text.as_str();
+                let (word, other) = (outer.word(), inner.word());
                 assert!(rt;
-                    is_told(alloc, &mut dice, &of, &two)?,
-                    "case {case}: {text}"
+                    two_are_told(rt.alloc(), &mut dice, inner, outer)?,
+                    "case {case}: {word} of {other}"
                 );
             }
         }

@@ -188,20 +188,27 @@ fn refuses(watch: &mut Watch, out: &mut MemSink, fault: WatchFault) -> bool {
         && out.written().len() == before
 }
 
+/// Whether a watch refuses the bytes so, has written so much by then, and refuses all that follows.
+fn is_refused(
+    watch: &mut Watch,
+    out: &mut MemSink,
+    bytes: &str,
+    fault: WatchFault,
+    written: &str,
+) -> bool {
+    refusal(watch, bytes, out) == Some(fault)
+        && out.written() == written.as_bytes()
+        && refuses(watch, out, WatchFault::Stopped)
+}
+
 #[test]
 fn a_watch_that_refused_refuses_all(rt: HostRuntime) -> Result<(), Fail> {
-    let alloc = rt.alloc();
-    for (i, (formula, bytes, fails, fault, written)) in REFUSED.iter().enumerate() {
-        let mut out = sink(alloc, 4096, 4096, *fails)?;
-        let mut watch = watch(&rt, alloc, formula);
+    for (formula, bytes, fails, fault, written) in REFUSED {
+        let mut out = sink(rt.alloc(), 4096, 4096, fails)?;
+        let mut watch = watch(&rt, rt.alloc(), formula);
         assert!(rt;
-            refusal(&mut watch, bytes, &mut out) == Some(*fault),
-            "row {i}"
-        );
-        assert!(rt; out.written() == written.as_bytes(), "row {i}");
-        assert!(rt;
-            refuses(&mut watch, &mut out, WatchFault::Stopped),
-            "row {i}"
+            is_refused(&mut watch, &mut out, bytes, fault, written),
+            "{formula}"
         );
     }
     Ok(())
@@ -210,24 +217,25 @@ fn a_watch_that_refused_refuses_all(rt: HostRuntime) -> Result<(), Fail> {
 /// What a watch of `x >= 5` writes for `TRIANGLE`.
 const WRITTEN: &str = "[0,0] false\n(0,5) false\n[5,5] true\n(5,10] false\nstart false\n";
 
+/// Whether a watch writes what there is room for, and refuses all that follows where that is not all.
+fn fills(watch: &mut Watch, out: &mut MemSink, room: usize) -> bool {
+    let fault = refusal(watch, TRIANGLE, out);
+    if out.written() != &WRITTEN.as_bytes()[..room.min(WRITTEN.len())] {
+        return false;
+    }
+    if room < WRITTEN.len() {
+        return fault == Some(WatchFault::Write) && refuses(watch, out, WatchFault::Stopped);
+    }
+    fault == None
+}
+
 #[test]
 fn a_watch_writes_what_there_is_room_for(rt: HostRuntime) -> Result<(), Fail> {
-    let alloc = rt.alloc();
     for room in 0..=WRITTEN.len() {
-        let mut out = sink(alloc, room, 4096, 1)?;
+        let mut out = sink(rt.alloc(), room, 4096, 1)?;
         assert!(rt; out.write(b"x").is_err(), "a call that failed before");
-        let mut watch = watch(&rt, alloc, "x >= 5");
-        let fault = refusal(&mut watch, TRIANGLE, &mut out);
-        assert!(rt; out.written() == &WRITTEN.as_bytes()[..room], "{room}");
-        if room < WRITTEN.len() {
-            assert!(rt; fault == Some(WatchFault::Write), "{room}");
-            assert!(rt;
-                refuses(&mut watch, &mut out, WatchFault::Stopped),
-                "{room}"
-            );
-        } else {
-            assert!(rt; fault == None, "{room}");
-        }
+        let mut watch = watch(&rt, rt.alloc(), "x >= 5");
+        assert!(rt; fills(&mut watch, &mut out, room), "{room}");
     }
     Ok(())
 }
@@ -239,20 +247,25 @@ const PIECES: [(&str, &str); 3] = [
     ("10,0", "[0,3) false\n[3,3] true\n"),
 ];
 
+/// What it has written at the end.
+const ENDED: &str = "[0,3) false\n[3,3] true\n(3,5] true\n(5,8] false\n(8,10] false\nstart false\n";
+
+/// Whether a watch has written so much after each piece.
+fn takes_pieces(watch: &mut Watch, out: &mut MemSink) -> bool {
+    for (piece, written) in PIECES {
+        if watch.push(piece.as_bytes(), out) != Ok(()) || out.written() != written.as_bytes() {
+            return false;
+        }
+    }
+    true
+}
+
 #[test]
 fn a_watch_writes_at_each_piece_and_ends_once(rt: HostRuntime) -> Result<(), Fail> {
-    let alloc = rt.alloc();
-    let mut out = sink(alloc, 4096, 4096, 0)?;
-    let mut watch = watch(&rt, alloc, "eventually[0,2] x >= 5");
-    for (i, (piece, written)) in PIECES.iter().enumerate() {
-        assert!(rt;
-            watch.push(piece.as_bytes(), &mut out) == Ok(()),
-            "piece {i}"
-        );
-        assert!(rt; out.written() == written.as_bytes(), "piece {i}");
-    }
-    let whole = "[0,3) false\n[3,3] true\n(3,5] true\n(5,8] false\n(8,10] false\nstart false\n";
-    assert!(rt; watch.end(&mut out) == Ok(false) && out.written() == whole.as_bytes());
+    let mut out = sink(rt.alloc(), 4096, 4096, 0)?;
+    let mut watch = watch(&rt, rt.alloc(), "eventually[0,2] x >= 5");
+    assert!(rt; takes_pieces(&mut watch, &mut out));
+    assert!(rt; watch.end(&mut out) == Ok(false) && out.written() == ENDED.as_bytes());
     assert!(rt; refuses(&mut watch, &mut out, WatchFault::Ended));
     Ok(())
 }

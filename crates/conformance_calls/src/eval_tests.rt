@@ -43,7 +43,7 @@ const INSTANT: &str = "time,x\n5,7\n";
 /// A formula, a trace, the place of a node or the root, and the knots of its signal.
 type Case<W> = (&'static str, &'static str, Option<u32>, &'static [Row<W>]);
 
-const MARGINS: [Case<Level>; 28] = [
+const MARGINS: [Case<Level>; 8] = [
     (
         "not x >= 3",
         RAMPS,
@@ -125,6 +125,10 @@ const MARGINS: [Case<Level>; 28] = [
             (8, 1, Level::Is(2), END),
         ],
     ),
+];
+
+/// Margins of until and since.
+const JOINED: [Case<Level>; 8] = [
     (
         "x >= 2 until[1,3] y >= 2",
         RAMPS,
@@ -210,6 +214,10 @@ const MARGINS: [Case<Level>; 28] = [
             (8, 1, Level::Is(6), END),
         ],
     ),
+];
+
+/// Margins over open windows, of windows in one another, and of constants.
+const OTHERS: [Case<Level>; 12] = [
     (
         "eventually]0,2] x >= 0",
         STEPS,
@@ -354,8 +362,18 @@ fn a_crossing_that_needs_too_much_is_refused_at_its_node(rt: HostRuntime) -> Res
 }
 
 #[test]
-fn margins_of_formulas_are_told(rt: HostRuntime) -> Result<(), Fail> {
+fn margins_of_windows_are_told(rt: HostRuntime) -> Result<(), Fail> {
     check_traces::<Margin>(&rt, rt.alloc(), &MARGINS)
+}
+
+#[test]
+fn margins_of_until_and_since_are_told(rt: HostRuntime) -> Result<(), Fail> {
+    check_traces::<Margin>(&rt, rt.alloc(), &JOINED)
+}
+
+#[test]
+fn margins_of_formulas_in_formulas_are_told(rt: HostRuntime) -> Result<(), Fail> {
+    check_traces::<Margin>(&rt, rt.alloc(), &OTHERS)
 }
 
 const TRUTHS: [Case<bool>; 4] = [

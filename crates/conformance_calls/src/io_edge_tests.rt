@@ -90,11 +90,16 @@ impl Read for Flaky {
 }
 
 #[test]
-fn a_reader_of_std_gives_its_bytes_and_its_failures(rt: HostRuntime) {
+fn a_reader_of_std_gives_its_bytes(rt: HostRuntime) {
     let mut buffer = [0u8; 4];
     let mut edge = ReadEdge::new(b"abcde".as_slice());
     assert_eq!(rt; edge.read(&mut buffer), Ok(4));
     assert_eq!(rt; &buffer, b"abcd");
+}
+
+#[test]
+fn a_reader_of_std_fails_where_it_did(rt: HostRuntime) {
+    let mut buffer = [0u8; 4];
     let mut flaky = ReadEdge::new(Flaky { calls: 0 });
     assert_eq!(rt; flaky.read(&mut buffer), Ok(1));
     assert_eq!(rt; buffer[0], b'x');

@@ -16,15 +16,21 @@ fn time(n: i64) -> Frac
 }
 
 #[test]
-fn one_function_serves_every_shape(rt: HostRuntime) {
+fn one_function_serves_truths(rt: HostRuntime) {
     let (no, yes) = (Truth::of(false), Truth::of(true));
     assert!(&rt; greater_at(&no, &yes, &time(0)).holds());
     assert!(&rt; !greater_at(&no, &Truth::least(), &time(0)).holds());
+}
 
+#[test]
+fn it_serves_truths_of_three_values(rt: HostRuntime) {
     let (unknown, sure) = (Kleene::of(None), Kleene::of(Some(true)));
     assert!(&rt; greater_at(&unknown, &sure, &time(7)).known() == Some(true));
     assert!(&rt; greater_at(&unknown, &sure.neg(), &time(7)).known() == None);
+}
 
+#[test]
+fn it_serves_margins(rt: HostRuntime) {
     let slope = Margin::Ramp(Ramp::make(0, 0, 1, 1));
     let five = Margin::Fixed(Frac::of(5));
     assert!(&rt; Margin::same(&greater_at(&slope, &five, &time(4)), &five));

@@ -217,18 +217,27 @@ fn margins_are_ordered_at_a_time(rt: HostRuntime) {
     assert!(&rt; Margin::cmp_at(&slope, &number(5), &time(4)) == Ordering::Less);
     assert!(&rt; Margin::cmp_at(&slope, &number(5), &time(5)) == Ordering::Equal);
     assert!(&rt; Margin::cmp_at(&number(5), &slope, &time(6)) == Ordering::Less);
+    assert!(&rt; Margin::cmp_at(&number(1), &number(2), &time(0)) == Ordering::Less);
+}
+
+#[test]
+fn infinite_margins_are_the_first_and_the_last(rt: HostRuntime) {
+    let slope = ramp(0, 0, 1, 1);
     assert!(&rt; Margin::cmp_at(&Margin::least(), &slope, &time(-FAR)) == Ordering::Less);
     assert!(&rt;
         Margin::cmp_at(&Margin::greatest(), &Margin::greatest(), &time(0)) == Ordering::Equal
     );
     assert!(&rt; Margin::cmp_at(&Margin::greatest(), &slope, &time(FAR)) == Ordering::Greater);
+}
+
+#[test]
+fn ramps_are_ordered_at_a_time(rt: HostRuntime) {
     assert!(&rt;
         Margin::cmp_at(&ramp(0, 0, 3, 2), &ramp(0, 10, -1, 1), &time(4)) == Ordering::Equal
     );
     assert!(&rt;
         Margin::cmp_at(&ramp(0, 0, 3, 2), &ramp(0, 10, -1, 1), &time(5)) == Ordering::Greater
     );
-    assert!(&rt; Margin::cmp_at(&number(1), &number(2), &time(0)) == Ordering::Less);
 }
 
 #[test]
@@ -238,10 +247,20 @@ fn margins_move(rt: HostRuntime) {
     assert!(&rt; Margin::cmp_at(&slope.mirror(10), &number(8), &time(2)) == Ordering::Equal);
     assert!(&rt; Margin::cmp_at(&slope.neg(), &number(-2), &time(2)) == Ordering::Equal);
     assert!(&rt; Margin::cmp_at(&number(7).neg(), &number(-7), &time(2)) == Ordering::Equal);
+}
+
+#[test]
+fn margins_know_their_slope(rt: HostRuntime) {
+    let slope = ramp(0, 0, 1, 1);
     assert!(&rt; slope.rises() == Ordering::Greater && slope.neg().rises() == Ordering::Less);
     assert!(&rt;
         number(7).rises() == Ordering::Equal && ramp(0, 7, 0, 1).rises() == Ordering::Equal
     );
+}
+
+#[test]
+fn margins_are_the_same_as_lines(rt: HostRuntime) {
+    let slope = ramp(0, 0, 1, 1);
     assert!(&rt; Margin::same(&slope, &ramp(5, 5, 2, 2)) && !Margin::same(&slope, &number(0)));
     assert!(&rt;
         Margin::same(&ramp(0, 7, 0, 1), &number(7)) && Margin::same(&number(7), &number(7))

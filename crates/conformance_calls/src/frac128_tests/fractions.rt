@@ -237,16 +237,15 @@ fn makes_in_lowest_terms_below_two_to_the_sixty(rt: HostRuntime) {
 fn orders_over_all_of_128_bits(rt: HostRuntime) {
     for (n1, d1, n2, d2, order) in ORDERED {
         assert!(&rt; d1 > 0 && d2 > 0);
-        assert_eq!(&rt;
-            cmp_ratio(n1, d1, n2, d2),
-            order,
-            "{n1} / {d1}, {n2} / {d2}"
-        );
         let left = Ratio { num: n1, den: d1 };
         let right = Ratio { num: n2, den: d2 };
-        assert_eq!(&rt; left.cmp(&right), order);
-        assert_eq!(&rt; left == right, order == Ordering::Equal);
-        assert_eq!(&rt; left < right, order == Ordering::Less);
+        assert_eq!(&rt;
+            (cmp_ratio(n1, d1, n2, d2), left.cmp(&right)),
+            (order, order),
+            "{n1} / {d1}, {n2} / {d2}"
+        );
+        let (same, less) = (order == Ordering::Equal, order == Ordering::Less);
+        assert_eq!(&rt; (left == right, left < right), (same, less));
     }
 }
 
@@ -255,15 +254,18 @@ fn orders_fractions(rt: HostRuntime) {
     for (n1, d1, n2, d2, order) in FRACTIONS {
         let left = fraction(&rt, n1, d1);
         let right = fraction(&rt, n2, d2);
-        assert_eq!(&rt; left.cmp(&right), order, "{n1} / {d1}, {n2} / {d2}");
-        assert_eq!(&rt; left == right, order == Ordering::Equal);
-        assert_eq!(&rt; left > right, order == Ordering::Greater);
         assert!(&rt; d1 > 0);
         let ratio = Ratio {
             num: i128::from(n1),
             den: i128::from(d1),
         };
-        assert_eq!(&rt; ratio.cmp_frac(&right), order);
+        assert_eq!(&rt;
+            (left.cmp(&right), ratio.cmp_frac(&right)),
+            (order, order),
+            "{n1} / {d1}, {n2} / {d2}"
+        );
+        let (same, above) = (order == Ordering::Equal, order == Ordering::Greater);
+        assert_eq!(&rt; (left == right, left > right), (same, above));
     }
 }
 

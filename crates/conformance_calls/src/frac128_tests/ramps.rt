@@ -373,6 +373,10 @@ fn has_the_value_of_its_line(rt: HostRuntime) {
             "minus {corner:?} at {a} / {b}"
         );
     }
+}
+
+#[test]
+fn moved_on_it_has_the_values_of_its_line(rt: HostRuntime) {
     for (corner, by, (a, b), num, den) in SHIFTED {
         let moved = shifted(&rt, corner, by);
         assert!(&rt;
@@ -380,6 +384,10 @@ fn has_the_value_of_its_line(rt: HostRuntime) {
             "{corner:?} by {by} at {a} / {b}"
         );
     }
+}
+
+#[test]
+fn turned_over_it_has_the_values_of_its_line(rt: HostRuntime) {
     for (corner, about, (a, b), num, den) in MIRRORED {
         let turned = mirrored(&rt, corner, about);
         assert!(&rt;
@@ -396,28 +404,22 @@ fn is_ordered_at_a_time(rt: HostRuntime) {
         let q = ramp(&rt, other);
         let t = time(&rt, a, b);
         assert_eq!(&rt;
-            p.cmp_ramp(&q, &t),
-            order,
-            "{corner:?}, {other:?} at {a} / {b}"
-        );
-        assert_eq!(&rt;
-            p.at(&t).cmp(&q.at(&t)),
-            order,
+            (p.cmp_ramp(&q, &t), p.at(&t).cmp(&q.at(&t))),
+            (order, order),
             "{corner:?}, {other:?} at {a} / {b}"
         );
     }
+}
+
+#[test]
+fn is_ordered_beside_a_number(rt: HostRuntime) {
     for (corner, (c, d), (a, b), order) in LEVELS {
         let p = ramp(&rt, corner);
         let t = time(&rt, a, b);
         let number = fraction(&rt, c, d);
         assert_eq!(&rt;
-            p.cmp_const(&number, &t),
-            order,
-            "{corner:?}, {c} / {d} at {a} / {b}"
-        );
-        assert_eq!(&rt;
-            p.at(&t).cmp_frac(&number),
-            order,
+            (p.cmp_const(&number, &t), p.at(&t).cmp_frac(&number)),
+            (order, order),
             "{corner:?}, {c} / {d} at {a} / {b}"
         );
     }
@@ -437,6 +439,10 @@ fn crosses_where_the_lines_do(rt: HostRuntime) {
             "{other:?}, {corner:?}"
         );
     }
+}
+
+#[test]
+fn reaches_a_number_where_its_line_does(rt: HostRuntime) {
     for (corner, (c, d), num, den) in REACHED {
         let p = ramp(&rt, corner);
         assert!(&rt;
@@ -461,6 +467,10 @@ fn meets_between_two_times(rt: HostRuntime) {
             "{corner:?}, {other:?} from {a} / {b}"
         );
     }
+}
+
+#[test]
+fn meets_a_number_between_two_times(rt: HostRuntime) {
     for (corner, (n, m), (a, b), (c, d), whole, rest, den) in MET_LEVEL {
         let p = ramp(&rt, corner);
         let number = limited(&rt, n, m);
