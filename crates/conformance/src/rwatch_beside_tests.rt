@@ -407,7 +407,7 @@ struct Asked {
 }
 
 /// The next by the dice.
-fn asked(
+fn next_asked(
     alloc: Global,
     dice: &mut Dice,
     operators: u8,
@@ -451,7 +451,7 @@ fn the_lines_are_those_of_robust(rt: HostRuntime) -> Result<(), Fail> {
     let mut dice = Dice { state: 2028 };
     for case in 0..400 {
         let operators = dice.roll(5);
-        let of = asked(rt.alloc(), &mut dice, operators, "time,x,q:step\n", SMALL)?;
+        let of = next_asked(rt.alloc(), &mut dice, operators, "time,x,q:step\n", SMALL)?;
         assert!(rt; both_answer(rt.alloc(), &of)?, "case {case}: {}", of.text);
     }
     Ok(())
@@ -483,7 +483,7 @@ fn what_is_refused_has_come(rt: HostRuntime) -> Result<(), Fail> {
     let (mut refused, mut told) = (0u32, 0u32);
     for case in 0..300 {
         let operators = dice.roll(4).saturating_add(2);
-        let of = asked(rt.alloc(), &mut dice, operators, "time,x,q\n", HUGE)?;
+        let of = next_asked(rt.alloc(), &mut dice, operators, "time,x,q\n", HUGE)?;
         let Some((more, lines)) = refusals(rt.alloc(), &of)? else {
             panic!(rt; "case {case}: {}", of.text);
         };
