@@ -4,6 +4,7 @@ use Rattle.rational.specs.Time.{Rational, less, ◌≈◌, ◌≤ʳ◌, ◌<ʳ�
 use Rattle.rational.specs.InPlay.{of_two, IsInPlay, IsWideCrossing}
 use Rattle.rational.specs.Windows.{Function}
 use Rattle.frac128.specs.Value.{value}
+use Rattle.frac128.specs.declared.frac.Frac.{Frac}
 use Rattle.value_laws.specs.Margins.{margin_function}
 use Rattle.value_laws.specs.declared.margin.Margin.{Margin}
 use Rattle.pl_signal.specs.Joining.{ChosenOf}
@@ -14,7 +15,7 @@ use Rattle.stl_syntax.specs.Trace.{Trace, start, stop}
 use Rattle.stl_syntax.specs.Formula.{Subformula}
 use Rattle.stl_syntax.specs.SupInf.{Robustness}
 use Rattle.online_robust.specs.Held.{Held, held_at}
-use Rattle.online_robust.specs.Lines.{end_of}
+use Rattle.online_robust.specs.Lines.{end_of, margin_of}
 use Rattle.online_robust.specs.ReadLines.{HasReached, IsAhead, IsReady, turned_by}
 use Rattle.online_robust.specs.Told.{IsTick}
 use Rattle.online_robust.specs.declared.line.MarginLine.{MarginLine}
@@ -35,6 +36,10 @@ pub record IsReadTo (x : Source) (gap : MarginLine) (t : Rational) (lines : List
   pub first : slice_get lines 0 ≡ Some gap
   pub after : x.at <ʳ t
   pub before : t ≤ʳ value (end_of gap)
+
+-- where a gap ends, and its margin
+abbrev pub IsGapOf : MarginLine → Frac → Margin → Type 0
+IsGapOf gap stop piece = (stop ≡ end_of gap) × (piece ≡ margin_of gap)
 
 -- the inputs of a node in a trace, by how much their bases were moved, up to where each is told, and from where to where the node goes on
 pub record Couple : Type 0 where

@@ -11,7 +11,8 @@ ghost use Rattle.online_robust.specs.Lines.{end_of};
 ghost use Rattle.online_robust.specs.Told.{IsTick};
 ghost use Rattle.online_robust.specs.ReadLines.{HasReached, IsAhead, IsBuilt, IsStretch, IsThere, LosesAt, LosesAtBoth, value_turned};
 ghost use Rattle.online_robust.specs.Couples.{CanJoin, CanNegate, Couple, IsCoupleFault, IsJoinedTo, IsNegatedTo};
-ghost use Rattle.online_robust.specs.Couples.{IsReadTo, Source, both_of, left_of, right_of, turns_left, turns_left_of};
+ghost use Rattle.online_robust.specs.declared.line.MarginLine.{MarginLine as Line};
+ghost use Rattle.online_robust.specs.Couples.{IsGapOf, IsReadTo, Source, both_of, left_of, right_of, turns_left, turns_left_of};
 ghost use Rattle.online_robust.specs.Refusing.{told_by};
 
 use crate::edges::Edges;
@@ -40,18 +41,18 @@ pub(crate) struct Two {
 }
 
 /// The margin of an input at the time, which lies in its first gap or at the end of it. What ends by the time is taken.
-fn up_to(edges: &mut Edges, of: u32, gap: &MarginLine, t: &Frac) -> Margin
+fn up_to(edges: &mut Edges, of: u32, stop: &Frac, piece: &Margin, t: &Frac) -> Margin
     requires of { of < length edges.old.edges }
-    requires read { (x : Source) × IsReadTo x gap.now (value t.now) (held_at edges.old of) }
-    ensures there { (x : Source) → IsReadTo x gap.now (value t.now) (held_at edges.old of)
+    requires read { (x : Source) × (gap : Line) × IsGapOf gap stop.now piece.now × IsReadTo x gap (value t.now) (held_at edges.old of) }
+    ensures there { (x : Source) (gap : Line) → IsGapOf gap stop.now piece.now → IsReadTo x gap (value t.now) (held_at edges.old of)
         → IsThere (Robustness x.formula x.trace) x.reach (value t.now) result }
-    ensures ahead { (x : Source) → IsReadTo x gap.now (value t.now) (held_at edges.old of)
+    ensures ahead { (x : Source) (gap : Line) → IsGapOf gap stop.now piece.now → IsReadTo x gap (value t.now) (held_at edges.old of)
         → IsAhead (Robustness x.formula x.trace) x.reach (value t.now) x.to (held_at edges.new of) }
     ensures lost { LosesAt (value t.now) of edges.old edges.new }
-    ensures fewer { (value (end_of gap.now) ≈ value t.now → length (held_at edges.new of) < length (held_at edges.old of)) }
+    ensures fewer { (value stop.now ≈ value t.now → length (held_at edges.new of) < length (held_at edges.old of)) }
     ensures no_more { length (held_at edges.new of) ≤ length (held_at edges.old of) }
 {
-    match gap.end().cmp(t) {
+    match stop.cmp(t) {
         Ordering::Equal => {
             edges.skip(of);
             let Some(point) = edges.ahead(of) else {
@@ -61,7 +62,7 @@ fn up_to(edges: &mut Edges, of: u32, gap: &MarginLine, t: &Frac) -> Margin
             edges.skip(of);
             value
         }
-        _ => gap.margin(),
+        _ => *piece,
     }
 }
 
@@ -216,24 +217,21 @@ impl Two {
         ensures wide { (x : Couple) → IsJoinedTo x self.now edges.old (value at.now) → value to.now ≈ x.to
             → IsBuilt (both_of x self.now) x.reach x.from (value at.now) built.old → OnErr result (IsCoupleFault x self.now (told_by fault.new)) }
     {
-        let Some(p) = edges.first(self.left) else {
+        let Some(p) = edges.ahead(self.left) else {
             unreachable!()
         };
-        let Some(q) = edges.first(self.right) else {
+        let first = p.end();
+        let left = p.margin();
+        let Some(q) = edges.ahead(self.right) else {
             unreachable!()
         };
-        let t = earlier(&earlier(&p.end(), &q.end()), to);
-        let x = up_to(edges, self.left, &p, &t);
-        let y = up_to(edges, self.right, &q, &t);
+        let second = q.end();
+        let right = q.margin();
+        let t = earlier(&earlier(&first, &second), to);
+        let x = up_to(edges, self.left, &first, &left, &t);
+        let y = up_to(edges, self.right, &second, &right, &t);
         let value = self.of_both(x, y, &t);
-        built.join_kept(
-            self.side,
-            &self.left_of(p.margin()),
-            &q.margin(),
-            &t,
-            &value,
-            fault,
-        )?;
+        built.join_kept(self.side, &self.left_of(left), &right, &t, &value, fault)?;
         Ok(Reached { at: t, value })
     }
 
