@@ -369,6 +369,7 @@ impl Sweep {
     }
 
     /// The best of the constants between the ends, or the value of no times.
+    #[inline(always)]
     fn top(&self) -> Margin
         ensures { (cs : List Margin)
             → StandsFor margin_function self.now.among.older.items self.now.among.newer.items self.now.among.side self.now.among.best cs
