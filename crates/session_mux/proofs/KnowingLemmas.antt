@@ -144,24 +144,28 @@ not_found sessions places t found e = by_test (is_among t (tag_list sessions)) r
 -- ---- a line of a known tag
 
 -- a tag that has its place leads to its session
-pub ready_known : (f : Formula) (seen : List Tagged) (x : Tagged) (i : ℕ) (old new : Register) → Knows f seen old → IsTag x.tag
-    → place_in old.places (number_of x.tag) ≡ Some i
-    → new ≡ record old { last = record { number = number_of x.tag; place = i } } → IsReady f seen x i new
-ready_known f seen x i old new k is e n =
-    let (s, at, same) = found_is f seen old.sessions old.places x.tag i k.told k.found is e in
+pub ready_known : (f : Formula) (seen : List Tagged) (x : Tagged) (i : ℕ) (r : Register) → Knows f seen r → IsTag x.tag
+    → place_in r.places (number_of x.tag) ≡ Some i → IsReady f seen x i r
+ready_known f seen x i r k is e =
+    let (s, at, same) = found_is f seen r.sessions r.places x.tag i k.told k.found is e in
     let among : is_among x.tag (tags_of seen) ≡ true =
-    subst (λ ts. is_among x.tag ts ≡ true) k.tags (subst (λ w. is_among w (tag_list old.sessions) ≡ true) same (among_at old.sessions i s at)) in
-    subst (λ (m : Register). IsReady f seen x i m) (sym n) (record {
+    subst (λ ts. is_among x.tag ts ≡ true) k.tags (subst (λ w. is_among w (tag_list r.sessions) ≡ true) same (among_at r.sessions i s at)) in
+    record {
       formula = k.formula;
       tags = k.tags ∙ sym (tags_grow [] seen x ∙ ap (λ b. tags_of seen ++ (if b then [] else x.tag ∷ [])) among ∙ append-nil (tags_of seen));
       told = k.told;
       found = k.found;
-      last = inr e;
       session = s;
       at = at;
       tag = same;
       room = inl among;
-    })
+    }
+
+-- so does a session that has the tag
+pub ready_near : (f : Formula) (seen : List Tagged) (x : Tagged) (i : ℕ) (r : Register) → Knows f seen r → IsTag x.tag
+    → (s : Session) → slice_get r.sessions i ≡ Some s → s.tag ≡ x.tag → IsReady f seen x i r
+ready_near f seen x i r k is s at same =
+    ready_known f seen x i r k is (subst (λ w. place_in r.places (number_of w) ≡ Some i) same (k.found.at i s at))
 
 -- ---- a line of a new tag
 
@@ -228,21 +232,20 @@ module _ (f : Formula) (seen : List Tagged) (x : Tagged) (i : ℕ) (old mid : Kn
           (subst (λ m. place_in mid.places.entries m ≡ Some j) same e) at_number ∙ b.at
 
   -- a session that was begun for a new tag is ready for its line
-  pub ready_new : (new : Register) → new ≡ record (shown mid) { last = record { number = number_of x.tag; place = i } } → IsReady f seen x i new
-  ready_new new n = subst (λ (m : Register). IsReady f seen x i m) (sym n) (record {
+  pub ready_new : IsReady f seen x i (shown mid)
+  ready_new = record {
     formula = b.formula ∙ k.formula;
     tags = ap tag_list b.sessions ∙ map-append (λ (s : Session). s.tag) old.sessions.items (b.session ∷ [])
         ∙ ap (λ ts. ts ++ b.session.tag ∷ []) k.tags ∙ ap (λ t. tags_of seen ++ t ∷ []) b.tag
         ∙ sym (tags_grow [] seen x ∙ ap (λ b. tags_of seen ++ (if b then [] else x.tag ∷ [])) is_new);
     told = each_told;
     found = are_found;
-    last = inr at_number;
     session = b.session;
     at = subst (λ ss. slice_get ss i ≡ Some b.session) (sym b.sessions)
         (subst (λ m. slice_get (old.sessions.items ++ b.session ∷ []) m ≡ Some b.session) (sym b.at) (last_item_is old.sessions.items b.session));
     tag = b.tag;
     room = inr (omega (arith, b.room, ap length k.tags, tag_count old.sessions.items));
-  })
+  }
 
 -- ---- what begins a session, or does not
 

@@ -160,7 +160,6 @@ module _ (f : Formula) (seen : List Tagged) (t : List ℕ) (l : RunLine) (ls : L
       tags = h.knows.tags ∙ tags_as_one t seen c l ls;
       told = each_as_one m.known.sessions h.knows.told;
       found = h.knows.found;
-      last = h.knows.last;
     };
   }
 

@@ -1,10 +1,11 @@
 //! The sessions of an input, found by their tags.
-ghost use Rattle.std.specs.Prelude.{◌≡◌, ◌<◌, ◌≤◌, ℕ, List, [], length, OnOk, MatchResult};
+ghost use Rattle.std.specs.Prelude.{◌≡◌, ◌<◌, ◌≤◌, ℕ, List, [], length, slice_get, IfSome, IsTrue, OnOk, MatchResult, Some};
 ghost use Rattle.stl_syntax.specs.Formula.{Formula as Parsed};
 ghost use Rattle.session_mux.specs.Sessions.{Tagged, IsTag, AreEnds};
 ghost use Rattle.session_mux.specs.Standing.{IsCutShort};
-ghost use Rattle.session_mux.specs.Knowing.{shown, place_in, Knows, HasKnown, IsLastFound, HasBegun, IsNotBegun, IsReady};
+ghost use Rattle.session_mux.specs.Knowing.{shown, place_in, Knows, HasKnown, HasBegun, IsNotBegun, IsReady};
 ghost use Rattle.session_mux.specs.Knowing.{IsTurnedAway, HasAnswered, IsUnanswered, HasEnded, tags_of, tag_list};
+ghost use Rattle.session_mux.specs.declared.session.Session.{Session as ASession};
 
 use crate::fault::MuxFault;
 use crate::session::Session;
@@ -17,22 +18,16 @@ use stl_syntax::{Formula, Text};
 /// The most sessions of an input.
 const MOST: usize = 1024;
 
-/// A tag's number and the place of its session; the number 0, which no tag has, where there is none yet.
-#[derive(Clone, Copy)]
-pub(crate) struct Found {
-    number: u128,
-    place: usize,
-}
-
-/// The sessions in the order of their first lines, and the place of each by its tag's number. The tag of the line before is tried
-/// first, since benches send many lines at once. `room` is room for a line and its LF.
+/// The sessions in the order of their first lines, and the place of each by its tag's number. The session of the line before is tried
+/// first, which stands at `last`, and then the next one, since benches send many lines at once or one line each in turn. `room` is room
+/// for a line and its LF.
 #[derive(Drop)]
 pub(crate) struct Known {
     alloc: Global,
     formula: Formula,
     sessions: Vec<Session>,
     places: BTreeMap<u128, usize>,
-    last: Found,
+    last: usize,
     room: Text,
 }
 
@@ -47,10 +42,7 @@ impl Known {
             formula,
             sessions: Vec::new(alloc),
             places: BTreeMap::new(alloc),
-            last: Found {
-                number: 0,
-                place: 0,
-            },
+            last: 0,
             room: Text::new(alloc),
         }
     }
@@ -63,15 +55,35 @@ impl Known {
         self.sessions.len() as u32
     }
 
+    /// Whether the session at a place has this tag.
+    fn stands_at(&self, place: usize, tag: &[u8]) -> bool
+        ensures { IsTrue result → (s : ASession) × (slice_get self.now.sessions.items place ≡ Some s) × (s.tag ≡ tag.now) }
+    {
+        if place >= self.sessions.len() {
+            return false;
+        }
+        self.sessions[place].tag() == tag
+    }
+
+    /// The place of the session of this tag, where it is that of the line before or the next one.
+    fn near(&self, tag: &[u8]) -> Option<usize>
+        ensures { IfSome result (λ i. (s : ASession) × (slice_get self.now.sessions.items i ≡ Some s) × (s.tag ≡ tag.now)) }
+    {
+        let last = self.last;
+        if self.stands_at(last, tag) {
+            return Some(last);
+        }
+        let next = last.saturating_add(1);
+        if self.stands_at(next, tag) {
+            return Some(next);
+        }
+        None
+    }
+
     /// The place of the session of the tag with this number.
     fn place_of(&self, number: u128) -> Option<usize>
-        requires some { 0 < number }
-        requires last { IsLastFound self.now.places.entries self.now.last }
         ensures { result ≡ place_in self.now.places.entries number }
     {
-        if number == self.last.number {
-            return Some(self.last.place);
-        }
         self.places.get(&number).copied()
     }
 
@@ -97,8 +109,8 @@ impl Known {
         Ok(place)
     }
 
-    /// The place of the session of a tag, which is begun where the tag is new.
-    fn place_for(&mut self, tag: &[u8]) -> Result<usize, MuxFault>
+    /// The place of the session of a tag by its number. It is begun where the tag is new.
+    fn find(&mut self, tag: &[u8]) -> Result<usize, MuxFault>
         requires tag { IsTag tag.now }
         requires known { HasKnown (shown self.old) }
         requires few { length self.old.sessions.items ≤ 1024 }
@@ -109,12 +121,29 @@ impl Known {
     {
         let number = number_of(tag);
         if let Some(place) = self.place_of(number) {
-            self.last = Found { number, place };
+            self.last = place;
             return Ok(place);
         }
         let place = self.begin(tag, number)?;
-        self.last = Found { number, place };
+        self.last = place;
         Ok(place)
+    }
+
+    /// The place of the session of a tag, which is begun where the tag is new.
+    fn place_for(&mut self, tag: &[u8]) -> Result<usize, MuxFault>
+        requires tag { IsTag tag.now }
+        requires known { HasKnown (shown self.old) }
+        requires few { length self.old.sessions.items ≤ 1024 }
+        ensures ready { (f : Parsed) (seen : List Tagged) (x : Tagged) → Knows f seen (shown self.old) → x.tag ≡ tag.now → MatchResult result
+            (λ i. IsReady f seen x i (shown self.new))
+            (IsTurnedAway seen x self.old self.new) }
+        ensures few { length self.new.sessions.items ≤ 1024 }
+    {
+        if let Some(place) = self.near(tag) {
+            self.last = place;
+            return Ok(place);
+        }
+        self.find(tag)
     }
 
     /// Hands the content of a line to the session of its tag, and adds the answer.

@@ -204,6 +204,13 @@ impl Session {
         })
     }
 
+    /// The tag.
+    pub(crate) fn tag(&self) -> &[u8]
+        ensures { result.now ≡ self.now.tag }
+    {
+        self.tag.bytes()
+    }
+
     /// Takes a line of the trace, and tells what it answers.
     fn take(&mut self, content: &[u8], room: &mut Text, out: &mut Text) -> Result<(), Memory>
         requires { HasSomeTold self.old }

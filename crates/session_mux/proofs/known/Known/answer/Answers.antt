@@ -59,7 +59,7 @@ returns-in-Ok-clause-answered c = λ f seen x k same.
     (subst (λ (s : Session). HasReplied f (with_content o x.content) s c.line.new.self (IsReply f s.tag o x.content) c.args.out.now c.line.new.out) (sym read)
     (subst (λ w. HasReplied f (with_content o w) c.index_mut.result.now c.line.new.self
     (IsReply f c.index_mut.result.now.tag o w) c.args.out.now c.line.new.out) content replied)))
-    _ refl refl refl refl
+    _ refl refl refl
 
 pub returns-in-Err-clause-answered : goal.returns-in-Err-clause-answered
 returns-in-Err-clause-answered c = λ f seen x k same.
