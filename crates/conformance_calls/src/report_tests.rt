@@ -1,5 +1,5 @@
 //! Lines of verdicts and of the start, byte by byte.
-ghost use Rattle.std.specs.Prelude.{◌≤◌};
+ghost use Rattle.std.specs.Prelude.{◌≤◌, ◌≢◌};
 
 use frac128::{Frac, Span};
 use report::{put_start, put_trace_fault, put_unit_fault, put_unknown, put_verdict};
@@ -80,7 +80,9 @@ fn fault_line(alloc: Global, line: u64, kind: TraceKind) -> Option<Text> {
 }
 
 /// The line of a fault of its units.
-fn unit_line(alloc: Global, fault: &UnitFault) -> Option<Text> {
+fn unit_line(alloc: Global, fault: &UnitFault) -> Option<Text>
+    requires { fault.now ≢ UnitFault.Memory }
+{
     let mut text = Text::new(alloc);
     match put_unit_fault(&mut text, 1, fault) {
         Ok(()) => Some(text),
