@@ -1,5 +1,5 @@
 -- A cell is needed where the formula stands by signals of its atoms that are the best but for what cells near it say.
-use Rattle.std.proofs.Common.{◌≡◌, ℕ, ◌+◌, ◌-◌, ◌<◌, ◌≤◌, ◌⊎◌, inl, inr, Bool, true, false, List, [], ◌∷◌, zero, suc, length, set, length-set, Some, refl, sym, ap, ◌∙◌, subst, arith}
+use Rattle.std.proofs.Common.{◌≡◌, ℕ, ◌-◌, ◌<◌, ◌≤◌, ◌⊎◌, inl, inr, Bool, true, false, List, [], ◌∷◌, zero, suc, length, set, length-set, Some, refl, sym, ap, ◌∙◌, subst, arith}
 use Rattle.std.specs.Prelude.{slice_get, slice_index, slice_index_or, MatchBool, IsTrue}
 use Rattle.std.proofs.lemmas.Option.{slice_get_within}
 use Rattle.rational.specs.Time.{Rational, Interval, IsIn, Within, ◌≤ʳ◌, ◌≈◌}
@@ -16,7 +16,7 @@ use Rattle.pl_signal.proofs.Values.{some_is}
 use Rattle.stl_syntax.specs.Trace.{Trace, start, stop, first_time, last_time}
 use Rattle.stl_syntax.specs.Formula.{atom, root, subformula}
 use Rattle.stl_syntax.specs.Truth.{Truth, holds_at}
-use Rattle.stl_syntax.specs.Kleene.{IsCovered, MustNot}
+use Rattle.stl_syntax.specs.Kleene.{IsCovered}
 use Rattle.stl_syntax.specs.Cells.{cells}
 use Rattle.stl_syntax.specs.Kept.{IsSo, ItemsOn}
 use Rattle.stl_syntax.specs.PostOrder.{IsPostOrder}
@@ -26,13 +26,13 @@ use Rattle.stl_syntax.specs.declared.items.Item.{Item}
 use Rattle.stl_syntax.specs.declared.node.Node.{Node}
 use Rattle.stl_syntax.specs.declared.node.Node.TheVariants.{Atom as Leaf}
 use Rattle.stl_syntax.proofs.FormulaLemmas.{subformula-at}
-use Rattle.offline_eval.specs.Inputs.{atoms_before, TellAtoms}
+use Rattle.offline_eval.specs.Inputs.{TellAtoms}
 use Rattle.offline_eval.specs.Evaluation.{TellNodes}
 use Rattle.offline_eval.specs.PlainAtoms.{knots_setting}
 use Rattle.implicants.specs.Runs.{AreAllCells, begins}
 use Rattle.implicants.specs.Certainty.{stays, known_at}
 use Rattle.implicants.specs.Demands.{Certain, IsNeeded, IsOn, IsAmongPlaces, MarksNeeded}
-use Rattle.implicants.specs.Nearby.{IsBest, IsBestAt, IsGone, AreNearAtoms, Stands, PutsNeeded}
+use Rattle.implicants.specs.Nearby.{IsBest, IsBestAt, AreNearAtoms, Stands, PutsNeeded}
 use Rattle.implicants.specs.Signs.{sign_at, AreSigns}
 use Rattle.implicants.specs.declared.nearby.View.{View}
 use Rattle.implicants.proofs.Strips.{one_cell}

@@ -2,7 +2,6 @@ use Rattle.std.proofs.Common.{pos, sym, subst}
 use Rattle.rational.specs.Time.{whole, ◌≤ʳ◌}
 use Rattle.rational.proofs.Order.{le_trans, ge_of_same}
 use Rattle.value_laws.specs.Kinds.{kleene_shape}
-use Rattle.pl_signal.specs.Knots.{stop}
 use Rattle.implicants.specs.Nearby.{IsNearSignal}
 use Rattle.implicants.proofs.Failing.{not_before}
 use Rattle.implicants.proofs.Nearing.{near_closed, near_end, near_within}

@@ -1,4 +1,4 @@
-use Rattle.std.proofs.Common.{◌≤◌, ◌≡◌, length, arith, subst, sym}
+use Rattle.std.proofs.Common.{◌≤◌, arith, subst}
 use Rattle.std.proofs.lemmas.Result.{IfOk-weaker}
 use Rattle.rational.specs.Time.{◌≤ʳ◌}
 use Rattle.stl_syntax.specs.Trace.{start, stop, first_time, last_time}

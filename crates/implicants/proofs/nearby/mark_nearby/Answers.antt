@@ -1,4 +1,4 @@
-use Rattle.std.proofs.Common.{◌≡◌, ◌-◌, suc, length, refl, subst, arith, ◌∙◌}
+use Rattle.std.proofs.Common.{◌≡◌, ◌-◌, suc, refl, subst, arith, ◌∙◌}
 use Rattle.implicants.proofs.Needing.{no_more_needed}
 use Rattle.implicants.proofs.NeededNear.{PutsFrom, puts_from_none, puts_from_more, puts_from_all, puts_count}
 use Rattle.implicants.proofs.nearby.mark_nearby.Goals as goal

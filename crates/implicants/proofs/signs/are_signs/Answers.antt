@@ -1,4 +1,4 @@
-use Rattle.std.proofs.Common.{◌≡◌, ◌-◌, false, length, refl, subst, arith}
+use Rattle.std.proofs.Common.{◌≡◌, ◌-◌, false, refl, subst, arith}
 use Rattle.std.specs.Prelude.{slice_index_or}
 use Rattle.std.proofs.lemmas.Option.{slice_get_within}
 use Rattle.implicants.proofs.Helping.{signed_more, not_so}

@@ -1,4 +1,4 @@
-use Rattle.std.proofs.Common.{◌≡◌, ℕ, ◌≤◌, length}
+use Rattle.std.proofs.Common.{◌≡◌, ◌≤◌, length}
 use Rattle.implicants.proofs.signs.signs_of.Given as goal
 
 abbrev pub invariant-loop-j : goal.invariant-loop-j
