@@ -221,7 +221,8 @@ module _ (nodes : List Node) (tr : Trace) (all : List Item) (signs marks : List 
           let y = before.near j b l there in (y.0, kept_left signals (x ∷ []) (atoms_before nodes j) y.0 y.1, y.2)
 
   -- a node of another kind needs none
-  pub near_other : (i : ℕ) (n : Node) (signals : List (List (Knot Kleene))) → slice_get nodes i ≡ Some n → is_atom n ≡ false → Are i signals → Are (i + 1) signals
+  pub near_other : (i : ℕ) (n : Node) (signals : List (List (Knot Kleene))) → slice_get nodes i ≡ Some n → is_atom n ≡ false
+      → Are i signals → Are (i + 1) signals
   near_other i n signals at other before = record {
     count = before.count ∙ sym (atoms_on_other nodes i n at other);
     sound = before.sound;

@@ -1,5 +1,6 @@
 -- A cell is needed where the formula stands by signals of its atoms that are the best but for what cells near it say.
-use Rattle.std.proofs.Common.{◌≡◌, ℕ, ◌-◌, ◌<◌, ◌≤◌, ◌⊎◌, inl, inr, Bool, true, false, List, [], ◌∷◌, zero, suc, length, set, length-set, Some, refl, sym, ap, ◌∙◌, subst, arith}
+use Rattle.std.proofs.Common.{◌≡◌, ℕ, ◌-◌, ◌<◌, ◌≤◌, ◌⊎◌, inl, inr, Bool, true, false, List, [], ◌∷◌, zero}
+use Rattle.std.proofs.Common.{suc, length, set, length-set, Some, refl, sym, ap, ◌∙◌, subst, arith}
 use Rattle.std.specs.Prelude.{slice_get, slice_index, slice_index_or, MatchBool, IsTrue}
 use Rattle.std.proofs.lemmas.Option.{slice_get_within}
 use Rattle.rational.specs.Time.{Rational, Interval, IsIn, Within, ◌≤ʳ◌, ◌≈◌}
@@ -122,7 +123,8 @@ stands_needed nodes tr all ends signs marks c atoms post some order is are near 
 
     low : (Certain (sign_at signs (length nodes - 1)) (root nodes) items tr (start tr) → SupInf (root nodes) (read_by nodes tr atoms) (start tr) stands.v
         → IsBest (sign_at signs (length nodes - 1)) stands.v) → IsBest false stands.v
-    low h = subst (λ b. (Certain b (root nodes) items tr (start tr) → SupInf (root nodes) (read_by nodes tr atoms) (start tr) stands.v → IsBest b stands.v)) are.root h must_not stands.is
+    low h = subst (λ b. (Certain b (root nodes) items tr (start tr) → SupInf (root nodes) (read_by nodes tr atoms) (start tr) stands.v → IsBest b stands.v))
+        are.root h must_not stands.is
 
 -- the formula stands where the signal of its root is more than certainly false at the start
 pub stands_by : (nodes : List Node) (tr : Trace) (atoms signals : List (List (Knot Kleene))) (x : List (Knot Kleene)) → 0 < length nodes

@@ -130,6 +130,7 @@ returns-clause-turned c =
     } in
     let to_end : AtMost (place c.shift_begin-from.result) (place c.args.sweep.out.to) =
     at_most_of_not_before (place c.shift_begin-from.result) (place c.args.sweep.out.to)
-    (λ b. true≢false (sym (c.precedes-2.ensures.1 (subst (λ (q : Cut). Before (place q) (place c.shift_begin-from.result)) (sym c.end.ensures) b)) ∙ c.if-precedes.false)) in
+    (λ b. true≢false (sym (c.precedes-2.ensures.1 (subst (λ (q : Cut). Before (place q) (place c.shift_begin-from.result)) (sym c.end.ensures) b))
+    ∙ c.if-precedes.false)) in
     counts_now {reach = c.shift_end-reach.result} next
     (c.precedes.ensures.0 c.if-not-precedes.false) from_is said to_end reach_is c.pass_ended-2.ensures

@@ -29,7 +29,8 @@ ends : (c : After-skip-in-Equal) → value (end_of c.args.gap.now) ≈ value c.a
 ends c = subst (λ (f : Frac). value f ≈ value c.args.t.now) c.end.ensures c.in-Equal.ensures
 
 pub returns-in-Some-clause-there : goal.returns-in-Some-clause-there
-returns-in-Some-clause-there c x read = subst (λ (m : Margin). IsThere (Robustness x.formula x.trace) x.reach (value c.args.t.now) m) (sym c.margin-value.ensures)
+returns-in-Some-clause-there c x read =
+    subst (λ (m : Margin). IsThere (Robustness x.formula x.trace) x.reach (value c.args.t.now) m) (sym c.margin-value.ensures)
     (read_there x (two_of c read.first) read (ends c))
 
 pub returns-in-Some-clause-ahead : goal.returns-in-Some-clause-ahead

@@ -36,40 +36,48 @@ unreachable-requires c =
 pub enter-next-requires : goal.enter-next-requires
 enter-next-requires c =
     let (x, at, high) = c.requires.can in
-    let count = read_count c.args.self.now.window.of c.args.edges.now c.pass.new.self c.in-Some.line.now (c.pass.ensures.read c.in-Some.line.now (sym (rw c.in-Some.is at c.unread.ensures))) in
+    let count = read_count c.args.self.now.window.of c.args.edges.now c.pass.new.self c.in-Some.line.now
+    (c.pass.ensures.read c.in-Some.line.now (sym (rw c.in-Some.is at c.unread.ensures))) in
     let within = at.within in
     omega (arith, count, within)
 
 entered : (c : After-enter-next) → (x : Scope) → (at : IsAt x c.args.self.now c.args.edges.now) → (high : IsHigh x c.args.self.now)
     → HasEntered x c.args.self.now c.args.edges.now c.pass.new.self c.enter-next.new.edges c.in-Some.line.now c.enter-next.result at high
-    (sym (rw c.in-Some.is at c.unread.ensures)) (c.pass.ensures.read c.in-Some.line.now (sym (rw c.in-Some.is at c.unread.ensures))) c.pass.ensures.start c.enter-next.ensures
+    (sym (rw c.in-Some.is at c.unread.ensures))
+    (c.pass.ensures.read c.in-Some.line.now (sym (rw c.in-Some.is at c.unread.ensures))) c.pass.ensures.start c.enter-next.ensures
 entered c x at high = has_entered x c.args.self.now c.args.edges.now c.pass.new.self c.enter-next.new.edges c.in-Some.line.now c.enter-next.result
-    at high (sym (rw c.in-Some.is at c.unread.ensures)) (c.pass.ensures.read c.in-Some.line.now (sym (rw c.in-Some.is at c.unread.ensures))) c.pass.ensures.start c.enter-next.ensures
+    at high (sym (rw c.in-Some.is at c.unread.ensures))
+    (c.pass.ensures.read c.in-Some.line.now (sym (rw c.in-Some.is at c.unread.ensures))) c.pass.ensures.start c.enter-next.ensures
 
 pub is_plain-requires-clause-within : goal.is_plain-requires-clause-within
 is_plain-requires-clause-within c =
     let (x, at, high) = c.requires.can in
     let n = next_is x c.args.self.now c.args.edges.now c.pass.new.self c.enter-next.new.edges c.in-Some.line.now c.enter-next.result
-    at high (sym (rw c.in-Some.is at c.unread.ensures)) (c.pass.ensures.read c.in-Some.line.now (sym (rw c.in-Some.is at c.unread.ensures))) c.pass.ensures.start c.enter-next.ensures in
+    at high (sym (rw c.in-Some.is at c.unread.ensures))
+    (c.pass.ensures.read c.in-Some.line.now (sym (rw c.in-Some.is at c.unread.ensures))) c.pass.ensures.start c.enter-next.ensures in
     let is = point_at x c.args.self.now c.args.edges.now c.pass.new.self c.enter-next.new.edges c.in-Some.line.now c.enter-next.result
-    at high (sym (rw c.in-Some.is at c.unread.ensures)) (c.pass.ensures.read c.in-Some.line.now (sym (rw c.in-Some.is at c.unread.ensures))) c.pass.ensures.start c.enter-next.ensures c.end-u.result c.end-u.ensures in
+    at high (sym (rw c.in-Some.is at c.unread.ensures)) (c.pass.ensures.read c.in-Some.line.now (sym (rw c.in-Some.is at c.unread.ensures)))
+    c.pass.ensures.start c.enter-next.ensures c.end-u.result c.end-u.ensures in
     subst (λ (f : Frac). IsWithin (2 ^ 34) (value f)) (sym is) (tick_within n.tick)
 
 pub returns-then-is_plain-clause-stands : goal.returns-then-is_plain-clause-stands
 returns-then-is_plain-clause-stands c x at high =
     let en = entered (goal.at.returns-then-is_plain-clause-stands c).After-enter-next x at high in
     let plain = no_knot_is x c.args.self.now c.args.edges.now c.pass.new.self c.enter-next.new.edges c.in-Some.line.now c.enter-next.result
-    at high (sym (rw c.in-Some.is at c.unread.ensures)) (c.pass.ensures.read c.in-Some.line.now (sym (rw c.in-Some.is at c.unread.ensures))) c.pass.ensures.start c.enter-next.ensures c.end-u.result c.margin-point.result
+    at high (sym (rw c.in-Some.is at c.unread.ensures)) (c.pass.ensures.read c.in-Some.line.now (sym (rw c.in-Some.is at c.unread.ensures)))
+    c.pass.ensures.start c.enter-next.ensures c.end-u.result c.margin-point.result
     c.end-u.ensures c.margin-point.ensures (c.is_plain.ensures.plain c.if-is_plain.true) in
     let count = (en.shed (value c.end-u.result)).edges in
     let within = at.within in (
       record {
         within = omega (arith, count, within);
         spread = plain_spread x c.args.self.now c.args.edges.now c.pass.new.self c.enter-next.new.edges c.in-Some.line.now c.enter-next.result
-            at high (sym (rw c.in-Some.is at c.unread.ensures)) (c.pass.ensures.read c.in-Some.line.now (sym (rw c.in-Some.is at c.unread.ensures))) c.pass.ensures.start c.enter-next.ensures en plain;
+            at high (sym (rw c.in-Some.is at c.unread.ensures))
+            (c.pass.ensures.read c.in-Some.line.now (sym (rw c.in-Some.is at c.unread.ensures))) c.pass.ensures.start c.enter-next.ensures en plain;
       },
       before_goes x c.args.self.now c.args.edges.now c.pass.new.self c.enter-next.new.edges c.in-Some.line.now c.enter-next.result
-          at high (sym (rw c.in-Some.is at c.unread.ensures)) (c.pass.ensures.read c.in-Some.line.now (sym (rw c.in-Some.is at c.unread.ensures))) c.pass.ensures.start c.enter-next.ensures en,
+          at high (sym (rw c.in-Some.is at c.unread.ensures))
+          (c.pass.ensures.read c.in-Some.line.now (sym (rw c.in-Some.is at c.unread.ensures))) c.pass.ensures.start c.enter-next.ensures en,
     )
 
 pub returns-then-is_plain-clause-shed : goal.returns-then-is_plain-clause-shed
@@ -80,20 +88,25 @@ pub frozen-requires-clause-before : goal.frozen-requires-clause-before
 frozen-requires-clause-before c =
     let (x, at, high) = c.requires.can in
     let is = point_at x c.args.self.now c.args.edges.now c.pass.new.self c.enter-next.new.edges c.in-Some.line.now c.enter-next.result
-    at high (sym (rw c.in-Some.is at c.unread.ensures)) (c.pass.ensures.read c.in-Some.line.now (sym (rw c.in-Some.is at c.unread.ensures))) c.pass.ensures.start c.enter-next.ensures c.end-u.result c.end-u.ensures in
+    at high (sym (rw c.in-Some.is at c.unread.ensures)) (c.pass.ensures.read c.in-Some.line.now (sym (rw c.in-Some.is at c.unread.ensures)))
+    c.pass.ensures.start c.enter-next.ensures c.end-u.result c.end-u.ensures in
     subst (λ (f : Frac). IsBounded (2 ^ 31) (value_at (margin_function c.args.self.now.place.high.shape) (value f))) (sym is)
     (high_small x c.args.self.now c.args.edges.now c.pass.new.self c.enter-next.new.edges c.in-Some.line.now c.enter-next.result
-    at high (sym (rw c.in-Some.is at c.unread.ensures)) (c.pass.ensures.read c.in-Some.line.now (sym (rw c.in-Some.is at c.unread.ensures))) c.pass.ensures.start c.enter-next.ensures)
+    at high (sym (rw c.in-Some.is at c.unread.ensures))
+    (c.pass.ensures.read c.in-Some.line.now (sym (rw c.in-Some.is at c.unread.ensures))) c.pass.ensures.start c.enter-next.ensures)
 
 pub frozen-requires-clause-point : goal.frozen-requires-clause-point
 frozen-requires-clause-point c =
     let (x, at, high) = c.requires.can in
     let n = next_is x c.args.self.now c.args.edges.now c.pass.new.self c.enter-next.new.edges c.in-Some.line.now c.enter-next.result
-    at high (sym (rw c.in-Some.is at c.unread.ensures)) (c.pass.ensures.read c.in-Some.line.now (sym (rw c.in-Some.is at c.unread.ensures))) c.pass.ensures.start c.enter-next.ensures in
+    at high (sym (rw c.in-Some.is at c.unread.ensures))
+    (c.pass.ensures.read c.in-Some.line.now (sym (rw c.in-Some.is at c.unread.ensures))) c.pass.ensures.start c.enter-next.ensures in
     let is = point_at x c.args.self.now c.args.edges.now c.pass.new.self c.enter-next.new.edges c.in-Some.line.now c.enter-next.result
-    at high (sym (rw c.in-Some.is at c.unread.ensures)) (c.pass.ensures.read c.in-Some.line.now (sym (rw c.in-Some.is at c.unread.ensures))) c.pass.ensures.start c.enter-next.ensures c.end-u.result c.end-u.ensures in
+    at high (sym (rw c.in-Some.is at c.unread.ensures)) (c.pass.ensures.read c.in-Some.line.now (sym (rw c.in-Some.is at c.unread.ensures)))
+    c.pass.ensures.start c.enter-next.ensures c.end-u.result c.end-u.ensures in
     let same = point_is x c.args.self.now c.args.edges.now c.pass.new.self c.enter-next.new.edges c.in-Some.line.now c.enter-next.result
-    at high (sym (rw c.in-Some.is at c.unread.ensures)) (c.pass.ensures.read c.in-Some.line.now (sym (rw c.in-Some.is at c.unread.ensures))) c.pass.ensures.start c.enter-next.ensures c.margin-point.result c.margin-point.ensures in
+    at high (sym (rw c.in-Some.is at c.unread.ensures)) (c.pass.ensures.read c.in-Some.line.now (sym (rw c.in-Some.is at c.unread.ensures)))
+    c.pass.ensures.start c.enter-next.ensures c.margin-point.result c.margin-point.ensures in
     subst (λ (f : Frac). IsBounded (2 ^ 31) (value_at (margin_function c.margin-point.result) (value f))) (sym is)
     (subst (λ (m : Margin). IsBounded (2 ^ 31) (value_at (margin_function m) (value n.p))) (sym same) n.bounded)
 
@@ -102,16 +115,19 @@ frozen-requires-clause-after c =
     let (x, at, high) = c.requires.can in
     let en = entered (goal.at.frozen-requires-clause-after c).After-enter-next x at high in
     let is = point_at x c.args.self.now c.args.edges.now c.pass.new.self c.enter-next.new.edges c.in-Some.line.now c.enter-next.result
-    at high (sym (rw c.in-Some.is at c.unread.ensures)) (c.pass.ensures.read c.in-Some.line.now (sym (rw c.in-Some.is at c.unread.ensures))) c.pass.ensures.start c.enter-next.ensures c.end-u.result c.end-u.ensures in
+    at high (sym (rw c.in-Some.is at c.unread.ensures)) (c.pass.ensures.read c.in-Some.line.now (sym (rw c.in-Some.is at c.unread.ensures)))
+    c.pass.ensures.start c.enter-next.ensures c.end-u.result c.end-u.ensures in
     subst (λ (f : Frac). IsBounded (2 ^ 31) (value_at (margin_function c.enter-next.result.shape) (value f))) (sym is)
     (next_small x c.args.self.now c.args.edges.now c.pass.new.self c.enter-next.new.edges c.in-Some.line.now c.enter-next.result
-    at high (sym (rw c.in-Some.is at c.unread.ensures)) (c.pass.ensures.read c.in-Some.line.now (sym (rw c.in-Some.is at c.unread.ensures))) c.pass.ensures.start c.enter-next.ensures en)
+    at high (sym (rw c.in-Some.is at c.unread.ensures))
+    (c.pass.ensures.read c.in-Some.line.now (sym (rw c.in-Some.is at c.unread.ensures))) c.pass.ensures.start c.enter-next.ensures en)
 
 pub returns-in_err-constant-clause-wide : goal.returns-in_err-constant-clause-wide
 returns-in_err-constant-clause-wide c x at high =
     let en = entered (goal.at.returns-in_err-constant-clause-wide c).After-enter-next x at high in
     let h = unfixed_high x c.args.self.now c.args.edges.now c.pass.new.self c.enter-next.new.edges c.in-Some.line.now c.enter-next.result
-    at high (sym (rw c.in-Some.is at c.unread.ensures)) (c.pass.ensures.read c.in-Some.line.now (sym (rw c.in-Some.is at c.unread.ensures))) c.pass.ensures.start c.enter-next.ensures en c.end-u.result c.margin-point.result
+    at high (sym (rw c.in-Some.is at c.unread.ensures)) (c.pass.ensures.read c.in-Some.line.now (sym (rw c.in-Some.is at c.unread.ensures)))
+    c.pass.ensures.start c.enter-next.ensures en c.end-u.result c.margin-point.result
     c.end-u.ensures c.margin-point.ensures (c.is_plain.ensures.counts c.if-is_plain.false) (c.is_plain.ensures.knot c.if-is_plain.false)
     (told_by c.frozen.new.fault) c.in_err-constant.ensures.fault in
     on_err_anyway c.from_residual.result h
@@ -124,13 +140,17 @@ pub returns-clause-stands : goal.returns-clause-stands
 returns-clause-stands c x at high =
     let en = entered (goal.at.returns-clause-stands c).After-enter-next x at high in
     let n = next_is x c.args.self.now c.args.edges.now c.pass.new.self c.enter-next.new.edges c.in-Some.line.now c.enter-next.result
-    at high (sym (rw c.in-Some.is at c.unread.ensures)) (c.pass.ensures.read c.in-Some.line.now (sym (rw c.in-Some.is at c.unread.ensures))) c.pass.ensures.start c.enter-next.ensures in
+    at high (sym (rw c.in-Some.is at c.unread.ensures))
+    (c.pass.ensures.read c.in-Some.line.now (sym (rw c.in-Some.is at c.unread.ensures))) c.pass.ensures.start c.enter-next.ensures in
     let is = point_at x c.args.self.now c.args.edges.now c.pass.new.self c.enter-next.new.edges c.in-Some.line.now c.enter-next.result
-    at high (sym (rw c.in-Some.is at c.unread.ensures)) (c.pass.ensures.read c.in-Some.line.now (sym (rw c.in-Some.is at c.unread.ensures))) c.pass.ensures.start c.enter-next.ensures c.end-u.result c.end-u.ensures in
+    at high (sym (rw c.in-Some.is at c.unread.ensures)) (c.pass.ensures.read c.in-Some.line.now (sym (rw c.in-Some.is at c.unread.ensures)))
+    c.pass.ensures.start c.enter-next.ensures c.end-u.result c.end-u.ensures in
     let same = point_is x c.args.self.now c.args.edges.now c.pass.new.self c.enter-next.new.edges c.in-Some.line.now c.enter-next.result
-    at high (sym (rw c.in-Some.is at c.unread.ensures)) (c.pass.ensures.read c.in-Some.line.now (sym (rw c.in-Some.is at c.unread.ensures))) c.pass.ensures.start c.enter-next.ensures c.margin-point.result c.margin-point.ensures in
+    at high (sym (rw c.in-Some.is at c.unread.ensures)) (c.pass.ensures.read c.in-Some.line.now (sym (rw c.in-Some.is at c.unread.ensures)))
+    c.pass.ensures.start c.enter-next.ensures c.margin-point.result c.margin-point.ensures in
     let knot = knot_is x c.args.self.now c.args.edges.now c.pass.new.self c.enter-next.new.edges c.in-Some.line.now c.enter-next.result
-    at high (sym (rw c.in-Some.is at c.unread.ensures)) (c.pass.ensures.read c.in-Some.line.now (sym (rw c.in-Some.is at c.unread.ensures))) c.pass.ensures.start c.enter-next.ensures c.end-u.result c.margin-point.result
+    at high (sym (rw c.in-Some.is at c.unread.ensures)) (c.pass.ensures.read c.in-Some.line.now (sym (rw c.in-Some.is at c.unread.ensures)))
+    c.pass.ensures.start c.enter-next.ensures c.end-u.result c.margin-point.result
     c.end-u.ensures c.margin-point.ensures (c.is_plain.ensures.counts c.if-is_plain.false) (c.is_plain.ensures.knot c.if-is_plain.false) in
     let frozen = subst (λ (f : Frac). IsFrozen c.args.self.now.window.side c.args.self.now.place.high.shape n.v c.enter-next.result.shape (value f)
     c.in_ok-constant.constant) is
@@ -141,11 +161,13 @@ returns-clause-stands c x at high =
       record {
         within = omega (arith, count, within);
         spread = frozen_spread x c.args.self.now c.args.edges.now c.pass.new.self c.enter-next.new.edges c.in-Some.line.now c.enter-next.result
-            at high (sym (rw c.in-Some.is at c.unread.ensures)) (c.pass.ensures.read c.in-Some.line.now (sym (rw c.in-Some.is at c.unread.ensures))) c.pass.ensures.start c.enter-next.ensures en c.come.new.self
+            at high (sym (rw c.in-Some.is at c.unread.ensures)) (c.pass.ensures.read c.in-Some.line.now (sym (rw c.in-Some.is at c.unread.ensures)))
+            c.pass.ensures.start c.enter-next.ensures en c.come.new.self
             c.in_ok-constant.constant knot frozen c.in_ok-come.ensures.stands c.in_ok-come.ensures.side;
       },
       before_goes x c.args.self.now c.args.edges.now c.pass.new.self c.enter-next.new.edges c.in-Some.line.now c.enter-next.result
-          at high (sym (rw c.in-Some.is at c.unread.ensures)) (c.pass.ensures.read c.in-Some.line.now (sym (rw c.in-Some.is at c.unread.ensures))) c.pass.ensures.start c.enter-next.ensures en,
+          at high (sym (rw c.in-Some.is at c.unread.ensures))
+          (c.pass.ensures.read c.in-Some.line.now (sym (rw c.in-Some.is at c.unread.ensures))) c.pass.ensures.start c.enter-next.ensures en,
     )
 
 pub returns-clause-shed : goal.returns-clause-shed
@@ -157,7 +179,8 @@ fewer : (c : After-enter-next) → lines_left (edge_at c.enter-next.new.edges c.
 fewer c =
     let (x, at, high) = c.requires.can in
     let within = at.within in
-    let count = read_count c.args.self.now.window.of c.args.edges.now c.pass.new.self c.in-Some.line.now (c.pass.ensures.read c.in-Some.line.now (sym (rw c.in-Some.is at c.unread.ensures))) in
+    let count = read_count c.args.self.now.window.of c.args.edges.now c.pass.new.self c.in-Some.line.now
+    (c.pass.ensures.read c.in-Some.line.now (sym (rw c.in-Some.is at c.unread.ensures))) in
     let passed = pass_fewer c.args.self.now.window.of c.args.edges.now c.pass.new.self c.in-Some.line.now within (sym (rw c.in-Some.is at c.unread.ensures))
     (c.pass.ensures.read c.in-Some.line.now (sym (rw c.in-Some.is at c.unread.ensures))) in
     let entered = enter_no_more c.args.self.now.window.of c.pass.new.self c.enter-next.new.edges c.args.self.now.none c.enter-next.result
