@@ -459,9 +459,13 @@ module _ (h : Bool) (marks : List Mark) (n : ℕ) (p : Place) (whole : List Toke
         (λ us b. shifted_awaits h (operator ∷ marks) whole _ us (inside_operator (word (codes "once") ∷ us) x (fills_once us (past_fits b)))),
     λ next e. same_state _ next _ e (λ us b.
         shifted_awaits h (operator ∷ marks) whole _ us (inside_operator (word (codes "historically") ∷ us) x (fills_historically us (past_fits b)))),
+  ) (
+    λ next e. absurd (none-some next e),
+    λ next e. absurd (none-some next e),
+    λ next e. absurd (none-some next e),
+    λ next e. absurd (none-some next e),
+    λ next e. absurd (none-some next e),
   )
-      (λ next e. absurd (none-some next e), λ next e. absurd (none-some next e), λ next e. absurd (none-some next e),
-       λ next e. absurd (none-some next e), λ next e. absurd (none-some next e))
       (λ w g next e. same_state _ next _ (rw (name_kind w g) at e)
       (λ us b. shifted h _ whole _ us (finish x (word w ∷ us) (term_operand (word w ∷ us) (term_tail (plain_name w g b))))))
 
@@ -504,11 +508,19 @@ module _ (h : Bool) (marks : List Mark) (n : ℕ) (p : Place) (whole : List Toke
       → HoldsAt next (whole ++ word w ∷ [])
   unfolding kind
   infinite o x = by_words (λ w. (next : State) → step_inf o now (kind w) ≡ Some next → HoldsAt next (whole ++ word w ∷ []))
-      (λ next e. absurd (none-some next e), λ next e. absurd (none-some next e), λ next e. back (looks_back o) refl next e)
-      (λ next e. absurd (none-some next e), λ next e. absurd (none-some next e), λ next e. absurd (none-some next e),
-       λ next e. absurd (none-some next e), λ next e. absurd (none-some next e))
-      (λ next e. absurd (none-some next e), λ next e. absurd (none-some next e), λ next e. absurd (none-some next e),
-       λ next e. absurd (none-some next e), λ next e. absurd (none-some next e))
+      (λ next e. absurd (none-some next e), λ next e. absurd (none-some next e), λ next e. back (looks_back o) refl next e) (
+        λ next e. absurd (none-some next e),
+        λ next e. absurd (none-some next e),
+        λ next e. absurd (none-some next e),
+        λ next e. absurd (none-some next e),
+        λ next e. absurd (none-some next e),
+      ) (
+        λ next e. absurd (none-some next e),
+        λ next e. absurd (none-some next e),
+        λ next e. absurd (none-some next e),
+        λ next e. absurd (none-some next e),
+        λ next e. absurd (none-some next e),
+      )
       (λ w g next e. let z = rw (name_kind w g) at e in absurd (none-some next z))
     where
       back : (b : Bool) → looks_back o ≡ b → (next : State) → step_inf o now an_inf ≡ Some next → HoldsAt next (whole ++ word (codes "inf") ∷ [])
@@ -531,9 +543,13 @@ module _ (h : Bool) (marks : List Mark) (n : ℕ) (p : Place) (whole : List Toke
   connects : After h marks whole → (w : List ℕ) (next : State) → step_connective now (kind w) ≡ Some next → HoldsAt next (whole ++ word w ∷ [])
   unfolding kind
   connects x = by_words (λ w. (next : State) → step_connective now (kind w) ≡ Some next → HoldsAt next (whole ++ word w ∷ []))
-      (λ next e. absurd (none-some next e), λ next e. absurd (none-some next e), λ next e. absurd (none-some next e))
-      (λ next e. absurd (none-some next e), λ next e. absurd (none-some next e), λ next e. absurd (none-some next e),
-       λ next e. absurd (none-some next e), λ next e. absurd (none-some next e)) (
+      (λ next e. absurd (none-some next e), λ next e. absurd (none-some next e), λ next e. absurd (none-some next e)) (
+        λ next e. absurd (none-some next e),
+        λ next e. absurd (none-some next e),
+        λ next e. absurd (none-some next e),
+        λ next e. absurd (none-some next e),
+        λ next e. absurd (none-some next e),
+      ) (
         λ next e. same_state _ next _ e (after_and x),
         λ next e. same_state _ next _ e (after_or x),
         λ next e. same_state _ next _ e (after_implies x),

@@ -32,7 +32,7 @@ overflow_add-sum g c =
     let within : c.loop-term.term-index < length c.args.atom.now.terms.items =
     subst (λ xs. c.loop-term.term-index < length xs) c.deref-term-items.ensures.value c.loop-term-test.true in
     sum_fits (to_z w64 c.loop-term.sum-bits) c.term_value-sum.result c.loop-term.term-index (length c.args.atom.now.terms.items)
-        c.loop-term.invariant.small within c.requires.sound.few c.term_value-sum.ensures.small
+    c.loop-term.invariant.small within c.requires.sound.few c.term_value-sum.ensures.small
 
 pub overflow_sub-result : goal.overflow_sub-result
 overflow_sub-result g c =

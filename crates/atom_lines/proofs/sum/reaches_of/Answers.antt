@@ -37,14 +37,14 @@ overflow_add-to g c =
     let within : c.loop-term.term-index < length c.args.atom.now.terms.items =
     subst (λ xs. c.loop-term.term-index < length xs) c.deref-term-items.ensures.value c.loop-term-test.true in
     sum_fits (to_z w64 c.loop-term.to-bits) c.term_values-there.result.0 c.loop-term.term-index (length c.args.atom.now.terms.items)
-        c.loop-term.invariant.small_to within c.requires.sound.few c.term_values-there.ensures.small_to
+    c.loop-term.invariant.small_to within c.requires.sound.few c.term_values-there.ensures.small_to
 
 pub overflow_add-next : goal.overflow_add-next
 overflow_add-next g c =
     let within : c.loop-term.term-index < length c.args.atom.now.terms.items =
     subst (λ xs. c.loop-term.term-index < length xs) c.deref-term-items.ensures.value c.loop-term-test.true in
     sum_fits (to_z w64 c.loop-term.next-bits) c.term_values-there.result.1 c.loop-term.term-index (length c.args.atom.now.terms.items)
-        c.loop-term.invariant.small_next within c.requires.sound.few c.term_values-there.ensures.small_next
+    c.loop-term.invariant.small_next within c.requires.sound.few c.term_values-there.ensures.small_next
 
 pub overflow_sub-result : goal.overflow_sub-result
 overflow_sub-result g c =
