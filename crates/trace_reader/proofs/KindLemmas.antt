@@ -5,7 +5,7 @@ use Rattle.stl_syntax.specs.declared.scale.Scale.{Scale}
 use Rattle.trace_reader.specs.TraceText.{Heading, fields, scale_of}
 use Rattle.trace_reader.specs.LineParts.{whole_line}
 use Rattle.trace_reader.specs.TraceRefusals.{HeaderFault, ColumnFault, ColumnFaults, RowFault, NumberFault, NumberFaults, ValueFaults}
-use Rattle.trace_reader.specs.Progress.{Progress, last_of, Judges, bad_heading, bad_row}
+use Rattle.trace_reader.specs.Progress.{Progress, last_of, ReadsLine, bad_heading, bad_row}
 use Rattle.trace_reader.specs.declared.refusal.Limits.{Limits}
 use Rattle.trace_reader.specs.declared.refusal.TraceKind.{TraceKind}
 use Rattle.trace_reader.specs.declared.refusal.TraceKind.TheVariants.{BadName, SameName, TooManyColumns, BadMode, BadNumber}
@@ -55,7 +55,7 @@ row_kind limits s g count last fs k (inr (_, inr (_, inl h))) n = numbers_kind s
 row_kind limits s g count last fs k (inr (_, inr (_, inr (_, (_, e))))) n = let w : TimeNotRising ≡ NoRows = sym e ∙ n in cc
 
 -- no line is refused for want of rows
-pub judged_kind : {limits : Limits} {line : List ℕ} {old new : Progress} {k : TraceKind} → Judges limits line old new (Err k) → k ≢ NoRows
-judged_kind {line = line} (bad_heading k b n f same) = header_kind (fields (whole_line line)) k f
-judged_kind {limits} {line} {old} (bad_row h k b n f same) =
+pub refused_kind : {limits : Limits} {line : List ℕ} {old new : Progress} {k : TraceKind} → ReadsLine limits line old new (Err k) → k ≢ NoRows
+refused_kind {line = line} (bad_heading k b n f same) = header_kind (fields (whole_line line)) k f
+refused_kind {limits} {line} {old} (bad_row h k b n f same) =
     row_kind limits (scale_of old.least h) h old.count (last_of old.count old.row) (fields (whole_line line)) k f

@@ -11,7 +11,7 @@ pub mod FieldLemmas
 pub mod NumberLemmas
 pub mod HeadingLemmas
 pub mod RowLemmas
-pub mod JudgeLemmas
+pub mod ReadLemmas
 pub mod GoesOnLemmas
 pub mod ReaderSteps
 pub mod ReaderTakes

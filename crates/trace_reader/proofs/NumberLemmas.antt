@@ -178,7 +178,7 @@ no_signed f most c others s e none v k h few = signed_none most c others s none 
 pub no_plain : (f : List ℕ) (most c : ℕ) (others : List ℕ) → (c ≡ 45 → ⊥) → (c ≡ 43 → ⊥) → f ≡ c ∷ others → NoNumeral f most → NoNumber f most
 no_plain f most c others a b e none v k h few = plain_none most c others a b none h e few
 
--- a field of a row is judged by the ticks that were read of it
+-- a field of a row is as the ticks that were read of it say
 module _ (digits most : ℕ) (low high : ℤ) (i : ℕ) (f : List ℕ) (v : ℤ) (h : IsInTicks digits most f v) where
   -- a number within its limits is read
   pub within : ((v <ℤ low) ⊎ (high <ℤ v) → ⊥) → IsFieldRead digits most low high i f v

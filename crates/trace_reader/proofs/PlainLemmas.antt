@@ -24,7 +24,7 @@ use Rattle.trace_reader.specs.Plain.{is_plain, IsTicks, IsPlainRow}
 use Rattle.trace_reader.proofs.FieldLemmas.{split-none, split-at, after_none}
 use Rattle.trace_reader.proofs.NumberLemmas.{within, small_negative, neg_ticks}
 use Rattle.trace_reader.proofs.RowLemmas.{start_values, values_more, values_read, values_sound, row_is, numbers_sound, row_made}
-use Rattle.trace_reader.proofs.JudgeLemmas.{fields_are}
+use Rattle.trace_reader.proofs.ReadLemmas.{fields_are}
 use Rattle.trace_reader.proofs.ReaderTakes.{take_on}
 
 -- digits alone in ticks

@@ -13,7 +13,7 @@ use Rattle.trace_reader.specs.TraceRefusals.{RowFault, FaultFrom, IsFirstFault, 
 use Rattle.trace_reader.specs.Sofar.{AreRowsSoFar}
 use Rattle.trace_reader.specs.Cut.{begun_after}
 use Rattle.trace_reader.specs.Feeds.{HasNoFeed, rows_after}
-use Rattle.trace_reader.specs.Progress.{Progress, last_of, Judges, blank, heading, row, bad_heading, bad_row}
+use Rattle.trace_reader.specs.Progress.{Progress, last_of, ReadsLine, blank, heading, row, bad_heading, bad_row}
 use Rattle.trace_reader.specs.Reader.{Reader, StandsFor, HasTaken, GoesOn, FaultsOn, ReadsOn, AreRising}
 use Rattle.trace_reader.specs.Reader.{IsFaultOfAll, HoldLines, HasReadBefore, IsNextRow, header_of, last_seen}
 use Rattle.trace_reader.specs.LineReader.{made, IsLineRefusal, HasEnded}
@@ -175,7 +175,7 @@ module _ (limits : Limits) (old : Progress) (begun : ℕ) (line bytes : List ℕ
       short_text = omega (arith, length-append line part, short)
 
       -- its LF, where the line has no fault
-      pub taken_closed : (new : Progress) (e : Event) → Judges limits text old new (Ok e)
+      pub taken_closed : (new : Progress) (e : Event) → ReadsLine limits text old new (Ok e)
           → HasTaken (made limits new (begun_after begun line (length part + 1)) []) taken_bytes (rows_after e rows new.row)
       taken_closed new e (blank b same) = record {
         front = t.front ++ done text ∷ [];
@@ -232,13 +232,13 @@ module _ (limits : Limits) (old : Progress) (begun : ℕ) (line bytes : List ℕ
           }
 
       -- or where it has one
-      pub judged_bad : (new : Progress) (x : TraceRefusal) → x.line ≡ begun_after begun line (length part + 1) → Judges limits text old new (Err x.kind)
+      pub refused_line : (new : Progress) (x : TraceRefusal) → x.line ≡ begun_after begun line (length part + 1) → ReadsLine limits text old new (Err x.kind)
           → IsFaultOfAll limits old.least taken_bytes x
-      judged_bad new x at (bad_heading k b n f same) more ended =
+      refused_line new x at (bad_heading k b n f same) more ended =
           subst (λ ls. FaultFrom limits old.least ended 1 ls x) (sym (closed ended more)) (t.goes_on.faults ended (done text ∷ lines ended more) x
           (subst (λ o. FaultsOn limits old.least o rows ended (suc (length t.front)) (done text ∷ lines ended more) x) (sym n)
           (heading_bad limits old.least ended (suc (length t.front)) text (lines ended more) x few_front short_text b rows (at ∙ number) f)))
-      judged_bad new x at (bad_row h k b n f same) more ended =
+      refused_line new x at (bad_row h k b n f same) more ended =
           let seen : last_of old.count old.row ≡ last_seen rows = last_same old.count old.row rows t.count t.last in
           let f' = subst (λ l. RowFault limits (scale_of old.least h) h (length rows) l (fields (done text)) x.kind) seen
           (subst (λ c. RowFault limits (scale_of old.least h) h c (last_of old.count old.row) (fields (done text)) x.kind) t.count f) in
@@ -345,28 +345,28 @@ module _ (limits : Limits) (old : Progress) (begun : ℕ) (line bytes : List ℕ
     short' = omega (arith, short)
 
     -- the bytes may end after a last line without a fault
-    pub ended_closed : (new : Progress) (e : Event) → Judges limits (line ++ []) old new (Ok e) → HasEnded limits new begun bytes (rows_after e rows new.row)
+    pub ended_closed : (new : Progress) (e : Event) → ReadsLine limits (line ++ []) old new (Ok e) → HasEnded limits new begun bytes (rows_after e rows new.row)
     unfolding taken_closed
-    ended_closed new e judged =
-        let u = taken_closed limits old begun line bytes rows t [] no_feed few' short' new e judged in
+    ended_closed new e read =
+        let u = taken_closed limits old begun line bytes rows t [] no_feed few' short' new e read in
         let v : HasEnded limits new (begun_after begun line (length {A = ℕ} [] + 1)) bytes (rows_after e rows new.row) = record {
           before = bytes ++ ([] ++ 10 ∷ []);
           taken = u;
-          all_lines = last_lines ∙ (ap (λ l. t.front ++ done l ∷ []) (sym (append-nil line)) ∙ sym (front_same new e judged));
+          all_lines = last_lines ∙ (ap (λ l. t.front ++ done l ∷ []) (sym (append-nil line)) ∙ sym (front_same new e read));
         } in
         subst (λ b. HasEnded limits new b bytes (rows_after e rows new.row)) counted v
       where
-        front_same : (new : Progress) (e : Event) (judged : Judges limits (line ++ []) old new (Ok e))
-            → (taken_closed limits old begun line bytes rows t [] no_feed few' short' new e judged).front ≡ t.front ++ done (line ++ []) ∷ []
+        front_same : (new : Progress) (e : Event) (read : ReadsLine limits (line ++ []) old new (Ok e))
+            → (taken_closed limits old begun line bytes rows t [] no_feed few' short' new e read).front ≡ t.front ++ done (line ++ []) ∷ []
         front_same new e (blank b same) = refl
         front_same new e (heading h b n is sound same) = refl
         front_same new e (row h b n is sound range width up room same) = refl
 
     -- or with one
-    pub ended_bad : (new : Progress) (x : TraceRefusal) → x.line ≡ begun → Judges limits (line ++ []) old new (Err x.kind)
+    pub ended_bad : (new : Progress) (x : TraceRefusal) → x.line ≡ begun → ReadsLine limits (line ++ []) old new (Err x.kind)
         → IsFirstFault bytes true limits old.least x
-    ended_bad new x at judged =
-        let f = judged_bad limits old begun line bytes rows t [] no_feed few' short' new x (at ∙ sym counted) judged [] true in
+    ended_bad new x at read =
+        let f = refused_line limits old begun line bytes rows t [] no_feed few' short' new x (at ∙ sym counted) read [] true in
         let same : lines true ((bytes ++ ([] ++ 10 ∷ [])) ++ []) ≡ lines true bytes =
         joins_closed (made limits old begun line) bytes rows t true [] [] no_feed
         ∙ (ap (λ ls. t.front ++ (done (line ++ []) ∷ ls)) (lines-nil true) ∙ (ap (λ l. t.front ++ done l ∷ []) (append-nil line) ∙ sym last_lines)) in

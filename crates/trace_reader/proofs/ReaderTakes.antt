@@ -15,7 +15,7 @@ use Rattle.trace_reader.specs.Cut.{Cut, begun_after}
 use Rattle.trace_reader.specs.Feeds.{HasNoFeed, rows_after, through_feed}
 use Rattle.trace_reader.specs.Cut.{Fits}
 use Rattle.trace_reader.specs.TraceRefusals.{IsFirstFault}
-use Rattle.trace_reader.specs.Progress.{Progress, Judges, blank, heading, row, bad_heading, bad_row}
+use Rattle.trace_reader.specs.Progress.{Progress, ReadsLine, blank, heading, row, bad_heading, bad_row}
 use Rattle.trace_reader.specs.Reader.{Reader, StandsFor, HasTaken, IsFaultOfAll, HoldLines, HasReadBefore, HasCome, EndsWithFeed, feed}
 use Rattle.trace_reader.specs.LineReader.{made, state, HasEnded, IsWithin, IsStart, IsLineRefusal}
 use Rattle.trace_reader.specs.declared.refusal.Limits.{Limits}
@@ -24,37 +24,37 @@ use Rattle.trace_reader.specs.declared.refusal.TraceKind.{TraceKind}
 use Rattle.trace_reader.specs.declared.event.Event.{Event}
 use Rattle.trace_reader.specs.declared.event.Event.TheVariants.{Nothing, Header as IsTheHeader, Row as IsARow}
 use Rattle.trace_reader.specs.declared.line_reader.LineReader.{LineReader}
-use Rattle.trace_reader.proofs.ReaderSteps.{stands, taken_going, taken_closed, judged_bad, closed_breaks}
+use Rattle.trace_reader.proofs.ReaderSteps.{stands, taken_going, taken_closed, refused_line, closed_breaks}
 use Rattle.trace_reader.proofs.ReaderSteps.{going_breaks, taken_start, ended_between, ended_closed}
 use Rattle.trace_reader.proofs.ReaderSteps.{ended_bad, number, number_going, broken_some, read_before}
 
--- a line that was judged without a fault keeps room for the heading until it was read
-judged_fresh : {limits : Limits} {line : List ℕ} {old new : Progress} {e : Event} → Judges limits line old new (Ok e) → (old.heading ≡ None → old.fresh ≡ true)
+-- a line that was read without a fault keeps room for the heading until it was read
+read_fresh : {limits : Limits} {line : List ℕ} {old new : Progress} {e : Event} → ReadsLine limits line old new (Ok e) → (old.heading ≡ None → old.fresh ≡ true)
     → new.heading ≡ None → new.fresh ≡ true
-judged_fresh (blank b same) h n = ap (λ (p : Progress). p.fresh) same ∙ h (sym (ap (λ (p : Progress). p.heading) same) ∙ n)
-judged_fresh (heading g b o is sound same) h n = absurd (let e = sym (ap (λ (p : Progress). p.heading) same) ∙ n in cc)
-judged_fresh (row g b o is sound range width up room same) h n = ap (λ (p : Progress). p.fresh) same ∙ h (sym (ap (λ (p : Progress). p.heading) same) ∙ n)
+read_fresh (blank b same) h n = ap (λ (p : Progress). p.fresh) same ∙ h (sym (ap (λ (p : Progress). p.heading) same) ∙ n)
+read_fresh (heading g b o is sound same) h n = absurd (let e = sym (ap (λ (p : Progress). p.heading) same) ∙ n in cc)
+read_fresh (row g b o is sound range width up room same) h n = ap (λ (p : Progress). p.fresh) same ∙ h (sym (ap (λ (p : Progress). p.heading) same) ∙ n)
 
-judged_least : {limits : Limits} {line : List ℕ} {old new : Progress} {r : Result Event TraceKind} → Judges limits line old new r → new.least ≡ old.least
-judged_least (blank b same) = ap (λ (p : Progress). p.least) same
-judged_least (heading g b o is sound same) = ap (λ (p : Progress). p.least) same
-judged_least (row g b o is sound range width up room same) = ap (λ (p : Progress). p.least) same
-judged_least (bad_heading k b n f same) = ap (λ (p : Progress). p.least) same
-judged_least (bad_row h k b n f same) = ap (λ (p : Progress). p.least) same
+read_least : {limits : Limits} {line : List ℕ} {old new : Progress} {r : Result Event TraceKind} → ReadsLine limits line old new r → new.least ≡ old.least
+read_least (blank b same) = ap (λ (p : Progress). p.least) same
+read_least (heading g b o is sound same) = ap (λ (p : Progress). p.least) same
+read_least (row g b o is sound range width up room same) = ap (λ (p : Progress). p.least) same
+read_least (bad_heading k b n f same) = ap (λ (p : Progress). p.least) same
+read_least (bad_row h k b n f same) = ap (λ (p : Progress). p.least) same
 
 -- a refused line leaves what was read
-judged_kept : {limits : Limits} {line : List ℕ} {old new : Progress} {k : TraceKind} → Judges limits line old new (Err k)
+refused_kept : {limits : Limits} {line : List ℕ} {old new : Progress} {k : TraceKind} → ReadsLine limits line old new (Err k)
     → new ≡ record old { fresh = new.fresh }
-judged_kept {old = old} {new} (bad_heading k b n f same) = same ∙ ap (λ (x : Bool). record old { fresh = x }) (sym (ap (λ (p : Progress). p.fresh) same))
-judged_kept {old = old} {new} (bad_row h k b n f same) = same ∙ ap (λ (x : Bool). record old { fresh = x }) (sym (ap (λ (p : Progress). p.fresh) same))
+refused_kept {old = old} {new} (bad_heading k b n f same) = same ∙ ap (λ (x : Bool). record old { fresh = x }) (sym (ap (λ (p : Progress). p.fresh) same))
+refused_kept {old = old} {new} (bad_row h k b n f same) = same ∙ ap (λ (x : Bool). record old { fresh = x }) (sym (ap (λ (p : Progress). p.fresh) same))
 
--- what came with a judged line
-pub judged_come : {limits : Limits} {line : List ℕ} {e : Event} (old new : LineReader) (before : List ℕ) → Judges limits line old.table new.table (Ok e)
+-- what came with a line that was read
+pub read_come : {limits : Limits} {line : List ℕ} {e : Event} (old new : LineReader) (before : List ℕ) → ReadsLine limits line old.table new.table (Ok e)
     → HasCome e (state limits old) (state limits new) (before ++ 10 ∷ [])
-judged_come old new before (blank b same) = (ap (λ (p : Progress). p.heading) same, ap (λ (p : Progress). p.row) same, ap (λ (p : Progress). p.count) same)
-judged_come old new before (heading g b o is sound same) =
+read_come old new before (blank b same) = (ap (λ (p : Progress). p.heading) same, ap (λ (p : Progress). p.row) same, ap (λ (p : Progress). p.count) same)
+read_come old new before (heading g b o is sound same) =
     (o, subst IsSome (sym (ap (λ (p : Progress). p.heading) same)) refl, ap (λ (p : Progress). p.row) same, ap (λ (p : Progress). p.count) same, feed before)
-judged_come old new before (row g b o is sound range width up room same) =
+read_come old new before (row g b o is sound range width up room same) =
     (subst IsSome (sym o) refl, ap (λ (p : Progress). p.heading) same, omega (arith, ap (λ (p : Progress). p.count) same), feed before)
 
 module _ (limits : Limits) (old new : LineReader) (w : IsWithin limits old) where
@@ -105,23 +105,23 @@ module _ (limits : Limits) (old new : LineReader) (w : IsWithin limits old) wher
   module _ (part : List ℕ) (free : HasNoFeed part) (begun : new.lines.begun ≡ begun_after old.lines.begun old.lines.line (length part + 1)) where
     -- after a line the reader is within its limits
     pub finish_within : (e : Event) → Fits limits new.lines.begun (length old.lines.line + length part) → new.lines.line ≡ []
-        → Judges limits (old.lines.line ++ part) old.table new.table (Ok e) → IsWithin limits new
-    finish_within e fits line judged = record {
+        → ReadsLine limits (old.lines.line ++ part) old.table new.table (Ok e) → IsWithin limits new
+    finish_within e fits line read = record {
       rows = w.rows;
       lines = w.lines;
       begun = fits.count;
       line = omega (arith, ap length line);
-      fresh = judged_fresh judged w.fresh;
+      fresh = read_fresh read w.fresh;
     }
 
     -- and stands for the bytes with the line
     pub finish_stands : (e : Event) → Fits limits new.lines.begun (length old.lines.line + length part) → new.lines.line ≡ []
-        → Judges limits (old.lines.line ++ part) old.table new.table (Ok e)
+        → ReadsLine limits (old.lines.line ++ part) old.table new.table (Ok e)
         → (bytes : List ℕ) (rows : List Row) → StandsFor (state limits old) bytes rows
         → StandsFor (state limits new) (bytes ++ (part ++ 10 ∷ [])) (rows_after e rows new.table.row)
-    finish_stands e fits line judged bytes rows s =
+    finish_stands e fits line read bytes rows s =
         let t = taken_closed limits old.table old.lines.begun old.lines.line bytes rows s.taken part free
-        (subst (λ b. b ≤ limits.lines) begun fits.count) fits.short new.table e judged in
+        (subst (λ b. b ≤ limits.lines) begun fits.count) fits.short new.table e read in
         let after = rows_after e rows new.table.row in
         let u : HasTaken (state limits new) (bytes ++ (part ++ 10 ∷ [])) after =
         subst (λ b. HasTaken (made limits new.table b new.lines.line) (bytes ++ (part ++ 10 ∷ [])) after) (sym begun)
@@ -133,14 +133,14 @@ module _ (limits : Limits) (old new : LineReader) (w : IsWithin limits old) wher
     pub finish_fault : (x : TraceRefusal)
         → (IsLineRefusal limits new.lines.begun (length old.lines.line + length part) x × (new.table ≡ old.table))
         ⊎ (Fits limits new.lines.begun (length old.lines.line + length part) × (x.line ≡ new.lines.begun)
-        × Judges limits (old.lines.line ++ part) old.table new.table (Err x.kind))
+        × ReadsLine limits (old.lines.line ++ part) old.table new.table (Err x.kind))
         → (bytes : List ℕ) (rows : List Row) → StandsFor (state limits old) bytes rows → IsFaultOfAll limits old.table.least (bytes ++ (part ++ 10 ∷ [])) x
     finish_fault x (inl (f, same)) bytes rows s =
         closed_breaks limits old.table old.lines.begun old.lines.line bytes rows s.taken part free x
         (subst (λ b. IsLineRefusal limits b (length old.lines.line + length part) x) begun f)
-    finish_fault x (inr (fits, at, judged)) bytes rows s =
-        judged_bad limits old.table old.lines.begun old.lines.line bytes rows s.taken part free
-        (subst (λ b. b ≤ limits.lines) begun fits.count) fits.short new.table x (at ∙ begun) judged
+    finish_fault x (inr (fits, at, read)) bytes rows s =
+        refused_line limits old.table old.lines.begun old.lines.line bytes rows s.taken part free
+        (subst (λ b. b ≤ limits.lines) begun fits.count) fits.short new.table x (at ∙ begun) read
 
     -- which comes after what was read
     pub finish_before : (x : TraceRefusal) → x.line ≡ new.lines.begun → (bytes : List ℕ) (rows : List Row) → StandsFor (state limits old) bytes rows
@@ -153,15 +153,15 @@ module _ (limits : Limits) (old new : LineReader) (w : IsWithin limits old) wher
     pub finish_kept : (x : TraceRefusal)
         → (IsLineRefusal limits new.lines.begun (length old.lines.line + length part) x × (new.table ≡ old.table))
         ⊎ (Fits limits new.lines.begun (length old.lines.line + length part) × (x.line ≡ new.lines.begun)
-        × Judges limits (old.lines.line ++ part) old.table new.table (Err x.kind))
+        × ReadsLine limits (old.lines.line ++ part) old.table new.table (Err x.kind))
         → (x.line ≡ new.lines.begun) × (new.table ≡ record old.table { fresh = new.table.fresh }) × (new.table.least ≡ old.table.least)
     finish_kept x (inl (f, same)) =
         (f.0, same ∙ ap (λ (b : Bool). record old.table { fresh = b }) (sym (ap (λ (p : Progress). p.fresh) same)), ap (λ (p : Progress). p.least) same)
-    finish_kept x (inr (fits, at, judged)) = (at, judged_kept judged, judged_least judged)
+    finish_kept x (inr (fits, at, read)) = (at, refused_kept read, read_least read)
 
     -- the least scale stays
-    pub finish_least : {e : Event} → Judges limits (old.lines.line ++ part) old.table new.table (Ok e) → new.table.least ≡ old.table.least
-    finish_least judged = judged_least judged
+    pub finish_least : {e : Event} → ReadsLine limits (old.lines.line ++ part) old.table new.table (Ok e) → new.table.least ≡ old.table.least
+    finish_least read = read_least read
 
 -- nothing was read
 pub start_stands : (limits : Limits) (least : Scale) (p : LineReader) → IsStart least p → StandsFor (state limits p) [] []
@@ -231,18 +231,18 @@ last_between limits old e bytes rows s =
 
 -- a last line without a fault
 pub last_closed : (limits : Limits) (old new : LineReader) → IsWithin limits old → 0 < length old.lines.line → (e : Event)
-    → Judges limits (old.lines.line ++ []) old.table new.table (Ok e)
+    → ReadsLine limits (old.lines.line ++ []) old.table new.table (Ok e)
     → (bytes : List ℕ) (rows : List Row) → StandsFor (state limits old) bytes rows
     → HasEnded limits new.table old.lines.begun bytes (rows_after e rows new.table.row)
-last_closed limits old new w some e judged bytes rows s =
-    ended_closed limits old.table old.lines.begun old.lines.line bytes rows s.taken some w.begun w.line new.table e judged
+last_closed limits old new w some e read bytes rows s =
+    ended_closed limits old.table old.lines.begun old.lines.line bytes rows s.taken some w.begun w.line new.table e read
 
 -- or with one
 pub last_bad : (limits : Limits) (old new : LineReader) → IsWithin limits old → 0 < length old.lines.line → (x : TraceRefusal) → x.line ≡ old.lines.begun
-    → Judges limits (old.lines.line ++ []) old.table new.table (Err x.kind)
+    → ReadsLine limits (old.lines.line ++ []) old.table new.table (Err x.kind)
     → (bytes : List ℕ) (rows : List Row) → StandsFor (state limits old) bytes rows → IsFirstFault bytes true limits old.table.least x
-last_bad limits old new w some x at judged bytes rows s =
-    ended_bad limits old.table old.lines.begun old.lines.line bytes rows s.taken some w.begun w.line new.table x at judged
+last_bad limits old new w some x at read bytes rows s =
+    ended_bad limits old.table old.lines.begun old.lines.line bytes rows s.taken some w.begun w.line new.table x at read
 
 -- a fault of the last line comes after what was read
 pub last_before : (limits : Limits) (old : LineReader) → 0 < length old.lines.line → (x : TraceRefusal) → x.line ≡ old.lines.begun
@@ -259,7 +259,7 @@ last_before limits old some x at bytes rows s =
     begun_same b (c ∷ cs) = refl
 
 -- what came with a line
-pub line_come : {limits : Limits} {line : List ℕ} {e : Event} (old new : Progress) → Judges limits line old new (Ok e)
+pub line_come : {limits : Limits} {line : List ℕ} {e : Event} (old new : Progress) → ReadsLine limits line old new (Ok e)
     → HasCome e (made limits old 0 []) (made limits new 0 []) (10 ∷ [])
 line_come old new (blank b same) = (ap (λ (p : Progress). p.heading) same, ap (λ (p : Progress). p.row) same, ap (λ (p : Progress). p.count) same)
 line_come old new (heading g b o is sound same) =

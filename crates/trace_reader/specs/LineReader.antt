@@ -7,7 +7,7 @@ use Rattle.stl_syntax.specs.Trace.{Row}
 use Rattle.trace_reader.specs.TraceText.{lines, Heading, TraceOf}
 use Rattle.trace_reader.specs.TraceRefusals.{HasTrace}
 use Rattle.trace_reader.specs.Cut.{Fits}
-use Rattle.trace_reader.specs.Progress.{Progress, Judges}
+use Rattle.trace_reader.specs.Progress.{Progress, ReadsLine}
 use Rattle.trace_reader.specs.declared.refusal.Limits.{Limits}
 use Rattle.trace_reader.specs.declared.refusal.TraceRefusal.{TraceRefusal}
 use Rattle.trace_reader.specs.declared.refusal.TraceKind.TheVariants.{TooManyLines, LineTooLong}
@@ -56,18 +56,18 @@ Holds limits part old new r =
     MatchResult r (λ _. Fits limits new.lines.begun size × (new.lines.line ≡ old.lines.line ++ part)) (IsLineRefusal limits new.lines.begun size)
 
 -- what a whole line comes to, the last of `begun`
-abbrev pub JudgesLine : Limits → ℕ → List ℕ → Progress → Progress → Result Event TraceRefusal → Type 0
-JudgesLine limits begun line old new r =
-    MatchResult r (λ e. Judges limits line old new (Ok e)) (λ x. (x.line ≡ begun) × Judges limits line old new (Err x.kind))
+abbrev pub ReadsLineAt : Limits → ℕ → List ℕ → Progress → Progress → Result Event TraceRefusal → Type 0
+ReadsLineAt limits begun line old new r =
+    MatchResult r (λ e. ReadsLine limits line old new (Ok e)) (λ x. (x.line ≡ begun) × ReadsLine limits line old new (Err x.kind))
 
 -- what the bytes of a line before its LF come to: a limit broken, or what the line is
 abbrev pub Finishes : Limits → List ℕ → LineReader → LineReader → Result Event TraceRefusal → Type 0
 Finishes limits part old new r =
     let size : ℕ = length old.lines.line + length part in
     let line : List ℕ = old.lines.line ++ part in
-    MatchResult r (λ e. Fits limits new.lines.begun size × (new.lines.line ≡ []) × Judges limits line old.table new.table (Ok e))
+    MatchResult r (λ e. Fits limits new.lines.begun size × (new.lines.line ≡ []) × ReadsLine limits line old.table new.table (Ok e))
     (λ x. (IsLineRefusal limits new.lines.begun size x × (new.table ≡ old.table))
-    ⊎ (Fits limits new.lines.begun size × (x.line ≡ new.lines.begun) × Judges limits line old.table new.table (Err x.kind)))
+    ⊎ (Fits limits new.lines.begun size × (x.line ≡ new.lines.begun) × ReadsLine limits line old.table new.table (Err x.kind)))
 
 -- all lines of the bytes were read, the last one as a whole line
 pub record HasEnded (limits : Limits) (p : Progress) (begun : ℕ) (bytes : List ℕ) (rows : List Row) : Type 0 where

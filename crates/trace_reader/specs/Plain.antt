@@ -8,7 +8,7 @@ use Rattle.trace_reader.specs.FieldFaults.{IsFieldRead}
 use Rattle.trace_reader.specs.Feeds.{HasNoFeed}
 use Rattle.trace_reader.specs.Headings.{Scaled}
 use Rattle.trace_reader.specs.RowLines.{IsRowRead}
-use Rattle.trace_reader.specs.Progress.{Progress, Judges}
+use Rattle.trace_reader.specs.Progress.{Progress, ReadsLine}
 use Rattle.trace_reader.specs.declared.refusal.Limits.{Limits}
 use Rattle.trace_reader.specs.declared.event.Event.TheVariants.{Row as IsARow}
 use Rattle.trace_reader.specs.declared.digits.Digits.{Digits}
@@ -82,4 +82,4 @@ pub record IsPlainRow (h : Scaled) (piece : List ℕ) (n : ℕ) (r : Row) : Type
 pub record IsRowTaken (limits : Limits) (piece : List ℕ) (n : ℕ) (old new : Progress) : Type 0 where
   pub line : List ℕ
   pub whole : IsWholeLine piece line n
-  pub judged : Judges limits line old new (Ok IsARow)
+  pub read : ReadsLine limits line old new (Ok IsARow)

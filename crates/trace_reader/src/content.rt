@@ -37,7 +37,7 @@ impl Content {
     ghost use Rattle.trace_reader.specs.Plain.{IsRowTaken};
     ghost use Rattle.trace_reader.specs.LineParts.{whole_line};
     ghost use Rattle.trace_reader.specs.Headings.{header_with};
-    ghost use Rattle.trace_reader.specs.Progress.{Judges, JudgesHeading, JudgesRow};
+    ghost use Rattle.trace_reader.specs.Progress.{ReadsLine, ReadsHeading, ReadsRow};
 
     /// Nothing read yet, in ticks that have at least the decimals of `least`; all memory is reserved.
     pub(crate) fn new(alloc: Global, least: Scale) -> Result<Content, Memory>
@@ -81,28 +81,28 @@ impl Content {
     ///
     /// # Errors
     /// What is wrong in the line. From then on no line may be read.
-    pub(crate) fn judge(&mut self, limits: &Limits, line: &[u8]) -> Result<Event, TraceKind>
+    pub(crate) fn read_line(&mut self, limits: &Limits, line: &[u8]) -> Result<Event, TraceKind>
         requires fresh { self.old.heading ≡ None → self.old.fresh ≡ true }
         requires size { length line.now ≤ 4096 }
         requires most { limits.now.rows ≤ 2 ^ 32 }
-        ensures { Judges limits.now line.now self.old self.new result }
+        ensures { ReadsLine limits.now line.now self.old self.new result }
     {
         let text = content_of(line);
         if is_blank(text) {
             return Ok(Event::Nothing);
         }
         if self.heading.is_none() {
-            return self.judge_heading(text);
+            return self.read_as_heading(text);
         }
-        self.judge_row(limits, text)
+        self.read_as_row(limits, text)
     }
 
     /// Reads the text of a line that is the header.
-    fn judge_heading(&mut self, text: &[u8]) -> Result<Event, TraceKind>
+    fn read_as_heading(&mut self, text: &[u8]) -> Result<Event, TraceKind>
         requires heading { self.old.heading ≡ None }
         requires fresh { self.old.fresh ≡ true }
         requires size { length text.now ≤ 4096 }
-        ensures { JudgesHeading text.now self.old self.new result }
+        ensures { ReadsHeading text.now self.old self.new result }
     {
         let Some(room) = self.room.take() else {
             unreachable!()
@@ -112,11 +112,11 @@ impl Content {
     }
 
     /// Reads the text of a line that is a row.
-    fn judge_row(&mut self, limits: &Limits, text: &[u8]) -> Result<Event, TraceKind>
+    fn read_as_row(&mut self, limits: &Limits, text: &[u8]) -> Result<Event, TraceKind>
         requires heading { IsSome self.old.heading }
         requires size { length text.now ≤ 4096 }
         requires most { limits.now.rows ≤ 2 ^ 32 }
-        ensures { JudgesRow limits.now text.now self.old self.new result }
+        ensures { ReadsRow limits.now text.now self.old self.new result }
     {
         if self.count >= limits.rows {
             return Err(TraceKind::TooManyRows);

@@ -69,7 +69,7 @@ impl Lines {
         self.bytes.as_slice()
     }
 
-    /// Counts the line that `taken` bytes begin, and judges it with `size` bytes more; at most `most` lines may begin.
+    /// Counts the line that `taken` bytes begin, and refuses it with `size` bytes more where it is too long; at most `most` lines may begin.
     pub(crate) fn admit(&mut self, most: u64, taken: usize, size: usize) -> Result<(), LineFault>
         requires count { self.old.begun ≤ most }
         requires most { most ≤ 2 ^ 33 }

@@ -21,10 +21,10 @@ ghost use Rattle.trace_reader.specs.Feeds.{through_feed, rows_after};
 ghost use Rattle.trace_reader.specs.Reader.{StandsFor, IsFaultOfAll, HasReadBefore, HasCome, IsNextRow, header_of};
 
 impl LineReader {
-    ghost use Rattle.trace_reader.specs.LineReader.{state, IsWithin, IsStart, Holds, JudgesLine, Finishes, HasEnded, IsWhole, IsEnd, HasHeader};
+    ghost use Rattle.trace_reader.specs.LineReader.{state, IsWithin, IsStart, Holds, ReadsLineAt, Finishes, HasEnded, IsWhole, IsEnd, HasHeader};
     ghost use Rattle.trace_reader.specs.TraceRefusals.{IsFirstFault};
     ghost use Rattle.trace_reader.specs.declared.refusal.TraceKind.TheVariants.{Empty, NoRows};
-    ghost use Rattle.trace_reader.specs.Progress.{Judges};
+    ghost use Rattle.trace_reader.specs.Progress.{ReadsLine};
     ghost use Rattle.trace_reader.specs.Plain.{IsRowTaken};
     ghost use Rattle.trace_reader.specs.Cut.{begun_after, kind_of};
 
@@ -76,7 +76,7 @@ impl LineReader {
         }
     }
 
-    /// Takes the last bytes of a line before its LF, and judges the line.
+    /// Takes the last bytes of a line before its LF, and reads the line.
     fn finish(&mut self, limits: &Limits, part: &[u8]) -> Result<Event, TraceRefusal>
         requires within { IsWithin limits.now self.old }
         requires fits { length part.now + 1 < 2 ^ 64 }
@@ -90,35 +90,35 @@ impl LineReader {
         }
     }
 
-    /// Judges the line that these bytes make whole.
+    /// Reads the line that these bytes make whole.
     fn close(&mut self, limits: &Limits, part: &[u8]) -> Result<Event, TraceRefusal>
         requires rows { limits.now.rows ≤ 2 ^ 32 }
         requires short { length self.old.lines.line + length part.now ≤ 4096 }
         requires fresh { self.old.table.heading ≡ None → self.old.table.fresh ≡ true }
-        ensures judged { JudgesLine limits.now self.old.lines.begun (self.old.lines.line ++ part.now) self.old.table self.new.table result }
+        ensures read { ReadsLineAt limits.now self.old.lines.begun (self.old.lines.line ++ part.now) self.old.table self.new.table result }
         ensures lines { self.new.lines ≡ record self.old.lines { line = [] } }
     {
-        match self.judge(limits, part) {
+        match self.read_line(limits, part) {
             Ok(event) => Ok(event),
             Err(kind) => Err(self.refusal(kind)),
         }
     }
 
-    /// Judges the line that these bytes make whole, in place where it is all in one piece.
-    fn judge(&mut self, limits: &Limits, part: &[u8]) -> Result<Event, TraceKind>
+    /// Reads the line that these bytes make whole, in place where it is all in one piece.
+    fn read_line(&mut self, limits: &Limits, part: &[u8]) -> Result<Event, TraceKind>
         requires rows { limits.now.rows ≤ 2 ^ 32 }
         requires short { length self.old.lines.line + length part.now ≤ 4096 }
         requires fresh { self.old.table.heading ≡ None → self.old.table.fresh ≡ true }
-        ensures judged { Judges limits.now (self.old.lines.line ++ part.now) self.old.table self.new.table result }
+        ensures read { ReadsLine limits.now (self.old.lines.line ++ part.now) self.old.table self.new.table result }
         ensures lines { self.new.lines ≡ record self.old.lines { line = [] } }
     {
         if self.lines.is_between() {
-            return self.table.judge(limits, part);
+            return self.table.read_line(limits, part);
         }
         self.lines.add(part);
-        let judged = self.table.judge(limits, self.lines.bytes());
+        let answer = self.table.read_line(limits, self.lines.bytes());
         self.lines.clear();
-        judged
+        answer
     }
 
     /// Takes the line that the piece begins with, where it is a row of plain numbers without a fault. Else nothing changes.
@@ -229,7 +229,7 @@ impl LineReader {
         })
     }
 
-    /// Judges the bytes of a last line, where there are any.
+    /// Reads the bytes of a last line, where there are any.
     fn close_last(&mut self, limits: &Limits) -> Result<Event, TraceRefusal>
         requires { IsWithin limits.now self.old }
         ensures ok { IfOk result (λ e. (bytes : List ℕ) (rows : List Values) → StandsFor (state limits.now self.old) bytes rows
@@ -251,7 +251,7 @@ impl LineReader {
         self.close(limits, &[])
     }
 
-    /// Judges the bytes of a last line, where there are any, and the whole.
+    /// Reads the bytes of a last line, where there are any, and the whole.
     pub(crate) fn last(&mut self, limits: &Limits) -> Result<Event, TraceRefusal>
         requires { IsWithin limits.now self.old }
         ensures ok { IfOk result (λ e. (bytes : List ℕ) (rows : List Values) → StandsFor (state limits.now self.old) bytes rows

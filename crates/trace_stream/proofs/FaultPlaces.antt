@@ -15,7 +15,7 @@ use Rattle.trace_reader.specs.declared.refusal.TraceRefusal.{TraceRefusal}
 use Rattle.trace_reader.specs.declared.refusal.TraceKind.{TraceKind}
 use Rattle.trace_reader.specs.declared.refusal.TraceKind.TheVariants.{NoRows, TooManyLines, LineTooLong}
 use Rattle.trace_reader.proofs.TraceRefusalLaw.{heading-unique, row-unique}
-use Rattle.trace_reader.proofs.KindLemmas.{judged_kind}
+use Rattle.trace_reader.proofs.KindLemmas.{refused_kind}
 use Rattle.trace_reader.specs.InputFaults.{IsHeaderAt, here, later}
 
 -- of two kinds, the one by a test
@@ -141,7 +141,7 @@ as_whole l w = ap (λ b. record { bytes = l.bytes; whole = b }) w
 -- a fault of a header's line is not the one of a trace without rows
 heading_kind : (limits : Limits) (least : Scale) (l : Line) (k : TraceKind) → l.whole ≡ true → is_blank_line l ≡ false → HeaderFault (fields l) k → k ≢ NoRows
 heading_kind limits least l k w b f =
-    judged_kind {limits = limits} {line = l.bytes}
+    refused_kind {limits = limits} {line = l.bytes}
     {old = record { least = least; heading = None; row = record { time = 0; values = [] }; count = 0; fresh = true }}
     (bad_heading k b refl (subst (λ (m : Line). HeaderFault (fields m) k) (as_whole l w) f) refl)
 
@@ -149,7 +149,7 @@ heading_kind limits least l k w b f =
 row_kind : (limits : Limits) (least : Scale) (h : Heading) (count : ℕ) (row : Row) (l : Line) (k : TraceKind) → l.whole ≡ true → is_blank_line l ≡ false
     → RowFault limits (scale_of least h) h count (last_of count row) (fields l) k → k ≢ NoRows
 row_kind limits least h count row l k w b f =
-    judged_kind {limits = limits} {line = l.bytes} {old = record { least = least; heading = Some h; row = row; count = count; fresh = true }}
+    refused_kind {limits = limits} {line = l.bytes} {old = record { least = least; heading = Some h; row = row; count = count; fresh = true }}
     (bad_row h k b refl (subst (λ (m : Line). RowFault limits (scale_of least h) h count (last_of count row) (fields m) k) (as_whole l w) f) refl)
 
 -- where a trace lacks rows at its end, its lines have no fault of their own

@@ -7,7 +7,7 @@ use Rattle.trace_reader.specs.LineParts.{whole_line, fields_of}
 use Rattle.trace_reader.specs.Headings.{Scaled}
 use Rattle.trace_reader.specs.RowLines.{IsRowRead}
 use Rattle.trace_reader.specs.Progress.{Progress}
-use Rattle.trace_reader.proofs.JudgeLemmas.{row_taken, judged_row, fields_are}
+use Rattle.trace_reader.proofs.ReadLemmas.{row_taken, row_line_read, fields_are}
 use Rattle.trace_reader.proofs.content.Content.read_plain.Goals as goal
 use Rattle.trace_reader.proofs.content.Content.read_plain.Goals.{else-self-ne0-via-then-self-ne0+else-time, else-self-ne0-via-else-self-ne0}
 
@@ -37,6 +37,6 @@ returns c =
     record {
       line = p.line;
       whole = p.whole;
-      judged = judged_row c.args.limits.now p.line text c.args.self.now _ _ refl p.solid
+      read = row_line_read c.args.limits.now p.line text c.args.self.now _ _ refl p.solid
           (row_taken c.args.limits.now text c.args.self.now _ sc is scale few read up (rw (← v) refl));
     }

@@ -1,10 +1,10 @@
 -- A last line without LF.
 use Rattle.std.proofs.Common.{◌++◌, [], sym, ap, subst, refl}
 use Rattle.std.proofs.lemmas.Bool.{false≢true}
-use Rattle.trace_reader.specs.LineReader.{JudgesLine, HasEnded}
+use Rattle.trace_reader.specs.LineReader.{ReadsLineAt, HasEnded}
 use Rattle.trace_reader.specs.Feeds.{rows_after}
 use Rattle.trace_reader.specs.Cut.{Cut}
-use Rattle.trace_reader.proofs.KindLemmas.{judged_kind}
+use Rattle.trace_reader.proofs.KindLemmas.{refused_kind}
 use Rattle.trace_reader.proofs.LineLemmas.{some_bytes}
 use Rattle.trace_reader.proofs.ReaderTakes.{last_between, last_closed, last_bad, last_before, if_ok, if_err}
 use Rattle.trace_reader.proofs.line_reader.LineReader.close_last.Goals as goal
@@ -19,10 +19,10 @@ returns-clause-ok c =
     let new = c.close.new.self in
     let some = some_bytes old.lines.line (λ e. false≢true (c.if-is_between.ensures.1 e)) in
     if_ok c.close.result _ (λ event is bytes rows s.
-    let judged = subst (JudgesLine limits old.lines.begun (old.lines.line ++ []) old.table new.table) is c.close.ensures.judged in
+    let read = subst (ReadsLineAt limits old.lines.begun (old.lines.line ++ []) old.table new.table) is c.close.ensures.read in
     let begun = ap (λ (l : Cut). l.begun) c.close.ensures.lines in
     subst (λ b. HasEnded limits new.table b bytes (rows_after event rows new.table.row)) (sym begun)
-    (last_closed limits old new c.requires some event judged bytes rows s))
+    (last_closed limits old new c.requires some event read bytes rows s))
 
 pub returns-clause-fault : goal.returns-clause-fault
 returns-clause-fault c =
@@ -31,8 +31,8 @@ returns-clause-fault c =
     let new = c.close.new.self in
     let some = some_bytes old.lines.line (λ e. false≢true (c.if-is_between.ensures.1 e)) in
     if_err c.close.result _ (λ x is bytes rows s.
-    let judged = subst (JudgesLine limits old.lines.begun (old.lines.line ++ []) old.table new.table) is c.close.ensures.judged in
-    last_bad limits old new c.requires some x judged.0 judged.1 bytes rows s)
+    let read = subst (ReadsLineAt limits old.lines.begun (old.lines.line ++ []) old.table new.table) is c.close.ensures.read in
+    last_bad limits old new c.requires some x read.0 read.1 bytes rows s)
 
 pub returns-clause-before : goal.returns-clause-before
 returns-clause-before c =
@@ -41,12 +41,12 @@ returns-clause-before c =
     let new = c.close.new.self in
     let some = some_bytes old.lines.line (λ e. false≢true (c.if-is_between.ensures.1 e)) in
     if_err c.close.result _ (λ x is bytes rows s.
-    let judged = subst (JudgesLine limits old.lines.begun (old.lines.line ++ []) old.table new.table) is c.close.ensures.judged in
-    last_before limits old some x judged.0 bytes rows s)
+    let read = subst (ReadsLineAt limits old.lines.begun (old.lines.line ++ []) old.table new.table) is c.close.ensures.read in
+    last_before limits old some x read.0 bytes rows s)
 
 pub returns-clause-kind : goal.returns-clause-kind
 returns-clause-kind c =
     if_err c.close.result _ (λ x is.
-    let judged = subst (JudgesLine c.args.limits.now c.args.self.now.lines.begun
-    (c.args.self.now.lines.line ++ []) c.args.self.now.table c.close.new.self.table) is c.close.ensures.judged in
-    judged_kind judged.1)
+    let read = subst (ReadsLineAt c.args.limits.now c.args.self.now.lines.begun
+    (c.args.self.now.lines.line ++ []) c.args.self.now.table c.close.new.self.table) is c.close.ensures.read in
+    refused_kind read.1)

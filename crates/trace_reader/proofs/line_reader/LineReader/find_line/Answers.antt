@@ -6,7 +6,7 @@ use Rattle.trace_reader.specs.Feeds.{rows_after}
 use Rattle.trace_reader.specs.Reader.{StandsFor, IsFaultOfAll, HasReadBefore, HasCome}
 use Rattle.trace_reader.specs.LineReader.{state}
 use Rattle.trace_reader.proofs.FeedLemmas.{none-free, none-all, at-free, at-taken, at-through}
-use Rattle.trace_reader.proofs.ReaderTakes.{hold_stands, hold_fault, hold_before, finish_stands, finish_fault, finish_before, finish_kept, judged_come}
+use Rattle.trace_reader.proofs.ReaderTakes.{hold_stands, hold_fault, hold_before, finish_stands, finish_fault, finish_before, finish_kept, read_come}
 use Rattle.trace_reader.proofs.line_reader.LineReader.find_line.Goals as goal
 
 pub returns-in_err-hold-in-None-clause-fault : goal.returns-in_err-hold-in-None-clause-fault
@@ -95,7 +95,7 @@ returns-in_ok-event-in-Some-clause-came c =
     let old = c.args.self.now in
     let new = c.finish.new.self in
     subst (HasCome c.in_ok-event-in-Some.event (state limits old) (state limits new)) (sym (at-through piece at h.0 h.1))
-    (judged_come {limits = limits} old new (take at piece) c.in_ok-event-in-Some.ensures.finished.2)
+    (read_come {limits = limits} old new (take at piece) c.in_ok-event-in-Some.ensures.finished.2)
 
 pub returns-in_ok-event-in-Some-clause-ok : goal.returns-in_ok-event-in-Some-clause-ok
 returns-in_ok-event-in-Some-clause-ok c = λ bytes rows s.

@@ -4,12 +4,12 @@ use Rattle.std.proofs.lemmas.List.{take-append-drop}
 use Rattle.trace_reader.specs.Feeds.{through_feed}
 use Rattle.trace_reader.specs.Plain.{IsWholeLine}
 use Rattle.trace_reader.specs.Cut.{Cut, begun_after}
-use Rattle.trace_reader.specs.Progress.{Judges}
+use Rattle.trace_reader.specs.Progress.{ReadsLine}
 use Rattle.trace_reader.specs.Reader.{StandsFor, HasCome}
 use Rattle.trace_reader.specs.LineReader.{state}
 use Rattle.trace_reader.specs.declared.event.Event.TheVariants.{Row as IsARow}
 use Rattle.trace_reader.proofs.FeedLemmas.{through-at}
-use Rattle.trace_reader.proofs.ReaderTakes.{finish_stands, judged_come}
+use Rattle.trace_reader.proofs.ReaderTakes.{finish_stands, read_come}
 use Rattle.trace_reader.proofs.line_reader.LineReader.take_line.Goals as goal
 
 line_through : (piece line : List ℕ) (n : ℕ) → IsWholeLine piece line n → through_feed piece ≡ line ++ 10 ∷ []
@@ -32,7 +32,7 @@ returns-in-Some-clause-came c =
     let old = c.args.self.now in
     let new = c.take_plain.new.self in
     subst (HasCome IsARow (state limits old) (state limits new)) (sym (line_through c.args.piece.now r.line c.in-Some.bytes r.whole))
-    (judged_come {limits = limits} old new r.line r.judged)
+    (read_come {limits = limits} old new r.line r.read)
 
 pub returns-in-Some-clause-ok : goal.returns-in-Some-clause-ok
 returns-in-Some-clause-ok c = λ bytes rows s.
@@ -43,7 +43,7 @@ returns-in-Some-clause-ok c = λ bytes rows s.
     let new = c.take_plain.new.self in
     let begun : new.lines.begun ≡ begun_after old.lines.begun old.lines.line (length r.line + 1) =
     ap (λ (x : Cut). x.begun) l.1 ∙ begun_one old.lines.begun (length r.line) old.lines.line l.0 in
-    let judged = subst (λ t. Judges limits t old.table new.table (Ok IsARow)) (ap (λ t. t ++ r.line) (sym l.0)) r.judged in
+    let read = subst (λ t. ReadsLine limits t old.table new.table (Ok IsARow)) (ap (λ t. t ++ r.line) (sym l.0)) r.read in
     subst (λ t. StandsFor (state limits new) (bytes ++ t) (rows ++ new.table.row ∷ [])) (sym (line_through c.args.piece.now r.line c.in-Some.bytes r.whole))
     (finish_stands limits old new c.requires r.line r.whole.free begun IsARow (record { count = l.2; short = omega (arith, ap length l.0, r.whole.short) })
-    (ap (λ (x : Cut). x.line) l.1) judged bytes rows s)
+    (ap (λ (x : Cut). x.line) l.1) read bytes rows s)

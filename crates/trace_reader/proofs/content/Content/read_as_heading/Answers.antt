@@ -2,7 +2,7 @@
 use Rattle.std.proofs.Common.{refl}
 use Rattle.std.proofs.lemmas.Result.{err_from_is_err_and}
 use Rattle.trace_reader.specs.Progress.{heading, bad_heading}
-use Rattle.trace_reader.proofs.content.Content.judge_heading.Goals as goal
+use Rattle.trace_reader.proofs.content.Content.read_as_heading.Goals as goal
 
 pub returns-in_err-read_heading : goal.returns-in_err-read_heading
 returns-in_err-read_heading c =

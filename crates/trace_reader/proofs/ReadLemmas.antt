@@ -9,7 +9,7 @@ use Rattle.trace_reader.specs.TraceRefusals.{RowFault, HeaderFault}
 use Rattle.trace_reader.specs.LineParts.{whole_line, fields_of}
 use Rattle.trace_reader.specs.Headings.{Scaled}
 use Rattle.trace_reader.specs.RowLines.{IsRowRead, FieldFaults}
-use Rattle.trace_reader.specs.Progress.{Progress, last_of, Judges, JudgesHeading, JudgesRow, heading, row, bad_heading, bad_row}
+use Rattle.trace_reader.specs.Progress.{Progress, last_of, ReadsLine, ReadsHeading, ReadsRow, heading, row, bad_heading, bad_row}
 use Rattle.trace_reader.specs.declared.refusal.Limits.{Limits}
 use Rattle.trace_reader.specs.declared.refusal.TraceKind.{TraceKind}
 use Rattle.trace_reader.specs.declared.refusal.TraceKind.TheVariants.{TooManyRows, TimeNotRising}
@@ -63,25 +63,25 @@ last_is zero r t e = absurd (let f = e in cc)
 last_is (suc n) r t e = (omega arith, (let f : r.time ≡ t = cc in sym f))
 
 -- what the text of a line comes to is what the line comes to
-pub judged_heading : (limits : Limits) (line text : List ℕ) (old new : Progress) (r : Result Event TraceKind)
+pub heading_line_read : (limits : Limits) (line text : List ℕ) (old new : Progress) (r : Result Event TraceKind)
     → text ≡ content (whole_line line) → is_blank_line (whole_line line) ≡ false → old.heading ≡ None
-    → JudgesHeading text old new r → Judges limits line old new r
-judged_heading limits line text old new r e b n (heading h is sound same) =
+    → ReadsHeading text old new r → ReadsLine limits line old new r
+heading_line_read limits line text old new r e b n (heading h is sound same) =
     let f : fields_of (Some text) ≡ fields (whole_line line) = ap (λ t. fields_of (Some t)) e ∙ sym (fields_are line) in
     heading h b n (subst (λ fs. IsHeading fs h) f is) (subst (λ fs. (k : TraceKind) → ¬ HeaderFault fs k) f sound) same
-judged_heading limits line text old new r e b n (bad_heading k is same) =
+heading_line_read limits line text old new r e b n (bad_heading k is same) =
     let f : fields_of (Some text) ≡ fields (whole_line line) = ap (λ t. fields_of (Some t)) e ∙ sym (fields_are line) in
     bad_heading k b n (subst (λ fs. HeaderFault fs k) f is) same
 
--- a line that is judged as a row
-pub judged_row : (limits : Limits) (line text : List ℕ) (old new : Progress) (r : Result Event TraceKind)
+-- a line that is read as a row
+pub row_line_read : (limits : Limits) (line text : List ℕ) (old new : Progress) (r : Result Event TraceKind)
     → text ≡ content (whole_line line) → is_blank_line (whole_line line) ≡ false
-    → JudgesRow limits text old new r → Judges limits line old new r
-judged_row limits line text old new r e b (row h n is sound range width up few same) =
+    → ReadsRow limits text old new r → ReadsLine limits line old new r
+row_line_read limits line text old new r e b (row h n is sound range width up few same) =
     let f : fields_of (Some text) ≡ fields (whole_line line) = ap (λ t. fields_of (Some t)) e ∙ sym (fields_are line) in
     row h b n (subst (λ fs. IsRow (scale_of old.least h) h fs new.row) f is)
     (subst (λ fs. (k : TraceKind) → ¬ RowFault limits (scale_of old.least h) h old.count (last_of old.count old.row) fs k) f sound) range width up few same
-judged_row limits line text old new r e b (bad_row h k n is same) =
+row_line_read limits line text old new r e b (bad_row h k n is same) =
     let f : fields_of (Some text) ≡ fields (whole_line line) = ap (λ t. fields_of (Some t)) e ∙ sym (fields_are line) in
     bad_row h k b n (subst (λ fs. RowFault limits (scale_of old.least h) h old.count (last_of old.count old.row) fs k) f is) same
 
@@ -90,14 +90,14 @@ module _ (limits : Limits) (text : List ℕ) (old new : Progress) (sc : Scaled) 
     (scale : sc.scale ≡ scale_of old.least sc.heading)
     (few : old.count < limits.rows) where
   -- a row with a fault in its fields
-  pub row_bad : (k : TraceKind) → FieldFaults sc (fields_of (Some text)) k → new ≡ old → JudgesRow limits text old new (Err k)
+  pub row_bad : (k : TraceKind) → FieldFaults sc (fields_of (Some text)) k → new ≡ old → ReadsRow limits text old new (Err k)
   row_bad k h same =
       bad_row sc.heading k is (subst (λ s. RowFault limits s sc.heading old.count (last_of old.count old.row) (fields_of (Some text)) k) scale
       (fields_bad limits sc old.count (last_of old.count old.row) (fields_of (Some text)) few k h)) same
 
   -- a row whose time does not rise
   pub row_late : (x : Row) → IsRowRead sc (fields_of (Some text)) x → 0 < old.count → x.time ≤ old.row.time → new ≡ old
-      → JudgesRow limits text old new (Err TimeNotRising)
+      → ReadsRow limits text old new (Err TimeNotRising)
   row_late x r some late same =
       bad_row sc.heading TimeNotRising is
       (subst (λ s. RowFault limits s sc.heading old.count (last_of old.count old.row) (fields_of (Some text)) TimeNotRising) scale
@@ -106,7 +106,7 @@ module _ (limits : Limits) (text : List ℕ) (old new : Progress) (sc : Scaled) 
   -- a row without a fault
   pub row_taken : IsRowRead sc (fields_of (Some text)) new.row → (0 < old.count → old.row.time < new.row.time)
       → new ≡ record old { row = new.row; count = old.count + 1 }
-      → JudgesRow limits text old new (Ok IsARow)
+      → ReadsRow limits text old new (Ok IsARow)
   row_taken r up same =
       row sc.heading is (subst (λ s. IsRow s sc.heading (fields_of (Some text)) new.row) scale r.read)
       (subst (λ s. (k : TraceKind) → ¬ RowFault limits s sc.heading old.count (last_of old.count old.row) (fields_of (Some text)) k) scale
