@@ -4,8 +4,8 @@ use Rattle.std.proofs.Common.{FitsSigned, to_z, of_z, sym, subst, ◌∙◌, pos
 use Rattle.std.specs.Int.{w32, w64}
 use Rattle.std.proofs.lemmas.Int.{ints, to_z-of_z}
 use Rattle.std.proofs.lemmas.List.{drop_more, drop_all}
-use Rattle.atom_lines.specs.declared.tied.BoundTerm.{BoundTerm}
-use Rattle.atom_lines.specs.declared.tied.BoundAtom.{BoundAtom}
+use Rattle.atom_lines.specs.declared.bound_atom.BoundTerm.{BoundTerm}
+use Rattle.atom_lines.specs.declared.bound_atom.BoundAtom.{BoundAtom}
 use Rattle.atom_lines.specs.Sums.{cell, sum_over, reach}
 
 -- a sum goes on by the next term

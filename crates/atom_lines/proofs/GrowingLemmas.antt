@@ -36,7 +36,7 @@ use Rattle.stl_syntax.specs.declared.atom.Atom.{Atom}
 use Rattle.stl_syntax.specs.declared.rel.Rel.{Rel}
 use Rattle.stl_syntax.proofs.TruthLemmas.{same_expression}
 use Rattle.atom_lines.specs.declared.gap.Gap.{Gap}
-use Rattle.atom_lines.specs.declared.tied.BoundAtom.{BoundAtom}
+use Rattle.atom_lines.specs.declared.bound_atom.BoundAtom.{BoundAtom}
 use Rattle.atom_lines.specs.Binding.{Binding, IsFor, HasRow, AreNeighbours}
 use Rattle.atom_lines.specs.Gaps.{along}
 use Rattle.atom_lines.specs.Rows.{row_of, values_at}
@@ -44,11 +44,11 @@ use Rattle.atom_lines.specs.Sums.{reach}
 use Rattle.atom_lines.specs.How.{How, by_truth, worth, reading_of}
 use Rattle.atom_lines.specs.Growing.{IsRowBase, CatchesUp, GoesAlong, HasGrown}
 use Rattle.atom_lines.specs.AtomSignals.{IsAtomSignal}
-use Rattle.atom_lines.proofs.SumLemmas.{tied, expression_at_row, expression_along}
+use Rattle.atom_lines.proofs.SumLemmas.{atom_binding, expression_at_row, expression_along}
 use Rattle.rational.specs.Affine.{IsBounded}
 use Rattle.atom_lines.proofs.Limited.{worth_bounded, along_within}
 use Rattle.pl_signal.proofs.Limits.{limited}
-use Rattle.atom_lines.proofs.Tellings.{worth_same, gives, given}
+use Rattle.atom_lines.proofs.Readings.{worth_same, gives, given}
 
 -- a truth is worth what its comparison is
 pub truth_worth : (w : Truth) (rel : Rel) (y t : Rational) → compares rel y ≡ w.holds → value_at (level (truth_value w.holds)) t ≈ᵉ worth by_truth rel y
@@ -134,7 +134,7 @@ not_less Greater h n = le_of_lt h
 pub gap_in_order : (g : Gap) → whole (pos g.first) <ʳ whole (pos g.second)
 gap_in_order g = before_end g (same_refl (whole (pos g.first))) (same_refl (whole (pos g.second)))
 
-module _ {P : Type 0} (shape : ShapeOf P) (told : How) (rel : Rel) (g : Gap) (next : ℤ) where
+module _ {P : Type 0} (shape : ShapeOf P) (read_as : How) (rel : Rel) (g : Gap) (next : ℤ) where
   abbrev first : Rational
   first = whole (pos g.first)
 
@@ -143,15 +143,15 @@ module _ {P : Type 0} (shape : ShapeOf P) (told : How) (rel : Rel) (g : Gap) (ne
 
   -- what the signal is worth so far, up to the gap, on it, or at its end
   abbrev Part : List (Knot P) → Rational → Extended → Type 0
-  Part old t v = IsWorth shape old t v ⊎ ((stop old <ʳ t) × (t ≤ʳ first) × (v ≈ᵉ worth told rel (whole g.from)))
-      ⊎ ((first <ʳ t) × (t <ʳ second) × (v ≈ᵉ worth told rel (at (along g) t)))
-      ⊎ ((t ≈ second) × (v ≈ᵉ worth told rel (whole next)))
+  Part old t v = IsWorth shape old t v ⊎ ((stop old <ʳ t) × (t ≤ʳ first) × (v ≈ᵉ worth read_as rel (whole g.from)))
+      ⊎ ((first <ʳ t) × (t <ʳ second) × (v ≈ᵉ worth read_as rel (at (along g) t)))
+      ⊎ ((t ≈ second) × (v ≈ᵉ worth read_as rel (whole next)))
 
   -- nothing is added where all is worth the same up to the second row
   pub goes_still : (old : List (Knot P)) → IsSignal shape old → IsWithin (2 ^ 34) (stop old) → stop old ≤ʳ first
-      → worth told rel (whole g.from) ≈ᵉ worth told rel (whole next)
-      → ((t : Rational) → first <ʳ t → t <ʳ second → worth told rel (at (along g) t) ≈ᵉ worth told rel (whole next))
-      → GoesAlong shape told rel g next old old
+      → worth read_as rel (whole g.from) ≈ᵉ worth read_as rel (whole next)
+      → ((t : Rational) → first <ʳ t → t <ʳ second → worth read_as rel (at (along g) t) ≈ᵉ worth read_as rel (whole next))
+      → GoesAlong shape read_as rel g next old old
   goes_still old s w l e on = record {
     signal = s;
     begins = refl;
@@ -167,10 +167,10 @@ module _ {P : Type 0} (shape : ShapeOf P) (told : How) (rel : Rel) (g : Gap) (ne
   -- over one shape, once the signal has caught up with the gap
   pub goes_one : (old mid new : List (Knot P)) (steady after point : P) (end : Frac) → g.second < 2 ^ 32 → value end ≈ second
       → CatchesUp shape steady g.first old mid → GoesOn shape mid after end point new
-      → ((t : Rational) → value_at (shape.function steady) t ≈ᵉ worth told rel (whole g.from))
-      → ((t : Rational) → first <ʳ t → t <ʳ second → value_at (shape.function after) t ≈ᵉ worth told rel (at (along g) t))
-      → ((t : Rational) → value_at (shape.function point) t ≈ᵉ worth told rel (whole next))
-      → IsRowBase (shape.base steady) → IsRowBase (shape.base after) → IsRowBase (shape.base point) → GoesAlong shape told rel g next old new
+      → ((t : Rational) → value_at (shape.function steady) t ≈ᵉ worth read_as rel (whole g.from))
+      → ((t : Rational) → first <ʳ t → t <ʳ second → value_at (shape.function after) t ≈ᵉ worth read_as rel (at (along g) t))
+      → ((t : Rational) → value_at (shape.function point) t ≈ᵉ worth read_as rel (whole next))
+      → IsRowBase (shape.base steady) → IsRowBase (shape.base after) → IsRowBase (shape.base point) → GoesAlong shape read_as rel g next old new
   goes_one old mid new steady after point end m h up on was gap here a b c = record {
     signal = on.signal;
     begins = on.begins ∙ up.begins;
@@ -189,7 +189,7 @@ module _ {P : Type 0} (shape : ShapeOf P) (told : How) (rel : Rel) (g : Gap) (ne
       by_mid : (t : Rational) (v : Extended) → IsWorth shape old t v ⊎ ((stop old <ʳ t) × (t ≤ʳ first) × (v ≈ᵉ value_at (shape.function steady) t))
           → Part old t v
       by_mid t v (inl w) = inl w
-      by_mid t v (inr (l, z, p)) = inr (inl (l, z, same_transᵉ v (value_at (shape.function steady) t) (worth told rel (whole g.from)) p (was t)))
+      by_mid t v (inr (l, z, p)) = inr (inl (l, z, same_transᵉ v (value_at (shape.function steady) t) (worth read_as rel (whole g.from)) p (was t)))
 
       by_part : (t : Rational) (v : Extended) → IsWorth shape mid t v
           ⊎ ((stop mid <ʳ t) × (t <ʳ value end) × Passes (shape.function after) t v) ⊎ ((t ≈ value end) × Passes (shape.function point) t v)
@@ -201,10 +201,10 @@ module _ {P : Type 0} (shape : ShapeOf P) (told : How) (rel : Rel) (g : Gap) (ne
           inr (inr (inl (
             past,
             soon,
-            same_transᵉ v (value_at (shape.function after) t) (worth told rel (at (along g) t)) p (gap t past soon),
+            same_transᵉ v (value_at (shape.function after) t) (worth read_as rel (at (along g) t)) p (gap t past soon),
           )))
       by_part t v (inr (inr (e, p))) =
-          inr (inr (inr (same_trans e h, same_transᵉ v (value_at (shape.function point) t) (worth told rel (whole next)) p (here t))))
+          inr (inr (inr (same_trans e h, same_transᵉ v (value_at (shape.function point) t) (worth read_as rel (whole next)) p (here t))))
 
       by_old : (p : P) → HasShape old p ⊎ (p ≡ steady) → HasShape old p ⊎ IsRowBase (shape.base p)
       by_old p (inl s) = inl s
@@ -218,10 +218,10 @@ module _ {P : Type 0} (shape : ShapeOf P) (told : How) (rel : Rel) (g : Gap) (ne
   -- over one shape, which the atom has from where the signal ends
   pub goes_level : (old new : List (Knot P)) (after point : P) (end : Frac) → g.second < 2 ^ 32 → value end ≈ second → stop old ≤ʳ first
       → GoesOn shape old after end point new
-      → ((t : Rational) → value_at (shape.function after) t ≈ᵉ worth told rel (whole g.from))
-      → ((t : Rational) → first <ʳ t → t <ʳ second → value_at (shape.function after) t ≈ᵉ worth told rel (at (along g) t))
-      → ((t : Rational) → value_at (shape.function point) t ≈ᵉ worth told rel (whole next))
-      → ((p : P) → IsRowBase (shape.base p)) → GoesAlong shape told rel g next old new
+      → ((t : Rational) → value_at (shape.function after) t ≈ᵉ worth read_as rel (whole g.from))
+      → ((t : Rational) → first <ʳ t → t <ʳ second → value_at (shape.function after) t ≈ᵉ worth read_as rel (at (along g) t))
+      → ((t : Rational) → value_at (shape.function point) t ≈ᵉ worth read_as rel (whole next))
+      → ((p : P) → IsRowBase (shape.base p)) → GoesAlong shape read_as rel g next old new
   goes_level old new after point end m h late on was gap here b = record {
     signal = on.signal;
     begins = on.begins;
@@ -239,10 +239,10 @@ module _ {P : Type 0} (shape : ShapeOf P) (told : How) (rel : Rel) (g : Gap) (ne
 
       by_place : (t : Rational) (v : Extended) → (stop old <ʳ t) → (t <ʳ value end) → Passes (shape.function after) t v → (t ≤ʳ first) ⊎ (first <ʳ t)
           → Part old t v
-      by_place t v l z p (inl le) = inr (inl (l, le, same_transᵉ v (value_at (shape.function after) t) (worth told rel (whole g.from)) p (was t)))
+      by_place t v l z p (inl le) = inr (inl (l, le, same_transᵉ v (value_at (shape.function after) t) (worth read_as rel (whole g.from)) p (was t)))
       by_place t v l z p (inr lt) =
           let soon : t <ʳ second = lt_of_lt_of_le z (le_of_same h) in
-          inr (inr (inl (lt, soon, same_transᵉ v (value_at (shape.function after) t) (worth told rel (at (along g) t)) p (gap t lt soon))))
+          inr (inr (inl (lt, soon, same_transᵉ v (value_at (shape.function after) t) (worth read_as rel (at (along g) t)) p (gap t lt soon))))
 
       by_part : (t : Rational) (v : Extended) → IsWorth shape old t v
           ⊎ ((stop old <ʳ t) × (t <ʳ value end) × Passes (shape.function after) t v) ⊎ ((t ≈ value end) × Passes (shape.function point) t v)
@@ -250,7 +250,7 @@ module _ {P : Type 0} (shape : ShapeOf P) (told : How) (rel : Rel) (g : Gap) (ne
       by_part t v (inl w) = inl w
       by_part t v (inr (inl (l, z, p))) = by_place t v l z p (le_or_lt t first)
       by_part t v (inr (inr (e, p))) =
-          inr (inr (inr (same_trans e h, same_transᵉ v (value_at (shape.function point) t) (worth told rel (whole next)) p (here t))))
+          inr (inr (inr (same_trans e h, same_transᵉ v (value_at (shape.function point) t) (worth read_as rel (whole next)) p (here t))))
 
   -- up to a turn inside the gap
   pub record Turned (old mid : List (Knot P)) (before there : P) (turn : Frac) : Type 0 where
@@ -258,21 +258,21 @@ module _ {P : Type 0} (shape : ShapeOf P) (told : How) (rel : Rel) (g : Gap) (ne
     pub after_first : first <ʳ value turn
     pub before_second : value turn <ʳ second
     pub goes : GoesOn shape old before turn there mid
-    pub begins : (t : Rational) → value_at (shape.function before) t ≈ᵉ worth told rel (whole g.from)
-    pub until_then : (t : Rational) → first <ʳ t → t <ʳ value turn → value_at (shape.function before) t ≈ᵉ worth told rel (at (along g) t)
-    pub at_turn : (t : Rational) → t ≈ value turn → value_at (shape.function there) t ≈ᵉ worth told rel (at (along g) t)
+    pub begins : (t : Rational) → value_at (shape.function before) t ≈ᵉ worth read_as rel (whole g.from)
+    pub until_then : (t : Rational) → first <ʳ t → t <ʳ value turn → value_at (shape.function before) t ≈ᵉ worth read_as rel (at (along g) t)
+    pub at_turn : (t : Rational) → t ≈ value turn → value_at (shape.function there) t ≈ᵉ worth read_as rel (at (along g) t)
 
   by_turn : (old mid : List (Knot P)) (before there : P) (turn : Frac) → Turned old mid before there turn
       → (t : Rational) (v : Extended) → IsWorth shape mid t v → Part old t v
   by_turn old mid before there turn d t v h = by_part ((d.goes.worth t v).0 h)
     where
       by_place : (stop old <ʳ t) → (t <ʳ value turn) → Passes (shape.function before) t v → (t ≤ʳ first) ⊎ (first <ʳ t) → Part old t v
-      by_place l z p (inl le) = inr (inl (l, le, same_transᵉ v (value_at (shape.function before) t) (worth told rel (whole g.from)) p (d.begins t)))
+      by_place l z p (inl le) = inr (inl (l, le, same_transᵉ v (value_at (shape.function before) t) (worth read_as rel (whole g.from)) p (d.begins t)))
       by_place l z p (inr lt) =
           inr (inr (inl (
             lt,
             lt_trans z d.before_second,
-            same_transᵉ v (value_at (shape.function before) t) (worth told rel (at (along g) t)) p (d.until_then t lt z),
+            same_transᵉ v (value_at (shape.function before) t) (worth read_as rel (at (along g) t)) p (d.until_then t lt z),
           )))
 
       by_part : IsWorth shape old t v ⊎ ((stop old <ʳ t) × (t <ʳ value turn) × Passes (shape.function before) t v)
@@ -283,14 +283,14 @@ module _ {P : Type 0} (shape : ShapeOf P) (told : How) (rel : Rel) (g : Gap) (ne
           inr (inr (inl (
             lt_of_lt_of_le d.after_first (ge_of_same e),
             lt_of_le_of_lt (le_of_same e) d.before_second,
-            same_transᵉ v (value_at (shape.function there) t) (worth told rel (at (along g) t)) p (d.at_turn t e),
+            same_transᵉ v (value_at (shape.function there) t) (worth read_as rel (at (along g) t)) p (d.at_turn t e),
           )))
 
   -- over a gap with a turn, from which all is worth the same
   pub goes_turn : (old mid : List (Knot P)) (before there : P) (turn : Frac) → g.first < 2 ^ 32 → g.second < 2 ^ 32
       → Turned old mid before there turn
-      → ((t : Rational) → value turn <ʳ t → t <ʳ second → worth told rel (at (along g) t) ≈ᵉ worth told rel (whole next))
-      → ((p : P) → IsRowBase (shape.base p)) → GoesAlong shape told rel g next old mid
+      → ((t : Rational) → value turn <ʳ t → t <ʳ second → worth read_as rel (at (along g) t) ≈ᵉ worth read_as rel (whole next))
+      → ((p : P) → IsRowBase (shape.base p)) → GoesAlong shape read_as rel g next old mid
   goes_turn old mid before there turn n m d from_then b = record {
     signal = d.goes.signal;
     begins = d.goes.begins;
@@ -309,9 +309,9 @@ module _ {P : Type 0} (shape : ShapeOf P) (told : How) (rel : Rel) (g : Gap) (ne
   -- over two shapes, with a point between them
   pub goes_two : (old mid new : List (Knot P)) (before there after point : P) (turn end : Frac) → g.second < 2 ^ 32 → value end ≈ second
       → Turned old mid before there turn → GoesOn shape mid after end point new
-      → ((t : Rational) → value turn <ʳ t → t <ʳ second → value_at (shape.function after) t ≈ᵉ worth told rel (at (along g) t))
-      → ((t : Rational) → value_at (shape.function point) t ≈ᵉ worth told rel (whole next))
-      → ((p : P) → IsRowBase (shape.base p)) → GoesAlong shape told rel g next old new
+      → ((t : Rational) → value turn <ʳ t → t <ʳ second → value_at (shape.function after) t ≈ᵉ worth read_as rel (at (along g) t))
+      → ((t : Rational) → value_at (shape.function point) t ≈ᵉ worth read_as rel (whole next))
+      → ((p : P) → IsRowBase (shape.base p)) → GoesAlong shape read_as rel g next old new
   goes_two old mid new before there after point turn end m h d off from_then here b = record {
     signal = off.signal;
     begins = off.begins ∙ d.goes.begins;
@@ -336,10 +336,10 @@ module _ {P : Type 0} (shape : ShapeOf P) (told : How) (rel : Rel) (g : Gap) (ne
           inr (inr (inl (
             lt_trans d.after_first past,
             soon,
-            same_transᵉ v (value_at (shape.function after) t) (worth told rel (at (along g) t)) p (from_then t past soon),
+            same_transᵉ v (value_at (shape.function after) t) (worth read_as rel (at (along g) t)) p (from_then t past soon),
           )))
       by_part t v (inr (inr (e, p))) =
-          inr (inr (inr (same_trans e h, same_transᵉ v (value_at (shape.function point) t) (worth told rel (whole next)) p (here t))))
+          inr (inr (inr (same_trans e h, same_transᵉ v (value_at (shape.function point) t) (worth read_as rel (whole next)) p (here t))))
 
 first_time_at : (rows : List Row) (d : Row) → 0 < length rows → first_time rows ≡ (get_or rows 0 d).time
 first_time_at [] d h = absurd (omega arith)
@@ -353,18 +353,18 @@ last_time_at time (r ∷ s ∷ rows) zero d h = absurd (omega (arith, h))
 last_time_at time (r ∷ s ∷ rows) (suc n) d h = last_time_at r.time (s ∷ rows) n d (omega (arith, h))
 
 -- what a trace gives an atom is a function of time
-given_is_function : (told_as : How) (tr : Trace) (i : ℕ) (a : Atom) → IsFunction (Gives (reading_of told_as tr) i a)
-given_is_function told_as tr i a = record {
+given_is_function : (read_as : How) (tr : Trace) (i : ℕ) (a : Atom) → IsFunction (Gives (reading_of read_as tr) i a)
+given_is_function read_as tr i a = record {
   alike = λ t u v w e s h.
-      gives told_as tr i a u w (same_transᵉ w v (worth told_as a.rel (expression a tr u)) (same_symᵉ v w s)
-      (same_transᵉ v (worth told_as a.rel (expression a tr t)) (worth told_as a.rel (expression a tr u))
-      (given told_as tr i a t v h) (worth_same told_as a.rel (same_expression a tr e))));
+      gives read_as tr i a u w (same_transᵉ w v (worth read_as a.rel (expression a tr u)) (same_symᵉ v w s)
+      (same_transᵉ v (worth read_as a.rel (expression a tr t)) (worth read_as a.rel (expression a tr u))
+      (given read_as tr i a t v h) (worth_same read_as a.rel (same_expression a tr e))));
   one = λ t v w h k.
-      same_transᵉ v (worth told_as a.rel (expression a tr t)) w (given told_as tr i a t v h)
-      (same_symᵉ w (worth told_as a.rel (expression a tr t)) (given told_as tr i a t w k));
+      same_transᵉ v (worth read_as a.rel (expression a tr t)) w (given read_as tr i a t v h)
+      (same_symᵉ w (worth read_as a.rel (expression a tr t)) (given read_as tr i a t w k));
 }
 
-module _ {P : Type 0} (shape : ShapeOf P) (told_as : How) (b : Binding) (i : ℕ) (tr : Trace) (k : BoundAtom) (here : slice_get b.atoms i ≡ Some (Some k)) where
+module _ {P : Type 0} (shape : ShapeOf P) (read_as : How) (b : Binding) (i : ℕ) (tr : Trace) (k : BoundAtom) (here : slice_get b.atoms i ≡ Some (Some k)) where
   -- the sum at a row is the atom's expression there
   row_is : (n : ℕ) (next : ℤ) (a : Atom) → IsFor b i a tr → n < length tr.rows → next ≡ reach k (values_at tr n) (values_at tr n)
       → (t : Rational) → t ≈ row_time (row_of tr n) → expression a tr t ≈ whole next
@@ -375,18 +375,18 @@ module _ {P : Type 0} (shape : ShapeOf P) (told_as : How) (b : Binding) (i : ℕ
   -- what is worth the sum at a row is what the trace gives there
   at_row : (n : ℕ) (next : ℤ) (a : Atom) → IsFor b i a tr → n < length tr.rows → next ≡ reach k (values_at tr n) (values_at tr n)
       → (t : Rational) (v : Extended) → t ≈ row_time (row_of tr n)
-      → v ≈ᵉ worth told_as k.rel (whole next) → Gives (reading_of told_as tr) i a t v
+      → v ≈ᵉ worth read_as k.rel (whole next) → Gives (reading_of read_as tr) i a t v
   at_row n next a for h e t v when w =
       let is : expression a tr t ≈ whole next = row_is n next a for h e t when in
-      let one : v ≈ᵉ worth told_as a.rel (whole next) = subst (λ q. v ≈ᵉ worth told_as q (whole next)) (tied b i k here a tr for).rel w in
-      gives told_as tr i a t v
-      (same_transᵉ v (worth told_as a.rel (whole next)) (worth told_as a.rel (expression a tr t)) one (worth_same told_as a.rel (same_sym is)))
+      let one : v ≈ᵉ worth read_as a.rel (whole next) = subst (λ q. v ≈ᵉ worth read_as q (whole next)) (atom_binding b i k here a tr for).rel w in
+      gives read_as tr i a t v
+      (same_transᵉ v (worth read_as a.rel (whole next)) (worth read_as a.rel (expression a tr t)) one (worth_same read_as a.rel (same_sym is)))
 
   -- a signal that is begun at the first row
   pub begun : (from : ℤ) (at : Frac) (point : P) (n : ℕ) → n < 2 ^ 32 → value at ≈ whole (pos n) → nat_abs from ≤ 2 ^ 31
       → 0 < length tr.rows → from ≡ reach k (values_at tr 0) (values_at tr 0) → value at ≈ row_time (row_of tr 0)
-      → ((t : Rational) → value_at (shape.function point) t ≈ᵉ worth told_as k.rel (whole from)) → IsRowBase (shape.base point)
-      → HasGrown shape told_as b i tr 0 (record { time = at; point = point; after = point } ∷ [])
+      → ((t : Rational) → value_at (shape.function point) t ≈ᵉ worth read_as k.rel (whole from)) → IsRowBase (shape.base point)
+      → HasGrown shape read_as b i tr 0 (record { time = at; point = point; after = point } ∷ [])
   begun from at point n time is size some e when w c = record {
     signal = record { some = omega arith; each = (record { rising = tt; needed = tt; ends = refl }, tt) };
     begins = subst (λ n. value at ≈ whole (pos n)) (sym (first_time_at tr.rows (record { time = 0; values = [] }) some)) when;
@@ -406,39 +406,39 @@ module _ {P : Type 0} (shape : ShapeOf P) (told_as : How) (b : Binding) (i : ℕ
 
       small : (t : Rational) (v : Extended) → IsWorth shape (record { time = at; point = point; after = point } ∷ []) t v → IsBounded (2 ^ 31) v
       small t v (inl x) =
-          bounded_same (2 ^ 31) v (worth told_as k.rel (whole from))
-          (same_transᵉ v (value_at (shape.function point) t) (worth told_as k.rel (whole from)) x.worth (w t))
-          (worth_bounded told_as k.rel (whole from) (within_whole (2 ^ 31) from size))
+          bounded_same (2 ^ 31) v (worth read_as k.rel (whole from))
+          (same_transᵉ v (value_at (shape.function point) t) (worth read_as k.rel (whole from)) x.worth (w t))
+          (worth_bounded read_as k.rel (whole from) (within_whole (2 ^ 31) from size))
       small t v (inr (inl x)) = absurd x
       small t v (inr (inr x)) = absurd x
 
       by_part : (a : Atom) → IsFor b i a tr → (t : Rational) (v : Extended)
-          → IsWorth shape (record { time = at; point = point; after = point } ∷ []) t v → Gives (reading_of told_as tr) i a t v
+          → IsWorth shape (record { time = at; point = point; after = point } ∷ []) t v → Gives (reading_of read_as tr) i a t v
       by_part a for t v (inl x) = at_row 0 from a for some e t v (same_trans x.when when)
-          (same_transᵉ v (value_at (shape.function point) t) (worth told_as k.rel (whole from)) x.worth (w t))
+          (same_transᵉ v (value_at (shape.function point) t) (worth read_as k.rel (whole from)) x.worth (w t))
       by_part a for t v (inr (inl x)) = absurd x
       by_part a for t v (inr (inr x)) = absurd x
 
   -- while the atom stays as it is at row n, what is worth the sum there is what the trace gives
   while_still : (n : ℕ) (next : ℤ) (s : List (Knot P)) (a : Atom) → IsFor b i a tr → n < length tr.rows
-      → next ≡ reach k (values_at tr n) (values_at tr n) → HasGrown shape told_as b i tr n s
-      → (t : Rational) (v : Extended) → stop s <ʳ t → t ≤ʳ row_time (row_of tr n) → v ≈ᵉ worth told_as k.rel (whole next)
-      → Gives (reading_of told_as tr) i a t v
+      → next ≡ reach k (values_at tr n) (values_at tr n) → HasGrown shape read_as b i tr n s
+      → (t : Rational) (v : Extended) → stop s <ʳ t → t ≤ʳ row_time (row_of tr n) → v ≈ᵉ worth read_as k.rel (whole next)
+      → Gives (reading_of read_as tr) i a t v
   while_still n next s a for h e grown t v low high w =
       let there = row_time (row_of tr n) in
       let is : expression a tr there ≈ whole next = row_is n next a for h e there (same_refl there) in
-      let one : v ≈ᵉ worth told_as a.rel (whole next) = subst (λ q. v ≈ᵉ worth told_as q (whole next)) (tied b i k here a tr for).rel w in
-      let two : v ≈ᵉ worth told_as a.rel (expression a tr there) =
-      same_transᵉ v (worth told_as a.rel (whole next)) (worth told_as a.rel (expression a tr there)) one (worth_same told_as a.rel (same_sym is)) in
-      gives told_as tr i a t v
-      (same_transᵉ v (worth told_as a.rel (expression a tr there)) (worth told_as a.rel (expression a tr t)) two
-      (same_symᵉ (worth told_as a.rel (expression a tr t)) (worth told_as a.rel (expression a tr there)) (grown.since a for t low high)))
+      let one : v ≈ᵉ worth read_as a.rel (whole next) = subst (λ q. v ≈ᵉ worth read_as q (whole next)) (atom_binding b i k here a tr for).rel w in
+      let two : v ≈ᵉ worth read_as a.rel (expression a tr there) =
+      same_transᵉ v (worth read_as a.rel (whole next)) (worth read_as a.rel (expression a tr there)) one (worth_same read_as a.rel (same_sym is)) in
+      gives read_as tr i a t v
+      (same_transᵉ v (worth read_as a.rel (expression a tr there)) (worth read_as a.rel (expression a tr t)) two
+      (same_symᵉ (worth read_as a.rel (expression a tr t)) (worth read_as a.rel (expression a tr there)) (grown.since a for t low high)))
 
   -- and grown over a gap
   pub grown_on : (r n : ℕ) (g : Gap) (next : ℤ) (old new : List (Knot P)) → nat_abs next ≤ 2 ^ 31 → r ≡ suc n → r < length tr.rows
       → g.first ≡ (row_of tr n).time → g.second ≡ (row_of tr r).time
       → g.from ≡ reach k (values_at tr n) (values_at tr n) → g.to ≡ reach k (values_at tr n) (values_at tr r) → next ≡ reach k (values_at tr r) (values_at tr r)
-      → HasGrown shape told_as b i tr n old → GoesAlong shape told_as k.rel g next old new → HasGrown shape told_as b i tr r new
+      → HasGrown shape read_as b i tr n old → GoesAlong shape read_as k.rel g next old new → HasGrown shape read_as b i tr r new
   grown_on r n g next old new size e within f s from to at_next grown goes = record {
     signal = goes.signal;
     begins = subst (λ x. x ≈ trace.start tr) (sym goes.begins) grown.begins;
@@ -458,14 +458,14 @@ module _ {P : Type 0} (shape : ShapeOf P) (told_as : How) (b : Binding) (i : ℕ
       by_shape p (inl h) = grown.bases p h
       by_shape p (inr h) = h
 
-      small : (t : Rational) (v : Extended) → Part shape told_as k.rel g next old t v → IsBounded (2 ^ 31) v
+      small : (t : Rational) (v : Extended) → Part shape read_as k.rel g next old t v → IsBounded (2 ^ 31) v
       small t v (inl w) = grown.small t v w
-      small t v (inr (inl (low, high, w))) = bounded_same (2 ^ 31) v (worth told_as k.rel (whole g.from)) w
-          (worth_bounded told_as k.rel (whole g.from) (within_whole (2 ^ 31) g.from g.small_from))
+      small t v (inr (inl (low, high, w))) = bounded_same (2 ^ 31) v (worth read_as k.rel (whole g.from)) w
+          (worth_bounded read_as k.rel (whole g.from) (within_whole (2 ^ 31) g.from g.small_from))
       small t v (inr (inr (inl (past, high, w)))) =
-          bounded_same (2 ^ 31) v (worth told_as k.rel (at (along g) t)) w (worth_bounded told_as k.rel (at (along g) t) (along_within g t past high))
-      small t v (inr (inr (inr (when, w)))) = bounded_same (2 ^ 31) v (worth told_as k.rel (whole next)) w
-          (worth_bounded told_as k.rel (whole next) (within_whole (2 ^ 31) next size))
+          bounded_same (2 ^ 31) v (worth read_as k.rel (at (along g) t)) w (worth_bounded read_as k.rel (at (along g) t) (along_within g t past high))
+      small t v (inr (inr (inr (when, w)))) = bounded_same (2 ^ 31) v (worth read_as k.rel (whole next)) w
+          (worth_bounded read_as k.rel (whole next) (within_whole (2 ^ 31) next size))
 
       has : AreNeighbours tr (row_of tr n) (row_of tr r)
       has = (
@@ -478,64 +478,64 @@ module _ {P : Type 0} (shape : ShapeOf P) (told_as : How) (b : Binding) (i : ℕ
       on_way a for t past soon = expression_along b i k here a tr for g (row_of tr n) (row_of tr r) t f s from to has
           (subst (λ m. whole (pos m) <ʳ t) f past) (subst (λ m. t <ʳ whole (pos m)) s soon)
 
-      by_part : (a : Atom) → IsFor b i a tr → (t : Rational) (v : Extended) → Part shape told_as k.rel g next old t v → Gives (reading_of told_as tr) i a t v
+      by_part : (a : Atom) → IsFor b i a tr → (t : Rational) (v : Extended) → Part shape read_as k.rel g next old t v → Gives (reading_of read_as tr) i a t v
       by_part a for t v (inl w) = grown.worth a for t v w
       by_part a for t v (inr (inl (low, high, w))) =
           while_still n g.from old a for before from grown t v low (subst (λ m. t ≤ʳ whole (pos m)) f high) w
       by_part a for t v (inr (inr (inl (past, soon, w)))) =
-          let one : v ≈ᵉ worth told_as a.rel (at (along g) t) = subst (λ q. v ≈ᵉ worth told_as q (at (along g) t)) (tied b i k here a tr for).rel w in
-          gives told_as tr i a t v
-          (same_transᵉ v (worth told_as a.rel (at (along g) t)) (worth told_as a.rel (expression a tr t)) one
-          (worth_same told_as a.rel (same_sym (on_way a for t past soon))))
+          let one : v ≈ᵉ worth read_as a.rel (at (along g) t) = subst (λ q. v ≈ᵉ worth read_as q (at (along g) t)) (atom_binding b i k here a tr for).rel w in
+          gives read_as tr i a t v
+          (same_transᵉ v (worth read_as a.rel (at (along g) t)) (worth read_as a.rel (expression a tr t)) one
+          (worth_same read_as a.rel (same_sym (on_way a for t past soon))))
       by_part a for t v (inr (inr (inr (when, w)))) = at_row r next a for within at_next t v (subst (λ m. t ≈ whole (pos m)) s when) w
 
       -- what is worth the sum at the second row is worth what the atom is there
-      up_to : (a : Atom) → IsFor b i a tr → (y : Rational) → worth told_as k.rel y ≈ᵉ worth told_as k.rel (whole next)
-          → worth told_as a.rel y ≈ᵉ worth told_as a.rel (expression a tr (row_time (row_of tr r)))
+      up_to : (a : Atom) → IsFor b i a tr → (y : Rational) → worth read_as k.rel y ≈ᵉ worth read_as k.rel (whole next)
+          → worth read_as a.rel y ≈ᵉ worth read_as a.rel (expression a tr (row_time (row_of tr r)))
       up_to a for y w =
           let there = row_time (row_of tr r) in
           let is : expression a tr there ≈ whole next = row_is r next a for within at_next there (same_refl there) in
-          let one : worth told_as a.rel y ≈ᵉ worth told_as a.rel (whole next) =
-          subst (λ q. worth told_as q y ≈ᵉ worth told_as q (whole next)) (tied b i k here a tr for).rel w in
-          same_transᵉ (worth told_as a.rel y) (worth told_as a.rel (whole next)) (worth told_as a.rel (expression a tr there)) one
-          (worth_same told_as a.rel (same_sym is))
+          let one : worth read_as a.rel y ≈ᵉ worth read_as a.rel (whole next) =
+          subst (λ q. worth read_as q y ≈ᵉ worth read_as q (whole next)) (atom_binding b i k here a tr for).rel w in
+          same_transᵉ (worth read_as a.rel y) (worth read_as a.rel (whole next)) (worth read_as a.rel (expression a tr there)) one
+          (worth_same read_as a.rel (same_sym is))
 
       after : (a : Atom) → IsFor b i a tr → (t : Rational) → stop new <ʳ t → t ≤ʳ row_time (row_of tr r) → whole (pos g.first) <ʳ t
           → (whole (pos g.second) ≤ʳ t) ⊎ (t <ʳ whole (pos g.second))
-          → worth told_as a.rel (expression a tr t) ≈ᵉ worth told_as a.rel (expression a tr (row_time (row_of tr r)))
+          → worth read_as a.rel (expression a tr t) ≈ᵉ worth read_as a.rel (expression a tr (row_time (row_of tr r)))
       after a for t low high past (inl le) =
-          worth_same told_as a.rel (same_expression a tr (same_of_le high (subst (λ m. whole (pos m) ≤ʳ t) s le)))
+          worth_same read_as a.rel (same_expression a tr (same_of_le high (subst (λ m. whole (pos m) ≤ʳ t) s le)))
       after a for t low high past (inr soon) =
           let there = row_time (row_of tr r) in
-          same_transᵉ (worth told_as a.rel (expression a tr t)) (worth told_as a.rel (at (along g) t)) (worth told_as a.rel (expression a tr there))
-          (worth_same told_as a.rel (on_way a for t past soon)) (up_to a for (at (along g) t) (goes.on t low past soon))
+          same_transᵉ (worth read_as a.rel (expression a tr t)) (worth read_as a.rel (at (along g) t)) (worth read_as a.rel (expression a tr there))
+          (worth_same read_as a.rel (on_way a for t past soon)) (up_to a for (at (along g) t) (goes.on t low past soon))
 
       by_place : (a : Atom) → IsFor b i a tr → (t : Rational) → stop new <ʳ t → t ≤ʳ row_time (row_of tr r)
           → (t ≤ʳ whole (pos g.first)) ⊎ (whole (pos g.first) <ʳ t)
-          → worth told_as a.rel (expression a tr t) ≈ᵉ worth told_as a.rel (expression a tr (row_time (row_of tr r)))
+          → worth read_as a.rel (expression a tr t) ≈ᵉ worth read_as a.rel (expression a tr (row_time (row_of tr r)))
       by_place a for t low high (inr past) = after a for t low high past (le_or_lt (whole (pos g.second)) t)
       by_place a for t low high (inl le) =
           let mid = row_time (row_of tr n) in
           let there = row_time (row_of tr r) in
           let is : expression a tr mid ≈ whole g.from = row_is n g.from a for before from mid (same_refl mid) in
-          let one : worth told_as a.rel (expression a tr t) ≈ᵉ worth told_as a.rel (expression a tr mid) =
+          let one : worth read_as a.rel (expression a tr t) ≈ᵉ worth read_as a.rel (expression a tr mid) =
           grown.since a for t (lt_of_le_of_lt goes.later low) (subst (λ m. t ≤ʳ whole (pos m)) f le) in
-          let two : worth told_as a.rel (expression a tr t) ≈ᵉ worth told_as a.rel (whole g.from) =
-          same_transᵉ (worth told_as a.rel (expression a tr t)) (worth told_as a.rel (expression a tr mid)) (worth told_as a.rel (whole g.from)) one
-          (worth_same told_as a.rel is) in
-          same_transᵉ (worth told_as a.rel (expression a tr t)) (worth told_as a.rel (whole g.from)) (worth told_as a.rel (expression a tr there)) two
+          let two : worth read_as a.rel (expression a tr t) ≈ᵉ worth read_as a.rel (whole g.from) =
+          same_transᵉ (worth read_as a.rel (expression a tr t)) (worth read_as a.rel (expression a tr mid)) (worth read_as a.rel (whole g.from)) one
+          (worth_same read_as a.rel is) in
+          same_transᵉ (worth read_as a.rel (expression a tr t)) (worth read_as a.rel (whole g.from)) (worth read_as a.rel (expression a tr there)) two
           (up_to a for (whole g.from) (goes.before (lt_of_lt_of_le low le)))
 
   -- a signal that has grown to the last row, and then was caught up with it, is the atom's
   pub whole_signal : (n time : ℕ) (next : ℤ) (steady : P) (old new : List (Knot P)) → nat_abs next ≤ 2 ^ 31 → length tr.rows ≡ suc n
       → time < 2 ^ 32 → time ≡ (row_of tr n).time → next ≡ reach k (values_at tr n) (values_at tr n)
-      → ((t : Rational) → value_at (shape.function steady) t ≈ᵉ worth told_as k.rel (whole next)) → IsRowBase (shape.base steady)
-      → HasGrown shape told_as b i tr n old → CatchesUp shape steady time old new → IsAtomSignal shape (reading_of told_as) b i tr new
+      → ((t : Rational) → value_at (shape.function steady) t ≈ᵉ worth read_as k.rel (whole next)) → IsRowBase (shape.base steady)
+      → HasGrown shape read_as b i tr n old → CatchesUp shape steady time old new → IsAtomSignal shape (reading_of read_as) b i tr new
   whole_signal n time next steady old new size e few at_time at_next is base grown up = record {
     signal = up.signal;
     begins = begins;
     ends = ends;
-    tells = λ a for. told shape (Gives (reading_of told_as tr) i a) (trace.start tr) (trace.stop tr) new (given_is_function told_as tr i a)
+    tells = λ a for. told shape (Gives (reading_of read_as tr) i a) (trace.start tr) (trace.stop tr) new (given_is_function read_as tr i a)
         (record { signal = up.signal; worth = λ t v h. by_part a for t v (up.worth t v h) }) begins ends;
     bases = λ p h. by_shape p (up.shapes p h);
     limited = limited shape new up.signal (λ t v h. small t v (up.worth t v h)) (subst (IsWithin (2 ^ 34)) (sym up.begins) grown.early)
@@ -555,18 +555,18 @@ module _ {P : Type 0} (shape : ShapeOf P) (told_as : How) (b : Binding) (i : ℕ
       by_shape p (inl h) = grown.bases p h
       by_shape p (inr h) = subst (λ q. IsRowBase (shape.base q)) (sym h) base
 
-      worth_is : (t : Rational) (v : Extended) → v ≈ᵉ value_at (shape.function steady) t → v ≈ᵉ worth told_as k.rel (whole next)
-      worth_is t v w = same_transᵉ v (value_at (shape.function steady) t) (worth told_as k.rel (whole next)) w (is t)
+      worth_is : (t : Rational) (v : Extended) → v ≈ᵉ value_at (shape.function steady) t → v ≈ᵉ worth read_as k.rel (whole next)
+      worth_is t v w = same_transᵉ v (value_at (shape.function steady) t) (worth read_as k.rel (whole next)) w (is t)
 
       small : (t : Rational) (v : Extended) → IsWorth shape old t v ⊎ ((stop old <ʳ t) × (t ≤ʳ whole (pos time)) × (v ≈ᵉ value_at (shape.function steady) t))
           → IsBounded (2 ^ 31) v
       small t v (inl w) = grown.small t v w
-      small t v (inr (low, high, w)) = bounded_same (2 ^ 31) v (worth told_as k.rel (whole next)) (worth_is t v w)
-          (worth_bounded told_as k.rel (whole next) (within_whole (2 ^ 31) next size))
+      small t v (inr (low, high, w)) = bounded_same (2 ^ 31) v (worth read_as k.rel (whole next)) (worth_is t v w)
+          (worth_bounded read_as k.rel (whole next) (within_whole (2 ^ 31) next size))
 
       by_part : (a : Atom) → IsFor b i a tr → (t : Rational) (v : Extended)
           → IsWorth shape old t v ⊎ ((stop old <ʳ t) × (t ≤ʳ whole (pos time)) × (v ≈ᵉ value_at (shape.function steady) t))
-          → Gives (reading_of told_as tr) i a t v
+          → Gives (reading_of read_as tr) i a t v
       by_part a for t v (inl w) = grown.worth a for t v w
       by_part a for t v (inr (low, high, w)) =
           while_still n next old a for within at_next grown t v low (subst (λ m. t ≤ʳ whole (pos m)) at_time high) (worth_is t v w)

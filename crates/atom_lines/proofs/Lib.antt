@@ -1,10 +1,10 @@
-pub mod TyingLemmas
+pub mod BindingLemmas
 pub mod Columns
 pub mod SumLemmas
 pub mod Signs
 pub mod Crossings
 pub mod Margins
 pub mod Adding
-pub mod Tellings
+pub mod Readings
 pub mod Limited
 pub mod GrowingLemmas

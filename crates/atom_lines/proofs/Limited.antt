@@ -34,7 +34,7 @@ turned_within {y} h AtMost = (le_negate h.1, le_negate h.0)
 turned_within {y} h Below = (le_negate h.1, le_negate h.0)
 
 -- what an atom is worth is bounded where its sum is
-pub worth_bounded : (told : How) (rel : Rel) (y : Rational) → IsWithin (2 ^ 31) y → IsBounded (2 ^ 31) (worth told rel y)
+pub worth_bounded : (read_as : How) (rel : Rel) (y : Rational) → IsWithin (2 ^ 31) y → IsBounded (2 ^ 31) (worth read_as rel y)
 worth_bounded by_truth rel y h = truth_within (compares rel y)
 worth_bounded by_margin rel y h = turned_within h rel
 

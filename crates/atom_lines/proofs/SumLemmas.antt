@@ -13,9 +13,9 @@ use Rattle.stl_syntax.specs.Trace.{Column, Row, Trace, IsTrace, row_time, value,
 use Rattle.stl_syntax.specs.Truth.{sum_at, expression}
 use Rattle.stl_syntax.specs.declared.atom.Atom.{Atom}
 use Rattle.stl_syntax.specs.declared.atom.Term.{Term}
-use Rattle.atom_lines.specs.declared.tied.BoundTerm.{BoundTerm}
-use Rattle.atom_lines.specs.declared.tied.BoundAtom.{BoundAtom}
-use Rattle.atom_lines.specs.Binding.{Binding, IsColumn, AreTied, IsAtomTied, IsFor, HasRow, AreNeighbours}
+use Rattle.atom_lines.specs.declared.bound_atom.BoundTerm.{BoundTerm}
+use Rattle.atom_lines.specs.declared.bound_atom.BoundAtom.{BoundAtom}
+use Rattle.atom_lines.specs.Binding.{Binding, IsColumn, AreTermBindings, IsAtomBinding, IsFor, HasRow, AreNeighbours}
 use Rattle.atom_lines.specs.Sums.{cell, sum_over, reach}
 use Rattle.atom_lines.specs.declared.gap.Gap.{Gap}
 use Rattle.atom_lines.specs.Gaps.{along}
@@ -28,24 +28,24 @@ abbrev AreOnWay : List Column → Trace → Rational → Rational → List ℤ �
 AreOnWay columns tr t x first second =
     (k : BoundTerm) (name : List ℕ) → IsColumn columns name k.column k.step → value_of tr name t ≈ on_way (cell k first first) (cell k first second) x
 
-sum_on_way : (columns : List Column) (ts : List Term) (ks : List BoundTerm) (tr : Trace) (t x : Rational) (first second : List ℤ) → AreTied columns ts ks
+sum_on_way : (columns : List Column) (ts : List Term) (ks : List BoundTerm) (tr : Trace) (t x : Rational) (first second : List ℤ) → AreTermBindings columns ts ks
     → AreOnWay columns tr t x first second → sum_at ts tr t ≈ on_way (sum_over ks first first) (sum_over ks first second) x
-sum_on_way columns [] [] tr t x first second tied h = same_sym (way_starts (pos 0) x)
-sum_on_way columns [] (k ∷ ks) tr t x first second tied h = absurd tied
-sum_on_way columns (l ∷ ts) [] tr t x first second tied h = absurd tied
-sum_on_way columns (l ∷ ts) (k ∷ ks) tr t x first second tied h =
+sum_on_way columns [] [] tr t x first second binding h = same_sym (way_starts (pos 0) x)
+sum_on_way columns [] (k ∷ ks) tr t x first second binding h = absurd binding
+sum_on_way columns (l ∷ ts) [] tr t x first second binding h = absurd binding
+sum_on_way columns (l ∷ ts) (k ∷ ks) tr t x first second binding h =
     let one : times l.coef (value_of tr l.name t) ≈ on_way (k.coef *ℤ cell k first first) (k.coef *ℤ cell k first second) x =
-    subst (λ n. times n (value_of tr l.name t) ≈ on_way (k.coef *ℤ cell k first first) (k.coef *ℤ cell k first second) x) tied.0.coef
-    (same_trans (same_times k.coef (h k l.name tied.0.column)) (way_times k.coef (cell k first first) (cell k first second) x)) in
-    same_trans (same_add one (sum_on_way columns ts ks tr t x first second tied.1 h))
+    subst (λ n. times n (value_of tr l.name t) ≈ on_way (k.coef *ℤ cell k first first) (k.coef *ℤ cell k first second) x) binding.0.coef
+    (same_trans (same_times k.coef (h k l.name binding.0.column)) (way_times k.coef (cell k first first) (cell k first second) x)) in
+    same_trans (same_add one (sum_on_way columns ts ks tr t x first second binding.1 h))
     (way_sum (k.coef *ℤ cell k first first) (k.coef *ℤ cell k first second) (sum_over ks first first) (sum_over ks first second) x)
 
-expression_on_way : (a : Atom) (k : BoundAtom) (tr : Trace) (t x : Rational) (first second : List ℤ) → IsAtomTied tr.header.columns a k
+expression_on_way : (a : Atom) (k : BoundAtom) (tr : Trace) (t x : Rational) (first second : List ℤ) → IsAtomBinding tr.header.columns a k
     → AreOnWay tr.header.columns tr t x first second → expression a tr t ≈ on_way (reach k first first) (reach k first second) x
 unfolding expression
-expression_on_way a k tr t x first second tied h =
-    subst (λ l. subtract (sum_at a.terms tr t) (whole l) ≈ on_way (reach k first first) (reach k first second) x) tied.limit
-    (same_trans (same_subtract (sum_on_way tr.header.columns a.terms k.terms.items tr t x first second tied.terms h) (same_refl (whole k.limit)))
+expression_on_way a k tr t x first second binding h =
+    subst (λ l. subtract (sum_at a.terms tr t) (whole l) ≈ on_way (reach k first first) (reach k first second) x) binding.limit
+    (same_trans (same_subtract (sum_on_way tr.header.columns a.terms k.terms.items tr t x first second binding.terms h) (same_refl (whole k.limit)))
     (way_less (sum_over k.terms.items first first) (sum_over k.terms.items first second) k.limit x))
 
 -- a cell of one row is the row's value
@@ -85,16 +85,16 @@ gap_on_way tr r s t p ok has low high = λ k name column.
 
 module _ (b : Binding) (i : ℕ) (k : BoundAtom) (here : slice_get b.atoms i ≡ Some (Some k)) (a : Atom) (tr : Trace) (for : IsFor b i a tr) where
   -- the atom that is bound is the one of the formula
-  pub tied : IsAtomTied tr.header.columns a k
-  tied =
+  pub atom_binding : IsAtomBinding tr.header.columns a k
+  atom_binding =
       let x = for.bound.atoms i a for.node in
       let same : Some x.0 ≡ Some k = same_Some (Some x.0) (Some k) (sym x.1 ∙ here) in
-      subst (λ l. IsAtomTied tr.header.columns a l) (same_Some x.0 k same) x.2
+      subst (λ l. IsAtomBinding tr.header.columns a l) (same_Some x.0 k same) x.2
 
   -- at a row the expression is what the row's values sum to
   pub expression_at_row : (r : Row) (t : Rational) → HasRow tr r → t ≈ row_time r → expression a tr t ≈ whole (reach k r.values r.values)
   expression_at_row r t has e =
-      same_trans (expression_on_way a k tr t (whole (pos 0)) r.values r.values tied (row_on_way tr r t (whole (pos 0)) for.rows has e))
+      same_trans (expression_on_way a k tr t (whole (pos 0)) r.values r.values atom_binding (row_on_way tr r t (whole (pos 0)) for.rows has e))
       (way_starts (reach k r.values r.values) (whole (pos 0)))
 
   -- on a gap it is on the line from there to what steps of the first row and ramps of the second sum to
@@ -102,7 +102,7 @@ module _ (b : Binding) (i : ℕ) (k : BoundAtom) (here : slice_get b.atoms i ≡
       → expression a tr t
       ≈ at (ramp_line (pos r.time) (reach k r.values r.values) (reach k r.values s.values -ℤ reach k r.values r.values) (s.time - r.time) p) t
   expression_in_gap r s p t has low high =
-      same_trans (expression_on_way a k tr t (passed (pos r.time) (s.time - r.time) p t) r.values s.values tied (gap_on_way tr r s t p for.rows has low high))
+      same_trans (expression_on_way a k tr t (passed (pos r.time) (s.time - r.time) p t) r.values s.values atom_binding (gap_on_way tr r s t p for.rows has low high))
       (same_sym (way_ramp (pos r.time) (reach k r.values r.values) (reach k r.values s.values) (s.time - r.time) p t))
 
   -- so it is on the line of the gap

@@ -5,8 +5,8 @@ use Rattle.stl_syntax.specs.Formula.{Formula}
 use Rattle.stl_syntax.specs.declared.atom.Atom.{Atom}
 use Rattle.stl_syntax.specs.declared.atom.Term.{Term}
 use Rattle.stl_syntax.specs.declared.node.Node.TheVariants.{Atom as Leaf}
-use Rattle.atom_lines.specs.declared.tied.BoundTerm.{BoundTerm}
-use Rattle.atom_lines.specs.declared.tied.BoundAtom.{BoundAtom}
+use Rattle.atom_lines.specs.declared.bound_atom.BoundTerm.{BoundTerm}
+use Rattle.atom_lines.specs.declared.bound_atom.BoundAtom.{BoundAtom}
 
 -- how many columns a row has, and the atoms, each at the place of its node
 pub record Binding : Type 0 where
@@ -20,27 +20,27 @@ IsColumn (k ∷ columns) name zero step = (k.name ≡ name) × (k.step ≡ step)
 IsColumn (k ∷ columns) name (suc place) step = (k.name ≢ name) × IsColumn columns name place step
 
 -- the column of the term, with the term's coefficient
-pub record IsTied (columns : List Column) (t : Term) (k : BoundTerm) : Type 0 where
+pub record IsTermBinding (columns : List Column) (t : Term) (k : BoundTerm) : Type 0 where
   pub coef : k.coef ≡ t.coef
   pub column : IsColumn columns t.name k.column k.step
 
 -- the columns of the terms, one for each
-abbrev pub AreTied : List Column → List Term → List BoundTerm → Type 0
-AreTied columns [] [] = Unit {0}
-AreTied columns [] (k ∷ ks) = ⊥
-AreTied columns (t ∷ ts) [] = ⊥
-AreTied columns (t ∷ ts) (k ∷ ks) = IsTied columns t k × AreTied columns ts ks
+abbrev pub AreTermBindings : List Column → List Term → List BoundTerm → Type 0
+AreTermBindings columns [] [] = Unit {0}
+AreTermBindings columns [] (k ∷ ks) = ⊥
+AreTermBindings columns (t ∷ ts) [] = ⊥
+AreTermBindings columns (t ∷ ts) (k ∷ ks) = IsTermBinding columns t k × AreTermBindings columns ts ks
 
 -- the atom with columns in place of names
-pub record IsAtomTied (columns : List Column) (a : Atom) (k : BoundAtom) : Type 0 where
-  pub terms : AreTied columns a.terms k.terms.items
+pub record IsAtomBinding (columns : List Column) (a : Atom) (k : BoundAtom) : Type 0 where
+  pub terms : AreTermBindings columns a.terms k.terms.items
   pub rel : k.rel ≡ a.rel
   pub limit : k.limit ≡ a.limit
 
 -- the binding has the atoms of the formula, over the columns of the header
 pub record IsBound (b : Binding) (f : Formula) (h : Header) : Type 0 where
   pub width : b.width ≡ length h.columns
-  pub atoms : (i : ℕ) (a : Atom) → slice_get f.nodes i ≡ Some (Leaf a) → (k : BoundAtom) × (slice_get b.atoms i ≡ Some (Some k)) × IsAtomTied h.columns a k
+  pub atoms : (i : ℕ) (a : Atom) → slice_get f.nodes i ≡ Some (Leaf a) → (k : BoundAtom) × (slice_get b.atoms i ≡ Some (Some k)) × IsAtomBinding h.columns a k
 
 -- the node is an atom
 abbrev pub IsAtomNode : Binding → ℕ → Type 0

@@ -8,10 +8,10 @@ use Rattle.stl_syntax.specs.declared.atom.Atom.{Atom}
 use Rattle.stl_syntax.specs.declared.atom.Term.{Term}
 use Rattle.stl_syntax.specs.declared.node.Node.{Node}
 use Rattle.stl_syntax.specs.declared.node.Node.TheVariants.{Atom as Leaf}
-use Rattle.atom_lines.specs.declared.tied.BoundAtom.{BoundAtom}
-use Rattle.atom_lines.specs.Binding.{IsAtomTied}
-use Rattle.atom_lines.specs.declared.tying.BindFault.{BindFault}
-use Rattle.atom_lines.specs.declared.tying.BindFault.TheVariants.{UnknownColumn, Memory}
+use Rattle.atom_lines.specs.declared.bound_atom.BoundAtom.{BoundAtom}
+use Rattle.atom_lines.specs.Binding.{IsAtomBinding}
+use Rattle.atom_lines.specs.declared.binding.BindFault.{BindFault}
+use Rattle.atom_lines.specs.declared.binding.BindFault.TheVariants.{UnknownColumn, Memory}
 
 -- the first term in post-order whose name is no column; want of memory is free
 abbrev pub IsBindFault : List Column → Formula → BindFault → Type 0
@@ -41,12 +41,12 @@ IsFaultAt columns i n (UnknownColumn atom term) = ⊥
 IsFaultAt columns i n Memory = Unit {0}
 
 -- what a node's place holds in a binding
-abbrev pub IsNodeTied : List Column → Node → Option BoundAtom → Type 0
-IsNodeTied columns (Leaf a) None = ⊥
-IsNodeTied columns (Leaf a) (Some k) = IsAtomTied columns a k
-IsNodeTied columns n k = Unit {0}
+abbrev pub IsNodeBinding : List Column → Node → Option BoundAtom → Type 0
+IsNodeBinding columns (Leaf a) None = ⊥
+IsNodeBinding columns (Leaf a) (Some k) = IsAtomBinding columns a k
+IsNodeBinding columns n k = Unit {0}
 
 -- what the places of the first nodes hold
-pub record AreNodesTied (columns : List Column) (nodes : List Node) (count : ℕ) (atoms : List (Option BoundAtom)) : Type 0 where
+pub record AreNodeBindings (columns : List Column) (nodes : List Node) (count : ℕ) (atoms : List (Option BoundAtom)) : Type 0 where
   pub count_is : length atoms ≡ count
-  pub each : (i : ℕ) (n : Node) (k : Option BoundAtom) → slice_get nodes i ≡ Some n → slice_get atoms i ≡ Some k → IsNodeTied columns n k
+  pub each : (i : ℕ) (n : Node) (k : Option BoundAtom) → slice_get nodes i ≡ Some n → slice_get atoms i ≡ Some k → IsNodeBinding columns n k

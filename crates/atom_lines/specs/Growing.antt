@@ -15,7 +15,7 @@ use Rattle.stl_syntax.specs.SupInf.{Gives}
 use Rattle.stl_syntax.specs.declared.atom.Atom.{Atom}
 use Rattle.stl_syntax.specs.declared.rel.Rel.{Rel}
 use Rattle.atom_lines.specs.declared.gap.Gap.{Gap}
-use Rattle.atom_lines.specs.declared.tied.BoundAtom.{BoundAtom}
+use Rattle.atom_lines.specs.declared.bound_atom.BoundAtom.{BoundAtom}
 use Rattle.atom_lines.specs.Binding.{Binding, IsFor}
 use Rattle.atom_lines.specs.Gaps.{along}
 use Rattle.atom_lines.specs.Rows.{row_of, values_at}
@@ -48,24 +48,24 @@ module _ {P : Type 0} (shape : ShapeOf P) where
 
   -- the signal goes on over the gap, and has at its end what `next` is worth; up to the gap it has what the sum is worth at the gap's
   -- begin. Where the new signal ends before that, all up to there is worth the same
-  pub record GoesAlong (told : How) (rel : Rel) (g : Gap) (next : ℤ) (old new : List (Knot P)) : Type 0 where
+  pub record GoesAlong (read_as : How) (rel : Rel) (g : Gap) (next : ℤ) (old new : List (Knot P)) : Type 0 where
     pub signal : IsSignal shape new
     pub begins : start new ≡ start old
     pub later : stop old ≤ʳ stop new
     pub ends : stop new ≤ʳ whole (pos g.second)
     pub late : IsWithin (2 ^ 34) (stop new)
-    pub before : stop new <ʳ whole (pos g.first) → worth told rel (whole g.from) ≈ᵉ worth told rel (whole next)
+    pub before : stop new <ʳ whole (pos g.first) → worth read_as rel (whole g.from) ≈ᵉ worth read_as rel (whole next)
     pub on : (t : Rational) → stop new <ʳ t → whole (pos g.first) <ʳ t → t <ʳ whole (pos g.second)
-        → worth told rel (at (along g) t) ≈ᵉ worth told rel (whole next)
+        → worth read_as rel (at (along g) t) ≈ᵉ worth read_as rel (whole next)
     pub worth : (t : Rational) (v : Extended) → IsWorth shape new t v
         → IsWorth shape old t v
-        ⊎ ((stop old <ʳ t) × (t ≤ʳ whole (pos g.first)) × (v ≈ᵉ worth told rel (whole g.from)))
-        ⊎ ((whole (pos g.first) <ʳ t) × (t <ʳ whole (pos g.second)) × (v ≈ᵉ worth told rel (at (along g) t)))
-        ⊎ ((t ≈ whole (pos g.second)) × (v ≈ᵉ worth told rel (whole next)))
+        ⊎ ((stop old <ʳ t) × (t ≤ʳ whole (pos g.first)) × (v ≈ᵉ worth read_as rel (whole g.from)))
+        ⊎ ((whole (pos g.first) <ʳ t) × (t <ʳ whole (pos g.second)) × (v ≈ᵉ worth read_as rel (at (along g) t)))
+        ⊎ ((t ≈ whole (pos g.second)) × (v ≈ᵉ worth read_as rel (whole next)))
     pub bases : (p : P) → HasShape new p → HasShape old p ⊎ IsRowBase (shape.base p)
 
   -- the signal tells the atom from the start of the trace on; from where it ends up to row k the atom is worth what it is there
-  pub record HasGrown (told : How) (b : Binding) (i : ℕ) (tr : Trace) (k : ℕ) (s : List (Knot P)) : Type 0 where
+  pub record HasGrown (read_as : How) (b : Binding) (i : ℕ) (tr : Trace) (k : ℕ) (s : List (Knot P)) : Type 0 where
     pub signal : IsSignal shape s
     pub begins : start s ≈ trace.start tr
     pub ends : stop s ≤ʳ row_time (row_of tr k)
@@ -74,5 +74,5 @@ module _ {P : Type 0} (shape : ShapeOf P) where
     pub small : (t : Rational) (v : Extended) → IsWorth shape s t v → IsBounded (2 ^ 31) v
     pub bases : (p : P) → HasShape s p → IsRowBase (shape.base p)
     pub since : (a : Atom) → IsFor b i a tr → (t : Rational) → stop s <ʳ t → t ≤ʳ row_time (row_of tr k)
-        → worth told a.rel (expression a tr t) ≈ᵉ worth told a.rel (expression a tr (row_time (row_of tr k)))
-    pub worth : (a : Atom) → IsFor b i a tr → (t : Rational) (v : Extended) → IsWorth shape s t v → Gives (reading_of told tr) i a t v
+        → worth read_as a.rel (expression a tr t) ≈ᵉ worth read_as a.rel (expression a tr (row_time (row_of tr k)))
+    pub worth : (a : Atom) → IsFor b i a tr → (t : Rational) (v : Extended) → IsWorth shape s t v → Gives (reading_of read_as tr) i a t v

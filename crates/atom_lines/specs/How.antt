@@ -1,4 +1,4 @@
--- How an atom is told, by its truth or by its margin, and what it is worth by how far its sum lies above its constant.
+-- How an atom is read, by its truth or by its margin, and what it is worth by how far its sum lies above its constant.
 use Rattle.rational.specs.Time.{Rational, whole}
 use Rattle.rational.specs.Extended.{Extended, finite}
 use Rattle.value_laws.specs.Values.{truth_value}

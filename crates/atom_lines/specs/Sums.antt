@@ -1,7 +1,7 @@
 -- The sum that an atom compares with its constant, over the values of one row or of two. What is computed; the meaning stands in `stl_syntax`.
 use Rattle.std.specs.Prelude.{ℕ, ◌<◌, ◌≤◌, nat_abs, ℤ, pos, ◌+ℤ◌, ◌-ℤ◌, ◌*ℤ◌, if◌then◌else◌, List, [], ◌∷◌, length, Option, Some, None, All, slice_index_or}
-use Rattle.atom_lines.specs.declared.tied.BoundTerm.{BoundTerm}
-use Rattle.atom_lines.specs.declared.tied.BoundAtom.{BoundAtom}
+use Rattle.atom_lines.specs.declared.bound_atom.BoundTerm.{BoundTerm}
+use Rattle.atom_lines.specs.declared.bound_atom.BoundAtom.{BoundAtom}
 
 -- a step's value among the first values, and a ramp's among the second
 abbrev pub cell : BoundTerm → List ℤ → List ℤ → ℤ

@@ -1,7 +1,7 @@
 //! A formula's atoms over the columns of a header.
 ghost use Rattle.std.specs.Prelude.{◌≡◌, ◌<◌, slice_get, Some};
 
-use crate::tied::BoundAtom;
+use crate::bound_atom::BoundAtom;
 use std::marker::Model;
 
 /// A formula's atoms with a header's columns in place of names, so that rows are read without looking for a name.

@@ -1,7 +1,9 @@
 //! Atoms over the rows of a trace: their truth and their margins at rows, on the gaps between rows, and over a whole trace.
 #![tactic(auto)]
 
+mod binding;
 mod bound;
+mod bound_atom;
 mod cells;
 mod gap;
 mod margin;
@@ -9,12 +11,10 @@ mod piecewise;
 mod points;
 mod signal;
 mod sum;
-mod tied;
 mod truth;
-mod tying;
 
+pub use binding::{BindFault, bind};
 pub use bound::Bound;
 pub use points::{margin_piece, margin_point, truth_piece, truth_point, truth_step};
 pub use signal::{AtomShape, atom_signal};
 pub use truth::TruthPiece;
-pub use tying::{BindFault, bind};

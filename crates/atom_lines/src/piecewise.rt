@@ -18,15 +18,15 @@ use std::cmp::Ordering;
 use stl_syntax::Rel;
 use value_laws::{Margin, Shape, Truth};
 
-/// A shape in which an atom is told, at rows and on the gaps between them.
+/// A shape in which an atom is read, at rows and on the gaps between them.
 pub(crate) trait Piecewise: Shape {
-    /// How it is told.
-    ghost told: { How };
+    /// How it is read.
+    ghost read_as: { How };
 
     /// What a comparison is worth whose sum lies `value` above its constant.
     fn point(rel: Rel, value: i64) -> Self
         requires { unsigned_abs value ≤ 2 ^ 31 }
-        ensures worth { (t : Rational) → value_at (Self.function result) t ≈ᵉ worth told rel (whole value) }
+        ensures worth { (t : Rational) → value_at (Self.function result) t ≈ᵉ worth read_as rel (whole value) }
         ensures base { IsRowBase (Self.base result) };
 
     /// Goes on over a gap, at whose end the sum lies `next` above the constant. Where the signal ends before the gap, the atom is
@@ -36,13 +36,13 @@ pub(crate) trait Piecewise: Shape {
         requires signal { IsSignal Self.Shape signal.old }
         requires limited { IsWithin (2 ^ 34) (stop signal.old) }
         requires late { stop signal.old ≤ʳ whole (pos gap.now.first) }
-        ensures { OnOk result (GoesAlong Self.Shape told rel gap.now next signal.old signal.new) };
+        ensures { OnOk result (GoesAlong Self.Shape read_as rel gap.now next signal.old signal.new) };
 }
 
 impl Piecewise for Truth {
     ghost use Rattle.atom_lines.specs.How.{by_truth};
 
-    ghost told = { by_truth };
+    ghost read_as = { by_truth };
 
     fn point(rel: Rel, value: i64) -> Truth {
         truth_at(rel, value)
@@ -62,7 +62,7 @@ impl Piecewise for Truth {
 impl Piecewise for Margin {
     ghost use Rattle.atom_lines.specs.How.{by_margin};
 
-    ghost told = { by_margin };
+    ghost read_as = { by_margin };
 
     fn point(rel: Rel, value: i64) -> Margin {
         margin_at(rel, value)

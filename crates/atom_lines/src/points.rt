@@ -11,11 +11,11 @@ ghost use Rattle.atom_lines.specs.Points.{IsTruthAt, IsTruthOn, IsMarginAt, IsMa
 ghost use Rattle.atom_lines.specs.Sums.{sum_over, reach, IsAtomSound};
 
 use crate::bound::Bound;
+use crate::bound_atom::BoundAtom;
 use crate::cells::Cells;
 use crate::gap::Gap;
 use crate::margin::{margin_at, margin_between};
 use crate::sum::{reach_of, reaches_of};
-use crate::tied::BoundAtom;
 use crate::truth::{TruthPiece, truth_at, truth_between, truth_onward};
 use trace_reader::Row;
 use value_laws::{Margin, Truth};

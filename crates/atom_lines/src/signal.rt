@@ -8,18 +8,18 @@ ghost use Rattle.atom_lines.specs.Growing.{HasGrown, IsReachAt};
 ghost use Rattle.atom_lines.specs.How.{reading_of};
 
 use crate::bound::Bound;
+use crate::bound_atom::BoundAtom;
 use crate::cells::row_at;
 use crate::piecewise::{Piecewise, catch_up};
 use crate::points::gap_on;
 use crate::sum::reach_of;
-use crate::tied::BoundAtom;
 use frac128::{Frac, Memory};
 use pl_signal::{Builder, Signal};
 use std::alloc::Global;
 use trace_reader::Trace;
 use value_laws::{Margin, Shape, Truth};
 
-/// A shape in which an atom is told over a whole trace: by its truth or by its margin.
+/// A shape in which an atom is read over a whole trace: by its truth or by its margin.
 pub trait AtomShape: Shape {
     /// How the trace is read: as truths, 1 and -1, or as margins.
     ghost reading: { Recorded → Reading };
@@ -102,9 +102,9 @@ fn advance<P: Piecewise>(
     requires later { 0 < r }
     requires within { r < length trace.now.rows }
     requires from { IsReachAt bound.now node trace.now (r - 1) from }
-    requires grown { HasGrown P.Shape P.told bound.now node trace.now (r - 1) signal.old }
+    requires grown { HasGrown P.Shape P.read_as bound.now node trace.now (r - 1) signal.old }
     ensures next { IfOk result (IsReachAt bound.now node trace.now r) }
-    ensures grown { IfOk result (λ _. HasGrown P.Shape P.told bound.now node trace.now r signal.new) }
+    ensures grown { IfOk result (λ _. HasGrown P.Shape P.read_as bound.now node trace.now r signal.new) }
 {
     let atom = bound.atom(node);
     let first = row_at(trace, r - 1);
@@ -143,7 +143,7 @@ fn begin<P: Piecewise>(
     requires atom { IsAtomNode bound.now node }
     requires some { 0 < length trace.now.rows }
     requires from { IsReachAt bound.now node trace.now 0 from }
-    ensures { IfOk result (HasGrown P.Shape P.told bound.now node trace.now 0) }
+    ensures { IfOk result (HasGrown P.Shape P.read_as bound.now node trace.now 0) }
 {
     let atom = bound.atom(node);
     let at = Frac::of(i64::from(trace.time(0)));
@@ -160,7 +160,7 @@ fn signal_of<P: Piecewise>(
     requires atom { IsAtomNode bound.now node }
     requires columns { length trace.now.header.columns ≡ bound.now.width }
     requires some { 0 < length trace.now.rows }
-    ensures { IfOk result (IsAtomSignal P.Shape (reading_of P.told) bound.now node trace.now) }
+    ensures { IfOk result (IsAtomSignal P.Shape (reading_of P.read_as) bound.now node trace.now) }
 {
     let mut from = first_sum(bound, node, trace);
     let mut signal = begin::<P>(alloc, bound, node, trace, from)?;
@@ -182,8 +182,8 @@ fn finished<P: Piecewise>(
     requires columns { length trace.now.header.columns ≡ bound.now.width }
     requires some { 0 < length trace.now.rows }
     requires from { IsReachAt bound.now node trace.now (length trace.now.rows - 1) from }
-    requires grown { HasGrown P.Shape P.told bound.now node trace.now (length trace.now.rows - 1) signal }
-    ensures { IfOk result (IsAtomSignal P.Shape (reading_of P.told) bound.now node trace.now) }
+    requires grown { HasGrown P.Shape P.read_as bound.now node trace.now (length trace.now.rows - 1) signal }
+    ensures { IfOk result (IsAtomSignal P.Shape (reading_of P.read_as) bound.now node trace.now) }
 {
     let atom = bound.atom(node);
     let last = trace.time(trace.rows() - 1);

@@ -3,8 +3,8 @@ ghost use Rattle.std.specs.Prelude.{◌≡◌, ◌<◌, ◌≤◌, ◌^◌, ◌*
 ghost use Rattle.std.specs.Int.RustNames.{unsigned_abs};
 ghost use Rattle.atom_lines.specs.Sums.{cell, sum_over, reach, IsAtomSound};
 
+use crate::bound_atom::{BoundAtom, BoundTerm};
 use crate::cells::Cells;
-use crate::tied::{BoundAtom, BoundTerm};
 
 /// A step's value in the first row, and a ramp's in the second.
 fn cell_of<C: Cells>(term: &BoundTerm, first: &C, second: &C) -> i32

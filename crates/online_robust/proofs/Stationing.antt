@@ -215,7 +215,7 @@ module _ (m : Move) (node : ℕ) (st : Station) (e : Held) (b : Binding) (before
   row_bound is =
       let can : CanMove m W.Atom e = subst (λ w. CanMove m w e) is can_row in
       let (a, e') = can.work in
-      let (k, at, tied) = g.3.bound.atoms m.place a (can.at ∙ ap Some e') in
+      let (k, at, binding) = g.3.bound.atoms m.place a (can.at ∙ ap Some e') in
       subst (IsAtomNode b) g.0 (k, at)
 
   -- an atom puts its lines of the row

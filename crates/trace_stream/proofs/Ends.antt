@@ -18,7 +18,7 @@ use Rattle.trace_reader.specs.declared.event.Event.TheVariants.{Row as IsARow}
 use Rattle.trace_reader.proofs.LineLemmas.{rest, lines-rest}
 use Rattle.trace_reader.specs.InputFaults.{Fault, of_trace, IsHeaderAt, IsLack, IsInputFault}
 use Rattle.trace_stream.specs.Cases.{IsLacking, IsCase, IsNoBegin, IsHeaderOf, with_row, CanKeep}
-use Rattle.trace_stream.specs.CaseReader.{IsEnded, IsRefused, IsTied, IsKept, HasHeader, IsLastFault, of_header, own}
+use Rattle.trace_stream.specs.CaseReader.{IsEnded, IsRefused, HasCase, IsKept, HasHeader, IsLastFault, of_header, own}
 use Rattle.trace_stream.specs.declared.case.Case.{Case}
 use Rattle.trace_stream.specs.declared.fault.StreamStop.{StreamStop}
 use Rattle.trace_stream.specs.declared.fault.StreamStop.TheVariants.{Fault as Faulty, NoMemory, Wide}
@@ -60,7 +60,7 @@ module _ {r : Reader} {bytes : List ℕ} {rows : List Row} (s : StandsFor r byte
 -- the trace of all bytes has the header that was read
 whole_header : (f : Formula) (old : Reader) (o : Option Heading) (case : Option Case) (bytes : List ℕ)
     (k : IsKept f old case bytes) (limits : Limits) (h : Heading) (later : List Row) → old.heading ≡ o
-    → IsTied f o bytes k.rows case → HasTrace bytes limits f.scale (record { header = header_of f.scale h; rows = later })
+    → HasCase f o bytes k.rows case → HasTrace bytes limits f.scale (record { header = header_of f.scale h; rows = later })
     → (c : Case) × (case ≡ Some c) × IsCase f c × (c.trace.rows ≡ k.rows) × IsHeaderOf f bytes c.trace.header × (c.trace.header ≡ header_of f.scale h)
 whole_header f old None case bytes k limits h later first t whole =
     let none : later ≡ [] = no_rows_yet k.stands first whole.text.read in
@@ -102,14 +102,14 @@ module _ (f : Formula) (old new : Reader) (case : Option Case) (bytes : List ℕ
   pub ended_now : IsWholeTrace new bytes k.rows → MatchOption case ⊥ (IsEnded old.limits f bytes)
   ended_now w =
       let (h, some, whole) = as_whole k.rows w in
-      let (c, is, fits, rows, header, same) = whole_header f old old.heading case bytes k old.limits h k.rows refl k.tied whole in
+      let (c, is, fits, rows, header, same) = whole_header f old old.heading case bytes k old.limits h k.rows refl k.has_case whole in
       subst (λ o. MatchOption o ⊥ (IsEnded old.limits f bytes)) (sym is) (ended_is f bytes old.limits h k.rows c fits rows header same whole)
 
   -- with one row more
   pub ended_row : (r : Row) → IsWholeTrace new bytes (k.rows ++ r ∷ []) → MatchOption (option_map (with_row r) case) ⊥ (IsEnded old.limits f bytes)
   ended_row r w =
       let (h, some, whole) = as_whole (k.rows ++ r ∷ []) w in
-      let (c, is, fits, rows, header, same) = whole_header f old old.heading case bytes k old.limits h (k.rows ++ r ∷ []) refl k.tied whole in
+      let (c, is, fits, rows, header, same) = whole_header f old old.heading case bytes k old.limits h (k.rows ++ r ∷ []) refl k.has_case whole in
       subst (λ o. MatchOption (option_map (with_row r) o) ⊥ (IsEnded old.limits f bytes)) (sym is)
       (ended_is f bytes old.limits h (k.rows ++ r ∷ []) (with_row r c) (record { formula = fits.formula; bound = fits.bound })
       (ap (λ rs. rs ++ r ∷ []) rows) header same whole)
@@ -118,7 +118,7 @@ module _ (f : Formula) (old new : Reader) (case : Option Case) (bytes : List ℕ
   pub end_can : (r : Row) → IsWholeTrace new bytes (k.rows ++ r ∷ []) → IsNextRow IsARow new.heading k.rows r → CanKeep case r
   end_can r w next =
       let (h, some, whole) = as_whole (k.rows ++ r ∷ []) w in
-      let (c, is, fits, rows, header, same) = whole_header f old old.heading case bytes k old.limits h (k.rows ++ r ∷ []) refl k.tied whole in
+      let (c, is, fits, rows, header, same) = whole_header f old old.heading case bytes k old.limits h (k.rows ++ r ∷ []) refl k.has_case whole in
       let (width, later) = subst (λ o. IsNextRow IsARow o k.rows r) some next in
       subst (λ o. CanKeep o r) (sym is)
       (width ∙ ap (λ (x : Header). length x.columns) (sym same), subst (λ (rs : List Row). 0 < length rs → last_time 0 rs < r.time) (sym rows) later)
@@ -158,16 +158,16 @@ module _ (f : Formula) (old new : Reader) (case : Option Case) (bytes : List ℕ
           told,
         )
 
-    no_lack_now : ((o : Option Heading) → old.heading ≡ o → IsTied f o bytes k.rows case → (y : Fault) → ¬ IsLack old.limits f bytes true y)
+    no_lack_now : ((o : Option Heading) → old.heading ≡ o → HasCase f o bytes k.rows case → (y : Fault) → ¬ IsLack old.limits f bytes true y)
         → IsInputFault old.limits f bytes true (of_trace x)
-    no_lack_now none = inr (λ y lack. none old.heading refl k.tied y lack, (x, here, refl))
+    no_lack_now none = inr (λ y lack. none old.heading refl k.has_case y lack, (x, here, refl))
 
-    tied_case : (o : Option Heading) → IsTied f o bytes k.rows case → case ≡ None → o ≡ None
-    tied_case None t e = refl
-    tied_case (Some h) t e = absurd (subst (λ c. IsTied f (Some h) bytes k.rows c) e t)
+    no_heading_yet : (o : Option Heading) → HasCase f o bytes k.rows case → case ≡ None → o ≡ None
+    no_heading_yet None t e = refl
+    no_heading_yet (Some h) t e = absurd (subst (λ c. HasCase f (Some h) bytes k.rows c) e t)
 
     lacks_nothing : (case ≡ None → x.kind ≡ NoRows → (h : Heading) → new.heading ≡ Some h → (y : Fault) → ¬ IsLacking f x.line h y)
-        → (o : Option Heading) → old.heading ≡ o → IsTied f o bytes k.rows case → (y : Fault) → ¬ IsLack old.limits f bytes true y
+        → (o : Option Heading) → old.heading ≡ o → HasCase f o bytes k.rows case → (y : Fault) → ¬ IsLack old.limits f bytes true y
     lacks_nothing fits None none t y (n, g, at, lacking, clean) = by_place (after_header old.limits true x f.scale 1 (lines true bytes) at clean here)
       where
         by_place : (1 + n ≤ x.line) ⊎ IsAtEndOf true x → ⊥
@@ -180,14 +180,14 @@ module _ (f : Formula) (old new : Reader) (case : Option Case) (bytes : List ℕ
             fits t end h some y (subst (λ m. IsLacking f m h y) e.0 (lacking_same f n g h y (ap (header_of f.scale) e.1 ∙ sym agree) lacking))
     lacks_nothing fits (Some h) some t y lack = by_case case t
       where
-        by_case : (c : Option Case) → IsTied f (Some h) bytes k.rows c → ⊥
+        by_case : (c : Option Case) → HasCase f (Some h) bytes k.rows c → ⊥
         by_case None t = t
         by_case (Some c) t = no_lack t.2 old.limits true [] y (subst (λ b. IsLack old.limits f b true y) (sym (append-nil bytes)) lack)
 
     from_header : (stop : StreamStop) (h : Heading) → case ≡ None → x.kind ≡ NoRows → new.heading ≡ Some h
         → IsNoBegin f x.line h stop → IsRefused old.limits f true bytes stop
     from_header (Faulty fault) h none end some (y, is, lacking) =
-        let first_none = tied_case old.heading k.tied none in
+        let first_none = no_heading_yet old.heading k.has_case none in
         let (g, at, agree, told) = in_last first_none end h some in
         let clean : (r : TraceRefusal) → ¬ FaultFrom old.limits f.scale false 1 (take x.line (lines true bytes)) r =
         λ r fault. clean_from old.limits f.scale x end 1 (lines true bytes) here r

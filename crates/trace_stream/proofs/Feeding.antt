@@ -23,7 +23,7 @@ use Rattle.trace_reader.proofs.LineLemmas.{lines-append}
 use Rattle.trace_reader.proofs.ReaderTakes.{through_parts}
 use Rattle.trace_reader.specs.InputFaults.{Fault, of_trace, unknown, unit, IsHeaderAt, IsLack, IsInputFault}
 use Rattle.trace_stream.specs.Cases.{IsLacking, IsBegun, IsNoBegin, IsHeaderOf, with_row, CanKeep}
-use Rattle.trace_stream.specs.CaseReader.{IsRefused, IsTied, IsKept}
+use Rattle.trace_stream.specs.CaseReader.{IsRefused, HasCase, IsKept}
 use Rattle.trace_stream.specs.declared.case.Case.{Case}
 use Rattle.trace_stream.specs.declared.fault.StreamStop.{StreamStop}
 use Rattle.trace_stream.specs.declared.fault.StreamStop.TheVariants.{Fault as Faulty, NoMemory, Wide}
@@ -102,7 +102,7 @@ module _ {r : Reader} {bytes : List ℕ} {rows : List Row} (s : StandsFor r byte
 -- a refusal of a piece of one line is the first fault of the bytes with all of the piece
 pub refused_push : (f : Formula) (r : Reader) (case : Option Case) (bytes piece : List ℕ) (x : TraceRefusal) → IsKept f r case bytes
     → IsFaultOfAll r.limits r.least (bytes ++ through_feed piece) x → IsInputFault r.limits f (bytes ++ piece) false (of_trace x)
-refused_push f r case bytes piece x k fault = inr (λ y lack. by_heading r.heading refl k.tied y lack, (x, whole_fault, refl))
+refused_push f r case bytes piece x k fault = inr (λ y lack. by_heading r.heading refl k.has_case y lack, (x, whole_fault, refl))
   where
     part_fault : IsFirstFault (bytes ++ through_feed piece) false r.limits f.scale x
     part_fault =
@@ -115,12 +115,12 @@ refused_push f r case bytes piece x k fault = inr (λ y lack. by_heading r.headi
         subst (λ b. IsFirstFault b false r.limits f.scale x) (append_assoc bytes (through_feed piece) others ∙ ap (λ t. bytes ++ t) (sym e))
         (subst (λ s. IsFirstFault ((bytes ++ through_feed piece) ++ others) false r.limits s x) k.least (fault others false))
 
-    by_heading : (o : Option Heading) → r.heading ≡ o → IsTied f o bytes k.rows case → (y : Fault) → ¬ IsLack r.limits f (bytes ++ piece) false y
+    by_heading : (o : Option Heading) → r.heading ≡ o → HasCase f o bytes k.rows case → (y : Fault) → ¬ IsLack r.limits f (bytes ++ piece) false y
     by_heading None e t y lack = fault_before k.stands e f false false (through_feed piece) piece x
         (through_line piece) part_fault whole_fault (λ end. false≢true end.0) y lack
     by_heading (Some h) e t y lack = by_case case t
       where
-        by_case : (c : Option Case) → IsTied f (Some h) bytes k.rows c → ⊥
+        by_case : (c : Option Case) → HasCase f (Some h) bytes k.rows c → ⊥
         by_case None t = t
         by_case (Some c) t = no_lack t.2 r.limits false piece y lack
 
@@ -133,7 +133,7 @@ pub refused_next : (f : Formula) (r : Reader) (case : Option Case) (bytes piece 
     → IsKept f r case bytes → IsNext case piece line
     → IsFaultOfAll r.limits r.least (bytes ++ line) x → IsInputFault r.limits f (bytes ++ piece) false (of_trace x)
 refused_next f r None bytes piece line x k e fault = refused_push f r None bytes piece x k (subst (λ l. IsFaultOfAll r.limits r.least (bytes ++ l) x) e fault)
-refused_next f r (Some c) bytes piece line x k e fault = inr (λ y lack. by_heading r.heading k.tied y lack, (x, whole_fault, refl))
+refused_next f r (Some c) bytes piece line x k e fault = inr (λ y lack. by_heading r.heading k.has_case y lack, (x, whole_fault, refl))
   where
     all : IsFaultOfAll r.limits r.least (bytes ++ piece) x
     all = subst (λ l. IsFaultOfAll r.limits r.least (bytes ++ l) x) e fault
@@ -143,7 +143,7 @@ refused_next f r (Some c) bytes piece line x k e fault = inr (λ y lack. by_head
         subst (λ b. IsFirstFault b false r.limits f.scale x) (append-nil (bytes ++ piece))
         (subst (λ s. IsFirstFault ((bytes ++ piece) ++ []) false r.limits s x) k.least (all [] false))
 
-    by_heading : (o : Option Heading) → IsTied f o bytes k.rows (Some c) → (y : Fault) → ¬ IsLack r.limits f (bytes ++ piece) false y
+    by_heading : (o : Option Heading) → HasCase f o bytes k.rows (Some c) → (y : Fault) → ¬ IsLack r.limits f (bytes ++ piece) false y
     by_heading None t y lack = absurd (let j = t in cc)
     by_heading (Some h) t y lack = no_lack t.2 r.limits false piece y lack
 
@@ -154,7 +154,7 @@ front_same (Some c) piece line k e within = ap (take k) e
 
 -- where no header was read there is no case, and so a line at most comes next
 pub first_next : (f : Formula) (o : Option Heading) (bytes : List ℕ) (rows : List Row) (case : Option Case) (piece line : List ℕ)
-    → IsTied f o bytes rows case → o ≡ None → IsNext case piece line
+    → HasCase f o bytes rows case → o ≡ None → IsNext case piece line
     → line ≡ through_feed piece
 first_next f o bytes rows None piece line t e n = n
 first_next f None bytes rows (Some c) piece line t e n = absurd (let j = t in cc)
@@ -235,7 +235,7 @@ kept_begun f old new case bytes more n h g c k first s least some line begun = r
   ticks = k.ticks;
   least = least;
   stands = subst (StandsFor new more) (k.stands.taken.goes_on.blank first).1 s;
-  tied = subst (λ o. IsTied f o more [] (Some c)) (sym some) (
+  has_case = subst (λ o. HasCase f o more [] (Some c)) (sym some) (
     begun.case,
     ap (λ (t : Trace). t.rows) begun.trace,
     record {
@@ -249,11 +249,11 @@ kept_begun f old new case bytes more n h g c k first s least some line begun = r
 }
 
 -- what goes on
-tied_on : (f : Formula) (o : Option Heading) (bytes more : List ℕ) (rows : List Row) (case : Option Case)
-    → IsTied f o bytes rows case → IsTied f o (bytes ++ more) rows case
-tied_on f None bytes more rows case t = t
-tied_on f (Some h) bytes more rows None t = t
-tied_on f (Some h) bytes more rows (Some c) t = (t.0, t.1, header_goes_on more t.2)
+has_case_on : (f : Formula) (o : Option Heading) (bytes more : List ℕ) (rows : List Row) (case : Option Case)
+    → HasCase f o bytes rows case → HasCase f o (bytes ++ more) rows case
+has_case_on f None bytes more rows case t = t
+has_case_on f (Some h) bytes more rows None t = t
+has_case_on f (Some h) bytes more rows (Some c) t = (t.0, t.1, header_goes_on more t.2)
 
 -- bytes more that bring no line leave what is kept
 pub kept_on : (f : Formula) (old new : Reader) (case : Option Case) (bytes more : List ℕ) (k : IsKept f old case bytes)
@@ -264,12 +264,12 @@ kept_on f old new case bytes more k s least same = record {
   ticks = k.ticks;
   least = least ∙ k.least;
   stands = s;
-  tied = subst (λ o. IsTied f o (bytes ++ more) k.rows case) (sym same) (tied_on f old.heading bytes more k.rows case k.tied);
+  has_case = subst (λ o. HasCase f o (bytes ++ more) k.rows case) (sym same) (has_case_on f old.heading bytes more k.rows case k.has_case);
 }
 
 -- a row that came next can be kept
 next_takes : (f : Formula) (o : Option Heading) (least : Scale) (bytes : List ℕ) (rows : List Row) (case : Option Case) (r : Row)
-    → IsTied f o bytes rows case → least ≡ f.scale
+    → HasCase f o bytes rows case → least ≡ f.scale
     → HasRead o least bytes rows → IsNextRow IsARow o rows r → CanKeep case r
 next_takes f None least bytes rows case r t e read next = absurd next
 next_takes f (Some h) least bytes rows None r t e read next = t
@@ -284,10 +284,10 @@ pub can_keep : (f : Formula) (reader : Reader) (case : Option Case) (bytes : Lis
     (k : IsKept f reader case bytes) → o ≡ reader.heading → IsNextRow IsARow o k.rows r
     → CanKeep case r
 can_keep f reader case bytes o r k same next =
-    next_takes f reader.heading reader.least bytes k.rows case r k.tied k.least k.stands.read (subst (λ o. IsNextRow IsARow o k.rows r) same next)
+    next_takes f reader.heading reader.least bytes k.rows case r k.has_case k.least k.stands.read (subst (λ o. IsNextRow IsARow o k.rows r) same next)
 
-with_next : (f : Formula) (o : Option Heading) (bytes : List ℕ) (rows : List Row) (case : Option Case) (r : Row) → IsTied f o bytes rows case → CanKeep case r
-    → IsTied f o bytes (rows ++ r ∷ []) (option_map (with_row r) case)
+with_next : (f : Formula) (o : Option Heading) (bytes : List ℕ) (rows : List Row) (case : Option Case) (r : Row) → HasCase f o bytes rows case → CanKeep case r
+    → HasCase f o bytes (rows ++ r ∷ []) (option_map (with_row r) case)
 with_next f o bytes rows None r t can = absurd can
 with_next f None bytes rows (Some c) r t can = absurd (let k = t in cc)
 with_next f (Some h) bytes rows (Some c) r t can = (record { formula = t.0.formula; bound = t.0.bound }, ap (λ rs. rs ++ r ∷ []) t.1, t.2)
@@ -301,8 +301,8 @@ kept_row f old new case bytes more r k s least same can = record {
   ticks = k.ticks;
   least = least ∙ k.least;
   stands = s;
-  tied = subst (λ o. IsTied f o (bytes ++ more) (k.rows ++ r ∷ []) (option_map (with_row r) case)) (sym same)
-      (tied_on f old.heading bytes more (k.rows ++ r ∷ []) (option_map (with_row r) case) (with_next f old.heading bytes k.rows case r k.tied can));
+  has_case = subst (λ o. HasCase f o (bytes ++ more) (k.rows ++ r ∷ []) (option_map (with_row r) case)) (sym same)
+      (has_case_on f old.heading bytes more (k.rows ++ r ∷ []) (option_map (with_row r) case) (with_next f old.heading bytes k.rows case r k.has_case can));
 }
 
 -- a push of a line's bytes that came to the header

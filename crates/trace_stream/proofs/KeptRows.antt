@@ -10,20 +10,20 @@ use Rattle.trace_reader.specs.TraceRefusals.{IsFirstFault}
 use Rattle.trace_reader.specs.Reader.{Reader, StandsFor, HasRead, header_of}
 use Rattle.trace_reader.specs.InputFaults.{Fault, IsLack, IsInputFault, AreRowsBefore, no_header_yet, sound}
 use Rattle.trace_reader.proofs.LineLemmas.{lines-nil}
-use Rattle.trace_stream.specs.CaseReader.{IsSound, IsKept, IsTied}
+use Rattle.trace_stream.specs.CaseReader.{IsSound, IsKept, HasCase}
 use Rattle.trace_stream.specs.declared.case.Case.{Case}
 use Rattle.trace_stream.proofs.HeaderLines.{no_header}
 use Rattle.trace_stream.proofs.Feeding.{no_lack}
 
 -- bytes that were kept have no fault so far
 pub sound_so_far : (f : Formula) (reader : Reader) (case : Option Case) (bytes : List ℕ) (k : IsKept f reader case bytes) → IsSound reader.limits f bytes false
-sound_so_far f reader case bytes k x (inl lack) = by_heading reader.heading k.stands.read k.tied
+sound_so_far f reader case bytes k x (inl lack) = by_heading reader.heading k.stands.read k.has_case
   where
-    by_heading : (o : Option Heading) → HasRead o reader.least bytes k.rows → IsTied f o bytes k.rows case → ⊥
+    by_heading : (o : Option Heading) → HasRead o reader.least bytes k.rows → HasCase f o bytes k.rows case → ⊥
     by_heading None read t = no_header (lines false bytes) read.0 lack.2
     by_heading (Some h) read t = by_case case t
       where
-        by_case : (c : Option Case) → IsTied f (Some h) bytes k.rows c → ⊥
+        by_case : (c : Option Case) → HasCase f (Some h) bytes k.rows c → ⊥
         by_case None t = t
         by_case (Some c) t = no_lack t.2 reader.limits false [] x (subst (λ b. IsLack reader.limits f b false x) (sym (append-nil bytes)) lack)
 sound_so_far f reader case bytes k x (inr (known, (r, first, e))) =
@@ -52,7 +52,7 @@ at_first f reader least ticks s =
       ticks = ticks;
       least = least;
       stands = s;
-      tied = subst (λ o. IsTied f o [] [] None) (sym no_heading) refl;
+      has_case = subst (λ o. HasCase f o [] [] None) (sym no_heading) refl;
     }
   where
     none : (o : Option Heading) → reader.heading ≡ o → reader.heading ≡ None

@@ -13,8 +13,8 @@ use Rattle.trace_reader.specs.Reader.{header_of}
 use Rattle.atom_lines.specs.Binding.{IsBound}
 use Rattle.trace_reader.specs.InputFaults.{Fault, unknown, unit}
 use Rattle.atom_lines.specs.Faults.{IsBindFault}
-use Rattle.atom_lines.specs.declared.tying.BindFault.{BindFault}
-use Rattle.atom_lines.specs.declared.tying.BindFault.TheVariants.{UnknownColumn, Memory}
+use Rattle.atom_lines.specs.declared.binding.BindFault.{BindFault}
+use Rattle.atom_lines.specs.declared.binding.BindFault.TheVariants.{UnknownColumn, Memory}
 use Rattle.trace_stream.specs.Cases.{stop_of, stop_of_unit, IsNamed, IsNoBegin, IsBegun, IsLacking}
 use Rattle.trace_stream.specs.declared.case.Case.{Case}
 use Rattle.trace_stream.specs.declared.fault.TraceFault.TheVariants.{Unit as InTicks}

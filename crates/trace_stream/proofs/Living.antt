@@ -16,7 +16,7 @@ use Rattle.trace_reader.proofs.ReaderTakes.{through_parts}
 use Rattle.trace_stream.specs.Streams.{Stream, StreamText, StreamOf}
 use Rattle.trace_reader.specs.InputFaults.{Fault, of_trace, line_of, IsHeaderAt, IsLack, IsInputFault, faulted, faulted_header}
 use Rattle.trace_stream.specs.Cases.{IsCase, IsLacking, IsNoBegin, IsHeaderOf, with_row}
-use Rattle.trace_stream.specs.CaseReader.{IsWhole, IsKept, IsTied, IsRefused, IsEnded, IsLastFault, of_header, own}
+use Rattle.trace_stream.specs.CaseReader.{IsWhole, IsKept, HasCase, IsRefused, IsEnded, IsLastFault, of_header, own}
 use Rattle.trace_stream.specs.Following.{Follows, IsTextOf, IsFollowed, IsOpened, IsComplete, IsEndedOut, IsHeldUp}
 use Rattle.trace_stream.specs.Following.{IsLive, IsLiveOpen, IsLastTaken, IsOver, IsLiveStop, IsOpenStop}
 use Rattle.trace_stream.specs.declared.case.Case.{Case}
@@ -90,22 +90,22 @@ module _ {F : Type 0} (Stands Owes : F → Case → List ℕ → Type 0) (kind :
 
   -- nothing was made before the header
   pub none_open : (follower : Option F) (f : Formula) (o : Option Heading) (bytes : List ℕ) (rows : List Row) (case : Option Case)
-      (made : List ℕ) → IsTied f o bytes rows case → o ≡ None
+      (made : List ℕ) → HasCase f o bytes rows case → o ≡ None
       → IsOpened Stands Owes kind follower case made → made ≡ []
-  none_open None f o bytes rows None made tied e t = t
-  none_open (Some x) f o bytes rows None made tied e t = absurd t
-  none_open follower f o bytes rows (Some c) made tied e t = absurd (no_case (subst (λ p. IsTied f p bytes rows (Some c)) e tied))
+  none_open None f o bytes rows None made has_case e t = t
+  none_open (Some x) f o bytes rows None made has_case e t = absurd t
+  none_open follower f o bytes rows (Some c) made has_case e t = absurd (no_case (subst (λ p. HasCase f p bytes rows (Some c)) e has_case))
     where
-      no_case : IsTied f None bytes rows (Some c) → ⊥
+      no_case : HasCase f None bytes rows (Some c) → ⊥
       no_case k = let h = k in cc
 
 module _ {F : Type 0} (Stands : F → Case → List ℕ → Type 0) (kind : Stream) where
   -- nothing was made before the header
   pub none_made : (follower : Option F) (f : Formula) (o : Option Heading) (bytes : List ℕ) (rows : List Row) (case : Option Case)
-      (made : List ℕ) → IsTied f o bytes rows case → o ≡ None
+      (made : List ℕ) → HasCase f o bytes rows case → o ≡ None
       → IsFollowed Stands kind follower case made → made ≡ []
-  none_made follower f o bytes rows case made tied e t =
-      none_open Stands Stands kind follower f o bytes rows case made tied e (open_of Stands Stands kind follower case made t)
+  none_made follower f o bytes rows case made has_case e t =
+      none_open Stands Stands kind follower f o bytes rows case made has_case e (open_of Stands Stands kind follower case made t)
 
   -- the text of the rows of a case is that of the stream
   pub text_of_case : (f : Formula) (x : F) (c : Case) (made : List ℕ) → IsCase f c → Follows (Stands x) kind c made
@@ -118,32 +118,32 @@ module _ {F : Type 0} (Stands : F → Case → List ℕ → Type 0) (kind : Stre
       → HoldLines r.heading f.scale (take (line_of x - 1) (lines ended all)) k.rows → IsInputFault r.limits f all ended x
       → IsFollowed Stands kind follower case made
       → IsTextOf kind r.limits f all ended made
-  text_before f r follower case bytes all made ended x k hold fault t = by_heading r.heading refl k.tied hold t
+  text_before f r follower case bytes all made ended x k hold fault t = by_heading r.heading refl k.has_case hold t
     where
       told_header : (h : Heading) → r.heading ≡ Some h → (header : Header) → IsHeaderOf f bytes header → header ≡ header_of f.scale h
       told_header h e header is =
           same_header is false h (subst (λ (s : Scale). AreTraceLines s (lines false bytes) (header_of s h) k.rows) k.least
           (subst (λ o. HasRead o r.least bytes k.rows) e k.stands.read))
 
-      by_heading : (o : Option Heading) → r.heading ≡ o → IsTied f o bytes k.rows case → HoldLines o f.scale (take (line_of x - 1) (lines ended all)) k.rows
+      by_heading : (o : Option Heading) → r.heading ≡ o → HasCase f o bytes k.rows case → HoldLines o f.scale (take (line_of x - 1) (lines ended all)) k.rows
           → IsFollowed Stands kind follower case made → IsTextOf kind r.limits f all ended made
-      by_heading None e tied (blank, none) t = record {
+      by_heading None e has_case (blank, none) t = record {
         header = None;
         rows = [];
         whole = false;
         before = faulted_header x fault (λ m g at. none_blank (take (line_of x - 1) (lines ended all)) blank at);
-        is = by_none follower (subst (λ c. IsFollowed Stands kind follower c made) tied t);
+        is = by_none follower (subst (λ c. IsFollowed Stands kind follower c made) has_case t);
       }
         where
           by_none : (o : Option F) → IsFollowed Stands kind o None made → made ≡ []
           by_none None t = t
           by_none (Some y) t = absurd t
-      by_heading (Some h) e tied lines_are t = by_case case follower tied t
+      by_heading (Some h) e has_case lines_are t = by_case case follower has_case t
         where
-          by_case : (case : Option Case) (follower : Option F) → IsTied f (Some h) bytes k.rows case
+          by_case : (case : Option Case) (follower : Option F) → HasCase f (Some h) bytes k.rows case
               → IsFollowed Stands kind follower case made → IsTextOf kind r.limits f all ended made
-          by_case None o tied t = absurd tied
-          by_case (Some c) None tied t = absurd t
+          by_case None o has_case t = absurd has_case
+          by_case (Some c) None has_case t = absurd t
           by_case (Some c) (Some y) (fits, rows, header) t = record {
             header = Some c.trace.header;
             rows = c.trace.rows;
@@ -158,14 +158,14 @@ module _ {F : Type 0} (Stands : F → Case → List ℕ → Type 0) (kind : Stre
   pub told_of_kept : (f : Formula) (r : Reader) (follower : Option F) (case : Option Case) (bytes made : List ℕ)
       (k : IsKept f r case bytes) → IsFollowed Stands kind follower case made
       → StreamOf kind f (option_map (header_of f.scale) r.heading) k.rows false made
-  told_of_kept f r follower case bytes made k t = by_heading r.heading refl k.tied case follower refl k.tied t
+  told_of_kept f r follower case bytes made k t = by_heading r.heading refl k.has_case case follower refl k.has_case t
     where
-      by_heading : (o : Option Heading) → r.heading ≡ o → IsTied f r.heading bytes k.rows case → (c : Option Case) (x : Option F)
-          → case ≡ c → IsTied f o bytes k.rows c → IsFollowed Stands kind x c made
+      by_heading : (o : Option Heading) → r.heading ≡ o → HasCase f r.heading bytes k.rows case → (c : Option Case) (x : Option F)
+          → case ≡ c → HasCase f o bytes k.rows c → IsFollowed Stands kind x c made
           → StreamOf kind f (option_map (header_of f.scale) o) k.rows false made
-      by_heading None e u c x same tied t = none_made x f None bytes k.rows c made tied refl t
-      by_heading (Some h) e u None x same tied t = absurd tied
-      by_heading (Some h) e u (Some c) None same tied t = absurd t
+      by_heading None e u c x same has_case t = none_made x f None bytes k.rows c made has_case refl t
+      by_heading (Some h) e u None x same has_case t = absurd has_case
+      by_heading (Some h) e u (Some c) None same has_case t = absurd t
       by_heading (Some h) e u (Some c) (Some y) same (fits, rows, header) t =
           let is = same_header header false h (subst (λ (s : Scale). AreTraceLines s (lines false bytes) (header_of s h) k.rows) k.least
           (subst (λ o. HasRead o r.least bytes k.rows) e k.stands.read)) in
@@ -268,10 +268,10 @@ module _ {F : Type 0} (Stands Owes : F → Case → List ℕ → Type 0) (kind :
   pub live_lacks : (live : Live F) (old new : Reader) (rows : List Row) (bytes written piece : List ℕ) (at : ℕ) (header : Header)
       (stop : StreamStop) → live.rows ≡ old
       → (s : HeaderStep live.formula old new rows bytes piece at header) → IsNoBegin live.formula new.begun s.columns stop
-      → (follower : Option F) (case : Option Case) (text : List ℕ) → IsTied live.formula old.heading bytes rows case → old.heading ≡ None
+      → (follower : Option F) (case : Option Case) (text : List ℕ) → HasCase live.formula old.heading bytes rows case → old.heading ≡ None
       → IsOpened Stands Owes kind follower case text
       → IsOpenStop Stands Owes kind live.rows.limits live.formula false (bytes ++ piece) follower text stop
-  live_lacks live old new rows bytes written piece at header (Faulty fault) e s (y, is, lacking) follower case text tied came t =
+  live_lacks live old new rows bytes written piece at header (Faulty fault) e s (y, is, lacking) follower case text has_case came t =
       let lack : IsLack live.rows.limits live.formula (bytes ++ piece) false y = (
         new.begun,
         s.columns,
@@ -291,11 +291,11 @@ module _ {F : Type 0} (Stands Owes : F → Case → List ℕ → Type 0) (kind :
           rows = [];
           whole = false;
           before = faulted_header y (inl lack) (none_before_lack live.rows.limits live.formula (bytes ++ piece) false y lack);
-          is = none_made Stands kind after live.formula old.heading bytes rows case made tied came u;
+          is = none_made Stands kind after live.formula old.heading bytes rows case made has_case came u;
         },
       )
-  live_lacks live old new rows bytes written piece at header NoMemory e s never follower case text tied came t = tt
-  live_lacks live old new rows bytes written piece at header (Wide i den) e s never follower case text tied came t = absurd never
+  live_lacks live old new rows bytes written piece at header NoMemory e s never follower case text has_case came t = tt
+  live_lacks live old new rows bytes written piece at header (Wide i den) e s never follower case text has_case came t = absurd never
 
   -- a stop in the bytes that were left is one of the whole piece
   pub live_fed : (limits : Limits) (f : Formula) (bytes piece text : List ℕ) (at : ℕ) (follower : Option F) (stop : StreamStop)

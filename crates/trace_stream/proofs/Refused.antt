@@ -15,7 +15,7 @@ use Rattle.trace_reader.specs.TraceText.{Heading, lines, AreTraceLines, TraceOf}
 use Rattle.trace_reader.specs.Reader.{Reader, HasRead, header_of}
 use Rattle.trace_reader.specs.declared.refusal.Limits.{Limits}
 use Rattle.trace_stream.specs.Cases.{IsCase, with_row}
-use Rattle.trace_stream.specs.CaseReader.{IsSound, IsKept, IsTied, IsEnded}
+use Rattle.trace_stream.specs.CaseReader.{IsSound, IsKept, HasCase, IsEnded}
 use Rattle.trace_stream.specs.Streams.{Stream, verdicts, early, margins, HasStream, StreamText}
 use Rattle.trace_stream.specs.Wides.{IsNeededByThen, at_row, at_end}
 use Rattle.trace_stream.specs.Following.{IsFollowed, IsFollowFault, IsUnwritten, IsHeldUp, IsLiveStop, stop_of}
@@ -79,10 +79,10 @@ pub record IsReadTo (limits : Limits) (f : Formula) (seen : List ℕ) (ended : B
 
 -- what a reader has kept
 pub read_of_kept : (f : Formula) (reader : Reader) (c : Case) (bytes : List ℕ) → IsKept f reader (Some c) bytes → IsReadTo reader.limits f bytes false c
-read_of_kept f reader c bytes k = by_heading reader.heading refl k.tied
+read_of_kept f reader c bytes k = by_heading reader.heading refl k.has_case
   where
-    by_heading : (o : Option Heading) → reader.heading ≡ o → IsTied f o bytes k.rows (Some c) → IsReadTo reader.limits f bytes false c
-    by_heading None e tied = absurd (let j = tied in cc)
+    by_heading : (o : Option Heading) → reader.heading ≡ o → HasCase f o bytes k.rows (Some c) → IsReadTo reader.limits f bytes false c
+    by_heading None e has_case = absurd (let j = has_case in cc)
     by_heading (Some h) e (fits, rows, header) =
         let read : AreTraceLines f.scale (lines false bytes) (header_of f.scale h) k.rows =
         subst (λ (s : Scale). AreTraceLines s (lines false bytes) (header_of s h) k.rows) k.least

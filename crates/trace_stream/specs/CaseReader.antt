@@ -32,10 +32,10 @@ IsRefused limits f ended bytes NoMemory = Unit {0}
 IsRefused limits f ended bytes (Wide i den) = ⊥
 
 -- once the header was read, there is a case of it with the rows
-abbrev pub IsTied : Formula → Option Heading → List ℕ → List Row → Option Case → Type 0
-IsTied f None bytes rows case = case ≡ None
-IsTied f (Some h) bytes rows None = ⊥
-IsTied f (Some h) bytes rows (Some c) = IsCase f c × (c.trace.rows ≡ rows) × IsHeaderOf f bytes c.trace.header
+abbrev pub HasCase : Formula → Option Heading → List ℕ → List Row → Option Case → Type 0
+HasCase f None bytes rows case = case ≡ None
+HasCase f (Some h) bytes rows None = ⊥
+HasCase f (Some h) bytes rows (Some c) = IsCase f c × (c.trace.rows ≡ rows) × IsHeaderOf f bytes c.trace.header
 
 -- the reader took these bytes, and this is what was kept of them
 pub record IsKept (f : Formula) (reader : Reader) (case : Option Case) (bytes : List ℕ) : Type 0 where
@@ -43,7 +43,7 @@ pub record IsKept (f : Formula) (reader : Reader) (case : Option Case) (bytes : 
   pub ticks : IsScale f.scale
   pub least : reader.least ≡ f.scale
   pub stands : StandsFor reader bytes rows
-  pub tied : IsTied f reader.heading bytes rows case
+  pub has_case : HasCase f reader.heading bytes rows case
 
 -- the reader took some bytes, and this is what was kept of them
 pub record HasKept (f : Formula) (reader : Reader) (case : Option Case) : Type 0 where

@@ -12,8 +12,8 @@ use Rattle.stl_syntax.specs.declared.scale.UnitFault.TheVariants as unit
 use Rattle.trace_reader.specs.TraceText.{lines, Heading}
 use Rattle.trace_reader.specs.Reader.{header_of}
 use Rattle.atom_lines.specs.Binding.{IsBound}
-use Rattle.atom_lines.specs.declared.tying.BindFault.{BindFault}
-use Rattle.atom_lines.specs.declared.tying.BindFault.TheVariants.{UnknownColumn, Memory}
+use Rattle.atom_lines.specs.declared.binding.BindFault.{BindFault}
+use Rattle.atom_lines.specs.declared.binding.BindFault.TheVariants.{UnknownColumn, Memory}
 use Rattle.trace_reader.specs.InputFaults.{Fault, of_trace, unknown, unit as of_unit, IsHeaderAt, IsUnknownIn, IsUnitIn}
 use Rattle.trace_stream.specs.declared.case.Case.{Case}
 use Rattle.trace_stream.specs.declared.fault.TraceFault.{TraceFault}

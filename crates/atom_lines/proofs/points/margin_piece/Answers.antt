@@ -12,7 +12,7 @@ use Rattle.atom_lines.specs.Gaps.{along}
 use Rattle.atom_lines.specs.Signs.{signed}
 use Rattle.atom_lines.proofs.Crossings.{at_first, at_second}
 use Rattle.atom_lines.proofs.Margins.{margin_same, margin_whole, signed_size}
-use Rattle.atom_lines.proofs.SumLemmas.{tied, expression_along}
+use Rattle.atom_lines.proofs.SumLemmas.{atom_binding, expression_along}
 use Rattle.rational.proofs.Mixed.{within_whole, within_same}
 use Rattle.rational.proofs.AffineLemmas.{bounded_same}
 use Rattle.atom_lines.proofs.points.margin_piece.Goals as goal
@@ -26,7 +26,7 @@ returns-clause-margin c = λ a tr t for has low high.
     let g = c.gap_of.result in
     let h = c.gap_of.ensures in
     let f = margin_function c.margin_between.result in
-    let rel = (tied b c.args.node k c.atom-atom.ensures.at a tr for).rel in
+    let rel = (atom_binding b c.args.node k c.atom-atom.ensures.at a tr for).rel in
     let here : value_at f t ≈ᵉ finite (margin a.rel (at (along g) t)) =
     subst (λ q. value_at f t ≈ᵉ finite (margin q (at (along g) t))) rel (c.margin_between.ensures.worth t) in
     same_transᵉ (value_at f t) (finite (margin a.rel (at (along g) t))) (finite (margin a.rel (expression a tr t))) here

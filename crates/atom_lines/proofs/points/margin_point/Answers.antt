@@ -12,7 +12,7 @@ use Rattle.stl_syntax.specs.SupInf.{margin}
 use Rattle.atom_lines.specs.Sums.{reach, sum_over}
 use Rattle.atom_lines.specs.Signs.{signed}
 use Rattle.atom_lines.proofs.Margins.{margin_same, margin_whole, signed_size}
-use Rattle.atom_lines.proofs.SumLemmas.{tied, expression_at_row}
+use Rattle.atom_lines.proofs.SumLemmas.{atom_binding, expression_at_row}
 use Rattle.atom_lines.proofs.points.margin_point.Goals as goal
 
 pub returns-clause-margin : goal.returns-clause-margin
@@ -22,7 +22,7 @@ returns-clause-margin c = λ a tr t for has e.
     let r = c.args.row.now in
     let f = margin_function c.margin_at.result in
     let sum : to_z w64 (of_z w64 c.reach_of.result) ≡ reach k r.values r.values = search (rules, to_z-of_z) in
-    let rel = (tied b c.args.node k c.atom-atom.ensures.at a tr for).rel in
+    let rel = (atom_binding b c.args.node k c.atom-atom.ensures.at a tr for).rel in
     let here : value_at f t ≈ᵉ finite (margin a.rel (whole (reach k r.values r.values))) =
     subst (λ q. value_at f t ≈ᵉ finite (margin q (whole (reach k r.values r.values)))) rel
     (subst (λ n. value_at f t ≈ᵉ finite (margin k.rel (whole n))) sum (c.margin_at.ensures.worth t)) in

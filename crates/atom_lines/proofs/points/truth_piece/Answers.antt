@@ -6,8 +6,8 @@ use Rattle.stl_syntax.specs.Truth.{compares, holds_at}
 use Rattle.atom_lines.specs.Gaps.{along}
 use Rattle.atom_lines.specs.Pieces.{TellsGap}
 use Rattle.atom_lines.proofs.Signs.{compare_same}
-use Rattle.atom_lines.proofs.SumLemmas.{tied, expression_along}
-use Rattle.atom_lines.proofs.Tellings.{gap_same}
+use Rattle.atom_lines.proofs.SumLemmas.{atom_binding, expression_along}
+use Rattle.atom_lines.proofs.Readings.{gap_same}
 use Rattle.atom_lines.proofs.points.truth_piece.Goals as goal
 
 pub returns : goal.returns
@@ -18,7 +18,7 @@ returns c = λ a tr for has.
     let s = c.args.second.now in
     let g = c.gap_of.result in
     let h = c.gap_of.ensures in
-    let rel = (tied b c.args.node k c.atom-atom.ensures.at a tr for).rel in
+    let rel = (atom_binding b c.args.node k c.atom-atom.ensures.at a tr for).rel in
     let piece = subst (λ n. TellsGap (whole (pos n)) (whole (pos s.time)) (λ t. compares k.rel (at (along g) t)) c.truth_between.result) h.first
     (subst (λ n. TellsGap (whole (pos g.first)) (whole (pos n)) (λ t. compares k.rel (at (along g) t)) c.truth_between.result)
     h.second c.truth_between.ensures) in

@@ -9,8 +9,8 @@ use Rattle.atom_lines.specs.Gaps.{along}
 use Rattle.atom_lines.specs.Pieces.{TellsGap}
 use Rattle.atom_lines.specs.Sums.{reach}
 use Rattle.atom_lines.proofs.Signs.{compare_same}
-use Rattle.atom_lines.proofs.SumLemmas.{tied, expression_along, expression_at_row}
-use Rattle.atom_lines.proofs.Tellings.{gap_same}
+use Rattle.atom_lines.proofs.SumLemmas.{atom_binding, expression_along, expression_at_row}
+use Rattle.atom_lines.proofs.Readings.{gap_same}
 use Rattle.atom_lines.proofs.points.truth_step.Goals as goal
 
 pub returns-clause-piece : goal.returns-clause-piece
@@ -23,7 +23,7 @@ returns-clause-piece c = λ a tr for has.
     let h = c.gap_on-next.ensures in
     let first : g.first ≡ r.time = h.first ∙ c.time.ensures in
     let second : g.second ≡ s.time = h.second ∙ c.time-2.ensures in
-    let rel = (tied b c.args.node k c.atom-atom.ensures.at a tr for).rel in
+    let rel = (atom_binding b c.args.node k c.atom-atom.ensures.at a tr for).rel in
     let piece = subst (λ n. TellsGap (whole (pos n)) (whole (pos s.time)) (λ t. compares k.rel (at (along g) t)) c.truth_onward.result.0) first
     (subst (λ n. TellsGap (whole (pos g.first)) (whole (pos n)) (λ t. compares k.rel (at (along g) t)) c.truth_onward.result.0)
     second c.truth_onward.ensures.tells) in
@@ -38,7 +38,7 @@ returns-clause-point c = λ a tr t for has e.
     let k = c.atom-atom.result.now in
     let r = c.args.second.now in
     let sum : to_z w64 (of_z w64 c.gap_on-next.result.1) ≡ reach k r.values r.values = search (rules, to_z-of_z, c.gap_on-next.ensures.next) in
-    let rel = (tied b c.args.node k c.atom-atom.ensures.at a tr for).rel in
+    let rel = (atom_binding b c.args.node k c.atom-atom.ensures.at a tr for).rel in
     compare_same a.rel (expression_at_row b c.args.node k c.atom-atom.ensures.at a tr for r t has e)
     ∙ ap (λ q. compares q (whole (reach k r.values r.values))) (sym rel)
     ∙ ap (λ n. compares k.rel (whole n)) (sym sum)

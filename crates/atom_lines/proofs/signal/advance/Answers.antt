@@ -40,12 +40,12 @@ returns-clause-grown g c =
     let next : c.gap_on-next.result.1 ≡ reach k (values_at tr c.args.r) (values_at tr c.args.r) =
     c.gap_on-next.ensures.next ∙ ap (λ ys. reach k ys ys) second in
     let same : to_z w64 (of_z w64 c.gap_on-next.result.1) ≡ c.gap_on-next.result.1 = search (rules, to_z-of_z) in
-    let goes : GoesAlong g.P.Shape g.P.Piecewise.told k.rel c.gap_on-next.result.0 c.gap_on-next.result.1 c.args.signal.now c.go_on.new.signal =
-    subst (λ n. GoesAlong g.P.Shape g.P.Piecewise.told k.rel c.gap_on-next.result.0 n c.args.signal.now c.go_on.new.signal) same c.in_ok-go_on.ensures in
+    let goes : GoesAlong g.P.Shape g.P.Piecewise.read_as k.rel c.gap_on-next.result.0 c.gap_on-next.result.1 c.args.signal.now c.go_on.new.signal =
+    subst (λ n. GoesAlong g.P.Shape g.P.Piecewise.read_as k.rel c.gap_on-next.result.0 n c.args.signal.now c.go_on.new.signal) same c.in_ok-go_on.ensures in
     let size : nat_abs c.gap_on-next.result.1 ≤ 2 ^ 31 =
     subst (λ n. nat_abs n ≤ 2 ^ 31) (sym c.gap_on-next.ensures.next)
     (reach_small k (values_at y.trace.now y.row) (values_at y.trace.now y.row) c.atom-atom.ensures.sound.limit c.gap_on-next.ensures.small_next) in
-    grown_on g.P.Shape g.P.Piecewise.told b c.args.node tr k c.atom-atom.ensures.at c.args.r
+    grown_on g.P.Shape g.P.Piecewise.read_as b c.args.node tr k c.atom-atom.ensures.at c.args.r
     (c.args.r - 1) c.gap_on-next.result.0 c.gap_on-next.result.1 c.args.signal.now c.go_on.new.signal
     size e c.requires.within (c.gap_on-next.ensures.first ∙ c.time.ensures d)
     (c.gap_on-next.ensures.second ∙ c.time-2.ensures d) from to next c.requires.grown goes

@@ -23,16 +23,16 @@ returns g c =
     let is : value c.of-at.result ≈ whole (pos c.time.result) = rw time at c.of-at.ensures.value in
     let when : value c.of-at.result ≈ row_time (row_of tr 0) = subst (λ n. value c.of-at.result ≈ whole (pos n)) (c.time.ensures d) is in
     let same : to_z w64 (of_z w64 c.args.from) ≡ c.args.from = search (rules, to_z-of_z) in
-    let here : (t : Rational) → value_at (g.P.Shape.function c.point.result) t ≈ᵉ worth g.P.Piecewise.told k.rel (whole c.args.from) =
-    λ t. subst (λ n. value_at (g.P.Shape.function c.point.result) t ≈ᵉ worth g.P.Piecewise.told k.rel (whole n)) same (c.point.ensures.worth t) in
+    let here : (t : Rational) → value_at (g.P.Shape.function c.point.result) t ≈ᵉ worth g.P.Piecewise.read_as k.rel (whole c.args.from) =
+    λ t. subst (λ n. value_at (g.P.Shape.function c.point.result) t ≈ᵉ worth g.P.Piecewise.read_as k.rel (whole n)) same (c.point.ensures.worth t) in
     let time_fits : c.time.result < 4294967296 = omega arith in
     let reached = c.requires.from k c.atom-atom.ensures.at in
     let size : nat_abs c.args.from ≤ 2 ^ 31 =
     subst (λ n. nat_abs n ≤ 2 ^ 31) (sym reached.0.sum) (reach_small k (values_at tr 0) (values_at tr 0) reached.1 reached.0.small) in
     IfOk-weaker c.with_room.result (λ s. s ≡ record { time = c.of-at.result; point = c.point.result; after = c.point.result } ∷ [])
-    (HasGrown g.P.Shape g.P.Piecewise.told b c.args.node tr 0)
-    (λ s e. subst (HasGrown g.P.Shape g.P.Piecewise.told b c.args.node tr 0) (sym e)
-    (begun g.P.Shape g.P.Piecewise.told b c.args.node tr k c.atom-atom.ensures.at c.args.from c.of-at.result c.point.result
+    (HasGrown g.P.Shape g.P.Piecewise.read_as b c.args.node tr 0)
+    (λ s e. subst (HasGrown g.P.Shape g.P.Piecewise.read_as b c.args.node tr 0) (sym e)
+    (begun g.P.Shape g.P.Piecewise.read_as b c.args.node tr k c.atom-atom.ensures.at c.args.from c.of-at.result c.point.result
     c.time.result time_fits is size c.requires.some
     (c.requires.from k c.atom-atom.ensures.at).0.sum when here c.point.ensures.base))
     c.with_room.ensures

@@ -39,8 +39,8 @@ returns g c =
     let size : nat_abs c.args.from ≤ 2 ^ 31 =
     subst (λ n. nat_abs n ≤ 2 ^ 31) (sym reached.0.sum) (reach_small k (values_at tr n) (values_at tr n) reached.1 reached.0.small) in
     let same : to_z w64 (of_z w64 c.args.from) ≡ c.args.from = search (rules, to_z-of_z) in
-    let here : (t : Rational) → value_at (g.P.Shape.function c.point.result) t ≈ᵉ worth g.P.Piecewise.told k.rel (whole c.args.from) =
-    λ t. subst (λ n. value_at (g.P.Shape.function c.point.result) t ≈ᵉ worth g.P.Piecewise.told k.rel (whole n)) same (c.point.ensures.worth t) in
-    subst (IsAtomSignal g.P.Shape (reading_of g.P.Piecewise.told) b c.args.node tr) (sym c.finish.ensures.value)
-    (whole_signal g.P.Shape g.P.Piecewise.told b c.args.node tr k c.atom-atom.ensures.at n c.time-last.result c.args.from c.point.result
+    let here : (t : Rational) → value_at (g.P.Shape.function c.point.result) t ≈ᵉ worth g.P.Piecewise.read_as k.rel (whole c.args.from) =
+    λ t. subst (λ n. value_at (g.P.Shape.function c.point.result) t ≈ᵉ worth g.P.Piecewise.read_as k.rel (whole n)) same (c.point.ensures.worth t) in
+    subst (IsAtomSignal g.P.Shape (reading_of g.P.Piecewise.read_as) b c.args.node tr) (sym c.finish.ensures.value)
+    (whole_signal g.P.Shape g.P.Piecewise.read_as b c.args.node tr k c.atom-atom.ensures.at n c.time-last.result c.args.from c.point.result
     c.args.signal c.catch_up.new.signal size count few is reached.0.sum here c.point.ensures.base c.requires.grown c.in_ok-catch_up.ensures)

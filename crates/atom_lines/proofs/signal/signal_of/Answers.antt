@@ -25,7 +25,7 @@ loop-r-preserved g c =
     record {
       sum = subst (λ m. IsReachAt c.args.bound.now c.args.node c.args.trace.now m (to_z w64 (of_z w64 c.in_ok-from.from))) (sym e)
           (subst (IsReachAt c.args.bound.now c.args.node c.args.trace.now c.loop-r.r) (sym same) c.in_ok-from.ensures.next);
-      grown = subst (λ m. HasGrown g.P.Shape g.P.Piecewise.told c.args.bound.now c.args.node c.args.trace.now m c.advance.new.signal)
+      grown = subst (λ m. HasGrown g.P.Shape g.P.Piecewise.read_as c.args.bound.now c.args.node c.args.trace.now m c.advance.new.signal)
           (sym e) c.in_ok-from.ensures.grown;
     }
 
@@ -41,4 +41,4 @@ finished-requires-clause-grown g c =
     let e : c.loop-r.r - 1 ≡ length c.args.trace.now.rows - 1 =
     (let a = c.rows-r-end.ensures.count in let b = c.loop-r-test.false in let d = c.loop-r.auto.r-end in
     let f = c.loop-r.auto.r in let h = c.requires.some in omega arith) in
-    subst (λ m. HasGrown g.P.Shape g.P.Piecewise.told c.args.bound.now c.args.node c.args.trace.now m c.loop-r.signal) e c.loop-r.invariant.grown
+    subst (λ m. HasGrown g.P.Shape g.P.Piecewise.read_as c.args.bound.now c.args.node c.args.trace.now m c.loop-r.signal) e c.loop-r.invariant.grown

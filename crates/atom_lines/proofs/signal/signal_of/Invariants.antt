@@ -6,5 +6,5 @@ use Rattle.atom_lines.proofs.signal.signal_of.Given as goal
 abbrev pub invariant-loop-r : goal.invariant-loop-r
 invariant-loop-r g l = record {
   sum : IsReachAt l.bound l.node l.trace (l.r - 1) l.from;
-  grown : HasGrown g.P.Shape g.P.Piecewise.told l.bound l.node l.trace (l.r - 1) l.signal;
+  grown : HasGrown g.P.Shape g.P.Piecewise.read_as l.bound l.node l.trace (l.r - 1) l.signal;
 }

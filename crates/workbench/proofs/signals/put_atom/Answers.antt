@@ -2,5 +2,5 @@ use Rattle.workbench.proofs.signals.put_atom.Goals as goal
 
 pub atom_signal-requires-clause-atom : goal.atom_signal-requires-clause-atom
 atom_signal-requires-clause-atom g c =
-    let tied = c.requires.bound.atoms c.args.i c.requires.atom.0 c.requires.atom.1 in
-    (tied.0, tied.1)
+    let bound = c.requires.bound.atoms c.args.i c.requires.atom.0 c.requires.atom.1 in
+    (bound.0, bound.1)

@@ -31,7 +31,7 @@ begin-requires c =
     let s = header_step c.args.formula.now c.args.self.now.rows c.push.new.self c.args.self.now.case c.requires.bytes
     c.args.piece.now c.next_bytes.result.now c.in-Ok.took.bytes
     c.in-Ok.took.event c.header.result.now k (first_next c.args.formula.now c.args.self.now.rows.heading c.requires.bytes k.rows
-    c.args.self.now.case c.args.piece.now c.next_bytes.result.now k.tied none c.next_bytes.ensures.line) ok.within.0
+    c.args.self.now.case c.args.piece.now c.next_bytes.result.now k.has_case none c.next_bytes.ensures.line) ok.within.0
     c.in-Header.is ok.came (ok.ok c.requires.bytes k.rows k.stands) ok.kept.0 ok.kept.1 c.header.ensures in
     (s.columns, s.is, s.ticks)
 
@@ -48,7 +48,7 @@ returns-in_err-begin-in-Header-clause-taken c =
     rw (p.1, p.2) (λ bytes k.
     let s = header_step f c.args.self.now.rows c.push.new.self c.args.self.now.case bytes piece c.next_bytes.result.now at
     c.in-Ok.took.event c.header.result.now k (first_next c.args.formula.now c.args.self.now.rows.heading bytes k.rows
-    c.args.self.now.case c.args.piece.now c.next_bytes.result.now k.tied none c.next_bytes.ensures.line) ok.within.0
+    c.args.self.now.case c.args.piece.now c.next_bytes.result.now k.has_case none c.next_bytes.ensures.line) ok.within.0
     c.in-Header.is ok.came (ok.ok bytes k.rows k.stands) ok.kept.0 ok.kept.1 c.header.ensures in
     stop_begin f c.args.self.now.rows.limits false (bytes ++ take at piece) (drop at piece) (bytes ++ piece) c.push.new.self.begun s.columns stop s.left s.line
     (subst (λ n. IsNoBegin f n s.columns stop) c.line.ensures (c.in_err-begin-in-Header.ensures s.columns s.is)))
@@ -81,7 +81,7 @@ returns-in_ok-begin-in-Header-clause-taken c = λ bytes k.
     let new = c.push.new.self in
     let s = header_step f c.args.self.now.rows new c.args.self.now.case bytes piece c.next_bytes.result.now at
     c.in-Ok.took.event c.header.result.now k (first_next c.args.formula.now c.args.self.now.rows.heading bytes k.rows
-    c.args.self.now.case c.args.piece.now c.next_bytes.result.now k.tied none c.next_bytes.ensures.line) ok.within.0
+    c.args.self.now.case c.args.piece.now c.next_bytes.result.now k.has_case none c.next_bytes.ensures.line) ok.within.0
     c.in-Header.is ok.came (ok.ok bytes k.rows k.stands) ok.kept.0 ok.kept.1 c.header.ensures in
     kept_begun f c.args.self.now.rows new c.args.self.now.case bytes
     (bytes ++ take at piece) new.begun s.heading s.columns c.in_ok-begin-in-Header.field-0 k s.first s.stands

@@ -27,7 +27,7 @@ follow_on-requires-clause-header g c =
     let ok = c.in-Ok.ensures in
     let old = c.args.self.now in
     let came = (subst (λ (e : Event). HasCome e old.rows c.push.new.self (take c.in-Ok.took.bytes c.next_bytes.result.now)) c.in-Header.is ok.came).0 in
-    let one = first_next old.formula old.rows.heading c.requires.bytes k.kept.rows k.case c.args.piece.now c.next_bytes.result.now k.kept.tied came
+    let one = first_next old.formula old.rows.heading c.requires.bytes k.kept.rows k.case c.args.piece.now c.next_bytes.result.now k.kept.has_case came
     (next_of g.F.Follow.stands g.F.Follow.owes g.F.Follow.kind old.follower k.case
     (c.requires.written ++ old.text) c.args.piece.now c.next_bytes.result.now k.followed c.next_bytes.ensures.line) in
     let s = header_step old.formula old.rows c.push.new.self k.case c.requires.bytes c.args.piece.now c.next_bytes.result.now
@@ -45,7 +45,7 @@ returns-in_err-follow_on-in-Header-clause-taken g c =
     let ok = c.in-Ok.ensures in
     let old = c.args.self.now in
     let came = (subst (λ (e : Event). HasCome e old.rows c.push.new.self (take c.in-Ok.took.bytes c.next_bytes.result.now)) c.in-Header.is ok.came).0 in
-    let one = first_next old.formula old.rows.heading bytes k.kept.rows k.case c.args.piece.now c.next_bytes.result.now k.kept.tied came
+    let one = first_next old.formula old.rows.heading bytes k.kept.rows k.case c.args.piece.now c.next_bytes.result.now k.kept.has_case came
     (next_of g.F.Follow.stands g.F.Follow.owes g.F.Follow.kind old.follower k.case
     (written ++ old.text) c.args.piece.now c.next_bytes.result.now k.followed c.next_bytes.ensures.line) in
     let s = header_step old.formula old.rows c.push.new.self k.case bytes c.args.piece.now c.next_bytes.result.now
@@ -55,7 +55,7 @@ returns-in_err-follow_on-in-Header-clause-taken g c =
     c.args.piece.now c.in-Ok.took.bytes c.header.result.now c.in_err-follow_on-in-Header.field-0.0 refl s
     (subst (λ n. IsNoBegin old.formula n s.columns c.in_err-follow_on-in-Header.field-0.0) c.line.ensures
     (c.in_err-follow_on-in-Header.ensures.begun s.columns s.is))
-    c.follow_on.new.follower k.case (written ++ old.text) k.kept.tied came
+    c.follow_on.new.follower k.case (written ++ old.text) k.kept.has_case came
     (subst (λ x. IsOpened g.F.Follow.stands g.F.Follow.owes g.F.Follow.kind x k.case (written ++ old.text))
     (sym c.in_err-follow_on-in-Header.ensures.kept) k.followed))
 
@@ -92,7 +92,7 @@ returns-in_ok-follow_on-in-Header-clause-taken g c = λ bytes written k.
     let ok = c.in-Ok.ensures in
     let old = c.args.self.now in
     let came = (subst (λ (e : Event). HasCome e old.rows c.push.new.self (take c.in-Ok.took.bytes c.next_bytes.result.now)) c.in-Header.is ok.came).0 in
-    let one = first_next old.formula old.rows.heading bytes k.kept.rows k.case c.args.piece.now c.next_bytes.result.now k.kept.tied came
+    let one = first_next old.formula old.rows.heading bytes k.kept.rows k.case c.args.piece.now c.next_bytes.result.now k.kept.has_case came
     (next_of g.F.Follow.stands g.F.Follow.owes g.F.Follow.kind old.follower k.case
     (written ++ old.text) c.args.piece.now c.next_bytes.result.now k.followed c.next_bytes.ensures.line) in
     let s = header_step old.formula old.rows c.push.new.self k.case bytes c.args.piece.now c.next_bytes.result.now
@@ -101,7 +101,7 @@ returns-in_ok-follow_on-in-Header-clause-taken g c = λ bytes written k.
     let (case, its, follows) = c.in_ok-follow_on-in-Header.ensures.begun s.columns s.is in
     let begun = subst (λ n. IsBegun old.formula n s.columns case) c.line.ensures its in
     let none = none_open g.F.Follow.stands g.F.Follow.owes g.F.Follow.kind old.follower old.formula old.rows.heading bytes
-    k.kept.rows k.case (written ++ old.text) k.kept.tied came k.followed in
+    k.kept.rows k.case (written ++ old.text) k.kept.has_case came k.followed in
     record {
       served = k.served;
       case = Some case;

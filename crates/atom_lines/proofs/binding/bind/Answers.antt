@@ -4,10 +4,10 @@ use Rattle.std.proofs.lemmas.List.{take_all}
 use Rattle.std.proofs.lemmas.List.Elements.{All-push}
 use Rattle.stl_syntax.specs.Binding.{HasColumns}
 use Rattle.atom_lines.specs.Binding.{IsBound}
-use Rattle.atom_lines.specs.Faults.{AreNodesTied}
+use Rattle.atom_lines.specs.Faults.{AreNodeBindings}
 use Rattle.atom_lines.specs.Sums.{IsNodeSound}
-use Rattle.atom_lines.proofs.TyingLemmas.{fault_of, nodes_more, bound_of, take_on}
-use Rattle.atom_lines.proofs.tying.bind.Goals as goal
+use Rattle.atom_lines.proofs.BindingLemmas.{fault_of, nodes_more, bound_of, take_on}
+use Rattle.atom_lines.proofs.binding.bind.Goals as goal
 
 pub returns-in-Err-clause-err : goal.returns-in-Err-clause-err
 returns-in-Err-clause-err c = fault_of c.args.header.now.columns c.args.formula.now c.loop-i.i c.node.result.now c.in-Err.fault
@@ -19,9 +19,9 @@ loop-i-preserved c =
     let items : c.push.new.self.items ≡ c.loop-i.atoms.items ++ c.in-Ok.atom ∷ [] = rw done at c.push.ensures.items in
     let more = take_on c.args.formula.now.nodes c.loop-i.i c.node.result.now c.node.ensures.node in
     record {
-      tied = subst (AreNodesTied c.args.header.now.columns c.args.formula.now.nodes _) (sym items)
+      bindings = subst (AreNodeBindings c.args.header.now.columns c.args.formula.now.nodes _) (sym items)
           (nodes_more c.args.header.now.columns c.args.formula.now.nodes c.loop-i.i c.loop-i.atoms.items c.node.result.now
-          c.in-Ok.atom c.loop-i.invariant.tied c.node.ensures.node c.in-Ok.ensures.ok);
+          c.in-Ok.atom c.loop-i.invariant.bindings c.node.ensures.node c.in-Ok.ensures.ok);
       sound = subst (All (IsNodeSound (length c.args.header.now.columns))) (sym items)
           (All-push (IsNodeSound (length c.args.header.now.columns)) c.loop-i.atoms.items c.in-Ok.atom c.loop-i.invariant.sound c.in-Ok.ensures.sound);
       named = subst (All (HasColumns c.args.header.now.columns)) (sym more) (All-push (HasColumns c.args.header.now.columns)
@@ -33,7 +33,7 @@ returns-clause-ok c =
     let count : length c.args.formula.now.nodes ≡ c.loop-i.i =
     let a = c.len-i-end.ensures.count in let b = c.loop-i-test.false in let d = c.loop-i.auto.i-end in omega arith in
     subst (λ b. IsBound b c.args.formula.now c.args.header.now) (sym c.of.ensures)
-    (bound_of c.args.formula.now c.args.header.now c.columns.result c.loop-i.atoms.items c.loop-i.i c.columns.ensures count c.loop-i.invariant.tied)
+    (bound_of c.args.formula.now c.args.header.now c.columns.result c.loop-i.atoms.items c.loop-i.i c.columns.ensures count c.loop-i.invariant.bindings)
 
 pub returns-clause-named : goal.returns-clause-named
 returns-clause-named c =

@@ -1,13 +1,13 @@
-//! How a formula's names are tied to a header's columns.
+//! How a formula's names are bound to a header's columns.
 ghost use Rattle.std.specs.Prelude.{◌≡◌, ◌<◌, ◌∷◌, [], ℕ, length, All, IfOk, IfErr, MatchOption, MatchResult, slice_index_or};
 ghost use Rattle.stl_syntax.specs.Trace.{Column};
 ghost use Rattle.stl_syntax.specs.Binding.{HasColumn, HasColumns};
-ghost use Rattle.atom_lines.specs.Binding.{IsBound, IsColumn, IsAtomTied};
-ghost use Rattle.atom_lines.specs.Faults.{IsBindFault, IsFaultAt, IsNodeFault, IsNodeTied, LacksColumn};
+ghost use Rattle.atom_lines.specs.Binding.{IsBound, IsColumn, IsAtomBinding};
+ghost use Rattle.atom_lines.specs.Faults.{IsBindFault, IsFaultAt, IsNodeFault, IsNodeBinding, LacksColumn};
 ghost use Rattle.atom_lines.specs.Sums.{IsAtomSound, IsNodeSound};
 
 use crate::bound::Bound;
-use crate::tied::{BoundAtom, BoundTerm};
+use crate::bound_atom::{BoundAtom, BoundTerm};
 use std::alloc::Global;
 use stl_syntax::{Atom, Formula, Node};
 use trace_reader::Header;
@@ -37,7 +37,7 @@ fn column_of(header: &Header, name: &str) -> Option<usize>
 
 /// The atom at a node, with columns in place of names.
 fn bind_atom(alloc: Global, header: &Header, node: u32, atom: &Atom) -> Result<BoundAtom, BindFault>
-    ensures ok { IfOk result (IsAtomTied header.now.columns atom.now) }
+    ensures ok { IfOk result (IsAtomBinding header.now.columns atom.now) }
     ensures sound { IfOk result (IsAtomSound (length header.now.columns)) }
     ensures named { IfOk result (λ _. All (HasColumn header.now.columns) atom.now.terms) }
     ensures err { IfErr result (IsNodeFault header.now.columns node atom.now) }
@@ -74,7 +74,7 @@ fn bind_node(
     place: u32,
     node: &Node,
 ) -> Result<Option<BoundAtom>, BindFault>
-    ensures ok { IfOk result (IsNodeTied header.now.columns node.now) }
+    ensures ok { IfOk result (IsNodeBinding header.now.columns node.now) }
     ensures sound { IfOk result (IsNodeSound (length header.now.columns)) }
     ensures named { IfOk result (λ _. HasColumns header.now.columns node.now) }
     ensures err { IfErr result (IsFaultAt header.now.columns place node.now) }
@@ -88,7 +88,7 @@ fn bind_node(
     }
 }
 
-/// Ties the names of a formula to the columns of a header.
+/// Binds the names of a formula to the columns of a header.
 ///
 /// It is refused exactly where a term names no column, by the first such term in post-order.
 ///

@@ -1,4 +1,4 @@
--- Which column a name stands for, and how terms and nodes are tied one after the other.
+-- Which column a name stands for, and how terms and nodes are bound one after the other.
 use Rattle.std.proofs.Common.{◌≡◌, ◌≢◌, ℕ, zero, suc, ◌+◌, ◌<◌, Bool, true, false, ◌||◌, ◌⊎◌, inl}
 use Rattle.std.proofs.Common.{inr, List, [], ◌∷◌, ◌++◌, length, get_or, take, map, Option, Some}
 use Rattle.std.proofs.Common.{None, IsTrue, refl, sym, ap, subst, ◌∙◌, arith, length-append}
@@ -15,12 +15,12 @@ use Rattle.stl_syntax.specs.declared.atom.Atom.{Atom}
 use Rattle.stl_syntax.specs.declared.node.Node.{Node}
 use Rattle.stl_syntax.specs.declared.node.Node.TheVariants.{Atom as Leaf}
 use Rattle.stl_syntax.specs.declared.atom.Term.{Term}
-use Rattle.atom_lines.specs.declared.tied.BoundTerm.{BoundTerm}
-use Rattle.atom_lines.specs.declared.tied.BoundAtom.{BoundAtom}
-use Rattle.atom_lines.specs.declared.tying.BindFault.{BindFault}
-use Rattle.atom_lines.specs.declared.tying.BindFault.TheVariants.{UnknownColumn, Memory}
-use Rattle.atom_lines.specs.Binding.{IsColumn, IsTied, AreTied, IsAtomTied, IsBound}
-use Rattle.atom_lines.specs.Faults.{LacksColumn, IsFirstLacking, IsFaultAt, IsBindFault, IsNodeTied, AreNodesTied}
+use Rattle.atom_lines.specs.declared.bound_atom.BoundTerm.{BoundTerm}
+use Rattle.atom_lines.specs.declared.bound_atom.BoundAtom.{BoundAtom}
+use Rattle.atom_lines.specs.declared.binding.BindFault.{BindFault}
+use Rattle.atom_lines.specs.declared.binding.BindFault.TheVariants.{UnknownColumn, Memory}
+use Rattle.atom_lines.specs.Binding.{IsColumn, IsTermBinding, AreTermBindings, IsAtomBinding, IsBound}
+use Rattle.atom_lines.specs.Faults.{LacksColumn, IsFirstLacking, IsFaultAt, IsBindFault, IsNodeBinding, AreNodeBindings}
 
 neither : (a b : Bool) → (a ≡ true → ⊥) → (b ≡ true → ⊥) → (a || b) ≡ true → ⊥
 neither true b h k e = h refl
@@ -63,23 +63,23 @@ among (k ∷ columns) name zero step h =
 among (k ∷ columns) name (suc i) step h = second_true (bytes_eq name k.name) (is_among name (map (λ k. k.name) columns)) (among columns name i step h.1)
 
 -- one more term
-pub tied_more : (columns : List Column) (ts : List Term) (ks : List BoundTerm) (t : Term) (k : BoundTerm) → AreTied columns ts ks
-    → IsTied columns t k → AreTied columns (ts ++ t ∷ []) (ks ++ k ∷ [])
-tied_more columns [] [] t k h e = (e, tt)
-tied_more columns [] (k' ∷ ks) t k h e = absurd h
-tied_more columns (t' ∷ ts) [] t k h e = absurd h
-tied_more columns (t' ∷ ts) (k' ∷ ks) t k h e = (h.0, tied_more columns ts ks t k h.1 e)
+pub bindings_more : (columns : List Column) (ts : List Term) (ks : List BoundTerm) (t : Term) (k : BoundTerm) → AreTermBindings columns ts ks
+    → IsTermBinding columns t k → AreTermBindings columns (ts ++ t ∷ []) (ks ++ k ∷ [])
+bindings_more columns [] [] t k h e = (e, tt)
+bindings_more columns [] (k' ∷ ks) t k h e = absurd h
+bindings_more columns (t' ∷ ts) [] t k h e = absurd h
+bindings_more columns (t' ∷ ts) (k' ∷ ks) t k h e = (h.0, bindings_more columns ts ks t k h.1 e)
 
 -- a list up to an element, by what stands there
 pub take_on : {X : Type 0} (xs : List X) (i : ℕ) (x : X) → slice_get xs i ≡ Some x → take (i + 1) xs ≡ take i xs ++ x ∷ []
 take_on xs i x h = take_more xs i x (slice_get_within xs i x h) ∙ ap (λ y. take i xs ++ y ∷ []) (get_or_from_slice_get xs i x x h)
 
 -- as many terms are bound as there are
-pub tied_length : (columns : List Column) (ts : List Term) (ks : List BoundTerm) → AreTied columns ts ks → length ks ≡ length ts
-tied_length columns [] [] h = refl
-tied_length columns [] (k ∷ ks) h = absurd h
-tied_length columns (t ∷ ts) [] h = absurd h
-tied_length columns (t ∷ ts) (k ∷ ks) h = ap suc (tied_length columns ts ks h.1)
+pub bindings_length : (columns : List Column) (ts : List Term) (ks : List BoundTerm) → AreTermBindings columns ts ks → length ks ≡ length ts
+bindings_length columns [] [] h = refl
+bindings_length columns [] (k ∷ ks) h = absurd h
+bindings_length columns (t ∷ ts) [] h = absurd h
+bindings_length columns (t ∷ ts) (k ∷ ks) h = ap suc (bindings_length columns ts ks h.1)
 
 -- what holds below a number and at it
 pub one_more : (P : ℕ → Type 0) (i : ℕ) → ((j : ℕ) → j < i → P j) → P i → (j : ℕ) → j < i + 1 → P j
@@ -130,36 +130,36 @@ got_end (y ∷ xs) x ys = got_end xs x ys
 
 -- one more node
 pub nodes_more : (columns : List Column) (nodes : List Node) (i : ℕ) (atoms : List (Option BoundAtom)) (n : Node)
-    (k : Option BoundAtom) → AreNodesTied columns nodes i atoms
-    → slice_get nodes i ≡ Some n → IsNodeTied columns n k → AreNodesTied columns nodes (i + 1) (atoms ++ k ∷ [])
-nodes_more columns nodes i atoms n k h e tied = record {
+    (k : Option BoundAtom) → AreNodeBindings columns nodes i atoms
+    → slice_get nodes i ≡ Some n → IsNodeBinding columns n k → AreNodeBindings columns nodes (i + 1) (atoms ++ k ∷ [])
+nodes_more columns nodes i atoms n k h e binding = record {
   count_is = omega (arith, length-append atoms (k ∷ []), h.count_is);
   each = by_place;
 }
   where
-    by_place : (j : ℕ) (m : Node) (l : Option BoundAtom) → slice_get nodes j ≡ Some m → slice_get (atoms ++ k ∷ []) j ≡ Some l → IsNodeTied columns m l
+    by_place : (j : ℕ) (m : Node) (l : Option BoundAtom) → slice_get nodes j ≡ Some m → slice_get (atoms ++ k ∷ []) j ≡ Some l → IsNodeBinding columns m l
     by_place j m l a b = by_order (place j (slice_get_within (atoms ++ k ∷ []) j l b)) a b
       where
         place : (j : ℕ) → j < length (atoms ++ k ∷ []) → (j < length atoms) ⊎ (j ≡ length atoms)
         place j g = let c = length-append atoms (k ∷ []) in grind arith
 
-        by_order : (j < length atoms) ⊎ (j ≡ length atoms) → slice_get nodes j ≡ Some m → slice_get (atoms ++ k ∷ []) j ≡ Some l → IsNodeTied columns m l
+        by_order : (j < length atoms) ⊎ (j ≡ length atoms) → slice_get nodes j ≡ Some m → slice_get (atoms ++ k ∷ []) j ≡ Some l → IsNodeBinding columns m l
         by_order (inl g) a b = h.each j m l a (sym (got_front atoms (k ∷ []) j g) ∙ b)
         by_order (inr g) a b =
             let at_i : j ≡ i = omega (arith, g, h.count_is) in
             let same_node : m ≡ n = same_Some m n (sym a ∙ ap (slice_get nodes) at_i ∙ e) in
             let same_atom : l ≡ k = same_Some l k (sym b ∙ ap (slice_get (atoms ++ k ∷ [])) g ∙ got_end atoms k []) in
-            subst (λ m. IsNodeTied columns m l) (sym same_node) (subst (λ l. IsNodeTied columns n l) (sym same_atom) tied)
+            subst (λ m. IsNodeBinding columns m l) (sym same_node) (subst (λ l. IsNodeBinding columns n l) (sym same_atom) binding)
 
 -- all nodes
 pub bound_of : (f : Formula) (h : Header) (width : ℕ) (atoms : List (Option BoundAtom)) (count : ℕ) → width ≡ length h.columns → length f.nodes ≡ count
-    → AreNodesTied h.columns f.nodes count atoms → IsBound (record { width = width; atoms = atoms }) f h
-bound_of f h width atoms count w c tied = record { width = w; atoms = λ i a at. by_atom i a at (slice_get atoms i) refl }
+    → AreNodeBindings h.columns f.nodes count atoms → IsBound (record { width = width; atoms = atoms }) f h
+bound_of f h width atoms count w c bindings = record { width = w; atoms = λ i a at. by_atom i a at (slice_get atoms i) refl }
   where
     by_atom : (i : ℕ) (a : Atom) → slice_get f.nodes i ≡ Some (Leaf a) → (o : Option (Option BoundAtom)) → slice_get atoms i ≡ o
-        → (k : BoundAtom) × (slice_get atoms i ≡ Some (Some k)) × IsAtomTied h.columns a k
+        → (k : BoundAtom) × (slice_get atoms i ≡ Some (Some k)) × IsAtomBinding h.columns a k
     by_atom i a at None e =
-        let within : i < length atoms = let l = slice_get_within f.nodes i (Leaf a) at in omega (arith, l, c, tied.count_is) in
+        let within : i < length atoms = let l = slice_get_within f.nodes i (Leaf a) at in omega (arith, l, c, bindings.count_is) in
         absurd (let g = slice_get-get_or atoms i None within in cc)
-    by_atom i a at (Some None) e = absurd (tied.each i (Leaf a) None at e)
-    by_atom i a at (Some (Some k)) e = (k, e, tied.each i (Leaf a) (Some k) at e)
+    by_atom i a at (Some None) e = absurd (bindings.each i (Leaf a) None at e)
+    by_atom i a at (Some (Some k)) e = (k, e, bindings.each i (Leaf a) (Some k) at e)

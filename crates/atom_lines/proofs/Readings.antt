@@ -21,7 +21,7 @@ use Rattle.atom_lines.proofs.Signs.{compare_same}
 use Rattle.atom_lines.proofs.Margins.{margin_same}
 
 -- what an atom is worth does not depend on the pair
-pub worth_same : (told : How) (rel : Rel) {y z : Rational} → y ≈ z → worth told rel y ≈ᵉ worth told rel z
+pub worth_same : (read_as : How) (rel : Rel) {y z : Rational} → y ≈ z → worth read_as rel y ≈ᵉ worth read_as rel z
 worth_same by_truth rel {y} {z} e = subst (λ b. finite (whole (truth_value (compares rel y))) ≈ᵉ finite (whole (truth_value b)))
     (compare_same rel e) (same_reflᵉ (finite (whole (truth_value (compares rel y)))))
 worth_same by_margin rel e = finite_same (margin_same rel e)
@@ -37,14 +37,14 @@ to_bool false v (inl h) = absurd (true≢false (sym h.0))
 to_bool false v (inr h) = h.1
 
 -- the reading of the trace gives the atom just what it is worth
-pub gives : (told : How) (tr : Trace) (i : ℕ) (a : Atom) (t : Rational) (v : Extended)
-    → v ≈ᵉ worth told a.rel (expression a tr t) → Gives (reading_of told tr) i a t v
+pub gives : (read_as : How) (tr : Trace) (i : ℕ) (a : Atom) (t : Rational) (v : Extended)
+    → v ≈ᵉ worth read_as a.rel (expression a tr t) → Gives (reading_of read_as tr) i a t v
 gives by_truth tr i a t v h = of_bool (compares a.rel (expression a tr t)) v h
 gives by_margin tr i a t v h = h
 
 -- and it gives nothing else
-pub given : (told : How) (tr : Trace) (i : ℕ) (a : Atom) (t : Rational) (v : Extended) → Gives (reading_of told tr) i a t v
-    → v ≈ᵉ worth told a.rel (expression a tr t)
+pub given : (read_as : How) (tr : Trace) (i : ℕ) (a : Atom) (t : Rational) (v : Extended) → Gives (reading_of read_as tr) i a t v
+    → v ≈ᵉ worth read_as a.rel (expression a tr t)
 given by_truth tr i a t v h = to_bool (compares a.rel (expression a tr t)) v h
 given by_margin tr i a t v h = h
 

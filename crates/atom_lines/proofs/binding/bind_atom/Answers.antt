@@ -5,11 +5,11 @@ use Rattle.std.proofs.lemmas.List.{take_all}
 use Rattle.std.proofs.lemmas.List.Elements.{All-push}
 use Rattle.stl_syntax.specs.Trace.{Column}
 use Rattle.stl_syntax.specs.Binding.{HasColumn}
-use Rattle.atom_lines.specs.declared.tied.BoundTerm.{BoundTerm}
-use Rattle.atom_lines.specs.Binding.{IsColumn, AreTied}
+use Rattle.atom_lines.specs.declared.bound_atom.BoundTerm.{BoundTerm}
+use Rattle.atom_lines.specs.Binding.{IsColumn, AreTermBindings}
 use Rattle.atom_lines.specs.Sums.{IsTermSound}
-use Rattle.atom_lines.proofs.TyingLemmas.{within, among, tied_more, tied_length, take_on}
-use Rattle.atom_lines.proofs.tying.bind_atom.Goals as goal
+use Rattle.atom_lines.proofs.BindingLemmas.{within, among, bindings_more, bindings_length, take_on}
+use Rattle.atom_lines.proofs.binding.bind_atom.Goals as goal
 
 pub step-requires : goal.step-requires
 step-requires c = within c.args.header.now.columns c.as_str.result.now c.in-Some.column _ (c.in-Some.ensures (record { name = []; step = true }))
@@ -29,9 +29,9 @@ loop-i-preserved c =
     rw (c.step.ensures some) (subst (λ n. IsColumn columns n c.in-Some.column (get_or columns c.in-Some.column some).step)
     (c.as_str.ensures ∙ c.name.ensures) (c.in-Some.ensures some)) in
     record {
-      tied = subst (λ ks. AreTied columns (take (c.loop-i.i + 1) c.args.atom.now.terms) ks) (sym items)
-          (subst (λ ts. AreTied columns ts (c.loop-i.terms.items ++ bound ∷ [])) (sym more)
-          (tied_more columns (take c.loop-i.i c.args.atom.now.terms) c.loop-i.terms.items t bound c.loop-i.invariant.tied
+      bindings = subst (λ ks. AreTermBindings columns (take (c.loop-i.i + 1) c.args.atom.now.terms) ks) (sym items)
+          (subst (λ ts. AreTermBindings columns ts (c.loop-i.terms.items ++ bound ∷ [])) (sym more)
+          (bindings_more columns (take c.loop-i.i c.args.atom.now.terms) c.loop-i.terms.items t bound c.loop-i.invariant.bindings
           (record { coef = coef; column = column })));
       sound = subst (All (IsTermSound (length columns))) (sym items)
           (All-push (IsTermSound (length columns)) c.loop-i.terms.items bound c.loop-i.invariant.sound
@@ -47,10 +47,10 @@ returns-clause-sound c =
     let limit : to_z w32 (of_z w32 c.limit.result) ≡ c.args.atom.now.limit = search (rules, to_z-of_z) in
     let whole : take c.loop-i.i c.args.atom.now.terms ≡ c.args.atom.now.terms =
     take_all c.loop-i.i c.args.atom.now.terms (let a = c.terms-i-end.ensures.count in let b = c.loop-i-test.false in omega arith) in
-    let tied : AreTied c.args.header.now.columns c.args.atom.now.terms c.loop-i.terms.items =
-    subst (λ ts. AreTied c.args.header.now.columns ts c.loop-i.terms.items) whole c.loop-i.invariant.tied in
+    let bindings : AreTermBindings c.args.header.now.columns c.args.atom.now.terms c.loop-i.terms.items =
+    subst (λ ts. AreTermBindings c.args.header.now.columns ts c.loop-i.terms.items) whole c.loop-i.invariant.bindings in
     record {
-      few = omega (arith, tied_length c.args.header.now.columns c.args.atom.now.terms c.loop-i.terms.items tied, limits.few);
+      few = omega (arith, bindings_length c.args.header.now.columns c.args.atom.now.terms c.loop-i.terms.items bindings, limits.few);
       terms = c.loop-i.invariant.sound;
       limit = subst (λ z. nat_abs z ≤ 1073741824) (sym limit) limits.limit;
     }

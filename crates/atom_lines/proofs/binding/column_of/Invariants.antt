@@ -1,7 +1,7 @@
 use Rattle.std.proofs.Common.{ℕ, ◌<◌, ◌≢◌}
 use Rattle.std.specs.Prelude.{slice_index_or}
 use Rattle.stl_syntax.specs.Trace.{Column}
-use Rattle.atom_lines.proofs.tying.column_of.Given as goal
+use Rattle.atom_lines.proofs.binding.column_of.Given as goal
 
 -- no column before has the name
 abbrev pub invariant-loop-i : goal.invariant-loop-i

@@ -2,8 +2,8 @@ use Rattle.std.proofs.Common.{◌≡◌, ◌≢◌, ◌∙◌, sym, get_or, arit
 use Rattle.std.proofs.lemmas.Bool.{false≢true}
 use Rattle.std.proofs.lemmas.Slice.Eq.{bytes_eq-Decides}
 use Rattle.stl_syntax.specs.Trace.{Column}
-use Rattle.atom_lines.proofs.TyingLemmas.{lacks, found, one_more}
-use Rattle.atom_lines.proofs.tying.column_of.Goals as goal
+use Rattle.atom_lines.proofs.BindingLemmas.{lacks, found, one_more}
+use Rattle.atom_lines.proofs.binding.column_of.Goals as goal
 
 pub returns-then-eq : goal.returns-then-eq
 returns-then-eq c = λ d.
