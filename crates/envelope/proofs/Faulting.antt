@@ -24,7 +24,7 @@ use Rattle.envelope.specs.declared.walk.Walk.{Walk}
 use Rattle.pl_signal.specs.declared.faults.OpFault.{OpFault}
 use Rattle.envelope.specs.Turns.{IsToCome, IsNoBetter, none_of}
 use Rattle.envelope.specs.Best.{Has, IsBestFault, IsCrossingOf}
-use Rattle.envelope.specs.SoFar.{EndsBefore, IsSoFarFault, IsEndFault, IsOpenFault, IsReady, IsSettledTo, first_time}
+use Rattle.envelope.specs.SoFar.{EndsBefore, IsSoFarFault, IsEndFault, IsOpenFault, IsReady, IsBuiltTo, first_time}
 use Rattle.envelope.specs.Standing.{Part, Counts, IsOneOf, IsPieceOn, IsNone, IsCarried, FirstStays, NothingLeaves, GoesTo, Leaves, Stands}
 use Rattle.envelope.specs.Walking.{IsCrossingOn, IsPiecesFault, IsRefusal, IsRefusedFor, IsStoppedBy}
 use Rattle.envelope.proofs.Bests.{no_better_trans}
@@ -178,8 +178,8 @@ module _ {P : Type 0} (shape : ShapeOf P) (laws : ShapeLaws shape) where
       by_built None e h = absurd h
       by_built (Some built) e h = fault_carried shape laws side pos to parts course.before (λ t. (stop built <ʳ t) × (t <ʳ value course.at))
           (start built) (value course.at) (stop built) (value course.at) pair
-          (s.before (stop built) (subst (λ o. IsSettledTo o (stop built)) (sym e) refl))
-          (λ t a b. (a, b)) (start_to_stop shape built (subst (λ o. EndsBefore shape o (value course.at)) e ready.settled).0) (le_refl (value course.at)) h
+          (s.before (stop built) (subst (λ o. IsBuiltTo o (stop built)) (sym e) refl))
+          (λ t a b. (a, b)) (start_to_stop shape built (subst (λ o. EndsBefore shape o (value course.at)) e ready.built).0) (le_refl (value course.at)) h
 
   -- what is refused so far is refused further on
   raised : (parts : List (Part P)) (from from' at to : Rational) (pair : WidePair P) → from ≡ from' → at ≤ʳ to
@@ -242,7 +242,7 @@ module _ {P : Type 0} (shape : ShapeOf P) (laws : ShapeLaws shape) where
           (λ t. (value mid.at <ʳ t) × NothingLeaves mid.after low_mid items_mid t)
           (first_time mid mid.built) (value turn.at) (value mid.at) (value turn.at) pair m.after
           (λ t a b. (a, nothing_sooner mid.after low_mid items_mid t (value turn.at) (le_of_lt b) l.still))
-          (begins_before mid.built l.can.ready.settled) (le_refl (value turn.at)) f)
+          (begins_before mid.built l.can.ready.built) (le_refl (value turn.at)) f)
         where
           begins_before : (o : Option (List (Knot P))) → EndsBefore shape o (value mid.at) → first_time mid o ≤ʳ value mid.at
           begins_before None e = le_refl (value mid.at)

@@ -12,11 +12,11 @@ use Rattle.envelope.specs.declared.so_far.SoFar.{SoFar}
 use Rattle.envelope.specs.declared.walk.Item.{Item}
 use Rattle.envelope.specs.Turns.{HasCome, IsToCome, IsNoBetter, none_of}
 use Rattle.envelope.specs.Best.{Has, IsBestAt}
-use Rattle.envelope.specs.SoFar.{HasPart, IsAlone, IsSettledTo, IsTold, Turns, Moves, same_knot, same_best, new_knot, first_time}
+use Rattle.envelope.specs.SoFar.{HasPart, IsAlone, IsBuiltTo, IsTold, Turns, Moves, same_knot, same_best, new_knot, first_time}
 use Rattle.envelope.specs.Standing.{Part, Counts, Changes, More, IsOneOf, IsPieceOn, IsBestOf, IsNone}
 use Rattle.envelope.specs.Standing.{FirstHasCome, NothingLeaves, SomethingLeaves, Keeps, IsCarried, Stands}
 use Rattle.envelope.proofs.TurnOrder.{not_both}
-use Rattle.envelope.proofs.Standings.{carried, carried_less, now_is_best, settled_once}
+use Rattle.envelope.proofs.Standings.{carried, carried_less, now_is_best, built_once}
 
 -- before the turn further pieces change nothing
 pub best_of_more : {P : Type 0} (shape : ShapeOf P) (side : Side) (turn : Turn) (parts parts' : List (Part P))
@@ -149,24 +149,24 @@ module _ {P : Type 0} (shape : ShapeOf P) (laws : ShapeLaws shape) (parts parts'
           (λ b. NothingLeaves b low_until' items' t) turns.after n) (turns.told t v h)
 
       before_same : new.built ≡ old.built → new.before ≡ old.before → value new.at ≡ value old.at → (b : Rational)
-          → IsSettledTo new.built b → IsCarried shape old.side turn to parts' new.before
+          → IsBuiltTo new.built b → IsCarried shape old.side turn to parts' new.before
           (λ t. (b <ʳ t) × (t <ʳ value new.at))
       before_same built best at b h = subst (λ x. IsCarried shape old.side turn to parts' x (λ t. (b <ʳ t) × (t <ʳ value new.at))) (sym best)
           (subst (λ u. IsCarried shape old.side turn to parts' old.before (λ t. (b <ʳ t) × (t <ʳ u))) (sym at)
           (more_carried old.before (λ t. (b <ʳ t) × (t <ʳ value old.at))
           (λ t k. inl (lt_of_lt_of_le k.1 (subst (λ u. u ≤ʳ value turn.at) at turns.not_later)))
-          (s.before b (subst (λ o. IsSettledTo o b) built h))))
+          (s.before b (subst (λ o. IsBuiltTo o b) built h))))
 
-      before : Moves old new (value turn.at) → (b : Rational) → IsSettledTo new.built b → IsCarried shape old.side turn
+      before : Moves old new (value turn.at) → (b : Rational) → IsBuiltTo new.built b → IsCarried shape old.side turn
           to parts' new.before (λ t. (b <ʳ t) × (t <ʳ value new.at))
       before (same_knot e built best at) b h = before_same built best at b h
       before (same_best a c built best at) b h = before_same built best at b h
-      before (new_knot order settled best at) b h = subst (λ x. IsCarried shape old.side turn to parts' x (λ t. (b <ʳ t) × (t <ʳ value new.at))) (sym best)
+      before (new_knot order built_to best at) b h = subst (λ x. IsCarried shape old.side turn to parts' x (λ t. (b <ʳ t) × (t <ʳ value new.at))) (sym best)
           (more_carried old.after (λ t. (b <ʳ t) × (t <ʳ value new.at)) (λ t k. inl (subst (λ u. t <ʳ u) at k.1))
           (carried_less shape laws old.side pos to parts old.after (λ t. (value old.at <ʳ t)
           × NothingLeaves old.after low_until items t) (λ t. (b <ʳ t) × (t <ʳ value new.at))
           (λ t k. (
-            subst (λ u. u <ʳ t) (settled_once shape laws old.side new.built b (value old.at) h settled)
+            subst (λ u. u <ʳ t) (built_once shape laws old.side new.built b (value old.at) h built_to)
                 k.0,
             nothing t (inl (subst (λ u. t <ʳ u) at k.1)),
           )) s.after))
@@ -180,7 +180,7 @@ module _ {P : Type 0} (shape : ShapeOf P) (laws : ShapeLaws shape) (parts parts'
       after (same_knot e built best at) = now_carried (λ t. (value new.at <ʳ t) × NothingLeaves next low_until' items'
           t) (λ t k. (inl (lt_of_le_of_lt (ge_of_same e) (subst (λ u. u <ʳ t) at k.0)), k.1))
       after (same_best a c built best at) = inl (subst (λ b. IsAlone b) turns.after c)
-      after (new_knot order settled best at) = now_carried (λ t. (value new.at <ʳ t) × NothingLeaves next low_until'
+      after (new_knot order built_to best at) = now_carried (λ t. (value new.at <ʳ t) × NothingLeaves next low_until'
           items' t) (λ t k. (inl (subst (λ u. u <ʳ t) at k.0), k.1))
 
       by_piece : (p : P) → IsNone shape old.side p ⊎ IsPieceOn parts' p (λ t. HasCome turn t

@@ -19,17 +19,17 @@ use Rattle.envelope.specs.declared.turns.Turn.{Turn}
 use Rattle.envelope.specs.declared.so_far.SoFar.{SoFar}
 use Rattle.envelope.specs.Turns.{HasCome, IsToCome, IsNoBetter}
 use Rattle.envelope.specs.Best.{Has, IsBestAt, IsWritten}
-use Rattle.envelope.specs.SoFar.{EndsBefore, Ends, HasPart, HaveLevels, IsAlone, IsReady, IsSettled, IsSettledShape}
-use Rattle.envelope.specs.SoFar.{IsTold, same_knot, same_best, new_knot, Settles, Turns, first_time}
+use Rattle.envelope.specs.SoFar.{EndsBefore, Ends, HasPart, HaveLevels, IsAlone, IsReady, IsBuilt, IsBuiltShape}
+use Rattle.envelope.specs.SoFar.{IsTold, same_knot, same_best, new_knot, TakesUp, Turns, first_time}
 use Rattle.envelope.proofs.Bests.{best_same, no_better_same, no_better_back, no_better_trans}
 
 module _ {P : Type 0} (shape : ShapeOf P) where
-  -- what is settled lies before the last knot
-  settled_before : (course : SoFar P) (o : Option (List (Knot P))) (t : Rational) (v : Extended) → EndsBefore shape o
-      (value course.at) → IsSettled shape course o t v → t <ʳ value course.at
-  settled_before course None t v e h = absurd h
-  settled_before course (Some built) t v e (inl w) = lt_of_le_of_lt (worth_within shape built t v e.0 w).below e.1
-  settled_before course (Some built) t v e (inr w) = w.1
+  -- what is built lies before the last knot
+  built_before : (course : SoFar P) (o : Option (List (Knot P))) (t : Rational) (v : Extended) → EndsBefore shape o
+      (value course.at) → IsBuilt shape course o t v → t <ʳ value course.at
+  built_before course None t v e h = absurd h
+  built_before course (Some built) t v e (inl w) = lt_of_le_of_lt (worth_within shape built t v e.0 w).below e.1
+  built_before course (Some built) t v e (inr w) = w.1
 
   -- the point at a turn: just after it the old best goes on, and else the new one begins
   abbrev pub IsPointOf : SoFar P → Turn → Best P → P → Type 0
@@ -39,13 +39,13 @@ module _ {P : Type 0} (shape : ShapeOf P) where
 
   -- a new knot at the turn
   pub turned_later : (old : SoFar P) (turn : Turn) (next : Best P) (point : P) (mid : SoFar P)
-      (s : Settles shape old mid) → IsReady shape old → value old.at <ʳ value turn.at → IsWithin (2 ^ 34)
+      (s : TakesUp shape old mid) → IsReady shape old → value old.at <ʳ value turn.at → IsWithin (2 ^ 34)
       (value turn.at) → HaveLevels shape next
       → IsPointOf old turn next point → Turns shape old turn next
       (record old { built = Some s.built; before = old.after; at = turn.at; point = point; after = next })
   turned_later old turn next point mid s ready order within levels here = record {
     ready = record {
-      settled = (s.signal, subst (λ u. u <ʳ value turn.at) (sym s.ends) order, subst (IsWithin (2 ^ 34)) (sym s.ends) ready.within);
+      built = (s.signal, subst (λ u. u <ʳ value turn.at) (sym s.ends) order, subst (IsWithin (2 ^ 34)) (sym s.ends) ready.within);
       within = within;
       before = ready.after;
       after = levels;
@@ -72,7 +72,7 @@ module _ {P : Type 0} (shape : ShapeOf P) where
       by_point t v e p (inl (after, m, h)) = inl (inr (same_sym e, after), inr (inr (lt_of_lt_of_le order (ge_of_same e), at_point t v old.after e p h)))
       by_point t v e p (inr (at, m, h)) = inr (inr (same_sym e, at), at_point t v next e p h)
 
-      by_built : (t : Rational) (v : Extended) → t <ʳ value turn.at → IsSettled shape old old.built t v
+      by_built : (t : Rational) (v : Extended) → t <ʳ value turn.at → IsBuilt shape old old.built t v
           ⊎ ((t ≈ value old.at) × Passes (shape.function old.point) t v)
           → (IsToCome turn t × IsTold shape old t v) ⊎ (HasCome turn t × IsBestAt shape old.side next t v)
       by_built t v b (inl w) = inl (inl b, inl w)
@@ -87,10 +87,10 @@ module _ {P : Type 0} (shape : ShapeOf P) where
       told t v (inr (inl w)) = by_point t v w.0 w.1 here
       told t v (inr (inr w)) = inr (inl w.0, w.1)
 
-      settled_part : (p : P) → IsSettledShape old.built p ⊎ Has old.before p ⊎ (p ≡ old.point) → HasPart old p ⊎ Has next p
-      settled_part p (inl m) = inl (inl m)
-      settled_part p (inr (inl m)) = inl (inr (inl m))
-      settled_part p (inr (inr m)) = inl (inr (inr (inl m)))
+      built_part : (p : P) → IsBuiltShape old.built p ⊎ Has old.before p ⊎ (p ≡ old.point) → HasPart old p ⊎ Has next p
+      built_part p (inl m) = inl (inl m)
+      built_part p (inr (inl m)) = inl (inr (inl m))
+      built_part p (inr (inr m)) = inl (inr (inr (inl m)))
 
       point_part : (p : P) → p ≡ point → IsPointOf old turn next point → HasPart old p ⊎ Has next p
       point_part p e (inl (_, m, _)) = inl (inr (inr (inr (subst (Has old.after) (sym e) m))))
@@ -103,7 +103,7 @@ module _ {P : Type 0} (shape : ShapeOf P) where
         point = point;
         after = next;
       }) p → HasPart old p ⊎ Has next p
-      parts p (inl m) = settled_part p (s.shapes p m)
+      parts p (inl m) = built_part p (s.shapes p m)
       parts p (inr (inl m)) = inl (inr (inr (inr m)))
       parts p (inr (inr (inl m))) = point_part p m here
       parts p (inr (inr (inr m))) = inr m
@@ -114,7 +114,7 @@ module _ {P : Type 0} (shape : ShapeOf P) where
       × IsBestAt shape old.side next (value old.at) (value_at (shape.function point) (value old.at)))
       → Turns shape old turn next (record old { point = point; after = next })
   turned_here old turn next point ready same levels here = record {
-    ready = record { settled = ready.settled; within = ready.within; before = ready.before; after = levels; still = ready.still };
+    ready = record { built = ready.built; within = ready.within; before = ready.before; after = levels; still = ready.still };
     side = refl;
     after = refl;
     first = first old.built;
@@ -128,10 +128,10 @@ module _ {P : Type 0} (shape : ShapeOf P) where
       first None = refl
       first (Some built) = refl
 
-      settled : (t : Rational) (v : Extended) (o : Option (List (Knot P))) → IsSettled shape
-          (record old { point = point; after = next }) o t v → IsSettled shape old o t v
-      settled t v None h = h
-      settled t v (Some built) h = h
+      is_built : (t : Rational) (v : Extended) (o : Option (List (Knot P))) → IsBuilt shape
+          (record old { point = point; after = next }) o t v → IsBuilt shape old o t v
+      is_built t v None h = h
+      is_built t v (Some built) h = h
 
       by_point : (t : Rational) (v : Extended) → t ≈ value old.at → Passes (shape.function point) t v
           → ((turn.just_after ≡ true) × (point ≡ old.point)) ⊎ ((turn.just_after ≡ false) × Has next point
@@ -147,8 +147,8 @@ module _ {P : Type 0} (shape : ShapeOf P) where
 
       told : (t : Rational) (v : Extended) → IsTold shape (record old { point = point; after = next }) t v
           → (IsToCome turn t × IsTold shape old t v) ⊎ (HasCome turn t × IsBestAt shape old.side next t v)
-      told t v (inl w) = let w' = settled t v old.built w in inl
-          (inl (lt_of_lt_of_le (settled_before old old.built t v ready.settled w') (ge_of_same same)), inl w')
+      told t v (inl w) = let w' = is_built t v old.built w in inl
+          (inl (lt_of_lt_of_le (built_before old old.built t v ready.built w') (ge_of_same same)), inl w')
       told t v (inr (inl w)) = by_point t v w.0 w.1 here
       told t v (inr (inr w)) = inr (inl (lt_of_le_of_lt (le_of_same same) w.0), w.1)
 
@@ -194,7 +194,7 @@ module _ {P : Type 0} (shape : ShapeOf P) where
       (shape.function next.top)
       → Turns shape old turn next (record old { after = next })
   turned_alone old turn next ready order levels a b same = record {
-    ready = record { settled = ready.settled; within = ready.within; before = ready.before; after = levels; still = ready.still };
+    ready = record { built = ready.built; within = ready.within; before = ready.before; after = levels; still = ready.still };
     side = refl;
     after = refl;
     first = first old.built;
@@ -208,9 +208,9 @@ module _ {P : Type 0} (shape : ShapeOf P) where
       first None = refl
       first (Some built) = refl
 
-      settled : (t : Rational) (v : Extended) (o : Option (List (Knot P))) → IsSettled shape (record old { after = next }) o t v → IsSettled shape old o t v
-      settled t v None h = h
-      settled t v (Some built) h = h
+      is_built : (t : Rational) (v : Extended) (o : Option (List (Knot P))) → IsBuilt shape (record old { after = next }) o t v → IsBuilt shape old o t v
+      is_built t v None h = h
+      is_built t v (Some built) h = h
 
       by_after : (after : Bool) → turn.just_after ≡ after → (t : Rational) (v : Extended) → value old.at <ʳ t
           → IsBestAt shape old.side next t v → value turn.at ≈ t
@@ -227,7 +227,7 @@ module _ {P : Type 0} (shape : ShapeOf P) where
 
       told : (t : Rational) (v : Extended) → IsTold shape (record old { after = next }) t v
           → (IsToCome turn t × IsTold shape old t v) ⊎ (HasCome turn t × IsBestAt shape old.side next t v)
-      told t v (inl w) = let w' = settled t v old.built w in inl (inl (lt_trans (settled_before old old.built t v ready.settled w') order), inl w')
+      told t v (inl w) = let w' = is_built t v old.built w in inl (inl (lt_trans (built_before old old.built t v ready.built w') order), inl w')
       told t v (inr (inl w)) = inl (inl (lt_of_le_of_lt (le_of_same w.0) order), inr (inl w))
       told t v (inr (inr w)) = by_order t v w.0 w.1 (lt_or_same_or_gt t (value turn.at))
 
@@ -237,33 +237,33 @@ module _ {P : Type 0} (shape : ShapeOf P) where
       parts p (inr (inr (inl m))) = inl (inr (inr (inl m)))
       parts p (inr (inr (inr m))) = inr m
 
-  -- the last knot of a course is settled: what was written after the settled part, or the first knot
-  pub settled_after : (old : SoFar P) (built new : List (Knot P)) → old.built ≡ Some built
-      → IsWritten shape old.side built old.before old.at old.point new → Settles shape old
+  -- the last knot of a course is taken up: what was written after the built part, or the first knot
+  pub taken_up_after : (old : SoFar P) (built new : List (Knot P)) → old.built ≡ Some built
+      → IsWritten shape old.side built old.before old.at old.point new → TakesUp shape old
       (record old { built = Some new })
-  settled_after old built new is h = record {
+  taken_up_after old built new is h = record {
     built = new;
     same = refl;
     signal = h.signal;
     begins = h.begins ∙ sym (ap (first_time old) is);
     ends = h.ends;
-    worth = λ t v w. subst (λ o. IsSettled shape old o t v
+    worth = λ t v w. subst (λ o. IsBuilt shape old o t v
         ⊎ ((t ≈ value old.at) × Passes (shape.function old.point) t v)) (sym is) (by_part t v (h.worth t v w));
-    shapes = λ p m. subst (λ o. IsSettledShape o p ⊎ Has old.before p ⊎ (p ≡ old.point)) (sym is) (h.shapes p m);
+    shapes = λ p m. subst (λ o. IsBuiltShape o p ⊎ Has old.before p ⊎ (p ≡ old.point)) (sym is) (h.shapes p m);
   }
     where
       by_part : (t : Rational) (v : Extended) → IsWorth shape built t v ⊎ ((stop built <ʳ t) × (t <ʳ value old.at)
           × IsBestAt shape old.side old.before t v) ⊎ ((t ≈ value old.at) × Passes (shape.function old.point) t v)
-          → IsSettled shape old (Some built) t v ⊎ ((t ≈ value old.at) × Passes (shape.function old.point) t v)
+          → IsBuilt shape old (Some built) t v ⊎ ((t ≈ value old.at) × Passes (shape.function old.point) t v)
       by_part t v (inl w) = inl (inl w)
       by_part t v (inr (inl w)) = inl (inr w)
       by_part t v (inr (inr w)) = inr w
 
-  -- the first knot is settled as a signal of one time
-  pub settled_first : (old : SoFar P) (new : List (Knot P)) → old.built ≡ None
+  -- the first knot is taken up as a signal of one time
+  pub taken_up_first : (old : SoFar P) (new : List (Knot P)) → old.built ≡ None
       → new ≡ record { time = old.at; point = old.point; after = old.point } ∷ [] → IsSignal shape new
-      → Settles shape old (record old { built = Some new })
-  settled_first old new is e signal = record {
+      → TakesUp shape old (record old { built = Some new })
+  taken_up_first old new is e signal = record {
     built = new;
     same = refl;
     signal = signal;
@@ -285,9 +285,9 @@ module _ {P : Type 0} (shape : ShapeOf P) where
       by_shape p (inr (inl m)) = m
       by_shape p (inr (inr m)) = absurd m
 
-  -- a course that goes on to the time, and is settled there
+  -- a course that goes on to the time, and is built up to there
   pub ended_later : (old mid new : SoFar P) (to : Frac) → value old.at <ʳ value to → Turns shape old
-      (record { at = to; just_after = false }) old.after mid → mid.at ≡ to → Settles shape mid new → Ends shape old
+      (record { at = to; just_after = false }) old.after mid → mid.at ≡ to → TakesUp shape mid new → Ends shape old
       (value to) new
   ended_later old mid new to order turns at s = record {
     built = s.built;
@@ -299,7 +299,7 @@ module _ {P : Type 0} (shape : ShapeOf P) where
     shapes = λ p m. by_part p (turns.parts p (by_shape p (s.shapes p m)));
   }
     where
-      by_knot : (t : Rational) (v : Extended) → IsSettled shape mid mid.built t v
+      by_knot : (t : Rational) (v : Extended) → IsBuilt shape mid mid.built t v
           ⊎ ((t ≈ value mid.at) × Passes (shape.function mid.point) t v) → IsTold shape mid t v
       by_knot t v (inl w) = inl w
       by_knot t v (inr w) = inr (inl w)
@@ -314,7 +314,7 @@ module _ {P : Type 0} (shape : ShapeOf P) where
       by_turn t v (inl h) = h.1
       by_turn t v (inr h) = inr (inr (after t h.0, h.1))
 
-      by_shape : (p : P) → IsSettledShape mid.built p ⊎ Has mid.before p ⊎ (p ≡ mid.point) → HasPart mid p
+      by_shape : (p : P) → IsBuiltShape mid.built p ⊎ Has mid.before p ⊎ (p ≡ mid.point) → HasPart mid p
       by_shape p (inl m) = inl m
       by_shape p (inr (inl m)) = inr (inl m)
       by_shape p (inr (inr m)) = inr (inr (inl m))

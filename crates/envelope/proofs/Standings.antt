@@ -12,7 +12,7 @@ use Rattle.envelope.specs.declared.turns.Turn.{Turn}
 use Rattle.envelope.specs.declared.walk.Item.{Item}
 use Rattle.envelope.specs.Turns.{HasCome, IsToCome, IsNoBetter, none_of}
 use Rattle.envelope.specs.Best.{Has, IsBestAt}
-use Rattle.envelope.specs.SoFar.{IsSettledTo}
+use Rattle.envelope.specs.SoFar.{IsBuiltTo}
 use Rattle.envelope.specs.Standing.{Part, Counts, IsOneOf, IsPieceOn, IsBestOf, IsNone, SomeGives, Promises, FirstStays}
 use Rattle.envelope.specs.Standing.{FirstHasCome, NothingLeaves, IsTop, AllBelow, AreBacked, AreStairs, Keeps, IsCarried}
 use Rattle.envelope.proofs.Bests.{no_better_refl, no_better_trans}
@@ -134,7 +134,7 @@ module _ {P : Type 0} (shape : ShapeOf P) (laws : ShapeLaws shape) (side : Side)
       by_kind p (inl n) = inl n
       by_kind p (inr (x, one, e, on)) = inr (x, one, e, λ t k. on t (f t k))
 
-  -- a signal is settled up to one time only
-  pub settled_once : (o : Option (List (Knot P))) (a b : Rational) → IsSettledTo o a → IsSettledTo o b → a ≡ b
-  settled_once None a b h k = absurd h
-  settled_once (Some built) a b h k = sym h ∙ k
+  -- a signal is built up to one time only
+  pub built_once : (o : Option (List (Knot P))) (a b : Rational) → IsBuiltTo o a → IsBuiltTo o b → a ≡ b
+  built_once None a b h k = absurd h
+  built_once (Some built) a b h k = sym h ∙ k

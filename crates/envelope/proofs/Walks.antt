@@ -25,7 +25,7 @@ use Rattle.envelope.specs.declared.walk.Slope.{Slope}
 use Rattle.envelope.specs.declared.walk.Walk.{Walk}
 use Rattle.envelope.specs.Turns.{HasCome, IsNoBetter, none_of}
 use Rattle.envelope.specs.Best.{Has, IsBestAt}
-use Rattle.envelope.specs.SoFar.{EndsBefore, HasPart, HaveLevels, IsAlone, IsSettled, IsSettledShape, IsSettledTo, IsTold, first_time}
+use Rattle.envelope.specs.SoFar.{EndsBefore, HasPart, HaveLevels, IsAlone, IsBuilt, IsBuiltShape, IsBuiltTo, IsTold, first_time}
 use Rattle.envelope.specs.Standing.{Part, Counts, IsOneOf, IsBestOf, IsNone, IsSlope, AreItems, CanGoOn}
 use Rattle.envelope.specs.Standing.{EachFollowed, EachToCome, IsFollowed, IsFalling, IsNewItem, Admits}
 use Rattle.envelope.specs.Standing.{SlopeEndsBy, Stands, piece_of, pieces_with, slope_until}
@@ -318,7 +318,7 @@ module _ {P : Type 0} (shape : ShapeOf P) (laws : ShapeLaws shape) (side : Side)
   pub begun_can : IsWithin (2 ^ 34) (value course.at) → course.fault ≡ None → (low_until : Turn) → CanGoOn shape course low_until []
   begun_can within still low_until = record {
     ready = record {
-      settled = subst (λ o. EndsBefore shape o (value course.at)) (sym built) tt;
+      built = subst (λ o. EndsBefore shape o (value course.at)) (sym built) tt;
       within = within;
       before = subst (λ b. HaveLevels shape b) (sym before) levels;
       after = subst (λ b. HaveLevels shape b) (sym after) levels;
@@ -342,7 +342,7 @@ module _ {P : Type 0} (shape : ShapeOf P) (laws : ShapeLaws shape) (side : Side)
       stairs = tt;
     };
     later = λ t h. absurd (subst (λ (b : Best P). MatchOption b.low ⊥ (λ _. HasCome low_until t)) after h);
-    before = λ b h. absurd (subst (λ o. IsSettledTo o b) built h);
+    before = λ b h. absurd (subst (λ o. IsBuiltTo o b) built h);
     after = inl (subst (λ b. IsAlone b) (sym after) (record { low = refl; high = refl }));
     shapes = λ p m. inl (by_part p m);
   }
@@ -363,14 +363,14 @@ module _ {P : Type 0} (shape : ShapeOf P) (laws : ShapeLaws shape) (side : Side)
           (is_none t)
 
       told : (t : Rational) (v : Extended) → IsTold shape course t v → IsBestOf shape side [] t v
-      told t v (inl h) = absurd (subst (λ o. IsSettled shape course o t v) built h)
+      told t v (inl h) = absurd (subst (λ o. IsBuilt shape course o t v) built h)
       told t v (inr (inl h)) = best_of t v (same_transᵉ v (value_at (shape.function none) t) (none_of side shape.lowest shape.highest)
           (subst (λ q. Passes (shape.function q) t v) point h.1) (is_none t))
       told t v (inr (inr h)) = best_of t v (of_best t v (subst (λ side. IsBestAt shape side (record { top = none; low = None; high = None }) t v) of_side
           (subst (λ b. IsBestAt shape course.side b t v) after h.1)))
 
       by_part : (p : P) → HasPart course p → IsNone shape side p
-      by_part p (inl m) = absurd (subst (λ o. IsSettledShape o p) built m)
+      by_part p (inl m) = absurd (subst (λ o. IsBuiltShape o p) built m)
       by_part p (inr (inl m)) = subst (λ q. IsNone shape side q) (sym (only_none p (subst (λ b. Has b p) before m))) no_value
       by_part p (inr (inr (inl m))) = subst (λ q. IsNone shape side q) (sym (m ∙ point)) no_value
       by_part p (inr (inr (inr m))) = subst (λ q. IsNone shape side q) (sym (only_none p (subst (λ b. Has b p) after m))) no_value

@@ -20,32 +20,32 @@ abbrev pub first_time : {P : Type 0} → SoFar P → Option (List (Knot P)) → 
 first_time course None = value course.at
 first_time course (Some built) = start built
 
--- the time at which the settled part ends
-abbrev pub IsSettledTo : {P : Type 0} → Option (List (Knot P)) → Rational → Type 0
-IsSettledTo None t = ⊥
-IsSettledTo (Some built) t = stop built ≡ t
+-- the time at which the built part ends
+abbrev pub IsBuiltTo : {P : Type 0} → Option (List (Knot P)) → Rational → Type 0
+IsBuiltTo None t = ⊥
+IsBuiltTo (Some built) t = stop built ≡ t
 
--- a shape of the settled part
-abbrev pub IsSettledShape : {P : Type 0} → Option (List (Knot P)) → P → Type 0
-IsSettledShape None p = ⊥
-IsSettledShape (Some built) p = HasShape built p
+-- a shape of the built part
+abbrev pub IsBuiltShape : {P : Type 0} → Option (List (Knot P)) → P → Type 0
+IsBuiltShape None p = ⊥
+IsBuiltShape (Some built) p = HasShape built p
 
 -- a shape that the signal so far has or may still get
 abbrev pub HasPart : {P : Type 0} → SoFar P → P → Type 0
-HasPart course p = IsSettledShape course.built p ⊎ Has course.before p ⊎ (p ≡ course.point) ⊎ Has course.after p
+HasPart course p = IsBuiltShape course.built p ⊎ Has course.before p ⊎ (p ≡ course.point) ⊎ Has course.after p
 
 module _ {P : Type 0} (shape : ShapeOf P) where
-  -- v is what the settled part tells at t, and what counts between it and the knot that may still change
-  abbrev pub IsSettled : SoFar P → Option (List (Knot P)) → Rational → Extended → Type 0
-  IsSettled course None t v = ⊥
-  IsSettled course (Some built) t v = IsWorth shape built t v ⊎ ((stop built <ʳ t) × (t <ʳ value course.at) × IsBestAt shape course.side course.before t v)
+  -- v is what the built part tells at t, and what counts between it and the knot that may still change
+  abbrev pub IsBuilt : SoFar P → Option (List (Knot P)) → Rational → Extended → Type 0
+  IsBuilt course None t v = ⊥
+  IsBuilt course (Some built) t v = IsWorth shape built t v ⊎ ((stop built <ʳ t) × (t <ʳ value course.at) × IsBestAt shape course.side course.before t v)
 
-  -- v is what the course tells at t: what is settled, then the point of the last knot, and from there on the best of what counts now
+  -- v is what the course tells at t: what is built, then the point of the last knot, and from there on the best of what counts now
   abbrev pub IsTold : SoFar P → Rational → Extended → Type 0
-  IsTold course t v = IsSettled course course.built t v ⊎ ((t ≈ value course.at) × Passes (shape.function course.point)
+  IsTold course t v = IsBuilt course course.built t v ⊎ ((t ≈ value course.at) × Passes (shape.function course.point)
       t v) ⊎ ((value course.at <ʳ t) × IsBestAt shape course.side course.after t v)
 
-  -- the settled part ends before the knot that may still change
+  -- the built part ends before the knot that may still change
   abbrev pub EndsBefore : Option (List (Knot P)) → Rational → Type 0
   EndsBefore None at = Unit {0}
   EndsBefore (Some built) at = IsSignal shape built × (stop built <ʳ at) × IsWithin (2 ^ 34) (stop built)
@@ -56,22 +56,22 @@ module _ {P : Type 0} (shape : ShapeOf P) where
 
   -- the course can go on
   pub record IsReady (course : SoFar P) : Type 0 where
-    pub settled : EndsBefore course.built (value course.at)
+    pub built : EndsBefore course.built (value course.at)
     pub within : IsWithin (2 ^ 34) (value course.at)
     pub before : HaveLevels course.before
     pub after : HaveLevels course.after
     pub still : course.fault ≡ None
 
-  -- the last knot is settled too; nothing else changes
-  pub record Settles (old new : SoFar P) : Type 0 where
+  -- the last knot is taken up too; nothing else changes
+  pub record TakesUp (old new : SoFar P) : Type 0 where
     pub built : List (Knot P)
     pub same : new ≡ record old { built = Some built }
     pub signal : IsSignal shape built
     pub begins : start built ≡ first_time old old.built
     pub ends : stop built ≡ value old.at
-    pub worth : (t : Rational) (v : Extended) → IsWorth shape built t v → IsSettled old old.built t v
+    pub worth : (t : Rational) (v : Extended) → IsWorth shape built t v → IsBuilt old old.built t v
         ⊎ ((t ≈ value old.at) × Passes (shape.function old.point) t v)
-    pub shapes : (p : P) → HasShape built p → IsSettledShape old.built p ⊎ Has old.before p ⊎ (p ≡ old.point)
+    pub shapes : (p : P) → HasShape built p → IsBuiltShape old.built p ⊎ Has old.before p ⊎ (p ≡ old.point)
 
   -- the pair is two of what counts that cross before the last knot
   abbrev pub IsOpenFault : SoFar P → Option (List (Knot P)) → WidePair P → Type 0
@@ -91,11 +91,11 @@ pub record IsAlone {P : Type 0} (best : Best P) : Type 0 where
   pub low : best.low ≡ None
   pub high : best.high ≡ None
 
--- nothing is settled and the last knot stays: or what counted up to now stands before a new knot at the time
+-- nothing is taken up and the last knot stays: or what counted up to now stands before a new knot at the time
 pub data Moves {P : Type 0} (old new : SoFar P) (at : Rational) : Type 0 where
   same_knot : value old.at ≈ at → new.built ≡ old.built → new.before ≡ old.before → value new.at ≡ value old.at → Moves old new at
   same_best : IsAlone old.after → IsAlone new.after → new.built ≡ old.built → new.before ≡ old.before → value new.at ≡ value old.at → Moves old new at
-  new_knot : value old.at <ʳ at → IsSettledTo new.built (value old.at) → new.before ≡ old.after → value new.at ≡ at → Moves old new at
+  new_knot : value old.at <ʳ at → IsBuiltTo new.built (value old.at) → new.before ≡ old.after → value new.at ≡ at → Moves old new at
 
 module _ {P : Type 0} (shape : ShapeOf P) where
   -- from the turn on the course tells the best of `next`, and before it what it told
@@ -110,7 +110,7 @@ module _ {P : Type 0} (shape : ShapeOf P) where
     pub parts : (p : P) → HasPart new p → HasPart old p ⊎ Has next p
     pub moves : Moves old new (value turn.at)
 
-  -- the whole course is settled up to the time, and tells what it told
+  -- the whole course is built up to the time, and tells what it told
   pub record Ends (old : SoFar P) (to : Rational) (new : SoFar P) : Type 0 where
     pub built : List (Knot P)
     pub is : new.built ≡ Some built

@@ -14,7 +14,7 @@ use Rattle.envelope.specs.declared.walk.Item.{Item}
 use Rattle.envelope.specs.declared.walk.Slope.{Slope}
 use Rattle.envelope.specs.Turns.{HasCome, IsToCome, IsNoBetter, none_of}
 use Rattle.envelope.specs.Best.{Has}
-use Rattle.envelope.specs.SoFar.{Turns, HasPart, IsAlone, IsReady, IsSettledTo, IsTold, first_time}
+use Rattle.envelope.specs.SoFar.{Turns, HasPart, IsAlone, IsReady, IsBuiltTo, IsTold, first_time}
 
 -- a piece: a shape that counts from a turn on until another, or for ever
 pub record Part (P : Type 0) : Type 0 where
@@ -227,7 +227,7 @@ module _ {P : Type 0} (shape : ShapeOf P) (side : Side) (pos : Turn) (to : Ratio
           → NothingLeaves course.after low_until items t → IsTold shape course t v → IsBestOf shape side parts t v
       pub keeps : Keeps course.after low_until items
       pub later : (t : Rational) → SomethingLeaves course.after low_until items t → HasCome pos t
-      pub before : (b : Rational) → IsSettledTo course.built b → IsCarried course.before (λ t. (b <ʳ t) × (t <ʳ value course.at))
+      pub before : (b : Rational) → IsBuiltTo course.built b → IsCarried course.before (λ t. (b <ʳ t) × (t <ʳ value course.at))
       pub after : IsCarried course.after (λ t. (value course.at <ʳ t) × NothingLeaves course.after low_until items t)
       pub shapes : (p : P) → HasPart course p → IsNone shape side p ⊎ ((x : Part P) × IsOneOf parts x × (x.shape ≡ p))
 

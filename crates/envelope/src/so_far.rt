@@ -4,7 +4,7 @@ ghost use Rattle.rational.specs.Rational.{IsWithin};
 ghost use Rattle.rational.specs.Time.{◌≤ʳ◌, ◌<ʳ◌, ◌≈◌};
 ghost use Rattle.rational.specs.Affine.{AreSame};
 ghost use Rattle.frac128.specs.Value.{value};
-ghost use Rattle.envelope.specs.SoFar.{Ends, HaveLevels, IsAlone, IsSoFarFault, IsEndFault, IsReady, IsSettledTo, Settles, Turns};
+ghost use Rattle.envelope.specs.SoFar.{Ends, HaveLevels, IsAlone, IsSoFarFault, IsEndFault, IsReady, IsBuiltTo, TakesUp, Turns};
 
 use crate::best::{Best, write};
 use crate::turns::Turn;
@@ -19,7 +19,7 @@ use value_laws::Shape;
 pub struct SoFar<P: Shape> {
     pub(crate) alloc: Global,
     pub(crate) side: Side,
-    /// What is settled, up to the knot before the one at `at`; none where that one is the first.
+    /// What is built, up to the knot before the one at `at`; none where that one is the first.
     built: Option<Builder<P>>,
     before: Best<P>,
     at: Frac,
@@ -106,10 +106,10 @@ impl<P: Shape> SoFar<P> {
         ensures ok { OnOk result (Turns P.Shape self.old turn.now next.now self.new) }
         ensures at { OnOk result (self.new.at ≡ turn.now.at) }
         ensures before { OnOk result (self.new.before ≡ self.old.after) }
-        ensures settled { OnOk result (IsSettledTo self.new.built (value self.old.at)) }
+        ensures built { OnOk result (IsBuiltTo self.new.built (value self.old.at)) }
         ensures fault { OnErr result (IfSome self.new.fault (IsSoFarFault P.Shape self.old)) }
     {
-        self.settle()?;
+        self.take_up()?;
         let point = if turn.just_after {
             self.after.at(self.side, &turn.at)
         } else {
@@ -122,10 +122,10 @@ impl<P: Shape> SoFar<P> {
         Ok(())
     }
 
-    /// Writes the knot that may still change.
-    fn settle(&mut self) -> Result<(), Memory>
+    /// Takes up the knot that may still change into what is built.
+    fn take_up(&mut self) -> Result<(), Memory>
         requires ready { IsReady P.Shape self.old }
-        ensures ok { OnOk result (Settles P.Shape self.old self.new) }
+        ensures ok { OnOk result (TakesUp P.Shape self.old self.new) }
         ensures fault { OnErr result (IfSome self.new.fault (IsSoFarFault P.Shape self.old)) }
     {
         match &mut self.built {
@@ -154,7 +154,7 @@ impl<P: Shape> SoFar<P> {
     {
         match self.at.cmp(stop) {
             Ordering::Less => self.go_on_to(stop),
-            _ => self.settle(),
+            _ => self.take_up(),
         }
     }
 
@@ -172,7 +172,7 @@ impl<P: Shape> SoFar<P> {
         };
         let after = self.after;
         self.turn_later(&end, &after)?;
-        self.settle()
+        self.take_up()
     }
 
     /// The signal, once it has gone to the end.
