@@ -17,7 +17,7 @@ use Rattle.early_verdict.specs.Standing.{AllTidy}
 use Rattle.early_verdict.specs.Living.{HasShown, IsNarrowed, IsShown, ShowsAt}
 use Rattle.early_verdict.specs.Letting.{AreApart, AreAskedBy, AreInside, AreLess, IsAskedFirst}
 use Rattle.early_verdict.specs.Letting.{IsAskedFrom, IsEndlessCut, IsEndlessCutAt, IsFirstLeft, IsFirstShown, IsLess}
-use Rattle.early_verdict.specs.Letting.{IsRunCut, IsRunCutAt, IsSettled, IsSettledAt, IsUntil, ShowsFrom}
+use Rattle.early_verdict.specs.Letting.{IsRunCut, IsRunCutAt, HasShed, HasShedAt, IsUntil, ShowsFrom}
 use Rattle.frac128.specs.declared.cut.Cut.{Cut}
 use Rattle.early_verdict.specs.declared.stretch.Stretch.{Stretch}
 use Rattle.early_verdict.specs.declared.grown.Grown.{Grown}
@@ -554,10 +554,10 @@ asked_at {back = back} d own from b p n less left after ends = record {
   ends = ends_most (slice_index_or back 0 d).no.bounds b ends;
 }
 
--- what is settled at a place is settled in the list
-pub settled_at : {shown sets front back : List Sets} {i : ℕ} {x : Sets} (d own : Sets) → IsSplit sets i front back
-    → slice_get shown i ≡ Some x → IsSettled x (slice_index_or back 0 d) own → IsSettledAt i shown sets (front ++ slice_set back 0 own)
-settled_at {back = back} {x = x} d own p is s = record {
+-- what is shed at a place is shed in the list
+pub shed_in_list : {shown sets front back : List Sets} {i : ℕ} {x : Sets} (d own : Sets) → IsSplit sets i front back
+    → slice_get shown i ≡ Some x → HasShed x (slice_index_or back 0 d) own → HasShedAt i shown sets (front ++ slice_set back 0 own)
+shed_in_list {back = back} {x = x} d own p is s = record {
   was = slice_index_or back 0 d;
   is = own;
   x = x;
@@ -566,7 +566,7 @@ settled_at {back = back} {x = x} d own p is s = record {
   at_new = new_there p own;
   others = others_there p own;
   count = count_there p own;
-  settled = s;
+  shed = s;
 }
 
 -- what is shown at a place is shown in the list

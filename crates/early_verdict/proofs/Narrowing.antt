@@ -19,7 +19,7 @@ use Rattle.early_verdict.specs.Fitting.{ConjunctionFits, DisjunctionFits, Implic
 use Rattle.early_verdict.specs.Fitting.{EventuallyFits, AlwaysFits, OnceFits, HistoricallyFits, AreSetsTidy}
 use Rattle.early_verdict.specs.Standing.{AllFit, AllTidy, HasParts, left_of}
 use Rattle.early_verdict.specs.Living.{IsLive, IsNarrowed, IsShown, Known, LooksAt, LooksBack, NetStands}
-use Rattle.early_verdict.specs.Letting.{AreApart, AreAskedBy, AreInside, AreLess, IsChild, IsLess, IsRun, IsSettledAt, IsUntil}
+use Rattle.early_verdict.specs.Letting.{AreApart, AreAskedBy, AreInside, AreLess, IsChild, IsLess, IsRun, HasShedAt, IsUntil}
 use Rattle.early_verdict.specs.declared.stretch.Stretch.{Stretch}
 use Rattle.early_verdict.specs.declared.grown.Grown.{Grown}
 use Rattle.early_verdict.specs.declared.sets.Sets.{Sets}
@@ -181,14 +181,14 @@ same_node : (a b : Node) → Some a ≡ Some b → a ≡ b
 same_node a b e = cc
 
 -- one node goes on from fewer times
-module _ {nodes : List Node} {tr : Trace} {live new shown : List Sets} {i : ℕ} (at : IsSettledAt i shown live new) (st : NetStands nodes tr live shown) where
+module _ {nodes : List Node} {tr : Trace} {live new shown : List Sets} {i : ℕ} (at : HasShedAt i shown live new) (st : NetStands nodes tr live shown) where
   live_here : (n : Node) → slice_get nodes i ≡ Some n → IsLive (start tr) shown n at.is at.x
   live_here n here = record {
-    own = at.settled.bounds;
+    own = at.shed.bounds;
     yes = k.yes_bounds;
     no = k.no_bounds;
     starts = λ t l. was.starts t (less t l);
-    looks = looks_as (start tr) was.own at.settled.bounds less n shown shown at.was.parts at.is.parts (λ p e u h. h)
+    looks = looks_as (start tr) was.own at.shed.bounds less n shown shown at.was.parts at.is.parts (λ p e u h. h)
         (λ p e u h. h) (λ p e u. (λ h. h, λ h. h)) (parts_kept at.was.parts at.is.parts k.parts) was.looks;
     left = parts_as n at.was at.is shown shown (parts_kept at.was.parts at.is.parts k.parts) (λ p l' e z. (l', z, refl)) was.left;
     shown_yes = was.shown_yes;
@@ -198,7 +198,7 @@ module _ {nodes : List Node} {tr : Trace} {live new shown : List Sets} {i : ℕ}
     shows_yes = λ t o l. was.shows_yes t (k.yes_out t o).0 l;
     shows_no = λ t o l. was.shows_no t (k.no_out t o).0 l;
     early = λ t l. elim (was.early t l) [
-      | inl o ↦ elim (at.settled.told t l (subst (λ z. Lies z t) (sym was.no) o)) [
+      | inl o ↦ elim (at.shed.told t l (subst (λ z. Lies z t) (sym was.no) o)) [
         | inl b ↦ inl b
         | inr (inl z) ↦ inr (inl (was.shows_yes t z l))
         | inr (inr z) ↦ inr (inr (was.shows_no t z l))
@@ -207,14 +207,14 @@ module _ {nodes : List Node} {tr : Trace} {live new shown : List Sets} {i : ℕ}
     ];
   }
     where
-      k : IsNarrowed at.settled.bounds at.was at.is
-      k = at.settled.narrowed
+      k : IsNarrowed at.shed.bounds at.was at.is
+      k = at.shed.narrowed
 
       was : IsLive (start tr) shown n at.was at.x
       was = st.have.has i n at.was at.x here at.at_old at.at_shown
 
-      less : (t : Rational) → Lies at.settled.bounds t → Lies was.own t
-      less t l = subst (λ z. Lies z t) was.no (at.settled.less t l)
+      less : (t : Rational) → Lies at.shed.bounds t → Lies was.own t
+      less t l = subst (λ z. Lies z t) was.no (at.shed.less t l)
 
   live_there : (j : ℕ) (n : Node) (s x : Sets) → slice_get nodes j ≡ Some n → slice_get new j ≡ Some s
       → slice_get shown j ≡ Some x → IsLive (start tr) shown n s x
@@ -232,7 +232,7 @@ module _ {nodes : List Node} {tr : Trace} {live new shown : List Sets} {i : ℕ}
   tidy_there j s is = by_place (nat_is j i)
     where
       by_place : (j ≡ i) ⊎ (j ≢ i) → AreSetsTidy s
-      by_place (inl q) = subst AreSetsTidy (same_sets at.is s (sym at.at_new ∙ subst (λ k. slice_get new k ≡ Some s) q is)) at.settled.narrowed.tidy
+      by_place (inl q) = subst AreSetsTidy (same_sets at.is s (sym at.at_new ∙ subst (λ k. slice_get new k ≡ Some s) q is)) at.shed.narrowed.tidy
       by_place (inr d) = st.tidy j s (sym (at.others j d) ∙ is)
 
   fit_there : AllFit nodes false tr new shown
@@ -241,8 +241,8 @@ module _ {nodes : List Node} {tr : Trace} {live new shown : List Sets} {i : ℕ}
       fit_here : slice_get nodes i ≡ Some n → Fits n false tr (lists_at shown) at.is
       fit_here e =
           let was = st.have.has i n at.was at.x e at.at_old at.at_shown in
-          fits_less was.own at.settled.bounds at.was at.is was.yes was.no at.settled.narrowed
-          (λ t l. subst (λ z. Lies z t) was.no (at.settled.less t l)) n tr (lists_at shown) (st.fit i n at.was e at.at_old)
+          fits_less was.own at.shed.bounds at.was at.is was.yes was.no at.shed.narrowed
+          (λ t l. subst (λ z. Lies z t) was.no (at.shed.less t l)) n tr (lists_at shown) (st.fit i n at.was e at.at_old)
 
       by_place : (j ≡ i) ⊎ (j ≢ i) → Fits n false tr (lists_at shown) s
       by_place (inl q) =
@@ -251,8 +251,8 @@ module _ {nodes : List Node} {tr : Trace} {live new shown : List Sets} {i : ℕ}
       by_place (inr d) = st.fit j n s here (sym (at.others j d) ∙ is)
 
   -- all stands where a node goes on from fewer times
-  pub settled_stands : NetStands nodes tr new shown
-  settled_stands = record {
+  pub shed_stands : NetStands nodes tr new shown
+  shed_stands = record {
     have = record { count = at.count ∙ st.have.count; shown_count = st.have.shown_count; has = live_there };
     tidy = tidy_there;
     shown_tidy = st.shown_tidy;

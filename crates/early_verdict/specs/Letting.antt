@@ -25,7 +25,7 @@ abbrev pub AreInside : List Sets → Type 0
 AreInside shown = (p : ℕ) (x : Sets) → slice_get shown p ≡ Some x → IsInside x
 
 -- a node goes on from fewer times: of those that it shows, the others are told
-pub record IsSettled (shown old new : Sets) : Type 0 where
+pub record HasShed (shown old new : Sets) : Type 0 where
   pub bounds : Stretch
   pub narrowed : IsNarrowed bounds old new
   pub less : (t : Rational) → Lies bounds t → Lies old.no.bounds t
@@ -33,7 +33,7 @@ pub record IsSettled (shown old new : Sets) : Type 0 where
       → Lies bounds t ⊎ IsOn old.yes.spans.items t ⊎ IsOn old.no.spans.items t
 
 -- so the node at a place
-pub record IsSettledAt (i : ℕ) (shown old new : List Sets) : Type 0 where
+pub record HasShedAt (i : ℕ) (shown old new : List Sets) : Type 0 where
   pub was : Sets
   pub is : Sets
   pub x : Sets
@@ -42,7 +42,7 @@ pub record IsSettledAt (i : ℕ) (shown old new : List Sets) : Type 0 where
   pub at_shown : slice_get shown i ≡ Some x
   pub others : (j : ℕ) → j ≢ i → slice_get new j ≡ slice_get old j
   pub count : length new ≡ length old
-  pub settled : IsSettled x was is
+  pub shed : HasShed x was is
 
 -- the node at the place shows no times before that one any more
 pub record IsAskedFrom (p : ℕ) (from : Rational) (old new : List Sets) : Type 0 where

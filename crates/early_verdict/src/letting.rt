@@ -14,7 +14,7 @@ ghost use Rattle.early_verdict.specs.Standing.{AllTidy};
 ghost use Rattle.early_verdict.specs.Living.{IsNarrowed, NetStands};
 ghost use Rattle.early_verdict.specs.Letting.{AreApart, AreAskedBy, AreInside, BeginsAtOnce, IsAskedFirst, IsAskedFrom};
 ghost use Rattle.early_verdict.specs.Letting.{IsFirstLeft, ArePartsInside, IsFailingCut, IsFailingInside, IsHoldingCut};
-ghost use Rattle.early_verdict.specs.Letting.{IsHoldingInside, IsInside, IsRunCut, IsRunCutAt, IsSettled, IsSettledAt, IsUntil};
+ghost use Rattle.early_verdict.specs.Letting.{IsHoldingInside, IsInside, IsRunCut, IsRunCutAt, HasShed, HasShedAt, IsUntil};
 ghost use Rattle.stl_syntax.specs.declared.node.Node.TheVariants.{Since, Until};
 ghost use Rattle.early_verdict.specs.declared.sets.Sets.{Sets as ASets};
 
@@ -66,11 +66,11 @@ fn narrow_both(own: &mut Sets, bounds: Stretch)
     narrow(&mut own.no, bounds);
 }
 
-/// Lets go of the times of a node that are decided, or asked for no more.
-fn settle(own: &mut Sets, shown: &Sets)
+/// Sheds the times of a node that are decided, or asked for no more.
+fn shed(own: &mut Sets, shown: &Sets)
     requires tidy { AreSetsTidy own.old }
     requires inside { IsInside own.old }
-    ensures { IsSettled shown.now own.old own.new }
+    ensures { HasShed shown.now own.old own.new }
 {
     let within = own.no.bounds();
     let told = told_to(own, within.from);
@@ -272,16 +272,16 @@ fn cut_run_at(live: &mut [Sets], i: usize, wide: Stretch, first: &Cut, cut: &Cut
     cut_run(&mut from[0], wide, first, cut);
 }
 
-/// Lets go of the times of the node at a place that are decided, or asked for no more.
-fn settle_at(live: &mut [Sets], shown: &[Sets], i: usize)
+/// Sheds the times of the node at a place that are decided, or asked for no more.
+fn shed_at(live: &mut [Sets], shown: &[Sets], i: usize)
     requires live { i < length live.old }
     requires shown { i < length shown.now }
     requires tidy { AllTidy live.old }
     requires inside { AreInside live.old }
-    ensures { IsSettledAt i shown.now live.old live.new }
+    ensures { HasShedAt i shown.now live.old live.new }
 {
     let (_, from) = live.split_at_mut(i);
-    settle(&mut from[0], &shown[i]);
+    shed(&mut from[0], &shown[i]);
 }
 
 /// The place of an until's left operand; of no other node.
@@ -374,7 +374,7 @@ fn let_go_at(live: &mut [Sets], shown: &mut [Sets], formula: &Formula, i: u32)
     ensures { (tr : ATrace) → NetStands formula.now.nodes tr live.old shown.old → NetStands formula.now.nodes tr live.new shown.new }
 {
     let at = i as usize;
-    settle_at(live, shown, at);
+    shed_at(live, shown, at);
     let own = live[at].no.bounds();
     let node = formula.node(i);
     if let Some(back) = bounded_since(node) {

@@ -17,7 +17,7 @@ use Rattle.early_verdict.proofs.Places.{item_at, same_sets}
 use Rattle.early_verdict.proofs.SinceLooks.{bounded_stands, endless_stands, half_inside, half_tidy}
 use Rattle.early_verdict.proofs.SinceStands.{back_inside, ordered}
 use Rattle.early_verdict.proofs.UntilStands.{parts_inside, until_stands}
-use Rattle.early_verdict.proofs.Narrowing.{are_apart, asked_stands, children_more, le_after, live_inside, settled_stands, shown_inside}
+use Rattle.early_verdict.proofs.Narrowing.{are_apart, asked_stands, children_more, le_after, live_inside, shed_stands, shown_inside}
 use Rattle.early_verdict.proofs.letting.let_go_at.Goals as goal
 
 -- the operands of a since stand before it
@@ -31,17 +31,17 @@ right_there : {nodes : List Node} {p q a : ℕ} {b : Option ℕ} {n : ℕ} (i : 
 right_there {nodes} {p} {q} {a} {b} i formed h e at =
     let below = child_below i q (Since p q a b) (placed nodes i (Since p q a b) formed.post_order at) (inr refl) in omega (arith, below, h, e)
 
-pub settle_at-requires-clause-live : goal.settle_at-requires-clause-live
-settle_at-requires-clause-live c = let a = c.requires.stands.1.have.count in let b = c.requires.within in omega (arith, a, b)
+pub shed_at-requires-clause-live : goal.shed_at-requires-clause-live
+shed_at-requires-clause-live c = let a = c.requires.stands.1.have.count in let b = c.requires.within in omega (arith, a, b)
 
-pub settle_at-requires-clause-shown : goal.settle_at-requires-clause-shown
-settle_at-requires-clause-shown c = let a = c.requires.stands.1.have.shown_count in let b = c.requires.within in omega (arith, a, b)
+pub shed_at-requires-clause-shown : goal.shed_at-requires-clause-shown
+shed_at-requires-clause-shown c = let a = c.requires.stands.1.have.shown_count in let b = c.requires.within in omega (arith, a, b)
 
-pub settle_at-requires-clause-tidy : goal.settle_at-requires-clause-tidy
-settle_at-requires-clause-tidy c = c.requires.stands.1.tidy
+pub shed_at-requires-clause-tidy : goal.shed_at-requires-clause-tidy
+shed_at-requires-clause-tidy c = c.requires.stands.1.tidy
 
-pub settle_at-requires-clause-inside : goal.settle_at-requires-clause-inside
-settle_at-requires-clause-inside c = live_inside c.requires.stands.1
+pub shed_at-requires-clause-inside : goal.shed_at-requires-clause-inside
+shed_at-requires-clause-inside c = live_inside c.requires.stands.1
 
 pub ask_children-requires-clause-children : goal.ask_children-requires-clause-children
 ask_children-requires-clause-children c =
@@ -103,15 +103,15 @@ shown_at-wide-requires c =
 
 pub cut_run_at-requires-clause-within : goal.cut_run_at-requires-clause-within
 cut_run_at-requires-clause-within c =
-    let a = c.settle_at.ensures.count in
+    let a = c.shed_at.ensures.count in
     let b = c.requires.stands.1.have.count in
     let d = c.requires.within in
     omega (arith, a, b, d)
 
 pub cut_run_at-requires-clause-tidy : goal.cut_run_at-requires-clause-tidy
 cut_run_at-requires-clause-tidy c =
-    (settled_stands
-    c.settle_at.ensures c.requires.stands.1).tidy
+    (shed_stands
+    c.shed_at.ensures c.requires.stands.1).tidy
 
 pub cut_run_at-requires-clause-inside : goal.cut_run_at-requires-clause-inside
 cut_run_at-requires-clause-inside c s is =
@@ -120,19 +120,19 @@ cut_run_at-requires-clause-inside c s is =
     let h = c.ask_both.ensures in
     back_inside c.args.i
     (c.node-node.ensures.node ∙ ap Some u.1) w.1 w.2 h.1 h.2
-    (settled_stands c.settle_at.ensures c.requires.stands.1) is
+    (shed_stands c.shed_at.ensures c.requires.stands.1) is
 
 pub returns-in-Some : goal.returns-in-Some
 returns-in-Some c = λ tr st.
     let nodes = c.args.formula.now.nodes in
-    let mid = c.settle_at.new.live in
+    let mid = c.shed_at.new.live in
     let back = c.in-Some.back in
     let u = c.in-Some.ensures in
     let w = c.shown_at-wide.ensures in
     let h = c.ask_both.ensures in
     let cut = c.cut_run_at.ensures in
     let at = c.node-node.ensures.node ∙ ap Some u.1 in
-    let l : c.args.i < length mid = let a = c.settle_at.ensures.count in let b = st.have.count in let d = c.requires.within in omega (arith, a, b, d) in
+    let l : c.args.i < length mid = let a = c.shed_at.ensures.count in let b = st.have.count in let d = c.requires.within in omega (arith, a, b, d) in
     let same : c.index-live-at.result ≡ cut.was =
     same_sets c.index-live-at.result cut.was (sym (item_at mid c.args.i c.index-live-at.result l c.index-live-at.is) ∙ cut.at_old) in
     bounded_stands c.requires.formed at
@@ -140,17 +140,17 @@ returns-in-Some c = λ tr st.
     (λ t o. le_after (place c.bounds-own.result.from) t
     (subst (λ b. Lies b t) (sym c.bounds-own.ensures) (subst (λ (z : Sets). Lies z.no.bounds t) c.index-live-at.is
     (subst (λ (z : Sets). Lies z.no.bounds t) (sym same) o))).0)
-    h.1 h.2 (settled_stands c.settle_at.ensures st)
+    h.1 h.2 (shed_stands c.shed_at.ensures st)
 
 -- a since without a bound
 pub decisive-requires-clause-own : goal.decisive-requires-clause-own
 decisive-requires-clause-own c =
-    let mid = c.settle_at.new.live in
+    let mid = c.shed_at.new.live in
     let st = c.requires.stands in
-    let l : c.args.i < length mid = let a = c.settle_at.ensures.count in let b = st.1.have.count in let d = c.requires.within in omega (arith, a, b, d) in
+    let l : c.args.i < length mid = let a = c.shed_at.ensures.count in let b = st.1.have.count in let d = c.requires.within in omega (arith, a, b, d) in
     let own = c.index-live-at-in-Some-endless_since in
     subst (λ (z : Sets). AreSetsTidy z) own.is
-    ((settled_stands c.settle_at.ensures st.1).tidy c.args.i
+    ((shed_stands c.shed_at.ensures st.1).tidy c.args.i
     own.result (item_at mid c.args.i own.result l own.is))
 
 pub decisive-requires-clause-left : goal.decisive-requires-clause-left
@@ -163,7 +163,7 @@ decisive-requires-clause-left c =
 
 pub returns-in_default-decisive : goal.returns-in_default-decisive
 returns-in_default-decisive c = λ tr st.
-    settled_stands c.settle_at.ensures st
+    shed_stands c.shed_at.ensures st
 
 pub ask_both-requires-in-Some-endless_since-clause-left : goal.ask_both-requires-in-Some-endless_since-clause-left
 ask_both-requires-in-Some-endless_since-clause-left c =
@@ -192,26 +192,26 @@ shown_at-wide-requires-in-Some-endless_since c =
 
 pub cut_run_at-requires-in-Some-endless_since-clause-within : goal.cut_run_at-requires-in-Some-endless_since-clause-within
 cut_run_at-requires-in-Some-endless_since-clause-within c =
-    let a = c.settle_at.ensures.count in
+    let a = c.shed_at.ensures.count in
     let b = c.requires.stands.1.have.count in
     let d = c.requires.within in
     omega (arith, a, b, d)
 
 pub cut_run_at-requires-in-Some-endless_since-clause-tidy : goal.cut_run_at-requires-in-Some-endless_since-clause-tidy
 cut_run_at-requires-in-Some-endless_since-clause-tidy c =
-    (settled_stands
-    c.settle_at.ensures c.requires.stands.1).tidy
+    (shed_stands
+    c.shed_at.ensures c.requires.stands.1).tidy
 
 pub cut_run_at-requires-in-Some-endless_since-clause-inside : goal.cut_run_at-requires-in-Some-endless_since-clause-inside
 cut_run_at-requires-in-Some-endless_since-clause-inside c s is =
     let w = c.shown_at-wide-in-Some-endless_since.ensures in
     let h = c.ask_both-in-Some-endless_since.ensures in
     back_inside c.args.i (c.node-node.ensures.node ∙ ap Some c.in-Some-endless_since.ensures) w.1 w.2 h.1 h.2
-    (settled_stands c.settle_at.ensures c.requires.stands.1) is
+    (shed_stands c.shed_at.ensures c.requires.stands.1) is
 
 pub cut_endless_at-requires-clause-within : goal.cut_endless_at-requires-clause-within
 cut_endless_at-requires-clause-within c =
-    let a = c.settle_at.ensures.count in
+    let a = c.shed_at.ensures.count in
     let b = c.requires.stands.1.have.count in
     let d = c.requires.within in
     let e = c.cut_run_at-in-Some-endless_since.ensures.count in
@@ -220,8 +220,8 @@ cut_endless_at-requires-clause-within c =
 pub cut_endless_at-requires-clause-tidy : goal.cut_endless_at-requires-clause-tidy
 cut_endless_at-requires-clause-tidy c =
     half_tidy c.cut_run_at-in-Some-endless_since.ensures
-    (settled_stands
-    c.settle_at.ensures c.requires.stands.1).tidy
+    (shed_stands
+    c.shed_at.ensures c.requires.stands.1).tidy
 
 pub cut_endless_at-requires-clause-inside : goal.cut_endless_at-requires-clause-inside
 cut_endless_at-requires-clause-inside c =
@@ -242,7 +242,7 @@ cut_endless_at-requires-clause-spans c =
 
 pub returns-in-Some-endless_since : goal.returns-in-Some-endless_since
 returns-in-Some-endless_since c = λ tr st.
-    let mid = c.settle_at.new.live in
+    let mid = c.shed_at.new.live in
     let old = c.args.shown.now in
     let new = c.ask_both-in-Some-endless_since.new.shown in
     let anew = c.in-Some-endless_since.anew in
@@ -252,7 +252,7 @@ returns-in-Some-endless_since c = λ tr st.
     let cut = c.cut_run_at-in-Some-endless_since.ensures in
     let half = c.cut_run_at-in-Some-endless_since.new.live in
     let at = c.node-node.ensures.node ∙ ap Some c.in-Some-endless_since.ensures in
-    let l : c.args.i < length mid = let a = c.settle_at.ensures.count in let b = st.have.count in let d = c.requires.within in omega (arith, a, b, d) in
+    let l : c.args.i < length mid = let a = c.shed_at.ensures.count in let b = st.have.count in let d = c.requires.within in omega (arith, a, b, d) in
     let same : c.index-live-at.result ≡ cut.was =
     same_sets c.index-live-at.result cut.was (sym (item_at mid c.args.i c.index-live-at.result l c.index-live-at.is) ∙ cut.at_old) in
     let same_own : c.index-live-at-in-Some-endless_since.result ≡ cut.was =
@@ -276,7 +276,7 @@ returns-in-Some-endless_since c = λ tr st.
     (item_at old anew.right c.index-shown-anew-in-Some-endless_since.result below_right c.index-shown-anew-in-Some-endless_since.is)
     (subst (λ (z : Sets). IsDecisive first z c.index-shown-anew.result c.index-shown-anew-in-Some-endless_since.result)
     (sym c.index-live-at-in-Some-endless_since.is ∙ same_own) c.in-Some-decisive.ensures.1)
-    (settled_stands c.settle_at.ensures st)
+    (shed_stands c.shed_at.ensures st)
 
 -- an until
 pub shown_at-wide-requires-in-Some-left_of_until : goal.shown_at-wide-requires-in-Some-left_of_until
@@ -292,15 +292,15 @@ shown_at-wide-requires-in-Some-left_of_until c =
 
 pub cut_run_at-requires-in-Some-left_of_until-clause-within : goal.cut_run_at-requires-in-Some-left_of_until-clause-within
 cut_run_at-requires-in-Some-left_of_until-clause-within c =
-    let a = c.settle_at.ensures.count in
+    let a = c.shed_at.ensures.count in
     let b = c.requires.stands.1.have.count in
     let d = c.requires.within in
     omega (arith, a, b, d)
 
 pub cut_run_at-requires-in-Some-left_of_until-clause-tidy : goal.cut_run_at-requires-in-Some-left_of_until-clause-tidy
 cut_run_at-requires-in-Some-left_of_until-clause-tidy c =
-    (settled_stands
-    c.settle_at.ensures c.requires.stands.1).tidy
+    (shed_stands
+    c.shed_at.ensures c.requires.stands.1).tidy
 
 pub cut_run_at-requires-in-Some-left_of_until-clause-inside : goal.cut_run_at-requires-in-Some-left_of_until-clause-inside
 cut_run_at-requires-in-Some-left_of_until-clause-inside c s is =
@@ -308,15 +308,15 @@ cut_run_at-requires-in-Some-left_of_until-clause-inside c s is =
     let w = c.shown_at-wide-in-Some-left_of_until.ensures in
     parts_inside c.args.i (c.node-node.ensures.node ∙ ap Some u.3) w.1 w.2
     (subst (λ n. AreAskedBy n (value c.bounds-own.result.from.time) c.args.shown.now c.ask_children.new.shown) u.3 c.ask_children.ensures)
-    (settled_stands c.settle_at.ensures c.requires.stands.1) is
+    (shed_stands c.shed_at.ensures c.requires.stands.1) is
 
 pub returns-in-Some-left_of_until : goal.returns-in-Some-left_of_until
 returns-in-Some-left_of_until c = λ tr st.
-    let mid = c.settle_at.new.live in
+    let mid = c.shed_at.new.live in
     let u = c.in-Some-left_of_until.ensures.some in
     let w = c.shown_at-wide-in-Some-left_of_until.ensures in
     let cut = c.cut_run_at-in-Some-left_of_until.ensures in
-    let l : c.args.i < length mid = let a = c.settle_at.ensures.count in let b = st.have.count in let d = c.requires.within in omega (arith, a, b, d) in
+    let l : c.args.i < length mid = let a = c.shed_at.ensures.count in let b = st.have.count in let d = c.requires.within in omega (arith, a, b, d) in
     let same : c.index-live-at.result ≡ cut.was =
     same_sets c.index-live-at.result cut.was (sym (item_at mid c.args.i c.index-live-at.result l c.index-live-at.is) ∙ cut.at_old) in
     until_stands c.requires.formed
@@ -325,16 +325,16 @@ returns-in-Some-left_of_until c = λ tr st.
     (subst (λ b. Lies b t) (sym c.bounds-own.ensures) (subst (λ (z : Sets). Lies z.no.bounds t) c.index-live-at.is
     (subst (λ (z : Sets). Lies z.no.bounds t) (sym same) o))).0)
     (subst (λ n. AreAskedBy n (value c.bounds-own.result.from.time) c.args.shown.now c.ask_children.new.shown) u.3 c.ask_children.ensures)
-    (settled_stands c.settle_at.ensures st)
+    (shed_stands c.shed_at.ensures st)
 
 pub returns-in_default-left_of_until : goal.returns-in_default-left_of_until
 returns-in_default-left_of_until c = λ tr st.
-    let mid = c.settle_at.new.live in
+    let mid = c.shed_at.new.live in
     let s = c.index-live-at.result in
-    let e = c.settle_at.ensures in
+    let e = c.shed_at.ensures in
     let l : c.args.i < length mid = let a = e.count in let b = st.have.count in let d = c.requires.within in omega (arith, a, b, d) in
     asked_stands c.requires.formed c.args.i c.node-node.ensures.node
     (item_at mid c.args.i s l c.index-live-at.is)
     (λ t o. le_after (place c.bounds-own.result.from) t
     (subst (λ b. Lies b t) (sym c.bounds-own.ensures) (subst (λ (z : Sets). Lies z.no.bounds t) c.index-live-at.is o)).0) c.ask_children.ensures
-    (settled_stands e st) c.in_default-left_of_until.ensures.none
+    (shed_stands e st) c.in_default-left_of_until.ensures.none

@@ -1,7 +1,7 @@
 use Rattle.std.proofs.Common.{◌⊎◌, inl, inr, sym, subst}
 use Rattle.early_verdict.specs.Spans.{IsOn, Lies}
 use Rattle.early_verdict.proofs.LettingLemmas.{told_early}
-use Rattle.early_verdict.proofs.letting.settle.Goals as goal
+use Rattle.early_verdict.proofs.letting.shed.Goals as goal
 
 pub narrow_both-requires-clause-yes : goal.narrow_both-requires-clause-yes
 narrow_both-requires-clause-yes c = λ t o. c.bounds_from.ensures.ends t (subst (λ b. Lies b t) (sym c.bounds-within.ensures) (c.requires.inside.yes t o))
