@@ -31,7 +31,7 @@ use Rattle.online_robust.specs.ReadLines.{IsThere}
 use Rattle.online_robust.specs.Sweeping.{EndsAt, IsBefore, IsOn}
 use Rattle.online_robust.specs.Told.{AreFit, AreJoined, AreTold, IsMovedBy, IsTick}
 use Rattle.online_robust.specs.Steps.{AreInputs, AreLeft, IsCut, back_of}
-use Rattle.online_robust.specs.WindowPasts.{AreKept, CanPass, HasPassed, IsFitPast, IsFollowed, IsPastAt, IsSettled, IsUnder, StoodPast}
+use Rattle.online_robust.specs.WindowPasts.{AreKept, CanPass, HasPassed, IsFitPast, IsFollowed, IsPastAt, KeepsPoint, IsUnder, StoodPast}
 use Rattle.online_robust.specs.Windows.{HasTold, IsCore, IsOwned, IsStanding, IsToCome, Scope}
 use Rattle.online_robust.specs.Windows.{Sheds, before_start, best_of, input_of, no_gap, scope_at}
 use Rattle.online_robust.specs.declared.ends.Rim.{Rim}
@@ -41,7 +41,7 @@ use Rattle.online_robust.specs.declared.line.Reached.{Reached}
 use Rattle.online_robust.specs.declared.ever.Ever.{Ever}
 use Rattle.online_robust.specs.declared.window.Window.{Window}
 use Rattle.online_robust.proofs.PastLemmas.{here_is, met, u_is, v_is}
-use Rattle.online_robust.proofs.PastSteps.{settled_before}
+use Rattle.online_robust.proofs.PastSteps.{point_before}
 use Rattle.online_robust.proofs.Spreads.{bounded_on}
 use Rattle.online_robust.proofs.WindowAgain.{IsNext, back_before, fit_tail, front_gap, moved_whole, next_of, no_front, no_none, some_or_none, told_tail}
 use Rattle.online_robust.proofs.WindowBounds.{none_bounded, still_moved}
@@ -113,7 +113,7 @@ module _ (f : Subformula) (tr : Trace) (reach own : ℕ) (g : ℤ) (p : Ever) (e
       by_kind (inr (inl is)) = absurd (no_none (subst (λ (y : Rim). IsSome y.until) is some))
       by_kind (inr (inr is)) =
           let before : shifted (value p.at) p.window.high <ʳ value p.start =
-          subst (λ (y : Rim). IsBefore (shifted (value p.at) p.window.high) y.until) is (settled_before p st.settled none) in
+          subst (λ (y : Rim). IsBefore (shifted (value p.at) p.window.high) y.until) is (point_before p st.keeps_point none) in
           let nothing = back_before (first_time tr.rows) g p.window.high (shifted (value p.at) p.window.high) high_is
           (lt_of_lt_of_le before (le_of_same st.was.begins)) in
           let (at, v, rest, all, when, joined) = subst (λ (o : Option ℤ). AreLeft (first_time tr.rows) o front (seen ++ fresh)) nothing inputs.left in
@@ -291,7 +291,7 @@ pub past_go_on : (f : Subformula) (tr : Trace) (reach own : ℕ) (g : ℤ) (p : 
     → CanPass (scope_at f tr reach (whole front) (shifted (whole to) p.window.high) (value p.at)) own (whole g) (whole to) p e
 past_go_on f tr reach own g p e st front to inputs of_in order begun from_tick to_tick ends within told own_is = record {
   at = past_again f tr reach own g p e st front inputs (shifted (whole to) p.window.high) (goes st.goes_on) (by_front told) of_in within (ended told);
-  settled = st.settled;
+  keeps_point = st.keeps_point;
   last = by_last p.last st.last;
   span = record {
     offsets = st.was.core.order;
@@ -343,7 +343,7 @@ pub past_first : (f : Subformula) (tr : Trace) (reach : ℕ) (p : Ever) (e : Hel
     → AreInputs (Robustness f tr) reach (first_time tr.rows) None front (held_at e p.window.of) → (edge_at e p.window.of).seen ≡ []
     → p.window.of < length e.edges → IsFitPast p.window reach → IsTick (start tr) → (start tr ≤ʳ whole front) × (whole front ≤ʳ stop tr)
     → (bound ≤ʳ whole front) ⊎ (whole front ≈ stop tr)
-    → IsPastAt (scope_at f tr reach (whole front) bound (value p.at)) p e × IsSettled p
+    → IsPastAt (scope_at f tr reach (whole front) bound (value p.at)) p e × KeepsPoint p
 past_first f tr reach p e front bound begins none_value still gap point best near early inputs nil of_in fit first_tick within ended = (
   record {
     within = of_in;
@@ -442,7 +442,7 @@ stood_past x own from to old p old_e e can came same last = record {
   bound = x.bound;
   old = e;
   was = again came.0;
-  settled = came.1;
+  keeps_point = came.1;
   seen_is = refl;
   goes_on = goes can.span.told (some_or_none p.gap.until);
   last = (by_last p.last last).1;
@@ -590,7 +590,7 @@ cut_past x first to back front p e' e starts came at F reach inputs early shed =
                 gap_from t (L.Point y n ∷ more) joined = ge_of_same joined.0
 
         by_point : (o : Option Reached) → p.point ≡ o → AreKept p.gap o came.0.lines (edge_at e p.window.of) → IsRest (held_at e p.window.of)
-        by_point None none kept = by_gap kept.0 kept.1 (settled_before p came.1 none) came.0.stands
+        by_point None none kept = by_gap kept.0 kept.1 (point_before p came.1 none) came.0.stands
         by_point (Some r) some kept =
             let here = here_is x p e came.0 r some in by_follow r here.0 here.1 kept.0 (fresh_at e p.window.of) refl kept.1
 

@@ -61,7 +61,7 @@ pub pass_same : (x : Scope) (own : ℕ) (from to end : Rational) (p : Ever) (e :
     → CanPass x own from end p e
 pass_same x own from to end p e same bound can = record {
   at = can.at;
-  settled = can.settled;
+  keeps_point = can.keeps_point;
   last = can.last;
   span = span_same x p.window own from to end same bound can.span;
 }

@@ -26,7 +26,7 @@ use Rattle.online_robust.specs.Queues.{IsBetterOf, IsBestOf}
 use Rattle.online_robust.specs.ReadLines.{IsThere, LosesAt}
 use Rattle.online_robust.specs.Sweeping.{AreFrozen, EndsAt, IsBefore, IsFrozen, IsNoKnot, IsOn, IsUpTo, Mark}
 use Rattle.online_robust.specs.Told.{AreFit, AreJoined, AreTold, IsMovedBy, IsTick}
-use Rattle.online_robust.specs.WindowPasts.{AreKept, IsFollowed, IsPastAt, IsSettled, IsUnder}
+use Rattle.online_robust.specs.WindowPasts.{AreKept, IsFollowed, IsPastAt, KeepsPoint, IsUnder}
 use Rattle.online_robust.specs.Windows.{IsCore, IsStanding, IsTickEnd, IsToCome, IsUnfixed, IsUnfixedUnder}
 use Rattle.online_robust.specs.Windows.{Scope, Sheds, at_time, before_start, gap_of, input_of, no_gap}
 use Rattle.online_robust.specs.declared.ends.Rim.{Rim}
@@ -519,7 +519,7 @@ module _ (x : Scope) (p : Ever) (e : Held) (at : IsPastAt x p e) where
 
       -- once both lines are gone the window stands at the point
       pub past_left : (r : Reached) → r.at ≡ end_of line → r.value ≡ margin_of line
-          → IsPastAt x (record p { point = Some r }) new × IsSettled (record p { point = Some r })
+          → IsPastAt x (record p { point = Some r }) new × KeepsPoint (record p { point = Some r })
       past_left r at_is value_is = (
         record {
           within = let count = left_both.edges in let within = at.within in omega (arith, count, within);

@@ -29,7 +29,7 @@ use Rattle.online_robust.specs.Queues.{IsBest, IsBestOf}
 use Rattle.online_robust.specs.ReadLines.{IsBuilt, IsThere}
 use Rattle.online_robust.specs.Sweeping.{EndsAt, IsBefore}
 use Rattle.online_robust.specs.Told.{IsMovedBy, IsTick}
-use Rattle.online_robust.specs.WindowPasts.{CanPass, HasPassed, IsFitPast, IsPassing, IsPastAt, IsSettled, IsUnder, StaysPast, past_steps}
+use Rattle.online_robust.specs.WindowPasts.{CanPass, HasPassed, IsFitPast, IsPassing, IsPastAt, KeepsPoint, IsUnder, StaysPast, past_steps}
 use Rattle.online_robust.specs.Windows.{HasTold, IsCore, IsGone, IsOutcome, IsOwned, IsPointOf, IsShifted, IsSpan}
 use Rattle.online_robust.specs.Windows.{IsStep, IsTopOf, IsUnfixedUnder, IsUnmet, IsWindowFault, LeavesAt, Scope}
 use Rattle.online_robust.specs.Windows.{Sheds, at_time, before_start, best_of, input_of, lines_left}
@@ -105,9 +105,9 @@ top_of side none top None cs nil is = inr (nil, is)
 top_of side none top (Some b) cs best is = inl (subst (λ (m : Margin). IsBest margin_function side cs m) (sym is) best)
 
 -- the high end lies before the end of its gap
-pub settled_before : (p : Ever) → IsSettled p → p.point ≡ None → IsBefore (shifted (value p.at) p.window.high) p.gap.until
-settled_before p settled none =
-    subst (λ (o : Option Reached). MatchOption o (IsBefore (shifted (value p.at) p.window.high) p.gap.until) (λ r. Unit {0})) none settled
+pub point_before : (p : Ever) → KeepsPoint p → p.point ≡ None → IsBefore (shifted (value p.at) p.window.high) p.gap.until
+point_before p keeps_point none =
+    subst (λ (o : Option Reached). MatchOption o (IsBefore (shifted (value p.at) p.window.high) p.gap.until) (λ r. Unit {0})) none keeps_point
 
 module _ (x : Scope) (p : Ever) (e : Held) (at : IsPastAt x p e) (to : Rational) (going : IsPassing x p to)
     (none : p.point ≡ None) (first : Frac) (leave : Option Frac)
@@ -123,7 +123,7 @@ module _ (x : Scope) (p : Ever) (e : Held) (at : IsPastAt x p e) (to : Rational)
   step = record {
     before = going.before;
     low_before = at.low_early;
-    high_before = settled_before p going.settled none;
+    high_before = point_before p going.keeps_point none;
     by = by_to;
     high = up_to p.gap.until p.window.high leave t leaves by_leave;
     low = le_of_lt low_stays;
@@ -256,7 +256,7 @@ passing_on x p q to g stays same none before = record {
   tick = g.tick;
   more = subst (λ (f : Frac). shifted (value f) q.window.high <ʳ x.bound) (sym same)
       (subst (λ (w : Window). shifted (value p.at) w.high <ʳ x.bound) (sym stays.window) g.more);
-  settled = subst (λ (o : Option Reached). MatchOption o (IsBefore (shifted (value q.at) q.window.high) q.gap.until) (λ r. Unit {0})) (sym none) before;
+  keeps_point = subst (λ (o : Option Reached). MatchOption o (IsBefore (shifted (value q.at) q.window.high) q.gap.until) (λ r. Unit {0})) (sym none) before;
 }
 
 -- what is kept of what was told changes nothing of it
@@ -336,7 +336,7 @@ module _ (x : Scope) (own : ℕ) (from to : Rational) (s : Ever) (e : Held) (can
       let told : HasTold (at_time x (value s.at) (value s.at)) own from s.window None =
       subst (HasTold (at_time x (value s.at) (value s.at)) own from s.window) none can.last in
       record {
-        came = (can.at, can.settled);
+        came = (can.at, can.keeps_point);
         here = here;
         by = le_of_lt told.1;
         there = λ h. absurd (not_lt_of_le h told.1);
@@ -388,7 +388,7 @@ module _ (x : Scope) (own : ℕ) (from to : Rational) (s : Ever) (e : Held) (can
       tick = tick;
       more = lt_of_lt_of_le (lt_shifted now.window.high before) (le_trans (le_shifted now.window.high by)
           (subst (λ (w : Window). shifted to w.high ≤ʳ x.bound) (sym goes.window) can.span.by));
-      settled = came.1;
+      keeps_point = came.1;
     }
 
     -- what is refused then

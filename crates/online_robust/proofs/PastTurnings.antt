@@ -26,7 +26,7 @@ use Rattle.online_robust.specs.ReadLines.{HasReached, IsThere}
 use Rattle.online_robust.specs.Standing.{HasStood, HasPassedTo, HasWaitedPast}
 use Rattle.online_robust.specs.Steps.{Step, Belongs, AreInputs, IsInput, back_of, begin_of, from_of, reach_before, seen_by}
 use Rattle.online_robust.specs.Waiting.{HasToldPast, IsBegunPast, silent_margin}
-use Rattle.online_robust.specs.WindowPasts.{CanPass, IsFitPast, IsPastAt, IsSettled, StoodPast}
+use Rattle.online_robust.specs.WindowPasts.{CanPass, IsFitPast, IsPastAt, KeepsPoint, StoodPast}
 use Rattle.online_robust.specs.Windows.{HasTold, IsOwned, IsSpan, Scope, at_time, best_of, scope_at}
 use Rattle.online_robust.specs.declared.endless.Endless.{Endless}
 use Rattle.online_robust.specs.declared.line.MarginLine.{MarginLine}
@@ -173,11 +173,11 @@ module _ (t : Step) (z : Endless) (e : Held) (to : ℕ) (b : Belongs t (Op.Ever 
         by_told (inr h) = inr h.0
 
     -- its high end lies before the start
-    first : IsWithin (2 ^ 34) (value s.at) → shifted (value s.at) z.window.high <ʳ start t.trace → IsPastAt x s e × IsSettled s
+    first : IsWithin (2 ^ 34) (value s.at) → shifted (value s.at) z.window.high <ʳ start t.trace → IsPastAt x s e × KeepsPoint s
     first near early =
         subst (λ (v : Window). ((u : Rational) → value_at (margin_function s.none) u ≈ᵉ none_of v.side minus_infinity infinity)
         → shifted (value s.at) v.high <ʳ value s.start → AreInputs (Robustness f t.trace) (reach_before t) (begin_of t) None F (held_at e v.of)
-        → (edge_at e v.of).seen ≡ [] → v.of < length e.edges → IsFitPast v (reach_before t) → IsPastAt x s e × IsSettled s) k.window
+        → (edge_at e v.of).seen ≡ [] → v.of < length e.edges → IsFitPast v (reach_before t) → IsPastAt x s e × KeepsPoint s) k.window
         (λ none early' inputs nil of_in fit'.
         past_first f t.trace (reach_before t) s e F
         (shifted (whole (pos to)) z.window.high) k.begins none k.still k.gap k.point k.best near early' inputs nil of_in
@@ -209,7 +209,7 @@ module _ (t : Step) (z : Endless) (e : Held) (to : ℕ) (b : Belongs t (Op.Ever 
         let now = first near (lt_of_le_of_lt (no_later (value s.at) z.window.high (here t z e to b).behind) before) in
         record {
           at = now.0;
-          settled = now.1;
+          keeps_point = now.1;
           last = subst (λ (o : Option Reached). HasTold (at_time x (value s.at) (value s.at)) (own t z e to b) (start t.trace) s.window o) (sym last)
               (same_refl (start t.trace), before);
           span = span (start t.trace) (to_first t z e to b) (first_tick t z e to b) (le_refl (start t.trace));
@@ -229,7 +229,7 @@ module _ (t : Step) (z : Endless) (e : Held) (to : ℕ) (b : Belongs t (Op.Ever 
         let now = first (within_same (2 ^ 34) (same_sym at_g) (tick_within tick)) early in
         record {
           at = now.0;
-          settled = now.1;
+          keeps_point = now.1;
           last = subst (λ (o : Option Reached). HasTold (at_time x (value s.at) (value s.at)) (own t z e to b) (whole g) s.window o) (sym last) (
             ap value (sym placed),
             there.0,

@@ -67,8 +67,8 @@ pub record IsPastAt (x : Scope) (p : Ever) (e : Held) : Type 0 where
   pub stands : (p.gap.stands ≡ true) ⊎ (p.gap ≡ no_gap p.none) ⊎ (p.gap ≡ before_start p.none p.start)
 
 -- where the high end stands on a point, that is kept
-abbrev pub IsSettled : Ever → Type 0
-IsSettled p = MatchOption p.point (IsBefore (shifted (value p.at) p.window.high) p.gap.until) (λ r. Unit {0})
+abbrev pub KeepsPoint : Ever → Type 0
+KeepsPoint p = MatchOption p.point (IsBefore (shifted (value p.at) p.window.high) p.gap.until) (λ r. Unit {0})
 
 -- all but the time, the gap, the point and the constant stays
 pub record StaysPast (old new : Ever) : Type 0 where
@@ -82,7 +82,7 @@ pub record IsPassing (x : Scope) (p : Ever) (to : Rational) : Type 0 where
   pub before : value p.at <ʳ to
   pub tick : IsTick to
   pub more : shifted (value p.at) p.window.high <ʳ x.bound
-  pub settled : IsSettled p
+  pub keeps_point : KeepsPoint p
 
 -- at most so many steps are left: each takes a point, or is the last
 abbrev pub past_steps : Ever → Edge → Rational → ℕ
@@ -91,13 +91,13 @@ past_steps p x to = lines_left x + (if less (value p.at) to then 1 else 0)
 -- a window may go on from one time up to another, over its input
 pub record CanPass (x : Scope) (own : ℕ) (from to : Rational) (p : Ever) (e : Held) : Type 0 where
   pub at : IsPastAt x p e
-  pub settled : IsSettled p
+  pub keeps_point : KeepsPoint p
   pub last : HasTold (at_time x (value p.at) (value p.at)) own from p.window p.last
   pub span : IsSpan x p.window own from to
 
 -- the window has come to a time
 abbrev pub HasPassed : Scope → Ever → Held → Type 0
-HasPassed x p e = IsPastAt x p e × IsSettled p
+HasPassed x p e = IsPastAt x p e × KeepsPoint p
 
 -- a window was told up to g, where its value is kept: it stands over its input as that was told up to some time then, with what it has read of
 -- it, and goes on unless g is the end
@@ -107,7 +107,7 @@ pub record StoodPast (f : Subformula) (tr : Trace) (reach own : ℕ) (g : Ration
   pub bound : Rational
   pub old : Held
   pub was : IsPastAt (scope_at f tr reach front bound (value p.at)) p old
-  pub settled : IsSettled p
+  pub keeps_point : KeepsPoint p
   pub seen_is : (edge_at old p.window.of).seen ≡ seen
   pub goes_on : (g ≈ stop tr) ⊎ IsSome p.gap.until
   pub last : IsSomeAnd p.last (λ r. (value r.at ≡ value p.at)

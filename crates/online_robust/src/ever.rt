@@ -16,7 +16,7 @@ ghost use Rattle.online_robust.specs.ReadLines.{IsBuilt, IsStretch, IsThere};
 ghost use Rattle.online_robust.specs.Told.{IsMovedBy};
 ghost use Rattle.online_robust.specs.Windows.{IsGone, IsOwned, IsPointOf, IsShifted, IsUnfixedUnder, IsUnmet, IsWindowFault};
 ghost use Rattle.online_robust.specs.Windows.{Scope, Sheds, at_time, before_start, best_of, input_of, lines_left};
-ghost use Rattle.online_robust.specs.WindowPasts.{CanPass, HasPassed, IsFitPast, IsPassing, IsPastAt, IsSettled, StaysPast, past_steps};
+ghost use Rattle.online_robust.specs.WindowPasts.{CanPass, HasPassed, IsFitPast, IsPassing, IsPastAt, KeepsPoint, StaysPast, past_steps};
 ghost use Rattle.online_robust.specs.Refusing.{told_by};
 
 use crate::edges::Edges;
@@ -133,16 +133,16 @@ impl Ever {
         edges: &mut Edges,
         fault: &mut Option<WidePair<Margin>>,
     ) -> Result<(), Memory>
-        requires can { (x : Scope) × IsPastAt x self.old edges.old × IsSettled self.old × (shifted (value self.old.at) self.old.window.high <ʳ x.bound) }
+        requires can { (x : Scope) × IsPastAt x self.old edges.old × KeepsPoint self.old × (shifted (value self.old.at) self.old.window.high <ʳ x.bound) }
         requires unset { fault.old ≡ None }
-        ensures stands { (x : Scope) → IsPastAt x self.old edges.old → IsSettled self.old → shifted (value self.old.at) self.old.window.high <ʳ x.bound
+        ensures stands { (x : Scope) → IsPastAt x self.old edges.old → KeepsPoint self.old → shifted (value self.old.at) self.old.window.high <ʳ x.bound
             → OnOk result (IsPastAt x self.new edges.new × (self.new.point ≡ None)
             × IsBefore (shifted (value self.new.at) self.new.window.high) self.new.gap.until) }
         ensures kept { OnOk result (StaysPast self.old self.new × (self.new.at ≡ self.old.at)) }
         ensures shed { OnOk result ((limit : Rational) → Sheds limit self.old.window.of edges.old edges.new) }
         ensures no_more { OnOk result (lines_left (edge_at edges.new self.old.window.of) ≤ lines_left (edge_at edges.old self.old.window.of)) }
         ensures still { OnOk result (fault.new ≡ None) }
-        ensures wide { (x : Scope) → IsPastAt x self.old edges.old → IsSettled self.old → shifted (value self.old.at) self.old.window.high <ʳ x.bound
+        ensures wide { (x : Scope) → IsPastAt x self.old edges.old → KeepsPoint self.old → shifted (value self.old.at) self.old.window.high <ʳ x.bound
             → OnErr result (IsUnfixedUnder (at_time x (value self.old.at) (value self.old.at)) self.old.window self.old.gap (told_by fault.new)) }
     {
         if let Some(point) = self.point {
@@ -195,7 +195,7 @@ impl Ever {
             × EndsAt self.old.gap.until (shifted (value self.old.at) self.old.window.high) }
         ensures stands { (x : Scope) → IsPastAt x self.old edges.old → self.old.point ≡ None
             → EndsAt self.old.gap.until (shifted (value self.old.at) self.old.window.high)
-            → IsPastAt x self.new edges.new × IsSettled self.new }
+            → IsPastAt x self.new edges.new × KeepsPoint self.new }
         ensures kept { self.new ≡ record self.old { point = self.new.point } }
         ensures shed { (x : Scope) → IsPastAt x self.old edges.old → self.old.point ≡ None
             → EndsAt self.old.gap.until (shifted (value self.old.at) self.old.window.high)
@@ -215,7 +215,7 @@ impl Ever {
     /// Where the high end stands on the end of its gap, the point there is taken.
     fn come(&mut self, edges: &mut Edges)
         requires { (x : Scope) × IsPastAt x self.old edges.old × (self.old.point ≡ None) }
-        ensures stands { (x : Scope) → IsPastAt x self.old edges.old → self.old.point ≡ None → IsPastAt x self.new edges.new × IsSettled self.new }
+        ensures stands { (x : Scope) → IsPastAt x self.old edges.old → self.old.point ≡ None → IsPastAt x self.new edges.new × KeepsPoint self.new }
         ensures kept { self.new ≡ record self.old { point = self.new.point } }
         ensures shed { (x : Scope) → IsPastAt x self.old edges.old → self.old.point ≡ None
             → Sheds (shifted (value self.old.at) self.old.window.high) self.old.window.of edges.old edges.new }
@@ -230,8 +230,8 @@ impl Ever {
 
     /// The point under the high end, where it stands on one and that end is in.
     fn under(&self) -> Option<Margin>
-        requires { (x : Scope) × (e : Held) × IsPastAt x self.now e × IsSettled self.now }
-        ensures { (x : Scope) (e : Held) → IsPastAt x self.now e → IsSettled self.now
+        requires { (x : Scope) × (e : Held) × IsPastAt x self.now e × KeepsPoint self.now }
+        ensures { (x : Scope) (e : Held) → IsPastAt x self.now e → KeepsPoint self.now
             → IsPointOf (input_of x self.now.window.side) x.reach self.now.window.high_in self.now.window.high self.now.gap (value self.now.at) result }
     {
         if self.window.high_in {
@@ -242,8 +242,8 @@ impl Ever {
 
     /// The point under the high end, where it stands on one.
     fn moved_point(&self) -> Option<Margin>
-        requires { (x : Scope) × (e : Held) × IsPastAt x self.now e × IsSettled self.now }
-        ensures { (x : Scope) (e : Held) → IsPastAt x self.now e → IsSettled self.now
+        requires { (x : Scope) × (e : Held) × IsPastAt x self.now e × KeepsPoint self.now }
+        ensures { (x : Scope) (e : Held) → IsPastAt x self.now e → KeepsPoint self.now
             → IsPointOf (input_of x self.now.window.side) x.reach true self.now.window.high self.now.gap (value self.now.at) result }
     {
         match self.point {

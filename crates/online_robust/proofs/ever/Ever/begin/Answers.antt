@@ -10,7 +10,7 @@ use Rattle.online_robust.proofs.PastSteps.{begun_first, begun_next, begun_told, 
 use Rattle.online_robust.proofs.ever.Ever.begin.Goals as goal
 
 pub returns-in-Some-clause-stands : goal.returns-in-Some-clause-stands
-returns-in-Some-clause-stands c x own from to can = (can.at, can.settled)
+returns-in-Some-clause-stands c x own from to can = (can.at, can.keeps_point)
 
 pub returns-in-Some-clause-told : goal.returns-in-Some-clause-told
 returns-in-Some-clause-told c x own from to can = stood x own from to c.args.self.now c.args.edges.now can c.in-Some.reached c.in-Some.is

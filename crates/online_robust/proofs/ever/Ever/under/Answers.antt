@@ -7,9 +7,9 @@ pub moved_point-requires : goal.moved_point-requires
 moved_point-requires c = c.requires
 
 pub returns-then-self : goal.returns-then-self
-returns-then-self c x e at settled =
+returns-then-self c x e at keeps_point =
     subst (λ (b : Bool). IsPointOf (input_of x c.args.self.now.window.side) x.reach b c.args.self.now.window.high c.args.self.now.gap
-    (value c.args.self.now.at) c.moved_point.result) (sym c.if-self.true) (c.moved_point.ensures x e at settled)
+    (value c.args.self.now.at) c.moved_point.result) (sym c.if-self.true) (c.moved_point.ensures x e at keeps_point)
 
 pub returns : goal.returns
-returns c x e at settled = inl c.if-self.false
+returns c x e at keeps_point = inl c.if-self.false
