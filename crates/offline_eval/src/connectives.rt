@@ -51,7 +51,7 @@ fn steady<P: Shape>(alloc: Global, from: u32, to: u32, point: P) -> Result<Signa
 }
 
 /// The greatest value of the type where the constant holds, and the least one where it fails, over the whole domain.
-pub(crate) fn settled<P: Shape>(
+pub(crate) fn constant_signal<P: Shape>(
     alloc: Global,
     from: u32,
     to: u32,

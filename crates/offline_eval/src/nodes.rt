@@ -5,9 +5,9 @@ ghost use Rattle.stl_syntax.specs.WellFormed.{HasBounds};
 ghost use Rattle.offline_eval.specs.Inputs.{is_atom};
 ghost use Rattle.offline_eval.specs.Making.{AreSound, FaultOfNode, IsAhead, IsBehind, NodeStaysSound, TellsNode};
 
-use crate::connectives::{both, either, implied, negated, settled};
+use crate::connectives::{both, constant_signal, either, implied, negated};
 use crate::untils::{bounded_since, bounded_until};
-use crate::windows::{each_ahead, each_behind, some_ahead, some_behind};
+use crate::windows::{inf_ahead, inf_behind, sup_ahead, sup_behind};
 use pl_signal::{OpFault, Signal};
 use std::alloc::Global;
 use stl_syntax::Node;
@@ -31,7 +31,7 @@ pub(crate) fn of_node<P: Shape>(
     ensures wide { IfErr result (FaultOfNode P.Shape from to node.now done.now) }
 {
     match node {
-        Node::Const(holds) => Ok(settled(alloc, from, to, *holds)?),
+        Node::Const(holds) => Ok(constant_signal(alloc, from, to, *holds)?),
         Node::Not(p) => Ok(negated(&done[*p as usize])?),
         Node::And(p, q) => both(&done[*p as usize], &done[*q as usize]),
         Node::Or(p, q) => either(&done[*p as usize], &done[*q as usize]),
@@ -71,14 +71,14 @@ fn of_future<P: Shape>(
             high,
             low_in,
             high_in,
-        } => { some_ahead(&done[*of as usize], *low, *high, *low_in, *high_in) }
+        } => { sup_ahead(&done[*of as usize], *low, *high, *low_in, *high_in) }
         Node::Always {
             of,
             low,
             high,
             low_in,
             high_in,
-        } => { each_ahead(&done[*of as usize], *low, *high, *low_in, *high_in) }
+        } => { inf_ahead(&done[*of as usize], *low, *high, *low_in, *high_in) }
         _ => unreachable!(),
     }
 }
@@ -111,14 +111,14 @@ fn of_past<P: Shape>(
             high,
             low_in,
             high_in,
-        } => { some_behind(&done[*of as usize], *low, *high, *low_in, *high_in) }
+        } => { sup_behind(&done[*of as usize], *low, *high, *low_in, *high_in) }
         Node::Historically {
             of,
             low,
             high,
             low_in,
             high_in,
-        } => { each_behind(&done[*of as usize], *low, *high, *low_in, *high_in) }
+        } => { inf_behind(&done[*of as usize], *low, *high, *low_in, *high_in) }
         _ => unreachable!(),
     }
 }

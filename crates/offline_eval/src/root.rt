@@ -12,7 +12,7 @@ ghost use Rattle.offline_eval.specs.Keeping.{AreGivenUp, IsRootIn, IsStack, Tell
 ghost use Rattle.offline_eval.specs.Making.{TellsValue};
 
 use crate::EvalFault;
-use crate::connectives::settled;
+use crate::connectives::constant_signal;
 use crate::evaluation::at_node;
 use crate::nodes::of_node;
 use frac128::Memory;
@@ -56,7 +56,7 @@ fn give_up<P: Shape>(
     let Some(place) = place else {
         return Ok(());
     };
-    let spare = settled(alloc, from, to, false)?;
+    let spare = constant_signal(alloc, from, to, false)?;
     done[place as usize] = spare;
     Ok(())
 }

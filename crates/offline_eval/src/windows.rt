@@ -10,7 +10,7 @@ use value_laws::Shape;
 use window_ops::{inf_past, inf_window, sup_past, sup_window};
 
 /// Eventually: the Sup over the window ahead.
-pub(crate) fn some_ahead<P: Shape>(
+pub(crate) fn sup_ahead<P: Shape>(
     x: &Signal<P>,
     low: u32,
     high: u32,
@@ -27,7 +27,7 @@ pub(crate) fn some_ahead<P: Shape>(
 }
 
 /// Always: the Inf over the window ahead.
-pub(crate) fn each_ahead<P: Shape>(
+pub(crate) fn inf_ahead<P: Shape>(
     x: &Signal<P>,
     low: u32,
     high: u32,
@@ -44,7 +44,7 @@ pub(crate) fn each_ahead<P: Shape>(
 }
 
 /// Once: the Sup over the window behind.
-pub(crate) fn some_behind<P: Shape>(
+pub(crate) fn sup_behind<P: Shape>(
     x: &Signal<P>,
     low: u32,
     high: Option<u32>,
@@ -61,7 +61,7 @@ pub(crate) fn some_behind<P: Shape>(
 }
 
 /// Historically: the Inf over the window behind.
-pub(crate) fn each_behind<P: Shape>(
+pub(crate) fn inf_behind<P: Shape>(
     x: &Signal<P>,
     low: u32,
     high: Option<u32>,

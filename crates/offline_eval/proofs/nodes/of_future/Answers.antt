@@ -39,8 +39,8 @@ returns-in-Until g c =
           c.bounded_until.ensures.wide;
     }
 
-pub some_ahead-requires-clause-fit : goal.some_ahead-requires-clause-fit
-some_ahead-requires-clause-fit g c =
+pub sup_ahead-requires-clause-fit : goal.sup_ahead-requires-clause-fit
+sup_ahead-requires-clause-fit g c =
     let below : c.in-Eventually.of < length c.args.done.now = subst (HasChildrenBelow (length c.args.done.now)) c.in-Eventually.is c.requires.children in
     let at_p = read c.args.done.now c.in-Eventually.of c.index-done-of.result below c.index-done-of.is in
     fit_of g.P.Shape c.args.from c.args.to c.index-done-of.result (omega arith) (c.requires.sound c.in-Eventually.of c.index-done-of.result at_p)
@@ -50,21 +50,21 @@ returns-in-Eventually g c =
     let below : c.in-Eventually.of < length c.args.done.now = subst (HasChildrenBelow (length c.args.done.now)) c.in-Eventually.is c.requires.children in
     let at_p = read c.args.done.now c.in-Eventually.of c.index-done-of.result below c.index-done-of.is in
     record {
-      sound = IfOk-weaker c.some_ahead.result _ _
+      sound = IfOk-weaker c.sup_ahead.result _ _
           (λ r h. one_sound g.P.Shape c.args.from c.args.to c.args.node.now c.in-Eventually.of c.in-Eventually.high c.args.done.now
-          c.index-done-of.result r at_p (ap own_reach c.in-Eventually.is) h) c.some_ahead.ensures.sound;
-      told = IfOk-weaker c.some_ahead.result _ _
+          c.index-done-of.result r at_p (ap own_reach c.in-Eventually.is) h) c.sup_ahead.ensures.sound;
+      told = IfOk-weaker c.sup_ahead.result _ _
           (λ r h. one_told g.P.Shape c.args.from c.args.to c.args.node.now c.in-Eventually.of c.args.done.now c.index-done-of.result r
           (eventually c.in-Eventually.low c.in-Eventually.high c.in-Eventually.low_in c.in-Eventually.high_in) at_p
-          (λ at i. ap (tree_of at i) c.in-Eventually.is) h) c.some_ahead.ensures.told;
-      wide = IfErr-weaker c.some_ahead.result _ _
+          (λ at i. ap (tree_of at i) c.in-Eventually.is) h) c.sup_ahead.ensures.told;
+      wide = IfErr-weaker c.sup_ahead.result _ _
           (λ e h. one_fault g.P.Shape c.args.from c.args.to c.args.node.now c.in-Eventually.of c.args.done.now c.index-done-of.result e
           (eventually c.in-Eventually.low c.in-Eventually.high c.in-Eventually.low_in c.in-Eventually.high_in) at_p
-          (λ at i. ap (tree_of at i) c.in-Eventually.is) h) c.some_ahead.ensures.wide;
+          (λ at i. ap (tree_of at i) c.in-Eventually.is) h) c.sup_ahead.ensures.wide;
     }
 
-pub each_ahead-requires-clause-fit : goal.each_ahead-requires-clause-fit
-each_ahead-requires-clause-fit g c =
+pub inf_ahead-requires-clause-fit : goal.inf_ahead-requires-clause-fit
+inf_ahead-requires-clause-fit g c =
     let below : c.in-Always.of < length c.args.done.now = subst (HasChildrenBelow (length c.args.done.now)) c.in-Always.is c.requires.children in
     let at_p = read c.args.done.now c.in-Always.of c.index-done-of-in-Always.result below c.index-done-of-in-Always.is in
     fit_of g.P.Shape c.args.from c.args.to c.index-done-of-in-Always.result (omega arith)
@@ -75,15 +75,15 @@ returns-in-Always g c =
     let below : c.in-Always.of < length c.args.done.now = subst (HasChildrenBelow (length c.args.done.now)) c.in-Always.is c.requires.children in
     let at_p = read c.args.done.now c.in-Always.of c.index-done-of-in-Always.result below c.index-done-of-in-Always.is in
     record {
-      sound = IfOk-weaker c.each_ahead.result _ _
+      sound = IfOk-weaker c.inf_ahead.result _ _
           (λ r h. one_sound g.P.Shape c.args.from c.args.to c.args.node.now c.in-Always.of c.in-Always.high c.args.done.now
-          c.index-done-of-in-Always.result r at_p (ap own_reach c.in-Always.is) h) c.each_ahead.ensures.sound;
-      told = IfOk-weaker c.each_ahead.result _ _
+          c.index-done-of-in-Always.result r at_p (ap own_reach c.in-Always.is) h) c.inf_ahead.ensures.sound;
+      told = IfOk-weaker c.inf_ahead.result _ _
           (λ r h. one_told g.P.Shape c.args.from c.args.to c.args.node.now c.in-Always.of c.args.done.now c.index-done-of-in-Always.result r
           (always c.in-Always.low c.in-Always.high c.in-Always.low_in c.in-Always.high_in) at_p (λ at i. ap (tree_of at i) c.in-Always.is) h)
-          c.each_ahead.ensures.told;
-      wide = IfErr-weaker c.each_ahead.result _ _
+          c.inf_ahead.ensures.told;
+      wide = IfErr-weaker c.inf_ahead.result _ _
           (λ e h. one_fault g.P.Shape c.args.from c.args.to c.args.node.now c.in-Always.of c.args.done.now c.index-done-of-in-Always.result e
           (always c.in-Always.low c.in-Always.high c.in-Always.low_in c.in-Always.high_in) at_p (λ at i. ap (tree_of at i) c.in-Always.is) h)
-          c.each_ahead.ensures.wide;
+          c.inf_ahead.ensures.wide;
     }

@@ -17,13 +17,13 @@ negated-requires g c =
     let below : c.in-Not.p < length c.args.done.now = subst (HasChildrenBelow (length c.args.done.now)) c.in-Not.is c.requires.children in
     (c.requires.sound c.in-Not.p c.index-done-p.result (read c.args.done.now c.in-Not.p c.index-done-p.result below c.index-done-p.is)).limited
 
-pub returns-in_ok-settled-in-Const : goal.returns-in_ok-settled-in-Const
-returns-in_ok-settled-in-Const g c =
-    let r = c.in_ok-settled-in-Const.field-0 in
+pub returns-in_ok-constant_signal-in-Const : goal.returns-in_ok-constant_signal-in-Const
+returns-in_ok-constant_signal-in-Const g c =
+    let r = c.in_ok-constant_signal-in-Const.field-0 in
     record {
       sound = none_sound g.P.Shape c.args.from c.args.to c.args.node.now c.args.done.now r
-          (λ reach. sound_more g.P.Shape c.args.from c.args.to 0 reach r (omega arith) c.in_ok-settled-in-Const.ensures.sound);
-      told = λ s at i over all. subst (λ n. TellsValue g.P.Shape s (tree_of at i n) r) (sym c.in-Const.is) (c.in_ok-settled-in-Const.ensures.told s over);
+          (λ reach. sound_more g.P.Shape c.args.from c.args.to 0 reach r (omega arith) c.in_ok-constant_signal-in-Const.ensures.sound);
+      told = λ s at i over all. subst (λ n. TellsValue g.P.Shape s (tree_of at i n) r) (sym c.in-Const.is) (c.in_ok-constant_signal-in-Const.ensures.told s over);
       wide = tt;
     }
 

@@ -40,8 +40,8 @@ returns-in-Since g c =
           c.bounded_since.ensures.wide;
     }
 
-pub some_behind-requires-clause-fit : goal.some_behind-requires-clause-fit
-some_behind-requires-clause-fit g c =
+pub sup_behind-requires-clause-fit : goal.sup_behind-requires-clause-fit
+sup_behind-requires-clause-fit g c =
     let below : c.in-Once.of < length c.args.done.now = subst (HasChildrenBelow (length c.args.done.now)) c.in-Once.is c.requires.children in
     let at_p = read c.args.done.now c.in-Once.of c.index-done-of.result below c.index-done-of.is in
     fit_of g.P.Shape c.args.from c.args.to c.index-done-of.result (omega arith) (c.requires.sound c.in-Once.of c.index-done-of.result at_p)
@@ -51,19 +51,19 @@ returns-in-Once g c =
     let below : c.in-Once.of < length c.args.done.now = subst (HasChildrenBelow (length c.args.done.now)) c.in-Once.is c.requires.children in
     let at_p = read c.args.done.now c.in-Once.of c.index-done-of.result below c.index-done-of.is in
     record {
-      sound = IfOk-weaker c.some_behind.result _ _
+      sound = IfOk-weaker c.sup_behind.result _ _
           (λ r h. one_sound g.P.Shape c.args.from c.args.to c.args.node.now c.in-Once.of (reach_of_bound c.in-Once.low c.in-Once.high) c.args.done.now
-          c.index-done-of.result r at_p (ap own_reach c.in-Once.is) h) c.some_behind.ensures.sound;
-      told = IfOk-weaker c.some_behind.result _ _
+          c.index-done-of.result r at_p (ap own_reach c.in-Once.is) h) c.sup_behind.ensures.sound;
+      told = IfOk-weaker c.sup_behind.result _ _
           (λ r h. one_told g.P.Shape c.args.from c.args.to c.args.node.now c.in-Once.of c.args.done.now c.index-done-of.result r
-          (once c.in-Once.low c.in-Once.high c.in-Once.low_in c.in-Once.high_in) at_p (λ at i. ap (tree_of at i) c.in-Once.is) h) c.some_behind.ensures.told;
-      wide = IfErr-weaker c.some_behind.result _ _
+          (once c.in-Once.low c.in-Once.high c.in-Once.low_in c.in-Once.high_in) at_p (λ at i. ap (tree_of at i) c.in-Once.is) h) c.sup_behind.ensures.told;
+      wide = IfErr-weaker c.sup_behind.result _ _
           (λ e h. one_fault g.P.Shape c.args.from c.args.to c.args.node.now c.in-Once.of c.args.done.now c.index-done-of.result e
-          (once c.in-Once.low c.in-Once.high c.in-Once.low_in c.in-Once.high_in) at_p (λ at i. ap (tree_of at i) c.in-Once.is) h) c.some_behind.ensures.wide;
+          (once c.in-Once.low c.in-Once.high c.in-Once.low_in c.in-Once.high_in) at_p (λ at i. ap (tree_of at i) c.in-Once.is) h) c.sup_behind.ensures.wide;
     }
 
-pub each_behind-requires-clause-fit : goal.each_behind-requires-clause-fit
-each_behind-requires-clause-fit g c =
+pub inf_behind-requires-clause-fit : goal.inf_behind-requires-clause-fit
+inf_behind-requires-clause-fit g c =
     let below : c.in-Historically.of < length c.args.done.now = subst (HasChildrenBelow (length c.args.done.now)) c.in-Historically.is c.requires.children in
     let at_p = read c.args.done.now c.in-Historically.of c.index-done-of-in-Historically.result below c.index-done-of-in-Historically.is in
     fit_of g.P.Shape c.args.from c.args.to c.index-done-of-in-Historically.result (omega arith)
@@ -74,17 +74,17 @@ returns-in-Historically g c =
     let below : c.in-Historically.of < length c.args.done.now = subst (HasChildrenBelow (length c.args.done.now)) c.in-Historically.is c.requires.children in
     let at_p = read c.args.done.now c.in-Historically.of c.index-done-of-in-Historically.result below c.index-done-of-in-Historically.is in
     record {
-      sound = IfOk-weaker c.each_behind.result _ _
+      sound = IfOk-weaker c.inf_behind.result _ _
           (λ r h. one_sound g.P.Shape c.args.from c.args.to c.args.node.now c.in-Historically.of
           (reach_of_bound c.in-Historically.low c.in-Historically.high) c.args.done.now c.index-done-of-in-Historically.result r at_p
-          (ap own_reach c.in-Historically.is) h) c.each_behind.ensures.sound;
-      told = IfOk-weaker c.each_behind.result _ _
+          (ap own_reach c.in-Historically.is) h) c.inf_behind.ensures.sound;
+      told = IfOk-weaker c.inf_behind.result _ _
           (λ r h. one_told g.P.Shape c.args.from c.args.to c.args.node.now c.in-Historically.of c.args.done.now c.index-done-of-in-Historically.result
           r (historically c.in-Historically.low c.in-Historically.high c.in-Historically.low_in c.in-Historically.high_in) at_p
-          (λ at i. ap (tree_of at i) c.in-Historically.is) h) c.each_behind.ensures.told;
-      wide = IfErr-weaker c.each_behind.result _ _
+          (λ at i. ap (tree_of at i) c.in-Historically.is) h) c.inf_behind.ensures.told;
+      wide = IfErr-weaker c.inf_behind.result _ _
           (λ e h. one_fault g.P.Shape c.args.from c.args.to c.args.node.now c.in-Historically.of c.args.done.now
           c.index-done-of-in-Historically.result e
           (historically c.in-Historically.low c.in-Historically.high c.in-Historically.low_in c.in-Historically.high_in) at_p
-          (λ at i. ap (tree_of at i) c.in-Historically.is) h) c.each_behind.ensures.wide;
+          (λ at i. ap (tree_of at i) c.in-Historically.is) h) c.inf_behind.ensures.wide;
     }

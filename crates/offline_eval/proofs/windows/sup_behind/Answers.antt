@@ -8,7 +8,7 @@ use Rattle.stl_syntax.specs.SupInf.{SupInf}
 use Rattle.offline_eval.proofs.Sound.{stays_sound, limited_along}
 use Rattle.offline_eval.proofs.Pointwise.{ok_both}
 use Rattle.offline_eval.proofs.WindowLemmas.{in_order, sup_behind_told, sup_over_bounded, behind_cause, behind_moved}
-use Rattle.offline_eval.proofs.windows.some_behind.Goals as goal
+use Rattle.offline_eval.proofs.windows.sup_behind.Goals as goal
 
 pub sup_past-requires-clause-order : goal.sup_past-requires-clause-order
 sup_past-requires-clause-order g c = in_order c.args.low c.args.high c.requires.order

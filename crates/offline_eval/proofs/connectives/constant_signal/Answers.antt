@@ -2,7 +2,7 @@ use Rattle.std.proofs.Common.{arith}
 use Rattle.std.proofs.lemmas.Result.{IfOk-weaker}
 use Rattle.offline_eval.proofs.Pointwise.{ok_both}
 use Rattle.offline_eval.proofs.Steady.{steady_sound, told_constant, extreme_bounded}
-use Rattle.offline_eval.proofs.connectives.settled.Goals as goal
+use Rattle.offline_eval.proofs.connectives.constant_signal.Goals as goal
 
 pub returns-clause-sound : goal.returns-clause-sound
 returns-clause-sound g c = ok_both c.steady.result c.steady.ensures.worth c.steady.ensures.shapes

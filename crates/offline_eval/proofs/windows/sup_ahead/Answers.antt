@@ -7,7 +7,7 @@ use Rattle.stl_syntax.specs.SupInf.{SupInf}
 use Rattle.offline_eval.proofs.Sound.{stays_sound, limited_along}
 use Rattle.offline_eval.proofs.Pointwise.{ok_both}
 use Rattle.offline_eval.proofs.WindowLemmas.{before_end, sup_ahead_told, sup_over_bounded, ahead_cause, ahead_moved}
-use Rattle.offline_eval.proofs.windows.some_ahead.Goals as goal
+use Rattle.offline_eval.proofs.windows.sup_ahead.Goals as goal
 
 pub sup_window-requires-clause-last : goal.sup_window-requires-clause-last
 sup_window-requires-clause-last g c = before_end c.requires.fit.last

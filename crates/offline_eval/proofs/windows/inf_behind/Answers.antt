@@ -8,7 +8,7 @@ use Rattle.stl_syntax.specs.SupInf.{SupInf}
 use Rattle.offline_eval.proofs.Sound.{stays_sound, limited_along}
 use Rattle.offline_eval.proofs.Pointwise.{ok_both}
 use Rattle.offline_eval.proofs.WindowLemmas.{in_order, inf_behind_told, inf_over_bounded, behind_cause, behind_moved}
-use Rattle.offline_eval.proofs.windows.each_behind.Goals as goal
+use Rattle.offline_eval.proofs.windows.inf_behind.Goals as goal
 
 pub inf_past-requires-clause-order : goal.inf_past-requires-clause-order
 inf_past-requires-clause-order g c = in_order c.args.low c.args.high c.requires.order
