@@ -10,10 +10,10 @@ use Rattle.report.proofs.Sequences.{take_at, place_inside}
 use Rattle.trace_reader.specs.TraceText.{lines}
 use Rattle.session_mux.specs.Sessions.{Tagged, IsTag, IsAnswer, AreEnds, prefixed, last_eight}
 use Rattle.session_mux.specs.Tags.{number_of}
-use Rattle.session_mux.specs.Telling.{told_lines}
+use Rattle.session_mux.specs.Saying.{said_lines}
 use Rattle.session_mux.specs.Owning.{Own, own_of, asks, with_content, stopped_now}
-use Rattle.session_mux.specs.Standing.{IsOwnText, HasTold, IsGrowth, IsReply, HasReplied, IsCutShort}
-use Rattle.session_mux.specs.Knowing.{Register, place_in, tags_of, tag_list, EachTold, AreFound, IsLastFound}
+use Rattle.session_mux.specs.Standing.{IsOwnText, HasSaidSoFar, IsGrowth, IsReply, HasReplied, IsCutShort}
+use Rattle.session_mux.specs.Knowing.{Register, place_in, tags_of, tag_list, EachHasSaid, AreFound, IsLastFound}
 use Rattle.session_mux.specs.Knowing.{IsReady, IsTurnedAway, HasAnswered, IsUnanswered, HasEnded}
 use Rattle.session_mux.specs.declared.fault.MuxFault.{MuxFault}
 use Rattle.session_mux.specs.declared.fault.MuxFault.TheVariants as fault
@@ -55,26 +55,26 @@ module _ (f : Formula) (seen : List Tagged) (x : Tagged) (i : ℕ) (mid : Regist
   inside = place_inside mid.sessions i r.session r.at
 
   -- the session that was found stands for what its own lines got
-  pub stands_for : (told : List ℕ) × HasTold f (own_of seen x.tag) told r.session
-  stands_for = subst (λ t. (told : List ℕ) × HasTold f (own_of seen t) told r.session) r.tag (r.told i r.session r.at).1
+  pub stands_for : (said : List ℕ) × HasSaidSoFar f (own_of seen x.tag) said r.session
+  stands_for = subst (λ t. (said : List ℕ) × HasSaidSoFar f (own_of seen t) said r.session) r.tag (r.said i r.session r.at).1
 
   module _ (s : Session) (before after : List ℕ) (h : HasReplied f (with_content (own_of seen x.tag) x.content) r.session s Reply before after) where
     same_tag : s.tag ≡ x.tag
     same_tag = h.tag ∙ r.tag
 
-    each_told : EachTold f (seen ++ x ∷ []) (set mid.sessions i s)
-    each_told j t at = elim (item_of_set mid.sessions i j s t inside at) [
-      | inl k ↦ subst (λ (u : Session). IsTag u.tag × ((told : List ℕ) × HasTold f (own_of (seen ++ x ∷ []) u.tag) told u)) (sym k.1) (
-        subst (λ w. IsTag w) (sym h.tag) (r.told i r.session r.at).0,
+    each_said : EachHasSaid f (seen ++ x ∷ []) (set mid.sessions i s)
+    each_said j t at = elim (item_of_set mid.sessions i j s t inside at) [
+      | inl k ↦ subst (λ (u : Session). IsTag u.tag × ((said : List ℕ) × HasSaidSoFar f (own_of (seen ++ x ∷ []) u.tag) said u)) (sym k.1) (
+        subst (λ w. IsTag w) (sym h.tag) (r.said i r.session r.at).0,
         (
-          h.told,
-          subst (λ w. HasTold f (own_of (seen ++ x ∷ []) w) h.told s) (sym same_tag)
-              (subst (λ (o : Own). HasTold f o h.told s) (grows f seen x) h.stands),
+          h.said,
+          subst (λ w. HasSaidSoFar f (own_of (seen ++ x ∷ []) w) h.said s) (sym same_tag)
+              (subst (λ (o : Own). HasSaidSoFar f o h.said s) (grows f seen x) h.stands),
         ),
       )
       | inr k ↦ (
-        (r.told j t k.1).0,
-        ((r.told j t k.1).1.0, subst (λ (o : Own). HasTold f o (r.told j t k.1).1.0 t) (sym (own_stays seen x t.tag (apart j t k.0 k.1))) (r.told j t k.1).1.1),
+        (r.said j t k.1).0,
+        ((r.said j t k.1).1.0, subst (λ (o : Own). HasSaidSoFar f o (r.said j t k.1).1.0 t) (sym (own_stays seen x t.tag (apart j t k.0 k.1))) (r.said j t k.1).1.1),
       )
     ]
       where
@@ -116,7 +116,7 @@ module _ (f : Formula) (seen : List Tagged) (x : Tagged) (i : ℕ) (mid : Regist
       knows = record {
         formula = e1 ∙ r.formula;
         tags = ap tag_list e2 ∙ tags_of_set mid.sessions i r.session s r.at h.tag ∙ r.tags;
-        told = subst (λ ss. EachTold f (seen ++ x ∷ []) ss) (sym e2) each_told;
+        said = subst (λ ss. EachHasSaid f (seen ++ x ∷ []) ss) (sym e2) each_said;
         found = subst (λ ss. AreFound ss new.places) (sym e2) (subst (λ (p : List (ℕ × ℕ)). AreFound (set mid.sessions i s) p) (sym e3) are_found);
         last = subst (λ (p : List (ℕ × ℕ)). IsLastFound p new.last) (sym e3) (subst (λ (l : Found). IsLastFound mid.places l) (sym e4) r.last);
       };
@@ -143,9 +143,9 @@ module _ (f : Formula) (all : List Tagged) where
   -- one session more
   ends_more : (ts : List (List ℕ)) (t text reply : List ℕ) → AreEnds f all ts text → Ends t reply → AreEnds f all (ts ++ t ∷ []) (text ++ reply)
   ends_more [] t text reply none (old, grown, was, is, e) =
-      (old, grown, [], was, is, refl, ap (λ w. w ++ reply) none ∙ e ∙ sym (append-nil (told_lines t grown)))
+      (old, grown, [], was, is, refl, ap (λ w. w ++ reply) none ∙ e ∙ sym (append-nil (said_lines t grown)))
   ends_more (u ∷ ts) t text reply (old, grown, later, was, is, more, e) h =
-      (old, grown, later ++ reply, was, is, ends_more ts t later reply more h, ap (λ w. w ++ reply) e ∙ append_assoc (told_lines u grown) later reply)
+      (old, grown, later ++ reply, was, is, ends_more ts t later reply more h, ap (λ w. w ++ reply) e ∙ append_assoc (said_lines u grown) later reply)
 
   -- the ends of some sessions, and of the others
   ends_part : (ts us : List (List ℕ)) (text : List ℕ) → AreEnds f all (ts ++ us) text
@@ -153,18 +153,18 @@ module _ (f : Formula) (all : List Tagged) where
   ends_part [] us text h = ([], text, refl, h, refl)
   ends_part (t ∷ ts) us text (old, grown, later, was, is, more, e) =
       let (a, b, front, back, k) = ends_part ts us later more in (
-        told_lines t grown ++ a,
+        said_lines t grown ++ a,
         b,
         (old, grown, a, was, is, front, refl),
         back,
-        e ∙ ap (λ w. told_lines t grown ++ w) k ∙ sym (append_assoc (told_lines t grown) a b),
+        e ∙ ap (λ w. said_lines t grown ++ w) k ∙ sym (append_assoc (said_lines t grown) a b),
       )
 
   ends_same : (ts : List (List ℕ)) (a b : List ℕ) → AreEnds f all ts a → AreEnds f all ts b → a ≡ b
   ends_same [] a b h k = h ∙ sym k
   ends_same (t ∷ ts) a b (old, grown, later, was, is, more, e) (old', grown', later', was', is', more', e') =
-      e ∙ ap (λ w. w ++ later) (ends_once t (told_lines t grown) (told_lines t grown') (old, grown, was, is, refl) (old', grown', was', is', refl))
-      ∙ ap (λ w. told_lines t grown' ++ w) (ends_same ts later later' more more') ∙ sym e'
+      e ∙ ap (λ w. w ++ later) (ends_once t (said_lines t grown) (said_lines t grown') (old, grown, was, is, refl) (old', grown', was', is', refl))
+      ∙ ap (λ w. said_lines t grown' ++ w) (ends_same ts later later' more more') ∙ sym e'
 
   -- the sessions before place i were ended
   pub record Ending (first : List Session) (i : ℕ) (now : List Session) (before after : List ℕ) : Type 0 where
@@ -227,7 +227,7 @@ module _ (f : Formula) (all : List Tagged) where
       where
         first_end : (t : List ℕ) (ts : List (List ℕ)) (text : List ℕ) → AreEnds f all (t ∷ ts) text
             → (reply : List ℕ) × Ends t reply × (later : List ℕ) × (text ≡ reply ++ later)
-        first_end t ts text (old, grown, later, was, is, more, e) = (told_lines t grown, (old, grown, was, is, refl), later, e)
+        first_end t ts text (old, grown, later, was, is, more, e) = (said_lines t grown, (old, grown, was, is, refl), later, e)
 
 -- all were
 pub ended_all : (f : Formula) (all : List Tagged) (first : List Session) (now : List Session) (i : ℕ) (before after : List ℕ)

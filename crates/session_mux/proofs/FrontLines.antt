@@ -137,7 +137,7 @@ module _ (f : Formula) (i : Input) (bytes written : List ℕ) (k : IsTaking f i 
     tagged = k.taken.tagged;
     whole = false;
     before = sound no_fault_so_far (subst (λ ls. AreTagged ls k.taken.tagged) (sym lines_so_far) (tagged_open k.front i.part k.taken.tagged k.taken.passed));
-    is = k.taken.told;
+    is = k.taken.said;
   }
 
   -- the bytes are not many
@@ -155,7 +155,7 @@ module _ (f : Formula) (i : Input) (bytes written : List ℕ) (k : IsTaking f i 
         → (short more : List ℕ) × OwesLines f front false short × (written ++ i.text ≡ short ++ more)
     of_passed line p others same q =
         let (short, more, are, parts_are) =
-        answers_split f [] q.first q.later (written ++ i.text) (subst (λ ts. AreAnswers f [] ts (written ++ i.text)) q.parts k.taken.told) in
+        answers_split f [] q.first q.later (written ++ i.text) (subst (λ ts. AreAnswers f [] ts (written ++ i.text)) q.parts k.taken.said) in
         let quiet : (x : InputFault) → ¬ FaultOfInput 1 [] (lines false front) x =
         λ x g. no_fault_so_far x (subst (λ b. FaultOfInput 1 [] (lines false b) x) (sym e) (input_fault_stays front back false x g)) in (
           short,

@@ -26,7 +26,7 @@ use Rattle.trace_stream.proofs.RowsBefore.{RowLine, goes_on, is_blank, is_row, r
 use Rattle.session_mux.specs.Sessions.{IsRowsStream, IsFaultLine, Alone}
 use Rattle.session_mux.proofs.FrontFaults.{lines_first, lines_all, fault_in_front, fault_early}
 use Rattle.session_mux.proofs.OwedLines.{take_past}
-use Rattle.session_mux.proofs.SessionsTold.{stream_of, text_alone_once}
+use Rattle.session_mux.proofs.SessionsSaid.{stream_of, text_alone_once}
 use Rattle.session_mux.proofs.TextLemmas.{alone_stays}
 
 -- ---- the rows of first lines
@@ -159,10 +159,10 @@ module _ (f : Formula) (a b : List ℕ) (p : Parts a []) where
 
     by_split : (header : Header) (rows : List Row) (stream : List ℕ) → IsRowsStream f (Some header) rows false stream
         → TraceSplit f.scale p.front header rows → Front
-    by_split header rows stream told (headless none) = no_header_there none
-    by_split header rows stream told (headed x y read e) =
+    by_split header rows stream said (headless none) = no_header_there none
+    by_split header rows stream said (headed x y read e) =
         let q = root (scaled f header.scale).nodes in
-        let (t, is) = text_split (IsNewText q) q header [] None x y stream (subst (λ rs. IsRowsText (IsNewText q) q header [] None rs stream) e told) in (
+        let (t, is) = text_split (IsNewText q) q header [] None x y stream (subst (λ rs. IsRowsText (IsNewText q) q header [] None rs stream) e said) in (
           t,
           (
             Some header,
@@ -184,22 +184,22 @@ module _ (f : Formula) (a b : List ℕ) (p : Parts a []) where
 
     front_calm : {header : Option Header} {rows : List Row} {whole : Bool} (stream : List ℕ) → AreRowsBefore stream_limits f (a ++ b) false header rows whole
         → IsRowsStream f header rows whole stream → Front
-    front_calm stream (sound {header = header} {rows = rows} calm read) told =
-        by_split header rows stream told
+    front_calm stream (sound {header = header} {rows = rows} calm read) said =
+        by_split header rows stream said
         (trace_split f.scale p.front (lines false b) header rows p.whole
         (subst (λ ls. AreTraceLines f.scale ls header rows) (lines_all stream_limits f a b p) read))
-    front_calm stream (no_header_yet calm none) told = no_header_there (λ n h at.
+    front_calm stream (no_header_yet calm none) said = no_header_there (λ n h at.
         none n h (subst (λ ls. IsHeaderAt ls n h) (sym (lines_all stream_limits f a b p)) (header_stays (lines false b) at)))
-    front_calm stream (faulted {header = header} {rows = rows} y g read) told =
-        by_split header rows stream told
+    front_calm stream (faulted {header = header} {rows = rows} y g read) said =
+        by_split header rows stream said
         (trace_split f.scale p.front (take (line_of y - 1 - length p.front) (lines false b)) header rows p.whole
         (subst (λ ls. AreTraceLines f.scale ls header rows) (behind_front y g) read))
-    front_calm stream (faulted_header y g none) told = no_header_there (λ n h at.
+    front_calm stream (faulted_header y g none) said = no_header_there (λ n h at.
         none n h (subst (λ ls. IsHeaderAt ls n h) (sym (behind_front y g)) (header_stays (take (line_of y - 1 - length p.front) (lines false b)) at)))
 
   -- there is a text for the first bytes where there is one for all
   pub alone_front : (text : List ℕ) → Alone f (a ++ b) false text → (first : List ℕ) × Alone f a false first
-  alone_front text (header, rows, whole, stream, line, before, told, told_of, e) = elim (by_fault line told_of) [
+  alone_front text (header, rows, whole, stream, line, before, said, said_of, e) = elim (by_fault line said_of) [
     | inl h ↦ (let (there, open_still) = rows_there h.0 h.1 before in (
       text,
       (
@@ -209,25 +209,25 @@ module _ (f : Formula) (a b : List ℕ) (p : Parts a []) where
         stream,
         line,
         there,
-        subst (λ (w : Bool). IsRowsStream f header rows w stream) open_still told,
-        line_there h.0 h.1 line told_of,
+        subst (λ (w : Bool). IsRowsStream f header rows w stream) open_still said,
+        line_there h.0 h.1 line said_of,
         e,
       ),
     ))
-    | inr k ↦ front_calm k stream before told
+    | inr k ↦ front_calm k stream before said
   ]
 
 -- the text for more bytes begins with that for the first
 pub alone_grows : (f : Formula) (a b : List ℕ) (short long : List ℕ) → Alone f a false short → Alone f (a ++ b) false long → IsLonger short long
-alone_grows f a b short long (header, rows, whole, stream, line, before, told, inl (calm, k), e)
-    (header', rows', whole', stream', line', before', told', told_of', e') =
+alone_grows f a b short long (header, rows, whole, stream, line, before, said, inl (calm, k), e)
+    (header', rows', whole', stream', line', before', said', said_of', e') =
     let (r, same) = stream_owed_grows verdicts f a b false stream stream'
-    (record { header = header; rows = rows; whole = whole; before = before; is = stream_of f header rows whole stream told })
-    (record { header = header'; rows = rows'; whole = whole'; before = before'; is = stream_of f header' rows' whole' stream' told' }) in (
+    (record { header = header; rows = rows; whole = whole; before = before; is = stream_of f header rows whole stream said })
+    (record { header = header'; rows = rows'; whole = whole'; before = before'; is = stream_of f header' rows' whole' stream' said' }) in (
       r ++ line',
       e' ∙ ap (λ t. t ++ line') same ∙ append_assoc stream r line'
           ∙ ap (λ t. t ++ (r ++ line')) (sym (e ∙ ap (λ t. stream ++ t) k ∙ append-nil stream)),
     )
-alone_grows f a b short long (header, rows, whole, stream, line, before, told, inr (x, is, k), e) other =
-    let stays = alone_stays f a b false short (x, is) (header, rows, whole, stream, line, before, told, inr (x, is, k), e) in
+alone_grows f a b short long (header, rows, whole, stream, line, before, said, inr (x, is, k), e) other =
+    let stays = alone_stays f a b false short (x, is) (header, rows, whole, stream, line, before, said, inr (x, is, k), e) in
     ([], text_alone_once f (a ++ b) false long short other stays ∙ sym (append-nil short))

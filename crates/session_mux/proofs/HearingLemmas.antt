@@ -14,10 +14,10 @@ use Rattle.trace_reader.specs.Feeds.{HasNoFeed}
 use Rattle.trace_reader.specs.TraceText.{Line, lines}
 use Rattle.trace_reader.proofs.LineLemmas.{done, lines-nil}
 use Rattle.trace_stream.proofs.FaultPlaces.{at_true, at_false}
-use Rattle.session_mux.specs.Hearing.{begins_with, says_to, heard, is_plain, HasPlainNames, HaveTags, EachHearsWhatItIsTold, EachHearsItsEnd}
+use Rattle.session_mux.specs.Hearing.{begins_with, says_to, heard, is_plain, HasPlainNames, HaveTags, EachHearsWhatIsSaid, EachHearsItsEnd}
 use Rattle.session_mux.specs.Sessions.{Tagged, IsTag, is_tag_byte, is_query, own, is_stopped, Alone, prefixed, last_eight, IsAnswer, tags_after}
-use Rattle.session_mux.specs.SessionsAlone.{is_of, IsAdded, AreTold, AreToldAtEnd}
-use Rattle.session_mux.specs.Telling.{texts}
+use Rattle.session_mux.specs.SessionsAlone.{is_of, IsAdded, AreSaidTo, AreSaidAtEnd}
+use Rattle.session_mux.specs.Saying.{texts}
 use Rattle.session_mux.proofs.PlainTexts.{plain_both, plain_free, AreFree, IsSaid, AreSaid, lines_free, one_line, said_back, said_alone}
 use Rattle.session_mux.proofs.TagLemmas.{bytes_of}
 use Rattle.session_mux.proofs.TextLemmas.{EndsInFeed, alone_ends, ends_tail, lines_joined, texts_joined}
@@ -211,11 +211,11 @@ module _ (f : Formula) (t : List ℕ) (names : HasPlainNames f) (is : IsTag t) w
     where
       by_own : (b : Bool) → is_of t x ≡ b → (heard t answer ≡ texts added) × EndsInFeed answer × EndsInFeed added
       by_own true e =
-          let (old, before, now, told) = at_true _ _ (is_of t x) e h in
+          let (old, before, now, said) = at_true _ _ (is_of t x) e h in
           let bytes = own seen t in (
-            ap (heard t) told ∙ heard_own t (lines true added) is (lines_free true added)
+            ap (heard t) said ∙ heard_own t (lines true added) is (lines_free true added)
                 (said_more bytes (own (seen ++ x ∷ []) t) (is_stopped seen t) (is_stopped (seen ++ x ∷ []) t) old added before now),
-            subst (λ w. EndsInFeed w) (sym told) (prefixed_ends (t ++ codes " ") (lines true added)),
+            subst (λ w. EndsInFeed w) (sym said) (prefixed_ends (t ++ codes " ") (lines true added)),
             ends_tail old added (alone_ends f (own (seen ++ x ∷ []) t) (is_stopped (seen ++ x ∷ []) t) (old ++ added) now),
           )
       by_own false e =
@@ -226,32 +226,32 @@ module _ (f : Formula) (t : List ℕ) (names : HasPlainNames f) (is : IsTag t) w
           by_query : (q : Bool) → is_query x ≡ q → (b : Bool) → bytes_eq x.tag t ≡ b
               → (bytes_eq x.tag t && not (is_query x)) ≡ false → (heard t answer ≡ []) × EndsInFeed answer
           by_query true k true m n =
-              let (old, so, told) = at_true _ _ (is_query x) k a in
+              let (old, so, said) = at_true _ _ (is_query x) k a in
               let same : x.tag ≡ t = (bytes_eq-Decides x.tag t).0 m in
               let free = free_drop (length (lines true old) - 8) (lines true old) (lines_free true old) in (
-                ap (heard t) (told ∙ ap (λ w. prefixed (w ++ codes " ? ") (last_eight (lines true old))) same)
+                ap (heard t) (said ∙ ap (λ w. prefixed (w ++ codes " ? ") (last_eight (lines true old))) same)
                     ∙ heard_query t (last_eight (lines true old)) is free,
-                subst (λ w. EndsInFeed w) (sym told) (prefixed_ends (x.tag ++ codes " ? ") (last_eight (lines true old))),
+                subst (λ w. EndsInFeed w) (sym said) (prefixed_ends (x.tag ++ codes " ? ") (last_eight (lines true old))),
               )
           by_query true k false m n =
-              let (old, so, told) = at_true _ _ (is_query x) k a in
+              let (old, so, said) = at_true _ _ (is_query x) k a in
               let free = free_drop (length (lines true old) - 8) (lines true old) (lines_free true old) in (
-                ap (heard t) told ∙ heard_other t x.tag (codes "? ") (last_eight (lines true old)) is also (apart x.tag false m refl) refl free,
-                subst (λ w. EndsInFeed w) (sym told) (prefixed_ends (x.tag ++ codes " ? ") (last_eight (lines true old))),
+                ap (heard t) said ∙ heard_other t x.tag (codes "? ") (last_eight (lines true old)) is also (apart x.tag false m refl) refl free,
+                subst (λ w. EndsInFeed w) (sym said) (prefixed_ends (x.tag ++ codes " ? ") (last_eight (lines true old))),
               )
           by_query false k true m n = absurd (false≢true (sym n ∙ ap (λ b. b && not (is_query x)) m ∙ ap not k))
           by_query false k false m n =
-              let (old, grown, before, now, told) = at_false _ _ (is_query x) k a in (
-                ap (heard t) told ∙ heard_other t x.tag [] (lines true grown) is also (apart x.tag false m refl) refl (lines_free true grown),
-                subst (λ w. EndsInFeed w) (sym told) (prefixed_ends (x.tag ++ codes " ") (lines true grown)),
+              let (old, grown, before, now, said) = at_false _ _ (is_query x) k a in (
+                ap (heard t) said ∙ heard_other t x.tag [] (lines true grown) is also (apart x.tag false m refl) refl (lines_free true grown),
+                subst (λ w. EndsInFeed w) (sym said) (prefixed_ends (x.tag ++ codes " ") (lines true grown)),
               )
 
-  heard_told : (seen more : List Tagged) (text told : List ℕ) → HaveTags more → AreTold f t seen more text told → heard t text ≡ texts told
-  heard_told seen [] text told tags (e, k) = ap (heard t) e ∙ heard_none t ∙ sym (ap texts k ∙ ap (λ ls. map (λ (l : Line). l.bytes) ls) (lines-nil true))
-  heard_told seen (x ∷ more) text told tags (answer, rest, added, later, a, h, on, e, k) =
+  heard_said : (seen more : List Tagged) (text said : List ℕ) → HaveTags more → AreSaidTo f t seen more text said → heard t text ≡ texts said
+  heard_said seen [] text said tags (e, k) = ap (heard t) e ∙ heard_none t ∙ sym (ap texts k ∙ ap (λ ls. map (λ (l : Line). l.bytes) ls) (lines-nil true))
+  heard_said seen (x ∷ more) text said tags (answer, rest, added, later, a, h, on, e, k) =
       let here = heard_answer seen x answer added tags.0 a h in
       ap (heard t) e ∙ heard_joined t answer rest here.1
-      ∙ ap (λ w. w ++ heard t rest) here.0 ∙ ap (λ w. texts added ++ w) (heard_told (seen ++ x ∷ []) more rest later tags.1 on)
+      ∙ ap (λ w. w ++ heard t rest) here.0 ∙ ap (λ w. texts added ++ w) (heard_said (seen ++ x ∷ []) more rest later tags.1 on)
       ∙ sym (ap texts k ∙ texts_joined added later here.2)
 
   both_end : (a b text : List ℕ) → EndsInFeed a → EndsInFeed b → text ≡ a ++ b → EndsInFeed text
@@ -259,18 +259,18 @@ module _ (f : Formula) (t : List ℕ) (names : HasPlainNames f) (is : IsTag t) w
   both_end a b text p (inr (x, e)) k = inr (a ++ x, k ∙ ap (λ w. a ++ w) e ∙ sym (append_assoc a x newline))
 
   -- both are whole lines
-  told_end : (seen more : List Tagged) (text told : List ℕ) → HaveTags more → AreTold f t seen more text told → EndsInFeed text × EndsInFeed told
-  told_end seen [] text told tags (e, k) = (inl e, inl k)
-  told_end seen (x ∷ more) text told tags (answer, rest, added, later, a, h, on, e, k) =
+  said_end : (seen more : List Tagged) (text said : List ℕ) → HaveTags more → AreSaidTo f t seen more text said → EndsInFeed text × EndsInFeed said
+  said_end seen [] text said tags (e, k) = (inl e, inl k)
+  said_end seen (x ∷ more) text said tags (answer, rest, added, later, a, h, on, e, k) =
       let here = heard_answer seen x answer added tags.0 a h in
-      let others = told_end (seen ++ x ∷ []) more rest later tags.1 on in
-      (both_end answer rest text here.1 others.0 e, both_end added later told here.2 others.1 k)
+      let others = said_end (seen ++ x ∷ []) more rest later tags.1 on in
+      (both_end answer rest text here.1 others.0 e, both_end added later said here.2 others.1 k)
 
   -- at the end
-  heard_at_end : (all : List Tagged) (tags : List (List ℕ)) (text told : List ℕ) → AreTags tags
-      → AreToldAtEnd f t all tags text told → heard t text ≡ texts told
-  heard_at_end all [] text told also (e, k) = ap (heard t) e ∙ heard_none t ∙ sym (ap texts k ∙ ap (λ ls. map (λ (l : Line). l.bytes) ls) (lines-nil true))
-  heard_at_end all (u ∷ tags) text told also (old, grown, later, more, so, whole, on, e, k) =
+  heard_at_end : (all : List Tagged) (tags : List (List ℕ)) (text said : List ℕ) → AreTags tags
+      → AreSaidAtEnd f t all tags text said → heard t text ≡ texts said
+  heard_at_end all [] text said also (e, k) = ap (heard t) e ∙ heard_none t ∙ sym (ap texts k ∙ ap (λ ls. map (λ (l : Line). l.bytes) ls) (lines-nil true))
+  heard_at_end all (u ∷ tags) text said also (old, grown, later, more, so, whole, on, e, k) =
       ap (heard t) e ∙ heard_joined t (prefixed (u ++ codes " ") (lines true grown)) later (prefixed_ends (u ++ codes " ") (lines true grown))
       ∙ ap (λ w. heard t (prefixed (u ++ codes " ") (lines true grown)) ++ w) (heard_at_end all tags later more also.1 on)
       ∙ by_tag (bytes_eq u t) refl ∙ sym (ap texts k)
@@ -279,9 +279,9 @@ module _ (f : Formula) (t : List ℕ) (names : HasPlainNames f) (is : IsTag t) w
           → heard t (prefixed (u ++ codes " ") (lines true grown)) ++ texts more ≡ texts ((if bytes_eq u t then grown else []) ++ more)
       by_tag true m =
           let same : u ≡ t = (bytes_eq-Decides u t).0 m in
-          let said = said_more (own all u) (own all u) (is_stopped all u) true old grown so whole in
+          let own_said = said_more (own all u) (own all u) (is_stopped all u) true old grown so whole in
           ap (λ w. w ++ texts more)
-          (ap (λ w. heard t (prefixed (w ++ codes " ") (lines true grown))) same ∙ heard_own t (lines true grown) is (lines_free true grown) said)
+          (ap (λ w. heard t (prefixed (w ++ codes " ") (lines true grown))) same ∙ heard_own t (lines true grown) is (lines_free true grown) own_said)
           ∙ sym (ap (λ b. texts ((if b then grown else []) ++ more)) m
           ∙ texts_joined grown more (ends_tail old grown (alone_ends f (own all u) true (old ++ grown) whole)))
       by_tag false m =
@@ -289,14 +289,14 @@ module _ (f : Formula) (t : List ℕ) (names : HasPlainNames f) (is : IsTag t) w
           ∙ sym (ap (λ b. texts ((if b then grown else []) ++ more)) m)
 
 -- what stands behind a bench's tag in the output is what its session is told
-pub hears_what_it_is_told : EachHearsWhatItIsTold
-hears_what_it_is_told f t all text told names is tags h = heard_told f t names is [] all text told tags h
+pub hears_what_is_said : EachHearsWhatIsSaid
+hears_what_is_said f t all text said names is tags h = heard_said f t names is [] all text said tags h
 
 -- to the end of the input too, what stands behind a bench's tag is what its session is told
 pub hears_its_end : EachHearsItsEnd
-hears_its_end f t all text told names is tags a =
-    let ends = told_end f t names is [] all a.during a.said tags a.lines in
+hears_its_end f t all text said names is tags a =
+    let ends = said_end f t names is [] all a.during a.said_first tags a.lines in
     ap (heard t) a.text_is ∙ heard_joined t a.during a.rest ends.0
-    ∙ ap (λ w. w ++ heard t a.rest) (heard_told f t names is [] all a.during a.said tags a.lines)
-    ∙ ap (λ w. texts a.said ++ w) (heard_at_end f t names is all (tags_after [] all) a.rest a.said_last (tags_are [] all tags) a.ends)
-    ∙ sym (ap texts a.told_is ∙ texts_joined a.said a.said_last ends.1)
+    ∙ ap (λ w. w ++ heard t a.rest) (heard_said f t names is [] all a.during a.said_first tags a.lines)
+    ∙ ap (λ w. texts a.said_first ++ w) (heard_at_end f t names is all (tags_after [] all) a.rest a.said_at_end (tags_are [] all tags) a.ends)
+    ∙ sym (ap texts a.said_is ∙ texts_joined a.said_first a.said_at_end ends.1)

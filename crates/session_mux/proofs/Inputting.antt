@@ -64,7 +64,7 @@ fault_there f mux front more text all ended k l e fault =
     let first : front ≡ take (fault_line x - 1) (lines ended all) =
     sym (ap (λ n. take n (lines ended all)) place ∙ ap (take (length front)) e ∙ take-append_seam front more) in (
       here,
-      record { tagged = k.tagged; whole = false; before = faulted x here (subst (λ ls. AreTagged ls k.tagged) first (passed_tagged k.passed)); is = k.told },
+      record { tagged = k.tagged; whole = false; before = faulted x here (subst (λ ls. AreTagged ls k.tagged) first (passed_tagged k.passed)); is = k.said },
     )
 
 -- so of a stored one
@@ -165,7 +165,7 @@ one_line f old new front line text before after written k parts sized handed = b
     with_answer : (x : Tagged) → HasTaken (record { formula = f; seen = k.tagged }) x new before after → AreAnswers f [] (k.tagged ++ x ∷ []) (written ++ after)
     with_answer x h = subst (λ t. AreAnswers f [] (k.tagged ++ x ∷ []) t)
         (ap (λ t. t ++ h.answer) parts ∙ append_assoc written before h.answer ∙ ap (λ t. written ++ t) (sym h.added))
-        (answers_on f [] k.tagged x text h.answer k.told h.is)
+        (answers_on f [] k.tagged x text h.answer k.said h.is)
 
     by_tag : is_blank_line (ended_line line) ≡ false → (x : Tagged) → IsTagged (content (ended_line line)) x
         → HasTaken (record { formula = f; seen = k.tagged }) x new before after → (b : Bool) → is_among x.tag k.after ≡ b
@@ -175,14 +175,14 @@ one_line f old new front line text before after written k parts sized handed = b
       after = k.after;
       passed = passed_on k.passed (old_tag {line = ended_line line} sized refl b is a none);
       stands = h.stands;
-      told = with_answer x h;
+      said = with_answer x h;
     }
     by_tag b x is h false a = record {
       tagged = k.tagged ++ x ∷ [];
       after = x.tag ∷ k.after;
       passed = passed_on k.passed (new_tag {line = ended_line line} sized refl b is a (room h.room) none);
       stands = h.stands;
-      told = with_answer x h;
+      said = with_answer x h;
     }
       where
         room : IsRoomFor k.tagged x → length k.after < 1024
@@ -199,7 +199,7 @@ one_line f old new front line text before after written k parts sized handed = b
           passed = subst (λ ts. ArePassed 1 [] (front ++ ended_line line ∷ []) ts k.after) (append-nil k.tagged)
               (passed_on k.passed (blank {line = ended_line line} sized refl b none));
           stands = stands;
-          told = subst (λ t. AreAnswers f [] k.tagged t) (parts ∙ ap (λ t. written ++ t) (sym same)) k.told;
+          said = subst (λ t. AreAnswers f [] k.tagged t) (parts ∙ ap (λ t. written ++ t) (sym same)) k.said;
         }
     by_blank false b =
         let (x, is, h) =
@@ -303,7 +303,7 @@ module _ (f : Formula) (i : Input) (bytes written : List ℕ) (k : IsTaking f i 
           tagged = h.tagged;
           whole = true;
           before = sound (no_fault mid (written ++ before) h) tagged;
-          is = (written ++ before, ends, h.told, are, ap (λ t. written ++ t) added ∙ sym (append_assoc written before ends));
+          is = (written ++ before, ends, h.said, are, ap (λ t. written ++ t) added ∙ sym (append_assoc written before ends));
         };
         sound = no_fault mid (written ++ before) h;
         seen = h.tagged;
@@ -323,7 +323,7 @@ taking_none f i empty none_made zero_lines stands = record {
   part_few = λ some. omega (arith, zero_lines);
   short = (let z : length i.part ≡ 0 = ap length empty in omega (arith, z));
   small = omega arith;
-  taken = record { tagged = []; after = []; passed = none; stands = stands; told = none_made };
+  taken = record { tagged = []; after = []; passed = none; stands = stands; said = none_made };
 }
 
 -- there are some bytes

@@ -12,8 +12,8 @@ use Rattle.stl_syntax.specs.Formula.{Formula}
 use Rattle.session_mux.specs.Sessions.{Tagged, IsTag}
 use Rattle.session_mux.specs.Tags.{number_of}
 use Rattle.session_mux.specs.Owning.{Own, own_of}
-use Rattle.session_mux.specs.Standing.{HasTold}
-use Rattle.session_mux.specs.Knowing.{Register, shown, place_in, tags_of, tag_list, EachTold, AreFound, Knows, HasBegun, IsNotBegun, IsTurnedAway, IsReady}
+use Rattle.session_mux.specs.Standing.{HasSaidSoFar}
+use Rattle.session_mux.specs.Knowing.{Register, shown, place_in, tags_of, tag_list, EachHasSaid, AreFound, Knows, HasBegun, IsNotBegun, IsTurnedAway, IsReady}
 use Rattle.session_mux.specs.declared.fault.MuxFault.{MuxFault}
 use Rattle.session_mux.specs.declared.fault.MuxFault.TheVariants as fault
 use Rattle.session_mux.specs.declared.known.Known.{Known}
@@ -118,7 +118,7 @@ one_item o x y e k = cc
 
 -- the session of a tag is found by its number
 pub found_is : (f : Formula) (seen : List Tagged) (sessions : List Session) (places : List (ℕ × ℕ)) (t : List ℕ) (i : ℕ)
-    → EachTold f seen sessions → AreFound sessions places → IsTag t
+    → EachHasSaid f seen sessions → AreFound sessions places → IsTag t
     → place_in places (number_of t) ≡ Some i → (s : Session) × (slice_get sessions i ≡ Some s) × (s.tag ≡ t)
 found_is f seen sessions places t i each found is e =
     let (s, at, same) = found.only (number_of t) i e in
@@ -148,13 +148,13 @@ pub ready_known : (f : Formula) (seen : List Tagged) (x : Tagged) (i : ℕ) (old
     → place_in old.places (number_of x.tag) ≡ Some i
     → new ≡ record old { last = record { number = number_of x.tag; place = i } } → IsReady f seen x i new
 ready_known f seen x i old new k is e n =
-    let (s, at, same) = found_is f seen old.sessions old.places x.tag i k.told k.found is e in
+    let (s, at, same) = found_is f seen old.sessions old.places x.tag i k.said k.found is e in
     let among : is_among x.tag (tags_of seen) ≡ true =
     subst (λ ts. is_among x.tag ts ≡ true) k.tags (subst (λ w. is_among w (tag_list old.sessions) ≡ true) same (among_at old.sessions i s at)) in
     subst (λ (m : Register). IsReady f seen x i m) (sym n) (record {
       formula = k.formula;
       tags = k.tags ∙ sym (tags_grow [] seen x ∙ ap (λ b. tags_of seen ++ (if b then [] else x.tag ∷ [])) among ∙ append-nil (tags_of seen));
-      told = k.told;
+      said = k.said;
       found = k.found;
       last = inr e;
       session = s;
@@ -182,21 +182,21 @@ module _ (f : Formula) (seen : List Tagged) (x : Tagged) (i : ℕ) (old mid : Kn
       apart : (a c : ℕ) → a ≢ c → is_eq (nat_cmp a c) ≡ false
       apart a c ne = grind (arith, nat_tests, ne)
 
-  each_told : EachTold f seen mid.sessions.items
-  each_told j s at = elim (item_of_more old.sessions.items b.session j s (subst (λ ss. slice_get ss j ≡ Some s) b.sessions at)) [
-    | inl h ↦ k.told j s h
-    | inr h ↦ fresh_told s h.1
+  each_said : EachHasSaid f seen mid.sessions.items
+  each_said j s at = elim (item_of_more old.sessions.items b.session j s (subst (λ ss. slice_get ss j ≡ Some s) b.sessions at)) [
+    | inl h ↦ k.said j s h
+    | inr h ↦ fresh_said s h.1
   ]
     where
-      fresh_told : (s : Session) → s ≡ b.session → IsTag s.tag × ((told : List ℕ) × HasTold f (own_of seen s.tag) told s)
-      fresh_told s e =
-          subst (λ (t : Session). IsTag t.tag × ((told : List ℕ) × HasTold f (own_of seen t.tag) told t)) (sym e) (
+      fresh_said : (s : Session) → s ≡ b.session → IsTag s.tag × ((said : List ℕ) × HasSaidSoFar f (own_of seen s.tag) said s)
+      fresh_said s e =
+          subst (λ (t : Session). IsTag t.tag × ((said : List ℕ) × HasSaidSoFar f (own_of seen t.tag) said t)) (sym e) (
             subst (λ t. IsTag t) (sym b.tag) is,
             (
               [],
-              subst (λ t. HasTold f (own_of seen t) [] b.session) (sym b.tag)
-                  (subst (λ (o : Own). HasTold f o [] b.session) (sym (own_of_none seen x.tag is_new))
-                  (subst (λ (g : Formula). HasTold g (record { bytes = []; stopped = false }) [] b.session) k.formula b.fresh)),
+              subst (λ t. HasSaidSoFar f (own_of seen t) [] b.session) (sym b.tag)
+                  (subst (λ (o : Own). HasSaidSoFar f o [] b.session) (sym (own_of_none seen x.tag is_new))
+                  (subst (λ (g : Formula). HasSaidSoFar g (record { bytes = []; stopped = false }) [] b.session) k.formula b.fresh)),
             ),
           )
 
@@ -234,7 +234,7 @@ module _ (f : Formula) (seen : List Tagged) (x : Tagged) (i : ℕ) (old mid : Kn
     tags = ap tag_list b.sessions ∙ map-append (λ (s : Session). s.tag) old.sessions.items (b.session ∷ [])
         ∙ ap (λ ts. ts ++ b.session.tag ∷ []) k.tags ∙ ap (λ t. tags_of seen ++ t ∷ []) b.tag
         ∙ sym (tags_grow [] seen x ∙ ap (λ b. tags_of seen ++ (if b then [] else x.tag ∷ [])) is_new);
-    told = each_told;
+    said = each_said;
     found = are_found;
     last = inr at_number;
     session = b.session;

@@ -3,12 +3,12 @@ pub mod OwnLemmas
 pub mod RecentLemmas
 pub mod LineTexts
 pub mod TextLemmas
-pub mod SessionsTold
+pub mod SessionsSaid
 pub mod SessionLemmas
 pub mod KnowingLemmas
 pub mod AnsweringLemmas
 pub mod MuxLemmas
-pub mod EndsTold
+pub mod EndsSaid
 mod Tagging
 pub mod Passing
 pub mod Inputting

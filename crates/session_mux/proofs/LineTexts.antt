@@ -11,7 +11,7 @@ use Rattle.trace_reader.specs.TraceText.{Line, lines}
 use Rattle.trace_reader.proofs.FeedLemmas.{none-free, at-free, at-taken}
 use Rattle.trace_reader.proofs.LineLemmas.{done, lines-nil, lines-append, lines-rest, lines-line}
 use Rattle.session_mux.specs.Sessions.{prefixed}
-use Rattle.session_mux.specs.Telling.{texts}
+use Rattle.session_mux.specs.Saying.{texts}
 use Rattle.session_mux.proofs.RecentLemmas.{kept_again}
 
 -- up to its first LF
@@ -32,11 +32,11 @@ line_alone (c ∷ text) some none = lines-rest true (c ∷ text) (none-free (c �
 pub whole_drop : (n : ℕ) (text : List ℕ) → take (length text - n) (drop n text) ≡ drop n text
 whole_drop n text = take_all (length text - n) (drop n text) (omega (arith, length-drop n text))
 
--- ---- told so far
+-- ---- said so far
 
--- some of the lines were told, and the others are those of the rest
-pub record Telling (prefix text before : List ℕ) (first : Buffer (List ℕ)) (rest after : List ℕ) (now : Buffer (List ℕ)) : Type 0 where
-  -- the lines that were told
+-- some of the lines were said, and the others are those of the rest
+pub record Saying (prefix text before : List ℕ) (first : Buffer (List ℕ)) (rest after : List ℕ) (now : Buffer (List ℕ)) : Type 0 where
+  -- the lines that were said
   pub front : List Line
   -- with the rest they are the lines of the text
   pub split : lines true text ≡ front ++ lines true rest
@@ -45,19 +45,19 @@ pub record Telling (prefix text before : List ℕ) (first : Buffer (List ℕ)) (
   -- the last eight lines have room
   pub capacity : now.capacity ≡ 8
   -- and are the last of those before and these
-  pub kept : (told : List (List ℕ)) → first ≡ buffer (keep_last 8 told) 8 → now ≡ buffer (keep_last 8 (told ++ map (λ (line : Line). line.bytes) front)) 8
+  pub kept : (said : List (List ℕ)) → first ≡ buffer (keep_last 8 said) 8 → now ≡ buffer (keep_last 8 (said ++ map (λ (line : Line). line.bytes) front)) 8
 
--- before the first line nothing was told
-pub telling_begins : (prefix text before : List ℕ) (first : Buffer (List ℕ)) → first.capacity ≡ 8 → Telling prefix text before first text before first
-telling_begins prefix text before first room = record {
+-- before the first line nothing was said
+pub saying_begins : (prefix text before : List ℕ) (first : Buffer (List ℕ)) → first.capacity ≡ 8 → Saying prefix text before first text before first
+saying_begins prefix text before first room = record {
   front = [];
   split = refl;
   added = sym (append-nil before);
   capacity = room;
-  kept = λ told e. e ∙ ap (λ ts. buffer (keep_last 8 ts) 8) (sym (append-nil told));
+  kept = λ said e. e ∙ ap (λ ts. buffer (keep_last 8 ts) 8) (sym (append-nil said));
 }
 
-module _ (prefix text before : List ℕ) (first : Buffer (List ℕ)) (rest mid : List ℕ) (now : Buffer (List ℕ)) (t : Telling prefix text before first rest mid now)
+module _ (prefix text before : List ℕ) (first : Buffer (List ℕ)) (rest mid : List ℕ) (now : Buffer (List ℕ)) (t : Saying prefix text before first rest mid now)
     (line others : List ℕ) (is : lines true rest ≡ done line ∷ lines true others) where
   all : lines true text ≡ (t.front ++ done line ∷ []) ++ lines true others
   all = t.split ∙ ap (λ ls. t.front ++ ls) is ∙ sym (append_assoc t.front (done line ∷ []) (lines true others))
@@ -66,26 +66,26 @@ module _ (prefix text before : List ℕ) (first : Buffer (List ℕ)) (rest mid :
   one = append-nil (prefix ++ line ++ newline)
 
   -- one line more
-  pub telling_on : (next : Buffer (List ℕ)) (after : List ℕ) → next ≡ buffer (keep_last 8 (now.items ++ line ∷ [])) 8
+  pub saying_on : (next : Buffer (List ℕ)) (after : List ℕ) → next ≡ buffer (keep_last 8 (now.items ++ line ∷ [])) 8
       → after ≡ mid ++ (prefix ++ line ++ newline)
-      → Telling prefix text before first others after next
-  telling_on next after e k = record {
+      → Saying prefix text before first others after next
+  saying_on next after e k = record {
     front = t.front ++ done line ∷ [];
     split = all;
     added = k ∙ ap (λ w. w ++ (prefix ++ line ++ newline)) t.added ∙ append_assoc before (prefixed prefix t.front) (prefix ++ line ++ newline)
         ∙ ap (λ w. before ++ w) (ap (λ w. prefixed prefix t.front ++ w) (sym one)
         ∙ sym (flat_map-append (λ (l : Line). prefix ++ l.bytes ++ newline) t.front (done line ∷ [])));
     capacity = ap (λ (b : Buffer (List ℕ)). b.capacity) e;
-    kept = λ told f. e
-        ∙ ap (λ (b : Buffer (List ℕ)). buffer (keep_last 8 (b.items ++ line ∷ [])) 8) (t.kept told f)
-        ∙ ap (λ ts. buffer ts 8) (kept_again 8 (told ++ map (λ (l : Line). l.bytes) t.front) (line ∷ []))
-        ∙ ap (λ ts. buffer (keep_last 8 ts) 8) (append_assoc told (map (λ (l : Line). l.bytes) t.front) (line ∷ [])
-        ∙ ap (λ ts. told ++ ts) (sym (map-append (λ (l : Line). l.bytes) t.front (done line ∷ []))));
+    kept = λ said f. e
+        ∙ ap (λ (b : Buffer (List ℕ)). buffer (keep_last 8 (b.items ++ line ∷ [])) 8) (t.kept said f)
+        ∙ ap (λ ts. buffer ts 8) (kept_again 8 (said ++ map (λ (l : Line). l.bytes) t.front) (line ∷ []))
+        ∙ ap (λ ts. buffer (keep_last 8 ts) 8) (append_assoc said (map (λ (l : Line). l.bytes) t.front) (line ∷ [])
+        ∙ ap (λ ts. said ++ ts) (sym (map-append (λ (l : Line). l.bytes) t.front (done line ∷ []))));
   }
 
   -- a part of one more
-  pub telling_cut : (after : List ℕ) → GrewInPart (Is (prefix ++ line ++ newline)) mid after → GrewInPart (Is (prefixed prefix (lines true text))) before after
-  telling_cut after (a, b, whole, k) = (
+  pub saying_cut : (after : List ℕ) → GrewInPart (Is (prefix ++ line ++ newline)) mid after → GrewInPart (Is (prefixed prefix (lines true text))) before after
+  saying_cut after (a, b, whole, k) = (
     prefixed prefix t.front ++ a,
     b ++ prefixed prefix (lines true others),
     append_assoc (prefixed prefix t.front) a (b ++ prefixed prefix (lines true others))
@@ -97,10 +97,10 @@ module _ (prefix text before : List ℕ) (first : Buffer (List ℕ)) (rest mid :
   )
 
 -- no more than some lines
-pub telling_stopped : (prefix text before : List ℕ) (first : Buffer (List ℕ)) (rest after : List ℕ) (now : Buffer (List ℕ))
-    → Telling prefix text before first rest after now
+pub saying_stopped : (prefix text before : List ℕ) (first : Buffer (List ℕ)) (rest after : List ℕ) (now : Buffer (List ℕ))
+    → Saying prefix text before first rest after now
     → GrewInPart (Is (prefixed prefix (lines true text))) before after
-telling_stopped prefix text before first rest after now t = (
+saying_stopped prefix text before first rest after now t = (
   prefixed prefix t.front,
   prefixed prefix (lines true rest),
   sym (ap (λ ls. prefixed prefix ls) t.split ∙ flat_map-append (λ (l : Line). prefix ++ l.bytes ++ newline) t.front (lines true rest)),
@@ -109,14 +109,14 @@ telling_stopped prefix text before first rest after now t = (
 
 -- all lines
 module _ (prefix text before : List ℕ) (first : Buffer (List ℕ)) (rest after : List ℕ) (now : Buffer (List ℕ))
-    (t : Telling prefix text before first rest after now) (none : rest ≡ []) where
+    (t : Saying prefix text before first rest after now) (none : rest ≡ []) where
   every : t.front ≡ lines true text
   every = sym (t.split ∙ ap (λ ls. t.front ++ ls) (ap (λ w. lines true w) none ∙ lines-nil true) ∙ append-nil t.front)
 
   -- once the text is used up all of its lines were put
-  pub telling_all : after ≡ before ++ prefixed prefix (lines true text)
-  telling_all = t.added ∙ ap (λ ls. before ++ prefixed prefix ls) every
+  pub saying_all : after ≡ before ++ prefixed prefix (lines true text)
+  saying_all = t.added ∙ ap (λ ls. before ++ prefixed prefix ls) every
 
-  -- once the text is used up the last eight lines are those of all that was told
-  pub telling_kept : (told : List (List ℕ)) → first ≡ buffer (keep_last 8 told) 8 → now ≡ buffer (keep_last 8 (told ++ texts text)) 8
-  telling_kept told e = t.kept told e ∙ ap (λ ls. buffer (keep_last 8 (told ++ map (λ (l : Line). l.bytes) ls)) 8) every
+  -- once the text is used up the last eight lines are those of all that was said
+  pub saying_kept : (said : List (List ℕ)) → first ≡ buffer (keep_last 8 said) 8 → now ≡ buffer (keep_last 8 (said ++ texts text)) 8
+  saying_kept said e = t.kept said e ∙ ap (λ ls. buffer (keep_last 8 (said ++ map (λ (l : Line). l.bytes) ls)) 8) every

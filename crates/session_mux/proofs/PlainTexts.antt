@@ -120,9 +120,9 @@ one_line w free = lines-append true w [] ∙ ap (λ ls. lines false (w ++ newlin
 said_one : (w : List ℕ) → is_plain w ≡ true → IsSaid w → AreSaid (lines true (w ++ newline))
 said_one w p s = subst (λ ls. AreSaid ls) (sym (one_line w (plain_free w p))) (s, tt)
 
-said_lines : (xs ys : List Line) → AreSaid xs → AreSaid ys → AreSaid (xs ++ ys)
-said_lines [] ys h k = k
-said_lines (x ∷ xs) ys h k = (h.0, said_lines xs ys h.1 k)
+said_append : (xs ys : List Line) → AreSaid xs → AreSaid ys → AreSaid (xs ++ ys)
+said_append [] ys h k = k
+said_append (x ∷ xs) ys h k = (h.0, said_append xs ys h.1 k)
 
 -- the lines behind some that a session may write are such too
 pub said_back : (xs ys : List Line) → AreSaid (xs ++ ys) → AreSaid ys
@@ -133,7 +133,7 @@ said_none : AreSaid (lines true [])
 said_none = subst (λ ls. AreSaid ls) (sym (lines-nil true)) tt
 
 said_both : (a b text : List ℕ) → EndsInFeed a → AreSaid (lines true a) → AreSaid (lines true b) → text ≡ a ++ b → AreSaid (lines true text)
-said_both a b text ends h k e = subst (λ ls. AreSaid ls) (sym (ap (λ t. lines true t) e ∙ lines_joined a b ends)) (said_lines (lines true a) (lines true b) h k)
+said_both a b text ends h k e = subst (λ ls. AreSaid ls) (sym (ap (λ t. lines true t) e ∙ lines_joined a b ends)) (said_append (lines true a) (lines true b) h k)
 
 -- ---- texts
 
@@ -273,9 +273,9 @@ said_fault f bytes ended x names (inr (none, (r, first, e))) = subst (λ (y : Fa
 
 -- all that a session writes alone
 pub said_alone : (f : Formula) (bytes : List ℕ) (ended : Bool) (text : List ℕ) → HasPlainNames f → Alone f bytes ended text → AreSaid (lines true text)
-said_alone f bytes ended text names (header, rows, whole, stream, line, before, told, inl (none, k), e) =
-    said_both stream line text (rows_stream_ends f header rows whole stream told)
-    (said_rows_stream f header rows whole stream told) (subst (λ t. AreSaid (lines true t)) (sym k) said_none) e
-said_alone f bytes ended text names (header, rows, whole, stream, line, before, told, inr (x, is, k), e) =
-    said_both stream line text (rows_stream_ends f header rows whole stream told) (said_rows_stream f header rows whole stream told)
+said_alone f bytes ended text names (header, rows, whole, stream, line, before, said, inl (none, k), e) =
+    said_both stream line text (rows_stream_ends f header rows whole stream said)
+    (said_rows_stream f header rows whole stream said) (subst (λ t. AreSaid (lines true t)) (sym k) said_none) e
+said_alone f bytes ended text names (header, rows, whole, stream, line, before, said, inr (x, is, k), e) =
+    said_both stream line text (rows_stream_ends f header rows whole stream said) (said_rows_stream f header rows whole stream said)
     (subst (λ t. AreSaid (lines true t)) (sym k) (said_fault f bytes ended x names is)) e

@@ -1,4 +1,4 @@
--- The last lines of what was told.
+-- The last lines of what was said.
 use Rattle.std.proofs.Common.{◌≡◌, refl, sym, ap, ◌∙◌, ℕ, suc, ◌-◌, true, List, [], ◌∷◌, ◌++◌, length, drop, arith, length-append, length-drop}
 use Rattle.std.specs.Prelude.{map}
 use Rattle.std.proofs.lemmas.List.{drop-append-le, drop-drop, drop-map}
@@ -6,7 +6,7 @@ use Rattle.circular_buffer.specs.Buffer.{keep_last}
 use Rattle.stl_syntax.specs.Texts.{newline}
 use Rattle.trace_reader.specs.TraceText.{Line, lines}
 use Rattle.session_mux.specs.Sessions.{prefixed, last_eight}
-use Rattle.session_mux.specs.Telling.{texts, prefixed_texts}
+use Rattle.session_mux.specs.Saying.{texts, prefixed_texts}
 
 -- what falls out early does not come back
 pub kept_again : {X : Type 0} (n : ℕ) (xs ys : List X) → keep_last n (keep_last n xs ++ ys) ≡ keep_last n (xs ++ ys)

@@ -21,8 +21,8 @@ use Rattle.trace_stream.proofs.FaultPlaces.{at_false}
 use Rattle.trace_stream.proofs.Fed.{rest_is}
 use Rattle.session_mux.specs.Sessions.{Tagged, IsTag, tag, IsTagged, followed, is_tag_byte, AreAnswers}
 use Rattle.session_mux.specs.Owning.{Own, own_of, asks, stops}
-use Rattle.session_mux.specs.Standing.{HasTold}
-use Rattle.session_mux.specs.Knowing.{Register, EachTold, Knows, IsRoomFor, tags_of}
+use Rattle.session_mux.specs.Standing.{HasSaidSoFar}
+use Rattle.session_mux.specs.Knowing.{Register, EachHasSaid, Knows, IsRoomFor, tags_of}
 use Rattle.session_mux.specs.Muxes.{Muxed, Past, with_line, StandsFor, HasTaken, IsLineCall, IsTakenLine}
 use Rattle.session_mux.specs.Taking.{ended_line, IsSized, ArePassed, none, old_tag, new_tag, HasLines, IsTaking, IsInputStop, IsRefusedBy}
 use Rattle.session_mux.specs.Running.{RunLine, IsRunLine, bytes_of, contents_of, tagged_of, IsOwnLine, HasGathered, IsRunRefused}
@@ -145,10 +145,10 @@ module _ (f : Formula) (seen : List Tagged) (t : List ℕ) (l : RunLine) (ls : L
   abbrev one : Tagged
   one = record { tag = t; content = c }
 
-  each_as_one : (sessions : List Session) → EachTold f (seen ++ one ∷ []) sessions → EachTold f (seen ++ tagged_of t (l ∷ ls)) sessions
-  each_as_one sessions told i s at =
-      let h = told i s at in
-      (h.0, (h.1.0, subst (λ (o : Own). HasTold f o h.1.0 s) (run_as_one t l ls each c e seen s.tag) h.1.1))
+  each_as_one : (sessions : List Session) → EachHasSaid f (seen ++ one ∷ []) sessions → EachHasSaid f (seen ++ tagged_of t (l ∷ ls)) sessions
+  each_as_one sessions said i s at =
+      let h = said i s at in
+      (h.0, (h.1.0, subst (λ (o : Own). HasSaidSoFar f o h.1.0 s) (run_as_one t l ls each c e seen s.tag) h.1.1))
 
   -- the lines as one, or one by one
   stands_as_one : (m : Muxed) → StandsFor (record { formula = f; seen = seen ++ one ∷ [] }) m
@@ -158,7 +158,7 @@ module _ (f : Formula) (seen : List Tagged) (t : List ℕ) (l : RunLine) (ls : L
     knows = record {
       formula = h.knows.formula;
       tags = h.knows.tags ∙ tags_as_one t seen c l ls;
-      told = each_as_one m.known.sessions h.knows.told;
+      said = each_as_one m.known.sessions h.knows.said;
       found = h.knows.found;
       last = h.knows.last;
     };
@@ -196,9 +196,9 @@ module _ (f : Formula) (i : Input) (bytes written piece : List ℕ) (k : IsTakin
         after = tags;
         passed = passed_on k.taken.passed passed;
         stands = stands_as_one f k.taken.tagged t l ls each c e mux h.stands;
-        told = subst (λ w. AreAnswers f [] (k.taken.tagged ++ tagged_of t all_lines) w)
+        said = subst (λ w. AreAnswers f [] (k.taken.tagged ++ tagged_of t all_lines) w)
             (append_assoc written i.text h.answer ∙ ap (λ w. written ++ w) (sym h.added))
-            (answers_joined f [] k.taken.tagged (tagged_of t all_lines) (written ++ i.text) h.answer k.taken.told
+            (answers_joined f [] k.taken.tagged (tagged_of t all_lines) (written ++ i.text) h.answer k.taken.said
             (run_answers t f k.taken.tagged l ls c h.answer each e h.is));
       }
 

@@ -15,14 +15,14 @@ use Rattle.trace_reader.proofs.LineLemmas.{lines-nil}
 use Rattle.trace_reader.proofs.OpenLines.{Parts, parts}
 use Rattle.trace_stream.proofs.FaultPlaces.{at_false, to_false}
 use Rattle.session_mux.specs.Sessions.{Tagged, IsAnswer, AreAnswers, Alone, SoFar, prefixed, is_query, own, is_stopped}
-use Rattle.session_mux.specs.Telling.{told_lines}
+use Rattle.session_mux.specs.Saying.{said_lines}
 use Rattle.session_mux.specs.Owning.{Own, own_of, asks, stops, next_line, with_content}
 use Rattle.session_mux.specs.Knowing.{tags_of}
 use Rattle.session_mux.specs.Running.{RunLine, IsRunLine, contents_of, tagged_of}
 use Rattle.session_mux.proofs.FrontTexts.{alone_front, alone_grows}
 use Rattle.session_mux.proofs.OwnLemmas.{own_grows, own_stays, tags_grow}
 use Rattle.session_mux.proofs.SessionLemmas.{both_lines, content_goes_on, line_of_open, line_of_stopped}
-use Rattle.session_mux.proofs.SessionsTold.{text_alone_once}
+use Rattle.session_mux.proofs.SessionsSaid.{text_alone_once}
 use Rattle.session_mux.proofs.TextLemmas.{alone_ends, ends_tail}
 
 -- ---- one content for many
@@ -185,49 +185,49 @@ module _ (tag : List ℕ) where
   -- ---- answers
 
   module _ (f : Formula) where
-    none_told : told_lines tag [] ≡ []
-    none_told = ap (λ ls. prefixed (tag ++ codes " ") ls) (lines-nil true)
+    none_said : said_lines tag [] ≡ []
+    none_said = ap (λ ls. prefixed (tag ++ codes " ") ls) (lines-nil true)
 
     -- a text that is one with itself and more
-    nothing_more : (bytes : List ℕ) (stopped : Bool) (told grown : List ℕ) → Alone f bytes stopped told → Alone f bytes stopped (told ++ grown) → grown ≡ []
-    nothing_more bytes stopped told grown a b =
-        append_cancel_left told grown [] (text_alone_once f bytes stopped (told ++ grown) told b a ∙ sym (append-nil told))
+    nothing_more : (bytes : List ℕ) (stopped : Bool) (said grown : List ℕ) → Alone f bytes stopped said → Alone f bytes stopped (said ++ grown) → grown ≡ []
+    nothing_more bytes stopped said grown a b =
+        append_cancel_left said grown [] (text_alone_once f bytes stopped (said ++ grown) said b a ∙ sym (append-nil said))
 
-    answer_of : (seen : List Tagged) (x : Tagged) (told grown : List ℕ) → x.tag ≡ tag → asks x.content ≡ false → SoFar f seen tag told
-        → SoFar f (seen ++ x ∷ []) tag (told ++ grown) → IsAnswer f seen x (told_lines tag grown)
-    answer_of seen x told grown same no_query a b = to_false _ _ (is_query x) no_query (
-      told,
+    answer_of : (seen : List Tagged) (x : Tagged) (said grown : List ℕ) → x.tag ≡ tag → asks x.content ≡ false → SoFar f seen tag said
+        → SoFar f (seen ++ x ∷ []) tag (said ++ grown) → IsAnswer f seen x (said_lines tag grown)
+    answer_of seen x said grown same no_query a b = to_false _ _ (is_query x) no_query (
+      said,
       grown,
-      subst (λ t. SoFar f seen t told) (sym same) a,
-      subst (λ t. SoFar f (seen ++ x ∷ []) t (told ++ grown)) (sym same) b,
-      ap (λ t. told_lines t grown) (sym same),
+      subst (λ t. SoFar f seen t said) (sym same) a,
+      subst (λ t. SoFar f (seen ++ x ∷ []) t (said ++ grown)) (sym same) b,
+      ap (λ t. said_lines t grown) (sym same),
     )
 
     -- after its stop a session's lines add nothing
-    stopped_answers : (seen : List Tagged) (ls : List RunLine) → All (IsRunLine tag) ls → is_stopped seen tag ≡ true → (told : List ℕ) → SoFar f seen tag told
+    stopped_answers : (seen : List Tagged) (ls : List RunLine) → All (IsRunLine tag) ls → is_stopped seen tag ≡ true → (said : List ℕ) → SoFar f seen tag said
         → AreAnswers f seen (tagged_of tag ls) []
-    stopped_answers seen [] each stop told so = refl
-    stopped_answers seen (l ∷ ls) each stop told so =
+    stopped_answers seen [] each stop said so = refl
+    stopped_answers seen (l ∷ ls) each stop said so =
         let x : Tagged = record { tag = tag; content = l.content } in
         let is = All-head (IsRunLine tag) l ls each in
         let same : own_of (seen ++ x ∷ []) tag ≡ own_of seen tag =
         own_line seen x refl is.no_query is.no_stop ∙ line_of_stopped (own_of seen tag) (x.content) stop in
-        let so_still : SoFar f (seen ++ x ∷ []) tag told = subst (λ (o : Own). Alone f o.bytes o.stopped told) (sym same) so in (
+        let so_still : SoFar f (seen ++ x ∷ []) tag said = subst (λ (o : Own). Alone f o.bytes o.stopped said) (sym same) so in (
           [],
           [],
-          subst (λ t. IsAnswer f seen x t) none_told
-              (answer_of seen x told [] refl is.no_query so (subst (λ t. SoFar f (seen ++ x ∷ []) tag t) (sym (append-nil told)) so_still)),
-          stopped_answers (seen ++ x ∷ []) ls (All-tail (IsRunLine tag) l ls each) (ap (λ (o : Own). o.stopped) same ∙ stop) told so_still,
+          subst (λ t. IsAnswer f seen x t) none_said
+              (answer_of seen x said [] refl is.no_query so (subst (λ t. SoFar f (seen ++ x ∷ []) tag t) (sym (append-nil said)) so_still)),
+          stopped_answers (seen ++ x ∷ []) ls (All-tail (IsRunLine tag) l ls each) (ap (λ (o : Own). o.stopped) same ∙ stop) said so_still,
           refl,
         )
 
     -- the growth over some lines of a session that goes on is made of their answers
-    open_answers : (seen : List Tagged) (ls : List RunLine) → All (IsRunLine tag) ls → is_stopped seen tag ≡ false → (told grown : List ℕ)
-        → SoFar f seen tag told → Alone f (own seen tag ++ contents_of ls) false (told ++ grown) → AreAnswers f seen (tagged_of tag ls) (told_lines tag grown)
-    open_answers seen [] each going told grown so all =
-        ap (told_lines tag) (nothing_more (own seen tag) false told grown (subst (λ (s : Bool). Alone f (own seen tag) s told) going so)
-        (subst (λ b. Alone f b false (told ++ grown)) (append-nil (own seen tag)) all)) ∙ none_told
-    open_answers seen (l ∷ ls) each going told grown so all =
+    open_answers : (seen : List Tagged) (ls : List RunLine) → All (IsRunLine tag) ls → is_stopped seen tag ≡ false → (said grown : List ℕ)
+        → SoFar f seen tag said → Alone f (own seen tag ++ contents_of ls) false (said ++ grown) → AreAnswers f seen (tagged_of tag ls) (said_lines tag grown)
+    open_answers seen [] each going said grown so all =
+        ap (said_lines tag) (nothing_more (own seen tag) false said grown (subst (λ (s : Bool). Alone f (own seen tag) s said) going so)
+        (subst (λ b. Alone f b false (said ++ grown)) (append-nil (own seen tag)) all)) ∙ none_said
+    open_answers seen (l ∷ ls) each going said grown so all =
         let x : Tagged = record { tag = tag; content = l.content } in
         let is = All-head (IsRunLine tag) l ls each in
         let line = l.content ++ newline in
@@ -235,27 +235,27 @@ module _ (tag : List ℕ) where
         let same : own_of (seen ++ x ∷ []) tag ≡ now =
         own_line seen x refl is.no_query is.no_stop ∙ line_of_open (own_of seen tag) l.content going in
         let bytes = own seen tag ++ line in
-        let longer : Alone f (bytes ++ contents_of ls) false (told ++ grown) =
-        subst (λ b. Alone f b false (told ++ grown)) (sym (append_assoc (own seen tag) line (contents_of ls))) all in
-        let first = alone_front f bytes (contents_of ls) (whole_line seen l) (told ++ grown) longer in
-        let before : Alone f (own seen tag) false told = subst (λ (s : Bool). Alone f (own seen tag) s told) going so in
-        let here = alone_grows f (own seen tag) line told first.0 before first.1 in
-        let rest = alone_grows f bytes (contents_of ls) first.0 (told ++ grown) first.1 longer in
-        let so_now : SoFar f (seen ++ x ∷ []) tag (told ++ here.0) =
-        subst (λ (o : Own). Alone f o.bytes o.stopped (told ++ here.0)) (sym same) (subst (λ t. Alone f bytes false t) here.1 first.1) in
+        let longer : Alone f (bytes ++ contents_of ls) false (said ++ grown) =
+        subst (λ b. Alone f b false (said ++ grown)) (sym (append_assoc (own seen tag) line (contents_of ls))) all in
+        let first = alone_front f bytes (contents_of ls) (whole_line seen l) (said ++ grown) longer in
+        let before : Alone f (own seen tag) false said = subst (λ (s : Bool). Alone f (own seen tag) s said) going so in
+        let here = alone_grows f (own seen tag) line said first.0 before first.1 in
+        let rest = alone_grows f bytes (contents_of ls) first.0 (said ++ grown) first.1 longer in
+        let so_now : SoFar f (seen ++ x ∷ []) tag (said ++ here.0) =
+        subst (λ (o : Own). Alone f o.bytes o.stopped (said ++ here.0)) (sym same) (subst (λ t. Alone f bytes false t) here.1 first.1) in
         let parts_are : grown ≡ here.0 ++ rest.0 =
-        append_cancel_left told grown (here.0 ++ rest.0) (rest.1 ∙ ap (λ t. t ++ rest.0) here.1 ∙ append_assoc told here.0 rest.0) in
-        let all_now : Alone f (own (seen ++ x ∷ []) tag ++ contents_of ls) false ((told ++ here.0) ++ rest.0) =
-        subst (λ b. Alone f (b ++ contents_of ls) false ((told ++ here.0) ++ rest.0)) (ap (λ (o : Own). o.bytes) (sym same))
+        append_cancel_left said grown (here.0 ++ rest.0) (rest.1 ∙ ap (λ t. t ++ rest.0) here.1 ∙ append_assoc said here.0 rest.0) in
+        let all_now : Alone f (own (seen ++ x ∷ []) tag ++ contents_of ls) false ((said ++ here.0) ++ rest.0) =
+        subst (λ b. Alone f (b ++ contents_of ls) false ((said ++ here.0) ++ rest.0)) (ap (λ (o : Own). o.bytes) (sym same))
         (subst (λ t. Alone f (bytes ++ contents_of ls) false t)
-        (ap (λ t. told ++ t) parts_are ∙ sym (append_assoc told here.0 rest.0)) longer) in (
-          told_lines tag here.0,
-          told_lines tag rest.0,
-          answer_of seen x told here.0 refl is.no_query so so_now,
-          open_answers (seen ++ x ∷ []) ls (All-tail (IsRunLine tag) l ls each) (ap (λ (o : Own). o.stopped) same) (told ++ here.0) rest.0 so_now all_now,
-          ap (told_lines tag) parts_are
+        (ap (λ t. said ++ t) parts_are ∙ sym (append_assoc said here.0 rest.0)) longer) in (
+          said_lines tag here.0,
+          said_lines tag rest.0,
+          answer_of seen x said here.0 refl is.no_query so so_now,
+          open_answers (seen ++ x ∷ []) ls (All-tail (IsRunLine tag) l ls each) (ap (λ (o : Own). o.stopped) same) (said ++ here.0) rest.0 so_now all_now,
+          ap (said_lines tag) parts_are
               ∙ both_lines tag here.0 rest.0
-              (ends_tail told here.0 (alone_ends f bytes false (told ++ here.0) (subst (λ t. Alone f bytes false t) here.1 first.1))),
+              (ends_tail said here.0 (alone_ends f bytes false (said ++ here.0) (subst (λ t. Alone f bytes false t) here.1 first.1))),
         )
       where
         whole_line : (seen : List Tagged) (l : RunLine) → Parts (own seen tag ++ (l.content ++ newline)) []
@@ -272,22 +272,22 @@ module _ (tag : List ℕ) where
         (subst (λ (o : Own). Alone f o.bytes o.stopped (got.0 ++ got.1)) (run_as_one l ls each c e seen tag ∙ own_run seen (l ∷ ls) each) got.3)
         got.4 (is_stopped seen tag) refl
       where
-        by_stop : (told grown : List ℕ) → SoFar f seen tag told
-            → Alone f (with_bytes (own_of seen tag) (contents_of (l ∷ ls))).bytes (with_bytes (own_of seen tag) (contents_of (l ∷ ls))).stopped (told ++ grown)
-            → answer ≡ told_lines tag grown → (b : Bool) → is_stopped seen tag ≡ b → AreAnswers f seen (tagged_of tag (l ∷ ls)) answer
-        by_stop told grown so all text true stop =
+        by_stop : (said grown : List ℕ) → SoFar f seen tag said
+            → Alone f (with_bytes (own_of seen tag) (contents_of (l ∷ ls))).bytes (with_bytes (own_of seen tag) (contents_of (l ∷ ls))).stopped (said ++ grown)
+            → answer ≡ said_lines tag grown → (b : Bool) → is_stopped seen tag ≡ b → AreAnswers f seen (tagged_of tag (l ∷ ls)) answer
+        by_stop said grown so all text true stop =
             let same : with_bytes (own_of seen tag) (contents_of (l ∷ ls)) ≡ own_of seen tag =
             ap (λ b. cond b (own_of seen tag) (let q : Own = record { bytes = own seen tag ++ contents_of (l ∷ ls); stopped = is_stopped seen tag } in q))
             stop in
             let none =
-            nothing_more (own seen tag) (is_stopped seen tag) told grown so (subst (λ (o : Own). Alone f o.bytes o.stopped (told ++ grown)) same all) in
-            subst (λ t. AreAnswers f seen (tagged_of tag (l ∷ ls)) t) (sym (text ∙ ap (told_lines tag) none ∙ none_told))
-            (stopped_answers seen (l ∷ ls) each stop told so)
-        by_stop told grown so all text false going =
+            nothing_more (own seen tag) (is_stopped seen tag) said grown so (subst (λ (o : Own). Alone f o.bytes o.stopped (said ++ grown)) same all) in
+            subst (λ t. AreAnswers f seen (tagged_of tag (l ∷ ls)) t) (sym (text ∙ ap (said_lines tag) none ∙ none_said))
+            (stopped_answers seen (l ∷ ls) each stop said so)
+        by_stop said grown so all text false going =
             let p : Own = record { bytes = own seen tag ++ contents_of (l ∷ ls); stopped = false } in
             let same : with_bytes (own_of seen tag) (contents_of (l ∷ ls)) ≡ p = with_open going in
             subst (λ t. AreAnswers f seen (tagged_of tag (l ∷ ls)) t) (sym text)
-            (open_answers seen (l ∷ ls) each going told grown so (subst (λ (o : Own). Alone f o.bytes o.stopped (told ++ grown)) same all))
+            (open_answers seen (l ∷ ls) each going said grown so (subst (λ (o : Own). Alone f o.bytes o.stopped (said ++ grown)) same all))
           where
             with_open : is_stopped seen tag ≡ false → with_bytes (own_of seen tag) (contents_of (l ∷ ls))
                 ≡ record { bytes = own seen tag ++ contents_of (l ∷ ls); stopped = false }

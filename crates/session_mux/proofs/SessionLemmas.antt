@@ -24,14 +24,14 @@ use Rattle.trace_stream.proofs.FaultPlaces.{at_true, at_false, to_true, to_false
 use Rattle.trace_stream.proofs.RowsBefore.{fault_stays}
 use Rattle.trace_stream.proofs.Told.{told_now, calm_now, live_after, told_over}
 use Rattle.session_mux.specs.Sessions.{Alone, prefixed, last_eight}
-use Rattle.session_mux.specs.Telling.{texts, prefixed_texts, told_lines, HasSaid}
+use Rattle.session_mux.specs.Saying.{texts, prefixed_texts, said_lines, HasSaid}
 use Rattle.session_mux.specs.Owning.{Own, asks, stops, next_line, stopped_now, with_content}
 use Rattle.session_mux.specs.Standing.{IsOwnText, HasFault, HasStopped, WatchesRows, WatchesEnd, IsOpen}
-use Rattle.session_mux.specs.Standing.{HasReason, IsStoppedAt, GoesOnWith, recent_of, HasTold, IsGrowth}
+use Rattle.session_mux.specs.Standing.{HasReason, IsStoppedAt, GoesOnWith, recent_of, HasSaidSoFar, IsGrowth}
 use Rattle.session_mux.specs.Standing.{HasGrown, IsCutShort, IsAfterLine, IsReply, HasReplied}
 use Rattle.session_mux.specs.declared.session.Session.{Session}
 use Rattle.session_mux.proofs.RecentLemmas.{prefixed_last}
-use Rattle.session_mux.proofs.SessionsTold.{text_alone_once}
+use Rattle.session_mux.proofs.SessionsSaid.{text_alone_once}
 use Rattle.session_mux.proofs.TextLemmas.{EndsInFeed, alone_ends, text_ends, ends_tail, lines_joined}
 use Rattle.session_mux.proofs.TextLemmas.{texts_joined, alone_of, alone_faulted, alone_stays}
 
@@ -41,116 +41,116 @@ use Rattle.session_mux.proofs.TextLemmas.{texts_joined, alone_of, alone_faulted,
 pub cut_none : (Reply : List ℕ → Type 0) (before after : List ℕ) → after ≡ before → IsCutShort Reply before after
 cut_none Reply before after e = record { first = []; added = e ∙ sym (append-nil before); begins = λ reply r. (reply, refl) }
 
-module _ (f : Formula) (tag : List ℕ) (o p : Own) (told grown : List ℕ) (was : IsOwnText f o told) (is : IsOwnText f p (told ++ grown)) where
+module _ (f : Formula) (tag : List ℕ) (o p : Own) (said grown : List ℕ) (was : IsOwnText f o said) (is : IsOwnText f p (said ++ grown)) where
   -- a text grows by one text
-  pub growth_once : (reply : List ℕ) → IsGrowth f tag o p reply → reply ≡ told_lines tag grown
+  pub growth_once : (reply : List ℕ) → IsGrowth f tag o p reply → reply ≡ said_lines tag grown
   growth_once reply (old, more, a, b, e) =
-      let same : old ≡ told = text_alone_once f o.bytes o.stopped old told a was in
-      let whole : old ++ more ≡ told ++ grown = text_alone_once f p.bytes p.stopped (old ++ more) (told ++ grown) b is in
-      e ∙ ap (λ t. told_lines tag t) (append_cancel_left told more grown (sym (ap (λ t. t ++ more) same) ∙ whole))
+      let same : old ≡ said = text_alone_once f o.bytes o.stopped old said a was in
+      let whole : old ++ more ≡ said ++ grown = text_alone_once f p.bytes p.stopped (old ++ more) (said ++ grown) b is in
+      e ∙ ap (λ t. said_lines tag t) (append_cancel_left said more grown (sym (ap (λ t. t ++ more) same) ∙ whole))
 
   -- a part of its lines was added
-  pub cut_short : (before after : List ℕ) → GrewInPart (Is (told_lines tag grown)) before after → IsCutShort (IsGrowth f tag o p) before after
+  pub cut_short : (before after : List ℕ) → GrewInPart (Is (said_lines tag grown)) before after → IsCutShort (IsGrowth f tag o p) before after
   cut_short before after (a, b, whole, k) = record { first = a; added = k; begins = λ reply r. (b, growth_once reply r ∙ sym whole) }
 
   -- all of them were
-  pub has_grown : (old new : Buffer (List ℕ)) (before after : List ℕ) (After : List ℕ → Type 0) → old ≡ recent_of told
-      → HasSaid tag grown old new before after → After (told ++ grown)
-      → HasGrown f tag p told new before after After
-  has_grown old new before after After e said then_is = record {
+  pub has_grown : (old new : Buffer (List ℕ)) (before after : List ℕ) (After : List ℕ → Type 0) → old ≡ recent_of said
+      → HasSaid tag grown old new before after → After (said ++ grown)
+      → HasGrown f tag p said new before after After
+  has_grown old new before after After e has_said then_is = record {
     grown = grown;
     alone = is;
-    recent_is = said.kept (texts told) e ∙ ap (λ ts. buffer (keep_last 8 ts) 8) (sym (texts_joined told grown (alone_ends f o.bytes o.stopped told was)));
-    added = said.added;
+    recent_is = has_said.kept (texts said) e ∙ ap (λ ts. buffer (keep_last 8 ts) 8) (sym (texts_joined said grown (alone_ends f o.bytes o.stopped said was)));
+    added = has_said.added;
     then = then_is;
   }
 
 -- ---- a text and then another
 
 module _ (tag text line : List ℕ) (whole : EndsInFeed text) where
-  -- the lines of two texts, of which the first is whole, are told one after the other
-  pub both_lines : told_lines tag (text ++ line) ≡ told_lines tag text ++ told_lines tag line
+  -- the lines of two texts, of which the first is whole, are said one after the other
+  pub both_lines : said_lines tag (text ++ line) ≡ said_lines tag text ++ said_lines tag line
   both_lines = ap (λ ls. prefixed (tag ++ codes " ") ls) (lines_joined text line whole)
       ∙ flat_map-append (λ (l : Line). (tag ++ codes " ") ++ l.bytes ++ newline) (lines true text) (lines true line)
 
-  -- two texts told one after the other are told as one
+  -- two texts said one after the other are said as one
   pub said_both : (old mid new : Buffer (List ℕ)) (before between after : List ℕ) → HasSaid tag text old mid before between
       → HasSaid tag line mid new between after
       → HasSaid tag (text ++ line) old new before after
   said_both old mid new before between after a b = record {
-    added = b.added ∙ ap (λ w. w ++ told_lines tag line) a.added ∙ append_assoc before (told_lines tag text) (told_lines tag line)
+    added = b.added ∙ ap (λ w. w ++ said_lines tag line) a.added ∙ append_assoc before (said_lines tag text) (said_lines tag line)
         ∙ ap (λ w. before ++ w) (sym both_lines);
-    kept = λ told e. b.kept (told ++ texts text) (a.kept told e)
-        ∙ ap (λ ts. buffer (keep_last 8 ts) 8) (append_assoc told (texts text) (texts line) ∙ ap (λ ts. told ++ ts) (sym (texts_joined text line whole)));
+    kept = λ said e. b.kept (said ++ texts text) (a.kept said e)
+        ∙ ap (λ ts. buffer (keep_last 8 ts) 8) (append_assoc said (texts text) (texts line) ∙ ap (λ ts. said ++ ts) (sym (texts_joined text line whole)));
     room = b.room;
   }
 
   -- a cut in the first of two texts is a cut in both
-  pub cut_in_first : (before after : List ℕ) → GrewInPart (Is (told_lines tag text)) before after → GrewInPart (Is (told_lines tag (text ++ line))) before after
+  pub cut_in_first : (before after : List ℕ) → GrewInPart (Is (said_lines tag text)) before after → GrewInPart (Is (said_lines tag (text ++ line))) before after
   cut_in_first before after (a, b, e, k) =
-      (a, b ++ told_lines tag line, sym (append_assoc a b (told_lines tag line)) ∙ ap (λ w. w ++ told_lines tag line) e ∙ sym both_lines, k)
+      (a, b ++ said_lines tag line, sym (append_assoc a b (said_lines tag line)) ∙ ap (λ w. w ++ said_lines tag line) e ∙ sym both_lines, k)
 
   -- a cut in the second of two texts, behind the whole first, is a cut in both
-  pub cut_in_second : (before between after : List ℕ) → between ≡ before ++ told_lines tag text → GrewInPart (Is (told_lines tag line)) between after
-      → GrewInPart (Is (told_lines tag (text ++ line))) before after
+  pub cut_in_second : (before between after : List ℕ) → between ≡ before ++ said_lines tag text → GrewInPart (Is (said_lines tag line)) between after
+      → GrewInPart (Is (said_lines tag (text ++ line))) before after
   cut_in_second before between after s (a, b, e, k) = (
-    told_lines tag text ++ a,
+    said_lines tag text ++ a,
     b,
-    append_assoc (told_lines tag text) a b ∙ ap (λ w. told_lines tag text ++ w) e ∙ sym both_lines,
-    k ∙ ap (λ w. w ++ a) s ∙ append_assoc before (told_lines tag text) a,
+    append_assoc (said_lines tag text) a b ∙ ap (λ w. said_lines tag text ++ w) e ∙ sym both_lines,
+    k ∙ ap (λ w. w ++ a) s ∙ append_assoc before (said_lines tag text) a,
   )
 
--- ---- what was told, or a part of it
+-- ---- what was said, or a part of it
 
 -- each of two outcomes
 pub either_way : {T E P Q R S : Type 0} (r : Result T E) → (P → R) → (Q → S) → MatchResult r (λ _. P) (λ _. Q) → MatchResult r (λ _. R) (λ _. S)
 either_way (Ok x) f g h = f h
 either_way (Err e) f g h = g h
 
--- the text of a reader was told
-pub told_text : {T E : Type 0} (r : Result T E) (f : Formula) (tag : List ℕ) (o p : Own) (told grown : List ℕ)
-    (old new : Buffer (List ℕ)) (before after : List ℕ) (After : List ℕ → Type 0) → IsOwnText f o told
-    → IsOwnText f p (told ++ grown) → old ≡ recent_of told → After (told ++ grown)
-    → MatchResult r (λ _. HasSaid tag grown old new before after) (λ _. GrewInPart (Is (told_lines tag grown)) before after)
-    → MatchResult r (λ _. HasGrown f tag p told new before after After) (λ _. IsCutShort (IsGrowth f tag o p) before after)
-told_text r f tag o p told grown old new before after After was is recent then_is h =
-    either_way r (λ said. has_grown f tag o p told grown was is old new before after After recent said then_is)
-    (cut_short f tag o p told grown was is before after) h
+-- the text of a reader was said
+pub said_text : {T E : Type 0} (r : Result T E) (f : Formula) (tag : List ℕ) (o p : Own) (said grown : List ℕ)
+    (old new : Buffer (List ℕ)) (before after : List ℕ) (After : List ℕ → Type 0) → IsOwnText f o said
+    → IsOwnText f p (said ++ grown) → old ≡ recent_of said → After (said ++ grown)
+    → MatchResult r (λ _. HasSaid tag grown old new before after) (λ _. GrewInPart (Is (said_lines tag grown)) before after)
+    → MatchResult r (λ _. HasGrown f tag p said new before after After) (λ _. IsCutShort (IsGrowth f tag o p) before after)
+said_text r f tag o p said grown old new before after After was is recent then_is h =
+    either_way r (λ has_said. has_grown f tag o p said grown was is old new before after After recent has_said then_is)
+    (cut_short f tag o p said grown was is before after) h
 
 -- ---- a reader that stopped
 
-module _ (f : Formula) (tag : List ℕ) (o p : Own) (told text : List ℕ) (fault : TraceFault) (was : IsOwnText f o told)
-    (stop : IsStoppedAt f p (told ++ text) (Faulty fault)) where
+module _ (f : Formula) (tag : List ℕ) (o p : Own) (said text : List ℕ) (fault : TraceFault) (was : IsOwnText f o said)
+    (stop : IsStoppedAt f p (said ++ text) (Faulty fault)) where
   abbrev pub last_line : List ℕ
   last_line = fault_text stop.0
 
   stop_ends : EndsInFeed text
-  stop_ends = ends_tail told text (text_ends stream_limits f p.bytes p.stopped (told ++ text) stop.3)
+  stop_ends = ends_tail said text (text_ends stream_limits f p.bytes p.stopped (said ++ text) stop.3)
 
-  stop_alone : IsOwnText f p (told ++ (text ++ last_line))
-  stop_alone = subst (λ t. IsOwnText f p t) (append_assoc told text last_line) (alone_faulted f p.bytes p.stopped (told ++ text) stop.3 stop.0 stop.2)
+  stop_alone : IsOwnText f p (said ++ (text ++ last_line))
+  stop_alone = subst (λ t. IsOwnText f p t) (append_assoc said text last_line) (alone_faulted f p.bytes p.stopped (said ++ text) stop.3 stop.0 stop.2)
 
   -- a session that stops and is cut in its text is cut short
-  pub stop_cut_first : (before after : List ℕ) → GrewInPart (Is (told_lines tag text)) before after → IsCutShort (IsGrowth f tag o p) before after
-  stop_cut_first before after g = cut_short f tag o p told (text ++ last_line) was stop_alone before after
+  pub stop_cut_first : (before after : List ℕ) → GrewInPart (Is (said_lines tag text)) before after → IsCutShort (IsGrowth f tag o p) before after
+  stop_cut_first before after g = cut_short f tag o p said (text ++ last_line) was stop_alone before after
       (cut_in_first tag text last_line stop_ends before after g)
 
-  -- a text that was told and the last line, told or cut, come to the session's growth, or a cut in it
-  pub stop_told : {T E : Type 0} (r : Result T E) (old mid new : Buffer (List ℕ)) (before between after : List ℕ)
-      → old ≡ recent_of told → HasSaid tag text old mid before between
-      → MatchResult r (λ _. HasSaid tag last_line mid new between after) (λ _. GrewInPart (Is (told_lines tag last_line)) between after)
-      → MatchResult r (λ _. HasGrown f tag p told new before after (λ _. HasStopped f p)) (λ _. IsCutShort (IsGrowth f tag o p) before after)
-  stop_told r old mid new before between after recent said h =
+  -- a text that was said and the last line, said or cut, come to the session's growth, or a cut in it
+  pub stop_said : {T E : Type 0} (r : Result T E) (old mid new : Buffer (List ℕ)) (before between after : List ℕ)
+      → old ≡ recent_of said → HasSaid tag text old mid before between
+      → MatchResult r (λ _. HasSaid tag last_line mid new between after) (λ _. GrewInPart (Is (said_lines tag last_line)) between after)
+      → MatchResult r (λ _. HasGrown f tag p said new before after (λ _. HasStopped f p)) (λ _. IsCutShort (IsGrowth f tag o p) before after)
+  stop_said r old mid new before between after recent has_said h =
       either_way r
-      (λ line. has_grown f tag o p told (text ++ last_line) was stop_alone old new before after (λ _. HasStopped f p) recent
-      (said_both tag text last_line stop_ends old mid new before between after said line) (stop.0, stop.2))
-      (λ g. cut_short f tag o p told (text ++ last_line) was stop_alone before after
-      (cut_in_second tag text last_line stop_ends before between after said.added g)) h
+      (λ line. has_grown f tag o p said (text ++ last_line) was stop_alone old new before after (λ _. HasStopped f p) recent
+      (said_both tag text last_line stop_ends old mid new before between after has_said line) (stop.0, stop.2))
+      (λ g. cut_short f tag o p said (text ++ last_line) was stop_alone before after
+      (cut_in_second tag text last_line stop_ends before between after has_said.added g)) h
 
 -- the limits and the formula are those of the reader
-pub stopped_at : (f : Formula) (bytes told : List ℕ) (live : Live Verdicts) (all text : List ℕ) (ended : Bool) (stop : StreamStop) → IsOpen f bytes told live
+pub stopped_at : (f : Formula) (bytes said : List ℕ) (live : Live Verdicts) (all text : List ℕ) (ended : Bool) (stop : StreamStop) → IsOpen f bytes said live
     → IsLiveStop verdicts live.rows.limits live.formula ended all text stop → IsLiveStop verdicts stream_limits f ended all text stop
-stopped_at f bytes told live all text ended stop open_for h =
+stopped_at f bytes said live all text ended stop open_for h =
     subst (λ (g : Formula). IsLiveStop verdicts stream_limits g ended all text stop) open_for.formula
     (subst (λ (l : Limits). IsLiveStop verdicts l live.formula ended all text stop) open_for.limits h)
 
@@ -163,33 +163,33 @@ reason_of limits f bytes text ended (Wide i den) h = absurd h
 
 -- ---- a reader that goes on
 
-module _ (f : Formula) (limits : Limits) (bytes told : List ℕ) (mid : Live Verdicts)
-    (k : IsLive WatchesRows verdicts mid bytes told) (formula : mid.formula ≡ f) (limit : mid.rows.limits ≡ stream_limits) where
+module _ (f : Formula) (limits : Limits) (bytes said : List ℕ) (mid : Live Verdicts)
+    (k : IsLive WatchesRows verdicts mid bytes said) (formula : mid.formula ≡ f) (limit : mid.rows.limits ≡ stream_limits) where
   calm_so_far : (x : Fault) → ¬ IsInputFault stream_limits f bytes false x
   calm_so_far =
       subst (λ (g : Formula). (x : Fault) → ¬ IsInputFault stream_limits g bytes false x) formula
-      (subst (λ (l : Limits). (x : Fault) → ¬ IsInputFault l mid.formula bytes false x) limit (calm_now WatchesRows verdicts mid bytes told k))
+      (subst (λ (l : Limits). (x : Fault) → ¬ IsInputFault l mid.formula bytes false x) limit (calm_now WatchesRows verdicts mid bytes said k))
 
-  -- what was told and the text of the line are what the session writes alone
-  pub alone_so_far : Alone f bytes false (told ++ mid.text)
+  -- what was said and the text of the line are what the session writes alone
+  pub alone_so_far : Alone f bytes false (said ++ mid.text)
   alone_so_far =
-      alone_of f bytes false (told ++ mid.text)
-      (subst (λ (g : Formula). IsTextOf verdicts stream_limits g bytes false (told ++ mid.text)) formula
-      (subst (λ (l : Limits). IsTextOf verdicts l mid.formula bytes false (told ++ mid.text)) limit (told_now WatchesRows verdicts mid bytes told k)))
+      alone_of f bytes false (said ++ mid.text)
+      (subst (λ (g : Formula). IsTextOf verdicts stream_limits g bytes false (said ++ mid.text)) formula
+      (subst (λ (l : Limits). IsTextOf verdicts l mid.formula bytes false (said ++ mid.text)) limit (told_now WatchesRows verdicts mid bytes said k)))
       calm_so_far
 
   -- once its text is let go a session is open for its next line
-  pub open_now : IsOpen f bytes (told ++ mid.text) (record mid { text = [] })
-  open_now = record { formula = formula; limits = limit; empty = refl; stands = live_after WatchesRows verdicts mid bytes told k }
+  pub open_now : IsOpen f bytes (said ++ mid.text) (record mid { text = [] })
+  open_now = record { formula = formula; limits = limit; empty = refl; stands = live_after WatchesRows verdicts mid bytes said k }
 
 -- a reader whose trace is over
-pub alone_at_end : (f : Formula) (bytes told : List ℕ) (live new : Live Verdicts) (holds : Bool) → IsOpen f bytes told live
-    → IsOver WatchesEnd verdicts live.rows.limits live.formula new bytes (told ++ new.text) holds → Alone f bytes true (told ++ new.text)
-alone_at_end f bytes told live new holds open_for k =
-    let over : IsOver WatchesEnd verdicts stream_limits f new bytes (told ++ new.text) holds =
-    subst (λ (g : Formula). IsOver WatchesEnd verdicts stream_limits g new bytes (told ++ new.text) holds) open_for.formula
-    (subst (λ (l : Limits). IsOver WatchesEnd verdicts l live.formula new bytes (told ++ new.text) holds) open_for.limits k) in
-    alone_of f bytes true (told ++ new.text) (told_over WatchesEnd verdicts stream_limits f new bytes (told ++ new.text) holds over) over.trace.sound
+pub alone_at_end : (f : Formula) (bytes said : List ℕ) (live new : Live Verdicts) (holds : Bool) → IsOpen f bytes said live
+    → IsOver WatchesEnd verdicts live.rows.limits live.formula new bytes (said ++ new.text) holds → Alone f bytes true (said ++ new.text)
+alone_at_end f bytes said live new holds open_for k =
+    let over : IsOver WatchesEnd verdicts stream_limits f new bytes (said ++ new.text) holds =
+    subst (λ (g : Formula). IsOver WatchesEnd verdicts stream_limits g new bytes (said ++ new.text) holds) open_for.formula
+    (subst (λ (l : Limits). IsOver WatchesEnd verdicts l live.formula new bytes (said ++ new.text) holds) open_for.limits k) in
+    alone_of f bytes true (said ++ new.text) (told_over WatchesEnd verdicts stream_limits f new bytes (said ++ new.text) holds over) over.trace.sound
 
 -- ---- contents
 
@@ -247,53 +247,53 @@ content_goes_on o content e k = by_tests (asks content) (stops content) e k
 
 -- ---- a session that is over
 
-module _ (f : Formula) (o : Own) (told : List ℕ) (was : IsOwnText f o told) (over : GoesOnWith f o told None) where
+module _ (f : Formula) (o : Own) (said : List ℕ) (was : IsOwnText f o said) (over : GoesOnWith f o said None) where
   faulted : o.stopped ≡ false → HasFault f o.bytes
   faulted e = elim over [ inl k ↦ absurd (false≢true (sym e ∙ k)) | inr k ↦ k ]
 
   -- a session that has stopped stays as it is at a line
-  pub over_at_line : (content : List ℕ) → IsOwnText f (next_line o content) told × GoesOnWith f (next_line o content) told None
+  pub over_at_line : (content : List ℕ) → IsOwnText f (next_line o content) said × GoesOnWith f (next_line o content) said None
   over_at_line content = by_stop o.stopped refl
     where
-      by_stop : (b : Bool) → o.stopped ≡ b → IsOwnText f (next_line o content) told × GoesOnWith f (next_line o content) told None
-      by_stop true e = subst (λ (p : Own). IsOwnText f p told × GoesOnWith f p told None) (sym (line_of_stopped o content e)) (was, over)
+      by_stop : (b : Bool) → o.stopped ≡ b → IsOwnText f (next_line o content) said × GoesOnWith f (next_line o content) said None
+      by_stop true e = subst (λ (p : Own). IsOwnText f p said × GoesOnWith f p said None) (sym (line_of_stopped o content e)) (was, over)
       by_stop false e =
           let fault = faulted e in
-          subst (λ (p : Own). IsOwnText f p told × GoesOnWith f p told None) (sym (line_of_open o content e)) (
-            alone_stays f o.bytes (content ++ newline) false told fault (subst (λ (b : Bool). Alone f o.bytes b told) e was),
+          subst (λ (p : Own). IsOwnText f p said × GoesOnWith f p said None) (sym (line_of_open o content e)) (
+            alone_stays f o.bytes (content ++ newline) false said fault (subst (λ (b : Bool). Alone f o.bytes b said) e was),
             inr (fault.0, fault_stays stream_limits f o.bytes (content ++ newline) false fault.0 fault.1),
           )
 
   -- a session that has stopped stays as it is at the end of the input
-  pub over_at_end : IsOwnText f (stopped_now o) told
+  pub over_at_end : IsOwnText f (stopped_now o) said
   over_at_end = by_stop o.stopped refl
     where
-      by_stop : (b : Bool) → o.stopped ≡ b → Alone f o.bytes true told
-      by_stop true e = subst (λ (b : Bool). Alone f o.bytes b told) e was
+      by_stop : (b : Bool) → o.stopped ≡ b → Alone f o.bytes true said
+      by_stop true e = subst (λ (b : Bool). Alone f o.bytes b said) e was
       by_stop false e =
-          subst (λ bytes. Alone f bytes true told) (append-nil o.bytes)
-          (alone_stays f o.bytes [] true told (faulted e) (subst (λ (b : Bool). Alone f o.bytes b told) e was))
+          subst (λ bytes. Alone f bytes true said) (append-nil o.bytes)
+          (alone_stays f o.bytes [] true said (faulted e) (subst (λ (b : Bool). Alone f o.bytes b said) e was))
 
 -- nothing grew
-pub no_growth : (f : Formula) (tag : List ℕ) (o p : Own) (told : List ℕ) → IsOwnText f o told → IsOwnText f p told → IsGrowth f tag o p []
-no_growth f tag o p told a b =
-    (told, [], a, subst (λ t. IsOwnText f p t) (sym (append-nil told)) b, sym (ap (λ ls. prefixed (tag ++ codes " ") ls) (lines-nil true)))
+pub no_growth : (f : Formula) (tag : List ℕ) (o p : Own) (said : List ℕ) → IsOwnText f o said → IsOwnText f p said → IsGrowth f tag o p []
+no_growth f tag o p said a b =
+    (said, [], a, subst (λ t. IsOwnText f p t) (sym (append-nil said)) b, sym (ap (λ ls. prefixed (tag ++ codes " ") ls) (lines-nil true)))
 
--- no lines were told
+-- no lines were said
 pub no_recent : buffer [] 8 ≡ recent_of []
 no_recent = ap (λ ls. buffer (keep_last 8 (map (λ (line : Line). line.bytes) ls)) 8) (sym (lines-nil true))
 
 -- ---- sessions
 
 -- a session that is over says nothing more
-pub says_nothing : (f : Formula) (o p : Own) (told out : List ℕ) (s : Session) → HasTold f o told s → IsOwnText f p told
-    → GoesOnWith f p told s.stream → HasReplied f p s s (IsGrowth f s.tag o p) out out
-says_nothing f o p told out s h is on = record {
+pub says_nothing : (f : Formula) (o p : Own) (said out : List ℕ) (s : Session) → HasSaidSoFar f o said s → IsOwnText f p said
+    → GoesOnWith f p said s.stream → HasReplied f p s s (IsGrowth f s.tag o p) out out
+says_nothing f o p said out s h is on = record {
   tag = refl;
-  told = told;
+  said = said;
   stands = record { alone = is; recent = h.recent; goes_on = on };
   reply = [];
-  is = no_growth f s.tag o p told h.alone is;
+  is = no_growth f s.tag o p said h.alone is;
   added = sym (append-nil out);
 }
 
@@ -303,8 +303,8 @@ pub replied_as : (f : Formula) (p q : Own) (old new : Session) (R S : List ℕ �
     → HasReplied f q old new S before after
 replied_as f p q old new R S before after e g h = record {
   tag = h.tag;
-  told = h.told;
-  stands = subst (λ (o : Own). HasTold f o h.told new) e h.stands;
+  said = h.said;
+  stands = subst (λ (o : Own). HasSaidSoFar f o h.said new) e h.stands;
   reply = h.reply;
   is = g h.reply h.is;
   added = h.added;
@@ -325,14 +325,14 @@ module _ (f : Formula) (tag : List ℕ) (o p : Own) (content : List ℕ) (no_que
   growth_of reply h = subst (λ (q : Own). IsGrowth f tag o q reply) then_is (at_false _ _ (asks content) no_question h)
 
 -- a question
-module _ (f : Formula) (o : Own) (told : List ℕ) (s : Session) (h : HasTold f o told s) (content : List ℕ) (question : asks content ≡ true) where
+module _ (f : Formula) (o : Own) (said : List ℕ) (s : Session) (h : HasSaidSoFar f o said s) (content : List ℕ) (question : asks content ≡ true) where
   abbrev shown : List ℕ
-  shown = prefixed (s.tag ++ codes " ? ") (last_eight (lines true told))
+  shown = prefixed (s.tag ++ codes " ? ") (last_eight (lines true said))
 
   shown_is : prefixed_texts (s.tag ++ codes " ? ") s.recent.items ≡ shown
-  shown_is = ap (λ (b : Buffer (List ℕ)). prefixed_texts (s.tag ++ codes " ? ") b.items) h.recent ∙ prefixed_last (s.tag ++ codes " ? ") told
+  shown_is = ap (λ (b : Buffer (List ℕ)). prefixed_texts (s.tag ++ codes " ? ") b.items) h.recent ∙ prefixed_last (s.tag ++ codes " ? ") said
 
-  -- the last eight lines, told or cut, are the reply to a query
+  -- the last eight lines, said or cut, are the reply to a query
   pub is_shown : {E : Type 0} (r : Result (Unit {0}) E) (before after : List ℕ)
       → OnOk r (after ≡ before ++ prefixed_texts (s.tag ++ codes " ? ") s.recent.items)
       → OnErr r (GrewInPart (Is (prefixed_texts (s.tag ++ codes " ? ") s.recent.items)) before after)
@@ -340,10 +340,10 @@ module _ (f : Formula) (o : Own) (told : List ℕ) (s : Session) (h : HasTold f 
       (λ _. IsCutShort (IsReply f s.tag o content) before after)
   is_shown (Ok x) before after e g = record {
     tag = refl;
-    told = told;
-    stands = subst (λ (q : Own). HasTold f q told s) (sym (content_asks o content question)) h;
+    said = said;
+    stands = subst (λ (q : Own). HasSaidSoFar f q said s) (sym (content_asks o content question)) h;
     reply = shown;
-    is = to_true _ _ (asks content) question (told, h.alone, refl);
+    is = to_true _ _ (asks content) question (said, h.alone, refl);
     added = e ∙ ap (λ w. before ++ w) shown_is;
   }
   is_shown (Err x) before after e (a, b, whole, k) = record {
@@ -353,34 +353,34 @@ module _ (f : Formula) (o : Own) (told : List ℕ) (s : Session) (h : HasTold f 
         let (old, is, same) = at_true _ _ (asks content) question r in (
           b,
           same ∙ ap (λ t. prefixed (s.tag ++ codes " ? ") (last_eight (lines true t)))
-              (text_alone_once f o.bytes o.stopped old told is h.alone) ∙ sym shown_is ∙ sym whole,
+              (text_alone_once f o.bytes o.stopped old said is h.alone) ∙ sym shown_is ∙ sym whole,
         );
   }
 
 -- whatever follows
-pub unasked : (f : Formula) (tag : List ℕ) (p : Own) (told : List ℕ) (recent : Buffer (List ℕ)) (before after : List ℕ)
-    (After : List ℕ → Type 0) → HasGrown f tag p told recent before after After
-    → HasGrown f tag p told recent before after (λ _. Unit {0})
-unasked f tag p told recent before after After g = record { grown = g.grown; alone = g.alone; recent_is = g.recent_is; added = g.added; then = tt }
+pub unasked : (f : Formula) (tag : List ℕ) (p : Own) (said : List ℕ) (recent : Buffer (List ℕ)) (before after : List ℕ)
+    (After : List ℕ → Type 0) → HasGrown f tag p said recent before after After
+    → HasGrown f tag p said recent before after (λ _. Unit {0})
+unasked f tag p said recent before after After g = record { grown = g.grown; alone = g.alone; recent_is = g.recent_is; added = g.added; then = tt }
 
 -- ---- a line of an open session
 
-module _ (f : Formula) (tag : List ℕ) (o : Own) (content told : List ℕ) (going : o.stopped ≡ false) where
+module _ (f : Formula) (tag : List ℕ) (o : Own) (content said : List ℕ) (going : o.stopped ≡ false) where
   abbrev all_bytes : List ℕ
   all_bytes = o.bytes ++ (content ++ newline)
 
-  module _ (mid : Live Verdicts) (k : IsLive WatchesRows verdicts mid (o.bytes ++ (content ++ newline)) told)
+  module _ (mid : Live Verdicts) (k : IsLive WatchesRows verdicts mid (o.bytes ++ (content ++ newline)) said)
       (formula : mid.formula ≡ f) (limit : mid.rows.limits ≡ stream_limits) where
     -- after a line a session's text is what it writes alone
-    pub line_alone : IsOwnText f (next_line o content) (told ++ mid.text)
-    line_alone = subst (λ (q : Own). IsOwnText f q (told ++ mid.text)) (sym (line_of_open o content going))
-        (alone_so_far f stream_limits all_bytes told mid k formula limit)
+    pub line_alone : IsOwnText f (next_line o content) (said ++ mid.text)
+    line_alone = subst (λ (q : Own). IsOwnText f q (said ++ mid.text)) (sym (line_of_open o content going))
+        (alone_so_far f stream_limits all_bytes said mid k formula limit)
 
     -- after a line, with its text let go, a session is open for the next
-    pub line_open : (new : Live Verdicts) → new ≡ record mid { text = [] } → IsAfterLine f (next_line o content).bytes true new (told ++ mid.text)
+    pub line_open : (new : Live Verdicts) → new ≡ record mid { text = [] } → IsAfterLine f (next_line o content).bytes true new (said ++ mid.text)
     line_open new e =
-        subst (λ (q : Own). IsAfterLine f q.bytes true new (told ++ mid.text)) (sym (line_of_open o content going))
-        (subst (λ (n : Live Verdicts). IsOpen f all_bytes (told ++ mid.text) n) (sym e) (open_now f stream_limits all_bytes told mid k formula limit))
+        subst (λ (q : Own). IsAfterLine f q.bytes true new (said ++ mid.text)) (sym (line_of_open o content going))
+        (subst (λ (n : Live Verdicts). IsOpen f all_bytes (said ++ mid.text) n) (sym e) (open_now f stream_limits all_bytes said mid k formula limit))
 
   -- it stopped in the line
   pub line_stopped : (text : List ℕ) (stop : StreamStop) → IsLiveStop verdicts stream_limits f false
@@ -389,8 +389,8 @@ module _ (f : Formula) (tag : List ℕ) (o : Own) (content told : List ℕ) (goi
 
   -- a session whose line had a fault has stopped
   pub line_faulted : (recent : Buffer (List ℕ)) (before after : List ℕ) (live : Live Verdicts)
-      → HasGrown f tag (next_line o content) told recent before after (λ _. HasStopped f (next_line o content))
-      → HasGrown f tag (next_line o content) told recent before after (IsAfterLine f (next_line o content).bytes false live)
+      → HasGrown f tag (next_line o content) said recent before after (λ _. HasStopped f (next_line o content))
+      → HasGrown f tag (next_line o content) said recent before after (IsAfterLine f (next_line o content).bytes false live)
   line_faulted recent before after live g = record {
     grown = g.grown;
     alone = g.alone;
@@ -405,25 +405,25 @@ module _ (f : Formula) (tag : List ℕ) (o : Own) (content told : List ℕ) (goi
 
 -- ---- what a call of a session comes to
 
--- the reader told more
-pub grew_under : (f : Formula) (o p : Own) (tag told before after : List ℕ) (old new : Session) (After : List ℕ → Type 0)
-    → tag ≡ old.tag → new.tag ≡ old.tag → IsOwnText f o told
-    → (g : HasGrown f tag p told new.recent before after After) → GoesOnWith f p (told ++ g.grown) new.stream
+-- the reader said more
+pub grew_under : (f : Formula) (o p : Own) (tag said before after : List ℕ) (old new : Session) (After : List ℕ → Type 0)
+    → tag ≡ old.tag → new.tag ≡ old.tag → IsOwnText f o said
+    → (g : HasGrown f tag p said new.recent before after After) → GoesOnWith f p (said ++ g.grown) new.stream
     → HasReplied f p old new (IsGrowth f old.tag o p) before after
-grew_under f o p tag told before after old new After under same was g on = record {
+grew_under f o p tag said before after old new After under same was g on = record {
   tag = same;
-  told = told ++ g.grown;
+  said = said ++ g.grown;
   stands = record { alone = g.alone; recent = g.recent_is; goes_on = on };
-  reply = told_lines old.tag g.grown;
-  is = (told, g.grown, was, g.alone, refl);
-  added = g.added ∙ ap (λ t. before ++ told_lines t g.grown) under;
+  reply = said_lines old.tag g.grown;
+  is = (said, g.grown, was, g.alone, refl);
+  added = g.added ∙ ap (λ t. before ++ said_lines t g.grown) under;
 }
 
 -- it took a line
-pub took_line : (f : Formula) (o : Own) (content told : List ℕ) (live : Live Verdicts) → o.stopped ≡ false → (text : List ℕ)
+pub took_line : (f : Formula) (o : Own) (content said : List ℕ) (live : Live Verdicts) → o.stopped ≡ false → (text : List ℕ)
     → IsAfterLine f (next_line o content).bytes true live text
     → GoesOnWith f (next_line o content) text (Some live)
-took_line f o content told live going text h = (ap (λ (q : Own). q.stopped) (line_of_open o content going), h)
+took_line f o content said live going text h = (ap (λ (q : Own). q.stopped) (line_of_open o content going), h)
 
 -- a session that has stopped at a line stands for nothing more
 pub took_last_line : (f : Formula) (o : Own) (content : List ℕ) (live : Live Verdicts) (text : List ℕ)

@@ -23,7 +23,7 @@ use Rattle.trace_stream.specs.Streams.{verdicts, StreamOf}
 use Rattle.trace_stream.specs.Following.{IsTextOf}
 use Rattle.trace_stream.proofs.RowsBefore.{rows_stay, fault_stays}
 use Rattle.session_mux.specs.Sessions.{IsRowsStream, Alone}
-use Rattle.session_mux.specs.Telling.{texts}
+use Rattle.session_mux.specs.Saying.{texts}
 use Rattle.session_mux.specs.Standing.{HasFault}
 
 -- nothing, or lines that are whole
@@ -114,10 +114,10 @@ fault_ends (of_unit n fault) = unit_ends n fault
 
 -- what a session writes alone is whole lines
 pub alone_ends : (f : Formula) (bytes : List ℕ) (ended : Bool) (text : List ℕ) → Alone f bytes ended text → EndsInFeed text
-alone_ends f bytes ended text (header, rows, whole, stream, fault, before, told, inl (none, k), e) =
-    ends_joined stream fault text (rows_stream_ends f header rows whole stream told) (inl k) e
-alone_ends f bytes ended text (header, rows, whole, stream, fault, before, told, inr (x, is, k), e) =
-    ends_joined stream fault text (rows_stream_ends f header rows whole stream told) (subst (λ t. EndsInFeed t) (sym k) (fault_ends x)) e
+alone_ends f bytes ended text (header, rows, whole, stream, fault, before, said, inl (none, k), e) =
+    ends_joined stream fault text (rows_stream_ends f header rows whole stream said) (inl k) e
+alone_ends f bytes ended text (header, rows, whole, stream, fault, before, said, inr (x, is, k), e) =
+    ends_joined stream fault text (rows_stream_ends f header rows whole stream said) (subst (λ t. EndsInFeed t) (sym k) (fault_ends x)) e
 
 -- lines after whole lines
 pub lines_joined : (a b : List ℕ) → EndsInFeed a → lines true (a ++ b) ≡ lines true a ++ lines true b
@@ -160,8 +160,8 @@ going_on (faulted_header x fault none) e = refl
 -- a fault stops the text for good
 pub alone_stays : (f : Formula) (bytes more : List ℕ) (ended : Bool) (text : List ℕ) → HasFault f bytes → Alone f bytes false text
     → Alone f (bytes ++ more) ended text
-alone_stays f bytes more ended text (x, fault) (header, rows, whole, stream, line, before, told, inl (none, k), e) = absurd (none x fault)
-alone_stays f bytes more ended text (x, fault) (header, rows, whole, stream, line, before, told, inr (y, is, k), e) =
+alone_stays f bytes more ended text (x, fault) (header, rows, whole, stream, line, before, said, inl (none, k), e) = absurd (none x fault)
+alone_stays f bytes more ended text (x, fault) (header, rows, whole, stream, line, before, said, inr (y, is, k), e) =
     let open_still : whole ≡ false = going_on before refl in (
       header,
       rows,
@@ -169,7 +169,7 @@ alone_stays f bytes more ended text (x, fault) (header, rows, whole, stream, lin
       stream,
       line,
       rows_stay stream_limits f bytes more ended (y, is) (subst (λ (w : Bool). AreRowsBefore stream_limits f bytes false header rows w) open_still before),
-      subst (λ (w : Bool). IsRowsStream f header rows w stream) open_still told,
+      subst (λ (w : Bool). IsRowsStream f header rows w stream) open_still said,
       inr (y, fault_stays stream_limits f bytes more ended y is, k),
       e,
     )

@@ -6,8 +6,8 @@ use Rattle.stl_syntax.specs.declared.atom.Atom.{Atom}
 use Rattle.stl_syntax.specs.declared.atom.Term.{Term}
 use Rattle.stl_syntax.specs.declared.node.Node.TheVariants.{Atom as Leaf}
 use Rattle.session_mux.specs.Sessions.{Tagged, IsTag}
-use Rattle.session_mux.specs.SessionsAlone.{AreTold, AreToldInAll}
-use Rattle.session_mux.specs.Telling.{texts}
+use Rattle.session_mux.specs.SessionsAlone.{AreSaidTo, AreSaidInAll}
+use Rattle.session_mux.specs.Saying.{texts}
 
 -- the line begins with the prefix
 abbrev pub begins_with : List ℕ → List ℕ → Bool
@@ -39,11 +39,11 @@ HaveTags [] = Unit {0}
 HaveTags (x ∷ all) = IsTag x.tag × HaveTags all
 
 -- the bench of a tag hears line by line what its session is told
-abbrev pub EachHearsWhatItIsTold : Type 0
-EachHearsWhatItIsTold = (f : Formula) (t : List ℕ) (all : List Tagged) (text told : List ℕ) → HasPlainNames f → IsTag t
-    → HaveTags all → AreTold f t [] all text told → heard t text ≡ texts told
+abbrev pub EachHearsWhatIsSaid : Type 0
+EachHearsWhatIsSaid = (f : Formula) (t : List ℕ) (all : List Tagged) (text said : List ℕ) → HasPlainNames f → IsTag t
+    → HaveTags all → AreSaidTo f t [] all text said → heard t text ≡ texts said
 
 -- and so to the end of the input
 abbrev pub EachHearsItsEnd : Type 0
-EachHearsItsEnd = (f : Formula) (t : List ℕ) (all : List Tagged) (text told : List ℕ) → HasPlainNames f → IsTag t → HaveTags all
-    → AreToldInAll f t all text told → heard t text ≡ texts told
+EachHearsItsEnd = (f : Formula) (t : List ℕ) (all : List Tagged) (text said : List ℕ) → HasPlainNames f → IsTag t → HaveTags all
+    → AreSaidInAll f t all text said → heard t text ≡ texts said

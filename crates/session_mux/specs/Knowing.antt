@@ -8,7 +8,7 @@ use Rattle.stl_syntax.specs.Formula.{Formula}
 use Rattle.session_mux.specs.Sessions.{Tagged, IsTag, IsAnswer, AreEnds, tags_after}
 use Rattle.session_mux.specs.Tags.{number_of}
 use Rattle.session_mux.specs.Owning.{own_of}
-use Rattle.session_mux.specs.Standing.{HasTold, IsCutShort}
+use Rattle.session_mux.specs.Standing.{HasSaidSoFar, IsCutShort}
 use Rattle.session_mux.specs.declared.fault.MuxFault.{MuxFault}
 use Rattle.session_mux.specs.declared.fault.MuxFault.TheVariants as fault
 use Rattle.session_mux.specs.declared.known.Found.{Found}
@@ -39,8 +39,8 @@ abbrev pub tag_list : List Session → List (List ℕ)
 tag_list sessions = map (λ (s : Session). s.tag) sessions
 
 -- each session stands for its own lines
-abbrev pub EachTold : Formula → List Tagged → List Session → Type 0
-EachTold f seen sessions = (i : ℕ) (s : Session) → slice_get sessions i ≡ Some s → IsTag s.tag × ((told : List ℕ) × HasTold f (own_of seen s.tag) told s)
+abbrev pub EachHasSaid : Formula → List Tagged → List Session → Type 0
+EachHasSaid f seen sessions = (i : ℕ) (s : Session) → slice_get sessions i ≡ Some s → IsTag s.tag × ((said : List ℕ) × HasSaidSoFar f (own_of seen s.tag) said s)
 
 -- the number of each tag has the place of its session, and no other number has one
 pub record AreFound (sessions : List Session) (places : List (ℕ × ℕ)) : Type 0 where
@@ -55,7 +55,7 @@ IsLastFound places last = (last.number ≡ 0) ⊎ (place_in places last.number �
 pub record Knows (f : Formula) (seen : List Tagged) (k : Register) : Type 0 where
   pub formula : k.formula ≡ f
   pub tags : tag_list k.sessions ≡ tags_of seen
-  pub told : EachTold f seen k.sessions
+  pub said : EachHasSaid f seen k.sessions
   pub found : AreFound k.sessions k.places
   pub last : IsLastFound k.places k.last
 
@@ -69,7 +69,7 @@ pub record HasBegun (t : List ℕ) (n i : ℕ) (old new : Known) : Type 0 where
   pub room : length old.sessions.items < 1024
   pub session : Session
   pub tag : session.tag ≡ t
-  pub fresh : HasTold old.formula (record { bytes = []; stopped = false }) [] session
+  pub fresh : HasSaidSoFar old.formula (record { bytes = []; stopped = false }) [] session
   pub sessions : new.sessions.items ≡ old.sessions.items ++ session ∷ []
   pub places : Updates nat_cmp old.places new.places n (Some i)
   pub formula : new.formula ≡ old.formula
@@ -91,7 +91,7 @@ IsRoomFor seen x = (is_among x.tag (tags_of seen) ≡ true) ⊎ (length (tags_of
 pub record IsReady (f : Formula) (seen : List Tagged) (x : Tagged) (i : ℕ) (k : Register) : Type 0 where
   pub formula : k.formula ≡ f
   pub tags : tag_list k.sessions ≡ tags_of (seen ++ x ∷ [])
-  pub told : EachTold f seen k.sessions
+  pub said : EachHasSaid f seen k.sessions
   pub found : AreFound k.sessions k.places
   pub last : IsLastFound k.places k.last
   pub session : Session

@@ -1,6 +1,6 @@
 pub mod Sessions
 pub mod Tags
-pub mod Telling
+pub mod Saying
 pub mod Owning
 pub mod SessionsAlone
 pub mod Standing

@@ -13,7 +13,7 @@ use Rattle.trace_stream.specs.declared.fault.StreamStop.TheVariants.{Fault as Fa
 use Rattle.trace_stream.specs.declared.live.Live.{Live}
 use Rattle.trace_stream.specs.declared.verdicts.Verdicts.{Verdicts}
 use Rattle.session_mux.specs.Sessions.{Alone, prefixed, last_eight}
-use Rattle.session_mux.specs.Telling.{texts, told_lines}
+use Rattle.session_mux.specs.Saying.{texts, said_lines}
 use Rattle.session_mux.specs.Owning.{Own, asks, with_content}
 use Rattle.session_mux.specs.declared.session.Session.{Session}
 
@@ -29,12 +29,12 @@ HasFault f bytes = (x : Fault) × IsInputFault stream_limits f bytes false x
 abbrev pub HasStopped : Formula → Own → Type 0
 HasStopped f o = (x : Fault) × IsInputFault stream_limits f o.bytes o.stopped x
 
--- the reader stands for the bytes; all of its text was told
-pub record IsOpen (f : Formula) (bytes told : List ℕ) (live : Live Verdicts) : Type 0 where
+-- the reader stands for the bytes; all of its text was said
+pub record IsOpen (f : Formula) (bytes said : List ℕ) (live : Live Verdicts) : Type 0 where
   pub formula : live.formula ≡ f
   pub limits : live.rows.limits ≡ stream_limits
   pub empty : live.text ≡ []
-  pub stands : IsLive WatchesRows verdicts live bytes told
+  pub stands : IsLive WatchesRows verdicts live bytes said
 
 -- a stored fault is one of the formula
 abbrev pub HasReason : Formula → StreamStop → Type 0
@@ -48,35 +48,35 @@ IsStoppedAt f o text stop = IsLiveStop verdicts stream_limits f o.stopped o.byte
 
 -- the session goes on with a reader, or is over
 abbrev pub GoesOnWith : Formula → Own → List ℕ → Option (Live Verdicts) → Type 0
-GoesOnWith f o told None = (o.stopped ≡ true) ⊎ HasFault f o.bytes
-GoesOnWith f o told (Some live) = (o.stopped ≡ false) × IsOpen f o.bytes told live
+GoesOnWith f o said None = (o.stopped ≡ true) ⊎ HasFault f o.bytes
+GoesOnWith f o said (Some live) = (o.stopped ≡ false) × IsOpen f o.bytes said live
 
 -- the last eight lines of a text
 abbrev pub recent_of : List ℕ → Buffer (List ℕ)
 recent_of text = buffer (keep_last 8 (texts text)) 8
 
--- the session stands for what it has got, for which this text was told
-pub record HasTold (f : Formula) (o : Own) (told : List ℕ) (s : Session) : Type 0 where
-  pub alone : IsOwnText f o told
-  pub recent : s.recent ≡ recent_of told
-  pub goes_on : GoesOnWith f o told s.stream
+-- the session stands for what it has got, for which this text was said
+pub record HasSaidSoFar (f : Formula) (o : Own) (said : List ℕ) (s : Session) : Type 0 where
+  pub alone : IsOwnText f o said
+  pub recent : s.recent ≡ recent_of said
+  pub goes_on : GoesOnWith f o said s.stream
 
 -- for some formula, what it has got and a text
-abbrev pub HasSomeTold : Session → Type 0
-HasSomeTold s = (f : Formula) × (o : Own) × (told : List ℕ) × HasTold f o told s
+abbrev pub HasSaidSome : Session → Type 0
+HasSaidSome s = (f : Formula) × (o : Own) × (said : List ℕ) × HasSaidSoFar f o said s
 
 -- the lines by which the text of a session grows, each after its tag
 abbrev pub IsGrowth : Formula → List ℕ → Own → Own → List ℕ → Type 0
-IsGrowth f tag o p reply = (old grown : List ℕ) × IsOwnText f o old × IsOwnText f p (old ++ grown) × (reply ≡ told_lines tag grown)
+IsGrowth f tag o p reply = (old grown : List ℕ) × IsOwnText f o old × IsOwnText f p (old ++ grown) × (reply ≡ said_lines tag grown)
 
--- the text grew to one of what was got now, and its new lines were told and kept
-pub record HasGrown (f : Formula) (tag : List ℕ) (p : Own) (told : List ℕ) (recent : Buffer (List ℕ)) (before after : List ℕ)
+-- the text grew to one of what was got now, and its new lines were said and kept
+pub record HasGrown (f : Formula) (tag : List ℕ) (p : Own) (said : List ℕ) (recent : Buffer (List ℕ)) (before after : List ℕ)
     (After : List ℕ → Type 0) : Type 0 where
   pub grown : List ℕ
-  pub alone : IsOwnText f p (told ++ grown)
-  pub recent_is : recent ≡ recent_of (told ++ grown)
-  pub added : after ≡ before ++ told_lines tag grown
-  pub then : After (told ++ grown)
+  pub alone : IsOwnText f p (said ++ grown)
+  pub recent_is : recent ≡ recent_of (said ++ grown)
+  pub added : after ≡ before ++ said_lines tag grown
+  pub then : After (said ++ grown)
 
 -- at most a first part of each reply was added
 pub record IsCutShort (Reply : List ℕ → Type 0) (before after : List ℕ) : Type 0 where
@@ -98,8 +98,8 @@ IsReply f tag o content reply =
 -- the session stands for what it has got now, and its reply was added
 pub record HasReplied (f : Formula) (p : Own) (old new : Session) (Reply : List ℕ → Type 0) (before after : List ℕ) : Type 0 where
   pub tag : new.tag ≡ old.tag
-  pub told : List ℕ
-  pub stands : HasTold f p told new
+  pub said : List ℕ
+  pub stands : HasSaidSoFar f p said new
   pub reply : List ℕ
   pub is : Reply reply
   pub added : after ≡ before ++ reply

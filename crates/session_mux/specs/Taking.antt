@@ -47,7 +47,7 @@ pub record HasLines (f : Formula) (mux : Muxed) (front : List Line) (text : List
   pub after : List (List ℕ)
   pub passed : ArePassed 1 [] front tagged after
   pub stands : StandsFor (record { formula = f; seen = tagged }) mux
-  pub told : AreAnswers f [] tagged text
+  pub said : AreAnswers f [] tagged text
 
 -- an input took these bytes; this text was written for them, and the input's own text is to come after it
 pub record IsTaking (f : Formula) (i : Input) (bytes written : List ℕ) : Type 0 where

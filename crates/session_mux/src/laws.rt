@@ -1,6 +1,6 @@
 //! Laws of several sessions in one input. Each is the contract of a call that does nothing, so that the gate proves it.
-ghost use Rattle.session_mux.specs.Hearing.{EachHearsItsEnd, EachHearsWhatItIsTold};
-ghost use Rattle.session_mux.specs.SessionsAlone.{EachIsToldAsAlone, EachIsToldToItsEnd, OneTextAlone, OthersAddNothing, OthersAddNothingAtTheEnd};
+ghost use Rattle.session_mux.specs.Hearing.{EachHearsItsEnd, EachHearsWhatIsSaid};
+ghost use Rattle.session_mux.specs.SessionsAlone.{EachIsAsAlone, EachIsAsAloneToItsEnd, OneTextAlone, OthersAddNothing, OthersAddNothingAtTheEnd};
 
 /// Given bytes, ended or not, get a session at most one text by itself: the stream of the rows before the first fault, and its line.
 pub fn one_text_alone()
@@ -8,8 +8,8 @@ pub fn one_text_alone()
 {}
 
 /// What a session is told by the answers to the lines of many, query by query left out, is what the bytes of its own lines get alone.
-pub fn each_session_is_told_as_alone()
-    ensures { EachIsToldAsAlone }
+pub fn each_session_is_as_alone()
+    ensures { EachIsAsAlone }
 {}
 
 /// Two inputs that agree on the lines of a tag tell its session the same, however the lines of others come between.
@@ -18,8 +18,8 @@ pub fn other_sessions_add_nothing()
 {}
 
 /// What a session is told in all, the end of the input with it, is what the bytes of its own lines get alone, with their end.
-pub fn each_session_is_told_to_its_end()
-    ensures { EachIsToldToItsEnd }
+pub fn each_session_is_as_alone_to_its_end()
+    ensures { EachIsAsAloneToItsEnd }
 {}
 
 /// So two inputs that agree on the lines of a tag tell its session the same to its end.
@@ -29,8 +29,8 @@ pub fn other_sessions_add_nothing_at_the_end()
 
 /// The lines of all that was written which begin with a tag and a space, and do not answer a query, are those that its session is told.
 /// The names of the formula have no LF, as those of a formula that was read.
-pub fn each_bench_hears_what_it_is_told()
-    ensures { EachHearsWhatItIsTold }
+pub fn each_bench_hears_what_is_said()
+    ensures { EachHearsWhatIsSaid }
 {}
 
 /// So it is with what is written at the end of the input.

@@ -9,10 +9,10 @@ mod line;
 mod mux;
 mod recent;
 mod run;
+mod saying;
 mod session;
 mod stop;
 mod tag;
-mod telling;
 
 pub use fault::MuxFault;
 pub use input::Input;

@@ -1,7 +1,7 @@
-//! The last lines that a session was told.
+//! The last lines that were said to a session.
 ghost use Rattle.std.specs.Prelude.{◌≡◌, ◌++◌, ◌∷◌, [], ℕ, List, OnOk, IfOk};
 ghost use Rattle.circular_buffer.specs.Buffer.{buffer, keep_last};
-ghost use Rattle.session_mux.specs.Telling.{prefixed_texts};
+ghost use Rattle.session_mux.specs.Saying.{prefixed_texts};
 ghost use Rattle.report.specs.Appended.{GrewInPart, Is};
 
 use circular_buffer::HeapCircularBuffer;

@@ -1,4 +1,4 @@
-//! One session: its trace as it comes, and the last lines that it was told.
+//! One session: its trace as it comes, and the last lines that were said to it.
 ghost use Rattle.std.specs.Prelude.{◌≡◌, ◌++◌, ℕ, List, [], false, true, None, IfOk, MatchResult};
 ghost use Rattle.report.specs.Appended.{GrewInPart, Is};
 ghost use Rattle.report.specs.FaultTexts.{fault_text};
@@ -9,13 +9,13 @@ ghost use Rattle.trace_stream.specs.Cases.{IsFault};
 ghost use Rattle.trace_stream.specs.Following.{HasLived, IsLive, IsLiveStop};
 ghost use Rattle.trace_stream.specs.Streams.{verdicts};
 ghost use Rattle.session_mux.specs.Owning.{Own, asks as is_query, stops as is_stop, next_line, stopped_now, with_content};
-ghost use Rattle.session_mux.specs.Telling.{told_lines, HasSaid};
+ghost use Rattle.session_mux.specs.Saying.{said_lines, HasSaid};
 ghost use Rattle.session_mux.specs.Standing.{WatchesRows, IsOwnText, HasReason, HasStopped, IsStoppedAt};
-ghost use Rattle.session_mux.specs.Standing.{IsOpen, IsAfterLine, recent_of, HasGrown, HasTold};
-ghost use Rattle.session_mux.specs.Standing.{HasSomeTold, IsGrowth, IsReply, HasReplied, IsCutShort};
+ghost use Rattle.session_mux.specs.Standing.{IsOpen, IsAfterLine, recent_of, HasGrown, HasSaidSoFar};
+ghost use Rattle.session_mux.specs.Standing.{HasSaidSome, IsGrowth, IsReply, HasReplied, IsCutShort};
 
 use crate::recent::{Recent, no_lines};
-use crate::telling::{show, tell};
+use crate::saying::{say, show};
 use frac128::Memory;
 use report::put_line;
 use std::alloc::Global;
@@ -82,8 +82,8 @@ fn feed_line(live: &mut Live<Verdicts>, content: &[u8], room: &mut Text) -> Resu
     live.feed(room.bytes())
 }
 
-/// Tells the line of a trace's first fault.
-fn tell_fault(
+/// Says the line of a trace's first fault.
+fn say_fault(
     alloc: Global,
     tag: &[u8],
     recent: &mut Recent,
@@ -95,15 +95,15 @@ fn tell_fault(
     requires fault { (x : FirstFault) × IsFault formula.now fault x }
     ensures { (x : FirstFault) → IsFault formula.now fault x → MatchResult result
         (λ _. HasSaid tag.now (fault_text x) recent.old recent.new out.old out.new)
-        (λ _. GrewInPart (Is (told_lines tag.now (fault_text x))) out.old out.new) }
+        (λ _. GrewInPart (Is (said_lines tag.now (fault_text x))) out.old out.new) }
 {
     let mut line = Text::new(alloc);
     put_line(&mut line, &fault_line(formula, fault))?;
-    tell(alloc, tag, recent, line.bytes(), out)
+    say(alloc, tag, recent, line.bytes(), out)
 }
 
-/// Tells what a reader said before it stopped, and why it did.
-fn tell_stop(
+/// Says what a reader said before it stopped, and why it did.
+fn say_stop(
     alloc: Global,
     tag: &[u8],
     recent: &mut Recent,
@@ -113,20 +113,20 @@ fn tell_stop(
 ) -> Result<(), Memory>
     requires room { recent.old.capacity ≡ 8 }
     requires reason { HasReason live.now.formula stop }
-    ensures { (f : Parsed) (o p : Own) (told : List ℕ) → live.now.formula ≡ f → recent.old ≡ recent_of told → IsOwnText f o told
-        → IsStoppedAt f p (told ++ live.now.text) stop
+    ensures { (f : Parsed) (o p : Own) (said : List ℕ) → live.now.formula ≡ f → recent.old ≡ recent_of said → IsOwnText f o said
+        → IsStoppedAt f p (said ++ live.now.text) stop
         → MatchResult result
-        (λ _. HasGrown f tag.now p told recent.new out.old out.new (λ _. HasStopped f p))
+        (λ _. HasGrown f tag.now p said recent.new out.old out.new (λ _. HasStopped f p))
         (λ _. IsCutShort (IsGrowth f tag.now o p) out.old out.new) }
 {
     let StreamStop::Fault(fault) = stop else {
         return Err(Memory);
     };
-    tell(alloc, tag, recent, live.text(), out)?;
-    tell_fault(alloc, tag, recent, live.formula(), fault, out)
+    say(alloc, tag, recent, live.text(), out)?;
+    say_fault(alloc, tag, recent, live.formula(), fault, out)
 }
 
-/// Takes a line of a trace, tells what it answers, and says whether the reader goes on.
+/// Takes a line of a trace, says what it answers, and answers whether the reader goes on.
 fn take_with(
     live: &mut Live<Verdicts>,
     alloc: Global,
@@ -137,27 +137,27 @@ fn take_with(
     out: &mut Text,
 ) -> Result<bool, Memory>
     requires room { recent.old.capacity ≡ 8 }
-    requires stands { (f : Parsed) × (bytes told : List ℕ) × IsOpen f bytes told live.old }
-    ensures { (f : Parsed) (o : Own) (told : List ℕ) → IsOwnText f o told → recent.old ≡ recent_of told → o.stopped ≡ false
-        → IsOpen f o.bytes told live.old → MatchResult result
-        (λ goes_on. HasGrown f tag.now (next_line o content.now) told recent.new out.old out.new
+    requires stands { (f : Parsed) × (bytes said : List ℕ) × IsOpen f bytes said live.old }
+    ensures { (f : Parsed) (o : Own) (said : List ℕ) → IsOwnText f o said → recent.old ≡ recent_of said → o.stopped ≡ false
+        → IsOpen f o.bytes said live.old → MatchResult result
+        (λ goes_on. HasGrown f tag.now (next_line o content.now) said recent.new out.old out.new
         (IsAfterLine f (next_line o content.now).bytes goes_on live.new))
         (λ _. IsCutShort (IsGrowth f tag.now o (next_line o content.now)) out.old out.new) }
 {
     match feed_line(live, content, room) {
         Ok(()) => {
-            tell(alloc, tag, recent, live.text(), out)?;
+            say(alloc, tag, recent, live.text(), out)?;
             live.clear();
             Ok(true)
         }
         Err(stop) => {
-            tell_stop(alloc, tag, recent, live, stop, out)?;
+            say_stop(alloc, tag, recent, live, stop, out)?;
             Ok(false)
         }
     }
 }
 
-/// Takes the end of a trace, and tells the rest.
+/// Takes the end of a trace, and says the rest.
 fn end_with(
     live: &mut Live<Verdicts>,
     alloc: Global,
@@ -166,14 +166,14 @@ fn end_with(
     out: &mut Text,
 ) -> Result<(), Memory>
     requires room { recent.old.capacity ≡ 8 }
-    requires stands { (f : Parsed) × (bytes told : List ℕ) × IsOpen f bytes told live.old }
-    ensures { (f : Parsed) (o : Own) (told : List ℕ) → IsOwnText f o told → recent.old ≡ recent_of told → IsOpen f o.bytes told live.old → MatchResult result
-        (λ _. HasGrown f tag.now (stopped_now o) told recent.new out.old out.new (λ _. Unit {0}))
+    requires stands { (f : Parsed) × (bytes said : List ℕ) × IsOpen f bytes said live.old }
+    ensures { (f : Parsed) (o : Own) (said : List ℕ) → IsOwnText f o said → recent.old ≡ recent_of said → IsOpen f o.bytes said live.old → MatchResult result
+        (λ _. HasGrown f tag.now (stopped_now o) said recent.new out.old out.new (λ _. Unit {0}))
         (λ _. IsCutShort (IsGrowth f tag.now o (stopped_now o)) out.old out.new) }
 {
     match live.finish() {
-        Ok(_) => tell(alloc, tag, recent, live.text(), out),
-        Err(stop) => tell_stop(alloc, tag, recent, live, stop, out),
+        Ok(_) => say(alloc, tag, recent, live.text(), out),
+        Err(stop) => say_stop(alloc, tag, recent, live, stop, out),
     }
 }
 
@@ -191,7 +191,7 @@ impl Session {
     /// Want of memory.
     pub(crate) fn new(alloc: Global, formula: &Formula, tag: &[u8]) -> Result<Session, Memory>
         ensures tag { IfOk result (λ s. s.tag ≡ tag.now) }
-        ensures told { IfOk result (λ s. HasTold formula.now (record { bytes = []; stopped = false }) [] s) }
+        ensures said { IfOk result (λ s. HasSaidSoFar formula.now (record { bytes = []; stopped = false }) [] s) }
     {
         let tag = named(alloc, tag)?;
         let live = Live::new(alloc, formula.copied()?, LIMITS)?;
@@ -204,10 +204,10 @@ impl Session {
         })
     }
 
-    /// Takes a line of the trace, and tells what it answers.
+    /// Takes a line of the trace, and says what it answers.
     fn take(&mut self, content: &[u8], room: &mut Text, out: &mut Text) -> Result<(), Memory>
-        requires { HasSomeTold self.old }
-        ensures { (f : Parsed) (o : Own) (told : List ℕ) → HasTold f o told self.old → MatchResult result
+        requires { HasSaidSome self.old }
+        ensures { (f : Parsed) (o : Own) (said : List ℕ) → HasSaidSoFar f o said self.old → MatchResult result
             (λ _. HasReplied f (next_line o content.now) self.old self.new (IsGrowth f self.old.tag o (next_line o content.now)) out.old out.new)
             (λ _. IsCutShort (IsGrowth f self.old.tag o (next_line o content.now)) out.old out.new) }
     {
@@ -229,13 +229,13 @@ impl Session {
         Ok(())
     }
 
-    /// Ends the session where it is not over, and tells the rest.
+    /// Ends the session where it is not over, and says the rest.
     ///
     /// # Errors
     /// Want of memory. A first part of the rest was added.
     pub(crate) fn end(&mut self, out: &mut Text) -> Result<(), Memory>
-        requires { HasSomeTold self.old }
-        ensures { (f : Parsed) (o : Own) (told : List ℕ) → HasTold f o told self.old → MatchResult result
+        requires { HasSaidSome self.old }
+        ensures { (f : Parsed) (o : Own) (said : List ℕ) → HasSaidSoFar f o said self.old → MatchResult result
             (λ _. HasReplied f (stopped_now o) self.old self.new (IsGrowth f self.old.tag o (stopped_now o)) out.old out.new)
             (λ _. IsCutShort (IsGrowth f self.old.tag o (stopped_now o)) out.old out.new) }
     {
@@ -247,7 +247,7 @@ impl Session {
         Ok(())
     }
 
-    /// Takes the content of a line, and tells what it answers. The content may be that of several lines, with an LF after each but the last.
+    /// Takes the content of a line, and says what it answers. The content may be that of several lines, with an LF after each but the last.
     /// `room` is room for it and its LF.
     ///
     /// # Errors
@@ -258,8 +258,8 @@ impl Session {
         room: &mut Text,
         out: &mut Text,
     ) -> Result<(), Memory>
-        requires { HasSomeTold self.old }
-        ensures { (f : Parsed) (o : Own) (told : List ℕ) → HasTold f o told self.old → MatchResult result
+        requires { HasSaidSome self.old }
+        ensures { (f : Parsed) (o : Own) (said : List ℕ) → HasSaidSoFar f o said self.old → MatchResult result
             (λ _. HasReplied f (with_content o content.now) self.old self.new (IsReply f self.old.tag o content.now) out.old out.new)
             (λ _. IsCutShort (IsReply f self.old.tag o content.now) out.old out.new) }
     {

@@ -26,10 +26,10 @@ use Rattle.session_mux.specs.Sessions.{Tagged, IsTag, AreTagged, none as none_ta
 use Rattle.session_mux.specs.SessionsAlone.{lines_of}
 use Rattle.session_mux.specs.Hearing.{heard, is_plain, HasPlainNames, HaveTags}
 use Rattle.session_mux.specs.Inputs.{AreLinesBefore, sound, faulted}
-use Rattle.session_mux.specs.Telling.{texts}
+use Rattle.session_mux.specs.Saying.{texts}
 use Rattle.session_mux.proofs.TagLemmas.{tag_is}
-use Rattle.session_mux.proofs.EndsTold.{told_to_its_end}
-use Rattle.session_mux.proofs.SessionsTold.{text_alone_once, own_of_lines}
+use Rattle.session_mux.proofs.EndsSaid.{as_alone_to_its_end}
+use Rattle.session_mux.proofs.SessionsSaid.{text_alone_once, own_of_lines}
 use Rattle.session_mux.proofs.HearingLemmas.{hears_its_end}
 use Rattle.session_mux.proofs.OwedLines.{tagged_lines_once}
 use Rattle.workbench.specs.Requests.{sessions}
@@ -227,7 +227,7 @@ pub hears_own_stream : (formula : List ℕ) (f : Formula) (bytes text : List ℕ
 hears_own_stream formula f bytes text status read answered seen are t among =
     let m = text_of_lines f bytes text status answered seen are in
     let tags = have_tags are in
-    let (told, in_all, alone) = told_to_its_end f t seen text among m in
+    let (told, in_all, alone) = as_alone_to_its_end f t seen text among m in
     (told, alone, hears_its_end f t seen text told (read_names formula f read) (is_a_tag t [] seen tags among) tags in_all)
 
 -- so two inputs with the same lines of a tag tell its bench the same

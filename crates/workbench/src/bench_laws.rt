@@ -6,7 +6,7 @@ ghost use Rattle.stl_grammar.specs.FormulaRefusals.{IsFormulaOf};
 ghost use Rattle.trace_reader.specs.TraceText.{lines};
 ghost use Rattle.session_mux.specs.Hearing.{heard};
 ghost use Rattle.session_mux.specs.SessionsAlone.{lines_of};
-ghost use Rattle.session_mux.specs.Telling.{texts};
+ghost use Rattle.session_mux.specs.Saying.{texts};
 ghost use Rattle.workbench.specs.Requests.{sessions};
 ghost use Rattle.workbench.specs.Sessions.{Tagged, AreTagged, tags_after, own, Alone};
 ghost use Rattle.workbench.specs.Ended.{IsAnswered};

@@ -5,7 +5,7 @@ use Rattle.std.proofs.lemmas.Result.{err_from_is_err_and}
 use Rattle.report.proofs.Sequences.{place_inside}
 use Rattle.session_mux.specs.Sessions.{Tagged}
 use Rattle.session_mux.specs.Owning.{own_of, with_content}
-use Rattle.session_mux.specs.Standing.{HasTold, HasReplied, HasSomeTold, IsReply, IsCutShort}
+use Rattle.session_mux.specs.Standing.{HasSaidSoFar, HasReplied, HasSaidSome, IsReply, IsCutShort}
 use Rattle.session_mux.specs.Knowing.{shown}
 use Rattle.session_mux.specs.declared.session.Session.{Session}
 use Rattle.session_mux.proofs.AnsweringLemmas.{unanswered, stands_for, has_answered, cut_answer}
@@ -36,8 +36,8 @@ line-requires c =
     let place = c.in_ok-place.place in
     let got : slice_get items place ≡ Some c.index_mut.result.now =
     slice_get_read items (length items) place c.index_mut.result.now refl (place_inside items place r.session r.at) c.index_mut.ensures.value in
-    let told = stands_for f seen x place (shown c.place_for.new.self) r in
-    subst (λ (s : Session). HasSomeTold s) (one_item (slice_get items place) r.session c.index_mut.result.now r.at got) (f, own_of seen x.tag, told.0, told.1)
+    let said = stands_for f seen x place (shown c.place_for.new.self) r in
+    subst (λ (s : Session). HasSaidSome s) (one_item (slice_get items place) r.session c.index_mut.result.now r.at got) (f, own_of seen x.tag, said.0, said.1)
 
 -- the session at the place is the one that was read
 read_is : (items : List Session) (place : ℕ) (s read : Session) → slice_get items place ≡ Some s → read ≡ get_or items place read → s ≡ read
@@ -49,11 +49,11 @@ returns-in-Ok-clause-answered c = λ f seen x k same.
     let mid = c.place_for.new.self in
     let place = c.in_ok-place.place in
     let r = c.in_ok-place.ensures.ready f seen x k (ap (λ (y : Tagged). y.tag) same) in
-    let told = stands_for f seen x place (shown mid) r in
+    let said = stands_for f seen x place (shown mid) r in
     let read = read_is mid.sessions.items place r.session c.index_mut.result.now r.at c.index_mut.ensures.value in
     let o = own_of seen x.tag in
     let content : c.args.content.now ≡ x.content = ap (λ (y : Tagged). y.content) (sym same) in
-    let replied = c.in-Ok.ensures f o told.0 (subst (λ (s : Session). HasTold f o told.0 s) read told.1) in
+    let replied = c.in-Ok.ensures f o said.0 (subst (λ (s : Session). HasSaidSoFar f o said.0 s) read said.1) in
     has_answered f seen x place (shown mid) r c.line.new.self c.args.out.now c.line.new.out
     (subst (λ t. HasReplied f (with_content o x.content) r.session c.line.new.self (IsReply f t o x.content) c.args.out.now c.line.new.out) r.tag
     (subst (λ (s : Session). HasReplied f (with_content o x.content) s c.line.new.self (IsReply f s.tag o x.content) c.args.out.now c.line.new.out) (sym read)
@@ -66,11 +66,11 @@ returns-in-Err-clause-answered c = λ f seen x k same.
     let mid = c.place_for.new.self in
     let place = c.in_ok-place.place in
     let r = c.in_ok-place.ensures.ready f seen x k (ap (λ (y : Tagged). y.tag) same) in
-    let told = stands_for f seen x place (shown mid) r in
+    let said = stands_for f seen x place (shown mid) r in
     let read = read_is mid.sessions.items place r.session c.index_mut.result.now r.at c.index_mut.ensures.value in
     let o = own_of seen x.tag in
     let content : c.args.content.now ≡ x.content = ap (λ (y : Tagged). y.content) (sym same) in
-    let cut = c.in-Err.ensures f o told.0 (subst (λ (s : Session). HasTold f o told.0 s) read told.1) in
+    let cut = c.in-Err.ensures f o said.0 (subst (λ (s : Session). HasSaidSoFar f o said.0 s) read said.1) in
     cut_answer f seen x c.args.out.now c.line.new.out
     (subst (λ t. IsCutShort (IsReply f t o x.content) c.args.out.now c.line.new.out) r.tag
     (subst (λ (s : Session). IsCutShort (IsReply f s.tag o x.content) c.args.out.now c.line.new.out) (sym read)

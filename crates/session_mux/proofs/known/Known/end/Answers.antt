@@ -6,7 +6,7 @@ use Rattle.std.proofs.lemmas.List.{length-set}
 use Rattle.stl_syntax.specs.Formula.{Formula}
 use Rattle.session_mux.specs.Sessions.{Tagged, AreEnds}
 use Rattle.session_mux.specs.Owning.{own_of, stopped_now}
-use Rattle.session_mux.specs.Standing.{HasTold, IsGrowth, HasReplied, IsCutShort}
+use Rattle.session_mux.specs.Standing.{HasSaidSoFar, IsGrowth, HasReplied, IsCutShort}
 use Rattle.session_mux.specs.Knowing.{shown, Knows}
 use Rattle.session_mux.specs.declared.known.Known.{Known}
 use Rattle.session_mux.specs.declared.session.Session.{Session}
@@ -22,11 +22,11 @@ here : (items : List Session) (i : ℕ) (s : Session) → i < length items → s
 here items i s within e = slice_get_read items (length items) i s refl within e
 
 -- it stands for its own lines
-told_here : (f : Formula) (seen : List Tagged) (first now : List Session) (i : ℕ) (before mid : List ℕ) (k : Known) (s : Session)
+said_here : (f : Formula) (seen : List Tagged) (first now : List Session) (i : ℕ) (before mid : List ℕ) (k : Known) (s : Session)
     → Knows f seen (shown k) → first ≡ k.sessions.items → Ending f seen first i now before mid
-    → slice_get now i ≡ Some s → (told : List ℕ) × HasTold f (own_of seen s.tag) told s
-told_here f seen first now i before mid k s knows same n at =
-    (knows.told i s (subst (λ ss. slice_get ss i ≡ Some s) same (sym (n.others i (omega arith)) ∙ at))).1
+    → slice_get now i ≡ Some s → (said : List ℕ) × HasSaidSoFar f (own_of seen s.tag) said s
+said_here f seen first now i before mid k s knows same n at =
+    (knows.said i s (subst (λ ss. slice_get ss i ≡ Some s) same (sym (n.others i (omega arith)) ∙ at))).1
 
 pub end-requires : goal.end-requires
 end-requires c =
@@ -35,9 +35,9 @@ end-requires c =
     let items = c.loop-place.self.sessions.items in
     let at = here items c.loop-place.place c.index_mut.result.now
     (omega (arith, c.loop-place.invariant.size, c.loop-place-test.true, c.args.self.now.sessions.ok.0)) c.index_mut.ensures.value in
-    let told = told_here f seen c.args.self.now.sessions.items items c.loop-place.place c.args.out.now c.loop-place.out
+    let said = said_here f seen c.args.self.now.sessions.items items c.loop-place.place c.args.out.now c.loop-place.out
     c.args.self.now c.index_mut.result.now k refl n at in
-    (f, own_of seen c.index_mut.result.now.tag, told.0, told.1)
+    (f, own_of seen c.index_mut.result.now.tag, said.0, said.1)
 
 pub returns-in_err-end-clause-ended : goal.returns-in_err-end-clause-ended
 returns-in_err-end-clause-ended c =
@@ -49,10 +49,10 @@ returns-in_err-end-clause-ended c =
     let s = c.index_mut.result.now in
     let at = here items c.loop-place.place s
     (omega (arith, c.loop-place.invariant.size, c.loop-place-test.true, c.args.self.now.sessions.ok.0)) c.index_mut.ensures.value in
-    let told = told_here f seen first items c.loop-place.place c.args.out.now c.loop-place.out c.args.self.now s k refl n at in
+    let said = said_here f seen first items c.loop-place.place c.args.out.now c.loop-place.out c.args.self.now s k refl n at in
     subst (λ ts. IsCutShort (AreEnds f seen ts) c.args.out.now c.end.new.out) k.tags
     (ending_cut f seen first c.loop-place.place items c.args.out.now c.loop-place.out n s at c.end.new.out
-    (c.in_err-end.ensures f (own_of seen s.tag) told.0 told.1)))
+    (c.in_err-end.ensures f (own_of seen s.tag) said.0 said.1)))
 
 pub returns-in_err-end-clause-few : goal.returns-in_err-end-clause-few
 returns-in_err-end-clause-few c = length-set c.loop-place.self.sessions.items c.loop-place.place c.end.new.self ∙ c.loop-place.invariant.size
@@ -67,8 +67,8 @@ loop-place-preserved c =
     let replied : (f : Formula) (seen : List Tagged) (k : Knows f seen (shown c.args.self.now)) → HasReplied f (stopped_now (own_of seen s.tag))
     s c.end.new.self (IsGrowth f s.tag (own_of seen s.tag) (stopped_now (own_of seen s.tag))) c.loop-place.out c.end.new.out =
     λ f seen k.
-    let told = told_here f seen first items place c.args.out.now c.loop-place.out c.args.self.now s k refl (c.loop-place.invariant.ending f seen k) at in
-    c.in_ok-end.ensures f (own_of seen s.tag) told.0 told.1 in
+    let said = said_here f seen first items place c.args.out.now c.loop-place.out c.args.self.now s k refl (c.loop-place.invariant.ending f seen k) at in
+    c.in_ok-end.ensures f (own_of seen s.tag) said.0 said.1 in
     let (f0, seen0, k0) = c.requires in
     record {
       ending = λ f seen k.

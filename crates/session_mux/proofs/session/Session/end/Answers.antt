@@ -7,14 +7,14 @@ use Rattle.session_mux.proofs.SessionLemmas.{says_nothing, over_at_end, grew_und
 use Rattle.session_mux.proofs.session.Session.end.Goals as goal
 
 pub returns-in-None : goal.returns-in-None
-returns-in-None c = λ f o told h.
-    says_nothing f o (stopped_now o) told c.args.out.now c.args.self.now h
-    (over_at_end f o told h.alone (subst (λ (s : Option (Live Verdicts)). GoesOnWith f o told s) c.in-None.is h.goes_on))
-    (subst (λ (s : Option (Live Verdicts)). GoesOnWith f (stopped_now o) told s) (sym c.in-None.is) (inl refl))
+returns-in-None c = λ f o said h.
+    says_nothing f o (stopped_now o) said c.args.out.now c.args.self.now h
+    (over_at_end f o said h.alone (subst (λ (s : Option (Live Verdicts)). GoesOnWith f o said s) c.in-None.is h.goes_on))
+    (subst (λ (s : Option (Live Verdicts)). GoesOnWith f (stopped_now o) said s) (sym c.in-None.is) (inl refl))
 
 pub returns : goal.returns
-returns c = λ f o told h.
-    let on = subst (λ (s : Option (Live Verdicts)). GoesOnWith f o told s) c.in-Some.is h.goes_on in
-    let g = c.in_ok-end_with-in-Some.ensures f o told h.alone h.recent on.1 in
-    grew_under f o (stopped_now o) c.bytes.result.now told c.args.out.now c.end_with.new.out c.args.self.now _ (λ _. Unit {0}) c.bytes.ensures refl h.alone g
-    (subst (λ (s : Option (Live Verdicts)). GoesOnWith f (stopped_now o) (told ++ g.grown) s) (sym c.let_go.ensures) (inl refl))
+returns c = λ f o said h.
+    let on = subst (λ (s : Option (Live Verdicts)). GoesOnWith f o said s) c.in-Some.is h.goes_on in
+    let g = c.in_ok-end_with-in-Some.ensures f o said h.alone h.recent on.1 in
+    grew_under f o (stopped_now o) c.bytes.result.now said c.args.out.now c.end_with.new.out c.args.self.now _ (λ _. Unit {0}) c.bytes.ensures refl h.alone g
+    (subst (λ (s : Option (Live Verdicts)). GoesOnWith f (stopped_now o) (said ++ g.grown) s) (sym c.let_go.ensures) (inl refl))

@@ -1,10 +1,10 @@
 use Rattle.std.proofs.Common.{refl, ◌∙◌}
-use Rattle.session_mux.proofs.SessionsTold.{nothing_alone}
+use Rattle.session_mux.proofs.SessionsSaid.{nothing_alone}
 use Rattle.session_mux.proofs.SessionLemmas.{no_recent}
 use Rattle.session_mux.proofs.session.Session.new.Goals as goal
 
-pub returns-clause-told : goal.returns-clause-told
-returns-clause-told c = record {
+pub returns-clause-said : goal.returns-clause-said
+returns-clause-said c = record {
   alone = nothing_alone c.args.formula.now;
   recent = c.in_ok-recent.ensures ∙ no_recent;
   goes_on = (

@@ -7,30 +7,30 @@ use Rattle.session_mux.proofs.SessionLemmas.{says_nothing, over_at_line, grew_un
 use Rattle.session_mux.proofs.session.Session.take.Goals as goal
 
 pub returns-in-None : goal.returns-in-None
-returns-in-None c = λ f o told h.
-    let over = over_at_line f o told h.alone (subst (λ (s : Option (Live Verdicts)). GoesOnWith f o told s) c.in-None.is h.goes_on) c.args.content.now in
-    says_nothing f o (next_line o c.args.content.now) told c.args.out.now c.args.self.now h over.0
-    (subst (λ (s : Option (Live Verdicts)). GoesOnWith f (next_line o c.args.content.now) told s) (sym c.in-None.is) over.1)
+returns-in-None c = λ f o said h.
+    let over = over_at_line f o said h.alone (subst (λ (s : Option (Live Verdicts)). GoesOnWith f o said s) c.in-None.is h.goes_on) c.args.content.now in
+    says_nothing f o (next_line o c.args.content.now) said c.args.out.now c.args.self.now h over.0
+    (subst (λ (s : Option (Live Verdicts)). GoesOnWith f (next_line o c.args.content.now) said s) (sym c.in-None.is) over.1)
 
 pub returns-then-not-goes_on : goal.returns-then-not-goes_on
-returns-then-not-goes_on c = λ f o told h.
+returns-then-not-goes_on c = λ f o said h.
     let content = c.args.content.now in
-    let on = subst (λ (s : Option (Live Verdicts)). GoesOnWith f o told s) c.in-Some.is h.goes_on in
-    let g = subst (λ (b : Bool). HasGrown f c.bytes.result.now (next_line o content) told c.take_with.new.recent c.args.out.now
+    let on = subst (λ (s : Option (Live Verdicts)). GoesOnWith f o said s) c.in-Some.is h.goes_on in
+    let g = subst (λ (b : Bool). HasGrown f c.bytes.result.now (next_line o content) said c.take_with.new.recent c.args.out.now
     c.take_with.new.out (IsAfterLine f (next_line o content).bytes b c.take_with.new.live))
-    c.if-not-goes_on.true (c.in_ok-goes_on-in-Some.ensures f o told h.alone h.recent on.0 on.1) in
-    grew_under f o (next_line o content) c.bytes.result.now told c.args.out.now c.take_with.new.out c.args.self.now _
+    c.if-not-goes_on.true (c.in_ok-goes_on-in-Some.ensures f o said h.alone h.recent on.0 on.1) in
+    grew_under f o (next_line o content) c.bytes.result.now said c.args.out.now c.take_with.new.out c.args.self.now _
     (IsAfterLine f (next_line o content).bytes false c.take_with.new.live) c.bytes.ensures refl h.alone g
-    (subst (λ (s : Option (Live Verdicts)). GoesOnWith f (next_line o content) (told ++ g.grown) s) (sym c.let_go.ensures)
-    (took_last_line f o content c.take_with.new.live (told ++ g.grown) g.then))
+    (subst (λ (s : Option (Live Verdicts)). GoesOnWith f (next_line o content) (said ++ g.grown) s) (sym c.let_go.ensures)
+    (took_last_line f o content c.take_with.new.live (said ++ g.grown) g.then))
 
 pub returns-else-not-goes_on : goal.returns-else-not-goes_on
-returns-else-not-goes_on c = λ f o told h.
+returns-else-not-goes_on c = λ f o said h.
     let content = c.args.content.now in
-    let on = subst (λ (s : Option (Live Verdicts)). GoesOnWith f o told s) c.in-Some.is h.goes_on in
-    let g = subst (λ (b : Bool). HasGrown f c.bytes.result.now (next_line o content) told c.take_with.new.recent c.args.out.now
+    let on = subst (λ (s : Option (Live Verdicts)). GoesOnWith f o said s) c.in-Some.is h.goes_on in
+    let g = subst (λ (b : Bool). HasGrown f c.bytes.result.now (next_line o content) said c.take_with.new.recent c.args.out.now
     c.take_with.new.out (IsAfterLine f (next_line o content).bytes b c.take_with.new.live))
-    c.if-not-goes_on.false (c.in_ok-goes_on-in-Some.ensures f o told h.alone h.recent on.0 on.1) in
-    grew_under f o (next_line o content) c.bytes.result.now told c.args.out.now c.take_with.new.out c.args.self.now _
+    c.if-not-goes_on.false (c.in_ok-goes_on-in-Some.ensures f o said h.alone h.recent on.0 on.1) in
+    grew_under f o (next_line o content) c.bytes.result.now said c.args.out.now c.take_with.new.out c.args.self.now _
     (IsAfterLine f (next_line o content).bytes true c.take_with.new.live) c.bytes.ensures refl h.alone g
-    (took_line f o content told c.take_with.new.live on.0 (told ++ g.grown) g.then)
+    (took_line f o content said c.take_with.new.live on.0 (said ++ g.grown) g.then)

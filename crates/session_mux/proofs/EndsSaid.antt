@@ -7,8 +7,8 @@ use Rattle.std.proofs.lemmas.Slice.Eq.{bytes_eq-Decides}
 use Rattle.stl_syntax.specs.Characters.{is_among}
 use Rattle.stl_syntax.specs.Formula.{Formula}
 use Rattle.session_mux.specs.Sessions.{Tagged, own, is_stopped, Alone, SoFar, AreEnds, tags_after}
-use Rattle.session_mux.specs.SessionsAlone.{AreToldAtEnd, AreToldInAll, EachIsToldToItsEnd, OthersAddNothingAtTheEnd}
-use Rattle.session_mux.proofs.SessionsTold.{text_alone_once, told_as_alone, told_alone, nothing_alone, own_of_lines}
+use Rattle.session_mux.specs.SessionsAlone.{AreSaidAtEnd, AreSaidInAll, EachIsAsAloneToItsEnd, OthersAddNothingAtTheEnd}
+use Rattle.session_mux.proofs.SessionsSaid.{text_alone_once, as_alone, said_is_alone, nothing_alone, own_of_lines}
 
 -- ---- each tag stands once
 
@@ -52,10 +52,10 @@ tags_once t known (x ∷ seen) = by_known (tags_once t known seen) (tags_once t 
 
 module _ (f : Formula) (t : List ℕ) (all : List Tagged) where
   -- there is something that they tell
-  some_told : (tags : List (List ℕ)) (text : List ℕ) → AreEnds f all tags text → (told : List ℕ) × AreToldAtEnd f t all tags text told
-  some_told [] text e = ([], (e, refl))
-  some_told (u ∷ tags) text (old, grown, later, so, is, ends, e) =
-      let (more, on) = some_told tags later ends in
+  some_said : (tags : List (List ℕ)) (text : List ℕ) → AreEnds f all tags text → (said : List ℕ) × AreSaidAtEnd f t all tags text said
+  some_said [] text e = ([], (e, refl))
+  some_said (u ∷ tags) text (old, grown, later, so, is, ends, e) =
+      let (more, on) = some_said tags later ends in
       ((if bytes_eq u t then grown else []) ++ more, (old, grown, later, more, so, is, on, e, refl))
 
   neither : (a b : Bool) → (a || b) ≡ false → (a ≡ false) × (b ≡ false)
@@ -71,57 +71,57 @@ module _ (f : Formula) (t : List ℕ) (all : List Tagged) where
       of false k = refl
 
   -- nothing to a tag that is none of them
-  none_told : (tags : List (List ℕ)) (text told : List ℕ) → is_among t tags ≡ false → AreToldAtEnd f t all tags text told → told ≡ []
-  none_told [] text told n (e, k) = k
-  none_told (u ∷ tags) text told n (old, grown, later, more, so, is, on, e, k) =
+  none_said : (tags : List (List ℕ)) (text said : List ℕ) → is_among t tags ≡ false → AreSaidAtEnd f t all tags text said → said ≡ []
+  none_said [] text said n (e, k) = k
+  none_said (u ∷ tags) text said n (old, grown, later, more, so, is, on, e, k) =
       let both = neither (bytes_eq t u) (is_among t tags) n in
-      k ∙ ap (λ b. cond b grown [] ++ more) (turned u false both.0) ∙ none_told tags later more both.1 on
+      k ∙ ap (λ b. cond b grown [] ++ more) (turned u false both.0) ∙ none_said tags later more both.1 on
 
   -- to one of them what its bytes get more by their end
-  once_told : (tags : List (List ℕ)) (text told : List ℕ) → IsOnce t tags → is_among t tags ≡ true → AreToldAtEnd f t all tags text told
-      → (old : List ℕ) × SoFar f all t old × Alone f (own all t) true (old ++ told)
-  once_told [] text told once n at = absurd (false≢true n)
-  once_told (u ∷ tags) text told once n (old, grown, later, more, so, is, on, e, k) = by_tag (bytes_eq t u) refl (once_told tags later more once.1)
+  once_said : (tags : List (List ℕ)) (text said : List ℕ) → IsOnce t tags → is_among t tags ≡ true → AreSaidAtEnd f t all tags text said
+      → (old : List ℕ) × SoFar f all t old × Alone f (own all t) true (old ++ said)
+  once_said [] text said once n at = absurd (false≢true n)
+  once_said (u ∷ tags) text said once n (old, grown, later, more, so, is, on, e, k) = by_tag (bytes_eq t u) refl (once_said tags later more once.1)
     where
       by_tag : (b : Bool) → bytes_eq t u ≡ b
-          → (is_among t tags ≡ true → AreToldAtEnd f t all tags later more → (old : List ℕ) × SoFar f all t old × Alone f (own all t) true (old ++ more))
-          → (old : List ℕ) × SoFar f all t old × Alone f (own all t) true (old ++ told)
+          → (is_among t tags ≡ true → AreSaidAtEnd f t all tags later more → (old : List ℕ) × SoFar f all t old × Alone f (own all t) true (old ++ more))
+          → (old : List ℕ) × SoFar f all t old × Alone f (own all t) true (old ++ said)
       by_tag true b rest =
           let same : u ≡ t = sym ((bytes_eq-Decides t u).0 b) in
-          let last : told ≡ grown =
+          let last : said ≡ grown =
           k ∙ ap (λ b. cond b grown [] ++ more) (turned u true b)
-          ∙ ap (λ w. grown ++ w) (none_told tags later more (once.0 (turned u true b)) on) ∙ append-nil grown in (
+          ∙ ap (λ w. grown ++ w) (none_said tags later more (once.0 (turned u true b)) on) ∙ append-nil grown in (
             old,
             subst (λ w. SoFar f all w old) same so,
             subst (λ w. Alone f (own all t) true (old ++ w)) (sym last) (subst (λ w. Alone f (own all w) true (old ++ grown)) same is),
           )
       by_tag false b rest =
           let (before, so_far, whole) = rest (sym (ap (λ b. b || is_among t tags) b) ∙ n) on in
-          let last : told ≡ more = k ∙ ap (λ b. cond b grown [] ++ more) (turned u false b) in
+          let last : said ≡ more = k ∙ ap (λ b. cond b grown [] ++ more) (turned u false b) in
           (before, so_far, subst (λ w. Alone f (own all t) true (before ++ w)) (sym last) whole)
 
 -- what it is told in all is what its bytes get alone
-told_whole : (f : Formula) (t : List ℕ) (all : List Tagged) (text told : List ℕ) → is_among t (tags_after [] all) ≡ true
-    → AreToldInAll f t all text told → Alone f (own all t) true told
-told_whole f t all text told among a =
-    let so_far = told_alone f t [] all [] a.during a.said (nothing_alone f) a.lines in
-    let (old, so, whole) = once_told f t all (tags_after [] all) a.rest a.said_last (tags_once t [] all) among a.ends in
-    let same : old ≡ a.said = text_alone_once f (own all t) (is_stopped all t) old a.said so so_far in
-    subst (λ w. Alone f (own all t) true w) (sym a.told_is) (subst (λ w. Alone f (own all t) true (w ++ a.said_last)) same whole)
+said_whole : (f : Formula) (t : List ℕ) (all : List Tagged) (text said : List ℕ) → is_among t (tags_after [] all) ≡ true
+    → AreSaidInAll f t all text said → Alone f (own all t) true said
+said_whole f t all text said among a =
+    let so_far = said_is_alone f t [] all [] a.during a.said_first (nothing_alone f) a.lines in
+    let (old, so, whole) = once_said f t all (tags_after [] all) a.rest a.said_at_end (tags_once t [] all) among a.ends in
+    let same : old ≡ a.said_first = text_alone_once f (own all t) (is_stopped all t) old a.said_first so so_far in
+    subst (λ w. Alone f (own all t) true w) (sym a.said_is) (subst (λ w. Alone f (own all t) true (w ++ a.said_at_end)) same whole)
 
 -- each session is told to its end what it would be told alone
-pub told_to_its_end : EachIsToldToItsEnd
-told_to_its_end f t all text among (during, rest, answers, ends, e) =
-    let (said, lines_told, so) = told_as_alone f t all during answers in
-    let (said_last, ends_told) = some_told f t all (tags_after [] all) rest ends in
-    let a : AreToldInAll f t all text (said ++ said_last) =
-    record { during = during; rest = rest; said = said; said_last = said_last; lines = lines_told; ends = ends_told; text_is = e; told_is = refl } in
-    (said ++ said_last, a, told_whole f t all text (said ++ said_last) among a)
+pub as_alone_to_its_end : EachIsAsAloneToItsEnd
+as_alone_to_its_end f t all text among (during, rest, answers, ends, e) =
+    let (said_first, lines_said, so) = as_alone f t all during answers in
+    let (said_at_end, ends_said) = some_said f t all (tags_after [] all) rest ends in
+    let a : AreSaidInAll f t all text (said_first ++ said_at_end) =
+    record { during = during; rest = rest; said_first = said_first; said_at_end = said_at_end; lines = lines_said; ends = ends_said; text_is = e; said_is = refl } in
+    (said_first ++ said_at_end, a, said_whole f t all text (said_first ++ said_at_end) among a)
 
 -- what others send adds nothing to what a session is told to its end
 pub others_add_nothing_at_the_end : OthersAddNothingAtTheEnd
-others_add_nothing_at_the_end f t all others text other told heard same among also a b =
-    let mine = told_whole f t all text told among a in
-    let theirs = told_whole f t others other heard also b in
+others_add_nothing_at_the_end f t all others text other said heard same among also a b =
+    let mine = said_whole f t all text said among a in
+    let theirs = said_whole f t others other heard also b in
     let bytes : own others t ≡ own all t = own_of_lines others t ∙ ap (λ l. own l t) (sym same) ∙ sym (own_of_lines all t) in
-    text_alone_once f (own all t) true told heard mine (subst (λ w. Alone f w true heard) bytes theirs)
+    text_alone_once f (own all t) true said heard mine (subst (λ w. Alone f w true heard) bytes theirs)

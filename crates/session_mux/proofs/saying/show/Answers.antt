@@ -6,8 +6,8 @@ use Rattle.report.specs.Appended.{GrewInPart, Is}
 use Rattle.report.proofs.Parts.{on_err}
 use Rattle.report.proofs.Sequences.{take_at}
 use Rattle.stl_syntax.specs.Texts.{newline}
-use Rattle.session_mux.specs.Telling.{prefixed_texts}
-use Rattle.session_mux.proofs.telling.show.Goals as goal
+use Rattle.session_mux.specs.Saying.{prefixed_texts}
+use Rattle.session_mux.proofs.saying.show.Goals as goal
 
 -- one item more of the front, and the items from there on
 take_one : {X : Type 0} (xs : List X) (i : ℕ) (x : X) → slice_get xs i ≡ Some x → take (i + 1) xs ≡ take i xs ++ x ∷ []

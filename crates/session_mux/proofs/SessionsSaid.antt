@@ -12,7 +12,7 @@ use Rattle.trace_reader.specs.InputFaults.{stream_limits, Fault, IsHeaderAt, her
 use Rattle.report.specs.FaultTexts.{fault_text}
 use Rattle.trace_stream.specs.Streams.{verdicts, StreamOf}
 use Rattle.session_mux.specs.Sessions.{Tagged, is_query, is_stop, own, is_stopped, Alone, SoFar, IsRowsStream, IsFaultLine, prefixed, IsAnswer, AreAnswers}
-use Rattle.session_mux.specs.SessionsAlone.{lines_of, is_of, IsAdded, AreTold, OneTextAlone, EachIsToldAsAlone, OthersAddNothing}
+use Rattle.session_mux.specs.SessionsAlone.{lines_of, is_of, IsAdded, AreSaidTo, OneTextAlone, EachIsAsAlone, OthersAddNothing}
 use Rattle.trace_stream.proofs.FaultPlaces.{at_true, at_false, to_true, to_false}
 use Rattle.session_mux.proofs.OwnLemmas.{own_by_other, stopped_by_other}
 use Rattle.trace_stream.proofs.OneFault.{one_fault}
@@ -33,11 +33,11 @@ fault_line_once f bytes ended x y (inr (z, is, e)) (inr (w, other, k)) = e ∙ a
 
 -- what a session writes alone is one text
 pub text_alone_once : OneTextAlone
-text_alone_once f bytes ended x y (header, rows, whole, stream, fault, before, told, line, e)
-    (header', rows', whole', stream', fault', before', told', line', e') =
+text_alone_once f bytes ended x y (header, rows, whole, stream, fault, before, said, line, e)
+    (header', rows', whole', stream', fault', before', said', line', e') =
     e ∙ ap (λ s. s ++ fault) (stream_owed_once verdicts f bytes ended stream stream'
-    (record { header = header; rows = rows; whole = whole; before = before; is = stream_of f header rows whole stream told })
-    (record { header = header'; rows = rows'; whole = whole'; before = before'; is = stream_of f header' rows' whole' stream' told' }))
+    (record { header = header; rows = rows; whole = whole; before = before; is = stream_of f header rows whole stream said })
+    (record { header = header'; rows = rows'; whole = whole'; before = before'; is = stream_of f header' rows' whole' stream' said' }))
     ∙ ap (λ l. stream' ++ l) (fault_line_once f bytes ended fault fault' line line') ∙ sym e'
 
 -- no byte has come: nothing was written
@@ -111,24 +111,24 @@ module _ (f : Formula) (t : List ℕ) where
           let got = at_false _ _ (is_query line) both.1 is in
           let before : SoFar f seen t got.0 = subst (λ w. SoFar f seen w got.0) tag got.2 in
           let after : SoFar f (seen ++ line ∷ []) t (got.0 ++ got.1) = subst (λ w. SoFar f (seen ++ line ∷ []) w (got.0 ++ got.1)) tag got.3 in
-          let told : answer ≡ prefixed (t ++ codes " ") (lines true got.1) =
+          let said : answer ≡ prefixed (t ++ codes " ") (lines true got.1) =
           subst (λ w. answer ≡ prefixed (w ++ codes " ") (lines true got.1)) tag got.4 in
           let one : got.0 ≡ old = text_alone_once f (own seen t) (is_stopped seen t) got.0 old before so in (
             got.1,
-            to_true _ _ (is_of t line) e (got.0, before, after, told),
+            to_true _ _ (is_of t line) e (got.0, before, after, said),
             subst (λ w. SoFar f (seen ++ line ∷ []) t (w ++ got.1)) one after,
           )
 
-  told_on : (seen more : List Tagged) (old text : List ℕ) → SoFar f seen t old → AreAnswers f seen more text
-      → (told : List ℕ) × AreTold f t seen more text told × SoFar f (seen ++ more) t (old ++ told)
-  told_on seen [] old text so e = (
+  as_alone_on : (seen more : List Tagged) (old text : List ℕ) → SoFar f seen t old → AreAnswers f seen more text
+      → (said : List ℕ) × AreSaidTo f t seen more text said × SoFar f (seen ++ more) t (old ++ said)
+  as_alone_on seen [] old text so e = (
     [],
     (e, refl),
     subst (λ s. SoFar f s t (old ++ [])) (sym (append-nil seen)) (subst (λ w. SoFar f seen t w) (sym (append-nil old)) so),
   )
-  told_on seen (line ∷ more) old text so (answer, rest, is, on, e) =
+  as_alone_on seen (line ∷ more) old text so (answer, rest, is, on, e) =
       let first = added_here seen line old answer so is in
-      let others = told_on (seen ++ line ∷ []) more (old ++ first.0) rest first.2 on in (
+      let others = as_alone_on (seen ++ line ∷ []) more (old ++ first.0) rest first.2 on in (
         first.0 ++ others.0,
         (answer, rest, first.0, others.0, is, first.1, others.1, e, refl),
         subst (λ s. SoFar f s t (old ++ (first.0 ++ others.0))) (append_assoc seen (line ∷ []) more)
@@ -148,27 +148,27 @@ module _ (f : Formula) (t : List ℕ) where
           subst (λ w. SoFar f (seen ++ line ∷ []) t (w ++ added)) (text_alone_once f (own seen t) (is_stopped seen t) got.0 old got.1 so) got.2
 
   -- what further lines of its tag are told goes on with what it writes alone
-  pub told_alone : (seen more : List Tagged) (old text told : List ℕ) → SoFar f seen t old → AreTold f t seen more text told
-      → SoFar f (seen ++ more) t (old ++ told)
-  told_alone seen [] old text told so (e, k) =
-      subst (λ s. SoFar f s t (old ++ told)) (sym (append-nil seen))
+  pub said_is_alone : (seen more : List Tagged) (old text said : List ℕ) → SoFar f seen t old → AreSaidTo f t seen more text said
+      → SoFar f (seen ++ more) t (old ++ said)
+  said_is_alone seen [] old text said so (e, k) =
+      subst (λ s. SoFar f s t (old ++ said)) (sym (append-nil seen))
       (subst (λ w. SoFar f seen t (old ++ w)) (sym k) (subst (λ w. SoFar f seen t w) (sym (append-nil old)) so))
-  told_alone seen (line ∷ more) old text told so (answer, rest, added, after, is, adds, on, e, k) =
+  said_is_alone seen (line ∷ more) old text said so (answer, rest, added, after, is, adds, on, e, k) =
       subst (λ w. SoFar f (seen ++ line ∷ more) t (old ++ w)) (sym k)
       (subst (λ s. SoFar f s t (old ++ (added ++ after))) (append_assoc seen (line ∷ []) more)
       (subst (λ w. SoFar f ((seen ++ line ∷ []) ++ more) t w) (append_assoc old added after)
-      (told_alone (seen ++ line ∷ []) more (old ++ added) rest after (added_on seen line old answer added so adds) on)))
+      (said_is_alone (seen ++ line ∷ []) more (old ++ added) rest after (added_on seen line old answer added so adds) on)))
 
 -- each session is told what it would be told alone
-pub told_as_alone : EachIsToldAsAlone
-told_as_alone f t all text are = told_on f t [] all [] text (nothing_alone f) are
+pub as_alone : EachIsAsAlone
+as_alone f t all text are = as_alone_on f t [] all [] text (nothing_alone f) are
 
 -- what others send adds nothing to what a session is told
 pub others_add_nothing : OthersAddNothing
-others_add_nothing f t all others text other told heard same a b =
-    let mine = told_alone f t [] all [] text told (nothing_alone f) a in
-    let theirs = told_alone f t [] others [] other heard (nothing_alone f) b in
+others_add_nothing f t all others text other said heard same a b =
+    let mine = said_is_alone f t [] all [] text said (nothing_alone f) a in
+    let theirs = said_is_alone f t [] others [] other heard (nothing_alone f) b in
     let bytes : own others t ≡ own all t = own_of_lines others t ∙ ap (λ l. own l t) (sym same) ∙ sym (own_of_lines all t) in
     let stops : is_stopped others t ≡ is_stopped all t = stopped_of_lines others t ∙ ap (λ l. is_stopped l t) (sym same) ∙ sym (stopped_of_lines all t) in
-    text_alone_once f (own all t) (is_stopped all t) told heard mine
+    text_alone_once f (own all t) (is_stopped all t) said heard mine
     (subst (λ w. Alone f w (is_stopped all t) heard) bytes (subst (λ s. Alone f (own others t) s heard) stops theirs))

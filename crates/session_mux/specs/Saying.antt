@@ -1,4 +1,4 @@
--- The lines that a session is told: words of private contracts.
+-- The lines that are said to a session: words of private contracts.
 use Rattle.std.specs.Prelude.{◌≡◌, ℕ, List, ◌++◌, map, flat_map, true, codes}
 use Rattle.circular_buffer.specs.Buffer.{Buffer, buffer, keep_last}
 use Rattle.stl_syntax.specs.Texts.{newline}
@@ -14,11 +14,11 @@ abbrev pub prefixed_texts : List ℕ → List (List ℕ) → List ℕ
 prefixed_texts prefix all = flat_map (λ (line : List ℕ). prefix ++ line ++ newline) all
 
 -- the lines of a text, each after a tag and a space
-abbrev pub told_lines : List ℕ → List ℕ → List ℕ
-told_lines tag text = prefixed (tag ++ codes " ") (lines true text)
+abbrev pub said_lines : List ℕ → List ℕ → List ℕ
+said_lines tag text = prefixed (tag ++ codes " ") (lines true text)
 
--- the lines of a text were told and kept
+-- the lines of a text were said and kept
 pub record HasSaid (tag text : List ℕ) (old new : Buffer (List ℕ)) (before after : List ℕ) : Type 0 where
-  pub added : after ≡ before ++ told_lines tag text
-  pub kept : (told : List (List ℕ)) → old ≡ buffer (keep_last 8 told) 8 → new ≡ buffer (keep_last 8 (told ++ texts text)) 8
+  pub added : after ≡ before ++ said_lines tag text
+  pub kept : (said : List (List ℕ)) → old ≡ buffer (keep_last 8 said) 8 → new ≡ buffer (keep_last 8 (said ++ texts text)) 8
   pub room : new.capacity ≡ 8

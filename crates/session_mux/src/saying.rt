@@ -1,9 +1,9 @@
-//! Lines of a session, told to its bench after its tag.
+//! Lines of a session, said to its bench after its tag.
 ghost use Rattle.std.specs.Prelude.{◌≡◌, ◌<◌, ◌++◌, ◌∷◌, true, codes, length, OnOk, OnErr, MatchResult};
 ghost use Rattle.stl_syntax.specs.Texts.{newline};
 ghost use Rattle.trace_reader.specs.TraceText.{lines};
 ghost use Rattle.report.specs.Appended.{GrewInPart, Is};
-ghost use Rattle.session_mux.specs.Telling.{prefixed_texts, told_lines, HasSaid};
+ghost use Rattle.session_mux.specs.Saying.{prefixed_texts, said_lines, HasSaid};
 
 use crate::recent::{Recent, keep};
 use frac128::Memory;
@@ -41,7 +41,7 @@ fn put_line(out: &mut Text, tag: &[u8], mark: &[u8], line: &[u8]) -> Result<(), 
 ///
 /// # Errors
 /// Want of memory. A first part of these lines was added.
-pub(crate) fn tell(
+pub(crate) fn say(
     alloc: Global,
     tag: &[u8],
     recent: &mut Recent,
@@ -51,7 +51,7 @@ pub(crate) fn tell(
     requires { recent.old.capacity ≡ 8 }
     ensures { MatchResult result
         (λ _. HasSaid tag.now text.now recent.old recent.new out.old out.new)
-        (λ _. GrewInPart (Is (told_lines tag.now text.now)) out.old out.new) }
+        (λ _. GrewInPart (Is (said_lines tag.now text.now)) out.old out.new) }
 {
     let mut rest = text;
     while !rest.is_empty() {

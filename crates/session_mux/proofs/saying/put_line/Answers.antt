@@ -2,7 +2,7 @@ use Rattle.std.proofs.Common.{◌≡◌, ℕ, List, ◌++◌, append_assoc, ap, 
 use Rattle.report.specs.Appended.{GrewInPart, Is}
 use Rattle.report.proofs.Parts.{on_err}
 use Rattle.stl_syntax.specs.Texts.{newline}
-use Rattle.session_mux.proofs.telling.put_line.Goals as goal
+use Rattle.session_mux.proofs.saying.put_line.Goals as goal
 
 -- the tag, or the tag and the mark
 after_tag : (old mid new tag mark line : List ℕ) → mid ≡ old ++ tag → new ≡ mid → GrewInPart (Is (tag ++ mark ++ line ++ newline)) old new

@@ -3,7 +3,7 @@ use Rattle.std.proofs.lemmas.List.{drop_all}
 use Rattle.trace_reader.specs.TraceText.{lines}
 use Rattle.trace_reader.proofs.LineLemmas.{done, lines-nil}
 use Rattle.session_mux.proofs.LineTexts.{line_found, line_alone, whole_drop}
-use Rattle.session_mux.proofs.telling.first_line.Goals as goal
+use Rattle.session_mux.proofs.saying.first_line.Goals as goal
 
 pub returns-in-Some-clause-line : goal.returns-in-Some-clause-line
 returns-in-Some-clause-line c =
