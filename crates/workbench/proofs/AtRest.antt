@@ -16,7 +16,7 @@ use Rattle.workbench.specs.InputFaults.{Fault, fault_text, IsInputFault, AreRows
 use Rattle.workbench.specs.Wholes.{status_of_truth}
 use Rattle.workbench.proofs.Beginnings.{begun_before, begun_now}
 use Rattle.trace_stream.specs.Following.{IsTextOf, IsLive, IsAtRest, IsOver, IsDone, IsLiveStop}
-use Rattle.workbench.specs.Telling.{IsToldAs, no_room, told_whole, told_in_part}
+use Rattle.workbench.specs.MadeWritten.{IsMadeWritten, no_room, made_whole, made_in_part}
 use Rattle.trace_stream.specs.declared.case.Case.{Case}
 use Rattle.trace_stream.specs.declared.live.Live.{Live}
 use Rattle.trace_stream.specs.declared.fault.StreamStop.{StreamStop}
@@ -64,18 +64,18 @@ module _ (kind : Stream) where
       → IsWide (stream kind f) bytes ended i den text
   wide_of limits f bytes text ended i den e h = subst (λ (l : Limits). IsLiveStop kind l f ended bytes text (Wide i den)) e h
 
-  -- a fault of the bytes was told
-  fault_told : (limits : Limits) (f : Formula) (bytes text : List ℕ) (ended : Bool) (stop : StreamStop) → limits ≡ limits_of kind
+  -- a fault of the bytes was met
+  fault_met : (limits : Limits) (f : Formula) (bytes text : List ℕ) (ended : Bool) (stop : StreamStop) → limits ≡ limits_of kind
       → stop ≢ NoMemory → IsLiveStop kind limits f ended bytes text stop
       → IsPushStop (stream kind f) bytes ended text (stop_of stop)
-  fault_told limits f bytes text ended (Faulty fault) e ne (x, is, input, t) = (
+  fault_met limits f bytes text ended (Faulty fault) e ne (x, is, input, t) = (
     fault_text x,
     (x, is, refl),
     (x, subst (λ (l : Limits). IsInputFault l f bytes ended x) e input, refl),
     owes_of kind limits f bytes ended text e t,
   )
-  fault_told limits f bytes text ended NoMemory e ne h = absurd (ne refl)
-  fault_told limits f bytes text ended (Wide i den) e ne h = wide_of limits f bytes text ended i den e h
+  fault_met limits f bytes text ended NoMemory e ne h = absurd (ne refl)
+  fault_met limits f bytes text ended (Wide i den) e ne h = wide_of limits f bytes text ended i den e h
 
   -- and what was due before it
   fault_owed : (limits : Limits) (f : Formula) (bytes text : List ℕ) (ended : Bool) (stop : StreamStop) → limits ≡ limits_of kind
@@ -140,14 +140,14 @@ module _ {F : Type 0} (Stands : F → Case → List ℕ → Type 0) (kind : Stre
       (before : OwesRows kind f bytes false text) (limits : mid.rows.limits ≡ limits_of kind)
       (same : mid.formula ≡ f) where
     -- what a piece was fed to, and what was written of it, come to a push
-    pub push_of : (fed : Result (Unit {0}) StreamStop) (result : Result (Unit {0}) Stop) → IsToldAs held held_after mid.text fed result
+    pub push_of : (fed : Result (Unit {0}) StreamStop) (result : Result (Unit {0}) Stop) → IsMadeWritten held held_after mid.text fed result
         → MatchResult fed (λ _. IsLive Stands kind mid (bytes ++ piece) text)
         (λ e. IsLiveStop kind mid.rows.limits f false (bytes ++ piece) (text ++ mid.text) e)
         → OnOk result (new ≡ record mid { text = [] })
         → IsPush (stream kind f) held held_after (bytes ++ piece) false text (λ _. IsPushed (IsAtRest Stands kind new) (stream kind f) (bytes ++ piece)) result
     push_of fed result (no_room kept) h done =
         ([], kept, inr ([], begun_before (stream kind f) bytes piece text false (due_of_owed kind f bytes text false before)))
-    push_of (Ok x) result (told_whole ne wrote) h done =
+    push_of (Ok x) result (made_whole ne wrote) h done =
         let rest = written_all mid new (bytes ++ piece) text done limits h in
         let formula : new.formula ≡ f = ap (λ (z : Live F). z.formula) done ∙ same in (
           mid.text,
@@ -155,9 +155,9 @@ module _ {F : Type 0} (Stands : F → Case → List ℕ → Type 0) (kind : Stre
           subst (λ (g : Formula). IsPushed (IsAtRest Stands kind new) (stream kind g) (bytes ++ piece) (text ++ mid.text))
               formula (at_rest new (bytes ++ piece) (text ++ mid.text) rest),
         )
-    push_of (Err stop) result (told_whole ne wrote) h done =
-        (mid.text, wrote, fault_told kind mid.rows.limits f (bytes ++ piece) (text ++ mid.text) false stop limits (λ e. ne (ap Err e)) h)
-    push_of (Ok x) result (told_in_part ne part) h done = (
+    push_of (Err stop) result (made_whole ne wrote) h done =
+        (mid.text, wrote, fault_met kind mid.rows.limits f (bytes ++ piece) (text ++ mid.text) false stop limits (λ e. ne (ap Err e)) h)
+    push_of (Ok x) result (made_in_part ne part) h done = (
       part.front,
       part.wrote,
       (
@@ -168,7 +168,7 @@ module _ {F : Type 0} (Stands : F → Case → List ℕ → Type 0) (kind : Stre
             (subst (λ (g : Formula). OwesRows kind g (bytes ++ piece) false (text ++ mid.text)) same (owed_now mid (bytes ++ piece) text limits h))),
       ),
     )
-    push_of (Err stop) result (told_in_part ne part) h done = (
+    push_of (Err stop) result (made_in_part ne part) h done = (
       part.front,
       part.wrote,
       (
@@ -212,8 +212,8 @@ module _ {F : Type 0} (Ended : F → Case → List ℕ → Type 0) (kind : Strea
   module _ (limits : Limits) (f : Formula) (mid new : Live F) (held held_after : Option (List ℕ)) (bytes text : List ℕ)
       (before : OwesRows kind f bytes false text) (same : limits ≡ limits_of kind)
       (formula : mid.formula ≡ f) where
-    -- what the end was told, and what was written of it, come to an end
-    pub end_of : (finished : Result Bool StreamStop) (result : Result Bool Stop) → IsToldAs held held_after mid.text finished result
+    -- what the end came to, and what was written of it, come to an end
+    pub end_of : (finished : Result Bool StreamStop) (result : Result Bool Stop) → IsMadeWritten held held_after mid.text finished result
         → MatchResult finished (IsOver Ended kind limits f mid bytes (text ++ mid.text)) (λ e. IsLiveStop kind limits f true bytes (text ++ mid.text) e)
         → OnOk result (new ≡ record mid { text = [] })
         → IsPush (stream kind f) held held_after bytes true text (IsFinished (IsDone Ended kind new) (stream kind f) bytes) result
@@ -226,7 +226,7 @@ module _ {F : Type 0} (Ended : F → Case → List ℕ → Type 0) (kind : Strea
             (begun_before (stream kind f) bytes [] text true (due_of_owed kind f bytes text false before)),
       ),
     )
-    end_of (Ok holds) result (told_whole ne wrote) h done = (
+    end_of (Ok holds) result (made_whole ne wrote) h done = (
       mid.text,
       wrote,
       (
@@ -234,9 +234,9 @@ module _ {F : Type 0} (Ended : F → Case → List ℕ → Type 0) (kind : Strea
         done_after limits f mid new bytes (text ++ mid.text) holds same formula done h,
       ),
     )
-    end_of (Err stop) result (told_whole ne wrote) h done =
-        (mid.text, wrote, fault_told kind limits f bytes (text ++ mid.text) true stop same (λ e. ne (ap Err e)) h)
-    end_of (Ok holds) result (told_in_part ne part) h done = (
+    end_of (Err stop) result (made_whole ne wrote) h done =
+        (mid.text, wrote, fault_met kind limits f bytes (text ++ mid.text) true stop same (λ e. ne (ap Err e)) h)
+    end_of (Ok holds) result (made_in_part ne part) h done = (
       part.front,
       part.wrote,
       (
@@ -246,7 +246,7 @@ module _ {F : Type 0} (Ended : F → Case → List ℕ → Type 0) (kind : Strea
             (due_of_owed kind f bytes (text ++ mid.text) true (owed_whole limits f mid bytes (text ++ mid.text) holds same h)),
       ),
     )
-    end_of (Err stop) result (told_in_part ne part) h done = (
+    end_of (Err stop) result (made_in_part ne part) h done = (
       part.front,
       part.wrote,
       (
@@ -258,9 +258,9 @@ module _ {F : Type 0} (Ended : F → Case → List ℕ → Type 0) (kind : Strea
     )
 
 -- where memory was wanting nothing is written
-pub starved_told : {T : Type 0} (held : Option (List ℕ)) (text : List ℕ) (outcome : Result T StreamStop) → outcome ≡ Err NoMemory
-    → IsToldAs held held text outcome (Err Starved)
-starved_told {T} held text outcome e = subst (λ (r : Result T StreamStop). IsToldAs held held text r (Err Starved)) (sym e) (no_room (Appends-nil held))
+pub starved_made : {T : Type 0} (held : Option (List ℕ)) (text : List ℕ) (outcome : Result T StreamStop) → outcome ≡ Err NoMemory
+    → IsMadeWritten held held text outcome (Err Starved)
+starved_made {T} held text outcome e = subst (λ (r : Result T StreamStop). IsMadeWritten held held text r (Err Starved)) (sym e) (no_room (Appends-nil held))
 
 -- the reason of a stream is no fault of a sink
 pub not_unwritten : {T : Type 0} (outcome : Result T StreamStop) → outcome_of outcome ≢ Err Unwritten

@@ -223,21 +223,21 @@ text_of_lines f bytes text status (ended, zero_is, owed, calm) seen are = by_lin
 pub hears_own_stream : (formula : List ℕ) (f : Formula) (bytes text : List ℕ) (status : ℕ) → IsFormulaOf formula f
     → IsAnswered (sessions f) bytes true status text
     → (seen : List Tagged) → AreTagged (lines true bytes) seen → (t : List ℕ) → is_among t (tags_after [] seen) ≡ true
-    → (told : List ℕ) × Alone f (own seen t) true told × (heard t text ≡ texts told)
+    → (said : List ℕ) × Alone f (own seen t) true said × (heard t text ≡ texts said)
 hears_own_stream formula f bytes text status read answered seen are t among =
     let m = text_of_lines f bytes text status answered seen are in
     let tags = have_tags are in
-    let (told, in_all, alone) = as_alone_to_its_end f t seen text among m in
-    (told, alone, hears_its_end f t seen text told (read_names formula f read) (is_a_tag t [] seen tags among) tags in_all)
+    let (said, in_all, alone) = as_alone_to_its_end f t seen text among m in
+    (said, alone, hears_its_end f t seen text said (read_names formula f read) (is_a_tag t [] seen tags among) tags in_all)
 
 -- so two inputs with the same lines of a tag tell its bench the same
-pub hears_the_same : (formula : List ℕ) (f : Formula) (bytes other text told : List ℕ) (status ended : ℕ) → IsFormulaOf formula f
+pub hears_the_same : (formula : List ℕ) (f : Formula) (bytes other text said : List ℕ) (status ended : ℕ) → IsFormulaOf formula f
     → IsAnswered (sessions f) bytes true status text
-    → IsAnswered (sessions f) other true ended told → (seen others : List Tagged) → AreTagged (lines true bytes) seen
+    → IsAnswered (sessions f) other true ended said → (seen others : List Tagged) → AreTagged (lines true bytes) seen
     → AreTagged (lines true other) others → (t : List ℕ)
-    → is_among t (tags_after [] seen) ≡ true → is_among t (tags_after [] others) ≡ true → lines_of t seen ≡ lines_of t others → heard t text ≡ heard t told
-hears_the_same formula f bytes other text told status ended read answered also seen others are others_are t among among_others same =
+    → is_among t (tags_after [] seen) ≡ true → is_among t (tags_after [] others) ≡ true → lines_of t seen ≡ lines_of t others → heard t text ≡ heard t said
+hears_the_same formula f bytes other text said status ended read answered also seen others are others_are t among among_others same =
     let (mine, alone, mine_is) = hears_own_stream formula f bytes text status read answered seen are t among in
-    let (theirs, apart, theirs_is) = hears_own_stream formula f other told ended read also others others_are t among_others in
+    let (theirs, apart, theirs_is) = hears_own_stream formula f other said ended read also others others_are t among_others in
     let bytes_are : own others t ≡ own seen t = own_of_lines others t ∙ ap (λ l. own l t) (sym same) ∙ sym (own_of_lines seen t) in
     mine_is ∙ ap texts (text_alone_once f (own seen t) true mine theirs alone (subst (λ w. Alone f w true theirs) bytes_are apart)) ∙ sym theirs_is

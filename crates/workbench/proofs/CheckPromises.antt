@@ -14,7 +14,7 @@ use Rattle.stl_grammar.specs.FormulaRefusals.{IsFormulaOf}
 use Rattle.stl_grammar.proofs.LawProofs.{one_formula}
 use Rattle.report.specs.Report.{Command, check, robust, explain, json, table, Out}
 use Rattle.workbench.specs.Words.{AskCheck}
-use Rattle.workbench.specs.Commands.{Verb, judge, IsForm, of_formula}
+use Rattle.workbench.specs.Commands.{Verb, on_formula, IsForm, of_formula}
 use Rattle.workbench.specs.declared.request.Command.TheVariants.{Check}
 use Rattle.workbench.specs.declared.request.Mode.TheVariants.{Whole}
 use Rattle.workbench.specs.Commands as word
@@ -22,7 +22,7 @@ use Rattle.workbench.specs.Requests.{Request, no_form, refused, whole, stream, s
 use Rattle.workbench.specs.Requests.{Asks, AreNone, IsAsked, word_of, IsRefusal, AreHeld, is_held, has_input, usage_line}
 use Rattle.workbench.specs.Owed.{OwesAtEnd, not_yet, faulty as faulty_at_end, too_many, at_end}
 use Rattle.workbench.specs.Ended.{TellsTruth, none, bad, faulty, answered, wide, overfull}
-use Rattle.workbench.specs.Running.{IsBegun, IsEnd, settled, unread, unwritten, no_memory, HasEnded, IsReadOut, asked, unknown, IsRun}
+use Rattle.workbench.specs.Running.{IsBegun, IsEnd, by_itself, unread, unwritten, no_memory, HasEnded, IsReadOut, asked, unknown, IsRun}
 use Rattle.workbench.specs.Saying.{IsSaid, whole as all_said, part as part_said}
 use Rattle.workbench.specs.InputFaults.{Fault, fault_text, whole_limits, IsInputFault}
 use Rattle.trace_stream.specs.CaseReader.{IsWhole, IsSound}
@@ -33,7 +33,7 @@ use Rattle.workbench.proofs.NumberWords.{two_words}
 use Rattle.trace_stream.proofs.FaultsStay.{unsound}
 use Rattle.workbench.proofs.NoForm.{two_is_none}
 use Rattle.workbench.proofs.RunEnds.{word_form, asked_word}
-use Rattle.workbench.proofs.OneRequest.{one_judged}
+use Rattle.workbench.proofs.OneRequest.{one_verb}
 
 -- words ask for one text
 one_text : {words : List (List ℕ)} {text other : List ℕ} → AskCheck words text → AskCheck words other → text ≡ other
@@ -52,16 +52,16 @@ not_both {words} {f} {line} a b = let (r, fault, e) = b.bad in (subst (λ t. IsF
 -- told bytes that were taken are those that were consumed
 took_is : {before after : Option (List ℕ)} {bytes read : List ℕ} → Drew before after bytes → Consumes before after read → read ≡ bytes
 took_is {before} {after} {bytes} {read} t h =
-    let told : Consumes (Some (bytes ++ t.left)) (Some t.left) read =
+    let whole : Consumes (Some (bytes ++ t.left)) (Some t.left) read =
     subst (λ a. Consumes (Some (bytes ++ t.left)) a read) t.now (subst (λ b. Consumes b after read) t.was h) in
-    append_cancel_right read bytes t.left (sym told)
+    append_cancel_right read bytes t.left (sym whole)
 
 -- told bytes that were got are those that were appended
 got_is : {before after : Option (List ℕ)} {bytes text : List ℕ} → Got before after bytes → Appends before after text → text ≡ bytes
 got_is {before} {after} {bytes} {text} g h =
-    let told : Appends (Some g.held) (Some (g.held ++ bytes)) text =
+    let whole : Appends (Some g.held) (Some (g.held ++ bytes)) text =
     subst (λ a. Appends (Some g.held) a text) g.now (subst (λ b. Appends b after text) g.was h) in
-    append_cancel_left g.held text bytes (sym told)
+    append_cancel_left g.held text bytes (sym whole)
 
 -- the bytes that were there are those that were consumed, and the others
 consumed : (before after : Option (List ℕ)) (bytes read : List ℕ) → before ≡ Some bytes → Consumes before after read
@@ -79,18 +79,18 @@ pub data IsBuiltRequest : Request → Type 0 where
 
 -- they ask for no other command
 check_alone : {words : List (List ℕ)} {own : List ℕ} → AskCheck words own → (command : Verb) (text : List ℕ)
-    → IsAsked words (judge command text) → command ≡ word.check
+    → IsAsked words (on_formula command text) → command ≡ word.check
 check_alone {words} {own} ask command text a =
-    (one_judged command word.check text own a.is (subst (λ ws. IsForm ws (judge word.check own)) (sym ask) (of_formula word.check))).0
+    (one_verb command word.check text own a.is (subst (λ ws. IsForm ws (on_formula word.check own)) (sym ask) (of_formula word.check))).0
 
-check_asked : {words : List (List ℕ)} {text : List ℕ} → IsAsked words (judge word.check text) → AskCheck words text
+check_asked : {words : List (List ℕ)} {text : List ℕ} → IsAsked words (on_formula word.check text) → AskCheck words text
 check_asked a = word_form a.is
 
-asked_check : {words : List (List ℕ)} {text : List ℕ} → AskCheck words text → IsAsked words (judge word.check text)
+asked_check : {words : List (List ℕ)} {text : List ℕ} → AskCheck words text → IsAsked words (on_formula word.check text)
 asked_check {words} {text} e = asked_word (Whole Check) text e
 
 no_form_of : {words : List (List ℕ)} → AreNone words → AreNoForm words
-no_form_of h text a = h (judge word.check text) (asked_check a)
+no_form_of h text a = h (on_formula word.check text) (asked_check a)
 
 module _ {words : List (List ℕ)} {own : List ℕ} (ask : AskCheck words own) where
   built : (request : Request) → Asks words request → IsBuiltRequest request
@@ -114,7 +114,7 @@ module _ {words : List (List ℕ)} {own : List ℕ} (ask : AskCheck words own) w
       same = check_alone ask a.command a.text a.form
 
       by_refusal : IsRefusal word.check a.text line → AskForBad words line
-      by_refusal (inl b) = record { text = a.text; form = check_asked (subst (λ k. IsAsked words (judge k a.text)) same a.form); bad = b }
+      by_refusal (inl b) = record { text = a.text; form = check_asked (subst (λ k. IsAsked words (on_formula k a.text)) same a.form); bad = b }
       by_refusal (inr (f, i, is, unserved, e)) = absurd unserved
 
 -- how a run of the words ends, in the words of `check`
@@ -138,22 +138,22 @@ some_more (x ∷ text) rest h e = cc
 
 module _ {words : List (List ℕ)} {i : Drained} {o : Filled} {bytes : List ℕ} where
   seen_none : {text : List ℕ} {status : ℕ} {line : List ℕ} → AreNone words → IsEnd no_form i o bytes text status line → Seen words i o bytes text status line
-  seen_none h (settled none) = s_none (no_form_of h)
-  seen_none h (settled (faulty fault prompt owed)) = absurd fault
-  seen_none h (settled (answered is)) = absurd is
-  seen_none h (settled (wide n den is)) = absurd is
-  seen_none h (settled (overfull n is)) = absurd is
+  seen_none h (by_itself none) = s_none (no_form_of h)
+  seen_none h (by_itself (faulty fault prompt owed)) = absurd fault
+  seen_none h (by_itself (answered is)) = absurd is
+  seen_none h (by_itself (wide n den is)) = absurd is
+  seen_none h (by_itself (overfull n is)) = absurd is
   seen_none h (unread has ended failed sound owed) = absurd (false≢true has)
   seen_none {text = text} h (unwritten rest some failed begun timely) = absurd (some_more text rest some begun.owed)
   seen_none h (no_memory known begun timely) = absurd (known refl)
 
   seen_bad : {text : List ℕ} {status : ℕ} {line : List ℕ} (l : List ℕ) → AskForBad words l
       → IsEnd (refused l) i o bytes text status line → Seen words i o bytes text status line
-  seen_bad l b (settled bad) = s_bad b
-  seen_bad l b (settled (faulty fault prompt owed)) = absurd fault
-  seen_bad l b (settled (answered is)) = absurd is
-  seen_bad l b (settled (wide n den is)) = absurd is
-  seen_bad l b (settled (overfull n is)) = absurd is
+  seen_bad l b (by_itself bad) = s_bad b
+  seen_bad l b (by_itself (faulty fault prompt owed)) = absurd fault
+  seen_bad l b (by_itself (answered is)) = absurd is
+  seen_bad l b (by_itself (wide n den is)) = absurd is
+  seen_bad l b (by_itself (overfull n is)) = absurd is
   seen_bad l b (unread has ended failed sound owed) = absurd (false≢true has)
   seen_bad {text = text} l b (unwritten rest some failed begun timely) = absurd (some_more text rest some begun.owed)
   seen_bad l b (no_memory known begun timely) = s_early (λ h. h b.text b.form)
@@ -177,16 +177,16 @@ module _ {words : List (List ℕ)} {i : Drained} {o : Filled} {bytes : List ℕ}
   seen_check : {text : List ℕ} {status : ℕ} {line : List ℕ} (f : Formula) → AskFor words f → (status ≢ 7 → IsReadOut i)
       → IsEnd (whole check f) i o bytes text status line
       → Seen words i o bytes text status line
-  seen_check {text = text} f ask at (settled (faulty {line = line} (x, fault, e) prompt owed)) =
+  seen_check {text = text} f ask at (by_itself (faulty {line = line} (x, fault, e) prompt owed)) =
       subst (λ l. Seen words i o bytes text 4 l) (sym e) (s_fault f x ask fault (at (λ k. omega (arith, k))).none_left)
-  seen_check f ask at (settled {status = status} (answered (ended, is))) =
+  seen_check f ask at (by_itself {status = status} (answered (ended, is))) =
       s_answer f is.tr ask is.trace is.written is.verdict ended ((at (not_seven status is.verdict)).none_left ended)
     where
       not_seven : (s : ℕ) → TellsTruth f is.tr s → s ≢ 7
       not_seven s (inl h) k = let a = h.0 in omega (arith, a, k)
       not_seven s (inr h) k = let a = h.0 in omega (arith, a, k)
-  seen_check f ask at (settled (wide n den (ended, e, is))) = absurd is.cause
-  seen_check f ask at (settled (overfull n (ended, (t, trace, many)))) = absurd many
+  seen_check f ask at (by_itself (wide n den (ended, e, is))) = absurd is.cause
+  seen_check f ask at (by_itself (overfull n (ended, (t, trace, many)))) = absurd many
   seen_check f ask at (unread has ended failed sound owed) = s_unread f ask ended failed (λ x fault. sound (fault_text x) (x, fault, refl))
   seen_check f ask at (unwritten rest some failed begun timely) = seen_cut f rest ask some failed (at (λ k. omega (arith, k))).none_left begun
   seen_check f ask at (no_memory known begun timely) = s_no_memory f ask
@@ -396,8 +396,8 @@ module _ (words : List (List ℕ)) {own : List ℕ} (ask : AskCheck words own) (
     line_of moved (s_unwritten f tr rest a trace written some failed ended at) = old.unwritten
     line_of moved (s_no_memory f a) = old.no_memory
 
-  message_of : {told told_after : Option (List ℕ)} {faults faults_after : ℕ} {line : List ℕ}
-      → IsSaid told told_after faults faults_after line → (message : List ℕ) → Got told told_after message
+  message_of : {held held_after : Option (List ℕ)} {faults faults_after : ℕ} {line : List ℕ}
+      → IsSaid held held_after faults faults_after line → (message : List ℕ) → Got held held_after message
       → IsMessage line message faults faults_after
   message_of (all_said {line = line} w) message got = record { rest = []; parts = got_is got w ∙ sym (append-nil message); complete = λ rose. refl }
   message_of (part_said p rose) message got =
@@ -410,7 +410,7 @@ module _ (words : List (List ℕ)) {own : List ℕ} (ask : AskCheck words own) (
 
     -- such a run is not refused for its usage
     pub run_form : status ≢ 2
-    run_form two = two_is_none i o r.ended two (judge word.check own) (asked_check ask)
+    run_form two = two_is_none i o r.ended two (on_formula word.check own) (asked_check ask)
 
     -- such a run ends with 4 only where the bytes have a fault
     pub run_bad : old.IsBadRightly words status
@@ -453,11 +453,11 @@ module _ (words : List (List ℕ)) {own : List ℕ} (ask : AskCheck words own) (
     run_cut_off = cut_off_rightly r.moved r.grew (seen r)
 
     -- the error stream has the line of the status
-    pub run_told : old.IsToldRightly words i.before i.after i.ended e.before e.after e.faults e.faults_after status
-    run_told message got = (r.line, line_of r.moved (seen r), message_of r.said message got)
+    pub run_said : old.IsSaidRightly words i.before i.after i.ended e.before e.after e.faults e.faults_after status
+    run_said message got = (r.line, line_of r.moved (seen r), message_of r.said message got)
 
 -- words of a command that holds the whole trace ask for no stream
-held_word : (c : Command) (text : List ℕ) → is_held (judge (word_of c) text) ≡ true
+held_word : (c : Command) (text : List ℕ) → is_held (on_formula (word_of c) text) ≡ true
 held_word check text = refl
 held_word robust text = refl
 held_word explain text = refl
@@ -466,6 +466,6 @@ held_word table text = refl
 
 -- the words of a command are few and short enough to be held
 pub all_held : (words : List (List ℕ)) (c : Command) (f : Formula) → Asks words (whole c f) → AreHeld words
-all_held words c f ask (judge command text) a =
-    subst (λ (j : Verb). is_held (judge j text) ≡ true) (one_judged (word_of c) command ask.text text ask.form.is a.is).0 (held_word c text)
+all_held words c f ask (on_formula command text) a =
+    subst (λ (j : Verb). is_held (on_formula j text) ≡ true) (one_verb (word_of c) command ask.text text ask.form.is a.is).0 (held_word c text)
 all_held words c f ask (word.generate n rows) a = refl

@@ -18,7 +18,7 @@ use Rattle.workbench.specs.Generator.{IsSummary}
 use Rattle.workbench.specs.Ended.{TellsTruth, IsVerdict, IsLastVerdict, HasFault, IsAnswered, IsAnsweredWhole}
 use Rattle.workbench.specs.Ended.{IsAnsweredByRow, IsWide, IsOverfull, EndsWith, none, bad, faulty, answered, wide}
 use Rattle.workbench.specs.Ended.{overfull}
-use Rattle.workbench.specs.Running.{IsEnd, settled, unread, unwritten, no_memory, IsReadOut, HasEnded, asked, unknown, IsRun}
+use Rattle.workbench.specs.Running.{IsEnd, by_itself, unread, unwritten, no_memory, IsReadOut, HasEnded, asked, unknown, IsRun}
 use Rattle.workbench.specs.Complete.{AreFit, IsUndisturbed, IsComplete, answered as complete_answer, wide as complete_wide}
 use Rattle.workbench.specs.Complete.{overfull as complete_overfull, no_memory as complete_starved, IsOwnStatus, IsCompleteRun}
 use Rattle.trace_stream.proofs.FaultsStay.{unsound}
@@ -158,33 +158,33 @@ full_own (generated number rows) read left ended count at h = absurd h
 abbrev Own : Request → List ℕ → List ℕ → ℕ → Type 0
 Own request bytes text status = IsOwnStatus request status × IsComplete request bytes text status
 
-own_settled : (request : Request) (read left text line : List ℕ) (ended : Bool) (status : ℕ) → AreFit request (read ++ left)
+own_ends_with : (request : Request) (read left text line : List ℕ) (ended : Bool) (status : ℕ) → AreFit request (read ++ left)
     → (status ≢ 7 → ended ≡ true → left ≡ []) → EndsWith read ended request status line text → Own request (read ++ left) text status
-own_settled request read left text line ended status fit at none = absurd fit
-own_settled request read left text line ended status fit at bad = absurd fit
-own_settled request read left text line ended status fit at (faulty h prompt owed) =
+own_ends_with request read left text line ended status fit at none = absurd fit
+own_ends_with request read left text line ended status fit at bad = absurd fit
+own_ends_with request read left text line ended status fit at (faulty h prompt owed) =
     absurd (fit_has_none request read left line ended (at (λ k. omega (arith, k))) fit h)
-own_settled request read left text line ended status fit at (answered h) =
+own_ends_with request read left text line ended status fit at (answered h) =
     let own = answer_own request read left text ended status at fit h in (own.0, complete_answer own.1)
-own_settled request read left text line ended status fit at (wide n den h) =
+own_ends_with request read left text line ended status fit at (wide n den h) =
     (wide_own request read text ended n den h, complete_wide read left ended n den refl (at (λ k. omega (arith, k))) h)
-own_settled request read left text line ended status fit at (overfull count h) =
+own_ends_with request read left text line ended status fit at (overfull count h) =
     (overfull_own request read ended count h, complete_overfull count (full_own request read left ended count (at (λ k. omega (arith, k))) h) refl)
 
 own_end : (request : Request) (i : Drained) (o : Filled) (read left text line : List ℕ) (status : ℕ) → AreFit request (read ++ left) → (¬ HasFailed i)
     → (¬ HasRefused o) → (status ≢ 7 → i.ended ≡ true → left ≡ []) → IsEnd request i o read text status line → Own request (read ++ left) text status
-own_end request i o read left text line status fit calm quiet at (settled h) = own_settled request read left text line i.ended status fit at h
+own_end request i o read left text line status fit calm quiet at (by_itself h) = own_ends_with request read left text line i.ended status fit at h
 own_end request i o read left text line status fit calm quiet at (unread has ended failed sound owed) = absurd (calm failed)
 own_end request i o read left text line status fit calm quiet at (unwritten rest some failed begun timely) = absurd (quiet failed)
 own_end request i o read left text line status fit calm quiet at (no_memory known begun timely) = (starved_own request (read ++ left) fit, complete_starved)
 
 -- the end of a request that reads nothing
-made_settled : (number rows : ℕ) (read text line : List ℕ) (ended : Bool) {status : ℕ} → EndsWith read ended (generated number rows) status line text
+made_ends_with : (number rows : ℕ) (read text line : List ℕ) (ended : Bool) {status : ℕ} → EndsWith read ended (generated number rows) status line text
     → (status ≡ 0) × IsSummary number rows text
-made_settled number rows read text line ended (faulty h prompt owed) = absurd h
-made_settled number rows read text line ended (answered h) = h
-made_settled number rows read text line ended (wide n den h) = absurd h
-made_settled number rows read text line ended (overfull count h) = absurd h
+made_ends_with number rows read text line ended (faulty h prompt owed) = absurd h
+made_ends_with number rows read text line ended (answered h) = h
+made_ends_with number rows read text line ended (wide n den h) = absurd h
+made_ends_with number rows read text line ended (overfull count h) = absurd h
 
 made_end : (request : Request) (i : Drained) (o : Filled) (read bytes text line : List ℕ) {status : ℕ} → has_input request ≡ false → AreFit request bytes
     → (¬ HasRefused o) → IsEnd request i o read text status line → IsOwnStatus request status × IsComplete request bytes text status
@@ -193,8 +193,8 @@ made_end (refused l) i o read bytes text line none_read fit quiet end = absurd f
 made_end (whole c f) i o read bytes text line none_read fit quiet end = absurd (false≢true (sym none_read))
 made_end (stream s f) i o read bytes text line none_read fit quiet end = absurd (false≢true (sym none_read))
 made_end (sessions f) i o read bytes text line none_read fit quiet end = absurd (false≢true (sym none_read))
-made_end (generated number rows) i o read bytes text line none_read fit quiet (settled h) =
-    let is = made_settled number rows read text line i.ended h in
+made_end (generated number rows) i o read bytes text line none_read fit quiet (by_itself h) =
+    let is = made_ends_with number rows read text line i.ended h in
     (inl is.0, complete_answer is)
 made_end (generated number rows) i o read bytes text line none_read fit quiet (unread has ended failed sound owed) = absurd (false≢true has)
 made_end (generated number rows) i o read bytes text line none_read fit quiet (unwritten rest some failed begun timely) = absurd (quiet failed)

@@ -8,7 +8,7 @@ use Rattle.report.specs.Report.{Command, check, robust, explain, json, table}
 use Rattle.workbench.specs.Requests.{Request, no_form, refused, whole, stream, sessions, generated, Stream, verdicts, early, margins, has_input}
 use Rattle.workbench.specs.Owed.{OwesAtEnd, not_yet, faulty as faulty_at_end, too_many, at_end}
 use Rattle.workbench.specs.Ended.{TellsTruth, IsVerdict, IsLastVerdict, IsAnswered, HasFault, none, bad, faulty, answered, wide, overfull}
-use Rattle.workbench.specs.Running.{IsBegun, IsEnd, settled, unread, unwritten, no_memory}
+use Rattle.workbench.specs.Running.{IsBegun, IsEnd, by_itself, unread, unwritten, no_memory}
 use Rattle.workbench.specs.InputFaults.{whole_limits, IsInputFault}
 use Rattle.trace_stream.specs.CaseReader.{IsSound}
 
@@ -19,7 +19,7 @@ some_more (x ∷ text) rest h e = cc
 -- bytes without a fault, all of them
 sound_all : (c : Command) (f : Formula) (bytes line : List ℕ) (ended : Bool) → ended ≡ true → IsSound whole_limits f bytes true
     → ¬ HasFault (whole c f) bytes ended line
-sound_all c f bytes line ended e sound (x, fault, told) = sound x (subst (λ (b : Bool). IsInputFault whole_limits f bytes b x) e fault)
+sound_all c f bytes line ended e sound (x, fault, said) = sound x (subst (λ (b : Bool). IsInputFault whole_limits f bytes b x) e fault)
 
 -- a part of a text was owed only for a whole trace
 pub begun_sound : (c : Command) (f : Formula) (bytes text rest : List ℕ) (ended : Bool) → rest ≢ []
@@ -37,19 +37,19 @@ begun_sound c f bytes text rest ended some b = by_owed b.seen b.seen_end (text +
         (all_read.0, subst (λ bs. IsSound whole_limits f bs true) (sym same) trace.sound)
 
 -- for every command that holds the whole trace
-pub fault_due : (c : Command) (f : Formula) (i : Drained) (o : Filled) (bytes text line told : List ℕ) (status : ℕ)
-    → IsEnd (whole c f) i o bytes text status told → HasFault (whole c f) bytes i.ended line
+pub fault_due : (c : Command) (f : Formula) (i : Drained) (o : Filled) (bytes text line said : List ℕ) (status : ℕ)
+    → IsEnd (whole c f) i o bytes text status said → HasFault (whole c f) bytes i.ended line
     → (status ≡ 4) ⊎ (status ≡ 7)
-fault_due c f i o bytes text line told _ (settled (faulty fault prompt owed)) h = inl refl
-fault_due c f i o bytes text line told _ (settled (answered (ended, is))) h = absurd (sound_all c f bytes line i.ended ended is.trace.sound h)
-fault_due c f i o bytes text line told _ (settled (wide n den (ended, e, is))) h = absurd (sound_all c f bytes line i.ended ended is.trace.sound h)
-fault_due c f i o bytes text line told _ (settled (overfull n (ended, (tr, trace, many)))) h = absurd (sound_all c f bytes line i.ended ended trace.sound h)
-fault_due c f i o bytes text line told _ (unread has ended failed sound owed) h =
+fault_due c f i o bytes text line said _ (by_itself (faulty fault prompt owed)) h = inl refl
+fault_due c f i o bytes text line said _ (by_itself (answered (ended, is))) h = absurd (sound_all c f bytes line i.ended ended is.trace.sound h)
+fault_due c f i o bytes text line said _ (by_itself (wide n den (ended, e, is))) h = absurd (sound_all c f bytes line i.ended ended is.trace.sound h)
+fault_due c f i o bytes text line said _ (by_itself (overfull n (ended, (tr, trace, many)))) h = absurd (sound_all c f bytes line i.ended ended trace.sound h)
+fault_due c f i o bytes text line said _ (unread has ended failed sound owed) h =
     absurd (sound line (subst (λ (b : Bool). HasFault (whole c f) bytes b line) ended h))
-fault_due c f i o bytes text line told _ (unwritten rest some failed begun timely) h =
+fault_due c f i o bytes text line said _ (unwritten rest some failed begun timely) h =
     let b = begun_sound c f bytes text rest i.ended some begun in
     absurd (sound_all c f bytes line i.ended b.0 b.1 h)
-fault_due c f i o bytes text line told _ (no_memory known begun timely) h = inr refl
+fault_due c f i o bytes text line said _ (no_memory known begun timely) h = inr refl
 
 -- an answer has the status 0 or 1
 small_truth : (f : Formula) (tr : Trace) (status : ℕ) → TellsTruth f tr status → status ≤ 1
@@ -81,12 +81,12 @@ small_answer (generated n rows) bytes text ended status is = let a = is.0 in ome
 pub answer_due : (request : Request) (i : Drained) (o : Filled) (bytes text line : List ℕ) (status : ℕ)
     → IsEnd request i o bytes text status line → has_input request ≡ true
     → ((l : List ℕ) → ¬ HasFault request bytes i.ended l) → (¬ HasFailed i) → (¬ HasRefused o) → (status ≤ 1) ⊎ (7 ≤ status)
-answer_due request i o bytes text line status (settled none) has clean calm quiet = absurd (false≢true has)
-answer_due request i o bytes text line status (settled bad) has clean calm quiet = absurd (false≢true has)
-answer_due request i o bytes text line status (settled (faulty fault prompt owed)) has clean calm quiet = absurd (clean line fault)
-answer_due request i o bytes text line status (settled (answered is)) has clean calm quiet = inl (small_answer request bytes text i.ended status is)
-answer_due request i o bytes text line status (settled (wide n den is)) has clean calm quiet = inr (omega arith)
-answer_due request i o bytes text line status (settled (overfull n is)) has clean calm quiet = inr (omega arith)
+answer_due request i o bytes text line status (by_itself none) has clean calm quiet = absurd (false≢true has)
+answer_due request i o bytes text line status (by_itself bad) has clean calm quiet = absurd (false≢true has)
+answer_due request i o bytes text line status (by_itself (faulty fault prompt owed)) has clean calm quiet = absurd (clean line fault)
+answer_due request i o bytes text line status (by_itself (answered is)) has clean calm quiet = inl (small_answer request bytes text i.ended status is)
+answer_due request i o bytes text line status (by_itself (wide n den is)) has clean calm quiet = inr (omega arith)
+answer_due request i o bytes text line status (by_itself (overfull n is)) has clean calm quiet = inr (omega arith)
 answer_due request i o bytes text line status (unread input ended failed sound owed) has clean calm quiet = absurd (calm failed)
 answer_due request i o bytes text line status (unwritten rest some failed begun timely) has clean calm quiet = absurd (quiet failed)
 answer_due request i o bytes text line status (no_memory known begun timely) has clean calm quiet = inr (omega arith)

@@ -25,14 +25,14 @@ use Rattle.workbench.specs.declared.early.Deciding.{Deciding}
 use Rattle.workbench.specs.Deciding.{IsDeciding}
 use Rattle.workbench.specs.EarlyLines.{AreDecidedLines}
 
--- nothing is told before any row
-pub nothing_told : (p : Subformula) (header : Header) → IsEarlyText p header [] false []
-nothing_told p header = not_yet refl (none_first p header) refl
+-- nothing is said before any row
+pub nothing_said : (p : Subformula) (header : Header) → IsEarlyText p header [] false []
+nothing_said p header = not_yet refl (none_first p header) refl
 
 -- a row that is not the first to decide leaves the text
-pub still_told : (p : Subformula) (header : Header) (rows : List Row) (r : Row) (made : List ℕ) → IsEarlyText p header rows false made
+pub still_said : (p : Subformula) (header : Header) (rows : List Row) (r : Row) (made : List ℕ) → IsEarlyText p header rows false made
     → ((b : Bool) → FirstDecides p header rows r b → ⊥) → IsEarlyText p header (rows ++ r ∷ []) false made
-still_told p header rows r made told none = elim told [
+still_said p header rows r made told none = elim told [
   | at_row before after q holds time e first num is ↦
       at_row before (after ++ r ∷ []) q holds time (ap (λ l. l ++ r ∷ []) e ∙ append_assoc before (q ∷ after) (r ∷ [])) first num is
   | at_end line t ok n l is ↦ absurd (let f : false ≡ true = t in cc)
@@ -49,29 +49,29 @@ empty_before p header rows made told none = elim told [
 ]
 
 -- the row that decides
-pub now_told : (p : Subformula) (header : Header) (rows : List Row) (r : Row) (made grown : List ℕ) (d : Decided) (scale : Scale)
+pub now_said : (p : Subformula) (header : Header) (rows : List Row) (r : Row) (made grown : List ℕ) (d : Decided) (scale : Scale)
     → IsEarlyText p header rows false made
     → d.at ≡ r.time → FirstDecides p header rows r d.holds → scale.time ≡ header.scale.time → AreDecidedLines scale d.at d.holds grown
     → IsEarlyText p header (rows ++ r ∷ []) false (made ++ grown)
-now_told p header rows r made grown d scale told at first digits (time, num, is) =
+now_said p header rows r made grown d scale told at first digits (time, num, is) =
     at_row rows [] r d.holds time refl first
     (subst (λ k. IsNumberText k (row_time r) time) digits (subst (λ t. IsNumberText scale.time (whole (pos t)) time) at num))
     (ap (λ m. m ++ grown) (empty_before p header rows made told first.not_before) ∙ is)
 
 -- the end, where a row had decided
-pub told_before : (p : Subformula) (header : Header) (rows : List Row) (made : List ℕ) (d : Decided) → IsEarlyText p header rows false made
+pub said_before : (p : Subformula) (header : Header) (rows : List Row) (made : List ℕ) (d : Decided) → IsEarlyText p header rows false made
     → WasDecided p header rows d → IsEarlyText p header rows true made
-told_before p header rows made d told w = elim told [
+said_before p header rows made d told w = elim told [
   | at_row before after q holds time e first num is ↦ at_row before after q holds time e first num is
   | at_end line t ok n l is ↦ absurd (let f : false ≡ true = t in cc)
   | not_yet f n is ↦ absurd (n w.before w.after w.row d.holds w.among w.first.decides)
 ]
 
 -- and where none had
-pub told_at_end : (p : Subformula) (header : Header) (rows : List Row) (made : List ℕ) (holds : Bool) → IsEarlyText p header rows false made
+pub said_at_end : (p : Subformula) (header : Header) (rows : List Row) (made : List ℕ) (holds : Bool) → IsEarlyText p header rows false made
     → NoneDecides p header rows → AreRows (length header.columns) rows → IsTruthAtStart p (trace_of header rows) holds
     → IsEarlyText p header rows true (made ++ (codes "decided at end" ++ newline ++ start_line holds))
-told_at_end p header rows made holds told none ok truth =
+said_at_end p header rows made holds told none ok truth =
     at_end (start_line holds) refl ok none (holds, truth, refl)
     (ap (λ m. m ++ (codes "decided at end" ++ newline ++ start_line holds)) (empty_before p header rows made told none))
 
@@ -117,12 +117,12 @@ module _ (x y : Deciding) (case : Case) (made : List ℕ) (h : Follows (λ c tex
         [],
         e ∙ sym (append-nil old),
         follows [] (subst (λ m. IsEarlyText (root case.formula.nodes) case.trace.header (case.trace.rows ++ r ∷ []) false m) (sym (append-nil made))
-            (still_told (root case.formula.nodes) case.trace.header case.trace.rows r made h.told none)),
+            (still_said (root case.formula.nodes) case.trace.header case.trace.rows r made h.told none)),
       )
       by_answer (Some d) (at, first) (grown, lines, e) = (
         grown,
         e,
-        follows grown (now_told (root case.formula.nodes) case.trace.header case.trace.rows r made grown d x.scale h.told at first h.stands.digits lines),
+        follows grown (now_said (root case.formula.nodes) case.trace.header case.trace.rows r made grown d x.scale h.told at first h.stands.digits lines),
       )
 
   -- the end
@@ -166,7 +166,7 @@ module _ (x y : Deciding) (case : Case) (made : List ℕ) (h : Follows (λ c tex
         codes "decided at end" ++ newline ++ start_line holds,
         e,
         complete (codes "decided at end" ++ newline ++ start_line holds)
-            (told_at_end (root case.formula.nodes) case.trace.header case.trace.rows made holds h.told
+            (said_at_end (root case.formula.nodes) case.trace.header case.trace.rows made holds h.told
             (subst (λ n. NoneDecides (root n) case.trace.header case.trace.rows) h.stands.nodes
             (subst (λ l. NoneDecides (root x.early.nodes) l case.trace.rows) h.stands.header none.0)) ok.rows here),
       )
@@ -174,7 +174,7 @@ module _ (x y : Deciding) (case : Case) (made : List ℕ) (h : Follows (λ c tex
         [],
         e ∙ sym (append-nil old),
         complete [] (subst (λ m. IsEarlyText (root case.formula.nodes) case.trace.header case.trace.rows true m) (sym (append-nil made))
-            (told_before (root case.formula.nodes) case.trace.header case.trace.rows made d h.told
+            (said_before (root case.formula.nodes) case.trace.header case.trace.rows made d h.told
             (subst (λ n. WasDecided (root n) case.trace.header case.trace.rows d) h.stands.nodes
             (subst (λ l. WasDecided (root x.early.nodes) l case.trace.rows d) h.stands.header w)))),
       )
@@ -190,7 +190,7 @@ begun x case f is none st nodes header scale = record {
     digits = ap (λ (s : Scale). s.time) scale ∙ ap (λ (g : Formula). g.scale.time) is.formula;
   };
   fits = (f, is);
-  told = subst (λ l. IsEarlyText (root case.formula.nodes) case.trace.header l false []) (sym none) (nothing_told (root case.formula.nodes) case.trace.header);
+  told = subst (λ l. IsEarlyText (root case.formula.nodes) case.trace.header l false []) (sym none) (nothing_said (root case.formula.nodes) case.trace.header);
 }
 
 -- the two lines, one after the other

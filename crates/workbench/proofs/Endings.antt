@@ -19,10 +19,10 @@ use Rattle.workbench.specs.declared.fault.Stop.{Stop}
 use Rattle.workbench.specs.declared.fault.Stop.TheVariants.{Unwritten}
 
 -- what came of writing a line
-pub said : {T E : Type 0} (told told_after : Option (List ℕ)) (faults faults_after : ℕ) (r : Result T E) (line : List ℕ)
-    → IsWritten told told_after r line → HasCause faults faults_after r → IsSaid told told_after faults faults_after line
-said told told_after faults faults_after (Ok x) line w c = whole w
-said told told_after faults faults_after (Err x) line w c = part w c.failed
+pub said : {T E : Type 0} (held held_after : Option (List ℕ)) (faults faults_after : ℕ) (r : Result T E) (line : List ℕ)
+    → IsWritten held held_after r line → HasCause faults faults_after r → IsSaid held held_after faults faults_after line
+said held held_after faults faults_after (Ok x) line w c = whole w
+said held held_after faults faults_after (Err x) line w c = part w c.failed
 
 -- the text was written whole
 pub written_whole : (holds : Bool) (text piece : List ℕ) (held held_after : Option (List ℕ)) → piece ≡ text → Appends held held_after piece
@@ -61,16 +61,16 @@ refused_end text r (inr h) = by_case (memory_or r)
     by_case (inl e) = out_of_room text r e
     by_case (inr e) = subst (λ s. IsBadEnd text s (formula_fault_text r)) (sym e) (refused (r, h, refl))
 
--- how a text that gives no formula ends, once its line was told
-pub refused_told : (text : List ℕ) (r : FormulaFault) (line : List ℕ) (status : ℕ) → line ≡ formula_fault_text r → status ≡ status_of_fault r
+-- how a text that gives no formula ends, once its line was said
+pub refused_said : (text : List ℕ) (r : FormulaFault) (line : List ℕ) (status : ℕ) → line ≡ formula_fault_text r → status ≡ status_of_fault r
     → (r ≡ Memory) ⊎ IsFormulaFault text r → IsBadEnd text status line
-refused_told text r line status told s h =
-    subst (λ n. IsBadEnd text n line) (sym s) (subst (λ l. IsBadEnd text (status_of_fault r) l) (sym told) (refused_end text r h))
+refused_said text r line status is_line s h =
+    subst (λ n. IsBadEnd text n line) (sym s) (subst (λ l. IsBadEnd text (status_of_fault r) l) (sym is_line) (refused_end text r h))
 
--- nothing is told of an answer
-pub told_nothing : (f : Formula) (e : Result Bool Stop) (b : Bool) (told : Option (List ℕ)) (faults : ℕ) → e ≡ Ok b
-    → (line : List ℕ) × IsEndLine f e line × IsSaid told told faults faults line
-told_nothing f e b told faults same = ([], subst (λ (x : Result Bool Stop). IsEndLine f x []) (sym same) refl, whole (Appends-nil told))
+-- nothing is said of an answer
+pub nothing_said : (f : Formula) (e : Result Bool Stop) (b : Bool) (held : Option (List ℕ)) (faults : ℕ) → e ≡ Ok b
+    → (line : List ℕ) × IsEndLine f e line × IsSaid held held faults faults line
+nothing_said f e b held faults same = ([], subst (λ (x : Result Bool Stop). IsEndLine f x []) (sym same) refl, whole (Appends-nil held))
 
 -- a trace has a row
 pub some_rows : (width : ℕ) (rows : List Row) → AreRows width rows → 0 < length rows

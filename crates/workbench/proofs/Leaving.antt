@@ -19,13 +19,13 @@ use Rattle.stl_grammar.specs.FormulaRefusals.{IsFormulaOf}
 use Rattle.trace_stream.specs.CaseReader.{IsWhole}
 use Rattle.trace_stream.specs.Following.{IsDone}
 use Rattle.trace_stream.specs.declared.live.Live.{Live}
-use Rattle.workbench.specs.Commands.{Verb, judge, generate}
+use Rattle.workbench.specs.Commands.{Verb, on_formula, generate}
 use Rattle.workbench.specs.Commands as word
 use Rattle.workbench.specs.ErrTexts.{not_streamed_text, out_of_memory}
 use Rattle.workbench.specs.InputFaults.{stream_limits, whole_limits}
 use Rattle.workbench.specs.Requests.{Request, Stream, no_form, refused as bad_request, whole, stream, verdicts, early}
 use Rattle.workbench.specs.Requests.{margins, generated, Asks, AreNone, AreFor, IsAsked, IsUnserved, word_of, word_of_stream}
-use Rattle.workbench.specs.Running.{IsRun, asked as run_asked, settled, unknown as run_unknown}
+use Rattle.workbench.specs.Running.{IsRun, asked as run_asked, by_itself, unknown as run_unknown}
 use Rattle.workbench.specs.Ended.{bad}
 use Rattle.workbench.specs.Saying.{IsSaid}
 use Rattle.workbench.specs.Deciding.{IsDeciding}
@@ -52,7 +52,7 @@ made_left number rows old new form same run = record { run = run; left = asked (
 
 -- nor does a text that gives no formula
 pub refused_left : {words : List (List ℕ)} {text : List ℕ} {i : Drained} {o e : Filled} {line : List ℕ} (j : Verb)
-    (old new : Kept) (status : ℕ) → IsAsked words (judge j text)
+    (old new : Kept) (status : ℕ) → IsAsked words (on_formula j text)
     → IsBadEnd text status line → new ≡ old → IsRun words i o e status → HasRun words i o e old new status
 refused_left {words} {text} {i} {o} {e} j old new _ form (refused {line = line} b) same run = record {
   run = run;
@@ -78,7 +78,7 @@ starved_left {words} {j} i o e old new line ask is same_in same_out said same = 
     moved = subst (λ x. Consumes i.before x []) (sym same_in) (Consumes-nil i.before);
     grew = subst (λ x. Appends o.before x []) (sym same_out) (Appends-nil o.before);
     said = subst (λ l. IsSaid e.before e.after e.faults e.faults_after l) is said;
-    ended = run_unknown (λ h. h (judge j ask.text) ask.form) refl;
+    ended = run_unknown (λ h. h (on_formula j ask.text) ask.form) refl;
   };
   left = unknown refl same;
 }
@@ -265,7 +265,7 @@ has_measurer live (Err stop) e bytes text k = absurd (false≢true (sym e))
 
 -- a formula that is not served is refused before anything is read
 pub unserved_left : (words : List (List ℕ)) (text : List ℕ) (f : Formula) (node : ℕ) (i : Drained) (o e : Filled) (old new : Kept)
-    (line : List ℕ) → IsAsked words (judge word.rwatch text)
+    (line : List ℕ) → IsAsked words (on_formula word.rwatch text)
     → IsFormulaOf text f → IsUnserved word.rwatch f node → line ≡ not_streamed_text node → i.after ≡ i.before → o.after ≡ o.before
     → IsSaid e.before e.after e.faults e.faults_after line → new ≡ old → HasRun words i o e old new 3
 unserved_left words text f node i o e old new line form is unserved line_is same_in same_out said same =
@@ -278,7 +278,7 @@ unserved_left words text f node i o e old new line form is unserved line_is same
         moved = subst (λ x. Consumes i.before x []) (sym same_in) (Consumes-nil i.before);
         grew = subst (λ x. Appends o.before x []) (sym same_out) (Appends-nil o.before);
         said = said;
-        ended = run_asked (bad_request line) ask (λ _. refl) (λ _ x. absurd (false≢true x)) (settled bad);
+        ended = run_asked (bad_request line) ask (λ _. refl) (λ _ x. absurd (false≢true x)) (by_itself bad);
       };
       left = asked (bad_request line) ask (inr (inl refl, same));
     }

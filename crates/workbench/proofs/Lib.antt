@@ -10,7 +10,7 @@ pub mod WatchCalls
 pub mod CheckPromises
 pub mod StreamSteps
 pub mod Due
-pub mod Judged
+pub mod CaseSignals
 pub mod Measured
 pub mod Reasoned
 pub mod Refuting

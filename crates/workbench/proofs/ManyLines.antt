@@ -18,7 +18,7 @@ use Rattle.workbench.specs.Commands as word
 use Rattle.workbench.specs.Requests.{sessions, AreFor}
 use Rattle.workbench.specs.Running.{IsBegun}
 use Rattle.workbench.specs.Saying.{IsSaid}
-use Rattle.workbench.specs.Many.{stop_of_input, outcome_of_input, IsInputTold, no_room, told_whole, told_in_part, IsManyAtRest}
+use Rattle.workbench.specs.Many.{stop_of_input, outcome_of_input, IsInputWritten, no_room, made_whole, made_in_part, IsManyAtRest}
 use Rattle.workbench.specs.Pushing.{IsPushed, IsPushStop, IsPush, IsFinished, IsLineOf, IsStreamEnd}
 use Rattle.workbench.specs.Wholes.{status_of, IsEndLine, EndsSoundly}
 use Rattle.workbench.specs.Keeping.{Holds, IsLeft, asked, HasRun}
@@ -31,12 +31,12 @@ use Rattle.workbench.proofs.Beginnings.{begun_before, begun_now}
 use Rattle.workbench.proofs.StreamSteps.{pushed_run}
 use Rattle.workbench.proofs.Leaving.{not_answer}
 
--- ---- what is told
+-- ---- what is written
 
 -- where memory was wanting nothing is written
-pub starved_told : (held : Option (List ℕ)) (text : List ℕ) (outcome : Result (Unit {0}) InputStop) → outcome ≡ Err NoRoom
-    → IsInputTold held held text outcome (Err NoMemory)
-starved_told held text outcome e = subst (λ (r : Result (Unit {0}) InputStop). IsInputTold held held text r (Err NoMemory)) (sym e) (no_room (Appends-nil held))
+pub starved_made : (held : Option (List ℕ)) (text : List ℕ) (outcome : Result (Unit {0}) InputStop) → outcome ≡ Err NoRoom
+    → IsInputWritten held held text outcome (Err NoMemory)
+starved_made held text outcome e = subst (λ (r : Result (Unit {0}) InputStop). IsInputWritten held held text r (Err NoMemory)) (sym e) (no_room (Appends-nil held))
 
 -- the reason of an input is no fault of a sink
 pub not_unwritten : (outcome : Result (Unit {0}) InputStop) → outcome_of_input outcome ≢ Err Unwritten
@@ -47,11 +47,11 @@ not_unwritten (Err NoRoom) e = let k = e in cc
 -- ---- pieces
 
 module _ (f : Formula) where
-  -- a fault of a line was told
-  line_told : (bytes text : List ℕ) (ended : Bool) (stop : InputStop) → stop ≢ NoRoom → IsInputStop f bytes ended text stop
+  -- a fault of a line was met
+  line_fault : (bytes text : List ℕ) (ended : Bool) (stop : InputStop) → stop ≢ NoRoom → IsInputStop f bytes ended text stop
       → IsPushStop (sessions f) bytes ended text (stop_of_input stop)
-  line_told bytes text ended (InLine fault) ne (first, owed) = ((fault_of fault, first, refl), owed)
-  line_told bytes text ended NoRoom ne h = absurd (ne refl)
+  line_fault bytes text ended (InLine fault) ne (first, owed) = ((fault_of fault, first, refl), owed)
+  line_fault bytes text ended NoRoom ne h = absurd (ne refl)
 
   -- and what was owed before it
   line_owed : (bytes text : List ℕ) (ended : Bool) (stop : InputStop) → stop ≢ NoRoom → IsInputStop f bytes ended text stop → OwesLines f bytes ended text
@@ -97,20 +97,20 @@ rest_after f mid new bytes text e k =
 module _ (f : Formula) (mid new : Input) (held held_after : Option (List ℕ)) where
   -- a piece
   pub many_pushed : (bytes piece text : List ℕ) → OwesLines f bytes false text
-      → (fed : Result (Unit {0}) InputStop) (result : Result (Unit {0}) Stop) → IsInputTold held held_after mid.text fed result
+      → (fed : Result (Unit {0}) InputStop) (result : Result (Unit {0}) Stop) → IsInputWritten held held_after mid.text fed result
       → MatchResult fed (λ _. IsTaking f mid (bytes ++ piece) text) (λ e. IsInputStop f (bytes ++ piece) false (text ++ mid.text) e)
       → OnOk result (new ≡ record mid { text = [] })
       → IsPush (sessions f) held held_after (bytes ++ piece) false text
       (λ _. IsPushed (IsManyAtRest (record { formula = f; input = new })) (sessions f) (bytes ++ piece)) result
   many_pushed bytes piece text before fed result (no_room kept) h done = ([], kept, inr ([], begun_before (sessions f) bytes piece text false before))
-  many_pushed bytes piece text before (Ok x) result (told_whole ne wrote) h done = (
+  many_pushed bytes piece text before (Ok x) result (made_whole ne wrote) h done = (
     mid.text,
     wrote,
     many_at_rest (record { formula = f; input = new }) (bytes ++ piece) (text ++ mid.text) (rest_after f mid new (bytes ++ piece) text done h),
   )
-  many_pushed bytes piece text before (Err stop) result (told_whole ne wrote) h done =
-      (mid.text, wrote, line_told f (bytes ++ piece) (text ++ mid.text) false stop (λ e. ne (ap Err e)) h)
-  many_pushed bytes piece text before (Ok x) result (told_in_part ne part) h done = (
+  many_pushed bytes piece text before (Err stop) result (made_whole ne wrote) h done =
+      (mid.text, wrote, line_fault f (bytes ++ piece) (text ++ mid.text) false stop (λ e. ne (ap Err e)) h)
+  many_pushed bytes piece text before (Ok x) result (made_in_part ne part) h done = (
     part.front,
     part.wrote,
     (
@@ -119,7 +119,7 @@ module _ (f : Formula) (mid new : Input) (held held_after : Option (List ℕ)) w
       begun_now (sessions f) (bytes ++ piece) text part.front part.back mid.text false part.parts (owed_so_far f mid (bytes ++ piece) text h),
     ),
   )
-  many_pushed bytes piece text before (Err stop) result (told_in_part ne part) h done = (
+  many_pushed bytes piece text before (Err stop) result (made_in_part ne part) h done = (
     part.front,
     part.wrote,
     (
@@ -139,19 +139,19 @@ module _ (f : Formula) (mid new : Input) (held held_after : Option (List ℕ)) w
 
   -- what the end told the sessions is all of their text, or an end of the input for a reason
   pub many_ended : (bytes text : List ℕ) → OwesLines f bytes false text → (finished : Result (Unit {0}) InputStop)
-      (result : Result (Unit {0}) Stop) → IsInputTold held held_after mid.text finished result
+      (result : Result (Unit {0}) Stop) → IsInputWritten held held_after mid.text finished result
       → MatchResult finished (λ _. HasAll f mid.mux bytes (text ++ mid.text)) (λ e. IsInputStop f bytes true (text ++ mid.text) e)
       → OnOk result (new ≡ record mid { text = [] })
       → MatchResult result (λ _. IsPush (sessions f) held held_after bytes true text (IsFinished (HasAll f new.mux) (sessions f) bytes) (Ok true))
       (λ e. IsPush (sessions f) held held_after bytes true text (IsFinished (HasAll f new.mux) (sessions f) bytes) (Err e))
   many_ended bytes text before finished result (no_room kept) h done =
       ([], kept, inr ([], subst (λ b. IsBegun (sessions f) b true (text ++ []) []) (append-nil bytes) (begun_before (sessions f) bytes [] text true before)))
-  many_ended bytes text before (Ok x) result (told_whole ne wrote) h done = (mid.text, wrote, all_answered bytes text h done)
-  many_ended bytes text before (Err stop) result (told_whole ne wrote) h done =
-      (mid.text, wrote, line_told f bytes (text ++ mid.text) true stop (λ e. ne (ap Err e)) h)
-  many_ended bytes text before (Ok x) result (told_in_part ne part) h done =
+  many_ended bytes text before (Ok x) result (made_whole ne wrote) h done = (mid.text, wrote, all_answered bytes text h done)
+  many_ended bytes text before (Err stop) result (made_whole ne wrote) h done =
+      (mid.text, wrote, line_fault f bytes (text ++ mid.text) true stop (λ e. ne (ap Err e)) h)
+  many_ended bytes text before (Ok x) result (made_in_part ne part) h done =
       (part.front, part.wrote, (part.back, part.missing, begun_now (sessions f) bytes text part.front part.back mid.text true part.parts h.owed))
-  many_ended bytes text before (Err stop) result (told_in_part ne part) h done = (
+  many_ended bytes text before (Err stop) result (made_in_part ne part) h done = (
     part.front,
     part.wrote,
     (
@@ -176,17 +176,17 @@ many_line f (Err (TooMany count)) line other a b = b ∙ sym a
 -- no fault of a trace ends it
 pub many_soundly : {Done : List ℕ → List ℕ → Type 0} (f g : Formula) (i : Drained) (o : Filled) (ending : Result Bool Stop)
     → IsStreamEnd Done (sessions f) i o ending → EndsSoundly g ending
-many_soundly f g i o ending x = by_line ending x.told
+many_soundly f g i o ending x = by_line ending x.is_line
   where
     by_line : (ending : Result Bool Stop) → IsLineOf (sessions f) ending x.line → EndsSoundly g ending
-    by_line (Ok holds) told = tt
-    by_line (Err (Faulty fault)) told = absurd told
-    by_line (Err (FaultyLine fault)) told = tt
-    by_line (Err Unread) told = tt
-    by_line (Err Unwritten) told = tt
-    by_line (Err NoMemory) told = tt
-    by_line (Err (Wide i den)) told = tt
-    by_line (Err (TooMany count)) told = tt
+    by_line (Ok holds) is_line = tt
+    by_line (Err (Faulty fault)) is_line = absurd is_line
+    by_line (Err (FaultyLine fault)) is_line = tt
+    by_line (Err Unread) is_line = tt
+    by_line (Err Unwritten) is_line = tt
+    by_line (Err NoMemory) is_line = tt
+    by_line (Err (Wide i den)) is_line = tt
+    by_line (Err (TooMany count)) is_line = tt
 
 -- the sessions are left on an answer, and nothing else
 many_left : (words : List (List ℕ)) (f : Formula) (bytes text : List ℕ) (ending : Result Bool Stop) (m : Muxed) (old new : Kept) → AreFor words word.mux f
@@ -207,11 +207,11 @@ pub many_run : (words : List (List ℕ)) (f g h k : Formula) (m : Muxed) (i : Dr
     → (ending : Result Bool Stop) (status : ℕ) (line : List ℕ) → status ≡ status_of ending
     → IsStreamEnd (HasAll h m) (sessions g) i o ending → IsAskedOnce i → IsEndLine k ending line
     → IsSaid e.before e.after e.faults e.faults_after line → MatchResult ending (λ _. new ≡ Mux m) (λ _. new ≡ old) → HasRun words i o e old new status
-many_run words f g h k m i o e old new ask eg eh ek ending status line same x once told said kept =
+many_run words f g h k m i o e old new ask eg eh ek ending status line same x once is_line said kept =
     let y = subst (λ (z : Formula). IsStreamEnd (HasAll z m) (sessions f) i o ending) eh
     (subst (λ (z : Formula). IsStreamEnd (HasAll h m) (sessions z) i o ending) eg x) in
-    let own = subst (λ (z : Formula). IsEndLine z ending line) ek told in
-    pushed_run words (sessions f) i o e old new ask refl ending status line same y once (many_line f ending y.line line y.told own) said
+    let own = subst (λ (z : Formula). IsEndLine z ending line) ek is_line in
+    pushed_run words (sessions f) i o e old new ask refl ending status line same y once (many_line f ending y.line line y.is_line own) said
     (many_left words f y.bytes y.text ending m old new ask y.left kept)
 
 -- the answer is kept, or the fault leaves all as it was

@@ -4,26 +4,26 @@ use Rattle.std.proofs.lemmas.Bool.{false≢true}
 use Rattle.io_edge.specs.Calls.{Drained, Filled}
 use Rattle.workbench.specs.Requests.{Request, no_form, refused, whole, stream, sessions, generated, Asks, AreNone}
 use Rattle.workbench.specs.Requests as request
-use Rattle.workbench.specs.Commands.{judge, generate}
+use Rattle.workbench.specs.Commands.{on_formula, generate}
 use Rattle.workbench.specs.Commands as word
 use Rattle.workbench.specs.Ended.{EndsWith, none, bad, faulty, answered, wide, overfull}
-use Rattle.workbench.specs.Running.{IsEnd, settled, unread, unwritten, no_memory, HasEnded, asked, unknown}
+use Rattle.workbench.specs.Running.{IsEnd, by_itself, unread, unwritten, no_memory, HasEnded, asked, unknown}
 use Rattle.workbench.proofs.Due.{small_answer}
 
-by_settled : {words : List (List ℕ)} {bytes : List ℕ} (i : Drained) (r : Request) {status : ℕ} {line text : List ℕ} → Asks words r
+by_ends_with : {words : List (List ℕ)} {bytes : List ℕ} (i : Drained) (r : Request) {status : ℕ} {line text : List ℕ} → Asks words r
     → EndsWith bytes i.ended r status line text
     → status ≡ 2 → AreNone words
-by_settled i r a none s = a
-by_settled i r a bad s = absurd (omega (arith, s))
-by_settled i r a (faulty fault prompt owed) s = absurd (omega (arith, s))
-by_settled {bytes = bytes} i r {status} {line} {text} a (answered is) s = absurd (omega (arith, s, small_answer r bytes text i.ended status is))
-by_settled i r a (wide n den is) s = absurd (omega (arith, s))
-by_settled i r a (overfull n is) s = absurd (omega (arith, s))
+by_ends_with i r a none s = a
+by_ends_with i r a bad s = absurd (omega (arith, s))
+by_ends_with i r a (faulty fault prompt owed) s = absurd (omega (arith, s))
+by_ends_with {bytes = bytes} i r {status} {line} {text} a (answered is) s = absurd (omega (arith, s, small_answer r bytes text i.ended status is))
+by_ends_with i r a (wide n den is) s = absurd (omega (arith, s))
+by_ends_with i r a (overfull n is) s = absurd (omega (arith, s))
 
 by_end : {words : List (List ℕ)} {bytes : List ℕ} (i : Drained) (o : Filled) (r : Request) {status : ℕ} {line text : List ℕ}
     → Asks words r → IsEnd r i o bytes text status line
     → status ≡ 2 → AreNone words
-by_end i o r a (settled is) s = by_settled i r a is s
+by_end i o r a (by_itself is) s = by_ends_with i r a is s
 by_end i o r a (unread has ended failed sound owed) s = absurd (omega (arith, s))
 by_end i o r a (unwritten rest some failed begun timely) s = absurd (omega (arith, s))
 by_end i o r a (no_memory known begun timely) s = absurd (omega (arith, s))
@@ -40,11 +40,11 @@ some_more [] rest h e = h e
 some_more (x ∷ text) rest h e = cc
 
 none_end : {bytes : List ℕ} (i : Drained) (o : Filled) {status : ℕ} {line : List ℕ} (text : List ℕ) → IsEnd no_form i o bytes text status line → status ≡ 2
-none_end i o text (settled none) = refl
-none_end i o text (settled (faulty fault prompt owed)) = absurd fault
-none_end i o text (settled (answered is)) = absurd is
-none_end i o text (settled (wide n den is)) = absurd is
-none_end i o text (settled (overfull n is)) = absurd is
+none_end i o text (by_itself none) = refl
+none_end i o text (by_itself (faulty fault prompt owed)) = absurd fault
+none_end i o text (by_itself (answered is)) = absurd is
+none_end i o text (by_itself (wide n den is)) = absurd is
+none_end i o text (by_itself (overfull n is)) = absurd is
 none_end i o text (unread has ended failed sound owed) = absurd (false≢true has)
 none_end i o text (unwritten rest some failed begun timely) = absurd (some_more text rest some begun.owed)
 none_end i o text (no_memory known begun timely) = absurd (known refl)
@@ -54,9 +54,9 @@ pub none_is_two : {words : List (List ℕ)} {bytes : List ℕ} (i : Drained) (o 
     → AreNone words → HasEnded words i o bytes text status line
     → status ≡ 2
 none_is_two i o {text} h (asked no_form a nothing at end) = none_end i o text end
-none_is_two i o h (asked (refused line) a nothing at end) = absurd (h (judge a.command a.text) a.form)
-none_is_two i o h (asked (whole c f) a nothing at end) = absurd (h (judge (request.word_of c) a.text) a.form)
-none_is_two i o h (asked (stream s f) a nothing at end) = absurd (h (judge (request.word_of_stream s) a.text) a.form)
-none_is_two i o h (asked (sessions f) a nothing at end) = absurd (h (judge word.mux a.text) a.form)
+none_is_two i o h (asked (refused line) a nothing at end) = absurd (h (on_formula a.command a.text) a.form)
+none_is_two i o h (asked (whole c f) a nothing at end) = absurd (h (on_formula (request.word_of c) a.text) a.form)
+none_is_two i o h (asked (stream s f) a nothing at end) = absurd (h (on_formula (request.word_of_stream s) a.text) a.form)
+none_is_two i o h (asked (sessions f) a nothing at end) = absurd (h (on_formula word.mux a.text) a.form)
 none_is_two i o h (asked (generated n rows) a nothing at end) = absurd (h (generate n rows) a)
 none_is_two i o h (unknown some nothing) = absurd (some h)

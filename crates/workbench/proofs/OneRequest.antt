@@ -8,7 +8,7 @@ use Rattle.stl_grammar.specs.FormulaRefusals.{IsFormulaOf}
 use Rattle.stl_grammar.proofs.LawProofs.{one_formula, one_refusal}
 use Rattle.report.specs.Report.{check, robust, explain, json, table}
 use Rattle.workbench.proofs.NumberWords.{two_words, one_workload}
-use Rattle.workbench.specs.Commands.{Verb, judge, generate, IsForm, of_formula, judge_word}
+use Rattle.workbench.specs.Commands.{Verb, on_formula, generate, IsForm, of_formula, verb_word}
 use Rattle.workbench.specs.Commands as word
 use Rattle.workbench.specs.Requests.{Request, no_form, refused, whole, stream, sessions, generated, verdicts, early}
 use Rattle.workbench.specs.Requests.{margins, Asks, AreNone, AreFor, AreRefused, IsAsked, IsRefusal, IsUnserved}
@@ -25,7 +25,7 @@ command_word text =
     else if bytes_eq text (codes "early") then Some word.early else if bytes_eq text (codes "mux") then Some word.mux
     else if bytes_eq text (codes "rwatch") then Some word.rwatch else None
 
-word_back : (j : Verb) → command_word (judge_word j) ≡ Some j
+word_back : (j : Verb) → command_word (verb_word j) ≡ Some j
 unfolding command_word
 word_back word.check = refl
 word_back word.watch = refl
@@ -37,18 +37,18 @@ word_back word.early = refl
 word_back word.mux = refl
 word_back word.rwatch = refl
 
-one_word : (j k : Verb) → judge_word j ≡ judge_word k → j ≡ k
+one_word : (j k : Verb) → verb_word j ≡ verb_word k → j ≡ k
 one_word j k e = let same : Some j ≡ Some k = sym (word_back j) ∙ ap command_word e ∙ word_back k in cc
 
-judged_form : {words : List (List ℕ)} {j : Verb} {text : List ℕ} → IsForm words (judge j text) → words ≡ judge_word j ∷ text ∷ []
-judged_form (of_formula j) = refl
+verb_form : {words : List (List ℕ)} {j : Verb} {text : List ℕ} → IsForm words (on_formula j text) → words ≡ verb_word j ∷ text ∷ []
+verb_form (of_formula j) = refl
 
 -- words of a command's form are of no other
-pub one_judged : {words : List (List ℕ)} (j k : Verb) (text other : List ℕ) → IsForm words (judge j text)
-    → IsForm words (judge k other) → (j ≡ k) × (text ≡ other)
-one_judged j k text other a b =
-    let e : judge_word j ∷ text ∷ [] ≡ judge_word k ∷ other ∷ [] = sym (judged_form a) ∙ judged_form b in
-    (one_word j k (let h : judge_word j ≡ judge_word k = cc in h), (let h : text ≡ other = cc in h))
+pub one_verb : {words : List (List ℕ)} (j k : Verb) (text other : List ℕ) → IsForm words (on_formula j text)
+    → IsForm words (on_formula k other) → (j ≡ k) × (text ≡ other)
+one_verb j k text other a b =
+    let e : verb_word j ∷ text ∷ [] ≡ verb_word k ∷ other ∷ [] = sym (verb_form a) ∙ verb_form b in
+    (one_word j k (let h : verb_word j ≡ verb_word k = cc in h), (let h : text ≡ other = cc in h))
 
 -- ---- what is asked for
 
@@ -68,22 +68,22 @@ request_of word.rwatch f = stream margins f
 data AskedAs (words : List (List ℕ)) (r : Request) : Type 0 where
   as_none : AreNone words → r ≡ no_form → AskedAs words r
   as_bad : (line : List ℕ) → AreRefused words line → r ≡ refused line → AskedAs words r
-  as_judged : (j : Verb) (f : Formula) → AreFor words j f → r ≡ request_of j f → AskedAs words r
+  as_formula : (j : Verb) (f : Formula) → AreFor words j f → r ≡ request_of j f → AskedAs words r
   as_made : (n rows : ℕ) → IsAsked words (generate n rows) → r ≡ generated n rows → AskedAs words r
 
 asked_as : (words : List (List ℕ)) (r : Request) → Asks words r → AskedAs words r
 unfolding request_of
 asked_as words no_form a = as_none a refl
 asked_as words (refused line) a = as_bad line a refl
-asked_as words (whole check f) a = as_judged word.check f a refl
-asked_as words (whole robust f) a = as_judged word.robust f a refl
-asked_as words (whole explain f) a = as_judged word.explain f a refl
-asked_as words (whole json f) a = as_judged word.json f a refl
-asked_as words (whole table f) a = as_judged word.table f a refl
-asked_as words (stream verdicts f) a = as_judged word.watch f a refl
-asked_as words (stream early f) a = as_judged word.early f a refl
-asked_as words (stream margins f) a = as_judged word.rwatch f a refl
-asked_as words (sessions f) a = as_judged word.mux f a refl
+asked_as words (whole check f) a = as_formula word.check f a refl
+asked_as words (whole robust f) a = as_formula word.robust f a refl
+asked_as words (whole explain f) a = as_formula word.explain f a refl
+asked_as words (whole json f) a = as_formula word.json f a refl
+asked_as words (whole table f) a = as_formula word.table f a refl
+asked_as words (stream verdicts f) a = as_formula word.watch f a refl
+asked_as words (stream early f) a = as_formula word.early f a refl
+asked_as words (stream margins f) a = as_formula word.rwatch f a refl
+asked_as words (sessions f) a = as_formula word.mux f a refl
 asked_as words (generated n rows) a = as_made n rows a refl
 
 -- a text is refused with one line
@@ -112,9 +112,9 @@ not_both j text line f (inl (r, fault, e)) is served = is.sound r fault
 not_both j text line f (inr (g, i, is, un, e)) is' served = served i (subst (λ (h : Formula). IsUnserved j h i) (one_formula text g f is.read is'.read) un)
 
 refusal_of : {words : List (List ℕ)} {line : List ℕ} (a : AreRefused words line) (j : Verb) (text : List ℕ)
-    → IsAsked words (judge j text) → IsRefusal j text line
+    → IsAsked words (on_formula j text) → IsRefusal j text line
 refusal_of {words} {line} a j text form =
-    let e = one_judged a.command j a.text text a.form.is form.is in
+    let e = one_verb a.command j a.text text a.form.is form.is in
     subst (λ t. IsRefusal j t line) e.1 (subst (λ k. IsRefusal k a.text line) e.0 a.is)
 
 -- words ask for one request
@@ -123,22 +123,22 @@ one_request words r q a b = by_cases (asked_as words r a) (asked_as words q b)
   where
     by_cases : AskedAs words r → AskedAs words q → r ≡ q
     by_cases (as_none a e) (as_none b f) = e ∙ sym f
-    by_cases (as_none a e) (as_bad line b f) = absurd (a (judge b.command b.text) b.form)
-    by_cases (as_none a e) (as_judged j g b f) = absurd (a (judge j b.text) b.form)
+    by_cases (as_none a e) (as_bad line b f) = absurd (a (on_formula b.command b.text) b.form)
+    by_cases (as_none a e) (as_formula j g b f) = absurd (a (on_formula j b.text) b.form)
     by_cases (as_none a e) (as_made n rows b f) = absurd (a (generate n rows) b)
     by_cases (as_made n rows a e) (as_none b f) = absurd (b (generate n rows) a)
-    by_cases (as_made n rows a e) (as_bad line b f) = absurd (two_words (judge_word b.command) b.text (judged_form b.form.is) a.is)
-    by_cases (as_made n rows a e) (as_judged j g b f) = absurd (two_words (judge_word j) b.text (judged_form b.form.is) a.is)
+    by_cases (as_made n rows a e) (as_bad line b f) = absurd (two_words (verb_word b.command) b.text (verb_form b.form.is) a.is)
+    by_cases (as_made n rows a e) (as_formula j g b f) = absurd (two_words (verb_word j) b.text (verb_form b.form.is) a.is)
     by_cases (as_made n rows a e) (as_made m more b f) =
         let same = one_workload a.is b.is in
         e ∙ ap (λ i. generated i rows) same.0 ∙ ap (λ i. generated m i) same.1 ∙ sym f
-    by_cases (as_bad line a e) (as_made n rows b f) = absurd (two_words (judge_word a.command) a.text (judged_form a.form.is) b.is)
-    by_cases (as_judged j g a e) (as_made n rows b f) = absurd (two_words (judge_word j) a.text (judged_form a.form.is) b.is)
-    by_cases (as_bad line a e) (as_none b f) = absurd (b (judge a.command a.text) a.form)
+    by_cases (as_bad line a e) (as_made n rows b f) = absurd (two_words (verb_word a.command) a.text (verb_form a.form.is) b.is)
+    by_cases (as_formula j g a e) (as_made n rows b f) = absurd (two_words (verb_word j) a.text (verb_form a.form.is) b.is)
+    by_cases (as_bad line a e) (as_none b f) = absurd (b (on_formula a.command a.text) a.form)
     by_cases (as_bad line a e) (as_bad other b f) = e ∙ ap refused (one_line b.command b.text line other (refusal_of a b.command b.text b.form) b.is) ∙ sym f
-    by_cases (as_bad line a e) (as_judged j g b f) = absurd (not_both j b.text line g (refusal_of a j b.text b.form) b.is b.served)
-    by_cases (as_judged j g a e) (as_none b f) = absurd (b (judge j a.text) a.form)
-    by_cases (as_judged j g a e) (as_bad line b f) = absurd (not_both j a.text line g (refusal_of b j a.text a.form) a.is a.served)
-    by_cases (as_judged j g a e) (as_judged k h b f) =
-        let same = one_judged j k a.text b.text a.form.is b.form.is in
+    by_cases (as_bad line a e) (as_formula j g b f) = absurd (not_both j b.text line g (refusal_of a j b.text b.form) b.is b.served)
+    by_cases (as_formula j g a e) (as_none b f) = absurd (b (on_formula j a.text) a.form)
+    by_cases (as_formula j g a e) (as_bad line b f) = absurd (not_both j a.text line g (refusal_of b j a.text a.form) a.is a.served)
+    by_cases (as_formula j g a e) (as_formula k h b f) =
+        let same = one_verb j k a.text b.text a.form.is b.form.is in
         e ∙ ap (λ i. request_of i g) same.0 ∙ ap (request_of k) (one_formula b.text g h (subst (λ t. IsFormulaOf t g) same.1 a.is).read b.is.read) ∙ sym f

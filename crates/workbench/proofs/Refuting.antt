@@ -63,19 +63,19 @@ module _ (f : Formula) (tr : Trace) where
       let nothing : body ≡ [] = subst (λ ls. AreItemLines tr.header.scale f ls body) none written in
       is ∙ ap (λ l. l ++ body) first ∙ ap (λ b. start_line true ++ b) nothing ∙ append-nil (start_line true)
 
-  Told : ℕ → List ℕ → Type 0
-  Told status text = ((status ≡ 0) × HoldsAtStart f tr × (text ≡ start_line true)) ⊎ IsRefutation f tr status text
+  Says : ℕ → List ℕ → Type 0
+  Says status text = ((status ≡ 0) × HoldsAtStart f tr × (text ≡ start_line true)) ⊎ IsRefutation f tr status text
 
-  told : (status : ℕ) (lines : List Item) (line body text : List ℕ) → KeptRefute f tr → TellsTruth f tr status → Described f tr lines → (holds : Bool)
+  says : (status : ℕ) (lines : List Item) (line body text : List ℕ) → KeptRefute f tr → TellsTruth f tr status → Described f tr lines → (holds : Bool)
       → MatchBool holds (Truth (root (nodes_for f tr)) tr (start tr)) (¬ Truth (root (nodes_for f tr)) tr (start tr)) → line ≡ start_line holds
-      → AreItemLines tr.header.scale f lines body → text ≡ line ++ body → Told status text
-  unfolding Told
-  told status lines line body text sure (inl (s, h)) (inl (k, none)) true m first written is = inl (s, h, true_text lines line body text none written first is)
-  told status lines line body text sure (inl (s, h)) (inl (k, none)) false m first written is = absurd (m h)
-  told status lines line body text sure (inl (s, h)) (inr (n, more)) holds m first written is = absurd (n h)
-  told status lines line body text sure (inr (s, n)) (inl (k, none)) holds m first written is = absurd (n k)
-  told status lines line body text sure (inr (s, n)) (inr (o, more)) true m first written is = absurd (n m)
-  told status lines line body text sure (inr (s, n)) (inr (o, (items, kept, joined))) false m first written is = inr (record {
+      → AreItemLines tr.header.scale f lines body → text ≡ line ++ body → Says status text
+  unfolding Says
+  says status lines line body text sure (inl (s, h)) (inl (k, none)) true m first written is = inl (s, h, true_text lines line body text none written first is)
+  says status lines line body text sure (inl (s, h)) (inl (k, none)) false m first written is = absurd (m h)
+  says status lines line body text sure (inl (s, h)) (inr (n, more)) holds m first written is = absurd (n h)
+  says status lines line body text sure (inr (s, n)) (inl (k, none)) holds m first written is = absurd (n k)
+  says status lines line body text sure (inr (s, n)) (inr (o, more)) true m first written is = absurd (n m)
+  says status lines line body text sure (inr (s, n)) (inr (o, (items, kept, joined))) false m first written is = inr (record {
     status_is = s;
     fails = n;
     lines = lines;
@@ -87,7 +87,7 @@ module _ (f : Formula) (tr : Trace) where
 
 -- what `explain` wrote is an account
 pub accounted : (f : Formula) (bytes text : List ℕ) (status : ℕ) → IsAnsweredWhole explain f bytes status text → IsAccount f bytes text status
-unfolding Told
+unfolding Says
 accounted f bytes text status a =
     let (lines, line, body, explained, started, written, is) = a.written in
-    record { tr = a.tr; trace = a.trace; told = told f a.tr status lines line body text a.sure a.verdict explained started.0 started.1 started.2 written is }
+    record { tr = a.tr; trace = a.trace; says = says f a.tr status lines line body text a.sure a.verdict explained started.0 started.1 started.2 written is }

@@ -4,7 +4,7 @@ use Rattle.rational.specs.Time.{closed}
 use Rattle.rational.proofs.AffineLemmas.{same_reflᵉ}
 use Rattle.serde_json.specs.Data.{Data}
 use Rattle.serde_json.specs.Written.{compact_text}
-use Rattle.value_laws.specs.declared.truth.Truth.{Truth as Told}
+use Rattle.value_laws.specs.declared.truth.Truth.{Truth as TruthPoint}
 use Rattle.value_laws.specs.declared.margin.Margin.{Margin}
 use Rattle.value_laws.specs.Kinds.{truth_shape, margin_shape}
 use Rattle.pl_signal.specs.declared.knot.Knot.{Knot}
@@ -45,10 +45,10 @@ use Rattle.workbench.specs.Wholes.{IsAnswerOf, IsUnanswered, status_of_truth}
 use Rattle.workbench.proofs.Reasoned.{nodes_of, few_cells}
 use Rattle.workbench.proofs.Refuting.{kept_refute}
 
--- what is explained at the start is told
-told_start : (f : Formula) (tr : Trace) (steps : ℕ) (e : Explained) → IsExplained (nodes_for f tr) tr steps e → TellsTruth f tr (status_of_truth (truth_of e))
-told_start f tr steps Holds is = inl (refl, is.0)
-told_start f tr steps (Violated items) is = inr (refl, is.fails)
+-- what is explained at the start is the truth there
+start_explained : (f : Formula) (tr : Trace) (steps : ℕ) (e : Explained) → IsExplained (nodes_for f tr) tr steps e → TellsTruth f tr (status_of_truth (truth_of e))
+start_explained f tr steps Holds is = inl (refl, is.0)
+start_explained f tr steps (Violated items) is = inr (refl, is.fails)
 
 -- what is explained has few cells
 pub few : (f : Formula) (tr : Trace) (steps : ℕ) (e : Explained) → IsExplained (nodes_for f tr) tr steps e → (count : ℕ) → ¬ IsUnexplained f tr count
@@ -67,7 +67,7 @@ explained_items : (nodes : List Node) (tr : Trace) (steps : ℕ) (e : Explained)
 explained_items nodes tr steps Holds lines is joined = inl (is.0, joined)
 explained_items nodes tr steps (Violated items) lines is joined = inr (is.fails, (items, is.kept, joined))
 
-module _ (f : Formula) (c : Case) (case : IsCase f c) (x : List (Knot Told)) (y : List (Knot Margin)) (text : List ℕ)
+module _ (f : Formula) (c : Case) (case : IsCase f c) (x : List (Knot TruthPoint)) (y : List (Knot Margin)) (text : List ℕ)
     (judged : IsRootOf truth_shape truths c x) (measured : IsRootOf margin_shape margins c y)
     (steps : ℕ) (e : Explained) (explained : IsExplained c.formula.nodes c.trace steps e) where
   -- the text and the law of margins over given nodes, with times and values in units of a scale
@@ -109,7 +109,7 @@ module _ (f : Formula) (c : Case) (case : IsCase f c) (x : List (Knot Told)) (y 
       let post : IsPostOrder (nodes_for f c.trace) = subst (λ ns. IsPostOrder ns) (nodes_of f c case) formed.nodes.post_order in
       let some : 0 < length (nodes_for f c.trace) = subst (λ ns. 0 < length ns) (nodes_of f c case) formed.some in
       record {
-        verdict = told_start f c.trace steps e at;
+        verdict = start_explained f c.trace steps e at;
         written = over.0;
         few = few f c.trace steps e at;
         sure = (over.1, kept_refute f c.trace steps e post some at);

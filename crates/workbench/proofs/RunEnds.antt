@@ -8,13 +8,13 @@ use Rattle.io_edge.specs.Calls.{Drained, Filled, HasFailed, HasRefused, IsAskedO
 use Rattle.stl_syntax.specs.Formula.{Formula}
 use Rattle.stl_syntax.specs.Trace.{Trace}
 use Rattle.report.specs.Report.{Command, check, robust, explain, json, table, Out}
-use Rattle.workbench.specs.Answers.{IsJudged}
-use Rattle.workbench.specs.Commands.{Verb, judge, generate, IsForm, of_formula, judge_word}
+use Rattle.workbench.specs.Answers.{IsCheckAnswer}
+use Rattle.workbench.specs.Commands.{Verb, on_formula, generate, IsForm, of_formula, verb_word}
 use Rattle.workbench.specs.Requests.{no_form, refused as bad_request, whole as of_whole, IsAsked, IsAmong, built_commands}
 use Rattle.workbench.specs.Requests.{AreNone, AreOfNoFormula, generated, AreFor, word_of, usage_line, IsUnserved}
 use Rattle.workbench.specs.Owed.{OwesAtEnd, not_yet, faulty as faulty_at_end, at_end as owed_at_end}
-use Rattle.workbench.specs.Ended.{IsPrompt, none, bad, faulty, answered as settled_answer, wide as settled_wide, overfull as settled_overfull}
-use Rattle.workbench.specs.Running.{IsTimely, IsEnd, settled, unread, unwritten, no_memory, HasEnded, asked, unknown, IsRun}
+use Rattle.workbench.specs.Ended.{IsPrompt, none, bad, faulty, answered as as_answered, wide as as_wide, overfull as as_overfull}
+use Rattle.workbench.specs.Running.{IsTimely, IsEnd, by_itself, unread, unwritten, no_memory, HasEnded, asked, unknown, IsRun}
 use Rattle.workbench.specs.Saying.{IsSaid}
 use Rattle.workbench.specs.InputFaults.{Fault, whole_limits, IsInputFault}
 use Rattle.workbench.specs.FromSource.{IsReadWhole, IsReadPromptly, IsStop}
@@ -22,7 +22,7 @@ use Rattle.workbench.specs.Writing.{IsPartWritten}
 use Rattle.workbench.specs.declared.request.Command.TheVariants.{Check, Robust, Explain, Json, Table}
 use Rattle.workbench.specs.declared.request.Mode.{Mode}
 use Rattle.workbench.specs.declared.request.Mode.TheVariants.{Whole, Watch, Early, Mux, Margins}
-use Rattle.workbench.specs.Wholes.{judge_of, status_of_truth, IsAnswerOf, IsUnanswered, IsWrittenWith, all_of_it}
+use Rattle.workbench.specs.Wholes.{verb_of, status_of_truth, IsAnswerOf, IsUnanswered, IsWrittenWith, all_of_it}
 use Rattle.workbench.specs.Wholes.{a_part, IsWholeEnd, answered, unanswered, stopped, status_of, status_of_stop}
 use Rattle.workbench.specs.Wholes.{IsEndLine, IsStopLine, EndsSoundly, IsBadEnd, refused, no_room}
 use Rattle.trace_stream.specs.declared.case.Case.{Case}
@@ -35,10 +35,10 @@ use Rattle.workbench.specs.Made.{IsMade, written, cut_off, no_room as no_room_fo
 -- ---- words
 
 -- the words of the form of a command
-pub word_form : {words : List (List ℕ)} {j : Verb} {text : List ℕ} → IsForm words (judge j text) → words ≡ judge_word j ∷ text ∷ []
+pub word_form : {words : List (List ℕ)} {j : Verb} {text : List ℕ} → IsForm words (on_formula j text) → words ≡ verb_word j ∷ text ∷ []
 word_form (of_formula j) = refl
 
-is_built : (m : Mode) → IsAmong (judge_of m) built_commands
+is_built : (m : Mode) → IsAmong (verb_of m) built_commands
 is_built (Whole Check) = inl refl
 is_built Watch = inr (inl refl)
 is_built (Whole Robust) = inr (inr (inl refl))
@@ -50,15 +50,15 @@ is_built Mux = inr (inr (inr (inr (inr (inr (inr (inl refl)))))))
 is_built Margins = inr (inr (inr (inr (inr (inr (inr (inr (inl refl))))))))
 
 -- a command's word and one more are of a form that is built
-pub asked_word : {words : List (List ℕ)} (m : Mode) (text : List ℕ) → words ≡ judge_word (judge_of m) ∷ text ∷ [] → IsAsked words (judge (judge_of m) text)
-asked_word {words} m text e = record { built = is_built m; is = subst (λ ws. IsForm ws (judge (judge_of m) text)) (sym e) (of_formula (judge_of m)) }
+pub asked_word : {words : List (List ℕ)} (m : Mode) (text : List ℕ) → words ≡ verb_word (verb_of m) ∷ text ∷ [] → IsAsked words (on_formula (verb_of m) text)
+asked_word {words} m text e = record { built = is_built m; is = subst (λ ws. IsForm ws (on_formula (verb_of m) text)) (sym e) (of_formula (verb_of m)) }
 
 -- and they alone
-pub none_asked : {words : List (List ℕ)} → ((m : Mode) (text : List ℕ) → words ≡ judge_word (judge_of m) ∷ text ∷ [] → ⊥) → AreOfNoFormula words
+pub none_asked : {words : List (List ℕ)} → ((m : Mode) (text : List ℕ) → words ≡ verb_word (verb_of m) ∷ text ∷ [] → ⊥) → AreOfNoFormula words
 none_asked {words} h j text a = by_word a.built
   where
-    form_of : (m : Mode) → j ≡ judge_of m → ⊥
-    form_of m e = h m text (subst (λ k. words ≡ judge_word k ∷ text ∷ []) e (word_form a.is))
+    form_of : (m : Mode) → j ≡ verb_of m → ⊥
+    form_of m e = h m text (subst (λ k. words ≡ verb_word k ∷ text ∷ []) e (word_form a.is))
 
     by_word : IsAmong j built_commands → ⊥
     by_word (inl e) = form_of (Whole Check) e
@@ -74,7 +74,7 @@ none_asked {words} h j text a = by_word a.built
 
 -- words that are of neither form are of none
 pub none_of_both : {words : List (List ℕ)} → AreOfNoFormula words → ((number rows : ℕ) → ¬ IsAsked words (generate number rows)) → AreNone words
-none_of_both h k (judge j text) a = h j text a
+none_of_both h k (on_formula j text) a = h j text a
 none_of_both h k (generate number rows) a = k number rows a
 
 -- a command that holds the whole trace serves each formula
@@ -125,7 +125,7 @@ not_stopped c f tr (Wide i den) is = (λ e. let k = e in cc, λ e. let k = e in 
 not_stopped c f tr (TooMany count) is = (λ e. let k = e in cc, λ e. let k = e in cc)
 
 -- the answer of `check`
-pub check_answer : (f : Formula) (tr : Trace) (holds : Bool) (text : List ℕ) → IsJudged f tr holds text → IsAnswerOf check f tr holds text
+pub check_answer : (f : Formula) (tr : Trace) (holds : Bool) (text : List ℕ) → IsCheckAnswer f tr holds text → IsAnswerOf check f tr holds text
 check_answer f tr true text j = record { verdict = inl (refl, j.truth); written = j.written; few = λ n h. h; sure = tt }
 check_answer f tr false text j = record { verdict = inr (refl, j.truth); written = j.written; few = λ n h. h; sure = tt }
 
@@ -161,7 +161,7 @@ none_run i o e line is h same_in same_out said = record {
   moved = kept_left i.before i.after same_in;
   grew = kept_all o.before o.after same_out;
   said = subst (λ l. IsSaid e.before e.after e.faults e.faults_after l) is said;
-  ended = asked no_form h (λ _. refl) (λ _ b. absurd (false≢true b)) (settled none);
+  ended = asked no_form h (λ _. refl) (λ _ b. absurd (false≢true b)) (by_itself none);
 }
 
 -- a generated trace
@@ -174,7 +174,7 @@ made_run {words} number rows i o e _ _ form (written {text = text} is w) same sa
   moved = kept_left i.before i.after same;
   grew = w;
   said = said;
-  ended = asked (generated number rows) form (λ _. refl) (λ _ x. absurd (false≢true x)) (settled (settled_answer (refl, is)));
+  ended = asked (generated number rows) form (λ _. refl) (λ _ x. absurd (false≢true x)) (by_itself (as_answered (refl, is)));
 }
 made_run {words} number rows i o e _ _ form (cut_off is p failed) same said = record {
   bytes = [];
@@ -204,7 +204,7 @@ made_run {words} number rows i o e _ _ form (no_room_for_it same_out) same said 
 
 -- a text that gives no formula
 pub refused_run : {words : List (List ℕ)} {text : List ℕ} (j : Verb) (i : Drained) (o e : Filled) (status : ℕ) (line : List ℕ)
-    → IsAsked words (judge j text) → IsBadEnd text status line
+    → IsAsked words (on_formula j text) → IsBadEnd text status line
     → i.after ≡ i.before → o.after ≡ o.before → IsSaid e.before e.after e.faults e.faults_after line → IsRun words i o e status
 refused_run {words} {text} j i o e status line form end same_in same_out said = record {
   bytes = [];
@@ -218,8 +218,8 @@ refused_run {words} {text} j i o e status line form end same_in same_out said = 
   where
     by_end : {status : ℕ} {line : List ℕ} → IsBadEnd text status line → HasEnded words i o [] [] status line
     by_end (refused {line = line} b) =
-        asked (bad_request line) (record { command = j; text = text; form = form; is = inl b }) (λ _. refl) (λ _ x. absurd (false≢true x)) (settled bad)
-    by_end no_room = unknown (λ h. h (judge j text) form) refl
+        asked (bad_request line) (record { command = j; text = text; form = form; is = inl b }) (λ _. refl) (λ _ x. absurd (false≢true x)) (by_itself bad)
+    by_end no_room = unknown (λ h. h (on_formula j text) form) refl
 
 prompt_of : (c : Command) (f : Formula) (bytes : List ℕ) (ended : Bool) → IsReadPromptly whole_limits f bytes ended → IsPrompt (of_whole c f) bytes ended
 prompt_of c f bytes ended p = record {
@@ -245,8 +245,8 @@ module _ (words : List (List ℕ)) (c : Command) (f : Formula) (i : Drained) (o 
     at_end : status ≢ 7 → i.ended ≡ true → IsAtEnd i.after
     is : IsEnd (of_whole c f) i o bytes text status line
 
-  told_as : {status : ℕ} {line other : List ℕ} → other ≡ line → Ending status line → Ending status other
-  told_as {status} same x = subst (λ l. Ending status l) (sym same) x
+  with_line : {status : ℕ} {line other : List ℕ} → other ≡ line → Ending status line → Ending status other
+  with_line {status} same x = subst (λ l. Ending status l) (sym same) x
 
   of_answer : (case : Case) (holds : Bool) (text : List ℕ) → IsReadWhole whole_limits f i.before i.after i.ended case → IsAnswerOf c f case.trace holds text
       → Appends o.before o.after text → Ending (status_of_truth holds) []
@@ -256,7 +256,7 @@ module _ (words : List (List ℕ)) (c : Command) (f : Formula) (i : Drained) (o 
     moved = read.read.moved;
     grew = w;
     at_end = λ _. read.read.all;
-    is = settled (settled_answer (
+    is = by_itself (as_answered (
       read.came_to_end,
       record { tr = case.trace; trace = read.whole; written = a.written; verdict = a.verdict; few = a.few; sure = a.sure },
     ));
@@ -283,16 +283,16 @@ module _ (words : List (List ℕ)) (c : Command) (f : Formula) (i : Drained) (o 
   of_stop : (stop : Stop) → IsStop whole_limits f i.before i.after i.ended stop → o.after ≡ o.before
       → (stop ≡ Unread → HasFailed i) → {line : List ℕ} → IsStopLine f stop line
       → Ending (status_of_stop stop) line
-  of_stop (Faulty fault) (x, is, read) same failed told = told_as (told x is) (record {
+  of_stop (Faulty fault) (x, is, read) same failed is_line = with_line (is_line x is) (record {
     bytes = read.bytes;
     text = [];
     moved = read.read.moved;
     grew = kept_all o.before o.after same;
     at_end = λ _. read.read.all;
-    is = settled (faulty (x, read.fault, refl) (prompt_of c f read.bytes i.ended read.prompt) (owes_fault c f read.bytes i.ended x read.fault));
+    is = by_itself (faulty (x, read.fault, refl) (prompt_of c f read.bytes i.ended read.prompt) (owes_fault c f read.bytes i.ended x read.fault));
   })
-  of_stop (FaultyLine fault) is same failed told = absurd is
-  of_stop Unread read same failed told = told_as told (record {
+  of_stop (FaultyLine fault) is same failed is_line = absurd is
+  of_stop Unread read same failed is_line = with_line is_line (record {
     bytes = read.bytes;
     text = [];
     moved = read.read.moved;
@@ -300,8 +300,8 @@ module _ (words : List (List ℕ)) (c : Command) (f : Formula) (i : Drained) (o 
     at_end = λ _. read.read.all;
     is = unread refl read.goes_on (failed refl) (λ line h. read.sound h.0 h.1) not_yet;
   })
-  of_stop Unwritten is same failed told = absurd is
-  of_stop NoMemory (bytes, moved) same failed told = told_as told (record {
+  of_stop Unwritten is same failed is_line = absurd is
+  of_stop NoMemory (bytes, moved) same failed is_line = with_line is_line (record {
     bytes = bytes;
     text = [];
     moved = moved;
@@ -309,48 +309,48 @@ module _ (words : List (List ℕ)) (c : Command) (f : Formula) (i : Drained) (o 
     at_end = λ n. absurd (n refl);
     is = no_memory (λ k. let h = k in cc) (inl refl) (timely c f bytes []);
   })
-  of_stop (Wide i den) is same failed told = absurd is
-  of_stop (TooMany count) is same failed told = absurd is
+  of_stop (Wide i den) is same failed is_line = absurd is
+  of_stop (TooMany count) is same failed is_line = absurd is
 
   of_unanswered : (case : Case) (stop : Stop) → IsReadWhole whole_limits f i.before i.after i.ended case
       → IsUnanswered c f case.trace stop → o.after ≡ o.before → {line : List ℕ} → IsStopLine f stop line
       → Ending (status_of_stop stop) line
-  of_unanswered case (Faulty fault) read is same told = absurd is
-  of_unanswered case (FaultyLine fault) read is same told = absurd is
-  of_unanswered case Unread read is same told = absurd is
-  of_unanswered case Unwritten read is same told = absurd is
-  of_unanswered case NoMemory read is same told = of_stop NoMemory (read.bytes, read.read.moved) same (λ k. absurd (let h = k in cc)) told
-  of_unanswered case (Wide n den) read (cause, few) same told = told_as told (record {
+  of_unanswered case (Faulty fault) read is same is_line = absurd is
+  of_unanswered case (FaultyLine fault) read is same is_line = absurd is
+  of_unanswered case Unread read is same is_line = absurd is
+  of_unanswered case Unwritten read is same is_line = absurd is
+  of_unanswered case NoMemory read is same is_line = of_stop NoMemory (read.bytes, read.read.moved) same (λ k. absurd (let h = k in cc)) is_line
+  of_unanswered case (Wide n den) read (cause, few) same is_line = with_line is_line (record {
     bytes = read.bytes;
     text = [];
     moved = read.read.moved;
     grew = kept_all o.before o.after same;
     at_end = λ _. read.read.all;
-    is = settled (settled_wide n den (read.came_to_end, refl, record { tr = case.trace; trace = read.whole; cause = cause; few = few }));
+    is = by_itself (as_wide n den (read.came_to_end, refl, record { tr = case.trace; trace = read.whole; cause = cause; few = few }));
   })
-  of_unanswered case (TooMany count) read many same told = told_as told (record {
+  of_unanswered case (TooMany count) read many same is_line = with_line is_line (record {
     bytes = read.bytes;
     text = [];
     moved = read.read.moved;
     grew = kept_all o.before o.after same;
     at_end = λ _. read.read.all;
-    is = settled (settled_overfull count (read.came_to_end, (case.trace, read.whole, many)));
+    is = by_itself (as_overfull count (read.came_to_end, (case.trace, read.whole, many)));
   })
 
   of_end : (ending : Result Bool Stop) → IsWholeEnd c f i o ending → (ending ≡ Err Unread → HasFailed i)
       → (ending ≡ Err Unwritten → HasRefused o) → {line : List ℕ} → IsEndLine f ending line
       → Ending (status_of ending) line
-  of_end ending (answered case holds text read a (all_of_it w)) failed cut told = told_as told (of_answer case holds text read a w)
-  of_end ending (answered case holds text read a (a_part w)) failed cut told = told_as told (of_part case holds text read a w (cut refl))
-  of_end ending (unanswered case stop read is same) failed cut told = of_unanswered case stop read is same told
-  of_end ending (stopped stop is same) failed cut told = of_stop stop is same (λ k. failed (ap Err k)) told
+  of_end ending (answered case holds text read a (all_of_it w)) failed cut is_line = with_line is_line (of_answer case holds text read a w)
+  of_end ending (answered case holds text read a (a_part w)) failed cut is_line = with_line is_line (of_part case holds text read a w (cut refl))
+  of_end ending (unanswered case stop read is same) failed cut is_line = of_unanswered case stop read is same is_line
+  of_end ending (stopped stop is same) failed cut is_line = of_stop stop is same (λ k. failed (ap Err k)) is_line
 
   -- a request that is known
   pub known_run : (ending : Result Bool Stop) (status : ℕ) (line : List ℕ) → status ≡ status_of ending → IsWholeEnd c f i o ending
       → (ending ≡ Err Unread → HasFailed i) → (ending ≡ Err Unwritten → HasRefused o)
       → (ending ≢ Err NoMemory → IsAskedOnce i) → IsEndLine f ending line → IsSaid e.before e.after e.faults e.faults_after line → IsRun words i o e status
-  known_run ending status line same end failed cut once told said =
-      let x = of_end ending end failed cut told in
+  known_run ending status line same end failed cut once is_line said =
+      let x = of_end ending end failed cut is_line in
       subst (λ s. IsRun words i o e s) (sym same) (record {
         bytes = x.bytes;
         text = x.text;

@@ -13,7 +13,7 @@ use Rattle.session_mux.specs.Taking.{fault_of}
 use Rattle.workbench.specs.Requests.{Request, no_form, has_input, Stream, stream, word_of_stream, AreFor, Asks}
 use Rattle.workbench.specs.Owed.{Owes, OwesByThen}
 use Rattle.workbench.specs.Ended.{HasFault, IsPrompt, IsAnswered, IsWide, faulty, answered, wide}
-use Rattle.workbench.specs.Running.{IsBegun, IsTimely, IsEnd, settled, unread, unwritten, no_memory, asked}
+use Rattle.workbench.specs.Running.{IsBegun, IsTimely, IsEnd, by_itself, unread, unwritten, no_memory, asked}
 use Rattle.workbench.specs.Saying.{IsSaid}
 use Rattle.workbench.specs.Sessions.{input_fault_text}
 use Rattle.workbench.specs.Wholes.{status_of_truth, status_of, IsEndLine, EndsSoundly}
@@ -93,7 +93,7 @@ module _ {Stands : List ℕ → List ℕ → Type 0} {q : Request} {before now h
     grew = subst (λ x. Appends x o.after p.text) (sym h) (subst (λ x. Appends held x p.text) (sym a) p.grew);
     at_end = λ t. absurd (false≢true (sym goes_on ∙ t));
     is = unread p.is.input goes_on failed p.is.sound p.is.owed;
-    told = refl;
+    is_line = refl;
     left = tt;
   }
 
@@ -122,7 +122,7 @@ module _ {Stands : List ℕ → List ℕ → Type 0} {q : Request} {before now h
 
       with_end : (line : List ℕ) (stop : Stop) → IsEnd q i o (p.bytes ++ piece) (p.text ++ grown) (status_of (Err stop)) line
           → IsLineOf q (Err stop) line → IsStreamEnd Done q i o (Err stop)
-      with_end line stop is told = record {
+      with_end line stop is is_line = record {
         bytes = p.bytes ++ piece;
         text = p.text ++ grown;
         line = line;
@@ -130,7 +130,7 @@ module _ {Stands : List ℕ → List ℕ → Type 0} {q : Request} {before now h
         grew = all_grew;
         at_end = λ t. (at_end (sym same ∙ t)).1;
         is = is;
-        told = told;
+        is_line = is_line;
         left = tt;
       }
 
@@ -140,11 +140,11 @@ module _ {Stands : List ℕ → List ℕ → Type 0} {q : Request} {before now h
       by_stop : (stop : Stop) → IsPushStop q (p.bytes ++ piece) ended (p.text ++ grown) stop → (stop ≡ Unwritten → HasRefused o)
           → IsStreamEnd Done q i o (Err stop)
       by_stop (Faulty fault) (line, stored, first, owed) cut = with_end line (Faulty fault)
-          (settled (faulty (subst (λ (e : Bool). HasFault q (p.bytes ++ piece) e line) (sym same) first)
+          (by_itself (faulty (subst (λ (e : Bool). HasFault q (p.bytes ++ piece) e line) (sym same) first)
           (prompt piece i.ended small (λ t. (at_end (sym same ∙ t)).0))
           (subst (λ (e : Bool). Owes q (p.bytes ++ piece) e (p.text ++ grown)) (sym same) owed))) stored
       by_stop (FaultyLine fault) (first, owed) cut = with_end (input_fault_text (fault_of fault)) (FaultyLine fault)
-          (settled (faulty (subst (λ (e : Bool). HasFault q (p.bytes ++ piece) e (input_fault_text (fault_of fault))) (sym same) first)
+          (by_itself (faulty (subst (λ (e : Bool). HasFault q (p.bytes ++ piece) e (input_fault_text (fault_of fault))) (sym same) first)
           (prompt piece i.ended small (λ t. (at_end (sym same ∙ t)).0))
           (subst (λ (e : Bool). Owes q (p.bytes ++ piece) e (p.text ++ grown)) (sym same) owed))) refl
       by_stop Unread is cut = absurd is
@@ -152,7 +152,7 @@ module _ {Stands : List ℕ → List ℕ → Type 0} {q : Request} {before now h
       by_stop NoMemory (inl none) cut = with_end out_of_memory NoMemory (no_memory known (inl none) in_time) refl
       by_stop NoMemory (inr (rest, begun)) cut = with_end out_of_memory NoMemory (no_memory known (inr (rest, as_ended begun)) in_time) refl
       by_stop (Wide i den) is cut = with_end (wide_text i den) (Wide i den)
-          (settled (wide i den (subst (λ (e : Bool). IsWide q (p.bytes ++ piece) e i den (p.text ++ grown)) (sym same) is))) refl
+          (by_itself (wide i den (subst (λ (e : Bool). IsWide q (p.bytes ++ piece) e i den (p.text ++ grown)) (sym same) is))) refl
       by_stop (TooMany count) is cut = absurd is
 
   -- the stream came to its end
@@ -167,8 +167,8 @@ module _ {Stands : List ℕ → List ℕ → Type 0} {q : Request} {before now h
         (subst (Consumes before i.after) (append-nil p.bytes) (Consumes-trans before now i.after p.bytes [] p.moved moved));
     grew = subst (λ x. Appends x o.after (p.text ++ grown)) (sym h) (Appends-trans held held_now o.after p.text grown p.grew wrote);
     at_end = λ _. at_end;
-    is = settled (answered (subst (λ (e : Bool). IsAnswered q p.bytes e (status_of_truth holds) (p.text ++ grown)) (sym same) is));
-    told = refl;
+    is = by_itself (answered (subst (λ (e : Bool). IsAnswered q p.bytes e (status_of_truth holds) (p.text ++ grown)) (sym same) is));
+    is_line = refl;
     left = left;
   }
 
@@ -226,7 +226,7 @@ pub pushed_run : {Done : List ℕ → List ℕ → Type 0} (words : List (List �
     → Asks words q → has_input q ≡ true
     → (ending : Result Bool Stop) (status : ℕ) (line : List ℕ) → status ≡ status_of ending → (x : IsStreamEnd Done q i o ending) → IsAskedOnce i → line ≡ x.line
     → IsSaid e.before e.after e.faults e.faults_after line → IsLeft words x.bytes (status_of ending) old new → HasRun words i o e old new status
-pushed_run {Done} words q i o e old new ask input ending status line same x once told said left =
+pushed_run {Done} words q i o e old new ask input ending status line same x once is_line said left =
     subst (λ n. HasRun words i o e old new n) (sym same) (record {
       run = record {
         bytes = x.bytes;
@@ -234,13 +234,13 @@ pushed_run {Done} words q i o e old new ask input ending status line same x once
         line = x.line;
         moved = x.moved;
         grew = x.grew;
-        said = subst (λ l. IsSaid e.before e.after e.faults e.faults_after l) told said;
+        said = subst (λ l. IsSaid e.before e.after e.faults e.faults_after l) is_line said;
         ended = asked q ask (λ k. absurd (false≢true (sym k ∙ input))) (λ _ _. record { none_left = x.at_end; once = once }) x.is;
       };
       left = left;
     })
 
--- a stream of the formula f was pushed to its end, and its line was told
+-- a stream of the formula f was pushed to its end, and its line was said
 pub record HasStreamed (s : Stream) (f : Formula) (Done : Formula → List ℕ → List ℕ → Type 0) (i : Drained) (o e : Filled)
     (ending : Result Bool Stop) (status : ℕ) : Type 0 where
   -- the formula of what was pushed
@@ -248,9 +248,9 @@ pub record HasStreamed (s : Stream) (f : Formula) (Done : Formula → List ℕ �
   -- which is f
   pub pushed_is : pushed ≡ f
   -- the formula of the line
-  pub told : Formula
+  pub line_formula : Formula
   -- which is f
-  pub told_is : told ≡ f
+  pub line_formula_is : line_formula ≡ f
   -- how it came to its end
   pub came : IsStreamEnd (Done pushed) (stream s pushed) i o ending
   -- the source was asked for its end once
@@ -258,8 +258,8 @@ pub record HasStreamed (s : Stream) (f : Formula) (Done : Formula → List ℕ �
   -- the line
   pub line : List ℕ
   -- it is that of the ending
-  pub is_line : IsEndLine told ending line
-  -- and was told
+  pub is_line : IsEndLine line_formula ending line
+  -- and was said
   pub said : IsSaid e.before e.after e.faults e.faults_after line
   -- the status is that of the ending
   pub is_status : status ≡ status_of ending
@@ -274,21 +274,21 @@ module _ {s : Stream} {f : Formula} {Done : Formula → List ℕ → List ℕ �
   pub streamed_run : (words : List (List ℕ)) (old new : Kept) → AreFor words (word_of_stream s) f
       → IsLeft words streamed_end.bytes (status_of ending) old new → HasRun words i o e old new status
   streamed_run words old new ask left =
-      let own : IsEndLine f ending x.line = subst (λ (k : Formula). IsEndLine k ending x.line) x.told_is x.is_line in
+      let own : IsEndLine f ending x.line = subst (λ (k : Formula). IsEndLine k ending x.line) x.line_formula_is x.is_line in
       pushed_run words (stream s f) i o e old new ask refl ending status x.line x.is_status streamed_end x.once
-      (line_is s f ending streamed_end.line x.line streamed_end.told own) x.said left
+      (line_is s f ending streamed_end.line x.line streamed_end.is_line own) x.said left
 
 -- a fault that ends it is one
 pub stream_soundly : {Done : List ℕ → List ℕ → Type 0} (s : Stream) (f : Formula) (i : Drained) (o : Filled)
     (ending : Result Bool Stop) → IsStreamEnd Done (stream s f) i o ending → EndsSoundly f ending
-stream_soundly s f i o ending x = by_line ending x.told
+stream_soundly s f i o ending x = by_line ending x.is_line
   where
     by_line : (ending : Result Bool Stop) → IsLineOf (stream s f) ending x.line → EndsSoundly f ending
-    by_line (Ok holds) told = tt
+    by_line (Ok holds) is_line = tt
     by_line (Err (Faulty fault)) (y, is, e) = (y, is)
-    by_line (Err (FaultyLine fault)) told = tt
-    by_line (Err Unread) told = tt
-    by_line (Err Unwritten) told = tt
-    by_line (Err NoMemory) told = tt
-    by_line (Err (Wide i den)) told = tt
-    by_line (Err (TooMany count)) told = tt
+    by_line (Err (FaultyLine fault)) is_line = tt
+    by_line (Err Unread) is_line = tt
+    by_line (Err Unwritten) is_line = tt
+    by_line (Err NoMemory) is_line = tt
+    by_line (Err (Wide i den)) is_line = tt
+    by_line (Err (TooMany count)) is_line = tt

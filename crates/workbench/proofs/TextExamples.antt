@@ -10,7 +10,7 @@ use Rattle.stl_syntax.specs.Texts.{newline}
 use Rattle.stl_syntax.specs.Limits.{HasLargeConstant}
 use Rattle.stl_syntax.specs.Binding.{IsUnknown, IsUnitFault}
 use Rattle.workbench.specs.Generator.{rows_after}
-use Rattle.workbench.specs.Commands.{IsForm, judge, robust, of_formula}
+use Rattle.workbench.specs.Commands.{IsForm, on_formula, robust, of_formula}
 use Rattle.workbench.specs.Sessions.{MuxText, own, tag, IsTagged, followed}
 use Rattle.stl_syntax.specs.declared.scale.Scale.{Scale}
 use Rattle.stl_syntax.specs.declared.atom.Atom.{Atom}
@@ -113,7 +113,7 @@ one_row : rows_after 0 0 1 ≡ record { time = 0; values = negsuc 884560 ∷ neg
 one_row = refl
 
 -- words
-robust_words : IsForm (codes "robust" ∷ codes "-x > 0" ∷ []) (judge robust (codes "-x > 0"))
+robust_words : IsForm (codes "robust" ∷ codes "-x > 0" ∷ []) (on_formula robust (codes "-x > 0"))
 robust_words = of_formula robust
 
 -- a line of a session, its own bytes, and no lines at all

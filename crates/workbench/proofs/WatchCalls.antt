@@ -16,7 +16,7 @@ use Rattle.workbench.specs.Requests.{stream, verdicts}
 use Rattle.workbench.specs.Wholes.{status_of_truth}
 use Rattle.workbench.specs.Pushing.{IsPushed, IsStreamEnd}
 use Rattle.trace_stream.specs.Following.{IsTextOf, IsLive, IsAtRest, IsOver, IsDone, IsLiveStop}
-use Rattle.workbench.specs.Telling.{IsToldAs, no_room, told_whole, told_in_part}
+use Rattle.workbench.specs.MadeWritten.{IsMadeWritten, no_room, made_whole, made_in_part}
 use Rattle.workbench.specs.Watches.{Watched, Past, with_piece, with_text, IsText, WatchesRows, WatchesEnd, StandsFor}
 use Rattle.workbench.specs.Watches.{StandsForAll, HasPushed, HasFinished, HasFault, IsWatchFault, IsCall, IsFaultOf}
 use Rattle.workbench.specs.Watches.{phase_after}
@@ -101,10 +101,10 @@ is_watch_fault p ended grown (TooMany count) w s e = absurd s
 
 -- ---- calls
 
--- what came of a call that was told: all that was made was written, or it stopped
-abbrev pub IsTold : {T : Type 0} → Option (List ℕ) → Option (List ℕ) → Past → Bool → List ℕ → (T → Type 0) → Result T Stop → Type 0
-IsTold held held_after p ended made Good (Ok x) = Appends held held_after made × Good x
-IsTold held held_after p ended made Good (Err stop) = (grown : List ℕ) × Appends held held_after grown × IsStoppedBy (with_text p grown) ended grown stop
+-- what came of a call: all that was made was written, or it stopped
+abbrev pub HasWritten : {T : Type 0} → Option (List ℕ) → Option (List ℕ) → Past → Bool → List ℕ → (T → Type 0) → Result T Stop → Type 0
+HasWritten held held_after p ended made Good (Ok x) = Appends held held_after made × Good x
+HasWritten held held_after p ended made Good (Err stop) = (grown : List ℕ) × Appends held held_after grown × IsStoppedBy (with_text p grown) ended grown stop
 
 module _ {T : Type 0} (held held_after : Option (List ℕ)) (p : Past) (ended : Bool) (made : List ℕ) (Good : T → Type 0) where
   -- the text that was made is that of the rows
@@ -127,25 +127,25 @@ module _ {T : Type 0} (held held_after : Option (List ℕ)) (p : Past) (ended : 
   stopped_by (stream_stop.Wide i den) ne h = absurd h
 
   -- by what came of the bytes
-  pub told_call : (outcome : Result T StreamStop) (result : Result T Stop) → IsToldAs held held_after made outcome result
+  pub written_call : (outcome : Result T StreamStop) (result : Result T Stop) → IsMadeWritten held held_after made outcome result
       → MatchResult outcome (λ x. Good x × Made) (λ e. IsLiveStop verdicts p.limits p.formula ended p.bytes (p.text ++ made) e)
-      → IsTold held held_after p ended made Good result
-  told_call outcome result (no_room kept) h = ([], kept, refl)
-  told_call (Ok x) result (told_whole ne wrote) h = (wrote, h.0)
-  told_call (Err stop) result (told_whole ne wrote) h = (made, wrote, stopped_by stop (λ e. ne (ap Err e)) h)
-  told_call (Ok x) result (told_in_part ne part) h = (part.front, part.wrote, (part.back, part.missing, in_part part.front part.back part.parts h.1))
-  told_call (Err stop) result (told_in_part ne part) h =
+      → HasWritten held held_after p ended made Good result
+  written_call outcome result (no_room kept) h = ([], kept, refl)
+  written_call (Ok x) result (made_whole ne wrote) h = (wrote, h.0)
+  written_call (Err stop) result (made_whole ne wrote) h = (made, wrote, stopped_by stop (λ e. ne (ap Err e)) h)
+  written_call (Ok x) result (made_in_part ne part) h = (part.front, part.wrote, (part.back, part.missing, in_part part.front part.back part.parts h.1))
+  written_call (Err stop) result (made_in_part ne part) h =
       (part.front, part.wrote, (part.back, part.missing, in_part part.front part.back part.parts (fault_made stop (λ e. ne (ap Err e)) h)))
 
 -- a call that stopped
 pub call_stopped : (held held_after : Option (List ℕ)) (p : Past) (ended : Bool) (made : List ℕ) (T : Type 0) (Good : T → Type 0)
     (Fine : T → Past → Type 0) (stop : Stop) (w : WatchFault)
-    → IsTold held held_after p ended made Good (Err stop) → IsFaultOf stop w → IsCall held held_after p ended Fine (Err w)
+    → HasWritten held held_after p ended made Good (Err stop) → IsFaultOf stop w → IsCall held held_after p ended Fine (Err w)
 call_stopped held held_after p ended made T Good Fine stop w (grown, wrote, s) e = (grown, wrote, is_watch_fault (with_text p grown) ended grown stop w s e)
 
 -- a call that stopped did so for a fault of its kind
 pub fault_there : (held held_after : Option (List ℕ)) (p : Past) (ended : Bool) (made : List ℕ) (T : Type 0) (Good : T → Type 0) (stop : Stop)
-    → IsTold held held_after p ended made Good (Err stop) → (x : WatchFault) × IsFaultOf stop x
+    → HasWritten held held_after p ended made Good (Err stop) → (x : WatchFault) × IsFaultOf stop x
 fault_there held held_after p ended made T Good stop (grown, wrote, s) = has_fault (with_text p grown) ended grown stop s
 
 -- ---- a piece
@@ -183,22 +183,22 @@ module _ (old mid : Live Verdicts) (p : Past) (piece : List ℕ) (phase : Phase)
           empty = refl;
           live = live_after WatchesRows verdicts mid (p.bytes ++ piece) p.text k;
         };
-        told = (piece_fed (Ok tt) k).1;
+        text = (piece_fed (Ok tt) k).1;
         sound = λ x. subst (λ (l : Limits). ¬ IsInputFault l p.formula (p.bytes ++ piece) false x) (limits ∙ s.limits)
             (subst (λ (f : Formula). ¬ IsInputFault mid.rows.limits f (p.bytes ++ piece) false x) (formula ∙ s.formula)
             (calm_now WatchesRows verdicts mid (p.bytes ++ piece) p.text k x));
       })
 
--- what came of a piece, once it was told
-pub push_told : (held held_after : Option (List ℕ)) (old mid : Live Verdicts) (p : Past) (piece : List ℕ) (phase : Phase)
+-- what came of a piece, once its text was written
+pub push_written : (held held_after : Option (List ℕ)) (old mid : Live Verdicts) (p : Past) (piece : List ℕ) (phase : Phase)
     (s : StandsFor p (record { live = old; phase = phase }))
     (formula : mid.formula ≡ old.formula) (limits : mid.rows.limits ≡ old.rows.limits) (fed : Result (Unit {0}) StreamStop)
-    (result : Result (Unit {0}) Stop) → IsToldAs held held_after mid.text fed result
+    (result : Result (Unit {0}) Stop) → IsMadeWritten held held_after mid.text fed result
     → MatchResult fed (λ _. IsLive WatchesRows verdicts mid (p.bytes ++ piece) p.text)
     (λ e. IsLiveStop verdicts old.rows.limits old.formula false (p.bytes ++ piece) (p.text ++ mid.text) e)
-    → IsTold held held_after (with_piece p piece) false mid.text (λ _. IsLive WatchesRows verdicts mid (p.bytes ++ piece) p.text) result
-push_told held held_after old mid p piece phase s formula limits fed result told taken =
-    told_call held held_after (with_piece p piece) false mid.text (λ _. IsLive WatchesRows verdicts mid (p.bytes ++ piece) p.text) fed result told
+    → HasWritten held held_after (with_piece p piece) false mid.text (λ _. IsLive WatchesRows verdicts mid (p.bytes ++ piece) p.text) result
+push_written held held_after old mid p piece phase s formula limits fed result written taken =
+    written_call held held_after (with_piece p piece) false mid.text (λ _. IsLive WatchesRows verdicts mid (p.bytes ++ piece) p.text) fed result written
     (piece_fed old mid p piece phase s formula limits fed taken)
 
 -- ---- the end
@@ -247,15 +247,15 @@ module _ (old mid : Live Verdicts) (p : Past) (phase : Phase) (s : StandsFor p (
         truth = truth_of holds p.formula k.case.trace (k.complete.verdict p.formula k.fits);
       })
 
--- what came of the end, once it was told
-pub end_told : (held held_after : Option (List ℕ)) (old mid : Live Verdicts) (p : Past) (phase : Phase)
+-- what came of the end, once its text was written
+pub end_written : (held held_after : Option (List ℕ)) (old mid : Live Verdicts) (p : Past) (phase : Phase)
     (s : StandsFor p (record { live = old; phase = phase })) (formula : mid.formula ≡ old.formula)
-    (finished : Result Bool StreamStop) (result : Result Bool Stop) → IsToldAs held held_after mid.text finished result
+    (finished : Result Bool StreamStop) (result : Result Bool Stop) → IsMadeWritten held held_after mid.text finished result
     → MatchResult finished (IsOver WatchesEnd verdicts old.rows.limits old.formula mid p.bytes (p.text ++ mid.text))
     (λ e. IsLiveStop verdicts old.rows.limits old.formula true p.bytes (p.text ++ mid.text) e)
-    → IsTold held held_after p true mid.text (IsOver WatchesEnd verdicts p.limits p.formula mid p.bytes (p.text ++ mid.text)) result
-end_told held held_after old mid p phase s formula finished result told over =
-    told_call held held_after p true mid.text (IsOver WatchesEnd verdicts p.limits p.formula mid p.bytes (p.text ++ mid.text)) finished result told
+    → HasWritten held held_after p true mid.text (IsOver WatchesEnd verdicts p.limits p.formula mid p.bytes (p.text ++ mid.text)) result
+end_written held held_after old mid p phase s formula finished result written over =
+    written_call held held_after p true mid.text (IsOver WatchesEnd verdicts p.limits p.formula mid p.bytes (p.text ++ mid.text)) finished result written
     (end_fed old mid p phase s formula finished over)
 
 -- ---- a source
@@ -288,7 +288,7 @@ drained_all f live phase i o r e over x = record {
   grew = x.grew;
   at_end = x.at_end;
   is = x.is;
-  told = x.told;
+  is_line = x.is_line;
   left = by_result r over x.left;
 }
   where

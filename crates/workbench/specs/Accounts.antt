@@ -35,4 +35,4 @@ pub record IsRefutation (f : Formula) (tr : Trace) (status : ℕ) (text : List �
 pub record IsAccount (f : Formula) (bytes text : List ℕ) (status : ℕ) : Type 0 where
   pub tr : Trace
   pub trace : IsWhole whole_limits f bytes tr
-  pub told : ((status ≡ 0) × HoldsAtStart f tr × (text ≡ start_line true)) ⊎ IsRefutation f tr status text
+  pub says : ((status ≡ 0) × HoldsAtStart f tr × (text ≡ start_line true)) ⊎ IsRefutation f tr status text

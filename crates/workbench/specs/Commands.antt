@@ -15,25 +15,25 @@ pub data Verb : Type 0 where
   rwatch : Verb
 
 -- the word of a command
-abbrev pub judge_word : Verb → List ℕ
-judge_word check = codes "check"
-judge_word watch = codes "watch"
-judge_word robust = codes "robust"
-judge_word explain = codes "explain"
-judge_word json = codes "json"
-judge_word table = codes "table"
-judge_word early = codes "early"
-judge_word mux = codes "mux"
-judge_word rwatch = codes "rwatch"
+abbrev pub verb_word : Verb → List ℕ
+verb_word check = codes "check"
+verb_word watch = codes "watch"
+verb_word robust = codes "robust"
+verb_word explain = codes "explain"
+verb_word json = codes "json"
+verb_word table = codes "table"
+verb_word early = codes "early"
+verb_word mux = codes "mux"
+verb_word rwatch = codes "rwatch"
 
 -- a formula to be judged by a command, or a number and how many rows to generate
 pub data Form : Type 0 where
-  judge : Verb → List ℕ → Form
+  on_formula : Verb → List ℕ → Form
   generate : ℕ → ℕ → Form
 
 -- the words, each with what it asks for
 pub data IsForm : List (List ℕ) → Form → Type 0 where
-  of_formula : {formula : List ℕ} (j : Verb) → IsForm (judge_word j ∷ formula ∷ []) (judge j formula)
+  of_formula : {formula : List ℕ} (j : Verb) → IsForm (verb_word j ∷ formula ∷ []) (on_formula j formula)
   gen : (c d : ℕ) (digits rows : List ℕ) → all is_digit (c ∷ digits) ≡ true → decimal_value 0 (c ∷ digits) < 2 ^ 64
       → all is_digit (d ∷ rows) ≡ true → 1 ≤ decimal_value 0 (d ∷ rows) → decimal_value 0 (d ∷ rows) ≤ 200000
       → IsForm (codes "gen" ∷ (c ∷ digits) ∷ (d ∷ rows) ∷ []) (generate (decimal_value 0 (c ∷ digits)) (decimal_value 0 (d ∷ rows)))

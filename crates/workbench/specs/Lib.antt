@@ -9,7 +9,7 @@ pub mod Answers
 pub mod FromSource
 pub mod Saying
 pub mod Stopping
-pub mod Telling
+pub mod MadeWritten
 pub mod Requests
 pub mod Owed
 pub mod Ended

@@ -19,13 +19,13 @@ abbrev pub outcome_of_input : Result (Unit {0}) InputStop → Result (Unit {0}) 
 outcome_of_input (Ok x) = Ok x
 outcome_of_input (Err stop) = Err (stop_of_input stop)
 
--- what came of the bytes was told: the text that was made was written, unless memory was wanting, or the sink failed in it
-pub data IsInputTold (held held_after : Option (List ℕ)) (text : List ℕ) : Result (Unit {0}) InputStop → Result (Unit {0}) Stop → Type 0 where
-  no_room : Appends held held_after [] → IsInputTold held held_after text (Err input.NoMemory) (Err NoMemory)
-  told_whole : {outcome : Result (Unit {0}) InputStop} → outcome ≢ Err input.NoMemory → Appends held held_after text
-      → IsInputTold held held_after text outcome (outcome_of_input outcome)
-  told_in_part : {outcome : Result (Unit {0}) InputStop} → outcome ≢ Err input.NoMemory → IsPartWritten held held_after text
-      → IsInputTold held held_after text outcome (Err Unwritten)
+-- what came of the bytes: the text that was made was written, unless memory was wanting, or the sink failed in it
+pub data IsInputWritten (held held_after : Option (List ℕ)) (text : List ℕ) : Result (Unit {0}) InputStop → Result (Unit {0}) Stop → Type 0 where
+  no_room : Appends held held_after [] → IsInputWritten held held_after text (Err input.NoMemory) (Err NoMemory)
+  made_whole : {outcome : Result (Unit {0}) InputStop} → outcome ≢ Err input.NoMemory → Appends held held_after text
+      → IsInputWritten held held_after text outcome (outcome_of_input outcome)
+  made_in_part : {outcome : Result (Unit {0}) InputStop} → outcome ≢ Err input.NoMemory → IsPartWritten held held_after text
+      → IsInputWritten held held_after text outcome (Err Unwritten)
 
 -- the input took these bytes, and all the text that it made was written
 pub record IsManyAtRest (m : Many) (bytes text : List ℕ) : Type 0 where

@@ -117,7 +117,7 @@ pub record IsMessage (line message : List ℕ) (before after : ℕ) : Type 0 whe
   pub complete : (¬ Rose before after) → rest ≡ []
 
 -- what was written to the error stream is the status' line, or its first part where a fault was counted
-abbrev pub IsToldRightly : List (List ℕ) → Option (List ℕ) → Option (List ℕ) → Bool → Option (List ℕ) → Option (List ℕ) → ℕ → ℕ → ℕ → Type 0
-IsToldRightly words left left_after ended told told_after faults faults_after status =
-    (message : List ℕ) → Got told told_after message
+abbrev pub IsSaidRightly : List (List ℕ) → Option (List ℕ) → Option (List ℕ) → Bool → Option (List ℕ) → Option (List ℕ) → ℕ → ℕ → ℕ → Type 0
+IsSaidRightly words left left_after ended said said_after faults faults_after status =
+    (message : List ℕ) → Got said said_after message
     → (line : List ℕ) × IsErrLine words left left_after ended status line × IsMessage line message faults faults_after

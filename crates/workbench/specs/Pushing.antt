@@ -25,7 +25,7 @@ pub record IsPushed (Stands : List ℕ → List ℕ → Type 0) (request : Reque
   pub timely : (front back : List ℕ) → bytes ≡ front ++ back → (short more : List ℕ) × OwesByThen request front short × (text ≡ short ++ more)
   pub few : length bytes < 9223372036854775808
 
--- the stored fault of a trace for the request's formula is told by this line
+-- the stored fault of a trace for the request's formula is said by this line
 abbrev pub IsFaultLineOf : Request → TraceFault → List ℕ → Type 0
 IsFaultLineOf (stream s f) fault line = (x : Fault) × IsFault f fault x × (line ≡ fault_text x)
 IsFaultLineOf request fault line = ⊥
@@ -71,5 +71,5 @@ pub record IsStreamEnd (Done : List ℕ → List ℕ → Type 0) (request : Requ
   pub grew : Appends o.before o.after text
   pub at_end : i.ended ≡ true → IsAtEnd i.after
   pub is : IsEnd request i o bytes text (status_of result) line
-  pub told : IsLineOf request result line
+  pub is_line : IsLineOf request result line
   pub left : OnOk result (Done bytes text)

@@ -7,7 +7,7 @@ use Rattle.stl_grammar.specs.FormulaRefusals.{IsFormulaOf, IsFormulaFault}
 use Rattle.stl_grammar.specs.declared.fault.FormulaFault.{FormulaFault}
 use Rattle.report.specs.Report.{Command, check, robust, explain, json, table}
 pub use Rattle.trace_stream.specs.Streams.{Stream, verdicts, early, margins}
-use Rattle.workbench.specs.Commands.{Verb, Form, judge, generate, IsForm, judge_word}
+use Rattle.workbench.specs.Commands.{Verb, Form, on_formula, generate, IsForm, verb_word}
 use Rattle.workbench.specs.Commands as word
 use Rattle.workbench.specs.ErrTexts.{formula_fault_text, not_streamed_text}
 
@@ -51,14 +51,14 @@ IsAmong command (j ∷ commands) = (command ≡ j) ⊎ IsAmong command commands
 
 -- the forms that are built; words of another form are of none
 abbrev pub IsBuilt : Form → Type 0
-IsBuilt (judge command text) = IsAmong command built_commands
+IsBuilt (on_formula command text) = IsAmong command built_commands
 IsBuilt (generate number rows) = Unit {0}
 
 -- the forms of commands, with a bar between two
 abbrev pub forms_text : List Verb → List ℕ
 forms_text [] = []
-forms_text (j ∷ []) = judge_word j ++ codes " F"
-forms_text (j ∷ k ∷ commands) = judge_word j ++ codes " F | " ++ forms_text (k ∷ commands)
+forms_text (j ∷ []) = verb_word j ++ codes " F"
+forms_text (j ∷ k ∷ commands) = verb_word j ++ codes " F | " ++ forms_text (k ∷ commands)
 
 -- the usage line, which names the forms that are built
 abbrev pub usage_line : List ℕ
@@ -75,7 +75,7 @@ AreNone words = (form : Form) → ¬ IsAsked words form
 
 -- the words are of no form that has a formula
 abbrev pub AreOfNoFormula : List (List ℕ) → Type 0
-AreOfNoFormula words = (command : Verb) (text : List ℕ) → ¬ IsAsked words (judge command text)
+AreOfNoFormula words = (command : Verb) (text : List ℕ) → ¬ IsAsked words (on_formula command text)
 
 -- the words ask for a trace to be generated
 abbrev pub AskToGenerate : List (List ℕ) → Type 0
@@ -98,7 +98,7 @@ IsRefusal command text line =
 -- the words are of the command's form, with the text of this formula, which the command serves
 pub record AreFor (words : List (List ℕ)) (command : Verb) (f : Formula) : Type 0 where
   pub text : List ℕ
-  pub form : IsAsked words (judge command text)
+  pub form : IsAsked words (on_formula command text)
   pub is : IsFormulaOf text f
   pub served : (i : ℕ) → ¬ IsUnserved command f i
 
@@ -106,7 +106,7 @@ pub record AreFor (words : List (List ℕ)) (command : Verb) (f : Formula) : Typ
 pub record AreRefused (words : List (List ℕ)) (line : List ℕ) : Type 0 where
   pub command : Verb
   pub text : List ℕ
-  pub form : IsAsked words (judge command text)
+  pub form : IsAsked words (on_formula command text)
   pub is : IsRefusal command text line
 
 -- the words ask for this
@@ -129,10 +129,10 @@ has_input (generated number rows) = false
 
 -- nothing is written before all is known
 abbrev pub is_held : Form → Bool
-is_held (judge word.watch text) = false
-is_held (judge word.early text) = false
-is_held (judge word.rwatch text) = false
-is_held (judge word.mux text) = false
+is_held (on_formula word.watch text) = false
+is_held (on_formula word.early text) = false
+is_held (on_formula word.rwatch text) = false
+is_held (on_formula word.mux text) = false
 is_held form = true
 
 -- the words ask for no stream

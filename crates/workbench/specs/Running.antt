@@ -30,7 +30,7 @@ IsTimely request bytes text =
 
 -- how a request ends: what was read, what was written, the status and the line
 pub data IsEnd (request : Request) (i : Drained) (o : Filled) (bytes text : List ℕ) : ℕ → List ℕ → Type 0 where
-  settled : {status : ℕ} {line : List ℕ} → EndsWith bytes i.ended request status line text → IsEnd request i o bytes text status line
+  by_itself : {status : ℕ} {line : List ℕ} → EndsWith bytes i.ended request status line text → IsEnd request i o bytes text status line
   unread : has_input request ≡ true → i.ended ≡ false → HasFailed i → ((line : List ℕ) → ¬ HasFault request bytes false line) → Owes request bytes false text
       → IsEnd request i o bytes text 5 read_fault
   unwritten : (rest : List ℕ) → rest ≢ [] → HasRefused o → IsBegun request bytes i.ended text rest → IsTimely request bytes text

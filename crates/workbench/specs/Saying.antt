@@ -5,6 +5,6 @@ use Rattle.io_edge.specs.Causes.{Rose}
 use Rattle.workbench.specs.Writing.{IsPartWritten}
 
 -- the line was written, or where the count of faults rose a part of it
-pub data IsSaid (told told_after : Option (List ℕ)) (faults faults_after : ℕ) : List ℕ → Type 0 where
-  whole : {line : List ℕ} → Appends told told_after line → IsSaid told told_after faults faults_after line
-  part : {line : List ℕ} → IsPartWritten told told_after line → Rose faults faults_after → IsSaid told told_after faults faults_after line
+pub data IsSaid (held held_after : Option (List ℕ)) (faults faults_after : ℕ) : List ℕ → Type 0 where
+  whole : {line : List ℕ} → Appends held held_after line → IsSaid held held_after faults faults_after line
+  part : {line : List ℕ} → IsPartWritten held held_after line → Rose faults faults_after → IsSaid held held_after faults faults_after line

@@ -69,7 +69,7 @@ pub record StandsForAll (p : Past) (holds : Bool) (w : Watched) : Type 0 where
 -- what was written is the stream text of the whole lines pushed so far, which have no fault
 pub record HasPushed (p : Past) (w : Watched) : Type 0 where
   pub stands : StandsFor p w
-  pub told : IsText p false
+  pub text : IsText p false
   pub sound : IsSound p.limits p.formula p.bytes false
 
 -- the bytes are those of a trace; what was written is its whole stream text, and this is the truth at its start

@@ -37,12 +37,12 @@ command_of Json = json
 command_of Table = table
 
 -- the command of a way to answer
-abbrev pub judge_of : Mode → Verb
-judge_of (Whole c) = word_of (command_of c)
-judge_of Watch = word.watch
-judge_of Early = word.early
-judge_of Mux = word.mux
-judge_of Margins = word.rwatch
+abbrev pub verb_of : Mode → Verb
+verb_of (Whole c) = word_of (command_of c)
+verb_of Watch = word.watch
+verb_of Early = word.early
+verb_of Mux = word.mux
+verb_of Margins = word.rwatch
 
 -- the answer of a command: what its status tells, and its whole text
 pub record IsAnswerOf (c : Command) (f : Formula) (tr : Trace) (holds : Bool) (text : List ℕ) : Type 0 where

@@ -4,7 +4,7 @@ ghost use Rattle.stl_syntax.specs.Formula.{Formula as Parsed};
 ghost use Rattle.stl_syntax.specs.SupInf.{truths};
 ghost use Rattle.atom_lines.specs.Binding.{IsBound};
 ghost use Rattle.trace_stream.specs.Cases.{IsCase};
-ghost use Rattle.workbench.specs.Answers.{IsJudged};
+ghost use Rattle.workbench.specs.Answers.{IsCheckAnswer};
 ghost use Rattle.workbench.specs.Answering.{IsRootOf, IsSignalText};
 
 use crate::signals::root_of;
@@ -52,10 +52,10 @@ fn answer_of(alloc: Global, scale: Scale, s: &Signal<Truth>) -> Result<Answer, M
 }
 
 /// Judges a trace that has a row by the formula that is bound to it.
-pub(crate) fn judge(alloc: Global, case: &Case) -> Result<Answer, Memory>
+pub(crate) fn answer_check(alloc: Global, case: &Case) -> Result<Answer, Memory>
     requires case { (f : Parsed) × IsCase f case.now }
     requires some { 0 < length case.now.trace.rows }
-    ensures { IfOk result (λ a. (f : Parsed) → IsCase f case.now → IsJudged f case.now.trace a.holds a.text) }
+    ensures { IfOk result (λ a. (f : Parsed) → IsCase f case.now → IsCheckAnswer f case.now.trace a.holds a.text) }
 {
     let scale = case.formula.scale();
     let signal = truth_of(alloc, case)?;

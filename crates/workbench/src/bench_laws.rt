@@ -14,16 +14,16 @@ ghost use Rattle.workbench.specs.Ended.{IsAnswered};
 /// Of what `mux` wrote in the end, the lines that begin with a tag and a space, answers to queries left out, are the text that the bytes
 /// of the tag's own lines get alone: the stream of their rows, and the line of their first fault.
 pub fn each_bench_hears_its_own_stream()
-    ensures { (text : List ℕ) (f : Formula) (bytes told : List ℕ) (status : ℕ) → IsFormulaOf text f → IsAnswered (sessions f) bytes true status told
+    ensures { (text : List ℕ) (f : Formula) (bytes said : List ℕ) (status : ℕ) → IsFormulaOf text f → IsAnswered (sessions f) bytes true status said
         → (seen : List Tagged) → AreTagged (lines true bytes) seen → (t : List ℕ) → is_among t (tags_after [] seen) ≡ true
-        → (alone : List ℕ) × Alone f (own seen t) true alone × (heard t told ≡ texts alone) }
+        → (alone : List ℕ) × Alone f (own seen t) true alone × (heard t said ≡ texts alone) }
 {}
 
 /// So two inputs with the same lines of a tag tell its bench the same, whatever lines of others come between.
 pub fn other_benches_change_nothing()
-    ensures { (text : List ℕ) (f : Formula) (bytes other told heard_there : List ℕ) (status ended : ℕ) → IsFormulaOf text f
-        → IsAnswered (sessions f) bytes true status told → IsAnswered (sessions f) other true ended heard_there
+    ensures { (text : List ℕ) (f : Formula) (bytes other said heard_there : List ℕ) (status ended : ℕ) → IsFormulaOf text f
+        → IsAnswered (sessions f) bytes true status said → IsAnswered (sessions f) other true ended heard_there
         → (seen others : List Tagged) → AreTagged (lines true bytes) seen → AreTagged (lines true other) others
         → (t : List ℕ) → is_among t (tags_after [] seen) ≡ true → is_among t (tags_after [] others) ≡ true → lines_of t seen ≡ lines_of t others
-        → heard t told ≡ heard t heard_there }
+        → heard t said ≡ heard t heard_there }
 {}

@@ -24,7 +24,7 @@ pub fn program<S: Source, K: Sink, E: Sink>(
         (λ ws. HasRun (map string_bytes ws.items) (drained S.left S.ended S.ends S.faults input.old input.new)
         (filled K.written K.faults out.old out.new) (filled E.written E.faults err.old err.new) kept.old kept.new result) }
 
-    // A device that failed is told.
+    // A device that failed is said.
     ensures read_due { result ≢ 5 → S.faults input.new ≡ S.faults input.old }
     ensures write_due { result ≢ 6 → K.faults out.new ≡ K.faults out.old }
 

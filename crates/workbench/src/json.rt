@@ -2,7 +2,7 @@
 ghost use Rattle.std.specs.Prelude.{◌≡◌, ◌<◌, length, MatchResult};
 ghost use Rattle.report.specs.Report.{json};
 ghost use Rattle.trace_stream.specs.Cases.{IsCase};
-ghost use Rattle.workbench.specs.Reasons.{truth_of as truth_told, items_of};
+ghost use Rattle.workbench.specs.Reasons.{truth_of as truth_explained, items_of};
 ghost use Rattle.workbench.specs.Wholes.{IsAnswerOf, IsUnanswered};
 
 use crate::answer::{Answer, truth_of};
@@ -18,8 +18,8 @@ use stl_syntax::{Formula, Items, Text};
 use trace_stream::Case;
 
 /// What an explanation says of the start, and its items.
-fn told(alloc: Global, explained: Explained) -> (bool, Items)
-    ensures truth { result.0 ≡ truth_told explained }
+fn truth_and_items(alloc: Global, explained: Explained) -> (bool, Items)
+    ensures truth { result.0 ≡ truth_explained explained }
     ensures items { result.1 ≡ items_of explained }
 {
     match explained {
@@ -55,7 +55,7 @@ pub(crate) fn give_report(alloc: Global, formula: &Formula, case: &Case) -> Resu
         Ok(truth) => truth,
         Err(_) => return Err(Stop::NoMemory),
     };
-    let (holds, items) = told(alloc, explained);
+    let (holds, items) = truth_and_items(alloc, explained);
     let mut text = Text::new(alloc);
     match put_json(alloc, &mut text, formula, &truth, &margins, &items, scale) {
         Ok(()) => Ok(Answer { holds, text }),

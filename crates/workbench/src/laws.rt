@@ -3,7 +3,7 @@ ghost use Rattle.std.specs.Prelude.{◌≡◌, ◌≢◌, ◌⊎◌, ◌≤◌, 
 ghost use Rattle.std.specs.Io.KnownBytes.{IsAtEnd};
 ghost use Rattle.io_edge.specs.Calls.{Drained, Filled, HasFailed, HasRefused};
 ghost use Rattle.workbench.specs.Promises.{IsBadRightly, IsBadWhereDue, IsRefusedRightly, IsRefusedWhereDue};
-ghost use Rattle.workbench.specs.Promises.{IsAnsweredWhereDue, IsAnsweredRightly, IsCutOffRightly, IsToldRightly};
+ghost use Rattle.workbench.specs.Promises.{IsAnsweredWhereDue, IsAnsweredRightly, IsCutOffRightly, IsSaidRightly};
 ghost use Rattle.stl_syntax.specs.Formula.{Formula};
 ghost use Rattle.report.specs.Report.{Command, robust, explain, json, table};
 ghost use Rattle.workbench.specs.Requests.{Request, Asks, AreHeld, AreNone, whole, has_input};
@@ -25,7 +25,7 @@ pub use crate::owing_laws::{
 };
 
 /// 2 comes exactly where the words are of no form that is built. Those of a command that holds the whole trace ask for no stream.
-pub fn words_of_no_form_are_told()
+pub fn words_of_no_form_get_the_usage()
     ensures words { (words : List (List ℕ)) (i : Drained) (o e : Filled) (status : ℕ) → IsRun words i o e status → status ≡ 2 → AreNone words }
     ensures words_due { (words : List (List ℕ)) (i : Drained) (o e : Filled) (status : ℕ) → IsRun words i o e status → AreNone words → status ≡ 2 }
     ensures held { (words : List (List ℕ)) (c : Command) (f : Formula) → Asks words (whole c f) → AreHeld words }
@@ -60,8 +60,8 @@ pub fn check_keeps_its_promises()
         → IsAnsweredRightly words i.before i.after o.before o.after status }
     ensures cut_off { (words : List (List ℕ)) (text : List ℕ) (i : Drained) (o e : Filled) (status : ℕ) → AskCheck words text → IsRun words i o e status
         → IsCutOffRightly words i.before i.after o.before o.after status }
-    ensures told { (words : List (List ℕ)) (text : List ℕ) (i : Drained) (o e : Filled) (status : ℕ) → AskCheck words text → IsRun words i o e status
-        → IsToldRightly words i.before i.after i.ended e.before e.after e.faults e.faults_after status }
+    ensures said { (words : List (List ℕ)) (text : List ℕ) (i : Drained) (o e : Filled) (status : ℕ) → AskCheck words text → IsRun words i o e status
+        → IsSaidRightly words i.before i.after i.ended e.before e.after e.faults e.faults_after status }
 {}
 
 /// What `robust` and `table` wrote with 0, and `json` with 0 or 1, has knots, with none to spare, that are the Sup-Inf value at each time
@@ -84,9 +84,9 @@ pub fn explanations_refute()
 {}
 
 /// Where the bytes that were read have a fault, a command that holds the whole trace ends with 4, or for want of memory.
-pub fn a_fault_is_told()
-    ensures { (c : Command) (f : Formula) (i : Drained) (o : Filled) (bytes text line told : List ℕ) (status : ℕ)
-        → IsEnd (whole c f) i o bytes text status told → HasFault (whole c f) bytes i.ended line → (status ≡ 4) ⊎ (status ≡ 7) }
+pub fn a_fault_is_named()
+    ensures { (c : Command) (f : Formula) (i : Drained) (o : Filled) (bytes text line said : List ℕ) (status : ℕ)
+        → IsEnd (whole c f) i o bytes text status said → HasFault (whole c f) bytes i.ended line → (status ≡ 4) ⊎ (status ≡ 7) }
 {}
 
 /// Where the bytes that were read have no fault and no device failed, every command with input ends with an answer, with 8 or 9, or

@@ -3,7 +3,7 @@ ghost use Rattle.std.specs.Prelude.{◌≡◌, ◌≢◌, ◌≤◌, OnOk, IsTru
 ghost use Rattle.io_edge.specs.Causes.{Rose};
 ghost use Rattle.trace_stream.specs.Following.{IsAtRest, IsDone};
 ghost use Rattle.workbench.specs.Requests.{stream};
-ghost use Rattle.workbench.specs.Telling.{IsToldAs};
+ghost use Rattle.workbench.specs.MadeWritten.{IsMadeWritten};
 
 use crate::fault::{Stop, outcome_from};
 use crate::output::write_all;
@@ -26,12 +26,12 @@ fn is_starved<T: Copy>(outcome: Result<T, StreamStop>) -> bool
 ///
 /// # Errors
 /// What came of the bytes, or the sink failed.
-pub(crate) fn tell<F: Follow, T: Copy, K: Sink>(
+pub(crate) fn write_made<F: Follow, T: Copy, K: Sink>(
     live: &mut Live<F>,
     outcome: Result<T, StreamStop>,
     out: &mut K,
 ) -> Result<T, Stop>
-    ensures told { IsToldAs (K.written out.old) (K.written out.new) live.old.text outcome result }
+    ensures written { IsMadeWritten (K.written out.old) (K.written out.new) live.old.text outcome result }
     ensures done { OnOk result (live.new ≡ record live.old { text = [] }) }
     ensures same { live.new.formula ≡ live.old.formula }
     ensures cause { result ≡ Err Stop.Unwritten → Rose (K.faults out.old) (K.faults out.new) }
@@ -59,11 +59,11 @@ impl<F: Follow> Push for Live<F> {
 
     fn push<K: Sink>(&mut self, piece: &[u8], out: &mut K) -> Result<(), Stop> {
         let fed = self.feed(piece);
-        tell(self, fed, out)
+        write_made(self, fed, out)
     }
 
     fn end<K: Sink>(&mut self, out: &mut K) -> Result<bool, Stop> {
         let finished = self.finish();
-        tell(self, finished, out)
+        write_made(self, finished, out)
     }
 }

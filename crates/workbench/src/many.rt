@@ -2,7 +2,7 @@
 ghost use Rattle.std.specs.Prelude.{◌≡◌, ◌≢◌, ◌≤◌, [], IfOk, OnOk, IsTrue, false, Err};
 ghost use Rattle.io_edge.specs.Causes.{Rose};
 ghost use Rattle.session_mux.specs.Taking.{HasAll};
-ghost use Rattle.workbench.specs.Many.{outcome_of_input, IsInputTold, IsManyAtRest};
+ghost use Rattle.workbench.specs.Many.{outcome_of_input, IsInputWritten, IsManyAtRest};
 ghost use Rattle.workbench.specs.Requests.{sessions};
 
 use crate::fault::Stop;
@@ -84,8 +84,12 @@ fn is_starved(outcome: Result<(), InputStop>) -> bool
 ///
 /// # Errors
 /// What came of the bytes, or the sink failed.
-fn tell<K: Sink>(input: &mut Input, outcome: Result<(), InputStop>, out: &mut K) -> Result<(), Stop>
-    ensures told { IsInputTold (K.written out.old) (K.written out.new) input.old.text outcome result }
+fn write_made<K: Sink>(
+    input: &mut Input,
+    outcome: Result<(), InputStop>,
+    out: &mut K,
+) -> Result<(), Stop>
+    ensures written { IsInputWritten (K.written out.old) (K.written out.new) input.old.text outcome result }
     ensures done { OnOk result (input.new ≡ record input.old { text = [] }) }
     ensures cause { result ≡ Err Stop.Unwritten → Rose (K.faults out.old) (K.faults out.new) }
     ensures still { result ≢ Err Stop.Unwritten → K.faults out.new ≡ K.faults out.old }
@@ -112,12 +116,12 @@ impl Push for Many {
 
     fn push<K: Sink>(&mut self, piece: &[u8], out: &mut K) -> Result<(), Stop> {
         let fed = self.input.feed(piece);
-        tell(&mut self.input, fed, out)
+        write_made(&mut self.input, fed, out)
     }
 
     fn end<K: Sink>(&mut self, out: &mut K) -> Result<bool, Stop> {
         let finished = self.input.finish();
-        match tell(&mut self.input, finished, out) {
+        match write_made(&mut self.input, finished, out) {
             Ok(()) => Ok(true),
             Err(stop) => Err(stop),
         }

@@ -1,9 +1,9 @@
 //! What the words ask for.
 ghost use Rattle.std.specs.Prelude.{◌≡◌, ◌≤◌, ℕ, List, map, string_bytes, MatchOption};
-ghost use Rattle.workbench.specs.Commands.{judge, generate, judge_word};
+ghost use Rattle.workbench.specs.Commands.{on_formula, generate, verb_word};
 ghost use Rattle.workbench.specs.Numerals.{IsNumberWord};
 ghost use Rattle.workbench.specs.Requests.{AreOfNoFormula, IsAsked};
-ghost use Rattle.workbench.specs.Wholes.{judge_of};
+ghost use Rattle.workbench.specs.Wholes.{verb_of};
 
 /// The commands that hold the whole trace.
 #[derive(Clone, Copy)]
@@ -41,8 +41,8 @@ pub(crate) struct Workload {
 
 /// What the word of a command asks for.
 fn named(word: &str) -> Option<Mode>
-    ensures { MatchOption result ((m : Mode) → word.now ≡ judge_word (judge_of m) → ⊥)
-        (λ m. word.now ≡ judge_word (judge_of m)) }
+    ensures { MatchOption result ((m : Mode) → word.now ≡ verb_word (verb_of m) → ⊥)
+        (λ m. word.now ≡ verb_word (verb_of m)) }
 {
     match word {
         "check" => Some(Mode::Whole(Command::Check)),
@@ -61,7 +61,7 @@ fn named(word: &str) -> Option<Mode>
 /// What the words ask for, exactly where they are of the form of a formula.
 pub(crate) fn asked(words: &[String]) -> Option<Task<'_>>
     ensures { MatchOption result (AreOfNoFormula (map string_bytes words.now))
-        (λ a. IsAsked (map string_bytes words.now) (judge (judge_of a.mode) a.text.now)) }
+        (λ a. IsAsked (map string_bytes words.now) (on_formula (verb_of a.mode) a.text.now)) }
 {
     match words {
         [form, formula] => match named(form.as_str()) {

@@ -9,13 +9,13 @@ ghost use Rattle.report.specs.Lines.{line_text};
 ghost use Rattle.workbench.specs.Made.{IsMade};
 ghost use Rattle.trace_stream.specs.Streams.{HasStream, margins};
 ghost use Rattle.workbench.specs.Requests.{AreHeld, AreFor, AskToGenerate, IsAsked};
-ghost use Rattle.workbench.specs.Commands.{judge};
+ghost use Rattle.workbench.specs.Commands.{on_formula};
 ghost use Rattle.workbench.specs.Commands as word;
 ghost use Rattle.workbench.specs.Keeping.{HasRun};
 ghost use Rattle.workbench.specs.Wholes.{command_of, IsAnswerOf, IsUnanswered, IsWrittenWith, IsWholeEnd, IsBadEnd, IsEndLine};
 ghost use Rattle.workbench.specs.Wholes.{IsStopLine, HasFaultFor, EndsSoundly, status_of, status_of_stop, status_of_fault};
 
-use crate::answer::{Answer, judge};
+use crate::answer::{Answer, answer_check};
 use crate::decided::early_of;
 use crate::early::Deciding;
 use crate::explain::give_reasons;
@@ -85,7 +85,7 @@ fn answer(alloc: Global, command: Command, formula: &Formula, case: &Case) -> Re
         (IsUnanswered (command_of command) formula.now case.now.trace) }
 {
     match command {
-        Command::Check => match judge(alloc, case) {
+        Command::Check => match answer_check(alloc, case) {
             Ok(answer) => Ok(answer),
             Err(_) => Err(Stop::NoMemory),
         },
@@ -144,7 +144,7 @@ fn formula_status(fault: FormulaFault) -> u8
     }
 }
 
-/// The status of a text that gives no formula; the reason is told.
+/// The status of a text that gives no formula; the reason is said.
 fn refuse<E: Sink>(err: &mut E, fault: FormulaFault) -> u8
     ensures ended { (text : List ℕ) → (fault ≡ FormulaFault.Memory) ⊎ IsFormulaFault text fault
         → (line : List ℕ) × IsBadEnd text result line × IsSaid (E.written err.old) (E.written err.new) (E.faults err.old) (E.faults err.new) line }
@@ -185,7 +185,7 @@ fn stop_status(stop: Stop) -> u8
     }
 }
 
-/// The status of an ending; a reason to stop is told.
+/// The status of an ending; a reason to stop is said.
 fn finish<E: Sink>(err: &mut E, formula: &Formula, ending: Result<bool, Stop>) -> u8
     requires { EndsSoundly formula.now ending }
     ensures status { result ≡ status_of ending }
@@ -240,7 +240,7 @@ fn by_row<S: Source, K: Sink, E: Sink>(
     status
 }
 
-/// Writes the summary of a generated trace; the reason why it could not is told.
+/// Writes the summary of a generated trace; the reason why it could not is said.
 fn generate<K: Sink, E: Sink>(alloc: Global, workload: Workload, out: &mut K, err: &mut E) -> u8
     requires some { 1 ≤ workload.rows }
     requires few { workload.rows ≤ 200000 }
@@ -265,7 +265,7 @@ fn generate<K: Sink, E: Sink>(alloc: Global, workload: Workload, out: &mut K, er
     }
 }
 
-/// Tells the verdict at the row that decides, reads on to the end, and leaves what decided.
+/// Writes the verdict at the row that decides, reads on to the end, and leaves what decided.
 fn decide<S: Source, K: Sink, E: Sink>(
     alloc: Global,
     formula: Formula,
@@ -337,7 +337,7 @@ fn by_line<S: Source, K: Sink, E: Sink>(
     status
 }
 
-/// Tells the margins as the rows come, and leaves the network that did so.
+/// Writes the margins as the rows come, and leaves the network that did so.
 fn measure_by_row<S: Source, K: Sink, E: Sink>(
     alloc: Global,
     formula: Formula,
@@ -374,7 +374,7 @@ fn measure_by_row<S: Source, K: Sink, E: Sink>(
     status
 }
 
-/// Tells the margins as the rows come, where they are streamed.
+/// Writes the margins as the rows come, where they are streamed.
 fn margins_of_rows<S: Source, K: Sink, E: Sink>(
     alloc: Global,
     formula: Formula,
@@ -383,7 +383,7 @@ fn margins_of_rows<S: Source, K: Sink, E: Sink>(
     err: &mut E,
     kept: &mut Kept,
 ) -> u8
-    ensures ran { (words : List (List ℕ)) (text : List ℕ) → IsAsked words (judge word.rwatch text) → IsFormulaOf text formula
+    ensures ran { (words : List (List ℕ)) (text : List ℕ) → IsAsked words (on_formula word.rwatch text) → IsFormulaOf text formula
         → HasRun words (drained S.left S.ended S.ends S.faults input.old input.new)
         (filled K.written K.faults out.old out.new) (filled E.written E.faults err.old err.new) kept.old kept.new result }
     ensures known { result ≢ 2 }
@@ -434,7 +434,7 @@ pub fn run<S: Source, K: Sink, E: Sink>(
     ensures ran { HasRun (map string_bytes words.now) (drained S.left S.ended S.ends S.faults input.old input.new)
         (filled K.written K.faults out.old out.new) (filled E.written E.faults err.old err.new) kept.old kept.new result }
 
-    // A device that failed is told.
+    // A device that failed is said.
     ensures read_due { result ≢ 5 → S.faults input.new ≡ S.faults input.old }
     ensures write_due { result ≢ 6 → K.faults out.new ≡ K.faults out.old }
 

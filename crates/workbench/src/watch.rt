@@ -10,7 +10,7 @@ ghost use Rattle.workbench.specs.Watches.{IsCall, Moves, IsLate, IsOpen, IsFault
 ghost use Rattle.workbench.specs.declared.watch.WatchFault.{WatchFault as Reason};
 
 use crate::fault::Stop;
-use crate::live::tell;
+use crate::live::write_made;
 use crate::stream::stream;
 use frac128::Memory;
 use io_edge::{Sink, Source};
@@ -160,7 +160,7 @@ impl Watch {
     {
         allow(self.phase)?;
         let fed = self.live.feed(piece);
-        match tell(&mut self.live, fed, out) {
+        match write_made(&mut self.live, fed, out) {
             Ok(()) => Ok(()),
             Err(stop) => Err(stopped(&mut self.phase, stop)),
         }
@@ -181,7 +181,7 @@ impl Watch {
     {
         allow(self.phase)?;
         let finished = self.live.finish();
-        match tell(&mut self.live, finished, out) {
+        match write_made(&mut self.live, finished, out) {
             Ok(holds) => {
                 self.phase = Phase::Ended;
                 Ok(holds)

@@ -16,7 +16,7 @@ margins_of-requires-clause-case c = (c.args.formula.now, c.requires.case)
 pub put_json-requires-clause-atoms : goal.put_json-requires-clause-atoms
 put_json-requires-clause-atoms c =
     let is = c.in-Ok.ensures in
-    subst (All (IsOfAtom c.args.formula.now)) (sym c.told-holds.ensures.items)
+    subst (All (IsOfAtom c.args.formula.now)) (sym c.truth_and_items-holds.ensures.items)
     (atoms_of_reasons c.args.formula.now c.args.case.now is.0 c.in-Ok.explained c.requires.case is.1)
 
 pub returns-in-Err : goal.returns-in-Err
@@ -44,8 +44,8 @@ returns-in-Ok-put_json c =
     let text_is : c.put_json.new.text ≡ w = e ∙ ap (λ o. o ++ w) c.new-text.ensures in
     let of : IsReportText case.formula.scale f c.in-Ok-truth_of.truth c.in-Ok-margins_of.margins (items_of c.in-Ok.explained) w =
     subst (λ s. IsReportText s f c.in-Ok-truth_of.truth c.in-Ok-margins_of.margins (items_of c.in-Ok.explained) w) c.scale-scale.ensures.scale
-    (subst (λ items. IsReportText c.scale-scale.result f c.in-Ok-truth_of.truth c.in-Ok-margins_of.margins items w) c.told-holds.ensures.items report) in
-    subst (λ h. IsAnswerOf json f case.trace h c.put_json.new.text) (sym c.told-holds.ensures.truth)
+    (subst (λ items. IsReportText c.scale-scale.result f c.in-Ok-truth_of.truth c.in-Ok-margins_of.margins items w) c.truth_and_items-holds.ensures.items report) in
+    subst (λ h. IsAnswerOf json f case.trace h c.put_json.new.text) (sym c.truth_and_items-holds.ensures.truth)
     (subst (IsAnswerOf json f case.trace (truth_of c.in-Ok.explained)) (sym text_is)
     (reported f case c.requires.case c.in-Ok-truth_of.truth c.in-Ok-margins_of.margins w c.in-Ok-truth_of.ensures
     c.in-Ok-margins_of.ensures.told is.0 c.in-Ok.explained is.1 c.len.ensures.well_formed of))

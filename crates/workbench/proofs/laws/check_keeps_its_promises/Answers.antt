@@ -1,5 +1,5 @@
 use Rattle.workbench.proofs.CheckPromises.{run_bound, run_form, run_bad, run_bad_due, run_refused, run_due, run_answer_due}
-use Rattle.workbench.proofs.CheckPromises.{run_read, run_write, run_all_read, run_answered, run_cut_off, run_told}
+use Rattle.workbench.proofs.CheckPromises.{run_read, run_write, run_all_read, run_answered, run_cut_off, run_said}
 use Rattle.workbench.proofs.laws.check_keeps_its_promises.Goals as goal
 
 pub returns-clause-status : goal.returns-clause-status
@@ -38,5 +38,5 @@ returns-clause-answered c = λ words text i o e status ask r. run_answered words
 pub returns-clause-cut_off : goal.returns-clause-cut_off
 returns-clause-cut_off c = λ words text i o e status ask r. run_cut_off words ask i o e r
 
-pub returns-clause-told : goal.returns-clause-told
-returns-clause-told c = λ words text i o e status ask r. run_told words ask i o e r
+pub returns-clause-said : goal.returns-clause-said
+returns-clause-said c = λ words text i o e status ask r. run_said words ask i o e r

@@ -1,7 +1,7 @@
 use Rattle.std.proofs.Common.{◌≡◌, List, [], ◌∷◌, length, map, get_or, arith, subst}
 use Rattle.std.specs.Prelude.{string_bytes}
-use Rattle.workbench.specs.Commands.{judge_word}
-use Rattle.workbench.specs.Wholes.{judge_of}
+use Rattle.workbench.specs.Commands.{verb_word}
+use Rattle.workbench.specs.Wholes.{verb_of}
 use Rattle.workbench.proofs.RunEnds.{asked_word, none_asked}
 use Rattle.workbench.proofs.request.asked.Goals as goal
 
@@ -24,4 +24,4 @@ returns-in-None c =
     let n : length c.args.words.now ≡ 2 = omega arith in
     let e = two c.args.words.now c.form-item.result c.formula-item.result n c.form-item.is c.formula-item.is in
     none_asked (λ w text same. c.in-None.ensures w
-    (let s = subst (λ ws. map string_bytes ws ≡ judge_word (judge_of w) ∷ text ∷ []) e same in let f = c.as_str.ensures.value in cc))
+    (let s = subst (λ ws. map string_bytes ws ≡ verb_word (verb_of w) ∷ text ∷ []) e same in let f = c.as_str.ensures.value in cc))

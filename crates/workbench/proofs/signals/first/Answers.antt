@@ -1,5 +1,5 @@
 use Rattle.std.proofs.Common.{◌∙◌}
-use Rattle.workbench.proofs.Judged.{no_row, first_is}
+use Rattle.workbench.proofs.CaseSignals.{no_row, first_is}
 use Rattle.workbench.proofs.signals.first.Goals as goal
 
 pub returns : goal.returns

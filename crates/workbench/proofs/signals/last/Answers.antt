@@ -1,7 +1,7 @@
 use Rattle.std.proofs.Common.{◌≡◌, ◌≤◌, suc, ◌-◌, ◌∙◌, length, sym, subst, arith}
 use Rattle.stl_syntax.specs.Trace.{first_time}
 use Rattle.trace_stream.proofs.RowTimes.{first_to_last}
-use Rattle.workbench.proofs.Judged.{no_row, last_is}
+use Rattle.workbench.proofs.CaseSignals.{no_row, last_is}
 use Rattle.workbench.proofs.signals.last.Goals as goal
 
 pub returns-clause-last : goal.returns-clause-last

@@ -4,7 +4,7 @@ use Rattle.stl_syntax.specs.Trace.{first_time, last_time}
 use Rattle.stl_syntax.specs.declared.node.Node.TheVariants.{Atom as Leaf}
 use Rattle.pl_signal.proofs.Values.{some_is}
 use Rattle.workbench.specs.Answering.{setting_of}
-use Rattle.workbench.proofs.Judged.{atom_input, atom_tells, over_ends}
+use Rattle.workbench.proofs.CaseSignals.{atom_input, atom_tells, over_ends}
 use Rattle.workbench.proofs.signals.push_atom.Goals as goal
 
 pub give-requires : goal.give-requires

@@ -1,6 +1,6 @@
 use Rattle.std.proofs.Common.{◌+◌}
 use Rattle.workbench.specs.Answering.{setting_of}
-use Rattle.workbench.proofs.Judged.{over_same, stands_back, stands_over}
+use Rattle.workbench.proofs.CaseSignals.{over_same, stands_back, stands_over}
 use Rattle.workbench.proofs.signals.put_made.Goals as goal
 
 pub make-requires-clause-kind : goal.make-requires-clause-kind

@@ -2,7 +2,7 @@ use Rattle.std.proofs.Common.{◌≡◌, ◌-◌, ◌<◌, ◌∙◌, length, re
 use Rattle.stl_syntax.specs.Trace.{first_time, last_time}
 use Rattle.offline_eval.specs.Keeping.{TellsStack}
 use Rattle.workbench.specs.Answering.{setting_of}
-use Rattle.workbench.proofs.Judged.{root_told}
+use Rattle.workbench.proofs.CaseSignals.{root_told}
 use Rattle.workbench.proofs.signals.root_of.Goals as goal
 
 pub loop-i-init : goal.loop-i-init

@@ -4,8 +4,8 @@ use Rattle.workbench.specs.Wholes.{command_of, IsAnswerOf, IsUnanswered}
 use Rattle.workbench.proofs.RunEnds.{check_answer}
 use Rattle.workbench.proofs.top.answer.Goals as goal
 
-pub judge-requires-clause-case : goal.judge-requires-clause-case
-judge-requires-clause-case c = (c.args.formula.now, c.requires.case)
+pub answer_check-requires-clause-case : goal.answer_check-requires-clause-case
+answer_check-requires-clause-case c = (c.args.formula.now, c.requires.case)
 
 pub measure-requires-clause-case : goal.measure-requires-clause-case
 measure-requires-clause-case c = (c.args.formula.now, c.requires.case)

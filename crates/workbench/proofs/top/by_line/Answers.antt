@@ -15,22 +15,22 @@ finish-status-requires g c = many_soundly c.in-Ok.many.formula c.formula.result.
 
 pub returns-then-is_err-clause-ran : goal.returns-then-is_err-clause-ran
 returns-then-is_err-clause-ran g c = λ words ask.
-    let told = c.finish-status.ensures.said in
+    let reason = c.finish-status.ensures.said in
     let e = c.in-Ok.ensures.formula in
     let many = c.stream-ending.new.pusher in
     let stays = formula_stays many.formula c.in-Ok.many.formula c.stream-ending.ensures.same ∙ e in
     many_run words c.args.formula c.in-Ok.many.formula many.formula c.formula.result.now many.input.mux _ _ _ _ _ ask e stays (c.formula.ensures ∙ stays)
-    c.stream-ending.result c.finish-status.result told.0 c.finish-status.ensures.status c.stream-ending.ensures.ending
-    c.stream-ending.ensures.ends told.1 told.2
+    c.stream-ending.result c.finish-status.result reason.0 c.finish-status.ensures.status c.stream-ending.ensures.ending
+    c.stream-ending.ensures.ends reason.1 reason.2
     (many_fault c.stream-ending.result many.input.mux c.args.kept.now (sym c.is_err.ensures.value ∙ c.if-is_err.true))
 
 pub returns-clause-ran : goal.returns-clause-ran
 returns-clause-ran g c = λ words ask.
-    let told = c.finish-status.ensures.said in
+    let reason = c.finish-status.ensures.said in
     let e = c.in-Ok.ensures.formula in
     let many = c.stream-ending.new.pusher in
     let stays = formula_stays many.formula c.in-Ok.many.formula c.stream-ending.ensures.same ∙ e in
     many_run words c.args.formula c.in-Ok.many.formula many.formula c.formula.result.now many.input.mux _ _ _ _ _ ask e stays (c.formula.ensures ∙ stays)
-    c.stream-ending.result c.finish-status.result told.0 c.finish-status.ensures.status c.stream-ending.ensures.ending
-    c.stream-ending.ensures.ends told.1 told.2
+    c.stream-ending.result c.finish-status.result reason.0 c.finish-status.ensures.status c.stream-ending.ensures.ending
+    c.stream-ending.ensures.ends reason.1 reason.2
     (many_answer c.stream-ending.result many.input.mux c.into_mux.result c.args.kept.now c.into_mux.ensures (sym c.is_err.ensures.value ∙ c.if-is_err.false))

@@ -17,20 +17,20 @@ stream-ending-requires g c =
 
 pub returns-then-is_err-clause-ran : goal.returns-then-is_err-clause-ran
 returns-then-is_err-clause-ran g c = λ words ask.
-    let told = c.finish-status.ensures.said in
+    let reason = c.finish-status.ensures.said in
     let live = c.stream-ending.new.pusher in
     let same = same_measured live.formula c.in-Ok.live.formula c.stream-ending.ensures.same ∙ c.in-Ok.ensures.formula in
     streamed_stopped (λ _. IsDone (λ s k made. IsMargined true s k made) margins live) words c.args.kept.now ask
     (record {
       pushed = c.in-Ok.live.formula;
       pushed_is = c.in-Ok.ensures.formula;
-      told = c.formula.result.now;
-      told_is = c.formula.ensures ∙ same;
+      line_formula = c.formula.result.now;
+      line_formula_is = c.formula.ensures ∙ same;
       came = c.stream-ending.ensures.ending;
       once = c.stream-ending.ensures.ends;
-      line = told.0;
-      is_line = told.1;
-      said = told.2;
+      line = reason.0;
+      is_line = reason.1;
+      said = reason.2;
       is_status = c.finish-status.ensures.status;
     })
     (sym c.is_err.ensures.value ∙ c.if-is_err.true)
@@ -42,20 +42,20 @@ net_of-requires g c =
 
 pub returns-clause-ran : goal.returns-clause-ran
 returns-clause-ran g c = λ words ask.
-    let told = c.finish-status.ensures.said in
+    let reason = c.finish-status.ensures.said in
     let live = c.stream-ending.new.pusher in
     let same = same_measured live.formula c.in-Ok.live.formula c.stream-ending.ensures.same ∙ c.in-Ok.ensures.formula in
     margins_run (IsDone (λ s k made. IsMargined true s k made) margins live) words c.net_of.result c.args.kept.now _ ask
     (record {
       pushed = c.in-Ok.live.formula;
       pushed_is = c.in-Ok.ensures.formula;
-      told = c.formula.result.now;
-      told_is = c.formula.ensures ∙ same;
+      line_formula = c.formula.result.now;
+      line_formula_is = c.formula.ensures ∙ same;
       came = c.stream-ending.ensures.ending;
       once = c.stream-ending.ensures.ends;
-      line = told.0;
-      is_line = told.1;
-      said = told.2;
+      line = reason.0;
+      is_line = reason.1;
+      said = reason.2;
       is_status = c.finish-status.ensures.status;
     })
     (net_of_done c.args.formula live c.stream-ending.result c.net_of.result same c.net_of.ensures)

@@ -1,10 +1,10 @@
 use Rattle.report.specs.Lines.{line_text}
-use Rattle.workbench.proofs.Endings.{refused_told}
+use Rattle.workbench.proofs.Endings.{refused_said}
 use Rattle.workbench.proofs.top.refuse.Goals as goal
 
 pub returns-clause-ended : goal.returns-clause-ended
 returns-clause-ended g c = λ text h. (
   line_text c.formula_line.result,
-  refused_told text c.args.fault (line_text c.formula_line.result) c.formula_status.result c.formula_line.ensures c.formula_status.ensures.status h,
+  refused_said text c.args.fault (line_text c.formula_line.result) c.formula_status.result c.formula_line.ensures c.formula_status.ensures.status h,
   c.say.ensures.said,
 )

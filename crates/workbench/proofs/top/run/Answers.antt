@@ -1,9 +1,9 @@
 use Rattle.std.proofs.Common.{map, refl, sym, ◌∙◌, subst, inl, inr}
 use Rattle.std.specs.Prelude.{string_bytes}
 use Rattle.report.specs.Lines.{line_text}
-use Rattle.workbench.specs.Commands.{judge}
+use Rattle.workbench.specs.Commands.{on_formula}
 use Rattle.workbench.specs.Requests.{IsAsked}
-use Rattle.workbench.specs.Wholes.{command_of, judge_of}
+use Rattle.workbench.specs.Wholes.{command_of, verb_of}
 use Rattle.workbench.specs.declared.request.Mode.{Mode}
 use Rattle.workbench.proofs.RunEnds.{none_of_both, none_run, made_run, refused_run, known_run, ends_soundly, serves, not_words}
 use Rattle.workbench.proofs.Leaving.{none_left, made_left, refused_left, whole_left}
@@ -52,7 +52,7 @@ returns-in-Early-clause-ran g c =
     let text = c.in-Some-asked.asked.text.now in
     c.decide.ensures.ran words (record {
       text = text;
-      form = subst (λ (m : Mode). IsAsked words (judge (judge_of m) text)) c.in-Early.is c.in-Some-asked.ensures;
+      form = subst (λ (m : Mode). IsAsked words (on_formula (verb_of m) text)) c.in-Early.is c.in-Some-asked.ensures;
       is = c.in-Ok.ensures.ok;
       served = λ i h. h;
     })
@@ -70,7 +70,7 @@ returns-in-Mux-clause-ran g c =
     let text = c.in-Some-asked.asked.text.now in
     c.by_line.ensures.ran words (record {
       text = text;
-      form = subst (λ (m : Mode). IsAsked words (judge (judge_of m) text)) c.in-Mux.is c.in-Some-asked.ensures;
+      form = subst (λ (m : Mode). IsAsked words (on_formula (verb_of m) text)) c.in-Mux.is c.in-Some-asked.ensures;
       is = c.in-Ok.ensures.ok;
       served = λ i h. h;
     })
@@ -87,20 +87,20 @@ returns-in-Margins-clause-ran g c =
     let words = map string_bytes c.args.words.now in
     let text = c.in-Some-asked.asked.text.now in
     c.margins_of_rows.ensures.ran words text
-    (subst (λ (m : Mode). IsAsked words (judge (judge_of m) text)) c.in-Margins.is c.in-Some-asked.ensures) c.in-Ok.ensures.ok
+    (subst (λ (m : Mode). IsAsked words (on_formula (verb_of m) text)) c.in-Margins.is c.in-Some-asked.ensures) c.in-Ok.ensures.ok
 
 pub returns-in-Whole-clause-ran : goal.returns-in-Whole-clause-ran
 returns-in-Whole-clause-ran g c =
     let words = map string_bytes c.args.words.now in
     let text = c.in-Some-asked.asked.text.now in
-    let told = c.finish.ensures.said in
+    let reason = c.finish.ensures.said in
     let command = command_of c.in-Whole.command in
     let f = c.in-Ok.formula in
-    let form = subst (λ (m : Mode). IsAsked words (judge (judge_of m) text)) c.in-Whole.is c.in-Some-asked.ensures in
+    let form = subst (λ (m : Mode). IsAsked words (on_formula (verb_of m) text)) c.in-Whole.is c.in-Some-asked.ensures in
     whole_left command f _ _ (record { text = text; form = form; is = c.in-Ok.ensures.ok; served = serves command f }) refl
     (known_run words command f _ _ _ (record { text = text; form = form; is = c.in-Ok.ensures.ok; served = serves command f })
-    c.whole-ending.result c.finish.result told.0 c.finish.ensures.status c.whole-ending.ensures.ending c.whole-ending.ensures.read c.whole-ending.ensures.write
-    c.whole-ending.ensures.ends told.1 told.2)
+    c.whole-ending.result c.finish.result reason.0 c.finish.ensures.status c.whole-ending.ensures.ending c.whole-ending.ensures.read c.whole-ending.ensures.write
+    c.whole-ending.ensures.ends reason.1 reason.2)
 
 pub returns-in-Watch-clause-ran : goal.returns-in-Watch-clause-ran
 returns-in-Watch-clause-ran g c =
@@ -108,13 +108,13 @@ returns-in-Watch-clause-ran g c =
     let text = c.in-Some-asked.asked.text.now in
     c.by_row.ensures.ran words (record {
       text = text;
-      form = subst (λ (m : Mode). IsAsked words (judge (judge_of m) text)) c.in-Watch.is c.in-Some-asked.ensures;
+      form = subst (λ (m : Mode). IsAsked words (on_formula (verb_of m) text)) c.in-Watch.is c.in-Some-asked.ensures;
       is = c.in-Ok.ensures.ok;
       served = λ i h. h;
     })
 
 pub returns-in-Err-clause-ran : goal.returns-in-Err-clause-ran
 returns-in-Err-clause-ran g c =
-    let told = c.refuse.ensures.ended c.in-Some-asked.asked.text.now c.in-Err.ensures.fault in
-    refused_left (judge_of c.in-Some-asked.asked.mode) _ _ c.refuse.result c.in-Some-asked.ensures told.1 refl
-    (refused_run (judge_of c.in-Some-asked.asked.mode) _ _ _ c.refuse.result told.0 c.in-Some-asked.ensures told.1 refl refl told.2)
+    let reason = c.refuse.ensures.ended c.in-Some-asked.asked.text.now c.in-Err.ensures.fault in
+    refused_left (verb_of c.in-Some-asked.asked.mode) _ _ c.refuse.result c.in-Some-asked.ensures reason.1 refl
+    (refused_run (verb_of c.in-Some-asked.asked.mode) _ _ _ c.refuse.result reason.0 c.in-Some-asked.ensures reason.1 refl refl reason.2)

@@ -1,6 +1,6 @@
 use Rattle.workbench.proofs.NoForm.{two_is_none, none_is_two}
 use Rattle.workbench.proofs.CheckPromises.{all_held}
-use Rattle.workbench.proofs.laws.words_of_no_form_are_told.Goals as goal
+use Rattle.workbench.proofs.laws.words_of_no_form_get_the_usage.Goals as goal
 
 pub returns : goal.returns
 returns c = record {

@@ -35,7 +35,7 @@ use Rattle.report.specs.SignalVerdicts.{sign_of}
 use Rattle.report.proofs.SignalLaw.{truth_at, signal_describes}
 use Rattle.trace_stream.specs.declared.case.Case.{Case}
 use Rattle.trace_stream.specs.Cases.{IsCase}
-use Rattle.workbench.specs.Answers.{IsJudged}
+use Rattle.workbench.specs.Answers.{IsCheckAnswer}
 use Rattle.workbench.specs.Answering.{setting_of, IsRootOf, IsSignalText}
 
 -- a row for places behind the last one
@@ -143,6 +143,6 @@ module _ (c : Case) (f : Formula) (case : IsCase f c) (values : HasValues (root 
   )
 
   -- the lines of the root's truth are the answer of `check`
-  pub judged : IsJudged f c.trace holds text
+  pub is_check_answer : IsCheckAnswer f c.trace holds text
   unfolding Over
-  judged = let over = subst Over case.formula own in record { truth = over.0; written = over.1 }
+  is_check_answer = let over = subst Over case.formula own in record { truth = over.0; written = over.1 }
