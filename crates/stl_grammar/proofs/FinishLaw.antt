@@ -9,7 +9,7 @@ use Rattle.stl_syntax.specs.declared.scale.Scale.{Scale}
 use Rattle.stl_syntax.specs.declared.node.Node.{Node}
 use Rattle.stl_grammar.specs.Grammar.{IsFormula, FormulaText, time_digits, value_digits}
 use Rattle.stl_grammar.specs.FormulaRefusals.{IsFormulaOf, IsFormulaFault, IsLateFault, TokenFault}
-use Rattle.stl_grammar.specs.Parsing.{Parse, settled_drafts}
+use Rattle.stl_grammar.specs.Parsing.{Parse, folded_drafts}
 use Rattle.stl_grammar.specs.ReadText.{IsRead, IsParsed}
 use Rattle.stl_grammar.specs.Building.{AreNodes, IsBuilt, time_decimals, value_decimals}
 use Rattle.stl_grammar.specs.Drafts.{nodes_in}
@@ -18,7 +18,7 @@ use Rattle.stl_grammar.proofs.LawProofs.{one_formula}
 use Rattle.stl_grammar.proofs.ParserNodes.{taken_formula}
 use Rattle.stl_grammar.proofs.TokensTaken.{digits_small}
 use Rattle.stl_grammar.proofs.ReadNodes.{nodes_ready}
-use Rattle.stl_grammar.proofs.DigitsTold.{time_same, value_same}
+use Rattle.stl_grammar.proofs.DigitsSpelled.{time_same, value_same}
 use Rattle.stl_grammar.specs.declared.token.Token.{Token as Code}
 use Rattle.stl_grammar.specs.declared.fault.FormulaFault.{FormulaFault}
 use Rattle.stl_grammar.specs.declared.fault.FormulaFault.TheVariants.{Empty, TooLong, ConstantTooLarge, ReachTooLarge}
@@ -29,10 +29,10 @@ scale_of codes = record { time = time_decimals codes; value = value_decimals cod
 
 module _ (text : List ℕ) (p : Parse) (codes : List Code) (h : IsRead text p codes) where
   time_is : time_digits (reverse h.before) ≡ time_decimals codes
-  time_is = ap time_digits h.told ∙ time_same text codes
+  time_is = ap time_digits h.spelled ∙ time_same text codes
 
   value_is : value_digits (reverse h.before) ≡ value_decimals codes
-  value_is = ap value_digits h.told ∙ value_same text codes
+  value_is = ap value_digits h.spelled ∙ value_same text codes
 
   -- its scale is one
   pub read_scale : IsScale (scale_of codes)
@@ -41,21 +41,21 @@ module _ (text : List ℕ) (p : Parse) (codes : List Code) (h : IsRead text p co
       record { time = subst (λ n. n ≤ 6) time_is d.0; value = subst (λ n. n ≤ 6) value_is d.1 }
 
   nodes : List Node
-  nodes = nodes_in (scale_of codes) (settled_drafts 1 p.frames p.drafts)
+  nodes = nodes_in (scale_of codes) (folded_drafts 1 p.frames p.drafts)
 
   parsed : IsFormula (scale_of codes) 0 (reverse h.before) nodes
   unfolding nodes
   parsed = taken_formula text h.taken h.ended (scale_of codes)
 
   -- its drafts are nodes in it
-  pub read_nodes : AreNodes (nodes_in (scale_of codes) (settled_drafts 1 p.frames p.drafts))
+  pub read_nodes : AreNodes (nodes_in (scale_of codes) (folded_drafts 1 p.frames p.drafts))
   unfolding nodes
   read_nodes = nodes_ready text (scale_of codes) h.lexed h.free parsed (omega (arith, time_is))
 
   same_scale : (t v u w : ℕ) → t ≡ u → v ≡ w → ◌≡◌ {A = Scale} (record { time = t; value = v }) (record { time = u; value = w })
   same_scale t v u w e f = rw (e, f) refl
 
-  read_text : (f : Formula) → f.nodes ≡ nodes_in (scale_of codes) (settled_drafts 1 p.frames p.drafts) → f.scale ≡ scale_of codes → FormulaText text f
+  read_text : (f : Formula) → f.nodes ≡ nodes_in (scale_of codes) (folded_drafts 1 p.frames p.drafts) → f.scale ≡ scale_of codes → FormulaText text f
   unfolding nodes
   read_text f n s = record {
     tokens = reverse h.before;
@@ -66,12 +66,12 @@ module _ (text : List ℕ) (p : Parse) (codes : List Code) (h : IsRead text p co
   }
 
   -- a formula that was built of them is that of the text
-  pub built_parsed : (f : Formula) (ns : List Node) → ns ≡ nodes_in (scale_of codes) (settled_drafts 1 p.frames p.drafts)
+  pub built_parsed : (f : Formula) (ns : List Node) → ns ≡ nodes_in (scale_of codes) (folded_drafts 1 p.frames p.drafts)
       → IsBuilt (scale_of codes) ns f → IsParsed text f
   built_parsed f ns e b = record { parsed = read_text f (b.nodes ∙ e) b.scale; small = λ r t. b.small r (rw (← b.nodes) t) }
 
   -- where they are too large the text is refused late
-  pub late_fault : (r : FormulaFault) (ns : List Node) → ns ≡ nodes_in (scale_of codes) (settled_drafts 1 p.frames p.drafts)
+  pub late_fault : (r : FormulaFault) (ns : List Node) → ns ≡ nodes_in (scale_of codes) (folded_drafts 1 p.frames p.drafts)
       → IsTooLarge ConstantTooLarge ReachTooLarge ns r → IsLateFault text r
   late_fault r ns e t =
       (record { nodes = ns; scale = scale_of codes }, read_text (record { nodes = ns; scale = scale_of codes }) e refl, t)

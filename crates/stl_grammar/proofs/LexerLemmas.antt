@@ -10,7 +10,7 @@ use Rattle.stl_syntax.specs.Characters.{is_digit, begins_word, goes_on_word, all
 use Rattle.stl_grammar.specs.Tokens.{Token, word, number, relation, decimal_number, IsToken, a_word, an_integer, a_decimal}
 use Rattle.stl_syntax.specs.Names.{reserved, is_name}
 use Rattle.stl_grammar.specs.declared.decimal.Decimal.{Decimal}
-use Rattle.stl_grammar.specs.Spelling.{Tells, TellsNumber, IsNumber, IsLarge, spelling, IsLexeme, has_equal}
+use Rattle.stl_grammar.specs.Spelling.{Spells, SpellsNumber, IsNumber, IsLarge, spelling, IsLexeme, has_equal}
 use Rattle.stl_syntax.proofs.DecimalLemmas.{all-without_zeros}
 use Rattle.stl_grammar.specs.declared.token.Keyword.{Keyword}
 use Rattle.stl_grammar.specs.declared.token.Token.{Token as Code}
@@ -31,31 +31,31 @@ rest_is n xs = take_all (length xs - n) (drop n xs) (omega (arith, length-drop n
 
 -- a token of one byte
 pub one_byte : (text rest : List ℕ) (c : ℕ) (t : Token) (code : Code) → 0 < length rest → get_or rest 0 0 ≡ c → ((after : List ℕ) → IsToken (c ∷ []) after t)
-    → Tells text code t → IsLexeme text rest code 1
+    → Spells text code t → IsLexeme text rest code 1
 one_byte text [] c t code l e h k = absurd (omega (arith, l))
 one_byte text (d ∷ rest) c t code l e h k =
-    record { bytes = c ∷ []; after = rest; token = t; splits = ap (λ x. x ∷ rest) e; size = refl; reads = h rest; tells = k }
+    record { bytes = c ∷ []; after = rest; token = t; splits = ap (λ x. x ∷ rest) e; size = refl; reads = h rest; spells = k }
 
 -- a relation, with = after its first byte or without it
-abbrev pub TellsRelation : List ℕ → Rel → Rel → Code → ℕ → Type 0
-TellsRelation rest strict weak code len = MatchBool (has_equal rest) ((code ≡ Relation weak) × (len ≡ 2)) ((code ≡ Relation strict) × (len ≡ 1))
+abbrev pub SpellsRelation : List ℕ → Rel → Rel → Code → ℕ → Type 0
+SpellsRelation rest strict weak code len = MatchBool (has_equal rest) ((code ≡ Relation weak) × (len ≡ 2)) ((code ≡ Relation strict) × (len ≡ 1))
 
 weak_relation : (text more : List ℕ) (c : ℕ) (weak : Rel) (code : Code) (len : ℕ) → ((after : List ℕ) → IsToken (c ∷ 61 ∷ []) after (relation weak))
     → (code ≡ Relation weak) × (len ≡ 2) → IsLexeme text (c ∷ 61 ∷ more) code len
 weak_relation text more c weak code len h m =
-    rw (m.0, m.1) (record { bytes = c ∷ 61 ∷ []; after = more; token = relation weak; splits = refl; size = refl; reads = h more; tells = refl })
+    rw (m.0, m.1) (record { bytes = c ∷ 61 ∷ []; after = more; token = relation weak; splits = refl; size = refl; reads = h more; spells = refl })
 
 strict_relation : (text more : List ℕ) (c : ℕ) (strict : Rel) (code : Code) (len : ℕ) → StopsAt (λ d. d == 61) more
     → ((after : List ℕ) → StopsAt (λ d. d == 61) after → IsToken (c ∷ []) after (relation strict))
     → (code ≡ Relation strict) × (len ≡ 1) → IsLexeme text (c ∷ more) code len
 strict_relation text more c strict code len s h m =
-    rw (m.0, m.1) (record { bytes = c ∷ []; after = more; token = relation strict; splits = refl; size = refl; reads = h more s; tells = refl })
+    rw (m.0, m.1) (record { bytes = c ∷ []; after = more; token = relation strict; splits = refl; size = refl; reads = h more s; spells = refl })
 
 -- a token that may go on with `=`
 pub a_relation : (text rest : List ℕ) (c : ℕ) (strict weak : Rel) (code : Code) (len : ℕ) → 0 < length rest → get_or rest 0 0 ≡ c
     → ((after : List ℕ) → IsToken (c ∷ 61 ∷ []) after (relation weak))
     → ((after : List ℕ) → StopsAt (λ d. d == 61) after → IsToken (c ∷ []) after (relation strict))
-    → TellsRelation rest strict weak code len → IsLexeme text rest code len
+    → SpellsRelation rest strict weak code len → IsLexeme text rest code len
 a_relation text [] c strict weak code len l e h k m = absurd (omega (arith, l))
 a_relation text (b ∷ []) c strict weak code len l e h k m = rw e (strict_relation text [] c strict code len tt k m)
 a_relation text (b ∷ d ∷ more) c strict weak code len l e h k m = rw e (by_second (d == 61) refl m)
@@ -66,8 +66,8 @@ a_relation text (b ∷ d ∷ more) c strict weak code len l e h k m = rw e (by_s
     by_second false f m = strict_relation text (d ∷ more) c strict code len f k m
 
 -- the token of a number
-pub tells_number : (v n k : ℕ) (d : Decimal) → min v 4294967296 ≡ min n 4294967296 → TellsNumber v k d → IsNumber d (number n k)
-tells_number v n k d e h = by_size (nat_le d.decimals 6) h
+pub spells_number : (v n k : ℕ) (d : Decimal) → min v 4294967296 ≡ min n 4294967296 → SpellsNumber v k d → IsNumber d (number n k)
+spells_number v n k d e h = by_size (nat_le d.decimals 6) h
   where
     by_size : (q : Bool) → MatchBool q ((d.value ≡ v) × (d.decimals ≡ k) × (v < 4294967296)) (IsTrue (nat_lt 6 k || nat_lt 4294967295 v))
         → MatchBool q (number n k ≡ number d.value d.decimals) (IsLarge (number n k))
@@ -116,7 +116,7 @@ module _ (text rest : List ℕ) (w v : ℕ) (some : 0 < length rest) (first : is
   digits = omega (arith, length-take-le w rest within, front_some is_digit rest w some first stops)
 
   -- a number without decimals
-  pub whole_lexeme : (d : Decimal) → begins_decimals (drop w rest) ≡ false → TellsNumber v 0 d → IsLexeme text rest (Number d) w
+  pub whole_lexeme : (d : Decimal) → begins_decimals (drop w rest) ≡ false → SpellsNumber v 0 d → IsLexeme text rest (Number d) w
   whole_lexeme d b h =
       record {
         bytes = take w rest;
@@ -125,11 +125,11 @@ module _ (text rest : List ℕ) (w v : ℕ) (some : 0 < length rest) (first : is
         splits = sym (take-append-drop w rest);
         size = length-take-le w rest within;
         reads = whole_token (take w rest) (drop w rest) digits front stops b;
-        tells = tells_number v _ 0 d (rw append-nil value) h;
+        spells = spells_number v _ 0 d (rw append-nil value) h;
       }
 
   -- with l decimals, of which k are kept
-  pub decimal_lexeme : (l k u : ℕ) (d : Decimal) → begins_decimals (drop w rest) ≡ true → HasDecimals (drop (w + 1) rest) v l k u → TellsNumber u k d
+  pub decimal_lexeme : (l k u : ℕ) (d : Decimal) → begins_decimals (drop w rest) ≡ true → HasDecimals (drop (w + 1) rest) v l k u → SpellsNumber u k d
       → IsLexeme text rest (Number d) (w + 1 + l)
   decimal_lexeme l k u d b x h =
       let p = point_at (drop w rest) b in
@@ -152,7 +152,7 @@ module _ (text rest : List ℕ) (w v : ℕ) (some : 0 < length rest) (first : is
         size = length_two (take w rest) fraction w l (length-take-le w rest within) size;
         reads = decimal_token (take w rest) fraction (drop l (drop (w + 1) rest)) digits
             (omega (arith, size, front_some is_digit (drop (w + 1) rest) l more digit x.stops)) front x.digits x.stops;
-        tells = tells_number u _ _ d exact (rw kept h);
+        spells = spells_number u _ _ d exact (rw kept h);
       }
     where
       length_two : (xs ys : List ℕ) (a b : ℕ) → length xs ≡ a → length ys ≡ b → length (xs ++ 46 ∷ ys) ≡ a + 1 + b
@@ -162,13 +162,13 @@ module _ (text rest : List ℕ) (w v : ℕ) (some : 0 < length rest) (first : is
 
   -- the same of slices that are these
   pub decimal_lexeme_of : {decimals : List ℕ} (others : List ℕ) → others ≡ drop w rest → decimals ≡ drop 1 others → (l k u : ℕ) (d : Decimal)
-      → begins_decimals others ≡ true → HasDecimals decimals v l k u → TellsNumber u k d → IsLexeme text rest (Number d) (w + 1 + l)
+      → begins_decimals others ≡ true → HasDecimals decimals v l k u → SpellsNumber u k d → IsLexeme text rest (Number d) (w + 1 + l)
   decimal_lexeme_of others o i l k u d b x h =
       decimal_lexeme l k u d (rw o at b) (subst (λ ds. HasDecimals ds v l k u) (i ∙ ap (drop 1) o ∙ drop-drop 1 w rest) x) h
 
   -- so for slices
   pub whole_lexeme_of : (others : List ℕ) → others ≡ drop w rest → (d : Decimal) → begins_decimals others ≡ false
-      → TellsNumber v 0 d → IsLexeme text rest (Number d) w
+      → SpellsNumber v 0 d → IsLexeme text rest (Number d) w
   whole_lexeme_of others o d b h = whole_lexeme d (rw o at b) h
 
 -- decimals that are kept are digits
@@ -190,10 +190,10 @@ module _ (text : List ℕ) (at n : ℕ) (place : at < length text) (first : begi
   unfolding bytes
   size = omega (arith, length-take-le n more within)
 
-  read : (code : Code) → Tells text code (word bytes) → IsLexeme text (drop at text) code (1 + n)
+  read : (code : Code) → Spells text code (word bytes) → IsLexeme text (drop at text) code (1 + n)
   unfolding bytes
   read code h =
-      record { bytes = bytes; after = drop n more; token = word bytes; splits = splits; size = size; reads = a_word first front stops; tells = h }
+      record { bytes = bytes; after = drop n more; token = word bytes; splits = splits; size = size; reads = a_word first front stops; spells = h }
 
   cut : take (at + (1 + n) - at) (drop at text) ≡ bytes
   cut =

@@ -20,7 +20,7 @@ pub mod ParserReads
 pub mod ParserNodes
 pub mod BuildLemmas
 pub mod TokensTaken
-pub mod DigitsTold
+pub mod DigitsSpelled
 pub mod FinishLaw
 pub mod ReadNodes
 pub mod TokenNeat

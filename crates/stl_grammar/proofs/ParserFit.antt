@@ -2,7 +2,7 @@
 use Rattle.std.proofs.Common.{◌≡◌, ℕ, suc, ◌-◌, ◌<◌, List, [], ◌∷◌, length, refl, Bool, true, false, if◌then◌else◌, arith}
 use Rattle.std.specs.Prelude.{nat_le, nat_lt, Option, Some, None}
 use Rattle.std.proofs.lemmas.Bool.Decides.{nat_tests}
-use Rattle.stl_grammar.specs.Parsing.{Parse, parse_step, begin_operand, closed, settled_frames, rank, infix_rank, top_rank, back_frame}
+use Rattle.stl_grammar.specs.Parsing.{Parse, parse_step, begin_operand, closed, folded_frames, rank, infix_rank, top_rank, back_frame}
 use Rattle.stl_grammar.specs.Refusing.{is_beside, back_is_beside}
 use Rattle.stl_grammar.specs.declared.decimal.Decimal.{Decimal}
 use Rattle.stl_grammar.specs.declared.token.Keyword.TheVariants.{True, False, Not, And, Or, Implies, Until, Since, Eventually, Always, Once, Historically, Inf}
@@ -32,31 +32,31 @@ abbrev pub Holds : (Parse → Type 0) → Option Parse → Type 0
 Holds P None = Unit {0}
 Holds P (Some p) = P p
 
--- settling keeps frames in order
-pub settled_ordered : (r : ℕ) (frames : List Frame) → ordered frames ≡ true → ordered (settled_frames r frames) ≡ true
-settled_ordered r [] h = refl
-settled_ordered r (Opened ∷ frames) h = by_rank (nat_le r 0) (settled_ordered r frames h)
+-- folding keeps frames in order
+pub folded_ordered : (r : ℕ) (frames : List Frame) → ordered frames ≡ true → ordered (folded_frames r frames) ≡ true
+folded_ordered r [] h = refl
+folded_ordered r (Opened ∷ frames) h = by_rank (nat_le r 0) (folded_ordered r frames h)
   where
-    by_rank : (q : Bool) → ordered (settled_frames r frames) ≡ true → ordered (if q then settled_frames r frames else Opened ∷ frames) ≡ true
+    by_rank : (q : Bool) → ordered (folded_frames r frames) ≡ true → ordered (if q then folded_frames r frames else Opened ∷ frames) ≡ true
     by_rank true more = more
     by_rank false more = h
-settled_ordered r (Before o ∷ frames) h = by_rank (nat_le r 5) (settled_ordered r frames h)
+folded_ordered r (Before o ∷ frames) h = by_rank (nat_le r 5) (folded_ordered r frames h)
   where
-    by_rank : (q : Bool) → ordered (settled_frames r frames) ≡ true → ordered (if q then settled_frames r frames else Before o ∷ frames) ≡ true
+    by_rank : (q : Bool) → ordered (folded_frames r frames) ≡ true → ordered (if q then folded_frames r frames else Before o ∷ frames) ≡ true
     by_rank true more = more
     by_rank false more = h
-settled_ordered r (Between o left ∷ frames) h = by_rank (nat_le r (infix_rank o)) (settled_ordered r frames (order_next o left frames h).1)
+folded_ordered r (Between o left ∷ frames) h = by_rank (nat_le r (infix_rank o)) (folded_ordered r frames (order_next o left frames h).1)
   where
-    by_rank : (q : Bool) → ordered (settled_frames r frames) ≡ true → ordered (if q then settled_frames r frames else Between o left ∷ frames) ≡ true
+    by_rank : (q : Bool) → ordered (folded_frames r frames) ≡ true → ordered (if q then folded_frames r frames else Between o left ∷ frames) ≡ true
     by_rank true more = more
     by_rank false more = h
 
 -- and leaves only those of a lower rank
-pub settled_top : (r : ℕ) (frames : List Frame) → 0 < r → top_rank (settled_frames r frames) < r
-settled_top r [] s = s
-settled_top r (f ∷ frames) s = by_rank (nat_le r (rank f)) refl (settled_top r frames s)
+pub folded_top : (r : ℕ) (frames : List Frame) → 0 < r → top_rank (folded_frames r frames) < r
+folded_top r [] s = s
+folded_top r (f ∷ frames) s = by_rank (nat_le r (rank f)) refl (folded_top r frames s)
   where
-    by_rank : (q : Bool) → nat_le r (rank f) ≡ q → top_rank (settled_frames r frames) < r → top_rank (if q then settled_frames r frames else f ∷ frames) < r
+    by_rank : (q : Bool) → nat_le r (rank f) ≡ q → top_rank (folded_frames r frames) < r → top_rank (if q then folded_frames r frames else f ∷ frames) < r
     by_rank true e more = more
     by_rank false e more = grind (arith, nat_tests, e)
 
@@ -65,8 +65,8 @@ lower m n h = grind (arith, nat_tests, h)
 
 -- after a whole operand
 pub ended_fit : (drafts : List Draft) (frames : List Frame) (made : ℕ) → ordered frames ≡ true
-    → IsFit (record { place = End; frames = settled_frames 5 frames; drafts = drafts; terms = []; made = made })
-ended_fit drafts frames made h = record { order = settled_ordered 5 frames h; place = (refl, settled_top 5 frames (omega arith)) }
+    → IsFit (record { place = End; frames = folded_frames 5 frames; drafts = drafts; terms = []; made = made })
+ended_fit drafts frames made h = record { order = folded_ordered 5 frames h; place = (refl, folded_top 5 frames (omega arith)) }
 
 -- frames stay in order where an operand begins
 pub begin_fit : (text : List ℕ) (place : Place) (frames : List Frame) (drafts : List Draft) (made : ℕ) (t : Code) → ordered frames ≡ true
@@ -97,7 +97,7 @@ begin_fit text place frames drafts made Plus h = record { order = h; place = tt 
 begin_fit text place frames drafts made Minus h = record { order = h; place = tt }
 
 close_fit : (place : Place) (frames : List Frame) (drafts : List Draft) (made : ℕ) → ordered frames ≡ true
-    → Holds IsFit (closed (record { place = place; frames = settled_frames 1 frames; drafts = drafts; terms = []; made = made }))
+    → Holds IsFit (closed (record { place = place; frames = folded_frames 1 frames; drafts = drafts; terms = []; made = made }))
 close_fit place [] drafts made h = tt
 close_fit place (Opened ∷ frames) drafts made h = ended_fit _ frames made h
 close_fit place (Before o ∷ frames) drafts made h = close_fit place frames drafts made h
@@ -382,17 +382,17 @@ end_fit text frames drafts terms made (IsKeyword False) h = tt
 end_fit text frames drafts terms made (IsKeyword Not) h = tt
 end_fit text frames drafts terms made (IsKeyword And) h =
     record {
-      order = rw (lower (top_rank (settled_frames 3 frames)) 3 (settled_top 3 frames (omega arith)), settled_ordered 3 frames h.order) refl;
+      order = rw (lower (top_rank (folded_frames 3 frames)) 3 (folded_top 3 frames (omega arith)), folded_ordered 3 frames h.order) refl;
       place = h.place.0;
     }
 end_fit text frames drafts terms made (IsKeyword Or) h =
     record {
-      order = rw (lower (top_rank (settled_frames 2 frames)) 2 (settled_top 2 frames (omega arith)), settled_ordered 2 frames h.order) refl;
+      order = rw (lower (top_rank (folded_frames 2 frames)) 2 (folded_top 2 frames (omega arith)), folded_ordered 2 frames h.order) refl;
       place = h.place.0;
     }
 end_fit text frames drafts terms made (IsKeyword Implies) h =
     record {
-      order = rw (lower (top_rank (settled_frames 2 frames)) 2 (settled_top 2 frames (omega arith)), settled_ordered 2 frames h.order) refl;
+      order = rw (lower (top_rank (folded_frames 2 frames)) 2 (folded_top 2 frames (omega arith)), folded_ordered 2 frames h.order) refl;
       place = h.place.0;
     }
 end_fit text frames drafts terms made (IsKeyword Until) h = beside TUntil frames drafts terms made (nat_le 4 (top_rank frames)) refl refl h.place.0 h.order

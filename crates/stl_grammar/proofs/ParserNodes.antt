@@ -24,11 +24,11 @@ use Rattle.stl_grammar.specs.Grammar.IsPast.{nothing as since_nothing, bounded a
 use Rattle.stl_grammar.specs.Grammar.{IsFormula, IsDisjunct, IsConjunct, IsTimed, IsOperand, disjunct, implies}
 use Rattle.stl_grammar.specs.Grammar.{conjunct, or, timed, and, operand, until, since, not, eventually, always}
 use Rattle.stl_grammar.specs.Grammar.{once, historically, always_true, always_false, parens, atom}
-use Rattle.stl_grammar.specs.Spelling.{Tells}
+use Rattle.stl_grammar.specs.Spelling.{Spells}
 use Rattle.stl_grammar.specs.Taken.{Taken}
 use Rattle.stl_grammar.specs.Drafts.{ticks_of, past_low, past_high, past_low_in, past_high_in, one_in, two_in, nodes_in}
-use Rattle.stl_grammar.specs.Parsing.{Parse, infix_rank, rank, top_rank, node_of_frame, settled_drafts, settled_frames}
-use Rattle.stl_grammar.specs.Parsing.{settled, coefficient, signed, may_be_open, back, bounded_frame, back_frame, parse_step}
+use Rattle.stl_grammar.specs.Parsing.{Parse, infix_rank, rank, top_rank, node_of_frame, folded_drafts, folded_frames}
+use Rattle.stl_grammar.specs.Parsing.{folded, coefficient, signed, may_be_open, back, bounded_frame, back_frame, parse_step}
 use Rattle.stl_grammar.specs.Parsing.{between}
 use Rattle.stl_grammar.specs.Refusing.{bad_in}
 use Rattle.stl_grammar.specs.declared.decimal.Decimal.{Decimal}
@@ -61,37 +61,37 @@ use Rattle.stl_grammar.proofs.BuildLemmas.{nodes_in-append, length-nodes_in}
 use Rattle.stl_grammar.proofs.OneParse.{begins_bracket, operand_bracket, operand_length}
 use Rattle.stl_grammar.specs.FormulaRefusals.{MayEnd}
 use Rattle.stl_grammar.proofs.Rescaled.{rescaled}
-use Rattle.stl_grammar.proofs.ParserReads.{Reads, reads, taken_reads, reads_split, reads_none, keyword_told, relation_told}
-use Rattle.stl_grammar.proofs.ParserReads.{open_paren_told, close_paren_told, open_bracket_told, close_bracket_told}
-use Rattle.stl_grammar.proofs.ParserReads.{comma_told, star_told, plus_told, minus_told, stepped, stepped_number, stepped_name}
+use Rattle.stl_grammar.proofs.ParserReads.{Reads, reads, taken_reads, reads_split, reads_none, keyword_spelled, relation_spelled}
+use Rattle.stl_grammar.proofs.ParserReads.{open_paren_spelled, close_paren_spelled, open_bracket_spelled, close_bracket_spelled}
+use Rattle.stl_grammar.proofs.ParserReads.{comma_spelled, star_spelled, plus_spelled, minus_spelled, stepped, stepped_number, stepped_name}
 
 -- frames that bind less tightly stay
-frames_stay : (r : ℕ) (frames : List Frame) → top_rank frames < r → settled_frames r frames ≡ frames
+frames_stay : (r : ℕ) (frames : List Frame) → top_rank frames < r → folded_frames r frames ≡ frames
 frames_stay r [] l = refl
 frames_stay r (f ∷ frames) l = let e : nat_le r (rank f) ≡ false = grind (arith, nat_tests, l) in rw e refl
 
-drafts_stay : (r : ℕ) (frames : List Frame) (drafts : List Draft) → top_rank frames < r → settled_drafts r frames drafts ≡ drafts
+drafts_stay : (r : ℕ) (frames : List Frame) (drafts : List Draft) → top_rank frames < r → folded_drafts r frames drafts ≡ drafts
 drafts_stay r [] drafts l = refl
 drafts_stay r (f ∷ frames) drafts l = let e : nat_le r (rank f) ≡ false = grind (arith, nat_tests, l) in rw e refl
 
--- to settle what binds more tightly first changes nothing
-frames_twice : (r s : ℕ) (frames : List Frame) → r ≤ s → settled_frames r (settled_frames s frames) ≡ settled_frames r frames
+-- to fold what binds more tightly first changes nothing
+frames_twice : (r s : ℕ) (frames : List Frame) → r ≤ s → folded_frames r (folded_frames s frames) ≡ folded_frames r frames
 frames_twice r s [] l = refl
 frames_twice r s (f ∷ frames) l = split (nat_le s (rank f)) refl (frames_twice r s frames l)
   where
-    split : (b : Bool) → nat_le s (rank f) ≡ b → settled_frames r (settled_frames s frames) ≡ settled_frames r frames
-        → settled_frames r (settled_frames s (f ∷ frames)) ≡ settled_frames r (f ∷ frames)
+    split : (b : Bool) → nat_le s (rank f) ≡ b → folded_frames r (folded_frames s frames) ≡ folded_frames r frames
+        → folded_frames r (folded_frames s (f ∷ frames)) ≡ folded_frames r (f ∷ frames)
     split true e h = let g : nat_le r (rank f) ≡ true = grind (arith, nat_tests, l, e) in rw (e, g) h
     split false e h = rw e refl
 
 drafts_twice : (r s : ℕ) (frames : List Frame) (drafts : List Draft) → r ≤ s
-    → settled_drafts r (settled_frames s frames) (settled_drafts s frames drafts) ≡ settled_drafts r frames drafts
+    → folded_drafts r (folded_frames s frames) (folded_drafts s frames drafts) ≡ folded_drafts r frames drafts
 drafts_twice r s [] drafts l = refl
 drafts_twice r s (f ∷ frames) drafts l = split (nat_le s (rank f)) refl (λ x. drafts_twice r s frames x l)
   where
     split : (b : Bool) → nat_le s (rank f) ≡ b
-        → ((x : List Draft) → settled_drafts r (settled_frames s frames) (settled_drafts s frames x) ≡ settled_drafts r frames x)
-        → settled_drafts r (settled_frames s (f ∷ frames)) (settled_drafts s (f ∷ frames) drafts) ≡ settled_drafts r (f ∷ frames) drafts
+        → ((x : List Draft) → folded_drafts r (folded_frames s frames) (folded_drafts s frames x) ≡ folded_drafts r frames x)
+        → folded_drafts r (folded_frames s (f ∷ frames)) (folded_drafts s (f ∷ frames) drafts) ≡ folded_drafts r (f ∷ frames) drafts
     split true e h = let g : nat_le r (rank f) ≡ true = grind (arith, nat_tests, l, e) in rw (e, g) (h (drafts ++ node_of_frame f (length drafts - 1) ∷ []))
     split false e h = rw e refl
 
@@ -114,18 +114,18 @@ at place frames drafts terms made = record { place = place; frames = frames; dra
 record Ended (r : ℕ) (q : Parse) (frames : List Frame) (drafts : List Draft) : Type 0 where
   place : q.place ≡ End
   terms : q.terms ≡ []
-  frame : settled_frames r q.frames ≡ frames
-  draft : settled_drafts r q.frames q.drafts ≡ drafts
+  frame : folded_frames r q.frames ≡ frames
+  draft : folded_drafts r q.frames q.drafts ≡ drafts
 
--- it comes to them also where less tight ones are settled
+-- it comes to them also where less tight ones are folded
 ended_less : (r s : ℕ) (q : Parse) (frames : List Frame) (drafts : List Draft) → r ≤ s → Ended s q frames drafts
-    → Ended r q (settled_frames r frames) (settled_drafts r frames drafts)
+    → Ended r q (folded_frames r frames) (folded_drafts r frames drafts)
 ended_less r s q frames drafts l e = record {
   place = e.place;
   terms = e.terms;
-  frame = sym (frames_twice r s q.frames l) ∙ ap (λ z. settled_frames r z) e.frame;
+  frame = sym (frames_twice r s q.frames l) ∙ ap (λ z. folded_frames r z) e.frame;
   draft = sym (drafts_twice r s q.frames q.drafts l)
-      ∙ (ap (λ z. settled_drafts r z (settled_drafts s q.frames q.drafts)) e.frame ∙ ap (λ z. settled_drafts r frames z) e.draft);
+      ∙ (ap (λ z. folded_drafts r z (folded_drafts s q.frames q.drafts)) e.frame ∙ ap (λ z. folded_drafts r frames z) e.draft);
 }
 
 ended_stays : (r s : ℕ) (q : Parse) (frames : List Frame) (drafts : List Draft) → r ≤ s → top_rank frames < r
@@ -139,7 +139,7 @@ ended_stays r s q frames drafts l t e = let x = ended_less r s q frames drafts l
 
 -- an operand of these nodes has come to its end
 abbrev OperandEnds : Scale → List Node → List Frame → List Draft → Parse → Type 0
-OperandEnds s ns frames drafts q = (xs : List Draft) × (j : ℕ) × (nodes_in s xs ≡ ns) × (q ≡ settled 5 (at End frames (drafts ++ xs) [] j))
+OperandEnds s ns frames drafts q = (xs : List Draft) × (j : ℕ) × (nodes_in s xs ≡ ns) × (q ≡ folded 5 (at End frames (drafts ++ xs) [] j))
 
 -- a one-operand operator ends with its operand
 one_ends : (s : Scale) (k : ℕ) (ns : List Node) (frames : List Frame) (drafts : List Draft) (q : Parse) (o : Prefix) (x : Node) → length drafts ≡ k
@@ -150,7 +150,7 @@ one_ends s k ns frames drafts q o x e (xs, j, f, g) h =
       j,
       nodes_in-append s xs (d ∷ []) ∙ (ap (λ z. z ++ one_in s.time o (length (drafts ++ xs) - 1) ∷ []) f
           ∙ (ap (λ z. ns ++ one_in s.time o z ∷ []) (last_is s k drafts xs ns e f) ∙ ap (λ z. ns ++ z ∷ []) h)),
-      g ∙ ap (λ z. settled 5 (at End frames z [] j)) (append_assoc drafts xs (d ∷ [])),
+      g ∙ ap (λ z. folded 5 (at End frames z [] j)) (append_assoc drafts xs (d ∷ [])),
     )
 
 -- bounds
@@ -197,18 +197,18 @@ bad_skips : (of : Timed) (c : Code) → bad_in (Bound of) c ≡ false → bad_in
 bad_skips of (Number d) e = e
 bad_skips of _ e = refl
 
-told_bracket : (text : List ℕ) (c : Code) (t : Token) (ts : List Token) → Tells text c t → begins_bracket (t ∷ ts) ≡ false → is_bracket c ≡ false
+spelled_bracket : (text : List ℕ) (c : Code) (t : Token) (ts : List Token) → Spells text c t → begins_bracket (t ∷ ts) ≡ false → is_bracket c ≡ false
 unfolding is_bracket
-told_bracket text OpenBracket t ts h e = let x = rw h at e in absurd (cc)
-told_bracket text CloseBracket t ts h e = let x = rw h at e in absurd (cc)
-told_bracket text _ t ts h e = refl
+spelled_bracket text OpenBracket t ts h e = let x = rw h at e in absurd (cc)
+spelled_bracket text CloseBracket t ts h e = let x = rw h at e in absurd (cc)
+spelled_bracket text _ t ts h e = refl
 
 module _ (text : List ℕ) (frames : List Frame) (drafts : List Draft) (n : ℕ) where
   left_out : {q : Parse} (of : Timed) (b : Back) → back of ≡ Some b → (t : Token) (ts : List Token) → begins_bracket (t ∷ ts) ≡ false
       → Reads text (at (Bound of) frames drafts [] n) (t ∷ ts) q
       → Reads text (at Operand (back_frame b Whole (length drafts - 1) ∷ frames) drafts [] n) (t ∷ ts) q
   left_out of b e t ts f (reads c h g s r) =
-      reads c h (bad_skips of c g) (sym (skip_step text of b c frames drafts n e (told_bracket text c t ts h f)) ∙ s) r
+      reads c h (bad_skips of c g) (sym (skip_step text of b c frames drafts n e (spelled_bracket text c t ts h f)) ∙ s) r
 
   -- a number as the code keeps it
   abbrev Is : Decimal → ℕ → ℕ → Type 0
@@ -224,7 +224,7 @@ module _ (text : List ℕ) (frames : List Frame) (drafts : List Draft) (n : ℕ)
   middle {a = a} {j} {b} {k} of x r =
       let u = stepped_number r in
       let y = u.4 (at (AtComma of x u.0) frames drafts [] n) refl in
-      let z = stepped y Comma (at (High of x u.0) frames drafts [] n) (λ c h. comma_told text c h) refl in
+      let z = stepped y Comma (at (High of x u.0) frames drafts [] n) (λ c h. comma_spelled text c h) refl in
       let v = stepped_number z in
       (u.0, v.0, is_number u.0 a j u.1 u.2, is_number v.0 b k v.1 v.2, v.4 (at (Closing of x u.0 v.0) frames drafts [] n) refl)
 
@@ -235,24 +235,24 @@ module _ (text : List ℕ) (frames : List Frame) (drafts : List Draft) (n : ℕ)
   infinite {a = a} {j} of b e x r =
       let u = stepped_number r in
       let y = u.4 (at (AtComma of x u.0) frames drafts [] n) refl in
-      let z = stepped y Comma (at (High of x u.0) frames drafts [] n) (λ c h. comma_told text c h) refl in (
+      let z = stepped y Comma (at (High of x u.0) frames drafts [] n) (λ c h. comma_spelled text c h) refl in (
         u.0,
         is_number u.0 a j u.1 u.2,
-        stepped z (IsKeyword Inf) (at (ClosingInf b x u.0) frames drafts [] n) (λ c h. keyword_told text Inf c h) (inf_step text of b x u.0 frames drafts n e),
+        stepped z (IsKeyword Inf) (at (ClosingInf b x u.0) frames drafts [] n) (λ c h. keyword_spelled text Inf c h) (inf_step text of b x u.0 frames drafts n e),
       )
 
   -- the bracket before a bound, and the one after it
   opens_bound : {q : Parse} {t : Token} {ts : List Token} {x : Bool} (of : Timed) → may_be_open of ≡ true → IsOpening t x
       → Reads text (at (Bound of) frames drafts [] n) (t ∷ ts) q
       → Reads text (at (Low of x) frames drafts [] n) ts q
-  opens_bound of e inside r = stepped r OpenBracket _ (λ c h. open_bracket_told text c h) refl
-  opens_bound of e outside r = stepped r CloseBracket _ (λ c h. close_bracket_told text c h) (opening_step text of frames drafts n e)
+  opens_bound of e inside r = stepped r OpenBracket _ (λ c h. open_bracket_spelled text c h) refl
+  opens_bound of e outside r = stepped r CloseBracket _ (λ c h. close_bracket_spelled text c h) (opening_step text of frames drafts n e)
 
   closes_bound : {q : Parse} {t : Token} {ts : List Token} {y : Bool} (of : Timed) (x : Bool) (low high : Decimal) → may_be_open of ≡ true → IsClosing t y
       → Reads text (at (Closing of x low high) frames drafts [] n) (t ∷ ts) q
       → Reads text (at Operand (bounded_frame of (window low high x y) (length drafts - 1) ∷ frames) drafts [] n) ts q
-  closes_bound of x low high e inside r = stepped r CloseBracket _ (λ c h. close_bracket_told text c h) refl
-  closes_bound of x low high e outside r = stepped r OpenBracket _ (λ c h. open_bracket_told text c h) (closing_step text of x low high frames drafts n e)
+  closes_bound of x low high e inside r = stepped r CloseBracket _ (λ c h. close_bracket_spelled text c h) refl
+  closes_bound of x low high e outside r = stepped r OpenBracket _ (λ c h. open_bracket_spelled text c h) (closing_step text of x low high frames drafts n e)
 
   -- the bound of a one-operand operator, and that of `until`
   abbrev IsWindow : Window → ℕ → ℕ → ℕ → ℕ → Bool → Bool → Type 0
@@ -269,8 +269,8 @@ module _ (text : List ℕ) (frames : List Frame) (drafts : List Draft) (n : ℕ)
       → Reads text (at (Bound of) frames drafts [] n) (open_bracket ∷ number a j ∷ comma ∷ number b k ∷ close_bracket ∷ ts) q
       → (w : Window) × IsWindow w a j b k true true × Reads text (at Operand (bounded_frame of w (length drafts - 1) ∷ frames) drafts [] n) ts q
   closed_reads of r =
-      let m = middle of true (stepped r OpenBracket _ (λ c h. open_bracket_told text c h) refl) in
-      (window m.0 m.1 true true, (m.2, m.3, refl, refl), stepped m.4 CloseBracket _ (λ c h. close_bracket_told text c h) refl)
+      let m = middle of true (stepped r OpenBracket _ (λ c h. open_bracket_spelled text c h) refl) in
+      (window m.0 m.1 true true, (m.2, m.3, refl, refl), stepped m.4 CloseBracket _ (λ c h. close_bracket_spelled text c h) refl)
 
   -- bounds in ticks
   abbrev FutureRead : ℕ → Timed → ℕ → ℕ → Bool → Bool → List Token → Parse → Type 0
@@ -298,9 +298,9 @@ module _ (text : List ℕ) (frames : List Frame) (drafts : List Draft) (n : ℕ)
   closes_inf : {q : Parse} {t : Token} {ts : List Token} {y : Bool} (b : Back) (x : Bool) (low : Decimal) → b ≡ BOnce ⊎ b ≡ BHistorically → IsClosing t y
       → Reads text (at (ClosingInf b x low) frames drafts [] n) (t ∷ ts) q
       → Reads text (at Operand (back_frame b (From low x) (length drafts - 1) ∷ frames) drafts [] n) ts q
-  closes_inf b x low e inside r = stepped r CloseBracket _ (λ c h. close_bracket_told text c h) refl
-  closes_inf b x low (inl e) outside r = stepped r OpenBracket _ (λ c h. open_bracket_told text c h) (rw e refl)
-  closes_inf b x low (inr e) outside r = stepped r OpenBracket _ (λ c h. open_bracket_told text c h) (rw e refl)
+  closes_inf b x low e inside r = stepped r CloseBracket _ (λ c h. close_bracket_spelled text c h) refl
+  closes_inf b x low (inl e) outside r = stepped r OpenBracket _ (λ c h. open_bracket_spelled text c h) (rw e refl)
+  closes_inf b x low (inr e) outside r = stepped r OpenBracket _ (λ c h. open_bracket_spelled text c h) (rw e refl)
 
   abbrev PastRead : ℕ → Back → ℕ → Option ℕ → Bool → Bool → List Token → Parse → Type 0
   PastRead digits b low high x y ts q =
@@ -336,8 +336,8 @@ module _ (text : List ℕ) (frames : List Frame) (drafts : List Draft) (n : ℕ)
   since_reads {digits} ts since_bounded p r =
       let m = closed_reads TSince r in (Within m.0, m.1.0 digits, some_high digits m.0.high _ (m.1.1 digits), m.1.2, m.1.3, m.2)
   since_reads {digits} ts since_unbounded p r =
-      let m = infinite TSince BSince refl true (stepped r OpenBracket _ (λ c h. open_bracket_told text c h) refl) in
-      (From m.0 true, m.1 digits, refl, refl, refl, stepped m.2 CloseBracket _ (λ c h. close_bracket_told text c h) refl)
+      let m = infinite TSince BSince refl true (stepped r OpenBracket _ (λ c h. open_bracket_spelled text c h) refl) in
+      (From m.0 true, m.1 digits, refl, refl, refl, stepped m.2 CloseBracket _ (λ c h. close_bracket_spelled text c h) refl)
 
   -- terms
   coefficient_is : (d : Decimal) → (nat_lt 0 d.decimals || nat_lt 16 d.value) ≡ false → coefficient d ≡ d.value
@@ -356,7 +356,7 @@ module _ (text : List ℕ) (frames : List Frame) (drafts : List Draft) (n : ℕ)
   term_reads us less terms (scaled {n = k} {w = w} g) r =
       let u = stepped_number r in
       let y = u.4 (at (AtStar less u.0) frames drafts terms n) refl in
-      let z = stepped y Star (at (AtName less u.0) frames drafts terms n) (λ c h. star_told text c h) refl in
+      let z = stepped y Star (at (AtName less u.0) frames drafts terms n) (λ c h. star_spelled text c h) refl in
       let m = stepped_name g z in
       let e : term_of less (coefficient u.0) (between m.0 m.1 text) ≡ term_of less k w = rw (coefficient_is u.0 u.3, u.1, m.2) refl in
       rw (ap (λ z. at Sign frames drafts (terms ++ z ∷ []) n) e) at
@@ -371,7 +371,7 @@ module _ (text : List ℕ) (frames : List Frame) (drafts : List Draft) (n : ℕ)
   first_reads us (scaled {n = k} {w = w} g) r =
       let u = stepped_number r in
       let y = u.4 (at (AtStar false u.0) frames drafts [] (suc n)) refl in
-      let z = stepped y Star (at (AtName false u.0) frames drafts [] (suc n)) (λ c h. star_told text c h) refl in
+      let z = stepped y Star (at (AtName false u.0) frames drafts [] (suc n)) (λ c h. star_spelled text c h) refl in
       let m = stepped_name g z in
       let e : term_of false (coefficient u.0) (between m.0 m.1 text) ≡ term_of false k w = rw (coefficient_is u.0 u.3, u.1, m.2) refl in
       rw (ap (λ z. at Sign frames drafts (z ∷ []) (suc n)) e) at
@@ -382,11 +382,11 @@ module _ (text : List ℕ) (frames : List Frame) (drafts : List Draft) (n : ℕ)
       → Reads text (at Sign frames drafts terms n) (us ++ vs) q → Reads text (at Sign frames drafts (terms ++ more) n) vs q
   terms_read vs terms no_terms r = rw (append-nil terms) r
   terms_read vs terms (more_plus {k = k} {w = w} {ts = ts} {us = us} {terms = more} t u) r =
-      let x = stepped r Plus (at (AtTerm false) frames drafts terms n) (λ c h. plus_told text c h) refl in
+      let x = stepped r Plus (at (AtTerm false) frames drafts terms n) (λ c h. plus_spelled text c h) refl in
       let y = term_reads (us ++ vs) false terms t (rw (append_assoc ts us vs) at x) in
       rw (append_assoc terms (term_of false k w ∷ []) more) at (terms_read vs (terms ++ term_of false k w ∷ []) u y)
   terms_read vs terms (more_minus {k = k} {w = w} {ts = ts} {us = us} {terms = more} t u) r =
-      let x = stepped r Minus (at (AtTerm true) frames drafts terms n) (λ c h. minus_told text c h) refl in
+      let x = stepped r Minus (at (AtTerm true) frames drafts terms n) (λ c h. minus_spelled text c h) refl in
       let y = term_reads (us ++ vs) true terms t (rw (append_assoc ts us vs) at x) in
       rw (append_assoc terms (term_of true k w ∷ []) more) at (terms_read vs (terms ++ term_of true k w ∷ []) u y)
 
@@ -396,17 +396,17 @@ module _ (text : List ℕ) (frames : List Frame) (drafts : List Draft) (n : ℕ)
   constant_reads s terms rel plain r =
       let u = stepped_number r in
       let d : Draft = Sum (record { terms = terms; rel = rel; negative = false; limit = u.0 }) in
-      (d ∷ [], n, rw (u.1, u.2) refl, sym (reads_none (u.4 (settled 5 (at End frames (drafts ++ d ∷ []) [] n)) refl)))
+      (d ∷ [], n, rw (u.1, u.2) refl, sym (reads_none (u.4 (folded 5 (at End frames (drafts ++ d ∷ []) [] n)) refl)))
   constant_reads s terms rel positive r =
-      let x = stepped r Plus (at (AtNumber rel false) frames drafts terms n) (λ c h. plus_told text c h) refl in
+      let x = stepped r Plus (at (AtNumber rel false) frames drafts terms n) (λ c h. plus_spelled text c h) refl in
       let u = stepped_number x in
       let d : Draft = Sum (record { terms = terms; rel = rel; negative = false; limit = u.0 }) in
-      (d ∷ [], n, rw (u.1, u.2) refl, sym (reads_none (u.4 (settled 5 (at End frames (drafts ++ d ∷ []) [] n)) refl)))
+      (d ∷ [], n, rw (u.1, u.2) refl, sym (reads_none (u.4 (folded 5 (at End frames (drafts ++ d ∷ []) [] n)) refl)))
   constant_reads s terms rel negative r =
-      let x = stepped r Minus (at (AtNumber rel true) frames drafts terms n) (λ c h. minus_told text c h) refl in
+      let x = stepped r Minus (at (AtNumber rel true) frames drafts terms n) (λ c h. minus_spelled text c h) refl in
       let u = stepped_number x in
       let d : Draft = Sum (record { terms = terms; rel = rel; negative = true; limit = u.0 }) in
-      (d ∷ [], n, rw (u.1, u.2) refl, sym (reads_none (u.4 (settled 5 (at End frames (drafts ++ d ∷ []) [] n)) refl)))
+      (d ∷ [], n, rw (u.1, u.2) refl, sym (reads_none (u.4 (folded 5 (at End frames (drafts ++ d ∷ []) [] n)) refl)))
 
 module _ (text : List ℕ) (frames : List Frame) (drafts : List Draft) (n : ℕ) where
   atom_reads : (s : Scale) {q : Parse} {ts : List Token} {a : Atom} → IsAtom s.value ts a → Reads text (at Operand frames drafts [] n) ts q
@@ -415,7 +415,7 @@ module _ (text : List ℕ) (frames : List Frame) (drafts : List Draft) (n : ℕ)
       let x = first_reads text frames drafts n (us ++ relation rel ∷ vs) t (rw (append_assoc ts us (relation rel ∷ vs)) at r) in
       let y = terms_read text frames drafts (suc n) (relation rel ∷ vs) (term_of text frames drafts n false k w ∷ []) u x in
       let z = stepped y (Relation rel) (at (Constant rel) frames drafts (term_of text frames drafts n false k w ∷ more) (suc n))
-      (λ c h. relation_told text rel c h) refl in
+      (λ c h. relation_spelled text rel c h) refl in
       constant_reads text frames drafts (suc n) s (term_of text frames drafts n false k w ∷ more) rel c z
   atom_reads s (signed_atom {us = us} {vs = vs} {terms = more} {rel = rel} {c = lim} u c) r = signed_reads u r
     where
@@ -423,16 +423,16 @@ module _ (text : List ℕ) (frames : List Frame) (drafts : List Draft) (n : ℕ)
           → OperandEnds s (Leaf (record { terms = terms; rel = rel; limit = lim }) ∷ []) frames drafts q
       rest {terms = terms} y =
           constant_reads text frames drafts (suc n) s terms rel c
-          (stepped y (Relation rel) (at (Constant rel) frames drafts terms (suc n)) (λ c h. relation_told text rel c h) refl)
+          (stepped y (Relation rel) (at (Constant rel) frames drafts terms (suc n)) (λ c h. relation_spelled text rel c h) refl)
 
       signed_reads : {us : List Token} {q : Parse} {t : Term} → AreTerms us (t ∷ more) → Reads text (at Operand frames drafts [] n) (us ++ relation rel ∷ vs) q
           → OperandEnds s (Leaf (record { terms = t ∷ more; rel = rel; limit = lim }) ∷ []) frames drafts q
       signed_reads (more_plus {k = k} {w = w} {ts = ts} {us = us} i j) r =
-          let x = stepped r Plus (at (AtTerm false) frames drafts [] (suc n)) (λ c h. plus_told text c h) refl in
+          let x = stepped r Plus (at (AtTerm false) frames drafts [] (suc n)) (λ c h. plus_spelled text c h) refl in
           let y = term_reads text frames drafts (suc n) (us ++ relation rel ∷ vs) false [] i (rw (append_assoc ts us (relation rel ∷ vs)) at x) in
           rest (terms_read text frames drafts (suc n) (relation rel ∷ vs) (term_of text frames drafts n false k w ∷ []) j y)
       signed_reads (more_minus {k = k} {w = w} {ts = ts} {us = us} i j) r =
-          let x = stepped r Minus (at (AtTerm true) frames drafts [] (suc n)) (λ c h. minus_told text c h) refl in
+          let x = stepped r Minus (at (AtTerm true) frames drafts [] (suc n)) (λ c h. minus_spelled text c h) refl in
           let y = term_reads text frames drafts (suc n) (us ++ relation rel ∷ vs) true [] i (rw (append_assoc ts us (relation rel ∷ vs)) at x) in
           rest (terms_read text frames drafts (suc n) (relation rel ∷ vs) (term_of text frames drafts n true k w ∷ []) j y)
 
@@ -441,7 +441,7 @@ parts : (m : Parse) → m.place ≡ End → m.terms ≡ [] → m ≡ at End m.fr
 parts m e f = ap (λ z. at z m.frames m.drafts m.terms m.made) e ∙ ap (λ z. at End m.frames m.drafts z m.made) f
 
 operand_ended : (q : Parse) (frames : List Frame) (drafts : List Draft) (j : ℕ) → top_rank frames < 5
-    → q ≡ settled 5 (at End frames drafts [] j) → Ended 5 q frames drafts
+    → q ≡ folded 5 (at End frames drafts [] j) → Ended 5 q frames drafts
 operand_ended q frames drafts j l g = rw g (record {
   place = refl;
   terms = refl;
@@ -449,7 +449,7 @@ operand_ended q frames drafts j l g = rw g (record {
   draft = drafts_twice 5 5 frames drafts (omega arith) ∙ drafts_stay 5 frames drafts l;
 })
 
-operand_state : (frames : List Frame) (drafts : List Draft) (j : ℕ) → top_rank frames < 5 → settled 5 (at End frames drafts [] j) ≡ at End frames drafts [] j
+operand_state : (frames : List Frame) (drafts : List Draft) (j : ℕ) → top_rank frames < 5 → folded 5 (at End frames drafts [] j) ≡ at End frames drafts [] j
 operand_state frames drafts j l = rw (frames_stay 5 frames l, drafts_stay 5 frames drafts l) refl
 
 -- a two-operand operator ends with its right operand
@@ -484,9 +484,9 @@ two_ends {frames = frames} {r = r} {q = q} s drafts xs ys o e f g h d l t =
     let i = length (drafts ++ xs) - 1 in
     let last : Draft = Two o (length (drafts ++ xs) - 1) (length (drafts ++ xs ++ ys) - 1) in
     let y = ended_less (infix_rank o) r q (Between o (length (drafts ++ xs) - 1) ∷ frames) (drafts ++ xs ++ ys) l d in
-    let a : settled_frames (infix_rank o) (Between o (length (drafts ++ xs) - 1) ∷ frames) ≡ frames =
+    let a : folded_frames (infix_rank o) (Between o (length (drafts ++ xs) - 1) ∷ frames) ≡ frames =
     rw (le_self (infix_rank o)) (frames_stay (infix_rank o) frames t) in
-    let b : settled_drafts (infix_rank o) (Between o (length (drafts ++ xs) - 1) ∷ frames) (drafts ++ xs ++ ys) ≡ drafts ++ (xs ++ ys ++ last ∷ []) =
+    let b : folded_drafts (infix_rank o) (Between o (length (drafts ++ xs) - 1) ∷ frames) (drafts ++ xs ++ ys) ≡ drafts ++ (xs ++ ys ++ last ∷ []) =
     rw (le_self (infix_rank o)) (drafts_stay (infix_rank o) frames (drafts ++ xs ++ ys ++ last ∷ []) t ∙ two_drafts drafts xs ys last) in (
       xs ++ ys ++ last ∷ [],
       two_nodes s drafts xs ys o e f g h,
@@ -522,7 +522,7 @@ implies_step : (text : List ℕ) (m : Parse) (frames : List Frame) (drafts : Lis
 implies_step text m frames drafts e = ap (λ z. parse_step text z (IsKeyword Implies)) (parts m e.place e.terms) ∙ rw (e.frame, e.draft) refl
 
 close_step : (text : List ℕ) (m : Parse) (frames : List Frame) (drafts : List Draft) → Ended 1 m (Opened ∷ frames) drafts
-    → parse_step text m CloseParen ≡ Some (settled 5 (at End frames drafts [] m.made))
+    → parse_step text m CloseParen ≡ Some (folded 5 (at End frames drafts [] m.made))
 close_step text m frames drafts e = ap (λ z. parse_step text z CloseParen) (parts m e.place e.terms) ∙ rw (e.frame, e.draft) refl
 
 -- the tokens of a formula leave its nodes
@@ -531,18 +531,18 @@ module _ (text : List ℕ) (s : Scale) where
     formula_left : {k : ℕ} {ts : List Token} {ns : List Node} → IsFormula s k ts ns
         → (frames : List Frame) (drafts : List Draft) (n : ℕ) (q : Parse) → top_rank frames < 2
         → length drafts ≡ k → Reads text (at Operand frames drafts [] n) ts q
-        → (xs : List Draft) × (nodes_in s xs ≡ ns) × Ended 1 q (settled_frames 1 frames) (settled_drafts 1 frames (drafts ++ xs))
+        → (xs : List Draft) × (nodes_in s xs ≡ ns) × Ended 1 q (folded_frames 1 frames) (folded_drafts 1 frames (drafts ++ xs))
     formula_left (disjunct d) frames drafts n q l e r =
         let x = disjunct_left d frames drafts n q l e r in (x.0, x.1, ended_less 1 2 q frames (drafts ++ x.0) (omega arith) x.2)
     formula_left {k} (implies {ts = ts} {us} {ns} {ms} d f) frames drafts n q l e r =
         let sp = reads_split ts (word (codes "implies") ∷ us) r in
         let (xs, g, h) = disjunct_left d frames drafts n sp.0 l e sp.1 in
         let step = stepped sp.2 (IsKeyword Implies) (joined_to Then frames (drafts ++ xs) sp.0.made) (λ c j.
-        keyword_told text Implies c j) (implies_step text sp.0 frames (drafts ++ xs) h) in
+        keyword_spelled text Implies c j) (implies_step text sp.0 frames (drafts ++ xs) h) in
         let (ys, i, j) = formula_left f (Between Then (length (drafts ++ xs) - 1) ∷ frames) (drafts ++ xs) (suc sp.0.made) q
         (omega arith) (count_is s k drafts xs ns e g) step in
         let last : Draft = Two Then (length (drafts ++ xs) - 1) (length (drafts ++ xs ++ ys) - 1) in
-        let y : Ended 1 q (settled_frames 1 frames) (settled_drafts 1 frames (drafts ++ xs ++ ys ++ last ∷ [])) = j in (
+        let y : Ended 1 q (folded_frames 1 frames) (folded_drafts 1 frames (drafts ++ xs ++ ys ++ last ∷ [])) = j in (
           xs ++ ys ++ last ∷ [],
           two_nodes s drafts xs ys Then e g i refl,
           rw (two_drafts drafts xs ys last) at y,
@@ -557,7 +557,7 @@ module _ (text : List ℕ) (s : Scale) where
         let sp = reads_split ts (word (codes "or") ∷ us) r in
         let (xs, g, h) = disjunct_left d frames drafts n sp.0 l e sp.1 in
         let step = stepped sp.2 (IsKeyword Or) (joined_to Either frames (drafts ++ xs) sp.0.made) (λ c j.
-        keyword_told text Or c j) (or_step text sp.0 frames (drafts ++ xs) h) in
+        keyword_spelled text Or c j) (or_step text sp.0 frames (drafts ++ xs) h) in
         let (ys, i, j) = conjunct_left c (Between Either (length (drafts ++ xs) - 1) ∷ frames) (drafts ++ xs) (suc sp.0.made) q
         (omega arith) (count_is s k drafts xs ns e g) step in
         two_ends s drafts xs ys Either e g i refl j (omega arith) l
@@ -571,7 +571,7 @@ module _ (text : List ℕ) (s : Scale) where
         let sp = reads_split ts (word (codes "and") ∷ us) r in
         let (xs, g, h) = conjunct_left c frames drafts n sp.0 l e sp.1 in
         let step = stepped sp.2 (IsKeyword And) (joined_to Both frames (drafts ++ xs) sp.0.made) (λ c j.
-        keyword_told text And c j) (and_step text sp.0 frames (drafts ++ xs) h) in
+        keyword_spelled text And c j) (and_step text sp.0 frames (drafts ++ xs) h) in
         let (ys, i, j) = timed_left t (Between Both (length (drafts ++ xs) - 1) ∷ frames) (drafts ++ xs) (suc sp.0.made) q
         (omega arith) (count_is s k drafts xs ns e g) step in
         two_ends s drafts xs ys Both e g i refl j (omega arith) l
@@ -588,7 +588,7 @@ module _ (text : List ℕ) (s : Scale) where
         let at_end : Reads text (at End frames (drafts ++ xs) [] j) (word (codes "until") ∷ (us ++ vs)) q =
         rw (← operand_state frames (drafts ++ xs) j (omega arith), ← g) sp.2 in
         let step = stepped at_end (IsKeyword Until) (at (Bound TUntil) frames (drafts ++ xs) [] (suc j)) (λ c h.
-        keyword_told text Until c h) (until_step text frames (drafts ++ xs) j l) in
+        keyword_spelled text Until c h) (until_step text frames (drafts ++ xs) j l) in
         let (w, low, high, c, d, more) = until_reads text frames (drafts ++ xs) (suc j) vs b' step in
         let (ys, i, f', g') =
         operand_left p' (Between (UpTo w) (length (drafts ++ xs) - 1) ∷ frames) (drafts ++ xs) (suc j) q (count_is s k drafts xs ns e f) more in
@@ -600,7 +600,7 @@ module _ (text : List ℕ) (s : Scale) where
         let at_end : Reads text (at End frames (drafts ++ xs) [] j) (word (codes "since") ∷ (us ++ vs)) q =
         rw (← operand_state frames (drafts ++ xs) j (omega arith), ← g) sp.2 in
         let step = stepped at_end (IsKeyword Since) (at (Bound TSince) frames (drafts ++ xs) [] (suc j)) (λ c h.
-        keyword_told text Since c h) (since_step text frames (drafts ++ xs) j l) in
+        keyword_spelled text Since c h) (since_step text frames (drafts ++ xs) j l) in
         let (z, low, high, c, d, more) = since_reads text frames (drafts ++ xs) (suc j) vs b' p' step in
         let (ys, i, f', g') =
         operand_left p' (Between (After z) (length (drafts ++ xs) - 1) ∷ frames) (drafts ++ xs) (suc j) q (count_is s k drafts xs ns e f) more in
@@ -611,54 +611,54 @@ module _ (text : List ℕ) (s : Scale) where
         → (frames : List Frame) (drafts : List Draft) (n : ℕ) (q : Parse) → length drafts ≡ k
         → Reads text (at Operand frames drafts [] n) ts q → OperandEnds s ns frames drafts q
     operand_left {k} (not {ts = ts} {ns} p) frames drafts n q e r =
-        let step = stepped r (IsKeyword Not) (at Operand (Before Negation ∷ frames) drafts [] (suc n)) (λ c h. keyword_told text Not c h) refl in
+        let step = stepped r (IsKeyword Not) (at Operand (Before Negation ∷ frames) drafts [] (suc n)) (λ c h. keyword_spelled text Not c h) refl in
         one_ends s k ns frames drafts q Negation (TheNot (top k ns)) e (operand_left p (Before Negation ∷ frames) drafts (suc n) q e step) refl
     operand_left {k} (eventually {a = a} {b} {a_in} {b_in} {ts} {us} {ns} b' p) frames drafts n q e r =
-        let step = stepped r (IsKeyword Eventually) (at (Bound TEventually) frames drafts [] (suc n)) (λ c h. keyword_told text Eventually c h) refl in
+        let step = stepped r (IsKeyword Eventually) (at (Bound TEventually) frames drafts [] (suc n)) (λ c h. keyword_spelled text Eventually c h) refl in
         let (w, low, high, c, d, more) = future_reads text frames drafts (suc n) ts TEventually refl b' step in
         one_ends s k ns frames drafts q (AtSome w) (TheEventually (top k ns) a b a_in b_in) e
         (operand_left p (Before (AtSome w) ∷ frames) drafts (suc n) q e more)
         (rw (low, high, c, d) refl)
     operand_left {k} (always {a = a} {b} {a_in} {b_in} {ts} {us} {ns} b' p) frames drafts n q e r =
-        let step = stepped r (IsKeyword Always) (at (Bound TAlways) frames drafts [] (suc n)) (λ c h. keyword_told text Always c h) refl in
+        let step = stepped r (IsKeyword Always) (at (Bound TAlways) frames drafts [] (suc n)) (λ c h. keyword_spelled text Always c h) refl in
         let (w, low, high, c, d, more) = future_reads text frames drafts (suc n) ts TAlways refl b' step in
         one_ends s k ns frames drafts q (AtEach w) (TheAlways (top k ns) a b a_in b_in) e (operand_left p (Before (AtEach w) ∷ frames) drafts (suc n) q e more)
         (rw (low, high, c, d) refl)
     operand_left {k} (once {a = a} {b} {a_in} {b_in} {ts} {us} {ns} b' p) frames drafts n q e r =
-        let step = stepped r (IsKeyword Once) (at (Bound TOnce) frames drafts [] (suc n)) (λ c h. keyword_told text Once c h) refl in
+        let step = stepped r (IsKeyword Once) (at (Bound TOnce) frames drafts [] (suc n)) (λ c h. keyword_spelled text Once c h) refl in
         let (z, low, high, c, d, more) = past_reads text frames drafts (suc n) ts TOnce BOnce refl refl (inl refl) b' p step in
         one_ends s k ns frames drafts q (BackAtSome z) (TheOnce (top k ns) a b a_in b_in) e
         (operand_left p (Before (BackAtSome z) ∷ frames) drafts (suc n) q e more)
         (rw (low, high, c, d) refl)
     operand_left {k} (historically {a = a} {b} {a_in} {b_in} {ts} {us} {ns} b' p) frames drafts n q e r =
-        let step = stepped r (IsKeyword Historically) (at (Bound THistorically) frames drafts [] (suc n)) (λ c h. keyword_told text Historically c h) refl in
+        let step = stepped r (IsKeyword Historically) (at (Bound THistorically) frames drafts [] (suc n)) (λ c h. keyword_spelled text Historically c h) refl in
         let (z, low, high, c, d, more) = past_reads text frames drafts (suc n) ts THistorically BHistorically refl refl (inr refl) b' p step in
         one_ends s k ns frames drafts q (BackAtEach z) (TheHistorically (top k ns) a b a_in b_in) e
         (operand_left p (Before (BackAtEach z) ∷ frames) drafts (suc n) q e more)
         (rw (low, high, c, d) refl)
     operand_left always_true frames drafts n q e r =
-        let step = stepped r (IsKeyword True) (settled 5 (at End frames (drafts ++ Const true ∷ []) [] (suc n))) (λ c h. keyword_told text True c h) refl in
+        let step = stepped r (IsKeyword True) (folded 5 (at End frames (drafts ++ Const true ∷ []) [] (suc n))) (λ c h. keyword_spelled text True c h) refl in
         (Const true ∷ [], suc n, refl, sym (reads_none step))
     operand_left always_false frames drafts n q e r =
-        let step = stepped r (IsKeyword False) (settled 5 (at End frames (drafts ++ Const false ∷ []) [] (suc n))) (λ c h. keyword_told text False c h) refl in
+        let step = stepped r (IsKeyword False) (folded 5 (at End frames (drafts ++ Const false ∷ []) [] (suc n))) (λ c h. keyword_spelled text False c h) refl in
         (Const false ∷ [], suc n, refl, sym (reads_none step))
     operand_left (parens {ts = ts} {ns} f) frames drafts n q e r =
-        let step = stepped r OpenParen (at Operand (Opened ∷ frames) drafts [] n) (λ c h. open_paren_told text c h) refl in
+        let step = stepped r OpenParen (at Operand (Opened ∷ frames) drafts [] n) (λ c h. open_paren_spelled text c h) refl in
         let sp = reads_split ts (close_paren ∷ []) step in
         let (xs, g, h) = formula_left f (Opened ∷ frames) drafts n sp.0 (omega arith) e sp.1 in
-        let end = stepped sp.2 CloseParen (settled 5 (at End frames (drafts ++ xs) [] sp.0.made)) (λ c j.
-        close_paren_told text c j) (close_step text sp.0 frames (drafts ++ xs) h) in
+        let end = stepped sp.2 CloseParen (folded 5 (at End frames (drafts ++ xs) [] sp.0.made)) (λ c j.
+        close_paren_spelled text c j) (close_step text sp.0 frames (drafts ++ xs) h) in
         (xs, sp.0.made, g, sym (reads_none end))
     operand_left (atom a) frames drafts n q e r = atom_reads text frames drafts n s a r
 
 -- a parser that has taken a formula's tokens keeps no operator and the formula's nodes, once what is open came to its end
 pub taken_nodes : (text : List ℕ) (s : Scale) {before : List Token} {p : Parse} {ns : List Node} → Taken text before p → IsFormula s 0 (reverse before) ns
-    → (p.place ≡ End) × (settled_frames 1 p.frames ≡ []) × (nodes_in s (settled_drafts 1 p.frames p.drafts) ≡ ns)
+    → (p.place ≡ End) × (folded_frames 1 p.frames ≡ []) × (nodes_in s (folded_drafts 1 p.frames p.drafts) ≡ ns)
 taken_nodes text s {p = p} {ns} k f =
     let (xs, g, h) = formula_left text s f [] [] 0 p (omega arith) refl (taken_reads k) in
     (h.place, h.frame, ap (λ z. nodes_in s z) h.draft ∙ g)
 
 -- these nodes are the formula of the tokens, at each scale
 pub taken_formula : (text : List ℕ) {before : List Token} {p : Parse} → Taken text before p → MayEnd before → (s : Scale)
-    → IsFormula s 0 (reverse before) (nodes_in s (settled_drafts 1 p.frames p.drafts))
+    → IsFormula s 0 (reverse before) (nodes_in s (folded_drafts 1 p.frames p.drafts))
 taken_formula text k m s = let x = rescaled m.1 s in let y = taken_nodes text s k x.1 in rw y.2 x.1

@@ -1,4 +1,4 @@
--- What a parser makes of tokens that the code tells: the code of a token, and the state after it.
+-- What a parser makes of tokens that the code spells: the code of a token, and the state after it.
 use Rattle.std.proofs.Common.{◌≡◌, ℕ, ◌-◌, List, [], ◌∷◌, ◌++◌, length, refl, ap, sym, ◌∙◌, Bool, true, false, arith, if◌then◌else◌}
 use Rattle.std.specs.Prelude.{codes, bytes_eq, reverse, nat_le, nat_lt, Option, Some, None, IsTrue}
 use Rattle.std.proofs.lemmas.List.{reverse-append}
@@ -8,7 +8,7 @@ use Rattle.stl_syntax.specs.Characters.{is_among}
 use Rattle.stl_syntax.specs.Names.{reserved, is_name}
 use Rattle.stl_syntax.specs.declared.rel.Rel.{Rel}
 use Rattle.stl_grammar.specs.Tokens.{Token, word, number, relation, open_paren, close_paren, open_bracket, close_bracket, comma, star, plus, minus}
-use Rattle.stl_grammar.specs.Spelling.{Tells, spelling, IsNumber, IsNameAt}
+use Rattle.stl_grammar.specs.Spelling.{Spells, spelling, IsNumber, IsNameAt}
 use Rattle.stl_grammar.specs.Taken.{Taken, none, more, empty_parse}
 use Rattle.stl_grammar.specs.Parsing.{Parse, parse_step, between}
 use Rattle.stl_grammar.specs.Refusing.{bad_in, number_in}
@@ -25,11 +25,11 @@ use Rattle.stl_grammar.specs.declared.place.Place.TheVariants.{Low, High, Consta
 -- the tokens lead from one state to another, the first one first
 pub data Reads (text : List ℕ) : Parse → List Token → Parse → Type 0 where
   done : {p : Parse} → Reads text p [] p
-  reads : {p m q : Parse} {t : Token} {ts : List Token} (c : Code) → Tells text c t → bad_in p.place c ≡ false
+  reads : {p m q : Parse} {t : Token} {ts : List Token} (c : Code) → Spells text c t → bad_in p.place c ≡ false
       → parse_step text p c ≡ Some m → Reads text m ts q
       → Reads text p (t ∷ ts) q
 
-reads_last : {text : List ℕ} {p m q : Parse} {ts : List Token} (t : Token) (c : Code) → Reads text p ts m → Tells text c t
+reads_last : {text : List ℕ} {p m q : Parse} {ts : List Token} (t : Token) (c : Code) → Reads text p ts m → Spells text c t
     → bad_in m.place c ≡ false → parse_step text m c ≡ Some q
     → Reads text p (ts ++ t ∷ []) q
 reads_last t c done h b e = reads c h b e done
@@ -103,31 +103,31 @@ no_name Once = refl
 no_name Historically = refl
 no_name Inf = refl
 
--- a number is told of a number alone
+-- a number is spelled by a number alone
 abbrev is_number : Token → Bool
 is_number (number n k) = true
 is_number _ = false
 
-told_number : (d : Decimal) (t : Token) → IsNumber d t → is_number t ≡ true
-told_number d t h = split (nat_le d.decimals 6) refl
+spelled_number : (d : Decimal) (t : Token) → IsNumber d t → is_number t ≡ true
+spelled_number d t h = split (nat_le d.decimals 6) refl
   where
     split : (b : Bool) → nat_le d.decimals 6 ≡ b → is_number t ≡ true
     split true e = let x = rw e at h in rw x refl
     split false e = let x = rw e at h in rw x.2 refl
 
 -- the code of a word of the grammar
-pub keyword_told : (text : List ℕ) (w : Keyword) (c : Code) → Tells text c (word (spelling w)) → c ≡ IsKeyword w
-keyword_told text w (IsKeyword v) h =
+pub keyword_spelled : (text : List ℕ) (w : Keyword) (c : Code) → Spells text c (word (spelling w)) → c ≡ IsKeyword w
+keyword_spelled text w (IsKeyword v) h =
     let e : spelling w ≡ spelling v = cc in
     let f : Some w ≡ Some v = sym (spelled w) ∙ (ap keyword_of e ∙ spelled v) in
     cc
-keyword_told text w (Name from to) h =
+keyword_spelled text w (Name from to) h =
     let e : spelling w ≡ h.0 = cc (h.1) in
     let g : IsTrue (is_name (spelling w)) = rw e h.2.good in
     let z = rw (no_name w) at g in absurd (cc)
-keyword_told text w (Number d) h = let x = told_number d (word (spelling w)) h in absurd (cc)
-keyword_told text w (Relation r) h = absurd (cc)
-keyword_told text w _ h = absurd (cc)
+keyword_spelled text w (Number d) h = let x = spelled_number d (word (spelling w)) h in absurd (cc)
+keyword_spelled text w (Relation r) h = absurd (cc)
+keyword_spelled text w _ h = absurd (cc)
 
 between_is : (text : List ℕ) (from to : ℕ) (name : List ℕ) → IsNameAt text from to name → between from to text ≡ name
 between_is text from to name h =
@@ -135,96 +135,96 @@ between_is text from to name h =
     rw (e, h.stands) (take-append_seam name h.after)
 
 -- the code of a name
-pub name_told : (text : List ℕ) (w : List ℕ) (c : Code) → is_among w reserved ≡ false → Tells text c (word w)
+pub name_spelled : (text : List ℕ) (w : List ℕ) (c : Code) → is_among w reserved ≡ false → Spells text c (word w)
     → (from : ℕ) × (to : ℕ) × (c ≡ Name from to) × (between from to text ≡ w)
-name_told text w (IsKeyword v) f h =
+name_spelled text w (IsKeyword v) f h =
     let e : w ≡ spelling v = cc in
     let g : is_among (spelling v) reserved ≡ false = rw (← e) f in
     let x = spelled_reserved v in absurd (cc)
-name_told text w (Name from to) f h = let e : h.0 ≡ w = cc (h.1) in (from, to, refl, between_is text from to h.0 h.2 ∙ e)
-name_told text w (Number d) f h = let x = told_number d (word w) h in absurd (cc)
-name_told text w (Relation r) f h = absurd (cc)
-name_told text w _ f h = absurd (cc)
+name_spelled text w (Name from to) f h = let e : h.0 ≡ w = cc (h.1) in (from, to, refl, between_is text from to h.0 h.2 ∙ e)
+name_spelled text w (Number d) f h = let x = spelled_number d (word w) h in absurd (cc)
+name_spelled text w (Relation r) f h = absurd (cc)
+name_spelled text w _ f h = absurd (cc)
 
 -- the codes of symbols
-pub relation_told : (text : List ℕ) (r : Rel) (c : Code) → Tells text c (relation r) → c ≡ Relation r
-relation_told text r (IsKeyword v) h = absurd (cc)
-relation_told text r (Name from to) h = absurd (cc (h.1))
-relation_told text r (Number d) h = let x = told_number d (relation r) h in absurd (cc)
-relation_told text r (Relation s) h = cc
-relation_told text r _ h = absurd (cc)
+pub relation_spelled : (text : List ℕ) (r : Rel) (c : Code) → Spells text c (relation r) → c ≡ Relation r
+relation_spelled text r (IsKeyword v) h = absurd (cc)
+relation_spelled text r (Name from to) h = absurd (cc (h.1))
+relation_spelled text r (Number d) h = let x = spelled_number d (relation r) h in absurd (cc)
+relation_spelled text r (Relation s) h = cc
+relation_spelled text r _ h = absurd (cc)
 
 -- the code of this token
-pub open_paren_told : (text : List ℕ) (c : Code) → Tells text c open_paren → c ≡ OpenParen
-open_paren_told text (IsKeyword v) h = absurd (cc)
-open_paren_told text (Name from to) h = absurd (cc (h.1))
-open_paren_told text (Number d) h = let x = told_number d open_paren h in absurd (cc)
-open_paren_told text (Relation s) h = absurd (cc)
-open_paren_told text OpenParen h = refl
-open_paren_told text _ h = absurd (cc)
+pub open_paren_spelled : (text : List ℕ) (c : Code) → Spells text c open_paren → c ≡ OpenParen
+open_paren_spelled text (IsKeyword v) h = absurd (cc)
+open_paren_spelled text (Name from to) h = absurd (cc (h.1))
+open_paren_spelled text (Number d) h = let x = spelled_number d open_paren h in absurd (cc)
+open_paren_spelled text (Relation s) h = absurd (cc)
+open_paren_spelled text OpenParen h = refl
+open_paren_spelled text _ h = absurd (cc)
 
 -- the code of this token
-pub close_paren_told : (text : List ℕ) (c : Code) → Tells text c close_paren → c ≡ CloseParen
-close_paren_told text (IsKeyword v) h = absurd (cc)
-close_paren_told text (Name from to) h = absurd (cc (h.1))
-close_paren_told text (Number d) h = let x = told_number d close_paren h in absurd (cc)
-close_paren_told text (Relation s) h = absurd (cc)
-close_paren_told text CloseParen h = refl
-close_paren_told text _ h = absurd (cc)
+pub close_paren_spelled : (text : List ℕ) (c : Code) → Spells text c close_paren → c ≡ CloseParen
+close_paren_spelled text (IsKeyword v) h = absurd (cc)
+close_paren_spelled text (Name from to) h = absurd (cc (h.1))
+close_paren_spelled text (Number d) h = let x = spelled_number d close_paren h in absurd (cc)
+close_paren_spelled text (Relation s) h = absurd (cc)
+close_paren_spelled text CloseParen h = refl
+close_paren_spelled text _ h = absurd (cc)
 
 -- the code of this token
-pub open_bracket_told : (text : List ℕ) (c : Code) → Tells text c open_bracket → c ≡ OpenBracket
-open_bracket_told text (IsKeyword v) h = absurd (cc)
-open_bracket_told text (Name from to) h = absurd (cc (h.1))
-open_bracket_told text (Number d) h = let x = told_number d open_bracket h in absurd (cc)
-open_bracket_told text (Relation s) h = absurd (cc)
-open_bracket_told text OpenBracket h = refl
-open_bracket_told text _ h = absurd (cc)
+pub open_bracket_spelled : (text : List ℕ) (c : Code) → Spells text c open_bracket → c ≡ OpenBracket
+open_bracket_spelled text (IsKeyword v) h = absurd (cc)
+open_bracket_spelled text (Name from to) h = absurd (cc (h.1))
+open_bracket_spelled text (Number d) h = let x = spelled_number d open_bracket h in absurd (cc)
+open_bracket_spelled text (Relation s) h = absurd (cc)
+open_bracket_spelled text OpenBracket h = refl
+open_bracket_spelled text _ h = absurd (cc)
 
 -- the code of this token
-pub close_bracket_told : (text : List ℕ) (c : Code) → Tells text c close_bracket → c ≡ CloseBracket
-close_bracket_told text (IsKeyword v) h = absurd (cc)
-close_bracket_told text (Name from to) h = absurd (cc (h.1))
-close_bracket_told text (Number d) h = let x = told_number d close_bracket h in absurd (cc)
-close_bracket_told text (Relation s) h = absurd (cc)
-close_bracket_told text CloseBracket h = refl
-close_bracket_told text _ h = absurd (cc)
+pub close_bracket_spelled : (text : List ℕ) (c : Code) → Spells text c close_bracket → c ≡ CloseBracket
+close_bracket_spelled text (IsKeyword v) h = absurd (cc)
+close_bracket_spelled text (Name from to) h = absurd (cc (h.1))
+close_bracket_spelled text (Number d) h = let x = spelled_number d close_bracket h in absurd (cc)
+close_bracket_spelled text (Relation s) h = absurd (cc)
+close_bracket_spelled text CloseBracket h = refl
+close_bracket_spelled text _ h = absurd (cc)
 
 -- the code of this token
-pub comma_told : (text : List ℕ) (c : Code) → Tells text c comma → c ≡ Comma
-comma_told text (IsKeyword v) h = absurd (cc)
-comma_told text (Name from to) h = absurd (cc (h.1))
-comma_told text (Number d) h = let x = told_number d comma h in absurd (cc)
-comma_told text (Relation s) h = absurd (cc)
-comma_told text Comma h = refl
-comma_told text _ h = absurd (cc)
+pub comma_spelled : (text : List ℕ) (c : Code) → Spells text c comma → c ≡ Comma
+comma_spelled text (IsKeyword v) h = absurd (cc)
+comma_spelled text (Name from to) h = absurd (cc (h.1))
+comma_spelled text (Number d) h = let x = spelled_number d comma h in absurd (cc)
+comma_spelled text (Relation s) h = absurd (cc)
+comma_spelled text Comma h = refl
+comma_spelled text _ h = absurd (cc)
 
 -- the code of this token
-pub star_told : (text : List ℕ) (c : Code) → Tells text c star → c ≡ Star
-star_told text (IsKeyword v) h = absurd (cc)
-star_told text (Name from to) h = absurd (cc (h.1))
-star_told text (Number d) h = let x = told_number d star h in absurd (cc)
-star_told text (Relation s) h = absurd (cc)
-star_told text Star h = refl
-star_told text _ h = absurd (cc)
+pub star_spelled : (text : List ℕ) (c : Code) → Spells text c star → c ≡ Star
+star_spelled text (IsKeyword v) h = absurd (cc)
+star_spelled text (Name from to) h = absurd (cc (h.1))
+star_spelled text (Number d) h = let x = spelled_number d star h in absurd (cc)
+star_spelled text (Relation s) h = absurd (cc)
+star_spelled text Star h = refl
+star_spelled text _ h = absurd (cc)
 
 -- the code of this token
-pub plus_told : (text : List ℕ) (c : Code) → Tells text c plus → c ≡ Plus
-plus_told text (IsKeyword v) h = absurd (cc)
-plus_told text (Name from to) h = absurd (cc (h.1))
-plus_told text (Number d) h = let x = told_number d plus h in absurd (cc)
-plus_told text (Relation s) h = absurd (cc)
-plus_told text Plus h = refl
-plus_told text _ h = absurd (cc)
+pub plus_spelled : (text : List ℕ) (c : Code) → Spells text c plus → c ≡ Plus
+plus_spelled text (IsKeyword v) h = absurd (cc)
+plus_spelled text (Name from to) h = absurd (cc (h.1))
+plus_spelled text (Number d) h = let x = spelled_number d plus h in absurd (cc)
+plus_spelled text (Relation s) h = absurd (cc)
+plus_spelled text Plus h = refl
+plus_spelled text _ h = absurd (cc)
 
 -- the code of this token
-pub minus_told : (text : List ℕ) (c : Code) → Tells text c minus → c ≡ Minus
-minus_told text (IsKeyword v) h = absurd (cc)
-minus_told text (Name from to) h = absurd (cc (h.1))
-minus_told text (Number d) h = let x = told_number d minus h in absurd (cc)
-minus_told text (Relation s) h = absurd (cc)
-minus_told text Minus h = refl
-minus_told text _ h = absurd (cc)
+pub minus_spelled : (text : List ℕ) (c : Code) → Spells text c minus → c ≡ Minus
+minus_spelled text (IsKeyword v) h = absurd (cc)
+minus_spelled text (Name from to) h = absurd (cc (h.1))
+minus_spelled text (Number d) h = let x = spelled_number d minus h in absurd (cc)
+minus_spelled text (Relation s) h = absurd (cc)
+minus_spelled text Minus h = refl
+minus_spelled text _ h = absurd (cc)
 
 -- the code of a number that is not too large
 exact : (d : Decimal) (n k : ℕ) → IsNumber d (number n k) → nat_le d.decimals 6 ≡ true → (d.value ≡ n) × (d.decimals ≡ k)
@@ -243,25 +243,25 @@ too_large (Constant rel) d e = rw (past_six d.decimals e) refl
 too_large (AtNumber rel negative) d e = rw (past_six d.decimals e) refl
 too_large _ d e = rw (past_none d.decimals e) refl
 
--- a number that is not refused is told exactly
-pub number_told : (text : List ℕ) (place : Place) (n k : ℕ) (c : Code) → Tells text c (number n k) → bad_in place c ≡ false
+-- a number that is not refused is spelled exactly
+pub number_spelled : (text : List ℕ) (place : Place) (n k : ℕ) (c : Code) → Spells text c (number n k) → bad_in place c ≡ false
     → (d : Decimal) × (c ≡ Number d) × (d.value ≡ n) × (d.decimals ≡ k)
-number_told text place n k (IsKeyword v) h b = absurd (cc)
-number_told text place n k (Name from to) h b = absurd (cc (h.1))
-number_told text place n k (Number d) h b = split (nat_le d.decimals 6) refl
+number_spelled text place n k (IsKeyword v) h b = absurd (cc)
+number_spelled text place n k (Name from to) h b = absurd (cc (h.1))
+number_spelled text place n k (Number d) h b = split (nat_le d.decimals 6) refl
   where
     split : (z : Bool) → nat_le d.decimals 6 ≡ z → (e : Decimal) × (Number d ≡ Number e) × (e.value ≡ n) × (e.decimals ≡ k)
     split true e = let x = exact d n k h e in (d, refl, x.0, x.1)
     split false e = let x = too_large place d e in absurd (cc)
-number_told text place n k (Relation s) h b = absurd (cc)
-number_told text place n k _ h b = absurd (cc)
+number_spelled text place n k (Relation s) h b = absurd (cc)
+number_spelled text place n k _ h b = absurd (cc)
 
 -- the state after a token
 pub stepped : {text : List ℕ} {p q : Parse} {t : Token} {ts : List Token} → Reads text p (t ∷ ts) q → (c : Code) (a : Parse)
-    → ((d : Code) → Tells text d t → d ≡ c)
+    → ((d : Code) → Spells text d t → d ≡ c)
     → parse_step text p c ≡ Some a → Reads text a ts q
-stepped {text} {p} {q} {t} {ts} (reads {m = m} d h b e r) c a told f =
-    let x : parse_step text p c ≡ Some m = rw (told d h) at e in
+stepped {text} {p} {q} {t} {ts} (reads {m = m} d h b e r) c a spelled f =
+    let x : parse_step text p c ≡ Some m = rw (spelled d h) at e in
     let y : a ≡ m = cc in rw y r
 
 -- the number that comes next
@@ -269,14 +269,14 @@ pub stepped_number : {text : List ℕ} {p q : Parse} {n k : ℕ} {ts : List Toke
     → (d : Decimal) × (d.value ≡ n) × (d.decimals ≡ k) × (bad_in p.place (Number d) ≡ false)
     × ((a : Parse) → parse_step text p (Number d) ≡ Some a → Reads text a ts q)
 stepped_number {text} {p} {q} {n} {k} {ts} (reads {m = m} c h b e r) =
-    let x = number_told text p.place n k c h b in
+    let x = number_spelled text p.place n k c h b in
     (x.0, x.2, x.3, rw x.1 at b, λ a f. let y : parse_step text p (Number x.0) ≡ Some m = rw x.1 at e in let z : a ≡ m = cc in rw z r)
 
 -- the name that comes next
 pub stepped_name : {text : List ℕ} {p q : Parse} {w : List ℕ} {ts : List Token} → is_among w reserved ≡ false → Reads text p (word w ∷ ts) q
     → (from : ℕ) × (to : ℕ) × (between from to text ≡ w) × ((a : Parse) → parse_step text p (Name from to) ≡ Some a → Reads text a ts q)
 stepped_name {text} {p} {q} {w} {ts} g (reads {m = m} c h b e r) =
-    let x = name_told text w c g h in
+    let x = name_spelled text w c g h in
     (x.0, x.1, x.3, λ a f. let y : parse_step text p (Name x.0 x.1) ≡ Some m = rw x.2 at e in let z : a ≡ m = cc in rw z r)
 
 -- no tokens leave the parser as it was

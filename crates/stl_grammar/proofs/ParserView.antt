@@ -12,7 +12,7 @@ use Rattle.stl_grammar.specs.Machine as Machine
 use Rattle.stl_grammar.specs.Machine.{kind, a_name, State, Mark, at_operand}
 use Rattle.stl_grammar.specs.Machine.{at_bound}
 use Rattle.stl_grammar.specs.Machine.{at_sign, at_end, without_operators, step}
-use Rattle.stl_grammar.specs.Parsing.{Parse, parse_step, begin_operand, closed, settled_frames, top_rank, between, IsKnown, back_frame}
+use Rattle.stl_grammar.specs.Parsing.{Parse, parse_step, begin_operand, closed, folded_frames, top_rank, between, IsKnown, back_frame}
 use Rattle.stl_grammar.specs.Refusing.{state_of, marks_of, had_of, owner, is_beside, back_is_beside}
 use Rattle.stl_grammar.specs.Taken.{plain}
 use Rattle.stl_grammar.proofs.WordKinds.{name_kind}
@@ -95,67 +95,67 @@ no_operators (Between (UpTo w) left ∷ frames) h l = let n = order_next (UpTo w
 no_operators (Between (After b) left ∷ frames) h l = let n = order_next (After b) left frames h in no_operators frames n.1 (omega (arith, n.0))
 
 -- after the end of an operand
-pub settled_had : (frames : List Frame) → had_of (settled_frames 5 frames) ≡ had_of frames
-settled_had [] = refl
-settled_had (Opened ∷ frames) = refl
-settled_had (Before o ∷ frames) = settled_had frames
-settled_had (Between Then left ∷ frames) = refl
-settled_had (Between Either left ∷ frames) = refl
-settled_had (Between Both left ∷ frames) = refl
-settled_had (Between (UpTo w) left ∷ frames) = refl
-settled_had (Between (After b) left ∷ frames) = refl
+pub folded_had : (frames : List Frame) → had_of (folded_frames 5 frames) ≡ had_of frames
+folded_had [] = refl
+folded_had (Opened ∷ frames) = refl
+folded_had (Before o ∷ frames) = folded_had frames
+folded_had (Between Then left ∷ frames) = refl
+folded_had (Between Either left ∷ frames) = refl
+folded_had (Between Both left ∷ frames) = refl
+folded_had (Between (UpTo w) left ∷ frames) = refl
+folded_had (Between (After b) left ∷ frames) = refl
 
--- settling leaves the marks that are no operators
-pub settled_marks : (frames : List Frame) → ordered frames ≡ true → marks_of (settled_frames 5 frames) ≡ without_operators (marks_of frames)
-settled_marks [] h = refl
-settled_marks (Opened ∷ frames) h = refl
-settled_marks (Before o ∷ frames) h = settled_marks frames h
-settled_marks (Between Then left ∷ frames) h = refl
-settled_marks (Between Either left ∷ frames) h = sym (no_operators (Between Either left ∷ frames) h (omega arith))
-settled_marks (Between Both left ∷ frames) h = sym (no_operators (Between Both left ∷ frames) h (omega arith))
-settled_marks (Between (UpTo w) left ∷ frames) h = sym (no_operators (Between (UpTo w) left ∷ frames) h (omega arith))
-settled_marks (Between (After b) left ∷ frames) h = sym (no_operators (Between (After b) left ∷ frames) h (omega arith))
+-- folding leaves the marks that are no operators
+pub folded_marks : (frames : List Frame) → ordered frames ≡ true → marks_of (folded_frames 5 frames) ≡ without_operators (marks_of frames)
+folded_marks [] h = refl
+folded_marks (Opened ∷ frames) h = refl
+folded_marks (Before o ∷ frames) h = folded_marks frames h
+folded_marks (Between Then left ∷ frames) h = refl
+folded_marks (Between Either left ∷ frames) h = sym (no_operators (Between Either left ∷ frames) h (omega arith))
+folded_marks (Between Both left ∷ frames) h = sym (no_operators (Between Both left ∷ frames) h (omega arith))
+folded_marks (Between (UpTo w) left ∷ frames) h = sym (no_operators (Between (UpTo w) left ∷ frames) h (omega arith))
+folded_marks (Between (After b) left ∷ frames) h = sym (no_operators (Between (After b) left ∷ frames) h (omega arith))
 
 -- before an operator that joins
-pub joined_marks : (r : ℕ) (frames : List Frame) → 1 < r → ordered frames ≡ true → top_rank frames < 5 → marks_of (settled_frames r frames) ≡ marks_of frames
+pub joined_marks : (r : ℕ) (frames : List Frame) → 1 < r → ordered frames ≡ true → top_rank frames < 5 → marks_of (folded_frames r frames) ≡ marks_of frames
 joined_marks r [] s h l = refl
 joined_marks r (Opened ∷ frames) s h l = let e : nat_le r 0 ≡ false = grind (arith, nat_tests, s) in rw e refl
 joined_marks r (Before o ∷ frames) s h l = absurd (omega (arith, l))
 joined_marks r (Between Then left ∷ frames) s h l = let e : nat_le r 1 ≡ false = grind (arith, nat_tests, s) in rw e refl
 joined_marks r (Between Either left ∷ frames) s h l =
     let n = order_next Either left frames h in
-    let more : marks_of (settled_frames r frames) ≡ marks_of frames = joined_marks r frames s n.1 (omega (arith, n.0)) in
+    let more : marks_of (folded_frames r frames) ≡ marks_of frames = joined_marks r frames s n.1 (omega (arith, n.0)) in
     by_rank (nat_le r 2) more
   where
-    by_rank : (q : Bool) → marks_of (settled_frames r frames) ≡ marks_of frames
-        → marks_of (if q then settled_frames r frames else Between Either left ∷ frames) ≡ marks_of frames
+    by_rank : (q : Bool) → marks_of (folded_frames r frames) ≡ marks_of frames
+        → marks_of (if q then folded_frames r frames else Between Either left ∷ frames) ≡ marks_of frames
     by_rank true more = more
     by_rank false more = refl
 joined_marks r (Between Both left ∷ frames) s h l =
     let n = order_next Both left frames h in
-    let more : marks_of (settled_frames r frames) ≡ marks_of frames = joined_marks r frames s n.1 (omega (arith, n.0)) in
+    let more : marks_of (folded_frames r frames) ≡ marks_of frames = joined_marks r frames s n.1 (omega (arith, n.0)) in
     by_rank (nat_le r 3) more
   where
-    by_rank : (q : Bool) → marks_of (settled_frames r frames) ≡ marks_of frames
-        → marks_of (if q then settled_frames r frames else Between Both left ∷ frames) ≡ marks_of frames
+    by_rank : (q : Bool) → marks_of (folded_frames r frames) ≡ marks_of frames
+        → marks_of (if q then folded_frames r frames else Between Both left ∷ frames) ≡ marks_of frames
     by_rank true more = more
     by_rank false more = refl
 joined_marks r (Between (UpTo w) left ∷ frames) s h l =
     let n = order_next (UpTo w) left frames h in
-    let more : marks_of (settled_frames r frames) ≡ marks_of frames = joined_marks r frames s n.1 (omega (arith, n.0)) in
+    let more : marks_of (folded_frames r frames) ≡ marks_of frames = joined_marks r frames s n.1 (omega (arith, n.0)) in
     by_rank (nat_le r 4) more
   where
-    by_rank : (q : Bool) → marks_of (settled_frames r frames) ≡ marks_of frames
-        → marks_of (if q then settled_frames r frames else Between (UpTo w) left ∷ frames) ≡ marks_of frames
+    by_rank : (q : Bool) → marks_of (folded_frames r frames) ≡ marks_of frames
+        → marks_of (if q then folded_frames r frames else Between (UpTo w) left ∷ frames) ≡ marks_of frames
     by_rank true more = more
     by_rank false more = refl
 joined_marks r (Between (After b) left ∷ frames) s h l =
     let n = order_next (After b) left frames h in
-    let more : marks_of (settled_frames r frames) ≡ marks_of frames = joined_marks r frames s n.1 (omega (arith, n.0)) in
+    let more : marks_of (folded_frames r frames) ≡ marks_of frames = joined_marks r frames s n.1 (omega (arith, n.0)) in
     by_rank (nat_le r 4) more
   where
-    by_rank : (q : Bool) → marks_of (settled_frames r frames) ≡ marks_of frames
-        → marks_of (if q then settled_frames r frames else Between (After b) left ∷ frames) ≡ marks_of frames
+    by_rank : (q : Bool) → marks_of (folded_frames r frames) ≡ marks_of frames
+        → marks_of (if q then folded_frames r frames else Between (After b) left ∷ frames) ≡ marks_of frames
     by_rank true more = more
     by_rank false more = refl
 
@@ -179,7 +179,7 @@ free_name (c ∷ w) h = turned (is_among (c ∷ w) reserved) (and_parts (begins_
     turned true e = absurd (cc)
     turned false e = refl
 
--- so a token that is told as a name is one
+-- so a token that is spelled as a name is one
 pub known_kind : (text : List ℕ) (from to : ℕ) → IsKnown text (Name from to) → kind (between from to text) ≡ a_name
 known_kind text from to k = name_kind (between from to text) (free_name (between from to text) k.2)
 
@@ -188,8 +188,8 @@ abbrev pub ended : Bool → List Mark → ℕ → State
 ended had marks nodes = record { place = at_end; had = had; marks = marks; nodes = nodes }
 
 completed_state : (frames : List Frame) (q : Machine.Place) (n : ℕ) → ordered frames ≡ true
-    → ended (had_of (settled_frames 5 frames)) (marks_of (settled_frames 5 frames)) n ≡ ended (had_of frames) (without_operators (marks_of frames)) n
-completed_state frames q n h = rw (settled_had frames, settled_marks frames h) refl
+    → ended (had_of (folded_frames 5 frames)) (marks_of (folded_frames 5 frames)) n ≡ ended (had_of frames) (without_operators (marks_of frames)) n
+completed_state frames q n h = rw (folded_had frames, folded_marks frames h) refl
 
 -- an operand begins
 pub begin_view : (text : List ℕ) (place : Place) (q : Machine.Place) (frames : List Frame) (drafts : List Draft) (made : ℕ) (t : Code)
@@ -224,7 +224,7 @@ begin_view text place q frames drafts made Minus k h = refl
 
 -- a parenthesis ends
 close_view : (place : Place) (frames : List Frame) (drafts : List Draft) (made : ℕ) → ordered frames ≡ true
-    → option_map state_of (closed (record { place = place; frames = settled_frames 1 frames; drafts = drafts; terms = []; made = made }))
+    → option_map state_of (closed (record { place = place; frames = folded_frames 1 frames; drafts = drafts; terms = []; made = made }))
     ≡ Machine.closed (marks_of frames) made
 close_view place [] drafts made h = refl
 close_view place (Opened ∷ frames) drafts made h = ap Some (completed_state frames at_end made h)

@@ -15,7 +15,7 @@ use Rattle.stl_grammar.specs.Taken.{Taken, none, more, plain, empty_parse}
 use Rattle.stl_grammar.specs.ReadText.{Advances, Refuses, Stops, IsRead}
 use Rattle.stl_grammar.proofs.ParserView.{IsFit}
 use Rattle.stl_grammar.proofs.ParserFit.{Holds, fit_step}
-use Rattle.stl_grammar.proofs.RefusingLaw.{judged, taken, IsTaken, expected_same}
+use Rattle.stl_grammar.proofs.RefusingLaw.{refused_rightly, taken, IsTaken, expected_same}
 use Rattle.stl_grammar.proofs.MachineBegins.{run_ends}
 use Rattle.stl_grammar.proofs.MachineRuns.{run_goes_on}
 use Rattle.stl_grammar.proofs.MachineView.{run_expected}
@@ -43,7 +43,7 @@ pub record HasRead (text : List ℕ) (at : ℕ) (p : Parse) (codes : List Code) 
   -- the place is in the text
   pub within : at ≤ length text
   -- the code's tokens are those
-  pub told : reverse before ≡ map (plain text) codes
+  pub spelled : reverse before ≡ map (plain text) codes
   -- a refusal from here is one of the text
   pub fault : (r : FormulaFault) → TokenFault before at (drop at text) r → TokenFault [] 0 text r
   -- and the other way round
@@ -60,7 +60,7 @@ read_nothing text = record {
   fit = record { order = refl; place = refl };
   few = omega arith;
   within = omega arith;
-  told = refl;
+  spelled = refl;
   fault = λ r h. h;
   back = λ r h. h;
   lexed = λ ts h. h;
@@ -150,7 +150,7 @@ module _ (text : List ℕ) (at : ℕ) (p : Parse) (codes : List Code) (h : HasRe
         fit = h.fit;
         few = h.few;
         within = omega arith;
-        told = h.told;
+        spelled = h.spelled;
         fault = λ r f. h.fault r (moved_fault refl (sym (first l)) (add_blank b next f));
         back = λ r f. moved_fault next refl (after_blank b (moved_fault refl (first l) (h.back r f)));
         lexed = λ ts f. h.lexed ts (subst (λ xs. Lexes xs ts) (sym (first l)) (skip b f));
@@ -169,7 +169,7 @@ module _ (text : List ℕ) (at : ℕ) (p : Parse) (codes : List Code) (h : HasRe
       let x = f.lexeme in
       let rest : drop (at + f.len) text ≡ x.after = rest_after x.bytes x.after f.len x.splits x.size in
       let e : refused text p f.code x.after at ≡ Some r = rw rest at f.refused in
-      h.fault r (here x.token x.bytes x.after x.splits x.reads (judged text x.after h.before p f.code x.token at h.runs h.fit x.tells r e))
+      h.fault r (here x.token x.bytes x.after x.splits x.reads (refused_rightly text x.after h.before p f.code x.token at h.runs h.fit x.spells r e))
 
   -- so where the parser stops
   pub read_stops : (r : FormulaFault) → at < length text → is_blank (get_or text at 0) ≡ false → Stops text at p r → TokenFault [] 0 text r
@@ -182,19 +182,19 @@ module _ (text : List ℕ) (at : ℕ) (p : Parse) (codes : List Code) (h : HasRe
       let x = f.lexeme in
       let rest : drop (at + f.len) text ≡ x.after = rest_after x.bytes x.after f.len x.splits x.size in
       let e : refused text p f.code x.after at ≡ None = rw rest at f.free in
-      let k : IsTaken text x.after h.before p f.code x.token at h.runs h.fit x.tells q =
-      taken text x.after h.before p f.code x.token at h.runs h.fit x.tells q e f.step in
+      let k : IsTaken text x.after h.before p f.code x.token at h.runs h.fit x.spells q =
+      taken text x.after h.before p f.code x.token at h.runs h.fit x.spells q e f.step in
       let end : at + length x.bytes ≡ to = ap (λ n. at + n) x.size ∙ sym f.place in
       let after : drop to text ≡ x.after = ap (λ n. drop n text) f.place ∙ rest in
       let long : length text - at ≡ length x.bytes + length x.after = sym (length-drop at text) ∙ (ap length x.splits ∙ length-append x.bytes x.after) in
       record {
         before = x.token ∷ h.before;
-        taken = more x.token f.code h.taken x.tells k.good k.order f.step;
+        taken = more x.token f.code h.taken x.spells k.good k.order f.step;
         runs = k.next;
         fit = kept (parse_step text p f.code) q f.step (fit_step text p f.code h.fit);
         few = k.few;
         within = within_text at (length text) (length x.bytes) (length x.after) to h.within long end;
-        told = told_more k.exact;
+        spelled = spelled_more k.exact;
         fault = λ r g. h.fault r (later x.token x.bytes x.after x.splits x.reads k.free (moved_fault (sym end) after g));
         back = λ r g. moved_fault end (sym after) (after_token x.token x.bytes x.after x.splits x.reads k.free (h.back r g));
         lexed = λ ts g. lexed_more ts (h.lexed (x.token ∷ ts) (token x.bytes x.after x.splits x.reads (rw after at g)));
@@ -207,9 +207,9 @@ module _ (text : List ℕ) (at : ℕ) (p : Parse) (codes : List Code) (h : HasRe
       within_text : (a l b c to : ℕ) → a ≤ l → l - a ≡ b + c → a + b ≡ to → to ≤ l
       within_text a l b c to i j k = omega (arith, i, j, k)
 
-      told_more : f.lexeme.token ≡ plain text f.code → reverse (f.lexeme.token ∷ h.before) ≡ map (plain text) others
-      told_more e =
-          reverse-append (f.lexeme.token ∷ []) h.before ∙ (ap (λ xs. xs ++ f.lexeme.token ∷ []) h.told ∙ (ap (λ t. map (plain text) codes ++ t ∷ []) e
+      spelled_more : f.lexeme.token ≡ plain text f.code → reverse (f.lexeme.token ∷ h.before) ≡ map (plain text) others
+      spelled_more e =
+          reverse-append (f.lexeme.token ∷ []) h.before ∙ (ap (λ xs. xs ++ f.lexeme.token ∷ []) h.spelled ∙ (ap (λ t. map (plain text) codes ++ t ∷ []) e
           ∙ (sym (map-append (plain text) codes (f.code ∷ [])) ∙ ap (map (plain text)) (sym f.tokens))))
 
       lexed_more : (ts : List Token) → Lexes text (reverse h.before ++ f.lexeme.token ∷ ts) → Lexes text (reverse (f.lexeme.token ∷ h.before) ++ ts)
@@ -225,7 +225,7 @@ module _ (text : List ℕ) (at : ℕ) (p : Parse) (codes : List Code) (h : HasRe
       record {
         before = h.before;
         taken = h.taken;
-        told = h.told;
+        spelled = h.spelled;
         lexed = subst (λ xs. Lexes text xs) (append-nil (reverse h.before)) (h.lexed [] (rw none_left nothing));
         ended = ended;
         free = λ r f. none_at_end ended (rw none_left at (h.back r f));

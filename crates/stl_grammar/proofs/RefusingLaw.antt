@@ -12,7 +12,7 @@ use Rattle.stl_grammar.specs.Tokens.{Token, word, number}
 use Rattle.stl_grammar.specs.FormulaRefusals.{MayBegin, RefusedAt, pending, nodes_made, expected}
 use Rattle.stl_grammar.specs.FormulaRefusals.{is_unbounded, begins_fifth_term, is_bad_number, is_out_of_order}
 use Rattle.stl_grammar.specs.FormulaRefusals.{begins_future_bound, passes_limit, opens_bound, ahead}
-use Rattle.stl_grammar.specs.Spelling.{Tells, IsLarge, spelling}
+use Rattle.stl_grammar.specs.Spelling.{Spells, IsLarge, spelling}
 use Rattle.stl_grammar.specs.Machine as Machine
 use Rattle.stl_grammar.specs.Machine.{State, Mark, Owner, of_until, of_since, of_future, of_past, step_bound}
 use Rattle.stl_grammar.specs.Machine.{step_at, at_operand, at_bound, at_low, at_comma, at_high, at_closing}
@@ -46,57 +46,57 @@ use Rattle.stl_grammar.specs.declared.fault.What.TheVariants.{Constant as WhatCo
 use Rattle.stl_grammar.specs.declared.fault.FormulaFault.{FormulaFault}
 use Rattle.stl_grammar.specs.declared.fault.FormulaFault.TheVariants.{Expected, BadNumber, BoundOrder, UnboundedFuture, TooManyTerms, TooDeep, TooManyNodes}
 
--- the code tells a number past every limit
-abbrev pub TellsLarge : Code → Token → Type 0
-TellsLarge (Number d) t = (nat_le d.decimals 6 ≡ false) × IsLarge t
-TellsLarge _ t = ⊥
+-- the code spells a number past every limit
+abbrev pub SpellsLarge : Code → Token → Type 0
+SpellsLarge (Number d) t = (nat_le d.decimals 6 ≡ false) × IsLarge t
+SpellsLarge _ t = ⊥
 
--- the code tells the token exactly, or a large number
-pub tells_plain : (text : List ℕ) (c : Code) (t : Token) → Tells text c t → (t ≡ plain text c) ⊎ TellsLarge c t
-tells_plain text (IsKeyword w) t h = inl h
-tells_plain text (Name from to) t (name, e, at) =
+-- the code spells the token exactly, or a large number
+pub spells_plain : (text : List ℕ) (c : Code) (t : Token) → Spells text c t → (t ≡ plain text c) ⊎ SpellsLarge c t
+spells_plain text (IsKeyword w) t h = inl h
+spells_plain text (Name from to) t (name, e, at) =
     let size : to - from ≡ length name = omega (arith, at.ends) in
     let same : between from to text ≡ name = rw (size, at.stands) (take_at name at.after (length name) refl) in
     inl (e ∙ ap word (sym same))
-tells_plain text (Number d) t h = by_size (nat_le d.decimals 6) refl h
+spells_plain text (Number d) t h = by_size (nat_le d.decimals 6) refl h
   where
     by_size : (q : Bool) → nat_le d.decimals 6 ≡ q → MatchBool q (t ≡ number d.value d.decimals) (IsLarge t)
-        → (t ≡ plain text (Number d)) ⊎ TellsLarge (Number d) t
+        → (t ≡ plain text (Number d)) ⊎ SpellsLarge (Number d) t
     by_size true e h = inl h
     by_size false e h = inr (e, h)
-tells_plain text (Relation r) t h = inl h
-tells_plain text OpenParen t h = inl h
-tells_plain text CloseParen t h = inl h
-tells_plain text OpenBracket t h = inl h
-tells_plain text CloseBracket t h = inl h
-tells_plain text Comma t h = inl h
-tells_plain text Star t h = inl h
-tells_plain text Plus t h = inl h
-tells_plain text Minus t h = inl h
+spells_plain text (Relation r) t h = inl h
+spells_plain text OpenParen t h = inl h
+spells_plain text CloseParen t h = inl h
+spells_plain text OpenBracket t h = inl h
+spells_plain text CloseBracket t h = inl h
+spells_plain text Comma t h = inl h
+spells_plain text Star t h = inl h
+spells_plain text Plus t h = inl h
+spells_plain text Minus t h = inl h
 
--- a name that the code tells stands in the text
+-- a name that the code spells stands in the text
 some_name : (w : List ℕ) → IsTrue (is_name w) → 0 < length w
 some_name [] h = absurd (cc)
 some_name (c ∷ w) h = omega arith
 
--- a token that is told is known
-pub tells_known : (text : List ℕ) (c : Code) (t : Token) → Tells text c t → IsKnown text c
-tells_known text (IsKeyword w) t h = tt
-tells_known text (Name from to) t (name, e, at) =
+-- a token that is spelled is known
+pub spells_known : (text : List ℕ) (c : Code) (t : Token) → Spells text c t → IsKnown text c
+spells_known text (IsKeyword w) t h = tt
+spells_known text (Name from to) t (name, e, at) =
     let size : to - from ≡ length name = omega (arith, at.ends) in
     let same : between from to text ≡ name = rw (size, at.stands) (take_at name at.after (length name) refl) in
     let long : length text - from ≡ length name + length at.after = sym (length-drop from text) ∙ ap length at.stands ∙ length-append name at.after in
     (omega (arith, at.ends), omega (arith, at.ends, long, some_name name at.good), subst (λ w. IsTrue (is_name w)) (sym same) at.good)
-tells_known text (Number d) t h = tt
-tells_known text (Relation r) t h = tt
-tells_known text OpenParen t h = tt
-tells_known text CloseParen t h = tt
-tells_known text OpenBracket t h = tt
-tells_known text CloseBracket t h = tt
-tells_known text Comma t h = tt
-tells_known text Star t h = tt
-tells_known text Plus t h = tt
-tells_known text Minus t h = tt
+spells_known text (Number d) t h = tt
+spells_known text (Relation r) t h = tt
+spells_known text OpenParen t h = tt
+spells_known text CloseParen t h = tt
+spells_known text OpenBracket t h = tt
+spells_known text CloseBracket t h = tt
+spells_known text Comma t h = tt
+spells_known text Star t h = tt
+spells_known text Plus t h = tt
+spells_known text Minus t h = tt
 
 future_same : (place : Place) (n : ℕ) → future_at (place_at place n) ≡ future_in place
 future_same Operand n = refl
@@ -323,23 +323,23 @@ none_of a false rest e = (refl, e)
 
 -- a token after tokens that led to the parser's state
 module _ (text rest : List ℕ) (before : List Token) (p : Parse) (c : Code) (t : Token) (at : ℕ)
-    (runs : run before ≡ Some (state_of p)) (fit : IsFit p) (tells : Tells text c t) where
+    (runs : run before ≡ Some (state_of p)) (fit : IsFit p) (spells : Spells text c t) where
   known : IsKnown text c
-  known = tells_known text c t tells
+  known = spells_known text c t spells
 
   stepped : Alike (option_map state_of (parse_step text p c)) (step (state_of p) t)
-  stepped = by_kind (tells_plain text c t tells)
+  stepped = by_kind (spells_plain text c t spells)
     where
       same : (o : Option State) → Alike o o
       same None = tt
       same (Some a) = (refl, refl)
 
-      large : (c : Code) → TellsLarge c t → IsKnown text c → Alike (option_map state_of (parse_step text p c)) (step (state_of p) t)
+      large : (c : Code) → SpellsLarge c t → IsKnown text c → Alike (option_map state_of (parse_step text p c)) (step (state_of p) t)
       large (Number d) (e, (n, k, f, l)) sees =
           rw (view_step text p (Number d) sees fit, f) (numbers_alike (state_of p).place (state_of p) d.value d.decimals n k)
       large _ h sees = absurd h
 
-      by_kind : (t ≡ plain text c) ⊎ TellsLarge c t → Alike (option_map state_of (parse_step text p c)) (step (state_of p) t)
+      by_kind : (t ≡ plain text c) ⊎ SpellsLarge c t → Alike (option_map state_of (parse_step text p c)) (step (state_of p) t)
       by_kind (inl e) = rw (view_step text p c known fit, e) (same (step (state_of p) (plain text c)))
       by_kind (inr h) = large c h known
 
@@ -361,32 +361,32 @@ module _ (text rest : List ℕ) (before : List Token) (p : Parse) (c : Code) (t 
           (step_begins before (state_of p) next t runs e, run_depth (t ∷ before) next r ∙ ap length (sym h.0), run_nodes (t ∷ before) next r ∙ sym h.1)
 
   unbounded : is_unbounded before t rest ≡ unbounded_in p.place c rest
-  unbounded = by_kind (tells_plain text c t tells)
+  unbounded = by_kind (spells_plain text c t spells)
     where
       future : begins_future_bound before ≡ future_in p.place
       future = run_future before (state_of p) runs ∙ future_same p.place (length p.terms)
 
-      large : (c : Code) → TellsLarge c t → is_unbounded before t rest ≡ unbounded_in p.place c rest
+      large : (c : Code) → SpellsLarge c t → is_unbounded before t rest ≡ unbounded_in p.place c rest
       large (Number d) (e, (n, k, f, l)) = rw f refl
       large _ h = absurd h
 
-      by_kind : (t ≡ plain text c) ⊎ TellsLarge c t → is_unbounded before t rest ≡ unbounded_in p.place c rest
+      by_kind : (t ≡ plain text c) ⊎ SpellsLarge c t → is_unbounded before t rest ≡ unbounded_in p.place c rest
       by_kind (inl e) = rw e (unbounded_same text rest before p.place c known future)
       by_kind (inr h) = large c h
 
   fifth : begins_fifth_term before t ≡ fifth_in p.place (length p.terms) c
-  fifth = run_fifth before (state_of p) runs t ∙ by_kind (tells_plain text c t tells)
+  fifth = run_fifth before (state_of p) runs t ∙ by_kind (spells_plain text c t spells)
     where
-      large : (c : Code) → TellsLarge c t → fifth_at (place_at p.place (length p.terms)) t ≡ fifth_in p.place (length p.terms) c
+      large : (c : Code) → SpellsLarge c t → fifth_at (place_at p.place (length p.terms)) t ≡ fifth_in p.place (length p.terms) c
       large (Number d) (e, (n, k, f, l)) = rw f (fifth_number p.place (length p.terms) n k d)
       large _ h = absurd h
 
-      by_kind : (t ≡ plain text c) ⊎ TellsLarge c t → fifth_at (place_at p.place (length p.terms)) t ≡ fifth_in p.place (length p.terms) c
+      by_kind : (t ≡ plain text c) ⊎ SpellsLarge c t → fifth_at (place_at p.place (length p.terms)) t ≡ fifth_in p.place (length p.terms) c
       by_kind (inl e) = rw e (fifth_same text p.place (length p.terms) c)
       by_kind (inr h) = large c h
 
   bad : is_bad_number before t ≡ bad_in p.place c
-  bad = by_kind (tells_plain text c t tells)
+  bad = by_kind (spells_plain text c t spells)
     where
       exact : (c : Code) → is_bad_number before (plain text c) ≡ bad_in p.place c
       exact (Number d) = run_bad_number before (state_of p) runs d.value d.decimals ∙ passes_same p.place (length p.terms) (state_of p).marks d.value d.decimals
@@ -402,25 +402,25 @@ module _ (text rest : List ℕ) (before : List Token) (p : Parse) (c : Code) (t 
       exact Plus = refl
       exact Minus = refl
 
-      large : (c : Code) → TellsLarge c t → is_bad_number before t ≡ bad_in p.place c
+      large : (c : Code) → SpellsLarge c t → is_bad_number before t ≡ bad_in p.place c
       large (Number d) (e, (n, k, f, l)) =
           rw (f, code_passes (number_in p.place) d.value d.decimals e)
           (run_bad_number before (state_of p) runs n k ∙ passes_large (expected_at (state_of p).place (state_of p).marks) n k l)
       large _ h = absurd h
 
-      by_kind : (t ≡ plain text c) ⊎ TellsLarge c t → is_bad_number before t ≡ bad_in p.place c
+      by_kind : (t ≡ plain text c) ⊎ SpellsLarge c t → is_bad_number before t ≡ bad_in p.place c
       by_kind (inl e) = rw e (exact c)
       by_kind (inr h) = large c h
 
-  -- a number that is not refused is told exactly
+  -- a number that is not refused is spelled exactly
   pub exact_where_good : bad_in p.place c ≡ false → t ≡ plain text c
-  exact_where_good g = by_kind (tells_plain text c t tells)
+  exact_where_good g = by_kind (spells_plain text c t spells)
     where
-      large : (c : Code) → TellsLarge c t → bad_in p.place c ≡ false → t ≡ plain text c
+      large : (c : Code) → SpellsLarge c t → bad_in p.place c ≡ false → t ≡ plain text c
       large (Number d) (e, (n, k, f, l)) g = absurd (let h = code_passes (number_in p.place) d.value d.decimals e in cc)
       large _ h g = absurd h
 
-      by_kind : (t ≡ plain text c) ⊎ TellsLarge c t → t ≡ plain text c
+      by_kind : (t ≡ plain text c) ⊎ SpellsLarge c t → t ≡ plain text c
       by_kind (inl e) = e
       by_kind (inr h) = large c h g
 
@@ -447,8 +447,8 @@ module _ (text rest : List ℕ) (before : List Token) (p : Parse) (c : Code) (t 
           )
 
   -- what the parser refuses is refused
-  pub judged : (r : FormulaFault) → refused text p c rest at ≡ Some r → RefusedAt before t rest at r
-  judged =
+  pub refused_rightly : (r : FormulaFault) → refused text p c rest at ≡ Some r → RefusedAt before t rest at r
+  refused_rightly =
       choose (IsTrue (is_unbounded before t rest)) (UnboundedFuture at) _ (unbounded_in p.place c rest) (λ e. unbounded ∙ e)
       (λ e h. let x = sym unbounded ∙ h in cc) _
       (by_step (parse_step text p c) refl)

@@ -63,18 +63,18 @@ node_of_frame (Before o) last = One o last
 node_of_frame (Between o left) last = Two o left last
 
 -- the nodes after the frames of at least this rank came to their end
-abbrev pub settled_drafts : ℕ → List Frame → List Draft → List Draft
-settled_drafts r [] drafts = drafts
-settled_drafts r (f ∷ frames) drafts = if nat_le r (rank f) then settled_drafts r frames (drafts ++ node_of_frame f (length drafts - 1) ∷ []) else drafts
+abbrev pub folded_drafts : ℕ → List Frame → List Draft → List Draft
+folded_drafts r [] drafts = drafts
+folded_drafts r (f ∷ frames) drafts = if nat_le r (rank f) then folded_drafts r frames (drafts ++ node_of_frame f (length drafts - 1) ∷ []) else drafts
 
 -- and the frames that are left
-abbrev pub settled_frames : ℕ → List Frame → List Frame
-settled_frames r [] = []
-settled_frames r (f ∷ frames) = if nat_le r (rank f) then settled_frames r frames else f ∷ frames
+abbrev pub folded_frames : ℕ → List Frame → List Frame
+folded_frames r [] = []
+folded_frames r (f ∷ frames) = if nat_le r (rank f) then folded_frames r frames else f ∷ frames
 
 -- the operators of at least this rank come to their end
-abbrev pub settled : ℕ → Parse → Parse
-settled r p = record { place = p.place; frames = settled_frames r p.frames; drafts = settled_drafts r p.frames p.drafts; terms = p.terms; made = p.made }
+abbrev pub folded : ℕ → Parse → Parse
+folded r p = record { place = p.place; frames = folded_frames r p.frames; drafts = folded_drafts r p.frames p.drafts; terms = p.terms; made = p.made }
 
 -- at another place; with one node more begun
 abbrev pub moved : Place → Parse → Parse
@@ -89,7 +89,7 @@ opened f p = record { place = Operand; frames = f ∷ p.frames; drafts = p.draft
 
 -- the operand of one node is at its end, and with it the one-operand operators before it
 abbrev pub completed : Draft → Parse → Parse
-completed d p = settled 5 (record { place = End; frames = p.frames; drafts = p.drafts ++ d ∷ []; terms = []; made = p.made })
+completed d p = folded 5 (record { place = End; frames = p.frames; drafts = p.drafts ++ d ∷ []; terms = []; made = p.made })
 
 -- a coefficient, which is refused above 16
 abbrev pub coefficient : Decimal → ℕ
@@ -207,14 +207,14 @@ end_atom rel negative p d = completed (Sum (record { terms = p.terms; rel = rel;
 
 -- an operand that is to follow a two-operand operator without a bound
 abbrev pub joined : ℕ → Infix → Parse → Parse
-joined r o p = opened (Between o (length (settled r p).drafts - 1)) (begun Operand (settled r p))
+joined r o p = opened (Between o (length (folded r p).drafts - 1)) (begun Operand (folded r p))
 
 -- a parenthesis ends
 abbrev pub closed : Parse → Option Parse
 closed p = by_frames p.frames
   where
     by_frames : List Frame → Option Parse
-    by_frames (Opened ∷ frames) = Some (settled 5 (record { place = End; frames = frames; drafts = p.drafts; terms = p.terms; made = p.made }))
+    by_frames (Opened ∷ frames) = Some (folded 5 (record { place = End; frames = frames; drafts = p.drafts; terms = p.terms; made = p.made }))
     by_frames _ = None
 
 -- after a whole operand
@@ -228,7 +228,7 @@ after_keyword p _ = None
 
 abbrev pub after_operand : Parse → Token → Option Parse
 after_operand p (IsKeyword w) = after_keyword p w
-after_operand p CloseParen = closed (settled 1 p)
+after_operand p CloseParen = closed (folded 1 p)
 after_operand p _ = None
 
 -- at another place, where there is one
@@ -267,7 +267,7 @@ parse_step text p t = by_place p.place
 abbrev pub Gives : Option Parse → Bool → Parse → Type 0
 Gives o taken new = MatchBool taken (o ≡ Some new) (o ≡ None)
 
--- a name of the text that the token tells
+-- a name of the text that the token spells
 abbrev pub IsKnown : List ℕ → Token → Type 0
 IsKnown text (Name from to) = (from ≤ to) × (to ≤ length text) × IsTrue (is_name (between from to text))
 IsKnown text _ = Unit {0}

@@ -39,7 +39,7 @@ Stops text at old r = (BeginsNoToken (drop at text) × (r ≡ BadByte at)) ⊎ R
 pub record IsRead (text : List ℕ) (p : Parse) (codes : List Token) : Type 0 where
   pub before : List Tokens.Token
   pub taken : Taken text before p
-  pub told : reverse before ≡ map (plain text) codes
+  pub spelled : reverse before ≡ map (plain text) codes
   pub lexed : Lexes text (reverse before)
   pub ended : MayEnd before
   pub free : (r : FormulaFault) → ¬ TokenFault [] 0 text r

@@ -1,4 +1,4 @@
--- How the code tells tokens.
+-- How the code spells tokens.
 use Rattle.std.specs.Prelude.{◌≡◌, ℕ, ◌+◌, ◌||◌, ◌==◌, ◌<◌, nat_lt, nat_le, MatchBool, Bool, false, List, ◌∷◌, ◌++◌, length, drop, codes, IsTrue}
 use Rattle.stl_grammar.specs.Tokens.{Token, word, number, relation, open_paren, close_paren, open_bracket, close_bracket, comma, star, plus, minus, IsToken}
 use Rattle.stl_syntax.specs.Names.{is_name}
@@ -40,24 +40,24 @@ IsLarge t = (n : ℕ) × (k : ℕ) × (t ≡ number n k) × IsTrue (nat_lt 6 k |
 abbrev pub IsNumber : Decimal → Token → Type 0
 IsNumber d t = MatchBool (nat_le d.decimals 6) (t ≡ number d.value d.decimals) (IsLarge t)
 
--- the token that the code tells, in this text
-abbrev pub Tells : List ℕ → Code → Token → Type 0
-Tells text (IsKeyword w) t = t ≡ word (spelling w)
-Tells text (Name from to) t = (name : List ℕ) × (t ≡ word name) × IsNameAt text from to name
-Tells text (Number d) t = IsNumber d t
-Tells text (Relation r) t = t ≡ relation r
-Tells text OpenParen t = t ≡ open_paren
-Tells text CloseParen t = t ≡ close_paren
-Tells text OpenBracket t = t ≡ open_bracket
-Tells text CloseBracket t = t ≡ close_bracket
-Tells text Comma t = t ≡ comma
-Tells text Star t = t ≡ star
-Tells text Plus t = t ≡ plus
-Tells text Minus t = t ≡ minus
+-- the token that the code spells, in this text
+abbrev pub Spells : List ℕ → Code → Token → Type 0
+Spells text (IsKeyword w) t = t ≡ word (spelling w)
+Spells text (Name from to) t = (name : List ℕ) × (t ≡ word name) × IsNameAt text from to name
+Spells text (Number d) t = IsNumber d t
+Spells text (Relation r) t = t ≡ relation r
+Spells text OpenParen t = t ≡ open_paren
+Spells text CloseParen t = t ≡ close_paren
+Spells text OpenBracket t = t ≡ open_bracket
+Spells text CloseBracket t = t ≡ close_bracket
+Spells text Comma t = t ≡ comma
+Spells text Star t = t ≡ star
+Spells text Plus t = t ≡ plus
+Spells text Minus t = t ≡ minus
 
--- the code tells a number: the value, and how many of its last digits are decimals
-abbrev pub TellsNumber : ℕ → ℕ → Decimal → Type 0
-TellsNumber value decimals d = MatchBool (nat_le d.decimals 6)
+-- the code spells a number: the value, and how many of its last digits are decimals
+abbrev pub SpellsNumber : ℕ → ℕ → Decimal → Type 0
+SpellsNumber value decimals d = MatchBool (nat_le d.decimals 6)
     ((d.value ≡ value) × (d.decimals ≡ decimals) × (value < 4294967296))
     (IsTrue (nat_lt 6 decimals || nat_lt 4294967295 value))
 
@@ -66,7 +66,7 @@ abbrev pub has_equal : List ℕ → Bool
 has_equal (c ∷ d ∷ more) = d == 61
 has_equal rest = false
 
--- the code tells the first token of `rest`, which has so many bytes
+-- the code spells the first token of `rest`, which has so many bytes
 pub record IsLexeme (text rest : List ℕ) (code : Code) (len : ℕ) : Type 0 where
   pub bytes : List ℕ
   pub after : List ℕ
@@ -74,4 +74,4 @@ pub record IsLexeme (text rest : List ℕ) (code : Code) (len : ℕ) : Type 0 wh
   pub splits : rest ≡ bytes ++ after
   pub size : length bytes ≡ len
   pub reads : IsToken bytes after token
-  pub tells : Tells text code token
+  pub spells : Spells text code token

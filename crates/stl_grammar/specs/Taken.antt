@@ -2,7 +2,7 @@
 use Rattle.std.specs.Prelude.{◌≡◌, ℕ, false, List, [], ◌∷◌, Some}
 use Rattle.stl_grammar.specs.Tokens as Tokens
 use Rattle.stl_grammar.specs.Tokens.{word, number, relation, open_paren, close_paren, open_bracket, close_bracket, comma, star, plus, minus}
-use Rattle.stl_grammar.specs.Spelling.{Tells, spelling}
+use Rattle.stl_grammar.specs.Spelling.{Spells, spelling}
 use Rattle.stl_grammar.specs.Parsing.{Parse, parse_step, between}
 use Rattle.stl_grammar.specs.Refusing.{bad_in, disorder_in}
 use Rattle.stl_grammar.specs.declared.token.Token.{Token as Code}
@@ -10,7 +10,7 @@ use Rattle.stl_grammar.specs.declared.token.Token.TheVariants.{Keyword as IsKeyw
 use Rattle.stl_grammar.specs.declared.token.Token.TheVariants.{CloseParen, OpenBracket, CloseBracket, Comma, Star, Plus, Minus}
 use Rattle.stl_grammar.specs.declared.place.Place.TheVariants.{Operand}
 
--- the token of a text that the code tells, where it tells it exactly
+-- the token of a text that the code spells, where it spells it exactly
 abbrev pub plain : List ℕ → Code → Tokens.Token
 plain text (IsKeyword w) = word (spelling w)
 plain text (Name from to) = word (between from to text)
@@ -32,5 +32,5 @@ empty_parse = record { place = Operand; frames = []; drafts = []; terms = []; ma
 -- the tokens before a place, the last one first, and the parser after them
 pub data Taken (text : List ℕ) : List Tokens.Token → Parse → Type 0 where
   none : Taken text [] empty_parse
-  more : {before : List Tokens.Token} {p q : Parse} (t : Tokens.Token) (c : Code) → Taken text before p → Tells text c t → bad_in p.place c ≡ false
+  more : {before : List Tokens.Token} {p q : Parse} (t : Tokens.Token) (c : Code) → Taken text before p → Spells text c t → bad_in p.place c ≡ false
       → disorder_in p.place c ≡ false → parse_step text p c ≡ Some q → Taken text (t ∷ before) q

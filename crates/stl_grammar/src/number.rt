@@ -1,7 +1,7 @@
 //! The value of digits, told exactly as far as a formula may need it.
 ghost use Rattle.std.specs.Prelude.{◌≡◌, ◌<◌, ◌≤◌, min, length, take, drop, true};
 ghost use Rattle.stl_syntax.specs.Characters.{is_digit, all, decimal_value, without_zeros, begins_decimals as has_decimals};
-ghost use Rattle.stl_grammar.specs.Spelling.{TellsNumber};
+ghost use Rattle.stl_grammar.specs.Spelling.{SpellsNumber};
 
 use crate::chars;
 use crate::decimal::Decimal;
@@ -50,7 +50,7 @@ pub(crate) fn begins_decimals(text: &[u8]) -> bool
 
 /// The number with this value and so many decimals.
 pub(crate) fn number(value: u64, decimals: usize) -> Decimal
-    ensures { TellsNumber value decimals result }
+    ensures { SpellsNumber value decimals result }
 {
     if value >= BEYOND || decimals > MOST_DECIMALS {
         return Decimal {

@@ -9,8 +9,8 @@ use crate::fault::What;
 use crate::frames::Frames;
 use crate::place::{Back, Place, Timed};
 use crate::shapes::{
-    back, back_frame, bounded_frame, closing, coefficient, in_bound, may_be_open, next_place,
-    opening, past_may_be_open, settle,
+    back, back_frame, bounded_frame, closing, coefficient, fold, in_bound, may_be_open, next_place,
+    opening, past_may_be_open,
 };
 use crate::token::{Keyword, Token};
 use std::alloc::{AllocError, Global};
@@ -69,7 +69,7 @@ impl Parser {
     ghost use Rattle.std.specs.Prelude.{List, ℕ, suc, Some, None, MatchBool, true, false, take, drop, nat_lt};
     ghost use Rattle.stl_grammar.specs.Refusing.{depth_of, expected_in, place_at, marks_of};
     ghost use Rattle.stl_grammar.specs.Machine.{ends_at};
-    ghost use Rattle.stl_grammar.specs.Parsing.{Parse, settled, settled_drafts, moved, begun, opened as opened_by, completed};
+    ghost use Rattle.stl_grammar.specs.Parsing.{Parse, folded, folded_drafts, moved, begun, opened as opened_by, completed};
     ghost use Rattle.stl_grammar.specs.Parsing.{with_term, begin_keyword as keyword_begins, begin_operand as operand_begins};
     ghost use Rattle.stl_grammar.specs.Parsing.{begin_bound as bound_begins, end_bound as bound_ends, end_atom as atom_ends};
     ghost use Rattle.stl_grammar.specs.Parsing.{joined as joined_by, closed, after_keyword as keyword_after};
@@ -195,11 +195,11 @@ impl Parser {
     }
 
     /// Ends the operators that bind at least so tightly.
-    fn settle(&mut self, least: u8) -> Result<(), AllocError>
+    fn fold(&mut self, least: u8) -> Result<(), AllocError>
         requires { 0 < least }
-        ensures { IfOk result (λ _. self.new ≡ settled least self.old) }
+        ensures { IfOk result (λ _. self.new ≡ folded least self.old) }
     {
-        settle(&mut self.frames, &mut self.drafts, least)
+        fold(&mut self.frames, &mut self.drafts, least)
     }
 
     /// Ends an operand of one node, and the one-operand operators before it.
@@ -209,7 +209,7 @@ impl Parser {
         self.place = Place::End;
         self.terms = Vec::new(self.alloc);
         self.drafts.push(node)?;
-        self.settle(5)
+        self.fold(5)
     }
 
     /// Adds a term.
@@ -255,7 +255,7 @@ impl Parser {
         Ok(true)
     }
 
-    /// Adds a term whose name the token tells.
+    /// Adds a term whose name the token spells.
     fn add_named(
         &mut self,
         text: &[u8],
@@ -403,7 +403,7 @@ impl Parser {
         requires made { self.old.made ≤ 256 }
         ensures { IfOk result (λ _. self.new ≡ joined_by least operator self.old) }
     {
-        self.settle(least)?;
+        self.fold(least)?;
         self.begin(Place::Operand);
         self.open(Frame::Infix {
             operator,
@@ -419,7 +419,7 @@ impl Parser {
             return Ok(false);
         };
         self.place = Place::End;
-        self.settle(5)?;
+        self.fold(5)?;
         Ok(true)
     }
 
@@ -459,14 +459,14 @@ impl Parser {
         match token {
             Token::Keyword(word) => self.after_keyword(word),
             Token::CloseParen => {
-                self.settle(1)?;
+                self.fold(1)?;
                 self.close()
             }
             _ => Ok(false),
         }
     }
 
-    /// Takes one token more, and tells whether some formula begins so.
+    /// Takes one token more, and answers whether some formula begins so.
     pub(crate) fn step(&mut self, text: &[u8], token: Token) -> Result<bool, AllocError>
         requires made { self.old.made ≤ 256 }
         requires known { IsKnown text.now token }
@@ -495,14 +495,14 @@ impl Parser {
 
     /// The nodes, once the whole text was read.
     pub(crate) fn finish(self) -> Result<Vec<Draft>, AllocError>
-        ensures { IfOk result (λ v. v.items ≡ settled_drafts 1 self.frames self.drafts) }
+        ensures { IfOk result (λ v. v.items ≡ folded_drafts 1 self.frames self.drafts) }
     {
         let Parser {
             mut frames,
             mut drafts,
             ..
         } = self;
-        settle(&mut frames, &mut drafts, 1)?;
+        fold(&mut frames, &mut drafts, 1)?;
         Ok(drafts)
     }
 }

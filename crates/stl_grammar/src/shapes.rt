@@ -4,7 +4,7 @@ ghost use Rattle.stl_grammar.specs.Refusing.{is_beside as stands_beside, back_is
 ghost use Rattle.stl_grammar.specs.Parsing.{rank, back as back_of, may_be_open as may_be_out, back_may_be_open};
 ghost use Rattle.stl_grammar.specs.Parsing.{opening as opening_of, closing as closing_of, bounded_frame as frame_of};
 ghost use Rattle.stl_grammar.specs.Parsing.{back_frame as frame_back, next_place as place_after, coefficient as coefficient_of};
-ghost use Rattle.stl_grammar.specs.Parsing.{node_of_frame, settled_frames, settled_drafts};
+ghost use Rattle.stl_grammar.specs.Parsing.{node_of_frame, folded_frames, folded_drafts};
 
 use crate::decimal::Decimal;
 use crate::draft::{Draft, Frame, Infix, PastBound, Prefix, Window};
@@ -164,14 +164,14 @@ pub(crate) fn node_of(frame: Frame, last: usize) -> Draft
 }
 
 /// Ends the operators that bind at least so tightly: the node of each follows that of its last operand.
-pub(crate) fn settle(
+pub(crate) fn fold(
     frames: &mut Frames,
     drafts: &mut Vec<Draft>,
     least: u8,
 ) -> Result<(), AllocError>
     requires { 0 < least }
-    ensures frames { IfOk result (λ _. frames.new ≡ settled_frames least frames.old) }
-    ensures drafts { IfOk result (λ _. drafts.new.items ≡ settled_drafts least frames.old drafts.old.items) }
+    ensures frames { IfOk result (λ _. frames.new ≡ folded_frames least frames.old) }
+    ensures drafts { IfOk result (λ _. drafts.new.items ≡ folded_drafts least frames.old drafts.old.items) }
 {
     while let Some(frame) = frames.pop_from(least) {
         let last = drafts.len().saturating_sub(1);

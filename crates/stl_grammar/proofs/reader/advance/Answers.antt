@@ -2,7 +2,7 @@
 use Rattle.std.proofs.Common.{◌≡◌, ◌+◌, ◌-◌, ◌≤◌, ◌<◌, ℕ, List, length, drop, sym, ap, ◌∙◌, arith}
 use Rattle.std.proofs.lemmas.List.{length-drop, length-append}
 use Rattle.stl_grammar.specs.Spelling.{IsLexeme}
-use Rattle.stl_grammar.proofs.RefusingLaw.{tells_known}
+use Rattle.stl_grammar.proofs.RefusingLaw.{spells_known}
 use Rattle.stl_grammar.specs.declared.token.Token.{Token as Code}
 use Rattle.stl_grammar.proofs.reader.advance.Goals as goal
 
@@ -21,4 +21,4 @@ pub slice_bounds-take-start : goal.slice_bounds-take-start
 slice_bounds-take-start c = ends_within c.args.text.now c.args.at c.in-Some.lexeme.len _ c.requires.place c.in-Some.ensures
 
 pub take-requires : goal.take-requires
-take-requires c = record { made = c.requires.made; known = tells_known c.args.text.now c.in-Some.lexeme.token _ c.in-Some.ensures.tells }
+take-requires c = record { made = c.requires.made; known = spells_known c.args.text.now c.in-Some.lexeme.token _ c.in-Some.ensures.spells }

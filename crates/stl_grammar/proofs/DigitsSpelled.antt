@@ -1,4 +1,4 @@
--- The digits of the tokens, told by the code's tokens.
+-- The digits of the tokens, spelled by the code's tokens.
 use Rattle.std.proofs.Common.{◌≡◌, ℕ, max, List, [], ◌∷◌, map, refl, ap, ◌∙◌}
 use Rattle.stl_grammar.specs.Grammar.{first_decimals, value_digits, time_digits}
 use Rattle.stl_grammar.specs.Taken.{plain}
