@@ -28,7 +28,8 @@ abbrev AreOnWay : List Column → Trace → Rational → Rational → List ℤ �
 AreOnWay columns tr t x first second =
     (k : BoundTerm) (name : List ℕ) → IsColumn columns name k.column k.step → value_of tr name t ≈ on_way (cell k first first) (cell k first second) x
 
-sum_on_way : (columns : List Column) (ts : List Term) (ks : List BoundTerm) (tr : Trace) (t x : Rational) (first second : List ℤ) → AreTermBindings columns ts ks
+sum_on_way : (columns : List Column) (ts : List Term) (ks : List BoundTerm) (tr : Trace) (t x : Rational) (first second : List ℤ)
+    → AreTermBindings columns ts ks
     → AreOnWay columns tr t x first second → sum_at ts tr t ≈ on_way (sum_over ks first first) (sum_over ks first second) x
 sum_on_way columns [] [] tr t x first second binding h = same_sym (way_starts (pos 0) x)
 sum_on_way columns [] (k ∷ ks) tr t x first second binding h = absurd binding
@@ -102,7 +103,8 @@ module _ (b : Binding) (i : ℕ) (k : BoundAtom) (here : slice_get b.atoms i ≡
       → expression a tr t
       ≈ at (ramp_line (pos r.time) (reach k r.values r.values) (reach k r.values s.values -ℤ reach k r.values r.values) (s.time - r.time) p) t
   expression_in_gap r s p t has low high =
-      same_trans (expression_on_way a k tr t (passed (pos r.time) (s.time - r.time) p t) r.values s.values atom_binding (gap_on_way tr r s t p for.rows has low high))
+      same_trans (expression_on_way a k tr t (passed (pos r.time) (s.time - r.time) p t) r.values s.values atom_binding
+          (gap_on_way tr r s t p for.rows has low high))
       (same_sym (way_ramp (pos r.time) (reach k r.values r.values) (reach k r.values s.values) (s.time - r.time) p t))
 
   -- so it is on the line of the gap

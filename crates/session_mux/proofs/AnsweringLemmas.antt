@@ -74,7 +74,8 @@ module _ (f : Formula) (seen : List Tagged) (x : Tagged) (i : ℕ) (mid : Regist
       )
       | inr k ↦ (
         (r.said j t k.1).0,
-        ((r.said j t k.1).1.0, subst (λ (o : Own). HasSaidSoFar f o (r.said j t k.1).1.0 t) (sym (own_stays seen x t.tag (apart j t k.0 k.1))) (r.said j t k.1).1.1),
+        ((r.said j t k.1).1.0, subst (λ (o : Own). HasSaidSoFar f o (r.said j t k.1).1.0 t)
+            (sym (own_stays seen x t.tag (apart j t k.0 k.1))) (r.said j t k.1).1.1),
       )
     ]
       where

@@ -115,7 +115,16 @@ as_alone_to_its_end f t all text among (during, rest, answers, ends, e) =
     let (said_first, lines_said, so) = as_alone f t all during answers in
     let (said_at_end, ends_said) = some_said f t all (tags_after [] all) rest ends in
     let a : AreSaidInAll f t all text (said_first ++ said_at_end) =
-    record { during = during; rest = rest; said_first = said_first; said_at_end = said_at_end; lines = lines_said; ends = ends_said; text_is = e; said_is = refl } in
+    record {
+      during = during;
+      rest = rest;
+      said_first = said_first;
+      said_at_end = said_at_end;
+      lines = lines_said;
+      ends = ends_said;
+      text_is = e;
+      said_is = refl;
+    } in
     (said_first ++ said_at_end, a, said_whole f t all text (said_first ++ said_at_end) among a)
 
 -- what others send adds nothing to what a session is told to its end

@@ -133,7 +133,8 @@ said_none : AreSaid (lines true [])
 said_none = subst (λ ls. AreSaid ls) (sym (lines-nil true)) tt
 
 said_both : (a b text : List ℕ) → EndsInFeed a → AreSaid (lines true a) → AreSaid (lines true b) → text ≡ a ++ b → AreSaid (lines true text)
-said_both a b text ends h k e = subst (λ ls. AreSaid ls) (sym (ap (λ t. lines true t) e ∙ lines_joined a b ends)) (said_append (lines true a) (lines true b) h k)
+said_both a b text ends h k e =
+    subst (λ ls. AreSaid ls) (sym (ap (λ t. lines true t) e ∙ lines_joined a b ends)) (said_append (lines true a) (lines true b) h k)
 
 -- ---- texts
 

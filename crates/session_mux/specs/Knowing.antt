@@ -40,7 +40,8 @@ tag_list sessions = map (λ (s : Session). s.tag) sessions
 
 -- each session stands for its own lines
 abbrev pub EachHasSaid : Formula → List Tagged → List Session → Type 0
-EachHasSaid f seen sessions = (i : ℕ) (s : Session) → slice_get sessions i ≡ Some s → IsTag s.tag × ((said : List ℕ) × HasSaidSoFar f (own_of seen s.tag) said s)
+EachHasSaid f seen sessions =
+    (i : ℕ) (s : Session) → slice_get sessions i ≡ Some s → IsTag s.tag × ((said : List ℕ) × HasSaidSoFar f (own_of seen s.tag) said s)
 
 -- the number of each tag has the place of its session, and no other number has one
 pub record AreFound (sessions : List Session) (places : List (ℕ × ℕ)) : Type 0 where

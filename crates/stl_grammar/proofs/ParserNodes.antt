@@ -238,7 +238,8 @@ module _ (text : List ℕ) (frames : List Frame) (drafts : List Draft) (n : ℕ)
       let z = stepped y Comma (at (High of x u.0) frames drafts [] n) (λ c h. comma_spelled text c h) refl in (
         u.0,
         is_number u.0 a j u.1 u.2,
-        stepped z (IsKeyword Inf) (at (ClosingInf b x u.0) frames drafts [] n) (λ c h. keyword_spelled text Inf c h) (inf_step text of b x u.0 frames drafts n e),
+        stepped z (IsKeyword Inf) (at (ClosingInf b x u.0) frames drafts [] n) (λ c h. keyword_spelled text Inf c h)
+            (inf_step text of b x u.0 frames drafts n e),
       )
 
   -- the bracket before a bound, and the one after it
@@ -640,7 +641,8 @@ module _ (text : List ℕ) (s : Scale) where
         let step = stepped r (IsKeyword True) (folded 5 (at End frames (drafts ++ Const true ∷ []) [] (suc n))) (λ c h. keyword_spelled text True c h) refl in
         (Const true ∷ [], suc n, refl, sym (reads_none step))
     operand_left always_false frames drafts n q e r =
-        let step = stepped r (IsKeyword False) (folded 5 (at End frames (drafts ++ Const false ∷ []) [] (suc n))) (λ c h. keyword_spelled text False c h) refl in
+        let step = stepped r (IsKeyword False) (folded 5 (at End frames (drafts ++ Const false ∷ []) [] (suc n)))
+            (λ c h. keyword_spelled text False c h) refl in
         (Const false ∷ [], suc n, refl, sym (reads_none step))
     operand_left (parens {ts = ts} {ns} f) frames drafts n q e r =
         let step = stepped r OpenParen (at Operand (Opened ∷ frames) drafts [] n) (λ c h. open_paren_spelled text c h) refl in

@@ -36,7 +36,8 @@ use Rattle.workbench.proofs.Leaving.{not_answer}
 -- where memory was wanting nothing is written
 pub starved_made : (held : Option (List ℕ)) (text : List ℕ) (outcome : Result (Unit {0}) InputStop) → outcome ≡ Err NoRoom
     → IsInputWritten held held text outcome (Err NoMemory)
-starved_made held text outcome e = subst (λ (r : Result (Unit {0}) InputStop). IsInputWritten held held text r (Err NoMemory)) (sym e) (no_room (Appends-nil held))
+starved_made held text outcome e =
+    subst (λ (r : Result (Unit {0}) InputStop). IsInputWritten held held text r (Err NoMemory)) (sym e) (no_room (Appends-nil held))
 
 -- the reason of an input is no fault of a sink
 pub not_unwritten : (outcome : Result (Unit {0}) InputStop) → outcome_of_input outcome ≢ Err Unwritten

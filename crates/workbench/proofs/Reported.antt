@@ -46,7 +46,8 @@ use Rattle.workbench.proofs.Reasoned.{nodes_of, few_cells}
 use Rattle.workbench.proofs.Refuting.{kept_refute}
 
 -- what is explained at the start is the truth there
-start_explained : (f : Formula) (tr : Trace) (steps : ℕ) (e : Explained) → IsExplained (nodes_for f tr) tr steps e → TellsTruth f tr (status_of_truth (truth_of e))
+start_explained : (f : Formula) (tr : Trace) (steps : ℕ) (e : Explained) → IsExplained (nodes_for f tr) tr steps e
+    → TellsTruth f tr (status_of_truth (truth_of e))
 start_explained f tr steps Holds is = inl (refl, is.0)
 start_explained f tr steps (Violated items) is = inr (refl, is.fails)
 

@@ -23,7 +23,8 @@ returns-in_ok-constant_signal-in-Const g c =
     record {
       sound = none_sound g.P.Shape c.args.from c.args.to c.args.node.now c.args.done.now r
           (λ reach. sound_more g.P.Shape c.args.from c.args.to 0 reach r (omega arith) c.in_ok-constant_signal-in-Const.ensures.sound);
-      told = λ s at i over all. subst (λ n. TellsValue g.P.Shape s (tree_of at i n) r) (sym c.in-Const.is) (c.in_ok-constant_signal-in-Const.ensures.told s over);
+      told = λ s at i over all. subst (λ n. TellsValue g.P.Shape s (tree_of at i n) r) (sym c.in-Const.is)
+          (c.in_ok-constant_signal-in-Const.ensures.told s over);
       wide = tt;
     }
 

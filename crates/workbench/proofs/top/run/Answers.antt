@@ -99,7 +99,8 @@ returns-in-Whole-clause-ran g c =
     let form = subst (λ (m : Mode). IsAsked words (on_formula (verb_of m) text)) c.in-Whole.is c.in-Some-asked.ensures in
     whole_left command f _ _ (record { text = text; form = form; is = c.in-Ok.ensures.ok; served = serves command f }) refl
     (known_run words command f _ _ _ (record { text = text; form = form; is = c.in-Ok.ensures.ok; served = serves command f })
-    c.whole-ending.result c.finish.result reason.0 c.finish.ensures.status c.whole-ending.ensures.ending c.whole-ending.ensures.read c.whole-ending.ensures.write
+    c.whole-ending.result c.finish.result reason.0 c.finish.ensures.status c.whole-ending.ensures.ending c.whole-ending.ensures.read
+    c.whole-ending.ensures.write
     c.whole-ending.ensures.ends reason.1 reason.2)
 
 pub returns-in-Watch-clause-ran : goal.returns-in-Watch-clause-ran

@@ -21,7 +21,8 @@ returns-in-Ok-clause-ended g c = λ bytes text p.
     subst (λ (r : Result (Unit {0}) Stop).
     MatchResult r (λ _. IsPush (sessions f) held after bytes true text (IsFinished (HasAll f mux) (sessions f) bytes) (Ok true))
     (λ e. IsPush (sessions f) held after bytes true text (IsFinished (HasAll f mux) (sessions f) bytes) (Err e))) c.in-Ok.is
-    (many_ended f c.finish-finished.new.self c.write_made.new.input held after bytes text p.owed c.finish-finished.result c.write_made.result c.write_made.ensures.written
+    (many_ended f c.finish-finished.new.self c.write_made.new.input held after bytes text p.owed c.finish-finished.result c.write_made.result
+    c.write_made.ensures.written
     (c.finish-finished.ensures f bytes text p.stands.taking) c.write_made.ensures.done)
 
 pub returns-in-Err-clause-ended : goal.returns-in-Err-clause-ended
@@ -33,5 +34,6 @@ returns-in-Err-clause-ended g c = λ bytes text p.
     subst (λ (r : Result (Unit {0}) Stop).
     MatchResult r (λ _. IsPush (sessions f) held after bytes true text (IsFinished (HasAll f mux) (sessions f) bytes) (Ok true))
     (λ e. IsPush (sessions f) held after bytes true text (IsFinished (HasAll f mux) (sessions f) bytes) (Err e))) c.in-Err.is
-    (many_ended f c.finish-finished.new.self c.write_made.new.input held after bytes text p.owed c.finish-finished.result c.write_made.result c.write_made.ensures.written
+    (many_ended f c.finish-finished.new.self c.write_made.new.input held after bytes text p.owed c.finish-finished.result c.write_made.result
+    c.write_made.ensures.written
     (c.finish-finished.ensures f bytes text p.stands.taking) c.write_made.ensures.done)

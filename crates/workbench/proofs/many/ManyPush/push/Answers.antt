@@ -7,5 +7,6 @@ feed-fed-requires g c = let (bytes, text, p) = c.requires in record { formula = 
 pub returns-clause-pushed : goal.returns-clause-pushed
 returns-clause-pushed g c = λ bytes text p.
     let f = c.args.self.now.formula in
-    many_pushed f c.feed-fed.new.self c.write_made.new.input _ _ bytes c.args.piece.now text p.owed c.feed-fed.result c.write_made.result c.write_made.ensures.written
+    many_pushed f c.feed-fed.new.self c.write_made.new.input _ _ bytes c.args.piece.now text p.owed c.feed-fed.result c.write_made.result
+    c.write_made.ensures.written
     (c.feed-fed.ensures f bytes text p.stands.taking) c.write_made.ensures.done
