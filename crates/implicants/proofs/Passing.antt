@@ -11,13 +11,13 @@ use Rattle.stl_syntax.specs.Kept.{KeptFrom}
 use Rattle.stl_syntax.specs.declared.items.Item.{Item}
 use Rattle.stl_syntax.specs.declared.node.Node.{Node}
 use Rattle.implicants.specs.Certainty.{stays}
-use Rattle.implicants.specs.Keeping.{CoverMore, chosen, remaining, IsLeastEnough, AreJudged, AreBlank}
+use Rattle.implicants.specs.Keeping.{CoverMore, chosen, remaining, IsLeastEnough, AreSifted, AreBlank}
 use Rattle.implicants.specs.Demands.{put_mark, passed, IsNeeded, MarksNeeded}
 use Rattle.implicants.proofs.Covering.{IsOver, to_remaining, from_remaining, to_covered, of_covered}
 use Rattle.implicants.proofs.Growing.{must_not}
 use Rattle.implicants.proofs.KeptCells.{drops}
 use Rattle.std.proofs.lemmas.List.{length-replicate}
-use Rattle.implicants.proofs.Marking.{no_cell, blank_none, blank_set, blank_fewer, judged_none, judged_more}
+use Rattle.implicants.proofs.Marking.{no_cell, blank_none, blank_set, blank_fewer, sifted_none, sifted_more}
 
 below_test : (c n : ℕ) → c < n → nat_lt c n ≡ true
 below_test c n l = grind (arith, nat_tests)
@@ -168,8 +168,8 @@ module _ (nodes : List Node) (tr : Trace) (items : List Item) where
   pub record AreKept (c : ℕ) (marks kept : List Bool) : Type 0 where
     -- there is a mark for each cell
     pub count : length kept ≡ length items
-    -- from place c on they are what judging keeps
-    pub judged : AreJudged nodes tr items c kept
+    -- from place c on they are what sifting keeps
+    pub sifted : AreSifted nodes tr items c kept
     -- before it none is kept
     pub blank : AreBlank c kept
     -- each marked cell from there on is kept
@@ -185,8 +185,8 @@ module _ (nodes : List Node) (tr : Trace) (items : List Item) where
     keep_one : (c : ℕ) (kept : List Bool) → c < left → IsMarked marks c → AreKept (suc c) marks kept → AreKept c marks (set kept c true)
     keep_one c kept l m is = record {
       count = length-set kept c true ∙ is.count;
-      judged = judged_more nodes tr items (suc c) c kept no_cell is.count (omega (arith, l, within)) (omega arith) is.blank
-          (record { enough = is.judged.enough; least = λ k h. needed_fails marks c k kept (sure c l m) (apart k h) }) is.judged;
+      sifted = sifted_more nodes tr items (suc c) c kept no_cell is.count (omega (arith, l, within)) (omega arith) is.blank
+          (record { enough = is.sifted.enough; least = λ k h. needed_fails marks c k kept (sure c l m) (apart k h) }) is.sifted;
       blank = blank_set kept c is.blank;
       over = λ j h k. by_place j h k;
       under = λ j h. elim (marked_set kept c j h) [ inl e ↦ subst (IsMarked marks) (sym e) m | inr k ↦ is.under j k ];
@@ -208,9 +208,9 @@ module _ (nodes : List Node) (tr : Trace) (items : List Item) where
     drop_one : (c : ℕ) (kept : List Bool) → c < left → to ≤ c → (IsMarked marks c → ⊥) → AreKept (suc c) marks kept → AreKept c marks kept
     drop_one c kept l above none is = record {
       count = is.count;
-      judged = record {
+      sifted = record {
         enough = still;
-        kept = λ ks k. is.judged.kept ks (subst (λ i. KeptFrom (root nodes) tr (reverse (take i items)) (chosen kept items) ks)
+        kept = λ ks k. is.sifted.kept ks (subst (λ i. KeptFrom (root nodes) tr (reverse (take i items)) (chosen kept items) ks)
             (let e : c + 1 ≡ suc c = omega arith in e)
             (drops (root nodes) tr items (chosen kept items) ks no_cell c 1 (omega (arith, l, within)) still k));
       };
@@ -249,11 +249,11 @@ module _ (nodes : List Node) (tr : Trace) (items : List Item) where
       → AreKept (suc n) marks kept → AreKept n (set marks n true) (set kept n true)
   last_kept left n marks kept l within count least is = record {
     count = length-set kept n true ∙ is.count;
-    judged = judged_more nodes tr items (suc n) n kept no_cell is.count (omega (arith, l, within)) (omega arith) is.blank
+    sifted = sifted_more nodes tr items (suc n) n kept no_cell is.count (omega (arith, l, within)) (omega arith) is.blank
         (record {
-          enough = is.judged.enough;
+          enough = is.sifted.enough;
           least = λ k h m. least.least k h (must_not _ _ tr (stay_covered k kept k marks (fewer k)) (root nodes) (start tr) m);
-        }) is.judged;
+        }) is.sifted;
     blank = blank_set kept n is.blank;
     over = λ j h k. elim (marked_set marks n j k) [
       | inl e ↦ subst (IsMarked (set kept n true)) (sym e) (set_here kept n (let c = is.count in omega (arith, c, l, within)))
@@ -278,7 +278,7 @@ module _ (nodes : List Node) (tr : Trace) (items : List Item) where
     pub kept_anew : (marks : List Bool) → AreKept n marks kept → AreKept n new kept
     kept_anew marks is = record {
       count = is.count;
-      judged = is.judged;
+      sifted = is.sifted;
       blank = is.blank;
       over = λ j h m. elim (more.only j m) [ inl k ↦ k | inr k ↦ absurd (let l = k.0 in omega (arith, h, l)) ];
       under = more.stay;
@@ -290,7 +290,7 @@ module _ (nodes : List Node) (tr : Trace) (items : List Item) where
 
   -- the cells that stay are enough together with those that are marked
   pub enough_marked : (left : ℕ) (marks kept : List Bool) → AreKept left marks kept → Fails (remaining left marks items)
-  enough_marked left marks kept is = must_not _ _ tr (stay_covered left kept left marks fewer) (root nodes) (start tr) is.judged.enough
+  enough_marked left marks kept is = must_not _ _ tr (stay_covered left kept left marks fewer) (root nodes) (start tr) is.sifted.enough
     where
       fewer : (j : ℕ) → (j < left) ⊎ IsMarked kept j → (j < left) ⊎ IsMarked marks j
       fewer j (inl h) = inl h
@@ -308,7 +308,7 @@ module _ (nodes : List Node) (tr : Trace) (items : List Item) where
       → Fails items → AreKept n marks kept
   kept_none n marks kept e f g m = subst (λ xs. AreKept n xs kept) (sym f) (subst (λ xs. AreKept n (replicate n false) xs) (sym g) (record {
     count = length-replicate n false ∙ e;
-    judged = judged_none nodes tr items n e m;
+    sifted = sifted_none nodes tr items n e m;
     blank = blank_none n n (omega arith);
     over = λ j h k. k;
     under = λ j k. k;
@@ -319,9 +319,9 @@ module _ (nodes : List Node) (tr : Trace) (items : List Item) where
   sure_none n marks f c h k = absurd (none_marked n c (subst (λ xs. IsMarked xs c) f k))
 
   -- a round judges the cells down to the least number that is enough
-  pub judged_down : (left n : ℕ) (marks kept new : List Bool) → left ≤ length items → n ≤ left → AreSure left marks → IsLeastEnough nodes tr items marks n
+  pub sifted_down : (left n : ℕ) (marks kept new : List Bool) → left ≤ length items → n ≤ left → AreSure left marks → IsLeastEnough nodes tr items marks n
       → new ≡ passed marks n (left - n) kept → AreKept left marks kept → AreKept n marks new
-  judged_down left n marks kept new within l sure least e is = subst (AreKept n marks) (sym e)
+  sifted_down left n marks kept new within l sure least e is = subst (AreKept n marks) (sym e)
       (passed_over left n marks within sure least.enough (left - n) kept (omega (arith, l))
       (subst (λ c. AreKept c marks kept) (let f : left ≡ n + (left - n) = omega (arith, l) in f) is))
 
