@@ -1,4 +1,4 @@
--- Cells that are marked before their turn: those that are needed whatever else is dropped are kept when they are judged.
+-- Cells that are marked before their turn: those that are needed whatever else is dropped are kept when they are sifted.
 use Rattle.std.proofs.Common.{◌≡◌, ℕ, zero, suc, ◌+◌, ◌-◌, ◌*◌, ◌<◌, ◌≤◌, ◌⊎◌, inl, inr, Bool, true, false, List, [], ◌∷◌}
 use Rattle.std.proofs.Common.{length, take, set, reverse, Some, refl, sym, ap, subst, ◌∙◌, arith, length-set, replicate}
 use Rattle.std.specs.Prelude.{slice_get, slice_index_or, nat_lt, ◌||◌, if◌then◌else◌}
@@ -38,7 +38,7 @@ or_one false b (inr e) = e
 pub stays_cases : (left : ℕ) (marks : List Bool) (c : ℕ) → stays left marks c ≡ true → (c < left) ⊎ (slice_index_or marks c false ≡ true)
 stays_cases left marks c h = elim (or_cases (nat_lt c left) (slice_index_or marks c false) h) [ inl l ↦ inl (test_below c left l) | inr m ↦ inr m ]
 
--- a cell that is not yet judged, or is marked, stays
+-- a cell that is not yet sifted, or is marked, stays
 pub stays_one : (left : ℕ) (marks : List Bool) (c : ℕ) → (c < left) ⊎ (slice_index_or marks c false ≡ true) → stays left marks c ≡ true
 stays_one left marks c h = or_one (nat_lt c left) (slice_index_or marks c false) (elim h [ inl l ↦ inl (below_test c left l) | inr m ↦ inr m ])
 
@@ -164,7 +164,7 @@ module _ (nodes : List Node) (tr : Trace) (items : List Item) where
         inside = x.1.is.1;
       })
 
-  -- cells from place c on are judged, and of those the marked ones are kept
+  -- cells from place c on are sifted, and of those the marked ones are kept
   pub record AreKept (c : ℕ) (marks kept : List Bool) : Type 0 where
     -- there is a mark for each cell
     pub count : length kept ≡ length items
@@ -236,7 +236,7 @@ module _ (nodes : List Node) (tr : Trace) (items : List Item) where
         by_mark true e = keep_one c kept l e is
         by_mark false e = drop_one c kept l above (λ m. let x : true ≡ false = sym m ∙ e in absurd cc) is
 
-    -- so all cells down to place `to` are judged
+    -- so all cells down to place `to` are sifted
     pub passed_over : (n : ℕ) (kept : List Bool) → to + n ≤ left → AreKept (to + n) marks kept → AreKept to marks (passed marks to n kept)
     passed_over zero kept l is = subst (λ c. AreKept c marks kept) (let e : to + 0 ≡ to = omega arith in e) is
     passed_over (suc n) kept l is =
@@ -272,7 +272,7 @@ module _ (nodes : List Node) (tr : Trace) (items : List Item) where
       fewer k j (inl h) = inl h
       fewer k j (inr h) = inr (is.under j h)
 
-  -- marks that are put anew before the cells that are judged
+  -- marks that are put anew before the cells that are sifted
   module _ (n : ℕ) (kept new : List Bool) (more : MarksNeeded nodes tr items n kept new) where
     -- the cells that are kept so far are kept of the new marks too
     pub kept_anew : (marks : List Bool) → AreKept n marks kept → AreKept n new kept
@@ -303,7 +303,7 @@ module _ (nodes : List Node) (tr : Trace) (items : List Item) where
   none_marked (suc n) zero h = absurd (let x : false ≡ true = h in cc)
   none_marked (suc n) (suc j) h = none_marked n j h
 
-  -- at first no cell is judged and none is kept
+  -- at first no cell is sifted and none is kept
   pub kept_none : (n : ℕ) (marks kept : List Bool) → n ≡ length items → marks ≡ replicate n false → kept ≡ replicate n false
       → Fails items → AreKept n marks kept
   kept_none n marks kept e f g m = subst (λ xs. AreKept n xs kept) (sym f) (subst (λ xs. AreKept n (replicate n false) xs) (sym g) (record {
@@ -318,7 +318,7 @@ module _ (nodes : List Node) (tr : Trace) (items : List Item) where
   pub sure_none : (n : ℕ) (marks : List Bool) → marks ≡ replicate n false → AreSure n marks
   sure_none n marks f c h k = absurd (none_marked n c (subst (λ xs. IsMarked xs c) f k))
 
-  -- a round judges the cells down to the least number that is enough
+  -- a round sifts the cells down to the least number that is enough
   pub sifted_down : (left n : ℕ) (marks kept new : List Bool) → left ≤ length items → n ≤ left → AreSure left marks → IsLeastEnough nodes tr items marks n
       → new ≡ passed marks n (left - n) kept → AreKept left marks kept → AreKept n marks new
   sifted_down left n marks kept new within l sure least e is = subst (AreKept n marks) (sym e)
