@@ -3,7 +3,7 @@ ghost use Rattle.std.specs.Prelude.{◌≡◌, length, option_map, false};
 ghost use Rattle.stl_syntax.specs.Trace.{Row as ARow};
 
 use super::given::{WHOLE, parsed};
-use super::plain_early::{Reading, Says, SoFar, decided};
+use super::plain_early::{PlainNode, Says, SoFar, decided};
 use super::plain_net::Link;
 use super::slow::Temporal;
 use super::slow_tests::{Dice, Recording, atom, bound, bound_text, generated};
@@ -276,7 +276,7 @@ fn rows_decide_late_as_worked_by_hand(rt: HostRuntime) -> Result<(), Fail> {
 /// A formula in the making: its nodes so far, the texts of those that no other reads, with their places, and how far it looks ahead.
 #[derive(Drop)]
 struct Making {
-    nodes: Vec<Reading>,
+    nodes: Vec<PlainNode>,
     open: Vec<(String, usize)>,
     ahead: usize,
 }
@@ -311,7 +311,7 @@ impl Making {
     ) -> Result<(), AllocError> {
         let truth = says.truth(alloc, self.truth(of.0), self.truth(of.1))?;
         let place = self.nodes.len();
-        self.nodes.push(Reading { says, truth })?;
+        self.nodes.push(PlainNode { says, truth })?;
         self.open.push((text, place))?;
         Ok(())
     }
@@ -321,8 +321,8 @@ impl Making {
         let made = atom(alloc, dice, of)?;
         if dice.roll(6) > 0 {
             let place = self.nodes.len();
-            self.nodes.push(Reading {
-                says: Says::Told,
+            self.nodes.push(PlainNode {
+                says: Says::Listed,
                 truth: made.truth,
             })?;
             self.open.push((made.text, place))?;
@@ -332,7 +332,7 @@ impl Making {
         let says = Says::Always(holds);
         let truth = says.truth(alloc, &made.truth, &made.truth)?;
         let place = self.nodes.len();
-        self.nodes.push(Reading { says, truth })?;
+        self.nodes.push(PlainNode { says, truth })?;
         let text = String::from_str(alloc, if holds { "true" } else { "false" })?;
         self.open.push((text, place))?;
         Ok(())

@@ -10,7 +10,7 @@ pub(crate) enum Says {
     /// A truth at all times.
     Always(bool),
     /// Its truth at the eighths of the trace.
-    Told,
+    Listed,
     Not(usize),
     Linked(Link, usize, usize),
     Timed(Temporal, Bound, usize, usize),
@@ -18,7 +18,7 @@ pub(crate) enum Says {
 
 /// A node, and its truth at each eighth of the whole trace.
 #[derive(Drop)]
-pub(crate) struct Reading {
+pub(crate) struct PlainNode {
     pub(crate) says: Says,
     pub(crate) truth: Vec<bool>,
 }
@@ -58,7 +58,7 @@ impl Says {
                     all.push(*holds)?;
                 }
             }
-            Says::Told => {}
+            Says::Listed => {}
         }
         Ok(all)
     }
@@ -241,13 +241,13 @@ fn of(before: &[Vec<Option<bool>>], place: usize) -> &[Option<bool>] {
 /// What is settled of a node, of that of those before it.
 fn settled(
     alloc: Global,
-    node: &Reading,
+    node: &PlainNode,
     before: &[Vec<Option<bool>>],
     rows: SoFar,
 ) -> Result<Vec<Option<bool>>, AllocError> {
     match &node.says {
         Says::Always(holds) => all_of(alloc, Some(*holds), rows.wide),
-        Says::Told => {
+        Says::Listed => {
             let mut all = Vec::new(alloc);
             for i in 0..rows.wide {
                 let known = if i <= rows.last {
@@ -286,7 +286,7 @@ fn settled(
 /// What rows settle of the last node at the start.
 pub(crate) fn decided(
     alloc: Global,
-    nodes: &[Reading],
+    nodes: &[PlainNode],
     rows: SoFar,
 ) -> Result<Option<bool>, AllocError> {
     let mut all: Vec<Vec<Option<bool>>> = Vec::new(alloc);
