@@ -17,7 +17,7 @@ use Rattle.trace_reader.specs.declared.refusal.TraceKind.{TraceKind}
 use Rattle.trace_reader.proofs.LineLemmas.{done, rest}
 use Rattle.trace_reader.proofs.TraceRefusalExamples.{no_line_fault}
 use Rattle.trace_reader.proofs.TraceRefusalLaw.{heading-unique, row-unique}
-use Rattle.trace_reader.proofs.TableLemmas.{last_time-push}
+use Rattle.trace_reader.proofs.TraceLemmas.{last_time-push}
 
 in_true : (b : Bool) (A B : Type 0) → b ≡ true → A → MatchBool b A B
 in_true true A B e a = a

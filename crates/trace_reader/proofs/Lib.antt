@@ -4,7 +4,7 @@ pub mod TraceRefusalLaw
 pub mod DigitLemmas
 pub mod NameLemmas
 pub mod LineLemmas
-pub mod TableLemmas
+pub mod TraceLemmas
 pub mod FeedLemmas
 pub mod OpenLines
 pub mod FieldLemmas

@@ -25,9 +25,9 @@ use Rattle.trace_reader.specs.declared.event.Event.{Event}
 use Rattle.trace_reader.specs.declared.event.Event.TheVariants.{Nothing, Header as IsTheHeader, Row as IsARow}
 use Rattle.trace_reader.proofs.LineLemmas.{done, rest, lines-nil, lines-rest, lines-append, lines-line}
 use Rattle.trace_reader.proofs.OpenLines.{grows}
-use Rattle.trace_reader.proofs.TableLemmas.{last_row, last_time-push}
+use Rattle.trace_reader.proofs.TraceLemmas.{last_row, last_time-push}
 use Rattle.trace_reader.proofs.LineLemmas.{begun-going, begun-closed}
-use Rattle.trace_reader.proofs.TableLemmas.{sofar-push, sofar-some}
+use Rattle.trace_reader.proofs.TraceLemmas.{sofar-push, sofar-some}
 use Rattle.trace_reader.proofs.GoesOnLemmas.{line_bad, heading_bad, row_bad, goes_blank, goes_heading, goes_row, goes_start, rest_sound, reads_so_far}
 
 rest_some : (ended : Bool) (text : List ℕ) → 0 < length text → rest ended text ≡ record { bytes = text; whole = ended } ∷ []

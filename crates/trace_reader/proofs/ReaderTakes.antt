@@ -49,7 +49,7 @@ refused_kept {old = old} {new} (bad_heading k b n f same) = same ∙ ap (λ (x :
 refused_kept {old = old} {new} (bad_row h k b n f same) = same ∙ ap (λ (x : Bool). record old { fresh = x }) (sym (ap (λ (p : Progress). p.fresh) same))
 
 -- what came with a line that was read
-pub read_come : {limits : Limits} {line : List ℕ} {e : Event} (old new : LineReader) (before : List ℕ) → ReadsLine limits line old.table new.table (Ok e)
+pub read_come : {limits : Limits} {line : List ℕ} {e : Event} (old new : LineReader) (before : List ℕ) → ReadsLine limits line old.content new.content (Ok e)
     → HasCome e (state limits old) (state limits new) (before ++ 10 ∷ [])
 read_come old new before (blank b same) = (ap (λ (p : Progress). p.heading) same, ap (λ (p : Progress). p.row) same, ap (λ (p : Progress). p.count) same)
 read_come old new before (heading g b o is sound same) =
@@ -62,50 +62,50 @@ module _ (limits : Limits) (old new : LineReader) (w : IsWithin limits old) wher
   module _ (part : List ℕ) (free : HasNoFeed part) (begun : new.lines.begun ≡ begun_after old.lines.begun old.lines.line (length part)) where
     -- the reader stays within its limits
     pub hold_within : Fits limits new.lines.begun (length old.lines.line + length part) → new.lines.line ≡ old.lines.line ++ part
-        → new.table ≡ old.table → IsWithin limits new
-    hold_within fits line table = record {
+        → new.content ≡ old.content → IsWithin limits new
+    hold_within fits line stays = record {
       rows = w.rows;
       lines = w.lines;
       begun = fits.count;
       line = omega (arith, ap length line, length-append old.lines.line part, fits.short);
-      fresh = subst (λ (p : Progress). p.heading ≡ None → p.fresh ≡ true) (sym table) w.fresh;
+      fresh = subst (λ (p : Progress). p.heading ≡ None → p.fresh ≡ true) (sym stays) w.fresh;
     }
 
     -- and stands for the bytes with them
-    pub hold_stands : Fits limits new.lines.begun (length old.lines.line + length part) → new.lines.line ≡ old.lines.line ++ part → new.table ≡ old.table
+    pub hold_stands : Fits limits new.lines.begun (length old.lines.line + length part) → new.lines.line ≡ old.lines.line ++ part → new.content ≡ old.content
         → (bytes : List ℕ) (rows : List Row) → StandsFor (state limits old) bytes rows → StandsFor (state limits new) (bytes ++ part) rows
-    hold_stands fits line table bytes rows s =
-        let t = taken_going limits old.table old.lines.begun old.lines.line bytes rows s.taken part free in
+    hold_stands fits line stays bytes rows s =
+        let t = taken_going limits old.content old.lines.begun old.lines.line bytes rows s.taken part free in
         let u : HasTaken (state limits new) (bytes ++ part) rows =
-        subst (λ (p : Progress). HasTaken (made limits p new.lines.begun new.lines.line) (bytes ++ part) rows) (sym table)
-        (subst (λ b. HasTaken (made limits old.table b new.lines.line) (bytes ++ part) rows) (sym begun)
-        (subst (λ l. HasTaken (made limits old.table (begun_after old.lines.begun old.lines.line (length part)) l) (bytes ++ part) rows) (sym line) t)) in
+        subst (λ (p : Progress). HasTaken (made limits p new.lines.begun new.lines.line) (bytes ++ part) rows) (sym stays)
+        (subst (λ b. HasTaken (made limits old.content b new.lines.line) (bytes ++ part) rows) (sym begun)
+        (subst (λ l. HasTaken (made limits old.content (begun_after old.lines.begun old.lines.line (length part)) l) (bytes ++ part) rows) (sym line) t)) in
         stands (state limits new) (bytes ++ part) rows u fits.count (omega (arith, ap length line, length-append old.lines.line part, fits.short)) (refl, refl)
 
     -- or a limit is broken
     pub hold_fault : (x : TraceRefusal) → IsLineRefusal limits new.lines.begun (length old.lines.line + length part) x
         → (bytes : List ℕ) (rows : List Row) → StandsFor (state limits old) bytes rows
-        → IsFaultOfAll limits old.table.least (bytes ++ part) x
+        → IsFaultOfAll limits old.content.least (bytes ++ part) x
     hold_fault x f bytes rows s =
-        going_breaks limits old.table old.lines.begun old.lines.line bytes rows s.taken part free w.begun w.line x
+        going_breaks limits old.content old.lines.begun old.lines.line bytes rows s.taken part free w.begun w.line x
         (subst (λ b. IsLineRefusal limits b (length old.lines.line + length part) x) begun f)
 
     -- a refused line comes after what was read
     pub hold_before : (x : TraceRefusal) → IsLineRefusal limits new.lines.begun (length old.lines.line + length part) x
         → (bytes : List ℕ) (rows : List Row) → StandsFor (state limits old) bytes rows
-        → HasReadBefore x.line old.table.heading old.table.least (bytes ++ part) rows
+        → HasReadBefore x.line old.content.heading old.content.least (bytes ++ part) rows
     hold_before x (at, f) bytes rows s =
         let kind =
         subst (λ b. (Where (limits.lines < b) TooManyLines or_else Where (4096 < (length old.lines.line + length part)) LineTooLong) x.kind) begun f in
-        let some = broken_some limits old.table old.lines.begun old.lines.line bytes rows s.taken part w.begun x.kind kind in
-        let number = number_going limits old.table old.lines.begun old.lines.line bytes rows s.taken part free some in
+        let some = broken_some limits old.content old.lines.begun old.lines.line bytes rows s.taken part w.begun x.kind kind in
+        let number = number_going limits old.content old.lines.begun old.lines.line bytes rows s.taken part free some in
         read_before (state limits old) bytes rows s.taken part x.line (at ∙ (begun ∙ number))
 
   -- bytes and the LF after them
   module _ (part : List ℕ) (free : HasNoFeed part) (begun : new.lines.begun ≡ begun_after old.lines.begun old.lines.line (length part + 1)) where
     -- after a line the reader is within its limits
     pub finish_within : (e : Event) → Fits limits new.lines.begun (length old.lines.line + length part) → new.lines.line ≡ []
-        → ReadsLine limits (old.lines.line ++ part) old.table new.table (Ok e) → IsWithin limits new
+        → ReadsLine limits (old.lines.line ++ part) old.content new.content (Ok e) → IsWithin limits new
     finish_within e fits line read = record {
       rows = w.rows;
       lines = w.lines;
@@ -116,51 +116,51 @@ module _ (limits : Limits) (old new : LineReader) (w : IsWithin limits old) wher
 
     -- and stands for the bytes with the line
     pub finish_stands : (e : Event) → Fits limits new.lines.begun (length old.lines.line + length part) → new.lines.line ≡ []
-        → ReadsLine limits (old.lines.line ++ part) old.table new.table (Ok e)
+        → ReadsLine limits (old.lines.line ++ part) old.content new.content (Ok e)
         → (bytes : List ℕ) (rows : List Row) → StandsFor (state limits old) bytes rows
-        → StandsFor (state limits new) (bytes ++ (part ++ 10 ∷ [])) (rows_after e rows new.table.row)
+        → StandsFor (state limits new) (bytes ++ (part ++ 10 ∷ [])) (rows_after e rows new.content.row)
     finish_stands e fits line read bytes rows s =
-        let t = taken_closed limits old.table old.lines.begun old.lines.line bytes rows s.taken part free
-        (subst (λ b. b ≤ limits.lines) begun fits.count) fits.short new.table e read in
-        let after = rows_after e rows new.table.row in
+        let t = taken_closed limits old.content old.lines.begun old.lines.line bytes rows s.taken part free
+        (subst (λ b. b ≤ limits.lines) begun fits.count) fits.short new.content e read in
+        let after = rows_after e rows new.content.row in
         let u : HasTaken (state limits new) (bytes ++ (part ++ 10 ∷ [])) after =
-        subst (λ b. HasTaken (made limits new.table b new.lines.line) (bytes ++ (part ++ 10 ∷ [])) after) (sym begun)
-        (subst (λ l. HasTaken (made limits new.table (begun_after old.lines.begun old.lines.line (length part + 1)) l) (bytes ++ (part ++ 10 ∷ [])) after)
+        subst (λ b. HasTaken (made limits new.content b new.lines.line) (bytes ++ (part ++ 10 ∷ [])) after) (sym begun)
+        (subst (λ l. HasTaken (made limits new.content (begun_after old.lines.begun old.lines.line (length part + 1)) l) (bytes ++ (part ++ 10 ∷ [])) after)
         (sym line) t) in
         stands (state limits new) (bytes ++ (part ++ 10 ∷ [])) after u fits.count (omega (arith, ap length line)) (refl, refl)
 
     -- or the line has a fault
     pub finish_fault : (x : TraceRefusal)
-        → (IsLineRefusal limits new.lines.begun (length old.lines.line + length part) x × (new.table ≡ old.table))
+        → (IsLineRefusal limits new.lines.begun (length old.lines.line + length part) x × (new.content ≡ old.content))
         ⊎ (Fits limits new.lines.begun (length old.lines.line + length part) × (x.line ≡ new.lines.begun)
-        × ReadsLine limits (old.lines.line ++ part) old.table new.table (Err x.kind))
-        → (bytes : List ℕ) (rows : List Row) → StandsFor (state limits old) bytes rows → IsFaultOfAll limits old.table.least (bytes ++ (part ++ 10 ∷ [])) x
+        × ReadsLine limits (old.lines.line ++ part) old.content new.content (Err x.kind))
+        → (bytes : List ℕ) (rows : List Row) → StandsFor (state limits old) bytes rows → IsFaultOfAll limits old.content.least (bytes ++ (part ++ 10 ∷ [])) x
     finish_fault x (inl (f, same)) bytes rows s =
-        closed_breaks limits old.table old.lines.begun old.lines.line bytes rows s.taken part free x
+        closed_breaks limits old.content old.lines.begun old.lines.line bytes rows s.taken part free x
         (subst (λ b. IsLineRefusal limits b (length old.lines.line + length part) x) begun f)
     finish_fault x (inr (fits, at, read)) bytes rows s =
-        refused_line limits old.table old.lines.begun old.lines.line bytes rows s.taken part free
-        (subst (λ b. b ≤ limits.lines) begun fits.count) fits.short new.table x (at ∙ begun) read
+        refused_line limits old.content old.lines.begun old.lines.line bytes rows s.taken part free
+        (subst (λ b. b ≤ limits.lines) begun fits.count) fits.short new.content x (at ∙ begun) read
 
     -- which comes after what was read
     pub finish_before : (x : TraceRefusal) → x.line ≡ new.lines.begun → (bytes : List ℕ) (rows : List Row) → StandsFor (state limits old) bytes rows
-        → HasReadBefore x.line old.table.heading old.table.least (bytes ++ (part ++ 10 ∷ [])) rows
+        → HasReadBefore x.line old.content.heading old.content.least (bytes ++ (part ++ 10 ∷ [])) rows
     finish_before x at bytes rows s =
-        let number = number limits old.table old.lines.begun old.lines.line bytes rows s.taken part free in
+        let number = number limits old.content old.lines.begun old.lines.line bytes rows s.taken part free in
         read_before (state limits old) bytes rows s.taken (part ++ 10 ∷ []) x.line (at ∙ (begun ∙ number))
 
     -- and leaves what was read
     pub finish_kept : (x : TraceRefusal)
-        → (IsLineRefusal limits new.lines.begun (length old.lines.line + length part) x × (new.table ≡ old.table))
+        → (IsLineRefusal limits new.lines.begun (length old.lines.line + length part) x × (new.content ≡ old.content))
         ⊎ (Fits limits new.lines.begun (length old.lines.line + length part) × (x.line ≡ new.lines.begun)
-        × ReadsLine limits (old.lines.line ++ part) old.table new.table (Err x.kind))
-        → (x.line ≡ new.lines.begun) × (new.table ≡ record old.table { fresh = new.table.fresh }) × (new.table.least ≡ old.table.least)
+        × ReadsLine limits (old.lines.line ++ part) old.content new.content (Err x.kind))
+        → (x.line ≡ new.lines.begun) × (new.content ≡ record old.content { fresh = new.content.fresh }) × (new.content.least ≡ old.content.least)
     finish_kept x (inl (f, same)) =
-        (f.0, same ∙ ap (λ (b : Bool). record old.table { fresh = b }) (sym (ap (λ (p : Progress). p.fresh) same)), ap (λ (p : Progress). p.least) same)
+        (f.0, same ∙ ap (λ (b : Bool). record old.content { fresh = b }) (sym (ap (λ (p : Progress). p.fresh) same)), ap (λ (p : Progress). p.least) same)
     finish_kept x (inr (fits, at, read)) = (at, refused_kept read, read_least read)
 
     -- the least scale stays
-    pub finish_least : {e : Event} → ReadsLine limits (old.lines.line ++ part) old.table new.table (Ok e) → new.table.least ≡ old.table.least
+    pub finish_least : {e : Event} → ReadsLine limits (old.lines.line ++ part) old.content new.content (Ok e) → new.content.least ≡ old.content.least
     finish_least read = read_least read
 
 -- nothing was read
@@ -169,9 +169,9 @@ start_stands limits least p h =
     let begun : p.lines.begun ≡ 0 = ap (λ (c : Cut). c.begun) h.lines in
     let line : p.lines.line ≡ [] = ap (λ (c : Cut). c.line) h.lines in
     let t : HasTaken (state limits p) [] [] =
-    subst (λ b. HasTaken (made limits p.table b p.lines.line) [] []) (sym begun)
-    (subst (λ l. HasTaken (made limits p.table 0 l) [] []) (sym line)
-    (taken_start limits p.table (ap (λ (q : Progress). q.heading) h.table) (ap (λ (q : Progress). q.count) h.table))) in
+    subst (λ b. HasTaken (made limits p.content b p.lines.line) [] []) (sym begun)
+    (subst (λ l. HasTaken (made limits p.content 0 l) [] []) (sym line)
+    (taken_start limits p.content (ap (λ (q : Progress). q.heading) h.content) (ap (λ (q : Progress). q.count) h.content))) in
     stands (state limits p) [] [] t (omega (arith, begun)) (omega (arith, ap length line)) (refl, refl)
 
 -- bytes up to an LF are followed by the others
@@ -225,33 +225,33 @@ take_on at n piece taken e l k =
 
 -- the end, between lines and after a last line without LF
 pub last_between : (limits : Limits) (old : LineReader) → old.lines.line ≡ [] → (bytes : List ℕ) (rows : List Row) → StandsFor (state limits old) bytes rows
-    → HasEnded limits old.table old.lines.begun bytes rows
+    → HasEnded limits old.content old.lines.begun bytes rows
 last_between limits old e bytes rows s =
-    ended_between limits old.table old.lines.begun bytes rows (subst (λ l. HasTaken (made limits old.table old.lines.begun l) bytes rows) e s.taken)
+    ended_between limits old.content old.lines.begun bytes rows (subst (λ l. HasTaken (made limits old.content old.lines.begun l) bytes rows) e s.taken)
 
 -- a last line without a fault
 pub last_closed : (limits : Limits) (old new : LineReader) → IsWithin limits old → 0 < length old.lines.line → (e : Event)
-    → ReadsLine limits (old.lines.line ++ []) old.table new.table (Ok e)
+    → ReadsLine limits (old.lines.line ++ []) old.content new.content (Ok e)
     → (bytes : List ℕ) (rows : List Row) → StandsFor (state limits old) bytes rows
-    → HasEnded limits new.table old.lines.begun bytes (rows_after e rows new.table.row)
+    → HasEnded limits new.content old.lines.begun bytes (rows_after e rows new.content.row)
 last_closed limits old new w some e read bytes rows s =
-    ended_closed limits old.table old.lines.begun old.lines.line bytes rows s.taken some w.begun w.line new.table e read
+    ended_closed limits old.content old.lines.begun old.lines.line bytes rows s.taken some w.begun w.line new.content e read
 
 -- or with one
 pub last_bad : (limits : Limits) (old new : LineReader) → IsWithin limits old → 0 < length old.lines.line → (x : TraceRefusal) → x.line ≡ old.lines.begun
-    → ReadsLine limits (old.lines.line ++ []) old.table new.table (Err x.kind)
-    → (bytes : List ℕ) (rows : List Row) → StandsFor (state limits old) bytes rows → IsFirstFault bytes true limits old.table.least x
+    → ReadsLine limits (old.lines.line ++ []) old.content new.content (Err x.kind)
+    → (bytes : List ℕ) (rows : List Row) → StandsFor (state limits old) bytes rows → IsFirstFault bytes true limits old.content.least x
 last_bad limits old new w some x at read bytes rows s =
-    ended_bad limits old.table old.lines.begun old.lines.line bytes rows s.taken some w.begun w.line new.table x at read
+    ended_bad limits old.content old.lines.begun old.lines.line bytes rows s.taken some w.begun w.line new.content x at read
 
 -- a fault of the last line comes after what was read
 pub last_before : (limits : Limits) (old : LineReader) → 0 < length old.lines.line → (x : TraceRefusal) → x.line ≡ old.lines.begun
-    → (bytes : List ℕ) (rows : List Row) → StandsFor (state limits old) bytes rows → HasReadBefore x.line old.table.heading old.table.least bytes rows
+    → (bytes : List ℕ) (rows : List Row) → StandsFor (state limits old) bytes rows → HasReadBefore x.line old.content.heading old.content.least bytes rows
 last_before limits old some x at bytes rows s =
     let line : 0 < length (old.lines.line ++ []) = omega (arith, some, ap length (append-nil old.lines.line)) in
     let same : old.lines.begun ≡ begun_after old.lines.begun old.lines.line 0 = begun_same old.lines.begun old.lines.line in
-    let number = number_going limits old.table old.lines.begun old.lines.line bytes rows s.taken [] (All-nil (λ c. c ≡ 10 → ⊥)) line in
-    subst (λ b. HasReadBefore x.line old.table.heading old.table.least b rows) (append-nil bytes)
+    let number = number_going limits old.content old.lines.begun old.lines.line bytes rows s.taken [] (All-nil (λ c. c ≡ 10 → ⊥)) line in
+    subst (λ b. HasReadBefore x.line old.content.heading old.content.least b rows) (append-nil bytes)
     (read_before (state limits old) bytes rows s.taken [] x.line (at ∙ (same ∙ number)))
   where
     begun_same : (b : ℕ) (line : List ℕ) → b ≡ begun_after b line 0

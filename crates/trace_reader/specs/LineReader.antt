@@ -30,7 +30,7 @@ made limits p begun line = record {
 }
 
 abbrev pub state : Limits → LineReader → Reader
-state limits p = made limits p.table p.lines.begun p.lines.line
+state limits p = made limits p.content p.lines.begun p.lines.line
 
 -- its numbers are within the limits
 pub record IsWithin (limits : Limits) (p : LineReader) : Type 0 where
@@ -38,12 +38,12 @@ pub record IsWithin (limits : Limits) (p : LineReader) : Type 0 where
   pub lines : limits.lines ≤ 2 ^ 33
   pub begun : p.lines.begun ≤ limits.lines
   pub line : length p.lines.line ≤ 4096
-  pub fresh : p.table.heading ≡ None → p.table.fresh ≡ true
+  pub fresh : p.content.heading ≡ None → p.content.fresh ≡ true
 
 -- nothing was read
 pub record IsStart (least : Scale) (p : LineReader) : Type 0 where
   pub lines : p.lines ≡ record { begun = 0; line = [] }
-  pub table : p.table ≡ record { least = least; heading = None; row = record { time = 0; values = [] }; count = 0; fresh = true }
+  pub content : p.content ≡ record { least = least; heading = None; row = record { time = 0; values = [] }; count = 0; fresh = true }
 
 -- a line of `size` bytes, the last of `begun`, breaks a limit
 abbrev pub IsLineRefusal : Limits → ℕ → ℕ → TraceRefusal → Type 0
@@ -65,9 +65,9 @@ abbrev pub Finishes : Limits → List ℕ → LineReader → LineReader → Resu
 Finishes limits part old new r =
     let size : ℕ = length old.lines.line + length part in
     let line : List ℕ = old.lines.line ++ part in
-    MatchResult r (λ e. Fits limits new.lines.begun size × (new.lines.line ≡ []) × ReadsLine limits line old.table new.table (Ok e))
-    (λ x. (IsLineRefusal limits new.lines.begun size x × (new.table ≡ old.table))
-    ⊎ (Fits limits new.lines.begun size × (x.line ≡ new.lines.begun) × ReadsLine limits line old.table new.table (Err x.kind)))
+    MatchResult r (λ e. Fits limits new.lines.begun size × (new.lines.line ≡ []) × ReadsLine limits line old.content new.content (Ok e))
+    (λ x. (IsLineRefusal limits new.lines.begun size x × (new.content ≡ old.content))
+    ⊎ (Fits limits new.lines.begun size × (x.line ≡ new.lines.begun) × ReadsLine limits line old.content new.content (Err x.kind)))
 
 -- all lines of the bytes were read, the last one as a whole line
 pub record HasEnded (limits : Limits) (p : Progress) (begun : ℕ) (bytes : List ℕ) (rows : List Row) : Type 0 where

@@ -11,7 +11,7 @@ use stl_syntax::Scale;
 #[derive(Drop)]
 pub(crate) struct LineReader {
     pub(crate) lines: Lines,
-    pub(crate) table: Content,
+    pub(crate) content: Content,
 }
 
 ghost use Rattle.std.specs.Prelude.{◌≡◌, ◌≢◌, ◌+◌, ◌^◌, ◌<◌, ◌≤◌, ◌++◌, [], ℕ, List, Bool, Some, None, true};
@@ -35,7 +35,7 @@ impl LineReader {
     {
         Ok(LineReader {
             lines: Lines::new(alloc)?,
-            table: Content::new(alloc, least)?,
+            content: Content::new(alloc, least)?,
         })
     }
 
@@ -64,7 +64,7 @@ impl LineReader {
         requires { IsWithin limits.now self.old }
         ensures held { Holds limits.now part.now self.old self.new result }
         ensures begun { self.new.lines.begun ≡ begun_after self.old.lines.begun self.old.lines.line (length part.now) }
-        ensures table { self.new.table ≡ self.old.table }
+        ensures content { self.new.content ≡ self.old.content }
     {
         let size = part.len();
         match self.lines.admit(limits.lines, size, size) {
@@ -94,8 +94,8 @@ impl LineReader {
     fn close(&mut self, limits: &Limits, part: &[u8]) -> Result<Event, TraceRefusal>
         requires rows { limits.now.rows ≤ 2 ^ 32 }
         requires short { length self.old.lines.line + length part.now ≤ 4096 }
-        requires fresh { self.old.table.heading ≡ None → self.old.table.fresh ≡ true }
-        ensures read { ReadsLineAt limits.now self.old.lines.begun (self.old.lines.line ++ part.now) self.old.table self.new.table result }
+        requires fresh { self.old.content.heading ≡ None → self.old.content.fresh ≡ true }
+        ensures read { ReadsLineAt limits.now self.old.lines.begun (self.old.lines.line ++ part.now) self.old.content self.new.content result }
         ensures lines { self.new.lines ≡ record self.old.lines { line = [] } }
     {
         match self.read_line(limits, part) {
@@ -108,15 +108,15 @@ impl LineReader {
     fn read_line(&mut self, limits: &Limits, part: &[u8]) -> Result<Event, TraceKind>
         requires rows { limits.now.rows ≤ 2 ^ 32 }
         requires short { length self.old.lines.line + length part.now ≤ 4096 }
-        requires fresh { self.old.table.heading ≡ None → self.old.table.fresh ≡ true }
-        ensures read { ReadsLine limits.now (self.old.lines.line ++ part.now) self.old.table self.new.table result }
+        requires fresh { self.old.content.heading ≡ None → self.old.content.fresh ≡ true }
+        ensures read { ReadsLine limits.now (self.old.lines.line ++ part.now) self.old.content self.new.content result }
         ensures lines { self.new.lines ≡ record self.old.lines { line = [] } }
     {
         if self.lines.is_between() {
-            return self.table.read_line(limits, part);
+            return self.content.read_line(limits, part);
         }
         self.lines.add(part);
-        let answer = self.table.read_line(limits, self.lines.bytes());
+        let answer = self.content.read_line(limits, self.lines.bytes());
         self.lines.clear();
         answer
     }
@@ -124,14 +124,14 @@ impl LineReader {
     /// Takes the line that the piece begins with, where it is a row of plain numbers without a fault. Else nothing changes.
     fn take_plain(&mut self, limits: &Limits, piece: &[u8]) -> Option<usize>
         requires { IsWithin limits.now self.old }
-        ensures row { MatchOption result (self.new ≡ self.old) (λ n. IsRowTaken limits.now piece.now n self.old.table self.new.table) }
+        ensures row { MatchOption result (self.new ≡ self.old) (λ n. IsRowTaken limits.now piece.now n self.old.content self.new.content) }
         ensures lines { MatchOption result (Unit {0}) (λ _. (self.old.lines.line ≡ [])
             × (self.new.lines ≡ record { begun = self.old.lines.begun + 1; line = [] }) × (self.new.lines.begun ≤ limits.now.lines)) }
     {
         if !self.lines.is_between() || self.lines.begun() >= limits.lines {
             return None;
         }
-        let size = self.table.read_plain(limits, piece)?;
+        let size = self.content.read_plain(limits, piece)?;
         self.lines.pass();
         Some(size)
     }
@@ -143,15 +143,15 @@ impl LineReader {
         ensures size { IfOk result (λ t. (t.bytes ≤ length piece.now) × (0 < length piece.now → 0 < t.bytes)) }
         ensures came { IfOk result (λ t. HasCome t.event (state limits.now self.old) (state limits.now self.new) (through_feed piece.now)) }
         ensures ok { IfOk result (λ t. (bytes : List ℕ) (rows : List Values) → StandsFor (state limits.now self.old) bytes rows
-            → StandsFor (state limits.now self.new) (bytes ++ through_feed piece.now) (rows_after t.event rows self.new.table.row)) }
+            → StandsFor (state limits.now self.new) (bytes ++ through_feed piece.now) (rows_after t.event rows self.new.content.row)) }
         ensures within { OnOk result (IsWithin limits.now self.new) }
         ensures fault { IfErr result (λ x. (bytes : List ℕ) (rows : List Values) → StandsFor (state limits.now self.old) bytes rows
-            → IsFaultOfAll limits.now self.old.table.least (bytes ++ through_feed piece.now) x) }
+            → IsFaultOfAll limits.now self.old.content.least (bytes ++ through_feed piece.now) x) }
         ensures before { IfErr result (λ x. (bytes : List ℕ) (rows : List Values) → StandsFor (state limits.now self.old) bytes rows
-            → HasReadBefore x.line self.old.table.heading self.old.table.least (bytes ++ through_feed piece.now) rows) }
+            → HasReadBefore x.line self.old.content.heading self.old.content.least (bytes ++ through_feed piece.now) rows) }
         ensures line { IfErr result (λ x. x.line ≡ self.new.lines.begun) }
-        ensures table { OnErr result (self.new.table ≡ record self.old.table { fresh = self.new.table.fresh }) }
-        ensures least { self.new.table.least ≡ self.old.table.least }
+        ensures content { OnErr result (self.new.content ≡ record self.old.content { fresh = self.new.content.fresh }) }
+        ensures least { self.new.content.least ≡ self.old.content.least }
     {
         match memchr(b'\n', piece) {
             None => {
@@ -178,15 +178,15 @@ impl LineReader {
         ensures size { IfOk result (λ t. (t.bytes ≤ length piece.now) × (0 < length piece.now → 0 < t.bytes)) }
         ensures came { IfOk result (λ t. HasCome t.event (state limits.now self.old) (state limits.now self.new) (through_feed piece.now)) }
         ensures ok { IfOk result (λ t. (bytes : List ℕ) (rows : List Values) → StandsFor (state limits.now self.old) bytes rows
-            → StandsFor (state limits.now self.new) (bytes ++ through_feed piece.now) (rows_after t.event rows self.new.table.row)) }
+            → StandsFor (state limits.now self.new) (bytes ++ through_feed piece.now) (rows_after t.event rows self.new.content.row)) }
         ensures within { OnOk result (IsWithin limits.now self.new) }
         ensures fault { IfErr result (λ x. (bytes : List ℕ) (rows : List Values) → StandsFor (state limits.now self.old) bytes rows
-            → IsFaultOfAll limits.now self.old.table.least (bytes ++ through_feed piece.now) x) }
+            → IsFaultOfAll limits.now self.old.content.least (bytes ++ through_feed piece.now) x) }
         ensures before { IfErr result (λ x. (bytes : List ℕ) (rows : List Values) → StandsFor (state limits.now self.old) bytes rows
-            → HasReadBefore x.line self.old.table.heading self.old.table.least (bytes ++ through_feed piece.now) rows) }
+            → HasReadBefore x.line self.old.content.heading self.old.content.least (bytes ++ through_feed piece.now) rows) }
         ensures line { IfErr result (λ x. x.line ≡ self.new.lines.begun) }
-        ensures table { OnErr result (self.new.table ≡ record self.old.table { fresh = self.new.table.fresh }) }
-        ensures least { self.new.table.least ≡ self.old.table.least }
+        ensures content { OnErr result (self.new.content ≡ record self.old.content { fresh = self.new.content.fresh }) }
+        ensures least { self.new.content.least ≡ self.old.content.least }
     {
         match self.take_plain(limits, piece) {
             Some(bytes) => Ok(Took {
@@ -204,15 +204,15 @@ impl LineReader {
         ensures all { IfOk result (λ t. t.event ≡ Event.Nothing → t.bytes ≡ length piece.now) }
         ensures came { IfOk result (λ t. HasCome t.event (state limits.now self.old) (state limits.now self.new) (take t.bytes piece.now)) }
         ensures ok { IfOk result (λ t. (bytes : List ℕ) (rows : List Values) → StandsFor (state limits.now self.old) bytes rows
-            → StandsFor (state limits.now self.new) (bytes ++ take t.bytes piece.now) (rows_after t.event rows self.new.table.row)) }
+            → StandsFor (state limits.now self.new) (bytes ++ take t.bytes piece.now) (rows_after t.event rows self.new.content.row)) }
         ensures within { OnOk result (IsWithin limits.now self.new) }
         ensures fault { IfErr result (λ x. (bytes : List ℕ) (rows : List Values) → StandsFor (state limits.now self.old) bytes rows
-            → IsFaultOfAll limits.now self.old.table.least (bytes ++ piece.now) x) }
+            → IsFaultOfAll limits.now self.old.content.least (bytes ++ piece.now) x) }
         ensures before { IfErr result (λ x. (bytes : List ℕ) (rows : List Values) → StandsFor (state limits.now self.old) bytes rows
-            → HasReadBefore x.line self.old.table.heading self.old.table.least (bytes ++ piece.now) rows) }
+            → HasReadBefore x.line self.old.content.heading self.old.content.least (bytes ++ piece.now) rows) }
         ensures line { IfErr result (λ x. x.line ≡ self.new.lines.begun) }
-        ensures table { OnErr result (self.new.table ≡ record self.old.table { fresh = self.new.table.fresh }) }
-        ensures least { self.new.table.least ≡ self.old.table.least }
+        ensures content { OnErr result (self.new.content ≡ record self.old.content { fresh = self.new.content.fresh }) }
+        ensures least { self.new.content.least ≡ self.old.content.least }
     {
         let mut at = 0;
         while at < piece.len() {
@@ -233,17 +233,17 @@ impl LineReader {
     fn close_last(&mut self, limits: &Limits) -> Result<Event, TraceRefusal>
         requires { IsWithin limits.now self.old }
         ensures ok { IfOk result (λ e. (bytes : List ℕ) (rows : List Values) → StandsFor (state limits.now self.old) bytes rows
-            → HasEnded limits.now self.new.table self.new.lines.begun bytes (rows_after e rows self.new.table.row)) }
-        ensures row { IfOk result (λ e. e ≡ Event.Row → IsSome self.old.table.heading × (0 < self.new.table.count)) }
+            → HasEnded limits.now self.new.content self.new.lines.begun bytes (rows_after e rows self.new.content.row)) }
+        ensures row { IfOk result (λ e. e ≡ Event.Row → IsSome self.old.content.heading × (0 < self.new.content.count)) }
         ensures fault { IfErr result (λ x. (bytes : List ℕ) (rows : List Values) → StandsFor (state limits.now self.old) bytes rows
-            → IsFirstFault bytes true limits.now self.old.table.least x) }
+            → IsFirstFault bytes true limits.now self.old.content.least x) }
         ensures before { IfErr result (λ x. (bytes : List ℕ) (rows : List Values) → StandsFor (state limits.now self.old) bytes rows
-            → HasReadBefore x.line self.old.table.heading self.old.table.least bytes rows) }
+            → HasReadBefore x.line self.old.content.heading self.old.content.least bytes rows) }
         ensures line { IfErr result (λ x. x.line ≡ self.new.lines.begun) }
         ensures kind { IfErr result (λ x. x.kind ≢ NoRows) }
-        ensures table { OnErr result (self.new.table ≡ record self.old.table { fresh = self.new.table.fresh }) }
+        ensures content { OnErr result (self.new.content ≡ record self.old.content { fresh = self.new.content.fresh }) }
         ensures begun { self.new.lines.begun ≡ self.old.lines.begun }
-        ensures least { self.new.table.least ≡ self.old.table.least }
+        ensures least { self.new.content.least ≡ self.old.content.least }
     {
         if self.lines.is_between() {
             return Ok(Event::Nothing);
@@ -255,26 +255,26 @@ impl LineReader {
     pub(crate) fn last(&mut self, limits: &Limits) -> Result<Event, TraceRefusal>
         requires { IsWithin limits.now self.old }
         ensures ok { IfOk result (λ e. (bytes : List ℕ) (rows : List Values) → StandsFor (state limits.now self.old) bytes rows
-            → IsWhole limits.now self.new.table bytes (rows_after e rows self.new.table.row)) }
+            → IsWhole limits.now self.new.content bytes (rows_after e rows self.new.content.row)) }
         ensures next { IfOk result (λ e. (bytes : List ℕ) (rows : List Values) → StandsFor (state limits.now self.old) bytes rows
-            → IsNextRow e self.new.table.heading rows self.new.table.row) }
-        ensures event { IfOk result (λ e. IsEnd e self.new.table) }
+            → IsNextRow e self.new.content.heading rows self.new.content.row) }
+        ensures event { IfOk result (λ e. IsEnd e self.new.content) }
         ensures fault { IfErr result (λ x. (bytes : List ℕ) (rows : List Values) → StandsFor (state limits.now self.old) bytes rows
-            → IsFirstFault bytes true limits.now self.old.table.least x) }
+            → IsFirstFault bytes true limits.now self.old.content.least x) }
         ensures before { IfErr result
             (λ x. x.kind ≢ Empty → x.kind ≢ NoRows → (bytes : List ℕ) (rows : List Values) → StandsFor (state limits.now self.old) bytes rows
-            → HasReadBefore x.line self.old.table.heading self.old.table.least bytes rows) }
+            → HasReadBefore x.line self.old.content.heading self.old.content.least bytes rows) }
         ensures header { IfErr result (λ x. x.kind ≡ NoRows → (bytes : List ℕ) (rows : List Values) → StandsFor (state limits.now self.old) bytes rows
-            → HasHeader self.new.table bytes) }
+            → HasHeader self.new.content bytes) }
         ensures line { IfErr result (λ x. x.line ≡ self.new.lines.begun) }
         ensures begun { self.new.lines.begun ≡ self.old.lines.begun }
-        ensures least { self.new.table.least ≡ self.old.table.least }
+        ensures least { self.new.content.least ≡ self.old.content.least }
     {
         let event = self.close_last(limits)?;
-        if self.table.header().is_none() {
+        if self.content.header().is_none() {
             return Err(self.refusal(TraceKind::Empty));
         }
-        if self.table.count() == 0 {
+        if self.content.count() == 0 {
             return Err(self.refusal(TraceKind::NoRows));
         }
         match event {

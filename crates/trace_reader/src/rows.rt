@@ -157,7 +157,7 @@ impl Rows {
         requires { IsSome self.now.heading }
         ensures { header_read self.now ≡ Some result.now }
     {
-        match self.reading.table.header() {
+        match self.reading.content.header() {
             Some(header) => header,
             None => unreachable!(),
         }
@@ -168,6 +168,6 @@ impl Rows {
         requires { 0 < self.now.count }
         ensures { result.now ≡ self.now.row }
     {
-        self.reading.table.row()
+        self.reading.content.row()
     }
 }

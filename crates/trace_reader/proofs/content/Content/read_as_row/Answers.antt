@@ -9,7 +9,7 @@ use Rattle.trace_reader.specs.Headings.{Scaled}
 use Rattle.trace_reader.specs.RowLines.{IsRowRead}
 use Rattle.trace_reader.specs.Progress.{Progress, bad_row}
 use Rattle.trace_reader.proofs.ReadLemmas.{too_many, row_bad, row_late, row_taken}
-use Rattle.trace_reader.proofs.TableLemmas.{some_is}
+use Rattle.trace_reader.proofs.TraceLemmas.{some_is}
 use Rattle.trace_reader.proofs.content.Content.read_as_row.Goals as goal
 use Rattle.trace_reader.proofs.content.Content.read_as_row.Goals.{else-self-gt0-via-then-self-gt0+else-time, else-self-gt0-via-else-self-gt0}
 

@@ -19,9 +19,9 @@ returns-clause-ok c =
     let new = c.close.new.self in
     let some = some_bytes old.lines.line (λ e. false≢true (c.if-is_between.ensures.1 e)) in
     if_ok c.close.result _ (λ event is bytes rows s.
-    let read = subst (ReadsLineAt limits old.lines.begun (old.lines.line ++ []) old.table new.table) is c.close.ensures.read in
+    let read = subst (ReadsLineAt limits old.lines.begun (old.lines.line ++ []) old.content new.content) is c.close.ensures.read in
     let begun = ap (λ (l : Cut). l.begun) c.close.ensures.lines in
-    subst (λ b. HasEnded limits new.table b bytes (rows_after event rows new.table.row)) (sym begun)
+    subst (λ b. HasEnded limits new.content b bytes (rows_after event rows new.content.row)) (sym begun)
     (last_closed limits old new c.requires some event read bytes rows s))
 
 pub returns-clause-fault : goal.returns-clause-fault
@@ -31,7 +31,7 @@ returns-clause-fault c =
     let new = c.close.new.self in
     let some = some_bytes old.lines.line (λ e. false≢true (c.if-is_between.ensures.1 e)) in
     if_err c.close.result _ (λ x is bytes rows s.
-    let read = subst (ReadsLineAt limits old.lines.begun (old.lines.line ++ []) old.table new.table) is c.close.ensures.read in
+    let read = subst (ReadsLineAt limits old.lines.begun (old.lines.line ++ []) old.content new.content) is c.close.ensures.read in
     last_bad limits old new c.requires some x read.0 read.1 bytes rows s)
 
 pub returns-clause-before : goal.returns-clause-before
@@ -41,12 +41,12 @@ returns-clause-before c =
     let new = c.close.new.self in
     let some = some_bytes old.lines.line (λ e. false≢true (c.if-is_between.ensures.1 e)) in
     if_err c.close.result _ (λ x is bytes rows s.
-    let read = subst (ReadsLineAt limits old.lines.begun (old.lines.line ++ []) old.table new.table) is c.close.ensures.read in
+    let read = subst (ReadsLineAt limits old.lines.begun (old.lines.line ++ []) old.content new.content) is c.close.ensures.read in
     last_before limits old some x read.0 bytes rows s)
 
 pub returns-clause-kind : goal.returns-clause-kind
 returns-clause-kind c =
     if_err c.close.result _ (λ x is.
     let read = subst (ReadsLineAt c.args.limits.now c.args.self.now.lines.begun
-    (c.args.self.now.lines.line ++ []) c.args.self.now.table c.close.new.self.table) is c.close.ensures.read in
+    (c.args.self.now.lines.line ++ []) c.args.self.now.content c.close.new.self.content) is c.close.ensures.read in
     refused_kind read.1)

@@ -18,7 +18,7 @@ returns-in_err-hold-in-None-clause-fault c =
     let h = c.in-None.ensures in
     let p = err_from_is_err_and c.from_residual.result c.from_residual.ensures.1 in
     let e = c.in_err-hold-in-None.ensures in
-    rw (p.1, p.2) (λ bytes rows s. subst (λ t. IsFaultOfAll limits old.table.least (bytes ++ t) c.in_err-hold-in-None.field-0.0) (sym (none-all piece h))
+    rw (p.1, p.2) (λ bytes rows s. subst (λ t. IsFaultOfAll limits old.content.least (bytes ++ t) c.in_err-hold-in-None.field-0.0) (sym (none-all piece h))
     (hold_fault limits old new c.requires piece (none-free piece h) e.begun c.in_err-hold-in-None.field-0.0 e.held bytes rows s))
 
 pub returns-in_err-event-in-Some-clause-fault : goal.returns-in_err-event-in-Some-clause-fault
@@ -32,7 +32,7 @@ returns-in_err-event-in-Some-clause-fault c =
     let p = err_from_is_err_and c.from_residual-in_err-event-in-Some.result c.from_residual-in_err-event-in-Some.ensures.1 in
     let e = c.in_err-event-in-Some.ensures in
     let x = c.in_err-event-in-Some.field-0.0 in
-    rw (p.1, p.2) (λ bytes rows s. subst (λ t. IsFaultOfAll limits old.table.least (bytes ++ t) x) (sym (at-through piece at h.0 h.1))
+    rw (p.1, p.2) (λ bytes rows s. subst (λ t. IsFaultOfAll limits old.content.least (bytes ++ t) x) (sym (at-through piece at h.0 h.1))
     (finish_fault limits old new c.requires (take at piece) (at-free piece at h.0 h.1) e.begun x e.finished bytes rows s))
 
 pub returns-in_err-hold-in-None-clause-before : goal.returns-in_err-hold-in-None-clause-before
@@ -45,7 +45,7 @@ returns-in_err-hold-in-None-clause-before c =
     let p = err_from_is_err_and c.from_residual.result c.from_residual.ensures.1 in
     let e = c.in_err-hold-in-None.ensures in
     let x = c.in_err-hold-in-None.field-0.0 in
-    rw (p.1, p.2) (λ bytes rows s. subst (λ t. HasReadBefore x.line old.table.heading old.table.least (bytes ++ t) rows) (sym (none-all piece h))
+    rw (p.1, p.2) (λ bytes rows s. subst (λ t. HasReadBefore x.line old.content.heading old.content.least (bytes ++ t) rows) (sym (none-all piece h))
     (hold_before limits old new c.requires piece (none-free piece h) e.begun x e.held bytes rows s))
 
 pub returns-in_err-event-in-Some-clause-before : goal.returns-in_err-event-in-Some-clause-before
@@ -61,7 +61,7 @@ returns-in_err-event-in-Some-clause-before c =
     let x = c.in_err-event-in-Some.field-0.0 in
     let free = at-free piece at h.0 h.1 in
     let line = (finish_kept limits old new c.requires (take at piece) free e.begun x e.finished).0 in
-    rw (p.1, p.2) (λ bytes rows s. subst (λ t. HasReadBefore x.line old.table.heading old.table.least (bytes ++ t) rows) (sym (at-through piece at h.0 h.1))
+    rw (p.1, p.2) (λ bytes rows s. subst (λ t. HasReadBefore x.line old.content.heading old.content.least (bytes ++ t) rows) (sym (at-through piece at h.0 h.1))
     (finish_before limits old new c.requires (take at piece) free e.begun x line bytes rows s))
 
 pub returns-in_ok-hold-in-None-clause-bytes : goal.returns-in_ok-hold-in-None-clause-bytes
@@ -77,7 +77,7 @@ returns-in_ok-hold-in-None-clause-ok c = λ bytes rows s.
     let h = c.in-None.ensures in
     let e = c.in_ok-hold-in-None.ensures in
     subst (λ t. StandsFor (state limits new) (bytes ++ t) rows) (sym (none-all piece h))
-    (hold_stands limits c.args.self.now new c.requires piece (none-free piece h) e.begun e.held.0 e.held.1 e.table bytes rows s)
+    (hold_stands limits c.args.self.now new c.requires piece (none-free piece h) e.begun e.held.0 e.held.1 e.content bytes rows s)
 
 pub returns-in_ok-event-in-Some-clause-bytes : goal.returns-in_ok-event-in-Some-clause-bytes
 returns-in_ok-event-in-Some-clause-bytes c =
@@ -106,6 +106,6 @@ returns-in_ok-event-in-Some-clause-ok c = λ bytes rows s.
     let new = c.finish.new.self in
     let e = c.in_ok-event-in-Some.ensures in
     let event = c.in_ok-event-in-Some.event in
-    subst (λ t. StandsFor (state limits new) (bytes ++ t) (rows_after event rows new.table.row)) (sym (at-through piece at h.0 h.1))
+    subst (λ t. StandsFor (state limits new) (bytes ++ t) (rows_after event rows new.content.row)) (sym (at-through piece at h.0 h.1))
     (finish_stands limits c.args.self.now new c.requires (take at piece)
     (at-free piece at h.0 h.1) e.begun event e.finished.0 e.finished.1 e.finished.2 bytes rows s)

@@ -21,20 +21,20 @@ pub returns-then-is_none-clause-fault : goal.returns-then-is_none-clause-fault
 returns-then-is_none-clause-fault c = λ bytes rows s.
     let new = c.close_last.new.self in
     let e = c.in_ok-event.ensures in
-    let n = header_none c.header.result new.table.heading (header_of new.table.least) c.header.ensures c.if-is_none.ensures in
+    let n = header_none c.header.result new.content.heading (header_of new.content.least) c.header.ensures c.if-is_none.ensures in
     let x = c.refusal.result in
     subst (λ l. IsFirstFault bytes true c.args.limits.now l x) e.least
-    (no_header c.args.limits.now new.table new.lines.begun bytes (rows_after c.in_ok-event.event rows new.table.row) (e.ok bytes rows s) n x
+    (no_header c.args.limits.now new.content new.lines.begun bytes (rows_after c.in_ok-event.event rows new.content.row) (e.ok bytes rows s) n x
     (ap (λ (y : TraceRefusal). y.line) c.refusal.ensures) (ap (λ (y : TraceRefusal). y.kind) c.refusal.ensures))
 
 pub returns-then-count-eq0-clause-fault : goal.returns-then-count-eq0-clause-fault
 returns-then-count-eq0-clause-fault c = λ bytes rows s.
     let new = c.close_last.new.self in
     let e = c.in_ok-event.ensures in
-    let (g, n) = header_some c.header.result new.table.heading (header_of new.table.least) c.header.ensures c.if-is_none.ensures in
+    let (g, n) = header_some c.header.result new.content.heading (header_of new.content.least) c.header.ensures c.if-is_none.ensures in
     let x = c.refusal-then-count-eq0.result in
     subst (λ l. IsFirstFault bytes true c.args.limits.now l x) e.least
-    (no_rows c.args.limits.now new.table new.lines.begun bytes (rows_after c.in_ok-event.event rows new.table.row)
+    (no_rows c.args.limits.now new.content new.lines.begun bytes (rows_after c.in_ok-event.event rows new.content.row)
     (e.ok bytes rows s) g n (sym c.count.ensures ∙ c.if-count-eq0.true) x
     (ap (λ (y : TraceRefusal). y.line) c.refusal-then-count-eq0.ensures) (ap (λ (y : TraceRefusal). y.kind) c.refusal-then-count-eq0.ensures))
 
@@ -42,49 +42,51 @@ pub returns-then-count-eq0-clause-header : goal.returns-then-count-eq0-clause-he
 returns-then-count-eq0-clause-header c = λ is bytes rows s.
     let new = c.close_last.new.self in
     let e = c.in_ok-event.ensures in
-    let (g, n) = header_some c.header.result new.table.heading (header_of new.table.least) c.header.ensures c.if-is_none.ensures in
-    let after = rows_after c.in_ok-event.event rows new.table.row in
+    let (g, n) = header_some c.header.result new.content.heading (header_of new.content.least) c.header.ensures c.if-is_none.ensures in
+    let after = rows_after c.in_ok-event.event rows new.content.row in
     let h = e.ok bytes rows s in
-    let none : after ≡ [] = no_rows_left c.in_ok-event.event rows new.table.row new.table.count h.taken.count (sym c.count.ensures ∙ c.if-count-eq0.true) in (
+    let none : after ≡ [] = no_rows_left c.in_ok-event.event rows new.content.row new.content.count h.taken.count
+    (sym c.count.ensures ∙ c.if-count-eq0.true) in (
       g,
       n,
-      subst (λ rs. TraceOf bytes true new.table.least (header_of new.table.least g) rs) none
-          (read_whole c.args.limits.now new.table new.lines.begun bytes after h g n),
+      subst (λ rs. TraceOf bytes true new.content.least (header_of new.content.least g) rs) none
+          (read_whole c.args.limits.now new.content new.lines.begun bytes after h g n),
     )
 
 pub returns-in-Row-clause-ok : goal.returns-in-Row-clause-ok
 returns-in-Row-clause-ok c = λ bytes rows s.
     let new = c.close_last.new.self in
     let e = c.in_ok-event.ensures in
-    let (g, n) = header_some c.header.result new.table.heading (header_of new.table.least) c.header.ensures c.if-is_none.ensures in
-    let after = rows_after c.in_ok-event.event rows new.table.row in
-    let w : IsWhole c.args.limits.now new.table bytes after =
-    (g, n, has_trace c.args.limits.now new.table new.lines.begun bytes after (e.ok bytes rows s) g n (omega (arith, c.count.ensures, c.if-count-eq0.false))) in
-    subst (λ v. IsWhole c.args.limits.now new.table bytes (rows_after v rows new.table.row)) c.in-Row.is w
+    let (g, n) = header_some c.header.result new.content.heading (header_of new.content.least) c.header.ensures c.if-is_none.ensures in
+    let after = rows_after c.in_ok-event.event rows new.content.row in
+    let w : IsWhole c.args.limits.now new.content bytes after =
+    (g, n, has_trace c.args.limits.now new.content new.lines.begun bytes after (e.ok bytes rows s) g n
+    (omega (arith, c.count.ensures, c.if-count-eq0.false))) in
+    subst (λ v. IsWhole c.args.limits.now new.content bytes (rows_after v rows new.content.row)) c.in-Row.is w
 
 pub returns-in-Row-clause-next : goal.returns-in-Row-clause-next
 returns-in-Row-clause-next c = λ bytes rows s.
     let new = c.close_last.new.self in
-    let (g, n) = header_some c.header.result new.table.heading (header_of new.table.least) c.header.ensures c.if-is_none.ensures in
+    let (g, n) = header_some c.header.result new.content.heading (header_of new.content.least) c.header.ensures c.if-is_none.ensures in
     let h = c.in_ok-event.ensures.ok bytes rows s in
-    subst (λ v. IsNextRow v new.table.heading rows new.table.row) c.in-Row.is
-    (next_row c.in_ok-event.event new.table.heading rows new.table.row h.taken.rising (λ w. subst IsSome (sym n) refl))
+    subst (λ v. IsNextRow v new.content.heading rows new.content.row) c.in-Row.is
+    (next_row c.in_ok-event.event new.content.heading rows new.content.row h.taken.rising (λ w. subst IsSome (sym n) refl))
 
 pub returns-in_default : goal.returns-in_default
 returns-in_default c =
     let new = c.close_last.new.self in
     let e = c.in_ok-event.ensures in
-    let (g, n) = header_some c.header.result new.table.heading (header_of new.table.least) c.header.ensures c.if-is_none.ensures in
+    let (g, n) = header_some c.header.result new.content.heading (header_of new.content.least) c.header.ensures c.if-is_none.ensures in
     record {
       ok = λ bytes rows s.
-          let after = rows_after c.in_ok-event.event rows new.table.row in
-          let w : IsWhole c.args.limits.now new.table bytes after = (
+          let after = rows_after c.in_ok-event.event rows new.content.row in
+          let w : IsWhole c.args.limits.now new.content bytes after = (
             g,
             n,
-            has_trace c.args.limits.now new.table new.lines.begun bytes after (e.ok bytes rows s) g n
+            has_trace c.args.limits.now new.content new.lines.begun bytes after (e.ok bytes rows s) g n
                 (omega (arith, c.count.ensures, c.if-count-eq0.false)),
           ) in
-          subst (IsWhole c.args.limits.now new.table bytes) (rows_same c.in_ok-event.event rows new.table.row c.in_default.not-Row) w;
+          subst (IsWhole c.args.limits.now new.content bytes) (rows_same c.in_ok-event.event rows new.content.row c.in_default.not-Row) w;
       next = λ bytes rows s. tt;
       event = subst IsSome (sym n) refl;
       fault = tt;

@@ -20,8 +20,8 @@ returns-in_err-took-clause-fault c =
     let (others, e) = through_parts (drop at piece) in
     let whole : piece ≡ take at piece ++ (through_feed (drop at piece) ++ others) = sym (take-append-drop at piece) ∙ ap (λ t. take at piece ++ t) e in
     let f = rw take_rest at c.in_err-took.ensures.fault in
-    rw (p.1, p.2) (λ bytes rows s. subst (λ l. IsFaultOfAll limits l (bytes ++ piece) x) c.loop-at.invariant.table.3
-    (fault_on limits c.loop-at.self.table.least bytes (take at piece) (through_feed (drop at piece)) others piece x whole
+    rw (p.1, p.2) (λ bytes rows s. subst (λ l. IsFaultOfAll limits l (bytes ++ piece) x) c.loop-at.invariant.content.3
+    (fault_on limits c.loop-at.self.content.least bytes (take at piece) (through_feed (drop at piece)) others piece x whole
     (f (bytes ++ take at piece) rows (c.loop-at.invariant.stands bytes rows s))))
 
 pub returns-in_err-took-clause-before : goal.returns-in_err-took-clause-before
@@ -31,13 +31,13 @@ returns-in_err-took-clause-before c =
     let at = c.loop-at.at in
     let x = c.in_err-took.field-0.0 in
     let i = c.loop-at.invariant in
-    let table = c.loop-at.self.table in
+    let content = c.loop-at.self.content in
     let (others, e) = through_parts (drop at piece) in
     let whole : piece ≡ take at piece ++ (through_feed (drop at piece) ++ others) = sym (take-append-drop at piece) ∙ ap (λ t. take at piece ++ t) e in
     let f = rw take_rest at c.in_err-took.ensures.before in
-    rw (p.1, p.2) (λ bytes rows s. subst (λ h. HasReadBefore x.line h c.args.self.now.table.least (bytes ++ piece) rows) i.table.0
-    (subst (λ l. HasReadBefore x.line table.heading l (bytes ++ piece) rows) i.table.3
-    (before_on x.line table.heading table.least rows bytes (take at piece) (through_feed (drop at piece)) others piece whole
+    rw (p.1, p.2) (λ bytes rows s. subst (λ h. HasReadBefore x.line h c.args.self.now.content.least (bytes ++ piece) rows) i.content.0
+    (subst (λ l. HasReadBefore x.line content.heading l (bytes ++ piece) rows) i.content.3
+    (before_on x.line content.heading content.least rows bytes (take at piece) (through_feed (drop at piece)) others piece whole
     (f (bytes ++ take at piece) rows (i.stands bytes rows s)))))
 
 pub loop-at-preserved : goal.loop-at-preserved
@@ -55,12 +55,12 @@ loop-at-preserved c =
     let came =
     subst (λ v. HasCome v (state limits c.loop-at.self) (state limits new) (through_feed (drop at piece))) c.in-Nothing.is (rw take_rest at e.came) in
     let ok = subst (λ v. (bytes : List ℕ) (rows : List Row) → StandsFor (state limits c.loop-at.self) bytes rows
-    → StandsFor (state limits new) (bytes ++ through_feed (drop at piece)) (rows_after v rows new.table.row))
+    → StandsFor (state limits new) (bytes ++ through_feed (drop at piece)) (rows_after v rows new.content.row))
     c.in-Nothing.is (rw take_rest at e.ok) in
     record {
       within = within;
       bounds = e.within;
-      table = (came.0 ∙ i.table.0, came.1 ∙ i.table.1, came.2 ∙ i.table.2, e.least ∙ i.table.3);
+      content = (came.0 ∙ i.content.0, came.1 ∙ i.content.1, came.2 ∙ i.content.2, e.least ∙ i.content.3);
       stands = λ bytes rows s. subst (λ t. StandsFor (state limits new) t rows) (append_assoc bytes (take at piece) (through_feed (drop at piece))
           ∙ ap (λ t. bytes ++ t) (sym (take_on at n piece (through_feed (drop at piece)) taken i.within size.0)))
           (ok (bytes ++ take at piece) rows (i.stands bytes rows s));
@@ -90,14 +90,14 @@ returns-in_default c =
       all = λ is. absurd (c.in_default.not-Nothing is);
       came = subst (HasCome v (state limits old) (state limits new)) (sym longer)
           (come_on v (state limits old) (state limits c.loop-at.self) (state limits new) (take at piece)
-          (through_feed (drop at piece)) i.table.0 i.table.1 i.table.2 came);
-      ok = λ bytes rows s. subst (λ t. StandsFor (state limits new) t (rows_after v rows new.table.row))
+          (through_feed (drop at piece)) i.content.0 i.content.1 i.content.2 came);
+      ok = λ bytes rows s. subst (λ t. StandsFor (state limits new) t (rows_after v rows new.content.row))
           (append_assoc bytes (take at piece) (through_feed (drop at piece)) ∙ ap (λ t. bytes ++ t) (sym longer))
           (ok (bytes ++ take at piece) rows (i.stands bytes rows s));
       within = e.within;
       fault = tt;
       before = tt;
       line = tt;
-      table = tt;
-      least = e.least ∙ i.table.3;
+      content = tt;
+      least = e.least ∙ i.content.3;
     }

@@ -8,9 +8,9 @@ abbrev pub invariant-loop-at : goal.invariant-loop-at
 invariant-loop-at l = record {
   within : l.at ≤ length l.piece;
   bounds : IsWithin l.limits l.self;
-  table : (l.self.table.heading ≡ l.initial.self.table.heading) × (l.self.table.row ≡ l.initial.self.table.row)
-      × (l.self.table.count ≡ l.initial.self.table.count)
-      × (l.self.table.least ≡ l.initial.self.table.least);
+  content : (l.self.content.heading ≡ l.initial.self.content.heading) × (l.self.content.row ≡ l.initial.self.content.row)
+      × (l.self.content.count ≡ l.initial.self.content.count)
+      × (l.self.content.least ≡ l.initial.self.content.least);
   stands : (bytes : List ℕ) (rows : List Row) → StandsFor (state l.limits l.initial.self) bytes rows
       → StandsFor (state l.limits l.self) (bytes ++ take l.at l.piece) rows;
 }

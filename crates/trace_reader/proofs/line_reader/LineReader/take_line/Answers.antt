@@ -43,7 +43,7 @@ returns-in-Some-clause-ok c = λ bytes rows s.
     let new = c.take_plain.new.self in
     let begun : new.lines.begun ≡ begun_after old.lines.begun old.lines.line (length r.line + 1) =
     ap (λ (x : Cut). x.begun) l.1 ∙ begun_one old.lines.begun (length r.line) old.lines.line l.0 in
-    let read = subst (λ t. ReadsLine limits t old.table new.table (Ok IsARow)) (ap (λ t. t ++ r.line) (sym l.0)) r.read in
-    subst (λ t. StandsFor (state limits new) (bytes ++ t) (rows ++ new.table.row ∷ [])) (sym (line_through c.args.piece.now r.line c.in-Some.bytes r.whole))
+    let read = subst (λ t. ReadsLine limits t old.content new.content (Ok IsARow)) (ap (λ t. t ++ r.line) (sym l.0)) r.read in
+    subst (λ t. StandsFor (state limits new) (bytes ++ t) (rows ++ new.content.row ∷ [])) (sym (line_through c.args.piece.now r.line c.in-Some.bytes r.whole))
     (finish_stands limits old new c.requires r.line r.whole.free begun IsARow (record { count = l.2; short = omega (arith, ap length l.0, r.whole.short) })
     (ap (λ (x : Cut). x.line) l.1) read bytes rows s)

@@ -11,5 +11,5 @@ returns-in-Ok-clause-next c = rw (← c.self.view_is) (λ bytes rows s.
     let e = c.in-Ok.took.event in
     let new = c.take.new.self in
     let t = (c.in-Ok.ensures.ok bytes rows (going_on _ bytes rows s)).taken in
-    next_row e new.table.heading rows new.table.row t.rising
+    next_row e new.content.heading rows new.content.row t.rising
     (came_some e (state limits c.self.inside.reading) (state limits new) (take c.in-Ok.took.bytes c.args.piece.now) c.in-Ok.ensures.came))

@@ -2,7 +2,7 @@
 use Rattle.std.proofs.Common.{◌≡◌, ◌++◌, ◌∷◌, [], ◌∙◌, ap, sym, true, length, nat_abs, ◌≤◌, refl}
 use Rattle.std.specs.Prelude.{is_ok, All}
 use Rattle.stl_syntax.specs.Trace.{Trace}
-use Rattle.trace_reader.proofs.TableLemmas.{table_with, push-full, push-rows, push-small, sofar-push}
+use Rattle.trace_reader.proofs.TraceLemmas.{trace_with, push-full, push-rows, push-small, sofar-push}
 use Rattle.trace_reader.proofs.trace.Trace.push.Goals as goal
 
 pub invariant_of-self-2 : goal.invariant_of-self-2
@@ -36,4 +36,4 @@ returns-clause-ok c =
     (rw done at c.push.ensures.items) ∙ ap (λ t. a.times.items ++ t ∷ []) c.time.ensures in
     let fits : length r.values ≡ length a.header.columns = c.requires.width ∙ sym (ap (λ (t : Trace). length t.header.columns) c.self.view_is) in
     rw (← c.self.view_is)
-    (ap (table_with a.header) (push-rows (length a.header.columns) a.times.items _ a.values.items _ r c.self.invariant.full fits in_times in_values))
+    (ap (trace_with a.header) (push-rows (length a.header.columns) a.times.items _ a.values.items _ r c.self.invariant.full fits in_times in_values))

@@ -1,7 +1,7 @@
 -- There are as many rows as times.
 use Rattle.std.proofs.Common.{ap, length, arith}
 use Rattle.stl_syntax.specs.Trace.{Trace}
-use Rattle.trace_reader.proofs.TableLemmas.{length-rows_of, sofar-some}
+use Rattle.trace_reader.proofs.TraceLemmas.{length-rows_of, sofar-some}
 use Rattle.trace_reader.proofs.trace.Trace.rows.Goals as goal
 
 pub returns-clause-count : goal.returns-clause-count

@@ -2,7 +2,7 @@
 use Rattle.std.proofs.Common.{◌<◌, ◌∙◌, ap, sym, length, get_or, arith}
 use Rattle.std.proofs.lemmas.List.{get_or_read}
 use Rattle.stl_syntax.specs.Trace.{Row, Trace}
-use Rattle.trace_reader.proofs.TableLemmas.{length-rows_of, row_at}
+use Rattle.trace_reader.proofs.TraceLemmas.{length-rows_of, row_at}
 use Rattle.trace_reader.proofs.trace.Trace.time.Goals as goal
 
 pub index-requires : goal.index-requires

@@ -5,7 +5,7 @@ use Rattle.std.proofs.lemmas.List.{get_or_read}
 use Rattle.std.proofs.lemmas.Int.{to_z-of_z}
 use Rattle.stl_syntax.specs.Trace.{Row, Trace, value}
 use Rattle.trace_reader.proofs.DigitLemmas.{value_fits}
-use Rattle.trace_reader.proofs.TableLemmas.{length-rows_of, row_at, value_at, place_within}
+use Rattle.trace_reader.proofs.TraceLemmas.{length-rows_of, row_at, value_at, place_within}
 use Rattle.trace_reader.proofs.trace.Trace.value.Goals as goal
 
 pub overflow_mul-at : goal.overflow_mul-at

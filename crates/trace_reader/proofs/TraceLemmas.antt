@@ -1,4 +1,4 @@
--- Rows of a table, one after another.
+-- Rows of a trace, one after another.
 use Rattle.std.proofs.Common.{◌≡◌, ℕ, zero, suc, ◌+◌, ◌*◌, ◌<◌, ◌≤◌, List, [], ◌∷◌, ◌++◌, length, take}
 use Rattle.std.proofs.Common.{drop, get_or, refl, ap, ◌∙◌, arith, ℤ, nat_abs, Option, Some, None}
 use Rattle.std.specs.Prelude.{IsSome, All, pos}
@@ -19,8 +19,8 @@ pub length-rows_of : (width : ℕ) (times : List ℕ) (values : List ℤ) → le
 length-rows_of width [] values = refl
 length-rows_of width (t ∷ times) values = ap suc (length-rows_of width times (drop width values))
 
-abbrev pub table_with : Header → List Row → Trace
-table_with h rows = record { header = h; rows = rows }
+abbrev pub trace_with : Header → List Row → Trace
+trace_with h rows = record { header = h; rows = rows }
 
 abbrev pub row_with : ℕ → List ℤ → Row
 row_with t values = record { time = t; values = values }
@@ -68,7 +68,7 @@ pub sofar-some : (width : ℕ) (rows : List Row) → AreRowsSoFar width rows →
 sofar-some width [] h l = absurd (omega arith)
 sofar-some width (r ∷ rows) h l = h
 
--- a row more in the lists of a table
+-- a row more in the lists of a trace
 module _ (width : ℕ) (times times' : List ℕ) (values values' : List ℤ) (r : Row) (full : length values ≡ length times * width)
     (fits : length r.values ≡ width) (in_times : times' ≡ times ++ r.time ∷ []) (in_values : values' ≡ values ++ r.values) where
   -- a value more for each column
