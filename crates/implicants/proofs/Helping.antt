@@ -112,22 +112,22 @@ module _ (tr : Trace) (some : List Item) (reading : Reading) where
 
   eventually_helps : (h : Bool) (a b : ℕ) (i o : Bool) (p x : Subformula) → HasValue x over_trace → Helps h p x
       → Helps h (eventually a b i o p) (eventually a b i o x)
-  eventually_helps true a b i o p x has f t r w c k = some_helps (Ahead (start tr) (stop tr) a b i o t) p x r (λ u m. m.inside) has f c k
-  eventually_helps false a b i o p x has f t r w c k = none_helps (Ahead (start tr) (stop tr) a b i o t) p x r (λ u m. m.inside) f c k
+  eventually_helps true a b i o p x has f = λ t r w c k. some_helps (Ahead (start tr) (stop tr) a b i o t) p x r (λ u m. m.inside) has f c k
+  eventually_helps false a b i o p x has f = λ t r w c k. none_helps (Ahead (start tr) (stop tr) a b i o t) p x r (λ u m. m.inside) f c k
 
   always_helps : (h : Bool) (a b : ℕ) (i o : Bool) (p x : Subformula) → HasValue x over_trace → Helps h p x → Helps h (always a b i o p) (always a b i o x)
-  always_helps true a b i o p x has f t r w c k = each_helps (Ahead (start tr) (stop tr) a b i o t) p x r (λ u m. m.inside) f c k
-  always_helps false a b i o p x has f t r w c k = no_helps (Ahead (start tr) (stop tr) a b i o t) p x r (λ u m. m.inside) has f c k
+  always_helps true a b i o p x has f = λ t r w c k. each_helps (Ahead (start tr) (stop tr) a b i o t) p x r (λ u m. m.inside) f c k
+  always_helps false a b i o p x has f = λ t r w c k. no_helps (Ahead (start tr) (stop tr) a b i o t) p x r (λ u m. m.inside) has f c k
 
   once_helps : (h : Bool) (a : ℕ) (b : Option ℕ) (i o : Bool) (p x : Subformula) → HasValue x over_trace → Helps h p x
       → Helps h (once a b i o p) (once a b i o x)
-  once_helps true a b i o p x has f t r w c k = some_helps (Behind (start tr) (stop tr) a b i o t) p x r (λ u m. m.inside) has f c k
-  once_helps false a b i o p x has f t r w c k = none_helps (Behind (start tr) (stop tr) a b i o t) p x r (λ u m. m.inside) f c k
+  once_helps true a b i o p x has f = λ t r w c k. some_helps (Behind (start tr) (stop tr) a b i o t) p x r (λ u m. m.inside) has f c k
+  once_helps false a b i o p x has f = λ t r w c k. none_helps (Behind (start tr) (stop tr) a b i o t) p x r (λ u m. m.inside) f c k
 
   historically_helps : (h : Bool) (a : ℕ) (b : Option ℕ) (i o : Bool) (p x : Subformula) → HasValue x over_trace → Helps h p x
       → Helps h (historically a b i o p) (historically a b i o x)
-  historically_helps true a b i o p x has f t r w c k = each_helps (Behind (start tr) (stop tr) a b i o t) p x r (λ u m. m.inside) f c k
-  historically_helps false a b i o p x has f t r w c k = no_helps (Behind (start tr) (stop tr) a b i o t) p x r (λ u m. m.inside) has f c k
+  historically_helps true a b i o p x has f = λ t r w c k. each_helps (Behind (start tr) (stop tr) a b i o t) p x r (λ u m. m.inside) f c k
+  historically_helps false a b i o p x has f = λ t r w c k. no_helps (Behind (start tr) (stop tr) a b i o t) p x r (λ u m. m.inside) has f c k
 
   -- the least of the right operand's value and the Inf of the left one's over a stretch
   high_both : (S : Window) (p q x y : Subformula) (u : Rational) (k l v : Extended) → ((z : Rational) → S z → Within (start tr) (stop tr) z)
@@ -144,21 +144,21 @@ module _ (tr : Trace) (some : List Item) (reading : Reading) where
 
   until_helps : (h : Bool) (a b : ℕ) (p q x y : Subformula) → HasInf x over_trace → HasValue x over_trace → HasValue y over_trace
       → Helps h p x → Helps h q y → Helps h (until a b p q) (until a b x y)
-  until_helps true a b p q x y inf has other f g t r w (u, m, c, each) k =
+  until_helps true a b p q x y inf has other f g = λ t r w. λ (u, m, c, each). λ k.
       let i = other u m.inside in let j = inf t u w m.inside in let v = least_of i.0 j.0 in
       le_transᵉ one v.0 r (high_both (Within t u) p q x y u i.0 j.0 v.0 (λ z n. within_stretch w m.inside n) m.inside f g c each i.1 j.1 v.1)
       (k.bound v.0 (u, m, (i.0, j.0, i.1, j.1, v.1)))
-  until_helps false a b p q x y inf has other f g t r w c k =
+  until_helps false a b p q x y inf has other f g = λ t r w c k.
       low_sup (Ahead (start tr) (stop tr) a b true true t) (IsUpTo one (SupInf x over_trace) (SupInf y over_trace) t) r
       (λ u v m. λ (i, j, d, e, l). low_one (Within t u) p q x y u i j v (λ z n. within_stretch w m.inside n) m.inside has f g (c u m) d e l) k
 
   since_helps : (h : Bool) (a : ℕ) (b : Option ℕ) (p q x y : Subformula) → HasInf x over_trace → HasValue x over_trace → HasValue y over_trace
       → Helps h p x → Helps h q y → Helps h (since a b p q) (since a b x y)
-  since_helps true a b p q x y inf has other f g t r w (u, m, c, each) k =
+  since_helps true a b p q x y inf has other f g = λ t r w. λ (u, m, c, each). λ k.
       let i = other u m.inside in let j = inf u t m.inside w in let v = least_of i.0 j.0 in
       le_transᵉ one v.0 r (high_both (Within u t) p q x y u i.0 j.0 v.0 (λ z n. within_stretch m.inside w n) m.inside f g c each i.1 j.1 v.1)
       (k.bound v.0 (u, m, (i.0, j.0, i.1, j.1, v.1)))
-  since_helps false a b p q x y inf has other f g t r w c k =
+  since_helps false a b p q x y inf has other f g = λ t r w c k.
       low_sup (Behind (start tr) (stop tr) a b true true t) (IsDownTo one (SupInf x over_trace) (SupInf y over_trace) t) r
       (λ u v m. λ (i, j, d, e, l). low_one (Within u t) p q x y u i j v (λ z n. within_stretch m.inside w n) m.inside has f g (c u m) d e l) k
 

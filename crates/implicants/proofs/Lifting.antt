@@ -105,7 +105,7 @@ module _ (nodes : List Node) (tr : Trace) (all : List Item) (marks : List Bool) 
   pub both_best : (k : ℕ) (best : Bool) (x y r : List (Knot Kleene)) → best ≡ sign_at signs k → IsBestOf kleene_shape best x y r
       → HasBest kleene_shape nodes tr all marks c signs k x → HasBest kleene_shape nodes tr all marks c signs k y
       → HasBest kleene_shape nodes tr all marks c signs k r
-  both_best k best x y r same is first second some within t v worth certain =
+  both_best k best x y r same is first second = λ some within t v worth certain.
       let w = is.worth t v worth in
       let to = subst (λ h. IsBest h w.0 → IsBest h w.1 → IsBest h v) same w.4 in
       to (first some within t w.0 w.2 certain) (second some within t w.1 w.3 certain)
@@ -114,7 +114,7 @@ module _ (nodes : List Node) (tr : Trace) (all : List Item) (marks : List Bool) 
   pub both_best_in : (xs : List (List (Knot Kleene))) (k : ℕ) (best : Bool) (x y r : List (Knot Kleene)) → k < length xs → best ≡ sign_at signs k
       → IsBestOf kleene_shape best x y r → HasBest kleene_shape nodes tr all marks c signs k x → HasBest kleene_shape nodes tr all marks c signs k y
       → HasBestIn kleene_shape nodes tr all marks c signs k (set xs k r)
-  both_best_in xs k best x y r l same is first second z at =
+  both_best_in xs k best x y r l same is first second = λ z at.
       subst (HasBest kleene_shape nodes tr all marks c signs k) (sym (set_here xs k r z l at)) (both_best k best x y r same is first second)
 
   pub put_best_in : (xs : List (List (Knot Kleene))) (k i : ℕ) (y : List (Knot Kleene)) → k ≡ i → i < length xs
@@ -134,16 +134,15 @@ module _ (nodes : List Node) (tr : Trace) (all : List Item) (marks : List Bool) 
       → ((i : ℕ) (x : List (Knot Kleene)) → slice_get new i ≡ Some x → (slice_get old i ≡ Some x) ⊎ (other ≡ Some i))
       → ((i : ℕ) → other ≡ Some i → i < length old → HasBestIn kleene_shape nodes tr all marks c signs i new)
       → (i : ℕ) → IsChild n i → HasBestIn kleene_shape nodes tr all marks c signs i new
-  kids_best n j k other old new operands below long before stay put i child x at = elim (operands.1 i child) [
+  kids_best n j k other old new operands below long before stay put = λ i child x at.
+      let inside : i < length old = let l = child_below j i n below child in omega (arith, l, long) in
+      elim (operands.1 i child) [
     | inr o ↦ put i o inside x at
     | inl e ↦ elim (stay i x at) [
       | inr o ↦ put i o inside x at
       | inl h ↦ subst (λ m. HasBest kleene_shape nodes tr all marks c signs m x) (sym e) (before x (subst (λ m. slice_get old m ≡ Some x) e h))
     ]
   ]
-    where
-      inside : i < length old
-      inside = let l = child_below j i n below child in omega (arith, l, long)
 
   -- a node's signal, made of those of its operands
   pub node_best : (a : Atom) (j : ℕ) (n : Node) (xs : List (List (Knot Kleene))) (r : List (Knot Kleene)) → slice_get nodes j ≡ Some n

@@ -71,7 +71,7 @@ module _ (nodes : List Node) (tr : Trace) (all : List Item) (ends : List ℕ) (i
       let here = in_run nodes tr all c marks i (begins ends i) (slice_index ends i) run p e t at (node, inside) in
       let there = in_run nodes tr all c marks i (begins ends i) (slice_index ends i) run other.place other.item t other.at (other.node, other.inside) in
       let one : here.0 ≡ there.0 =
-      one_cell nodes tr i run.times run.here here.0 there.0 e other.item t run.cuts.rising run.cells here.2 there.2 inside other.inside in
+      one_cell nodes tr i run.times run.here here.0 there.0 run.cuts.rising run.cells here.2 there.2 inside other.inside in
       let place : other.place ≡ p = let f = here.1 in let g = there.1 in omega (arith, f, g, one) in
       let so = so_of nodes tr i (cells run.times) run.here here.0 e run.cells here.2 in
       let says = certain_says h i a e t tree node so inside certain in
@@ -83,7 +83,7 @@ module _ (nodes : List Node) (tr : Trace) (all : List Item) (ends : List ℕ) (i
   -- the cells that are gone are lost
   pub gone_lost : (i : ℕ) (a : Atom) (best : Bool) (runs : List Run) → slice_get nodes i ≡ Some (Leaf a) → best ≡ sign_at signs i
       → AreGone all marks i best c runs → AreLost nodes tr all marks c signs runs
-  gone_lost i a best runs leaf same gone some within j r at t inside certain =
+  gone_lost i a best runs leaf same gone = λ some within j r at t inside certain.
       let (of, p, e, there, node, on, is_gone) = gone j r at in
       let here = subst (λ k. Certain (sign_at signs k) (subformula nodes k) some tr t) of certain in
       let tree = subst (λ f. Certain (sign_at signs i) f some tr t) (subformula-at nodes i (Leaf a) leaf tt) here in

@@ -165,7 +165,7 @@ module _ (nodes : List Node) (tr : Trace) (all : List Item) (ends : List ℕ) (i
       let here = in_run nodes tr all left old i (begins ends i) (slice_index ends i) run c e t at (node, inside) in
       let there = in_run nodes tr all left old i (begins ends i) (slice_index ends i) run other.place other.item t other.at (other.node, other.inside) in
       let same : here.0 ≡ there.0 =
-      one_cell nodes tr i run.times run.here here.0 there.0 e other.item t run.cuts.rising run.cells here.2 there.2 inside other.inside in
+      one_cell nodes tr i run.times run.here here.0 there.0 run.cuts.rising run.cells here.2 there.2 inside other.inside in
       let f = here.1 in let g = there.1 in
       apart other.place (omega (arith, f, g, same)) other.is
     where
