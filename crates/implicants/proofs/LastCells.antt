@@ -30,7 +30,7 @@ use Rattle.implicants.specs.Choices.{InWindow, IsChoice, IsPast, IsShort, IsLast
 use Rattle.implicants.specs.declared.choice.Window.{Window}
 use Rattle.implicants.proofs.Strips.{IsCellOn, in_cut, in_gap, from_first}
 use Rattle.implicants.proofs.Certain.{in_run}
-use Rattle.implicants.proofs.Needing.{certain_covered, within_more}
+use Rattle.implicants.proofs.Needing.{PutsBefore, certain_covered, within_more}
 
 module _ (nodes : List Node) (tr : Trace) (i : ℕ) where
   -- cells of one atom stand in the order of time
@@ -135,13 +135,12 @@ module _ (nodes : List Node) (tr : Trace) (all : List Item) (ends : List ℕ) (i
           (lt_of_le_of_lt (precedes_le f.on.from_in (value f.on.from) v.0 v.1.above) (all_rise b j q s nf ne v.1 m k))
 
   -- where no cell that stays has a time of the window, the formula is not certainly false
-  pub last_needed : (new : List Bool) (more : List Item) (holds : Bool) (w : Window) (x : List (Knot Kleene)) (c : ℕ) → c < left
-      → CoverMore (remaining left old all) more
-      → ((j : ℕ) → slice_index_or new j false ≡ true → (slice_index_or old j false ≡ true) ⊎ (j < left)) → IsChoice kleene_shape nodes tr more holds i w x
+  pub last_needed : {new : List Bool} {more : List Item} (holds : Bool) (w : Window) (x : List (Knot Kleene)) (c : ℕ)
+      → PutsBefore all left old new more → c < left → IsChoice kleene_shape nodes tr more holds i w x
       → IsLastCell kleene_shape all i holds w x new c → IsNeeded nodes tr all new c
-  last_needed new more holds w x c l covered marked choice cell some within m =
+  last_needed {new} {more} holds w x c puts l choice cell some within m =
       let miss = cell.misses in
-      let u = choice miss.t miss.on some (within_more nodes tr all ends is left old new more some c l covered marked within) m in
+      let u = choice miss.t miss.on some (within_more nodes tr all ends is some c puts l within) m in
       let certain = subst (λ p. Certain holds p some tr u.0) (subformula-at nodes i (Leaf a) leaf tt) u.2 in
       let at = within i u.0 (certain_covered nodes tr all ends is holds i a some u.0 certain) in
       served at.place at.item u.0 at.at at.node at.inside u.1 (so_there at.place at.item u.0 at.at at.node at.inside some certain) at.is
@@ -177,10 +176,12 @@ module _ (nodes : List Node) (tr : Trace) (all : List Item) (ends : List ℕ) (i
   -- so the marks that are put are of cells that are needed
   pub lasts_needed : (new : List Bool) (more : List Item) (holds : Bool) (w : Window) (x : List (Knot Kleene)) → CoverMore (remaining left old all) more
       → IsChoice kleene_shape nodes tr more holds i w x → PutsLasts kleene_shape all i holds w x left old new → MarksNeeded nodes tr all left old new
-  lasts_needed new more holds w x covered choice puts = record {
-    stay = puts.stay;
-    only = λ c h. elim (puts.only c h) [ inl k ↦ inl k | inr k ↦ inr (k.0, last_needed new more holds w x c k.0 covered among choice k.1) ];
-  }
+  lasts_needed new more holds w x covered choice puts =
+      let before : PutsBefore all left old new more = record { marked = among; covered = covered } in
+      record {
+        stay = puts.stay;
+        only = λ c h. elim (puts.only c h) [ inl k ↦ inl k | inr k ↦ inr (k.0, last_needed holds w x c before k.0 choice k.1) ];
+      }
     where
       among : (j : ℕ) → slice_index_or new j false ≡ true → (slice_index_or old j false ≡ true) ⊎ (j < left)
       among j h = elim (puts.only j h) [ inl k ↦ inl k | inr k ↦ inr k.0 ]
