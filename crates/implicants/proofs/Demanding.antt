@@ -188,7 +188,8 @@ module _ (nodes : List Node) (tr : Trace) (items : List Item) (signals : List (L
       → Tells kleene_shape (SupInf (subformula nodes k) (certainty_setting tr items)) (trace.start tr) (trace.stop tr) x
   told_at k x inside at =
       let node = sure.told k inside in
-      subst (Tells kleene_shape (SupInf (subformula nodes k) (certainty_setting tr items)) (trace.start tr) (trace.stop tr)) (same_Some _ _ (sym node.1 ∙ at)) node.2
+      subst (Tells kleene_shape (SupInf (subformula nodes k) (certainty_setting tr items)) (trace.start tr) (trace.stop tr))
+      (same_Some _ _ (sym node.1 ∙ at)) node.2
 
   -- where a node's signal is on, the items leave it not certainly false; nor do fewer
   pub on_not_false : (k : ℕ) (x : List (Knot Kleene)) (t : Rational) → k < length nodes → slice_get signals k ≡ Some x → IsOn kleene_shape x t
@@ -449,7 +450,8 @@ not_more p t v e h more = clashᵉ minus_one v more
     (level_is (kleene_value p.known) t)).at_most)
 
 -- a demand on the start alone is a signal that is false at every later time
-pub started_on : (at : Frac) {till : Frac} (p : Kleene) {q : Kleene} (old r : List (Knot Kleene)) (from : ℕ) (t : Rational) → old ≡ record { time = at; point = p; after = p } ∷ []
+pub started_on : (at : Frac) {till : Frac} (p : Kleene) {q : Kleene} (old r : List (Knot Kleene)) (from : ℕ) (t : Rational)
+    → old ≡ record { time = at; point = p; after = p } ∷ []
     → GoesOn kleene_shape old q till q r → q.known ≡ Some false → value at ≈ whole (pos from) → IsOn kleene_shape r t → t ≈ whole (pos from)
 started_on at {till} p {q} old r from t e on_from off begins on = by_part ((on_from.worth t on.v).0 on.worth)
   where

@@ -115,7 +115,8 @@ module _ (holds : Bool) (x : List (Knot Kleene)) (signals : List (List (Knot Kle
   hands_and_beside p q k y d e child other at_k is beside = subst (λ m. HandsDown kleene_shape m holds x signals i d) (sym e)
       (beside_down holds x signals (And p q) i k y false false d at_k (λ j b. other_below p q k j other b) beside
       (λ at j some tr t none h.
-      and_false p q i k (record { child = subst (λ m. IsChild m i) e child; other = other }) at j some tr t none (certain_as false is (tree_of at j (And p q)) some tr t h)))
+      and_false p q i k (record { child = subst (λ m. IsChild m i) e child; other = other }) at j some tr t none
+      (certain_as false is (tree_of at j (And p q)) some tr t h)))
 
   -- of an `or` that is to be true one side is to be, where the other is not certainly true
   pub hands_or_beside : (p q k : ℕ) (y : List (Knot Kleene)) (d : Demand) → n ≡ Or p q → IsChild n i → IsOther p q i k
@@ -124,7 +125,8 @@ module _ (holds : Bool) (x : List (Knot Kleene)) (signals : List (List (Knot Kle
   hands_or_beside p q k y d e child other at_k is beside = subst (λ m. HandsDown kleene_shape m holds x signals i d) (sym e)
       (beside_down holds x signals (Or p q) i k y true true d at_k (λ j b. other_below p q k j other b) beside
       (λ at j some tr t none h.
-      or_true p q i k (record { child = subst (λ m. IsChild m i) e child; other = other }) at j some tr t none (certain_as true is (tree_of at j (Or p q)) some tr t h)))
+      or_true p q i k (record { child = subst (λ m. IsChild m i) e child; other = other }) at j some tr t none
+      (certain_as true is (tree_of at j (Or p q)) some tr t h)))
 
   -- of an implication that is to be true the left side is to be false, where the right one is not certainly true
   pub hands_implied_left : (p q : ℕ) (y : List (Knot Kleene)) (d : Demand) → n ≡ Implies p q → p ≡ i → slice_get signals q ≡ Some y → holds ≡ true

@@ -1,6 +1,6 @@
 -- Where atoms are the best that helps the formula to be certainly false, so is each node.
-use Rattle.std.proofs.Common.{◌≡◌, ℕ, zero, suc, ◌<◌, ◌≤◌, ◌⊎◌, inl, inr, Bool, true, false, not, List}
-use Rattle.std.proofs.Common.{Option, length, get_or, Some, refl, sym, subst, ap, ◌∙◌, ◌+◌, arith}
+use Rattle.std.proofs.Common.{◌≡◌, ℕ, ◌<◌, ◌⊎◌, inl, inr, Bool, true, false, not, List}
+use Rattle.std.proofs.Common.{Option, Some, refl, sym, subst, ap, ◌∙◌, ◌+◌, arith}
 use Rattle.std.specs.Prelude.{slice_get, IsTrue}
 use Rattle.std.proofs.lemmas.Option.{same_Some}
 use Rattle.rational.specs.Time.{Rational, Within}
@@ -9,7 +9,7 @@ use Rattle.rational.specs.Extended.{Extended, ◌≤ᵉ◌, ◌<ᵉ◌, opposite
 use Rattle.rational.proofs.ExtendedLemmas.{le_totalᵉ, clashᵉ, le_reflᵉ, le_transᵉ, least_of, opposite_le', opposite_twice}
 use Rattle.rational.proofs.TimeLemmas.{within_stretch}
 use Rattle.stl_syntax.specs.Trace.{Trace, start, stop}
-use Rattle.stl_syntax.specs.Formula.{Subformula, constant, atom, negation, conjunction, disjunction}
+use Rattle.stl_syntax.specs.Formula.{Subformula, constant, negation, conjunction, disjunction}
 use Rattle.stl_syntax.specs.Formula.{implication, until, eventually, always, since, once, historically}
 use Rattle.stl_syntax.specs.Formula.{tree_of}
 use Rattle.stl_syntax.specs.Cells.{IsChild}
@@ -20,7 +20,7 @@ use Rattle.stl_syntax.specs.declared.node.Node.TheVariants.{Const, Atom as Leaf,
 use Rattle.offline_eval.specs.Inputs.{is_atom}
 use Rattle.implicants.specs.Demands.{Certain}
 use Rattle.implicants.specs.Nearby.{IsBest}
-use Rattle.implicants.specs.Signs.{sign_at, AreSigned, AreSigns}
+use Rattle.implicants.specs.Signs.{sign_at, AreSigned}
 
 -- the least of two values that are high is, and of two of which one is low
 pub high_least : (v w r : Extended) → one ≤ᵉ v → one ≤ᵉ w → IsLeast v w r → one ≤ᵉ r

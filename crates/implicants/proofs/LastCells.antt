@@ -41,7 +41,8 @@ module _ (nodes : List Node) (tr : Trace) (i : ℕ) where
   cells_rise (t ∷ []) [] c d {e} {f} {x} {y} r h s q m n l = absurd h
   cells_rise (t ∷ []) (g ∷ g' ∷ here) c d {e} {f} {x} {y} r h s q m n l = absurd h.4
   cells_rise (t ∷ []) (g ∷ []) c zero {e} {f} {x} {y} r h s q m n l = absurd (omega (arith, l))
-  cells_rise (t ∷ []) (g ∷ []) c (suc d) {e} {f} {x} {y} r h s q m n l = absurd (elim d as (λ d. slice_get [] d ≡ Some f → ⊥) [ zero ↦ λ s. cc | suc c ↦ λ s. cc ] q)
+  cells_rise (t ∷ []) (g ∷ []) c (suc d) {e} {f} {x} {y} r h s q m n l =
+      absurd (elim d as (λ d. slice_get [] d ≡ Some f → ⊥) [ zero ↦ λ s. cc | suc c ↦ λ s. cc ] q)
   cells_rise (t ∷ u ∷ times) [] c d {e} {f} {x} {y} r h s q m n l = absurd h
   cells_rise (t ∷ u ∷ times) (g ∷ []) c d {e} {f} {x} {y} r h s q m n l = absurd h.4
   cells_rise (t ∷ u ∷ times) (a ∷ b ∷ here) c d {e} {f} {x} {y} r h s q m n l =
@@ -128,7 +129,9 @@ module _ (nodes : List Node) (tr : Trace) (all : List Item) (ends : List ℕ) (i
       same_or_less b j h = grind arith
 
       by_case : (b ≡ j) ⊎ (b < j) → Precedes f.on.from_in (value f.on.from) u
-      by_case (inl k) = let same : e ≡ f = same_Some _ _ (sym s ∙ subst (λ j. slice_get all j ≡ Some f) k q) in (subst (λ g. IsIn (interval g.on) u) same m).above
+      by_case (inl k) =
+          let same : e ≡ f = same_Some _ _ (sym s ∙ subst (λ j. slice_get all j ≡ Some f) k q) in
+          (subst (λ g. IsIn (interval g.on) u) same m).above
       by_case (inr k) =
           let v = span_time f.on in
           precedes_of_lt f.on.from_in (value f.on.from) u

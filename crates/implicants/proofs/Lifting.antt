@@ -2,9 +2,9 @@
 use Rattle.std.proofs.Common.{◌≡◌, ℕ, zero, suc, ◌+◌, ◌-◌, ◌<◌, ◌≤◌, ◌⊎◌, inl, inr, Bool, true, false, not, pos, List, [], ◌∷◌, take, cond}
 use Rattle.std.proofs.Common.{length, get_or, set, Some, None, refl, sym, ap, ◌∙◌, subst, arith}
 use Rattle.std.proofs.lemmas.List.Sums.{sum_by-cons}
-use Rattle.std.specs.Prelude.{slice_get, All, Option, IfSome, IsTrue}
+use Rattle.std.specs.Prelude.{slice_get, Option, IfSome, IsTrue}
 use Rattle.std.proofs.lemmas.Option.{slice_get-get_or, slice_get_within, same_Some}
-use Rattle.rational.specs.Time.{Rational, IsIn, Within, whole, ◌≈◌, ◌≤ʳ◌}
+use Rattle.rational.specs.Time.{Rational, IsIn, Within}
 use Rattle.rational.specs.Extended.{Extended, ◌≤ᵉ◌, value_at}
 use Rattle.rational.proofs.ExtendedLemmas.{clashᵉ}
 use Rattle.rational.proofs.LevelLemmas.{level_at_most}
@@ -13,18 +13,17 @@ use Rattle.value_laws.specs.Kinds.{kleene_shape}
 use Rattle.value_laws.specs.Values.{kleene_value, kleene_to_one}
 use Rattle.value_laws.specs.declared.kleene.Kleene.{Kleene}
 use Rattle.pl_signal.specs.declared.knot.Knot.{Knot}
-use Rattle.pl_signal.specs.Knots.{IsSignal, IsWorth}
 use Rattle.stl_syntax.specs.Trace.{Trace, start, stop, first_time, last_time}
-use Rattle.stl_syntax.specs.Formula.{atom, root, subformula, tree_of, HasChildrenBelow}
+use Rattle.stl_syntax.specs.Formula.{atom, root, subformula, HasChildrenBelow}
 use Rattle.stl_syntax.specs.Cells.{IsChild}
-use Rattle.stl_syntax.specs.SupInf.{Setting, SupInf, minus_one, HasValue, HasInf}
+use Rattle.stl_syntax.specs.SupInf.{Setting, SupInf, minus_one}
 use Rattle.stl_syntax.specs.declared.atom.Atom.{Atom}
 use Rattle.stl_syntax.specs.declared.items.Item.{Item}
 use Rattle.stl_syntax.specs.declared.node.Node.{Node}
 use Rattle.stl_syntax.specs.declared.node.Node.TheVariants.{Const, Atom as Leaf, Not, And, Or, Implies, Until, Eventually, Always, Since, Once, Historically}
 use Rattle.stl_syntax.proofs.FormulaLemmas.{subformula-at}
 use Rattle.stl_syntax.proofs.PostOrderLemmas.{child_below}
-use Rattle.offline_eval.specs.Inputs.{atoms_before, is_atom, IsInput, TellAtoms}
+use Rattle.offline_eval.specs.Inputs.{atoms_before, is_atom, TellAtoms}
 use Rattle.offline_eval.specs.Making.{TellsNode, TellsValue}
 use Rattle.offline_eval.specs.PlainAtoms.{knots_setting}
 use Rattle.offline_eval.proofs.PlainAtoms.{plain_told}
@@ -32,7 +31,7 @@ use Rattle.offline_eval.proofs.Having.{has_value, has_inf}
 use Rattle.implicants.specs.Demands.{Certain, IsNeeded, IsOn}
 use Rattle.implicants.specs.Nearby.{IsBest, IsBestSignal}
 use Rattle.implicants.specs.Signs.{sign_at, AreSigned, AreSigns}
-use Rattle.implicants.specs.Upward.{AreLost, AreWhole, HasBest, AreOperands, HasBestIn, IsBestOf, IsWhole, StayWithout}
+use Rattle.implicants.specs.Upward.{AreLost, AreWhole, HasBest, AreOperands, HasBestIn, IsBestOf}
 use Rattle.implicants.specs.declared.nearby.View.{View}
 use Rattle.implicants.specs.declared.runs.Run.{Run}
 use Rattle.implicants.proofs.Helping.{tree_helps}
@@ -152,12 +151,12 @@ module _ (nodes : List Node) (tr : Trace) (all : List Item) (marks : List Bool) 
   kids_best n j k other old new operands below long before stay put = λ i child x at.
       let inside : i < length old = let l = child_below j i n below child in omega (arith, l, long) in
       elim (operands.1 i child) [
-    | inr o ↦ put i o inside x at
-    | inl e ↦ elim (stay i x at) [
-      | inr o ↦ put i o inside x at
-      | inl h ↦ subst (λ m. HasBest kleene_shape nodes tr all marks c signs m x) (sym e) (before x (subst (λ m. slice_get old m ≡ Some x) e h))
-    ]
-  ]
+        | inr o ↦ put i o inside x at
+        | inl e ↦ elim (stay i x at) [
+          | inr o ↦ put i o inside x at
+          | inl h ↦ subst (λ m. HasBest kleene_shape nodes tr all marks c signs m x) (sym e) (before x (subst (λ m. slice_get old m ≡ Some x) e h))
+        ]
+      ]
 
   -- a node's signal, made of those of its operands
   pub node_best : (a : Atom) {j : ℕ} {n : Node} {xs : List (List (Knot Kleene))} (r : List (Knot Kleene)) → IsMadeOf nodes tr signs j n xs

@@ -1,5 +1,5 @@
 -- What is lost without a cell, of its atom and of nodes above.
-use Rattle.std.proofs.Common.{◌≡◌, ℕ, ◌-◌, ◌<◌, ◌≤◌, ◌⊎◌, inl, inr, Bool, true, false, List, [], ◌∷◌, zero}
+use Rattle.std.proofs.Common.{◌≡◌, ℕ, ◌<◌, ◌≤◌, ◌⊎◌, inl, inr, Bool, true, false, List, [], ◌∷◌, zero}
 use Rattle.std.proofs.Common.{suc, length, set, length-set, Some, refl, sym, ap, ◌∙◌, subst, arith}
 use Rattle.std.specs.Prelude.{slice_get, slice_index, slice_index_or, MatchBool, IsTrue}
 use Rattle.std.proofs.lemmas.Option.{slice_get_within}
@@ -22,7 +22,7 @@ use Rattle.stl_syntax.proofs.FormulaLemmas.{subformula-at}
 use Rattle.implicants.specs.Runs.{AreAllCells, begins}
 use Rattle.implicants.specs.Certainty.{stays, known_at}
 use Rattle.implicants.specs.Demands.{Certain, IsNeeded, IsOn, IsOff, IsAmongPlaces, MarksNeeded, AreCertainties}
-use Rattle.implicants.specs.Keeping.{CoverMore, remaining}
+use Rattle.implicants.specs.Keeping.{CoverMore}
 use Rattle.implicants.specs.Signs.{sign_at}
 use Rattle.implicants.specs.Upward.{AreGone, AreLost, AreShort, IsGone, PutsNeeded}
 use Rattle.implicants.specs.declared.runs.Run.{Run}

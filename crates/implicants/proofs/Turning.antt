@@ -188,7 +188,8 @@ turn_and_beside n holds i p q k e child other f =
     (record {
       below = λ j b. other_less p q k j i other b;
       down = λ at j items tr t clear h.
-          and_false p q i k (record { child = subst (λ m. IsChild m i) e child; other = other }) at j items tr t clear (subst (λ b. Certain b (tree_of at j (And p q)) items tr t) f h);
+          and_false p q i k (record { child = subst (λ m. IsChild m i) e child; other = other }) at j items tr t clear
+          (subst (λ b. Certain b (tree_of at j (And p q)) items tr t) f h);
     })
 
 -- of one operand of `or` truth is demanded where the other one is not certainly true
@@ -199,7 +200,8 @@ turn_or_beside n holds i p q k e child other f =
     (record {
       below = λ j b. other_less p q k j i other b;
       down = λ at j items tr t clear h.
-          or_true p q i k (record { child = subst (λ m. IsChild m i) e child; other = other }) at j items tr t clear (subst (λ b. Certain b (tree_of at j (Or p q)) items tr t) f h);
+          or_true p q i k (record { child = subst (λ m. IsChild m i) e child; other = other }) at j items tr t clear
+          (subst (λ b. Certain b (tree_of at j (Or p q)) items tr t) f h);
     })
 
 -- of the operands of an implication that is to be false the left one is to be true, and the right one false

@@ -1,9 +1,9 @@
 -- Signals over the whole trace.
-use Rattle.std.proofs.Common.{◌≡◌, ℕ, zero, suc, ◌+◌, ◌<◌, ◌≤◌, ◌^◌, ◌⊎◌, inl, inr, Bool, true, false, pos, List, [], ◌∷◌, ◌++◌}
+use Rattle.std.proofs.Common.{◌≡◌, ℕ, zero, suc, ◌<◌, ◌≤◌, ◌^◌, ◌⊎◌, inl, inr, Bool, true, false, pos, List, [], ◌∷◌, ◌++◌}
 use Rattle.std.proofs.Common.{length, set, Some, refl, sym, ap, subst, arith, rules}
 use Rattle.std.specs.Prelude.{slice_get}
 use Rattle.std.proofs.lemmas.Option.{slice_get_within, same_Some}
-use Rattle.rational.specs.Time.{Rational, whole, ◌≈◌}
+use Rattle.rational.specs.Time.{whole, ◌≈◌}
 use Rattle.rational.proofs.Order.{same_trans, same_sym}
 use Rattle.rational.proofs.Mixed.{tick_within}
 use Rattle.value_laws.specs.Kinds.{kleene_shape}

@@ -1,5 +1,6 @@
 -- What a cell is tried by: where nodes are less certain than is best, and signals that are no less certain than a node.
-use Rattle.std.specs.Prelude.{◌≡◌, ◌⊎◌, ◌<◌, ◌∷◌, ◌++◌, ℕ, Bool, true, false, List, [], Option, Some, slice_get, slice_set, slice_index_or, MatchBool, MatchOption}
+use Rattle.std.specs.Prelude.{◌≡◌, ◌⊎◌, ◌<◌, ◌∷◌, ◌++◌, ℕ, Bool, true, false, List, [], Option}
+use Rattle.std.specs.Prelude.{Some, slice_get, slice_set, slice_index_or, MatchBool, MatchOption}
 use Rattle.rational.specs.Time.{Rational, IsIn, ◌≈◌}
 use Rattle.rational.specs.Extended.{Extended}
 use Rattle.frac128.specs.Spans.{interval}

@@ -18,7 +18,8 @@ returns c =
     let at = value c.args.at.now in
     let within = le_trans (no_later c.cmp-else-not-is_lt.result c.is_le.result c.cmp-else-not-is_lt.ensures c.is_le.ensures
     c.if-not-is_le.false) (le_of_same c.tick-stop.ensures) in
-    let gap = subst (λ t. IsBestGap kleene_shape runs c.args.view.of c.args.view.best t at c.on_gap-gap.result) c.stop-from.ensures.value c.on_gap-gap.ensures in
+    let gap =
+    subst (λ t. IsBestGap kleene_shape runs c.args.view.of c.args.view.best t at c.on_gap-gap.result) c.stop-from.ensures.value c.on_gap-gap.ensures in
     on_ok_weaker c.step.result
     (λ on. near_step runs c.args.view c.args.signal.now c.step.new.self c.on_gap-gap.result c.args.at.now c.at_end-point.result
     c.requires.before on within gap c.at_end-point.ensures)

@@ -1,4 +1,4 @@
-use Rattle.std.proofs.Common.{subst, sym, Some}
+use Rattle.std.proofs.Common.{subst, Some}
 use Rattle.std.specs.Prelude.{IfSome}
 use Rattle.value_laws.specs.Kinds.{kleene_shape}
 use Rattle.implicants.specs.Upward.{IsOnOver}

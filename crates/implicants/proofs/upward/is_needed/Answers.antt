@@ -1,4 +1,4 @@
-use Rattle.std.proofs.Common.{ℕ, Bool, List, arith, subst, sym}
+use Rattle.std.proofs.Common.{ℕ, Bool, List, arith, subst}
 use Rattle.std.proofs.lemmas.Result.{IfOk-weaker}
 use Rattle.std.specs.Prelude.{IfSome}
 use Rattle.value_laws.specs.Kinds.{kleene_shape}

@@ -1,4 +1,4 @@
-use Rattle.std.proofs.Common.{◌≡◌, ◌<◌, ◌≤◌, ◌-◌, ℕ, Bool, List, Some, arith, length, subst, sym, ◌∙◌}
+use Rattle.std.proofs.Common.{◌≡◌, ◌-◌, ℕ, Bool, List, Some, arith, length, subst, sym, ◌∙◌}
 use Rattle.std.specs.Prelude.{slice_get, IfSome}
 use Rattle.std.proofs.lemmas.Option.{slice_get-get_or}
 use Rattle.rational.proofs.Order.{same_sym}
@@ -19,7 +19,10 @@ loop-k-init c = record {
 
 pub taken_on-requires-clause-inside : goal.taken_on-requires-clause-inside
 taken_on-requires-clause-inside c =
-    let a = (c.is_between.ensures c.if-not-is_between.false).1 in let n = c.len-top.ensures.count in let s = c.len-top.ensures.well_formed.some in omega (arith, a, n, s)
+    let a = (c.is_between.ensures c.if-not-is_between.false).1 in
+    let n = c.len-top.ensures.count in
+    let s = c.len-top.ensures.well_formed.some in
+    omega (arith, a, n, s)
 
 pub taken_on-requires-clause-count : goal.taken_on-requires-clause-count
 taken_on-requires-clause-count c = c.loop-k.invariant.count

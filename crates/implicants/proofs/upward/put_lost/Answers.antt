@@ -1,7 +1,7 @@
 use Rattle.std.proofs.Common.{subst, ◌<◌, ◌≤◌, ◌^◌}
 use Rattle.std.specs.Prelude.{IfSome}
 use Rattle.value_laws.specs.Kinds.{kleene_shape}
-use Rattle.stl_syntax.specs.Trace.{first_time, last_time}
+use Rattle.stl_syntax.specs.Trace.{first_time}
 use Rattle.implicants.specs.Upward.{IsBestOf}
 use Rattle.implicants.proofs.Lifting.{both_best_in}
 use Rattle.implicants.proofs.Wholes.{whole_along, whole_both, whole_fit, whole_set}

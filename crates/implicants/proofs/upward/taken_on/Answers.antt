@@ -1,11 +1,8 @@
-use Rattle.std.proofs.Common.{◌≡◌, ◌<◌, ◌≤◌, ◌+◌, ◌^◌, Some, ap, arith, length, subst, sym, ◌∙◌}
+use Rattle.std.proofs.Common.{◌<◌, ◌≤◌, ◌^◌, ap, arith, length, subst, sym, ◌∙◌}
 use Rattle.std.proofs.lemmas.Result.{IfOk-weaker}
-use Rattle.std.specs.Prelude.{slice_get}
 use Rattle.value_laws.specs.Kinds.{kleene_shape}
-use Rattle.stl_syntax.specs.Trace.{first_time, last_time}
-use Rattle.stl_syntax.specs.Limits.{own_reach}
-use Rattle.offline_eval.specs.Making.{AreSound, IsSound, TellsNode}
-use Rattle.implicants.specs.Upward.{AreWhole, IsWhole}
+use Rattle.stl_syntax.specs.Trace.{first_time}
+use Rattle.offline_eval.specs.Making.{AreSound, TellsNode}
 use Rattle.stl_syntax.proofs.FormulaLemmas.{below_later}
 use Rattle.implicants.proofs.Lifting.{IsMadeOf, child_not_atom, is_so, kids_best, node_best, some_then}
 use Rattle.implicants.proofs.Wholes.{whole_made, whole_sound}
@@ -15,7 +12,8 @@ pub of_node-requires-clause-order : goal.of_node-requires-clause-order
 of_node-requires-clause-order c = subst (λ n. n ≤ c.last-to.result) (sym c.first-from.ensures) c.last-to.ensures.later
 
 pub of_node-requires-clause-kind : goal.of_node-requires-clause-kind
-of_node-requires-clause-kind c = child_not_atom c.node-node.result.now c.args.k (c.beside_in-beside.ensures (is_so c.beside_in-beside.result.is_operand c.if-not-beside.false)).0
+of_node-requires-clause-kind c = child_not_atom c.node-node.result.now c.args.k
+    (c.beside_in-beside.ensures (is_so c.beside_in-beside.result.is_operand c.if-not-beside.false)).0
 
 pub of_node-requires-clause-children : goal.of_node-requires-clause-children
 of_node-requires-clause-children c =
