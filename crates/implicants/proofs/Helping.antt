@@ -133,11 +133,13 @@ module _ (tr : Trace) (some : List Item) (reading : Reading) where
   record IsOverStretch (S : Window) (x y : Subformula) (u : Rational) (v : Extended) : Type 0 where
     -- the value of y
     pub last : Extended
+    -- which is that at u
     pub at_last : SupInf y over_trace u last
     -- the Inf of x
     pub inf : Extended
+    -- which is that over S
     pub before : IsInfOver one S (SupInf x over_trace) inf
-    -- the lesser one
+    -- v is the lesser one
     pub least : IsLeast last inf v
 
   -- it is high where both operands are certainly true, and low where one of them is certainly false

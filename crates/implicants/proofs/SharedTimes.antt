@@ -161,23 +161,27 @@ choosable_is holds off x own w near d e signal met beside = record {
 -- a node of which some time of a window is demanded, and what all those windows share
 pub record SharesBelow (nodes : List Node) (tr : Trace) (signals : List (List (Knot Kleene))) (j : ℕ) (holds : Bool) (w : Window) (x : List (Knot Kleene))
     (a : SomeAhead) (d : Demand) : Type 0 where
-  -- the node at place j
+  -- the node
   pub node : Node
+  -- it stands at place j
   pub at : slice_get nodes j ≡ Some node
   -- its operands stand before it
   pub below : HasChildrenBelow j node
   -- its own signal
   pub own : List (Knot Kleene)
+  -- which stands at its place
   pub own_at : slice_get signals j ≡ Some own
-  -- the demand spans the trace
+  -- the demand begins where the trace does
   pub begins : start x ≈ trace.start tr
+  -- and ends where it does
   pub ends : stop x ≈ trace.stop tr
-  -- it asks for its operand at each time of the node's own window
+  -- where the node is as demanded, so is its operand at each time of its window
   pub asks : IsSomeAhead node (not holds) a
   -- the start is certainly demanded
   pub first : IsFull kleene_shape x (start x)
-  -- what may be chosen for the start
+  -- the times that may be chosen
   pub near : Demand
+  -- each of them is in it, where the node is certain
   pub choosable : IsChoosable kleene_shape holds x w own near
   -- what the windows of all those times share
   pub shared : IsShared kleene_shape holds near.at a.window d
