@@ -103,10 +103,10 @@ adds_on k None x old new same h = added_run k None old new (λ r. (r.of ≡ k) �
 adds_on k (Some s) x old new same h = added_run k (Some s) old new (λ r. (r.of ≡ k) × IsOnOver kleene_shape x r.on) same (refl, h)
 
 -- a span of both that goes on
-pub joined_on : (a b s : Span) (o so_far piece : Option Span) (x : List (Knot Kleene)) → so_far ≡ Some a → piece ≡ Some b → o ≡ Some s
+pub joined_on : {a b s : Span} {o so_far piece : Option Span} (x : List (Knot Kleene)) → so_far ≡ Some a → piece ≡ Some b → o ≡ Some s
     → IfSome o (λ s. (t : Rational) → IsIn (interval s) t → IsIn (interval a) t ⊎ IsIn (interval b) t)
     → IfSome so_far (IsOnOver kleene_shape x) → IfSome piece (IsOnOver kleene_shape x) → IsOnOver kleene_shape x s
-joined_on a b s o so_far piece x e f g either before here t inside =
+joined_on {a} {b} {s} {o} {so_far} {piece} x e f g either before here t inside =
     elim (subst (λ o. IfSome o (λ s. (t : Rational) → IsIn (interval s) t → IsIn (interval a) t ⊎ IsIn (interval b) t)) g either t inside) [
       | inl i ↦ subst (λ o. IfSome o (IsOnOver kleene_shape x)) e before t i
       | inr i ↦ subst (λ o. IfSome o (IsOnOver kleene_shape x)) f here t i
