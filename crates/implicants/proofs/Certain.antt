@@ -186,7 +186,7 @@ module _ (nodes : List Node) (tr : Trace) (items : List Item) (left : ℕ) (mark
       → stays left marks (from + c) ≡ false → ¬ IsCovered left_over i t
   gone_uncovered run c e t s over m h =
       let x = covered_in_run run t h in
-      let same : x.0 ≡ c = one_cell nodes tr i run.times run.here x.0 c x.1 e t run.cuts.rising run.cells x.2 s x.3 over.1 in
+      let same : x.0 ≡ c = one_cell nodes tr i run.times run.here x.0 c run.cuts.rising run.cells x.2 s x.3 over.1 in
       let clash : true ≡ false = sym (subst (λ k. stays left marks (from + k) ≡ true) same x.4) ∙ m in
       absurd (cc)
 
@@ -463,7 +463,7 @@ module _ (nodes : List Node) (tr : Trace) (items : List Item) (left : ℕ) (mark
       last_of : (times : List Rational) (here : List Item) (c k : ℕ) (e : Item) (t x : Rational) → AreRisingTimes times → ItemsOn nodes tr i (cells times) here
           → slice_get here c ≡ Some e → IsIn (interval e.on) x → slice_get times k ≡ Some t → length times ≡ suc k → x ≤ʳ t
       last_of [] here c k e t x r h s m at n = absurd (omega (arith, n))
-      last_of (v ∷ times) here c k e t x r h s m at n = to_last nodes tr i v times here c k e t x r h s m at n
+      last_of (v ∷ times) here c k e t x r h s m at n = to_last nodes tr i v times here c k r h s m at n
 
   is_function : (a : Atom) → IsFunction (Gives (certainties tr left_over) i a)
   is_function a = record {
@@ -496,14 +496,14 @@ module _ (nodes : List Node) (tr : Trace) (items : List Item) (left : ℕ) (mark
       leaf_same a b e = cc
 
   -- once the cells are used up the signal tells what is certain of the atom over the whole trace
-  pub grown_end : (a : Atom) (c : ℕ) (s x : List (Knot Kleene)) (g : IsGrown c s) → slice_get nodes i ≡ Some (Leaf a)
+  pub grown_end : {a : Atom} (c : ℕ) (s x : List (Knot Kleene)) (g : IsGrown c s) → slice_get nodes i ≡ Some (Leaf a)
       → subformula nodes i ≡ atom i a → i < length nodes → to ≤ c + 1
       → start tr ≤ʳ stop tr → first_time tr.rows < 2 ^ 32 → last_time 0 tr.rows < 2 ^ 32 → EndsAt kleene_shape (last_time 0 tr.rows) s x
       → IsAtomCertainty kleene_shape nodes tr left_over i x
-  grown_end a c s x g at tree l m o y z (inl (late, same)) =
+  grown_end {a} c s x g at tree l m o y z (inl (late, same)) =
       subst (IsAtomCertainty kleene_shape nodes tr left_over i) (sym same)
       (made_certain a s at tree y z g.signal g.begins (same_of_le (grown_within c s g o).below late) g.worth)
-  grown_end a c s x g at tree l m o y z (inr (early, (t, p, time, none, on))) =
+  grown_end {a} c s x g at tree l m o y z (inr (early, (t, p, time, none, on))) =
       made_certain a x at tree y z on.signal (subst (λ r. r ≈ start tr) (sym on.begins) g.begins) (subst (λ r. r ≈ stop tr) (sym on.ends) time)
       (λ b same u v w. by_part b same u v ((on.worth u v).0 w))
     where

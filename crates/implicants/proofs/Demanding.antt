@@ -230,10 +230,10 @@ module _ (nodes : List Node) (tr : Trace) (items : List Item) (signals : List (L
       ]
 
 -- the Sup over a window behind looks from where the window ahead comes from
-pub ahead_of : (from to from' to' : Rational) (a b : ℕ) (a_in b_in : Bool) (t u : Rational) → from ≈ from' → to ≈ to'
+pub ahead_of : (from to from' to' : Rational) {a b : ℕ} {a_in b_in : Bool} {t u : Rational} → from ≈ from' → to ≈ to'
     → Within from to t → Behind from to a (Some b) a_in b_in t u
     → Ahead from' to' a b a_in b_in u t
-ahead_of from to from' to' a b a_in b_in t u e f w h = record {
+ahead_of from to from' to' e f w h = record {
   inside = record { above = le_trans (ge_of_same e) w.above; below = le_trans w.below (le_of_same f) };
   begins = h.ends;
   ends = h.begins;
@@ -294,7 +294,7 @@ module _ (holds : Bool) (x : List (Knot Kleene)) (signals : List (List (Knot Kle
         let f = is.from t on in
         subst (λ b. Certain b (subformula nodes i) some tr t) (sym is.same)
         (follows (subformula nodes) j some tr t f.0
-        (ahead_of (start x) (stop x) (trace.start tr) (trace.stop tr) a b a_in b_in t f.0 begins ends (is.inside t on) f.1)
+        (ahead_of (start x) (stop x) (trace.start tr) (trace.stop tr) begins ends (is.inside t on) f.1)
         (subst (λ p. Certain holds p some tr f.0) (subformula-at nodes j n at below) (before f.0 f.2 some more m)));
   }
 
@@ -328,6 +328,13 @@ not_down false turned e at j p some tr t h = subst (λ b. Certain b (at p) some 
 abbrev pub IsOther : ℕ → ℕ → ℕ → ℕ → Type 0
 IsOther p q i k = ((p ≡ i) × (k ≡ q)) ⊎ ((¬ (p ≡ i)) × (k ≡ p))
 
+-- i is an operand of p and q, and k the other one
+pub record IsOneOf (p q i k : ℕ) : Type 0 where
+  -- i is one of the two
+  pub child : (p ≡ i) ⊎ (q ≡ i)
+  -- and k the one beside it
+  pub other : IsOther p q i k
+
 -- a child that is not the left one is the right one
 pub right_of : (p q i : ℕ) → (p ≡ i) ⊎ (q ≡ i) → (¬ (p ≡ i)) → q ≡ i
 right_of p q i (inl e) n = absurd (n e)
@@ -350,9 +357,9 @@ pub and_true : (p q i : ℕ) → (p ≡ i) ⊎ (q ≡ i) → (at : ℕ → Subfo
 and_true p q i child at j some tr t h = each_of_two (λ k. Must (at k) some tr t) p q i child h
 
 -- where the one side of an `and` is not certainly false, a certainly false `and` has the other side certainly false
-pub and_false : (p q i k : ℕ) → (p ≡ i) ⊎ (q ≡ i) → IsOther p q i k → (at : ℕ → Subformula) (j : ℕ) (some : List Item) (tr : Trace) (t : Rational)
+pub and_false : (p q i k : ℕ) → IsOneOf p q i k → (at : ℕ → Subformula) (j : ℕ) (some : List Item) (tr : Trace) (t : Rational)
     → (¬ Certain false (at k) some tr t) → Certain false (tree_of at j (And p q)) some tr t → Certain false (at i) some tr t
-and_false p q i k child other at j some tr t n h = one_of_two (λ k. MustNot (at k) some tr t) p q i k child other h n
+and_false p q i k of at j some tr t n h = one_of_two (λ k. MustNot (at k) some tr t) p q i k of.child of.other h n
 
 -- the other way round for a disjunction
 pub or_false : (p q i : ℕ) → (p ≡ i) ⊎ (q ≡ i) → (at : ℕ → Subformula) (j : ℕ) (some : List Item) (tr : Trace) (t : Rational)
@@ -360,9 +367,9 @@ pub or_false : (p q i : ℕ) → (p ≡ i) ⊎ (q ≡ i) → (at : ℕ → Subfo
 or_false p q i child at j some tr t h = each_of_two (λ k. MustNot (at k) some tr t) p q i child h
 
 -- where the one side of an `or` is not certainly true, a certainly true `or` has the other side certainly true
-pub or_true : (p q i k : ℕ) → (p ≡ i) ⊎ (q ≡ i) → IsOther p q i k → (at : ℕ → Subformula) (j : ℕ) (some : List Item) (tr : Trace) (t : Rational)
+pub or_true : (p q i k : ℕ) → IsOneOf p q i k → (at : ℕ → Subformula) (j : ℕ) (some : List Item) (tr : Trace) (t : Rational)
     → (¬ Certain true (at k) some tr t) → Certain true (tree_of at j (Or p q)) some tr t → Certain true (at i) some tr t
-or_true p q i k child other at j some tr t n h = one_of_two (λ k. Must (at k) some tr t) p q i k child other h n
+or_true p q i k of at j some tr t n h = one_of_two (λ k. Must (at k) some tr t) p q i k of.child of.other h n
 
 -- an implication that is certainly false has its left operand certainly true, and its right one certainly false
 pub implies_left : (p q i : ℕ) → p ≡ i → (at : ℕ → Subformula) (j : ℕ) (some : List Item) (tr : Trace) (t : Rational)
@@ -402,28 +409,28 @@ implied_right p q i e at j some tr t n (inl h) = absurd (n h)
 implied_right p q i e at j some tr t n (inr h) = subst (λ k. Must (at k) some tr t) e h
 
 -- a window over which a formula is certain makes it certain at each of its times
-pub eventually_false : (p i a b : ℕ) (a_in b_in : Bool) → p ≡ i → (at : ℕ → Subformula) (j : ℕ) (some : List Item) (tr : Trace) (t u : Rational)
+pub eventually_false : (p i : ℕ) {a b : ℕ} {a_in b_in : Bool} → p ≡ i → (at : ℕ → Subformula) (j : ℕ) (some : List Item) (tr : Trace) (t u : Rational)
     → Ahead (trace.start tr) (trace.stop tr) a b a_in b_in u t
     → Certain false (tree_of at j (Eventually p a b a_in b_in)) some tr u → Certain false (at i) some tr t
-eventually_false p i a b a_in b_in e at j some tr t u w h = subst (λ k. MustNot (at k) some tr t) e (h t w)
+eventually_false p i e at j some tr t u w h = subst (λ k. MustNot (at k) some tr t) e (h t w)
 
 -- a certainly true `always` has its operand certainly true at each time of the window
-pub always_true : (p i a b : ℕ) (a_in b_in : Bool) → p ≡ i → (at : ℕ → Subformula) (j : ℕ) (some : List Item) (tr : Trace) (t u : Rational)
+pub always_true : (p i : ℕ) {a b : ℕ} {a_in b_in : Bool} → p ≡ i → (at : ℕ → Subformula) (j : ℕ) (some : List Item) (tr : Trace) (t u : Rational)
     → Ahead (trace.start tr) (trace.stop tr) a b a_in b_in u t → Certain true (tree_of at j (Always p a b a_in b_in)) some tr u → Certain true (at i) some tr t
-always_true p i a b a_in b_in e at j some tr t u w h = subst (λ k. Must (at k) some tr t) e (h t w)
+always_true p i e at j some tr t u w h = subst (λ k. Must (at k) some tr t) e (h t w)
 
 -- so for the windows behind
-pub once_false : (p i a : ℕ) (b : Option ℕ) (a_in b_in : Bool) → p ≡ i → (at : ℕ → Subformula) (j : ℕ) (some : List Item) (tr : Trace) (t u : Rational)
+pub once_false : (p i : ℕ) {a : ℕ} {b : Option ℕ} {a_in b_in : Bool} → p ≡ i → (at : ℕ → Subformula) (j : ℕ) (some : List Item) (tr : Trace) (t u : Rational)
     → Behind (trace.start tr) (trace.stop tr) a b a_in b_in u t
     → Certain false (tree_of at j (Once p a b a_in b_in)) some tr u → Certain false (at i) some tr t
-once_false p i a b a_in b_in e at j some tr t u w h = subst (λ k. MustNot (at k) some tr t) e (h t w)
+once_false p i e at j some tr t u w h = subst (λ k. MustNot (at k) some tr t) e (h t w)
 
 -- where `historically` is certainly true, so is its operand at each time of the window behind
-pub historically_true : (p i a : ℕ) (b : Option ℕ) (a_in b_in : Bool) → p ≡ i
+pub historically_true : (p i : ℕ) {a : ℕ} {b : Option ℕ} {a_in b_in : Bool} → p ≡ i
     → (at : ℕ → Subformula) (j : ℕ) (some : List Item) (tr : Trace) (t u : Rational)
     → Behind (trace.start tr) (trace.stop tr) a b a_in b_in u t
     → Certain true (tree_of at j (Historically p a b a_in b_in)) some tr u → Certain true (at i) some tr t
-historically_true p i a b a_in b_in e at j some tr t u w h = subst (λ k. Must (at k) some tr t) e (h t w)
+historically_true p i e at j some tr t u w h = subst (λ k. Must (at k) some tr t) e (h t w)
 
 -- a signal of one instant, and one that goes on from it certainly false
 pub instant_on : (at : Frac) (p : Kleene) (r : List (Knot Kleene)) (from : ℕ) (t : Rational)
@@ -442,9 +449,9 @@ not_more p t v e h more = clashᵉ minus_one v more
     (level_is (kleene_value p.known) t)).at_most)
 
 -- a demand on the start alone is a signal that is false at every later time
-pub started_on : (at till : Frac) (p q : Kleene) (old r : List (Knot Kleene)) (from : ℕ) (t : Rational) → old ≡ record { time = at; point = p; after = p } ∷ []
+pub started_on : (at : Frac) {till : Frac} (p : Kleene) {q : Kleene} (old r : List (Knot Kleene)) (from : ℕ) (t : Rational) → old ≡ record { time = at; point = p; after = p } ∷ []
     → GoesOn kleene_shape old q till q r → q.known ≡ Some false → value at ≈ whole (pos from) → IsOn kleene_shape r t → t ≈ whole (pos from)
-started_on at till p q old r from t e on_from off begins on = by_part ((on_from.worth t on.v).0 on.worth)
+started_on at {till} p {q} old r from t e on_from off begins on = by_part ((on_from.worth t on.v).0 on.worth)
   where
     by_part : IsWorth kleene_shape old t on.v
         ⊎ ((stop old <ʳ t) × (t <ʳ value till) × Passes (kleene_shape.function q) t on.v) ⊎ ((t ≈ value till) × Passes (kleene_shape.function q) t on.v)

@@ -115,7 +115,7 @@ module _ (holds : Bool) (x : List (Knot Kleene)) (signals : List (List (Knot Kle
   hands_and_beside p q k y d e child other at_k is beside = subst (λ m. HandsDown kleene_shape m holds x signals i d) (sym e)
       (beside_down holds x signals (And p q) i k y false false d at_k (λ j b. other_below p q k j other b) beside
       (λ at j some tr t none h.
-      and_false p q i k (subst (λ m. IsChild m i) e child) other at j some tr t none (certain_as false is (tree_of at j (And p q)) some tr t h)))
+      and_false p q i k (record { child = subst (λ m. IsChild m i) e child; other = other }) at j some tr t none (certain_as false is (tree_of at j (And p q)) some tr t h)))
 
   -- of an `or` that is to be true one side is to be, where the other is not certainly true
   pub hands_or_beside : (p q k : ℕ) (y : List (Knot Kleene)) (d : Demand) → n ≡ Or p q → IsChild n i → IsOther p q i k
@@ -124,7 +124,7 @@ module _ (holds : Bool) (x : List (Knot Kleene)) (signals : List (List (Knot Kle
   hands_or_beside p q k y d e child other at_k is beside = subst (λ m. HandsDown kleene_shape m holds x signals i d) (sym e)
       (beside_down holds x signals (Or p q) i k y true true d at_k (λ j b. other_below p q k j other b) beside
       (λ at j some tr t none h.
-      or_true p q i k (subst (λ m. IsChild m i) e child) other at j some tr t none (certain_as true is (tree_of at j (Or p q)) some tr t h)))
+      or_true p q i k (record { child = subst (λ m. IsChild m i) e child; other = other }) at j some tr t none (certain_as true is (tree_of at j (Or p q)) some tr t h)))
 
   -- of an implication that is to be true the left side is to be false, where the right one is not certainly true
   pub hands_implied_left : (p q : ℕ) (y : List (Knot Kleene)) (d : Demand) → n ≡ Implies p q → p ≡ i → slice_get signals q ≡ Some y → holds ≡ true
@@ -147,7 +147,7 @@ module _ (holds : Bool) (x : List (Knot Kleene)) (signals : List (List (Knot Kle
       → IsMet kleene_shape false x a b a_in b_in d → Hands d
   hands_eventually p a b a_in b_in d e child is met = subst (λ m. HandsDown kleene_shape m holds x signals i d) (sym e)
       (met_down holds x signals (Eventually p a b a_in b_in) i a b a_in b_in false d met
-      (λ at j some tr t u w h. eventually_false p i a b a_in b_in (subst (λ m. IsChild m i) e child) at j some tr t u w
+      (λ at j some tr t u w h. eventually_false p i (subst (λ m. IsChild m i) e child) at j some tr t u w
       (certain_as false is (tree_of at j (Eventually p a b a_in b_in)) some tr u h)))
 
   -- of an `always` that is to be true the operand is to be true at each time of its windows
@@ -155,7 +155,7 @@ module _ (holds : Bool) (x : List (Knot Kleene)) (signals : List (List (Knot Kle
       → IsMet kleene_shape true x a b a_in b_in d → Hands d
   hands_always p a b a_in b_in d e child is met = subst (λ m. HandsDown kleene_shape m holds x signals i d) (sym e)
       (met_down holds x signals (Always p a b a_in b_in) i a b a_in b_in true d met
-      (λ at j some tr t u w h. always_true p i a b a_in b_in (subst (λ m. IsChild m i) e child) at j some tr t u w
+      (λ at j some tr t u w h. always_true p i (subst (λ m. IsChild m i) e child) at j some tr t u w
       (certain_as true is (tree_of at j (Always p a b a_in b_in)) some tr u h)))
 
   -- so for the windows behind
@@ -163,7 +163,7 @@ module _ (holds : Bool) (x : List (Knot Kleene)) (signals : List (List (Knot Kle
       → IsMetBehind kleene_shape false x a b a_in b_in d → Hands d
   hands_once p a b a_in b_in d e child is met = subst (λ m. HandsDown kleene_shape m holds x signals i d) (sym e)
       (behind_down holds x signals (Once p a b a_in b_in) i a b a_in b_in false d met
-      (λ at j some tr t u w h. once_false p i a b a_in b_in (subst (λ m. IsChild m i) e child) at j some tr t u w
+      (λ at j some tr t u w h. once_false p i (subst (λ m. IsChild m i) e child) at j some tr t u w
       (certain_as false is (tree_of at j (Once p a b a_in b_in)) some tr u h)))
 
   -- a `historically` that has to be certainly true hands down that its operand is, at each time that its windows meet
@@ -171,7 +171,7 @@ module _ (holds : Bool) (x : List (Knot Kleene)) (signals : List (List (Knot Kle
       → IsMetBehind kleene_shape true x a b a_in b_in d → Hands d
   hands_historically p a b a_in b_in d e child is met = subst (λ m. HandsDown kleene_shape m holds x signals i d) (sym e)
       (behind_down holds x signals (Historically p a b a_in b_in) i a b a_in b_in true d met
-      (λ at j some tr t u w h. historically_true p i a b a_in b_in (subst (λ m. IsChild m i) e child) at j some tr t u w
+      (λ at j some tr t u w h. historically_true p i (subst (λ m. IsChild m i) e child) at j some tr t u w
       (certain_as true is (tree_of at j (Historically p a b a_in b_in)) some tr u h)))
 
 lt_more : (p j m : ℕ) → j ≤ m → p < j → p < m

@@ -256,7 +256,7 @@ module _ (holds : Bool) (x : List (Knot Kleene)) (signals : List (List (Knot Kle
         let h = subst (λ g. Certain false g some tr k.0) (subformula-at nodes j (Until p q a b) at below)
         (subst (λ c. Certain c (subformula nodes j) some tr k.0) none (before k.0 k.2 some more m)) in
         subst (λ c. Certain c (subformula nodes i) some tr t) (sym is.same)
-        (elim (h t (ahead_of (start x) (stop x) (trace.start tr) (trace.stop tr) a b true true t k.0 begins ends (is.inside t on) k.1))
+        (elim (h t (ahead_of (start x) (stop x) (trace.start tr) (trace.stop tr) begins ends (is.inside t on) k.1))
         as (λ z. MustNot (subformula nodes i) some tr t) [
           | inl z ↦ subst (λ g. MustNot (subformula nodes g) some tr t) f z
           | inr z ↦ absurd (on_not_false nodes tr items signals sure p left z.0 inside at_p (k.3 z.0 z.1) some more z.2)

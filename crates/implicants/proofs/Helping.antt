@@ -112,55 +112,73 @@ module _ (tr : Trace) (some : List Item) (reading : Reading) where
 
   eventually_helps : (h : Bool) (a b : ℕ) (i o : Bool) (p x : Subformula) → HasValue x over_trace → Helps h p x
       → Helps h (eventually a b i o p) (eventually a b i o x)
-  eventually_helps true a b i o p x has f t r w c k = some_helps (Ahead (start tr) (stop tr) a b i o t) p x r (λ u m. m.inside) has f c k
-  eventually_helps false a b i o p x has f t r w c k = none_helps (Ahead (start tr) (stop tr) a b i o t) p x r (λ u m. m.inside) f c k
+  eventually_helps true a b i o p x has f = λ t r w c k. some_helps (Ahead (start tr) (stop tr) a b i o t) p x r (λ u m. m.inside) has f c k
+  eventually_helps false a b i o p x has f = λ t r w c k. none_helps (Ahead (start tr) (stop tr) a b i o t) p x r (λ u m. m.inside) f c k
 
   always_helps : (h : Bool) (a b : ℕ) (i o : Bool) (p x : Subformula) → HasValue x over_trace → Helps h p x → Helps h (always a b i o p) (always a b i o x)
-  always_helps true a b i o p x has f t r w c k = each_helps (Ahead (start tr) (stop tr) a b i o t) p x r (λ u m. m.inside) f c k
-  always_helps false a b i o p x has f t r w c k = no_helps (Ahead (start tr) (stop tr) a b i o t) p x r (λ u m. m.inside) has f c k
+  always_helps true a b i o p x has f = λ t r w c k. each_helps (Ahead (start tr) (stop tr) a b i o t) p x r (λ u m. m.inside) f c k
+  always_helps false a b i o p x has f = λ t r w c k. no_helps (Ahead (start tr) (stop tr) a b i o t) p x r (λ u m. m.inside) has f c k
 
   once_helps : (h : Bool) (a : ℕ) (b : Option ℕ) (i o : Bool) (p x : Subformula) → HasValue x over_trace → Helps h p x
       → Helps h (once a b i o p) (once a b i o x)
-  once_helps true a b i o p x has f t r w c k = some_helps (Behind (start tr) (stop tr) a b i o t) p x r (λ u m. m.inside) has f c k
-  once_helps false a b i o p x has f t r w c k = none_helps (Behind (start tr) (stop tr) a b i o t) p x r (λ u m. m.inside) f c k
+  once_helps true a b i o p x has f = λ t r w c k. some_helps (Behind (start tr) (stop tr) a b i o t) p x r (λ u m. m.inside) has f c k
+  once_helps false a b i o p x has f = λ t r w c k. none_helps (Behind (start tr) (stop tr) a b i o t) p x r (λ u m. m.inside) f c k
 
   historically_helps : (h : Bool) (a : ℕ) (b : Option ℕ) (i o : Bool) (p x : Subformula) → HasValue x over_trace → Helps h p x
       → Helps h (historically a b i o p) (historically a b i o x)
-  historically_helps true a b i o p x has f t r w c k = each_helps (Behind (start tr) (stop tr) a b i o t) p x r (λ u m. m.inside) f c k
-  historically_helps false a b i o p x has f t r w c k = no_helps (Behind (start tr) (stop tr) a b i o t) p x r (λ u m. m.inside) has f c k
+  historically_helps true a b i o p x has f = λ t r w c k. each_helps (Behind (start tr) (stop tr) a b i o t) p x r (λ u m. m.inside) f c k
+  historically_helps false a b i o p x has f = λ t r w c k. no_helps (Behind (start tr) (stop tr) a b i o t) p x r (λ u m. m.inside) has f c k
 
-  -- the least of the right operand's value and the Inf of the left one's over a stretch
-  high_both : (S : Window) (p q x y : Subformula) (u : Rational) (k l v : Extended) → ((z : Rational) → S z → Within (start tr) (stop tr) z)
+  -- v is the least of y's value at u and the Inf of x's over the stretch S
+  record IsOverStretch (S : Window) (x y : Subformula) (u : Rational) (v : Extended) : Type 0 where
+    -- the value of y
+    pub last : Extended
+    pub at_last : SupInf y over_trace u last
+    -- the Inf of x
+    pub inf : Extended
+    pub before : IsInfOver one S (SupInf x over_trace) inf
+    -- the lesser one
+    pub least : IsLeast last inf v
+
+  -- it is high where both operands are certainly true, and low where one of them is certainly false
+  high_both : (S : Window) (p q : Subformula) {x y : Subformula} {u : Rational} {v : Extended} → ((z : Rational) → S z → Within (start tr) (stop tr) z)
       → Within (start tr) (stop tr) u → Helps true p x → Helps true q y → Certain true q some tr u → ((z : Rational) → S z → Certain true p some tr z)
-      → SupInf y over_trace u k → IsInfOver one S (SupInf x over_trace) l → IsLeast k l v → one ≤ᵉ v
-  high_both S p q x y u k l v inside w f g c each a i m = high_least k l v (g u k w c a) (each_helps S p x l inside f each i) m
+      → IsOverStretch S x y u v → one ≤ᵉ v
+  high_both S p q {x} {y} {u} {v} inside w f g c each o =
+      high_least o.last o.inf v (g u o.last w c o.at_last) (each_helps S p x o.inf inside f each o.before) o.least
 
-  low_one : (S : Window) (p q x y : Subformula) (u : Rational) (k l v : Extended) → ((z : Rational) → S z → Within (start tr) (stop tr) z)
+  low_one : (S : Window) (p q : Subformula) {x y : Subformula} {u : Rational} {v : Extended} → ((z : Rational) → S z → Within (start tr) (stop tr) z)
       → Within (start tr) (stop tr) u → HasValue x over_trace → Helps false p x → Helps false q y
       → Certain false q some tr u ⊎ ((z : Rational) × S z × Certain false p some tr z)
-      → SupInf y over_trace u k → IsInfOver one S (SupInf x over_trace) l → IsLeast k l v → v ≤ᵉ minus_one
-  low_one S p q x y u k l v inside w has f g (inl c) a i m = le_transᵉ v k minus_one m.left (g u k w c a)
-  low_one S p q x y u k l v inside w has f g (inr c) a i m = le_transᵉ v l minus_one m.right (no_helps S p x l inside has f c i)
+      → IsOverStretch S x y u v → v ≤ᵉ minus_one
+  low_one S p q {x} {y} {u} {v} inside w has f g (inl c) o = le_transᵉ v o.last minus_one o.least.left (g u o.last w c o.at_last)
+  low_one S p q {x} {y} {u} {v} inside w has f g (inr c) o = le_transᵉ v o.inf minus_one o.least.right (no_helps S p x o.inf inside has f c o.before)
 
   until_helps : (h : Bool) (a b : ℕ) (p q x y : Subformula) → HasInf x over_trace → HasValue x over_trace → HasValue y over_trace
       → Helps h p x → Helps h q y → Helps h (until a b p q) (until a b x y)
-  until_helps true a b p q x y inf has other f g t r w (u, m, c, each) k =
+  until_helps true a b p q x y inf has other f g = λ t r w. λ (u, m, c, each). λ k.
       let i = other u m.inside in let j = inf t u w m.inside in let v = least_of i.0 j.0 in
-      le_transᵉ one v.0 r (high_both (Within t u) p q x y u i.0 j.0 v.0 (λ z n. within_stretch w m.inside n) m.inside f g c each i.1 j.1 v.1)
+      let o : IsOverStretch (Within t u) x y u v.0 = record { last = i.0; at_last = i.1; inf = j.0; before = j.1; least = v.1 } in
+      le_transᵉ one v.0 r (high_both (Within t u) p q (λ z n. within_stretch w m.inside n) m.inside f g c each o)
       (k.bound v.0 (u, m, (i.0, j.0, i.1, j.1, v.1)))
-  until_helps false a b p q x y inf has other f g t r w c k =
+  until_helps false a b p q x y inf has other f g = λ t r w c k.
       low_sup (Ahead (start tr) (stop tr) a b true true t) (IsUpTo one (SupInf x over_trace) (SupInf y over_trace) t) r
-      (λ u v m. λ (i, j, d, e, l). low_one (Within t u) p q x y u i j v (λ z n. within_stretch w m.inside n) m.inside has f g (c u m) d e l) k
+      (λ u v m. λ (i, j, d, e, l).
+      let o : IsOverStretch (Within t u) x y u v = record { last = i; at_last = d; inf = j; before = e; least = l } in
+      low_one (Within t u) p q (λ z n. within_stretch w m.inside n) m.inside has f g (c u m) o) k
 
   since_helps : (h : Bool) (a : ℕ) (b : Option ℕ) (p q x y : Subformula) → HasInf x over_trace → HasValue x over_trace → HasValue y over_trace
       → Helps h p x → Helps h q y → Helps h (since a b p q) (since a b x y)
-  since_helps true a b p q x y inf has other f g t r w (u, m, c, each) k =
+  since_helps true a b p q x y inf has other f g = λ t r w. λ (u, m, c, each). λ k.
       let i = other u m.inside in let j = inf u t m.inside w in let v = least_of i.0 j.0 in
-      le_transᵉ one v.0 r (high_both (Within u t) p q x y u i.0 j.0 v.0 (λ z n. within_stretch m.inside w n) m.inside f g c each i.1 j.1 v.1)
+      let o : IsOverStretch (Within u t) x y u v.0 = record { last = i.0; at_last = i.1; inf = j.0; before = j.1; least = v.1 } in
+      le_transᵉ one v.0 r (high_both (Within u t) p q (λ z n. within_stretch m.inside w n) m.inside f g c each o)
       (k.bound v.0 (u, m, (i.0, j.0, i.1, j.1, v.1)))
-  since_helps false a b p q x y inf has other f g t r w c k =
+  since_helps false a b p q x y inf has other f g = λ t r w c k.
       low_sup (Behind (start tr) (stop tr) a b true true t) (IsDownTo one (SupInf x over_trace) (SupInf y over_trace) t) r
-      (λ u v m. λ (i, j, d, e, l). low_one (Within u t) p q x y u i j v (λ z n. within_stretch m.inside w n) m.inside has f g (c u m) d e l) k
+      (λ u v m. λ (i, j, d, e, l).
+      let o : IsOverStretch (Within u t) x y u v = record { last = i; at_last = d; inf = j; before = e; least = l } in
+      low_one (Within u t) p q (λ z n. within_stretch m.inside w n) m.inside has f g (c u m) o) k
 
   constant_helps : (h b : Bool) → Helps h (constant b) (constant b)
   constant_helps true true t r w c x = x.at_least

@@ -30,22 +30,22 @@ use Rattle.implicants.specs.Choices.{InWindow, IsChoice, IsPast, IsShort, IsLast
 use Rattle.implicants.specs.declared.choice.Window.{Window}
 use Rattle.implicants.proofs.Strips.{IsCellOn, in_cut, in_gap, from_first}
 use Rattle.implicants.proofs.Certain.{in_run}
-use Rattle.implicants.proofs.Needing.{certain_covered, within_more}
+use Rattle.implicants.proofs.Needing.{PutsBefore, certain_covered, within_more}
 
 module _ (nodes : List Node) (tr : Trace) (i : ℕ) where
   -- cells of one atom stand in the order of time
-  cells_rise : (times : List Rational) (here : List Item) (c d : ℕ) (e f : Item) (x y : Rational) → AreRisingTimes times → ItemsOn nodes tr i (cells times) here
+  cells_rise : (times : List Rational) (here : List Item) (c d : ℕ) {e f : Item} {x y : Rational} → AreRisingTimes times → ItemsOn nodes tr i (cells times) here
       → slice_get here c ≡ Some e → slice_get here d ≡ Some f → IsIn (interval e.on) x → IsIn (interval f.on) y → c < d → x <ʳ y
-  cells_rise [] [] c d e f x y r h s q m n l = absurd (elim c as (λ c. slice_get [] c ≡ Some e → ⊥) [ zero ↦ λ s. cc | suc c ↦ λ s. cc ] s)
-  cells_rise [] (g ∷ here) c d e f x y r h s q m n l = absurd h
-  cells_rise (t ∷ []) [] c d e f x y r h s q m n l = absurd h
-  cells_rise (t ∷ []) (g ∷ g' ∷ here) c d e f x y r h s q m n l = absurd h.4
-  cells_rise (t ∷ []) (g ∷ []) c zero e f x y r h s q m n l = absurd (omega (arith, l))
-  cells_rise (t ∷ []) (g ∷ []) c (suc d) e f x y r h s q m n l = absurd (elim d as (λ d. slice_get [] d ≡ Some f → ⊥) [ zero ↦ λ s. cc | suc c ↦ λ s. cc ] q)
-  cells_rise (t ∷ u ∷ times) [] c d e f x y r h s q m n l = absurd h
-  cells_rise (t ∷ u ∷ times) (g ∷ []) c d e f x y r h s q m n l = absurd h.4
-  cells_rise (t ∷ u ∷ times) (a ∷ b ∷ here) c d e f x y r h s q m n l =
-      by_places (λ c d s q l. cells_rise (u ∷ times) here c d e f x y r.1 h.4.4 s q m n l) c d s q l
+  cells_rise [] [] c d {e} {f} {x} {y} r h s q m n l = absurd (elim c as (λ c. slice_get [] c ≡ Some e → ⊥) [ zero ↦ λ s. cc | suc c ↦ λ s. cc ] s)
+  cells_rise [] (g ∷ here) c d {e} {f} {x} {y} r h s q m n l = absurd h
+  cells_rise (t ∷ []) [] c d {e} {f} {x} {y} r h s q m n l = absurd h
+  cells_rise (t ∷ []) (g ∷ g' ∷ here) c d {e} {f} {x} {y} r h s q m n l = absurd h.4
+  cells_rise (t ∷ []) (g ∷ []) c zero {e} {f} {x} {y} r h s q m n l = absurd (omega (arith, l))
+  cells_rise (t ∷ []) (g ∷ []) c (suc d) {e} {f} {x} {y} r h s q m n l = absurd (elim d as (λ d. slice_get [] d ≡ Some f → ⊥) [ zero ↦ λ s. cc | suc c ↦ λ s. cc ] q)
+  cells_rise (t ∷ u ∷ times) [] c d {e} {f} {x} {y} r h s q m n l = absurd h
+  cells_rise (t ∷ u ∷ times) (g ∷ []) c d {e} {f} {x} {y} r h s q m n l = absurd h.4
+  cells_rise (t ∷ u ∷ times) (a ∷ b ∷ here) c d {e} {f} {x} {y} r h s q m n l =
+      by_places (λ c d s q l. cells_rise (u ∷ times) here c d r.1 h.4.4 s q m n l) c d s q l
     where
       first : IsCellOn nodes tr i (closed t t) a
       first = record { node = h.0; begin = h.1; end = h.2; so = h.3 }
@@ -91,14 +91,14 @@ module _ (nodes : List Node) (tr : Trace) (i : ℕ) where
 module _ (nodes : List Node) (tr : Trace) (all : List Item) (ends : List ℕ) (is : AreAllCells nodes tr all ends) (left : ℕ) (old : List Bool) (i : ℕ) (a : Atom)
     (leaf : slice_get nodes i ≡ Some (Leaf a)) where
   -- cells of one atom stand in the order of time among all
-  all_rise : (c d : ℕ) (e f : Item) (x y : Rational) → slice_get all c ≡ Some e → slice_get all d ≡ Some f → e.node ≡ i
+  all_rise : (c d : ℕ) {e f : Item} {x y : Rational} → slice_get all c ≡ Some e → slice_get all d ≡ Some f → e.node ≡ i
       → f.node ≡ i → IsIn (interval e.on) x → IsIn (interval f.on) y
       → c < d → x <ʳ y
-  all_rise c d e f x y s q ne nf m n l =
+  all_rise c d {e} {f} {x} {y} s q ne nf m n l =
       let run = is.runs i a leaf in
       let here = in_run nodes tr all left old i (begins ends i) (slice_index ends i) run c e x s (ne, m) in
       let there = in_run nodes tr all left old i (begins ends i) (slice_index ends i) run d f y q (nf, n) in
-      cells_rise nodes tr i run.times run.here here.0 there.0 e f x y run.cuts.rising run.cells here.2 there.2 m n
+      cells_rise nodes tr i run.times run.here here.0 there.0 run.cuts.rising run.cells here.2 there.2 m n
       (let g = here.1 in let h = there.1 in omega (arith, g, h, l))
 
   -- so what lies in one is not behind the end of a later one, nor before the begin of an earlier one
@@ -117,7 +117,7 @@ module _ (nodes : List Node) (tr : Trace) (all : List Item) (ends : List ℕ) (i
       by_case (inr k) =
           let v = span_time f.on in
           precedes_of_lt f.on.to_in u (value f.on.to)
-          (lt_of_lt_of_le (all_rise j p e f u v.0 s q ne nf m v.1 k) (precedes_le f.on.to_in v.0 (value f.on.to) v.1.below))
+          (lt_of_lt_of_le (all_rise j p s q ne nf m v.1 k) (precedes_le f.on.to_in v.0 (value f.on.to) v.1.below))
 
   not_before : (j b : ℕ) (e f : Item) (u : Rational) → slice_get all j ≡ Some e → slice_get all b ≡ Some f → e.node ≡ i
       → f.node ≡ i → IsIn (interval e.on) u → b ≤ j
@@ -132,16 +132,15 @@ module _ (nodes : List Node) (tr : Trace) (all : List Item) (ends : List ℕ) (i
       by_case (inr k) =
           let v = span_time f.on in
           precedes_of_lt f.on.from_in (value f.on.from) u
-          (lt_of_le_of_lt (precedes_le f.on.from_in (value f.on.from) v.0 v.1.above) (all_rise b j f e v.0 u q s nf ne v.1 m k))
+          (lt_of_le_of_lt (precedes_le f.on.from_in (value f.on.from) v.0 v.1.above) (all_rise b j q s nf ne v.1 m k))
 
   -- where no cell that stays has a time of the window, the formula is not certainly false
-  pub last_needed : (new : List Bool) (more : List Item) (holds : Bool) (w : Window) (x : List (Knot Kleene)) (c : ℕ) → c < left
-      → CoverMore (remaining left old all) more
-      → ((j : ℕ) → slice_index_or new j false ≡ true → (slice_index_or old j false ≡ true) ⊎ (j < left)) → IsChoice kleene_shape nodes tr more holds i w x
+  pub last_needed : {new : List Bool} {more : List Item} (holds : Bool) (w : Window) (x : List (Knot Kleene)) (c : ℕ)
+      → PutsBefore all left old new more → c < left → IsChoice kleene_shape nodes tr more holds i w x
       → IsLastCell kleene_shape all i holds w x new c → IsNeeded nodes tr all new c
-  last_needed new more holds w x c l covered marked choice cell some within m =
+  last_needed {new} {more} holds w x c puts l choice cell some within m =
       let miss = cell.misses in
-      let u = choice miss.t miss.on some (within_more nodes tr all ends is left old new more some c l covered marked within) m in
+      let u = choice miss.t miss.on some (within_more nodes tr all ends is some c puts l within) m in
       let certain = subst (λ p. Certain holds p some tr u.0) (subformula-at nodes i (Leaf a) leaf tt) u.2 in
       let at = within i u.0 (certain_covered nodes tr all ends is holds i a some u.0 certain) in
       served at.place at.item u.0 at.at at.node at.inside u.1 (so_there at.place at.item u.0 at.at at.node at.inside some certain) at.is
@@ -177,10 +176,12 @@ module _ (nodes : List Node) (tr : Trace) (all : List Item) (ends : List ℕ) (i
   -- so the marks that are put are of cells that are needed
   pub lasts_needed : (new : List Bool) (more : List Item) (holds : Bool) (w : Window) (x : List (Knot Kleene)) → CoverMore (remaining left old all) more
       → IsChoice kleene_shape nodes tr more holds i w x → PutsLasts kleene_shape all i holds w x left old new → MarksNeeded nodes tr all left old new
-  lasts_needed new more holds w x covered choice puts = record {
-    stay = puts.stay;
-    only = λ c h. elim (puts.only c h) [ inl k ↦ inl k | inr k ↦ inr (k.0, last_needed new more holds w x c k.0 covered among choice k.1) ];
-  }
+  lasts_needed new more holds w x covered choice puts =
+      let before : PutsBefore all left old new more = record { marked = among; covered = covered } in
+      record {
+        stay = puts.stay;
+        only = λ c h. elim (puts.only c h) [ inl k ↦ inl k | inr k ↦ inr (k.0, last_needed holds w x c before k.0 choice k.1) ];
+      }
     where
       among : (j : ℕ) → slice_index_or new j false ≡ true → (slice_index_or old j false ≡ true) ⊎ (j < left)
       among j h = elim (puts.only j h) [ inl k ↦ inl k | inr k ↦ inr k.0 ]

@@ -84,6 +84,21 @@ module _ (tr : Trace) (a : Atom) (xs : List (List (Knot Kleene))) (whole_all : A
 kleene_most : (q : Kleene) (t : Rational) → value_at (kleene_shape.function q) t ≤ᵉ kleene_shape.highest
 kleene_most q t = level_at_most (pos 1) (kleene_value q.known) t (kleene_to_one q.known)
 
+-- a node that is no atom, over the signals of the nodes before it
+pub record IsMadeOf (nodes : List Node) (tr : Trace) (signs : List Bool) (j : ℕ) (n : Node) (xs : List (List (Knot Kleene))) : Type 0 where
+  -- it stands at place j
+  pub at : slice_get nodes j ≡ Some n
+  -- its operands stand before it
+  pub below : HasChildrenBelow j n
+  -- it is no atom
+  pub other : is_atom n ≡ false
+  -- the signs of its operands follow from its own
+  pub signed : AreSigned signs n (sign_at signs j)
+  -- all nodes before it have signals
+  pub long : j ≤ length xs
+  -- which span the trace
+  pub whole : AreWhole kleene_shape tr xs
+
 module _ (nodes : List Node) (tr : Trace) (all : List Item) (marks : List Bool) (c : ℕ) (signs : List Bool) where
   -- a signal that is the best but in runs that are lost
   pub runs_best : (runs : List Run) (w : View) (x : List (Knot Kleene)) → w.best ≡ sign_at signs w.of → AreLost nodes tr all marks c signs runs
@@ -105,7 +120,7 @@ module _ (nodes : List Node) (tr : Trace) (all : List Item) (marks : List Bool) 
   pub both_best : (k : ℕ) (best : Bool) (x y r : List (Knot Kleene)) → best ≡ sign_at signs k → IsBestOf kleene_shape best x y r
       → HasBest kleene_shape nodes tr all marks c signs k x → HasBest kleene_shape nodes tr all marks c signs k y
       → HasBest kleene_shape nodes tr all marks c signs k r
-  both_best k best x y r same is first second some within t v worth certain =
+  both_best k best x y r same is first second = λ some within t v worth certain.
       let w = is.worth t v worth in
       let to = subst (λ h. IsBest h w.0 → IsBest h w.1 → IsBest h v) same w.4 in
       to (first some within t w.0 w.2 certain) (second some within t w.1 w.3 certain)
@@ -114,7 +129,7 @@ module _ (nodes : List Node) (tr : Trace) (all : List Item) (marks : List Bool) 
   pub both_best_in : (xs : List (List (Knot Kleene))) (k : ℕ) (best : Bool) (x y r : List (Knot Kleene)) → k < length xs → best ≡ sign_at signs k
       → IsBestOf kleene_shape best x y r → HasBest kleene_shape nodes tr all marks c signs k x → HasBest kleene_shape nodes tr all marks c signs k y
       → HasBestIn kleene_shape nodes tr all marks c signs k (set xs k r)
-  both_best_in xs k best x y r l same is first second z at =
+  both_best_in xs k best x y r l same is first second = λ z at.
       subst (HasBest kleene_shape nodes tr all marks c signs k) (sym (set_here xs k r z l at)) (both_best k best x y r same is first second)
 
   pub put_best_in : (xs : List (List (Knot Kleene))) (k i : ℕ) (y : List (Knot Kleene)) → k ≡ i → i < length xs
@@ -134,41 +149,39 @@ module _ (nodes : List Node) (tr : Trace) (all : List Item) (marks : List Bool) 
       → ((i : ℕ) (x : List (Knot Kleene)) → slice_get new i ≡ Some x → (slice_get old i ≡ Some x) ⊎ (other ≡ Some i))
       → ((i : ℕ) → other ≡ Some i → i < length old → HasBestIn kleene_shape nodes tr all marks c signs i new)
       → (i : ℕ) → IsChild n i → HasBestIn kleene_shape nodes tr all marks c signs i new
-  kids_best n j k other old new operands below long before stay put i child x at = elim (operands.1 i child) [
+  kids_best n j k other old new operands below long before stay put = λ i child x at.
+      let inside : i < length old = let l = child_below j i n below child in omega (arith, l, long) in
+      elim (operands.1 i child) [
     | inr o ↦ put i o inside x at
     | inl e ↦ elim (stay i x at) [
       | inr o ↦ put i o inside x at
       | inl h ↦ subst (λ m. HasBest kleene_shape nodes tr all marks c signs m x) (sym e) (before x (subst (λ m. slice_get old m ≡ Some x) e h))
     ]
   ]
-    where
-      inside : i < length old
-      inside = let l = child_below j i n below child in omega (arith, l, long)
 
   -- a node's signal, made of those of its operands
-  pub node_best : (a : Atom) (j : ℕ) (n : Node) (xs : List (List (Knot Kleene))) (r : List (Knot Kleene)) → slice_get nodes j ≡ Some n
-      → HasChildrenBelow j n → is_atom n ≡ false → AreSigned signs n (sign_at signs j) → j ≤ length xs → AreWhole kleene_shape tr xs
+  pub node_best : (a : Atom) {j : ℕ} {n : Node} {xs : List (List (Knot Kleene))} (r : List (Knot Kleene)) → IsMadeOf nodes tr signs j n xs
       → ((k : ℕ) → IsChild n k → HasBestIn kleene_shape nodes tr all marks c signs k xs)
       → TellsNode kleene_shape (first_time tr.rows) (last_time 0 tr.rows) n xs r → HasBest kleene_shape nodes tr all marks c signs j r
-  node_best a j n xs r at below other signed long whole_all kids tells some within t v worth certain =
-      let s = own_setting tr a xs whole_all in
+  node_best a {j} {n} {xs} r made kids tells some within t v worth certain =
+      let s = own_setting tr a xs made.whole in
       let told = tells s (λ k. atom k a) j (record { lowest = refl; highest = refl; from = refl; to = refl })
-      (λ k x there. tells_own tr a xs whole_all k x (slice_get_within xs k x there) there) in
+      (λ k x there. tells_own tr a xs made.whole k x (slice_get_within xs k x there) there) in
       let here = (told.worth t v).0 worth in
-      let tree = subst (λ f. Certain (sign_at signs j) f some tr t) (subformula-at nodes j n at below) certain in
-      tree_helps tr some s.atoms (subformula nodes) (λ k. atom k a) j j n (sign_at signs j) signs signed other
+      let tree = subst (λ f. Certain (sign_at signs j) f some tr t) (subformula-at nodes j n made.at made.below) certain in
+      tree_helps tr some s.atoms (subformula nodes) (λ k. atom k a) j j n (sign_at signs j) signs made.signed made.other
       (λ k child. kid k child) (λ k child. has_value kleene_shape (atom k a) s (its k child).0 (its k child).1)
       (λ k child. has_inf kleene_shape kleene_most (atom k a) s (its k child).0 refl (its k child).1)
       t v here.0 tree here.1
     where
-      its : (k : ℕ) → IsChild n k → (x : List (Knot Kleene)) × TellsValue kleene_shape (own_setting tr a xs whole_all) (atom k a) x × (slice_get xs k ≡ Some x)
+      its : (k : ℕ) → IsChild n k → (x : List (Knot Kleene)) × TellsValue kleene_shape (own_setting tr a xs made.whole) (atom k a) x × (slice_get xs k ≡ Some x)
       its k child =
-          let l : k < length xs = let i = child_below j k n below child in omega (arith, i, long) in
+          let l : k < length xs = let i = child_below j k n made.below child in let l = made.long in omega (arith, i, l) in
           let at = slice_get-get_or xs k [] l in
-          (get_or xs k [], tells_own tr a xs whole_all k (get_or xs k []) l at, at)
+          (get_or xs k [], tells_own tr a xs made.whole k (get_or xs k []) l at, at)
 
       kid : (k : ℕ) → IsChild n k → (t : Rational) (r : Extended) → Within (start tr) (stop tr) t → Certain (sign_at signs k) (subformula nodes k) some tr t
-          → SupInf (atom k a) (own_setting tr a xs whole_all) t r → IsBest (sign_at signs k) r
+          → SupInf (atom k a) (own_setting tr a xs made.whole) t r → IsBest (sign_at signs k) r
       kid k child t r inside sure gives =
           let x = its k child in kids k child x.0 x.2 some within t r ((x.1.worth t r).1 (inside, gives)) sure
 

@@ -29,7 +29,7 @@ use Rattle.implicants.specs.declared.runs.Run.{Run}
 use Rattle.implicants.proofs.Strips.{one_cell}
 use Rattle.implicants.proofs.Certain.{in_run}
 use Rattle.implicants.proofs.Demanding.{on_not_false, off_not_true}
-use Rattle.implicants.proofs.Needing.{certain_covered, within_more}
+use Rattle.implicants.proofs.Needing.{PutsBefore, certain_covered, within_more}
 use Rattle.implicants.proofs.Passing.{set_marked, marked_set, stays_one}
 
 -- a place before the tried one, or a marked one behind it, stays
@@ -71,7 +71,7 @@ module _ (nodes : List Node) (tr : Trace) (all : List Item) (ends : List ℕ) (i
       let here = in_run nodes tr all c marks i (begins ends i) (slice_index ends i) run p e t at (node, inside) in
       let there = in_run nodes tr all c marks i (begins ends i) (slice_index ends i) run other.place other.item t other.at (other.node, other.inside) in
       let one : here.0 ≡ there.0 =
-      one_cell nodes tr i run.times run.here here.0 there.0 e other.item t run.cuts.rising run.cells here.2 there.2 inside other.inside in
+      one_cell nodes tr i run.times run.here here.0 there.0 run.cuts.rising run.cells here.2 there.2 inside other.inside in
       let place : other.place ≡ p = let f = here.1 in let g = there.1 in omega (arith, f, g, one) in
       let so = so_of nodes tr i (cells run.times) run.here here.0 e run.cells here.2 in
       let says = certain_says h i a e t tree node so inside certain in
@@ -83,7 +83,7 @@ module _ (nodes : List Node) (tr : Trace) (all : List Item) (ends : List ℕ) (i
   -- the cells that are gone are lost
   pub gone_lost : (i : ℕ) (a : Atom) (best : Bool) (runs : List Run) → slice_get nodes i ≡ Some (Leaf a) → best ≡ sign_at signs i
       → AreGone all marks i best c runs → AreLost nodes tr all marks c signs runs
-  gone_lost i a best runs leaf same gone some within j r at t inside certain =
+  gone_lost i a best runs leaf same gone = λ some within j r at t inside certain.
       let (of, p, e, there, node, on, is_gone) = gone j r at in
       let here = subst (λ k. Certain (sign_at signs k) (subformula nodes k) some tr t) of certain in
       let tree = subst (λ f. Certain (sign_at signs i) f some tr t) (subformula-at nodes i (Leaf a) leaf tt) here in
@@ -91,22 +91,19 @@ module _ (nodes : List Node) (tr : Trace) (all : List Item) (ends : List ℕ) (i
       (subst (λ b. IsGone all marks b c p) same is_gone) tree
 
   -- so are the runs in which signals of what is certain by more cells are less than best
-  pub short_lost : (left : ℕ) (old : List Bool) (more : List Item) (signals : List (List (Knot Kleene))) (runs : List Run) → c < left
-      → CoverMore (remaining left old all) more
-      → ((j : ℕ) → slice_index_or marks j false ≡ true → (slice_index_or old j false ≡ true) ⊎ (j < left))
+  pub short_lost : {left : ℕ} {old : List Bool} {more : List Item} (signals : List (List (Knot Kleene))) (runs : List Run)
+      → PutsBefore all left old marks more → c < left
       → AreCertainties kleene_shape nodes tr more signals → AreShort kleene_shape signs signals runs → AreLost nodes tr all marks c signs runs
-  short_lost left old more signals runs l covered marked sure short some within j r at t inside certain =
+  short_lost {left} {old} {more} signals runs puts l sure short = λ some within j r at t inside certain.
       let x = short j r at in
       let there : r.of < length nodes = let w = slice_get_within signals r.of x.0 x.1 in let e = sure.count in omega (arith, w, e) in
-      by_sign x.0 there x.1 (sign_at signs r.of) (x.2 t inside) certain
+      by_sign some (within_more nodes tr all ends is some c puts l within) r.of x.0 t there x.1 (sign_at signs r.of) (x.2 t inside) certain
     where
-      cover : CoverMore some more
-      cover = within_more nodes tr all ends is left old marks more some c l covered marked within
-
-      by_sign : (x : List (Knot Kleene)) → r.of < length nodes → slice_get signals r.of ≡ Some x → (h : Bool)
-          → MatchBool h (IsOff kleene_shape x t) (IsOn kleene_shape x t) → Certain h (subformula nodes r.of) some tr t → ⊥
-      by_sign x l at true off m = off_not_true nodes tr more signals sure r.of x t l at off some cover m
-      by_sign x l at false on m = on_not_false nodes tr more signals sure r.of x t l at on some cover m
+      by_sign : (some : List Item) → CoverMore some more → (k : ℕ) (x : List (Knot Kleene)) (t : Rational) → k < length nodes
+          → slice_get signals k ≡ Some x → (h : Bool)
+          → MatchBool h (IsOff kleene_shape x t) (IsOn kleene_shape x t) → Certain h (subformula nodes k) some tr t → ⊥
+      by_sign some cover k x t l at true off m = off_not_true nodes tr more signals sure k x t l at off some cover m
+      by_sign some cover k x t l at false on m = on_not_false nodes tr more signals sure k x t l at on some cover m
 
 -- marks that were put where cells are needed, at places from c on
 pub record PutsFrom (nodes : List Node) (tr : Trace) (all : List Item) (left c : ℕ) (old new : List Bool) : Type 0 where

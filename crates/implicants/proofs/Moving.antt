@@ -133,18 +133,26 @@ near_more ks k h n = All-push IsNearMove ks k h n
 pub times_more : (xs : List Frac) (i : ℕ) (d : Frac) → i < length xs → times_of (take (i + 1) xs) ≡ times_of (take i xs) ++ value (get_or xs i d) ∷ []
 times_more xs i d l = map_more value xs i d l
 
+-- a time that is moved by k, and added where it is within the range
+pub record MovesOne (from to : Rational) (k : ℤ) (t m : Frac) (mid new : List Frac) : Type 0 where
+  -- the moved time
+  pub moved : value m ≈ add (value t) (whole k)
+  -- within the range it is added
+  pub inside : Within from to (value m) → new ≡ mid ++ m ∷ []
+  -- outside of it nothing is
+  pub outside : ¬ Within from to (value m) → new ≡ mid
+
 -- one more of the parent's times, by fractions
-pub frac_on : (from to : Rational) (k : ℤ) (parent old mid new : List Frac) (i : ℕ) (t m : Frac) → i < length parent → t ≡ get_or parent i t
-    → value m ≈ add (value t) (whole k)
-    → (Within from to (value m) → new ≡ mid ++ m ∷ []) → (¬ Within from to (value m) → new ≡ mid)
+pub frac_on : {from to : Rational} {k : ℤ} (parent old : List Frac) {mid new : List Frac} (i : ℕ) {t m : Frac} → i < length parent → t ≡ get_or parent i t
+    → MovesOne from to k t m mid new
     → Adds (IsMoved from to (times_of (take i parent)) k) (times_of old) (times_of mid)
     → Adds (IsMoved from to (times_of (take (i + 1) parent)) k) (times_of old) (times_of new)
-frac_on from to k parent old mid new i t m l is e f g h =
+frac_on {from} {to} {k} parent old {mid} {new} i {t} {m} l is one h =
     subst (λ ts. Adds (IsMoved from to ts k) (times_of old) (times_of new))
     (sym (times_more parent i t l ∙ ap (λ x. times_of (take i parent) ++ value x ∷ []) (sym is)))
     (moved_on from to k (times_of old) (times_of (take i parent)) (times_of mid) (times_of new) (value t) (value m)
-    (same_trans e (same_sym (shifted-add (value t) k)))
-    (λ w. ap times_of (f w) ∙ map-append value mid (m ∷ [])) (λ w. ap times_of (g w)) h)
+    (same_trans one.moved (same_sym (shifted-add (value t) k)))
+    (λ w. ap times_of (one.inside w) ∙ map-append value mid (m ∷ [])) (λ w. ap times_of (one.outside w)) h)
 
 -- the times of one more knot
 pub knot_on : (x : List (Knot Truth)) (old new : List Frac) (i : ℕ) (k : Knot Truth) → slice_get x i ≡ Some k → old ≡ map (λ n. n.time) (take i x)
@@ -154,10 +162,10 @@ knot_on x old new i k at before step =
     ∙ sym (map_more (λ n. n.time) x i k (slice_get_within x i k at) ∙ ap (λ n. map (λ n. n.time) (take i x) ++ n.time ∷ []) (get_or_from_slice_get x i k k at))
 
 -- one more of the moves
-pub moves_on : (from to : Rational) (times : List Rational) (ks : List ℤ) (i : ℕ) (k d : ℤ) (old mid new : List Rational) → i < length ks
+pub moves_on : (from to : Rational) (times : List Rational) (ks : List ℤ) (i : ℕ) (k d : ℤ) {old mid new : List Rational} → i < length ks
     → Adds (IsMovedBy from to times (take i ks)) old mid → Adds (IsMoved from to times k) mid new → k ≡ get_or ks i d → Adds
     (IsMovedBy from to times (take (i + 1) ks)) old new
-moves_on from to times ks i k d old mid new l before here is =
+moves_on from to times ks i k d {old} {mid} {new} l before here is =
     subst (λ ms. Adds (IsMovedBy from to times ms) old new) (sym (take_more ks i d l ∙ ap (λ m. take i ks ++ m ∷ []) (sym is)))
     (adds_same join split (adds_then before here))
   where

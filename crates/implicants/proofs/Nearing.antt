@@ -55,7 +55,7 @@ module _ (runs : List Run) (w : View) where
   -- a run of the node that has the gap
   pub run_gap : (j : ℕ) (r : Run) (from to : Rational) (p : Kleene) → slice_get runs j ≡ Some r → r.of ≡ w.of
       → ((t : Rational) → from <ʳ t → t <ʳ to → IsIn (interval r.on) t) → IsBestGap kleene_shape runs w.of w.best from to p
-  run_gap j r from to p at node has u v above below passes = inr (j, r, at, node, has u above below)
+  run_gap j r from to p at node has = λ u v above below passes. inr (j, r, at, node, has u above below)
 
   -- or the time
   pub run_point : (j : ℕ) (r : Run) (t : Rational) (p : Kleene) → slice_get runs j ≡ Some r → r.of ≡ w.of → IsIn (interval r.on) t

@@ -131,6 +131,13 @@ time_between on from to order above below = by_order
       below,
     )
 
+-- marks that are put before a place, where what is told is of more than the cells that are left there
+pub record PutsBefore (all : List Item) (left : ℕ) (old new : List Bool) (more : List Item) : Type 0 where
+  -- each mark was there, or is of a cell before the place
+  pub marked : (j : ℕ) → slice_index_or new j false ≡ true → (slice_index_or old j false ≡ true) ⊎ (j < left)
+  -- what the cells that are left cover, the items told of do
+  pub covered : CoverMore (remaining left old all) more
+
 module _ (nodes : List Node) (tr : Trace) (all : List Item) (ends : List ℕ) (is : AreAllCells nodes tr all ends) where
   -- a certain atom is covered
   pub certain_covered : (holds : Bool) (i : ℕ) (a : Atom) (some : List Item) (t : Rational) → Certain holds (atom i a) some tr t → IsCovered some i t
@@ -138,34 +145,32 @@ module _ (nodes : List Node) (tr : Trace) (all : List Item) (ends : List ℕ) (i
   certain_covered false i a some t h = h.1
 
   -- what cells before one and marked ones behind it cover, the cells that stay do
-  pub within_more : (left : ℕ) (old new : List Bool) (more some : List Item) (c : ℕ) → c < left → CoverMore (remaining left old all) more
-      → ((j : ℕ) → slice_index_or new j false ≡ true → (slice_index_or old j false ≡ true) ⊎ (j < left))
+  pub within_more : {left : ℕ} {old new : List Bool} {more : List Item} (some : List Item) (c : ℕ) → PutsBefore all left old new more → c < left
       → ((i : ℕ) (t : Rational) → IsCovered some i t → IsAmongPlaces all (λ j. (j < c) ⊎ ((c < j) × (slice_index_or new j false ≡ true))) i t)
       → CoverMore some more
-  within_more left old new more some c l covered marked within j u h =
+  within_more {left} {old} {new} {more} some c puts l within j u h =
       let w = within j u h in
-      covered j u (to_covered (remaining left old all) j u
+      puts.covered j u (to_covered (remaining left old all) j u
       (from_remaining (IsOver j u) left old all w.place w.item w.at (w.node, w.inside) (stays_one left old w.place (stays w.place w.is))))
     where
       stays : (j : ℕ) → (j < c) ⊎ ((c < j) × (slice_index_or new j false ≡ true)) → (j < left) ⊎ (slice_index_or old j false ≡ true)
       stays j (inl h) = inl (omega (arith, h, l))
-      stays j (inr h) = elim (marked j h.1) [ inl k ↦ inr k | inr k ↦ inl k ]
+      stays j (inr h) = elim (puts.marked j h.1) [ inl k ↦ inr k | inr k ↦ inl k ]
 
   -- a cell on which its atom is demanded is needed
-  pub demanded_needed : (left : ℕ) (old new : List Bool) (more : List Item) (c i : ℕ) (a : Atom) (e : Item) (holds : Bool)
-      (x : List (Knot Kleene)) → slice_get nodes i ≡ Some (Leaf a)
-      → c < left → CoverMore (remaining left old all) more → ((j : ℕ) → slice_index_or new j false ≡ true → (slice_index_or old j false ≡ true) ⊎ (j < left))
+  pub demanded_needed : {left : ℕ} {old new : List Bool} {more : List Item} (c i : ℕ) {a : Atom} {e : Item} (holds : Bool)
+      (x : List (Knot Kleene)) → slice_get nodes i ≡ Some (Leaf a) → PutsBefore all left old new more → c < left
       → slice_get all c ≡ Some e → e.node ≡ i → IsDemand kleene_shape nodes tr more holds i x → Touches kleene_shape x e.on
       → IsNeeded nodes tr all new c
-  demanded_needed left old new more c i a e holds x leaf l covered marked at node demand (t, inside, on) some within m =
+  demanded_needed {left} {old} {new} {more} c i {a} {e} holds x leaf puts l at node demand (t, inside, on) = λ some within m.
       let certain = subst (λ p. Certain holds p some tr t) (subformula-at nodes i (Leaf a) leaf tt) (demand t on some
-      (within_more left old new more some c l covered marked within) m) in
+      (within_more some c puts l within) m) in
       let other = within i t (certain_covered holds i a some t certain) in
       let run = is.runs i a leaf in
       let here = in_run nodes tr all left old i (begins ends i) (slice_index ends i) run c e t at (node, inside) in
       let there = in_run nodes tr all left old i (begins ends i) (slice_index ends i) run other.place other.item t other.at (other.node, other.inside) in
       let same : here.0 ≡ there.0 =
-      one_cell nodes tr i run.times run.here here.0 there.0 e other.item t run.cuts.rising run.cells here.2 there.2 inside other.inside in
+      one_cell nodes tr i run.times run.here here.0 there.0 run.cuts.rising run.cells here.2 there.2 inside other.inside in
       let f = here.1 in let g = there.1 in
       apart other.place (omega (arith, f, g, same)) other.is
     where
@@ -179,13 +184,15 @@ module _ (nodes : List Node) (tr : Trace) (all : List Item) (ends : List ℕ) (i
       → CoverMore (remaining left old all) more → IsDemand kleene_shape nodes tr more holds i x
       → MarksMore old new (λ c. (c < left) × (e : Item) × (slice_get all c ≡ Some e) × (e.node ≡ i) × Touches kleene_shape x e.on)
       → MarksNeeded nodes tr all left old new
-  marks_needed left old new more i a holds x leaf covered demand marks = record {
-    stay = marks.stay;
-    only = λ c h. elim (marks.only c h) [
-      | inl k ↦ inl k
-      | inr k ↦ inr (k.0, demanded_needed left old new more c i a k.1 holds x leaf k.0 covered among k.2 k.3 demand k.4)
-    ];
-  }
+  marks_needed left old new more i a holds x leaf covered demand marks =
+      let puts : PutsBefore all left old new more = record { marked = among; covered = covered } in
+      record {
+        stay = marks.stay;
+        only = λ c h. elim (marks.only c h) [
+          | inl k ↦ inl k
+          | inr k ↦ inr (k.0, demanded_needed c i holds x leaf puts k.0 k.2 k.3 demand k.4)
+        ];
+      }
     where
       among : (j : ℕ) → slice_index_or new j false ≡ true → (slice_index_or old j false ≡ true) ⊎ (j < left)
       among j h = elim (marks.only j h) [ inl k ↦ inl k | inr k ↦ inr k.0 ]

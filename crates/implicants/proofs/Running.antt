@@ -141,7 +141,7 @@ no_run j r h = elim j as (λ j. slice_get [] j ≡ Some r → ⊥) [ zero ↦ λ
 pub short_more : (signs : List Bool) (signals : List (List (Knot Kleene))) (k : ℕ) (best : Bool) (x : List (Knot Kleene)) (old new : List Run)
     → best ≡ sign_at signs k → slice_get signals k ≡ Some x → AddsShort kleene_shape k best x old new
     → AreShort kleene_shape signs signals old → AreShort kleene_shape signs signals new
-short_more signs signals k best x old new same there adds before j r at = elim (adds j r at) [
+short_more signs signals k best x old new same there adds before = λ j r at. elim (adds j r at) [
   | inl h ↦ before j r h
   | inr h ↦ (
     x,

@@ -158,24 +158,45 @@ choosable_is holds off x own w near d e signal met beside = record {
       (turn_sure holds off (IsFull kleene_shape own u) (IsVoid kleene_shape own u) e sure);
 }
 
+-- a node of which some time of a window is demanded, and what all those windows share
+pub record SharesBelow (nodes : List Node) (tr : Trace) (signals : List (List (Knot Kleene))) (j : ℕ) (holds : Bool) (w : Window) (x : List (Knot Kleene))
+    (a : SomeAhead) (d : Demand) : Type 0 where
+  -- the node at place j
+  pub node : Node
+  pub at : slice_get nodes j ≡ Some node
+  -- its operands stand before it
+  pub below : HasChildrenBelow j node
+  -- its own signal
+  pub own : List (Knot Kleene)
+  pub own_at : slice_get signals j ≡ Some own
+  -- the demand spans the trace
+  pub begins : start x ≈ trace.start tr
+  pub ends : stop x ≈ trace.stop tr
+  -- it asks for its operand at each time of the node's own window
+  pub asks : IsSomeAhead node (not holds) a
+  -- the start is certainly demanded
+  pub first : IsFull kleene_shape x (start x)
+  -- what may be chosen for the start
+  pub near : Demand
+  pub choosable : IsChoosable kleene_shape holds x w own near
+  -- what the windows of all those times share
+  pub shared : IsShared kleene_shape holds near.at a.window d
+
 -- what lies in the window of each time that may be chosen is demanded
-pub shared_demand : (nodes : List Node) (tr : Trace) (items : List Item) (signals : List (List (Knot Kleene)))
-    → AreCertainties kleene_shape nodes tr items signals
-    → (j : ℕ) (n : Node) → slice_get nodes j ≡ Some n → HasChildrenBelow j n
-    → (holds other : Bool) → other ≡ not holds
-    → (x own : List (Knot Kleene)) (w : Window) (a : SomeAhead) (near d : Demand) → slice_get signals j ≡ Some own
-    → start x ≈ trace.start tr → stop x ≈ trace.stop tr
-    → IsSomeAhead n other a → IsChoice kleene_shape nodes tr items holds j w x → IsFull kleene_shape x (start x)
-    → IsChoosable kleene_shape holds x w own near → IsShared kleene_shape holds near.at a.window d
+pub shared_demand : {nodes : List Node} {tr : Trace} {signals : List (List (Knot Kleene))} {j : ℕ} {holds : Bool} {w : Window} {x : List (Knot Kleene)}
+    {a : SomeAhead} {d : Demand} → SharesBelow nodes tr signals j holds w x a d → (items : List Item)
+    → AreCertainties kleene_shape nodes tr items signals → IsChoice kleene_shape nodes tr items holds j w x
     → IsDemand kleene_shape nodes tr items d.holds a.of d.at
-shared_demand nodes tr items signals sure j n at below holds other e x own w a near d own_at begins ends is choice first choosable shared t on some more m =
-    let c = choice (start x) (full_on x (start x) first) some more m in
-    let inside : j < length nodes = slice_get_within nodes j n at in
-    let own_sure = certain_full nodes tr items signals sure holds j own c.0 inside own_at c.1.inside some more c.2 in
-    let ahead = window_same (trace.start tr) (trace.stop tr) (start x) (stop x) w (start x) c.0 (same_sym begins) (same_sym ends) c.1 in
-    let full = choosable.full (start x) c.0 first ahead own_sure in
-    let near_begins = same_trans choosable.fit.along.begins begins in
-    let near_ends = same_trans choosable.fit.along.ends ends in
-    let there = window_same (start near.at) (stop near.at) (trace.start tr) (trace.stop tr) a.window c.0 t near_begins near_ends (shared.on t c.0 on full) in
-    subst (λ h. Certain h (subformula nodes a.of) some tr t) (sym shared.same)
-    (is.each holds e (subformula nodes) j some tr c.0 t (subst (λ p. Certain holds p some tr c.0) (subformula-at nodes j n at below) c.2) there)
+shared_demand {nodes} {tr} {signals} {j} {holds} {w} {x} {a} {d} s items sure choice = λ t on some more m.
+    let c = choice (start x) (full_on x (start x) s.first) some more m in
+    let inside : j < length nodes = slice_get_within nodes j s.node s.at in
+    let own_sure = certain_full nodes tr items signals sure holds j s.own c.0 inside s.own_at c.1.inside some more c.2 in
+    let ahead = window_same (trace.start tr) (trace.stop tr) (start x) (stop x) w (start x) c.0 (same_sym s.begins) (same_sym s.ends) c.1 in
+    let full = s.choosable.full (start x) c.0 s.first ahead own_sure in
+    let near_begins = same_trans s.choosable.fit.along.begins s.begins in
+    let near_ends = same_trans s.choosable.fit.along.ends s.ends in
+    let there = window_same (start s.near.at) (stop s.near.at) (trace.start tr) (trace.stop tr) a.window c.0 t near_begins near_ends
+    (s.shared.on t c.0 on full) in
+    subst (λ h. Certain h (subformula nodes a.of) some tr t) (sym s.shared.same)
+    (s.asks.each holds refl (subformula nodes) j some tr c.0 t
+    (subst (λ p. Certain holds p some tr c.0) (subformula-at nodes j s.node s.at s.below) c.2) there)

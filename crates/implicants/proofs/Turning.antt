@@ -188,7 +188,7 @@ turn_and_beside n holds i p q k e child other f =
     (record {
       below = λ j b. other_less p q k j i other b;
       down = λ at j items tr t clear h.
-          and_false p q i k (subst (λ m. IsChild m i) e child) other at j items tr t clear (subst (λ b. Certain b (tree_of at j (And p q)) items tr t) f h);
+          and_false p q i k (record { child = subst (λ m. IsChild m i) e child; other = other }) at j items tr t clear (subst (λ b. Certain b (tree_of at j (And p q)) items tr t) f h);
     })
 
 -- of one operand of `or` truth is demanded where the other one is not certainly true
@@ -199,7 +199,7 @@ turn_or_beside n holds i p q k e child other f =
     (record {
       below = λ j b. other_less p q k j i other b;
       down = λ at j items tr t clear h.
-          or_true p q i k (subst (λ m. IsChild m i) e child) other at j items tr t clear (subst (λ b. Certain b (tree_of at j (Or p q)) items tr t) f h);
+          or_true p q i k (record { child = subst (λ m. IsChild m i) e child; other = other }) at j items tr t clear (subst (λ b. Certain b (tree_of at j (Or p q)) items tr t) f h);
     })
 
 -- of the operands of an implication that is to be false the left one is to be true, and the right one false
@@ -271,8 +271,8 @@ module _ (n : Node) (holds : Bool) (x : List (Knot Kleene)) (w : Window) (signal
       not_enough nodes tr items sure inside false u h some more = on_not_false nodes tr items signals sure b.other y u inside at_other h some more
 
 -- a demand on a node, some time of whose window is enough, is one on some time of what it is over
-pub choice_of : (nodes : List Node) (tr : Trace) (items : List Item) (j : ℕ) (n : Node) (holds : Bool) (x : List (Knot Kleene))
-    (a : SomeAhead) → slice_get nodes j ≡ Some n → HasChildrenBelow j n
+pub choice_of : (nodes : List Node) (tr : Trace) (items : List Item) (j : ℕ) {n : Node} (holds : Bool) (x : List (Knot Kleene))
+    {a : SomeAhead} → slice_get nodes j ≡ Some n → HasChildrenBelow j n
     → IsSomeAhead n holds a → IsDemand kleene_shape nodes tr items holds j x → IsChoice kleene_shape nodes tr items holds a.of a.window x
-choice_of nodes tr items j n holds x a at below is demand t on some more m =
+choice_of nodes tr items j {n} holds x {a} at below is demand = λ t on some more m.
     is.some (subformula nodes) j some tr t (subst (λ p. Certain holds p some tr t) (subformula-at nodes j n at below) (demand t on some more m))

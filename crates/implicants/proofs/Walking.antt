@@ -31,7 +31,7 @@ NoneFrom all i holds p c = (j : ℕ) (e : Item) → slice_get all j ≡ Some e �
 pub none_more : (all : List Item) (i : ℕ) (holds : Bool) (p c : ℕ)
     → ((e : Item) → slice_get all p ≡ Some e → e.node ≡ i → e.holds ≡ holds → ⊥) → NoneFrom all i holds (suc p) c
     → NoneFrom all i holds p c
-none_more all i holds p c not_such none j f s h l n k = elim (le_cases p j h) [
+none_more all i holds p c not_such none = λ j f s h l n k. elim (le_cases p j h) [
   | inl g ↦ not_such f (subst (λ z. slice_get all z ≡ Some f) (sym g) s) n k
   | inr g ↦ none j f s g l n k
 ]
@@ -52,7 +52,7 @@ NoneMarked all marks i left b = (j : ℕ) (e : Item) → slice_get all j ≡ Som
 pub unmarked_more : (all : List Item) (marks : List Bool) (i left b : ℕ)
     → ((e : Item) → slice_get all b ≡ Some e → IsMarked marks b → e.node ≡ i → ⊥) → NoneMarked all marks i left b
     → NoneMarked all marks i left (suc b)
-unmarked_more all marks i left b bar none j f s h l m n = elim (cases_lt j b) [
+unmarked_more all marks i left b bar none = λ j f s h l m n. elim (cases_lt j b) [
   | inl g ↦ none j f s h g m n
   | inr g ↦ let is_b : j ≡ b = omega (arith, g, l) in bar f (subst (λ z. slice_get all z ≡ Some f) is_b s) (subst (IsMarked marks) is_b m) n
 ]
@@ -64,7 +64,7 @@ first_found all marks i left b none j e s h m n = elim (cases_lt j b) [ inl g �
 -- where no marked cell of the node stands before the end there is no first one
 pub first_none : (all : List Item) (marks : List Bool) (i left b : ℕ) → length marks ≤ b → length marks ≡ length all
     → NoneMarked all marks i left b → IsFirstBehind all marks i left None
-first_none all marks i left b over count none j e s h m n = none j e s h (let g = within all j e s in omega (arith, over, count, g)) m n
+first_none all marks i left b over count none = λ j e s h m n. none j e s h (let g = within all j e s in omega (arith, over, count, g)) m n
   where
     within : (all : List Item) (j : ℕ) (e : Item) → slice_get all j ≡ Some e → j < length all
     within all j e s = slice_get_within all j e s
@@ -210,7 +210,7 @@ module _ (all : List Item) (i : ℕ) (holds : Bool) (w : Window) (x : List (Knot
 -- what is first behind a place, from the place before it on
 pub first_before : (all : List Item) (marks : List Bool) (i c : ℕ) (behind : Option ℕ) → AreBlank (c + 1) marks
     → IsFirstBehind all marks i (c + 1) behind → IsFirstBehind all marks i c behind
-first_before all marks i c behind blank first j e s h m n =
+first_before all marks i c behind blank first = λ j e s h m n.
     elim (cases_lt j (c + 1)) [ inl b ↦ absurd (blank_not marks (c + 1) j blank b m) | inr b ↦ first j e s b m n ]
 
 -- of the places from c on c is the first

@@ -42,7 +42,7 @@ returns-clause-choice c =
     c.in-Some-2.is c.in_ok-demand.ensures.demand in
     each_in c.handed_to.result _ _
     (λ d h items sure. h items sure
-    (choice_of nodes tr items c.in-Some.w c.node.result.now c.in-Some-2.demand.holds c.in-Some-2.demand.at c.in-Some-some_ahead.some c.node.ensures.node
+    (choice_of nodes tr items c.in-Some.w c.in-Some-2.demand.holds c.in-Some-2.demand.at c.node.ensures.node
     c.node.ensures.below c.in-Some-some_ahead.ensures (demand items sure)))
     c.handed_to.ensures.choice
 

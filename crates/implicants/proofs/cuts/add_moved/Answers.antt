@@ -7,7 +7,7 @@ use Rattle.rational.specs.Time.{add, whole}
 use Rattle.rational.proofs.Mixed.{move_fits}
 use Rattle.frac128.specs.Value.{value}
 use Rattle.implicants.specs.Cuts.{times_of, Adds, IsMoved}
-use Rattle.implicants.proofs.Moving.{adds_none, frac_on}
+use Rattle.implicants.proofs.Moving.{adds_none, MovesOne, frac_on}
 use Rattle.implicants.proofs.cuts.add_moved.Goals as goal
 
 pub loop-t-init : goal.loop-t-init
@@ -21,9 +21,10 @@ shift-requires c =
 
 pub loop-t-preserved : goal.loop-t-preserved
 loop-t-preserved c =
-    frac_on (value c.args.from.now) (value c.args.to.now) (to_z w64 (of_z w64 c.args.by)) c.args.parent.now c.args.times.now.items
-    c.loop-t.times.items c.push_within.new.times.items c.loop-t.t-index c.t-item.result c.shift.result
-    c.loop-t-test.true c.t-item.is c.shift.ensures.value c.in_ok-push_within.ensures.inside c.in_ok-push_within.ensures.outside c.loop-t.invariant
+    let one : MovesOne (value c.args.from.now) (value c.args.to.now) (to_z w64 (of_z w64 c.args.by)) c.t-item.result c.shift.result
+    c.loop-t.times.items c.push_within.new.times.items =
+    record { moved = c.shift.ensures.value; inside = c.in_ok-push_within.ensures.inside; outside = c.in_ok-push_within.ensures.outside } in
+    frac_on c.args.parent.now c.args.times.now.items c.loop-t.t-index c.loop-t-test.true c.t-item.is one c.loop-t.invariant
 
 pub returns : goal.returns
 returns c =

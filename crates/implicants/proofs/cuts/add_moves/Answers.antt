@@ -8,5 +8,4 @@ use Rattle.implicants.proofs.cuts.add_moves.Goals as goal
 pub loop-k-preserved : goal.loop-k-preserved
 loop-k-preserved c =
     moves_on (value c.args.from.now) (value c.args.to.now) (times_of c.args.parent.now) c.args.moves.now c.loop-k.k _ (pos 0)
-    (times_of c.args.times.now.items) (times_of c.loop-k.times.items) (times_of c.add_moved.new.times.items)
     c.loop-k-test.true c.loop-k.invariant c.in_ok-add_moved.ensures (search (rules, to_z-of_z))

@@ -29,6 +29,6 @@ returns-clause-fit c =
     (subst (λ r. stop r ≈ whole (pos c.args.to)) (sym c.finish-2.ensures.value) ends)
 
 pub returns-clause-on : goal.returns-clause-on
-returns-clause-on c t on = started_on c.tick.result c.tick-2.result c.of.result c.of-fails.result c.in_ok-signal.signal
+returns-clause-on c t on = started_on c.tick.result c.of.result c.in_ok-signal.signal
     c.step.new.self c.args.from t c.in_ok-signal.ensures
     c.in_ok-step.ensures.ok c.of-fails.ensures c.tick.ensures (subst (λ r. IsOn kleene_shape r t) c.finish-2.ensures.value on)

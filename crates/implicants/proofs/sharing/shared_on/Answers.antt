@@ -12,7 +12,7 @@ use Rattle.implicants.specs.Demands.{AreCertainties}
 use Rattle.implicants.specs.Choices.{IsChoice}
 use Rattle.implicants.specs.Sharing.{IsChoosable, IsShared}
 use Rattle.implicants.proofs.Descending.{each_some, others_fit}
-use Rattle.implicants.proofs.SharedTimes.{shared_demand}
+use Rattle.implicants.proofs.SharedTimes.{SharesBelow, shared_demand}
 use Rattle.implicants.proofs.sharing.shared_on.Goals as goal
 
 pub node-requires : goal.node-requires
@@ -94,11 +94,22 @@ returns c =
     c.in-Some-4.is c.in_ok-shared.ensures in
     let begins = subst (λ o. IfSome o (λ d. start d.at ≈ trace.start c.args.trace.now)) c.in-Some-2.is c.in_ok-choice.ensures.begins in
     let ends = subst (λ o. IfSome o (λ d. stop d.at ≈ trace.stop c.args.trace.now)) c.in-Some-2.is c.in_ok-choice.ensures.ends in
+    let shares : SharesBelow nodes tr c.args.nodes.now c.in-Some.w c.in-Some-2.choice.holds c.in-Some-2.choice.window c.in-Some-2.choice.at
+    c.in-Some-some_ahead.each c.in-Some-4.shared = record {
+      node = c.node.result.now;
+      at = c.node.ensures.node;
+      below = c.node.ensures.below;
+      own = c.signal.result.now;
+      own_at = c.signal.ensures;
+      begins = begins;
+      ends = ends;
+      asks = c.in-Some-some_ahead.ensures;
+      first = c.if-not-begins_full.ensures refl;
+      near = c.in-Some-3.near;
+      choosable = near;
+      shared = shared;
+    } in
     record {
-      demand = each_some c.demand_below.result _ _
-          (λ d h items sure. h items sure
-          (shared_demand nodes tr items c.args.nodes.now sure c.in-Some.w c.node.result.now c.node.ensures.node c.node.ensures.below
-          c.in-Some-2.choice.holds _ refl c.in-Some-2.choice.at c.signal.result.now c.in-Some-2.choice.window c.in-Some-some_ahead.each c.in-Some-3.near
-          c.in-Some-4.shared c.signal.ensures begins ends c.in-Some-some_ahead.ensures (choice items sure) (c.if-not-begins_full.ensures refl) near shared))
+      demand = each_some c.demand_below.result _ _ (λ d h items sure. h items sure (shared_demand shares items sure (choice items sure)))
           c.demand_below.ensures.demand;
     }

@@ -3,7 +3,7 @@ use Rattle.std.specs.Prelude.{IfSome}
 use Rattle.value_laws.specs.Kinds.{kleene_shape}
 use Rattle.implicants.specs.Signs.{AreSigns}
 use Rattle.implicants.specs.Upward.{AreShort}
-use Rattle.implicants.proofs.Needing.{no_more_needed}
+use Rattle.implicants.proofs.Needing.{PutsBefore, no_more_needed}
 use Rattle.implicants.proofs.Losing.{PutsFrom, new_before, puts_from_none, puts_from_more, puts_from_all, puts_count, short_lost}
 use Rattle.implicants.proofs.upward.mark_upward.Goals as goal
 
@@ -54,9 +54,12 @@ mark_lost-requires-clause-lost c =
     let w = c.loop-c.invariant.within in
     let told = c.requires.told in
     let short = subst (λ o. IfSome o (λ g. AreShort kleene_shape g.signs.items c.args.nodes.now g.runs.all.items)) c.in-Some.is c.in_ok-ground.ensures.short in
+    let puts : PutsBefore all c.args.left c.args.marks.now.items c.loop-c.marks.items told.more = record {
+      marked = new_before nodes tr all c.args.left c.loop-c.c c.args.marks.now.items c.loop-c.marks.items c.loop-c.invariant.put;
+      covered = told.covered;
+    } in
     short_lost nodes tr all c.args.cells.now.ends.items c.requires.cells c.loop-c.marks.items (c.loop-c.c - 1) c.in-Some.ground.signs.items
-    c.args.left c.args.marks.now.items told.more c.args.nodes.now c.in-Some.ground.runs.all.items (omega (arith, t, w)) told.covered
-    (new_before nodes tr all c.args.left c.loop-c.c c.args.marks.now.items c.loop-c.marks.items c.loop-c.invariant.put) told.told short
+    c.args.nodes.now c.in-Some.ground.runs.all.items puts (omega (arith, t, w)) told.told short
 
 pub mark_lost-requires-clause-count : goal.mark_lost-requires-clause-count
 mark_lost-requires-clause-count c = c.loop-c.invariant.signals

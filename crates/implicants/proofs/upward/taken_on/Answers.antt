@@ -7,7 +7,7 @@ use Rattle.stl_syntax.specs.Limits.{own_reach}
 use Rattle.offline_eval.specs.Making.{AreSound, IsSound, TellsNode}
 use Rattle.implicants.specs.Upward.{AreWhole, IsWhole}
 use Rattle.stl_syntax.proofs.FormulaLemmas.{below_later}
-use Rattle.implicants.proofs.Lifting.{child_not_atom, is_so, kids_best, node_best, some_then}
+use Rattle.implicants.proofs.Lifting.{IsMadeOf, child_not_atom, is_so, kids_best, node_best, some_then}
 use Rattle.implicants.proofs.Wholes.{whole_made, whole_sound}
 use Rattle.implicants.proofs.upward.taken_on.Goals as goal
 
@@ -73,7 +73,12 @@ returns-clause-best c = IfOk-weaker c.put_lost.result _ _ (λ o best. some_then 
     let told = subst (λ xs. TellsNode kleene_shape c.first-from.result c.last-to.result n xs c.in-Ok.made) c.deref.ensures.value c.in-Ok.ensures.told in
     let told' = subst (λ a. TellsNode kleene_shape a c.last-to.result n new c.in-Ok.made) c.first-from.ensures told in
     let told'' = subst (λ b. TellsNode kleene_shape (first_time tr.rows) b n new c.in-Ok.made) c.last-to.ensures.last told' in
-    has nodes all marks i ground.lost
-    (node_best nodes tr all marks i signs ground.leaf c.args.j n new c.in-Ok.made c.node-node.ensures.node c.node-node.ensures.below
-    (child_not_atom n c.args.k operands.0) (ground.signed.each c.args.j n c.node-node.ensures.node) (omega (arith, inside, count, more))
-    c.put_other.ensures.whole kids told'')) best) c.put_lost.ensures.best
+    let made : IsMadeOf nodes tr signs c.args.j n new = record {
+      at = c.node-node.ensures.node;
+      below = c.node-node.ensures.below;
+      other = child_not_atom n c.args.k operands.0;
+      signed = ground.signed.each c.args.j n c.node-node.ensures.node;
+      long = omega (arith, inside, count, more);
+      whole = c.put_other.ensures.whole;
+    } in
+    has nodes all marks i ground.lost (node_best nodes tr all marks i signs ground.leaf c.in-Ok.made made kids told'')) best) c.put_lost.ensures.best
