@@ -10,8 +10,7 @@ returns-in_default-clause-added c x h = adds_on c.args.of c.args.so_far x c.args
 
 pub returns-in-Some-joined-clause-so_far : goal.returns-in-Some-joined-clause-so_far
 returns-in-Some-joined-clause-so_far c x before here =
-    joined_on x
-    c.in-Some-so_far.is c.in-Some.is c.in-Some-joined.is c.joined.ensures before here
+    joined_on x c.in-Some-so_far.is c.in-Some.is c.in-Some-joined.is c.joined.ensures before here
 
 pub returns-clause-added : goal.returns-clause-added
 returns-clause-added c x h = adds_on c.args.of (Some c.in-Some-so_far.before) x c.args.runs.now.items c.add-2.new.runs.items c.in_ok-add-2.ensures
