@@ -113,6 +113,25 @@ fn asked(
     Ok(explained::<Brand>(alloc, &formula, &bound, &trace, Blank::new(1)))
 }
 
+/// Stops where the explanation has other items, over a trace of at most so many rows.
+fn expect_within(
+    rt: &impl Abort,
+    alloc: Global,
+    formula: &str,
+    text: &str,
+    most: u32,
+    wants: &[Want],
+) -> Result<(), Fail> {
+    match asked(rt, alloc, formula, text, most)? {
+        Ok(Explained::Violated(items)) => assert!(rt;
+            are_items(&items, wants),
+            "{formula} {items:?}"
+        ),
+        _ => panic!(rt; "{formula}"),
+    }
+    Ok(())
+}
+
 /// Stops where the explanation has other items.
 fn expect(
     rt: &impl Abort,
@@ -121,14 +140,7 @@ fn expect(
     text: &str,
     wants: &[Want],
 ) -> Result<(), Fail> {
-    match asked(rt, alloc, formula, text, 100)? {
-        Ok(Explained::Violated(items)) => assert!(rt;
-            are_items(&items, wants),
-            "{formula} {items:?}"
-        ),
-        _ => panic!(rt; "{formula}"),
-    }
-    Ok(())
+    expect_within(rt, alloc, formula, text, 100, wants)
 }
 
 const TRIANGLE: &str = "time,x\n0,0\n5,5\n10,0\n";
@@ -279,6 +291,52 @@ fn too_many_cells(rt: HostRuntime) -> Result<(), Fail> {
             Err(fault) => assert_eq!(rt; fault, ExplainFault::TooManyCells { count: sum }),
             Ok(_) => panic!(rt; "explained"),
         }
+    }
+    Ok(())
+}
+
+/// Rows at the times below `count`: x is 1 at odd times, and y at even ones.
+fn in_turn(alloc: Global, count: u32) -> Result<String, AllocError> {
+    let mut text = String::from_str(alloc, "time,x:step,y:step\n")?;
+    for k in 0..count {
+        let row = format!(in alloc; "{k},{},{}\n", k % 2, (k + 1) % 2)?;
+        text.push_str(row.as_str())?;
+    }
+    Ok(text)
+}
+
+/// Adds the cells of a node from each second time below 100 up to the next one.
+fn add_second(node: u32, holds: bool, rest: u32, wants: &mut Vec<Want>) -> Result<(), AllocError> {
+    for k in 0..100u32 {
+        if k % 2 == rest {
+            let t = i64::from(k);
+            wants.push(at(node, holds, t))?;
+            wants.push(gap(node, holds, (t, 0, 1), (t + 1, 0, 1)))?;
+        }
+    }
+    Ok(())
+}
+
+/// Of the windows in which both atoms are never true at once the first is chosen, that of time 0. In it the left atom is false from
+/// each even time on, and the right one says so in between: each of these 201 cells out of some 1,600 is needed.
+#[test]
+fn cells_of_two_atoms_in_turn(rt: HostRuntime) -> Result<(), Fail> {
+    let text = in_turn(rt.alloc(), 400)?;
+    for (formula, holds) in [
+        (
+            "always[0,100] (true until[0,100] (x >= 1 and y >= 1))",
+            false,
+        ),
+        (
+            "always[0,100] (true until[0,100] not (x >= 1 implies y < 1))",
+            true,
+        ),
+    ] {
+        let mut wants = Vec::new(rt.alloc());
+        add_second(1, false, 0, &mut wants)?;
+        wants.push(at(1, false, 100))?;
+        add_second(2, holds, 1, &mut wants)?;
+        expect_within(&rt, rt.alloc(), formula, text.as_str(), 1_000, &wants)?;
     }
     Ok(())
 }
