@@ -56,7 +56,11 @@ fn or_better<P: Shape>(side: Side, p: &P, other: &Option<P>, t: &Frac) -> P
     }
 }
 
-/// Goes on with the best of what counts up to the time, and with `point` there. Where a crossing is refused it is put into `fault`.
+/// Goes on with the best of what counts up to the time, and with `point` there.
+///
+/// # Errors
+///
+/// `Memory` where memory is wanting, or where a crossing is refused for its denominator: then the pair is put into `fault`.
 pub fn write<P: Shape>(
     side: Side,
     built: &mut Builder<P>,

@@ -58,6 +58,10 @@ impl<P: Shape> SoFar<P> {
     }
 
     /// From the turn on `next` counts. The turn comes no earlier than the last one.
+    ///
+    /// # Errors
+    ///
+    /// `Memory` where memory is wanting, or where a crossing is refused for its denominator: then `fault` has the pair.
     pub fn turn(&mut self, turn: &Turn, next: &Best<P>) -> Result<(), Memory>
         requires ready { IsReady P.Shape self.old }
         requires order { value self.old.at ≤ʳ value turn.now.at }
@@ -145,6 +149,10 @@ impl<P: Shape> SoFar<P> {
     }
 
     /// Goes on to the time.
+    ///
+    /// # Errors
+    ///
+    /// `Memory` where memory is wanting, or where a crossing is refused for its denominator: then `fault` has the pair.
     pub fn go_to(&mut self, stop: &Frac) -> Result<(), Memory>
         requires ready { IsReady P.Shape self.old }
         requires order { value self.old.at ≤ʳ value stop.now }

@@ -1,4 +1,5 @@
 //! A walk over pieces that come one after another, of which the best is written: a queue of those that may still be the best.
+//! Source: the queue is the monotonic wedge of Lemire 2006, over pieces of a signal in the place of samples.
 ghost use Rattle.std.specs.Prelude.{◌≡◌, ◌↔◌, ◌∷◌, [], ◌≤◌, ◌^◌, length, IsTrue, IsSome, Some, None, true, false, OnOk, OnErr, IfSome, IfOk, IfErr};
 ghost use Rattle.std.specs.VecDeque.{deque_capacity};
 ghost use Rattle.rational.specs.Rational.{IsWithin};

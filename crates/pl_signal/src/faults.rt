@@ -56,6 +56,10 @@ pub fn fault_of<P: Shape>(kept: Option<WidePair<P>>) -> OpFault<P>
 }
 
 /// Keeps in `fault` what was refused, and tells only that something was, so that the answer is small.
+///
+/// # Errors
+///
+/// `Memory` where memory was wanting, or where a pair was refused, which is then in `fault`: `fault_of` tells them apart.
 #[inline(always)]
 pub fn keep<T, P: Shape>(
     done: Result<T, OpFault<P>>,
