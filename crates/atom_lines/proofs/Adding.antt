@@ -9,10 +9,10 @@ use Rattle.atom_lines.specs.declared.bound_atom.BoundAtom.{BoundAtom}
 use Rattle.atom_lines.specs.Sums.{cell, sum_over, reach}
 
 -- a sum goes on by the next term
-pub add_term : (terms : List BoundTerm) (i : ℕ) (d : BoundTerm) (first second : List ℤ) (sum p more total : ℤ) → i < length terms
+pub add_term : {p more : ℤ} (terms : List BoundTerm) (i : ℕ) (d : BoundTerm) (first second : List ℤ) (sum total : ℤ) → i < length terms
     → p ≡ (get_or terms i d).coef *ℤ cell (get_or terms i d) first second → (sum +ℤ sum_over (drop i terms) first second) ≡ total → more ≡ sum +ℤ p
     → (more +ℤ sum_over (drop (i + 1) terms) first second) ≡ total
-add_term terms i d first second sum p more total h e so_far on =
+add_term terms i d first second sum total h e so_far on =
     let rest : sum_over (drop i terms) first second
     ≡ (get_or terms i d).coef *ℤ cell (get_or terms i d) first second +ℤ sum_over (drop (i + 1) terms) first second =
     ap (λ ks. sum_over ks first second) (drop_more terms i d h) in

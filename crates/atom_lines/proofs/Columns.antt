@@ -47,18 +47,18 @@ from_at_row n step c r (s ∷ rows) (suc k) q t ok h e =
     let reached : row_time s ≤ʳ t = le_trans (rows_stay s q (later_row n s rows k q ok.2 h)) (ge_of_same e) in
     rw (less_no t (row_time s) reached) (from_at_row n step c s rows k q t ok.2 h e)
 
-from_in_gap : (n : ℕ) (step : Bool) (c : ℕ) (r : Row) (rows : List Row) (k : ℕ) (p q : Row) (t : Rational)
+from_in_gap : {p q : Row} (n : ℕ) (step : Bool) (c : ℕ) (r : Row) (rows : List Row) (k : ℕ) (t : Rational)
     → AreRowsAfter n r.time rows → slice_get (r ∷ rows) k ≡ Some p
     → slice_get (r ∷ rows) (suc k) ≡ Some q → row_time p ≤ʳ t → t <ʳ row_time q → value_from step c r rows t ≡ piece step c p q t
-from_in_gap n step c r [] k p q t ok g h low high = absurd (cc)
-from_in_gap n step c r (s ∷ rows) zero p q t ok g h low high =
+from_in_gap n step c r [] k t ok g h low high = absurd (cc)
+from_in_gap {p} {q} n step c r (s ∷ rows) zero t ok g h low high =
     let first : r ≡ p = same_Some r p g in
     let second : s ≡ q = same_Some s q h in
     let soon : t <ʳ row_time s = subst (λ (x : Row). t <ʳ row_time x) (sym second) high in
     rw (less_in t (row_time s) soon) (ap (λ x. piece step c x s t) first ∙ ap (λ x. piece step c p x t) second)
-from_in_gap n step c r (s ∷ rows) (suc k) p q t ok g h low high =
+from_in_gap {p} n step c r (s ∷ rows) (suc k) t ok g h low high =
     let reached : row_time s ≤ʳ t = le_trans (rows_stay s p (later_row n s rows k p ok.2 g)) low in
-    rw (less_no t (row_time s) reached) (from_in_gap n step c s rows k p q t ok.2 g h low high)
+    rw (less_no t (row_time s) reached) (from_in_gap n step c s rows k t ok.2 g h low high)
 
 -- at a row's time a column has the row's value
 pub value_at_row : (n : ℕ) (step : Bool) (c : ℕ) (rows : List Row) (k : ℕ) (q : Row) (t : Rational) → AreRows n rows
@@ -68,11 +68,11 @@ value_at_row n step c [] k q t ok h e = absurd ok
 value_at_row n step c (r ∷ rows) k q t ok h e = from_at_row n step c r rows k q t ok.1 h e
 
 -- on a gap it goes from the first row's value, or stays there
-pub value_in_gap : (n : ℕ) (step : Bool) (c : ℕ) (rows : List Row) (k : ℕ) (p q : Row) (t : Rational) → AreRows n rows
+pub value_in_gap : {p q : Row} (n : ℕ) (step : Bool) (c : ℕ) (rows : List Row) (k : ℕ) (t : Rational) → AreRows n rows
     → slice_get rows k ≡ Some p → slice_get rows (suc k) ≡ Some q
     → row_time p ≤ʳ t → t <ʳ row_time q → column_value step c rows t ≡ piece step c p q t
-value_in_gap n step c [] k p q t ok g h low high = absurd ok
-value_in_gap n step c (r ∷ rows) k p q t ok g h low high = from_in_gap n step c r rows k p q t ok.1 g h low high
+value_in_gap n step c [] k t ok g h low high = absurd ok
+value_in_gap n step c (r ∷ rows) k t ok g h low high = from_in_gap n step c r rows k t ok.1 g h low high
 
 line_on_way' : (from gap : ℕ) (v w : ℤ) (t : Rational) (p : 0 < suc gap) → at (line_between from v gap w) t ≈ on_way v w (passed (pos from) (suc gap) p t)
 line_on_way' from gap v w t p = record {

@@ -254,12 +254,19 @@ module _ {P : Type 0} (shape : ShapeOf P) (read_as : How) (rel : Rel) (g : Gap) 
 
   -- up to a turn inside the gap
   pub record Turned (old mid : List (Knot P)) (before there : P) (turn : Frac) : Type 0 where
+    -- what was told ends by the gap
     pub late : stop old ≤ʳ first
+    -- the turn lies after the first row
     pub after_first : first <ʳ value turn
+    -- and before the second
     pub before_second : value turn <ʳ second
+    -- the signal goes on to the turn, along `before`, and has `there` at it
     pub goes : GoesOn shape old before turn there mid
+    -- at the first row `before` is worth what is read there
     pub begins : (t : Rational) → value_at (shape.function before) t ≈ᵉ worth read_as rel (whole g.from)
+    -- so it is on the gap, up to the turn
     pub until_then : (t : Rational) → first <ʳ t → t <ʳ value turn → value_at (shape.function before) t ≈ᵉ worth read_as rel (at (along g) t)
+    -- and so is `there` at it
     pub at_turn : (t : Rational) → t ≈ value turn → value_at (shape.function there) t ≈ᵉ worth read_as rel (at (along g) t)
 
   by_turn : (old mid : List (Knot P)) (before there : P) (turn : Frac) → Turned old mid before there turn

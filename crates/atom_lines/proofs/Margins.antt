@@ -70,12 +70,12 @@ margin_ramp rel g f a b c d t = finite_same (by_rel rel b c)
     q = sub-pos_iff_lt.1 g.rising
 
     plain : (v0 rise : ℤ) → base_value f ≡ v0 → rise_in_run f ≡ rise → at (line f) t ≈ at (ramp_line (pos g.first) v0 rise (g.second - g.first) q) t
-    plain v0 rise b c = same_ramp (pos g.first) v0 rise (g.second - g.first) q f.t0 f.v0 f.rise f.run f.positive t a b c d
+    plain v0 rise b c = same_ramp q f.positive t a b c d
 
     turned : (v0 rise : ℤ) → base_value f ≡ v0 → rise_in_run f ≡ rise → v0 ≡ neg_ℤ g.from → rise ≡ neg_ℤ (g.to -ℤ g.from)
         → at (line f) t ≈ negate (at (along g) t)
     turned v0 rise b c e h = same_trans (plain v0 rise b c)
-        (negated_ramp (pos g.first) g.from (g.to -ℤ g.from) (pos g.first) v0 rise (g.second - g.first) q q t refl e h)
+        (negated_ramp (pos g.first) g.from (g.to -ℤ g.from) q q t refl e h)
 
     by_rel : (rel : Rel) → base_value f ≡ signed rel g.from → rise_in_run f ≡ signed rel g.to -ℤ signed rel g.from → at (line f) t ≈ margin rel (at (along g) t)
     by_rel AtLeast b c = plain g.from (g.to -ℤ g.from) b c

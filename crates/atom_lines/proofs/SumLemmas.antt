@@ -78,7 +78,7 @@ gap_on_way tr r s t p ok has low high = λ k name column.
     let x = passed (pos r.time) (s.time - r.time) p t in
     let is : value_of tr name t ≡ piece k.step k.column r s t =
     value_of_name tr name t k.column k.step column
-    ∙ value_in_gap (length tr.header.columns) k.step k.column tr.rows has.0 r s t ok.rows has.1 has.2 (le_of_lt low) high in
+    ∙ value_in_gap (length tr.header.columns) k.step k.column tr.rows has.0 t ok.rows has.1 has.2 (le_of_lt low) high in
     subst (λ v. v ≈ on_way (cell k r.values r.values) (cell k r.values s.values) x) (sym is)
     (subst (λ z. piece k.step k.column r s t ≈ on_way (cell k r.values r.values) z x) (sym (two_cells k r s))
     (subst (λ z. piece k.step k.column r s t ≈ on_way z (if k.step then value r k.column else value s k.column) x) (sym (own_cell k r))
@@ -104,7 +104,7 @@ module _ (b : Binding) (i : ℕ) (k : BoundAtom) (here : slice_get b.atoms i ≡
       ≈ at (ramp_line (pos r.time) (reach k r.values r.values) (reach k r.values s.values -ℤ reach k r.values r.values) (s.time - r.time) p) t
   expression_in_gap r s p t has low high =
       same_trans (expression_on_way a k tr t (passed (pos r.time) (s.time - r.time) p t) r.values s.values atom_binding
-          (gap_on_way tr r s t p for.rows has low high))
+      (gap_on_way tr r s t p for.rows has low high))
       (same_sym (way_ramp (pos r.time) (reach k r.values r.values) (reach k r.values s.values) (s.time - r.time) p t))
 
   -- so it is on the line of the gap
@@ -113,8 +113,7 @@ module _ (b : Binding) (i : ℕ) (k : BoundAtom) (here : slice_get b.atoms i ≡
       → AreNeighbours tr r s → row_time r <ʳ t → t <ʳ row_time s → expression a tr t ≈ at (along g) t
   expression_along g r s t e h f l has low high =
       same_trans (expression_in_gap r s later t has low high)
-      (same_sym (same_ramp (pos r.time) (reach k r.values r.values) (reach k r.values s.values -ℤ reach k r.values r.values) (s.time - r.time) later
-      (pos g.first) g.from (g.to -ℤ g.from) (g.second - g.first) (sub-pos_iff_lt.1 g.rising) t
+      (same_sym (same_ramp later (sub-pos_iff_lt.1 g.rising) t
       (ap (λ n. pos n) e) f (ap (λ z. z -ℤ g.from) l ∙ ap (λ z. reach k r.values s.values -ℤ z) f) (ap (λ n. n - g.first) h ∙ ap (λ n. s.time - n) e)))
     where
       later : 0 < s.time - r.time

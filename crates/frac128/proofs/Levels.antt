@@ -110,9 +110,9 @@ far_order o ahead rise run r d s e f h =
     by_sign Greater (negsuc a) f l = absurd (let l : pos 0 <ℤ negsuc a = l in omega (arith, ints))
 
 -- from the order of the products to that of the numbers
-pub order_of_products : (o : Ordering) (a : Rational) (sum x w : ℤ) (run d s e : ℕ) (p : 0 < e) → a.den ≡ run * d → sum ≡ pos a.up
+pub order_of_products : {sum x : ℤ} (o : Ordering) (a : Rational) (w : ℤ) (run d s e : ℕ) (p : 0 < e) → a.den ≡ run * d → sum ≡ pos a.up
     -ℤ pos a.down → x ≡ sum -ℤ w *ℤ pos (run * d) → o ≡ int_cmp (x *ℤ pos e) (pos (run * s * d)) → IsOrder o a (mixed w s e p)
-order_of_products o a sum x w run d s e p den h j k = by_order o (int_ranked (x *ℤ pos e) (pos (run * s * d)) o k)
+order_of_products {sum} {x} o a w run d s e p den h j k = by_order o (int_ranked (x *ℤ pos e) (pos (run * s * d)) o k)
   where
     first : part_above x + a.down + part_above w * (run * d) ≡ part_below x + a.up + part_below w * (run * d)
     first = omega (arith, parts)
@@ -190,9 +190,9 @@ order_of_difference o a b x y z d h j k e = by_order o (int_ranked z (pos 0) o e
     }
 
 -- the difference of two sums over one denominator is the sum of the differences
-pub sums_apart : (here there ahead x y z rise other climb : ℤ) (d r : ℕ) → ahead ≡ here *ℤ pos 1 -ℤ there *ℤ pos 1 → climb ≡ rise -ℤ other
+pub sums_apart : {ahead climb x y z : ℤ} (here there rise other : ℤ) (d r : ℕ) → ahead ≡ here *ℤ pos 1 -ℤ there *ℤ pos 1 → climb ≡ rise -ℤ other
     → x ≡ here *ℤ pos d +ℤ rise *ℤ pos r → y ≡ there *ℤ pos d +ℤ other *ℤ pos r → z ≡ ahead *ℤ pos d +ℤ climb *ℤ pos r → z ≡ x -ℤ y
-sums_apart here there ahead x y z rise other climb d r h j k l m =
+sums_apart {ahead} {climb} {x} {y} {z} here there rise other d r h j k l m =
     by_parts (omega (
       arith,
       sum_parts here rise x r d k,

@@ -5,14 +5,14 @@ use Rattle.rational.specs.Line.{ramp_line, at}
 use Rattle.rational.proofs.Mixed.{parts, above_neg, below_neg}
 
 -- minus a ramp
-pub negated : (t0 v0 rise t0' v0' rise' : ℤ) (run : ℕ) (p p' : 0 < run) (t : Rational) → t0' ≡ t0 → v0' ≡ neg_ℤ v0
+pub negated : (t0 v0 rise : ℤ) {t0' v0' rise' : ℤ} {run : ℕ} (p p' : 0 < run) (t : Rational) → t0' ≡ t0 → v0' ≡ neg_ℤ v0
     → rise' ≡ neg_ℤ rise → at (ramp_line t0' v0' rise' run p') t ≈ negate (at (ramp_line t0 v0 rise run p) t)
-negated t0 v0 rise t0' v0' rise' run p p' t h j k = rw (h, j, k, above_neg v0, below_neg v0, above_neg rise, below_neg rise) (omega arith)
+negated t0 v0 rise p p' t h j k = rw (h, j, k, above_neg v0, below_neg v0, above_neg rise, below_neg rise) (omega arith)
 
 -- a ramp moved in time
-pub shifted : (t0 v0 rise t0' v0' rise' by : ℤ) (run : ℕ) (p p' : 0 < run) (t : Rational) → t0' ≡ t0 -ℤ by → v0' ≡ v0
+pub shifted : (t0 v0 rise by : ℤ) {t0' v0' rise' : ℤ} {run : ℕ} (p p' : 0 < run) (t : Rational) → t0' ≡ t0 -ℤ by → v0' ≡ v0
     → rise' ≡ rise → at (ramp_line t0' v0' rise' run p') t ≈ at (ramp_line t0 v0 rise run p) (add t (whole by))
-shifted t0 v0 rise t0' v0' rise' by run p p' t h j k = rw (j, k) record {
+shifted t0 v0 rise by {t0'} {run = run} p p' t h j k = rw (j, k) record {
   same = omega (arith, ap (λ n. part_above rise * n * (t.den * run * t.den)) moved, ap (λ n. part_below rise * n * (t.den * run * t.den)) moved);
 }
   where
@@ -20,9 +20,9 @@ shifted t0 v0 rise t0' v0' rise' by run p p' t h j k = rw (j, k) record {
     moved = omega (arith, parts)
 
 -- a ramp turned over in time
-pub mirrored : (t0 v0 rise t0' v0' rise' about : ℤ) (run : ℕ) (p p' : 0 < run) (t : Rational) → t0' ≡ about -ℤ t0 → v0' ≡ v0
+pub mirrored : (t0 v0 rise about : ℤ) {t0' v0' rise' : ℤ} {run : ℕ} (p p' : 0 < run) (t : Rational) → t0' ≡ about -ℤ t0 → v0' ≡ v0
     → rise' ≡ neg_ℤ rise → at (ramp_line t0' v0' rise' run p') t ≈ at (ramp_line t0 v0 rise run p) (subtract (whole about) t)
-mirrored t0 v0 rise t0' v0' rise' about run p p' t h j k = rw (j, k, above_neg rise, below_neg rise) record {
+mirrored t0 v0 rise about {t0'} {run = run} p p' t h j k = rw (j, k, above_neg rise, below_neg rise) record {
   same = omega (arith, ap (λ n. part_above rise * n * (t.den * run * t.den)) moved, ap (λ n. part_below rise * n * (t.den * run * t.den)) moved);
 }
   where

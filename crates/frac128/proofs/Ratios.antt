@@ -47,7 +47,7 @@ pub order_by_wholes : {n d w m e v : ℤ} {r s : ℕ} (o : Ordering) → Split n
     → (o ≡ Equal → ⊥) → IsOrder o (fraction n d) (fraction m e)
 order_by_wholes {n} {d} {w} {m} {e} {v} {r} {s} o h k i j =
     order_same o (split_value h) (split_value k)
-    (order_by_whole o w v r (unsigned_abs d) s (unsigned_abs e) (abs_pos d h.positive) (abs_pos e k.positive) i j h.below k.below)
+    (order_by_whole o w v (abs_pos d h.positive) (abs_pos e k.positive) i j h.below k.below)
 
 -- a fraction by its top
 pub top_value : (f : Frac) (top den : ℤ) → top ≡ f.whole *ℤ pos f.den +ℤ pos 1 *ℤ pos f.rest → den ≡ pos f.den → value f ≈ fraction top den

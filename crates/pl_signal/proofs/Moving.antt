@@ -273,12 +273,12 @@ shifted_within shape ks i k z {from} s e begins low high =
     (le_trans low.0 (le_trans (le_of_same (shift_back' z begins)) (le_shift (neg_ℤ z) w.above)), le_trans (le_shift (neg_ℤ z) w.below) high.1)
 
 -- what tells a part of a signal moved tells the signal moved
-pub tells_through : {P : Type 0} (shape : ShapeOf P) (ks part new : List (Knot P)) (z : ℤ) (from to low high : Rational)
+pub tells_through : {P : Type 0} {part : List (Knot P)} {low high : Rational} (shape : ShapeOf P) (ks new : List (Knot P)) (z : ℤ) (from to : Rational)
     → Tells shape (IsWorth shape ks) low high part
     → Tells shape (λ t v. IsWorth shape part (add t (whole z)) v) from (add (stop part) (whole (neg_ℤ z))) new → low ≈ add from (whole z)
     → high ≈ add to (whole z)
     → Tells shape (λ t v. IsWorth shape ks (add t (whole z)) v) from to new
-tells_through shape ks part new z from to low high p r begins ends = record {
+tells_through {part = part} shape ks new z from to p r begins ends = record {
   signal = r.signal;
   begins = r.begins;
   ends = same_trans r.ends last;

@@ -1,9 +1,10 @@
 -- A bounded `until` is the least of a Sup over its window and of the Infs of the `until` to the end, and a bounded `since` likewise.
-use Rattle.std.proofs.Common.{◌⊎◌, inl, inr, ℕ, ◌+◌, ◌*◌, ◌≤◌, arith}
+use Rattle.std.proofs.Common.{◌⊎◌, inl, inr, ℕ, ◌+◌, ◌*◌, arith}
 use Rattle.std.specs.Prelude.{Option, Some, None, true, IfSome}
 use Rattle.rational.specs.Time.{Rational, ◌≤ʳ◌, ◌<ʳ◌, Within, later}
 use Rattle.rational.specs.Extended.{Extended, ◌≤ᵉ◌, ◌<ᵉ◌, IsLeast, IsSup, IsInf}
-use Rattle.rational.specs.Windows.{Function, Window, Ahead, Behind, IsSupOver, IsInfOver, IsUntil, IsSince, UntilToEnd, SinceFromStart}
+use Rattle.rational.specs.Windows.{Function, Window, Ahead, Behind, IsSupOver, IsInfOver, IsUntil, IsSince}
+use Rattle.rational.specs.UntilParts.{HasUntilToEnd, HasSinceFromStart, UntilIsComposed, SinceIsComposed}
 use Rattle.rational.proofs.Order.{le_of_lt, le_or_lt, le_trans, le_refl, not_lt_of_le}
 use Rattle.rational.proofs.TimeLemmas.{later_le, later_from, later_more}
 use Rattle.rational.proofs.ExtendedLemmas.{le_totalᵉ, clashᵉ, le_reflᵉ, le_transᵉ, lt_of_lt_of_leᵉ, lt_of_le_of_ltᵉ, least_of}
@@ -197,152 +198,152 @@ earlier_of u t k h = omega (arith, h)
 earlier_of_later : (s t : Rational) (k : ℕ) → t ≤ʳ later s k → earlier t k ≤ʳ s
 earlier_of_later s t k h = omega (arith, h)
 
--- a bounded until is composed of its parts
-pub until_is_composed : (lowest highest : Extended) (P Q : Function) (from to t : Rational) (a b : ℕ) → a ≤ b → Within from to t → lowest ≤ᵉ highest
-    → ((s : Rational) (p : Extended) → Within from to s → P s p → lowest ≤ᵉ p)
-    → ((s u : Rational) → from ≤ʳ s → s ≤ʳ u → u ≤ʳ to → (y : Extended) × IsInfOver highest (Within s u) P y)
-    → ((s : Rational) → Within from to s → (z : Extended) × UntilToEnd lowest highest to P Q s z)
-    → (c d r : Extended) → IsSupOver lowest (Ahead from to a b true true t) Q c
-    → IsInfOver highest (Ahead from to 0 a true true t) (UntilToEnd lowest highest to P Q) d → IsLeast c d r
-    → IsUntil lowest highest (Ahead from to a b true true t) P Q t r
-until_is_composed lowest highest P Q from to t a b o inside order low infs values c d r sup inf least = by_place (le_or_lt (later t a) to)
-  where
-    W : Window
-    W = Ahead from to a b true true t
-
-    Near : Window
-    Near = Ahead from to 0 a true true t
-
-    in_time : (s : Rational) → Near s → t ≤ʳ s
-    in_time s n = le_trans (at_later t) n.begins
-
-    lies : later t a ≤ʳ to → Lies lowest highest P Q Within W Near (λ s u. Within s to u) t (later t a)
-    lies h = record {
-      at_start = record { inside = inside; begins = later_zero t; ends = later_from t a };
-      at_begin = record {
-        inside = record { above = le_trans inside.above (later_from t a); below = h };
-        begins = later_more t 0 a (omega arith);
-        ends = le_refl (later t a);
-      };
-      beyond = λ s u n w. record { above = le_trans n.ends w.begins; below = w.inside.below };
-      sub = λ s u v n w k. record { above = le_trans (in_time s n) k.above; below = k.below };
-      first = λ s u n k. record { above = le_refl s; below = k.above };
-      parts = λ u v w k. by_part v w k (le_or_lt v (later t a));
-      earlier = λ u w k l. by_end u w k l (le_or_lt w (later t b));
-    }
-      where
-        by_part : {u : Rational} (v : Rational) → W u → Within t u v → (v ≤ʳ later t a) ⊎ (later t a <ʳ v) → Near v ⊎ Within (later t a) u v
-        by_part v w k (inl l) = inl
-            (record {
-              inside = record { above = le_trans inside.above k.above; below = le_trans k.below w.inside.below };
-              begins = le_trans (later_zero t) k.above;
-              ends = l;
-            })
-        by_part v w k (inr l) = inr (record { above = le_of_lt l; below = k.below })
-
-        by_end : (u w : Rational) → W u → Within (later t a) to w → (w ≤ʳ later t b) ⊎ (later t b <ʳ w)
-            → W w ⊎ ((v : Rational) → Within (later t a) u v → Within (later t a) w v)
-        by_end u w k l (inl m) =
-            inl (record { inside = record { above = le_trans inside.above (le_trans (later_from t a) l.above); below = l.below }; begins = l.above; ends = m })
-        by_end u w k l (inr m) = inr (λ v n. record { above = n.above; below = le_trans n.below (le_trans k.ends (le_of_lt m)) })
-
-    has : Has lowest highest P Q Within W Near (λ s u. Within s to u) t (later t a)
-    has = record {
-      order = order;
-      low = λ s p n h. low s p n.inside h;
-      infs = λ s u n w. infs s u n.inside.above (le_trans n.ends w.begins) w.inside.below;
-      values = λ s n. values s n.inside;
-    }
-
-    by_place : (later t a ≤ʳ to) ⊎ (to <ʳ later t a) → IsUntil lowest highest W P Q t r
-    by_place (inl h) = composed lowest highest P Q Within W Near (λ s u. Within s to u) t (later t a) (lies h) has c d r sup inf least
-    by_place (inr h) = sup_of_empty lowest c d r sup (λ v f. empty f.0 f.1) (λ v f. empty f.0 f.1)
-        (at_most_inf highest d lowest inf order (λ v f. f.2.at_least)) least
-      where
-        empty : (u : Rational) → ¬ W u
-        empty u w = not_lt_of_le (le_trans w.begins w.inside.below) h
-
 begins_later : (t u w : Rational) (b : Option ℕ) → u ≤ʳ w → IfSome b (λ b. t ≤ʳ later u b) → IfSome b (λ b. t ≤ʳ later w b)
 begins_later t u w None h k = tt
 begins_later t u w (Some b) h k = le_trans k (later_le b h)
 
--- a bounded since is composed of its parts
-pub since_is_composed : (lowest highest : Extended) (P Q : Function) (from to t : Rational) (a : ℕ) (b : Option ℕ) → IfSome b (λ b. a ≤ b)
-    → Within from to t → lowest ≤ᵉ highest
-    → ((s : Rational) (p : Extended) → Within from to s → P s p → lowest ≤ᵉ p)
-    → ((s u : Rational) → from ≤ʳ s → s ≤ʳ u → u ≤ʳ to → (y : Extended) × IsInfOver highest (Within s u) P y)
-    → ((s : Rational) → Within from to s → (z : Extended) × SinceFromStart lowest highest from P Q s z)
-    → (c d r : Extended) → IsSupOver lowest (Behind from to a b true true t) Q c
-    → IsInfOver highest (Behind from to 0 (Some a) true true t) (SinceFromStart lowest highest from P Q) d → IsLeast c d r
-    → IsSince lowest highest (Behind from to a b true true t) P Q t r
-since_is_composed lowest highest P Q from to t a b o inside order low infs values c d r sup inf least = by_place (le_or_lt from m)
-  where
-    m : Rational
-    m = earlier t a
+-- what P needs between `from` and `to`: no value of it is below the lowest, and it has an Inf over each stretch
+pub record HasInfs (lowest highest : Extended) (P : Function) (from to : Rational) : Type 0 where
+  -- the lowest is at most the highest
+  pub order : lowest ≤ᵉ highest
+  -- no value is below the lowest
+  pub low : (s : Rational) (p : Extended) → Within from to s → P s p → lowest ≤ᵉ p
+  -- over each stretch there is an Inf
+  pub infs : (s u : Rational) → from ≤ʳ s → s ≤ʳ u → u ≤ʳ to → (y : Extended) × IsInfOver highest (Within s u) P y
 
-    W : Window
-    W = Behind from to a b true true t
+module _ {lowest highest : Extended} {P Q : Function} {from to : Rational} (given : HasInfs lowest highest P from to) where
+  -- a bounded until is composed of its parts
+  pub until_is_composed : HasUntilToEnd lowest highest from to P Q → UntilIsComposed lowest highest from to P Q
+  until_is_composed values t a b c d r inside o sup inf least = by_place (le_or_lt (later t a) to)
+    where
+      W : Window
+      W = Ahead from to a b true true t
 
-    Near : Window
-    Near = Behind from to 0 (Some a) true true t
+      Near : Window
+      Near = Ahead from to 0 a true true t
 
-    Back : Rational → Rational → Window
-    Back s u = Within u s
+      in_time : (s : Rational) → Near s → t ≤ʳ s
+      in_time s n = le_trans (at_later t) n.begins
 
-    Beyond : Rational → Window
-    Beyond s u = Within from s u
+      lies : later t a ≤ʳ to → Lies lowest highest P Q Within W Near (λ s u. Within s to u) t (later t a)
+      lies h = record {
+        at_start = record { inside = inside; begins = later_zero t; ends = later_from t a };
+        at_begin = record {
+          inside = record { above = le_trans inside.above (later_from t a); below = h };
+          begins = later_more t 0 a (omega arith);
+          ends = le_refl (later t a);
+        };
+        beyond = λ s u n w. record { above = le_trans n.ends w.begins; below = w.inside.below };
+        sub = λ s u v n w k. record { above = le_trans (in_time s n) k.above; below = k.below };
+        first = λ s u n k. record { above = le_refl s; below = k.above };
+        parts = λ u v w k. by_part v w k (le_or_lt v (later t a));
+        earlier = λ u w k l. by_end u w k l (le_or_lt w (later t b));
+      }
+        where
+          by_part : {u : Rational} (v : Rational) → W u → Within t u v → (v ≤ʳ later t a) ⊎ (later t a <ʳ v) → Near v ⊎ Within (later t a) u v
+          by_part v w k (inl l) = inl
+              (record {
+                inside = record { above = le_trans inside.above k.above; below = le_trans k.below w.inside.below };
+                begins = le_trans (later_zero t) k.above;
+                ends = l;
+              })
+          by_part v w k (inr l) = inr (record { above = le_of_lt l; below = k.below })
 
-    in_time : (s : Rational) → Near s → s ≤ʳ t
-    in_time s n = le_trans (at_later s) n.ends
+          by_end : (u w : Rational) → W u → Within (later t a) to w → (w ≤ʳ later t b) ⊎ (later t b <ʳ w)
+              → W w ⊎ ((v : Rational) → Within (later t a) u v → Within (later t a) w v)
+          by_end u w k l (inl m) = inl (record {
+            inside = record { above = le_trans inside.above (le_trans (later_from t a) l.above); below = l.below };
+            begins = l.above;
+            ends = m;
+          })
+          by_end u w k l (inr m) = inr (λ v n. record { above = n.above; below = le_trans n.below (le_trans k.ends (le_of_lt m)) })
 
-    -- a time in the window is not later than the one a before t
-    at_begin : (u : Rational) → W u → u ≤ʳ m
-    at_begin u w = earlier_of u t a w.ends
+      has : Has lowest highest P Q Within W Near (λ s u. Within s to u) t (later t a)
+      has = record {
+        order = given.order;
+        low = λ s p n h. given.low s p n.inside h;
+        infs = λ s u n w. given.infs s u n.inside.above (le_trans n.ends w.begins) w.inside.below;
+        values = λ s n. values s n.inside;
+      }
 
-    lies : from ≤ʳ m → Lies lowest highest P Q Back W Near Beyond t m
-    lies h = record {
-      at_start = record { inside = inside; begins = later_from t a; ends = later_zero t };
-      at_begin = record {
-        inside = record { above = h; below = le_trans (earlier_before t a) inside.below };
-        begins = earlier_later t a;
-        ends = le_trans (later_zero m) (earlier_before t a);
-      };
-      beyond = λ s u n w. record { above = w.inside.above; below = le_trans (at_begin u w) (earlier_of_later s t a n.begins) };
-      sub = λ s u v n w k. record { above = k.above; below = le_trans k.below (in_time s n) };
-      first = λ s u n k. record { above = k.below; below = le_refl s };
-      parts = λ u v w k. by_part v w k (le_or_lt m v);
-      earlier = λ u w k l. by_start u w k l (le_or_lt u w);
-    }
-      where
-        by_start : (u w : Rational) → W u → Within from m w → (u ≤ʳ w) ⊎ (w <ʳ u) → W w ⊎ ((v : Rational) → Within u m v → Within w m v)
-        by_start u w k l (inl n) = inl (record {
-          inside = record { above = l.above; below = le_trans l.below (le_trans (earlier_before t a) inside.below) };
-          begins = begins_later t u w b n k.begins;
-          ends = le_trans (later_le a l.below) (later_earlier t a);
-        })
-        by_start u w k l (inr n) = inr (λ v f. record { above = le_trans (le_of_lt n) f.above; below = f.below })
+      by_place : (later t a ≤ʳ to) ⊎ (to <ʳ later t a) → IsUntil lowest highest W P Q t r
+      by_place (inl h) = composed lowest highest P Q Within W Near (λ s u. Within s to u) t (later t a) (lies h) has c d r sup inf least
+      by_place (inr h) = sup_of_empty lowest c d r sup (λ v f. empty f.0 f.1) (λ v f. empty f.0 f.1)
+          (at_most_inf highest d lowest inf given.order (λ v f. f.2.at_least)) least
+        where
+          empty : (u : Rational) → ¬ W u
+          empty u w = not_lt_of_le (le_trans w.begins w.inside.below) h
 
-        by_part : {u : Rational} (v : Rational) → W u → Within u t v → (m ≤ʳ v) ⊎ (v <ʳ m) → Near v ⊎ Within u m v
-        by_part v w k (inl l) = inl
-            (record {
-              inside = record { above = le_trans w.inside.above k.above; below = le_trans k.below inside.below };
-              begins = le_trans (earlier_later t a) (later_le a l);
-              ends = le_trans (later_zero v) k.below;
-            })
-        by_part v w k (inr l) = inr (record { above = k.above; below = le_of_lt l })
+  -- a bounded since is composed of its parts
+  pub since_is_composed : HasSinceFromStart lowest highest from to P Q → SinceIsComposed lowest highest from to P Q
+  since_is_composed values t a b c d r inside o sup inf least = by_place (le_or_lt from m)
+    where
+      m : Rational
+      m = earlier t a
 
-    has : Has lowest highest P Q Back W Near Beyond t m
-    has = record {
-      order = order;
-      low = λ s p n h. low s p n.inside h;
-      infs = λ s u n w. infs u s w.inside.above (le_trans (at_begin u w) (earlier_of_later s t a n.begins)) n.inside.below;
-      values = λ s n. values s n.inside;
-    }
+      W : Window
+      W = Behind from to a b true true t
 
-    by_place : (from ≤ʳ m) ⊎ (m <ʳ from) → IsSince lowest highest W P Q t r
-    by_place (inl h) = composed lowest highest P Q Back W Near Beyond t m (lies h) has c d r sup inf least
-    by_place (inr h) = sup_of_empty lowest c d r sup (λ v f. empty f.0 f.1) (λ v f. empty f.0 f.1)
-        (at_most_inf highest d lowest inf order (λ v f. f.2.at_least)) least
-      where
-        empty : (u : Rational) → ¬ W u
-        empty u w = not_lt_of_le (le_trans w.inside.above (at_begin u w)) h
+      Near : Window
+      Near = Behind from to 0 (Some a) true true t
+
+      Back : Rational → Rational → Window
+      Back s u = Within u s
+
+      Beyond : Rational → Window
+      Beyond s u = Within from s u
+
+      in_time : (s : Rational) → Near s → s ≤ʳ t
+      in_time s n = le_trans (at_later s) n.ends
+
+      -- a time in the window is not later than the one a before t
+      at_begin : (u : Rational) → W u → u ≤ʳ m
+      at_begin u w = earlier_of u t a w.ends
+
+      lies : from ≤ʳ m → Lies lowest highest P Q Back W Near Beyond t m
+      lies h = record {
+        at_start = record { inside = inside; begins = later_from t a; ends = later_zero t };
+        at_begin = record {
+          inside = record { above = h; below = le_trans (earlier_before t a) inside.below };
+          begins = earlier_later t a;
+          ends = le_trans (later_zero m) (earlier_before t a);
+        };
+        beyond = λ s u n w. record { above = w.inside.above; below = le_trans (at_begin u w) (earlier_of_later s t a n.begins) };
+        sub = λ s u v n w k. record { above = k.above; below = le_trans k.below (in_time s n) };
+        first = λ s u n k. record { above = k.below; below = le_refl s };
+        parts = λ u v w k. by_part v w k (le_or_lt m v);
+        earlier = λ u w k l. by_start u w k l (le_or_lt u w);
+      }
+        where
+          by_start : (u w : Rational) → W u → Within from m w → (u ≤ʳ w) ⊎ (w <ʳ u) → W w ⊎ ((v : Rational) → Within u m v → Within w m v)
+          by_start u w k l (inl n) = inl (record {
+            inside = record { above = l.above; below = le_trans l.below (le_trans (earlier_before t a) inside.below) };
+            begins = begins_later t u w b n k.begins;
+            ends = le_trans (later_le a l.below) (later_earlier t a);
+          })
+          by_start u w k l (inr n) = inr (λ v f. record { above = le_trans (le_of_lt n) f.above; below = f.below })
+
+          by_part : {u : Rational} (v : Rational) → W u → Within u t v → (m ≤ʳ v) ⊎ (v <ʳ m) → Near v ⊎ Within u m v
+          by_part v w k (inl l) = inl
+              (record {
+                inside = record { above = le_trans w.inside.above k.above; below = le_trans k.below inside.below };
+                begins = le_trans (earlier_later t a) (later_le a l);
+                ends = le_trans (later_zero v) k.below;
+              })
+          by_part v w k (inr l) = inr (record { above = k.above; below = le_of_lt l })
+
+      has : Has lowest highest P Q Back W Near Beyond t m
+      has = record {
+        order = given.order;
+        low = λ s p n h. given.low s p n.inside h;
+        infs = λ s u n w. given.infs u s w.inside.above (le_trans (at_begin u w) (earlier_of_later s t a n.begins)) n.inside.below;
+        values = λ s n. values s n.inside;
+      }
+
+      by_place : (from ≤ʳ m) ⊎ (m <ʳ from) → IsSince lowest highest W P Q t r
+      by_place (inl h) = composed lowest highest P Q Back W Near Beyond t m (lies h) has c d r sup inf least
+      by_place (inr h) = sup_of_empty lowest c d r sup (λ v f. empty f.0 f.1) (λ v f. empty f.0 f.1)
+          (at_most_inf highest d lowest inf given.order (λ v f. f.2.at_least)) least
+        where
+          empty : (u : Rational) → ¬ W u
+          empty u w = not_lt_of_le (le_trans w.inside.above (at_begin u w)) h

@@ -163,7 +163,7 @@ decisions_stay p header r rows tr ended holds ok c d = by_more (going_on header 
 
 -- margins above e hold in every trace that is e-close
 pub margins_hold : MarginsHold
-margins_hold p tr tr' e positive like close ok more t r w h = SupInf-margin e tr tr' like.start_same like.stop_same p ok more close t r w h
+margins_hold p tr tr' e positive like close ok more = SupInf-margin e tr tr' like.start_same like.stop_same p ok more close
 
 -- one list of verdicts
 pub one_list_of_verdicts : OneListOfVerdicts

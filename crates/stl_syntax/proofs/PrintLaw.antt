@@ -1,7 +1,7 @@
 -- A formula has one printed text.
 use Rattle.std.proofs.Common.{◌≡◌, ℕ, suc, ◌+◌, ◌-◌, ◌*◌, ◌^◌, ◌<◌, ◌≤◌, ◌&&◌, Bool, true, false, List, [], ◌∷◌, ◌++◌, length}
 use Rattle.std.proofs.Common.{reverse, ℤ, pos, negsuc, refl, sym, ◌∙◌, ap, subst, arith, ◌⊎◌, inl, inr, lit<, pow-add}
-use Rattle.std.proofs.Math.Nat.{one-le-pow, pow-suc, eq_of_mul-eq-mul_right}
+use Rattle.std.proofs.Math.Nat.{one-le-pow, pow-suc, eq_of_mul-eq-mul_right, sub-pos_iff_lt}
 use Rattle.std.proofs.lemmas.Bool.{cases_order, cases_Bool, and_parts, leb-true}
 use Rattle.std.proofs.lemmas.List.{length_push, length-reverse}
 use Rattle.std.specs.Prelude.{codes, decimal, Option, Some, None, ◌==◌, MatchBool, if◌then◌else◌}
@@ -103,18 +103,30 @@ more n p w v xs ys some l e f =
     eq_of_mul-eq-mul_right p some (decimal_value v ys) (decimal_value w xs * 10 ^ k) same
 
 -- the whole part and the decimals are determined
-parts_same : (n p w v : ℕ) (xs ys : List ℕ) → 0 < p → all is_digit xs ≡ true → all is_digit ys ≡ true → without_zeros xs ≡ xs → without_zeros ys ≡ ys
-    → n * 10 ^ length xs ≡ decimal_value w xs * p → n * 10 ^ length ys ≡ decimal_value v ys * p → (w ≡ v) × (xs ≡ ys)
-parts_same n p w v xs ys some digits other_digits fewest other_fewest e f = by_order (cases_order (length xs) (length ys))
+parts_same : (digits n : ℕ) (t u : List ℕ) (a : IsDecimalText digits n t) (b : IsDecimalText digits n u) → (a.whole ≡ b.whole) × (a.decimals ≡ b.decimals)
+parts_same digits n t u a b = by_order (cases_order (length xs) (length ys))
   where
-    by_order : (length xs ≡ length ys) ⊎ ((length xs < length ys) ⊎ (length ys < length xs)) → (w ≡ v) × (xs ≡ ys)
+    xs : List ℕ
+    xs = a.decimals
+
+    ys : List ℕ
+    ys = b.decimals
+
+    p : ℕ
+    p = 10 ^ digits
+
+    some : 0 < p
+    some = one-le-pow digits 10 (lit< tt)
+
+    by_order : (length xs ≡ length ys) ⊎ ((length xs < length ys) ⊎ (length ys < length xs)) → (a.whole ≡ b.whole) × (xs ≡ ys)
     by_order (inl l) =
-        let same : decimal_value w xs * p ≡ decimal_value v ys * p = sym e ∙ ap (λ k. n * 10 ^ k) l ∙ f in
-        digits_same w v xs ys l digits other_digits (eq_of_mul-eq-mul_right p some (decimal_value w xs) (decimal_value v ys) same)
-    by_order (inr (inl l)) = absurd (longer (decimal_value w xs) v (length ys - length xs) ys
-        (omega arith) other_digits other_fewest (more n p w v xs ys some l e f) (omega arith))
-    by_order (inr (inr l)) =
-        absurd (longer (decimal_value v ys) w (length xs - length ys) xs (omega arith) digits fewest (more n p v w ys xs some l f e) (omega arith))
+        let same : decimal_value a.whole xs * p ≡ decimal_value b.whole ys * p = sym a.same ∙ ap (λ k. n * 10 ^ k) l ∙ b.same in
+        digits_same a.whole b.whole xs ys l a.are_digits b.are_digits
+        (eq_of_mul-eq-mul_right p some (decimal_value a.whole xs) (decimal_value b.whole ys) same)
+    by_order (inr (inl l)) = absurd (longer (decimal_value a.whole xs) b.whole (length ys - length xs) ys
+        (sub-pos_iff_lt.1 l) b.are_digits b.fewest (more n p a.whole b.whole xs ys some l a.same b.same) (omega (arith, l)))
+    by_order (inr (inr l)) = absurd (longer (decimal_value b.whole ys) a.whole (length xs - length ys) xs
+        (sub-pos_iff_lt.1 l) a.are_digits a.fewest (more n p b.whole a.whole ys xs some l b.same a.same) (omega (arith, l)))
 
 -- at most one text is of a kind
 abbrev HasOne : (List ℕ → Type 0) → Type 0
@@ -122,8 +134,7 @@ HasOne P = (t u : List ℕ) → P t → P u → t ≡ u
 
 one_decimal : (digits n : ℕ) → HasOne (IsDecimalText digits n)
 one_decimal digits n t u a b =
-    let same = parts_same n (10 ^ digits) a.whole b.whole a.decimals b.decimals (one-le-pow digits 10
-    (lit< tt)) a.are_digits b.are_digits a.fewest b.fewest a.same b.same in
+    let same = parts_same digits n t u a b in
     a.is ∙ ap (λ w. decimal w ++ after_point a.decimals) same.0 ∙ ap (λ ds. decimal b.whole ++ after_point ds) same.1 ∙ sym b.is
 
 one_constant : (digits : ℕ) (z : ℤ) → HasOne (IsConstantText digits z)

@@ -106,5 +106,6 @@ pub three_pieces : (t u v w x y z : List ℕ) → u ≡ t ++ x → v ≡ u ++ y 
 three_pieces t u v w x y z e f g = g ∙ ap (λ s. s ++ z) (f ∙ ap (λ s. s ++ y) e) ∙ simp append_assoc
 
 -- and by five
-pub five_pieces : (t u v w r s a b x y z : List ℕ) → u ≡ t ++ a → v ≡ u ++ b → w ≡ v ++ x → r ≡ w ++ y → s ≡ r ++ z → s ≡ t ++ (a ++ b ++ x ++ y ++ z)
-five_pieces t u v w r s a b x y z e f g h i = i ∙ ap (λ l. l ++ z) (h ∙ ap (λ l. l ++ y) (g ∙ ap (λ l. l ++ x) (f ∙ ap (λ l. l ++ b) e))) ∙ simp append_assoc
+pub five_pieces : {u v w r s : List ℕ} (t a b x y z : List ℕ) → u ≡ t ++ a → v ≡ u ++ b → w ≡ v ++ x → r ≡ w ++ y → s ≡ r ++ z
+    → s ≡ t ++ (a ++ b ++ x ++ y ++ z)
+five_pieces t a b x y z e f g h i = i ∙ ap (λ l. l ++ z) (h ∙ ap (λ l. l ++ y) (g ∙ ap (λ l. l ++ x) (f ∙ ap (λ l. l ++ b) e))) ∙ simp append_assoc

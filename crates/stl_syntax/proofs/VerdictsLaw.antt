@@ -2,7 +2,7 @@
 use Rattle.std.proofs.Common.{◌≡◌, ◌⊎◌, inl, inr, List, [], ◌∷◌, Bool, true, false, not, sym, ap, ◌∙◌, refl}
 use Rattle.std.specs.Prelude.{MatchBool, ◌≢◌}
 use Rattle.rational.specs.Rational.{Rational, ◌≤ʳ◌, ◌<ʳ◌, ◌≈◌, middle}
-use Rattle.rational.proofs.Order.{lt_or_same_or_gt, le_of_same, le_of_lt, lt_of_lt_of_le, lt_of_le_of_lt, lt_trans}
+use Rattle.rational.proofs.Order.{le_of_same, le_of_lt, lt_of_lt_of_le, lt_of_le_of_lt, lt_trans}
 use Rattle.rational.proofs.Order.{not_lt_of_le, same_trans, same_sym, same_refl, left_of_middle, right_of_middle}
 use Rattle.rational.specs.Time.{Interval, IsIn, IsNotEmpty, Touch}
 use Rattle.rational.specs.Places.{Place, begins, ends, Same, Before}
@@ -158,19 +158,38 @@ same_before : (c d e : Place) → Same c d → Before d e → Before c e
 same_before c d e s (inl l) = inl (lt_of_le_of_lt (le_of_same s.0) l)
 same_before c d e s (inr (r, f, g)) = inr (same_trans s.0 r, s.1 ∙ f, g)
 
+-- two lists of verdicts of one stretch, with first spans v and w that begin alike
+record BothGoOn (p : Subformula) (tr : Trace) (stretch : Interval) (v : Verdict) (vs : List Verdict) (w : Verdict) (ws : List Verdict) : Type 0 where
+  -- both first spans are told of the formula
+  told : IsTold p tr v
+  other_told : IsTold p tr w
+  -- they begin alike
+  begin : Same (begins (interval v.on)) (begins (interval w.on))
+  -- the others go on from them
+  goes : GoesOn p tr stretch v vs
+  other_goes : GoesOn p tr stretch w ws
+
+-- the same, the other way round
+swapped : {p : Subformula} {tr : Trace} {stretch : Interval} {v w : Verdict} {vs ws : List Verdict} → BothGoOn p tr stretch v vs w ws
+    → BothGoOn p tr stretch w ws v vs
+swapped h = record { told = h.other_told; other_told = h.told; begin = same_sym_cut h.begin; goes = h.other_goes; other_goes = h.goes }
+
 -- of two lists that begin alike the first span of the one does not end before that of the other
 not_shorter : (p : Subformula) (tr : Trace) (stretch : Interval) (v : Verdict) (vs : List Verdict) (w : Verdict) (ws : List Verdict)
-    → IsTold p tr v → IsTold p tr w → Same (begins (interval v.on)) (begins (interval w.on)) → GoesOn p tr stretch v vs → GoesOn p tr stretch w ws
-    → v.holds ≡ w.holds → Before (ends (interval v.on)) (ends (interval w.on)) → ⊥
-not_shorter p tr stretch v [] w ws a b s g h e l =
+    → BothGoOn p tr stretch v vs w ws → v.holds ≡ w.holds → Before (ends (interval v.on)) (ends (interval w.on)) → ⊥
+not_shorter p tr stretch v [] w ws both e l =
+    let end = both.goes in
     before_irrefl (ends (interval v.on)) (ends (interval w.on)) l
-    (before_trans (ends (interval w.on)) (ends stretch) (ends (interval v.on)) (ends_by p tr stretch w ws h) (inr (same_sym_cut (g.time, g.inside))))
-not_shorter p tr stretch v (x ∷ xs) w ws a b s g h e l =
-    g.1 (e ∙ sym (overlap p tr x w g.2 b
+    (before_trans (ends (interval w.on)) (ends stretch) (ends (interval v.on)) (ends_by p tr stretch w ws both.other_goes)
+    (inr (same_sym_cut (end.time, end.inside))))
+not_shorter p tr stretch v (x ∷ xs) w ws both e l =
+    let next = both.goes in
+    next.1 (e ∙ sym (overlap p tr x w next.2 both.other_told
     (before_trans (begins (interval w.on)) (ends (interval v.on)) (begins (interval x.on))
-    (inl (same_before (begins (interval w.on)) (begins (interval v.on)) (ends (interval v.on)) (same_sym_cut s) (not_empty_cut (interval v.on) a.not_empty)))
-    (inr (same_sym_cut (touch_cut (interval v.on) (interval x.on) g.0))))
-    (same_before (begins (interval x.on)) (ends (interval v.on)) (ends (interval w.on)) (touch_cut (interval v.on) (interval x.on) g.0) l)))
+    (inl (same_before (begins (interval w.on)) (begins (interval v.on)) (ends (interval v.on)) (same_sym_cut both.begin)
+    (not_empty_cut (interval v.on) both.told.not_empty)))
+    (inr (same_sym_cut (touch_cut (interval v.on) (interval x.on) next.0))))
+    (same_before (begins (interval x.on)) (ends (interval v.on)) (ends (interval w.on)) (touch_cut (interval v.on) (interval x.on) next.0) l)))
 
 inside_alike : (a b : Bool) → not a ≡ not b → a ≡ b
 inside_alike true true e = refl
@@ -184,17 +203,20 @@ told_alike p tr v w a b s =
     overlap p tr v w a b (inr (same_sym_cut s))
     (same_before (begins (interval v.on)) (begins (interval w.on)) (ends (interval w.on)) s (not_empty_cut (interval w.on) b.not_empty))
 
+-- so they end alike
 ends_alike : (p : Subformula) (tr : Trace) (stretch : Interval) (v : Verdict) (vs : List Verdict) (w : Verdict) (ws : List Verdict)
-    → IsTold p tr v → IsTold p tr w → Same (begins (interval v.on)) (begins (interval w.on)) → GoesOn p tr stretch v vs → GoesOn p tr stretch w ws
-    → Same (ends (interval v.on)) (ends (interval w.on))
-ends_alike p tr stretch v vs w ws a b s g h = by_order (place_order (ends (interval v.on)) (ends (interval w.on)))
+    → BothGoOn p tr stretch v vs w ws → Same (ends (interval v.on)) (ends (interval w.on))
+ends_alike p tr stretch v vs w ws both = by_order (place_order (ends (interval v.on)) (ends (interval w.on)))
   where
+    holds : v.holds ≡ w.holds
+    holds = told_alike p tr v w both.told both.other_told both.begin
+
     by_order : Before (ends (interval v.on)) (ends (interval w.on)) ⊎ Same (ends (interval v.on)) (ends (interval w.on))
         ⊎ Before (ends (interval w.on)) (ends (interval v.on))
         → Same (ends (interval v.on)) (ends (interval w.on))
-    by_order (inl o) = absurd (not_shorter p tr stretch v vs w ws a b s g h (told_alike p tr v w a b s) o)
+    by_order (inl o) = absurd (not_shorter p tr stretch v vs w ws both holds o)
     by_order (inr (inl o)) = o
-    by_order (inr (inr o)) = absurd (not_shorter p tr stretch w ws v vs b a (same_sym_cut s) h g (sym (told_alike p tr v w a b s)) o)
+    by_order (inr (inr o)) = absurd (not_shorter p tr stretch w ws v vs (swapped both) (sym holds) o)
 
 -- nothing follows a span that ends as the stretch does
 no_more : (p : Subformula) (tr : Trace) (stretch : Interval) (v x : Verdict) (xs : List Verdict) → GoesOn p tr stretch v (x ∷ xs)
@@ -216,7 +238,7 @@ rest_alike p tr stretch v (x ∷ xs) w [] e g h = no_more p tr stretch v x xs g 
 rest_alike p tr stretch v (x ∷ xs) w (y ∷ ys) e g h =
     let s : Same (begins (interval x.on)) (begins (interval y.on)) =
     same_trans_cut (touch_cut (interval v.on) (interval x.on) g.0) (same_trans_cut e (same_sym_cut (touch_cut (interval w.on) (interval y.on) h.0))) in
-    let f = ends_alike p tr stretch x xs y ys g.2 h.2 s g.3 h.3 in (
+    let f = ends_alike p tr stretch x xs y ys (record { told = g.2; other_told = h.2; begin = s; goes = g.3; other_goes = h.3 }) in (
       record { time = s.0; inside = inside_alike x.on.from_in y.on.from_in s.1 },
       record { time = f.0; inside = f.1 },
       told_alike p tr x y g.2 h.2 s,
@@ -231,7 +253,7 @@ Describes-unique p tr stretch (v ∷ vs) [] g h = absurd h
 Describes-unique p tr stretch (v ∷ vs) (w ∷ ws) g h =
     let s : Same (begins (interval v.on)) (begins (interval w.on)) =
     (same_trans g.0.time (same_sym h.0.time), ap not (g.0.inside ∙ sym h.0.inside)) in
-    let f = ends_alike p tr stretch v vs w ws g.1 h.1 s g.2 h.2 in (
+    let f = ends_alike p tr stretch v vs w ws (record { told = g.1; other_told = h.1; begin = s; goes = g.2; other_goes = h.2 }) in (
       record { time = s.0; inside = g.0.inside ∙ sym h.0.inside },
       record { time = f.0; inside = f.1 },
       told_alike p tr v w g.1 h.1 s,

@@ -69,20 +69,31 @@ whole_read (c ∷ ds) most digits v r some h value is = (
       ∙ ap (λ j. min (decimal_value 0 (c ∷ ds) * 10 ^ j) 4294967296) (let e : digits ≡ digits - 0 = omega arith in e)),
 )
 
+-- digits before a point, with a value v below 2^32 or as great, and those after it, with s for the value of both
+pub record AroundPoint (front : List ℕ) (d : ℕ) (more : List ℕ) (v s : ℕ) : Type 0 where
+  -- a digit comes before the point
+  pub some : 0 < length front
+  -- what comes before it is digits
+  pub before : all is_digit front ≡ true
+  -- and so is what comes after it
+  pub after : all is_digit (d ∷ more) ≡ true
+  -- the value of the digits before it
+  pub value : min v 4294967296 ≡ min (decimal_value 0 front) 4294967296
+  -- the value of all, but for zeros at the end
+  pub sum : min s 4294967296 ≡ min (decimal_value v (without_zeros (d ∷ more))) 4294967296
+
 -- digits, a point and digits
-pub decimal_read : (front : List ℕ) (d : ℕ) (more : List ℕ) (most digits v s r : ℕ) → 0 < length front → all is_digit front ≡ true
-    → all is_digit (d ∷ more) ≡ true
-    → min v 4294967296 ≡ min (decimal_value 0 front) 4294967296 → min s 4294967296 ≡ min (decimal_value v (without_zeros (d ∷ more))) 4294967296
+pub decimal_read : (front : List ℕ) (d : ℕ) (more : List ℕ) (most digits : ℕ) {v s r : ℕ} → AroundPoint front d more v s
     → length (without_zeros (d ∷ more)) ≤ most → r ≡ s * 10 ^ (digits - length (without_zeros (d ∷ more))) → IsRead (front ++ 46 ∷ d ∷ more) most digits r
-decimal_read [] d more most digits v s r some h k value sum few is = absurd (omega (arith, some))
-decimal_read (c ∷ ds) d more most digits v s r some h k value sum few is =
+decimal_read [] d more most digits point few is = absurd (omega (arith, point.some))
+decimal_read (c ∷ ds) d more most digits {v} {s} point few is =
     let zs = without_zeros (d ∷ more) in
     let n : decimal_value 0 ((c ∷ ds) ++ zs) ≡ decimal_value (decimal_value 0 (c ∷ ds)) zs = decimal_value-append 0 (c ∷ ds) zs in
     let same : min s 4294967296 ≡ min (decimal_value 0 ((c ∷ ds) ++ zs)) 4294967296 =
-    sum ∙ (decimal_value-min v (decimal_value 0 (c ∷ ds)) zs value ∙ ap (λ x. min x 4294967296) (sym n)) in (
+    point.sum ∙ (decimal_value-min v (decimal_value 0 (c ∷ ds)) zs point.value ∙ ap (λ x. min x 4294967296) (sym n)) in (
       decimal_value 0 ((c ∷ ds) ++ zs),
       length zs,
-      decimal c ds d more h k,
+      decimal c ds d more point.before point.after,
       few,
       rw is (scaled_same s (decimal_value 0 ((c ∷ ds) ++ zs)) (10 ^ (digits - length zs)) (one-le-pow (digits - length zs) 10 (lit< tt)) same),
     )

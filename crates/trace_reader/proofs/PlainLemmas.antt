@@ -314,27 +314,40 @@ module _ (sc : Scaled) (front line : List ℕ) (i : ℕ) (r : Row) (p : IsPlainF
         range = range;
       }
 
+-- a front that is a whole row of plain numbers
+pub record IsPlainWhole (sc : Scaled) (front : List ℕ) (i : ℕ) (r : Row) : Type 0 where
+  -- it is a front
+  pub front_is : IsPlainFront sc.scale sc.heading front i r
+  -- it has a value for each column
+  pub past : drop i sc.heading.digits ≡ []
+  -- so many columns there are
+  pub columns : i ≡ length sc.heading.columns
+  -- and so many values
+  pub width : length r.values ≡ i
+  -- time and values are within their ranges
+  pub range : IsInRange r
+  -- and is short enough for a line
+  pub short : length front ≤ 4000
+
 -- the piece begins with the row
-pub plain_row : (sc : Scaled) (piece front : List ℕ) (i : ℕ) (r : Row) (n : ℕ) → IsPlainFront sc.scale sc.heading front i r
-    → length front ≤ 4000 → drop i sc.heading.digits ≡ []
-    → i ≡ length sc.heading.columns → length r.values ≡ i → IsInRange r → n ≤ length piece
+pub plain_row : (sc : Scaled) (piece front : List ℕ) (i : ℕ) (r : Row) (n : ℕ) → IsPlainWhole sc front i r → n ≤ length piece
     → (take n piece ≡ front ++ 10 ∷ []) ⊎ (take n piece ≡ (front ++ 13 ∷ []) ++ 10 ∷ []) → IsPlainRow sc piece n r
-plain_row sc piece front i r n p short past w width range within (inl e) = record {
+plain_row sc piece front i r n h within (inl e) = record {
   line = front;
-  whole = record { taken = e; within = within; free = row_free front front p.bytes (inl refl); short = omega (arith, short) };
-  solid = row_not_blank sc front front i r p (inl refl);
-  read = row_read sc front front i r p (inl refl) past w width range;
+  whole = record { taken = e; within = within; free = row_free front front h.front_is.bytes (inl refl); short = omega (arith, h.short) };
+  solid = row_not_blank sc front front i r h.front_is (inl refl);
+  read = row_read sc front front i r h.front_is (inl refl) h.past h.columns h.width h.range;
 }
-plain_row sc piece front i r n p short past w width range within (inr e) = record {
+plain_row sc piece front i r n h within (inr e) = record {
   line = front ++ 13 ∷ [];
   whole = record {
     taken = e;
     within = within;
-    free = row_free front (front ++ 13 ∷ []) p.bytes (inr refl);
-    short = omega (arith, short, length_push front 13);
+    free = row_free front (front ++ 13 ∷ []) h.front_is.bytes (inr refl);
+    short = omega (arith, h.short, length_push front 13);
   };
-  solid = row_not_blank sc front (front ++ 13 ∷ []) i r p (inr refl);
-  read = row_read sc front (front ++ 13 ∷ []) i r p (inr refl) past w width range;
+  solid = row_not_blank sc front (front ++ 13 ∷ []) i r h.front_is (inr refl);
+  read = row_read sc front (front ++ 13 ∷ []) i r h.front_is (inr refl) h.past h.columns h.width h.range;
 }
 
 -- the next field after a comma

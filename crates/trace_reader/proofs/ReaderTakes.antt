@@ -184,23 +184,23 @@ through_parts (x ∷ xs) = by_test (through_parts xs) (cases_eq x 10)
     by_test (others, h) (inr e) = (others, rw (ne_eqb x 10 e) (ap (λ t. x ∷ t) h))
 
 -- the bytes before a part, the part and the others are the whole
-parts_joined : (bytes front part others piece more : List ℕ) → piece ≡ front ++ (part ++ others)
+parts_joined : {piece : List ℕ} (bytes front part others more : List ℕ) → piece ≡ front ++ (part ++ others)
     → ((bytes ++ front) ++ part) ++ (others ++ more) ≡ (bytes ++ piece) ++ more
-parts_joined bytes front part others piece more e =
+parts_joined bytes front part others more e =
     sym (append_assoc ((bytes ++ front) ++ part) others more)
     ∙ ap (λ t. t ++ more) (append_assoc (bytes ++ front) part others ∙ (append_assoc bytes front (part ++ others) ∙ ap (λ t. bytes ++ t) (sym e)))
 
 -- the fault of a part is one of the whole
-pub fault_on : (limits : Limits) (least : Scale) (bytes front part others piece : List ℕ) (x : TraceRefusal) → piece ≡ front ++ (part ++ others)
+pub fault_on : {piece : List ℕ} (limits : Limits) (least : Scale) (bytes front part others : List ℕ) (x : TraceRefusal) → piece ≡ front ++ (part ++ others)
     → IsFaultOfAll limits least ((bytes ++ front) ++ part) x → IsFaultOfAll limits least (bytes ++ piece) x
-fault_on limits least bytes front part others piece x e f more ended =
-    subst (λ t. IsFirstFault t ended limits least x) (parts_joined bytes front part others piece more e) (f (others ++ more) ended)
+fault_on limits least bytes front part others x e f more ended =
+    subst (λ t. IsFirstFault t ended limits least x) (parts_joined bytes front part others more e) (f (others ++ more) ended)
 
 -- what was read before a line of a part was read before it in the whole
-pub before_on : (n : ℕ) (h : Option Heading) (least : Scale) (rows : List Row) (bytes front part others piece : List ℕ) → piece ≡ front ++ (part ++ others)
-    → HasReadBefore n h least ((bytes ++ front) ++ part) rows → HasReadBefore n h least (bytes ++ piece) rows
-before_on n h least rows bytes front part others piece e f more ended =
-    subst (λ t. HoldLines h least (take (n - 1) (lines ended t)) rows) (parts_joined bytes front part others piece more e) (f (others ++ more) ended)
+pub before_on : {piece : List ℕ} (n : ℕ) (h : Option Heading) (least : Scale) (rows : List Row) (bytes front part others : List ℕ)
+    → piece ≡ front ++ (part ++ others) → HasReadBefore n h least ((bytes ++ front) ++ part) rows → HasReadBefore n h least (bytes ++ piece) rows
+before_on n h least rows bytes front part others e f more ended =
+    subst (λ t. HoldLines h least (take (n - 1) (lines ended t)) rows) (parts_joined bytes front part others more e) (f (others ++ more) ended)
 
 ends_on : (front : List ℕ) {taken : List ℕ} → EndsWithFeed taken → EndsWithFeed (front ++ taken)
 ends_on front (feed before) = subst EndsWithFeed (append_assoc front before (10 ∷ [])) (feed (front ++ before))

@@ -10,7 +10,7 @@ use Rattle.pl_signal.specs.declared.knot.Knot.{Knot}
 use Rattle.pl_signal.specs.Knots.{IsSignal, IsWorth, start, stop, time}
 use Rattle.pl_signal.proofs.SupLemmas.{signal_inf}
 use Rattle.rational.specs.UntilParts.{HasUntilToEnd, HasSinceFromStart, UntilIsComposed, SinceIsComposed}
-use Rattle.rational.proofs.UntilComposition.{until_is_composed, since_is_composed}
+use Rattle.rational.proofs.UntilComposition.{HasInfs, until_is_composed, since_is_composed}
 
 module _ {P : Type 0} (shape : ShapeOf P) (laws : ShapeLaws shape) where
   infs : (p : List (Knot P)) (s u : Rational) → (y : Extended) × IsInfOver shape.highest (Within s u) (IsWorth shape p) y
@@ -36,18 +36,18 @@ module _ {P : Type 0} (shape : ShapeOf P) (laws : ShapeLaws shape) where
       le_transᵉ shape.lowest (value_at (shape.function k.after) s) v (laws.lowest_is_least k.after s) h.worth.at_least
   at_least_lowest (k ∷ knots) s v (inr (inr h)) = at_least_lowest knots s v h
 
+  -- so a signal has an Inf over each stretch of its domain
+  has_infs : (p : List (Knot P)) → IsSignal shape p → HasInfs shape.lowest shape.highest (IsWorth shape p) (start p) (stop p)
+  has_infs p signal = record { order = order p signal; low = λ s v w h. at_least_lowest p s v h; infs = λ s u f g k. infs p s u }
+
   -- a bounded until of signals is composed
   pub until_of_signals : (p q : List (Knot P)) → IsSignal shape p → HasUntilToEnd shape.lowest shape.highest (start p) (stop p) (IsWorth shape p)
       (IsWorth shape q)
       → UntilIsComposed shape.lowest shape.highest (start p) (stop p) (IsWorth shape p) (IsWorth shape q)
-  until_of_signals p q signal has t a b c d r inside o sup inf h =
-      until_is_composed shape.lowest shape.highest (IsWorth shape p) (IsWorth shape q) (start p) (stop p) t a b o inside (order p signal)
-      (λ s v f h. at_least_lowest p s v h) (λ s u f g k. infs p s u) has c d r sup inf h
+  until_of_signals p q signal has = until_is_composed (has_infs p signal) has
 
   -- so for since
   pub since_of_signals : (p q : List (Knot P)) → IsSignal shape p → HasSinceFromStart shape.lowest shape.highest (start p) (stop p) (IsWorth shape p)
       (IsWorth shape q)
       → SinceIsComposed shape.lowest shape.highest (start p) (stop p) (IsWorth shape p) (IsWorth shape q)
-  since_of_signals p q signal has t a b c d r inside o sup inf h =
-      since_is_composed shape.lowest shape.highest (IsWorth shape p) (IsWorth shape q) (start p) (stop p) t a b o inside (order p signal)
-      (λ s v f h. at_least_lowest p s v h) (λ s u f g k. infs p s u) has c d r sup inf h
+  since_of_signals p q signal has = since_is_composed (has_infs p signal) has

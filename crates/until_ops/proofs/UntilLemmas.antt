@@ -124,7 +124,7 @@ module _ {P : Type 0} {shape : ShapeOf P} {p q left right : List (Knot P)} (m : 
   since_limited since tells =
       let l = mirror_limited m.of_left in let r = mirror_limited m.of_right in let signal = m.of_left.tells.signal in
       limited shape since tells.signal
-      (λ t v w. since_bounded (2 ^ 31) shape.lowest shape.highest (start left) (IsWorth shape left) (IsWorth shape right)
+      (λ t v w. since_bounded (2 ^ 31) shape.lowest shape.highest (start left)
       m.laws.lowest_bounded m.laws.highest_bounded (worth_bounded shape left l) (worth_bounded shape right r) t v ((tells.worth t v).0 w).1)
       (within_same (2 ^ 34) (same_sym tells.begins) (limited_start shape left signal l))
       (within_same (2 ^ 34) (same_sym tells.ends) (limited_stop shape left signal l))
@@ -145,15 +145,15 @@ module _ {P : Type 0} {shape : ShapeOf P} {p q left right : List (Knot P)} (m : 
 pub until_bases : {P : Type 0} (shape : ShapeOf P) (p q left right since new : List (Knot P))
     → BasesFrom shape (λ b. pos 0 -ℤ b) p left → BasesFrom shape (λ b. pos 0 -ℤ b) q right
     → BasesOfTwo shape left right since → BasesFrom shape (λ b. pos 0 -ℤ b) since new → BasesOfTwo shape p q new
-until_bases {P} shape p q left right since new from_p from_q of_two from_since x h m =
+until_bases {P} shape p q left right since new from_p from_q of_two from_since = λ x h m.
     let y = from_since x h m in
     let z = of_two y.0 y.1 y.2 in
-    by_side y.0 y.3 z.0 z.2 z.3 z.1
+    by_side x y.0 y.3 z.0 z.2 z.3 z.1
   where
     twice : (a b c d : ℤ) → a ≡ pos 0 -ℤ b → b ≡ c → c ≡ pos 0 -ℤ d → a ≡ d
     twice a b c d e f h = omega (arith, ints)
 
-    by_side : (y : P) → shape.base x ≡ pos 0 -ℤ shape.base y → (z : P) → IsTrue (shape.moves z) → shape.base y ≡ shape.base z
+    by_side : (x y : P) → shape.base x ≡ pos 0 -ℤ shape.base y → (z : P) → IsTrue (shape.moves z) → shape.base y ≡ shape.base z
         → HasShape left z ⊎ HasShape right z → (o : P) × (HasShape p o ⊎ HasShape q o) × IsTrue (shape.moves o) × (shape.base x ≡ shape.base o)
-    by_side y e z n f (inl k) = let o = from_p z k n in (o.0, inl o.1, o.2, twice (shape.base x) (shape.base y) (shape.base z) (shape.base o.0) e f o.3)
-    by_side y e z n f (inr k) = let o = from_q z k n in (o.0, inr o.1, o.2, twice (shape.base x) (shape.base y) (shape.base z) (shape.base o.0) e f o.3)
+    by_side x y e z n f (inl k) = let o = from_p z k n in (o.0, inl o.1, o.2, twice (shape.base x) (shape.base y) (shape.base z) (shape.base o.0) e f o.3)
+    by_side x y e z n f (inr k) = let o = from_q z k n in (o.0, inr o.1, o.2, twice (shape.base x) (shape.base y) (shape.base z) (shape.base o.0) e f o.3)

@@ -22,8 +22,7 @@ loop-term-preserved g c =
     c.term_value-sum.result ≡ (get_or xs c.loop-term.term-index d).coef *ℤ cell (get_or xs c.loop-term.term-index d) first second)
     c.deref-term-items.ensures.value c.term_value-sum.ensures.value in
     record {
-      sum = add_term terms c.loop-term.term-index d first second sum c.term_value-sum.result next
-          (sum_over terms first second) within value c.loop-term.invariant.sum more;
+      sum = add_term terms c.loop-term.term-index d first second sum (sum_over terms first second) within value c.loop-term.invariant.sum more;
       small = size_more sum c.term_value-sum.result next c.loop-term.term-index 268435456 c.loop-term.invariant.small c.term_value-sum.ensures.small more;
     }
 

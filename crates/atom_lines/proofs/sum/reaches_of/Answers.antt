@@ -26,8 +26,8 @@ loop-term-preserved g c =
     let value_next : v.result.1 ≡ (get_or terms i d).coef *ℤ cell (get_or terms i d) second second =
     subst (λ (xs : List BoundTerm). v.result.1 ≡ (get_or xs i d).coef *ℤ cell (get_or xs i d) second second) c.deref-term-items.ensures.value v.ensures.next in
     record {
-      to = add_term terms i d first second to v.result.0 to_more (sum_over terms first second) within value_to c.loop-term.invariant.to more_to;
-      next = add_term terms i d second second next v.result.1 next_more (sum_over terms second second) within value_next c.loop-term.invariant.next more_next;
+      to = add_term terms i d first second to (sum_over terms first second) within value_to c.loop-term.invariant.to more_to;
+      next = add_term terms i d second second next (sum_over terms second second) within value_next c.loop-term.invariant.next more_next;
       small_to = size_more to v.result.0 to_more i 268435456 c.loop-term.invariant.small_to v.ensures.small_to more_to;
       small_next = size_more next v.result.1 next_more i 268435456 c.loop-term.invariant.small_next v.ensures.small_next more_next;
     }

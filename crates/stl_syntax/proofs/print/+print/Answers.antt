@@ -46,7 +46,7 @@ put_node-returns-in_ok-push-in-Two-2 t c =
     (Two c.in-Two.left c.in-Two.right) c.requires.nodes c.requires.place
     c.index-nodes-place.is c.operands.ensures c.in-Two.is in
     rw w.text (on_ok_weaker c.put_operand-in-Two-2.result
-    (five_pieces _ _ _ _ _ _ _ _ _ _ _ c.in_ok-put_operand-in-Two.ensures c.in_ok-push-in-Two.ensures.ok
+    (five_pieces _ _ _ _ _ _ c.in_ok-put_operand-in-Two.ensures c.in_ok-push-in-Two.ensures.ok
     c.in_ok-put_operator-in-Two.ensures c.in_ok-push-in-Two-2.ensures.ok)
     c.put_operand-in-Two-2.ensures)
 

@@ -61,6 +61,12 @@ returns c =
     let sum = c.go_on.ensures.value ∙ ap (λ t. min (decimal_value c.min-value.result t) 4294967296) short in
     let r = c.scaled-2.ensures ∙ ap (λ t. c.go_on.result * 10 ^ (c.args.digits - t)) l in
     subst (λ t. IsRead t c.args.most c.args.digits c.scaled-2.result) (sym (parted text len d more is))
-    (decimal_read (take len text) d more c.args.most c.args.digits c.min-value.result c.go_on.result c.scaled-2.result
-    (omega (arith, n, c.if-whole-eq0.false)) e.digits digits
-    (omega (arith, c.min-value.ensures, e.value)) sum (omega (arith, l, c.if-decimals-most.false)) r)
+    (decimal_read (take len text) d more c.args.most c.args.digits
+    (record {
+      some = omega (arith, n, c.if-whole-eq0.false);
+      before = e.digits;
+      after = digits;
+      value = omega (arith, c.min-value.ensures, e.value);
+      sum = sum;
+    })
+    (omega (arith, l, c.if-decimals-most.false)) r)

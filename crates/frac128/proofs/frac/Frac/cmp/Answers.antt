@@ -14,4 +14,4 @@ pub returns-in_default : goal.returns-in_default
 returns-in_default c =
     let f = c.args.self.now in
     let g = c.args.other.now in
-    order_by_whole _ f.whole g.whole f.rest f.den g.rest g.den f.positive g.positive c.cmp.ensures c.in_default.not-Equal f.below g.below
+    order_by_whole _ f.whole g.whole f.positive g.positive c.cmp.ensures c.in_default.not-Equal f.below g.below

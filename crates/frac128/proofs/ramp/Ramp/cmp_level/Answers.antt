@@ -33,6 +33,6 @@ returns c =
     rw (here, other_whole, run) at c.determinant-ahead.ensures.value in
     let a = at (line f) (value t) in
     let sum = ahead_is (line f) offset f.rise t.whole c.at_floor-here.result _ t.rest t.den t.positive (ramp_gap f offset refl) here_is refl in
-    order_of_products c.cmp_ahead.result a _ _ k.whole f.run t.den k.rest k.den k.positive refl sum
+    order_of_products c.cmp_ahead.result a k.whole f.run t.den k.rest k.den k.positive refl sum
     (moved_down c.at_floor-here.result c.determinant-ahead.result k.whole _ _ f.rise f.run t.den t.rest moved refl refl)
     (rw ahead at c.cmp_ahead.ensures)

@@ -50,6 +50,5 @@ returns c =
     order_of_difference c.sign_ahead.result (at (line f) (value t)) (at (line g) (value t)) x y z (ap (λ n. n * t.den) same)
     (ahead_is (line f) offset f.rise t.whole c.at_floor-here.result x t.rest t.den t.positive (ramp_gap f offset refl) here_is refl)
     (ahead_is (line g) other_offset g.rise t.whole c.at_floor-there.result y t.rest t.den t.positive (ramp_gap g other_offset refl) there_is refl)
-    (sums_apart c.at_floor-here.result c.at_floor-there.result c.determinant-ahead.result x y z f.rise g.rise (f.rise -ℤ g.rise) t.den t.rest
-    apart refl refl refl refl)
+    (sums_apart c.at_floor-here.result c.at_floor-there.result f.rise g.rise t.den t.rest apart refl refl refl refl)
     sign

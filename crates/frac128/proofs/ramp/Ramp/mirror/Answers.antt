@@ -10,4 +10,4 @@ returns-clause-value c = λ t.
     let t0 : to_z w64 (of_z w64 (to_z w64 (of_z w64 c.args.about) -ℤ to_z w64 (of_z w64 f.t0))) ≡ c.args.about -ℤ f.t0 = omega (arith, ints) in
     let v0 : to_z w64 (of_z w64 f.v0) ≡ f.v0 = search (rules, to_z-of_z) in
     let rise : to_z w64 (of_z w64 (pos 0 -ℤ to_z w64 (of_z w64 f.rise))) ≡ neg_ℤ f.rise = omega (arith, ints) in
-    mirrored f.t0 f.v0 f.rise _ _ _ c.args.about f.run f.positive _ t t0 v0 rise
+    mirrored f.t0 f.v0 f.rise c.args.about f.positive _ t t0 v0 rise

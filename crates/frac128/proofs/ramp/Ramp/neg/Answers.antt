@@ -11,4 +11,4 @@ returns-clause-value c = λ t.
     let t0 : to_z w64 (of_z w64 f.t0) ≡ f.t0 = search (rules, to_z-of_z) in
     let v0 : to_z w64 (of_z w64 (pos 0 -ℤ to_z w64 (of_z w64 f.v0))) ≡ neg_ℤ f.v0 = omega (arith, ints) in
     let rise : to_z w64 (of_z w64 (pos 0 -ℤ to_z w64 (of_z w64 f.rise))) ≡ neg_ℤ f.rise = omega (arith, ints) in
-    negated f.t0 f.v0 f.rise _ _ _ f.run f.positive _ t t0 v0 rise
+    negated f.t0 f.v0 f.rise f.positive _ t t0 v0 rise

@@ -1,7 +1,6 @@
 use Rattle.std.proofs.Common.{rules, to_z-of_z, FitsSigned, ◌≡◌, pos, ◌+ℤ◌, arith, to_z, of_z}
 use Rattle.std.proofs.lemmas.Int.{ints, fits_signed_from_abs}
 use mir.Syntax.{w64}
-use Rattle.rational.specs.Rational.{whole}
 use Rattle.frac128.proofs.Plains.{value_at_base, value_at_end}
 use Rattle.frac128.proofs.ramp.Ramp.plain.Goals as goal
 

@@ -9,4 +9,4 @@ returns-clause-value c = λ t.
     let t0 : to_z w64 (of_z w64 (to_z w64 (of_z w64 f.t0) -ℤ to_z w64 (of_z w64 c.args.by))) ≡ f.t0 -ℤ c.args.by = omega (arith, ints) in
     let v0 : to_z w64 (of_z w64 f.v0) ≡ f.v0 = search (rules, to_z-of_z) in
     let rise : to_z w64 (of_z w64 f.rise) ≡ f.rise = search (rules, to_z-of_z) in
-    shifted f.t0 f.v0 f.rise _ _ _ c.args.by f.run f.positive _ t t0 v0 rise
+    shifted f.t0 f.v0 f.rise c.args.by f.positive _ t t0 v0 rise

@@ -1,5 +1,4 @@
-use Rattle.std.proofs.Common.{refl}
-use Rattle.rational.proofs.Order.{le_of_lt, le_of_same, ge_of_same, le_refl, same_refl, same_sym}
+use Rattle.rational.proofs.Order.{same_refl, same_sym}
 use Rattle.frac128.specs.Value.{value}
 use Rattle.pl_signal.proofs.Places.{says_equal, says_later}
 use Rattle.pl_signal.proofs.sample.Next.of.Goals as goal

@@ -63,8 +63,8 @@ returns-clause-worth g c =
     let tells = c.in_ok-part.ensures.worth in
     IfOk-weaker c.shifted.result _ _
     (λ r h. subst (λ z. Tells g.P.Shape (λ t v. IsWorth g.P.Shape c.args.self.now (add t (whole z)) v) (value c.args.from.now) (value c.args.to.now) r) e
-    (tells_through g.P.Shape c.args.self.now c.in_ok-part.part r (to_z w64 (of_z w64 c.args.by)) (value c.args.from.now) (value c.args.to.now)
-    (value c.shift-begin.result) (value c.shift-end.result) tells h c.shift-begin.ensures.value c.shift-end.ensures.value))
+    (tells_through g.P.Shape c.args.self.now r (to_z w64 (of_z w64 c.args.by)) (value c.args.from.now) (value c.args.to.now) tells h
+    c.shift-begin.ensures.value c.shift-end.ensures.value))
     c.shifted.ensures.worth
 
 pub returns-clause-bases : goal.returns-clause-bases

@@ -21,7 +21,7 @@ returns-in_err-took-clause-fault c =
     let whole : piece ≡ take at piece ++ (through_feed (drop at piece) ++ others) = sym (take-append-drop at piece) ∙ ap (λ t. take at piece ++ t) e in
     let f = rw take_rest at c.in_err-took.ensures.fault in
     rw (p.1, p.2) (λ bytes rows s. subst (λ l. IsFaultOfAll limits l (bytes ++ piece) x) c.loop-at.invariant.content.3
-    (fault_on limits c.loop-at.self.content.least bytes (take at piece) (through_feed (drop at piece)) others piece x whole
+    (fault_on limits c.loop-at.self.content.least bytes (take at piece) (through_feed (drop at piece)) others x whole
     (f (bytes ++ take at piece) rows (c.loop-at.invariant.stands bytes rows s))))
 
 pub returns-in_err-took-clause-before : goal.returns-in_err-took-clause-before
@@ -37,7 +37,7 @@ returns-in_err-took-clause-before c =
     let f = rw take_rest at c.in_err-took.ensures.before in
     rw (p.1, p.2) (λ bytes rows s. subst (λ h. HasReadBefore x.line h c.args.self.now.content.least (bytes ++ piece) rows) i.content.0
     (subst (λ l. HasReadBefore x.line content.heading l (bytes ++ piece) rows) i.content.3
-    (before_on x.line content.heading content.least rows bytes (take at piece) (through_feed (drop at piece)) others piece whole
+    (before_on x.line content.heading content.least rows bytes (take at piece) (through_feed (drop at piece)) others whole
     (f (bytes ++ take at piece) rows (i.stands bytes rows s)))))
 
 pub loop-at-preserved : goal.loop-at-preserved

@@ -10,7 +10,7 @@ use Rattle.trace_reader.specs.FieldFaults.{IsFieldRead}
 use Rattle.trace_reader.specs.Plain.{IsPlainValue, IsPlainRow}
 use Rattle.trace_reader.proofs.DigitLemmas.{value_fits}
 use Rattle.trace_reader.proofs.RowLemmas.{row_made}
-use Rattle.trace_reader.proofs.PlainLemmas.{IsPlainFront, front_first, front_next, front_longer, plain_row, some_to}
+use Rattle.trace_reader.proofs.PlainLemmas.{IsPlainFront, IsPlainWhole, front_first, front_next, front_longer, plain_row, some_to}
 use Rattle.trace_reader.proofs.room.Heading.read_plain.Goals as goal
 
 pub loop-most-init : goal.loop-most-init
@@ -91,5 +91,13 @@ returns c =
     let n : length (take at piece) ≡ at = length-take-le at piece (omega (arith, inv.within)) in
     let past : drop i self.heading.digits ≡ [] = drop_all i self.heading.digits (omega (arith, ap length e, c.loop-most-test.false)) in
     let w : i ≡ length self.heading.columns = omega (arith, items.width, c.loop-most-test.false, end) in
-    some_to c.line_end.result _ (λ k. IsPlainRow self piece k c.loop-most.row) (λ k h. plain_row self piece (take at piece) i c.loop-most.row k inv.front
-    (omega (arith, n, inv.short, items.few, end)) past w inv.width (record { time = inv.time; values = inv.small }) h.0 h.1) c.line_end.ensures
+    let row : IsPlainWhole self (take at piece) i c.loop-most.row = record {
+      front_is = inv.front;
+      past = past;
+      columns = w;
+      width = inv.width;
+      range = record { time = inv.time; values = inv.small };
+      short = omega (arith, n, inv.short, items.few, end);
+    } in
+    some_to c.line_end.result _ (λ k. IsPlainRow self piece k c.loop-most.row)
+    (λ k h. plain_row self piece (take at piece) i c.loop-most.row k row h.0 h.1) c.line_end.ensures
