@@ -214,12 +214,12 @@ keeps_out {P} shape side pos to parts best low_until items come k = record {
     by_kept t x h (inr (inr m)) = inr (inr m)
 
 -- after the first item has left its constant behind, its slope comes under the low end
-pub keeps_in : {P : Type 0} (shape : ShapeOf P) (side : Side) (pos : Turn) (to : Rational) (parts : List (Part P))
-    (best : Best P) (low_until : Turn) (first : Item P) (items : List (Item P)) (top : P)
+pub keeps_in : {P : Type 0} {to : Rational} {parts : List (Part P)} {items : List (Item P)} (shape : ShapeOf P) (side : Side) (pos : Turn)
+    (best : Best P) (low_until : Turn) (first : Item P) (top : P)
     → ((t : Rational) → HasCome first.until t → HasCome pos t) → best.low ≡ None → IsTop shape side items top
     → Keeps shape side pos to parts best low_until (first ∷ items)
     → Keeps shape side first.until to parts (record { top = top; low = slope_shape first.slope; high = best.high }) (slope_until first.slope low_until) items
-keeps_in {P} shape side pos to parts best low_until first items top come none is_top k = record {
+keeps_in {P} {to} {parts} {items} shape side pos best low_until first top come none is_top k = record {
   kept = λ t x h within one c. by_kept t x h (k.kept t x (come t h) within one c);
   backed = backed_later shape side pos first.until to come parts items k.backed.2;
   low = λ p e. by_slope p first.slope refl e;

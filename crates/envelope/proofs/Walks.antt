@@ -386,9 +386,9 @@ if_err (Ok x) A B f a = tt
 if_err (Err e) A B f a = f e a
 
 -- a refusal at the end tells a crossing of the pieces
-pub finish_stops : {P : Type 0} (shape : ShapeOf P) (laws : ShapeLaws shape) (turn : Turn) (old : Walk P) (kept : Option (WidePair P)) (e : OpFault P)
-    (side : Side) (start : Rational) (pos : Turn) (parts : List (Part P))
+pub finish_stops : {P : Type 0} {side : Side} {start : Rational} {pos : Turn} {parts : List (Part P)} (shape : ShapeOf P) (laws : ShapeLaws shape)
+    (turn : Turn) (old : Walk P) (kept : Option (WidePair P)) (e : OpFault P)
     → ((t : Rational) → HasCome turn t → HasCome pos t) → Walks shape side start (value turn.at) pos parts old
     → IsStoppedBy shape turn old kept → IsRefusal kept e → IsRefusedFor shape parts start (value turn.at) e
-finish_stops shape laws turn old kept e side start pos parts come w h is = refusal_tells shape laws parts start (value turn.at) kept e is
+finish_stops {side = side} {start} {pos} {parts} shape laws turn old kept e come w h is = refusal_tells shape laws parts start (value turn.at) kept e is
     (stops_of shape turn turn old kept side start (value turn.at) pos parts parts come (le_refl (value turn.at)) (λ x one. one) w h)

@@ -4,7 +4,7 @@ use Rattle.std.specs.Prelude.{Option, IfSome}
 use Rattle.rational.specs.Time.{Rational, shifted, ◌<ʳ◌, ◌≈◌}
 use Rattle.rational.specs.Extended.{Affine}
 use Rattle.rational.specs.Windows.{Function, Window, Ahead, Behind}
-use Rattle.rational.specs.InPlay.{IsBreakpoint, start, stop, inner, IsLeftLimit, IsRightLimit, Step, window_ahead}
+use Rattle.rational.specs.InPlay.{IsBreakpoint, start, stop, inner, IsLeftLimit, IsRightLimit, window_ahead}
 use Rattle.rational.specs.InPlay.{window_behind, until_end, since_start, IsEndBehind, IsEndPart, IsValueWithin}
 use Rattle.rational.specs.InPlay.{IsLimitWithin, IsNext, IsPrevious, IsCrossing, IsInPlay, IsWideCrossing, IsWideValue}
 use Rattle.rational.proofs.Order.{lt_of_le_of_lt, lt_of_lt_of_le, lt_trans, le_of_same, ge_of_same, same_trans}
@@ -138,18 +138,26 @@ module _ (from to from' to' : Rational) (begins : from ≈ from') (ends : to ≈
         by_side (inr (inr (inl f))) = inr (inr (inl (result.forth u v n.inside f)))
         by_side (inr (inr (inr l))) = inr (inr (inr (right_within from to R R' result n.inside.above (lt_trans n.before h) l)))
 
+-- a step and another on the same stretch, in which is in play whatever is in play in the first
+pub record GoesAlong (Step Other : Rational → Affine → Type 0) (from to from' to' : Rational) : Type 0 where
+  -- the two begin at one time
+  pub begins : from ≈ from'
+  -- and end at one time
+  pub ends : to ≈ to'
+  -- between them what is in play in the one step is in play in the other
+  pub forth : (tau : Rational) (line : Affine) → from <ʳ tau → tau <ʳ to → Step tau line → Other tau line
+
 -- a cause in the one step is a cause in the other
-pub crossing_along : (Step Other : Rational → Affine → Type 0) (from to from' to' : Rational) → from ≈ from' → to ≈ to'
-    → ((tau : Rational) (line : Affine) → from <ʳ tau → tau <ʳ to → Step tau line → Other tau line)
+pub crossing_along : {Step Other : Rational → Affine → Type 0} {from to from' to' : Rational} → GoesAlong Step Other from to from' to'
     → (p q : Affine) (a b : Rational) (den : ℕ) → IsWideCrossing Step from to p q a b den → IsWideCrossing Other from' to' p q a b den
-crossing_along Step Other from to from' to' begins ends forth p q a b den w = record {
+crossing_along along p q a b den w = record {
   tau = w.tau;
-  after_start = lt_of_le_of_lt (ge_of_same begins) w.after_start;
-  before_stop = lt_of_lt_of_le w.before_stop (le_of_same ends);
+  after_start = lt_of_le_of_lt (ge_of_same along.begins) w.after_start;
+  before_stop = lt_of_lt_of_le w.before_stop (le_of_same along.ends);
   above = w.above;
   below = w.below;
-  first = forth w.tau p w.after_start w.before_stop w.first;
-  second = forth w.tau q w.after_start w.before_stop w.second;
+  first = along.forth w.tau p w.after_start w.before_stop w.first;
+  second = along.forth w.tau q w.after_start w.before_stop w.second;
   meet = w.meet;
   alone = w.alone;
   denominator = w.denominator;
@@ -157,18 +165,17 @@ crossing_along Step Other from to from' to' begins ends forth p q a b den w = re
 }
 
 -- and so for a constant
-pub value_along : (Step Other : Rational → Affine → Type 0) (from to from' to' : Rational) → from ≈ from' → to ≈ to'
-    → ((tau : Rational) (line : Affine) → from <ʳ tau → tau <ʳ to → Step tau line → Other tau line)
+pub value_along : {Step Other : Rational → Affine → Type 0} {from to from' to' : Rational} → GoesAlong Step Other from to from' to'
     → (p : Affine) (u : Rational) (den : ℕ) → IsWideValue Step from to p u den → IsWideValue Other from' to' p u den
-value_along Step Other from to from' to' begins ends forth p u den w = record {
+value_along along p u den w = record {
   tau = w.tau;
-  after_start = lt_of_le_of_lt (ge_of_same begins) w.after_start;
-  before_stop = lt_of_lt_of_le w.before_stop (le_of_same ends);
+  after_start = lt_of_le_of_lt (ge_of_same along.begins) w.after_start;
+  before_stop = lt_of_lt_of_le w.before_stop (le_of_same along.ends);
   value = w.value;
   is_value = w.is_value;
   line = w.line;
   constant = w.constant;
-  in_play = forth w.tau w.line w.after_start w.before_stop w.in_play;
+  in_play = along.forth w.tau w.line w.after_start w.before_stop w.in_play;
   denominator = w.denominator;
   wide = w.wide;
 }

@@ -16,15 +16,15 @@ use Rattle.stl_syntax.specs.SupInf.{Setting}
 use Rattle.stl_syntax.specs.declared.node.Node.{Node}
 use Rattle.offline_eval.specs.Evaluation.{IsCauseAt}
 
-levels_never_cross : (InPlay : Rational → Affine → Type 0) (from to a b : Rational) (f g : Affine) (n m : ℤ) (den : ℕ) → f ≡ level n → g ≡ level m
-    → ¬ IsWideCrossing InPlay from to f g a b den
-levels_never_cross InPlay from to a b f g n m den e h w =
+levels_never_cross : {InPlay : Rational → Affine → Type 0} {from to : Rational} {den : ℕ} (a b : Rational) (f g : Affine) (n m : ℤ)
+    → f ≡ level n → g ≡ level m → ¬ IsWideCrossing InPlay from to f g a b den
+levels_never_cross a b f g n m e h w =
     steady_never_meet_alone f g a b w.tau (subst IsSteady (sym e) (level_steady n)) (subst IsSteady (sym h) (level_steady m))
     (record { after = w.above; before = w.below; meet = w.meet; alone = w.alone })
 
-level_never_wide : (InPlay : Rational → Affine → Type 0) (from to u : Rational) (f : Affine) (n : ℤ) (den : ℕ) → f ≡ level n
+level_never_wide : {InPlay : Rational → Affine → Type 0} {from to : Rational} {den : ℕ} (u : Rational) (f : Affine) (n : ℤ) → f ≡ level n
     → ¬ IsWideValue InPlay from to f u den
-level_never_wide InPlay from to u f n den h w =
+level_never_wide {den = den} u f n h w =
     let here : value_at f u ≈ᵉ finite (whole n) = subst (λ f. value_at f u ≈ᵉ finite (whole n)) (sym h) (level_is n u) in
     let e : finite w.value ≈ᵉ finite (whole n) = same_transᵉ (finite w.value) (value_at f u) (finite (whole n)) w.is_value here in
     let one : den ≡ 1 = denominator_unique den 1 (same_of_le e.at_most e.at_least) w.denominator (n, lowest_whole n, record { same = omega arith }) in
@@ -34,6 +34,6 @@ level_never_wide InPlay from to u f n den h w =
 pub levels_are_never_wide : {P : Type 0} (shape : ShapeOf P) (whole_of : P → ℤ) → ((p : P) → shape.function p ≡ level (whole_of p))
     → (nodes : List Node) (s : Setting) (i : ℕ) (pair : WidePair P) → ¬ IsCauseAt shape nodes s i pair
 levels_are_never_wide shape whole_of is nodes s i (Cross p q a b den) w =
-    levels_never_cross _ s.from s.to (value a) (value b) (shape.function p) (shape.function q) (whole_of p) (whole_of q) den (is p) (is q) w
+    levels_never_cross (value a) (value b) (shape.function p) (shape.function q) (whole_of p) (whole_of q) (is p) (is q) w
 levels_are_never_wide shape whole_of is nodes s i (Value p at den) w =
-    level_never_wide _ s.from s.to (value at) (shape.function p) (whole_of p) den (is p) w
+    level_never_wide (value at) (shape.function p) (whole_of p) (is p) w

@@ -162,7 +162,8 @@ module _ {P : Type 0} (shape : ShapeOf P) where
       → Tells shape B s.from s.to y
       → ((C : Step → Type 0) → C (of_two A B) → IsStepOf p s C) → IsFault shape (IsWorth shape x) (IsWorth shape y) (start x) (stop x) e → IsFaultOf shape s p e
   meeting_fault A B x y p s F.Memory left right is h = tt
-  meeting_fault A B x y p s (F.Wide (Cross a b l r den)) left right is h = crossing_along _ _ s.from s.to s.from s.to (same_refl s.from) (same_refl s.to)
-      (λ tau line k l i. is (λ step. IsInPlay step s.from s.to tau line) i) (shape.function a) (shape.function b) (value l) (value r) den
+  meeting_fault A B x y p s (F.Wide (Cross a b l r den)) left right is h = crossing_along
+      (record { begins = same_refl s.from; ends = same_refl s.to; forth = λ tau line k l i. is (λ step. IsInPlay step s.from s.to tau line) i })
+      (shape.function a) (shape.function b) (value l) (value r) den
       (met A B s.from s.to x y a b l r den left right h)
   meeting_fault A B x y p s (F.Wide (Value a at den)) left right is h = absurd h

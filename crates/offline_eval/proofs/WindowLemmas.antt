@@ -122,10 +122,12 @@ module _ {P : Type 0} (shape : ShapeOf P) where
       → ((C : Step → Type 0) → C other → IsStepOf p s C) → HasCause shape step from to e → IsFaultOf shape s p e
   cause_of step other from to p s F.Memory begins ends forth is h = tt
   cause_of step other from to p s (F.Wide (Cross a b l r den)) begins ends forth is h =
-      crossing_along _ _ from to s.from s.to begins ends (λ tau line k l i. is (λ step. IsInPlay step s.from s.to tau line) (forth tau line k l i))
+      crossing_along
+      (record { begins = begins; ends = ends; forth = λ tau line k l i. is (λ step. IsInPlay step s.from s.to tau line) (forth tau line k l i) })
       (shape.function a) (shape.function b) (value l) (value r) den h
   cause_of step other from to p s (F.Wide (Value a at den)) begins ends forth is h =
-      value_along _ _ from to s.from s.to begins ends (λ tau line k l i. is (λ step. IsInPlay step s.from s.to tau line) (forth tau line k l i))
+      value_along
+      (record { begins = begins; ends = ends; forth = λ tau line k l i. is (λ step. IsInPlay step s.from s.to tau line) (forth tau line k l i) })
       (shape.function a) (value at) den h
 
   -- for a window ahead

@@ -171,14 +171,14 @@ below_of : (z : ℤ) (x : ℕ) → part_below (z *ℤ pos x) ≡ part_below z * 
 below_of (pos n) x = omega arith
 below_of (negsuc n) x = minus_below (suc n * x)
 
-crossed : (x y D K den u v u' v' : ℕ) → u ≡ x * (D * K) → v ≡ y * (D * K) → u' ≡ x * D → v' ≡ y * D
+crossed : {u v u' v' : ℕ} (x y D K den : ℕ) → u ≡ x * (D * K) → v ≡ y * (D * K) → u' ≡ x * D → v' ≡ y * D
     → u * den + K * v' * den ≡ K * u' * den + v * den
-crossed x y D K den u v u' v' a b c d = rw (a, b, c, d) (omega arith)
+crossed x y D K den a b c d = rw (a, b, c, d) (omega arith)
 
 -- a number of units in smaller ticks
 ratio_by : (num : ℤ) (den : ℕ) (p : 0 < den) (D K : ℕ) → ratio (num *ℤ pos (D * K)) den p ≈ stretch K (ratio (num *ℤ pos D) den p)
 ratio_by num den p D K =
-    record { same = crossed (part_above num) (part_below num) D K den _ _ _ _ (above_of num (D * K)) (below_of num (D * K)) (above_of num D) (below_of num D) }
+    record { same = crossed (part_above num) (part_below num) D K den (above_of num (D * K)) (below_of num (D * K)) (above_of num D) (below_of num D) }
 
 -- a number times K
 times_part : (x y K den u v : ℕ) → u ≡ x * K → v ≡ y * K → u * den + K * y * den ≡ K * x * den + v * den

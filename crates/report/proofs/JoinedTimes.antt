@@ -239,16 +239,22 @@ parted : {A : Type 0} (line : A) (others lines before : List A) (l : A) (after :
 parted line others lines [] l after e f = inl (let g = sym f ∙ e in cc)
 parted line others lines (x ∷ before) l after e f = inr (before, (let g = sym e ∙ f in cc), (let g = sym e ∙ f in cc))
 
+-- a line that has joined `done` behind d, and the lines that it makes with the items to come, of which l is one
+record MakeLines (items : List Item) (l : Item) (after : List Item) (d : Item) (done : List Item) (line last : Item) (lines before : List Item) : Type 0 where
+  ends : EndsAs line last
+  has : Has d done line
+  joined : AreJoined line last items lines
+  is : lines ≡ before ++ l ∷ after
+
 -- where a line is left out, an item is, of those that it has joined and those to come
 Leave : List Item → Item → List Item → Type 0
 Leave items l after =
-    (d : Item) (done : List Item) (line last : Item) (lines before : List Item) → EndsAs line last → Has d done line
-    → AreJoined line last items lines → lines ≡ before ++ l ∷ after
+    (d : Item) (done : List Item) (line last : Item) (lines before : List Item) → MakeLines items l after d done line last lines before
     → IsWithout (d ∷ done ++ items) (before ++ after)
 
 leave_last : (l : Item) (after : List Item) → Leave [] l after
 unfolding Leave
-leave_last l after d done line last lines before s h j e = by_part (parted line [] lines before l after j e)
+leave_last l after d done line last lines before made = by_part (parted line [] lines before l after made.joined made.is)
   where
     by_part : ((before ++ after) ≡ []) ⊎ ((rest : List Item) × ((before ++ after) ≡ line ∷ (rest ++ after)) × ([] ≡ rest ++ l ∷ after))
         → IsWithout (d ∷ done ++ []) (before ++ after)
@@ -257,7 +263,7 @@ leave_last l after d done line last lines before s h j e = by_part (parted line 
 
 leave_more : (g : Item) (items : List Item) (l : Item) (after : List Item) → Leave items l after → Leave (g ∷ items) l after
 unfolding Leave
-leave_more g items l after rec d done line last lines before s h j e = by_next (next line last (g ∷ items) lines s j)
+leave_more g items l after rec d done line last lines before made = by_next (next line last (g ∷ items) lines made.ends made.joined)
   where
     by_part : (others : List Item) → AreJoined g g items others
         → ((before ++ after) ≡ others) ⊎ ((rest : List Item) × ((before ++ after) ≡ line ∷ (rest ++ after)) × (others ≡ rest ++ l ∷ after))
@@ -266,13 +272,14 @@ leave_more g items l after rec d done line last lines before s h j e = by_next (
         (subst (λ zs. SayMore zs (g ∷ items)) (sym k) (items_say g g items others (ends_as_itself g) more))
     by_part others more (inr (rest, k, f)) =
         subst (λ zs. IsWithout (d ∷ done ++ g ∷ items) zs) (sym k)
-        (without_later d done (g ∷ items) (rest ++ after) line h (rec g [] g g others rest (ends_as_itself g) (record { says = λ i b t n. n }) more f))
+        (without_later d done (g ∷ items) (rest ++ after) line made.has (rec g [] g g others rest
+        (record { ends = ends_as_itself g; has = record { says = λ i b t n. n }; joined = more; is = f })))
 
     by_next : Next line last (g ∷ items) lines → IsWithout (d ∷ done ++ g ∷ items) (before ++ after)
     by_next (longer long m ends more) =
         subst (λ zs. IsWithout (d ∷ zs) (before ++ after)) (append_assoc done (g ∷ []) items)
-        (rec d (done ++ g ∷ []) long g lines before ends (has_more d done line g long h m) more e)
-    by_next (other others is more) = by_part others more (parted line others lines before l after is e)
+        (rec d (done ++ g ∷ []) long g lines before (record { ends = ends; has = has_more d done line g long made.has m; joined = more; is = made.is }))
+    by_next (other others is more) = by_part others more (parted line others lines before l after is made.is)
 
 leave : (items : List Item) (l : Item) (after : List Item) → Leave items l after
 leave [] l after = leave_last l after
@@ -283,4 +290,5 @@ pub line_without : (items lines before : List Item) (l : Item) (after : List Ite
     → lines ≡ before ++ l ∷ after → IsWithout items (before ++ after)
 unfolding Leave
 line_without [] lines before l after j e = absurd (none_in before l after (sym e ∙ j))
-line_without (g ∷ items) lines before l after j e = leave items l after g [] g g lines before (ends_as_itself g) (record { says = λ i b t k. k }) j e
+line_without (g ∷ items) lines before l after j e = leave items l after g [] g g lines before
+    (record { ends = ends_as_itself g; has = record { says = λ i b t k. k }; joined = j; is = e })

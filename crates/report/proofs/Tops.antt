@@ -41,9 +41,9 @@ nat_abs-signed true (suc n) = refl
 nat_abs-signed false n = refl
 
 -- a size and a power of ten without their common factor, and the denominator times what is left of the power, have no common factor
-lowest_in_units : (negative : Bool) (size d t n q g : ℕ) → 0 < t → 0 < q → IsLowest (signed negative size) d → IsGcd size t g
+lowest_in_units : {size d t : ℕ} (negative : Bool) (n q g : ℕ) → 0 < t → 0 < q → IsLowest (signed negative size) d → IsGcd size t g
     → n * g ≡ size → q * g ≡ t → IsLowest (signed negative n) (d * q)
-lowest_in_units negative size d t n q g p some low common e f = record {
+lowest_in_units {size} {d} {t} negative n q g p some low common e f = record {
   positive = mul-pos low.positive some;
   coprime = λ k a b.
       let in_n : k ∣ n = subst (λ x. k ∣ x) (nat_abs-signed negative n) (dvd_of_Divides k (nat_abs (signed negative n)) a) in
@@ -88,7 +88,7 @@ is_in_units digits v negative size d g p same low some common =
     let f = div-mul_cancel g common.1 in
     let rest : 0 < 10 ^ digits / g = factor_pos (10 ^ digits / g) g (10 ^ digits) tens f in
     record {
-      lowest = lowest_in_units negative size d (10 ^ digits) (size / g) (10 ^ digits / g) g tens rest low common e f;
+      lowest = lowest_in_units negative (size / g) (10 ^ digits / g) g tens rest low common e f;
       same = record { same = (same_trans same (same_in_units negative size d (10 ^ digits) (size / g) (10 ^ digits / g) g p (mul-pos p rest) e f)).same };
       unsigned_zero = λ h z. let k = factor_pos (size / g) g size (some h) e in absurd (omega arith);
     }

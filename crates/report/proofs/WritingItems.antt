@@ -12,12 +12,12 @@ use Rattle.report.specs.Report.{IsItemLines, AreItemLines}
 use Rattle.report.proofs.ItemTexts.{items_exist, lines_join, line_of_one}
 
 -- a text that grows by four pieces
-pub four_pieces : (old t u v w a b c d : List ℕ) → t ≡ old ++ a → u ≡ t ++ b → v ≡ u ++ c → w ≡ v ++ d → w ≡ old ++ (a ++ b ++ c ++ d)
-four_pieces old t u v w a b c d e f g h = h ∙ ap (λ s. s ++ d) (g ∙ ap (λ s. s ++ c) (f ∙ ap (λ s. s ++ b) e)) ∙ simp append_assoc
+pub four_pieces : {t u v w : List ℕ} (old a b c d : List ℕ) → t ≡ old ++ a → u ≡ t ++ b → v ≡ u ++ c → w ≡ v ++ d → w ≡ old ++ (a ++ b ++ c ++ d)
+four_pieces old a b c d e f g h = h ∙ ap (λ s. s ++ d) (g ∙ ap (λ s. s ++ c) (f ∙ ap (λ s. s ++ b) e)) ∙ simp append_assoc
 
 -- and by three
-pub three_pieces : (old t u v a b c : List ℕ) → t ≡ old ++ a → u ≡ t ++ b → v ≡ u ++ c → v ≡ old ++ (a ++ b ++ c)
-three_pieces old t u v a b c e f g = g ∙ ap (λ s. s ++ c) (f ∙ ap (λ s. s ++ b) e) ∙ simp append_assoc
+pub three_pieces : {t u v : List ℕ} (old a b c : List ℕ) → t ≡ old ++ a → u ≡ t ++ b → v ≡ u ++ c → v ≡ old ++ (a ++ b ++ c)
+three_pieces old a b c e f g = g ∙ ap (λ s. s ++ c) (f ∙ ap (λ s. s ++ b) e) ∙ simp append_assoc
 
 -- the lines of the items up to a place are written; the lines of the rest, whatever they are, stand behind them
 pub record AreWrittenTo (scale : Scale) (f : Formula) (items : List Item) (old : List ℕ) (i : ℕ) (text : List ℕ) : Type 0 where
@@ -35,10 +35,10 @@ pub written_none : (scale : Scale) (f : Formula) (items : List Item) (old : List
 written_none scale f items old = record { within = omega arith; before = []; lines = λ others h. h; grew = ([], refl, sym (append-nil old)) }
 
 -- one line more
-pub written_more : (scale : Scale) (f : Formula) (items : List Item) (old : List ℕ) (i n : ℕ) (text new : List ℕ) (line : Item)
+pub written_more : {scale : Scale} {f : Formula} {items : List Item} {old : List ℕ} {i : ℕ} {text new : List ℕ} (n : ℕ) (line : Item)
     → AreWrittenTo scale f items old i text → n ≤ length items
     → IsFirstLine (drop i items) (drop n items) line → Grew (IsItemLine scale f line) text new → AreWrittenTo scale f items old n new
-written_more scale f items old i n text new line w within first (here, is, e) = record {
+written_more {scale} {f} {items} {old} n line w within first (here, is, e) = record {
   within = within;
   before = w.before ++ line ∷ [];
   lines = λ others h. subst (IsItemLines items) (sym (append_assoc w.before (line ∷ []) others)) (w.lines (line ∷ others) (first.before others h));
@@ -74,10 +74,10 @@ atom_of_line f items i n line all h first =
     (own.0, ap (λ n. slice_get f.nodes n) same ∙ own.1)
 
 -- a part of one line more, behind which the rest has lines
-pub part_more : (scale : Scale) (f : Formula) (items : List Item) (old : List ℕ) (i n : ℕ) (text new : List ℕ) (line : Item)
+pub part_more : {scale : Scale} {f : Formula} {items : List Item} {old : List ℕ} {i : ℕ} {text new : List ℕ} (n : ℕ) (line : Item)
     → All (IsOfAtom f) items → AreWrittenTo scale f items old i text
     → IsFirstLine (drop i items) (drop n items) line → GrewInPart (IsItemLine scale f line) text new → GrewInPart (AreItemsText scale f items) old new
-part_more scale f items old i n text new line all w first (here, rest, is, e) =
+part_more {scale} {f} {items} {old} n line all w first (here, rest, is, e) =
     let later = items_exist scale f (drop n items) (All-drop (IsOfAtom f) n items all) in
     let lines : IsItemLines items (w.before ++ (line ∷ later.1.lines)) = w.lines (line ∷ later.1.lines) (first.before later.1.lines later.1.joined) in
     let written : AreItemLines scale f (w.before ++ (line ∷ later.1.lines)) (w.grew.0 ++ ((here ++ rest) ++ later.0)) =

@@ -1,5 +1,5 @@
 -- A window behind as a window from one offset to another, both negative.
-use Rattle.std.proofs.Common.{arith, ◌≡◌, ◌⊎◌, inl, inr, ℕ, ◌+◌, ◌-◌, ◌^◌, ℤ, pos, List, Bool, true, false, Option, None, Some, sym, subst}
+use Rattle.std.proofs.Common.{arith, ◌≡◌, ◌⊎◌, inl, inr, ℕ, ◌-◌, ◌^◌, ℤ, pos, List, Bool, true, false, Option, None, Some, sym, subst}
 use Rattle.std.specs.Prelude.{neg_ℤ, ◌-ℤ◌, ◌+ℤ◌, IfSome}
 use Rattle.std.proofs.lemmas.Int.{ints}
 use Rattle.rational.specs.Rational.{whole}

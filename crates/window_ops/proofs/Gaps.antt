@@ -23,7 +23,7 @@ use Rattle.pl_signal.proofs.Limits.{limits_bounded, worth_bounded}
 use Rattle.envelope.specs.declared.turns.Turn.{Turn}
 use Rattle.envelope.specs.declared.walk.Slope.{Slope}
 use Rattle.envelope.specs.declared.walk.Walk.{Walk}
-use Rattle.envelope.specs.Turns.{HasCome, IsToCome, IsNoBetter, none_of}
+use Rattle.envelope.specs.Turns.{HasCome, IsToCome, none_of}
 use Rattle.envelope.specs.Standing.{Part}
 use Rattle.envelope.proofs.TurnOrder.{at_of_come}
 use Rattle.envelope.proofs.Bests.{no_better_same, no_better_trans}

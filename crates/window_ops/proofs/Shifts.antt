@@ -1,5 +1,5 @@
 -- Times and shapes moved by an offset.
-use Rattle.std.proofs.Common.{arith, ◌≡◌, Result, Ok, Err, ℤ, pos, ◌^◌, ◌≤◌, ◌∙◌, ap, sym, to_z, of_z, w64, lit<}
+use Rattle.std.proofs.Common.{arith, ◌≡◌, Result, Ok, Err, ℤ, pos, ◌^◌, ◌∙◌, ap, sym, to_z, of_z, w64, lit<}
 use Rattle.std.specs.Prelude.{◌-ℤ◌, neg_ℤ, ◌≤ℤ◌, OnOk}
 use Rattle.std.proofs.lemmas.Int.{to_z-of_z, ints}
 use Rattle.rational.specs.Rational.{IsWithin, add, whole, FitsFloor}

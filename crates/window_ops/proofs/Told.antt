@@ -1,5 +1,5 @@
 -- The signal that a walk over all pieces ends with tells the best over the window.
-use Rattle.std.proofs.Common.{◌≡◌, ◌⊎◌, arith, inl, inr, ℕ, zero, suc, pos, ◌+◌, ◌<◌, ◌^◌, length, List}
+use Rattle.std.proofs.Common.{◌≡◌, ◌⊎◌, arith, inl, inr, ℕ, zero, suc, ◌+◌, ◌<◌, length, List}
 use Rattle.std.proofs.Common.{[], ◌∷◌, Option, None, Some, false, true, refl, sym, ap, ◌∙◌, subst}
 use Rattle.std.specs.Prelude.{IfSome, neg_ℤ, slice_get}
 use Rattle.std.proofs.lemmas.Bool.{false≢true}
@@ -19,12 +19,7 @@ use Rattle.pl_signal.specs.declared.knot.Knot.{Knot}
 use Rattle.pl_signal.specs.declared.faults.OpFault.{OpFault}
 use Rattle.pl_signal.specs.declared.faults.WidePair.{WidePair}
 use Rattle.pl_signal.specs.declared.faults.OpFault.TheVariants as F
-use Rattle.pl_signal.specs.Knots.{IsSignal, IsWorth, start, stop, time}
-use Rattle.pl_signal.specs.Limits.{IsLimited}
-use Rattle.frac128.specs.declared.frac.Frac.{Frac}
-use Rattle.rational.specs.Rational.{whole}
-use Rattle.window_ops.specs.Conditions.{AreNear}
-use Rattle.window_ops.proofs.Instants.{start_to_stop}
+use Rattle.pl_signal.specs.Knots.{IsWorth, start, stop, time}
 use Rattle.pl_signal.specs.Moves.{Tells}
 use Rattle.pl_signal.proofs.Telling.{IsFunction, told}
 use Rattle.pl_signal.proofs.Values.{some_is, stop_at, worth_within}
@@ -37,7 +32,7 @@ use Rattle.envelope.proofs.Walks.{take_later}
 use Rattle.envelope.proofs.Bests.{no_better_trans}
 use Rattle.window_ops.specs.declared.offsets.Offsets.{Offsets}
 use Rattle.window_ops.specs.declared.offsets.Way.{Way}
-use Rattle.window_ops.specs.Over.{BasesOver, BestOver, HasCauseOver, IsCauseOver, IsMovedOver, IsSmall, IsWorse, Over}
+use Rattle.window_ops.specs.Over.{BasesOver, BestOver, HasCauseOver, IsCauseOver, IsMovedOver, IsWorse, Over}
 use Rattle.window_ops.specs.Going.{HasMet, HasRefused, InDomain, IsCovered, IsFaultOf, IsLeft, IsWay, StandsBy, turn_of}
 use Rattle.window_ops.proofs.Covering.{precedes_to_come, strictly_come, strictly_to_come}
 use Rattle.window_ops.proofs.Ends.{come_at, le_shifted, shift_forth}
@@ -167,23 +162,6 @@ pub knot_there : {A : Type 0} (xs : List A) (i : ℕ) → i < length xs → (x :
 knot_there [] i h = absurd (omega arith)
 knot_there (x ∷ xs) zero h = (x, refl)
 knot_there (x ∷ xs) (suc i) h = knot_there xs i (omega arith)
-
--- the way of a signal
-pub is_way_of : {P : Type 0} (shape : ShapeOf P) (laws : ShapeLaws shape) (knots : List (Knot P)) (side : Side) (over : Offsets) (begin end : Frac)
-    → value begin ≡ start knots → value end ≡ stop knots
-    → IsSignal shape knots → IsLimited shape knots → AreNear shape knots → whole (pos 0) ≤ʳ start knots → stop knots ≤ʳ whole (pos (2 ^ 32)) → IsSmall over
-    → IsWay shape knots (record { side = side; over = over; start = begin; stop = end })
-is_way_of shape laws knots side over begin end starts stops signal limited near first last small = record {
-  starts = starts;
-  stops = stops;
-  signal = signal;
-  limited = limited;
-  near = near;
-  order = start_to_stop shape laws knots signal;
-  first = first;
-  last = last;
-  small = small;
-}
 
 -- the first knot stands at the start
 first_knot : {P : Type 0} (knots : List (Knot P)) (k : Knot P) → slice_get knots 0 ≡ Some k → start knots ≡ time k

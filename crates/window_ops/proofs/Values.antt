@@ -1,7 +1,7 @@
 -- Values that are better and worse for a side, and what is reached.
 use Rattle.std.proofs.Common.{◌⊎◌, inl, inr}
-use Rattle.rational.specs.Time.{Rational, ◌≤ʳ◌, ◌<ʳ◌, ◌≈◌}
-use Rattle.rational.specs.Extended.{Extended, Affine, value_at, ◌≤ᵉ◌, ◌≈ᵉ◌}
+use Rattle.rational.specs.Time.{Rational, ◌<ʳ◌, ◌≈◌}
+use Rattle.rational.specs.Extended.{Extended, Affine, value_at, ◌≈ᵉ◌}
 use Rattle.rational.specs.Windows.{Function, Window}
 use Rattle.rational.proofs.ExtendedLemmas.{le_totalᵉ, lt_of_lt_of_leᵉ, lt_of_le_of_ltᵉ, clashᵉ}
 use Rattle.rational.proofs.AffineLemmas.{near_start, near_stop, above_start, above_stop, value_same}
@@ -51,16 +51,18 @@ near_end Greatest f l r w order (inr h) = near_stop f l r w order h
 near_end Least f l r w order (inl h) = above_start f l r w order h
 near_end Least f l r w order (inr h) = above_stop f l r w order h
 
+-- what is worse than the value at an end of a stretch is so by the name that the stretch has for it
+worse_at_end : (side : Side) (f : Affine) (l r e : Rational) (w : Extended) → (e ≈ l) ⊎ (e ≈ r) → IsWorse side w (value_at f e)
+    → IsWorse side w (value_at f l) ⊎ IsWorse side w (value_at f r)
+worse_at_end side f l r e w (inl s) worse = inl (worse_than_better side w (value_at f e) (value_at f l) worse
+    (no_better_of_same side (value_at f e) (value_at f l) (value_same f s)))
+worse_at_end side f l r e w (inr s) worse = inr (worse_than_better side w (value_at f e) (value_at f r) worse
+    (no_better_of_same side (value_at f e) (value_at f r) (value_same f s)))
+
 -- the value at an end of a stretch on which the function is a line, in the window, is reached
 pub reaches_end : (side : Side) (none : Extended) (W : Window) (F : Function) (f : Affine) (l r e : Rational) → l <ʳ r → (e ≈ l) ⊎ (e ≈ r)
     → ((t : Rational) → l <ʳ t → t <ʳ r → W t × F t (value_at f t)) → Reaches side none W F (value_at f e)
-reaches_end side none W F f l r e order is on w floor worse =
-    let (t, after, before, m) = near_end side f l r w order (by_end is) in
+reaches_end side none W F f l r e order is on = λ w floor worse.
+    let (t, after, before, m) = near_end side f l r w order (worse_at_end side f l r e w is worse) in
     let (inside, has) = on t after before in
     (t, value_at f t, inside, has, m)
-  where
-    by_end : (e ≈ l) ⊎ (e ≈ r) → IsWorse side w (value_at f l) ⊎ IsWorse side w (value_at f r)
-    by_end (inl s) = inl (worse_than_better side w (value_at f e) (value_at f l) worse (no_better_of_same side
-        (value_at f e) (value_at f l) (value_same f s)))
-    by_end (inr s) = inr (worse_than_better side w (value_at f e) (value_at f r) worse (no_better_of_same side
-        (value_at f e) (value_at f r) (value_same f s)))

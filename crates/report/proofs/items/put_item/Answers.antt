@@ -42,7 +42,7 @@ returns-in_err-put_span-clause-err c =
     let said : c.push-2.new.self ≡ c.push.new.self ++ words = c.in_ok-push-2.ensures.ok ∙ ap (λ b. c.push.new.self ++ b) c.truth_on.ensures in
     part_in P c.from_residual-in_err-put_span.result (name ++ words ++ (g.0 ++ g.1) ++ newline) c.args.text.now c.put_span.new.text
     (name ++ words ++ g.0) (g.1 ++ newline) line (simp append_assoc)
-    (three_pieces c.args.text.now c.push.new.self c.push-2.new.self c.put_span.new.text name words g.0 named said g.3)
+    (three_pieces c.args.text.now name words g.0 named said g.3)
 
 pub returns-clause-ok : goal.returns-clause-ok
 returns-clause-ok c =
@@ -57,7 +57,7 @@ returns-clause-ok c =
     (λ h. (
       name ++ words ++ g.0 ++ newline,
       line,
-      four_pieces c.args.text.now c.push.new.self c.push-2.new.self c.put_span.new.text c.push-3.new.self name words g.0 newline named said g.2 h,
+      four_pieces c.args.text.now name words g.0 newline named said g.2 h,
     ))
     c.push-3.ensures.ok
 
@@ -75,6 +75,6 @@ returns-clause-err c =
       name ++ words ++ g.0,
       newline,
       line,
-      h ∙ three_pieces c.args.text.now c.push.new.self c.push-2.new.self c.put_span.new.text name words g.0 named said g.2,
+      h ∙ three_pieces c.args.text.now name words g.0 named said g.2,
     ))
     c.push-3.ensures.err

@@ -11,15 +11,13 @@ put_item-requires-clause-atom c =
 
 pub loop-i-preserved : goal.loop-i-preserved
 loop-i-preserved c =
-    written_more c.args.scale c.args.formula.now c.args.items.now c.args.text.now c.loop-i.i c.line_from-end.result.1
-    c.loop-i.text c.put_item.new.text c.line_from-end.result.0
+    written_more c.line_from-end.result.1 c.line_from-end.result.0
     c.loop-i.invariant c.line_from-end.ensures.within c.line_from-end.ensures.line c.in_ok-put_item.ensures.ok
 
 pub returns-in_err-put_item-clause-err : goal.returns-in_err-put_item-clause-err
 returns-in_err-put_item-clause-err c =
     on_err c.from_residual.result
-    (part_more c.args.scale c.args.formula.now c.args.items.now c.args.text.now c.loop-i.i c.line_from-end.result.1 c.loop-i.text
-    c.put_item.new.text c.line_from-end.result.0 c.requires.atoms
+    (part_more c.line_from-end.result.1 c.line_from-end.result.0 c.requires.atoms
     c.loop-i.invariant c.line_from-end.ensures.line c.in_err-put_item.ensures.err)
 
 pub returns-clause-ok : goal.returns-clause-ok

@@ -1,4 +1,4 @@
-use Rattle.std.proofs.Common.{arith, ◌≡◌, ℕ, ◌-◌, pos, Bool, true, sym, subst}
+use Rattle.std.proofs.Common.{arith, ◌≡◌, ℕ, pos, Bool, true, sym, subst}
 use Rattle.rational.proofs.Order.{le_of_lt}
 use Rattle.pl_signal.specs.declared.joining.Side.TheVariants.{Least}
 use Rattle.pl_signal.specs.Knots.{start, stop, IsWorth}

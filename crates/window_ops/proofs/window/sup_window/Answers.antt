@@ -1,4 +1,4 @@
-use Rattle.std.proofs.Common.{◌-◌, pos, subst}
+use Rattle.std.proofs.Common.{pos, subst}
 use Rattle.rational.proofs.Order.{le_of_lt}
 use Rattle.pl_signal.specs.declared.joining.Side.TheVariants.{Greatest}
 use Rattle.pl_signal.specs.Knots.{start, stop}

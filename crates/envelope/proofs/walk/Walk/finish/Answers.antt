@@ -14,5 +14,5 @@ returns-in-Ok-clause-fault g c = if_err c.into_signal.result _ _ (λ e is side s
 
 pub returns-in-Err-clause-fault : goal.returns-in-Err-clause-fault
 returns-in-Err-clause-fault g c side start pos parts come w = finish_stops g.P.Shape (assumption g.met.P.Shape)
-    (record { at = c.args.stop.now; just_after = true }) c.args.self c.end.new.self.course.fault c.refusal.result side start pos parts come w
+    (record { at = c.args.stop.now; just_after = true }) c.args.self c.end.new.self.course.fault c.refusal.result come w
     c.in-Err.ensures.fault c.refusal.ensures

@@ -41,7 +41,7 @@ returns-clause-passed g c =
     (subst (λ u. Keeps g.P.Shape old.side first.until to parts
     (record { top = c.top.result; low = slope_shape first.slope; high = old.after.high }) u items)
     (sym c.until_of-self.ensures)
-    (keeps_in g.P.Shape old.side pos to parts old.after low_until first items c.top.result
+    (keeps_in g.P.Shape old.side pos old.after low_until first c.top.result
     (λ u h. s.later u (subst (λ o. MatchOption o (HasCome first.until u) (λ _. HasCome low_until u))
     (sym c.requires.low) h)) c.requires.low c.top.ensures s.keeps)))
     (λ q e u h. ((can_slide_in g.P.Shape old c.turn.new.self low_until c.until_of-self.result first items next
