@@ -148,12 +148,12 @@ refused_next f r (Some c) bytes piece line x k e fault = inr (λ y lack. by_head
     by_heading (Some h) t y lack = no_lack t.2 r.limits false piece y lack
 
 -- a front of the bytes to read next is one of the piece
-pub front_same : (case : Option Case) (piece line : List ℕ) (k : ℕ) → IsNext case piece line → k ≤ length line → take k line ≡ take k piece
+front_same : (case : Option Case) (piece line : List ℕ) (k : ℕ) → IsNext case piece line → k ≤ length line → take k line ≡ take k piece
 front_same None piece line k one within = ap (take k) one ∙ taken_of k piece (subst (λ l. k ≤ length l) one within)
 front_same (Some c) piece line k e within = ap (take k) e
 
 -- where no header was read there is no case, and so a line at most comes next
-pub first_next : (f : Formula) (o : Option Heading) (bytes : List ℕ) (rows : List Row) (case : Option Case) (piece line : List ℕ)
+first_next : (f : Formula) (o : Option Heading) (bytes : List ℕ) (rows : List Row) (case : Option Case) (piece line : List ℕ)
     → HasCase f o bytes rows case → o ≡ None → IsNext case piece line
     → line ≡ through_feed piece
 first_next f o bytes rows None piece line t e n = n
@@ -168,10 +168,10 @@ pub record HasHeaderLine (limits : Limits) (least : Scale) (bytes : List ℕ) (n
   pub clean : (ended : Bool) (more : List ℕ) (x : TraceRefusal) → ¬ FaultFrom limits least false 1 (take n (lines ended (bytes ++ more))) x
 
 -- what came with the header's line
-pub header_came : (old new : Reader) (bytes taken w : List ℕ) (rows later : List Row) (h : Heading) → StandsFor old bytes rows → old.heading ≡ None
-    → StandsFor new (bytes ++ taken) later → new.heading ≡ Some h → HasNoFeed w → taken ≡ w ++ 10 ∷ []
+pub header_came : {old new : Reader} {bytes taken : List ℕ} {rows later : List Row} {h : Heading} (w : List ℕ) → StandsFor old bytes rows
+    → old.heading ≡ None → StandsFor new (bytes ++ taken) later → new.heading ≡ Some h → HasNoFeed w → taken ≡ w ++ 10 ∷ []
     → (g : Heading) × (header_of new.least h ≡ header_of new.least g) × HasHeaderLine new.limits new.least (bytes ++ taken) new.begun g
-header_came old new bytes taken w rows later h s first t some free is =
+header_came {new = new} {bytes = bytes} {taken = taken} {later = later} w s first t some free is =
     let (n, g, at, e) = header_of_lines (subst (λ o. HasRead o new.least (bytes ++ taken) later) some t.read) in
     (g, e, line n g at)
   where
@@ -224,29 +224,6 @@ heading_of least (Some h) header e = (h, refl, let k : header ≡ header_of leas
 pub header_ticks : {limits : Limits} {least : Scale} {bytes : List ℕ} {n : ℕ} {g : Heading} → HasHeaderLine limits least bytes n g
     → IsScale least → IsScale (scale_of least g)
 header_ticks {limits} {least} {bytes} {n} {g} line s = let (fs, is) = heading_is (line.at false []) in ticks_small least fs g s is
-
--- what is kept once the header was read
-pub kept_begun : (f : Formula) (old new : Reader) (case : Option Case) (bytes more : List ℕ) (n : ℕ) (h g : Heading) (c : Case)
-    (k : IsKept f old case bytes) → old.heading ≡ None
-    → StandsFor new more k.rows → new.least ≡ f.scale → new.heading ≡ Some h → HasHeaderLine new.limits f.scale more n g
-    → IsBegun f n g c → IsKept f new (Some c) more
-kept_begun f old new case bytes more n h g c k first s least some line begun = record {
-  rows = [];
-  ticks = k.ticks;
-  least = least;
-  stands = subst (StandsFor new more) (k.stands.taken.goes_on.blank first).1 s;
-  has_case = subst (λ o. HasCase f o more [] (Some c)) (sym some) (
-    begun.case,
-    ap (λ (t : Trace). t.rows) begun.trace,
-    record {
-      line = n;
-      heading = g;
-      is = ap (λ (t : Trace). t.header) begun.trace;
-      at = line.at;
-      fits = begun.fits;
-    },
-  );
-}
 
 -- what goes on
 has_case_on : (f : Formula) (o : Option Heading) (bytes more : List ℕ) (rows : List Row) (case : Option Case)
@@ -305,6 +282,21 @@ kept_row f old new case bytes more r k s least same can = record {
       (has_case_on f old.heading bytes more (k.rows ++ r ∷ []) (option_map (with_row r) case) (with_next f old.heading bytes k.rows case r k.has_case can));
 }
 
+-- a push came to this event: `k` of the bytes that it was handed were taken
+pub record Pushed (old new : Reader) (line : List ℕ) (k : ℕ) (event : Event) : Type 0 where
+  -- no more than there were
+  pub within : k ≤ length line
+  -- what the event says of the reader
+  pub came : HasCome event old new (take k line)
+  -- the reader stands for the bytes that were taken
+  pub stands : (bytes : List ℕ) (rows : List Row) → StandsFor old bytes rows → StandsFor new (bytes ++ take k line) (rows_after event rows new.row)
+  -- a row goes on from those before it
+  pub next : (bytes : List ℕ) (rows : List Row) → StandsFor old bytes rows → IsNextRow event new.heading rows new.row
+  -- the limits stay
+  pub limits : new.limits ≡ old.limits
+  -- and the ticks that are read
+  pub least : new.least ≡ old.least
+
 -- a push of a line's bytes that came to the header
 pub record HeaderStep (f : Formula) (old new : Reader) (rows : List Row) (bytes piece : List ℕ) (k : ℕ) (header : Header) : Type 0 where
   -- the heading that was read
@@ -327,41 +319,40 @@ pub record HeaderStep (f : Formula) (old new : Reader) (rows : List Row) (bytes 
   pub left : bytes ++ piece ≡ (bytes ++ take k piece) ++ drop k piece
 
 -- a piece that ends the header's line comes to this
-pub header_step : (f : Formula) (old new : Reader) (case : Option Case) (bytes piece line : List ℕ) (k : ℕ) (event : Event)
-    (header : Header) (kept : IsKept f old case bytes)
-    → line ≡ through_feed piece → k ≤ length line → event ≡ IsTheHeader → HasCome event old new (take k line)
-    → StandsFor new (bytes ++ take k line) (rows_after event kept.rows new.row) → new.limits ≡ old.limits → new.least ≡ old.least
-    → header_read new ≡ Some header
+pub header_step : {f : Formula} {old new : Reader} {case : Option Case} {bytes line : List ℕ} {k : ℕ} {event : Event} {header : Header} (piece : List ℕ)
+    (kept : IsKept f old case bytes) → Pushed old new line k event → IsNext case piece line → event ≡ IsTheHeader → header_read new ≡ Some header
     → HeaderStep f old new kept.rows bytes piece k header
-header_step f old new case bytes piece line k event header kept one within is came stands limits least read =
+header_step {f} {old} {new} {case} {bytes} {line} {k} {header = header} piece kept push next is read =
     by_parts (heading_of new.least new.heading header read)
   where
+    here : HasCome IsTheHeader old new (take k line)
+    here = subst (λ (e : Event). HasCome e old new (take k line)) is push.came
+
+    one : line ≡ through_feed piece
+    one = first_next f old.heading bytes kept.rows case piece line kept.has_case here.0 next
+
     short : k ≤ length (through_feed piece)
-    short = subst (λ l. k ≤ length l) one within
+    short = subst (λ l. k ≤ length l) one push.within
 
     same : take k line ≡ take k piece
     same = ap (take k) one ∙ taken_of k piece short
-
-    here : HasCome IsTheHeader old new (take k line)
-    here = subst (λ (e : Event). HasCome e old new (take k line)) is came
 
     closed : (w : List ℕ) × HasNoFeed w × (take k (through_feed piece) ≡ w ++ 10 ∷ [])
     closed = fed_line k (through_feed piece) (through_line piece) (subst (λ l. EndsWithFeed (take k l)) one here.4)
 
     after : StandsFor new (bytes ++ take k piece) kept.rows
     after = subst (λ t. StandsFor new (bytes ++ t) kept.rows) same
-        (subst (λ (e : Event). StandsFor new (bytes ++ take k line) (rows_after e kept.rows new.row)) is stands)
+        (subst (λ (e : Event). StandsFor new (bytes ++ take k line) (rows_after e kept.rows new.row)) is (push.stands bytes kept.rows kept.stands))
 
     scale : new.least ≡ f.scale
-    scale = least ∙ kept.least
+    scale = push.least ∙ kept.least
 
     by_parts : (h : Heading) × (new.heading ≡ Some h) × (header ≡ header_of new.least h) → HeaderStep f old new kept.rows bytes piece k header
     by_parts (h, some, e) =
         let (w, free, taken) = closed in
-        let (g, agrees, at) =
-        header_came old new bytes (take k piece) w kept.rows kept.rows h kept.stands here.0 after some free (sym (taken_of k piece short) ∙ taken) in
+        let (g, agrees, at) = header_came w kept.stands here.0 after some free (sym (taken_of k piece short) ∙ taken) in
         let line = subst (λ (s : Scale). HasHeaderLine old.limits s (bytes ++ take k piece) new.begun g) scale
-        (subst (λ (l : Limits). HasHeaderLine l new.least (bytes ++ take k piece) new.begun g) limits at) in
+        (subst (λ (l : Limits). HasHeaderLine l new.least (bytes ++ take k piece) new.begun g) push.limits at) in
         record {
           heading = h;
           some = some;
@@ -374,6 +365,28 @@ header_step f old new case bytes piece line k event header kept one within is ca
           left = left_over bytes piece k short ∙ ap (λ t. (bytes ++ t) ++ drop k piece) (taken_of k piece short);
         }
 
+-- what is kept once the header was read
+pub kept_begun : {f : Formula} {old new : Reader} {case : Option Case} {bytes piece line : List ℕ} {k : ℕ} {event : Event} {header : Header} {c : Case}
+    (kept : IsKept f old case bytes) → Pushed old new line k event → (s : HeaderStep f old new kept.rows bytes piece k header)
+    → IsBegun f new.begun s.columns c → IsKept f new (Some c) (bytes ++ take k piece)
+kept_begun {f} {new = new} {bytes = bytes} {piece = piece} {k = k} {c = c} kept push s begun = record {
+  rows = [];
+  ticks = kept.ticks;
+  least = push.least ∙ kept.least;
+  stands = subst (StandsFor new (bytes ++ take k piece)) (kept.stands.taken.goes_on.blank s.first).1 s.stands;
+  has_case = subst (λ o. HasCase f o (bytes ++ take k piece) [] (Some c)) (sym s.some) (
+    begun.case,
+    ap (λ (t : Trace). t.rows) begun.trace,
+    record {
+      line = new.begun;
+      heading = s.columns;
+      is = ap (λ (t : Trace). t.header) begun.trace;
+      at = s.line.at;
+      fits = begun.fits;
+    },
+  );
+}
+
 -- a push of a line's bytes that came to a row
 pub record RowStep (old new : Reader) (case : Option Case) (rows : List Row) (bytes piece : List ℕ) (k : ℕ) : Type 0 where
   -- the heading stays
@@ -384,25 +397,25 @@ pub record RowStep (old new : Reader) (case : Option Case) (rows : List Row) (by
   pub can : CanKeep case new.row
 
 -- a piece that ends a row's line comes to this
-pub row_step : (f : Formula) (old new : Reader) (case : Option Case) (bytes piece line : List ℕ) (k : ℕ) (event : Event) (kept : IsKept f old case bytes)
-    → take k line ≡ take k piece → event ≡ IsARow → HasCome event old new (take k line)
-    → StandsFor new (bytes ++ take k line) (rows_after event kept.rows new.row) → IsNextRow event new.heading kept.rows new.row
+pub row_step : {f : Formula} {old new : Reader} {case : Option Case} {bytes line : List ℕ} {k : ℕ} {event : Event} (piece : List ℕ)
+    (kept : IsKept f old case bytes) → Pushed old new line k event → IsNext case piece line → event ≡ IsARow
     → RowStep old new case kept.rows bytes piece k
-row_step f old new case bytes piece line k event kept same is came stands next = record {
+row_step {f} {old} {new} {case} {bytes} {line} {k} piece kept push next is = record {
   same = here.1;
-  stands = subst (λ t. StandsFor new (bytes ++ t) (kept.rows ++ new.row ∷ [])) same
-      (subst (λ (e : Event). StandsFor new (bytes ++ take k line) (rows_after e kept.rows new.row)) is stands);
-  can = can_keep f old case bytes new.heading new.row kept here.1 (subst (λ (e : Event). IsNextRow e new.heading kept.rows new.row) is next);
+  stands = subst (λ t. StandsFor new (bytes ++ t) (kept.rows ++ new.row ∷ [])) (front_same case piece line k next push.within)
+      (subst (λ (e : Event). StandsFor new (bytes ++ take k line) (rows_after e kept.rows new.row)) is (push.stands bytes kept.rows kept.stands));
+  can = can_keep f old case bytes new.heading new.row kept here.1
+      (subst (λ (e : Event). IsNextRow e new.heading kept.rows new.row) is (push.next bytes kept.rows kept.stands));
 }
   where
     here : HasCome IsARow old new (take k line)
-    here = subst (λ (e : Event). HasCome e old new (take k line)) is came
+    here = subst (λ (e : Event). HasCome e old new (take k line)) is push.came
 
 -- a push of a line's bytes that came to nothing
-pub nothing_step : (f : Formula) (old new : Reader) (case : Option Case) (bytes piece line : List ℕ) (k : ℕ) (event : Event) (kept : IsKept f old case bytes)
-    → take k line ≡ take k piece → event ≡ Nothing → HasCome event old new (take k line)
-    → StandsFor new (bytes ++ take k line) (rows_after event kept.rows new.row) → new.least ≡ old.least → IsKept f new case (bytes ++ take k piece)
-nothing_step f old new case bytes piece line k event kept same is came stands least =
-    let here : HasCome Nothing old new (take k line) = subst (λ (e : Event). HasCome e old new (take k line)) is came in
-    let after = subst (λ (e : Event). StandsFor new (bytes ++ take k line) (rows_after e kept.rows new.row)) is stands in
-    kept_on f old new case bytes (take k piece) kept (subst (λ t. StandsFor new (bytes ++ t) kept.rows) same after) least here.0
+pub nothing_step : {f : Formula} {old new : Reader} {case : Option Case} {bytes line : List ℕ} {k : ℕ} {event : Event} (piece : List ℕ)
+    (kept : IsKept f old case bytes) → Pushed old new line k event → IsNext case piece line → event ≡ Nothing → IsKept f new case (bytes ++ take k piece)
+nothing_step {f} {old} {new} {case} {bytes} {line} {k} piece kept push next is =
+    let here : HasCome Nothing old new (take k line) = subst (λ (e : Event). HasCome e old new (take k line)) is push.came in
+    let after = subst (λ (e : Event). StandsFor new (bytes ++ take k line) (rows_after e kept.rows new.row)) is (push.stands bytes kept.rows kept.stands) in
+    kept_on f old new case bytes (take k piece) kept
+    (subst (λ t. StandsFor new (bytes ++ t) kept.rows) (front_same case piece line k next push.within) after) push.least here.0

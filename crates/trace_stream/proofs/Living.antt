@@ -16,7 +16,7 @@ use Rattle.trace_reader.proofs.ReaderTakes.{through_parts}
 use Rattle.trace_stream.specs.Streams.{Stream, StreamText, StreamOf}
 use Rattle.trace_reader.specs.InputFaults.{Fault, of_trace, line_of, IsHeaderAt, IsLack, IsInputFault, faulted, faulted_header}
 use Rattle.trace_stream.specs.Cases.{IsCase, IsLacking, IsNoBegin, IsHeaderOf, with_row}
-use Rattle.trace_stream.specs.CaseReader.{IsWhole, IsKept, HasCase, IsRefused, IsEnded, IsLastFault, of_header, own}
+use Rattle.trace_stream.specs.CaseReader.{IsKept, HasCase, IsRefused, IsEnded, IsLastFault, of_header, own}
 use Rattle.trace_stream.specs.Following.{Follows, IsTextOf, IsFollowed, IsOpened, IsComplete, IsEndedOut, IsHeldUp}
 use Rattle.trace_stream.specs.Following.{IsLive, IsLiveOpen, IsLastTaken, IsOver, IsLiveStop, IsOpenStop}
 use Rattle.trace_stream.specs.declared.case.Case.{Case}
@@ -358,19 +358,19 @@ module _ {F : Type 0} (Stands Owes : F → Case → List ℕ → Type 0) (kind :
   )
 
 -- the end was taken
-pub over_of : {F : Type 0} (Stands Ended : F → Case → List ℕ → Type 0) (kind : Stream) (limits : Limits) (f : Formula)
-    (before : Option F) (live : Live F) (bytes written old : List ℕ) (case : Case)
-    (r : Result Bool StreamStop) → IsCase f case → IsWhole limits f bytes case.trace → IsFollowed Stands kind before (Some case) (written ++ old)
-    → IfOk r (IsEndedOut Ended kind live.follower case old live.text (written ++ old)) → IfErr r (IsHeldUp kind (Some case) true old live.text)
+pub over_of : {F : Type 0} {Stands : F → Case → List ℕ → Type 0} {kind : Stream} {limits : Limits} {f : Formula} {before : Option F} {bytes : List ℕ}
+    (Ended : F → Case → List ℕ → Type 0) (live : Live F) (written old : List ℕ) (r : Result Bool StreamStop)
+    → (last : IsLastTaken Stands kind limits f before bytes (written ++ old))
+    → IfOk r (IsEndedOut Ended kind live.follower last.case old live.text (written ++ old)) → IfErr r (IsHeldUp kind (Some last.case) true old live.text)
     → MatchResult r (IsOver Ended kind limits f live bytes (written ++ live.text)) (λ e. IsLiveStop kind limits f true bytes (written ++ live.text) e)
-over_of Stands Ended kind limits f before live bytes written old case (Ok holds) fits trace was (x, is, (grown, e, complete)) held = record {
-  case = case;
-  fits = fits;
-  trace = trace;
+over_of {kind = kind} Ended live written old (Ok holds) last (x, is, (grown, e, complete)) held = record {
+  case = last.case;
+  fits = last.fits;
+  trace = last.trace;
   follower = x;
   is = is;
-  complete = subst (λ made. IsComplete (Ended x) kind case made holds) (sym (more_text written old live.text grown e)) complete;
+  complete = subst (λ made. IsComplete (Ended x) kind last.case made holds) (sym (more_text written old live.text grown e)) complete;
 }
-over_of Stands Ended kind limits f before live bytes written old case (Err e) fits trace was ok held =
-    end_held Stands kind limits f bytes true bytes [] (sym (append-nil bytes)) true (λ k. (refl, refl)) before case written old live.text e refl
-    (record { fits = fits; sound = trace.sound; read = trace.trace.text.read }) was held
+over_of {Stands = Stands} {kind} {limits} {f} {before} {bytes} Ended live written old (Err e) last ok held =
+    end_held Stands kind limits f bytes true bytes [] (sym (append-nil bytes)) true (λ k. (refl, refl)) before last.case written old live.text e refl
+    (record { fits = last.fits; sound = last.trace.sound; read = last.trace.trace.text.read }) last.followed held

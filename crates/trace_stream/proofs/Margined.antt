@@ -75,10 +75,10 @@ none_taken g m text s = record {
 }
 
 -- one line more
-pub one_taken : (g : Given) (m : Margins) (net : Parts) (last : LastPart) (line : MarginLine) (old mid new here : List ℕ) (h : HasTaken g m old mid)
-    → IsGiven g.nodes g.header g.past (g.lines ++ h.more) net line → IsPartLine m.formula.scale (part_of line) here → new ≡ mid ++ here
-    → HasTaken g (record m { net = net; last = last }) old new
-one_taken g m net last line old mid new here h given is longer =
+pub one_taken : {g : Given} {m : Margins} {net : Parts} {line : MarginLine} {old mid new : List ℕ} (last : LastPart) (here : List ℕ)
+    → (h : HasTaken g m old mid) → IsGiven g.nodes g.header g.past (g.lines ++ h.more) net line → IsPartLine m.formula.scale (part_of line) here
+    → new ≡ mid ++ here → HasTaken g (record m { net = net; last = last }) old new
+one_taken {g} {m} {net} {line} {old} last here h given is longer =
     let (text, lines, e) = h.text in
     record {
       more = h.more ++ line ∷ [];

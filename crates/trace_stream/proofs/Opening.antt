@@ -13,7 +13,7 @@ use Rattle.trace_stream.specs.Streams.{verdicts}
 use Rattle.trace_stream.specs.Watching.{IsWatched, IsOwing}
 use Rattle.trace_stream.specs.declared.case.Case.{Case}
 use Rattle.trace_stream.specs.declared.verdicts.Verdicts.{Verdicts}
-use Rattle.trace_stream.proofs.Owing.{owes_first, owes_more, owing_places, owing_rows}
+use Rattle.trace_stream.proofs.Owing.{KeepsTime, owes_first, owes_more, owing_places, owing_rows}
 use Rattle.trace_stream.proofs.WatchedRows.{fits_width, fits_time, places, later_row}
 
 -- what has no length is empty
@@ -66,12 +66,10 @@ module _ (v : Verdicts) (c : Case) (made : List ℕ) where
   -- a row more, whose text is owed
   pub owes_on : IsOpened → node_is_atom v.network.formula.nodes (length v.network.formula.nodes - 1) ≡ false → (after : Verdicts) (r : Row)
       → ((nodes : List Node) (header : Header) (events : List Event) → Stands nodes header v.network.net events
-      → Stands nodes header after.network.net (events ++ row r ∷ [])) → after.network.formula ≡ v.network.formula
-      → after.network.start ≡ v.network.start → after.horizon ≡ v.horizon → after.times.items ≡ v.times.items ++ r.time ∷ [] → after.pending ≡ v.pending
-      → IsOwing after (with_row r c) made
-  owes_on (inl k) e after r stands formula start horizon times pending =
+      → Stands nodes header after.network.net (events ++ row r ∷ [])) → KeepsTime v after r → IsOwing after (with_row r c) made
+  owes_on (inl k) e after r stands by =
       owes_first v after c made r k
       (ap (λ (f : Formula). node_is_atom f.nodes (length f.nodes - 1)) (sym k.stands.formula) ∙ e)
-      (stands c.formula.nodes c.trace.header k.stands.events k.stands.stands) formula start horizon times pending
-  owes_on (inr o) e after r stands formula start horizon times pending =
-      owes_more v after c made r o (stands c.formula.nodes c.trace.header o.events o.stands) formula start horizon times pending
+      (stands c.formula.nodes c.trace.header k.stands.events k.stands.stands) by
+  owes_on (inr o) e after r stands by =
+      owes_more v after c made r o (stands c.formula.nodes c.trace.header o.events o.stands) by

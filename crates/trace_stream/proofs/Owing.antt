@@ -251,18 +251,24 @@ times_more : (rows : List Row) (r : Row) → map (λ (q : Row). q.time) (rows ++
 times_more [] r = refl
 times_more (q ∷ rows) r = ap (λ l. q.time ∷ l) (times_more rows r)
 
+-- beside the network's parts, what a row whose text is owed changes: its time is kept
+pub record KeepsTime (v after : Verdicts) (r : Row) : Type 0 where
+  pub formula : after.network.formula ≡ v.network.formula
+  pub start : after.network.start ≡ v.network.start
+  pub horizon : after.horizon ≡ v.horizon
+  pub times : after.times.items ≡ v.times.items ++ r.time ∷ []
+  pub pending : after.pending ≡ v.pending
+
 -- the first row whose text is owed
 pub owes_first : (v after : Verdicts) (c : Case) (made : List ℕ) (r : Row) → (k : Follows (λ case text. IsWatched false v case) verdicts c made)
     → node_is_atom c.formula.nodes (length c.formula.nodes - 1) ≡ false
-    → Stands c.formula.nodes c.trace.header after.network.net (k.stands.events ++ row r ∷ []) → after.network.formula ≡ v.network.formula
-    → after.network.start ≡ v.network.start → after.horizon ≡ v.horizon → after.times.items ≡ v.times.items ++ r.time ∷ [] → after.pending ≡ v.pending
-    → IsOwing after (with_row r c) made
-owes_first v after c made r k no_atom stands formula start same_horizon times pending =
+    → Stands c.formula.nodes c.trace.header after.network.net (k.stands.events ++ row r ∷ []) → KeepsTime v after r → IsOwing after (with_row r c) made
+owes_first v after c made r k no_atom stands by =
     let w = k.stands in
     record {
       fits = (k.fits.0, record { formula = k.fits.1.formula; bound = k.fits.1.bound });
-      formula = formula ∙ w.formula;
-      horizon = same_horizon ∙ w.horizon;
+      formula = by.formula ∙ w.formula;
+      horizon = by.horizon ∙ w.horizon;
       no_atom = no_atom;
       before = c.trace.rows;
       more = [];
@@ -273,21 +279,19 @@ owes_first v after c made r k no_atom stands formula start same_horizon times pe
       stands = stands;
       emitted = w.emitted;
       is_emitted = w.is_emitted;
-      start = start ∙ w.start;
-      times = times ∙ ap (λ l. l ++ r.time ∷ []) w.no_times;
-      none_pending = pending ∙ w.none_pending;
+      start = by.start ∙ w.start;
+      times = by.times ∙ ap (λ l. l ++ r.time ∷ []) w.no_times;
+      none_pending = by.pending ∙ w.none_pending;
       told = k.told;
     }
 
 -- and one more
 pub owes_more : (v after : Verdicts) (c : Case) (made : List ℕ) (r : Row) → (o : IsOwing v c made)
-    → Stands c.formula.nodes c.trace.header after.network.net (o.events ++ row r ∷ []) → after.network.formula ≡ v.network.formula
-    → after.network.start ≡ v.network.start → after.horizon ≡ v.horizon → after.times.items ≡ v.times.items ++ r.time ∷ [] → after.pending ≡ v.pending
-    → IsOwing after (with_row r c) made
-owes_more v after c made r o stands formula start same_horizon times pending = record {
+    → Stands c.formula.nodes c.trace.header after.network.net (o.events ++ row r ∷ []) → KeepsTime v after r → IsOwing after (with_row r c) made
+owes_more v after c made r o stands by = record {
   fits = (o.fits.0, record { formula = o.fits.1.formula; bound = o.fits.1.bound });
-  formula = formula ∙ o.formula;
-  horizon = same_horizon ∙ o.horizon;
+  formula = by.formula ∙ o.formula;
+  horizon = by.horizon ∙ o.horizon;
   no_atom = o.no_atom;
   before = o.before;
   more = o.more ++ o.last ∷ [];
@@ -302,9 +306,9 @@ owes_more v after c made r o stands formula start same_horizon times pending = r
   stands = stands;
   emitted = o.emitted;
   is_emitted = o.is_emitted;
-  start = start ∙ o.start;
-  times = times ∙ ap (λ l. l ++ r.time ∷ []) o.times ∙ sym (times_more (o.more ++ o.last ∷ []) r);
-  none_pending = pending ∙ o.none_pending;
+  start = by.start ∙ o.start;
+  times = by.times ∙ ap (λ l. l ++ r.time ∷ []) o.times ∙ sym (times_more (o.more ++ o.last ∷ []) r);
+  none_pending = by.pending ∙ o.none_pending;
   told = o.told;
 }
 

@@ -44,8 +44,8 @@ within_suc : (k n l : ℕ) → k + n < l → k + suc n ≤ l
 within_suc k n l h = omega (arith, h)
 
 -- of m verdicts one more is taken
-fewer_left : (a b e f s t n m : ℕ) → a ≡ e - s → b ≡ f - t → s ≡ n → t ≡ suc n → e ≡ m → f ≡ m → n < m → b < a
-fewer_left a b e f s t n m x y old new size size' within = omega (arith, x, y, old, new, size, size', within)
+fewer_left : {a b e f s t : ℕ} (n m : ℕ) → a ≡ e - s → b ≡ f - t → s ≡ n → t ≡ suc n → e ≡ m → f ≡ m → n < m → b < a
+fewer_left n m x y old new size size' within = omega (arith, x, y, old, new, size, size', within)
 
 -- where nothing stands at the next place all are taken
 all_of : (t l g k : ℕ) → t ≡ k → l ≡ g → l ≤ t → k ≤ g → k ≡ g
@@ -144,7 +144,7 @@ module _ (nodes : List Node) (header : Header) where
       (emitted_alike nodes header (length nodes - 1) (events ++ taken ∷ []) r'.emitted next.emitted r'.is_emitted given) in
       let old : length (held_at net.edges (length nodes - 1)) ≡ length r.emitted - r.taken = ap length r.is ∙ length-drop r.taken r.emitted in
       let new : length (held_at net'.edges (length nodes - 1)) ≡ length r'.emitted - r'.taken = ap length r'.is ∙ length-drop r'.taken r'.emitted in
-      fewer_left _ _ _ _ _ _ next.taken (length next.emitted) old new same same' size size' within
+      fewer_left next.taken (length next.emitted) old new same same' size size' within
 
   -- the same by the number of the network's operators
   pub measure_falls : (events : List Event) (net net' : Parts) (v : Verdict) → Stands nodes header net events → IsNext nodes header events (Some v)

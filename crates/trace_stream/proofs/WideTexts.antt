@@ -34,15 +34,22 @@ no_rows_made (at_row before r needed told) e = absurd (some before e)
 no_rows_made {f} {header} (at_end {rows = rows} {text = text} needed told) e =
     subst (λ rs. IsMarginStream (root (scaled f header.scale).nodes) header rs false text → text ≡ []) (sym e) (λ k. k) told
 
+-- these bytes are the first of others, or all of them; they have ended only where all have
+pub record AreFirst (seen : List ℕ) (seen_end : Bool) (bytes : List ℕ) (ended : Bool) : Type 0 where
+  -- the bytes that follow them
+  pub later : List ℕ
+  -- all of them
+  pub parts : bytes ≡ seen ++ later
+  -- none follow their end
+  pub at_end : seen_end ≡ true → (ended ≡ true) × (later ≡ [])
+
 -- of the bytes up to the refusal, and of those that follow them
-pub wide_text_of_all : (f : Formula) (seen : List ℕ) (seen_end : Bool) (i den : ℕ) (text later bytes : List ℕ) (ended : Bool)
-    (all : List ℕ) → bytes ≡ seen ++ later
-    → (seen_end ≡ true → (ended ≡ true) × (later ≡ [])) → IsWideByRow (limits_of margins) f seen seen_end i den text
-    → OwesRows margins f bytes ended all → IsLonger text all
-wide_text_of_all f seen seen_end i den text later bytes ended all parts at w owed = by_end w.seen_end refl
+pub wide_text_of_all : {f : Formula} {seen : List ℕ} {seen_end : Bool} {i den : ℕ} {text bytes : List ℕ} {ended : Bool} {all : List ℕ}
+    → AreFirst seen seen_end bytes ended → IsWideByRow (limits_of margins) f seen seen_end i den text → OwesRows margins f bytes ended all → IsLonger text all
+wide_text_of_all {f} {text = text} {bytes = bytes} {ended = ended} {all = all} first w owed = by_end w.seen_end refl
   where
-    whole : bytes ≡ w.seen ++ (w.later ++ later)
-    whole = parts ∙ ap (λ b. b ++ later) w.parts ∙ append_assoc w.seen w.later later
+    whole : bytes ≡ w.seen ++ (w.later ++ first.later)
+    whole = first.parts ∙ ap (λ b. b ++ first.later) w.parts ∙ append_assoc w.seen w.later first.later
 
     going : GoesOnFrom (Some w.header) w.rows owed.header owed.rows → IsLonger text all
     going (from_none none) = (all, ap (λ t. t ++ all) (sym (no_rows_made w.cause none)))
@@ -52,14 +59,14 @@ wide_text_of_all f seen seen_end i den text later bytes ended all parts at w owe
 
     by_end : (b : Bool) → w.seen_end ≡ b → IsLonger text all
     by_end false e =
-        going (rows_go_on (limits_of margins) f w.seen (w.later ++ later) ended
+        going (rows_go_on (limits_of margins) f w.seen (w.later ++ first.later) ended
         (sound (subst (λ (x : Bool). IsSound (limits_of margins) f w.seen x) e w.sound)
         (subst (λ (x : Bool). TraceOf w.seen x f.scale w.header w.rows) e w.read))
         (subst (λ b. AreRowsBefore (limits_of margins) f b ended owed.header owed.rows owed.whole) whole owed.before))
     by_end true e =
         let mid = w.at_end e in
-        let last = at mid.0 in
-        let same : bytes ≡ w.seen = whole ∙ ap (λ b. w.seen ++ (b ++ later)) mid.1 ∙ ap (λ b. w.seen ++ b) last.1 ∙ append-nil w.seen in
+        let last = first.at_end mid.0 in
+        let same : bytes ≡ w.seen = whole ∙ ap (λ b. w.seen ++ (b ++ first.later)) mid.1 ∙ ap (λ b. w.seen ++ b) last.1 ∙ append-nil w.seen in
         let once = rows_once (limits_of margins) f w.seen true
         (sound (subst (λ (x : Bool). IsSound (limits_of margins) f w.seen x) e w.sound)
         (subst (λ (x : Bool). TraceOf w.seen x f.scale w.header w.rows) e w.read))

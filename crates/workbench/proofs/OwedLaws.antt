@@ -14,7 +14,7 @@ use Rattle.report.specs.Report.{Command, check, robust, explain, json, table, Ou
 use Rattle.report.specs.Table.{AreRecords, heading}
 use Rattle.report.proofs.StreamTexts.{IsLonger}
 use Rattle.trace_stream.proofs.OwedRows.{stream_owed_once, stream_owed_grows}
-use Rattle.trace_stream.proofs.WideTexts.{wide_text_of_all}
+use Rattle.trace_stream.proofs.WideTexts.{AreFirst, wide_text_of_all}
 use Rattle.session_mux.proofs.OwedLines.{lines_owed_once, lines_owed_grow}
 use Rattle.report.proofs.OneText.{number_once, value_once, verdicts_once, start_once, margins_once}
 use Rattle.workbench.proofs.ExplainTexts.{explain_once}
@@ -28,34 +28,32 @@ use Rattle.workbench.specs.InputFaults.{whole_limits}
 -- ---- streams
 
 -- what was owed for the first of the bytes, or for all of them, is the front of what is owed for all
-owed_of_all : (s : Stream) (f : Formula) (seen later bytes : List ℕ) (seen_end ended : Bool) (text all : List ℕ) → bytes ≡ seen ++ later
-    → (seen_end ≡ true → (ended ≡ true) × (later ≡ [])) → OwesRows s f seen seen_end text → OwesRows s f bytes ended all → IsLonger text all
-owed_of_all s f seen later bytes false ended text all parts at o owed =
-    stream_owed_grows s f seen later ended text all o (subst (λ bs. OwesRows s f bs ended all) parts owed)
-owed_of_all s f seen later bytes true ended text all parts at o owed =
-    let done = at refl in
-    let same : bytes ≡ seen = parts ∙ ap (λ l. seen ++ l) done.1 ∙ append-nil seen in (
+owed_of_all : {f : Formula} {seen bytes : List ℕ} {ended : Bool} {text all : List ℕ} (s : Stream) (seen_end : Bool)
+    → AreFirst seen seen_end bytes ended → OwesRows s f seen seen_end text → OwesRows s f bytes ended all → IsLonger text all
+owed_of_all {f} {seen} {ended = ended} {text = text} {all = all} s false first o owed =
+    stream_owed_grows s f seen first.later ended text all o (subst (λ bs. OwesRows s f bs ended all) first.parts owed)
+owed_of_all {f} {seen} {bytes} {ended} {text} {all} s true first o owed =
+    let done = first.at_end refl in
+    let same : bytes ≡ seen = first.parts ∙ ap (λ l. seen ++ l) done.1 ∙ append-nil seen in (
       [],
       stream_owed_once s f seen true all text
           (subst (λ (e : Bool). OwesRows s f seen e all) done.0 (subst (λ bs. OwesRows s f bs ended all) same owed)) o ∙ sym (append-nil text),
     )
 
 -- so is what is due for them
-due_of_all : (s : Stream) (f : Formula) (seen later bytes : List ℕ) (seen_end ended : Bool) (text all : List ℕ) → bytes ≡ seen ++ later
-    → (seen_end ≡ true → (ended ≡ true) × (later ≡ [])) → IsDue (stream s f) seen seen_end text → OwesRows s f bytes ended all → IsLonger text all
-due_of_all verdicts f seen later bytes seen_end ended text all parts at due owed =
-    owed_of_all verdicts f seen later bytes seen_end ended text all parts at due owed
-due_of_all early f seen later bytes seen_end ended text all parts at due owed = owed_of_all early f seen later bytes seen_end ended text all parts at due owed
-due_of_all margins f seen later bytes seen_end ended text all parts at (inl due) owed =
-    owed_of_all margins f seen later bytes seen_end ended text all parts at due owed
-due_of_all margins f seen later bytes seen_end ended text all parts at (inr (i, den, w)) owed =
-    wide_text_of_all f seen seen_end i den text later bytes ended all parts at w owed
+due_of_all : {f : Formula} {seen bytes : List ℕ} {ended : Bool} {all : List ℕ} (s : Stream) (seen_end : Bool) (text : List ℕ)
+    → AreFirst seen seen_end bytes ended → IsDue (stream s f) seen seen_end text → OwesRows s f bytes ended all → IsLonger text all
+due_of_all verdicts seen_end text first due owed = owed_of_all verdicts seen_end first due owed
+due_of_all early seen_end text first due owed = owed_of_all early seen_end first due owed
+due_of_all margins seen_end text first (inl due) owed = owed_of_all margins seen_end first due owed
+due_of_all margins seen_end text first (inr (i, den, w)) owed = wide_text_of_all first w owed
 
 -- what was written and a rest were due for the bytes that were answered: then it is the front of what is owed for all that were read
 pub begun_of_all : (s : Stream) (f : Formula) (bytes : List ℕ) (ended : Bool) (text rest all : List ℕ)
     → IsBegun (stream s f) bytes ended text rest → OwesRows s f bytes ended all → IsLonger text all
 begun_of_all s f bytes ended text rest all b owed =
-    let (more, e) = due_of_all s f b.seen b.later bytes b.seen_end ended (text ++ rest) all b.parts b.at_end b.owed owed in
+    let first : AreFirst b.seen b.seen_end bytes ended = record { later = b.later; parts = b.parts; at_end = b.at_end } in
+    let (more, e) = due_of_all s b.seen_end (text ++ rest) first b.owed owed in
     (rest ++ more, e ∙ append_assoc text rest more)
 
 -- ---- several sessions

@@ -10,13 +10,11 @@ take_end-requires g c =
 
 pub returns-clause-over : goal.returns-clause-over
 returns-clause-over g c = λ bytes written k.
-    let old = c.args.self.now in
     let last = c.last.new.self in
     let x = c.in_ok-last.ensures.last bytes written k in
-    over_of g.F.Follow.stands g.F.Follow.ended g.F.Follow.kind old.rows.limits old.formula last.follower
+    over_of g.F.Follow.ended
     (record { alloc = last.alloc; rows = last.rows; formula = last.formula; follower = c.take_end.new.follower; text = c.take_end.new.text })
-    bytes written last.text x.case c.take_end.result
-    x.fits x.trace x.followed (c.take_end.ensures.ok x.case (written ++ last.text) x.followed x.trace.trace.text.rising)
+    written last.text c.take_end.result x (c.take_end.ensures.ok x.case (written ++ last.text) x.followed x.trace.trace.text.rising)
     (c.take_end.ensures.err x.case (written ++ last.text) x.followed x.trace.trace.text.rising)
 
 pub returns-in_err-last-clause-over : goal.returns-in_err-last-clause-over

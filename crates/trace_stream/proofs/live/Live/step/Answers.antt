@@ -3,17 +3,22 @@ use Rattle.std.proofs.lemmas.Result.{err_from_is_err_and}
 use Rattle.std.specs.Prelude.{option_map}
 use Rattle.std.proofs.lemmas.Bool.{false≢true}
 use Rattle.stl_syntax.specs.Trace.{Row}
-use Rattle.trace_reader.specs.Reader.{HasCome}
-use Rattle.trace_reader.specs.declared.event.Event.{Event}
 use Rattle.trace_reader.specs.declared.refusal.Limits.{Limits}
 use Rattle.trace_stream.specs.Cases.{IsNoBegin, IsBegun, CanKeep, with_row}
 use Rattle.trace_stream.specs.Following.{IsOpened, IsHeldUp, IsOpenStop}
 use Rattle.trace_stream.specs.CaseReader.{IsKept}
 use Rattle.trace_stream.specs.declared.fault.StreamStop.{StreamStop}
-use Rattle.trace_stream.proofs.Feeding.{HasHeaderLine, front_same, first_next, header_step, row_step, nothing_step, kept_begun, kept_row}
+use Rattle.trace_stream.proofs.Feeding.{Pushed, header_step, row_step, nothing_step, kept_begun, kept_row}
 use Rattle.trace_stream.proofs.Living.{next_of, live_refused, live_lacks, none_open, open_of, open_held, more_text}
 use Rattle.trace_stream.proofs.Refused.{IsReadTo, read_of_kept, row_held}
+use Rattle.trace_stream.proofs.live.Live.step.Goals.{In-Ok}
 use Rattle.trace_stream.proofs.live.Live.step.Goals as goal
+
+-- what the push came to
+pushed : (g : _) (c : In-Ok g) → Pushed c.args.self.now.rows c.push.new.self c.next_bytes.result.now c.in-Ok.took.bytes c.in-Ok.took.event
+pushed g c =
+    let ok = c.in-Ok.ensures in
+    record { within = ok.within.0; came = ok.came; stands = ok.ok; next = ok.next; limits = ok.kept.0; least = ok.kept.1 }
 
 pub returns-in-Err-clause-taken : goal.returns-in-Err-clause-taken
 returns-in-Err-clause-taken g c = λ bytes written k.
@@ -24,15 +29,11 @@ returns-in-Err-clause-taken g c = λ bytes written k.
 pub follow_on-requires-clause-header : goal.follow_on-requires-clause-header
 follow_on-requires-clause-header g c =
     let k = c.requires.is in
-    let ok = c.in-Ok.ensures in
     let old = c.args.self.now in
-    let came = (subst (λ (e : Event). HasCome e old.rows c.push.new.self (take c.in-Ok.took.bytes c.next_bytes.result.now)) c.in-Header.is ok.came).0 in
-    let one = first_next old.formula old.rows.heading c.requires.bytes k.kept.rows k.case c.args.piece.now c.next_bytes.result.now k.kept.has_case came
-    (next_of g.F.Follow.stands g.F.Follow.owes g.F.Follow.kind old.follower k.case
-    (c.requires.written ++ old.text) c.args.piece.now c.next_bytes.result.now k.followed c.next_bytes.ensures.line) in
-    let s = header_step old.formula old.rows c.push.new.self k.case c.requires.bytes c.args.piece.now c.next_bytes.result.now
-    c.in-Ok.took.bytes c.in-Ok.took.event c.header.result.now k.kept one
-    ok.within.0 c.in-Header.is ok.came (ok.ok c.requires.bytes k.kept.rows k.kept.stands) ok.kept.0 ok.kept.1 c.header.ensures in
+    let next = next_of g.F.Follow.stands g.F.Follow.owes g.F.Follow.kind old.follower k.case
+    (c.requires.written ++ old.text) c.args.piece.now c.next_bytes.result.now k.followed c.next_bytes.ensures.line in
+    let push = pushed g (goal.at.follow_on-requires-clause-header g c).In-Ok in
+    let s = header_step c.args.piece.now k.kept push next c.in-Header.is c.header.ensures in
     (s.columns, s.is, s.ticks)
 
 pub follow_on-requires-clause-streamed : goal.follow_on-requires-clause-streamed
@@ -41,95 +42,75 @@ follow_on-requires-clause-streamed g c = c.requires.is.served
 pub returns-in_err-follow_on-in-Header-clause-taken : goal.returns-in_err-follow_on-in-Header-clause-taken
 returns-in_err-follow_on-in-Header-clause-taken g c =
     let p = err_from_is_err_and c.from_residual.result c.from_residual.ensures.1 in
-    rw (p.1, p.2) (λ bytes written k.
-    let ok = c.in-Ok.ensures in
+    let push = pushed g (goal.at.returns-in_err-follow_on-in-Header-clause-taken g c).In-Ok in
     let old = c.args.self.now in
-    let came = (subst (λ (e : Event). HasCome e old.rows c.push.new.self (take c.in-Ok.took.bytes c.next_bytes.result.now)) c.in-Header.is ok.came).0 in
-    let one = first_next old.formula old.rows.heading bytes k.kept.rows k.case c.args.piece.now c.next_bytes.result.now k.kept.has_case came
-    (next_of g.F.Follow.stands g.F.Follow.owes g.F.Follow.kind old.follower k.case
-    (written ++ old.text) c.args.piece.now c.next_bytes.result.now k.followed c.next_bytes.ensures.line) in
-    let s = header_step old.formula old.rows c.push.new.self k.case bytes c.args.piece.now c.next_bytes.result.now
-    c.in-Ok.took.bytes c.in-Ok.took.event c.header.result.now k.kept one
-    ok.within.0 c.in-Header.is ok.came (ok.ok bytes k.kept.rows k.kept.stands) ok.kept.0 ok.kept.1 c.header.ensures in
+    rw (p.1, p.2) (λ bytes written k.
+    let next = next_of g.F.Follow.stands g.F.Follow.owes g.F.Follow.kind old.follower k.case
+    (written ++ old.text) c.args.piece.now c.next_bytes.result.now k.followed c.next_bytes.ensures.line in
+    let s = header_step c.args.piece.now k.kept push next c.in-Header.is c.header.ensures in
     live_lacks g.F.Follow.stands g.F.Follow.owes g.F.Follow.kind old old.rows c.push.new.self k.kept.rows bytes written
     c.args.piece.now c.in-Ok.took.bytes c.header.result.now c.in_err-follow_on-in-Header.field-0.0 refl s
     (subst (λ n. IsNoBegin old.formula n s.columns c.in_err-follow_on-in-Header.field-0.0) c.line.ensures
     (c.in_err-follow_on-in-Header.ensures.begun s.columns s.is))
-    c.follow_on.new.follower k.case (written ++ old.text) k.kept.has_case came
+    c.follow_on.new.follower k.case (written ++ old.text) k.kept.has_case s.first
     (subst (λ x. IsOpened g.F.Follow.stands g.F.Follow.owes g.F.Follow.kind x k.case (written ++ old.text))
     (sym c.in_err-follow_on-in-Header.ensures.kept) k.followed))
 
 pub take_row-requires : goal.take_row-requires
 take_row-requires g c =
     let k = c.requires.is in
-    let bytes = c.requires.bytes in
     let written = c.requires.written in
-    let ok = c.in-Ok.ensures in
     let old = c.args.self.now in
-    let one = next_of g.F.Follow.stands g.F.Follow.owes g.F.Follow.kind old.follower k.case
+    let next = next_of g.F.Follow.stands g.F.Follow.owes g.F.Follow.kind old.follower k.case
     (written ++ old.text) c.args.piece.now c.next_bytes.result.now k.followed c.next_bytes.ensures.line in
-    let s = row_step old.formula old.rows c.push.new.self k.case bytes c.args.piece.now c.next_bytes.result.now c.in-Ok.took.bytes c.in-Ok.took.event k.kept
-    (front_same k.case c.args.piece.now c.next_bytes.result.now c.in-Ok.took.bytes one ok.within.0) c.in-Row.is ok.came
-    (ok.ok bytes k.kept.rows k.kept.stands) (ok.next bytes k.kept.rows k.kept.stands) in
+    let s = row_step c.args.piece.now k.kept (pushed g (goal.at.take_row-requires g c).In-Ok) next c.in-Row.is in
     (k.case, written ++ old.text, k.followed, subst (λ (r : Row). CanKeep k.case r) (sym c.row.ensures) s.can)
 
 pub returns-in-Nothing-clause-taken : goal.returns-in-Nothing-clause-taken
 returns-in-Nothing-clause-taken g c = λ bytes written k.
-    let ok = c.in-Ok.ensures in
+    let old = c.args.self.now in
+    let next = next_of g.F.Follow.stands g.F.Follow.owes g.F.Follow.kind old.follower k.case
+    (written ++ old.text) c.args.piece.now c.next_bytes.result.now k.followed c.next_bytes.ensures.line in
     record {
       served = k.served;
       case = k.case;
-      kept = nothing_step c.args.self.now.formula c.args.self.now.rows c.push.new.self k.case bytes c.args.piece.now
-          c.next_bytes.result.now c.in-Ok.took.bytes c.in-Ok.took.event k.kept
-          (front_same k.case c.args.piece.now c.next_bytes.result.now c.in-Ok.took.bytes (next_of g.F.Follow.stands g.F.Follow.owes g.F.Follow.kind
-          c.args.self.now.follower k.case _ c.args.piece.now c.next_bytes.result.now k.followed c.next_bytes.ensures.line) ok.within.0)
-          c.in-Nothing.is ok.came (ok.ok bytes k.kept.rows k.kept.stands) ok.kept.1;
+      kept = nothing_step c.args.piece.now k.kept (pushed g (goal.at.returns-in-Nothing-clause-taken g c).In-Ok) next c.in-Nothing.is;
       followed = k.followed;
     }
 
 pub returns-in_ok-follow_on-in-Header-clause-taken : goal.returns-in_ok-follow_on-in-Header-clause-taken
 returns-in_ok-follow_on-in-Header-clause-taken g c = λ bytes written k.
-    let ok = c.in-Ok.ensures in
+    let push = pushed g (goal.at.returns-in_ok-follow_on-in-Header-clause-taken g c).In-Ok in
     let old = c.args.self.now in
-    let came = (subst (λ (e : Event). HasCome e old.rows c.push.new.self (take c.in-Ok.took.bytes c.next_bytes.result.now)) c.in-Header.is ok.came).0 in
-    let one = first_next old.formula old.rows.heading bytes k.kept.rows k.case c.args.piece.now c.next_bytes.result.now k.kept.has_case came
-    (next_of g.F.Follow.stands g.F.Follow.owes g.F.Follow.kind old.follower k.case
-    (written ++ old.text) c.args.piece.now c.next_bytes.result.now k.followed c.next_bytes.ensures.line) in
-    let s = header_step old.formula old.rows c.push.new.self k.case bytes c.args.piece.now c.next_bytes.result.now
-    c.in-Ok.took.bytes c.in-Ok.took.event c.header.result.now k.kept one
-    ok.within.0 c.in-Header.is ok.came (ok.ok bytes k.kept.rows k.kept.stands) ok.kept.0 ok.kept.1 c.header.ensures in
+    let next = next_of g.F.Follow.stands g.F.Follow.owes g.F.Follow.kind old.follower k.case
+    (written ++ old.text) c.args.piece.now c.next_bytes.result.now k.followed c.next_bytes.ensures.line in
+    let s = header_step c.args.piece.now k.kept push next c.in-Header.is c.header.ensures in
     let (case, its, follows) = c.in_ok-follow_on-in-Header.ensures.begun s.columns s.is in
     let begun = subst (λ n. IsBegun old.formula n s.columns case) c.line.ensures its in
     let none = none_open g.F.Follow.stands g.F.Follow.owes g.F.Follow.kind old.follower old.formula old.rows.heading bytes
-    k.kept.rows k.case (written ++ old.text) k.kept.has_case came k.followed in
+    k.kept.rows k.case (written ++ old.text) k.kept.has_case s.first k.followed in
     record {
       served = k.served;
       case = Some case;
-      kept = kept_begun old.formula old.rows c.push.new.self k.case bytes
-          (bytes ++ take c.in-Ok.took.bytes c.args.piece.now) c.push.new.self.begun s.heading s.columns case k.kept s.first s.stands
-          (ok.kept.1 ∙ k.kept.least) s.some
-          (subst (λ (l : Limits). HasHeaderLine l old.formula.scale (bytes ++ take c.in-Ok.took.bytes c.args.piece.now) c.push.new.self.begun s.columns)
-          (sym ok.kept.0) s.line) begun;
+      kept = kept_begun k.kept push s begun;
       followed = subst (λ made. IsOpened g.F.Follow.stands g.F.Follow.owes g.F.Follow.kind c.follow_on.new.follower (Some case) made) (sym none)
           (open_of g.F.Follow.stands g.F.Follow.owes g.F.Follow.kind c.follow_on.new.follower (Some case) [] follows);
     }
 
 pub returns-in_ok-take_row-in-Row-clause-taken : goal.returns-in_ok-take_row-in-Row-clause-taken
 returns-in_ok-take_row-in-Row-clause-taken g c = λ bytes written k.
-    let ok = c.in-Ok.ensures in
+    let push = pushed g (goal.at.returns-in_ok-take_row-in-Row-clause-taken g c).In-Ok in
     let old = c.args.self.now in
-    let one = next_of g.F.Follow.stands g.F.Follow.owes g.F.Follow.kind old.follower k.case
+    let next = next_of g.F.Follow.stands g.F.Follow.owes g.F.Follow.kind old.follower k.case
     (written ++ old.text) c.args.piece.now c.next_bytes.result.now k.followed c.next_bytes.ensures.line in
-    let s = row_step old.formula old.rows c.push.new.self k.case bytes c.args.piece.now c.next_bytes.result.now c.in-Ok.took.bytes c.in-Ok.took.event k.kept
-    (front_same k.case c.args.piece.now c.next_bytes.result.now c.in-Ok.took.bytes one ok.within.0) c.in-Row.is ok.came
-    (ok.ok bytes k.kept.rows k.kept.stands) (ok.next bytes k.kept.rows k.kept.stands) in
+    let s = row_step c.args.piece.now k.kept push next c.in-Row.is in
     let (grown, text, followed) =
     c.in_ok-take_row-in-Row.ensures.ok k.case (written ++ old.text) k.followed (subst (λ (r : Row). CanKeep k.case r) (sym c.row.ensures) s.can) in
     record {
       served = k.served;
       case = option_map (with_row c.push.new.self.row) k.case;
       kept = kept_row old.formula old.rows c.push.new.self k.case bytes
-          (take c.in-Ok.took.bytes c.args.piece.now) c.push.new.self.row k.kept s.stands ok.kept.1 s.same s.can;
+          (take c.in-Ok.took.bytes c.args.piece.now) c.push.new.self.row k.kept s.stands push.least s.same s.can;
       followed = subst (λ made. IsOpened g.F.Follow.stands g.F.Follow.owes g.F.Follow.kind c.take_row.new.follower
           (option_map (with_row c.push.new.self.row) k.case) made) (sym (more_text written old.text c.take_row.new.text grown text))
           (subst (λ (r : Row). IsOpened g.F.Follow.stands g.F.Follow.owes g.F.Follow.kind c.take_row.new.follower
@@ -139,18 +120,16 @@ returns-in_ok-take_row-in-Row-clause-taken g c = λ bytes written k.
 pub returns-in_err-take_row-in-Row-clause-taken : goal.returns-in_err-take_row-in-Row-clause-taken
 returns-in_err-take_row-in-Row-clause-taken g c =
     let p = err_from_is_err_and c.from_residual-in_err-take_row-in-Row.result c.from_residual-in_err-take_row-in-Row.ensures.1 in
-    rw (p.1, p.2) (λ bytes written k.
-    let ok = c.in-Ok.ensures in
+    let push = pushed g (goal.at.returns-in_err-take_row-in-Row-clause-taken g c).In-Ok in
     let old = c.args.self.now in
     let piece = c.args.piece.now in
     let at = c.in-Ok.took.bytes in
     let row = c.push.new.self.row in
-    let one = next_of g.F.Follow.stands g.F.Follow.owes g.F.Follow.kind old.follower k.case
+    rw (p.1, p.2) (λ bytes written k.
+    let next = next_of g.F.Follow.stands g.F.Follow.owes g.F.Follow.kind old.follower k.case
     (written ++ old.text) piece c.next_bytes.result.now k.followed c.next_bytes.ensures.line in
-    let s = row_step old.formula old.rows c.push.new.self k.case bytes piece c.next_bytes.result.now at c.in-Ok.took.event k.kept
-    (front_same k.case piece c.next_bytes.result.now at one ok.within.0) c.in-Row.is ok.came
-    (ok.ok bytes k.kept.rows k.kept.stands) (ok.next bytes k.kept.rows k.kept.stands) in
-    let kept = kept_row old.formula old.rows c.push.new.self k.case bytes (take at piece) row k.kept s.stands ok.kept.1 s.same s.can in
+    let s = row_step piece k.kept push next c.in-Row.is in
+    let kept = kept_row old.formula old.rows c.push.new.self k.case bytes (take at piece) row k.kept s.stands push.least s.same s.can in
     let held = subst (λ (r : Row).
     IsHeldUp g.F.Follow.kind (option_map (with_row r) k.case) false old.text c.take_row.new.text c.in_err-take_row-in-Row.field-0.0) c.row.ensures
     (c.in_err-take_row-in-Row.ensures.err k.case (written ++ old.text) k.followed (subst (λ (r : Row). CanKeep k.case r) (sym c.row.ensures) s.can)) in
@@ -163,7 +142,7 @@ returns-in_err-take_row-in-Row-clause-taken g c =
           c.take_row.new.follower (written ++ c.take_row.new.text) stop held
           (row_held g.F.Follow.stands g.F.Follow.kind old.rows.limits old.formula (bytes ++ piece) false (bytes ++ take at piece) (drop at piece)
           parts false (λ e. absurd (false≢true e)) old.follower k.case row written old.text c.take_row.new.text stop
-          (λ case is. subst (λ (l : Limits). IsReadTo l old.formula (bytes ++ take at piece) false case) ok.kept.0
+          (λ case is. subst (λ (l : Limits). IsReadTo l old.formula (bytes ++ take at piece) false case) push.limits
           (read_of_kept old.formula c.push.new.self case (bytes ++ take at piece)
           (subst (λ o. IsKept old.formula c.push.new.self o (bytes ++ take at piece)) is kept)))
           whole held)

@@ -16,8 +16,7 @@ loop-line-preserved c = record {
   taken = λ g s.
       let h = c.loop-line.invariant.taken g s in
       let (here, is, longer) = c.in_ok-put_margin_line_after.ensures.ok in
-      one_taken g c.loop-line.self c.take.new.self c.put_margin_line_after.new.last c.in-Some.line c.args.text.now
-      c.loop-line.text c.put_margin_line_after.new.text here h
+      one_taken c.put_margin_line_after.new.last here h
       (c.in-Some.ensures.taken g.nodes g.header g.past (g.lines ++ h.more) h.stands)
       (c.part_of.ensures.same c.loop-line.self.formula.scale here
       (subst (λ t. IsPartLine t c.part_of.result here) c.scale.ensures.scale is)) longer;

@@ -69,6 +69,11 @@ returns-in-Ok-push c = λ case made opened t.
       sym (append-nil c.args.text.now),
       inr (subst (λ m. IsOwing after (with_row c.args.row.now case) m) (sym (append-nil made))
           (owes_on v case made opened (sym c.is_atom.ensures ∙ c.if-is_atom.false) after c.args.row.now
-          (λ nodes header events st. c.in-Ok.ensures.stands nodes header events st) refl refl refl
-          (c.in-Ok-push.ensures.items ∙ ap (λ n. v.times.items ++ n ∷ []) c.time.ensures) refl)),
+          (λ nodes header events st. c.in-Ok.ensures.stands nodes header events st) (record {
+            formula = refl;
+            start = refl;
+            horizon = refl;
+            times = c.in-Ok-push.ensures.items ∙ ap (λ n. v.times.items ++ n ∷ []) c.time.ensures;
+            pending = refl;
+          }))),
     )
