@@ -76,9 +76,9 @@ sides_past : (P : Function) (from to : Rational) (a : ℕ) (low : ℤ) (tau u : 
 sides_past P from to a low tau u v (inl h) = inl (h.0, tt, h.2)
 sides_past P from to a low tau u v (inr h) = inr (h.0, lt_of_le_of_lt (le_of_same (shifted_pos u a)) (before_back false tau u a h.1), h.2)
 
-over_past : (P : Function) (from to : Rational) (p : ℕ) (side : Side) (a : ℕ) (a_in b_in : Bool) (tau : Rational) (line : Affine) → whole (pos 0) ≤ʳ from
+over_past : (P : Function) (from to : Rational) {p : ℕ} {side : Side} (a : ℕ) (a_in b_in : Bool) (tau : Rational) (line : Affine) → whole (pos 0) ≤ʳ from
     → tau ≤ʳ whole (pos 4294967295) → InPlayOver P from to (past_window p side a a_in) tau line → IsInPlay (window_behind P a None a_in b_in) from to tau line
-over_past P from to p side a a_in b_in tau line first last (has, inl (k, is, old, inside, part, moved)) =
+over_past P from to {p} {side} a a_in b_in tau line first last (has, inl (k, is, old, inside, part, moved)) =
     ((has.0, holds_past from to p side a a_in b_in tau has.0 has.1), inl (k, by_end is, old, inside, part, moved))
   where
     by_end : (k ≡ neg_ℤ (pos 4294967296)) ⊎ (k ≡ neg_ℤ (pos a)) → IsEndBehind a None k
@@ -86,11 +86,11 @@ over_past P from to p side a a_in b_in tau line first last (has, inl (k, is, old
         (none_so_far from (whole (pos 4294967295)) first
         (lt_whole {j = pos 4294967295} {k = pos (2 ^ 32)} (omega (arith, ints))) tau from last (le_refl from))))
     by_end (inr e) = e
-over_past P from to p side a a_in b_in tau line first last (has, inr (inl (u, point, inside, v, f, constant))) = (
+over_past P from to {p} {side} a a_in b_in tau line first last (has, inr (inl (u, point, inside, v, f, constant))) = (
   (has.0, holds_past from to p side a a_in b_in tau has.0 has.1),
   inr (inl (u, point, holds_past from to p side a a_in b_in tau u inside, v, f, constant)),
 )
-over_past P from to p side a a_in b_in tau line first last (has, inr (inr (u, point, closes, v, sides, constant))) = (
+over_past P from to {p} {side} a a_in b_in tau line first last (has, inr (inr (u, point, closes, v, sides, constant))) = (
   (has.0, holds_past from to p side a a_in b_in tau has.0 has.1),
   inr (inr (u, point, holds_past from to p side a true true tau u closes, v, sides_past P from to a (neg_ℤ (pos 4294967296)) tau u v sides, constant)),
 )
@@ -101,10 +101,10 @@ pub in_play_past : (f : ℕ → Subformula) (place : ℕ) (n : Node) (w : Window
     → tau ≤ʳ whole (pos 4294967295) → InPlayOver (Robustness (f w.of) tr) (start tr) (stop tr) w tau line
     → IsInPlayAt (tree_of f place n) (margin_setting tr) tau line
 in_play_past f place (N.Once p a None a_in b_in) w tr is first tau line last h =
-    over_past (Robustness (f p) tr) (start tr) (stop tr) p Greatest a a_in b_in tau line first last
+    over_past (Robustness (f p) tr) (start tr) (stop tr) a a_in b_in tau line first last
     (subst (λ (x : Window). InPlayOver (Robustness (f x.of) tr) (start tr) (stop tr) x tau line) is h)
 in_play_past f place (N.Historically p a None a_in b_in) w tr is first tau line last h =
-    over_past (Robustness (f p) tr) (start tr) (stop tr) p Least a a_in b_in tau line first last
+    over_past (Robustness (f p) tr) (start tr) (stop tr) a a_in b_in tau line first last
     (subst (λ (x : Window). InPlayOver (Robustness (f x.of) tr) (start tr) (stop tr) x tau line) is h)
 in_play_past f place (N.Once p a (Some b) a_in b_in) w tr is first tau line last h = absurd is
 in_play_past f place (N.Historically p a (Some b) a_in b_in) w tr is first tau line last h = absurd is

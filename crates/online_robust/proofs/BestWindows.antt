@@ -182,20 +182,20 @@ SettledOver P from to front w tau line =
     IsValueWithin P from to (λ u. Holds from to w tau u × (u <ʳ front)) line
     ⊎ IsLimitWithin P from to (λ u. Holds from to (closed w) tau u × (u <ʳ front)) (λ u. shifted tau w.low <ʳ u) (λ u. u <ʳ shifted tau w.high) line
 
-settled_ahead : (ended : Bool) (now : ℤ) (p : Subformula) (tr : Trace) (of : ℕ) (side : Side) (a b : ℕ) (a_in b_in : Bool) (tau : Rational) (line : Affine)
+settled_ahead : (ended : Bool) (now : ℤ) (p : Subformula) (tr : Trace) {of : ℕ} {side : Side} (a b : ℕ) (a_in b_in : Bool) (tau : Rational) (line : Affine)
     → SettledOver (Robustness p tr) (start tr) (stop tr) (whole (front_at ended now p)) (ahead_window of side a b a_in b_in) tau line
     → AheadConstant ended now p (margin_setting tr) a b a_in b_in tau line
-settled_ahead ended now p tr of side a b a_in b_in tau line (inl (u, point, (inside, before), v, f, constant)) =
+settled_ahead ended now p tr {of} {side} a b a_in b_in tau line (inl (u, point, (inside, before), v, f, constant)) =
     inl (u, point, (holds_ahead (start tr) (stop tr) of side a b a_in b_in tau u inside, before), v, f, constant)
-settled_ahead ended now p tr of side a b a_in b_in tau line (inr (u, point, (closes, before), v, sides, constant)) =
+settled_ahead ended now p tr {of} {side} a b a_in b_in tau line (inr (u, point, (closes, before), v, sides, constant)) =
     inr (u, point, (holds_ahead (start tr) (stop tr) of side a b true true tau u closes, before), v, sides, constant)
 
-settled_behind : (ended : Bool) (now : ℤ) (p : Subformula) (tr : Trace) (of : ℕ) (side : Side) (a b : ℕ) (a_in b_in : Bool) (tau : Rational) (line : Affine)
+settled_behind : (ended : Bool) (now : ℤ) (p : Subformula) (tr : Trace) {of : ℕ} {side : Side} (a b : ℕ) (a_in b_in : Bool) (tau : Rational) (line : Affine)
     → SettledOver (Robustness p tr) (start tr) (stop tr) (whole (front_at ended now p)) (behind_window of side a b a_in b_in) tau line
     → BehindConstant ended now p (margin_setting tr) a (Some b) a_in b_in tau line
-settled_behind ended now p tr of side a b a_in b_in tau line (inl (u, point, (inside, before), v, f, constant)) =
+settled_behind ended now p tr {of} {side} a b a_in b_in tau line (inl (u, point, (inside, before), v, f, constant)) =
     inl (u, point, (holds_behind (start tr) (stop tr) of side a b a_in b_in tau u inside, before), v, f, constant)
-settled_behind ended now p tr of side a b a_in b_in tau line (inr (u, point, (closes, before), v, sides, constant)) =
+settled_behind ended now p tr {of} {side} a b a_in b_in tau line (inr (u, point, (closes, before), v, sides, constant)) =
     inr (
       u,
       point,
@@ -211,16 +211,16 @@ pub settled_is : (f : ℕ → Subformula) (place : ℕ) (n : Node) (w : Window) 
     → SettledOver (Robustness (f w.of) tr) (start tr) (stop tr) (whole (front_at ended now (f w.of))) w tau line
     → IsSettledConstant ended now (tree_of f place n) (margin_setting tr) tau line
 settled_is f place (N.Eventually p a b a_in b_in) w tr ended now is tau line h =
-    settled_ahead ended now (f p) tr p Greatest a b a_in b_in tau line
+    settled_ahead ended now (f p) tr a b a_in b_in tau line
     (subst (λ (x : Window). SettledOver (Robustness (f x.of) tr) (start tr) (stop tr) (whole (front_at ended now (f x.of))) x tau line) is h)
 settled_is f place (N.Always p a b a_in b_in) w tr ended now is tau line h =
-    settled_ahead ended now (f p) tr p Least a b a_in b_in tau line
+    settled_ahead ended now (f p) tr a b a_in b_in tau line
     (subst (λ (x : Window). SettledOver (Robustness (f x.of) tr) (start tr) (stop tr) (whole (front_at ended now (f x.of))) x tau line) is h)
 settled_is f place (N.Once p a (Some b) a_in b_in) w tr ended now is tau line h =
-    settled_behind ended now (f p) tr p Greatest a b a_in b_in tau line
+    settled_behind ended now (f p) tr a b a_in b_in tau line
     (subst (λ (x : Window). SettledOver (Robustness (f x.of) tr) (start tr) (stop tr) (whole (front_at ended now (f x.of))) x tau line) is h)
 settled_is f place (N.Historically p a (Some b) a_in b_in) w tr ended now is tau line h =
-    settled_behind ended now (f p) tr p Least a b a_in b_in tau line
+    settled_behind ended now (f p) tr a b a_in b_in tau line
     (subst (λ (x : Window). SettledOver (Robustness (f x.of) tr) (start tr) (stop tr) (whole (front_at ended now (f x.of))) x tau line) is h)
 settled_is f place (N.Once p a None a_in b_in) w tr ended now is tau line h = absurd is
 settled_is f place (N.Historically p a None a_in b_in) w tr ended now is tau line h = absurd is

@@ -1,12 +1,12 @@
 -- From what an operator needs before it goes on to what its body needs, and back from what the body leaves.
 use Rattle.std.proofs.Common.{◌≡◌, inl, inr, ℕ, ◌+◌, ◌<◌, ◌≤◌, Bool, true, false, List, [], ◌∷◌, length, refl}
 use Rattle.std.proofs.Common.{sym, ap, subst, ◌∙◌, arith, Option, Some, None, ℤ, pos, ◌+ℤ◌, ◌<ℤ◌, ◌≤ℤ◌}
-use Rattle.std.specs.Prelude.{◌⊎◌, MatchBool, IfSome, IsSome, int_lt, cond, slice_get}
+use Rattle.std.specs.Prelude.{◌≢◌, ◌⊎◌, MatchBool, IfSome, IsSome, int_lt, cond, slice_get}
 use Rattle.std.proofs.lemmas.Int.{ints}
 use Rattle.std.proofs.lemmas.Option.{slice_get_within}
 use Rattle.rational.specs.Time.{Rational, whole, ◌≈◌, ◌≤ʳ◌, ◌<ʳ◌}
 use Rattle.rational.specs.Extended.{Affine, Extended, opposite, IsGreatest}
-use Rattle.rational.specs.InPlay.{IsInPlay, of_two, IsWideCrossing}
+use Rattle.rational.specs.InPlay.{IsInPlay, of_two, IsWideCrossing, IsWideValue}
 use Rattle.rational.specs.Windows.{Function}
 use Rattle.rational.proofs.Order.{le_refl, le_trans, le_of_same, ge_of_same, lt_of_le_of_lt, same_refl, same_sym, same_trans}
 use Rattle.rational.proofs.ExtendedLemmas.{opposite_twice}
@@ -22,6 +22,7 @@ use Rattle.pl_signal.specs.declared.faults.OpFault.TheVariants as F
 use Rattle.pl_signal.specs.declared.faults.WidePair.TheVariants.{Cross, Value}
 use Rattle.pl_signal.specs.declared.joining.Side.{Side}
 use Rattle.pl_signal.specs.declared.joining.Side.TheVariants.{Least, Greatest}
+use Rattle.pl_signal.proofs.Telling.{told as tells_between}
 use Rattle.pl_signal.proofs.Values.{some_is}
 use Rattle.stl_syntax.specs.Trace.{Trace, start, stop, last_time}
 use Rattle.stl_syntax.specs.Formula.{Subformula, negation, subformula, horizon, tree_of}
@@ -53,6 +54,7 @@ use Rattle.online_robust.specs.declared.pointwise.Two.{Two}
 use Rattle.online_robust.proofs.Apart.{inputs_apart}
 use Rattle.online_robust.proofs.DroppingLemmas.{held_of-without}
 use Rattle.online_robust.proofs.Readers.{reader_above, tree_at_node}
+use Rattle.online_robust.proofs.Robustly.{robust_is_function}
 
 -- ---- numbers
 
@@ -75,6 +77,40 @@ inputs_of F reach start back f lines le input = by_test (int_lt f (pos start)) r
     by_test : (t : Bool) → int_lt f (pos start) ≡ t → MatchBool t (lines ≡ []) (AreInputs F reach start back f lines) → AreInputs F reach start back f lines
     by_test true e none = let lt = int_order f (pos start) true e in absurd (omega (arith, ints, le, lt))
     by_test false e inputs = inputs
+
+-- no line is held of an input that has given out nothing
+pub none_given : (F : Function) (reach start : ℕ) (f : ℤ) (lines : List MarginLine) → IsInput F reach start None f lines → slice_get lines 0 ≡ None
+    → f <ℤ pos start
+none_given F reach start f lines input empty = by_test (int_lt f (pos start)) refl input
+  where
+    by_test : (c : Bool) → int_lt f (pos start) ≡ c → MatchBool c (lines ≡ []) (AreInputs F reach start None f lines) → f <ℤ pos start
+    by_test true e none = int_order f (pos start) true e
+    by_test false e inputs = let (p, v, rest, is, when, joined) = inputs.left in
+        absurd (let k : ◌≡◌ {A = Option MarginLine} (Some _) None = sym (ap (λ (l : List MarginLine). slice_get l 0) is) ∙ empty in let y = k in cc)
+
+-- and some of one that has
+pub some_given : (F : Function) (reach start : ℕ) (f : ℤ) (lines : List MarginLine) → IsInput F reach start None f lines → slice_get lines 0 ≢ None
+    → (pos start ≤ℤ f) × AreInputs F reach start None f lines
+some_given F reach start f lines input some = by_test (int_lt f (pos start)) refl input
+  where
+    by_test : (c : Bool) → int_lt f (pos start) ≡ c → MatchBool c (lines ≡ []) (AreInputs F reach start None f lines)
+        → (pos start ≤ℤ f) × AreInputs F reach start None f lines
+    by_test true e none = absurd (some (ap (λ (l : List MarginLine). slice_get l 0) none))
+    by_test false e inputs = (int_order f (pos start) false e, inputs)
+
+-- what was not let go at a number was not at an earlier one
+pub none_let_go : (start to : ℕ) (k : ℤ) (o : Option ℤ) → IfSome o (λ g. (pos start ≤ℤ g) × (g <ℤ pos to)) → int_lt (pos to +ℤ k) (pos start) ≡ true
+    → back_of start o k ≡ None
+none_let_go start to k None forth is = refl
+none_let_go start to k (Some g) forth is = by_test (int_lt (g +ℤ k) (pos start)) refl
+  where
+    by_test : (c : Bool) → int_lt (g +ℤ k) (pos start) ≡ c → cond c None (Some (g +ℤ k)) ≡ None
+    by_test true f = refl
+    by_test false f =
+        let le = int_order (g +ℤ k) (pos start) false f in
+        let lt = int_order (pos to +ℤ k) (pos start) true is in
+        let after = forth.1 in
+        absurd (omega (arith, ints, le, lt, after))
 
 -- ---- reading
 
@@ -130,19 +166,6 @@ module _ (F : Function) (reach start : ℕ) (f : ℤ) (lines : List MarginLine) 
         joined = joined;
         later = weaker (slice_get lines 0) later;
       }
-
--- an input is ready, for a node that reads it at its own time
-ready : (F G : Function) (most reach start : ℕ) (before : Option ℤ) (f : ℤ) (lines : List MarginLine) (last : Option Reached) (from : Rational)
-    → pos start ≤ℤ f → IfSome before (λ g. pos start ≤ℤ g) → (before ≡ None → from ≡ whole (pos start))
-    → IsInput F reach start (back_of start before (pos 0)) f lines
-    → HasStood G most before last → IsReady F reach from (whole f) lines last
-ready F G most reach start None f lines last from le low is input stood =
-    subst (IsReady F reach from (whole f) lines) (sym stood)
-    (subst (λ t. Begins F reach t (whole f) lines) (sym (is refl)) (begins F reach start f lines (inputs_of F reach start None f lines le input)))
-ready F G most reach start (Some g) f lines last from le low is input (r, kept, reached) =
-    subst (IsReady F reach from (whole f) lines) (sym kept)
-    (ahead F reach start f lines (g +ℤ pos 0) (value r.at) (same_trans (whole_here g) (same_sym reached.0))
-    (subst (λ b. AreInputs F reach start b f lines) (back_here start g low) (inputs_of F reach start (back_of start (Some g) (pos 0)) f lines le input)))
 
 -- what was reached, as the body has it
 reached_before : (G : Function) (most : ℕ) (before : Option ℤ) (last : Option Reached) (from : Rational) → ((g : ℤ) → before ≡ Some g → from ≡ whole g)
@@ -213,6 +236,23 @@ crossing_by A B from to p q a b den more h = record {
   wide = h.wide;
 }
 
+-- so is a value
+pub value_by : (A B : Rational → Affine → Type 0) (from to : Rational) (p : Affine) (u : Rational) (den : ℕ)
+    → ((tau : Rational) (line : Affine) → A tau line → B tau line)
+    → IsWideValue A from to p u den → IsWideValue B from to p u den
+value_by A B from to p u den more h = record {
+  tau = h.tau;
+  after_start = h.after_start;
+  before_stop = h.before_stop;
+  value = h.value;
+  is_value = h.is_value;
+  line = h.line;
+  constant = h.constant;
+  in_play = more h.tau h.line h.in_play;
+  denominator = h.denominator;
+  wide = h.wide;
+}
+
 -- a connective by its parts
 abbrev made_two : ℕ → ℕ → Side → Bool → Option Reached → Two
 made_two left right side turned last = record { left = left; right = right; side = side; turned = turned; last = last }
@@ -271,6 +311,43 @@ module _ (t : Step) (op : Operator) (e : Held) (to : ℕ) (b : Belongs t op e to
       by_before : (o : Option ℤ) → IfSome o (λ g. (pos (begin_of t) ≤ℤ g) × (g <ℤ pos to)) → IfSome o (λ g. pos (begin_of t) ≤ℤ g)
       by_before None h = tt
       by_before (Some g) h = h.0
+
+  -- a signal that tells what is the value of the node's tree tells the node's
+  pub swept_of : (P : Function) (end : Rational) (s : List (Knot Margin)) → end ≈ whole (pos to)
+      → ((u : Rational) (v : Extended) → u ≤ʳ end → P u v → Robustness (tree_of (subformula t.nodes) t.place b.node) t.trace u v)
+      → IsStretch P (reach_before t + own_reach b.node) (from_of t) end s → IsSwept t to s
+  swept_of P end s same holds is = record {
+    tells = tells_between margin_shape (Robustness own t.trace) (from_of t) (whole (pos to)) s (robust_is_function own t.trace)
+        (record {
+          signal = is.tells.signal;
+          worth = λ u v h. let (within, there) = (is.tells.worth u v).0 h in subst (λ p. Robustness p t.trace u v) (sym tree) (holds u v within.below there);
+        }) is.tells.begins (same_trans is.tells.ends same);
+    limited = is.limited;
+    moved = λ node found p has. subst (λ (n : Node). IsMovedBy (reach_before t + own_reach n) p) (some_is (sym b.at ∙ found)) (is.moved p has);
+  }
+
+  -- an input is ready, for a node that reads it at its own time
+  ready : (G : Function) (j : ℕ) (f : ℤ) (last : Option Reached) → pos (begin_of t) ≤ℤ f
+      → IsInput (Robustness (subformula t.nodes j) t.trace) (reach_before t) (begin_of t) (back_of (begin_of t) t.before (pos 0)) f (held_at e j)
+      → HasStood G (reach_before t) t.before last
+      → IsReady (Robustness (subformula t.nodes j) t.trace) (reach_before t) (from_of t) (whole f) (held_at e j) last
+  ready G j f last le input stood = by_before t.before refl low_before input stood
+    where
+      F : Function
+      F = Robustness (subformula t.nodes j) t.trace
+
+      by_before : (o : Option ℤ) → t.before ≡ o → IfSome o (λ g. pos (begin_of t) ≤ℤ g)
+          → IsInput F (reach_before t) (begin_of t) (back_of (begin_of t) o (pos 0)) f (held_at e j)
+          → HasStood G (reach_before t) o last → IsReady F (reach_before t) (from_of t) (whole f) (held_at e j) last
+      by_before None is low input stood =
+          subst (IsReady F (reach_before t) (from_of t) (whole f) (held_at e j)) (sym stood)
+          (subst (λ (u : Rational). Begins F (reach_before t) u (whole f) (held_at e j)) (sym (from_none is))
+          (begins F (reach_before t) (begin_of t) f (held_at e j) (inputs_of F (reach_before t) (begin_of t) None f (held_at e j) le input)))
+      by_before (Some g) is low input (r, kept, reached) =
+          subst (IsReady F (reach_before t) (from_of t) (whole f) (held_at e j)) (sym kept)
+          (ahead F (reach_before t) (begin_of t) f (held_at e j) (g +ℤ pos 0) (value r.at) (same_trans (whole_here g) (same_sym reached.0))
+          (subst (λ b. AreInputs F (reach_before t) (begin_of t) b f (held_at e j)) (back_here (begin_of t) g low)
+          (inputs_of F (reach_before t) (begin_of t) (back_of (begin_of t) (Some g) (pos 0)) f (held_at e j) le input)))
 
   -- where it begins lies between the start and its number
   pub span_from : (whole (pos (begin_of t)) ≤ʳ from_of t) × (from_of t ≤ʳ whole (pos to))
@@ -380,9 +457,8 @@ module _ (t : Step) (x : Negated.Not) (e : Held) (to : ℕ) (b : Belongs t (Op.N
     all = same_refl (whole (pos to));
     last = reached_before (turned_by true (Robustness child t.trace)) (reach_before t) t.before x.last (from_of t) (from_some t (Op.Not x) e to b) b.stands.1;
     of =
-        ready (Robustness child t.trace) (turned_by true (Robustness child t.trace)) (reach_before t) (reach_before t)
-        (begin_of t) t.before (pos to) (held_at e x.of) x.last
-        (from_of t) (let le = b.from_start in omega (arith, ints, le)) (low_before t (Op.Not x) e to b) (from_none t (Op.Not x) e to b) not_input b.stands.1;
+        ready t (Op.Not x) e to b (turned_by true (Robustness child t.trace)) x.of (pos to) x.last (let le = b.from_start in omega (arith, ints, le)) not_input
+        b.stands.1;
   }
 
   -- what a negation tells is the node's margin
@@ -577,9 +653,8 @@ module _ (t : Step) (x : Two) (e : Held) (to : ℕ) (b : Belongs t (Op.Two x) e 
       → IsReady (Robustness (subformula t.nodes j) t.trace) (reach_before t) (from_of t)
       (whole (front_at t.ended (pos t.now) (subformula t.nodes j))) (held_at e j) x.last
   two_ready j side reads le =
-      ready (Robustness (subformula t.nodes j) t.trace) (two_of t.nodes t.trace x) (reach_before t) (reach_before t) (begin_of t) t.before
-      (front_at t.ended (pos t.now) (subformula t.nodes j)) (held_at e j) x.last (from_of t) (let low = b.from_start in omega (arith, ints, le, low))
-      (low_before t (Op.Two x) e to b) (from_none t (Op.Two x) e to b) (two_input j side reads) b.stands.1
+      ready t (Op.Two x) e to b (two_of t.nodes t.trace x) j (front_at t.ended (pos t.now) (subformula t.nodes j)) x.last
+      (let low = b.from_start in omega (arith, ints, le, low)) (two_input j side reads) b.stands.1
 
   -- a connective may go through its inputs up to the time of the turn
   pub can_join : CanJoin two_couple x e

@@ -10,7 +10,6 @@ use Rattle.rational.proofs.Order.{lt_of_lt_of_le, not_lt_of_le, same_refl, same_
 use Rattle.rational.proofs.Shift.{le_whole, lt_whole}
 use Rattle.rational.proofs.TimeLemmas.{same_shifted}
 use Rattle.frac128.specs.Value.{value}
-use Rattle.value_laws.specs.Kinds.{margin_shape}
 use Rattle.value_laws.specs.declared.margin.Margin.{Margin}
 use Rattle.pl_signal.specs.declared.knot.Knot.{Knot}
 use Rattle.pl_signal.proofs.Telling.{told}
@@ -22,13 +21,10 @@ use Rattle.stl_syntax.specs.SupInf.{Robustness}
 use Rattle.stl_syntax.specs.Limits.{own_reach}
 use Rattle.stl_syntax.specs.declared.node.Node.{Node}
 use Rattle.stl_syntax.specs.declared.node.Node.TheVariants as N
-use Rattle.online_nodes.specs.Network.{reach_back}
-use Rattle.online_nodes.specs.Needed.{IsReader}
 use Rattle.online_nodes.specs.StreamedWide.{front_at}
 use Rattle.online_nodes.proofs.RunLaw.{int_order}
 use Rattle.online_robust.specs.Lines.{end_of}
 use Rattle.online_robust.specs.Held.{Held, edge_at, held_at, held_of}
-use Rattle.online_robust.specs.Told.{IsMovedBy}
 use Rattle.online_robust.specs.ReadLines.{HasReached, IsStretch, LosesAt}
 use Rattle.online_robust.specs.Glances.{AreToSee, before, within, unseen, CanGlance, Glance, HasGlanced, IsGlanceAt, IsOffset, glance_of}
 use Rattle.online_robust.specs.Standing.{HasStood, IsInstantOf, instant_margin}
@@ -37,13 +33,12 @@ use Rattle.online_robust.specs.declared.line.MarginLine.{MarginLine}
 use Rattle.online_robust.specs.declared.line.Reached.{Reached}
 use Rattle.online_robust.specs.declared.glance.Moved.{Moved}
 use Rattle.online_robust.specs.declared.operator.Operator.TheVariants as Op
-use Rattle.online_robust.proofs.Bridging.{ahead, begins, from_none, from_some, input_within, small_to, span_from, stood_after, tick_of, tree}
+use Rattle.online_robust.proofs.Bridging.{ahead, begins, from_none, from_some, input_within, small_to, span_from, stood_after, swept_of, tick_of, tree}
 use Rattle.online_robust.proofs.Builts.{tick_between}
 use Rattle.online_robust.proofs.DroppingLemmas.{held_of-without}
-use Rattle.online_robust.proofs.Looking.{front_by_stop, looks_before, shifted_whole, told_as_far}
+use Rattle.online_robust.proofs.Looking.{front_by_stop, looks_before, one_swept, shifted_whole, told_as_far}
+use Rattle.online_robust.proofs.LowLemmas.{sheds_of}
 use Rattle.online_robust.proofs.Instants.{IsInstantNode, instant}
-use Rattle.online_robust.proofs.Losses.{loses_number}
-use Rattle.online_robust.proofs.Robustly.{robust_is_function}
 
 -- the lines of an input, as a window of one instant has them
 module _ (P : Function) (reach begin : ℕ) (k F : ℤ) (bound : Rational) (lines : List MarginLine) (short : F <ℤ pos begin → bound <ʳ whole (pos begin)) where
@@ -176,25 +171,12 @@ module _ (t : Step) (z : Moved) (e : Held) (to : ℕ) (b : Belongs t (Op.Moved z
 
     -- what it tells is the node's margin
     pub glance_told : (s : List (Knot Margin)) → IsStretch (glance_of glance z) (reach_before t + own) (from_of t) end s → IsSwept t to s
-    glance_told s is = record {
-      tells = told margin_shape (Robustness (subformula t.nodes t.place) t.trace) (from_of t) (whole (pos to)) s
-          (robust_is_function (subformula t.nodes t.place) t.trace)
-          (record {
-            signal = is.tells.signal;
-            worth = λ u v w. subst (λ p. Robustness p t.trace u v) (sym own_is) (here.value u v ((is.tells.worth u v).0 w).1);
-          }) is.tells.begins (same_trans is.tells.ends same);
-      limited = is.limited;
-      moved = λ node at p has. subst (λ (n : Node). IsMovedBy (reach_before t + own_reach n) p) (some_is (sym b.at ∙ at)) (is.moved p has);
-    }
+    glance_told s is = swept_of t (Op.Moved z) e to b (glance_of glance z) end s same (λ u v by h. here.value u v h) is
 
     -- the edges are swept up to the time
     pub glance_edges : (e' : Held) → LosesAt (shifted end z.by) z.of e e' → IsGlanceAt glance z e' end → HasSwept t e e' to
-    glance_edges e' lost at = record {
-      inputs = λ node j left found reads. by_node node j left (some_is (sym found ∙ b.at)) reads;
-      others = λ j unread. lost.others j (λ is. unread b.node true b.at (subst (IsReader b.node true) (sym is) here.reads));
-      edges = lost.edges;
-      start = lost.start;
-    }
+    glance_edges e' lost at = one_swept t (Op.Moved z) e to b z.of e' (sheds_of (shifted end z.by) z.of e e' lost) here.reads here.only
+        (subst (λ k. IsCut (back_of (begin_of t) (Some (pos to)) k) (edge_at e z.of) (edge_at e' z.of)) (sym here.back) cut)
       where
         at_limit : shifted end z.by ≈ whole (pos to +ℤ z.by)
         at_limit = same_trans (same_shifted z.by same) (shifted_whole (pos to) z.by)
@@ -265,21 +247,6 @@ module _ (t : Step) (z : Moved) (e : Held) (to : ℕ) (b : Belongs t (Op.Moved z
                 by_lines (within begun more) = later (slice_get (held_at e' z.of) 0) more.later
                 by_lines (unseen early none) =
                     subst (λ (ls : List MarginLine). IfSome (slice_get ls 0) (λ x. whole (pos to +ℤ z.by) <ʳ value (end_of x))) (sym none) tt
-
-        by_node : (node : Node) (j : ℕ) (left : Bool) → node ≡ b.node → IsReader node left j
-            → IsCut (back_of (begin_of t) (Some (pos to)) (reach_back node left)) (edge_at e j) (edge_at e' j) × ((edge_at e' j).number ≡ (edge_at e j).number)
-        by_node node j left is reads =
-            let one = here.only j left (subst (λ (n : Node). IsReader n left j) is reads) in
-            subst (λ (n : Node). IsCut (back_of (begin_of t) (Some (pos to)) (reach_back n left)) (edge_at e j) (edge_at e' j)
-            × ((edge_at e' j).number ≡ (edge_at e j).number)) (sym is)
-            (subst (λ i. IsCut (back_of (begin_of t) (Some (pos to)) (reach_back b.node left)) (edge_at e i) (edge_at e' i)
-            × ((edge_at e' i).number ≡ (edge_at e i).number)) (sym one.0)
-            (subst (λ (l : Bool). IsCut (back_of (begin_of t) (Some (pos to)) (reach_back b.node l)) (edge_at e z.of)
-            (edge_at e' z.of) × ((edge_at e' z.of).number ≡ (edge_at e z.of).number))
-            (sym one.1)
-            (subst (λ k. IsCut (back_of (begin_of t) (Some (pos to)) k) (edge_at e z.of) (edge_at e' z.of)
-            × ((edge_at e' z.of).number ≡ (edge_at e z.of).number)) (sym here.back)
-            (cut, loses_number lost.here))))
 
     -- a window of one instant stands at the time of the turn once it has gone there
     pub glance_stands : (z' : Moved) (e' : Held) → z' ≡ record z { last = z'.last } → IsSome z'.last

@@ -45,10 +45,11 @@ use Rattle.online_robust.specs.declared.operator.Operator.{Operator}
 use Rattle.online_robust.specs.declared.station.Work.TheVariants as W
 use Rattle.online_robust.proofs.Growing.{goes_on_from, itself}
 use Rattle.online_robust.proofs.Readers.{reader_above, seen_same}
-use Rattle.online_robust.proofs.Rests.{IsLaterBack, joined_from, input_rest, input_reach, rest_cut}
+use Rattle.online_robust.proofs.Rests.{IsLaterBack, input_rest, input_reach, rest_cut}
 use Rattle.online_robust.proofs.RowFacts.{number_here, told_here, first_goes_on, last_goes_on, last_at_end, shown_is, number_shown, number_rises}
 use Rattle.online_robust.proofs.SignalLines.{AreWorth, after_parts, all_parts, told_after, fit_after}
 use Rattle.online_robust.proofs.SignalLines.{fit_first, at_first, joined_after, tells_after, tells_closed}
+use Rattle.online_robust.proofs.JoinedLemmas.{joined_same}
 
 -- ---- small facts
 
@@ -333,7 +334,7 @@ module _ (m : Move) (node : ℕ) (op : Operator) (e : Held) (to : ℕ) (with_fir
         (sym (int_below o (pos to) lt)) (
           told_after G (whole o) (whole (pos to)) k ks tells.signal.each worth,
           fit_after G (whole o) (whole (pos to)) most first tick_to k ks worth limited moved,
-          joined_from (time k) (whole o) (whole (pos to)) (lines_after k ks) tells.begins (joined_after (whole (pos to)) k ks tells.ends),
+          joined_same (time k) (whole o) (whole (pos to)) (lines_after k ks) tells.begins (joined_after (whole (pos to)) k ks tells.ends),
         )
 
     -- ---- both

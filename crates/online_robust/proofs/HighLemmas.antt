@@ -14,6 +14,7 @@ use Rattle.value_laws.specs.Margins.{margin_function}
 use Rattle.value_laws.specs.declared.margin.Margin.{Margin}
 use Rattle.pl_signal.specs.declared.faults.OpFault.{OpFault}
 use Rattle.pl_signal.specs.declared.faults.OpFault.TheVariants as F
+use Rattle.pl_signal.proofs.Values.{some_is}
 use Rattle.stl_syntax.specs.Trace.{start}
 use Rattle.online_robust.specs.Lines.{end_of, margin_of, IsOneLine}
 use Rattle.online_robust.specs.Held.{Edge, Held, edge_at, fresh_at, held_of, no_edge, with_edge, with_read}
@@ -54,9 +55,6 @@ first_front (x ∷ xs) v e = let y : Some x ≡ Some v = e in let z : x ≡ v = 
 pub read_held : (x : Edge) (v : MarginLine) → slice_get x.fresh 0 ≡ Some v → held_of (with_read x v) ≡ held_of x
 read_held x v first =
     append_assoc x.seen (v ∷ []) (drop 1 x.fresh) ∙ ap (λ (l : List MarginLine). x.seen ++ l) (sym (first_front x.fresh v first))
-
-some_is : {X : Type 0} {a b : X} → Some a ≡ Some b → a ≡ b
-some_is h = cc
 
 module _ (x : Scope) (s : Sweep) (e mid new : Held) (line : MarginLine) (next : Rim) (at : IsAt x s e) (high : IsHigh x s)
     (first : slice_get (fresh_at e s.window.of) 0 ≡ Some line) (read : mid.edges ≡ with_edge e s.window.of (with_read (edge_at e s.window.of) line))

@@ -85,12 +85,18 @@ open_none from to true false at u e h = not_lt_of_le h.begins h.ends
 open_none from to false true at u e h = not_lt_of_le h.ends h.begins
 open_none from to false false at u e h = lt_irrefl (lt_of_lt_of_le h.begins (le_of_lt h.ends))
 
+-- a window is that of one time
+pub record IsAtOne (W : Window) (from to : Rational) (a_in b_in : Bool) (at : Rational) : Type 0 where
+  -- its times are that one
+  pub out : (u : Rational) → W u → IsOneTime from to a_in b_in at u
+  -- which is among them
+  pub into : (u : Rational) → IsOneTime from to a_in b_in at u → W u
+
 -- the best over it, by what the window of one instant tells
 one_time_best : (side : Side) (W : Window) (P : Function) (from to : Rational) (a_in b_in : Bool) (at : Rational) (v : Extended) → IsFunction P
-    → ((u : Rational) → W u → IsOneTime from to a_in b_in at u) → ((u : Rational) → IsOneTime from to a_in b_in at u → W u)
-    → MatchBool (if a_in then b_in else false) (with_outside P from to (nothing_of side) at v) (v ≈ᵉ nothing_of side)
+    → IsAtOne W from to a_in b_in at → MatchBool (if a_in then b_in else false) (with_outside P from to (nothing_of side) at v) (v ≈ᵉ nothing_of side)
     → IsBestOver side minus_infinity infinity W P v
-one_time_best side W P from to a_in b_in at v is out into told = by_case (if a_in then b_in else false) refl told
+one_time_best side W P from to a_in b_in at v is one told = by_case (if a_in then b_in else false) refl told
   where
     ins : (a_in b_in : Bool) (at : Rational) → (if a_in then b_in else false) ≡ true → Within from to at → IsOneTime from to a_in b_in at at
     ins true true at e w = record { inside = w; begins = le_of_same (same_refl at); ends = le_of_same (same_refl at) }
@@ -98,39 +104,39 @@ one_time_best side W P from to a_in b_in at v is out into told = by_case (if a_i
     ins false b at e w = absurd (let z : ◌≡◌ {A = Bool} false true = e in cc)
 
     apart : (u : Rational) → (at <ʳ from) ⊎ (to <ʳ at) → W u → ⊥
-    apart u (inl lt) inside = let h = out u inside in not_lt_of_le (le_trans h.inside.above (le_of_same (only_one from to a_in b_in at u h))) lt
-    apart u (inr lt) inside = let h = out u inside in not_lt_of_le (le_trans (ge_of_same (only_one from to a_in b_in at u h)) h.inside.below) lt
+    apart u (inl lt) inside = let h = one.out u inside in not_lt_of_le (le_trans h.inside.above (le_of_same (only_one from to a_in b_in at u h))) lt
+    apart u (inr lt) inside = let h = one.out u inside in not_lt_of_le (le_trans (ge_of_same (only_one from to a_in b_in at u h)) h.inside.below) lt
 
     by_case : (b : Bool) → (if a_in then b_in else false) ≡ b → MatchBool b (with_outside P from to (nothing_of side) at v)
         (v ≈ᵉ nothing_of side) → IsBestOver side minus_infinity infinity W P v
     by_case true e (inl (inside, value)) =
-        best_of_one W P is side at v (into at (ins a_in b_in at e inside)) (λ t h. only_one from to a_in b_in at t (out t h)) value
+        best_of_one W P is side at v (one.into at (ins a_in b_in at e inside)) (λ t h. only_one from to a_in b_in at t (one.out t h)) value
     by_case true e (inr (outside, none)) = best_of_none W P is side v (λ t h. apart t outside h) none
-    by_case false e none = best_of_none W P is side v (λ t h. open_none from to a_in b_in at t e (out t h)) none
+    by_case false e none = best_of_none W P is side v (λ t h. open_none from to a_in b_in at t e (one.out t h)) none
 
 -- ---- the node of the window
 
-module _ (from to : Rational) (a : ℕ) (a_in b_in : Bool) (t u : Rational) where
-  out_ahead : Ahead from to a a a_in b_in t u → IsOneTime from to a_in b_in (shifted t (pos a)) u
-  out_ahead h = record {
-    inside = h.inside;
-    begins = precedes_after a_in (shifted t (pos a)) (later t a) u (le_of_same (shifted_pos t a)) h.begins;
-    ends = precedes_before b_in u (later t a) (shifted t (pos a)) h.ends (ge_of_same (shifted_pos t a));
-  }
-
-  into_ahead : IsOneTime from to a_in b_in (shifted t (pos a)) u → Ahead from to a a a_in b_in t u
-  into_ahead h = record {
-    inside = h.inside;
-    begins = precedes_after a_in (later t a) (shifted t (pos a)) u (ge_of_same (shifted_pos t a)) h.begins;
-    ends = precedes_before b_in u (shifted t (pos a)) (later t a) h.ends (le_of_same (shifted_pos t a));
+module _ (from to : Rational) (a : ℕ) (a_in b_in : Bool) (t : Rational) where
+  one_ahead : IsAtOne (Ahead from to a a a_in b_in t) from to a_in b_in (shifted t (pos a))
+  one_ahead = record {
+    out = λ u h. record {
+      inside = h.inside;
+      begins = precedes_after a_in (shifted t (pos a)) (later t a) u (le_of_same (shifted_pos t a)) h.begins;
+      ends = precedes_before b_in u (later t a) (shifted t (pos a)) h.ends (ge_of_same (shifted_pos t a));
+    };
+    into = λ u h. record {
+      inside = h.inside;
+      begins = precedes_after a_in (later t a) (shifted t (pos a)) u (ge_of_same (shifted_pos t a)) h.begins;
+      ends = precedes_before b_in u (shifted t (pos a)) (later t a) h.ends (le_of_same (shifted_pos t a));
+    };
   }
 
   -- of a window behind the far end is the first
-  out_behind : Behind from to a (Some a) a_in b_in t u → IsOneTime from to b_in a_in (shifted t (neg_ℤ (pos a))) u
-  out_behind h = record { inside = h.inside; begins = back_after b_in t u a h.begins; ends = back_before a_in t u a h.ends }
-
-  into_behind : IsOneTime from to b_in a_in (shifted t (neg_ℤ (pos a))) u → Behind from to a (Some a) a_in b_in t u
-  into_behind h = record { inside = h.inside; begins = after_back b_in t u a h.begins; ends = before_back a_in t u a h.ends }
+  one_behind : IsAtOne (Behind from to a (Some a) a_in b_in t) from to b_in a_in (shifted t (neg_ℤ (pos a)))
+  one_behind = record {
+    out = λ u h. record { inside = h.inside; begins = back_after b_in t u a h.begins; ends = back_before a_in t u a h.ends };
+    into = λ u h. record { inside = h.inside; begins = after_back b_in t u a h.begins; ends = before_back a_in t u a h.ends };
+  }
 
 -- what is so of the window's node
 pub record IsInstantNode (f : ℕ → Subformula) (place : ℕ) (tr : Trace) (n : Node) (z : Moved) : Type 0 where
@@ -166,16 +172,14 @@ module _ (f : ℕ → Subformula) (place : ℕ) (tr : Trace) where
       → IsBestOver side minus_infinity infinity (Ahead (start tr) (stop tr) a a a_in b_in t) (Robustness (f p) tr) v
   ahead_best side p a a_in b_in z t v h =
       one_time_best side (Ahead (start tr) (stop tr) a a a_in b_in t) (Robustness (f p) tr) (start tr) (stop tr) a_in b_in
-      (shifted t (pos a)) v (robust_is_function (f p) tr)
-      (λ u. out_ahead (start tr) (stop tr) a a_in b_in t u) (λ u. into_ahead (start tr) (stop tr) a a_in b_in t u) h
+      (shifted t (pos a)) v (robust_is_function (f p) tr) (one_ahead (start tr) (stop tr) a a_in b_in t) h
 
   behind_best : (side : Side) (p a : ℕ) (a_in b_in : Bool) (z : Moved) (t : Rational) (v : Extended)
       → glance_over (Robustness (f p) tr) (start tr) (stop tr) (made p side (neg_ℤ (pos a)) (if b_in then a_in else false) z) t v
       → IsBestOver side minus_infinity infinity (Behind (start tr) (stop tr) a (Some a) a_in b_in t) (Robustness (f p) tr) v
   behind_best side p a a_in b_in z t v h =
       one_time_best side (Behind (start tr) (stop tr) a (Some a) a_in b_in t) (Robustness (f p) tr) (start tr) (stop tr) b_in a_in
-      (shifted t (neg_ℤ (pos a))) v (robust_is_function (f p) tr)
-      (λ u. out_behind (start tr) (stop tr) a a_in b_in t u) (λ u. into_behind (start tr) (stop tr) a a_in b_in t u) h
+      (shifted t (neg_ℤ (pos a))) v (robust_is_function (f p) tr) (one_behind (start tr) (stop tr) a a_in b_in t) h
 
   eventually_node : (p a : ℕ) (a_in b_in : Bool) (z : Moved)
       → IsInstantNode f place tr (N.Eventually p a a a_in b_in) (made p Greatest (pos a) (if a_in then b_in else false) z)

@@ -56,14 +56,10 @@ pub record FirstGap (P : Function) (reach : ℕ) (at to : Rational) (lines : Lis
   -- within the limits
   pub fit : AreFit reach rest
 
--- what is to be read before the end begins with a gap
-pub first_gap : (P : Function) (reach : ℕ) (at to : Rational) (lines : List MarginLine) → IsAhead P reach at to lines → at <ʳ to
-    → FirstGap P reach at to lines
-first_gap P reach at to [] h lt = absurd (lt_irrefl (lt_of_lt_of_le lt (le_trans (ge_of_same h.joined) h.begun)))
-first_gap P reach at to (Point u v ∷ lines) h lt = absurd h.joined
-first_gap P reach at to (Gap a b p ∷ []) h lt = absurd h.joined
-first_gap P reach at to (Gap a b p ∷ Gap c d q ∷ lines) h lt = absurd h.joined
-first_gap P reach at to (Gap a b p ∷ Point u v ∷ lines) h lt = record {
+-- the first two of the lines, where these are a gap and a point
+abbrev gap_there : (P : Function) (reach : ℕ) (at to : Rational) (a b u : Frac) (p v : Margin) (lines : List MarginLine)
+    → IsAhead P reach at to (Gap a b p ∷ Point u v ∷ lines) → FirstGap P reach at to (Gap a b p ∷ Point u v ∷ lines)
+gap_there P reach at to a b u p v lines h = record {
   a = a;
   b = b;
   p = p;
@@ -82,6 +78,15 @@ first_gap P reach at to (Gap a b p ∷ Point u v ∷ lines) h lt = record {
   told = h.told.1.1;
   fit = h.fit.1.1;
 }
+
+-- what is to be read before the end begins with a gap
+pub first_gap : (P : Function) (reach : ℕ) (at to : Rational) (lines : List MarginLine) → IsAhead P reach at to lines → at <ʳ to
+    → FirstGap P reach at to lines
+first_gap P reach at to [] h lt = absurd (lt_irrefl (lt_of_lt_of_le lt (le_trans (ge_of_same h.joined) h.begun)))
+first_gap P reach at to (Point u v ∷ lines) h lt = absurd h.joined
+first_gap P reach at to (Gap a b p ∷ []) h lt = absurd h.joined
+first_gap P reach at to (Gap a b p ∷ Gap c d q ∷ lines) h lt = absurd h.joined
+first_gap P reach at to (Gap a b p ∷ Point u v ∷ lines) h lt = gap_there P reach at to a b u p v lines h
 
 -- lines that are joined from a time on are ahead of it
 pub ahead_from : (P : Function) (reach : ℕ) (at to : Rational) (lines : List MarginLine) → AreTold P lines → AreFit reach lines → AreJoined at to lines
@@ -153,28 +158,8 @@ first_of P reach at to [] gap h e = absurd (let x : None ≡ Some gap = e in cc)
 first_of P reach at to (Point u v ∷ lines) gap h e = absurd h.joined
 first_of P reach at to (Gap a b p ∷ []) gap h e = absurd h.joined
 first_of P reach at to (Gap a b p ∷ Gap c d q ∷ lines) gap h e = absurd h.joined
-first_of P reach at to (Gap a b p ∷ Point u v ∷ lines) gap h e = (
-  record {
-    a = a;
-    b = b;
-    p = p;
-    u = u;
-    v = v;
-    rest = lines;
-    is = refl;
-    begun = le_trans (le_of_same h.joined.0) h.begun;
-    ends = h.joined.1;
-    later = h.later;
-    joined = h.joined.2;
-    gap = h.told.0;
-    gap_fit = h.fit.0;
-    point = h.told.1.0;
-    point_fit = h.fit.1.0;
-    told = h.told.1.1;
-    fit = h.fit.1.1;
-  },
-  let x : Some (Gap a b p) ≡ Some gap = e in let y : gap ≡ Gap a b p = cc in y,
-)
+first_of P reach at to (Gap a b p ∷ Point u v ∷ lines) gap h e =
+    (gap_there P reach at to a b u p v lines h, let x : Some (Gap a b p) ≡ Some gap = e in let y : gap ≡ Gap a b p = cc in y)
 
 -- joined lines begin before they end
 pub joined_to : (from to : Rational) (P : Function) (lines : List MarginLine) → AreTold P lines → AreJoined from to lines → from ≤ʳ to

@@ -57,6 +57,7 @@ mod Looking
 mod WindowNodes
 mod WindowBridging
 mod WindowTurnings
+mod Silences
 pub mod WaitBridging
 pub mod WaitPast
 mod FirstWindows

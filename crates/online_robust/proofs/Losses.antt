@@ -36,7 +36,8 @@ ended_later (Some x) le h = le_trans h le
 pub loses_later : {l m : Rational} {x y : Edge} → l ≤ʳ m → Loses l x y → Loses m x y
 loses_later {x = x} le h = record { count = h.count; is = h.is; ended = λ k below. ended_later (slice_get (held_of x) k) le (h.ended k below) }
 
-slice_get-drop_at : (n k : ℕ) (xs : List MarginLine) → slice_get (drop n xs) k ≡ slice_get xs (n + k)
+-- an item of what is left
+pub slice_get-drop_at : (n k : ℕ) (xs : List MarginLine) → slice_get (drop n xs) k ≡ slice_get xs (n + k)
 slice_get-drop_at zero k xs = let e : k ≡ 0 + k = omega arith in ap (slice_get xs) e
 slice_get-drop_at (suc n) k [] = refl
 slice_get-drop_at (suc n) k (x ∷ xs) = let e : suc (n + k) ≡ suc n + k = omega arith in slice_get-drop_at n k xs ∙ ap (slice_get (x ∷ xs)) e

@@ -5,7 +5,6 @@ use Rattle.std.proofs.Common.{subst, ◌∙◌, length, drop, get_or, slice_get,
 use Rattle.std.specs.Prelude.{MatchBool, MatchOption}
 use Rattle.std.proofs.lemmas.List.{get_or-set_same}
 use Rattle.rational.specs.Time.{Rational, shifted, ◌≈◌, ◌≤ʳ◌, ◌<ʳ◌}
-use Rattle.rational.specs.Windows.{Function}
 use Rattle.rational.proofs.Order.{ge_of_same, le_of_lt, le_of_same, le_trans, lt_of_le_of_lt}
 use Rattle.rational.proofs.Order.{lt_of_lt_of_le, lt_irrefl, not_lt_of_le, same_sym, same_trans}
 use Rattle.rational.proofs.TimeLemmas.{same_shifted}
@@ -32,19 +31,12 @@ use Rattle.online_robust.proofs.DroppingLemmas.{held_of-without}
 use Rattle.online_robust.proofs.Spreads.{input_is_function}
 use Rattle.online_robust.proofs.TwoLemmas.{there_same}
 use Rattle.online_robust.proofs.Losses.{loses_at_both, loses_at_none, took}
+use Rattle.online_robust.proofs.WindowBounds.{goes_on}
 
 -- a gap that stands on an edge has an end
 ends_up : {t u : Rational} (o : Option Frac) → EndsAt o t → IsUpTo u o → u ≤ʳ t
 ends_up None e h = absurd e
 ends_up (Some f) e h = le_trans h (le_of_same e)
-
-before_own : (Q : Function) (reach : ℕ) (from : Rational) (low : Rim) (marks : List Mark) → Runs Q reach from low marks → IsBefore from low.until
-before_own Q reach from low [] runs = runs.1
-before_own Q reach from low (k ∷ marks) runs = by_until low.until runs.1
-  where
-    by_until : (o : Option Frac) → EndsAt o (value k.at) → IsBefore from o
-    by_until None e = absurd e
-    by_until (Some u) e = lt_of_lt_of_le runs.2 (ge_of_same e)
 
 module _ (x : Scope) (w : Window) (begin : Frac) (none : Margin) (low high : Rim) (q : Queue Margin) (seen fresh : List MarginLine) (l h : Rational)
     (s : IsSpread x w begin none low high q seen fresh l h) (ends : EndsAt low.until l) (ahead : Rational) (order : l <ʳ ahead)
@@ -135,7 +127,7 @@ module _ (x : Scope) (w : Window) (begin : Frac) (none : Margin) (low high : Rim
     by = c.by;
     ticks = c.ticks;
     last = c.last;
-    low_later = up c.k.after.until (before_own (input_of x w.side) x.reach (value c.k.at) c.k.after c.marks c.runs);
+    low_later = up c.k.after.until (goes_on (input_of x w.side) x.reach (value c.k.at) c.k.after c.marks c.runs);
     high_later = s.high_later;
     frozen = frozen;
     side = side;
@@ -157,7 +149,7 @@ module _ (x : Scope) (w : Window) (begin : Frac) (none : Margin) (low high : Rim
 
   -- the low end goes on in the gap behind the knot
   pub low_goes : (c : Leaves) → IsBefore l c.k.after.until
-  low_goes c = up c.k.after.until (before_own (input_of x w.side) x.reach (value c.k.at) c.k.after c.marks c.runs)
+  low_goes c = up c.k.after.until (goes_on (input_of x w.side) x.reach (value c.k.at) c.k.after c.marks c.runs)
     where
       up : (o : Option Frac) → IsBefore (value c.k.at) o → IsBefore l o
       up None b = tt
@@ -267,14 +259,13 @@ module _ (i : ℕ) (e mid new : Held) (low : Rim) (k : Mark) (rest : List Margin
         (took limit i mid new (L.Point k.at k.point) mid_within taken start_new point_first (le_of_same here))
 
 -- the gap that comes to the front is that behind the mark
-pub front_is : (x : Scope) (none : Margin) (k : Mark) (marks : List Mark) (high : Rim) (rest fresh : List MarginLine)
-    → (k.after.stands ≡ true) ⊎ ((k.after ≡ no_gap none) × (marks ≡ [])) → AreSeen k.after marks rest → high ≡ last_gap k.after marks
-    → IsToCome x high.until fresh → (next : Rim)
-    → MatchOption (slice_get (rest ++ fresh) 0) (next ≡ no_gap none) (λ line. next ≡ gap_of line) → next ≡ k.after
-front_is x none k marks high rest fresh (inr (e, nil)) seen last come next found =
+pub front_is : (x : Scope) (none : Margin) (k : Mark) (marks : List Mark) (rest fresh : List MarginLine)
+    → (k.after.stands ≡ true) ⊎ ((k.after ≡ no_gap none) × (marks ≡ [])) → AreSeen k.after marks rest → IsToCome x (last_gap k.after marks).until fresh
+    → (next : Rim) → MatchOption (slice_get (rest ++ fresh) 0) (next ≡ no_gap none) (λ line. next ≡ gap_of line) → next ≡ k.after
+front_is x none k marks rest fresh (inr (e, nil)) seen come next found =
     let rest_nil : rest ≡ [] = no_lines k.after (ap (λ (g : Rim). g.stands) e) (subst (λ (ms : List Mark). AreSeen k.after ms rest) nil seen) in
-    let high_is : high ≡ no_gap none = last ∙ ap (last_gap k.after) nil ∙ e in
-    let fresh_nil : fresh ≡ [] = (subst (λ (g : Rim). IsToCome x g.until fresh) high_is come).0 in
+    let last_is : last_gap k.after marks ≡ no_gap none = ap (last_gap k.after) nil ∙ e in
+    let fresh_nil : fresh ≡ [] = (subst (λ (g : Rim). IsToCome x g.until fresh) last_is come).0 in
     let none_there : slice_get (rest ++ fresh) 0 ≡ None =
     ap (λ (l : List MarginLine). slice_get (l ++ fresh) 0) rest_nil ∙ ap (λ (l : List MarginLine). slice_get l 0) fresh_nil in
     subst (λ o. MatchOption o (next ≡ no_gap none) (λ line. next ≡ gap_of line)) none_there found ∙ sym e
@@ -285,7 +276,7 @@ front_is x none k marks high rest fresh (inr (e, nil)) seen last come next found
         by_bool : (b : Bool) → b ≡ false → MatchBool b ((a c : Frac) × (g.until ≡ Some c) × (rest ≡ L.Gap a c g.shape ∷ [])) (rest ≡ []) → rest ≡ []
         by_bool true e h = absurd (cc)
         by_bool false e h = h
-front_is x none k marks high rest fresh (inl stands) seen last come next found = by_marks marks seen
+front_is x none k marks rest fresh (inl stands) seen come next found = by_marks marks seen
   where
     by_gap : (more : List MarginLine) → IsStanding k.after rest more → next ≡ k.after
     by_gap more h = by_bool k.after.stands refl h
@@ -348,8 +339,8 @@ module _ (x : Scope) (s : Sweep) (e mid : Held) (at : IsAt x s e) (low : IsLow x
 
     -- the new low gap is that behind the knot
     pub next_is : next ≡ leaving.k.after
-    next_is = front_is x s.none leaving.k leaving.marks s.place.high leaving.rest (fresh_at e s.window.of) leaving.standing.0 leaving.seen_is leaving.last
-        at.spread.to_come next
+    next_is = front_is x s.none leaving.k leaving.marks leaving.rest (fresh_at e s.window.of) leaving.standing.0 leaving.seen_is
+        (subst (λ (g : Rim). IsToCome x g.until (fresh_at e s.window.of)) leaving.last at.spread.to_come) next
         (subst (λ (l : List MarginLine). MatchOption (slice_get l 0) (next ≡ no_gap s.none) (λ l. next ≡ gap_of l))
         (ap (λ (l : List MarginLine). l ++ (edge_at new s.window.of).fresh) seen_is ∙ ap (λ (l : List MarginLine). leaving.rest ++ l) fresh_is) found)
 

@@ -14,6 +14,7 @@ use Rattle.value_laws.specs.Margins.{margin_function}
 use Rattle.value_laws.specs.declared.margin.Margin.{Margin}
 use Rattle.pl_signal.specs.declared.joining.Side.{Side}
 use Rattle.pl_signal.specs.declared.joining.Side.TheVariants.{Least, Greatest}
+use Rattle.pl_signal.proofs.Values.{some_is}
 use Rattle.envelope.specs.Best.{Has, IsBestAt}
 use Rattle.envelope.specs.declared.best.Best.{Best}
 use Rattle.envelope.specs.Turns.{IsNoBetter, none_of}
@@ -31,9 +32,6 @@ use Rattle.online_robust.specs.declared.ends.Rim.{Rim}
 use Rattle.online_robust.specs.declared.window.Window.{Window as Wide}
 use Rattle.online_robust.proofs.Spreads.{input_is_function}
 use Rattle.online_robust.proofs.WindowLaw.{AreUnder, IsOneOf, IsSpanned, IsWindow, before_of, last_on_of, runs_later, runs_on, window_bound, window_reached}
-
-some_is : {X : Type 0} {a b : X} → Some a ≡ Some b → a ≡ b
-some_is h = cc
 
 -- the times of a window at a time, wherever they lie
 abbrev pub times_of : Wide → Rational → Window

@@ -17,6 +17,7 @@ use Rattle.value_laws.specs.Margins.{margin_function}
 use Rattle.value_laws.specs.declared.margin.Margin.{Margin}
 use Rattle.pl_signal.specs.declared.faults.OpFault.{OpFault}
 use Rattle.pl_signal.specs.declared.faults.OpFault.TheVariants as F
+use Rattle.pl_signal.proofs.Values.{some_is}
 use Rattle.envelope.specs.Turns.{none_of}
 use Rattle.stl_syntax.specs.SupInf.{Robustness}
 use Rattle.stl_syntax.specs.Trace.{start, stop}
@@ -44,9 +45,6 @@ use Rattle.online_robust.proofs.Spreads.{bounded_on, last_from}
 use Rattle.online_robust.proofs.WindowBounds.{none_bounded}
 use Rattle.online_robust.proofs.WindowLaw.{before_of_end, up_to_before, up_to_end}
 use Rattle.online_robust.proofs.WindowPoints.{no_sheds}
-
-some_is : {X : Type 0} {a b : X} → Some a ≡ Some b → a ≡ b
-some_is h = cc
 
 module _ (x : Scope) (p : Ever) (e : Held) (at : IsPastAt x p e) where
   abbrev pub h : Rational

@@ -402,9 +402,9 @@ module _ (x : Scope) (own : ℕ) (from to : Rational) (s : Ever) (e : Held) (can
         → IsUnfixedUnder (at_time x (value now.at) (value now.at)) now.window now.gap f
         ⊎ IsUnmet (at_time x (value now.at) (value now.at)) now.window to at f → IsWindowFault x s.window to f
     refused_either begun before at same f (inl h) = refused_knot before f h
-    refused_either begun before at same f (inr (best, reached, t, gone, h)) =
+    refused_either begun before at same f (inr unmet) =
         subst (λ (w : Window). IsWindowFault x w to f) goes.window
-        (unmet_fault x (value now.at) now.window to t best reached gone at (ge_of_same same) begun can.span.ends f h)
+        (unmet_fault x (value now.at) now.window to at (ge_of_same same) begun can.span.ends f unmet)
 
     sheds_on : (next : Ever) (next_e : Held) → value now.at ≤ʳ value next.at → Sheds (shifted (value next.at) now.window.high) now.window.of now_e next_e
         → Sheds (shifted (value now.at) s.window.high) s.window.of e now_e → Sheds (shifted (value next.at) s.window.high) s.window.of e next_e

@@ -1,22 +1,19 @@
 -- A window without a low end that goes on in a turn, and one that begins in it.
-use Rattle.std.proofs.Common.{◌≡◌, ◌≢◌, ◌⊎◌, inl, inr, ℕ, ◌+◌, ◌<◌, ◌≤◌, ◌^◌, Bool, true, false, List, []}
-use Rattle.std.proofs.Common.{length, refl, sym, ap, subst, ◌∙◌, arith, Option, Some, None, ℤ, pos, ◌+ℤ◌, ◌<ℤ◌, ◌≤ℤ◌}
-use Rattle.std.specs.Prelude.{neg_ℤ, ◌-ℤ◌, MatchBool, MatchOption, IfSome, IsSomeAnd, int_lt, cond, slice_get}
+use Rattle.std.proofs.Common.{◌≡◌, ◌≢◌, ℕ, ◌+◌, ◌<◌, ◌≤◌, ◌^◌, Bool, true, false, []}
+use Rattle.std.proofs.Common.{refl, sym, ap, subst, ◌∙◌, arith, Option, Some, None, ℤ, pos, ◌+ℤ◌, ◌<ℤ◌, ◌≤ℤ◌}
+use Rattle.std.specs.Prelude.{neg_ℤ, ◌-ℤ◌, MatchOption, IfSome, IsSomeAnd, int_lt, cond, slice_get}
 use Rattle.std.proofs.lemmas.Int.{ints}
 use Rattle.rational.specs.Rational.{IsWithin}
 use Rattle.rational.specs.Time.{Rational, shifted, whole, ◌≈◌, ◌≤ʳ◌, ◌<ʳ◌}
-use Rattle.rational.specs.Extended.{minus_infinity, infinity, value_at, ◌≈ᵉ◌}
 use Rattle.rational.proofs.Order.{le_refl, le_trans, le_of_lt, le_of_same, ge_of_same, lt_of_le_of_lt}
 use Rattle.rational.proofs.Order.{lt_of_lt_of_le, same_refl, same_sym, same_trans}
 use Rattle.rational.proofs.Shift.{le_whole, lt_whole}
 use Rattle.rational.proofs.TimeLemmas.{same_shifted}
 use Rattle.frac128.specs.Value.{value}
 use Rattle.frac128.specs.declared.frac.Frac.{Frac}
-use Rattle.value_laws.specs.Margins.{margin_function}
-use Rattle.envelope.specs.Turns.{none_of}
 use Rattle.pl_signal.proofs.Values.{some_is}
-use Rattle.stl_syntax.specs.Trace.{start, stop}
-use Rattle.stl_syntax.specs.Formula.{Subformula, subformula}
+use Rattle.stl_syntax.specs.Trace.{start}
+use Rattle.stl_syntax.specs.Formula.{subformula}
 use Rattle.stl_syntax.specs.SupInf.{Robustness}
 use Rattle.online_nodes.specs.StreamedWide.{front_at}
 use Rattle.online_nodes.proofs.RunLaw.{int_order}
@@ -27,26 +24,29 @@ use Rattle.online_robust.specs.Standing.{HasStood, HasPassedTo, HasWaitedPast}
 use Rattle.online_robust.specs.Steps.{Step, Belongs, AreInputs, IsInput, back_of, begin_of, from_of, reach_before, seen_by}
 use Rattle.online_robust.specs.Waiting.{HasToldPast, IsBegunPast, silent_margin}
 use Rattle.online_robust.specs.WindowPasts.{CanPass, IsFitPast, IsPastAt, KeepsPoint, StoodPast}
-use Rattle.online_robust.specs.Windows.{HasTold, IsOwned, IsSpan, Scope, at_time, best_of, scope_at}
+use Rattle.online_robust.specs.Windows.{HasTold, IsSpan, Scope, at_time, best_of}
 use Rattle.online_robust.specs.declared.endless.Endless.{Endless}
-use Rattle.online_robust.specs.declared.line.MarginLine.{MarginLine}
 use Rattle.online_robust.specs.declared.line.Reached.{Reached}
 use Rattle.online_robust.specs.declared.operator.Operator.TheVariants as Op
 use Rattle.online_robust.specs.declared.ever.Ever.{Ever}
 use Rattle.online_robust.specs.declared.window.Window.{Window}
-use Rattle.online_robust.proofs.Bridging.{from_none, from_some, inputs_of}
-use Rattle.online_robust.proofs.Looking.{shifted_whole}
+use Rattle.online_robust.proofs.Bridging.{from_none, from_some, inputs_of, none_given, some_given}
+use Rattle.online_robust.proofs.Looking.{shifted_whole, stays_begun}
 use Rattle.online_robust.proofs.Builts.{tick_within}
 use Rattle.online_robust.proofs.PastAgain.{past_first, past_go_on}
 use Rattle.online_robust.proofs.WindowFaults.{no_later}
 use Rattle.online_robust.proofs.WindowTurnings.{none_there}
 use Rattle.rational.proofs.Mixed.{within_same}
-use Rattle.online_robust.proofs.PastBridging.{first_tick, fit, front_last, here, input, of_in, own}
-use Rattle.online_robust.proofs.PastBridging.{scope_of, stays_begun, to_first, to_last, to_tick, told_far}
+use Rattle.online_robust.proofs.PastBridging.{can_turn, first_tick, fit, here, input, own}
+use Rattle.online_robust.proofs.PastBridging.{scope_of, to_first, to_tick, turn_of}
+use Rattle.online_robust.proofs.WindowFirst.{CanTurn, Turn, scope_in, turn_span}
 
 -- ---- a window that goes on
 
 module _ (t : Step) (z : Endless) (e : Held) (to : ℕ) (b : Belongs t (Op.Ever z) e to) (s : Ever) (is : z.past ≡ Some s) where
+  abbrev turn_on : Turn
+  turn_on = turn_of t z e to b
+
   state : (s.window ≡ z.window) × IsSomeAnd t.before (HasPassedTo t.nodes t.place t.trace z.window.of (own t z e to b) s (seen_by b.node e))
   state = subst (λ (o : Option Ever). MatchOption o ((seen_by b.node e ≡ []) × HasWaitedPast z (begin_of t) (reach_before t + own t z e to b) t.before)
       (λ s. (s.window ≡ z.window) × IsSomeAnd t.before (HasPassedTo t.nodes t.place t.trace z.window.of (own t z e to b) s (seen_by b.node e)))) is b.stands.1
@@ -65,7 +65,7 @@ module _ (t : Step) (z : Endless) (e : Held) (to : ℕ) (b : Belongs t (Op.Ever 
           × (pos (begin_of t) ≤ℤ front_at t.ended (pos t.now) (subformula t.nodes z.window.of))
       by_before None before h = absurd h
       by_before (Some g) before (over, begun) =
-          let le = stays_begun t z e to b g before begun in
+          let le = stays_begun t (Op.Ever z) e to b z.window.of g before begun in
           let forth = subst (λ (o : Option ℤ). IfSome o (λ g. (pos (begin_of t) ≤ℤ g) × (g <ℤ pos to))) before b.forth in
           let inputs =
           inputs_of (Robustness (subformula t.nodes z.window.of) t.trace) (reach_before t) (begin_of t) (back_of (begin_of t) (Some g) z.window.high)
@@ -73,26 +73,16 @@ module _ (t : Step) (z : Endless) (e : Held) (to : ℕ) (b : Belongs t (Op.Ever 
           (subst (λ (o : Option ℤ).
           IsInput (Robustness (subformula t.nodes z.window.of) t.trace) (reach_before t) (begin_of t) (back_of (begin_of t) o z.window.high)
           (front_at t.ended (pos t.now) (subformula t.nodes z.window.of)) (held_at e z.window.of)) before (input t z e to b)) in
-          let last : whole g ≤ʳ whole (pos to) = le_of_lt (lt_whole forth.1) in (
+          let from : start t.trace ≤ʳ whole g = le_whole {j = pos (begin_of t)} {k = g} forth.0 in (
             whole g,
             sym (from_some t (Op.Ever z) e to b g before),
-            subst (λ (v : Window). CanPass (scope_at (subformula t.nodes z.window.of) t.trace (reach_before t)
-                (whole (front_at t.ended (pos t.now) (subformula t.nodes z.window.of)))
-                (shifted (whole (pos to)) v.high) (value s.at)) (own t z e to b) (whole g) (whole (pos to)) s e) state.0
-                (past_go_on (subformula t.nodes z.window.of) t.trace (reach_before t) (own t z e to b) g s e
-                (subst (λ l. StoodPast (subformula t.nodes z.window.of) t.trace (reach_before t) (own t z e to b) (whole g) s l)
+            subst (λ (v : Window). CanPass (scope_in turn_on v (value s.at)) turn_on.own (whole g) (whole (pos to)) s e) state.0
+                (past_go_on turn_on g s e
+                (subst (λ l. StoodPast turn_on.formula t.trace turn_on.reach turn_on.own (whole g) s l)
                 ((here t z e to b).seen e ∙ ap (λ (v : Window). (edge_at e v.of).seen) (sym state.0)) over)
-                (front_at t.ended (pos t.now) (subformula t.nodes z.window.of)) (pos to)
-                (subst (λ (v : Window).
-                AreInputs (Robustness (subformula t.nodes z.window.of) t.trace) (reach_before t) (begin_of t) (back_of (begin_of t) (Some g) v.high)
-                (front_at t.ended (pos t.now) (subformula t.nodes z.window.of)) (held_at e v.of)) (sym state.0) inputs)
-                (subst (λ (v : Window). v.of < length e.edges) (sym state.0) (of_in t z e to b)) forth.1 (le_whole {j = pos (begin_of t)} {k = g} forth.0)
-                (le_trans (first_tick t z e to b).0 (le_whole {j = pos (begin_of t)} {k = g} forth.0), le_trans last (to_tick t z e to b).1)
-                (to_tick t z e to b) (to_last t z e to b) (le_whole le, front_last t z e to b)
-                (subst (λ (v : Window). (shifted (whole (pos to)) v.high ≤ʳ whole (front_at t.ended (pos t.now) (subformula t.nodes z.window.of)))
-                ⊎ ((whole (front_at t.ended (pos t.now) (subformula t.nodes z.window.of)) ≈ stop t.trace) × (whole (pos to) ≈ stop t.trace)))
-                (sym state.0) (told_far t z e to b))
-                (subst (λ v. IsOwned v (own t z e to b)) (sym state.0) (here t z e to b).own)),
+                (subst (λ (v : Window). CanTurn turn_on v (back_of (begin_of t) (Some g) v.high) e) (sym state.0)
+                (can_turn t z e to b (back_of (begin_of t) (Some g) z.window.high) le inputs))
+                forth.1 from (le_trans (first_tick t z e to b).0 from, le_trans (le_of_lt (lt_whole forth.1)) (to_tick t z e to b).1)),
             le,
           )
 
@@ -126,77 +116,41 @@ module _ (t : Step) (z : Endless) (e : Held) (to : ℕ) (b : Belongs t (Op.Ever 
 
   -- an empty edge is that of an input that has given out nothing
   pub not_begun : slice_get (held_at e z.window.of) 0 ≡ None → front_at t.ended (pos t.now) (subformula t.nodes z.window.of) <ℤ pos (begin_of t)
-  not_begun empty = by_test (int_lt (front_at t.ended (pos t.now) (subformula t.nodes z.window.of)) (pos (begin_of t))) refl first_input
-    where
-      by_test : (c : Bool) → int_lt (front_at t.ended (pos t.now) (subformula t.nodes z.window.of)) (pos (begin_of t)) ≡ c
-          → MatchBool c (held_at e z.window.of ≡ []) (AreInputs (Robustness (subformula t.nodes z.window.of) t.trace) (reach_before t) (begin_of t) None
-          (front_at t.ended (pos t.now) (subformula t.nodes z.window.of)) (held_at e z.window.of))
-          → front_at t.ended (pos t.now) (subformula t.nodes z.window.of) <ℤ pos (begin_of t)
-      by_test true f h = int_order (front_at t.ended (pos t.now) (subformula t.nodes z.window.of)) (pos (begin_of t)) true f
-      by_test false f inputs = let (p, v, rest, is, when, joined) = inputs.left in
-          absurd (let k : ◌≡◌ {A = Option MarginLine} (Some _) None = sym (ap (λ (l : List MarginLine). slice_get l 0) is) ∙ empty in let y = k in cc)
+  not_begun empty = none_given (Robustness (subformula t.nodes z.window.of) t.trace) (reach_before t) (begin_of t)
+      (front_at t.ended (pos t.now) (subformula t.nodes z.window.of)) (held_at e z.window.of) first_input empty
 
   -- one that is not empty, that of an input that has
   pub has_begun : slice_get (held_at e z.window.of) 0 ≢ None → (pos (begin_of t) ≤ℤ front_at t.ended (pos t.now) (subformula t.nodes z.window.of))
       × AreInputs (Robustness (subformula t.nodes z.window.of) t.trace) (reach_before t) (begin_of t) None
       (front_at t.ended (pos t.now) (subformula t.nodes z.window.of)) (held_at e z.window.of)
-  has_begun some = by_test (int_lt (front_at t.ended (pos t.now) (subformula t.nodes z.window.of)) (pos (begin_of t))) refl first_input
-    where
-      by_test : (c : Bool) → int_lt (front_at t.ended (pos t.now) (subformula t.nodes z.window.of)) (pos (begin_of t)) ≡ c
-          → MatchBool c (held_at e z.window.of ≡ []) (AreInputs (Robustness (subformula t.nodes z.window.of) t.trace) (reach_before t) (begin_of t) None
-          (front_at t.ended (pos t.now) (subformula t.nodes z.window.of)) (held_at e z.window.of))
-          → (pos (begin_of t) ≤ℤ front_at t.ended (pos t.now) (subformula t.nodes z.window.of))
-          × AreInputs (Robustness (subformula t.nodes z.window.of) t.trace) (reach_before t) (begin_of t) None
-          (front_at t.ended (pos t.now) (subformula t.nodes z.window.of)) (held_at e z.window.of)
-      by_test true f h = absurd (some (ap (λ (l : List MarginLine). slice_get l 0) h))
-      by_test false f inputs = (int_order (front_at t.ended (pos t.now) (subformula t.nodes z.window.of)) (pos (begin_of t)) false f, inputs)
+  has_begun some = some_given (Robustness (subformula t.nodes z.window.of) t.trace) (reach_before t) (begin_of t)
+      (front_at t.ended (pos t.now) (subformula t.nodes z.window.of)) (held_at e z.window.of) first_input some
 
   module _ (some : slice_get (held_at e z.window.of) 0 ≢ None) (s : Ever) (k : IsBegunPast z.window (begin_of t) z.silent.last s) where
-    abbrev f : Subformula
-    f = subformula t.nodes z.window.of
-
-    abbrev F : ℤ
-    F = front_at t.ended (pos t.now) (subformula t.nodes z.window.of)
+    abbrev turn : Turn
+    turn = turn_of t z e to b
 
     abbrev x : Scope
     x = scope_of t z e to b (value s.at)
 
-    in_front : (start t.trace ≤ʳ whole F) × (whole F ≤ʳ stop t.trace)
-    in_front = (le_whole {j = pos (begin_of t)} {k = F} (has_begun some).0, front_last t z e to b)
-
-    ended : (shifted (whole (pos to)) z.window.high ≤ʳ whole F) ⊎ (whole F ≈ stop t.trace)
-    ended = by_told (told_far t z e to b)
-      where
-        by_told : (shifted (whole (pos to)) z.window.high ≤ʳ whole F) ⊎ ((whole F ≈ stop t.trace) × (whole (pos to) ≈ stop t.trace))
-            → (shifted (whole (pos to)) z.window.high ≤ʳ whole F) ⊎ (whole F ≈ stop t.trace)
-        by_told (inl le) = inl le
-        by_told (inr h) = inr h.0
+    -- it may go on in the turn
+    can : CanTurn turn z.window None e
+    can = can_turn t z e to b None (has_begun some).0 (has_begun some).1
 
     -- its high end lies before the start
     first : IsWithin (2 ^ 34) (value s.at) → shifted (value s.at) z.window.high <ʳ start t.trace → IsPastAt x s e × KeepsPoint s
     first near early =
-        subst (λ (v : Window). ((u : Rational) → value_at (margin_function s.none) u ≈ᵉ none_of v.side minus_infinity infinity)
-        → shifted (value s.at) v.high <ʳ value s.start → AreInputs (Robustness f t.trace) (reach_before t) (begin_of t) None F (held_at e v.of)
-        → (edge_at e v.of).seen ≡ [] → v.of < length e.edges → IsFitPast v (reach_before t) → IsPastAt x s e × KeepsPoint s) k.window
-        (λ none early' inputs nil of_in fit'.
-        past_first f t.trace (reach_before t) s e F
-        (shifted (whole (pos to)) z.window.high) k.begins none k.still k.gap k.point k.best near early' inputs nil of_in
-        fit' (first_tick t z e to b) in_front ended)
-        k.none (lt_of_lt_of_le early (ge_of_same k.begins)) (has_begun some).1 nothing_seen (of_in t z e to b) (fit t z e to b)
+        subst (λ (v : Window). IsPastAt (scope_in turn v (value s.at)) s e × KeepsPoint s) k.window
+        (past_first turn s e (subst (λ (v : Window). IsBegunPast v (begin_of t) z.silent.last s) (sym k.window) k)
+        (subst (λ (v : Window). CanTurn turn v None e) (sym k.window) can)
+        (subst (λ (v : Window). (edge_at e v.of).seen ≡ []) (sym k.window) nothing_seen)
+        (subst (λ (v : Window). IsFitPast v turn.reach) (sym k.window) (fit t z e to b)) (first_tick t z e to b) near
+        (subst (λ (v : Window). shifted (value s.at) v.high <ʳ value s.start) (sym k.window) (lt_of_lt_of_le early (ge_of_same k.begins))))
 
     span : (from : Rational) → from ≤ʳ whole (pos to) → IsTick from → start t.trace ≤ʳ from → IsSpan x s.window (own t z e to b) from (whole (pos to))
-    span from order tick begins = subst (λ (v : Window). IsSpan x v (own t z e to b) from (whole (pos to))) (sym k.window) (record {
-      offsets = subst (λ j. j <ℤ z.window.high) (sym (fit t z e to b).low) (let h = (fit t z e to b).from in omega (arith, ints, h));
-      owns = (here t z e to b).own;
-      aside = inr (here t z e to b).behind;
-      order = order;
-      from_tick = tick;
-      to_tick = to_tick t z e to b;
-      begins = begins;
-      ends = to_last t z e to b;
-      by = le_refl (shifted (whole (pos to)) z.window.high);
-      told = told_far t z e to b;
-    })
+    span from order tick begins = subst (λ (v : Window). IsSpan x v (own t z e to b) from (whole (pos to))) (sym k.window)
+        (turn_span (value s.at) from can
+        (subst (λ j. j <ℤ z.window.high) (sym (fit t z e to b).low) (let h = (fit t z e to b).from in omega (arith, ints, h))) tick begins order)
 
     -- nothing was told before
     first_turn : (value s.at ≈ whole (pos (begin_of t) -ℤ pos 4294967296)) → s.last ≡ None → CanPass x (own t z e to b) (start t.trace) (whole (pos to)) s e
@@ -234,9 +188,8 @@ module _ (t : Step) (z : Endless) (e : Held) (to : ℕ) (b : Belongs t (Op.Ever 
             ap value (sym placed),
             there.0,
             subst (λ (v : Window). IsThere (best_of x v) (reach_before t + own t z e to b) (value r.at) r.value) (sym k.window)
-                (none_there f t.trace (reach_before t) (reach_before t + own t z e to b) (whole F)
-                (shifted (whole (pos to)) z.window.high) (value s.at) z.window
-                (value r.at) r.value (subst (λ (i : Frac). shifted (value i) z.window.high <ʳ start t.trace) placed early) there.2),
+                (none_there x z.window (reach_before t + own t z e to b) (value r.at) r.value
+                (subst (λ (i : Frac). shifted (value i) z.window.high <ʳ start t.trace) placed early) there.2),
           );
           span = span (whole g) order tick begins;
         }

@@ -7,6 +7,7 @@ use Rattle.rational.specs.Time.{Rational, ◌≈◌, ◌≤ʳ◌, ◌<ʳ◌}
 use Rattle.rational.specs.Windows.{Function}
 use Rattle.rational.proofs.Order.{le_refl, le_of_lt, le_of_same, ge_of_same, lt_of_le_of_lt, not_lt_of_le, same_sym, same_trans}
 use Rattle.frac128.specs.Value.{value}
+use Rattle.pl_signal.proofs.Values.{some_is}
 use Rattle.stl_syntax.specs.SupInf.{Robustness}
 use Rattle.online_robust.specs.Lines.{end_of, margin_of}
 use Rattle.online_robust.specs.Held.{Held, edge_at, held_at, with_edge, without}
@@ -17,9 +18,6 @@ use Rattle.online_robust.specs.declared.line.MarginLine.TheVariants.{Point, Gap}
 use Rattle.online_robust.proofs.JoinedLemmas.{FirstGap, ahead_next, ahead_on, first_of, there_at, there_in}
 use Rattle.online_robust.proofs.Losses.{took, took_held, loses_at_both}
 use Rattle.online_robust.proofs.Robustly.{robust_is_function}
-
-some_is : {X : Type 0} {a b : X} → Some a ≡ Some b → a ≡ b
-some_is h = cc
 
 -- a number that is not equal to another, and not below it, is above it
 pub above_of : (o : Ordering) {a b : Rational} → IsOrder o a b → (o ≡ Equal → ⊥) → b ≤ʳ a → b <ʳ a

@@ -4,9 +4,9 @@ use Rattle.std.proofs.Common.{◌++◌, drop, refl, sym, ap, subst, ◌∙◌, a
 use Rattle.std.specs.Prelude.{MatchBool, IfSome, int_lt, cond, slice_get}
 use Rattle.std.proofs.lemmas.Int.{ints}
 use Rattle.std.proofs.lemmas.Bool.{cases_lt}
-use Rattle.rational.specs.Time.{Rational, whole, ◌≈◌, ◌≤ʳ◌, ◌<ʳ◌}
+use Rattle.rational.specs.Time.{Rational, whole, ◌≤ʳ◌, ◌<ʳ◌}
 use Rattle.rational.specs.Windows.{Function}
-use Rattle.rational.proofs.Order.{le_trans, le_of_same, ge_of_same, same_sym, same_trans, not_lt_of_le}
+use Rattle.rational.proofs.Order.{le_trans, le_of_same, ge_of_same, same_sym, not_lt_of_le}
 use Rattle.rational.proofs.Shift.{le_whole}
 use Rattle.frac128.specs.Value.{value}
 use Rattle.online_nodes.proofs.RunLaw.{int_order}
@@ -18,6 +18,7 @@ use Rattle.online_robust.specs.Steps.{AreInputs, AreLeft, IsInput, back_of, IsCu
 use Rattle.online_robust.specs.Pasts.{IsRest}
 use Rattle.online_robust.specs.declared.line.MarginLine.{MarginLine}
 use Rattle.online_robust.specs.declared.line.MarginLine.TheVariants.{Point, Gap}
+use Rattle.online_robust.proofs.JoinedLemmas.{joined_same}
 use Rattle.online_nodes.proofs.DroppingLemmas.{drop-drop}
 
 -- ---- dropping
@@ -50,17 +51,9 @@ pub fit_append : (reach : ℕ) (a b : List MarginLine) → AreFit reach a → Ar
 fit_append reach [] b h k = k
 fit_append reach (x ∷ a) b h k = (h.0, fit_append reach a b h.1 k)
 
--- joined lines may begin at the time in another form
-pub joined_from : (from other to : Rational) (lines : List MarginLine) → from ≈ other → AreJoined from to lines → AreJoined other to lines
-joined_from from other to [] e h = same_trans (same_sym e) h
-joined_from from other to (Gap a b p ∷ []) e h = absurd h
-joined_from from other to (Gap a b p ∷ Gap c d q ∷ lines) e h = absurd h
-joined_from from other to (Gap a b p ∷ Point u v ∷ lines) e h = (same_trans h.0 e, h.1, h.2)
-joined_from from other to (Point u v ∷ lines) e h = absurd h
-
 -- lines that go on from lines go on from where those begin
 pub joined_append : (from mid to : Rational) (a b : List MarginLine) → AreJoined from mid a → AreJoined mid to b → AreJoined from to (a ++ b)
-joined_append from mid to [] b h k = joined_from mid from to b (same_sym h) k
+joined_append from mid to [] b h k = joined_same mid from to b (same_sym h) k
 joined_append from mid to (Gap a c p ∷ []) b h k = absurd h
 joined_append from mid to (Gap a c p ∷ Gap d e q ∷ lines) b h k = absurd h
 joined_append from mid to (Gap a c p ∷ Point u v ∷ lines) b h k = (h.0, h.1, joined_append (value u) mid to lines b h.2 k)

@@ -1,6 +1,6 @@
 -- Lines that are shed in two turns.
-use Rattle.std.proofs.Common.{◌≡◌, ◌⊎◌, inl, inr, ℕ, zero, suc, ◌+◌, ◌-◌, ◌<◌, ◌≤◌, List, [], ◌∷◌}
-use Rattle.std.proofs.Common.{refl, ap, subst, ◌∙◌, drop, slice_get, arith}
+use Rattle.std.proofs.Common.{◌≡◌, ◌⊎◌, inl, inr, ℕ, zero, suc, ◌+◌, ◌-◌, ◌<◌, ◌≤◌, List}
+use Rattle.std.proofs.Common.{ap, subst, ◌∙◌, drop, slice_get, arith}
 use Rattle.std.proofs.lemmas.Bool.{cases_lt}
 use Rattle.std.specs.Prelude.{IfSome}
 use Rattle.rational.specs.Time.{Rational, ◌≤ʳ◌}
@@ -10,12 +10,7 @@ use Rattle.online_robust.specs.Lines.{end_of}
 use Rattle.online_robust.specs.Windows.{Sheds}
 use Rattle.online_robust.specs.declared.line.MarginLine.{MarginLine}
 use Rattle.online_nodes.proofs.DroppingLemmas.{drop-drop}
-use Rattle.online_robust.proofs.Losses.{ended_later}
-
-slice_get-drop_at : (n k : ℕ) (xs : List MarginLine) → slice_get (drop n xs) k ≡ slice_get xs (n + k)
-slice_get-drop_at zero k xs = let e : k ≡ 0 + k = omega arith in ap (slice_get xs) e
-slice_get-drop_at (suc n) k [] = refl
-slice_get-drop_at (suc n) k (x ∷ xs) = let e : suc (n + k) ≡ suc n + k = omega arith in slice_get-drop_at n k xs ∙ ap (slice_get (x ∷ xs)) e
+use Rattle.online_robust.proofs.Losses.{ended_later, slice_get-drop_at}
 
 -- what is shed by a limit is shed by a later one
 pub sheds_later : (l m : Rational) (i : ℕ) (x y : Held) → l ≤ʳ m → Sheds l i x y → Sheds m i x y

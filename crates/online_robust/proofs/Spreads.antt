@@ -16,7 +16,6 @@ use Rattle.frac128.specs.declared.frac.Frac.{Frac}
 use Rattle.value_laws.specs.Margins.{margin_function}
 use Rattle.value_laws.specs.declared.margin.Margin.{Margin}
 use Rattle.pl_signal.specs.declared.joining.Side.{Side}
-use Rattle.pl_signal.specs.declared.joining.Side.TheVariants.{Least, Greatest}
 use Rattle.envelope.specs.Turns.{none_of}
 use Rattle.stl_syntax.specs.Trace.{start, stop}
 use Rattle.stl_syntax.specs.SupInf.{Robustness}
@@ -32,17 +31,13 @@ use Rattle.online_robust.specs.declared.window.Window.{Window}
 use Rattle.online_robust.proofs.JoinedLemmas.{joined_to}
 use Rattle.online_robust.proofs.Marks.{by_more, frozen_more, frozen_none, last_more, runs_more, seen_more, standing_more_marks, ticks_more}
 use Rattle.online_robust.proofs.Robustly.{robust_is_function}
+use Rattle.online_robust.proofs.WindowBounds.{none_bounded}
 
 -- the last gap, from the last mark on
 pub last_from : (Q : Function) (reach : ℕ) (from : Rational) (low : Rim) (marks : List Mark) → Runs Q reach from low marks
     → (m : Rational) × IsOn Q reach m (last_gap low marks) × IsBefore m (last_gap low marks).until
 last_from Q reach from low [] runs = (from, runs.0, runs.1)
 last_from Q reach from low (k ∷ marks) runs = last_from Q reach (value k.at) k.after marks runs.4
-
--- an infinite value is bounded
-none_bounded : (side : Side) → IsBounded (2 ^ 31) (none_of side minus_infinity infinity)
-none_bounded Greatest = tt
-none_bounded Least = tt
 
 -- the input with what lies outside is a function of time
 pub input_is_function : (x : Scope) (side : Side) → IsFunction (input_of x side)

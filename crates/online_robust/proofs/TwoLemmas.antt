@@ -60,16 +60,24 @@ pub record IsStop (at : Rational) (p q : MarginLine) (t to : Rational) : Type 0 
   -- but at one of them
   pub one : (value (end_of p) ≈ t) ⊎ (value (end_of q) ≈ t) ⊎ (to ≤ʳ t)
 
+-- a time is the earlier of two
+pub record IsEarlier (u v i : Frac) : Type 0 where
+  -- not behind the first
+  pub left : value i ≤ʳ value u
+  -- nor behind the second
+  pub right : value i ≤ʳ value v
+  -- but at one of them
+  pub one : (value i ≡ value u) ⊎ (value i ≡ value v)
+
 -- the least of the three is the next stop
-pub stop_of : (at : Rational) (p q : MarginLine) (u v i t to : Frac) → u ≡ end_of p → v ≡ end_of q → at <ʳ value (end_of p) → at <ʳ value (end_of q)
-    → at <ʳ value to → value i ≤ʳ value u → value i ≤ʳ value v → (value i ≡ value u) ⊎ (value i ≡ value v) → value t ≤ʳ value i → value t ≤ʳ value to
-    → (value t ≡ value i) ⊎ (value t ≡ value to) → IsStop at p q (value t) (value to)
-stop_of at p q u v i t to is_u is_v later_p later_q more i_u i_v i_one t_i t_to t_one = record {
-  after = after t_one i_one;
-  left = le_trans t_i (subst (λ (f : Frac). value i ≤ʳ value f) is_u i_u);
-  right = le_trans t_i (subst (λ (f : Frac). value i ≤ʳ value f) is_v i_v);
-  by = t_to;
-  one = which t_one i_one;
+pub stop_of : (at : Rational) (p q : MarginLine) {u v i t to : Frac} → u ≡ end_of p → v ≡ end_of q → at <ʳ value (end_of p) → at <ʳ value (end_of q)
+    → at <ʳ value to → IsEarlier u v i → IsEarlier i to t → IsStop at p q (value t) (value to)
+stop_of at p q {u} {v} {i} {t} {to} is_u is_v later_p later_q more first second = record {
+  after = after second.one first.one;
+  left = le_trans second.left (subst (λ (f : Frac). value i ≤ʳ value f) is_u first.left);
+  right = le_trans second.left (subst (λ (f : Frac). value i ≤ʳ value f) is_v first.right);
+  by = second.right;
+  one = which second.one first.one;
 }
   where
     after : (value t ≡ value i) ⊎ (value t ≡ value to) → (value i ≡ value u) ⊎ (value i ≡ value v) → at <ʳ value t

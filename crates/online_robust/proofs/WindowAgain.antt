@@ -1,12 +1,11 @@
 -- A window goes on in a later turn, or begins, over what its input has given out by then; and what it leaves of it.
 use Rattle.std.proofs.Common.{◌≡◌, ◌⊎◌, inl, inr, ℕ, zero, suc, ◌+◌, ◌<◌, ◌≤◌, ◌^◌, Bool, true, false}
-use Rattle.std.proofs.Common.{List, [], ◌∷◌, ◌++◌, length, drop, slice_get, Option, Some, None, refl}
+use Rattle.std.proofs.Common.{List, [], ◌∷◌, ◌++◌, drop, slice_get, Option, Some, None, refl}
 use Rattle.std.proofs.Common.{sym, ap, subst, ◌∙◌, arith, ℤ, pos, ◌+ℤ◌, ◌≤ℤ◌, ◌<ℤ◌, neg_ℤ}
 use Rattle.std.specs.Prelude.{◌-ℤ◌, IfSome, IsSome, IsSomeAnd, MatchBool, cond, int_lt}
 use Rattle.std.proofs.lemmas.Int.{ints}
 use Rattle.rational.specs.Rational.{IsWithin}
 use Rattle.rational.specs.Time.{Rational, shifted, whole, ◌≈◌, ◌≤ʳ◌, ◌<ʳ◌}
-use Rattle.rational.specs.Extended.{minus_infinity, infinity, value_at, ◌≈ᵉ◌}
 use Rattle.rational.specs.Windows.{Function}
 use Rattle.rational.proofs.Order.{ge_of_same, le_of_lt, le_of_same, le_refl, le_trans, lt_of_le_of_lt}
 use Rattle.rational.proofs.Order.{lt_of_lt_of_le, not_lt_of_le, same_refl, same_sym, same_trans}
@@ -15,22 +14,18 @@ use Rattle.rational.proofs.Shift.{le_whole, lt_whole}
 use Rattle.rational.proofs.TimeLemmas.{same_shifted}
 use Rattle.frac128.specs.Value.{value}
 use Rattle.frac128.specs.declared.frac.Frac.{Frac}
-use Rattle.value_laws.specs.Margins.{is_ramp, margin_function}
 use Rattle.value_laws.specs.declared.margin.Margin.{Margin}
-use Rattle.pl_signal.specs.declared.joining.Side.{Side}
-use Rattle.envelope.specs.Turns.{none_of}
-use Rattle.stl_syntax.specs.Formula.{Subformula}
 use Rattle.stl_syntax.specs.SupInf.{Robustness}
-use Rattle.stl_syntax.specs.Trace.{Trace, first_time, start, stop}
+use Rattle.stl_syntax.specs.Trace.{first_time, start, stop}
 use Rattle.online_nodes.proofs.RunLaw.{int_order}
 use Rattle.window_ops.proofs.Ends.{le_shifted}
 use Rattle.online_robust.specs.Held.{Held, edge_at, fresh_at, held_at}
 use Rattle.online_robust.specs.Lines.{end_of}
-use Rattle.online_robust.specs.Queues.{StandsFor}
 use Rattle.online_robust.specs.Sweeping.{EndsAt, IsBefore, Mark, Runs, last_gap}
 use Rattle.online_robust.specs.Told.{AreFit, AreJoined, AreTold, IsTick}
 use Rattle.online_robust.specs.Steps.{AreInputs, AreLeft, IsCut, back_of}
 use Rattle.online_robust.specs.ReadLines.{IsThere}
+use Rattle.online_robust.specs.Waiting.{IsBegun}
 use Rattle.online_robust.specs.Windows.{AreSeen, AreStanding, CanSweep, HasCome, HasTold, IsFitWindow}
 use Rattle.online_robust.specs.Windows.{IsOwn, IsOwned, IsSpan, IsSpread, IsStanding, IsToCome, Scope, Sheds}
 use Rattle.online_robust.specs.Windows.{StoodOver, at_time, before_start, best_of, input_of, no_gap, scope_at}
@@ -41,9 +36,8 @@ use Rattle.online_robust.specs.declared.line.Reached.{Reached}
 use Rattle.online_robust.specs.declared.window.Sweep.{Sweep}
 use Rattle.online_robust.specs.declared.window.Window.{Window}
 use Rattle.online_robust.proofs.Builts.{tick_within}
-use Rattle.online_robust.proofs.WindowBounds.{still_moved}
 use Rattle.online_robust.proofs.WindowPoints.{in_order}
-use Rattle.online_robust.proofs.WindowFirst.{first_spread, spread_told}
+use Rattle.online_robust.proofs.WindowFirst.{CanTurn, Turn, first_spread, scope_in, spread_told, told_or_ended, turn_span}
 
 -- the lines go on with the point at the end of a gap
 abbrev pub IsNext : Option Frac → List MarginLine → Rational → Type 0
@@ -101,9 +95,6 @@ some_or_none (Some u) = inr refl
 pub moved_whole : (t : Rational) (g k : ℤ) → t ≈ whole g → shifted t k ≈ whole (g +ℤ k)
 moved_whole t g k e = same_trans (same_shifted k e) (record { same = omega (arith, parts) })
 
-some_is : {X : Type 0} {a b : X} → Some a ≡ Some b → a ≡ b
-some_is h = cc
-
 -- the first of the lines that were read is the low gap, if it stands on the edge
 pub front_gap : (low : Rim) (marks : List Mark) (seen : List MarginLine) → low.stands ≡ true → AreSeen low marks seen
     → (a c : Frac) × (rest : List MarginLine) × (low.until ≡ Some c) × (seen ≡ L.Gap a c low.shape ∷ rest)
@@ -138,10 +129,18 @@ back_before first g k t e lt = by_test (int_lt (g +ℤ k) (pos first)) refl
     by_test false is = absurd (not_lt_of_le (le_whole (int_order (g +ℤ k) (pos first) false is)) (lt_of_le_of_lt (ge_of_same e) lt))
 
 -- a window that was told before, over what its input has given out by now
-module _ (f : Subformula) (tr : Trace) (reach own : ℕ) (g : ℤ) (s : Sweep) (e : Held) (st : StoodOver f tr reach own (whole g) s (edge_at e s.window.of).seen)
-    (front : ℤ) (inputs : AreInputs (Robustness f tr) reach (first_time tr.rows)
-    (back_of (first_time tr.rows) (Some g) s.window.low) front (held_at e s.window.of))
-    (some : IsSome s.place.high.until) where
+module _ (turn : Turn) (g : ℤ) (s : Sweep) (e : Held)
+    (st : StoodOver turn.formula turn.trace turn.reach turn.own (whole g) s (edge_at e s.window.of).seen)
+    (can : CanTurn turn s.window (back_of (first_time turn.trace.rows) (Some g) s.window.low) e) (some : IsSome s.place.high.until) where
+  abbrev first_row : ℕ
+  first_row = first_time turn.trace.rows
+
+  abbrev now : Scope
+  now = scope_in turn s.window (value s.place.at)
+
+  abbrev old : Scope
+  old = scope_at turn.formula turn.trace turn.reach st.front st.bound (value s.place.at)
+
   abbrev seen : List MarginLine
   seen = (edge_at e s.window.of).seen
 
@@ -158,36 +157,36 @@ module _ (f : Subformula) (tr : Trace) (reach own : ℕ) (g : ℤ) (s : Sweep) (
   low_is = moved_whole (value s.place.at) g s.window.low st.at
 
   -- where the low gap stands on the edge
-  by_standing : s.place.low.stands ≡ true → IsNext (last_gap s.place.low marks).until fresh (whole front)
-  by_standing stands = by_back (int_lt (g +ℤ s.window.low) (pos (first_time tr.rows))) inputs.left
+  by_standing : s.place.low.stands ≡ true → IsNext (last_gap s.place.low marks).until fresh (whole turn.front)
+  by_standing stands = by_back (int_lt (g +ℤ s.window.low) (pos first_row)) can.inputs.left
     where
-      by_back : (b : Bool) → AreLeft (first_time tr.rows) (cond b None (Some (g +ℤ s.window.low))) front (seen ++ fresh)
-          → IsNext (last_gap s.place.low marks).until fresh (whole front)
+      by_back : (b : Bool) → AreLeft first_row (cond b None (Some (g +ℤ s.window.low))) turn.front (seen ++ fresh)
+          → IsNext (last_gap s.place.low marks).until fresh (whole turn.front)
       by_back true (at, v, rest, is, when, joined) =
           let (a, c, more, until, gap) = front_gap s.place.low marks seen stands st.spread.seen_is in
           let one : L.Gap a c s.place.low.shape ∷ (more ++ fresh) ≡ L.Point at v ∷ rest = sym (ap (λ (l : List MarginLine). l ++ fresh) gap) ∙ is in
           absurd (let z : Some (L.Gap a c s.place.low.shape) ≡ Some (L.Point at v) = ap (λ (l : List MarginLine). slice_get l 0) one in cc)
       by_back false (from, le, joined, later) =
-          next_of s.none s.place.low marks seen fresh from (whole front) stands st.spread.seen_is st.spread.standing some_last joined
+          next_of s.none s.place.low marks seen fresh from (whole turn.front) stands st.spread.seen_is st.spread.standing some_last joined
 
   -- where it lies before the start
-  by_start : s.place.low ≡ before_start s.none s.start → IsNext (last_gap s.place.low marks).until fresh (whole front)
+  by_start : s.place.low ≡ before_start s.none s.start → IsNext (last_gap s.place.low marks).until fresh (whole turn.front)
   by_start is_low =
       let before : shifted (value s.place.at) s.window.low <ʳ value s.start =
       subst (λ (l : Rim). IsBefore (shifted (value s.place.at) s.window.low) l.until) is_low st.low_before in
-      let none = back_before (first_time tr.rows) g s.window.low (shifted (value s.place.at) s.window.low) low_is
+      let none = back_before first_row g s.window.low (shifted (value s.place.at) s.window.low) low_is
       (lt_of_lt_of_le before (le_of_same st.spread.begins)) in
       by_marks marks refl st.spread.seen_is st.spread.standing some_last
-      (subst (λ (o : Option ℤ). AreLeft (first_time tr.rows) o front (seen ++ fresh)) none inputs.left)
+      (subst (λ (o : Option ℤ). AreLeft first_row o turn.front (seen ++ fresh)) none can.inputs.left)
     where
       stands : s.place.low.stands ≡ false
       stands = ap (λ (l : Rim). l.stands) is_low
 
       by_marks : (ms : List Mark) → marks ≡ ms → AreSeen s.place.low ms seen → AreStanding s.none ms → IsSome (last_gap s.place.low ms).until
-          → AreLeft (first_time tr.rows) None front (seen ++ fresh) → IsNext (last_gap s.place.low ms).until fresh (whole front)
+          → AreLeft first_row None turn.front (seen ++ fresh) → IsNext (last_gap s.place.low ms).until fresh (whole turn.front)
       by_marks [] e' is standing some' (at, v, rest, all, when, joined) =
           let nil = no_front s.place.low seen [] stands is in
-          subst (λ (l : Rim). IsNext l.until fresh (whole front)) (sym is_low) (
+          subst (λ (l : Rim). IsNext l.until fresh (whole turn.front)) (sym is_low) (
             at,
             v,
             rest,
@@ -199,32 +198,30 @@ module _ (f : Subformula) (tr : Trace) (reach own : ℕ) (g : ℤ) (s : Sweep) (
           let one : L.Point k.at k.point ∷ (rest' ++ fresh) ≡ L.Point at v ∷ rest =
           sym (ap (λ (l : List MarginLine). l ++ fresh) (no_front s.place.low seen (L.Point k.at k.point ∷ rest') stands is)) ∙ all in
           let tail : rest' ++ fresh ≡ rest = ap (λ (l : List MarginLine). drop 1 l) one in
-          next_of s.none k.after ms rest' fresh (value at) (whole front) stands' more standing some'
-          (subst (λ (l : List MarginLine). AreJoined (value at) (whole front) l) (sym tail) joined)
+          next_of s.none k.after ms rest' fresh (value at) (whole turn.front) stands' more standing some'
+          (subst (λ (l : List MarginLine). AreJoined (value at) (whole turn.front) l) (sym tail) joined)
       by_marks (k ∷ ms) e' seen_is ((inr (is, nil)), standing) some' left =
           absurd (no_none (subst (λ (h : Rim). IsSome h.until) is (subst (λ (l : List Mark). IsSome (last_gap k.after l).until) nil some')))
 
   by_low : (s.place.low.stands ≡ true) ⊎ (s.place.low ≡ no_gap s.none) ⊎ (s.place.low ≡ before_start s.none s.start)
-      → IsNext (last_gap s.place.low marks).until fresh (whole front)
+      → IsNext (last_gap s.place.low marks).until fresh (whole turn.front)
   by_low (inl stands) = by_standing stands
   by_low (inr (inr is)) = by_start is
   by_low (inr (inl is)) = absurd (by_marks marks refl st.spread.runs some_last)
     where
       by_marks : (ms : List Mark) → marks ≡ ms
-          → Runs (input_of (scope_at f tr reach st.front st.bound (value s.place.at)) s.window.side) reach st.spread.from s.place.low ms
+          → Runs (input_of old s.window.side) turn.reach st.spread.from s.place.low ms
           → IsSome (last_gap s.place.low ms).until → ⊥
       by_marks [] e' runs some' = no_none (subst (λ (l : Rim). IsSome l.until) is some')
       by_marks (k ∷ ms) e' runs some' = subst (λ (l : Rim). EndsAt l.until (value k.at)) is runs.1
 
   -- what is to be read of it
-  to_come : (bound : Rational) → IsToCome (scope_at f tr reach (whole front) bound (value s.place.at)) s.place.high.until fresh
-  to_come bound = by_until s.place.high.until (subst (λ (h : Rim). IsNext h.until fresh (whole front)) (sym st.spread.last) (by_low st.spread.low_stands))
+  to_come : IsToCome now s.place.high.until fresh
+  to_come = by_until s.place.high.until (subst (λ (h : Rim). IsNext h.until fresh (whole turn.front)) (sym st.spread.last) (by_low st.spread.low_stands))
       st.spread.to_come
     where
-      by_until : (o : Option Frac) → IsNext o fresh (whole front)
-          → IsToCome (scope_at f tr reach st.front st.bound (value s.place.at)) o st.fresh
-          → IsToCome (scope_at f tr reach (whole front) bound (value s.place.at)) o fresh
-      by_until None next old = absurd next
+      by_until : (o : Option Frac) → IsNext o fresh (whole turn.front) → IsToCome old o st.fresh → IsToCome now o fresh
+      by_until None next was = absurd next
       by_until (Some u) (p, v, rest, is, same, joined) (q, w, more, is', same', begun, told, fit, joined') = (
         p,
         v,
@@ -232,18 +229,15 @@ module _ (f : Subformula) (tr : Trace) (reach own : ℕ) (g : ℤ) (s : Sweep) (
         is,
         same,
         le_trans begun (le_trans (ge_of_same same') (le_of_same same)),
-        told_tail (Robustness f tr) seen fresh inputs.told,
-        fit_tail reach seen fresh inputs.fit,
+        told_tail (Robustness turn.formula turn.trace) seen fresh can.inputs.told,
+        fit_tail turn.reach seen fresh can.inputs.fit,
         joined,
       )
 
   -- the window stands over what its input has given out by then
-  pub again_spread : (bound : Rational) → (start tr ≤ʳ whole front) × (whole front ≤ʳ stop tr) → (bound ≤ʳ whole front) ⊎ (whole front ≈ stop tr)
-      → IsSpread (scope_at f tr reach (whole front) bound (value s.place.at)) s.window s.start s.none s.place.low s.place.high s.among seen fresh
+  pub again_spread : IsSpread now s.window s.start s.none s.place.low s.place.high s.among seen fresh
       (shifted (value s.place.at) s.window.low) (shifted (value s.place.at) s.window.high)
-  again_spread bound within ended =
-      spread_told (scope_at f tr reach st.front st.bound (value s.place.at)) (whole front) bound s.window s.start s.none s.place.low s.place.high s.among seen
-      st.fresh fresh (shifted (value s.place.at) s.window.low) (shifted (value s.place.at) s.window.high) st.spread within ended (to_come bound)
+  again_spread = spread_told old now fresh st.spread can.within (told_or_ended can) to_come
 
 -- a stretch up to a time is one up to it by another pair
 pub span_same : (x : Scope) (w : Window) (own : ℕ) (from to end : Rational) → to ≈ end → x.bound ≡ shifted to w.high → IsSpan x w own from to
@@ -265,105 +259,61 @@ span_same x w own from to end same bound is = record {
     by_told (inl le) = inl le
     by_told (inr h) = inr (h.0, same_trans (same_sym same) h.1)
 
-owned_of : {w : Window} {own : ℕ} → IsOwn w own → IsOwned w own
+-- offsets within a bound either way
+pub owned_of : {w : Window} {own : ℕ} → IsOwn w own → IsOwned w own
 owned_of is = record { low = inl (is.low_from, is.low_to); high_from = is.high_from; high_to = is.high_to }
 
 -- a later turn: what was kept before, over what the input has given out by now, is what a window needs to go on
-pub can_go_on : (f : Subformula) (tr : Trace) (reach own : ℕ) (g : ℤ) (s : Sweep) (e : Held)
-    → StoodOver f tr reach own (whole g) s (edge_at e s.window.of).seen → (front to : ℤ)
-    → AreInputs (Robustness f tr) reach (first_time tr.rows) (back_of (first_time tr.rows) (Some g) s.window.low) front (held_at e s.window.of)
-    → s.window.of < length e.edges → g <ℤ to → start tr ≤ʳ whole g → IsTick (whole g) → IsTick (whole to) → whole to ≤ʳ stop tr
-    → (start tr ≤ʳ whole front) × (whole front ≤ʳ stop tr)
-    → (shifted (whole to) s.window.high ≤ʳ whole front) ⊎ ((whole front ≈ stop tr) × (whole to ≈ stop tr)) → IsOwn s.window own
-    → (pos 0 ≤ℤ s.window.low) ⊎ (s.window.high ≤ℤ pos 0)
-    → CanSweep (scope_at f tr reach (whole front) (shifted (whole to) s.window.high) (value s.place.at)) own (whole g) (whole to) s e
-can_go_on f tr reach own g s e st front to inputs of_in order begun from_tick to_tick ends within told own_is aside = record {
-  at = record {
-    within = of_in;
-    spread = again_spread f tr reach own g s e st front inputs (goes st.goes_on) (shifted (whole to) s.window.high) within (ended told);
-  };
+pub can_go_on : (turn : Turn) (g : ℤ) (s : Sweep) (e : Held)
+    → StoodOver turn.formula turn.trace turn.reach turn.own (whole g) s (edge_at e s.window.of).seen
+    → CanTurn turn s.window (back_of (first_time turn.trace.rows) (Some g) s.window.low) e → g <ℤ turn.to → start turn.trace ≤ʳ whole g → IsTick (whole g)
+    → CanSweep (scope_in turn s.window (value s.place.at)) turn.own (whole g) (whole turn.to) s e
+can_go_on turn g s e st can order begun tick = record {
+  at = record { within = can.of_in; spread = again_spread turn g s e st can (goes st.goes_on) };
   here = refl;
   behind = refl;
-  within = within_same (2 ^ 34) (same_sym st.at) (tick_within from_tick);
+  within = within_same (2 ^ 34) (same_sym st.at) (tick_within tick);
   low_before = st.low_before;
   last = by_last s.last st.last;
-  span = record {
-    offsets = st.spread.fit.order;
-    owns = owned_of own_is;
-    aside = aside;
-    order = le_of_lt (lt_whole order);
-    from_tick = from_tick;
-    to_tick = to_tick;
-    begins = begun;
-    ends = ends;
-    by = le_refl (shifted (whole to) s.window.high);
-    told = told;
-  };
+  span = turn_span (value s.place.at) (whole g) can st.spread.fit.order tick begun (le_of_lt (lt_whole order));
 }
   where
-    goes : (whole g ≈ stop tr) ⊎ IsSome s.place.high.until → IsSome s.place.high.until
-    goes (inl at_end) = absurd (not_lt_of_le (le_trans ends (ge_of_same at_end)) (lt_whole order))
+    goes : (whole g ≈ stop turn.trace) ⊎ IsSome s.place.high.until → IsSome s.place.high.until
+    goes (inl at_end) = absurd (not_lt_of_le (le_trans can.ends (ge_of_same at_end)) (lt_whole order))
     goes (inr some) = some
-
-    ended : (shifted (whole to) s.window.high ≤ʳ whole front) ⊎ ((whole front ≈ stop tr) × (whole to ≈ stop tr))
-        → (shifted (whole to) s.window.high ≤ʳ whole front) ⊎ (whole front ≈ stop tr)
-    ended (inl le) = inl le
-    ended (inr h) = inr h.0
 
     by_last : (o : Option Reached)
         → IsSomeAnd o (λ r. (value r.at ≡ value s.place.at)
-        × IsThere (best_of (scope_at f tr reach st.front st.bound (value s.place.at)) s.window) (reach + own) (value r.at) r.value)
-        → HasTold (scope_at f tr reach (whole front) (shifted (whole to) s.window.high) (value s.place.at)) own (whole g) s.window o
+        × IsThere (best_of (scope_at turn.formula turn.trace turn.reach st.front st.bound (value s.place.at)) s.window) (turn.reach + turn.own)
+        (value r.at) r.value)
+        → HasTold (scope_in turn s.window (value s.place.at)) turn.own (whole g) s.window o
     by_last None h = absurd h
     by_last (Some r) (here, there) = (here, subst (λ (z : Rational). z ≈ whole g) (sym here) st.at, there)
 
 -- the first turn: a new window over an input that has given out its first lines
-pub can_begin : (f : Subformula) (tr : Trace) (reach own : ℕ) (s : Sweep) (e : Held) (front to : ℤ)
-    → value s.start ≈ start tr → ((t : Rational) → value_at (margin_function s.none) t ≈ᵉ none_of s.window.side minus_infinity infinity)
-    → is_ramp s.none ≡ false
-    → s.place.low ≡ before_start s.none s.start → s.place.high ≡ before_start s.none s.start
-    → value s.place.at ≈ whole (pos (first_time tr.rows) -ℤ pos 4294967296) → s.last ≡ None → s.among.side ≡ s.window.side
-    → StandsFor margin_function s.among.older.items s.among.newer.items s.window.side s.among.best []
-    → AreInputs (Robustness f tr) reach (first_time tr.rows) None front (held_at e s.window.of) → (edge_at e s.window.of).seen ≡ []
-    → s.window.of < length e.edges → IsFitWindow s.window reach → IsTick (start tr) → start tr ≤ʳ whole to → IsTick (whole to) → whole to ≤ʳ stop tr
-    → (start tr ≤ʳ whole front) × (whole front ≤ʳ stop tr)
-    → (shifted (whole to) s.window.high ≤ʳ whole front) ⊎ ((whole front ≈ stop tr) × (whole to ≈ stop tr)) → IsOwn s.window own
-    → (pos 0 ≤ℤ s.window.low) ⊎ (s.window.high ≤ℤ pos 0)
-    → CanSweep (scope_at f tr reach (whole front) (shifted (whole to) s.window.high) (value s.place.at)) own (start tr) (whole to) s e
-can_begin f tr reach own s e front to begins none_value still low high at last side among inputs nil of_in fit first_tick order
-    to_tick ends within told own_is aside =
-    record {
-      at = record { within = of_in; spread = placed };
-      here = refl;
-      behind = refl;
-      within = at_within;
-      low_before = subst (λ (g : Rim). IsBefore (shifted (value s.place.at) s.window.low) g.until) (sym low) low_early;
-      last = subst (λ (o : Option Reached). HasTold x own (start tr) s.window o) (sym last) (same_refl (start tr), early);
-      span = record {
-        offsets = fit.order;
-        owns = owned_of own_is;
-        aside = aside;
-        order = order;
-        from_tick = first_tick;
-        to_tick = to_tick;
-        begins = le_refl (start tr);
-        ends = ends;
-        by = le_refl (shifted (whole to) s.window.high);
-        told = told;
-      };
-    }
+pub can_begin : (turn : Turn) (s : Sweep) (e : Held) → IsBegun s.window (first_time turn.trace.rows) None s → CanTurn turn s.window None e
+    → (edge_at e s.window.of).seen ≡ [] → IsFitWindow s.window turn.reach → IsTick (start turn.trace) → start turn.trace ≤ʳ whole turn.to
+    → CanSweep (scope_in turn s.window (value s.place.at)) turn.own (start turn.trace) (whole turn.to) s e
+can_begin turn s e k can nil fit first_tick order = record {
+  at = record { within = can.of_in; spread = first_spread turn s e k can nil fit first_tick high_early };
+  here = refl;
+  behind = refl;
+  within = at_within;
+  low_before = subst (λ (g : Rim). IsBefore (shifted (value s.place.at) s.window.low) g.until) (sym k.low)
+      (lt_of_lt_of_le (in_order (value s.place.at) s.window.low s.window.high fit.order) high_early);
+  last = subst (λ (o : Option Reached). HasTold (scope_in turn s.window (value s.place.at)) turn.own (start turn.trace) s.window o) (sym k.told.1)
+      (same_refl (start turn.trace), early);
+  span = turn_span (value s.place.at) (start turn.trace) can fit.order first_tick (le_refl (start turn.trace)) order;
+}
   where
-    x : Scope
-    x = scope_at f tr reach (whole front) (shifted (whole to) s.window.high) (value s.place.at)
-
     first : ℕ
-    first = first_time tr.rows
+    first = first_time turn.trace.rows
 
-    early : value s.place.at <ʳ start tr
-    early = lt_of_le_of_lt (le_of_same at) (lt_whole {j = pos first -ℤ pos 4294967296} {k = pos first} (omega (arith, ints)))
+    early : value s.place.at <ʳ start turn.trace
+    early = lt_of_le_of_lt (le_of_same k.told.0) (lt_whole {j = pos first -ℤ pos 4294967296} {k = pos first} (omega (arith, ints)))
 
     at_within : IsWithin (2 ^ 34) (value s.place.at)
-    at_within = within_same (2 ^ 34) (same_sym at) (
+    at_within = within_same (2 ^ 34) (same_sym k.told.0) (
       low_bound first,
       le_trans (le_of_lt (lt_whole {j = pos first -ℤ pos 4294967296} {k = pos first} (omega (arith, ints)))) (tick_within first_tick).1,
     )
@@ -372,57 +322,16 @@ can_begin f tr reach own s e front to begins none_value still low high at last s
         low_bound n = le_whole {j = neg_ℤ (pos (2 ^ 34))} {k = pos n -ℤ pos 4294967296} (omega (arith, ints))
 
     high_early : shifted (value s.place.at) s.window.high ≤ʳ value s.start
-    high_early = le_trans (le_of_same (moved_whole (value s.place.at) (pos first -ℤ pos 4294967296) s.window.high at))
+    high_early = le_trans (le_of_same (moved_whole (value s.place.at) (pos first -ℤ pos 4294967296) s.window.high k.told.0))
         (le_trans (le_whole {j = (pos first -ℤ pos 4294967296) +ℤ s.window.high} {k = pos first} (let up = fit.high in omega (arith, ints, up)))
-        (ge_of_same begins))
-
-    low_early : shifted (value s.place.at) s.window.low <ʳ value s.start
-    low_early = lt_of_lt_of_le (in_order (value s.place.at) s.window.low s.window.high fit.order) high_early
-
-    ended : (shifted (whole to) s.window.high ≤ʳ whole front) ⊎ ((whole front ≈ stop tr) × (whole to ≈ stop tr))
-        → (shifted (whole to) s.window.high ≤ʳ whole front) ⊎ (whole front ≈ stop tr)
-    ended (inl le) = inl le
-    ended (inr h) = inr h.0
-
-    to_come : IsToCome x (Some s.start) (fresh_at e s.window.of)
-    to_come =
-        let all : held_at e s.window.of ≡ fresh_at e s.window.of = ap (λ (l : List MarginLine). l ++ fresh_at e s.window.of) nil in
-        let (p, v, rest, is, when, joined) = inputs.left in (
-          p,
-          v,
-          rest,
-          sym all ∙ is,
-          same_trans begins (same_sym when),
-          ge_of_same when,
-          subst (AreTold (Robustness f tr)) all inputs.told,
-          subst (AreFit reach) all inputs.fit,
-          joined,
-        )
-
-    spread : IsSpread x s.window s.start s.none (before_start s.none s.start) (before_start s.none s.start) s.among [] (fresh_at e s.window.of)
-        (shifted (value s.place.at) s.window.low) (shifted (value s.place.at) s.window.high)
-    spread = first_spread x s.window s.start s.none s.among (fresh_at e s.window.of) (value s.place.at) fit
-        (le_trans first_tick.0 (ge_of_same begins), le_trans (le_of_same begins) first_tick.1) begins within (ended told) none_value
-        (still_moved reach s.none still) side
-        (subst (λ (k : Side). StandsFor margin_function s.among.older.items s.among.newer.items k s.among.best []) (sym side) among) to_come high_early
-
-    placed : IsSpread x s.window s.start s.none s.place.low s.place.high s.among (edge_at e s.window.of).seen (fresh_at e s.window.of)
-        (shifted (value s.place.at) s.window.low) (shifted (value s.place.at) s.window.high)
-    placed =
-        subst (λ (g : Rim). IsSpread x s.window s.start s.none g s.place.high s.among (edge_at e s.window.of).seen (fresh_at e s.window.of)
-        (shifted (value s.place.at) s.window.low) (shifted (value s.place.at) s.window.high)) (sym low)
-        (subst (λ (g : Rim). IsSpread x s.window s.start s.none (before_start s.none s.start) g s.among (edge_at e s.window.of).seen (fresh_at e s.window.of)
-        (shifted (value s.place.at) s.window.low) (shifted (value s.place.at) s.window.high)) (sym high)
-        (subst (λ (l : List MarginLine). IsSpread x s.window s.start s.none (before_start s.none s.start) (before_start s.none s.start) s.among l
-        (fresh_at e s.window.of) (shifted (value s.place.at) s.window.low) (shifted (value s.place.at) s.window.high)) (sym nil) spread))
+        (ge_of_same k.begins))
 
 -- a window that has told its input up to a number is kept for the next turn
 pub stood_over : (x : Scope) (own : ℕ) (from : Rational) (to : ℤ) (old s : Sweep) (old_e e : Held) → CanSweep x own from (whole to) old old_e → HasCome x s e
     → s.window ≡ old.window
     → IsSomeAnd s.last (λ r. (value r.at ≡ value s.place.at) × (value r.at ≈ whole to) × IsThere (best_of x old.window) (x.reach + own) (value r.at) r.value)
-    → x.bound ≡ shifted (whole to) old.window.high
     → StoodOver x.formula x.trace x.reach own (whole to) s (edge_at e s.window.of).seen
-stood_over x own from to old s old_e e can came same last bound = record {
+stood_over x own from to old s old_e e can came same last = record {
   at = (by_last s.last last).0;
   front = x.front;
   bound = x.bound;
@@ -453,36 +362,52 @@ stood_over x own from to old s old_e e can came same last bound = record {
     goes (inl le) (inl none) = absurd (not_lt_of_le le (no_end none))
     goes (inr end) (inl none) = inl end.1
 
--- what it does not need is gone from the edge, and nothing else
-pub cut_window : (x : Scope) (first : ℕ) (to : ℤ) (back : Option ℤ) (front : ℤ) (s : Sweep) (e' e : Held) → start x.trace ≈ whole (pos first) → HasCome x s e
-    → value s.place.at ≈ whole to → (F : Function) (reach : ℕ) → AreInputs F reach first back front (held_at e' s.window.of)
-    → (int_lt (to +ℤ s.window.low) (pos first) ≡ true → back ≡ None) → Sheds (shifted (whole to) s.window.low) s.window.of e' e
-    → IsCut (back_of first (Some to) s.window.low) (edge_at e' s.window.of) (edge_at e s.window.of)
-cut_window x first to back front s e' e starts came at F reach inputs early shed = by_test (int_lt (to +ℤ s.window.low) (pos first)) refl
+-- where an end of a window comes to an offset from the turn's number, what ends by then is gone from the edge, but nothing before the start
+pub cut_at : (to k : ℤ) {F : Function} {reach first i : ℕ} {back : Option ℤ} {front : ℤ} {e' e : Held} → AreInputs F reach first back front (held_at e' i)
+    → (int_lt (to +ℤ k) (pos first) ≡ true → back ≡ None) → Sheds (shifted (whole to) k) i e' e
+    → (pos first ≤ℤ (to +ℤ k) → IfSome (slice_get (held_at e i) 0) (λ l. whole (to +ℤ k) <ʳ value (end_of l)))
+    → IsCut (back_of first (Some to) k) (edge_at e' i) (edge_at e i)
+cut_at to k {first} {i} {front} {e'} {e} inputs early shed rest_later = by_test (int_lt (to +ℤ k) (pos first)) refl
   where
-    limit : shifted (whole to) s.window.low ≈ whole (to +ℤ s.window.low)
-    limit = moved_whole (whole to) to s.window.low (same_refl (whole to))
+    limit : shifted (whole to) k ≈ whole (to +ℤ k)
+    limit = moved_whole (whole to) to k (same_refl (whole to))
 
-    at_limit : shifted (value s.place.at) s.window.low ≈ whole (to +ℤ s.window.low)
-    at_limit = moved_whole (value s.place.at) to s.window.low at
-
-    ends_by : (o : Option MarginLine) → IfSome o (λ l. value (end_of l) ≤ʳ shifted (whole to) s.window.low)
-        → IfSome o (λ l. value (end_of l) ≤ʳ whole (to +ℤ s.window.low))
+    ends_by : (o : Option MarginLine) → IfSome o (λ l. value (end_of l) ≤ʳ shifted (whole to) k) → IfSome o (λ l. value (end_of l) ≤ʳ whole (to +ℤ k))
     ends_by None h = tt
     ends_by (Some l) h = le_trans h (le_of_same limit)
 
     -- before the start nothing has gone
-    none_gone : (to +ℤ s.window.low) <ℤ pos first → AreLeft first None front (held_at e' s.window.of) → (n : ℕ) → shed.count ≡ n
-        → held_at e s.window.of ≡ held_at e' s.window.of
-    none_gone lt (p, v, rest, is, when, joined) zero n = shed.is ∙ ap (λ (k : ℕ). drop k (held_at e' s.window.of)) n
-    none_gone lt (p, v, rest, is, when, joined) (suc k) n =
+    none_gone : (to +ℤ k) <ℤ pos first → AreLeft first None front (held_at e' i) → (n : ℕ) → shed.count ≡ n → held_at e i ≡ held_at e' i
+    none_gone lt (p, v, rest, is, when, joined) zero n = shed.is ∙ ap (λ (j : ℕ). drop j (held_at e' i)) n
+    none_gone lt (p, v, rest, is, when, joined) (suc j) n =
         let h = shed.ended 0 (omega (arith, n)) in
-        let h' : value p ≤ʳ shifted (whole to) s.window.low =
-        subst (λ (l : List MarginLine). IfSome (slice_get l 0) (λ y. value (end_of y) ≤ʳ shifted (whole to) s.window.low)) is h in
+        let h' : value p ≤ʳ shifted (whole to) k =
+        subst (λ (l : List MarginLine). IfSome (slice_get l 0) (λ y. value (end_of y) ≤ʳ shifted (whole to) k)) is h in
         absurd (not_lt_of_le (le_trans (ge_of_same when) (le_trans h' (le_of_same limit))) (lt_whole lt))
 
+    by_test : (b : Bool) → int_lt (to +ℤ k) (pos first) ≡ b → IsCut (cond b None (Some (to +ℤ k))) (edge_at e' i) (edge_at e i)
+    by_test true is = none_gone (int_order (to +ℤ k) (pos first) true is)
+        (subst (λ (o : Option ℤ). AreLeft first o front (held_at e' i)) (early is) inputs.left) shed.count refl
+    by_test false is = record {
+      count = shed.count;
+      is = shed.is;
+      ended = λ n below. ends_by (slice_get (held_at e' i) n) (shed.ended n below);
+      rest = rest_later (int_order (to +ℤ k) (pos first) false is);
+    }
+
+-- what a window does not need is gone from the edge, and nothing else
+pub cut_window : (x : Scope) (to : ℤ) (s : Sweep) (e' e : Held) {F : Function} {reach : ℕ} {back : Option ℤ} {front : ℤ} → HasCome x s e
+    → value s.place.at ≈ whole to → AreInputs F reach (first_time x.trace.rows) back front (held_at e' s.window.of)
+    → (int_lt (to +ℤ s.window.low) (pos (first_time x.trace.rows)) ≡ true → back ≡ None) → Sheds (shifted (whole to) s.window.low) s.window.of e' e
+    → IsCut (back_of (first_time x.trace.rows) (Some to) s.window.low) (edge_at e' s.window.of) (edge_at e s.window.of)
+cut_window x to s e' e came at inputs early shed = cut_at to s.window.low inputs early shed rest_later
+  where
+    at_limit : shifted (value s.place.at) s.window.low ≈ whole (to +ℤ s.window.low)
+    at_limit = moved_whole (value s.place.at) to s.window.low at
+
     -- the first line that is left ends later
-    rest_later : pos first ≤ℤ (to +ℤ s.window.low) → IfSome (slice_get (held_at e s.window.of) 0) (λ l. whole (to +ℤ s.window.low) <ʳ value (end_of l))
+    rest_later : pos (first_time x.trace.rows) ≤ℤ (to +ℤ s.window.low)
+        → IfSome (slice_get (held_at e s.window.of) 0) (λ l. whole (to +ℤ s.window.low) <ʳ value (end_of l))
     rest_later le = by_low came.at.spread.low_stands
       where
         by_gap : (lines behind : List MarginLine) (a c : Frac) (m : Margin) (more : List MarginLine) → lines ≡ L.Gap a c m ∷ more
@@ -500,8 +425,7 @@ cut_window x first to back front s e' e starts came at F reach inputs early shed
         by_low (inr (inr is)) =
             let before : shifted (value s.place.at) s.window.low <ʳ value s.start =
             subst (λ (g : Rim). IsBefore (shifted (value s.place.at) s.window.low) g.until) is came.low_before in
-            absurd (not_lt_of_le (le_whole le) (lt_of_le_of_lt (ge_of_same at_limit)
-            (lt_of_lt_of_le before (le_trans (le_of_same came.at.spread.begins) (le_of_same starts)))))
+            absurd (not_lt_of_le (le_whole le) (lt_of_le_of_lt (ge_of_same at_limit) (lt_of_lt_of_le before (le_of_same came.at.spread.begins))))
         by_low (inr (inl is)) = by_marks came.at.spread.marks came.at.spread.runs came.at.spread.seen_is came.at.spread.last
           where
             by_marks : (ms : List Mark) → Runs (input_of x s.window.side) x.reach came.at.spread.from s.place.low ms
@@ -516,14 +440,3 @@ cut_window x first to back front s e' e starts came at F reach inputs early shed
                 let held_nil : held_at e s.window.of ≡ [] =
                 ap (λ (l : List MarginLine). l ++ fresh_at e s.window.of) seen_nil ∙ fresh_nil in
                 subst (λ (l : List MarginLine). IfSome (slice_get l 0) (λ y. whole (to +ℤ s.window.low) <ʳ value (end_of y))) (sym held_nil) tt
-
-    by_test : (b : Bool) → int_lt (to +ℤ s.window.low) (pos first) ≡ b
-        → IsCut (cond b None (Some (to +ℤ s.window.low))) (edge_at e' s.window.of) (edge_at e s.window.of)
-    by_test true is = none_gone (int_order (to +ℤ s.window.low) (pos first) true is)
-        (subst (λ (o : Option ℤ). AreLeft first o front (held_at e' s.window.of)) (early is) inputs.left) shed.count refl
-    by_test false is = record {
-      count = shed.count;
-      is = shed.is;
-      ended = λ k below. ends_by (slice_get (held_at e' s.window.of) k) (shed.ended k below);
-      rest = rest_later (int_order (to +ℤ s.window.low) (pos first) false is);
-    }

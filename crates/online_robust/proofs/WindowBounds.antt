@@ -25,17 +25,16 @@ use Rattle.online_robust.specs.Told.{IsMovedBy}
 use Rattle.online_robust.specs.Windows.{IsAt, IsShifted, IsTopOf, Scope, high_at, input_of, low_at}
 use Rattle.online_robust.specs.declared.ends.Rim.{Rim}
 use Rattle.online_robust.specs.declared.window.Sweep.{Sweep}
+use Rattle.online_robust.specs.declared.window.Window.{Window}
 use Rattle.online_robust.proofs.WindowLaw.{last_on_of, runs_on, up_to_before, up_to_end}
-
-some_is : {X : Type 0} {a b : X} → Some a ≡ Some b → a ≡ b
-some_is h = cc
 
 -- the value of no times is bounded
 pub none_bounded : (side : Side) → IsBounded (2 ^ 31) (none_of side minus_infinity infinity)
 none_bounded Greatest = tt
 none_bounded Least = tt
 
-goes_on : (Q : Function) (reach : ℕ) (from : Rational) (low : Rim) (marks : List Mark) → Runs Q reach from low marks → IsBefore from low.until
+-- a run goes on from where it begins
+pub goes_on : (Q : Function) (reach : ℕ) (from : Rational) (low : Rim) (marks : List Mark) → Runs Q reach from low marks → IsBefore from low.until
 goes_on Q reach from low [] runs = runs.1
 goes_on Q reach from low (k ∷ marks) runs = by_until low.until runs.1
   where
@@ -44,22 +43,22 @@ goes_on Q reach from low (k ∷ marks) runs = by_until low.until runs.1
     by_until (Some u) e = lt_of_lt_of_le runs.2 (ge_of_same e)
 
 -- the constants of the knots are bounded
-pub frozen_bounded : (Q : Function) (reach : ℕ) (side : Side) (limit from : Rational) (low : Rim) (marks : List Mark) (cs : List Margin)
-    → Runs Q reach from low marks → AreFrozen side limit low marks cs → (c : Margin) → IsAmong cs c → (t : Rational)
-    → IsBounded (2 ^ 31) (value_at (margin_function c) t)
-frozen_bounded Q reach side limit from low [] cs runs frozen c one t = absurd (subst (λ (l : List Margin). IsAmong l c) frozen one)
-frozen_bounded Q reach side limit from low (k ∷ marks) cs runs (inl (skip, frozen)) c one t =
-    frozen_bounded Q reach side limit (value k.at) k.after marks cs runs.4 frozen c one t
-frozen_bounded Q reach side limit from low (k ∷ marks) cs runs (inr (knot, (d, others, is, frozen, more))) c one t =
-    by_one (subst (λ (l : List Margin). IsAmong l c) is one) (λ rest. frozen_bounded Q reach side limit (value k.at) k.after marks others runs.4 more c rest t)
+pub frozen_bounded : (x : Scope) (w : Window) (from : Rational) (low : Rim) (marks : List Mark) (cs : List Margin)
+    → Runs (input_of x w.side) x.reach from low marks → AreFrozen w.side (shifted (start x.trace) w.low) low marks cs → (c : Margin) → IsAmong cs c
+    → (t : Rational) → IsBounded (2 ^ 31) (value_at (margin_function c) t)
+frozen_bounded x w from low [] cs runs frozen c one t = absurd (subst (λ (l : List Margin). IsAmong l c) frozen one)
+frozen_bounded x w from low (k ∷ marks) cs runs (inl (skip, frozen)) c one t =
+    frozen_bounded x w (value k.at) k.after marks cs runs.4 frozen c one t
+frozen_bounded x w from low (k ∷ marks) cs runs (inr (knot, (d, others, is, frozen, more))) c one t =
+    by_one (subst (λ (l : List Margin). IsAmong l c) is one) (λ rest. frozen_bounded x w (value k.at) k.after marks others runs.4 more c rest t)
   where
     bounded : (of : Margin) → (of ≡ low.shape) ⊎ (of ≡ k.point) ⊎ (of ≡ k.after.shape) → IsBounded (2 ^ 31) (value_at (margin_function of) (value k.at))
     bounded of (inl e) = subst (λ (m : Margin). IsBounded (2 ^ 31) (value_at (margin_function m) (value k.at))) (sym e)
         (runs.0.bounded (value k.at) (le_of_lt runs.2) (up_to_end low.until runs.1 (le_refl (value k.at))))
     bounded of (inr (inl e)) = subst (λ (m : Margin). IsBounded (2 ^ 31) (value_at (margin_function m) (value k.at))) (sym e) runs.3.bounded
     bounded of (inr (inr e)) = subst (λ (m : Margin). IsBounded (2 ^ 31) (value_at (margin_function m) (value k.at))) (sym e)
-        ((runs_on Q reach (value k.at) k.after marks runs.4).bounded (value k.at) (le_refl (value k.at))
-        (up_to_before (value k.at) k.after.until (goes_on Q reach (value k.at) k.after marks runs.4)))
+        ((runs_on (input_of x w.side) x.reach (value k.at) k.after marks runs.4).bounded (value k.at) (le_refl (value k.at))
+        (up_to_before (value k.at) k.after.until (goes_on (input_of x w.side) x.reach (value k.at) k.after marks runs.4)))
 
     by_one : (c ≡ d) ⊎ IsAmong others c → (IsAmong others c → IsBounded (2 ^ 31) (value_at (margin_function c) t))
         → IsBounded (2 ^ 31) (value_at (margin_function c) t)
@@ -76,8 +75,8 @@ module _ (x : Scope) (s : Sweep) (e : Held) (at : IsAt x s e) where
   top_bounded top tops t = by_kind (tops at.spread.constants at.spread.among)
     where
       by_kind : IsTopOf margin_function s.among.side s.none at.spread.constants top → IsBounded (2 ^ 31) (value_at (margin_function top) t)
-      by_kind (inl b) = frozen_bounded (input_of x s.window.side) x.reach s.window.side (shifted (start x.trace) s.window.low) at.spread.from s.place.low
-          at.spread.marks at.spread.constants at.spread.runs at.spread.frozen top b.one t
+      by_kind (inl b) = frozen_bounded x s.window at.spread.from s.place.low at.spread.marks at.spread.constants at.spread.runs at.spread.frozen top
+          b.one t
       by_kind (inr b) = subst (λ (m : Margin). IsBounded (2 ^ 31) (value_at (margin_function m) t)) (sym b.1)
           (bounded_same (2 ^ 31) (value_at (margin_function s.none) t) (none_of s.window.side minus_infinity infinity) (at.spread.none_value t)
           (none_bounded s.window.side))

@@ -73,8 +73,7 @@ module _ (x : Scope) (w : Window) (none : Margin) (low high : Rim) (l h : Ration
   -- the best of the constants is bounded
   pub top_bounded : (top : Margin) → IsTopOf margin_function w.side none s.constants top → (t : Rational)
       → IsBounded (2 ^ 31) (value_at (margin_function top) t)
-  top_bounded top (inl b) t = frozen_bounded (input_of x w.side) x.reach w.side (shifted (start x.trace) w.low) s.from low s.marks s.constants s.runs s.frozen
-      top b.one t
+  top_bounded top (inl b) t = frozen_bounded x w s.from low s.marks s.constants s.runs s.frozen top b.one t
   top_bounded top (inr b) t = subst (λ (m : Margin). IsBounded (2 ^ 31) (value_at (margin_function m) t)) (sym b.1)
       (bounded_same (2 ^ 31) (value_at (margin_function none) t) (none_of w.side minus_infinity infinity) (s.none_value t) (none_bounded w.side))
 

@@ -19,22 +19,18 @@ use Rattle.rational.proofs.Shift.{le_shift_by}
 use Rattle.rational.proofs.TimeLemmas.{precedes_of_lt, shifted-add}
 use Rattle.frac128.specs.Value.{value}
 use Rattle.frac128.specs.declared.frac.Frac.{Frac}
-use Rattle.value_laws.specs.Kinds.{margin_shape}
 use Rattle.value_laws.specs.Margins.{margin_function}
 use Rattle.value_laws.specs.declared.margin.Margin.{Margin}
 use Rattle.pl_signal.specs.declared.faults.OpFault.{OpFault}
 use Rattle.pl_signal.specs.declared.faults.OpFault.TheVariants as F
 use Rattle.pl_signal.specs.declared.faults.WidePair.TheVariants.{Cross, Value}
-use Rattle.envelope.specs.Best.{IsJoinFault}
-use Rattle.envelope.specs.declared.best.Best.{Best}
 use Rattle.stl_syntax.specs.SupInf.{Robustness}
 use Rattle.stl_syntax.specs.Trace.{start, stop}
 use Rattle.window_ops.proofs.Ends.{at_is, gt_to, le_shifted, lt_shifted, lt_shifted_back}
-use Rattle.online_robust.specs.Windows.{Holds, InPlayOver, IsGone, IsInPlayBefore, IsSettledOver, IsSpan}
-use Rattle.online_robust.specs.Windows.{IsUnfixedKnot, IsUnfixedUnder, IsWindowFault, Scope, at_time}
+use Rattle.online_robust.specs.Windows.{Holds, InPlayOver, IsInPlayBefore, IsSettledOver, IsSpan}
+use Rattle.online_robust.specs.Windows.{IsUnfixedKnot, IsUnfixedUnder, IsUnmet, IsWindowFault, Scope, at_time}
 use Rattle.online_robust.specs.Windows.{closed}
 use Rattle.online_robust.specs.declared.ends.Rim.{Rim}
-use Rattle.online_robust.specs.declared.line.Reached.{Reached}
 use Rattle.online_robust.specs.declared.window.Window.{Window}
 use Rattle.online_robust.proofs.WindowCauses.{knot_in_play, knot_within}
 use Rattle.online_robust.proofs.WindowPoints.{in_order}
@@ -64,12 +60,11 @@ pub no_later : (t : Rational) (k : ℤ) → k ≤ℤ pos 0 → shifted t k ≤ʳ
 no_later t k le = le_trans (le_of_same (shifted-add t k)) (le_trans (le_shift_by {j = k} {k = pos 0} t le) (record { le = omega arith }))
 
 -- a refused crossing
-pub unmet_fault : (x : Scope) (p : Rational) (w : Window) (to t : Rational) (best : Best Margin) (reached : Reached)
-    → IsGone (at_time x p p) w to t best reached → (from : Rational) → p ≤ʳ from → start x.trace ≤ʳ p → to ≤ʳ stop x.trace → (f : OpFault Margin)
-    → IsJoinFault margin_shape best from (value reached.at) f → IsWindowFault x w to f
-unmet_fault x p w to t best reached gone from later' begun ends F.Memory h = tt
-unmet_fault x p w to t best reached gone from later' begun ends (F.Wide (Value q at den)) h = absurd h
-unmet_fault x p w to t best reached gone from later' begun ends (F.Wide (Cross q r a b den)) h = record {
+pub unmet_fault : (x : Scope) (p : Rational) (w : Window) (to from : Rational) → p ≤ʳ from → start x.trace ≤ʳ p → to ≤ʳ stop x.trace → (f : OpFault Margin)
+    → IsUnmet (at_time x p p) w to from f → IsWindowFault x w to f
+unmet_fault x p w to from later' begun ends F.Memory h = tt
+unmet_fault x p w to from later' begun ends (F.Wide (Value q at den)) (best, reached, t, gone, h) = absurd h
+unmet_fault x p w to from later' begun ends (F.Wide (Cross q r a b den)) (best, reached, t, gone, h) = record {
   tau = h.time;
   after_start = lt_of_le_of_lt begun after;
   before_stop = lt_of_lt_of_le by_to ends;

@@ -20,6 +20,7 @@ use Rattle.frac128.specs.declared.frac.Frac.{Frac}
 use Rattle.frac128.specs.declared.memory.Memory.{Memory}
 use Rattle.value_laws.specs.Margins.{is_ramp, margin_base, margin_function}
 use Rattle.value_laws.specs.declared.margin.Margin.{Margin}
+use Rattle.pl_signal.proofs.Values.{some_is}
 use Rattle.online_robust.specs.Lines.{margin_of}
 use Rattle.online_robust.specs.Held.{Held, edge_at, fresh_at}
 use Rattle.online_robust.specs.ReadLines.{IsThere}
@@ -60,9 +61,6 @@ before_apart (Some u) h le apart = by_order (lt_or_same_or_gt h (value u))
 -- false is not true
 pub no_truth : IsTrue false → ⊥
 no_truth h = let z : ◌≡◌ {A = Bool} false true = h in cc
-
-some_is : {X : Type 0} {a b : X} → Some a ≡ Some b → a ≡ b
-some_is h = cc
 
 module _ (x : Scope) (s : Sweep) (e : Held) (at : IsAt x s e) (t : Rational) (here : x.behind ≡ t) where
   ends_here : EndsAt s.place.high.until (shifted t s.window.high) → EndsAt s.place.high.until (high_at x s.window)

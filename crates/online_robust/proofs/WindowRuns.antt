@@ -175,9 +175,9 @@ module _ (x : Scope) (own : ℕ) (from to : Rational) (s : Sweep) (e : Held) (ca
         → IsUnfixedHigh (at_time x (value now.place.at) (value now.place.at)) now f
         ⊎ IsUnmet (at_time x (value now.place.at) (value now.place.at)) now.window to at f → IsWindowFault x s.window to f
     refused_either begun before at same f (inl h) = refused_knot before f h
-    refused_either begun before at same f (inr (best, reached, t, gone, h)) =
+    refused_either begun before at same f (inr unmet) =
         subst (λ (w : Window). IsWindowFault x w to f) goes.window
-        (unmet_fault x (value now.place.at) now.window to t best reached gone at (ge_of_same same) begun can.span.ends f h)
+        (unmet_fault x (value now.place.at) now.window to at (ge_of_same same) begun can.span.ends f unmet)
 
     -- a step to the start
     pub begun_next : (next : Sweep) (next_e : Held) (r : Reached) (until : Frac) (best : Best Margin) → Goes now next

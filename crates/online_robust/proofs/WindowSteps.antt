@@ -34,6 +34,7 @@ use Rattle.online_robust.specs.declared.window.Window.{Window}
 use Rattle.online_robust.proofs.WindowCore.{between as core_between, each as core_each, later as core_later}
 use Rattle.online_robust.proofs.WindowCore.{plays as core_plays, there as core_there, there_fit as core_there_fit}
 use Rattle.online_robust.proofs.Spreads.{last_from, spread_on}
+use Rattle.online_robust.proofs.WindowFirst.{spread_told}
 use Rattle.online_robust.proofs.WindowLaw.{runs_on}
 
 -- a low end that counts does not lie before any time
@@ -46,35 +47,10 @@ come_same x at behind None fresh h = h
 come_same x at behind (Some u) fresh h = h
 
 -- a window stands alike at another way to write its time
-pub spread_same : (x : Scope) (at behind : Rational) (w : Window) (begin : Frac) (none : Margin) (low high : Rim)
-    (q : Queue Margin) (seen fresh : List MarginLine)
-    (l h : Rational) → IsSpread x w begin none low high q seen fresh l h → IsSpread (at_time x at behind) w begin none low high q seen fresh l h
-spread_same x at behind w begin none low high q seen fresh l h s = record {
-  fit = s.fit;
-  tick = s.tick;
-  begins = s.begins;
-  within = s.within;
-  ended = s.ended;
-  none_value = s.none_value;
-  none_moved = s.none_moved;
-  from = s.from;
-  marks = s.marks;
-  constants = s.constants;
-  begun = s.begun;
-  runs = s.runs;
-  by = s.by;
-  ticks = s.ticks;
-  last = s.last;
-  low_later = s.low_later;
-  high_later = s.high_later;
-  frozen = s.frozen;
-  side = s.side;
-  among = s.among;
-  standing = s.standing;
-  seen_is = s.seen_is;
-  low_stands = s.low_stands;
-  to_come = come_same x at behind high.until fresh s.to_come;
-}
+pub spread_same : (x : Scope) (at behind : Rational) {w : Window} {begin : Frac} {none : Margin} {low high : Rim} {q : Queue Margin}
+    {seen fresh : List MarginLine} {l h : Rational} → IsSpread x w begin none low high q seen fresh l h
+    → IsSpread (at_time x at behind) w begin none low high q seen fresh l h
+spread_same x at behind {high} {fresh} s = spread_told x (at_time x at behind) fresh s s.within s.ended (come_same x at behind high.until fresh s.to_come)
 
 -- within its gaps the window stands at each later time
 pub at_moved : (x : Scope) (s : Sweep) (e : Held) → IsAt x s e → (at behind : Rational) → low_at x s.window ≤ʳ shifted at s.window.low
@@ -82,8 +58,7 @@ pub at_moved : (x : Scope) (s : Sweep) (e : Held) → IsAt x s e → (at behind 
     → IsUpTo (shifted behind s.window.high) s.place.high.until → IsAt (at_time x at behind) s e
 at_moved x s e a at behind low_later low_up high_later high_up = record {
   within = a.within;
-  spread = spread_same x at behind s.window s.start s.none s.place.low s.place.high s.among (edge_at e s.window.of).seen (fresh_at e s.window.of)
-      (shifted at s.window.low) (shifted behind s.window.high)
+  spread = spread_same x at behind
       (spread_on x s.window s.start s.none s.place.low s.place.high s.among (edge_at e s.window.of).seen (fresh_at e s.window.of) (low_at x s.window)
       (high_at x s.window) a.spread (shifted at s.window.low) (shifted behind s.window.high) low_later low_up high_later high_up);
 }

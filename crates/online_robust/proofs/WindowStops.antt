@@ -40,16 +40,23 @@ later : (r : Option Frac) {t u : Rational} → t ≤ʳ u → IfSome r (λ f. u �
 later None le h = h
 later (Some f) le h = le_trans le h
 
+-- a time is the earlier of another one and of an end, if that is there
+pub record IsFirst (to : Rational) (end : Option Frac) (t : Rational) : Type 0 where
+  -- not behind the other one
+  pub by : t ≤ʳ to
+  -- nor behind the end
+  pub other : IfSome end (λ u. t ≤ʳ value u)
+  -- but at one of them
+  pub one : (t ≡ to) ⊎ IsSomeAnd end (λ u. t ≡ value u)
+
 -- the next stop is the earliest of the three times
 pub next_is : (s : Sweep) (to first t : Rational) (high low : Option Frac) → LeavesAt s.place.high.until s.window.high high
-    → LeavesAt s.place.low.until s.window.low low → first ≤ʳ to → IfSome high (λ u. first ≤ʳ value u)
-    → (first ≡ to) ⊎ IsSomeAnd high (λ u. first ≡ value u) → t ≤ʳ first → IfSome low (λ u. t ≤ʳ value u)
-    → (t ≡ first) ⊎ IsSomeAnd low (λ u. t ≡ value u) → IsNextStop s to t
-next_is s to first t high low at_high at_low by_to by_high one by_first by_low two = record {
-  by = le_trans by_first by_to;
-  high = up_to s.place.high.until s.window.high high t at_high (later high by_first by_high);
-  low = up_to s.place.low.until s.window.low low t at_low by_low;
-  one = which two one;
+    → LeavesAt s.place.low.until s.window.low low → IsFirst to high first → IsFirst first low t → IsNextStop s to t
+next_is s to first t high low at_high at_low high_first low_first = record {
+  by = le_trans low_first.by high_first.by;
+  high = up_to s.place.high.until s.window.high high t at_high (later high low_first.by high_first.other);
+  low = up_to s.place.low.until s.window.low low t at_low low_first.other;
+  one = which low_first.one high_first.one;
 }
   where
     which : (t ≡ first) ⊎ IsSomeAnd low (λ u. t ≡ value u) → (first ≡ to) ⊎ IsSomeAnd high (λ u. first ≡ value u)

@@ -12,6 +12,7 @@ use Rattle.value_laws.specs.Margins.{margin_function}
 use Rattle.value_laws.specs.declared.margin.Margin.{Margin}
 use Rattle.pl_signal.specs.declared.joining.Side.{Side}
 use Rattle.pl_signal.specs.Joining.{IsChosen}
+use Rattle.pl_signal.proofs.Values.{some_is}
 use Rattle.envelope.specs.Turns.{IsNoBetter, none_of}
 use Rattle.envelope.proofs.Bests.{chosen_better, no_better_back, no_better_refl, no_better_same, no_better_trans}
 use Rattle.stl_syntax.specs.Trace.{start}
@@ -24,9 +25,6 @@ use Rattle.online_robust.proofs.Outcomes.{IsIn, IsTopOf as IsTop, outcome, times
 use Rattle.online_robust.proofs.Spreads.{input_is_function}
 use Rattle.online_robust.proofs.WindowLaw.{IsOneOf}
 use Rattle.online_robust.proofs.WindowPoints.{before_apart}
-
-some_is : {X : Type 0} {a b : X} → Some a ≡ Some b → a ≡ b
-some_is h = cc
 
 -- the better of two
 pub better_some : (side : Side) (p q : Margin) (other : Option Margin) (t : Rational) (m : Margin) → other ≡ Some q → (m ≡ p) ⊎ (m ≡ q)
@@ -58,10 +56,10 @@ if_some side None t v w le h = h
 if_some side (Some n) t v w le h = no_better_trans side (value_at (margin_function n) t) v w h le
 
 -- the best of five
-pub worth_is : (side : Side) (top : Margin) (low high at_high at_low : Option Margin) (t : Rational) (left limits over m : Margin)
+pub worth_is : {side : Side} {top : Margin} {low high at_high at_low : Option Margin} {t : Rational} {left limits over m : Margin}
     → IsBetterOf side top low t left → IsBetterOf side left high t limits → IsBetterOf side limits at_high t over → IsBetterOf side over at_low t m
     → IsOutcome side top low high at_high at_low t m
-worth_is side top low high at_high at_low t left limits over m a b c d = record {
+worth_is {side} {top} {low} {high} {at_high} {at_low} {t} {left} {limits} {over} {m} a b c d = record {
   one = fourth d.one;
   of_top = no_better_trans side (value_at (margin_function top) t) (value_at (margin_function left) t) (value_at (margin_function m) t) a.left left_le;
   of_low = if_some side low t (value_at (margin_function left) t) (value_at (margin_function m) t) left_le a.right;

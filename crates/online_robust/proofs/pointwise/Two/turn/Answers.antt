@@ -21,7 +21,7 @@ use Rattle.pl_signal.proofs.Kept.{on_err_anyway}
 use Rattle.online_robust.proofs.Refusing.{each_told}
 use Rattle.online_robust.proofs.Builts.{tick_between, tick_within}
 use Rattle.online_robust.proofs.Losses.{both_of as lost_both}
-use Rattle.online_robust.proofs.TwoLemmas.{IsStop, built_joined, counted_level, joined_fault, left_later}
+use Rattle.online_robust.proofs.TwoLemmas.{IsEarlier, IsStop, built_joined, counted_level, joined_fault, left_later}
 use Rattle.online_robust.proofs.TwoLemmas.{left_level, left_some, left_source, right_later, right_level}
 use Rattle.online_robust.proofs.TwoLemmas.{right_some_too, right_source, stop_of, turn_nearer}
 use Rattle.online_robust.proofs.pointwise.Two.turn.Goals.{After-earlier-t, After-up_to-x, After-up_to-y, After-left_of}
@@ -46,12 +46,14 @@ stop_at c x to e =
     let more = lt_of_lt_of_le c.requires.order (le_of_same e) in
     let first = sym c.first.ensures ∙ c.in-Some.is in
     let second = sym c.first-2.ensures ∙ c.in-Some-first.is in
-    stop_of (value c.args.at.now) c.in-Some.p c.in-Some-first.q c.end.result c.end-2.result c.earlier.result c.earlier-t.result c.args.to.now
-    c.end.ensures c.end-2.ensures
+    let of_ends : IsEarlier c.end.result c.end-2.result c.earlier.result =
+    record { left = c.earlier.ensures.left; right = c.earlier.ensures.right; one = c.earlier.ensures.one } in
+    let of_all : IsEarlier c.earlier.result c.args.to.now c.earlier-t.result =
+    record { left = c.earlier-t.ensures.left; right = c.earlier-t.ensures.right; one = c.earlier-t.ensures.one } in
+    stop_of (value c.args.at.now) c.in-Some.p c.in-Some-first.q c.end.ensures c.end-2.ensures
     (left_later x c.args.self.now c.args.edges.now (value c.args.at.now) to more c.in-Some.p c.in-Some-first.q first second)
     (right_later x c.args.self.now c.args.edges.now (value c.args.at.now) to more c.in-Some.p c.in-Some-first.q first second)
-    c.requires.order c.earlier.ensures.left c.earlier.ensures.right c.earlier.ensures.one c.earlier-t.ensures.left c.earlier-t.ensures.right
-    c.earlier-t.ensures.one
+    c.requires.order of_ends of_all
 
 read_left : (c : After-earlier-t) → (x : Couple) → IsJoinedTo x c.args.self.now c.args.edges.now (value c.args.at.now) → value c.args.to.now ≈ x.to
     → IsReadTo (left_source x c.args.self.now (value c.args.at.now)) c.in-Some.p (value c.earlier-t.result) (held_at c.args.edges.now c.args.self.now.left)

@@ -22,5 +22,6 @@ returns c = next_is c.args.self.now (value c.args.to.now) (value c.first_of-t.re
     (subst (λ z. LeavesAt c.args.self.now.place.high.until z c.leaves.result)
     (high_passed c.args.self.now.window c.requires.window.0.reach c.requires.window.1) c.leaves.ensures)
     (subst (λ z. LeavesAt c.args.self.now.place.low.until z c.leaves-2.result)
-    (low_passed c.args.self.now.window c.requires.window.0.reach c.requires.window.1) c.leaves-2.ensures) c.first_of-t.ensures.by
-    c.first_of-t.ensures.other c.first_of-t.ensures.one c.first_of.ensures.by c.first_of.ensures.other c.first_of.ensures.one
+    (low_passed c.args.self.now.window c.requires.window.0.reach c.requires.window.1) c.leaves-2.ensures)
+    (record { by = c.first_of-t.ensures.by; other = c.first_of-t.ensures.other; one = c.first_of-t.ensures.one })
+    (record { by = c.first_of.ensures.by; other = c.first_of.ensures.other; one = c.first_of.ensures.one })
