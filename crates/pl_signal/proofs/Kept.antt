@@ -1,6 +1,7 @@
 -- What is refused, kept beside.
 use Rattle.std.proofs.Common.{◌≡◌, Option, None, Result, Ok, Err, sym, subst}
-use Rattle.std.specs.Prelude.{IfSome, IsErrAnd, MatchResult, OnErr}
+use Rattle.std.specs.Prelude.{IfSome, IsErrAnd, MatchResult}
+pub use Rattle.rational.proofs.Lists.{on_err_anyway}
 use Rattle.pl_signal.specs.declared.faults.WidePair.{WidePair}
 use Rattle.pl_signal.specs.declared.faults.OpFault.{OpFault}
 use Rattle.pl_signal.specs.declared.faults.OpFault.TheVariants as F
@@ -30,8 +31,3 @@ kept_fault A Of (Err fault) kept is h = of_kept Of fault kept is h
 -- of nothing that was kept all holds
 pub none_kept : {X : Type 0} (Of : X → Type 0) (kept : Option X) → kept ≡ None → IfSome kept Of
 none_kept Of kept is = subst (λ o. IfSome o Of) (sym is) tt
-
--- what holds anyway holds where a result is bad
-pub on_err_anyway : {T E A : Type 0} (r : Result T E) → A → OnErr r A
-on_err_anyway (Ok x) a = tt
-on_err_anyway (Err e) a = a

@@ -1,5 +1,5 @@
 -- Signals moved in time, knot by knot.
-use Rattle.std.proofs.Common.{◌≡◌, ℕ, zero, suc, ◌+◌, ◌-◌, ◌*◌, ◌<◌, ◌^◌, ◌⊎◌, inl, inr, List, [], ◌∷◌, length, Some}
+use Rattle.std.proofs.Common.{◌≡◌, ℕ, zero, suc, ◌+◌, ◌-◌, ◌<◌, ◌^◌, ◌⊎◌, inl, inr, List, [], ◌∷◌, length, Some}
 use Rattle.std.proofs.Common.{ℤ, pos, neg_ℤ, refl, ◌∙◌, ap, subst, arith, IsTrue, get_or, negsuc, ◌≤ℤ◌, ◌-ℤ◌, ◌≤◌}
 use Rattle.std.specs.Prelude.{slice_get}
 use Rattle.std.specs.Int.{w64}
@@ -7,12 +7,11 @@ use Rattle.std.proofs.lemmas.Option.{slice_get_past, slice_get-get_or}
 use Rattle.std.proofs.lemmas.Int.{ints}
 use Rattle.std.specs.Prelude.{FitsSigned}
 use Rattle.std.proofs.Common.{le_of_mul-le-mul_right}
-use Rattle.rational.specs.Rational.{Rational, part_above, part_below, add, subtract, whole, IsWithin}
+use Rattle.rational.specs.Rational.{Rational, add, subtract, whole, IsWithin}
 use Rattle.rational.specs.Time.{Within, ◌≤ʳ◌, ◌<ʳ◌, ◌≈◌}
 use Rattle.rational.specs.Extended.{value_at, ◌≈ᵉ◌}
-use Rattle.rational.proofs.Mixed.{parts}
 use Rattle.rational.proofs.Order.{le_trans, lt_of_lt_of_le, lt_of_le_of_lt, le_of_same, ge_of_same, same_refl, same_sym, same_trans}
-use Rattle.rational.proofs.Shift.{shift_back, le_shift, lt_shift, same_shift}
+use Rattle.rational.proofs.Shift.{shift_back, le_shift, lt_shift, same_shift, shift_forth}
 use Rattle.rational.proofs.AffineLemmas.{same_symᵉ}
 use Rattle.rational.proofs.Sames.{symᵉ}
 use Rattle.frac128.specs.Value.{value}
@@ -25,13 +24,6 @@ use Rattle.pl_signal.specs.Building.{GoesOn}
 use Rattle.pl_signal.specs.Moves.{BasesFrom, Tells}
 use Rattle.pl_signal.proofs.Values.{next_rises, stop_at, worth_within, worth_at, worth_between, worth_same, one_value}
 use Rattle.pl_signal.proofs.Telling.{IsFunction, TellsSoFar, tells_first, tells_on}
-
--- moved by z and back
-pub shift_forth : (t : Rational) (z : ℤ) → add (add t (whole (neg_ℤ z))) (whole z) ≈ t
-shift_forth t z = record { same = omega (arith, ap (λ n. n * (t.den * t.den)) step) }
-  where
-    step : part_above z + part_above (neg_ℤ z) ≡ part_below z + part_below (neg_ℤ z)
-    step = omega (arith, parts)
 
 -- a mirror turns the order round
 pub mirror_lt : {t u : Rational} (z : ℤ) → t <ʳ u → subtract (whole z) u <ʳ subtract (whole z) t

@@ -1,22 +1,15 @@
 -- A signal and the plain list of its knots say the same.
 use Rattle.std.proofs.Common.{◌≡◌, inl, inr, List, [], ◌∷◌, refl, subst, sym, arith}
 use Rattle.rational.specs.Time.{Rational, ◌<ʳ◌, ◌≈◌}
-use Rattle.rational.specs.Extended.{Affine, Extended, value_at, ◌≈ᵉ◌}
-use Rattle.rational.specs.Affine.{AreSame}
+use Rattle.rational.specs.Extended.{Extended, value_at, ◌≈ᵉ◌}
 use Rattle.rational.specs.Knots.{IsInside, ReadsFrom, Reads, AreKnotsFrom, last_knot, Spans, AreOneLine, AreNeededFrom, AreNeeded}
 use Rattle.rational.proofs.Order.{same_refl, same_sym}
-use Rattle.rational.proofs.AffineLemmas.{same_reflᵉ, same_symᵉ, same_transᵉ, value_same, affine_unique}
+use Rattle.rational.proofs.AffineLemmas.{same_reflᵉ, same_symᵉ, same_transᵉ, value_same}
+use Rattle.rational.proofs.Events.{same_by_two}
 use Rattle.value_laws.specs.Members.{ShapeOf}
 use Rattle.pl_signal.specs.declared.knot.Knot.{Knot}
 use Rattle.pl_signal.specs.Knots.{time, start, stop, Each, IsKnot, IsAt, IsBetween, IsWorth, IsSignal, CanBeLeftOut}
 use Rattle.pl_signal.specs.Plain.{plain_knot, plain_piece, pieces_of, knots_of}
-
--- functions that agree at two times are one
-agree_at_two : (f g : Affine) (t u : Rational) → t <ʳ u → value_at f t ≈ᵉ value_at g t → value_at f u ≈ᵉ value_at g u → AreSame f g
-agree_at_two f g t u h a b s = record {
-  at_most = affine_unique f g t u s h a b;
-  at_least = affine_unique g f t u s h (same_symᵉ (value_at f t) (value_at g t) a) (same_symᵉ (value_at f u) (value_at g u) b);
-}
 
 module _ {P : Type 0} (shape : ShapeOf P) where
   at_of : (k : Knot P) (t : Rational) (v : Extended) → t ≈ time k → v ≈ᵉ value_at (shape.function k.point) (time k) → IsAt shape k t v
@@ -36,7 +29,7 @@ module _ {P : Type 0} (shape : ShapeOf P) where
   between_of : (k n : Knot P) (t : Rational) (v : Extended) → time k <ʳ time n → IsInside (plain_knot shape k) (plain_piece shape k n) t v
       → IsBetween shape k n t v
   between_of k n t v rising is =
-      let same = agree_at_two (shape.function k.after) is.through (time k) (time n) rising is.from is.to in
+      let same = same_by_two (shape.function k.after) is.through (time k) (time n) rising is.from is.to in
       record {
         after = is.after;
         before = is.before;
@@ -98,8 +91,8 @@ module _ {P : Type 0} (shape : ShapeOf P) where
   pub left_out_of_line : (k n m : Knot P) → time k <ʳ time n → time n <ʳ time m
       → AreOneLine (plain_knot shape k) (plain_piece shape k n) (plain_piece shape n m) → CanBeLeftOut shape k n
   left_out_of_line k n m before after line =
-      let left = agree_at_two (shape.function k.after) line.through (time k) (time n) before line.begins line.arrives in
-      let right = agree_at_two (shape.function n.after) line.through (time n) (time m) after line.leaves line.ends in
+      let left = same_by_two (shape.function k.after) line.through (time k) (time n) before line.begins line.arrives in
+      let right = same_by_two (shape.function n.after) line.through (time n) (time m) after line.leaves line.ends in
       record {
         here = same_transᵉ (value_at (shape.function k.after) (time n)) (value_at line.through (time n))
             (value_at (shape.function n.point) (time n)) line.arrives

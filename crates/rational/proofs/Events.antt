@@ -1,10 +1,10 @@
 -- The events of two signals: knots, at which a signal is not affine, and crossings.
-use Rattle.std.proofs.Common.{◌⊎◌, inl, inr, pos, arith}
+use Rattle.std.proofs.Common.{◌⊎◌, inl, inr, pos, arith, ℕ}
 use Rattle.rational.specs.Rational.{Rational, subtract, whole, ◌<ʳ◌, ◌≤ʳ◌, ◌≈◌}
 use Rattle.rational.specs.Line.{Line, at, gap_line}
 use Rattle.rational.specs.Extended.{◌≤ᵉ◌, ◌<ᵉ◌, ◌≈ᵉ◌, Affine, always_low, affine, always_high, value_at}
 use Rattle.rational.specs.Affine.{AreSame}
-use Rattle.rational.specs.InPlay.{IsBreakpoint, start, stop, inner, IsCrossing}
+use Rattle.rational.specs.InPlay.{IsBreakpoint, start, stop, inner, IsCrossing, IsWideCrossing, IsWideValue}
 use Rattle.rational.specs.Windows.{Function}
 use Rattle.rational.proofs.Order.{le_of_same, ge_of_same, le_trans, lt_of_le_of_lt, same_trans}
 use Rattle.rational.proofs.Lines.{at_gap}
@@ -73,3 +73,38 @@ pub breakpoint_same : (F : Function) (from to from' to' u : Rational) → from �
 breakpoint_same F from to from' to' u e f (start s) = start (same_trans s e)
 breakpoint_same F from to from' to' u e f (stop s) = stop (same_trans s f)
 breakpoint_same F from to from' to' u e f (inner w n) = inner (record { above = le_trans (ge_of_same e) w.above; below = le_trans w.below (le_of_same f) }) n
+
+-- what crosses in play in one way does so in another
+pub crossing_by : (A B : Rational → Affine → Type 0) (from to : Rational) (p q : Affine) (a b : Rational) (den : ℕ)
+    → ((tau : Rational) (line : Affine) → A tau line → B tau line)
+    → IsWideCrossing A from to p q a b den → IsWideCrossing B from to p q a b den
+crossing_by A B from to p q a b den more h = record {
+  tau = h.tau;
+  after_start = h.after_start;
+  before_stop = h.before_stop;
+  above = h.above;
+  below = h.below;
+  first = more h.tau p h.first;
+  second = more h.tau q h.second;
+  meet = h.meet;
+  alone = h.alone;
+  denominator = h.denominator;
+  wide = h.wide;
+}
+
+-- a constant that is in play in one way is so in another
+pub value_by : (A B : Rational → Affine → Type 0) (from to : Rational) (p : Affine) (u : Rational) (den : ℕ)
+    → ((tau : Rational) (line : Affine) → A tau line → B tau line)
+    → IsWideValue A from to p u den → IsWideValue B from to p u den
+value_by A B from to p u den more h = record {
+  tau = h.tau;
+  after_start = h.after_start;
+  before_stop = h.before_stop;
+  value = h.value;
+  is_value = h.is_value;
+  line = h.line;
+  constant = h.constant;
+  in_play = more h.tau h.line h.in_play;
+  denominator = h.denominator;
+  wide = h.wide;
+}

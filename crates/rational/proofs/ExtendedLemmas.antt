@@ -1,9 +1,10 @@
 -- Laws of the order of extended values, and that a Sup and an Inf are unique.
 use Rattle.std.proofs.Common.{◌≡◌, ◌⊎◌, inl, inr, refl, arith}
 use Rattle.rational.specs.Time.{Rational, negate, ◌≤ʳ◌}
-use Rattle.rational.specs.Extended.{Extended, minus_infinity, finite, infinity, ◌≤ᵉ◌, ◌<ᵉ◌, opposite, IsLeast, IsGreatest, IsSup, IsInf}
+use Rattle.rational.specs.Extended.{Extended, minus_infinity, finite, infinity, ◌≤ᵉ◌, ◌<ᵉ◌, ◌≈ᵉ◌, opposite, IsLeast, IsGreatest, IsSup, IsInf}
 use Rattle.rational.proofs.Order.{le_or_lt, le_of_lt, le_trans, le_refl, not_lt_of_le}
 use Rattle.rational.proofs.Field.{le_negate, lt_negate}
+use Rattle.rational.proofs.Tests.{either}
 
 -- of two values one is at most the other
 pub le_totalᵉ : (v w : Extended) → (v ≤ᵉ w) ⊎ (w <ᵉ v)
@@ -44,6 +45,28 @@ le_transᵉ (finite x) infinity infinity h k = tt
 le_transᵉ infinity minus_infinity w h k = absurd h
 le_transᵉ infinity (finite y) w h k = absurd h
 le_transᵉ infinity infinity w h k = k
+
+-- another way to write values has the same least
+pub least_same : (v v' w w' r r' : Extended) → v ≈ᵉ v' → w ≈ᵉ w' → r ≈ᵉ r' → IsLeast v w r → IsLeast v' w' r'
+least_same v v' w w' r r' a b c l = record {
+  left = le_transᵉ r' r v' c.at_least (le_transᵉ r v v' l.left a.at_most);
+  right = le_transᵉ r' r w' c.at_least (le_transᵉ r w w' l.right b.at_most);
+  one_of = either (λ h. le_transᵉ v' v r' a.at_least (le_transᵉ v r r' h c.at_most))
+      (λ h. le_transᵉ w' w r' b.at_least (le_transᵉ w r r' h c.at_most)) l.one_of;
+}
+
+-- another way to write values has the same greatest
+pub greatest_same : (v v' w w' r r' : Extended) → v ≈ᵉ v' → w ≈ᵉ w' → r ≈ᵉ r' → IsGreatest v w r → IsGreatest v' w' r'
+greatest_same v v' w w' r r' a b c l = record {
+  left = le_transᵉ v' v r' a.at_least (le_transᵉ v r r' l.left c.at_most);
+  right = le_transᵉ w' w r' b.at_least (le_transᵉ w r r' l.right c.at_most);
+  one_of = either (λ h. le_transᵉ r' r v' c.at_least (le_transᵉ r v v' h a.at_most))
+      (λ h. le_transᵉ r' r w' c.at_least (le_transᵉ r w w' h b.at_most)) l.one_of;
+}
+
+-- a value is not two of which one is below the other
+pub not_twoᵉ : {X : Type 0} (v x y : Extended) → v ≈ᵉ x → v ≈ᵉ y → y <ᵉ x → X
+not_twoᵉ v x y h k l = clashᵉ y x l (le_transᵉ x v y h.at_least k.at_most)
 
 -- a value below another is at most it
 pub le_of_ltᵉ : (v w : Extended) → v <ᵉ w → v ≤ᵉ w

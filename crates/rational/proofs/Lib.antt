@@ -32,3 +32,5 @@ pub mod RunningBack
 pub mod UntilBounds
 pub mod PlayBack
 pub mod UntilExistence
+pub mod Lists
+pub mod Tests

@@ -1,5 +1,5 @@
 -- The order of places between times.
-use Rattle.std.proofs.Common.{◌≡◌, ◌⊎◌, inl, inr, Bool, true, false, not, ◌&&◌, sym, ◌∙◌, refl}
+use Rattle.std.proofs.Common.{◌≡◌, ◌⊎◌, inl, inr, Bool, true, false, not, ◌&&◌, ap, sym, ◌∙◌, refl}
 use Rattle.std.specs.Prelude.{MatchBool}
 use Rattle.rational.specs.Rational.{Rational, ◌≤ʳ◌, ◌<ʳ◌, ◌≈◌, middle}
 use Rattle.rational.proofs.Order.{
@@ -18,9 +18,9 @@ use Rattle.rational.proofs.Order.{
   left_of_middle,
   right_of_middle,
 }
-use Rattle.rational.specs.Time.{HasTimeBetween}
+use Rattle.rational.specs.Time.{HasTimeBetween, Interval, IsNotEmpty}
 use Rattle.rational.proofs.TimeLemmas.{room_of_precedes, precedes_of_lt}
-use Rattle.rational.specs.Places.{Place, After, Upto, Before, Same}
+use Rattle.rational.specs.Places.{Place, begins, ends, After, Upto, Before, Same, AtMost}
 
 -- each time lies on one side of a place
 pub sides : (c : Place) (t : Rational) → Upto c t ⊎ After c t
@@ -189,3 +189,59 @@ same_trans_places (s, e) (r, f) = (same_trans s r, e ∙ f)
 pub room_of_before : (c d : Place) → Before c d → HasTimeBetween c.at d.at (not c.after && d.after)
 room_of_before c d (inl l) = room_of_precedes (not c.after && d.after) c.at d.at (precedes_of_lt (not c.after && d.after) c.at d.at l)
 room_of_before c d (inr (s, e, f)) = rw (e, f) (room_of_precedes true c.at d.at (le_of_same s))
+
+-- the begin of an interval that is not empty comes before its end
+pub before_of_not_empty : (on : Interval) → IsNotEmpty on → Before (begins on) (ends on)
+before_of_not_empty on (inl l) = inl l
+before_of_not_empty on (inr (s, i, o)) = inr (s, ap not i, o)
+
+-- no place comes before itself
+pub not_before_itself : (c : Place) → Before c c → ⊥
+not_before_itself c b = let t = between c c b in not_both c t.0 t.2 t.1
+
+-- what lies after a place lies after each that is at most it
+pub after_at_most : (c d : Place) (t : Rational) → AtMost c d → After d t → After c t
+after_at_most c d t h a = elim (sides c t) [ inl u ↦ absurd (not_both d t (h t u) a) | inr b ↦ b ]
+
+-- a place that is at most one that comes before another comes before that
+pub before_of_at_most : (c d e : Place) → AtMost c d → Before d e → Before c e
+before_of_at_most c d e h b = let t = between d e b in before_through c e t.0 (after_at_most c d t.0 h t.1) t.2
+
+-- a place that comes before one that is at most another comes before that
+pub before_at_most : (c d e : Place) → Before c d → AtMost d e → Before c e
+before_at_most c d e b h = let t = between c d b in before_through c e t.0 t.1 (h t.0 t.2)
+
+-- places of which each is at most the other are one
+pub same_of_at_most : (c d : Place) → AtMost c d → AtMost d c → Same c d
+same_of_at_most c d h k = elim (place_order c d) [
+  | inl b ↦ absurd (not_before_itself c (before_at_most c d c b k))
+  | inr o ↦ elim o [ inl s ↦ s | inr b ↦ absurd (not_before_itself d (before_at_most d c d b h)) ]
+]
+
+-- what comes before a place is at most it
+pub at_most_of_before : (c d : Place) → Before c d → AtMost c d
+at_most_of_before c d b t u = upto_of_before c d t b u
+
+-- a place is at most another way to write it
+pub at_most_of_same : (c d : Place) → Same c d → AtMost c d
+at_most_of_same c d s t u = upto_same c d t s u
+
+-- the times of places are in their order
+pub le_of_before : (c d : Place) → Before c d → c.at ≤ʳ d.at
+le_of_before c d (inl l) = le_of_lt l
+le_of_before c d (inr (s, e, f)) = le_of_same s
+
+-- a place that is at most another has no later time
+pub le_of_at_most : (c d : Place) → AtMost c d → c.at ≤ʳ d.at
+le_of_at_most c d h = elim (place_order c d) [
+  | inl b ↦ le_of_before c d b
+  | inr o ↦ elim o [ inl s ↦ le_of_same s.0 | inr b ↦ absurd (not_before_itself d (before_at_most d c d b h)) ]
+]
+
+-- what lies before a place comes no later than what lies after it
+pub le_through : (c : Place) (t u : Rational) → Upto c t → After c u → t ≤ʳ u
+le_through c t u = by_side c.after
+  where
+    by_side : (b : Bool) → MatchBool b (t ≤ʳ c.at) (t <ʳ c.at) → MatchBool b (c.at <ʳ u) (c.at ≤ʳ u) → t ≤ʳ u
+    by_side true h k = le_trans h (le_of_lt k)
+    by_side false h k = le_trans (le_of_lt h) k

@@ -1,9 +1,11 @@
 -- Moves and multiples of a number do not depend on its pair.
-use Rattle.std.proofs.Common.{◌≡◌, ℕ, ℤ, pos, ◌*◌, ◌≤◌, ◌⊎◌, arith, mul-le-mul_right, ap, sym, ◌∙◌, inl, inr, Bool, true, false, ◌&&◌, IsTrue, refl}
+use Rattle.std.proofs.Common.{◌≡◌, ℕ, ℤ, pos, ◌≤ℤ◌, ◌<ℤ◌, ◌*◌, ◌≤◌, ◌⊎◌, arith, mul-le-mul_right, ap, sym, ◌∙◌, inl, inr, Bool, true, false, ◌&&◌, IsTrue, refl}
 use Rattle.std.proofs.Props.{props}
-use Rattle.rational.specs.Rational.{part_above, part_below}
+use Rattle.rational.specs.Rational.{part_above, part_below, middle}
 use Rattle.rational.proofs.Order.{lt_or_same_or_gt, not_lt_of_le, le_or_lt, le_refl, le_trans, lt_of_le_of_lt}
-use Rattle.rational.proofs.Order.{lt_of_lt_of_le, le_of_lt, le_of_same, ge_of_same, same_sym}
+use Rattle.rational.proofs.Order.{left_of_middle, right_of_middle, lt_of_lt_of_le, le_of_lt, le_of_same, ge_of_same, same_sym}
+use Rattle.rational.proofs.Field.{add_zero, lt_add_left}
+use Rattle.rational.proofs.Shift.{le_shift_by, lt_whole}
 use Rattle.rational.specs.Time.{Rational, Within, ◌≤ʳ◌, ◌<ʳ◌, ◌≈◌, Interval, IsIn, IsNotEmpty}
 use Rattle.rational.specs.Time.{Precedes, add, whole, shifted, later, times, less, HasTimeBetween}
 
@@ -15,9 +17,25 @@ later_from t k = record { le = omega arith }
 pub later_more : (t : Rational) (j k : ℕ) → j ≤ k → later t j ≤ʳ later t k
 later_more t j k h = record { le = omega (arith, mul-le-mul_right (t.den * t.den) h) }
 
+-- no way leads nowhere
+pub later_zero : (t : Rational) → later t 0 ≤ʳ t
+later_zero t = record { le = omega arith }
+
 -- a way keeps the order
 pub later_le : {t u : Rational} (k : ℕ) → t ≤ʳ u → later t k ≤ʳ later u k
 later_le {t} {u} k h = record { le = omega (arith, h.le) }
+
+-- so where they differ
+pub later_lt : (t u : Rational) (k : ℕ) → t <ʳ u → later t k <ʳ later u k
+later_lt t u k h = record { lt = omega (arith, h.lt) }
+
+-- and what is in order after a way was so before it
+pub later_le_back : (t u : Rational) (k : ℕ) → later t k ≤ʳ later u k → t ≤ʳ u
+later_le_back t u k h = record { le = (let l = h.le in omega (arith, l)) }
+
+-- u + k is at most t and t at most v + k, so u is at most v
+pub le_by_later : (t u v : Rational) (k : ℕ) → later u k ≤ʳ t → t ≤ʳ later v k → u ≤ʳ v
+le_by_later t u v k h l = later_le_back u v k (le_trans h l)
 
 -- a way from one time, by whichever pair, leads to one time
 pub same_later : {t u : Rational} (k : ℕ) → t ≈ u → later t k ≈ later u k
@@ -91,6 +109,17 @@ not_empty_of_precedes on h = by_ends on.from_in on.to_in h
     by_ends true false h = inl h
     by_ends false c h = inl h
 
+-- an interval that is not empty has a time
+pub time_inside : (on : Interval) → IsNotEmpty on → (t : Rational) × IsIn on t
+time_inside on (inl h) = (
+  middle on.from on.to,
+  record {
+    above = precedes_of_lt on.from_in on.from (middle on.from on.to) (left_of_middle h);
+    below = precedes_of_lt on.to_in (middle on.from on.to) on.to (right_of_middle h);
+  },
+)
+time_inside on (inr (e, a, b)) = (on.from, record { above = rw a (le_refl on.from); below = rw b (le_of_same e) })
+
 -- and the other way round
 pub precedes_of_not_empty : (on : Interval) → IsNotEmpty on → Precedes (on.from_in && on.to_in) on.from on.to
 precedes_of_not_empty on (inl l) = precedes_of_lt (on.from_in && on.to_in) on.from on.to l
@@ -120,6 +149,21 @@ shifted-add t k = omega arith
 -- so for a way to a later time
 pub later-add : (t : Rational) (k : ℕ) → later t k ≈ add t (whole (pos k))
 later-add t k = omega arith
+
+-- of two moves the greater leads to the later time
+pub lt_offsets : (t : Rational) (j k : ℤ) → j <ℤ k → shifted t j <ʳ shifted t k
+lt_offsets t j k h = lt_of_le_of_lt (le_of_same (shifted-add t j)) (lt_of_lt_of_le grows (ge_of_same (shifted-add t k)))
+  where
+    grows : add t (whole j) <ʳ add t (whole k)
+    grows = lt_of_le_of_lt (record { le = omega arith }) (lt_of_lt_of_le (lt_add_left (lt_whole h) (le_refl t)) (record { le = omega arith }))
+
+-- a time moved ahead is no earlier
+pub le_ahead : (t : Rational) (k : ℤ) → pos 0 ≤ℤ k → t ≤ʳ shifted t k
+le_ahead t k h = le_trans (ge_of_same (add_zero t)) (le_trans (le_shift_by {j = pos 0} {k = k} t h) (ge_of_same (shifted-add t k)))
+
+-- a time moved behind is no later
+pub behind_le : (t : Rational) (k : ℤ) → k ≤ℤ pos 0 → shifted t k ≤ʳ t
+behind_le t k h = le_trans (le_of_same (shifted-add t k)) (le_trans (le_shift_by {j = k} {k = pos 0} t h) (le_of_same (add_zero t)))
 
 -- whether a time lies in an interval is decided
 pub decided_order : (b : Bool) (t u : Rational) → Precedes b t u ⊎ ¬ (Precedes b t u)

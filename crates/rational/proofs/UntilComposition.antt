@@ -6,7 +6,7 @@ use Rattle.rational.specs.Extended.{Extended, ◌≤ᵉ◌, ◌<ᵉ◌, IsLeast,
 use Rattle.rational.specs.Windows.{Function, Window, Ahead, Behind, IsSupOver, IsInfOver, IsUntil, IsSince}
 use Rattle.rational.specs.UntilParts.{HasUntilToEnd, HasSinceFromStart, UntilIsComposed, SinceIsComposed}
 use Rattle.rational.proofs.Order.{le_of_lt, le_or_lt, le_trans, le_refl, not_lt_of_le}
-use Rattle.rational.proofs.TimeLemmas.{later_le, later_from, later_more}
+use Rattle.rational.proofs.TimeLemmas.{later_le, later_from, later_more, later_zero}
 use Rattle.rational.proofs.ExtendedLemmas.{le_totalᵉ, clashᵉ, le_reflᵉ, le_transᵉ, lt_of_lt_of_leᵉ, lt_of_le_of_ltᵉ, least_of}
 
 -- a value below the least of two is below both, and one below both is below it
@@ -174,12 +174,6 @@ sup_of_empty {S} {T} lowest c d r sup none nothing above least = record {
     by_one (inl k) = le_transᵉ lowest c r sup.at_least k
     by_one (inr k) = le_transᵉ lowest d r above k
 
-at_later : (t : Rational) → t ≤ʳ later t 0
-at_later t = omega arith
-
-later_zero : (t : Rational) → later t 0 ≤ʳ t
-later_zero t = omega arith
-
 abbrev earlier : Rational → ℕ → Rational
 earlier t k = record { up = t.up; down = t.down + k * t.den; den = t.den; positive = t.positive }
 
@@ -223,7 +217,7 @@ module _ {lowest highest : Extended} {P Q : Function} {from to : Rational} (give
       Near = Ahead from to 0 a true true t
 
       in_time : (s : Rational) → Near s → t ≤ʳ s
-      in_time s n = le_trans (at_later t) n.begins
+      in_time s n = le_trans (later_from t 0) n.begins
 
       lies : later t a ≤ʳ to → Lies lowest highest P Q Within W Near (λ s u. Within s to u) t (later t a)
       lies h = record {
@@ -294,7 +288,7 @@ module _ {lowest highest : Extended} {P Q : Function} {from to : Rational} (give
       Beyond s u = Within from s u
 
       in_time : (s : Rational) → Near s → s ≤ʳ t
-      in_time s n = le_trans (at_later s) n.ends
+      in_time s n = le_trans (later_from s 0) n.ends
 
       -- a time in the window is not later than the one a before t
       at_begin : (u : Rational) → W u → u ≤ʳ m

@@ -6,6 +6,7 @@ use Rattle.std.proofs.lemmas.Bool.Decides.{nat_tests}
 use Rattle.std.proofs.lemmas.List.{take_more, take_at, drop_more, take-append-drop, length-append, reverse-append, length-take-le}
 use Rattle.std.proofs.lemmas.List.Elements.{All-nil, All-cons, All-head, All-tail, All-same, All-append, All-weaker}
 use Rattle.std.proofs.lemmas.List.Sums.{sum_by-append}
+use Rattle.rational.proofs.Lists.{slice_get-append_here}
 use Rattle.stl_syntax.specs.Formula.{IsFirst}
 use Rattle.stl_syntax.specs.Limits.{own_reach, reach, HasLargeConstant, IsTooLarge}
 use Rattle.stl_syntax.specs.PostOrder.{MayFollow, children}
@@ -60,16 +61,11 @@ not_large (Since p q a b) h l = l
 not_large (Once p a b i j) h l = l
 not_large (Historically p a b i j) h l = l
 
--- the element after some elements
-get_at : {X : Type 0} (xs : List X) (x : X) (ys : List X) → slice_get (xs ++ x ∷ ys) (length xs) ≡ Some x
-get_at [] x ys = refl
-get_at (z ∷ xs) x ys = get_at xs x ys
-
 -- none of the first is large, and the next is
 pub first_after : (xs : List Node) (n : Node) (ys : List Node) → All (λ m. is_large m ≡ false) xs → is_large n ≡ true
     → IsFirst HasLargeConstant (xs ++ n ∷ ys) (length xs)
 first_after xs n ys a l =
-    record { node = n; at = get_at xs n ys; is = large_is n l; none_before = λ j other i e. not_large other (earlier xs j other a i e) }
+    record { node = n; at = slice_get-append_here xs n ys; is = large_is n l; none_before = λ j other i e. not_large other (earlier xs j other a i e) }
   where
     earlier : (xs : List Node) (j : ℕ) (other : Node) → All (λ m. is_large m ≡ false) xs → j < length xs
         → slice_get (xs ++ n ∷ ys) j ≡ Some other → is_large other ≡ false
@@ -141,7 +137,7 @@ may_add before n after a c r =
     let size : length (before ++ n ∷ after) ≡ length before + suc (length after) = length-append before (n ∷ after) in
     let few : length before < 256 = omega (arith, size, a.few) in
     let follows : MayFollow before n =
-    subst (λ xs. MayFollow xs n) (take_at before (n ∷ after) (length before) refl) (a.order.follows (length before) n (get_at before n after)) in
+    subst (λ xs. MayFollow xs n) (take_at before (n ∷ after) (length before) refl) (a.order.follows (length before) n (slice_get-append_here before n after)) in
     let own : reach (n ∷ []) ≡ own_reach n = omega arith in
     let last : reach (before ++ n ∷ []) ≡ reach before + reach (n ∷ []) = sum_by-append own_reach before (n ∷ []) in
     let parts : reach (before ++ n ∷ after) ≡ reach (before ++ n ∷ []) + reach after =

@@ -5,7 +5,7 @@ use Rattle.std.specs.Prelude.{◌==◌, ◌||◌, nat_lt, nat_le, IsTrue, MatchB
 use Rattle.std.specs.Str.{IsAscii}
 use Rattle.std.proofs.lemmas.Bool.{eqb-true}
 use Rattle.std.proofs.lemmas.Bool.Decides.{nat_tests}
-use Rattle.std.proofs.lemmas.List.{take-append-drop, drop_more, drop-drop, length-take-le, append-nil, take_at, take_all, length-drop}
+use Rattle.std.proofs.lemmas.List.{take-append-drop, drop_more, drop-drop, length-take-le, append-nil, take_at}
 use Rattle.stl_syntax.specs.Characters.{is_digit, begins_word, goes_on_word, all, StopsAt, decimal_value, without_zeros, begins_decimals, is_among}
 use Rattle.stl_grammar.specs.Tokens.{Token, word, number, relation, decimal_number, IsToken, a_word, an_integer, a_decimal}
 use Rattle.stl_syntax.specs.Names.{reserved, is_name}
@@ -24,10 +24,6 @@ pub front_some : (p : ℕ → Bool) (xs : List ℕ) (n : ℕ) → 0 < length xs 
 front_some p [] n l h s = absurd (omega (arith, l))
 front_some p (c ∷ xs) zero l h s = absurd (cc)
 front_some p (c ∷ xs) (suc n) l h s = omega arith
-
--- all from place n on
-pub rest_is : (n : ℕ) (xs : List ℕ) → take (length xs - n) (drop n xs) ≡ drop n xs
-rest_is n xs = take_all (length xs - n) (drop n xs) (omega (arith, length-drop n xs))
 
 -- a token of one byte
 pub one_byte : (text rest : List ℕ) (c : ℕ) (t : Token) (code : Code) → 0 < length rest → get_or rest 0 0 ≡ c → ((after : List ℕ) → IsToken (c ∷ []) after t)

@@ -1,7 +1,8 @@
 -- A parser of tokens keeps its frames in order.
 use Rattle.std.proofs.Common.{◌≡◌, ℕ, suc, ◌-◌, ◌<◌, List, [], ◌∷◌, length, refl, Bool, true, false, if◌then◌else◌, arith}
-use Rattle.std.specs.Prelude.{nat_le, nat_lt, Option, Some, None}
+use Rattle.std.specs.Prelude.{nat_le, Option, Some, None}
 use Rattle.std.proofs.lemmas.Bool.Decides.{nat_tests}
+use Rattle.std.proofs.lemmas.Bool.{lt-ltb}
 use Rattle.stl_grammar.specs.Parsing.{Parse, parse_step, begin_operand, closed, folded_frames, rank, infix_rank, top_rank, back_frame}
 use Rattle.stl_grammar.specs.Refusing.{is_beside, back_is_beside}
 use Rattle.stl_grammar.specs.declared.decimal.Decimal.{Decimal}
@@ -59,9 +60,6 @@ folded_top r (f ∷ frames) s = by_rank (nat_le r (rank f)) refl (folded_top r f
     by_rank : (q : Bool) → nat_le r (rank f) ≡ q → top_rank (folded_frames r frames) < r → top_rank (if q then folded_frames r frames else f ∷ frames) < r
     by_rank true e more = more
     by_rank false e more = grind (arith, nat_tests, e)
-
-lower : (m n : ℕ) → m < n → nat_lt m n ≡ true
-lower m n h = grind (arith, nat_tests, h)
 
 -- after a whole operand
 pub ended_fit : (drafts : List Draft) (frames : List Frame) (made : ℕ) → ordered frames ≡ true
@@ -210,9 +208,9 @@ closing_CloseBracket : (text : List ℕ) (of : Timed) (low_in : Bool) (low high 
     → IsFit (record { place = Closing of low_in low high; frames = frames; drafts = drafts; terms = terms; made = made })
     → Holds IsFit (parse_step text (record { place = Closing of low_in low high; frames = frames; drafts = drafts; terms = terms; made = made }) CloseBracket)
 closing_CloseBracket text TUntil low_in low high frames drafts terms made h =
-    record { order = rw (lower (top_rank frames) 4 h.place.1, h.order) refl; place = h.place.0 }
+    record { order = rw (lt-ltb (top_rank frames) 4 h.place.1, h.order) refl; place = h.place.0 }
 closing_CloseBracket text TSince low_in low high frames drafts terms made h =
-    record { order = rw (lower (top_rank frames) 4 h.place.1, h.order) refl; place = h.place.0 }
+    record { order = rw (lt-ltb (top_rank frames) 4 h.place.1, h.order) refl; place = h.place.0 }
 closing_CloseBracket text TEventually low_in low high frames drafts terms made h = record { order = h.order; place = h.place.0 }
 closing_CloseBracket text TAlways low_in low high frames drafts terms made h = record { order = h.order; place = h.place.0 }
 closing_CloseBracket text TOnce low_in low high frames drafts terms made h = record { order = h.order; place = h.place.0 }
@@ -223,7 +221,7 @@ closing_inf_CloseBracket : (text : List ℕ) (of : Back) (low_in : Bool) (low : 
     → IsFit (record { place = ClosingInf of low_in low; frames = frames; drafts = drafts; terms = terms; made = made })
     → Holds IsFit (parse_step text (record { place = ClosingInf of low_in low; frames = frames; drafts = drafts; terms = terms; made = made }) CloseBracket)
 closing_inf_CloseBracket text BSince low_in low frames drafts terms made h =
-    record { order = rw (lower (top_rank frames) 4 h.place.1, h.order) refl; place = h.place.0 }
+    record { order = rw (lt-ltb (top_rank frames) 4 h.place.1, h.order) refl; place = h.place.0 }
 closing_inf_CloseBracket text BOnce low_in low frames drafts terms made h = record { order = h.order; place = h.place.0 }
 closing_inf_CloseBracket text BHistorically low_in low frames drafts terms made h = record { order = h.order; place = h.place.0 }
 
@@ -382,17 +380,17 @@ end_fit text frames drafts terms made (IsKeyword False) h = tt
 end_fit text frames drafts terms made (IsKeyword Not) h = tt
 end_fit text frames drafts terms made (IsKeyword And) h =
     record {
-      order = rw (lower (top_rank (folded_frames 3 frames)) 3 (folded_top 3 frames (omega arith)), folded_ordered 3 frames h.order) refl;
+      order = rw (lt-ltb (top_rank (folded_frames 3 frames)) 3 (folded_top 3 frames (omega arith)), folded_ordered 3 frames h.order) refl;
       place = h.place.0;
     }
 end_fit text frames drafts terms made (IsKeyword Or) h =
     record {
-      order = rw (lower (top_rank (folded_frames 2 frames)) 2 (folded_top 2 frames (omega arith)), folded_ordered 2 frames h.order) refl;
+      order = rw (lt-ltb (top_rank (folded_frames 2 frames)) 2 (folded_top 2 frames (omega arith)), folded_ordered 2 frames h.order) refl;
       place = h.place.0;
     }
 end_fit text frames drafts terms made (IsKeyword Implies) h =
     record {
-      order = rw (lower (top_rank (folded_frames 2 frames)) 2 (folded_top 2 frames (omega arith)), folded_ordered 2 frames h.order) refl;
+      order = rw (lt-ltb (top_rank (folded_frames 2 frames)) 2 (folded_top 2 frames (omega arith)), folded_ordered 2 frames h.order) refl;
       place = h.place.0;
     }
 end_fit text frames drafts terms made (IsKeyword Until) h = beside TUntil frames drafts terms made (nat_le 4 (top_rank frames)) refl refl h.place.0 h.order
@@ -419,7 +417,7 @@ left_out : (text : List ℕ) (b : Back) (frames : List Frame) (drafts : List Dra
     → Holds IsFit (begin_operand text
     (record { place = Operand; frames = back_frame b Whole (length drafts - 1) ∷ frames; drafts = drafts; terms = []; made = made }) t)
 left_out text BSince frames drafts made t h s = begin_fit text Operand
-    (Between (After Whole) (length drafts - 1) ∷ frames) drafts made t (rw (lower (top_rank frames) 4 s, h) refl)
+    (Between (After Whole) (length drafts - 1) ∷ frames) drafts made t (rw (lt-ltb (top_rank frames) 4 s, h) refl)
 left_out text BOnce frames drafts made t h s = begin_fit text Operand (back_frame BOnce Whole (length drafts - 1) ∷ frames) drafts made t h
 left_out text BHistorically frames drafts made t h s = begin_fit text Operand (back_frame BHistorically Whole (length drafts - 1) ∷ frames) drafts made t h
 

@@ -642,7 +642,7 @@ module _ (text : List ℕ) (s : Scale) where
         (Const true ∷ [], suc n, refl, sym (reads_none step))
     operand_left always_false frames drafts n q e r =
         let step = stepped r (IsKeyword False) (folded 5 (at End frames (drafts ++ Const false ∷ []) [] (suc n)))
-            (λ c h. keyword_spelled text False c h) refl in
+        (λ c h. keyword_spelled text False c h) refl in
         (Const false ∷ [], suc n, refl, sym (reads_none step))
     operand_left (parens {ts = ts} {ns} f) frames drafts n q e r =
         let step = stepped r OpenParen (at Operand (Opened ∷ frames) drafts [] n) (λ c h. open_paren_spelled text c h) refl in

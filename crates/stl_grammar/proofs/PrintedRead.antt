@@ -5,6 +5,7 @@ use Rattle.std.specs.Prelude.{codes, decimal, ◌==◌, nat_abs, neg_ℤ, ℤ, O
 use Rattle.std.proofs.lemmas.List.{append-nil}
 use Rattle.std.proofs.lemmas.List.Elements.{All-head, All-tail, All-cons, All-nil}
 use Rattle.std.proofs.lemmas.Bool.{eqb-true, and_parts}
+use Rattle.rational.proofs.Lists.{slice_get-append_here}
 use Rattle.stl_syntax.specs.Characters.{ticks}
 use Rattle.stl_syntax.specs.Names.{is_name}
 use Rattle.stl_syntax.specs.Formula.{Formula, Subformula, negation, conjunction, disjunction, implication, tree_of, subformula}
@@ -611,11 +612,6 @@ module _ (s : Scale) (at : ℕ → Subformula) where
   two_read k i ns ms (Once p a b a_in b_in) text e f r t h = absurd (cc)
   two_read k i ns ms (Historically p a b a_in b_in) text e f r t h = absurd (cc)
 
--- the node at the end of a piece of the nodes
-seam : (xs ys : List Node) (n : Node) → slice_get (xs ++ n ∷ ys) (length xs) ≡ Some n
-seam [] ys n = refl
-seam (x ∷ xs) ys n = seam xs ys n
-
 module _ (s : Scale) (all : List Node) (order : IsPostOrder all) where
   node_is : (i : ℕ) (n : Node) → slice_get all i ≡ Some n → subformula all i ≡ tree_of (subformula all) i n
   node_is i n e = subformula-at all i n e (placed all i n order e)
@@ -625,7 +621,7 @@ module _ (s : Scale) (all : List Node) (order : IsPostOrder all) where
   last_is pre ns post k n e l =
       let a : all ≡ pre ++ ns ++ n ∷ post = e ∙ simp append_assoc in
       let i : top k (ns ++ n ∷ []) ≡ length (pre ++ ns) = omega (arith, l, length-append pre ns, length-append ns (n ∷ [])) in
-      let f : slice_get all (length (pre ++ ns)) ≡ Some n = ap (λ z. slice_get z (length (pre ++ ns))) a ∙ seam (pre ++ ns) post n in
+      let f : slice_get all (length (pre ++ ns)) ≡ Some n = ap (λ z. slice_get z (length (pre ++ ns))) a ∙ slice_get-append_here (pre ++ ns) n post in
       node_is (top k (ns ++ n ∷ [])) n (ap (λ z. slice_get all z) i ∙ f)
 
   tree_read : {k : ℕ} {ns : List Node} → IsTreeFrom k ns → (pre post : List Node) → all ≡ pre ++ ns ++ post → length pre ≡ k → All IsFit ns → (text : List ℕ)

@@ -5,6 +5,7 @@ use Rattle.std.specs.Prelude.{nat_le, nat_lt, ◌||◌, not, Option, Some, None,
 use Rattle.std.proofs.lemmas.Bool.Decides.{nat_tests}
 use Rattle.std.proofs.lemmas.List.{take_at, length-append, length-drop}
 use Rattle.std.proofs.lemmas.Option.{same_Some}
+use Rattle.std.proofs.Math.Bool.{or-false}
 use Rattle.stl_syntax.specs.Characters.{is_among}
 use Rattle.stl_syntax.specs.Choice.{◌or_else◌, Where}
 use Rattle.stl_syntax.specs.Names.{is_name}
@@ -22,7 +23,6 @@ use Rattle.stl_grammar.specs.Parsing.{Parse, parse_step, between, IsKnown}
 use Rattle.stl_grammar.specs.Refusing.{state_of, refused, refused_after, late_in, unbounded_in, fifth_in, bad_in}
 use Rattle.stl_grammar.specs.Refusing.{disorder_in, future_in, expected_in, depth_of, place_at, number_in}
 use Rattle.stl_grammar.specs.Taken.{plain}
-use Rattle.stl_syntax.proofs.PostOrderLemmas.{or_false}
 use Rattle.stl_grammar.proofs.ParserView.{IsFit, view_step, known_kind}
 use Rattle.stl_grammar.proofs.RefusalExamples.{passed, not_refused}
 use Rattle.stl_grammar.proofs.WordKinds.{among_ahead, among_inf}
@@ -249,10 +249,10 @@ unbounded_same text rest before place (IsKeyword Not) k f = refl
 unbounded_same text rest before place (IsKeyword And) k f = refl
 unbounded_same text rest before place (IsKeyword Or) k f = refl
 unbounded_same text rest before place (IsKeyword Implies) k f = refl
-unbounded_same text rest before place (IsKeyword Until) k f = or_false (not (opens_bound (spelling Until) rest))
+unbounded_same text rest before place (IsKeyword Until) k f = or-false (not (opens_bound (spelling Until) rest))
 unbounded_same text rest before place (IsKeyword Since) k f = refl
-unbounded_same text rest before place (IsKeyword Eventually) k f = or_false (not (opens_bound (spelling Eventually) rest))
-unbounded_same text rest before place (IsKeyword Always) k f = or_false (not (opens_bound (spelling Always) rest))
+unbounded_same text rest before place (IsKeyword Eventually) k f = or-false (not (opens_bound (spelling Eventually) rest))
+unbounded_same text rest before place (IsKeyword Always) k f = or-false (not (opens_bound (spelling Always) rest))
 unbounded_same text rest before place (IsKeyword Once) k f = refl
 unbounded_same text rest before place (IsKeyword Historically) k f = refl
 unbounded_same text rest before place (IsKeyword Inf) k f = f

@@ -2,10 +2,10 @@
 use Rattle.std.proofs.Common.{◌⊎◌, inl, inr, ◌+◌, ◌-◌, max, true, false, refl, sym, ◌∙◌, lit<, arith}
 use Rattle.rational.specs.Time.{Rational, Within}
 use Rattle.rational.specs.Windows.{Ahead, Behind, IsUpTo, IsDownTo}
-use Rattle.rational.specs.Extended.{Extended, ◌≈ᵉ◌, ◌<ᵉ◌}
+use Rattle.rational.specs.Extended.{Extended}
 use Rattle.rational.proofs.Order.{le_refl}
 use Rattle.rational.proofs.TimeLemmas.{within_stretch}
-use Rattle.rational.proofs.ExtendedLemmas.{clashᵉ, le_transᵉ, least_of}
+use Rattle.rational.proofs.ExtendedLemmas.{least_of, not_twoᵉ}
 use Rattle.stl_syntax.specs.Trace.{Trace, start, stop}
 use Rattle.stl_syntax.specs.Formula.{Subformula, constant, atom, negation, conjunction, disjunction, implication}
 use Rattle.stl_syntax.specs.Formula.{until, eventually, always, since, once, historically, horizon}
@@ -110,9 +110,6 @@ module _ (tr : Trace) where
       let x = has_value q setting ok.2 u w.inside in
       let y = more.0 u t w.inside here in let v = least_of x.0 y.0 in (v.0, (x.0, y.0, x.1, y.1, v.1))) v)
 
-two_apart : {X : Type 0} (r x y : Extended) → r ≈ᵉ x → r ≈ᵉ y → y <ᵉ x → X
-two_apart r x y h k l = clashᵉ y x l (le_transᵉ x r y h.at_least k.at_most)
-
 -- the law on what is answered
 pub answered_is_settled : AnsweredIsSettled
 answered_is_settled p tr t h ok more = by_value (has_value p (truth_setting tr) ok t here)
@@ -128,11 +125,11 @@ answered_is_settled p tr t h ok more = by_value (has_value p (truth_setting tr) 
 
     by_both : (r : Extended) → Tells3 r (Settled p tr t) (SettledNot p tr t) → Tells r (Truth p tr t) → Goal
     by_both r (inl (e, s, n)) (inl (f, k)) = inl (s, k)
-    by_both r (inl (e, s, n)) (inr (f, k)) = two_apart r one minus_one e f (record { lt = lit< tt })
-    by_both r (inr (inl (e, s, n))) (inl (f, k)) = two_apart r one minus_one f e (record { lt = lit< tt })
+    by_both r (inl (e, s, n)) (inr (f, k)) = not_twoᵉ r one minus_one e f (record { lt = lit< tt })
+    by_both r (inr (inl (e, s, n))) (inl (f, k)) = not_twoᵉ r one minus_one f e (record { lt = lit< tt })
     by_both r (inr (inl (e, s, n))) (inr (f, k)) = inr (s, k)
-    by_both r (inr (inr (e, s, n))) (inl (f, k)) = two_apart r one zero_value f e (record { lt = lit< tt })
-    by_both r (inr (inr (e, s, n))) (inr (f, k)) = two_apart r zero_value minus_one e f (record { lt = lit< tt })
+    by_both r (inr (inr (e, s, n))) (inl (f, k)) = not_twoᵉ r one zero_value f e (record { lt = lit< tt })
+    by_both r (inr (inr (e, s, n))) (inr (f, k)) = not_twoᵉ r zero_value minus_one e f (record { lt = lit< tt })
 
     by_value : (r : Extended) × SupInf p (truth_setting tr) t r → Goal
     by_value (r, v) = by_both r (decided tr p ok more t r reach v) (SupInf-truth p tr ok t r here v)

@@ -1,9 +1,8 @@
 -- The laws in the words of specs/Laws.antt, from the lemmas on each word.
-use Rattle.std.proofs.Common.{◌≡◌, ℕ, ◌-◌, inl, inr, Bool, List, [], ◌∷◌, ◌++◌, ap, ◌∙◌, arith, lit<, length, pos, ◌≤◌}
+use Rattle.std.proofs.Common.{◌≡◌, ℕ, ◌-◌, inl, inr, Bool, List, ◌∷◌, ◌++◌, ap, ◌∙◌, arith, lit<, length, pos}
 use Rattle.std.specs.Prelude.{◌↔◌, MatchBool}
 use Rattle.rational.specs.Rational.{◌≤ʳ◌, whole}
-use Rattle.rational.specs.Extended.{Extended, ◌<ᵉ◌, ◌≈ᵉ◌}
-use Rattle.rational.proofs.ExtendedLemmas.{clashᵉ, le_transᵉ}
+use Rattle.rational.proofs.ExtendedLemmas.{not_twoᵉ}
 use Rattle.stl_syntax.specs.Trace.{Header, Row, Trace, IsTrace, Continues, AreRowsAfter, row_time, last_time, start}
 use Rattle.stl_syntax.specs.Formula.{root}
 use Rattle.stl_syntax.specs.Truth.{Truth}
@@ -29,6 +28,7 @@ use Rattle.stl_syntax.proofs.EarlyLaw.{Decides-truth, Decides-stays}
 use Rattle.stl_syntax.proofs.MarginLaw.{SupInf-margin}
 use Rattle.stl_syntax.proofs.VerdictsLaw.{Describes-unique}
 use Rattle.stl_syntax.proofs.MarginsLaw.{DescribesMargins-unique}
+pub use Rattle.stl_syntax.proofs.RowsLemmas.{last_from}
 
 -- truth is of times
 pub truth_is_of_times : TruthIsOfTimes
@@ -59,9 +59,6 @@ one_value p s t r r' ok h k = record {
 pub certainty_has_values : CertaintyHasValues
 certainty_has_values tr items i a t = certainties_give tr items i a t
 
-clash_of : {X : Type 0} (v x y : Extended) → v ≈ᵉ x → v ≈ᵉ y → y <ᵉ x → X
-clash_of v x y h k l = clashᵉ y x l (le_transᵉ x v y h.at_least k.at_most)
-
 -- truth by the values 1 and -1
 pub truth_by_values : TruthByValues
 truth_by_values p tr ok t r w h = by_told (SupInf-truth p tr ok t r w h)
@@ -70,11 +67,11 @@ truth_by_values p tr ok t r w h = by_told (SupInf-truth p tr ok t r w h)
     by_told (inl (e, k)) = record {
       told = inl e;
       holds = (λ _. k, λ _. e);
-      fails = (λ f. clash_of r one minus_one e f (record { lt = lit< tt }), λ n. absurd (n k));
+      fails = (λ f. not_twoᵉ r one minus_one e f (record { lt = lit< tt }), λ n. absurd (n k));
     }
     by_told (inr (e, n)) = record {
       told = inr e;
-      holds = (λ f. clash_of r one minus_one f e (record { lt = lit< tt }), λ k. absurd (n k));
+      holds = (λ f. not_twoᵉ r one minus_one f e (record { lt = lit< tt }), λ k. absurd (n k));
       fails = (λ _. n, λ _. e);
     }
 
@@ -86,17 +83,17 @@ certainty_by_values p items tr ok more t r w h = by_told (SupInf-certain items t
     by_told (inl (e, k, n)) = record {
       told = inl e;
       certain = (λ _. k, λ _. e);
-      certain_not = (λ f. clash_of r one minus_one e f (record { lt = lit< tt }), λ m. absurd (n m));
+      certain_not = (λ f. not_twoᵉ r one minus_one e f (record { lt = lit< tt }), λ m. absurd (n m));
     }
     by_told (inr (inl (e, m, n))) = record {
       told = inr (inl e);
-      certain = (λ f. clash_of r one minus_one f e (record { lt = lit< tt }), λ k. absurd (n k));
+      certain = (λ f. not_twoᵉ r one minus_one f e (record { lt = lit< tt }), λ k. absurd (n k));
       certain_not = (λ _. m, λ _. e);
     }
     by_told (inr (inr (e, n, m))) = record {
       told = inr (inr e);
-      certain = (λ f. clash_of r one zero_value f e (record { lt = lit< tt }), λ k. absurd (n k));
-      certain_not = (λ f. clash_of r zero_value minus_one e f (record { lt = lit< tt }), λ k. absurd (m k));
+      certain = (λ f. not_twoᵉ r one zero_value f e (record { lt = lit< tt }), λ k. absurd (n k));
+      certain_not = (λ f. not_twoᵉ r zero_value minus_one e f (record { lt = lit< tt }), λ k. absurd (m k));
     }
 
 -- certainty is truth
@@ -139,11 +136,6 @@ answered_margins_stay p header r rows tr ended t v ok c h = by_more (going_on he
     by_more (more, e) =
         let after = rows_after header r rows more (rw e at ok) in
         let both = Margins-settled header (length header.columns) r rows more after p t (record { after = h.0; before = h.1 }) v in rw e both
-
--- the time of the last row is not before the first
-pub last_from : (n time : ℕ) (rows : List Row) → AreRowsAfter n time rows → time ≤ last_time time rows
-last_from n time [] ok = omega arith
-last_from n time (r ∷ rows) ok = let h = last_from n r.time rows ok.2 in let k = ok.0 in omega arith
 
 first_le : (n : ℕ) (r : Row) (rows : List Row) → AreRowsAfter n r.time rows → row_time r ≤ʳ whole (pos (last_time r.time rows))
 first_le n r rows ok = let h = last_from n r.time rows ok in record { le = omega arith }

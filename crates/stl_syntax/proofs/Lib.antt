@@ -1,6 +1,7 @@
 pub mod ChoiceLemmas
 pub mod CharacterLemmas
 pub mod FormulaLemmas
+pub mod RowsLemmas
 pub mod PostOrderLemmas
 pub mod HorizonLemmas
 pub mod WellFormedLemmas

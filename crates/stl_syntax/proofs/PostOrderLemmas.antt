@@ -1,13 +1,15 @@
 -- Nodes in post-order: children stand below their parents, and a node takes the place of its children among the unused places.
-use Rattle.std.proofs.Common.{◌≡◌, ℕ, zero, suc, ◌+◌, ◌<◌, ◌≤◌, List, [], ◌∷◌, ◌++◌, length, take, refl, sym, ◌∙◌}
+use Rattle.std.proofs.Common.{◌≡◌, ◌≢◌, ℕ, zero, suc, ◌+◌, ◌<◌, ◌≤◌, List, [], ◌∷◌, ◌++◌, length, take, refl, sym, ◌∙◌}
 use Rattle.std.proofs.Common.{ap, arith, Bool, true, false, not, ◌||◌, cond, subst, append_assoc, inl, inr, ◌⊎◌}
 use Rattle.std.proofs.lemmas.List.{append-nil, take-append-le, take_at, length_push, take-take, length-take}
 use Rattle.std.proofs.lemmas.List.Elements.{filter-append, filter_agree, filter_passes, All-filter, All-nil, All-cons, All-head, All-tail, All-same, All-weaker}
 use Rattle.std.proofs.lemmas.List.Folds.{list_any-append, list_any_none}
-use Rattle.std.proofs.lemmas.Bool.{ne_eqb, eq-eqb, or_left, or_right, or_from, cases_lt}
+use Rattle.std.proofs.lemmas.Bool.{ne_eqb, eq-eqb, or_left, or_right, or_from, cases_lt, not-true}
 use Rattle.std.specs.List.{list_any, range_with_len}
 use Rattle.std.specs.Prelude.{Some, None, slice_get, slice_index_or, filter, ◌==◌, All}
+use Rattle.std.proofs.Math.Bool.{or-false}
 use Rattle.stl_syntax.specs.Formula.{HasChildrenBelow}
+use Rattle.stl_syntax.specs.Cells.{IsChild}
 use Rattle.stl_syntax.specs.PostOrder.{children, has_child, is_used, unused, MayFollow, IsPostOrder}
 use Rattle.stl_syntax.specs.declared.node.Node.{Node}
 use Rattle.stl_syntax.specs.declared.node.Node.TheVariants.{Const, Atom as Leaf, Not, And, Or, Implies, Until, Eventually, Always, Since, Once, Historically}
@@ -104,15 +106,11 @@ unused_below nodes =
     let Q : ℕ → Type 0 = λ top. All (λ i. i < top) (range_with_len 0 (length nodes)) in
     All-filter (λ i. not (is_used nodes i)) (λ i. i < length nodes) (range_with_len 0 (length nodes)) (subst Q e (range_below 0 (length nodes)))
 
-free_is_unused : (b : Bool) → not b ≡ true → b ≡ false
-free_is_unused true e = sym e
-free_is_unused false e = refl
-
 -- an unused place is no child
 pub unused_free : (nodes : List Node) → All (λ i. is_used nodes i ≡ false) (unused nodes)
 unfolding unused
 unused_free nodes =
-    All-weaker (λ i. not (is_used nodes i) ≡ true) (λ i. is_used nodes i ≡ false) (λ i e. free_is_unused (is_used nodes i) e) _
+    All-weaker (λ i. not (is_used nodes i) ≡ true) (λ i. is_used nodes i ≡ false) (λ i e. not-true (is_used nodes i) e) _
     (filter_passes (λ i. not (is_used nodes i)) (range_with_len 0 (length nodes)))
 
 -- the children of a node that may follow are no children of those before it
@@ -153,6 +151,38 @@ placed nodes i n h e =
     placed_of_all i n
     (All-weaker (λ p. p < length (take i nodes)) (λ p. p < i) (λ p l. omega (arith, length-take i nodes)) (children n)
     (children_below (take i nodes) n (h.follows i n e)))
+
+-- a child stands before its parent
+pub child_below : (i p : ℕ) (n : Node) → HasChildrenBelow i n → IsChild n p → p < i
+child_below i p (Const b) h c = absurd c
+child_below i p (Leaf a) h c = absurd c
+child_below i p (Not q) h c = subst (λ x. x < i) c h
+child_below i p (And q r) h c = elim c [ inl d ↦ subst (λ x. x < i) d h.0 | inr d ↦ subst (λ x. x < i) d h.1 ]
+child_below i p (Or q r) h c = elim c [ inl d ↦ subst (λ x. x < i) d h.0 | inr d ↦ subst (λ x. x < i) d h.1 ]
+child_below i p (Implies q r) h c = elim c [ inl d ↦ subst (λ x. x < i) d h.0 | inr d ↦ subst (λ x. x < i) d h.1 ]
+child_below i p (Until q r a b) h c = elim c [ inl d ↦ subst (λ x. x < i) d h.0 | inr d ↦ subst (λ x. x < i) d h.1 ]
+child_below i p (Eventually q a b a_in b_in) h c = subst (λ x. x < i) c h
+child_below i p (Always q a b a_in b_in) h c = subst (λ x. x < i) c h
+child_below i p (Since q r a b) h c = elim c [ inl d ↦ subst (λ x. x < i) d h.0 | inr d ↦ subst (λ x. x < i) d h.1 ]
+child_below i p (Once q a b a_in b_in) h c = subst (λ x. x < i) c h
+child_below i p (Historically q a b a_in b_in) h c = subst (λ x. x < i) c h
+
+-- two children of a node are two nodes
+pub inputs_apart : (nodes : List Node) (i : ℕ) (n : Node) (p q : ℕ) → IsPostOrder nodes → slice_get nodes i ≡ Some n
+    → children n ≡ p ∷ q ∷ [] → p ≢ q
+unfolding unused
+inputs_apart nodes i n p q order at two same =
+    let follow = order.follows i n at in
+    by_list follow.others (follow.last ∙ ap (λ l. follow.others ++ l) two)
+  where
+    last_two : (a : ℕ) (others : List ℕ) → RiseFrom a (others ++ p ∷ q ∷ []) → p < q
+    last_two a [] r = let l = r.1.0 in omega (arith, l)
+    last_two a (x ∷ others) r = last_two (x + 1) others r.1
+
+    by_list : (others : List ℕ) → unused (take i nodes) ≡ others ++ p ∷ q ∷ [] → ⊥
+    by_list others e =
+        let l = last_two 0 others (subst (RiseFrom 0) e (rise_filter (λ k. not (is_used (take i nodes) k)) 0 (length (take i nodes)))) in
+        omega (arith, l, same)
 
 -- what stands before place i of a longer list
 taken : (nodes : List Node) (n : Node) (i : ℕ) → i ≤ length nodes → take i (nodes ++ n ∷ []) ≡ take i nodes
@@ -227,11 +257,6 @@ next_unused nodes m h last =
         All-weaker (λ p. p < length (take k nodes)) (λ p. p < k) (λ p l. omega (arith, length-take k nodes)) (children n)
         (children_below (take k nodes) n (h.follows k n e))
 
--- or false changes nothing
-pub or_false : (b : Bool) → (b || false) ≡ b
-or_false true = refl
-or_false false = refl
-
 -- a node takes the place of its children among the unused places
 pub unused_push : (nodes : List Node) (m : Node) (others : List ℕ) → IsPostOrder nodes → unused nodes ≡ others ++ children m
     → unused (nodes ++ m ∷ []) ≡ others ++ length nodes ∷ []
@@ -244,7 +269,7 @@ unused_push nodes m others h last =
     let more : range_with_len 0 (length (nodes ++ m ∷ [])) ≡ range_with_len 0 (length nodes) ++ length nodes ∷ [] =
     rw longer (range_more 0 (length nodes) ∙ rw top) in
     let same : (i : ℕ) → free_too i ≡ not (is_used nodes i || list_any (λ p. p == i) (children m)) =
-    λ i. ap not (list_any-append (has_child i) nodes (m ∷ []) ∙ ap (λ b. is_used nodes i || b) (or_false (list_any (λ p. p == i) (children m)))) in
+    λ i. ap not (list_any-append (has_child i) nodes (m ∷ []) ∙ ap (λ b. is_used nodes i || b) (or-false (list_any (λ p. p == i) (children m)))) in
     let before : filter free_too (range_with_len 0 (length nodes)) ≡ others =
     filter_agree free_too _ same (range_with_len 0 (length nodes))
     ∙ filter_filter (is_used nodes) (λ i. list_any (λ p. p == i) (children m)) (range_with_len 0 (length nodes))

@@ -1,5 +1,5 @@
 -- What rows answer stays so in every trace that goes on from them.
-use Rattle.std.proofs.Common.{ℕ, suc, pos, ◌-◌, ◌≤◌, List, [], ◌∷◌, ◌++◌, inl, inr, Bool, true, false, arith, ◌⊎◌, max}
+use Rattle.std.proofs.Common.{ℕ, suc, pos, ◌-◌, List, [], ◌∷◌, ◌++◌, inl, inr, Bool, true, false, arith, ◌⊎◌, max}
 use Rattle.std.specs.Prelude.{bytes_eq, ◌↔◌}
 use Rattle.rational.specs.Line.{at}
 use Rattle.rational.proofs.Order.{le_or_lt, same_refl, same_sym, same_trans, same_of_le, lt_of_le_of_lt}
@@ -13,10 +13,12 @@ use Rattle.stl_syntax.specs.Truth.{sum_at, expression, Truth}
 use Rattle.stl_syntax.specs.declared.atom.Term.{Term}
 use Rattle.stl_syntax.specs.declared.atom.Atom.{Atom}
 use Rattle.rational.proofs.TimeLemmas.{same_times, less_in, less_no}
+use Rattle.rational.proofs.Tests.{either}
 use Rattle.stl_syntax.proofs.Reaching.{Reaches, reach_now, reach_less, ahead_reaches, ahead_longer, ahead_shorter}
 use Rattle.stl_syntax.proofs.Reaching.{behind_reaches, behind_longer, behind_shorter, until_left, until_right, since_left}
 use Rattle.stl_syntax.proofs.Reaching.{since_right}
 use Rattle.stl_syntax.proofs.TruthLemmas.{compares_same, chosen}
+use Rattle.stl_syntax.proofs.RowsLemmas.{last_grows}
 
 -- a ramp has at its first row that row's value
 ramp_starts : (c : ℕ) (r s : Row) → at (line_between r.time (value r c) (s.time - suc r.time) (value s c)) (row_time r) ≈ whole (value r c)
@@ -55,16 +57,6 @@ same_among (x ∷ columns) c n r rows more name t ok h k =
 
 abbrev pub trace : Header → List Row → Trace
 trace header rows = record { header = header; rows = rows }
-
--- the last time does not fall
-last_grows : (n time : ℕ) (rows more : List Row) → AreRowsAfter n time (rows ++ more) → last_time time rows ≤ last_time time (rows ++ more)
-last_grows n time [] [] ok = omega arith
-last_grows n time [] (s ∷ more) ok = let h = last_grows n s.time [] more ok.2 in let k = ok.0 in omega arith
-last_grows n time (r ∷ rows) more ok = last_grows n r.time rows more ok.2
-
-either : {A B C D : Type 0} → (A → C) → (B → D) → A ⊎ B → C ⊎ D
-either f g (inl x) = inl (f x)
-either f g (inr y) = inr (g y)
 
 module _ (header : Header) (n : ℕ) (r : Row) (rows more : List Row) (ok : AreRowsAfter n r.time (rows ++ more)) where
   same_column : (name : List ℕ) (t : Rational) → row_time r ≤ʳ t → t ≤ʳ whole (pos (last_time r.time rows))

@@ -3,7 +3,7 @@ use Rattle.std.proofs.Common.{ℕ, ◌+◌, ◌*◌, inl, inr, true, arith}
 use Rattle.std.specs.Prelude.{Option, Some, None, IfSome}
 use Rattle.rational.specs.Time.{Rational, Within, later, ◌≤ʳ◌, ◌<ʳ◌}
 use Rattle.rational.proofs.Order.{le_trans, le_refl, le_of_lt, le_or_lt}
-use Rattle.rational.proofs.TimeLemmas.{later_from, later_le}
+use Rattle.rational.proofs.TimeLemmas.{later_from, later_le, le_by_later}
 use Rattle.stl_syntax.specs.Trace.{Trace, start}
 use Rattle.stl_syntax.specs.Formula.{Subformula, until, since}
 use Rattle.stl_syntax.specs.Early.{Settled, SettledNot, OpenAhead, OpenBehind, IsSure}
@@ -27,7 +27,7 @@ sure_later tr t v u h (s, inl l) = (s, inl l)
 sure_later tr t v u h (s, inr l) = (s, inr (le_trans l h))
 
 -- an earlier time is sure where a later one is
-sure_earlier : (tr : Trace) (t w u : Rational) → start tr ≤ʳ w → w ≤ʳ u → IsSure tr t u → IsSure tr t w
+pub sure_earlier : (tr : Trace) (t w u : Rational) → start tr ≤ʳ w → w ≤ʳ u → IsSure tr t u → IsSure tr t w
 sure_earlier tr t w u h k (s, inl l) = (h, inl (le_trans k l))
 sure_earlier tr t w u h k (s, inr l) = (h, inr (le_trans k l))
 
@@ -100,13 +100,9 @@ abbrev less_by : Rational → ℕ → Rational
 less_by t a = record { up = t.up; down = t.down + a * t.den; den = t.den; positive = t.positive }
 
 -- a later time is in the window if its end allows it
-still_begins : (b : Option ℕ) (t u w : Rational) → u ≤ʳ w → IfSome b (λ b. t ≤ʳ later u b) → IfSome b (λ b. t ≤ʳ later w b)
+pub still_begins : (b : Option ℕ) (t u w : Rational) → u ≤ʳ w → IfSome b (λ b. t ≤ʳ later u b) → IfSome b (λ b. t ≤ʳ later w b)
 still_begins None t u w h k = k
 still_begins (Some b) t u w h k = le_trans k (later_le b h)
-
--- u + a is at most t and t at most v + a, so u is at most v
-earlier : (t u v : Rational) (a : ℕ) → later u a ≤ʳ t → t ≤ʳ later v a → u ≤ʳ v
-earlier t u v a h k = let c = le_trans h k in record { le = omega (arith, c.le) }
 
 module _ (p q : Subformula) (a : ℕ) (b : Option ℕ) (tr : Trace) (t : Rational) where
   abbrev RunsBack : Type 0
@@ -147,7 +143,7 @@ since_settled p q a b tr t s = (forth, back)
         → ((u : Rational) × OpenBehind (start tr) a b true true t u × IsSure tr t u × Settled q tr u) × RunsBack p q a b tr t
     forth (u, o, c, y, h) = (
       (u, o, c, y),
-      λ v f i j. (u, o.after, earlier t u v a o.ends i, y, λ x k. h x (record { above = k.above; below = le_trans k.below j })),
+      λ v f i j. (u, o.after, le_by_later t u v a o.ends i, y, λ x k. h x (record { above = k.above; below = le_trans k.below j })),
     )
 
     back : ((u : Rational) × OpenBehind (start tr) a b true true t u × IsSure tr t u × Settled q tr u) × RunsBack p q a b tr t

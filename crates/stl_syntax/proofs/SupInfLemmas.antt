@@ -4,10 +4,13 @@ use Rattle.rational.specs.Time.{Rational}
 use Rattle.stl_syntax.specs.Trace.{Trace}
 use Rattle.stl_syntax.specs.Formula.{Subformula, constant, atom, negation, conjunction, disjunction}
 use Rattle.stl_syntax.specs.Formula.{implication, until, eventually, always, since, once, historically}
-use Rattle.rational.specs.Extended.{Extended, ◌≤ᵉ◌, opposite, IsLeast, IsGreatest}
-use Rattle.stl_syntax.specs.SupInf.{Reading, margins, truths, Gives, Setting, SupInf, one, minus_one}
+use Rattle.rational.specs.Extended.{Extended, minus_infinity, finite, infinity, ◌≤ᵉ◌, ◌≈ᵉ◌, opposite, IsLeast, IsGreatest}
+use Rattle.stl_syntax.specs.Truth.{expression}
+use Rattle.stl_syntax.specs.SupInf.{Reading, margins, truths, Gives, Setting, SupInf, one, minus_one, margin, margin_setting}
 use Rattle.stl_syntax.specs.declared.atom.Atom.{Atom}
-use Rattle.rational.proofs.ExtendedLemmas.{le_transᵉ, opposite_le, opposite_le', Sup-unique, Inf-unique}
+use Rattle.rational.proofs.ExtendedLemmas.{le_transᵉ, opposite_le, opposite_le', Sup-unique, Inf-unique, least_same, greatest_same}
+use Rattle.rational.proofs.AffineLemmas.{same_reflᵉ, same_symᵉ, same_transᵉ, opposite_same}
+use Rattle.rational.proofs.Sups.{sup_value_same, inf_value_same}
 
 -- the reading gives at most one value for an atom occurrence at a time
 abbrev pub GivesOne : Reading → Type 0
@@ -57,3 +60,20 @@ truths_give_one tr i a t r r' (inl (h, e)) (inl (k, f)) = le_transᵉ r one r' e
 truths_give_one tr i a t r r' (inl (h, e)) (inr (k, f)) = absurd (let g : true ≡ false = sym h ∙ k in cc)
 truths_give_one tr i a t r r' (inr (h, e)) (inl (k, f)) = absurd (let g : true ≡ false = sym k ∙ h in cc)
 truths_give_one tr i a t r r' (inr (h, e)) (inr (k, f)) = le_transᵉ r minus_one r' e.at_most f.at_least
+
+-- a margin by another pair is the margin too
+pub value_alike : (p : Subformula) (tr : Trace) (t : Rational) (r s : Extended) → r ≈ᵉ s → SupInf p (margin_setting tr) t r → SupInf p (margin_setting tr) t s
+value_alike (constant true) tr t r s e h = same_transᵉ s r infinity (same_symᵉ r s e) h
+value_alike (constant false) tr t r s e h = same_transᵉ s r minus_infinity (same_symᵉ r s e) h
+value_alike (atom i a) tr t r s e h = same_transᵉ s r (finite (margin a.rel (expression a tr t))) (same_symᵉ r s e) h
+value_alike (negation p) tr t r s e h = value_alike p tr t (opposite r) (opposite s) (opposite_same r s e) h
+value_alike (conjunction p q) tr t r s e (v, w, f, g, l) = (v, w, f, g, least_same v v w w r s (same_reflᵉ v) (same_reflᵉ w) e l)
+value_alike (disjunction p q) tr t r s e (v, w, f, g, l) = (v, w, f, g, greatest_same v v w w r s (same_reflᵉ v) (same_reflᵉ w) e l)
+value_alike (implication p q) tr t r s e (v, w, f, g, l) =
+    (v, w, f, g, greatest_same (opposite v) (opposite v) w w r s (same_reflᵉ (opposite v)) (same_reflᵉ w) e l)
+value_alike (eventually a b i j p) tr t r s e h = sup_value_same r s e h
+value_alike (always a b i j p) tr t r s e h = inf_value_same r s e h
+value_alike (once a b i j p) tr t r s e h = sup_value_same r s e h
+value_alike (historically a b i j p) tr t r s e h = inf_value_same r s e h
+value_alike (until a b p q) tr t r s e h = sup_value_same r s e h
+value_alike (since a b p q) tr t r s e h = sup_value_same r s e h

@@ -1,5 +1,5 @@
 -- Values and certainty do not depend on the pair by which a time is written.
-use Rattle.std.proofs.Common.{◌≡◌, ℕ, inl, inr, Bool, true, false, IsTrue, List, [], ◌∷◌, sym, ◌∙◌, refl}
+use Rattle.std.proofs.Common.{◌≡◌, ℕ, inl, inr, true, false, List, [], ◌∷◌, sym, ◌∙◌}
 use Rattle.rational.specs.Rational.{Rational, ◌≈◌}
 use Rattle.rational.specs.Time.{IsIn}
 use Rattle.rational.specs.Extended.{Extended, finite, opposite, value_at}
@@ -9,6 +9,7 @@ use Rattle.rational.proofs.Field.{same_negate}
 use Rattle.rational.proofs.TimeLemmas.{precedes_after, precedes_before}
 use Rattle.rational.proofs.AffineLemmas.{same_transᵉ, finite_same, value_same}
 use Rattle.rational.proofs.WindowLemmas.{ahead_same, behind_same, from_same, to_same, sup_alike, sup_over_alike, inf_over_alike, up_to_same, down_to_same}
+use Rattle.rational.proofs.Tests.{same_tests}
 use Rattle.frac128.specs.Spans.{interval}
 use Rattle.stl_syntax.specs.Trace.{Trace}
 use Rattle.stl_syntax.specs.Formula.{Subformula, constant, atom, negation, conjunction, disjunction}
@@ -58,16 +59,10 @@ covered_same [] i e h = h
 covered_same (x ∷ items) i e (inl h) = inl (h.0, in_same x e h.1)
 covered_same (x ∷ items) i e (inr h) = inr (covered_same items i e h)
 
--- an atom's test at one time
-bool_same : (b c : Bool) → (IsTrue b → IsTrue c) → (IsTrue c → IsTrue b) → b ≡ c
-bool_same true c f g = sym (f refl)
-bool_same false true f g = g refl
-bool_same false false f g = refl
-
 -- an atom's test does not depend on the pair by which a time is written
 pub holds_same : {t u : Rational} (a : Atom) (tr : Trace) → t ≈ u → holds_at a tr t ≡ holds_at a tr u
 holds_same {t} {u} a tr e =
-    bool_same (holds_at a tr t) (holds_at a tr u) (compares_same a.rel (expression a tr t) (expression a tr u) (same_expression a tr e))
+    same_tests (holds_at a tr t) (holds_at a tr u) (compares_same a.rel (expression a tr t) (expression a tr u) (same_expression a tr e))
     (compares_same a.rel (expression a tr u) (expression a tr t) (same_sym (same_expression a tr e)))
 
 -- the reading of an atom does not depend on the pair

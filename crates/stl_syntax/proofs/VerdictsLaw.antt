@@ -1,12 +1,13 @@
 -- At most one list of verdicts describes a formula on a stretch.
-use Rattle.std.proofs.Common.{◌≡◌, ◌⊎◌, inl, inr, List, [], ◌∷◌, Bool, true, false, not, sym, ap, ◌∙◌, refl}
+use Rattle.std.proofs.Common.{◌≡◌, ◌⊎◌, inl, inr, List, [], ◌∷◌, Bool, true, false, not, sym, ap, ◌∙◌, refl, suc, ◌++◌, length}
+use Rattle.std.proofs.Common.{subst}
 use Rattle.std.specs.Prelude.{MatchBool, ◌≢◌}
 use Rattle.rational.specs.Rational.{Rational, ◌≤ʳ◌, ◌<ʳ◌, ◌≈◌, middle}
 use Rattle.rational.proofs.Order.{le_of_same, le_of_lt, lt_of_lt_of_le, lt_of_le_of_lt, lt_trans}
 use Rattle.rational.proofs.Order.{not_lt_of_le, same_trans, same_sym, same_refl, left_of_middle, right_of_middle}
-use Rattle.rational.specs.Time.{Interval, IsIn, IsNotEmpty, Touch}
+use Rattle.rational.specs.Time.{Interval, IsIn, Touch}
 use Rattle.rational.specs.Places.{Place, begins, ends, Same, Before}
-use Rattle.rational.proofs.PlaceLemmas.{place_order}
+use Rattle.rational.proofs.PlaceLemmas.{place_order, same_places, same_before, same_trans_places, before_of_not_empty}
 use Rattle.frac128.specs.Spans.{interval}
 use Rattle.stl_syntax.specs.Trace.{Trace}
 use Rattle.stl_syntax.specs.Formula.{Subformula}
@@ -66,9 +67,6 @@ in_span v t b = record { above = by_begin (interval v.on).from_in refl b.after; 
     by_end false e (inl l) = l
     by_end false e (inr (s, f)) = absurd (let x : true ≡ false = sym f ∙ e in cc)
 
-same_sym_cut : {c d : Place} → Same c d → Same d c
-same_sym_cut (s, e) = (same_sym s, sym e)
-
 before_irrefl : (c d : Place) → Before c d → Before d c ⊎ Same d c → ⊥
 before_irrefl c d h k = let t = dense c d h in no_time t.0 (wider c d c t.0 k t.1)
   where
@@ -80,11 +78,6 @@ before_irrefl c d h k = let t = dense c d h in no_time t.0 (wider c d c t.0 k t.
         by_both (inl l) (inr (s, f)) = not_lt_of_le (le_of_same s) l
         by_both (inr (s, f)) (inl m) = not_lt_of_le (le_of_same s) m
         by_both (inr (s, f)) (inr (r, g)) = let x : true ≡ false = sym g ∙ f in cc
-
--- the begin of a span that is not empty comes before its end
-not_empty_cut : (on : Interval) → IsNotEmpty on → Before (begins on) (ends on)
-not_empty_cut on (inl l) = inl l
-not_empty_cut on (inr (s, i, o)) = inr (s, ap not i, o)
 
 touch_cut : (a b : Interval) → Touch a b → Same (begins b) (ends a)
 touch_cut a b h = (h.time, by_sides b.from_in a.to_in h.once)
@@ -117,7 +110,7 @@ overlap p tr v w h k b l = by_order (place_order (ends (interval v.on)) (ends (i
         (in_span w t (earlier (begins (interval w.on)) (begins (interval v.on)) (ends (interval w.on)) t b y))
 
     full : (t : Rational) × Between (begins (interval v.on)) (ends (interval v.on)) t
-    full = dense (begins (interval v.on)) (ends (interval v.on)) (not_empty_cut (interval v.on) h.not_empty)
+    full = dense (begins (interval v.on)) (ends (interval v.on)) (before_of_not_empty (interval v.on) h.not_empty)
 
     part : (t : Rational) × Between (begins (interval v.on)) (ends (interval w.on)) t
     part = dense (begins (interval v.on)) (ends (interval w.on)) l
@@ -150,13 +143,9 @@ ends_by : (p : Subformula) (tr : Trace) (stretch : Interval) (v : Verdict) (vs :
     → Before (ends (interval v.on)) (ends stretch) ⊎ Same (ends (interval v.on)) (ends stretch)
 ends_by p tr stretch v [] h = inr (h.time, h.inside)
 ends_by p tr stretch v (x ∷ xs) h =
-    before_trans (ends (interval v.on)) (begins (interval x.on)) (ends stretch) (inr (same_sym_cut (touch_cut (interval v.on) (interval x.on) h.0)))
+    before_trans (ends (interval v.on)) (begins (interval x.on)) (ends stretch) (inr (same_places (touch_cut (interval v.on) (interval x.on) h.0)))
     (before_trans (begins (interval x.on)) (ends (interval x.on)) (ends stretch)
-    (inl (not_empty_cut (interval x.on) h.2.not_empty)) (ends_by p tr stretch x xs h.3))
-
-same_before : (c d e : Place) → Same c d → Before d e → Before c e
-same_before c d e s (inl l) = inl (lt_of_le_of_lt (le_of_same s.0) l)
-same_before c d e s (inr (r, f, g)) = inr (same_trans s.0 r, s.1 ∙ f, g)
+    (inl (before_of_not_empty (interval x.on) h.2.not_empty)) (ends_by p tr stretch x xs h.3))
 
 -- two lists of verdicts of one stretch, with first spans v and w that begin alike
 record BothGoOn (p : Subformula) (tr : Trace) (stretch : Interval) (v : Verdict) (vs : List Verdict) (w : Verdict) (ws : List Verdict) : Type 0 where
@@ -172,7 +161,7 @@ record BothGoOn (p : Subformula) (tr : Trace) (stretch : Interval) (v : Verdict)
 -- the same, the other way round
 swapped : {p : Subformula} {tr : Trace} {stretch : Interval} {v w : Verdict} {vs ws : List Verdict} → BothGoOn p tr stretch v vs w ws
     → BothGoOn p tr stretch w ws v vs
-swapped h = record { told = h.other_told; other_told = h.told; begin = same_sym_cut h.begin; goes = h.other_goes; other_goes = h.goes }
+swapped h = record { told = h.other_told; other_told = h.told; begin = same_places h.begin; goes = h.other_goes; other_goes = h.goes }
 
 -- of two lists that begin alike the first span of the one does not end before that of the other
 not_shorter : (p : Subformula) (tr : Trace) (stretch : Interval) (v : Verdict) (vs : List Verdict) (w : Verdict) (ws : List Verdict)
@@ -181,14 +170,14 @@ not_shorter p tr stretch v [] w ws both e l =
     let end = both.goes in
     before_irrefl (ends (interval v.on)) (ends (interval w.on)) l
     (before_trans (ends (interval w.on)) (ends stretch) (ends (interval v.on)) (ends_by p tr stretch w ws both.other_goes)
-    (inr (same_sym_cut (end.time, end.inside))))
+    (inr (same_places (end.time, end.inside))))
 not_shorter p tr stretch v (x ∷ xs) w ws both e l =
     let next = both.goes in
     next.1 (e ∙ sym (overlap p tr x w next.2 both.other_told
     (before_trans (begins (interval w.on)) (ends (interval v.on)) (begins (interval x.on))
-    (inl (same_before (begins (interval w.on)) (begins (interval v.on)) (ends (interval v.on)) (same_sym_cut both.begin)
-    (not_empty_cut (interval v.on) both.told.not_empty)))
-    (inr (same_sym_cut (touch_cut (interval v.on) (interval x.on) next.0))))
+    (inl (same_before (begins (interval w.on)) (begins (interval v.on)) (ends (interval v.on)) (same_places both.begin)
+    (before_of_not_empty (interval v.on) both.told.not_empty)))
+    (inr (same_places (touch_cut (interval v.on) (interval x.on) next.0))))
     (same_before (begins (interval x.on)) (ends (interval v.on)) (ends (interval w.on)) (touch_cut (interval v.on) (interval x.on) next.0) l)))
 
 inside_alike : (a b : Bool) → not a ≡ not b → a ≡ b
@@ -200,8 +189,8 @@ inside_alike false false e = refl
 told_alike : (p : Subformula) (tr : Trace) (v w : Verdict) → IsTold p tr v → IsTold p tr w
     → Same (begins (interval v.on)) (begins (interval w.on)) → v.holds ≡ w.holds
 told_alike p tr v w a b s =
-    overlap p tr v w a b (inr (same_sym_cut s))
-    (same_before (begins (interval v.on)) (begins (interval w.on)) (ends (interval w.on)) s (not_empty_cut (interval w.on) b.not_empty))
+    overlap p tr v w a b (inr (same_places s))
+    (same_before (begins (interval v.on)) (begins (interval w.on)) (ends (interval w.on)) s (before_of_not_empty (interval w.on) b.not_empty))
 
 -- so they end alike
 ends_alike : (p : Subformula) (tr : Trace) (stretch : Interval) (v : Verdict) (vs : List Verdict) (w : Verdict) (ws : List Verdict)
@@ -222,22 +211,19 @@ ends_alike p tr stretch v vs w ws both = by_order (place_order (ends (interval v
 no_more : (p : Subformula) (tr : Trace) (stretch : Interval) (v x : Verdict) (xs : List Verdict) → GoesOn p tr stretch v (x ∷ xs)
     → Same (ends (interval v.on)) (ends stretch) → ⊥
 no_more p tr stretch v x xs g s =
-    before_irrefl (begins (interval x.on)) (ends (interval x.on)) (not_empty_cut (interval x.on) g.2.not_empty)
+    before_irrefl (begins (interval x.on)) (ends (interval x.on)) (before_of_not_empty (interval x.on) g.2.not_empty)
     (before_trans (ends (interval x.on)) (ends stretch) (begins (interval x.on)) (ends_by p tr stretch x xs g.3)
-    (before_trans (ends stretch) (ends (interval v.on)) (begins (interval x.on)) (inr (same_sym_cut s))
-    (inr (same_sym_cut (touch_cut (interval v.on) (interval x.on) g.0)))))
-
-same_trans_cut : {c d e : Place} → Same c d → Same d e → Same c e
-same_trans_cut (s, e) (r, f) = (same_trans s r, e ∙ f)
+    (before_trans (ends stretch) (ends (interval v.on)) (begins (interval x.on)) (inr (same_places s))
+    (inr (same_places (touch_cut (interval v.on) (interval x.on) g.0)))))
 
 rest_alike : (p : Subformula) (tr : Trace) (stretch : Interval) (v : Verdict) (vs : List Verdict) (w : Verdict) (ws : List Verdict)
     → Same (ends (interval v.on)) (ends (interval w.on)) → GoesOn p tr stretch v vs → GoesOn p tr stretch w ws → AreAlike vs ws
 rest_alike p tr stretch v [] w [] e g h = tt
-rest_alike p tr stretch v [] w (y ∷ ys) e g h = no_more p tr stretch w y ys h (same_trans_cut (same_sym_cut e) (g.time, g.inside))
-rest_alike p tr stretch v (x ∷ xs) w [] e g h = no_more p tr stretch v x xs g (same_trans_cut e (h.time, h.inside))
+rest_alike p tr stretch v [] w (y ∷ ys) e g h = no_more p tr stretch w y ys h (same_trans_places (same_places e) (g.time, g.inside))
+rest_alike p tr stretch v (x ∷ xs) w [] e g h = no_more p tr stretch v x xs g (same_trans_places e (h.time, h.inside))
 rest_alike p tr stretch v (x ∷ xs) w (y ∷ ys) e g h =
     let s : Same (begins (interval x.on)) (begins (interval y.on)) =
-    same_trans_cut (touch_cut (interval v.on) (interval x.on) g.0) (same_trans_cut e (same_sym_cut (touch_cut (interval w.on) (interval y.on) h.0))) in
+    same_trans_places (touch_cut (interval v.on) (interval x.on) g.0) (same_trans_places e (same_places (touch_cut (interval w.on) (interval y.on) h.0))) in
     let f = ends_alike p tr stretch x xs y ys (record { told = g.2; other_told = h.2; begin = s; goes = g.3; other_goes = h.3 }) in (
       record { time = s.0; inside = inside_alike x.on.from_in y.on.from_in s.1 },
       record { time = f.0; inside = f.1 },
@@ -259,3 +245,21 @@ Describes-unique p tr stretch (v ∷ vs) (w ∷ ws) g h =
       told_alike p tr v w g.1 h.1 s,
       rest_alike p tr stretch v vs w ws f g.2 h.2,
     )
+
+-- lists that are alike stay so together
+pub alike_append : (vs more ws others : List Verdict) → AreAlike vs ws → AreAlike more others → AreAlike (vs ++ more) (ws ++ others)
+alike_append [] more [] others a b = b
+alike_append [] more (w ∷ ws) others a b = absurd a
+alike_append (v ∷ vs) more [] others a b = absurd a
+alike_append (v ∷ vs) more (w ∷ ws) others (begin, end, holds, a) b = (begin, end, holds, alike_append vs more ws others a b)
+
+-- lists that are alike have as many verdicts
+pub alike_length : (vs ws : List Verdict) → AreAlike vs ws → length vs ≡ length ws
+alike_length [] [] a = refl
+alike_length [] (w ∷ ws) a = absurd a
+alike_length (v ∷ vs) [] a = absurd a
+alike_length (v ∷ vs) (w ∷ ws) a = ap suc (alike_length vs ws a.3)
+
+-- two empty lists are alike
+pub none_alike : (vs ws : List Verdict) → vs ≡ [] → ws ≡ [] → AreAlike vs ws
+none_alike vs ws e f = subst (λ l. AreAlike l ws) (sym e) (subst (λ l. AreAlike [] l) (sym f) tt)

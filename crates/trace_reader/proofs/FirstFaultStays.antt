@@ -1,7 +1,7 @@
 -- The first fault of bytes is that of all bytes that begin with them.
-use Rattle.std.proofs.Common.{ℕ, inl, inr, suc, ◌≤◌, Bool, true, false, List, [], ◌∷◌, ◌++◌, length, sym, subst, arith, Option, Some, None}
-use Rattle.std.specs.Prelude.{MatchBool}
+use Rattle.std.proofs.Common.{ℕ, inl, inr, suc, ◌≤◌, Bool, false, List, [], ◌∷◌, ◌++◌, length, sym, subst, arith, Option, Some, None}
 use Rattle.std.proofs.lemmas.Bool.{false≢true}
+use Rattle.rational.proofs.Tests.{match_weaker}
 use Rattle.stl_syntax.specs.Trace.{Row}
 use Rattle.stl_syntax.specs.declared.scale.Scale.{Scale}
 use Rattle.trace_reader.specs.TraceText.{Line, lines, is_blank_line, Heading, scale_of}
@@ -11,10 +11,6 @@ use Rattle.trace_reader.specs.declared.refusal.Limits.{Limits}
 use Rattle.trace_reader.specs.declared.refusal.TraceRefusal.{TraceRefusal}
 use Rattle.trace_reader.proofs.LineLemmas.{rest}
 use Rattle.trace_reader.proofs.OpenLines.{parts, lines-now, grows, open_line}
-
-either : (b : Bool) (A B C D : Type 0) → (A → C) → (B → D) → MatchBool b A B → MatchBool b C D
-either true A B C D f g m = f m
-either false A B C D f g m = g m
 
 module _ (limits : Limits) (ended : Bool) (line more : List ℕ) (free : HasNoFeed line) (x : TraceRefusal) where
   -- a line that goes on keeps the faults that are known before it is whole
@@ -38,7 +34,7 @@ module _ (limits : Limits) (ended : Bool) (line more : List ℕ) (free : HasNoFe
   after_stays s h n count last (l ∷ front) (inr (sound, (w, m))) =
       let blank = after_stays s h (suc n) count last front in
       let later = λ (r : Row). after_stays s h (suc n) (suc count) (Some r.time) front in
-      inr (sound, (w, either (is_blank_line l) _ _ _ _ blank (λ f. elim f [ inl a ↦ inl a | inr a ↦ inr (a.0, (a.1.0, a.1.1, later a.1.0 a.1.2)) ]) m))
+      inr (sound, (w, match_weaker (is_blank_line l) _ _ _ _ blank (λ f. elim f [ inl a ↦ inl a | inr a ↦ inr (a.0, (a.1.0, a.1.1, later a.1.0 a.1.2)) ]) m))
 
   from_stays : (least : Scale) (n : ℕ) (front : List Line) → FaultFrom limits least false n (front ++ rest false line) x
       → FaultFrom limits least ended n (front ++ lines ended (line ++ more)) x
@@ -54,7 +50,7 @@ module _ (limits : Limits) (ended : Bool) (line more : List ℕ) (free : HasNoFe
   from_stays least n (l ∷ front) (inr (sound, (w, m))) =
       let blank = from_stays least (suc n) front in
       let later = λ (h : Heading). after_stays (scale_of least h) h (suc n) 0 None front in
-      inr (sound, (w, either (is_blank_line l) _ _ _ _ blank (λ f. elim f [ inl a ↦ inl a | inr a ↦ inr (a.0, (a.1.0, a.1.1, later a.1.0 a.1.2)) ]) m))
+      inr (sound, (w, match_weaker (is_blank_line l) _ _ _ _ blank (λ f. elim f [ inl a ↦ inl a | inr a ↦ inr (a.0, (a.1.0, a.1.1, later a.1.0 a.1.2)) ]) m))
 
 -- the first fault of bytes is that of all bytes that begin with them
 pub first_fault_stays : (bytes : List ℕ) (limits : Limits) (least : Scale) (x : TraceRefusal) (more : List ℕ) (ended : Bool)

@@ -7,6 +7,7 @@ use Rattle.std.proofs.lemmas.List.Elements.{All-nil, All-cons, All-append, All-p
 use Rattle.std.proofs.lemmas.Bool.{false≢true}
 use Rattle.stl_syntax.specs.Trace.{Row, Header}
 use Rattle.stl_syntax.specs.declared.scale.Scale.{Scale}
+use Rattle.stl_syntax.proofs.RowsLemmas.{last_time-push}
 use Rattle.trace_reader.specs.TraceText.{Line, lines, is_blank_line, fields, Heading, IsHeading, IsRow, scale_of}
 use Rattle.trace_reader.specs.TraceText.{AreRowLines, none, unfinished, blank, row, AreTraceLines, heading}
 use Rattle.trace_reader.specs.TraceRefusals.{LineFault, InLine, HeaderFault, RowFault, FaultFrom, FaultAfter}
@@ -17,7 +18,6 @@ use Rattle.trace_reader.specs.declared.refusal.TraceKind.{TraceKind}
 use Rattle.trace_reader.proofs.LineLemmas.{done, rest}
 use Rattle.trace_reader.proofs.TraceRefusalExamples.{no_line_fault}
 use Rattle.trace_reader.proofs.TraceRefusalLaw.{heading-unique, row-unique}
-use Rattle.trace_reader.proofs.TraceLemmas.{last_time-push}
 
 in_true : (b : Bool) (A B : Type 0) → b ≡ true → A → MatchBool b A B
 in_true true A B e a = a

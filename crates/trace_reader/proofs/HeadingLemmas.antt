@@ -284,11 +284,6 @@ heading_is fields f others h e t c = subst (λ x. IsHeading x h) (sym e) (t, c)
 pub empty_is : (xs : List ℕ) (b : Bool) → b ≡ (length xs == 0) → b ≡ false → length xs ≡ 0 → ⊥
 empty_is xs b e h l = false≢true (sym h ∙ (e ∙ eq-eqb (length xs) 0 l))
 
--- a list of no length is empty
-pub is_empty : (xs : List ℕ) → (length xs == 0) ≡ true → xs ≡ []
-is_empty [] h = refl
-is_empty (x ∷ xs) h = absurd (let e : suc (length xs) ≡ 0 = eqb-true (suc (length xs)) 0 h in omega (arith, e))
-
 -- a name that equals `time` is it
 pub is_time_name : (name : List ℕ) → bytes_eq name (codes "time") ≡ true → name ≡ codes "time"
 is_time_name name h = same_text name (codes "time") (sym h)

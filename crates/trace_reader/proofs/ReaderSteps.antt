@@ -8,6 +8,7 @@ use Rattle.std.proofs.lemmas.Bool.{false≢true}
 use Rattle.stl_syntax.specs.Choice.{◌or_else◌, Where}
 use Rattle.stl_syntax.specs.Trace.{Row, last_time, IsInRange, AreRowsAfter}
 use Rattle.stl_syntax.specs.declared.scale.Scale.{Scale}
+use Rattle.stl_syntax.proofs.RowsLemmas.{last_time-push}
 use Rattle.trace_reader.specs.TraceText.{Line, lines, fields, Heading, scale_of, AreTraceLines, TraceOf, none}
 use Rattle.trace_reader.specs.TraceRefusals.{RowFault, FaultFrom, IsFirstFault, HasTrace}
 use Rattle.trace_reader.specs.Sofar.{AreRowsSoFar}
@@ -25,7 +26,7 @@ use Rattle.trace_reader.specs.declared.event.Event.{Event}
 use Rattle.trace_reader.specs.declared.event.Event.TheVariants.{Nothing, Header as IsTheHeader, Row as IsARow}
 use Rattle.trace_reader.proofs.LineLemmas.{done, rest, lines-nil, lines-rest, lines-append, lines-line}
 use Rattle.trace_reader.proofs.OpenLines.{grows}
-use Rattle.trace_reader.proofs.TraceLemmas.{last_row, last_time-push}
+use Rattle.trace_reader.proofs.TraceLemmas.{last_row}
 use Rattle.trace_reader.proofs.LineLemmas.{begun-going, begun-closed}
 use Rattle.trace_reader.proofs.TraceLemmas.{sofar-push, sofar-some}
 use Rattle.trace_reader.proofs.GoesOnLemmas.{line_bad, heading_bad, row_bad, goes_blank, goes_heading, goes_row, goes_start, rest_sound, reads_so_far}

@@ -1,18 +1,14 @@
 -- Rows of a trace, one after another.
 use Rattle.std.proofs.Common.{◌≡◌, ℕ, zero, suc, ◌+◌, ◌*◌, ◌<◌, ◌≤◌, List, [], ◌∷◌, ◌++◌, length, take}
-use Rattle.std.proofs.Common.{drop, get_or, refl, ap, ◌∙◌, arith, ℤ, nat_abs, Option, Some, None}
-use Rattle.std.specs.Prelude.{IsSome, All, pos}
+use Rattle.std.proofs.Common.{drop, get_or, refl, ap, ◌∙◌, arith, ℤ, nat_abs}
+use Rattle.std.specs.Prelude.{All, pos}
 use Rattle.std.proofs.lemmas.List.{take-append-le, drop-append-le, length-append, length-drop, drop-drop, get_or-take, get_or-drop, take_all, nil_from_length}
 use Rattle.std.proofs.lemmas.List.Elements.{All-append}
 use Rattle.std.proofs.lemmas.Nat.{mul-add-lt}
-use Rattle.stl_syntax.specs.Trace.{Row, Header, Trace, AreRowsAfter, AreRows, last_time}
+use Rattle.stl_syntax.specs.Trace.{Row, Header, Trace, AreRows, last_time}
+use Rattle.stl_syntax.proofs.RowsLemmas.{rows-push}
 use Rattle.trace_reader.specs.Trace.{rows_of}
 use Rattle.trace_reader.specs.Sofar.{AreRowsSoFar}
-
--- what is there
-pub some_is : {A : Type 0} (o : Option A) → IsSome o → (x : A) × (o ≡ Some x)
-some_is None h = absurd (let e = h in cc)
-some_is (Some x) h = (x, refl)
 
 -- a row for each time
 pub length-rows_of : (width : ℕ) (times : List ℕ) (values : List ℤ) → length (rows_of width times values) ≡ length times
@@ -52,16 +48,11 @@ rows_of-push width (s ∷ times) t values more h k =
     let l : length (drop width values) ≡ length times * width = length-drop width values ∙ omega (arith, n) in
     rw (a, b, rows_of-push width times t (drop width values) more l k) refl
 
-after-push : (width t : ℕ) (rows : List Row) (r : Row) → AreRowsAfter width t rows → last_time t rows < r.time → length r.values ≡ width
-    → AreRowsAfter width t (rows ++ r ∷ [])
-after-push width t [] r h l w = (l, w, tt)
-after-push width t (s ∷ rows) r h l w = (h.0, h.1, after-push width s.time rows r h.2 l w)
-
 -- a later row of the same width goes on
 pub sofar-push : (width : ℕ) (rows : List Row) (r : Row) → AreRowsSoFar width rows → (0 < length rows → last_time 0 rows < r.time) → length r.values ≡ width
     → AreRowsSoFar width (rows ++ r ∷ [])
 sofar-push width [] r h l w = (w, tt)
-sofar-push width (s ∷ rows) r h l w = (h.0, after-push width s.time rows r h.1 (l (omega arith)) w)
+sofar-push width (s ∷ rows) r h l w = (h.0, rows-push width s.time rows r h.1 (l (omega arith)) w)
 
 -- rows that rise, where there is one
 pub sofar-some : (width : ℕ) (rows : List Row) → AreRowsSoFar width rows → 0 < length rows → AreRows width rows
@@ -97,8 +88,3 @@ pub last_row : (rows : List Row) → 0 < length rows → (before : List Row) × 
 last_row [] h = absurd (omega arith)
 last_row (r ∷ []) h = ([], r, refl)
 last_row (r ∷ s ∷ rows) h = let (before, t, e) = last_row (s ∷ rows) (omega arith) in (r ∷ before, t, ap (λ rs. r ∷ rs) e)
-
--- the last time is that of the last row
-pub last_time-push : (t : ℕ) (before : List Row) (r : Row) → last_time t (before ++ r ∷ []) ≡ r.time
-last_time-push t [] r = refl
-last_time-push t (s ∷ before) r = last_time-push s.time before r

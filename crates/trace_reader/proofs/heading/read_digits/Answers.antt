@@ -1,8 +1,9 @@
 -- A colon and a digit.
 use Rattle.std.proofs.Common.{◌≡◌, ◌∷◌, [], ◌-◌, ap, ◌∙◌, sym, subst, arith}
 use Rattle.std.proofs.lemmas.List.{nil_from_length}
+use Rattle.rational.proofs.Lists.{empty_of_test}
 use Rattle.trace_reader.specs.TraceText.{IsDigits, no_digits}
-use Rattle.trace_reader.proofs.HeadingLemmas.{digits_of, no_digits_in, no_digits_one, empty_is, is_empty}
+use Rattle.trace_reader.proofs.HeadingLemmas.{digits_of, no_digits_in, no_digits_one, empty_is}
 use Rattle.trace_reader.proofs.heading.read_digits.Goals as goal
 use Rattle.trace_reader.proofs.heading.read_digits.Goals.{then-colon-ne58-via-then-colon-ne58}
 use Rattle.trace_reader.proofs.heading.read_digits.Goals.{then-colon-ne58-via-else-colon-ne58+then-not-is_empty}
@@ -31,7 +32,7 @@ returns-then-colon-ne58 c =
 
 pub returns : goal.returns
 returns c =
-    let empty : c.in_ok-digit.others.now ≡ [] = is_empty c.in_ok-digit.others.now (sym c.is_empty.ensures ∙ c.if-not-is_empty.false) in
+    let empty : c.in_ok-digit.others.now ≡ [] = empty_of_test c.in_ok-digit.others.now (sym c.is_empty.ensures ∙ c.if-not-is_empty.false) in
     let whole : c.args.text.now ≡ 58 ∷ c.in_ok-digit.digit.now ∷ [] =
     c.in-Some.ensures.cases.0 ∙ (ap (λ t. c.in-Some.colon.now ∷ t) (c.in_ok-digit.ensures.cases.0 ∙ ap (λ t. c.in_ok-digit.digit.now ∷ t) empty)
     ∙ ap (λ x. x ∷ c.in_ok-digit.digit.now ∷ []) c.if-colon-ne58.false) in (

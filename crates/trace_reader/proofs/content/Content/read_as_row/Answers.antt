@@ -2,6 +2,7 @@
 use Rattle.std.proofs.Common.{◌≡◌, ◌∙◌, ◌<◌, ap, sym, subst, refl, arith, Some}
 use Rattle.std.specs.Prelude.{option_map}
 use Rattle.std.proofs.lemmas.Result.{err_from_is_err_and}
+use Rattle.rational.proofs.Lists.{some_of}
 use Rattle.stl_syntax.specs.Trace.{Row}
 use Rattle.trace_reader.specs.TraceText.{scale_of}
 use Rattle.trace_reader.specs.LineParts.{fields_of}
@@ -9,13 +10,12 @@ use Rattle.trace_reader.specs.Headings.{Scaled}
 use Rattle.trace_reader.specs.RowLines.{IsRowRead}
 use Rattle.trace_reader.specs.Progress.{Progress, bad_row}
 use Rattle.trace_reader.proofs.ReadLemmas.{too_many, row_bad, row_late, row_taken}
-use Rattle.trace_reader.proofs.TraceLemmas.{some_is}
 use Rattle.trace_reader.proofs.content.Content.read_as_row.Goals as goal
 use Rattle.trace_reader.proofs.content.Content.read_as_row.Goals.{else-self-gt0-via-then-self-gt0+else-time, else-self-gt0-via-else-self-gt0}
 
 pub returns-then-self-limits : goal.returns-then-self-limits
 returns-then-self-limits c =
-    let (h, e) = some_is c.args.self.now.heading c.requires.heading in
+    let (h, e) = some_of c.args.self.now.heading c.requires.heading in
     let n = ap (λ (p : Progress). p.count) c.self.view_is in
     bad_row h _ e (too_many c.args.limits.now _ h c.args.self.now.count _ _ (omega (arith, n, c.if-self-limits.true))) refl
 
