@@ -1,15 +1,15 @@
 -- Constant functions of whole numbers: their order, and that they neither move nor meet.
-use Rattle.std.proofs.Common.{◌≡◌, ℤ, pos, negsuc, zero, suc, refl, arith}
+use Rattle.std.proofs.Common.{◌≡◌, ℤ, refl}
 use Rattle.std.specs.Prelude.{◌<ℤ◌, ◌≤ℤ◌, neg_ℤ, IsTrue}
 use Rattle.std.specs.Int.Signed.{<ℤ_irrefl}
 use Rattle.std.specs.declared.cmp.Ordering.{Ordering}
 use Rattle.std.specs.declared.cmp.Ordering.TheVariants.{Less, Equal, Greater}
 use Rattle.std.specs.Ordering.{MatchOrdering, int_cmp, is_eq}
 use Rattle.std.proofs.lemmas.Cmp.{int_ranked}
-use Rattle.rational.specs.Rational.{Rational, ◌≈◌, whole, negate}
+use Rattle.rational.specs.Rational.{Rational, whole, negate}
 use Rattle.rational.specs.Extended.{finite, ◌≈ᵉ◌, ◌≤ᵉ◌, opposite, value_at}
 use Rattle.rational.specs.Affine.{IsOrderᵉ, IsSteady, AreSame, level}
-use Rattle.rational.proofs.Shift.{lt_whole, le_whole}
+use Rattle.rational.proofs.Shift.{lt_whole, le_whole, whole_neg}
 use Rattle.rational.proofs.Lines.{at_constant}
 use Rattle.rational.proofs.ExtendedLemmas.{clashᵉ, le_transᵉ}
 use Rattle.rational.proofs.AffineLemmas.{same_reflᵉ, same_symᵉ, same_transᵉ, finite_same, opposite_same, order_sameᵉ}
@@ -27,13 +27,8 @@ level_steady n t u = same_transᵉ (value_at (level n) t) (finite (whole n)) (va
 pub level_negated : (n m : ℤ) (t : Rational) → m ≡ neg_ℤ n → value_at (level m) t ≈ᵉ opposite (value_at (level n) t)
 level_negated n m t e =
     same_transᵉ (value_at (level m) t) (finite (whole m)) (opposite (value_at (level n) t)) (level_is m t)
-    (same_transᵉ (finite (whole m)) (finite (negate (whole n))) (opposite (value_at (level n) t)) (finite_same (rw e (negated n)))
+    (same_transᵉ (finite (whole m)) (finite (negate (whole n))) (opposite (value_at (level n) t)) (finite_same (rw e (whole_neg n)))
     (same_symᵉ (opposite (value_at (level n) t)) (finite (negate (whole n))) (opposite_same (value_at (level n) t) (finite (whole n)) (level_is n t))))
-  where
-    negated : (n : ℤ) → whole (neg_ℤ n) ≈ negate (whole n)
-    negated (pos zero) = record { same = refl }
-    negated (pos (suc n)) = record { same = omega arith }
-    negated (negsuc n) = record { same = omega arith }
 
 -- constants are ordered as their numbers are
 pub level_order : (o : Ordering) (n m : ℤ) (t u : Rational) → o ≡ int_cmp n m → IsOrderᵉ o (value_at (level n) t) (value_at (level m) u)

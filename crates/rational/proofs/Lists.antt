@@ -1,10 +1,11 @@
 -- Facts on lists, options and results that the kit's std does not have.
 use Rattle.std.proofs.Common.{◌≡◌, ◌≢◌, ℕ, zero, suc, ◌+◌, ◌-◌, ◌<◌, ◌⊎◌, inl, inr, true, List, [], ◌∷◌, ◌++◌, length, take, drop, set}
 use Rattle.std.proofs.Common.{Option, Some, None, Result, Ok, Err, arith, refl, sym, ap, ◌∙◌}
-use Rattle.std.specs.Prelude.{slice_get, IsSome, OnOk, OnErr, ◌==◌}
+use Rattle.std.specs.Prelude.{slice_get, IsSome, OnOk, OnErr, ◌==◌, slice_index_or}
 use Rattle.std.proofs.lemmas.Bool.{eqb-true, false≢true}
 use Rattle.std.proofs.lemmas.List.{take_more, take_all, length-drop}
 use Rattle.std.proofs.lemmas.Option.{none-some, same_Some, slice_get_within, get_or_from_slice_get}
+use Rattle.std.proofs.Math.Seq.{take-length}
 
 -- a list has an element at each place before its end
 pub slice_get_there : {X : Type 0} (xs : List X) (i : ℕ) → i < length xs → (x : X) × (slice_get xs i ≡ Some x)
@@ -91,6 +92,14 @@ pub drop_on : {X : Type 0} (xs : List X) (i : ℕ) (x : X) → slice_get xs i �
 drop_on [] i x e = absurd (none-some x e)
 drop_on (y ∷ xs) zero x e = ap (λ z. z ∷ xs) (same_Some y x e)
 drop_on (y ∷ xs) (suc i) x e = drop_on xs i x e
+
+-- a list apart from its last element
+pub last_apart : {X : Type 0} (xs : List X) (n : ℕ) (x : X) → n ≡ length xs → 0 < n → x ≡ slice_index_or xs (n - 1) x → xs ≡ take (n - 1) xs ++ x ∷ []
+last_apart xs n x e some at =
+    let back : n - 1 + 1 ≡ length xs = omega (arith, e, some) in
+    let all : take (n - 1 + 1) xs ≡ xs = ap (λ m. take m xs) back ∙ take-length xs in
+    let more : take (n - 1 + 1) xs ≡ take (n - 1) xs ++ slice_index_or xs (n - 1) x ∷ [] = take_more xs (n - 1) x (omega (arith, e, some)) in
+    sym all ∙ more ∙ ap (λ y. take (n - 1) xs ++ y ∷ []) (sym at)
 
 -- all from a place on
 pub take_rest : {X : Type 0} (xs : List X) (n : ℕ) → take (length xs - n) (drop n xs) ≡ drop n xs

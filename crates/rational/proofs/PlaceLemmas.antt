@@ -245,3 +245,19 @@ le_through c t u = by_side c.after
     by_side : (b : Bool) → MatchBool b (t ≤ʳ c.at) (t <ʳ c.at) → MatchBool b (c.at <ʳ u) (c.at ≤ʳ u) → t ≤ʳ u
     by_side true h k = le_trans h (le_of_lt k)
     by_side false h k = le_trans (le_of_lt h) k
+
+-- what is earlier than a time before a place is before it
+pub upto_earlier : (c : Place) (t u : Rational) → t ≤ʳ u → Upto c u → Upto c t
+upto_earlier c t u l = by_side c.after
+  where
+    by_side : (b : Bool) → MatchBool b (u ≤ʳ c.at) (u <ʳ c.at) → MatchBool b (t ≤ʳ c.at) (t <ʳ c.at)
+    by_side true h = le_trans l h
+    by_side false h = lt_of_le_of_lt l h
+
+-- what is later than a time behind a place is behind it
+pub after_later : (c : Place) (t u : Rational) → t ≤ʳ u → After c t → After c u
+after_later c t u l = by_side c.after
+  where
+    by_side : (b : Bool) → MatchBool b (c.at <ʳ t) (c.at ≤ʳ t) → MatchBool b (c.at <ʳ u) (c.at ≤ʳ u)
+    by_side true h = lt_of_lt_of_le h l
+    by_side false h = le_trans h l

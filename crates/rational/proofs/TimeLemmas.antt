@@ -1,11 +1,13 @@
 -- Moves and multiples of a number do not depend on its pair.
 use Rattle.std.proofs.Common.{◌≡◌, ℕ, ℤ, pos, ◌≤ℤ◌, ◌<ℤ◌, ◌*◌, ◌≤◌, ◌⊎◌, arith, mul-le-mul_right, ap, sym, ◌∙◌, inl, inr, Bool, true, false, ◌&&◌, IsTrue, refl}
+use Rattle.std.proofs.Common.{Option, Some, None}
 use Rattle.std.proofs.Props.{props}
+use Rattle.std.specs.Prelude.{IfSome}
 use Rattle.rational.specs.Rational.{part_above, part_below, middle}
 use Rattle.rational.proofs.Order.{lt_or_same_or_gt, not_lt_of_le, le_or_lt, le_refl, le_trans, lt_of_le_of_lt}
 use Rattle.rational.proofs.Order.{left_of_middle, right_of_middle, lt_of_lt_of_le, le_of_lt, le_of_same, ge_of_same, same_sym}
-use Rattle.rational.proofs.Field.{add_zero, lt_add_left}
-use Rattle.rational.proofs.Shift.{le_shift_by, lt_whole}
+use Rattle.rational.proofs.Field.{add_zero}
+use Rattle.rational.proofs.Shift.{le_shift_by, lt_shift_by}
 use Rattle.rational.specs.Time.{Rational, Within, ◌≤ʳ◌, ◌<ʳ◌, ◌≈◌, Interval, IsIn, IsNotEmpty}
 use Rattle.rational.specs.Time.{Precedes, add, whole, shifted, later, times, less, HasTimeBetween}
 
@@ -36,6 +38,11 @@ later_le_back t u k h = record { le = (let l = h.le in omega (arith, l)) }
 -- u + k is at most t and t at most v + k, so u is at most v
 pub le_by_later : (t u v : Rational) (k : ℕ) → later u k ≤ʳ t → t ≤ʳ later v k → u ≤ʳ v
 le_by_later t u v k h l = later_le_back u v k (le_trans h l)
+
+-- what a window reaches from a time it reaches from each later one
+pub still_begins : (b : Option ℕ) (t u w : Rational) → u ≤ʳ w → IfSome b (λ b. t ≤ʳ later u b) → IfSome b (λ b. t ≤ʳ later w b)
+still_begins None t u w h k = k
+still_begins (Some b) t u w h k = le_trans k (later_le b h)
 
 -- a way from one time, by whichever pair, leads to one time
 pub same_later : {t u : Rational} (k : ℕ) → t ≈ u → later t k ≈ later u k
@@ -152,10 +159,7 @@ later-add t k = omega arith
 
 -- of two moves the greater leads to the later time
 pub lt_offsets : (t : Rational) (j k : ℤ) → j <ℤ k → shifted t j <ʳ shifted t k
-lt_offsets t j k h = lt_of_le_of_lt (le_of_same (shifted-add t j)) (lt_of_lt_of_le grows (ge_of_same (shifted-add t k)))
-  where
-    grows : add t (whole j) <ʳ add t (whole k)
-    grows = lt_of_le_of_lt (record { le = omega arith }) (lt_of_lt_of_le (lt_add_left (lt_whole h) (le_refl t)) (record { le = omega arith }))
+lt_offsets t j k h = lt_of_le_of_lt (le_of_same (shifted-add t j)) (lt_of_lt_of_le (lt_shift_by t j k h) (ge_of_same (shifted-add t k)))
 
 -- a time moved ahead is no earlier
 pub le_ahead : (t : Rational) (k : ℤ) → pos 0 ≤ℤ k → t ≤ʳ shifted t k

@@ -1,12 +1,12 @@
 -- A bounded `until` is the least of a Sup over its window and of the Infs of the `until` to the end, and a bounded `since` likewise.
 use Rattle.std.proofs.Common.{◌⊎◌, inl, inr, ℕ, ◌+◌, ◌*◌, arith}
-use Rattle.std.specs.Prelude.{Option, Some, None, true, IfSome}
+use Rattle.std.specs.Prelude.{Some, true}
 use Rattle.rational.specs.Time.{Rational, ◌≤ʳ◌, ◌<ʳ◌, Within, later}
 use Rattle.rational.specs.Extended.{Extended, ◌≤ᵉ◌, ◌<ᵉ◌, IsLeast, IsSup, IsInf}
 use Rattle.rational.specs.Windows.{Function, Window, Ahead, Behind, IsSupOver, IsInfOver, IsUntil, IsSince}
 use Rattle.rational.specs.UntilParts.{HasUntilToEnd, HasSinceFromStart, UntilIsComposed, SinceIsComposed}
 use Rattle.rational.proofs.Order.{le_of_lt, le_or_lt, le_trans, le_refl, not_lt_of_le}
-use Rattle.rational.proofs.TimeLemmas.{later_le, later_from, later_more, later_zero}
+use Rattle.rational.proofs.TimeLemmas.{later_le, later_from, later_more, later_zero, still_begins}
 use Rattle.rational.proofs.ExtendedLemmas.{le_totalᵉ, clashᵉ, le_reflᵉ, le_transᵉ, lt_of_lt_of_leᵉ, lt_of_le_of_ltᵉ, least_of}
 
 -- a value below the least of two is below both, and one below both is below it
@@ -192,10 +192,6 @@ earlier_of u t k h = omega (arith, h)
 earlier_of_later : (s t : Rational) (k : ℕ) → t ≤ʳ later s k → earlier t k ≤ʳ s
 earlier_of_later s t k h = omega (arith, h)
 
-begins_later : (t u w : Rational) (b : Option ℕ) → u ≤ʳ w → IfSome b (λ b. t ≤ʳ later u b) → IfSome b (λ b. t ≤ʳ later w b)
-begins_later t u w None h k = tt
-begins_later t u w (Some b) h k = le_trans k (later_le b h)
-
 -- what P needs between `from` and `to`: no value of it is below the lowest, and it has an Inf over each stretch
 pub record HasInfs (lowest highest : Extended) (P : Function) (from to : Rational) : Type 0 where
   -- the lowest is at most the highest
@@ -312,7 +308,7 @@ module _ {lowest highest : Extended} {P Q : Function} {from to : Rational} (give
           by_start : (u w : Rational) → W u → Within from m w → (u ≤ʳ w) ⊎ (w <ʳ u) → W w ⊎ ((v : Rational) → Within u m v → Within w m v)
           by_start u w k l (inl n) = inl (record {
             inside = record { above = l.above; below = le_trans l.below (le_trans (earlier_before t a) inside.below) };
-            begins = begins_later t u w b n k.begins;
+            begins = still_begins b t u w n k.begins;
             ends = le_trans (later_le a l.below) (later_earlier t a);
           })
           by_start u w k l (inr n) = inr (λ v f. record { above = le_trans (le_of_lt n) f.above; below = f.below })

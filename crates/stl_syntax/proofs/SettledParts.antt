@@ -1,9 +1,9 @@
 -- Until and since by parts, in what rows settle.
 use Rattle.std.proofs.Common.{ℕ, ◌+◌, ◌*◌, inl, inr, true, arith}
-use Rattle.std.specs.Prelude.{Option, Some, None, IfSome}
+use Rattle.std.specs.Prelude.{Option}
 use Rattle.rational.specs.Time.{Rational, Within, later, ◌≤ʳ◌, ◌<ʳ◌}
 use Rattle.rational.proofs.Order.{le_trans, le_refl, le_of_lt, le_or_lt}
-use Rattle.rational.proofs.TimeLemmas.{later_from, later_le, le_by_later}
+use Rattle.rational.proofs.TimeLemmas.{later_from, later_le, le_by_later, still_begins}
 use Rattle.stl_syntax.specs.Trace.{Trace, start}
 use Rattle.stl_syntax.specs.Formula.{Subformula, until, since}
 use Rattle.stl_syntax.specs.Early.{Settled, SettledNot, OpenAhead, OpenBehind, IsSure}
@@ -98,11 +98,6 @@ since_fails p q a b tr t s (inr (v, i, j, (w, f, l, y, z))) u o =
 -- t less a
 abbrev less_by : Rational → ℕ → Rational
 less_by t a = record { up = t.up; down = t.down + a * t.den; den = t.den; positive = t.positive }
-
--- a later time is in the window if its end allows it
-pub still_begins : (b : Option ℕ) (t u w : Rational) → u ≤ʳ w → IfSome b (λ b. t ≤ʳ later u b) → IfSome b (λ b. t ≤ʳ later w b)
-still_begins None t u w h k = k
-still_begins (Some b) t u w h k = le_trans k (later_le b h)
 
 module _ (p q : Subformula) (a : ℕ) (b : Option ℕ) (tr : Trace) (t : Rational) where
   abbrev RunsBack : Type 0

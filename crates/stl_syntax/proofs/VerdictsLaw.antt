@@ -263,3 +263,15 @@ alike_length (v ∷ vs) (w ∷ ws) a = ap suc (alike_length vs ws a.3)
 -- two empty lists are alike
 pub none_alike : (vs ws : List Verdict) → vs ≡ [] → ws ≡ [] → AreAlike vs ws
 none_alike vs ws e f = subst (λ l. AreAlike l ws) (sym e) (subst (λ l. AreAlike [] l) (sym f) tt)
+
+-- lists are alike the other way round
+pub alike_sym : (vs ws : List Verdict) → AreAlike vs ws → AreAlike ws vs
+alike_sym [] [] e = tt
+alike_sym [] (w ∷ ws) e = absurd e
+alike_sym (v ∷ vs) [] e = absurd e
+alike_sym (v ∷ vs) (w ∷ ws) (begin, end, holds, e) = (
+  record { time = same_sym begin.time; inside = sym begin.inside },
+  record { time = same_sym end.time; inside = sym end.inside },
+  sym holds,
+  alike_sym vs ws e,
+)

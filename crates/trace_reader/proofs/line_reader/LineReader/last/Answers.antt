@@ -59,9 +59,12 @@ returns-in-Row-clause-ok c = λ bytes rows s.
     let e = c.in_ok-event.ensures in
     let (g, n) = header_some c.header.result new.content.heading (header_of new.content.least) c.header.ensures c.if-is_none.ensures in
     let after = rows_after c.in_ok-event.event rows new.content.row in
-    let w : IsWhole c.args.limits.now new.content bytes after =
-    (g, n, has_trace c.args.limits.now new.content new.lines.begun bytes after (e.ok bytes rows s) g n
-    (omega (arith, c.count.ensures, c.if-count-eq0.false))) in
+    let w : IsWhole c.args.limits.now new.content bytes after = (
+      g,
+      n,
+      has_trace c.args.limits.now new.content new.lines.begun bytes after (e.ok bytes rows s) g n
+          (omega (arith, c.count.ensures, c.if-count-eq0.false)),
+    ) in
     subst (λ v. IsWhole c.args.limits.now new.content bytes (rows_after v rows new.content.row)) c.in-Row.is w
 
 pub returns-in-Row-clause-next : goal.returns-in-Row-clause-next
