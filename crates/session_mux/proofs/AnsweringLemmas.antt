@@ -21,7 +21,7 @@ use Rattle.session_mux.specs.declared.known.Found.{Found}
 use Rattle.session_mux.specs.declared.known.Known.{Known}
 use Rattle.session_mux.specs.declared.session.Session.{Session}
 use Rattle.session_mux.proofs.OwnLemmas.{own_grows, own_stays}
-use Rattle.session_mux.proofs.SessionLemmas.{growth_once, cut_as, cut_none}
+use Rattle.session_mux.proofs.SessionLemmas.{Grows, growth_once, cut_as, cut_none}
 use Rattle.session_mux.proofs.KnowingLemmas.{item_of_set, set_is, set_other, one_item, tags_of_set, drop_at}
 
 -- the reply of the line's session is the answer
@@ -139,7 +139,9 @@ module _ (f : Formula) (all : List Tagged) where
   Ends t reply = IsGrowth f t (own_of all t) (stopped_now (own_of all t)) reply
 
   ends_once : (t a b : List ℕ) → Ends t a → Ends t b → a ≡ b
-  ends_once t a b (old, grown, was, is, e) h = sym (growth_once f t (own_of all t) (stopped_now (own_of all t)) old grown was is b h ∙ sym e)
+  ends_once t a b (old, grown, was, is, e) h =
+      let g : Grows f (own_of all t) (stopped_now (own_of all t)) old grown = record { was = was; is = is } in
+      sym (growth_once g t b h ∙ sym e)
 
   -- one session more
   ends_more : (ts : List (List ℕ)) (t text reply : List ℕ) → AreEnds f all ts text → Ends t reply → AreEnds f all (ts ++ t ∷ []) (text ++ reply)

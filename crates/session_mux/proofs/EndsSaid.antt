@@ -7,7 +7,7 @@ use Rattle.std.proofs.lemmas.Slice.Eq.{bytes_eq-Decides}
 use Rattle.stl_syntax.specs.Characters.{is_among}
 use Rattle.stl_syntax.specs.Formula.{Formula}
 use Rattle.session_mux.specs.Sessions.{Tagged, own, is_stopped, Alone, SoFar, AreEnds, tags_after}
-use Rattle.session_mux.specs.SessionsAlone.{AreSaidAtEnd, AreSaidInAll, EachIsAsAloneToItsEnd, OthersAddNothingAtTheEnd}
+use Rattle.session_mux.specs.SessionsAlone.{lines_of, AreSaidAtEnd, AreSaidInAll, EachIsAsAloneToItsEnd, OthersAddNothingAtTheEnd}
 use Rattle.session_mux.proofs.SessionsSaid.{text_alone_once, as_alone, said_is_alone, nothing_alone, own_of_lines}
 
 -- ---- each tag stands once
@@ -127,10 +127,16 @@ as_alone_to_its_end f t all text among (during, rest, answers, ends, e) =
     } in
     (said_first ++ said_at_end, a, said_whole f t all text (said_first ++ said_at_end) among a)
 
--- what others send adds nothing to what a session is told to its end
-pub others_add_nothing_at_the_end : OthersAddNothingAtTheEnd
-others_add_nothing_at_the_end f t all others text other said heard same among also a b =
+-- two inputs with the same lines of a session tell it the same
+same_to_the_end : {f : Formula} {t : List ℕ} {all others : List Tagged} {text other said heard : List ℕ} → lines_of t all ≡ lines_of t others
+    → is_among t (tags_after [] all) ≡ true → is_among t (tags_after [] others) ≡ true → AreSaidInAll f t all text said
+    → AreSaidInAll f t others other heard → said ≡ heard
+same_to_the_end {f} {t} {all} {others} {text} {other} {said} {heard} same among also a b =
     let mine = said_whole f t all text said among a in
     let theirs = said_whole f t others other heard also b in
     let bytes : own others t ≡ own all t = own_of_lines others t ∙ ap (λ l. own l t) (sym same) ∙ sym (own_of_lines all t) in
     text_alone_once f (own all t) true said heard mine (subst (λ w. Alone f w true heard) bytes theirs)
+
+-- what others send adds nothing to what a session is told to its end
+pub others_add_nothing_at_the_end : OthersAddNothingAtTheEnd
+others_add_nothing_at_the_end f t all others text other said heard = same_to_the_end

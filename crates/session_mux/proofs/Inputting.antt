@@ -53,11 +53,11 @@ place_of n kind.BadTag = refl
 place_of n kind.TooManySessions = refl
 
 -- a fault of the line after those that were taken
-fault_there : (f : Formula) (mux : Muxed) (front more : List Line) (text all : List ℕ) (ended : Bool)
+fault_there : {f : Formula} {mux : Muxed} {front : List Line} {text : List ℕ} (more : List Line) (all : List ℕ) (ended : Bool)
     (k : HasLines f mux front text) (l : LineKind) → lines ended all ≡ front ++ more
     → FaultOfInput (1 + length front) k.after more (fault_in (1 + length front) l)
     → FaultOfInput 1 [] (lines ended all) (fault_in (1 + length front) l) × OwesLines f all ended text
-fault_there f mux front more text all ended k l e fault =
+fault_there {front = front} more all ended k l e fault =
     let x = fault_in (1 + length front) l in
     let place : fault_line x - 1 ≡ length front = omega (arith, place_of (1 + length front) l) in
     let here : FaultOfInput 1 [] (lines ended all) x = subst (λ ls. FaultOfInput 1 [] ls x) (sym e) (fault_past k.passed more x fault) in
@@ -68,12 +68,12 @@ fault_there f mux front more text all ended k l e fault =
     )
 
 -- so of a stored one
-pub stored_there : (f : Formula) (mux : Muxed) (front more : List Line) (text all : List ℕ) (ended : Bool)
-    (k : HasLines f mux front text) (x : LineFault) (n : ℕ) → n ≡ 1 + length front → x.line ≡ n → lines ended all ≡ front ++ more
+pub stored_there : {f : Formula} {mux : Muxed} {front : List Line} {text : List ℕ} (more : List Line) (all : List ℕ) (ended : Bool)
+    (k : HasLines f mux front text) (x : LineFault) → x.line ≡ 1 + length front → lines ended all ≡ front ++ more
     → FaultOfInput (1 + length front) k.after more (fault_in (1 + length front) x.kind) → IsInputStop f all ended text (Faulty x)
-stored_there f mux front more text all ended k x n number at e fault =
-    subst (λ m. FaultOfInput 1 [] (lines ended all) (fault_in m x.kind) × OwesLines f all ended text) (sym (at ∙ number))
-    (fault_there f mux front more text all ended k x.kind e fault)
+stored_there {f} {text = text} more all ended k x at e fault =
+    subst (λ m. FaultOfInput 1 [] (lines ended all) (fault_in m x.kind) × OwesLines f all ended text) (sym at)
+    (fault_there more all ended k x.kind e fault)
 
 -- the line has too many before it, or too many bytes
 unsized_fault : (known : List (List ℕ)) (line : Line) (more : List Line) (n size : ℕ) (l : LineKind) → size ≤ length line.bytes
@@ -83,34 +83,32 @@ unsized_fault known line more n size kind.TooLong fits (few, long) = long_fault 
 unsized_fault known line more n size kind.BadTag fits u = absurd u
 unsized_fault known line more n size kind.TooManySessions fits u = absurd u
 
-unsized_there : (f : Formula) (mux : Muxed) (front : List Line) (line : Line) (more : List Line) (text all : List ℕ)
-    (ended : Bool) (k : HasLines f mux front text) (n size : ℕ) (e : InputStop) → n ≡ 1 + length front
-    → size ≤ length line.bytes → lines ended all ≡ front ++ line ∷ more → IsUnsized n size e → IsInputStop f all ended text e
-unsized_there f mux front line more text all ended k n size (Faulty x) number fits e (at, u) =
-    stored_there f mux front (line ∷ more) text all ended k x n number at e
-    (unsized_fault k.after line more (1 + length front) size x.kind fits (subst (λ m. IsUnsizedBy m size x.kind) number u))
-unsized_there f mux front line more text all ended k n size NoMemory number fits e u = absurd u
+unsized_there : {f : Formula} {mux : Muxed} {front : List Line} {text : List ℕ} (line : Line) (more : List Line) (all : List ℕ) (ended : Bool)
+    (k : HasLines f mux front text) (size : ℕ) (e : InputStop) → size ≤ length line.bytes → lines ended all ≡ front ++ line ∷ more
+    → IsUnsized (1 + length front) size e → IsInputStop f all ended text e
+unsized_there {front = front} line more all ended k size (Faulty x) fits e (at, u) =
+    stored_there (line ∷ more) all ended k x at e (unsized_fault k.after line more (1 + length front) size x.kind fits u)
+unsized_there line more all ended k size NoMemory fits e u = absurd u
 
 -- the sessions refused it
-pub refused_fault : (f : Formula) (mux : Muxed) (front : List Line) (line text : List ℕ) (more : List Line)
+pub refused_fault : {f : Formula} {mux : Muxed} {front : List Line} {text : List ℕ} (line : List ℕ) (more : List Line)
     (k : HasLines f mux front text) (l : LineKind) → IsSized (1 + length front) (length line)
     → is_blank_line (ended_line line) ≡ false → IsRefusedBy (record { formula = f; seen = k.tagged }) line l
     → FaultOfInput (1 + length front) k.after (ended_line line ∷ more) (fault_in (1 + length front) l)
-refused_fault f mux front line text more k kind.TooManyLines sized b r = absurd r
-refused_fault f mux front line text more k kind.TooLong sized b r = absurd r
-refused_fault f mux front line text more k kind.BadTag sized b r = tag_fault (1 + length front) k.after (ended_line line) more sized refl b r
-refused_fault f mux front line text more k kind.TooManySessions sized b ((t, is, a), full) =
+refused_fault line more k kind.TooManyLines sized b r = absurd r
+refused_fault line more k kind.TooLong sized b r = absurd r
+refused_fault {front = front} line more k kind.BadTag sized b r = tag_fault (1 + length front) k.after (ended_line line) more sized refl b r
+refused_fault {front = front} line more k kind.TooManySessions sized b ((t, is, a), full) =
     room_fault (1 + length front) k.after (ended_line line) more sized refl b t is (known_tag t.tag k.passed ∙ a)
     (let e = known_count k.passed in omega (arith, e, full))
 
-refused_there : (f : Formula) (mux : Muxed) (front : List Line) (line text after : List ℕ) (n : ℕ) (k : HasLines f mux front text)
-    (before : List ℕ) (written : List ℕ) (e : InputStop) → text ≡ written ++ before → n ≡ 1 + length front → IsSized n (length line)
-    → IsNotHanded (record { formula = f; seen = k.tagged }) n line before after e → IsLineStop f front line (written ++ after) e
-refused_there f mux front line text after n k before written (Faulty x) parts number sized (at, b, same, r) = λ all ended later e.
-    subst (λ t. IsInputStop f all ended t (Faulty x)) (parts ∙ ap (λ t. written ++ t) (sym same))
-    (stored_there f mux front (ended_line line ∷ later) text all ended k x n number at e
-    (refused_fault f mux front line text later k x.kind (subst (λ m. IsSized m (length line)) number sized) b r))
-refused_there f mux front line text after n k before written NoMemory parts number sized r = λ all ended later e. tt
+refused_there : {f : Formula} {mux : Muxed} {front : List Line} (line before written after : List ℕ) (k : HasLines f mux front (written ++ before))
+    (e : InputStop) → IsSized (1 + length front) (length line)
+    → IsNotHanded (record { formula = f; seen = k.tagged }) (1 + length front) line before after e → IsLineStop f front line (written ++ after) e
+refused_there {f} line before written after k (Faulty x) sized (at, b, same, r) = λ all ended later e.
+    subst (λ t. IsInputStop f all ended t (Faulty x)) (ap (λ t. written ++ t) (sym same))
+    (stored_there (ended_line line ∷ later) all ended k x at e (refused_fault line later k x.kind sized b r))
+refused_there line before written after k NoMemory sized r = λ all ended later e. tt
 
 -- ---- bytes of a line
 
@@ -128,9 +126,9 @@ module _ (f : Formula) (i : Input) (bytes written part : List ℕ) (k : IsTaking
   part_unsized e some u = λ ended more.
       let size = length-append i.part part in
       let (l, ls, is, fits) = grows ended (i.part ++ part) more both_free (omega (arith, some, size)) in
-      unsized_there f i.mux k.front l ls (written ++ i.text) ((bytes ++ part) ++ more) ended k.taken (i.whole + 1)
-      (length i.part + length part) e (let c = k.count in omega (arith, c)) (omega (arith, fits, size))
-      (joined ended more ∙ ap (λ ls. k.front ++ ls) is) u
+      let number : i.whole + 1 ≡ 1 + length k.front = (let c = k.count in omega (arith, c)) in
+      unsized_there l ls ((bytes ++ part) ++ more) ended k.taken (length i.part + length part) e (omega (arith, fits, size))
+      (joined ended more ∙ ap (λ ls. k.front ++ ls) is) (subst (λ n. IsUnsized n (length i.part + length part) e) number u)
 
   -- they were added
   pub part_added : (new : Input) → new ≡ record i { part = i.part ++ part } → IsSized (i.whole + 1) (length i.part + length part)
@@ -154,18 +152,18 @@ part_none f i bytes written part k e = subst (λ b. IsTaking f i b written) (sym
 -- ---- a line that has ended
 
 -- one line more
-one_line : (f : Formula) (old new : Muxed) (front : List Line) (line text before after written : List ℕ)
-    (k : HasLines f old front text) → text ≡ written ++ before → IsSized (1 + length front) (length line)
+one_line : {f : Formula} {old new : Muxed} {front : List Line} (line before after written : List ℕ)
+    (k : HasLines f old front (written ++ before)) → IsSized (1 + length front) (length line)
     → IsHanded (record { formula = f; seen = k.tagged }) line new before after → HasLines f new (front ++ ended_line line ∷ []) (written ++ after)
-one_line f old new front line text before after written k parts sized handed = by_blank (is_blank_line (ended_line line)) refl
+one_line {f} {new = new} {front = front} line before after written k sized handed = by_blank (is_blank_line (ended_line line)) refl
   where
     Took : Type 0
     Took = (x : Tagged) × IsTagged (content (ended_line line)) x × HasTaken (record { formula = f; seen = k.tagged }) x new before after
 
     with_answer : (x : Tagged) → HasTaken (record { formula = f; seen = k.tagged }) x new before after → AreAnswers f [] (k.tagged ++ x ∷ []) (written ++ after)
     with_answer x h = subst (λ t. AreAnswers f [] (k.tagged ++ x ∷ []) t)
-        (ap (λ t. t ++ h.answer) parts ∙ append_assoc written before h.answer ∙ ap (λ t. written ++ t) (sym h.added))
-        (answers_on f [] k.tagged x text h.answer k.said h.is)
+        (append_assoc written before h.answer ∙ ap (λ t. written ++ t) (sym h.added))
+        (answers_on f [] k.tagged x (written ++ before) h.answer k.said h.is)
 
     by_tag : is_blank_line (ended_line line) ≡ false → (x : Tagged) → IsTagged (content (ended_line line)) x
         → HasTaken (record { formula = f; seen = k.tagged }) x new before after → (b : Bool) → is_among x.tag k.after ≡ b
@@ -199,7 +197,7 @@ one_line f old new front line text before after written k parts sized handed = b
           passed = subst (λ ts. ArePassed 1 [] (front ++ ended_line line ∷ []) ts k.after) (append-nil k.tagged)
               (passed_on k.passed (blank {line = ended_line line} sized refl b none));
           stands = stands;
-          said = subst (λ t. AreAnswers f [] k.tagged t) (parts ∙ ap (λ t. written ++ t) (sym same)) k.said;
+          said = subst (λ t. AreAnswers f [] k.tagged t) (ap (λ t. written ++ t) (sym same)) k.said;
         }
     by_blank false b =
         let (x, is, h) =
@@ -217,20 +215,23 @@ module _ (f : Formula) (i : Input) (bytes written : List ℕ) (k : IsTaking f i 
   -- it is too long, or one too many
   pub line_unsized : (e : InputStop) → IsUnsized (i.whole + 1) (length i.part) e → IsLineStop f k.front i.part (written ++ i.text) e
   line_unsized e u = λ all ended later is.
-      unsized_there f i.mux k.front (ended_line i.part) later (written ++ i.text) all ended k.taken (i.whole + 1) (length i.part) e number_is (omega arith) is u
+      unsized_there (ended_line i.part) later all ended k.taken (length i.part) e (omega arith) is
+      (subst (λ n. IsUnsized n (length i.part) e) number_is u)
 
   -- the sessions refused it
   pub line_refused : (after : List ℕ) (e : InputStop) → IsSized (i.whole + 1) (length i.part)
       → IsNotHanded (record { formula = f; seen = k.taken.tagged }) (i.whole + 1) i.part i.text after e
       → IsLineStop f k.front i.part (written ++ after) e
-  line_refused after e sized r = refused_there f i.mux k.front i.part (written ++ i.text) after (i.whole + 1) k.taken i.text written e refl number_is sized r
+  line_refused after e sized r =
+      refused_there i.part i.text written after k.taken e (subst (λ n. IsSized n (length i.part)) number_is sized)
+      (subst (λ n. IsNotHanded (record { formula = f; seen = k.taken.tagged }) n i.part i.text after e) number_is r)
 
   -- it was answered
   pub line_answered : (mux : Muxed) (after : List ℕ) → IsSized (i.whole + 1) (length i.part)
       → IsHanded (record { formula = f; seen = k.taken.tagged }) i.part mux i.text after
       → HasLines f mux (k.front ++ ended_line i.part ∷ []) (written ++ after)
   line_answered mux after sized h =
-      one_line f i.mux mux k.front i.part (written ++ i.text) i.text after written k.taken refl (subst (λ n. IsSized n (length i.part)) number_is sized) h
+      one_line i.part i.text after written k.taken (subst (λ n. IsSized n (length i.part)) number_is sized) h
 
   lines_with : (e : Bool) (more : List ℕ) → lines e (bytes ++ 10 ∷ more) ≡ (k.front ++ ended_line i.part ∷ []) ++ lines e more
   lines_with e more =

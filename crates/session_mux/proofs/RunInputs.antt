@@ -229,10 +229,10 @@ module _ (f : Formula) (i : Input) (bytes written piece : List ℕ) (k : IsTakin
       ∙ joins_run later false ∙ append_assoc k.front (lines_of_run all_lines) (lines false later) in
       let line = All-head (IsRunLine t) l ls each in
       let sized : IsSized (1 + length k.front) (length l.bytes) = (omega (arith, count, few), line.short) in
+      let place : i.whole + 1 ≡ 1 + length k.front = omega (arith, count) in
       subst (λ w. IsInputStop f (bytes ++ piece) false (written ++ w) (Faulty x)) (sym same)
-      (stored_there f i.mux k.front (ended_line l.bytes ∷ (lines_of_run ls ++ lines false later)) (written ++ i.text) (bytes ++ piece) false k.taken x
-      (i.whole + 1) (omega (arith, count)) at split
-      (refused_fault f i.mux k.front l.bytes (written ++ i.text) (lines_of_run ls ++ lines false later) k.taken x.kind sized (run_not_blank t l is_tag line)
+      (stored_there (ended_line l.bytes ∷ (lines_of_run ls ++ lines false later)) (bytes ++ piece) false k.taken x (at ∙ place) split
+      (refused_fault l.bytes (lines_of_run ls ++ lines false later) k.taken x.kind sized (run_not_blank t l is_tag line)
       (subst (λ (z : LineKind). IsRefusedOf z) (sym kind_is) ((record { tag = t; content = l.content }, run_tagged t l is_tag line, new_one), full))))
     where
       IsRefusedOf : LineKind → Type 0
@@ -261,10 +261,10 @@ own_within t piece content n m within own =
     omega (arith, bound, within, length-drop n piece)
 
 -- one line more
-pub gathered_on : (t piece : List ℕ) (most n count : ℕ) (old mid new content : List ℕ) (m : ℕ) → HasGathered t piece most n count old → count < most
+pub gathered_on : {t piece : List ℕ} {most n count : ℕ} {old mid new content : List ℕ} {m : ℕ} → HasGathered t piece most n count old → count < most
     → IsOwnLine t (take (length piece - n) (drop n piece)) content m → mid ≡ old ++ content → new ≡ mid ++ newline
     → HasGathered t piece most (n + m) (count + 1) new
-gathered_on t piece most n count old mid new content m g less own with_content with_feed =
+gathered_on {t} {piece} {n = n} {content = content} {m = m} g less own with_content with_feed =
     let l : RunLine = record { bytes = own.bytes; content = content } in
     let here : take m (drop n piece) ≡ own.bytes ++ newline = ap (take m) (sym (rest_is piece n)) ∙ own.taken in
     record {

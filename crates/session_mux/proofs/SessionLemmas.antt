@@ -41,12 +41,17 @@ use Rattle.session_mux.proofs.TextLemmas.{texts_joined, alone_of, alone_faulted,
 pub cut_none : (Reply : List ℕ → Type 0) (before after : List ℕ) → after ≡ before → IsCutShort Reply before after
 cut_none Reply before after e = record { first = []; added = e ∙ sym (append-nil before); begins = λ reply r. (reply, refl) }
 
-module _ (f : Formula) (tag : List ℕ) (o p : Own) (said grown : List ℕ) (was : IsOwnText f o said) (is : IsOwnText f p (said ++ grown)) where
+-- the text of what a session had got, and more of it by what it has got now
+pub record Grows (f : Formula) (o p : Own) (said grown : List ℕ) : Type 0 where
+  pub was : IsOwnText f o said
+  pub is : IsOwnText f p (said ++ grown)
+
+module _ {f : Formula} {o p : Own} {said grown : List ℕ} (g : Grows f o p said grown) (tag : List ℕ) where
   -- a text grows by one text
   pub growth_once : (reply : List ℕ) → IsGrowth f tag o p reply → reply ≡ said_lines tag grown
   growth_once reply (old, more, a, b, e) =
-      let same : old ≡ said = text_alone_once f o.bytes o.stopped old said a was in
-      let whole : old ++ more ≡ said ++ grown = text_alone_once f p.bytes p.stopped (old ++ more) (said ++ grown) b is in
+      let same : old ≡ said = text_alone_once f o.bytes o.stopped old said a g.was in
+      let whole : old ++ more ≡ said ++ grown = text_alone_once f p.bytes p.stopped (old ++ more) (said ++ grown) b g.is in
       e ∙ ap (λ t. said_lines tag t) (append_cancel_left said more grown (sym (ap (λ t. t ++ more) same) ∙ whole))
 
   -- a part of its lines was added
@@ -59,8 +64,8 @@ module _ (f : Formula) (tag : List ℕ) (o p : Own) (said grown : List ℕ) (was
       → HasGrown f tag p said new before after After
   has_grown old new before after After e has_said then_is = record {
     grown = grown;
-    alone = is;
-    recent_is = has_said.kept (texts said) e ∙ ap (λ ts. buffer (keep_last 8 ts) 8) (sym (texts_joined said grown (alone_ends f o.bytes o.stopped said was)));
+    alone = g.is;
+    recent_is = has_said.kept (texts said) e ∙ ap (λ ts. buffer (keep_last 8 ts) 8) (sym (texts_joined said grown (alone_ends f o.bytes o.stopped said g.was)));
     added = has_said.added;
     then = then_is;
   }
@@ -108,14 +113,12 @@ either_way (Ok x) f g h = f h
 either_way (Err e) f g h = g h
 
 -- the text of a reader was said
-pub said_text : {T E : Type 0} (r : Result T E) (f : Formula) (tag : List ℕ) (o p : Own) (said grown : List ℕ)
-    (old new : Buffer (List ℕ)) (before after : List ℕ) (After : List ℕ → Type 0) → IsOwnText f o said
-    → IsOwnText f p (said ++ grown) → old ≡ recent_of said → After (said ++ grown)
+pub said_text : {T E : Type 0} (r : Result T E) {f : Formula} {o p : Own} {said grown : List ℕ} → Grows f o p said grown
+    → (tag : List ℕ) (old new : Buffer (List ℕ)) (before after : List ℕ) (After : List ℕ → Type 0) → old ≡ recent_of said → After (said ++ grown)
     → MatchResult r (λ _. HasSaid tag grown old new before after) (λ _. GrewInPart (Is (said_lines tag grown)) before after)
     → MatchResult r (λ _. HasGrown f tag p said new before after After) (λ _. IsCutShort (IsGrowth f tag o p) before after)
-said_text r f tag o p said grown old new before after After was is recent then_is h =
-    either_way r (λ has_said. has_grown f tag o p said grown was is old new before after After recent has_said then_is)
-    (cut_short f tag o p said grown was is before after) h
+said_text r g tag old new before after After recent then_is h =
+    either_way r (λ has_said. has_grown g tag old new before after After recent has_said then_is) (cut_short g tag before after) h
 
 -- ---- a reader that stopped
 
@@ -130,10 +133,13 @@ module _ (f : Formula) (tag : List ℕ) (o p : Own) (said text : List ℕ) (faul
   stop_alone : IsOwnText f p (said ++ (text ++ last_line))
   stop_alone = subst (λ t. IsOwnText f p t) (append_assoc said text last_line) (alone_faulted f p.bytes p.stopped (said ++ text) stop.3 stop.0 stop.2)
 
+  -- so the text of the session grew
+  stop_grows : Grows f o p said (text ++ last_line)
+  stop_grows = record { was = was; is = stop_alone }
+
   -- a session that stops and is cut in its text is cut short
   pub stop_cut_first : (before after : List ℕ) → GrewInPart (Is (said_lines tag text)) before after → IsCutShort (IsGrowth f tag o p) before after
-  stop_cut_first before after g = cut_short f tag o p said (text ++ last_line) was stop_alone before after
-      (cut_in_first tag text last_line stop_ends before after g)
+  stop_cut_first before after g = cut_short stop_grows tag before after (cut_in_first tag text last_line stop_ends before after g)
 
   -- a text that was said and the last line, said or cut, come to the session's growth, or a cut in it
   pub stop_said : {T E : Type 0} (r : Result T E) (old mid new : Buffer (List ℕ)) (before between after : List ℕ)
@@ -142,10 +148,9 @@ module _ (f : Formula) (tag : List ℕ) (o p : Own) (said text : List ℕ) (faul
       → MatchResult r (λ _. HasGrown f tag p said new before after (λ _. HasStopped f p)) (λ _. IsCutShort (IsGrowth f tag o p) before after)
   stop_said r old mid new before between after recent has_said h =
       either_way r
-      (λ line. has_grown f tag o p said (text ++ last_line) was stop_alone old new before after (λ _. HasStopped f p) recent
+      (λ line. has_grown stop_grows tag old new before after (λ _. HasStopped f p) recent
       (said_both tag text last_line stop_ends old mid new before between after has_said line) (stop.0, stop.2))
-      (λ g. cut_short f tag o p said (text ++ last_line) was stop_alone before after
-      (cut_in_second tag text last_line stop_ends before between after has_said.added g)) h
+      (λ g. cut_short stop_grows tag before after (cut_in_second tag text last_line stop_ends before between after has_said.added g)) h
 
 -- the limits and the formula are those of the reader
 pub stopped_at : (f : Formula) (bytes said : List ℕ) (live : Live Verdicts) (all text : List ℕ) (ended : Bool) (stop : StreamStop) → IsOpen f bytes said live
@@ -406,11 +411,11 @@ module _ (f : Formula) (tag : List ℕ) (o : Own) (content said : List ℕ) (goi
 -- ---- what a call of a session comes to
 
 -- the reader said more
-pub grew_under : (f : Formula) (o p : Own) (tag said before after : List ℕ) (old new : Session) (After : List ℕ → Type 0)
+pub grew_under : {f : Formula} {p : Own} {tag said before after : List ℕ} {After : List ℕ → Type 0} (o : Own) (old new : Session)
     → tag ≡ old.tag → new.tag ≡ old.tag → IsOwnText f o said
     → (g : HasGrown f tag p said new.recent before after After) → GoesOnWith f p (said ++ g.grown) new.stream
     → HasReplied f p old new (IsGrowth f old.tag o p) before after
-grew_under f o p tag said before after old new After under same was g on = record {
+grew_under {said = said} {before = before} o old new under same was g on = record {
   tag = same;
   said = said ++ g.grown;
   stands = record { alone = g.alone; recent = g.recent_is; goes_on = on };

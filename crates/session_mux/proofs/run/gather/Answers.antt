@@ -5,6 +5,4 @@ pub loop-lines-init : goal.loop-lines-init
 loop-lines-init c = gathered_none c.args.tag.now c.args.piece.now c.args.most _ c.clear.ensures
 
 pub loop-lines-preserved : goal.loop-lines-preserved
-loop-lines-preserved c = gathered_on c.args.tag.now c.args.piece.now c.args.most c.loop-lines.bytes c.loop-lines.lines
-    c.loop-lines.run c.push.new.self c.push-in-loop-lines.new.self c.in-Some.line.content.now c.in-Some.line.bytes c.loop-lines.invariant c.loop-lines-test.true
-    c.in-Some.ensures c.in_ok-push.ensures.ok c.in_ok-push-2.ensures.ok
+loop-lines-preserved c = gathered_on c.loop-lines.invariant c.loop-lines-test.true c.in-Some.ensures c.in_ok-push.ensures.ok c.in_ok-push-2.ensures.ok

@@ -5,7 +5,7 @@ use Rattle.stl_syntax.specs.Formula.{Formula}
 use Rattle.session_mux.specs.Owning.{stopped_now}
 use Rattle.session_mux.specs.Saying.{said_lines, HasSaid}
 use Rattle.session_mux.specs.Standing.{HasReason}
-use Rattle.session_mux.proofs.SessionLemmas.{reason_of, alone_at_end, said_text, stopped_at, either_way, unasked}
+use Rattle.session_mux.proofs.SessionLemmas.{Grows, reason_of, alone_at_end, said_text, stopped_at, either_way, unasked}
 use Rattle.session_mux.proofs.session.end_with.Goals as goal
 
 pub say_stop-requires-clause-reason : goal.say_stop-requires-clause-reason
@@ -18,9 +18,9 @@ say_stop-requires-clause-reason c =
 pub returns-in-Ok : goal.returns-in-Ok
 returns-in-Ok c = λ f o said was recent stands.
     let new = c.finish.new.self in
-    said_text c.say.result f c.args.tag.now o
-    (stopped_now o) said new.text c.args.recent.now c.say.new.recent c.args.out.now c.say.new.out (λ _. Unit {0}) was
-    (alone_at_end f o.bytes said c.args.live.now new c.in-Ok.field-0 stands (c.in-Ok.ensures.over o.bytes said stands.stands)) recent tt
+    let alone = alone_at_end f o.bytes said c.args.live.now new c.in-Ok.field-0 stands (c.in-Ok.ensures.over o.bytes said stands.stands) in
+    let g : Grows f o (stopped_now o) said new.text = record { was = was; is = alone } in
+    said_text c.say.result g c.args.tag.now c.args.recent.now c.say.new.recent c.args.out.now c.say.new.out (λ _. Unit {0}) recent tt
     (subst (λ t. MatchResult c.say.result (λ _. HasSaid c.args.tag.now t c.args.recent.now c.say.new.recent c.args.out.now c.say.new.out)
     (λ _. GrewInPart (Is (said_lines c.args.tag.now t)) c.args.out.now c.say.new.out)) c.text.ensures c.say.ensures)
 

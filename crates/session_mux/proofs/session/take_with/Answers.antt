@@ -6,7 +6,7 @@ use Rattle.stl_syntax.specs.Texts.{newline}
 use Rattle.session_mux.specs.Owning.{next_line}
 use Rattle.session_mux.specs.Saying.{said_lines, HasSaid}
 use Rattle.session_mux.specs.Standing.{HasReason, IsAfterLine}
-use Rattle.session_mux.proofs.SessionLemmas.{reason_of, stopped_at, cut_short, has_grown, line_alone, line_open, line_stopped, line_faulted}
+use Rattle.session_mux.proofs.SessionLemmas.{Grows, reason_of, stopped_at, cut_short, has_grown, line_alone, line_open, line_stopped, line_faulted}
 use Rattle.session_mux.proofs.session.take_with.Goals as goal
 
 pub say_stop-requires-clause-reason : goal.say_stop-requires-clause-reason
@@ -21,10 +21,10 @@ pub returns-in_err-say-in-Ok : goal.returns-in_err-say-in-Ok
 returns-in_err-say-in-Ok c = λ f o said was recent going stands.
     let p = err_from_is_err_and c.from_residual.result c.from_residual.ensures.1 in
     let mid = c.feed_line.new.live in
-    rw p.1 (cut_short f c.args.tag.now o (next_line o c.args.content.now) said mid.text was
-    (line_alone f c.args.tag.now o c.args.content.now said going mid (c.in-Ok.ensures.taken o.bytes said stands.stands)
-    (c.in-Ok.ensures.formula ∙ stands.formula) (c.in-Ok.ensures.limits ∙ stands.limits))
-    c.args.out.now c.say.new.out
+    let alone = line_alone f c.args.tag.now o c.args.content.now said going mid (c.in-Ok.ensures.taken o.bytes said stands.stands)
+    (c.in-Ok.ensures.formula ∙ stands.formula) (c.in-Ok.ensures.limits ∙ stands.limits) in
+    let g : Grows f o (next_line o c.args.content.now) said mid.text = record { was = was; is = alone } in
+    rw p.1 (cut_short g c.args.tag.now c.args.out.now c.say.new.out
     (subst (λ t. GrewInPart (Is (said_lines c.args.tag.now t)) c.args.out.now c.say.new.out) c.text.ensures c.in_err-say-in-Ok.ensures))
 
 pub returns-in_ok-say-in-Ok : goal.returns-in_ok-say-in-Ok
@@ -33,9 +33,10 @@ returns-in_ok-say-in-Ok c = λ f o said was recent going stands.
     let k = c.in-Ok.ensures.taken o.bytes said stands.stands in
     let formula = c.in-Ok.ensures.formula ∙ stands.formula in
     let limits = c.in-Ok.ensures.limits ∙ stands.limits in
-    has_grown f c.args.tag.now o (next_line o c.args.content.now) said mid.text was
-    (line_alone f c.args.tag.now o c.args.content.now said going mid k formula limits)
-    c.args.recent.now c.say.new.recent c.args.out.now c.say.new.out (IsAfterLine f (next_line o c.args.content.now).bytes true c.clear.new.self) recent
+    let g : Grows f o (next_line o c.args.content.now) said mid.text =
+    record { was = was; is = line_alone f c.args.tag.now o c.args.content.now said going mid k formula limits } in
+    has_grown g c.args.tag.now c.args.recent.now c.say.new.recent c.args.out.now c.say.new.out
+    (IsAfterLine f (next_line o c.args.content.now).bytes true c.clear.new.self) recent
     (subst (λ t. HasSaid c.args.tag.now t c.args.recent.now c.say.new.recent c.args.out.now c.say.new.out) c.text.ensures c.in_ok-say-in-Ok.ensures)
     (line_open f c.args.tag.now o c.args.content.now said going mid k formula limits c.clear.new.self c.clear.ensures)
 

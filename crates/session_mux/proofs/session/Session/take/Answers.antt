@@ -19,8 +19,7 @@ returns-then-not-goes_on c = λ f o said h.
     let g = subst (λ (b : Bool). HasGrown f c.bytes.result.now (next_line o content) said c.take_with.new.recent c.args.out.now
     c.take_with.new.out (IsAfterLine f (next_line o content).bytes b c.take_with.new.live))
     c.if-not-goes_on.true (c.in_ok-goes_on-in-Some.ensures f o said h.alone h.recent on.0 on.1) in
-    grew_under f o (next_line o content) c.bytes.result.now said c.args.out.now c.take_with.new.out c.args.self.now _
-    (IsAfterLine f (next_line o content).bytes false c.take_with.new.live) c.bytes.ensures refl h.alone g
+    grew_under o c.args.self.now _ c.bytes.ensures refl h.alone g
     (subst (λ (s : Option (Live Verdicts)). GoesOnWith f (next_line o content) (said ++ g.grown) s) (sym c.let_go.ensures)
     (took_last_line f o content c.take_with.new.live (said ++ g.grown) g.then))
 
@@ -31,6 +30,5 @@ returns-else-not-goes_on c = λ f o said h.
     let g = subst (λ (b : Bool). HasGrown f c.bytes.result.now (next_line o content) said c.take_with.new.recent c.args.out.now
     c.take_with.new.out (IsAfterLine f (next_line o content).bytes b c.take_with.new.live))
     c.if-not-goes_on.false (c.in_ok-goes_on-in-Some.ensures f o said h.alone h.recent on.0 on.1) in
-    grew_under f o (next_line o content) c.bytes.result.now said c.args.out.now c.take_with.new.out c.args.self.now _
-    (IsAfterLine f (next_line o content).bytes true c.take_with.new.live) c.bytes.ensures refl h.alone g
+    grew_under o c.args.self.now _ c.bytes.ensures refl h.alone g
     (took_line f o content said c.take_with.new.live on.0 (said ++ g.grown) g.then)
