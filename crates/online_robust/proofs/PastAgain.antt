@@ -1,5 +1,5 @@
 -- A window without a low end goes on in a later turn, or begins, over what its input has given out by then; and what it leaves of it.
-use Rattle.std.proofs.Common.{◌≡◌, ◌⊎◌, inl, inr, ℕ, zero, suc, ◌+◌, ◌<◌, ◌≤◌, ◌^◌, Bool, true, false}
+use Rattle.std.proofs.Common.{◌≡◌, ◌⊎◌, inl, inr, ℕ, ◌+◌, ◌<◌, ◌^◌, Bool, true, false}
 use Rattle.std.proofs.Common.{List, [], ◌∷◌, ◌++◌, length, drop, slice_get, Option, Some, None, refl}
 use Rattle.std.proofs.Common.{sym, ap, subst, ◌∙◌, arith, ℤ, pos, ◌+ℤ◌, ◌≤ℤ◌, ◌<ℤ◌}
 use Rattle.std.specs.Prelude.{IfSome, IsSome, IsSomeAnd, MatchOption, cond, int_lt}
@@ -42,39 +42,18 @@ use Rattle.online_robust.proofs.PastSteps.{point_before}
 use Rattle.online_robust.proofs.Spreads.{bounded_on}
 use Rattle.online_robust.proofs.WindowAgain.{IsNext, back_before, cut_at, fit_tail, front_gap, moved_whole, next_of, no_front, no_none, some_or_none, told_tail}
 use Rattle.online_robust.proofs.WindowBounds.{still_moved}
+use Rattle.online_robust.proofs.WindowCore.{core_told}
 use Rattle.online_robust.proofs.WindowFaults.{no_later}
 use Rattle.online_robust.proofs.WindowFirst.{CanTurn, Turn, begin_tick, first_lines, none_on, scope_in, told_as, told_or_ended, turn_span}
 use Rattle.online_robust.proofs.WindowPoints.{in_order}
 
--- the same window over an input that is told further
-core_again : (x y : Scope) {w : Window} {none : Margin} {low high : Rim} {l h : Rational} (B : List Margin → Type 0)
-    → (s : IsCore x w none low high l h) → B s.constants → (r : IsCore (told_as x y) w none low high l h) × B r.constants
-core_again x y B s best = (
-  record {
-    order = s.order;
-    still = s.still;
-    none_value = s.none_value;
-    none_moved = s.none_moved;
-    from = s.from;
-    marks = s.marks;
-    constants = s.constants;
-    begun = s.begun;
-    runs = s.runs;
-    by = s.by;
-    last = s.last;
-    low_later = s.low_later;
-    high_later = s.high_later;
-    frozen = s.frozen;
-  },
-  best,
-)
-
--- so does one without a low end, over what is to come of it then
+-- a window without a low end stands over an input that is told further, and over what is to come of it then
 past_told : (x y : Scope) {p : Ever} {old e : Held} (lines : List MarginLine) → IsPastAt x p old → p.window.of < length e.edges
     → (start x.trace ≤ʳ y.front) × (y.front ≤ʳ stop x.trace) → (y.bound ≤ʳ y.front) ⊎ (y.front ≈ stop x.trace)
     → IsToCome (told_as x y) p.gap.until lines → AreKept p.gap p.point lines (edge_at e p.window.of) → IsPastAt (told_as x y) p e
 past_told x y {p} lines was of_in domain ended to_come kept =
-    let core = core_again x y (λ (cs : List Margin). IsBestOf margin_function p.window.side cs p.best) was.core was.best in
+    let core = core_told x y was.core (le_refl (shifted (value p.at) p.window.low)) was.core.low_later (le_refl (shifted (value p.at) p.window.high))
+    was.core.high_later (λ (cs : List Margin). IsBestOf margin_function p.window.side cs p.best) was.best in
     record {
       within = of_in;
       fit = was.fit;
@@ -475,16 +454,16 @@ cut_past x to p e' e came at inputs early shed = cut_at to p.window.high inputs 
             subst IsRest (sym (ap (λ (l : List MarginLine). l ++ fresh_at e p.window.of) seen_nil ∙ is ∙ lines_nil)) tt
 
         by_follow : (r : Reached) → value r.at ≈ shifted (value p.at) p.window.high → EndsAt p.gap.until (shifted (value p.at) p.window.high)
-            → (edge_at e p.window.of).seen ≡ [] → (fresh : List MarginLine) → fresh_at e p.window.of ≡ fresh → IsFollowed r came.0.lines fresh
+            → (edge_at e p.window.of).seen ≡ [] → (unread : List MarginLine) → fresh_at e p.window.of ≡ unread → IsFollowed r came.0.lines unread
             → IsRest (held_at e p.window.of)
-        by_follow r here ends nil fresh is (inl (none, all)) =
+        by_follow r here ends nil unread is (inl (none, all)) =
             subst IsRest (sym (ap (λ (l : List MarginLine). l ++ fresh_at e p.window.of) nil ∙ is ∙ none)) tt
-        by_follow r here ends nil fresh is (inr (a, b, c, m, more, gap, all)) =
+        by_follow r here ends nil unread is (inr (a, b, c, m, more, gap, all)) =
             subst IsRest (sym (ap (λ (l : List MarginLine). l ++ fresh_at e p.window.of) nil ∙ is ∙ gap)) (by_until p.gap.until ends came.0.to_come)
           where
             by_until : (o : Option Frac) → EndsAt o (shifted (value p.at) p.window.high) → IsToCome x o came.0.lines → whole (to +ℤ p.window.high) <ʳ value b
             by_until None h come = absurd h
-            by_until (Some u) h (q, v, rest, is', same, begun, told, fit, joined) =
+            by_until (Some u) h (q, v, rest, is', same, from_start, told, fit, joined) =
                 let told' : AreTold (Robustness x.formula x.trace) (L.Point r.at r.value ∷ L.Gap c b m ∷ more) =
                 subst (AreTold (Robustness x.formula x.trace)) all told in
                 let one : L.Point q v ∷ rest ≡ L.Point r.at r.value ∷ L.Gap c b m ∷ more = sym is' ∙ all in

@@ -1,5 +1,5 @@
 -- How the high end of a window without a low end goes on over its input.
-use Rattle.std.proofs.Common.{arith, ◌≡◌, ◌⊎◌, inl, inr, ℕ, ℤ, pos, neg_ℤ, ◌+◌, ◌-◌, ◌<◌, ◌≤◌}
+use Rattle.std.proofs.Common.{arith, ◌≡◌, ◌⊎◌, inl, inr, ℕ, ℤ, pos, neg_ℤ, ◌-◌, ◌<◌}
 use Rattle.std.proofs.Common.{◌^◌, Bool, true, false, List, [], ◌∷◌, ◌++◌, Option}
 use Rattle.std.proofs.Common.{Some, None, refl, sym, ap, subst, ◌∙◌, length, drop, slice_get, get_or}
 use Rattle.std.specs.Prelude.{MatchBool, MatchOption}
@@ -45,6 +45,29 @@ use Rattle.online_robust.proofs.Spreads.{bounded_on, last_from}
 use Rattle.online_robust.proofs.WindowBounds.{none_bounded}
 use Rattle.online_robust.proofs.WindowLaw.{before_of_end, up_to_before, up_to_end}
 use Rattle.online_robust.proofs.WindowPoints.{no_sheds}
+
+-- a point that is kept, and what is kept of what was told, change nothing else of the window
+pub with_point : (x : Scope) (p : Ever) (e : Held) (at : IsPastAt x p e) (point last : Option Reached) (new : Held)
+    → p.window.of < length new.edges → AreKept p.gap point at.lines (edge_at new p.window.of)
+    → IsUnder (shifted (value p.at) p.window.high) p.gap point → IsPastAt x (record p { point = point; last = last }) new
+with_point x p e at point last new within kept under = record {
+  within = within;
+  fit = at.fit;
+  tick = at.tick;
+  begins = at.begins;
+  domain = at.domain;
+  ended = at.ended;
+  near = at.near;
+  still = at.still;
+  low_early = at.low_early;
+  core = at.core;
+  best = at.best;
+  lines = at.lines;
+  to_come = at.to_come;
+  kept = kept;
+  under = under;
+  stands = at.stands;
+}
 
 module _ (x : Scope) (p : Ever) (e : Held) (at : IsPastAt x p e) where
   abbrev pub h : Rational
@@ -519,33 +542,17 @@ module _ (x : Scope) (p : Ever) (e : Held) (at : IsPastAt x p e) where
       pub past_left : (r : Reached) → r.at ≡ end_of line → r.value ≡ margin_of line
           → IsPastAt x (record p { point = Some r }) new × KeepsPoint (record p { point = Some r })
       past_left r at_is value_is = (
-        record {
-          within = let count = left_both.edges in let within = at.within in omega (arith, count, within);
-          fit = at.fit;
-          tick = at.tick;
-          begins = at.begins;
-          domain = at.domain;
-          ended = at.ended;
-          near = at.near;
-          still = at.still;
-          low_early = at.low_early;
-          core = at.core;
-          best = at.best;
-          lines = at.lines;
-          to_come = at.to_come;
-          kept = (
-            new_seen,
-            subst (λ (z : Reached). IsFollowed z at.lines (fresh_at new i)) (sym r_is)
-                (subst (λ (z : List MarginLine). IsFollowed (record { at = d.u; value = d.v }) z (fresh_at new i)) (sym d.is)
-                (subst (λ (z : List MarginLine). IsFollowed (record { at = d.u; value = d.v }) (L.Point d.u d.v ∷ d.rest) z) (sym new_fresh)
-                (follows d.rest d.joined))),
-          );
-          under = (subst (λ (f : Frac). value f ≈ h) (sym (at_is ∙ ap end_of line_is)) d.here, ends);
-          stands = at.stands;
-        },
+        with_point x p e at (Some r) p.last new (let count = left_both.edges in let within = at.within in omega (arith, count, within))
+            (new_seen, followed) (subst (λ (f : Frac). value f ≈ h) (sym (at_is ∙ ap end_of line_is)) d.here, ends),
         tt,
       )
         where
           r_is : r ≡ record { at = d.u; value = d.v }
           r_is = ap (λ (f : Frac). record { at = f; value = r.value }) (at_is ∙ ap end_of line_is)
               ∙ ap (λ (m : Margin). record { at = d.u; value = m }) (value_is ∙ ap margin_of line_is)
+
+          followed : IsFollowed r at.lines (fresh_at new i)
+          followed = subst (λ (z : Reached). IsFollowed z at.lines (fresh_at new i)) (sym r_is)
+              (subst (λ (z : List MarginLine). IsFollowed (record { at = d.u; value = d.v }) z (fresh_at new i)) (sym d.is)
+              (subst (λ (z : List MarginLine). IsFollowed (record { at = d.u; value = d.v }) (L.Point d.u d.v ∷ d.rest) z) (sym new_fresh)
+              (follows d.rest d.joined)))

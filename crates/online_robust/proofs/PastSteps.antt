@@ -37,7 +37,7 @@ use Rattle.online_robust.specs.declared.line.Reached.{Reached}
 use Rattle.online_robust.specs.declared.ever.Ever.{Ever}
 use Rattle.online_robust.specs.declared.window.Window.{Window}
 use Rattle.online_robust.proofs.Builts.{built_first, tick_within}
-use Rattle.online_robust.proofs.PastLemmas.{met, v_is}
+use Rattle.online_robust.proofs.PastLemmas.{met, v_is, with_point}
 use Rattle.online_robust.proofs.Sheddings.{sheds_both, sheds_later}
 use Rattle.online_robust.proofs.TwoLemmas.{there_same}
 use Rattle.online_robust.proofs.Spreads.{input_is_function}
@@ -261,24 +261,7 @@ passing_on x p q to g stays same none before = record {
 
 -- what is kept of what was told changes nothing of it
 pub with_last : (x : Scope) (p : Ever) (e : Held) → IsPastAt x p e → (o : Option Reached) → IsPastAt x (record p { last = o }) e
-with_last x p e at o = record {
-  within = at.within;
-  fit = at.fit;
-  tick = at.tick;
-  begins = at.begins;
-  domain = at.domain;
-  ended = at.ended;
-  near = at.near;
-  still = at.still;
-  low_early = at.low_early;
-  core = at.core;
-  best = at.best;
-  lines = at.lines;
-  to_come = at.to_come;
-  kept = at.kept;
-  under = at.under;
-  stands = at.stands;
-}
+with_last x p e at o = with_point x p e at p.point o e at.within at.kept at.under
 
 -- a step fewer is left
 pub fewer_both : (p : Ever) (x y : Edge) (to : Rational) (n : ℕ) → value p.at <ʳ to → lines_left y ≤ lines_left x → n < lines_left y + 1 → n < past_steps p x to

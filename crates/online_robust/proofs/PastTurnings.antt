@@ -1,5 +1,5 @@
 -- A window without a low end that goes on in a turn, and one that begins in it.
-use Rattle.std.proofs.Common.{◌≡◌, ◌≢◌, ℕ, ◌+◌, ◌<◌, ◌≤◌, ◌^◌, Bool, true, false, []}
+use Rattle.std.proofs.Common.{◌≡◌, ◌≢◌, ℕ, ◌+◌, ◌^◌, Bool, true, false, []}
 use Rattle.std.proofs.Common.{refl, sym, ap, subst, ◌∙◌, arith, Option, Some, None, ℤ, pos, ◌+ℤ◌, ◌<ℤ◌, ◌≤ℤ◌}
 use Rattle.std.specs.Prelude.{neg_ℤ, ◌-ℤ◌, MatchOption, IfSome, IsSomeAnd, int_lt, cond, slice_get}
 use Rattle.std.proofs.lemmas.Int.{ints}

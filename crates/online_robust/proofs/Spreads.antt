@@ -1,5 +1,5 @@
 -- A window whose ends move over its input.
-use Rattle.std.proofs.Common.{◌≡◌, ◌⊎◌, inl, inr, ℕ, ◌+◌, ◌<◌, ◌≤◌, ◌^◌, true, List, []}
+use Rattle.std.proofs.Common.{◌≡◌, ◌⊎◌, inl, inr, ℕ, ◌^◌, true, List, []}
 use Rattle.std.proofs.Common.{◌∷◌, ◌++◌, Option, Some, None, refl, sym, subst}
 use Rattle.rational.specs.Time.{Rational, Within, ◌≈◌, ◌≤ʳ◌, ◌<ʳ◌, shifted}
 use Rattle.rational.specs.Extended.{Extended, minus_infinity, infinity, value_at, ◌≈ᵉ◌}
@@ -21,7 +21,7 @@ use Rattle.stl_syntax.specs.Trace.{start, stop}
 use Rattle.stl_syntax.specs.SupInf.{Robustness}
 use Rattle.online_robust.specs.Queues.{StandsFor}
 use Rattle.online_robust.specs.Told.{AreFit, AreJoined, AreTold, IsMovedBy, IsTick}
-use Rattle.online_robust.specs.Sweeping.{AreBy, AreFrozen, EndsAt, IsBefore, IsFrozen, IsNoKnot, IsOn, IsUpTo, Mark, Runs, last_gap}
+use Rattle.online_robust.specs.Sweeping.{AreFrozen, EndsAt, IsBefore, IsFrozen, IsNoKnot, IsOn, IsUpTo, Mark, Runs, last_gap}
 use Rattle.online_robust.specs.Windows.{IsSpread, IsStanding, IsToCome, Scope, gap_of, input_of, no_gap}
 use Rattle.online_robust.specs.declared.ends.Rim.{Rim}
 use Rattle.online_robust.specs.declared.line.MarginLine.{MarginLine}
@@ -86,40 +86,6 @@ module _ (x : Scope) (w : Window) (begin : Frac) (none : Margin) (low high : Rim
     (s : IsSpread x w begin none low high q seen fresh l h) where
   abbrev pub Q : Function
   Q = input_of x w.side
-
-  -- both ends move on within their gaps
-  pub spread_on : (l' h' : Rational) → l ≤ʳ l' → IsUpTo l' low.until → h ≤ʳ h' → IsUpTo h' high.until
-      → IsSpread x w begin none low high q seen fresh l' h'
-  spread_on l' h' le up le' up' = record {
-    fit = s.fit;
-    tick = s.tick;
-    begins = s.begins;
-    within = s.within;
-    ended = s.ended;
-    none_value = s.none_value;
-    none_moved = s.none_moved;
-    from = s.from;
-    marks = s.marks;
-    constants = s.constants;
-    begun = le_trans s.begun le;
-    runs = s.runs;
-    by = by_later s.marks s.by;
-    ticks = s.ticks;
-    last = s.last;
-    low_later = up;
-    high_later = up';
-    frozen = s.frozen;
-    side = s.side;
-    among = s.among;
-    standing = s.standing;
-    seen_is = s.seen_is;
-    low_stands = s.low_stands;
-    to_come = s.to_come;
-  }
-    where
-      by_later : (ms : List Mark) → AreBy h ms → AreBy h' ms
-      by_later [] b = tt
-      by_later (k ∷ ms) b = (le_trans b.0 le', by_later ms b.1)
 
   -- what comes next behind the high end: the point there, and the gap behind it
   pub record ComesNext : Type 0 where

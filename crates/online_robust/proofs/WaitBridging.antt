@@ -1,6 +1,6 @@
 -- From what an operator needs before it goes on to what a window needs whose input has given out nothing, and back from what it leaves.
-use Rattle.std.proofs.Common.{◌≡◌, ℕ, zero, suc, ◌+◌, ◌<◌, ◌≤◌, List, []}
-use Rattle.std.proofs.Common.{sym, ap, subst, ◌∙◌, arith, Option, Some, None, ℤ, pos, ◌+ℤ◌, ◌<ℤ◌, ◌≤ℤ◌}
+use Rattle.std.proofs.Common.{◌≡◌, ℕ, ◌+◌, List, []}
+use Rattle.std.proofs.Common.{sym, ap, subst, ◌∙◌, arith, Option, Some, None, pos, ◌+ℤ◌, ◌<ℤ◌, ◌≤ℤ◌}
 use Rattle.std.specs.Prelude.{MatchOption, IsSome, slice_get}
 use Rattle.std.proofs.lemmas.Int.{ints}
 use Rattle.rational.specs.Time.{Rational, shifted, whole, ◌≈◌}
@@ -23,8 +23,6 @@ use Rattle.online_robust.specs.declared.window.Sweep.{Sweep}
 use Rattle.online_robust.specs.declared.window.Window.{Window}
 use Rattle.online_robust.proofs.BestWindows.{best_is}
 use Rattle.online_robust.proofs.Bridging.{stood_after, swept_of}
-use Rattle.online_robust.proofs.Looking.{one_swept}
-use Rattle.online_robust.proofs.LowLemmas.{sheds_of}
 use Rattle.online_robust.proofs.Silences.{IsSilent, best_before, can_wait as can_silently, short, silence_reached, silence_told, silent_edges, still_unseen}
 use Rattle.online_robust.proofs.WindowBridging.{far, fit, here, own}
 use Rattle.online_robust.proofs.WindowTurnings.{not_begun, waited}

@@ -1,7 +1,7 @@
 -- From what an operator needs before it goes on to what a window without a low end needs whose input has given out nothing, and
 -- back from what it leaves.
-use Rattle.std.proofs.Common.{◌≡◌, ℕ, zero, suc, ◌+◌, ◌<◌, ◌≤◌, List, []}
-use Rattle.std.proofs.Common.{sym, ap, subst, ◌∙◌, arith, Option, Some, None, ℤ, pos, ◌+ℤ◌, ◌<ℤ◌, ◌≤ℤ◌}
+use Rattle.std.proofs.Common.{◌≡◌, ℕ, ◌+◌, List, []}
+use Rattle.std.proofs.Common.{sym, ap, subst, ◌∙◌, arith, Option, Some, None, pos, ◌+ℤ◌, ◌<ℤ◌, ◌≤ℤ◌}
 use Rattle.std.specs.Prelude.{MatchOption, IsSome, slice_get}
 use Rattle.std.proofs.lemmas.Int.{ints}
 use Rattle.rational.specs.Time.{Rational, shifted, whole, ◌≈◌}
@@ -25,8 +25,6 @@ use Rattle.online_robust.specs.declared.ever.Ever.{Ever}
 use Rattle.online_robust.specs.declared.window.Window.{Window}
 use Rattle.online_robust.proofs.BestPasts.{best_past}
 use Rattle.online_robust.proofs.Bridging.{stood_after, swept_of}
-use Rattle.online_robust.proofs.Looking.{one_swept}
-use Rattle.online_robust.proofs.LowLemmas.{sheds_of}
 use Rattle.online_robust.proofs.Silences.{IsSilent, best_before, can_wait as can_silently, short, silence_reached, silence_told, silent_edges, still_unseen}
 use Rattle.online_robust.proofs.PastBridging.{far, first_tick, fit, here, own, to_tick}
 use Rattle.online_robust.proofs.PastTurnings.{not_begun, waited}

@@ -1,5 +1,5 @@
 -- A window goes on in a later turn, or begins, over what its input has given out by then; and what it leaves of it.
-use Rattle.std.proofs.Common.{◌≡◌, ◌⊎◌, inl, inr, ℕ, zero, suc, ◌+◌, ◌<◌, ◌≤◌, ◌^◌, Bool, true, false}
+use Rattle.std.proofs.Common.{◌≡◌, ◌⊎◌, inl, inr, ℕ, zero, suc, ◌+◌, ◌^◌, Bool, true, false}
 use Rattle.std.proofs.Common.{List, [], ◌∷◌, ◌++◌, drop, slice_get, Option, Some, None, refl}
 use Rattle.std.proofs.Common.{sym, ap, subst, ◌∙◌, arith, ℤ, pos, ◌+ℤ◌, ◌≤ℤ◌, ◌<ℤ◌, neg_ℤ}
 use Rattle.std.specs.Prelude.{◌-ℤ◌, IfSome, IsSome, IsSomeAnd, MatchBool, cond, int_lt}
@@ -237,7 +237,8 @@ module _ (turn : Turn) (g : ℤ) (s : Sweep) (e : Held)
   -- the window stands over what its input has given out by then
   pub again_spread : IsSpread now s.window s.start s.none s.place.low s.place.high s.among seen fresh
       (shifted (value s.place.at) s.window.low) (shifted (value s.place.at) s.window.high)
-  again_spread = spread_told old now fresh st.spread can.within (told_or_ended can) to_come
+  again_spread = spread_told old now fresh st.spread (le_refl (shifted (value s.place.at) s.window.low)) st.spread.low_later
+      (le_refl (shifted (value s.place.at) s.window.high)) st.spread.high_later can.within (told_or_ended can) to_come
 
 -- a stretch up to a time is one up to it by another pair
 pub span_same : (x : Scope) (w : Window) (own : ℕ) (from to end : Rational) → to ≈ end → x.bound ≡ shifted to w.high → IsSpan x w own from to
@@ -431,9 +432,9 @@ cut_window x to s e' e came at inputs early shed = cut_at to s.window.low inputs
             by_marks : (ms : List Mark) → Runs (input_of x s.window.side) x.reach came.at.spread.from s.place.low ms
                 → AreSeen s.place.low ms (edge_at e s.window.of).seen → s.place.high ≡ last_gap s.place.low ms
                 → IfSome (slice_get (held_at e s.window.of) 0) (λ l. whole (to +ℤ s.window.low) <ʳ value (end_of l))
-            by_marks (k ∷ ms) runs seen last = absurd (subst (λ (g : Rim). EndsAt g.until (value k.at)) is runs.1)
-            by_marks [] runs seen last =
-                let seen_nil = no_front s.place.low (edge_at e s.window.of).seen [] (ap (λ (g : Rim). g.stands) is) seen in
+            by_marks (k ∷ ms) runs read last = absurd (subst (λ (g : Rim). EndsAt g.until (value k.at)) is runs.1)
+            by_marks [] runs read last =
+                let seen_nil = no_front s.place.low (edge_at e s.window.of).seen [] (ap (λ (g : Rim). g.stands) is) read in
                 let none : s.place.high.until ≡ None = ap (λ (g : Rim). g.until) (last ∙ is) in
                 let fresh_nil = (subst (λ (o : Option Frac). IsToCome (at_time x (value s.place.at) (value s.place.at)) o (fresh_at e s.window.of)) none
                 came.at.spread.to_come).0 in

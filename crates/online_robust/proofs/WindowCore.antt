@@ -1,14 +1,13 @@
 -- A window over its input at a time, and how what counts goes on to the next stop.
 use Rattle.std.proofs.Common.{◌≡◌, ◌⊎◌, inl, inr, ℕ, pos, neg_ℤ, ◌+◌, ◌^◌, ◌≤ℤ◌, Bool, true}
-use Rattle.std.proofs.Common.{false, List, [], ◌∷◌, Option, Some, None, refl, sym, subst, ◌∙◌}
+use Rattle.std.proofs.Common.{false, List, Option, Some, None, refl, sym, subst, ◌∙◌}
 use Rattle.std.specs.Prelude.{IsSomeAnd}
-use Rattle.rational.specs.Time.{Rational, ◌≈◌, ◌≤ʳ◌, ◌<ʳ◌, shifted}
+use Rattle.rational.specs.Time.{Rational, ◌≤ʳ◌, ◌<ʳ◌, shifted}
 use Rattle.rational.specs.Extended.{Extended, finite, infinity, minus_infinity, value_at, ◌≈ᵉ◌}
 use Rattle.rational.specs.Affine.{IsBounded}
 use Rattle.rational.proofs.AffineLemmas.{bounded_same}
 use Rattle.rational.proofs.Order.{le_of_lt, le_refl, le_trans, lt_of_le_of_lt}
 use Rattle.rational.proofs.Sames.{symᵉ, transᵉ}
-use Rattle.frac128.specs.Value.{value}
 use Rattle.value_laws.specs.Kinds.{margin_shape}
 use Rattle.value_laws.specs.Margins.{is_ramp, margin_function}
 use Rattle.value_laws.specs.declared.margin.Margin.{Margin}
@@ -18,7 +17,7 @@ use Rattle.envelope.specs.Turns.{none_of}
 use Rattle.stl_syntax.specs.SupInf.{Robustness}
 use Rattle.stl_syntax.specs.Trace.{start, stop}
 use Rattle.window_ops.proofs.Ends.{le_shifted, lt_shifted, lt_shifted_back}
-use Rattle.online_robust.specs.Sweeping.{AreBy, EndsAt, IsBefore, IsOn, IsUpTo, Mark}
+use Rattle.online_robust.specs.Sweeping.{EndsAt, IsBefore, IsOn, IsUpTo}
 use Rattle.online_robust.specs.Told.{IsMovedBy}
 use Rattle.online_robust.specs.Windows.{InPlayOver, IsCore, IsInPlayOver, IsOutcome, IsOwned, IsPointOf, IsShifted, IsStep, IsTopOf, Scope, best_of, input_of}
 use Rattle.online_robust.specs.declared.ends.Rim.{Rim}
@@ -27,6 +26,7 @@ use Rattle.online_robust.proofs.Outcomes.{IsIn, best_between}
 use Rattle.online_robust.proofs.WindowLaw.{before_of, before_of_end, last_on_of, runs_on, up_to_of}
 use Rattle.online_robust.proofs.WindowCauses.{constant_in_play, high_in_play, low_in_play, none_apart}
 use Rattle.online_robust.proofs.WindowBounds.{frozen_bounded, frozen_still, moved_more, none_bounded, shifted_bounded, shifted_moved, still_moved}
+use Rattle.online_robust.proofs.WindowFirst.{by_later, told_as}
 use Rattle.online_robust.proofs.WindowPoints.{before_apart, in_order}
 use Rattle.online_robust.proofs.WindowTurns.{IsSeen, outcome_is, seen_of, top_is}
 
@@ -34,34 +34,31 @@ some_and : (P : Margin → Type 0) (o : Option Margin) → IsSomeAnd o P → (m 
 some_and P None h = absurd h
 some_and P (Some m) h = (m, refl, h)
 
-module _ (x : Scope) (w : Window) (none : Margin) (low high : Rim) (l h : Rational) (s : IsCore x w none low high l h) where
-  -- both ends move on within their gaps, and the constants stay
-  pub core_on : (l' h' : Rational) → l ≤ʳ l' → IsUpTo l' low.until → h ≤ʳ h' → IsUpTo h' high.until → (B : List Margin → Type 0) → B s.constants
-      → (d : IsCore x w none low high l' h') × B d.constants
-  core_on l' h' le up le' up' B b = (
-    record {
-      order = s.order;
-      still = s.still;
-      none_value = s.none_value;
-      none_moved = s.none_moved;
-      from = s.from;
-      marks = s.marks;
-      constants = s.constants;
-      begun = le_trans s.begun le;
-      runs = s.runs;
-      by = by_later s.marks s.by;
-      last = s.last;
-      low_later = up;
-      high_later = up';
-      frozen = s.frozen;
-    },
-    b,
-  )
-    where
-      by_later : (ms : List Mark) → AreBy h ms → AreBy h' ms
-      by_later [] b = tt
-      by_later (k ∷ ms) b = (le_trans b.0 le', by_later ms b.1)
+-- over an input that is told further both ends move on within their gaps, and the constants stay
+pub core_told : (x y : Scope) {w : Window} {none : Margin} {low high : Rim} {l h l' h' : Rational} (s : IsCore x w none low high l h) → l ≤ʳ l'
+    → IsUpTo l' low.until → h ≤ʳ h' → IsUpTo h' high.until → (B : List Margin → Type 0) → B s.constants
+    → (d : IsCore (told_as x y) w none low high l' h') × B d.constants
+core_told x y s le up le' up' B b = (
+  record {
+    order = s.order;
+    still = s.still;
+    none_value = s.none_value;
+    none_moved = s.none_moved;
+    from = s.from;
+    marks = s.marks;
+    constants = s.constants;
+    begun = le_trans s.begun le;
+    runs = s.runs;
+    by = by_later s.marks le' s.by;
+    last = s.last;
+    low_later = up;
+    high_later = up';
+    frozen = s.frozen;
+  },
+  b,
+)
 
+module _ (x : Scope) (w : Window) (none : Margin) (low high : Rim) (l h : Rational) (s : IsCore x w none low high l h) where
   low_on : IsOn (input_of x w.side) x.reach s.from low
   low_on = runs_on (input_of x w.side) x.reach s.from low s.marks s.runs
 
@@ -97,14 +94,11 @@ module _ (x : Scope) (w : Window) (none : Margin) (low high : Rim) (a : Rational
 
   -- both ends at the stop, or the low one alone, with the same constants
   pub core_both : (B : List Margin → Type 0) → B s.constants → (d : IsCore x w none low high (shifted t w.low) (shifted t w.high)) × B d.constants
-  core_both B b = core_on x w none low high (shifted a w.low) (shifted a w.high) s (shifted t w.low) (shifted t w.high)
-      (le_shifted w.low (le_of_lt later)) g.low
-      (le_shifted w.high (le_of_lt later)) g.high B b
+  core_both B b = core_told x x s (le_shifted w.low (le_of_lt later)) g.low (le_shifted w.high (le_of_lt later)) g.high B b
 
   -- at the stop the window still has its parts
   pub core_low : (B : List Margin → Type 0) → B s.constants → (d : IsCore x w none low high (shifted t w.low) (shifted a w.high)) × B d.constants
-  core_low B b = core_on x w none low high (shifted a w.low) (shifted a w.high) s (shifted t w.low) (shifted a w.high) (le_shifted w.low (le_of_lt later)) g.low
-      (le_refl (shifted a w.high)) s.high_later B b
+  core_low B b = core_told x x s (le_shifted w.low (le_of_lt later)) g.low (le_refl (shifted a w.high)) s.high_later B b
 
   -- the low gap's margin, moved by the low offset
   low_fit : (low : Rim) → (w.low ≡ neg_ℤ (pos 4294967296) → is_ramp low.shape ≡ false) → (p : Margin)

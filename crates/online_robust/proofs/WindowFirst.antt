@@ -1,6 +1,6 @@
 -- What a turn of a window needs to be so, where a window stands before it has begun, and what stays as its input is told further.
 use Rattle.std.proofs.Common.{◌≡◌, ◌⊎◌, inl, inr, ℕ, ℤ, pos, ◌<◌, ◌^◌, ◌≤ℤ◌, ◌<ℤ◌, false}
-use Rattle.std.proofs.Common.{List, [], ◌++◌, length, Option, Some, None, refl, sym, ap, subst, ◌∙◌}
+use Rattle.std.proofs.Common.{List, [], ◌∷◌, ◌++◌, length, Option, Some, None, refl, sym, ap, subst, ◌∙◌}
 use Rattle.rational.specs.Time.{Rational, ◌≈◌, ◌≤ʳ◌, ◌<ʳ◌, shifted, whole}
 use Rattle.rational.specs.Extended.{minus_infinity, infinity, value_at, ◌≈ᵉ◌}
 use Rattle.rational.proofs.AffineLemmas.{bounded_same}
@@ -17,7 +17,7 @@ use Rattle.stl_syntax.specs.Trace.{Trace, first_time, start, stop}
 use Rattle.online_robust.specs.Held.{Held, edge_at, fresh_at, held_at}
 use Rattle.online_robust.specs.Queues.{StandsFor}
 use Rattle.online_robust.specs.Steps.{AreInputs}
-use Rattle.online_robust.specs.Sweeping.{IsOn}
+use Rattle.online_robust.specs.Sweeping.{AreBy, IsOn, IsUpTo, Mark}
 use Rattle.online_robust.specs.Told.{AreFit, AreTold, IsTick}
 use Rattle.online_robust.specs.Waiting.{IsBegun}
 use Rattle.online_robust.specs.Windows.{IsFitWindow, IsOwned, IsSpan, IsSpread, IsToCome, Scope, before_start, input_of, scope_at}
@@ -192,12 +192,17 @@ first_spread turn s e k can nil fit tick up =
 abbrev pub told_as : Scope → Scope → Scope
 told_as x y = record { formula = x.formula; trace = x.trace; reach = x.reach; front = y.front; bound = y.bound; at = y.at; behind = y.behind }
 
--- the window stands over an input that is told further
+-- marks that lie by a time lie by a later one
+pub by_later : {h h' : Rational} (marks : List Mark) → h ≤ʳ h' → AreBy h marks → AreBy h' marks
+by_later [] le by = tt
+by_later (k ∷ marks) le by = (le_trans by.0 le, by_later marks le by.1)
+
+-- the window stands over an input that is told further, and its ends may have moved on within their gaps
 pub spread_told : (x y : Scope) {w : Window} {begin : Frac} {none : Margin} {low high : Rim} {q : Queue Margin} {seen fresh : List MarginLine}
-    {l h : Rational} (more : List MarginLine) → IsSpread x w begin none low high q seen fresh l h → (start x.trace ≤ʳ y.front) × (y.front ≤ʳ stop x.trace)
-    → (y.bound ≤ʳ y.front) ⊎ (y.front ≈ stop x.trace) → IsToCome (told_as x y) high.until more
-    → IsSpread (told_as x y) w begin none low high q seen more l h
-spread_told x y more s within ended to_come = record {
+    {l h l' h' : Rational} (more : List MarginLine) → IsSpread x w begin none low high q seen fresh l h → l ≤ʳ l' → IsUpTo l' low.until → h ≤ʳ h'
+    → IsUpTo h' high.until → (start x.trace ≤ʳ y.front) × (y.front ≤ʳ stop x.trace) → (y.bound ≤ʳ y.front) ⊎ (y.front ≈ stop x.trace)
+    → IsToCome (told_as x y) high.until more → IsSpread (told_as x y) w begin none low high q seen more l' h'
+spread_told x y more s le up le' up' within ended to_come = record {
   fit = s.fit;
   tick = s.tick;
   begins = s.begins;
@@ -208,13 +213,13 @@ spread_told x y more s within ended to_come = record {
   from = s.from;
   marks = s.marks;
   constants = s.constants;
-  begun = s.begun;
+  begun = le_trans s.begun le;
   runs = s.runs;
-  by = s.by;
+  by = by_later s.marks le' s.by;
   ticks = s.ticks;
   last = s.last;
-  low_later = s.low_later;
-  high_later = s.high_later;
+  low_later = up;
+  high_later = up';
   frozen = s.frozen;
   side = s.side;
   among = s.among;

@@ -1,5 +1,5 @@
 -- The offsets of a window are small.
-use Rattle.std.proofs.Common.{ℕ, pos, ◌≤◌, ◌^◌, w64, arith}
+use Rattle.std.proofs.Common.{ℕ, pos, ◌^◌, w64, arith}
 use Rattle.std.specs.Prelude.{neg_ℤ, ◌≤ℤ◌}
 use Rattle.std.proofs.lemmas.Int.{ints}
 use Rattle.rational.specs.Rational.{FitsFloor, add, whole}

@@ -18,22 +18,21 @@ use Rattle.envelope.specs.Best.{Has, IsBestAt}
 use Rattle.envelope.specs.declared.best.Best.{Best}
 use Rattle.stl_syntax.specs.Trace.{start}
 use Rattle.window_ops.proofs.Ends.{le_shifted}
-use Rattle.online_robust.specs.Held.{Held, edge_at, fresh_at}
+use Rattle.online_robust.specs.Held.{Held, fresh_at}
 use Rattle.online_robust.specs.Queues.{StandsFor}
 use Rattle.online_robust.specs.Sweeping.{AreBy, AreTicks, EndsAt, IsBefore, IsUpTo, Mark, Runs, last_gap}
 use Rattle.online_robust.specs.Told.{AreFit, IsMovedBy, IsTick}
 use Rattle.online_robust.specs.Windows.{Goes, IsAt, IsCore, IsGoing, IsInPlayOver, IsNextStop, IsOpen}
-use Rattle.online_robust.specs.Windows.{IsOutcome, IsOwned, IsPointOf, IsShifted, IsSpread, IsStep, IsTickEnd}
+use Rattle.online_robust.specs.Windows.{IsOutcome, IsOwned, IsPointOf, IsShifted, IsStep, IsTickEnd}
 use Rattle.online_robust.specs.Windows.{IsToCome, IsTopOf, Keeps, Scope, at_time, best_of, high_at, input_of, low_at}
 use Rattle.online_robust.specs.declared.ends.Rim.{Rim}
 use Rattle.online_robust.specs.declared.line.MarginLine.{MarginLine}
 use Rattle.online_robust.specs.declared.line.MarginLine.TheVariants as L
-use Rattle.online_robust.specs.declared.queue.Queue.{Queue}
 use Rattle.online_robust.specs.declared.window.Sweep.{Sweep}
 use Rattle.online_robust.specs.declared.window.Window.{Window}
 use Rattle.online_robust.proofs.WindowCore.{between as core_between, each as core_each, later as core_later}
 use Rattle.online_robust.proofs.WindowCore.{plays as core_plays, there as core_there, there_fit as core_there_fit}
-use Rattle.online_robust.proofs.Spreads.{last_from, spread_on}
+use Rattle.online_robust.proofs.Spreads.{last_from}
 use Rattle.online_robust.proofs.WindowFirst.{spread_told}
 use Rattle.online_robust.proofs.WindowLaw.{runs_on}
 
@@ -46,21 +45,14 @@ come_same : (x : Scope) (at behind : Rational) (o : Option Frac) (fresh : List M
 come_same x at behind None fresh h = h
 come_same x at behind (Some u) fresh h = h
 
--- a window stands alike at another way to write its time
-pub spread_same : (x : Scope) (at behind : Rational) {w : Window} {begin : Frac} {none : Margin} {low high : Rim} {q : Queue Margin}
-    {seen fresh : List MarginLine} {l h : Rational} → IsSpread x w begin none low high q seen fresh l h
-    → IsSpread (at_time x at behind) w begin none low high q seen fresh l h
-spread_same x at behind {high} {fresh} s = spread_told x (at_time x at behind) fresh s s.within s.ended (come_same x at behind high.until fresh s.to_come)
-
 -- within its gaps the window stands at each later time
 pub at_moved : (x : Scope) (s : Sweep) (e : Held) → IsAt x s e → (at behind : Rational) → low_at x s.window ≤ʳ shifted at s.window.low
     → IsUpTo (shifted at s.window.low) s.place.low.until → high_at x s.window ≤ʳ shifted behind s.window.high
     → IsUpTo (shifted behind s.window.high) s.place.high.until → IsAt (at_time x at behind) s e
 at_moved x s e a at behind low_later low_up high_later high_up = record {
   within = a.within;
-  spread = spread_same x at behind
-      (spread_on x s.window s.start s.none s.place.low s.place.high s.among (edge_at e s.window.of).seen (fresh_at e s.window.of) (low_at x s.window)
-      (high_at x s.window) a.spread (shifted at s.window.low) (shifted behind s.window.high) low_later low_up high_later high_up);
+  spread = spread_told x (at_time x at behind) (fresh_at e s.window.of) a.spread low_later low_up high_later high_up a.spread.within a.spread.ended
+      (come_same x at behind s.place.high.until (fresh_at e s.window.of) a.spread.to_come);
 }
 
 tick_alike : {t u : Rational} → t ≈ u → IsTick u → IsTick t

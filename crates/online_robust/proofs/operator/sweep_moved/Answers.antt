@@ -9,7 +9,6 @@ use Rattle.pl_signal.proofs.Values.{some_is}
 use Rattle.stl_syntax.specs.Trace.{start}
 use Rattle.stl_syntax.specs.Limits.{own_reach}
 use Rattle.online_robust.specs.Steps.{begin_of, from_of}
-use Rattle.online_robust.specs.declared.operator.Operator.TheVariants as Op
 use Rattle.online_robust.proofs.GlanceBridging.{can_glance, glance, glance_edges, glance_stands, glance_told}
 use Rattle.online_robust.proofs.operator.sweep_moved.Goals as goal
 

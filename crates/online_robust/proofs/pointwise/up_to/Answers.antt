@@ -1,4 +1,4 @@
-use Rattle.std.proofs.Common.{◌≡◌, Some, sym, subst, ◌∙◌, arith, slice_get}
+use Rattle.std.proofs.Common.{◌≡◌, Some, sym, subst, arith, slice_get}
 use Rattle.rational.specs.Time.{◌≈◌, ◌<ʳ◌, ◌≤ʳ◌}
 use Rattle.rational.proofs.Order.{lt_irrefl, lt_of_lt_of_le, le_of_same}
 use Rattle.frac128.specs.Value.{value}

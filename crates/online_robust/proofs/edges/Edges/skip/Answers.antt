@@ -1,12 +1,6 @@
 use Rattle.std.proofs.Common.{sym, ap, ◌∙◌, arith}
 use Rattle.online_robust.specs.Held.{edges_of}
-use Rattle.online_robust.proofs.EdgesLemmas.{
-  numbered,
-  edge_at-edges_of,
-  take_seen_changes,
-  take_fresh_changes,
-  empty_of_none,
-}
+use Rattle.online_robust.proofs.EdgesLemmas.{numbered, take_seen_changes, take_fresh_changes, empty_of_none}
 use Rattle.online_robust.proofs.edges.Edges.skip.Goals as goal
 
 pub overflow_mul-edge : goal.overflow_mul-edge

@@ -1,4 +1,4 @@
-use Rattle.std.proofs.Common.{◌<◌, refl, subst}
+use Rattle.std.proofs.Common.{refl, subst}
 use Rattle.rational.specs.Time.{Rational, shifted, ◌<ʳ◌}
 use Rattle.rational.proofs.Order.{lt_of_lt_of_le}
 use Rattle.frac128.specs.Value.{value}
