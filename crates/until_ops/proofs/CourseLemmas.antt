@@ -1,23 +1,28 @@
 -- What a since is on a gap: the ways in which it is the least or the greatest of two shapes.
-use Rattle.std.proofs.Common.{◌≡◌, ◌⊎◌, ◌∙◌, inl, inr, refl, subst, sym}
+use Rattle.std.proofs.Common.{◌≡◌, ◌⊎◌, ◌∙◌, inl, inr, refl, subst, sym, Bool, true, false, is_eq}
+use Rattle.std.proofs.lemmas.Bool.{false≢true}
+use Rattle.std.specs.Prelude.{MatchBool}
+use Rattle.std.specs.Ordering.{MatchOrdering}
 use Rattle.std.specs.declared.cmp.Ordering.{Ordering}
 use Rattle.std.specs.declared.cmp.Ordering.TheVariants.{Less, Equal, Greater}
 use Rattle.rational.specs.Rational.{Rational, ◌<ʳ◌, ◌≤ʳ◌}
 use Rattle.rational.specs.Extended.{Extended, ◌≤ᵉ◌, ◌≈ᵉ◌, IsLeast, IsGreatest, Affine, value_at}
-use Rattle.rational.specs.Affine.{IsOrderᵉ, IsTrend}
-use Rattle.rational.proofs.Order.{le_or_lt, same_of_le}
+use Rattle.rational.specs.Affine.{IsOrderᵉ, IsTrend, MeetAlone}
+use Rattle.rational.proofs.Order.{le_of_lt, le_or_lt, same_of_le}
 use Rattle.rational.proofs.ExtendedLemmas.{le_reflᵉ, le_transᵉ}
 use Rattle.rational.proofs.AffineLemmas.{value_same, lies_between}
-use Rattle.rational.proofs.ExtendedLemmas.{greatest_of}
+use Rattle.rational.proofs.ExtendedLemmas.{greatest_of, clashᵉ, least_of, le_totalᵉ}
 use Rattle.frac128.specs.Value.{value}
 use Rattle.value_laws.specs.Members.{ShapeOf}
 use Rattle.pl_signal.specs.declared.joining.Side.{Side}
 use Rattle.pl_signal.specs.declared.joining.Side.TheVariants.{Least, Greatest}
-use Rattle.pl_signal.specs.Joining.{IsChosen}
+use Rattle.pl_signal.specs.Joining.{IsChosen, TurnsOver}
+use Rattle.frac128.specs.declared.frac.Frac.{Frac}
+use Rattle.until_ops.specs.declared.course.Meet.{Meet}
 use Rattle.until_ops.specs.declared.course.Course.{Course}
 use Rattle.until_ops.specs.declared.course.Gap.{Gap}
-use Rattle.until_ops.specs.Courses.{IsCourse, IsPlayed}
-use Rattle.rational.specs.Onward.{Climbs, Sinks, IsBelow, IsOnward}
+use Rattle.until_ops.specs.Courses.{IsCourse, IsLow, IsMeet, IsOfGap, IsPlayed, IsPointOf, IsReached, IsStart, change_places, goes_under}
+use Rattle.rational.specs.Onward.{Climbs, Sinks, InOrder, IsBelow, IsOnward}
 use Rattle.rational.proofs.AffineMeetings.{between}
 use Rattle.rational.proofs.ExtendedLemmas.{le_of_ltᵉ}
 
@@ -26,6 +31,18 @@ pub not_above : (o : Ordering) (v w : Extended) → IsOrderᵉ o v w → ¬ (o �
 not_above Less v w h n = le_of_ltᵉ v w h
 not_above Equal v w h n = h.at_most
 not_above Greater v w h n = absurd (n refl)
+
+-- what is not below is at least
+pub not_below : (o : Ordering) (v w : Extended) → IsOrderᵉ o v w → ¬ (o ≡ Less) → w ≤ᵉ v
+not_below Less v w h n = absurd (n refl)
+not_below Equal v w h n = h.at_least
+not_below Greater v w h n = le_of_ltᵉ w v h
+
+-- what is said to be equal is
+pub equal_of : (o : Ordering) → is_eq o ≡ true → o ≡ Equal
+equal_of Less e = absurd (false≢true e)
+equal_of Equal e = refl
+equal_of Greater e = absurd (false≢true e)
 
 -- what does not rise sinks
 pub sinks_of : (o : Ordering) (f : Affine) → IsTrend o f → ¬ (o ≡ Greater) → Sinks f
@@ -168,3 +185,180 @@ only_course {P} shape gap course x s f e played goes = record {
       (subst (λ y. IsChosen course.side (value_at (shape.function x) t) (value_at (shape.function y) t) v) e
       (subst (λ y. IsChosen course.side (value_at (shape.function y) t) (value_at (shape.function course.second) t) v) f chosen)));
 }
+
+module _ (f h : Affine) (l r : Rational) where
+  -- two that change places turn over
+  pub turned : (s e : Ordering) → IsOrderᵉ s (value_at f l) (value_at h l) → IsOrderᵉ e (value_at f r) (value_at h r) → change_places s e ≡ true
+      → TurnsOver f h l r
+  turned Less Less a b c = absurd (false≢true c)
+  turned Less Equal a b c = absurd (false≢true c)
+  turned Less Greater a b c = inl (a, b)
+  turned Equal e a b c = absurd (false≢true c)
+  turned Greater Less a b c = inr (a, b)
+  turned Greater Equal a b c = absurd (false≢true c)
+  turned Greater Greater a b c = absurd (false≢true c)
+
+  -- and two that do not are in one order
+  pub unturned : (s e : Ordering) → IsOrderᵉ s (value_at f l) (value_at h l) → IsOrderᵉ e (value_at f r) (value_at h r) → change_places s e ≡ false
+      → InOrder f h l r
+  unturned Less Less a b c = inl (record { left = le_of_ltᵉ (value_at f l) (value_at h l) a; right = le_of_ltᵉ (value_at f r) (value_at h r) b })
+  unturned Less Equal a b c = inl (record { left = le_of_ltᵉ (value_at f l) (value_at h l) a; right = b.at_most })
+  unturned Less Greater a b c = absurd (false≢true (sym c))
+  unturned Equal Less a b c = inl (record { left = a.at_most; right = le_of_ltᵉ (value_at f r) (value_at h r) b })
+  unturned Equal Equal a b c = inl (record { left = a.at_most; right = b.at_most })
+  unturned Equal Greater a b c = inr (record { left = a.at_least; right = le_of_ltᵉ (value_at h r) (value_at f r) b })
+  unturned Greater Less a b c = absurd (false≢true (sym c))
+  unturned Greater Equal a b c = inr (record { left = le_of_ltᵉ (value_at h l) (value_at f l) a; right = b.at_least })
+  unturned Greater Greater a b c = inr (record { left = le_of_ltᵉ (value_at h l) (value_at f l) a; right = le_of_ltᵉ (value_at h r) (value_at f r) b })
+
+  -- up to where they meet they are in one order
+  pub order_to_meeting : value_at f r ≈ᵉ value_at h r → InOrder f h l r
+  order_to_meeting meet = elim (le_totalᵉ (value_at f l) (value_at h l)) [
+    | inl k ↦ inl (record { left = k; right = meet.at_most })
+    | inr k ↦ inr (record { left = le_of_ltᵉ (value_at h l) (value_at f l) k; right = meet.at_least })
+  ]
+
+-- a meeting is the next time at which the two come out of order
+pub meets : (f h : Affine) (from next : Frac) (turn : Meet) → turn.met ≡ true → MeetAlone f h (value from) (value next) (value turn.time)
+    → IsMeet f h from next turn
+meets f h from next turn e m = record {
+  after = m.after;
+  not_later = le_of_lt m.before;
+  in_order = order_to_meeting f h (value from) (value turn.time) m.meet;
+  kind = subst (λ b. MatchBool b (MeetAlone f h (value from) (value next) (value turn.time)) (turn.time ≡ next)) (sym e) m;
+}
+
+-- the value at the end of a stretch on which two keep their order: they meet there, or their order there is e
+abbrev EndsBy : Affine → Affine → Rational → Ordering → Type 0
+EndsBy f h t e = (value_at f t ≈ᵉ value_at h t) ⊎ IsOrderᵉ e (value_at f t) (value_at h t)
+
+ends_by : (f h : Affine) (from next : Frac) (turn : Meet) (e : Ordering) → (met : Bool)
+    → MatchBool met (MeetAlone f h (value from) (value next) (value turn.time)) (turn.time ≡ next)
+    → IsOrderᵉ e (value_at f (value next)) (value_at h (value next)) → EndsBy f h (value turn.time) e
+ends_by f h from next turn e true m k = inl m.meet
+ends_by f h from next turn e false m k = inr (subst (λ t. IsOrderᵉ e (value_at f (value t)) (value_at h (value t))) (sym m) k)
+
+-- which of two is below the other up to a meeting, or up to the end, by their orders at both ends
+pub goes_below : (f h : Affine) (from next : Frac) (turn : Meet) (s e : Ordering) → IsMeet f h from next turn
+    → IsOrderᵉ s (value_at f (value from)) (value_at h (value from)) → IsOrderᵉ e (value_at f (value next)) (value_at h (value next))
+    → MatchBool (goes_under s e) (IsBelow f h (value from) (value turn.time)) (IsBelow h f (value from) (value turn.time))
+goes_below f h from next turn s e is a k = by_order s e a (ends_by f h from next turn e turn.met is.kind k) is.in_order
+  where
+    by_order : (s e : Ordering) → IsOrderᵉ s (value_at f (value from)) (value_at h (value from)) → EndsBy f h (value turn.time) e
+        → InOrder f h (value from) (value turn.time)
+        → MatchBool (goes_under s e) (IsBelow f h (value from) (value turn.time)) (IsBelow h f (value from) (value turn.time))
+    by_order Less e a b (inl o) = o
+    by_order Less e a b (inr o) = clashᵉ (value_at f (value from)) (value_at h (value from)) a o.left
+    by_order Equal Less a (inl m) o = record { left = a.at_most; right = m.at_most }
+    by_order Equal Less a (inr m) o = record { left = a.at_most; right = le_of_ltᵉ (value_at f (value turn.time)) (value_at h (value turn.time)) m }
+    by_order Equal Equal a (inl m) o = record { left = a.at_most; right = m.at_most }
+    by_order Equal Equal a (inr m) o = record { left = a.at_most; right = m.at_most }
+    by_order Equal Greater a (inl m) o = record { left = a.at_least; right = m.at_least }
+    by_order Equal Greater a (inr m) o = record { left = a.at_least; right = le_of_ltᵉ (value_at h (value turn.time)) (value_at f (value turn.time)) m }
+    by_order Greater e a b (inl o) = clashᵉ (value_at h (value from)) (value_at f (value from)) a o.left
+    by_order Greater e a b (inr o) = o
+
+-- the left side, where it is reached as the gap begins, is not above the top
+pub reached_top : (o s : Ordering) (b l r low top : Extended) → IsOrderᵉ o b l → IsOrderᵉ s l r → IsReached o s → IsLeast b l low → IsGreatest low r top
+    → l ≤ᵉ top
+reached_top o s b l r low top h k (inl n) x y =
+    le_transᵉ l low top (elim x.one_of [ inl m ↦ le_transᵉ l b low (not_below o b l h n) m | inr m ↦ m ]) y.left
+reached_top o s b l r low top h k (inr e) x y = le_transᵉ l r top (subst (λ s. IsOrderᵉ s l r) e k).at_most y.right
+
+module _ {P : Type 0} (shape : ShapeOf P) where
+  -- the lower of two by their order is the least of them
+  pub lower_is_least : (t : Rational) (o : Ordering) (p q r : P) → IsOrderᵉ o (value_at (shape.function p) t) (value_at (shape.function q) t)
+      → MatchOrdering o (r ≡ p) (r ≡ q) (r ≡ q)
+      → IsLeast (value_at (shape.function p) t) (value_at (shape.function q) t) (value_at (shape.function r) t)
+  lower_is_least t o p q r h e = by_order o h e
+    where
+      v : P → Extended
+      v x = value_at (shape.function x) t
+
+      by_order : (o : Ordering) → IsOrderᵉ o (v p) (v q) → MatchOrdering o (r ≡ p) (r ≡ q) (r ≡ q) → IsLeast (v p) (v q) (v r)
+      by_order Less h e = subst (λ r. IsLeast (v p) (v q) (v r)) (sym e)
+          (record { left = le_reflᵉ (v p); right = le_of_ltᵉ (v p) (v q) h; one_of = inl (le_reflᵉ (v p)) })
+      by_order Equal h e = subst (λ r. IsLeast (v p) (v q) (v r)) (sym e) (record { left = h.at_least; right = le_reflᵉ (v q); one_of = inr (le_reflᵉ (v q)) })
+      by_order Greater h e = subst (λ r. IsLeast (v p) (v q) (v r)) (sym e)
+          (record { left = le_of_ltᵉ (v q) (v p) h; right = le_reflᵉ (v q); one_of = inr (le_reflᵉ (v q)) })
+
+  -- and the higher of two is the greatest
+  pub higher_is_greatest : (t : Rational) (o : Ordering) (p q r : P) → IsOrderᵉ o (value_at (shape.function p) t) (value_at (shape.function q) t)
+      → MatchOrdering o (r ≡ q) (r ≡ p) (r ≡ p)
+      → IsGreatest (value_at (shape.function p) t) (value_at (shape.function q) t) (value_at (shape.function r) t)
+  higher_is_greatest t o p q r h e = by_order o h e
+    where
+      v : P → Extended
+      v x = value_at (shape.function x) t
+
+      by_order : (o : Ordering) → IsOrderᵉ o (v p) (v q) → MatchOrdering o (r ≡ q) (r ≡ p) (r ≡ p) → IsGreatest (v p) (v q) (v r)
+      by_order Less h e = subst (λ r. IsGreatest (v p) (v q) (v r)) (sym e)
+          (record { left = le_of_ltᵉ (v p) (v q) h; right = le_reflᵉ (v q); one_of = inr (le_reflᵉ (v q)) })
+      by_order Equal h e = subst (λ r. IsGreatest (v p) (v q) (v r)) (sym e) (record { left = le_reflᵉ (v p); right = h.at_least; one_of = inl (le_reflᵉ (v p)) })
+      by_order Greater h e = subst (λ r. IsGreatest (v p) (v q) (v r)) (sym e)
+          (record { left = le_reflᵉ (v p); right = le_of_ltᵉ (v q) (v p) h; one_of = inl (le_reflᵉ (v p)) })
+
+  -- what the since is no higher than as the gap begins
+  pub begins_low : (gap : Gap P) (o : Ordering) (low : P)
+      → IsOrderᵉ o (value_at (shape.function gap.before) (value gap.from)) (value_at (shape.function gap.left) (value gap.from))
+      → MatchOrdering o (low ≡ gap.before) (low ≡ gap.left) (low ≡ gap.left) → IsLow shape gap low
+  begins_low gap o low h e = record { low_of = by_order o e; is_low = lower_is_least (value gap.from) o gap.before gap.left low h e }
+    where
+      by_order : (o : Ordering) → MatchOrdering o (low ≡ gap.before) (low ≡ gap.left) (low ≡ gap.left) → IsOfGap shape gap low
+      by_order Less e = inl e
+      by_order Equal e = inr (inl e)
+      by_order Greater e = inr (inl e)
+
+  -- and what it begins with
+  pub begins_top : (gap : Gap P) (o : Ordering) (low top : P) → IsLow shape gap low
+      → IsOrderᵉ o (value_at (shape.function low) (value gap.from)) (value_at (shape.function gap.right) (value gap.from))
+      → MatchOrdering o (top ≡ gap.right) (top ≡ low) (top ≡ low) → IsStart shape gap low top
+  begins_top gap o low top is h e = record {
+    low_of = is.low_of;
+    top_of = by_order o e;
+    is_low = is.is_low;
+    is_top = higher_is_greatest (value gap.from) o low gap.right top h e;
+  }
+    where
+      by_order : (o : Ordering) → MatchOrdering o (top ≡ gap.right) (top ≡ low) (top ≡ low) → IsOfGap shape gap top
+      by_order Less e = inr (inr e)
+      by_order Equal e = subst (IsOfGap shape gap) (sym e) is.low_of
+      by_order Greater e = subst (IsOfGap shape gap) (sym e) is.low_of
+
+-- a value chosen of one value alone that is at most another is the least of both
+pub level_under : (w x v : Extended) → x ≤ᵉ w → IsChosen Least x x v → IsChosen Least w x v
+level_under w x v under c = record {
+  left = le_transᵉ v x w c.left under;
+  right = c.left;
+  one_of = inr (elim c.one_of [ inl k ↦ k | inr k ↦ k ]);
+}
+
+-- and one that is at least another is the greatest
+pub level_over : (x w v : Extended) → w ≤ᵉ x → IsChosen Least x x v → IsChosen Greatest x w v
+level_over x w v over c = let up : x ≤ᵉ v = elim c.one_of [ inl k ↦ k | inr k ↦ k ] in record {
+  left = up;
+  right = le_transᵉ w x v over up;
+  one_of = inl c.left;
+}
+
+-- what is at least two values is at least the greatest of them
+pub top_within : (low r top x : Extended) → IsGreatest low r top → low ≤ᵉ x → r ≤ᵉ x → top ≤ᵉ x
+top_within low r top x g a b = elim g.one_of [ inl k ↦ le_transᵉ top low x k a | inr k ↦ le_transᵉ top r x k b ]
+
+-- what is chosen of two values
+chosen_of_two : (side : Side) (x y : Extended) → (v : Extended) × IsChosen side x y v
+chosen_of_two Least x y = least_of x y
+chosen_of_two Greatest x y = greatest_of x y
+
+-- where both sides have one value, the since has it
+pub point_where_met : (side : Side) (x y p q : Extended) → p ≈ᵉ q → IsPointOf side x y p q p
+point_where_met side x y p q e =
+    let limit = chosen_of_two side x y in
+    let most = greatest_of q limit.0 in
+    record {
+      limit = limit.0;
+      most = most.0;
+      is_limit = limit.1;
+      is_most = most.1;
+      is_value = record { left = le_reflᵉ p; right = le_transᵉ p q most.0 e.at_most most.1.left; one_of = inl (le_reflᵉ p) };
+    }

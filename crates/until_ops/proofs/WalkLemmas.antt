@@ -2,15 +2,17 @@
 use Rattle.std.proofs.Common.{◌≡◌, ℕ, ◌+◌, ◌-◌, ◌*◌, ◌<◌, ◌^◌, ◌⊎◌, ◌↔◌, inl, inr, List, [], ◌∷◌, length}
 use Rattle.std.proofs.Common.{Some, Bool, IsTrue, true, false, refl, sym, ◌∙◌, subst, ap, arith}
 use Rattle.std.specs.Prelude.{slice_get, MatchBool}
+use Rattle.std.proofs.lemmas.Bool.{false≢true}
 use Rattle.rational.specs.Rational.{Rational, IsWithin, ◌<ʳ◌, ◌≤ʳ◌, ◌≈◌}
 use Rattle.rational.specs.Time.{missing}
-use Rattle.rational.specs.Extended.{Affine, IsLeast, value_at}
+use Rattle.rational.specs.Extended.{Affine, IsLeast, value_at, ◌≈ᵉ◌}
 use Rattle.rational.specs.Affine.{IsBounded, HasBoundedLevel, MeetAlone}
 use Rattle.rational.specs.InPlay.{IsBreakpoint, IsCrossing}
 use Rattle.rational.specs.InPlay as I
 use Rattle.rational.proofs.Order.{le_refl, le_of_lt, le_of_same, ge_of_same, le_trans, lt_of_lt_of_le, not_lt_of_le, same_refl, same_sym, same_trans}
 use Rattle.rational.proofs.AffineLemmas.{bounded_same, same_reflᵉ, value_same}
 use Rattle.rational.proofs.Bounds.{level_bounded}
+use Rattle.rational.proofs.Sames.{symᵉ, transᵉ}
 use Rattle.frac128.specs.Value.{value}
 use Rattle.frac128.specs.declared.frac.Frac.{Frac}
 use Rattle.value_laws.specs.Members.{ShapeOf}
@@ -18,7 +20,7 @@ use Rattle.pl_signal.specs.declared.knot.Knot.{Knot}
 use Rattle.pl_signal.specs.declared.sample.Sample.{Sample}
 use Rattle.pl_signal.specs.Knots.{time, start, stop, HasShape, IsWorth}
 use Rattle.pl_signal.proofs.Telling.{TellsSoFar, tells_first, tells_join}
-use Rattle.pl_signal.proofs.Values.{worth_at, shape_at, shape_after}
+use Rattle.pl_signal.proofs.Values.{one_value, worth_at, shape_at, shape_after}
 use Rattle.pl_signal.proofs.Moving.{first_is, same_knot, at_knot_within, clip_within}
 use Rattle.until_ops.specs.declared.course.Course.{Course}
 use Rattle.until_ops.specs.declared.course.Gap.{Gap}
@@ -225,6 +227,36 @@ module _ {P : Type 0} {shape : ShapeOf P} {p q built : List (Knot P)} {now : Sta
     here = w.stands.here;
     event = event_of now.met refl w.stands.event;
   }
+
+  -- where it stands at a crossing both parts have one value
+  pub meets_here : IsTrue now.met → value_at (shape.function k.after) (value now.at) ≈ᵉ value_at (shape.function l.after) (value now.at)
+  meets_here e = by_kind now.met e w.stands.event
+    where
+      by_kind : (met : Bool) → met ≡ true → MatchBool met (CrossHere shape p q now) (BreakHere shape p q now)
+          → value_at (shape.function k.after) (value now.at) ≈ᵉ value_at (shape.function l.after) (value now.at)
+      by_kind true e h = (h k l w.at.at_k w.at.at_l).meet
+      by_kind false e h = absurd (false≢true e)
+
+  -- and where it comes to one both signals have
+  pub meets_then : (turn : Meet) → IsMeet (shape.function k.after) (shape.function l.after) now.at next turn → (x y : P)
+      → IsWorth shape p (value turn.time) (value_at (shape.function x) (value turn.time))
+      → IsWorth shape q (value turn.time) (value_at (shape.function y) (value turn.time))
+      → IsTrue turn.met → value_at (shape.function x) (value turn.time) ≈ᵉ value_at (shape.function y) (value turn.time)
+  meets_then turn is x y on on' e = by_kind turn.met e is.kind
+    where
+      t : Rational
+      t = value turn.time
+
+      by_kind : (met : Bool) → met ≡ true
+          → MatchBool met (MeetAlone (shape.function k.after) (shape.function l.after) (value now.at) (value next) t) (turn.time ≡ next)
+          → value_at (shape.function x) t ≈ᵉ value_at (shape.function y) t
+      by_kind true e m =
+          let gap = gap_follows next begins_before (le_refl (value next)) in
+          let left = gap.left_on t m.after m.before in
+          let right = gap.right_on t m.after m.before in
+          transᵉ (one_value shape p t (value_at (shape.function x) t) left.0 w.two.left on left.1)
+          (transᵉ left.2 (transᵉ m.meet (transᵉ (symᵉ right.2) (one_value shape q t right.0 (value_at (shape.function y) t) w.two.right right.1 on'))))
+      by_kind false e m = absurd (false≢true e)
 
   -- both sides are bounded on it
   left_small : (t : Rational) → value now.at ≤ʳ t → t ≤ʳ value next → IsSmall shape t k.after

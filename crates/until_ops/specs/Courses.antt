@@ -1,5 +1,7 @@
 -- What a since is on a gap on which both sides are affine and in one order: the least or the greatest of two shapes.
-use Rattle.std.specs.Prelude.{◌≡◌, ◌⊎◌, ◌≤◌, ◌^◌, false, IsTrue, MatchBool}
+use Rattle.std.specs.Prelude.{◌≡◌, ◌⊎◌, ◌≤◌, ◌^◌, Bool, true, false, IsTrue, MatchBool}
+use Rattle.std.specs.declared.cmp.Ordering.{Ordering}
+use Rattle.std.specs.declared.cmp.Ordering.TheVariants.{Less, Equal, Greater}
 use Rattle.rational.specs.Rational.{Rational, ◌<ʳ◌, ◌≤ʳ◌, IsWithin}
 use Rattle.rational.specs.Time.{HasDenominator}
 use Rattle.rational.specs.Extended.{Extended, finite, ◌≈ᵉ◌, IsLeast, IsGreatest, Affine, value_at}
@@ -24,6 +26,28 @@ pub record IsPointOf (side : Side) (x y p q v : Extended) : Type 0 where
   pub is_limit : IsChosen side x y limit
   pub is_most : IsGreatest q limit most
   pub is_value : IsLeast p most v
+
+-- two that begin in the one order are in the other at the end
+abbrev pub change_places : Ordering → Ordering → Bool
+change_places Less Less = false
+change_places Less Equal = false
+change_places Less Greater = true
+change_places Equal end = false
+change_places Greater Less = true
+change_places Greater Equal = false
+change_places Greater Greater = false
+
+-- the first of two is at most the second from the start on, as long as they keep their order
+abbrev pub goes_under : Ordering → Ordering → Bool
+goes_under Less end = true
+goes_under Equal Less = true
+goes_under Equal Equal = true
+goes_under Equal Greater = false
+goes_under Greater end = false
+
+-- the left side is no higher as the gap begins than what was before, where their order is the one, or than the right side, where it is the other
+abbrev pub IsReached : Ordering → Ordering → Type 0
+IsReached before start = ¬ (before ≡ Less) ⊎ (start ≡ Equal)
 
 -- the next time at which the two come out of order, or where nothing does so before it, the next time
 pub record IsMeet (f h : Affine) (from next : Frac) (turn : Meet) : Type 0 where
@@ -57,6 +81,12 @@ module _ {P : Type 0} (shape : ShapeOf P) where
     pub left_small : IsBounded (2 ^ 31) (value_at (shape.function gap.left) (value gap.from))
     pub right_small : IsBounded (2 ^ 31) (value_at (shape.function gap.right) (value gap.from))
     pub in_order : InOrder (shape.function gap.left) (shape.function gap.right) (value gap.from) (value gap.to)
+
+  -- low is the least of what was before and of the left side as the gap begins
+  pub record IsLow (gap : Gap P) (low : P) : Type 0 where
+    pub low_of : IsOfGap gap low
+    pub is_low : IsLeast (value_at (shape.function gap.before) (value gap.from)) (value_at (shape.function gap.left) (value gap.from))
+        (value_at (shape.function low) (value gap.from))
 
   -- low is the least of what was before and of the left side as the gap begins, and top the greatest of that and of the right side
   pub record IsStart (gap : Gap P) (low top : P) : Type 0 where

@@ -1,17 +1,20 @@
 //! What a since is on a gap on which both of its sides are affine.
-ghost use Rattle.std.specs.Prelude.{◌≡◌, ◌⊎◌, ◌^◌, false, IsTrue, MatchBool, MatchResult};
+ghost use Rattle.std.specs.Prelude.{◌≡◌, ◌⊎◌, ◌^◌, None, false, IsTrue, MatchBool, IfOk, IfSome, OnOk, OnErr};
+ghost use Rattle.std.specs.Ordering.{MatchOrdering};
 ghost use Rattle.rational.specs.Rational.{IsWithin};
 ghost use Rattle.rational.specs.Time.{◌<ʳ◌};
-ghost use Rattle.rational.specs.Extended.{value_at, ◌≤ᵉ◌};
-ghost use Rattle.rational.specs.Affine.{IsBounded, HasBoundedLevel};
+ghost use Rattle.rational.specs.Extended.{value_at, ◌≤ᵉ◌, ◌≈ᵉ◌};
+ghost use Rattle.rational.specs.Affine.{IsBounded, HasBoundedLevel, IsOrderᵉ};
 ghost use Rattle.frac128.specs.Value.{value};
+ghost use Rattle.pl_signal.specs.declared.faults.OpFault.TheVariants as F;
 ghost use Rattle.pl_signal.specs.declared.joining.Side.TheVariants.{Least};
-ghost use Rattle.pl_signal.specs.Joining.{IsChosen, IsGapFault};
-ghost use Rattle.rational.specs.Onward.{InOrder, IsBelow, Climbs, Sinks};
-ghost use Rattle.until_ops.specs.Courses.{IsCourse, IsCourseFault, IsFixed, IsGap, IsPointOf, IsStart, IsMeet, IsValueFault};
+ghost use Rattle.pl_signal.specs.Joining.{IsChosen, IsGapFault, TurnsOver};
+ghost use Rattle.rational.specs.Onward.{IsBelow, Climbs, Sinks};
+ghost use Rattle.until_ops.specs.Courses.{IsCourse, IsCourseFault, IsFixed, IsGap, IsLow, IsPointOf, IsReached, IsStart, IsMeet, IsValueFault};
+ghost use Rattle.until_ops.specs.Courses.{change_places, goes_under};
 
-use frac128::Frac;
-use pl_signal::{OpFault, Side, WidePair, chosen, crossing};
+use frac128::{Frac, Memory};
+use pl_signal::{Side, WidePair, chosen, crossing, keep};
 use std::cmp::Ordering;
 use value_laws::Shape;
 
@@ -41,52 +44,86 @@ pub(crate) struct Course<P> {
     pub(crate) alone: bool,
 }
 
-/// How far the two keep their order from `from` on: up to where they cross, or up to `next`.
-pub(crate) fn turning<P: Shape>(p: &P, q: &P, from: &Frac, next: &Frac) -> Result<Meet, OpFault<P>>
+/// Where two shapes cross that change places between `from` and `next`. What is refused is put into `fault`.
+fn meeting<P: Shape>(
+    p: &P,
+    q: &P,
+    from: &Frac,
+    next: &Frac,
+    fault: &mut Option<WidePair<P>>,
+) -> Result<Meet, Memory>
     requires order { value from.now <ʳ value next.now }
     requires from_within { IsWithin (2 ^ 34) (value from.now) }
     requires next_within { IsWithin (2 ^ 34) (value next.now) }
     requires first { HasBoundedLevel (2 ^ 31) (P.function p.now) }
     requires second { HasBoundedLevel (2 ^ 31) (P.function q.now) }
-    ensures { MatchResult result
-        (IsMeet (P.function p.now) (P.function q.now) from.now next.now)
-        (IsGapFault P.Shape p.now q.now from.now next.now) }
+    requires turned { TurnsOver (P.function p.now) (P.function q.now) (value from.now) (value next.now) }
+    requires none { fault.old ≡ None }
+    ensures ok { IfOk result (IsMeet (P.function p.now) (P.function q.now) from.now next.now) }
+    ensures still { OnOk result (fault.new ≡ None) }
+    ensures wide { OnErr result (IfSome fault.new (λ pair. IsGapFault P.Shape p.now q.now from.now next.now (F.Wide pair))) }
 {
-    let none = Meet {
+    let time = keep(crossing(p, q, from, next), fault)?;
+    Ok(Meet { time, met: true })
+}
+
+/// How far the two keep their order from `from` on, where it is `start`: up to where they cross, or up to `next`, where their order is
+/// `end`. What is refused is put into `fault`.
+pub(crate) fn turning<P: Shape>(
+    p: &P,
+    q: &P,
+    from: &Frac,
+    next: &Frac,
+    start: Ordering,
+    end: Ordering,
+    fault: &mut Option<WidePair<P>>,
+) -> Result<Meet, Memory>
+    requires order { value from.now <ʳ value next.now }
+    requires from_within { IsWithin (2 ^ 34) (value from.now) }
+    requires next_within { IsWithin (2 ^ 34) (value next.now) }
+    requires first { HasBoundedLevel (2 ^ 31) (P.function p.now) }
+    requires second { HasBoundedLevel (2 ^ 31) (P.function q.now) }
+    requires start { IsOrderᵉ start (value_at (P.function p.now) (value from.now)) (value_at (P.function q.now) (value from.now)) }
+    requires end { IsOrderᵉ end (value_at (P.function p.now) (value next.now)) (value_at (P.function q.now) (value next.now)) }
+    requires none { fault.old ≡ None }
+    ensures ok { IfOk result (IsMeet (P.function p.now) (P.function q.now) from.now next.now) }
+    ensures still { OnOk result (fault.new ≡ None) }
+    ensures wide { OnErr result (IfSome fault.new (λ pair. IsGapFault P.Shape p.now q.now from.now next.now (F.Wide pair))) }
+{
+    if changes_places(start, end) {
+        return meeting(p, q, from, next, fault);
+    }
+    Ok(Meet {
         time: *next,
         met: false,
-    };
-    match P::cmp_at(p, q, from) {
-        Ordering::Less => match P::cmp_at(p, q, next) {
-            Ordering::Greater => Ok(Meet {
-                time: crossing(p, q, from, next)?,
-                met: true,
-            }),
-            _ => Ok(none),
+    })
+}
+
+/// Whether two that begin in the one order are in the other at the end.
+fn changes_places(start: Ordering, end: Ordering) -> bool
+    ensures { result ≡ change_places start end }
+{
+    match start {
+        Ordering::Less => match end {
+            Ordering::Greater => true,
+            _ => false,
         },
-        Ordering::Equal => Ok(none),
-        Ordering::Greater => match P::cmp_at(p, q, next) {
-            Ordering::Less => Ok(Meet {
-                time: crossing(p, q, from, next)?,
-                met: true,
-            }),
-            _ => Ok(none),
+        Ordering::Equal => false,
+        Ordering::Greater => match end {
+            Ordering::Less => true,
+            _ => false,
         },
     }
 }
 
-/// Whether `p` is at most `q` at both times, where they are in one order; else `q` is at most `p`.
-fn is_under<P: Shape>(p: &P, q: &P, from: &Frac, to: &Frac) -> bool
-    requires from_within { IsWithin (2 ^ 34) (value from.now) }
-    requires to_within { IsWithin (2 ^ 34) (value to.now) }
-    requires in_order { InOrder (P.function p.now) (P.function q.now) (value from.now) (value to.now) }
-    ensures { MatchBool result
-        (IsBelow (P.function p.now) (P.function q.now) (value from.now) (value to.now))
-        (IsBelow (P.function q.now) (P.function p.now) (value from.now) (value to.now)) }
+/// Whether the first of two that keep their order is at most the second, from their orders at the start and at the end, or where they
+/// cross before that.
+pub(crate) fn is_under(start: Ordering, end: Ordering) -> bool
+    ensures { result ≡ goes_under start end }
 {
-    match P::cmp_at(p, q, from) {
+    match start {
         Ordering::Less => true,
-        Ordering::Equal => match P::cmp_at(p, q, to) {
+        Ordering::Equal => match end {
             Ordering::Greater => false,
             _ => true,
         },
@@ -94,36 +131,25 @@ fn is_under<P: Shape>(p: &P, q: &P, from: &Frac, to: &Frac) -> bool
     }
 }
 
-/// Whether `p` never rises from `at` on, where it is at most `top`.
-fn stays_under<P: Shape>(p: &P, top: &P, at: &Frac) -> bool
-    requires { IsWithin (2 ^ 34) (value at.now) }
-    ensures { IsTrue result → Sinks (P.function p.now)
-        × (value_at (P.function p.now) (value at.now) ≤ᵉ value_at (P.function top.now) (value at.now)) }
-{
-    match p.rises() {
-        Ordering::Greater => false,
-        _ => match P::cmp_at(p, top, at) {
-            Ordering::Greater => false,
-            _ => true,
-        },
-    }
-}
-
-/// The constant with the value at `at`.
-fn constant<P: Shape>(x: &P, at: &Frac) -> Result<P, OpFault<P>>
+/// The constant with the value at `at`. What is refused is put into `fault`.
+fn constant<P: Shape>(x: &P, at: &Frac, fault: &mut Option<WidePair<P>>) -> Result<P, Memory>
     requires within { IsWithin (2 ^ 34) (value at.now) }
     requires small { IsBounded (2 ^ 31) (value_at (P.function x.now) (value at.now)) }
-    ensures { MatchResult result
-        (λ c. IsFixed P.Shape x.now (value at.now) c × (P.moves c ≡ false))
-        (IsValueFault P.Shape x.now at.now) }
+    requires none { fault.old ≡ None }
+    ensures ok { IfOk result (λ c. IsFixed P.Shape x.now (value at.now) c × (P.moves c ≡ false)) }
+    ensures still { OnOk result (fault.new ≡ None) }
+    ensures wide { OnErr result (IfSome fault.new (λ pair. IsValueFault P.Shape x.now at.now (F.Wide pair))) }
 {
     match x.fix(at) {
         Ok(c) => Ok(c),
-        Err(wide) => Err(OpFault::Wide(WidePair::Value {
-            p: *x,
-            at: *at,
-            den: wide.den,
-        })),
+        Err(wide) => {
+            *fault = Some(WidePair::Value {
+                p: *x,
+                at: *at,
+                den: wide.den,
+            });
+            Err(Memory)
+        }
     }
 }
 
@@ -141,36 +167,113 @@ fn only<P: Copy>(x: &P) -> Course<P>
     }
 }
 
-/// What the since is on the gap. It is the left side where that is below the right side all over, or sinks from a time at which
-/// the since is not below it. Else a constant is fixed: what the since cannot sink below.
-pub(crate) fn course_over<P: Shape>(gap: &Gap<P>) -> Result<Course<P>, OpFault<P>>
-    requires { IsGap P.Shape gap.now }
-    ensures { MatchResult result
-        (IsCourse P.Shape gap.now)
-        (IsCourseFault P.Shape gap.now) }
+/// The lower of two shapes at a time at which they are in this order.
+fn lower_of<'a, P: Shape>(order: Ordering, p: &'a P, q: &'a P) -> &'a P
+    ensures { MatchOrdering order (result.now ≡ p.now) (result.now ≡ q.now) (result.now ≡ q.now) }
 {
-    if is_under(&gap.left, &gap.right, &gap.from, &gap.to) {
-        return Ok(only(&gap.left));
+    match order {
+        Ordering::Less => p,
+        _ => q,
     }
-    let low = chosen(Side::Least, &gap.before, &gap.left, &gap.from);
-    let top = chosen(Side::Greatest, &low, &gap.right, &gap.from);
-    if stays_under(&gap.left, &top, &gap.from) {
-        return Ok(only(&gap.left));
-    }
-    above(gap, &low, &top)
 }
 
-/// What the since is on a gap on which the right side is not above the left.
-fn above<P: Shape>(gap: &Gap<P>, low: &P, top: &P) -> Result<Course<P>, OpFault<P>>
+/// The higher of two shapes at a time at which they are in this order.
+fn higher_of<'a, P: Shape>(order: Ordering, p: &'a P, q: &'a P) -> &'a P
+    ensures { MatchOrdering order (result.now ≡ q.now) (result.now ≡ p.now) (result.now ≡ p.now) }
+{
+    match order {
+        Ordering::Less => q,
+        _ => p,
+    }
+}
+
+/// Whether the left side does not rise, and is where the gap begins no higher than what was before, or than the right side.
+fn stays_under<P: Shape>(left: &P, order: Ordering, start: Ordering) -> bool
+    ensures { IsTrue result → Sinks (P.function left.now) × IsReached order start }
+{
+    match left.rises() {
+        Ordering::Greater => false,
+        _ => match order {
+            Ordering::Less => start.is_eq(),
+            _ => true,
+        },
+    }
+}
+
+/// What the since is on the gap, where both sides begin in the order `start`, and `under` says whether the left side is below the right
+/// side all over. Then it is the left side, as where that sinks from a time at which the since is not below it. Else a constant is
+/// fixed: what the since cannot sink below. What is refused is put into `fault`.
+pub(crate) fn course_over<P: Shape>(
+    gap: &Gap<P>,
+    start: Ordering,
+    under: bool,
+    fault: &mut Option<WidePair<P>>,
+) -> Result<Course<P>, Memory>
+    requires gap { IsGap P.Shape gap.now }
+    requires start { IsOrderᵉ start (value_at (P.function gap.now.left) (value gap.now.from)) (value_at (P.function gap.now.right) (value gap.now.from)) }
+    requires under { MatchBool under
+        (IsBelow (P.function gap.now.left) (P.function gap.now.right) (value gap.now.from) (value gap.now.to))
+        (IsBelow (P.function gap.now.right) (P.function gap.now.left) (value gap.now.from) (value gap.now.to)) }
+    requires none { fault.old ≡ None }
+    ensures ok { IfOk result (IsCourse P.Shape gap.now) }
+    ensures still { OnOk result (fault.new ≡ None) }
+    ensures wide { OnErr result (IfSome fault.new (λ pair. IsCourseFault P.Shape gap.now (F.Wide pair))) }
+{
+    if under {
+        return Ok(only(&gap.left));
+    }
+    let order = P::cmp_at(&gap.before, &gap.left, &gap.from);
+    if stays_under(&gap.left, order, start) {
+        return Ok(only(&gap.left));
+    }
+    above(gap, lower_of(order, &gap.before, &gap.left), fault)
+}
+
+/// What the since is on a gap on which the right side is not above the left; `low` is the least of what was before and of the left side.
+fn above<P: Shape>(
+    gap: &Gap<P>,
+    low: &P,
+    fault: &mut Option<WidePair<P>>,
+) -> Result<Course<P>, Memory>
+    requires gap { IsGap P.Shape gap.now }
+    requires below { IsBelow (P.function gap.now.right) (P.function gap.now.left) (value gap.now.from) (value gap.now.to) }
+    requires low { IsLow P.Shape gap.now low.now }
+    requires none { fault.old ≡ None }
+    ensures ok { IfOk result (IsCourse P.Shape gap.now) }
+    ensures still { OnOk result (fault.new ≡ None) }
+    ensures wide { OnErr result (IfSome fault.new (λ pair. IsCourseFault P.Shape gap.now (F.Wide pair))) }
+{
+    let order = P::cmp_at(low, &gap.right, &gap.from);
+    let top = higher_of(order, low, &gap.right);
+    if let Ordering::Less = gap.right.rises() {
+        return sunk(gap, low, top, fault);
+    }
+    if let Ordering::Greater = order {
+        return raised(gap, low, top, fault);
+    }
+    Ok(only(&gap.right))
+}
+
+/// What the since is on such a gap where the right side sinks: the left side, up to where the since began, or that alone.
+fn sunk<P: Shape>(
+    gap: &Gap<P>,
+    low: &P,
+    top: &P,
+    fault: &mut Option<WidePair<P>>,
+) -> Result<Course<P>, Memory>
     requires gap { IsGap P.Shape gap.now }
     requires below { IsBelow (P.function gap.now.right) (P.function gap.now.left) (value gap.now.from) (value gap.now.to) }
     requires start { IsStart P.Shape gap.now low.now top.now }
-    ensures { MatchResult result
-        (IsCourse P.Shape gap.now)
-        (IsCourseFault P.Shape gap.now) }
+    requires sinks { Sinks (P.function gap.now.right) }
+    requires none { fault.old ≡ None }
+    ensures ok { IfOk result (IsCourse P.Shape gap.now) }
+    ensures still { OnOk result (fault.new ≡ None) }
+    ensures wide { OnErr result (IfSome fault.new (λ pair. IsCourseFault P.Shape gap.now (F.Wide pair))) }
 {
-    if let Ordering::Less = gap.right.rises() {
-        let level = constant(top, &gap.from)?;
+    // For the proof alone: what the since began with.
+    let _ = low;
+    let level = constant(top, &gap.from, fault)?;
+    if let Ordering::Less = P::cmp_at(&gap.left, &level, &gap.to) {
         return Ok(Course {
             side: Side::Least,
             first: gap.left,
@@ -178,24 +281,30 @@ fn above<P: Shape>(gap: &Gap<P>, low: &P, top: &P) -> Result<Course<P>, OpFault<
             alone: false,
         });
     }
-    if let Ordering::Greater = P::cmp_at(low, &gap.right, &gap.from) {
-        return raised(gap, low, top);
-    }
-    Ok(only(&gap.right))
+    Ok(only(&level))
 }
 
-/// What the since is on such a gap where the right side does not sink, and begins below `low`.
-fn raised<P: Shape>(gap: &Gap<P>, low: &P, top: &P) -> Result<Course<P>, OpFault<P>>
+/// What the since is on such a gap where the right side does not sink, and begins below `low`: the left side, up to `low`, or `low`, and
+/// from where the right side is higher that one.
+fn raised<P: Shape>(
+    gap: &Gap<P>,
+    low: &P,
+    top: &P,
+    fault: &mut Option<WidePair<P>>,
+) -> Result<Course<P>, Memory>
     requires gap { IsGap P.Shape gap.now }
     requires below { IsBelow (P.function gap.now.right) (P.function gap.now.left) (value gap.now.from) (value gap.now.to) }
     requires start { IsStart P.Shape gap.now low.now top.now }
     requires climbs { Climbs (P.function gap.now.right) }
     requires higher { value_at (P.function gap.now.right) (value gap.now.from) ≤ᵉ value_at (P.function low.now) (value gap.now.from) }
-    ensures { MatchResult result
-        (IsCourse P.Shape gap.now)
-        (IsCourseFault P.Shape gap.now) }
+    requires none { fault.old ≡ None }
+    ensures ok { IfOk result (IsCourse P.Shape gap.now) }
+    ensures still { OnOk result (fault.new ≡ None) }
+    ensures wide { OnErr result (IfSome fault.new (λ pair. IsCourseFault P.Shape gap.now (F.Wide pair))) }
 {
-    let level = constant(low, &gap.from)?;
+    // For the proof alone: what the since began with.
+    let _ = top;
+    let level = constant(low, &gap.from, fault)?;
     if let Ordering::Greater = P::cmp_at(&level, &gap.left, &gap.to) {
         return Ok(Course {
             side: Side::Least,
@@ -204,12 +313,15 @@ fn raised<P: Shape>(gap: &Gap<P>, low: &P, top: &P) -> Result<Course<P>, OpFault
             alone: false,
         });
     }
-    Ok(Course {
-        side: Side::Greatest,
-        first: level,
-        second: gap.right,
-        alone: false,
-    })
+    if let Ordering::Less = P::cmp_at(&level, &gap.right, &gap.to) {
+        return Ok(Course {
+            side: Side::Greatest,
+            first: level,
+            second: gap.right,
+            alone: false,
+        });
+    }
+    Ok(only(&level))
 }
 
 /// The shape of the course that is taken at a time.
@@ -227,17 +339,22 @@ fn limit_of<P: Shape>(course: &Course<P>, at: &Frac) -> P
     chosen(course.side, &course.first, &course.second, at)
 }
 
-/// A shape with the value of the since at the end of a gap, from its course there and from what both sides are at that time.
-pub(crate) fn point<P: Shape>(course: &Course<P>, left: &P, right: &P, at: &Frac) -> P
-    requires within { IsWithin (2 ^ 34) (value at.now) }
+/// A shape with the value of the since at the end of a gap, from its course there and from what both sides are at that time: where they
+/// cross it is that of either.
+pub(crate) fn point<P: Shape>(course: &Course<P>, left: &P, right: &P, turn: &Meet) -> P
+    requires within { IsWithin (2 ^ 34) (value turn.now.time) }
     requires one { IsTrue course.now.alone → course.now.second ≡ course.now.first }
+    requires meets { IsTrue turn.now.met → value_at (P.function left.now) (value turn.now.time) ≈ᵉ value_at (P.function right.now) (value turn.now.time) }
     ensures one { (result ≡ course.now.first) ⊎ (result ≡ course.now.second) ⊎ (result ≡ left.now) ⊎ (result ≡ right.now) }
     ensures value { IsPointOf course.now.side
-        (value_at (P.function course.now.first) (value at.now)) (value_at (P.function course.now.second) (value at.now))
-        (value_at (P.function left.now) (value at.now)) (value_at (P.function right.now) (value at.now))
-        (value_at (P.function result) (value at.now)) }
+        (value_at (P.function course.now.first) (value turn.now.time)) (value_at (P.function course.now.second) (value turn.now.time))
+        (value_at (P.function left.now) (value turn.now.time)) (value_at (P.function right.now) (value turn.now.time))
+        (value_at (P.function result) (value turn.now.time)) }
 {
-    let limit = limit_of(course, at);
-    let most = chosen(Side::Greatest, right, &limit, at);
-    chosen(Side::Least, left, &most, at)
+    if turn.met {
+        return *left;
+    }
+    let limit = limit_of(course, &turn.time);
+    let most = chosen(Side::Greatest, right, &limit, &turn.time);
+    chosen(Side::Least, left, &most, &turn.time)
 }

@@ -2,7 +2,8 @@
 ghost use Rattle.std.specs.Prelude.{◌≡◌, ◌^◌, ◌+◌, ◌<◌, ◌∷◌, [], List, length, None, false, IsTrue, MatchBool, IfOk, IfErr, IfSome, OnOk, OnErr};
 ghost use Rattle.rational.specs.Rational.{IsWithin};
 ghost use Rattle.rational.specs.Time.{◌≈◌, ◌<ʳ◌};
-ghost use Rattle.rational.specs.Affine.{HasBoundedLevel};
+ghost use Rattle.rational.specs.Extended.{value_at, ◌≈ᵉ◌};
+ghost use Rattle.rational.specs.Affine.{HasBoundedLevel, IsOrderᵉ};
 ghost use Rattle.frac128.specs.Value.{value};
 ghost use Rattle.pl_signal.specs.declared.knot.Knot.{Knot};
 ghost use Rattle.pl_signal.specs.Knots.{start, stop};
@@ -12,13 +13,13 @@ ghost use Rattle.pl_signal.specs.Moves.{Tells};
 ghost use Rattle.pl_signal.specs.Wide.{HasCause};
 ghost use Rattle.frac128.specs.declared.frac.Frac.{Frac};
 ghost use Rattle.pl_signal.specs.Joining.{IsGapFault, Joins};
-ghost use Rattle.until_ops.specs.Courses.{IsCourse, IsCourseFault, IsGap, IsMeet};
 ghost use Rattle.until_ops.specs.Untils.{BasesOfTwo, SinceOf, SinceStep};
 ghost use Rattle.until_ops.specs.Walks.{AreSides, IsPairWithin, Stands, rest};
 
-use crate::course::{Course, Gap, Meet, course_over, point, turning};
+use crate::course::{Course, Gap, course_over, is_under, point, turning};
 use frac128::{Frac, Memory};
-use pl_signal::{Builder, Next, OpFault, Side, Signal, WidePair, chosen, fault_of, keep};
+use pl_signal::{Builder, Next, OpFault, Side, Signal, WidePair, chosen, fault_of};
+use std::cmp::Ordering;
 use value_laws::Shape;
 
 /// Where a walk along both signals stands: the places of their last knots that are not later than `at`, a shape with the since's
@@ -88,36 +89,16 @@ fn first<P: Shape>(p: &Signal<P>, q: &Signal<P>) -> Stand<P>
     }
 }
 
-/// How far the two keep their order, with what is refused put into `fault`.
-fn turn_kept<P: Shape>(
-    p: &P,
-    q: &P,
-    from: &Frac,
-    next: &Frac,
-    fault: &mut Option<WidePair<P>>,
-) -> Result<Meet, Memory>
-    requires order { value from.now <ʳ value next.now }
-    requires from_within { IsWithin (2 ^ 34) (value from.now) }
-    requires next_within { IsWithin (2 ^ 34) (value next.now) }
-    requires first { HasBoundedLevel (2 ^ 31) (P.function p.now) }
-    requires second { HasBoundedLevel (2 ^ 31) (P.function q.now) }
-    requires none { fault.old ≡ None }
-    ensures ok { IfOk result (IsMeet (P.function p.now) (P.function q.now) from.now next.now) }
-    ensures still { OnOk result (fault.new ≡ None) }
-    ensures wide { OnErr result (IfSome fault.new (λ pair. IsGapFault P.Shape p.now q.now from.now next.now (F.Wide pair))) }
+/// The order of both parts where the walk stands: none where they cross there.
+fn order_here<P: Shape>(x: &P, y: &P, now: &Stand<P>) -> Ordering
+    requires within { IsWithin (2 ^ 34) (value now.now.at) }
+    requires meets { IsTrue now.now.met → value_at (P.function x.now) (value now.now.at) ≈ᵉ value_at (P.function y.now) (value now.now.at) }
+    ensures { IsOrderᵉ result (value_at (P.function x.now) (value now.now.at)) (value_at (P.function y.now) (value now.now.at)) }
 {
-    keep(turning(p, q, from, next), fault)
-}
-
-/// What the since is on the gap, with what is refused put into `fault`.
-fn course_kept<P: Shape>(gap: &Gap<P>, fault: &mut Option<WidePair<P>>) -> Result<Course<P>, Memory>
-    requires gap { IsGap P.Shape gap.now }
-    requires none { fault.old ≡ None }
-    ensures ok { IfOk result (IsCourse P.Shape gap.now) }
-    ensures still { OnOk result (fault.new ≡ None) }
-    ensures wide { OnErr result (IfSome fault.new (λ pair. IsCourseFault P.Shape gap.now (F.Wide pair))) }
-{
-    keep(course_over(gap), fault)
+    if now.met {
+        return Ordering::Equal;
+    }
+    P::cmp_at(x, y, &now.at)
 }
 
 /// Whether a knot at the next time is reached: where the two do not cross before it.
@@ -181,7 +162,9 @@ fn walk<P: Shape>(
     let _ = q.len();
     let (x, y) = (p.knot(now.left).after, q.knot(now.right).after);
     let next = Next::of(&p.knot(now.left + 1).time, &q.knot(now.right + 1).time);
-    let turn = turn_kept(&x, &y, &now.at, &next.time, fault)?;
+    let start = order_here(&x, &y, now);
+    let end = P::cmp_at(&x, &y, &next.time);
+    let turn = turning(&x, &y, &now.at, &next.time, start, end, fault)?;
     let gap = Gap {
         before: now.value,
         left: x,
@@ -189,10 +172,10 @@ fn walk<P: Shape>(
         from: now.at,
         to: turn.time,
     };
-    let course = course_kept(&gap, fault)?;
+    let course = course_over(&gap, start, is_under(start, end), fault)?;
     let left = p.advance(now.left, is_reached(next.left, turn.met), &turn.time);
     let right = q.advance(now.right, is_reached(next.right, turn.met), &turn.time);
-    let value = point(&course, &left.shape, &right.shape, &turn.time);
+    let value = point(&course, &left.shape, &right.shape, &turn);
     follow(built, &course, &turn.time, &value, fault)?;
     Ok(Stand {
         left: left.place,

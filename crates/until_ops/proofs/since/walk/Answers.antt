@@ -1,5 +1,7 @@
 use Rattle.std.proofs.Common.{◌+◌, ◌^◌, ◌↔◌, IsTrue, refl, sym, ◌∙◌, subst}
+use Rattle.std.specs.Prelude.{MatchBool}
 use Rattle.std.proofs.lemmas.Option.{IfSome_then}
+use Rattle.rational.specs.Onward.{IsBelow}
 use Rattle.rational.specs.Rational.{IsWithin}
 use Rattle.rational.specs.Time.{◌<ʳ◌, ◌≤ʳ◌, ◌≈◌}
 use Rattle.rational.proofs.Order.{le_refl, le_trans, le_of_lt, le_of_same, lt_of_lt_of_le}
@@ -12,9 +14,10 @@ use Rattle.pl_signal.proofs.Places.{begun_before, more_knots}
 use Rattle.until_ops.proofs.LimitLemmas.{after_bounded}
 use Rattle.until_ops.proofs.PlayLemmas.{Follows, cross_cause, cross_within, left_plays, played, right_plays, value_cause, value_within}
 use Rattle.until_ops.proofs.WalkLemmas.{IsNext, IsWalk, begins_before, gap_follows, gap_to, gap_within}
-use Rattle.until_ops.proofs.WalkLemmas.{is_gap, more_right, nearer, played_level, reaches_next, starts_within, walked}
+use Rattle.until_ops.proofs.CourseLemmas.{goes_below}
+use Rattle.until_ops.proofs.WalkLemmas.{is_gap, meets_here, meets_then, more_right, nearer, played_level, reaches_next, starts_within, walked}
 use Rattle.until_ops.proofs.since.walk.Given.{Over}
-use Rattle.until_ops.proofs.since.walk.Goals.{After-of-next, After-course_kept, After-follow}
+use Rattle.until_ops.proofs.since.walk.Goals.{After-of-next, After-course_over, After-follow}
 use Rattle.until_ops.proofs.since.walk.Goals as goal
 
 walk : (g : Over) (c : After-of-next g)
@@ -42,26 +45,37 @@ knot-requires-4 g c =
     (le_trans (at_knot_within g.P.Shape c.args.p.now (c.args.now.now.left + 1) c.knot-3.result c.len.ensures.signal c.knot-3.ensures).below
     (le_of_same c.requires.sides.ends)))
 
-pub turn_kept-requires-clause-order : goal.turn_kept-requires-clause-order
-turn_kept-requires-clause-order g c = begins_before (walk g (goal.at.turn_kept-requires-clause-order g c).After-of-next)
+pub turning-requires-clause-order : goal.turning-requires-clause-order
+turning-requires-clause-order g c = begins_before (walk g (goal.at.turning-requires-clause-order g c).After-of-next)
 
-pub turn_kept-requires-clause-from_within : goal.turn_kept-requires-clause-from_within
-turn_kept-requires-clause-from_within g c = starts_within (walk g (goal.at.turn_kept-requires-clause-from_within g c).After-of-next)
+pub turning-requires-clause-from_within : goal.turning-requires-clause-from_within
+turning-requires-clause-from_within g c = starts_within (walk g (goal.at.turning-requires-clause-from_within g c).After-of-next)
 
-pub turn_kept-requires-clause-next_within : goal.turn_kept-requires-clause-next_within
-turn_kept-requires-clause-next_within g c =
-    let w = walk g (goal.at.turn_kept-requires-clause-next_within g c).After-of-next in
+pub turning-requires-clause-next_within : goal.turning-requires-clause-next_within
+turning-requires-clause-next_within g c =
+    let w = walk g (goal.at.turning-requires-clause-next_within g c).After-of-next in
     gap_within w (value c.of-next.result.time) (le_of_lt (begins_before w)) (le_refl (value c.of-next.result.time))
 
-pub turn_kept-requires-clause-first : goal.turn_kept-requires-clause-first
-turn_kept-requires-clause-first g c =
+pub turning-requires-clause-first : goal.turning-requires-clause-first
+turning-requires-clause-first g c =
     after_bounded g.P.Shape c.args.p.now c.args.now.now.left c.knot.result c.knot-3.result c.len.ensures.signal c.requires.sides.left
     c.knot.ensures c.knot-3.ensures
 
-pub turn_kept-requires-clause-second : goal.turn_kept-requires-clause-second
-turn_kept-requires-clause-second g c =
+pub turning-requires-clause-second : goal.turning-requires-clause-second
+turning-requires-clause-second g c =
     after_bounded g.P.Shape c.args.q.now c.args.now.now.right c.knot-2.result c.knot-4.result c.len-2.ensures.signal c.requires.sides.right
     c.knot-2.ensures c.knot-4.ensures
+
+pub order_here-start-requires-clause-within : goal.order_here-start-requires-clause-within
+order_here-start-requires-clause-within g c = starts_within (walk g (goal.at.order_here-start-requires-clause-within g c).After-of-next)
+
+pub order_here-start-requires-clause-meets : goal.order_here-start-requires-clause-meets
+order_here-start-requires-clause-meets g c = meets_here (walk g (goal.at.order_here-start-requires-clause-meets g c).After-of-next)
+
+pub cmp_at-end-requires : goal.cmp_at-end-requires
+cmp_at-end-requires g c =
+    let w = walk g (goal.at.cmp_at-end-requires g c).After-of-next in
+    gap_within w (value c.of-next.result.time) (le_of_lt (begins_before w)) (le_refl (value c.of-next.result.time))
 
 -- the whole gap up to the next knot
 whole_gap : (g : Over) (c : After-of-next g)
@@ -71,35 +85,44 @@ whole_gap g c = let w = walk g c in gap_follows w c.of-next.result.time (begins_
 pub returns-in_err-turn-clause-wide : goal.returns-in_err-turn-clause-wide
 returns-in_err-turn-clause-wide g c =
     let on = whole_gap g (goal.at.returns-in_err-turn-clause-wide g c).After-of-next in
-    on_err_anyway c.from_residual.result (IfSome_then c.turn_kept.new.fault c.in_err-turn.ensures.wide
+    on_err_anyway c.from_residual.result (IfSome_then c.turning.new.fault c.in_err-turn.ensures.wide
     (λ pair h. cross_cause on c.knot.result.after c.knot-2.result.after (left_plays on) (right_plays on) c.args.now.now.at refl (F.Wide pair) h))
 
 pub returns-in_err-turn-clause-pair : goal.returns-in_err-turn-clause-pair
 returns-in_err-turn-clause-pair g c =
     let on = whole_gap g (goal.at.returns-in_err-turn-clause-pair g c).After-of-next in
-    on_err_anyway c.from_residual.result (IfSome_then c.turn_kept.new.fault c.in_err-turn.ensures.wide
+    on_err_anyway c.from_residual.result (IfSome_then c.turning.new.fault c.in_err-turn.ensures.wide
     (λ pair h. cross_within on c.knot.result.after c.knot-2.result.after c.args.now.now.at refl (F.Wide pair) h))
 
-pub course_kept-requires-clause-gap : goal.course_kept-requires-clause-gap
-course_kept-requires-clause-gap g c = is_gap (walk g (goal.at.course_kept-requires-clause-gap g c).After-of-next) c.in_ok-turn.turn c.in_ok-turn.ensures.ok
+pub course_over-requires-clause-gap : goal.course_over-requires-clause-gap
+course_over-requires-clause-gap g c = is_gap (walk g (goal.at.course_over-requires-clause-gap g c).After-of-next) c.in_ok-turn.turn c.in_ok-turn.ensures.ok
+
+pub course_over-requires-clause-under : goal.course_over-requires-clause-under
+course_over-requires-clause-under g c =
+    let f = g.P.Shape.function c.knot.result.after in
+    let h = g.P.Shape.function c.knot-2.result.after in
+    subst (λ b. MatchBool b (IsBelow f h (value c.args.now.now.at) (value c.in_ok-turn.turn.time)) (IsBelow h f (value c.args.now.now.at) (value c.in_ok-turn.turn.time)))
+    (sym c.is_under.ensures)
+    (goes_below f h c.args.now.now.at c.of-next.result.time c.in_ok-turn.turn c.order_here-start.result c.cmp_at-end.result c.in_ok-turn.ensures.ok
+    c.order_here-start.ensures c.cmp_at-end.ensures)
 
 -- the gap up to the next event
-gap : (g : Over) (c : After-course_kept g)
+gap : (g : Over) (c : After-course_over g)
     → Follows g.P.Shape c.args.p.now c.args.q.now (gap_to c.args.now.now c.knot.result c.knot-2.result c.in_ok-turn.turn.time)
 gap g c =
-    gap_follows (walk g (goal.at.After-course_kept g c).After-of-next) c.in_ok-turn.turn.time c.in_ok-turn.ensures.ok.after
+    gap_follows (walk g (goal.at.After-course_over g c).After-of-next) c.in_ok-turn.turn.time c.in_ok-turn.ensures.ok.after
     c.in_ok-turn.ensures.ok.not_later
 
 pub returns-in_err-course-clause-wide : goal.returns-in_err-course-clause-wide
 returns-in_err-course-clause-wide g c =
-    let on = gap g (goal.at.returns-in_err-course-clause-wide g c).After-course_kept in
-    on_err_anyway c.from_residual-in_err-course.result (IfSome_then c.course_kept.new.fault c.in_err-course.ensures.wide
+    let on = gap g (goal.at.returns-in_err-course-clause-wide g c).After-course_over in
+    on_err_anyway c.from_residual-in_err-course.result (IfSome_then c.course_over.new.fault c.in_err-course.ensures.wide
     (λ pair h. value_cause on c.in_ok-turn.ensures.ok.in_order (F.Wide pair) h))
 
 pub returns-in_err-course-clause-pair : goal.returns-in_err-course-clause-pair
 returns-in_err-course-clause-pair g c =
-    let on = gap g (goal.at.returns-in_err-course-clause-pair g c).After-course_kept in
-    on_err_anyway c.from_residual-in_err-course.result (IfSome_then c.course_kept.new.fault c.in_err-course.ensures.wide
+    let on = gap g (goal.at.returns-in_err-course-clause-pair g c).After-course_over in
+    on_err_anyway c.from_residual-in_err-course.result (IfSome_then c.course_over.new.fault c.in_err-course.ensures.wide
     (λ pair h. value_within on (F.Wide pair) h))
 
 pub follow-requires-clause-order : goal.follow-requires-clause-order
@@ -148,6 +171,11 @@ point-value-requires-clause-within g c =
 pub point-value-requires-clause-one : goal.point-value-requires-clause-one
 point-value-requires-clause-one g c = c.in_ok-course.ensures.ok.one
 
+pub point-value-requires-clause-meets : goal.point-value-requires-clause-meets
+point-value-requires-clause-meets g c =
+    meets_then (walk g (goal.at.point-value-requires-clause-meets g c).After-of-next) c.in_ok-turn.turn c.in_ok-turn.ensures.ok
+    c.advance-left.result.shape c.advance-right.result.shape c.advance-left.ensures.worth c.advance-right.ensures.worth
+
 pub follow-requires-clause-one : goal.follow-requires-clause-one
 follow-requires-clause-one g c = c.in_ok-course.ensures.ok.one
 
@@ -172,7 +200,7 @@ follow-requires-clause-second g c =
 
 pub returns-in_err-follow-clause-wide : goal.returns-in_err-follow-clause-wide
 returns-in_err-follow-clause-wide g c =
-    let on = gap g (goal.at.returns-in_err-follow-clause-wide g c).After-course_kept in
+    let on = gap g (goal.at.returns-in_err-follow-clause-wide g c).After-course_over in
     let course = c.in_ok-course.course in let order = c.in_ok-turn.ensures.ok.in_order in
     on_err_anyway c.from_residual-in_err-follow.result (IfSome_then c.follow.new.fault c.in_err-follow.ensures.wide
     (λ pair w. cross_cause on course.first course.second (played on order course.first c.in_ok-course.ensures.ok.first)
@@ -180,7 +208,7 @@ returns-in_err-follow-clause-wide g c =
 
 pub returns-in_err-follow-clause-pair : goal.returns-in_err-follow-clause-pair
 returns-in_err-follow-clause-pair g c =
-    let on = gap g (goal.at.returns-in_err-follow-clause-pair g c).After-course_kept in
+    let on = gap g (goal.at.returns-in_err-follow-clause-pair g c).After-course_over in
     on_err_anyway c.from_residual-in_err-follow.result (IfSome_then c.follow.new.fault c.in_err-follow.ensures.wide
     (λ pair w. cross_within on c.in_ok-course.course.first c.in_ok-course.course.second w.0 (w.1 ∙ c.requires.stands.ends) (F.Wide pair) w.2))
 
