@@ -26,7 +26,7 @@ offset_parts f o h = omega (arith, mul_parts f.rise f.t0, first, second)
         ≡ part_below o + part_above (f.v0 *ℤ pos f.run) + part_below (f.rise *ℤ f.t0)
     second = omega (arith, parts)
 
-pub record RampGap (f g : Ramp) (of og base climb : ℤ) : Type 0 where
+pub record RampDifference (f g : Ramp) (of og base climb : ℤ) : Type 0 where
   -- the first value at 0, times the run
   pub first : of ≡ f.v0 *ℤ pos f.run -ℤ f.rise *ℤ f.t0
   -- and the second
@@ -37,7 +37,7 @@ pub record RampGap (f g : Ramp) (of og base climb : ℤ) : Type 0 where
   pub climb_is : climb ≡ f.rise *ℤ pos g.run -ℤ g.rise *ℤ pos f.run
 
 -- these are the gap of two ramps
-pub gap_of_ramps : (f g : Ramp) (of og base climb : ℤ) → RampGap f g of og base climb → IsAbove (gap_line (line f) (line g)) base climb
+pub gap_of_ramps : (f g : Ramp) (of og base climb : ℤ) → RampDifference f g of og base climb → IsAbove (gap_line (line f) (line g)) base climb
 gap_of_ramps f g of og base climb h =
     gap_from_parts (gap_line (line f) (line g)) base climb
     (omega (arith, difference, ap (λ n. n * g.run) (offset_parts f of h.first), ap (λ n. n * f.run) (offset_parts g og h.second)))
@@ -46,7 +46,7 @@ gap_of_ramps f g of og base climb h =
     difference : part_above base + part_below of * g.run + part_above og * f.run ≡ part_below base + part_above of * g.run + part_below og * f.run
     difference = let e = h.base_is in omega (arith, parts)
 
-pub record ConstantGap (f : Ramp) (c : Frac) (top offset num climb : ℤ) : Type 0 where
+pub record ConstantDifference (f : Ramp) (c : Frac) (top offset num climb : ℤ) : Type 0 where
   -- the first value at 0, times the run
   pub first : top ≡ c.whole *ℤ pos c.den +ℤ pos c.rest
   -- and the second
@@ -57,7 +57,7 @@ pub record ConstantGap (f : Ramp) (c : Frac) (top offset num climb : ℤ) : Type
   pub climb_is : climb ≡ f.rise *ℤ pos c.den
 
 -- and of a ramp and a constant
-pub gap_of_constant : (f : Ramp) (c : Frac) (top offset num climb : ℤ) → ConstantGap f c top offset num climb
+pub gap_of_constant : (f : Ramp) (c : Frac) (top offset num climb : ℤ) → ConstantDifference f c top offset num climb
     → IsAbove (gap_line (line f) (constant (value c))) (neg_ℤ num) climb
 gap_of_constant f c top offset num climb h =
     gap_from_parts (gap_line (line f) (constant (value c))) (neg_ℤ num) climb
@@ -80,7 +80,7 @@ pub parallel_of_level : (f : Ramp) (c : Frac) → Level (line f) → AreParallel
 parallel_of_level f c h = record { level = omega (arith, ap (λ n. n * c.den) h.level) }
 
 -- the time at which a ramp reaches a constant
-pub reaching : (f : Ramp) (c : Frac) (top offset num climb : ℤ) (o : Option Ratio) → ConstantGap f c top offset num climb
+pub reaching : (f : Ramp) (c : Frac) (top offset num climb : ℤ) (o : Option Ratio) → ConstantDifference f c top offset num climb
     → MatchOption o (climb ≡ pos 0) (λ q. IsQuotient num climb q.num q.den)
     → MatchOption o (Level (line f)) (λ q. ¬ (Level (line f)) × MeetAt (line f) (constant (value c)) (fraction q.num q.den))
 reaching f c top offset num climb None h k =

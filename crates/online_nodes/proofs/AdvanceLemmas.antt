@@ -9,7 +9,7 @@ use Rattle.stl_syntax.specs.declared.items.Verdict.{Verdict}
 use Rattle.stl_syntax.specs.declared.node.Node.{Node}
 use Rattle.online_nodes.specs.Network.{Event, State, after_event, answered, shown, step, reach_back}
 use Rattle.online_nodes.specs.Needed.{IsEdge, IsReader}
-use Rattle.online_nodes.specs.Answering.{HasAnswered, HasReleased, HasWorkedOn, IsInput, IsSide, looks_by}
+use Rattle.online_nodes.specs.Answering.{HasAnswered, HasReleased, HasWorkedOn, IsInput, IsOperand, looks_by}
 use Rattle.online_nodes.specs.Belonging.{HasStepped, StandsForSteps, room_of_step, trace_of}
 use Rattle.online_nodes.specs.Stepping.{Situation, HasWorkedOut, IsBegun, IsDue, end_of, first_in, formula_of, state_in, stretch_of, trace_in}
 use Rattle.rational.specs.Places.{Before, Place, Same, begins, ends}
@@ -40,7 +40,7 @@ use Rattle.online_nodes.proofs.StepFacts.{let_go_is}
 use Rattle.online_nodes.proofs.SteppedLemmas.{emitted_here, reached-here, reached-length, reached-other}
 
 -- a node's side is an input of it
-pub side_input : (k : Kind) (left : Bool) (j : ℕ) → IsSide k left j → IsInput k j
+pub side_input : (k : Kind) (left : Bool) (j : ℕ) → IsOperand k left j → IsInput k j
 side_input (Constant b) left j h = absurd h
 side_input (Negation p) true j h = h
 side_input (Negation p) false j h = absurd h
@@ -140,7 +140,7 @@ module _ {x : Situation} {op : Operator} {old : Held} (d : IsDue x op old) {begu
     other_new j apart = reached-other released new op.node x.front j apart noted
 
     -- what an input's edge let go since the body worked
-    lets_new : (j : ℕ) (left : Bool) → IsSide op.kind left j
+    lets_new : (j : ℕ) (left : Bool) → IsOperand op.kind left j
         → IsDroppedBy (x.front +ℤ looks_by op.kind left) (edge_at a.mid j) (edge_at new j)
     lets_new j left s =
         let apart = among_apart d j (side_input op.kind left j s) in
@@ -167,8 +167,8 @@ module _ {x : Situation} {op : Operator} {old : Held} (d : IsDue x op old) {begu
     input_new : (j : ℕ) (left : Bool) → IsReader d.belongs.stands.node left j
         → (number_at new j ≡ number_at old j) × IsEdge x.nodes x.header (x.events ++ step op.node ∷ []) j (held_at new j)
     input_new j left reads =
-        let side : IsSide op.kind left j =
-        subst (λ k. IsSide k left j) (sym (kind_is d)) (reads_side d.belongs.stands.node left j reads) in
+        let side : IsOperand op.kind left j =
+        subst (λ k. IsOperand k left j) (sym (kind_is d)) (reads_side d.belongs.stands.node left j reads) in
         let read = work.worked.read j (side_input op.kind left j side) in
         let looks : looks_by op.kind left ≡ reach_back d.belongs.stands.node left =
         ap (λ k. looks_by k left) (kind_is d) ∙ looks_is d.belongs.stands.node left j reads (own_reach_small d.belongs) in (

@@ -10,7 +10,7 @@ use Rattle.online_nodes.specs.Written.{HasFinished, HasGot, IsSound, waiting}
 use Rattle.online_nodes.specs.Working.{HasWorked, IsReadOn}
 use Rattle.online_nodes.specs.Kinds.{held_in, inputs_of, IsNear}
 use Rattle.online_nodes.specs.Answering.{back_by, is_empty, looks_by, CanAnswer, HasBody, HasReleased}
-use Rattle.online_nodes.specs.Answering.{HasReleasedTwo, HasSweptAll, HasToldAll, HasWorkedOn, IsInput, IsSide}
+use Rattle.online_nodes.specs.Answering.{HasReleasedTwo, HasSweptAll, HasToldAll, HasWorkedOn, IsInput, IsOperand}
 use Rattle.online_nodes.specs.declared.answering.Outcome.{Outcome}
 use Rattle.online_nodes.specs.declared.answering.Marks.{Marks}
 use Rattle.online_nodes.specs.declared.kind.Kind.{Kind}
@@ -190,7 +190,7 @@ put_all {kind} {old} {mid} {new} {out} {told} apart own c f =
     }
 
 -- letting go of one input's edge, or of two
-pub released_one : {old new : Held} (kind : Kind) (front : ℤ) (j : ℕ) (limit : ℤ) → ((left : Bool) (k : ℕ) → IsSide kind left k
+pub released_one : {old new : Held} (kind : Kind) (front : ℤ) (j : ℕ) (limit : ℤ) → ((left : Bool) (k : ℕ) → IsOperand kind left k
     → (j ≡ k) × (limit ≡ front +ℤ looks_by kind left)) → ((k : ℕ) → j ≡ k → IsInput kind k) → j < length old.edges
     → IsDroppedBy limit (edge_at old j) (edge_at new j) → new.edges ≡ with_edge old j (edge_at new j) → new.start ≡ old.start
     → old.spare ≤ new.spare → HasReleased kind front old new
@@ -208,8 +208,8 @@ released_one {old} {new} kind front j limit sides is within dropped edges start 
 
 -- what each of two inputs was let go of is what the node no longer looks at
 pub released_two : {old new : Held} (kind : Kind) (front : ℤ) (left right : ℕ) (left_by right_by : ℤ)
-    → ((k : ℕ) → IsSide kind true k → (left ≡ k) × (left_by ≡ front +ℤ looks_by kind true))
-    → ((k : ℕ) → IsSide kind false k → (right ≡ k) × (right_by ≡ front +ℤ looks_by kind false))
+    → ((k : ℕ) → IsOperand kind true k → (left ≡ k) × (left_by ≡ front +ℤ looks_by kind true))
+    → ((k : ℕ) → IsOperand kind false k → (right ≡ k) × (right_by ≡ front +ℤ looks_by kind false))
     → ((k : ℕ) → (left ≡ k) ⊎ (right ≡ k) → IsInput kind k) → HasReleasedTwo old new left left_by right right_by → HasReleased kind front old new
 released_two {old} {new} kind front left right left_by right_by on_left on_right is g =
     record {
@@ -220,7 +220,7 @@ released_two {old} {new} kind front left right left_by right_by on_left on_right
       spare = g.spare;
     }
   where
-    by_side : (k : ℕ) (side : Bool) → IsSide kind side k → IsDroppedBy (front +ℤ looks_by kind side) (edge_at old k) (edge_at new k)
+    by_side : (k : ℕ) (side : Bool) → IsOperand kind side k → IsDroppedBy (front +ℤ looks_by kind side) (edge_at old k) (edge_at new k)
     by_side k true at =
         let one = on_left k at in
         subst (λ (q : ℕ). IsDroppedBy (front +ℤ looks_by kind true) (edge_at old q) (edge_at new q)) one.0

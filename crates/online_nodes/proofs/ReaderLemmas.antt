@@ -29,7 +29,7 @@ use Rattle.stl_syntax.specs.declared.node.Node.TheVariants.{
 use Rattle.online_nodes.specs.Network.{reach_back}
 use Rattle.online_nodes.specs.Needed.{IsReader}
 use Rattle.online_nodes.specs.Operators.{kind_of}
-use Rattle.online_nodes.specs.Answering.{IsInput, IsSide, looks_by}
+use Rattle.online_nodes.specs.Answering.{IsInput, IsOperand, looks_by}
 use Rattle.online_nodes.proofs.RunLaw.{int_order}
 
 -- what is so of all children is so of each
@@ -176,7 +176,7 @@ module _ (nodes : List Node) (order : IsPostOrder nodes) where
   one_side r n false true j at x y = absurd (not_both_sides r n j at y x)
 
 -- an operator's inputs by its kind are those that its node reads
-pub side_reads : (n : Node) (left : Bool) (j : ℕ) → IsSide (kind_of n) left j → IsReader n left j
+pub side_reads : (n : Node) (left : Bool) (j : ℕ) → IsOperand (kind_of n) left j → IsReader n left j
 side_reads (Const b) left j r = absurd r
 side_reads (Leaf a) left j r = absurd r
 side_reads (Not p) true j r = r
@@ -201,7 +201,7 @@ side_reads (Historically p a b i k) true j r = r
 side_reads (Historically p a b i k) false j r = absurd r
 
 -- the kind of a node has its inputs on the node's sides
-pub reads_side : (n : Node) (left : Bool) (j : ℕ) → IsReader n left j → IsSide (kind_of n) left j
+pub reads_side : (n : Node) (left : Bool) (j : ℕ) → IsReader n left j → IsOperand (kind_of n) left j
 reads_side (Const b) left j r = absurd r
 reads_side (Leaf a) left j r = absurd r
 reads_side (Not p) true j r = r
@@ -226,7 +226,7 @@ reads_side (Historically p a b i k) true j r = r
 reads_side (Historically p a b i k) false j r = absurd r
 
 -- an input stands on a side
-pub input_side : (n : Node) (j : ℕ) → IsInput (kind_of n) j → (left : Bool) × IsSide (kind_of n) left j
+pub input_side : (n : Node) (j : ℕ) → IsInput (kind_of n) j → (left : Bool) × IsOperand (kind_of n) left j
 input_side (Const b) j r = absurd r
 input_side (Leaf a) j r = absurd r
 input_side (Not p) j r = (true, r)
@@ -246,7 +246,7 @@ input_side (Once p a b i k) j r = (true, r)
 input_side (Historically p a b i k) j r = (true, r)
 
 -- an input of a side is an input
-pub side_input : (n : Node) (left : Bool) (j : ℕ) → IsSide (kind_of n) left j → IsInput (kind_of n) j
+pub side_input : (n : Node) (left : Bool) (j : ℕ) → IsOperand (kind_of n) left j → IsInput (kind_of n) j
 side_input (Const b) left j r = absurd r
 side_input (Leaf a) left j r = absurd r
 side_input (Not p) true j r = r

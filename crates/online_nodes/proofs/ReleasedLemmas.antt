@@ -12,7 +12,7 @@ use Rattle.stl_syntax.specs.Formula.{Subformula, subformula}
 use Rattle.stl_syntax.specs.Truth.{Truth}
 use Rattle.stl_syntax.specs.declared.items.Verdict.{Verdict}
 use Rattle.online_nodes.specs.Network.{Front, least}
-use Rattle.online_nodes.specs.Answering.{IsInput, IsSide, is_empty, looks_by}
+use Rattle.online_nodes.specs.Answering.{IsInput, IsOperand, is_empty, looks_by}
 use Rattle.online_nodes.specs.Stepping.{Situation, HasWorkedOut, IsDue, LeavesLater, end_of, first_in, trace_in}
 use Rattle.rational.specs.Places.{After, AtMost, Before, Place, Upto, begins, ends, moved_begin}
 use Rattle.frac128.specs.Cuts.{place}
@@ -73,7 +73,7 @@ before_end f v (inl l) = l
 before_end f v (inr e) = absurd (let y : true ≡ false = e.1 in cc)
 
 module _ {x : Situation} {op : Operator} {old mid : Held} {work : Outcome} (d : IsDue x op old) (w : HasWorkedOut x op old mid work) (new : Held)
-    (lets : (j : ℕ) (left : Bool) → IsSide op.kind left j → IsDroppedBy (x.front +ℤ looks_by op.kind left) (edge_at mid j) (edge_at new j)) where
+    (lets : (j : ℕ) (left : Bool) → IsOperand op.kind left j → IsDroppedBy (x.front +ℤ looks_by op.kind left) (edge_at mid j) (edge_at new j)) where
   -- what was not read of an input, once the body worked
   mid_telling : (j : ℕ) → IsInput op.kind j → IsTelling (subformula x.nodes j) (trace_in x) (first_in x) x.now (edge_at mid j)
   mid_telling j a = telling_on (among_telling d j a) (w.worked.read j a).held (w.worked.read j a).number
@@ -81,7 +81,7 @@ module _ {x : Situation} {op : Operator} {old mid : Held} {work : Outcome} (d : 
   mid_tells : (j : ℕ) → IsInput op.kind j → Tells (Truth (subformula x.nodes j) (trace_in x)) (read_upto mid j) (fresh_at mid j) (front_place mid j)
   mid_tells j a = fresh_tells (mid_telling j a)
 
-  module _ (j : ℕ) (left : Bool) (s : IsSide op.kind left j) (a : IsInput op.kind j) where
+  module _ (j : ℕ) (left : Bool) (s : IsOperand op.kind left j) (a : IsInput op.kind j) where
     number_is : number_at new j ≡ number_at mid j
     number_is = dropped_number (lets j left s)
 
@@ -134,7 +134,7 @@ module _ {x : Situation} {op : Operator} {old mid : Held} {work : Outcome} (d : 
   negation_released : (of : ℕ) → op.kind ≡ Negation of → KnowsBy op.kind x.nodes (trace_in x) new (end_of x) (place work.marks.reach) (place work.marks.run)
   negation_released of kind =
       subst (λ k. KnowsBy k x.nodes (trace_in x) new (end_of x) (place work.marks.reach) (place work.marks.run)) (sym kind)
-      (read_by of true (subst (λ k. IsSide k true of) (sym kind) refl) (subst (λ k. IsInput k of) (sym kind) refl) (ap (λ k. looks_by k true) kind)
+      (read_by of true (subst (λ k. IsOperand k true of) (sym kind) refl) (subst (λ k. IsInput k of) (sym kind) refl) (ap (λ k. looks_by k true) kind)
       (subst (λ k. KnowsBy k x.nodes (trace_in x) mid (end_of x) (place work.marks.reach) (place work.marks.run)) kind w.knows))
 
   -- a connective
@@ -144,16 +144,16 @@ module _ {x : Situation} {op : Operator} {old mid : Held} {work : Outcome} (d : 
       let known : AtMost (read_upto mid inputs.left) (end_of x) × AtMost (read_upto mid inputs.right) (end_of x) =
       subst (λ k. KnowsBy k x.nodes (trace_in x) mid (end_of x) (place work.marks.reach) (place work.marks.run)) kind w.knows in
       subst (λ k. KnowsBy k x.nodes (trace_in x) new (end_of x) (place work.marks.reach) (place work.marks.run)) (sym kind) (
-        read_by inputs.left true (subst (λ k. IsSide k true inputs.left) (sym kind) refl) (subst (λ k. IsInput k inputs.left) (sym kind) (inl refl))
+        read_by inputs.left true (subst (λ k. IsOperand k true inputs.left) (sym kind) refl) (subst (λ k. IsInput k inputs.left) (sym kind) (inl refl))
             (ap (λ k. looks_by k true) kind) known.0,
-        read_by inputs.right false (subst (λ k. IsSide k false inputs.right) (sym kind) refl)
+        read_by inputs.right false (subst (λ k. IsOperand k false inputs.right) (sym kind) refl)
             (subst (λ k. IsInput k inputs.right) (sym kind) (inr refl)) (ap (λ k. looks_by k false) kind) known.1,
       )
 
   -- a window: where it has a time in it, nothing that was not read goes
   module _ {v : Window} (is : IsWindowKind op.kind v) (order : v.begin_by ≤ℤ v.end_by) where
-    window_side : IsSide op.kind true v.of
-    window_side = elim is [ inl s ↦ subst (λ k. IsSide k true v.of) (sym s) refl | inr s ↦ subst (λ k. IsSide k true v.of) (sym s) refl ]
+    window_side : IsOperand op.kind true v.of
+    window_side = elim is [ inl s ↦ subst (λ k. IsOperand k true v.of) (sym s) refl | inr s ↦ subst (λ k. IsOperand k true v.of) (sym s) refl ]
 
     window_looks : looks_by op.kind true ≤ℤ neg_ℤ v.begin_by
     window_looks = elim is [
@@ -204,11 +204,11 @@ module _ {x : Situation} {op : Operator} {old mid : Held} {work : Outcome} (d : 
   -- until
   module _ {u : UntilWindow} (kind : op.kind ≡ UntilOf u) (order : u.window.begin_by ≤ℤ u.window.end_by) (ahead : u.window.end_by ≤ℤ pos 0)
       (not_before : (t v : Rational) → After (low_place u.window t) v → t ≤ʳ v) where
-    left_side : IsSide op.kind true u.window.of
-    left_side = subst (λ k. IsSide k true u.window.of) (sym kind) refl
+    left_side : IsOperand op.kind true u.window.of
+    left_side = subst (λ k. IsOperand k true u.window.of) (sym kind) refl
 
-    right_side : IsSide op.kind false u.right
-    right_side = subst (λ k. IsSide k false u.right) (sym kind) refl
+    right_side : IsOperand op.kind false u.right
+    right_side = subst (λ k. IsOperand k false u.right) (sym kind) refl
 
     left_input : IsInput op.kind u.window.of
     left_input = subst (λ k. IsInput k u.window.of) (sym kind) (inl refl)
@@ -338,11 +338,11 @@ module _ {x : Situation} {op : Operator} {old mid : Held} {work : Outcome} (d : 
 
   -- since
   module _ {s : SinceWindow} (kind : op.kind ≡ SinceOf s) (back : IsBackward s.window) where
-    since_left_side : IsSide op.kind true s.window.of
-    since_left_side = subst (λ k. IsSide k true s.window.of) (sym kind) refl
+    since_left_side : IsOperand op.kind true s.window.of
+    since_left_side = subst (λ k. IsOperand k true s.window.of) (sym kind) refl
 
-    since_right_side : IsSide op.kind false s.right
-    since_right_side = subst (λ k. IsSide k false s.right) (sym kind) refl
+    since_right_side : IsOperand op.kind false s.right
+    since_right_side = subst (λ k. IsOperand k false s.right) (sym kind) refl
 
     since_left_input : IsInput op.kind s.window.of
     since_left_input = subst (λ k. IsInput k s.window.of) (sym kind) (inl refl)

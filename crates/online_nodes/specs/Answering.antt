@@ -32,17 +32,17 @@ IsInput (Until u) j = (u.window.of ≡ j) ⊎ (u.right ≡ j)
 IsInput (Since s) j = (s.window.of ≡ j) ⊎ (s.right ≡ j)
 
 -- node j is the left input, or only one, or the right one
-abbrev pub IsSide : Kind → Bool → ℕ → Type 0
-IsSide (Not p) true j = p ≡ j
-IsSide (Join join inputs) true j = inputs.left ≡ j
-IsSide (Join join inputs) false j = inputs.right ≡ j
-IsSide (Ahead w) true j = w.of ≡ j
-IsSide (Behind w) true j = w.of ≡ j
-IsSide (Until u) true j = u.window.of ≡ j
-IsSide (Until u) false j = u.right ≡ j
-IsSide (Since s) true j = s.window.of ≡ j
-IsSide (Since s) false j = s.right ≡ j
-IsSide kind left j = ⊥
+abbrev pub IsOperand : Kind → Bool → ℕ → Type 0
+IsOperand (Not p) true j = p ≡ j
+IsOperand (Join join inputs) true j = inputs.left ≡ j
+IsOperand (Join join inputs) false j = inputs.right ≡ j
+IsOperand (Ahead w) true j = w.of ≡ j
+IsOperand (Behind w) true j = w.of ≡ j
+IsOperand (Until u) true j = u.window.of ≡ j
+IsOperand (Until u) false j = u.right ≡ j
+IsOperand (Since s) true j = s.window.of ≡ j
+IsOperand (Since s) false j = s.right ≡ j
+IsOperand kind left j = ⊥
 
 -- no time lies in the window
 abbrev pub is_empty : Window → Bool
@@ -142,7 +142,7 @@ LetsGo old new j limit = IsDroppedBy limit (edge_at old j) (edge_at new j)
 -- the inputs' edges let go what ends by the node's front, moved by how far it looks
 pub record HasReleased (kind : Kind) (front : ℤ) (old new : Held) : Type 0 where
   pub count : length new.edges ≡ length old.edges
-  pub one : (j : ℕ) (left : Bool) → IsSide kind left j → LetsGo old new j (front +ℤ looks_by kind left)
+  pub one : (j : ℕ) (left : Bool) → IsOperand kind left j → LetsGo old new j (front +ℤ looks_by kind left)
   pub others : (j : ℕ) → (IsInput kind j → ⊥) → edge_at new j ≡ edge_at old j
   pub start : new.start ≡ old.start
   pub spare : old.spare ≤ new.spare

@@ -17,7 +17,7 @@ use Rattle.pl_signal.specs.Knots.{time, stop, HasShape, Each, IsWorth, NextIsNee
 use Rattle.pl_signal.specs.Cuts.{StandsFrom, IsCut}
 use Rattle.pl_signal.proofs.KnotLemmas.{each_end, replaced_end, worth_in, worth_end, shape_in, shape_front, shape_end, stop_end, some_in_end}
 use Rattle.pl_signal.proofs.BuildingLemmas.{ends_at}
-use Rattle.pl_signal.proofs.ReadingLemmas.{IsReading, read_point, read_after, read_none}
+use Rattle.pl_signal.proofs.SampleLemmas.{IsSample, read_point, read_after, read_none}
 use Rattle.pl_signal.proofs.Telling.{told_alike}
 use Rattle.pl_signal.proofs.Values.{start_first, stop_at, rising_places, worth_same}
 
@@ -213,9 +213,9 @@ module _ {P : Type 0} (shape : ShapeOf P) where
             (record { above = le_trans (start_first shape ks i k s.each here) (le_of_lt h); below = last }))
       ]
 
-      reading : StandsFrom k from first → IsReading shape ks (value from) first
-      reading (inl c) = subst (IsReading shape ks (value from)) (sym c.1) (read_point shape ks i k (value from) s here c.0)
-      reading (inr c) = subst (IsReading shape ks (value from)) (sym c.1) (read_after shape ks i k (value from) s here (more c.0) c.0 later)
+      reading : StandsFrom k from first → IsSample shape ks (value from) first
+      reading (inl c) = subst (IsSample shape ks (value from)) (sym c.1) (read_point shape ks i k (value from) s here c.0)
+      reading (inr c) = subst (IsSample shape ks (value from)) (sym c.1) (read_after shape ks i k (value from) s here (more c.0) c.0 later)
 
       by_worth : (t : Rational) (v : Extended) → IsWorth shape (ends_at from first ∷ []) t v → IsWorth shape ks t v
       by_worth t v (inl w) = worth_same shape ks (value_at (shape.function first) (value from)) v (same_sym w.when)

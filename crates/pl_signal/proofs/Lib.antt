@@ -1,7 +1,7 @@
 pub mod KnotLemmas
 pub mod BuildingLemmas
 pub mod Values
-pub mod ReadingLemmas
+pub mod SampleLemmas
 pub mod Telling
 pub mod Cutting
 pub mod Moving

@@ -14,7 +14,7 @@ pub items_at : (items : List Item) (i : ℕ) (e : Item) → slice_get items i �
 items_at items i e h = drop_more items i e (slice_get_within items i e h) ∙ ap (λ x. x ∷ drop (i + 1) items) (get_or_from_slice_get items i e e h)
 
 -- what is read of the items from a place on: a line, up to an item with which it ends
-pub record IsReading (items : List Item) (i k : ℕ) (line : Item) : Type 0 where
+pub record JoinsItems (items : List Item) (i k : ℕ) (line : Item) : Type 0 where
   -- some items were joined
   pub below : i < k
   -- of those that there are
@@ -36,8 +36,8 @@ head_node e f more rest h = ap node_of h
     node_of (x ∷ xs) = x.node
 
 -- at first the item itself
-pub reading_first : (items : List Item) (i : ℕ) (e : Item) → slice_get items i ≡ Some e → IsReading items i (i + 1) e
-reading_first items i e h =
+pub joins_first : (items : List Item) (i : ℕ) (e : Item) → slice_get items i ≡ Some e → JoinsItems items i (i + 1) e
+joins_first items i e h =
     let inside : i < length items = slice_get_within items i e h in
     let at : drop i items ≡ e ∷ drop (i + 1) items = items_at items i e h in record {
       below = omega arith;
@@ -49,10 +49,10 @@ reading_first items i e h =
     }
 
 -- an item joins it
-pub reading_longer : (items : List Item) (i k : ℕ) (line e longer : Item) → IsReading items i k line → slice_get items k ≡ Some e
+pub joins_longer : (items : List Item) (i k : ℕ) (line e longer : Item) → JoinsItems items i k line → slice_get items k ≡ Some e
     → Join line e → IsLonger line e longer
-    → IsReading items i (k + 1) longer
-reading_longer items i k line e longer r h j l =
+    → JoinsItems items i (k + 1) longer
+joins_longer items i k line e longer r h j l =
     let inside : k < length items = slice_get_within items k e h in record {
       below = let b = r.below in omega arith;
       within = omega arith;
@@ -64,18 +64,18 @@ reading_longer items i k line e longer r h j l =
     }
 
 -- an item that does not join it begins the next line
-pub reading_ends : (items : List Item) (i k : ℕ) (line e : Item) → IsReading items i k line → slice_get items k ≡ Some e
+pub joins_end : (items : List Item) (i k : ℕ) (line e : Item) → JoinsItems items i k line → slice_get items k ≡ Some e
     → ¬ Join line e → IsFirstLine (drop i items) (drop k items) line
-reading_ends items i k line e r h n = record {
+joins_end items i k line e r h n = record {
   before = λ others o. r.lines (line ∷ others) (subst (λ xs. AreJoined line r.last xs (line ∷ others)) (sym (items_at items k e h))
       (inr (λ j. n (join_last line r.last e r.as_last j), (others, refl, subst (λ xs. IsItemLines xs others) (items_at items k e h) o))));
   node = r.node;
 }
 
 -- and behind the last item there is none
-pub reading_all : (items : List Item) (i k n : ℕ) (line : Item) → IsReading items i k line → length items ≤ k → n ≡ length items
+pub joins_all : (items : List Item) (i k n : ℕ) (line : Item) → JoinsItems items i k line → length items ≤ k → n ≡ length items
     → IsFirstLine (drop i items) (drop n items) line
-reading_all items i k n line r h e =
+joins_all items i k n line r h e =
     let nothing : drop n items ≡ [] = drop_all n items (omega (arith, e)) in record {
       before = λ others o. r.lines (line ∷ others) (subst (λ xs. AreJoined line r.last xs (line ∷ others)) (sym (drop_all k items h))
           (ap (λ xs. line ∷ xs) (only others (subst (λ xs. IsItemLines xs others) nothing o))));

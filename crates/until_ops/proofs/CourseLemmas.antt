@@ -294,7 +294,8 @@ module _ {P : Type 0} (shape : ShapeOf P) where
       by_order : (o : Ordering) → IsOrderᵉ o (v p) (v q) → MatchOrdering o (r ≡ q) (r ≡ p) (r ≡ p) → IsGreatest (v p) (v q) (v r)
       by_order Less h e = subst (λ r. IsGreatest (v p) (v q) (v r)) (sym e)
           (record { left = le_of_ltᵉ (v p) (v q) h; right = le_reflᵉ (v q); one_of = inr (le_reflᵉ (v q)) })
-      by_order Equal h e = subst (λ r. IsGreatest (v p) (v q) (v r)) (sym e) (record { left = le_reflᵉ (v p); right = h.at_least; one_of = inl (le_reflᵉ (v p)) })
+      by_order Equal h e = subst (λ r. IsGreatest (v p) (v q) (v r)) (sym e)
+          (record { left = le_reflᵉ (v p); right = h.at_least; one_of = inl (le_reflᵉ (v p)) })
       by_order Greater h e = subst (λ r. IsGreatest (v p) (v q) (v r)) (sym e)
           (record { left = le_reflᵉ (v p); right = le_of_ltᵉ (v q) (v p) h; one_of = inl (le_reflᵉ (v p)) })
 

@@ -30,7 +30,7 @@ use Rattle.pl_signal.specs.Joining.{Joins}
 use Rattle.pl_signal.specs.Places.{IsPlace}
 use Rattle.until_ops.specs.Courses.{IsPointOf, IsOfGap, IsPlayed, IsCourse, IsMeet, IsGap}
 use Rattle.until_ops.specs.Untils.{SinceOf, BasesOfTwo}
-use Rattle.until_ops.specs.Walks.{AreSides, CrossHere, BreakHere, Stands, rest}
+use Rattle.until_ops.specs.Walks.{AreOperands, CrossHere, BreakHere, Stands, rest}
 use Rattle.until_ops.proofs.LimitLemmas.{after_small}
 use Rattle.pl_signal.proofs.Limits.{breakpoint_at, worth_bounded, point_bounded}
 use Rattle.pl_signal.proofs.Places.{first_place, earlier_after, more_knots, not_both, part_on_gap, says_later}
@@ -82,7 +82,7 @@ pub record IsWalk {P : Type 0} (shape : ShapeOf P) (p q built : List (Knot P)) (
   -- both sides are signals
   pub two : AreSignals shape p q
   -- over one domain, within the limits
-  pub sides : AreSides shape p q
+  pub sides : AreOperands shape p q
   -- the walk stands for what it has built
   pub stands : Stands shape p q built now
   -- it stands at these knots of both
@@ -108,14 +108,14 @@ fewer_by_crossing n m i j a b (inr e) (inl f) = omega (arith, e.0, f)
 fewer_by_crossing n m i j a b (inr e) (inr f) = omega (arith, e.0, f.0)
 
 -- the shape of v is one of a signal's
-abbrev IsOfSides : {P : Type 0} → ShapeOf P → List (Knot P) → List (Knot P) → P → Type 0
-IsOfSides shape p q x = HasShape p x ⊎ HasShape q x ⊎ (shape.moves x ≡ false)
+abbrev IsOfOperands : {P : Type 0} → ShapeOf P → List (Knot P) → List (Knot P) → P → Type 0
+IsOfOperands shape p q x = HasShape p x ⊎ HasShape q x ⊎ (shape.moves x ≡ false)
 
 -- a value within 2^31
 abbrev IsSmall : {P : Type 0} → ShapeOf P → Rational → P → Type 0
 IsSmall shape t x = IsBounded (2 ^ 31) (value_at (shape.function x) t)
 
-module _ {P : Type 0} {shape : ShapeOf P} {p q : List (Knot P)} (two : AreSignals shape p q) (sides : AreSides shape p q) where
+module _ {P : Type 0} {shape : ShapeOf P} {p q : List (Knot P)} (two : AreSignals shape p q) (sides : AreOperands shape p q) where
   -- the first instant
   pub first_stands : (k l : Knot P) (v : P) (built : List (Knot P)) → slice_get p 0 ≡ Some k → slice_get q 0 ≡ Some l → (v ≡ l.point) ⊎ (v ≡ k.point)
       → IsLeast (value_at (shape.function l.point) (time k)) (value_at (shape.function k.point) (time k)) (value_at (shape.function v) (time k))
@@ -160,11 +160,11 @@ module _ {P : Type 0} {shape : ShapeOf P} {p q : List (Knot P)} (two : AreSignal
       tells : TellsSoFar shape (SinceOf shape p q) (record { time = k.time; point = v; after = v } ∷ [])
       tells = tells_first shape (SinceOf shape p q) (record { time = k.time; point = v; after = v } ∷ []) v k.time (is_since shape p q) here refl
 
-      of_v : (x : P) → x ≡ v → (v ≡ l.point) ⊎ (v ≡ k.point) → IsOfSides shape p q x
+      of_v : (x : P) → x ≡ v → (v ≡ l.point) ⊎ (v ≡ k.point) → IsOfOperands shape p q x
       of_v x e (inl f) = inr (inl (subst (HasShape q) (sym (e ∙ f)) (shape_at shape q 0 l at_l)))
       of_v x e (inr f) = inl (subst (HasShape p) (sym (e ∙ f)) (shape_at shape p 0 k at_k))
 
-      by_shape : (x : P) → HasShape (record { time = k.time; point = v; after = v } ∷ []) x → IsOfSides shape p q x
+      by_shape : (x : P) → HasShape (record { time = k.time; point = v; after = v } ∷ []) x → IsOfOperands shape p q x
       by_shape x (inl e) = of_v x e one
       by_shape x (inr (inl e)) = of_v x e one
       by_shape x (inr (inr e)) = absurd e
@@ -302,7 +302,7 @@ module _ {P : Type 0} {shape : ShapeOf P} {p q built : List (Knot P)} {now : Sta
   played_level to x played = level_bounded (2 ^ 31) (shape.function x) (value now.at)
       (played_small to x (value now.at) played (le_refl (value now.at)) (le_of_lt begins_before))
 
-  played_shape : (to : Frac) (x : P) → IsPlayed shape (gap_to now k l to) x → IsOfSides shape p q x
+  played_shape : (to : Frac) (x : P) → IsPlayed shape (gap_to now k l to) x → IsOfOperands shape p q x
   played_shape to x (inl e) = inl (subst (HasShape p) (sym e) (shape_after shape p now.left k w.at.at_k))
   played_shape to x (inr (inl e)) = inr (inl (subst (HasShape q) (sym e) (shape_after shape q now.right l w.at.at_l)))
   played_shape to x (inr (inr (o, of_gap, fixed, still))) = inr (inr still)
@@ -363,15 +363,15 @@ module _ {P : Type 0} {shape : ShapeOf P} {p q built : List (Knot P)} {now : Sta
   small (inr (inr (inl f))) = subst (IsSmall shape (value turn.time)) (sym f) (worth_bounded shape p w.sides.left (value turn.time) _ e.left.worth)
   small (inr (inr (inr f))) = subst (IsSmall shape (value turn.time)) (sym f) (worth_bounded shape q w.sides.right (value turn.time) _ e.right.worth)
 
-  first_of_sides : IsOfSides shape p q course.first
+  first_of_sides : IsOfOperands shape p q course.first
   first_of_sides = played_shape w turn.time course.first e.goes.first
 
-  second_of_sides : IsOfSides shape p q course.second
+  second_of_sides : IsOfOperands shape p q course.second
   second_of_sides = played_shape w turn.time course.second e.goes.second
 
-  point_of_sides : (v ≡ course.first) ⊎ (v ≡ course.second) ⊎ (v ≡ x.shape) ⊎ (v ≡ y.shape) → IsOfSides shape p q v
-  point_of_sides (inl f) = subst (IsOfSides shape p q) (sym f) first_of_sides
-  point_of_sides (inr (inl f)) = subst (IsOfSides shape p q) (sym f) second_of_sides
+  point_of_sides : (v ≡ course.first) ⊎ (v ≡ course.second) ⊎ (v ≡ x.shape) ⊎ (v ≡ y.shape) → IsOfOperands shape p q v
+  point_of_sides (inl f) = subst (IsOfOperands shape p q) (sym f) first_of_sides
+  point_of_sides (inr (inl f)) = subst (IsOfOperands shape p q) (sym f) second_of_sides
   point_of_sides (inr (inr (inl f))) = inl (subst (HasShape p) (sym f) e.left.of)
   point_of_sides (inr (inr (inr f))) = inr (inl (subst (HasShape q) (sym f) e.right.of))
 
@@ -433,11 +433,11 @@ module _ {P : Type 0} {shape : ShapeOf P} {p q built : List (Knot P)} {now : Sta
           gap_value w.two follows e.turning.in_order t u after' before (e.goes.onward t u after' (le_of_lt before) h))
           here
 
-      by_shape : (r : P) → HasShape built r ⊎ (r ≡ course.first) ⊎ (r ≡ course.second) ⊎ (r ≡ v) → IsOfSides shape p q r
+      by_shape : (r : P) → HasShape built r ⊎ (r ≡ course.first) ⊎ (r ≡ course.second) ⊎ (r ≡ v) → IsOfOperands shape p q r
       by_shape r (inl h) = w.stands.shapes r h
-      by_shape r (inr (inl f)) = subst (IsOfSides shape p q) (sym f) first_of_sides
-      by_shape r (inr (inr (inl f))) = subst (IsOfSides shape p q) (sym f) second_of_sides
-      by_shape r (inr (inr (inr f))) = subst (IsOfSides shape p q) (sym f) (point_of_sides e.one)
+      by_shape r (inr (inl f)) = subst (IsOfOperands shape p q) (sym f) first_of_sides
+      by_shape r (inr (inr (inl f))) = subst (IsOfOperands shape p q) (sym f) second_of_sides
+      by_shape r (inr (inr (inr f))) = subst (IsOfOperands shape p q) (sym f) (point_of_sides e.one)
 
   -- less remains
   pub nearer : now.left + 1 < length p → now.right + 1 < length q → rest p q (next_stand turn x y v) < rest p q now

@@ -34,7 +34,7 @@ rest p q now = 2 * ((length p - now.left) + (length q - now.right)) + missing no
 
 module _ {P : Type 0} (shape : ShapeOf P) where
   -- two limited signals over one domain
-  pub record AreSides (p q : List (Knot P)) : Type 0 where
+  pub record AreOperands (p q : List (Knot P)) : Type 0 where
     pub left : IsLimited shape p
     pub right : IsLimited shape q
     pub begins : start p ≈ start q

@@ -14,7 +14,7 @@ ghost use Rattle.pl_signal.specs.Wide.{HasCause};
 ghost use Rattle.frac128.specs.declared.frac.Frac.{Frac};
 ghost use Rattle.pl_signal.specs.Joining.{IsGapFault, Joins};
 ghost use Rattle.until_ops.specs.Untils.{BasesOfTwo, SinceOf, SinceStep};
-ghost use Rattle.until_ops.specs.Walks.{AreSides, IsPairWithin, Stands, rest};
+ghost use Rattle.until_ops.specs.Walks.{AreOperands, IsPairWithin, Stands, rest};
 
 use crate::course::{Course, Gap, course_over, is_under, point, turning};
 use frac128::{Frac, Memory};
@@ -72,7 +72,7 @@ pub fn since_from_start<P: Shape>(p: &Signal<P>, q: &Signal<P>) -> Result<Signal
 
 /// The first instant, at which the since is the least of both.
 fn first<P: Shape>(p: &Signal<P>, q: &Signal<P>) -> Stand<P>
-    requires { AreSides P.Shape p.now q.now }
+    requires { AreOperands P.Shape p.now q.now }
     ensures { (built : List (Knot P)) → built ≡ record { time = result.at; point = result.value; after = result.value } ∷ []
         → Stands P.Shape p.now q.now built result }
 {
@@ -146,7 +146,7 @@ fn walk<P: Shape>(
     now: &Stand<P>,
     fault: &mut Option<WidePair<P>>,
 ) -> Result<Stand<P>, Memory>
-    requires sides { AreSides P.Shape p.now q.now }
+    requires sides { AreOperands P.Shape p.now q.now }
     requires stands { Stands P.Shape p.now q.now built.old now.now }
     requires more { now.now.left + 1 < length p.now }
     requires none { fault.old ≡ None }

@@ -210,7 +210,8 @@ module _ {P : Type 0} (shape : ShapeOf P) (knots : List (Knot P)) where
     -- the slope is offered, if there is one
     abbrev pub OffersSlope : List (Part P) → Piece P → Option (Slope P) → Type 0
     OffersSlope parts piece None = Unit {0}
-    OffersSlope parts piece (Some slope) = Offers parts (λ t. HasCome piece.item.until t × IsToCome slope.until t) (λ t. value_at (shape.function slope.shape) t)
+    OffersSlope parts piece (Some slope) =
+        Offers parts (λ t. HasCome piece.item.until t × IsToCome slope.until t) (λ t. value_at (shape.function slope.shape) t)
 
     -- the piece was counted: the walk stands for more parts, of which one is the piece's value, and one its slope
     pub record HasCounted (piece : Piece P) (old new : Walk P) (c : CanCount piece old) : Type 0 where

@@ -1,5 +1,5 @@
 use Rattle.rational.proofs.Order.{le_trans, le_of_same, ge_of_same}
-use Rattle.pl_signal.proofs.ReadingLemmas.{not_later}
+use Rattle.pl_signal.proofs.SampleLemmas.{not_later}
 use Rattle.conformance_calls.proofs.until_ops_tests.is_near.Goals as goal
 
 pub returns : goal.returns

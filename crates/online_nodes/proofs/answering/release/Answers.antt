@@ -1,6 +1,6 @@
 use Rattle.std.proofs.Common.{rules, true, false, sym, ap, subst, ◌≡◌, ◌∙◌, ℤ, neg_ℤ, ◌+ℤ◌, to_z, of_z, to_z-of_z}
 use Rattle.std.specs.Int.{w64}
-use Rattle.online_nodes.specs.Answering.{back_by, looks_by, HasReleased, IsSide}
+use Rattle.online_nodes.specs.Answering.{back_by, looks_by, HasReleased, IsOperand}
 use Rattle.online_nodes.specs.declared.kind.Kind.{Kind}
 use Rattle.online_nodes.specs.declared.kind.Kind.TheVariants.{Ahead, Behind, Until, Since}
 use Rattle.online_nodes.proofs.AnsweringLemmas.{front_itself, released_one, released_two}
@@ -20,7 +20,7 @@ returns-in-Ahead c =
     c.earlier_by.ensures (search (rules, to_z-of_z)) (search (rules, to_z-of_z)) in
     subst (λ (k : Kind). HasReleased k c.args.front c.args.edges.now c.drop_by-in-Ahead.new.self) (sym c.in-Ahead.is)
     (released_one (Ahead w) c.args.front w.of (to_z w64 (of_z w64 c.earlier_by.result))
-    (λ left k. elim left as (λ b. IsSide (Ahead w) b k → (w.of ≡ k) × (to_z w64 (of_z w64 c.earlier_by.result) ≡ c.args.front +ℤ looks_by (Ahead w) b))
+    (λ left k. elim left as (λ b. IsOperand (Ahead w) b k → (w.of ≡ k) × (to_z w64 (of_z w64 c.earlier_by.result) ≡ c.args.front +ℤ looks_by (Ahead w) b))
     [ true ↦ λ side. (side, limit) | false ↦ λ side. absurd side ])
     (λ k same. same) able.0 g.dropped g.others g.start g.spare)
 
@@ -36,7 +36,7 @@ returns-in-Behind c =
     subst (λ (k : Kind). HasReleased k c.args.front c.args.edges.now c.drop_by-in-Behind.new.self) (sym c.in-Behind.is)
     (released_one (Behind w) c.args.front w.of (to_z w64 (of_z w64 c.earlier_by-in-Behind.result))
     (λ left k.
-    elim left as (λ b. IsSide (Behind w) b k → (w.of ≡ k) × (to_z w64 (of_z w64 c.earlier_by-in-Behind.result) ≡ c.args.front +ℤ looks_by (Behind w) b))
+    elim left as (λ b. IsOperand (Behind w) b k → (w.of ≡ k) × (to_z w64 (of_z w64 c.earlier_by-in-Behind.result) ≡ c.args.front +ℤ looks_by (Behind w) b))
     [ true ↦ λ side. (side, limit) | false ↦ λ side. absurd side ])
     (λ k same. same) able.0 g.dropped g.others g.start g.spare)
 

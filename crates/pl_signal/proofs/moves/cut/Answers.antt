@@ -5,7 +5,7 @@ use Rattle.std.proofs.lemmas.Result.{IfOk-weaker}
 use Rattle.rational.proofs.Order.{le_trans}
 use Rattle.pl_signal.specs.Cuts.{IsCut}
 use Rattle.pl_signal.proofs.Cutting.{cut_instant, cut_at_knot, cut_after_knot}
-use Rattle.pl_signal.proofs.ReadingLemmas.{earlier}
+use Rattle.pl_signal.proofs.SampleLemmas.{earlier}
 use Rattle.pl_signal.proofs.moves.cut.Goals as goal
 
 pub place_of-j-requires : goal.place_of-j-requires

@@ -47,7 +47,8 @@ returns-clause-ok g c =
     (level_under (value_at (f gap.left) t) (value_at level t) v
     (within_ends (f gap.left) (value gap.from) t (value gap.to) (value_at level t) a b
     (le_transᵉ (value_at level t) top (value_at (f gap.left) (value gap.from)) (same t).at_most
-    (top_within low (value_at (f gap.right) (value gap.from)) top (value_at (f gap.left) (value gap.from)) start.is_top start.is_low.right c.requires.below.left))
+    (top_within low (value_at (f gap.right) (value gap.from)) top (value_at (f gap.left) (value gap.from))
+    start.is_top start.is_low.right c.requires.below.left))
     (le_transᵉ (value_at level t) top (value_at (f gap.left) (value gap.to)) (same t).at_most
     (le_transᵉ top (value_at level (value gap.to)) (value_at (f gap.left) (value gap.to)) (same (value gap.to)).at_least
     (not_below c.cmp_at.result (value_at (f gap.left) (value gap.to)) (value_at level (value gap.to)) c.cmp_at.ensures c.in_default.not-Less)))) chosen))

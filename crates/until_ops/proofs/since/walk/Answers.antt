@@ -101,7 +101,8 @@ pub course_over-requires-clause-under : goal.course_over-requires-clause-under
 course_over-requires-clause-under g c =
     let f = g.P.Shape.function c.knot.result.after in
     let h = g.P.Shape.function c.knot-2.result.after in
-    subst (λ b. MatchBool b (IsBelow f h (value c.args.now.now.at) (value c.in_ok-turn.turn.time)) (IsBelow h f (value c.args.now.now.at) (value c.in_ok-turn.turn.time)))
+    subst (λ b. MatchBool b (IsBelow f h (value c.args.now.now.at) (value c.in_ok-turn.turn.time))
+    (IsBelow h f (value c.args.now.now.at) (value c.in_ok-turn.turn.time)))
     (sym c.is_under.ensures)
     (goes_below f h c.args.now.now.at c.of-next.result.time c.in_ok-turn.turn c.order_here-start.result c.cmp_at-end.result c.in_ok-turn.ensures.ok
     c.order_here-start.ensures c.cmp_at-end.ensures)

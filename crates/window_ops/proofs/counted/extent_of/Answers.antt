@@ -8,7 +8,7 @@ use Rattle.frac128.specs.Value.{value}
 use Rattle.envelope.specs.declared.turns.Turn.{Turn}
 use Rattle.envelope.specs.Turns.{HasCome, IsToCome}
 use Rattle.envelope.proofs.TurnOrder.{at_of_come}
-use Rattle.pl_signal.proofs.ReadingLemmas.{earlier}
+use Rattle.pl_signal.proofs.SampleLemmas.{earlier}
 use Rattle.window_ops.proofs.Counting.{at_most_to_come}
 use Rattle.window_ops.proofs.counted.extent_of.Goals as goal
 

@@ -12,7 +12,7 @@ use Rattle.window_ops.proofs.Ends.{at_is, come_moved, gt_to}
 use Rattle.window_ops.proofs.Freezing.{low_small, room}
 use Rattle.window_ops.proofs.Shifts.{low_from, low_to}
 use Rattle.window_ops.proofs.Spans.{moved_within, span_wide}
-use Rattle.pl_signal.proofs.ReadingLemmas.{not_later}
+use Rattle.pl_signal.proofs.SampleLemmas.{not_later}
 use Rattle.window_ops.proofs.walking.falling.Goals as goal
 
 pub knot-knot-requires : goal.knot-knot-requires

@@ -2,7 +2,7 @@ use Rattle.std.proofs.Common.{inl, inr, refl}
 use Rattle.rational.proofs.Order.{ge_of_same, le_of_lt, le_of_same, le_refl, le_trans, lt_of_le_of_lt, same_sym, same_trans}
 use Rattle.rational.proofs.TimeLemmas.{shifted-add}
 use Rattle.frac128.specs.Value.{value}
-use Rattle.pl_signal.proofs.ReadingLemmas.{not_later}
+use Rattle.pl_signal.proofs.SampleLemmas.{not_later}
 use Rattle.window_ops.proofs.walking.low_end.Goals as goal
 
 pub low_of-begin-requires : goal.low_of-begin-requires

@@ -3,7 +3,7 @@ use Rattle.std.specs.Int.RustNames.{unsigned_abs}
 use Rattle.std.proofs.lemmas.Int.{ints}
 use mir.Syntax.{w128}
 use Rattle.frac128.proofs.Fractions.{whole_of_within}
-use Rattle.frac128.proofs.RampDifferences.{ConstantGap, reaching, reaching_den}
+use Rattle.frac128.proofs.RampDifferences.{ConstantDifference, reaching, reaching_den}
 use Rattle.frac128.proofs.ramp.Ramp.cross_const.Goals as goal
 
 pub determinant-num-requires : goal.determinant-num-requires
@@ -53,7 +53,7 @@ returns-clause-meets c =
     let climb : to_z w128 (of_z w128 c.determinant-climb.result) ≡ c.determinant-climb.result = search (rules, to_z-of_z) in
     let climb_is = rw (rise, den) at c.determinant-climb.ensures.value in
     let top_is = c.top.ensures.value in
-    let r : ConstantGap f k c.top.result c.offset.result c.determinant-num.result c.determinant-climb.result = record {
+    let r : ConstantDifference f k c.top.result c.offset.result c.determinant-num.result c.determinant-climb.result = record {
       first = omega (arith, ints);
       second = c.offset.ensures.value;
       num_is = rw (top, run, offset, den) at c.determinant-num.ensures.value;

@@ -2,7 +2,7 @@ use Rattle.std.proofs.Common.{rules, to_z-of_z, ◌≡◌, pos, ◌≤◌, ◌^�
 use Rattle.std.specs.Int.RustNames.{unsigned_abs}
 use Rattle.std.proofs.lemmas.Int.{ints}
 use mir.Syntax.{w128}
-use Rattle.frac128.proofs.RampDifferences.{RampGap, gap_of_ramps}
+use Rattle.frac128.proofs.RampDifferences.{RampDifference, gap_of_ramps}
 use Rattle.frac128.proofs.ramp.difference.Difference.of.Goals as goal
 
 pub invariant_of-result : goal.invariant_of-result
@@ -30,7 +30,7 @@ returns c =
     let other_offset : to_z w128 (of_z w128 c.offset-2.result) ≡ c.offset-2.result = search (rules, to_z-of_z) in
     let base : to_z w128 (of_z w128 c.determinant.result) ≡ c.determinant.result = search (rules, to_z-of_z) in
     let climb : to_z w128 (of_z w128 c.determinant-2.result) ≡ c.determinant-2.result = search (rules, to_z-of_z) in
-    let r : RampGap f g c.offset.result c.offset-2.result c.determinant.result c.determinant-2.result = record {
+    let r : RampDifference f g c.offset.result c.offset-2.result c.determinant.result c.determinant-2.result = record {
       first = c.offset.ensures.value;
       second = c.offset-2.ensures.value;
       base_is = rw (offset, run, other_offset, other_run) at c.determinant.ensures.value;

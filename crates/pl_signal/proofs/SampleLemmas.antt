@@ -27,17 +27,17 @@ not_later Greater h n = absurd (n refl)
 
 module _ {P : Type 0} (shape : ShapeOf P) where
   -- p is a shape of the signal that has its value at t
-  abbrev pub IsReading : List (Knot P) → Rational → P → Type 0
-  IsReading ks t p = Within (start ks) (stop ks) t × HasShape ks p × IsWorth shape ks t (value_at (shape.function p) t)
+  abbrev pub IsSample : List (Knot P) → Rational → P → Type 0
+  IsSample ks t p = Within (start ks) (stop ks) t × HasShape ks p × IsWorth shape ks t (value_at (shape.function p) t)
 
   -- at a knot the point is read
-  pub read_point : (ks : List (Knot P)) (i : ℕ) (k : Knot P) (t : Rational) → IsSignal shape ks → slice_get ks i ≡ Some k → time k ≈ t → IsReading ks t k.point
+  pub read_point : (ks : List (Knot P)) (i : ℕ) (k : Knot P) (t : Rational) → IsSignal shape ks → slice_get ks i ≡ Some k → time k ≈ t → IsSample ks t k.point
   read_point ks i k t s h e =
       let w = worth_at shape ks i k t h (same_sym e) in (worth_within shape ks t (value_at (shape.function k.point) t) s w, shape_at shape ks i k h, w)
 
   -- after a knot, before the next, the shape there
   pub read_after : (ks : List (Knot P)) (i : ℕ) (k : Knot P) (t : Rational) → IsSignal shape ks → slice_get ks i ≡ Some k → i + 1 < length ks → time k <ʳ t
-      → ((n : Knot P) → slice_get ks (i + 1) ≡ Some n → t <ʳ time n) → IsReading ks t k.after
+      → ((n : Knot P) → slice_get ks (i + 1) ≡ Some n → t <ʳ time n) → IsSample ks t k.after
   read_after ks i k t s h l a b =
       let next = slice_get-get_or ks (i + 1) k l in
       let w = worth_between shape ks i k (get_or ks (i + 1) k) t h next a (b (get_or ks (i + 1) k) next) in
