@@ -324,7 +324,7 @@ module _ (nodes : List Node) (header : Header) (events : List Event) (net : Part
           l = read_place m n left j at r
 
           none : (side : Bool) → IsReader n_i side j → ⊥
-          none side q = d (one_reader nodes order m i n n_i left side j at at_i r q)
+          none side q = d (one_reader nodes order m i left side j at at_i r q)
 
           other : j ≢ i → InputOn nodes header formed s (after_event nodes s (step i)) net.edges e' j
           other x = input_same (step i) may j l e' (step_leaves nodes header formed s i j x) (stays j x none)

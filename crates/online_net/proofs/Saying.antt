@@ -299,17 +299,23 @@ stretch_some : (before : Option Row) (r : Row) → IfSome before (λ q. q.time <
 stretch_some None r l = row_order r
 stretch_some (Some first) r l = before_trans (after_row first) (before_row r) (after_row r) (rows_order first r l) (row_order r)
 
+-- the number is noted at the node's edge, and nothing else has changed
+pub record HasNoted (old new : Held) (i n : ℕ) : Type 0 where
+  -- the edge has the number
+  pub edges : new.edges ≡ with_edge old i (with_number (edge_at old i) (pos n))
+  -- the start is as it was
+  pub start : new.start ≡ old.start
+
 -- an atom's answer up to the row goes on at its edge
-pub atom_put : (b : Binding) (i : ℕ) (before : Option Row) (r : Row) {e0 e1 e2 e3 e4 : Held} {out1 out2 : Out} (end : Cut) (holds : Bool)
+pub atom_put : {b : Binding} {i : ℕ} (before : Option Row) (r : Row) {e0 e1 e2 e3 e4 : Held} {out1 out2 : Out} {end : Cut} {holds : Bool}
     → i < length e0.edges → IfSome before (λ q. q.time < r.time) → Same (place end) (after_row r) → HasBegun b i before r e0 e1 out1
     → HasAnswer e1 e2 out1 holds out2 → Reaches out1 end out2 → HasFinished e2 e3 out2
-    → e4.edges ≡ with_edge e3 i (with_number (edge_at e3 i) (pos r.time)) → e4.start ≡ e3.start → IsTruthAt b i r holds
-    → HasPutAtom b before r i e0 e4
-atom_put b i before r {e0} {e1} {e2} {e3} {e4} {out1} {out2} end holds within later ends_so begun answer reaches finished noted start truth = record {
+    → HasNoted e3 e4 i r.time → IsTruthAt b i r holds → HasPutAtom b before r i e0 e4
+atom_put {b} {i} before r {e0} {e1} {e2} {e3} {e4} {out1} {out2} {end} {holds} within later ends_so begun answer reaches finished noted truth = record {
   here = record { more = all; is = here; describes = describes };
-  others = λ j other. ap (λ es. get_or es j no_edge) noted ∙ get_or-set_other e3.edges i j _ no_edge other ∙ got-other got j other;
-  count = ap length noted ∙ length-set e3.edges i _ ∙ got-length got;
-  start = start ∙ got.start;
+  others = λ j other. ap (λ es. get_or es j no_edge) noted.edges ∙ get_or-set_other e3.edges i j _ no_edge other ∙ got-other got j other;
+  count = ap length noted.edges ∙ length-set e3.edges i _ ∙ got-length got;
+  start = noted.start ∙ got.start;
 }
   where
     all : List Verdict
@@ -323,7 +329,7 @@ atom_put b i before r {e0} {e1} {e2} {e3} {e4} {out1} {out2} end holds within la
         (subst (λ k. HasGot e2 e3 k finished.more) edge2 finished.got)
 
     here : edge_at e4 i ≡ with_number (with_more (edge_at e0 i) all) (pos r.time)
-    here = ap (λ es. get_or es i no_edge) noted ∙ get_or-set_same e3.edges i _ no_edge (subst (λ n. i < n) (sym (got-length got)) within)
+    here = ap (λ es. get_or es i no_edge) noted.edges ∙ get_or-set_same e3.edges i _ no_edge (subst (λ n. i < n) (sym (got-length got)) within)
         ∙ ap (λ x. with_number x (pos r.time)) (got-here got within)
 
     there : Same (place out1.at) (before_row r) → Same (place out2.at) (after_row r)
@@ -353,31 +359,29 @@ room_after n m f g l from to =
     just_after t = record { at = t; after = true }
 
 -- one truth on the gap, and the same at the row
-pub through : (b : Binding) (i : ℕ) (first r : Row) (piece : TruthPiece) (truth : ATruth) (holds : Bool) → piece ≡ Whole truth → truth.holds ≡ holds
+pub through : {piece : TruthPiece} {truth : ATruth} (b : Binding) (i : ℕ) (first r : Row) (holds : Bool) → piece ≡ Whole truth → truth.holds ≡ holds
     → IsTruthOn b i first r piece → IsTruthAt b i r holds → IsThrough b i first r holds
-through b i first r piece truth holds is same on at a tr for next t low high = by_side (le_or_lt (row_time r) t)
-  where
-    gap : (u : Rational) → row_time first <ʳ u → u <ʳ row_time r → holds_at a tr u ≡ truth.holds
-    gap = subst (λ p. TellsGap (row_time first) (row_time r) (holds_at a tr) p) is (on a tr for next)
-
-    by_side : (row_time r ≤ʳ t) ⊎ (t <ʳ row_time r) → holds_at a tr t ≡ holds
-    by_side (inl x) = at a tr t for (row_of_next tr (Some first) r next) (one_time x high)
-    by_side (inr x) = gap t low x ∙ same
+through {truth = truth} b i first r holds is same on at = λ a tr for next t low high.
+    let gap : TellsGap (row_time first) (row_time r) (holds_at a tr) (Whole truth) =
+    subst (λ p. TellsGap (row_time first) (row_time r) (holds_at a tr) p) is (on a tr for next) in
+    elim (le_or_lt (row_time r) t) [
+      | inl x ↦ at a tr t for (row_of_next tr (Some first) r next) (one_time x high)
+      | inr x ↦ gap t low x ∙ same
+    ]
 
 -- one truth after the row before, up to the row: the one verdict is put
-pub even_put : (b : Binding) (i : ℕ) (first r : Row) {e0 e1 e2 : Held} (v : Verdict) (holds : Bool) → i < length e0.edges → first.time < r.time
-    → Same (after_row first) (begins (interval v.on)) → Same (ends (interval v.on)) (after_row r) → v.holds ≡ holds → HasGot e0 e1 i (v ∷ [])
-    → e2.edges ≡ with_edge e1 i (with_number (edge_at e1 i) (pos r.time)) → e2.start ≡ e1.start → IsThrough b i first r holds
-    → HasPutAtom b (Some first) r i e0 e2
-even_put b i first r {e0} {e1} {e2} v holds within later from to is got noted start truth = record {
+pub even_put : (b : Binding) (i : ℕ) (first r : Row) {e0 e1 e2 : Held} (v : Verdict) → i < length e0.edges → first.time < r.time
+    → Same (after_row first) (begins (interval v.on)) → Same (ends (interval v.on)) (after_row r) → HasGot e0 e1 i (v ∷ [])
+    → HasNoted e1 e2 i r.time → IsThrough b i first r v.holds → HasPutAtom b (Some first) r i e0 e2
+even_put b i first r {e0} {e1} {e2} v within later from to got noted truth = record {
   here = record { more = v ∷ []; is = here; describes = describes };
-  others = λ j other. ap (λ es. get_or es j no_edge) noted ∙ get_or-set_other e1.edges i j _ no_edge other ∙ got-other got j other;
-  count = ap length noted ∙ length-set e1.edges i _ ∙ got-length got;
-  start = start ∙ got.start;
+  others = λ j other. ap (λ es. get_or es j no_edge) noted.edges ∙ get_or-set_other e1.edges i j _ no_edge other ∙ got-other got j other;
+  count = ap length noted.edges ∙ length-set e1.edges i _ ∙ got-length got;
+  start = noted.start ∙ got.start;
 }
   where
     here : edge_at e2 i ≡ with_number (with_more (edge_at e0 i) (v ∷ [])) (pos r.time)
-    here = ap (λ es. get_or es i no_edge) noted ∙ get_or-set_same e1.edges i _ no_edge (subst (λ n. i < n) (sym (got-length got)) within)
+    here = ap (λ es. get_or es i no_edge) noted.edges ∙ get_or-set_same e1.edges i _ no_edge (subst (λ n. i < n) (sym (got-length got)) within)
         ∙ ap (λ x. with_number x (pos r.time)) (got-here got within)
 
     some : Before (after_row first) (after_row r)
@@ -397,7 +401,7 @@ even_put b i first r {e0} {e1} {e2} v holds within later from to is got noted st
       inside,
       (λ e. (let x = e in cc)),
       told_same v.holds (Truth (atom i a) tr) (after_row first) (after_row r) (begins (interval v.on)) (ends (interval v.on)) from (same_places to)
-          (λ t x y. is_test a tr t v.holds (truth a tr for next t x y ∙ sym is)),
+          (λ t x y. is_test a tr t v.holds (truth a tr for next t x y)),
       (to, (let e : last ≡ last = refl in e)),
     )
 

@@ -85,11 +85,11 @@ worked_two kind left right old mid own more only is g =
       spare = g.spare;
     }
 
-swept_all : (kind : Kind) (w : Window) (old mid : Held) (out : Out) (marks : Marks) (told : Outcome) → out.edge < length old.edges
+swept_all : {mid : Held} {marks : Marks} {told : Outcome} (kind : Kind) (w : Window) (old : Held) (out : Out) → out.edge < length old.edges
     → w.of ≢ out.edge → ((k : ℕ) → IsInput kind k → w.of ≡ k) → ((k : ℕ) → w.of ≡ k → IsInput kind k)
     → held_in old (inputs_of kind) ≡ length (held_at old w.of) + 0 → out.holds ≡ None → HasSweptAll w old mid out marks told
     → HasCarried kind old mid out told
-swept_all kind w old mid out marks told own apart only is held none g = by_test (is_empty w) refl
+swept_all {mid} {marks} {told} kind w old out own apart only is held none g = by_test (is_empty w) refl
   where
     by_test : (t : Bool) → is_empty w ≡ t → HasCarried kind old mid out told
     by_test true e = told_all kind (not w.seeks) old mid out marks told own (λ j h same. apart (only j h ∙ same)) none (g.empty e)
@@ -141,9 +141,9 @@ carried (Join join inputs) old mid out marks told own apart none (g, kept) =
       sound = g.sound;
     }
 carried (Ahead w) old mid out marks told own apart none g =
-    swept_all (Ahead w) w old mid out marks told own (apart w.of refl) (λ k h. h) (λ k h. h) refl none g
+    swept_all (Ahead w) w old out own (apart w.of refl) (λ k h. h) (λ k h. h) refl none g
 carried (Behind w) old mid out marks told own apart none g =
-    swept_all (Behind w) w old mid out marks told own (apart w.of refl) (λ k h. h) (λ k h. h) refl none g
+    swept_all (Behind w) w old out own (apart w.of refl) (λ k h. h) (λ k h. h) refl none g
 carried (Until u) old mid out marks told own apart none (g, kept) =
     record {
       more = g.more;

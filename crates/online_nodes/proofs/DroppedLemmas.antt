@@ -1,36 +1,6 @@
 -- Up to where an input was read, once what is needed no more was dropped from its edge.
-use Rattle.std.proofs.Common.{
-  ◌≡◌,
-  ◌⊎◌,
-  inl,
-  inr,
-  refl,
-  sym,
-  ap,
-  subst,
-  ◌∙◌,
-  ℕ,
-  zero,
-  suc,
-  ◌+◌,
-  ◌-◌,
-  ◌<◌,
-  Bool,
-  true,
-  false,
-  Option,
-  Some,
-  None,
-  List,
-  [],
-  ◌∷◌,
-  ◌++◌,
-  drop,
-  length,
-  slice_get,
-  ℤ,
-  arith,
-}
+use Rattle.std.proofs.Common.{◌≡◌, ◌⊎◌, inl, inr, refl, sym, ap, subst, ◌∙◌, ℕ, zero, suc, ◌+◌, ◌-◌, ◌<◌, Bool, true, false}
+use Rattle.std.proofs.Common.{Option, Some, List, [], ◌∷◌, ◌++◌, drop, length, slice_get, ℤ, arith}
 use Rattle.std.specs.Prelude.{IfSome}
 use Rattle.rational.specs.Rational.{◌≤ʳ◌, ◌<ʳ◌, whole}
 use Rattle.rational.proofs.Order.{le_of_lt, le_trans, not_lt_of_le}

@@ -34,7 +34,7 @@ use Rattle.online_nodes.proofs.FrameLaw.{one_more, given_more, nothing_given, no
 use Rattle.online_nodes.proofs.StayLaw.{shown_is, first_same}
 use Rattle.online_nodes.proofs.RisingLaw.{IsSound, sound_after, sound_of, run_before, run_on, reader_behind}
 use Rattle.online_nodes.proofs.EmittedLaw.{emitted_tiles, taken_within, Led, here_led, shown_later, none_before, front_shown}
-use Rattle.online_nodes.proofs.MeetingLaw.{needed_grows, needed_first, tiles_none}
+use Rattle.online_nodes.proofs.MeetingLaw.{AllowsMore, needed_grows, needed_first, tiles_none}
 use Rattle.online_nodes.proofs.Writing.{same_itself}
 use Rattle.stl_syntax.proofs.PostOrderLemmas.{slice_get_at}
 
@@ -254,10 +254,12 @@ module _ (nodes : List Node) (header : Header) (formed : AreWellFormed nodes) wh
           grown : (o : Front) → s.fronts reader ≡ o → ((g : ℤ) → s.fronts reader ≡ Some g → (g +ℤ k) ≤ℤ f)
               → AreNeeded (first_time s.rows) (Some f) o k vs held
               → AreNeeded (first_time s.rows) (Some later.0) o k (vs ++ here) (held ++ here)
-          grown o y b h = needed_grows (first_time s.rows) f later.0 o k vs here held was.1 later.2 (record {
-            low = λ z. absurd (none_is_none f (sym z));
-            behind = λ f0 z g y' a a'. subst (λ m. (g +ℤ k) ≤ℤ m) (some_is f f0 z) (b g (y ∙ y'));
-          }) w tiles h
+          grown o y b h =
+              let allows : AllowsMore (first_time s.rows) (Some f) (Some later.0) o k = record {
+                low = λ z. absurd (none_is_none f (sym z));
+                behind = λ f0 z g y' a a'. subst (λ m. (g +ℤ k) ≤ℤ m) (some_is f f0 z) (b g (y ∙ y'));
+              } in
+              needed_grows (first_time s.rows) f later.0 vs here held was.1 later.2 allows w tiles h
 
           by_reader : (o : Front) → s.fronts reader ≡ o → AreNeeded (first_time s.rows) (Some f) o k vs held
               → AreNeeded (first_time s.rows) (Some later.0) o k (vs ++ here) (held ++ here)

@@ -114,11 +114,11 @@ pub record AllowsMore (start : ℕ) (old new : Front) (reader : Front) (k : ℤ)
   pub behind : (f : ℤ) → old ≡ Some f → (g : ℤ) → reader ≡ Some g → pos start ≤ℤ g → pos start ≤ℤ (g +ℤ k) → (g +ℤ k) ≤ℤ f
 
 -- what a reader needs of a node's verdicts, with those more that lead on to the node's new front
-pub needed_grows : (start : ℕ) (f f' : ℤ) (reader : Front) (k : ℤ) (vs here held : List Verdict) → pos start ≤ℤ f → f ≤ℤ f'
+pub needed_grows : {reader : Front} {k : ℤ} (start : ℕ) (f f' : ℤ) (vs here held : List Verdict) → pos start ≤ℤ f → f ≤ℤ f'
     → AllowsMore start (Some f) (Some f') reader k
     → AreTiles (answered_to start None) vs (answered_to start (Some f)) → AreTiles (answered_to start (Some f)) here (answered_to start (Some f'))
     → AreNeeded start (Some f) reader k vs held → AreNeeded start (Some f') reader k (vs ++ here) (held ++ here)
-needed_grows start f f' reader k vs here held s l allows tiles more = by_reader reader refl
+needed_grows {reader} {k} start f f' vs here held s l allows tiles more = by_reader reader refl
   where
     upto : (t : Rational) → t ≤ʳ whole f → t ≤ʳ whole f'
     upto t u = le_trans u (le_whole l)

@@ -144,9 +144,9 @@ used_by nodes m n left j at r =
     (ap (has_child j) (get_or_from_slice_get nodes m n (Const false) at) ∙ reads_child n left j r)
 
 -- no two nodes read one node
-pub one_reader : (nodes : List Node) → IsPostOrder nodes → (m k : ℕ) (n n' : Node) (left left' : Bool) (j : ℕ) → slice_get nodes m ≡ Some n
+pub one_reader : {n n' : Node} (nodes : List Node) → IsPostOrder nodes → (m k : ℕ) (left left' : Bool) (j : ℕ) → slice_get nodes m ≡ Some n
     → slice_get nodes k ≡ Some n' → IsReader n left j → IsReader n' left' j → m ≡ k
-one_reader nodes order m k n n' left left' j at at' r r' = by_order (cases_order m k)
+one_reader {n} {n'} nodes order m k left left' j at at' r r' = by_order (cases_order m k)
   where
     -- the earlier one would make the later one's child used
     apart : (m k : ℕ) (n n' : Node) (left left' : Bool) → m < k → slice_get nodes m ≡ Some n → slice_get nodes k ≡ Some n'

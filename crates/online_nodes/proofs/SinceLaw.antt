@@ -165,12 +165,12 @@ module _ {N P Q : Truths} {low high : Rational → Place} (since : IsSinceOf N P
 
 -- in a trace, since remembers what it knows of its inputs, where the left one is known no further than the node is answered, but for what
 -- was found, and its run began before; a time before the start counts for nothing
-pub remembers_of : {N P Q : Truths} {low high : Rational → Place} (start at run reach l r l_stop r_stop : Place)
+pub remembers_of : {N P Q : Truths} {low high : Rational → Place} {l_stop r_stop : Place} (start at run reach l r : Place)
     → IsSinceOf N P Q low high → ((u : Rational) → Q u → After start u)
     → ((t : Rational) → After at t → After run t) → ((t : Rational) → After at t → After reach t → After l t)
     → KnowsSince P Q low high start at run reach l r l_stop r_stop
     → SinceRemembers N P Q low high at run reach l r
-remembers_of {N} {P} {Q} {low} {high} start at run reach l r l_stop r_stop since in_trace ran answered k = record {
+remembers_of {N} {P} {Q} {low} {high} {l_stop} {r_stop} start at run reach l r since in_trace ran answered k = record {
   holds = k.holds;
   order = k.order;
   begins = first;

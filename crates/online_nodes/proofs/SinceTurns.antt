@@ -93,7 +93,7 @@ module _ {x : Stay} {s : Since} {written : List Verdict} {c : Wrote} {r : Reads}
   -- in the trace, what is known says what holds of the node
   pub staying-remembers : SinceRemembers (Truth x.n x.tr) (Truth x.p x.tr) (Counted true x.q x.tr) (low_place s.window) (high_place s.window)
       (place c.out.at) (place c.run) (place c.reach) r.read r.right
-  staying-remembers = remembers_of x.start (place c.out.at) (place c.run) (place c.reach) r.read r.right x.stop_left x.stop_right of.looks
+  staying-remembers = remembers_of x.start (place c.out.at) (place c.run) (place c.reach) r.read r.right of.looks
       of.from_start m.ran m.answered m.knows
 
   -- the inputs' next verdicts

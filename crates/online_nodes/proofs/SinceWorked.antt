@@ -205,10 +205,10 @@ at_most_of_after : (c d : Place) → ((t : Rational) → After d t → After c t
 at_most_of_after c d h t u = elim (sides d t) [ inl k ↦ k | inr a ↦ absurd (not_both c t u (h t a)) ]
 
 -- what since knows, by other names of its places
-since_same : {P Q : Truths} {low high : Rational → Place} (begin at at' run reach read right right' left_stop right_stop : Place)
+since_same : {P Q : Truths} {low high : Rational → Place} {begin run reach read left_stop right_stop : Place} (at at' right right' : Place)
     → Same at at' → Same right right' → KnowsSince P Q low high begin at run reach read right left_stop right_stop
     → KnowsSince P Q low high begin at' run reach read right' left_stop right_stop
-since_same begin at at' run reach read right right' left_stop right_stop s r k = record {
+since_same at at' right right' s r k = record {
   holds = k.holds;
   order = k.order;
   begins = k.begins;
@@ -421,8 +421,7 @@ module _ {x : Situation} {op : Operator} {old : Held} {work : Outcome} (d : IsDu
         (subst (λ (c : Cut). KnowsSince (Truth (subformula x.nodes s.window.of) (trace_in x)) (Counted true (subformula x.nodes s.right) (trace_in x))
         (low_place s.window) (high_place s.window) begin_place (place work.out.at) (place op.run) (place c)
         (known_at f some).read (read_upto old s.right) (front_place old s.window.of) (front_place old s.right)) (sym (g.later f some).0)
-        (since_same begin_place (record { at = whole (pos f); after = true }) (place work.out.at) (place op.run) (place op.reach)
-        (known_at f some).read (read_upto old s.right) (read_upto old s.right) (front_place old s.window.of) (front_place old s.right) later_begin
+        (since_same (record { at = whole (pos f); after = true }) (place work.out.at) (read_upto old s.right) (read_upto old s.right) later_begin
         (same_itself (read_upto old s.right)) (known_at f some).knows))
 
     -- the left input is known no further than to where the stretch begins
@@ -528,8 +527,7 @@ module _ {x : Situation} {op : Operator} {old : Held} {work : Outcome} (d : IsDu
               (subst (λ (c : Place). KnowsSince (Truth (subformula x.nodes s.window.of) (trace_in x))
               (Counted true (subformula x.nodes s.right) (trace_in x)) (low_place s.window) (high_place s.window) begin_place (end_of x)
               (place done.marks.run) (place done.marks.reach) after.0.read (read_upto new s.right) (front_place old s.window.of) c) right_stop
-              (since_same begin_place (place done.out.at) (end_of x) (place done.marks.run) (place done.marks.reach) after.0.read after.0.right
-              (read_upto new s.right) (front_place old s.window.of) (front_place old s.right) there right m.knows));
+              (since_same (place done.out.at) (end_of x) after.0.right (read_upto new s.right) there right m.knows));
           behind = λ t u. upto_same (place work.out.to) (end_of x) t g.end (subst (λ (c : Place). Upto c t) to (m.within t u));
           left_behind = λ t u. m.left_behind t (upto_same (read_upto new s.window.of) after.0.left t (same_places left) u);
           tight = λ t a b. m.tight t (after_same (read_upto new s.window.of) after.0.left t (same_places left) a) b;

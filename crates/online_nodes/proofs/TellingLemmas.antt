@@ -1,6 +1,6 @@
 -- What an input's edge tells an operator: what it holds leads from some place to where the input is answered, and is its truth.
 use Rattle.std.proofs.Common.{◌≡◌, ◌⊎◌, inl, inr, sym, ap, subst, ◌∙◌, ℕ, zero, suc, Bool, true}
-use Rattle.std.proofs.Common.{false, Some, None, List, [], ◌∷◌, ◌++◌, slice_get, ℤ, pos, ◌≤ℤ◌}
+use Rattle.std.proofs.Common.{false, Some, List, [], ◌∷◌, ◌++◌, slice_get, ℤ, pos, ◌≤ℤ◌}
 use Rattle.std.specs.Prelude.{MatchBool}
 use Rattle.std.proofs.lemmas.Option.{same_Some, none-some}
 use Rattle.rational.specs.Rational.{Rational, ◌≤ʳ◌, ◌<ʳ◌, whole}

@@ -82,7 +82,7 @@ module _ (nodes : List Node) (header : Header) (streamed : AreStreamed nodes) (o
   unread : (r : ℕ) (n : Node) (left : Bool) (j : ℕ) → slice_get nodes r ≡ Some n → IsReader n left j → r ≢ i
       → (m : Node) (side : Bool) → slice_get nodes i ≡ Some m → IsReader m side j → ⊥
   unread r n left j found reads other m side here read =
-      other (one_reader nodes streamed.formed.post_order r i n m left side j found here reads read)
+      other (one_reader nodes streamed.formed.post_order r i left side j found here reads read)
 
   held_moved : (stations : List Station) → Shows nodes header at given e stations → (j r : ℕ) (n : Node) (left : Bool)
       → slice_get nodes r ≡ Some n → IsReader n left j

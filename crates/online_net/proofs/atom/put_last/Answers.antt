@@ -14,10 +14,12 @@ at_row cut n m after e s = subst (λ k. Same (place cut) (record { at = whole (p
 
 pub returns : goal.returns
 returns c = λ b before e begun holds later within.
-    atom_put b c.args.node before c.args.row.now c.after_tick-end.result c.args.holds within later
+    atom_put before c.args.row.now within later
     (at_row c.after_tick-end.result c.time.result c.args.row.now.time true c.time.ensures c.after_tick-end.ensures)
     begun c.in_ok-out.ensures.said c.in_ok-out.ensures.reaches c.in_ok-finish.ensures.finished
-    (ap (λ (e : Held). e.edges) c.note.ensures
-    ∙ ap (λ n. with_edge c.finish.new.edges c.args.node (with_number (edge_at c.finish.new.edges c.args.node) (pos n))) c.time-2.ensures)
-    (ap (λ (e : Held). e.start) c.note.ensures)
+    (record {
+      edges = ap (λ (e : Held). e.edges) c.note.ensures
+          ∙ ap (λ n. with_edge c.finish.new.edges c.args.node (with_number (edge_at c.finish.new.edges c.args.node) (pos n))) c.time-2.ensures;
+      start = ap (λ (e : Held). e.start) c.note.ensures;
+    })
     holds

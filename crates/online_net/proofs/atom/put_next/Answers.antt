@@ -9,7 +9,7 @@ pub returns-then-is_even : goal.returns-then-is_even
 returns-then-is_even c =
     let even = c.is_even.ensures c.if-is_even.true in
     c.put_even.ensures c.args.bound.now
-    (through c.args.bound.now c.args.node c.args.first.now c.args.row.now c.truth_step-piece.result.0 even.0 c.holds-holds.result even.1 even.2
+    (through c.args.bound.now c.args.node c.args.first.now c.args.row.now c.holds-holds.result even.1 even.2
     c.truth_step-piece.ensures.piece (λ a tr t for has same. c.truth_step-piece.ensures.point a tr t for has same ∙ sym c.holds-holds.ensures))
 
 pub returns : goal.returns

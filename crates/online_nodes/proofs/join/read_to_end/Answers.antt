@@ -1,11 +1,9 @@
-use Rattle.std.proofs.Common.{sym, subst, ap, length, arith}
-use Rattle.std.proofs.lemmas.Option.{slice_get_within}
+use Rattle.std.proofs.Common.{sym, subst, arith}
 use Rattle.frac128.specs.Spans.{interval}
 use Rattle.online_nodes.specs.Working.{HasPassed}
 use Rattle.frac128.specs.declared.cut.Cut.{Cut}
 use Rattle.rational.specs.Places.{ends, AtMost, Upto}
 use Rattle.frac128.specs.Cuts.{place}
-use Rattle.online_nodes.specs.Held.{fresh_at}
 use Rattle.online_nodes.specs.Written.{HasAnswer}
 use Rattle.online_nodes.proofs.GotLemmas.{got-length}
 use Rattle.online_nodes.proofs.WorkLemmas.{passed-length}

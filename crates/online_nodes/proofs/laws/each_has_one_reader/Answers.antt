@@ -5,7 +5,7 @@ pub returns : goal.returns
 returns c nodes order root j l = (
   (λ other. let r = has_reader nodes root j l other in (r.reader, r.node, r.left, r.at, r.reads)),
   (λ r s n m left side at there reads read. (
-    one_reader nodes order r s n m left side j at there reads read,
+    one_reader nodes order r s left side j at there reads read,
     root_unread nodes root r n left j at reads,
   )),
 )
