@@ -1,5 +1,6 @@
 -- First refusals of small texts.
-use Rattle.std.proofs.Common.{◌≡◌, ap, ℕ, ◌≤◌, inl, inr, List, [], ◌∷◌, length, refl, true, false, lit≤, arith}
+use Rattle.std.proofs.Common.{◌≡◌, ◌∙◌, ap, sym, ℕ, ◌≤◌, Bool, ◌||◌, inl, inr, List, [], ◌∷◌, length, refl, true, false, lit≤, arith}
+use Rattle.std.proofs.lemmas.Bool.{or_parts, false≢true}
 use Rattle.std.specs.Prelude.{codes, pos}
 use Rattle.stl_syntax.specs.Characters.{ticks}
 use Rattle.stl_syntax.specs.Choice.{Where}
@@ -17,17 +18,32 @@ use Rattle.stl_grammar.specs.declared.fault.What.TheVariants.{Constant}
 use Rattle.stl_grammar.specs.declared.fault.FormulaFault.{FormulaFault}
 use Rattle.stl_grammar.specs.declared.fault.FormulaFault.TheVariants.{Empty, BadByte, Expected, UnboundedFuture, BoundOrder, BadNumber}
 
+-- a test of the token and of what stands about it refuses it
+abbrev pub fails_test : List Token → Token → List ℕ → Bool
+fails_test before t text = is_unbounded before t text || (begins_fifth_term before t || (is_bad_number before t || is_out_of_order before t))
+
 -- a token at which no refusal stands
-pub not_refused : (before : List Token) (t : Token) (text : List ℕ) (p : ℕ) → is_unbounded before t text ≡ false → MayBegin (t ∷ before)
-    → length (pending (t ∷ before)) ≤ 64 → nodes_made (t ∷ before) ≤ 256 → begins_fifth_term before t ≡ false → is_bad_number before t ≡ false
-    → is_out_of_order before t ≡ false → (x : FormulaFault) → ¬ RefusedAt before t text p x
-not_refused before t text p a b c d e f g x (inl (h, z)) = cc
-not_refused before t text p a b c d e f g x (inr (_, inl (h, z))) = h b
-not_refused before t text p a b c d e f g x (inr (_, inr (_, inl (h, z)))) = omega arith
-not_refused before t text p a b c d e f g x (inr (_, inr (_, inr (_, inl (h, z))))) = omega arith
-not_refused before t text p a b c d e f g x (inr (_, inr (_, inr (_, inr (_, inl (h, z)))))) = cc
-not_refused before t text p a b c d e f g x (inr (_, inr (_, inr (_, inr (_, inr (_, inl (h, z))))))) = cc
-not_refused before t text p a b c d e f g x (inr (_, inr (_, inr (_, inr (_, inr (_, inr (_, (h, z)))))))) = cc
+pub not_refused : (before : List Token) (t : Token) (text : List ℕ) (p : ℕ) → fails_test before t text ≡ false → MayBegin (t ∷ before)
+    → length (pending (t ∷ before)) ≤ 64 → nodes_made (t ∷ before) ≤ 256 → (x : FormulaFault) → ¬ RefusedAt before t text p x
+not_refused before t text p passes begins deep many x = by_refusal
+  where
+    first : (is_unbounded before t text ≡ false) × ((begins_fifth_term before t || (is_bad_number before t || is_out_of_order before t)) ≡ false)
+    first = or_parts (is_unbounded before t text) (begins_fifth_term before t || (is_bad_number before t || is_out_of_order before t)) passes
+
+    second : (begins_fifth_term before t ≡ false) × ((is_bad_number before t || is_out_of_order before t) ≡ false)
+    second = or_parts (begins_fifth_term before t) (is_bad_number before t || is_out_of_order before t) first.1
+
+    third : (is_bad_number before t ≡ false) × (is_out_of_order before t ≡ false)
+    third = or_parts (is_bad_number before t) (is_out_of_order before t) second.1
+
+    by_refusal : ¬ RefusedAt before t text p x
+    by_refusal (inl (h, z)) = false≢true (sym first.0 ∙ h)
+    by_refusal (inr (_, inl (h, z))) = h begins
+    by_refusal (inr (_, inr (_, inl (h, z)))) = omega (arith, deep)
+    by_refusal (inr (_, inr (_, inr (_, inl (h, z))))) = omega (arith, many)
+    by_refusal (inr (_, inr (_, inr (_, inr (_, inl (h, z)))))) = false≢true (sym second.0 ∙ h)
+    by_refusal (inr (_, inr (_, inr (_, inr (_, inr (_, inl (h, z))))))) = false≢true (sym third.0 ∙ h)
+    by_refusal (inr (_, inr (_, inr (_, inr (_, inr (_, inr (_, (h, z)))))))) = false≢true (sym third.1 ∙ h)
 
 -- a case that does not hold is passed over
 pub passed : {A : Type 0} (P : Type 0) (a : A) → ¬ P → (x : A) → ¬ Where P a x
@@ -56,10 +72,10 @@ no_constant = inr (
     passed _ _ (λ h. cc),
     inl (
         later (word (codes "x")) (codes "x") (codes " >=") refl (a_word refl refl refl)
-        (not_refused [] (word (codes "x")) (codes " >=") 0 refl (relation AtLeast ∷ number 0 0 ∷ [], _, x_at_least 0 0) (lit≤ tt) (lit≤ tt) refl refl refl)
+        (not_refused [] (word (codes "x")) (codes " >=") 0 refl (relation AtLeast ∷ number 0 0 ∷ [], _, x_at_least 0 0) (lit≤ tt) (lit≤ tt))
         (blank refl (
         later (relation AtLeast) (codes ">=") [] refl at_least
-        (not_refused (word (codes "x") ∷ []) (relation AtLeast) [] 2 refl (number 0 0 ∷ [], _, x_at_least 0 0) (lit≤ tt) (lit≤ tt) refl refl refl)
+        (not_refused (word (codes "x") ∷ []) (relation AtLeast) [] 2 refl (number 0 0 ∷ [], _, x_at_least 0 0) (lit≤ tt) (lit≤ tt))
         (at_end none)))),
   ),
 )
@@ -86,13 +102,13 @@ bad_point = inr (
     passed _ _ (λ h. cc),
     inl (
         later (word (codes "x")) (codes "x") (codes " >= 1.") refl (a_word refl refl refl)
-        (not_refused [] (word (codes "x")) (codes " >= 1.") 0 refl (relation AtLeast ∷ number 0 0 ∷ [], _, x_at_least 0 0) (lit≤ tt) (lit≤ tt) refl refl refl)
+        (not_refused [] (word (codes "x")) (codes " >= 1.") 0 refl (relation AtLeast ∷ number 0 0 ∷ [], _, x_at_least 0 0) (lit≤ tt) (lit≤ tt))
         (blank refl (
         later (relation AtLeast) (codes ">=") (codes " 1.") refl at_least
-        (not_refused (word (codes "x") ∷ []) (relation AtLeast) (codes " 1.") 2 refl (number 0 0 ∷ [], _, x_at_least 0 0) (lit≤ tt) (lit≤ tt) refl refl refl)
+        (not_refused (word (codes "x") ∷ []) (relation AtLeast) (codes " 1.") 2 refl (number 0 0 ∷ [], _, x_at_least 0 0) (lit≤ tt) (lit≤ tt))
         (blank refl (
         later (number 1 0) (codes "1") (codes ".") refl (an_integer refl refl refl)
-        (not_refused (relation AtLeast ∷ word (codes "x") ∷ []) (number 1 0) (codes ".") 5 refl ([], _, x_at_least 1 0) (lit≤ tt) (lit≤ tt) refl refl refl)
+        (not_refused (relation AtLeast ∷ word (codes "x") ∷ []) (number 1 0) (codes ".") 5 refl ([], _, x_at_least 1 0) (lit≤ tt) (lit≤ tt))
         (bad_byte refl no_point)))))),
   ),
 )
@@ -106,11 +122,11 @@ bad_number = inr (
     inl (
         later (word (codes "x")) (codes "x") (codes " >= 0.0000001") refl (a_word refl refl refl)
         (not_refused [] (word (codes "x")) (codes " >= 0.0000001") 0 refl (relation AtLeast ∷ number 0 0 ∷ [], _, x_at_least 0 0)
-        (lit≤ tt) (lit≤ tt) refl refl refl)
+        (lit≤ tt) (lit≤ tt))
         (blank refl (
         later (relation AtLeast) (codes ">=") (codes " 0.0000001") refl at_least
         (not_refused (word (codes "x") ∷ []) (relation AtLeast) (codes " 0.0000001") 2 refl (number 0 0 ∷ [], _, x_at_least 0 0)
-        (lit≤ tt) (lit≤ tt) refl refl refl)
+        (lit≤ tt) (lit≤ tt))
         (blank refl (
         here (number 1 7) (codes "0.0000001") [] refl (a_decimal 48 [] 48 (codes "000001") refl refl tt)
         (inr (
@@ -148,16 +164,16 @@ out_of_order = inr (
           open_bracket ∷ number 3 0 ∷ comma ∷ number 2 0 ∷ bound_first.0,
           bound_first.1,
           bound_first.2,
-        ) (lit≤ tt) (lit≤ tt) refl refl refl)
+        ) (lit≤ tt) (lit≤ tt))
         (later open_bracket (codes "[") (codes "3,2] x >= 1") refl bracket
         (not_refused (word (codes "eventually") ∷ []) _ (codes "3,2] x >= 1") 10 refl
-        (number 3 0 ∷ comma ∷ number 2 0 ∷ bound_first.0, bound_first.1, bound_first.2) (lit≤ tt) (lit≤ tt) refl refl refl)
+        (number 3 0 ∷ comma ∷ number 2 0 ∷ bound_first.0, bound_first.1, bound_first.2) (lit≤ tt) (lit≤ tt))
         (later (number 3 0) (codes "3") (codes ",2] x >= 1") refl (an_integer refl refl refl)
         (not_refused (open_bracket ∷ word (codes "eventually") ∷ []) _ (codes ",2] x >= 1") 11 refl
-        (comma ∷ number 2 0 ∷ bound_first.0, bound_first.1, bound_first.2) (lit≤ tt) (lit≤ tt) refl refl refl)
+        (comma ∷ number 2 0 ∷ bound_first.0, bound_first.1, bound_first.2) (lit≤ tt) (lit≤ tt))
         (later comma (codes ",") (codes "2] x >= 1") refl a_comma
         (not_refused (number 3 0 ∷ open_bracket ∷ word (codes "eventually") ∷ []) _ (codes "2] x >= 1") 12 refl
-        (number 2 0 ∷ bound_first.0, bound_first.1, bound_first.2) (lit≤ tt) (lit≤ tt) refl refl refl)
+        (number 2 0 ∷ bound_first.0, bound_first.1, bound_first.2) (lit≤ tt) (lit≤ tt))
         (here (number 2 0) (codes "2") (codes "] x >= 1") refl (an_integer refl refl refl)
         (inr (
           passed _ _ (λ h. cc),
@@ -191,15 +207,15 @@ eventually_after = inr (
     inl (
         later (word (codes "x")) (codes "x") (codes " >= 1 eventually") refl (a_word refl refl refl)
         (not_refused [] (word (codes "x")) (codes " >= 1 eventually") 0 refl
-        (relation AtLeast ∷ number 0 0 ∷ [], _, x_at_least 0 0) (lit≤ tt) (lit≤ tt) refl refl refl)
+        (relation AtLeast ∷ number 0 0 ∷ [], _, x_at_least 0 0) (lit≤ tt) (lit≤ tt))
         (blank refl (
         later (relation AtLeast) (codes ">=") (codes " 1 eventually") refl at_least
         (not_refused (word (codes "x") ∷ []) (relation AtLeast) (codes " 1 eventually") 2 refl
-        (number 0 0 ∷ [], _, x_at_least 0 0) (lit≤ tt) (lit≤ tt) refl refl refl)
+        (number 0 0 ∷ [], _, x_at_least 0 0) (lit≤ tt) (lit≤ tt))
         (blank refl (
         later (number 1 0) (codes "1") (codes " eventually") refl (an_integer refl refl refl)
         (not_refused (relation AtLeast ∷ word (codes "x") ∷ []) (number 1 0) (codes " eventually") 5 refl ([], _, x_at_least 1 0)
-        (lit≤ tt) (lit≤ tt) refl refl refl)
+        (lit≤ tt) (lit≤ tt))
         (blank refl (here (word (codes "eventually")) (codes "eventually") [] refl (a_word refl refl tt) (inl (refl, refl))))))))),
   ),
 )
@@ -213,7 +229,7 @@ open_until = inr (
     inl (
         later (word (codes "true")) (codes "true") (codes " until]0,2] x >= 5") refl (a_word refl refl refl)
         (not_refused [] (word (codes "true")) (codes " until]0,2] x >= 5") 0 refl
-        ([], Const true ∷ [], disjunct (conjunct (timed (operand always_true)))) (lit≤ tt) (lit≤ tt) refl refl refl)
+        ([], Const true ∷ [], disjunct (conjunct (timed (operand always_true)))) (lit≤ tt) (lit≤ tt))
         (blank refl (here (word (codes "until")) (codes "until") (codes "]0,2] x >= 5") refl (a_word refl refl refl) (inl (refl, refl))))),
   ),
 )

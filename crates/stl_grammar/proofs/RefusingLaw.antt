@@ -2,6 +2,7 @@
 use Rattle.std.proofs.Common.{◌≡◌, ℕ, ◌+◌, ◌-◌, ◌<◌, ◌≤◌, List, [], ◌∷◌, length, refl, sym, ap}
 use Rattle.std.proofs.Common.{◌∙◌, subst, Bool, true, false, if◌then◌else◌, arith, inl, inr, ◌⊎◌}
 use Rattle.std.specs.Prelude.{nat_le, nat_lt, ◌||◌, not, Option, Some, None, option_map, IsTrue, MatchBool, codes}
+use Rattle.std.proofs.lemmas.Bool.{or_from}
 use Rattle.std.proofs.lemmas.Bool.Decides.{nat_tests}
 use Rattle.std.proofs.lemmas.List.{take_at, length-append, length-drop}
 use Rattle.std.proofs.lemmas.Option.{same_Some}
@@ -513,8 +514,11 @@ module _ (text rest : List ℕ) (before : List Token) (p : Parse) (c : Code) (t 
       record {
         exact = same;
         next = step_runs before (state_of p) t runs ∙ (ap (step (state_of p)) same ∙ (sym (view_step text p c known fit) ∙ ap (option_map state_of) f));
-        free = not_refused before t rest at (unbounded ∙ a.0) g.0 (omega (arith, g.1, deep)) (omega (arith, g.2, made))
-            (fifth ∙ l.0) (bad ∙ n.0) (disorder n.0 ∙ o.0);
+        free = not_refused before t rest at
+            (or_from (is_unbounded before t rest) _ (unbounded ∙ a.0)
+            (or_from (begins_fifth_term before t) _ (fifth ∙ l.0)
+            (or_from (is_bad_number before t) (is_out_of_order before t) (bad ∙ n.0) (disorder n.0 ∙ o.0))))
+            g.0 (omega (arith, g.1, deep)) (omega (arith, g.2, made));
         few = made;
         good = n.0;
         order = o.0;

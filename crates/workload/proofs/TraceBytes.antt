@@ -115,25 +115,37 @@ no_row_fault s t count last kind early few before (inr (_, inl wrong)) = wrong.0
 no_row_fault s t count last kind early few before (inr (_, inr (_, inl bad))) = (row_is_read t (next_value s) early (value_small s)).sound kind bad
 no_row_fault s t count last kind early few before (inr (_, inr (_, inr (_, late)))) = not_late s t last early before late.0
 
+-- n rows more, from time t and line k on and behind `count` rows, are within the limits
+pub record HasRoom (t n k count : ℕ) : Type 0 where
+  -- no time reaches 2^32
+  pub times : t + 4 * n < 4294967296
+  -- no line has a number of 2^33 or more
+  pub lines : k + n < 8589934592
+  -- there are fewer than a million rows
+  pub rows : count + n < 1000000
+  -- and at least one
+  pub some : 0 < count + n
+
 -- the rows have no fault
-pub no_fault_after : (s t n k count : ℕ) (last : Option ℕ) (r : TraceRefusal) → t + 4 * n < 4294967296 → k + n < 8589934592 → count + n < 1000000
-    → 0 < count + n
-    → IsBefore last t → ¬ FaultAfter whole_limits ticks heading true k count last (lines true (rest_bytes s t n)) r
-no_fault_after s t zero k count last r h few rows some before fault =
+pub no_fault_after : (s t n k count : ℕ) (last : Option ℕ) (r : TraceRefusal) → HasRoom t n k count → IsBefore last t
+    → ¬ FaultAfter whole_limits ticks heading true k count last (lines true (rest_bytes s t n)) r
+no_fault_after s t zero k count last r room before fault =
     let at_end = subst (λ ls. FaultAfter whole_limits ticks heading true k count last ls r) (lines-nil true) fault in
     let e : count ≡ 0 = at_end.1.0.1 in
-    omega (arith, some, e)
-no_fault_after s t (suc n) k count last r h few rows some before fault =
+    omega (arith, room.some, e)
+no_fault_after s t (suc n) k count last r room before fault =
     at_line (subst (λ ls. FaultAfter whole_limits ticks heading true k count last ls r) (first_line t v early (value_small s) (rest_bytes (next_state s)
     (t + 4) n)) fault)
-    (no_fault_after (next_state s) (t + 4) n (suc k) (suc count) (Some t) r (omega (arith, h)) (omega (arith, few)) (omega (arith, rows)) (omega arith)
-    (omega arith))
+    (no_fault_after (next_state s) (t + 4) n (suc k) (suc count) (Some t) r left (omega arith))
   where
     v : ℤ
     v = next_value s
 
     early : t < 4294967296
-    early = omega (arith, h)
+    early = omega (arith, room.times)
+
+    left : HasRoom (t + 4) n (suc k) (suc count)
+    left = record { times = omega (arith, room.times); lines = omega (arith, room.lines); rows = omega (arith, room.rows); some = omega arith }
 
     more : List Line
     more = lines true (rest_bytes (next_state s) (t + 4) n)
@@ -143,14 +155,14 @@ no_fault_after s t (suc n) k count last r h few rows some before fault =
         × ((x : Row) × IsRow ticks heading (fields (done (front_of t v))) x × FaultAfter whole_limits ticks heading true (suc k) (suc count)
         (Some x.time) more r))
         → ¬ FaultAfter whole_limits ticks heading true (suc k) (suc count) (Some t) more r → ⊥
-    at_row (inl own) sound = no_row_fault s t count last r.kind early (omega (arith, rows)) before own.1
+    at_row (inl own) sound = no_row_fault s t count last r.kind early (omega (arith, room.rows)) before own.1
     at_row (inr (_, (x, is, later))) sound =
         let same : x ≡ row_of t v = row-unique ticks heading (fields (done (front_of t v))) x (row_of t v) is (row_is_read t v early (value_small s)).read in
         sound (subst (λ y. FaultAfter whole_limits ticks heading true (suc k) (suc count) (Some y.time) more r) same later)
 
     at_line : FaultAfter whole_limits ticks heading true k count last (done (front_of t v) ∷ more) r
         → ¬ FaultAfter whole_limits ticks heading true (suc k) (suc count) (Some t) more r → ⊥
-    at_line (inl own) sound = no_line_fault k t v r.kind (omega (arith, few)) (short t v early (value_small s)) own.1
+    at_line (inl own) sound = no_line_fault k t v r.kind (omega (arith, room.lines)) (short t v early (value_small s)) own.1
     at_line (inr (_, (_, other))) sound =
         at_row (subst (λ b. MatchBool b (FaultAfter whole_limits ticks heading true (suc k) count last more r) (Other r)) (solid t v early
         (value_small s)) other) sound
@@ -246,7 +258,8 @@ bytes_of_trace number rows some few = record {
         × FaultAfter whole_limits (scale_of ticks h) h true 2 0 None (lines true (rest_bytes number 0 rows)) r)) → ⊥
     at_heading r (inl own) = no_header_fault r.kind own.1
     at_heading r (inr (_, (h, is, later))) =
-        no_fault_after number 0 rows 2 0 None r (omega (arith, few)) (omega (arith, few)) (omega (arith, few)) (omega (arith, some)) tt
+        no_fault_after number 0 rows 2 0 None r
+        (record { times = omega (arith, few); lines = omega (arith, few); rows = omega (arith, few); some = omega (arith, some) }) tt
         (subst (λ g. FaultAfter whole_limits (scale_of ticks g) g true 2 0 None (lines true (rest_bytes number 0 rows)) r)
         (heading-unique (fields (done header)) h heading is is_heading) later)
 
