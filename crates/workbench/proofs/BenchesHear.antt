@@ -230,14 +230,24 @@ hears_own_stream formula f bytes text status read answered seen are t among =
     let (said, in_all, alone) = as_alone_to_its_end f t seen text among m in
     (said, alone, hears_its_end f t seen text said (read_names formula f read) (is_a_tag t [] seen tags among) tags in_all)
 
+-- the bytes of several sessions were answered with this text, and the tag is one of theirs
+pub record IsServed (f : Formula) (bytes text t : List ℕ) : Type 0 where
+  -- the status
+  pub status : ℕ
+  -- of the answer
+  pub answered : IsAnswered (sessions f) bytes true status text
+  -- the lines with their tags
+  pub seen : List Tagged
+  -- are those of the bytes
+  pub are : AreTagged (lines true bytes) seen
+  -- the tag is among them
+  pub among : is_among t (tags_after [] seen) ≡ true
+
 -- so two inputs with the same lines of a tag tell its bench the same
-pub hears_the_same : (formula : List ℕ) (f : Formula) (bytes other text said : List ℕ) (status ended : ℕ) → IsFormulaOf formula f
-    → IsAnswered (sessions f) bytes true status text
-    → IsAnswered (sessions f) other true ended said → (seen others : List Tagged) → AreTagged (lines true bytes) seen
-    → AreTagged (lines true other) others → (t : List ℕ)
-    → is_among t (tags_after [] seen) ≡ true → is_among t (tags_after [] others) ≡ true → lines_of t seen ≡ lines_of t others → heard t text ≡ heard t said
-hears_the_same formula f bytes other text said status ended read answered also seen others are others_are t among among_others same =
-    let (mine, alone, mine_is) = hears_own_stream formula f bytes text status read answered seen are t among in
-    let (theirs, apart, theirs_is) = hears_own_stream formula f other said ended read also others others_are t among_others in
-    let bytes_are : own others t ≡ own seen t = own_of_lines others t ∙ ap (λ l. own l t) (sym same) ∙ sym (own_of_lines seen t) in
-    mine_is ∙ ap texts (text_alone_once f (own seen t) true mine theirs alone (subst (λ w. Alone f w true theirs) bytes_are apart)) ∙ sym theirs_is
+pub hears_the_same : {formula : List ℕ} {f : Formula} {bytes other text said t : List ℕ} → IsFormulaOf formula f → (x : IsServed f bytes text t)
+    → (y : IsServed f other said t) → lines_of t x.seen ≡ lines_of t y.seen → heard t text ≡ heard t said
+hears_the_same {formula} {f} {bytes} {other} {text} {said} {t} read x y same =
+    let (mine, alone, mine_is) = hears_own_stream formula f bytes text x.status read x.answered x.seen x.are t x.among in
+    let (theirs, apart, theirs_is) = hears_own_stream formula f other said y.status read y.answered y.seen y.are t y.among in
+    let bytes_are : own y.seen t ≡ own x.seen t = own_of_lines y.seen t ∙ ap (λ l. own l t) (sym same) ∙ sym (own_of_lines x.seen t) in
+    mine_is ∙ ap texts (text_alone_once f (own x.seen t) true mine theirs alone (subst (λ w. Alone f w true theirs) bytes_are apart)) ∙ sym theirs_is

@@ -171,12 +171,13 @@ own_ends_with request read left text line ended status fit at (wide n den h) =
 own_ends_with request read left text line ended status fit at (overfull count h) =
     (overfull_own request read ended count h, complete_overfull count (full_own request read left ended count (at (λ k. omega (arith, k))) h) refl)
 
-own_end : (request : Request) (i : Drained) (o : Filled) (read left text line : List ℕ) (status : ℕ) → AreFit request (read ++ left) → (¬ HasFailed i)
-    → (¬ HasRefused o) → (status ≢ 7 → i.ended ≡ true → left ≡ []) → IsEnd request i o read text status line → Own request (read ++ left) text status
-own_end request i o read left text line status fit calm quiet at (by_itself h) = own_ends_with request read left text line i.ended status fit at h
-own_end request i o read left text line status fit calm quiet at (unread has ended failed sound owed) = absurd (calm failed)
-own_end request i o read left text line status fit calm quiet at (unwritten rest some failed begun timely) = absurd (quiet failed)
-own_end request i o read left text line status fit calm quiet at (no_memory known begun timely) = (starved_own request (read ++ left) fit, complete_starved)
+own_end : {request : Request} {i : Drained} {o : Filled} {read text line : List ℕ} {status : ℕ} (left : List ℕ) → IsEnd request i o read text status line
+    → AreFit request (read ++ left) → (¬ HasFailed i) → (¬ HasRefused o) → (status ≢ 7 → i.ended ≡ true → left ≡ []) → Own request (read ++ left) text status
+own_end {request} {i} {read = read} {text = text} {line = line} {status = status} left (by_itself h) fit calm quiet at =
+    own_ends_with request read left text line i.ended status fit at h
+own_end left (unread has ended failed sound owed) fit calm quiet at = absurd (calm failed)
+own_end left (unwritten rest some failed begun timely) fit calm quiet at = absurd (quiet failed)
+own_end {request} {read = read} left (no_memory known begun timely) fit calm quiet at = (starved_own request (read ++ left) fit, complete_starved)
 
 -- the end of a request that reads nothing
 made_ends_with : (number rows : ℕ) (read text line : List ℕ) (ended : Bool) {status : ℕ} → EndsWith read ended (generated number rows) status line text
@@ -215,8 +216,8 @@ module _ (words : List (List ℕ)) (request : Request) (i : Drained) (o : Filled
       by_input : (b : Bool) → has_input request ≡ b → IsCompleteRun request o bytes status
       by_input true has =
           let (left, after, parts) = rest_of i.before i.after bytes read (calm.held has) moved in
-          let own = own_end request i o read left text line status (subst (AreFit request) parts calm.fit) calm.source_works calm.sink_works
-          (λ n said. subst IsAtEnd after ((at n (ap has_input same ∙ has)).none_left said)) ended in
+          let own = own_end left ended (subst (AreFit request) parts calm.fit) calm.source_works calm.sink_works
+          (λ n said. subst IsAtEnd after ((at n (ap has_input same ∙ has)).none_left said)) in
           record { text = text; grew = grew; own = own.0; is = subst (λ b. IsComplete request b text status) (sym parts) own.1 }
       by_input false has =
           let own = made_end request i o read bytes text line has calm.fit calm.sink_works ended in

@@ -49,11 +49,11 @@ empty_before p header rows made told none = elim told [
 ]
 
 -- the row that decides
-pub now_said : (p : Subformula) (header : Header) (rows : List Row) (r : Row) (made grown : List ℕ) (d : Decided) (scale : Scale)
+pub now_said : {p : Subformula} {header : Header} {rows : List Row} {made : List ℕ} (r : Row) (grown : List ℕ) (d : Decided) (scale : Scale)
     → IsEarlyText p header rows false made
     → d.at ≡ r.time → FirstDecides p header rows r d.holds → scale.time ≡ header.scale.time → AreDecidedLines scale d.at d.holds grown
     → IsEarlyText p header (rows ++ r ∷ []) false (made ++ grown)
-now_said p header rows r made grown d scale told at first digits (time, num, is) =
+now_said {p} {header} {rows} {made} r grown d scale told at first digits (time, num, is) =
     at_row rows [] r d.holds time refl first
     (subst (λ k. IsNumberText k (row_time r) time) digits (subst (λ t. IsNumberText scale.time (whole (pos t)) time) at num))
     (ap (λ m. m ++ grown) (empty_before p header rows made told first.not_before) ∙ is)
@@ -122,7 +122,7 @@ module _ (x y : Deciding) (case : Case) (made : List ℕ) (h : Follows (λ c tex
       by_answer (Some d) (at, first) (grown, lines, e) = (
         grown,
         e,
-        follows grown (now_said (root case.formula.nodes) case.trace.header case.trace.rows r made grown d x.scale h.told at first h.stands.digits lines),
+        follows grown (now_said r grown d x.scale h.told at first h.stands.digits lines),
       )
 
   -- the end

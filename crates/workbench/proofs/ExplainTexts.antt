@@ -195,42 +195,60 @@ join_same e f g h s r (node, holds, touch) = (
 back_one : (e g : Item) → AreSame e g → AreSame g e
 back_one e g s = record { node = sym s.node; holds = sym s.holds; on = alike_sym (interval e.on) (interval g.on) s.on }
 
+-- a line that is joined of items, and the last of them
+record Joining : Type 0 where
+  line : Item
+  last : Item
+
+-- a line that was begun with an item
+abbrev begun_with : Item → Joining
+begun_with e = record { line = e; last = e }
+
+-- two such lines are the same so far
+record AreSameSoFar (x y : Joining) : Type 0 where
+  line : AreSame x.line y.line
+  last : AreSame x.last y.last
+
 -- items that are the same make the same lines
-joined_same : (line last bar rear : Item) (items others lines bars : List Item) → AreSame line bar → AreSame last rear → AreAllSame items others
-    → AreJoined line last items lines → AreJoined bar rear others bars → AreAllSame lines bars
-joined_same line last bar rear [] [] lines bars s r all h k =
-    subst (λ zs. AreAllSame zs bars) (sym h) (subst (λ zs. AreAllSame (line ∷ []) zs) (sym k) (s, tt))
-joined_same line last bar rear [] (g ∷ others) lines bars s r all h k = absurd all
-joined_same line last bar rear (e ∷ items) [] lines bars s r all h k = absurd all
-joined_same line last bar rear (e ∷ items) (g ∷ others) lines bars s r (a, all) (inl (j, (longer, node, holds, begin, end, rest)))
+joined_same : (x y : Joining) (items others lines bars : List Item) → AreSameSoFar x y → AreAllSame items others
+    → AreJoined x.line x.last items lines → AreJoined y.line y.last others bars → AreAllSame lines bars
+joined_same x y [] [] lines bars s all h k =
+    subst (λ zs. AreAllSame zs bars) (sym h) (subst (λ zs. AreAllSame (x.line ∷ []) zs) (sym k) (s.line, tt))
+joined_same x y [] (g ∷ others) lines bars s all h k = absurd all
+joined_same x y (e ∷ items) [] lines bars s all h k = absurd all
+joined_same x y (e ∷ items) (g ∷ others) lines bars s (a, all) (inl (j, (longer, node, holds, begin, end, rest)))
     (inl (j', (wider, node', holds', begin', end', rest'))) =
-    joined_same longer e wider g items others lines bars (record {
-      node = node ∙ s.node ∙ sym node';
-      holds = holds ∙ s.holds ∙ sym holds';
-      on = record {
-        begin = record {
-          time = same_trans begin.time (same_trans s.on.begin.time (same_sym begin'.time));
-          inside = begin.inside ∙ s.on.begin.inside ∙ sym begin'.inside;
-        };
-        end = record {
-          time = same_trans end.time (same_trans a.on.end.time (same_sym end'.time));
-          inside = end.inside ∙ a.on.end.inside ∙ sym end'.inside;
+    joined_same (record { line = longer; last = e }) (record { line = wider; last = g }) items others lines bars (record {
+      line = record {
+        node = node ∙ s.line.node ∙ sym node';
+        holds = holds ∙ s.line.holds ∙ sym holds';
+        on = record {
+          begin = record {
+            time = same_trans begin.time (same_trans s.line.on.begin.time (same_sym begin'.time));
+            inside = begin.inside ∙ s.line.on.begin.inside ∙ sym begin'.inside;
+          };
+          end = record {
+            time = same_trans end.time (same_trans a.on.end.time (same_sym end'.time));
+            inside = end.inside ∙ a.on.end.inside ∙ sym end'.inside;
+          };
         };
       };
-    }) a all rest rest'
-joined_same line last bar rear (e ∷ items) (g ∷ others) lines bars s r (a, all) (inl (j, more)) (inr (apart, more')) =
-    absurd (apart (join_same last e rear g r a j))
-joined_same line last bar rear (e ∷ items) (g ∷ others) lines bars s r (a, all) (inr (apart, more)) (inl (j, more')) =
-    absurd (apart (join_same rear g last e (back_one last rear r) (back_one e g a) j))
-joined_same line last bar rear (e ∷ items) (g ∷ others) lines bars s r (a, all) (inr (apart, (rest, is, more))) (inr (apart', (rest', is', more'))) =
-    subst (λ zs. AreAllSame zs bars) (sym is) (subst (λ zs. AreAllSame (line ∷ rest) zs) (sym is')
-    (s, joined_same e e g g items others rest rest' a a all more more'))
+      last = a;
+    }) all rest rest'
+joined_same x y (e ∷ items) (g ∷ others) lines bars s (a, all) (inl (j, more)) (inr (apart, more')) =
+    absurd (apart (join_same x.last e y.last g s.last a j))
+joined_same x y (e ∷ items) (g ∷ others) lines bars s (a, all) (inr (apart, more)) (inl (j, more')) =
+    absurd (apart (join_same y.last g x.last e (back_one x.last y.last s.last) (back_one e g a) j))
+joined_same x y (e ∷ items) (g ∷ others) lines bars s (a, all) (inr (apart, (rest, is, more))) (inr (apart', (rest', is', more'))) =
+    subst (λ zs. AreAllSame zs bars) (sym is) (subst (λ zs. AreAllSame (x.line ∷ rest) zs) (sym is')
+    (s.line, joined_same (begun_with e) (begun_with g) items others rest rest' (record { line = a; last = a }) all more more'))
 
 lines_same : (items others lines bars : List Item) → AreAllSame items others → IsItemLines items lines → IsItemLines others bars → AreAllSame lines bars
 lines_same [] [] lines bars all h k = subst (λ zs. AreAllSame zs bars) (sym h) (subst (λ zs. AreAllSame [] zs) (sym k) tt)
 lines_same [] (g ∷ others) lines bars all h k = absurd all
 lines_same (e ∷ items) [] lines bars all h k = absurd all
-lines_same (e ∷ items) (g ∷ others) lines bars (s, all) h k = joined_same e e g g items others lines bars s s all h k
+lines_same (e ∷ items) (g ∷ others) lines bars (s, all) h k =
+    joined_same (begun_with e) (begun_with g) items others lines bars (record { line = s; last = s }) all h k
 
 -- a formula on a trace has one list of lines
 pub explained_same : (f : Formula) (tr : Trace) (xs ys : List Item) → IsExplained f tr xs → IsExplained f tr ys → AreAllSame xs ys

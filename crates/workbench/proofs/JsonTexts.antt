@@ -68,13 +68,19 @@ piece_object a b from to =
     object (member (codes "from") (string from) (member (codes "on") (string (codes "(" ++ a ++ codes "," ++ b ++ codes ")"))
     (member (codes "to") (string to) no_members)))
 
-piece_data : (scale : Scale) (k l : Knot) (p q : Piece) (x y : Data) → k.time ≈ l.time → p.from ≈ᵉ q.from → p.to ≈ᵉ q.to → p.next.time ≈ q.next.time
-    → IsPieceData scale k p x → IsPieceData scale l q y → x ≡ y
-piece_data scale k l p q x y e f g h (a, b, from, to, a_is, b_is, from_is, to_is, is) (a', b', from', to', a_is', b_is', from_is', to_is', is') =
-    is ∙ ap (λ z. piece_object z b from to) (number_once scale.time e a_is a_is')
-    ∙ ap (λ z. piece_object a' z from to) (number_once scale.time h b_is b_is')
-    ∙ ap (λ z. piece_object a' b' z to) (value_once scale.value p.from q.from f from_is from_is')
-    ∙ ap (λ z. piece_object a' b' from' z) (value_once scale.value p.to q.to g to_is to_is') ∙ sym is'
+-- two pieces, each after its knot, that are the same
+record AreSamePieces (k l : Knot) (p q : Piece) : Type 0 where
+  begin : k.time ≈ l.time
+  from : p.from ≈ᵉ q.from
+  to : p.to ≈ᵉ q.to
+  end : p.next.time ≈ q.next.time
+
+piece_data : (scale : Scale) (k l : Knot) (p q : Piece) (x y : Data) → AreSamePieces k l p q → IsPieceData scale k p x → IsPieceData scale l q y → x ≡ y
+piece_data scale k l p q x y s (a, b, from, to, a_is, b_is, from_is, to_is, is) (a', b', from', to', a_is', b_is', from_is', to_is', is') =
+    is ∙ ap (λ z. piece_object z b from to) (number_once scale.time s.begin a_is a_is')
+    ∙ ap (λ z. piece_object a' z from to) (number_once scale.time s.end b_is b_is')
+    ∙ ap (λ z. piece_object a' b' z to) (value_once scale.value p.from q.from s.from from_is from_is')
+    ∙ ap (λ z. piece_object a' b' from' z) (value_once scale.value p.to q.to s.to to_is to_is') ∙ sym is'
 
 pieces_data : (scale : Scale) (k l : Knot) (ps qs : List Piece) (xs ys : Items) → k.time ≈ l.time → PiecesAlike ps qs → ArePieceData scale k ps xs
     → ArePieceData scale l qs ys → xs ≡ ys
@@ -83,7 +89,8 @@ pieces_data scale k l [] (q ∷ qs) xs ys e h a b = absurd h
 pieces_data scale k l (p ∷ ps) [] xs ys e h a b = absurd h
 pieces_data scale k l (p ∷ ps) (q ∷ qs) xs ys e (f, g, next, h) (piece, knot, later, piece_is, knot_is, rest, is)
     (piece', knot', later', piece_is', knot_is', rest', is') =
-    is ∙ ap (λ z. item z (item knot later)) (piece_data scale k l p q piece piece' e f g next.time piece_is piece_is')
+    is ∙ ap (λ z. item z (item knot later))
+    (piece_data scale k l p q piece piece' (record { begin = e; from = f; to = g; end = next.time }) piece_is piece_is')
     ∙ ap (λ z. item piece' (item z later)) (knot_data scale p.next q.next knot knot' next knot_is knot_is')
     ∙ ap (λ z. item piece' (item knot' z)) (pieces_data scale p.next q.next ps qs later later' next.time h rest rest') ∙ sym is'
 

@@ -115,7 +115,7 @@ watch_left words f bytes text (Err stop) w old new ask k same =
 -- a stream that ends for a reason leaves nothing
 pub streamed_stopped : {s : Stream} {f : Formula} (Done : Formula → List ℕ → List ℕ → Type 0) {i : Drained} {o e : Filled}
     {ending : Result Bool Stop} {status : ℕ} (words : List (List ℕ)) (old : Kept) → AreFor words (word_of_stream s) f
-    → HasStreamed s f Done i o e ending status → is_err ending ≡ true → HasRun words i o e old old status
+    → HasStreamed (stream s) f Done i o e ending status → is_err ending ≡ true → HasRun words i o e old old status
 streamed_stopped {s} {f} Done {ending = ending} words old ask x err =
     streamed_run x words old old ask (stopped_left words (stream s f) (streamed_end x).bytes ending old ask err)
 
@@ -131,7 +131,7 @@ kept_answer (Err stop) w old e = absurd (false≢true (sym e))
 -- the run of `watch`
 pub watch_run : {f : Formula} {i : Drained} {o e : Filled} {ending : Result Bool Stop} {status : ℕ} (words : List (List ℕ)) (w : Watched)
     (old new : Kept) → AreFor words word.watch f
-    → HasStreamed verdicts f (IsWatched w) i o e ending status
+    → HasStreamed (stream verdicts) f (IsWatched w) i o e ending status
     → MatchResult ending (λ _. new ≡ Watch w) (λ _. new ≡ old) → HasRun words i o e old new status
 watch_run {f} {ending = ending} words w old new ask x kept =
     let y = streamed_end x in
@@ -165,7 +165,7 @@ early_over f bytes text live (holds, over) e = (
 -- the run of `early`
 pub early_run : {f : Formula} (Done : List ℕ → List ℕ → Type 0) {i : Drained} {o e : Filled} {ending : Result Bool Stop} {status : ℕ}
     (words : List (List ℕ)) (x : Deciding) (old new : Kept) → AreFor words word.early f
-    → HasStreamed early f (λ _. Done) i o e ending status
+    → HasStreamed (stream early) f (λ _. Done) i o e ending status
     → ((bytes text : List ℕ) → OnOk ending (Done bytes text) → OnOk ending (IsEarlyOf f bytes x))
     → MatchResult ending (λ _. new ≡ Early x) (λ _. new ≡ old) → HasRun words i o e old new status
 early_run {f} Done {ending = ending} words x old new ask y as_done kept =
@@ -232,7 +232,7 @@ margins_over f bytes text live (holds, over) e =
 -- the run of `rwatch`
 pub margins_run : {f : Formula} (Done : List ℕ → List ℕ → Type 0) {i : Drained} {o e : Filled} {ending : Result Bool Stop} {status : ℕ}
     (words : List (List ℕ)) (net : Parts) (old new : Kept) → AreFor words word.rwatch f
-    → HasStreamed margins f (λ _. Done) i o e ending status
+    → HasStreamed (stream margins) f (λ _. Done) i o e ending status
     → ((bytes text : List ℕ) → OnOk ending (Done bytes text) → OnOk ending (IsNetOf f bytes net))
     → MatchResult ending (λ _. new ≡ Margins net) (λ _. new ≡ old) → HasRun words i o e old new status
 margins_run {f} Done {ending = ending} words net old new ask y as_done kept =
@@ -264,11 +264,10 @@ has_measurer live (Ok holds) e bytes text (h, over) = subst (λ (o : Option Meas
 has_measurer live (Err stop) e bytes text k = absurd (false≢true (sym e))
 
 -- a formula that is not served is refused before anything is read
-pub unserved_left : (words : List (List ℕ)) (text : List ℕ) (f : Formula) (node : ℕ) (i : Drained) (o e : Filled) (old new : Kept)
-    (line : List ℕ) → IsAsked words (on_formula word.rwatch text)
-    → IsFormulaOf text f → IsUnserved word.rwatch f node → line ≡ not_streamed_text node → i.after ≡ i.before → o.after ≡ o.before
-    → IsSaid e.before e.after e.faults e.faults_after line → new ≡ old → HasRun words i o e old new 3
-unserved_left words text f node i o e old new line form is unserved line_is same_in same_out said same =
+pub unserved_left : {words : List (List ℕ)} {text : List ℕ} {f : Formula} {i : Drained} {o e : Filled} {old new : Kept} {line : List ℕ} (node : ℕ)
+    → IsAsked words (on_formula word.rwatch text) → IsFormulaOf text f → IsUnserved word.rwatch f node → line ≡ not_streamed_text node
+    → i.after ≡ i.before → o.after ≡ o.before → IsSaid e.before e.after e.faults e.faults_after line → new ≡ old → HasRun words i o e old new 3
+unserved_left {words} {text} {f} {i} {o} {e} {line = line} node form is unserved line_is same_in same_out said same =
     let ask : Asks words (bad_request line) = record { command = word.rwatch; text = text; form = form; is = inr (f, node, is, unserved, line_is) } in
     record {
       run = record {

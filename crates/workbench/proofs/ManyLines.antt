@@ -5,7 +5,7 @@ use Rattle.std.specs.Prelude.{MatchResult, OnOk}
 use Rattle.std.specs.Result.{is_err}
 use Rattle.std.proofs.KnownBytes.{Appends-nil}
 use Rattle.std.proofs.lemmas.Bool.{false≢true}
-use Rattle.io_edge.specs.Calls.{Drained, Filled, IsAskedOnce}
+use Rattle.io_edge.specs.Calls.{Drained, Filled}
 use Rattle.stl_syntax.specs.Formula.{Formula}
 use Rattle.session_mux.specs.Inputs.{OwesLines}
 use Rattle.session_mux.specs.Muxes.{Muxed}
@@ -17,7 +17,6 @@ use Rattle.session_mux.proofs.FrontLines.{no_fault_so_far, owed_so_far, few_byte
 use Rattle.workbench.specs.Commands as word
 use Rattle.workbench.specs.Requests.{sessions, AreFor}
 use Rattle.workbench.specs.Running.{IsBegun}
-use Rattle.workbench.specs.Saying.{IsSaid}
 use Rattle.workbench.specs.Many.{stop_of_input, outcome_of_input, IsInputWritten, no_room, made_whole, made_in_part, IsManyAtRest}
 use Rattle.workbench.specs.Pushing.{IsPushed, IsPushStop, IsPush, IsFinished, IsLineOf, IsStreamEnd}
 use Rattle.workbench.specs.Wholes.{status_of, IsEndLine, EndsSoundly}
@@ -28,7 +27,7 @@ use Rattle.workbench.specs.declared.fault.Stop.TheVariants.{Fault as Faulty, Inp
 use Rattle.workbench.specs.declared.kept.Kept.{Kept}
 use Rattle.workbench.specs.declared.kept.Kept.TheVariants.{Mux}
 use Rattle.workbench.proofs.Beginnings.{begun_before, begun_now}
-use Rattle.workbench.proofs.StreamSteps.{pushed_run}
+use Rattle.workbench.proofs.StreamSteps.{HasStreamed, streamed_end, pushed_run}
 use Rattle.workbench.proofs.Leaving.{not_answer}
 
 -- ---- what is written
@@ -203,17 +202,14 @@ pub formula_stays : (f g : Formula) → sessions f ≡ sessions g → f ≡ g
 formula_stays f g e = cc
 
 -- the run of `mux`
-pub many_run : (words : List (List ℕ)) (f g h k : Formula) (m : Muxed) (i : Drained) (o e : Filled) (old new : Kept)
-    → AreFor words word.mux f → g ≡ f → h ≡ f → k ≡ f
-    → (ending : Result Bool Stop) (status : ℕ) (line : List ℕ) → status ≡ status_of ending
-    → IsStreamEnd (HasAll h m) (sessions g) i o ending → IsAskedOnce i → IsEndLine k ending line
-    → IsSaid e.before e.after e.faults e.faults_after line → MatchResult ending (λ _. new ≡ Mux m) (λ _. new ≡ old) → HasRun words i o e old new status
-many_run words f g h k m i o e old new ask eg eh ek ending status line same x once is_line said kept =
-    let y = subst (λ (z : Formula). IsStreamEnd (HasAll z m) (sessions f) i o ending) eh
-    (subst (λ (z : Formula). IsStreamEnd (HasAll h m) (sessions z) i o ending) eg x) in
-    let own = subst (λ (z : Formula). IsEndLine z ending line) ek is_line in
-    pushed_run words (sessions f) i o e old new ask refl ending status line same y once (many_line f ending y.line line y.is_line own) said
-    (many_left words f y.bytes y.text ending m old new ask y.left kept)
+pub many_run : {f h : Formula} {i : Drained} {o e : Filled} {ending : Result Bool Stop} {status : ℕ} (words : List (List ℕ)) (m : Muxed) (old new : Kept)
+    → AreFor words word.mux f → h ≡ f → HasStreamed sessions f (λ _. HasAll h m) i o e ending status
+    → MatchResult ending (λ _. new ≡ Mux m) (λ _. new ≡ old) → HasRun words i o e old new status
+many_run {f} {ending = ending} words m old new ask same x kept =
+    let y = streamed_end x in
+    let done = subst (λ (k : Formula). OnOk ending (HasAll k m y.bytes y.text)) same y.left in
+    pushed_run x words old new ask refl (λ own. many_line f ending y.line x.line y.is_line own)
+    (many_left words f y.bytes y.text ending m old new ask done kept)
 
 -- the answer is kept, or the fault leaves all as it was
 pub many_fault : (r : Result Bool Stop) (m : Muxed) (k : Kept) → is_err r ≡ true → MatchResult r (λ _. k ≡ Mux m) (λ _. k ≡ k)

@@ -105,10 +105,10 @@ module _ {limits : Limits} {f : Formula} {before now : Option (List ℕ)} {reade
   }
 
 -- why the reading stopped
-pub stop_from : (l limits : Limits) (f : Formula) (before after : Option (List ℕ)) (ended known : Bool) (bytes : List ℕ)
+pub stop_from : {l limits : Limits} {f : Formula} {bytes : List ℕ} (before after : Option (List ℕ)) (ended known : Bool)
     (e : StreamStop) → l ≡ limits → ended ≡ known
     → IsRefused l f known bytes e → IsRead before after ended bytes → IsReadPromptly limits f bytes ended → IsStop limits f before after ended (stop_of e)
-stop_from l limits f before after ended known bytes (Faulty fault) s k (x, is, first) read prompt = (
+stop_from {l} {f = f} {bytes = bytes} before after ended known (Faulty fault) s k (x, is, first) read prompt = (
   x,
   is,
   record {
@@ -118,24 +118,24 @@ stop_from l limits f before after ended known bytes (Faulty fault) s k (x, is, f
     prompt = prompt;
   },
 )
-stop_from l limits f before after ended known bytes NoMemory s k r read prompt = (bytes, read.moved)
-stop_from l limits f before after ended known bytes (Wide i den) s k r read prompt = absurd r
+stop_from {bytes = bytes} before after ended known NoMemory s k r read prompt = (bytes, read.moved)
+stop_from before after ended known (Wide i den) s k r read prompt = absurd r
 
 -- the end of the bytes, told to the reader, is the end of the reading
-pub end_from : (l limits : Limits) (f : Formula) (before after : Option (List ℕ)) (ended : Bool) (bytes : List ℕ)
+pub end_from : {l limits : Limits} {f : Formula} {bytes : List ℕ} (before after : Option (List ℕ)) (ended : Bool)
     (r : Result (Unit {0}) StreamStop) (case : Option Case)
     → l ≡ limits → ended ≡ true → IsRead before after ended bytes → IsReadPromptly limits f bytes ended
     → MatchResult r (λ _. MatchOption case ⊥ (IsEnded l f bytes)) (IsRefused l f true bytes)
     → MatchResult (outcome_of r) (λ _. MatchOption case ⊥ (IsReadWhole limits f before after ended)) (IsStop limits f before after ended)
-end_from l limits f before after ended bytes (Ok x) None s k read prompt m = absurd m
-end_from l limits f before after ended bytes (Ok x) (Some c) s k read prompt m = record {
+end_from before after ended (Ok x) None s k read prompt m = absurd m
+end_from {f = f} {bytes = bytes} before after ended (Ok x) (Some c) s k read prompt m = record {
   bytes = bytes;
   read = read;
   came_to_end = k;
   whole = subst (λ (y : Limits). IsWhole y f bytes c.trace) s m.whole;
   case = m.case;
 }
-end_from l limits f before after ended bytes (Err e) case s k read prompt m = stop_from l limits f before after ended true bytes e s k m read prompt
+end_from before after ended (Err e) case s k read prompt m = stop_from before after ended true e s k m read prompt
 
 -- a refusal is no fault of the source
 pub not_unread : (e : StreamStop) → stop_of e ≡ Unread → ⊥

@@ -221,27 +221,8 @@ line_is s f (Err NoMemory) line other a b = b ∙ sym a
 line_is s f (Err (Wide i den)) line other a b = b ∙ sym a
 line_is s f (Err (TooMany count)) line other a b = b ∙ sym a
 
--- the end of a request with input is that of the run, which leaves this
-pub pushed_run : {Done : List ℕ → List ℕ → Type 0} (words : List (List ℕ)) (q : Request) (i : Drained) (o e : Filled) (old new : Kept)
-    → Asks words q → has_input q ≡ true
-    → (ending : Result Bool Stop) (status : ℕ) (line : List ℕ) → status ≡ status_of ending → (x : IsStreamEnd Done q i o ending) → IsAskedOnce i → line ≡ x.line
-    → IsSaid e.before e.after e.faults e.faults_after line → IsLeft words x.bytes (status_of ending) old new → HasRun words i o e old new status
-pushed_run {Done} words q i o e old new ask input ending status line same x once is_line said left =
-    subst (λ n. HasRun words i o e old new n) (sym same) (record {
-      run = record {
-        bytes = x.bytes;
-        text = x.text;
-        line = x.line;
-        moved = x.moved;
-        grew = x.grew;
-        said = subst (λ l. IsSaid e.before e.after e.faults e.faults_after l) is_line said;
-        ended = asked q ask (λ k. absurd (false≢true (sym k ∙ input))) (λ _ _. record { none_left = x.at_end; once = once }) x.is;
-      };
-      left = left;
-    })
-
--- a stream of the formula f was pushed to its end, and its line was said
-pub record HasStreamed (s : Stream) (f : Formula) (Done : Formula → List ℕ → List ℕ → Type 0) (i : Drained) (o e : Filled)
+-- a request of the formula f, with input, was pushed to its end, and its line was said
+pub record HasStreamed (request : Formula → Request) (f : Formula) (Done : Formula → List ℕ → List ℕ → Type 0) (i : Drained) (o e : Filled)
     (ending : Result Bool Stop) (status : ℕ) : Type 0 where
   -- the formula of what was pushed
   pub pushed : Formula
@@ -252,7 +233,7 @@ pub record HasStreamed (s : Stream) (f : Formula) (Done : Formula → List ℕ �
   -- which is f
   pub line_formula_is : line_formula ≡ f
   -- how it came to its end
-  pub came : IsStreamEnd (Done pushed) (stream s pushed) i o ending
+  pub came : IsStreamEnd (Done pushed) (request pushed) i o ending
   -- the source was asked for its end once
   pub once : IsAskedOnce i
   -- the line
@@ -264,19 +245,39 @@ pub record HasStreamed (s : Stream) (f : Formula) (Done : Formula → List ℕ �
   -- the status is that of the ending
   pub is_status : status ≡ status_of ending
 
-module _ {s : Stream} {f : Formula} {Done : Formula → List ℕ → List ℕ → Type 0} {i : Drained} {o e : Filled} {ending : Result Bool Stop} {status : ℕ}
-    (x : HasStreamed s f Done i o e ending status) where
-  -- what was pushed is a stream of f
-  pub streamed_end : IsStreamEnd (Done f) (stream s f) i o ending
-  streamed_end = subst (λ (k : Formula). IsStreamEnd (Done k) (stream s k) i o ending) x.pushed_is x.came
+module _ {request : Formula → Request} {f : Formula} {Done : Formula → List ℕ → List ℕ → Type 0} {i : Drained} {o e : Filled}
+    {ending : Result Bool Stop} {status : ℕ} (x : HasStreamed request f Done i o e ending status) where
+  -- what was pushed is the request of f
+  pub streamed_end : IsStreamEnd (Done f) (request f) i o ending
+  streamed_end = subst (λ (k : Formula). IsStreamEnd (Done k) (request k) i o ending) x.pushed_is x.came
 
   -- its end is that of the run, which leaves this
-  pub streamed_run : (words : List (List ℕ)) (old new : Kept) → AreFor words (word_of_stream s) f
-      → IsLeft words streamed_end.bytes (status_of ending) old new → HasRun words i o e old new status
-  streamed_run words old new ask left =
+  pub pushed_run : (words : List (List ℕ)) (old new : Kept) → Asks words (request f) → has_input (request f) ≡ true
+      → (IsEndLine f ending x.line → x.line ≡ streamed_end.line) → IsLeft words streamed_end.bytes (status_of ending) old new
+      → HasRun words i o e old new status
+  pushed_run words old new ask input line_is left =
       let own : IsEndLine f ending x.line = subst (λ (k : Formula). IsEndLine k ending x.line) x.line_formula_is x.is_line in
-      pushed_run words (stream s f) i o e old new ask refl ending status x.line x.is_status streamed_end x.once
-      (line_is s f ending streamed_end.line x.line streamed_end.is_line own) x.said left
+      subst (λ n. HasRun words i o e old new n) (sym x.is_status) (record {
+        run = record {
+          bytes = streamed_end.bytes;
+          text = streamed_end.text;
+          line = streamed_end.line;
+          moved = streamed_end.moved;
+          grew = streamed_end.grew;
+          said = subst (λ l. IsSaid e.before e.after e.faults e.faults_after l) (line_is own) x.said;
+          ended = asked (request f) ask (λ k. absurd (false≢true (sym k ∙ input)))
+              (λ _ _. record { none_left = streamed_end.at_end; once = x.once }) streamed_end.is;
+        };
+        left = left;
+      })
+
+-- so of a stream
+pub streamed_run : {s : Stream} {f : Formula} {Done : Formula → List ℕ → List ℕ → Type 0} {i : Drained} {o e : Filled} {ending : Result Bool Stop}
+    {status : ℕ} (x : HasStreamed (stream s) f Done i o e ending status) (words : List (List ℕ)) (old new : Kept) → AreFor words (word_of_stream s) f
+    → IsLeft words (streamed_end x).bytes (status_of ending) old new → HasRun words i o e old new status
+streamed_run {s} {f} {ending = ending} x words old new ask left =
+    let y = streamed_end x in
+    pushed_run x words old new ask refl (λ own. line_is s f ending y.line x.line y.is_line own) left
 
 -- a fault that ends it is one
 pub stream_soundly : {Done : List ℕ → List ℕ → Type 0} (s : Stream) (f : Formula) (i : Drained) (o : Filled)

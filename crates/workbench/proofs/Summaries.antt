@@ -110,21 +110,55 @@ IsNow holds p t = MatchBool holds (Truth p t (start t)) (¬ Truth p t (start t))
 abbrev pub AreAll : List Verdict → Subformula → Trace → Type 0
 AreAll vs p t = Describes vs p t (closed (start t) (stop t))
 
--- the summary of the generated trace, as it was read and judged
-pub summed_case : (number rows : ℕ) → 1 ≤ rows → rows ≤ 200000 → (c : Case) → IsCase judged_formula c → c.trace ≡ generated number rows
-    → (x : List (Knot Kind)) → IsRootOf truth_shape truths c x → (vs : List Verdict)
-    → DescribesFunction (knots.IsWorth truth_shape x) vs (closed (knots.start x) (knots.stop x)) → (ahead n : ℕ) → ahead ≡ horizon (root c.formula.nodes)
-    → IsCount vs c.trace ahead n → (k : Knot Kind) → slice_get x 0 ≡ Some k → (text : List ℕ)
-    → text ≡ summary_text rows (length vs) n k.point.holds → IsSummary number rows text
-summed_case number rows some few c case same x is vs described ahead n far count k at text parts =
-    let roots : root c.formula.nodes ≡ judged_root =
-    ap (λ (g : Formula). root g.nodes) (case.formula ∙ ap (λ (t : Trace). scaled judged_formula t.header.scale) same) in
-    let told : AreAll vs judged_root c.trace = subst (λ (p : Subformula). AreAll vs p c.trace) roots
-    (signal_describes truth_shape (root c.formula.nodes) c.trace x is.values is.tells vs described) in
-    let now : IsNow k.point.holds judged_root c.trace = subst (λ (p : Subformula). IsNow k.point.holds p c.trace) roots
-    (truth_at truth_shape (root c.formula.nodes) c.trace x is.values is.tells k.point.holds (start c.trace)
-    (at_start x k at (start c.trace) (same_sym is.tells.begins))) in
-    let counted : HasStreamLines judged_root c.trace n =
-    count judged_root (subst (λ (t : Trace). IsTrace t) (sym same) (text_of_trace number rows some few).rising) (far ∙ ap horizon roots) told in
-    summed number rows some few vs n k.point.holds (subst (λ (t : Trace). AreAll vs judged_root t) same told)
-    (subst (λ (t : Trace). HasStreamLines judged_root t n) same counted) (subst (λ (t : Trace). IsNow k.point.holds judged_root t) same now) text parts
+-- the generated trace of so many rows was read, and its formula was evaluated over it
+pub record IsEvaluated (number rows : ℕ) : Type 0 where
+  -- there is a row
+  pub some : 1 ≤ rows
+  -- and no more than these
+  pub few : rows ≤ 200000
+  -- what was read
+  pub case : Case
+  -- with the formula of generated traces
+  pub fits : IsCase judged_formula case
+  -- is the generated trace
+  pub trace : case.trace ≡ generated number rows
+  -- the signal of the formula
+  pub signal : List (Knot Kind)
+  -- is its truth
+  pub is_root : IsRootOf truth_shape truths case signal
+  -- its verdicts
+  pub verdicts : List Verdict
+  -- are those of the signal
+  pub described : DescribesFunction (knots.IsWorth truth_shape signal) verdicts (closed (knots.start signal) (knots.stop signal))
+  -- how far ahead the formula looks
+  pub ahead : ℕ
+  -- by its bounds
+  pub far : ahead ≡ horizon (root case.formula.nodes)
+  -- the lines of a stream
+  pub lines : ℕ
+  -- are so many
+  pub counted : IsCount verdicts case.trace ahead lines
+  -- the first knot
+  pub first : Knot Kind
+  -- of the signal
+  pub at_first : slice_get signal 0 ≡ Some first
+
+-- its summary, as it was read and judged
+pub summed_case : {number rows : ℕ} (x : IsEvaluated number rows) (text : List ℕ)
+    → text ≡ summary_text rows (length x.verdicts) x.lines x.first.point.holds → IsSummary number rows text
+summed_case {number} {rows} x text parts =
+    let tr = x.case.trace in
+    let vs = x.verdicts in
+    let holds = x.first.point.holds in
+    let p = root x.case.formula.nodes in
+    let roots : p ≡ judged_root =
+    ap (λ (g : Formula). root g.nodes) (x.fits.formula ∙ ap (λ (t : Trace). scaled judged_formula t.header.scale) x.trace) in
+    let told : AreAll vs judged_root tr = subst (λ (q : Subformula). AreAll vs q tr) roots
+    (signal_describes truth_shape p tr x.signal x.is_root.values x.is_root.tells vs x.described) in
+    let now : IsNow holds judged_root tr = subst (λ (q : Subformula). IsNow holds q tr) roots
+    (truth_at truth_shape p tr x.signal x.is_root.values x.is_root.tells holds (start tr)
+    (at_start x.signal x.first x.at_first (start tr) (same_sym x.is_root.tells.begins))) in
+    let counted : HasStreamLines judged_root tr x.lines =
+    x.counted judged_root (subst (λ (t : Trace). IsTrace t) (sym x.trace) (text_of_trace number rows x.some x.few).rising) (x.far ∙ ap horizon roots) told in
+    summed number rows x.some x.few vs x.lines holds (subst (λ (t : Trace). AreAll vs judged_root t) x.trace told)
+    (subst (λ (t : Trace). HasStreamLines judged_root t x.lines) x.trace counted) (subst (λ (t : Trace). IsNow holds judged_root t) x.trace now) text parts

@@ -395,7 +395,7 @@ one_truth P false true x y = absurd (x y)
 one_truth P false false x y = refl
 
 tell_alike : (p : Subformula) (tr : Trace) (vs ws : List Verdict) → AreTold p tr vs → AreTold p tr ws → TellAlike vs ws
-tell_alike p tr vs ws a b i j v w t e f x y =
+tell_alike p tr vs ws a b = λ i j v w t e f x y.
     one_truth (Truth p tr t) v.holds w.holds ((told_at p tr vs i v a e).truth t x) ((told_at p tr ws j w b f).truth t y)
 
 -- the law of what is written in the end

@@ -141,8 +141,8 @@ cover_append from mid to (point t v ∷ xs) ys e h = (e.0, turn_append t mid to 
 row_agrees : (p : Subformula) (header : Header) (rows : List Row) (r : Row) (tr : Trace) (f : ℤ) → IsTrace tr → Continues tr header (rows ++ r ∷ []) false
     → AnsweredBy (first_time (rows ++ r ∷ [])) p r.time f
     → AgreeOn p (record { header = header; rows = rows ++ r ∷ [] }) tr (whole (pos (first_time (rows ++ r ∷ [])))) (whole f)
-row_agrees p header [] r tr f is c a t from to v = (answered_margins_stay p header r [] tr false t v is c (from, row_answered p [] r f a t to)).0
-row_agrees p header (q ∷ qs) r tr f is c a t from to v =
+row_agrees p header [] r tr f is c a = λ t from to v. (answered_margins_stay p header r [] tr false t v is c (from, row_answered p [] r f a t to)).0
+row_agrees p header (q ∷ qs) r tr f is c a = λ t from to v.
     (answered_margins_stay p header q (qs ++ r ∷ []) tr false t v is c (from, row_answered p (q ∷ qs) r f a t to)).0
 
 -- up to where a front leads, and nothing where there is none yet

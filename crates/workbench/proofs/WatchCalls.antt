@@ -190,14 +190,13 @@ module _ (old mid : Live Verdicts) (p : Past) (piece : List ℕ) (phase : Phase)
       })
 
 -- what came of a piece, once its text was written
-pub push_written : (held held_after : Option (List ℕ)) (old mid : Live Verdicts) (p : Past) (piece : List ℕ) (phase : Phase)
-    (s : StandsFor p (record { live = old; phase = phase }))
-    (formula : mid.formula ≡ old.formula) (limits : mid.rows.limits ≡ old.rows.limits) (fed : Result (Unit {0}) StreamStop)
-    (result : Result (Unit {0}) Stop) → IsMadeWritten held held_after mid.text fed result
+pub push_written : {held held_after : Option (List ℕ)} {p : Past} {fed : Result (Unit {0}) StreamStop} {result : Result (Unit {0}) Stop}
+    (old mid : Live Verdicts) (piece : List ℕ) (phase : Phase) (s : StandsFor p (record { live = old; phase = phase }))
+    (formula : mid.formula ≡ old.formula) (limits : mid.rows.limits ≡ old.rows.limits) → IsMadeWritten held held_after mid.text fed result
     → MatchResult fed (λ _. IsLive WatchesRows verdicts mid (p.bytes ++ piece) p.text)
     (λ e. IsLiveStop verdicts old.rows.limits old.formula false (p.bytes ++ piece) (p.text ++ mid.text) e)
     → HasWritten held held_after (with_piece p piece) false mid.text (λ _. IsLive WatchesRows verdicts mid (p.bytes ++ piece) p.text) result
-push_written held held_after old mid p piece phase s formula limits fed result written taken =
+push_written {held} {held_after} {p} {fed} {result} old mid piece phase s formula limits written taken =
     written_call held held_after (with_piece p piece) false mid.text (λ _. IsLive WatchesRows verdicts mid (p.bytes ++ piece) p.text) fed result written
     (piece_fed old mid p piece phase s formula limits fed taken)
 

@@ -1,4 +1,4 @@
-use Rattle.std.proofs.Common.{◌<◌, false, ◌++◌, length, take, refl, sym, ap, ◌∙◌, subst, arith}
+use Rattle.std.proofs.Common.{◌<◌, false, length, take, refl, sym, ap, ◌∙◌, subst, arith}
 use Rattle.std.specs.Prelude.{Result, MatchOption, MatchResult}
 use Rattle.std.proofs.KnownBytes.{Consumes-nil}
 use Rattle.io_edge.specs.Causes.{after_end}
@@ -52,9 +52,8 @@ returns-then-count-eq0-clause-read g c =
     (IsStop c.args.reading.now.rows.limits c.args.formula.now (g.S.Source.left c.args.input.now) (g.S.Source.left c.read.new.self)
     (g.S.Source.ended c.read.new.self)))
     (sym c.outcome_from.ensures)
-    (end_from c.loop-reads.reading.rows.limits c.args.reading.now.rows.limits c.args.formula.now
-    (g.S.Source.left c.args.input.now) (g.S.Source.left c.read.new.self)
-    (g.S.Source.ended c.read.new.self) p.bytes c.finish.result c.finish.new.self.case p.same_limits ended
+    (end_from (g.S.Source.left c.args.input.now) (g.S.Source.left c.read.new.self) (g.S.Source.ended c.read.new.self)
+    c.finish.result c.finish.new.self.case p.same_limits ended
     (read_all p _ _ (take c.in-Ok.count c.read.new.buf) (none_taken c.in-Ok.count c.read.new.buf c.if-count-eq0.true) c.in-Ok.ensures.bytes.0
     (c.in-Ok.ensures.bytes.1 c.if-count-eq0.true size))
     (prompt_end p (g.S.Source.ended c.read.new.self))
@@ -78,8 +77,7 @@ returns-in-Err-clause-read g c =
     let goes_on = not_true (g.S.Source.ended c.read.new.self) (λ t. c.if-count-eq0.false (c.in-Ok.ensures.end.0 t).0) in
     subst (λ (e : Stop). IsStop c.args.reading.now.rows.limits c.args.formula.now (g.S.Source.left c.args.input.now) (g.S.Source.left c.read.new.self)
     (g.S.Source.ended c.read.new.self) e) (sym c.stop_from.ensures)
-    (stop_from c.loop-reads.reading.rows.limits c.args.reading.now.rows.limits c.args.formula.now (g.S.Source.left c.args.input.now)
-    (g.S.Source.left c.read.new.self) (g.S.Source.ended c.read.new.self) false (p.bytes ++ take c.in-Ok.count c.read.new.buf) c.in-Err.stop
+    (stop_from (g.S.Source.left c.args.input.now) (g.S.Source.left c.read.new.self) (g.S.Source.ended c.read.new.self) false c.in-Err.stop
     p.same_limits goes_on (c.in-Err.ensures.taken p.bytes p.is)
     (read_more p _ _ (take c.in-Ok.count c.read.new.buf) c.in-Ok.ensures.bytes.0 goes_on)
     (prompt_piece p (take c.in-Ok.count c.read.new.buf) (g.S.Source.ended c.read.new.self)

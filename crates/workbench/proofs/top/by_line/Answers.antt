@@ -19,9 +19,19 @@ returns-then-is_err-clause-ran g c = λ words ask.
     let e = c.in-Ok.ensures.formula in
     let many = c.stream-ending.new.pusher in
     let stays = formula_stays many.formula c.in-Ok.many.formula c.stream-ending.ensures.same ∙ e in
-    many_run words c.args.formula c.in-Ok.many.formula many.formula c.formula.result.now many.input.mux _ _ _ _ _ ask e stays (c.formula.ensures ∙ stays)
-    c.stream-ending.result c.finish-status.result reason.0 c.finish-status.ensures.status c.stream-ending.ensures.ending
-    c.stream-ending.ensures.ends reason.1 reason.2
+    many_run words many.input.mux c.args.kept.now _ ask stays
+    (record {
+      pushed = c.in-Ok.many.formula;
+      pushed_is = e;
+      line_formula = c.formula.result.now;
+      line_formula_is = c.formula.ensures ∙ stays;
+      came = c.stream-ending.ensures.ending;
+      once = c.stream-ending.ensures.ends;
+      line = reason.0;
+      is_line = reason.1;
+      said = reason.2;
+      is_status = c.finish-status.ensures.status;
+    })
     (many_fault c.stream-ending.result many.input.mux c.args.kept.now (sym c.is_err.ensures.value ∙ c.if-is_err.true))
 
 pub returns-clause-ran : goal.returns-clause-ran
@@ -30,7 +40,17 @@ returns-clause-ran g c = λ words ask.
     let e = c.in-Ok.ensures.formula in
     let many = c.stream-ending.new.pusher in
     let stays = formula_stays many.formula c.in-Ok.many.formula c.stream-ending.ensures.same ∙ e in
-    many_run words c.args.formula c.in-Ok.many.formula many.formula c.formula.result.now many.input.mux _ _ _ _ _ ask e stays (c.formula.ensures ∙ stays)
-    c.stream-ending.result c.finish-status.result reason.0 c.finish-status.ensures.status c.stream-ending.ensures.ending
-    c.stream-ending.ensures.ends reason.1 reason.2
+    many_run words many.input.mux c.args.kept.now _ ask stays
+    (record {
+      pushed = c.in-Ok.many.formula;
+      pushed_is = e;
+      line_formula = c.formula.result.now;
+      line_formula_is = c.formula.ensures ∙ stays;
+      came = c.stream-ending.ensures.ending;
+      once = c.stream-ending.ensures.ends;
+      line = reason.0;
+      is_line = reason.1;
+      said = reason.2;
+      is_status = c.finish-status.ensures.status;
+    })
     (many_answer c.stream-ending.result many.input.mux c.into_mux.result c.args.kept.now c.into_mux.ensures (sym c.is_err.ensures.value ∙ c.if-is_err.false))

@@ -1,13 +1,10 @@
 use Rattle.std.proofs.Common.{refl}
-use Rattle.report.specs.Lines.{line_text}
 use Rattle.workbench.proofs.Leaving.{unserved_left}
 use Rattle.workbench.proofs.top.margins_of_rows.Goals as goal
 
 pub returns-in-Some-clause-ran : goal.returns-in-Some-clause-ran
 returns-in-Some-clause-ran g c = λ words text form is.
-    unserved_left words text c.args.formula c.in-Some.node _ _ _ _ _
-    (line_text c.not_streamed_line.result) form is c.in-Some.ensures c.not_streamed_line.ensures
-    refl refl c.say.ensures.said refl
+    unserved_left c.in-Some.node form is c.in-Some.ensures c.not_streamed_line.ensures refl refl c.say.ensures.said refl
 
 pub measure_by_row-requires : goal.measure_by_row-requires
 measure_by_row-requires g c = c.in_default.ensures

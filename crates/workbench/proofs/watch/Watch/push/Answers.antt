@@ -1,4 +1,4 @@
-use Rattle.std.proofs.Common.{◌++◌, false, Ok, Err, sym, subst}
+use Rattle.std.proofs.Common.{◌++◌, false, sym, subst}
 use Rattle.workbench.specs.Requests.{verdicts}
 use Rattle.trace_stream.specs.Following.{IsLive}
 use Rattle.workbench.specs.Watches.{Watched, StandsFor, WatchesRows, with_piece, with_text, HasPushed}
@@ -9,9 +9,8 @@ pub invariant_of-self : goal.invariant_of-self
 invariant_of-self g c = λ reading.
     let (p, s) = c.self.invariant reading in
     let mid = c.feed-fed.new.self in
-    let written = push_written (g.K.Sink.written c.args.out.now) (g.K.Sink.written c.write_made.new.out) c.self.inside.live mid p
-    c.args.piece.now c.self.inside.phase s c.feed-fed.ensures.formula c.feed-fed.ensures.limits
-    c.feed-fed.result (Ok c.in-Ok.field-0) c.in-Ok.ensures.written (c.feed-fed.ensures.taken p.bytes p.text s.live) in
+    let written = push_written c.self.inside.live mid c.args.piece.now c.self.inside.phase s c.feed-fed.ensures.formula c.feed-fed.ensures.limits
+    c.in-Ok.ensures.written (c.feed-fed.ensures.taken p.bytes p.text s.live) in
     let pushed = has_pushed c.self.inside.live mid p c.args.piece.now c.self.inside.phase s c.feed-fed.ensures.formula
     c.feed-fed.ensures.limits c.write_made.new.live c.in-Ok.ensures.done reading written.1 in
     (with_text (with_piece p c.args.piece.now) mid.text, pushed.stands)
@@ -22,17 +21,15 @@ stopped-requires g c =
     let mid = c.feed-fed.new.self in
     fault_there (g.K.Sink.written c.args.out.now) (g.K.Sink.written c.write_made.new.out) (with_piece p c.args.piece.now) false mid.text (Unit {0})
     (λ _. IsLive WatchesRows verdicts mid (p.bytes ++ c.args.piece.now) p.text) c.in-Err.stop
-    (push_written (g.K.Sink.written c.args.out.now) (g.K.Sink.written c.write_made.new.out) c.self.inside.live mid p c.args.piece.now
-    c.self.inside.phase s c.feed-fed.ensures.formula c.feed-fed.ensures.limits
-    c.feed-fed.result (Err c.in-Err.stop) c.in-Err.ensures.written (c.feed-fed.ensures.taken p.bytes p.text s.live))
+    (push_written c.self.inside.live mid c.args.piece.now c.self.inside.phase s c.feed-fed.ensures.formula c.feed-fed.ensures.limits
+    c.in-Err.ensures.written (c.feed-fed.ensures.taken p.bytes p.text s.live))
 
 pub returns-in-Ok-clause-pushed : goal.returns-in-Ok-clause-pushed
 returns-in-Ok-clause-pushed g c = λ p stands.
     let s = subst (λ (w : Watched). StandsFor p w) (sym c.self.view_is) stands in
     let mid = c.feed-fed.new.self in
-    let written = push_written (g.K.Sink.written c.args.out.now) (g.K.Sink.written c.write_made.new.out) c.self.inside.live mid p
-    c.args.piece.now c.self.inside.phase s c.feed-fed.ensures.formula c.feed-fed.ensures.limits
-    c.feed-fed.result (Ok c.in-Ok.field-0) c.in-Ok.ensures.written (c.feed-fed.ensures.taken p.bytes p.text s.live) in (
+    let written = push_written c.self.inside.live mid c.args.piece.now c.self.inside.phase s c.feed-fed.ensures.formula c.feed-fed.ensures.limits
+    c.in-Ok.ensures.written (c.feed-fed.ensures.taken p.bytes p.text s.live) in (
       mid.text,
       written.0,
       has_pushed c.self.inside.live mid p c.args.piece.now c.self.inside.phase s c.feed-fed.ensures.formula
@@ -45,6 +42,5 @@ returns-in-Err-clause-pushed g c = λ p stands.
     let mid = c.feed-fed.new.self in
     call_stopped (g.K.Sink.written c.args.out.now) (g.K.Sink.written c.write_made.new.out) (with_piece p c.args.piece.now) false mid.text (Unit {0})
     (λ _. IsLive WatchesRows verdicts mid (p.bytes ++ c.args.piece.now) p.text) (λ _ q. HasPushed q c.args.self.now) c.in-Err.stop c.stopped.result
-    (push_written (g.K.Sink.written c.args.out.now) (g.K.Sink.written c.write_made.new.out) c.self.inside.live mid p c.args.piece.now
-    c.self.inside.phase s c.feed-fed.ensures.formula c.feed-fed.ensures.limits
-    c.feed-fed.result (Err c.in-Err.stop) c.in-Err.ensures.written (c.feed-fed.ensures.taken p.bytes p.text s.live)) c.stopped.ensures.fault
+    (push_written c.self.inside.live mid c.args.piece.now c.self.inside.phase s c.feed-fed.ensures.formula c.feed-fed.ensures.limits
+    c.in-Err.ensures.written (c.feed-fed.ensures.taken p.bytes p.text s.live)) c.stopped.ensures.fault
