@@ -236,7 +236,7 @@ crossing_by A B from to p q a b den more h = record {
   wide = h.wide;
 }
 
--- so is a value
+-- and so does a value that is not stored
 pub value_by : (A B : Rational → Affine → Type 0) (from to : Rational) (p : Affine) (u : Rational) (den : ℕ)
     → ((tau : Rational) (line : Affine) → A tau line → B tau line)
     → IsWideValue A from to p u den → IsWideValue B from to p u den

@@ -200,6 +200,26 @@ is_trace header (q ∷ rows) are some = are
 
 -- ---- a row, and the end
 
+-- the network may be given the row
+pub record IsRowFor (net : Parts) (r : Row) : Type 0 where
+  -- it has a value for each column
+  pub width : length r.values ≡ net.bound.width
+  -- it comes after the last one
+  pub later : IfSome net.last (λ q. q.time < r.time)
+  -- its time is a tick
+  pub small : r.time ≤ 4294967295
+  -- the end has not come
+  pub opened : net.closed ≡ false
+
+-- the network may come to its end, which is the time of the last row
+pub record IsEndFor (net : Parts) (now : ℕ) : Type 0 where
+  -- there is one
+  pub some : net.last ≢ None
+  -- the end has not come
+  pub opened : net.closed ≡ false
+  -- that is its time
+  pub is_now : IfSome net.last (λ q. now ≡ q.time)
+
 module _ (nodes : List Node) (header : Header) (net : Parts) (past : Past) (given : List MarginLine) (stands : StandsFor nodes header net past given) where
   abbrev keeps : Keeps nodes header net past
   keeps = stands.keeps
@@ -216,8 +236,7 @@ module _ (nodes : List Node) (header : Header) (net : Parts) (past : Past) (give
       by_rows [] e = refl
       by_rows (q ∷ rows) e = absurd (let f = e in cc)
 
-  module _ (r : Row) (width : length r.values ≡ net.bound.width) (later : IfSome net.last (λ q. q.time < r.time)) (small : r.time ≤ 4294967295)
-      (opened : net.closed ≡ false) where
+  module _ (r : Row) (fits : IsRowFor net r) where
     abbrev pub passing_row : Passing
     passing_row = record { nodes = nodes; header = header; old = past; new = with_row past r; given = given }
 
@@ -238,10 +257,10 @@ module _ (nodes : List Node) (header : Header) (net : Parts) (past : Past) (give
     can_row = (
       record {
         nodes = keeps.streamed;
-        next = (sym keeps.closed ∙ opened, inl (r, refl));
+        next = (sym keeps.closed ∙ fits.opened, inl (r, refl));
         start = begun_start;
-        trace = rows_more header past.rows r keeps.rows (subst (λ o. IfSome o (λ q. q.time < r.time)) keeps.last later) (width ∙ keeps.bound.width);
-        small = let last = last_appended 0 past.rows r in omega (arith, last, small);
+        trace = rows_more header past.rows r keeps.rows (subst (λ o. IfSome o (λ q. q.time < r.time)) keeps.last fits.later) (fits.width ∙ keeps.bound.width);
+        small = let last = last_appended 0 past.rows r in omega (arith, last, fits.small);
         shows =
             shows_same nodes header keeps.streamed (λ j. past) given given net.edges
             (begun net.edges net.last r.time) net.stations stands.shows refl (begun_edges net.last);
@@ -267,14 +286,14 @@ module _ (nodes : List Node) (header : Header) (net : Parts) (past : Past) (give
         small = can_row.0.small;
         start = gone.start ∙ sym (first_row-append past.rows r);
         last = same ∙ sym (last_row-append past.rows r);
-        closed = opened;
+        closed = fits.opened;
         some = λ h. absurd (false≢true h);
         running = keeps.running;
       };
       shows = gone.shows;
     }
 
-  module _ (some : net.last ≢ None) (opened : net.closed ≡ false) (now : ℕ) (is_now : IfSome net.last (λ q. now ≡ q.time)) where
+  module _ (now : ℕ) (end : IsEndFor net now) where
     abbrev pub passing_end : Passing
     passing_end = record { nodes = nodes; header = header; old = past; new = with_end past; given = given }
 
@@ -299,11 +318,11 @@ module _ (nodes : List Node) (header : Header) (net : Parts) (past : Past) (give
         by_rows : (rows : List Row) → net.last ≡ last_row_of rows
             → net.edges.start ≡ option_map (λ (x : Row). x.time) (first_row_of rows) → AreRowsSoFar header rows
             → HasRows rows
-        by_rows [] last start are = absurd (some last)
+        by_rows [] last start are = absurd (end.some last)
         by_rows (q ∷ rows) last start are = record {
           trace = are;
           start = start;
-          last = subst (λ o. IfSome o (λ x. now ≡ x.time)) last is_now ∙ last_after_time q rows;
+          last = subst (λ o. IfSome o (λ x. now ≡ x.time)) last end.is_now ∙ last_after_time q rows;
           rows_some = λ e. let f = e in cc;
         }
 
@@ -312,7 +331,7 @@ module _ (nodes : List Node) (header : Header) (net : Parts) (past : Past) (give
     can_end = (
       record {
         nodes = keeps.streamed;
-        next = (sym keeps.closed ∙ opened, inr refl);
+        next = (sym keeps.closed ∙ end.opened, inr refl);
         start = has_rows.start;
         trace = has_rows.trace;
         small = keeps.small;
