@@ -44,6 +44,8 @@ mod stream_tests;
 #[cfg(test)]
 mod tables;
 #[cfg(test)]
+mod texts_tests;
+#[cfg(test)]
 mod trace_reader_tests;
 #[cfg(test)]
 mod traces;

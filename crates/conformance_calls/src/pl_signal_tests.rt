@@ -185,3 +185,27 @@ fn a_part_keeps_its_ends(rt: HostRuntime) {
     let instant = cut(&rt, &s, 3, 3);
     assert!(&rt; instant.len() == 1 && Margin::same(&read(&rt, &instant, 3, 1), &rise));
 }
+
+/// Goes on from the last time. A test ends where the step is not allowed.
+fn go_on<P: Shape>(rt: &impl Abort, built: &mut Builder<P>, after: P, to: i64, point: P) {
+    let (last, to) = (built.stop(), Frac::of(to));
+    assert!(rt; is_near(&last));
+    let Ordering::Less = last.cmp(&to) else {
+        panic!(rt; "order");
+    };
+    assert!(rt; built.go_along(&after, &to, &point).is_ok(), "memory");
+}
+
+#[test]
+fn a_signal_with_room_is_built_as_without(rt: HostRuntime) {
+    let (yes, no) = (Truth::of(true), Truth::of(false));
+    let Ok(mut built) = Builder::with_room(rt.alloc(), Frac::of(0), yes, 3) else {
+        panic!(&rt; "memory");
+    };
+    go_on(&rt, &mut built, yes, 3, yes);
+    go_on(&rt, &mut built, yes, 5, yes);
+    go_on(&rt, &mut built, no, 7, no);
+    let s = built.finish();
+    assert_eq!(&rt; s.len(), 3);
+    assert!(&rt; read(&rt, &s, 5, 1).holds() && !read(&rt, &s, 11, 2).holds());
+}

@@ -60,6 +60,20 @@ fn prints_leaves_and_connectives(rt: HostRuntime) -> Result<(), Fail> {
 }
 
 #[test]
+fn copies_say_the_same(rt: HostRuntime) -> Result<(), Fail> {
+    let term = Term::make(rt.alloc(), -3, "x")?;
+    let copy = term.clone()?;
+    assert!(&rt; copy.coef() == -3 && copy.name().as_str() == "x");
+    let mut terms = Vec::new(rt.alloc());
+    terms.push(copy)?;
+    let atom = make_atom(terms, Rel::AtLeast, 5).clone()?;
+    assert!(&rt; atom.print(WHOLE)?.bytes() == b"-3*x >= 5".as_slice());
+    let formula = formula(&rt, rt.alloc(), &[A1, Op::Not], TENTHS)?.copied()?;
+    assert!(&rt; formula.print()?.bytes() == b"not -x + y > -1.5".as_slice());
+    Ok(())
+}
+
+#[test]
 fn prints_windows(rt: HostRuntime) -> Result<(), Fail> {
     let table: [(&[Op], &str); 16] = [
         (
