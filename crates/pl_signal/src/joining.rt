@@ -1,10 +1,11 @@
 //! The least and the greatest of two shapes over an open gap.
-ghost use Rattle.std.specs.Prelude.{◌≡◌, ◌⊎◌, ◌^◌, IfSome, MatchResult};
+ghost use Rattle.std.specs.Prelude.{◌≡◌, ◌≢◌, ◌⊎◌, ◌^◌, Err, IfSome, MatchResult};
 ghost use Rattle.rational.specs.Rational.{IsWithin};
 ghost use Rattle.rational.specs.Time.{◌<ʳ◌};
 ghost use Rattle.rational.specs.Extended.{value_at};
 ghost use Rattle.rational.specs.Affine.{HasBoundedLevel, MeetAlone};
 ghost use Rattle.frac128.specs.Value.{value};
+ghost use Rattle.pl_signal.specs.declared.faults.OpFault.TheVariants as F;
 ghost use Rattle.pl_signal.specs.declared.joining.Pieces.TheVariants.{Whole};
 ghost use Rattle.pl_signal.specs.Joining.{IsChosen, IsFavour, IsGapFault, IsPieces, TurnsOver};
 
@@ -69,9 +70,10 @@ pub fn crossing<P: Shape>(p: &P, q: &P, from: &Frac, to: &Frac) -> Result<Frac, 
     requires first { HasBoundedLevel (2 ^ 31) (P.function p.now) }
     requires second { HasBoundedLevel (2 ^ 31) (P.function q.now) }
     requires turned { TurnsOver (P.function p.now) (P.function q.now) (value from.now) (value to.now) }
-    ensures { MatchResult result
+    ensures met { MatchResult result
         (λ t. MeetAlone (P.function p.now) (P.function q.now) (value from.now) (value to.now) (value t))
         (IsGapFault P.Shape p.now q.now from.now to.now) }
+    ensures memory { result ≢ Err F.Memory }
 {
     match P::cross(p, q, from, to) {
         Ok(Some(t)) => Ok(t),

@@ -31,7 +31,7 @@ pub chosen-there-requires : goal.chosen-there-requires
 chosen-there-requires g c =
     let m =
     meets g.P.Shape c.args.first.now c.args.second.now c.stop-from.result c.args.to.now c.crossing.result c.in_ok-middle.middle
-    c.in_ok-middle.ensures.ok c.crossing.ensures in
+    c.in_ok-middle.ensures.ok c.crossing.ensures.met in
     within_between (2 ^ 34) (subst (IsWithin (2 ^ 34)) (sym c.stop-from.ensures.value) c.requires.from_within)
     c.requires.to_within (le_of_lt m.after) (le_of_lt m.before)
 
@@ -39,7 +39,7 @@ pub join_kept-requires-clause-to_within : goal.join_kept-requires-clause-to_with
 join_kept-requires-clause-to_within g c =
     let m =
     meets g.P.Shape c.args.first.now c.args.second.now c.stop-from.result c.args.to.now c.crossing.result c.in_ok-middle.middle
-    c.in_ok-middle.ensures.ok c.crossing.ensures in
+    c.in_ok-middle.ensures.ok c.crossing.ensures.met in
     within_between (2 ^ 34) (subst (IsWithin (2 ^ 34)) (sym c.stop-from.ensures.value) c.requires.from_within)
     c.requires.to_within (le_of_lt m.after) (le_of_lt m.before)
 
@@ -48,7 +48,7 @@ returns-in_err-middle-clause-fault g c =
     on_err_anyway c.from_residual.result (IfSome_then c.keep.new.fault
     (kept_fault (λ t. MeetAlone (g.P.Shape.function c.args.first.now) (g.P.Shape.function c.args.second.now) (value c.stop-from.result)
     (value c.args.to.now) (value t)) (IsGapFault g.P.Shape c.args.first.now c.args.second.now c.stop-from.result c.args.to.now)
-    c.crossing.result c.keep.new.fault c.in_err-middle.ensures.fault c.crossing.ensures)
+    c.crossing.result c.keep.new.fault c.in_err-middle.ensures.fault c.crossing.ensures.met)
     (λ pair h. gap_fault g.P.Shape (three c.args.first.now c.args.second.now c.args.r.now) c.args.first.now
     c.args.second.now c.stop-from.result c.args.to.now (stop c.args.built.now) (value c.args.to.now) pair
     (inr (inl refl)) (inr (inr refl)) (subst (λ u. u ≤ʳ value c.stop-from.result) c.stop-from.ensures.value
@@ -58,7 +58,7 @@ pub returns-in_err-join_kept-clause-fault : goal.returns-in_err-join_kept-clause
 returns-in_err-join_kept-clause-fault g c =
     let m =
     meets g.P.Shape c.args.first.now c.args.second.now c.stop-from.result c.args.to.now c.crossing.result c.in_ok-middle.middle
-    c.in_ok-middle.ensures.ok c.crossing.ensures in
+    c.in_ok-middle.ensures.ok c.crossing.ensures.met in
     on_err_anyway c.from_residual-in_err-join_kept.result (IfSome_then c.join_kept.new.fault c.in_err-join_kept.ensures.wide (λ pair (from, e, h).
     gap_fault g.P.Shape (three c.args.first.now c.args.second.now c.args.r.now) c.args.first.now
     c.args.r.now from c.in_ok-middle.middle (stop c.args.built.now) (value c.args.to.now) pair
@@ -68,7 +68,7 @@ pub join_kept-requires-2-clause-from_within : goal.join_kept-requires-2-clause-f
 join_kept-requires-2-clause-from_within g c =
     let m =
     meets g.P.Shape c.args.first.now c.args.second.now c.stop-from.result c.args.to.now c.crossing.result c.in_ok-middle.middle
-    c.in_ok-middle.ensures.ok c.crossing.ensures in
+    c.in_ok-middle.ensures.ok c.crossing.ensures.met in
     subst (IsWithin (2 ^ 34)) (sym c.in_ok-join_kept.ensures.ok.ends)
     (within_between (2 ^ 34) (subst (IsWithin (2 ^ 34)) (sym c.stop-from.ensures.value) c.requires.from_within)
     c.requires.to_within (le_of_lt m.after) (le_of_lt m.before))
@@ -79,7 +79,7 @@ returns-clause-ok g c =
     let m = subst (λ u. MeetAlone (f c.args.first.now) (f c.args.second.now) u (value c.args.to.now)
     (value c.in_ok-middle.middle)) c.stop-from.ensures.value
     (meets g.P.Shape c.args.first.now c.args.second.now c.stop-from.result c.args.to.now c.crossing.result c.in_ok-middle.middle
-    c.in_ok-middle.ensures.ok c.crossing.ensures) in
+    c.in_ok-middle.ensures.ok c.crossing.ensures.met) in
     on_ok_weaker c.join_kept-2.result
     (written_split g.P.Shape c.args.side c.args.first.now c.args.second.now c.args.r.now c.chosen-there.result
     c.args.point.now c.args.built.now c.join_kept.new.self c.join_kept-2.new.self c.in_ok-middle.middle c.args.to.now
@@ -102,6 +102,6 @@ returns-clause-fault g c = on_err_weaker c.join_kept-2.result (λ kept. IfSome_t
     after from i =
         let m =
         meets g.P.Shape c.args.first.now c.args.second.now c.stop-from.result c.args.to.now c.crossing.result
-        c.in_ok-middle.middle c.in_ok-middle.ensures.ok c.crossing.ensures in
+        c.in_ok-middle.middle c.in_ok-middle.ensures.ok c.crossing.ensures.met in
         subst (λ u. stop c.args.built.now ≤ʳ u) (sym i) (subst (λ u. stop c.args.built.now ≤ʳ u) (sym c.in_ok-join_kept.ensures.ok.ends)
         (subst (λ u. u ≤ʳ value c.in_ok-middle.middle) c.stop-from.ensures.value (le_of_lt m.after)))

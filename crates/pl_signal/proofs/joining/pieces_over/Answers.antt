@@ -10,7 +10,7 @@ returns-in_ok-middle-in-Greater-favour g c =
     (taken_of_less c.args.side (value_at (g.P.Shape.function c.args.p.now) (value c.args.from.now))
     (value_at (g.P.Shape.function c.args.q.now) (value c.args.from.now)) c.in-Less.ensures)
     (taken_of_greater c.args.side (value_at (g.P.Shape.function c.args.p.now) (value c.args.to.now))
-    (value_at (g.P.Shape.function c.args.q.now) (value c.args.to.now)) c.in-Greater-favour.ensures) c.in_ok-middle-in-Greater-favour.ensures
+    (value_at (g.P.Shape.function c.args.q.now) (value c.args.to.now)) c.in-Greater-favour.ensures) c.in_ok-middle-in-Greater-favour.ensures.met
 
 pub returns-in_default : goal.returns-in_default
 returns-in_default g c =
@@ -42,7 +42,7 @@ returns-in_ok-middle-in-Less-favour g c =
     (taken_of_greater c.args.side (value_at (g.P.Shape.function c.args.p.now) (value c.args.from.now))
     (value_at (g.P.Shape.function c.args.q.now) (value c.args.from.now)) c.in-Greater.ensures)
     (taken_of_less c.args.side (value_at (g.P.Shape.function c.args.p.now) (value c.args.to.now))
-    (value_at (g.P.Shape.function c.args.q.now) (value c.args.to.now)) c.in-Less-favour.ensures) c.in_ok-middle-in-Less-favour.ensures
+    (value_at (g.P.Shape.function c.args.q.now) (value c.args.to.now)) c.in-Less-favour.ensures) c.in_ok-middle-in-Less-favour.ensures.met
 
 pub returns-in_default-favour-2 : goal.returns-in_default-favour-2
 returns-in_default-favour-2 g c =

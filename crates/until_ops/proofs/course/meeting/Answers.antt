@@ -13,7 +13,7 @@ returns-in_err-time-clause-wide g c =
     let h = g.P.Shape.function c.args.q.now in
     on_err_anyway c.from_residual.result (kept_fault (λ t. MeetAlone f h (value c.args.from.now) (value c.args.next.now) (value t))
     (IsGapFault g.P.Shape c.args.p.now c.args.q.now c.args.from.now c.args.next.now)
-    c.crossing.result c.keep.new.fault c.in_err-time.ensures.fault c.crossing.ensures)
+    c.crossing.result c.keep.new.fault c.in_err-time.ensures.fault c.crossing.ensures.met)
 
 pub returns-clause-ok : goal.returns-clause-ok
 returns-clause-ok g c =
@@ -22,4 +22,4 @@ returns-clause-ok g c =
     meets f h c.args.from.now c.args.next.now (record { time = c.in_ok-time.time; met = true }) refl
     (good_of (λ t. MeetAlone f h (value c.args.from.now) (value c.args.next.now) (value t))
     (IsGapFault g.P.Shape c.args.p.now c.args.q.now c.args.from.now c.args.next.now)
-    c.crossing.result c.in_ok-time.time c.in_ok-time.ensures.ok c.crossing.ensures)
+    c.crossing.result c.in_ok-time.time c.in_ok-time.ensures.ok c.crossing.ensures.met)
