@@ -4,7 +4,6 @@
 use io_edge::{ReadEdge, WriteEdge};
 use std::process::ExitCode;
 use std::{env, io};
-use workbench::Kept;
 
 /// The words after the program's name.
 fn words(rt: &HostRuntime) -> io::Result<Vec<String>> {
@@ -17,6 +16,5 @@ fn main(rt: HostRuntime) -> ExitCode {
     let mut input = ReadEdge::new(rt.stdin());
     let mut out = WriteEdge::new(rt.stdout());
     let mut err = WriteEdge::new(rt.stderr());
-    let mut kept = Kept::Nothing;
-    ExitCode::from(workbench::program(rt.alloc(), words, &mut input, &mut out, &mut err, &mut kept))
+    ExitCode::from(workbench::program(rt.alloc(), words, &mut input, &mut out, &mut err))
 }
