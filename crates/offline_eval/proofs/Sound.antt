@@ -65,6 +65,10 @@ reached_moved reach own old new (low, high) m = let a = m.not_less in let b = m.
 pub not_moved : (old new : ℤ) → new ≡ old → IsMovedBy 0 old new
 not_moved old new e = record { not_less = omega (arith, ints, e); not_more = omega (arith, ints, e) }
 
+-- by any number
+pub hardly_moved : (own : ℕ) (old new : ℤ) → new ≡ old → IsMovedBy own old new
+hardly_moved own old new e = record { not_less = omega (arith, ints, e); not_more = omega (arith, ints, e) }
+
 module _ {P : Type 0} (shape : ShapeOf P) (laws : ShapeLaws shape) where
   -- what holds of the bases of the moving shapes holds of all
   all_reached : (reach : ℕ) (p : P) → (IsTrue (shape.moves p) → IsReached reach (shape.base p)) → IsReached reach (shape.base p)
@@ -95,6 +99,10 @@ module _ {P : Type 0} (shape : ShapeOf P) (laws : ShapeLaws shape) where
   -- which shapes do that stay where they are
   pub of_two : (x y r : List (Knot P)) → BasesOfTwo shape x y r → MovedFromTwo 0 x y r
   of_two x y r bases p h m = let o = bases p h m in (o.0, o.1, not_moved (shape.base o.0) (shape.base p) o.3)
+
+  -- and they are moved by no more than any number
+  pub of_two_more : (own : ℕ) (x y r : List (Knot P)) → BasesOfTwo shape x y r → MovedFromTwo own x y r
+  of_two_more own x y r bases p h m = let o = bases p h m in (o.0, o.1, hardly_moved own (shape.base o.0) (shape.base p) o.3)
 
   -- and of two
   pub stay_sound : (own : ℕ) (x y r : List (Knot P)) → start r ≈ start x → stop r ≈ stop x → IsLimited shape r → MovedFromTwo own x y r

@@ -9,7 +9,7 @@ use Rattle.rational.specs.Windows.{Function, Window, Ahead, Behind, IsSupOver, I
 use Rattle.rational.specs.InPlay.{until_end, since_start, window_ahead, window_behind}
 use Rattle.rational.proofs.Order.{le_trans, le_of_same, ge_of_same, same_refl, same_sym, same_trans}
 use Rattle.rational.proofs.ExtendedLemmas.{Sup-unique}
-use Rattle.rational.proofs.TimeLemmas.{within_stretch}
+use Rattle.rational.proofs.TimeLemmas.{later_from, later_le, later_zero, within_stretch}
 use Rattle.rational.proofs.WindowLemmas.{sup_alike, sup_over_alike}
 use Rattle.value_laws.specs.Members.{ShapeOf, ShapeLaws}
 use Rattle.pl_signal.specs.declared.knot.Knot.{Knot}
@@ -148,32 +148,51 @@ module _ {P : Type 0} (shape : ShapeOf P) where
     from_start_told r made = tells_along shape (SinceOf shape x y) (SinceFromStart shape.lowest shape.highest from F G) (start x)
         (stop x) from to r made left.begins left.ends from_start_of
 
-    -- over all times up to now it is the since
-    pub so_far_told : (r : List (Knot P)) → Tells shape (SinceOf shape x y) (start x) (stop x) r
-        → Tells shape (λ t v. IsSince shape.lowest shape.highest (Behind from to 0 None true true t) F G t v) from to r
-    so_far_told r made = tells_along shape (SinceFromStart shape.lowest shape.highest from F G)
-        (λ t v. IsSince shape.lowest shape.highest (Behind from to 0 None true true t) F G t v) from to from to r
+    -- over a window that ends now and reaches the start it is the since
+    pub so_far_told : (b : Option ℕ) (r : List (Knot P)) → IfSome b (λ b. to ≤ʳ later from b) → Tells shape (SinceOf shape x y) (start x) (stop x) r
+        → Tells shape (λ t v. IsSince shape.lowest shape.highest (Behind from to 0 b true true t) F G t v) from to r
+    so_far_told b r far made = tells_along shape (SinceFromStart shape.lowest shape.highest from F G)
+        (λ t v. IsSince shape.lowest shape.highest (Behind from to 0 b true true t) F G t v) from to from to r
         (from_start_told r made) (same_refl from) (same_refl to)
         (λ t v i. (
-          sup_over_alike (Within from t) (Behind from to 0 None true true t) (IsDownTo shape.highest F G t) shape.lowest v (forth t i) (back t),
-          sup_over_alike (Behind from to 0 None true true t) (Within from t) (IsDownTo shape.highest F G t) shape.lowest v (back t) (forth t i),
+          sup_over_alike (Within from t) (Behind from to 0 b true true t) (IsDownTo shape.highest F G t) shape.lowest v (forth t i) (back t),
+          sup_over_alike (Behind from to 0 b true true t) (Within from t) (IsDownTo shape.highest F G t) shape.lowest v (back t) (forth t i),
         ))
       where
-        not_later : (u : Rational) → later u 0 ≤ʳ u
-        not_later u = omega arith
+        reached : (b : Option ℕ) → IfSome b (λ b. to ≤ʳ later from b) → (t u : Rational) → t ≤ʳ to → from ≤ʳ u → IfSome b (λ b. t ≤ʳ later u b)
+        reached None far t u i w = tt
+        reached (Some b) far t u i w = le_trans i (le_trans far (later_le b w))
 
-        not_earlier : (u : Rational) → u ≤ʳ later u 0
-        not_earlier u = omega arith
-
-        forth : (t : Rational) → Within from to t → (u : Rational) → Within from t u → Behind from to 0 None true true t u
+        forth : (t : Rational) → Within from to t → (u : Rational) → Within from t u → Behind from to 0 b true true t u
         forth t i u w = record {
           inside = record { above = w.above; below = le_trans w.below i.below };
-          begins = tt;
-          ends = le_trans (not_later u) w.below;
+          begins = reached b far t u i.below w.above;
+          ends = le_trans (later_zero u) w.below;
         }
 
-        back : (t : Rational) (u : Rational) → Behind from to 0 None true true t u → Within from t u
-        back t u b = record { above = b.inside.above; below = le_trans (not_earlier u) b.ends }
+        back : (t : Rational) (u : Rational) → Behind from to 0 b true true t u → Within from t u
+        back t u o = record { above = o.inside.above; below = le_trans (later_from u 0) o.ends }
+
+    -- over a window that begins now and reaches the end it is the until
+    pub from_now_on_told : (b : ℕ) (r : List (Knot P)) → to ≤ʳ later from b → Tells shape (UntilOf shape x y) (start x) (stop x) r
+        → Tells shape (λ t v. IsUntil shape.lowest shape.highest (Ahead from to 0 b true true t) F G t v) from to r
+    from_now_on_told b r far made = tells_along shape (UntilToEnd shape.lowest shape.highest to F G)
+        (λ t v. IsUntil shape.lowest shape.highest (Ahead from to 0 b true true t) F G t v) from to from to r
+        (to_end_told r made) (same_refl from) (same_refl to)
+        (λ t v i. (
+          sup_over_alike (Within t to) (Ahead from to 0 b true true t) (IsUpTo shape.highest F G t) shape.lowest v (forth t i) (back t),
+          sup_over_alike (Ahead from to 0 b true true t) (Within t to) (IsUpTo shape.highest F G t) shape.lowest v (back t) (forth t i),
+        ))
+      where
+        forth : (t : Rational) → Within from to t → (u : Rational) → Within t to u → Ahead from to 0 b true true t u
+        forth t i u w = record {
+          inside = record { above = le_trans i.above w.above; below = w.below };
+          begins = le_trans (later_zero t) w.above;
+          ends = le_trans w.below (le_trans far (later_le b i.above));
+        }
+
+        back : (t : Rational) (u : Rational) → Ahead from to 0 b true true t u → Within t to u
+        back t u a = record { above = le_trans (later_from t 0) a.begins; below = a.inside.below }
 
     -- the until to the end has a value, as its signal shows
     pub has_to_end : (r : List (Knot P)) → Tells shape (UntilOf shape x y) (start x) (stop x) r
@@ -409,14 +428,30 @@ module _ {P : Type 0} (shape : ShapeOf P) (s : Setting) (p q : Subformula) (ends
       (subst (λ h. Tells shape (SinceFromStart shape.lowest h s.from (SupInf p s) (SupInf q s)) s.from s.to u) (sym ends.highest)
       (from_start_told shape (SupInf p s) (SupInf q s) s.from s.to x y left right u made))
 
-  -- since over all times up to now
-  pub so_far_in : (u : List (Knot P)) → Tells shape (SinceOf shape x y) (start x) (stop x) u → Tells shape (SupInf (since 0 None p q) s) s.from s.to u
-  so_far_in u made =
-      subst (λ l. Tells shape (λ t v. IsSince l s.highest (Behind s.from s.to 0 None true true t) (SupInf p s) (SupInf q s) t v) s.from s.to u)
+  -- until over all times from now on
+  pub from_now_on_in : (b : ℕ) (u : List (Knot P)) → stop x ≤ʳ later (start x) b → Tells shape (UntilOf shape x y) (start x) (stop x) u
+      → Tells shape (SupInf (until 0 b p q) s) s.from s.to u
+  from_now_on_in b u far made =
+      subst (λ l. Tells shape (λ t v. IsUntil l s.highest (Ahead s.from s.to 0 b true true t) (SupInf p s) (SupInf q s) t v) s.from s.to u)
       (sym ends.lowest)
-      (subst (λ h. Tells shape (λ t v. IsSince shape.lowest h (Behind s.from s.to 0 None true true t) (SupInf p s) (SupInf q s) t v) s.from s.to u)
+      (subst (λ h. Tells shape (λ t v. IsUntil shape.lowest h (Ahead s.from s.to 0 b true true t) (SupInf p s) (SupInf q s) t v) s.from s.to u)
       (sym ends.highest)
-      (so_far_told shape (SupInf p s) (SupInf q s) s.from s.to x y left right u made))
+      (from_now_on_told shape (SupInf p s) (SupInf q s) s.from s.to x y left right b u
+      (le_trans (ge_of_same left.ends) (le_trans far (later_le b (le_of_same left.begins)))) made))
+
+  -- since over all times up to now
+  pub so_far_in : (b : Option ℕ) (u : List (Knot P)) → IfSome b (λ b. stop x ≤ʳ later (start x) b) → Tells shape (SinceOf shape x y) (start x) (stop x) u
+      → Tells shape (SupInf (since 0 b p q) s) s.from s.to u
+  so_far_in b u far made =
+      subst (λ l. Tells shape (λ t v. IsSince l s.highest (Behind s.from s.to 0 b true true t) (SupInf p s) (SupInf q s) t v) s.from s.to u)
+      (sym ends.lowest)
+      (subst (λ h. Tells shape (λ t v. IsSince shape.lowest h (Behind s.from s.to 0 b true true t) (SupInf p s) (SupInf q s) t v) s.from s.to u)
+      (sym ends.highest)
+      (so_far_told shape (SupInf p s) (SupInf q s) s.from s.to x y left right b u (moved b far) made))
+    where
+      moved : (b : Option ℕ) → IfSome b (λ b. stop x ≤ʳ later (start x) b) → IfSome b (λ b. s.to ≤ʳ later s.from b)
+      moved None far = tt
+      moved (Some b) far = le_trans (ge_of_same left.ends) (le_trans far (later_le b (le_of_same left.begins)))
 
   module _ (u : List (Knot P)) where
     kept_ahead : (a : ℕ) (d : List (Knot P)) → Tells shape (UntilOf shape x y) (start x) (stop x) u

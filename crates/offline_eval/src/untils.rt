@@ -1,20 +1,88 @@
-//! The signals of until and since, each composed of four steps; a since over all times up to now is one step.
-ghost use Rattle.std.specs.Prelude.{◌≤◌, None, IfOk, IfErr};
+//! The signals of until and since, each composed of four steps; over all times from now on, or up to now, they are one step.
+ghost use Rattle.std.specs.Prelude.{◌≤◌, IsTrue, IfSome, IfOk, IfErr};
+ghost use Rattle.rational.specs.Time.{later, ◌≤ʳ◌};
+ghost use Rattle.pl_signal.specs.Knots.{start, stop};
 ghost use Rattle.stl_syntax.specs.Formula.{until, since};
 ghost use Rattle.stl_syntax.specs.Limits.{reach_of_bound};
 ghost use Rattle.stl_syntax.specs.WellFormed.{IsInOrder};
-ghost use Rattle.offline_eval.specs.Making.{AreFit, FaultOfTwo, StaySound, TellsTwo};
+ghost use Rattle.offline_eval.specs.Making.{AreFit, FaultOfTwo, IsFit, StaySound, TellsTwo};
 
 use pl_signal::{OpFault, Signal};
 use signal_ops::lower;
+use std::cmp::Ordering;
 use until_ops::laws::{since_is_composed, until_is_composed};
 use until_ops::{since_from_start, until_to_end};
 use value_laws::Shape;
 use window_ops::{inf_past, inf_window, sup_past, sup_window};
 
-/// Until over a window: the Sup of the right operand over the window, but no more than the until to the end is at any time from
-/// now up to where the window begins.
+/// Until over a window.
 pub(crate) fn bounded_until<P: Shape>(
+    x: &Signal<P>,
+    y: &Signal<P>,
+    low: u32,
+    high: u32,
+) -> Result<Signal<P>, OpFault<P>>
+    requires fit { AreFit P.Shape x.now y.now }
+    requires order { low ≤ high }
+    ensures sound { IfOk result (StaySound P.Shape high x.now y.now) }
+    ensures told { IfOk result (TellsTwo P.Shape (until low high) x.now y.now) }
+    ensures wide { IfErr result (FaultOfTwo P.Shape (until low high) x.now y.now) }
+{
+    if low == 0 {
+        return until_from_now(x, y, high);
+    }
+    composed_until(x, y, low, high)
+}
+
+/// Until over a window that begins now.
+fn until_from_now<P: Shape>(
+    x: &Signal<P>,
+    y: &Signal<P>,
+    high: u32,
+) -> Result<Signal<P>, OpFault<P>>
+    requires fit { AreFit P.Shape x.now y.now }
+    ensures sound { IfOk result (StaySound P.Shape high x.now y.now) }
+    ensures told { IfOk result (TellsTwo P.Shape (until 0 high) x.now y.now) }
+    ensures wide { IfErr result (FaultOfTwo P.Shape (until 0 high) x.now y.now) }
+{
+    if reaches_end(x, high) {
+        return until_from_now_on(x, y, high);
+    }
+    composed_until(x, y, 0, high)
+}
+
+/// Whether a window up to `high` ticks ahead reaches the end of the domain from each time of it.
+fn reaches_end<P: Shape>(x: &Signal<P>, high: u32) -> bool
+    requires { IsFit P.Shape x.now }
+    ensures { IsTrue result → stop x.now ≤ʳ later (start x.now) high }
+{
+    let end = x.start().shift(i64::from(high));
+    match end.cmp(&x.stop()) {
+        Ordering::Less => false,
+        _ => true,
+    }
+}
+
+/// Until over all times from now on: the until to the end.
+fn until_from_now_on<P: Shape>(
+    x: &Signal<P>,
+    y: &Signal<P>,
+    high: u32,
+) -> Result<Signal<P>, OpFault<P>>
+    requires fit { AreFit P.Shape x.now y.now }
+    requires far { stop x.now ≤ʳ later (start x.now) high }
+    ensures sound { IfOk result (StaySound P.Shape high x.now y.now) }
+    ensures told { IfOk result (TellsTwo P.Shape (until 0 high) x.now y.now) }
+    ensures wide { IfErr result (FaultOfTwo P.Shape (until 0 high) x.now y.now) }
+{
+    // For the proof alone: how far the window reaches.
+    let _ = high;
+    until_to_end(x, y)
+}
+
+/// The same, composed: the Sup of the right operand over the window, but no more than the until to the end is at any time from
+/// now up to where the window begins.
+fn composed_until<P: Shape>(
     x: &Signal<P>,
     y: &Signal<P>,
     low: u32,
@@ -46,32 +114,54 @@ pub(crate) fn bounded_since<P: Shape>(
     ensures told { IfOk result (TellsTwo P.Shape (since low high) x.now y.now) }
     ensures wide { IfErr result (FaultOfTwo P.Shape (since low high) x.now y.now) }
 {
-    match high {
-        None => endless_since(x, y, low),
-        Some(_) => composed_since(x, y, low, high),
+    if low == 0 {
+        return since_up_to_now(x, y, high);
     }
+    composed_since(x, y, low, high)
 }
 
-/// Since over a window that reaches back to the start.
-fn endless_since<P: Shape>(x: &Signal<P>, y: &Signal<P>, low: u32) -> Result<Signal<P>, OpFault<P>>
+/// Since over a window that ends now.
+fn since_up_to_now<P: Shape>(
+    x: &Signal<P>,
+    y: &Signal<P>,
+    high: Option<u32>,
+) -> Result<Signal<P>, OpFault<P>>
     requires fit { AreFit P.Shape x.now y.now }
-    ensures sound { IfOk result (StaySound P.Shape (reach_of_bound low None) x.now y.now) }
-    ensures told { IfOk result (TellsTwo P.Shape (since low None) x.now y.now) }
-    ensures wide { IfErr result (FaultOfTwo P.Shape (since low None) x.now y.now) }
+    ensures sound { IfOk result (StaySound P.Shape (reach_of_bound 0 high) x.now y.now) }
+    ensures told { IfOk result (TellsTwo P.Shape (since 0 high) x.now y.now) }
+    ensures wide { IfErr result (FaultOfTwo P.Shape (since 0 high) x.now y.now) }
 {
-    if low == 0 {
-        return since_so_far(x, y);
+    if reaches_start(x, high) {
+        return since_so_far(x, y, high);
     }
-    composed_since(x, y, low, None)
+    composed_since(x, y, 0, high)
+}
+
+/// Whether a window from `high` ticks behind, or from the start of time, reaches the start of the domain from each time of it.
+fn reaches_start<P: Shape>(x: &Signal<P>, high: Option<u32>) -> bool
+    requires { IsFit P.Shape x.now }
+    ensures { IsTrue result → IfSome high (λ b. stop x.now ≤ʳ later (start x.now) b) }
+{
+    match high {
+        Some(b) => reaches_end(x, b),
+        None => true,
+    }
 }
 
 /// Since over all times up to now: the since from the start.
-fn since_so_far<P: Shape>(x: &Signal<P>, y: &Signal<P>) -> Result<Signal<P>, OpFault<P>>
+fn since_so_far<P: Shape>(
+    x: &Signal<P>,
+    y: &Signal<P>,
+    high: Option<u32>,
+) -> Result<Signal<P>, OpFault<P>>
     requires fit { AreFit P.Shape x.now y.now }
-    ensures sound { IfOk result (StaySound P.Shape (reach_of_bound 0 None) x.now y.now) }
-    ensures told { IfOk result (TellsTwo P.Shape (since 0 None) x.now y.now) }
-    ensures wide { IfErr result (FaultOfTwo P.Shape (since 0 None) x.now y.now) }
+    requires far { IfSome high (λ b. stop x.now ≤ʳ later (start x.now) b) }
+    ensures sound { IfOk result (StaySound P.Shape (reach_of_bound 0 high) x.now y.now) }
+    ensures told { IfOk result (TellsTwo P.Shape (since 0 high) x.now y.now) }
+    ensures wide { IfErr result (FaultOfTwo P.Shape (since 0 high) x.now y.now) }
 {
+    // For the proof alone: how far the window reaches.
+    let _ = high;
     since_from_start(x, y)
 }
 

@@ -5,14 +5,17 @@ use Rattle.stl_syntax.specs.Limits.{reach_of_bound}
 use Rattle.offline_eval.specs.Making.{FaultOfTwo, StaySound, TellsTwo}
 use Rattle.offline_eval.proofs.untils.bounded_since.Goals as goal
 
-pub returns-in-None-clause-sound : goal.returns-in-None-clause-sound
-returns-in-None-clause-sound g c = IfOk-weaker c.endless_since.result _ _
-    (λ r h. subst (λ o. StaySound g.P.Shape (reach_of_bound c.args.low o) c.args.x.now c.args.y.now r) (sym c.in-None.is) h) c.endless_since.ensures.sound
+pub returns-then-low-eq0-clause-sound : goal.returns-then-low-eq0-clause-sound
+returns-then-low-eq0-clause-sound g c = IfOk-weaker c.since_up_to_now.result _ _
+    (λ r h. subst (λ n. StaySound g.P.Shape (reach_of_bound n c.args.high) c.args.x.now c.args.y.now r) (sym c.if-low-eq0.true) h)
+    c.since_up_to_now.ensures.sound
 
-pub returns-in-None-clause-told : goal.returns-in-None-clause-told
-returns-in-None-clause-told g c = IfOk-weaker c.endless_since.result _ _
-    (λ r h. subst (λ o. TellsTwo g.P.Shape (since c.args.low o) c.args.x.now c.args.y.now r) (sym c.in-None.is) h) c.endless_since.ensures.told
+pub returns-then-low-eq0-clause-told : goal.returns-then-low-eq0-clause-told
+returns-then-low-eq0-clause-told g c = IfOk-weaker c.since_up_to_now.result _ _
+    (λ r h. subst (λ n. TellsTwo g.P.Shape (since n c.args.high) c.args.x.now c.args.y.now r) (sym c.if-low-eq0.true) h)
+    c.since_up_to_now.ensures.told
 
-pub returns-in-None-clause-wide : goal.returns-in-None-clause-wide
-returns-in-None-clause-wide g c = IfErr-weaker c.endless_since.result _ _
-    (λ e h. subst (λ o. FaultOfTwo g.P.Shape (since c.args.low o) c.args.x.now c.args.y.now e) (sym c.in-None.is) h) c.endless_since.ensures.wide
+pub returns-then-low-eq0-clause-wide : goal.returns-then-low-eq0-clause-wide
+returns-then-low-eq0-clause-wide g c = IfErr-weaker c.since_up_to_now.result _ _
+    (λ e h. subst (λ n. FaultOfTwo g.P.Shape (since n c.args.high) c.args.x.now c.args.y.now e) (sym c.if-low-eq0.true) h)
+    c.since_up_to_now.ensures.wide
