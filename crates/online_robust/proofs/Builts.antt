@@ -109,7 +109,7 @@ module _ (F : Function) (reach : ℕ) (is : IsFunction F) where
         → ((t : Rational) (v : Extended) → at <ʳ t → t <ʳ value to → IsChosen side (value_at (margin_function p) t) (value_at (margin_function q) t) v
         → F t v × IsBounded (2 ^ 31) v) → IsMovedBy reach p → IsMovedBy reach q → IsThere F reach (value to) point → IsBuilt F reach from (value to) new
     built_join side p q point to joins gap p_moves q_moves there =
-        let tells = tells_join margin_shape F side old new p q point to is (so_far from at old b) joins
+        let tells = tells_join margin_shape F side point to is (so_far from at old b) joins
         (λ t v x y c. (gap t v (lt_of_le_of_lt begins x) y c).0) there.told in
         record {
           signal = joins.signal;

@@ -3,8 +3,7 @@ use Rattle.std.proofs.Common.{◌≡◌, ℕ, ◌+◌, ◌⊎◌, inl, inr, List
 use Rattle.std.proofs.Common.{take, refl, sym, ◌∙◌, ap, subst, arith, length-append, length-take}
 use Rattle.std.proofs.lemmas.List.{append_assoc, set_at}
 use Rattle.rational.specs.Time.{Rational, ◌<ʳ◌, ◌≈◌}
-use Rattle.rational.specs.Extended.{Extended, Passes, value_at, ◌≈ᵉ◌}
-use Rattle.rational.specs.Affine.{AreSame}
+use Rattle.rational.specs.Extended.{Extended, Passes, value_at}
 use Rattle.rational.proofs.Order.{lt_or_same_or_gt, lt_trans, lt_of_lt_of_le, lt_of_le_of_lt, le_of_same, ge_of_same, same_sym}
 use Rattle.rational.proofs.AffineLemmas.{same_transᵉ, same_symᵉ, value_same}
 use Rattle.frac128.specs.Value.{value}
@@ -101,11 +100,11 @@ module _ {P : Type 0} (shape : ShapeOf P) where
 
   -- the values where the last knot leaves
   left_worth : (xs : List (Knot P)) (p l : Knot P) (after : P) (at : Frac) (point : P) (t : Rational) (v : Extended) → time p <ʳ time l
-      → value_at (shape.function p.after) (time l) ≈ᵉ value_at (shape.function l.point) (time l) → AreSame (shape.function p.after) (shape.function after)
+      → CanBeLeftOut shape p (goes_on l after)
       → IsWorth shape (xs ++ p ∷ ends_at at point ∷ []) t v
       → IsWorth shape (xs ++ p ∷ l ∷ []) t v ⊎ ((stop (xs ++ p ∷ l ∷ []) <ʳ t) × (t <ʳ value at) × Passes (shape.function after) t v)
       ⊎ ((t ≈ value at) × Passes (shape.function point) t v)
-  left_worth xs p l after at point t v order here on h =
+  left_worth xs p l after at point t v order spare h =
       elim (worth_in shape xs p p (ends_at at point ∷ []) (l ∷ []) t v refl h) [ inl k ↦ inl k | inr k ↦ by_end k ]
     where
       old : IsWorth shape (p ∷ l ∷ []) t v → IsWorth shape (xs ++ p ∷ l ∷ []) t v
@@ -123,14 +122,14 @@ module _ {P : Type 0} (shape : ShapeOf P) where
                 (same_transᵉ (value_at (shape.function p.after) t) (value_at (shape.function p.after) (time l)) (value_at (shape.function l.point) t)
                 (value_same (shape.function p.after) e)
                 (same_transᵉ (value_at (shape.function p.after) (time l)) (value_at (shape.function l.point) (time l))
-                (value_at (shape.function l.point) t) here (value_same (shape.function l.point) (same_sym e))));
+                (value_at (shape.function l.point) t) spare.here (value_same (shape.function l.point) (same_sym e))));
           }))))
       by_order h (inr (inr b)) =
           inr (inl (
             subst (λ s. s <ʳ t) (sym (stop_end xs p (l ∷ []))) b,
             h.before,
             same_transᵉ v (value_at (shape.function p.after) t)
-                (value_at (shape.function after) t) h.worth (on t),
+                (value_at (shape.function after) t) h.worth (spare.on t),
           ))
 
       by_end : IsWorth shape (p ∷ ends_at at point ∷ []) t v
@@ -142,12 +141,13 @@ module _ {P : Type 0} (shape : ShapeOf P) where
       by_end (inr (inr (inr (inl h)))) = absurd h
       by_end (inr (inr (inr (inr h)))) = absurd h
 
+  -- and back
   worth_left : (xs : List (Knot P)) (p l : Knot P) (after : P) (at : Frac) (point : P) (t : Rational) (v : Extended) → time p <ʳ time l → time l <ʳ value at
-      → value_at (shape.function p.after) (time l) ≈ᵉ value_at (shape.function l.point) (time l) → AreSame (shape.function p.after) (shape.function after)
+      → CanBeLeftOut shape p (goes_on l after)
       → IsWorth shape (xs ++ p ∷ l ∷ []) t v ⊎ ((stop (xs ++ p ∷ l ∷ []) <ʳ t) × (t <ʳ value at) × Passes (shape.function after) t v)
       ⊎ ((t ≈ value at) × Passes (shape.function point) t v)
       → IsWorth shape (xs ++ p ∷ ends_at at point ∷ []) t v
-  worth_left xs p l after at point t v order later here on (inl h) =
+  worth_left xs p l after at point t v order later spare (inl h) =
       elim (worth_in shape xs p p (l ∷ []) (ends_at at point ∷ []) t v refl h) [ inl k ↦ k | inr k ↦ by_end k ]
     where
       between : (t <ʳ value at) → (time p <ʳ t) → Passes (shape.function p.after) t v → IsWorth shape (xs ++ p ∷ ends_at at point ∷ []) t v
@@ -162,19 +162,19 @@ module _ {P : Type 0} (shape : ShapeOf P) where
           (same_transᵉ (value_at (shape.function l.point) t) (value_at (shape.function l.point) (time l)) (value_at (shape.function p.after) t)
           (value_same (shape.function l.point) h.when)
           (same_transᵉ (value_at (shape.function l.point) (time l)) (value_at (shape.function p.after) (time l)) (value_at (shape.function p.after) t)
-          (same_symᵉ (value_at (shape.function p.after) (time l)) (value_at (shape.function l.point) (time l)) here)
+          (same_symᵉ (value_at (shape.function p.after) (time l)) (value_at (shape.function l.point) (time l)) spare.here)
           (value_same (shape.function p.after) (same_sym h.when)))))
       by_end (inr (inr (inr (inl h)))) = absurd h
       by_end (inr (inr (inr (inr h)))) = absurd h
-  worth_left xs p l after at point t v order later here on (inr (inl h)) =
+  worth_left xs p l after at point t v order later spare (inr (inl h)) =
       worth_end shape xs (p ∷ ends_at at point ∷ []) t v
       (inr (inl (record {
         after = lt_trans order (subst (λ s. s <ʳ t) (stop_end xs p (l ∷ [])) h.0);
         before = h.1;
         worth = same_transᵉ v (value_at (shape.function after) t) (value_at (shape.function p.after) t) h.2
-            (same_symᵉ (value_at (shape.function p.after) t) (value_at (shape.function after) t) (on t));
+            (same_symᵉ (value_at (shape.function p.after) t) (value_at (shape.function after) t) (spare.on t));
       })))
-  worth_left xs p l after at point t v order later here on (inr (inr h)) =
+  worth_left xs p l after at point t v order later spare (inr (inr h)) =
       worth_end shape xs (p ∷ ends_at at point ∷ []) t v (inr (inr (inl (record { when = h.0; worth = h.1 }))))
 
   left_shapes : (xs : List (Knot P)) (p l : Knot P) (after : P) (at : Frac) (point q : P) → HasShape (xs ++ p ∷ ends_at at point ∷ []) q
@@ -191,9 +191,9 @@ module _ {P : Type 0} (shape : ShapeOf P) where
 
   -- a knot that is not needed leaves
   pub last_left_out : (xs : List (Knot P)) (p l : Knot P) (after : P) (at : Frac) (point : P) → Each (IsKnot shape) (xs ++ p ∷ l ∷ []) → time l <ʳ value at
-      → value_at (shape.function p.after) (time l) ≈ᵉ value_at (shape.function l.point) (time l) → AreSame (shape.function p.after) (shape.function after)
+      → CanBeLeftOut shape p (goes_on l after)
       → GoesOn shape (xs ++ p ∷ l ∷ []) after at point (xs ++ p ∷ ends_at at point ∷ [])
-  last_left_out xs p l after at point each later here on = record {
+  last_left_out xs p l after at point each later spare = record {
     signal = record {
       some = some_in_end xs p (ends_at at point ∷ []);
       each = replaced_end shape xs p l (ends_at at point) [] [] each
@@ -201,7 +201,7 @@ module _ {P : Type 0} (shape : ShapeOf P) where
     };
     begins = start_kept xs p p (ends_at at point ∷ []) (l ∷ []) refl;
     ends = stop_end xs p (ends_at at point ∷ []);
-    worth = λ t v. (left_worth xs p l after at point t v order here on, worth_left xs p l after at point t v order later here on);
+    worth = λ t v. (left_worth xs p l after at point t v order spare, worth_left xs p l after at point t v order later spare);
     shapes = left_shapes xs p l after at point;
   }
     where
@@ -217,46 +217,52 @@ module _ {P : Type 0} (shape : ShapeOf P) where
       (first_kept l after at point later)
   step_first (l ∷ m ∷ ks) new after at point count later put = absurd (omega (arith, count))
 
-  split_last : (old : List (Knot P)) (n : ℕ) (p l : Knot P) → length old ≡ n + 2 → p ≡ get_or old n p → l ≡ get_or old (n + 1) l
-      → old ≡ (take n old ++ p ∷ []) ++ l ∷ []
-  split_last old n p l count first second = split_two old n p l count first second ∙ sym (append_assoc (take n old) (p ∷ []) (l ∷ []))
+  -- the knots end in p, at the place n, and in l, at the place m
+  pub record EndInTwo (knots : List (Knot P)) (n m : ℕ) (p l : Knot P) : Type 0 where
+    -- nothing comes after l
+    pub count : length knots ≡ n + 2
+    -- which stands next to p
+    pub next : m ≡ n + 1
+    pub first : p ≡ get_or knots n p
+    pub second : l ≡ get_or knots m l
+
+  split_ends : (old : List (Knot P)) (n m : ℕ) (p l : Knot P) → EndInTwo old n m p l → old ≡ take n old ++ p ∷ l ∷ []
+  split_ends old n m p l two = split_two old n p l two.count two.first (read_at old two.next two.second)
+
+  split_last : (old : List (Knot P)) (n m : ℕ) (p l : Knot P) → EndInTwo old n m p l → old ≡ (take n old ++ p ∷ []) ++ l ∷ []
+  split_last old n m p l two = split_ends old n m p l two ∙ sym (append_assoc (take n old) (p ∷ []) (l ∷ []))
 
   last_time : (xs : List (Knot P)) (p l : Knot P) (at : Frac) → stop (xs ++ p ∷ l ∷ []) <ʳ value at → time l <ʳ value at
   last_time xs p l at h = subst (λ s. s <ʳ value at) (stop_end xs p (l ∷ [])) h
 
   -- where the last knot is needed
-  pub step_kept : (old new : List (Knot P)) (n : ℕ) (p l : Knot P) (after : P) (at : Frac) (point : P) → length old ≡ n + 2 → p ≡ get_or old n p
-      → l ≡ get_or old (n + 1) l
-      → Each (IsKnot shape) old → stop old <ʳ value at
-      → ¬ ((value_at (shape.function p.after) (time l) ≈ᵉ value_at (shape.function l.point) (time l)) × AreSame (shape.function p.after) (shape.function after))
+  pub step_kept : {n m : ℕ} (old new : List (Knot P)) (p l : Knot P) (after : P) (at : Frac) (point : P) → EndInTwo old n m p l
+      → Each (IsKnot shape) old → stop old <ʳ value at → ¬ CanBeLeftOut shape p (goes_on l after)
       → ((front : List (Knot P)) (last : Knot P) → old ≡ front ++ last ∷ [] → new ≡ front ++ goes_on last after ∷ ends_at at point ∷ [])
       → GoesOn shape old after at point new
-  step_kept old new n p l after at point count first second each later not_spare put =
-      let e = split_two old n p l count first second in
+  step_kept {n} {m} old new p l after at point two each later not_spare put =
+      let e = split_ends old n m p l two in
       subst (λ ks. GoesOn shape ks after at point new) (sym e)
       (subst (GoesOn shape (take n old ++ p ∷ l ∷ []) after at point)
-      (sym (put (take n old ++ p ∷ []) l (split_last old n p l count first second) ∙ append_assoc (take n old) (p ∷ [])
+      (sym (put (take n old ++ p ∷ []) l (split_last old n m p l two) ∙ append_assoc (take n old) (p ∷ [])
       (goes_on l after ∷ ends_at at point ∷ [])))
       (last_kept (take n old) p l after at point (subst (Each (IsKnot shape)) e each)
-      (last_time (take n old) p l at (subst (λ ks. stop ks <ʳ value at) e later))
-      (λ spare. not_spare (spare.here, spare.on))))
+      (last_time (take n old) p l at (subst (λ ks. stop ks <ʳ value at) e later)) not_spare))
 
   -- and where it leaves
-  pub step_left : (old : List (Knot P)) (n m : ℕ) (p l : Knot P) (after : P) (at : Frac) (point : P) → length old ≡ n + 2 → m ≡ n + 1
-      → p ≡ get_or old n p → l ≡ get_or old m l
-      → Each (IsKnot shape) old → stop old <ʳ value at
-      → (value_at (shape.function p.after) (time l) ≈ᵉ value_at (shape.function l.point) (time l)) × AreSame (shape.function p.after) (shape.function after)
+  pub step_left : {n : ℕ} (old : List (Knot P)) (m : ℕ) (p l : Knot P) (after : P) (at : Frac) (point : P) → EndInTwo old n m p l
+      → Each (IsKnot shape) old → stop old <ʳ value at → CanBeLeftOut shape p (goes_on l after)
       → GoesOn shape old after at point (set old m (ends_at at point))
-  step_left old n m p l after at point count is first read each later spare =
-      let second = read_at old is read in
-      subst (λ m. GoesOn shape old after at point (set old m (ends_at at point))) (sym is) (
-      let e = split_two old n p l count first second in
+  step_left {n} old m p l after at point two each later spare =
+      let count = two.count in
+      subst (λ m. GoesOn shape old after at point (set old m (ends_at at point))) (sym two.next) (
+      let e = split_ends old n m p l two in
       let place : length (take n old ++ p ∷ []) ≡ n + 1 = omega (arith, length-append (take n old) (p ∷ []), length-take n old, count) in
       let new : set old (n + 1) (ends_at at point) ≡ take n old ++ p ∷ ends_at at point ∷ [] =
-      ap (λ ks. set ks (n + 1) (ends_at at point)) (split_last old n p l count first second) ∙ set_at (take n old ++ p ∷ []) l [] (ends_at at point)
+      ap (λ ks. set ks (n + 1) (ends_at at point)) (split_last old n m p l two) ∙ set_at (take n old ++ p ∷ []) l [] (ends_at at point)
       (n + 1) place
       ∙ append_assoc (take n old) (p ∷ []) (ends_at at point ∷ []) in
       subst (λ ks. GoesOn shape ks after at point (set old (n + 1) (ends_at at point))) (sym e)
       (subst (GoesOn shape (take n old ++ p ∷ l ∷ []) after at point) (sym new)
       (last_left_out (take n old) p l after at point (subst (Each (IsKnot shape)) e each)
-      (last_time (take n old) p l at (subst (λ ks. stop ks <ʳ value at) e later)) spare.0 spare.1)))
+      (last_time (take n old) p l at (subst (λ ks. stop ks <ʳ value at) e later)) spare)))

@@ -121,17 +121,23 @@ module _ {P : Type 0} (shape : ShapeOf P) where
       by_start q (inl m) (inr c) = inr (inl (m ∙ c.1))
       by_start q (inr m) c = inr m
 
+  -- a stretch that begins with the knot k, or after it and before the knots of D, and ends after p, before n or with it
+  record IsStretch (k : Knot P) (D : List (Knot P)) (p n : Knot P) (from : Frac) (first : P) (to : Frac) (last : P) : Type 0 where
+    order : value from <ʳ value to
+    begins : StandsFrom k from first
+    later : (b : Knot P) (bs : List (Knot P)) → D ≡ b ∷ bs → value from <ʳ time b
+    ends : IsCutBefore p n to last
+
   -- between a knot k and the knots of D on one side, and n on the other
-  cut_both : (xs : List (Knot P)) (k : Knot P) (D : List (Knot P)) (p n : Knot P) (ys ns : List (Knot P)) (from to : Frac) (first last : P)
-      → xs ++ k ∷ D ≡ ys ++ p ∷ [] → IsSignal shape (ys ++ p ∷ n ∷ ns) → value from <ʳ value to → StandsFrom k from first → IsCutBefore p n to last
-      → ((b : Knot P) (bs : List (Knot P)) → D ≡ b ∷ bs → value from <ʳ time b)
+  cut_both : {p n : Knot P} {from to : Frac} {first last : P} (xs : List (Knot P)) (k : Knot P) (D ys ns : List (Knot P))
+      → xs ++ k ∷ D ≡ ys ++ p ∷ [] → IsSignal shape (ys ++ p ∷ n ∷ ns) → IsStretch k D p n from first to last
       → IsCut shape (ys ++ p ∷ n ∷ ns) from to (begins_at k from first ∷ D ++ ends_at to last ∷ [])
-  cut_both xs k D p n ys ns from to first last e s order begins ends later = by_list D e later
+  cut_both {p} {n} {from} {to} {first} {last} xs k D ys ns e s between = by_list D e between.later
     where
       ended : IsSignal shape (ys ++ p ∷ ends_at to last ∷ [])
           × ((t : Rational) (v : Extended) → IsWorth shape (ys ++ p ∷ ends_at to last ∷ []) t v → IsWorth shape (ys ++ p ∷ n ∷ ns) t v)
           × ((q : P) → HasShape (ys ++ p ∷ ends_at to last ∷ []) q → HasShape (ys ++ p ∷ n ∷ ns) q)
-      ended = cut_end ys p n ns to last s ends
+      ended = cut_end ys p n ns to last s between.ends
 
       whole_is : (D : List (Knot P)) → xs ++ k ∷ D ≡ ys ++ p ∷ [] → ys ++ p ∷ ends_at to last ∷ [] ≡ xs ++ (k ∷ D ++ ends_at to last ∷ [])
       whole_is D e = sym (append_assoc ys (p ∷ []) (ends_at to last ∷ [])) ∙ ap (λ ks. ks ++ ends_at to last ∷ []) (sym e) ∙ append_assoc xs (k ∷ D)
@@ -140,7 +146,7 @@ module _ {P : Type 0} (shape : ShapeOf P) where
       by_start : (b : Knot P) (bs : List (Knot P)) → ys ++ p ∷ ends_at to last ∷ [] ≡ xs ++ k ∷ b ∷ bs → value from <ʳ time b → stop (b ∷ bs) ≡ value to
           → IsCut shape (ys ++ p ∷ n ∷ ns) from to (begins_at k from first ∷ b ∷ bs)
       by_start b bs same h stops =
-          let started = cut_start xs k b bs from first (subst (IsSignal shape) same ended.0) h begins in record {
+          let started = cut_start xs k b bs from first (subst (IsSignal shape) same ended.0) h between.begins in record {
             tells = told_alike shape (ys ++ p ∷ n ∷ ns) (begins_at k from first ∷ b ∷ bs) (value from) (value to) s started.0 (same_refl (value from))
                 (subst (λ u. stop (b ∷ bs) ≈ u) stops (same_refl (stop (b ∷ bs))))
                 (λ t v w. ended.1 t v (subst (λ ks. IsWorth shape ks t v) (sym same) (started.1 t v w)));
@@ -149,7 +155,7 @@ module _ {P : Type 0} (shape : ShapeOf P) where
 
       by_list : (D : List (Knot P)) → xs ++ k ∷ D ≡ ys ++ p ∷ [] → ((b : Knot P) (bs : List (Knot P)) → D ≡ b ∷ bs → value from <ʳ time b)
           → IsCut shape (ys ++ p ∷ n ∷ ns) from to (begins_at k from first ∷ D ++ ends_at to last ∷ [])
-      by_list [] e later = by_start (ends_at to last) [] (whole_is [] e) order refl
+      by_list [] e later = by_start (ends_at to last) [] (whole_is [] e) between.order refl
       by_list (b ∷ bs) e later = by_start b (bs ++ ends_at to last ∷ []) (whole_is (b ∷ bs) e) (later b bs refl) (stop_end (b ∷ bs) (ends_at to last) [])
 
   first_of : (ks : List (Knot P)) (n m : ℕ) (b : Knot P) (bs : List (Knot P)) → take m (drop n ks) ≡ b ∷ bs → slice_get ks n ≡ Some b
@@ -161,25 +167,55 @@ module _ {P : Type 0} (shape : ShapeOf P) where
   first_of (k ∷ ks) zero (suc m) b bs h = let s : k ≡ b = cc in ap Some s
   first_of (k ∷ ks) (suc n) m b bs h = first_of ks n m b bs h
 
+  -- where a stretch begins: with the knot k, at the place i, or after it and before the next
+  pub record BeginsIn (ks : List (Knot P)) (i : ℕ) (k : Knot P) (from : Frac) (first : P) : Type 0 where
+    pub inside : i < length ks
+    pub at_i : k ≡ get_or ks i k
+    -- the shape with which it begins
+    pub stands : StandsFrom k from first
+    pub later : (b : Knot P) → slice_get ks (i + 1) ≡ Some b → value from <ʳ time b
+
+  -- where it ends: after the knot p, at the place d, and before the next, n, or with that
+  record EndsIn (ks : List (Knot P)) (d : ℕ) (p n : Knot P) (to : Frac) (last : P) : Type 0 where
+    inside : d + 1 < length ks
+    at_d : p ≡ get_or ks d p
+    at_next : n ≡ get_or ks (d + 1) n
+    -- the shape with which it ends
+    stands : IsCutBefore p n to last
+
+  -- the knot with which or after which the stretch begins is not later
+  begun : (k : Knot P) (from : Frac) (first : P) → StandsFrom k from first → time k ≤ʳ value from
+  begun k from first (inl h) = le_of_same h.0
+  begun k from first (inr h) = le_of_lt h.0
+
   -- by the places of the knots
-  pub cut_places : (ks : List (Knot P)) (i d : ℕ) (k p n : Knot P) (from to : Frac) (first last : P) → IsSignal shape ks → i ≤ d → d + 1 < length ks
-      → k ≡ get_or ks i k → p ≡ get_or ks d p → n ≡ get_or ks (d + 1) n → value from <ʳ value to → StandsFrom k from first → IsCutBefore p n to last
-      → ((b : Knot P) → slice_get ks (i + 1) ≡ Some b → value from <ʳ time b)
+  cut_places : {i d : ℕ} {k p n : Knot P} {from to : Frac} {first last : P} (ks : List (Knot P)) → IsSignal shape ks → BeginsIn ks i k from first
+      → EndsIn ks d p n to last → i ≤ d → value from <ʳ value to
       → IsCut shape ks from to (begins_at k from first ∷ slice_range ks (i + 1) (d + 1) ++ ends_at to last ∷ [])
-  cut_places ks i d k p n from to first last s le more at_i at_d at_e order begins ends later =
+  cut_places {i} {d} {k} {p} {n} {from} {to} {first} {last} ks s begins ends le order =
       subst (λ D. IsCut shape ks from to (begins_at k from first ∷ D ++ ends_at to last ∷ [])) middle_is
       (subst (λ os. IsCut shape os from to (begins_at k from first ∷ drop (i + 1) (take (d + 1) ks) ++ ends_at to last ∷ [])) (sym ks_is)
-      (cut_both (take i (take (d + 1) ks)) k (drop (i + 1) (take (d + 1) ks)) p n (take d ks) (drop (d + 1 + 1) ks) from to first last
-      (sym front_is ∙ front_too) (subst (IsSignal shape) ks_is s) order begins ends
-      (λ b bs h. later b (first_of ks (i + 1) (d + 1 - (i + 1)) b bs (sym middle_is ∙ h)))))
+      (cut_both (take i (take (d + 1) ks)) k (drop (i + 1) (take (d + 1) ks)) (take d ks) (drop (d + 1 + 1) ks)
+      (sym front_is ∙ front_too) (subst (IsSignal shape) ks_is s) between))
     where
+      more : d + 1 < length ks
+      more = ends.inside
+
       middle_is : drop (i + 1) (take (d + 1) ks) ≡ slice_range ks (i + 1) (d + 1)
       middle_is = let e : d + 1 ≡ (i + 1) + (d + 1 - (i + 1)) = omega (arith, le) in
           ap (λ m. drop (i + 1) (take m ks)) e ∙ drop-take (i + 1) (d + 1 - (i + 1)) ks
 
+      between : IsStretch k (drop (i + 1) (take (d + 1) ks)) p n from first to last
+      between = record {
+        order = order;
+        begins = begins.stands;
+        later = λ b bs h. begins.later b (first_of ks (i + 1) (d + 1 - (i + 1)) b bs (sym middle_is ∙ h));
+        ends = ends.stands;
+      }
+
       ks_is : ks ≡ take d ks ++ p ∷ n ∷ drop (d + 1 + 1) ks
-      ks_is = sym (take-append-drop d ks) ∙ ap (λ os. take d ks ++ os) (drop_more ks d p (omega (arith, more)) ∙ ap (λ q. q ∷ drop (d + 1) ks) (sym at_d)
-          ∙ ap (λ os. p ∷ os) (drop_more ks (d + 1) n more ∙ ap (λ q. q ∷ drop (d + 1 + 1) ks) (sym at_e)))
+      ks_is = sym (take-append-drop d ks) ∙ ap (λ os. take d ks ++ os) (drop_more ks d p (omega (arith, more)) ∙ ap (λ q. q ∷ drop (d + 1) ks) (sym ends.at_d)
+          ∙ ap (λ os. p ∷ os) (drop_more ks (d + 1) n more ∙ ap (λ q. q ∷ drop (d + 1 + 1) ks) (sym ends.at_next)))
 
       count : length (take (d + 1) ks) ≡ d + 1
       count = omega (arith, length-take (d + 1) ks, more)
@@ -187,27 +223,25 @@ module _ {P : Type 0} (shape : ShapeOf P) where
       front_is : take (d + 1) ks ≡ take i (take (d + 1) ks) ++ k ∷ drop (i + 1) (take (d + 1) ks)
       front_is = sym (take-append-drop i (take (d + 1) ks)) ∙ ap (λ os. take i (take (d + 1) ks) ++ os)
           (drop_more (take (d + 1) ks) i k (omega (arith, count, le))
-          ∙ ap (λ q. q ∷ drop (i + 1) (take (d + 1) ks)) (get_or-take (d + 1) ks i k (omega (arith, le)) ∙ sym at_i))
+          ∙ ap (λ q. q ∷ drop (i + 1) (take (d + 1) ks)) (get_or-take (d + 1) ks i k (omega (arith, le)) ∙ sym begins.at_i))
 
       front_too : take (d + 1) ks ≡ take d ks ++ p ∷ []
-      front_too = take_more ks d p (omega (arith, more)) ∙ ap (λ q. take d ks ++ q ∷ []) (sym at_d)
+      front_too = take_more ks d p (omega (arith, more)) ∙ ap (λ q. take d ks ++ q ∷ []) (sym ends.at_d)
 
   -- one instant
-  pub cut_instant : (ks : List (Knot P)) (i : ℕ) (k : Knot P) (from to : Frac) (first : P) → IsSignal shape ks → i < length ks → k ≡ get_or ks i k
-      → value from ≈ value to
-      → value from ≤ʳ stop ks → StandsFrom k from first → ((b : Knot P) → slice_get ks (i + 1) ≡ Some b → value from <ʳ time b)
-      → IsCut shape ks from to (ends_at from first ∷ [])
-  cut_instant ks i k from to first s inside at_i same last begins later = record {
+  pub cut_instant : {i : ℕ} {k : Knot P} (ks : List (Knot P)) (from to : Frac) (first : P) → IsSignal shape ks → BeginsIn ks i k from first
+      → value from ≈ value to → value from ≤ʳ stop ks → IsCut shape ks from to (ends_at from first ∷ [])
+  cut_instant {i} {k} ks from to first s begins same last = record {
     tells = told_alike shape ks (ends_at from first ∷ []) (value from) (value to) s
         (record { some = omega arith; each = (record { rising = tt; needed = tt; ends = refl }, tt) }) (same_refl (value from)) same by_worth;
-    shapes = by_shape begins;
+    shapes = by_shape begins.stands;
   }
     where
       here : slice_get ks i ≡ Some k
-      here = slice_get_read ks (length ks) i k refl inside at_i
+      here = slice_get_read ks (length ks) i k refl begins.inside begins.at_i
 
       more : time k <ʳ value from → i + 1 < length ks
-      more h = elim (cases_lt (i + 1) (length ks)) as (λ v. i + 1 < length ks) [
+      more h = let inside = begins.inside in elim (cases_lt (i + 1) (length ks)) as (λ v. i + 1 < length ks) [
         | inl l ↦ l
         | inr l ↦ absurd (read_none shape ks i k (value from) here (omega (arith, l, inside)) h
             (record { above = le_trans (start_first shape ks i k s.each here) (le_of_lt h); below = last }))
@@ -215,13 +249,13 @@ module _ {P : Type 0} (shape : ShapeOf P) where
 
       reading : StandsFrom k from first → IsSample shape ks (value from) first
       reading (inl c) = subst (IsSample shape ks (value from)) (sym c.1) (read_point shape ks i k (value from) s here c.0)
-      reading (inr c) = subst (IsSample shape ks (value from)) (sym c.1) (read_after shape ks i k (value from) s here (more c.0) c.0 later)
+      reading (inr c) = subst (IsSample shape ks (value from)) (sym c.1) (read_after shape ks i k (value from) s here (more c.0) c.0 begins.later)
 
       by_worth : (t : Rational) (v : Extended) → IsWorth shape (ends_at from first ∷ []) t v → IsWorth shape ks t v
       by_worth t v (inl w) = worth_same shape ks (value_at (shape.function first) (value from)) v (same_sym w.when)
           (same_symᵉ v (value_at (shape.function first) (value from))
           (same_transᵉ v (value_at (shape.function first) t) (value_at (shape.function first) (value from)) w.worth
-          (value_same (shape.function first) w.when))) (reading begins).2
+          (value_same (shape.function first) w.when))) (reading begins.stands).2
       by_worth t v (inr (inl w)) = absurd w
       by_worth t v (inr (inr w)) = absurd w
 
@@ -247,37 +281,45 @@ module _ {P : Type 0} (shape : ShapeOf P) where
   ]
 
   -- where the stretch ends at a knot
-  pub cut_at_knot : (ks : List (Knot P)) (i j : ℕ) (k n : Knot P) (from to : Frac) (first : P) → IsSignal shape ks → i < length ks → j < length ks
-      → k ≡ get_or ks i k → n ≡ get_or ks j n → value from <ʳ value to → time k ≤ʳ value from → StandsFrom k from first
-      → ((b : Knot P) → slice_get ks (i + 1) ≡ Some b → value from <ʳ time b) → time n ≈ value to
+  pub cut_at_knot : {i : ℕ} {k : Knot P} {from : Frac} {first : P} (ks : List (Knot P)) (j : ℕ) (n : Knot P) (to : Frac) → IsSignal shape ks
+      → BeginsIn ks i k from first → j < length ks → n ≡ get_or ks j n → value from <ʳ value to → time n ≈ value to
       → (i < j) × IsCut shape ks from to (begins_at k from first ∷ slice_range ks (i + 1) j ++ ends_at to n.point ∷ [])
-  cut_at_knot ks i j k n from to first s in_i in_j at_i at_j order not_later stands later here =
-      let before = place_before ks i j k n s.each (slice_get_read ks (length ks) i k refl in_i at_i) (slice_get_read ks (length ks) j n refl in_j at_j)
-      (lt_of_le_of_lt not_later (lt_of_lt_of_le order (ge_of_same here))) in
+  cut_at_knot {i} {k} {from} {first} ks j n to s begins in_j at_j order here =
+      let before = place_before ks i j k n s.each (slice_get_read ks (length ks) i k refl begins.inside begins.at_i)
+      (slice_get_read ks (length ks) j n refl in_j at_j)
+      (lt_of_le_of_lt (begun k from first begins.stands) (lt_of_lt_of_le order (ge_of_same here))) in
       let place : (j - 1) + 1 ≡ j = omega (arith, before) in
-      let p = get_or ks (j - 1) k in (
+      let p = get_or ks (j - 1) k in
+      let ends : EndsIn ks (j - 1) p n to n.point = record {
+        inside = omega (arith, before, in_j);
+        at_d = get_or_default ks (j - 1) k p (omega (arith, in_j));
+        at_next = subst (λ e. n ≡ get_or ks e n) (sym place) at_j;
+        stands = inl (same_sym here, refl);
+      } in (
         before,
         subst (λ e. IsCut shape ks from to (begins_at k from first ∷ slice_range ks (i + 1) e ++ ends_at to n.point ∷ [])) place
-            (cut_places ks i (j - 1) k p n from to first n.point s (omega (arith, before)) (omega (arith, before, in_j)) at_i
-            (get_or_default ks (j - 1) k p (omega (arith, in_j)))
-            (subst (λ e. n ≡ get_or ks e n) (sym place) at_j) order stands (inl (same_sym here, refl)) later),
+            (cut_places ks s begins ends (omega (arith, before)) order),
       )
 
   -- where it ends after a knot
-  pub cut_after_knot : (ks : List (Knot P)) (i j : ℕ) (k n : Knot P) (from to : Frac) (first : P) → IsSignal shape ks → i < length ks → j < length ks
-      → k ≡ get_or ks i k → n ≡ get_or ks j n → value from <ʳ value to → time k ≤ʳ value from → StandsFrom k from first
-      → ((b : Knot P) → slice_get ks (i + 1) ≡ Some b → value from <ʳ time b) → time n <ʳ value to
+  pub cut_after_knot : {i : ℕ} {k : Knot P} {from : Frac} {first : P} (ks : List (Knot P)) (j : ℕ) (n : Knot P) (to : Frac) → IsSignal shape ks
+      → BeginsIn ks i k from first → j < length ks → n ≡ get_or ks j n → value from <ʳ value to → time n <ʳ value to
       → ((b : Knot P) → slice_get ks (j + 1) ≡ Some b → value to <ʳ time b) → value to ≤ʳ stop ks
       → (i ≤ j) × (j + 1 < length ks) × IsCut shape ks from to (begins_at k from first ∷ slice_range ks (i + 1) (j + 1) ++ ends_at to n.after ∷ [])
-  cut_after_knot ks i j k n from to first s in_i in_j at_i at_j order not_later stands later before_to after_to last =
+  cut_after_knot {i} {k} {from} {first} ks j n to s begins in_j at_j order before_to after_to last =
       let here = slice_get_read ks (length ks) j n refl in_j at_j in
       let more = not_last ks j n (value to) here in_j last before_to in
       let m = get_or ks (j + 1) k in
       let next = slice_get-get_or ks (j + 1) k more in
-      let before = place_before ks i (j + 1) k m s.each (slice_get_read ks (length ks) i k refl in_i at_i) next
-      (lt_of_le_of_lt not_later (lt_of_lt_of_le order (le_of_lt (after_to m next)))) in (
+      let before = place_before ks i (j + 1) k m s.each (slice_get_read ks (length ks) i k refl begins.inside begins.at_i) next
+      (lt_of_le_of_lt (begun k from first begins.stands) (lt_of_lt_of_le order (le_of_lt (after_to m next)))) in
+      let ends : EndsIn ks j n m to n.after = record {
+        inside = more;
+        at_d = at_j;
+        at_next = get_or_default ks (j + 1) k m more;
+        stands = inr (before_to, after_to m next, refl);
+      } in (
         omega (arith, before),
         more,
-        cut_places ks i j k n m from to first n.after s (omega (arith, before)) more at_i at_j (get_or_default ks (j + 1) k m more) order stands
-            (inr (before_to, after_to m next, refl)) later,
+        cut_places ks s begins ends (omega (arith, before)) order,
       )

@@ -64,10 +64,10 @@ module _ {P : Type 0} (shape : ShapeOf P) where
       by_shape r (inr (inr e)) = inr (inr (inr e))
 
   -- one shape up to a time, and the other from there on
-  joins_split : (b : Side) (old half new : List (Knot P)) (p q first second point : P) (middle to : Frac)
+  joins_split : {half new : List (Knot P)} {first second : P} {middle : Frac} (b : Side) (old : List (Knot P)) (p q point : P) (to : Frac)
       → IsPieces shape b p q (stop old) (value to) (Split first middle second)
       → GoesOn shape old first middle first half → GoesOn shape half second to point new → Joins shape b old p q to point new
-  joins_split b old half new p q first second point middle to is on on' = record {
+  joins_split {half} {new} {first} {second} {middle} b old p q point to is on on' = record {
     signal = on'.signal;
     begins = on'.begins ∙ on.begins;
     ends = on'.ends;
@@ -129,7 +129,7 @@ module _ {P : Type 0} (shape : ShapeOf P) where
       → Continues shape old pieces to point new
       → Joins shape b old p q to point new
   joins b old new p q point to (Whole s) is on = joins_whole b old new p q s point to is on
-  joins b old new p q point to (Split first middle second) is (half, on, on') = joins_split b old half new p q first second point middle to is on on'
+  joins b old new p q point to (Split first middle second) is (half, on, on') = joins_split b old p q point to is on on'
 
   -- the middle of pieces lies on the gap
   pub middle_between : (b : Side) (p q : P) (from to : Rational) (pieces : Pieces P) → IsPieces shape b p q from to pieces → MiddleIsBetween pieces from to

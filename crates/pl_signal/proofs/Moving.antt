@@ -41,6 +41,14 @@ mirror_same {t} {u} z h = record { same = omega (arith, h.same) }
 pub mirror_twice : (t : Rational) (z : ℤ) → subtract (whole z) (subtract (whole z) t) ≈ t
 mirror_twice t z = omega arith
 
+-- the mirror image of a mirror image
+pub mirror_back : {t u : Rational} (z : ℤ) → u ≈ subtract (whole z) t → subtract (whole z) u ≈ t
+mirror_back {t} z e = same_trans (mirror_same z e) (mirror_twice t z)
+
+-- a time moved back, and forth again
+pub move_back : {t u : Rational} (z : ℤ) → u ≈ add t (whole (neg_ℤ z)) → add u (whole z) ≈ t
+move_back {t} z e = same_trans (same_shift z e) (shift_forth t z)
+
 module _ {P : Type 0} (shape : ShapeOf P) where
   -- a moved signal is a function of time
   pub moved_is_function : (ks : List (Knot P)) (back : Rational → Rational) → ((t u : Rational) → t ≈ u → back t ≈ back u) → IsSignal shape ks
@@ -50,24 +58,37 @@ module _ {P : Type 0} (shape : ShapeOf P) where
     one = λ t v w a b. one_value shape ks (back t) v w s a b;
   }
 
+  -- the knots `old` tell what the signal of `ks` is worth at the time `back t` for t, and `new` goes on from them by the gap after k and the point of m
+  pub record MovesOn (ks : List (Knot P)) (back : Rational → Rational) (k m : Knot P) (old new : List (Knot P)) : Type 0 where
+    -- the shape on the gap, the time of its end, and the shape there
+    pub after : P
+    pub at : Frac
+    pub point : P
+    -- what is told so far, and how it goes on
+    pub so_far : TellsSoFar shape (λ t v. IsWorth shape ks (back t) v) old
+    pub on : GoesOn shape old after at point new
+    -- the end is the time of m moved
+    pub arrives : back (value at) ≈ time m
+    -- the shapes are those of k and m moved
+    pub afters : (t : Rational) → value_at (shape.function after) t ≈ᵉ value_at (shape.function k.after) (back t)
+    pub points : (t : Rational) → value_at (shape.function point) t ≈ᵉ value_at (shape.function m.point) (back t)
+
   -- one knot more
-  pub moved_on : (ks old new : List (Knot P)) (back : Rational → Rational) (i p : ℕ) (k n m : Knot P) (after point : P) (at : Frac)
+  pub moved_on : {k n m : Knot P} {old new : List (Knot P)} (ks : List (Knot P)) (back : Rational → Rational) (i p : ℕ)
       → IsFunction (λ t v. IsWorth shape ks (back t) v)
-      → TellsSoFar shape (λ t v. IsWorth shape ks (back t) v) old → GoesOn shape old after at point new
-      → slice_get ks i ≡ Some k → slice_get ks (i + 1) ≡ Some n → slice_get ks p ≡ Some m
-      → ((t : Rational) → stop old <ʳ t → t <ʳ value at → (time k <ʳ back t) × (back t <ʳ time n)) → back (value at) ≈ time m
-      → ((t : Rational) → value_at (shape.function after) t ≈ᵉ value_at (shape.function k.after) (back t))
-      → ((t : Rational) → value_at (shape.function point) t ≈ᵉ value_at (shape.function m.point) (back t))
+      → slice_get ks i ≡ Some k → slice_get ks (i + 1) ≡ Some n → slice_get ks p ≡ Some m → (step : MovesOn ks back k m old new)
+      → ((t : Rational) → stop old <ʳ t → t <ʳ value step.at → (time k <ʳ back t) × (back t <ʳ time n))
       → TellsSoFar shape (λ t v. IsWorth shape ks (back t) v) new
-  moved_on ks old new back i p k n m after point at is so_far on at_i at_next at_p between arrives afters points =
-      tells_on shape (λ t v. IsWorth shape ks (back t) v) old new after point at is so_far on
-      (λ t a b. let h = between t a b in worth_same shape ks (value_at (shape.function k.after) (back t)) (value_at (shape.function after) t)
+  moved_on {k} {n} {m} {old} {new} ks back i p is at_i at_next at_p step between =
+      tells_on shape (λ t v. IsWorth shape ks (back t) v) old new step.after step.point step.at is step.so_far step.on
+      (λ t a b. let h = between t a b in worth_same shape ks (value_at (shape.function k.after) (back t)) (value_at (shape.function step.after) t)
       (same_refl (back t))
-      (same_symᵉ (value_at (shape.function after) t) (value_at (shape.function k.after) (back t)) (afters t))
+      (same_symᵉ (value_at (shape.function step.after) t) (value_at (shape.function k.after) (back t)) (step.afters t))
       (worth_between shape ks i k n (back t) at_i at_next h.0 h.1))
-      (worth_same shape ks (value_at (shape.function m.point) (back (value at))) (value_at (shape.function point) (value at)) (same_refl (back (value at)))
-      (same_symᵉ (value_at (shape.function point) (value at)) (value_at (shape.function m.point) (back (value at))) (points (value at)))
-      (worth_at shape ks p m (back (value at)) at_p arrives))
+      (worth_same shape ks (value_at (shape.function m.point) (back (value step.at))) (value_at (shape.function step.point) (value step.at))
+      (same_refl (back (value step.at)))
+      (same_symᵉ (value_at (shape.function step.point) (value step.at)) (value_at (shape.function m.point) (back (value step.at))) (step.points (value step.at)))
+      (worth_at shape ks p m (back (value step.at)) at_p step.arrives))
 
   -- the first knot
   moved_first : (ks built : List (Knot P)) (back : Rational → Rational) (p : ℕ) (m : Knot P) (point : P) (at : Frac)
@@ -118,24 +139,12 @@ module _ {P : Type 0} (shape : ShapeOf P) where
   last_is ks i k e n = stop_at shape ks i k e (slice_get_past ks (i + 1) (omega (arith, n)))
 
   -- a mirrored signal goes on by one knot
-  pub mirror_on : (ks old new : List (Knot P)) (z : ℤ) (i : ℕ) (k n : Knot P) (after point : P) (at : Frac) → IsSignal shape ks
-      → slice_get ks i ≡ Some k → slice_get ks (i + 1) ≡ Some n
-      → TellsSoFar shape (λ t v. IsWorth shape ks (subtract (whole z) t) v) old → stop old ≈ subtract (whole z) (time n)
-      → value at ≈ subtract (whole z) (time k)
-      → ((t : Rational) → value_at (shape.function after) t ≈ᵉ value_at (shape.function k.after) (subtract (whole z) t))
-      → ((t : Rational) → value_at (shape.function point) t ≈ᵉ value_at (shape.function k.point) (subtract (whole z) t))
-      → GoesOn shape old after at point new → TellsSoFar shape (λ t v. IsWorth shape ks (subtract (whole z) t) v) new
-  mirror_on ks old new z i k n after point at s at_i at_next so_far stops arrives afters points on =
-      moved_on ks old new (λ t. subtract (whole z) t) i i k n k after point at
-      (moved_is_function ks (λ t. subtract (whole z) t) (λ t u e. mirror_same z e) s) so_far on at_i at_next at_i
-      (λ t a b. (
-        lt_of_le_of_lt (ge_of_same here) (mirror_lt z b),
-        lt_of_lt_of_le (mirror_lt z a)
-            (le_of_same (same_trans (mirror_same z stops) (mirror_twice (time n) z))),
-      )) here afters points
-    where
-      here : subtract (whole z) (value at) ≈ time k
-      here = same_trans (mirror_same z arrives) (mirror_twice (time k) z)
+  pub mirror_on : {old new : List (Knot P)} (ks : List (Knot P)) (z : ℤ) (i : ℕ) (k n : Knot P) → IsSignal shape ks
+      → slice_get ks i ≡ Some k → slice_get ks (i + 1) ≡ Some n → MovesOn ks (λ t. subtract (whole z) t) k k old new
+      → stop old ≈ subtract (whole z) (time n) → TellsSoFar shape (λ t v. IsWorth shape ks (subtract (whole z) t) v) new
+  mirror_on ks z i k n s at_i at_next step stops =
+      moved_on ks (λ t. subtract (whole z) t) i i (moved_is_function ks (λ t. subtract (whole z) t) (λ t u e. mirror_same z e) s) at_i at_next at_i step
+      (λ t a b. (lt_of_le_of_lt (ge_of_same step.arrives) (mirror_lt z b), lt_of_lt_of_le (mirror_lt z a) (le_of_same (mirror_back z stops))))
 
   -- to a later time
   pub mirror_later : (ks : List (Knot P)) (z : ℤ) (i : ℕ) (k n : Knot P) {from at : Rational} → IsSignal shape ks → slice_get ks i ≡ Some k
@@ -145,24 +154,12 @@ module _ {P : Type 0} (shape : ShapeOf P) where
       lt_of_le_of_lt (le_of_same e) (lt_of_lt_of_le (mirror_lt z (next_rises shape ks i k n s.each at_i at_next)) (ge_of_same f))
 
   -- a shifted signal goes on by one knot
-  pub shift_on : (ks old new : List (Knot P)) (z : ℤ) (i : ℕ) (k n : Knot P) (after point : P) (at : Frac) → IsSignal shape ks
-      → slice_get ks i ≡ Some k → slice_get ks (i + 1) ≡ Some n
-      → TellsSoFar shape (λ t v. IsWorth shape ks (add t (whole z)) v) old → stop old ≈ add (time k) (whole (neg_ℤ z))
-      → value at ≈ add (time n) (whole (neg_ℤ z))
-      → ((t : Rational) → value_at (shape.function after) t ≈ᵉ value_at (shape.function k.after) (add t (whole z)))
-      → ((t : Rational) → value_at (shape.function point) t ≈ᵉ value_at (shape.function n.point) (add t (whole z)))
-      → GoesOn shape old after at point new → TellsSoFar shape (λ t v. IsWorth shape ks (add t (whole z)) v) new
-  shift_on ks old new z i k n after point at s at_i at_next so_far stops arrives afters points on =
-      moved_on ks old new (λ t. add t (whole z)) i (i + 1) k n n after point at
-      (moved_is_function ks (λ t. add t (whole z)) (λ t u e. same_shift z e) s) so_far on at_i at_next at_next
-      (λ t a b. (
-        lt_of_le_of_lt (ge_of_same (same_trans (same_shift z stops) (shift_forth (time k) z))) (lt_shift z a),
-        lt_of_lt_of_le (lt_shift z b)
-            (le_of_same here),
-      )) here afters points
-    where
-      here : add (value at) (whole z) ≈ time n
-      here = same_trans (same_shift z arrives) (shift_forth (time n) z)
+  pub shift_on : {old new : List (Knot P)} (ks : List (Knot P)) (z : ℤ) (i : ℕ) (k n : Knot P) → IsSignal shape ks
+      → slice_get ks i ≡ Some k → slice_get ks (i + 1) ≡ Some n → MovesOn ks (λ t. add t (whole z)) k n old new
+      → stop old ≈ add (time k) (whole (neg_ℤ z)) → TellsSoFar shape (λ t v. IsWorth shape ks (add t (whole z)) v) new
+  shift_on ks z i k n s at_i at_next step stops =
+      moved_on ks (λ t. add t (whole z)) i (i + 1) (moved_is_function ks (λ t. add t (whole z)) (λ t u e. same_shift z e) s) at_i at_next at_next step
+      (λ t a b. (lt_of_le_of_lt (ge_of_same (move_back z stops)) (lt_shift z a), lt_of_lt_of_le (lt_shift z b) (le_of_same step.arrives)))
 
   -- to a later time
   pub shift_later : (ks : List (Knot P)) (z : ℤ) (i : ℕ) (k n : Knot P) {from at : Rational} → IsSignal shape ks → slice_get ks i ≡ Some k
@@ -172,12 +169,12 @@ module _ {P : Type 0} (shape : ShapeOf P) where
       lt_of_le_of_lt (le_of_same e) (lt_of_lt_of_le (lt_shift z (next_rises shape ks i k n s.each at_i at_next)) (ge_of_same f))
 
   -- the bases of a signal that goes on
-  pub bases_on : (made : ℤ → ℤ) (ks old new : List (Knot P)) (after point p q : P) (at : Frac) → BasesFrom shape made ks old
+  pub bases_on : {old new : List (Knot P)} {after point : P} {at : Frac} (made : ℤ → ℤ) (ks : List (Knot P)) (p q : P) → BasesFrom shape made ks old
       → GoesOn shape old after at point new
       → HasShape ks p → (IsTrue (shape.moves after) → IsTrue (shape.moves p) × (shape.base after ≡ made (shape.base p))) → HasShape ks q
       → (IsTrue (shape.moves point) → IsTrue (shape.moves q) × (shape.base point ≡ made (shape.base q)))
       → BasesFrom shape made ks new
-  bases_on made ks old new after point p q at so_far on has_p from_p has_q from_q = λ r h m. by_shape r m (on.shapes r h)
+  bases_on {old} {after = after} {point = point} made ks p q so_far on has_p from_p has_q from_q = λ r h m. by_shape r m (on.shapes r h)
     where
       by_shape : (r : P) → IsTrue (shape.moves r) → HasShape old r ⊎ (r ≡ after) ⊎ (r ≡ point) → (o : P) × HasShape ks o × IsTrue (shape.moves o)
           × (shape.base r ≡ made (shape.base o))
@@ -208,7 +205,7 @@ module _ {P : Type 0} (shape : ShapeOf P) where
       → TellsSoFar shape (λ t v. IsWorth shape ks (subtract (whole z) t) v) built
   mirror_first ks built z i m point at s at_i arrives points e =
       moved_first ks built (λ t. subtract (whole z) t) i m point at (moved_is_function ks (λ t. subtract (whole z) t) (λ t u e. mirror_same z e) s) at_i
-      (same_trans (mirror_same z arrives) (mirror_twice (time m) z)) points e
+      (mirror_back z arrives) points e
 
   -- and of a shifted one
   pub shift_first : (ks built : List (Knot P)) (z : ℤ) (i : ℕ) (m : Knot P) (point : P) (at : Frac) → IsSignal shape ks → slice_get ks i ≡ Some m

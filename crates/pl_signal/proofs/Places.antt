@@ -101,10 +101,10 @@ module _ {P : Type 0} (shape : ShapeOf P) where
   ]
 
   -- on the gap up to the next knot a signal is worth what its shape there is
-  pub part_on_gap : (ks : List (Knot P)) (i : ℕ) (k n : Knot P) (from to t : Rational) → IsPlace ks from i → slice_get ks i ≡ Some k
+  pub part_on_gap : {n : Knot P} {from to : Rational} (ks : List (Knot P)) (i : ℕ) (k : Knot P) (t : Rational) → IsPlace ks from i → slice_get ks i ≡ Some k
       → slice_get ks (i + 1) ≡ Some n → to ≤ʳ time n → from <ʳ t → t <ʳ to
       → IsWorth shape ks t (value_at (shape.function k.after) t)
-  part_on_gap ks i k n from to t p at_i at_next before h l = worth_between shape ks i k n t at_i at_next (lt_of_le_of_lt (p.not_later k at_i) h)
+  part_on_gap {n} ks i k t p at_i at_next before h l = worth_between shape ks i k n t at_i at_next (lt_of_le_of_lt (p.not_later k at_i) h)
       (lt_of_lt_of_le l before)
 
   -- the knot at a place is before each later time

@@ -82,12 +82,12 @@ module _ {P : Type 0} (shape : ShapeOf P) where
       by_part t v (inr (inr w)) = of_point F point at is here t v w.0 w.1
 
   -- and by the least or the greatest of two shapes
-  pub tells_join : (F : Function) (side : Side) (old new : List (Knot P)) (p q point : P) (to : Frac) → IsFunction F → TellsSoFar F old
+  pub tells_join : {old new : List (Knot P)} {p q : P} (F : Function) (side : Side) (point : P) (to : Frac) → IsFunction F → TellsSoFar F old
       → Joins shape side old p q to point new
       → ((t : Rational) (v : Extended) → stop old <ʳ t → t <ʳ value to
       → IsChosen side (value_at (shape.function p) t) (value_at (shape.function q) t) v → F t v)
       → F (value to) (value_at (shape.function point) (value to)) → TellsSoFar F new
-  tells_join F side old new p q point to is s joins gap here = record { signal = joins.signal; worth = λ t v w. by_part t v ((joins.worth t v).0 w) }
+  tells_join {old} {p = p} {q = q} F side point to is s joins gap here = record { signal = joins.signal; worth = λ t v w. by_part t v ((joins.worth t v).0 w) }
     where
       by_part : (t : Rational) (v : Extended) → IsWorth shape old t v
           ⊎ ((stop old <ʳ t) × (t <ʳ value to) × IsChosen side (value_at (shape.function p) t) (value_at (shape.function q) t) v)

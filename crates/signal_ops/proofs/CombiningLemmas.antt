@@ -31,27 +31,51 @@ module _ {P : Type 0} (shape : ShapeOf P) where
   chosen_shapes ks ls x y point r h k (inr e) f = inr (subst (HasShape ls) (sym (f ∙ e)) k)
 
   -- so at the first knot
-  pub first_shapes : (ks ls built : List (Knot P)) (x y point : P) (at : Frac) → HasShape ks x → HasShape ls y → (point ≡ x) ⊎ (point ≡ y)
+  pub first_shapes : {point : P} {at : Frac} (ks ls built : List (Knot P)) (x y : P) → HasShape ks x → HasShape ls y → (point ≡ x) ⊎ (point ≡ y)
       → built ≡ record { time = at; point = point; after = point } ∷ []
       → (r : P) → HasShape built r → HasShape ks r ⊎ HasShape ls r
-  first_shapes ks ls built x y point at h k one e r m = by_part (subst (λ os. HasShape os r) e m)
+  first_shapes {point} {at} ks ls built x y h k one e r m = by_part (subst (λ os. HasShape os r) e m)
     where
       by_part : HasShape (record { time = at; point = point; after = point } ∷ []) r → HasShape ks r ⊎ HasShape ls r
       by_part (inl f) = chosen_shapes ks ls x y point r h k one f
       by_part (inr (inl f)) = chosen_shapes ks ls x y point r h k one f
       by_part (inr (inr f)) = absurd f
 
+  -- the knots `old` go on to `new` with what is chosen of the two signals on a gap and at its end
+  pub record JoinsBoth (b : Side) (ks ls old new : List (Knot P)) : Type 0 where
+    -- the shapes of the signals on the gap
+    pub p : P
+    pub q : P
+    -- the time of its end, the shapes of the signals there, and the one that is chosen
+    pub to : Frac
+    pub x : P
+    pub y : P
+    pub point : P
+    pub joins : Joins shape b old p q to point new
+    -- the shapes stand in the signals
+    pub has_p : HasShape ks p
+    pub has_q : HasShape ls q
+    pub has_x : HasShape ks x
+    pub has_y : HasShape ls y
+    -- the signals are worth what they say
+    pub left : (t : Rational) → stop old <ʳ t → t <ʳ value to → IsWorth shape ks t (value_at (shape.function p) t)
+    pub right : (t : Rational) → stop old <ʳ t → t <ʳ value to → IsWorth shape ls t (value_at (shape.function q) t)
+    pub left_there : IsWorth shape ks (value to) (value_at (shape.function x) (value to))
+    pub right_there : IsWorth shape ls (value to) (value_at (shape.function y) (value to))
+    -- and the chosen one is one of the two at the end
+    pub one : (point ≡ x) ⊎ (point ≡ y)
+    pub chosen : IsChosen b (value_at (shape.function x) (value to)) (value_at (shape.function y) (value to)) (value_at (shape.function point) (value to))
+
   -- and so once a gap is joined
-  pub joined_shapes : (b : Side) (ks ls old new : List (Knot P)) (p q point x y : P) (to : Frac)
-      → ((r : P) → HasShape old r → HasShape ks r ⊎ HasShape ls r) → Joins shape b old p q to point new
-      → HasShape ks p → HasShape ls q → HasShape ks x → HasShape ls y → (point ≡ x) ⊎ (point ≡ y) → (r : P) → HasShape new r → HasShape ks r ⊎ HasShape ls r
-  joined_shapes b ks ls old new p q point x y to so_far joins hp hq hx hy one r h = by_part (joins.shapes r h)
+  pub joined_shapes : {old new : List (Knot P)} (b : Side) (ks ls : List (Knot P)) → ((r : P) → HasShape old r → HasShape ks r ⊎ HasShape ls r)
+      → JoinsBoth b ks ls old new → (r : P) → HasShape new r → HasShape ks r ⊎ HasShape ls r
+  joined_shapes {old} b ks ls so_far gap r h = by_part (gap.joins.shapes r h)
     where
-      by_part : HasShape old r ⊎ (r ≡ p) ⊎ (r ≡ q) ⊎ (r ≡ point) → HasShape ks r ⊎ HasShape ls r
+      by_part : HasShape old r ⊎ (r ≡ gap.p) ⊎ (r ≡ gap.q) ⊎ (r ≡ gap.point) → HasShape ks r ⊎ HasShape ls r
       by_part (inl h) = so_far r h
-      by_part (inr (inl e)) = inl (subst (HasShape ks) (sym e) hp)
-      by_part (inr (inr (inl e))) = inr (subst (HasShape ls) (sym e) hq)
-      by_part (inr (inr (inr e))) = chosen_shapes ks ls x y point r hx hy one e
+      by_part (inr (inl e)) = inl (subst (HasShape ks) (sym e) gap.has_p)
+      by_part (inr (inr (inl e))) = inr (subst (HasShape ls) (sym e) gap.has_q)
+      by_part (inr (inr (inr e))) = chosen_shapes ks ls gap.x gap.y gap.point r gap.has_x gap.has_y gap.one e
 
   -- what is chosen of two signals is a function of time
   pub chosen_is_function : (b : Side) (ks ls : List (Knot P)) → IsSignal shape ks → IsSignal shape ls
@@ -66,25 +90,26 @@ module _ {P : Type 0} (shape : ShapeOf P) where
   }
 
   -- the new signal goes on telling what is chosen
-  pub tells_joined : (b : Side) (ks ls old new : List (Knot P)) (p q x y point : P) (to : Frac) → IsSignal shape ks → IsSignal shape ls
-      → TellsSoFar shape (ChosenOf b (IsWorth shape ks) (IsWorth shape ls)) old → Joins shape b old p q to point new
-      → ((t : Rational) → stop old <ʳ t → t <ʳ value to → IsWorth shape ks t (value_at (shape.function p) t))
-      → ((t : Rational) → stop old <ʳ t → t <ʳ value to → IsWorth shape ls t (value_at (shape.function q) t))
-      → IsWorth shape ks (value to) (value_at (shape.function x) (value to)) → IsWorth shape ls (value to) (value_at (shape.function y) (value to))
-      → IsChosen b (value_at (shape.function x) (value to)) (value_at (shape.function y) (value to)) (value_at (shape.function point) (value to))
+  pub tells_joined : {old new : List (Knot P)} (b : Side) (ks ls : List (Knot P)) → IsSignal shape ks → IsSignal shape ls
+      → TellsSoFar shape (ChosenOf b (IsWorth shape ks) (IsWorth shape ls)) old → JoinsBoth b ks ls old new
       → TellsSoFar shape (ChosenOf b (IsWorth shape ks) (IsWorth shape ls)) new
-  tells_joined b ks ls old new p q x y point to s r so_far joins left right here here' chosen =
-      tells_join shape (ChosenOf b (IsWorth shape ks) (IsWorth shape ls)) b old new p q point to (chosen_is_function b ks ls s r) so_far joins
-      (λ t v a c w. (value_at (shape.function p) t, value_at (shape.function q) t, left t a c, right t a c, w))
-      (value_at (shape.function x) (value to), value_at (shape.function y) (value to), here, here', chosen)
+  tells_joined b ks ls s r so_far gap =
+      tells_join shape (ChosenOf b (IsWorth shape ks) (IsWorth shape ls)) b gap.point gap.to (chosen_is_function b ks ls s r) so_far gap.joins
+      (λ t v a c w. (value_at (shape.function gap.p) t, value_at (shape.function gap.q) t, gap.left t a c, gap.right t a c, w)) (
+        value_at (shape.function gap.x) (value gap.to),
+        value_at (shape.function gap.y) (value gap.to),
+        gap.left_there,
+        gap.right_there,
+        gap.chosen,
+      )
 
   -- the first instant
-  pub tells_chosen : (b : Side) (ks ls built : List (Knot P)) (k l : Knot P) (point : P) → IsSignal shape ks → IsSignal shape ls
+  pub tells_chosen : {k l : Knot P} (b : Side) (ks ls built : List (Knot P)) (point : P) → IsSignal shape ks → IsSignal shape ls
       → slice_get ks 0 ≡ Some k → slice_get ls 0 ≡ Some l → time k ≈ time l
       → IsChosen b (value_at (shape.function k.point) (time k)) (value_at (shape.function l.point) (time k))
       (value_at (shape.function point) (time k)) → built ≡ record { time = k.time; point = point; after = point } ∷ []
       → TellsSoFar shape (ChosenOf b (IsWorth shape ks) (IsWorth shape ls)) built
-  tells_chosen b ks ls built k l point s r at_k at_l same chosen e =
+  tells_chosen {k} {l} b ks ls built point s r at_k at_l same chosen e =
       tells_first shape (ChosenOf b (IsWorth shape ks) (IsWorth shape ls)) built point k.time (chosen_is_function b ks ls s r) (
         value_at (shape.function k.point) (time k),
         value_at (shape.function l.point) (time k),

@@ -63,13 +63,13 @@ module _ {P : Type 0} (shape : ShapeOf P) where
       (worth_at shape ks 0 k (time k) at_0 (same_refl (time k)))) e
 
   -- one knot more
-  pub negated_on : (ks old new : List (Knot P)) (i : ℕ) (k n : Knot P) (after point : P) → IsSignal shape ks → slice_get ks i ≡ Some k
+  pub negated_on : {old new : List (Knot P)} {after point : P} (ks : List (Knot P)) (i : ℕ) (k n : Knot P) → IsSignal shape ks → slice_get ks i ≡ Some k
       → slice_get ks (i + 1) ≡ Some n
       → TellsSoFar shape (Negated (IsWorth shape ks)) old → stop old ≈ time k
       → ((t : Rational) → value_at (shape.function after) t ≈ᵉ opposite (value_at (shape.function k.after) t))
       → ((t : Rational) → value_at (shape.function point) t ≈ᵉ opposite (value_at (shape.function n.point) t))
       → GoesOn shape old after n.time point new → TellsSoFar shape (Negated (IsWorth shape ks)) new
-  negated_on ks old new i k n after point s at_i at_next so_far stops afters points on =
+  negated_on {old} {new} {after} {point} ks i k n s at_i at_next so_far stops afters points on =
       tells_on shape (Negated (IsWorth shape ks)) old new after point n.time (negated_is_function ks s) so_far on
       (λ t a b. worth_same shape ks (value_at (shape.function k.after) t) (opposite (value_at (shape.function after) t)) (same_refl t)
       (opposite_back (value_at (shape.function after) t) (value_at (shape.function k.after) t) (afters t))

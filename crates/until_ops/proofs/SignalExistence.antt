@@ -39,20 +39,21 @@ module _ {P : Type 0} (shape : ShapeOf P) (laws : ShapeLaws shape)
   abbrev SignalCuts : Rational → Rational → Type 0
   SignalCuts l r = Cuts shape.lowest shape.highest (IsWorth shape p) (IsWorth shape q) l r
 
-  plain : (i j : ℕ) (k l m n : Knot P) (t to : Rational) → IsPlace p t i → IsPlace q t j → slice_get p i ≡ Some k → slice_get q j ≡ Some l
+  -- up to the next knot of either signal the two are their shapes after the knots at their places
+  plain : {i j : ℕ} {m n : Knot P} (k l : Knot P) (t to : Rational) → IsPlace p t i → IsPlace q t j → slice_get p i ≡ Some k → slice_get q j ≡ Some l
       → slice_get p (i + 1) ≡ Some m → slice_get q (j + 1) ≡ Some n
       → to ≤ʳ time m → to ≤ʳ time n → IsPlain shape.lowest shape.highest (IsWorth shape p) (IsWorth shape q) t to (shape.function k.after)
       (shape.function l.after)
-  plain i j k l m n t to place place' at_k at_l at_m at_n a b = record {
+  plain {i} {j} k l t to place place' at_k at_l at_m at_n a b = record {
     left_on = λ u x y. (
       value_at (shape.function k.after) u,
-      part_on_gap shape p i k m t to u place at_k at_m a x y,
+      part_on_gap shape p i k u place at_k at_m a x y,
       same_reflᵉ
           (value_at (shape.function k.after) u),
     );
     right_on = λ u x y. (
       value_at (shape.function l.after) u,
-      part_on_gap shape q j l n t to u place' at_l at_n b x y,
+      part_on_gap shape q j l u place' at_l at_n b x y,
       same_reflᵉ
           (value_at (shape.function l.after) u),
     );
@@ -120,13 +121,13 @@ module _ {P : Type 0} (shape : ShapeOf P) (laws : ShapeLaws shape)
           let a = place.later m at_m in
           let b = next_place q j n t (time m) is_q place' more' at_n a h in
           gap (time m) (shape.function k.after) (shape.function l.after) a m_stop
-          (plain i j k l m n t (time m) place place' at_k at_l at_m at_n (le_refl (time m)) h)
+          (plain k l t (time m) place place' at_k at_l at_m at_n (le_refl (time m)) h)
           (rest (i + 1) b.0 (time m) (place_next shape p i m (time m) is_p more at_m (same_refl (time m))) b.1 m_stop (let up : j ≤ b.0 = b.2 in omega arith))
       by_order (inr h) =
           let a = place'.later n at_n in
           let b = next_place p i m t (time n) is_p place more at_m a (le_of_lt h) in
           gap (time n) (shape.function k.after) (shape.function l.after) a n_stop
-          (plain i j k l m n t (time n) place place' at_k at_l at_m at_n (le_of_lt h) (le_refl (time n)))
+          (plain k l t (time n) place place' at_k at_l at_m at_n (le_of_lt h) (le_refl (time n)))
           (rest b.0 (j + 1) (time n) b.1 (place_next shape q j n (time n) is_q more' at_n (same_refl (time n))) n_stop (let up : i ≤ b.0 = b.2 in omega arith))
 
   cuts : (fuel : ℕ) (i j : ℕ) (t : Rational) → IsPlace p t i → IsPlace q t j → t ≤ʳ stop p → (length p - i) + (length q - j) ≤ fuel → SignalCuts t (stop p)

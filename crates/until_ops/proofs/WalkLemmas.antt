@@ -216,12 +216,12 @@ module _ {P : Type 0} {shape : ShapeOf P} {p q built : List (Knot P)} {now : Sta
     below = le_trans b next_stop;
     left_on = λ t x y. (
       value_at (shape.function k.after) t,
-      part_on_gap shape p now.left k m (value now.at) (value to) t w.stands.left w.at.at_k w.at.at_m (le_trans b w.at.left) x y,
+      part_on_gap shape p now.left k t w.stands.left w.at.at_k w.at.at_m (le_trans b w.at.left) x y,
       same_reflᵉ _,
     );
     right_on = λ t x y. (
       value_at (shape.function l.after) t,
-      part_on_gap shape q now.right l n (value now.at) (value to) t w.stands.right w.at.at_l w.at.at_n (le_trans b w.at.right) x y,
+      part_on_gap shape q now.right l t w.stands.right w.at.at_l w.at.at_n (le_trans b w.at.right) x y,
       same_reflᵉ _,
     );
     here = w.stands.here;
@@ -426,7 +426,7 @@ module _ {P : Type 0} {shape : ShapeOf P} {p q built : List (Knot P)} {now : Sta
   }
     where
       tells : TellsSoFar shape (SinceOf shape p q) new
-      tells = tells_join shape (SinceOf shape p q) course.side built new course.first course.second v turn.time (is_since shape p q)
+      tells = tells_join shape (SinceOf shape p q) course.side v turn.time (is_since shape p q)
           (record { signal = w.stands.signal; worth = w.stands.worth }) joins
           (λ t u after before h.
           let after' = subst (λ e. e <ʳ t) w.stands.ends after in

@@ -1,7 +1,7 @@
 use Rattle.std.proofs.Common.{◌≡◌, ◌+◌, ◌-◌, ◌^◌, length, subst, sym, arith}
 use Rattle.rational.specs.Rational.{IsWithin}
-use Rattle.pl_signal.proofs.KnotLemmas.{stop_read, read_at}
-use Rattle.pl_signal.proofs.BuildingLemmas.{step_first, step_kept, step_left}
+use Rattle.pl_signal.proofs.KnotLemmas.{stop_read}
+use Rattle.pl_signal.proofs.BuildingLemmas.{EndInTwo, step_first, step_kept, step_left}
 use Rattle.pl_signal.proofs.builder.go_on.Goals as goal
 
 pub returns-then-last-eq0-clause-on : goal.returns-then-last-eq0-clause-on
@@ -20,16 +20,19 @@ returns-then-spare-clause-on g c =
     let count : length c.args.knots.now.items ≡ (c.len-last.result - 1 - 1) + 2 = let some = c.requires.signal.some in let n = c.if-last-eq0.false in
     omega arith in
     let place : c.len-last.result - 1 ≡ (c.len-last.result - 1 - 1) + 1 = let n = c.if-last-eq0.false in omega arith in
-    step_left g.P.Shape c.args.knots.now.items (c.len-last.result - 1 - 1) (c.len-last.result - 1) c.index.result.now c.index-2.result.now
-    c.args.after.now c.args.at.now c.args.point.now count place
-    c.index.ensures c.index-2.ensures c.requires.signal.each c.requires.later (c.can_be_left_out-spare.ensures.0 c.if-spare.true)
+    let two : EndInTwo g.P.Shape c.args.knots.now.items (c.len-last.result - 1 - 1) (c.len-last.result - 1) c.index.result.now c.index-2.result.now =
+    record { count = count; next = place; first = c.index.ensures; second = c.index-2.ensures } in
+    let spare = c.can_be_left_out-spare.ensures.0 c.if-spare.true in
+    step_left g.P.Shape c.args.knots.now.items (c.len-last.result - 1) c.index.result.now c.index-2.result.now c.args.after.now c.args.at.now c.args.point.now
+    two c.requires.signal.each c.requires.later (record { here = spare.0; on = spare.1 })
 
 pub returns-clause-on : goal.returns-clause-on
 returns-clause-on g c =
     let count : length c.args.knots.now.items ≡ (c.len-last.result - 1 - 1) + 2 = let some = c.requires.signal.some in let n = c.if-last-eq0.false in
     omega arith in
     let place : c.len-last.result - 1 ≡ (c.len-last.result - 1 - 1) + 1 = let n = c.if-last-eq0.false in omega arith in
-    step_kept g.P.Shape c.args.knots.now.items c.append-2.new.knots.items (c.len-last.result - 1 - 1) c.index.result.now c.index-2.result.now
-    c.args.after.now c.args.at.now c.args.point.now count
-    c.index.ensures (read_at c.args.knots.now.items place c.index-2.ensures) c.requires.signal.each c.requires.later
-    (λ spare. let yes = c.can_be_left_out-spare.ensures.1 spare in let no = c.if-spare.false in absurd (cc)) c.append-2.ensures.put
+    let two : EndInTwo g.P.Shape c.args.knots.now.items (c.len-last.result - 1 - 1) (c.len-last.result - 1) c.index.result.now c.index-2.result.now =
+    record { count = count; next = place; first = c.index.ensures; second = c.index-2.ensures } in
+    step_kept g.P.Shape c.args.knots.now.items c.append-2.new.knots.items c.index.result.now c.index-2.result.now
+    c.args.after.now c.args.at.now c.args.point.now two c.requires.signal.each c.requires.later
+    (λ spare. let yes = c.can_be_left_out-spare.ensures.1 (spare.here, spare.on) in let no = c.if-spare.false in absurd (cc)) c.append-2.ensures.put

@@ -13,7 +13,7 @@ use Rattle.pl_signal.specs.Moves.{Tells, BasesFrom}
 use Rattle.pl_signal.proofs.Values.{shape_at, shape_after}
 use Rattle.pl_signal.proofs.Telling.{told}
 use Rattle.rational.proofs.Mixed.{fits_of_within, within_same}
-use Rattle.pl_signal.proofs.Moving.{back_fits, minus_is, shifted_within, shift_first, shift_on, shift_later, shift_back'}
+use Rattle.pl_signal.proofs.Moving.{MovesOn, back_fits, minus_is, move_back, shifted_within, shift_first, shift_on, shift_later, shift_back'}
 use Rattle.pl_signal.proofs.Moving.{moved_is_function, first_is, last_of, same_knot, only_ends, bases_first, bases_on}
 use Rattle.pl_signal.proofs.moves.shifted.Goals as goal
 
@@ -119,17 +119,25 @@ loop-i-preserved g c =
     let stops = c.loop-i.invariant.ends (c.loop-i.i - 1) c.knot-before.result place c.knot-before.ensures in
     let at = subst (λ y. value c.shift-in-loop-i.result ≈ add (time c.knot-knot.result) (whole y)) w c.shift-in-loop-i.ensures.value in
     let on = c.in_ok-step.ensures.ok in
+    let step : MovesOn g.P.Shape c.args.s.now (λ t. add t (whole (to_z w64 (of_z w64 c.args.by)))) c.knot-before.result c.knot-knot.result c.loop-i.built
+    c.step.new.self = record {
+      after = c.shift-after.result;
+      at = c.shift-in-loop-i.result;
+      point = c.shift-in-loop-i-2.result;
+      so_far = c.loop-i.invariant.tells;
+      on = on;
+      arrives = move_back (to_z w64 (of_z w64 c.args.by)) at;
+      afters = c.shift-after.ensures.value;
+      points = c.shift-in-loop-i-2.ensures.value;
+    } in
     record {
-      tells = shift_on g.P.Shape c.args.s.now c.loop-i.built c.step.new.self (to_z w64 (of_z w64 c.args.by))
-          (c.loop-i.i - 1) c.knot-before.result c.knot-knot.result c.shift-after.result c.shift-in-loop-i-2.result c.shift-in-loop-i.result
-          c.len-count.ensures.signal
-          c.knot-before.ensures next c.loop-i.invariant.tells stops at c.shift-after.ensures.value c.shift-in-loop-i-2.ensures.value on;
+      tells = shift_on g.P.Shape c.args.s.now (to_z w64 (of_z w64 c.args.by)) (c.loop-i.i - 1) c.knot-before.result c.knot-knot.result
+          c.len-count.ensures.signal c.knot-before.ensures next step stops;
       begins = subst (λ s. s ≈ value c.args.from.now) (sym on.begins) c.loop-i.invariant.begins;
       ends = λ j k n h. subst (λ s. s ≈ add (time k) (whole (neg_ℤ (to_z w64 (of_z w64 c.args.by))))) (sym on.ends)
           (subst (λ m. value c.shift-in-loop-i.result ≈ add (time m) (whole (neg_ℤ (to_z w64 (of_z w64 c.args.by)))))
           (same_knot g.P.Shape c.args.s.now c.loop-i.i (subst (λ j. slice_get c.args.s.now j ≡ Some k) (before_one j c.loop-i.i n) h) c.knot-knot.ensures) at);
-      bases = bases_on g.P.Shape (λ b. b -ℤ (to_z w64 (of_z w64 c.args.by))) c.args.s.now c.loop-i.built c.step.new.self c.shift-after.result
-          c.shift-in-loop-i-2.result c.knot-before.result.after c.knot-knot.result.point c.shift-in-loop-i.result
+      bases = bases_on g.P.Shape (λ b. b -ℤ (to_z w64 (of_z w64 c.args.by))) c.args.s.now c.knot-before.result.after c.knot-knot.result.point
           c.loop-i.invariant.bases on (shape_after g.P.Shape c.args.s.now (c.loop-i.i - 1) c.knot-before.result c.knot-before.ensures)
           c.shift-after.ensures.base
           (shape_at g.P.Shape c.args.s.now c.loop-i.i c.knot-knot.result c.knot-knot.ensures) c.shift-in-loop-i-2.ensures.base;

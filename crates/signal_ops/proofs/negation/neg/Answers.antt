@@ -48,16 +48,14 @@ loop-i-preserved g c =
     let stops = c.loop-i.invariant.ends (c.loop-i.i - 1) c.knot.result place c.knot.ensures in
     let on = c.in_ok-step.ensures.ok in
     record {
-      tells = negated_on g.P.Shape c.args.s.now c.loop-i.built c.step.new.self (c.loop-i.i - 1) c.knot.result c.knot-knot.result c.neg-after.result
-          c.neg-in-loop-i.result c.len-count.ensures.signal
+      tells = negated_on g.P.Shape c.args.s.now (c.loop-i.i - 1) c.knot.result c.knot-knot.result c.len-count.ensures.signal
           c.knot.ensures next c.loop-i.invariant.tells stops c.neg-after.ensures.value c.neg-in-loop-i.ensures.value on;
       begins = subst (λ s. s ≈ start c.args.s.now) (sym on.begins) c.loop-i.invariant.begins;
       ends = λ j k e h. subst (λ s. s ≈ time k) (sym on.ends)
           (subst (λ m. time m ≈ time k)
           (same_knot g.P.Shape c.args.s.now c.loop-i.i c.knot-knot.ensures
           (subst (λ j. slice_get c.args.s.now j ≡ Some k) (before_one j c.loop-i.i e) h)) (same_refl (time k)));
-      bases = bases_on g.P.Shape (λ b. b) c.args.s.now c.loop-i.built c.step.new.self c.neg-after.result c.neg-in-loop-i.result c.knot.result.after
-          c.knot-knot.result.point c.knot-knot.result.time
+      bases = bases_on g.P.Shape (λ b. b) c.args.s.now c.knot.result.after c.knot-knot.result.point
           c.loop-i.invariant.bases on (shape_after g.P.Shape c.args.s.now (c.loop-i.i - 1) c.knot.result c.knot.ensures) c.neg-after.ensures.base
           (shape_at g.P.Shape c.args.s.now c.loop-i.i c.knot-knot.result c.knot-knot.ensures) c.neg-in-loop-i.ensures.base;
     }

@@ -17,7 +17,7 @@ use Rattle.pl_signal.proofs.Moving.{at_knot_within, limited_at, first_is, same_k
 use Rattle.pl_signal.proofs.Places.{earlier_after, nearer, not_both, at_stop, first_place, more_knots, part_on_gap, begun_before}
 use Rattle.signal_ops.specs.Pointwise.{IsFault, NamesShapes}
 use Rattle.signal_ops.proofs.Negating.{after_bounded}
-use Rattle.signal_ops.proofs.CombiningLemmas.{first_shapes, joined_shapes, chosen_is_function, tells_joined, tells_chosen, fault_of_gap, names_of_gap}
+use Rattle.signal_ops.proofs.CombiningLemmas.{JoinsBoth, first_shapes, joined_shapes, chosen_is_function, tells_joined, tells_chosen, fault_of_gap, names_of_gap}
 use Rattle.signal_ops.proofs.pointwise.combined.Given.{Over}
 use Rattle.signal_ops.proofs.pointwise.combined.Goals.{After-of-next}
 use Rattle.signal_ops.proofs.pointwise.combined.Goals as goal
@@ -32,7 +32,7 @@ loop-i-init g c =
     let only = only_ends g.P.Shape c.in_ok-built.built c.chosen-first.result c.knot-x.result.time c.in_ok-built.ensures in
     let ends = sym only.1 in
     record {
-      tells = tells_chosen g.P.Shape c.args.side c.args.a.now c.args.b.now c.in_ok-built.built c.knot-x.result c.knot-y.result c.chosen-first.result
+      tells = tells_chosen g.P.Shape c.args.side c.args.a.now c.args.b.now c.in_ok-built.built c.chosen-first.result
           c.len-last.ensures.signal c.len.ensures.signal c.knot-x.ensures c.knot-y.ensures together c.chosen-first.ensures.value c.in_ok-built.ensures;
       begins = subst (λ s. s ≈ start c.args.a.now) (sym only.0) (subst (λ s. time c.knot-x.result ≈ s) (sym start_a) (same_refl (time c.knot-x.result)));
       within = subst (IsWithin (2 ^ 34)) ends (limited_at g.P.Shape c.args.a.now 0 c.knot-x.result c.requires.left c.knot-x.ensures);
@@ -45,8 +45,8 @@ loop-i-init g c =
       right = subst (λ s. IsPlace c.args.b.now s 0) ends
           (first_place g.P.Shape c.args.b.now c.knot-y.result (time c.knot-x.result) c.len.ensures.signal c.knot-y.ensures (same_sym together));
       still = refl;
-      shapes = first_shapes g.P.Shape c.args.a.now c.args.b.now c.in_ok-built.built c.knot-x.result.point c.knot-y.result.point c.chosen-first.result
-          c.knot-x.result.time (shape_at g.P.Shape c.args.a.now 0 c.knot-x.result c.knot-x.ensures)
+      shapes = first_shapes g.P.Shape c.args.a.now c.args.b.now c.in_ok-built.built c.knot-x.result.point c.knot-y.result.point
+          (shape_at g.P.Shape c.args.a.now 0 c.knot-x.result c.knot-x.ensures)
           (shape_at g.P.Shape c.args.b.now 0 c.knot-y.result c.knot-y.ensures)
           c.chosen-first.ensures.one c.in_ok-built.ensures;
     }
@@ -78,13 +78,11 @@ within g c = (
 -- both signals on the gap up to it
 left_on : (g : Over) (c : After-of-next g) (t : Rational) → stop c.loop-i.built <ʳ t → t <ʳ value c.of-next.result.time
     → IsWorth g.P.Shape c.args.a.now t (value_at (g.P.Shape.function c.knot.result.after) t)
-left_on g c t h l = part_on_gap g.P.Shape c.args.a.now c.loop-i.i c.knot.result c.knot-in-loop-i-2.result (stop c.loop-i.built)
-    (value c.of-next.result.time) t c.loop-i.invariant.left c.knot.ensures c.knot-in-loop-i-2.ensures c.of-next.ensures.before_left h l
+left_on g c t h l = part_on_gap g.P.Shape c.args.a.now c.loop-i.i c.knot.result t c.loop-i.invariant.left c.knot.ensures c.knot-in-loop-i-2.ensures c.of-next.ensures.before_left h l
 
 right_on : (g : Over) (c : After-of-next g) (t : Rational) → stop c.loop-i.built <ʳ t → t <ʳ value c.of-next.result.time
     → IsWorth g.P.Shape c.args.b.now t (value_at (g.P.Shape.function c.knot-in-loop-i.result.after) t)
-right_on g c t h l = part_on_gap g.P.Shape c.args.b.now c.loop-i.j c.knot-in-loop-i.result c.knot-in-loop-i-3.result (stop c.loop-i.built)
-    (value c.of-next.result.time) t c.loop-i.invariant.right c.knot-in-loop-i.ensures c.knot-in-loop-i-3.ensures c.of-next.ensures.before_right h l
+right_on g c t h l = part_on_gap g.P.Shape c.args.b.now c.loop-i.j c.knot-in-loop-i.result t c.loop-i.invariant.right c.knot-in-loop-i.ensures c.knot-in-loop-i-3.ensures c.of-next.ensures.before_right h l
 
 -- the right signal has a knot behind its place too
 more : (g : Over) (c : After-of-next g) → c.loop-i.j + 1 < length c.args.b.now
@@ -164,11 +162,27 @@ loop-i-preserved g c =
     let step = (goal.at.loop-i-preserved g c).After-of-next in
     let joins = c.in-Ok.ensures.ok in
     let ends = sym joins.ends in
+    let gap : JoinsBoth g.P.Shape c.args.side c.args.a.now c.args.b.now c.loop-i.built c.join_kept.new.self = record {
+      p = c.knot.result.after;
+      q = c.knot-in-loop-i.result.after;
+      to = c.of-next.result.time;
+      x = c.advance-left.result.shape;
+      y = c.advance-right.result.shape;
+      point = c.chosen-point.result;
+      joins = joins;
+      has_p = shape_after g.P.Shape c.args.a.now c.loop-i.i c.knot.result c.knot.ensures;
+      has_q = shape_after g.P.Shape c.args.b.now c.loop-i.j c.knot-in-loop-i.result c.knot-in-loop-i.ensures;
+      has_x = c.advance-left.ensures.shape;
+      has_y = c.advance-right.ensures.shape;
+      left = left_on g step;
+      right = right_on g step;
+      left_there = c.advance-left.ensures.worth;
+      right_there = c.advance-right.ensures.worth;
+      one = c.chosen-point.ensures.one;
+      chosen = c.chosen-point.ensures.value;
+    } in
     record {
-      tells = tells_joined g.P.Shape c.args.side c.args.a.now c.args.b.now c.loop-i.built c.join_kept.new.self c.knot.result.after
-          c.knot-in-loop-i.result.after c.advance-left.result.shape c.advance-right.result.shape c.chosen-point.result c.of-next.result.time
-          c.len-last.ensures.signal c.len.ensures.signal c.loop-i.invariant.tells joins (left_on g step) (right_on g step)
-          c.advance-left.ensures.worth c.advance-right.ensures.worth c.chosen-point.ensures.value;
+      tells = tells_joined g.P.Shape c.args.side c.args.a.now c.args.b.now c.len-last.ensures.signal c.len.ensures.signal c.loop-i.invariant.tells gap;
       begins = subst (λ s. s ≈ start c.args.a.now) (sym joins.begins) c.loop-i.invariant.begins;
       within = subst (IsWithin (2 ^ 34)) ends (within g step);
       above = subst (λ s. start c.args.a.now ≤ʳ s) ends (le_trans c.loop-i.invariant.above (le_of_lt (order g step)));
@@ -176,11 +190,7 @@ loop-i-preserved g c =
       left = subst (λ s. IsPlace c.args.a.now s c.advance-left.result.place) ends c.advance-left.ensures.place;
       right = subst (λ s. IsPlace c.args.b.now s c.advance-right.result.place) ends c.advance-right.ensures.place;
       still = c.in-Ok.ensures.still;
-      shapes = joined_shapes g.P.Shape c.args.side c.args.a.now c.args.b.now c.loop-i.built c.join_kept.new.self c.knot.result.after
-          c.knot-in-loop-i.result.after c.chosen-point.result c.advance-left.result.shape c.advance-right.result.shape c.of-next.result.time
-          c.loop-i.invariant.shapes joins (shape_after g.P.Shape c.args.a.now c.loop-i.i c.knot.result c.knot.ensures)
-          (shape_after g.P.Shape c.args.b.now c.loop-i.j c.knot-in-loop-i.result c.knot-in-loop-i.ensures)
-          c.advance-left.ensures.shape c.advance-right.ensures.shape c.chosen-point.ensures.one;
+      shapes = joined_shapes g.P.Shape c.args.side c.args.a.now c.args.b.now c.loop-i.invariant.shapes gap;
     }
 
 pub returns-clause-worth : goal.returns-clause-worth

@@ -10,7 +10,7 @@ use Rattle.frac128.specs.Value.{value}
 use Rattle.pl_signal.specs.Knots.{time, start, stop, IsWorth}
 use Rattle.pl_signal.specs.Moves.{Tells, BasesFrom}
 use Rattle.rational.proofs.Mixed.{fits_of_within, within_same}
-use Rattle.pl_signal.proofs.Moving.{mirror_within, mirror_first, mirror_same, mirror_later, mirror_on}
+use Rattle.pl_signal.proofs.Moving.{MovesOn, mirror_within, mirror_first, mirror_same, mirror_back, mirror_later, mirror_on}
 use Rattle.pl_signal.proofs.Moving.{moved_is_function, first_is, last_is, only_ends, same_knot, bases_first, bases_on}
 use Rattle.pl_signal.proofs.Telling.{told}
 use Rattle.pl_signal.proofs.Values.{shape_at, shape_after}
@@ -97,19 +97,26 @@ loop-i-preserved g c =
     let n = get_or c.args.self.now c.loop-i.i c.knot-knot.result in
     let here = slice_get-get_or c.args.self.now c.loop-i.i c.knot-knot.result c.loop-i.invariant.inside in
     let on = c.in_ok-step.ensures.ok in
+    let step : MovesOn g.P.Shape c.args.self.now (λ t. subtract (whole z) t) c.knot-knot.result c.knot-knot.result c.loop-i.built c.step.new.self = record {
+      after = c.mirror-after.result;
+      at = c.mirror-in-loop-i.result;
+      point = c.mirror-in-loop-i-2.result;
+      so_far = c.loop-i.invariant.tells;
+      on = on;
+      arrives = mirror_back z c.mirror-in-loop-i.ensures.value;
+      afters = c.mirror-after.ensures.value;
+      points = c.mirror-in-loop-i-2.ensures.value;
+    } in
     record {
       inside = let h = c.loop-i.invariant.inside in omega (arith, h);
-      tells = mirror_on g.P.Shape c.args.self.now c.loop-i.built c.step.new.self z (c.loop-i.i - 1) c.knot-knot.result n c.mirror-after.result
-          c.mirror-in-loop-i-2.result c.mirror-in-loop-i.result c.len-i.ensures.signal c.knot-knot.ensures
+      tells = mirror_on g.P.Shape c.args.self.now z (c.loop-i.i - 1) c.knot-knot.result n c.len-i.ensures.signal c.knot-knot.ensures
           (next_of c.args.self.now c.loop-i.i c.knot-knot.result c.loop-i-test.true c.loop-i.invariant.inside c.knot-knot.ensures)
-          c.loop-i.invariant.tells (c.loop-i.invariant.ends n here) c.mirror-in-loop-i.ensures.value
-          c.mirror-after.ensures.value c.mirror-in-loop-i-2.ensures.value on;
+          step (c.loop-i.invariant.ends n here);
       begins = subst (λ s. s ≈ subtract (whole z) (stop c.args.self.now)) (sym on.begins) c.loop-i.invariant.begins;
       ends = λ k h. subst (λ s. s ≈ subtract (whole z) (time k)) (sym on.ends)
           (subst (λ k. value c.mirror-in-loop-i.result ≈ subtract (whole z) (time k))
           (same_knot g.P.Shape c.args.self.now (c.loop-i.i - 1) h c.knot-knot.ensures) c.mirror-in-loop-i.ensures.value);
-      bases = bases_on g.P.Shape (λ b. z -ℤ b) c.args.self.now c.loop-i.built c.step.new.self c.mirror-after.result c.mirror-in-loop-i-2.result
-          c.knot-knot.result.after c.knot-knot.result.point c.mirror-in-loop-i.result
+      bases = bases_on g.P.Shape (λ b. z -ℤ b) c.args.self.now c.knot-knot.result.after c.knot-knot.result.point
           c.loop-i.invariant.bases on (shape_after g.P.Shape c.args.self.now (c.loop-i.i - 1) c.knot-knot.result c.knot-knot.ensures)
           c.mirror-after.ensures.base
           (shape_at g.P.Shape c.args.self.now (c.loop-i.i - 1) c.knot-knot.result c.knot-knot.ensures) c.mirror-in-loop-i-2.ensures.base;
