@@ -29,6 +29,8 @@ mod plain_early;
 #[cfg(test)]
 mod plain_net;
 #[cfg(test)]
+mod reading_tests;
+#[cfg(test)]
 mod reason_tests;
 #[cfg(test)]
 mod run_tests;
