@@ -170,16 +170,26 @@ module _ (nodes : List Node) (header : Header) (formed : AreWellFormed nodes) wh
   abbrev Holds : State → ℕ → ℕ → ℤ → List Verdict → List Verdict → Type 0
   Holds s j reader k vs held = AreNeeded (first_time s.rows) (shown s j) (s.fronts reader) k vs held
 
+  -- a node that reads another on this side, and does not step at the event
+  record IsStill (s : State) (e : Event) (j reader : ℕ) (n : Node) (left : Bool) : Type 0 where
+    -- the node that is read is one of the list
+    input : j < length nodes
+    -- and the one that reads it
+    within : reader < length nodes
+    -- that is this node
+    at : slice_get nodes reader ≡ Some n
+    -- it reads the other on this side
+    reads : IsReader n left j
+    -- its number stays
+    same : (after_event nodes s e).fronts reader ≡ s.fronts reader
+
   -- an edge holds what its reader needs, with what its node gave out at one event more
-  holds_more : (s : State) (e : Event) → MayCome nodes header s e → IsSound nodes header order s → (j : ℕ) → j < length nodes
-      → (reader : ℕ) (n : Node) (left : Bool) → reader < length nodes → slice_get nodes reader ≡ Some n → IsReader n left j
-      → (after_event nodes s e).fronts reader ≡ s.fronts reader
-      → (vs here held : List Verdict) → IsWhole (first_time s.rows) (shown s j) vs
-      → EmittedAt nodes header j s (after_event nodes s e) here
-      → Holds s j reader (reach_back n left) vs held
+  holds_more : {s : State} {j reader : ℕ} {n : Node} {left : Bool} (e : Event) → IsStill s e j reader n left
+      → MayCome nodes header s e → IsSound nodes header order s → (vs here held : List Verdict) → IsWhole (first_time s.rows) (shown s j) vs
+      → EmittedAt nodes header j s (after_event nodes s e) here → Holds s j reader (reach_back n left) vs held
       → Holds (after_event nodes s e) j reader (reach_back n left) (vs ++ here) (held ++ here)
-  holds_more s e may sound j l reader n left rl at reads same vs here held whole given holds =
-      subst (λ o. AreNeeded (first_time s'.rows) (shown s' j) o k (vs ++ here) (held ++ here)) (sym same)
+  holds_more {s} {j} {reader} {n} {left} e on may sound vs here held whole given holds =
+      subst (λ o. AreNeeded (first_time s'.rows) (shown s' j) o k (vs ++ here) (held ++ here)) (sym on.same)
       (by_old (shown s j) refl whole holds)
     where
       s' : State
@@ -189,20 +199,20 @@ module _ (nodes : List Node) (header : Header) (formed : AreWellFormed nodes) wh
       k = reach_back n left
 
       bounds : HasBounds n
-      bounds = subst (λ m. HasBounds m) here_is (formed.bounds reader (Const false) rl)
+      bounds = subst (λ m. HasBounds m) here_is (formed.bounds reader (Const false) on.within)
         where
           here_is : slice_index_or nodes reader (Const false) ≡ n
-          here_is = let x = slice_get_at nodes reader (Const false) rl in cc
+          here_is = let x = slice_get_at nodes reader (Const false) on.within in let at = on.at in cc
 
       behind : (g : ℤ) → s.fronts reader ≡ Some g
           → (f : ℤ) × (s.fronts j ≡ Some f) × (((g +ℤ k) ≤ℤ f) ⊎ ((s.closed ≡ true) × (last_row s ≡ Some f)))
-      behind g x = reader_behind nodes header order s sound reader n left j rl at bounds reads g x
+      behind g x = reader_behind nodes header order s sound reader n left j on.within on.at bounds on.reads g x
 
       start_same : (g : ℤ) → s.fronts reader ≡ Some g → first_time s'.rows ≡ first_time s.rows
-      start_same g x = let b = sound.bounded reader g rl x in first_same nodes header order s e b.last b.is_last
+      start_same g x = let b = sound.bounded reader g on.within x in first_same nodes header order s e b.last b.is_last
 
       led : Led nodes header order j (shown s j) s' here (shown s' j)
-      led = here_led nodes header order j s s' here given (none_before nodes header order s e may sound j l)
+      led = here_led nodes header order j s s' here given (none_before nodes header order s e may sound j on.input)
 
       -- the first answer
       by_first : shown s j ≡ None → vs ≡ [] → held ≡ [] → (o : Front) → shown s' j ≡ o → Led nodes header order j (shown s j) s' here o
@@ -225,7 +235,7 @@ module _ (nodes : List Node) (header : Header) (formed : AreWellFormed nodes) wh
               by_case (f, front, inl i) = let under = not_shown s j f x front in let q = begin in omega (arith, ints)
               by_case (f, front, inr (c, last)) =
                   let under = not_shown s j f x front in
-                  let b = sound.bounded reader g rl z in
+                  let b = sound.bounded reader g on.within z in
                   let top : b.last ≡ f = some_is b.last f (sym b.is_last ∙ last) in
                   absurd (let by = b.by_now in let q = begin in omega (arith, ints))
 
@@ -241,10 +251,10 @@ module _ (nodes : List Node) (header : Header) (formed : AreWellFormed nodes) wh
           was = shown_is nodes header order s j f x
 
           later : (f' : ℤ) × (shown s' j ≡ Some f') × (f ≤ℤ f')
-          later = shown_later nodes header order s e may sound j l f x
+          later = shown_later nodes header order s e may sound j on.input f x
 
           begin : first_time s'.rows ≡ first_time s.rows
-          begin = let b = sound.bounded j f l was.0 in first_same nodes header order s e b.last b.is_last
+          begin = let b = sound.bounded j f on.input was.0 in first_same nodes header order s e b.last b.is_last
 
           tiles : AreTiles (answered_to (first_time s.rows) (Some f)) here (answered_to (first_time s.rows) (Some later.0))
           tiles = subst (λ b. AreTiles (answered_to b (Some f)) here (answered_to b (Some later.0))) begin
@@ -273,7 +283,7 @@ module _ (nodes : List Node) (header : Header) (formed : AreWellFormed nodes) wh
                   grown (Some g) y (λ g' z. let w : g ≡ g' = some_is g g' (sym y ∙ z) in omega (arith, ints)) h
               by_case (f1, front, inr (c, last)) =
                   let same : f1 ≡ f = some_is f1 f (sym front ∙ was.0) in
-                  let b = (sound_after nodes header order s e may sound).bounded j later.0 l (shown_is nodes header order s' j later.0 later.1).0 in
+                  let b = (sound_after nodes header order s e may sound).bounded j later.0 on.input (shown_is nodes header order s' j later.0 later.1).0 in
                   let top : b.last ≡ f1 = some_is b.last f1 (sym b.is_last ∙ end_stays s e may c ∙ last) in
                   let stays : later.0 ≡ f = (let up = later.2 in let by = b.by_now in omega (arith, ints)) in
                   let none : here ≡ [] = tiles_none (answered_to (first_time s.rows) (Some f)) here (answered_to (first_time s.rows) (Some f))
@@ -329,9 +339,12 @@ module _ (nodes : List Node) (header : Header) (formed : AreWellFormed nodes) wh
     is_emitted = emitted_more events e j edge.emitted here edge.is_emitted given;
     is_needed = subst (λ s. AreNeeded (first_time s.rows) (shown s j) (s.fronts edge.reader) (reach_back edge.reading edge.left)
         (edge.emitted ++ here) (held ++ here)) (sym (after_one events e))
-        (holds_more (state nodes events) e may (sound_of nodes header order events run) j l edge.reader edge.reading edge.left rl edge.at_reader
-        edge.reads same edge.emitted here held (emitted_tiles nodes header order events run j l edge.emitted edge.is_emitted) given edge.is_needed);
+        (holds_more e still may (sound_of nodes header order events run) edge.emitted here held
+        (emitted_tiles nodes header order events run j l edge.emitted edge.is_emitted) given edge.is_needed);
   }
+    where
+      still : IsStill (state nodes events) e j edge.reader edge.reading edge.left
+      still = record { input = l; within = rl; at = edge.at_reader; reads = edge.reads; same = same }
 
   -- a front that stays is shown as before
   pub shown_stays : (s : State) (e : Event) → IsSound nodes header order s → (j : ℕ) → j < length nodes → (after_event nodes s e).fronts j ≡ s.fronts j

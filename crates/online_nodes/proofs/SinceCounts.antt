@@ -61,6 +61,7 @@ use Rattle.online_nodes.proofs.SinceTurns.{
 }
 use Rattle.online_nodes.proofs.UntilCounts.{meets_from, meets_to}
 use Rattle.online_nodes.proofs.UntilTurns.{goes_on_from}
+use Rattle.online_nodes.proofs.WindowLaw.{IsMet}
 use Rattle.online_nodes.proofs.WindowPlaces.{meets_after, meets_upto}
 use Rattle.online_nodes.proofs.WorkLemmas.{passed-other, worked_put, worked_both}
 
@@ -121,7 +122,7 @@ left_step {old} {new} {s} {c} {v} at first holding passed to_end beyond spent {x
     let rest : Tells (Truth x.p x.tr) e (drop 1 (fresh_at old s.window.of)) x.stop_left = (left-first of m first).3 in
     record {
       told = m.told;
-      knows = knows_left_read x.start (place c.out.at) (place c.run) (place c.reach) r.read r.right e x.stop_left x.stop_right m.knows
+      knows = knows_left_read m.knows e
           (left_holds_to of m first holding e (λ t h. h)) (λ t a. after_of_before r.read e t (m.ahead v first) a);
       left_tells = subst (λ f. Tells (Truth x.p x.tr) e f x.stop_left) (sym (passed-fresh passed)) rest;
       right_tells = subst (λ f. Tells (Counted true x.q x.tr) r.right f x.stop_right) (sym right_now) m.right_tells;
@@ -194,16 +195,20 @@ module _ {old mid : Held} {s : Since} {c : Wrote} {out : Out} {held begin last r
       u in
       let more : (t : Rational) → After (place reach) t → After (place c.reach) t =
       λ t a. after_at_most (place c.reach) (place reach) t g.reach_first a in
+      let met : IsMet true (Counted true x.q x.tr) (low_place s.window) (high_place s.window) (place from) (ends (interval w.on))
+      (place begin) (place last) =
+      record {
+        some = g.shared;
+        is = q;
+        begin = meets_from (high_place s.window) (meets_after s.window.begin_by s.window.begin_in (place from)) g.begin_is;
+        end = meets_to (low_place s.window) (meets_upto s.window.end_by s.window.end_in (ends (interval w.on))) g.last_is;
+      } in
       record {
         told = g.said.told x.n x.tr x.begin written m.told
-            (λ t a to h. goes_on of.looks (place c.out.at) (place c.run) (place c.reach) r.read r.right (ends (interval v.on))
-            (staying-remembers of m) holds t a (g.held_reach t h) (g.held_end t h))
+            (λ t a to h. goes_on of.looks (staying-remembers of m) (ends (interval v.on)) holds t a (g.held_reach t h) (g.held_end t h))
             lost;
-        knows = knows_found x.start (place c.out.at) (place out.at) (place c.run) (place c.reach) (place reach) r.read r.right (place from)
-            (ends (interval w.on)) (place begin) (place last) x.stop_left x.stop_right m.knows of.some g.shared
-            (λ u a. after_at_most (place c.run) (place from) u g.from_is.second a) q
-            (meets_from (high_place s.window) (meets_after s.window.begin_by s.window.begin_in (place from)) g.begin_is)
-            (meets_to (low_place s.window) (meets_upto s.window.end_by s.window.end_in (ends (interval w.on))) g.last_is)
+        knows = knows_found m.knows (place out.at) (place reach) met of.some
+            (λ u a. after_at_most (place c.run) (place from) u g.from_is.second a)
             (λ t a. (later t a, past t a))
             (λ t h. elim g.reach_one [
               | inl is ↦ inl (subst (λ (q : Cut). Upto (place q) t) is h)
@@ -273,8 +278,7 @@ module _ {old mid : Held} {s : Since} {c : Wrote} {out : Out} {held begin last r
         fits = fits;
         goes = λ x written r of m.
             right_step working_now right_now read.passed fits g.back.begin_in
-            (λ x' written' r' of' m'. knows_right_read x'.start (place out.at) (place c.run) (place reach) r'.read r'.right (ends (interval w.on))
-            (ends (interval v.on)) x'.stop_left x'.stop_right m'.knows (λ t u a b lo h. beyond_reach t u b lo)
+            (λ x' written' r' of' m'. knows_right_read m'.knows (ends (interval w.on)) (ends (interval v.on)) (λ t u a b lo h. beyond_reach t u b lo)
             (left_holds_to of' m' left_now g.left_holds (ends (interval v.on)) (λ t h. h))
             (λ u h. read.sooner u (moved_up s.window.begin_by s.window.begin_in (ends (interval w.on)) g.back.begin_in g.back.low u h))
             (left_within of' m' left_now) (right_within of' m' right_now))

@@ -49,10 +49,10 @@ rest_staying {old} {new} {x} {s} {written} {c} {end} {r} {fresh_left} {fresh_rig
     λ t a. after_at_most (place c.out.at) (place end.out.at) t g.said.forward a in
     let there : IsStaying x s (written ++ g.said.more) (record { out = end.out; reach = c.reach; run = c.run }) r fresh_left fresh_right = record {
       told = g.said.told x.n x.tr x.begin written m.told
-          (λ t a to h. goes_on of.looks (place c.out.at) (place c.run) (place c.reach) r.read r.right (place c.out.to) (staying-remembers of m)
+          (λ t a to h. goes_on of.looks (staying-remembers of m) (place c.out.to)
           is.holds t a h to)
           (λ t a to b u. is.falls t a b to);
-      knows = knows_later x.start (place c.out.at) (place end.out.at) (place c.run) (place c.reach) r.read r.right x.stop_left x.stop_right later m.knows;
+      knows = knows_later m.knows (place end.out.at) later;
       left_tells = m.left_tells;
       right_tells = m.right_tells;
       left_behind = m.left_behind;
@@ -111,7 +111,7 @@ module _ {x : Stay} {s : Since} {written : List Verdict} {c : Wrote} {r : Reads}
       (same_places (subst (λ f. Tells (Truth x.p x.tr) r.left f x.stop_left) none m.left_tells)) (of.left_enough t h)) in
       record {
         holds = λ t a h. absurd (not_both r.read t (all t h) a);
-        falls = settled of.looks (place c.out.at) (place c.run) (place c.reach) r.read r.right (place c.out.to) (staying-remembers of m) (inr all);
+        falls = settled of.looks (staying-remembers of m) (place c.out.to) (inr all);
         spent = elim m.spent [
           | inl same ↦ absurd (of.some_left (sym same ∙ none))
           | inr spent ↦ (λ w first. elim (spent w first) [
@@ -126,7 +126,7 @@ module _ {x : Stay} {s : Since} {written : List Verdict} {c : Wrote} {r : Reads}
   pub right_out_falls : fresh_right ≡ [] → (t : Rational) → After (place c.out.at) t → After (place c.reach) t → Upto (place c.out.to) t
       → ¬ Truth x.n x.tr t
   right_out_falls none =
-      settled of.looks (place c.out.at) (place c.run) (place c.reach) r.read r.right (place c.out.to) (staying-remembers of m)
+      settled of.looks (staying-remembers of m) (place c.out.to)
       (inl (λ t u a h. upto_same x.stop_right r.right u
       (same_places (subst (λ f. Tells (Counted true x.q x.tr) r.right f x.stop_right) none m.right_tells)) (of.right_enough t u a h)))
 
@@ -191,7 +191,7 @@ module _ {old new : Held} {s : Since} {c : Wrote} {out : Out} {held to : Cut} {v
     failed = subst (λ b. AllAre b (Truth x.p x.tr) r.read (ends (interval v.on))) failing (left-says of m first)
 
     found : (t : Rational) → After (place c.out.at) t → Upto (place c.out.to) t → Upto (place held) t → Truth x.n x.tr t
-    found t a inside h = went_on of.looks (place c.out.at) (place c.run) (place c.reach) r.read r.right (staying-remembers of m) t a
+    found t a inside h = went_on of.looks (staying-remembers of m) t a
         (held_reach t h) (m.left_behind t (upto_same (begins (interval v.on)) r.left t (same_places begun) (held_begin t h)))
 
     which : (t : Rational) → After (place c.out.at) t → After (place held) t → After (place c.reach) t ⊎ After r.read t
@@ -202,8 +202,7 @@ module _ {old new : Held} {s : Since} {c : Wrote} {out : Out} {held to : Cut} {v
     ]
 
     lost : (t : Rational) → After (place c.out.at) t → Upto (place c.out.to) t → After (place held) t → ¬ Truth x.n x.tr t
-    lost t a inside b = fails of.looks (place c.out.at) (place c.run) (place c.reach) r.read r.right (ends (interval v.on))
-        (staying-remembers of m) failed t a (which t a b) (upto_of_before (place c.out.to) (ends (interval v.on)) t beyond inside)
+    lost t a inside b = fails of.looks (staying-remembers of m) (ends (interval v.on)) failed t a (which t a b) (upto_of_before (place c.out.to) (ends (interval v.on)) t beyond inside)
 
     -- it goes on from before the end: its run ends there
     cut_here : Before (begins (interval v.on)) (place c.out.to) → Before (place c.run) (place c.out.to)
@@ -218,8 +217,7 @@ module _ {old new : Held} {s : Since} {c : Wrote} {out : Out} {held to : Cut} {v
           record { read = e; left = r.left; right = r.right },
           record {
             told = said.told x.n x.tr x.begin written m.told (λ t a inside h. found t a inside h) (λ t a inside b u. lost t a inside b);
-            knows = knows_new_run x.start (place c.out.at) (place out.at) (place c.run) (place c.reach) r.read r.right e x.stop_left x.stop_right
-                m.knows ahead_e
+            knows = knows_new_run m.knows (place out.at) e ahead_e
                 (λ t a h. failed t a (upto_of_before (place c.out.to) (ends (interval v.on)) t beyond (is_e t h)))
                 (λ t a. (later t a, after_at_most e (place c.out.to) t is_e (past t a)));
             left_tells = m.left_tells;
@@ -265,7 +263,7 @@ module _ {old new : Held} {s : Since} {c : Wrote} {out : Out} {held to : Cut} {v
       r,
       record {
         told = said.told x.n x.tr x.begin written m.told (λ t a inside h. found t a inside h) (λ t a inside b u. lost t a inside b);
-        knows = knows_later x.start (place c.out.at) (place out.at) (place c.run) (place c.reach) r.read r.right x.stop_left x.stop_right later m.knows;
+        knows = knows_later m.knows (place out.at) later;
         left_tells = m.left_tells;
         right_tells = m.right_tells;
         left_behind = m.left_behind;

@@ -3,30 +3,29 @@ use Rattle.std.proofs.Common.{◌⊎◌, inl, inr, true, false}
 use Rattle.rational.specs.Rational.{Rational, ◌≤ʳ◌}
 use Rattle.rational.proofs.Order.{le_refl}
 use Rattle.rational.specs.Places.{Place, After, Upto, Before}
-use Rattle.online_nodes.specs.Truths.{Truths, AllAre, AllFrom, HoldsFrom, IsReason, IsSinceOf, SinceRemembers, KnowsSince, MeetsAfter, MeetsUpto}
-use Rattle.rational.proofs.PlaceLemmas.{share, between, sides, not_both, before_through, after_of_before}
+use Rattle.online_nodes.specs.Truths.{Truths, AllAre, AllFrom, HoldsFrom, IsReason, IsSinceOf, SinceRemembers, KnowsSince, MeetsAfter}
+use Rattle.rational.proofs.PlaceLemmas.{between, sides, not_both, before_through, after_of_before}
 use Rattle.online_nodes.proofs.UntilLaw.{after_later, upto_earlier, in_order}
+use Rattle.online_nodes.proofs.WindowLaw.{IsMet, met_in}
 
-module _ {N P Q : Truths} {low high : Rational → Place} (since : IsSinceOf N P Q low high) where
+module _ {N P Q : Truths} {low high : Rational → Place} {at run reach l r : Place} (since : IsSinceOf N P Q low high)
+    (m : SinceRemembers N P Q low high at run reach l r) where
   -- while the left input holds on from where it was read, what was found counts
-  pub goes_on : (at run reach l r e : Place) → SinceRemembers N P Q low high at run reach l r → AllAre true P l e
-      → (t : Rational) → After at t → Upto reach t → Upto e t → N t
-  goes_on at run reach l r e m told t a k h = m.counts t a k
+  pub goes_on : (e : Place) → AllAre true P l e → (t : Rational) → After at t → Upto reach t → Upto e t → N t
+  goes_on e told t a k h = m.counts t a k
       (λ v x y. elim (sides l v) [ inl z ↦ m.holds v x z | inr z ↦ told v z (upto_earlier e v t h y) ])
 
   -- while the left side holds, what was found counts
-  pub went_on : (at run reach l r : Place) → SinceRemembers N P Q low high at run reach l r → (t : Rational) → After at t
-      → Upto reach t → Upto l t → N t
-  went_on at run reach l r m t a k h = m.counts t a k (λ v x y. m.holds v x (upto_earlier l v t h y))
+  pub went_on : (t : Rational) → After at t → Upto reach t → Upto l t → N t
+  went_on t a k h = m.counts t a k (λ v x y. m.holds v x (upto_earlier l v t h y))
 
   -- the left input fails from l to e
-  pub fails : (at run reach l r e : Place) → SinceRemembers N P Q low high at run reach l r → AllAre false P l e
-      → (t : Rational) → After at t → After reach t ⊎ After l t → Upto e t → ¬ N t
-  fails at run reach l r e m told t a (inr b) k n = by_reason (since.means t n)
+  pub fails : (e : Place) → AllAre false P l e → (t : Rational) → After at t → After reach t ⊎ After l t → Upto e t → ¬ N t
+  fails e told t a (inr b) k n = by_reason (since.means t n)
     where
       by_reason : (u : Rational) × After (low t) u × Upto (high t) u × Q u × AllFrom P u t → ⊥
       by_reason (u, lo, hi, q, all) = told t b k (all t (since.behind t u hi) (le_refl t))
-  fails at run reach l r e m told t a (inl b) k n = told_at (m.rest t a b n).0
+  fails e told t a (inl b) k n = told_at (m.rest t a b n).0
     where
       told_at : After l t → ⊥
       told_at x = by_reason (since.means t n)
@@ -34,179 +33,65 @@ module _ {N P Q : Truths} {low high : Rational → Place} (since : IsSinceOf N P
           by_reason : (u : Rational) × After (low t) u × Upto (high t) u × Q u × AllFrom P u t → ⊥
           by_reason (u, lo, hi, q, all) = told t x k (all t (since.behind t u hi) (le_refl t))
 
-  -- and a new run may begin at e
-  pub new_run : (at run reach l r e : Place) → SinceRemembers N P Q low high at run reach l r → Before l e → AllAre false P l e
-      → SinceRemembers N P Q low high e e e e r
-  new_run at run reach l r e m some told = record {
-    holds = λ t a u. absurd (not_both e t u a);
-    order = λ t a. a;
-    begins = first;
-    counts = λ t a u. absurd (not_both e t u a);
-    rest = λ t a _ n. (a, reason t a (since.means t n));
-    ahead = λ u a b q v x y. m.ahead u (after_of_before l e u some a) b q v (after_of_before l e v some x) y;
-  }
-    where
-      first : (t u : Rational) → After e t → IsReason P Q low high t u → After e u
-      first t u a (lo, hi, q, all) = by_side (sides e u)
-        where
-          by_side : Upto e u ⊎ After e u → After e u
-          by_side (inr h) = h
-          by_side (inl h) = by_left (sides l u)
-            where
-              by_left : Upto l u ⊎ After l u → After e u
-              by_left (inr x) = absurd (told u x h (all u (le_refl u) (since.behind t u hi)))
-              by_left (inl x) = let v = between l e some in
-                  absurd (told v.0 v.1 v.2 (all v.0 (in_order l u v.0 x v.1) (in_order e v.0 t v.2 a)))
-
-      reason : (t : Rational) → After e t → (u : Rational) × After (low t) u × Upto (high t) u × Q u × AllFrom P u t
-          → (u : Rational) × IsReason P Q low high t u × After r u
-      reason t a (u, lo, hi, q, all) = (u, (lo, hi, q, all), by_side (sides r u))
-        where
-          begun : After e u
-          begun = first t u a (lo, hi, q, all)
-
-          by_side : Upto r u ⊎ After r u → After r u
-          by_side (inr h) = h
-          by_side (inl h) = let v = between l e some in
-              absurd (told v.0 v.1 v.2 (m.ahead u (after_of_before l e u some begun) h q v.0 v.1 (in_order e v.0 u v.2 begun)))
-
-  -- the right input fails up to f
-  pub right_fails : (at run reach l r f : Place) → SinceRemembers N P Q low high at run reach l r → AllAre false Q r f
-      → SinceRemembers N P Q low high at run reach l f
-  right_fails at run reach l r f m told = record {
-    holds = m.holds;
-    order = m.order;
-    begins = m.begins;
-    counts = m.counts;
-    rest = λ t a b n. let w = m.rest t a b n in (w.0, reason t w.1);
-    ahead = λ u a b q. elim (sides r u) [ inl h ↦ m.ahead u a h q | inr h ↦ absurd (told u h b q) ];
-  }
-    where
-      reason : (t : Rational) → (u : Rational) × IsReason P Q low high t u × After r u
-          → (u : Rational) × IsReason P Q low high t u × After f u
-      reason t (u, w, x) = (u, w, elim (sides f u) [ inl h ↦ absurd (told u x h w.2) | inr h ↦ h ])
-
   -- up to where a stretch of the right input from x on counts, the node holds no longer than `reach`
-  pub not_yet : (at run reach l r x from : Place) → SinceRemembers N P Q low high at run reach l r → MeetsAfter high x from
-      → ((u : Rational) → After run u → After r u → After x u)
+  pub not_yet : (x from : Place) → MeetsAfter high x from → ((u : Rational) → After run u → After r u → After x u)
       → (t : Rational) → After at t → After reach t → Upto from t → ¬ N t
-  not_yet at run reach l r x from m meets begin t a b k n = by_reason (m.rest t a b n).1
+  not_yet x from meets begin t a b k n = by_reason (m.rest t a b n).1
     where
       by_reason : (u : Rational) × IsReason P Q low high t u × After r u → ⊥
       by_reason (u, w, y) = not_both from t k ((meets t).1 (before_through x (high t) u (begin u (m.begins t u a w) y) w.1))
 
-  -- a stretch of the right input from x to y in the run: it counts from then on, as long as the run goes on. It was read up to y, or not at all
-  pub found : (at at' run reach reach' l r x y from to e : Place) → SinceRemembers N P Q low high at run reach l r
-      → ((t : Rational) → Before (low t) (high t)) → Before x y → ((u : Rational) → After x u → After run u) → AllAre true Q x y
-      → MeetsAfter high x from → MeetsUpto low y to → ((t : Rational) → After at' t → After at t)
-      → ((t : Rational) → After at' t → After from t)
-      → ((t : Rational) → Upto reach' t → Upto reach t ⊎ Upto to t)
-      → ((t : Rational) → After reach' t → After reach t × After to t)
-      → SinceRemembers N P Q low high at' run reach' l r
-  found at at' run reach reach' l r x y from to e m window some inside q begin end later counts either both = record {
-    holds = m.holds;
-    order = m.order;
-    begins = λ t u a w. m.begins t u (later t a) w;
-    counts = λ t a k h. by_reach t a h (either t k);
-    rest = λ t a b n. m.rest t (later t a) (both t b).0 n;
-    ahead = m.ahead;
-  }
-    where
-      by_share : (t : Rational) → HoldsFrom P run t → (u : Rational) × After x u × Upto y u × After (low t) u × Upto (high t) u
-          → N t
-      by_share t h (u, after_x, upto_y, lo, hi) = since.holds t u lo hi (q u after_x upto_y)
-          (λ v from_u to_t. h v (after_later run u v (inside u after_x) from_u) to_t)
-
-      by_reach : (t : Rational) → After at' t → HoldsFrom P run t → Upto reach t ⊎ Upto to t → N t
-      by_reach t a h (inl k) = m.counts t (later t a) k h
-      by_reach t a h (inr k) = by_share t h (share x y (low t) (high t) some (window t) ((begin t).0 (counts t a)) ((end t).0 k))
-
-  -- the right input is read up to y, once what holds there counts and the left one holds to at least there
-  pub right_read : (at run reach l r y e : Place) → SinceRemembers N P Q low high at run reach l r
-      → ((t u : Rational) → After at t → After reach t → After (low t) u → After y u)
-      → AllAre true P l e → ((u : Rational) → Upto y u → Upto e u)
-      → SinceRemembers N P Q low high at run reach l y
-  right_read at run reach l r y e m beyond told inside = record {
-    holds = m.holds;
-    order = m.order;
-    begins = m.begins;
-    counts = m.counts;
-    rest = λ t a b n. let w = m.rest t a b n in (w.0, reason t a b w.1);
-    ahead = λ u a b q v x z. told v x (upto_earlier e v u (inside u b) z);
-  }
-    where
-      reason : (t : Rational) → After at t → After reach t → (u : Rational) × IsReason P Q low high t u × After r u
-          → (u : Rational) × IsReason P Q low high t u × After y u
-      reason t a b (u, w, x) = (u, w, beyond t u a b w.0)
-
-  -- the left input is read up to e, where it holds, once no time up to there can hold for a reason that was not read
-  pub left_read : (at run reach l r e : Place) → SinceRemembers N P Q low high at run reach l r → AllAre true P l e
-      → ((t : Rational) → After e t → After l t)
-      → ((t u : Rational) → After at t → After reach t → IsReason P Q low high t u → After run u → After r u → After e t)
-      → SinceRemembers N P Q low high at run reach e r
-  left_read at run reach l r e m told later none = record {
-    holds = λ t a u. elim (sides l t) [ inl h ↦ m.holds t a h | inr h ↦ told t h u ];
-    order = λ t a. m.order t (later t a);
-    begins = m.begins;
-    counts = m.counts;
-    rest = λ t a b n. let w = (m.rest t a b n).1 in (none t w.0 a b w.1 (m.begins t w.0 a w.1) w.2, w);
-    ahead = λ u a b q v x z. m.ahead u (later u a) b q v (later v x) z;
-  }
-
   -- once the right input was read as far as the windows up to `to` reach, or the left one up to `to`
-  pub settled : (at run reach l r to : Place) → SinceRemembers N P Q low high at run reach l r
+  pub settled : (to : Place)
       → ((t u : Rational) → Upto to t → Upto (high t) u → Upto r u) ⊎ ((t : Rational) → Upto to t → Upto l t)
       → (t : Rational) → After at t → After reach t → Upto to t → ¬ N t
-  settled at run reach l r to m (inr all) t a b k n = not_both l t (all t k) (m.rest t a b n).0
-  settled at run reach l r to m (inl all) t a b k n = by_reason (m.rest t a b n).1
+  settled to (inr all) t a b k n = not_both l t (all t k) (m.rest t a b n).0
+  settled to (inl all) t a b k n = by_reason (m.rest t a b n).1
     where
       by_reason : (u : Rational) × IsReason P Q low high t u × After r u → ⊥
       by_reason (u, w, x) = not_both r u (all t u k w.1) x
 
--- in a trace, since remembers what it knows of its inputs, where the left one is known no further than the node is answered, but for what
--- was found, and its run began before; a time before the start counts for nothing
-pub remembers_of : {N P Q : Truths} {low high : Rational → Place} {l_stop r_stop : Place} (start at run reach l r : Place)
-    → IsSinceOf N P Q low high → ((u : Rational) → Q u → After start u)
-    → ((t : Rational) → After at t → After run t) → ((t : Rational) → After at t → After reach t → After l t)
-    → KnowsSince P Q low high start at run reach l r l_stop r_stop
-    → SinceRemembers N P Q low high at run reach l r
-remembers_of {N} {P} {Q} {low} {high} {l_stop} {r_stop} start at run reach l r since in_trace ran answered k = record {
-  holds = k.holds;
-  order = k.order;
-  begins = first;
-  counts = λ t a b h. by_witness t h (k.counts t a b);
-  rest = λ t a b n. (answered t a b, reason t a b (since.means t n));
-  ahead = λ u a b q v x y. (k.ahead u a b q v x y).0;
-}
-  where
-    first : (t u : Rational) → After at t → IsReason P Q low high t u → After run u
-    first t u a (lo, hi, q, all) = by_side (sides run u)
-      where
-        by_side : Upto run u ⊎ After run u → After run u
-        by_side (inr h) = h
-        by_side (inl h) = let v = k.begins u (in_trace u q) h in
-            absurd (v.3 (all v.0 v.1 (in_order run v.0 t v.2 (ran t a))))
+module _ {P Q : Truths} {low high : Rational → Place} {start at run reach l r l_stop r_stop : Place}
+    (k : KnowsSince P Q low high start at run reach l r l_stop r_stop) where
+  -- in a trace, since remembers what it knows of its inputs, where the left one is known no further than the node is answered, but for what
+  -- was found, and its run began before; a time before the start counts for nothing
+  pub remembers_of : {N : Truths} → IsSinceOf N P Q low high → ((u : Rational) → Q u → After start u)
+      → ((t : Rational) → After at t → After run t) → ((t : Rational) → After at t → After reach t → After l t)
+      → SinceRemembers N P Q low high at run reach l r
+  remembers_of {N} since in_trace ran answered = record {
+    holds = k.holds;
+    order = k.order;
+    begins = first;
+    counts = λ t a b h. by_witness t h (k.counts t a b);
+    rest = λ t a b n. (answered t a b, reason t a b (since.means t n));
+    ahead = λ u a b q v x y. (k.ahead u a b q v x y).0;
+  }
+    where
+      first : (t u : Rational) → After at t → IsReason P Q low high t u → After run u
+      first t u a (lo, hi, q, all) = by_side (sides run u)
+        where
+          by_side : Upto run u ⊎ After run u → After run u
+          by_side (inr h) = h
+          by_side (inl h) = let v = k.begins u (in_trace u q) h in
+              absurd (v.3 (all v.0 v.1 (in_order run v.0 t v.2 (ran t a))))
 
-    by_witness : (t : Rational) → HoldsFrom P run t
-        → (u : Rational) × After (low t) u × Upto (high t) u × Q u × After run u × Upto r_stop u → N t
-    by_witness t h (u, lo, hi, q, x, y) = since.holds t u lo hi q (λ v from_u to_t. h v (after_later run u v x from_u) to_t)
+      by_witness : (t : Rational) → HoldsFrom P run t
+          → (u : Rational) × After (low t) u × Upto (high t) u × Q u × After run u × Upto r_stop u → N t
+      by_witness t h (u, lo, hi, q, x, y) = since.holds t u lo hi q (λ v from_u to_t. h v (after_later run u v x from_u) to_t)
 
-    reason : (t : Rational) → After at t → After reach t
-        → (u : Rational) × After (low t) u × Upto (high t) u × Q u × AllFrom P u t
-        → (u : Rational) × IsReason P Q low high t u × After r u
-    reason t a b (u, lo, hi, q, all) = (u, (lo, hi, q, all), by_side (sides r_stop u))
-      where
-        by_side : Upto r_stop u ⊎ After r_stop u → After r u
-        by_side (inl h) = k.rest t u a b lo hi q (first t u a (lo, hi, q, all)) h
-        by_side (inr h) = k.inside u h
+      reason : (t : Rational) → After at t → After reach t
+          → (u : Rational) × After (low t) u × Upto (high t) u × Q u × AllFrom P u t
+          → (u : Rational) × IsReason P Q low high t u × After r u
+      reason t a b (u, lo, hi, q, all) = (u, (lo, hi, q, all), by_side (sides r_stop u))
+        where
+          by_side : Upto r_stop u ⊎ After r_stop u → After r u
+          by_side (inl h) = k.rest t u a b lo hi q (first t u a (lo, hi, q, all)) h
+          by_side (inr h) = k.inside u h
 
-module _ {P Q : Truths} {low high : Rational → Place} where
   -- where the left side fails a new run begins
-  pub knows_new_run : (start at at' run reach l r e l_stop r_stop : Place)
-      → KnowsSince P Q low high start at run reach l r l_stop r_stop → Before l e → AllAre false P l e
-      → ((t : Rational) → After at' t → After at t × After e t)
+  pub knows_new_run : (at' e : Place) → Before l e → AllAre false P l e → ((t : Rational) → After at' t → After at t × After e t)
       → KnowsSince P Q low high start at' e e e r l_stop r_stop
-  knows_new_run start at at' run reach l r e l_stop r_stop k some told later = record {
+  knows_new_run at' e some told later = record {
     holds = λ t a u. absurd (not_both e t u a);
     order = λ t a. a;
     begins = fails_before;
@@ -227,10 +112,9 @@ module _ {P Q : Truths} {low high : Rational → Place} where
       ]
 
   -- a right side that fails adds nothing
-  pub knows_right_fails : (start at run reach l r f l_stop r_stop : Place)
-      → KnowsSince P Q low high start at run reach l r l_stop r_stop → AllAre false Q r f
-      → ((u : Rational) → Upto f u → Upto r_stop u) → KnowsSince P Q low high start at run reach l f l_stop r_stop
-  knows_right_fails start at run reach l r f l_stop r_stop k told within = record {
+  pub knows_right_fails : (f : Place) → AllAre false Q r f → ((u : Rational) → Upto f u → Upto r_stop u)
+      → KnowsSince P Q low high start at run reach l f l_stop r_stop
+  knows_right_fails f told within = record {
     holds = k.holds;
     order = k.order;
     begins = k.begins;
@@ -242,40 +126,35 @@ module _ {P Q : Truths} {low high : Rational → Place} where
   }
 
   -- what is found within the run counts from then on
-  pub knows_found : (start at at' run reach reach' l r x y from to l_stop r_stop : Place)
-      → KnowsSince P Q low high start at run reach l r l_stop r_stop
-      → ((t : Rational) → Before (low t) (high t)) → Before x y → ((u : Rational) → After x u → After run u) → AllAre true Q x y
-      → MeetsAfter high x from → MeetsUpto low y to → ((t : Rational) → After at' t → After at t × After from t)
+  pub knows_found : {x y from to : Place} (at' reach' : Place) → IsMet true Q low high x y from to
+      → ((t : Rational) → Before (low t) (high t)) → ((u : Rational) → After x u → After run u)
+      → ((t : Rational) → After at' t → After at t × After from t)
       → ((t : Rational) → Upto reach' t → Upto reach t ⊎ Upto to t) → ((t : Rational) → After reach' t → After reach t)
       → ((u : Rational) → Upto y u → Upto r_stop u)
       → KnowsSince P Q low high start at' run reach' l r l_stop r_stop
-  knows_found start at at' run reach reach' l r x y from to l_stop r_stop k window some inside q begin end later either more
-      within = record {
-        holds = k.holds;
-        order = k.order;
-        begins = k.begins;
-        counts = λ t a h. elim (either t h) [
-          | inl z ↦ k.counts t (later t a).0 z
-          | inr z ↦ by_share t (share x y (low t) (high t) some (window t) ((begin t).0
-              (later t a).1) ((end t).0 z))
-        ];
-        rest = λ t u a b. k.rest t u (later t a).0 (more t b);
-        inside = k.inside;
-        ahead = k.ahead;
-      }
+  knows_found {x} {y} at' reach' met window inside later either more within = record {
+    holds = k.holds;
+    order = k.order;
+    begins = k.begins;
+    counts = λ t a h. elim (either t h) [
+      | inl z ↦ k.counts t (later t a).0 z
+      | inr z ↦ by_share t (met_in met window t (later t a).1 z)
+    ];
+    rest = λ t u a b. k.rest t u (later t a).0 (more t b);
+    inside = k.inside;
+    ahead = k.ahead;
+  }
     where
       by_share : (t : Rational) → (u : Rational) × After x u × Upto y u × After (low t) u × Upto (high t) u
           → (u : Rational) × After (low t) u × Upto (high t) u × Q u × After run u × Upto r_stop u
-      by_share t (u, after_x, upto_y, lo, hi) = (u, lo, hi, q u after_x upto_y, inside u after_x, within u upto_y)
+      by_share t (u, after_x, upto_y, lo, hi) = (u, lo, hi, met.is u after_x upto_y, inside u after_x, within u upto_y)
 
-  -- a right verdict that was read to its end is known
-  pub knows_right_read : (start at run reach l r y e l_stop r_stop : Place)
-      → KnowsSince P Q low high start at run reach l r l_stop r_stop
-      → ((t u : Rational) → After at t → After reach t → After (low t) u → After run u → After y u)
+  -- a right verdict that was read to its end y is known, once what holds there counts, and the left input holds to e
+  pub knows_right_read : (y e : Place) → ((t u : Rational) → After at t → After reach t → After (low t) u → After run u → After y u)
       → AllAre true P l e → ((u : Rational) → Upto y u → Upto e u) → ((u : Rational) → Upto e u → Upto l_stop u)
       → ((u : Rational) → Upto y u → Upto r_stop u)
       → KnowsSince P Q low high start at run reach l y l_stop r_stop
-  knows_right_read start at run reach l r y e l_stop r_stop k beyond told inside within within' = record {
+  knows_right_read y e beyond told inside within within' = record {
     holds = k.holds;
     order = k.order;
     begins = k.begins;
@@ -286,10 +165,9 @@ module _ {P Q : Truths} {low high : Rational → Place} where
   }
 
   -- a left verdict that holds is known to its end
-  pub knows_left_read : (start at run reach l r e l_stop r_stop : Place)
-      → KnowsSince P Q low high start at run reach l r l_stop r_stop → AllAre true P l e
-      → ((t : Rational) → After e t → After l t) → KnowsSince P Q low high start at run reach e r l_stop r_stop
-  knows_left_read start at run reach l r e l_stop r_stop k told later = record {
+  pub knows_left_read : (e : Place) → AllAre true P l e → ((t : Rational) → After e t → After l t)
+      → KnowsSince P Q low high start at run reach e r l_stop r_stop
+  knows_left_read e told later = record {
     holds = λ t a u. elim (sides l t) [ inl h ↦ k.holds t a h | inr h ↦ told t h u ];
     order = λ t a. k.order t (later t a);
     begins = k.begins;
@@ -300,9 +178,9 @@ module _ {P Q : Truths} {low high : Rational → Place} where
   }
 
   -- a later moment
-  pub knows_later : (start at at' run reach l r l_stop r_stop : Place) → ((t : Rational) → After at' t → After at t)
-      → KnowsSince P Q low high start at run reach l r l_stop r_stop → KnowsSince P Q low high start at' run reach l r l_stop r_stop
-  knows_later start at at' run reach l r l_stop r_stop later k = record {
+  pub knows_later : (at' : Place) → ((t : Rational) → After at' t → After at t)
+      → KnowsSince P Q low high start at' run reach l r l_stop r_stop
+  knows_later at' later = record {
     holds = k.holds;
     order = k.order;
     begins = k.begins;

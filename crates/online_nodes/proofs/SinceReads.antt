@@ -83,8 +83,7 @@ pub right_fails_over : {old new : Held} {s : Since} {c : Wrote} {w : Verdict} �
     → AtMost (place c.out.at) (place c.out.to) → HasMoved old new s c c
 right_fails_over {old} {new} {s} {c} {w} at first failing passed fits inside sound within =
     right_over at first passed fits inside sound within
-    (λ x written r of m. knows_right_fails x.start (place c.out.at) (place c.run) (place c.reach) r.read r.right (ends (interval w.on)) x.stop_left
-    x.stop_right m.knows
+    (λ x written r of m. knows_right_fails m.knows (ends (interval w.on))
     (subst (λ b. AllAre b (Counted true x.q x.tr) r.right (ends (interval w.on))) failing (right-first of m first).2) (right_within of m first))
 
 -- it holds no longer than to where the run began
@@ -96,8 +95,7 @@ stale_over {old} {new} {s} {c} {w} {from} at first is ended passed fits inside s
     right_over at first passed fits inside sound within
     (λ x written r of m.
     let gone : AtMost (ends (interval w.on)) (place c.run) = in_run of m in
-    knows_right_read x.start (place c.out.at) (place c.run) (place c.reach) r.read r.right (ends (interval w.on)) (ends (interval w.on)) x.stop_left
-    x.stop_right m.knows (λ t u a b lo h. after_at_most (ends (interval w.on)) (place c.run) u gone h)
+    knows_right_read m.knows (ends (interval w.on)) (ends (interval w.on)) (λ t u a b lo h. after_at_most (ends (interval w.on)) (place c.run) u gone h)
     (λ t a h. absurd (not_both r.read t (run_behind of m t (gone t h)) a)) (λ u h. h)
     (λ u h. of.left_enough u (m.within u (run_behind of m u (gone u h)))) (right_within of m first))
   where

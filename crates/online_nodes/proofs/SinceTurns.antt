@@ -93,8 +93,7 @@ module _ {x : Stay} {s : Since} {written : List Verdict} {c : Wrote} {r : Reads}
   -- in the trace, what is known says what holds of the node
   pub staying-remembers : SinceRemembers (Truth x.n x.tr) (Truth x.p x.tr) (Counted true x.q x.tr) (low_place s.window) (high_place s.window)
       (place c.out.at) (place c.run) (place c.reach) r.read r.right
-  staying-remembers = remembers_of x.start (place c.out.at) (place c.run) (place c.reach) r.read r.right of.looks
-      of.from_start m.ran m.answered m.knows
+  staying-remembers = remembers_of m.knows of.looks of.from_start m.ran m.answered
 
   -- the inputs' next verdicts
   pub left-first : {v : Verdict} → slice_get fresh_left 0 ≡ Some v → Tells (Truth x.p x.tr) r.left (v ∷ drop 1 fresh_left) x.stop_left
@@ -145,7 +144,7 @@ module _ {x : Stay} {s : Since} {written : List Verdict} {c : Wrote} {r : Reads}
       → Same begin (moved_begin s.window.begin_by s.window.begin_in from)
       → (t : Rational) → After (place c.out.at) t → After (place c.reach) t → Upto begin t → ¬ Truth x.n x.tr t
   not_yet_found {w} first from begin is begin_is t a b u =
-      not_yet of.looks (place c.out.at) (place c.run) (place c.reach) r.read r.right from begin staying-remembers
+      not_yet of.looks staying-remembers from begin
       (meets_from (high_place s.window) (meets_after s.window.begin_by s.window.begin_in from) begin_is)
       (λ y after_run after_right. after_later_of is y (after_same r.right (begins (interval w.on)) y (right-first first).0 after_right) after_run)
       t a b u
@@ -208,7 +207,7 @@ run_over {old} {mid} {new} {s} {c} {out} {held} {cut} {v} {y} at first failing s
           subst (λ (q : Place). Tells (Truth x.p x.tr) q (drop 1 (fresh_at old s.window.of)) x.stop_left) (sym cut_is) (left-first of m first).3 in
           let begun : Same r.left (begins (interval v.on)) = (left-first of m first).0 in
           let found : (t : Rational) → After (place c.out.at) t → Upto (place c.out.to) t → Upto (place held) t → Truth x.n x.tr t =
-          λ t a to h. went_on of.looks (place c.out.at) (place c.run) (place c.reach) r.read r.right (staying-remembers of m) t a (held_reach t h)
+          λ t a to h. went_on of.looks (staying-remembers of m) t a (held_reach t h)
           (m.left_behind t (upto_same (begins (interval v.on)) r.left t (same_places begun) (held_begin t h))) in
           let which : (t : Rational) → After (place c.out.at) t → After (place held) t → After (place c.reach) t ⊎ After r.read t =
           λ t a b. elim held_one [
@@ -217,13 +216,12 @@ run_over {old} {mid} {new} {s} {c} {out} {held} {cut} {v} {y} at first failing s
                 (subst (λ (q : Place). After q t) is b)) (m.ran t a))
           ] in
           let lost : (t : Rational) → After (place c.out.at) t → Upto (place c.out.to) t → After (place held) t → Upto e t → ¬ Truth x.n x.tr t =
-          λ t a to b u. fails of.looks (place c.out.at) (place c.run) (place c.reach) r.read r.right e (staying-remembers of m) failed t a
+          λ t a to b u. fails of.looks (staying-remembers of m) e failed t a
           (which t a b) u in (
             record { read = e; left = e; right = r.right },
             record {
               told = said.told x.n x.tr x.begin written m.told found lost;
-              knows = knows_new_run x.start (place c.out.at) (place out.at) (place c.run) (place c.reach) r.read r.right e x.stop_left x.stop_right
-                  m.knows ahead failed later;
+              knows = knows_new_run m.knows (place out.at) e ahead failed later;
               left_tells = subst (λ f. Tells (Truth x.p x.tr) e f x.stop_left) (sym (left_read at said passed)) rest;
               right_tells = subst (λ f. Tells (Counted true x.q x.tr) r.right f x.stop_right) (sym (right_kept at said passed)) m.right_tells;
               left_behind = λ t h. h;
@@ -275,7 +273,7 @@ left_over {old} {new} {s} {c} {next} {v} at first holding fits why g =
           λ t a. after_at_most e (place next.out.at) t
           (λ z h. g.said.reached z (subst (λ (q : Place). Upto q z) (sym g.cut_is) h) (g.to_end z h)) a in
           let found : (t : Rational) → After (place c.out.at) t → Upto (place c.out.to) t → Upto (place g.held) t → Truth x.n x.tr t =
-          λ t a to h. goes_on of.looks (place c.out.at) (place c.run) (place c.reach) r.read r.right e (staying-remembers of m) holds t a
+          λ t a to h. goes_on of.looks (staying-remembers of m) e holds t a
           (g.held_reach t h) (g.held_end t h) in
           let beyond : (t : Rational) → After (place g.held) t → Upto (place g.cut) t → After (place c.reach) t =
           λ t b u. elim g.held_one [
@@ -288,9 +286,7 @@ left_over {old} {new} {s} {c} {next} {v} at first holding fits why g =
           let there : IsStaying x s (written ++ g.said.more) (record { out = next.out; reach = c.reach; run = c.run })
           (record { read = e; left = e; right = r.right }) (fresh_at new s.window.of) (fresh_at new s.right) = record {
             told = g.said.told x.n x.tr x.begin written m.told found lost;
-            knows = knows_later x.start (place c.out.at) (place next.out.at) (place c.run) (place c.reach) e r.right x.stop_left x.stop_right later
-                (knows_left_read x.start (place c.out.at) (place c.run) (place c.reach) r.read r.right e x.stop_left x.stop_right m.knows holds
-                (λ t a. after_of_before r.read e t (m.ahead v first) a));
+            knows = knows_later (knows_left_read m.knows e holds (λ t a. after_of_before r.read e t (m.ahead v first) a)) (place next.out.at) later;
             left_tells = subst (λ f. Tells (Truth x.p x.tr) e f x.stop_left) (sym (left_read at g.said g.passed)) rest;
             right_tells = subst (λ f. Tells (Counted true x.q x.tr) r.right f x.stop_right) (sym (right_kept at g.said g.passed)) m.right_tells;
             left_behind = λ t h. h;

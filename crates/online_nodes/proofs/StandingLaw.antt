@@ -78,12 +78,17 @@ module _ (nodes : List Node) (header : Header) (formed : AreWellFormed nodes) wh
     pub within : (f : ℤ) → s.fronts j ≡ Some f → AtMost (first_place (fresh_at e j) (after_number f)) (after_number f)
 
   -- what an input gave out leads on
-  leads : (s : State) (ev : Event) → MayCome nodes header s ev → IsSound nodes header order s → (j : ℕ) → j < length nodes → (f f' : ℤ)
-      → s.fronts j ≡ Some f → (after_event nodes s ev).fronts j ≡ Some f' → (fresh more : List Verdict)
-      → (shown s j ≡ None → fresh ≡ []) → EmittedAt nodes header j s (after_event nodes s ev) more
-      → Leads (first_time s.rows) f f' fresh more
-  leads s ev may sound j l f f' front front' fresh more unshown given = by_old (int_lt f (pos S)) refl
+  leads : {e e' : Held} {j : ℕ} (s : State) (ev : Event) (on : InputOn s (after_event nodes s ev) e e' j) → MayCome nodes header s ev
+      → IsSound nodes header order s → j < length nodes → (f f' : ℤ) → s.fronts j ≡ Some f → (after_event nodes s ev).fronts j ≡ Some f'
+      → Leads (first_time s.rows) f f' (fresh_at e j) on.more
+  leads {e} {e'} {j} s ev on may sound l f f' front front' = by_old (int_lt f (pos S)) refl
     where
+      fresh : List Verdict
+      fresh = fresh_at e j
+
+      more : List Verdict
+      more = on.more
+
       s' : State
       s' = after_event nodes s ev
 
@@ -94,7 +99,7 @@ module _ (nodes : List Node) (header : Header) (formed : AreWellFormed nodes) wh
       begin = let b = sound.bounded j f l front in first_same nodes header order s ev b.last b.is_last
 
       led : Led nodes header order j (shown s j) s' more (shown s' j)
-      led = here_led nodes header order j s s' more given (none_before nodes header order s ev may sound j l)
+      led = here_led nodes header order j s s' more on.emitted (none_before nodes header order s ev may sound j l)
 
       -- where both fronts are as they are shown
       led_as : (o o' : Front) → shown s j ≡ o → shown s' j ≡ o' → Led nodes header order j o s' more o'
@@ -130,7 +135,7 @@ module _ (nodes : List Node) (header : Header) (formed : AreWellFormed nodes) wh
       by_old true x =
           let low = int_order f (pos S) true x in
           let o = low_shown s f front low in
-          inr (low, unshown o, by_new (int_lt f' (pos S)) refl low o)
+          inr (low, on.unshown o, by_new (int_lt f' (pos S)) refl low o)
       by_old false x =
           let over = int_order f (pos S) false x in
           inl (over, tiles_at (Some f) (led_as (Some f) (Some f') (front_shown s j f front over) (high' (over_new over))))
@@ -271,7 +276,7 @@ module _ (nodes : List Node) (header : Header) (formed : AreWellFormed nodes) wh
 
           places : PlacesOn (first_time s.rows) b.0 up.0 (fresh_at e j) on.more
           places = places_on (first_time s.rows) b.0 up.0 (fresh_at e j) on.more up.2 (on.within b.0 b.1)
-              (leads s ev may sound j jl b.0 up.0 b.1 up.1 (fresh_at e j) on.more on.unshown on.emitted)
+              (leads s ev on may sound jl b.0 up.0 b.1 up.1)
 
           moved_reads : ReadsOn (whole (pos (first_time s.rows))) (read_upto e j) (front_place e j) (read_upto e' j) (front_place e' j)
           moved_reads =

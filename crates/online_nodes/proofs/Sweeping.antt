@@ -12,12 +12,14 @@ use Rattle.stl_syntax.specs.declared.items.Verdict.{Verdict}
 use Rattle.rational.specs.Places.{Place, begins, ends, After, Upto, Before, Same, moved_begin, moved_end}
 use Rattle.frac128.specs.Cuts.{place}
 use Rattle.online_nodes.specs.Truths.{AllAre, Tells, Remembers, MeetsAfter, MeetsUpto}
-use Rattle.online_nodes.specs.Written.{HasTold}
+use Rattle.online_nodes.specs.Written.{HasTold, Reaches}
 use Rattle.online_nodes.specs.Sweeps.{low_place, high_place, Counted, IsWindowOf, IsSwept, Settles}
 use Rattle.online_nodes.specs.declared.window.Window.{Window}
+use Rattle.frac128.specs.declared.cut.Cut.{Cut}
 use Rattle.online_nodes.specs.declared.window.Sweep.{Sweep}
+use Rattle.online_nodes.specs.declared.writer.Out.{Out}
 use Rattle.rational.proofs.PlaceLemmas.{sides, not_both, before_same, same_before, same_places, after_same, upto_same, upto_of_before}
-use Rattle.online_nodes.proofs.WindowLaw.{before_it, settled, remembers_of, knows_passed, knows_entered}
+use Rattle.online_nodes.proofs.WindowLaw.{IsMet, before_it, settled, remembers_of, knows_passed, knows_entered}
 use Rattle.online_nodes.proofs.WindowPlaces.{meets_after, meets_upto}
 
 -- a list without a first item is empty
@@ -84,7 +86,7 @@ module _ (n p : Subformula) (tr : Trace) (w : Window) (begin : Place) (written :
   remembers : (s : Sweep) (fresh : List Verdict) → IsWindowOf n p tr w (place s.out.to) stop
       → IsSwept n p tr w begin written s read stop fresh
       → Remembers w.seeks (Truth n tr) (Counted w.seeks p tr) (low_place w) (high_place w) (place s.out.at) (place s.reach) read
-  remembers s fresh of m = remembers_of (place s.out.at) (place s.reach) read stop of.looks m.knows
+  remembers s fresh of m = remembers_of of.looks m.knows
 
   -- what is told lies before `stop`
   pub told_inside : (v : Verdict) (rest : List Verdict) → Tells (Counted w.seeks p tr) (ends (interval v.on)) rest stop
@@ -97,9 +99,8 @@ module _ (n p : Subformula) (tr : Trace) (w : Window) (begin : Place) (written :
   pub none_left : (s : Sweep) → IsWindowOf n p tr w (place s.out.to) stop → IsSwept n p tr w begin written s read stop []
       → Settles n tr w s
   none_left s of m t a b k =
-      settled (place s.out.at) (place s.reach) read (place s.out.to) t
-      (λ t u h i. elim (of.within t u h i) [ inl x ↦ inl (upto_same stop read u (same_places m.tells) x) | inr x ↦ inr x ])
-      (remembers s [] of m) a b k
+      settled (place s.out.to) t (remembers s [] of m)
+      (λ t u h i. elim (of.within t u h i) [ inl x ↦ inl (upto_same stop read u (same_places m.tells) x) | inr x ↦ inr x ]) a b k
 
   -- a verdict that is not sought
   pub not_sought : (s : Sweep) (v : Verdict) (rest : List Verdict) → v.holds ≡ not w.seeks
@@ -107,8 +108,8 @@ module _ (n p : Subformula) (tr : Trace) (w : Window) (begin : Place) (written :
       → IsSwept n p tr w begin written s (ends (interval v.on)) stop rest
   not_sought s v rest e m = record {
     told = m.told;
-    knows = knows_passed (place s.out.at) (place s.reach) read (ends (interval v.on)) stop
-        (subst (λ b. AllAre b (Counted w.seeks p tr) read (ends (interval v.on))) e m.tells.2) m.knows;
+    knows = knows_passed (ends (interval v.on)) m.knows
+        (subst (λ b. AllAre b (Counted w.seeks p tr) read (ends (interval v.on))) e m.tells.2);
     tells = m.tells.3;
   }
 
@@ -148,8 +149,7 @@ module _ (n p : Subformula) (tr : Trace) (w : Window) (begin : Place) (written :
       → Same from (moved_begin w.begin_by w.begin_in (begins (interval v.on)))
       → Before (place s.out.to) from → IsSwept n p tr w begin written s read stop (v ∷ rest) → Settles n tr w s
   too_late s v rest from of e later m t a b k =
-      before_it (place s.out.at) (place s.reach) read from t (begins_there v rest from m.tells e) (remembers s (v ∷ rest) of m) a
-      b (upto_of_before (place s.out.to) from t later k)
+      before_it from t (remembers s (v ∷ rest) of m) (begins_there v rest from m.tells e) a b (upto_of_before (place s.out.to) from t later k)
 
   -- up to `reach` the node is as was found
   pub found_part : (s : Sweep) (fresh : List Verdict) (at : Place)
@@ -159,30 +159,37 @@ module _ (n p : Subformula) (tr : Trace) (w : Window) (begin : Place) (written :
   found_part s fresh at no_more of m t a u = (remembers s fresh of m).counts t a (no_more t a u)
 
   -- and then otherwise up to where v counts
-  pub spared_part : (s : Sweep) (v : Verdict) (rest : List Verdict) (from at at' : Place)
-      → Same from (moved_begin w.begin_by w.begin_in (begins (interval v.on)))
-      → ((t : Rational) → Upto (place s.out.at) t → Upto at t)
-      → ((t : Rational) → Upto (place s.reach) t → Upto (place s.out.to) t → Upto at t)
-      → ((t : Rational) → Upto at' t → Upto (place s.out.to) t) → ((t : Rational) → After at t → Upto at' t → Upto from t)
-      → IsWindowOf n p tr w (place s.out.to) stop → IsSwept n p tr w begin written s read stop (v ∷ rest)
-      → AllAre (not w.seeks) (Truth n tr) at at'
-  spared_part s v rest from at at' e forward reached inside no_more of m t a u =
-      before_it (place s.out.at) (place s.reach) read from t (begins_there v rest from m.tells e) (remembers s (v ∷ rest) of m)
-      (elim (sides (place s.out.at) t) [ inl h ↦ absurd (not_both at t (forward t h) a) | inr h ↦ h ])
-      (elim (sides (place s.reach) t) [ inl h ↦ absurd (not_both at t (reached t h (inside t u)) a) | inr h ↦ h ])
-      (no_more t a u)
+  pub spared_part : {s : Sweep} {v : Verdict} {rest : List Verdict} {found out : Out} {from : Cut}
+      → IsSwept n p tr w begin written s read stop (v ∷ rest) → IsWindowOf n p tr w (place s.out.to) stop
+      → Reaches s.out s.reach found → Reaches found from out → found.to ≡ s.out.to
+      → Same (place from) (moved_begin w.begin_by w.begin_in (begins (interval v.on)))
+      → AllAre (not w.seeks) (Truth n tr) (place found.at) (place out.at)
+  spared_part {s} {v} {rest} {found} {out} {from} m of one two same e t a u =
+      before_it (place from) t (remembers s (v ∷ rest) of m) (begins_there v rest (place from) m.tells e)
+      (elim (sides (place s.out.at) t) [ inl h ↦ absurd (not_both (place found.at) t (one.forward t h) a) | inr h ↦ h ])
+      (elim (sides (place s.reach) t) [ inl h ↦ absurd (not_both (place found.at) t (one.reached t h inside) a) | inr h ↦ h ])
+      (two.no_more t a u)
+    where
+      inside : Upto (place s.out.to) t
+      inside = subst (λ (q : Cut). Upto (place q) t) same (two.inside t u)
 
   -- what v finds counts from now on
-  pub counts_now : (s next : Sweep) (v : Verdict) (rest : List Verdict) (from : Place) (more : List Verdict) → v.holds ≡ w.seeks
-      → IsWindowOf n p tr w (place s.out.to) stop
+  pub counts_now : {s : Sweep} {v : Verdict} {rest : List Verdict} (next : Sweep) (from : Place) (more : List Verdict)
+      → IsSwept n p tr w begin written s read stop (v ∷ rest) → IsWindowOf n p tr w (place s.out.to) stop → v.holds ≡ w.seeks
       → Same from (moved_begin w.begin_by w.begin_in (begins (interval v.on)))
       → Same (place next.reach) (moved_end w.end_by w.end_in (ends (interval v.on)))
       → ((t : Rational) → After (place next.out.at) t → After from t) → HasTold n tr begin more next.out
-      → IsSwept n p tr w begin written s read stop (v ∷ rest) → IsSwept n p tr w begin more next (ends (interval v.on)) stop rest
-  counts_now s next v rest from more h of e f later told m = record {
+      → IsSwept n p tr w begin more next (ends (interval v.on)) stop rest
+  counts_now {s} {v} {rest} next from more m of h e f later told = record {
     told = told;
-    knows = knows_entered (place next.out.at) read (ends (interval v.on)) from (place next.reach) stop of.some m.tells.1
-        (subst (λ b. AllAre b (Counted w.seeks p tr) read (ends (interval v.on))) h m.tells.2) (begins_there v rest from m.tells e)
-        (ends_there v (place next.reach) f) later (told_inside v rest m.tells.3);
+    knows = knows_entered (place next.out.at) stop met of.some later (told_inside v rest m.tells.3);
     tells = m.tells.3;
   }
+    where
+      met : IsMet w.seeks (Counted w.seeks p tr) (low_place w) (high_place w) read (ends (interval v.on)) from (place next.reach)
+      met = record {
+        some = m.tells.1;
+        is = subst (λ b. AllAre b (Counted w.seeks p tr) read (ends (interval v.on))) h m.tells.2;
+        begin = begins_there v rest from m.tells e;
+        end = ends_there v (place next.reach) f;
+      }

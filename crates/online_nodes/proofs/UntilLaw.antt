@@ -4,8 +4,9 @@ use Rattle.std.specs.Prelude.{MatchBool}
 use Rattle.rational.specs.Rational.{Rational, ◌≤ʳ◌, ◌<ʳ◌}
 use Rattle.rational.proofs.Order.{le_refl, le_trans, le_of_lt, lt_of_lt_of_le, lt_of_le_of_lt, le_or_lt}
 use Rattle.rational.specs.Places.{Place, After, Upto, Before}
-use Rattle.online_nodes.specs.Truths.{Truths, AllAre, AllFrom, HoldsFrom, IsUntilOf, UntilRemembers, KnowsUntil, MeetsAfter, MeetsUpto}
-use Rattle.rational.proofs.PlaceLemmas.{share, between, sides, not_both, before_through, place_order, after_of_before, after_same}
+use Rattle.online_nodes.specs.Truths.{Truths, AllAre, AllFrom, IsUntilOf, UntilRemembers, KnowsUntil, MeetsAfter}
+use Rattle.rational.proofs.PlaceLemmas.{between, sides, not_both, before_through, after_of_before}
+use Rattle.online_nodes.proofs.WindowLaw.{IsMet, met_in, met_no_more}
 
 -- a time after one that lies after the place lies after it; a time before one that lies before it, before it
 pub after_later : (c : Place) (t u : Rational) → After c t → t ≤ʳ u → After c u
@@ -27,11 +28,11 @@ upto_earlier c t u = by_side c.after
 pub in_order : (c : Place) (t u : Rational) → Upto c t → After c u → t ≤ʳ u
 in_order c t u h k = elim (le_or_lt t u) [ inl l ↦ l | inr l ↦ absurd (not_both c u (upto_earlier c u t h (le_of_lt l)) k) ]
 
-module _ {N P Q : Truths} {low high : Rational → Place} (until : IsUntilOf N P Q low high) where
+module _ {N P Q : Truths} {low high : Rational → Place} {at reach l r : Place} (until : IsUntilOf N P Q low high)
+    (m : UntilRemembers N P Q low high at reach l r) where
   -- the left input fails from l to e: up to e the node holds no longer than `reach`
-  pub fails : (at reach l r e : Place) → UntilRemembers N P Q low high at reach l r → Before l e → AllAre false P l e
-      → (t : Rational) → After at t → After reach t → Upto e t → ¬ N t
-  fails at reach l r e m some told t a b k n =
+  pub fails : (e : Place) → Before l e → AllAre false P l e → (t : Rational) → After at t → After reach t → Upto e t → ¬ N t
+  fails e some told t a b k n =
       let w = m.rest t a b n in
       let u = w.0 in
       by_side w (sides l t)
@@ -46,95 +47,20 @@ module _ {N P Q : Truths} {low high : Rational → Place} (until : IsUntilOf N P
           by_end (inr x) = let v = between l e some in
               told v.0 v.1 v.2 (all v.0 (in_order l t v.0 h v.1) (in_order e v.0 u v.2 x))
 
-  -- after that nothing is remembered
-  pub fresh_run : (r e : Place)
-      → ((t : Rational) → After e t → N t
-      → (u : Rational) × After (low t) u × Upto (high t) u × Q u × AllFrom P t u × After e u × After r u)
-      → UntilRemembers N P Q low high e e e r
-  fresh_run r e h = record {
-    run = λ t a u. absurd (not_both e t u a);
-    counts = λ t a u. absurd (not_both e t u a);
-    rest = λ t a _ n. h t a n;
-  }
-
-  -- the right input fails up to e, where the left one holds to at least there: the right one is read
-  pub right_fails : (at reach l r e : Place) → UntilRemembers N P Q low high at reach l r → AllAre false Q r e
-      → UntilRemembers N P Q low high at reach l e
-  right_fails at reach l r e m told = record {
-    run = m.run;
-    counts = m.counts;
-    rest = λ t a b n. by_witness t (m.rest t a b n);
-  }
-    where
-      by_witness : (t : Rational)
-          → (u : Rational) × After (low t) u × Upto (high t) u × Q u × AllFrom P t u × After l u × After r u
-          → (u : Rational) × After (low t) u × Upto (high t) u × Q u × AllFrom P t u × After l u × After e u
-      by_witness t (u, lo, hi, q, all, x, y) =
-          (u, lo, hi, q, all, x, elim (sides e u) [ inl h ↦ absurd (told u y h q) | inr h ↦ h ])
-
-  -- the left input holds up to e, and the right one fails to at least there: the left one is read
-  pub left_holds : (at reach l r e f : Place) → UntilRemembers N P Q low high at reach l r → AllAre true P l e
-      → AllAre false Q r f
-      → ((t : Rational) → Upto e t → Upto f t) → UntilRemembers N P Q low high at reach e r
-  left_holds at reach l r e f m holds told inside = record {
-    run = λ t a u. elim (sides l t) [ inl h ↦ m.run t a h | inr h ↦ holds t h u ];
-    counts = m.counts;
-    rest = λ t a b n. by_witness t (m.rest t a b n);
-  }
-    where
-      by_witness : (t : Rational)
-          → (u : Rational) × After (low t) u × Upto (high t) u × Q u × AllFrom P t u × After l u × After r u
-          → (u : Rational) × After (low t) u × Upto (high t) u × Q u × AllFrom P t u × After e u × After r u
-      by_witness t (u, lo, hi, q, all, x, y) =
-          (u, lo, hi, q, all, elim (sides e u) [ inl h ↦ absurd (told u y (inside u h) q) | inr h ↦ h ], y)
-
   -- up to where a common stretch from x on counts, the node holds no longer than `reach`
-  pub not_yet : (at reach l r x from : Place) → UntilRemembers N P Q low high at reach l r → MeetsAfter high x from
+  pub not_yet : (x from : Place) → MeetsAfter high x from
       → ((t u : Rational) → After at t → After (low t) u → After l u → After r u → After x u)
       → (t : Rational) → After at t → After reach t → Upto from t → ¬ N t
-  not_yet at reach l r x from m meets begin t a b k n = by_witness (m.rest t a b n)
+  not_yet x from meets begin t a b k n = by_witness (m.rest t a b n)
     where
       by_witness : (u : Rational) × After (low t) u × Upto (high t) u × Q u × AllFrom P t u × After l u × After r u → ⊥
       by_witness (u, lo, hi, q, all, y, z) = not_both from t k ((meets t).1 (before_through x (high t) u (begin t u a lo y z) hi))
 
-  -- a stretch from x to y on which both hold: it counts from then on. The left input is read up to l' and the right one up to r'
-  pub both_hold : (at at' reach l r x y from to l' r' : Place) → UntilRemembers N P Q low high at reach l r
-      → ((t : Rational) → Before (low t) (high t)) → Before x y → ((u : Rational) → After x u → After l u) → AllAre true P l y
-      → AllAre true Q x y
-      → MeetsAfter high x from → MeetsUpto low y to → ((t : Rational) → After at' t → After at t)
-      → ((t : Rational) → After at' t → After from t)
-      → AllAre true P l l' → ((u : Rational) → After y u → After l' u) → ((u : Rational) → After y u → After r' u)
-      → UntilRemembers N P Q low high at' to l' r'
-  both_hold at at' reach l r x y from to l' r' m window some x_in p q begin end later counts run left right = record {
-    run = λ t a u. elim (sides l t) [ inl h ↦ m.run t (later t a) h | inr h ↦ run t h u ];
-    counts = λ t a k. by_share t a (share x y (low t) (high t) some (window t) ((begin t).0 (counts t a)) ((end t).0 k));
-    rest = λ t a b n. by_witness t b (until.means t n);
-  }
-    where
-      by_share : (t : Rational) → After at' t → (u : Rational) × After x u × Upto y u × After (low t) u × Upto (high t) u → N t
-      by_share t a (u, after_x, upto_y, lo, hi) = until.holds t u lo hi (q u after_x upto_y) all
-        where
-          all : AllFrom P t u
-          all v from_t to_u = elim (sides l v) [
-            | inl h ↦ m.run v (after_later at t v (later t a) from_t) h
-            | inr h ↦ p v h (upto_earlier y v u upto_y to_u)
-          ]
-
-      by_witness : (t : Rational) → After to t → (u : Rational) × After (low t) u × Upto (high t) u × Q u × AllFrom P t u
-          → (u : Rational) × After (low t) u × Upto (high t) u × Q u × AllFrom P t u × After l' u × After r' u
-      by_witness t b (u, lo, hi, w, all) = (u, lo, hi, w, all, left u beyond, right u beyond)
-        where
-          beyond : After y u
-          beyond = elim (place_order (low t) y) [
-            | inl h ↦ absurd (not_both to t ((end t).1 h) b)
-            | inr h ↦ elim h [ inl s ↦ after_same (low t) y u s lo | inr h ↦ after_of_before y (low t) u h lo ]
-          ]
-
   -- once one input was read as far as the windows up to `to` reach, the node holds no longer than `reach`
-  pub settled : (at reach l r to : Place) → UntilRemembers N P Q low high at reach l r
+  pub settled : (to : Place)
       → ((t u : Rational) → After at t → After (low t) u → Upto to t → Upto (high t) u → (Upto l u ⊎ Upto r u) ⊎ ¬ Q u)
       → (t : Rational) → After at t → After reach t → Upto to t → ¬ N t
-  settled at reach l r to m all t a b k n = by_witness (m.rest t a b n)
+  settled to all t a b k n = by_witness (m.rest t a b n)
     where
       by_witness : (u : Rational) × After (low t) u × Upto (high t) u × Q u × AllFrom P t u × After l u × After r u → ⊥
       by_witness (u, lo, hi, q, every, y, z) = elim (all t u a lo k hi) [
@@ -143,9 +69,9 @@ module _ {N P Q : Truths} {low high : Rational → Place} (until : IsUntilOf N P
       ]
 
 -- in a trace, until remembers what it knows of its inputs
-pub remembers_of : {N P Q : Truths} {low high : Rational → Place} (at reach l r stop : Place) → IsUntilOf N P Q low high
+pub remembers_of : {N P Q : Truths} {low high : Rational → Place} {at reach l r stop : Place} → IsUntilOf N P Q low high
     → KnowsUntil P Q low high at reach l r stop → UntilRemembers N P Q low high at reach l r
-remembers_of {N} {P} {Q} {low} {high} at reach l r stop until k = record {
+remembers_of {N} {P} {Q} {low} {high} {at} {reach} {l} {r} {stop} until k = record {
   run = k.run;
   counts = λ t a b. let u = k.counts t a b in until.holds t u.0 u.1 u.2 u.3 u.4;
   rest = λ t a b n. by_witness t a b (until.means t n);
@@ -165,13 +91,12 @@ remembers_of {N} {P} {Q} {low} {high} at reach l r stop until k = record {
 abbrev pub FailsFor : Truths → (Rational → Place) → Place → Place → Place → Type 0
 FailsFor Q low at r f = (t u : Rational) → After at t → After (low t) u → After r u → Upto f u → ¬ Q u
 
-module _ {P Q : Truths} {low high : Rational → Place} where
+module _ {P Q : Truths} {low high : Rational → Place} {at reach l r stop : Place} (k : KnowsUntil P Q low high at reach l r stop) where
   -- the left input failed from l to e: a new run may begin
-  pub knows_new_run : (at at' reach l r e stop : Place) → ((t u : Rational) → After (low t) u → t ≤ʳ u)
-      → KnowsUntil P Q low high at reach l r stop → Before l e → AllAre false P l e
+  pub knows_new_run : (at' e : Place) → ((t u : Rational) → After (low t) u → t ≤ʳ u) → Before l e → AllAre false P l e
       → ((t : Rational) → After at' t → After at t × After e t) → ((u : Rational) → Upto e u → Upto stop u)
       → KnowsUntil P Q low high at' e e r stop
-  knows_new_run at at' reach l r e stop forward k some told later within = record {
+  knows_new_run at' e forward some told later within = record {
     run = λ t a u. absurd (not_both e t u (later t a).1);
     counts = λ t a u. absurd (not_both e t u (later t a).1);
     rest = λ t u a _ lo hi q all known. let x = after_later e t u (later t a).1 (forward t u lo) in
@@ -188,10 +113,9 @@ module _ {P Q : Truths} {low high : Rational → Place} where
           (told v.0 v.1 v.2 (k.ahead t u (later t a).0 lo q (after_of_before l e u some x) h v.0 v.1 (in_order e v.0 u v.2 x)))
 
   -- a right side that fails adds nothing
-  pub knows_right_fails : (at reach l r f stop : Place) → KnowsUntil P Q low high at reach l r stop → FailsFor Q low at r f
-      → ((u : Rational) → Upto f u → Upto stop u)
+  pub knows_right_fails : (f : Place) → FailsFor Q low at r f → ((u : Rational) → Upto f u → Upto stop u)
       → KnowsUntil P Q low high at reach l f stop
-  knows_right_fails at reach l r f stop k told within = record {
+  knows_right_fails f told within = record {
     run = k.run;
     counts = k.counts;
     rest = λ t u a b lo hi q all known. let w = k.rest t u a b lo hi q all known in
@@ -201,12 +125,11 @@ module _ {P Q : Truths} {low high : Rational → Place} where
   }
 
   -- a left side that holds is known further
-  pub knows_left_holds : (at reach l r e f stop : Place) → KnowsUntil P Q low high at reach l r stop → AllAre true P l e
-      → FailsFor Q low at r f
+  pub knows_left_holds : (e f : Place) → AllAre true P l e → FailsFor Q low at r f
       → ((t : Rational) → Upto e t → Upto f t) → ((u : Rational) → Upto e u → Upto stop u)
       → ((u : Rational) → After e u → After l u)
       → KnowsUntil P Q low high at reach e r stop
-  knows_left_holds at reach l r e f stop k holds told inside within later = record {
+  knows_left_holds e f holds told inside within later = record {
     run = λ t a u. elim (sides l t) [ inl h ↦ k.run t a h | inr h ↦ holds t h u ];
     counts = k.counts;
     rest = λ t u a b lo hi q all known. let w = k.rest t u a b lo hi q all known in
@@ -215,32 +138,24 @@ module _ {P Q : Truths} {low high : Rational → Place} where
     ahead = λ t u a lo q x y v z w. k.ahead t u a lo q (later u x) y v (later v z) w;
   }
 
-  -- where both hold, what they share is found
-  pub knows_both : (at at' reach l r x y from to l' r' stop : Place) → KnowsUntil P Q low high at reach l r stop
-      → ((t u : Rational) → After (low t) u → t ≤ʳ u)
-      → ((t : Rational) → Before (low t) (high t)) → Before x y → ((u : Rational) → After x u → After l u) → AllAre true P l y
-      → AllAre true Q x y
-      → MeetsAfter high x from → MeetsUpto low y to → ((t : Rational) → After at' t → After at t × After from t)
-      → AllAre true P l l' → ((u : Rational) → After y u → After l' u × After r' u) → ((u : Rational) → Upto y u → Upto stop u)
-      → ((u : Rational) → After l' u → Upto r' u → HoldsFrom P l' u)
-      → KnowsUntil P Q low high at' to l' r' stop
-  knows_both at at' reach l r x y from to l' r' stop k forward window some x_in p q begin end later run both within ahead = record {
-    run = λ t a u. elim (sides l t) [ inl h ↦ k.run t (later t a).0 h | inr h ↦ run t h u ];
-    counts = λ t a b. by_share t a (share x y (low t) (high t) some (window t) ((begin t).0 (later t a).1) ((end t).0 b));
-    rest = λ t u a b lo hi w all known. both u (beyond t u b lo);
-    inside = λ u a. both u (elim (sides y u) [ inl h ↦ absurd (not_both stop u (within u h) a) | inr h ↦ h ]);
-    ahead = λ t u a lo w z b. ahead u z b;
+  -- where both hold on a stretch, it is found by the windows that meet it, and both inputs are known up to its end
+  pub knows_both : {x y from to : Place} (at' : Place) → IsMet true Q low high x y from to → ((t : Rational) → Before (low t) (high t))
+      → AllAre true P l y → ((t : Rational) → After at' t → After at t × After from t) → ((u : Rational) → Upto y u → Upto stop u)
+      → KnowsUntil P Q low high at' to y y stop
+  knows_both {x} {y} {from} {to} at' met window p later within = record {
+    run = λ t a u. elim (sides l t) [ inl h ↦ k.run t (later t a).0 h | inr h ↦ p t h u ];
+    counts = λ t a b. by_share t a (met_in met window t (later t a).1 b);
+    rest = λ t u a b lo hi w all known. let z = met_no_more met t u b lo in (z, z);
+    inside = λ u a. let z = past u a in (z, z);
+    ahead = λ t u a lo w z b. absurd (not_both y u b z);
   }
     where
-      beyond : (t u : Rational) → After to t → After (low t) u → After y u
-      beyond t u b lo = elim (place_order (low t) y) [
-        | inl h ↦ absurd (not_both to t ((end t).1 h) b)
-        | inr h ↦ elim h [ inl s ↦ after_same (low t) y u s lo | inr h ↦ after_of_before y (low t) u h lo ]
-      ]
+      past : (u : Rational) → After stop u → After y u
+      past u a = elim (sides y u) [ inl h ↦ absurd (not_both stop u (within u h) a) | inr h ↦ h ]
 
       by_share : (t : Rational) → After at' t → (u : Rational) × After x u × Upto y u × After (low t) u × Upto (high t) u
           → (u : Rational) × After (low t) u × Upto (high t) u × Q u × AllFrom P t u × Upto stop u
-      by_share t a (u, after_x, upto_y, lo, hi) = (u, lo, hi, q u after_x upto_y, all, within u upto_y)
+      by_share t a (u, after_x, upto_y, lo, hi) = (u, lo, hi, met.is u after_x upto_y, all, within u upto_y)
         where
           all : AllFrom P t u
           all v from_t to_u = elim (sides l v) [
@@ -249,10 +164,9 @@ module _ {P Q : Truths} {low high : Rational → Place} where
           ]
 
   -- of the right input what no window begins before may be dropped unread
-  pub knows_right_dropped : (at reach l r f stop : Place) → KnowsUntil P Q low high at reach l r stop
-      → ((t u : Rational) → After at t → After (low t) u → After f u)
+  pub knows_right_dropped : (f : Place) → ((t u : Rational) → After at t → After (low t) u → After f u)
       → ((u : Rational) → Upto f u → Upto stop u) → KnowsUntil P Q low high at reach l f stop
-  knows_right_dropped at reach l r f stop k past within = record {
+  knows_right_dropped f past within = record {
     run = k.run;
     counts = k.counts;
     rest = λ t u a b lo hi q all known. ((k.rest t u a b lo hi q all known).0, past t u a lo);
@@ -261,9 +175,8 @@ module _ {P Q : Truths} {low high : Rational → Place} where
   }
 
   -- what is known is known from later on
-  pub knows_later : (at at' reach l r stop : Place) → ((t : Rational) → After at' t → After at t)
-      → KnowsUntil P Q low high at reach l r stop → KnowsUntil P Q low high at' reach l r stop
-  knows_later at at' reach l r stop later k = record {
+  pub knows_later : (at' : Place) → ((t : Rational) → After at' t → After at t) → KnowsUntil P Q low high at' reach l r stop
+  knows_later at' later = record {
     run = λ t a. k.run t (later t a);
     counts = λ t a. k.counts t (later t a);
     rest = λ t u a. k.rest t u (later t a);

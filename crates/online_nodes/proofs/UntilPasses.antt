@@ -33,6 +33,7 @@ use Rattle.rational.proofs.PlaceLemmas.{
 use Rattle.online_nodes.proofs.SaidLemmas.{passed-fresh}
 use Rattle.online_nodes.proofs.UntilLaw.{FailsFor, knows_right_fails, knows_left_holds, knows_both, not_yet, settled}
 use Rattle.online_nodes.proofs.UntilTurns.{goes_on_from, left-next, left-is, turned-remembers}
+use Rattle.online_nodes.proofs.WindowLaw.{IsMet}
 use Rattle.online_nodes.proofs.WorkLemmas.{passed-other, first_and_rest}
 
 -- a place that is at most one that comes before another comes before that
@@ -176,8 +177,7 @@ module _ {x : Stretch} {u : Until} {written : List Verdict} {s : Sweep} {r : Rea
       → KnowsUntil (Truth x.p x.tr) (Counted true x.q x.tr) (low_place u.window) (high_place u.window) (place s.out.at) (place s.reach) e e x.stop
   fails_to e failed ahead in_left in_right =
       let within : (t : Rational) → Upto e t → Upto x.stop t = λ t h. of.both t (left_end t (in_left t h)) (right_end t (in_right t h)) in
-      knows_left_holds (place s.out.at) (place s.reach) r.read e e e x.stop
-      (knows_right_fails (place s.out.at) (place s.reach) r.read r.read e x.stop m.knows failed within)
+      knows_left_holds (knows_right_fails m.knows e failed within) e e
       (holds_to e in_left) (λ t y a lo b h. absurd (not_both e y h b)) (λ t h. h) within
       (λ t a. after_at_most r.read e t (λ y h. upto_of_before r.read e y ahead h) a)
 
@@ -327,15 +327,16 @@ module _ {x : Stretch} {u : Until} {written : List Verdict} {s : Sweep} {r : Rea
       (right-is of m apart first_left first_right left_holding) t
       (after_same (begins (interval w.on)) r.right t (same_places right_begins) (after_at_most (begins (interval w.on)) begin t after_right a))
       (earlier.in_right t h) in
-      knows_both (place s.out.at) (place next.out.at) (place s.reach) r.read r.read begin end from (place next.reach) end end x.stop m.knows
-      of.looks.ahead of.some some unread p q meets_from meets_to later p (λ t a. (a, a)) within (λ t a h. absurd (not_both end t h a))
+      let met : IsMet true (Counted true x.q x.tr) (low_place u.window) (high_place u.window) begin end from (place next.reach) =
+      record { some = some; is = q; begin = meets_from; end = meets_to } in
+      knows_both m.knows (place next.out.at) met of.some p later within
 
   -- up to where that counts the node fails, beyond what was found
   pub not_yet_common : (from : Place) → (AtMost begin (begins (interval v.on))) ⊎ (AtMost begin (begins (interval w.on)))
       → MeetsAfter (high_place u.window) begin from
       → (t : Rational) → After (place s.out.at) t → After (place s.reach) t → Upto from t → ¬ Truth x.n x.tr t
   not_yet_common from one meets =
-      not_yet of.looks (place s.out.at) (place s.reach) r.read r.read begin from (turned-remembers of m) meets
+      not_yet of.looks (turned-remembers of m) begin from meets
       (λ t y a lo b c. begin_known one t y a lo b)
 
 -- where the one input has no verdict that was not read, the rest of the stretch is settled
@@ -344,7 +345,7 @@ left_out_settles {e} {u} {s} none =
     record {
       same = refl;
       settles = λ x written r of m.
-          settled of.looks (place s.out.at) (place s.reach) r.read r.read (place s.out.to) (turned-remembers of m)
+          settled of.looks (turned-remembers of m) (place s.out.to)
           (λ t y b lo a h. elim (of.within t y a h) [
             | inl k ↦ inl (inl (m.left_behind y (upto_same x.stop_left r.left y
                 (same_places (subst (λ f. Tells (Truth x.p x.tr) r.left f x.stop_left) none m.left_tells)) (of.left_enough y k))))
@@ -358,7 +359,7 @@ right_out_settles {e} {u} {s} none =
     record {
       same = refl;
       settles = λ x written r of m.
-          settled of.looks (place s.out.at) (place s.reach) r.read r.read (place s.out.to) (turned-remembers of m)
+          settled of.looks (turned-remembers of m) (place s.out.to)
           (λ t y b lo a h. elim (of.within t y a h) [
             | inl k ↦ inl (inr (m.right_behind t y b lo (upto_same x.stop_right r.right y
                 (same_places (subst (λ f. Tells (Counted true x.q x.tr) r.right f x.stop_right) none m.right_tells)) (of.right_enough y k))))

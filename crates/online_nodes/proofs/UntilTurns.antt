@@ -91,7 +91,7 @@ module _ {x : Stretch} {u : Until} {written : List Verdict} {s : Sweep} {r : Rea
   -- in the trace, what is known says what holds of the node
   pub turned-remembers : UntilRemembers (Truth x.n x.tr) (Truth x.p x.tr) (Counted true x.q x.tr) (low_place u.window) (high_place u.window)
       (place s.out.at) (place s.reach) r.read r.read
-  turned-remembers = remembers_of (place s.out.at) (place s.reach) r.read r.read x.stop of.looks m.knows
+  turned-remembers = remembers_of of.looks m.knows
 
   -- the left input's next verdict
   pub left-next : {v : Verdict} → slice_get fresh_left 0 ≡ Some v → Tells (Truth x.p x.tr) r.left (v ∷ drop 1 fresh_left) x.stop_left
@@ -139,15 +139,13 @@ module _ {old mid : Held} {u : Until} {s : Sweep} {found out : Out} {cut : Cut} 
                 told = said.answers.told x.n x.tr x.begin written m.told
                     (λ t a upto. (turned-remembers of m).counts t a (said.one.no_more t a upto))
                     (λ t a upto.
-                    fails of.looks (place s.out.at) (place s.reach) r.read r.read e (turned-remembers of m) ahead failed t (twice-after said t a)
+                    fails of.looks (turned-remembers of m) e ahead failed t (twice-after said t a)
                     (twice-beyond said t a upto) (subst (λ (c : Place). Upto c t) is (said.two.no_more t a upto)));
                 knows = subst
                     (λ (c : Place). KnowsUntil (Truth x.p x.tr) (Counted true x.q x.tr) (low_place u.window) (high_place u.window)
                     (place out.at) c e e x.stop)
                     (sym is)
-                    (knows_right_dropped (place out.at) e e r.read e x.stop
-                    (knows_new_run (place s.out.at) (place out.at)
-                    (place s.reach) r.read r.read e x.stop of.looks.ahead m.knows ahead failed later within)
+                    (knows_right_dropped (knows_new_run m.knows (place out.at) e of.looks.ahead ahead failed later within) e
                     (λ t y a lo. after_later e t y (later t a).1 (of.looks.ahead t y lo)) within);
                 left_tells = subst (λ f. Tells (Truth x.p x.tr) e f x.stop_left) (sym left_now) rest;
                 right_tells = subst (λ f. Tells (Counted true x.q x.tr) r.right f x.stop_right) (sym kept_right) m.right_tells;
@@ -167,6 +165,6 @@ fails_beyond {e} {u} {s} {v} first failing beyond =
     record {
       same = refl;
       settles = λ x written r of m t a b k.
-          fails of.looks (place s.out.at) (place s.reach) r.read r.read (ends (interval v.on)) (turned-remembers of m) (m.ahead v first)
+          fails of.looks (turned-remembers of m) (ends (interval v.on)) (m.ahead v first)
           (subst (λ b. AllAre b (Truth x.p x.tr) r.read (ends (interval v.on))) failing (left-is of m first)) t a b (beyond t k);
     }

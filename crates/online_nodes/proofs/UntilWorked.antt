@@ -315,8 +315,7 @@ module _ {x : Situation} {op : Operator} {old : Held} {work : Outcome} (d : IsDu
           knows = subst (λ (c : Cut). KnowsUntil (Truth (subformula x.nodes u.window.of) (trace_in x))
               (Counted true (subformula x.nodes u.right) (trace_in x)) (low_place u.window) (high_place u.window) (place work.out.at) (place c)
               known.read known.read (place_of lesser_number)) (sym (g.later f some).0)
-              (knows_later (record { at = whole (pos f); after = true }) (place work.out.at) (place op.reach) known.read known.read
-              (place_of lesser_number) back known.knows);
+              (knows_later known.knows (place work.out.at) back);
           left_tells = left_tells;
           right_tells = right_tells;
           left_behind = known.left_behind;
@@ -382,7 +381,7 @@ module _ {x : Situation} {op : Operator} {old : Held} {work : Outcome} (d : IsDu
           knows = subst (λ (o : Front). KnowsUntil (Truth (subformula x.nodes u.window.of) (trace_in x))
               (Counted true (subformula x.nodes u.right) (trace_in x)) (low_place u.window) (high_place u.window) (end_of x) (place done.marks.reach)
               after.0.read after.0.read (place_of o)) numbers
-              (knows_later (place done.out.at) (end_of x) (place done.marks.reach) after.0.read after.0.read (place_of lesser_number) back m.knows);
+              (knows_later m.knows (end_of x) back);
           left_behind = λ t h. m.left_behind t (upto_same (read_upto new u.window.of) after.0.left t (same_places left) h);
           right_behind = λ t v a lo h.
               m.right_behind t v (back t a) lo (upto_same (read_upto new u.right) after.0.right v (same_places right) h);

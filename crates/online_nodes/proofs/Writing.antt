@@ -14,7 +14,8 @@ use Rattle.stl_syntax.specs.declared.items.Verdict.{Verdict}
 use Rattle.rational.specs.Places.{Place, After, Upto, Before, Same, begins, ends}
 use Rattle.frac128.specs.Cuts.{place}
 use Rattle.online_nodes.specs.Truths.{Truths, AllAre}
-use Rattle.online_nodes.specs.Written.{Lead, HasTold, IsSound}
+use Rattle.online_nodes.specs.Held.{Held}
+use Rattle.online_nodes.specs.Written.{Lead, HasTold, IsPutBack, IsSound}
 use Rattle.frac128.specs.declared.cut.Cut.{Cut}
 use Rattle.online_nodes.specs.declared.writer.Out.{Out}
 use Rattle.rational.proofs.PlaceLemmas.{
@@ -179,29 +180,31 @@ module _ (n : Subformula) (tr : Trace) where
       old : Going told.last out h
       old = going begin w h out e told
 
-  -- the other verdict, with the span before it written
-  pub turned : (begin : Place) (w : List Verdict) (h k : Bool) (v : Verdict) (out new : Out) → out.holds ≡ Some h → h ≢ k
-      → new.holds ≡ Some k → new.from ≡ out.at
-      → Same (place out.from) (begins (interval v.on)) → Same (place out.at) (ends (interval v.on)) → v.holds ≡ h
-      → HasTold n tr begin w out → Before (place out.at) (place new.at) → AllAre k (Truth n tr) (place out.at) (place new.at)
-      → HasTold n tr begin (w ++ v ∷ []) new
-  turned begin w h k v out new e d f g s r x told b a = record {
+  -- the other verdict, with the span before it put
+  pub turned : {old now : Held} {h k : Bool} {out new : Out} (begin : Place) (w : List Verdict) (put : IsPutBack old now out h)
+      → out.holds ≡ Some h → h ≢ k → new.holds ≡ Some k → new.from ≡ out.at → HasTold n tr begin w out
+      → Before (place out.at) (place new.at) → AllAre k (Truth n tr) (place out.at) (place new.at)
+      → HasTold n tr begin (w ++ put.verdict ∷ []) new
+  turned {h = h} {k = k} {out = out} {new = new} begin w put e d f g told b a = record {
     last = Some v.holds;
     lead = lead_to begin None (w ++ v ∷ []) (ends (interval v.on)) (place new.from) (Some v.holds)
-        (subst (λ c. Same (ends (interval v.on)) (place c)) (sym g) (same_places r))
-        (lead_on begin None w (place out.from) told.last v told.lead s (before_same (begins (interval v.on)) (place out.at) (ends
-        (interval v.on)) (same_before (begins (interval v.on)) (place out.from) (place out.at) (same_places s) old.0) r)
-        (λ y. old.1 (y ∙ ap Some x))
-        (subst (λ b. AllAre b (Truth n tr) (begins (interval v.on)) (ends (interval v.on))) (sym x) (told_same h (Truth n tr)
-        (place out.from) (place out.at) (begins (interval v.on)) (ends (interval v.on)) s r old.2)));
+        (subst (λ c. Same (ends (interval v.on)) (place c)) (sym g) (same_places put.end))
+        (lead_on begin None w (place out.from) told.last v told.lead put.begin (before_same (begins (interval v.on)) (place out.at) (ends
+        (interval v.on)) (same_before (begins (interval v.on)) (place out.from) (place out.at) (same_places put.begin) was.0) put.end)
+        (λ y. was.1 (y ∙ ap Some put.is))
+        (subst (λ b. AllAre b (Truth n tr) (begins (interval v.on)) (ends (interval v.on))) (sym put.is) (told_same h (Truth n tr)
+        (place out.from) (place out.at) (begins (interval v.on)) (ends (interval v.on)) put.begin put.end was.2)));
     pending = subst (λ o. MatchOption o (Same (place new.from) (place new.at) × (Some v.holds ≡ None)) (Going (Some v.holds) new))
         (sym f)
         (subst (λ c. Before (place c) (place new.at) × (Some v.holds ≢ Some k) × AllAre k (Truth n tr) (place c) (place new.at)) (sym g)
-        (b, (λ y. d (sym x ∙ some_inj v.holds k y)), a));
+        (b, (λ y. d (sym put.is ∙ some_inj v.holds k y)), a));
   }
     where
-      old : Going told.last out h
-      old = going begin w h out e told
+      v : Verdict
+      v = put.verdict
+
+      was : Going told.last out h
+      was = going begin w h out e told
 
       or_true : Option Bool → Bool
       or_true None = true

@@ -70,12 +70,11 @@ returns-clause-ended c =
                   | inr h ↦ h
                 ])
                 inside);
-            knows = knows_later (place s.out.at) (place c.in_ok-out.out.at) (place s.reach) r.read r.read x.stop
+            knows = knows_later m.knows (place c.in_ok-out.out.at)
                 (λ t a. elim (sides (place s.out.at) t) [
                   | inl h ↦ absurd (not_both (place c.in_ok-out.out.at) t (two.forward t (one.forward t h)) a)
                   | inr h ↦ h
-                ])
-                m.knows;
+                ]);
             left_tells = subst (λ f. Tells (Truth x.p x.tr) r.left f x.stop_left) (sym left_now) m.left_tells;
             right_tells = subst (λ f. Tells (Counted true x.q x.tr) r.right f x.stop_right) (sym right_now) m.right_tells;
             left_behind = m.left_behind;

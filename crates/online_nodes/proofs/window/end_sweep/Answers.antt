@@ -61,12 +61,11 @@ returns-clause-ended c =
                   | inr h ↦ h
                 ])
                 inside);
-            knows = knows_later (place s.out.at) (place c.in_ok-out.out.at) (place s.reach) read stop
+            knows = knows_later (place c.in_ok-out.out.at) m.knows
                 (λ t a. elim (sides (place s.out.at) t) [
                   | inl h ↦ absurd (not_both (place c.in_ok-out.out.at) t (two.forward t (one.forward t h)) a)
                   | inr h ↦ h
-                ])
-                m.knows;
+                ]);
             tells = m.tells;
           };
     }

@@ -175,14 +175,13 @@ returns-clause-read c =
           c.shift_begin-begin.ensures in
           let told = both.told n tr begin written m.told
           (found_part n p tr w begin written read stop s (v ∷ f.0) (place c.in_ok-found.found.at) one.no_more of m')
-          (spared_part n p tr w begin written read stop s v f.0 from (place c.in_ok-found.found.at) (place c.in_ok-out.out.at) e
-          one.forward one.reached (λ t h. subst (λ (q : Cut). Upto (place q) t) same (two.inside t h)) two.no_more of m') in (
+          (spared_part n p tr w begin written read stop m' of one two same e) in (
             ends (interval v.on),
             subst (λ l. IsSwept n p tr w begin (written ++ both.more)
                 (record { out = c.in_ok-out.out; reach = c.shift_end-reach.result }) (ends (interval v.on)) stop l)
                 (sym (left ∙ f.2))
-                (counts_now n p tr w begin written read stop s (record { out = c.in_ok-out.out; reach = c.shift_end-reach.result }) v f.0 from
-                (written ++ both.more) (sought_is v.holds w.seeks c.if-v-window.false) of e
+                (counts_now n p tr w begin written read stop (record { out = c.in_ok-out.out; reach = c.shift_end-reach.result }) from
+                (written ++ both.more) m' of (sought_is v.holds w.seeks c.if-v-window.false) e
                 (end_alike (place c.shift_end-reach.result) _ w.end_by w.end_in _ (ends (interval v.on)) (search (rules, to_z-of_z)) c.end-2.ensures
                 c.shift_end-reach.ensures)
                 (λ t a. elim (sides from t) [
@@ -193,6 +192,6 @@ returns-clause-read c =
                       (sym c.end.ensures) b)) ∙ c.if-precedes.false)) t h))) a)
                   | inr h ↦ h
                 ])
-                told m'),
+                told),
           );
     }

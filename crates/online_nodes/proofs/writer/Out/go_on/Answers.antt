@@ -77,7 +77,6 @@ returns-clause-written c =
         end = refl;
         sound = c.requires.later;
         told = λ n tr begin written told all.
-            turned n tr begin written c.in-Some.before c.args.holds p.verdict c.args.self _ c.in-Some.is
-            (other_bool _ _ c.if-before-holds.false) refl refl p.begin p.end p.is told c.requires.later all;
+            turned n tr begin written p c.in-Some.is (other_bool _ _ c.if-before-holds.false) refl refl told c.requires.later all;
       };
     }
