@@ -443,11 +443,6 @@ module _ {P : Type 0} (shape : ShapeOf P) where
       has (inl e) (inl f) = inl (e ∙ f)
       has (inl e) (inr f) = inr (inl (f ∙ ap Some (sym e)))
 
--- what holds of a good result may be weakened
-pub on_ok : {T E A B : Type 0} (r : Result T E) → (A → B) → OnOk r A → OnOk r B
-on_ok (Ok x) f a = f a
-on_ok (Err e) f a = a
-
 -- what follows from two facts about a success holds on success
 pub on_two : {T E A B C : Type 0} (r : Result T E) → (A → B → C) → OnOk r A → OnOk r B → OnOk r C
 on_two (Ok x) f a b = f a b

@@ -2,7 +2,7 @@
 use Rattle.std.proofs.Common.{◌≡◌, ◌⊎◌, inl, inr, ℕ, Option, None, Some, Result, Ok, Err, List, [], ◌∷◌, refl, sym, subst}
 use Rattle.std.specs.Prelude.{IfSome, MatchOption, OnErr}
 use Rattle.rational.specs.Time.{Rational, ◌≤ʳ◌, ◌<ʳ◌}
-use Rattle.rational.specs.Extended.{Extended, value_at, ◌≤ᵉ◌, ◌≈ᵉ◌}
+use Rattle.rational.specs.Extended.{value_at, ◌≤ᵉ◌, ◌≈ᵉ◌}
 use Rattle.rational.specs.Affine.{MeetAlone}
 use Rattle.rational.proofs.Order.{le_refl, le_trans, le_of_lt, le_of_same, ge_of_same, lt_of_le_of_lt, lt_of_lt_of_le, not_lt_of_le}
 use Rattle.rational.proofs.AffineLemmas.{same_reflᵉ, same_symᵉ, lies_between}
@@ -27,7 +27,7 @@ use Rattle.envelope.specs.Best.{Has, IsBestFault, IsCrossingOf}
 use Rattle.envelope.specs.SoFar.{EndsBefore, IsSoFarFault, IsEndFault, IsOpenFault, IsReady, IsBuiltTo, first_time}
 use Rattle.envelope.specs.Standing.{Part, Counts, IsOneOf, IsPieceOn, IsNone, IsCarried, FirstStays, NothingLeaves, GoesTo, Leaves, Stands}
 use Rattle.envelope.specs.Walking.{IsCrossingOn, IsPiecesFault, IsRefusal, IsRefusedFor, IsStoppedBy}
-use Rattle.envelope.proofs.Bests.{no_better_trans}
+use Rattle.envelope.proofs.Bests.{no_better_trans, same_of_both}
 use Rattle.envelope.proofs.TurnOrder.{to_come_before}
 use Rattle.envelope.proofs.Standings.{none_below}
 
@@ -40,16 +40,6 @@ if_some (Some x) B C f h = f x h
 pub on_err : {T E A B : Type 0} (r : Result T E) → (A → B) → OnErr r A → OnErr r B
 on_err (Ok x) f a = a
 on_err (Err e) f a = f a
-
--- what holds holds of a failure
-pub err_any : {T E A : Type 0} (r : Result T E) → A → OnErr r A
-err_any (Ok x) a = tt
-err_any (Err e) a = a
-
--- no better each way is the same
-same_of : (side : Side) (v w : Extended) → IsNoBetter side v w → IsNoBetter side w v → v ≈ᵉ w
-same_of Greatest v w h k = record { at_most = h; at_least = k }
-same_of Least v w h k = record { at_most = k; at_least = h }
 
 module _ {P : Type 0} (shape : ShapeOf P) (laws : ShapeLaws shape) (side : Side) where
   -- between two times a function does not fall below its worse end
@@ -73,7 +63,7 @@ module _ {P : Type 0} (shape : ShapeOf P) (laws : ShapeLaws shape) (side : Side)
     where
       touch : (u : Rational) → IsNoBetter side (value_at (shape.function q) u) (value_at (shape.function q) t)
           → value_at (shape.function p) u ≈ᵉ value_at (shape.function q) u
-      touch u h = same_of side (value_at (shape.function p) u) (value_at (shape.function q) u)
+      touch u h = same_of_both side (value_at (shape.function p) u) (value_at (shape.function q) u)
           (no_better_trans side (value_at (shape.function p) u) (none_of side shape.lowest shape.highest) (value_at (shape.function q) u)
           (none.value u) (none_below shape laws side q u))
           (no_better_trans side (value_at (shape.function q) u) (value_at (shape.function q) t) (value_at (shape.function p) u) h

@@ -1,12 +1,12 @@
 -- A gap that the first constant of a walk hides.
-use Rattle.std.proofs.Common.{arith, ◌≡◌, ◌↔◌, inl, inr, List, [], ◌∷◌, ◌<◌, length, refl, sym, ap, ◌∙◌, subst, pos as pos_ℤ}
+use Rattle.std.proofs.Common.{arith, ◌≡◌, ◌↔◌, inl, List, [], ◌∷◌, ◌<◌, length, refl, sym, ap, ◌∙◌, subst, pos as pos_ℤ}
 use Rattle.std.proofs.Common.{Less, Greater}
 use Rattle.std.specs.Prelude.{slice_index_or}
 use Rattle.rational.specs.Rational.{whole}
 use Rattle.rational.specs.Time.{Rational, ◌≤ʳ◌, ◌<ʳ◌}
 use Rattle.rational.specs.Extended.{Extended, Affine, value_at}
 use Rattle.rational.proofs.ExtendedLemmas.{clashᵉ}
-use Rattle.rational.proofs.Order.{le_of_lt, ge_of_same}
+use Rattle.rational.proofs.Order.{le_of_lt}
 use Rattle.frac128.specs.Value.{value}
 use Rattle.value_laws.specs.Members.{ShapeOf}
 use Rattle.pl_signal.specs.declared.joining.Side.{Side}
@@ -19,12 +19,7 @@ use Rattle.envelope.specs.Turns.{HasCome, IsToCome, IsNoBetter, IsTrendFor, Gets
 use Rattle.envelope.specs.Standing.{Part, Counts, IsOneOf, Stands}
 use Rattle.envelope.specs.Walking.{Hides, IsUnder}
 use Rattle.envelope.proofs.Bests.{no_better_trans}
-use Rattle.envelope.proofs.TurnOrder.{at_of_come, to_come_before}
-
--- what is to come lies no earlier
-at_most_to_come : (turn : Turn) (t : Rational) → IsToCome turn t → t ≤ʳ value turn.at
-at_most_to_come turn t (inl h) = le_of_lt h
-at_most_to_come turn t (inr h) = ge_of_same h.0
+use Rattle.envelope.proofs.TurnOrder.{at_of_come, to_come_before, at_most_to_come}
 
 module _ {P : Type 0} (shape : ShapeOf P) (walk : Walk P) (until : Turn) (gap : P) (first : Item P) (rest : List (Item P))
     (is : walk.queue.items ≡ first ∷ rest) (stays : IsToCome first.until (value until.at))

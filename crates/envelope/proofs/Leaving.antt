@@ -3,6 +3,7 @@ use Rattle.std.proofs.Common.{◌≡◌, ℕ, ◌+◌, ◌<◌, ◌≤◌, Bool,
 use Rattle.std.proofs.Common.{Ok, Err, List, [], ◌∷◌, length, refl, sym, ap, ◌∙◌, subst, arith}
 use Rattle.std.specs.Prelude.{MatchOption, OnOk, is_some, slice_index_or}
 use Rattle.std.proofs.lemmas.Bool.{false≢true}
+use Rattle.std.proofs.lemmas.Option.{same_Some}
 use Rattle.rational.specs.Time.{Rational, ◌≤ʳ◌}
 use Rattle.rational.proofs.Order.{le_trans}
 use Rattle.frac128.specs.Value.{value}
@@ -24,9 +25,6 @@ low_turns_few : {P : Type 0} (o : Option P) → low_turns o ≤ 1
 low_turns_few None = omega arith
 low_turns_few (Some p) = omega arith
 
-some_turn : {a b : Turn} → Some a ≡ Some b → a ≡ b
-some_turn e = cc
-
 module _ {P : Type 0} (shape : ShapeOf P) where
   -- the gap under the low end
   pub passes_out : (old new : SoFar P) (low_until : Turn) (items : List (Item P)) (p : P) → old.after.low ≡ Some p
@@ -45,7 +43,7 @@ module _ {P : Type 0} (shape : ShapeOf P) where
   }
     where
       is : (turn : Turn) → leaving_by old.after.low low_until items ≡ Some turn → low_until ≡ turn
-      is turn e = some_turn (subst (λ o. leaving_by o low_until items ≡ Some turn) low e)
+      is turn e = same_Some _ _ (subst (λ o. leaving_by o low_until items ≡ Some turn) low e)
 
       fewer : (n : ℕ) → 0 + (n + n) < 1 + (n + n)
       fewer n = omega arith
@@ -69,7 +67,7 @@ module _ {P : Type 0} (shape : ShapeOf P) where
   }
     where
       is : (turn : Turn) → leaving_by old.after.low low_until (first ∷ items) ≡ Some turn → first.until ≡ turn
-      is turn e = some_turn (subst (λ o. leaving_by o low_until (first ∷ items) ≡ Some turn) none e)
+      is turn e = same_Some _ _ (subst (λ o. leaving_by o low_until (first ∷ items) ≡ Some turn) none e)
 
       fewer : (k : ℕ) → k ≤ 1 → k + (length items + length items) < 0 + (length (first ∷ items) + length (first ∷ items))
       fewer k h = omega arith
@@ -139,16 +137,16 @@ pub nothing_of : {P : Type 0} (low : Option P) (low_until turn : Turn) (items : 
     → leaving_by low low_until items ≡ Some turn → IsToCome turn t → MatchOption low (FirstStays items t)
     (λ _. IsToCome low_until t)
 nothing_of None low_until turn [] t e h = tt
-nothing_of None low_until turn (item ∷ items) t e h = subst (λ u. IsToCome u t) (sym (some_turn e)) h
-nothing_of (Some p) low_until turn items t e h = subst (λ u. IsToCome u t) (sym (some_turn e)) h
+nothing_of None low_until turn (item ∷ items) t e h = subst (λ u. IsToCome u t) (sym (same_Some _ _ e)) h
+nothing_of (Some p) low_until turn items t e h = subst (λ u. IsToCome u t) (sym (same_Some _ _ e)) h
 
 -- and what leaves leaves then
 pub something_of : {P : Type 0} (low : Option P) (low_until turn : Turn) (items : List (Item P)) (t : Rational)
     → leaving_by low low_until items ≡ Some turn → MatchOption low (FirstHasCome items t) (λ _. HasCome low_until t)
     → HasCome turn t
 something_of None low_until turn [] t e h = absurd h
-something_of None low_until turn (item ∷ items) t e h = subst (λ u. HasCome u t) (some_turn e) h
-something_of (Some p) low_until turn items t e h = subst (λ u. HasCome u t) (some_turn e) h
+something_of None low_until turn (item ∷ items) t e h = subst (λ u. HasCome u t) (same_Some _ _ e) h
+something_of (Some p) low_until turn items t e h = subst (λ u. HasCome u t) (same_Some _ _ e) h
 
 -- where nothing is to leave, nothing leaves by any time
 pub nothing_left : {P : Type 0} (low : Option P) (low_until : Turn) (items : List (Item P)) (t : Rational)

@@ -1,8 +1,8 @@
 -- A walk that has taken a piece can go on, and stands at its turn.
-use Rattle.std.proofs.Common.{◌≡◌, inl, inr, Some, List, [], ◌∷◌, ◌++◌, refl, sym, ap, ◌∙◌, subst}
+use Rattle.std.proofs.Common.{◌≡◌, Some, List, [], ◌∷◌, ◌++◌, refl, sym, ap, ◌∙◌, subst}
 use Rattle.rational.specs.Time.{Rational, ◌≤ʳ◌}
 use Rattle.rational.specs.Extended.{value_at}
-use Rattle.rational.proofs.Order.{le_trans, le_of_lt, ge_of_same}
+use Rattle.rational.proofs.Order.{le_trans}
 use Rattle.frac128.specs.Value.{value}
 use Rattle.value_laws.specs.Members.{ShapeOf, ShapeLaws}
 use Rattle.envelope.specs.declared.best.Best.{Best}
@@ -13,14 +13,9 @@ use Rattle.envelope.specs.Turns.{IsToCome, IsNoBetter}
 use Rattle.envelope.specs.SoFar.{Turns}
 use Rattle.envelope.specs.Standing.{FirstStays, Follows, AllFollow, EachFollowed, EachToCome, IsFollowed, AreItems, IsFalling}
 use Rattle.envelope.specs.Standing.{AllWorse, IsNewItem, RisesTo, Leaves, Admits, Stands, pieces_with}
-use Rattle.envelope.proofs.TurnOrder.{to_come_first}
+use Rattle.envelope.proofs.TurnOrder.{to_come_first, at_most_to_come}
 use Rattle.envelope.proofs.Standings.{first_stays, low_stays}
 use Rattle.envelope.proofs.Admitted.{admitted_first, admitted_behind}
-
--- what is to come lies no earlier
-pub at_most_to_come : (turn : Turn) (t : Rational) → IsToCome turn t → t ≤ʳ value turn.at
-at_most_to_come turn t (inl h) = le_of_lt h
-at_most_to_come turn t (inr h) = ge_of_same h.0
 
 module _ {P : Type 0} where
   rest_to_come : (first : Item P) (items : List (Item P)) (t : Rational) → AllFollow first items → IsToCome first.until t → EachToCome items t

@@ -19,6 +19,11 @@ pub come_same : (a b : Turn) → value a.at ≈ value b.at → (b.just_after ≡
 come_same a b same at t (inl h) = inl (lt_of_le_of_lt (le_of_same same) h)
 come_same a b same at t (inr h) = inr (same_trans same h.0, at h.1)
 
+-- what is to come lies no earlier
+pub at_most_to_come : (turn : Turn) (t : Rational) → IsToCome turn t → t ≤ʳ value turn.at
+at_most_to_come turn t (inl h) = le_of_lt h
+at_most_to_come turn t (inr h) = ge_of_same h.0
+
 -- a turn has come, or is to come, and not both
 pub come_or_not : (turn : Turn) (t : Rational) → HasCome turn t ⊎ IsToCome turn t
 come_or_not turn t = by_order (lt_or_same_or_gt (value turn.at) t)

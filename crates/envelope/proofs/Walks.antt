@@ -1,6 +1,7 @@
 -- How the calls of a walk change which pieces it stands for.
 use Rattle.std.proofs.Common.{◌≡◌, inl, inr, ◌^◌, Option, None, Some, Result, Ok, Err, List, [], ◌∷◌, false, refl, sym, ap, ◌∙◌, subst}
-use Rattle.std.specs.Prelude.{IfErr, IfOk, IfSome, MatchOption}
+use Rattle.std.specs.Prelude.{IfErr, IfSome, MatchOption}
+use Rattle.std.proofs.lemmas.Option.{same_Some}
 use Rattle.rational.specs.Rational.{IsWithin}
 use Rattle.rational.specs.Time.{Rational, ◌≤ʳ◌, ◌<ʳ◌, ◌≈◌}
 use Rattle.rational.specs.Extended.{Extended, value_at, Passes, ◌≈ᵉ◌}
@@ -16,7 +17,7 @@ use Rattle.pl_signal.specs.declared.faults.WidePair.{WidePair}
 use Rattle.pl_signal.specs.declared.faults.OpFault.{OpFault}
 use Rattle.pl_signal.specs.declared.faults.WidePair.TheVariants.{Cross, Value}
 use Rattle.pl_signal.specs.Knots.{start as start_of, stop, HasShape, IsSignal, IsWorth}
-use Rattle.pl_signal.proofs.Values.{some_is, worth_within}
+use Rattle.pl_signal.proofs.Values.{worth_within}
 use Rattle.envelope.specs.declared.best.Best.{Best}
 use Rattle.envelope.specs.declared.turns.Turn.{Turn}
 use Rattle.envelope.specs.declared.so_far.SoFar.{SoFar}
@@ -32,11 +33,11 @@ use Rattle.envelope.specs.Standing.{SlopeEndsBy, Stands, piece_of, pieces_with, 
 use Rattle.envelope.specs.Walking.{CanTake, Climbed, EachEnds, EachLeavesBy, EndsWalk, Finishes}
 use Rattle.envelope.specs.Walking.{IsPiecesFault, IsRefusal, IsRefusedFor, IsStoppedBy, LeavesBy}
 use Rattle.envelope.specs.Walking.{HasTaken, TurnsHigh, Walks, climbed_until, climbing, last_turn}
-use Rattle.envelope.proofs.TurnOrder.{at_most_of_come}
+use Rattle.envelope.proofs.TurnOrder.{at_most_of_come, at_most_to_come}
 use Rattle.envelope.proofs.Bests.{no_better_back, no_better_same, same_of_both}
 use Rattle.envelope.proofs.Standings.{first_stays, low_stays}
 use Rattle.envelope.proofs.Sliding.{none_bounded}
-use Rattle.envelope.proofs.Taking.{at_most_to_come, each_to_come}
+use Rattle.envelope.proofs.Taking.{each_to_come}
 use Rattle.envelope.proofs.Climbing.{climb_stands, end_stands}
 use Rattle.envelope.proofs.Faulting.{if_some, nothing_sooner, refusal_tells}
 
@@ -275,7 +276,7 @@ module _ {P : Type 0} (shape : ShapeOf P) where
   }
     where
       same : h.ended.built ≡ r
-      same = some_is (sym h.ended.is ∙ is)
+      same = same_Some _ _ (sym h.ended.is ∙ is)
 
       s : Stands shape side turn (value turn.at) parts h.mid new.low_until new.queue.items
       s = subst (λ side. Stands shape side turn (value turn.at) parts h.mid new.low_until new.queue.items) w.of_side
@@ -374,11 +375,6 @@ module _ {P : Type 0} (shape : ShapeOf P) (laws : ShapeLaws shape) (side : Side)
       by_part p (inr (inl m)) = subst (λ q. IsNone shape side q) (sym (only_none p (subst (λ b. Has b p) before m))) no_value
       by_part p (inr (inr (inl m))) = subst (λ q. IsNone shape side q) (sym (m ∙ point)) no_value
       by_part p (inr (inr (inr m))) = subst (λ q. IsNone shape side q) (sym (only_none p (subst (λ b. Has b p) after m))) no_value
-
--- a fact on a good result, or on a failure, may be weakened
-pub if_ok : {T E : Type 0} (r : Result T E) (A B : T → Type 0) → ((x : T) → A x → B x) → IfOk r A → IfOk r B
-if_ok (Ok x) A B f a = f x a
-if_ok (Err e) A B f a = tt
 
 -- what follows for each refusal follows for the one that came
 pub if_err : {T E : Type 0} (r : Result T E) (A B : E → Type 0) → ((x : E) → A x → B x) → IfErr r A → IfErr r B

@@ -1,15 +1,14 @@
 -- How the queue of a moving range changes.
-use Rattle.std.proofs.Common.{subst, take, ◌-◌, ◌∙◌, ◌≡◌, ℕ, suc, ◌+◌, ◌<◌, ◌≤◌, ◌⊎◌, inl, inr, Bool, true}
-use Rattle.std.proofs.Common.{false, List, [], ◌∷◌, ◌++◌, refl, sym, ap, arith, length, if◌then◌else◌}
-use Rattle.std.specs.Prelude.{nat_lt, slice_get, Some, All, slice_index_or}
+use Rattle.std.proofs.Common.{subst, ◌∙◌, ◌≡◌, ℕ, suc, ◌+◌, ◌<◌, ◌≤◌, ◌⊎◌, inl, inr, Bool, true}
+use Rattle.std.proofs.Common.{false, List, [], ◌∷◌, ◌++◌, refl, sym, ap, arith, if◌then◌else◌}
+use Rattle.std.specs.Prelude.{nat_lt, slice_get, Some, All}
 use Rattle.std.proofs.lemmas.List.Elements.{All-nil, All-cons}
 use Rattle.rational.specs.Extended.{Extended, Affine, ◌≤ᵉ◌}
-use Rattle.std.proofs.Math.Seq.{take-length}
-use Rattle.std.proofs.lemmas.List.{take_more}
 use Rattle.rational.proofs.ExtendedLemmas.{le_transᵉ, le_reflᵉ, le_of_ltᵉ}
 use Rattle.rational.specs.Affine.{IsOrderᵉ}
 use Rattle.std.specs.declared.cmp.Ordering.{Ordering}
 use Rattle.std.proofs.Common.{Less, Equal, Greater}
+use Rattle.std.proofs.lemmas.Option.{same_Some}
 use Rattle.window_extrema.specs.Range.{IsAtMost, IsGreatestOf}
 use Rattle.window_extrema.specs.Stairs.{AreStairs, AreStairsTo, from_place}
 
@@ -18,10 +17,6 @@ pub at_most_where_not_less : (o : Ordering) (v w : Extended) → IsOrderᵉ o v 
 at_most_where_not_less Less v w h n = absurd (n refl)
 at_most_where_not_less Equal v w h n = h.at_least
 at_most_where_not_less Greater v w h n = le_of_ltᵉ w v h
-
--- two options that are the same hold the same item
-pub some_same : {P : Type 0} {x y : P} → Some x ≡ Some y → x ≡ y
-some_same h = grind (arith, h)
 
 -- a greatest of a range is one of the range's end that it lies in
 narrower : {P : Type 0} (function : P → Affine) (items : List P) {low lo high i : ℕ} → low ≤ lo → lo ≤ i
@@ -94,15 +89,10 @@ alone {P = P} function items place low l h = record {
 
     by_place : (j : ℕ) (x y : P) → low ≤ j → slice_get items j ≡ Some x → slice_get items place ≡ Some y → (j < place) ⊎ (j ≡ place) → IsAtMost function x y
     by_place j x y from u v (inl below) = h j x y from below u v
-    by_place j x y from u v (inr e) = same x y (some_same (sym u ∙ ap (λ j. slice_get items j) e ∙ v))
+    by_place j x y from u v (inr e) = same x y (same_Some _ _ (sym u ∙ ap (λ j. slice_get items j) e ∙ v))
 
 after : (place : ℕ) → suc place ≡ place + 1
 after place = omega arith
-
--- a list without items is the empty one
-pub empty_list : (xs : List ℕ) → length xs ≡ 0 → xs ≡ []
-empty_list [] h = refl
-empty_list (x ∷ xs) h = absurd (omega (arith, h))
 
 -- where no place is left, the new one stands alone
 pub with_first : {P : Type 0} (function : P → Affine) (items : List P) (place low : ℕ) → low ≤ place
@@ -118,7 +108,7 @@ come_last {P = P} function items place low last [] x u le h =
     (grown function items h.0 new, (alone function items place (suc last) (omega (arith, h.0.below)) h.1, omega arith))
   where
     new : (y z : P) → slice_get items place ≡ Some y → slice_get items last ≡ Some z → IsAtMost function y z
-    new y z p q = subst (λ z. IsAtMost function y z) (some_same (sym u ∙ q)) (le y p)
+    new y z p q = subst (λ z. IsAtMost function y z) (same_Some _ _ (sym u ∙ q)) (le y p)
 come_last {P = P} function items place low last (i ∷ queue) x u le h =
     let m : (suc i ≤ last) × (last < place) = last_within function items place (suc i) place last queue h.1 in
     (grown function items h.0 (new m), come_last function items place (suc i) last queue x u le h.1)
@@ -143,11 +133,3 @@ later {P = P} function items low lo high (i ∷ queue) l m h = by_test (nat_lt i
         → AreStairs function items lo high (if b then from_place lo queue else i ∷ queue)
     by_test true e rest = rest (grind (arith, e))
     by_test false e rest = (narrower function items l (grind (arith, e)) h.0, h.1)
-
--- a list without its last item, and that item
-pub last_apart : (xs : List ℕ) (n x : ℕ) → n ≡ length xs → 0 < n → x ≡ slice_index_or xs (n - 1) x → xs ≡ take (n - 1) xs ++ x ∷ []
-last_apart xs n x e some at =
-    let back : n - 1 + 1 ≡ length xs = omega (arith, e, some) in
-    let all : take (n - 1 + 1) xs ≡ xs = ap (λ m. take m xs) back ∙ take-length xs in
-    let more : take (n - 1 + 1) xs ≡ take (n - 1) xs ++ slice_index_or xs (n - 1) x ∷ [] = take_more xs (n - 1) x (omega (arith, e, some)) in
-    sym all ∙ more ∙ ap (λ y. take (n - 1) xs ++ y ∷ []) (sym at)

@@ -8,7 +8,7 @@ use Rattle.rational.specs.Extended.{Affine}
 use Rattle.rational.specs.Windows.{Behind}
 use Rattle.rational.specs.InPlay.{IsEndBehind, IsInPlay, IsLeftLimit, IsRightLimit, window_behind}
 use Rattle.rational.proofs.Order.{le_of_lt, le_of_same, ge_of_same, le_trans, lt_of_le_of_lt, lt_of_lt_of_le, not_lt_of_le, same_refl, same_trans}
-use Rattle.rational.proofs.Shift.{lt_whole, same_shift}
+use Rattle.rational.proofs.Shift.{lt_whole, same_shift, shift_forth}
 use Rattle.rational.proofs.TimeLemmas.{precedes_of_lt, shifted-add}
 use Rattle.frac128.specs.Value.{value}
 use Rattle.value_laws.specs.Members.{ShapeOf}
@@ -27,7 +27,7 @@ use Rattle.pl_signal.specs.Moves.{Tells}
 use Rattle.pl_signal.specs.declared.joining.Side.TheVariants.{Least, Greatest}
 use Rattle.rational.proofs.WindowLemmas.{inf_over_alike, sup_over_alike}
 use Rattle.window_ops.proofs.AheadOver.{crossing_of, shifted_pos, tells_alike, value_of}
-use Rattle.window_ops.proofs.Ends.{le_shifted, le_shifted_back, lt_shifted, lt_shifted_back, shift_forth}
+use Rattle.window_ops.proofs.Ends.{le_shifted, le_shifted_back, lt_shifted, lt_shifted_back}
 
 -- the offset of the far bound, or one beyond any domain
 abbrev pub reach_of : Option ℕ → ℤ

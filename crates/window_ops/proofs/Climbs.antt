@@ -10,8 +10,9 @@ use Rattle.rational.specs.InPlay.{HasTime}
 use Rattle.rational.proofs.Order.{le_refl, le_of_lt, le_trans, lt_of_le_of_lt, lt_of_lt_of_le}
 use Rattle.rational.proofs.Order.{lt_trans, lt_or_same_or_gt, not_lt_of_le, same_of_le, same_refl, same_sym}
 use Rattle.rational.proofs.LimitLemmas.{later_end}
-use Rattle.rational.proofs.TimeLemmas.{precedes_le, shifted-add}
+use Rattle.rational.proofs.TimeLemmas.{precedes_le, shifted-add, lt_offsets}
 use Rattle.rational.proofs.AffineLemmas.{bounded_same, same_symᵉ, same_transᵉ, value_same}
+use Rattle.rational.proofs.Shift.{shift_forth}
 use Rattle.frac128.specs.Value.{value}
 use Rattle.value_laws.specs.Members.{ShapeOf, ShapeLaws}
 use Rattle.pl_signal.specs.declared.knot.Knot.{Knot}
@@ -32,9 +33,8 @@ use Rattle.window_ops.specs.Over.{IsCauseOver, Over}
 use Rattle.window_ops.specs.Going.{HasClimbed, InDomain, IsClamped, IsFair, IsNonEmpty, IsStopped, IsWay, ReachesAt, StandsAt, turn_of}
 use Rattle.window_ops.proofs.Counting.{clamped_come, clamped_high, come_clamped, goes_later, refused_of, way_order}
 use Rattle.window_ops.proofs.Covering.{came_gap, come_next, covers_worse, strictly_come, strictly_to_come}
-use Rattle.window_ops.proofs.Ends.{shift_forth, to_come_alike}
+use Rattle.window_ops.proofs.Ends.{to_come_alike}
 use Rattle.window_ops.proofs.Reaching.{end_in_play, reach_gap, time_under}
-use Rattle.window_ops.proofs.Spans.{lt_offsets}
 use Rattle.window_ops.proofs.Values.{reaches_same, reaches_value}
 
 -- a turn that lies no later than just after the stop, and is the turn up to there

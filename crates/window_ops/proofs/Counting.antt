@@ -34,11 +34,6 @@ use Rattle.window_ops.specs.Going.{IsOn, IsPiece, IsSlopeOf, IsValueOf, IsWay, O
 use Rattle.window_ops.proofs.Ends.{come_at}
 use Rattle.window_ops.proofs.Values.{reaches_same}
 
--- what is to come lies no earlier
-pub at_most_to_come : (turn : Turn) (t : Rational) → IsToCome turn t → t ≤ʳ value turn.at
-at_most_to_come turn t (inl h) = le_of_lt h
-at_most_to_come turn t (inr h) = ge_of_same h.0
-
 -- a turn that lies no earlier than the start, and is the turn from there on
 module _ (way : Way) (from clamped : Turn) where
   -- a turn that was clamped comes no earlier than the start of the domain

@@ -2,18 +2,19 @@
 use Rattle.std.proofs.Common.{arith, ◌≡◌, ◌⊎◌, inl, inr, ℕ, ◌+◌, ◌-◌, ◌<◌, List, Bool, true, false, None, Some, not, refl, sym, ◌∙◌, subst}
 use Rattle.std.specs.Prelude.{slice_get}
 use Rattle.std.proofs.lemmas.Bool.{false≢true}
+use Rattle.std.proofs.lemmas.Option.{same_Some}
 use Rattle.rational.specs.Time.{Rational, Precedes, shifted, ◌≤ʳ◌, ◌<ʳ◌, ◌≈◌}
 use Rattle.rational.specs.Extended.{Affine, Extended, value_at, ◌≈ᵉ◌}
 use Rattle.rational.proofs.Order.{le_of_lt, le_of_same, ge_of_same, le_or_lt}
 use Rattle.rational.proofs.Order.{lt_of_le_of_lt, lt_of_lt_of_le, lt_or_same_or_gt, not_lt_of_le, same_sym}
-use Rattle.rational.proofs.TimeLemmas.{precedes_before, precedes_after, precedes_le}
+use Rattle.rational.proofs.TimeLemmas.{precedes_before, precedes_after, precedes_le, lt_offsets}
 use Rattle.rational.proofs.AffineLemmas.{same_symᵉ, same_transᵉ, value_same}
 use Rattle.frac128.specs.Value.{value}
 use Rattle.frac128.specs.declared.frac.Frac.{Frac}
 use Rattle.value_laws.specs.Members.{ShapeOf, ShapeLaws}
 use Rattle.pl_signal.specs.declared.knot.Knot.{Knot}
 use Rattle.pl_signal.specs.Knots.{time, IsWorth, start, stop}
-use Rattle.pl_signal.proofs.Values.{next_rises, one_value, shape_at, some_is, worth_at, worth_between}
+use Rattle.pl_signal.proofs.Values.{next_rises, one_value, shape_at, worth_at, worth_between}
 use Rattle.pl_signal.proofs.Limits.{point_bounded}
 use Rattle.envelope.specs.declared.turns.Turn.{Turn}
 use Rattle.envelope.specs.declared.walk.Walk.{Walk}
@@ -29,7 +30,7 @@ use Rattle.window_ops.proofs.Counting.{goes_later, within_domain}
 use Rattle.window_ops.proofs.Ends.{come_at, to_come_alike}
 use Rattle.window_ops.proofs.Reaching.{come_precedes, knot_in, point_in_play}
 use Rattle.window_ops.proofs.Reaching.{reach_point, to_come_precedes}
-use Rattle.window_ops.proofs.Spans.{Span, lt_offsets}
+use Rattle.window_ops.proofs.Spans.{Span}
 
 -- a turn just after a time has not come before the one at it
 come_sooner : (k : Frac) (b : Bool) (u : Rational) → HasCome (turn_of k b) u → HasCome (turn_of k false) u
@@ -266,7 +267,7 @@ module _ {P : Type 0} (shape : ShapeOf P) (laws : ShapeLaws shape) (knots : List
       goes = goes_later shape laws knots way is_way high low (turn_of n.time false) (turn_of n.time false) parts' new h l goes;
       covered = λ t u v d over sooner worth. inl (by_order t u v d over (strictly_to_come n.time u sooner) worth (lt_or_same_or_gt (time k) u));
       limit = λ t u j p is at e d over below. subst (λ (q : Knot P). IsCovered shape knots way parts' t (value_at (shape.function q.after) u))
-          (some_is (sym here ∙ subst (λ x. slice_get knots x ≡ Some p) (same_place j is) at))
+          (same_Some _ _ (sym here ∙ subst (λ x. slice_get knots x ≡ Some p) (same_place j is) at))
           (inner t u d over (le_of_lt (lt_of_lt_of_le rises (ge_of_same e))) (le_of_same e)
           (lt_of_lt_of_le (lt_of_lt_of_le rises (ge_of_same e)) (high_in_window t u over)) (lt_of_lt_of_le below (le_of_same e)));
     }

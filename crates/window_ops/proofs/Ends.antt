@@ -1,30 +1,17 @@
 -- Turns at which an end of the window comes to a time, by that end.
 use Rattle.std.proofs.Common.{◌≡◌, ◌⊎◌, inl, inr, ℤ, false, refl, sym, ◌∙◌}
 use Rattle.std.specs.Prelude.{neg_ℤ, ◌↔◌}
-use Rattle.std.specs.declared.cmp.Ordering.{Ordering}
-use Rattle.std.specs.declared.cmp.Ordering.TheVariants.{Less, Equal, Greater}
-use Rattle.rational.specs.Rational.{IsOrder, add, whole}
+use Rattle.rational.specs.Rational.{add, whole}
 use Rattle.rational.specs.Time.{Rational, ◌≤ʳ◌, ◌<ʳ◌, ◌≈◌, shifted}
-use Rattle.rational.proofs.Order.{le_of_lt, le_of_same, ge_of_same, le_trans, lt_of_le_of_lt, lt_of_lt_of_le}
+use Rattle.rational.proofs.Order.{le_of_same, ge_of_same, le_trans, lt_of_le_of_lt, lt_of_lt_of_le}
 use Rattle.rational.proofs.Order.{same_of_le, same_trans, lt_or_same_or_gt, not_lt_of_le}
-use Rattle.rational.proofs.Shift.{le_shift, le_shift_cancel, lt_shift, lt_shift_cancel, same_shift, shift_back}
+use Rattle.rational.proofs.Shift.{le_shift, le_shift_cancel, lt_shift, lt_shift_cancel, same_shift, shift_forth}
 use Rattle.rational.proofs.TimeLemmas.{shifted-add}
 use Rattle.frac128.specs.Value.{value}
 use Rattle.frac128.specs.declared.frac.Frac.{Frac}
 use Rattle.envelope.specs.declared.turns.Turn.{Turn}
 use Rattle.envelope.specs.Turns.{HasCome, IsToCome}
 use Rattle.envelope.proofs.TurnOrder.{not_both, come_or_not}
-
--- what is not earlier lies no earlier
-pub not_before : (o : Ordering) {a b : Rational} → IsOrder o a b → ¬ (o ≡ Less) → b ≤ʳ a
-not_before Less h n = absurd (n refl)
-not_before Equal h n = ge_of_same h
-not_before Greater h n = le_of_lt h
-
--- a time moved there and back is itself
-pub shift_forth : (a : Rational) (k : ℤ) → add (add a (whole (neg_ℤ k))) (whole k) ≈ a
-shift_forth a k = same_of_le (le_shift_cancel (neg_ℤ k) (le_of_same (shift_back (add a (whole (neg_ℤ k))) k)))
-    (le_shift_cancel (neg_ℤ k) (ge_of_same (shift_back (add a (whole (neg_ℤ k))) k)))
 
 -- moved times keep their order
 pub lt_shifted : {t u : Rational} (k : ℤ) → t <ʳ u → shifted t k <ʳ shifted u k

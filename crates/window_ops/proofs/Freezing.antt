@@ -13,7 +13,7 @@ use Rattle.rational.proofs.Lines.{at_constant}
 use Rattle.rational.proofs.LimitLemmas.{earlier_end, later_end}
 use Rattle.rational.proofs.Order.{le_of_lt, le_of_same, ge_of_same, le_trans, lt_of_le_of_lt, lt_of_lt_of_le}
 use Rattle.rational.proofs.Order.{lt_trans, not_lt_of_le, same_sym, same_trans, left_of_middle, right_of_middle}
-use Rattle.rational.proofs.Shift.{le_shift, shift_back}
+use Rattle.rational.proofs.Shift.{le_shift, shift_back, shift_forth}
 use Rattle.rational.proofs.TimeLemmas.{shifted-add, later_of}
 use Rattle.rational.proofs.AffineLemmas.{bounded_same, finite_same, same_symᵉ, same_transᵉ, value_same}
 use Rattle.frac128.specs.Value.{value}
@@ -28,7 +28,7 @@ use Rattle.window_ops.specs.declared.offsets.Way.{Way}
 use Rattle.window_ops.specs.declared.counted.Piece.{Piece}
 use Rattle.window_ops.specs.Over.{IsCauseOver}
 use Rattle.window_ops.specs.Going.{IsBeforeEnd, IsOn, IsPiece, IsValueOf, IsWay}
-use Rattle.window_ops.proofs.Ends.{le_shifted_back, shift_forth}
+use Rattle.window_ops.proofs.Ends.{le_shifted_back}
 
 -- a base may be moved by an offset
 pub room : (base by : ℤ) → (neg_ℤ (pos (2 ^ 32)) ≤ℤ base) × (base ≤ℤ pos (2 ^ 33)) → neg_ℤ (pos (2 ^ 32)) ≤ℤ by → by ≤ℤ pos (2 ^ 32)

@@ -10,8 +10,8 @@ use Rattle.rational.specs.Affine.{IsBounded, IsSteady, HasBoundedLevel}
 use Rattle.rational.proofs.Order.{le_refl, le_of_lt, le_of_same, ge_of_same, le_or_lt, le_trans, lt_of_le_of_lt}
 use Rattle.rational.proofs.Order.{lt_of_lt_of_le, lt_trans, lt_or_same_or_gt, not_lt_of_le, same_of_le, same_refl, same_sym}
 use Rattle.rational.proofs.LimitLemmas.{earlier_end, later_end}
-use Rattle.rational.proofs.Shift.{le_shift, shift_back}
-use Rattle.rational.proofs.TimeLemmas.{shifted-add}
+use Rattle.rational.proofs.Shift.{le_shift, shift_back, shift_forth}
+use Rattle.rational.proofs.TimeLemmas.{shifted-add, lt_offsets}
 use Rattle.rational.proofs.AffineLemmas.{bounded_same, same_symᵉ, same_transᵉ, value_same}
 use Rattle.frac128.specs.Value.{value}
 use Rattle.frac128.specs.declared.frac.Frac.{Frac}
@@ -25,18 +25,18 @@ use Rattle.envelope.specs.declared.walk.Slope.{Slope}
 use Rattle.envelope.specs.declared.walk.Walk.{Walk}
 use Rattle.envelope.specs.Turns.{HasCome, IsToCome, none_of}
 use Rattle.envelope.specs.Standing.{Part}
-use Rattle.envelope.proofs.TurnOrder.{at_of_come}
+use Rattle.envelope.proofs.TurnOrder.{at_of_come, at_most_to_come}
 use Rattle.envelope.proofs.Bests.{no_better_same, no_better_trans}
 use Rattle.window_ops.specs.declared.offsets.Way.{Way}
 use Rattle.window_ops.specs.Over.{InPlay, Over}
 use Rattle.window_ops.specs.Going.{CanCount, GetsBetter, GetsWorse, HasClimbed, HasCounted, HasSlope, InDomain, IsCovered}
 use Rattle.window_ops.specs.Going.{IsLowEnd, IsPiece, IsSlopeFrom, IsSlopeOf, IsWay, OffersSlope, ReachesAt, StandsAt, turn_of}
-use Rattle.window_ops.proofs.Counting.{at_most_to_come, goes_later, within_domain}
+use Rattle.window_ops.proofs.Counting.{goes_later, within_domain}
 use Rattle.window_ops.proofs.Covering.{came_gap, come_next, covers_by, covers_more, covers_worse, high_in_window, low_in_window}
 use Rattle.window_ops.proofs.Covering.{precedes_to_come, strictly_come, strictly_to_come}
-use Rattle.window_ops.proofs.Ends.{come_at, le_shifted, le_shifted_back, lt_shifted, shift_forth, to_come_alike}
+use Rattle.window_ops.proofs.Ends.{come_at, le_shifted, le_shifted_back, lt_shifted, to_come_alike}
 use Rattle.window_ops.proofs.Reaching.{end_in_play, knot_in, later_than_both, left_in_play, reach_gap, right_in_play, steady_in_play, time_under}
-use Rattle.window_ops.proofs.Spans.{Span, lt_offsets}
+use Rattle.window_ops.proofs.Spans.{Span}
 use Rattle.window_ops.proofs.Values.{reaches_same}
 
 module _ {P : Type 0} (shape : ShapeOf P) (laws : ShapeLaws shape) (knots : List (Knot P)) (way : Way) (is_way : IsWay shape knots way)

@@ -1,6 +1,6 @@
 -- Times and shapes moved by an offset.
-use Rattle.std.proofs.Common.{arith, ◌≡◌, Result, Ok, Err, ℤ, pos, ◌^◌, ◌∙◌, ap, sym, to_z, of_z, w64, lit<}
-use Rattle.std.specs.Prelude.{◌-ℤ◌, neg_ℤ, ◌≤ℤ◌, OnOk}
+use Rattle.std.proofs.Common.{arith, ◌≡◌, ℤ, pos, ◌^◌, ◌∙◌, ap, sym, to_z, of_z, w64, lit<}
+use Rattle.std.specs.Prelude.{◌-ℤ◌, neg_ℤ, ◌≤ℤ◌}
 use Rattle.std.proofs.lemmas.Int.{to_z-of_z, ints}
 use Rattle.rational.specs.Rational.{IsWithin, add, whole, FitsFloor}
 use Rattle.rational.specs.Time.{Rational, ◌≤ʳ◌}
@@ -61,8 +61,3 @@ module _ (over : Offsets) (small : IsSmall over) where
 pub equal_offsets : (over : Offsets) → IsSmall over → of_z w64 over.low ≡ of_z w64 over.high → over.low ≡ over.high
 equal_offsets over small h = sym (passed over.low (low_from over small) (low_to over small)) ∙ ap (λ n. to_z w64 n) h ∙ passed over.high
     (high_from over small) (high_to over small)
-
--- what holds holds of a success
-pub ok_any : {T E A : Type 0} (r : Result T E) → A → OnOk r A
-ok_any (Ok x) a = a
-ok_any (Err e) a = tt

@@ -1,15 +1,13 @@
 -- From when a piece of a signal counts in a moving window, and until when.
 use Rattle.std.proofs.Common.{arith, ◌≡◌, ◌⊎◌, inl, inr, ℤ, pos, ◌^◌, List, Bool, true, not, refl, sym, ◌∙◌, subst}
-use Rattle.std.specs.Prelude.{neg_ℤ, ◌≤ℤ◌, ◌<ℤ◌, ◌+ℤ◌, ◌↔◌}
-use Rattle.std.proofs.lemmas.Int.{ints}
+use Rattle.std.specs.Prelude.{neg_ℤ, ◌≤ℤ◌, ◌<ℤ◌, ◌↔◌}
 use Rattle.std.proofs.lemmas.Bool.{false≢true}
 use Rattle.std.proofs.Math.Nat.{mul-lt-mul_of_pos_right}
 use Rattle.rational.specs.Rational.{IsWithin, add, whole}
 use Rattle.rational.specs.Time.{Rational, Within, shifted, later, ◌≤ʳ◌, ◌<ʳ◌, ◌≈◌}
-use Rattle.rational.proofs.Order.{le_refl, le_of_same, ge_of_same, le_trans, lt_of_le_of_lt, lt_of_lt_of_le, same_refl, same_sym, same_trans}
+use Rattle.rational.proofs.Order.{le_refl, le_of_same, le_trans, lt_of_le_of_lt, lt_of_lt_of_le, same_refl, same_sym, same_trans}
 use Rattle.rational.proofs.Mixed.{within_more, within_same}
-use Rattle.rational.proofs.Shift.{le_shift_by, same_shift, shift_twice}
-use Rattle.rational.proofs.TimeLemmas.{later-add, shifted-add}
+use Rattle.rational.proofs.TimeLemmas.{lt_offsets, le_ahead, behind_le}
 use Rattle.frac128.specs.Value.{value}
 use Rattle.frac128.specs.declared.frac.Frac.{Frac}
 use Rattle.value_laws.specs.Members.{ShapeOf, ShapeLaws}
@@ -26,25 +24,6 @@ use Rattle.window_ops.proofs.Shifts.{high_from, high_to, low_from, low_to, turne
 -- a time lies before what is a tick later
 after_tick : (t : Rational) → t <ʳ later t 1
 after_tick t = let m = mul-lt-mul_of_pos_right t.positive t.positive in record { lt = omega (arith, m) }
-
--- of two offsets the greater leads to the later time
-pub lt_offsets : (t : Rational) (j k : ℤ) → j <ℤ k → shifted t j <ʳ shifted t k
-lt_offsets t j k h = lt_of_lt_of_le (after_tick (shifted t j)) (le_trans (le_of_same next) (le_trans
-    (le_shift_by {j = j +ℤ pos 1} {k = k} t (omega (arith, ints, h))) (ge_of_same (shifted-add t k))))
-  where
-    next : later (shifted t j) 1 ≈ add t (whole (j +ℤ pos 1))
-    next = same_trans (later-add (shifted t j) 1) (same_trans (same_shift (pos 1) (shifted-add t j)) (shift_twice t j (pos 1)))
-
-zero_shift : (t : Rational) → add t (whole (pos 0)) ≈ t
-zero_shift t = omega arith
-
--- a window ahead does not begin before the time, and one behind does not end after it
-pub ahead_of : (t : Rational) (z : ℤ) → pos 0 ≤ℤ z → t ≤ʳ shifted t z
-ahead_of t z h = le_trans (ge_of_same (zero_shift t)) (le_trans (le_shift_by {j = pos 0} {k = z} t h) (ge_of_same (shifted-add t z)))
-
--- a time moved by a negative offset is no later
-pub behind_of : (t : Rational) (z : ℤ) → z ≤ℤ pos 0 → shifted t z ≤ʳ t
-behind_of t z h = le_trans (le_of_same (shifted-add t z)) (le_trans (le_shift_by {j = z} {k = pos 0} t h) (le_of_same (zero_shift t)))
 
 module _ {P : Type 0} (shape : ShapeOf P) (laws : ShapeLaws shape) (knots : List (Knot P)) (way : Way) (is_way : IsWay shape knots way) where
   -- a piece counts from the turn at which the high end comes to the one time, until that at which the low end comes to the other
@@ -84,8 +63,8 @@ module _ {P : Type 0} (shape : ShapeOf P) (laws : ShapeLaws shape) (knots : List
     set_aside = by_side is_way.small.aside
       where
         by_side : (pos 0 ≤ℤ way.over.low) ⊎ (way.over.high ≤ℤ pos 0) → (value until.at ≤ʳ stop knots) ⊎ (start knots ≤ʳ value from.at)
-        by_side (inl h) = inl (le_trans (le_from (value b) (value until.at) way.over.low until_at (ahead_of (value b) way.over.low h)) last)
-        by_side (inr h) = inr (ge_from (value a) (value from.at) way.over.high from_at (le_trans (behind_of (start knots) way.over.high h) first))
+        by_side (inl h) = inl (le_trans (le_from (value b) (value until.at) way.over.low until_at (le_ahead (value b) way.over.low h)) last)
+        by_side (inr h) = inr (ge_from (value a) (value from.at) way.over.high from_at (le_trans (behind_le (start knots) way.over.high h) first))
 
     -- where the window is wide
     pub span_wide : way.over.low <ℤ way.over.high → value a ≤ʳ value b → Span a b after_a after_b from until

@@ -1,12 +1,13 @@
 -- The signal that a walk over all pieces ends with tells the best over the window.
-use Rattle.std.proofs.Common.{◌≡◌, ◌⊎◌, arith, inl, inr, ℕ, zero, suc, ◌+◌, ◌<◌, length, List}
-use Rattle.std.proofs.Common.{[], ◌∷◌, Option, None, Some, false, true, refl, sym, ap, ◌∙◌, subst}
+use Rattle.std.proofs.Common.{◌≡◌, ◌⊎◌, arith, inl, inr, ℕ, ◌+◌, List}
+use Rattle.std.proofs.Common.{[], ◌∷◌, Option, None, Some, false, true, sym, ap, ◌∙◌, subst}
 use Rattle.std.specs.Prelude.{IfSome, neg_ℤ, slice_get}
 use Rattle.std.proofs.lemmas.Bool.{false≢true}
+use Rattle.std.proofs.lemmas.Option.{same_Some}
 use Rattle.rational.specs.Time.{Rational, Precedes, shifted, ◌≤ʳ◌, ◌<ʳ◌, ◌≈◌}
 use Rattle.rational.specs.Extended.{Extended, value_at}
 use Rattle.rational.proofs.Order.{le_refl, le_trans, le_of_lt, le_of_same, ge_of_same, not_lt_of_le, same_sym, same_refl, same_trans}
-use Rattle.rational.proofs.Shift.{same_shift}
+use Rattle.rational.proofs.Shift.{same_shift, shift_forth}
 use Rattle.frac128.specs.Value.{value}
 use Rattle.rational.proofs.ExtendedLemmas.{Sup-unique, Inf-unique}
 use Rattle.rational.proofs.Sups.{sup_value_same, inf_value_same}
@@ -22,7 +23,7 @@ use Rattle.pl_signal.specs.declared.faults.OpFault.TheVariants as F
 use Rattle.pl_signal.specs.Knots.{IsWorth, start, stop, time}
 use Rattle.pl_signal.specs.Moves.{Tells}
 use Rattle.pl_signal.proofs.Telling.{IsFunction, told}
-use Rattle.pl_signal.proofs.Values.{some_is, stop_at, worth_within}
+use Rattle.pl_signal.proofs.Values.{stop_at, worth_within}
 use Rattle.envelope.specs.declared.walk.Walk.{Walk}
 use Rattle.envelope.specs.declared.turns.Turn.{Turn}
 use Rattle.envelope.specs.Turns.{HasCome, IsNoBetter, none_of}
@@ -35,7 +36,7 @@ use Rattle.window_ops.specs.declared.offsets.Way.{Way}
 use Rattle.window_ops.specs.Over.{BasesOver, BestOver, HasCauseOver, IsCauseOver, IsMovedOver, IsWorse, Over}
 use Rattle.window_ops.specs.Going.{HasMet, HasRefused, InDomain, IsCovered, IsFaultOf, IsLeft, IsWay, StandsBy, turn_of}
 use Rattle.window_ops.proofs.Covering.{precedes_to_come, strictly_come, strictly_to_come}
-use Rattle.window_ops.proofs.Ends.{come_at, le_shifted, shift_forth}
+use Rattle.window_ops.proofs.Ends.{come_at, le_shifted}
 use Rattle.window_ops.proofs.Counting.{cause_of}
 use Rattle.window_ops.proofs.Values.{worse_clash, worse_than_better}
 
@@ -157,16 +158,10 @@ refused_before {P} shape knots way None walk e is h = by_kept walk.course.fault 
     by_kept None i k = subst (HasCauseOver shape knots way.over) (sym i) tt
     by_kept (Some pair) i k = subst (HasCauseOver shape knots way.over) (sym i) k
 
--- a row has an item at each place before its end
-pub knot_there : {A : Type 0} (xs : List A) (i : ℕ) → i < length xs → (x : A) × (slice_get xs i ≡ Some x)
-knot_there [] i h = absurd (omega arith)
-knot_there (x ∷ xs) zero h = (x, refl)
-knot_there (x ∷ xs) (suc i) h = knot_there xs i (omega arith)
-
 -- the first knot stands at the start
 first_knot : {P : Type 0} (knots : List (Knot P)) (k : Knot P) → slice_get knots 0 ≡ Some k → start knots ≡ time k
 first_knot [] k h = absurd (cc)
-first_knot (l ∷ knots) k h = ap time (some_is h)
+first_knot (l ∷ knots) k h = ap time (same_Some _ _ h)
 
 -- a walk that begins has met nothing
 pub begun_stands : {P : Type 0} (shape : ShapeOf P) (laws : ShapeLaws shape) (knots : List (Knot P)) (way : Way) → IsWay shape knots way → (walk : Walk P)

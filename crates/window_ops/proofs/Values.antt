@@ -8,6 +8,7 @@ use Rattle.rational.proofs.AffineLemmas.{near_start, near_stop, above_start, abo
 use Rattle.pl_signal.specs.declared.joining.Side.{Side}
 use Rattle.pl_signal.specs.declared.joining.Side.TheVariants.{Least, Greatest}
 use Rattle.envelope.specs.Turns.{IsNoBetter}
+use Rattle.envelope.proofs.Bests.{no_better_same}
 use Rattle.window_ops.specs.Over.{IsWorse}
 use Rattle.window_ops.specs.Going.{Reaches}
 
@@ -25,11 +26,6 @@ no_better_or_worse Least v w = le_totalᵉ w v
 pub worse_clash : {X : Type 0} (side : Side) (v w : Extended) → IsWorse side w v → IsNoBetter side v w → X
 worse_clash Greatest v w h k = clashᵉ w v h k
 worse_clash Least v w h k = clashᵉ v w h k
-
--- of two values that are the same neither is better
-pub no_better_of_same : (side : Side) (v w : Extended) → v ≈ᵉ w → IsNoBetter side v w
-no_better_of_same Greatest v w e = e.at_most
-no_better_of_same Least v w e = e.at_least
 
 -- what is reached by another pair
 pub reaches_same : (side : Side) (none : Extended) (W : Window) (F : Function) (v x : Extended) → v ≈ᵉ x → Reaches side none W F v → Reaches side none W F x
@@ -55,9 +51,9 @@ near_end Least f l r w order (inr h) = above_stop f l r w order h
 worse_at_end : (side : Side) (f : Affine) (l r e : Rational) (w : Extended) → (e ≈ l) ⊎ (e ≈ r) → IsWorse side w (value_at f e)
     → IsWorse side w (value_at f l) ⊎ IsWorse side w (value_at f r)
 worse_at_end side f l r e w (inl s) worse = inl (worse_than_better side w (value_at f e) (value_at f l) worse
-    (no_better_of_same side (value_at f e) (value_at f l) (value_same f s)))
+    (no_better_same side (value_at f e) (value_at f l) (value_same f s)))
 worse_at_end side f l r e w (inr s) worse = inr (worse_than_better side w (value_at f e) (value_at f r) worse
-    (no_better_of_same side (value_at f e) (value_at f r) (value_same f s)))
+    (no_better_same side (value_at f e) (value_at f r) (value_same f s)))
 
 -- the value at an end of a stretch on which the function is a line, in the window, is reached
 pub reaches_end : (side : Side) (none : Extended) (W : Window) (F : Function) (f : Affine) (l r e : Rational) → l <ʳ r → (e ≈ l) ⊎ (e ≈ r)

@@ -1,6 +1,6 @@
 use Rattle.std.proofs.Common.{inl, inr, refl, subst}
 use Rattle.std.proofs.lemmas.Option.{IfSome_then}
-use Rattle.std.proofs.lemmas.Result.{on_err_weaker}
+use Rattle.std.proofs.lemmas.Result.{on_err_weaker, on_ok_weaker}
 use Rattle.rational.specs.Time.{◌≤ʳ◌}
 use Rattle.rational.specs.Extended.{value_at}
 use Rattle.rational.proofs.Order.{le_refl}
@@ -9,7 +9,7 @@ use Rattle.pl_signal.specs.Knots.{stop}
 use Rattle.pl_signal.specs.Joining.{IsFavour}
 use Rattle.pl_signal.proofs.Choices.{taken_first, taken_second, taken_of_greater}
 use Rattle.pl_signal.proofs.JoiningLemmas.{whole_first, whole_second}
-use Rattle.envelope.proofs.Bests.{three, on_ok, gap_fault, written_whole, taken_of_no_better}
+use Rattle.envelope.proofs.Bests.{three, gap_fault, written_whole, taken_of_no_better}
 use Rattle.envelope.proofs.best.join_ordered.Goals as goal
 
 pub returns-in_default-favour : goal.returns-in_default-favour
@@ -18,7 +18,7 @@ returns-in_default-favour g c =
     let at_from = subst (λ u. IsFavour c.args.side c.favour-in-Greater.result (value_at (f c.args.first.now) u)
     (value_at (f c.args.second.now) u)) c.stop-from.ensures.value c.favour-in-Greater.ensures in
     record {
-      ok = on_ok c.join_kept.result
+      ok = on_ok_weaker c.join_kept.result
           (written_whole g.P.Shape c.args.side c.args.first.now c.args.second.now c.args.r.now c.args.second.now
           c.args.point.now c.args.built.now c.join_kept.new.self c.args.to.now (inr refl)
           ((whole_second g.P.Shape c.args.side c.args.first.now c.args.second.now (stop c.args.built.now) (value c.args.to.now)
@@ -39,7 +39,7 @@ pub returns-in_default : goal.returns-in_default
 returns-in_default g c =
     let f = g.P.Shape.function in
     record {
-      ok = on_ok c.join_kept-in_default.result
+      ok = on_ok_weaker c.join_kept-in_default.result
           (written_whole g.P.Shape c.args.side c.args.first.now c.args.second.now c.args.r.now c.args.first.now
           c.args.point.now c.args.built.now c.join_kept-in_default.new.self c.args.to.now (inl refl)
           ((whole_first g.P.Shape c.args.side c.args.first.now c.args.second.now (stop c.args.built.now) (value c.args.to.now)

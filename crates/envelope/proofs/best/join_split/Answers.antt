@@ -1,13 +1,14 @@
 use Rattle.std.proofs.Common.{◌≡◌, ◌^◌, inl, inr, refl, sym, subst}
 use Rattle.std.specs.Prelude.{Ok, Result, MatchResult}
 use Rattle.std.proofs.lemmas.Option.{IfSome_then}
-use Rattle.std.proofs.lemmas.Result.{on_err_weaker}
+use Rattle.std.proofs.lemmas.Result.{on_err_weaker, on_ok_weaker}
 use Rattle.rational.specs.Rational.{IsWithin}
 use Rattle.rational.specs.Time.{◌≤ʳ◌}
 use Rattle.rational.specs.Extended.{value_at}
 use Rattle.rational.specs.Affine.{MeetAlone}
 use Rattle.rational.proofs.Order.{le_refl, le_of_lt}
 use Rattle.rational.proofs.Mixed.{within_between}
+use Rattle.rational.proofs.Lists.{on_err_anyway}
 use Rattle.frac128.specs.Value.{value}
 use Rattle.frac128.specs.declared.frac.Frac.{Frac}
 use Rattle.pl_signal.specs.Knots.{stop}
@@ -15,8 +16,8 @@ use Rattle.value_laws.specs.Members.{ShapeOf}
 use Rattle.pl_signal.specs.declared.faults.OpFault.{OpFault}
 use Rattle.pl_signal.specs.Joining.{IsGapFault}
 use Rattle.pl_signal.proofs.JoiningLemmas.{split_first}
-use Rattle.pl_signal.proofs.Kept.{good_of, kept_fault, on_err_anyway}
-use Rattle.envelope.proofs.Bests.{three, on_ok, gap_fault, written_split, taken_of_no_better}
+use Rattle.pl_signal.proofs.Kept.{good_of, kept_fault}
+use Rattle.envelope.proofs.Bests.{three, gap_fault, written_split, taken_of_no_better}
 use Rattle.envelope.proofs.best.join_split.Goals as goal
 
 -- the two meet at the crossing that was found
@@ -79,7 +80,7 @@ returns-clause-ok g c =
     (value c.in_ok-middle.middle)) c.stop-from.ensures.value
     (meets g.P.Shape c.args.first.now c.args.second.now c.stop-from.result c.args.to.now c.crossing.result c.in_ok-middle.middle
     c.in_ok-middle.ensures.ok c.crossing.ensures) in
-    on_ok c.join_kept-2.result
+    on_ok_weaker c.join_kept-2.result
     (written_split g.P.Shape c.args.side c.args.first.now c.args.second.now c.args.r.now c.chosen-there.result
     c.args.point.now c.args.built.now c.join_kept.new.self c.join_kept-2.new.self c.in_ok-middle.middle c.args.to.now
     (split_first g.P.Shape c.args.side c.args.first.now c.args.second.now (stop c.args.built.now) (value c.args.to.now) c.in_ok-middle.middle

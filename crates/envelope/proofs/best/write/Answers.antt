@@ -1,27 +1,27 @@
 use Rattle.std.proofs.Common.{inl, inr, refl, subst}
 use Rattle.std.proofs.lemmas.Option.{IfSome_then}
-use Rattle.std.proofs.lemmas.Result.{on_err_weaker}
+use Rattle.std.proofs.lemmas.Result.{on_err_weaker, on_ok_weaker}
 use Rattle.rational.specs.Time.{◌≤ʳ◌}
 use Rattle.rational.proofs.Order.{le_refl}
 use Rattle.frac128.specs.Value.{value}
 use Rattle.pl_signal.specs.Knots.{stop}
 use Rattle.envelope.specs.Best.{IsBestFault}
-use Rattle.envelope.proofs.Bests.{on_ok, gap_fault, three_is, written_alone, written_low, written_high}
+use Rattle.envelope.proofs.Bests.{gap_fault, three_is, written_alone, written_low, written_high}
 use Rattle.envelope.proofs.best.write.Goals as goal
 
 pub returns-in-None-None-clause-ok : goal.returns-in-None-None-clause-ok
-returns-in-None-None-clause-ok g c = on_ok c.step.result (written_alone g.P.Shape c.args.side c.args.best.now
+returns-in-None-None-clause-ok g c = on_ok_weaker c.step.result (written_alone g.P.Shape c.args.side c.args.best.now
     c.args.point c.args.built.now c.step.new.self c.args.to.now c.in-None-None.is-0 c.in-None-None.is-1)
     c.step.ensures.ok
 
 pub returns-in-None-Some-clause-ok : goal.returns-in-None-Some-clause-ok
 returns-in-None-Some-clause-ok g c =
-    on_ok c.join_kept.result (written_high g.P.Shape c.args.side c.args.best.now _ c.args.point c.args.built.now
+    on_ok_weaker c.join_kept.result (written_high g.P.Shape c.args.side c.args.best.now _ c.args.point c.args.built.now
     c.join_kept.new.self c.args.to.now c.in-None-Some.is-0 c.in-None-Some.is-1) c.join_kept.ensures.ok
 
 pub returns-in-Some-None-clause-ok : goal.returns-in-Some-None-clause-ok
 returns-in-Some-None-clause-ok g c =
-    on_ok c.join_kept-in-Some-None.result (written_low g.P.Shape c.args.side c.args.best.now _ c.args.point c.args.built.now
+    on_ok_weaker c.join_kept-in-Some-None.result (written_low g.P.Shape c.args.side c.args.best.now _ c.args.point c.args.built.now
     c.join_kept-in-Some-None.new.self c.args.to.now c.in-Some-None.is-0 c.in-Some-None.is-1)
     c.join_kept-in-Some-None.ensures.ok
 

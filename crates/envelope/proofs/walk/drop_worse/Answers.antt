@@ -1,11 +1,13 @@
 use Rattle.std.proofs.Common.{rules, ◌≡◌, ◌-◌, ◌++◌, [], ◌∷◌, take, sym, ap, ◌∙◌, subst, append_assoc}
 use Rattle.std.specs.VecDeque.{deque_len}
+use Rattle.std.proofs.lemmas.List.{nil_from_length}
 use Rattle.rational.specs.Extended.{value_at}
+use Rattle.rational.proofs.Lists.{last_apart}
 use Rattle.frac128.specs.Value.{value}
 use Rattle.pl_signal.proofs.Choices.{taken_first, taken_second}
 use Rattle.envelope.specs.Turns.{IsNoBetter}
 use Rattle.envelope.proofs.Bests.{no_better_of_taken}
-use Rattle.envelope.proofs.Rows.{empty_list, last_apart, snoc_same, snoc_empty}
+use Rattle.envelope.proofs.Rows.{snoc_same, snoc_empty}
 use Rattle.envelope.proofs.walk.drop_worse.Goals as goal
 
 pub loop-last-init : goal.loop-last-init
@@ -61,7 +63,7 @@ returns-in-Less g c =
 pub returns : goal.returns
 returns g c =
     let (d, same, worse) = c.loop-last.invariant.0 in
-    let e : c.loop-last.queue.items ≡ [] = empty_list c.loop-last.queue.items (search rules) in
+    let e : c.loop-last.queue.items ≡ [] = nil_from_length c.loop-last.queue.items (search rules) in
     record {
       dropped = record { dropped = d; same = same; worse = worse; last = λ rest x i. absurd (snoc_empty rest x (sym e ∙ i)) };
       room = search rules;

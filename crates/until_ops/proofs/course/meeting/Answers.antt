@@ -1,8 +1,9 @@
 use Rattle.std.proofs.Common.{refl, true}
 use Rattle.rational.specs.Affine.{MeetAlone}
+use Rattle.rational.proofs.Lists.{on_err_anyway}
 use Rattle.frac128.specs.Value.{value}
 use Rattle.pl_signal.specs.Joining.{IsGapFault}
-use Rattle.pl_signal.proofs.Kept.{good_of, kept_fault, on_err_anyway}
+use Rattle.pl_signal.proofs.Kept.{good_of, kept_fault}
 use Rattle.until_ops.proofs.CourseLemmas.{meets}
 use Rattle.until_ops.proofs.course.meeting.Goals as goal
 

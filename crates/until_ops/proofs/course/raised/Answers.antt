@@ -6,7 +6,7 @@ use Rattle.frac128.specs.Value.{value}
 use Rattle.rational.proofs.Order.{le_of_lt}
 use Rattle.rational.proofs.ExtendedLemmas.{le_transᵉ}
 use Rattle.rational.proofs.ExtendedLemmas.{le_of_ltᵉ}
-use Rattle.pl_signal.proofs.Kept.{on_err_anyway}
+use Rattle.rational.proofs.Lists.{on_err_anyway}
 use Rattle.until_ops.proofs.CourseLemmas.{not_above, not_below, below_on, by_low_over, by_low_under, level_over, only_course, within_ends}
 use Rattle.until_ops.proofs.course.raised.Goals as goal
 

@@ -5,7 +5,7 @@ use Rattle.rational.specs.Extended.{value_at}
 use Rattle.frac128.specs.Value.{value}
 use Rattle.rational.proofs.Order.{le_of_lt}
 use Rattle.rational.proofs.ExtendedLemmas.{le_transᵉ}
-use Rattle.pl_signal.proofs.Kept.{on_err_anyway}
+use Rattle.rational.proofs.Lists.{on_err_anyway}
 use Rattle.until_ops.proofs.CourseLemmas.{by_top, level_under, not_below, only_course, top_within, within_ends}
 use Rattle.until_ops.proofs.course.sunk.Goals as goal
 

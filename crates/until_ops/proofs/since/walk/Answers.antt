@@ -5,10 +5,10 @@ use Rattle.rational.specs.Onward.{IsBelow}
 use Rattle.rational.specs.Rational.{IsWithin}
 use Rattle.rational.specs.Time.{◌<ʳ◌, ◌≤ʳ◌, ◌≈◌}
 use Rattle.rational.proofs.Order.{le_refl, le_trans, le_of_lt, le_of_same, lt_of_lt_of_le}
+use Rattle.rational.proofs.Lists.{on_err_anyway}
 use Rattle.frac128.specs.Value.{value}
 use Rattle.pl_signal.specs.Knots.{time}
 use Rattle.pl_signal.specs.declared.faults.OpFault.TheVariants as F
-use Rattle.pl_signal.proofs.Kept.{on_err_anyway}
 use Rattle.pl_signal.proofs.Moving.{at_knot_within, same_knot}
 use Rattle.pl_signal.proofs.Places.{begun_before, more_knots}
 use Rattle.until_ops.proofs.LimitLemmas.{after_bounded}

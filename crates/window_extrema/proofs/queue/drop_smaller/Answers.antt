@@ -1,12 +1,14 @@
 use Rattle.std.proofs.Common.{rules, ◌≡◌, ◌+◌, ◌-◌, ◌<◌, ◌∷◌, ◌++◌, [], All, length, take, subst, sym, ◌∙◌}
 use Rattle.std.specs.Prelude.{Some, slice_get}
 use Rattle.std.specs.VecDeque.{deque_len}
-use Rattle.std.proofs.lemmas.Option.{slice_get_read}
+use Rattle.std.proofs.lemmas.Option.{slice_get_read, same_Some}
 use Rattle.std.proofs.lemmas.List.Elements.{All-take}
+use Rattle.std.proofs.lemmas.List.{nil_from_length}
 use Rattle.window_extrema.specs.Range.{IsAtMost}
 use Rattle.window_extrema.specs.Stairs.{AreStairs, AreStairsTo}
 use Rattle.rational.proofs.ExtendedLemmas.{le_of_ltᵉ}
-use Rattle.window_extrema.proofs.StairLemmas.{empty_list, last_apart, without_last, with_first, with_last, some_same, at_most_where_not_less}
+use Rattle.rational.proofs.Lists.{last_apart}
+use Rattle.window_extrema.proofs.StairLemmas.{without_last, with_first, with_last, at_most_where_not_less}
 use Rattle.window_extrema.proofs.queue.drop_smaller.Goals as goal
 
 -- src/queue.rt:28:5
@@ -25,7 +27,7 @@ loop-last-preserved g c =
       λ low h. subst (λ xs. AreStairsTo g.P.Shape.function c.args.items.now c.args.place low c.args.place xs) (sym rest)
           (without_last g.P.Shape.function c.args.items.now c.args.place low c.args.place c.in-Some.last
           (take (deque_len c.loop-last.queue - 1) c.loop-last.queue.items) c.index-items-last.result
-          u (λ y w. subst (λ y. IsAtMost g.P.Shape.function c.index-items-last.result y) (some_same (sym v ∙ w)) le)
+          u (λ y w. subst (λ y. IsAtMost g.P.Shape.function c.index-items-last.result y) (same_Some _ _ (sym v ∙ w)) le)
           (subst (λ xs. AreStairsTo g.P.Shape.function c.args.items.now c.args.place low c.args.place xs) e (c.loop-last.invariant.1 low h))),
       search rules,
       search rules,
@@ -48,7 +50,7 @@ returns-in_default-cmp g c =
           subst (λ xs. AreStairs g.P.Shape.function c.args.items.now low (c.args.place + 1) (xs ++ c.args.place ∷ [])) (sym e)
           (with_last g.P.Shape.function c.args.items.now c.args.place low c.in-Some.last
           (take (deque_len c.loop-last.queue - 1) c.loop-last.queue.items) c.index-items-last.result
-          u (λ y w. subst (λ y. IsAtMost g.P.Shape.function y c.index-items-last.result) (some_same (sym v ∙ w)) le)
+          u (λ y w. subst (λ y. IsAtMost g.P.Shape.function y c.index-items-last.result) (same_Some _ _ (sym v ∙ w)) le)
           (subst (λ xs. AreStairsTo g.P.Shape.function c.args.items.now c.args.place low c.args.place xs) e (c.loop-last.invariant.1 low h)));
       room = search rules;
       fewer = search rules;
@@ -58,7 +60,7 @@ returns-in_default-cmp g c =
 -- src/queue.rt:13:1
 pub returns-clause-stairs : goal.returns-clause-stairs
 returns-clause-stairs g c = λ low l h.
-    let e : c.loop-last.queue.items ≡ [] = empty_list c.loop-last.queue.items (search rules) in
+    let e : c.loop-last.queue.items ≡ [] = nil_from_length c.loop-last.queue.items (search rules) in
     subst (λ xs. AreStairs g.P.Shape.function c.args.items.now low (c.args.place + 1) (xs ++ c.args.place ∷ [])) (sym e)
     (with_first g.P.Shape.function c.args.items.now c.args.place low l
     (subst (λ xs. AreStairsTo g.P.Shape.function c.args.items.now c.args.place low c.args.place xs) e (c.loop-last.invariant.1 low h)))

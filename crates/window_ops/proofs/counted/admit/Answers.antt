@@ -1,8 +1,8 @@
 use Rattle.std.proofs.Common.{subst}
+use Rattle.std.proofs.lemmas.Result.{on_ok_weaker}
 use Rattle.rational.specs.Time.{◌≤ʳ◌}
 use Rattle.frac128.specs.Value.{value}
 use Rattle.pl_signal.specs.Knots.{stop}
-use Rattle.envelope.proofs.Bests.{on_ok}
 use Rattle.envelope.proofs.Faulting.{on_err}
 use Rattle.window_ops.proofs.Counting.{clamped_high, clamped_stop, clamped_within, counted_of, new_item, refused_of, start_within, way_order}
 use Rattle.window_ops.proofs.counted.admit.Goals as goal
@@ -26,7 +26,7 @@ pub admit-requires-clause-leaves : goal.admit-requires-clause-leaves
 admit-requires-clause-leaves g c = c.requires.can.goes.leaves c.args.piece.now.item.until (λ t h. (c.requires.can.is.until t).0 h)
 
 pub returns-clause-counted : goal.returns-clause-counted
-returns-clause-counted g c = on_ok c.admit.result (λ took can. counted_of g.P.Shape (assumption g.met.P.Shape) c.args.s.now c.args.way.now c.requires.way
+returns-clause-counted g c = on_ok_weaker c.admit.result (λ took can. counted_of g.P.Shape (assumption g.met.P.Shape) c.args.s.now c.args.way.now c.requires.way
     c.args.piece.now c.args.value c.clamped-from.result.now c.clamped-from.ensures c.requires.value
     (way_order g.P.Shape (assumption g.met.P.Shape) c.args.s.now c.args.way.now c.requires.way)
     c.args.walk.now c.admit.new.self can took) c.admit.ensures.took

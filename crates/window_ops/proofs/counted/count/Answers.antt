@@ -1,9 +1,9 @@
 use Rattle.std.proofs.Common.{inl, inr, refl, sym, subst}
+use Rattle.rational.proofs.Lists.{on_ok_anyway}
 use Rattle.envelope.proofs.Faulting.{on_err}
 use Rattle.window_ops.specs.Going.{HasRefused}
 use Rattle.window_ops.proofs.Counting.{never_counted, way_order}
 use Rattle.window_ops.proofs.Freezing.{frozen_fault, frozen_value, high_small, low_small, moved_value, room}
-use Rattle.window_ops.proofs.Shifts.{ok_any}
 use Rattle.window_ops.proofs.counted.count.Goals as goal
 
 pub extent_of-requires : goal.extent_of-requires
@@ -43,7 +43,7 @@ admit-requires g c = record {
 pub returns-in-AtLow : goal.returns-in-AtLow
 returns-in-AtLow g c = record {
   counted = c.admit.ensures.counted;
-  still = ok_any c.admit.result c.requires.none;
+  still = on_ok_anyway c.admit.result c.requires.none;
   fault = on_err c.admit.result (λ h. subst (λ o. HasRefused g.P.Shape c.args.s.now c.args.way.now o c.admit.new.walk)
       (sym c.requires.none) h) c.admit.ensures.fault;
 }
@@ -69,7 +69,7 @@ admit-requires-in-AtHigh g c = record {
 pub returns-in-AtHigh : goal.returns-in-AtHigh
 returns-in-AtHigh g c = record {
   counted = c.admit-in-AtHigh.ensures.counted;
-  still = ok_any c.admit-in-AtHigh.result c.requires.none;
+  still = on_ok_anyway c.admit-in-AtHigh.result c.requires.none;
   fault = on_err c.admit-in-AtHigh.result (λ h. subst (λ o. HasRefused g.P.Shape c.args.s.now c.args.way.now o c.admit-in-AtHigh.new.walk)
       (sym c.requires.none) h) c.admit-in-AtHigh.ensures.fault;
 }
@@ -90,7 +90,7 @@ admit-requires-in-Ok g c = record {
 pub returns-in-Ok : goal.returns-in-Ok
 returns-in-Ok g c = record {
   counted = c.admit-in-Ok.ensures.counted;
-  still = ok_any c.admit-in-Ok.result c.requires.none;
+  still = on_ok_anyway c.admit-in-Ok.result c.requires.none;
   fault = on_err c.admit-in-Ok.result (λ h. subst (λ o. HasRefused g.P.Shape c.args.s.now c.args.way.now o c.admit-in-Ok.new.walk)
       (sym c.requires.none) h) c.admit-in-Ok.ensures.fault;
 }

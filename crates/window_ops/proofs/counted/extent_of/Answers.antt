@@ -7,9 +7,8 @@ use Rattle.rational.proofs.TimeLemmas.{same_shifted}
 use Rattle.frac128.specs.Value.{value}
 use Rattle.envelope.specs.declared.turns.Turn.{Turn}
 use Rattle.envelope.specs.Turns.{HasCome, IsToCome}
-use Rattle.envelope.proofs.TurnOrder.{at_of_come}
+use Rattle.envelope.proofs.TurnOrder.{at_of_come, at_most_to_come}
 use Rattle.pl_signal.proofs.SampleLemmas.{earlier}
-use Rattle.window_ops.proofs.Counting.{at_most_to_come}
 use Rattle.window_ops.proofs.counted.extent_of.Goals as goal
 
 -- what is to come at the time of a turn that is not just after it does not come

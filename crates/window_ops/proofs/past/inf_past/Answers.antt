@@ -6,10 +6,11 @@ use Rattle.rational.proofs.Order.{le_trans}
 use Rattle.pl_signal.specs.declared.joining.Side.TheVariants.{Least}
 use Rattle.pl_signal.specs.Knots.{start, stop, IsWorth}
 use Rattle.pl_signal.specs.Moves.{Tells}
-use Rattle.envelope.proofs.Walks.{if_err, if_ok}
+use Rattle.envelope.proofs.Walks.{if_err}
 use Rattle.window_ops.specs.Windows.{InfBehind}
 use Rattle.window_ops.specs.Over.{BasesOver, BestOver, HasCauseOver}
 use Rattle.std.proofs.lemmas.Int.{ints}
+use Rattle.std.proofs.lemmas.Result.{IfOk-weaker}
 use Rattle.rational.proofs.Shift.{le_whole}
 use Rattle.window_ops.proofs.AheadOver.{offsets_is}
 use Rattle.window_ops.proofs.BehindOver.{bases_behind, below_all, cause_behind, inf_behind, is_reach, reach_of}
@@ -25,7 +26,7 @@ over_window-requires g c = record {
 }
 
 pub returns-clause-worth : goal.returns-clause-worth
-returns-clause-worth g c = if_ok c.over_window.result _ _ (λ r h. inf_behind g.P.Shape c.args.s.now c.requires.first
+returns-clause-worth g c = IfOk-weaker c.over_window.result _ _ (λ r h. inf_behind g.P.Shape c.args.s.now c.requires.first
     (below_all (stop c.args.s.now) c.requires.last) c.args.a c.args.low_in c.args.high_in c.args.b r
     (subst (λ o. Tells g.P.Shape (BestOver g.P.Shape c.args.s.now o Least) (start c.args.s.now) (stop c.args.s.now) r)
     (offsets_is c.behind.result (reach_of c.args.b) (neg_ℤ (pos c.args.a)) c.args.high_in c.args.low_in
@@ -33,7 +34,7 @@ returns-clause-worth g c = if_ok c.over_window.result _ _ (λ r h. inf_behind g.
     c.over_window.ensures.worth
 
 pub returns-clause-bases : goal.returns-clause-bases
-returns-clause-bases g c = if_ok c.over_window.result _ _ (λ r h. bases_behind g.P.Shape c.args.s.now c.requires.first
+returns-clause-bases g c = IfOk-weaker c.over_window.result _ _ (λ r h. bases_behind g.P.Shape c.args.s.now c.requires.first
     (below_all (stop c.args.s.now) c.requires.last) c.args.a c.args.low_in c.args.high_in c.args.b r
     (subst (λ o. BasesOver g.P.Shape c.args.s.now o r) (offsets_is c.behind.result (reach_of c.args.b)
     (neg_ℤ (pos c.args.a)) c.args.high_in c.args.low_in

@@ -1,7 +1,8 @@
 use Rattle.std.proofs.Common.{◌+◌, true, false, sym, ◌∙◌, subst}
+use Rattle.std.proofs.lemmas.Option.{same_Some}
+use Rattle.std.proofs.lemmas.Result.{on_ok_weaker}
 use Rattle.frac128.specs.Value.{value}
-use Rattle.pl_signal.proofs.Values.{shape_after, some_is}
-use Rattle.envelope.proofs.Bests.{on_ok}
+use Rattle.pl_signal.proofs.Values.{shape_after}
 use Rattle.envelope.proofs.Faulting.{on_err}
 use Rattle.window_ops.specs.Going.{HasClimbed, StandsAt, turn_of}
 use Rattle.window_ops.proofs.Reaching.{knot_from, knot_in, knot_to}
@@ -78,9 +79,9 @@ climb-requires g c =
     }
 
 pub returns-then-lasts-clause-climbed : goal.returns-then-lasts-clause-climbed
-returns-then-lasts-clause-climbed g c = on_ok c.climb.result (λ climbed k n parts there after stands.
-    subst (λ k. HasClimbed g.P.Shape c.args.s.now c.args.way.now k n parts c.climb.new.self) (some_is (sym c.requires.here ∙ there))
-    (subst (λ n. HasClimbed g.P.Shape c.args.s.now c.args.way.now c.args.knot.now n parts c.climb.new.self) (some_is (sym c.requires.next ∙ after))
+returns-then-lasts-clause-climbed g c = on_ok_weaker c.climb.result (λ climbed k n parts there after stands.
+    subst (λ k. HasClimbed g.P.Shape c.args.s.now c.args.way.now k n parts c.climb.new.self) (same_Some _ _ (sym c.requires.here ∙ there))
+    (subst (λ n. HasClimbed g.P.Shape c.args.s.now c.args.way.now c.args.knot.now n parts c.climb.new.self) (same_Some _ _ (sym c.requires.next ∙ after))
     (climbs g.P.Shape (assumption g.met.P.Shape) c.args.s.now c.args.way.now c.requires.way c.args.i c.args.knot.now c.args.next.now c.requires.here
     c.requires.next c.meets-from.result c.meets-until.result (come_moved c.meets-from.result
     (turn_of c.args.knot.now.time true) c.args.way.now.over.high c.meets-from.ensures.at c.meets-from.ensures.after)
@@ -90,7 +91,7 @@ returns-then-lasts-clause-climbed g c = on_ok c.climb.result (λ climbed k n par
     (c.lasts.ensures.yes c.if-lasts.true).1 (c.lasts.ensures.yes c.if-lasts.true).0
     parts c.args.walk.now c.climb.new.self climbed
     (subst (λ k. StandsAt g.P.Shape c.args.s.now c.args.way.now c.args.i k true parts c.args.walk.now)
-    (some_is (sym there ∙ c.requires.here)) stands)))) c.climb.ensures.climbed
+    (same_Some _ _ (sym there ∙ c.requires.here)) stands)))) c.climb.ensures.climbed
 
 pub returns-then-lasts-clause-fault : goal.returns-then-lasts-clause-fault
 returns-then-lasts-clause-fault g c =
@@ -108,15 +109,15 @@ returns-then-lasts-clause-fault g c =
 
 pub returns-clause-climbed : goal.returns-clause-climbed
 returns-clause-climbed g c k n parts there after stands =
-    subst (λ k. HasClimbed g.P.Shape c.args.s.now c.args.way.now k n parts c.args.walk.now) (some_is (sym c.requires.here ∙ there))
-    (subst (λ n. HasClimbed g.P.Shape c.args.s.now c.args.way.now c.args.knot.now n parts c.args.walk.now) (some_is (sym c.requires.next ∙ after))
+    subst (λ k. HasClimbed g.P.Shape c.args.s.now c.args.way.now k n parts c.args.walk.now) (same_Some _ _ (sym c.requires.here ∙ there))
+    (subst (λ n. HasClimbed g.P.Shape c.args.s.now c.args.way.now c.args.knot.now n parts c.args.walk.now) (same_Some _ _ (sym c.requires.next ∙ after))
     (never_climbs g.P.Shape (assumption g.met.P.Shape) c.args.s.now c.args.way.now c.requires.way c.args.i c.args.knot.now c.args.next.now
     c.requires.here c.requires.next c.meets-from.result c.meets-until.result (come_moved c.meets-from.result
     (turn_of c.args.knot.now.time true) c.args.way.now.over.high c.meets-from.ensures.at c.meets-from.ensures.after)
     (come_moved c.meets-until.result (turn_of c.args.next.now.time false) c.args.way.now.over.high c.meets-until.ensures.at c.meets-until.ensures.after)
     parts c.args.walk.now c.meets-from.ensures.after c.meets-until.ensures.after (c.lasts.ensures.no c.if-lasts.false)
     (subst (λ k. StandsAt g.P.Shape c.args.s.now c.args.way.now c.args.i k true parts c.args.walk.now)
-    (some_is (sym there ∙ c.requires.here)) stands)))
+    (same_Some _ _ (sym there ∙ c.requires.here)) stands)))
 
 pub hides-requires : goal.hides-requires
 hides-requires g c = record {
@@ -134,8 +135,8 @@ hides-requires g c = record {
 pub returns-then-hides : goal.returns-then-hides
 returns-then-hides g c = record {
   climbed = λ k n parts there after stands.
-      subst (λ k. HasClimbed g.P.Shape c.args.s.now c.args.way.now k n parts c.args.walk.now) (some_is (sym c.requires.here ∙ there))
-      (subst (λ n. HasClimbed g.P.Shape c.args.s.now c.args.way.now c.args.knot.now n parts c.args.walk.now) (some_is (sym c.requires.next ∙ after))
+      subst (λ k. HasClimbed g.P.Shape c.args.s.now c.args.way.now k n parts c.args.walk.now) (same_Some _ _ (sym c.requires.here ∙ there))
+      (subst (λ n. HasClimbed g.P.Shape c.args.s.now c.args.way.now c.args.knot.now n parts c.args.walk.now) (same_Some _ _ (sym c.requires.next ∙ after))
       (hidden_climbs g.P.Shape (assumption g.met.P.Shape) c.args.s.now c.args.way.now c.requires.way c.args.i c.args.knot.now c.args.next.now c.requires.here
       c.requires.next c.meets-from.result c.meets-until.result (come_moved c.meets-from.result
       (turn_of c.args.knot.now.time true) c.args.way.now.over.high c.meets-from.ensures.at c.meets-from.ensures.after)
@@ -145,6 +146,6 @@ returns-then-hides g c = record {
       (c.lasts.ensures.yes c.if-lasts.true).1 (c.lasts.ensures.yes c.if-lasts.true).0
       parts c.args.walk.now (c.hides.ensures.hides c.if-hides.true)
       (subst (λ k. StandsAt g.P.Shape c.args.s.now c.args.way.now c.args.i k true parts c.args.walk.now)
-      (some_is (sym there ∙ c.requires.here)) stands)));
+      (same_Some _ _ (sym there ∙ c.requires.here)) stands)));
   fault = tt;
 }

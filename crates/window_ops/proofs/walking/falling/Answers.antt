@@ -1,10 +1,11 @@
 use Rattle.std.proofs.Common.{◌+◌, ◌^◌, pos, true, false, arith, sym, ◌∙◌, subst}
+use Rattle.std.proofs.lemmas.Option.{same_Some}
+use Rattle.std.proofs.lemmas.Result.{on_ok_weaker}
 use Rattle.rational.proofs.Order.{le_of_lt, le_trans}
 use Rattle.rational.specs.Rational.{whole}
 use Rattle.rational.specs.Time.{◌≤ʳ◌}
 use Rattle.frac128.specs.Value.{value}
-use Rattle.pl_signal.proofs.Values.{next_rises, shape_after, some_is}
-use Rattle.envelope.proofs.Bests.{on_ok}
+use Rattle.pl_signal.proofs.Values.{next_rises, shape_after}
 use Rattle.window_ops.specs.Going.{StandsAt, turn_of}
 use Rattle.window_ops.proofs.Reaching.{knot_from, knot_in, knot_to}
 use Rattle.window_ops.proofs.Gaps.{came_falling, came_none, can_falling}
@@ -93,7 +94,7 @@ count-requires g c = record {
 }
 
 pub returns-clause-comes : goal.returns-clause-comes
-returns-clause-comes g c = on_ok c.count.result (λ counted parts stands.
+returns-clause-comes g c = on_ok_weaker c.count.result (λ counted parts stands.
     let before = stands c.knot-knot.result c.knot-knot.ensures in
     let h = counted (can_falling g.P.Shape (assumption g.met.P.Shape) c.args.s.now c.args.way.now c.requires.way c.args.i c.knot-knot.result
     c.knot-next.result c.knot-knot.ensures c.knot-next.ensures c.requires.wide
@@ -119,7 +120,7 @@ returns-clause-comes g c = on_ok c.count.result (λ counted parts stands.
     c.args.walk.now before) in (
       h.parts,
       λ n there. subst (λ n. StandsAt g.P.Shape c.args.s.now c.args.way.now (c.args.i + 1) n false h.parts c.count.new.walk)
-          (some_is (sym c.knot-next.ensures ∙ there))
+          (same_Some _ _ (sym c.knot-next.ensures ∙ there))
           (came_falling g.P.Shape (assumption g.met.P.Shape) c.args.s.now c.args.way.now c.requires.way c.args.i c.knot-knot.result
           c.knot-next.result c.knot-knot.ensures c.knot-next.ensures c.requires.wide
           (c.requires.trend c.knot-knot.result c.knot-knot.ensures) c.low_end-at.result c.low_end-at.ensures c.meets-from.result c.leaves-until.result
@@ -150,7 +151,7 @@ returns-in_default g c = record {
   comes = λ parts stands. (
     parts,
     λ n there. subst (λ n. StandsAt g.P.Shape c.args.s.now c.args.way.now (c.args.i + 1) n false parts c.args.walk.now)
-        (some_is (sym c.knot-next.ensures ∙ there))
+        (same_Some _ _ (sym c.knot-next.ensures ∙ there))
         (came_none g.P.Shape (assumption g.met.P.Shape) c.args.s.now c.args.way.now c.requires.way c.args.i c.knot-knot.result c.knot-next.result
         c.knot-knot.ensures c.knot-next.ensures c.requires.wide parts c.args.walk.now c.leaves-last.result
         (at_is (value c.knot-next.result.time) (value c.leaves-last.result.at) c.args.way.now.over.low c.leaves-last.ensures.at)

@@ -1,10 +1,10 @@
 use Rattle.std.proofs.Common.{arith, sym, ◌∙◌, subst}
 use Rattle.std.proofs.lemmas.Int.{ints}
+use Rattle.std.proofs.lemmas.Option.{same_Some}
 use Rattle.rational.specs.Extended.{value_at}
 use Rattle.frac128.specs.Value.{value}
 use Rattle.pl_signal.specs.declared.knot.Knot.{Knot}
 use Rattle.pl_signal.proofs.Choices.{taken_first}
-use Rattle.pl_signal.proofs.Values.{some_is}
 use Rattle.envelope.specs.Turns.{IsNoBetter}
 use Rattle.envelope.proofs.Bests.{no_better_of_taken}
 use Rattle.window_ops.proofs.Counting.{within_domain}
@@ -33,14 +33,14 @@ returns-in_default-favour g c h =
     record {
       wide = let s = c.requires.way.small.order in let n = c.if-way.false in omega (arith, ints, s, n);
       before = λ p k at here. subst (λ (q : Knot g.row.P.Denot). IsNoBetter side (value_at (f q.point) (value q.time)) (value_at (f p.after) (value q.time)))
-          (some_is (sym c.knot-knot.ensures ∙ here))
+          (same_Some _ _ (sym c.knot-knot.ensures ∙ here))
           (subst (λ (q : Knot g.row.P.Denot). IsNoBetter side (value_at (f k0.point) (value k0.time)) (value_at (f q.after) (value k0.time)))
-          (some_is (sym c.knot-before.ensures ∙ at))
+          (same_Some _ _ (sym c.knot-before.ensures ∙ at))
           (no_better_of_taken side (value_at (f k0.point) (value k0.time)) (value_at (f p0.after) (value k0.time))
           (taken_first side c.favour.result (value_at (f p0.after) (value k0.time)) (value_at (f k0.point) (value k0.time)) c.favour.ensures
           c.in_default.not-Greater)));
       after = λ k here. subst (λ (q : Knot g.row.P.Denot). IsNoBetter side (value_at (f q.point) (value q.time)) (value_at (f q.after) (value q.time)))
-          (some_is (sym c.knot-knot.ensures ∙ here))
+          (same_Some _ _ (sym c.knot-knot.ensures ∙ here))
           (no_better_of_taken side (value_at (f k0.point) (value k0.time)) (value_at (f k0.after) (value k0.time))
           (taken_first side c.favour-2.result (value_at (f k0.after) (value k0.time)) (value_at (f k0.point) (value k0.time))
           c.favour-2.ensures c.in_default-favour.not-Greater));

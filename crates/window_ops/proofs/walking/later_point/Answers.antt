@@ -1,6 +1,6 @@
 use Rattle.std.proofs.Common.{◌+◌, ◌-◌, ◌<◌, length, arith}
+use Rattle.rational.proofs.Lists.{slice_get_there}
 use Rattle.window_ops.proofs.Covering.{came_spare}
-use Rattle.window_ops.proofs.Told.{knot_there}
 use Rattle.window_ops.proofs.walking.later_point.Goals as goal
 
 pub is_spare-requires : goal.is_spare-requires
@@ -10,8 +10,8 @@ pub returns-then-is_spare : goal.returns-then-is_spare
 returns-then-is_spare g c =
     let spare = c.is_spare.ensures c.if-is_spare.true in
     let before : c.args.i - 1 < length c.args.s.now = (let h = c.requires.place in omega (arith, h)) in
-    let (p, at) = knot_there c.args.s.now (c.args.i - 1) before in
-    let (n, next) = knot_there c.args.s.now (c.args.i + 1) spare.inner in
+    let (p, at) = slice_get_there c.args.s.now (c.args.i - 1) before in
+    let (n, next) = slice_get_there c.args.s.now (c.args.i + 1) spare.inner in
     record {
       comes = λ parts stands. (
         parts,

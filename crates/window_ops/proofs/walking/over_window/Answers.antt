@@ -1,5 +1,6 @@
 use Rattle.std.proofs.Common.{refl}
-use Rattle.envelope.proofs.Walks.{if_err, if_ok}
+use Rattle.std.proofs.lemmas.Result.{IfOk-weaker}
+use Rattle.envelope.proofs.Walks.{if_err}
 use Rattle.value_laws.specs.Members.{ShapeLaws}
 use Rattle.window_ops.specs.Going.{IsWay}
 use Rattle.window_ops.proofs.Counting.{start_within, stop_within}
@@ -54,9 +55,9 @@ returns-in-Ok g c =
     let walk = c.walk_over.new.walk in
     let met = c.in-Ok.ensures.met in
     record {
-      worth = if_ok c.finish.result _ _
+      worth = IfOk-weaker c.finish.result _ _
           (λ r h. tells_best g.P.Shape laws c.args.s.now _ way walk met r (ends_with g.P.Shape laws c.args.s.now _ way walk met r h)) c.finish.ensures.envelope;
-      bases = if_ok c.finish.result _ _
+      bases = IfOk-weaker c.finish.result _ _
           (λ r h. bases_best g.P.Shape laws c.args.s.now _ way walk met r (ends_with g.P.Shape laws c.args.s.now _ way walk met r h)) c.finish.ensures.envelope;
       wide = if_err c.finish.result _ _ (λ e h. stops_with g.P.Shape laws c.args.s.now _ way walk met e h) c.finish.ensures.fault;
     }

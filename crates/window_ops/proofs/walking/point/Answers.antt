@@ -1,6 +1,6 @@
 use Rattle.std.proofs.Common.{true, sym, ◌∙◌, subst}
-use Rattle.pl_signal.proofs.Values.{some_is}
-use Rattle.envelope.proofs.Bests.{on_ok}
+use Rattle.std.proofs.lemmas.Option.{same_Some}
+use Rattle.std.proofs.lemmas.Result.{on_ok_weaker}
 use Rattle.window_ops.specs.Going.{StandsAt}
 use Rattle.window_ops.proofs.Covering.{came_point, came_worthless, can_point}
 use Rattle.window_ops.proofs.Spans.{span_point}
@@ -37,7 +37,7 @@ count-requires g c = record {
 }
 
 pub returns-clause-comes : goal.returns-clause-comes
-returns-clause-comes g c = on_ok c.count.result (λ counted parts stands.
+returns-clause-comes g c = on_ok_weaker c.count.result (λ counted parts stands.
     let span = span_point g.P.Shape (assumption g.met.P.Shape) c.args.s.now c.args.way.now c.requires.way c.knot-knot.result.time c.meets.result
     c.leaves.result
     (knot_in g.P.Shape (assumption g.met.P.Shape) c.args.s.now c.args.way.now c.requires.way c.args.i c.knot-knot.result c.knot-knot.ensures)
@@ -49,7 +49,7 @@ returns-clause-comes g c = on_ok c.count.result (λ counted parts stands.
     let h = counted can in (
       h.parts,
       λ k here. subst (λ k. StandsAt g.P.Shape c.args.s.now c.args.way.now c.args.i k true h.parts c.count.new.walk)
-          (some_is (sym c.knot-knot.ensures ∙ here))
+          (same_Some _ _ (sym c.knot-knot.ensures ∙ here))
           (came_point g.P.Shape (assumption g.met.P.Shape) c.args.s.now c.args.way.now c.requires.way c.args.i c.knot-knot.result c.knot-knot.ensures
           c.meets.result c.leaves.result
           span parts c.args.walk.now c.count.new.walk before h),
@@ -59,7 +59,7 @@ pub returns-then-is_worthless : goal.returns-then-is_worthless
 returns-then-is_worthless g c = record {
   comes = λ parts stands. (
     parts,
-    λ k here. subst (λ k. StandsAt g.P.Shape c.args.s.now c.args.way.now c.args.i k true parts c.args.walk.now) (some_is (sym c.knot-knot.ensures ∙ here))
+    λ k here. subst (λ k. StandsAt g.P.Shape c.args.s.now c.args.way.now c.args.i k true parts c.args.walk.now) (same_Some _ _ (sym c.knot-knot.ensures ∙ here))
         (came_worthless g.P.Shape (assumption g.met.P.Shape) c.args.s.now c.args.way.now c.requires.way c.args.i c.knot-knot.result c.knot-knot.ensures
         parts c.args.walk.now (stands c.knot-knot.result c.knot-knot.ensures) (c.is_worthless.ensures.0 c.if-is_worthless.true)),
   );

@@ -1,9 +1,9 @@
 use Rattle.std.proofs.Common.{inl, ◌+◌, false, arith, sym, ◌∙◌, subst}
+use Rattle.std.proofs.lemmas.Option.{same_Some}
+use Rattle.std.proofs.lemmas.Result.{on_ok_weaker}
 use Rattle.rational.proofs.Order.{le_refl}
+use Rattle.rational.proofs.Lists.{on_err_anyway}
 use Rattle.frac128.specs.Value.{value}
-use Rattle.pl_signal.proofs.Values.{some_is}
-use Rattle.envelope.proofs.Bests.{on_ok}
-use Rattle.envelope.proofs.Faulting.{err_any}
 use Rattle.window_ops.specs.Going.{HasRefused, StandsAt}
 use Rattle.window_ops.proofs.Reaching.{knot_from, knot_in, knot_to}
 use Rattle.window_ops.proofs.Gaps.{came_rising, can_rising}
@@ -61,7 +61,7 @@ count-requires g c = record {
 }
 
 pub returns-clause-comes : goal.returns-clause-comes
-returns-clause-comes g c = on_ok c.count.result (λ counted parts stands.
+returns-clause-comes g c = on_ok_weaker c.count.result (λ counted parts stands.
     let before = stands c.knot-knot.result c.knot-knot.ensures in
     let climbed = c.in_ok-climb.ensures.climbed c.knot-knot.result c.knot-next.result parts c.knot-knot.ensures c.knot-next.ensures before in
     let h = counted (can_rising g.P.Shape (assumption g.met.P.Shape) c.args.s.now c.args.way.now c.requires.way c.args.i c.knot-knot.result
@@ -79,7 +79,7 @@ returns-clause-comes g c = on_ok c.count.result (λ counted parts stands.
     (le_refl (value c.knot-next.result.time))) parts c.climb.new.walk climbed) in (
       h.parts,
       λ n there. subst (λ n. StandsAt g.P.Shape c.args.s.now c.args.way.now (c.args.i + 1) n false h.parts c.count.new.walk)
-          (some_is (sym c.knot-next.ensures ∙ there))
+          (same_Some _ _ (sym c.knot-next.ensures ∙ there))
           (came_rising g.P.Shape (assumption g.met.P.Shape) c.args.s.now c.args.way.now c.requires.way c.args.i c.knot-knot.result c.knot-next.result
           c.knot-knot.ensures c.knot-next.ensures c.requires.wide
           (c.requires.trend c.knot-knot.result c.knot-knot.ensures) c.meets-from.result c.leaves-until.result
@@ -96,5 +96,5 @@ returns-clause-comes g c = on_ok c.count.result (λ counted parts stands.
     )) c.count.ensures.counted
 
 pub returns-in_err-climb-clause-fault : goal.returns-in_err-climb-clause-fault
-returns-in_err-climb-clause-fault g c = err_any c.from_residual.result
+returns-in_err-climb-clause-fault g c = on_err_anyway c.from_residual.result
     (subst (λ o. HasRefused g.P.Shape c.args.s.now c.args.way.now o c.climb.new.walk) (sym c.requires.none) c.in_err-climb.ensures.fault)

@@ -1,7 +1,8 @@
 use Rattle.std.proofs.Common.{◌+◌, true, false, arith, sym, ◌∙◌, subst}
+use Rattle.std.proofs.lemmas.Option.{same_Some}
+use Rattle.std.proofs.lemmas.Result.{on_ok_weaker}
 use Rattle.rational.proofs.Order.{le_of_lt}
-use Rattle.pl_signal.proofs.Values.{next_rises, some_is}
-use Rattle.envelope.proofs.Bests.{on_ok}
+use Rattle.pl_signal.proofs.Values.{next_rises}
 use Rattle.window_ops.specs.Going.{StandsAt}
 use Rattle.window_ops.proofs.Reaching.{knot_from, knot_in, knot_to}
 use Rattle.window_ops.proofs.Covering.{came_nothing}
@@ -50,7 +51,7 @@ count-requires g c = record {
 }
 
 pub returns-clause-comes : goal.returns-clause-comes
-returns-clause-comes g c = on_ok c.count.result (λ counted parts stands.
+returns-clause-comes g c = on_ok_weaker c.count.result (λ counted parts stands.
     let before = stands c.knot-knot.result c.knot-knot.ensures in
     let h = counted (can_steady g.P.Shape (assumption g.met.P.Shape) c.args.s.now c.args.way.now c.requires.way c.args.i c.knot-knot.result
     c.knot-next.result c.knot-knot.ensures c.knot-next.ensures c.requires.wide
@@ -67,7 +68,7 @@ returns-clause-comes g c = on_ok c.count.result (λ counted parts stands.
     c.knot-next.ensures))) c.meets-from.ensures.after c.leaves-until.ensures.after parts c.args.walk.now before) in (
       h.parts,
       λ n there. subst (λ n. StandsAt g.P.Shape c.args.s.now c.args.way.now (c.args.i + 1) n false h.parts c.count.new.walk)
-          (some_is (sym c.knot-next.ensures ∙ there))
+          (same_Some _ _ (sym c.knot-next.ensures ∙ there))
           (came_steady g.P.Shape (assumption g.met.P.Shape) c.args.s.now c.args.way.now c.requires.way c.args.i c.knot-knot.result c.knot-next.result
           c.knot-knot.ensures c.knot-next.ensures c.requires.wide
           (c.requires.trend c.knot-knot.result c.knot-knot.ensures) c.meets-from.result c.leaves-until.result
@@ -90,7 +91,7 @@ returns-then-is_worthless g c = record {
   comes = λ parts stands. (
     parts,
     λ n there. subst (λ n. StandsAt g.P.Shape c.args.s.now c.args.way.now (c.args.i + 1) n false parts c.args.walk.now)
-        (some_is (sym c.knot-next.ensures ∙ there))
+        (same_Some _ _ (sym c.knot-next.ensures ∙ there))
         (came_nothing g.P.Shape (assumption g.met.P.Shape) c.args.s.now c.args.way.now c.requires.way c.args.i c.knot-knot.result c.knot-next.result
         c.knot-knot.ensures c.knot-next.ensures parts c.args.walk.now (stands c.knot-knot.result c.knot-knot.ensures)
         (c.is_worthless.ensures.0 c.if-is_worthless.true)),

@@ -1,7 +1,8 @@
 use Rattle.std.proofs.Common.{arith, ◌≡◌, ℕ, ◌+◌, ◌-◌, ◌≤◌, [], true, false, subst}
 use Rattle.std.proofs.lemmas.Option.{slice_get_past}
+use Rattle.rational.proofs.Lists.{slice_get_there}
 use Rattle.window_ops.specs.Going.{StandsBy}
-use Rattle.window_ops.proofs.Told.{knot_there, met_last, met_none, met_past}
+use Rattle.window_ops.proofs.Told.{met_last, met_none, met_past}
 use Rattle.window_ops.proofs.walking.walk_over.Goals as goal
 
 -- a place and the one before it
@@ -16,7 +17,7 @@ is_empty-requires g c = c.requires.way.small.order
 
 pub returns-then-is_empty : goal.returns-then-is_empty
 returns-then-is_empty g c =
-    let (k, here) = knot_there c.args.s.now 0 c.requires.way.signal.some in
+    let (k, here) = slice_get_there c.args.s.now 0 c.requires.way.signal.some in
     let (one, out) = c.is_empty.ensures.empty c.if-is_empty.true in
     record {
       met = met_none g.P.Shape (assumption g.met.P.Shape) c.args.s.now c.args.way.now c.requires.way k c.args.walk.now here one out
@@ -44,7 +45,7 @@ is_past-requires g c = record {
 
 pub returns-then-is_past : goal.returns-then-is_past
 returns-then-is_past g c =
-    let (k, here) = knot_there c.args.s.now (c.loop-i.i - 1)
+    let (k, here) = slice_get_there c.args.s.now (c.loop-i.i - 1)
     (let a = c.loop-i.auto.i in let b = c.loop-i-test.true in let e = c.len-count.ensures.value in omega (arith, a, b, e)) in
     record {
       met = met_past g.P.Shape (assumption g.met.P.Shape) c.args.s.now c.args.way.now c.requires.way
@@ -85,7 +86,7 @@ pub returns : goal.returns
 returns g c =
     let last : c.loop-i.i ≡ c.len-count.result =
     (let a = c.loop-i-test.false in let b = c.loop-i.auto.i-end in let d = c.len-count.ensures.some in omega (arith, a, b, d)) in
-    let (k, here) = knot_there c.args.s.now (c.loop-i.i - 1) (let e = c.len-count.ensures.value in let d = c.len-count.ensures.some in omega
+    let (k, here) = slice_get_there c.args.s.now (c.loop-i.i - 1) (let e = c.len-count.ensures.value in let d = c.len-count.ensures.some in omega
     (arith, last, e, d)) in
     record {
       met = met_last g.P.Shape (assumption g.met.P.Shape) c.args.s.now c.args.way.now c.requires.way

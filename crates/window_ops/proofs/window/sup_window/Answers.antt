@@ -1,9 +1,10 @@
 use Rattle.std.proofs.Common.{pos, subst}
+use Rattle.std.proofs.lemmas.Result.{IfOk-weaker}
 use Rattle.rational.proofs.Order.{le_of_lt}
 use Rattle.pl_signal.specs.declared.joining.Side.TheVariants.{Greatest}
 use Rattle.pl_signal.specs.Knots.{start, stop}
 use Rattle.pl_signal.specs.Moves.{Tells}
-use Rattle.envelope.proofs.Walks.{if_err, if_ok}
+use Rattle.envelope.proofs.Walks.{if_err}
 use Rattle.window_ops.specs.Over.{BasesOver, BestOver, HasCauseOver}
 use Rattle.window_ops.proofs.AheadOver.{bases_ahead, cause_ahead, sup_ahead, offsets_is}
 use Rattle.window_ops.proofs.window.sup_window.Goals as goal
@@ -18,14 +19,14 @@ over_window-requires g c = record {
 }
 
 pub returns-clause-worth : goal.returns-clause-worth
-returns-clause-worth g c = if_ok c.over_window.result _ _ (λ r h. sup_ahead g.P.Shape c.args.s.now c.args.a c.args.b c.args.low_in c.args.high_in r
+returns-clause-worth g c = IfOk-weaker c.over_window.result _ _ (λ r h. sup_ahead g.P.Shape c.args.s.now c.args.a c.args.b c.args.low_in c.args.high_in r
     (subst (λ o. Tells g.P.Shape (BestOver g.P.Shape c.args.s.now o Greatest) (start c.args.s.now) (stop c.args.s.now) r)
     (offsets_is c.ahead.result (pos c.args.a)
     (pos c.args.b) c.args.low_in c.args.high_in c.ahead.ensures.low c.ahead.ensures.high c.ahead.ensures.low_in c.ahead.ensures.high_in) h))
     c.over_window.ensures.worth
 
 pub returns-clause-bases : goal.returns-clause-bases
-returns-clause-bases g c = if_ok c.over_window.result _ _ (λ r h. bases_ahead g.P.Shape c.args.s.now c.args.a c.args.b c.args.low_in c.args.high_in r
+returns-clause-bases g c = IfOk-weaker c.over_window.result _ _ (λ r h. bases_ahead g.P.Shape c.args.s.now c.args.a c.args.b c.args.low_in c.args.high_in r
     (subst (λ o. BasesOver g.P.Shape c.args.s.now o r) (offsets_is c.ahead.result (pos c.args.a)
     (pos c.args.b) c.args.low_in c.args.high_in c.ahead.ensures.low c.ahead.ensures.high c.ahead.ensures.low_in c.ahead.ensures.high_in) h))
     c.over_window.ensures.bases

@@ -1,6 +1,6 @@
+use Rattle.std.proofs.lemmas.Result.{on_ok_weaker}
 use Rattle.rational.proofs.Order.{le_refl}
 use Rattle.frac128.specs.Value.{value}
-use Rattle.envelope.proofs.Bests.{on_ok}
 use Rattle.envelope.proofs.Faulting.{on_err}
 use Rattle.envelope.proofs.Walks.{followed_of, stops_of, took_of}
 use Rattle.envelope.proofs.walk.Walk.admit.Goals as goal
@@ -9,7 +9,7 @@ pub take-requires-clause-followed : goal.take-requires-clause-followed
 take-requires-clause-followed g c = followed_of c.args.self.now c.args.item.now c.requires.leaves
 
 pub returns-clause-took : goal.returns-clause-took
-returns-clause-took g c = on_ok c.take.result
+returns-clause-took g c = on_ok_weaker c.take.result
     (λ a. took_of g.P.Shape c.args.from.now c.args.item.now c.args.self.now c.take.new.self c.requires.new c.requires.leaves a)
     c.take.ensures.ok
 

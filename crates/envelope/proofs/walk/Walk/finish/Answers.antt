@@ -1,11 +1,12 @@
 use Rattle.std.proofs.Common.{true, sym, subst}
+use Rattle.std.proofs.lemmas.Result.{IfOk-weaker}
 use Rattle.frac128.specs.Value.{value}
 use Rattle.envelope.specs.Walking.{IsRefusedFor}
-use Rattle.envelope.proofs.Walks.{finish_stops, if_err, if_ok, finished}
+use Rattle.envelope.proofs.Walks.{finish_stops, if_err, finished}
 use Rattle.envelope.proofs.walk.Walk.finish.Goals as goal
 
 pub returns-in-Ok-clause-envelope : goal.returns-in-Ok-clause-envelope
-returns-in-Ok-clause-envelope g c = if_ok c.into_signal.result _ _ (λ r is. finished g.P.Shape
+returns-in-Ok-clause-envelope g c = IfOk-weaker c.into_signal.result _ _ (λ r is. finished g.P.Shape
     (record { at = c.args.stop.now; just_after = true }) c.args.self c.end.new.self r c.in-Ok.ensures.ok is) c.into_signal.ensures.ok
 
 pub returns-in-Ok-clause-fault : goal.returns-in-Ok-clause-fault

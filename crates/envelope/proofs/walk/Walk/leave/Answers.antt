@@ -1,9 +1,10 @@
 use Rattle.std.proofs.Common.{◌≡◌, Option, true, refl, sym, subst}
 use Rattle.std.specs.Prelude.{is_some}
+use Rattle.rational.proofs.Lists.{on_err_anyway}
 use Rattle.envelope.specs.declared.turns.Turn.{Turn}
 use Rattle.frac128.specs.Value.{value}
 use Rattle.envelope.proofs.Leaving.{goes_none, goes_on, gone, nothing_left, nothing_of, something_left, something_of}
-use Rattle.envelope.proofs.Faulting.{err_any, stopped_going}
+use Rattle.envelope.proofs.Faulting.{stopped_going}
 use Rattle.envelope.proofs.walk.Walk.leave.Goals as goal
 
 pub loop-next-init : goal.loop-next-init
@@ -48,6 +49,6 @@ returns g c = record {
 }
 
 pub returns-in_err-pass-clause-fault : goal.returns-in_err-pass-clause-fault
-returns-in_err-pass-clause-fault g c = err_any c.from_residual.result
+returns-in_err-pass-clause-fault g c = on_err_anyway c.from_residual.result
     (stopped_going g.P.Shape (assumption g.met.P.Shape) c.args.turn.now c.args.self.now c.loop-next.self
     c.pass.new.self.course.fault c.loop-next.invariant c.in_err-pass.ensures.fault)

@@ -1,8 +1,8 @@
 use Rattle.std.proofs.Common.{rules, ◌≡◌, Option, true, [], sym, subst}
 use Rattle.std.proofs.lemmas.Bool.{false≢true}
 use Rattle.envelope.specs.declared.turns.Turn.{Turn}
-use Rattle.envelope.proofs.Rows.{empty_list}
 use Rattle.std.specs.Prelude.{is_some}
+use Rattle.std.proofs.lemmas.List.{nil_from_length}
 use Rattle.envelope.specs.Standing.{CanGoOn}
 use Rattle.envelope.proofs.Leaving.{in_of, leaves_none, none_there, out_of, some_there}
 use Rattle.envelope.proofs.walk.Walk.pass.Goals as goal
@@ -33,7 +33,7 @@ returns-in-Some-clause-ok g c = in_of g.P.Shape c.slide_in.result c.args.self.no
 
 pub returns-in-None : goal.returns-in-None
 returns-in-None g c =
-    let e : c.args.self.now.queue.items ≡ [] = empty_list c.args.self.now.queue.items (search rules) in
+    let e : c.args.self.now.queue.items ≡ [] = nil_from_length c.args.self.now.queue.items (search rules) in
     let l = leaves_none c.args.self.now.course.after.low c.args.self.now.low_until c.args.self.now.queue.items
     (none_there c.args.self.now.course.after.low c.is_some.result c.is_some.ensures c.if-is_some.false) e in
     absurd (false≢true (subst (λ (o : Option Turn). is_some o ≡ true) (sym l) c.requires.some))

@@ -1,10 +1,10 @@
 use Rattle.std.proofs.Common.{◌∷◌, sym, ap, ◌∙◌, subst}
 use Rattle.std.specs.Prelude.{MatchOption}
+use Rattle.std.proofs.lemmas.Result.{on_ok_weaker}
 use Rattle.envelope.specs.declared.best.Best.{Best}
 use Rattle.envelope.specs.Turns.{HasCome, IsToCome}
 use Rattle.envelope.specs.SoFar.{HaveLevels}
 use Rattle.envelope.specs.Standing.{Keeps, SomethingLeaves, slope_shape}
-use Rattle.envelope.proofs.Bests.{on_ok}
 use Rattle.envelope.proofs.Passing.{same_pieces, turned_stands}
 use Rattle.envelope.proofs.Sliding.{can_slide_in, keeps_in, later_in, levels_in}
 use Rattle.envelope.proofs.walk.Walk.slide_in.Goals as goal
@@ -17,7 +17,7 @@ turn-requires-clause-levels g c = subst
     c.top.result c.args.self.now.course.side c.requires.can (assumption g.met.P.Shape) c.top.ensures)
 
 pub returns-clause-can : goal.returns-clause-can
-returns-clause-can g c = on_ok c.turn.result
+returns-clause-can g c = on_ok_weaker c.turn.result
     (λ t. can_slide_in g.P.Shape c.args.self.now.course c.turn.new.self c.args.self.now.low_until c.until_of-self.result
     c.args.first.now c.args.self.now.queue.items
     (record { top = c.top.result; low = c.shape_of.result; high = c.args.self.now.course.after.high }) c.requires.can
@@ -31,7 +31,7 @@ returns-clause-passed g c =
     let first = c.args.first.now in
     let items = c.args.self.now.queue.items in
     let next : Best g.row.P.Denot = record { top = c.top.result; low = c.shape_of.result; high = old.after.high } in
-    on_ok c.turn.result (λ t parts pos to s. turned_stands g.P.Shape (assumption g.met.P.Shape) parts parts pos
+    on_ok_weaker c.turn.result (λ t parts pos to s. turned_stands g.P.Shape (assumption g.met.P.Shape) parts parts pos
     first.until to (same_pieces first.until parts) old c.turn.new.self
     next low_until c.until_of-self.result (first ∷ items) items s t
     (λ u h. subst (λ o. MatchOption o (IsToCome first.until u) (λ _. IsToCome low_until u)) (sym c.requires.low) h)
@@ -53,4 +53,4 @@ returns-clause-passed g c =
     c.turn.ensures.ok
 
 pub returns-clause-low : goal.returns-clause-low
-returns-clause-low g c = on_ok c.turn.result (λ t. ap (λ (b : Best g.row.P.Denot). b.low) t.after ∙ c.shape_of.ensures) c.turn.ensures.ok
+returns-clause-low g c = on_ok_weaker c.turn.result (λ t. ap (λ (b : Best g.row.P.Denot). b.low) t.after ∙ c.shape_of.ensures) c.turn.ensures.ok

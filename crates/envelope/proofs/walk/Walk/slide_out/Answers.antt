@@ -1,23 +1,18 @@
-use Rattle.std.proofs.Common.{◌≡◌, Option, None, Some, inl, inr, refl, sym, subst}
-use Rattle.std.specs.Prelude.{IsSome, MatchOption}
-use Rattle.std.proofs.lemmas.Bool.{false≢true}
+use Rattle.std.proofs.Common.{None, inl, inr, refl, sym, subst}
+use Rattle.std.specs.Prelude.{MatchOption}
+use Rattle.std.proofs.lemmas.Result.{on_ok_weaker}
+use Rattle.rational.proofs.Lists.{some_of}
 use Rattle.envelope.specs.Turns.{HasCome, IsToCome}
 use Rattle.envelope.specs.Standing.{FirstStays, FirstHasCome}
-use Rattle.envelope.proofs.Bests.{on_ok}
 use Rattle.envelope.proofs.Passing.{same_pieces, turned_stands}
 use Rattle.envelope.proofs.Sliding.{can_slide_out, keeps_out}
 use Rattle.envelope.proofs.walk.Walk.slide_out.Goals as goal
 
--- what is there
-there : {A : Type 0} (o : Option A) → IsSome o → (x : A) × (o ≡ Some x)
-there None h = absurd (false≢true h)
-there (Some x) h = (x, refl)
-
 pub turn-requires-clause-order : goal.turn-requires-clause-order
-turn-requires-clause-order g c = let p = there c.args.self.now.course.after.low c.requires.low in (c.requires.can.low p.0 p.1).0.order
+turn-requires-clause-order g c = let p = some_of c.args.self.now.course.after.low c.requires.low in (c.requires.can.low p.0 p.1).0.order
 
 pub turn-requires-clause-within : goal.turn-requires-clause-within
-turn-requires-clause-within g c = let p = there c.args.self.now.course.after.low c.requires.low in (c.requires.can.low p.0 p.1).0.within
+turn-requires-clause-within g c = let p = some_of c.args.self.now.course.after.low c.requires.low in (c.requires.can.low p.0 p.1).0.within
 
 pub turn-requires-clause-levels : goal.turn-requires-clause-levels
 turn-requires-clause-levels g c p (inl m) = c.requires.can.ready.after p (inl m)
@@ -26,17 +21,17 @@ turn-requires-clause-levels g c p (inr (inr m)) = c.requires.can.ready.after p (
 
 pub returns-clause-can : goal.returns-clause-can
 returns-clause-can g c =
-    let p = there c.args.self.now.course.after.low c.requires.low in
-    on_ok c.turn.result (λ t. can_slide_out g.P.Shape c.args.self.now.course c.turn.new.self c.args.self.now.low_until
+    let p = some_of c.args.self.now.course.after.low c.requires.low in
+    on_ok_weaker c.turn.result (λ t. can_slide_out g.P.Shape c.args.self.now.course c.turn.new.self c.args.self.now.low_until
     c.args.self.now.queue.items _ p.0 c.requires.can p.1 refl t) c.turn.ensures.ok
 
 pub returns-clause-passed : goal.returns-clause-passed
 returns-clause-passed g c =
-    let p = there c.args.self.now.course.after.low c.requires.low in
+    let p = some_of c.args.self.now.course.after.low c.requires.low in
     let old = c.args.self.now.course in
     let low_until = c.args.self.now.low_until in
     let items = c.args.self.now.queue.items in
-    on_ok c.turn.result (λ t parts pos to s. turned_stands g.P.Shape (assumption g.met.P.Shape) parts parts pos
+    on_ok_weaker c.turn.result (λ t parts pos to s. turned_stands g.P.Shape (assumption g.met.P.Shape) parts parts pos
     low_until to (same_pieces low_until parts) old c.turn.new.self
     (record { top = old.after.top; low = None; high = old.after.high }) low_until low_until items items s t
     (λ u h. subst (λ o. MatchOption o (FirstStays items u) (λ _. IsToCome low_until u)) (sym p.1) h)

@@ -1,11 +1,12 @@
 use Rattle.std.proofs.Common.{List, ◌∷◌, ◌++◌, [], sym, ap, ◌∙◌, subst}
+use Rattle.rational.proofs.Lists.{on_err_anyway}
 use Rattle.envelope.specs.declared.walk.Item.{Item}
 use Rattle.std.specs.Prelude.{IfSome}
 use Rattle.frac128.specs.Value.{value}
 use Rattle.envelope.specs.SoFar.{first_time}
 use Rattle.envelope.specs.Walking.{IsPiecesFault}
 use Rattle.envelope.specs.Standing.{Admits, Leaves}
-use Rattle.envelope.proofs.Faulting.{err_any, stopped_left}
+use Rattle.envelope.proofs.Faulting.{stopped_left}
 use Rattle.envelope.proofs.Taking.{taken}
 use Rattle.envelope.proofs.walk.Walk.take.Goals as goal
 
@@ -44,7 +45,7 @@ returns-then-is_err g c = record {
 }
 
 pub returns-in_err-rise-clause-fault : goal.returns-in_err-rise-clause-fault
-returns-in_err-rise-clause-fault g c = err_any c.from_residual-in_err-rise.result
+returns-in_err-rise-clause-fault g c = on_err_anyway c.from_residual-in_err-rise.result
     (stopped_left g.P.Shape (assumption g.met.P.Shape) c.args.from.now c.args.self.now c.leave.new.self.course
     c.leave.new.self.low_until c.leave.new.self.queue.items
     c.rise.new.self.course.fault c.in_ok-leave.ensures.ok c.in_err-rise.ensures.fault)

@@ -1,15 +1,15 @@
 use Rattle.std.proofs.Common.{rules, ◌≡◌, [], sym, subst}
+use Rattle.std.proofs.lemmas.List.{nil_from_length}
 use Rattle.rational.specs.Extended.{value_at}
 use Rattle.envelope.specs.Turns.{none_of}
 use Rattle.envelope.specs.Standing.{IsTop}
 use Rattle.envelope.proofs.Bests.{no_better_same}
-use Rattle.envelope.proofs.Rows.{empty_list}
 use Rattle.envelope.proofs.Sliding.{top_first}
 use Rattle.envelope.proofs.walk.Walk.top.Goals as goal
 
 pub returns-in-None : goal.returns-in-None
 returns-in-None g c =
-    let e : c.args.self.now.queue.items ≡ [] = empty_list c.args.self.now.queue.items (search rules) in
+    let e : c.args.self.now.queue.items ≡ [] = nil_from_length c.args.self.now.queue.items (search rules) in
     subst (λ xs. IsTop g.P.Shape c.args.self.now.course.side xs c.of_none.result) (sym e)
     (record {
       value = λ t. no_better_same c.args.self.now.course.side (value_at (g.P.Shape.function c.of_none.result) t)

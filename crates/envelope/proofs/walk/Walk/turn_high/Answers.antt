@@ -1,6 +1,6 @@
 use Rattle.std.proofs.Common.{inl, inr, subst}
+use Rattle.std.proofs.lemmas.Result.{on_ok_weaker}
 use Rattle.envelope.specs.Walking.{HasLevel}
-use Rattle.envelope.proofs.Bests.{on_ok}
 use Rattle.envelope.proofs.Faulting.{on_err, stopped_left}
 use Rattle.envelope.proofs.walk.Walk.turn_high.Goals as goal
 
@@ -13,7 +13,7 @@ turn-requires-clause-levels g c p (inr (inl m)) = c.in_ok-leave.ensures.ok.can.r
 turn-requires-clause-levels g c p (inr (inr m)) = subst (λ o. HasLevel g.P.Shape o) m c.requires.level
 
 pub returns-clause-ok : goal.returns-clause-ok
-returns-clause-ok g c = on_ok c.turn.result
+returns-clause-ok g c = on_ok_weaker c.turn.result
     (λ t. record { mid = c.leave.new.self.course; left = c.in_ok-leave.ensures.ok; turned = t }) c.turn.ensures.ok
 
 pub returns-clause-fault : goal.returns-clause-fault
