@@ -5,8 +5,8 @@ use Rattle.std.proofs.Common.{None, IsTrue, refl, sym, ap, subst, ◌∙◌, ari
 use Rattle.std.specs.Prelude.{slice_get, bytes_eq, All}
 use Rattle.std.proofs.lemmas.Bool.{false≢true}
 use Rattle.std.proofs.lemmas.Slice.Eq.{bytes_eq-Decides}
-use Rattle.std.proofs.lemmas.List.{take_more}
-use Rattle.std.proofs.lemmas.Option.{get_or_from_slice_get, slice_get_within, slice_get-get_or, same_Some}
+use Rattle.std.proofs.lemmas.Option.{slice_get_within, slice_get-get_or, same_Some}
+use Rattle.rational.proofs.Lists.{slice_get-append_front, slice_get-append_here}
 use Rattle.stl_syntax.specs.Trace.{Column, Header}
 use Rattle.stl_syntax.specs.Formula.{Formula}
 use Rattle.stl_syntax.specs.Characters.{is_among}
@@ -70,10 +70,6 @@ bindings_more columns [] (k' ∷ ks) t k h e = absurd h
 bindings_more columns (t' ∷ ts) [] t k h e = absurd h
 bindings_more columns (t' ∷ ts) (k' ∷ ks) t k h e = (h.0, bindings_more columns ts ks t k h.1 e)
 
--- a list up to an element, by what stands there
-pub take_on : {X : Type 0} (xs : List X) (i : ℕ) (x : X) → slice_get xs i ≡ Some x → take (i + 1) xs ≡ take i xs ++ x ∷ []
-take_on xs i x h = take_more xs i x (slice_get_within xs i x h) ∙ ap (λ y. take i xs ++ y ∷ []) (get_or_from_slice_get xs i x x h)
-
 -- as many terms are bound as there are
 pub bindings_length : (columns : List Column) (ts : List Term) (ks : List BoundTerm) → AreTermBindings columns ts ks → length ks ≡ length ts
 bindings_length columns [] [] h = refl
@@ -117,17 +113,6 @@ module _ (columns : List Column) (f : Formula) where
   fault_of i n Memory at before h = tt
   fault_of i n (UnknownColumn atom term) at before h = absurd h
 
--- what stands in the first part of a list, and after it
-pub got_front : {X : Type 0} (xs ys : List X) (i : ℕ) → i < length xs → slice_get (xs ++ ys) i ≡ slice_get xs i
-got_front [] ys i h = absurd (omega arith)
-got_front (x ∷ xs) ys zero h = refl
-got_front (x ∷ xs) ys (suc i) h = got_front xs ys i (omega arith)
-
--- and after it
-pub got_end : {X : Type 0} (xs : List X) (x : X) (ys : List X) → slice_get (xs ++ x ∷ ys) (length xs) ≡ Some x
-got_end [] x ys = refl
-got_end (y ∷ xs) x ys = got_end xs x ys
-
 -- one more node
 pub nodes_more : (columns : List Column) (nodes : List Node) (i : ℕ) (atoms : List (Option BoundAtom)) (n : Node)
     (k : Option BoundAtom) → AreNodeBindings columns nodes i atoms
@@ -144,11 +129,11 @@ nodes_more columns nodes i atoms n k h e binding = record {
         place j g = let c = length-append atoms (k ∷ []) in grind arith
 
         by_order : (j < length atoms) ⊎ (j ≡ length atoms) → slice_get nodes j ≡ Some m → slice_get (atoms ++ k ∷ []) j ≡ Some l → IsNodeBinding columns m l
-        by_order (inl g) a b = h.each j m l a (sym (got_front atoms (k ∷ []) j g) ∙ b)
+        by_order (inl g) a b = h.each j m l a (sym (slice_get-append_front atoms (k ∷ []) j g) ∙ b)
         by_order (inr g) a b =
             let at_i : j ≡ i = omega (arith, g, h.count_is) in
             let same_node : m ≡ n = same_Some m n (sym a ∙ ap (slice_get nodes) at_i ∙ e) in
-            let same_atom : l ≡ k = same_Some l k (sym b ∙ ap (slice_get (atoms ++ k ∷ [])) g ∙ got_end atoms k []) in
+            let same_atom : l ≡ k = same_Some l k (sym b ∙ ap (slice_get (atoms ++ k ∷ [])) g ∙ slice_get-append_here atoms k []) in
             subst (λ m. IsNodeBinding columns m l) (sym same_node) (subst (λ l. IsNodeBinding columns n l) (sym same_atom) binding)
 
 -- all nodes

@@ -1,13 +1,11 @@
 -- How a signal of an atom grows over the gaps of a trace.
-use Rattle.std.proofs.Common.{◌≡◌, ℕ, zero, suc, ℤ, pos, nat_abs, ◌<◌, ◌≤◌, ◌^◌, ◌<ℤ◌, ◌⊎◌, inl, inr, Bool}
-use Rattle.std.proofs.Common.{true, false, List, [], ◌∷◌, length, get_or, Some, refl, sym, subst, ◌∙◌, arith}
+use Rattle.std.proofs.Common.{◌≡◌, ℕ, suc, ℤ, pos, nat_abs, ◌<◌, ◌≤◌, ◌^◌, ◌<ℤ◌, ◌⊎◌, inl, inr, Bool}
+use Rattle.std.proofs.Common.{true, false, List, [], ◌∷◌, length, Some, refl, sym, subst, ◌∙◌, arith}
 use Rattle.std.specs.Prelude.{slice_get, IsTrue}
-use Rattle.std.specs.declared.cmp.Ordering.{Ordering}
-use Rattle.std.specs.declared.cmp.Ordering.TheVariants.{Less, Equal, Greater}
 use Rattle.std.proofs.lemmas.Int.{ints}
 use Rattle.std.proofs.lemmas.Option.{slice_get-get_or}
 use Rattle.rational.specs.Time.{Rational, ◌≤ʳ◌, ◌<ʳ◌, ◌≈◌, whole}
-use Rattle.rational.specs.Rational.{IsOrder, IsWithin}
+use Rattle.rational.specs.Rational.{IsWithin}
 use Rattle.rational.specs.Line.{at}
 use Rattle.rational.specs.Extended.{Extended, value_at, Passes, finite, ◌≈ᵉ◌}
 use Rattle.rational.specs.Affine.{level}
@@ -28,13 +26,14 @@ use Rattle.pl_signal.specs.declared.knot.Knot.{Knot}
 use Rattle.pl_signal.specs.Knots.{start, stop, HasShape, IsSignal, IsWorth}
 use Rattle.pl_signal.specs.Building.{GoesOn}
 use Rattle.pl_signal.proofs.Telling.{IsFunction, told}
-use Rattle.stl_syntax.specs.Trace.{Row, Trace, row_time, first_time, last_time}
+use Rattle.stl_syntax.specs.Trace.{Trace, row_time}
 use Rattle.stl_syntax.specs.Trace as trace
 use Rattle.stl_syntax.specs.Truth.{compares, expression}
 use Rattle.stl_syntax.specs.SupInf.{Gives}
 use Rattle.stl_syntax.specs.declared.atom.Atom.{Atom}
 use Rattle.stl_syntax.specs.declared.rel.Rel.{Rel}
 use Rattle.stl_syntax.proofs.TruthLemmas.{same_expression}
+use Rattle.stl_syntax.proofs.RowsLemmas.{first_time_at, last_time_at}
 use Rattle.atom_lines.specs.declared.gap.Gap.{Gap}
 use Rattle.atom_lines.specs.declared.bound_atom.BoundAtom.{BoundAtom}
 use Rattle.atom_lines.specs.Binding.{Binding, IsFor, HasRow, AreNeighbours}
@@ -123,12 +122,6 @@ module _ {P : Type 0} (shape : ShapeOf P) (steady : P) (to : ℕ) where
     worth = λ t v w. inl w;
     shapes = λ p w. inl w;
   }
-
--- what is not less
-pub not_less : (o : Ordering) {a b : Rational} → IsOrder o a b → ¬ (o ≡ Less) → b ≤ʳ a
-not_less Less h n = absurd (n refl)
-not_less Equal h n = ge_of_same h
-not_less Greater h n = le_of_lt h
 
 -- the two rows of a gap
 pub gap_in_order : (g : Gap) → whole (pos g.first) <ʳ whole (pos g.second)
@@ -347,17 +340,6 @@ module _ {P : Type 0} (shape : ShapeOf P) (read_as : How) (rel : Rel) (g : Gap) 
           )))
       by_part t v (inr (inr (e, p))) =
           inr (inr (inr (same_trans e h, same_transᵉ v (value_at (shape.function point) t) (worth read_as rel (whole next)) p (here t))))
-
-first_time_at : (rows : List Row) (d : Row) → 0 < length rows → first_time rows ≡ (get_or rows 0 d).time
-first_time_at [] d h = absurd (omega arith)
-first_time_at (r ∷ rows) d h = refl
-
--- the last time by the place of the last row
-pub last_time_at : (time : ℕ) (rows : List Row) (n : ℕ) (d : Row) → length rows ≡ suc n → last_time time rows ≡ (get_or rows n d).time
-last_time_at time [] n d h = absurd (omega arith)
-last_time_at time (r ∷ []) n d h = let e : n ≡ 0 = omega (arith, h) in subst (λ m. r.time ≡ (get_or (r ∷ []) m d).time) (sym e) refl
-last_time_at time (r ∷ s ∷ rows) zero d h = absurd (omega (arith, h))
-last_time_at time (r ∷ s ∷ rows) (suc n) d h = last_time_at r.time (s ∷ rows) n d (omega (arith, h))
 
 -- what a trace gives an atom is a function of time
 given_is_function : (read_as : How) (tr : Trace) (i : ℕ) (a : Atom) → IsFunction (Gives (reading_of read_as tr) i a)

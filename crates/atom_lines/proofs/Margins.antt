@@ -1,5 +1,5 @@
 -- The margin of an atom on a gap.
-use Rattle.std.proofs.Common.{◌≡◌, ℕ, zero, suc, ℤ, pos, negsuc, neg_ℤ, nat_abs, ◌-◌, ◌<◌, ◌≤◌, ◌-ℤ◌, refl, sym, subst, ◌∙◌, arith}
+use Rattle.std.proofs.Common.{◌≡◌, ℕ, ℤ, pos, neg_ℤ, nat_abs, ◌-◌, ◌<◌, ◌≤◌, ◌-ℤ◌, refl, sym, subst, ◌∙◌, arith}
 use Rattle.std.proofs.lemmas.Int.{ints}
 use Rattle.std.proofs.Math.Nat.{sub-pos_iff_lt}
 use Rattle.rational.specs.Rational.{Rational, ◌≈◌, negate, whole}
@@ -7,39 +7,28 @@ use Rattle.rational.specs.Line.{at, ramp_line, constant, Level}
 use Rattle.rational.specs.Extended.{finite, ◌≈ᵉ◌}
 use Rattle.rational.proofs.Mixed.{parts}
 use Rattle.rational.proofs.Order.{same_trans, same_sym, same_refl}
-use Rattle.rational.proofs.Field.{same_negate}
 use Rattle.rational.proofs.Lines.{at_level, at_constant}
 use Rattle.rational.proofs.Lines.{same_ramp}
 use Rattle.frac128.proofs.Moves.{negated as negated_ramp}
 use Rattle.rational.proofs.AffineLemmas.{finite_same}
+use Rattle.rational.proofs.Shift.{whole_neg}
 use Rattle.frac128.specs.Line.{line, base, base_value, rise_in_run, run_time}
 use Rattle.frac128.specs.declared.ramp.Ramp.{Ramp}
 use Rattle.stl_syntax.specs.SupInf.{margin}
 use Rattle.stl_syntax.specs.declared.rel.Rel.{Rel}
 use Rattle.stl_syntax.specs.declared.rel.Rel.TheVariants.{AtLeast, Above, AtMost, Below}
+use Rattle.stl_syntax.proofs.TimeLaw.{margin_same}
 use Rattle.atom_lines.specs.declared.gap.Gap.{Gap}
 use Rattle.atom_lines.specs.Gaps.{along}
 use Rattle.atom_lines.specs.Signs.{signed}
 use Rattle.atom_lines.proofs.Crossings.{at_first}
 
-negated : (n : ℤ) → whole (neg_ℤ n) ≈ negate (whole n)
-negated (pos zero) = record { same = refl }
-negated (pos (suc n)) = record { same = omega arith }
-negated (negsuc n) = record { same = omega arith }
-
 -- the margin of a whole number
 pub margin_whole : (rel : Rel) (n : ℤ) → whole (signed rel n) ≈ margin rel (whole n)
 margin_whole AtLeast n = same_refl (whole n)
 margin_whole Above n = same_refl (whole n)
-margin_whole AtMost n = negated n
-margin_whole Below n = negated n
-
--- the margin of a number does not depend on its pair
-pub margin_same : (rel : Rel) {x y : Rational} → x ≈ y → margin rel x ≈ margin rel y
-margin_same AtLeast h = h
-margin_same Above h = h
-margin_same AtMost h = same_negate h
-margin_same Below h = same_negate h
+margin_whole AtMost n = whole_neg n
+margin_whole Below n = whole_neg n
 
 signed_one : (rel : Rel) (e f : ℤ) → signed rel e ≡ signed rel f → e ≡ f
 signed_one AtLeast e f h = h

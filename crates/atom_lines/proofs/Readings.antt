@@ -13,12 +13,12 @@ use Rattle.stl_syntax.specs.Truth.{compares, expression}
 use Rattle.stl_syntax.specs.SupInf.{Gives, one, minus_one}
 use Rattle.stl_syntax.specs.declared.atom.Atom.{Atom}
 use Rattle.stl_syntax.specs.declared.rel.Rel.{Rel}
+use Rattle.stl_syntax.proofs.TimeLaw.{margin_same}
 use Rattle.atom_lines.specs.declared.truth.TruthPiece.{TruthPiece}
 use Rattle.atom_lines.specs.declared.truth.TruthPiece.TheVariants.{Whole, Split}
 use Rattle.atom_lines.specs.How.{How, by_truth, by_margin, worth, reading_of}
 use Rattle.atom_lines.specs.Pieces.{TellsGap}
 use Rattle.atom_lines.proofs.Signs.{compare_same}
-use Rattle.atom_lines.proofs.Margins.{margin_same}
 
 -- what an atom is worth does not depend on the pair
 pub worth_same : (read_as : How) (rel : Rel) {y z : Rational} → y ≈ z → worth read_as rel y ≈ᵉ worth read_as rel z

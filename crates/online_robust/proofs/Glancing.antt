@@ -14,12 +14,12 @@ use Rattle.rational.proofs.Order.{ge_of_same, le_of_lt, le_of_same, le_refl, le_
 use Rattle.rational.proofs.Order.{lt_of_lt_of_le, not_lt_of_le, same_refl, same_sym, same_trans}
 use Rattle.rational.proofs.TimeFunctions.{IsFunction}
 use Rattle.rational.proofs.TimeLemmas.{less_in, less_no, same_shifted, shifted-add}
-use Rattle.rational.proofs.Shift.{same_shift}
+use Rattle.rational.proofs.Shift.{same_shift, shift_forth}
 use Rattle.frac128.specs.Value.{value}
 use Rattle.frac128.specs.declared.frac.Frac.{Frac}
 use Rattle.value_laws.specs.Margins.{is_ramp, margin_function}
 use Rattle.value_laws.specs.declared.margin.Margin.{Margin}
-use Rattle.window_ops.proofs.Ends.{le_shifted, lt_shifted, lt_shifted_back, le_shifted_back, shift_forth}
+use Rattle.window_ops.proofs.Ends.{le_shifted, lt_shifted, lt_shifted_back, le_shifted_back}
 use Rattle.stl_syntax.specs.Trace.{start, stop}
 use Rattle.stl_syntax.specs.SupInf.{Robustness}
 use Rattle.online_robust.specs.Lines.{end_of, margin_of}

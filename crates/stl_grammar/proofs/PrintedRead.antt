@@ -392,12 +392,12 @@ pub record IsFit (n : Node) : Type 0 where
   pub reach : own_reach n ≤ 4294967295
 
 -- what holds of all holds of the first
-pub all_left : (P : Node → Type 0) (xs ys : List Node) → All P (xs ++ ys) → All P xs
+pub all_left : {X : Type 0} (P : X → Type 0) (xs ys : List X) → All P (xs ++ ys) → All P xs
 all_left P [] ys h = All-nil P
 all_left P (x ∷ xs) ys h = All-cons P x xs (All-head P x (xs ++ ys) h) (all_left P xs ys (All-tail P x (xs ++ ys) h))
 
 -- and of the rest
-pub all_right : (P : Node → Type 0) (xs ys : List Node) → All P (xs ++ ys) → All P ys
+pub all_right : {X : Type 0} (P : X → Type 0) (xs ys : List X) → All P (xs ++ ys) → All P ys
 all_right P [] ys h = h
 all_right P (x ∷ xs) ys h = all_right P xs ys (All-tail P x (xs ++ ys) h)
 

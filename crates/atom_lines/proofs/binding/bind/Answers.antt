@@ -2,11 +2,12 @@ use Rattle.std.proofs.Common.{◌≡◌, ◌∷◌, [], ◌++◌, ◌∙◌, ap,
 use Rattle.std.specs.Prelude.{is_ok, All}
 use Rattle.std.proofs.lemmas.List.{take_all}
 use Rattle.std.proofs.lemmas.List.Elements.{All-push}
+use Rattle.rational.proofs.Lists.{take_on}
 use Rattle.stl_syntax.specs.Binding.{HasColumns}
 use Rattle.atom_lines.specs.Binding.{IsBound}
 use Rattle.atom_lines.specs.Faults.{AreNodeBindings}
 use Rattle.atom_lines.specs.Sums.{IsNodeSound}
-use Rattle.atom_lines.proofs.BindingLemmas.{fault_of, nodes_more, bound_of, take_on}
+use Rattle.atom_lines.proofs.BindingLemmas.{fault_of, nodes_more, bound_of}
 use Rattle.atom_lines.proofs.binding.bind.Goals as goal
 
 pub returns-in-Err-clause-err : goal.returns-in-Err-clause-err

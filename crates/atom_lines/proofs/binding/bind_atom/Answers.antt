@@ -3,12 +3,13 @@ use Rattle.std.specs.Prelude.{is_ok, All}
 use Rattle.std.proofs.lemmas.Int.{to_z-of_z}
 use Rattle.std.proofs.lemmas.List.{take_all}
 use Rattle.std.proofs.lemmas.List.Elements.{All-push}
+use Rattle.rational.proofs.Lists.{take_on}
 use Rattle.stl_syntax.specs.Trace.{Column}
 use Rattle.stl_syntax.specs.Binding.{HasColumn}
 use Rattle.atom_lines.specs.declared.bound_atom.BoundTerm.{BoundTerm}
 use Rattle.atom_lines.specs.Binding.{IsColumn, AreTermBindings}
 use Rattle.atom_lines.specs.Sums.{IsTermSound}
-use Rattle.atom_lines.proofs.BindingLemmas.{within, among, bindings_more, bindings_length, take_on}
+use Rattle.atom_lines.proofs.BindingLemmas.{within, among, bindings_more, bindings_length}
 use Rattle.atom_lines.proofs.binding.bind_atom.Goals as goal
 
 pub step-requires : goal.step-requires

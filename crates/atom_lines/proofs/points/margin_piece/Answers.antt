@@ -8,10 +8,11 @@ use Rattle.value_laws.specs.Margins.{margin_function}
 use Rattle.stl_syntax.specs.Trace.{row_time}
 use Rattle.stl_syntax.specs.Truth.{expression}
 use Rattle.stl_syntax.specs.SupInf.{margin}
+use Rattle.stl_syntax.proofs.TimeLaw.{margin_same}
 use Rattle.atom_lines.specs.Gaps.{along}
 use Rattle.atom_lines.specs.Signs.{signed}
 use Rattle.atom_lines.proofs.Crossings.{at_first, at_second}
-use Rattle.atom_lines.proofs.Margins.{margin_same, margin_whole, signed_size}
+use Rattle.atom_lines.proofs.Margins.{margin_whole, signed_size}
 use Rattle.atom_lines.proofs.SumLemmas.{atom_binding, expression_along}
 use Rattle.rational.proofs.Mixed.{within_whole, within_same}
 use Rattle.rational.proofs.AffineLemmas.{bounded_same}

@@ -9,9 +9,10 @@ use Rattle.rational.proofs.Mixed.{within_whole, within_same}
 use Rattle.value_laws.specs.Margins.{margin_function}
 use Rattle.stl_syntax.specs.Truth.{expression}
 use Rattle.stl_syntax.specs.SupInf.{margin}
+use Rattle.stl_syntax.proofs.TimeLaw.{margin_same}
 use Rattle.atom_lines.specs.Sums.{reach, sum_over}
 use Rattle.atom_lines.specs.Signs.{signed}
-use Rattle.atom_lines.proofs.Margins.{margin_same, margin_whole, signed_size}
+use Rattle.atom_lines.proofs.Margins.{margin_whole, signed_size}
 use Rattle.atom_lines.proofs.SumLemmas.{atom_binding, expression_at_row}
 use Rattle.atom_lines.proofs.points.margin_point.Goals as goal
 

@@ -1,6 +1,6 @@
 use Rattle.std.proofs.Common.{◌≡◌, ◌-◌, ◌∙◌, suc, [], sym, length, arith}
 use Rattle.stl_syntax.specs.Trace.{Row}
-use Rattle.atom_lines.proofs.GrowingLemmas.{last_time_at}
+use Rattle.stl_syntax.proofs.RowsLemmas.{last_time_at}
 use Rattle.conformance_calls.proofs.traces.last_of.Goals as goal
 
 pub returns : goal.returns
