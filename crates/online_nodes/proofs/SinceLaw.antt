@@ -4,20 +4,20 @@ use Rattle.rational.specs.Rational.{Rational, ◌≤ʳ◌}
 use Rattle.rational.proofs.Order.{le_refl}
 use Rattle.rational.specs.Places.{Place, After, Upto, Before}
 use Rattle.online_nodes.specs.Truths.{Truths, AllAre, AllFrom, HoldsFrom, IsReason, IsSinceOf, SinceRemembers, KnowsSince, MeetsAfter, MeetsUpto}
-use Rattle.rational.proofs.PlaceLemmas.{share, between, sides, not_both, before_through, after_of_before}
-use Rattle.online_nodes.proofs.UntilLaw.{after_later, upto_earlier, in_order}
+use Rattle.rational.proofs.PlaceLemmas.{share, between, sides, not_both, before_through, after_of_before, le_through, after_later}
+use Rattle.rational.proofs.PlaceLemmas.{upto_earlier}
 
 module _ {N P Q : Truths} {low high : Rational → Place} (since : IsSinceOf N P Q low high) where
   -- while the left input holds on from where it was read, what was found counts
   pub goes_on : (at run reach l r e : Place) → SinceRemembers N P Q low high at run reach l r → AllAre true P l e
       → (t : Rational) → After at t → Upto reach t → Upto e t → N t
   goes_on at run reach l r e m told t a k h = m.counts t a k
-      (λ v x y. elim (sides l v) [ inl z ↦ m.holds v x z | inr z ↦ told v z (upto_earlier e v t h y) ])
+      (λ v x y. elim (sides l v) [ inl z ↦ m.holds v x z | inr z ↦ told v z (upto_earlier e v t y h) ])
 
   -- while the left side holds, what was found counts
   pub went_on : (at run reach l r : Place) → SinceRemembers N P Q low high at run reach l r → (t : Rational) → After at t
       → Upto reach t → Upto l t → N t
-  went_on at run reach l r m t a k h = m.counts t a k (λ v x y. m.holds v x (upto_earlier l v t h y))
+  went_on at run reach l r m t a k h = m.counts t a k (λ v x y. m.holds v x (upto_earlier l v t y h))
 
   -- the left input fails from l to e
   pub fails : (at run reach l r e : Place) → SinceRemembers N P Q low high at run reach l r → AllAre false P l e
@@ -56,7 +56,7 @@ module _ {N P Q : Truths} {low high : Rational → Place} (since : IsSinceOf N P
               by_left : Upto l u ⊎ After l u → After e u
               by_left (inr x) = absurd (told u x h (all u (le_refl u) (since.behind t u hi)))
               by_left (inl x) = let v = between l e some in
-                  absurd (told v.0 v.1 v.2 (all v.0 (in_order l u v.0 x v.1) (in_order e v.0 t v.2 a)))
+                  absurd (told v.0 v.1 v.2 (all v.0 (le_through l u v.0 x v.1) (le_through e v.0 t v.2 a)))
 
       reason : (t : Rational) → After e t → (u : Rational) × After (low t) u × Upto (high t) u × Q u × AllFrom P u t
           → (u : Rational) × IsReason P Q low high t u × After r u
@@ -68,7 +68,7 @@ module _ {N P Q : Truths} {low high : Rational → Place} (since : IsSinceOf N P
           by_side : Upto r u ⊎ After r u → After r u
           by_side (inr h) = h
           by_side (inl h) = let v = between l e some in
-              absurd (told v.0 v.1 v.2 (m.ahead u (after_of_before l e u some begun) h q v.0 v.1 (in_order e v.0 u v.2 begun)))
+              absurd (told v.0 v.1 v.2 (m.ahead u (after_of_before l e u some begun) h q v.0 v.1 (le_through e v.0 u v.2 begun)))
 
   -- the right input fails up to f
   pub right_fails : (at run reach l r f : Place) → SinceRemembers N P Q low high at run reach l r → AllAre false Q r f
@@ -115,7 +115,7 @@ module _ {N P Q : Truths} {low high : Rational → Place} (since : IsSinceOf N P
       by_share : (t : Rational) → HoldsFrom P run t → (u : Rational) × After x u × Upto y u × After (low t) u × Upto (high t) u
           → N t
       by_share t h (u, after_x, upto_y, lo, hi) = since.holds t u lo hi (q u after_x upto_y)
-          (λ v from_u to_t. h v (after_later run u v (inside u after_x) from_u) to_t)
+          (λ v from_u to_t. h v (after_later run u v from_u (inside u after_x)) to_t)
 
       by_reach : (t : Rational) → After at' t → HoldsFrom P run t → Upto reach t ⊎ Upto to t → N t
       by_reach t a h (inl k) = m.counts t (later t a) k h
@@ -132,7 +132,7 @@ module _ {N P Q : Truths} {low high : Rational → Place} (since : IsSinceOf N P
     begins = m.begins;
     counts = m.counts;
     rest = λ t a b n. let w = m.rest t a b n in (w.0, reason t a b w.1);
-    ahead = λ u a b q v x z. told v x (upto_earlier e v u (inside u b) z);
+    ahead = λ u a b q v x z. told v x (upto_earlier e v u z (inside u b));
   }
     where
       reason : (t : Rational) → After at t → After reach t → (u : Rational) × IsReason P Q low high t u × After r u
@@ -185,11 +185,11 @@ remembers_of {N} {P} {Q} {low} {high} {l_stop} {r_stop} start at run reach l r s
         by_side : Upto run u ⊎ After run u → After run u
         by_side (inr h) = h
         by_side (inl h) = let v = k.begins u (in_trace u q) h in
-            absurd (v.3 (all v.0 v.1 (in_order run v.0 t v.2 (ran t a))))
+            absurd (v.3 (all v.0 v.1 (le_through run v.0 t v.2 (ran t a))))
 
     by_witness : (t : Rational) → HoldsFrom P run t
         → (u : Rational) × After (low t) u × Upto (high t) u × Q u × After run u × Upto r_stop u → N t
-    by_witness t h (u, lo, hi, q, x, y) = since.holds t u lo hi q (λ v from_u to_t. h v (after_later run u v x from_u) to_t)
+    by_witness t h (u, lo, hi, q, x, y) = since.holds t u lo hi q (λ v from_u to_t. h v (after_later run u v from_u x) to_t)
 
     reason : (t : Rational) → After at t → After reach t
         → (u : Rational) × After (low t) u × Upto (high t) u × Q u × AllFrom P u t
@@ -218,11 +218,11 @@ module _ {P Q : Truths} {low high : Rational → Place} where
     where
       clash : (u : Rational) → After e u → Upto r u → Q u → ⊥
       clash u x h q = let v = between l e some in
-          told v.0 v.1 v.2 ((k.ahead u (after_of_before l e u some x) h q v.0 v.1 (in_order e v.0 u v.2 x)).0)
+          told v.0 v.1 v.2 ((k.ahead u (after_of_before l e u some x) h q v.0 v.1 (le_through e v.0 u v.2 x)).0)
 
       fails_before : (u : Rational) → After start u → Upto e u → (v : Rational) × (u ≤ʳ v) × Upto e v × (¬ P v)
       fails_before u a h = elim (sides l u) [
-        | inl x ↦ (let v = between l e some in (v.0, in_order l u v.0 x v.1, v.2, told v.0 v.1 v.2))
+        | inl x ↦ (let v = between l e some in (v.0, le_through l u v.0 x v.1, v.2, told v.0 v.1 v.2))
         | inr x ↦ (u, le_refl u, h, told u x h)
       ]
 
@@ -282,7 +282,7 @@ module _ {P Q : Truths} {low high : Rational → Place} where
     counts = k.counts;
     rest = λ t u a b lo hi q x known. beyond t u a b lo x;
     inside = λ u x. elim (sides y u) [ inl h ↦ absurd (not_both r_stop u (within' u h) x) | inr h ↦ h ];
-    ahead = λ u a b q v x z. let h = upto_earlier e v u (inside u b) z in (told v x h, within v h);
+    ahead = λ u a b q v x z. let h = upto_earlier e v u z (inside u b) in (told v x h, within v h);
   }
 
   -- a left verdict that holds is known to its end

@@ -45,7 +45,7 @@ returns-in-Ok-put_json c =
     let of : IsReportText case.formula.scale f c.in-Ok-truth_of.truth c.in-Ok-margins_of.margins (items_of c.in-Ok.explained) w =
     subst (λ s. IsReportText s f c.in-Ok-truth_of.truth c.in-Ok-margins_of.margins (items_of c.in-Ok.explained) w) c.scale-scale.ensures.scale
     (subst (λ items. IsReportText c.scale-scale.result f c.in-Ok-truth_of.truth c.in-Ok-margins_of.margins items w)
-        c.truth_and_items-holds.ensures.items report) in
+    c.truth_and_items-holds.ensures.items report) in
     subst (λ h. IsAnswerOf json f case.trace h c.put_json.new.text) (sym c.truth_and_items-holds.ensures.truth)
     (subst (IsAnswerOf json f case.trace (truth_of c.in-Ok.explained)) (sym text_is)
     (reported f case c.requires.case c.in-Ok-truth_of.truth c.in-Ok-margins_of.margins w c.in-Ok-truth_of.ensures
