@@ -8,8 +8,7 @@ use Rattle.early_verdict.specs.Spans.{Lies, IsOn, BeginsAfter, AreTidy, EndBefor
 use Rattle.early_verdict.specs.Joining.{Notes, Absorbs}
 use Rattle.frac128.specs.declared.cut.Cut.{Cut}
 use Rattle.early_verdict.specs.declared.stretch.Stretch.{Stretch}
-use Rattle.rational.proofs.PlaceLemmas.{sides, not_both, before_through}
-use Rattle.early_verdict.proofs.MakingLemmas.{before_from, before_to, not_itself}
+use Rattle.rational.proofs.PlaceLemmas.{sides, not_both, before_through, before_of_at_most, before_at_most, not_before_itself}
 use Rattle.early_verdict.proofs.SpanLemmas.{
   without,
   on_without,
@@ -119,11 +118,11 @@ absorb_first at part old told tidy within front reach = record {
 module _ (at : ℕ) (part joined : Stretch) (seen : Cut) (old new told fresh : List Stretch) (a : Absorbing at part joined seen old new told fresh) where
   -- the next that the part touches touches what it was joined to
   pub touches_first : (next : Stretch) → ¬ (Before (place part.to) (place next.from)) → ¬ (Before (place joined.to) (place next.from))
-  touches_first next n b = n (before_from (place part.to) (place joined.to) (place next.from) a.high b)
+  touches_first next n b = n (before_of_at_most (place part.to) (place joined.to) (place next.from) a.high b)
 
   -- the next stretch does not end before the joined one begins
   pub touches_second : (next : Stretch) → slice_get new at ≡ Some next → ¬ (Before (place next.to) (place joined.from))
-  touches_second next e b = reaches_at (place part.from) new at next a.reach e (before_to (place next.to) (place joined.from) (place part.from) b a.low)
+  touches_second next e b = reaches_at (place part.from) new at next a.reach e (before_at_most (place next.to) (place joined.from) (place part.from) b a.low)
 
   -- what lies behind what was seen, before what is still in the list, is not in the old list
   apart : (t : Rational) → After (place seen) t → (IsOn (drop at new) t → ⊥) → IsOn old t → ⊥
@@ -190,7 +189,7 @@ module _ (at : ℕ) (part joined : Stretch) (seen : Cut) (old new told fresh : L
         | inr s ↦ front_without (place joined'.from) new at (subst (λ c. EndBefore (place c) (take at new)) (sym s) (front_of new at next a.tidy e))
       ];
       reach = rest_without (place part.from) new at a.reach;
-      ahead = none_ends (place next.to) (place next.to) (drop at (without new at)) (not_itself (place next.to)) (begins_next new at next a.tidy e)
+      ahead = none_ends (place next.to) (place next.to) (drop at (without new at)) (not_before_itself (place next.to)) (begins_next new at next a.tidy e)
           (tidy_drop (without new at) at (tidy_without new at a.tidy));
       rest = elim to [
         | inl s ↦ elim a.rest [

@@ -3,6 +3,7 @@ use Rattle.std.proofs.Common.{◌≡◌, ◌⊎◌, inl, inr, refl, sym, ap, sub
 use Rattle.std.proofs.Common.{true, false, Some, None, List, [], ◌∷◌, length, arith, below_more}
 use Rattle.std.specs.Prelude.{slice_get, slice_index_or}
 use Rattle.rational.specs.Time.{Rational, ◌≤ʳ◌}
+use Rattle.rational.proofs.Lists.{slice_get_there}
 use Rattle.stl_syntax.specs.Trace.{Trace, start, stop}
 use Rattle.stl_syntax.specs.Formula.{subformula}
 use Rattle.stl_syntax.specs.Truth.{Truth}
@@ -20,12 +21,6 @@ use Rattle.early_verdict.specs.declared.sets.Sets.{Sets}
 use Rattle.early_verdict.proofs.Apart.{never_both}
 use Rattle.early_verdict.proofs.SettledSets.{node_told}
 use Rattle.early_verdict.proofs.EndedSets.{Final, node_final}
-
--- the sets at a place of the list
-pub sets_at : (sets : List Sets) (i : ℕ) → i < length sets → (s : Sets) × (slice_get sets i ≡ Some s)
-sets_at [] i h = absurd (omega (arith, h))
-sets_at (s ∷ sets) zero h = (s, refl)
-sets_at (s ∷ sets) (suc i) h = sets_at sets i (omega (arith, h))
 
 -- the lists of a node are those of its sets
 pub lists_are : (sets : List Sets) (i : ℕ) (s : Sets) → slice_get sets i ≡ Some s → lists_at sets i ≡ lists_of s
@@ -126,8 +121,8 @@ module _ {nodes : List Node} (tr : Trace) {live shown : List Sets} (formed : Are
     next_known fit m le known =
         let n = slice_index_or nodes m (Const false) in
         let at = slice_get_at nodes m (Const false) le in
-        let s = sets_at live m (let c = have.count in omega (arith, le, c)) in
-        let x = sets_at shown m (let c = have.shown_count in omega (arith, le, c)) in
+        let s = slice_get_there live m (let c = have.count in omega (arith, le, c)) in
+        let x = slice_get_there shown m (let c = have.shown_count in omega (arith, le, c)) in
         let h = have.has m n s.0 x.0 at s.1 x.1 in
         let below = placed nodes m n formed.post_order at in
         known_of m n s.0 x.0 at s.1 x.1
@@ -164,8 +159,8 @@ module _ {nodes : List Node} (tr : Trace) {live shown : List Sets} (formed : Are
     next_final fit m le known =
         let n = slice_index_or nodes m (Const false) in
         let at = slice_get_at nodes m (Const false) le in
-        let s = sets_at live m (let c = have.count in omega (arith, le, c)) in
-        let x = sets_at shown m (let c = have.shown_count in omega (arith, le, c)) in
+        let s = slice_get_there live m (let c = have.count in omega (arith, le, c)) in
+        let x = slice_get_there shown m (let c = have.shown_count in omega (arith, le, c)) in
         let h = have.has m n s.0 x.0 at s.1 x.1 in
         let below = placed nodes m n formed.post_order at in
         final_of m n s.0 x.0 at s.1 x.1 h

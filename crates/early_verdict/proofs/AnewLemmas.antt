@@ -1,6 +1,7 @@
 -- Times from which a since without a bound begins anew, and the times that see one of a list so far before them.
 use Rattle.std.proofs.Common.{◌≡◌, ◌≢◌, inl, inr, refl, subst, ℕ, zero, suc, Bool, true, false, ◌||◌, Some, List, [], ◌∷◌, pos, arith}
 use Rattle.std.specs.Prelude.{MatchBool, slice_get, ◌↔◌}
+use Rattle.std.proofs.lemmas.Option.{same_Some}
 use Rattle.rational.specs.Rational.{Rational, add, whole, ◌≤ʳ◌, ◌<ʳ◌}
 use Rattle.rational.specs.Time.{later}
 use Rattle.rational.proofs.Order.{ge_of_same, le_of_lt, le_of_same, le_refl, le_trans, lt_of_le_of_lt, lt_of_lt_of_le, same_of_le}
@@ -12,10 +13,10 @@ use Rattle.early_verdict.specs.Spans.{AreTidy, IsAmong, IsOn, Lies}
 use Rattle.early_verdict.specs.Reaching.{IsLastEnd}
 use Rattle.early_verdict.specs.declared.stretch.Stretch.{Stretch}
 use Rattle.early_verdict.proofs.Gaps.{on_same}
-use Rattle.rational.proofs.PlaceLemmas.{after_of_before, between, sides}
-use Rattle.early_verdict.proofs.RunLemmas.{after_le, le_through, on_one, upto_le}
+use Rattle.rational.proofs.PlaceLemmas.{after_of_before, between, sides, le_through, upto_earlier, after_later}
+use Rattle.early_verdict.proofs.RunLemmas.{on_one}
 use Rattle.early_verdict.proofs.SinceSets.{before_end, less_by, to_end}
-use Rattle.early_verdict.proofs.SpanLemmas.{rest_after, some_same}
+use Rattle.early_verdict.proofs.SpanLemmas.{rest_after}
 use Rattle.early_verdict.proofs.StretchLemmas.{rises}
 
 -- what ends just after a time has that time
@@ -25,7 +26,7 @@ at_last xs part c h e =
     let u = r.0 in
     let k = upto_at c.after u e (h.bounds u r.2.0 r.2.1) in (
       on_same xs u c.at (same_of_le k r.1) r.2.1,
-      (after_le (place part.from) u c.at k r.2.0.0, upto_le (place part.to) c.at u r.1 r.2.0.1),
+      (after_later (place part.from) u c.at k r.2.0.0, upto_earlier (place part.to) c.at u r.1 r.2.0.1),
     )
   where
     upto_self : (b : Bool) → b ≡ true → MatchBool b (c.at ≤ʳ c.at) (c.at <ʳ c.at)
@@ -42,7 +43,7 @@ time_before c d b = let m = between c (record { at = d; after = false }) b in (m
 
 -- such a time lies after that place itself
 pub after_earlier : (c : Place) (d : Rational) → Before c (record { at = d; after = false }) → After c d
-after_earlier c d b = let m = time_before c d b in after_le c m.0 d (le_of_lt m.2) m.1
+after_earlier c d b = let m = time_before c d b in after_later c m.0 d (le_of_lt m.2) m.1
 
 -- what lies after a place that was moved on lies, so much less, after the place; and back
 pub moved_after : (c : Place) (a : ℕ) (t : Rational) → After (moved_begin (pos a) true c) t → After c (less_by t a)
@@ -78,7 +79,7 @@ sees_one xs s a t i h = elim (sides (place s.to) (less_by t a)) [
 -- all times of a list lie after the place where its first stretch begins
 pub first_begins : (xs : List Stretch) (s : Stretch) (u : Rational) → AreTidy xs → slice_get xs 0 ≡ Some s → IsOn xs u → After (place s.from) u
 first_begins [] s u h e o = absurd o
-first_begins (x ∷ xs) s u h e o = subst (λ (z : Stretch). After (place z.from) u) (some_same x s e) (elim o [
+first_begins (x ∷ xs) s u h e o = subst (λ (z : Stretch). After (place z.from) u) (same_Some x s e) (elim o [
   | inl l ↦ l.0
   | inr m ↦ after_of_before (place x.from) (place x.to) u (rises x) (rest_after (place x.to) xs u h.1 h.0 m)
 ])
@@ -91,7 +92,7 @@ after_shared s b c t is h = elim (sides (place s.to) t) [
   | inl k ↦ ((is t).0 (h, k)).0
   | inr k ↦
       let m = between (place s.from) (place s.to) (rises s) in
-      after_le c m.0 t (le_through (place s.to) m.0 t m.2 k) ((is m.0).0 (m.1, m.2)).0
+      after_later c m.0 t (le_through (place s.to) m.0 t m.2 k) ((is m.0).0 (m.1, m.2)).0
 ]
 
 -- a side that is not 0 lies after the time

@@ -1,6 +1,6 @@
 -- Nothing is settled both true and false.
-use Rattle.std.proofs.Common.{inl, inr, Bool, true, false}
-use Rattle.std.specs.Prelude.{IsTrue, IsFalse}
+use Rattle.std.proofs.Common.{inl, inr}
+use Rattle.std.proofs.lemmas.Bool.{both_ways}
 use Rattle.rational.specs.Time.{Rational}
 use Rattle.stl_syntax.specs.Trace.{Trace}
 use Rattle.stl_syntax.specs.Formula.{Subformula, constant, atom, negation, conjunction, disjunction}
@@ -8,14 +8,10 @@ use Rattle.stl_syntax.specs.Formula.{implication, until, eventually, always, sin
 use Rattle.stl_syntax.specs.Truth.{holds_at}
 use Rattle.stl_syntax.specs.Early.{Settled, SettledNot}
 
-not_both_tests : (b : Bool) → IsTrue b → IsFalse b → ⊥
-not_both_tests true t f = cc
-not_both_tests false t f = cc
-
 -- no formula is settled true and settled false at one time
 pub never_both : (p : Subformula) (tr : Trace) (t : Rational) → Settled p tr t → SettledNot p tr t → ⊥
-never_both (constant b) tr t h k = not_both_tests b h k
-never_both (atom i a) tr t h k = not_both_tests (holds_at a tr t) h.1 k.1
+never_both (constant b) tr t h k = both_ways b k h
+never_both (atom i a) tr t h k = both_ways (holds_at a tr t) k.1 h.1
 never_both (negation p) tr t h k = never_both p tr t k h
 never_both (conjunction p q) tr t h (inl k) = never_both p tr t h.0 k
 never_both (conjunction p q) tr t h (inr k) = never_both q tr t h.1 k

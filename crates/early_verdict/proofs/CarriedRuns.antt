@@ -12,10 +12,10 @@ use Rattle.early_verdict.specs.Fitting.{Says}
 use Rattle.early_verdict.specs.Letting.{BeginsAtOnce}
 use Rattle.early_verdict.specs.declared.stretch.Stretch.{Stretch}
 use Rattle.early_verdict.specs.declared.grown.Grown.{Grown}
-use Rattle.early_verdict.proofs.MakingLemmas.{after_from}
-use Rattle.rational.proofs.PlaceLemmas.{at_most_of_not_before, between, sides}
+use Rattle.rational.proofs.PlaceLemmas.{at_most_of_not_before, between, sides, after_at_most, le_through, upto_earlier}
+use Rattle.rational.proofs.PlaceLemmas.{after_later}
 use Rattle.early_verdict.proofs.ReachLemmas.{carried_in}
-use Rattle.early_verdict.proofs.RunLemmas.{after_le, le_through, on_one, upto_le}
+use Rattle.early_verdict.proofs.RunLemmas.{on_one}
 
 module _ (d : Rational) (runs runs' spans spans' : List Stretch) (x y : Grown) (b b' : Bool)
     (runs_in : (t : Rational) → d ≤ʳ t → IsOn runs t → IsOn runs' t) (runs_out : (t : Rational) → IsOn runs' t → IsOn runs t)
@@ -24,7 +24,7 @@ module _ (d : Rational) (runs runs' spans spans' : List Stretch) (x y : Grown) (
     (only : (t : Rational) → IsOn y.spans.items t → IsOn x.spans.items t × Lies y.bounds t) (after : (t : Rational) → Lies y.bounds t → d ≤ʳ t)
     (begins : BeginsAtOnce b' y) (tidy : AreTidy y.spans.items) (h : Says x (GoesBackBy b (place x.bounds.from) runs spans)) where
   within : (t v : Rational) → Lies y.bounds t → After (place y.bounds.from) v → v ≤ʳ t → Lies y.bounds v
-  within t v l a m = (a, upto_le (place y.bounds.to) v t m l.1)
+  within t v l a m = (a, upto_earlier (place y.bounds.to) v t m l.1)
 
   -- what goes back from a time does so from a later one, where the runs have each time between
   on_to : (v t : Rational) → v ≤ʳ t → ((w : Rational) → v ≤ʳ w → w ≤ʳ t → IsOn runs w) → GoesBackBy b (place x.bounds.from) runs spans v
@@ -37,7 +37,7 @@ module _ (d : Rational) (runs runs' spans spans' : List Stretch) (x y : Grown) (
   )
   on_to v t l all (inr k) = inr (record {
     on = k.on;
-    after = after_le (place x.bounds.from) v t l k.after;
+    after = after_later (place x.bounds.from) v t l k.after;
     all = λ w a m. elim (le_or_lt w v) [ inl n ↦ k.all w a n | inr n ↦ all w (le_of_lt n) m ];
   })
 
@@ -79,12 +79,12 @@ module _ (d : Rational) (runs runs' spans spans' : List Stretch) (x y : Grown) (
       let p = begins.yes k.on in
       let begun = at_most_of_not_before (place p.0.from) (place y.bounds.from) p.2.0 in
       elim (sides (place p.0.to) t) [
-        | inl e ↦ on_one y.spans.items p.0 t p.1 (after_from (place p.0.from) (place y.bounds.from) t begun l.0, e)
+        | inl e ↦ on_one y.spans.items p.0 t p.1 (after_at_most (place p.0.from) (place y.bounds.from) t begun l.0, e)
         | inr e ↦
             let m = between (place y.bounds.from) (place p.0.to) p.2.1 in
-            let on = on_one y.spans.items p.0 m.0 p.1 (after_from (place p.0.from) (place y.bounds.from) m.0 begun m.1, m.2) in
+            let on = on_one y.spans.items p.0 m.0 p.1 (after_at_most (place p.0.from) (place y.bounds.from) m.0 begun m.1, m.2) in
             has t l (h.has t (less t l) (on_to m.0 t (le_through (place p.0.to) m.0 t m.2 e)
-            (λ w i j. runs_out w (k.all w (after_le (place y.bounds.from) m.0 w i m.1) j)) (h.only m.0 (only m.0 on).0).1))
+            (λ w i j. runs_out w (k.all w (after_later (place y.bounds.from) m.0 w i m.1) j)) (h.only m.0 (only m.0 on).0).1))
       ]
 
   -- a run that was cut and is carried on tells the later times as before

@@ -3,16 +3,14 @@ use Rattle.std.proofs.Common.{◌≡◌, ◌≢◌, ◌⊎◌, inl, inr, refl, s
 use Rattle.std.proofs.Common.{true, false, Some, None, List, [], ◌∷◌, take, arith}
 use Rattle.std.specs.Prelude.{◌==◌, All, slice_get}
 use Rattle.std.specs.List.{list_any}
-use Rattle.std.proofs.lemmas.Bool.{eq-eqb, or_left, or_right}
+use Rattle.std.proofs.lemmas.Bool.{eq-eqb, or_left, or_right, cases_eq}
 use Rattle.std.proofs.lemmas.List.Elements.{All-head, All-tail}
-use Rattle.stl_syntax.specs.Formula.{HasChildrenBelow}
 use Rattle.stl_syntax.specs.PostOrder.{children, has_child, is_used, IsPostOrder}
 use Rattle.stl_syntax.specs.declared.node.Node.{Node}
 use Rattle.stl_syntax.specs.declared.node.Node.TheVariants.{Const, Atom as Leaf, Not, And, Or, Implies, Until, Eventually, Always, Since, Once, Historically}
 use Rattle.stl_syntax.proofs.PostOrderLemmas.{children_free}
+use Rattle.stl_syntax.specs.Cells.{IsChild}
 use Rattle.early_verdict.specs.Standing.{left_of}
-use Rattle.early_verdict.specs.Letting.{IsChild}
-use Rattle.early_verdict.proofs.Netting.{nat_is}
 
 -- a child is one of its parent's places
 one_has : (p q : ℕ) → q ≡ p → list_any (λ r. r == p) (q ∷ []) ≡ true
@@ -22,7 +20,7 @@ two_have : (p q r : ℕ) → (q ≡ p) ⊎ (r ≡ p) → list_any (λ x. x == p)
 two_have p q r (inl e) = or_left _ _ (eq-eqb q p e)
 two_have p q r (inr e) = or_right _ _ (one_has p r e)
 
-child_has : (p : ℕ) (n : Node) → IsChild p n → has_child p n ≡ true
+child_has : (p : ℕ) (n : Node) → IsChild n p → has_child p n ≡ true
 child_has p (Const b) h = absurd h
 child_has p (Leaf a) h = absurd h
 child_has p (Not q) h = one_has p q h
@@ -43,7 +41,7 @@ two_of_all : (P : ℕ → Type 0) (p q r : ℕ) → All P (q ∷ r ∷ []) → (
 two_of_all P p q r h (inl e) = subst P e (All-head P q (r ∷ []) h)
 two_of_all P p q r h (inr e) = one_of_all P p r (All-tail P q (r ∷ []) h) e
 
-child_of_all : (P : ℕ → Type 0) (p : ℕ) (n : Node) → All P (children n) → IsChild p n → P p
+child_of_all : (P : ℕ → Type 0) (p : ℕ) (n : Node) → All P (children n) → IsChild n p → P p
 child_of_all P p (Const b) h e = absurd e
 child_of_all P p (Leaf a) h e = absurd e
 child_of_all P p (Not q) h e = one_of_all P p q h e
@@ -57,45 +55,30 @@ child_of_all P p (Since q r a b) h e = two_of_all P p q r h e
 child_of_all P p (Once q a b i j) h e = one_of_all P p q h e
 child_of_all P p (Historically q a b i j) h e = one_of_all P p q h e
 
--- a child stands before its parent
-pub child_below : (i p : ℕ) (n : Node) → HasChildrenBelow i n → IsChild p n → p < i
-child_below i p (Const b) h e = absurd e
-child_below i p (Leaf a) h e = absurd e
-child_below i p (Not q) h e = subst (λ x. x < i) e h
-child_below i p (And q r) h e = elim e [ inl d ↦ subst (λ x. x < i) d h.0 | inr d ↦ subst (λ x. x < i) d h.1 ]
-child_below i p (Or q r) h e = elim e [ inl d ↦ subst (λ x. x < i) d h.0 | inr d ↦ subst (λ x. x < i) d h.1 ]
-child_below i p (Implies q r) h e = elim e [ inl d ↦ subst (λ x. x < i) d h.0 | inr d ↦ subst (λ x. x < i) d h.1 ]
-child_below i p (Until q r a b) h e = elim e [ inl d ↦ subst (λ x. x < i) d h.0 | inr d ↦ subst (λ x. x < i) d h.1 ]
-child_below i p (Eventually q a b j k) h e = subst (λ x. x < i) e h
-child_below i p (Always q a b j k) h e = subst (λ x. x < i) e h
-child_below i p (Since q r a b) h e = elim e [ inl d ↦ subst (λ x. x < i) d h.0 | inr d ↦ subst (λ x. x < i) d h.1 ]
-child_below i p (Once q a b j k) h e = subst (λ x. x < i) e h
-child_below i p (Historically q a b j k) h e = subst (λ x. x < i) e h
-
 -- whether it is one is decided
 either : (p q r : ℕ) → ((q ≡ p) ⊎ (r ≡ p)) ⊎ ¬ ((q ≡ p) ⊎ (r ≡ p))
-either p q r = elim (nat_is q p) [
+either p q r = elim (cases_eq q p) [
   | inl e ↦ inl (inl e)
-  | inr n ↦ elim (nat_is r p) [ inl e ↦ inl (inr e) | inr m ↦ inr (λ h. elim h [ inl e ↦ n e | inr e ↦ m e ]) ]
+  | inr n ↦ elim (cases_eq r p) [ inl e ↦ inl (inr e) | inr m ↦ inr (λ h. elim h [ inl e ↦ n e | inr e ↦ m e ]) ]
 ]
 
 -- a node is a child of another or is not
-pub child_or_not : (p : ℕ) (n : Node) → IsChild p n ⊎ ¬ (IsChild p n)
+pub child_or_not : (p : ℕ) (n : Node) → IsChild n p ⊎ ¬ (IsChild n p)
 child_or_not p (Const b) = inr (λ h. h)
 child_or_not p (Leaf a) = inr (λ h. h)
-child_or_not p (Not q) = nat_is q p
+child_or_not p (Not q) = cases_eq q p
 child_or_not p (And q r) = either p q r
 child_or_not p (Or q r) = either p q r
 child_or_not p (Implies q r) = either p q r
 child_or_not p (Until q r a b) = either p q r
-child_or_not p (Eventually q a b i j) = nat_is q p
-child_or_not p (Always q a b i j) = nat_is q p
+child_or_not p (Eventually q a b i j) = cases_eq q p
+child_or_not p (Always q a b i j) = cases_eq q p
 child_or_not p (Since q r a b) = either p q r
-child_or_not p (Once q a b i j) = nat_is q p
-child_or_not p (Historically q a b i j) = nat_is q p
+child_or_not p (Once q a b i j) = cases_eq q p
+child_or_not p (Historically q a b i j) = cases_eq q p
 
 -- the left operand of until or since is a child
-pub left_child : (p : ℕ) (n : Node) → left_of n ≡ Some p → IsChild p n
+pub left_child : (p : ℕ) (n : Node) → left_of n ≡ Some p → IsChild n p
 left_child p (Const b) e = let f : None ≡ Some p = e in cc
 left_child p (Leaf a) e = let f : None ≡ Some p = e in cc
 left_child p (Not q) e = absurd (let f : None ≡ Some p = e in cc)
@@ -122,14 +105,14 @@ used_by (x ∷ nodes) zero p n e h = or_left _ _ (let f : Some x ≡ Some n = e 
 used_by (x ∷ nodes) (suc i) p n e h = or_right _ _ (used_by nodes i p n e h)
 
 module _ (nodes : List Node) (order : IsPostOrder nodes) where
-  one_before : (i j p : ℕ) (n m : Node) → i < j → slice_get nodes i ≡ Some n → slice_get nodes j ≡ Some m → IsChild p n → IsChild p m → ⊥
+  one_before : (i j p : ℕ) (n m : Node) → i < j → slice_get nodes i ≡ Some n → slice_get nodes j ≡ Some m → IsChild n p → IsChild m p → ⊥
   one_before i j p n m l at here c d =
       let free : is_used (take j nodes) p ≡ false =
       child_of_all (λ q. is_used (take j nodes) q ≡ false) p m (children_free (take j nodes) m (order.follows j m here)) d in
       let used : is_used (take j nodes) p ≡ true = used_by (take j nodes) i p n (node_before nodes j i n l at) (child_has p n c) in cc
 
   -- no node is a child of two
-  pub one_parent : (i j p : ℕ) (n m : Node) → i ≢ j → slice_get nodes i ≡ Some n → slice_get nodes j ≡ Some m → IsChild p n → IsChild p m → ⊥
+  pub one_parent : (i j p : ℕ) (n m : Node) → i ≢ j → slice_get nodes i ≡ Some n → slice_get nodes j ≡ Some m → IsChild n p → IsChild m p → ⊥
   one_parent i j p n m d at here c e = elim (order_of i j) [
     | inl l ↦ one_before i j p n m l at here c e
     | inr (inl q) ↦ d q

@@ -3,6 +3,8 @@ use Rattle.std.proofs.Common.{◌⊎◌, inl, inr, ℕ, true}
 use Rattle.std.specs.Prelude.{Option, Some}
 use Rattle.rational.specs.Time.{Rational, Within, ◌≤ʳ◌}
 use Rattle.rational.proofs.Order.{le_refl, le_trans, le_of_lt, le_or_lt}
+use Rattle.rational.proofs.TimeLemmas.{le_by_later, still_begins}
+use Rattle.rational.proofs.PlaceLemmas.{after_later}
 use Rattle.stl_syntax.specs.Trace.{Trace, start}
 use Rattle.stl_syntax.specs.Early.{OpenBehind}
 use Rattle.frac128.specs.Cuts.{place}
@@ -13,8 +15,7 @@ use Rattle.early_verdict.specs.Fitting.{Lists, SinceHolding, SinceFailing}
 use Rattle.early_verdict.specs.declared.sets.Holding.{Holding}
 use Rattle.early_verdict.specs.declared.sets.Failing.{Failing}
 use Rattle.early_verdict.proofs.Failures.{at_time, all_or_broken_back}
-use Rattle.early_verdict.proofs.RunLemmas.{after_le}
-use Rattle.early_verdict.proofs.SinceSets.{back_way, before_end, earlier, end_past, from_end, less_by, none_later, past_end, still_begins, to_end}
+use Rattle.early_verdict.proofs.SinceSets.{back_way, before_end, end_past, from_end, less_by, none_later, past_end, to_end}
 
 module _ (tr : Trace) (a : ℕ) (b : Option ℕ) (p q : Lists) (t w : Rational) (in_window : OpenBehind (start tr) a b true true t w)
     (apart_p : IsOn p.yes w → ¬ (IsOn p.no w)) (apart_q : IsOn q.yes w → ¬ (IsOn q.no w)) (decides : (IsOn p.yes w × IsOn q.yes w) ⊎ IsOn p.no w) where
@@ -63,7 +64,7 @@ module _ (tr : Trace) (a : ℕ) (b : Option ℕ) (p q : Lists) (t w : Rational) 
         ]
         by_run (inr k) =
             let i = (wide w (le_refl w) wt).1 in
-            from_there (all_along w in_window.after (λ v m n. k.all v (after_le (place x.run.bounds.from) w v m i.0) n))
+            from_there (all_along w in_window.after (λ v m n. k.all v (after_later (place x.run.bounds.from) w v m i.0) n))
 
     -- and where since holds its sets have the time
     pub true_decided : SinceHolds tr a b (IsOn p.yes) (IsOn q.yes) t → IsOn x.some.spans.items t × IsOn x.each.spans.items t
@@ -80,7 +81,7 @@ module _ (tr : Trace) (a : ℕ) (b : Option ℕ) (p q : Lists) (t w : Rational) 
               | inl k ↦
                   let both = h.both.has u (wide u k ut).0 (z u (record { above = le_refl u; below = ut }), y) in
                   h.run.has v (wide v wv vt).1
-                  (inl (u, earlier t u v a o.ends i.begins, both, λ m n. z m (record { above = n.above; below = le_trans n.below vt })))
+                  (inl (u, le_by_later t u v a o.ends i.begins, both, λ m n. z m (record { above = n.above; below = le_trans n.below vt })))
               | inr k ↦ elim decides [
                 | inl d ↦
                     h.run.has v (wide v wv vt).1 (inl (
@@ -107,7 +108,7 @@ module _ (tr : Trace) (a : ℕ) (b : Option ℕ) (p q : Lists) (t w : Rational) 
             vt = none_later v t 0 i.ends
 
             uv : u ≤ʳ v
-            uv = earlier t u v a o.ends i.begins
+            uv = le_by_later t u v a o.ends i.begins
 
             wv : w ≤ʳ v
             wv = le_trans we (from_end t v a i.begins)

@@ -1,6 +1,7 @@
 -- Once the input has ended, sets that fit tell the truth at each time up to the last row.
 use Rattle.std.proofs.Common.{◌≡◌, ◌⊎◌, inl, inr, refl, sym, subst, ℕ, ◌<◌, Bool, true, false, Option, Some, None, List}
 use Rattle.std.specs.Prelude.{IsTrue, IsFalse, MatchOption}
+use Rattle.std.proofs.lemmas.Bool.{both_ways}
 use Rattle.rational.specs.Time.{Rational, Within, later, ◌≤ʳ◌}
 use Rattle.rational.specs.Windows.{Ahead, Behind}
 use Rattle.rational.proofs.Order.{le_of_lt, le_or_lt, le_refl, le_trans}
@@ -53,10 +54,6 @@ met_behind tr a b a_in b_in t u w h = record { inside = record { above = w.after
 open_behind : (tr : Trace) (a : ℕ) (b : Option ℕ) (a_in b_in : Bool) (t u : Rational) → Behind (start tr) (stop tr) a b a_in b_in t u
     → OpenBehind (start tr) a b a_in b_in t u
 open_behind tr a b a_in b_in t u w = record { after = w.inside.above; begins = w.begins; ends = w.ends }
-
-not_both_tests : (b : Bool) → IsTrue b → IsFalse b → ⊥
-not_both_tests true t f = cc
-not_both_tests false t f = cc
 
 module _ (tr : Trace) (own : Stretch) (s : Sets) (is_yes : s.yes.bounds ≡ own) (is_no : s.no.bounds ≡ own)
     (from : (t : Rational) → Lies own t → start tr ≤ʳ t) (tidy : AreSetsTidy s) where
@@ -180,7 +177,7 @@ module _ (tr : Trace) (own : Stretch) (s : Sets) (is_yes : s.yes.bounds ≡ own)
     -- sets of a node that fit are so once the input has ended
     pub node_final : (n : Node) → HasChildrenBelow i n → HasBounds n → LooksAt n (start tr) shown own s.parts
         → Fits n true tr at s → Final tr (Lies own) (lists_of s) (tree_of sub i n)
-    node_final (Const b) c o a h = final (λ t. IsTrue b) (λ t. IsFalse b) (tree_of sub i (Const b)) h (λ t f e x. x) (λ t f e x y. not_both_tests b y x)
+    node_final (Const b) c o a h = final (λ t. IsTrue b) (λ t. IsFalse b) (tree_of sub i (Const b)) h (λ t f e x. x) (λ t f e x y. both_ways b x y)
         (λ t l e. by_value b)
       where
         by_value : (b : Bool) → IsTrue b ⊎ IsFalse b
@@ -188,7 +185,7 @@ module _ (tr : Trace) (own : Stretch) (s : Sets) (is_yes : s.yes.bounds ≡ own)
         by_value false = inr refl
     node_final (Leaf x) c o a h =
         final (λ t. (t ≤ʳ stop tr) × IsTrue (holds_at x tr t)) (λ t. (t ≤ʳ stop tr) × IsFalse (holds_at x tr t)) (tree_of sub i (Leaf x)) h
-        (λ t f e y. y.1) (λ t f e y z. not_both_tests (holds_at x tr t) z y.1)
+        (λ t f e y. y.1) (λ t f e y z. both_ways (holds_at x tr t) y.1 z)
         (λ t l e. elim (by_value (holds_at x tr t)) [ inl y ↦ inl (e, y) | inr y ↦ inr (e, y) ])
       where
         by_value : (b : Bool) → IsTrue b ⊎ IsFalse b

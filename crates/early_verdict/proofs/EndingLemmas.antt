@@ -8,7 +8,7 @@ use Rattle.early_verdict.specs.Spans.{Lies, IsOn, BeginsAfter, AreTidy, EndBefor
 use Rattle.early_verdict.specs.Ending.{IsLast}
 use Rattle.early_verdict.specs.declared.stretch.Stretch.{Stretch}
 use Rattle.rational.proofs.PlaceLemmas.{sides, not_both, upto_of_before, after_of_before, at_most_of_not_before, before_trans}
-use Rattle.early_verdict.proofs.MakingLemmas.{after_from}
+use Rattle.rational.proofs.PlaceLemmas.{after_at_most}
 use Rattle.early_verdict.proofs.StretchLemmas.{rises}
 use Rattle.early_verdict.proofs.Absorbing.{no_more, on_append, on_first, on_second}
 use Rattle.early_verdict.proofs.SpanLemmas.{begins_through, front_upto}
@@ -89,7 +89,7 @@ grows_none part last old told (front, e) begins ends = record {
   noted = no_more told;
   keeps = λ t h. h;
   adds = λ t l p. subst (λ xs. IsOn xs t) (sym e) (on_second front (last ∷ []) t (inl (
-    after_from (place last.from) (place part.from) t (at_most_of_not_before (place last.from) (place part.from) begins) l.0,
+    after_at_most (place last.from) (place part.from) t (at_most_of_not_before (place last.from) (place part.from) begins) l.0,
     at_most_of_not_before (place part.to) (place last.to) ends t l.1,
   )));
   only = λ t h. inl h;
@@ -129,7 +129,7 @@ pub record IsLonger (part last gap longer : Stretch) : Type 0 where
 -- the list that ends with it has grown by the part
 module _ {part last gap longer : Stretch} (front : List Stretch) (tidy : AreTidy (front ++ last ∷ [])) (is : IsLonger part last gap longer) where
   after_last : (t : Rational) → After (place part.from) t → After (place last.from) t
-  after_last t a = after_from (place last.from) (place part.from) t (at_most_of_not_before (place last.from) (place part.from) is.begins) a
+  after_last t a = after_at_most (place last.from) (place part.from) t (at_most_of_not_before (place last.from) (place part.from) is.begins) a
 
   in_longer : (t : Rational) → After (place last.from) t → Upto (place part.to) t → Lies longer t
   in_longer t a u = (subst (λ c. After (place c) t) (sym is.from) a, subst (λ c. Upto (place c) t) (sym is.to) u)
@@ -159,7 +159,7 @@ module _ {part last gap longer : Stretch} (front : List Stretch) (tidy : AreTidy
     only = λ t h. elim (parted t h) [
       | inl o ↦ inl o
       | inr l ↦ let k = past_last t l in let p : Lies part t =
-          (after_from (place part.from) (place last.to) t (at_most_of_not_before (place part.from) (place last.to) is.reaches) k.0, k.1) in inr (p, p)
+          (after_at_most (place part.from) (place last.to) t (at_most_of_not_before (place part.from) (place last.to) is.reaches) k.0, k.1) in inr (p, p)
     ];
     gained = λ t h. elim (parted t h) [ inl o ↦ inl o | inr l ↦ inr (inl l) ];
     news = λ t h. elim h [

@@ -6,6 +6,7 @@ use Rattle.rational.proofs.Order.{le_trans, le_of_lt, same_sym}
 use Rattle.rational.proofs.Mixed.{within_same, within_more, within_whole}
 use Rattle.frac128.specs.Value.{value}
 use Rattle.stl_syntax.specs.Trace.{Header, Row}
+use Rattle.stl_syntax.proofs.RowsLemmas.{last_time-push}
 use Rattle.rational.specs.Places.{Place, AtMost, Same}
 use Rattle.frac128.specs.Cuts.{place}
 use Rattle.early_verdict.specs.Happening.{Happens}
@@ -13,7 +14,7 @@ use Rattle.early_verdict.specs.Deciding.{last_after, trace_of}
 use Rattle.frac128.specs.declared.cut.Cut.{Cut}
 use Rattle.early_verdict.specs.declared.entry.Entry.{Entry}
 use Rattle.rational.proofs.PlaceLemmas.{upto_same, same_places}
-use Rattle.early_verdict.proofs.RowLemmas.{last_is, last_pushed}
+use Rattle.early_verdict.proofs.RowLemmas.{last_is}
 
 -- just before a tick, and just after it
 abbrev pub before_of : ℕ → Place
@@ -53,7 +54,7 @@ pub happens_next : {e : Entry} {start last n : ℕ} {header : Header} {r : Row} 
     → Happens e (Some (trace_of header (r ∷ rows))) (trace_of header (r ∷ (rows ++ x ∷ [])))
 happens_next {e} {r = r} {rows = rows} x s b u f is_start is_last is_now = record {
   starts = subst (λ k. Same (place e.start) (before_of k)) is_start s;
-  sure_to = subst (λ k. Same (place e.sure) (after_of k)) (is_now ∙ sym (last_pushed r.time rows x)) u;
+  sure_to = subst (λ k. Same (place e.sure) (after_of k)) (is_now ∙ sym (last_time-push r.time rows x)) u;
   sure_before = (refl, subst (λ k. Same (place e.before) (after_of k)) (is_last ∙ sym (last_is r rows)) b);
   is_first = f;
 }

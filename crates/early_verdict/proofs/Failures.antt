@@ -8,8 +8,8 @@ use Rattle.frac128.specs.Cuts.{place}
 use Rattle.early_verdict.specs.Spans.{Lies, IsOn, IsAmong, AreTidy}
 use Rattle.early_verdict.specs.Reaching.{GoesTo, GoesBack}
 use Rattle.early_verdict.specs.declared.stretch.Stretch.{Stretch}
-use Rattle.rational.proofs.PlaceLemmas.{sides, before_through}
-use Rattle.early_verdict.proofs.RunLemmas.{le_through, upto_le, after_le, one_of, on_one}
+use Rattle.rational.proofs.PlaceLemmas.{sides, before_through, le_through, upto_earlier, after_later}
+use Rattle.early_verdict.proofs.RunLemmas.{one_of, on_one}
 use Rattle.early_verdict.proofs.Gaps.{gap_next, gap_last, meets, covers, on_same}
 
 -- just before a time, and just after it
@@ -41,14 +41,14 @@ module _ (x y z : List Stretch) (tidy_x : AreTidy x) (tidy_z : AreTidy z) where
         let past : After (place s.to) v = elim (sides (place s.to) v) [ inl i ↦ absurd (here v o (le_of_lt k) i) | inr a ↦ a ] in
         let g = gap_next z s (past_time v) tidy_z m (before_through (place s.to) (past_time v) v past (le_refl v)) in
         let after_e : e ≤ʳ g.0 = le_through (place s.to) e g.0 l.1 g.1 in
-        let upto_d : Upto d g.0 = upto_le d g.0 v g.2 u in
+        let upto_d : Upto d g.0 = upto_earlier d g.0 v g.2 u in
         elim (fails g.0 after_e upto_d) [
           | inl i ↦ g.3 g.0 g.1 (le_refl g.0) (in_z g.0 (le_trans way after_e) upto_d (inr i))
           | inr (w, i, j) ↦ elim (le_or_lt w e) [
             | inl n ↦ before w j i.above n
             | inr n ↦ elim (sides (place s.to) w) [
               | inl p ↦ here w j (le_of_lt n) p
-              | inr p ↦ g.3 w p i.below (in_z w i.above (upto_le d w g.0 i.below upto_d) (inl j))
+              | inr p ↦ g.3 w p i.below (in_z w i.above (upto_earlier d w g.0 i.below upto_d) (inl j))
             ]
           ]
         ]
@@ -61,7 +61,7 @@ module _ (x y z : List Stretch) (tidy_x : AreTidy x) (tidy_z : AreTidy z) where
           | inl (w, i, a, b) ↦ inr (
             e,
             record { above = way; below = le_refl e },
-            (w, a, i, λ q r. on_one z s.0 q s.1 (after_le (place (s.0).from) e q r.above s.2.0, upto_le (place (s.0).to) q w r.below b)),
+            (w, a, i, λ q r. on_one z s.0 q s.1 (after_later (place (s.0).from) e q r.above s.2.0, upto_earlier (place (s.0).to) q w r.below b)),
           )
           | inr none ↦ absurd (none_after s.0 s.1 s.2 none before v k u o)
         ]
@@ -73,13 +73,13 @@ module _ (x y z : List Stretch) (tidy_x : AreTidy x) (tidy_z : AreTidy z) where
       | inr (u, a, b, n) ↦ elim (fails u a b) [
         | inl i ↦ absurd (n i)
         | inr (v, w, o) ↦ elim (meets (at_time t) (past_time e) y) [
-          | inl (r, i, f, g) ↦ broken_at r (record { above = f; below = g }) (upto_le d r u (le_trans g a) b) i
+          | inl (r, i, f, g) ↦ broken_at r (record { above = f; below = g }) (upto_earlier d r u (le_trans g a) b) i
           | inr none ↦ elim (le_or_lt v e) [
             | inl l ↦ absurd (none v o w.above l)
             | inr l ↦
-                let ude : Upto d e = upto_le d e u a b in
+                let ude : Upto d e = upto_earlier d e u a b in
                 elim (fails e (le_refl e) ude) [
-                  | inl i ↦ broken_past v l (upto_le d v u w.below b) o none (in_z e way ude (inr i))
+                  | inl i ↦ broken_past v l (upto_earlier d v u w.below b) o none (in_z e way ude (inr i))
                   | inr (r, i, j) ↦ absurd (none r j i.above i.below)
                 ]
           ]
@@ -98,13 +98,13 @@ module _ (x y z : List Stretch) (tidy_x : AreTidy x) (tidy_z : AreTidy z) where
         let past : Upto (place s.from) v = elim (sides (place s.from) v) [ inl i ↦ i | inr i ↦ absurd (here v o (le_of_lt k) i) ] in
         let g = gap_last z s (at_time v) tidy_z m (before_through (at_time v) (place s.from) v (le_refl v) past) in
         let upto_e : g.0 ≤ʳ e = le_through (place s.from) g.0 e g.2 l.0 in
-        let after_c : After c g.0 = after_le c v g.0 g.1 a in
+        let after_c : After c g.0 = after_later c v g.0 g.1 a in
         elim (fails g.0 after_c upto_e) [
           | inl i ↦ g.3 g.0 (le_refl g.0) g.2 (in_z g.0 after_c (le_trans upto_e way) (inr i))
           | inr (w, i, j) ↦ elim (le_or_lt e w) [
             | inl n ↦ after w j n i.below
             | inr n ↦ elim (sides (place s.from) w) [
-              | inl p ↦ g.3 w i.above p (in_z w (after_le c g.0 w i.above after_c) i.below (inl j))
+              | inl p ↦ g.3 w i.above p (in_z w (after_later c g.0 w i.above after_c) i.below (inl j))
               | inr p ↦ here w j (le_of_lt n) p
             ]
           ]
@@ -117,8 +117,8 @@ module _ (x y z : List Stretch) (tidy_x : AreTidy x) (tidy_z : AreTidy z) where
           | inl (w, i, b, f) ↦ inr (
             e,
             record { above = le_refl e; below = way },
-            after_le c v e (le_of_lt k) a,
-            (w, f, i, λ q r. on_one z s.0 q s.1 (after_le (place (s.0).from) w q r.above b, upto_le (place (s.0).to) q e r.below s.2.1)),
+            after_later c v e (le_of_lt k) a,
+            (w, f, i, λ q r. on_one z s.0 q s.1 (after_later (place (s.0).from) w q r.above b, upto_earlier (place (s.0).to) q e r.below s.2.1)),
           )
           | inr none ↦ absurd (none_before s.0 s.1 s.2 (λ w i f b. none w i b f) after v k a o)
         ]
@@ -130,13 +130,13 @@ module _ (x y z : List Stretch) (tidy_x : AreTidy x) (tidy_z : AreTidy z) where
       | inr (u, a, b, n) ↦ elim (fails u a b) [
         | inl i ↦ absurd (n i)
         | inr (v, w, o) ↦ elim (meets (at_time e) (past_time t) y) [
-          | inl (r, i, f, g) ↦ broken_back_at r (record { above = f; below = g }) (after_le c u r (le_trans b f) a) i
+          | inl (r, i, f, g) ↦ broken_back_at r (record { above = f; below = g }) (after_later c u r (le_trans b f) a) i
           | inr none ↦ elim (le_or_lt e v) [
             | inl l ↦ absurd (none v o l w.below)
             | inr l ↦
-                let ace : After c e = after_le c u e b a in
+                let ace : After c e = after_later c u e b a in
                 elim (fails e ace (le_refl e)) [
-                  | inl i ↦ broken_back_past v l (after_le c u v w.above a) o none (in_z e ace way (inr i))
+                  | inl i ↦ broken_back_past v l (after_later c u v w.above a) o none (in_z e ace way (inr i))
                   | inr (r, i, j) ↦ absurd (none r j i.above i.below)
                 ]
           ]

@@ -14,7 +14,7 @@ use Rattle.early_verdict.specs.declared.sets.Sets.{Sets}
 use Rattle.early_verdict.specs.declared.sets.Parts.{Parts}
 
 -- two lists of children at a time
-two : (F : Lists → Lists → Type 0) (p p' q q' : Lists) → p ≡ p' → q ≡ q' → F p q → F p' q'
+pub two : (F : Lists → Lists → Type 0) (p p' q q' : Lists) → p ≡ p' → q ≡ q' → F p q → F p' q'
 two F p p' q q' d e h = subst (λ x. F x q') d (subst (λ x. F p x) e h)
 
 -- a node's sets fit by what its children's lists are

@@ -8,27 +8,12 @@ use Rattle.frac128.specs.Cuts.{place}
 use Rattle.early_verdict.specs.Spans.{IsOn, IsAmong, AreTidy}
 use Rattle.early_verdict.specs.Steps.{HoldsFrom}
 use Rattle.early_verdict.specs.declared.stretch.Stretch.{Stretch}
-use Rattle.rational.proofs.PlaceLemmas.{sides, not_both, between, share, before_trans, before_through}
-use Rattle.rational.proofs.PlaceLemmas.{upto_of_before, after_of_before, at_most_of_not_before}
-use Rattle.early_verdict.proofs.MakingLemmas.{after_from}
+use Rattle.rational.proofs.PlaceLemmas.{sides, not_both, between, share, before_trans, before_through, upto_earlier, after_later}
+use Rattle.rational.proofs.PlaceLemmas.{upto_of_before, after_of_before, at_most_of_not_before, after_at_most, le_through}
 use Rattle.early_verdict.proofs.StretchLemmas.{rises}
 use Rattle.early_verdict.proofs.SpanLemmas.{rest_after}
-use Rattle.early_verdict.proofs.RunLemmas.{
-  le_through,
-  upto_le,
-  after_le,
-  later_before,
-  earlier_after,
-  among_after,
-  gap_before,
-  gap_after,
-  one_of,
-  on_one,
-  decided,
-  decided_both,
-  decided_not,
-  decided_among,
-}
+use Rattle.early_verdict.proofs.RunLemmas.{later_before, earlier_after, among_after, gap_before, gap_after, one_of, on_one, decided, decided_among}
+use Rattle.early_verdict.proofs.SetLaws.{decided_from}
 
 -- right after a stretch of the list there is a gap, up to some time before a place
 pub gap_next : (xs : List Stretch) (p : Stretch) (c : Place) → AreTidy xs → IsAmong p xs → Before (place p.to) c
@@ -51,8 +36,8 @@ gap_next (x ∷ r ∷ xs) p c h (inl e) b =
       λ y a l o. elim o [
         | inl i ↦ not_both (place x.to) y i.1 (subst (λ s. After (place s.to) y) e a)
         | inr q ↦ elim q [
-          | inl i ↦ not_both (place r.from) y (upto_le (place r.from) y t.0 l u) i.0
-          | inr i ↦ not_both (place r.to) y (upto_of_before (place r.from) (place r.to) y (rises r) (upto_le (place r.from) y t.0 l u))
+          | inl i ↦ not_both (place r.from) y (upto_earlier (place r.from) y t.0 l u) i.0
+          | inr i ↦ not_both (place r.to) y (upto_of_before (place r.from) (place r.to) y (rises r) (upto_earlier (place r.from) y t.0 l u))
               (rest_after (place r.to) xs y h.1.1 h.1.0 i)
         ]
       ],
@@ -88,7 +73,7 @@ gap_last (x ∷ xs) p c h (inr m) b =
       g.0,
       (k.2 g.0 g.1).0,
       g.2,
-      λ y l u o. elim o [ inl i ↦ not_both (place x.to) y i.1 (k.2 y (after_le k.0 g.0 y l g.1)).1 | inr r ↦ g.3 y l u r ],
+      λ y l u o. elim o [ inl i ↦ not_both (place x.to) y i.1 (k.2 y (after_later k.0 g.0 y l g.1)).1 | inr r ↦ g.3 y l u r ],
     )
 
 -- the list has some time between two places, or none
@@ -109,10 +94,6 @@ meets c d (x ∷ xs) = elim (meets c d xs) [
     by_first n (inl b) (inr e) f = inr (λ u o k l. elim o [ inl i ↦ e (before_through c (place x.to) u k i.1) | inr r ↦ n u r k l ])
     by_first n (inl b) (inl e) (inr f) = inr (λ u o k l. elim o [ inl i ↦ f (before_through (place x.from) d u i.0 l) | inr r ↦ n u r k l ])
 
-decided_from : (p : Stretch) (c : Place) → HoldsFrom p c ⊎ ¬ (HoldsFrom p c)
-decided_from p c = decided_both (¬ (Before c (place p.from))) (Before c (place p.to)) (decided_not (Before c (place p.from)) (decided c (place p.from)))
-    (decided c (place p.to))
-
 -- the list has each time between two places, or some is missing
 pub covers : (c d : Place) (xs : List Stretch) → AreTidy xs
     → ((u : Rational) → After c u → Upto d u → IsOn xs u) ⊎ ((u : Rational) × After c u × Upto d u × ¬ (IsOn xs u))
@@ -123,7 +104,7 @@ covers c d xs tidy = by_order (decided c d)
     by_end p m k (inl b) =
         let g = gap_after xs p d tidy m b in inr (g.0, after_of_before c (place p.to) g.0 k.1 g.1, g.2, g.3)
     by_end p m k (inr n) = inl (λ u a e. on_one xs p u m (
-      after_from (place p.from) c u (at_most_of_not_before (place p.from) c k.0) a,
+      after_at_most (place p.from) c u (at_most_of_not_before (place p.from) c k.0) a,
       at_most_of_not_before d (place p.to) n u e,
     ))
 
@@ -135,7 +116,7 @@ covers c d xs tidy = by_order (decided c d)
     by_none n b (inl (u, o, a, e)) =
         let p = one_of xs u o in
         elim (decided c (place (p.0).from)) [
-          | inl k ↦ let g = gap_before xs p.0 c tidy p.1 k in inr (g.0, g.1, upto_le d g.0 u (le_through (place (p.0).from) g.0 u g.2 p.2.0) e, g.3)
+          | inl k ↦ let g = gap_before xs p.0 c tidy p.1 k in inr (g.0, g.1, upto_earlier d g.0 u (le_through (place (p.0).from) g.0 u g.2 p.2.0) e, g.3)
           | inr k ↦ absurd (n (p.0, p.1, (k, before_through c (place (p.0).to) u a p.2.1)))
         ]
 
@@ -164,4 +145,4 @@ decided_on (x ∷ xs) t = elim (decided_on xs t) [
 pub on_same : (xs : List Stretch) (t u : Rational) → t ≈ u → IsOn xs t → IsOn xs u
 on_same xs t u s o =
     let p = one_of xs t o in
-    on_one xs p.0 u p.1 (after_le (place (p.0).from) t u (le_of_same s) p.2.0, upto_le (place (p.0).to) u t (ge_of_same s) p.2.1)
+    on_one xs p.0 u p.1 (after_later (place (p.0).from) t u (le_of_same s) p.2.0, upto_earlier (place (p.0).to) u t (ge_of_same s) p.2.1)

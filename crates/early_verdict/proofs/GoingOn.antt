@@ -26,8 +26,9 @@ use Rattle.early_verdict.specs.declared.sets.Sets.{Sets}
 use Rattle.early_verdict.proofs.AllSets.{AreSound, all_final, all_known, lists_are}
 use Rattle.early_verdict.proofs.EndedSets.{Final}
 use Rattle.early_verdict.proofs.Having.{at_place, live_on, shown_still, sound_of}
-use Rattle.early_verdict.proofs.LiveMaking.{made_live, on_none, root_shows, shown_empty}
+use Rattle.early_verdict.proofs.LiveMaking.{made_live, root_shows, shown_empty}
 use Rattle.early_verdict.proofs.RowLemmas.{is_first_row, is_next, rows_pushed}
+use Rattle.early_verdict.proofs.Telling.{none_of}
 
 -- the atoms of a formula are bound
 pub leaves_bound : (b : Binding) (f : Formula) (header : Header) → IsBound b f header → (i : ℕ) (n : Node) → slice_get f.nodes i ≡ Some n → LeafIsBound b i n
@@ -84,7 +85,7 @@ first_stand {f} {header = header} {r = r} {e = e} {made = made} {shown = shown} 
     (λ a. still_open e (None ≡ Some tr) (IsNextRow a None tr None r) still (is_first_row header r a)))
     (m.empty, empty)))
     (sound_of on.stepped on.shows live (λ i. Settled (subformula f.nodes i) tr) (λ i. SettledNot (subformula f.nodes i) tr)
-    (λ i x u is z. absurd (on_none x.yes.spans.items u (empty i x is).yes z)) (λ i x u is z. absurd (on_none x.no.spans.items u (empty i x is).no z)))
+    (λ i x u is z. absurd (none_of x.yes.spans.items u (empty i x is).yes z)) (λ i x u is z. absurd (none_of x.no.spans.items u (empty i x is).no z)))
     (root_shows f.nodes (row_time r) made shown m are below o.some)
   where
     tr : Trace

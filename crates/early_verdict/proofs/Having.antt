@@ -1,40 +1,41 @@
 -- An entry leaves what all nodes look at as it was.
 use Rattle.std.proofs.Common.{◌≡◌, inl, inr, sym, subst, ◌∙◌, ℕ, ◌<◌, Some, List, length, arith}
 use Rattle.std.specs.Prelude.{slice_get}
+use Rattle.std.proofs.lemmas.Option.{slice_get_within}
 use Rattle.rational.specs.Time.{Rational}
+use Rattle.rational.proofs.Lists.{slice_get_there}
 use Rattle.stl_syntax.specs.declared.node.Node.{Node}
 use Rattle.early_verdict.specs.Spans.{IsOn, Lies}
 use Rattle.early_verdict.specs.Fitting.{HasStepped, Lists, lists_at}
 use Rattle.early_verdict.specs.Standing.{SteppedTo}
 use Rattle.early_verdict.specs.Living.{AreLive, HasShown, IsLive, IsShown, ShownTo}
 use Rattle.early_verdict.specs.declared.sets.Sets.{Sets}
-use Rattle.early_verdict.proofs.AllSets.{AreSound, is_shown, lists_are, no_there, sets_at, shown_is, shown_within, yes_there}
+use Rattle.early_verdict.proofs.AllSets.{AreSound, is_shown, lists_are, no_there, shown_is, shown_within, yes_there}
 use Rattle.early_verdict.proofs.LivingLemmas.{looks_as, parts_as}
 use Rattle.early_verdict.proofs.Netting.{nodes_at}
-use Rattle.early_verdict.proofs.Places.{get_within}
 
 module _ {nodes : List Node} {from : Rational} {old new old_shown new_shown : List Sets} (h : SteppedTo (length nodes) old new)
     (g : ShownTo (length nodes) new old_shown new_shown) (have : AreLive nodes from old old_shown) where
   -- a node's sets were there before the entry
   pub was_at : (i : ℕ) (s : Sets) → slice_get new i ≡ Some s → (r : Sets) × (slice_get old i ≡ Some r) × HasStepped r s
   was_at i s is =
-      let l = get_within new i s is in
+      let l = slice_get_within new i s is in
       let c = h.count in
       let d = have.count in
-      let w = sets_at old i (omega (arith, l, c)) in
+      let w = slice_get_there old i (omega (arith, l, c)) in
       (w.0, w.1, h.stepped i w.0 s (omega (arith, l, c, d)) w.1 is)
 
   -- what a node shows now is of what it has and of what it showed before
   pub showed_at : (i : ℕ) (x : Sets) → slice_get new_shown i ≡ Some x
       → (s : Sets) × (slice_get new i ≡ Some s) × (w : Sets) × (slice_get old_shown i ≡ Some w) × HasShown w x s
   showed_at i x is =
-      let l = get_within new_shown i x is in
+      let l = slice_get_within new_shown i x is in
       let c = g.count in
       let d = have.shown_count in
       let e = have.count in
       let f = h.count in
-      let w = sets_at old_shown i (omega (arith, l, c)) in
-      let s = sets_at new i (omega (arith, l, c, d, e, f)) in
+      let w = slice_get_there old_shown i (omega (arith, l, c)) in
+      let s = slice_get_there new i (omega (arith, l, c, d, e, f)) in
       (s.0, s.1, w.0, w.1, g.shown i s.0 w.0 x (omega (arith, l, c, d)) s.1 w.1 is)
 
   same_one : (a b : Sets) → Some a ≡ Some b → a ≡ b
@@ -45,14 +46,14 @@ module _ {nodes : List Node} {from : Rational} {old new old_shown new_shown : Li
   shown_still p u o =
       let c = g.count in
       let l = shown_within old_shown p u o in
-      let x = sets_at new_shown p (omega (arith, c, l)) in
+      let x = slice_get_there new_shown p (omega (arith, c, l)) in
       let w = showed_at p x.0 x.1 in
       is_shown new_shown p x.0 u x.1 (subst (λ b. Lies b u) (sym w.4.no) (shown_is old_shown p w.2 u w.3 o))
 
   -- what is shown after the entry was shown before it
   pub shown_before : (p : ℕ) (u : Rational) → IsShown new_shown p u → IsShown old_shown p u
   shown_before p u o =
-      let x = sets_at new_shown p (shown_within new_shown p u o) in
+      let x = slice_get_there new_shown p (shown_within new_shown p u o) in
       let w = showed_at p x.0 x.1 in
       is_shown old_shown p w.2 u w.3 (subst (λ b. Lies b u) w.4.no (shown_is new_shown p x.0 u x.1 o))
 
@@ -63,14 +64,14 @@ module _ {nodes : List Node} {from : Rational} {old new old_shown new_shown : Li
     λ o.
         let l = yes_there old_shown p u o in
         let c = g.count in
-        let x = sets_at new_shown p (omega (arith, c, l)) in
+        let x = slice_get_there new_shown p (omega (arith, c, l)) in
         let m = showed_at p x.0 x.1 in
         subst (λ (l : Lists). IsOn l.yes u) (sym (lists_are new_shown p x.0 x.1))
         (m.4.gains_yes.kept u (subst (λ (l : Lists). IsOn l.yes u) (lists_are old_shown p m.2 m.3) o)),
     λ o.
         let l = no_there old_shown p u o in
         let c = g.count in
-        let x = sets_at new_shown p (omega (arith, c, l)) in
+        let x = slice_get_there new_shown p (omega (arith, c, l)) in
         let m = showed_at p x.0 x.1 in
         subst (λ (l : Lists). IsOn l.no u) (sym (lists_are new_shown p x.0 x.1))
         (m.4.gains_no.kept u (subst (λ (l : Lists). IsOn l.no u) (lists_are old_shown p m.2 m.3) o)),
@@ -145,10 +146,10 @@ module _ {nodes : List Node} {from : Rational} {old new old_shown new_shown : Li
   pub at_place : (i : ℕ) (w : Sets) → slice_get old_shown i ≡ Some w
       → (i < length nodes) × (n : Node) × (s : Sets) × IsLive from old_shown n s w
   at_place i w f =
-      let a = get_within old_shown i w f in
+      let a = slice_get_within old_shown i w f in
       let c = have.count in
       let d = have.shown_count in
       let l : i < length nodes = omega (arith, a, d) in
       let n = nodes_at nodes i l in
-      let s = sets_at old i (omega (arith, a, c, d)) in
+      let s = slice_get_there old i (omega (arith, a, c, d)) in
       (l, n.0, s.0, have.has i n.0 s.0 w n.1 s.1 f)

@@ -10,10 +10,10 @@ use Rattle.early_verdict.specs.Steps.{BySome, HeldAt, SeesOnly, Tells, Gains}
 use Rattle.early_verdict.specs.Lasting.{SeesNone, SeesOnlyBy, BeginsFrom, IsRunTo}
 use Rattle.early_verdict.specs.declared.stretch.Stretch.{Stretch}
 use Rattle.early_verdict.specs.declared.window.Window.{Window}
-use Rattle.rational.proofs.PlaceLemmas.{sides, not_both, between, before_through, at_most_of_not_before}
-use Rattle.early_verdict.proofs.MakingLemmas.{after_from}
+use Rattle.rational.proofs.PlaceLemmas.{sides, not_both, between, before_through, at_most_of_not_before, after_at_most}
+use Rattle.rational.proofs.PlaceLemmas.{le_through, upto_earlier}
 use Rattle.early_verdict.proofs.SpanLemmas.{rest_after}
-use Rattle.early_verdict.proofs.RunLemmas.{le_through, upto_le, later_before, decided, decided_either, decided_not}
+use Rattle.early_verdict.proofs.RunLemmas.{later_before, decided, decided_either, decided_not}
 use Rattle.early_verdict.proofs.SetLaws.{some_by, by_some, held_sees, found}
 
 -- a window that has a time from everywhere, and ends behind the start, has a time from the start on
@@ -112,13 +112,13 @@ module _ (w : Window) (start from : Place) where
 
   -- what such a window sees from the start on lies behind the place
   begins_from : (t u : Rational) → BeginsFrom w start from t → After start u → Sees w t u → After from u
-  begins_from t u (inl n) a s = after_from from start u (at_most_of_not_before from start n) a
+  begins_from t u (inl n) a s = after_at_most from start u (at_most_of_not_before from start n) a
   begins_from t u (inr n) a s = by_low w.low n s.begins
     where
       by_low : (low : Option ℤ) → MatchOption low ⊥ (λ k. ¬ (Before (low_place k w.low_in t) from))
           → IfSome low (λ k. After (low_place k w.low_in t) u) → After from u
       by_low None n b = absurd n
-      by_low (Some k) n b = after_from from (low_place k w.low_in t) u (at_most_of_not_before from (low_place k w.low_in t) n) b
+      by_low (Some k) n b = after_at_most from (low_place k w.low_in t) u (at_most_of_not_before from (low_place k w.low_in t) n) b
 
   -- and another one begins before it
   begins_before : (t : Rational) → ¬ (BeginsFrom w start from t)
@@ -162,5 +162,5 @@ last_tells {x = x} w start last from run h g = record {
         let before = run.at_most v.0 v.2 in
         elim (sides (high_place w.high w.high_in t) v.0) [
           | inl k ↦ absurd (v.3 (s v.0 i.0 before (record { begins = i.1; ends = k })))
-          | inr k ↦ λ u a e. s u a (upto_le last u v.0 (le_through (high_place w.high w.high_in t) u v.0 e.ends k) before) e
+          | inr k ↦ λ u a e. s u a (upto_earlier last u v.0 (le_through (high_place w.high w.high_in t) u v.0 e.ends k) before) e
         ]

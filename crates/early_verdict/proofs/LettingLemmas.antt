@@ -2,9 +2,11 @@
 use Rattle.std.proofs.Common.{◌≡◌, ◌⊎◌, inl, inr, refl, sym, ap, subst, ◌∙◌, ℕ, ◌<◌, Bool, true}
 use Rattle.std.proofs.Common.{false, Option, Some, None, List, [], ◌∷◌, ◌++◌, take, arith}
 use Rattle.std.specs.Prelude.{MatchBool, MatchOption, slice_get, slice_index_or, slice_set}
-use Rattle.rational.specs.Time.{Precedes, Rational, later, ◌≤ʳ◌, ◌<ʳ◌}
+use Rattle.std.proofs.lemmas.Option.{same_Some}
+use Rattle.std.proofs.lemmas.Bool.{cases_eq}
+use Rattle.rational.specs.Time.{Rational, later, ◌≤ʳ◌, ◌<ʳ◌}
 use Rattle.rational.proofs.Order.{le_of_lt, le_trans, lt_of_lt_of_le, not_lt_of_le}
-use Rattle.rational.proofs.TimeLemmas.{later_le, precedes_le}
+use Rattle.rational.proofs.TimeLemmas.{later_le, precedes_le, precedes_of_lt, later_lt}
 use Rattle.stl_syntax.specs.Early.{OpenAhead, OpenBehind}
 use Rattle.stl_syntax.specs.declared.node.Node.{Node}
 use Rattle.stl_syntax.specs.declared.node.Node.TheVariants.{Not, And, Or, Implies, Until, Eventually, Always, Once, Historically}
@@ -22,19 +24,18 @@ use Rattle.frac128.specs.declared.cut.Cut.{Cut}
 use Rattle.early_verdict.specs.declared.stretch.Stretch.{Stretch}
 use Rattle.early_verdict.specs.declared.grown.Grown.{Grown}
 use Rattle.early_verdict.specs.declared.sets.Sets.{Sets}
-use Rattle.early_verdict.proofs.AllSets.{is_shown, lists_are, sets_at, shown_is, shown_within}
-use Rattle.early_verdict.proofs.MakingLemmas.{after_from}
-use Rattle.early_verdict.proofs.Netting.{nat_is}
-use Rattle.rational.proofs.PlaceLemmas.{at_most_of_not_before, between, not_both, sides}
-use Rattle.early_verdict.proofs.Places.{lists_by, same_sets}
+use Rattle.early_verdict.proofs.AllSets.{is_shown, lists_are, shown_is, shown_within}
+use Rattle.rational.proofs.PlaceLemmas.{at_most_of_not_before, between, not_both, sides, after_at_most, le_through, upto_earlier}
+use Rattle.rational.proofs.Lists.{slice_get_there}
+use Rattle.early_verdict.proofs.Places.{lists_by}
 use Rattle.early_verdict.proofs.Splitting.{IsSplit, count_there, new_there, old_there, others_there}
 use Rattle.early_verdict.proofs.StretchLemmas.{rises}
-use Rattle.early_verdict.proofs.RunLemmas.{earlier_after, le_through, on_one, upto_le}
+use Rattle.early_verdict.proofs.RunLemmas.{earlier_after, on_one}
 use Rattle.early_verdict.proofs.Telling.{parts_tidy}
 
 -- the stretch that holds the times after a place has those up to its end
 pub past_one : (xs : List Stretch) (s : Stretch) (c : Place) (t : Rational) → IsAmong s xs → HoldsFrom s c → After c t → Upto (place s.to) t → IsOn xs t
-past_one xs s c t m h a u = on_one xs s t m (after_from (place s.from) c t (at_most_of_not_before (place s.from) c h.0) a, u)
+past_one xs s c t m h a u = on_one xs s t m (after_at_most (place s.from) c t (at_most_of_not_before (place s.from) c h.0) a, u)
 
 -- a time before that of a place lies before the place
 pub upto_lt : (c : Place) (t : Rational) → t <ʳ c.at → Upto c t
@@ -56,7 +57,7 @@ ends_most : (s b : Stretch) → ((t : Rational) → Lies s t → Upto (place b.t
 ends_most s b f t u = elim (sides (place s.from) t) [
   | inl d ↦
       let m = between (place s.from) (place s.to) (rises s) in
-      upto_le (place b.to) t m.0 (le_through (place s.from) t m.0 d m.1) (f m.0 (m.1, m.2))
+      upto_earlier (place b.to) t m.0 (le_through (place s.from) t m.0 d m.1) (f m.0 (m.1, m.2))
   | inr d ↦ f t (d, u)
 ]
 
@@ -112,16 +113,16 @@ module _ {p : ℕ} {from : Rational} {old new : List Sets} (h : IsAskedFrom p fr
   one_less = record { count = h.count; each = each }
     where
       each : (q : ℕ) (x : Sets) → slice_get new q ≡ Some x → (w : Sets) × (slice_get old q ≡ Some w) × IsLess w x
-      each q x e = elim (nat_is q p) [
+      each q x e = elim (cases_eq q p) [
         | inl d ↦
-            let a = same_sets h.is x (sym h.at_new ∙ subst (λ k. slice_get new k ≡ Some x) d e) in
+            let a = same_Some h.is x (sym h.at_new ∙ subst (λ k. slice_get new k ≡ Some x) d e) in
             (h.was, subst (λ k. slice_get old k ≡ Some h.was) (sym d) h.at_old, subst (λ z. IsLess h.was z) a (less_of h.bounds h.was h.is h.narrowed h.less))
         | inr d ↦ (x, sym (h.others q d) ∙ e, same_less x)
       ]
 
   -- it shows the times from there on
   pub still_shown : (q : ℕ) (u : Rational) → (q ≡ p → from ≤ʳ u) → IsShown old q u → IsShown new q u
-  still_shown q u f s = elim (nat_is q p) [
+  still_shown q u f s = elim (cases_eq q p) [
     | inl d ↦
         let o = subst (λ k. IsShown old k u) d s in
         let l = shown_is old p h.was u h.at_old o in
@@ -130,38 +131,38 @@ module _ {p : ℕ} {from : Rational} {old new : List Sets} (h : IsAskedFrom p fr
           | inr b ↦ absurd (not_lt_of_le (f d) b)
         ])
     | inr d ↦
-        let x = sets_at old q (shown_within old q u s) in
+        let x = slice_get_there old q (shown_within old q u s) in
         is_shown new q x.0 u (h.others q d ∙ x.1) (shown_is old q x.0 u x.1 s)
   ]
 
   shown_left : (q : ℕ) (w x : Sets) → slice_get old q ≡ Some w → slice_get new q ≡ Some x → (t : Rational) → Lies w.no.bounds t → from ≤ʳ t → Lies x.no.bounds t
-  shown_left q w x e f t l g = elim (nat_is q p) [
+  shown_left q w x e f t l g = elim (cases_eq q p) [
     | inl d ↦
-        let a = same_sets h.was w (sym h.at_old ∙ subst (λ k. slice_get old k ≡ Some w) d e) in
-        let b = same_sets h.is x (sym h.at_new ∙ subst (λ k. slice_get new k ≡ Some x) d f) in
+        let a = same_Some h.was w (sym h.at_old ∙ subst (λ k. slice_get old k ≡ Some w) d e) in
+        let b = same_Some h.is x (sym h.at_new ∙ subst (λ k. slice_get new k ≡ Some x) d f) in
         subst (λ (z : Sets). Lies z.no.bounds t) b
         (subst (λ z. Lies z t) (sym h.narrowed.no_bounds) (elim (h.left t (subst (λ (z : Sets). Lies z.no.bounds t) (sym a) l)) [
           | inl m ↦ m
           | inr m ↦ absurd (not_lt_of_le g m)
         ]))
-    | inr d ↦ subst (λ (z : Sets). Lies z.no.bounds t) (same_sets w x (sym e ∙ sym (h.others q d) ∙ f)) l
+    | inr d ↦ subst (λ (z : Sets). Lies z.no.bounds t) (same_Some w x (sym e ∙ sym (h.others q d) ∙ f)) l
   ]
 
   shown_ends : (q : ℕ) (w x : Sets) → slice_get old q ≡ Some w → slice_get new q ≡ Some x → AtMost (place w.no.bounds.to) (place x.no.bounds.to)
-  shown_ends q w x e f t u = elim (nat_is q p) [
+  shown_ends q w x e f t u = elim (cases_eq q p) [
     | inl d ↦
-        let a = same_sets h.was w (sym h.at_old ∙ subst (λ k. slice_get old k ≡ Some w) d e) in
-        let b = same_sets h.is x (sym h.at_new ∙ subst (λ k. slice_get new k ≡ Some x) d f) in
+        let a = same_Some h.was w (sym h.at_old ∙ subst (λ k. slice_get old k ≡ Some w) d e) in
+        let b = same_Some h.is x (sym h.at_new ∙ subst (λ k. slice_get new k ≡ Some x) d f) in
         subst (λ (z : Sets). Upto (place z.no.bounds.to) t) b (subst (λ (z : Stretch). Upto (place z.to) t) (sym h.narrowed.no_bounds)
         (h.ends t (subst (λ (z : Sets). Upto (place z.no.bounds.to) t) (sym a) u)))
-    | inr d ↦ subst (λ (z : Sets). Upto (place z.no.bounds.to) t) (same_sets w x (sym e ∙ sym (h.others q d) ∙ f)) u
+    | inr d ↦ subst (λ (z : Sets). Upto (place z.no.bounds.to) t) (same_Some w x (sym e ∙ sym (h.others q d) ∙ f)) u
   ]
 
   shown_after : (w x : Sets) → slice_get old p ≡ Some w → slice_get new p ≡ Some x → (t : Rational) → Lies w.no.bounds t
       → from ≤ʳ t → (u : Rational) → Lies x.no.bounds u → from ≤ʳ u
   shown_after w x e f t l g u k =
-      let a = same_sets h.was w (sym h.at_old ∙ e) in
-      let b = same_sets h.is x (sym h.at_new ∙ f) in
+      let a = same_Some h.was w (sym h.at_old ∙ e) in
+      let b = same_Some h.is x (sym h.at_new ∙ f) in
       h.after t (subst (λ (z : Sets). Lies z.no.bounds t) (sym a) l) g u
       (subst (λ z. Lies z u) h.narrowed.no_bounds (subst (λ (z : Sets). Lies z.no.bounds u) (sym b) k))
 
@@ -183,7 +184,7 @@ both_less a b c f g = record {
 pub still_on : (old new : List Sets) → AreLess old new → (p : ℕ) (u : Rational) → IsShown new p u
     → (IsOn (lists_at old p).yes u → IsOn (lists_at new p).yes u) × (IsOn (lists_at old p).no u → IsOn (lists_at new p).no u)
 still_on old new less p u h =
-    let x = sets_at new p (shown_within new p u h) in
+    let x = slice_get_there new p (shown_within new p u h) in
     let w = less.each p x.0 x.1 in
     let l = shown_is new p x.0 u x.1 h in (
       λ o. subst (λ (z : Lists). IsOn z.yes u) (sym (lists_are new p x.0 x.1))
@@ -194,17 +195,9 @@ still_on old new less p u h =
 -- what is shown still was shown
 pub less_shown : (old new : List Sets) → AreLess old new → (p : ℕ) (u : Rational) → IsShown new p u → IsShown old p u
 less_shown old new less p u h =
-    let x = sets_at new p (shown_within new p u h) in
+    let x = slice_get_there new p (shown_within new p u h) in
     let w = less.each p x.0 x.1 in
     is_shown old p w.0 u w.1 (w.2.less u (shown_is new p x.0 u x.1 h))
-
--- a time that lies before another does so as much later
-later_lt : (w u : Rational) (k : ℕ) → w <ʳ u → later w k <ʳ later u k
-later_lt w u k h = record { lt = omega (arith, h.lt) }
-
-precedes_of : (inside : Bool) (t u : Rational) → t <ʳ u → Precedes inside t u
-precedes_of true t u h = le_of_lt h
-precedes_of false t u h = h
 
 before_side : (c : Place) (t : Rational) → c.after ≡ false → Upto c t → t <ʳ c.at
 before_side c t e = by_side c.after e
@@ -372,9 +365,9 @@ module _ (p low : ℕ) (at : Rational) (old new : List Sets) (apart : AreApart o
     first_less less = record { count = h.count; each = each }
       where
         each : (q : ℕ) (x : Sets) → slice_get new q ≡ Some x → (w : Sets) × (slice_get old q ≡ Some w) × IsLess w x
-        each q x e = elim (nat_is q p) [
+        each q x e = elim (cases_eq q p) [
           | inl d ↦
-              let a = same_sets h.is x (sym h.at_new ∙ subst (λ k. slice_get new k ≡ Some x) d e) in
+              let a = same_Some h.is x (sym h.at_new ∙ subst (λ k. slice_get new k ≡ Some x) d e) in
               (h.was, subst (λ k. slice_get old k ≡ Some h.was) (sym d) h.at_old, subst (λ z. IsLess h.was z) a less)
           | inr d ↦ (x, sym (h.others q d) ∙ e, same_less x)
         ]
@@ -398,7 +391,7 @@ module _ (p low : ℕ) (at : Rational) (old new : List Sets) (apart : AreApart o
       record {
         after = begun p w (is_shown old p h.was w h.at_old (lies w (on_one (side (lists_of h.was)) s w among l)));
         begins = tt;
-        ends = precedes_of a_in (later w low) t (lt_of_lt_of_le before e);
+        ends = precedes_of_lt a_in (later w low) t (lt_of_lt_of_le before e);
       },
       is_shown new p h.is w h.at_new (subst (λ z. Lies z w) (sym bounds) l),
       subst (λ (z : Lists). IsOn (side z) w) (sym (lists_are new p h.is h.at_new)) (subst (λ xs. IsOn xs w) (sym left) (inl l)),
@@ -408,13 +401,13 @@ module _ (p low : ℕ) (at : Rational) (old new : List Sets) (apart : AreApart o
     as_was : h.is ≡ h.was → (q : ℕ) (u : Rational) → (IsShown old q u → IsShown new q u)
         × (IsOn (lists_at old q).yes u → IsOn (lists_at new q).yes u) × (IsOn (lists_at old q).no u → IsOn (lists_at new q).no u)
     as_was e q u = (
-      λ o. let x = sets_at old q (shown_within old q u o) in is_shown new q x.0 u (same ∙ x.1) (shown_is old q x.0 u x.1 o),
+      λ o. let x = slice_get_there old q (shown_within old q u o) in is_shown new q x.0 u (same ∙ x.1) (shown_is old q x.0 u x.1 o),
       λ o. subst (λ (l : Lists). IsOn l.yes u) (lists_by old new q (sym same)) o,
       λ o. subst (λ (l : Lists). IsOn l.no u) (lists_by old new q (sym same)) o,
     )
       where
         same : slice_get new q ≡ slice_get old q
-        same = elim (nat_is q p) [
+        same = elim (cases_eq q p) [
           | inl d ↦ subst (λ k. slice_get new k ≡ slice_get old k) (sym d) (h.at_new ∙ ap Some e ∙ sym h.at_old)
           | inr d ↦ h.others q d
         ]

@@ -1,25 +1,26 @@
 -- The empty sets of all nodes look at what their children show.
-use Rattle.std.proofs.Common.{◌≡◌, inl, refl, sym, subst, ◌∙◌, ℕ, ◌+◌, ◌-◌, ◌<◌, ◌≤◌, Option, Some, None, List, [], length, arith}
+use Rattle.std.proofs.Common.{◌≡◌, inl, refl, sym, subst, ◌∙◌, ℕ, ◌+◌, ◌-◌, ◌<◌, ◌≤◌, Option, Some, None, List, length, arith}
 use Rattle.std.specs.Prelude.{MatchOption, IsSome, slice_get}
+use Rattle.std.proofs.lemmas.Option.{slice_get_within}
 use Rattle.rational.specs.Time.{Rational, later, ◌≤ʳ◌}
 use Rattle.rational.proofs.Order.{le_refl, le_trans}
 use Rattle.rational.proofs.TimeLemmas.{later_from, later_le, later_more, precedes_le}
+use Rattle.rational.proofs.Lists.{slice_get_there}
 use Rattle.stl_syntax.specs.Formula.{HasChildrenBelow}
 use Rattle.stl_syntax.specs.declared.node.Node.{Node}
 use Rattle.stl_syntax.specs.declared.node.Node.TheVariants.{Const, Atom as Leaf, Not, And, Or, Implies, Until, Eventually, Always, Since, Once, Historically}
-use Rattle.early_verdict.specs.Spans.{IsOn, Lies}
+use Rattle.early_verdict.specs.Spans.{Lies}
 use Rattle.early_verdict.specs.Fitting.{HasFailBounds}
 use Rattle.early_verdict.specs.Making.{AreMade, AreShownOf}
 use Rattle.early_verdict.specs.Standing.{ArePartsAsked, AllEmpty, AllTidy, AsksBelow, HasParts, HasSets, left_of, top_at}
 use Rattle.early_verdict.specs.Living.{AreLive, IsLive, IsShown, LooksAt, ReachesAhead, ReachesBack}
-use Rattle.early_verdict.specs.declared.stretch.Stretch.{Stretch}
 use Rattle.early_verdict.specs.declared.sets.Sets.{Sets}
 use Rattle.early_verdict.specs.declared.sets.Parts.{Parts}
-use Rattle.early_verdict.proofs.AllSets.{is_shown, sets_at}
+use Rattle.early_verdict.proofs.AllSets.{is_shown}
 use Rattle.early_verdict.proofs.MadeLemmas.{sets_tidy}
 use Rattle.early_verdict.proofs.Netting.{nodes_at}
-use Rattle.early_verdict.proofs.Places.{get_within}
 use Rattle.early_verdict.proofs.SinceSets.{none_later}
+use Rattle.early_verdict.proofs.Telling.{none_of}
 
 -- what is asked of a child
 twice : (from : Rational) (top k : ℕ) → later (later from top) k ≤ʳ later from (top + k)
@@ -31,17 +32,13 @@ reach from t u top k m h l e = le_trans l (le_trans (later_le k h) (le_trans (tw
 reach_now : (from t u : Rational) (top m : ℕ) → t ≤ʳ later from top → u ≤ʳ t → top ≤ m → u ≤ʳ later from m
 reach_now from t u top m h l e = le_trans l (le_trans h (later_more from top m e))
 
--- an empty list has no time
-pub on_none : (xs : List Stretch) (t : Rational) → xs ≡ [] → IsOn xs t → ⊥
-on_none xs t e o = subst (λ l. IsOn l t) e o
-
 module _ (nodes : List Node) (from : Rational) (live shown : List Sets) (made : AreMade nodes from live) (are : AreShownOf live shown)
     (placed : (i : ℕ) (n : Node) → slice_get nodes i ≡ Some n → HasChildrenBelow i n) where
   shows : (p : ℕ) (u : Rational) → p < length nodes → from ≤ʳ u → u ≤ʳ later from (top_at made.tops p) → IsShown shown p u
   shows p u h f l =
       let n = nodes_at nodes p h in
-      let s = sets_at live p (let c = made.have.count in omega (arith, h, c)) in
-      let x = sets_at shown p (let c = made.have.count in let d = are.count in omega (arith, h, c, d)) in
+      let s = slice_get_there live p (let c = made.have.count in omega (arith, h, c)) in
+      let x = slice_get_there shown p (let c = made.have.count in let d = are.count in omega (arith, h, c, d)) in
       let k = are.has p s.0 x.0 s.1 x.1 in
       is_shown shown p x.0 u x.1 (subst (λ b. Lies b u) (sym k.1) (((made.have.has p n.0 s.0 n.1 s.1).asked.no u).1 (f, l)))
 
@@ -53,7 +50,7 @@ module _ (nodes : List Node) (from : Rational) (live shown : List Sets) (made : 
     in_own t l = (h.asked.no t).0 l
 
     small : i < length nodes
-    small = let a = get_within live i s is in let c = made.have.count in omega (arith, a, c)
+    small = let a = slice_get_within live i s is in let c = made.have.count in omega (arith, a, c)
 
     ahead_parts : (b : ℕ) → top_at made.tops i + b ≤ h.wide → (o : Option Parts) → MatchOption o (Unit {0}) (ArePartsAsked from (top_at made.tops i) h.wide)
         → MatchOption o (Unit {0}) (ReachesAhead from b s.no.bounds)
@@ -150,8 +147,8 @@ module _ (nodes : List Node) (from : Rational) (live shown : List Sets) (made : 
         by_left (Some p) w = (
           is_some s.parts w.2,
           λ x f.
-              let a = get_within shown p x f in
-              let l = sets_at live p (let c = are.count in omega (arith, a, c)) in
+              let a = slice_get_within shown p x f in
+              let l = slice_get_there live p (let c = are.count in omega (arith, a, c)) in
               fail_bounds l.0 x (are.has p l.0 x l.1 f).1 (w.1 l.0 l.1),
         )
 
@@ -168,10 +165,10 @@ module _ (nodes : List Node) (from : Rational) (live shown : List Sets) (made : 
           left = left;
           shown_yes = k.0 ∙ sym k.1;
           shown_starts = λ t l. (in_own t (subst (λ b. Lies b t) k.1 l)).0;
-          yes_within = λ t o. absurd (on_none x.yes.spans.items t k.2.yes o);
-          no_within = λ t o. absurd (on_none x.no.spans.items t k.2.no o);
-          shows_yes = λ t o l. absurd (on_none s.yes.spans.items t none.yes o);
-          shows_no = λ t o l. absurd (on_none s.no.spans.items t none.no o);
+          yes_within = λ t o. absurd (none_of x.yes.spans.items t k.2.yes o);
+          no_within = λ t o. absurd (none_of x.no.spans.items t k.2.no o);
+          shows_yes = λ t o l. absurd (none_of s.yes.spans.items t none.yes o);
+          shows_no = λ t o l. absurd (none_of s.no.spans.items t none.no o);
           early = λ t l. inl (subst (λ b. Lies b t) k.1 l);
         }
 
@@ -180,7 +177,7 @@ module _ (nodes : List Node) (from : Rational) (live shown : List Sets) (made : 
   made_live = record { count = made.have.count; shown_count = are.count ∙ made.have.count; has = λ i n s x at is ix. live_here i n s at is x ix }
 
   of_live : (i : ℕ) (x : Sets) → slice_get shown i ≡ Some x → (s : Sets) × (slice_get live i ≡ Some s)
-  of_live i x f = let a = get_within shown i x f in sets_at live i (let c = are.count in omega (arith, a, c))
+  of_live i x f = let a = slice_get_within shown i x f in slice_get_there live i (let c = are.count in omega (arith, a, c))
 
   -- at first nothing is shown
   pub shown_empty : AllEmpty shown

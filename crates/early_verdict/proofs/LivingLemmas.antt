@@ -4,10 +4,10 @@ use Rattle.std.specs.Prelude.{MatchOption, IsSome, slice_get}
 use Rattle.rational.specs.Time.{Rational}
 use Rattle.stl_syntax.specs.declared.node.Node.{Node}
 use Rattle.stl_syntax.specs.declared.node.Node.TheVariants.{Const, Atom as Leaf, Not, And, Or, Implies, Until, Eventually, Always, Since, Once, Historically}
+use Rattle.stl_syntax.specs.Cells.{IsChild}
 use Rattle.early_verdict.specs.Spans.{IsOn, Lies}
 use Rattle.early_verdict.specs.Fitting.{HasFailBounds, KeepsBounds, lists_at}
 use Rattle.early_verdict.specs.Standing.{HasParts, left_of}
-use Rattle.early_verdict.specs.Letting.{IsChild}
 use Rattle.early_verdict.specs.Living.{IsShown, LooksAt, ReachesAhead, ReachesBack}
 use Rattle.early_verdict.specs.declared.stretch.Stretch.{Stretch}
 use Rattle.early_verdict.specs.declared.sets.Sets.{Sets}
@@ -67,9 +67,9 @@ module _ (from : Rational) (own own' : Stretch) (less : (t : Rational) → Lies 
 
   -- a node that goes on from fewer times looks at no more
   pub looks_as : (n : Node) (shown shown' : List Sets) (old new : Option Parts)
-      → ((p : ℕ) → IsChild p n → (u : Rational) → IsShown shown p u → IsShown shown' p u)
-      → ((p : ℕ) → IsChild p n → (u : Rational) → IsShown shown' p u → IsShown shown p u)
-      → ((p : ℕ) → IsChild p n → (u : Rational) → (IsOn (lists_at shown p).yes u → IsOn (lists_at shown' p).yes u)
+      → ((p : ℕ) → IsChild n p → (u : Rational) → IsShown shown p u → IsShown shown' p u)
+      → ((p : ℕ) → IsChild n p → (u : Rational) → IsShown shown' p u → IsShown shown p u)
+      → ((p : ℕ) → IsChild n p → (u : Rational) → (IsOn (lists_at shown p).yes u → IsOn (lists_at shown' p).yes u)
       × (IsOn (lists_at shown p).no u → IsOn (lists_at shown' p).no u))
       → ArePartsKept old new → LooksAt n from shown own old → LooksAt n from shown' own' new
   looks_as (Const b) shown shown' old new f i g e h = tt

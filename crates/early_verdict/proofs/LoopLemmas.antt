@@ -1,6 +1,7 @@
 -- How a set grows as stretches are added one after another.
 use Rattle.std.proofs.Common.{◌≡◌, ◌⊎◌, inl, inr, sym, ap, subst, ◌∙◌, ℕ, zero, suc, ◌+◌, List, [], ◌∷◌, ◌++◌, Some, take, drop, append_assoc, add-one}
 use Rattle.std.specs.Prelude.{slice_get}
+use Rattle.std.proofs.lemmas.Option.{same_Some}
 use Rattle.rational.specs.Time.{Rational}
 use Rattle.rational.specs.Places.{After, Upto}
 use Rattle.frac128.specs.Cuts.{place}
@@ -11,7 +12,7 @@ use Rattle.early_verdict.specs.declared.stretch.Stretch.{Stretch}
 use Rattle.early_verdict.proofs.Absorbing.{on_append, on_first, on_second}
 use Rattle.rational.proofs.PlaceLemmas.{not_both}
 use Rattle.early_verdict.proofs.GrowingLemmas.{grows_not}
-use Rattle.early_verdict.proofs.SpanLemmas.{some_same, no_stretch, on_parts, front_upto, rest_after, tidy_drop}
+use Rattle.early_verdict.proofs.SpanLemmas.{no_stretch, on_parts, front_upto, rest_after, tidy_drop}
 
 -- what is added twice is added
 pub grows_then : {bounds : Stretch} {old mid new told some fresh : List Stretch} {P Q R : Rational → Type 0}
@@ -54,7 +55,7 @@ pub by_more : (Q : Stretch → Rational → Type 0) (xs : List Stretch) (i : ℕ
     → BySome Q (take i xs) t ⊎ Q s t → BySome Q (take (suc i) xs) t
 by_more Q [] i s t e h = absurd (no_stretch s e)
 by_more Q (x ∷ xs) zero s t e (inl h) = absurd h
-by_more Q (x ∷ xs) zero s t e (inr h) = inl (subst (λ r. Q r t) (sym (some_same x s e)) h)
+by_more Q (x ∷ xs) zero s t e (inr h) = inl (subst (λ r. Q r t) (sym (same_Some x s e)) h)
 by_more Q (x ∷ xs) (suc i) s t e (inl (inl h)) = inl h
 by_more Q (x ∷ xs) (suc i) s t e (inl (inr h)) = inr (by_more Q xs i s t e (inl h))
 by_more Q (x ∷ xs) (suc i) s t e (inr h) = inr (by_more Q xs i s t e (inr h))
@@ -63,7 +64,7 @@ by_more Q (x ∷ xs) (suc i) s t e (inr h) = inr (by_more Q xs i s t e (inr h))
 pub by_less : (Q : Stretch → Rational → Type 0) (xs : List Stretch) (i : ℕ) (s : Stretch) (t : Rational) → slice_get xs i ≡ Some s
     → BySome Q (take (suc i) xs) t → BySome Q (take i xs) t ⊎ Q s t
 by_less Q [] i s t e h = absurd (no_stretch s e)
-by_less Q (x ∷ xs) zero s t e (inl h) = inr (subst (λ r. Q r t) (some_same x s e) h)
+by_less Q (x ∷ xs) zero s t e (inl h) = inr (subst (λ r. Q r t) (same_Some x s e) h)
 by_less Q (x ∷ xs) zero s t e (inr h) = absurd h
 by_less Q (x ∷ xs) (suc i) s t e (inl h) = inl (inl h)
 by_less Q (x ∷ xs) (suc i) s t e (inr h) = elim (by_less Q xs i s t e h) [ inl k ↦ inl (inr k) | inr k ↦ inr k ]
@@ -81,7 +82,7 @@ grows_on {s} {bounds} {old = old} {mid = mid} {new = new} {told = told} {some = 
 pub on_more : (xs : List Stretch) (i : ℕ) (s : Stretch) (t : Rational) → slice_get xs i ≡ Some s → IsOn (take i xs) t ⊎ Lies s t → IsOn (take (suc i) xs) t
 on_more [] i s t e h = absurd (no_stretch s e)
 on_more (x ∷ xs) zero s t e (inl h) = absurd h
-on_more (x ∷ xs) zero s t e (inr h) = inl (subst (λ r. Lies r t) (sym (some_same x s e)) h)
+on_more (x ∷ xs) zero s t e (inr h) = inl (subst (λ r. Lies r t) (sym (same_Some x s e)) h)
 on_more (x ∷ xs) (suc i) s t e (inl (inl h)) = inl h
 on_more (x ∷ xs) (suc i) s t e (inl (inr h)) = inr (on_more xs i s t e (inl h))
 on_more (x ∷ xs) (suc i) s t e (inr h) = inr (on_more xs i s t e (inr h))
@@ -89,7 +90,7 @@ on_more (x ∷ xs) (suc i) s t e (inr h) = inr (on_more xs i s t e (inr h))
 -- a time on some stretches is on the first, or on the last
 pub on_less : (xs : List Stretch) (i : ℕ) (s : Stretch) (t : Rational) → slice_get xs i ≡ Some s → IsOn (take (suc i) xs) t → IsOn (take i xs) t ⊎ Lies s t
 on_less [] i s t e h = absurd (no_stretch s e)
-on_less (x ∷ xs) zero s t e (inl h) = inr (subst (λ r. Lies r t) (some_same x s e) h)
+on_less (x ∷ xs) zero s t e (inl h) = inr (subst (λ r. Lies r t) (same_Some x s e) h)
 on_less (x ∷ xs) zero s t e (inr h) = absurd h
 on_less (x ∷ xs) (suc i) s t e (inl h) = inl (inl h)
 on_less (x ∷ xs) (suc i) s t e (inr h) = elim (on_less xs i s t e h) [ inl k ↦ inl (inr k) | inr k ↦ inr k ]

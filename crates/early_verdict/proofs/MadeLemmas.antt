@@ -3,7 +3,7 @@ use Rattle.std.proofs.Common.{◌≡◌, ◌⊎◌, inl, inr, refl, sym, subst, 
 use Rattle.std.proofs.Common.{true, false, Option, Some, None, List, [], ◌∷◌, ◌++◌, length, take, arith}
 use Rattle.std.specs.Prelude.{slice_get, MatchOption}
 use Rattle.std.proofs.lemmas.List.{take-append-le, length-append}
-use Rattle.std.proofs.lemmas.Option.{slice_get_within}
+use Rattle.std.proofs.lemmas.Option.{slice_get_within, same_Some}
 use Rattle.std.proofs.Math.Seq.{take-append_seam}
 use Rattle.rational.specs.Rational.{Rational, ◌≈◌, whole}
 use Rattle.rational.specs.Time.{later}
@@ -23,6 +23,7 @@ use Rattle.early_verdict.specs.declared.sets.Sets.{Sets}
 use Rattle.early_verdict.specs.declared.sets.Parts.{Parts}
 use Rattle.early_verdict.specs.declared.grown.Grown.{Grown}
 use Rattle.rational.proofs.PlaceLemmas.{after_same, upto_same, same_places}
+use Rattle.rational.proofs.Lists.{slice_get_there, slice_get-append_front, slice_get-append_here}
 
 same_tick : (m k : ℕ) → later (whole (pos m)) k ≈ whole (pos (m + k))
 same_tick m k = omega arith
@@ -68,14 +69,6 @@ sets_tidy s e = record { yes = tidy_of s.yes e.yes; no = tidy_of s.no e.no; part
     by_parts : (o : Option Parts) → MatchOption o (Unit {0}) ArePartsEmpty → MatchOption o (Unit {0}) ArePartsTidy
     by_parts None h = tt
     by_parts (Some x) h = parts_tidy x h
-
--- an option holds one pair of sets
-pub some_sets : (a b : Sets) → Some a ≡ Some b → a ≡ b
-some_sets a b e = cc
-
--- an option has one node
-pub some_node : (a b : Node) → Some a ≡ Some b → a ≡ b
-some_node a b e = cc
 
 from_as : (from : Rational) (top : ℕ) (a b : Stretch) → a ≡ b → IsFrom from top b → IsFrom from top a
 from_as from top a b e h = subst (λ s. IsFrom from top s) (sym e) h
@@ -131,7 +124,7 @@ module _ (nodes : List Node) (from : Rational) (tops : List ℕ) (sets : List Se
                 × ((l' : Sets) → slice_get sets p' ≡ Some l' → HasFailBounds s l') × (s.parts ≡ None → ⊥))) (sym is) (
                   refl,
                   λ l' e'.
-                      let same = some_sets l l' (sym g ∙ e') in
+                      let same = same_Some l l' (sym g ∙ e') in
                       subst (HasFailBounds s) same
                       (subst (λ o. MatchOption o (Unit {0}) (λ x. (x.failing.fail.bounds ≡ l.no.bounds) × (x.failing.stop.bounds ≡ l.no.bounds)))
                       (sym r) (h.fail, h.stop)),
@@ -184,16 +177,6 @@ module _ (nodes : List Node) (from : Rational) (tops : List ℕ) (sets : List Se
           node_at (x ∷ xs) (y ∷ ys) zero l c g = (y, refl)
           node_at (x ∷ xs) (y ∷ ys) (suc k) l c g = node_at xs ys k l (omega arith) g
 
--- a list with one more: what it had stands where it stood, and the one at its end
-still_there : {A : Type 0} (xs : List A) (y : A) (j : ℕ) → j < length xs → slice_get (xs ++ y ∷ []) j ≡ slice_get xs j
-still_there [] y j h = absurd (omega arith)
-still_there (x ∷ xs) y zero h = refl
-still_there (x ∷ xs) y (suc j) h = still_there xs y j (omega arith)
-
-at_its_end : {A : Type 0} (xs : List A) (y : A) → slice_get (xs ++ y ∷ []) (length xs) ≡ Some y
-at_its_end [] y = refl
-at_its_end (x ∷ xs) y = at_its_end xs y
-
 last_or_before : (j n : ℕ) → j < n + 1 → (j < n) ⊎ (j ≡ n)
 last_or_before zero zero h = inr refl
 last_or_before zero (suc n) h = inl (omega arith)
@@ -209,9 +192,9 @@ pub one_more : (nodes : List Node) (from : Rational) (tops : List ℕ) (sets : L
 one_more nodes from tops sets more made last j n s e f = elim (last_or_before j (length sets) within) [
   | inl l ↦
       subst (λ xs. IsMade from (top_at tops j) n xs s) (sym (take-append-le j sets (more ∷ []) (omega arith)))
-      (made j n s e (sym (still_there sets more j l) ∙ f))
+      (made j n s e (sym (slice_get-append_front sets (more ∷ []) j l) ∙ f))
   | inr is ↦
-      let same = some_sets more s (sym (at_its_end sets more) ∙ subst (λ i. slice_get (sets ++ more ∷ []) i ≡ Some s) is f) in
+      let same = same_Some more s (sym (slice_get-append_here sets more []) ∙ subst (λ i. slice_get (sets ++ more ∷ []) i ≡ Some s) is f) in
       let all : take (length sets) (sets ++ more ∷ []) ≡ sets = take-append_seam sets (more ∷ []) in
       subst (λ i. IsMade from (top_at tops i) n (take i (sets ++ more ∷ [])) s) (sym is)
       (subst (λ xs. IsMade from (top_at tops (length sets)) n xs s) (sym all)
@@ -221,12 +204,6 @@ one_more nodes from tops sets more made last j n s e f = elim (last_or_before j 
     within : j < length sets + 1
     within = subst (λ k. j < k) (length-append sets (more ∷ [])) (slice_get_within (sets ++ more ∷ []) j s f)
 
--- each place has its sets
-pub sets_at : (xs : List Sets) (p : ℕ) → p < length xs → (l : Sets) × (slice_get xs p ≡ Some l)
-sets_at [] p h = absurd (omega arith)
-sets_at (x ∷ xs) zero h = (x, refl)
-sets_at (x ∷ xs) (suc p) h = sets_at xs p (omega arith)
-
 -- the left operand has sets
 pub with_left : (n : Node) (i : ℕ) (below : List Sets) (bounds : Stretch) (s : Sets) → i ≡ length below → HasChildrenBelow i n
     → MatchOption (left_of n) (s.parts ≡ None) (λ p. (l : Sets) → slice_get below p ≡ Some l → HasPartsFor bounds l s)
@@ -235,7 +212,7 @@ with_left n i below bounds s is c h = by_node n c h
   where
     found : (p : ℕ) → p < i → ((l : Sets) → slice_get below p ≡ Some l → HasPartsFor bounds l s)
         → (l : Sets) × (slice_get below p ≡ Some l) × HasPartsFor bounds l s
-    found p lt f = let l = sets_at below p (subst (λ k. p < k) is lt) in (l.0, l.1, f l.0 l.1)
+    found p lt f = let l = slice_get_there below p (subst (λ k. p < k) is lt) in (l.0, l.1, f l.0 l.1)
 
     by_node : (n : Node) → HasChildrenBelow i n
         → MatchOption (left_of n) (s.parts ≡ None) (λ p. (l : Sets) → slice_get below p ≡ Some l → HasPartsFor bounds l s)
@@ -268,10 +245,10 @@ pub shown_more : {s : Sets} {k : ℕ} (live shown : List Sets) (x : Sets) → sl
     → ((i : ℕ) (s x : Sets) → slice_get live i ≡ Some s → slice_get shown i ≡ Some x → IsEmptyIn s x) → IsEmptyIn s x
     → (i : ℕ) (r y : Sets) → slice_get live i ≡ Some r → slice_get (shown ++ x ∷ []) i ≡ Some y → IsEmptyIn r y
 shown_more {s} live shown x at count h own i r y e f = elim (last_or_before i (length shown) within) [
-  | inl l ↦ h i r y e (sym (still_there shown x i l) ∙ f)
+  | inl l ↦ h i r y e (sym (slice_get-append_front shown (x ∷ []) i l) ∙ f)
   | inr is ↦
-      let a : x ≡ y = some_sets x y (sym (at_its_end shown x) ∙ subst (λ j. slice_get (shown ++ x ∷ []) j ≡ Some y) is f) in
-      let b : s ≡ r = some_sets s r (sym at ∙ subst (λ j. slice_get live j ≡ Some r) (is ∙ count) e) in
+      let a : x ≡ y = same_Some x y (sym (slice_get-append_here shown x []) ∙ subst (λ j. slice_get (shown ++ x ∷ []) j ≡ Some y) is f) in
+      let b : s ≡ r = same_Some s r (sym at ∙ subst (λ j. slice_get live j ≡ Some r) (is ∙ count) e) in
       subst (λ q. IsEmptyIn q y) b (subst (λ q. IsEmptyIn s q) a own)
 ]
   where

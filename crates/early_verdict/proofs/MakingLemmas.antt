@@ -1,32 +1,13 @@
 -- Places by their order, and the stretches between the earlier and the later of two.
-use Rattle.std.proofs.Common.{◌≡◌, ◌⊎◌, inl, inr, subst, sym, Bool, true, false, ℕ}
-use Rattle.std.specs.Prelude.{MatchBool}
-use Rattle.rational.specs.Rational.{Rational, IsWithin, ◌≤ʳ◌, ◌<ʳ◌, middle}
-use Rattle.rational.proofs.Order.{le_or_lt, le_trans, le_of_lt, le_of_same, not_lt_of_le, left_of_middle, right_of_middle}
+use Rattle.std.proofs.Common.{◌≡◌, ◌⊎◌, inl, inr, subst, sym, ℕ}
+use Rattle.rational.specs.Rational.{Rational, IsWithin}
+use Rattle.rational.proofs.Order.{le_trans}
 use Rattle.rational.specs.Places.{Place, After, Upto, Before, AtMost}
 use Rattle.frac128.specs.Cuts.{place}
 use Rattle.early_verdict.specs.Spans.{Lies}
 use Rattle.frac128.specs.declared.cut.Cut.{Cut}
 use Rattle.early_verdict.specs.declared.stretch.Stretch.{Stretch}
-use Rattle.rational.proofs.PlaceLemmas.{sides, not_both, between, before_through}
-
--- what comes after a later place comes after an earlier one
-pub before_from : (c d e : Place) → AtMost c d → Before d e → Before c e
-before_from c d e h b =
-    let t = between d e b in
-    elim (sides c t.0) [ inl u ↦ absurd (not_both d t.0 (h t.0 u) t.1) | inr a ↦ before_through c e t.0 a t.2 ]
-
--- what is before a place is before a later one
-pub before_to : (c d e : Place) → Before c d → AtMost d e → Before c e
-before_to c d e b h = let t = between c d b in before_through c e t.0 t.1 (h t.0 t.2)
-
--- what lies after a place lies after each that is at most it
-pub after_from : (c d : Place) (t : Rational) → AtMost c d → After d t → After c t
-after_from c d t h a = elim (sides c t) [ inl u ↦ absurd (not_both d t (h t u) a) | inr b ↦ b ]
-
--- no place comes before itself
-pub not_itself : (c : Place) → ¬ (Before c c)
-not_itself c b = let t = between c c b in not_both c t.0 t.2 t.1
+use Rattle.rational.proofs.PlaceLemmas.{sides, not_both, before_through, le_of_before, le_of_at_most}
 
 -- what lies after both lies after the one of the two
 pub after_one : (a b r : Cut) (t : Rational) → (r ≡ a) ⊎ (r ≡ b) → After (place a) t → After (place b) t → After (place r) t
@@ -37,26 +18,6 @@ after_one a b r t (inr e) h k = subst (λ c. After (place c) t) (sym e) k
 pub upto_one : (a b r : Cut) (t : Rational) → (r ≡ a) ⊎ (r ≡ b) → Upto (place a) t → Upto (place b) t → Upto (place r) t
 upto_one a b r t (inl e) h k = subst (λ c. Upto (place c) t) (sym e) h
 upto_one a b r t (inr e) h k = subst (λ c. Upto (place c) t) (sym e) k
-
--- the times of places in their order
-pub le_of_before : (c d : Place) → Before c d → c.at ≤ʳ d.at
-le_of_before c d (inl l) = le_of_lt l
-le_of_before c d (inr (s, e, f)) = le_of_same s
-
--- a place that is no later has no later time
-pub le_of_at_most : (c d : Place) → AtMost c d → c.at ≤ʳ d.at
-le_of_at_most c d h = elim (le_or_lt c.at d.at) [ inl l ↦ l | inr l ↦ absurd (above l) ]
-  where
-    under : (b : Bool) → d.at <ʳ c.at → MatchBool b (middle d.at c.at ≤ʳ c.at) (middle d.at c.at <ʳ c.at)
-    under true l = le_of_lt (right_of_middle l)
-    under false l = right_of_middle l
-
-    over : (b : Bool) → d.at <ʳ c.at → MatchBool b (middle d.at c.at ≤ʳ d.at) (middle d.at c.at <ʳ d.at) → ⊥
-    over true l k = not_lt_of_le k (left_of_middle l)
-    over false l k = not_lt_of_le (le_of_lt k) (left_of_middle l)
-
-    above : d.at <ʳ c.at → ⊥
-    above l = over d.after l (h (middle d.at c.at) (under c.after l))
 
 -- two places between two that are near are near
 pub near_between : (n : ℕ) (f t b e : Place) → AtMost b f → Before f t → AtMost t e → IsWithin n b.at → IsWithin n e.at

@@ -2,16 +2,20 @@
 use Rattle.std.proofs.Common.{◌≡◌, ◌≢◌, ◌⊎◌, inl, inr, refl, sym, ap, subst, ◌∙◌, ℕ, zero, suc, ◌-◌, ◌<◌}
 use Rattle.std.proofs.Common.{◌≤◌, Bool, true, false, Option, Some, None, List, [], ◌∷◌, length, arith}
 use Rattle.std.specs.Prelude.{MatchBool, MatchOption, slice_get}
+use Rattle.std.proofs.lemmas.Option.{same_Some, slice_get_within}
+use Rattle.std.proofs.lemmas.Bool.{cases_eq}
 use Rattle.rational.specs.Time.{Rational, later, ◌≤ʳ◌, ◌<ʳ◌}
 use Rattle.rational.proofs.Order.{le_of_lt}
 use Rattle.rational.proofs.TimeLemmas.{precedes_le}
 use Rattle.stl_syntax.specs.Trace.{Trace, start}
-use Rattle.stl_syntax.specs.Formula.{HasChildrenBelow, subformula}
+use Rattle.stl_syntax.specs.Formula.{subformula}
 use Rattle.stl_syntax.specs.WellFormed.{AreWellFormed}
 use Rattle.stl_syntax.specs.declared.node.Node.{Node}
 use Rattle.stl_syntax.specs.declared.node.Node.TheVariants.{Const, Atom as Leaf, Not, And, Or, Implies, Until, Eventually, Always, Since, Once, Historically}
-use Rattle.stl_syntax.proofs.PostOrderLemmas.{placed}
+use Rattle.stl_syntax.proofs.PostOrderLemmas.{placed, child_below}
+use Rattle.stl_syntax.specs.Cells.{IsChild}
 use Rattle.rational.specs.Places.{Place, After}
+use Rattle.rational.proofs.Lists.{slice_get_there}
 use Rattle.early_verdict.specs.Spans.{IsOn, Lies}
 use Rattle.early_verdict.specs.Readings.{SomeAhead, OnlyAhead, SomeBehind, OnlyBehind}
 use Rattle.early_verdict.specs.Fitting.{Lists, lists_at, no_of, nothing, yes_of, Fits, SayBoth, SayOfParts, NegationFits}
@@ -19,18 +23,18 @@ use Rattle.early_verdict.specs.Fitting.{ConjunctionFits, DisjunctionFits, Implic
 use Rattle.early_verdict.specs.Fitting.{EventuallyFits, AlwaysFits, OnceFits, HistoricallyFits, AreSetsTidy}
 use Rattle.early_verdict.specs.Standing.{AllFit, AllTidy, HasParts, left_of}
 use Rattle.early_verdict.specs.Living.{IsLive, IsNarrowed, IsShown, Known, LooksAt, LooksBack, NetStands}
-use Rattle.early_verdict.specs.Letting.{AreApart, AreAskedBy, AreInside, AreLess, IsChild, IsLess, IsRun, HasShedAt, IsUntil}
+use Rattle.early_verdict.specs.Letting.{AreApart, AreAskedBy, AreInside, AreLess, IsLess, IsRun, HasShedAt, IsUntil}
 use Rattle.early_verdict.specs.declared.stretch.Stretch.{Stretch}
 use Rattle.early_verdict.specs.declared.grown.Grown.{Grown}
 use Rattle.early_verdict.specs.declared.sets.Sets.{Sets}
 use Rattle.early_verdict.specs.declared.sets.Parts.{Parts}
-use Rattle.early_verdict.proofs.AllSets.{is_shown, lists_are, sets_at, shown_is, shown_within, yes_there}
+use Rattle.early_verdict.proofs.AllSets.{is_shown, lists_are, shown_is, shown_within, yes_there}
 use Rattle.early_verdict.proofs.Apart.{never_both}
-use Rattle.early_verdict.proofs.Childhood.{child_below, child_or_not, left_child, one_parent}
-use Rattle.early_verdict.proofs.FitLemmas.{fits_within}
+use Rattle.early_verdict.proofs.Childhood.{child_or_not, left_child, one_parent}
+use Rattle.early_verdict.proofs.FitLemmas.{fits_within, two}
 use Rattle.early_verdict.proofs.LivingLemmas.{looks_as, parts_as}
-use Rattle.early_verdict.proofs.Netting.{nat_is, nodes_at}
-use Rattle.early_verdict.proofs.Places.{get_within, lists_by, same_sets}
+use Rattle.early_verdict.proofs.Netting.{nodes_at}
+use Rattle.early_verdict.proofs.Places.{lists_by}
 use Rattle.early_verdict.proofs.SinceSets.{none_later}
 use Rattle.early_verdict.proofs.Telling.{parts_kept, tells_alike}
 
@@ -72,10 +76,7 @@ module _ (own bounds : Stretch) (s s' : Sets) (y : s.yes.bounds ≡ own) (n : s.
   fits_less (Historically p a b i j) tr at h = less_both _ _ h
 
 -- a node's sets fit by whatever its children show that it looks at
-two : (F : Lists → Lists → Type 0) (p p' q q' : Lists) → p ≡ p' → q ≡ q' → F p q → F p' q'
-two F p p' q q' d e h = subst (λ x. F x q') d (subst (λ x. F p x) e h)
-
-fits_as : (n : Node) (tr : Trace) (at at' : ℕ → Lists) (s : Sets) → ((p : ℕ) → IsChild p n → at p ≡ at' p) → Fits n false tr at s → Fits n false tr at' s
+fits_as : (n : Node) (tr : Trace) (at at' : ℕ → Lists) (s : Sets) → ((p : ℕ) → IsChild n p → at p ≡ at' p) → Fits n false tr at s → Fits n false tr at' s
 fits_as (Const b) tr at at' s e h = h
 fits_as (Leaf a) tr at at' s e h = h
 fits_as (Not p) tr at at' s e h = subst (λ x. NegationFits x s) (e p refl) h
@@ -177,9 +178,6 @@ module _ (tr : Trace) (own : Stretch) (s : Sets) (y : s.yes.bounds ≡ own) (n :
       (λ t g u w. k.yes_out u (g u w))
       (back_some no_of p a b i j l k.no_in) (λ t (u, w, c, x). (u, w, c, k.no_out u x)) h
 
-same_node : (a b : Node) → Some a ≡ Some b → a ≡ b
-same_node a b e = cc
-
 -- one node goes on from fewer times
 module _ {nodes : List Node} {tr : Trace} {live new shown : List Sets} {i : ℕ} (at : HasShedAt i shown live new) (st : NetStands nodes tr live shown) where
   live_here : (n : Node) → slice_get nodes i ≡ Some n → IsLive (start tr) shown n at.is at.x
@@ -218,25 +216,25 @@ module _ {nodes : List Node} {tr : Trace} {live new shown : List Sets} {i : ℕ}
 
   live_there : (j : ℕ) (n : Node) (s x : Sets) → slice_get nodes j ≡ Some n → slice_get new j ≡ Some s
       → slice_get shown j ≡ Some x → IsLive (start tr) shown n s x
-  live_there j n s x here is ix = by_place (nat_is j i)
+  live_there j n s x here is ix = by_place (cases_eq j i)
     where
       by_place : (j ≡ i) ⊎ (j ≢ i) → IsLive (start tr) shown n s x
       by_place (inl q) =
-          let a = same_sets at.is s (sym at.at_new ∙ subst (λ k. slice_get new k ≡ Some s) q is) in
-          let b = same_sets at.x x (sym at.at_shown ∙ subst (λ k. slice_get shown k ≡ Some x) q ix) in
+          let a = same_Some at.is s (sym at.at_new ∙ subst (λ k. slice_get new k ≡ Some s) q is) in
+          let b = same_Some at.x x (sym at.at_shown ∙ subst (λ k. slice_get shown k ≡ Some x) q ix) in
           subst (λ z. IsLive (start tr) shown n z x) a (subst (λ z. IsLive (start tr) shown n at.is z) b
           (live_here n (subst (λ k. slice_get nodes k ≡ Some n) q here)))
       by_place (inr d) = st.have.has j n s x here (sym (at.others j d) ∙ is) ix
 
   tidy_there : AllTidy new
-  tidy_there j s is = by_place (nat_is j i)
+  tidy_there j s is = by_place (cases_eq j i)
     where
       by_place : (j ≡ i) ⊎ (j ≢ i) → AreSetsTidy s
-      by_place (inl q) = subst AreSetsTidy (same_sets at.is s (sym at.at_new ∙ subst (λ k. slice_get new k ≡ Some s) q is)) at.shed.narrowed.tidy
+      by_place (inl q) = subst AreSetsTidy (same_Some at.is s (sym at.at_new ∙ subst (λ k. slice_get new k ≡ Some s) q is)) at.shed.narrowed.tidy
       by_place (inr d) = st.tidy j s (sym (at.others j d) ∙ is)
 
   fit_there : AllFit nodes false tr new shown
-  fit_there j n s here is = by_place (nat_is j i)
+  fit_there j n s here is = by_place (cases_eq j i)
     where
       fit_here : slice_get nodes i ≡ Some n → Fits n false tr (lists_at shown) at.is
       fit_here e =
@@ -246,7 +244,7 @@ module _ {nodes : List Node} {tr : Trace} {live new shown : List Sets} {i : ℕ}
 
       by_place : (j ≡ i) ⊎ (j ≢ i) → Fits n false tr (lists_at shown) s
       by_place (inl q) =
-          subst (λ z. Fits n false tr (lists_at shown) z) (same_sets at.is s (sym at.at_new ∙ subst (λ k. slice_get new k ≡ Some s) q is))
+          subst (λ z. Fits n false tr (lists_at shown) z) (same_Some at.is s (sym at.at_new ∙ subst (λ k. slice_get new k ≡ Some s) q is))
           (fit_here (subst (λ k. slice_get nodes k ≡ Some n) q here))
       by_place (inr d) = st.fit j n s here (sym (at.others j d) ∙ is)
 
@@ -298,7 +296,7 @@ at_or_not (x ∷ xs) (suc p) = at_or_not xs p
 
 -- where the same stands the same is shown
 shown_as : (xs ys : List Sets) (p : ℕ) (u : Rational) → slice_get ys p ≡ slice_get xs p → IsShown xs p u → IsShown ys p u
-shown_as xs ys p u e h = let x = sets_at xs p (shown_within xs p u h) in is_shown ys p x.0 u (e ∙ x.1) (shown_is xs p x.0 u x.1 h)
+shown_as xs ys p u e h = let x = slice_get_there xs p (shown_within xs p u h) in is_shown ys p x.0 u (e ∙ x.1) (shown_is xs p x.0 u x.1 h)
 
 -- and so the lists have
 lists_as : (xs ys : List Sets) (p : ℕ) (u : Rational) → slice_get ys p ≡ slice_get xs p
@@ -315,8 +313,8 @@ module _ {nodes : List Node} {tr : Trace} {live shown : List Sets} (st : NetStan
       let c = st.have.count in
       let d = st.have.shown_count in
       let n = nodes_at nodes p (omega (arith, l, d)) in
-      let s = sets_at live p (omega (arith, l, c, d)) in
-      let x = sets_at shown p l in
+      let s = slice_get_there live p (omega (arith, l, c, d)) in
+      let x = slice_get_there shown p l in
       (st.have.has p n.0 s.0 x.0 n.1 s.1 x.1).shown_starts u (shown_is shown p x.0 u x.1 h)
 
   -- no node has a time among its true times and among its false ones
@@ -338,7 +336,7 @@ module _ {nodes : List Node} (formed : AreWellFormed nodes) {tr : Trace} {live :
     (at : slice_get nodes i ≡ Some n) {s r : Sets}
     (is : slice_get live i ≡ Some s) (ir : slice_get left i ≡ Some r)
     (same : (j : ℕ) → j ≢ i → slice_get left j ≡ slice_get live j) (count : length left ≡ length live)
-    (less : AreLess old new) (others : (p : ℕ) → ¬ (IsChild p n) → slice_get new p ≡ slice_get old p) (st : NetStands nodes tr live old) where
+    (less : AreLess old new) (others : (p : ℕ) → ¬ (IsChild n p) → slice_get new p ≡ slice_get old p) (st : NetStands nodes tr live old) where
   -- what is shown at a place now, and was
   was_shown : (p : ℕ) (x : Sets) → slice_get new p ≡ Some x → (w : Sets) × (slice_get old p ≡ Some w) × IsLess w x
   was_shown = less.each
@@ -366,12 +364,12 @@ module _ {nodes : List Node} (formed : AreWellFormed nodes) {tr : Trace} {live :
 
   shown_less : (p : ℕ) (u : Rational) → IsShown new p u → IsShown old p u
   shown_less p u h =
-      let x = sets_at new p (shown_within new p u h) in
+      let x = slice_get_there new p (shown_within new p u h) in
       let w = was_shown p x.0 x.1 in
       is_shown old p w.0 u w.1 (w.2.less u (shown_is new p x.0 u x.1 h))
 
   -- a child of another node shows what it did
-  not_its : (j p : ℕ) (m : Node) → j ≢ i → slice_get nodes j ≡ Some m → IsChild p m → slice_get new p ≡ slice_get old p
+  not_its : (j p : ℕ) (m : Node) → j ≢ i → slice_get nodes j ≡ Some m → IsChild m p → slice_get new p ≡ slice_get old p
   not_its j p m d here c = others p (λ e. one_parent nodes formed.post_order j i p m n d here at c e)
 
   -- a node is live by what it was, where it looks at its children still and has its sets between
@@ -401,16 +399,16 @@ module _ {nodes : List Node} (formed : AreWellFormed nodes) {tr : Trace} {live :
       (fits : Fits n false tr (lists_at new) r) (tidy : AreSetsTidy r) where
     module _ (j : ℕ) (m : Node) (v : Sets) (here : slice_get nodes j ≡ Some m) (iv : slice_get left j ≡ Some v) where
       same_m : j ≡ i → n ≡ m
-      same_m q = same_node n m (sym at ∙ subst (λ k. slice_get nodes k ≡ Some m) q here)
+      same_m q = same_Some n m (sym at ∙ subst (λ k. slice_get nodes k ≡ Some m) q here)
 
       same_v : j ≡ i → r ≡ v
-      same_v q = same_sets r v (sym ir ∙ subst (λ k. slice_get left k ≡ Some v) q iv)
+      same_v q = same_Some r v (sym ir ∙ subst (λ k. slice_get left k ≡ Some v) q iv)
 
       live_one : (x : Sets) → slice_get new j ≡ Some x → IsLive (start tr) new m v x
       live_one x ix = by_was (was_shown j x ix)
         where
           by_was : ((w : Sets) × (slice_get old j ≡ Some w) × IsLess w x) → IsLive (start tr) new m v x
-          by_was (w, e, less) = elim (nat_is j i) [
+          by_was (w, e, less) = elim (cases_eq j i) [
             | inl q ↦ subst (λ z. IsLive (start tr) new m z x) (same_v q) (subst (λ z. IsLive (start tr) new z r x) (same_m q)
                 (mine w x (subst (λ k. slice_get old k ≡ Some w) q e) (subst (λ k. slice_get new k ≡ Some x) q ix) less))
             | inr d ↦
@@ -424,15 +422,15 @@ module _ {nodes : List Node} (formed : AreWellFormed nodes) {tr : Trace} {live :
           ]
 
       fit_one : Fits m false tr (lists_at new) v
-      fit_one = elim (nat_is j i) [
+      fit_one = elim (cases_eq j i) [
         | inl q ↦ subst (λ z. Fits m false tr (lists_at new) z) (same_v q) (subst (λ z. Fits z false tr (lists_at new) r) (same_m q) fits)
         | inr d ↦ fits_as m tr (lists_at old) (lists_at new) v (λ p c. lists_by old new p (sym (not_its j p m d here c)))
             (st.fit j m v here (sym (same j d) ∙ iv))
       ]
 
     tidy_one : AllTidy left
-    tidy_one j v iv = elim (nat_is j i) [
-      | inl q ↦ subst AreSetsTidy (same_sets r v (sym ir ∙ subst (λ k. slice_get left k ≡ Some v) q iv)) tidy
+    tidy_one j v iv = elim (cases_eq j i) [
+      | inl q ↦ subst AreSetsTidy (same_Some r v (sym ir ∙ subst (λ k. slice_get left k ≡ Some v) q iv)) tidy
       | inr d ↦ st.tidy j v (sym (same j d) ∙ iv)
     ]
 
@@ -455,7 +453,7 @@ module _ {nodes : List Node} (formed : AreWellFormed nodes) {tr : Trace} {live :
       };
       root = elim (child_or_not (length nodes - 1) n) [
         | inl c ↦ absurd (let a = child_below i (length nodes - 1) n (placed nodes i n formed.post_order at) c in
-            let b = get_within live i s is in let d = st.have.count in omega (arith, a, b, d))
+            let b = slice_get_within live i s is in let d = st.have.count in omega (arith, a, b, d))
         | inr c ↦ shown_as old new (length nodes - 1) (start tr) (others (length nodes - 1) c) st.root
       ];
     }
@@ -477,7 +475,7 @@ module _ {nodes : List Node} (formed : AreWellFormed nodes) {tr : Trace} {live o
       (λ p l' g z. (l', subst (λ xs. slice_get xs p ≡ Some l') (asked.run (run_of_left n plain p g)) z, refl)) k.left)
 
   shown_i : (w : Sets) × (slice_get old i ≡ Some w)
-  shown_i = sets_at old i (let a = get_within live i s is in let c = st.have.count in let d = st.have.shown_count in omega (arith, a, c, d))
+  shown_i = slice_get_there old i (let a = slice_get_within live i s is in let c = st.have.count in let d = st.have.shown_count in omega (arith, a, c, d))
 
   fits : Fits n false tr (lists_at new) s
   fits = elim (run_or_not n) [
@@ -499,11 +497,11 @@ module _ {nodes : List Node} {tr : Trace} {live shown : List Sets} (st : NetStan
   -- what the nodes go on from lies within the bounds
   pub live_inside : AreInside live
   live_inside p s is =
-      let l = get_within live p s is in
+      let l = slice_get_within live p s is in
       let c = st.have.count in
       let d = st.have.shown_count in
       let n = nodes_at nodes p (omega (arith, l, c)) in
-      let x = sets_at shown p (omega (arith, l, c, d)) in
+      let x = slice_get_there shown p (omega (arith, l, c, d)) in
       let k = st.have.has p n.0 s x.0 n.1 is x.1 in
       let w = fits_within n.0 false tr (lists_at shown) s (st.fit p n.0 s n.1 is) in
       record { yes = λ t o. subst (λ z. Lies z t) (k.yes ∙ sym k.no) (w.yes_within t o); no = w.no_within }
@@ -511,28 +509,13 @@ module _ {nodes : List Node} {tr : Trace} {live shown : List Sets} (st : NetStan
   -- what all nodes show lies within their bounds
   pub shown_inside : AreInside shown
   shown_inside p x ix =
-      let l = get_within shown p x ix in
+      let l = slice_get_within shown p x ix in
       let c = st.have.count in
       let d = st.have.shown_count in
       let n = nodes_at nodes p (omega (arith, l, d)) in
-      let s = sets_at live p (omega (arith, l, c, d)) in
+      let s = slice_get_there live p (omega (arith, l, c, d)) in
       let k = st.have.has p n.0 s.0 x n.1 s.1 ix in
       record { yes = k.yes_within; no = k.no_within }
-
--- children stand below what is above their parent
-pub children_more : (n : Node) (i k : ℕ) → i ≤ k → HasChildrenBelow i n → HasChildrenBelow k n
-children_more (Const b) i k l h = tt
-children_more (Leaf a) i k l h = tt
-children_more (Not p) i k l h = omega (arith, l, h)
-children_more (And p q) i k l h = (let a = h.0 in omega (arith, l, a), let a = h.1 in omega (arith, l, a))
-children_more (Or p q) i k l h = (let a = h.0 in omega (arith, l, a), let a = h.1 in omega (arith, l, a))
-children_more (Implies p q) i k l h = (let a = h.0 in omega (arith, l, a), let a = h.1 in omega (arith, l, a))
-children_more (Until p q a b) i k l h = (let a = h.0 in omega (arith, l, a), let a = h.1 in omega (arith, l, a))
-children_more (Eventually p a b u v) i k l h = omega (arith, l, h)
-children_more (Always p a b u v) i k l h = omega (arith, l, h)
-children_more (Since p q a b) i k l h = (let a = h.0 in omega (arith, l, a), let a = h.1 in omega (arith, l, a))
-children_more (Once p a b u v) i k l h = omega (arith, l, h)
-children_more (Historically p a b u v) i k l h = omega (arith, l, h)
 
 -- a time after a place is no earlier than its time
 pub le_after : (c : Place) (t : Rational) → After c t → c.at ≤ʳ t

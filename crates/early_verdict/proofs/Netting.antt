@@ -1,7 +1,10 @@
 -- One entry goes on from node to node.
-use Rattle.std.proofs.Common.{◌≡◌, ◌≢◌, ◌⊎◌, inl, inr, refl, sym, ap, subst, ◌∙◌, ℕ, zero, suc, ◌+◌, ◌<◌, ◌≤◌}
+use Rattle.std.proofs.Common.{◌≡◌, ◌≢◌, ◌⊎◌, inl, inr, refl, sym, subst, ◌∙◌, ℕ, zero, suc, ◌+◌, ◌<◌, ◌≤◌}
 use Rattle.std.proofs.Common.{false, Option, Some, None, List, [], ◌∷◌, length, take, arith, below_more}
 use Rattle.std.specs.Prelude.{MatchOption, IsSome, slice_get}
+use Rattle.std.proofs.lemmas.Option.{same_Some, slice_get_within}
+use Rattle.std.proofs.lemmas.Bool.{cases_eq}
+use Rattle.rational.proofs.Lists.{slice_get_there}
 use Rattle.stl_syntax.specs.Trace.{Row, Trace, start}
 use Rattle.stl_syntax.specs.Formula.{HasChildrenBelow}
 use Rattle.stl_syntax.specs.declared.node.Node.{Node}
@@ -17,22 +20,12 @@ use Rattle.early_verdict.specs.declared.stretch.Stretch.{Stretch}
 use Rattle.early_verdict.specs.declared.sets.Sets.{Sets}
 use Rattle.early_verdict.specs.declared.sets.Parts.{Parts}
 use Rattle.early_verdict.proofs.FitLemmas.{fits_alike}
-use Rattle.early_verdict.proofs.AllSets.{sets_at, lists_are}
-use Rattle.early_verdict.proofs.Places.{same_sets, taken_at, taken_within, get_within, lists_by}
+use Rattle.early_verdict.proofs.AllSets.{lists_are}
+use Rattle.early_verdict.proofs.Places.{taken_at, taken_within, lists_by}
 
 -- a place no later is before or there
 nat_or : (j i : ℕ) → j ≤ i → (j < i) ⊎ (j ≡ i)
 nat_or j i h = below_more (λ k. (k < i) ⊎ (k ≡ i)) i (λ k l. inl l) (inr refl) j (omega (arith, h))
-
--- two places are the same or differ
-pub nat_is : (j i : ℕ) → (j ≡ i) ⊎ (j ≢ i)
-nat_is zero zero = inl refl
-nat_is zero (suc i) = inr (λ e. omega (arith, e))
-nat_is (suc j) zero = inr (λ e. omega (arith, e))
-nat_is (suc j) (suc i) = elim (nat_is j i) [ inl e ↦ inl (ap suc e) | inr n ↦ inr (λ e. n (omega (arith, e))) ]
-
-same_nodes : (a b : Node) → Some a ≡ Some b → a ≡ b
-same_nodes a b e = cc
 
 -- each place has its node
 pub nodes_at : (nodes : List Node) (p : ℕ) → p < length nodes → (m : Node) × (slice_get nodes p ≡ Some m)
@@ -60,8 +53,8 @@ stepped_on i old mid new h at = record {
     by_place j s r e f (inr q) =
         let a : slice_get old i ≡ Some s = subst (λ k. slice_get old k ≡ Some s) q e in
         let b : slice_get new i ≡ Some r = subst (λ k. slice_get new k ≡ Some r) q f in
-        let c = same_sets at.was s (sym at.at_old ∙ h.others i (omega arith) ∙ a) in
-        let d = same_sets at.is r (sym at.at_new ∙ b) in
+        let c = same_Some at.was s (sym at.at_old ∙ h.others i (omega arith) ∙ a) in
+        let d = same_Some at.is r (sym at.at_new ∙ b) in
         subst (λ x. HasStepped x r) c (subst (λ x. HasStepped at.was x) d at.stepped)
 
 -- before the first node none has stepped
@@ -74,10 +67,10 @@ stepped_none xs = record {
 
 -- sets stay tidy after a node's step
 pub tidy_on : (i : ℕ) (mid new : List Sets) → AllTidy mid → StepsAt i mid new → AllTidy new
-tidy_on i mid new h at j s e = by_place (nat_is j i)
+tidy_on i mid new h at j s e = by_place (cases_eq j i)
   where
     by_place : (j ≡ i) ⊎ (j ≢ i) → AreSetsTidy s
-    by_place (inl q) = subst (λ x. AreSetsTidy x) (same_sets at.is s (sym at.at_new ∙ subst (λ k. slice_get new k ≡ Some s) q e)) at.stepped.tidy
+    by_place (inl q) = subst (λ x. AreSetsTidy x) (same_Some at.is s (sym at.at_new ∙ subst (λ k. slice_get new k ≡ Some s) q e)) at.stepped.tidy
     by_place (inr n) = h j s (sym (at.others j n) ∙ e)
 
 -- one place more is shown
@@ -104,17 +97,17 @@ shown_on i mid live old xs new same h at = record {
         let a : slice_get old i ≡ Some x = subst (λ k. slice_get old k ≡ Some x) q e in
         let b : slice_get new i ≡ Some r = subst (λ k. slice_get new k ≡ Some r) q f in
         let o : slice_get live i ≡ Some s = subst (λ k. slice_get live k ≡ Some s) q is in
-        let c = same_sets at.was x (sym at.at_old ∙ h.others i (omega arith) ∙ a) in
-        let d = same_sets at.is r (sym at.at_new ∙ b) in
-        let p = same_sets at.own s (sym at.at_live ∙ o) in
+        let c = same_Some at.was x (sym at.at_old ∙ h.others i (omega arith) ∙ a) in
+        let d = same_Some at.is r (sym at.at_new ∙ b) in
+        let p = same_Some at.own s (sym at.at_live ∙ o) in
         subst (λ z. HasShown x r z) p (subst (λ z. HasShown z r at.own) c (subst (λ z. HasShown at.was z at.own) d at.shown))
 
 -- what nodes show stays tidy with one node more
 pub shown_tidy_on : (i : ℕ) (live mid new : List Sets) → AllTidy mid → ShowsAt i live mid new → AllTidy new
-shown_tidy_on i live mid new h at j s e = by_place (nat_is j i)
+shown_tidy_on i live mid new h at j s e = by_place (cases_eq j i)
   where
     by_place : (j ≡ i) ⊎ (j ≢ i) → AreSetsTidy s
-    by_place (inl q) = subst (λ x. AreSetsTidy x) (same_sets at.is s (sym at.at_new ∙ subst (λ k. slice_get new k ≡ Some s) q e)) at.shown.tidy
+    by_place (inl q) = subst (λ x. AreSetsTidy x) (same_Some at.is s (sym at.at_new ∙ subst (λ k. slice_get new k ≡ Some s) q e)) at.shown.tidy
     by_place (inr n) = h j s (sym (at.others j n) ∙ e)
 
 -- what has stepped goes on from what was, and shows so
@@ -135,10 +128,10 @@ module _ {nodes : List Node} (b : Binding) {e : Entry} (before : Option Row) (r 
       → (p : ℕ) (n : Node) (x : Sets) → p < i → slice_get nodes p ≡ Some n
       → slice_get mid_shown p ≡ Some x → Had old tr (lists_at first_shown p) x
   child_had {mid} {mid_shown} i g h p n x l at is =
-      let q = get_within mid_shown p x is in
-      let w = sets_at first_shown p (let c = h.count in omega (arith, q, c)) in
-      let o = sets_at first p (let c = h.count in let d = have.count in let f = have.shown_count in omega (arith, q, c, d, f)) in
-      let m = sets_at mid p (let c = h.count in let d = have.count in let f = have.shown_count in let y = g.count in omega (arith, q, c, d, f, y)) in
+      let q = slice_get_within mid_shown p x is in
+      let w = slice_get_there first_shown p (let c = h.count in omega (arith, q, c)) in
+      let o = slice_get_there first p (let c = h.count in let d = have.count in let f = have.shown_count in omega (arith, q, c, d, f)) in
+      let m = slice_get_there mid p (let c = h.count in let d = have.count in let f = have.shown_count in let y = g.count in omega (arith, q, c, d, f, y)) in
       let step = h.shown p m.0 w.0 x l m.1 w.1 is in
       by_step w.0 o.0 w.1 (have.has p n o.0 w.0 at o.1 w.1) m.0 step
     where
@@ -181,9 +174,9 @@ module _ {nodes : List Node} (b : Binding) {e : Entry} (before : Option Row) (r 
         λ l z.
             let k = taken_within mid_shown i p l z in
             let f = sym (taken_at mid_shown i p k) ∙ z in
-            let q = get_within mid_shown p l f in
-            let w = sets_at first_shown p (let c = h.count in omega (arith, q, c)) in
-            let m = sets_at mid p (let c = h.count in let d = have.count in let y = have.shown_count in let v = g.count in omega (arith, q, c, d, y, v)) in
+            let q = slice_get_within mid_shown p l f in
+            let w = slice_get_there first_shown p (let c = h.count in omega (arith, q, c)) in
+            let m = slice_get_there mid p (let c = h.count in let d = have.count in let y = have.shown_count in let v = g.count in omega (arith, q, c, d, y, v)) in
             fail_bounds w.0 l (h.shown p m.0 w.0 l k m.1 w.1 f).no (x.1 w.0 w.1),
       )
 
@@ -241,13 +234,13 @@ module _ {nodes : List Node} (b : Binding) {e : Entry} (before : Option Row) (r 
       had p q z =
           let k = taken_within mid_shown i p q z in
           let f = sym (taken_at mid_shown i p k) ∙ z in
-          let w = get_within mid_shown p q f in
+          let w = slice_get_within mid_shown p q f in
           let x = node_at p (let c = g.count in let d = have.shown_count in omega (arith, w, c, d)) in
           child_had i h g p x.0 q k x.1 f
 
       shown_here : (x : Sets) × (slice_get first_shown i ≡ Some x)
-      shown_here = sets_at first_shown i
-          (let a = get_within first i at.was was_here in let c = have.count in let d = have.shown_count in omega (arith, a, c, d))
+      shown_here = slice_get_there first_shown i
+          (let a = slice_get_within first i at.was was_here in let c = have.count in let d = have.shown_count in omega (arith, a, c, d))
 
       newest : Fits n e.ended tr (lists_at new_shown) at.is
       newest = fits_alike n i e.ended tr (lists_at (take i mid_shown)) (lists_at new_shown) at.is (below i n here) lists_taken
@@ -261,5 +254,5 @@ module _ {nodes : List Node} (b : Binding) {e : Entry} (before : Option Row) (r 
       by_place j m s node is (inr q) =
           let a : slice_get nodes i ≡ Some m = subst (λ k. slice_get nodes k ≡ Some m) q node in
           let c : slice_get new i ≡ Some s = subst (λ k. slice_get new k ≡ Some s) q is in
-          subst (λ x. Fits x e.ended tr (lists_at new_shown) s) (same_nodes n m (sym here ∙ a))
-          (subst (λ x. Fits n e.ended tr (lists_at new_shown) x) (same_sets at.is s (sym at.at_new ∙ c)) newest)
+          subst (λ x. Fits x e.ended tr (lists_at new_shown) s) (same_Some n m (sym here ∙ a))
+          (subst (λ x. Fits n e.ended tr (lists_at new_shown) x) (same_Some at.is s (sym at.at_new ∙ c)) newest)

@@ -21,10 +21,6 @@ sets_written new items len e = subst (λ k. new ≡ take k (new ++ drop (length 
     front [] ys = refl
     front (x ∷ xs) ys = ap (λ zs. x ∷ zs) (front xs ys)
 
--- an option holds one row
-pub same_row : (a b : Row) → Some a ≡ Some b → a ≡ b
-same_row a b e = cc
-
 last_width : (width : ℕ) (r : Row) (rows : List Row) → AreRows width (r ∷ rows) → length (last_after r rows).values ≡ width
 last_width width r [] h = h.0
 last_width width r (x ∷ rows) h = last_width width x rows (h.1.1, h.1.2)

@@ -4,10 +4,6 @@ use Rattle.std.specs.Prelude.{slice_get, slice_set}
 use Rattle.early_verdict.specs.Fitting.{Lists, lists_at, lists_of, nothing}
 use Rattle.early_verdict.specs.declared.sets.Sets.{Sets}
 
--- an option holds one pair of sets
-pub same_sets : (a b : Sets) → Some a ≡ Some b → a ≡ b
-same_sets a b e = cc
-
 -- an element that was read stands there
 pub item_at : (xs : List Sets) (i : ℕ) (s : Sets) → i < length xs → s ≡ get_or xs i s → slice_get xs i ≡ Some s
 item_at [] i s h e = absurd (omega (arith, h))
@@ -70,12 +66,6 @@ taken_within xs zero p s e = absurd (let f : None ≡ Some s = e in cc)
 taken_within [] (suc i) p s e = absurd (let f : None ≡ Some s = e in cc)
 taken_within (x ∷ xs) (suc i) zero s e = omega arith
 taken_within (x ∷ xs) (suc i) (suc p) s e = let h = taken_within xs i p s e in omega (arith, h)
-
--- an item stands at a place of the list
-pub get_within : (xs : List Sets) (i : ℕ) (s : Sets) → slice_get xs i ≡ Some s → i < length xs
-get_within [] i s e = absurd (let f : None ≡ Some s = e in cc)
-get_within (x ∷ xs) zero s e = omega arith
-get_within (x ∷ xs) (suc i) s e = let h = get_within xs i s e in omega (arith, h)
 
 -- lists at a place by what stands there
 abbrev pub lists_in : Option Sets → Lists

@@ -11,16 +11,16 @@ use Rattle.early_verdict.specs.Reaching.{IsNew, ReachesIn, ReachesAt, ReachesBy,
 use Rattle.early_verdict.specs.declared.stretch.Stretch.{Stretch}
 use Rattle.rational.proofs.Order.{le_refl}
 use Rattle.rational.proofs.PlaceLemmas.{sides, not_both, between, before_through, after_of_before, at_most_of_not_before}
+use Rattle.rational.proofs.PlaceLemmas.{after_at_most, le_through, upto_earlier, after_later}
 use Rattle.early_verdict.proofs.StretchLemmas.{rises}
-use Rattle.early_verdict.proofs.MakingLemmas.{after_from}
-use Rattle.early_verdict.proofs.RunLemmas.{le_through, upto_le, after_le, gap_before, gap_after, earlier_after, one_of, on_one, holds_all, decided_among}
+use Rattle.early_verdict.proofs.RunLemmas.{gap_before, gap_after, earlier_after, one_of, on_one, holds_all, decided_among}
 use Rattle.early_verdict.proofs.TickLemmas.{before_time, after_time}
 use Rattle.early_verdict.proofs.SetLaws.{some_by, by_some, decided_from}
 
 -- a run that ends in a stretch of the list lies in it
 pub run_into : (xs : List Stretch) (p : Stretch) (t u : Rational) → AreTidy xs → IsAmong p xs → Lies p u → t ≤ʳ u
     → ((v : Rational) → Within t u v → IsOn xs v) → Lies p t
-run_into xs p t u tidy m l le run = (elim (sides (place p.from) t) [ inl k ↦ absurd (gap k) | inr k ↦ k ], upto_le (place p.to) t u le l.1)
+run_into xs p t u tidy m l le run = (elim (sides (place p.from) t) [ inl k ↦ absurd (gap k) | inr k ↦ k ], upto_earlier (place p.to) t u le l.1)
   where
     gap : Upto (place p.from) t → ⊥
     gap k =
@@ -30,7 +30,7 @@ run_into xs p t u tidy m l le run = (elim (sides (place p.from) t) [ inl k ↦ a
 -- and so does one that begins in it
 pub run_from : (xs : List Stretch) (p : Stretch) (u t : Rational) → AreTidy xs → IsAmong p xs → Lies p u → u ≤ʳ t
     → ((v : Rational) → Within u t v → IsOn xs v) → Lies p t
-run_from xs p u t tidy m l le run = (after_le (place p.from) u t le l.0, elim (sides (place p.to) t) [ inl k ↦ k | inr k ↦ absurd (gap k) ])
+run_from xs p u t tidy m l le run = (after_later (place p.from) u t le l.0, elim (sides (place p.to) t) [ inl k ↦ k | inr k ↦ absurd (gap k) ])
   where
     gap : After (place p.to) t → ⊥
     gap k =
@@ -39,7 +39,7 @@ run_from xs p u t tidy m l le run = (after_le (place p.from) u t le l.0, elim (s
 
 -- within a stretch there is no break
 pub no_break : (xs : List Stretch) (p : Stretch) (t u v : Rational) → IsAmong p xs → Lies p t → Lies p u → Within t u v → IsOn xs v
-no_break xs p t u v m l k w = on_one xs p v m (after_le (place p.from) t v w.above l.0, upto_le (place p.to) v u w.below k.1)
+no_break xs p t u v m l k w = on_one xs p v m (after_later (place p.from) t v w.above l.0, upto_earlier (place p.to) v u w.below k.1)
 
 -- the stretch of a list that holds a time of a part, which lies in the list, holds the part's first times
 pub holds_part : (xs : List Stretch) (p f : Stretch) (u : Rational) → AreTidy xs → ((t : Rational) → Lies f t → IsOn xs t) → IsAmong p xs → Lies p u → Lies f u
@@ -58,11 +58,11 @@ module _ (before sure : Place) (s part p : Stretch) (is : (t : Rational) → Lie
         w.0,
         (is w.0).0 (w.1, k.0),
         (begun w.0 w.1, k.1),
-        λ v n le. (begun v ((is v).1 n).0, upto_le (place p.to) v w.0 le k.1),
+        λ v n le. (begun v ((is v).1 n).0, upto_earlier (place p.to) v w.0 le k.1),
       )
     where
       begun : (v : Rational) → After (place part.from) v → After (place p.from) v
-      begun v a = after_from (place p.from) (place part.from) v (at_most_of_not_before (place p.from) (place part.from) h.0) a
+      begun v a = after_at_most (place p.from) (place part.from) v (at_most_of_not_before (place p.from) (place part.from) h.0) a
 
   -- a run that has a new time, and all new ones before it, comes to the part
   pub from_newly : (w : Rational) → IsNew before sure s w → Lies p w → ((v : Rational) → IsNew before sure s v → v ≤ʳ w → Lies p v)
@@ -71,7 +71,7 @@ module _ (before sure : Place) (s part p : Stretch) (is : (t : Rational) → Lie
     λ b.
         let v = between (place part.from) (place p.from) b in
         let le = le_through (place p.from) v.0 w v.2 l.0 in
-        not_both (place p.from) v.0 v.2 (all v.0 ((is v.0).0 (v.1, upto_le (place part.to) v.0 w le ((is w).1 n).1)) le).0,
+        not_both (place p.from) v.0 v.2 (all v.0 ((is v.0).0 (v.1, upto_earlier (place part.to) v.0 w le ((is w).1 n).1)) le).0,
     before_through (place part.from) (place p.to) w ((is w).1 n).0 l.1,
   )
 
@@ -82,7 +82,7 @@ module _ (xs : List Stretch) (c : Place) (carried : Bool) (tidy : AreTidy xs) wh
   carried_to p m h o t a u = record {
     on = o;
     after = a;
-    all = λ v b l. on_one xs p v m (after_from (place p.from) c v (at_most_of_not_before (place p.from) c h.0) b, upto_le (place p.to) v t l u);
+    all = λ v b l. on_one xs p v m (after_at_most (place p.from) c v (at_most_of_not_before (place p.from) c h.0) b, upto_earlier (place p.to) v t l u);
   }
 
   -- a run that is carried comes to no time behind a stretch that holds from the place
@@ -169,7 +169,7 @@ module _ {z z' fz y y' fy : List Stretch} (gz : Gains z z' fz) (gy : Gains y y' 
               le,
               (n, q),
               λ v w. old_run p m x v
-                  (after_le (place p.from) t v w.above i.0, upto_le (place p.to) v u w.below l.1),
+                  (after_later (place p.from) t v w.above i.0, upto_earlier (place p.to) v u w.below l.1),
             )))
           ]
         ]
@@ -219,7 +219,7 @@ module _ {z z' fz y y' fy : List Stretch} (gz : Gains z z' fz) (gy : Gains y y' 
               le,
               n,
               λ v w. old_run p m x v
-                  (after_le (place p.from) t v w.above i.0, upto_le (place p.to) v u w.below l.1),
+                  (after_later (place p.from) t v w.above i.0, upto_earlier (place p.to) v u w.below l.1),
             ))
           ]
         ]
@@ -260,7 +260,7 @@ module _ {z z' fz y y' fy : List Stretch} (gz : Gains z z' fz) (gy : Gains y y' 
               le,
               n,
               λ v w. old_run p m x v
-                  (after_le (place p.from) u v w.above l.0, upto_le (place p.to) v t w.below i.1),
+                  (after_later (place p.from) u v w.above l.0, upto_earlier (place p.to) v t w.below i.1),
             )))
           ]
         ]

@@ -1,13 +1,15 @@
 -- Rows with one more: its time, its place, and what they said before.
-use Rattle.std.proofs.Common.{◌≡◌, refl, sym, ap, subst, ℕ, suc, ◌<◌, Bool, true, false, Some, None, List, [], ◌∷◌, ◌++◌, length, pos}
-use Rattle.std.specs.Prelude.{slice_get, IsTrue}
+use Rattle.std.proofs.Common.{◌≡◌, refl, sym, ap, subst, ℕ, suc, ◌<◌, Some, None, List, [], ◌∷◌, ◌++◌, length, pos}
+use Rattle.std.specs.Prelude.{slice_get}
 use Rattle.rational.specs.Time.{Rational, ◌≤ʳ◌, whole}
 use Rattle.rational.proofs.Order.{same_sym}
+use Rattle.rational.proofs.Tests.{same_tests}
 use Rattle.stl_syntax.specs.Trace.{Header, Row, AreRows, AreRowsAfter, row_time, last_time}
 use Rattle.stl_syntax.specs.Truth.{holds_at}
 use Rattle.stl_syntax.specs.declared.atom.Atom.{Atom}
 use Rattle.stl_syntax.proofs.TruthLemmas.{compares_same}
 use Rattle.stl_syntax.proofs.PrefixLaw.{same_atom}
+use Rattle.stl_syntax.proofs.RowsLemmas.{last_time-push, rows-push}
 use Rattle.early_verdict.specs.Adding.{IsNextRow}
 use Rattle.early_verdict.specs.Deciding.{last_after, trace_of}
 
@@ -16,37 +18,21 @@ pub last_is : (r : Row) (rows : List Row) → last_time r.time rows ≡ (last_af
 last_is r [] = refl
 last_is r (s ∷ rows) = last_is s rows
 
--- the last time is that of the row that came last
-pub last_pushed : (t : ℕ) (rows : List Row) (x : Row) → last_time t (rows ++ x ∷ []) ≡ x.time
-last_pushed t [] x = refl
-last_pushed t (s ∷ rows) x = last_pushed s.time rows x
-
 -- the last of rows with one more is that one
 pub last_row_pushed : (r : Row) (rows : List Row) (x : Row) → last_after r (rows ++ x ∷ []) ≡ x
 last_row_pushed r [] x = refl
 last_row_pushed r (s ∷ rows) x = last_row_pushed s rows x
 
--- the rows are still those of a trace
-rows_after : (width t : ℕ) (rows : List Row) (x : Row) → AreRowsAfter width t rows → last_time t rows < x.time → length x.values ≡ width
-    → AreRowsAfter width t (rows ++ x ∷ [])
-rows_after width t [] x h l w = (l, w, tt)
-rows_after width t (s ∷ rows) x h l w = (h.0, h.1, rows_after width s.time rows x h.2 l w)
-
 -- a later row of the same width goes on from rows
 pub rows_pushed : (width : ℕ) (r : Row) (rows : List Row) (x : Row) → AreRows width (r ∷ rows) → (last_after r rows).time < x.time → length x.values ≡ width
     → AreRows width (r ∷ (rows ++ x ∷ []))
-rows_pushed width r rows x h l w = (h.0, rows_after width r.time rows x h.1 (subst (λ t. t < x.time) (sym (last_is r rows)) l) w)
+rows_pushed width r rows x h l w = (h.0, rows-push width r.time rows x h.1 (subst (λ t. t < x.time) (sym (last_is r rows)) l) w)
 
 -- the last two rows stand side by side
 pub neighbours : (r : Row) (rows : List Row) (x : Row)
     → (k : ℕ) × (slice_get (r ∷ (rows ++ x ∷ [])) k ≡ Some (last_after r rows)) × (slice_get (r ∷ (rows ++ x ∷ [])) (suc k) ≡ Some x)
 neighbours r [] x = (0, refl, refl)
 neighbours r (s ∷ rows) x = let (k, a, b) = neighbours s rows x in (suc k, a, b)
-
-same_tests : (a b : Bool) → (IsTrue a → IsTrue b) → (IsTrue b → IsTrue a) → a ≡ b
-same_tests true b f g = sym (f refl)
-same_tests false true f g = g refl
-same_tests false false f g = refl
 
 -- an atom is as it was up to the last row
 pub same_before : (header : Header) (width : ℕ) (r : Row) (rows more : List Row) → AreRowsAfter width r.time (rows ++ more)
@@ -63,7 +49,7 @@ pub is_next : (header : Header) (width : ℕ) (r : Row) (rows : List Row) (x : R
 is_next header width r rows x a h l w =
     let n = neighbours r rows x in
     record {
-      stops = ap (λ t. whole (pos t)) (last_pushed r.time rows x);
+      stops = ap (λ t. whole (pos t)) (last_time-push r.time rows x);
       stands = (suc n.0, n.2);
       first = (
         last_after r rows,

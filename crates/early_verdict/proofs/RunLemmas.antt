@@ -1,39 +1,14 @@
 -- Times without a break in a list of stretches lie in one of them; and what lists decide.
-use Rattle.std.proofs.Common.{◌⊎◌, inl, inr, refl, sym, subst, Bool, true, false, List, [], ◌∷◌}
-use Rattle.std.specs.Prelude.{MatchBool}
-use Rattle.rational.specs.Rational.{Rational, ◌≤ʳ◌, ◌<ʳ◌}
-use Rattle.rational.proofs.Order.{le_trans, le_of_lt, lt_of_lt_of_le, lt_of_le_of_lt}
+use Rattle.std.proofs.Common.{◌⊎◌, inl, inr, refl, sym, subst, List, [], ◌∷◌}
+use Rattle.rational.specs.Rational.{Rational}
 use Rattle.rational.specs.Places.{Place, After, Upto, Before}
 use Rattle.frac128.specs.Cuts.{place}
 use Rattle.early_verdict.specs.Spans.{Lies, IsOn, IsAmong, AreTidy, BeginsAfter}
 use Rattle.early_verdict.specs.declared.stretch.Stretch.{Stretch}
 use Rattle.rational.proofs.PlaceLemmas.{not_both, between, before_trans, place_order, after_of_before, upto_of_before, upto_same, same_places, after_same}
+use Rattle.rational.proofs.PlaceLemmas.{le_through, upto_earlier}
 use Rattle.early_verdict.proofs.StretchLemmas.{rises}
 use Rattle.early_verdict.proofs.SpanLemmas.{begins_through, rest_after}
-
--- what lies before a place comes no later than what lies after it
-pub le_through : (c : Place) (v u : Rational) → Upto c v → After c u → v ≤ʳ u
-le_through c v u = by_side c.after
-  where
-    by_side : (b : Bool) → MatchBool b (v ≤ʳ c.at) (v <ʳ c.at) → MatchBool b (c.at <ʳ u) (c.at ≤ʳ u) → v ≤ʳ u
-    by_side true h k = le_trans h (le_of_lt k)
-    by_side false h k = le_trans (le_of_lt h) k
-
--- what is earlier than a time before a place is before it
-pub upto_le : (c : Place) (v u : Rational) → v ≤ʳ u → Upto c u → Upto c v
-upto_le c v u l = by_side c.after
-  where
-    by_side : (b : Bool) → MatchBool b (u ≤ʳ c.at) (u <ʳ c.at) → MatchBool b (v ≤ʳ c.at) (v <ʳ c.at)
-    by_side true h = le_trans l h
-    by_side false h = lt_of_le_of_lt l h
-
--- what is later than a time behind it is behind it
-pub after_le : (c : Place) (v u : Rational) → v ≤ʳ u → After c v → After c u
-after_le c v u l = by_side c.after
-  where
-    by_side : (b : Bool) → MatchBool b (c.at <ʳ v) (c.at ≤ʳ v) → MatchBool b (c.at <ʳ u) (c.at ≤ʳ u)
-    by_side true h = lt_of_lt_of_le h l
-    by_side false h = le_trans h l
 
 -- of two places before a third, the later one comes before it
 pub later_before : (c d e : Place) → Before c e → Before d e → (m : Place) × Before m e × ((v : Rational) → After m v → After c v × After d v)
@@ -181,4 +156,4 @@ pub holds_all : (xs : List Stretch) (f p : Stretch) (u : Rational) → AreTidy x
     → ¬ (Before (place f.from) (place p.from))
 holds_all xs f p u h all m l k b =
     let g = gap_before xs p (place f.from) h m b in
-    g.3 (all g.0 (g.1, upto_le (place f.to) g.0 u (le_through (place p.from) g.0 u g.2 l.0) k.1))
+    g.3 (all g.0 (g.1, upto_earlier (place f.to) g.0 u (le_through (place p.from) g.0 u g.2 l.0) k.1))

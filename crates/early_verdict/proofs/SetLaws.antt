@@ -9,24 +9,9 @@ use Rattle.early_verdict.specs.Windows.{Sees, SeesPart, IsHeld, low_place, high_
 use Rattle.early_verdict.specs.Steps.{BySome, HoldsFrom, Common, HeldAt, SeesOnly, SeesOne, Tells, Gains}
 use Rattle.early_verdict.specs.declared.stretch.Stretch.{Stretch}
 use Rattle.early_verdict.specs.declared.window.Window.{Window}
-use Rattle.rational.proofs.PlaceLemmas.{before_through, at_most_of_not_before}
-use Rattle.early_verdict.proofs.MakingLemmas.{after_from}
-use Rattle.early_verdict.proofs.RunLemmas.{
-  le_through,
-  upto_le,
-  after_le,
-  later_before,
-  gap_before,
-  gap_after,
-  one_of,
-  on_one,
-  holds_all,
-  decided,
-  decided_both,
-  decided_either,
-  decided_not,
-  decided_among,
-}
+use Rattle.rational.proofs.PlaceLemmas.{before_through, at_most_of_not_before, after_at_most, le_through, upto_earlier}
+use Rattle.rational.proofs.PlaceLemmas.{after_later}
+use Rattle.early_verdict.proofs.RunLemmas.{later_before, gap_before, gap_after, one_of, on_one, holds_all, decided, decided_both, decided_either, decided_not, decided_among}
 
 -- what some stretch of a list gives, one of them gives
 pub some_by : (Q : Stretch → Rational → Type 0) (xs : List Stretch) (t : Rational) → BySome Q xs t → (s : Stretch) × IsAmong s xs × Q s t
@@ -126,10 +111,10 @@ module _ (w : Window) (xs : List Stretch) (start : Place) (tidy : AreTidy xs) wh
       by_low : (low : Option ℤ) → MatchOption low ⊥ (λ k. ¬ (Before (low_place k w.low_in t) (place p.from)))
           → IfSome low (λ k. After (low_place k w.low_in t) u) → After (place p.from) u
       by_low None n b = absurd n
-      by_low (Some k) n b = after_from (place p.from) (low_place k w.low_in t) u (at_most_of_not_before (place p.from) (low_place k w.low_in t) n) b
+      by_low (Some k) n b = after_at_most (place p.from) (low_place k w.low_in t) u (at_most_of_not_before (place p.from) (low_place k w.low_in t) n) b
 
       by_begin : ¬ (Before start (place p.from)) ⊎ MatchOption w.low ⊥ (λ k. ¬ (Before (low_place k w.low_in t) (place p.from))) → After (place p.from) u
-      by_begin (inl n) = after_from (place p.from) start u (at_most_of_not_before (place p.from) start n) a
+      by_begin (inl n) = after_at_most (place p.from) start u (at_most_of_not_before (place p.from) start n) a
       by_begin (inr n) = by_low w.low n s.begins
 
   -- and where the list holds a window that has a time, the stretch of that time holds the window
@@ -140,17 +125,17 @@ module _ (w : Window) (xs : List Stretch) (start : Place) (tidy : AreTidy xs) wh
       at_end b =
           let g = gap_after xs p (high_place w.high w.high_in t) tidy m b in
           let later = le_through (place p.to) u g.0 l.1 g.1 in
-          g.3 (all g.0 (after_le start u g.0 later a) (record { begins = by_low w.low g.0 later s.begins; ends = g.2 }))
+          g.3 (all g.0 (after_later start u g.0 later a) (record { begins = by_low w.low g.0 later s.begins; ends = g.2 }))
         where
           by_low : (low : Option ℤ) (v : Rational) → u ≤ʳ v → IfSome low (λ k. After (low_place k w.low_in t) u)
               → IfSome low (λ k. After (low_place k w.low_in t) v)
           by_low None v q b = tt
-          by_low (Some k) v q b = after_le (low_place k w.low_in t) u v q b
+          by_low (Some k) v q b = after_later (low_place k w.low_in t) u v q b
 
       -- a time before the stretch that lies in the window is one too many
       missed : (v : Rational) → After start v → Upto (place p.from) v → ¬ (IsOn xs v) → IfSome w.low (λ k. After (low_place k w.low_in t) v) → ⊥
       missed v b r n f =
-          n (all v b (record { begins = f; ends = upto_le (high_place w.high w.high_in t) v u (le_through (place p.from) v u r l.0) s.ends }))
+          n (all v b (record { begins = f; ends = upto_earlier (high_place w.high w.high_in t) v u (le_through (place p.from) v u r l.0) s.ends }))
 
       by_low : (low : Option ℤ) → ((v : Rational) → IfSome low (λ k. After (low_place k w.low_in t) v) → IfSome w.low (λ k. After (low_place k w.low_in t) v))
           → Before start (place p.from) → MatchOption low ⊥ (λ k. ¬ (Before (low_place k w.low_in t) (place p.from)))

@@ -1,6 +1,7 @@
 -- The first and the last that a list of stretches has within one.
 use Rattle.std.proofs.Common.{◌≡◌, ◌⊎◌, inl, inr, refl, sym, subst, ℕ, zero, suc, ◌<◌, List, [], ◌∷◌, Some, length, take, drop, arith}
 use Rattle.std.specs.Prelude.{slice_get, ◌↔◌}
+use Rattle.std.proofs.lemmas.Option.{same_Some}
 use Rattle.rational.specs.Rational.{Rational, ◌≤ʳ◌}
 use Rattle.rational.proofs.Order.{le_refl}
 use Rattle.rational.specs.Places.{Place, After, Upto, Before}
@@ -10,10 +11,9 @@ use Rattle.early_verdict.specs.Reaching.{IsFirstBegin, IsLastEnd}
 use Rattle.early_verdict.specs.declared.stretch.Stretch.{Stretch}
 use Rattle.early_verdict.proofs.StretchLemmas.{rises}
 use Rattle.rational.proofs.PlaceLemmas.{sides, not_both, between, upto_of_before, after_of_before, at_most_of_not_before}
-use Rattle.early_verdict.proofs.MakingLemmas.{after_from}
-use Rattle.early_verdict.proofs.SpanLemmas.{some_same, no_stretch, on_at, on_parts, front_of, front_upto, rest_after, reaches_at, from_one_on}
+use Rattle.rational.proofs.PlaceLemmas.{after_at_most, le_through, upto_earlier, after_later}
+use Rattle.early_verdict.proofs.SpanLemmas.{no_stretch, on_at, on_parts, front_of, front_upto, rest_after, reaches_at, from_one_on}
 use Rattle.early_verdict.proofs.LoopLemmas.{on_less}
-use Rattle.early_verdict.proofs.RunLemmas.{le_through, upto_le, after_le}
 
 -- a time of those from a place on is one of the one there, or of those after it
 drop_case : (xs : List Stretch) (at : ℕ) (t : Rational) → IsOn (drop at xs) t
@@ -27,19 +27,19 @@ drop_case (x ∷ xs) (suc at) t h = drop_case xs at t h
 after_one_in : (xs : List Stretch) (at : ℕ) (n : Stretch) (t : Rational) → AreTidy xs → slice_get xs at ≡ Some n
     → IsOn (drop (suc at) xs) t → After (place n.to) t
 after_one_in [] at n t h e o = absurd (no_stretch n e)
-after_one_in (x ∷ xs) zero n t h e o = subst (λ s. After (place s.to) t) (some_same x n e) (rest_after (place x.to) xs t h.1 h.0 o)
+after_one_in (x ∷ xs) zero n t h e o = subst (λ s. After (place s.to) t) (same_Some x n e) (rest_after (place x.to) xs t h.1 h.0 o)
 after_one_in (x ∷ xs) (suc at) n t h e o = after_one_in xs at n t h.1 e o
 
 -- one of those that end before a place ends before it
 end_at : (c : Place) (xs : List Stretch) (k : ℕ) (n : Stretch) → EndBefore c (take (suc k) xs) → slice_get xs k ≡ Some n → Before (place n.to) c
 end_at c [] k n f e = absurd (no_stretch n e)
-end_at c (x ∷ xs) zero n f e = subst (λ s. Before (place s.to) c) (some_same x n e) f.0
+end_at c (x ∷ xs) zero n f e = subst (λ s. Before (place s.to) c) (same_Some x n e) f.0
 end_at c (x ∷ xs) (suc k) n f e = end_at c xs k n f.1 e
 
 -- the one at a place begins after what those from there on begin after
 begins_one : (c : Place) (xs : List Stretch) (at : ℕ) (n : Stretch) → BeginsAfter c (drop at xs) → slice_get xs at ≡ Some n → Before c (place n.from)
 begins_one c [] at n b e = absurd (no_stretch n e)
-begins_one c (x ∷ xs) zero n b e = subst (λ s. Before c (place s.from)) (some_same x n e) b
+begins_one c (x ∷ xs) zero n b e = subst (λ s. Before c (place s.from)) (same_Some x n e) b
 begins_one c (x ∷ xs) (suc at) n b e = begins_one c xs at n b e
 
 stretch_at : (xs : List Stretch) (k : ℕ) → k < length xs → (n : Stretch) × (slice_get xs k ≡ Some n)
@@ -91,7 +91,7 @@ module _ (spans : List Stretch) (tidy : AreTidy spans) (part : Stretch) where
               let le = le_through (place s.to) m.0 u m.2 k in
               absurd (not_both (place s.to) u ((is u).1 (
                 (
-                  after_le (place n.from) m.0 u le x.0.0,
+                  after_later (place n.from) m.0 u le x.0.0,
                   at_most_of_not_before (place part.to) (place n.to) (reaches_at (place part.to) spans at n rest e) u l.1,
                 ),
                 l,
@@ -113,7 +113,7 @@ module _ (spans : List Stretch) (tidy : AreTidy spans) (part : Stretch) where
                 ((is u).1 (
                   (
                     from_one_on spans at n u tidy e r,
-                    upto_le (place n.to) u m.0 (le_through (place s.from) u m.0 k m.1) x.0.1,
+                    upto_earlier (place n.to) u m.0 (le_through (place s.from) u m.0 k m.1) x.0.1,
                   ),
                   l,
                 )).0
@@ -144,7 +144,7 @@ module _ (spans : List Stretch) (tidy : AreTidy spans) (part : Stretch) where
           | inl g ↦
               let m = between (place s.from) (place s.to) (rises s) in
               let x = (is m.0).0 (m.1, m.2) in
-              upto_le (place s.to) u m.0
+              upto_earlier (place s.to) u m.0
               (le_through (place n.from) u m.0 (front_upto (place n.from) (take k spans) u (front_of spans k n tidy e) g) x.0.0) m.2
         ]
       ]
@@ -167,7 +167,7 @@ module _ (spans : List Stretch) (tidy : AreTidy spans) (part : Stretch) where
           let le = le_through (place (n.0).from) u m.0 (front_upto (place (n.0).from) (take k spans) u (front_of spans k n.0 tidy n.1) g) m.1 in
           let ends = end_at (place part.to) spans k n.0 (subst (λ i. EndBefore (place part.to) (take i spans)) next front) n.1 in
           nor n.0 n.1 m.0 (m.1, m.2)
-          (after_le (place part.from) u m.0 le l.0, upto_of_before (place (n.0).to) (place part.to) m.0 ends m.2)
+          (after_later (place part.from) u m.0 le l.0, upto_of_before (place (n.0).to) (place part.to) m.0 ends m.2)
 
   -- where the first that does not end before the part begins has nothing of it, the next one has the first
   pub first_after : (at : ℕ) (n s : Stretch) → EndBefore (place part.from) (take at spans) → NothingAt at → slice_get spans (suc at) ≡ Some n
@@ -188,7 +188,7 @@ module _ (spans : List Stretch) (tidy : AreTidy spans) (part : Stretch) where
                     ((is u).1 (
                       (
                         from_one_on spans (suc at) n u tidy e i,
-                        upto_le (place n.to) u m.0 (le_through (place s.from) u m.0 k m.1) x.0.1,
+                        upto_earlier (place n.to) u m.0 (le_through (place s.from) u m.0 k m.1) x.0.1,
                       ),
                       l,
                     )).0
@@ -215,12 +215,12 @@ module _ (spans : List Stretch) (tidy : AreTidy spans) (part : Stretch) where
           let m = between (place n.from) (place n.to) (rises n) in
           let behind = after_one_in spans at p m.0 tidy i (on_drop spans (suc at) n m.0 e (m.1, m.2)) in
           nor n e m.0 (m.1, m.2) (
-            after_from (place part.from) (place p.to) m.0
+            after_at_most (place part.from) (place p.to) m.0
                 (at_most_of_not_before (place part.from) (place p.to) (reaches_at (place part.from) spans at p rest i)) behind,
-            upto_le (place part.to) m.0 u (le_through (place n.to) m.0 u m.2 (after_one_in spans (suc at) n u tidy e k)) l.1,
+            upto_earlier (place part.to) m.0 u (le_through (place n.to) m.0 u m.2 (after_one_in spans (suc at) n u tidy e k)) l.1,
           )
         where
           on_drop : (xs : List Stretch) (j : ℕ) (n : Stretch) (t : Rational) → slice_get xs j ≡ Some n → Lies n t → IsOn (drop j xs) t
           on_drop [] j n t e h = absurd (no_stretch n e)
-          on_drop (x ∷ xs) zero n t e h = inl (subst (λ s. Lies s t) (sym (some_same x n e)) h)
+          on_drop (x ∷ xs) zero n t e h = inl (subst (λ s. Lies s t) (sym (same_Some x n e)) h)
           on_drop (x ∷ xs) (suc j) n t e h = on_drop xs j n t e h

@@ -1,6 +1,7 @@
 -- Lists that let go of their first stretches, and those that take in what others gained.
 use Rattle.std.proofs.Common.{◌≡◌, ◌⊎◌, inl, inr, sym, subst, Some, None, List, [], ◌∷◌, drop, length, ◌<◌, arith}
 use Rattle.std.specs.Prelude.{◌↔◌, slice_get, slice_index_or, slice_set}
+use Rattle.std.proofs.lemmas.Option.{same_Some}
 use Rattle.rational.specs.Time.{Rational}
 use Rattle.rational.specs.Places.{Place, After, Upto, Before}
 use Rattle.frac128.specs.Cuts.{place}
@@ -8,10 +9,10 @@ use Rattle.early_verdict.specs.Spans.{IsOn, Lies, AreTidy, Grows}
 use Rattle.early_verdict.specs.Steps.{BySome}
 use Rattle.early_verdict.specs.Showing.{EndsAfter, TakesIn}
 use Rattle.early_verdict.specs.declared.stretch.Stretch.{Stretch}
-use Rattle.rational.proofs.PlaceLemmas.{after_of_before, at_most_of_not_before, before_trans, between, sides}
-use Rattle.early_verdict.proofs.RunLemmas.{after_le, among_after, le_through, one_of, on_one}
+use Rattle.rational.proofs.PlaceLemmas.{after_of_before, at_most_of_not_before, before_trans, between, sides, le_through}
+use Rattle.rational.proofs.PlaceLemmas.{after_later}
+use Rattle.early_verdict.proofs.RunLemmas.{among_after, one_of, on_one}
 use Rattle.early_verdict.proofs.SetLaws.{by_some, some_by}
-use Rattle.early_verdict.proofs.SpanLemmas.{some_same}
 use Rattle.early_verdict.proofs.StretchLemmas.{rises}
 
 -- what was fresh in another list was added
@@ -47,7 +48,7 @@ one_dropped c first (x ∷ xs) ys s e d n h = subst (λ l. Dropped c first l) (s
   kept = λ t o. h.kept t (inr o);
   left = λ t o. elim (h.left t o) [
     | inl k ↦ elim k [
-      | inl l ↦ inr (at_most_of_not_before (place s.to) c n t (subst (λ r. Upto (place r.to) t) (some_same x s e) l.1))
+      | inl l ↦ inr (at_most_of_not_before (place s.to) c n t (subst (λ r. Upto (place r.to) t) (same_Some x s e) l.1))
       | inr r ↦ inl r
     ]
     | inr u ↦ inr u
@@ -62,7 +63,7 @@ fewer (x ∷ xs) ys s e d = subst (λ l. length l < length (x ∷ xs)) (sym d) (
 -- a first stretch that ends later ends it
 pub ends_after : (c : Place) (xs : List Stretch) (s : Stretch) → slice_get xs 0 ≡ Some s → Before c (place s.to) → EndsAfter c xs
 ends_after c [] s e h = tt
-ends_after c (x ∷ xs) s e h = subst (λ r. Before c (place r.to)) (sym (some_same x s e)) h
+ends_after c (x ∷ xs) s e h = subst (λ r. Before c (place r.to)) (sym (same_Some x s e)) h
 
 -- an empty list ends behind each place
 pub ends_none : (c : Place) (xs : List Stretch) → xs ≡ [] → EndsAfter c xs
@@ -90,5 +91,5 @@ ends_of first to bounds rest is ends t l = elim (sides (place rest.to) t) [
   | inr a ↦
       let m = between (place rest.from) (place rest.to) (rises rest) in
       let k = (is m.0).0 (m.1, m.2) in
-      ((is t).1 (after_le first m.0 t (le_through (place rest.to) m.0 t m.2 a) k.0, ends t l, l)).1
+      ((is t).1 (after_later first m.0 t (le_through (place rest.to) m.0 t m.2 a) k.0, ends t l, l)).1
 ]

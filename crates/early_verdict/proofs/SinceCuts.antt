@@ -1,9 +1,9 @@
 -- A since whose sets between go on from a time on fits what its operands show from as far back as it looks from there.
-use Rattle.std.proofs.Common.{◌≡◌, inl, inr, sym, subst, ℕ, ◌≤◌, true, Option, Some, None, List, [], arith}
+use Rattle.std.proofs.Common.{◌≡◌, inl, inr, sym, subst, ℕ, ◌≤◌, true, Option, Some, None, List, []}
 use Rattle.std.specs.Prelude.{MatchOption}
 use Rattle.rational.specs.Time.{Rational, later, ◌≤ʳ◌, ◌<ʳ◌}
 use Rattle.rational.proofs.Order.{le_of_lt, le_refl, le_trans, not_lt_of_le}
-use Rattle.rational.proofs.TimeLemmas.{later_from, later_le}
+use Rattle.rational.proofs.TimeLemmas.{later_from, later_le, later_le_back}
 use Rattle.stl_syntax.specs.Trace.{Trace, start}
 use Rattle.early_verdict.specs.Readings.{OnlyBehind, SomeBehind}
 use Rattle.early_verdict.specs.Spans.{IsOn, Lies}
@@ -15,10 +15,6 @@ use Rattle.early_verdict.specs.declared.sets.Parts.{Parts}
 use Rattle.early_verdict.proofs.CarriedRuns.{says_back}
 use Rattle.early_verdict.proofs.SinceSets.{none_later}
 use Rattle.early_verdict.proofs.UntilCuts.{Agree, kept_in}
-
--- as much later, so no later
-pub no_later : (d u : Rational) (b : ℕ) → later d b ≤ʳ later u b → d ≤ʳ u
-no_later d u b e = record { le = omega (arith, e.le) }
 
 -- a set of times that see some time of a list, so far before them; and one that has none
 pub record SeesAnew (from : Rational) (a : ℕ) (xs : List Stretch) (old new : Grown) : Type 0 where
@@ -70,7 +66,7 @@ module _ (d from : Rational) (tr : Trace) (a : ℕ) (b : Option ℕ) (p q p' q' 
     (k : IsBackCut d from wide a b q'.yes x z) where
   -- a time that is seen from there on
   near : (t u : Rational) → from ≤ʳ t → t ≤ʳ later u a → d ≤ʳ u
-  near t u f e = no_later d u a (le_trans back (le_trans f e))
+  near t u f e = later_le_back d u a (le_trans back (le_trans f e))
 
   begun : d ≤ʳ now
   begun = le_trans (later_from d a) (le_trans back later_on)
@@ -99,7 +95,7 @@ module _ (d from : Rational) (tr : Trace) (a : ℕ) (b : Option ℕ) (p q p' q' 
           let m = c.only t o in
           let f = c.after now at_some later_on t m.1 in
           let (u, w, e, y) = (s.only t m.0).1 in
-          (m.1, (u, w, e, Q.yes_in u (no_later d u n (le_trans r (le_trans f w.begins))) y));
+          (m.1, (u, w, e, Q.yes_in u (later_le_back d u n (le_trans r (le_trans f w.begins))) y));
     }
 
     -- what is left says where the since holds
@@ -157,7 +153,7 @@ module _ (d from : Rational) (tr : Trace) (a : ℕ) (b : Option ℕ) (p q p' q' 
           let m = c.only t o in
           let f = c.after now at_never later_on t m.1 in
           let g = (s.only t m.0).1 in
-          (m.1, λ u w. Q.no_in u (no_later d u n (le_trans r (le_trans f w.begins))) (g u w));
+          (m.1, λ u w. Q.no_in u (later_le_back d u n (le_trans r (le_trans f w.begins))) (g u w));
     }
 
     -- what is left says where it fails

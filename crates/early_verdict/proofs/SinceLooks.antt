@@ -1,14 +1,17 @@
 -- A since that has a bound, and one that has none, of which the operands let go of times.
 use Rattle.std.proofs.Common.{◌≡◌, ◌⊎◌, inl, inr, sym, subst, ◌∙◌, ℕ, ◌≤◌, Bool, Option, Some, None, List}
 use Rattle.std.specs.Prelude.{MatchOption, slice_get}
+use Rattle.std.proofs.lemmas.Option.{same_Some}
+use Rattle.std.proofs.lemmas.Bool.{cases_eq}
 use Rattle.rational.specs.Time.{Rational, Within, later, ◌≤ʳ◌, ◌<ʳ◌}
 use Rattle.rational.proofs.Order.{le_of_lt, le_refl, le_trans, lt_of_le_of_lt}
-use Rattle.rational.proofs.TimeLemmas.{later_more}
+use Rattle.rational.proofs.TimeLemmas.{later_more, later_le_back, later_zero}
 use Rattle.stl_syntax.specs.Trace.{Trace, start}
 use Rattle.stl_syntax.specs.WellFormed.{AreWellFormed}
 use Rattle.stl_syntax.specs.declared.node.Node.{Node}
 use Rattle.stl_syntax.specs.declared.node.Node.TheVariants.{Since}
 use Rattle.rational.specs.Places.{After}
+use Rattle.rational.proofs.PlaceLemmas.{upto_earlier, after_later}
 use Rattle.frac128.specs.Cuts.{place}
 use Rattle.early_verdict.specs.Spans.{AreTidy, IsOn, Lies}
 use Rattle.early_verdict.specs.Fitting.{ArePartsTidy, AreSetsTidy, IsTidy, Lists, lists_at}
@@ -22,13 +25,9 @@ use Rattle.early_verdict.specs.declared.sets.Sets.{Sets}
 use Rattle.early_verdict.specs.declared.sets.Parts.{Parts}
 use Rattle.early_verdict.proofs.AllSets.{is_shown, lists_are, shown_is}
 use Rattle.early_verdict.proofs.LettingLemmas.{both_shown, still_on, two_less}
-use Rattle.early_verdict.proofs.Netting.{nat_is}
-use Rattle.early_verdict.proofs.RunLemmas.{after_le, upto_le}
-use Rattle.early_verdict.proofs.SinceCuts.{no_later}
-use Rattle.early_verdict.proofs.SinceSets.{later_none, none_later}
+use Rattle.early_verdict.proofs.SinceSets.{none_later}
 use Rattle.early_verdict.proofs.SinceStands.{AreBackCut, HoldAndFail, since_stands}
 use Rattle.early_verdict.proofs.Narrowing.{shown_begun}
-use Rattle.early_verdict.proofs.Places.{same_sets}
 
 -- sets that are cut are tidy
 tidy_parts : (d from : Rational) (wide : Stretch) (o o' : Option Parts) → ArePartsCut d from wide o o' → MatchOption o (Unit {0}) ArePartsTidy
@@ -66,7 +65,7 @@ module _ {nodes : List Node} (formed : AreWellFormed nodes) {tr : Trace} {live l
   looks : (t : Rational) → from ≤ʳ t → LooksAlong (start tr) p q a (Some b) old t → LooksAlong (start tr) p q a (Some b) new t
   looks t f (inl k) = inl (λ u o.
       let m = k u o in
-      let e = no_later d u b (le_trans back (le_trans f o.begins)) in
+      let e = later_le_back d u b (le_trans back (le_trans f o.begins)) in
       (both_shown h g p u e m.0, both_shown h g q u e m.1))
   looks t f (inr (w, o, k, e)) = inr (
     w,
@@ -79,7 +78,7 @@ module _ {nodes : List Node} (formed : AreWellFormed nodes) {tr : Trace} {live l
   )
     where
       first : d ≤ʳ w
-      first = no_later d w b (le_trans back (le_trans f o.begins))
+      first = later_le_back d w b (le_trans back (le_trans f o.begins))
 
       still : (v : Rational) → Within w t v → IsShown new p v × IsShown new q v
       still v n =
@@ -149,7 +148,7 @@ module _ {nodes : List Node} (formed : AreWellFormed nodes) {tr : Trace} {live h
       by_parts (Some x) (f, m, n) o = (f.both.only d o).1
 
   now_shown : (t : Rational) → d ≤ʳ t → LooksAlong (start tr) p q a None old t → IsShown old p t × IsShown old q t
-  now_shown t f (inl k) = k t (record { after = le_trans (le_of_lt start_before) f; begins = tt; ends = later_none t t (le_refl t) })
+  now_shown t f (inl k) = k t (record { after = le_trans (le_of_lt start_before) f; begins = tt; ends = later_zero t })
   now_shown t f (inr (w, o, k, e)) = k t (record { above = none_later w t a o.ends; below = le_refl t })
 
   looks_anew : (t : Rational) → from ≤ʳ t → LooksAlong (start tr) p q a None old t → LooksAlong (start tr) p q a None new t
@@ -173,7 +172,7 @@ module _ {nodes : List Node} (formed : AreWellFormed nodes) {tr : Trace} {live h
           → (v : Rational) → d ≤ʳ v → v ≤ʳ t → IsShown old n v
       between_them n w e b m v j u =
           let l = shown_is old n w t e m in
-          is_shown old n w v e (after_le (place w.no.bounds.from) d v j b, upto_le (place w.no.bounds.to) v t u l.1)
+          is_shown old n w v e (after_later (place w.no.bounds.from) d v j b, upto_earlier (place w.no.bounds.to) v t u l.1)
 
       still : (v : Rational) → Within d t v → IsShown new p v × IsShown new q v
       still v n =
@@ -186,7 +185,7 @@ module _ {nodes : List Node} (formed : AreWellFormed nodes) {tr : Trace} {live h
       at_d = still d (record { above = le_refl d; below = dt })
 
   same_half : cut.is ≡ anew.was
-  same_half = same_sets cut.is anew.was (sym cut.at_new ∙ anew.at_old)
+  same_half = same_Some cut.is anew.was (sym cut.at_new ∙ anew.at_old)
 
   tidy_anew : (m r : Option Parts) → MatchOption m (r ≡ None) (λ x. MatchOption r ⊥ (IsEndlessPart a (lists_at new q).yes x))
       → MatchOption m (Unit {0}) ArePartsTidy
@@ -226,8 +225,8 @@ module _ {nodes : List Node} (formed : AreWellFormed nodes) {tr : Trace} {live h
 module _ {live half : List Sets} {i : ℕ} {d from : Rational} {wide : Stretch} (cut : IsRunCutAt i d from wide live half) where
   -- all sets are tidy still
   pub half_tidy : AllTidy live → AllTidy half
-  half_tidy t j s e = elim (nat_is j i) [
-    | inl h ↦ subst AreSetsTidy (same_sets cut.is s (sym cut.at_new ∙ subst (λ k. slice_get half k ≡ Some s) h e)) here
+  half_tidy t j s e = elim (cases_eq j i) [
+    | inl h ↦ subst AreSetsTidy (same_Some cut.is s (sym cut.at_new ∙ subst (λ k. slice_get half k ≡ Some s) h e)) here
     | inr n ↦ t j s (sym (cut.others j n) ∙ e)
   ]
     where
@@ -244,7 +243,7 @@ module _ {live half : List Sets} {i : ℕ} {d from : Rational} {wide : Stretch} 
   -- the times of the one that sees to the start lie within its bounds
   pub half_inside : (s : Sets) → slice_get half i ≡ Some s → MatchOption s.parts (Unit {0}) (λ x. IsGrownInside x.holding.some)
   half_inside s e =
-      subst (λ (z : Sets). MatchOption z.parts (Unit {0}) (λ x. IsGrownInside x.holding.some)) (same_sets cut.is s (sym cut.at_new ∙ e))
+      subst (λ (z : Sets). MatchOption z.parts (Unit {0}) (λ x. IsGrownInside x.holding.some)) (same_Some cut.is s (sym cut.at_new ∙ e))
       (by_parts cut.was.parts cut.is.parts cut.cut.parts)
     where
       by_parts : (o o' : Option Parts) → ArePartsCut d from wide o o' → MatchOption o' (Unit {0}) (λ x. IsGrownInside x.holding.some)

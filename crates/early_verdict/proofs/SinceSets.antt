@@ -3,10 +3,11 @@ use Rattle.std.proofs.Common.{◌⊎◌, inl, inr, ℕ, ◌+◌, ◌*◌, true, 
 use Rattle.std.specs.Prelude.{Option, Some, None, IfSome}
 use Rattle.rational.specs.Time.{Rational, Within, later, ◌≤ʳ◌}
 use Rattle.rational.proofs.Order.{le_refl, le_trans, le_of_lt, le_or_lt}
-use Rattle.rational.proofs.TimeLemmas.{later_le}
+use Rattle.rational.proofs.TimeLemmas.{le_by_later, later_zero, still_begins}
 use Rattle.stl_syntax.specs.Trace.{Trace, start}
 use Rattle.stl_syntax.specs.Early.{OpenBehind}
 use Rattle.rational.specs.Places.{Place, After}
+use Rattle.rational.proofs.PlaceLemmas.{after_later}
 use Rattle.frac128.specs.Cuts.{place}
 use Rattle.early_verdict.specs.Spans.{Lies, IsOn, AreTidy}
 use Rattle.early_verdict.specs.Reaching.{GoesBackBy}
@@ -15,7 +16,6 @@ use Rattle.early_verdict.specs.Fitting.{Lists, SinceHolding, SinceFailing}
 use Rattle.early_verdict.specs.declared.sets.Holding.{Holding}
 use Rattle.early_verdict.specs.declared.sets.Failing.{Failing}
 use Rattle.early_verdict.proofs.Failures.{at_time, all_or_broken_back}
-use Rattle.early_verdict.proofs.RunLemmas.{after_le}
 
 -- t less a
 abbrev pub less_by : Rational → ℕ → Rational
@@ -41,31 +41,18 @@ past_end t u a h = record { le = omega (arith, h.le) }
 pub from_end : (t u : Rational) (a : ℕ) → t ≤ʳ later u a → less_by t a ≤ʳ u
 from_end t u a h = record { le = omega (arith, h.le) }
 
--- u + a is at most t and t at most v + a, so u is at most v
-pub earlier : (t u v : Rational) (a : ℕ) → later u a ≤ʳ t → t ≤ʳ later v a → u ≤ʳ v
-earlier t u v a h k = let c = le_trans h k in record { le = omega (arith, c.le) }
-
 -- a time that is no later after a wait is no later
 pub none_later : (u t : Rational) (a : ℕ) → later u a ≤ʳ t → u ≤ʳ t
 none_later u t a h = record { le = omega (arith, h.le) }
 
--- no wait is no move
-pub later_none : (u t : Rational) → u ≤ʳ t → later u 0 ≤ʳ t
-later_none u t h = record { le = omega (arith, h.le) }
-
 -- v is on the way back to the window
 pub back_way : (from t v : Rational) (a : ℕ) → from ≤ʳ v → t ≤ʳ later v a → v ≤ʳ t → OpenBehind from 0 (Some a) true true t v
-back_way from t v a f h k = record { after = f; begins = h; ends = later_none v t k }
-
--- a time after one of the window begins the window too
-pub still_begins : (b : Option ℕ) (t u w : Rational) → u ≤ʳ w → IfSome b (λ b. t ≤ʳ later u b) → IfSome b (λ b. t ≤ʳ later w b)
-still_begins None t u w h k = k
-still_begins (Some b) t u w h k = le_trans k (later_le b h)
+back_way from t v a f h k = record { after = f; begins = h; ends = le_trans (later_zero v) k }
 
 -- from a time of the window on up to now
 pub along : (from : Rational) (a : ℕ) (b : Option ℕ) (t u v : Rational) → OpenBehind from a b true true t u → u ≤ʳ v → v ≤ʳ t
     → OpenBehind from 0 b true true t v
-along from a b t u v o k l = record { after = le_trans o.after k; begins = still_begins b t u v k o.begins; ends = later_none v t l }
+along from a b t u v o k l = record { after = le_trans o.after k; begins = still_begins b t u v k o.begins; ends = le_trans (later_zero v) l }
 
 -- where the window begins
 pub window_begin : (from t : Rational) (b : Option ℕ) → (c : Place) × ((u : Rational) → After c u → (from ≤ʳ u) × IfSome b (λ b. t ≤ʳ later u b))
@@ -108,7 +95,7 @@ module _ (tr : Trace) (a : ℕ) (b : Option ℕ) (p q : Lists) (x : Holding) (h 
       by_run : GoesBackBy x.carried (place x.run.bounds.from) p.yes x.both.spans.items e → SinceHolds tr a b (IsOn p.yes) (IsOn q.yes) t
       by_run (inr k) =
           let w = wide u (along (start tr) a b t u u o (le_refl u) (le_trans ue (end_past t a))) in
-          (u, o, c, y, all_along u o.after (λ v m l. k.all v (after_le (place x.run.bounds.from) u v m w.1.0) l))
+          (u, o, c, y, all_along u o.after (λ v m l. k.all v (after_later (place x.run.bounds.from) u v m w.1.0) l))
       by_run (inl (r, l, j, z)) = elim (le_or_lt u r) [
         | inl k ↦
             let f = le_trans o.after k in (
@@ -130,7 +117,7 @@ module _ (tr : Trace) (a : ℕ) (b : Option ℕ) (p q : Lists) (x : Holding) (h 
         h.some.has t (own.0) (u, o, c, y),
         h.each.has t (own.1) (λ v w.
             let vt = none_later v t 0 w.ends in
-            let uv = earlier t u v a o.ends w.begins in
+            let uv = le_by_later t u v a o.ends w.begins in
             h.run.has v ((wide v (along (start tr) a b t u v o uv vt)).1)
             (inl (u, uv, both, λ k l. z k (record { above = l.above; below = le_trans l.below vt })))),
       )
@@ -154,7 +141,7 @@ module _ (tr : Trace) (a : ℕ) (b : Option ℕ) (p q : Lists) (x : Failing) (h 
           vt = none_later v t 0 i.ends
 
           uv : u ≤ʳ v
-          uv = earlier t u v a o.ends i.begins
+          uv = le_by_later t u v a o.ends i.begins
 
           of_fail : IsOn x.fail.spans.items u → IsOn q.no u ⊎ ((v : Rational) × Within u t v × IsOn p.no v)
           of_fail f = elim ((h.fail.only u f).1) [ inl m ↦ inr (u, record { above = le_refl u; below = le_trans uv vt }, m) | inr m ↦ inl m ]
@@ -188,4 +175,4 @@ module _ (tr : Trace) (a : ℕ) (b : Option ℕ) (p q : Lists) (x : Failing) (h 
       ]
     where
       window : (u : Rational) → After (window_begin (start tr) t b).0 u → u ≤ʳ t → OpenBehind (start tr) 0 b true true t u
-      window u k l = let m = (window_begin (start tr) t b).1 u k in record { after = m.0; begins = m.1; ends = later_none u t l }
+      window u k l = let m = (window_begin (start tr) t b).1 u k in record { after = m.0; begins = m.1; ends = le_trans (later_zero u) l }

@@ -1,15 +1,17 @@
 -- What stands goes on to stand, where a since lets go of the times before its own, and its operands of those that it looks at no more.
 use Rattle.std.proofs.Common.{◌≡◌, ◌≢◌, ◌⊎◌, inl, inr, refl, sym, subst, ◌∙◌, ℕ, ◌<◌, ◌≤◌, true, false, Option, Some, None, List, length, arith}
 use Rattle.std.specs.Prelude.{IfSome, MatchOption, IsSome, slice_get, slice_index_or}
+use Rattle.std.proofs.lemmas.Option.{same_Some, slice_get_within}
 use Rattle.rational.specs.Time.{Rational, Within, later, ◌≤ʳ◌, ◌<ʳ◌}
 use Rattle.rational.proofs.Order.{le_of_lt, le_or_lt, le_refl, le_trans}
-use Rattle.rational.proofs.TimeLemmas.{later_from}
+use Rattle.rational.proofs.TimeLemmas.{later_from, later_zero}
 use Rattle.stl_syntax.specs.Trace.{Trace, start}
 use Rattle.stl_syntax.specs.Early.{OpenBehind}
 use Rattle.stl_syntax.specs.WellFormed.{AreWellFormed, HasBounds}
 use Rattle.stl_syntax.specs.declared.node.Node.{Node}
 use Rattle.stl_syntax.specs.declared.node.Node.TheVariants.{Const, Since}
-use Rattle.stl_syntax.proofs.PostOrderLemmas.{placed, slice_get_at}
+use Rattle.stl_syntax.proofs.PostOrderLemmas.{placed, slice_get_at, child_below}
+use Rattle.stl_syntax.specs.Cells.{IsChild}
 use Rattle.rational.specs.Places.{Upto}
 use Rattle.frac128.specs.Cuts.{place}
 use Rattle.early_verdict.specs.Spans.{IsOn, Lies}
@@ -18,20 +20,19 @@ use Rattle.early_verdict.specs.Fitting.{Lists, lists_at, lists_of, ArePartsTidy,
 use Rattle.early_verdict.specs.Fitting.{IsTidy, Says, SayOfParts, SinceFits, SinceHolding, SinceFailing}
 use Rattle.early_verdict.specs.Standing.{AllTidy}
 use Rattle.early_verdict.specs.Living.{IsLive, IsShown, LooksAlong, NetStands, ReachesBack}
-use Rattle.early_verdict.specs.Letting.{AreLess, ArePartsInside, IsAskedFrom, IsChild, IsCutAt, IsFailingInside, IsHoldingInside, IsInside, IsLess, ShowsFrom}
+use Rattle.early_verdict.specs.Letting.{AreLess, ArePartsInside, IsAskedFrom, IsCutAt, IsFailingInside, IsHoldingInside, IsInside, IsLess, ShowsFrom}
 use Rattle.early_verdict.specs.declared.stretch.Stretch.{Stretch}
 use Rattle.early_verdict.specs.declared.grown.Grown.{Grown}
 use Rattle.early_verdict.specs.declared.sets.Sets.{Sets}
 use Rattle.early_verdict.specs.declared.sets.Parts.{Parts}
-use Rattle.early_verdict.proofs.AllSets.{is_shown, lists_are, lists_tidy, sets_at, shown_is, shown_within, yes_there, no_there}
-use Rattle.early_verdict.proofs.Childhood.{child_below}
+use Rattle.early_verdict.proofs.AllSets.{is_shown, lists_are, lists_tidy, shown_is, shown_within, yes_there, no_there}
 use Rattle.early_verdict.proofs.LettingLemmas.{less_shown, still_on, two_less, two_others, two_shows}
 use Rattle.early_verdict.proofs.Narrowing.{lists_apart, live_by, one_stands, shown_begun, shown_inside}
 use Rattle.rational.proofs.PlaceLemmas.{between}
-use Rattle.early_verdict.proofs.Places.{get_within, same_sets}
+use Rattle.rational.proofs.Lists.{slice_get_there}
 use Rattle.early_verdict.proofs.Settling.{SaysSince, reaches_along, says_since}
 use Rattle.early_verdict.proofs.SinceCuts.{IsBackCut, SeesAnew, SeesNone, failing_back, holding_back}
-use Rattle.early_verdict.proofs.SinceSets.{along, later_none, none_later}
+use Rattle.early_verdict.proofs.SinceSets.{along, none_later}
 use Rattle.early_verdict.proofs.StretchLemmas.{rises}
 use Rattle.early_verdict.proofs.UntilCuts.{Agree}
 
@@ -62,7 +63,7 @@ module _ {nodes : List Node} {tr : Trace} {live old mid new : List Sets} (i : �
     (h : IsAskedFrom p d old mid) (g : IsAskedFrom q d mid new)
     (st : NetStands nodes tr live old) {s : Sets} (is : slice_get live i ≡ Some s) where
   shown_here : (w : Sets) × (slice_get old i ≡ Some w)
-  shown_here = sets_at old i (let e = get_within live i s is in let c = st.have.count in let f = st.have.shown_count in omega (arith, e, c, f))
+  shown_here = slice_get_there old i (let e = slice_get_within live i s is in let c = st.have.count in let f = st.have.shown_count in omega (arith, e, c, f))
 
   left_here : (l : Sets) × (slice_get old p ≡ Some l) × IsLess l l'
   left_here = (two_less h g).each p l' at_left
@@ -107,19 +108,19 @@ module _ {nodes : List Node} (formed : AreWellFormed nodes) {tr : Trace} {live :
     (begins : (t : Rational) → Lies s.no.bounds t → from ≤ʳ t) (h : IsAskedFrom p d old mid) (g : IsAskedFrom q d mid new) (st : NetStands nodes tr live old)
     (looks_new : (t : Rational) → from ≤ʳ t → LooksAlong (start tr) p q a b old t → LooksAlong (start tr) p q a b new t) where
   small : i < length nodes
-  small = let e = get_within live i s is in let c = st.have.count in omega (arith, e, c)
+  small = let e = slice_get_within live i s is in let c = st.have.count in omega (arith, e, c)
 
   less : AreLess old new
   less = two_less h g
 
-  shows_from : (n : ℕ) (w x : Sets) → IsChild n (Since p q a b) → slice_get old n ≡ Some w → slice_get new n ≡ Some x → ShowsFrom d w x
+  shows_from : (n : ℕ) (w x : Sets) → IsChild (Since p q a b) n → slice_get old n ≡ Some w → slice_get new n ≡ Some x → ShowsFrom d w x
   shows_from n w x c e f = two_shows h g n w x c e f
 
   -- an operand shows from there on what it showed
-  agree_from : (n : ℕ) → IsChild n (Since p q a b) → Agree d (lists_at old n) (lists_at new n)
+  agree_from : (n : ℕ) → IsChild (Since p q a b) n → Agree d (lists_at old n) (lists_at new n)
   agree_from n c =
       let below = child_below i n (Since p q a b) (placed nodes i (Since p q a b) formed.post_order at) c in
-      let x = sets_at new n (let e = small in let m = st.have.shown_count in let f = less.count in omega (arith, below, e, m, f)) in
+      let x = slice_get_there new n (let e = small in let m = st.have.shown_count in let f = less.count in omega (arith, below, e, m, f)) in
       let w = less.each n x.0 x.1 in
       by_sets w.0 x.0 w.1 x.1 w.2 (shows_from n w.0 x.0 c w.1 x.1) (shown_inside st n w.0 w.1)
     where
@@ -148,7 +149,7 @@ module _ {nodes : List Node} (formed : AreWellFormed nodes) {tr : Trace} {live :
   shows = shows_from p was_left.0 l' (inl refl) was_left.1 at_left
 
   own_shown : (w : Sets) × (slice_get old i ≡ Some w)
-  own_shown = sets_at old i (let e = small in let n = st.have.shown_count in omega (arith, e, n))
+  own_shown = slice_get_there old i (let e = small in let n = st.have.shown_count in omega (arith, e, n))
 
   was : IsLive (start tr) old (Since p q a b) s own_shown.0
   was = st.have.has i (Since p q a b) s own_shown.0 at is own_shown.1
@@ -171,7 +172,7 @@ module _ {nodes : List Node} (formed : AreWellFormed nodes) {tr : Trace} {live :
   itself_begins (Some k) t = later_from t k
 
   itself : (t : Rational) → Lies was.own t → OpenBehind (start tr) 0 b true true t t
-  itself t l = record { after = was.starts t l; begins = itself_begins b t; ends = later_none t t (le_refl t) }
+  itself t l = record { after = was.starts t l; begins = itself_begins b t; ends = later_zero t }
 
   now_shown : IsShown old p now.0 × IsShown old q now.0
   now_shown = elim (was.looks.0 now.0 now.1) [
@@ -180,9 +181,9 @@ module _ {nodes : List Node} (formed : AreWellFormed nodes) {tr : Trace} {live :
   ]
 
   -- what an operand shows now is none before
-  after_there : (n : ℕ) (c : IsChild n (Since p q a b)) → IsShown old n now.0 → (u : Rational) → IsShown new n u → d ≤ʳ u
+  after_there : (n : ℕ) (c : IsChild (Since p q a b) n) → IsShown old n now.0 → (u : Rational) → IsShown new n u → d ≤ʳ u
   after_there n c m u k =
-      let x = sets_at new n (shown_within new n u k) in
+      let x = slice_get_there new n (shown_within new n u k) in
       let w = less.each n x.0 x.1 in
       (shows_from n w.0 x.0 c w.1 x.1).after now.0 (shown_is old n w.0 now.0 w.1 m) d_now u (shown_is new n x.0 u x.1 k)
 
@@ -201,14 +202,14 @@ module _ {nodes : List Node} (formed : AreWellFormed nodes) {tr : Trace} {live :
 
   shown_yes : (n : ℕ) (u : Rational) → IsOn (lists_at new n).yes u → IsShown new n u
   shown_yes n u o =
-      let x = sets_at new n (yes_there new n u o) in
+      let x = slice_get_there new n (yes_there new n u o) in
       let w = less.each n x.0 x.1 in
       is_shown new n x.0 u x.1
       ((w.2.inside (shown_inside st n w.0 w.1)).yes u (subst (λ (l : Lists). IsOn l.yes u) (lists_are new n x.0 x.1) o))
 
   shown_no : (n : ℕ) (u : Rational) → IsOn (lists_at new n).no u → IsShown new n u
   shown_no n u o =
-      let x = sets_at new n (no_there new n u o) in
+      let x = slice_get_there new n (no_there new n u o) in
       let w = less.each n x.0 x.1 in
       is_shown new n x.0 u x.1
       ((w.2.inside (shown_inside st n w.0 w.1)).no u (subst (λ (l : Lists). IsOn l.no u) (lists_are new n x.0 x.1) o))
@@ -222,7 +223,7 @@ module _ {nodes : List Node} (formed : AreWellFormed nodes) {tr : Trace} {live :
   new_tidy : AllTidy new
   new_tidy n x e = let w = less.each n x e in w.2.tidy (st.shown_tidy n w.0 w.1)
 
-  apart_new : (n : ℕ) → IsChild n (Since p q a b) → (u : Rational) → IsOn (lists_at new n).yes u → ¬ (IsOn (lists_at new n).no u)
+  apart_new : (n : ℕ) → IsChild (Since p q a b) n → (u : Rational) → IsOn (lists_at new n).yes u → ¬ (IsOn (lists_at new n).no u)
   apart_new n c u y m = lists_apart st n u ((agree_from n c).yes_out u y) ((agree_from n c).no_out u m)
 
   looks_still : (t : Rational) → Lies was.own t → LooksAlong (start tr) p q a b new t
@@ -394,14 +395,14 @@ module _ {nodes : List Node} (formed : AreWellFormed nodes) {tr : Trace} {live :
 
   still_within : (l : Sets) → slice_get new p ≡ Some l → HasFailBounds r l
   still_within l f =
-      subst (λ z. HasFailBounds r z) (same_sets l' l (sym at_left ∙ f))
+      subst (λ z. HasFailBounds r z) (same_Some l' l (sym at_left ∙ f))
       (by_parts (λ x. Unit {0}) (FailWithin l'.no.bounds) (λ x y k m e t u n. (k.fail.bounds_are ∙ is_wide, k.stop.bounds_are ∙ is_wide)) (Unit {0})
       s.parts r.parts cut was.looks.1 fail_bounds (st.tidy i s is).parts tidy_cut (unit_of s.parts))
 
   mine : (w x : Sets) → slice_get old i ≡ Some w → slice_get new i ≡ Some x → IsLess w x → IsLive (start tr) new (Since p q a b) r x
   mine w x e f fewer =
       live_by formed left i at is ir same count less (two_others h g) st
-      (Since p q a b) s r own_shown.0 x same_yes same_no (subst (λ z. IsLess z x) (same_sets w own_shown.0 (sym e ∙ own_shown.1)) fewer) was
+      (Since p q a b) s r own_shown.0 x same_yes same_no (subst (λ z. IsLess z x) (same_Some w own_shown.0 (sym e ∙ own_shown.1)) fewer) was
       (looks_still, reach_parts) (is_some, still_within)
 
   fits : SinceFits tr a b (lists_at new p) (lists_at new q) r

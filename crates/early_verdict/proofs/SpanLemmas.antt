@@ -22,6 +22,7 @@ use Rattle.std.proofs.Common.{
   arith,
 }
 use Rattle.std.specs.Prelude.{slice_get}
+use Rattle.std.proofs.lemmas.Option.{same_Some}
 use Rattle.rational.specs.Time.{Rational}
 use Rattle.rational.specs.Places.{Place, After, Upto, Before}
 use Rattle.frac128.specs.Cuts.{place}
@@ -36,10 +37,6 @@ without xs at = take at xs ++ drop (suc at) xs
 
 abbrev pub with_one : List Stretch → ℕ → Stretch → List Stretch
 with_one xs at j = take at xs ++ j ∷ drop at xs
-
--- an option holds one stretch
-pub some_same : (a b : Stretch) → Some a ≡ Some b → a ≡ b
-some_same a b e = cc
 
 -- none holds none
 pub no_stretch : (s : Stretch) → None ≡ Some s → ⊥
@@ -56,7 +53,7 @@ on_without (x ∷ xs) (suc at) t (inr h) = inr (on_without xs at t h)
 -- what it has, it has without the one, or the one has it
 pub on_left : (xs : List Stretch) (at : ℕ) (n : Stretch) (t : Rational) → slice_get xs at ≡ Some n → IsOn xs t → IsOn (without xs at) t ⊎ Lies n t
 on_left [] at n t e h = absurd h
-on_left (x ∷ xs) zero n t e (inl h) = inr (subst (λ s. Lies s t) (some_same x n e) h)
+on_left (x ∷ xs) zero n t e (inl h) = inr (subst (λ s. Lies s t) (same_Some x n e) h)
 on_left (x ∷ xs) zero n t e (inr h) = inl h
 on_left (x ∷ xs) (suc at) n t e (inl h) = inl (inl h)
 on_left (x ∷ xs) (suc at) n t e (inr h) = elim (on_left xs at n t e h) [ inl k ↦ inl (inr k) | inr k ↦ inr k ]
@@ -64,7 +61,7 @@ on_left (x ∷ xs) (suc at) n t e (inr h) = elim (on_left xs at n t e h) [ inl k
 -- and it has what one of it has
 pub on_at : (xs : List Stretch) (at : ℕ) (n : Stretch) (t : Rational) → slice_get xs at ≡ Some n → Lies n t → IsOn xs t
 on_at [] at n t e h = absurd (no_stretch n e)
-on_at (x ∷ xs) zero n t e h = inl (subst (λ s. Lies s t) (sym (some_same x n e)) h)
+on_at (x ∷ xs) zero n t e h = inl (subst (λ s. Lies s t) (sym (same_Some x n e)) h)
 on_at (x ∷ xs) (suc at) n t e h = inr (on_at xs at n t e h)
 
 -- what lies after a stretch of the list lies after what the stretch lies after
@@ -88,7 +85,7 @@ tidy_without (x ∷ xs) (suc at) h = (begins_without (place x.to) xs at h.0 h.1,
 
 begins_at : (c : Place) (xs : List Stretch) (at : ℕ) (n : Stretch) → BeginsAfter c xs → AreTidy xs → slice_get xs at ≡ Some n → Before c (place n.from)
 begins_at c [] at n b h e = absurd (no_stretch n e)
-begins_at c (x ∷ xs) zero n b h e = subst (λ s. Before c (place s.from)) (some_same x n e) b
+begins_at c (x ∷ xs) zero n b h e = subst (λ s. Before c (place s.from)) (same_Some x n e) b
 begins_at c (x ∷ xs) (suc at) n b h e = begins_at c xs at n (begins_through c x xs b h.0) h.1 e
 
 -- those before one end before it begins
@@ -113,7 +110,7 @@ rest_without c (x ∷ xs) (suc at) h = rest_without c xs at h
 -- those after one begin after it ends
 pub begins_next : (xs : List Stretch) (at : ℕ) (n : Stretch) → AreTidy xs → slice_get xs at ≡ Some n → BeginsAfter (place n.to) (drop at (without xs at))
 begins_next [] at n h e = absurd (no_stretch n e)
-begins_next (x ∷ xs) zero n h e = subst (λ s. BeginsAfter (place s.to) xs) (some_same x n e) h.0
+begins_next (x ∷ xs) zero n h e = subst (λ s. BeginsAfter (place s.to) xs) (same_Some x n e) h.0
 begins_next (x ∷ xs) (suc at) n h e = begins_next xs at n h.1 e
 
 -- what lies after a place lies after it without the first
@@ -126,7 +123,7 @@ begins_still c (x ∷ xs) (suc at) h b = begins_still c xs at h.1 b
 -- where none from a place on ends before a cut, the one there does not
 pub reaches_at : (c : Place) (xs : List Stretch) (at : ℕ) (n : Stretch) → NoneEndsBefore c (drop at xs) → slice_get xs at ≡ Some n → ¬ (Before (place n.to) c)
 reaches_at c [] at n h e = absurd (no_stretch n e)
-reaches_at c (x ∷ xs) zero n h e = subst (λ s. ¬ (Before (place s.to) c)) (some_same x n e) h.0
+reaches_at c (x ∷ xs) zero n h e = subst (λ s. ¬ (Before (place s.to) c)) (same_Some x n e) h.0
 reaches_at c (x ∷ xs) (suc at) n h e = reaches_at c xs at n h e
 
 -- a place of the list is one without the stretch there, or its end
@@ -173,7 +170,7 @@ tidy_with (x ∷ xs) (suc at) j h f r = (begins_with (place x.to) xs at j h.0 f.
 pub front_more : (c : Place) (xs : List Stretch) (i : ℕ) (s : Stretch) → AreTidy xs → slice_get xs i ≡ Some s
     → Before (place s.to) c → EndBefore c (take (suc i) xs)
 front_more c [] i s h e b = absurd (no_stretch s e)
-front_more c (x ∷ xs) zero s h e b = (subst (λ r. Before (place r.to) c) (sym (some_same x s e)) b, tt)
+front_more c (x ∷ xs) zero s h e b = (subst (λ r. Before (place r.to) c) (sym (same_Some x s e)) b, tt)
 front_more c (x ∷ xs) (suc i) s h e b = (
   before_trans (place x.to) (place s.from) c (begins_at (place x.to) xs i s h.0 h.1 e) (before_trans (place s.from) (place s.to) c (rises s) b),
   front_more c xs i s h.1 e b,
@@ -191,7 +188,7 @@ pub rest_more : (c : Place) (xs : List Stretch) (i : ℕ) (s : Stretch) → AreT
     → ¬ (Before (place s.to) c) → NoneEndsBefore c (drop i xs)
 rest_more c [] i s h e b = absurd (no_stretch s e)
 rest_more c (x ∷ xs) zero s h e b =
-    let n : ¬ (Before (place x.to) c) = subst (λ r. ¬ (Before (place r.to) c)) (sym (some_same x s e)) b in (n, none_ends (place x.to) c xs n h.0 h.1)
+    let n : ¬ (Before (place x.to) c) = subst (λ r. ¬ (Before (place r.to) c)) (sym (same_Some x s e)) b in (n, none_ends (place x.to) c xs n h.0 h.1)
 rest_more c (x ∷ xs) (suc i) s h e b = rest_more c xs i s h.1 e b
 
 -- a time of the list is one of those before a place in it, or of those from there on
@@ -223,8 +220,8 @@ tidy_drop (x ∷ xs) (suc at) h = tidy_drop xs at h.1
 pub from_one_on : (xs : List Stretch) (at : ℕ) (n : Stretch) (t : Rational) → AreTidy xs → slice_get xs at ≡ Some n
     → IsOn (drop at xs) t → After (place n.from) t
 from_one_on [] at n t h e o = absurd (no_stretch n e)
-from_one_on (x ∷ xs) zero n t h e (inl o) = subst (λ s. After (place s.from) t) (some_same x n e) o.0
+from_one_on (x ∷ xs) zero n t h e (inl o) = subst (λ s. After (place s.from) t) (same_Some x n e) o.0
 from_one_on (x ∷ xs) zero n t h e (inr o) =
-    subst (λ s. After (place s.from) t) (some_same x n e)
+    subst (λ s. After (place s.from) t) (same_Some x n e)
     (after_of_before (place x.from) (place x.to) t (rises x) (rest_after (place x.to) xs t h.1 h.0 o))
 from_one_on (x ∷ xs) (suc at) n t h e o = from_one_on xs at n t h.1 e o

@@ -8,7 +8,7 @@ use Rattle.stl_syntax.specs.Early.{Decides, NoneDecides, FirstDecides}
 use Rattle.stl_syntax.specs.WellFormed.{AreWellFormed}
 use Rattle.stl_syntax.specs.declared.node.Node.{Node}
 use Rattle.stl_syntax.specs.declared.node.Node.TheVariants.{Atom as Leaf}
-use Rattle.stl_syntax.proofs.LawProofs.{last_from}
+use Rattle.stl_syntax.proofs.RowsLemmas.{last_from}
 use Rattle.atom_lines.specs.Binding.{Binding, IsBound}
 use Rattle.early_verdict.specs.Deciding.{Kept, AreRowsSoFar, IsAnswer, IsOpen, IsTruthAtStart, IsVerdict}
 use Rattle.early_verdict.specs.Deciding.{SetsAre, Stands, StandsBy, WasDecided, last_of, trace_of}

@@ -1,8 +1,8 @@
 -- A stretch begins before it ends.
 use Rattle.std.proofs.Common.{◌≡◌, inl, inr, refl, Bool, true, false, not, ◌&&◌}
 use Rattle.rational.specs.Time.{HasTimeBetween}
-use Rattle.rational.proofs.Order.{lt_or_same_or_gt, not_lt_of_le, le_of_same}
-use Rattle.rational.proofs.TimeLemmas.{precedes_of_room, room_of_precedes, precedes_of_lt}
+use Rattle.rational.proofs.Order.{lt_or_same_or_gt, not_lt_of_le}
+use Rattle.rational.proofs.TimeLemmas.{precedes_of_room}
 use Rattle.rational.specs.Places.{Place, Before}
 use Rattle.frac128.specs.Cuts.{place}
 use Rattle.early_verdict.specs.declared.stretch.Stretch.{Stretch}
@@ -18,11 +18,6 @@ before_of_room c d = by_side c.after d.after refl refl
       | inl l ↦ inl l
       | inr o ↦ elim o [ inl s ↦ inr (s, e, f) | inr l ↦ absurd (not_lt_of_le (precedes_of_room true c.at d.at h) l) ]
     ]
-
--- between two places in order there is a time
-pub room_of_before : (c d : Place) → Before c d → HasTimeBetween c.at d.at (not c.after && d.after)
-room_of_before c d (inl l) = room_of_precedes (not c.after && d.after) c.at d.at (precedes_of_lt (not c.after && d.after) c.at d.at l)
-room_of_before c d (inr (s, e, f)) = rw (e, f) (room_of_precedes true c.at d.at (le_of_same s))
 
 -- a stretch begins before it ends
 pub rises : (s : Stretch) → Before (place s.from) (place s.to)

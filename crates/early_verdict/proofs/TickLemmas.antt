@@ -12,8 +12,8 @@ use Rattle.early_verdict.specs.Windows.{low_place, high_place}
 use Rattle.early_verdict.specs.Steps.{HoldsFrom}
 use Rattle.early_verdict.specs.declared.stretch.Stretch.{Stretch}
 use Rattle.early_verdict.specs.declared.window.Window.{Window}
-use Rattle.rational.proofs.PlaceLemmas.{sides, not_both, between, before_through, same_before, same_places}
-use Rattle.early_verdict.proofs.RunLemmas.{upto_le, after_le}
+use Rattle.rational.proofs.PlaceLemmas.{sides, not_both, between, before_through, same_before, same_places, upto_earlier}
+use Rattle.rational.proofs.PlaceLemmas.{after_later}
 use Rattle.early_verdict.proofs.WindowLemmas.{room_in, room_out}
 
 -- the place just before a time comes before each place that the time does not lie after
@@ -47,7 +47,7 @@ at_time s c t is h = (
   ],
   let v = between (record { at = t; after = false }) (place s.to)
       (same_before (record { at = t; after = false }) c (place s.to) (same_places is) h.1) in
-      upto_le (place s.to) t v.0 v.1 v.2,
+      upto_earlier (place s.to) t v.0 v.1 v.2,
 )
 
 -- a stretch that has a time holds from just before it
@@ -56,7 +56,7 @@ from_time s c t is l = (
   λ b.
       let v = between (record { at = t; after = false }) (place s.from)
       (same_before (record { at = t; after = false }) c (place s.from) (same_places is) b) in
-      not_both (place s.from) v.0 v.2 (after_le (place s.from) t v.0 v.1 l.0),
+      not_both (place s.from) v.0 v.2 (after_later (place s.from) t v.0 v.1 l.0),
   same_before c (record { at = t; after = false }) (place s.to) is (before_time (place s.to) t l.1),
 )
 
@@ -71,12 +71,12 @@ ticks_rise m n h = elim (le_or_lt (whole n) (whole m)) [
 begins_by_it : (w : Window) (k : ℤ) (t : Rational) → Before (low_place k w.low_in t) (high_place (pos 0) true t) → After (low_place k w.low_in t) t
 begins_by_it w k t b =
     let v = between (low_place k w.low_in t) (high_place (pos 0) true t) b in
-    after_le (low_place k w.low_in t) v.0 t (le_trans v.2 (le_of_same (add_zero t))) v.1
+    after_later (low_place k w.low_in t) v.0 t (le_trans v.2 (le_of_same (add_zero t))) v.1
 
 ends_by_it : (w : Window) (t : Rational) → Before (low_place (pos 0) true t) (high_place w.high w.high_in t) → Upto (high_place w.high w.high_in t) t
 ends_by_it w t b =
     let v = between (low_place (pos 0) true t) (high_place w.high w.high_in t) b in
-    upto_le (high_place w.high w.high_in t) t v.0 (le_trans (ge_of_same (add_zero t)) v.1) v.2
+    upto_earlier (high_place w.high w.high_in t) t v.0 (le_trans (ge_of_same (add_zero t)) v.1) v.2
 
 -- a window that looks ahead, or at now, ends no earlier than now
 pub ends_at : (w : Window) (t : Rational) → (pos 0 <ℤ w.high) ⊎ ((pos 0 ≡ w.high) × IsTrue true × IsTrue w.high_in) → Upto (high_place w.high w.high_in t) t

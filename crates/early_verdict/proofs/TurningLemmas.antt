@@ -1,6 +1,5 @@
 -- The truth of an atom up to a row, as it turns over or goes on: what is added of it, and what is not yet.
-use Rattle.std.proofs.Common.{◌≡◌, ◌⊎◌, inl, inr, refl, sym, subst, ◌∙◌, ◌<◌, arith, Bool, true, false}
-use mathlib.Core.Bool.{beq}
+use Rattle.std.proofs.Common.{◌≡◌, ◌⊎◌, inl, inr, sym, subst, ◌∙◌, ◌<◌, arith, Bool, true, false}
 use Rattle.std.specs.Prelude.{IfOk, OnOk, Result, Ok, Err}
 use Rattle.rational.specs.Time.{Rational, ◌<ʳ◌, ◌≈◌}
 use Rattle.rational.proofs.Order.{le_of_lt, lt_or_same_or_gt, le_of_same, ge_of_same, same_of_le, lt_of_lt_of_le, lt_of_le_of_lt}
@@ -14,16 +13,8 @@ use Rattle.early_verdict.specs.Fitting.{AreSetsTidy}
 use Rattle.early_verdict.specs.declared.atoms.Pending.{Pending}
 use Rattle.frac128.specs.declared.cut.Cut.{Cut}
 use Rattle.early_verdict.specs.declared.sets.Sets.{Sets}
-use Rattle.rational.proofs.PlaceLemmas.{sides, not_both, upto_same, after_same, same_places}
-use Rattle.early_verdict.proofs.MakingLemmas.{after_from}
+use Rattle.rational.proofs.PlaceLemmas.{sides, not_both, upto_same, after_same, same_places, after_at_most}
 use Rattle.early_verdict.proofs.AtomSets.{added_alike, added_then, grown_none, grown_of}
-
--- two truths that were compared
-pub same_truth : (a b : Bool) → beq a b ≡ true → a ≡ b
-same_truth true true e = refl
-same_truth true false e = absurd (let x : false ≡ true = e in cc)
-same_truth false true e = absurd (let x : false ≡ true = e in cc)
-same_truth false false e = refl
 
 -- what is said of a good answer follows from what is known of it
 pub if_good : {T E : Type 0} (r : Result T E) {P Q : T → Type 0} → IfOk r P → ((x : T) → P x → Q x) → IfOk r Q
@@ -49,7 +40,7 @@ piece_parts b c d e v t h = elim (sides d t) [ inl u ↦ inl (h.0, h.1, u) | inr
 
 piece_whole : (b : Bool) (c d e : Place) → AtMost c d → AtMost d e → (v : Bool) (t : Rational) → Piece b c d v t ⊎ Piece b d e v t → Piece b c e v t
 piece_whole b c d e l m v t (inl h) = (h.0, h.1, m t h.2)
-piece_whole b c d e l m v t (inr h) = (h.0, after_from c d t l h.1, h.2)
+piece_whole b c d e l m v t (inr h) = (h.0, after_at_most c d t l h.1, h.2)
 
 -- the piece of a pending truth, under other names
 piece_named : (old new : Sets) (b b' : Bool) (c c' : Cut) (to : Place) → b ≡ b' → c ≡ c' → HasAdded old new (Piece b (place c) to)

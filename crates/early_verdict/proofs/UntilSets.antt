@@ -2,9 +2,10 @@
 use Rattle.std.proofs.Common.{◌⊎◌, inl, inr, ℕ, ◌≤◌, Bool, true, false, List, arith}
 use Rattle.rational.specs.Time.{Rational, Within, later, ◌≤ʳ◌}
 use Rattle.rational.proofs.Order.{le_refl, le_trans, le_of_lt, le_or_lt, same_of_le}
-use Rattle.rational.proofs.TimeLemmas.{later_from, later_more}
+use Rattle.rational.proofs.TimeLemmas.{later_from, later_more, later_zero}
 use Rattle.stl_syntax.specs.Trace.{Trace, start, stop}
-use Rattle.stl_syntax.specs.Early.{OpenAhead, IsSure}
+use Rattle.stl_syntax.specs.Early.{OpenAhead}
+use Rattle.stl_syntax.proofs.SettledParts.{sure_earlier}
 use Rattle.rational.specs.Places.{Place, Upto}
 use Rattle.early_verdict.specs.Spans.{Lies, IsOn, AreTidy}
 use Rattle.early_verdict.specs.Steps.{Tells}
@@ -18,21 +19,13 @@ use Rattle.early_verdict.proofs.Gaps.{on_same}
 use Rattle.early_verdict.proofs.Failures.{past_time, all_or_broken}
 use Rattle.early_verdict.proofs.Telling.{tells_alike}
 
--- an earlier time is sure where a later one is
-pub sure_earlier : (tr : Trace) (t w u : Rational) → start tr ≤ʳ w → w ≤ʳ u → IsSure tr t u → IsSure tr t w
-sure_earlier tr t w u h k (s, inl l) = (h, inl (le_trans k l))
-sure_earlier tr t w u h k (s, inr l) = (h, inr (le_trans k l))
-
-later_zero : (t v : Rational) → t ≤ʳ v → later t 0 ≤ʳ v
-later_zero t v h = record { le = omega (arith, h.le) }
-
 -- no wait is no move
 pub later_zero_out : (t v : Rational) → later t 0 ≤ʳ v → t ≤ʳ v
 later_zero_out t v h = record { le = omega (arith, h.le) }
 
 -- v is on the way to the window
 pub on_way : (from t v : Rational) (a : ℕ) → from ≤ʳ v → t ≤ʳ v → v ≤ʳ later t a → OpenAhead from 0 a true true t v
-on_way from t v a f h k = record { after = f; begins = later_zero t v h; ends = k }
+on_way from t v a f h k = record { after = f; begins = le_trans (later_zero t) h; ends = k }
 
 -- where the window ends, of the times that count
 pub window_end : (ended : Bool) (tr : Trace) (f : Rational)

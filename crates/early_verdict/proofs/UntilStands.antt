@@ -1,6 +1,7 @@
 -- What stands goes on to stand, where an until and its operands let go of the times before its own.
 use Rattle.std.proofs.Common.{◌≡◌, ◌⊎◌, inl, inr, refl, sym, subst, ◌∙◌, ℕ, ◌<◌, true, false, Option, Some, None, List, length, arith}
 use Rattle.std.specs.Prelude.{MatchOption, IsSome, slice_get}
+use Rattle.std.proofs.lemmas.Option.{same_Some, slice_get_within}
 use Rattle.rational.specs.Time.{Rational, ◌≤ʳ◌}
 use Rattle.rational.proofs.Order.{le_refl, le_trans}
 use Rattle.rational.proofs.TimeLemmas.{later_from}
@@ -8,7 +9,8 @@ use Rattle.stl_syntax.specs.Trace.{Trace, start}
 use Rattle.stl_syntax.specs.WellFormed.{AreWellFormed}
 use Rattle.stl_syntax.specs.declared.node.Node.{Node}
 use Rattle.stl_syntax.specs.declared.node.Node.TheVariants.{Until}
-use Rattle.stl_syntax.proofs.PostOrderLemmas.{placed}
+use Rattle.stl_syntax.proofs.PostOrderLemmas.{placed, child_below}
+use Rattle.stl_syntax.specs.Cells.{IsChild}
 use Rattle.rational.specs.Places.{Upto}
 use Rattle.frac128.specs.Cuts.{place}
 use Rattle.early_verdict.specs.Spans.{IsOn, Lies}
@@ -16,17 +18,16 @@ use Rattle.early_verdict.specs.Steps.{Tells}
 use Rattle.early_verdict.specs.Fitting.{Lists, lists_at, lists_of, ArePartsTidy, AreSetsTidy, HasFailBounds}
 use Rattle.early_verdict.specs.Fitting.{IsTidy, SayOfParts, UntilFits, UntilHolding, UntilFailing}
 use Rattle.early_verdict.specs.Living.{IsLive, NetStands, ReachesAhead}
-use Rattle.early_verdict.specs.Letting.{AreAskedBy, ArePartsCut, ArePartsInside, IsChild, IsFailingCut, IsFailingInside}
+use Rattle.early_verdict.specs.Letting.{AreAskedBy, ArePartsCut, ArePartsInside, IsFailingCut, IsFailingInside}
 use Rattle.early_verdict.specs.Letting.{IsHoldingCut, IsHoldingInside, IsInside, IsLess, IsRunCutAt, ShowsFrom}
 use Rattle.early_verdict.specs.declared.stretch.Stretch.{Stretch}
 use Rattle.early_verdict.specs.declared.grown.Grown.{Grown}
 use Rattle.early_verdict.specs.declared.sets.Sets.{Sets}
 use Rattle.early_verdict.specs.declared.sets.Parts.{Parts}
-use Rattle.early_verdict.proofs.AllSets.{lists_are, sets_at}
-use Rattle.early_verdict.proofs.Childhood.{child_below}
+use Rattle.early_verdict.proofs.AllSets.{lists_are}
 use Rattle.early_verdict.proofs.Narrowing.{live_by, one_stands, shown_begun, shown_inside}
 use Rattle.rational.proofs.PlaceLemmas.{between}
-use Rattle.early_verdict.proofs.Places.{get_within, same_sets}
+use Rattle.rational.proofs.Lists.{slice_get_there}
 use Rattle.early_verdict.proofs.StretchLemmas.{rises}
 use Rattle.early_verdict.proofs.UntilCuts.{Agree, broken_in, each_in, failing_cut, holding_cut, never_in, some_in}
 
@@ -37,7 +38,7 @@ module _ {nodes : List Node} {tr : Trace} {live old new : List Sets} (i : ℕ) {
     (asked : AreAskedBy (Until p q a b) from old new) (st : NetStands nodes tr live old)
     {s : Sets} (is : slice_get live i ≡ Some s) where
   shown_here : (w : Sets) × (slice_get old i ≡ Some w)
-  shown_here = sets_at old i (let e = get_within live i s is in let c = st.have.count in let d = st.have.shown_count in omega (arith, e, c, d))
+  shown_here = slice_get_there old i (let e = slice_get_within live i s is in let c = st.have.count in let d = st.have.shown_count in omega (arith, e, c, d))
 
   left_here : (l : Sets) × (slice_get old p ≡ Some l) × IsLess l l'
   left_here = asked.less.each p l' at_left
@@ -79,13 +80,13 @@ module _ {nodes : List Node} (formed : AreWellFormed nodes) {tr : Trace} {live l
     (at_left : slice_get new p ≡ Some l') (is_wide : wide ≡ l'.no.bounds)
     (begins : (t : Rational) → Lies cut.was.no.bounds t → from ≤ʳ t) (asked : AreAskedBy (Until p q a b) from old new) (st : NetStands nodes tr live old) where
   small : i < length nodes
-  small = let e = get_within live i cut.was cut.at_old in let c = st.have.count in omega (arith, e, c)
+  small = let e = slice_get_within live i cut.was cut.at_old in let c = st.have.count in omega (arith, e, c)
 
   -- an operand shows from there on what it showed
-  agree_from : (r : ℕ) → IsChild r (Until p q a b) → Agree from (lists_at old r) (lists_at new r)
+  agree_from : (r : ℕ) → IsChild (Until p q a b) r → Agree from (lists_at old r) (lists_at new r)
   agree_from r c =
       let below = child_below i r (Until p q a b) (placed nodes i (Until p q a b) formed.post_order at) c in
-      let x = sets_at new r (let e = small in let d = st.have.shown_count in let f = asked.less.count in omega (arith, below, e, d, f)) in
+      let x = slice_get_there new r (let e = small in let d = st.have.shown_count in let f = asked.less.count in omega (arith, below, e, d, f)) in
       let w = asked.less.each r x.0 x.1 in
       by_sets w.0 x.0 w.1 x.1 w.2 (asked.cut tt r w.0 x.0 c w.1 x.1) (shown_inside st r w.0 w.1)
     where
@@ -108,7 +109,7 @@ module _ {nodes : List Node} (formed : AreWellFormed nodes) {tr : Trace} {live l
   shows = asked.cut tt p was_left.0 l' (inl refl) was_left.1 at_left
 
   own_shown : (w : Sets) × (slice_get old i ≡ Some w)
-  own_shown = sets_at old i (let e = small in let d = st.have.shown_count in omega (arith, e, d))
+  own_shown = slice_get_there old i (let e = small in let d = st.have.shown_count in omega (arith, e, d))
 
   was : IsLive (start tr) old (Until p q a b) cut.was own_shown.0
   was = st.have.has i (Until p q a b) cut.was own_shown.0 at cut.at_old own_shown.1
@@ -232,7 +233,7 @@ module _ {nodes : List Node} (formed : AreWellFormed nodes) {tr : Trace} {live l
 
   still_fails : (l : Sets) → slice_get new p ≡ Some l → HasFailBounds cut.is l
   still_fails l f =
-      subst (λ z. HasFailBounds cut.is z) (same_sets l' l (sym at_left ∙ f))
+      subst (λ z. HasFailBounds cut.is z) (same_Some l' l (sym at_left ∙ f))
       (by_parts (λ x. Unit {0}) (λ y. (y.failing.fail.bounds ≡ l'.no.bounds) × (y.failing.stop.bounds ≡ l'.no.bounds))
       (λ x y k m r e u. (m.fail.bounds_are ∙ is_wide, m.stop.bounds_are ∙ is_wide)) (Unit {0}) cut.was.parts cut.is.parts cut.cut.parts was.looks.1 fail_bounds
       (unit_of cut.was.parts))
@@ -244,7 +245,7 @@ module _ {nodes : List Node} (formed : AreWellFormed nodes) {tr : Trace} {live l
   mine : (w x : Sets) → slice_get old i ≡ Some w → slice_get new i ≡ Some x → IsLess w x → IsLive (start tr) new (Until p q a b) cut.is x
   mine w x e f less =
       live_by formed left i at cut.at_old cut.at_new cut.others cut.count asked.less asked.others st (Until p q a b)
-      cut.was cut.is own_shown.0 x cut.cut.yes cut.cut.no (subst (λ z. IsLess z x) (same_sets w own_shown.0 (sym e ∙ own_shown.1)) less) was
+      cut.was cut.is own_shown.0 x cut.cut.yes cut.cut.no (subst (λ z. IsLess z x) (same_Some w own_shown.0 (sym e ∙ own_shown.1)) less) was
       ((asked.looks (start tr) was.own cut.was.parts (shown_begun st) begun was.looks).0, reach_parts) (is_some, still_fails)
 
   fits : UntilFits false tr a b (lists_at new p) (lists_at new q) cut.is

@@ -1,28 +1,16 @@
 -- Which windows reach past a place.
-use Rattle.std.proofs.Common.{◌≡◌, ◌⊎◌, inl, inr, refl, sym, ◌∙◌, Bool, true, false, not, ◌||◌, ◌&&◌, ℤ, neg_ℤ, ◌+◌, ◌*◌}
-use Rattle.std.proofs.Common.{◌<◌, ◌≤◌, ◌^◌, Option, Some, None, arith, lit<, ap, subst, mul-pos, mul-lt-mul_of_pos_right}
+use Rattle.std.proofs.Common.{◌≡◌, ◌⊎◌, inl, inr, refl, sym, ◌∙◌, Bool, true, false, not, ◌||◌, ◌&&◌, ℤ, neg_ℤ}
+use Rattle.std.proofs.Common.{◌<◌, ◌≤◌, ◌^◌, Option, Some, None, arith, lit<, ap, subst}
 use Rattle.std.specs.Prelude.{MatchBool, IfSome, IsTrue, unsigned_abs, ◌↔◌, ◌<ℤ◌}
 use Rattle.std.proofs.lemmas.Int.{by_lt_z, ints, to_z-of_z, fits_signed_from_abs}
 use mir.Val.{hbits}
-use Rattle.std.proofs.Common.{to_z, of_z}
+use Rattle.std.proofs.Common.{to_z, of_z, ℕ, pos}
 use Rattle.std.specs.Prelude.{Result, Ok, Err, OnOk}
 use Rattle.std.specs.Int.{w64}
-use Rattle.rational.specs.Rational.{Rational, IsWithin, FitsFloor, ◌≤ʳ◌, ◌<ʳ◌, ◌≈◌, add, whole, part_above, part_below}
-use Rattle.rational.proofs.Order.{
-  lt_or_same_or_gt,
-  le_of_lt,
-  le_of_same,
-  ge_of_same,
-  lt_of_lt_of_le,
-  lt_of_le_of_lt,
-  same_trans,
-  same_sym,
-  same_refl,
-  le_refl,
-  not_lt_of_le,
-}
-use Rattle.rational.proofs.Shift.{lt_shift, same_shift, shift_back}
-use Rattle.rational.proofs.Mixed.{parts, fits_of_within, within_add, within_whole}
+use Rattle.rational.specs.Rational.{Rational, ◌≤ʳ◌, ◌<ʳ◌, ◌≈◌, add, whole}
+use Rattle.rational.proofs.Order.{lt_or_same_or_gt, le_of_lt, le_of_same, ge_of_same, same_trans, same_sym, same_refl, le_refl, not_lt_of_le}
+use Rattle.rational.proofs.Shift.{same_shift, shift_back, shift_forth, lt_ahead, lt_ahead_back, lt_behind_back}
+use Rattle.rational.proofs.Shift.{lt_behind, lt_shift_by}
 use Rattle.rational.specs.Places.{Place, After, Upto, Before, moved_begin, moved_end}
 use Rattle.frac128.specs.Cuts.{place}
 use Rattle.early_verdict.specs.Windows.{SeesPart, low_place, high_place}
@@ -31,32 +19,13 @@ use Rattle.early_verdict.specs.declared.window.Window.{Window}
 use Rattle.rational.proofs.PlaceLemmas.{share, before_through, between, place_order, upto_of_before, upto_same}
 use Rattle.early_verdict.proofs.StretchLemmas.{rises}
 
+-- a bound that is a number of ticks is near
+pub bound_near : (n : ℕ) (k : ℤ) → k ≡ pos n → n < 2 ^ 32 → unsigned_abs k ≤ 2 ^ 32
+bound_near n k e h = subst (λ j. unsigned_abs j ≤ 2 ^ 32) (sym e) (let m : n ≤ 2 ^ 32 = omega (arith, h) in m)
+
 -- a bound fits
 pub near_fits : (k : ℤ) → unsigned_abs k ≤ 2 ^ 32 → to_z w64 (of_z w64 k) ≡ k
 near_fits k h = to_z-of_z w64 k (fits_signed_from_abs w64 k (let b : 2 ^ 32 < 2 ^ hbits w64 = lit< tt in omega arith))
-
--- a near time moved by no more than a bound fits
-pub move_fits : (t : Rational) (k : ℤ) → IsWithin (2 ^ 34) t → unsigned_abs k ≤ 2 ^ 32 → FitsFloor w64 (add t (whole k))
-move_fits t k w h = fits_of_within w64 (2 ^ 34 + 2 ^ 32) (lit< tt) (within_add (2 ^ 34) (2 ^ 32) w (within_whole (2 ^ 32) k h))
-
--- moved back and forth a time is itself
-pub shift_forth : (t : Rational) (k : ℤ) → add (add t (whole (neg_ℤ k))) (whole k) ≈ t
-shift_forth t k = record { same = omega (arith, ap (λ n. n * (t.den * t.den)) step) }
-  where
-    step : part_above k + part_above (neg_ℤ k) ≡ part_below k + part_below (neg_ℤ k)
-    step = omega (arith, parts)
-
-lt_back : (c t : Rational) (k : ℤ) → add c (whole (neg_ℤ k)) <ʳ t → c <ʳ add t (whole k)
-lt_back c t k h = lt_of_le_of_lt (ge_of_same (shift_forth c k)) (lt_shift k h)
-
-lt_forth : (c t : Rational) (k : ℤ) → c <ʳ add t (whole k) → add c (whole (neg_ℤ k)) <ʳ t
-lt_forth c t k h = lt_of_lt_of_le (lt_shift (neg_ℤ k) h) (le_of_same (shift_back t k))
-
-gt_back : (c t : Rational) (k : ℤ) → t <ʳ add c (whole (neg_ℤ k)) → add t (whole k) <ʳ c
-gt_back c t k h = lt_of_lt_of_le (lt_shift k h) (le_of_same (shift_forth c k))
-
-gt_forth : (c t : Rational) (k : ℤ) → add t (whole k) <ʳ c → t <ʳ add c (whole (neg_ℤ k))
-gt_forth c t k h = lt_of_le_of_lt (ge_of_same (shift_back t k)) (lt_shift (neg_ℤ k) h)
 
 same_back : (c t : Rational) (k : ℤ) → add c (whole (neg_ℤ k)) ≈ t → c ≈ add t (whole k)
 same_back c t k h = same_trans (same_sym (shift_forth c k)) (same_shift k h)
@@ -70,20 +39,20 @@ ends_past k i c t = (there c.after i refl refl, back c.after i refl refl)
   where
     there : (a j : Bool) → c.after ≡ a → i ≡ j → MatchBool (a || not j) (add c.at (whole (neg_ℤ k)) <ʳ t) (add c.at (whole (neg_ℤ k)) ≤ʳ t)
         → (c.at <ʳ add t (whole k)) ⊎ ((c.at ≈ add t (whole k)) × (c.after ≡ false) × (i ≡ true))
-    there true j e f h = inl (lt_back c.at t k h)
-    there false false e f h = inl (lt_back c.at t k h)
+    there true j e f h = inl (lt_ahead c.at t k h)
+    there false false e f h = inl (lt_ahead c.at t k h)
     there false true e f h = elim (lt_or_same_or_gt (add c.at (whole (neg_ℤ k))) t) [
-      | inl l ↦ inl (lt_back c.at t k l)
+      | inl l ↦ inl (lt_ahead c.at t k l)
       | inr o ↦ elim o [ inl s ↦ inr (same_back c.at t k s, e, f) | inr l ↦ absurd (not_lt_of_le h l) ]
     ]
 
     back : (a j : Bool) → c.after ≡ a → i ≡ j → (c.at <ʳ add t (whole k)) ⊎ ((c.at ≈ add t (whole k)) × (c.after ≡ false) × (i ≡ true))
         → MatchBool (a || not j) (add c.at (whole (neg_ℤ k)) <ʳ t) (add c.at (whole (neg_ℤ k)) ≤ʳ t)
-    back true j e f (inl l) = lt_forth c.at t k l
+    back true j e f (inl l) = lt_ahead_back c.at t k l
     back true j e f (inr (s, x, y)) = absurd (let z : true ≡ false = sym e ∙ x in cc)
-    back false false e f (inl l) = lt_forth c.at t k l
+    back false false e f (inl l) = lt_ahead_back c.at t k l
     back false false e f (inr (s, x, y)) = absurd (let z : true ≡ false = sym y ∙ f in cc)
-    back false true e f (inl l) = le_of_lt (lt_forth c.at t k l)
+    back false true e f (inl l) = le_of_lt (lt_ahead_back c.at t k l)
     back false true e f (inr (s, x, y)) = le_of_same (same_forth c.at t k s)
 
 -- and begins before a place up to a time
@@ -92,35 +61,29 @@ begins_before k i c t = (there c.after i refl refl, back c.after i refl refl)
   where
     there : (a j : Bool) → c.after ≡ a → i ≡ j → MatchBool (a && j) (t ≤ʳ add c.at (whole (neg_ℤ k))) (t <ʳ add c.at (whole (neg_ℤ k)))
         → (add t (whole k) <ʳ c.at) ⊎ ((add t (whole k) ≈ c.at) × (not i ≡ false) × (c.after ≡ true))
-    there false j e f h = inl (gt_back c.at t k h)
-    there true false e f h = inl (gt_back c.at t k h)
+    there false j e f h = inl (lt_behind_back t c.at k h)
+    there true false e f h = inl (lt_behind_back t c.at k h)
     there true true e f h = elim (lt_or_same_or_gt (add c.at (whole (neg_ℤ k))) t) [
       | inl l ↦ absurd (not_lt_of_le h l)
-      | inr o ↦ elim o [ inl s ↦ inr (same_sym (same_back c.at t k s), ap not f, e) | inr l ↦ inl (gt_back c.at t k l) ]
+      | inr o ↦ elim o [ inl s ↦ inr (same_sym (same_back c.at t k s), ap not f, e) | inr l ↦ inl (lt_behind_back t c.at k l) ]
     ]
 
     back : (a j : Bool) → c.after ≡ a → i ≡ j → (add t (whole k) <ʳ c.at) ⊎ ((add t (whole k) ≈ c.at) × (not i ≡ false) × (c.after ≡ true))
         → MatchBool (a && j) (t ≤ʳ add c.at (whole (neg_ℤ k))) (t <ʳ add c.at (whole (neg_ℤ k)))
-    back false j e f (inl l) = gt_forth c.at t k l
+    back false j e f (inl l) = lt_behind t c.at k l
     back false j e f (inr (s, x, y)) = absurd (let z : true ≡ false = sym y ∙ e in cc)
-    back true false e f (inl l) = gt_forth c.at t k l
+    back true false e f (inl l) = lt_behind t c.at k l
     back true false e f (inr (s, x, y)) = absurd (let z : true ≡ false = sym (ap not f) ∙ x in cc)
-    back true true e f (inl l) = le_of_lt (gt_forth c.at t k l)
+    back true true e f (inl l) = le_of_lt (lt_behind t c.at k l)
     back true true e f (inr (s, x, y)) = ge_of_same (same_forth c.at t k (same_sym s))
 
 -- a bound that lies before another, or at it with both ends in, leaves room between
-pub room_between : (j k : ℤ) (t : Rational) → j <ℤ k → add t (whole j) <ʳ add t (whole k)
-room_between j k t h = record { lt = omega (arith, mul-lt-mul_of_pos_right step (mul-pos t.positive t.positive)) }
-  where
-    step : part_above j + part_below k < part_above k + part_below j
-    step = omega (arith, parts)
-
 int_order : (j k : ℤ) → (j <ℤ k) ⊎ (j ≡ k) ⊎ (k <ℤ j)
 int_order j k = by_lt_z j k inl (λ h. inr (by_lt_z k j inr (λ l. inl (omega (arith, ints)))))
 
 -- a window has a time exactly where its bounds leave room
 pub room_in : (j k : ℤ) (i h : Bool) (t : Rational) → (j <ℤ k) ⊎ ((j ≡ k) × IsTrue i × IsTrue h) → Before (low_place j i t) (high_place k h t)
-room_in j k i h t (inl l) = inl (room_between j k t l)
+room_in j k i h t (inl l) = inl (lt_shift_by t j k l)
 room_in j k i h t (inr (e, x, y)) = inr (subst (λ n. add t (whole j) ≈ add t (whole n)) e (same_refl (add t (whole j))), ap not x, y)
 
 -- a window with a time has its ends in order
@@ -134,8 +97,8 @@ room_out j k i h t b = elim (int_order j k) [
 ]
   where
     turned : k <ℤ j → Before (low_place j i t) (high_place k h t) → ⊥
-    turned l (inl x) = not_lt_of_le (le_of_lt (room_between k j t l)) x
-    turned l (inr (s, x, y)) = not_lt_of_le (le_of_same s) (room_between k j t l)
+    turned l (inl x) = not_lt_of_le (le_of_lt (lt_shift_by t k j l)) x
+    turned l (inr (s, x, y)) = not_lt_of_le (le_of_same s) (lt_shift_by t k j l)
 
     is_in : (i : Bool) → not i ≡ false → i ≡ true
     is_in true x = refl

@@ -4,13 +4,12 @@ use Rattle.std.specs.Prelude.{◌↔◌, IfSome}
 use lib.IntN.{neg_ℤ}
 use Rattle.rational.specs.Time.{Rational, ◌≤ʳ◌, ◌<ʳ◌, later, add, whole, Precedes}
 use Rattle.rational.proofs.Order.{le_trans, le_of_same, ge_of_same, lt_of_lt_of_le, lt_of_le_of_lt}
-use Rattle.rational.proofs.Shift.{le_shift, lt_shift, le_shift_cancel, lt_shift_cancel}
+use Rattle.rational.proofs.Shift.{le_shift, lt_shift, le_shift_cancel, lt_shift_cancel, shift_forth}
 use Rattle.rational.proofs.TimeLemmas.{later-add}
 use Rattle.rational.specs.Places.{After, Upto}
 use Rattle.early_verdict.specs.Windows.{low_place, high_place}
 use Rattle.early_verdict.specs.Looking.{IsAhead, IsBehind}
 use Rattle.early_verdict.specs.declared.window.Window.{Window}
-use Rattle.early_verdict.proofs.WindowLemmas.{shift_forth}
 
 -- a bound that lies ahead
 low_ahead : (a : ℕ) (i : Bool) (t u : Rational) → After (low_place (pos a) i t) u ↔ Precedes i (later t a) u

@@ -2,7 +2,8 @@
 use Rattle.std.specs.Prelude.{◌≡◌, ◌≢◌, ◌⊎◌, ℕ, Bool, false, IsTrue, IsFalse, MatchBool, Option, Some, None, MatchOption, List, [], ◌∷◌, length, slice_get}
 use Rattle.rational.specs.Time.{Rational, later, ◌≤ʳ◌, ◌<ʳ◌}
 use Rattle.stl_syntax.specs.declared.node.Node.{Node}
-use Rattle.stl_syntax.specs.declared.node.Node.TheVariants.{Const, Atom as Leaf, Not, And, Or, Implies, Until, Eventually, Always, Since, Once, Historically}
+use Rattle.stl_syntax.specs.declared.node.Node.TheVariants.{Until, Since}
+use Rattle.stl_syntax.specs.Cells.{IsChild}
 use Rattle.rational.specs.Places.{Place, After, AtMost, Before, Upto}
 use Rattle.frac128.specs.Cuts.{place}
 use Rattle.early_verdict.specs.Spans.{IsAmong, IsOn, Lies}
@@ -225,21 +226,6 @@ pub record AreLess (old new : List Sets) : Type 0 where
   pub count : length new ≡ length old
   pub each : (p : ℕ) (x : Sets) → slice_get new p ≡ Some x → (w : Sets) × (slice_get old p ≡ Some w) × IsLess w x
 
--- the node at the place is a child of the node
-abbrev pub IsChild : ℕ → Node → Type 0
-IsChild p (Const b) = ⊥
-IsChild p (Leaf a) = ⊥
-IsChild p (Not q) = q ≡ p
-IsChild p (And q r) = (q ≡ p) ⊎ (r ≡ p)
-IsChild p (Or q r) = (q ≡ p) ⊎ (r ≡ p)
-IsChild p (Implies q r) = (q ≡ p) ⊎ (r ≡ p)
-IsChild p (Until q r a b) = (q ≡ p) ⊎ (r ≡ p)
-IsChild p (Eventually q a b a_in b_in) = q ≡ p
-IsChild p (Always q a b a_in b_in) = q ≡ p
-IsChild p (Since q r a b) = (q ≡ p) ⊎ (r ≡ p)
-IsChild p (Once q a b a_in b_in) = q ≡ p
-IsChild p (Historically q a b a_in b_in) = q ≡ p
-
 abbrev pub IsUntil : Node → Type 0
 IsUntil (Until p q a b) = Unit {0}
 IsUntil n = ⊥
@@ -258,8 +244,8 @@ pub record ShowsFrom (from : Rational) (old new : Sets) : Type 0 where
 -- the children of a node that goes on from that time on show no more than what it looks at from there
 pub record AreAskedBy (n : Node) (from : Rational) (old new : List Sets) : Type 0 where
   pub less : AreLess old new
-  pub others : (p : ℕ) → ¬ (IsChild p n) → slice_get new p ≡ slice_get old p
+  pub others : (p : ℕ) → ¬ (IsChild n p) → slice_get new p ≡ slice_get old p
   pub run : IsRun n → new ≡ old
   pub looks : (start : Rational) (own : Stretch) (parts : Option Parts) → ((p : ℕ) (u : Rational) → IsShown old p u → start ≤ʳ u)
       → ((t : Rational) → Lies own t → from ≤ʳ t) → LooksAt n start old own parts → LooksAt n start new own parts
-  pub cut : IsUntil n → (p : ℕ) (w x : Sets) → IsChild p n → slice_get old p ≡ Some w → slice_get new p ≡ Some x → ShowsFrom from w x
+  pub cut : IsUntil n → (p : ℕ) (w x : Sets) → IsChild n p → slice_get old p ≡ Some w → slice_get new p ≡ Some x → ShowsFrom from w x

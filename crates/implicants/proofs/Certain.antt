@@ -12,6 +12,7 @@ use Rattle.rational.proofs.AffineLemmas.{bounded_same, same_symᵉ, same_trans�
 use Rattle.rational.proofs.LevelLemmas.{level_is}
 use Rattle.rational.specs.Affine.{IsBounded}
 use Rattle.rational.proofs.Mixed.{within_between, tick_within, within_whole}
+use Rattle.rational.proofs.Lists.{slice_get-append_left, slice_get-append_right}
 use Rattle.frac128.specs.Spans.{interval}
 use Rattle.frac128.specs.Value.{value}
 use Rattle.frac128.specs.declared.frac.Frac.{Frac}
@@ -42,18 +43,6 @@ use Rattle.implicants.specs.Runs.{IsRun, begins, AreAllCells}
 use Rattle.implicants.specs.Certainty.{stays, known_at, EndsAt, IsAtomCertainty}
 use Rattle.implicants.proofs.Strips.{IsCellOn, point_at, gap_at, length_here, to_last, one_cell}
 use Rattle.implicants.proofs.Covering.{IsOver, to_remaining, from_remaining, from_at, to_covered, of_covered}
-
--- places in joined lists
-get_right : (xs ys : List Item) (k : ℕ) → slice_get (xs ++ ys) (length xs + k) ≡ slice_get ys k
-get_right [] ys k = ap (slice_get ys) (let e : 0 + k ≡ k = omega arith in e)
-get_right (x ∷ xs) ys k = subst (λ n. slice_get (x ∷ xs ++ ys) n ≡ slice_get ys k)
-    (let e : suc (length xs + k) ≡ suc (length xs) + k = omega arith in e) (get_right xs ys k)
-
-get_left : (xs ys : List Item) (k : ℕ) (e : Item) → slice_get xs k ≡ Some e → slice_get (xs ++ ys) k ≡ Some e
-get_left [] ys zero e h = absurd cc
-get_left [] ys (suc k) e h = absurd cc
-get_left (x ∷ xs) ys zero e h = h
-get_left (x ∷ xs) ys (suc k) e h = get_left xs ys k e h
 
 get_cases : (xs ys : List Item) (c : ℕ) (e : Item) → slice_get (xs ++ ys) c ≡ Some e
     → (slice_get xs c ≡ Some e) ⊎ ((k : ℕ) × (c ≡ length xs + k) × (slice_get ys k ≡ Some e))
@@ -161,7 +150,7 @@ module _ (nodes : List Node) (tr : Trace) (items : List Item) (left : ℕ) (mark
   pub run_item : (run : IsRun nodes tr items i from to) (c : ℕ) (e : Item) → slice_get run.here c ≡ Some e → slice_get items (from + c) ≡ Some e
   run_item run c e s = subst (λ xs. slice_get xs (from + c) ≡ Some e) (sym run.all)
       (subst (λ n. slice_get (run.front ++ (run.here ++ run.back)) (n + c) ≡ Some e) run.begin
-      (get_right run.front (run.here ++ run.back) c ∙ get_left run.here run.back c e s))
+      (slice_get-append_right run.front (run.here ++ run.back) c ∙ slice_get-append_left run.here run.back c e s))
 
   -- an item of the node at place i stands in its run
   pub in_run : (run : IsRun nodes tr items i from to) (c : ℕ) (e : Item) (t : Rational) → slice_get items c ≡ Some e → IsOver i t e

@@ -14,7 +14,8 @@ rising_after : (x : Rational) (xs : List Rational) (t : Rational) → AreRisingT
 rising_after x [] t r m = absurd m
 rising_after x (y ∷ xs) t r m = lt_of_lt_of_le r.0 (rising_first y xs t r.1 m)
 
-rising_rest : (x : Rational) (xs : List Rational) → AreRisingTimes (x ∷ xs) → AreRisingTimes xs
+-- the times after the first of rising ones rise
+pub rising_rest : (x : Rational) (xs : List Rational) → AreRisingTimes (x ∷ xs) → AreRisingTimes xs
 rising_rest x [] r = tt
 rising_rest x (y ∷ xs) r = r.1
 

@@ -14,35 +14,14 @@ use Rattle.pl_signal.specs.Moves.{Tells}
 use Rattle.pl_signal.proofs.Values.{stop_at}
 use Rattle.value_laws.specs.declared.truth.Truth.{Truth}
 use Rattle.stl_syntax.specs.Trace.{Trace, start, stop}
-use Rattle.stl_syntax.specs.Formula.{subformula, HasChildrenBelow}
+use Rattle.stl_syntax.specs.Formula.{subformula}
 use Rattle.stl_syntax.specs.PostOrder.{IsPostOrder}
 use Rattle.stl_syntax.specs.SupInf.{SupInf, HasValues, truth_setting}
 use Rattle.stl_syntax.specs.Cells.{IsCut, IsChild, IsNear, AreCuts, AreAllCut, AreRisingTimes, IsAmong, root_start, first, last, change, moved}
 use Rattle.stl_syntax.specs.declared.node.Node.{Node}
-use Rattle.stl_syntax.specs.declared.node.Node.TheVariants.{Const, Atom as Leaf, Not, And, Or, Implies, Until, Eventually, Always, Since, Once, Historically}
-use Rattle.stl_syntax.proofs.PostOrderLemmas.{placed}
+use Rattle.stl_syntax.proofs.PostOrderLemmas.{placed, child_below}
 use Rattle.implicants.specs.Cuts.{times_of, Adds, IsHandedDown}
 use Rattle.implicants.proofs.Changes.{knot_is_change, change_is_knot}
-
--- a child stands before its parent
-pub child_before : (j i : ℕ) (n : Node) → HasChildrenBelow j n → IsChild n i → i < j
-child_before j i (Const b) h c = absurd c
-child_before j i (Leaf a) h c = absurd c
-child_before j i (Not p) h c = subst (λ k. k < j) c h
-child_before j i (And p q) h (inl c) = subst (λ k. k < j) c h.0
-child_before j i (And p q) h (inr c) = subst (λ k. k < j) c h.1
-child_before j i (Or p q) h (inl c) = subst (λ k. k < j) c h.0
-child_before j i (Or p q) h (inr c) = subst (λ k. k < j) c h.1
-child_before j i (Implies p q) h (inl c) = subst (λ k. k < j) c h.0
-child_before j i (Implies p q) h (inr c) = subst (λ k. k < j) c h.1
-child_before j i (Until p q a b) h (inl c) = subst (λ k. k < j) c h.0
-child_before j i (Until p q a b) h (inr c) = subst (λ k. k < j) c h.1
-child_before j i (Eventually p a b x y) h c = subst (λ k. k < j) c h
-child_before j i (Always p a b x y) h c = subst (λ k. k < j) c h
-child_before j i (Since p q a b) h (inl c) = subst (λ k. k < j) c h.0
-child_before j i (Since p q a b) h (inr c) = subst (λ k. k < j) c h.1
-child_before j i (Once p a b x y) h c = subst (λ k. k < j) c h
-child_before j i (Historically p a b x y) h c = subst (λ k. k < j) c h
 
 -- each of the listed times is, by another pair at most, a cut time of the node
 pub among_cut : (nodes : List Node) (tr : Trace) (i : ℕ) (times : List Rational) (t : Rational) → AreAllCut nodes tr i times → IsAmong times t
@@ -124,7 +103,7 @@ module _ (nodes : List Node) (tr : Trace) (i : ℕ) (x : List (Knot Truth)) (bel
   }
     where
       parent : (j : ℕ) (n : Node) → slice_get nodes j ≡ Some n → IsChild n i → AreCuts nodes tr j (cuts j)
-      parent j n at child = above j (child_before j i n (placed nodes j n post at) child) (slice_get_within nodes j n at)
+      parent j n at child = above j (child_below j i n (placed nodes j n post at) child) (slice_get_within nodes j n at)
 
       by_source : (t : Rational) → IsAmong (times_of (map (λ k. k.time) x)) t ⊎ IsHandedDown nodes (start tr) (stop tr) cuts i t → IsCut nodes tr i t
       by_source t (inl m) = let k = among_knots x t m in cut_same nodes tr i t (time k.1) k.3 (knot_is_cut k.0 k.1 k.2)
@@ -171,7 +150,7 @@ root_cuts nodes tr i t post root e = record { rising = tt; sound = (root_start r
     complete u (last n f) = absurd (omega (arith, n, root))
     complete u (change n f) = absurd (omega (arith, n, root))
     complete u (moved {j} n k at child shift cut f w) =
-        let less = child_before j i n (placed nodes j n post at) child in
+        let less = child_below j i n (placed nodes j n post at) child in
         let within = slice_get_within nodes j n at in
         absurd (omega (arith, less, within, root))
 

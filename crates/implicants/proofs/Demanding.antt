@@ -3,10 +3,10 @@ use Rattle.std.proofs.Common.{◌≡◌, ℕ, pos, negsuc, ◌<◌, ◌-◌, ◌
 use Rattle.std.proofs.Common.{[], ◌∷◌, length, Some, refl, sym, subst, ◌∙◌, arith, lit≤}
 use Rattle.std.specs.Prelude.{slice_get, Option, None, IfSome, MatchBool, not, nat_eq}
 use Rattle.std.proofs.lemmas.Bool.Decides.{nat_tests}
-use Rattle.std.proofs.lemmas.Option.{slice_get_within}
+use Rattle.std.proofs.lemmas.Option.{slice_get_within, same_Some}
 use Rattle.rational.specs.Time.{Rational, Within, Precedes, later, whole, ◌≤ʳ◌, ◌<ʳ◌, ◌≈◌}
 use Rattle.rational.specs.Rational.{IsWithin}
-use Rattle.rational.specs.Extended.{Extended, IsLeast, finite, value_at, opposite, ◌<ᵉ◌, ◌≤ᵉ◌, Passes}
+use Rattle.rational.specs.Extended.{Extended, finite, value_at, opposite, ◌<ᵉ◌, ◌≤ᵉ◌, Passes}
 use Rattle.rational.specs.Affine.{IsBounded}
 use Rattle.rational.specs.Windows.{Ahead, Behind}
 use Rattle.rational.proofs.Order.{le_trans, le_refl, le_of_same, ge_of_same, same_refl, same_trans}
@@ -24,7 +24,7 @@ use Rattle.pl_signal.specs.Knots.{start, stop, IsSignal, IsWorth}
 use Rattle.pl_signal.specs.Building.{GoesOn}
 use Rattle.pl_signal.specs.Moves.{Tells}
 use Rattle.pl_signal.proofs.Limits.{limited}
-use Rattle.pl_signal.proofs.Values.{to_stop, some_is, every_time, worth_within}
+use Rattle.pl_signal.proofs.Values.{to_stop, every_time, worth_within}
 use Rattle.signal_ops.specs.Pointwise.{LeastOf, Negated}
 use Rattle.window_ops.specs.Windows.{SupAhead, SupBehind}
 use Rattle.stl_syntax.specs.Trace.{Trace}
@@ -42,6 +42,7 @@ use Rattle.implicants.specs.Keeping.{CoverMore}
 use Rattle.implicants.specs.Demands.{Certain, IsOn, IsOff, IsFull, IsVoid, StaysFit, AreOn, IsBeside, IsMet, IsMetBehind, AreCertainties, HandsDown}
 use Rattle.implicants.specs.declared.demand.Demand.{Demand}
 use Rattle.implicants.proofs.Growing.{must, must_not}
+use Rattle.implicants.proofs.Helping.{high_least}
 
 -- a three-valued signal is worth 1, -1 or 0
 level_bounded : (o : Option Bool) → IsWithin (2 ^ 31) (whole (kleene_value o))
@@ -102,10 +103,6 @@ stays_fit F x y fit tells = record {
   along = record { begins = tells.begins; ends = tells.ends };
 }
 
--- what is no less than 1 is so with the other
-least_one : (v w r : Extended) → IsLeast v w r → one ≤ᵉ v → one ≤ᵉ w → one ≤ᵉ r
-least_one v w r is a b = elim is.one_of [ inl h ↦ le_transᵉ one v r a h | inr h ↦ le_transᵉ one w r b h ]
-
 -- the least of two is more than -1 only where both are, and 1 where both are
 pub least_on : (x y r : List (Knot Kleene)) → IsSignal kleene_shape x
     → Tells kleene_shape (LeastOf (IsWorth kleene_shape x) (IsWorth kleene_shape y)) (start x) (stop x) r → AreOn kleene_shape x y r
@@ -115,7 +112,7 @@ least_on x y r signal tells = record {
       record {
         v = least.0;
         worth = (tells.worth t least.0).1 (worth_within kleene_shape x t a.v signal a.worth, (a.v, b.v, a.worth, b.worth, least.1));
-        full = least_one a.v b.v least.0 least.1 a.full b.full;
+        full = high_least a.v b.v least.0 a.full b.full least.1;
       };
   left = λ t h. (let k = ((tells.worth t h.v).0 h.worth).1 in record { v = k.0; worth = k.2; more = lt_of_lt_of_leᵉ minus_one h.v k.0 h.more k.4.left });
   right = λ t h. (let k = ((tells.worth t h.v).0 h.worth).1 in record { v = k.1; worth = k.3; more = lt_of_lt_of_leᵉ minus_one h.v k.1 h.more k.4.right });
@@ -191,7 +188,7 @@ module _ (nodes : List Node) (tr : Trace) (items : List Item) (signals : List (L
       → Tells kleene_shape (SupInf (subformula nodes k) (certainty_setting tr items)) (trace.start tr) (trace.stop tr) x
   told_at k x inside at =
       let node = sure.told k inside in
-      subst (Tells kleene_shape (SupInf (subformula nodes k) (certainty_setting tr items)) (trace.start tr) (trace.stop tr)) (some_is (sym node.1 ∙ at)) node.2
+      subst (Tells kleene_shape (SupInf (subformula nodes k) (certainty_setting tr items)) (trace.start tr) (trace.stop tr)) (same_Some _ _ (sym node.1 ∙ at)) node.2
 
   -- where a node's signal is on, the items leave it not certainly false; nor do fewer
   pub on_not_false : (k : ℕ) (x : List (Knot Kleene)) (t : Rational) → k < length nodes → slice_get signals k ≡ Some x → IsOn kleene_shape x t

@@ -12,13 +12,13 @@ use Rattle.pl_signal.specs.declared.knot.Knot.{Knot}
 use Rattle.pl_signal.specs.Knots.{start, stop}
 use Rattle.stl_syntax.specs.Trace.{Trace, first_time, last_time}
 use Rattle.stl_syntax.specs.Trace as trace
-use Rattle.stl_syntax.specs.Formula.{Subformula, root, subformula, tree_of, HasChildrenBelow}
+use Rattle.stl_syntax.specs.Formula.{Subformula, root, subformula, tree_of}
 use Rattle.stl_syntax.specs.Kleene.{MustNot}
 use Rattle.stl_syntax.proofs.LawProofs.{certainty_is_of_times}
 use Rattle.stl_syntax.specs.Cells.{IsChild}
 use Rattle.stl_syntax.specs.declared.items.Item.{Item}
 use Rattle.stl_syntax.specs.declared.node.Node.{Node}
-use Rattle.stl_syntax.specs.declared.node.Node.TheVariants.{Const, Atom as Leaf, Not, And, Or, Implies, Until, Eventually, Always, Since, Once, Historically}
+use Rattle.stl_syntax.specs.declared.node.Node.TheVariants.{Not, And, Or, Implies, Eventually, Always, Once, Historically}
 use Rattle.offline_eval.specs.Making.{IsFit}
 use Rattle.implicants.specs.Demands.{Certain, IsOn, IsOff, IsFull, IsVoid, IsDemand, IsAlong, StaysFit}
 use Rattle.implicants.specs.Demands.{AreOn, IsBeside, IsMet, IsMetBehind, AreCertainties, HandsDown}
@@ -174,38 +174,8 @@ module _ (holds : Bool) (x : List (Knot Kleene)) (signals : List (List (Knot Kle
       (λ at j some tr t u w h. historically_true p i a b a_in b_in (subst (λ m. IsChild m i) e child) at j some tr t u w
       (certain_as true is (tree_of at j (Historically p a b a_in b_in)) some tr u h)))
 
--- the operands of a node stand before it
-pub child_inside : (j i : ℕ) (n : Node) → HasChildrenBelow j n → IsChild n i → i < j
-child_inside j i (Const b) below child = absurd child
-child_inside j i (Leaf a) below child = absurd child
-child_inside j i (Not p) below child = subst (λ k. k < j) child below
-child_inside j i (And p q) below child = elim child [ inl e ↦ subst (λ k. k < j) e below.0 | inr e ↦ subst (λ k. k < j) e below.1 ]
-child_inside j i (Or p q) below child = elim child [ inl e ↦ subst (λ k. k < j) e below.0 | inr e ↦ subst (λ k. k < j) e below.1 ]
-child_inside j i (Implies p q) below child = elim child [ inl e ↦ subst (λ k. k < j) e below.0 | inr e ↦ subst (λ k. k < j) e below.1 ]
-child_inside j i (Until p q a b) below child = elim child [ inl e ↦ subst (λ k. k < j) e below.0 | inr e ↦ subst (λ k. k < j) e below.1 ]
-child_inside j i (Eventually p a b c d) below child = subst (λ k. k < j) child below
-child_inside j i (Always p a b c d) below child = subst (λ k. k < j) child below
-child_inside j i (Since p q a b) below child = elim child [ inl e ↦ subst (λ k. k < j) e below.0 | inr e ↦ subst (λ k. k < j) e below.1 ]
-child_inside j i (Once p a b c d) below child = subst (λ k. k < j) child below
-child_inside j i (Historically p a b c d) below child = subst (λ k. k < j) child below
-
 lt_more : (p j m : ℕ) → j ≤ m → p < j → p < m
 lt_more p j m h k = omega (arith, h, k)
-
--- and so before each place behind it
-pub children_within : (j m : ℕ) (n : Node) → j ≤ m → HasChildrenBelow j n → HasChildrenBelow m n
-children_within j m (Const b) h below = tt
-children_within j m (Leaf a) h below = tt
-children_within j m (Not p) h below = lt_more p j m h below
-children_within j m (And p q) h below = (lt_more p j m h below.0, lt_more q j m h below.1)
-children_within j m (Or p q) h below = (lt_more p j m h below.0, lt_more q j m h below.1)
-children_within j m (Implies p q) h below = (lt_more p j m h below.0, lt_more q j m h below.1)
-children_within j m (Until p q a b) h below = (lt_more p j m h below.0, lt_more q j m h below.1)
-children_within j m (Eventually p a b c d) h below = lt_more p j m h below
-children_within j m (Always p a b c d) h below = lt_more p j m h below
-children_within j m (Since p q a b) h below = (lt_more p j m h below.0, lt_more q j m h below.1)
-children_within j m (Once p a b c d) h below = lt_more p j m h below
-children_within j m (Historically p a b c d) h below = lt_more p j m h below
 
 module _ (nodes : List Node) (tr : Trace) (items : List Item) where
   -- the root is demanded to be certainly false at the start

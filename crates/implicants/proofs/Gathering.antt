@@ -15,11 +15,7 @@ use Rattle.stl_syntax.specs.declared.node.Node.{Node}
 use Rattle.stl_syntax.specs.declared.node.Node.TheVariants.{Const, Atom as Leaf, Not, And, Or, Implies, Until, Eventually, Always, Since, Once, Historically}
 use Rattle.offline_eval.specs.Inputs.{is_atom}
 use Rattle.implicants.specs.Runs.{IsRun, begins, AreAllCells, AreCellsBelow, AddsNode}
-
-covered_join : (xs ys : List Item) (i : ℕ) (t : Rational) → IsCovered (xs ++ ys) i t → IsCovered xs i t ⊎ IsCovered ys i t
-covered_join [] ys i t h = inr h
-covered_join (x ∷ xs) ys i t (inl h) = inl (inl h)
-covered_join (x ∷ xs) ys i t (inr h) = elim (covered_join xs ys i t h) [ inl k ↦ inl (inr k) | inr k ↦ inr k ]
+use Rattle.implicants.proofs.Growing.{covered_in}
 
 module _ (nodes : List Node) (tr : Trace) where
   -- the items of a node cover no other
@@ -35,7 +31,7 @@ module _ (nodes : List Node) (tr : Trace) where
 
   new_node : (j : ℕ) (n : Node) (new : List Item) (i : ℕ) (t : Rational) → AllCells nodes tr j (n ∷ []) new → IsCovered new i t → i ≡ j
   new_node j (Leaf a) new i t (times, here, later, cuts, on, e, rest) c =
-      by_part (covered_join here later i t (subst (λ xs. IsCovered xs i t) e c))
+      by_part (covered_in here later i t (subst (λ xs. IsCovered xs i t) e c))
     where
       by_part : IsCovered here i t ⊎ IsCovered later i t → i ≡ j
       by_part (inl h) = items_node j i (cells times) here t on h
@@ -94,7 +90,7 @@ module _ (nodes : List Node) (tr : Trace) where
     count = let e = length-append ends (length (items ++ new) ∷ []) in let f = before.count in omega (arith, e, f);
     last = subst (λ m. begins grown m ≡ length (items ++ new)) (let e : suc here ≡ here + 1 = omega arith in e) last_is;
     runs = λ i a l is. run_at i a is (earlier_or_here i l);
-    below = λ i t c. by_part i t (covered_join items new i t c);
+    below = λ i t c. by_part i t (covered_in items new i t c);
   }
     where
       grown : List ℕ
@@ -157,7 +153,7 @@ module _ (nodes : List Node) (tr : Trace) where
             begin = r.begin;
             end = r.end;
             none_before = r.none_before;
-            none_behind = λ t c. behind t (covered_join r.back new i t c);
+            none_behind = λ t c. behind t (covered_in r.back new i t c);
           }))
         where
           behind : (t : Rational) → IsCovered (before.runs i a l is).back i t ⊎ IsCovered new i t → ⊥

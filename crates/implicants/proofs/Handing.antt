@@ -18,12 +18,11 @@ use Rattle.stl_syntax.specs.PostOrder.{IsPostOrder}
 use Rattle.stl_syntax.specs.Cells.{AreCuts, AreAllCut, IsChild, shifts}
 use Rattle.stl_syntax.specs.Kept.{CellCount, none, more, IsTooMany, most_cells}
 use Rattle.stl_syntax.specs.declared.node.Node.{Node}
-use Rattle.stl_syntax.proofs.PostOrderLemmas.{placed}
+use Rattle.stl_syntax.proofs.PostOrderLemmas.{placed, child_below}
+use Rattle.stl_syntax.proofs.RowsLemmas.{first_to_last}
 use Rattle.implicants.specs.Cuts.{times_of, cuts_at, list_times, Adds, AreNear, IsNearTime, IsNearList, AreCutsFrom, IsHandedDown, IsMovedBy}
 use Rattle.implicants.specs.Explaining.{AreFewCells}
 use Rattle.implicants.proofs.Moving.{adds_none, adds_same, adds_then}
-use Rattle.implicants.proofs.Cutting.{child_before}
-use Rattle.implicants.proofs.Ends.{first_to_last}
 use Rattle.implicants.proofs.Certain.{cut_within, start_cut}
 
 module _ (nodes : List Node) (from to : Rational) (cuts : ℕ → List Rational) (i : ℕ) where
@@ -36,7 +35,7 @@ module _ (nodes : List Node) (from to : Rational) (cuts : ℕ → List Rational)
   handed_none old post = adds_none (λ t h. by_parent h.0.j h.0.n h.0.at h.0.child h.1)
     where
       by_parent : (j : ℕ) (n : Node) → slice_get nodes j ≡ Some n → IsChild n i → j < i + 1 → ⊥
-      by_parent j n at child early = let late = child_before j i n (placed nodes j n post at) child in omega (arith, early, late)
+      by_parent j n at child early = let late = child_below j i n (placed nodes j n post at) child in omega (arith, early, late)
 
   at_or_before : (j here : ℕ) → j < here + 1 → (j < here) ⊎ (j ≡ here)
   at_or_before j here l = grind arith

@@ -6,7 +6,7 @@ use Rattle.rational.specs.Time.{Rational, Within, later, ◌≤ʳ◌, ◌<ʳ◌,
 use Rattle.rational.specs.Extended.{Extended, ◌<ᵉ◌}
 use Rattle.rational.specs.Windows.{Ahead, Behind, IsInfOver, IsUpTo, IsDownTo, SinceFromStart, UntilToEnd}
 use Rattle.rational.proofs.Order.{le_trans, le_refl, le_of_same, ge_of_same, le_of_lt, le_or_lt}
-use Rattle.rational.proofs.TimeLemmas.{later_le, later_from}
+use Rattle.rational.proofs.TimeLemmas.{later_le, later_from, later_zero, later_le_back}
 use Rattle.rational.proofs.ExtendedLemmas.{le_reflᵉ, lt_of_lt_of_leᵉ}
 use Rattle.value_laws.specs.Kinds.{kleene_shape}
 use Rattle.value_laws.specs.declared.kleene.Kleene.{Kleene}
@@ -114,14 +114,8 @@ earlier_le t u k h = record { le = (let l = h.le in omega (arith, l)) }
 earlier_to : (t : Rational) (k : ℕ) → earlier t k ≤ʳ t
 earlier_to t k = record { le = omega arith }
 
-later_zero : (t : Rational) → later t 0 ≤ʳ t
-later_zero t = record { le = omega arith }
-
 later_zero' : (t : Rational) → t ≤ʳ later t 0
 later_zero' t = record { le = omega arith }
-
-later_back : (t u : Rational) (k : ℕ) → later t k ≤ʳ later u k → t ≤ʳ u
-later_back t u k h = record { le = (let l = h.le in omega (arith, l)) }
 
 -- a window behind is one over the same domain
 behind_same : (from to from' to' : Rational) (a : ℕ) (b : Option ℕ) (t u : Rational) → from ≈ from' → to ≈ to'
@@ -308,4 +302,4 @@ module _ (holds : Bool) (x : List (Knot Kleene)) (signals : List (List (Knot Kle
       from_left : (at : ℕ → Subformula) (some : List Item) (tr : Trace) (t u : Rational) → Behind (trace.start tr) (trace.stop tr) 0 (Some a) true true u t
           → Must (since a b (at p) (at q)) some tr u → Must (at i) some tr t
       from_left at some tr t u w (z, behind, right, each) = subst (λ g. Must (at g) some tr t) f
-          (each t (record { above = later_back z t a (le_trans behind.ends w.begins); below = le_trans (later_zero' t) w.ends }))
+          (each t (record { above = later_le_back z t a (le_trans behind.ends w.begins); below = le_trans (later_zero' t) w.ends }))

@@ -2,13 +2,12 @@
 use Rattle.std.proofs.Common.{◌≡◌, ℕ, zero, suc, ◌<◌, ◌≤◌, ◌⊎◌, inl, inr, Bool, true, false, not, List}
 use Rattle.std.proofs.Common.{Option, length, get_or, Some, refl, sym, subst, ap, ◌∙◌, ◌+◌, arith}
 use Rattle.std.specs.Prelude.{slice_get, IsTrue}
-use Rattle.std.proofs.lemmas.Option.{slice_get-get_or}
+use Rattle.std.proofs.lemmas.Option.{slice_get-get_or, same_Some}
 use Rattle.rational.specs.Time.{Rational, Within}
 use Rattle.rational.specs.Windows.{Ahead, Behind, Function, Window, IsSupOver, IsInfOver, IsUpTo, IsDownTo}
 use Rattle.rational.specs.Extended.{Extended, ◌≤ᵉ◌, ◌<ᵉ◌, opposite, IsLeast, IsGreatest}
 use Rattle.rational.proofs.ExtendedLemmas.{le_totalᵉ, clashᵉ, le_reflᵉ, le_transᵉ, least_of, opposite_le', opposite_twice}
 use Rattle.rational.proofs.TimeLemmas.{within_stretch}
-use Rattle.pl_signal.proofs.Values.{some_is}
 use Rattle.stl_syntax.specs.Trace.{Trace, start, stop}
 use Rattle.stl_syntax.specs.Formula.{Subformula, constant, atom, negation, conjunction, disjunction}
 use Rattle.stl_syntax.specs.Formula.{implication, until, eventually, always, since, once, historically}
@@ -27,7 +26,7 @@ use Rattle.implicants.specs.Nearby.{IsBest}
 use Rattle.implicants.specs.Signs.{sign_at, AreSigned, AreSigns}
 
 -- the least of two values that are high is, and of two of which one is low
-high_least : (v w r : Extended) → one ≤ᵉ v → one ≤ᵉ w → IsLeast v w r → one ≤ᵉ r
+pub high_least : (v w r : Extended) → one ≤ᵉ v → one ≤ᵉ w → IsLeast v w r → one ≤ᵉ r
 high_least v w r h k l = elim l.one_of [ inl x ↦ le_transᵉ one v r h x | inr x ↦ le_transᵉ one w r k x ]
 
 low_greatest : (v w r : Extended) → v ≤ᵉ minus_one → w ≤ᵉ minus_one → IsGreatest v w r → r ≤ᵉ minus_one
@@ -232,7 +231,7 @@ signed_more nodes signs j m at here before k n l there = by_place (here_or_below
     by_place : (k ≡ j) ⊎ (k < j) → AreSigned signs n (sign_at signs k)
     by_place (inr h) = before k n h there
     by_place (inl e) =
-        let same : n ≡ m = some_is (sym there ∙ ap (slice_get nodes) e ∙ at) in
+        let same : n ≡ m = same_Some _ _ (sym there ∙ ap (slice_get nodes) e ∙ at) in
         subst (λ i. AreSigned signs n (sign_at signs i)) (sym e) (subst (λ n. AreSigned signs n (sign_at signs j)) (sym same) here)
 
 -- what is not so is false

@@ -1,18 +1,17 @@
 -- A cell that is the last one left for some time is needed.
 use Rattle.std.proofs.Common.{◌≡◌, ℕ, zero, suc, ◌<◌, ◌≤◌, ◌⊎◌, inl, inr, Bool, true, false}
 use Rattle.std.proofs.Common.{List, [], ◌∷◌, Some, None, refl, sym, subst, ◌∙◌, arith}
-use Rattle.std.specs.Prelude.{slice_get, slice_index, slice_index_or, Option, IsTrue, IfSome, MatchBool, MatchOption, ◌&&◌}
-use Rattle.rational.specs.Rational.{middle}
-use Rattle.rational.specs.Time.{Rational, Interval, IsIn, IsNotEmpty, Precedes, closed, gap, ◌<ʳ◌, ◌≤ʳ◌}
-use Rattle.rational.proofs.Order.{le_refl, le_of_same, lt_of_le_of_lt, lt_of_lt_of_le, left_of_middle, right_of_middle}
-use Rattle.rational.proofs.TimeLemmas.{precedes_of_room, precedes_of_lt, precedes_le}
+use Rattle.std.specs.Prelude.{slice_get, slice_index, slice_index_or, Option, IfSome, MatchBool, MatchOption}
+use Rattle.std.proofs.lemmas.Option.{same_Some}
+use Rattle.rational.specs.Time.{Rational, Interval, IsIn, Precedes, closed, gap, ◌<ʳ◌, ◌≤ʳ◌}
+use Rattle.rational.proofs.Order.{lt_of_le_of_lt, lt_of_lt_of_le}
+use Rattle.rational.proofs.TimeLemmas.{precedes_of_lt, precedes_le}
 use Rattle.frac128.specs.Value.{value}
 use Rattle.frac128.specs.Spans.{interval}
-use Rattle.frac128.specs.declared.span.Span.{Span}
+use Rattle.frac128.proofs.Wholes.{span_time}
 use Rattle.value_laws.specs.Kinds.{kleene_shape}
 use Rattle.value_laws.specs.declared.kleene.Kleene.{Kleene}
 use Rattle.pl_signal.specs.declared.knot.Knot.{Knot}
-use Rattle.pl_signal.proofs.Values.{some_is}
 use Rattle.stl_syntax.specs.Trace.{Trace}
 use Rattle.stl_syntax.specs.Trace as trace
 use Rattle.stl_syntax.specs.Formula.{atom, subformula}
@@ -31,32 +30,7 @@ use Rattle.implicants.specs.Choices.{InWindow, IsChoice, IsPast, IsShort, IsLast
 use Rattle.implicants.specs.declared.choice.Window.{Window}
 use Rattle.implicants.proofs.Strips.{IsCellOn, in_cut, in_gap, from_first}
 use Rattle.implicants.proofs.Certain.{in_run}
-use Rattle.implicants.proofs.Needing.{not_empty_of, certain_covered, within_more}
-
--- each span has a time
-some_time : (on : Span) → (t : Rational) × IsIn (interval on) t
-some_time on = by_order (not_empty_of on.from_in on.to_in (value on.from) (value on.to)
-    (precedes_of_room (on.from_in && on.to_in) (value on.from) (value on.to) on.not_empty))
-  where
-    at_once : (b : Bool) (x y : Rational) → IsTrue b → x ≤ʳ y → Precedes b x y
-    at_once true x y h k = k
-    at_once false x y h k = absurd (let e : false ≡ true = h in cc)
-
-    by_order : IsNotEmpty (interval on) → (t : Rational) × IsIn (interval on) t
-    by_order (inl h) = (
-      middle (value on.from) (value on.to),
-      record {
-        above = precedes_of_lt on.from_in (value on.from) (middle (value on.from) (value on.to)) (left_of_middle h);
-        below = precedes_of_lt on.to_in (middle (value on.from) (value on.to)) (value on.to) (right_of_middle h);
-      },
-    )
-    by_order (inr (e, a, b)) = (
-      value on.from,
-      record {
-        above = at_once on.from_in (value on.from) (value on.from) a (le_refl (value on.from));
-        below = at_once on.to_in (value on.from) (value on.to) b (le_of_same e);
-      },
-    )
+use Rattle.implicants.proofs.Needing.{certain_covered, within_more}
 
 module _ (nodes : List Node) (tr : Trace) (i : ℕ) where
   -- cells of one atom stand in the order of time
@@ -102,7 +76,7 @@ module _ (nodes : List Node) (tr : Trace) (i : ℕ) where
   item_so [] [] c e h s = absurd (elim c as (λ c. slice_get [] c ≡ Some e → ⊥) [ zero ↦ λ s. cc | suc c ↦ λ s. cc ] s)
   item_so [] (g ∷ here) c e h s = absurd h
   item_so (on ∷ spans) [] c e h s = absurd h
-  item_so (on ∷ spans) (g ∷ here) zero e h s = subst (IsSo nodes tr) (some_is s) h.3
+  item_so (on ∷ spans) (g ∷ here) zero e h s = subst (IsSo nodes tr) (same_Some _ _ s) h.3
   item_so (on ∷ spans) (g ∷ here) (suc c) e h s = item_so spans here c e h.4 s
 
   -- a cell at a time of which the atom is certain has that truth
@@ -138,10 +112,10 @@ module _ (nodes : List Node) (tr : Trace) (all : List Item) (ends : List ℕ) (i
 
       by_case : (j ≡ p) ⊎ (j < p) → Precedes f.on.to_in u (value f.on.to)
       by_case (inl k) =
-          let same : e ≡ f = some_is (sym s ∙ subst (λ j. slice_get all j ≡ Some f) (sym k) q) in
+          let same : e ≡ f = same_Some _ _ (sym s ∙ subst (λ j. slice_get all j ≡ Some f) (sym k) q) in
           (subst (λ g. IsIn (interval g.on) u) same m).below
       by_case (inr k) =
-          let v = some_time f.on in
+          let v = span_time f.on in
           precedes_of_lt f.on.to_in u (value f.on.to)
           (lt_of_lt_of_le (all_rise j p e f u v.0 s q ne nf m v.1 k) (precedes_le f.on.to_in v.0 (value f.on.to) v.1.below))
 
@@ -154,9 +128,9 @@ module _ (nodes : List Node) (tr : Trace) (all : List Item) (ends : List ℕ) (i
       same_or_less b j h = grind arith
 
       by_case : (b ≡ j) ⊎ (b < j) → Precedes f.on.from_in (value f.on.from) u
-      by_case (inl k) = let same : e ≡ f = some_is (sym s ∙ subst (λ j. slice_get all j ≡ Some f) k q) in (subst (λ g. IsIn (interval g.on) u) same m).above
+      by_case (inl k) = let same : e ≡ f = same_Some _ _ (sym s ∙ subst (λ j. slice_get all j ≡ Some f) k q) in (subst (λ g. IsIn (interval g.on) u) same m).above
       by_case (inr k) =
-          let v = some_time f.on in
+          let v = span_time f.on in
           precedes_of_lt f.on.from_in (value f.on.from) u
           (lt_of_le_of_lt (precedes_le f.on.from_in (value f.on.from) v.0 v.1.above) (all_rise b j f e v.0 u q s nf ne v.1 m k))
 

@@ -41,6 +41,7 @@ use Rattle.implicants.specs.Runs.{IsPlaceOf, IsUpTo}
 use Rattle.implicants.proofs.TruthSignals.{truth_of}
 use Rattle.implicants.proofs.Cutting.{knot_is_cut, root_cut_start}
 use Rattle.implicants.proofs.Certain.{rising_first, first_cut, start_cut, cut_at, cut_within}
+use Rattle.implicants.proofs.Counting.{rising_rest}
 
 -- the cells up to the next cut time
 cells_on : (ts : List Rational) (t u : Rational) → cells (ts ++ t ∷ u ∷ []) ≡ cells (ts ++ t ∷ []) ++ gap t u ∷ closed u u ∷ []
@@ -49,10 +50,6 @@ cells_on (s ∷ []) t u = refl
 cells_on (s ∷ r ∷ ts) t u = ap (λ c. closed s s ∷ gap s r ∷ c) (cells_on (r ∷ ts) t u)
 
 -- behind two times that follow each other none of the others is between
-rest_rising : (s : Rational) (ts : List Rational) → AreRisingTimes (s ∷ ts) → AreRisingTimes ts
-rest_rising s [] r = tt
-rest_rising s (t ∷ ts) r = r.1
-
 adjacent : (ts : List Rational) (t u : Rational) (rest : List Rational) (v : Rational) → AreRisingTimes (ts ++ t ∷ u ∷ rest)
     → IsAmong (ts ++ t ∷ u ∷ rest) v → t <ʳ v → u ≤ʳ v
 adjacent [] t u rest v r (inl e) l = absurd (lt_irrefl (lt_of_lt_of_le l (le_of_same e)))
@@ -63,11 +60,11 @@ adjacent (s ∷ ts) t u rest v r (inl e) l =
     among_middle : (ts : List Rational) (t : Rational) (rest : List Rational) → IsAmong (ts ++ t ∷ rest) t
     among_middle [] t rest = inl (same_refl t)
     among_middle (s ∷ ts) t rest = inr (among_middle ts t rest)
-adjacent (s ∷ ts) t u rest v r (inr m) l = adjacent ts t u rest v (rest_rising s (ts ++ t ∷ u ∷ rest) r) m l
+adjacent (s ∷ ts) t u rest v r (inr m) l = adjacent ts t u rest v (rising_rest s (ts ++ t ∷ u ∷ rest) r) m l
 
 rises_in : (ts : List Rational) (t u : Rational) (rest : List Rational) → AreRisingTimes (ts ++ t ∷ u ∷ rest) → t <ʳ u
 rises_in [] t u rest r = r.0
-rises_in (s ∷ ts) t u rest r = rises_in ts t u rest (rest_rising s (ts ++ t ∷ u ∷ rest) r)
+rises_in (s ∷ ts) t u rest r = rises_in ts t u rest (rising_rest s (ts ++ t ∷ u ∷ rest) r)
 
 -- a list about two of its elements
 split_two : (xs : List Frac) (k : ℕ) (t u : Frac) → 0 < k → k < length xs → get_or xs (k - 1) t ≡ t → get_or xs k u ≡ u

@@ -1,21 +1,19 @@
 -- Cut times that are moved, one by one.
-use Rattle.std.proofs.Common.{◌≡◌, ℕ, ◌+◌, ◌<◌, ◌≤◌, ◌^◌, ◌⊎◌, ◌↔◌, inl, inr, Bool, true, false, ℤ, List}
-use Rattle.std.proofs.Common.{[], ◌∷◌, ◌++◌, map, length, take, get_or, sym, ap, subst, ◌∙◌, arith, lit<}
-use Rattle.std.specs.Prelude.{IsTrue, unsigned_abs, slice_get, Some}
+use Rattle.std.proofs.Common.{◌≡◌, ℕ, ◌+◌, ◌<◌, ◌≤◌, ◌⊎◌, ◌↔◌, inl, inr, Bool, true, false, ℤ, List}
+use Rattle.std.proofs.Common.{[], ◌∷◌, ◌++◌, map, length, take, get_or, sym, ap, subst, ◌∙◌, arith}
+use Rattle.std.specs.Prelude.{IsTrue, slice_get, Some}
 use Rattle.std.proofs.lemmas.Option.{slice_get_within, get_or_from_slice_get}
 use Rattle.pl_signal.specs.declared.knot.Knot.{Knot}
 use Rattle.value_laws.specs.declared.truth.Truth.{Truth}
-use Rattle.std.specs.Int.{w64}
 use Rattle.std.specs.declared.cmp.Ordering.{Ordering}
 use Rattle.std.specs.declared.cmp.Ordering.TheVariants.{Less, Equal, Greater}
 use Rattle.std.specs.Ordering.{is_le}
 use Rattle.std.proofs.lemmas.List.{map_more, map-append, take_more}
 use Rattle.std.proofs.lemmas.List.Elements.{All-push, Contains-append_left, Contains-push, Contains-push_cases}
-use Rattle.rational.specs.Rational.{IsOrder, IsWithin, FitsFloor}
+use Rattle.rational.specs.Rational.{IsOrder}
 use Rattle.rational.specs.Time.{Rational, Within, shifted, add, whole, ◌≤ʳ◌, ◌<ʳ◌, ◌≈◌}
 use Rattle.rational.proofs.Order.{le_or_lt, le_of_lt, le_of_same, ge_of_same, le_trans, not_lt_of_le, same_refl, same_sym, same_trans}
 use Rattle.rational.proofs.TimeLemmas.{same_shifted, shifted-add}
-use Rattle.rational.proofs.Mixed.{fits_of_within, within_add, within_whole}
 use Rattle.frac128.specs.Value.{value}
 use Rattle.frac128.specs.declared.frac.Frac.{Frac}
 use Rattle.stl_syntax.specs.Cells.{IsAmong}
@@ -130,10 +128,6 @@ module _ (from to : Rational) (k : ℤ) (old : List Rational) where
 -- one more move
 pub near_more : (ks : List ℤ) (k : ℤ) → AreNearMoves ks → IsNearMove k → AreNearMoves (ks ++ k ∷ [])
 near_more ks k h n = All-push IsNearMove ks k h n
-
--- a move of a time of the domain fits
-pub move_fits : (t : Rational) (k : ℤ) → IsWithin (2 ^ 34) t → unsigned_abs k ≤ 2 ^ 32 → FitsFloor w64 (add t (whole k))
-move_fits t k w h = fits_of_within w64 (2 ^ 34 + 2 ^ 32) (lit< tt) (within_add (2 ^ 34) (2 ^ 32) w (within_whole (2 ^ 32) k h))
 
 -- the times of one more
 pub times_more : (xs : List Frac) (i : ℕ) (d : Frac) → i < length xs → times_of (take (i + 1) xs) ≡ times_of (take i xs) ++ value (get_or xs i d) ∷ []

@@ -1,16 +1,18 @@
 -- Signals of atoms that are the best but where cells near say otherwise.
-use Rattle.std.proofs.Common.{◌≡◌, ℕ, zero, suc, ◌+◌, ◌-◌, ◌<◌, ◌≤◌, ◌^◌, ◌⊎◌, inl, inr, Bool, true, false, pos, negsuc, List, [], ◌∷◌, ◌++◌}
-use Rattle.std.proofs.Common.{length, Some, refl, sym, ap, ◌∙◌, subst, arith, rules, length-append}
+use Rattle.std.proofs.Common.{◌≡◌, ℕ, ◌+◌, ◌-◌, ◌<◌, ◌≤◌, ◌^◌, ◌⊎◌, inl, inr, Bool, true, false, pos, negsuc, List, [], ◌∷◌, ◌++◌}
+use Rattle.std.proofs.Common.{Some, refl, sym, ap, ◌∙◌, subst, arith, rules, length-append}
 use Rattle.std.specs.Prelude.{slice_get}
 use Rattle.std.proofs.lemmas.List.Elements.{All-push}
+use Rattle.std.proofs.lemmas.Option.{same_Some}
 use Rattle.rational.specs.Rational.{IsWithin}
-use Rattle.rational.specs.Time.{Rational, IsIn, Precedes, whole, ◌≈◌, ◌≤ʳ◌, ◌<ʳ◌}
+use Rattle.rational.specs.Time.{Rational, IsIn, whole, ◌≈◌, ◌≤ʳ◌, ◌<ʳ◌}
 use Rattle.rational.specs.Extended.{Extended, Passes, finite, value_at, ◌≤ᵉ◌, ◌≈ᵉ◌}
-use Rattle.rational.proofs.Order.{le_trans, le_of_lt, le_of_same, ge_of_same, same_of_le, lt_of_le_of_lt, lt_of_lt_of_le}
-use Rattle.rational.proofs.TimeLemmas.{IsIn-same}
+use Rattle.rational.proofs.Order.{le_trans, le_of_same, ge_of_same, same_of_le, lt_of_le_of_lt, lt_of_lt_of_le}
+use Rattle.rational.proofs.TimeLemmas.{IsIn-same, precedes_of_lt}
 use Rattle.rational.proofs.ExtendedLemmas.{le_transᵉ}
 use Rattle.rational.proofs.LevelLemmas.{level_is}
 use Rattle.rational.proofs.Mixed.{tick_within}
+use Rattle.rational.proofs.Lists.{slice_get-append_left, slice_get-append_here}
 use Rattle.frac128.specs.Spans.{interval}
 use Rattle.frac128.specs.Value.{value}
 use Rattle.frac128.specs.declared.frac.Frac.{Frac}
@@ -22,7 +24,7 @@ use Rattle.pl_signal.specs.declared.knot.Knot.{Knot}
 use Rattle.pl_signal.specs.Knots.{start, stop, IsSignal, IsWorth}
 use Rattle.pl_signal.specs.Building.{GoesOn}
 use Rattle.pl_signal.proofs.Limits.{limited}
-use Rattle.pl_signal.proofs.Values.{some_is, worth_at}
+use Rattle.pl_signal.proofs.Values.{worth_at}
 use Rattle.stl_syntax.specs.Trace.{Trace, first_time, last_time}
 use Rattle.stl_syntax.specs.SupInf.{one, minus_one}
 use Rattle.stl_syntax.specs.declared.atom.Atom.{Atom}
@@ -50,10 +52,6 @@ best_passes p h t v e passes = best_alike h v (value_at (kleene_shape.function p
     by_known : (h : Bool) → p.known ≡ Some h → IsBest h (value_at (kleene_shape.function p) t)
     by_known true e = subst (λ o. finite (whole (kleene_value o)) ≤ᵉ value_at (kleene_shape.function p) t) e (level_is (kleene_value p.known) t).at_least
     by_known false e = subst (λ o. value_at (kleene_shape.function p) t ≤ᵉ finite (whole (kleene_value o))) e (level_is (kleene_value p.known) t).at_most
-
-precedes_of_lt : (b : Bool) (x y : Rational) → x <ʳ y → Precedes b x y
-precedes_of_lt true x y h = le_of_lt h
-precedes_of_lt false x y h = h
 
 -- a span from no later than a gap to no earlier has it
 pub gap_in : (on : Span) (from to : Rational) → value on.from ≤ʳ from → to ≤ʳ value on.to → (t : Rational) → from <ʳ t → t <ʳ to → IsIn (interval on) t
@@ -153,19 +151,8 @@ begins_is_on [] k at h t e = absurd cc
 begins_is_on (l ∷ x) k at h t e = record {
   v = value_at (kleene_shape.function l.point) t;
   worth = worth_at kleene_shape (l ∷ x) 0 l t refl e;
-  more = shape_on l.point t (subst (λ k. ¬ (k.point.known ≡ Some false)) (sym (some_is at)) h);
+  more = shape_on l.point t (subst (λ k. ¬ (k.point.known ≡ Some false)) (sym (same_Some _ _ at)) h);
 }
-
--- an element stays where others are put behind it
-kept_left : {A : Type 0} (xs ys : List A) (k : ℕ) (x : A) → slice_get xs k ≡ Some x → slice_get (xs ++ ys) k ≡ Some x
-kept_left [] ys zero x h = absurd cc
-kept_left [] ys (suc k) x h = absurd cc
-kept_left (y ∷ xs) ys zero x h = h
-kept_left (y ∷ xs) ys (suc k) x h = kept_left xs ys k x h
-
-put_last : {A : Type 0} (xs : List A) (x : A) → slice_get (xs ++ x ∷ []) (length xs) ≡ Some x
-put_last [] x = refl
-put_last (y ∷ xs) x = put_last xs x
 
 module _ (nodes : List Node) (tr : Trace) (all : List Item) (signs marks : List Bool) (c : ℕ) where
   abbrev view_of : ℕ → View
@@ -216,9 +203,9 @@ module _ (nodes : List Node) (tr : Trace) (all : List Item) (signs marks : List 
 
       by_place : (j : ℕ) (b : Atom) → slice_get nodes j ≡ Some (Leaf b) → (j ≡ i) ⊎ (j < i) → Goal j
       by_place j b there (inl e) = subst Goal (sym e)
-          (x, subst (λ n. slice_get (signals ++ x ∷ []) n ≡ Some x) before.count (put_last signals x), own.worth)
+          (x, subst (λ n. slice_get (signals ++ x ∷ []) n ≡ Some x) before.count (slice_get-append_here signals x []), own.worth)
       by_place j b there (inr l) =
-          let y = before.near j b l there in (y.0, kept_left signals (x ∷ []) (atoms_before nodes j) y.0 y.1, y.2)
+          let y = before.near j b l there in (y.0, slice_get-append_left signals (x ∷ []) (atoms_before nodes j) y.0 y.1, y.2)
 
   -- a node of another kind needs none
   pub near_other : (i : ℕ) (n : Node) (signals : List (List (Knot Kleene))) → slice_get nodes i ≡ Some n → is_atom n ≡ false

@@ -2,7 +2,7 @@
 use Rattle.std.proofs.Common.{◌≡◌, ℕ, ◌-◌, ◌<◌, ◌≤◌, ◌⊎◌, inl, inr, Bool, true, false, List, [], ◌∷◌, zero}
 use Rattle.std.proofs.Common.{suc, length, set, length-set, Some, refl, sym, ap, ◌∙◌, subst, arith}
 use Rattle.std.specs.Prelude.{slice_get, slice_index, slice_index_or, MatchBool, IsTrue}
-use Rattle.std.proofs.lemmas.Option.{slice_get_within}
+use Rattle.std.proofs.lemmas.Option.{slice_get_within, same_Some}
 use Rattle.rational.specs.Time.{Rational, Interval, IsIn, Within, ◌≤ʳ◌, ◌≈◌}
 use Rattle.rational.specs.Extended.{Extended}
 use Rattle.rational.proofs.Order.{le_refl, le_of_same, ge_of_same, same_of_le}
@@ -13,7 +13,6 @@ use Rattle.value_laws.specs.declared.kleene.Kleene.{Kleene}
 use Rattle.pl_signal.specs.declared.knot.Knot.{Knot}
 use Rattle.pl_signal.specs.Knots.{IsWorth}
 use Rattle.pl_signal.specs.Knots as knots
-use Rattle.pl_signal.proofs.Values.{some_is}
 use Rattle.stl_syntax.specs.Trace.{Trace, start, stop, first_time, last_time}
 use Rattle.stl_syntax.specs.Formula.{atom, root, subformula}
 use Rattle.stl_syntax.specs.Truth.{Truth, holds_at}
@@ -111,7 +110,7 @@ stands_needed nodes tr all ends signs marks c atoms post some order is are near 
         let l = slice_get_within nodes i (Leaf a) at in
         let x = near.near i a l at in
         let y = told i a l at in
-        let same : y.0 ≡ x.0 = some_is (sym y.1 ∙ x.1) in
+        let same : y.0 ≡ x.0 = same_Some _ _ (sym y.1 ∙ x.1) in
         let worth = (y.2.worth t r).1 (inside, gives) in
         certain_best nodes tr all ends is marks c items within
         (record { of = i; best = sign_at signs i; tried = c; first = first_time tr.rows; last = last_time 0 tr.rows })
@@ -135,7 +134,7 @@ pub stands_by : (nodes : List Node) (tr : Trace) (atoms signals : List (List (Kn
     → Stands kleene_shape nodes tr atoms
 stands_by nodes tr atoms signals x some told at on values =
     let y = told (length nodes - 1) (omega (arith, some)) in
-    let same : y.0 ≡ x = some_is (sym y.1 ∙ at) in
+    let same : y.0 ≡ x = same_Some _ _ (sym y.1 ∙ at) in
     let begins = subst (λ z. knots.start z ≈ start tr) same y.2.begins in
     let here = on (start tr) (same_of_le (ge_of_same begins) (le_of_same begins)) in
     record {

@@ -3,7 +3,6 @@ use Rattle.std.proofs.Common.{◌≡◌, ℕ, zero, suc, ◌+◌, ◌-◌, ◌*�
 use Rattle.std.proofs.Common.{length, take, set, reverse, Some, refl, sym, ap, subst, ◌∙◌, arith, length-set, replicate}
 use Rattle.std.specs.Prelude.{slice_get, slice_index_or, nat_lt, ◌||◌, if◌then◌else◌}
 use Rattle.std.proofs.Math.Nat.{suc-mul}
-use Rattle.std.proofs.lemmas.Bool.Decides.{nat_tests}
 use Rattle.stl_syntax.specs.Trace.{Trace, start}
 use Rattle.stl_syntax.specs.Formula.{root}
 use Rattle.stl_syntax.specs.Kleene.{MustNot}
@@ -17,17 +16,8 @@ use Rattle.implicants.proofs.Covering.{IsOver, to_remaining, from_remaining, to_
 use Rattle.implicants.proofs.Growing.{must_not}
 use Rattle.implicants.proofs.KeptCells.{drops}
 use Rattle.std.proofs.lemmas.List.{length-replicate}
+use Rattle.std.proofs.lemmas.Bool.{cases_lt, lt-ltb, ltb-true, or_cases}
 use Rattle.implicants.proofs.Marking.{no_cell, blank_none, blank_set, blank_fewer, sifted_none, sifted_more}
-
-below_test : (c n : ℕ) → c < n → nat_lt c n ≡ true
-below_test c n l = grind (arith, nat_tests)
-
-test_below : (c n : ℕ) → nat_lt c n ≡ true → c < n
-test_below c n e = grind (arith, nat_tests)
-
-or_cases : (a b : Bool) → (a || b) ≡ true → (a ≡ true) ⊎ (b ≡ true)
-or_cases true b h = inl refl
-or_cases false b h = inr h
 
 or_one : (a b : Bool) → (a ≡ true) ⊎ (b ≡ true) → (a || b) ≡ true
 or_one true b h = refl
@@ -36,17 +26,15 @@ or_one false b (inr e) = e
 
 -- a cell stays where it is one of the first, or marked
 pub stays_cases : (left : ℕ) (marks : List Bool) (c : ℕ) → stays left marks c ≡ true → (c < left) ⊎ (slice_index_or marks c false ≡ true)
-stays_cases left marks c h = elim (or_cases (nat_lt c left) (slice_index_or marks c false) h) [ inl l ↦ inl (test_below c left l) | inr m ↦ inr m ]
+stays_cases left marks c h = elim (or_cases (nat_lt c left) (slice_index_or marks c false) h) [ inl l ↦ inl (ltb-true c left l) | inr m ↦ inr m ]
 
 -- a cell that is not yet sifted, or is marked, stays
 pub stays_one : (left : ℕ) (marks : List Bool) (c : ℕ) → (c < left) ⊎ (slice_index_or marks c false ≡ true) → stays left marks c ≡ true
-stays_one left marks c h = or_one (nat_lt c left) (slice_index_or marks c false) (elim h [ inl l ↦ inl (below_test c left l) | inr m ↦ inr m ])
+stays_one left marks c h = or_one (nat_lt c left) (slice_index_or marks c false) (elim h [ inl l ↦ inl (lt-ltb c left l) | inr m ↦ inr m ])
 
-le_cases : (c j : ℕ) → c ≤ j → (c ≡ j) ⊎ (suc c ≤ j)
+-- what is no more is the same or less
+pub le_cases : (c j : ℕ) → c ≤ j → (c ≡ j) ⊎ (suc c ≤ j)
 le_cases c j h = grind arith
-
-lt_or_le : (j c : ℕ) → (j < c) ⊎ (c ≤ j)
-lt_or_le j c = grind arith
 
 -- whether the cell at a place is marked
 abbrev pub IsMarked : List Bool → ℕ → Type 0
@@ -194,7 +182,7 @@ module _ (nodes : List Node) (tr : Trace) (items : List Item) where
       where
         apart : (k : ℕ) → k < suc c → (j : ℕ) → (j < k) ⊎ IsMarked kept j → (j < c) ⊎ ((c < j) × IsMarked marks j)
         apart k h j (inl i) = inl (omega (arith, h, i))
-        apart k h j (inr i) = elim (lt_or_le j (suc c)) [
+        apart k h j (inr i) = elim (cases_lt j (suc c)) [
           | inl b ↦ absurd (blank_not kept (suc c) j is.blank b i)
           | inr b ↦ inr (omega (arith, b), is.under j i)
         ]
@@ -221,7 +209,7 @@ module _ (nodes : List Node) (tr : Trace) (items : List Item) where
       where
         more : (j : ℕ) → (j < to) ⊎ IsMarked marks j → (j < c) ⊎ IsMarked kept j
         more j (inl h) = inl (omega (arith, h, above))
-        more j (inr h) = elim (lt_or_le j c) [
+        more j (inr h) = elim (cases_lt j c) [
           | inl i ↦ inl i
           | inr i ↦ elim (le_cases c j i) [ inl e ↦ absurd (none (subst (IsMarked marks) (sym e) h)) | inr k ↦ inr (is.over j k h) ]
         ]

@@ -1,11 +1,11 @@
 -- What is demanded of each time that all windows share of which one is to be chosen.
 use Rattle.std.proofs.Common.{◌≡◌, ℕ, pos, ◌<◌, ◌≤◌, ◌-◌, ◌^◌, inl, inr, Bool, true, false, List, [], ◌∷◌, length, Some, refl, sym, subst, arith, lit<}
 use Rattle.std.specs.Prelude.{slice_get, None, MatchBool, not}
-use Rattle.std.proofs.lemmas.Option.{slice_get_within}
+use Rattle.std.proofs.lemmas.Option.{slice_get_within, same_Some}
 use Rattle.rational.specs.Time.{Rational, Within, Precedes, later, whole, ◌≤ʳ◌, ◌≈◌}
 use Rattle.rational.specs.Extended.{finite, value_at, ◌<ᵉ◌, ◌≤ᵉ◌}
 use Rattle.rational.proofs.Order.{le_trans, le_of_same, ge_of_same, le_or_lt, same_refl, same_sym, same_trans}
-use Rattle.rational.proofs.TimeLemmas.{decided_order, precedes_after, precedes_before, later_le, later_more}
+use Rattle.rational.proofs.TimeLemmas.{decided_order, precedes_after, precedes_before, later_le, later_more, later_zero}
 use Rattle.rational.proofs.ExtendedLemmas.{clashᵉ, le_transᵉ, lt_of_le_of_ltᵉ, lt_of_lt_of_leᵉ}
 use Rattle.rational.proofs.LevelLemmas.{level_is}
 use Rattle.value_laws.specs.Kinds.{kleene_shape}
@@ -14,7 +14,7 @@ use Rattle.value_laws.specs.declared.kleene.Kleene.{Kleene}
 use Rattle.pl_signal.specs.declared.knot.Knot.{Knot}
 use Rattle.pl_signal.specs.Knots.{start, stop, time, IsSignal, IsWorth}
 use Rattle.pl_signal.specs.Moves.{Tells}
-use Rattle.pl_signal.proofs.Values.{every_time, one_value, some_is, worth_at, worth_within}
+use Rattle.pl_signal.proofs.Values.{every_time, one_value, worth_at, worth_within}
 use Rattle.window_ops.specs.Windows.{SupBehind}
 use Rattle.stl_syntax.specs.Trace.{Trace}
 use Rattle.stl_syntax.specs.Trace as trace
@@ -54,7 +54,7 @@ begins_is [] k at e = absurd cc
 begins_is (l ∷ x) k at e = record {
   v = value_at (kleene_shape.function l.point) (time l);
   worth = worth_at kleene_shape (l ∷ x) 0 l (time l) refl (same_refl (time l));
-  full = shape_full l.point (time l) (subst (λ k. k.point.known ≡ Some true) (sym (some_is at)) e);
+  full = shape_full l.point (time l) (subst (λ k. k.point.known ≡ Some true) (sym (same_Some _ _ at)) e);
 }
 
 -- where the Sup over all times before is less than 1, each value is
@@ -82,9 +82,6 @@ not_precedes false t u h = elim (le_or_lt u t) [ inl k ↦ k | inr k ↦ absurd 
 later_precedes : (b : Bool) (t u : Rational) (k : ℕ) → Precedes b t u → Precedes b (later t k) (later u k)
 later_precedes true t u k h = later_le k h
 later_precedes false t u k h = record { lt = omega (arith, h.lt) }
-
-later_none : (t : Rational) → later t 0 ≤ʳ t
-later_none t = record { le = omega arith }
 
 whole_later : (n : ℕ) → whole (pos n) ≤ʳ later (whole (pos 0)) n
 whole_later n = record { le = omega arith }
@@ -129,7 +126,7 @@ module _ (x : List (Knot Kleene)) (signal : IsSignal kleene_shape x) (fit : IsFi
       begun : (u s : Rational) → Precedes (not w.low_in) s u → Precedes behind.low_in (later s behind.low) u
       begun u s h =
           subst (λ b. Precedes b (later s behind.low) u) (sym turned)
-          (subst (λ k. Precedes (not w.low_in) (later s k) u) (sym from_none) (precedes_after (not w.low_in) (later s 0) s u (later_none s) h))
+          (subst (λ k. Precedes (not w.low_in) (later s k) u) (sym from_none) (precedes_after (not w.low_in) (later s 0) s u (later_zero s) h))
 
       not_early : (u s : Rational) → Within (start x) (stop x) u → Within (start last) (stop last) s → IsOn kleene_shape last s → IsFull kleene_shape x u
           → Precedes w.low_in u s

@@ -4,6 +4,7 @@ use Rattle.std.specs.Prelude.{slice_get, Option, None, IfOk, IfSome, MatchBool, 
 use Rattle.std.specs.declared.result.Result.{Result}
 use Rattle.std.specs.declared.result.Result.TheVariants.{Ok, Err}
 use Rattle.std.proofs.lemmas.Option.{slice_get_within}
+use Rattle.std.proofs.lemmas.Bool.{not-true, not-false}
 use Rattle.rational.specs.Time.{Rational, ◌≈◌}
 use Rattle.rational.specs.Extended.{opposite, ◌≤ᵉ◌}
 use Rattle.rational.proofs.Order.{le_trans, le_of_same, ge_of_same, same_refl, same_sym, same_trans}
@@ -118,15 +119,6 @@ open_is holds x w other none enough d is same fit both = record {
   clear = λ t u on h. is.clear t u (both.right t on) h;
 }
 
--- of which the opposite is the one truth is the other
-not_true : (other : Bool) → true ≡ not other → other ≡ false
-not_true true e = absurd cc
-not_true false e = refl
-
-not_false : (other : Bool) → false ≡ not other → other ≡ true
-not_false true e = refl
-not_false false e = absurd cc
-
 -- some time of a window is certain where the node over it is, and each where it is certain of the opposite
 pub some_eventually : (n : Node) (holds : Bool) (p : ℕ) (w : Window) → n ≡ Eventually p w.low w.high w.low_in w.high_in → holds ≡ true → w.low ≤ w.high
     → IsSomeAhead n holds (record { window = w; of = p })
@@ -137,8 +129,8 @@ some_eventually n holds p w e f order = subst (λ m. IsSomeAhead m holds (record
       child = refl;
       some = λ at j items tr t h. h;
       each = λ other e at j items tr t u h near.
-          subst (λ b. Certain b (at p) items tr u) (sym (not_true other e))
-          (subst (λ b. Certain b (tree_of at j (Eventually p w.low w.high w.low_in w.high_in)) items tr t) (not_true other e) h u near);
+          subst (λ b. Certain b (at p) items tr u) (sym (not-true other (sym e)))
+          (subst (λ b. Certain b (tree_of at j (Eventually p w.low w.high w.low_in w.high_in)) items tr t) (not-true other (sym e)) h u near);
     }))
 
 -- some time of a window is certainly false where `always` over it is
@@ -151,8 +143,8 @@ some_always n holds p w e f order = subst (λ m. IsSomeAhead m holds (record { w
       child = refl;
       some = λ at j items tr t h. h;
       each = λ other e at j items tr t u h near.
-          subst (λ b. Certain b (at p) items tr u) (sym (not_false other e))
-          (subst (λ b. Certain b (tree_of at j (Always p w.low w.high w.low_in w.high_in)) items tr t) (not_false other e) h u near);
+          subst (λ b. Certain b (at p) items tr u) (sym (not-false other (sym e)))
+          (subst (λ b. Certain b (tree_of at j (Always p w.low w.high w.low_in w.high_in)) items tr t) (not-false other (sym e)) h u near);
     }))
 
 -- what follows for one operand of each kind of node

@@ -1,13 +1,14 @@
 -- A walk back over the cells of an atom marks those that are each the last one left for some time.
-use Rattle.std.proofs.Common.{◌≡◌, ℕ, ℤ, zero, suc, pos, negsuc, neg_ℤ, ◌-◌, ◌^◌, ◌+◌, ◌<◌, ◌≤◌, ◌⊎◌, inl, inr, Bool}
+use Rattle.std.proofs.Common.{◌≡◌, ℕ, ℤ, zero, suc, pos, negsuc, neg_ℤ, ◌-◌, ◌^◌, ◌+◌, ◌<◌, ◌≤◌, inl, inr, Bool}
 use Rattle.std.proofs.Common.{true, false, List, length, set, Some, None, refl, sym, ap, subst, ◌∙◌, arith, length-set}
 use Rattle.std.specs.Prelude.{slice_get, Option, IfSome, MatchOption, not, ◌&&◌}
 use Rattle.std.proofs.lemmas.Option.{slice_get_within}
 use Rattle.std.proofs.Math.Bool.{beq}
+use Rattle.std.proofs.lemmas.Bool.{cases_lt}
 use Rattle.rational.specs.Rational.{IsWithin}
-use Rattle.rational.specs.Time.{Rational, Within, IsIn, Precedes, add, whole, later, ◌<ʳ◌, ◌≤ʳ◌, ◌≈◌}
+use Rattle.rational.specs.Time.{Rational, Within, IsIn, Precedes, add, whole, later, ◌≤ʳ◌, ◌≈◌}
 use Rattle.rational.proofs.Order.{le_of_same, ge_of_same, le_trans, not_lt_of_le, same_trans}
-use Rattle.rational.proofs.TimeLemmas.{later_le, same_later, precedes_le}
+use Rattle.rational.proofs.TimeLemmas.{later_le, same_later, precedes_le, later_lt}
 use Rattle.value_laws.specs.Kinds.{kleene_shape}
 use Rattle.value_laws.specs.declared.kleene.Kleene.{Kleene}
 use Rattle.pl_signal.specs.declared.knot.Knot.{Knot}
@@ -20,13 +21,7 @@ use Rattle.implicants.specs.Choices.{IsCellOf, IsSpanAt, IsPast, IsShort, IsAfte
 use Rattle.implicants.specs.Choices.{IsLastBefore, IsFirstBehind, MissesCells, IsLastCell, PutsLast, PutsLasts}
 use Rattle.implicants.specs.declared.choice.Window.{Window}
 use Rattle.implicants.proofs.Marking.{blank_set, blank_fewer}
-use Rattle.implicants.proofs.Passing.{IsMarked, marked_set, set_marked, blank_not}
-
-le_cases : (c j : ℕ) → c ≤ j → (c ≡ j) ⊎ (suc c ≤ j)
-le_cases c j h = grind arith
-
-lt_or_le : (j c : ℕ) → (j < c) ⊎ (c ≤ j)
-lt_or_le j c = grind arith
+use Rattle.implicants.proofs.Passing.{IsMarked, marked_set, set_marked, blank_not, le_cases}
 
 -- no such cell stands from one place up to another
 abbrev pub NoneFrom : List Item → ℕ → Bool → ℕ → ℕ → Type 0
@@ -43,7 +38,7 @@ none_more all i holds p c not_such none j f s h l n k = elim (le_cases p j h) [
 
 -- where no cell of the node and its truth stands behind the place, it is that of the last one
 pub last_found : (all : List Item) (i : ℕ) (holds : Bool) (p c : ℕ) → NoneFrom all i holds (suc p) c → IsLastBefore all i holds c (Some p)
-last_found all i holds p c none j e s l n k = elim (lt_or_le p j) [ inl h ↦ absurd (none j e s (omega (arith, h)) l n k) | inr h ↦ h ]
+last_found all i holds p c none j e s l n k = elim (cases_lt p j) [ inl h ↦ absurd (none j e s (omega (arith, h)) l n k) | inr h ↦ h ]
 
 -- where no cell of the node and its truth stands from the first place on there is no last one
 pub last_none : (all : List Item) (i : ℕ) (holds : Bool) (c : ℕ) → NoneFrom all i holds 0 c → IsLastBefore all i holds c None
@@ -57,14 +52,14 @@ NoneMarked all marks i left b = (j : ℕ) (e : Item) → slice_get all j ≡ Som
 pub unmarked_more : (all : List Item) (marks : List Bool) (i left b : ℕ)
     → ((e : Item) → slice_get all b ≡ Some e → IsMarked marks b → e.node ≡ i → ⊥) → NoneMarked all marks i left b
     → NoneMarked all marks i left (suc b)
-unmarked_more all marks i left b bar none j f s h l m n = elim (lt_or_le j b) [
+unmarked_more all marks i left b bar none j f s h l m n = elim (cases_lt j b) [
   | inl g ↦ none j f s h g m n
   | inr g ↦ let is_b : j ≡ b = omega (arith, g, l) in bar f (subst (λ z. slice_get all z ≡ Some f) is_b s) (subst (IsMarked marks) is_b m) n
 ]
 
 -- where no marked cell of the node stands before the place, it is that of the first one
 pub first_found : (all : List Item) (marks : List Bool) (i left b : ℕ) → NoneMarked all marks i left b → IsFirstBehind all marks i left (Some b)
-first_found all marks i left b none j e s h m n = elim (lt_or_le j b) [ inl g ↦ absurd (none j e s h g m n) | inr g ↦ g ]
+first_found all marks i left b none j e s h m n = elim (cases_lt j b) [ inl g ↦ absurd (none j e s h g m n) | inr g ↦ g ]
 
 -- where no marked cell of the node stands before the end there is no first one
 pub first_none : (all : List Item) (marks : List Bool) (i left b : ℕ) → length marks ≤ b → length marks ≡ length all
@@ -99,10 +94,6 @@ later_back t (suc n) = omega arith
 -- a time that is another moved back is, so much later, that other
 pub moved_later : (r t : Rational) (k : ℤ) (by : ℕ) → k ≡ neg_ℤ (pos by) → r ≈ add t (whole k) → later r by ≈ t
 moved_later r t k by e h = same_trans (same_later by (subst (λ k. r ≈ add t (whole k)) e h)) (later_back t by)
-
--- a window behind an end that is moved by its lower bound is past what the end was
-later_lt : (t u : Rational) (k : ℕ) → t <ʳ u → later t k <ʳ later u k
-later_lt t u k h = record { lt = omega (arith, h.lt) }
 
 -- a window that begins behind an end, moved back by its lower bound, has no time up to that end
 pub past_end : (a b : Bool) (r to t u : Rational) (low : ℕ) → later r low ≈ to → Precedes (not (a && b)) r t → Precedes a u to → ¬ Precedes b (later t low) u
@@ -188,7 +179,7 @@ module _ (all : List Item) (i : ℕ) (holds : Bool) (w : Window) (x : List (Knot
   })
     where
       behind : (j : ℕ) → IsMarked marks j → c ≤ j
-      behind j g = elim (lt_or_le j (suc c)) [ inl b ↦ absurd (blank_not marks (suc c) j blank b g) | inr b ↦ omega (arith, b) ]
+      behind j g = elim (cases_lt j (suc c)) [ inl b ↦ absurd (blank_not marks (suc c) j blank b g) | inr b ↦ omega (arith, b) ]
 
   -- the cell that is marked is the last one left
   pub puts_here : (marks : List Bool) (c : ℕ) (behind : Option ℕ) → IsFirstBehind all marks i (c + 1) behind → MissesCells kleene_shape all i holds w x c behind
@@ -220,7 +211,7 @@ module _ (all : List Item) (i : ℕ) (holds : Bool) (w : Window) (x : List (Knot
 pub first_before : (all : List Item) (marks : List Bool) (i c : ℕ) (behind : Option ℕ) → AreBlank (c + 1) marks
     → IsFirstBehind all marks i (c + 1) behind → IsFirstBehind all marks i c behind
 first_before all marks i c behind blank first j e s h m n =
-    elim (lt_or_le j (c + 1)) [ inl b ↦ absurd (blank_not marks (c + 1) j blank b m) | inr b ↦ first j e s b m n ]
+    elim (cases_lt j (c + 1)) [ inl b ↦ absurd (blank_not marks (c + 1) j blank b m) | inr b ↦ first j e s b m n ]
 
 -- of the places from c on c is the first
 pub first_here : (all : List Item) (marks : List Bool) (i c : ℕ) → IsFirstBehind all marks i c (Some c)

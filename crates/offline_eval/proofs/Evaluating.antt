@@ -1,12 +1,13 @@
 -- One node more in the loop over a formula.
 use Rattle.std.proofs.Common.{◌≡◌, ℕ, ℤ, pos, neg_ℤ, ◌≤ℤ◌, ◌<ℤ◌, true, zero, suc, ◌+◌, ◌-◌, ◌<◌, ◌≤◌, ◌^◌, ◌⊎◌, inl, inr}
-use Rattle.std.proofs.Common.{cond, List, [], ◌∷◌, ◌++◌, length, drop, get_or, Some, ap, sym, ◌∙◌, subst, refl, arith}
+use Rattle.std.proofs.Common.{cond, List, [], ◌∷◌, ◌++◌, length, drop, get_or, Some, ap, sym, ◌∙◌, subst, arith}
 use Rattle.std.specs.Prelude.{slice_get, sum_by, All}
 use Rattle.std.proofs.lemmas.Int.{ints}
 use Rattle.std.proofs.lemmas.Option.{slice_get_within, get_or_from_slice_get, slice_get-get_or}
 use Rattle.std.proofs.lemmas.List.{length-drop, length-append}
 use Rattle.std.proofs.lemmas.List.Sums.{sum_by-take-le}
 use Rattle.std.proofs.Math.Seq.{take-length}
+use Rattle.rational.proofs.Lists.{slice_get-push_cases}
 use Rattle.value_laws.specs.Members.{ShapeOf}
 use Rattle.pl_signal.specs.declared.knot.Knot.{Knot}
 use Rattle.pl_signal.specs.declared.faults.WidePair.TheVariants.{Cross, Value}
@@ -24,18 +25,6 @@ use Rattle.offline_eval.specs.Making.{IsSound, AreSound, TellAt, TellsValue, IsF
 use Rattle.offline_eval.specs.Places.{reach_before}
 use Rattle.offline_eval.proofs.Sound.{sound_more}
 use Rattle.offline_eval.proofs.Places.{atoms_on_atom, sum_on}
-
--- a place in a list that was pushed to
-pub pushed_at : {X : Type 0} (xs : List X) (y : X) (k : ℕ) (x : X) → slice_get (xs ++ y ∷ []) k ≡ Some x → (slice_get xs k ≡ Some x)
-    ⊎ ((k ≡ length xs) × (x ≡ y))
-pushed_at [] y zero x e = inr (refl, cc)
-pushed_at [] y (suc k) x e = absurd cc
-pushed_at (z ∷ xs) y zero x e = inl e
-pushed_at (z ∷ xs) y (suc k) x e = by_rest (pushed_at xs y k x e)
-  where
-    by_rest : (slice_get xs k ≡ Some x) ⊎ ((k ≡ length xs) × (x ≡ y)) → (slice_get xs k ≡ Some x) ⊎ ((suc k ≡ suc (length xs)) × (x ≡ y))
-    by_rest (inl h) = inl h
-    by_rest (inr h) = inr (ap suc h.0, h.1)
 
 -- one more in a list that was pushed to
 pub pushed_count : {X : Type 0} (xs ys : List X) (y : X) (n : ℕ) → length xs ≡ n → ys ≡ xs ++ y ∷ [] → length ys ≡ n + 1
@@ -93,7 +82,7 @@ module _ {P : Type 0} (shape : ShapeOf P) (from to : ℕ) where
   pub all_pushed : (nodes : List Node) (i : ℕ) (xs ys : List (List (Knot P))) (y : List (Knot P)) → i < length nodes → ys ≡ xs ++ y ∷ []
       → AreSound shape from to (reach_before nodes i) xs
       → IsSound shape from to (reach_before nodes (i + 1)) y → AreSound shape from to (reach_before nodes (i + 1)) ys
-  all_pushed nodes i xs ys y inside e all new k x there = by_place (pushed_at xs y k x (subst (λ l. slice_get l k ≡ Some x) e there))
+  all_pushed nodes i xs ys y inside e all new k x there = by_place (slice_get-push_cases xs y k x (subst (λ l. slice_get l k ≡ Some x) e there))
     where
       grows : reach_before nodes i ≤ reach_before nodes (i + 1)
       grows = omega (arith, sum_on own_reach nodes i (get_or nodes i (Const true)) (slice_get-get_or nodes i (Const true) inside))
@@ -107,7 +96,7 @@ module _ {P : Type 0} (shape : ShapeOf P) where
   pub told_pushed : (nodes : List Node) (s : Setting) (i : ℕ) (xs ys : List (List (Knot P))) (y : List (Knot P)) → length xs ≡ i → ys ≡ xs ++ y ∷ []
       → TellAt shape s (subformula nodes) xs → TellsValue shape s (subformula nodes i) y
       → TellAt shape s (subformula nodes) ys
-  told_pushed nodes s i xs ys y count e all new k x there = by_place (pushed_at xs y k x (subst (λ l. slice_get l k ≡ Some x) e there))
+  told_pushed nodes s i xs ys y count e all new k x there = by_place (slice_get-push_cases xs y k x (subst (λ l. slice_get l k ≡ Some x) e there))
     where
       by_place : (slice_get xs k ≡ Some x) ⊎ ((k ≡ length xs) × (x ≡ y)) → TellsValue shape s (subformula nodes k) x
       by_place (inl h) = all k x h

@@ -5,10 +5,11 @@ use Rattle.std.specs.Prelude.{slice_get, MatchBool, IfSome, All, option_to_list,
 use Rattle.std.specs.List.{list_any}
 use Rattle.std.proofs.Math.ListN.{set}
 use Rattle.std.proofs.lemmas.Bool.{ne_eqb, eq-eqb}
-use Rattle.std.proofs.lemmas.List.{length-take, take_more}
+use Rattle.std.proofs.lemmas.List.{length-take, take_more, length-set}
 use Rattle.std.proofs.lemmas.List.Elements.{All-head, All-tail}
 use Rattle.std.proofs.lemmas.List.Folds.{list_any-append}
 use Rattle.std.proofs.lemmas.Option.{slice_get_within, get_or_from_slice_get}
+use Rattle.rational.proofs.Lists.{slice_get-push_cases, slice_get-append_here}
 use Rattle.value_laws.specs.Members.{ShapeOf}
 use Rattle.pl_signal.specs.declared.knot.Knot.{Knot}
 use Rattle.stl_syntax.specs.Formula.{Subformula, subformula, tree_of, constant, negation, conjunction, disjunction}
@@ -22,7 +23,7 @@ use Rattle.offline_eval.specs.Inputs.{IsOver}
 use Rattle.offline_eval.specs.Keeping.{kept, IsSpare, AreGivenUp, IsRootIn, IsStack, TellsStack}
 use Rattle.offline_eval.specs.Making.{IsSound, AreSound, TellAt, TellsValue}
 use Rattle.offline_eval.specs.Places.{AgreeAt, reach_before}
-use Rattle.offline_eval.proofs.Evaluating.{pushed_at, pushed_count, told_pushed, all_told, all_pushed}
+use Rattle.offline_eval.proofs.Evaluating.{pushed_count, told_pushed, all_told, all_pushed}
 use Rattle.offline_eval.proofs.Sound.{sound_more}
 
 -- a place in a list in which one item was replaced
@@ -37,12 +38,6 @@ written_at (z ∷ xs) (suc p) y (suc k) x e = by_rest (written_at xs p y k x e)
     by_rest : ((k ≡ p) × (x ≡ y)) ⊎ ((p ≡ k → ⊥) × (slice_get xs k ≡ Some x)) → ((suc k ≡ suc p) × (x ≡ y)) ⊎ ((suc p ≡ suc k → ⊥) × (slice_get xs k ≡ Some x))
     by_rest (inl h) = inl (ap suc h.0, h.1)
     by_rest (inr h) = inr (λ e. h.0 (omega (arith, e)), h.1)
-
--- a list has as many items once one of them was put in place
-pub length_written : {X : Type 0} (xs : List X) (p : ℕ) (y : X) → length (set xs p y) ≡ length xs
-length_written [] p y = refl
-length_written (z ∷ xs) zero y = refl
-length_written (z ∷ xs) (suc p) y = ap suc (length_written xs p y)
 
 -- a test at a, or at b and then at a
 join : (S M O : Type 0) (a b : Bool) → MatchBool b S M → (M → MatchBool a S O) → MatchBool (a || b) S O
@@ -147,7 +142,7 @@ module _ {P : Type 0} (shape : ShapeOf P) (from to : ℕ) where
   pub one_given_up : (p : ℕ) (old new : List (List (Knot P))) (spare : List (Knot P)) → new ≡ set old p spare → IsSpare shape from to spare
       → AreGivenUp shape from to (p ∷ []) old new
   one_given_up p old new spare e h = record {
-    count = ap length e ∙ length_written old p spare;
+    count = ap length e ∙ length-set old p spare;
     at = λ k x there. by_place k x (written_at old p spare k x (subst (λ l. slice_get l k ≡ Some x) e there));
   }
     where
@@ -187,7 +182,7 @@ module _ {P : Type 0} (shape : ShapeOf P) (from to : ℕ) where
       by_child : (b : Bool) → has_child k n ≡ b → MatchBool b (IsSpare shape from to x) (slice_get (old ++ y ∷ []) k ≡ Some x)
           → TellsValue shape s (kept nodes (i + 1) k) x
       by_child true e spare = subst (λ f. TellsValue shape s f x) (sym (kept_child nodes i n there k e)) (spare.told s over)
-      by_child false e h = by_place e (pushed_at old y k x h)
+      by_child false e h = by_place e (slice_get-push_cases old y k x h)
 
   -- the signals stay sound
   pub kept_sound : (places : List ℕ) (reach : ℕ) (old new : List (List (Knot P))) → AreGivenUp shape from to places old new
@@ -224,23 +219,19 @@ module _ {P : Type 0} (shape : ShapeOf P) (nodes : List Node) (s : Setting) wher
     last = λ k x e at. here k x (omega (arith, e)) (given.at k x at);
   }
     where
-      at_end : {X : Type 0} (xs : List X) (x : X) → slice_get (xs ++ x ∷ []) (length xs) ≡ Some x
-      at_end [] x = refl
-      at_end (z ∷ xs) x = at_end xs x
-
       by_place : (k : ℕ) (x : List (Knot P)) → k ≡ i → (slice_get old k ≡ Some x) ⊎ ((k ≡ length old) × (x ≡ y))
           → slice_get (st.signals ++ y ∷ []) k ≡ Some x
       by_place k x e (inl h) = absurd (let l = slice_get_within old k x h in omega (arith, e, l, count))
       by_place k x e (inr h) =
           let long : length st.signals ≡ k = st.count ∙ sym e in
           subst (λ j. slice_get (st.signals ++ y ∷ []) j ≡ Some x) long
-          (subst (λ z. slice_get (st.signals ++ y ∷ []) (length st.signals) ≡ Some z) (sym h.1) (at_end st.signals y))
+          (subst (λ z. slice_get (st.signals ++ y ∷ []) (length st.signals) ≡ Some z) (sym h.1) (slice_get-append_here st.signals y []))
 
       here : (k : ℕ) (x : List (Knot P)) → k ≡ i → MatchBool (has_child k n) (IsSpare shape from to x) (slice_get (old ++ y ∷ []) k ≡ Some x)
           → slice_get (st.signals ++ y ∷ []) k ≡ Some x
       here k x e m =
           let free : has_child k n ≡ false = subst (λ j. has_child j n ≡ false) (sym e) (no_own_child nodes i n there order) in
-          by_place k x e (pushed_at old y k x (subst (λ b. MatchBool b (IsSpare shape from to x) (slice_get (old ++ y ∷ []) k ≡ Some x)) free m))
+          by_place k x e (slice_get-push_cases old y k x (subst (λ b. MatchBool b (IsSpare shape from to x) (slice_get (old ++ y ∷ []) k ≡ Some x)) free m))
 
   -- what is left in the end is the last of them
   pub stack_root : (done rest : List (List (Knot P))) (x : List (Knot P)) → 0 < length nodes → length done ≡ length nodes
@@ -252,10 +243,6 @@ module _ {P : Type 0} (shape : ShapeOf P) (nodes : List Node) (s : Setting) wher
     all_told shape nodes s st.signals st.count st.all,
   )
     where
-      at_end : {X : Type 0} (xs : List X) (x : X) → slice_get (xs ++ x ∷ []) (length xs) ≡ Some x
-      at_end [] x = refl
-      at_end (z ∷ xs) x = at_end xs x
-
       length_pushed : {X : Type 0} (xs : List X) (x : X) → length (xs ++ x ∷ []) ≡ suc (length xs)
       length_pushed [] x = refl
       length_pushed (z ∷ xs) x = ap suc (length_pushed xs x)
@@ -264,7 +251,7 @@ module _ {P : Type 0} (shape : ShapeOf P) (nodes : List Node) (s : Setting) wher
       long = omega (arith, count, ap length e ∙ length_pushed rest x)
 
       at : slice_get done (length nodes - 1) ≡ Some x
-      at = ap (λ l. slice_get l (length nodes - 1)) e ∙ ap (slice_get (rest ++ x ∷ [])) long ∙ at_end rest x
+      at = ap (λ l. slice_get l (length nodes - 1)) e ∙ ap (slice_get (rest ++ x ∷ [])) long ∙ slice_get-append_here rest x []
 
 module _ {P : Type 0} (shape : ShapeOf P) (from to : ℕ) (nodes : List Node) where
   -- no signals are a stack before the first node

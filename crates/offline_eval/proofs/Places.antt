@@ -2,12 +2,12 @@
 use Rattle.std.proofs.Common.{◌≡◌, ℕ, zero, suc, ◌+◌, false, cond, List, [], ◌∷◌, take, drop, Some, ap, sym}
 use Rattle.std.proofs.Common.{◌∙◌, subst, refl, arith, add-zero, ◌<◌, ◌++◌, length, ◌⊎◌, inl, inr, true}
 use Rattle.std.specs.Prelude.{slice_get, sum_by, Result, Ok, Err, OnOk}
-use Rattle.std.proofs.lemmas.Option.{slice_get_within, get_or_from_slice_get}
+use Rattle.std.proofs.lemmas.Option.{slice_get_within, get_or_from_slice_get, same_Some}
 use Rattle.std.proofs.lemmas.List.Sums.{sum_by_more}
+use Rattle.rational.proofs.Lists.{slice_get-append_left, slice_get-append_here}
 use Rattle.value_laws.specs.Members.{ShapeOf}
 use Rattle.pl_signal.specs.declared.knot.Knot.{Knot}
 use Rattle.pl_signal.specs.Moves.{Tells}
-use Rattle.pl_signal.proofs.Values.{some_is}
 use Rattle.stl_syntax.specs.Formula.{subformula, tree_of, atom}
 use Rattle.stl_syntax.specs.SupInf.{Setting, Gives}
 use Rattle.stl_syntax.specs.declared.atom.Atom.{Atom}
@@ -67,18 +67,6 @@ same_leaf e = cc
 before_or_here : (i j : ℕ) → j < i + 1 → (j < i) ⊎ (j ≡ i)
 before_or_here i j h = grind (arith, h)
 
-in_front : {X : Type 0} (xs : List X) (x : X) (k : ℕ) (y : X) → slice_get xs k ≡ Some y → slice_get (xs ++ x ∷ []) k ≡ Some y
-in_front [] x k y e = absurd cc
-in_front (z ∷ xs) x zero y e = e
-in_front (z ∷ xs) x (suc k) y e = in_front xs x k y e
-
-last_of : {X : Type 0} (xs : List X) (x : X) (k : ℕ) → k ≡ length xs → slice_get (xs ++ x ∷ []) k ≡ Some x
-last_of xs x k e = subst (λ n. slice_get (xs ++ x ∷ []) n ≡ Some x) (sym e) (at_end xs x)
-  where
-    at_end : {X : Type 0} (xs : List X) (x : X) → slice_get (xs ++ x ∷ []) (length xs) ≡ Some x
-    at_end [] x = refl
-    at_end (z ∷ xs) x = at_end xs x
-
 module _ {P : Type 0} where
   -- an atom takes the next signal
   pub atom_takes : (nodes : List Node) (i : ℕ) (a : Atom) (x : List (Knot P)) (old new : List (List (Knot P))) → slice_get nodes i ≡ Some (Leaf a)
@@ -105,7 +93,7 @@ module _ {P : Type 0} (shape : ShapeOf P) where
   atom_told nodes i a x old new all s at tree e left told =
       let o = told i a (slice_get_within nodes i (Leaf a) at) at in
       let here = (drop_at all (atoms_before nodes i) x new (sym e ∙ left)).0 in
-      let same : o.0 ≡ x = some_is (sym o.1 ∙ here) in
+      let same : o.0 ≡ x = same_Some _ _ (sym o.1 ∙ here) in
       subst (λ f. TellsValue shape s f x) (sym tree) (subst (TellsValue shape s (atom i a)) same o.2)
 
   -- before the first node nothing is told
@@ -120,11 +108,11 @@ module _ {P : Type 0} (shape : ShapeOf P) where
     where
       by_place : (j < i) ⊎ (j ≡ i) → (y : List (Knot P)) × (slice_get (xs ++ x ∷ []) (atoms_before nodes j) ≡ Some y)
           × Tells shape (Gives s.atoms j b) s.from s.to y
-      by_place (inl k) = let o = told j b k at_j in (o.0, in_front xs x (atoms_before nodes j) o.0 o.1, o.2)
+      by_place (inl k) = let o = told j b k at_j in (o.0, slice_get-append_left xs (x ∷ []) (atoms_before nodes j) o.0 o.1, o.2)
       by_place (inr k) =
           let same : b ≡ a = same_leaf (sym at_j ∙ ap (slice_get nodes) k ∙ at) in (
             x,
-            last_of xs x (atoms_before nodes j) (ap (atoms_before nodes) k ∙ sym count),
+            ap (slice_get (xs ++ x ∷ [])) (ap (atoms_before nodes) k ∙ sym count) ∙ slice_get-append_here xs x [],
             subst (λ m. Tells shape (Gives s.atoms m b) s.from s.to x)
                 (sym k) (subst (λ c. Tells shape (Gives s.atoms i c) s.from s.to x) (sym same) tells),
           )
@@ -136,7 +124,7 @@ module _ {P : Type 0} (shape : ShapeOf P) where
     where
       by_place : (j < i) ⊎ (j ≡ i) → (y : List (Knot P)) × (slice_get xs (atoms_before nodes j) ≡ Some y) × Tells shape (Gives s.atoms j b) s.from s.to y
       by_place (inl k) = told j b k at_j
-      by_place (inr k) = absurd (clash (ap is_atom (some_is (sym at_j ∙ ap (slice_get nodes) k ∙ at)) ∙ other))
+      by_place (inr k) = absurd (clash (ap is_atom (same_Some _ _ (sym at_j ∙ ap (slice_get nodes) k ∙ at)) ∙ other))
         where
           clash : true ≡ false → ⊥
           clash e = cc

@@ -1,17 +1,18 @@
 -- The signals of atoms tell the atoms in the setting in which each atom is read by the plain list of knots of its own signal.
-use Rattle.std.proofs.Common.{◌≡◌, ℕ, zero, suc, ◌+◌, ◌<◌, List, [], ◌∷◌, length, drop, take, map, cond, Some, refl, sym, ap, ◌∙◌, subst, arith, length-drop}
+use Rattle.std.proofs.Common.{◌≡◌, ℕ, zero, suc, ◌+◌, List, [], ◌∷◌, length, drop, take, map, cond, Some, refl, sym, ap, ◌∙◌, subst, arith, length-drop}
 use Rattle.std.specs.Prelude.{slice_get, All, pos}
 use Rattle.std.proofs.lemmas.List.Sums.{sum_by-cons}
-use Rattle.std.proofs.lemmas.Option.{slice_get_within, get_or_from_slice_get}
+use Rattle.std.proofs.lemmas.Option.{slice_get_within, get_or_from_slice_get, same_Some}
 use Rattle.rational.specs.Time.{Rational, whole}
 use Rattle.rational.specs.Extended.{Extended}
 use Rattle.rational.proofs.Order.{le_trans, le_of_same, ge_of_same}
+use Rattle.rational.proofs.Lists.{slice_get_there}
 use Rattle.value_laws.specs.Members.{ShapeOf}
 use Rattle.pl_signal.specs.declared.knot.Knot.{Knot}
 use Rattle.pl_signal.specs.Knots.{IsSignal}
 use Rattle.pl_signal.specs.Moves.{Tells}
 use Rattle.pl_signal.specs.Plain.{knots_of}
-use Rattle.pl_signal.proofs.Values.{some_is, worth_within}
+use Rattle.pl_signal.proofs.Values.{worth_within}
 use Rattle.pl_signal.proofs.PlainLemmas.{reads_is_worth}
 use Rattle.stl_syntax.specs.Knots.{Knots, Reads}
 use Rattle.stl_syntax.specs.SupInf.{Gives, placed, signals}
@@ -38,13 +39,8 @@ placed_at (n ∷ nodes) ks (suc i) a k at h = placed_at nodes ks i a k at h
 
 got_mapped : {A B : Type 0} (f : A → B) (xs : List A) (i : ℕ) (x : A) → slice_get xs i ≡ Some x → slice_get (map f xs) i ≡ Some (f x)
 got_mapped f [] i x h = absurd (let e = h in cc)
-got_mapped f (y ∷ xs) zero x h = ap (λ z. Some (f z)) (some_is h)
+got_mapped f (y ∷ xs) zero x h = ap (λ z. Some (f z)) (same_Some _ _ h)
 got_mapped f (y ∷ xs) (suc i) x h = got_mapped f xs i x h
-
-got_there : {A : Type 0} (xs : List A) (i : ℕ) → i < length xs → (x : A) × (slice_get xs i ≡ Some x)
-got_there [] i h = absurd (omega (arith, h))
-got_there (y ∷ xs) zero h = (y, refl)
-got_there (y ∷ xs) (suc i) h = got_there xs i (omega (arith, h))
 
 module _ {P : Type 0} (shape : ShapeOf P) (nodes : List Node) (from to : ℕ) (atoms : List (List (Knot P)))
     (count : length atoms ≡ atoms_before nodes (length nodes))
@@ -53,7 +49,7 @@ module _ {P : Type 0} (shape : ShapeOf P) (nodes : List Node) (from to : ℕ) (a
   its_signal : (i : ℕ) (a : Atom) → slice_get nodes i ≡ Some (Leaf a) → (x : List (Knot P)) × (slice_get atoms (atoms_before nodes i) ≡ Some x)
   its_signal i a at =
       let left = some_left nodes atoms (drop (atoms_before nodes i) atoms) i a count refl at in
-      got_there atoms (atoms_before nodes i) (omega (arith, left, length-drop (atoms_before nodes i) atoms))
+      slice_get_there atoms (atoms_before nodes i) (omega (arith, left, length-drop (atoms_before nodes i) atoms))
 
   -- each atom's signal tells its own plain knots
   pub plain_told : TellAtoms shape nodes atoms (knots_setting shape nodes from to atoms)
@@ -77,7 +73,7 @@ module _ {P : Type 0} (shape : ShapeOf P) (nodes : List Node) (from to : ℕ) (a
           ),
           λ h.
               let (ks, at_place, reads) = h.1 in
-              let same : ks ≡ knots_of shape x = some_is (some_is (sym at_place ∙ place)) in
+              let same : ks ≡ knots_of shape x = same_Some _ _ (same_Some _ _ (sym at_place ∙ place)) in
               (reads_is_worth shape x t v is_signal).0 (subst (λ l. Reads l t v) same reads),
         );
       } in

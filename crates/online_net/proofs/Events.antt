@@ -4,7 +4,7 @@ use Rattle.std.proofs.Common.{Option, Some, None, List, [], ◌∷◌, ◌++◌,
 use Rattle.std.specs.Prelude.{◌≢◌, cond, ◌==◌, slice_get, slice_index_or, option_map}
 use Rattle.std.proofs.lemmas.List.{append-nil}
 use Rattle.std.proofs.lemmas.Bool.{cases_order, eq-eqb}
-use Rattle.std.proofs.lemmas.Option.{get_or_from_slice_get}
+use Rattle.std.proofs.lemmas.Option.{get_or_from_slice_get, slice_get_within}
 use Rattle.stl_syntax.specs.Trace.{Header, Row}
 use Rattle.stl_syntax.specs.PostOrder.{IsPostOrder}
 use Rattle.stl_syntax.specs.WellFormed.{AreWellFormed}
@@ -20,12 +20,12 @@ use Rattle.online_nodes.specs.Held.{Edge, Held, edge_at, fresh_at, held_at, held
 use Rattle.online_nodes.specs.Belonging.{StandsForSteps, HasStepped}
 use Rattle.online_nodes.specs.declared.operator.Operator.{Operator}
 use Rattle.online_nodes.proofs.EdgeLaw.{edge_grows, edge_stays, root_grows, root_stays, root_taken, after_one}
-use Rattle.online_nodes.proofs.EdgeLaw.{run_more, step_leaves, get_within, reads_or_not, shown_stays}
+use Rattle.online_nodes.proofs.EdgeLaw.{run_more, step_leaves, reads_or_not, shown_stays}
 use Rattle.online_nodes.proofs.ReadersLaw.{one_reader, root_unread}
 use Rattle.online_nodes.proofs.StandingLaw.{InputOn, stands_on, edge_unshown, edge_within}
 use Rattle.online_nodes.proofs.FrameLaw.{nothing_given}
 use Rattle.online_nodes.proofs.RisingLaw.{sound_of, children_before}
-use Rattle.online_nodes.proofs.ReadersLaw.{child_read}
+use Rattle.online_nodes.proofs.ReaderLemmas.{child_all}
 use Rattle.online_net.specs.Nets.{Parts, Keeps, HasOperator, Stands, first_row, last_row_of}
 
 module _ (nodes : List Node) (header : Header) (events : List Event) (net : Parts) (st : Stands nodes header net events) where
@@ -145,15 +145,15 @@ module _ (nodes : List Node) (header : Header) (events : List Event) (net : Part
   -- what a node reads is no root
   pub read_place : (i : ℕ) (n : Node) (left : Bool) (j : ℕ) → slice_get nodes i ≡ Some n → IsReader n left j → suc j < length nodes
   read_place i n left j at reads =
-      let l = get_within nodes i n at in
-      let x : j < i = child_read (λ p. p < i) n left j reads (children_before nodes header order i n l at) in
+      let l = slice_get_within nodes i n at in
+      let x : j < i = child_all (λ p. p < i) n left j reads (children_before nodes header order i n l at) in
       omega (arith, l, x)
 
   -- the end came
   pub closed_stands : MayCome nodes header s close → Stands nodes header (record net { closed = true }) (events ++ close ∷ [])
   closed_stands may = stand close may (record net { closed = true }) (λ i l. st.shows.fronts i l)
       (λ j l. edge_stays nodes header formed events close st.run may j (omega (arith, l)) (held_at net.edges j) (st.shows.edges j l)
-      (get_within nodes (st.shows.edges j l).reader (st.shows.edges j l).reading (st.shows.edges j l).at_reader) refl refl)
+      (slice_get_within nodes (st.shows.edges j l).reader (st.shows.edges j l).reading (st.shows.edges j l).at_reader) refl refl)
       (root_stays nodes header formed events close (λ e. let z : close ≡ take = e in cc) st.run root_here
       (held_at net.edges (length nodes - 1)) st.shows.root refl)
       (keep close may (record net { closed = true }) refl refl refl st.holds.start st.holds.last refl st.holds.running st.holds.at_atom
@@ -168,7 +168,7 @@ module _ (nodes : List Node) (header : Header) (events : List Event) (net : Part
   taken_stands e' others root number count start = stand take tt (record net { edges = e' }) numbers
       (λ j l. subst (λ h. IsEdge nodes header (events ++ take ∷ []) j h) (ap held_of (sym (others j (omega (arith, l)))))
       (edge_stays nodes header formed events take st.run tt j (omega (arith, l)) (held_at net.edges j) (st.shows.edges j l)
-      (get_within nodes (st.shows.edges j l).reader (st.shows.edges j l).reading (st.shows.edges j l).at_reader) refl refl))
+      (slice_get_within nodes (st.shows.edges j l).reader (st.shows.edges j l).reading (st.shows.edges j l).at_reader) refl refl))
       (subst (λ h. IsRootEdge nodes header (events ++ take ∷ []) h) (sym root)
       (root_taken nodes header formed events (held_at net.edges (length nodes - 1)) st.shows.root))
       (keep take tt (record net { edges = e' }) refl count refl (start ∙ st.holds.start) st.holds.last st.holds.closed st.holds.running st.holds.at_atom
@@ -264,15 +264,15 @@ module _ (nodes : List Node) (header : Header) (events : List Event) (net : Part
           own x = subst (λ k. IsEdge nodes header (events ++ step i ∷ []) k (held_at e' k)) (sym x)
               (subst (λ h. IsEdge nodes header (events ++ step i ∷ []) i h) (sym held_here)
               (edge_grows nodes header formed events (step i) st.run may i il (held_at net.edges i) stepped.verdicts edge
-              (get_within nodes edge.reader edge.reading edge.at_reader)
+              (slice_get_within nodes edge.reader edge.reading edge.at_reader)
               (step_leaves nodes header formed s i edge.reader (λ y. absurd (let z = below in omega (arith, y, z)))) given))
             where
               edge : IsEdge nodes header events i (held_at net.edges i)
               edge = st.shows.edges i (subst (λ k. suc k < length nodes) x l)
 
               below : i < edge.reader
-              below = child_read (λ p. p < edge.reader) edge.reading edge.left i edge.reads
-                  (children_before nodes header order edge.reader edge.reading (get_within nodes edge.reader edge.reading edge.at_reader) edge.at_reader)
+              below = child_all (λ p. p < edge.reader) edge.reading edge.left i edge.reads
+                  (children_before nodes header order edge.reader edge.reading (slice_get_within nodes edge.reader edge.reading edge.at_reader) edge.at_reader)
 
           other : j ≢ i → IsEdge nodes header (events ++ step i ∷ []) j (held_at e' j)
           other d = by_read (reads_or_not n_i j)
@@ -282,7 +282,7 @@ module _ (nodes : List Node) (header : Header) (events : List Event) (net : Part
               by_read (inl (left, r)) = (stepped.inputs j n_i left at_i r).1
               by_read (inr none) = subst (λ h. IsEdge nodes header (events ++ step i ∷ []) j h) (ap held_of (sym (stays j d none)))
                   (edge_stays nodes header formed events (step i) st.run may j (omega (arith, l)) (held_at net.edges j) (st.shows.edges j l)
-                  (get_within nodes (st.shows.edges j l).reader (st.shows.edges j l).reading (st.shows.edges j l).at_reader)
+                  (slice_get_within nodes (st.shows.edges j l).reader (st.shows.edges j l).reading (st.shows.edges j l).at_reader)
                   (step_leaves nodes header formed s i (st.shows.edges j l).reader (reader_other j l none)) (step_leaves nodes header formed s i j d))
 
           by_order : (j ≡ i) ⊎ ((j < i) ⊎ (i < j)) → IsEdge nodes header (events ++ step i ∷ []) j (held_at e' j)

@@ -3,8 +3,10 @@ use Rattle.std.proofs.Common.{◌≡◌, refl, sym, ap, subst, ◌∙◌, ℕ, s
 use Rattle.std.proofs.Common.{Some, None, List, [], ◌∷◌, ◌++◌, length, ℤ, pos, ◌<ℤ◌, arith, append_assoc}
 use Rattle.std.specs.Prelude.{MatchBool, ◌≢◌, cond, int_lt, not, ◌&&◌, slice_get, slice_index_or, option_map, IfSome}
 use Rattle.std.proofs.lemmas.Int.{ints}
-use Rattle.std.proofs.lemmas.Option.{get_or_from_slice_get}
-use Rattle.stl_syntax.specs.Trace.{Header, Row, Trace, AreRowsAfter, first_time, last_time}
+use Rattle.std.proofs.lemmas.Option.{get_or_from_slice_get, same_Some, slice_get_within}
+use Rattle.rational.proofs.Lists.{slice_get-append_here}
+use Rattle.rational.proofs.Tests.{int_order}
+use Rattle.stl_syntax.specs.Trace.{Header, Row, Trace, first_time, last_time}
 use Rattle.stl_syntax.specs.Formula.{subformula, atom}
 use Rattle.stl_syntax.specs.PostOrder.{IsPostOrder}
 use Rattle.stl_syntax.specs.WellFormed.{AreWellFormed}
@@ -15,16 +17,17 @@ use Rattle.stl_syntax.specs.declared.node.Node.{Node}
 use Rattle.stl_syntax.specs.declared.node.Node.TheVariants.{Const, Atom as Leaf, Not, And, Or, Implies, Until, Eventually, Always, Since, Once, Historically}
 use Rattle.stl_syntax.proofs.FormulaLemmas.{subformula-at}
 use Rattle.stl_syntax.proofs.PostOrderLemmas.{placed, slice_get_at}
+use Rattle.stl_syntax.proofs.RowsLemmas.{last_from}
 use Rattle.atom_lines.specs.Binding.{HasRow, AreNeighbours}
 use Rattle.online_nodes.specs.Network.{Event, row, take, Front, State, last_row, shown, same_front, answered}
 use Rattle.online_nodes.specs.Network.{is_atom, node_is_atom, after_event, state, EmittedAt, MayCome}
 use Rattle.online_nodes.specs.Needed.{IsReader, IsEdge, IsRootEdge}
 use Rattle.online_nodes.specs.Held.{Edge, Held, edge_at, fresh_at, held_at, held_of, number_at}
-use Rattle.online_nodes.proofs.RunLaw.{some_is, int_order, last_appended}
+use Rattle.online_nodes.proofs.RunLaw.{last_appended}
 use Rattle.online_nodes.proofs.RisingLaw.{IsSound, sound_of}
 use Rattle.online_nodes.proofs.EmittedLaw.{front_shown}
 use Rattle.online_nodes.proofs.RowsLaw.{AreRowsSoFar, rows_of, rows_after, trace_so_far}
-use Rattle.online_nodes.proofs.EdgeLaw.{edge_grows, edge_stays, root_grows, root_stays, row_leaves, get_within, reader_is_none}
+use Rattle.online_nodes.proofs.EdgeLaw.{edge_grows, edge_stays, root_grows, root_stays, row_leaves, reader_is_none}
 use Rattle.online_nodes.proofs.StandingLaw.{InputOn}
 use Rattle.online_net.specs.Nets.{Parts, Stands, first_row, last_row_of, last_row_after}
 use Rattle.online_net.specs.Atoms.{row_stretch, StandsNext, IsPut, HasPutAtoms, begun}
@@ -63,10 +66,6 @@ last_time_is rows closed fronts q e =
     subst (λ l. last_row (record { rows = l; closed = closed; fronts = fronts }) ≡ Some (pos q.time)) (sym x.1) (last_appended x.0 q closed fronts)
 
 -- a row that is pushed stands in the trace right after the last one
-get_seam : (front : List Row) (q : Row) (more : List Row) → slice_get (front ++ q ∷ more) (length front) ≡ Some q
-get_seam [] q more = refl
-get_seam (r ∷ front) q more = get_seam front q more
-
 get_after_seam : (front : List Row) (q r : Row) → slice_get (front ++ q ∷ r ∷ []) (suc (length front)) ≡ Some r
 get_after_seam [] q r = refl
 get_after_seam (p ∷ front) q r = get_after_seam front q r
@@ -78,19 +77,14 @@ stands_next header rows (Some q) r e =
     let x = last_splits rows q (sym e) in
     subst (λ l. AreNeighbours (record { header = header; rows = l }) q r)
     (sym (ap (λ l. l ++ r ∷ []) x.1 ∙ append_assoc x.0 (q ∷ []) (r ∷ [])))
-    (length x.0, get_seam x.0 q (r ∷ []), get_after_seam x.0 q r)
-
--- rows rise
-rise : (width t : ℕ) (rows : List Row) → AreRowsAfter width t rows → t ≤ last_time t rows
-rise width t [] h = omega arith
-rise width t (r ∷ rows) h = let x = rise width r.time rows h.2 in let y = h.0 in omega (arith, x, y)
+    (length x.0, slice_get-append_here x.0 q (r ∷ []), get_after_seam x.0 q r)
 
 -- the first time is not after the last row's
 pub start_by_last : (width : ℕ) (rows : List Row) (q : Row) → AreRowsSoFar width rows → last_row_of rows ≡ Some q → first_time rows ≤ q.time
 start_by_last width [] q h e = absurd (let x : None ≡ Some q = e in cc)
 start_by_last width (r ∷ rows) q h e =
-    let x = rise width r.time rows h.1 in
-    let y : pos (last_time r.time rows) ≡ pos q.time = some_is (pos (last_time r.time rows)) (pos q.time) (last_time_is (r ∷ rows) false (λ i. None) q e) in
+    let x = last_from width r.time rows h.1 in
+    let y : pos (last_time r.time rows) ≡ pos q.time = same_Some (pos (last_time r.time rows)) (pos q.time) (last_time_is (r ∷ rows) false (λ i. None) q e) in
     omega (arith, ints, x, y)
 
 begun_edge : (e : Held) (before : Option Row) (r : Row) (j : ℕ) → edge_at (begun e before r) j ≡ edge_at e j
@@ -144,7 +138,7 @@ module _ (nodes : List Node) (header : Header) (events : List Event) (net : Part
   -- an atom's edge got its verdicts
   atom_put : (j : ℕ) (n : Node) → slice_get nodes j ≡ Some n → is_atom n ≡ true → IsPut net.bound net.last r j (edge_at net.edges j) (edge_at e' j)
   atom_put j n at a = subst (λ x. IsPut net.bound net.last r j x (edge_at e' j)) (begun_edge net.edges net.last r j)
-      (put.atoms j (let l = get_within nodes j n at in let c = st.holds.operators in omega (arith, l, c)) (st.holds.at_atom j n at a))
+      (put.atoms j (let l = slice_get_within nodes j n at in let c = st.holds.operators in omega (arith, l, c)) (st.holds.at_atom j n at a))
 
   -- another node's edge stays
   other_edge : (j : ℕ) (n : Node) → slice_get nodes j ≡ Some n → is_atom n ≡ false → edge_at e' j ≡ edge_at net.edges j
@@ -213,12 +207,12 @@ module _ (nodes : List Node) (header : Header) (events : List Event) (net : Part
               by_front : (o : Front) → s.fronts j ≡ o → from (s.fronts j) ≡ None
               by_front None x = ap from x
               by_front (Some g) x =
-                  let b = sound.bounded j g (get_within nodes j n at) x in
+                  let b = sound.bounded j g (slice_get_within nodes j n at) x in
                   let y : None ≡ Some b.last = subst (λ l. last_row (record { rows = l; closed = s.closed; fronts = s.fronts }) ≡ Some b.last) none b.is_last in
                   absurd (cc)
       by_last (Some q) e d =
           let end = last_time_is s.rows s.closed s.fronts q (sym is_last ∙ e) in
-          let front : s.fronts j ≡ Some (pos q.time) = sound.atoms j (get_within nodes j n at) (node_here j n at ∙ a) ∙ end in
+          let front : s.fronts j ≡ Some (pos q.time) = sound.atoms j (slice_get_within nodes j n at) (node_here j n at ∙ a) ∙ end in
           let low = start_by_last (length header.columns) s.rows q (rows_of nodes header events st.run) (sym is_last ∙ e) in
           let was : shown s j ≡ Some (pos q.time) = front_shown s j (pos q.time) front (omega (arith, ints, low)) in
           let later : pos q.time <ℤ pos r.time = subst (λ o. IfSome o (λ f. f <ℤ pos r.time)) end may.1 in
@@ -286,7 +280,7 @@ module _ (nodes : List Node) (header : Header) (events : List Event) (net : Part
       reader_same j l =
           let edge = st.shows.edges j l in
           row_leaves nodes header formed s r edge.reader (reader_is_none nodes header formed edge.reader edge.reading edge.left j
-          (get_within nodes edge.reader edge.reading edge.at_reader) edge.at_reader edge.reads)
+          (slice_get_within nodes edge.reader edge.reading edge.at_reader) edge.at_reader edge.reads)
 
       edges : (j : ℕ) → suc j < length nodes → IsEdge nodes header (events ++ row r ∷ []) j (held_at e' j)
       edges j l = by_kind (node_at j)
@@ -301,7 +295,7 @@ module _ (nodes : List Node) (header : Header) (events : List Event) (net : Part
           jl = omega (arith, l)
 
           rl : (st.shows.edges j l).reader < length nodes
-          rl = get_within nodes (st.shows.edges j l).reader (st.shows.edges j l).reading (st.shows.edges j l).at_reader
+          rl = slice_get_within nodes (st.shows.edges j l).reader (st.shows.edges j l).reading (st.shows.edges j l).at_reader
 
       root : IsRootEdge nodes header (events ++ row r ∷ []) (held_at e' (length nodes - 1))
       root = by_kind (node_at k)

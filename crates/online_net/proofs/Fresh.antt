@@ -3,7 +3,7 @@ use Rattle.std.proofs.Common.{◌≡◌, ◌⊎◌, inl, inr, refl, sym, ap, sub
 use Rattle.std.proofs.Common.{true, false, Option, Some, None, List, [], ◌∷◌, ◌++◌, length, length-append, arith}
 use Rattle.std.specs.Prelude.{slice_get, slice_index_or, replicate}
 use Rattle.std.proofs.lemmas.Bool.{cases_order}
-use Rattle.std.proofs.lemmas.Option.{slice_get_cases, get_or_from_slice_get}
+use Rattle.std.proofs.lemmas.Option.{slice_get_cases, get_or_from_slice_get, slice_get_within}
 use Rattle.std.proofs.Math.ListN.{get_or-append}
 use Rattle.std.proofs.Math.Seq.{get_or-append_seam}
 use Rattle.stl_syntax.specs.Trace.{Header}
@@ -16,7 +16,6 @@ use Rattle.online_nodes.specs.Network.{is_atom, node_is_atom, state}
 use Rattle.online_nodes.specs.Needed.{none}
 use Rattle.online_nodes.specs.Held.{Edge, edge_at, held_at, held_of, no_edge}
 use Rattle.online_nodes.specs.declared.operator.Operator.{Operator}
-use Rattle.online_nodes.proofs.EdgeLaw.{get_within}
 use Rattle.online_nodes.proofs.ReadersLaw.{has_reader}
 use Rattle.online_net.specs.Nets.{Parts, Keeps, HasOperator, Stands}
 use Rattle.online_net.specs.Steps.{IsFirstOperator, AreFirstOperators}
@@ -66,10 +65,10 @@ module _ (nodes : List Node) (header : Header) (formed : AreWellFormed nodes) (r
     last = last;
     closed = closed;
     running = running;
-    at_atom = λ i n at a. found i (get_within nodes i n at) ∙ ap Some (no_operator i n at a (slice_index_or net.operators i None)
-        (first.first i (get_within nodes i n at)));
-    at_other = λ i n at a. has i n at a (slice_index_or net.operators i None) (found i (get_within nodes i n at))
-        (first.first i (get_within nodes i n at));
+    at_atom = λ i n at a. found i (slice_get_within nodes i n at) ∙ ap Some (no_operator i n at a (slice_index_or net.operators i None)
+        (first.first i (slice_get_within nodes i n at)));
+    at_other = λ i n at a. has i n at a (slice_index_or net.operators i None) (found i (slice_get_within nodes i n at))
+        (first.first i (slice_get_within nodes i n at));
   }
     where
       no_operator : (i : ℕ) (n : Node) → slice_get nodes i ≡ Some n → is_atom n ≡ true → (o : Option Operator) → IsFirstOperator nodes i o → o ≡ None

@@ -8,9 +8,9 @@ use Rattle.std.proofs.lemmas.Option.{slice_get_cases, get_or_from_slice_get}
 use Rattle.online_nodes.specs.declared.operator.Operator.{Operator}
 use Rattle.std.proofs.lemmas.List.{get_or-set_same, get_or-set_other, length-set}
 use Rattle.std.proofs.lemmas.Int.{ints}
-use Rattle.rational.specs.Rational.{Rational, ◌≤ʳ◌, ◌<ʳ◌, ◌≈◌, whole}
+use Rattle.rational.specs.Rational.{Rational, ◌<ʳ◌, ◌≈◌, whole}
 use Rattle.rational.specs.Time.{left_open, HasTimeBetween}
-use Rattle.rational.proofs.Order.{same_refl, same_sym, le_of_lt, le_or_lt}
+use Rattle.rational.proofs.Order.{same_refl, same_sym, le_of_lt, le_or_lt, same_of_le}
 use Rattle.rational.proofs.Shift.{lt_whole}
 use Rattle.stl_syntax.specs.Trace.{Row, Trace, row_time}
 use Rattle.stl_syntax.specs.Formula.{Subformula, atom}
@@ -36,34 +36,14 @@ use Rattle.online_nodes.proofs.GotLemmas.{got_both, got_none, got-here, got-othe
 use Rattle.online_net.specs.Atoms.{HasSaidThree, HasBegun, IsThrough, IsPut, HasPutAtom, HasPutAtoms, StandsNext, row_stretch, before_row, after_row}
 use Rattle.frac128.specs.declared.cut.Cut.{Cut}
 use Rattle.online_nodes.specs.declared.writer.Out.{Out}
-use Rattle.rational.proofs.PlaceLemmas.{sides, not_both, place_order, between, same_places, same_trans_places}
+use Rattle.rational.proofs.PlaceLemmas.{sides, same_places, same_trans_places, same_of_at_most}
 use Rattle.rational.proofs.PlaceLemmas.{before_trans, before_same, same_before, room_of_before, upto_of_before, upto_same}
 use Rattle.online_nodes.proofs.Writing.{told_same, same_itself, lead_describes}
-
--- places of which neither comes after the other are one
-pub same_of_most : (c d : Place) → AtMost c d → AtMost d c → Same c d
-same_of_most c d h k = by_order (place_order c d)
-  where
-    apart : (c d : Place) → AtMost d c → Before c d → ⊥
-    apart c d k b = let t = between c d b in not_both c t.0 (k t.0 t.2) t.1
-
-    by_order : Before c d ⊎ Same c d ⊎ Before d c → Same c d
-    by_order (inl b) = absurd (apart c d k b)
-    by_order (inr (inl s)) = s
-    by_order (inr (inr b)) = absurd (apart d c h b)
-
--- what comes before a place is no later
-pub most_of_before : (c d : Place) → Before c d → AtMost c d
-most_of_before c d b t u = upto_of_before c d t b u
-
--- a place is no later than another way to write it
-pub most_of_same : (c d : Place) → Same c d → AtMost c d
-most_of_same c d s t u = upto_same c d t s u
 
 -- a writer that may go up to a place within its stretch stands there
 pub stands_at : (before after : Out) (cut : Cut) → Reaches before cut after → AtMost (place before.at) (place cut) → AtMost (place cut) (place before.to)
     → Same (place after.at) (place cut)
-stands_at before after cut r low high = same_of_most (place after.at) (place cut) up down
+stands_at before after cut r low high = same_of_at_most (place after.at) (place cut) up down
   where
     up : AtMost (place after.at) (place cut)
     up t u = elim (sides (place before.at) t) [ inl x ↦ low t x | inr x ↦ r.no_more t x u ]
@@ -133,10 +113,6 @@ is_test a tr t b e = by_value b (holds_at a tr t) e
     by_value true false e = absurd (let y : false ≡ true = e in cc)
     by_value false true e = absurd (let y : true ≡ false = e in cc)
     by_value false false e = λ h. (let y : false ≡ true = h in cc)
-
--- a time between just before a time and just after it is that time
-one_time : {c t : Rational} → c ≤ʳ t → t ≤ʳ c → t ≈ c
-one_time h k = record { same = (let a = h.le in let b = k.le in omega arith) }
 
 -- no verdict
 abbrev nothing : Option Bool
@@ -251,7 +227,7 @@ module _ (b : Binding) (i : ℕ) (first r : Row) (later : first.time < r.time) (
             (told_same h1 (Truth (atom i a) tr) (after_row first) (record { at = value at; after = false }) (place out0.at)
             (record { at = value at; after = false }) (same_places new.at) (same_itself (record { at = value at; after = false }))
             (λ t x y. is_test a tr t h1 (w.2 t x y)))
-            (λ t x y. is_test a tr t h2 (w.3 t (one_time x y)))
+            (λ t x y. is_test a tr t h2 (w.3 t (same_of_le y x)))
             (told_same h3 (Truth (atom i a) tr) (record { at = value at; after = true }) (before_row r) (record { at = value at; after = true }) (place end)
             (same_itself (record { at = value at; after = true })) (same_places ends_so) (λ t x y. is_test a tr t h3 (w.4 t x y))),
       )
@@ -344,7 +320,7 @@ atom_put {b} {i} before r {e0} {e1} {e2} {e3} {e4} {out1} {out2} {end} {holds} w
         finished.describes (atom i a) tr (row_stretch before r) (begun.more ++ answer.more) (stretch_some before r later)
         (answer.told (atom i a) tr (begins (row_stretch before r)) begun.more w.1
         (told_same holds (Truth (atom i a) tr) (before_row r) (after_row r) (place out1.at) (place out2.at) (same_places w.0) (same_places (there w.0))
-        (λ t x y. is_test a tr t holds (truth a tr t for (row_of_next tr before r next) (one_time x y)))))
+        (λ t x y. is_test a tr t holds (truth a tr t for (row_of_next tr before r next) (same_of_le y x)))))
         (subst (λ c. Same (place out2.at) c) (sym (stretch_ends before r)) (there w.0))
 
 -- between whole times there is room where the one comes before the other
@@ -365,7 +341,7 @@ through {truth = truth} b i first r holds is same on at = λ a tr for next t low
     let gap : TellsGap (row_time first) (row_time r) (holds_at a tr) (Whole truth) =
     subst (λ p. TellsGap (row_time first) (row_time r) (holds_at a tr) p) is (on a tr for next) in
     elim (le_or_lt (row_time r) t) [
-      | inl x ↦ at a tr t for (row_of_next tr (Some first) r next) (one_time x high)
+      | inl x ↦ at a tr t for (row_of_next tr (Some first) r next) (same_of_le high x)
       | inr x ↦ gap t low x ∙ same
     ]
 

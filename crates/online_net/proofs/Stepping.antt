@@ -24,17 +24,11 @@ use Rattle.online_nodes.specs.declared.operator.Operator.{Operator}
 use Rattle.online_nodes.proofs.RunLaw.{none_is_none, allowed_bound}
 use Rattle.online_nodes.proofs.DroppingLemmas.{slice_get-drop, held_of-without}
 use Rattle.online_nodes.proofs.RisingLaw.{IsSound, sound_of, same_is, same_of}
-use Rattle.online_nodes.proofs.EdgeLaw.{edge_stays, root_stays, get_within}
+use Rattle.online_nodes.proofs.EdgeLaw.{edge_stays, root_stays}
 use Rattle.online_net.specs.Nets.{Parts, Stands, IsNext, first_row, last_row_of, last_row_after}
 use Rattle.online_net.specs.Steps.{IsStep}
 use Rattle.online_net.proofs.Events.{stand, keep, operator_stays, input_same, read_place, root_here, stepped_stands, taken_stands}
 use Rattle.online_net.proofs.Feeding.{last_time_is, no_last, leaf_of, start_by_last}
-
--- a list with one element in another's place
-pub set_here : {X : Type 0} (xs : List X) (i : ℕ) (x : X) → i < length xs → slice_get (slice_set xs i x) i ≡ Some x
-set_here [] i x l = absurd (let z : i < 0 = l in omega (arith, z))
-set_here (y ∷ xs) zero x l = refl
-set_here (y ∷ xs) (suc i) x l = set_here xs i x (let z : suc i < suc (length xs) = l in omega (arith, z))
 
 -- what is there already, written once more
 pub set_same : {X : Type 0} (xs : List X) (i : ℕ) (x : X) → slice_get xs i ≡ Some x → slice_set xs i x ≡ xs
@@ -52,14 +46,6 @@ unmoved_parts net i op after e' is same still =
     sym (ap (λ e. record net { edges = e; operators = slice_set net.operators i (Some after) }) same
     ∙ ap (λ (o : Operator). record net { operators = slice_set net.operators i (Some o) }) still
     ∙ ap (λ os. record net { operators = os }) (set_same net.operators i (Some op) is))
-
--- all items but the one that is set stay as they are
-pub set_other : {X : Type 0} (xs : List X) (i : ℕ) (x : X) (j : ℕ) → j ≢ i → slice_get (slice_set xs i x) j ≡ slice_get xs j
-set_other [] i x j d = refl
-set_other (y ∷ xs) zero x zero d = absurd (d refl)
-set_other (y ∷ xs) zero x (suc j) d = refl
-set_other (y ∷ xs) (suc i) x zero d = refl
-set_other (y ∷ xs) (suc i) x (suc j) d = set_other xs i x j (λ e. d (ap suc e))
 
 module _ (nodes : List Node) (header : Header) (events : List Event) (net : Parts) (st : Stands nodes header net events) where
   abbrev s : State
@@ -195,7 +181,7 @@ module _ (nodes : List Node) (header : Header) (events : List Event) (net : Part
   pub idle_stands : (i : ℕ) → i < length nodes → node_is_atom nodes i ≡ false → ¬ IsReady nodes s i → Stands nodes header net (events ++ step i ∷ [])
   idle_stands i l other unready = stand nodes header events net st (step i) may net (λ j h. st.shows.fronts j h ∙ sym (stays j))
       (λ j h. edge_stays nodes header formed events (step i) st.run may j (omega (arith, h)) (held_at net.edges j) (st.shows.edges j h)
-      (get_within nodes (st.shows.edges j h).reader (st.shows.edges j h).reading (st.shows.edges j h).at_reader)
+      (slice_get_within nodes (st.shows.edges j h).reader (st.shows.edges j h).reading (st.shows.edges j h).at_reader)
       (stays (st.shows.edges j h).reader) (stays j))
       (root_stays nodes header formed events (step i) (λ e. let z : step i ≡ take = e in cc) st.run (root_here nodes header events net st)
       (held_at net.edges (length nodes - 1)) st.shows.root (stays (length nodes - 1)))

@@ -103,7 +103,8 @@ swept_all {mid} {marks} {told} kind w old out own apart only is held none g = by
           sound = swept.sound;
         }
 
-waiting_few : (o : Option Bool) → waiting o ≤ 1
+-- at most one span waits
+pub waiting_few : (o : Option Bool) → waiting o ≤ 1
 waiting_few None = omega arith
 waiting_few (Some h) = omega arith
 

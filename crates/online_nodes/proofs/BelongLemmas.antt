@@ -1,10 +1,10 @@
 -- What an operator that belongs to its edges may rely on: its inputs, their numbers, and its own allowed number.
 use Rattle.std.proofs.Common.{◌≡◌, refl, sym, ap, subst, ◌∙◌, ℕ, ◌+◌, ◌<◌, ◌≤◌, Bool, true, false, not, Option}
-use Rattle.std.proofs.Common.{Some, None, List, [], ◌∷◌, length, ℤ, pos, neg_ℤ, ◌+ℤ◌, ◌≤ℤ◌, ◌<ℤ◌, arith}
+use Rattle.std.proofs.Common.{Some, None, List, [], ◌∷◌, length, ℤ, pos, neg_ℤ, ◌+ℤ◌, ◌≤ℤ◌, arith}
 use Rattle.rational.specs.Rational.{whole}
-use Rattle.std.specs.Prelude.{◌*◌, ◌-◌, ◌^◌, min, int_lt, ◌&&◌, ◌↔◌, IsTrue, slice_index_or, slice_get, IfSome, option_map}
+use Rattle.std.specs.Prelude.{◌*◌, ◌-◌, ◌^◌, min, ◌&&◌, ◌↔◌, IsTrue, slice_index_or, slice_get, IfSome, option_map}
 use Rattle.std.proofs.lemmas.Int.{ints}
-use Rattle.std.proofs.lemmas.Option.{slice_get_within, get_or_from_slice_get}
+use Rattle.std.proofs.lemmas.Option.{slice_get_within, get_or_from_slice_get, same_Some}
 use Rattle.std.proofs.lemmas.List.Sums.{get_or-le-sum_by}
 use Rattle.stl_syntax.specs.Trace.{Header, first_time}
 use Rattle.stl_syntax.specs.Formula.{subformula, horizon, HasChildrenBelow}
@@ -38,7 +38,8 @@ use Rattle.online_nodes.specs.Operators.{kind_of, KnowsBy}
 use Rattle.online_nodes.specs.Belonging.{Belongs, StandsForSteps, held_by_inputs, is_ready, room_of_step, trace_of}
 use Rattle.online_nodes.specs.declared.operator.Operator.{Operator}
 use Rattle.online_nodes.proofs.LowLaw.{within_start}
-use Rattle.online_nodes.proofs.RunLaw.{int_order, some_is, within_horizon}
+use Rattle.online_nodes.proofs.RunLaw.{within_horizon}
+use Rattle.online_nodes.proofs.RisingLaw.{same_is, same_of}
 
 -- the inputs of a node are its children, which stand below it
 pub inputs_below : (n : Node) (i m : ℕ) → HasChildrenBelow i n → i < m → AreInputs (kind_of n) m
@@ -151,29 +152,6 @@ module _ (e : Held) (s : State) where
   near_is i (Once p a b a_in b_in) c h r k all = (child_near p (k p true refl) (all p c), low_near a b r h.0)
   near_is i (Historically p a b a_in b_in) c h r k all = (child_near p (k p true refl) (all p c), low_near a b r h.0)
 
--- fronts that come out as the same are so
-pub same_true : (f g : Front) → same_front f g ≡ true → f ≡ g
-same_true None None e = refl
-same_true None (Some g) e = absurd (let x : false ≡ true = e in cc)
-same_true (Some f) None e = absurd (let x : false ≡ true = e in cc)
-same_true (Some f) (Some g) e = ap (λ (z : ℤ). Some z) (by_tests (int_lt f g) (int_lt g f) refl refl e)
-  where
-    by_tests : (x y : Bool) → int_lt f g ≡ x → int_lt g f ≡ y → (not x && not y) ≡ true → f ≡ g
-    by_tests true y a b h = absurd (let z : false ≡ true = h in cc)
-    by_tests false true a b h = absurd (let z : false ≡ true = h in cc)
-    by_tests false false a b h =
-        let u : g ≤ℤ f = int_order f g false a in
-        let v : f ≤ℤ g = int_order g f false b in omega (arith, ints)
-
--- fronts that are the same come out as the same
-pub same_refl : (f g : Front) → f ≡ g → same_front f g ≡ true
-same_refl None g e = subst (λ (o : Front). same_front None o ≡ true) e refl
-same_refl (Some f) g e = subst (λ (o : Front). same_front (Some f) o ≡ true) e (by_test (int_lt f f) refl)
-  where
-    by_test : (t : Bool) → int_lt f f ≡ t → (not (int_lt f f) && not (int_lt f f)) ≡ true
-    by_test true x = absurd (let h : f <ℤ f = int_order f f true x in omega (arith, ints))
-    by_test false x = subst (λ t. (not t && not t) ≡ true) (sym x) refl
-
 near_of : (f : ℤ) (h start now : ℕ) → pos start ≤ℤ (f +ℤ pos h) → f ≤ℤ pos now → h ≤ 4294967295 → now ≤ 4294967295 → IsNear f
 near_of f h start now low top far small = (omega (arith, ints), omega (arith, ints))
 
@@ -186,12 +164,12 @@ neither false false = ((λ h. (refl, refl)), (λ h. refl))
 -- fronts come out as different exactly where they are
 pub same_or_not : (f g : Front) → (same_front f g ≡ false) ↔ (f ≡ g → ⊥)
 same_or_not f g = (
-  (λ h e. absurd (let x : true ≡ false = sym (same_refl f g e) ∙ h in cc)),
+  (λ h e. absurd (let x : true ≡ false = sym (same_of f g e) ∙ h in cc)),
   (λ n. by_test (same_front f g) refl n),
 )
   where
     by_test : (t : Bool) → same_front f g ≡ t → (f ≡ g → ⊥) → same_front f g ≡ false
-    by_test true x n = absurd (n (same_true f g x))
+    by_test true x n = absurd (n (same_is f g x))
     by_test false x n = x
 
 -- the test says whether a node is ready
@@ -254,7 +232,7 @@ module _ {nodes : List Node} {header : Header} {events : List Event} {op : Opera
           let high = within_horizon nodes header b.formed.post_order events b.run p f l x in
           let low : pos (first_time (state nodes events).rows) ≤ℤ (f +ℤ pos (horizon (subformula nodes p))) =
           (within_start nodes header b.formed.post_order events b.run).numbers p f l x in
-          let last : high.last ≡ pos now = some_is high.last (pos now) (sym high.is_last ∙ b.last) in
+          let last : high.last ≡ pos now = same_Some high.last (pos now) (sym high.is_last ∙ b.last) in
           let far : horizon (subformula nodes p) ≤ reach nodes = horizon_within nodes p b.formed.post_order l in
           let most = b.formed.reach in
           let top : f ≤ℤ pos now = subst (λ z. f ≤ℤ z) last high.by_now in

@@ -1,6 +1,6 @@
 -- Up to where an input was read, once what is needed no more was dropped from its edge.
 use Rattle.std.proofs.Common.{◌≡◌, ◌⊎◌, inl, inr, refl, sym, ap, subst, ◌∙◌, ℕ, zero, suc, ◌+◌, ◌-◌, ◌<◌, Bool, true, false}
-use Rattle.std.proofs.Common.{Option, Some, List, [], ◌∷◌, ◌++◌, drop, length, slice_get, ℤ, arith}
+use Rattle.std.proofs.Common.{Option, Some, List, [], ◌∷◌, drop, length, slice_get, ℤ, arith}
 use Rattle.std.specs.Prelude.{IfSome}
 use Rattle.rational.specs.Rational.{◌≤ʳ◌, ◌<ʳ◌, whole}
 use Rattle.rational.proofs.Order.{le_of_lt, le_trans, not_lt_of_le}
@@ -14,15 +14,10 @@ use Rattle.online_nodes.specs.Truths.{Tells, Truths}
 use Rattle.online_nodes.proofs.TellingLemmas.{tells_first}
 use Rattle.online_nodes.proofs.StepFacts.{just_after}
 use Rattle.rational.proofs.PlaceLemmas.{same_places, upto_of_before, upto_same}
+use Rattle.rational.proofs.Lists.{slice_get-append_right}
 use Rattle.online_nodes.proofs.Writing.{same_itself}
 use Rattle.std.specs.Prelude.{MatchBool}
 use Rattle.std.proofs.lemmas.Option.{same_Some, none-some}
-
--- an item behind others
-get_behind : {X : Type 0} (xs ys : List X) (k : ℕ) → slice_get (xs ++ ys) (length xs + k) ≡ slice_get ys k
-get_behind [] ys k = ap (slice_get ys) (let e : 0 + k ≡ k = omega arith in e)
-get_behind (x ∷ xs) ys k =
-    ap (slice_get (x ∷ (xs ++ ys))) (let e : suc (length xs) + k ≡ suc (length xs + k) = omega arith in e) ∙ get_behind xs ys k
 
 suc_below : (k n : ℕ) → k < n → suc k < suc n
 suc_below k n l = omega arith
@@ -116,7 +111,7 @@ module _ {f : ℤ} {old new : Edge} (dropped : IsDroppedBy f old new) where
   -- each dropped verdict ends by the limit
   pub gone_end : (k : ℕ) → k < gone → IfSome (slice_get old.fresh k) (λ v. value v.on.to ≤ʳ whole f)
   gone_end k l =
-      subst (λ (o : Option Verdict). IfSome o (λ v. value v.on.to ≤ʳ whole f)) (get_behind old.seen old.fresh k)
+      subst (λ (o : Option Verdict). IfSome o (λ v. value v.on.to ≤ʳ whole f)) (slice_get-append_right old.seen old.fresh k)
       (dropped.ended (length old.seen + k) (behind_below k dropped.count (length old.seen) l))
 
   -- where the reader reads on: as before, or no later than just after the number

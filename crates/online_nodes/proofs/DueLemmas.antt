@@ -3,12 +3,15 @@ use Rattle.std.proofs.Common.{◌≡◌, ◌≢◌, ◌⊎◌, inl, inr, refl, s
 use Rattle.std.proofs.Common.{Option, Some, None, List, [], ◌∷◌, length, ℤ, pos, ◌≤ℤ◌, ◌<ℤ◌, arith}
 use Rattle.std.specs.Prelude.{◌&&◌, not, cond, int_lt, option_map, IfSome}
 use Rattle.std.proofs.lemmas.Int.{ints}
+use Rattle.std.proofs.lemmas.Bool.{and_parts}
+use Rattle.std.proofs.lemmas.Option.{same_Some}
 use Rattle.rational.specs.Rational.{◌≤ʳ◌, ◌<ʳ◌, ◌≈◌, whole}
 use Rattle.rational.proofs.Order.{le_of_lt, le_trans, lt_of_lt_of_le, lt_or_same_or_gt, not_lt_of_le}
 use Rattle.rational.proofs.Shift.{le_whole, lt_whole}
 use Rattle.stl_syntax.specs.Trace.{Trace}
 use Rattle.stl_syntax.specs.Formula.{Subformula, subformula, tree_of}
 use Rattle.stl_syntax.proofs.FormulaLemmas.{subformula-at}
+use Rattle.stl_syntax.proofs.PostOrderLemmas.{inputs_apart}
 use Rattle.online_nodes.specs.Network.{allowed_at, same_front, shown}
 use Rattle.online_nodes.specs.Needed.{IsReader}
 use Rattle.online_nodes.specs.Answering.{IsInput}
@@ -35,15 +38,16 @@ use Rattle.online_nodes.specs.declared.kind.Kind.TheVariants.{Const as Constant,
 use Rattle.online_nodes.specs.declared.kind.Kind.TheVariants.{Ahead, Behind, Until as UntilOf, Since as SinceOf}
 use Rattle.online_nodes.specs.declared.operator.Operator.{Operator}
 use Rattle.online_nodes.specs.declared.answering.Outcome.{Outcome}
-use Rattle.online_nodes.proofs.BelongLemmas.{allowed_number, inputs_are_children, no_atom_here, own_below, own_edge, same_refl, same_true}
+use Rattle.online_nodes.proofs.BelongLemmas.{allowed_number, inputs_are_children, no_atom_here, own_below, own_edge}
 use Rattle.online_nodes.proofs.HeldFacts.{input_within}
 use Rattle.online_nodes.proofs.TellingLemmas.{IsTelling}
 use Rattle.rational.proofs.PlaceLemmas.{same_places, upto_same}
+use Rattle.rational.proofs.Tests.{int_order}
 use Rattle.online_nodes.proofs.ReadLemmas.{allowed_by_now, input_apart, never_less, read_first, telling}
-use Rattle.online_nodes.proofs.ReaderLemmas.{input_side, inputs_apart, side_reads}
-use Rattle.online_nodes.proofs.RunLaw.{and_left, int_order, some_is}
+use Rattle.online_nodes.proofs.ReaderLemmas.{input_side, side_reads}
 use Rattle.online_nodes.proofs.StayLaw.{shown_is}
 use Rattle.online_nodes.proofs.Writing.{same_itself}
+use Rattle.online_nodes.proofs.RisingLaw.{same_is, same_of}
 
 -- a place is one of these
 abbrev pub IsOneOf : ℕ → List ℕ → Type 0
@@ -69,7 +73,7 @@ pub stands_each : (e : Held) (now : ℕ) (places : List ℕ) (j : ℕ) → all_s
 stands_each e now [] j h a = absurd a
 stands_each e now (i ∷ places) j h (inl same) =
     subst (λ (k : ℕ). number_at e k ≡ Some (pos now)) (sym same)
-    (same_true (number_at e i) (Some (pos now)) (and_left (same_front (number_at e i) (Some (pos now))) (all_stand_at e now places) h))
+    (same_is (number_at e i) (Some (pos now)) (and_parts (same_front (number_at e i) (Some (pos now))) (all_stand_at e now places) h).0)
 stands_each e now (i ∷ places) j h (inr among) = stands_each e now places j (and_right _ _ h) among
   where
     and_right : (a b : Bool) → (a && b) ≡ true → b ≡ true
@@ -84,7 +88,7 @@ allowed_cases k e now true f h = by_test (all_stand_at e now (inputs_of k)) refl
   where
     by_test : (t : Bool) → all_stand_at e now (inputs_of k) ≡ t → cond t (Some (pos now)) (open_by k e now) ≡ Some f
         → (((j : ℕ) → IsInput k j → number_at e j ≡ Some (pos now)) × (f ≡ pos now)) ⊎ (open_by k e now ≡ Some f)
-    by_test true x y = inl ((λ j a. stands_each e now (inputs_of k) j x (input_among k j a)), sym (some_is (pos now) f y))
+    by_test true x y = inl ((λ j a. stands_each e now (inputs_of k) j x (input_among k j a)), sym (same_Some (pos now) f y))
     by_test false x y = inr y
 
 module _ {x : Situation} {op : Operator} {e : Held} (d : IsDue x op e) where
@@ -141,7 +145,7 @@ module _ {x : Situation} {op : Operator} {e : Held} (d : IsDue x op e) where
       let shows : shown (state_in x) op.node ≡ Some (pos g) = d.belongs.stands.front ∙ ap (option_map pos) h in
       let at = shown_is x.nodes x.header d.belongs.formed.post_order (state_in x) op.node (pos g) shows in
       let up = never_less d.belongs x.front d.allowed (pos g) at.0 in
-      subst (λ z. pos g ≤ℤ z) (some_is up.0 x.front (sym up.1)) up.2
+      subst (λ z. pos g ≤ℤ z) (same_Some up.0 x.front (sym up.1)) up.2
 
   -- the number that it comes to is at most the last row's time
   pub front_by_now : x.front ≤ℤ pos x.now
@@ -158,7 +162,7 @@ module _ {x : Situation} {op : Operator} {e : Held} (d : IsDue x op e) where
         | inr o ↦
             let one : pos g ≡ x.front = omega (arith, ints, below, o) in
             let same : same_front (allowed_at x.nodes (state_in x) op.node) ((state_in x).fronts op.node) ≡ true =
-            same_refl (allowed_at x.nodes (state_in x) op.node) ((state_in x).fronts op.node)
+            same_of (allowed_at x.nodes (state_in x) op.node) ((state_in x).fronts op.node)
             (d.allowed ∙ ap (λ (z : ℤ). Some z) (sym one) ∙ sym at.0) in
             absurd (ready_not same (no_atom_here d.belongs) d.ready)
       ]

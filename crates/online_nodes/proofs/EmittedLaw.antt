@@ -1,11 +1,11 @@
 -- What a node gave out in a run: event by event, from the start to its front without gap, and always alike.
-use Rattle.std.proofs.Common.{◌≡◌, inl, inr, refl, sym, ap, subst, ◌∙◌, ℕ, suc, ◌-◌, ◌<◌, ◌≤◌, Bool, true, false, not}
+use Rattle.std.proofs.Common.{◌≡◌, refl, sym, ap, subst, ◌∙◌, ℕ, ◌-◌, ◌<◌, ◌≤◌, Bool, true, false, not}
 use Rattle.std.proofs.Common.{Some, None, List, [], ◌∷◌, ◌++◌, length, ℤ, pos, ◌≤ℤ◌, arith, append_assoc, length-append}
 use Rattle.std.specs.Prelude.{MatchBool, ◌≢◌, int_lt, cond}
 use Rattle.std.proofs.lemmas.Int.{ints}
 use Rattle.std.proofs.lemmas.List.{append-nil}
 use Rattle.rational.specs.Rational.{whole}
-use Rattle.rational.specs.Time.{Interval, IsNotEmpty, Touch, closed as closed_at, left_open}
+use Rattle.rational.specs.Time.{Interval, Touch, closed as closed_at, left_open}
 use Rattle.rational.proofs.Order.{same_sym}
 use Rattle.frac128.specs.Spans.{interval}
 use Rattle.stl_syntax.specs.Trace.{Header, Trace, first_time}
@@ -15,32 +15,18 @@ use Rattle.stl_syntax.specs.Verdicts.{Describes, GoesOn, AreAlike}
 use Rattle.stl_syntax.specs.declared.items.Verdict.{Verdict}
 use Rattle.stl_syntax.specs.declared.node.Node.{Node}
 use Rattle.stl_syntax.proofs.LawProofs.{one_list_of_verdicts}
+use Rattle.stl_syntax.proofs.VerdictsLaw.{alike_length, none_alike, alike_append}
 use Rattle.online_nodes.specs.Network.{Event, take, Front, State, last_row, shown, same_front, answered, after_event}
 use Rattle.online_nodes.specs.Network.{state_from, initial, state, EmittedAt, EmittedFrom, Emitted, IsRunFrom, IsRun, MayCome}
 use Rattle.online_nodes.specs.Needed.{IsTaken, none, other, next, nothing_left}
 use Rattle.online_nodes.specs.Laws.{AreTiles, answered_to, IsWhole}
-use Rattle.rational.specs.Places.{Place, begins, ends, Before, Same}
-use Rattle.rational.proofs.PlaceLemmas.{same_trans_places}
+use Rattle.rational.specs.Places.{Place, begins, ends, Same}
+use Rattle.rational.proofs.PlaceLemmas.{same_trans_places, before_of_not_empty}
+use Rattle.rational.proofs.Tests.{int_order}
 use Rattle.online_nodes.proofs.Writing.{same_itself}
-use Rattle.online_nodes.proofs.RunLaw.{none_is_none, int_order}
+use Rattle.online_nodes.proofs.RunLaw.{none_is_none}
 use Rattle.online_nodes.proofs.RisingLaw.{same_is, IsSound, sound_after, event_later, sound_of}
 use Rattle.online_nodes.proofs.StayLaw.{shown_is, first_same}
-
--- lists of verdicts that are alike have one length, and stay alike with more alike at the back
-pub alike_length : (vs ws : List Verdict) → AreAlike vs ws → length vs ≡ length ws
-alike_length [] [] a = refl
-alike_length [] (w ∷ ws) a = absurd a
-alike_length (v ∷ vs) [] a = absurd a
-alike_length (v ∷ vs) (w ∷ ws) a = ap suc (alike_length vs ws a.3)
-
-alike_append : (vs ws more others : List Verdict) → AreAlike vs ws → AreAlike more others → AreAlike (vs ++ more) (ws ++ others)
-alike_append [] [] more others a b = b
-alike_append [] (w ∷ ws) more others a b = absurd a
-alike_append (v ∷ vs) [] more others a b = absurd a
-alike_append (v ∷ vs) (w ∷ ws) more others a b = (a.0, a.1, a.2, alike_append vs ws more others a.3 b)
-
-none_alike : (vs ws : List Verdict) → vs ≡ [] → ws ≡ [] → AreAlike vs ws
-none_alike vs ws e f = subst (λ l. AreAlike l ws) (sym e) (subst (λ l. AreAlike [] l) (sym f) tt)
 
 -- tiles with more tiles behind them
 pub tiles_append : (c : Place) (vs : List Verdict) (d : Place) (ws : List Verdict) (e : Place) → AreTiles c vs d → AreTiles d ws e
@@ -53,10 +39,6 @@ tiles_append c [] d ws e s t = tiles_same ws s t
 tiles_append c (v ∷ vs) d ws e (s, b, rest) t = (s, b, tiles_append (ends (interval v.on)) vs d ws e rest t)
 
 -- a list that describes a formula on a stretch leads from its begin to its end
-some_between : (on : Interval) → IsNotEmpty on → Before (begins on) (ends on)
-some_between on (inl l) = inl l
-some_between on (inr (s, e, f)) = inr (s, ap not e, f)
-
 touching : (a b : Interval) → Touch a b → Same (ends a) (begins b)
 touching a b h = (same_sym h.time, by_ends a.to_in b.from_in (λ e. h.once (sym e)))
   where
@@ -70,7 +52,7 @@ goes_tiles : (p : Subformula) (tr : Trace) (stretch : Interval) (v : Verdict) (v
     → AreTiles (ends (interval v.on)) vs (ends stretch)
 goes_tiles p tr stretch v [] h = (h.time, h.inside)
 goes_tiles p tr stretch v (w ∷ vs) h =
-    (touching (interval v.on) (interval w.on) h.0, some_between (interval w.on) h.2.not_empty, goes_tiles p tr stretch w vs h.3)
+    (touching (interval v.on) (interval w.on) h.0, before_of_not_empty (interval w.on) h.2.not_empty, goes_tiles p tr stretch w vs h.3)
 
 -- verdicts that describe a stretch cover it from begin to end
 pub describes_tiles : (p : Subformula) (tr : Trace) (stretch : Interval) (vs : List Verdict) → Describes vs p tr stretch
@@ -78,7 +60,7 @@ pub describes_tiles : (p : Subformula) (tr : Trace) (stretch : Interval) (vs : L
 describes_tiles p tr stretch [] h = absurd h
 describes_tiles p tr stretch (v ∷ vs) h = (
   (same_sym h.0.time, ap not (sym h.0.inside)),
-  some_between (interval v.on) h.1.not_empty,
+  before_of_not_empty (interval v.on) h.1.not_empty,
   goes_tiles p tr stretch v vs h.2,
 )
 
@@ -155,7 +137,7 @@ module _ (nodes : List Node) (header : Header) where
   emitted_alike i s [] vs ws em en = none_alike vs ws em en
   emitted_alike i s (e ∷ events) vs ws (here, later, at, rest, eq) (here', later', at', rest', eq') =
       subst (λ l. AreAlike l ws) (sym eq) (subst (λ l. AreAlike (here ++ later) l) (sym eq')
-      (alike_append here here' later later' (alike_here i s (after_event nodes s e) here here' at at')
+      (alike_append here later here' later' (alike_here i s (after_event nodes s e) here here' at at')
       (emitted_alike i (after_event nodes s e) events later later' rest rest')))
 
   -- no more of the root's verdicts were taken than it gave out

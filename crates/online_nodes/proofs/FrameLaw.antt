@@ -3,6 +3,7 @@ use Rattle.std.proofs.Common.{◌≡◌, refl, sym, ap, subst, ◌∙◌, ℕ, B
 use Rattle.std.specs.Prelude.{MatchBool, ◌≢◌, int_lt, cond, ◌==◌, ◌&&◌}
 use Rattle.std.proofs.lemmas.List.{append_assoc, append-nil}
 use Rattle.std.proofs.lemmas.Int.{ints}
+use Rattle.rational.proofs.Tests.{int_order}
 use Rattle.stl_syntax.specs.Trace.{Header, first_time}
 use Rattle.stl_syntax.specs.Formula.{subformula}
 use Rattle.stl_syntax.specs.Verdicts.{Describes}
@@ -26,7 +27,6 @@ use Rattle.online_nodes.specs.Network.{
 }
 use Rattle.stl_syntax.specs.declared.items.Verdict.{Verdict}
 use Rattle.stl_syntax.specs.declared.node.Node.{Node}
-use Rattle.online_nodes.proofs.RunLaw.{int_order}
 
 same_number : (f : ℤ) → same_front (Some f) (Some f) ≡ true
 same_number f = by_test (int_lt f f) refl

@@ -7,6 +7,7 @@ use Rattle.std.proofs.lemmas.List.{length_push, length-take-le}
 use Rattle.std.proofs.lemmas.Bool.{cases_lt, eq-eqb}
 use Rattle.std.specs.Prelude.{int_lt, cond, ◌&&◌, ◌==◌, slice_index_or, slice_get}
 use Rattle.std.proofs.lemmas.Int.{ints}
+use Rattle.rational.proofs.Tests.{int_order}
 use Rattle.stl_syntax.specs.Trace.{Header, Row, last_time}
 use Rattle.stl_syntax.specs.Formula.{Subformula, subformula, horizon, tree_of, HasChildrenBelow}
 use Rattle.stl_syntax.specs.PostOrder.{IsPostOrder, children}
@@ -16,17 +17,15 @@ use Rattle.online_nodes.specs.Network.{node_is_atom, initial, after_event, state
 use Rattle.online_nodes.specs.Driven.{rows_of, steps_of, takes, pass_of, IsDriven, nothing, by_rows, by_end}
 use Rattle.online_nodes.specs.StreamedWide.{front_at}
 use Rattle.online_nodes.specs.Laws.{FrontsAreTimes}
+use Rattle.online_nodes.proofs.RunLaw.{last_appended}
 use Rattle.stl_syntax.proofs.FormulaLemmas.{subformula-at}
 use Rattle.stl_syntax.proofs.PostOrderLemmas.{placed, children_below, slice_get_at}
 use Rattle.stl_syntax.specs.declared.node.Node.{Node}
 use Rattle.stl_syntax.specs.declared.node.Node.TheVariants.{Const, Atom as Leaf, Not, And, Or, Implies, Until, Eventually, Always, Since, Once, Historically}
-
-int_order : (a b : ℤ) (t : Bool) → int_lt a b ≡ t → cond t (a <ℤ b) (b ≤ℤ a)
-int_order a b true e = omega (arith, ints)
-int_order a b false e = omega (arith, ints)
+use Rattle.stl_syntax.proofs.RowsLemmas.{last_time-push}
 
 -- the least of two numbers, where each order gives it
-least_is : (a b m : ℤ) → (b <ℤ a → b ≡ m) → (a ≤ℤ b → a ≡ m) → least (Some a) (Some b) ≡ Some m
+pub least_is : (a b m : ℤ) → (b <ℤ a → b ≡ m) → (a ≤ℤ b → a ≡ m) → least (Some a) (Some b) ≡ Some m
 least_is a b m f g = by_test (int_lt b a) refl
   where
     by_test : (t : Bool) → int_lt b a ≡ t → cond (int_lt b a) (Some b) (Some a) ≡ Some m
@@ -84,16 +83,6 @@ all_stand s i [] below stand = refl
 all_stand s i (p ∷ places) below stand =
     let rest : All (λ p. p < i) places = λ k d h. below (suc k) d (omega (arith, h)) in
     rw (stand p (below 0 0 (omega arith)), same_front_refl (last_row s)) (all_stand s i places rest stand)
-
-time_appended : (t : ℕ) (rows : List Row) (r : Row) → last_time t (rows ++ r ∷ []) ≡ r.time
-time_appended t [] r = refl
-time_appended t (q ∷ rows) r = time_appended q.time rows r
-
--- the last row of rows with one more
-last_appended : (rows : List Row) (r : Row) (closed : Bool) (fronts : ℕ → Front)
-    → last_row (record { rows = rows ++ r ∷ []; closed = closed; fronts = fronts }) ≡ Some (pos r.time)
-last_appended [] r closed fronts = refl
-last_appended (q ∷ rows) r closed fronts = ap (λ t. Some (pos t)) (time_appended q.time rows r)
 
 -- the state after events and then others
 state_on : (nodes : List Node) (s : State) (events others : List Event)
@@ -268,7 +257,7 @@ at_row nodes rows r s order rows_are still = record {
   closed = kept.1 ∙ still;
   fronts = λ some i h.
       stepped nodes order false (pos r.time) 0 [] nodes refl refl (after_event nodes s (row r)) passing (λ j g. absurd (omega arith)) i h
-      ∙ ap (λ t. Some (front_at false (pos t) (subformula nodes i))) (sym (time_appended 0 rows r));
+      ∙ ap (λ t. Some (front_at false (pos t) (subformula nodes i))) (sym (last_time-push 0 rows r));
 }
   where
     kept : ((state_from nodes (after_event nodes s (row r)) (steps_of 0 nodes)).rows ≡ s.rows ++ r ∷ [])

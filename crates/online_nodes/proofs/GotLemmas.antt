@@ -1,8 +1,7 @@
 -- What an edge got.
 use Rattle.std.proofs.Common.{◌≡◌, ◌≢◌, ℕ, ◌<◌, List, [], ◌++◌, length, get_or, set, refl, sym, ap, ◌∙◌, arith, append_assoc, length-append}
-use Rattle.std.proofs.lemmas.List.{append-nil, get_or-set_same, get_or-set_other, length-set, set-get_or}
+use Rattle.std.proofs.lemmas.List.{append-nil, get_or-set_same, get_or-set_other, length-set, set-get_or, set-set}
 use Rattle.stl_syntax.specs.declared.items.Verdict.{Verdict}
-use Rattle.seg_pool.proofs.ListsLemmas.{set-set_same}
 use Rattle.online_nodes.specs.Held.{Held, Edge, no_edge, edge_at, with_more}
 use Rattle.online_nodes.specs.Written.{HasGot}
 
@@ -43,7 +42,7 @@ got_both {a} {b} {c} {i} {xs} {ys} within first second =
     record {
       edges = second.edges ∙ ap (λ x. set b.edges i (with_more x ys)) (got-here first within)
           ∙ ap (λ es. set es i (with_more (with_more (edge_at a i) xs) ys)) first.edges
-          ∙ set-set_same a.edges i _ _
+          ∙ set-set a.edges i _ _
           ∙ ap (set a.edges i) (with_more-both (edge_at a i) xs ys);
       start = second.start ∙ first.start;
       spare = omega (arith, first.spare, second.spare, length-append xs ys);

@@ -31,12 +31,14 @@ use Rattle.std.proofs.Common.{
 use Rattle.std.specs.Prelude.{int_lt, cond, slice_get, IfSome}
 use Rattle.std.proofs.lemmas.Int.{ints}
 use Rattle.std.proofs.lemmas.List.{append-nil}
+use Rattle.std.proofs.lemmas.Option.{same_Some}
 use Rattle.rational.specs.Rational.{Rational, whole}
 use Rattle.rational.specs.Time.{left_open, closed as closed_at}
-use Rattle.stl_syntax.specs.Trace.{Header, Row, AreRows, AreRowsAfter, IsTrace, Continues, first_time, last_time}
+use Rattle.stl_syntax.specs.Trace.{Header, Row, AreRows, IsTrace, Continues, first_time}
 use Rattle.stl_syntax.specs.Formula.{subformula}
 use Rattle.stl_syntax.specs.declared.items.Verdict.{Verdict}
 use Rattle.stl_syntax.specs.declared.node.Node.{Node}
+use Rattle.stl_syntax.proofs.RowsLemmas.{rows-push}
 use Rattle.online_nodes.specs.Network.{
   Event,
   Front,
@@ -59,6 +61,7 @@ use Rattle.online_nodes.specs.Network.{
 }
 use Rattle.online_nodes.specs.Needed.{AreMeeting, AreNeeded, IsEdge, IsReader}
 use Rattle.rational.specs.Places.{Place, AtMost}
+use Rattle.rational.proofs.Tests.{int_order}
 use Rattle.online_nodes.specs.Held.{Held, held_at}
 use Rattle.online_nodes.specs.Laws.{answered_to, beyond, AreTiles, AreTold, IsWhole}
 use Rattle.online_nodes.specs.Operators.{place_of}
@@ -71,14 +74,8 @@ use Rattle.online_nodes.proofs.InputLemmas.{tiles_beyond, told_beyond}
 use Rattle.online_nodes.proofs.MeetingLaw.{needed_first, one_meeting}
 use Rattle.online_nodes.proofs.ReaderLemmas.{child_all, one_reader, one_side}
 use Rattle.online_nodes.proofs.RisingLaw.{children_before}
-use Rattle.online_nodes.proofs.RunLaw.{int_order, none_is_none, some_is}
+use Rattle.online_nodes.proofs.RunLaw.{none_is_none}
 use Rattle.online_nodes.proofs.StayLaw.{emitted_stays, shown_is}
-
--- rows in order, and one that is later
-rows_more : (width time : ℕ) (rows : List Row) (q : Row) → AreRowsAfter width time rows → last_time time rows < q.time → length q.values ≡ width
-    → AreRowsAfter width time (rows ++ q ∷ [])
-rows_more width time [] q h l w = (l, w, tt)
-rows_more width time (r ∷ rows) q (later, is, rest) l w = (later, is, rows_more width r.time rows q rest l w)
 
 -- the rows of a run are those of a trace, once one came
 AreRowsSoFar : ℕ → List Row → Type 0
@@ -93,7 +90,7 @@ rows_after nodes header s (row q) may h = by_rows s.rows may.1 h
     by_rows : (rows : List Row) → IfSome (last_row (record { rows = rows; closed = s.closed; fronts = s.fronts })) (λ f. f <ℤ pos q.time)
         → AreRowsSoFar (length header.columns) rows → AreRowsSoFar (length header.columns) (rows ++ q ∷ [])
     by_rows [] later h = (may.2, tt)
-    by_rows (r ∷ rows) later (w, rest) = (w, rows_more (length header.columns) r.time rows q rest (omega (arith, ints)) may.2)
+    by_rows (r ∷ rows) later (w, rest) = (w, rows-push (length header.columns) r.time rows q rest (omega (arith, ints)) may.2)
 rows_after nodes header s (step i) may h = h
 rows_after nodes header s close may h = h
 rows_after nodes header s take may h = h
@@ -132,7 +129,7 @@ needed_part start f (Some g) k em held tiles h = by_low (int_lt g (pos start)) r
         → (held ≡ em) ⊎ ((j : ℤ) × (Some g ≡ Some j) × (pos start ≤ℤ j) × (held ≡ beyond (whole (j +ℤ k)) em))
     whole_list low = inl (one_meeting (needed start f (Some g) k) em held em h
         (needed_first start f (Some g) k em
-        (λ j e s. let same : g ≡ j = some_is g j e in
+        (λ j e s. let same : g ≡ j = same_Some g j e in
         subst (λ (q : ℤ). (q +ℤ k) <ℤ pos start) same (low (subst (λ (q : ℤ). pos start ≤ℤ q) (sym same) s))) tiles))
 
     by_begin : (t : Bool) → int_lt (g +ℤ k) (pos start) ≡ t → int_lt g (pos start) ≡ false

@@ -1,9 +1,10 @@
 -- A step that gives out nothing: of a node that is not ready, and one to a number below the start.
 use Rattle.std.proofs.Common.{◌≡◌, ◌≢◌, refl, sym, ap, subst, ◌∙◌, ℕ, ◌≤◌, Bool, true, false, Option}
-use Rattle.std.proofs.Common.{Some, None, Result, Ok, Err, List, [], ◌∷◌, ◌++◌, ℤ, pos, ◌<ℤ◌, arith}
-use Rattle.std.specs.Prelude.{◌&&◌, not, option_map, slice_get, IfSome, OnErr}
+use Rattle.std.proofs.Common.{Some, None, List, [], ◌∷◌, ◌++◌, ℤ, pos, ◌<ℤ◌, arith}
+use Rattle.std.specs.Prelude.{◌&&◌, not, option_map, slice_get, IfSome}
 use Rattle.std.proofs.lemmas.Int.{ints}
 use Rattle.std.proofs.lemmas.List.{append-nil}
+use Rattle.std.proofs.lemmas.Option.{same_Some}
 use Rattle.rational.specs.Rational.{whole}
 use Rattle.stl_syntax.specs.Trace.{Header, first_time}
 use Rattle.stl_syntax.specs.declared.node.Node.{Node}
@@ -28,13 +29,13 @@ use Rattle.online_nodes.specs.Stepping.{Situation, IsDue}
 use Rattle.online_nodes.specs.Held.{Edge, Held, edge_at, fresh_at, held_at, held_of, number_at, with_edge, with_number}
 use Rattle.online_nodes.specs.Operators.{KnowsBy}
 use Rattle.online_nodes.specs.declared.operator.Operator.{Operator}
-use Rattle.online_nodes.proofs.BelongLemmas.{no_atom_here, own_edge, same_true}
+use Rattle.online_nodes.proofs.BelongLemmas.{no_atom_here, own_edge}
 use Rattle.online_nodes.proofs.FrameLaw.{nothing_given}
 use Rattle.online_nodes.proofs.HeldFacts.{edge, needs}
 use Rattle.online_nodes.proofs.ReadLemmas.{edge_low, edge_of, input_apart, never_less, others_after, own_after, with_step}
-use Rattle.online_nodes.proofs.RunLaw.{some_is}
 use Rattle.online_nodes.proofs.StayLaw.{shown_is}
 use Rattle.online_nodes.proofs.SteppedLemmas.{nothing_here, reached-here, reached-length, reached-other}
+use Rattle.online_nodes.proofs.RisingLaw.{same_is}
 
 -- none is few
 pub none_few : (n : ℕ) → 0 ≤ n
@@ -50,7 +51,7 @@ module _ {nodes : List Node} {header : Header} {events : List Event} {op : Opera
   module _ (idle : is_ready nodes (state nodes events) op.node ≡ false) where
     idle_number : allowed_at nodes (state nodes events) op.node ≡ (state nodes events).fronts op.node
     idle_number =
-        same_true (allowed_at nodes (state nodes events) op.node) ((state nodes events).fronts op.node)
+        same_is (allowed_at nodes (state nodes events) op.node) ((state nodes events).fronts op.node)
         (is_same (node_is_atom nodes op.node) (same_front (allowed_at nodes (state nodes events) op.node) ((state nodes events).fronts op.node))
         (no_atom_here b) idle)
       where
@@ -117,7 +118,7 @@ module _ {nodes : List Node} {header : Header} {events : List Event} {op : Opera
             let shows : shown (state nodes events) op.node ≡ Some (pos g) = b.stands.front ∙ ap (option_map pos) h in
             let at = shown_is nodes header b.formed.post_order (state nodes events) op.node (pos g) shows in
             let up = never_less b f allowed (pos g) at.0 in
-            let same : up.0 ≡ f = some_is up.0 f (sym up.1) in
+            let same : up.0 ≡ f = same_Some up.0 f (sym up.1) in
             absurd (let l = at.1 in let k = up.2 in omega (arith, ints))
 
     low_edge : edge_at new op.node ≡ with_number (edge_at e op.node) f
@@ -170,13 +171,8 @@ module _ {nodes : List Node} {header : Header} {events : List Event} {op : Opera
         hidden None x = x
         hidden (Some g) x =
             let was = shown_is nodes header b.formed.post_order s' op.node g x in
-            let at : g ≡ f = some_is g f (sym was.0 ∙ own_after b ∙ allowed) in
+            let at : g ≡ f = same_Some g f (sym was.0 ∙ own_after b ∙ allowed) in
             absurd (let l = was.1 in omega (arith, ints))
-
--- an answer of no memory
-pub err_any : {T E A : Type 0} (r : Result T E) → A → OnErr r A
-err_any (Ok x) a = tt
-err_any (Err x) a = a
 
 -- an operator that is ready, and whose number comes to one that is not below the start, has a step that is due
 module _ {nodes : List Node} {header : Header} {events : List Event} {op : Operator} {e : Held} {now : ℕ} {ended : Bool}

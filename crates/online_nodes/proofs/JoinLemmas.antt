@@ -44,18 +44,10 @@ use Rattle.frac128.specs.declared.cut.Cut.{Cut}
 use Rattle.online_nodes.specs.declared.join.Join.{Join}
 use Rattle.online_nodes.specs.declared.join.Inputs.{Inputs}
 use Rattle.online_nodes.specs.declared.writer.Out.{Out}
-use Rattle.rational.proofs.PlaceLemmas.{sides, not_both, between, same_places, upto_same}
+use Rattle.rational.proofs.PlaceLemmas.{between, same_places, upto_same, after_at_most, not_before_itself}
 use Rattle.online_nodes.proofs.GotLemmas.{got-other}
 use Rattle.online_nodes.proofs.SaidLemmas.{passed-fresh, passed-one}
 use Rattle.online_nodes.proofs.WorkLemmas.{passed-other, first_and_rest, worked_none, worked_pass, worked_put, worked_both}
-
--- no place comes before itself
-pub not_before_itself : (c : Place) → Before c c → ⊥
-not_before_itself c before = let t = between c c before in not_both c t.0 t.2 t.1
-
--- what lies after a place lies after an earlier one
-pub after_at_most : (c d : Place) (t : Rational) → AtMost c d → After d t → After c t
-after_at_most c d t at_most after = elim (sides c t) [ inl upto ↦ absurd (not_both d t (at_most t upto) after) | inr a ↦ a ]
 
 -- one verdict more was read of an input
 pub worked_then_pass : {a b c : Held} {own left right i : ℕ} {v : Verdict} {xs : List Verdict} → HasWorked a b own left right xs → HasPassed b c i v

@@ -1,8 +1,8 @@
 -- What an operator keeps in mind of its inputs stays so once they are answered further and rows have come.
 use Rattle.std.proofs.Common.{◌≡◌, ◌⊎◌, inl, inr, sym, subst, Bool, true, false, not, Some, List}
-use Rattle.std.specs.Prelude.{MatchBool, slice_get}
+use Rattle.std.specs.Prelude.{slice_get}
 use Rattle.rational.specs.Rational.{Rational, ◌≤ʳ◌, ◌<ʳ◌}
-use Rattle.rational.proofs.Order.{le_trans, le_or_lt, lt_of_le_of_lt, not_lt_of_le}
+use Rattle.rational.proofs.Order.{le_trans, le_or_lt, not_lt_of_le}
 use Rattle.frac128.specs.Spans.{interval}
 use Rattle.stl_syntax.specs.Trace.{Trace, start, stop as last}
 use Rattle.stl_syntax.specs.Formula.{Subformula}
@@ -14,7 +14,9 @@ use Rattle.online_nodes.specs.Sweeps.{Counted, low_place, high_place}
 use Rattle.online_nodes.specs.Operators.{IsUntilKnown, IsSinceKnown}
 use Rattle.online_nodes.specs.declared.since.Since.{Since as SinceWindow}
 use Rattle.online_nodes.specs.declared.until.Until.{Until as UntilWindow}
-use Rattle.rational.proofs.PlaceLemmas.{sides, not_both, place_order, between, same_places, upto_same, upto_of_before, after_same}
+use Rattle.online_nodes.proofs.SweptLemmas.{before_trace}
+use Rattle.rational.proofs.PlaceLemmas.{sides, not_both, same_places, upto_same, after_same}
+use Rattle.rational.proofs.PlaceLemmas.{before_of_at_most, upto_earlier}
 
 -- two truths are one up to a place, from a time on
 abbrev pub Agrees : Rational → Place → Truths → Truths → Type 0
@@ -53,11 +55,6 @@ counted_agrees false p tr tr' stop e inside agrees u upto = (
   (λ h w. (agrees u w.above upto).1 (h (record { above = subst (λ s. s ≤ʳ u) (sym e) w.above; below = (inside u upto).1 }))),
 )
 
--- before the start nothing counts
-none_before : (seeks : Bool) (p : Subformula) (tr : Trace) (u : Rational) → u <ʳ start tr → Is (not seeks) (Counted seeks p tr) u
-none_before true p tr u l = λ h. not_lt_of_le h.0.above l
-none_before false p tr u l = λ w. absurd (not_lt_of_le w.above l)
-
 is_moved : (b : Bool) (P Q : Truths) (u : Rational) → (P u → Q u) × (Q u → P u) → Is b P u → Is b Q u
 is_moved true P Q u e h = e.0 h
 is_moved false P Q u e h = λ q. h (e.1 q)
@@ -77,24 +74,7 @@ module _ (seeks : Bool) (p : Subformula) (tr tr' : Trace) (low high : Rational �
           → Is (not seeks) (Counted seeks p tr') u
       by_read t u a r l h (inl upto) =
           is_moved (not seeks) (Counted seeks p tr) (Counted seeks p tr') u (agrees u (on.within u upto)) (k.rest t u a r l h upto)
-      by_read t u a r l h (inr before) = none_before seeks p tr' u (subst (λ s. u <ʳ s) (sym e) before)
-
--- a place that is not beyond another, before a third
-pub before_of_at_most : (c d e : Place) → AtMost c d → Before d e → Before c e
-before_of_at_most c d e most b = by_order (place_order c e) (between d e b)
-  where
-    by_order : Before c e ⊎ Same c e ⊎ Before e c → (t : Rational) × After d t × Upto e t → Before c e
-    by_order (inl x) h = x
-    by_order (inr (inl s)) (t, a, u) = absurd (not_both d t (most t (upto_same e c t (same_places s) u)) a)
-    by_order (inr (inr x)) (t, a, u) = absurd (not_both d t (most t (upto_of_before e c t x u)) a)
-
--- a time before one that lies before a place
-upto_earlier : (c : Place) {v t : Rational} → v ≤ʳ t → Upto c t → Upto c v
-upto_earlier c {v} {t} l = by_side c.after
-  where
-    by_side : (b : Bool) → MatchBool b (t ≤ʳ c.at) (t <ʳ c.at) → MatchBool b (v ≤ʳ c.at) (v <ʳ c.at)
-    by_side true h = le_trans l h
-    by_side false h = lt_of_le_of_lt l h
+      by_read t u a r l h (inr before) = before_trace seeks p tr' u (subst (λ s. u <ʳ s) (sym e) before)
 
 module _ (p q : Subformula) (tr tr' : Trace) (u : UntilWindow) (at reach : Place) where
   abbrev low : Rational → Place
@@ -118,7 +98,7 @@ module _ (p q : Subformula) (tr tr' : Trace) (u : UntilWindow) (at reach : Place
         w.1,
         w.2,
         (counted w.0 w.5).0 w.3,
-        (λ v x y. (agrees v (le_trans (begin t a) x) (upto_le stop y w.5)).0 (w.4 v x y)),
+        (λ v x y. (agrees v (le_trans (begin t a) x) (upto_earlier stop _ _ y w.5)).0 (w.4 v x y)),
         later w.0 w.5,
       );
       rest = λ t v a r l h holds all upto. by_side t v a r l h holds all (sides stop v);
@@ -138,13 +118,10 @@ module _ (p q : Subformula) (tr tr' : Trace) (u : UntilWindow) (at reach : Place
       beyond : (t : Rational) → After stop' t → After stop t
       beyond t x = elim (sides stop t) [ inl y ↦ absurd (not_both stop' t (later t y) x) | inr y ↦ y ]
 
-      upto_le : (c : Place) {v t : Rational} → v ≤ʳ t → Upto c t → Upto c v
-      upto_le c l x = upto_earlier c l x
-
       by_side : (t v : Rational) → After at t → After reach t → After (low t) v → Upto (high t) v → Counted true q tr' v → AllFrom (Truth p tr') t v
           → Upto stop v ⊎ After stop v → After k.read v × After k.read v
       by_side t v a r l h holds all (inl x) = k.knows.rest t v a r l h ((counted v x).1 holds)
-          (λ w y z. (agrees w (le_trans (begin t a) y) (upto_le stop z x)).1 (all w y z)) x
+          (λ w y z. (agrees w (le_trans (begin t a) y) (upto_earlier stop _ _ z x)).1 (all w y z)) x
       by_side t v a r l h holds all (inr x) = k.knows.inside v x
 
       by_first : (v : Verdict) → (slice_get fresh 0 ≡ Some v) ⊎ Before stop (ends (interval v.on)) → Before k.read (ends (interval v.on))

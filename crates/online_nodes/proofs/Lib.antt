@@ -4,7 +4,7 @@ pub mod RunLaw
 pub mod StayLaw
 mod LowLaw
 mod BelongLemmas
-mod ReaderLemmas
+pub mod ReaderLemmas
 mod AnsweringLemmas
 mod HeldFacts
 mod StepFacts
@@ -19,7 +19,7 @@ mod SettledLaw
 mod EdgesLemmas
 mod QueueLemmas
 pub mod DroppingLemmas
-mod WorkLemmas
+pub mod WorkLemmas
 mod SaidLemmas
 mod Sweeping
 mod SweepLemmas

@@ -1,11 +1,11 @@
 -- The four windows look through their places, and the connectives join: each by the definition of truth.
-use Rattle.std.proofs.Common.{inl, inr, Bool, true, false, not, ℕ, pos, neg_ℤ, Option, Some, None, arith}
+use Rattle.std.proofs.Common.{inl, inr, Bool, true, false, not, ℕ, pos, neg_ℤ, Option, Some, None}
 use Rattle.std.specs.Prelude.{IfSome}
 use Rattle.rational.specs.Rational.{Rational, ◌≤ʳ◌, ◌<ʳ◌, add, whole}
 use Rattle.rational.specs.Time.{Within, Precedes, later}
 use Rattle.rational.specs.Windows.{Ahead, Behind}
 use Rattle.rational.proofs.Order.{le_trans, le_of_same, ge_of_same, lt_of_le_of_lt, lt_of_lt_of_le, le_or_lt, not_lt_of_le}
-use Rattle.rational.proofs.TimeLemmas.{later-add}
+use Rattle.rational.proofs.TimeLemmas.{later-add, later_from}
 use Rattle.stl_syntax.specs.Trace.{Trace, start, stop}
 use Rattle.stl_syntax.specs.Formula.{
   Subformula,
@@ -22,13 +22,13 @@ use Rattle.stl_syntax.specs.Formula.{
 }
 use Rattle.stl_syntax.specs.Truth.{Truth}
 use Rattle.rational.specs.Places.{After, Upto}
+use Rattle.rational.proofs.Shift.{lt_ahead, lt_ahead_back, lt_behind_back, lt_behind}
 use Rattle.online_nodes.specs.Truths.{Looks, IsUntilOf, IsSinceOf}
 use Rattle.online_nodes.specs.Sweeps.{Counted}
 use Rattle.online_nodes.specs.Joins.{IsJoinOf}
 use Rattle.online_nodes.specs.Negations.{IsNotOf}
 use Rattle.online_nodes.specs.Looking.{place_at, past_begin}
 use Rattle.online_nodes.specs.declared.join.Join.TheVariants.{And, Or, Implies}
-use Rattle.online_nodes.proofs.WindowPlaces.{lt_back, lt_forth, gt_back, gt_forth}
 
 -- a window's ends by places, and by the definition: ahead
 module _ (k : ℕ) (t u : Rational) where
@@ -53,20 +53,20 @@ module _ (k : ℕ) (t u : Rational) where
   back_le : t ≤ʳ later u k → add t (whole (neg_ℤ (pos k))) ≤ʳ u
   back_le h = elim (le_or_lt (add t (whole (neg_ℤ (pos k)))) u) [
     | inl le ↦ le
-    | inr lt ↦ absurd (not_lt_of_le (le_trans h (le_of_same (later-add u k))) (lt_forth u t (pos k) lt))
+    | inr lt ↦ absurd (not_lt_of_le (le_trans h (le_of_same (later-add u k))) (lt_behind_back u t (pos k) lt))
   ]
 
   forth_le : add t (whole (neg_ℤ (pos k))) ≤ʳ u → t ≤ʳ later u k
   forth_le h = elim (le_or_lt t (later u k)) [
     | inl le ↦ le
-    | inr lt ↦ absurd (not_lt_of_le h (lt_back u t (pos k) (lt_of_le_of_lt (ge_of_same (later-add u k)) lt)))
+    | inr lt ↦ absurd (not_lt_of_le h (lt_behind u t (pos k) (lt_of_le_of_lt (ge_of_same (later-add u k)) lt)))
   ]
 
   back_lt : t <ʳ later u k → add t (whole (neg_ℤ (pos k))) <ʳ u
-  back_lt h = gt_back u t (pos k) (lt_of_lt_of_le h (le_of_same (later-add u k)))
+  back_lt h = lt_ahead_back t u (pos k) (lt_of_lt_of_le h (le_of_same (later-add u k)))
 
   forth_lt : add t (whole (neg_ℤ (pos k))) <ʳ u → t <ʳ later u k
-  forth_lt h = lt_of_lt_of_le (gt_forth u t (pos k) h) (ge_of_same (later-add u k))
+  forth_lt h = lt_of_lt_of_le (lt_ahead t u (pos k) h) (ge_of_same (later-add u k))
 
   over_le : later u k ≤ʳ t → u ≤ʳ add t (whole (neg_ℤ (pos k)))
   over_le h = elim (le_or_lt u (add t (whole (neg_ℤ (pos k))))) [
@@ -81,10 +81,10 @@ module _ (k : ℕ) (t u : Rational) where
   ]
 
   over_lt : later u k <ʳ t → u <ʳ add t (whole (neg_ℤ (pos k)))
-  over_lt h = lt_back u t (pos k) (lt_of_le_of_lt (ge_of_same (later-add u k)) h)
+  over_lt h = lt_behind u t (pos k) (lt_of_le_of_lt (ge_of_same (later-add u k)) h)
 
   under_lt : u <ʳ add t (whole (neg_ℤ (pos k))) → later u k <ʳ t
-  under_lt h = lt_of_le_of_lt (le_of_same (later-add u k)) (lt_forth u t (pos k) h)
+  under_lt h = lt_of_le_of_lt (le_of_same (later-add u k)) (lt_behind_back u t (pos k) h)
 
   back_begin : (i : Bool) → After (place_at (neg_ℤ (pos k)) (not i) t) u → Precedes i t (later u k)
   back_begin true h = forth_le h
@@ -157,10 +157,6 @@ module _ (p : Subformula) (tr : Trace) (a : ℕ) (a_in b_in : Bool) where
           spared = λ t each u w. each u (to_begin b t u w.inside w.begins) (end_back a t u a_in w.ends) w.inside;
         }
 
--- no time comes after a later one
-not_later : (t : Rational) (k : ℕ) → t ≤ʳ later t k
-not_later t k = record { le = omega arith }
-
 module _ (p q : Subformula) (tr : Trace) (a : ℕ) where
   -- `until` looks for a true right side, while the left one holds
   pub until_looks : (b : ℕ)
@@ -175,7 +171,7 @@ module _ (p q : Subformula) (tr : Trace) (a : ℕ) where
           (n.1.inside, n.2),
           (λ v above below. n.3 v (record { above = above; below = below })),
         );
-        ahead = λ t u lo. le_trans (not_later t a) (begin_in a t u true lo);
+        ahead = λ t u lo. le_trans (later_from t a) (begin_in a t u true lo);
       }
 
   -- `since` looks back for a true right side, while the left one holds
@@ -191,7 +187,7 @@ module _ (p q : Subformula) (tr : Trace) (a : ℕ) where
           (n.1.inside, n.2),
           (λ v above below. n.3 v (record { above = above; below = below })),
         );
-        behind = λ t u hi. le_trans (not_later u a) (back_end a t u true hi);
+        behind = λ t u hi. le_trans (later_from u a) (back_end a t u true hi);
       }
 
 module _ (p q : Subformula) (tr : Trace) where

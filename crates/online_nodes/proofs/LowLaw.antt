@@ -2,6 +2,7 @@
 use Rattle.std.proofs.Common.{◌≡◌, refl, sym, subst, ◌∙◌, ℕ, ◌<◌, ◌+◌, ◌-◌, max, Bool, true, false, Some, None, List, ℤ, pos, neg_ℤ, ◌+ℤ◌, ◌≤ℤ◌, ◌<ℤ◌, arith}
 use Rattle.std.specs.Prelude.{int_lt, cond, ◌&&◌, ◌==◌, slice_index_or, slice_get, length, [], ◌∷◌, ◌++◌, IfSome}
 use Rattle.std.proofs.lemmas.Int.{ints}
+use Rattle.std.proofs.lemmas.Option.{same_Some}
 use Rattle.stl_syntax.specs.Trace.{Header, Row, first_time}
 use Rattle.stl_syntax.specs.Formula.{Subformula, subformula, horizon, tree_of, HasChildrenBelow}
 use Rattle.stl_syntax.specs.PostOrder.{IsPostOrder, children}
@@ -31,7 +32,7 @@ use Rattle.online_nodes.specs.Network.{
   IsRunFrom,
   IsRun,
 }
-use Rattle.online_nodes.proofs.RunLaw.{some_is, none_is_none, moved, last_appended}
+use Rattle.online_nodes.proofs.RunLaw.{none_is_none, moved, last_appended}
 use Rattle.stl_syntax.specs.declared.node.Node.{Node}
 use Rattle.stl_syntax.specs.declared.node.Node.TheVariants.{
   Const,
@@ -55,8 +56,8 @@ one_of (Some g) None f e = absurd (none_is_none f e)
 one_of (Some g) (Some h) f e = (g, h, refl, refl, by_test (int_lt h g) e)
   where
     by_test : (t : Bool) → cond t (Some h) (Some g) ≡ Some f → cond t h g ≡ f
-    by_test true x = some_is h f x
-    by_test false x = some_is g f x
+    by_test true x = same_Some h f x
+    by_test false x = same_Some g f x
 
 -- a number, with its horizon, is not below the start
 abbrev pub IsFrom : ℕ → ℕ → ℤ → Type 0
@@ -212,13 +213,13 @@ module _ (nodes : List Node) (header : Header) (order : IsPostOrder nodes) where
       by_last : (l : ℤ) → last_row (after_event nodes s (row r)) ≡ Some l → pos (first_time (s.rows ++ r ∷ [])) ≤ℤ l
       by_last l e =
           subst (λ z. pos (first_time (s.rows ++ r ∷ [])) ≤ℤ z)
-          (some_is (pos r.time) l (sym (last_appended s.rows r s.closed (after_event nodes s (row r)).fronts) ∙ e))
+          (same_Some (pos r.time) l (sym (last_appended s.rows r s.closed (after_event nodes s (row r)).fronts) ∙ e))
           (begins s.rows may.1 all.last)
 
       by_test : (i : ℕ) (f : ℤ) → i < length nodes → cond (node_is_atom nodes i) (Some (pos r.time)) (s.fronts i) ≡ Some f
           → (t : Bool) → node_is_atom nodes i ≡ t → IsFrom (first_time (s.rows ++ r ∷ [])) (horizon (subformula nodes i)) f
       by_test i f l e true x =
-          let is : pos r.time ≡ f = some_is (pos r.time) f (subst (λ t. cond t (Some (pos r.time)) (s.fronts i) ≡ Some f) x e) in
+          let is : pos r.time ≡ f = same_Some (pos r.time) f (subst (λ t. cond t (Some (pos r.time)) (s.fronts i) ≡ Some f) x e) in
           let y = begins s.rows may.1 all.last in omega (arith, ints)
       by_test i f l e false x =
           let is : s.fronts i ≡ Some f = subst (λ t. cond t (Some (pos r.time)) (s.fronts i) ≡ Some f) x e in

@@ -15,9 +15,9 @@ use Rattle.online_nodes.specs.Needed.{Meets, AreMeeting, AreNeeded}
 use Rattle.online_nodes.specs.Laws.{AreTiles, answered_to, beyond}
 use Rattle.rational.specs.Places.{Place, begins, ends, After, Upto, Same}
 use Rattle.rational.proofs.PlaceLemmas.{between, after_of_before, after_same, upto_of_before, upto_same, same_places, not_both}
+use Rattle.rational.proofs.Tests.{int_order}
 use Rattle.online_nodes.proofs.Writing.{in_upto}
 use Rattle.online_nodes.proofs.HeldLaw.{is_in, meeting_is_suffix, tiled_inside}
-use Rattle.online_nodes.proofs.RunLaw.{int_order}
 
 -- each of the verdicts is so
 abbrev pub Each : (Verdict → Type 0) → List Verdict → Type 0
@@ -101,10 +101,6 @@ longer_alike f f' a b l g h (v ∷ vs) (by, rest) = (
   (λ m. (m.0, g m.0 m.1 (by m.0 m.2), m.2), λ m. (m.0, h m.0 m.1 (by m.0 m.2), m.2)),
   longer_alike f f' a b l g h vs rest,
 )
-
--- whole times are ordered as their numbers
-pub whole_order : (f g : ℤ) → f ≤ℤ g → whole f ≤ʳ whole g
-whole_order f g l = le_whole l
 
 -- where the reader stands, it needs no verdict to come less: its number, moved, is at most the node's
 pub record AllowsMore (start : ℕ) (old new : Front) (reader : Front) (k : ℤ) : Type 0 where

@@ -4,6 +4,7 @@ use Rattle.std.proofs.Common.{Some, None, List, [], ◌∷◌, ◌++◌, length,
 use Rattle.std.specs.Prelude.{cond, option_map}
 use Rattle.std.proofs.lemmas.Bool.{eq-eqb}
 use Rattle.std.proofs.lemmas.Int.{ints}
+use Rattle.std.proofs.lemmas.Option.{same_Some}
 use Rattle.rational.specs.Rational.{whole}
 use Rattle.rational.proofs.Order.{lt_of_lt_of_le, lt_of_le_of_lt}
 use Rattle.rational.proofs.Shift.{le_whole, lt_whole}
@@ -43,7 +44,7 @@ use Rattle.online_nodes.proofs.InputLemmas.{tells_of}
 use Rattle.rational.proofs.PlaceLemmas.{same_places, upto_same}
 use Rattle.online_nodes.proofs.ReaderLemmas.{child_all}
 use Rattle.online_nodes.proofs.RisingLaw.{IsSound, children_before, sound_of}
-use Rattle.online_nodes.proofs.RunLaw.{none_is_none, some_is}
+use Rattle.online_nodes.proofs.RunLaw.{none_is_none}
 use Rattle.online_nodes.proofs.StepFacts.{needs_later, needs_same}
 use Rattle.online_nodes.proofs.TellingLemmas.{IsTelling}
 use Rattle.online_nodes.proofs.Writing.{same_itself}
@@ -54,7 +55,7 @@ last_is s l e = by_rows s.rows e
   where
     by_rows : (rows : List Row) → last_row (record { rows = rows; closed = s.closed; fronts = s.fronts }) ≡ Some (pos l) → last_time 0 rows ≡ l
     by_rows [] e = absurd (none_is_none (pos l) e)
-    by_rows (r ∷ rows) e = let x : pos (last_time r.time rows) ≡ pos l = some_is (pos (last_time r.time rows)) (pos l) e in omega (arith, ints)
+    by_rows (r ∷ rows) e = let x : pos (last_time r.time rows) ≡ pos l = same_Some (pos (last_time r.time rows)) (pos l) e in omega (arith, ints)
 
 -- a front that is not shown, and one that is, by the place up to which the node is answered
 below_start : (first : ℕ) (o : Front) → ((f : ℤ) → o ≡ Some f → f <ℤ pos first)
@@ -76,7 +77,7 @@ module _ {nodes : List Node} {header : Header} {events : List Event} {op : Opera
   pub by_now : (p : ℕ) (f : ℤ) → p < length nodes → (state nodes events).fronts p ≡ Some f → f ≤ℤ pos now
   by_now p f l x =
       let bound = run_sound.bounded p f l x in
-      let last : bound.last ≡ pos now = some_is bound.last (pos now) (sym bound.is_last ∙ b.last) in
+      let last : bound.last ≡ pos now = same_Some bound.last (pos now) (sym bound.is_last ∙ b.last) in
       subst (λ z. f ≤ℤ z) last bound.by_now
 
   -- the run with a step of the node more
@@ -107,7 +108,7 @@ module _ {nodes : List Node} {header : Header} {events : List Event} {op : Opera
       run_more nodes header b.formed events (step op.node) b.run (own_within b, no_atom_here b) in
       let bound = (sound_of nodes header b.formed.post_order (events ++ step op.node ∷ []) runs).bounded op.node f (own_within b)
       (ap (λ (s : State). s.fronts op.node) with_step ∙ own_after ∙ x) in
-      let last : bound.last ≡ pos now = some_is bound.last (pos now) (sym bound.is_last ∙ ap last_row with_step ∙ b.last) in
+      let last : bound.last ≡ pos now = same_Some bound.last (pos now) (sym bound.is_last ∙ ap last_row with_step ∙ b.last) in
       subst (λ z. f ≤ℤ z) last bound.by_now
 
   module _ (j : ℕ) (left : Bool) (r : IsReader b.stands.node left j) where
@@ -211,7 +212,7 @@ module _ {nodes : List Node} {header : Header} {events : List Event} {op : Opera
       below_new : (g : ℤ) → (state nodes events).fronts op.node ≡ Some g → g ≤ℤ f
       below_new g x =
           let up = never_less f allowed g x in
-          subst (λ z. g ≤ℤ z) (some_is up.0 f (sym up.1)) up.2
+          subst (λ z. g ≤ℤ z) (same_Some up.0 f (sym up.1)) up.2
 
       moved_edge : (held : List Verdict)
           → AreNeeded (first_time (state nodes events).rows) (shown (state nodes events) j) (Some f) (reach_back b.stands.node left)

@@ -1,16 +1,17 @@
 -- Each node is read by one node at most, and by its kind an operator knows its node's inputs.
-use Rattle.std.proofs.Common.{◌≡◌, ◌≢◌, inl, inr, refl, sym, ap, subst, ◌∙◌, ℕ, zero, suc, ◌+◌, ◌<◌, ◌≤◌, Bool, true, false}
-use Rattle.std.proofs.Common.{not, Some, None, List, [], ◌∷◌, ◌++◌, length, take, get_or, pos, neg_ℤ, ◌≤ℤ◌, All, arith}
-use Rattle.std.specs.List.{list_any, range_with_len}
-use Rattle.std.specs.Prelude.{slice_get, filter, ◌==◌, cond, int_lt}
+use Rattle.std.proofs.Common.{◌≡◌, inl, inr, refl, sym, ap, subst, ◌∙◌, ℕ, ◌<◌, ◌≤◌, Bool, true, false}
+use Rattle.std.proofs.Common.{Some, None, List, [], ◌∷◌, length, take, get_or, pos, neg_ℤ, ◌≤ℤ◌, All, arith}
+use Rattle.std.specs.List.{list_any}
+use Rattle.std.specs.Prelude.{slice_get, ◌==◌, cond, int_lt}
 use Rattle.std.proofs.lemmas.Bool.{cases_lt, eq-eqb, or_left, or_right}
 use Rattle.std.proofs.lemmas.Int.{ints}
 use Rattle.std.proofs.lemmas.List.{get_or-take, length-take-le}
 use Rattle.std.proofs.lemmas.List.Folds.{list_any_at}
 use Rattle.std.proofs.lemmas.Option.{slice_get_within, get_or_from_slice_get}
+use Rattle.rational.proofs.Tests.{int_order}
 use Rattle.stl_syntax.specs.Limits.{own_reach}
-use Rattle.stl_syntax.specs.PostOrder.{children, has_child, is_used, unused, IsPostOrder}
-use Rattle.stl_syntax.proofs.PostOrderLemmas.{children_free}
+use Rattle.stl_syntax.specs.PostOrder.{children, has_child, is_used, IsPostOrder}
+use Rattle.stl_syntax.proofs.PostOrderLemmas.{children_free, inputs_apart}
 use Rattle.stl_syntax.specs.declared.node.Node.{Node}
 use Rattle.stl_syntax.specs.declared.node.Node.TheVariants.{
   Const,
@@ -30,7 +31,6 @@ use Rattle.online_nodes.specs.Network.{reach_back}
 use Rattle.online_nodes.specs.Needed.{IsReader}
 use Rattle.online_nodes.specs.Operators.{kind_of}
 use Rattle.online_nodes.specs.Answering.{IsInput, IsOperand, looks_by}
-use Rattle.online_nodes.proofs.RunLaw.{int_order}
 
 -- what is so of all children is so of each
 pub child_all : (P : ℕ → Type 0) (n : Node) (left : Bool) (j : ℕ) → IsReader n left j → All P (children n) → P j
@@ -64,7 +64,7 @@ child_second : (p q j : ℕ) → q ≡ j → list_any (λ x. x == j) (p ∷ q �
 child_second p q j e = or_right (p == j) (list_any (λ x. x == j) (q ∷ [])) (child_first q j [] e)
 
 -- a reader has what it reads as a child
-reader_has : (n : Node) (left : Bool) (j : ℕ) → IsReader n left j → has_child j n ≡ true
+pub reader_has : (n : Node) (left : Bool) (j : ℕ) → IsReader n left j → has_child j n ≡ true
 reader_has (Const b) left j r = absurd r
 reader_has (Leaf a) left j r = absurd r
 reader_has (Not p) true j r = child_first p j [] r
@@ -87,45 +87,6 @@ reader_has (Once p a b i k) true j r = child_first p j [] r
 reader_has (Once p a b i k) false j r = absurd r
 reader_has (Historically p a b i k) true j r = child_first p j [] r
 reader_has (Historically p a b i k) false j r = absurd r
-
--- the numbers rise strictly, from a on
-RiseFrom : ℕ → List ℕ → Type 0
-RiseFrom a [] = Unit {0}
-RiseFrom a (x ∷ xs) = (a ≤ x) × RiseFrom (x + 1) xs
-
-rise_lower : (a b : ℕ) (xs : List ℕ) → b ≤ a → RiseFrom a xs → RiseFrom b xs
-unfolding RiseFrom
-rise_lower a b [] h r = tt
-rise_lower a b (x ∷ xs) h r = (omega (arith, r.0), r.1)
-
-rise_filter : (p : ℕ → Bool) (a n : ℕ) → RiseFrom a (filter p (range_with_len a n))
-unfolding RiseFrom
-rise_filter p a zero = tt
-rise_filter p a (suc n) = by_test (p a) (rise_filter p (a + 1) n)
-  where
-    by_test : (t : Bool) → RiseFrom (a + 1) (filter p (range_with_len (a + 1) n))
-        → RiseFrom a (cond t (a ∷ filter p (range_with_len (a + 1) n)) (filter p (range_with_len (a + 1) n)))
-    by_test true more = (omega arith, more)
-    by_test false more = rise_lower (a + 1) a (filter p (range_with_len (a + 1) n)) (omega arith) more
-
-last_two : (a : ℕ) (others : List ℕ) (p q : ℕ) → RiseFrom a (others ++ p ∷ q ∷ []) → p < q
-unfolding RiseFrom
-last_two a [] p q r = omega (arith, r.1.0)
-last_two a (x ∷ others) p q r = last_two (x + 1) others p q r.1
-
--- two inputs of a node are two nodes
-pub inputs_apart : (nodes : List Node) (i : ℕ) (n : Node) (p q : ℕ) → IsPostOrder nodes → slice_get nodes i ≡ Some n
-    → children n ≡ p ∷ q ∷ [] → p ≢ q
-unfolding unused
-inputs_apart nodes i n p q order at two same =
-    let follow = order.follows i n at in
-    let rises = rise_filter (λ i. not (is_used (take i nodes) i)) 0 0 in
-    by_list follow.others (follow.last ∙ ap (λ l. follow.others ++ l) two)
-  where
-    by_list : (others : List ℕ) → unused (take i nodes) ≡ others ++ p ∷ q ∷ [] → ⊥
-    by_list others e =
-        let l = last_two 0 others p q (subst (RiseFrom 0) e (rise_filter (λ k. not (is_used (take i nodes) k)) 0 (length (take i nodes)))) in
-        omega (arith, l, same)
 
 -- a node that reads another does so alone, and from one side
 module _ (nodes : List Node) (order : IsPostOrder nodes) where

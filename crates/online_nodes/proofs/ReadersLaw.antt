@@ -3,12 +3,12 @@ use Rattle.std.proofs.Common.{◌≡◌, ◌⊎◌, inl, inr, refl, sym, ap, sub
 use Rattle.std.proofs.Common.{◌≤◌, Bool, true, false, not, Some, List, [], ◌∷◌, length, take, arith}
 use Rattle.std.specs.Prelude.{◌≢◌, cond, ◌==◌, ◌||◌, slice_get, slice_index_or, All}
 use Rattle.std.specs.List.{list_any, filter, range_with_len}
-use Rattle.std.proofs.lemmas.Bool.{cases_order, eq-eqb, or_left, or_right}
+use Rattle.std.proofs.lemmas.Bool.{cases_order}
 use Rattle.std.proofs.lemmas.List.{get_or-take, length-take-le}
 use Rattle.std.proofs.lemmas.List.Folds.{list_any_at, Any-from_list_any}
 use Rattle.std.proofs.lemmas.List.Elements.{All-head, All-tail}
 use Rattle.std.proofs.lemmas.Option.{slice_get_within, get_or_from_slice_get}
-use Rattle.stl_syntax.specs.PostOrder.{children, has_child, is_used, unused, IsPostOrder}
+use Rattle.stl_syntax.specs.PostOrder.{has_child, is_used, unused, IsPostOrder}
 use Rattle.stl_syntax.specs.WellFormed.{HasOneRoot}
 use Rattle.stl_syntax.specs.declared.node.Node.{Node}
 use Rattle.stl_syntax.specs.declared.node.Node.TheVariants.{
@@ -27,82 +27,9 @@ use Rattle.stl_syntax.specs.declared.node.Node.TheVariants.{
 }
 use Rattle.stl_syntax.proofs.PostOrderLemmas.{children_free, unused_free, slice_get_at}
 use Rattle.online_nodes.specs.Needed.{IsReader}
+use Rattle.online_nodes.proofs.ReaderLemmas.{child_all, reader_has}
 
--- what holds of each child holds of what the node reads
-pub child_read : (P : ℕ → Type 0) (n : Node) (left : Bool) (j : ℕ) → IsReader n left j → All P (children n) → P j
-child_read P n left j r all = by_node n left r all
-  where
-    one : (p : ℕ) → p ≡ j → All P (p ∷ []) → P j
-    one p e h = subst P e (h 0 0 (omega arith))
-
-    first : (p q : ℕ) → p ≡ j → All P (p ∷ q ∷ []) → P j
-    first p q e h = subst P e (h 0 0 (omega arith))
-
-    second : (p q : ℕ) → q ≡ j → All P (p ∷ q ∷ []) → P j
-    second p q e h = subst P e (h 1 0 (omega arith))
-
-    by_node : (n : Node) (left : Bool) → IsReader n left j → All P (children n) → P j
-    by_node (Const b) left r h = absurd r
-    by_node (Leaf a) left r h = absurd r
-    by_node (Not p) true r h = one p r h
-    by_node (Not p) false r h = absurd r
-    by_node (And p q) true r h = first p q r h
-    by_node (And p q) false r h = second p q r h
-    by_node (Or p q) true r h = first p q r h
-    by_node (Or p q) false r h = second p q r h
-    by_node (Implies p q) true r h = first p q r h
-    by_node (Implies p q) false r h = second p q r h
-    by_node (Until p q a b) true r h = first p q r h
-    by_node (Until p q a b) false r h = second p q r h
-    by_node (Eventually p a b i k) true r h = one p r h
-    by_node (Eventually p a b i k) false r h = absurd r
-    by_node (Always p a b i k) true r h = one p r h
-    by_node (Always p a b i k) false r h = absurd r
-    by_node (Since p q a b) true r h = first p q r h
-    by_node (Since p q a b) false r h = second p q r h
-    by_node (Once p a b i k) true r h = one p r h
-    by_node (Once p a b i k) false r h = absurd r
-    by_node (Historically p a b i k) true r h = one p r h
-    by_node (Historically p a b i k) false r h = absurd r
-
--- a node has what it reads as a child
-reads_child : (n : Node) (left : Bool) (j : ℕ) → IsReader n left j → has_child j n ≡ true
-reads_child n left j r = by_node n left r
-  where
-    one : (p : ℕ) → p ≡ j → list_any (λ x. x == j) (p ∷ []) ≡ true
-    one p e = or_left (p == j) false (eq-eqb p j e)
-
-    first : (p q : ℕ) → p ≡ j → list_any (λ x. x == j) (p ∷ q ∷ []) ≡ true
-    first p q e = or_left (p == j) (list_any (λ x. x == j) (q ∷ [])) (eq-eqb p j e)
-
-    second : (p q : ℕ) → q ≡ j → list_any (λ x. x == j) (p ∷ q ∷ []) ≡ true
-    second p q e = or_right (p == j) (list_any (λ x. x == j) (q ∷ [])) (one q e)
-
-    by_node : (n : Node) (left : Bool) → IsReader n left j → has_child j n ≡ true
-    by_node (Const b) left r = absurd r
-    by_node (Leaf a) left r = absurd r
-    by_node (Not p) true r = one p r
-    by_node (Not p) false r = absurd r
-    by_node (And p q) true r = first p q r
-    by_node (And p q) false r = second p q r
-    by_node (Or p q) true r = first p q r
-    by_node (Or p q) false r = second p q r
-    by_node (Implies p q) true r = first p q r
-    by_node (Implies p q) false r = second p q r
-    by_node (Until p q a b) true r = first p q r
-    by_node (Until p q a b) false r = second p q r
-    by_node (Eventually p a b i k) true r = one p r
-    by_node (Eventually p a b i k) false r = absurd r
-    by_node (Always p a b i k) true r = one p r
-    by_node (Always p a b i k) false r = absurd r
-    by_node (Since p q a b) true r = first p q r
-    by_node (Since p q a b) false r = second p q r
-    by_node (Once p a b i k) true r = one p r
-    by_node (Once p a b i k) false r = absurd r
-    by_node (Historically p a b i k) true r = one p r
-    by_node (Historically p a b i k) false r = absurd r
-
--- and reads what it has as a child
+-- a node reads what it has as a child
 child_reads : (n : Node) (j : ℕ) → has_child j n ≡ true → (left : Bool) × IsReader n left j
 child_reads n j e = by_node n e
   where
@@ -141,7 +68,7 @@ child_reads n j e = by_node n e
 used_by : (nodes : List Node) (m : ℕ) (n : Node) (left : Bool) (j : ℕ) → slice_get nodes m ≡ Some n → IsReader n left j → is_used nodes j ≡ true
 used_by nodes m n left j at r =
     list_any_at (has_child j) nodes m (Const false) (slice_get_within nodes m n at)
-    (ap (has_child j) (get_or_from_slice_get nodes m n (Const false) at) ∙ reads_child n left j r)
+    (ap (has_child j) (get_or_from_slice_get nodes m n (Const false) at) ∙ reader_has n left j r)
 
 -- no two nodes read one node
 pub one_reader : {n n' : Node} (nodes : List Node) → IsPostOrder nodes → (m k : ℕ) (left left' : Bool) (j : ℕ) → slice_get nodes m ≡ Some n
@@ -155,11 +82,11 @@ one_reader {n} {n'} nodes order m k left left' j at at' r r' = by_order (cases_o
         let inside = slice_get_within nodes k n' at' in
         let within : k ≤ length nodes = omega (arith, inside) in
         let here : has_child j (slice_index_or (take k nodes) m (Const false)) ≡ true =
-        ap (has_child j) (get_or-take k nodes m (Const false) l ∙ get_or_from_slice_get nodes m n (Const false) at) ∙ reads_child n left j r in
+        ap (has_child j) (get_or-take k nodes m (Const false) l ∙ get_or_from_slice_get nodes m n (Const false) at) ∙ reader_has n left j r in
         let used : is_used (take k nodes) j ≡ true =
         list_any_at (has_child j) (take k nodes) m (Const false) (omega (arith, l, length-take-le k nodes within)) here in
         let free : is_used (take k nodes) j ≡ false =
-        child_read (λ p. is_used (take k nodes) p ≡ false) n' left' j r' (children_free (take k nodes) n' (order.follows k n' at')) in
+        child_all (λ p. is_used (take k nodes) p ≡ false) n' left' j r' (children_free (take k nodes) n' (order.follows k n' at')) in
         (let z : true ≡ false = sym used ∙ free in cc)
 
     by_order : (m ≡ k) ⊎ ((m < k) ⊎ (k < m)) → m ≡ k

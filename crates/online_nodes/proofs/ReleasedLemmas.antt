@@ -34,8 +34,7 @@ use Rattle.online_nodes.specs.declared.until.Until.{Until as UntilWindow}
 use Rattle.online_nodes.specs.declared.window.Window.{Window}
 use Rattle.online_nodes.proofs.DroppedLemmas.{dropped_number, dropped_parts, dropped_read, dropped_tells, ends_by_number, tells_some}
 use Rattle.online_nodes.proofs.DueLemmas.{among_telling, due_cases}
-use Rattle.online_nodes.proofs.JoinLemmas.{after_at_most}
-use Rattle.rational.proofs.PlaceLemmas.{not_both, upto_of_before}
+use Rattle.rational.proofs.PlaceLemmas.{not_both, upto_of_before, after_at_most}
 use Rattle.online_nodes.proofs.RunLaw.{moved}
 use Rattle.online_nodes.proofs.StepFacts.{just_after}
 use Rattle.online_nodes.proofs.SinceWorked.{has_since}

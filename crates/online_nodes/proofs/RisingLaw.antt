@@ -37,6 +37,9 @@ use Rattle.std.proofs.Common.{
 use Rattle.std.specs.Prelude.{int_lt, cond, ◌&&◌, ◌==◌, slice_index_or, slice_get, IfSome, All}
 use Rattle.std.proofs.lemmas.Int.{ints}
 use Rattle.std.proofs.lemmas.List.{length-take-le}
+use Rattle.std.proofs.lemmas.Bool.{and_parts}
+use Rattle.std.proofs.lemmas.Option.{same_Some}
+use Rattle.rational.proofs.Tests.{int_order}
 use Rattle.stl_syntax.specs.Trace.{Header}
 use Rattle.stl_syntax.specs.Formula.{subformula, HasChildrenBelow}
 use Rattle.stl_syntax.specs.PostOrder.{IsPostOrder, children}
@@ -86,18 +89,7 @@ use Rattle.online_nodes.specs.Network.{
 }
 use Rattle.online_nodes.specs.Needed.{IsReader}
 use Rattle.online_nodes.specs.Laws.{NeverLess}
-use Rattle.online_nodes.proofs.RunLaw.{
-  AllBounded,
-  bounded_after,
-  open_bound,
-  some_is,
-  none_is_none,
-  int_order,
-  moved,
-  lesser,
-  and_left,
-  last_appended,
-}
+use Rattle.online_nodes.proofs.RunLaw.{AllBounded, bounded_after, open_bound, none_is_none, moved, lesser, last_appended}
 use Rattle.online_nodes.proofs.FrameLaw.{one_more}
 
 -- one number after another
@@ -175,7 +167,7 @@ at_end_stays : (s s' : State) (i : ℕ) (places : List ℕ) → All (λ p. p < i
 at_end_stays s s' i [] below stay e = refl
 at_end_stays s s' i (p ∷ places) below stay e =
     let rest : All (λ p. p < i) places = λ k d h. below (suc k) d (omega (arith, h)) in
-    let first = and_left (same_front (s.fronts p) (last_row s)) (all_at_end s places) e in
+    let first = (and_parts (same_front (s.fronts p) (last_row s)) (all_at_end s places) e).0 in
     let more = and_right (same_front (s.fronts p) (last_row s)) (all_at_end s places) e in
     let here : same_front (s'.fronts p) (last_row s') ≡ true =
     same_of (s'.fronts p) (last_row s') (stay p (below 0 0 (omega arith)) (same_is (s.fronts p) (last_row s) first)) in
@@ -192,11 +184,11 @@ at_end_reads s n left j r e = by_node n left r e
   where
     one : (p : ℕ) → p ≡ j → all_at_end s (p ∷ []) ≡ true → s.fronts j ≡ last_row s
     one p x y = subst (λ k. s.fronts k ≡ last_row s) x
-        (same_is (s.fronts p) (last_row s) (and_left (same_front (s.fronts p) (last_row s)) true y))
+        (same_is (s.fronts p) (last_row s) ((and_parts (same_front (s.fronts p) (last_row s)) true y).0))
 
     first : (p q : ℕ) → p ≡ j → all_at_end s (p ∷ q ∷ []) ≡ true → s.fronts j ≡ last_row s
     first p q x y = subst (λ k. s.fronts k ≡ last_row s) x
-        (same_is (s.fronts p) (last_row s) (and_left (same_front (s.fronts p) (last_row s)) (all_at_end s (q ∷ [])) y))
+        (same_is (s.fronts p) (last_row s) ((and_parts (same_front (s.fronts p) (last_row s)) (all_at_end s (q ∷ [])) y).0))
 
     second : (p q : ℕ) → q ≡ j → all_at_end s (p ∷ q ∷ []) ≡ true → s.fronts j ≡ last_row s
     second p q x y = one q x (by_first (same_front (s.fronts p) (last_row s)) y)
@@ -377,7 +369,7 @@ module _ (nodes : List Node) (header : Header) (order : IsPostOrder nodes) where
           → NeverLess (cond (s.closed && all_at_end s (children n)) (last_row s) (open_number n s)) (allowed n s')
       by_test false x = subst (λ t. NeverLess (cond t (last_row s) (open_number n s)) (allowed n s')) (sym x) either
       by_test true x =
-          let closed = and_left s.closed (all_at_end s (children n)) x in
+          let closed = (and_parts s.closed (all_at_end s (children n)) x).0 in
           let ends : all_at_end s (children n) ≡ true = by_closed s.closed closed x in
           let now = stay closed in
           let ends' = at_end_stays s s' i (children n) (children_before i n l at) stays ends in
@@ -396,7 +388,7 @@ module _ (nodes : List Node) (header : Header) (order : IsPostOrder nodes) where
           stays p h e = by_last (last_row s) refl
             where
               now : last_row s' ≡ last_row s
-              now = (stay (and_left s.closed (all_at_end s (children n)) x)).1
+              now = (stay ((and_parts s.closed (all_at_end s (children n)) x).0)).1
 
               by_last : (o : Front) → last_row s ≡ o → s'.fronts p ≡ last_row s'
               by_last None y = by_front (s'.fronts p) refl
@@ -408,7 +400,7 @@ module _ (nodes : List Node) (header : Header) (order : IsPostOrder nodes) where
               by_last (Some m) y =
                   let up = later.fronts p h m (e ∙ y) in
                   let b = all' p up.0 (omega (arith, h, l)) up.1 in
-                  let top : b.last ≡ m = some_is b.last m (sym b.is_last ∙ now ∙ y) in
+                  let top : b.last ≡ m = same_Some b.last m (sym b.is_last ∙ now ∙ y) in
                   let same : up.0 ≡ m = (let a = up.2 in let c = b.by_now in omega (arith, ints)) in
                   up.1 ∙ ap (λ (z : ℤ). Some z) same ∙ sym y ∙ sym now
 
@@ -629,7 +621,7 @@ module _ (nodes : List Node) (header : Header) (order : IsPostOrder nodes) where
           let last : last_row s ≡ Some h.0 = subst (λ t. cond t (last_row s) (open_number n s) ≡ Some h.0) x h.1 in (
             h.0,
             at_end_reads s n left j reads (both s.closed (all_at_end s (children n)) x) ∙ last,
-            inr (and_left s.closed (all_at_end s (children n)) x, last),
+            inr ((and_parts s.closed (all_at_end s (children n)) x).0, last),
           )
         where
           both : (a b : Bool) → (a && b) ≡ true → b ≡ true

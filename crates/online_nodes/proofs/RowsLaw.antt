@@ -3,27 +3,24 @@ use Rattle.std.proofs.Common.{◌≡◌, refl, sym, ℕ, ◌<◌, Bool, false, S
 use Rattle.std.specs.Prelude.{IfSome}
 use Rattle.std.proofs.lemmas.Int.{ints}
 use Rattle.std.proofs.lemmas.List.{append-nil}
-use Rattle.stl_syntax.specs.Trace.{Header, Row, IsTrace, AreRows, AreRowsAfter, Continues, last_time}
+use Rattle.std.proofs.lemmas.Option.{same_Some}
+use Rattle.stl_syntax.specs.Trace.{Header, Row, IsTrace, AreRows, Continues, last_time}
 use Rattle.stl_syntax.specs.declared.node.Node.{Node}
+use Rattle.stl_syntax.proofs.RowsLemmas.{rows-push}
 use Rattle.online_nodes.specs.Network.{Event, row, step, close, take, State, last_row, after_event, state_from, initial, state, MayCome, IsRunFrom, IsRun}
-use Rattle.online_nodes.proofs.RunLaw.{some_is, none_is_none}
+use Rattle.online_nodes.proofs.RunLaw.{none_is_none}
 
 -- no row, or those of a trace
 abbrev pub AreRowsSoFar : ℕ → List Row → Type 0
 AreRowsSoFar width [] = Unit {0}
 AreRowsSoFar width (r ∷ rows) = AreRows width (r ∷ rows)
 
-pushed_after : (width time : ℕ) (rows : List Row) (r : Row) → AreRowsAfter width time rows → last_time time rows < r.time → length r.values ≡ width
-    → AreRowsAfter width time (rows ++ r ∷ [])
-pushed_after width time [] r h l e = (l, e, tt)
-pushed_after width time (q ∷ rows) r h l e = (h.0, h.1, pushed_after width q.time rows r h.2 l e)
-
 -- a later row more
 pushed : (width : ℕ) (rows : List Row) (r : Row) → AreRowsSoFar width rows
     → IfSome (last_row (record { rows = rows; closed = false; fronts = λ i. None })) (λ f. f <ℤ pos r.time) → length r.values ≡ width
     → AreRowsSoFar width (rows ++ r ∷ [])
 pushed width [] r h l e = (e, tt)
-pushed width (q ∷ rows) r h l e = (h.0, pushed_after width q.time rows r h.1 (omega (arith, ints, l)) e)
+pushed width (q ∷ rows) r h l e = (h.0, rows-push width q.time rows r h.1 (omega (arith, ints, l)) e)
 
 module _ (nodes : List Node) (header : Header) where
   -- the rows stay those of a trace after an event
@@ -64,4 +61,4 @@ last_is s l e = by_rows s.rows e
   where
     by_rows : (rows : List Row) → last_row (record { rows = rows; closed = s.closed; fronts = s.fronts }) ≡ Some l → pos (last_time 0 rows) ≡ l
     by_rows [] e = absurd (none_is_none l e)
-    by_rows (r ∷ rows) e = some_is (pos (last_time r.time rows)) l e
+    by_rows (r ∷ rows) e = same_Some (pos (last_time r.time rows)) l e

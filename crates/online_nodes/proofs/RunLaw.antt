@@ -1,33 +1,10 @@
 -- How far the numbers of a run go.
-use Rattle.std.proofs.Common.{
-  ◌≡◌,
-  refl,
-  sym,
-  ap,
-  subst,
-  ◌∙◌,
-  ℕ,
-  ◌<◌,
-  ◌+◌,
-  ◌-◌,
-  max,
-  Bool,
-  true,
-  false,
-  Option,
-  Some,
-  None,
-  List,
-  ℤ,
-  pos,
-  neg_ℤ,
-  ◌+ℤ◌,
-  ◌≤ℤ◌,
-  ◌<ℤ◌,
-  arith,
-}
+use Rattle.std.proofs.Common.{◌≡◌, refl, sym, ap, subst, ◌∙◌, ℕ, ◌<◌, ◌+◌, ◌-◌, max, Bool, true, false, Some, None, List, ℤ, pos, neg_ℤ, ◌+ℤ◌, ◌≤ℤ◌, ◌<ℤ◌, arith}
 use Rattle.std.specs.Prelude.{int_lt, cond, ◌&&◌, ◌==◌, slice_index_or, slice_get, length, [], ◌∷◌, ◌++◌, IfSome}
 use Rattle.std.proofs.lemmas.Int.{ints}
+use Rattle.std.proofs.lemmas.Bool.{and_parts}
+use Rattle.std.proofs.lemmas.Option.{same_Some}
+use Rattle.rational.proofs.Tests.{int_order}
 use Rattle.stl_syntax.specs.Trace.{Header, Row, last_time}
 use Rattle.stl_syntax.specs.Formula.{Subformula, subformula, horizon, tree_of, HasChildrenBelow}
 use Rattle.stl_syntax.specs.PostOrder.{IsPostOrder, children}
@@ -75,14 +52,6 @@ use Rattle.stl_syntax.specs.declared.node.Node.TheVariants.{
   Historically,
 }
 
--- two fronts that are the same have one number
-pub some_is : (a b : ℤ) → Some a ≡ Some b → a ≡ b
-some_is a b e = ap or_zero e
-  where
-    or_zero : Option ℤ → ℤ
-    or_zero None = pos 0
-    or_zero (Some z) = z
-
 -- none is no number
 pub none_is_none : (a : ℤ) → None ≡ Some a → ⊥
 none_is_none a e = cc
@@ -90,12 +59,7 @@ none_is_none a e = cc
 -- a moved front has a number that was moved
 pub moved : (k : ℤ) (o : Front) (f : ℤ) → moved_by k o ≡ Some f → (g : ℤ) × (o ≡ Some g) × (f ≡ g +ℤ k)
 moved k None f e = absurd (none_is_none f e)
-moved k (Some g) f e = (g, refl, sym (some_is (g +ℤ k) f e))
-
--- a comparison of numbers tells their order
-pub int_order : (a b : ℤ) (t : Bool) → int_lt a b ≡ t → cond t (a <ℤ b) (b ≤ℤ a)
-int_order a b true e = omega (arith, ints)
-int_order a b false e = omega (arith, ints)
+moved k (Some g) f e = (g, refl, sym (same_Some (g +ℤ k) f e))
 
 -- the least of two fronts is at most both
 pub lesser : (o q : Front) (f : ℤ) → least o q ≡ Some f → (g h : ℤ) × (o ≡ Some g) × (q ≡ Some h) × (f ≤ℤ g) × (f ≤ℤ h)
@@ -105,11 +69,11 @@ lesser (Some g) (Some h) f e = by_test (int_lt h g) refl
   where
     by_test : (t : Bool) → int_lt h g ≡ t → (a b : ℤ) × (Some g ≡ Some a) × (Some h ≡ Some b) × (f ≤ℤ a) × (f ≤ℤ b)
     by_test true x =
-        let is : h ≡ f = some_is h f (subst (λ t. cond t (Some h) (Some g) ≡ Some f) x e) in
+        let is : h ≡ f = same_Some h f (subst (λ t. cond t (Some h) (Some g) ≡ Some f) x e) in
         let o : h <ℤ g = int_order h g true x in
         (g, h, refl, refl, omega (arith, ints), omega (arith, ints))
     by_test false x =
-        let is : g ≡ f = some_is g f (subst (λ t. cond t (Some h) (Some g) ≡ Some f) x e) in
+        let is : g ≡ f = same_Some g f (subst (λ t. cond t (Some h) (Some g) ≡ Some f) x e) in
         let o : g ≤ℤ h = int_order h g false x in
         (g, h, refl, refl, omega (arith, ints), omega (arith, ints))
 
@@ -130,7 +94,7 @@ two s h j m f g k b d l n below = record {
   is_last = b.is_last;
   by_now = let x = b.by_now in omega (arith, ints);
   ahead = λ e. below b.last (b.ahead e)
-      (subst (λ z. (k +ℤ pos j) ≤ℤ z) (some_is d.last b.last (sym d.is_last ∙ b.is_last)) (d.ahead e));
+      (subst (λ z. (k +ℤ pos j) ≤ℤ z) (same_Some d.last b.last (sym d.is_last ∙ b.is_last)) (d.ahead e));
 }
 
 module _ (at : ℕ → Subformula) (s : State) where
@@ -168,7 +132,7 @@ module _ (at : ℕ → Subformula) (s : State) where
             is_last = y;
             by_now = m;
             ahead = λ c. let u : (j +ℤ pos (horizon (at p))) ≤ℤ h = subst (λ v. (j +ℤ pos (horizon (at p))) ≤ℤ v)
-                (some_is (b j z).last h (sym (b j z).is_last ∙ y)) ((b j z).ahead c) in omega (arith, ints);
+                (same_Some (b j z).last h (sym (b j z).is_last ∙ y)) ((b j z).ahead c) in omega (arith, ints);
           }
 
   since_by : (p q a : ℕ) (f : ℤ) → Bounded p → Bounded q → least (s.fronts p) (moved_by (pos a) (s.fronts q)) ≡ Some f
@@ -187,7 +151,7 @@ module _ (at : ℕ → Subformula) (s : State) where
             ahead = λ c.
                 let u = (b g x).ahead c in
                 let v : (j +ℤ pos (horizon (at q))) ≤ℤ (b g x).last = subst (λ t. (j +ℤ pos (horizon (at q))) ≤ℤ t)
-                (some_is (d j z).last (b g x).last (sym (d j z).is_last ∙ (b g x).is_last)) ((d j z).ahead c) in
+                (same_Some (d j z).last (b g x).last (sym (d j z).is_last ∙ (b g x).is_last)) ((d j z).ahead c) in
                 let r = (b g x).by_now in
                 omega (arith, ints);
           }
@@ -209,11 +173,6 @@ module _ (at : ℕ → Subformula) (s : State) where
   open_bound i (Since p q a b) f c k e = since_by p q a f (k p c.0) (k q c.1) e
   open_bound i (Once p a b a_in b_in) f c k e = behind_by p a f (k p c) e
   open_bound i (Historically p a b a_in b_in) f c k e = behind_by p a f (k p c) e
-
--- of two tests that are both true the first is true
-pub and_left : (a b : Bool) → (a && b) ≡ true → a ≡ true
-and_left true b e = refl
-and_left false b e = absurd (let x : false ≡ true = e in cc)
 
 -- the last row is the one that came last
 pub last_appended : (rows : List Row) (r : Row) (closed : Bool) (fronts : ℕ → Front)
@@ -245,7 +204,7 @@ module _ (nodes : List Node) (header : Header) (order : IsPostOrder nodes) where
         last = f;
         is_last = subst (λ t. cond t (last_row s) (open_number n s) ≡ Some f) x e;
         by_now = omega (arith, ints);
-        ahead = λ c. absurd (let y = and_left s.closed (all_at_end s (children n)) x in cc);
+        ahead = λ c. absurd (let y = (and_parts s.closed (all_at_end s (children n)) x).0 in cc);
       }
       by_test false x =
           subst (λ p. IsBounded s (horizon p) f) (sym (subformula-at nodes i n at below))
@@ -276,7 +235,7 @@ module _ (nodes : List Node) (header : Header) (order : IsPostOrder nodes) where
       by_test : (t : Bool) → node_is_atom nodes i ≡ t → cond (node_is_atom nodes i) (Some (pos r.time)) (s.fronts i) ≡ Some f
           → IsBounded (after_event nodes s (row r)) (horizon (subformula nodes i)) f
       by_test true x y =
-          let is : pos r.time ≡ f = some_is (pos r.time) f (subst (λ t. cond t (Some (pos r.time)) (s.fronts i) ≡ Some f) x y) in
+          let is : pos r.time ≡ f = same_Some (pos r.time) f (subst (λ t. cond t (Some (pos r.time)) (s.fronts i) ≡ Some f) x y) in
           record {
             last = pos r.time;
             is_last = last_appended s.rows r s.closed (after_event nodes s (row r)).fronts;

@@ -24,7 +24,6 @@ use Rattle.std.proofs.Common.{
   append_assoc,
   length-append,
 }
-use Rattle.std.specs.Prelude.{Result, Ok, Err, OnErr}
 use Rattle.std.proofs.lemmas.List.{append-nil}
 use Rattle.stl_syntax.specs.Trace.{Trace}
 use Rattle.stl_syntax.specs.Formula.{Subformula}
@@ -131,8 +130,3 @@ pub worked_read : {old mid new : Held} {own i : ℕ} {v : Verdict} {more : List 
 worked_read {old} {mid} {new} {own} {i} {v} {more} within apart got passed =
     subst (λ l. HasWorked old new own i i l) (append-nil more)
     (worked_both (worked_put within apart apart got) (worked_pass passed (λ same. apart (sym same)) (inl refl)))
-
--- what holds in any case holds where a call fails
-pub on_err : {T E P : Type 0} (r : Result T E) → P → OnErr r P
-on_err (Ok x) h = tt
-on_err (Err e) h = h

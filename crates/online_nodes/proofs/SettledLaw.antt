@@ -1,33 +1,9 @@
 -- Where no node can move, each number is the last row's time less the horizon.
-use Rattle.std.proofs.Common.{
-  ◌≡◌,
-  refl,
-  sym,
-  ap,
-  subst,
-  ◌∙◌,
-  ℕ,
-  ◌<◌,
-  ◌+◌,
-  ◌-◌,
-  max,
-  Bool,
-  true,
-  false,
-  Some,
-  ℤ,
-  pos,
-  neg_ℤ,
-  ◌+ℤ◌,
-  ◌-ℤ◌,
-  ◌<ℤ◌,
-  ◌≤ℤ◌,
-  arith,
-}
-use Rattle.std.specs.Prelude.{int_lt, cond}
+use Rattle.std.proofs.Common.{◌≡◌, sym, ap, subst, ◌∙◌, ℕ, ◌<◌, ◌+◌, ◌-◌, max, Some, ℤ, pos, neg_ℤ, ◌+ℤ◌, ◌-ℤ◌, arith}
 use Rattle.std.proofs.lemmas.Int.{ints}
 use Rattle.stl_syntax.specs.Formula.{Subformula, horizon, tree_of, HasChildrenBelow}
 use Rattle.online_nodes.specs.Network.{least, moved_by, State, last_row, open_number}
+use Rattle.online_nodes.proofs.FrontsLaw.{least_is}
 use Rattle.stl_syntax.specs.declared.node.Node.{Node}
 use Rattle.stl_syntax.specs.declared.node.Node.TheVariants.{
   Const,
@@ -43,14 +19,6 @@ use Rattle.stl_syntax.specs.declared.node.Node.TheVariants.{
   Once,
   Historically,
 }
-use Rattle.online_nodes.proofs.RunLaw.{int_order}
-
-least_is : (a b m : ℤ) → (b <ℤ a → b ≡ m) → (a ≤ℤ b → a ≡ m) → least (Some a) (Some b) ≡ Some m
-least_is a b m f g = by_test (int_lt b a) refl
-  where
-    by_test : (t : Bool) → int_lt b a ≡ t → cond (int_lt b a) (Some b) (Some a) ≡ Some m
-    by_test true e = subst (λ t. cond t (Some b) (Some a) ≡ Some m) (sym e) (ap (λ (z : ℤ). Some z) (f (int_order b a true e)))
-    by_test false e = subst (λ t. cond t (Some b) (Some a) ≡ Some m) (sym e) (ap (λ (z : ℤ). Some z) (g (int_order b a false e)))
 
 module _ (at : ℕ → Subformula) (s : State) (l : ℤ) where
   abbrev Settled : ℕ → Type 0

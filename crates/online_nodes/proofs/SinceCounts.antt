@@ -31,17 +31,8 @@ use Rattle.online_nodes.specs.declared.since.Wrote.{Wrote}
 use Rattle.online_nodes.specs.declared.since.Since.{Since}
 use Rattle.online_nodes.specs.declared.writer.Out.{Out}
 use Rattle.online_nodes.proofs.GotLemmas.{got-length, got-other}
-use Rattle.online_nodes.proofs.JoinLemmas.{after_at_most, worked_then_pass}
-use Rattle.rational.proofs.PlaceLemmas.{
-  sides,
-  not_both,
-  place_order,
-  upto_of_before,
-  after_same,
-  after_of_before,
-  before_trans,
-  same_places,
-}
+use Rattle.online_nodes.proofs.JoinLemmas.{worked_then_pass}
+use Rattle.rational.proofs.PlaceLemmas.{sides, not_both, place_order, upto_of_before, after_same, after_of_before, before_trans, same_places, after_at_most}
 use Rattle.online_nodes.proofs.SaidLemmas.{passed-fresh, passed-one}
 use Rattle.online_nodes.proofs.SinceLaw.{goes_on, knows_found, knows_right_read, knows_left_read}
 use Rattle.online_nodes.proofs.SinceEnds.{IsRest, rest_staying}

@@ -18,18 +18,11 @@ use Rattle.online_nodes.specs.declared.since.Wrote.{Wrote}
 use Rattle.online_nodes.specs.declared.since.Since.{Since}
 use Rattle.online_nodes.specs.declared.writer.Out.{Out}
 use Rattle.online_nodes.proofs.GotLemmas.{got-other}
-use Rattle.online_nodes.proofs.JoinLemmas.{after_at_most}
-use Rattle.rational.proofs.PlaceLemmas.{not_both, between, place_order, upto_of_before, upto_same}
-use Rattle.rational.proofs.PlaceLemmas.{after_same, same_before, same_places, at_most_of_not_before}
+use Rattle.rational.proofs.PlaceLemmas.{not_both, between, place_order, upto_of_before, upto_same, after_at_most}
+use Rattle.rational.proofs.PlaceLemmas.{after_same, same_before, same_places, before_of_at_most, after_later}
 use Rattle.online_nodes.proofs.SinceLaw.{goes_on, went_on, fails, settled, knows_new_run, knows_later}
 use Rattle.online_nodes.proofs.SinceTurns.{IsWorking, left-first, left-says, run_behind, staying-remembers}
-use Rattle.online_nodes.proofs.UntilLaw.{after_later}
-use Rattle.online_nodes.proofs.UntilPasses.{before_of_at_most}
 use Rattle.online_nodes.proofs.WorkLemmas.{worked_put}
-
--- a place that is not before another, nor beyond it
-at_most_to : (c d : Place) → (Before d c → ⊥) → AtMost c d
-at_most_to c d n = at_most_of_not_before c d n
 
 -- a stretch to the end of which the left input holds, and beyond what was found nothing counts
 pub record IsRest (x : Stay) (s : Since) (c : Wrote) (r : Reads) (fresh_right : List Verdict) : Type 0 where
@@ -250,8 +243,8 @@ module _ {old new : Held} {s : Since} {c : Wrote} {out : Out} {held to : Cut} {v
                 let y = between r.left (place c.out.to) (same_before r.left (begins (interval v.on)) (place c.out.to) begun b) in
                 let z = between (place c.run) (place c.out.to) d in
                 elim (le_or_lt y.0 z.0) [
-                  | inl le ↦ not_both r.read z.0 (whole z.0 z.2) (m.tight z.0 (after_later r.left y.0 z.0 y.1 le) z.1)
-                  | inr lt ↦ not_both r.read y.0 (whole y.0 y.2) (m.tight y.0 y.1 (after_later (place c.run) z.0 y.0 z.1 (le_of_lt lt)))
+                  | inl le ↦ not_both r.read z.0 (whole z.0 z.2) (m.tight z.0 (after_later r.left y.0 z.0 le y.1) z.1)
+                  | inr lt ↦ not_both r.read y.0 (whole y.0 y.2) (m.tight y.0 y.1 (after_later (place c.run) z.0 y.0 (le_of_lt lt) z.1))
                 ]
 
     -- it, or the run, begins only there

@@ -1,5 +1,5 @@
 -- Since, verdict by verdict.
-use Rattle.std.proofs.Common.{◌≡◌, inl, inr, ℕ, ◌+◌, ◌*◌, ◌≤◌, ◌<◌, Bool, not, true, false, List, [], ◌++◌, length}
+use Rattle.std.proofs.Common.{◌≡◌, inl, inr, ℕ, ◌+◌, ◌*◌, ◌≤◌, ◌<◌, true, false, List, [], ◌++◌, length}
 use Rattle.std.proofs.Common.{Some, slice_get, refl, sym, subst, ◌∙◌, arith, append_assoc, length-append}
 use Rattle.std.proofs.lemmas.List.{append-nil}
 use Rattle.std.proofs.lemmas.Option.{same_Some}
@@ -33,8 +33,8 @@ use Rattle.online_nodes.specs.declared.since.Since.{Since}
 use Rattle.online_nodes.specs.declared.since.Step.{Step}
 use Rattle.online_nodes.specs.declared.since.Step.TheVariants.{More, Done}
 use Rattle.online_nodes.specs.declared.writer.Out.{Out}
-use Rattle.online_nodes.proofs.JoinLemmas.{after_at_most}
 use Rattle.rational.proofs.PlaceLemmas.{not_both, between, upto_of_before, upto_same, before_trans, same_before, same_places}
+use Rattle.rational.proofs.PlaceLemmas.{before_of_at_most, after_at_most}
 use Rattle.online_nodes.proofs.SinceLaw.{knows_right_fails, knows_right_read}
 use Rattle.online_nodes.proofs.SinceCounts.{IsFound, counts_right, counts_left, counts_done}
 use Rattle.online_nodes.proofs.SinceEnds.{rest_done}
@@ -51,13 +51,7 @@ use Rattle.online_nodes.proofs.SinceTurns.{
   right_within,
   run_behind,
 }
-use Rattle.online_nodes.proofs.UntilPasses.{before_of_at_most}
 use Rattle.online_nodes.proofs.WorkLemmas.{worked_none, worked_both}
-
--- what is not true is false
-pub false_of_not : (b : Bool) → not b ≡ true → b ≡ false
-false_of_not true is = cc
-false_of_not false is = refl
 
 -- the left input went on: it was read, or the stretch is told to its end
 pub go_on_turn : {old : Held} {s : Since} {c : Wrote} {v : Verdict} → IsWorking old s c → slice_get (fresh_at old s.window.of) 0 ≡ Some v

@@ -24,8 +24,9 @@ use Rattle.online_nodes.specs.declared.since.Wrote.{Wrote}
 use Rattle.online_nodes.specs.declared.since.Since.{Since}
 use Rattle.online_nodes.specs.declared.writer.Out.{Out}
 use Rattle.online_nodes.proofs.GotLemmas.{got-other}
-use Rattle.online_nodes.proofs.JoinLemmas.{after_at_most, worked_then_pass}
+use Rattle.online_nodes.proofs.JoinLemmas.{worked_then_pass}
 use Rattle.rational.proofs.PlaceLemmas.{sides, not_both, upto_of_before, upto_same, after_same, after_of_before, before_trans, same_places}
+use Rattle.rational.proofs.PlaceLemmas.{after_at_most}
 use Rattle.online_nodes.proofs.SaidLemmas.{passed-fresh, passed-one}
 use Rattle.online_nodes.proofs.SinceLaw.{goes_on, went_on, fails, not_yet, remembers_of, knows_new_run, knows_left_read, knows_later}
 use Rattle.online_nodes.proofs.UntilCounts.{meets_from}

@@ -1,7 +1,7 @@
 -- What the body of since leaves of a step that is due.
 use Rattle.std.proofs.Common.{◌≡◌, inl, inr, refl, sym, ap, subst, ◌∙◌, ℕ, ◌+◌, ◌≤◌, ◌^◌, Bool, true, false, not}
 use Rattle.std.proofs.Common.{Option, Some, None, List, [], ◌∷◌, length, slice_get, ℤ, pos, ◌+ℤ◌, ◌≤ℤ◌, arith}
-use Rattle.std.specs.Prelude.{◌*◌, ◌&&◌, int_lt, MatchBool}
+use Rattle.std.specs.Prelude.{◌*◌, int_lt, MatchBool}
 use Rattle.std.proofs.lemmas.Int.{ints}
 use Rattle.std.proofs.lemmas.Option.{same_Some, none-some}
 use Rattle.std.proofs.lemmas.Bool.{false≢true}
@@ -80,28 +80,17 @@ use Rattle.online_nodes.proofs.DueLemmas.{
   kind_is,
   knows_at,
 }
-use Rattle.online_nodes.proofs.TellingLemmas.{at_most_order, fresh_counted, fresh_tells, fresh_within, tells_between, tells_upto}
+use Rattle.online_nodes.proofs.TellingLemmas.{fresh_counted, fresh_tells, fresh_within, tells_between, tells_upto}
 use Rattle.online_nodes.proofs.AnsweringLemmas.{fresh_few, worked_two}
-use Rattle.online_nodes.proofs.JoinLemmas.{after_at_most}
 use Rattle.online_nodes.proofs.LooksLaw.{since_looks}
-use Rattle.rational.proofs.PlaceLemmas.{
-  after_same,
-  before_same,
-  before_trans,
-  between,
-  not_both,
-  place_order,
-  same_before,
-  same_places,
-  same_trans_places,
-  sides,
-  upto_same,
-}
+use Rattle.rational.proofs.PlaceLemmas.{after_same, before_same, between, not_both, same_before, same_places, same_trans_places, sides, upto_same, before_of_at_most}
+use Rattle.rational.proofs.PlaceLemmas.{after_at_most, le_of_at_most, same_of_at_most}
+use Rattle.rational.proofs.Tests.{and_false}
 use Rattle.online_nodes.proofs.ReadLemmas.{stop_is}
 use Rattle.online_nodes.proofs.RunLaw.{lesser, moved}
 use Rattle.online_nodes.proofs.SweptLemmas.{window_ends}
 use Rattle.online_nodes.proofs.WindowedLemmas.{fits_moved, some_in_window}
-use Rattle.online_nodes.proofs.WorkedLemmas.{one_place, read_place}
+use Rattle.online_nodes.proofs.WorkedLemmas.{read_place}
 use Rattle.online_nodes.proofs.Writing.{same_itself}
 
 -- since's bounds, in order and near and not ahead, and what its node is: or a node like it up to a place
@@ -124,10 +113,6 @@ pub record HasSince (n p q : Subformula) (tr : Trace) (s : SinceWindow) (to : Pl
   pub begin_in : s.window.begin_in ≡ true
   -- and its end
   pub end_in : s.window.end_in ≡ true
-
-and_false : (b : Bool) → (b && false) ≡ false
-and_false true = refl
-and_false false = refl
 
 -- whether a kind is that of `since`
 abbrev is_since : Kind → Bool
@@ -181,16 +166,6 @@ module _ (at : ℕ → Subformula) (i : ℕ) (tr : Trace) (to : Place) where
     since_node (Always p a b x y) s e h r = absurd (false≢true (ap is_since e))
     since_node (Once p a b x y) s e h r = absurd (false≢true (ap is_since e))
     since_node (Historically p a b x y) s e h r = absurd (false≢true (ap is_since e))
-
--- a place that is not later, before another one
-pub at_most_before : (c d e : Place) → AtMost c d → Before d e → Before c e
-at_most_before c d e h b = elim (place_order c d) [
-  | inl a ↦ before_trans c d e a b
-  | inr o ↦ elim o [
-    | inl s ↦ same_before c d e s b
-    | inr a ↦ absurd (let t = between d c a in not_both d t.0 (h t.0 t.2) t.1)
-  ]
-]
 
 -- what begins no earlier than a time
 at_most_at : (r : Rational) (c : Place) → r ≤ʳ c.at → AtMost (record { at = r; after = false }) c
@@ -318,7 +293,7 @@ module _ {x : Situation} {op : Operator} {old : Held} {work : Outcome} (d : IsDu
         subst (λ l. AtMost (first_place l (front_place old s.window.of)) (place work.out.at)) e left_at in
         let t = between (place work.out.at) (place work.out.to) at_before in
         not_both (place work.out.at) t.0 (all t.0 (left_enough t.0 t.2)) t.1;
-    begins_left = λ v e. at_most_before (begins (interval v.on)) (place work.out.at) (place work.out.to) (first_at v e left_at) at_before;
+    begins_left = λ v e. before_of_at_most (begins (interval v.on)) (place work.out.at) (place work.out.to) (first_at v e left_at) at_before;
   }
     where
       first_at : (v : Verdict) → slice_get (fresh_at old s.window.of) 0 ≡ Some v → AtMost (read_upto old s.window.of) (place work.out.at)
@@ -363,7 +338,7 @@ module _ {x : Situation} {op : Operator} {old : Held} {work : Outcome} (d : IsDu
         let here = tells_between (Truth (subformula x.nodes s.window.of) (trace_in x)) (read_upto old s.window.of) (fresh_at old s.window.of)
         (front_place old s.window.of) left_tells 0 v e in
         same_before (place work.out.at) begin_place (ends (interval v.on)) (same_places first_begin)
-        (at_most_before begin_place (begins (interval v.on)) (ends (interval v.on))
+        (before_of_at_most begin_place (begins (interval v.on)) (ends (interval v.on))
         (at_most_at (whole (pos (first_in x))) (begins (interval v.on)) inside.0) here.2)
 
     first_knows : (run reach : Place) → run ≡ place work.out.at → reach ≡ place work.out.at
@@ -481,9 +456,9 @@ module _ {x : Situation} {op : Operator} {old : Held} {work : Outcome} (d : IsDu
       (m.within t (at_most_of_after (place work.marks.run) begun_staying.0.read m.knows.order t u)) in
       let from : whole (pos 0) ≤ʳ value work.marks.run.time =
       le_trans (let z : pos 0 ≤ℤ pos (first_in x) = omega (arith, ints) in le_whole z)
-      (at_most_order begin_place (place work.marks.run) m.from_start) in
+      (le_of_at_most begin_place (place work.marks.run) m.from_start) in
       let to : value work.marks.run.time ≤ʳ whole (pos (2 ^ 32)) =
-      le_trans (at_most_order (place work.marks.run) (end_of x) run_to)
+      le_trans (le_of_at_most (place work.marks.run) (end_of x) run_to)
       (let z : x.front ≤ℤ pos (2 ^ 32) = (let k = d.small in let l = front_by_now d in omega (arith, ints)) in le_whole z) in
       let order = has.order in let low = has.low in let high = has.end_high in
       fits_moved s.window.begin_by from to (omega (arith, ints)) (omega (arith, ints))
@@ -498,7 +473,7 @@ module _ {x : Situation} {op : Operator} {old : Held} {work : Outcome} (d : IsDu
       let worked : HasWorked old new op.node s.window.of s.right told.more =
       subst (λ (i : ℕ). HasWorked old new i s.window.of s.right told.more) g.edge told.worked in
       let there : Same (place done.out.at) (end_of x) =
-      same_trans_places (one_place (place done.out.at) (place work.out.to) told.inside told.all) g.end in
+      same_trans_places (same_of_at_most (place done.out.at) (place work.out.to) told.inside told.all) g.end in
       let left_stop : front_place old s.window.of ≡ front_place new s.window.of = ap place_of (sym worked.left_read.number) in
       let right_stop : front_place old s.right ≡ front_place new s.right = ap place_of (sym worked.right_read.number) in
       let left : Same after.0.left (read_upto new s.window.of) =

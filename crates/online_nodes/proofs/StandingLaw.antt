@@ -3,7 +3,7 @@ use Rattle.std.proofs.Common.{◌≡◌, ◌⊎◌, inl, inr, refl, sym, ap, sub
 use Rattle.std.proofs.Common.{Some, None, List, [], ◌∷◌, ◌++◌, length, ℤ, pos, ◌+ℤ◌, ◌≤ℤ◌, ◌<ℤ◌, arith}
 use Rattle.std.specs.Prelude.{int_lt, slice_get, IfSome, option_map}
 use Rattle.std.proofs.lemmas.Int.{ints}
-use Rattle.std.proofs.lemmas.Option.{slice_get_within, get_or_from_slice_get}
+use Rattle.std.proofs.lemmas.Option.{slice_get_within, get_or_from_slice_get, same_Some}
 use Rattle.rational.specs.Rational.{Rational, ◌≤ʳ◌, whole}
 use Rattle.rational.proofs.Order.{le_trans, le_of_lt}
 use Rattle.rational.proofs.Shift.{le_whole}
@@ -42,17 +42,18 @@ use Rattle.online_nodes.specs.Truths.{Knows}
 use Rattle.online_nodes.specs.declared.window.Window.{Window}
 use Rattle.online_nodes.specs.Belonging.{StandsForSteps, trace_of}
 use Rattle.online_nodes.specs.declared.operator.Operator.{Operator}
-use Rattle.rational.proofs.PlaceLemmas.{same_places, upto_same, upto_of_before}
-use Rattle.online_nodes.proofs.RunLaw.{some_is, int_order, lesser}
+use Rattle.rational.proofs.PlaceLemmas.{same_places, upto_same, upto_of_before, before_of_at_most}
+use Rattle.rational.proofs.Tests.{int_order}
+use Rattle.online_nodes.proofs.RunLaw.{lesser}
 use Rattle.online_nodes.proofs.RisingLaw.{IsSound, sound_after, sound_of, event_later, reader_behind, children_before, least_of, least_rises, since_left_behind}
 use Rattle.online_nodes.proofs.StayLaw.{shown_is, first_same, agrees, goes_on_before}
 use Rattle.online_nodes.proofs.EmittedLaw.{Led, here_led, none_before, front_shown, emitted_tiles}
 use Rattle.online_nodes.proofs.MeetingLaw.{Each, tiled_upto}
 use Rattle.online_nodes.proofs.EdgeLaw.{shown_stays, after_one}
-use Rattle.online_nodes.proofs.ReadersLaw.{child_read}
 use Rattle.online_nodes.proofs.RowsLaw.{rows_of, rows_after, trace_so_far, goes_on_itself, last_is}
-use Rattle.online_nodes.proofs.KnowingOn.{Agrees, AgreesUpto, ReadsOn, counted_agrees, knows_on, until_on, since_on, before_of_at_most}
+use Rattle.online_nodes.proofs.KnowingOn.{Agrees, AgreesUpto, ReadsOn, counted_agrees, knows_on, until_on, since_on}
 use Rattle.online_nodes.proofs.PlacesOn.{after_number, later_place, PlacesOn, Leads, places_on}
+use Rattle.online_nodes.proofs.ReaderLemmas.{child_all}
 
 module _ (nodes : List Node) (header : Header) (formed : AreWellFormed nodes) where
   abbrev order : IsPostOrder nodes
@@ -112,7 +113,7 @@ module _ (nodes : List Node) (header : Header) (formed : AreWellFormed nodes) wh
           by_front None y = y
           by_front (Some h) y =
               let z = shown_is nodes header order t j h y in
-              let w : g ≡ h = some_is g h (sym x ∙ z.0) in
+              let w : g ≡ h = same_Some g h (sym x ∙ z.0) in
               absurd (let k = z.1 in omega (arith, ints))
 
       tiles_at : (o : Front) → AreTiles (answered_to (first_time s'.rows) o) more (answered_to (first_time s'.rows) (Some f'))
@@ -143,7 +144,7 @@ module _ (nodes : List Node) (header : Header) (formed : AreWellFormed nodes) wh
           over_new : pos S ≤ℤ f → pos S ≤ℤ f'
           over_new h =
               let up = (event_later nodes header order s ev may sound.atoms sound.rising).fronts j l f front in
-              let same : up.0 ≡ f' = some_is up.0 f' (sym up.1 ∙ front') in
+              let same : up.0 ≡ f' = same_Some up.0 f' (sym up.1 ∙ front') in
               (let a = up.2 in omega (arith, ints))
 
   -- a place by its number
@@ -225,7 +226,7 @@ module _ (nodes : List Node) (header : Header) (formed : AreWellFormed nodes) wh
 
       below : (left : Bool) (j : ℕ) → IsReader n left j → j < length nodes
       below left j reads =
-          let x : j < i = child_read (λ p. p < i) n left j reads (children_before nodes header order i n here at) in
+          let x : j < i = child_all (λ p. p < i) n left j reads (children_before nodes header order i n here at) in
           let y = here in
           omega (arith, x, y)
 
@@ -271,7 +272,7 @@ module _ (nodes : List Node) (header : Header) (formed : AreWellFormed nodes) wh
           by_case (inl x) = inl x
           by_case (inr (c, last)) =
               let w = sound.bounded i g here front in
-              let top : w.last ≡ b.0 = some_is w.last b.0 (sym w.is_last ∙ last) in
+              let top : w.last ≡ b.0 = same_Some w.last b.0 (sym w.is_last ∙ last) in
               inr (let x = w.by_now in omega (arith, ints))
 
           places : PlacesOn (first_time s.rows) b.0 up.0 (fresh_at e j) on.more
@@ -369,7 +370,7 @@ module _ (nodes : List Node) (header : Header) (formed : AreWellFormed nodes) wh
             least_is = ap (λ o. least o (number_at e q)) yp.number ∙ ap (λ o. least (Some yp.f) o) yq.number ∙ m.1
 
             rises : (o : Front) (h h' : ℤ) → o ≡ Some h → (o' : Front) → o' ≡ Some h' → h ≤ℤ h' → NeverLess o o'
-            rises o h h' z o' z' l f y = let w : h ≡ f = some_is h f (sym z ∙ y) in (h', z', omega (arith, ints))
+            rises o h h' z o' z' l f y = let w : h ≡ f = same_Some h f (sym z ∙ y) in (h', z', omega (arith, ints))
 
             m' : (m' : ℤ) × (least (number_at e' p) (number_at e' q) ≡ Some m') × (m.0 ≤ℤ m')
             m' = least_rises (number_at e p) (number_at e q) (number_at e' p) (number_at e' q)
@@ -416,7 +417,7 @@ module _ (nodes : List Node) (header : Header) (formed : AreWellFormed nodes) wh
             over : g ≤ℤ yp.f
             over =
                 let w = since_left_behind nodes header order s sound i p q a b here (subst (λ n. slice_get nodes i ≡ Some n) x at) g front in
-                let z : w.0 ≡ yp.f = some_is w.0 yp.f (sym w.1 ∙ yp.front) in
+                let z : w.0 ≡ yp.f = same_Some w.0 yp.f (sym w.1 ∙ yp.front) in
                 (let l = w.2 in omega (arith, ints))
 
             short : AtMost (after_number g) (front_place e p)
@@ -524,7 +525,7 @@ module _ (nodes : List Node) (header : Header) (formed : AreWellFormed nodes) (e
       by_needed None x w h = subst (λ k. Each (λ v. AtMost (begins (interval v.on)) (after_number f)) k) (sym h) tt
       by_needed (Some g) x w h =
           let was = shown_is nodes header formed.post_order s j g x in
-          let same : g ≡ f = some_is g f (sym was.0 ∙ front) in
+          let same : g ≡ f = same_Some g f (sym was.0 ∙ front) in
           each_meeting (λ v. AtMost (begins (interval v.on)) (after_number f))
           (needed (first_time s.rows) g (s.fronts edge.reader) (reach_back edge.reading edge.left)) edge.emitted (seen ++ fresh) h
           (subst (λ k. Each (λ v. AtMost (begins (interval v.on)) (after_number k)) edge.emitted) same

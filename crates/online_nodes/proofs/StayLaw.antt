@@ -27,12 +27,14 @@ use Rattle.std.proofs.Common.{
 }
 use Rattle.std.specs.Prelude.{MatchBool, length, int_lt, cond}
 use Rattle.std.proofs.lemmas.List.{append_assoc, append-nil}
+use Rattle.std.proofs.lemmas.Option.{same_Some}
 use Rattle.rational.specs.Rational.{Rational, ◌≤ʳ◌, ◌<ʳ◌, whole}
 use Rattle.rational.specs.Time.{Interval, IsIn, later, closed, left_open}
 use Rattle.rational.proofs.Order.{le_trans, le_of_same, ge_of_same, le_of_lt}
 use Rattle.rational.proofs.TimeLemmas.{later_le}
 use Rattle.rational.proofs.Mixed.{parts}
 use Rattle.rational.proofs.Shift.{le_whole}
+use Rattle.rational.proofs.Tests.{int_order}
 use Rattle.frac128.specs.Spans.{interval}
 use Rattle.frac128.specs.Value.{value}
 use Rattle.stl_syntax.specs.Trace.{Header, Row, Trace, IsTrace, Continues, first_time, last_time, start}
@@ -66,9 +68,10 @@ use Rattle.stl_syntax.specs.declared.items.Verdict.{Verdict}
 use Rattle.stl_syntax.specs.declared.node.Node.{Node}
 use Rattle.stl_syntax.proofs.LawProofs.{answers_stay}
 use Rattle.online_nodes.specs.Laws.{AreTold, IsBounded}
-use Rattle.online_nodes.proofs.RunLaw.{AllBounded, bounded_after, some_is, none_is_none, int_order}
+use Rattle.online_nodes.proofs.RunLaw.{AllBounded, bounded_after, none_is_none}
 
-told_append : (p : Subformula) (tr : Trace) (vs ws : List Verdict) → AreTold p tr vs → AreTold p tr ws → AreTold p tr (vs ++ ws)
+-- two lists that are told are told together
+pub told_append : (p : Subformula) (tr : Trace) (vs ws : List Verdict) → AreTold p tr vs → AreTold p tr ws → AreTold p tr (vs ++ ws)
 told_append p tr [] ws h k = k
 told_append p tr (v ∷ vs) ws (h, rest) k = (h, told_append p tr vs ws rest k)
 
@@ -199,7 +202,7 @@ module _ (nodes : List Node) (header : Header) (order : IsPostOrder nodes) where
             begins = c.begins ∙ ap (λ l. l ++ c.more) e;
             whole_input = λ x. absurd (let y : false ≡ true = x in cc);
           } in
-          let last : pos (last_time r.time rows) ≡ b.last = some_is (pos (last_time r.time rows)) b.last
+          let last : pos (last_time r.time rows) ≡ b.last = same_Some (pos (last_time r.time rows)) b.last
           (subst (λ l. last_row (record { rows = l; closed = s.closed; fronts = s.fronts }) ≡ Some b.last) e b.is_last) in
           let ans = answers_stay p header r rows tr false t is cont (
             subst (λ l. whole (pos (first_time l)) ≤ʳ t) e from,
@@ -245,7 +248,7 @@ module _ (nodes : List Node) (header : Header) (order : IsPostOrder nodes) where
           by_test : (t : Bool) → int_lt g (pos (first_time s.rows)) ≡ t → (s.fronts i ≡ Some f) × (pos (first_time s.rows) ≤ℤ f)
           by_test true z = absurd (none_is_none f (subst (λ t. cond t None (Some g) ≡ Some f) z y))
           by_test false z =
-              let same : g ≡ f = some_is g f (subst (λ t. cond t None (Some g) ≡ Some f) z y) in
+              let same : g ≡ f = same_Some g f (subst (λ t. cond t None (Some g) ≡ Some f) z y) in
               let low : pos (first_time s.rows) ≤ℤ g = int_order g (pos (first_time s.rows)) false z in
               (x ∙ ap (λ (k : ℤ). Some k) same, subst (λ k. pos (first_time s.rows) ≤ℤ k) same low)
 

@@ -1,9 +1,10 @@
 -- What a step leaves of its inputs' edges.
 use Rattle.std.proofs.Common.{◌≡◌, ◌⊎◌, inl, inr, refl, sym, ap, subst, ◌∙◌, ℕ, zero, suc, ◌+◌, ◌-◌, ◌<◌, ◌≤◌, Bool, true}
-use Rattle.std.proofs.Common.{false, Option, Some, None, List, [], ◌∷◌, ◌++◌, drop, length, ℤ, pos, ◌+ℤ◌, ◌≤ℤ◌, ◌<ℤ◌, arith}
+use Rattle.std.proofs.Common.{false, Option, Some, None, List, [], ◌∷◌, drop, length, ℤ, pos, ◌+ℤ◌, ◌≤ℤ◌, ◌<ℤ◌, arith}
 use Rattle.std.specs.Prelude.{int_lt, cond, slice_get, IfSome}
 use Rattle.std.proofs.lemmas.Int.{ints}
 use Rattle.std.proofs.lemmas.Bool.{cases_lt}
+use Rattle.std.proofs.lemmas.Option.{same_Some}
 use Rattle.rational.specs.Rational.{Rational, ◌≤ʳ◌, ◌<ʳ◌, whole}
 use Rattle.rational.specs.Time.{left_open, closed as closed_at}
 use Rattle.rational.proofs.Order.{le_trans, le_of_lt, lt_of_lt_of_le, le_of_same}
@@ -23,7 +24,8 @@ use Rattle.online_nodes.proofs.HeldFacts.{needed_part}
 use Rattle.online_nodes.proofs.HeldLaw.{meeting_is_suffix}
 use Rattle.online_nodes.proofs.MeetingLaw.{beyond_later, needed_first}
 use Rattle.rational.proofs.PlaceLemmas.{same_places, upto_same}
-use Rattle.online_nodes.proofs.RunLaw.{int_order, some_is}
+use Rattle.rational.proofs.Lists.{slice_get-append_right}
+use Rattle.rational.proofs.Tests.{int_order}
 
 -- a list without those of its first verdicts that end by a time, of which the next one ends later, is what is left by that time
 pub beyond_drop : (lo : Rational) (vs : List Verdict) (count : ℕ)
@@ -67,11 +69,6 @@ begins_by limit c (v ∷ vs) d (suc zero) (s, b, rest) some few ended = λ t h. 
 begins_by limit c (v ∷ vs) d (suc (suc n)) (s, b, rest) some few ended =
     begins_by limit (ends (interval v.on)) vs d (suc n) rest (omega arith) (omega (arith, few)) (λ k l. ended (suc k) (omega (arith, l)))
 
-get_append : (xs ys : List Verdict) (k : ℕ) → slice_get (xs ++ ys) (length xs + k) ≡ slice_get ys k
-get_append [] ys k = ap (slice_get ys) (let e : 0 + k ≡ k = omega arith in e)
-get_append (x ∷ xs) ys k =
-    ap (slice_get (x ∷ (xs ++ ys))) (let e : suc (length xs) + k ≡ suc (length xs + k) = omega arith in e) ∙ get_append xs ys k
-
 drop_past : (n : ℕ) (vs : List Verdict) → length vs ≤ n → drop n vs ≡ []
 drop_past zero [] h = refl
 drop_past (suc n) [] h = refl
@@ -92,7 +89,7 @@ unread_left limit old new c stop g tiles = by_count (cases_lt (length old.seen) 
     by_count (inl more) = by_length (cases_lt (length old.fresh) (g.count - length old.seen))
       where
         ended : (k : ℕ) → k < g.count - length old.seen → IfSome (slice_get old.fresh k) (λ v. value v.on.to ≤ʳ whole limit)
-        ended k l = subst (λ (o : Option Verdict). IfSome o (λ v. value v.on.to ≤ʳ whole limit)) (get_append old.seen old.fresh k)
+        ended k l = subst (λ (o : Option Verdict). IfSome o (λ v. value v.on.to ≤ʳ whole limit)) (slice_get-append_right old.seen old.fresh k)
             (g.ended (length old.seen + k) (omega (arith, l, more)))
 
         by_length : (length old.fresh < g.count - length old.seen) ⊎ (g.count - length old.seen ≤ length old.fresh)
@@ -139,7 +136,7 @@ needs_later start f reader g k em held tiles low later h =
         subst (λ l. AreNeeded start (Some f) (Some g) k em l)
         (sym (beyond_all (whole (g +ℤ k)) (answered_to start None) em (answered_to start (Some f)) (lt_whole under) tiles))
         (needed_first start f (Some g) k em
-        (λ j e s. subst (λ (q : ℤ). (q +ℤ k) <ℤ pos start) (some_is g j e) under) tiles)
+        (λ j e s. subst (λ (q : ℤ). (q +ℤ k) <ℤ pos start) (same_Some g j e) under) tiles)
     by_begin false x =
         let not_low : int_lt g (pos start) ≡ false = above g start low in
         subst (λ t. AreMeeting (cond t (closed_at (whole (pos start)) (whole f))

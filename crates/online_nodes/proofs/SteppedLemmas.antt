@@ -5,6 +5,7 @@ use Rattle.std.proofs.Common.{None, List, [], ◌∷◌, ◌++◌, length, ℤ, 
 use Rattle.std.specs.Prelude.{◌&&◌, not, option_map, slice_get, MatchBool}
 use Rattle.std.proofs.lemmas.Int.{ints}
 use Rattle.std.proofs.lemmas.List.{get_or-set_same, get_or-set_other, length-set}
+use Rattle.std.proofs.lemmas.Option.{same_Some}
 use Rattle.stl_syntax.specs.Trace.{Header, first_time}
 use Rattle.stl_syntax.specs.Formula.{subformula}
 use Rattle.stl_syntax.specs.Verdicts.{Describes}
@@ -29,12 +30,12 @@ use Rattle.online_nodes.specs.Needed.{IsReader}
 use Rattle.online_nodes.specs.Belonging.{Belongs, HasStepped, StandsForSteps, is_ready, trace_of}
 use Rattle.online_nodes.specs.Held.{Held, edge_at, no_edge, number_at, with_edge, with_number}
 use Rattle.online_nodes.specs.declared.operator.Operator.{Operator}
-use Rattle.online_nodes.proofs.BelongLemmas.{no_atom_here, own_within, same_refl, same_true}
+use Rattle.online_nodes.proofs.BelongLemmas.{no_atom_here, own_within}
 use Rattle.online_nodes.proofs.EdgeLaw.{run_more, step_leaves}
 use Rattle.online_nodes.proofs.EmittedLaw.{front_shown}
 use Rattle.online_nodes.proofs.ReadLemmas.{input_apart, own_after, with_step}
-use Rattle.online_nodes.proofs.RunLaw.{some_is}
 use Rattle.online_nodes.proofs.StayLaw.{shown_is}
+use Rattle.online_nodes.proofs.RisingLaw.{same_is, same_of}
 
 -- an edge that notes its number
 pub reached-here : (old new : Held) (i : ℕ) (n : ℤ) → i < length old.edges → new ≡ record old { edges = with_edge old i (with_number (edge_at old i) n) }
@@ -86,10 +87,10 @@ module _ {nodes : List Node} {header : Header} {events : List Event} {op : Opera
           → same_front (shown (state nodes events) op.node) (Some f) ≡ false
       differs false x = x
       differs true x =
-          let was = shown_is nodes header b.formed.post_order (state nodes events) op.node f (same_true (shown (state nodes events) op.node) (Some f) x)
+          let was = shown_is nodes header b.formed.post_order (state nodes events) op.node f (same_is (shown (state nodes events) op.node) (Some f) x)
           in
           let same : same_front (allowed_at nodes (state nodes events) op.node) ((state nodes events).fronts op.node) ≡ true =
-          same_refl (allowed_at nodes (state nodes events) op.node) ((state nodes events).fronts op.node) (allowed ∙ sym was.0) in
+          same_of (allowed_at nodes (state nodes events) op.node) ((state nodes events).fronts op.node) (allowed ∙ sym was.0) in
           let atom = no_atom_here b in
           absurd (ready_not same atom ready)
         where
@@ -133,7 +134,7 @@ module _ {nodes : List Node} {header : Header} {events : List Event} {op : Opera
           by_shown None x = x
           by_shown (Some g) x =
               let was = shown_is nodes header b.formed.post_order s' op.node g x in
-              let at : g ≡ f = some_is g f (sym was.0 ∙ own_after b ∙ allowed) in
+              let at : g ≡ f = same_Some g f (sym was.0 ∙ own_after b ∙ allowed) in
               absurd (let l = was.1 in omega (arith, ints))
 
   -- what the step leaves, and an operator that stands for it, belong together

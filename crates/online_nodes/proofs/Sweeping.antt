@@ -22,11 +22,6 @@ use Rattle.rational.proofs.PlaceLemmas.{sides, not_both, before_same, same_befor
 use Rattle.online_nodes.proofs.WindowLaw.{IsMet, before_it, settled, remembers_of, knows_passed, knows_entered}
 use Rattle.online_nodes.proofs.WindowPlaces.{meets_after, meets_upto}
 
--- a list without a first item is empty
-pub no_first : (l : List Verdict) → slice_get l 0 ≡ None → l ≡ []
-no_first [] e = refl
-no_first (v ∷ l) e = absurd (let x : Some v ≡ None = e in cc)
-
 or_first : Verdict → Option Verdict → Verdict
 or_first d None = d
 or_first d (Some v) = v

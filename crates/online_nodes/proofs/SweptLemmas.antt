@@ -58,13 +58,13 @@ use Rattle.online_nodes.proofs.DueLemmas.{
 }
 use Rattle.online_nodes.proofs.TellingLemmas.{fresh_counted, fresh_within}
 use Rattle.online_nodes.proofs.AnsweringLemmas.{fresh_few, worked_one}
-use Rattle.online_nodes.proofs.JoinLemmas.{after_at_most}
 use Rattle.online_nodes.proofs.Writing.{same_itself}
 use Rattle.rational.proofs.PlaceLemmas.{after_same, sides, not_both, same_before, same_places, same_trans_places, upto_same}
+use Rattle.rational.proofs.PlaceLemmas.{after_at_most, same_of_at_most}
 use Rattle.online_nodes.proofs.ReadLemmas.{stop_is}
 use Rattle.online_nodes.proofs.RunLaw.{lesser, moved}
 use Rattle.online_nodes.proofs.WindowedLemmas.{HasWindow, ahead_node, behind_node, fits_moved, none_in_window, some_in_window}
-use Rattle.online_nodes.proofs.WorkedLemmas.{all_worked, one_place, read_place}
+use Rattle.online_nodes.proofs.WorkedLemmas.{all_worked, read_place}
 
 -- before the trace and beyond it nothing counts
 pub beyond_trace : (seeks : Bool) (p : Subformula) (tr : Trace) (u : Rational) → last tr <ʳ u → Is (not seeks) (Counted seeks p tr) u
@@ -228,7 +228,7 @@ module _ {x : Situation} {op : Operator} {old : Held} {work : Outcome} (d : IsDu
       let worked : HasWorked old new op.node w.of w.of swept.more = subst (λ (i : ℕ). HasWorked old new i w.of w.of swept.more) g.edge swept.worked in
       let stop : front_place old w.of ≡ front_place new w.of = ap place_of (sym worked.left_read.number) in
       let there : Same (place done.out.at) (end_of x) =
-      same_trans_places (one_place (place done.out.at) (place work.out.to) swept.inside swept.all) g.end in
+      same_trans_places (same_of_at_most (place done.out.at) (place work.out.to) swept.inside swept.all) g.end in
       let from : Same told.0 (read_upto new w.of) =
       read_place (Counted w.seeks (subformula x.nodes w.of) (trace_in x)) new w.of told.0 (front_place old w.of) stop told.1.tells in
       record {

@@ -1,12 +1,10 @@
 -- What an input's edge tells an operator: what it holds leads from some place to where the input is answered, and is its truth.
-use Rattle.std.proofs.Common.{◌≡◌, ◌⊎◌, inl, inr, sym, ap, subst, ◌∙◌, ℕ, zero, suc, Bool, true}
+use Rattle.std.proofs.Common.{◌≡◌, ◌⊎◌, inl, inr, sym, ap, subst, ◌∙◌, ℕ, zero, suc, Bool}
 use Rattle.std.proofs.Common.{false, Some, List, [], ◌∷◌, ◌++◌, slice_get, ℤ, pos, ◌≤ℤ◌}
-use Rattle.std.specs.Prelude.{MatchBool}
 use Rattle.std.proofs.lemmas.Option.{same_Some, none-some}
-use Rattle.rational.specs.Rational.{Rational, ◌≤ʳ◌, ◌<ʳ◌, whole}
+use Rattle.rational.specs.Rational.{Rational, ◌≤ʳ◌, whole}
 use Rattle.rational.specs.Time.{Within}
-use Rattle.rational.proofs.Order.{le_or_lt, le_of_lt, le_of_same, le_trans, left_of_middle, not_lt_of_le, right_of_middle}
-use Rattle.rational.specs.Rational.{middle}
+use Rattle.rational.proofs.Order.{le_trans}
 use Rattle.rational.proofs.Shift.{le_whole}
 use Rattle.frac128.specs.Spans.{interval}
 use Rattle.frac128.specs.Value.{value}
@@ -20,28 +18,9 @@ use Rattle.online_nodes.specs.Operators.{first_place, place_of}
 use Rattle.online_nodes.specs.Truths.{Tells, Truths}
 use Rattle.online_nodes.specs.Sweeps.{Counted}
 use Rattle.online_nodes.proofs.InputLemmas.{counted_tells}
-use Rattle.online_nodes.proofs.JoinLemmas.{after_at_most}
 use Rattle.rational.proofs.PlaceLemmas.{after_same, same_before, same_places, same_trans_places, upto_of_before, upto_same}
+use Rattle.rational.proofs.PlaceLemmas.{after_at_most, le_of_before, le_of_at_most}
 use Rattle.online_nodes.proofs.Writing.{same_itself}
-
--- a place that is not later does not lie at a later time
-pub at_most_order : (c d : Place) → AtMost c d → c.at ≤ʳ d.at
-at_most_order c d h = elim (le_or_lt c.at d.at) [
-  | inl l ↦ l
-  | inr g ↦ absurd (not_lt_of_le (by_side d.after (h (middle d.at c.at) (before c.after (right_of_middle g)))) (left_of_middle g))
-]
-  where
-    before : (b : Bool) {t : Rational} → t <ʳ c.at → MatchBool b (t ≤ʳ c.at) (t <ʳ c.at)
-    before true l = le_of_lt l
-    before false l = l
-
-    by_side : (b : Bool) {t : Rational} → MatchBool b (t ≤ʳ d.at) (t <ʳ d.at) → t ≤ʳ d.at
-    by_side true l = l
-    by_side false l = le_of_lt l
-
-before_order : (c d : Place) → Before c d → c.at ≤ʳ d.at
-before_order c d (inl l) = le_of_lt l
-before_order c d (inr s) = le_of_same s.0
 
 module _ (P : Truths) where
   -- the begin by another name
@@ -129,10 +108,10 @@ module _ {p : Subformula} {tr : Trace} {first now : ℕ} {x : Edge} (telling : I
       by_late (inr (low, f, number, high)) =
           let between = tells_between (Truth p tr) fresh_from.0 x.fresh (place_of x.number) fresh_from.2 k v e in
           let to : (place_of x.number).at ≡ whole f = ap (λ o. (place_of o).at) number in (
-            at_most_order (record { at = whole (pos first); after = false }) (begins (interval v.on))
+            le_of_at_most (record { at = whole (pos first); after = false }) (begins (interval v.on))
                 (λ t u. between.0 t (fresh_from.1 t (low t u))),
-            before_order (begins (interval v.on)) (ends (interval v.on)) between.2,
-            le_trans (at_most_order (ends (interval v.on)) (place_of x.number) between.1)
+            le_of_before (begins (interval v.on)) (ends (interval v.on)) between.2,
+            le_trans (le_of_at_most (ends (interval v.on)) (place_of x.number) between.1)
                 (subst (λ a. a ≤ʳ whole (pos now)) (sym to) (le_whole high)),
           )
 

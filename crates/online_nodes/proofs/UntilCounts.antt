@@ -1,5 +1,5 @@
 -- Until where both inputs hold: what they share counts from now on.
-use Rattle.std.proofs.Common.{◌≡◌, ◌≢◌, ◌⊎◌, inl, inr, ℕ, ◌+◌, ◌<◌, Bool, true, false, not, List, [], length, Some, slice_get, refl, sym, ap, subst, arith}
+use Rattle.std.proofs.Common.{◌≡◌, ◌≢◌, ◌⊎◌, inl, inr, ℕ, ◌+◌, ◌<◌, true, false, List, [], length, Some, slice_get, refl, sym, ap, subst, arith}
 use Rattle.std.proofs.lemmas.List.{append-nil}
 use Rattle.rational.specs.Rational.{Rational}
 use Rattle.frac128.specs.Spans.{interval}
@@ -17,27 +17,14 @@ use Rattle.online_nodes.specs.declared.window.Sweep.{Sweep}
 use Rattle.online_nodes.specs.declared.until.Until.{Until}
 use Rattle.online_nodes.specs.declared.writer.Out.{Out}
 use Rattle.online_nodes.proofs.GotLemmas.{got-other}
-use Rattle.online_nodes.proofs.JoinLemmas.{after_at_most, worked_then_pass}
-use Rattle.rational.proofs.PlaceLemmas.{sides, not_both, upto_of_before, upto_same, after_same, same_places}
+use Rattle.online_nodes.proofs.JoinLemmas.{worked_then_pass}
+use Rattle.rational.proofs.PlaceLemmas.{sides, not_both, upto_of_before, upto_same, after_same, same_places, before_of_at_most}
+use Rattle.rational.proofs.PlaceLemmas.{after_at_most}
 use Rattle.online_nodes.proofs.SaidLemmas.{passed-one}
 use Rattle.online_nodes.proofs.WindowPlaces.{meets_after, meets_upto}
 use Rattle.online_nodes.proofs.WorkLemmas.{passed-other, worked_none, worked_put}
 use Rattle.online_nodes.proofs.UntilTurns.{IsSaidTwice, turned-remembers, twice-inside, twice-after, twice-beyond, twice-later, twice-past}
-use Rattle.online_nodes.proofs.UntilPasses.{
-  IsEarlier,
-  turned,
-  placed_left,
-  placed_right,
-  before_of_at_most,
-  stale_passed,
-  right_failed,
-  common_counts,
-  fails_to,
-  left_misses,
-  not_yet_common,
-  right_ended,
-  unread,
-}
+use Rattle.online_nodes.proofs.UntilPasses.{IsEarlier, turned, placed_left, placed_right, stale_passed, right_failed, common_counts, fails_to, left_misses, not_yet_common, right_ended, unread}
 
 -- one verdict of either input was read
 pub one_worked : {old mid new : Held} {u : Until} {own : ℕ} {v w : Verdict} {xs : List Verdict} → HasWorked old mid own u.window.of u.right xs
@@ -231,8 +218,3 @@ passes_failed {old} {new} {u} {s} {v} {w} apart first_left first_right holding f
           let next = right_failed of m apart first_left first_right holding refl refl failing one in
           (next.0, subst (λ l. IsTurned x u l s next.0 (fresh_at new u.window.of) (fresh_at new u.right)) (sym (append-nil written)) next.1);
     }
-
--- what is not false is true
-pub true_of_not : (b : Bool) → not b ≡ false → b ≡ true
-true_of_not true is = refl
-true_of_not false is = cc

@@ -17,29 +17,13 @@ use Rattle.online_nodes.specs.Untils.{Stretch, Reads, IsUntil, IsTurned, HasPass
 use Rattle.frac128.specs.declared.cut.Cut.{Cut}
 use Rattle.online_nodes.specs.declared.window.Sweep.{Sweep}
 use Rattle.online_nodes.specs.declared.until.Until.{Until}
-use Rattle.online_nodes.proofs.JoinLemmas.{after_at_most}
-use Rattle.rational.proofs.PlaceLemmas.{
-  sides,
-  not_both,
-  between,
-  before_through,
-  place_order,
-  upto_of_before,
-  upto_same,
-  after_same,
-  same_places,
-  at_most_of_not_before,
-}
+use Rattle.rational.proofs.PlaceLemmas.{sides, not_both, between, place_order, upto_of_before, upto_same, after_same, same_places, at_most_of_not_before, before_of_at_most}
+use Rattle.rational.proofs.PlaceLemmas.{after_at_most}
 use Rattle.online_nodes.proofs.SaidLemmas.{passed-fresh}
 use Rattle.online_nodes.proofs.UntilLaw.{FailsFor, knows_right_fails, knows_left_holds, knows_both, not_yet, settled}
 use Rattle.online_nodes.proofs.UntilTurns.{goes_on_from, left-next, left-is, turned-remembers}
 use Rattle.online_nodes.proofs.WindowLaw.{IsMet}
 use Rattle.online_nodes.proofs.WorkLemmas.{passed-other, first_and_rest}
-
--- a place that is at most one that comes before another comes before that
-pub before_of_at_most : (c d e : Place) → AtMost c d → Before d e → Before c e
-before_of_at_most c d e at_most before =
-    let t = between d e before in before_through c e t.0 (after_at_most c d t.0 at_most t.1) t.2
 
 -- where the lists stand once one verdict was read, both inputs being known up to `read`
 pub record IsPlaced (x : Stretch) (u : Until) (at : Place) (r : Reads) (fresh_left fresh_right : List Verdict) : Type 0 where

@@ -1,7 +1,7 @@
 -- What the body of until leaves of a step that is due.
 use Rattle.std.proofs.Common.{◌≡◌, inl, inr, refl, sym, ap, subst, ◌∙◌, ℕ, ◌+◌, ◌≤◌, ◌^◌, Bool, true, false, not}
 use Rattle.std.proofs.Common.{Option, Some, None, List, [], ◌∷◌, length, slice_get, ℤ, pos, neg_ℤ, ◌≤ℤ◌, arith}
-use Rattle.std.specs.Prelude.{◌*◌, ◌&&◌, cond, int_lt}
+use Rattle.std.specs.Prelude.{◌*◌, cond, int_lt}
 use Rattle.std.proofs.lemmas.Int.{ints}
 use Rattle.std.proofs.lemmas.Option.{same_Some, none-some}
 use Rattle.std.proofs.lemmas.Bool.{false≢true}
@@ -67,16 +67,17 @@ use Rattle.online_nodes.proofs.BelongLemmas.{own_bounds, own_reach_small}
 use Rattle.online_nodes.proofs.DueLemmas.{among_first, among_telling, begun_at, begun_told, due_cases, formula_is, kind_is, knows_at}
 use Rattle.online_nodes.proofs.TellingLemmas.{fresh_counted, fresh_tells, fresh_within}
 use Rattle.online_nodes.proofs.AnsweringLemmas.{fresh_few, worked_two}
-use Rattle.online_nodes.proofs.JoinLemmas.{after_at_most}
 use Rattle.online_nodes.proofs.LooksLaw.{until_looks}
-use Rattle.rational.proofs.PlaceLemmas.{after_same, sides, not_both, same_places, same_trans_places, upto_same}
+use Rattle.rational.proofs.PlaceLemmas.{after_same, sides, not_both, same_places, same_trans_places, upto_same, after_at_most}
+use Rattle.rational.proofs.PlaceLemmas.{same_of_at_most, after_later}
+use Rattle.rational.proofs.Tests.{and_false}
 use Rattle.online_nodes.proofs.ReadLemmas.{stop_is}
-use Rattle.online_nodes.proofs.RunLaw.{lesser, moved, some_is}
+use Rattle.online_nodes.proofs.RunLaw.{lesser, moved}
 use Rattle.online_nodes.proofs.SweptLemmas.{beyond_trace, window_ends}
-use Rattle.online_nodes.proofs.UntilLaw.{after_later, knows_later}
+use Rattle.online_nodes.proofs.UntilLaw.{knows_later}
 use Rattle.online_nodes.proofs.WindowedLemmas.{fits_moved, some_in_window}
 use Rattle.online_nodes.proofs.ReaderLemmas.{twice_negated}
-use Rattle.online_nodes.proofs.WorkedLemmas.{one_place, read_place}
+use Rattle.online_nodes.proofs.WorkedLemmas.{read_place}
 
 -- until's bounds, in order and near and not behind, and what its node is
 pub record HasUntil (n p q : Subformula) (tr : Trace) (u : UntilWindow) : Type 0 where
@@ -92,10 +93,6 @@ pub record HasUntil (n p q : Subformula) (tr : Trace) (u : UntilWindow) : Type 0
   pub full : is_empty u.window ≡ false
   -- its end is in
   pub end_in : u.window.end_in ≡ true
-
-and_false : (b : Bool) → (b && false) ≡ false
-and_false true = refl
-and_false false = refl
 
 -- whether a kind is that of `until`
 abbrev is_until : Kind → Bool
@@ -143,8 +140,8 @@ least_place : (o q : Front) (f : ℤ) → least o q ≡ Some f → (t : Rational
 least_place (Some g) (Some h) f e t a b = by_test (int_lt h g) refl
   where
     by_test : (s : Bool) → int_lt h g ≡ s → t ≤ʳ whole f
-    by_test true x = subst (λ (z : ℤ). t ≤ʳ whole z) (some_is h f (sym (ap (λ (s : Bool). cond s (Some h) (Some g)) x) ∙ e)) b
-    by_test false x = subst (λ (z : ℤ). t ≤ʳ whole z) (some_is g f (sym (ap (λ (s : Bool). cond s (Some h) (Some g)) x) ∙ e)) a
+    by_test true x = subst (λ (z : ℤ). t ≤ʳ whole z) (same_Some h f (sym (ap (λ (s : Bool). cond s (Some h) (Some g)) x) ∙ e)) b
+    by_test false x = subst (λ (z : ℤ). t ≤ʳ whole z) (same_Some g f (sym (ap (λ (s : Bool). cond s (Some h) (Some g)) x) ∙ e)) a
 least_place None q f e t a b = absurd (none-some f e)
 least_place (Some g) None f e t a b = absurd (none-some f e)
 
@@ -262,7 +259,7 @@ module _ {x : Situation} {op : Operator} {old : Held} {work : Outcome} (d : IsDu
       let reach : work.marks.reach ≡ work.out.at = (g.first none).0 ∙ sym g.at in
       let read : Place = read_upto old u.window.of in
       let later : (t v : Rational) → After (place work.out.at) t → After (low_place u.window t) v → After first_place_is v =
-      λ t v a lo. after_later first_place_is t v (after_same (place work.out.at) first_place_is t (same_places begin) a) (has.looks.ahead t v lo) in
+      λ t v a lo. after_later first_place_is t v (has.looks.ahead t v lo) (after_same (place work.out.at) first_place_is t (same_places begin) a) in
       let unread : (v : Rational) → After first_place_is v → After read v = λ v h. after_at_most read first_place_is v left h in
       let to_stop : (v : Rational) → After (place_of lesser_number) v → After read v =
       λ v h. unread v (le_trans (let z : pos (first_in x) ≤ℤ has_lesser.f = (let l = d.low in let f = has_lesser.front in omega (arith, ints)) in le_whole z)
@@ -354,7 +351,7 @@ module _ {x : Situation} {op : Operator} {old : Held} {work : Outcome} (d : IsDu
       let worked : HasWorked old new op.node u.window.of u.right told.more =
       subst (λ (i : ℕ). HasWorked old new i u.window.of u.right told.more) g.edge told.worked in
       let there : Same (place done.out.at) (end_of x) =
-      same_trans_places (one_place (place done.out.at) (place work.out.to) told.inside told.all) g.end in
+      same_trans_places (same_of_at_most (place done.out.at) (place work.out.to) told.inside told.all) g.end in
       let left : Same after.0.left (read_upto new u.window.of) =
       read_place (Truth (subformula x.nodes u.window.of) (trace_in x)) new u.window.of after.0.left (front_place old u.window.of)
       (ap place_of (sym worked.left_read.number)) m.left_tells in

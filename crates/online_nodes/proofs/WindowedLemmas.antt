@@ -5,10 +5,10 @@ use Rattle.std.specs.Int.{w64}
 use Rattle.std.specs.Prelude.{◌&&◌, int_lt, MatchBool}
 use Rattle.std.proofs.lemmas.Int.{ints}
 use Rattle.rational.specs.Rational.{FitsFloor, Rational, ◌≤ʳ◌, ◌<ʳ◌, ◌≈◌, add, whole}
-use Rattle.rational.proofs.Field.{le_add, lt_add_left}
+use Rattle.rational.proofs.Field.{le_add}
 use Rattle.rational.proofs.Mixed.{fits_of_within}
-use Rattle.rational.proofs.Order.{le_trans, le_of_lt, lt_of_le_of_lt, lt_of_lt_of_le, not_lt_of_le, le_refl, same_refl}
-use Rattle.rational.proofs.Shift.{le_shift_by, le_whole, lt_whole}
+use Rattle.rational.proofs.Order.{le_trans, le_of_lt, not_lt_of_le, same_refl}
+use Rattle.rational.proofs.Shift.{le_shift_by, le_whole, lt_shift_by}
 use Rattle.stl_syntax.specs.Trace.{Trace}
 use Rattle.stl_syntax.specs.Formula.{Subformula, historically, once, tree_of}
 use Rattle.stl_syntax.specs.Truth.{Truth}
@@ -30,6 +30,7 @@ use Rattle.stl_syntax.specs.declared.node.Node.TheVariants.{
   Historically,
 }
 use Rattle.rational.specs.Places.{After, Before, Place, Upto}
+use Rattle.rational.proofs.Tests.{int_order}
 use Rattle.online_nodes.specs.Looking.{place_at}
 use Rattle.online_nodes.specs.Operators.{ahead, behind, kind_of}
 use Rattle.online_nodes.specs.Truths.{Looks}
@@ -40,7 +41,6 @@ use Rattle.online_nodes.specs.declared.window.Window.{Window}
 use Rattle.online_nodes.proofs.AlikeLemmas.{IsLike, historically_like, like_itself, once_like}
 use Rattle.online_nodes.proofs.LooksLaw.{always_looks, eventually_looks, historically_looks, once_looks}
 use Rattle.online_nodes.proofs.ReaderLemmas.{twice_negated}
-use Rattle.online_nodes.proofs.RunLaw.{int_order}
 
 -- a move by a bound has a floor that fits
 pub fits_moved : {t : Rational} (k : ℤ) → whole (pos 0) ≤ʳ t → t ≤ʳ whole (pos (2 ^ 32)) → neg_ℤ (pos (2 ^ 33)) ≤ℤ k → k ≤ℤ pos (2 ^ 33)
@@ -103,10 +103,6 @@ module _ (at : ℕ → Subformula) (i : ℕ) (tr : Trace) (to : Place) where
   ahead_node (Once p a b x y) w e h r = absurd (let z : kind_of (Once p a b x y) ≡ Ahead w = e in cc)
   ahead_node (Historically p a b x y) w e h r = absurd (let z : kind_of (Historically p a b x y) ≡ Ahead w = e in cc)
 
--- a window that is not empty has a time in it, and one that is has none
-lt_add : (t : Rational) (j k : ℤ) → j <ℤ k → add t (whole j) <ʳ add t (whole k)
-lt_add t j k h = lt_of_le_of_lt (record { le = omega arith }) (lt_of_lt_of_le (lt_add_left (lt_whole h) (le_refl t)) (record { le = omega arith }))
-
 -- a window that is not empty has times
 pub some_in_window : (w : Window) → w.begin_by ≤ℤ w.end_by → is_empty w ≡ false → (t : Rational) → Before (low_place w t) (high_place w t)
 some_in_window w order full t = by_test (int_lt w.begin_by w.end_by) refl
@@ -118,7 +114,7 @@ some_in_window w order full t = by_test (int_lt w.begin_by w.end_by) refl
 
     by_test : (u : Bool) → int_lt w.begin_by w.end_by ≡ u → Before (low_place w t) (high_place w t)
     by_test true e = inl (let l : w.begin_by <ℤ w.end_by = int_order w.begin_by w.end_by true e in
-        lt_add t (neg_ℤ w.end_by) (neg_ℤ w.begin_by) (omega (arith, ints)))
+        lt_shift_by t (neg_ℤ w.end_by) (neg_ℤ w.begin_by) (omega (arith, ints)))
     by_test false e =
         let l : w.end_by ≤ℤ w.begin_by = int_order w.begin_by w.end_by false e in
         let s : w.begin_by ≡ w.end_by = omega (arith, ints) in

@@ -1,5 +1,5 @@
 -- What the bodies leave of a step that is due: constants, negations and connectives.
-use Rattle.std.proofs.Common.{◌≡◌, inl, inr, refl, sym, ap, subst, ◌∙◌, ℕ, ◌+◌, ◌<◌, ◌≤◌, Bool, true, false, Option, Some, None, [], length, pos, arith}
+use Rattle.std.proofs.Common.{◌≡◌, inl, inr, refl, sym, ap, subst, ◌∙◌, ℕ, ◌+◌, ◌<◌, ◌≤◌, Bool, true, false, Some, [], length, pos, arith}
 use Rattle.std.specs.Prelude.{◌*◌}
 use Rattle.std.proofs.lemmas.Int.{ints}
 use Rattle.rational.specs.Rational.{Rational, whole}
@@ -50,7 +50,7 @@ use Rattle.online_nodes.specs.declared.join.Inputs.{Inputs}
 use Rattle.online_nodes.specs.declared.kind.Kind.TheVariants.{Const as Constant, Not as Negation, Join as Connective}
 use Rattle.online_nodes.specs.declared.operator.Operator.{Operator}
 use Rattle.online_nodes.specs.declared.answering.Outcome.{Outcome}
-use Rattle.online_nodes.proofs.AnsweringLemmas.{fresh_few, worked_one, worked_two}
+use Rattle.online_nodes.proofs.AnsweringLemmas.{fresh_few, worked_one, worked_two, waiting_few}
 use Rattle.online_nodes.proofs.BelongLemmas.{own_edge}
 use Rattle.online_nodes.proofs.DueLemmas.{
   among_apart,
@@ -66,30 +66,16 @@ use Rattle.online_nodes.proofs.DueLemmas.{
 use Rattle.online_nodes.proofs.GotLemmas.{got-here, got-length, got-other}
 use Rattle.online_nodes.proofs.TellingLemmas.{fresh_tells, tells_first}
 use Rattle.online_nodes.proofs.LooksLaw.{and_joins, implies_joins, not_denies, or_joins}
-use Rattle.rational.proofs.PlaceLemmas.{between, not_both, place_order, same_places, same_trans_places, upto_same}
+use Rattle.rational.proofs.PlaceLemmas.{same_places, same_trans_places, upto_same}
+use Rattle.rational.proofs.PlaceLemmas.{same_of_at_most}
 use Rattle.online_nodes.proofs.RunLaw.{lesser}
 use Rattle.online_nodes.proofs.WorkLemmas.{read_none}
-
--- at most one span waits
-pub waiting_few : (o : Option Bool) → waiting o ≤ 1
-waiting_few None = omega arith
-waiting_few (Some h) = omega arith
 
 -- where what is told begins, is where what was not read begins
 pub read_place : (P : Truths) (e : Held) (j : ℕ) (from stop : Place) → stop ≡ front_place e j → Tells P from (fresh_at e j) stop
     → Same from (read_upto e j)
 read_place P e j from stop is h =
     (tells_first P from (fresh_at e j) (front_place e j) (subst (λ (q : Place). Tells P from (fresh_at e j) q) is h)).1
-
--- two places of which neither is later are one
-pub one_place : (c d : Place) → AtMost c d → AtMost d c → Same c d
-one_place c d h k = elim (place_order c d) [
-  | inl b ↦ absurd (let t = between c d b in not_both c t.0 (k t.0 t.2) t.1)
-  | inr o ↦ elim o [
-    | inl s ↦ s
-    | inr b ↦ absurd (let t = between d c b in not_both d t.0 (h t.0 t.2) t.1)
-  ]
-]
 
 -- a node of a kind
 not_node : (n : Node) (p : ℕ) → kind_of n ≡ Negation p → n ≡ Not p
@@ -186,7 +172,7 @@ module _ {x : Situation} {op : Operator} {old : Held} {work : Outcome} (d : IsDu
         let worked : HasWorked old new op.node of of neg.more = subst (λ (i : ℕ). HasWorked old new i of of neg.more) g.edge neg.worked in
         let stop : front_place old of ≡ front_place new of = ap place_of (sym worked.left_read.number) in
         let there : Same (place done.out.at) (end_of x) =
-        same_trans_places (one_place (place done.out.at) (place work.out.to) neg.inside told.2) g.end in
+        same_trans_places (same_of_at_most (place done.out.at) (place work.out.to) neg.inside told.2) g.end in
         let from : Same told.0 (read_upto new of) =
         read_place (Truth (subformula x.nodes of) (trace_in x)) new of told.0 (front_place old of) stop told.1.input.tells in
         record {
@@ -215,7 +201,7 @@ module _ {x : Situation} {op : Operator} {old : Held} {work : Outcome} (d : IsDu
       let own : op.node < length old.edges = own_edge d.belongs in
       let got : HasGot old new op.node said.more = subst (λ (i : ℕ). HasGot old new i said.more) g.edge said.got in
       let there : Same (place done.out.at) (end_of x) =
-      same_trans_places (one_place (place done.out.at) (place work.out.to) told.inside told.all) g.end in
+      same_trans_places (same_of_at_most (place done.out.at) (place work.out.to) told.inside told.all) g.end in
       record {
         more = said.more;
         owed = let m = said.few in let w = waiting_few done.out.holds in omega arith;
@@ -314,7 +300,7 @@ module _ {x : Situation} {op : Operator} {old : Held} {work : Outcome} (d : IsDu
         let worked : HasWorked old new op.node inputs.left inputs.right joined.more =
         subst (λ (i : ℕ). HasWorked old new i inputs.left inputs.right joined.more) g.edge joined.worked in
         let there : Same (place done.out.at) (end_of x) =
-        same_trans_places (one_place (place done.out.at) (place work.out.to) joined.inside told.3) g.end in
+        same_trans_places (same_of_at_most (place done.out.at) (place work.out.to) joined.inside told.3) g.end in
         let left : Same told.0 (read_upto new inputs.left) =
         read_place (Truth (subformula x.nodes inputs.left) (trace_in x)) new inputs.left told.0 (front_place old inputs.left)
         (ap place_of (sym worked.left_read.number)) told.2.left_read.tells in

@@ -273,13 +273,6 @@ pub sound_later : (out : Out) (b : Bool) → out.holds ≡ Some b → IsSound ou
 sound_later out b e h = subst
     (λ o. MatchOption o (Same (place out.from) (place out.at)) (λ h. Before (place out.from) (place out.at))) e h
 
--- truths that come out as the same are so
-pub same_bool : (a b : Bool) → beq a b ≡ true → a ≡ b
-same_bool true true e = refl
-same_bool true false e = absurd (let x : false ≡ true = e in cc)
-same_bool false true e = absurd (let x : false ≡ true = e in cc)
-same_bool false false e = refl
-
 -- truths that come out as different differ
 pub other_bool : (a b : Bool) → beq a b ≡ false → a ≢ b
 other_bool true true e = λ _. let x : true ≡ false = e in cc

@@ -3,14 +3,16 @@ use Rattle.std.proofs.Common.{◌≡◌, inl, inr, ℕ, ◌+◌, ◌<◌, ◌≤
 use Rattle.std.proofs.Common.{sym, ap, subst, ◌∙◌, arith, Option, Some, None, ℤ, pos, ◌+ℤ◌, ◌<ℤ◌, ◌≤ℤ◌}
 use Rattle.std.specs.Prelude.{◌≢◌, ◌⊎◌, MatchBool, IfSome, IsSome, int_lt, cond, slice_get}
 use Rattle.std.proofs.lemmas.Int.{ints}
-use Rattle.std.proofs.lemmas.Option.{slice_get_within}
+use Rattle.std.proofs.lemmas.Option.{slice_get_within, same_Some}
 use Rattle.rational.specs.Time.{Rational, whole, ◌≈◌, ◌≤ʳ◌, ◌<ʳ◌}
 use Rattle.rational.specs.Extended.{Affine, Extended, opposite, IsGreatest}
-use Rattle.rational.specs.InPlay.{IsInPlay, of_two, IsWideCrossing, IsWideValue}
+use Rattle.rational.specs.InPlay.{IsInPlay, of_two, IsWideCrossing}
 use Rattle.rational.specs.Windows.{Function}
 use Rattle.rational.proofs.Order.{le_refl, le_trans, le_of_same, ge_of_same, lt_of_le_of_lt, same_refl, same_sym, same_trans}
 use Rattle.rational.proofs.ExtendedLemmas.{opposite_twice}
 use Rattle.rational.proofs.Shift.{le_whole}
+use Rattle.rational.proofs.Tests.{int_order}
+use Rattle.rational.proofs.Events.{crossing_by}
 use Rattle.frac128.specs.Value.{value}
 use Rattle.value_laws.specs.Kinds.{margin_shape}
 use Rattle.value_laws.specs.Margins.{margin_function}
@@ -23,7 +25,6 @@ use Rattle.pl_signal.specs.declared.faults.WidePair.TheVariants.{Cross, Value}
 use Rattle.pl_signal.specs.declared.joining.Side.{Side}
 use Rattle.pl_signal.specs.declared.joining.Side.TheVariants.{Least, Greatest}
 use Rattle.pl_signal.proofs.Telling.{told as tells_between}
-use Rattle.pl_signal.proofs.Values.{some_is}
 use Rattle.stl_syntax.specs.Trace.{Trace, start, stop, last_time}
 use Rattle.stl_syntax.specs.Formula.{Subformula, negation, subformula, horizon, tree_of}
 use Rattle.stl_syntax.specs.SupInf.{Robustness, margin_setting}
@@ -31,11 +32,11 @@ use Rattle.stl_syntax.specs.Limits.{own_reach}
 use Rattle.stl_syntax.specs.PostOrder.{children}
 use Rattle.stl_syntax.specs.WideCause.{IsInPlayAt}
 use Rattle.stl_syntax.specs.declared.node.Node.{Node}
+use Rattle.stl_syntax.proofs.PostOrderLemmas.{inputs_apart}
 use Rattle.stl_syntax.specs.declared.node.Node.TheVariants as N
 use Rattle.online_nodes.specs.Network.{reach_back}
 use Rattle.online_nodes.specs.Needed.{IsReader}
 use Rattle.online_nodes.specs.StreamedWide.{front_at}
-use Rattle.online_nodes.proofs.RunLaw.{int_order}
 use Rattle.online_robust.specs.Lines.{end_of}
 use Rattle.online_robust.specs.Held.{Edge, Held, edge_at, held_at, held_of}
 use Rattle.online_robust.specs.Told.{AreTold, AreFit, AreJoined, IsMovedBy, IsTick}
@@ -51,7 +52,6 @@ use Rattle.online_robust.specs.declared.operator.Operator.{Operator}
 use Rattle.online_robust.specs.declared.operator.Operator.TheVariants as Op
 use Rattle.online_robust.specs.declared.pointwise.Not as Negated
 use Rattle.online_robust.specs.declared.pointwise.Two.{Two}
-use Rattle.online_robust.proofs.Apart.{inputs_apart}
 use Rattle.online_robust.proofs.DroppingLemmas.{held_of-without}
 use Rattle.online_robust.proofs.Readers.{reader_above, tree_at_node}
 use Rattle.online_robust.proofs.Robustly.{robust_is_function}
@@ -216,43 +216,6 @@ same_told F G from to s same tells = record {
   worth = λ t v. (λ w. let h = (tells.worth t v).0 w in (h.0, (same t v).0 h.1), λ (i, g). (tells.worth t v).1 (i, (same t v).1 g));
 }
 
--- ---- a crossing in play
-
--- what crosses in play in one way does so in another
-pub crossing_by : (A B : Rational → Affine → Type 0) (from to : Rational) (p q : Affine) (a b : Rational) (den : ℕ)
-    → ((tau : Rational) (line : Affine) → A tau line → B tau line)
-    → IsWideCrossing A from to p q a b den → IsWideCrossing B from to p q a b den
-crossing_by A B from to p q a b den more h = record {
-  tau = h.tau;
-  after_start = h.after_start;
-  before_stop = h.before_stop;
-  above = h.above;
-  below = h.below;
-  first = more h.tau p h.first;
-  second = more h.tau q h.second;
-  meet = h.meet;
-  alone = h.alone;
-  denominator = h.denominator;
-  wide = h.wide;
-}
-
--- and so does a value that is not stored
-pub value_by : (A B : Rational → Affine → Type 0) (from to : Rational) (p : Affine) (u : Rational) (den : ℕ)
-    → ((tau : Rational) (line : Affine) → A tau line → B tau line)
-    → IsWideValue A from to p u den → IsWideValue B from to p u den
-value_by A B from to p u den more h = record {
-  tau = h.tau;
-  after_start = h.after_start;
-  before_stop = h.before_stop;
-  value = h.value;
-  is_value = h.is_value;
-  line = h.line;
-  constant = h.constant;
-  in_play = more h.tau h.line h.in_play;
-  denominator = h.denominator;
-  wide = h.wide;
-}
-
 -- a connective by its parts
 abbrev made_two : ℕ → ℕ → Side → Bool → Option Reached → Two
 made_two left right side turned last = record { left = left; right = right; side = side; turned = turned; last = last }
@@ -302,7 +265,7 @@ module _ (t : Step) (op : Operator) (e : Held) (to : ℕ) (b : Belongs t op e to
     where
       by_before : (o : Option ℤ) → o ≡ Some g → from_of (record t { before = o }) ≡ whole g
       by_before None e = absurd (let f = e in cc)
-      by_before (Some h) e = ap whole (some_is e)
+      by_before (Some h) e = ap whole (same_Some _ _ e)
 
   -- a node's number does not lie before the begin of its times
   pub low_before : IfSome t.before (λ g. pos (begin_of t) ≤ℤ g)
@@ -323,7 +286,7 @@ module _ (t : Step) (op : Operator) (e : Held) (to : ℕ) (b : Belongs t op e to
           worth = λ u v h. let (within, there) = (is.tells.worth u v).0 h in subst (λ p. Robustness p t.trace u v) (sym tree) (holds u v within.below there);
         }) is.tells.begins (same_trans is.tells.ends same);
     limited = is.limited;
-    moved = λ node found p has. subst (λ (n : Node). IsMovedBy (reach_before t + own_reach n) p) (some_is (sym b.at ∙ found)) (is.moved p has);
+    moved = λ node found p has. subst (λ (n : Node). IsMovedBy (reach_before t + own_reach n) p) (same_Some _ _ (sym b.at ∙ found)) (is.moved p has);
   }
 
   -- an input is ready, for a node that reads it at its own time
@@ -403,7 +366,7 @@ module _ (t : Step) (op : Operator) (e : Held) (to : ℕ) (b : Belongs t op e to
   moved_same : own_reach b.node ≡ 0 → (node : Node) → slice_get t.nodes t.place ≡ Some node → (p : Margin) → IsMovedBy (reach_before t) p
       → IsMovedBy (reach_before t + own_reach node) p
   moved_same none node at p moved =
-      let same : node ≡ b.node = some_is (sym at ∙ b.at) in
+      let same : node ≡ b.node = same_Some _ _ (sym at ∙ b.at) in
       let e : reach_before t ≡ reach_before t + own_reach node = let z = ap own_reach same ∙ none in omega (arith, z) in
       subst (λ r. IsMovedBy r p) e moved
 
@@ -472,7 +435,7 @@ module _ (t : Step) (x : Negated.Not) (e : Held) (to : ℕ) (b : Belongs t (Op.N
   -- a negation's edges are swept up to the time of the turn
   pub not_edges : (e' : Held) (end : Rational) → end ≈ whole (pos to) → LosesAt end x.of e e' → IsNegatedTo not_couple x e' end → HasSwept t e e' to
   not_edges e' end same lost to_end = record {
-    inputs = λ node j left at reads. by_side node j left (some_is (sym at ∙ b.at) ∙ b.stands.0) reads;
+    inputs = λ node j left at reads. by_side node j left (same_Some _ _ (sym at ∙ b.at) ∙ b.stands.0) reads;
     others = λ j unread. lost.others j (λ is. unread b.node true b.at (subst (IsReader b.node true) (sym is) not_reads));
     edges = lost.edges;
     start = lost.start;
@@ -499,7 +462,7 @@ module _ (t : Step) (x : Negated.Not) (e : Held) (to : ℕ) (b : Belongs t (Op.N
       → HasReached (left_of not_couple true) (reach_before t) (whole (pos to)) x'.last
       → StandsNow t (Op.Not x') e' to
   not_stands x' e' same some reached node at = (
-    some_is (sym at ∙ b.at) ∙ b.stands.0 ∙ ap N.Not (sym same),
+    same_Some _ _ (sym at ∙ b.at) ∙ b.stands.0 ∙ ap N.Not (sym same),
     subst (λ i. HasStood (turned_by true (Robustness (subformula t.nodes i) t.trace)) (reach_before t) (Some (pos to)) x'.last) (sym same)
         (stood_after (turned_by true (Robustness child t.trace)) (reach_before t) (pos to) x'.last some reached),
   )
@@ -691,7 +654,7 @@ module _ (t : Step) (x : Two) (e : Held) (to : ℕ) (b : Belongs t (Op.Two x) e 
   pub two_edges : (e' : Held) (end : Rational) → end ≈ whole (pos to) → LosesAtBoth end x.left x.right e e'
       → IsJoinedTo two_couple x e' end → HasSwept t e e' to
   two_edges e' end same lost to_end = record {
-    inputs = λ node j left at reads. by_input node j left (some_is (sym at ∙ b.at)) reads;
+    inputs = λ node j left at reads. by_input node j left (same_Some _ _ (sym at ∙ b.at)) reads;
     others = λ j unread.
         lost.others j (λ is. unread b.node true b.at (subst (IsReader b.node true) (sym is) here.left))
         (λ is. unread b.node false b.at (subst (IsReader b.node false) (sym is) here.right));
@@ -731,7 +694,7 @@ module _ (t : Step) (x : Two) (e : Held) (to : ℕ) (b : Belongs t (Op.Two x) e 
       → HasReached (both_of two_couple x) (reach_before t) (whole (pos to)) x'.last
       → StandsNow t (Op.Two x') e' to
   two_stands x' e' same some reached node at =
-      let found : node ≡ b.node = some_is (sym at ∙ b.at) in
+      let found : node ≡ b.node = same_Some _ _ (sym at ∙ b.at) in
       subst (λ y. IsTwoOf node y × HasStood (two_of t.nodes t.trace y) (reach_before t) (Some (pos to)) y.last) (sym same) (
         subst (λ n. IsTwoOf n (record x { last = x'.last })) (sym found) (kept_two b.node x x'.last b.stands.0),
         stood_after (two_of t.nodes t.trace x) (reach_before t) (pos to) x'.last some reached,

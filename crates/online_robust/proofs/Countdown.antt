@@ -1,11 +1,12 @@
 -- A window goes on in a limited number of steps.
 use Rattle.std.proofs.Common.{◌≡◌, ◌⊎◌, inl, inr, ℕ, ◌+◌, ◌-◌, ◌*◌, ◌<◌, ◌≤◌, Bool, true, false, List, [], ◌∷◌, ◌++◌}
 use Rattle.std.proofs.Common.{length, Option, Some, None, refl, sym, ap, subst, ◌∙◌, get_or, slice_get, arith}
-use Rattle.std.specs.Prelude.{MatchBool, MatchOption, OnOk, Result, Ok, Err, if◌then◌else◌}
+use Rattle.std.specs.Prelude.{MatchBool, MatchOption, if◌then◌else◌}
 use Rattle.std.proofs.lemmas.List.{get_or-set_same, length-append, length-drop, length-set}
 use Rattle.rational.specs.Time.{Rational, less, shifted, ◌≤ʳ◌, ◌<ʳ◌}
 use Rattle.rational.proofs.Order.{le_of_same, le_refl}
 use Rattle.rational.proofs.TimeLemmas.{less_in, less_no}
+use Rattle.rational.proofs.Tests.{one_at_most}
 use Rattle.frac128.specs.Value.{value}
 use Rattle.frac128.specs.declared.frac.Frac.{Frac}
 use Rattle.value_laws.specs.declared.margin.Margin.{Margin}
@@ -84,11 +85,6 @@ module _ (i : ℕ) (e mid : Held) where
       by_first None is (gap, same) = subst (λ (h : Held). lines_left (edge_at h i) ≤ lines_left (edge_at e i)) (sym same) (omega arith)
       by_first (Some l) is (gap, read, start) = let fewer = pass_fewer l within is read in omega (arith, fewer)
 
--- the high end goes on with a line fewer
-one_at_most : (b : Bool) → (if b then 1 else 0) ≤ 1
-one_at_most true = omega arith
-one_at_most false = omega arith
-
 -- an end counts as one step at most
 pub end_at_most : (t : Rational) (o : Option Frac) → is_before_end t o ≤ 1
 end_at_most t None = omega arith
@@ -155,8 +151,3 @@ low_fewer i e mid new b line within dropped first taken =
         let count = ap (λ (es : List Edge). length es) taken ∙ length-set e.edges i (without 1 (edge_at e i)) in
         omega (arith, count, within)
     stays false same = subst (λ (h : Held). i < length h.edges) (sym same) within
-
--- what is so where a call succeeds
-pub on_ok : {A E : Type 0} {P Q : Type 0} (r : Result A E) → (P → Q) → OnOk r P → OnOk r Q
-on_ok (Ok x) f h = f h
-on_ok (Err e) f h = tt

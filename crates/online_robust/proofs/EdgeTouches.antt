@@ -8,6 +8,8 @@ use Rattle.rational.specs.Windows.{Function}
 use Rattle.rational.proofs.Order.{le_of_lt, le_of_same, ge_of_same, le_or_lt, le_trans, left_of_middle}
 use Rattle.rational.proofs.Order.{right_of_middle, lt_of_le_of_lt, lt_of_lt_of_le, lt_trans, not_lt_of_le}
 use Rattle.rational.proofs.Shift.{le_whole}
+use Rattle.rational.proofs.Lists.{drop_none}
+use Rattle.rational.proofs.Tests.{int_order}
 use Rattle.frac128.specs.Value.{value}
 use Rattle.stl_syntax.specs.Formula.{subformula}
 use Rattle.stl_syntax.specs.Trace.{Header, IsTrace, first_time, last_time}
@@ -18,7 +20,6 @@ use Rattle.online_nodes.specs.MarginEdges.{AreTouching, IsMarginEdge, shown_numb
 use Rattle.online_nodes.specs.Network.{reach_back, needed}
 use Rattle.online_nodes.specs.Needed.{IsReader}
 use Rattle.online_nodes.specs.StreamedWide.{front_at}
-use Rattle.online_nodes.proofs.RunLaw.{int_order}
 use Rattle.online_robust.specs.Lines.{end_of}
 use Rattle.online_robust.specs.Told.{AreTold, AreJoined}
 use Rattle.frac128.specs.declared.frac.Frac.{Frac}
@@ -28,17 +29,9 @@ use Rattle.online_robust.specs.Pasts.{Past, trace_of, part_of, shown_of, Gave, I
 use Rattle.online_robust.specs.declared.line.MarginLine.{MarginLine}
 use Rattle.online_robust.specs.declared.line.MarginLine.TheVariants.{Point, Gap}
 use Rattle.online_robust.proofs.Growing.{itself}
-use Rattle.online_robust.proofs.Rests.{EndBy, drop_none}
+use Rattle.online_robust.proofs.Rests.{EndBy}
 use Rattle.online_robust.proofs.RowFacts.{told_here, shown_here}
-
--- joined lines lead on
-joined_forth : (F : Function) (from to : Rational) (lines : List MarginLine) → AreTold F lines → AreJoined from to lines → from ≤ʳ to
-joined_forth F from to [] told joined = le_of_same joined
-joined_forth F from to (Gap a b p ∷ []) told joined = absurd joined
-joined_forth F from to (Gap a b p ∷ Gap c d q ∷ lines) told joined = absurd joined
-joined_forth F from to (Gap a b p ∷ Point u v ∷ lines) told joined =
-    le_trans (ge_of_same joined.0) (le_trans (le_of_lt told.0.0) (le_trans (le_of_same joined.1) (joined_forth F (value u) to lines told.1.1 joined.2)))
-joined_forth F from to (Point u v ∷ lines) told joined = absurd joined
+use Rattle.online_robust.proofs.JoinedLemmas.{joined_to}
 
 -- a time after two others and before a third
 between : (a b c : Rational) → a <ʳ c → b <ʳ c → (t : Rational) × (a <ʳ t) × (b <ʳ t) × (t <ʳ c)
@@ -58,7 +51,7 @@ touch_later F stretch after from to [] holds told joined first = refl
 touch_later F stretch after from to (Gap a b p ∷ []) holds told joined first = absurd joined
 touch_later F stretch after from to (Gap a b p ∷ Gap c d q ∷ lines) holds told joined first = absurd joined
 touch_later F stretch after from to (Gap a b p ∷ Point u v ∷ lines) holds told joined first =
-    let top : value u ≤ʳ to = joined_forth F (value u) to lines told.1.1 joined.2 in
+    let top : value u ≤ʳ to = joined_to (value u) to F lines told.1.1 joined.2 in
     let end : value b ≤ʳ to = le_trans (le_of_same joined.1) top in
     let (t, low, mid, high) = between (value a) after (value b) told.0.0 first in
     let later : after <ʳ value u = lt_of_lt_of_le first (le_of_same joined.1) in
@@ -123,7 +116,7 @@ module _ (F : Function) (most start : ℕ) (f : ℤ) where
       by_left : AreLeft start None f lines → AreTouching (closed (whole (pos start)) (whole f)) (map part_of lines) (map part_of lines)
       by_left (at, v, rest, is, begins, joined) =
           let told : AreTold F (Point at v ∷ rest) = subst (AreTold F) is inputs.told in
-          let top : value at ≤ʳ whole f = joined_forth F (value at) (whole f) rest told.1 joined in
+          let top : value at ≤ʳ whole f = joined_to (value at) (whole f) F rest told.1 joined in
           subst (λ l. AreTouching (closed (whole (pos start)) (whole f)) (map part_of l) (map part_of l)) (sym is)
           (inl (
             record { above = ge_of_same begins; below = top },

@@ -37,19 +37,9 @@ use Rattle.std.proofs.Common.{
   arith,
 }
 use Rattle.std.proofs.lemmas.Bool.{cases_eq}
-use Rattle.std.proofs.lemmas.List.{
-  ext_get_or,
-  get_or-drop,
-  get_or-set_same,
-  get_or-set_other,
-  length-set,
-  length-replicate,
-  get_or-replicate,
-}
-use Rattle.std.proofs.lemmas.Option.{slice_get_within}
+use Rattle.std.proofs.lemmas.List.{ext_get_or, get_or-drop, get_or-set_same, get_or-set_other, length-set, length-replicate, get_or-replicate, set-set}
+use Rattle.std.proofs.lemmas.Option.{slice_get_within, same_Some}
 use Rattle.std.proofs.lemmas.List.Sums.{sum_by-cons}
-use Rattle.pl_signal.proofs.Values.{some_is}
-use Rattle.seg_pool.proofs.ListsLemmas.{set-set_same}
 use Rattle.online_robust.specs.declared.line.MarginLine.{MarginLine}
 use Rattle.online_robust.specs.Held.{Held, Edge, no_edge, edges_of, with_more, with_read, with_number, without, HasTwoLists}
 
@@ -243,20 +233,10 @@ pub first_of_both : {X : Type 0} (xs ys : List X) → slice_get xs 0 ≡ None �
 first_of_both [] ys none = refl
 first_of_both (x ∷ xs) ys none = cc
 
--- what begins a list begins that list with another behind it
-pub first_of_first : {X : Type 0} (xs ys : List X) (x : X) → slice_get xs 0 ≡ Some x → slice_get (xs ++ ys) 0 ≡ Some x
-first_of_first [] ys x some = cc
-first_of_first (y ∷ xs) ys x some = some
-
--- a list that has no first item is empty
-pub empty_of_none : {X : Type 0} (xs : List X) → slice_get xs 0 ≡ None → xs ≡ []
-empty_of_none [] none = refl
-empty_of_none (x ∷ xs) none = cc
-
 -- a list's first item by itself
 take_first : {X : Type 0} (xs : List X) (v : X) → slice_get xs 0 ≡ Some v → take 1 xs ≡ v ∷ []
 take_first [] v some = cc
-take_first (x ∷ xs) v some = ap (λ y. y ∷ []) (some_is some)
+take_first (x ∷ xs) v some = ap (λ y. y ∷ []) (same_Some _ _ some)
 
 module _ (numbers : List (Option ℤ)) (lists : List (List MarginLine)) (i : ℕ) (two : HasTwoLists lists numbers)
     (within : i < length numbers) where
@@ -327,7 +307,7 @@ module _ (numbers : List (Option ℤ)) (lists : List (List MarginLine)) (i : ℕ
       seen
       ∙ ap (λ xs. set xs i (with_read (edge_of numbers lists i) v))
       (edges_changed (fresh_changes numbers lists i two within (drop 1 (get_or lists (2 * i + 1) []))))
-      ∙ set-set_same (edges_of numbers lists) i _ _
+      ∙ set-set (edges_of numbers lists) i _ _
       ∙ ap (λ x. set (edges_of numbers lists) i (with_read x v)) (sym (edge_at-edges_of numbers lists i within))
 
   -- the same, as a pool says it

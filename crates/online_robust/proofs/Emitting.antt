@@ -1,20 +1,15 @@
 -- What a node gave out, with one row more and with the end.
-use Rattle.std.proofs.Common.{◌≡◌, ℕ, ◌≤◌, Bool, true, false, List, [], ◌∷◌, ◌++◌, length, refl, sym, ap}
+use Rattle.std.proofs.Common.{◌≡◌, ◌≤◌, Bool, true, false, List, [], ◌∷◌, ◌++◌, length, refl, sym, ap}
 use Rattle.std.proofs.Common.{subst, ◌∙◌, arith, append_assoc, append-nil, Option, Some, None, ℤ, pos}
 use Rattle.std.specs.Prelude.{int_lt, cond}
 use Rattle.std.proofs.lemmas.Int.{ints}
+use Rattle.rational.proofs.Tests.{int_order}
 use Rattle.stl_syntax.specs.Trace.{Header, Row, IsTrace, first_time, last_time}
 use Rattle.stl_syntax.specs.Formula.{Subformula}
-use Rattle.stl_syntax.proofs.LawProofs.{last_from}
+use Rattle.stl_syntax.proofs.RowsLemmas.{last_time-push, last_from}
 use Rattle.online_nodes.specs.MarginEdges.{Part, AreNewParts, AreRowsParts, AreEmittedParts, shown_number}
 use Rattle.online_nodes.specs.StreamedWide.{front_at}
-use Rattle.online_nodes.proofs.RunLaw.{int_order}
 use Rattle.online_robust.specs.Pasts.{shown_by}
-
--- the last time is that of the row that came last
-pub last_appended : (time : ℕ) (rows : List Row) (r : Row) → last_time time (rows ++ r ∷ []) ≡ r.time
-last_appended time [] r = refl
-last_appended time (q ∷ rows) r = last_appended q.time rows r
 
 -- the first time stays, once there is one
 pub first_appended : (r : Row) (rows more : List Row) → first_time ((r ∷ rows) ++ more) ≡ r.time
@@ -24,7 +19,7 @@ first_appended r rows more = refl
 pub shown_appended : (p : Subformula) (rows : List Row) (r : Row)
     → shown_by false p (rows ++ r ∷ []) ≡ shown_number (first_time (rows ++ r ∷ [])) (front_at false (pos r.time) p)
 shown_appended p [] r = refl
-shown_appended p (q ∷ rows) r = ap (λ t. shown_number q.time (front_at false (pos t) p)) (last_appended q.time rows r)
+shown_appended p (q ∷ rows) r = ap (λ t. shown_number q.time (front_at false (pos t) p)) (last_time-push q.time rows r)
 
 module _ (p : Subformula) (header : Header) where
   rows_more : (before rows all : List Row) (r : Row) (old : Option ℤ) (parts more : List Part) → all ≡ before ++ rows → old ≡ shown_by false p before

@@ -2,21 +2,13 @@
 use Rattle.std.proofs.Common.{◌≡◌, ℕ, zero, suc, ◌+◌, ◌<◌, List, [], ◌∷◌, ◌++◌, length, refl, sym, ap, subst, ◌∙◌, arith, Some, inl, inr}
 use Rattle.std.specs.Prelude.{slice_get, slice_index}
 use Rattle.std.proofs.lemmas.Bool.{cases_lt}
-use Rattle.pl_signal.proofs.Values.{some_is}
+use Rattle.std.proofs.lemmas.Option.{same_Some}
+use Rattle.rational.proofs.Lists.{slice_get-append_front, slice_get-append_here}
 use Rattle.stl_syntax.specs.Formula.{subformula, horizon}
 use Rattle.stl_syntax.specs.Horizons.{AreHorizonsBelow}
 use Rattle.stl_syntax.specs.declared.node.Node.{Node}
 use Rattle.online_robust.specs.Firsts.{AreFirstStations, IsFirstWork}
 use Rattle.online_robust.specs.declared.station.Station.{Station}
-
-got_last : {X : Type 0} (xs : List X) (x y : X) → slice_get (xs ++ x ∷ []) (length xs) ≡ Some y → x ≡ y
-got_last [] x y e = some_is e
-got_last (z ∷ xs) x y e = got_last xs x y e
-
-got_front : {X : Type 0} (xs : List X) (x : X) (k : ℕ) → k < length xs → slice_get (xs ++ x ∷ []) k ≡ slice_get xs k
-got_front [] x k h = absurd (omega (arith, h))
-got_front (z ∷ xs) x zero h = refl
-got_front (z ∷ xs) x (suc k) h = got_front xs x k (omega (arith, h))
 
 got_beyond : {X : Type 0} (xs : List X) (x y : X) (k : ℕ) → length xs < k → slice_get (xs ++ x ∷ []) k ≡ Some y → ⊥
 got_beyond [] x y zero h e = omega (arith, h)
@@ -40,14 +32,14 @@ firsts_more nodes i stations st node are found ahead work = record {
     by_place : (k : ℕ) (n : Node) (x : Station) → slice_get nodes k ≡ Some n → slice_get (stations ++ st ∷ []) k ≡ Some x
         → (x.ahead ≡ horizon (subformula nodes k)) × IsFirstWork n x.work
     by_place k n x at here = elim (cases_lt k i) [
-      | inl low ↦ are.first k n x at (sym (got_front stations st k (let c = are.count in omega (arith, low, c))) ∙ here)
+      | inl low ↦ are.first k n x at (sym (slice_get-append_front stations (st ∷ []) k (let c = are.count in omega (arith, low, c))) ∙ here)
       | inr high ↦ elim (cases_lt i k) [
         | inl above ↦ absurd (got_beyond stations st x k (let c = are.count in omega (arith, above, c)) here)
         | inr same ↦
             let is : k ≡ length stations = let c = are.count in omega (arith, high, same, c) in
             let own : k ≡ i = is ∙ are.count in
-            let this : st ≡ x = got_last stations st x (sym (ap (slice_get (stations ++ st ∷ [])) is) ∙ here) in
-            let that : node ≡ n = some_is (sym found ∙ sym (ap (slice_get nodes) own) ∙ at) in
+            let this : st ≡ x = same_Some st x (sym (slice_get-append_here stations st []) ∙ sym (ap (slice_get (stations ++ st ∷ [])) is) ∙ here) in
+            let that : node ≡ n = same_Some _ _ (sym found ∙ sym (ap (slice_get nodes) own) ∙ at) in
             subst (λ y. (y.ahead ≡ horizon (subformula nodes k)) × IsFirstWork n y.work) this
             (ahead ∙ ap (λ j. horizon (subformula nodes j)) (sym own), subst (λ m. IsFirstWork m st.work) that work)
       ]

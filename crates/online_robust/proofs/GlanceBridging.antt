@@ -3,16 +3,17 @@ use Rattle.std.proofs.Common.{◌≡◌, ◌⊎◌, inl, inr, ℕ, zero, suc, �
 use Rattle.std.proofs.Common.{drop, refl, sym, ap, subst, ◌∙◌, arith, Option, Some, None, ℤ, pos, ◌+ℤ◌, ◌<ℤ◌, ◌≤ℤ◌}
 use Rattle.std.specs.Prelude.{MatchBool, IfSome, IsSome, int_lt, cond, slice_get}
 use Rattle.std.proofs.lemmas.Int.{ints}
+use Rattle.std.proofs.lemmas.Option.{same_Some}
 use Rattle.rational.specs.Time.{Rational, shifted, whole, ◌≈◌, ◌≤ʳ◌, ◌<ʳ◌}
 use Rattle.rational.specs.Windows.{Function}
 use Rattle.rational.proofs.Order.{le_trans, le_of_same, ge_of_same, lt_of_le_of_lt}
 use Rattle.rational.proofs.Order.{lt_of_lt_of_le, not_lt_of_le, same_refl, same_sym, same_trans}
 use Rattle.rational.proofs.Shift.{le_whole, lt_whole}
 use Rattle.rational.proofs.TimeLemmas.{same_shifted}
+use Rattle.rational.proofs.Tests.{int_order}
 use Rattle.frac128.specs.Value.{value}
 use Rattle.value_laws.specs.declared.margin.Margin.{Margin}
 use Rattle.pl_signal.specs.declared.knot.Knot.{Knot}
-use Rattle.pl_signal.proofs.Values.{some_is}
 use Rattle.window_ops.proofs.Ends.{le_shifted}
 use Rattle.stl_syntax.specs.Trace.{start, stop, last_time}
 use Rattle.stl_syntax.specs.Formula.{Subformula, subformula, horizon, tree_of}
@@ -21,7 +22,6 @@ use Rattle.stl_syntax.specs.Limits.{own_reach}
 use Rattle.stl_syntax.specs.declared.node.Node.{Node}
 use Rattle.stl_syntax.specs.declared.node.Node.TheVariants as N
 use Rattle.online_nodes.specs.StreamedWide.{front_at}
-use Rattle.online_nodes.proofs.RunLaw.{int_order}
 use Rattle.online_robust.specs.Lines.{end_of}
 use Rattle.online_robust.specs.Held.{Held, edge_at, held_at, held_of}
 use Rattle.online_robust.specs.ReadLines.{HasReached, IsStretch, LosesAt}
@@ -252,7 +252,7 @@ module _ (t : Step) (z : Moved) (e : Held) (to : ℕ) (b : Belongs t (Op.Moved z
         → HasReached (glance_of glance z) (reach_before t + own) end z'.last
         → StandsNow t (Op.Moved z') e' to
     glance_stands z' e' kept some reached node found =
-        let n : b.node ≡ node = some_is (sym b.at ∙ found) in
+        let n : b.node ≡ node = same_Some _ _ (sym b.at ∙ found) in
         subst (λ (k : Node). IsInstantOf k z' × HasStood (instant_margin t.nodes t.trace z') (reach_before t + own_reach k) (Some (pos to)) z'.last) n (
           subst (IsInstantOf b.node) (sym kept) (kept_instant b.node b.stands.0),
           subst (λ (m : Moved). HasStood (instant_margin t.nodes t.trace m) (reach_before t + own) (Some (pos to)) z'.last) (sym kept)

@@ -22,6 +22,7 @@ use Rattle.value_laws.specs.declared.margin.Margin.{Margin}
 use Rattle.window_ops.proofs.Ends.{le_shifted, lt_shifted, lt_shifted_back, le_shifted_back}
 use Rattle.stl_syntax.specs.Trace.{start, stop}
 use Rattle.stl_syntax.specs.SupInf.{Robustness}
+use Rattle.stl_syntax.proofs.SupInfLemmas.{value_alike}
 use Rattle.online_robust.specs.Lines.{end_of, margin_of}
 use Rattle.online_robust.specs.Held.{Held, edge_at, held_at, with_edge, without}
 use Rattle.online_robust.specs.Told.{IsMovedBy, IsTick}
@@ -37,7 +38,7 @@ use Rattle.online_robust.proofs.Losses.{loses_at_none, took, took_held}
 use Rattle.online_robust.proofs.PointwiseLemmas.{TakesTwo, begun_point, begun_rest, begun_some, is_point, is_rest, two_lost}
 use Rattle.online_robust.proofs.Spreads.{input_is_function}
 use Rattle.online_robust.proofs.TwoLemmas.{there_same}
-use Rattle.online_robust.proofs.Robustly.{robust_is_function, value_alike}
+use Rattle.online_robust.proofs.Robustly.{robust_is_function}
 use Rattle.online_robust.proofs.WindowBounds.{none_bounded, still_moved}
 
 -- ---- what counts

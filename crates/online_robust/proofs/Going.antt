@@ -6,13 +6,14 @@ use Rattle.std.specs.Prelude.{MatchBool, IfSome, int_lt, cond, map, slice_get, s
 use Rattle.std.proofs.lemmas.Int.{ints}
 use Rattle.std.proofs.lemmas.List.{take_more}
 use Rattle.std.proofs.lemmas.List.Sums.{sum_by-append}
-use Rattle.std.proofs.lemmas.Option.{slice_get_within, get_or_from_slice_get}
+use Rattle.std.proofs.lemmas.Option.{slice_get_within, get_or_from_slice_get, same_Some}
 use Rattle.rational.specs.Knots as plain
 use Rattle.rational.specs.Knots.{Piece}
 use Rattle.rational.specs.Windows.{Function}
 use Rattle.rational.specs.Time.{Rational, whole}
 use Rattle.rational.proofs.Order.{le_trans, lt_irrefl, lt_of_le_of_lt, le_of_same, ge_of_same}
 use Rattle.rational.proofs.Shift.{le_whole, lt_whole}
+use Rattle.rational.proofs.Tests.{int_order, int_below}
 use Rattle.value_laws.specs.Kinds.{margin_shape}
 use Rattle.value_laws.specs.declared.margin.Margin.{Margin}
 use Rattle.pl_signal.specs.declared.knot.Knot.{Knot}
@@ -20,7 +21,6 @@ use Rattle.pl_signal.specs.Knots.{time, HasShape}
 use Rattle.pl_signal.specs.Limits.{IsLimited}
 use Rattle.pl_signal.specs.Moves.{Tells}
 use Rattle.pl_signal.specs.Plain.{plain_knot, pieces_of, knots_of}
-use Rattle.pl_signal.proofs.Values.{some_is}
 use Rattle.stl_syntax.specs.Trace.{Row, Trace, IsTrace, Continues, first_time, last_time}
 use Rattle.stl_syntax.specs.Formula.{Subformula, subformula}
 use Rattle.stl_syntax.specs.SupInf.{Robustness}
@@ -29,7 +29,6 @@ use Rattle.stl_syntax.specs.declared.node.Node.{Node}
 use Rattle.stl_syntax.specs.declared.node.Node.TheVariants.{Const}
 use Rattle.online_nodes.specs.MarginEdges.{AreNewParts, parts_after}
 use Rattle.online_nodes.specs.MarginStream.{TellsLeftOpen}
-use Rattle.online_nodes.proofs.RunLaw.{int_order}
 use Rattle.online_nodes.specs.Network.{reach_back}
 use Rattle.online_nodes.specs.Needed.{IsReader}
 use Rattle.online_nodes.specs.StreamedWide.{front_at}
@@ -52,14 +51,6 @@ use Rattle.online_robust.proofs.SignalLines.{fit_first, at_first, joined_after, 
 use Rattle.online_robust.proofs.JoinedLemmas.{joined_same}
 
 -- ---- small facts
-
--- a lesser number comes out as less
-pub int_below : (a b : ℤ) → a <ℤ b → int_lt a b ≡ true
-int_below a b lt = by_test (int_lt a b) refl
-  where
-    by_test : (t : Bool) → int_lt a b ≡ t → int_lt a b ≡ true
-    by_test true e = e
-    by_test false e = let le = int_order a b false e in absurd (omega (arith, ints, lt, le))
 
 -- a number does not come out as less than itself
 pub int_not_below : (a : ℤ) → int_lt a a ≡ false
@@ -143,7 +134,7 @@ module _ (m : Move) (node : ℕ) (op : Operator) (e : Held) (to : ℕ) (with_fir
   so_far = trace_of m.header m.new
 
   front_is : pos to ≡ front_at m.new.ended (pos now) p
-  front_is = some_is (sym g.number ∙ number_here m.header p m.new.ended rows g.can.trace)
+  front_is = same_Some _ _ (sym g.number ∙ number_here m.header p m.new.ended rows g.can.trace)
 
   -- what was shown before
   before_is : (k : ℤ) → shown_of m.nodes m.old m.place ≡ Some k → (pos (first_time rows) ≤ℤ k) × (k <ℤ pos to)
@@ -406,7 +397,7 @@ module _ (m : Move) (node : ℕ) (op : Operator) (e : Held) (to : ℕ) (with_fir
     input_left : (n : Node) (j : ℕ) (side : Bool) → slice_get m.nodes m.place ≡ Some n → IsReader n side j
         → IsHeld m.nodes m.header m.new j m.new m.place (reach_back n side) (held_at noted j) × (number_at noted j ≡ number_at e j)
     input_left n j side at reads =
-        let same : g.can.node ≡ n = some_is (sym g.can.at ∙ at) in
+        let same : g.can.node ≡ n = same_Some _ _ (sym g.can.at ∙ at) in
         let reads' : IsReader g.can.node side j = subst (λ k. IsReader k side j) (sym same) reads in
         let (lines, gave, rest) = g.can.inputs j side reads' in
         let lower : j < m.place = reader_above m.nodes g.can.nodes.formed m.place n side j at reads in
@@ -445,7 +436,7 @@ module _ (m : Move) (node : ℕ) (op : Operator) (e : Held) (to : ℕ) (with_fir
       parts = subst (λ o. AreNewParts p so_far old_shown o (map part_of more)) (sym shown_new) (parts_by with_first g.first);
       told = λ tr trace c. subst (λ o. AreMore (F tr) most (first_time rows) old_shown o more) (sym shown_new) (told_by with_first g.first tr trace c);
       work = λ n at. (
-        subst (λ k. ¬ IsLeaf k) (some_is (sym g.can.at ∙ at)) g.can.work.0,
+        subst (λ k. ¬ IsLeaf k) (same_Some _ _ (sym g.can.at ∙ at)) g.can.work.0,
         λ tr trace c.
             subst (λ o. Stands n m.nodes m.place tr o op' (seen_by n noted)) (sym shown_new)
             (subst (λ l. Stands n m.nodes m.place tr (Some (pos to)) op' l) (sym (seen_kept n at)) (stands tr trace c n at)),

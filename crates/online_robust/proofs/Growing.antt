@@ -4,23 +4,25 @@ use Rattle.std.proofs.Common.{refl, sym, ap, subst, ◌∙◌, arith, append_ass
 use Rattle.std.specs.Prelude.{MatchBool, int_lt, cond, map, take}
 use Rattle.std.proofs.lemmas.Int.{ints}
 use Rattle.std.proofs.lemmas.Bool.{false≢true}
+use Rattle.std.proofs.lemmas.List.{map-append}
 use Rattle.rational.specs.Time.{whole}
 use Rattle.rational.specs.Windows.{Function}
+use Rattle.rational.proofs.Tests.{int_order}
 use Rattle.frac128.specs.Value.{value}
-use Rattle.stl_syntax.specs.Trace.{Header, Row, Trace, AreRowsAfter, IsTrace, Continues, first_time, last_time}
+use Rattle.stl_syntax.specs.Trace.{Header, Row, Trace, IsTrace, Continues, first_time, last_time}
 use Rattle.stl_syntax.specs.Formula.{Subformula, subformula}
 use Rattle.stl_syntax.specs.SupInf.{Robustness}
 use Rattle.stl_syntax.specs.Limits.{reach}
 use Rattle.stl_syntax.specs.declared.node.Node.{Node}
+use Rattle.stl_syntax.proofs.RowsLemmas.{last_time-push, row_later}
 use Rattle.online_nodes.specs.MarginEdges.{AreNewParts, AreEmittedParts, shown_number}
 use Rattle.online_nodes.specs.StreamedWide.{front_at}
-use Rattle.online_nodes.proofs.RunLaw.{int_order}
 use Rattle.online_robust.specs.Told.{AreTold, AreFit, AreJoined}
 use Rattle.online_robust.specs.Steps.{AreInputs, AreLeft, IsInput}
 use Rattle.online_robust.specs.Moving.{AreMore, IsNext}
 use Rattle.online_robust.specs.Pasts.{Past, with_row, with_end, trace_of, part_of, shown_of, Gave, AreToldOver}
 use Rattle.online_robust.specs.declared.line.MarginLine.{MarginLine}
-use Rattle.online_robust.proofs.Emitting.{last_appended, emitted_row, emitted_end}
+use Rattle.online_robust.proofs.Emitting.{emitted_row, emitted_end}
 use Rattle.online_robust.proofs.Rests.{told_append, fit_append, joined_append}
 
 -- ---- the lines of an edge
@@ -113,15 +115,10 @@ pub goes_on_from : (old new : Past) → IsNext old new → GoesOnFrom old new
 goes_on_from old new next = next_cases old new next GoesOnFrom
     (λ rows r tr header c. continues_less tr header rows r false c) (λ rows tr header c. continues_open tr header rows true c)
 
--- the last times rise with a row more
-last_rises : (n time : ℕ) (rows : List Row) (r : Row) → AreRowsAfter n time (rows ++ r ∷ []) → last_time time rows < r.time
-last_rises n time [] r ok = ok.0
-last_rises n time (q ∷ rows) r ok = last_rises n q.time rows r ok.2
-
 -- the last row lies before the next
 pub last_below : (header : Header) (q : Row) (rows : List Row) (r : Row) → IsTrace (record { header = header; rows = q ∷ rows ++ r ∷ [] })
     → last_time q.time rows < r.time
-last_below header q rows r is = last_rises (length header.columns) q.time rows r is.rows.1
+last_below header q rows r is = row_later (length header.columns) q.time rows r [] is.rows.1
 
 -- no number falls
 pub front_rises : (p : Subformula) (now later : ℕ) → now ≤ later → front_at false (pos now) p ≤ℤ front_at false (pos later) p
@@ -130,11 +127,6 @@ front_rises p now later le = omega (arith, ints, le)
 -- with the end a front does not fall
 pub front_ends : (p : Subformula) (now : ℕ) → front_at false (pos now) p ≤ℤ front_at true (pos now) p
 front_ends p now = omega (arith, ints)
-
--- what is made of two lists together is what is made of each
-pub map-append : {A B : Type 0} (f : A → B) (xs ys : List A) → map f (xs ++ ys) ≡ map f xs ++ map f ys
-map-append f [] ys = refl
-map-append f (x ∷ xs) ys = ap (λ l. f x ∷ l) (map-append f xs ys)
 
 module _ (nodes : List Node) (header : Header) (i : ℕ) (lines more : List MarginLine) where
   -- the lines more are what the next past answers beyond the old one
@@ -156,7 +148,7 @@ module _ (nodes : List Node) (header : Header) (i : ℕ) (lines more : List Marg
       (next.told tr trace c)
   told_row (q ∷ rows) r is told next = λ tr trace c.
       let rises = last_below header q rows r is in
-      let last : last_time q.time (rows ++ r ∷ []) ≡ r.time = last_appended q.time rows r in
+      let last : last_time q.time (rows ++ r ∷ []) ≡ r.time = last_time-push q.time rows r in
       input_grows (Robustness (subformula nodes i) tr) (reach (take (suc i) nodes)) q.time
       (front_at false (pos (last_time q.time rows)) (subformula nodes i)) (front_at false (pos (last_time q.time (rows ++ r ∷ []))) (subformula nodes i))
       lines more (front_rises (subformula nodes i) (last_time q.time rows) (last_time q.time (rows ++ r ∷ [])) (omega (arith, rises, last)))

@@ -3,6 +3,7 @@ use Rattle.std.proofs.Common.{◌≡◌, ◌≢◌, ◌⊎◌, inl, inr, ℕ, �
 use Rattle.std.proofs.Common.{Some, None, refl, sym, ap, subst, ◌∙◌, length, drop, get_or, slice_get, append_assoc, arith}
 use Rattle.std.specs.Prelude.{MatchOption}
 use Rattle.std.proofs.lemmas.List.{get_or-set_other, get_or-set_same, length-set}
+use Rattle.std.proofs.lemmas.Option.{same_Some}
 use Rattle.rational.specs.Time.{Rational, shifted, ◌≈◌, ◌≤ʳ◌, ◌<ʳ◌}
 use Rattle.rational.specs.Extended.{value_at}
 use Rattle.rational.specs.Affine.{IsBounded}
@@ -14,7 +15,6 @@ use Rattle.value_laws.specs.Margins.{margin_function}
 use Rattle.value_laws.specs.declared.margin.Margin.{Margin}
 use Rattle.pl_signal.specs.declared.faults.OpFault.{OpFault}
 use Rattle.pl_signal.specs.declared.faults.OpFault.TheVariants as F
-use Rattle.pl_signal.proofs.Values.{some_is}
 use Rattle.stl_syntax.specs.Trace.{start}
 use Rattle.online_robust.specs.Lines.{end_of, margin_of, IsOneLine}
 use Rattle.online_robust.specs.Held.{Edge, Held, edge_at, fresh_at, held_of, no_edge, with_edge, with_read}
@@ -30,6 +30,7 @@ use Rattle.online_robust.specs.declared.queue.Queue.{Queue}
 use Rattle.online_robust.specs.declared.window.Sweep.{Sweep}
 use Rattle.online_robust.proofs.Spreads.{ComesNext, before_next, comes_next, gap_behind, goes_beyond, gone_frozen, gone_plain, last_from, nothing_behind}
 use Rattle.online_robust.proofs.WindowLaw.{before_of_end, up_to_before, up_to_end}
+use Rattle.online_nodes.proofs.WorkLemmas.{first_and_rest}
 
 -- what an edge is once its first line was read
 pub read_edge : (i : ℕ) (old new : Held) (v : MarginLine) → i < length old.edges → new.edges ≡ with_edge old i (with_read (edge_at old i) v)
@@ -47,14 +48,10 @@ read_others i j old new v read apart =
 pub read_count : (i : ℕ) (old new : Held) (v : MarginLine) → new.edges ≡ with_edge old i (with_read (edge_at old i) v) → length new.edges ≡ length old.edges
 read_count i old new v read = ap (λ (es : List Edge). length es) read ∙ length-set old.edges i (with_read (edge_at old i) v)
 
-first_front : (xs : List MarginLine) (v : MarginLine) → slice_get xs 0 ≡ Some v → xs ≡ v ∷ drop 1 xs
-first_front [] v e = absurd (let x : None ≡ Some v = e in cc)
-first_front (x ∷ xs) v e = let y : Some x ≡ Some v = e in let z : x ≡ v = cc in ap (λ (w : MarginLine). w ∷ xs) z
-
 -- all that it holds stays
 pub read_held : (x : Edge) (v : MarginLine) → slice_get x.fresh 0 ≡ Some v → held_of (with_read x v) ≡ held_of x
 read_held x v first =
-    append_assoc x.seen (v ∷ []) (drop 1 x.fresh) ∙ ap (λ (l : List MarginLine). x.seen ++ l) (sym (first_front x.fresh v first))
+    append_assoc x.seen (v ∷ []) (drop 1 x.fresh) ∙ ap (λ (l : List MarginLine). x.seen ++ l) (sym (first_and_rest x.fresh v first))
 
 module _ (x : Scope) (s : Sweep) (e mid new : Held) (line : MarginLine) (next : Rim) (at : IsAt x s e) (high : IsHigh x s)
     (first : slice_get (fresh_at e s.window.of) 0 ≡ Some line) (read : mid.edges ≡ with_edge e s.window.of (with_read (edge_at e s.window.of) line))
@@ -72,7 +69,7 @@ module _ (x : Scope) (s : Sweep) (e mid new : Held) (line : MarginLine) (next : 
   line_is =
       let f : slice_get (L.Point next_is.p next_is.v ∷ next_is.rest) 0 ≡ Some line =
       subst (λ (l : List MarginLine). slice_get l 0 ≡ Some line) next_is.is first in
-      let g : Some (L.Point next_is.p next_is.v) ≡ Some line = f in sym (some_is g)
+      let g : Some (L.Point next_is.p next_is.v) ≡ Some line = f in sym (same_Some _ _ g)
 
   mid_edge : edge_at mid s.window.of ≡ with_read (edge_at e s.window.of) line
   mid_edge = read_edge s.window.of e mid line at.within read

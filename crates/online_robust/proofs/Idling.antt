@@ -3,8 +3,9 @@ use Rattle.std.proofs.Common.{◌≡◌, ◌≢◌, ◌⊎◌, inl, inr, ℕ, su
 use Rattle.std.proofs.Common.{ap, subst, ◌∙◌, arith, append-nil, Option, Some, None, ℤ, pos, ◌<ℤ◌, ◌≤ℤ◌, take}
 use Rattle.std.specs.Prelude.{int_lt, map, slice_get}
 use Rattle.std.proofs.lemmas.Int.{ints}
+use Rattle.std.proofs.lemmas.Option.{same_Some}
 use Rattle.rational.specs.Windows.{Function}
-use Rattle.pl_signal.proofs.Values.{some_is}
+use Rattle.rational.proofs.Tests.{int_order}
 use Rattle.stl_syntax.specs.Trace.{Trace, first_time}
 use Rattle.stl_syntax.specs.Formula.{Subformula, subformula}
 use Rattle.stl_syntax.specs.SupInf.{Robustness}
@@ -13,7 +14,6 @@ use Rattle.stl_syntax.specs.declared.node.Node.{Node}
 use Rattle.online_nodes.specs.MarginEdges.{AreNewParts}
 use Rattle.online_nodes.specs.Network.{reach_back}
 use Rattle.online_nodes.specs.Needed.{IsReader}
-use Rattle.online_nodes.proofs.RunLaw.{int_order}
 use Rattle.online_robust.specs.Held.{Edge, Held, edge_at, held_at, held_of, number_at, with_edge, with_more, with_number}
 use Rattle.online_robust.specs.Standing.{Stands}
 use Rattle.online_robust.specs.Steps.{back_of, seen_by}
@@ -99,9 +99,9 @@ module _ (m : Move) (w : Work) (e e' : Held) (can : CanMove m w e) (number : ℤ
         (first_time m.new.rows) (shown_of m.nodes m.old m.place) o []) (sym same)
         (no_more (Robustness (subformula m.nodes m.place) tr) (reach (take (suc m.place) m.nodes)) (first_time m.new.rows) (shown_of m.nodes m.old m.place));
     work = λ n at.
-        work_on n at w (subst (λ k. IsWork m.nodes m.header m.old m.place k (seen_by k e) w) (some_is (sym can.at ∙ at)) can.work);
+        work_on n at w (subst (λ k. IsWork m.nodes m.header m.old m.place k (seen_by k e) w) (same_Some _ _ (sym can.at ∙ at)) can.work);
     inputs = λ n j side at reads.
-        let found : can.node ≡ n = some_is (sym can.at ∙ at) in
+        let found : can.node ≡ n = same_Some _ _ (sym can.at ∙ at) in
         let reads' : IsReader can.node side j = subst (λ k. IsReader k side j) (sym found) reads in
         let lower : j < m.place = reader_above m.nodes can.nodes.formed m.place n side j at reads in
         let kept : edge_at e' j ≡ edge_at e j = idle.others j (omega (arith, lower)) in
@@ -159,6 +159,6 @@ module _ (m : Move) (w : Work) (e : Held) (can : CanMove m w e) (number : ℤ) (
       by_shown (Some g) h =
           let (was, from) = shown_is p m.old.ended m.old.rows g h in
           let (le, first) = number_rises m.header p m.old m.new can.next can.trace g was in
-          let top : g ≤ℤ number = subst (λ x. g ≤ℤ x) (some_is (sym (number_here m.header p m.new.ended m.new.rows can.trace) ∙ is)) le in
+          let top : g ≤ℤ number = subst (λ x. g ≤ℤ x) (same_Some _ _ (sym (number_here m.header p m.new.ended m.new.rows can.trace) ∙ is)) le in
           let low : pos (first_time m.new.rows) ≤ℤ g = subst (λ s. pos s ≤ℤ g) first from in
           absurd (omega (arith, ints, lt, top, low))

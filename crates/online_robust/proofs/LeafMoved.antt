@@ -3,7 +3,7 @@ use Rattle.std.proofs.Common.{◌≡◌, ◌≢◌, ◌⊎◌, inl, inr, ℕ, su
 use Rattle.std.proofs.Common.{length, refl, sym, ap, subst, ◌∙◌, arith, Option, Some, None, pos, ◌-ℤ◌, take, get_or}
 use Rattle.std.specs.Prelude.{IfSome, IsTrue, map, slice_get}
 use Rattle.std.proofs.lemmas.Int.{ints}
-use Rattle.std.proofs.lemmas.Option.{slice_get_within}
+use Rattle.std.proofs.lemmas.Option.{slice_get_within, same_Some}
 use Rattle.rational.specs.Rational.{Rational}
 use Rattle.rational.specs.Time.{◌<ʳ◌}
 use Rattle.rational.specs.Extended.{value_at, infinity, minus_infinity}
@@ -11,7 +11,6 @@ use Rattle.rational.proofs.AffineLemmas.{same_reflᵉ}
 use Rattle.rational.specs.Affine.{IsBounded}
 use Rattle.value_laws.specs.Margins.{is_ramp, margin_base, margin_function, others_base}
 use Rattle.value_laws.specs.declared.margin.Margin.{Margin}
-use Rattle.pl_signal.proofs.Values.{some_is}
 use Rattle.stl_syntax.specs.Trace.{Header, Row, Trace, IsTrace, Continues, first_time, last_time, row_time}
 use Rattle.stl_syntax.specs.Formula.{Subformula, constant, atom, subformula, horizon}
 use Rattle.stl_syntax.specs.SupInf.{Robustness}
@@ -20,6 +19,7 @@ use Rattle.stl_syntax.specs.declared.scale.Scale.{Scale}
 use Rattle.stl_syntax.specs.declared.atom.Atom.{Atom}
 use Rattle.stl_syntax.specs.declared.node.Node.{Node}
 use Rattle.stl_syntax.specs.declared.node.Node.TheVariants.{Atom as Leaf}
+use Rattle.stl_syntax.proofs.RowsLemmas.{last_time-push}
 use Rattle.atom_lines.specs.Binding.{Binding, IsBound, IsFor}
 use Rattle.online_nodes.specs.MarginEdges.{AreNewParts}
 use Rattle.online_nodes.specs.Needed.{IsReader}
@@ -31,7 +31,6 @@ use Rattle.online_robust.specs.Pasts.{Past, trace_of, part_of, shown_of, number_
 use Rattle.online_robust.specs.Moving.{Move, AreMore, CanMove, HasMoved, IsRowNext, last_row_of, last_row_after}
 use Rattle.online_robust.specs.declared.line.MarginLine.{MarginLine}
 use Rattle.online_robust.specs.declared.station.Work.{Work}
-use Rattle.online_robust.proofs.Emitting.{last_appended}
 use Rattle.online_robust.proofs.Going.{edge_other, edge_same, length-set-edges}
 use Rattle.online_robust.proofs.Leaves.{IsLeafAt, first_parts, first_told, later_parts, later_told}
 use Rattle.online_robust.proofs.RowFacts.{number_here, number_shown, last_not_below}
@@ -53,13 +52,13 @@ module _ (p : Subformula) (header : Header) (most : ℕ) (r : Row) (piece v : Ma
       → number_by false p (rows ++ r ∷ []) ≡ Some (pos r.time)
   number_row rows flat is =
       number_here header p false (rows ++ r ∷ []) is
-      ∙ ap (λ n. Some (front_at false (pos n) p)) (last_appended 0 rows r) ∙ ap Some (number_flat r.time flat)
+      ∙ ap (λ n. Some (front_at false (pos n) p)) (last_time-push 0 rows r) ∙ ap Some (number_flat r.time flat)
 
   shown_row : (rows : List Row) → horizon p ≡ 0 → IsTrace (record { header = header; rows = rows ++ r ∷ [] })
       → shown_by false p (rows ++ r ∷ []) ≡ Some (pos r.time)
   shown_row rows flat is =
       number_shown p false (rows ++ r ∷ []) (pos r.time) (number_row rows flat is)
-      (let le = last_not_below header (rows ++ r ∷ []) is in let last = last_appended 0 rows r in omega (arith, ints, le, last))
+      (let le = last_not_below header (rows ++ r ∷ []) is in let last = last_time-push 0 rows r in omega (arith, ints, le, last))
 
   -- its new lines are those of the row
   pub new_lines : (rows : List Row) → IsLeafAt p header rows (last_row_of rows) r piece v → IsTrace (record { header = header; rows = rows ++ r ∷ [] })
@@ -120,7 +119,7 @@ module _ (m : Move) (w : Work) (e : Held) (can : CanMove m w e) (b : Binding) (b
   small : r.time ≤ 4294967295
   small =
       let all : last_time 0 (m.old.rows ++ r ∷ []) ≤ 4294967295 = subst (λ (q : Past). last_time 0 q.rows ≤ 4294967295) row.new can.small in
-      let last = last_appended 0 m.old.rows r in omega (arith, all, last)
+      let last = last_time-push 0 m.old.rows r in omega (arith, all, last)
 
   leaf_now : IsLeafAt p m.header m.old.rows (last_row_of m.old.rows) r piece v
   leaf_now = subst (λ o. IsLeafAt p m.header m.old.rows o r piece v) row.last leaf
@@ -157,7 +156,7 @@ module _ (m : Move) (w : Work) (e : Held) (can : CanMove m w e) (b : Binding) (b
         (sym old_open) (new.1 tr trace c));
     work = λ n at.
         works n m.old m.new (seen_by n e) (seen_by n noted)
-        (subst (λ k. IsWork m.nodes m.header m.old m.place k (seen_by k e) w) (some_is (sym can.at ∙ at)) can.work);
+        (subst (λ k. IsWork m.nodes m.header m.old m.place k (seen_by k e) w) (same_Some _ _ (sym can.at ∙ at)) can.work);
     inputs = λ n j side at reads. absurd (unread n at side j reads);
     others = λ j apart none. other j apart;
     edges = length-set-edges e' m.place (with_number (edge_at e' m.place) (pos r.time)) ∙ count';

@@ -12,6 +12,7 @@ use Rattle.rational.specs.Affine.{IsBounded}
 use Rattle.rational.proofs.Order.{le_trans, lt_of_le_of_lt, lt_of_lt_of_le, le_of_same, ge_of_same, same_refl}
 use Rattle.rational.proofs.AffineLemmas.{bounded_same, value_same}
 use Rattle.rational.proofs.Shift.{le_whole, lt_whole}
+use Rattle.rational.proofs.Tests.{int_below}
 use Rattle.frac128.specs.Value.{value}
 use Rattle.frac128.specs.declared.frac.Frac.{Frac}
 use Rattle.value_laws.specs.Kinds.{margin_shape}
@@ -20,10 +21,10 @@ use Rattle.value_laws.specs.declared.margin.Margin.{Margin}
 use Rattle.pl_signal.specs.declared.knot.Knot.{Knot}
 use Rattle.pl_signal.specs.Knots.{IsKnot}
 use Rattle.pl_signal.specs.Plain.{plain_knot, pieces_of, knots_of}
-use Rattle.stl_syntax.specs.Trace.{AreRowsAfter, Header, Row, Trace, IsTrace, Continues, last_time, row_time}
+use Rattle.stl_syntax.specs.Trace.{Header, Row, Trace, IsTrace, Continues, last_time, row_time}
 use Rattle.stl_syntax.specs.Formula.{Subformula, horizon}
 use Rattle.stl_syntax.specs.SupInf.{Robustness}
-use Rattle.stl_syntax.proofs.LawProofs.{last_from}
+use Rattle.stl_syntax.proofs.RowsLemmas.{rows_in_front, last_from}
 use Rattle.online_nodes.specs.MarginEdges.{AreNewParts, parts_after}
 use Rattle.online_nodes.specs.MarginStream.{TellsLeftOpen}
 use Rattle.online_nodes.specs.StreamedWide.{front_at}
@@ -34,7 +35,6 @@ use Rattle.online_robust.specs.Moving.{AreMore, last_row_after}
 use Rattle.online_robust.specs.declared.line.MarginLine.{MarginLine}
 use Rattle.online_robust.specs.declared.line.MarginLine.TheVariants.{Point, Gap}
 use Rattle.online_robust.proofs.Growing.{itself, last_below}
-use Rattle.online_robust.proofs.Going.{int_below}
 use Rattle.online_robust.proofs.RowFacts.{number_shown}
 use Rattle.online_robust.proofs.SignalLines.{after_parts, all_parts, tells_after, tells_closed}
 
@@ -42,11 +42,6 @@ use Rattle.online_robust.proofs.SignalLines.{after_parts, all_parts, tells_after
 pub last_row_time : (q : Row) (rows : List Row) → (last_row_after q rows).time ≡ last_time q.time rows
 last_row_time q [] = refl
 last_row_time q (r ∷ rows) = last_row_time r rows
-
--- the first of rows that rise, rise
-rows_before : (n time : ℕ) (rows more : List Row) → AreRowsAfter n time (rows ++ more) → AreRowsAfter n time rows
-rows_before n time [] more ok = tt
-rows_before n time (r ∷ rows) more ok = (ok.0, ok.1, rows_before n r.time rows more ok.2)
 
 -- what a leaf is at a row and since the row before, in each trace that goes on from the rows
 pub record IsLeafAt (p : Subformula) (header : Header) (rows : List Row) (before : Option Row) (r : Row) (piece v : Margin) : Type 0 where
@@ -142,7 +137,7 @@ module _ (p : Subformula) (header : Header) (r : Row) (piece v : Margin) (most :
         front_flat n = let flat = leaf.flat in subst (λ h. pos n -ℤ pos h ≡ pos n) (sym flat) (omega (arith, ints))
 
         last_not_below_rows : q.time ≤ last_time q.time rows
-        last_not_below_rows = last_from (length header.columns) q.time rows (rows_before (length header.columns) q.time rows (r ∷ []) is.rows.1)
+        last_not_below_rows = last_from (length header.columns) q.time rows (rows_in_front (length header.columns) q.time rows (r ∷ []) is.rows.1)
 
     -- the lines of a later row are its next parts
     pub later_parts : (more : List MarginLine) → AreRowLines (Some f) r piece v more

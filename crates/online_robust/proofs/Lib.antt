@@ -12,10 +12,9 @@ mod Moved
 mod RowFacts
 mod Going
 mod Idling
-mod Leaves
+pub mod Leaves
 mod LeafMoved
 mod Loops
-mod Apart
 mod BestWindows
 mod Bridging
 mod Firsting

@@ -2,10 +2,10 @@
 use Rattle.std.proofs.Common.{◌≡◌, ◌⊎◌, inl, inr, ℕ, Bool, true, false, refl, sym, ap, subst, ◌∙◌, arith, Option, Some, ℤ, pos, ◌+ℤ◌, ◌<ℤ◌, ◌≤ℤ◌}
 use Rattle.std.specs.Prelude.{◌-ℤ◌, IfSome}
 use Rattle.std.proofs.lemmas.Int.{ints}
+use Rattle.std.proofs.lemmas.Option.{same_Some}
 use Rattle.rational.specs.Time.{Rational, shifted, whole, ◌≈◌, ◌≤ʳ◌}
 use Rattle.rational.proofs.Order.{ge_of_same, le_of_same, le_trans, not_lt_of_le, same_refl}
 use Rattle.rational.proofs.Shift.{le_whole, lt_whole}
-use Rattle.pl_signal.proofs.Values.{some_is}
 use Rattle.stl_syntax.specs.Trace.{stop, last_time}
 use Rattle.stl_syntax.specs.Formula.{subformula, horizon}
 use Rattle.stl_syntax.specs.declared.node.Node.{Node}
@@ -84,7 +84,7 @@ module _ (t : Step) (op : Operator) (e : Held) (to : ℕ) (b : Belongs t op e to
       → ((j : ℕ) (left : Bool) → IsReader b.node left j → (j ≡ of) × (left ≡ true))
       → IsCut (back_of (begin_of t) (Some (pos to)) (reach_back b.node true)) (edge_at e of) (edge_at e' of) → HasSwept t e e' to
   one_swept e' shed reads only cut = record {
-    inputs = λ node j left found read. by_node node j left (some_is (sym found ∙ b.at)) read;
+    inputs = λ node j left found read. by_node node j left (same_Some _ _ (sym found ∙ b.at)) read;
     others = λ j unread. shed.others j (λ is. unread b.node true b.at (subst (IsReader b.node true) (sym is) reads));
     edges = shed.edges;
     start = shed.start;

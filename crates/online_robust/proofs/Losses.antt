@@ -1,11 +1,12 @@
 -- Lines that are gone from the front of edges.
-use Rattle.std.proofs.Common.{◌≡◌, ◌≢◌, ℕ, zero, suc, ◌+◌, ◌-◌, ◌<◌, ◌≤◌, ◌⊎◌, inl, inr, List, [], ◌∷◌, Some, None}
+use Rattle.std.proofs.Common.{◌≡◌, ◌≢◌, ℕ, ◌+◌, ◌-◌, ◌<◌, ◌≤◌, ◌⊎◌, inl, inr, List, Some, None}
 use Rattle.std.proofs.Common.{Option, refl, sym, ap, subst, ◌∙◌, length, drop, get_or, slice_get, arith, length-drop}
 use Rattle.std.specs.Prelude.{IfSome}
 use Rattle.std.proofs.lemmas.Bool.{cases_lt}
 use Rattle.std.proofs.lemmas.List.{get_or-set_other, get_or-set_same, length-set}
 use Rattle.rational.specs.Time.{Rational, ◌≤ʳ◌}
 use Rattle.rational.proofs.Order.{le_trans}
+use Rattle.rational.proofs.Lists.{slice_get-drop}
 use Rattle.frac128.specs.Value.{value}
 use Rattle.online_robust.specs.Lines.{end_of}
 use Rattle.online_robust.specs.Held.{Edge, Held, edge_at, held_at, held_of, no_edge, with_edge, without}
@@ -36,12 +37,6 @@ ended_later (Some x) le h = le_trans h le
 pub loses_later : {l m : Rational} {x y : Edge} → l ≤ʳ m → Loses l x y → Loses m x y
 loses_later {x = x} le h = record { count = h.count; is = h.is; ended = λ k below. ended_later (slice_get (held_of x) k) le (h.ended k below) }
 
--- an item of what is left
-pub slice_get-drop_at : (n k : ℕ) (xs : List MarginLine) → slice_get (drop n xs) k ≡ slice_get xs (n + k)
-slice_get-drop_at zero k xs = let e : k ≡ 0 + k = omega arith in ap (slice_get xs) e
-slice_get-drop_at (suc n) k [] = refl
-slice_get-drop_at (suc n) k (x ∷ xs) = let e : suc (n + k) ≡ suc n + k = omega arith in slice_get-drop_at n k xs ∙ ap (slice_get (x ∷ xs)) e
-
 -- lines are lost in two turns
 pub loses_both : {limit : Rational} {x y z : Edge} → Loses limit x y → Loses limit y z → Loses limit x z
 loses_both {limit} {x} {y} {z} h k = record {
@@ -59,7 +54,7 @@ loses_both {limit} {x} {y} {z} h k = record {
         let place : h.count + (i - h.count) ≡ i = omega arith in
         let within : i - h.count < k.count = omega arith in
         subst (λ o. IfSome o (λ v. value (end_of v) ≤ʳ limit))
-        (ap (λ (l : List MarginLine). slice_get l (i - h.count)) held ∙ slice_get-drop_at h.count (i - h.count) (held_of x) ∙ ap (slice_get (held_of x)) place)
+        (ap (λ (l : List MarginLine). slice_get l (i - h.count)) held ∙ slice_get-drop h.count (held_of x) (i - h.count) ∙ ap (slice_get (held_of x)) place)
         (k.ended (i - h.count) within)
 
     ended : (i : ℕ) → i < h.count + k.count → IfSome (slice_get (held_of x) i) (λ v. value (end_of v) ≤ʳ limit)

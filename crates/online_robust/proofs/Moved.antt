@@ -1,9 +1,11 @@
 -- What a network shows once one node more has gone on.
-use Rattle.std.proofs.Common.{◌≡◌, ◌≢◌, inl, inr, ℕ, suc, zero, ◌-◌, ◌<◌, Bool, false, List, [], ◌∷◌}
+use Rattle.std.proofs.Common.{◌≡◌, ◌≢◌, inl, inr, ℕ, ◌-◌, ◌<◌, Bool, false, List}
 use Rattle.std.proofs.Common.{◌++◌, length, refl, sym, ap, subst, ◌∙◌, arith, append_assoc, Some, ℤ}
 use Rattle.std.specs.Prelude.{slice_get, slice_set, slice_index_or}
 use Rattle.std.proofs.lemmas.Bool.{cases_eq}
-use Rattle.std.proofs.lemmas.Option.{slice_get_within}
+use Rattle.std.proofs.lemmas.Option.{slice_get_within, same_Some}
+use Rattle.std.proofs.lemmas.List.{length-set}
+use Rattle.rational.proofs.Lists.{slice_get-set_same, slice_get-set_other}
 use Rattle.stl_syntax.specs.Trace.{Header, IsTrace}
 use Rattle.stl_syntax.specs.Formula.{subformula, horizon}
 use Rattle.stl_syntax.specs.declared.node.Node.{Node}
@@ -20,30 +22,11 @@ use Rattle.online_robust.specs.Nets.{Shows}
 use Rattle.online_robust.specs.declared.line.MarginLine.{MarginLine}
 use Rattle.online_robust.specs.declared.station.Station.{Station}
 use Rattle.online_robust.specs.declared.station.Work.{Work}
-use Rattle.pl_signal.proofs.Values.{some_is}
 use Rattle.online_robust.proofs.Growing.{AreNext, gave_grows}
 use Rattle.online_robust.proofs.Passing.{held_grows}
 use Rattle.online_robust.proofs.Readers.{MayRead, may_read, seen_same, reader_above}
 
 -- ---- lists
-
-slice_get-set_same : {X : Type 0} (xs : List X) (i : ℕ) (x : X) → i < length xs → slice_get (slice_set xs i x) i ≡ Some x
-slice_get-set_same [] i x h = absurd (omega (arith, h))
-slice_get-set_same (y ∷ xs) zero x h = refl
-slice_get-set_same (y ∷ xs) (suc i) x h = slice_get-set_same xs i x (omega (arith, h))
-
-slice_get-set_other : {X : Type 0} (xs : List X) (i j : ℕ) (x : X) → j ≢ i → slice_get (slice_set xs i x) j ≡ slice_get xs j
-slice_get-set_other [] i j x h = refl
-slice_get-set_other (y ∷ xs) zero zero x h = absurd (h refl)
-slice_get-set_other (y ∷ xs) zero (suc j) x h = refl
-slice_get-set_other (y ∷ xs) (suc i) zero x h = refl
-slice_get-set_other (y ∷ xs) (suc i) (suc j) x h = slice_get-set_other xs i j x (λ e. h (ap suc e))
-
--- a list has as many items once one was put in place
-pub length-slice_set : {X : Type 0} (xs : List X) (i : ℕ) (x : X) → length (slice_set xs i x) ≡ length xs
-length-slice_set [] i x = refl
-length-slice_set (y ∷ xs) zero x = refl
-length-slice_set (y ∷ xs) (suc i) x = ap suc (length-slice_set xs i x)
 
 held_of-more : (x : Edge) (more : List MarginLine) (f : ℤ) → held_of (with_number (with_more x more) f) ≡ held_of x ++ more
 held_of-more x more f = sym (append_assoc x.seen x.fresh more)
@@ -168,7 +151,7 @@ module _ (nodes : List Node) (header : Header) (streamed : AreStreamed nodes) (o
       same : j ≢ i → MayRead node j → number_at e' j ≡ number_at e j
       same other (inl (left, reads)) = (moved.inputs node j left found reads).1
       same other (inr none) =
-          ap (λ (x : Edge). x.number) (moved.others j other (λ m side here read. none side (subst (λ k. IsReader k side j) (some_is (sym here ∙ found)) read)))
+          ap (λ (x : Edge). x.number) (moved.others j other (λ m side here read. none side (subst (λ k. IsReader k side j) (same_Some _ _ (sym here ∙ found)) read)))
 
   -- the operators of other nodes have read the same
   seen_moved : (r : ℕ) (n : Node) → slice_get nodes r ≡ Some n → r ≢ i → seen_by n e' ≡ seen_by n e
@@ -189,7 +172,7 @@ module _ (nodes : List Node) (header : Header) (streamed : AreStreamed nodes) (o
   works_moved stations st st' here ahead is shows j n x found there = elim (cases_eq j i) [
     | inl own ↦
         let same : st' ≡ x =
-        some_is (sym (slice_get-set_same stations i st' (slice_get_within stations i st here))
+        same_Some _ _ (sym (slice_get-set_same stations i st' (slice_get_within stations i st here))
         ∙ subst (λ k. slice_get (slice_set stations i st') k ≡ Some x) own there) in
         let found' : slice_get nodes i ≡ Some n = subst (λ k. slice_get nodes k ≡ Some n) own found in
         let kept : st.ahead ≡ horizon (subformula nodes i) = (shows.works i n st found' here).0 in
@@ -209,7 +192,7 @@ module _ (nodes : List Node) (header : Header) (streamed : AreStreamed nodes) (o
       → Shows nodes header at given e stations → Shows nodes header after given e' (slice_set stations i st')
   shows_moved stations st st' here ahead is shows = record {
     edges = moved.edges ∙ shows.edges;
-    stations = length-slice_set stations i st' ∙ shows.stations;
+    stations = length-set stations i st' ∙ shows.stations;
     held = held_moved stations shows;
     root = root_moved shows.root;
     numbers = λ j l. number_moved j (shows.numbers j l);

@@ -1,5 +1,6 @@
 -- What counts at a time over a window is the best over it.
 use Rattle.std.proofs.Common.{◌≡◌, ◌⊎◌, inl, inr, ℕ, pos, Bool, true, false, List, [], ◌∷◌, Some, refl, sym, subst, ◌∙◌}
+use Rattle.std.proofs.lemmas.Option.{same_Some}
 use Rattle.rational.specs.Rational.{whole}
 use Rattle.rational.specs.Time.{Rational, Precedes, ◌≈◌, ◌≤ʳ◌, ◌<ʳ◌, shifted}
 use Rattle.rational.specs.Extended.{Extended, finite, minus_infinity, infinity, value_at, ◌≈ᵉ◌}
@@ -14,7 +15,6 @@ use Rattle.value_laws.specs.Margins.{margin_function}
 use Rattle.value_laws.specs.declared.margin.Margin.{Margin}
 use Rattle.pl_signal.specs.declared.joining.Side.{Side}
 use Rattle.pl_signal.specs.declared.joining.Side.TheVariants.{Least, Greatest}
-use Rattle.pl_signal.proofs.Values.{some_is}
 use Rattle.envelope.specs.Best.{Has, IsBestAt}
 use Rattle.envelope.specs.declared.best.Best.{Best}
 use Rattle.envelope.specs.Turns.{IsNoBetter, none_of}
@@ -283,12 +283,12 @@ module _ (x : Scope) (w : Wide) (none : Margin) (low high : Rim) (l h : Rational
             (shifted (start x.trace) w.low) (shifted t w.low) h (shifted t w.high) low s.marks s.constants (times_of w t) v
         by_one (p, inl e, le) = top_one v (subst (λ (m : Margin). IsNoBetter w.side v (value_at (margin_function m) t)) (e ∙ is_top') le)
         by_one (p, inr (inl e), le) =
-            let same : low_shape ≡ p = some_is (sym is_low ∙ e) in
+            let same : low_shape ≡ p = same_Some _ _ (sym is_low ∙ e) in
             IsOneOf.low_limit (no_better_trans w.side v (value_at (margin_function low_shape) t) (value_at (margin_function low.shape) (shifted t w.low))
             (subst (λ (m : Margin). IsNoBetter w.side v (value_at (margin_function m) t)) (sym same) le)
             (no_better_same w.side (value_at (margin_function low_shape) t) (value_at (margin_function low.shape) (shifted t w.low)) low_at))
         by_one (p, inr (inr e), le) =
-            let same : high_shape ≡ p = some_is (sym is_high ∙ e) in
+            let same : high_shape ≡ p = same_Some _ _ (sym is_high ∙ e) in
             IsOneOf.high_limit (subst (λ (g : Rim). IsNoBetter w.side v (value_at (margin_function g.shape) (shifted t w.high))) s.last
             (no_better_trans w.side v (value_at (margin_function high_shape) t) (value_at (margin_function high.shape) (shifted t w.high))
             (subst (λ (m : Margin). IsNoBetter w.side v (value_at (margin_function m) t)) (sym same) le)

@@ -8,6 +8,8 @@ use Rattle.rational.specs.Time.{whole, ◌≤ʳ◌, ◌<ʳ◌}
 use Rattle.rational.specs.Windows.{Function}
 use Rattle.rational.proofs.Order.{lt_of_le_of_lt, ge_of_same}
 use Rattle.rational.proofs.Shift.{le_whole}
+use Rattle.rational.proofs.Tests.{int_order}
+use Rattle.rational.proofs.Lists.{slice_get-append_front}
 use Rattle.frac128.specs.Value.{value}
 use Rattle.stl_syntax.specs.Trace.{Header, Row, IsTrace, first_time, last_time}
 use Rattle.stl_syntax.specs.Formula.{subformula}
@@ -15,7 +17,6 @@ use Rattle.stl_syntax.specs.declared.node.Node.{Node}
 use Rattle.online_nodes.specs.Network.{reach_back}
 use Rattle.online_nodes.specs.Needed.{IsReader}
 use Rattle.online_nodes.specs.StreamedWide.{front_at}
-use Rattle.online_nodes.proofs.RunLaw.{int_order}
 use Rattle.online_robust.specs.Lines.{end_of}
 use Rattle.online_robust.specs.Told.{AreTold, AreFit, AreJoined}
 use Rattle.online_robust.specs.Steps.{back_of}
@@ -44,11 +45,6 @@ drop_beyond zero (x ∷ xs) h = absurd (omega (arith, h))
 drop_beyond (suc n) [] h = refl
 drop_beyond (suc n) (x ∷ xs) h = drop_beyond n xs (omega (arith, h))
 
-get_within : {X : Type 0} (k : ℕ) (xs ys : List X) → k < length xs → slice_get (xs ++ ys) k ≡ slice_get xs k
-get_within k [] ys h = absurd (omega (arith, h))
-get_within zero (x ∷ xs) ys h = refl
-get_within (suc k) (x ∷ xs) ys h = get_within k xs ys (omega (arith, h))
-
 -- the first of the lines more, if any, ends after the limit
 abbrev pub BeginLater : Option ℤ → List MarginLine → Type 0
 BeginLater None more = Unit {0}
@@ -61,13 +57,13 @@ rest_more (Some limit) lines rest more (n, is, ended, first) later = elim (cases
     length lines,
     ap (λ l. l ++ more) (is ∙ drop_beyond n lines (omega (arith, beyond)) ∙ sym (drop_beyond (length lines) lines (omega arith)))
         ∙ sym (drop_within (length lines) lines more (omega arith)),
-    λ k h. subst (λ o. IfSome o (λ x. value (end_of x) ≤ʳ whole limit)) (sym (get_within k lines more h)) (ended k (omega (arith, h, beyond))),
+    λ k h. subst (λ o. IfSome o (λ x. value (end_of x) ≤ʳ whole limit)) (sym (slice_get-append_front lines more k h)) (ended k (omega (arith, h, beyond))),
     first_of_append (λ x. whole limit <ʳ value (end_of x)) rest more first later,
   )
   | inr within ↦ (
     n,
     ap (λ l. l ++ more) is ∙ sym (drop_within n lines more within),
-    λ k h. subst (λ o. IfSome o (λ x. value (end_of x) ≤ʳ whole limit)) (sym (get_within k lines more (omega (arith, h, within)))) (ended k h),
+    λ k h. subst (λ o. IfSome o (λ x. value (end_of x) ≤ʳ whole limit)) (sym (slice_get-append_front lines more k (omega (arith, h, within)))) (ended k h),
     first_of_append (λ x. whole limit <ʳ value (end_of x)) rest more first later,
   )
 ]

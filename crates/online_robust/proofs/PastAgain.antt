@@ -12,13 +12,14 @@ use Rattle.rational.specs.Windows.{Function}
 use Rattle.rational.proofs.Order.{ge_of_same, le_of_lt, le_of_same, le_refl, le_trans, lt_of_le_of_lt}
 use Rattle.rational.proofs.Order.{lt_of_lt_of_le, not_lt_of_le, same_of_le, same_refl, same_sym, same_trans}
 use Rattle.rational.proofs.Shift.{le_whole, lt_whole}
+use Rattle.rational.proofs.TimeLemmas.{lt_offsets, behind_le}
+use Rattle.rational.proofs.Tests.{int_order}
 use Rattle.frac128.specs.Value.{value}
 use Rattle.frac128.specs.declared.frac.Frac.{Frac}
 use Rattle.value_laws.specs.Margins.{margin_function}
 use Rattle.value_laws.specs.declared.margin.Margin.{Margin}
 use Rattle.stl_syntax.specs.SupInf.{Robustness}
 use Rattle.stl_syntax.specs.Trace.{first_time, start, stop}
-use Rattle.online_nodes.proofs.RunLaw.{int_order}
 use Rattle.window_ops.proofs.Ends.{lt_shifted}
 use Rattle.online_robust.specs.Held.{Held, edge_at, fresh_at, held_at}
 use Rattle.online_robust.specs.Lines.{end_of}
@@ -43,9 +44,7 @@ use Rattle.online_robust.proofs.Spreads.{bounded_on}
 use Rattle.online_robust.proofs.WindowAgain.{IsNext, back_before, cut_at, fit_tail, front_gap, moved_whole, next_of, no_front, no_none, some_or_none, told_tail}
 use Rattle.online_robust.proofs.WindowBounds.{still_moved}
 use Rattle.online_robust.proofs.WindowCore.{core_told}
-use Rattle.online_robust.proofs.WindowFaults.{no_later}
 use Rattle.online_robust.proofs.WindowFirst.{CanTurn, Turn, begin_tick, first_lines, none_on, scope_in, told_as, told_or_ended, turn_span}
-use Rattle.online_robust.proofs.WindowPoints.{in_order}
 
 -- a window without a low end stands over an input that is told further, and over what is to come of it then
 past_told : (x y : Scope) {p : Ever} {old e : Held} (lines : List MarginLine) → IsPastAt x p old → p.window.of < length e.edges
@@ -287,7 +286,7 @@ past_go_on turn g p e st can order begun tick = record {
     by_front : (shifted (whole turn.to) p.window.high ≤ʳ whole turn.front) ⊎ ((whole turn.front ≈ stop turn.trace) × (whole turn.to ≈ stop turn.trace))
         → shifted (value p.at) p.window.high ≤ʳ whole turn.front
     by_front (inl le) = le_trans (le_of_lt (lt_shifted p.window.high earlier)) le
-    by_front (inr (f_is, to_is)) = le_trans (no_later (value p.at) p.window.high st.was.fit.to)
+    by_front (inr (f_is, to_is)) = le_trans (behind_le (value p.at) p.window.high st.was.fit.to)
         (le_trans (le_of_lt earlier) (le_trans (le_of_same to_is) (ge_of_same f_is)))
 
     by_last : (o : Option Reached)
@@ -344,7 +343,7 @@ past_first turn p e k can nil fit tick near early = (
     order = subst (λ (k : ℤ). k <ℤ p.window.high) (sym fit.low) (let h = fit.from in omega (arith, ints, h))
 
     low_early : low <ʳ value p.start
-    low_early = lt_of_lt_of_le (in_order (value p.at) p.window.low p.window.high order) (le_of_lt early)
+    low_early = lt_of_lt_of_le (lt_offsets (value p.at) p.window.low p.window.high order) (le_of_lt early)
 
     first : (d : IsCore x p.window p.none silent silent low high) × IsBestOf margin_function p.window.side d.constants None
     first = (

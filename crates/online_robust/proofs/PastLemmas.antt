@@ -5,6 +5,7 @@ use Rattle.std.proofs.Common.{Some, None, refl, sym, ap, subst, ◌∙◌, lengt
 use Rattle.std.specs.Prelude.{MatchBool, MatchOption}
 use Rattle.std.proofs.lemmas.List.{get_or-set_same, length-set}
 use Rattle.std.proofs.Math.Nat.{mul-pos}
+use Rattle.std.proofs.lemmas.Option.{same_Some}
 use Rattle.rational.specs.Time.{Rational, shifted, ◌≈◌, ◌≤ʳ◌, ◌<ʳ◌}
 use Rattle.rational.specs.Extended.{minus_infinity, infinity, value_at}
 use Rattle.rational.specs.Affine.{IsBounded}
@@ -17,7 +18,6 @@ use Rattle.value_laws.specs.Margins.{margin_function}
 use Rattle.value_laws.specs.declared.margin.Margin.{Margin}
 use Rattle.pl_signal.specs.declared.faults.OpFault.{OpFault}
 use Rattle.pl_signal.specs.declared.faults.OpFault.TheVariants as F
-use Rattle.pl_signal.proofs.Values.{some_is}
 use Rattle.envelope.specs.Turns.{none_of}
 use Rattle.stl_syntax.specs.SupInf.{Robustness}
 use Rattle.stl_syntax.specs.Trace.{start, stop}
@@ -298,9 +298,9 @@ module _ (x : Scope) (p : Ever) (e : Held) (at : IsPastAt x p e) where
     first_is : (rest fresh : List MarginLine) → IsFollowed r (L.Point met.u met.v ∷ rest) fresh → L.Point met.u met.v ≡ L.Point r.at r.value
     first_is rest fresh (inl (nil, is)) =
         let f : Some (L.Point met.u met.v) ≡ Some (L.Point r.at r.value) = ap (λ (z : List MarginLine). slice_get z 0) is in
-        some_is f
+        same_Some _ _ f
     first_is rest fresh (inr (a, b, d, m, more', is', is)) =
-        let f : Some (L.Point met.u met.v) ≡ Some (L.Point r.at r.value) = ap (λ (z : List MarginLine). slice_get z 0) is in some_is f
+        let f : Some (L.Point met.u met.v) ≡ Some (L.Point r.at r.value) = ap (λ (z : List MarginLine). slice_get z 0) is in same_Some _ _ f
 
     point_is : L.Point met.u met.v ≡ L.Point r.at r.value
     point_is = first_is met.rest (edge_at e p.window.of).fresh
@@ -512,7 +512,7 @@ module _ (x : Scope) (p : Ever) (e : Held) (at : IsPastAt x p e) where
         (taken : new.edges ≡ with_edge mid i (without 1 (edge_at mid i))) (start_new : new.start ≡ mid.start) where
       -- the line that is held is the point's
       pub line_is : line ≡ L.Point d.u d.v
-      line_is = some_is (sym first ∙ point_first)
+      line_is = same_Some _ _ (sym first ∙ point_first)
 
       new_is : edge_at new i ≡ without 1 (edge_at mid i)
       new_is = ap (λ (es : List Edge). get_or es i no_edge) taken ∙ get_or-set_same mid.edges i (without 1 (edge_at mid i)) no_edge gap_gone.mid_in

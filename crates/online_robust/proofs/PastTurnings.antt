@@ -3,20 +3,19 @@ use Rattle.std.proofs.Common.{◌≡◌, ◌≢◌, ℕ, ◌+◌, ◌^◌, Bool,
 use Rattle.std.proofs.Common.{refl, sym, ap, subst, ◌∙◌, arith, Option, Some, None, ℤ, pos, ◌+ℤ◌, ◌<ℤ◌, ◌≤ℤ◌}
 use Rattle.std.specs.Prelude.{neg_ℤ, ◌-ℤ◌, MatchOption, IfSome, IsSomeAnd, int_lt, cond, slice_get}
 use Rattle.std.proofs.lemmas.Int.{ints}
+use Rattle.std.proofs.lemmas.Option.{same_Some}
 use Rattle.rational.specs.Rational.{IsWithin}
 use Rattle.rational.specs.Time.{Rational, shifted, whole, ◌≈◌, ◌≤ʳ◌, ◌<ʳ◌}
 use Rattle.rational.proofs.Order.{le_refl, le_trans, le_of_lt, le_of_same, ge_of_same, lt_of_le_of_lt}
 use Rattle.rational.proofs.Order.{lt_of_lt_of_le, same_refl, same_sym, same_trans}
 use Rattle.rational.proofs.Shift.{le_whole, lt_whole}
-use Rattle.rational.proofs.TimeLemmas.{same_shifted}
+use Rattle.rational.proofs.TimeLemmas.{same_shifted, behind_le}
 use Rattle.frac128.specs.Value.{value}
 use Rattle.frac128.specs.declared.frac.Frac.{Frac}
-use Rattle.pl_signal.proofs.Values.{some_is}
 use Rattle.stl_syntax.specs.Trace.{start}
 use Rattle.stl_syntax.specs.Formula.{subformula}
 use Rattle.stl_syntax.specs.SupInf.{Robustness}
 use Rattle.online_nodes.specs.StreamedWide.{front_at}
-use Rattle.online_nodes.proofs.RunLaw.{int_order}
 use Rattle.online_robust.specs.Held.{Held, edge_at, held_at}
 use Rattle.online_robust.specs.Told.{IsTick}
 use Rattle.online_robust.specs.ReadLines.{HasReached, IsThere}
@@ -34,9 +33,9 @@ use Rattle.online_robust.proofs.Bridging.{from_none, from_some, inputs_of, none_
 use Rattle.online_robust.proofs.Looking.{shifted_whole, stays_begun}
 use Rattle.online_robust.proofs.Builts.{tick_within}
 use Rattle.online_robust.proofs.PastAgain.{past_first, past_go_on}
-use Rattle.online_robust.proofs.WindowFaults.{no_later}
 use Rattle.online_robust.proofs.WindowTurnings.{none_there}
 use Rattle.rational.proofs.Mixed.{within_same}
+use Rattle.rational.proofs.Tests.{int_order}
 use Rattle.online_robust.proofs.PastBridging.{can_turn, first_tick, fit, here, input, own}
 use Rattle.online_robust.proofs.PastBridging.{scope_of, to_first, to_tick, turn_of}
 use Rattle.online_robust.proofs.WindowFirst.{CanTurn, Turn, scope_in, turn_span}
@@ -160,7 +159,7 @@ module _ (t : Step) (z : Endless) (e : Held) (to : ℕ) (b : Belongs t (Op.Ever 
         let low : whole (neg_ℤ (pos (2 ^ 34))) ≤ʳ value s.at = le_trans (le_whole {j = neg_ℤ (pos (2 ^ 34))} {k = pos (begin_of t) -ℤ pos 4294967296}
         (omega (arith, ints))) (ge_of_same at) in
         let near : IsWithin (2 ^ 34) (value s.at) = (low, le_trans (le_of_lt before) (tick_within (first_tick t z e to b)).1) in
-        let now = first near (lt_of_le_of_lt (no_later (value s.at) z.window.high (here t z e to b).behind) before) in
+        let now = first near (lt_of_le_of_lt (behind_le (value s.at) z.window.high (here t z e to b).behind) before) in
         record {
           at = now.0;
           keeps_point = now.1;
@@ -210,5 +209,5 @@ module _ (t : Step) (z : Endless) (e : Held) (to : ℕ) (b : Belongs t (Op.Ever 
           sym (from_some t (Op.Ever z) e to b g is),
           later_turn g r told.0 told.1 short
               (subst (λ (q : Reached). HasReached (silent_margin z.window.side) (reach_before t + own t z e to b) (whole g) (Some q))
-              (sym (some_is kept)) reached) forth.0 forth.1,
+              (sym (same_Some _ _ kept)) reached) forth.0 forth.1,
         )

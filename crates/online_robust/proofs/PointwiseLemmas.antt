@@ -2,12 +2,12 @@
 use Rattle.std.proofs.Common.{◌≡◌, ℕ, ◌<◌, List, ◌∷◌, Some, None, refl, sym, ap, subst, ◌∙◌, length, drop, slice_get, arith}
 use Rattle.std.specs.declared.cmp.Ordering.{Ordering}
 use Rattle.std.specs.declared.cmp.Ordering.TheVariants.{Less, Equal, Greater}
+use Rattle.std.proofs.lemmas.Option.{same_Some}
 use Rattle.rational.specs.Rational.{IsOrder}
 use Rattle.rational.specs.Time.{Rational, ◌≈◌, ◌≤ʳ◌, ◌<ʳ◌}
 use Rattle.rational.specs.Windows.{Function}
 use Rattle.rational.proofs.Order.{le_refl, le_of_lt, le_of_same, ge_of_same, lt_of_le_of_lt, not_lt_of_le, same_sym, same_trans}
 use Rattle.frac128.specs.Value.{value}
-use Rattle.pl_signal.proofs.Values.{some_is}
 use Rattle.stl_syntax.specs.SupInf.{Robustness}
 use Rattle.online_robust.specs.Lines.{end_of, margin_of}
 use Rattle.online_robust.specs.Held.{Held, edge_at, held_at, with_edge, without}
@@ -69,14 +69,14 @@ module _ {old mid new : Held} {i : ℕ} {v w : MarginLine} (two : TakesTwo old m
     is_point =
         let e : slice_get (drop 1 (Gap g.a g.b g.p ∷ Point g.u g.v ∷ g.rest)) 0 ≡ Some w =
         subst (λ (l : List MarginLine). slice_get (drop 1 l) 0 ≡ Some w) g.is second_held in
-        let f : Some (Point g.u g.v) ≡ Some w = e in sym (some_is f)
+        let f : Some (Point g.u g.v) ≡ Some w = e in sym (same_Some _ _ f)
 
     -- the first line that was taken is the gap
     pub is_gap : v ≡ Gap g.a g.b g.p
     is_gap =
         let e : slice_get (Gap g.a g.b g.p ∷ Point g.u g.v ∷ g.rest) 0 ≡ Some v =
         subst (λ (l : List MarginLine). slice_get l 0 ≡ Some v) g.is two.first in
-        let f : Some (Gap g.a g.b g.p) ≡ Some v = e in sym (some_is f)
+        let f : Some (Gap g.a g.b g.p) ≡ Some v = e in sym (same_Some _ _ f)
 
     -- the edge then holds the lines behind the point
     pub is_rest : held_at new i ≡ g.rest
@@ -144,7 +144,7 @@ module _ {P : Function} {reach : ℕ} {from to : Rational} {lines : List MarginL
   pub begun_point : (v : MarginLine) → slice_get lines 0 ≡ Some v → v ≡ Point b.at b.v
   begun_point v first =
       let e : slice_get (Point b.at b.v ∷ b.rest) 0 ≡ Some v = subst (λ (l : List MarginLine). slice_get l 0 ≡ Some v) b.is first in
-      let f : Some (Point b.at b.v) ≡ Some v = e in sym (some_is f)
+      let f : Some (Point b.at b.v) ≡ Some v = e in sym (same_Some _ _ f)
 
   -- behind that point the input's lines are the rest
   pub begun_rest : drop 1 lines ≡ b.rest

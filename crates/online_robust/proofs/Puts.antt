@@ -2,10 +2,10 @@
 use Rattle.std.proofs.Common.{◌≡◌, ℕ, zero, suc, ◌+◌, ◌-◌, ◌<◌, ◌≤◌, true, false, List, [], ◌∷◌, ◌++◌, length, refl, sym, ap}
 use Rattle.std.proofs.Common.{◌∙◌, arith, append_assoc, append-nil, Some, set, get_or, get_or-set_same, length-set, take}
 use Rattle.std.specs.Prelude.{slice_get}
-use Rattle.std.proofs.lemmas.List.{set-get_or}
+use Rattle.std.proofs.lemmas.List.{set-get_or, set-set}
+use Rattle.std.proofs.lemmas.Option.{same_Some}
 use Rattle.value_laws.specs.declared.margin.Margin.{Margin}
 use Rattle.pl_signal.specs.declared.knot.Knot.{Knot}
-use Rattle.pl_signal.proofs.Values.{some_is}
 use Rattle.online_robust.specs.Held.{Edge, Held, edge_at, no_edge, with_more}
 use Rattle.online_robust.specs.Putting.{later_lines, lines_after, lines_of, HasPut}
 use Rattle.online_robust.specs.declared.line.MarginLine.{MarginLine}
@@ -16,11 +16,6 @@ more_none x = ap (λ l. record { seen = x.seen; fresh = l; number = x.number }) 
 
 more_more : (x : Edge) (a b : List MarginLine) → with_more (with_more x a) b ≡ with_more x (a ++ b)
 more_more x a b = ap (λ l. record { seen = x.seen; fresh = l; number = x.number }) (append_assoc x.fresh a b)
-
-set_twice : {X : Type 0} (xs : List X) (i : ℕ) (x y : X) → set (set xs i x) i y ≡ set xs i y
-set_twice [] i x y = refl
-set_twice (z ∷ xs) zero x y = refl
-set_twice (z ∷ xs) (suc i) x y = ap (λ l. z ∷ l) (set_twice xs i x y)
 
 -- nothing was put
 pub put_none : (node : ℕ) (e : Held) → HasPut node [] e e
@@ -33,7 +28,7 @@ put_both node a b e f g within first second = record {
       second.edges ∙ ap (λ l. set l node (with_more (get_or l node no_edge) b)) first.edges
       ∙ ap (λ x. set (set e.edges node (with_more (edge_at e node) a)) node (with_more x b))
       (get_or-set_same e.edges node (with_more (edge_at e node) a) no_edge within)
-      ∙ set_twice e.edges node (with_more (edge_at e node) a) (with_more (with_more (edge_at e node) a) b)
+      ∙ set-set e.edges node (with_more (edge_at e node) a) (with_more (with_more (edge_at e node) a) b)
       ∙ ap (set e.edges node) (more_more (edge_at e node) a b);
   start = second.start ∙ first.start;
 }
@@ -43,8 +38,8 @@ after_more : (x : Knot Margin) (xs : List (Knot Margin)) (i : ℕ) (k n : Knot M
     → lines_after x (take (suc i) xs) ≡ lines_after x (take i xs) ++ Gap k.time n.time k.after ∷ Point n.time n.point ∷ []
 after_more x [] i k n at next = absurd (let e = next in cc)
 after_more x (y ∷ ys) zero k n at next =
-    let this : x ≡ k = some_is at in
-    let that : y ≡ n = some_is next in
+    let this : x ≡ k = same_Some _ _ at in
+    let that : y ≡ n = same_Some _ _ next in
     ap (λ z. Gap z.time y.time z.after ∷ Point y.time y.point ∷ []) this ∙ ap (λ z. Gap k.time z.time k.after ∷ Point z.time z.point ∷ []) that
 after_more x (y ∷ ys) (suc i) k n at next = ap (λ l. Gap x.time y.time x.after ∷ Point y.time y.point ∷ l) (after_more y ys i k n at next)
 
@@ -66,7 +61,7 @@ lines_false (k ∷ knots) = refl
 -- with the first knot its point stands before the later lines
 pub lines_true : (s : List (Knot Margin)) (k : Knot Margin) → slice_get s 0 ≡ Some k → lines_of true s ≡ (Point k.time k.point ∷ []) ++ later_lines s
 lines_true [] k at = absurd (let e = at in cc)
-lines_true (x ∷ xs) k at = ap (λ z. Point z.time z.point ∷ lines_after x xs) (some_is at)
+lines_true (x ∷ xs) k at = ap (λ z. Point z.time z.point ∷ lines_after x xs) (same_Some _ _ at)
 
 -- an edge that was there is there
 pub put_within : (node : ℕ) (more : List MarginLine) (e f : Held) → HasPut node more e f → node < length e.edges → node < length f.edges

@@ -184,8 +184,3 @@ pub none_stands : {P : Type 0} (function : P → Affine) (side : Side) (older : 
 none_stands {P} function side older best c cs none h =
     let nothing : h.old ≡ [] = none_of_none function side h.old (subst (λ (l : List P). AreBests function side l h.old) none h.bests) in
     absurd (let x : c ∷ cs ≡ [] = h.is ∙ append-nil h.old ∙ nothing in cc)
-
--- a list without items
-pub nil_of_length : {P : Type 0} (xs : List P) → length xs ≡ 0 → xs ≡ []
-nil_of_length [] e = refl
-nil_of_length (x ∷ xs) e = absurd (omega (arith, e))

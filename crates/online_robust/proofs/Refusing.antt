@@ -1,6 +1,6 @@
 -- What is said of a refusal that is put beside an answer.
-use Rattle.std.proofs.Common.{◌≡◌, Option, Some, None, Result, Ok, Err, refl, sym, subst}
-use Rattle.std.specs.Prelude.{IfSome, OnOk}
+use Rattle.std.proofs.Common.{◌≡◌, Option, Some, None, refl, sym, subst}
+use Rattle.std.specs.Prelude.{IfSome}
 use Rattle.pl_signal.specs.declared.faults.WidePair.{WidePair}
 use Rattle.pl_signal.specs.declared.faults.OpFault.{OpFault}
 use Rattle.pl_signal.specs.declared.faults.OpFault.TheVariants as F
@@ -21,8 +21,3 @@ pub each_told : {P : Type 0} (Of : OpFault P → Type 0) (kept : Option (WidePai
     → ((pair : WidePair P) → Has pair → Of (F.Wide pair)) → Of (told_by kept)
 each_told Of None m h each = m
 each_told Of (Some pair) m h each = each pair h
-
--- what holds anyway holds where a result is good
-pub on_ok_anyway : {T E A : Type 0} (r : Result T E) → A → OnOk r A
-on_ok_anyway (Ok x) a = a
-on_ok_anyway (Err e) a = tt

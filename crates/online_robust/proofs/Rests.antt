@@ -8,8 +8,9 @@ use Rattle.rational.specs.Time.{Rational, whole, ◌≤ʳ◌, ◌<ʳ◌}
 use Rattle.rational.specs.Windows.{Function}
 use Rattle.rational.proofs.Order.{le_trans, le_of_same, ge_of_same, same_sym, not_lt_of_le}
 use Rattle.rational.proofs.Shift.{le_whole}
+use Rattle.rational.proofs.Lists.{slice_get-drop, drop_none}
+use Rattle.rational.proofs.Tests.{int_order}
 use Rattle.frac128.specs.Value.{value}
-use Rattle.online_nodes.proofs.RunLaw.{int_order}
 use Rattle.online_robust.specs.Lines.{end_of}
 use Rattle.online_robust.specs.Held.{Edge, held_of}
 use Rattle.value_laws.specs.declared.margin.Margin.{Margin}
@@ -22,12 +23,6 @@ use Rattle.online_robust.proofs.JoinedLemmas.{joined_same}
 use Rattle.online_nodes.proofs.DroppingLemmas.{drop-drop}
 
 -- ---- dropping
-
--- nothing is dropped of nothing
-pub drop_none : (n : ℕ) (lines : List MarginLine) → lines ≡ [] → drop n lines ≡ []
-drop_none zero lines e = e
-drop_none (suc n) [] e = refl
-drop_none (suc n) (x ∷ lines) e = absurd (let f = e in cc)
 
 -- what is left of lines that tell still tells
 pub told_drop : (F : Function) (n : ℕ) (lines : List MarginLine) → AreTold F lines → AreTold F (drop n lines)
@@ -138,12 +133,6 @@ input_rest F reach start before k f lines rest input is = by_test (int_lt f (pos
 
 -- ---- dropping once more
 
--- an item behind those that were dropped stands so many places further on
-pub slice_get-drop-at : {X : Type 0} (n : ℕ) (xs : List X) (k : ℕ) → slice_get (drop n xs) k ≡ slice_get xs (n + k)
-slice_get-drop-at zero xs k = ap (slice_get xs) (omega arith)
-slice_get-drop-at (suc n) [] k = refl
-slice_get-drop-at (suc n) (x ∷ xs) k = let e : suc (n + k) ≡ suc n + k = omega arith in slice_get-drop-at n xs k ∙ ap (slice_get (x ∷ xs)) e
-
 -- what is dropped now is not less than what was dropped before
 abbrev pub IsLaterBack : Option ℤ → Option ℤ → Type 0
 IsLaterBack None new = Unit {0}
@@ -178,7 +167,7 @@ rest_cut (Some a) (Some b) lines x y later (n, is, ended, rest) cut = (
       | inr high ↦
           let e : n + (k - n) ≡ k = omega (arith, high) in
           subst (λ o. IfSome o (λ v. value (end_of v) ≤ʳ whole b))
-          (ap (λ l. slice_get l (k - n)) is ∙ slice_get-drop-at n lines (k - n) ∙ ap (slice_get lines) e)
+          (ap (λ l. slice_get l (k - n)) is ∙ slice_get-drop n lines (k - n) ∙ ap (slice_get lines) e)
           (cut.ended (k - n) (omega (arith, h, high)))
     ]
 

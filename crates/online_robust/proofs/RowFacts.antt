@@ -3,28 +3,22 @@ use Rattle.std.proofs.Common.{◌≡◌, ℕ, ◌≤◌, Bool, true, false, List
 use Rattle.std.proofs.Common.{ap, subst, ◌∙◌, arith, append-nil, Some, None, ℤ, pos, ◌<ℤ◌, ◌≤ℤ◌}
 use Rattle.std.specs.Prelude.{int_lt, cond}
 use Rattle.std.proofs.lemmas.Int.{ints}
-use Rattle.pl_signal.proofs.Values.{some_is}
-use Rattle.stl_syntax.specs.Trace.{Header, Row, Trace, AreRows, AreRowsAfter, IsTrace, Continues, first_time, last_time}
+use Rattle.rational.proofs.Tests.{int_order}
+use Rattle.stl_syntax.specs.Trace.{Header, Row, Trace, AreRows, IsTrace, Continues, first_time, last_time}
 use Rattle.stl_syntax.specs.Formula.{Subformula, subformula}
 use Rattle.stl_syntax.specs.SupInf.{Robustness}
 use Rattle.stl_syntax.specs.Limits.{reach}
 use Rattle.stl_syntax.specs.declared.node.Node.{Node}
 use Rattle.std.proofs.Common.{take, suc}
-use Rattle.stl_syntax.proofs.LawProofs.{last_from}
+use Rattle.std.proofs.lemmas.Option.{same_Some}
+use Rattle.stl_syntax.proofs.RowsLemmas.{last_time-push, last_grows, last_from}
 use Rattle.online_nodes.specs.MarginEdges.{shown_number}
 use Rattle.online_nodes.specs.StreamedWide.{front_at}
-use Rattle.online_nodes.proofs.RunLaw.{int_order}
 use Rattle.online_robust.specs.Steps.{IsInput}
 use Rattle.online_robust.specs.Moving.{IsNext}
 use Rattle.online_robust.specs.Pasts.{Past, trace_of, number_by, shown_by, AreToldOver}
 use Rattle.online_robust.specs.declared.line.MarginLine.{MarginLine}
-use Rattle.online_robust.proofs.Emitting.{last_appended}
 use Rattle.online_robust.proofs.Growing.{front_rises, front_ends, last_below, next_cases}
-
--- the last time of rows with more behind them
-last_more : (n time : ℕ) (rows more : List Row) → AreRowsAfter n time (rows ++ more) → last_time time rows ≤ last_time time (rows ++ more)
-last_more n time [] more ok = last_from n time more ok
-last_more n time (r ∷ rows) more ok = last_more n r.time rows more ok.2
 
 module _ (header : Header) where
   abbrev pub Rows : List Row → Type 0
@@ -61,7 +55,7 @@ module _ (header : Header) where
   last_goes_on tr ended [] is trace c = absurd is.rows
   last_goes_on tr ended (r ∷ rows) is trace c =
       let all : AreRows (length tr.header.columns) (r ∷ rows ++ c.more) = subst (AreRows (length tr.header.columns)) c.begins trace.rows in
-      let le = last_more (length tr.header.columns) r.time rows c.more all.1 in
+      let le = last_grows (length tr.header.columns) r.time rows c.more all.1 in
       let same : last_time 0 tr.rows ≡ last_time r.time (rows ++ c.more) = ap (last_time 0) c.begins in
       omega (arith, le, same)
 
@@ -86,7 +80,7 @@ shown_is p ended (r ∷ rows) g e = by_test (int_lt (front_at ended (pos (last_t
     by_test true h e = absurd (let f = e in cc)
     by_test false h e =
         let le = int_order (front_at ended (pos (last_time r.time rows)) p) (pos r.time) false h in
-        (e, subst (λ x. pos r.time ≤ℤ x) (some_is e) le)
+        (e, subst (λ x. pos r.time ≤ℤ x) (same_Some _ _ e) le)
 
 -- a number that is not below the start is shown
 pub number_shown : (p : Subformula) (ended : Bool) (rows : List Row) (g : ℤ) → number_by ended p rows ≡ Some g
@@ -95,7 +89,7 @@ number_shown p ended [] g e le = absurd (let f = e in cc)
 number_shown p ended (r ∷ rows) g e le = by_test (int_lt (front_at ended (pos (last_time r.time rows)) p) (pos r.time)) refl
   where
     same : front_at ended (pos (last_time r.time rows)) p ≡ g
-    same = some_is e
+    same = same_Some _ _ e
 
     by_test : (t : Bool) → int_lt (front_at ended (pos (last_time r.time rows)) p) (pos r.time) ≡ t
         → cond (int_lt (front_at ended (pos (last_time r.time rows)) p) (pos r.time)) None (Some (front_at ended (pos (last_time r.time rows)) p)) ≡ Some g
@@ -111,7 +105,7 @@ number_hidden p ended [] g e lt = refl
 number_hidden p ended (r ∷ rows) g e lt = by_test (int_lt (front_at ended (pos (last_time r.time rows)) p) (pos r.time)) refl
   where
     same : front_at ended (pos (last_time r.time rows)) p ≡ g
-    same = some_is e
+    same = same_Some _ _ e
 
     by_test : (t : Bool) → int_lt (front_at ended (pos (last_time r.time rows)) p) (pos r.time) ≡ t
         → cond (int_lt (front_at ended (pos (last_time r.time rows)) p) (pos r.time)) None (Some (front_at ended (pos (last_time r.time rows)) p)) ≡ None
@@ -130,15 +124,15 @@ module _ (header : Header) (p : Subformula) where
   rises_row [] r is g e = absurd (let f = e in cc)
   rises_row (q ∷ rows) r is g e =
       let lt = last_below header q rows r is in
-      let last : last_time q.time (rows ++ r ∷ []) ≡ r.time = last_appended q.time rows r in (
-        subst (λ x. x ≤ℤ front_at false (pos (last_time q.time (rows ++ r ∷ []))) p) (some_is e)
+      let last : last_time q.time (rows ++ r ∷ []) ≡ r.time = last_time-push q.time rows r in (
+        subst (λ x. x ≤ℤ front_at false (pos (last_time q.time (rows ++ r ∷ []))) p) (same_Some _ _ e)
             (front_rises p (last_time q.time rows) (last_time q.time (rows ++ r ∷ [])) (omega (arith, lt, last))),
         refl,
       )
 
   rises_end : (rows : List Row) → Rises (record { rows = rows; ended = false }) (record { rows = rows; ended = true })
   rises_end [] is g e = absurd (let f = e in cc)
-  rises_end (q ∷ rows) is g e = (subst (λ x. x ≤ℤ front_at true (pos (last_time q.time rows)) p) (some_is e) (front_ends p (last_time q.time rows)), refl)
+  rises_end (q ∷ rows) is g e = (subst (λ x. x ≤ℤ front_at true (pos (last_time q.time rows)) p) (same_Some _ _ e) (front_ends p (last_time q.time rows)), refl)
 
   -- a number only rises
   pub number_rises : (old new : Past) → IsNext old new → Rises old new

@@ -4,13 +4,14 @@ use Rattle.std.proofs.Common.{ap, subst, ◌∙◌, drop, slice_get, arith}
 use Rattle.std.proofs.lemmas.Bool.{cases_lt}
 use Rattle.std.specs.Prelude.{IfSome}
 use Rattle.rational.specs.Time.{Rational, ◌≤ʳ◌}
+use Rattle.rational.proofs.Lists.{slice_get-drop}
 use Rattle.frac128.specs.Value.{value}
 use Rattle.online_robust.specs.Held.{Held, held_at}
 use Rattle.online_robust.specs.Lines.{end_of}
 use Rattle.online_robust.specs.Windows.{Sheds}
 use Rattle.online_robust.specs.declared.line.MarginLine.{MarginLine}
 use Rattle.online_nodes.proofs.DroppingLemmas.{drop-drop}
-use Rattle.online_robust.proofs.Losses.{ended_later, slice_get-drop_at}
+use Rattle.online_robust.proofs.Losses.{ended_later}
 
 -- what is shed by a limit is shed by a later one
 pub sheds_later : (l m : Rational) (i : ℕ) (x y : Held) → l ≤ʳ m → Sheds l i x y → Sheds m i x y
@@ -42,7 +43,7 @@ sheds_both limit i x y z h k = record {
         let place : h.count + (n - h.count) ≡ n = omega (arith, above) in
         let within : n - h.count < k.count = omega (arith, above, all) in
         subst (λ o. IfSome o (λ v. value (end_of v) ≤ʳ limit))
-        (ap (λ (l : List MarginLine). slice_get l (n - h.count)) h.is ∙ slice_get-drop_at h.count (n - h.count) (held_at x i)
+        (ap (λ (l : List MarginLine). slice_get l (n - h.count)) h.is ∙ slice_get-drop h.count (held_at x i) (n - h.count)
         ∙ ap (slice_get (held_at x i)) place)
         (k.ended (n - h.count) within)
 

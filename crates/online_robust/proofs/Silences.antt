@@ -3,14 +3,16 @@ use Rattle.std.proofs.Common.{◌≡◌, ◌⊎◌, inl, inr, ℕ, ◌+◌, Bool
 use Rattle.std.proofs.Common.{refl, sym, ap, subst, ◌∙◌, arith, Option, Some, None, ℤ, pos, ◌+ℤ◌, ◌<ℤ◌, ◌≤ℤ◌}
 use Rattle.std.specs.Prelude.{int_lt, cond, slice_get}
 use Rattle.std.proofs.lemmas.Int.{ints}
+use Rattle.std.proofs.lemmas.Option.{same_Some}
 use Rattle.rational.specs.Time.{Rational, Precedes, shifted, whole, ◌≈◌, ◌≤ʳ◌, ◌<ʳ◌}
 use Rattle.rational.specs.Extended.{Extended, minus_infinity, infinity, ◌≈ᵉ◌}
 use Rattle.rational.proofs.Order.{le_trans, le_of_lt, le_of_same, ge_of_same, lt_of_le_of_lt, not_lt_of_le, same_refl, same_trans}
 use Rattle.rational.proofs.Shift.{le_whole, lt_whole}
+use Rattle.rational.proofs.Lists.{empty_of_none, drop_none}
+use Rattle.rational.proofs.Tests.{int_order}
 use Rattle.frac128.specs.Value.{value}
 use Rattle.value_laws.specs.declared.margin.Margin.{Margin}
 use Rattle.pl_signal.specs.declared.knot.Knot.{Knot}
-use Rattle.pl_signal.proofs.Values.{some_is}
 use Rattle.window_ops.specs.Over.{IsBestOver}
 use Rattle.window_ops.proofs.Ends.{le_shifted}
 use Rattle.stl_syntax.specs.Trace.{start, stop}
@@ -20,7 +22,6 @@ use Rattle.stl_syntax.specs.SupInf.{Robustness}
 use Rattle.online_nodes.specs.Network.{reach_back}
 use Rattle.online_nodes.specs.Needed.{IsReader}
 use Rattle.online_nodes.specs.StreamedWide.{front_at}
-use Rattle.online_nodes.proofs.RunLaw.{int_order}
 use Rattle.online_robust.specs.Held.{Edge, Held, edge_at, held_at, held_of}
 use Rattle.online_robust.specs.ReadLines.{HasReached, IsStretch, LosesAt}
 use Rattle.online_robust.specs.Glances.{unseen, CanGlance, Glance, HasGlanced, IsGlanceAt, IsOffset, IsOwnOffset, glance_of, nothing_of}
@@ -37,12 +38,10 @@ use Rattle.online_robust.specs.declared.window.Window.{Window}
 use Rattle.online_robust.proofs.Bridging.{from_none, from_some, input_within, last_to, span_from, tick_of}
 use Rattle.online_robust.proofs.Builts.{tick_between}
 use Rattle.online_robust.proofs.DroppingLemmas.{held_of-without}
-use Rattle.online_robust.proofs.EdgesLemmas.{empty_of_none}
 use Rattle.online_robust.proofs.Instants.{best_of_none}
 use Rattle.online_robust.proofs.Looking.{front_by_stop, looks_before, one_swept, shifted_whole, told_as_far}
 use Rattle.online_robust.proofs.LowLemmas.{sheds_of}
 use Rattle.online_robust.proofs.Robustly.{robust_is_function}
-use Rattle.online_robust.proofs.Rests.{drop_none}
 
 -- where two are nothing the first is
 first_none : (xs ys : List MarginLine) → xs ++ ys ≡ [] → xs ≡ []
@@ -144,7 +143,7 @@ module _ (t : Step) (op : Operator) (e : Held) (to : ℕ) (b : Belongs t op e to
         by_before (Some g) is (Some r) (q, kept, reached) = (
           silent_at (Some r) (value r.at),
           subst (λ (s : Rational). HasReached (silent_margin w.side) most s (Some r)) (sym (from_some t op e to b g is))
-              (subst (λ (y : Reached). HasReached (silent_margin w.side) most (whole g) (Some y)) (sym (some_is kept)) reached),
+              (subst (λ (y : Reached). HasReached (silent_margin w.side) most (whole g) (Some y)) (sym (same_Some _ _ kept)) reached),
         )
 
     -- a window whose input is silent may tell of no times

@@ -1,13 +1,14 @@
 -- A network stands for a past: a new one for no rows, and one that took a row, or the end, for the past with it.
 use Rattle.std.proofs.Common.{◌≡◌, ◌≢◌, ◌⊎◌, inl, inr, ℕ, ℤ, suc, zero, ◌-◌, ◌^◌, ◌<◌, ◌≤◌, true, false, List, [], ◌∷◌, ◌++◌}
 use Rattle.std.proofs.Common.{length, drop, refl, sym, ap, subst, ◌∙◌, arith, append-nil, Option, Some, None, get_or}
-use Rattle.std.specs.Prelude.{◌==◌, Bool, IfSome, map, option_map, replicate, slice_get}
-use Rattle.std.proofs.lemmas.Bool.{eq-eqb, false≢true}
+use Rattle.std.specs.Prelude.{Bool, IfSome, map, option_map, replicate, slice_get}
+use Rattle.std.proofs.lemmas.Bool.{false≢true, cases_eq}
 use Rattle.stl_syntax.specs.Trace.{AreRowsAfter, Header, Row, IsTrace, first_time, last_time}
 use Rattle.stl_syntax.specs.Formula.{Formula, subformula}
 use Rattle.stl_syntax.specs.WellFormed.{IsWellFormed}
 use Rattle.stl_syntax.specs.declared.node.Node.{Node}
 use Rattle.stl_syntax.specs.declared.node.Node.TheVariants.{Const, Atom as Leaf, Not, And, Or, Implies, Until, Eventually, Always, Since, Once, Historically}
+use Rattle.stl_syntax.proofs.RowsLemmas.{last_time-push}
 use Rattle.atom_lines.specs.Binding.{Binding, IsBound}
 use Rattle.online_nodes.specs.MarginEdges.{AreEmittedParts, IsMarginEdge, IsMarginRootEdge}
 use Rattle.online_nodes.specs.Network.{reach_back}
@@ -26,6 +27,7 @@ use Rattle.online_robust.specs.declared.net.RobustFault.{RobustFault}
 use Rattle.online_robust.specs.declared.net.RobustFault.TheVariants.{Wide, Stopped, Closed, Memory}
 use Rattle.rational.specs.Rational.{Rational, IsWithin}
 use Rattle.rational.proofs.Order.{le_trans}
+use Rattle.rational.proofs.Lists.{drop_none}
 use Rattle.frac128.specs.Value.{value}
 use Rattle.online_robust.specs.Told.{IsTick}
 use Rattle.online_robust.specs.declared.line.MarginLine.{MarginLine}
@@ -33,9 +35,7 @@ use Rattle.online_robust.specs.declared.line.MarginLine.TheVariants.{Point, Gap}
 use Rattle.online_robust.specs.declared.station.Station.{Station}
 use Rattle.online_robust.specs.declared.station.Work.{Work}
 use Rattle.online_robust.specs.declared.station.Work.TheVariants as W
-use Rattle.online_robust.proofs.Emitting.{last_appended}
 use Rattle.online_robust.proofs.EdgeTouches.{margin_edge}
-use Rattle.online_robust.proofs.Rests.{drop_none}
 use Rattle.online_robust.proofs.Taking.{first_and_rest, held_none, line_timely, line_told, shows_next, shows_none, shows_same}
 
 -- ---- a new network
@@ -161,14 +161,6 @@ length_map : (xs : List MarginLine) → length xs ≡ length (map part_of xs)
 length_map [] = refl
 length_map (x ∷ xs) = ap suc (length_map xs)
 
--- two numbers are one, or they are not
-same_or_not : (p j : ℕ) → (p ≡ j) ⊎ (p ≢ j)
-same_or_not p j = by_test (p == j) refl
-  where
-    by_test : (t : Bool) → (p == j) ≡ t → (p ≡ j) ⊎ (p ≢ j)
-    by_test true e = inl (grind (arith, e))
-    by_test false e = inr (λ x. absurd (let y = eq-eqb p j x in cc))
-
 -- no parts are those of no lines
 no_lines : (lines : List MarginLine) → map part_of lines ≡ [] → lines ≡ []
 no_lines [] e = refl
@@ -260,7 +252,7 @@ module _ (nodes : List Node) (header : Header) (net : Parts) (past : Past) (give
         next = (sym keeps.closed ∙ fits.opened, inl (r, refl));
         start = begun_start;
         trace = rows_more header past.rows r keeps.rows (subst (λ o. IfSome o (λ q. q.time < r.time)) keeps.last fits.later) (fits.width ∙ keeps.bound.width);
-        small = let last = last_appended 0 past.rows r in omega (arith, last, fits.small);
+        small = let last = last_time-push 0 past.rows r in omega (arith, last, fits.small);
         shows =
             shows_same nodes header keeps.streamed (λ j. past) given given net.edges
             (begun net.edges net.last r.time) net.stations stands.shows refl (begun_edges net.last);
@@ -444,7 +436,7 @@ module _ (nodes : List Node) (header : Header) (net : Parts) (past : Past) (give
 
   -- before the first row an edge holds nothing
   nothing_held : (i : ℕ) → i < length nodes → past.rows ≡ [] → held_at net.edges i ≡ []
-  nothing_held i within none = by_place (same_or_not i last_node)
+  nothing_held i within none = by_place (cases_eq i last_node)
     where
       by_place : (i ≡ last_node) ⊎ (i ≢ last_node) → held_at net.edges i ≡ []
       by_place (inl same) = ap (held_at net.edges) same ∙ none_after given (held_at net.edges last_node)

@@ -6,11 +6,11 @@ use Rattle.std.proofs.lemmas.Int.{ints}
 use Rattle.std.proofs.lemmas.Bool.{false≢true}
 use Rattle.pl_signal.specs.declared.knot.Knot.{Knot}
 use Rattle.pl_signal.specs.declared.faults.OpFault.{OpFault}
-use Rattle.pl_signal.proofs.Values.{some_is}
 use Rattle.value_laws.specs.declared.margin.Margin.{Margin}
 use Rattle.stl_syntax.specs.Trace.{AreRows, AreRowsAfter, Row, IsTrace, first_time, last_time}
 use Rattle.stl_syntax.specs.Formula.{Subformula, constant, atom, subformula, horizon}
 use Rattle.stl_syntax.specs.declared.node.Node.TheVariants.{Const, Atom as Leaf}
+use Rattle.stl_syntax.proofs.RowsLemmas.{last_time-push}
 use Rattle.atom_lines.specs.Binding.{Binding, IsAtomNode}
 use Rattle.online_nodes.specs.Needed.{IsReader}
 use Rattle.online_nodes.specs.StreamedWide.{front_at}
@@ -24,14 +24,13 @@ use Rattle.online_robust.specs.declared.operator.Operator.{Operator}
 use Rattle.online_robust.specs.declared.station.Station.{Station}
 use Rattle.online_robust.specs.declared.station.Work.{Work}
 use Rattle.online_robust.specs.declared.station.Work.TheVariants as W
-use Rattle.online_robust.proofs.Emitting.{last_appended}
 use Rattle.online_robust.proofs.Going.{belongs, belongs_now, has_moved}
 use Rattle.online_robust.proofs.Idling.{both_hidden, idle_moved, idle_noted, idle_there, same_number}
 use Rattle.online_robust.proofs.Leaves.{IsLeafAt}
 use Rattle.online_robust.proofs.LeafMoved.{atom_leaf, constant_leaf, leaf_moved}
 use Rattle.online_robust.proofs.Readers.{tree_at_node}
 use Rattle.online_robust.proofs.RowFacts.{number_here, number_hidden, number_rises, number_shown}
-use Rattle.std.proofs.lemmas.Option.{slice_get_within}
+use Rattle.std.proofs.lemmas.Option.{slice_get_within, same_Some}
 
 -- ---- an operator gives out
 
@@ -90,7 +89,7 @@ module _ (m : Move) (node : ℕ) (op : Operator) (e : Held) (number : ℤ) (g : 
   -- the node's number is small
   pub go_small : number ≤ℤ pos 4294967295
   go_small =
-      let is : number ≡ front_at m.new.ended (pos (last_time 0 m.new.rows)) p = some_is (sym g.2 ∙ number_here m.header p m.new.ended m.new.rows can.trace) in
+      let is : number ≡ front_at m.new.ended (pos (last_time 0 m.new.rows)) p = same_Some _ _ (sym g.2 ∙ number_here m.header p m.new.ended m.new.rows can.trace) in
       subst (λ x. x ≤ℤ pos 4294967295) (sym is) (low m.new.ended)
     where
       low : (b : Bool) → front_at b (pos (last_time 0 m.new.rows)) p ≤ℤ pos 4294967295
@@ -98,7 +97,7 @@ module _ (m : Move) (node : ℕ) (op : Operator) (e : Held) (number : ℤ) (g : 
       low false = let small = can.small in omega (arith, ints, small)
 
   start_is : (start : ℕ) → e.start ≡ Some start → start ≡ first_time m.new.rows
-  start_is start is = some_is (sym is ∙ can.start)
+  start_is start is = same_Some _ _ (sym is ∙ can.start)
 
   was_number : number_at e node ≡ number_of m.nodes m.old m.place
   was_number = ap (number_at e) (sym g.0) ∙ can.number
@@ -190,7 +189,7 @@ module _ (m : Move) (node : ℕ) (st : Station) (e : Held) (b : Binding) (before
       ap (λ (q : Past). number_by q.ended (subformula m.nodes m.place) q.rows) g.3.new
       ∙ number_here m.header (subformula m.nodes m.place) false (m.old.rows ++ r ∷ [])
       (subst (λ (q : Past). IsTrace (trace_of m.header q)) g.3.new can_row.trace)
-      ∙ ap (λ n. Some (pos n -ℤ pos (horizon (subformula m.nodes m.place)))) (last_appended 0 m.old.rows r)
+      ∙ ap (λ n. Some (pos n -ℤ pos (horizon (subformula m.nodes m.place)))) (last_time-push 0 m.old.rows r)
       ∙ ap (λ h. Some (pos r.time -ℤ pos h)) (sym g.2)
 
   -- an operator
@@ -207,7 +206,7 @@ module _ (m : Move) (node : ℕ) (st : Station) (e : Held) (b : Binding) (before
       subst (HasMoved m (W.Const c) e) (sym (same ∙ ap (λ k. record e' { edges = with_edge e' k (with_number (edge_at e' k) (pos r.time)) }) (sym g.0)))
       (leaf_moved m (W.Const c) e can b before r g.3 (constant_margin c) (constant_margin c)
       (subst (λ p. IsLeafAt p m.header m.old.rows before r (constant_margin c) (constant_margin c)) (sym tree) (constant_leaf c m.header m.old.rows before r))
-      (λ n at side j reads. subst (λ k. IsReader k side j) (some_is (sym at ∙ found)) reads) (λ n old new seen seen' h. h) e'
+      (λ n at side j reads. subst (λ k. IsReader k side j) (same_Some _ _ (sym at ∙ found)) reads) (λ n old new seen seen' h. h) e'
       (subst (λ k. HasPutRow k before r (constant_margin c) (constant_margin c) e e') (sym g.0) put))
 
   -- an atom
@@ -234,7 +233,7 @@ module _ (m : Move) (node : ℕ) (st : Station) (e : Held) (b : Binding) (before
       subst (HasMoved m W.Atom e) (sym (same ∙ ap (λ k. record e' { edges = with_edge e' k (with_number (edge_at e' k) (pos r.time)) }) (sym g.0)))
       (leaf_moved m W.Atom e can b before r g.3 piece v
       (subst (λ p. IsLeafAt p m.header m.old.rows before r piece v) (sym tree) leaf)
-      (λ n at side j reads. subst (λ k. IsReader k side j) (some_is (sym at ∙ found)) reads) (λ n old new seen seen' h. h) e'
+      (λ n at side j reads. subst (λ k. IsReader k side j) (same_Some _ _ (sym at ∙ found)) reads) (λ n old new seen seen' h. h) e'
       (subst (λ k. HasPutRow k before r piece v e e') (sym g.0) put))
 
 -- ---- a node goes on by the end

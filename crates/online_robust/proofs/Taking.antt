@@ -5,8 +5,8 @@ use Rattle.std.proofs.Common.{ℤ, pos, set, take, get_or, get_or-set_same, get_
 use Rattle.std.specs.Prelude.{MatchBool, int_lt, slice_get}
 use Rattle.std.proofs.lemmas.Bool.{cases_eq}
 use Rattle.std.proofs.lemmas.List.{set-get_or}
+use Rattle.std.proofs.lemmas.Option.{same_Some}
 use Rattle.rational.specs.Windows.{Function}
-use Rattle.pl_signal.proofs.Values.{some_is}
 use Rattle.stl_syntax.specs.Trace.{Header, Row, Trace, IsTrace, Continues, last_time}
 use Rattle.stl_syntax.specs.Formula.{subformula}
 use Rattle.stl_syntax.specs.SupInf.{Robustness}
@@ -31,7 +31,7 @@ use Rattle.online_robust.proofs.Readers.{seen_same}
 -- the first of a list, and the rest
 pub first_and_rest : (xs : List MarginLine) (line : MarginLine) → slice_get xs 0 ≡ Some line → line ∷ drop 1 xs ≡ xs
 first_and_rest [] line h = absurd (let f = h in cc)
-first_and_rest (x ∷ xs) line h = let same : x ≡ line = some_is h in ap (λ y. y ∷ xs) (sym same)
+first_and_rest (x ∷ xs) line h = let same : x ≡ line = same_Some _ _ h in ap (λ y. y ∷ xs) (sym same)
 
 abbrev edge_of_parts : List MarginLine → List MarginLine → Option ℤ → Edge
 edge_of_parts seen fresh number = record { seen = seen; fresh = fresh; number = number }

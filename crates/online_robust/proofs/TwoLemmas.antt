@@ -1,5 +1,5 @@
 -- How a connective goes through its inputs.
-use Rattle.std.proofs.Common.{◌≡◌, ◌⊎◌, inl, inr, ℕ, ◌+◌, ◌<◌, ◌≤◌, ◌^◌, true, false, List, Some, None, sym, ap, subst, ◌∙◌, length, drop, slice_get, arith}
+use Rattle.std.proofs.Common.{◌≡◌, ◌⊎◌, inl, inr, ℕ, ◌+◌, ◌<◌, ◌≤◌, ◌^◌, List, Some, None, sym, ap, subst, ◌∙◌, length, drop, slice_get, arith}
 use Rattle.std.specs.Prelude.{Bool, IsTrue, if◌then◌else◌}
 use Rattle.rational.specs.Rational.{middle}
 use Rattle.rational.specs.Time.{Rational, less, ◌≈◌, ◌≤ʳ◌, ◌<ʳ◌}
@@ -13,6 +13,7 @@ use Rattle.rational.proofs.Bounds.{level_bounded}
 use Rattle.rational.proofs.Sames.{symᵉ}
 use Rattle.rational.proofs.TimeFunctions.{IsFunction}
 use Rattle.rational.proofs.TimeLemmas.{less_in, less_no}
+use Rattle.rational.proofs.Tests.{one_at_most}
 use Rattle.frac128.specs.Value.{value}
 use Rattle.frac128.specs.declared.frac.Frac.{Frac}
 use Rattle.value_laws.specs.Kinds.{margin_shape}
@@ -93,10 +94,6 @@ stop_of at p q {u} {v} {i} {t} {to} is_u is_v later_p later_q more first second 
     which (inl e) (inr f) = inr (inl (subst (λ (z : Rational). value (end_of q) ≈ z) (sym (e ∙ f)) (subst (λ (g : Frac). value (end_of q) ≈ value g) (sym is_v)
         (same_refl (value (end_of q))))))
 
-most_one : (b : Bool) → (if b then 1 else 0) ≤ 1
-most_one true = omega arith
-most_one false = omega arith
-
 -- a turn fewer is left
 pub turn_nearer : (l m r s : ℕ) (at t to : Rational) → at <ʳ to → m ≤ l → s ≤ r → (m < l) ⊎ (s < r) ⊎ (to ≤ʳ t)
     → m + s + (if less t to then 1 else 0) < l + r + (if less at to then 1 else 0)
@@ -106,8 +103,8 @@ turn_nearer l m r s at t to more m_l s_r one = by_one one
     now = ap (λ (b : Bool). if b then 1 else 0) (less_in at to more)
 
     by_one : (m < l) ⊎ (s < r) ⊎ (to ≤ʳ t) → m + s + (if less t to then 1 else 0) < l + r + (if less at to then 1 else 0)
-    by_one (inl h) = omega (arith, now, most_one (less t to), h, m_l, s_r)
-    by_one (inr (inl h)) = omega (arith, now, most_one (less t to), h, m_l, s_r)
+    by_one (inl h) = omega (arith, now, one_at_most (less t to), h, m_l, s_r)
+    by_one (inr (inl h)) = omega (arith, now, one_at_most (less t to), h, m_l, s_r)
     by_one (inr (inr h)) =
         let none : ◌≡◌ {A = ℕ} (if less t to then 1 else 0) 0 = ap (λ (b : Bool). if b then 1 else 0) (less_no t to h) in
         omega (arith, now, none, m_l, s_r)

@@ -3,10 +3,10 @@ use Rattle.std.proofs.Common.{◌≡◌, ℕ, ◌+◌, List, []}
 use Rattle.std.proofs.Common.{sym, ap, subst, ◌∙◌, arith, Option, Some, None, pos, ◌+ℤ◌, ◌<ℤ◌, ◌≤ℤ◌}
 use Rattle.std.specs.Prelude.{MatchOption, IsSome, slice_get}
 use Rattle.std.proofs.lemmas.Int.{ints}
+use Rattle.std.proofs.lemmas.Option.{same_Some}
 use Rattle.rational.specs.Time.{Rational, shifted, whole, ◌≈◌}
 use Rattle.value_laws.specs.declared.margin.Margin.{Margin}
 use Rattle.pl_signal.specs.declared.knot.Knot.{Knot}
-use Rattle.pl_signal.proofs.Values.{some_is}
 use Rattle.stl_syntax.specs.Formula.{subformula}
 use Rattle.stl_syntax.specs.declared.node.Node.{Node}
 use Rattle.online_nodes.specs.StreamedWide.{front_at}
@@ -80,7 +80,7 @@ module _ (t : Step) (z : Lazy) (e : Held) (to : ℕ) (b : Belongs t (Op.Sweep z)
         → HasReached (glance_of silence z.silent) (reach_before t + own t z e to b) end z'.silent.last
         → LosesAt (shifted end z.silent.by) z.silent.of e e' → StandsNow t (Op.Sweep z') e' to
     wait_stands z' e' kept silent_kept some given lost node found =
-        subst (λ (k : Node). Stands k t.nodes t.place t.trace (Some (pos to)) (Op.Sweep z') (seen_by k e')) (some_is (sym b.at ∙ found)) (
+        subst (λ (k : Node). Stands k t.nodes t.place t.trace (Some (pos to)) (Op.Sweep z') (seen_by k e')) (same_Some _ _ (sym b.at ∙ found)) (
           subst (λ (v : Window). IsWindowOf b.node v) (sym window) b.stands.0,
           subst (λ (v : Window). v.low <ℤ v.high) (sym window) b.stands.1,
           subst (λ (o : Option Sweep). MatchOption o ((seen_by b.node e' ≡ []) × HasWaited z' (begin_of t) (reach_before t + own t z e to b) (Some (pos to)))

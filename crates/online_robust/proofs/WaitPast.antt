@@ -4,11 +4,11 @@ use Rattle.std.proofs.Common.{◌≡◌, ℕ, ◌+◌, List, []}
 use Rattle.std.proofs.Common.{sym, ap, subst, ◌∙◌, arith, Option, Some, None, pos, ◌+ℤ◌, ◌<ℤ◌, ◌≤ℤ◌}
 use Rattle.std.specs.Prelude.{MatchOption, IsSome, slice_get}
 use Rattle.std.proofs.lemmas.Int.{ints}
+use Rattle.std.proofs.lemmas.Option.{same_Some}
 use Rattle.rational.specs.Time.{Rational, shifted, whole, ◌≈◌}
 use Rattle.rational.proofs.Order.{le_trans, le_of_same}
 use Rattle.value_laws.specs.declared.margin.Margin.{Margin}
 use Rattle.pl_signal.specs.declared.knot.Knot.{Knot}
-use Rattle.pl_signal.proofs.Values.{some_is}
 use Rattle.stl_syntax.specs.Formula.{subformula}
 use Rattle.stl_syntax.specs.declared.node.Node.{Node}
 use Rattle.online_nodes.specs.StreamedWide.{front_at}
@@ -81,7 +81,7 @@ module _ (t : Step) (z : Endless) (e : Held) (to : ℕ) (b : Belongs t (Op.Ever 
         → HasReached (glance_of silence z.silent) (reach_before t + own t z e to b) end z'.silent.last
         → LosesAt (shifted end z.silent.by) z.silent.of e e' → StandsNow t (Op.Ever z') e' to
     wait_stands z' e' kept silent_kept some given lost node found =
-        subst (λ (k : Node). Stands k t.nodes t.place t.trace (Some (pos to)) (Op.Ever z') (seen_by k e')) (some_is (sym b.at ∙ found)) (
+        subst (λ (k : Node). Stands k t.nodes t.place t.trace (Some (pos to)) (Op.Ever z') (seen_by k e')) (same_Some _ _ (sym b.at ∙ found)) (
           subst (λ (v : Window). IsPastOf b.node v) (sym window) b.stands.0,
           subst (λ (o : Option Ever). MatchOption o ((seen_by b.node e' ≡ []) × HasWaitedPast z' (begin_of t) (reach_before t + own t z e to b) (Some (pos to)))
               (λ s. (s.window ≡ z'.window) × HasPassedTo t.nodes t.place t.trace z'.window.of (own t z e to b) s (seen_by b.node e') (pos to)))

@@ -11,13 +11,13 @@ use Rattle.rational.proofs.Order.{ge_of_same, le_of_lt, le_of_same, le_refl, le_
 use Rattle.rational.proofs.Order.{lt_of_lt_of_le, not_lt_of_le, same_refl, same_sym, same_trans}
 use Rattle.rational.proofs.Mixed.{parts, within_same}
 use Rattle.rational.proofs.Shift.{le_whole, lt_whole}
-use Rattle.rational.proofs.TimeLemmas.{same_shifted}
+use Rattle.rational.proofs.TimeLemmas.{same_shifted, lt_offsets}
+use Rattle.rational.proofs.Tests.{int_order}
 use Rattle.frac128.specs.Value.{value}
 use Rattle.frac128.specs.declared.frac.Frac.{Frac}
 use Rattle.value_laws.specs.declared.margin.Margin.{Margin}
 use Rattle.stl_syntax.specs.SupInf.{Robustness}
 use Rattle.stl_syntax.specs.Trace.{first_time, start, stop}
-use Rattle.online_nodes.proofs.RunLaw.{int_order}
 use Rattle.window_ops.proofs.Ends.{le_shifted}
 use Rattle.online_robust.specs.Held.{Held, edge_at, fresh_at, held_at}
 use Rattle.online_robust.specs.Lines.{end_of}
@@ -36,7 +36,6 @@ use Rattle.online_robust.specs.declared.line.Reached.{Reached}
 use Rattle.online_robust.specs.declared.window.Sweep.{Sweep}
 use Rattle.online_robust.specs.declared.window.Window.{Window}
 use Rattle.online_robust.proofs.Builts.{tick_within}
-use Rattle.online_robust.proofs.WindowPoints.{in_order}
 use Rattle.online_robust.proofs.WindowFirst.{CanTurn, Turn, first_spread, scope_in, spread_told, told_or_ended, turn_span}
 
 -- the lines go on with the point at the end of a gap
@@ -301,7 +300,7 @@ can_begin turn s e k can nil fit first_tick order = record {
   behind = refl;
   within = at_within;
   low_before = subst (λ (g : Rim). IsBefore (shifted (value s.place.at) s.window.low) g.until) (sym k.low)
-      (lt_of_lt_of_le (in_order (value s.place.at) s.window.low s.window.high fit.order) high_early);
+      (lt_of_lt_of_le (lt_offsets (value s.place.at) s.window.low s.window.high fit.order) high_early);
   last = subst (λ (o : Option Reached). HasTold (scope_in turn s.window (value s.place.at)) turn.own (start turn.trace) s.window o) (sym k.told.1)
       (same_refl (start turn.trace), early);
   span = turn_span (value s.place.at) (start turn.trace) can fit.order first_tick (le_refl (start turn.trace)) order;

@@ -3,11 +3,13 @@ use Rattle.std.proofs.Common.{◌≡◌, ◌⊎◌, inl, inr, ℕ, ◌+◌, ◌<
 use Rattle.std.proofs.Common.{sym, ap, subst, ◌∙◌, arith, Option, Some, None, ℤ, pos, ◌+ℤ◌, ◌<ℤ◌, ◌≤ℤ◌}
 use Rattle.std.specs.Prelude.{MatchOption, IsSomeAnd, int_lt}
 use Rattle.std.proofs.lemmas.Int.{ints}
+use Rattle.std.proofs.lemmas.Option.{same_Some}
 use Rattle.rational.specs.Time.{Rational, shifted, whole, ◌≈◌, ◌≤ʳ◌, ◌<ʳ◌}
 use Rattle.rational.specs.Extended.{Affine}
 use Rattle.rational.proofs.Order.{le_of_same}
 use Rattle.rational.proofs.Order.{lt_of_lt_of_le, same_refl, same_sym, same_trans}
 use Rattle.rational.proofs.Shift.{le_whole}
+use Rattle.rational.proofs.Events.{crossing_by, value_by}
 use Rattle.frac128.specs.Value.{value}
 use Rattle.value_laws.specs.Margins.{margin_function}
 use Rattle.value_laws.specs.declared.margin.Margin.{Margin}
@@ -15,7 +17,6 @@ use Rattle.pl_signal.specs.declared.knot.Knot.{Knot}
 use Rattle.pl_signal.specs.declared.faults.OpFault.{OpFault}
 use Rattle.pl_signal.specs.declared.faults.OpFault.TheVariants as Faults
 use Rattle.pl_signal.specs.declared.faults.WidePair.TheVariants.{Cross, Value}
-use Rattle.pl_signal.proofs.Values.{some_is}
 use Rattle.window_ops.proofs.Ends.{le_shifted}
 use Rattle.stl_syntax.specs.Trace.{start, stop}
 use Rattle.stl_syntax.specs.Formula.{Subformula, subformula, horizon, tree_of}
@@ -37,7 +38,7 @@ use Rattle.online_robust.specs.declared.operator.Operator.TheVariants as Op
 use Rattle.online_robust.specs.declared.window.Sweep.{Sweep}
 use Rattle.online_robust.specs.declared.window.Window.{Window}
 use Rattle.online_robust.proofs.BestWindows.{best_is, in_play_is, settled_is}
-use Rattle.online_robust.proofs.Bridging.{crossing_by, input_within, inputs_of, last_to, none_let_go, swept_of, tick_of, tree, value_by}
+use Rattle.online_robust.proofs.Bridging.{input_within, inputs_of, last_to, none_let_go, swept_of, tick_of, tree}
 use Rattle.online_robust.proofs.Looking.{begun_now, front_by_stop, one_swept, told_as_far}
 use Rattle.online_robust.proofs.Sheddings.{sheds_later}
 use Rattle.online_robust.proofs.WindowAgain.{cut_window, owned_of, span_same, stood_over}
@@ -224,7 +225,7 @@ module _ (t : Step) (z : Lazy) (e : Held) (to : ℕ) (b : Belongs t (Op.Sweep z)
         (λ r. (value r.at ≡ value s.place.at) × (value r.at ≈ end) × IsThere (best_of x old.window) (reach_before t + own) (value r.at) r.value)
         → z'.window ≡ z.window → z'.sweep ≡ Some s → StandsNow t (Op.Sweep z') e' to
     window_stands from old s z' e' can old_window s_window came begun last window is node found =
-        subst (λ (k : Node). Stands k t.nodes t.place t.trace (Some (pos to)) (Op.Sweep z') (seen_by k e')) (some_is (sym b.at ∙ found)) (
+        subst (λ (k : Node). Stands k t.nodes t.place t.trace (Some (pos to)) (Op.Sweep z') (seen_by k e')) (same_Some _ _ (sym b.at ∙ found)) (
           subst (IsWindowOf b.node) (sym window) b.stands.0,
           subst (λ (v : Window). v.low <ℤ v.high) (sym window) b.stands.1,
           subst (λ (o : Option Sweep). MatchOption o ((seen_by b.node e' ≡ []) × HasWaited z' (begin_of t) (reach_before t + own) (Some (pos to)))

@@ -8,6 +8,7 @@ use Rattle.rational.specs.Affine.{IsBounded}
 use Rattle.rational.proofs.AffineLemmas.{bounded_same}
 use Rattle.rational.proofs.Order.{le_of_lt, le_refl, le_trans, lt_of_le_of_lt}
 use Rattle.rational.proofs.Sames.{symᵉ, transᵉ}
+use Rattle.rational.proofs.TimeLemmas.{lt_offsets}
 use Rattle.value_laws.specs.Kinds.{margin_shape}
 use Rattle.value_laws.specs.Margins.{is_ramp, margin_function}
 use Rattle.value_laws.specs.declared.margin.Margin.{Margin}
@@ -27,7 +28,7 @@ use Rattle.online_robust.proofs.WindowLaw.{before_of, before_of_end, last_on_of,
 use Rattle.online_robust.proofs.WindowCauses.{constant_in_play, high_in_play, low_in_play, none_apart}
 use Rattle.online_robust.proofs.WindowBounds.{frozen_bounded, frozen_still, moved_more, none_bounded, shifted_bounded, shifted_moved, still_moved}
 use Rattle.online_robust.proofs.WindowFirst.{by_later, told_as}
-use Rattle.online_robust.proofs.WindowPoints.{before_apart, in_order}
+use Rattle.online_robust.proofs.WindowPoints.{before_apart}
 use Rattle.online_robust.proofs.WindowTurns.{IsSeen, outcome_is, seen_of, top_is}
 
 some_and : (P : Margin → Type 0) (o : Option Margin) → IsSomeAnd o P → (m : Margin) × (o ≡ Some m) × P m
@@ -112,7 +113,7 @@ module _ (x : Scope) (w : Window) (none : Margin) (low high : Rim) (a : Rational
       no_ramp true h = absurd (let z : false ≡ true = sym (still far) ∙ h refl in cc)
 
   order_at : shifted a w.low ≤ʳ shifted a w.high
-  order_at = le_of_lt (in_order a w.low w.high s.order)
+  order_at = le_of_lt (lt_offsets a w.low w.high s.order)
 
   module _ (best : Best Margin) (top : IsTopOf margin_function w.side none s.constants best.top) (lows : IsSomeAnd best.low (IsShifted low.shape w.low))
       (highs : IsSomeAnd best.high (IsShifted high.shape w.high)) where
@@ -132,7 +133,7 @@ module _ (x : Scope) (w : Window) (none : Margin) (low high : Rim) (a : Rational
           low_before = before_of low.until (lt_shifted w.low before) g.low;
           high_after = lt_shifted w.high after;
           high_before = up_to_of high.until (le_shifted w.high (le_of_lt before)) g.high;
-          order = in_order u w.low w.high s.order;
+          order = lt_offsets u w.low w.high s.order;
         }
 
     -- each that counts between here and there is bounded, and its base is moved by no more than the offsets
@@ -174,11 +175,11 @@ module _ (x : Scope) (w : Window) (none : Margin) (low high : Rim) (a : Rational
         by_kind (inr b) = absurd (none_apart w.side v
             (transᵉ (symᵉ is') (subst (λ (m : Margin). value_at (margin_function m) u ≈ᵉ none_of w.side minus_infinity infinity) (sym b.1) (s.none_value u))))
     plays p (inr (inl e')) u after before v is =
-        low_in_play x w.side w u (in_order u w.low w.high s.order) low s.from (low_on x w none low high (shifted a w.low) (shifted a w.high) s) p
+        low_in_play x w.side w u (lt_offsets u w.low w.high s.order) low s.from (low_on x w none low high (shifted a w.low) (shifted a w.high) s) p
         (subst (λ (o : Option Margin). IsSomeAnd o (IsShifted low.shape w.low)) e' lows) (lt_of_le_of_lt s.begun (lt_shifted w.low after))
         (before_of low.until (lt_shifted w.low before) g.low) v is
     plays p (inr (inr e')) u after before v is =
-        high_in_play x w.side w u (in_order u w.low w.high s.order) high (shifted a w.high)
+        high_in_play x w.side w u (lt_offsets u w.low w.high s.order) high (shifted a w.high)
         (high_on x w none low high (shifted a w.low) (shifted a w.high) s order_at) p
         (subst (λ (o : Option Margin). IsSomeAnd o (IsShifted high.shape w.high)) e' highs) (lt_shifted w.high after)
         (before_of high.until (lt_shifted w.high before) g.high) v is
@@ -225,7 +226,7 @@ module _ (x : Scope) (w : Window) (none : Margin) (low high : Rim) (a : Rational
             low_before = before';
             high_after = lt_shifted w.high later;
             high_before = g.high;
-            order = in_order t w.low w.high s.order;
+            order = lt_offsets t w.low w.high s.order;
           }
 
       -- what is told at the stop is bounded, and its base moved by no more than the offsets

@@ -15,8 +15,7 @@ use Rattle.rational.proofs.Order.{ge_of_same, le_of_lt, le_of_same, le_or_lt, le
 use Rattle.rational.proofs.Order.{lt_of_le_of_lt, lt_of_lt_of_le, lt_trans, not_lt_of_le, right_of_middle, same_of_le}
 use Rattle.rational.proofs.Order.{same_sym}
 use Rattle.rational.proofs.Sames.{symᵉ}
-use Rattle.rational.proofs.Shift.{le_shift_by}
-use Rattle.rational.proofs.TimeLemmas.{precedes_of_lt, shifted-add}
+use Rattle.rational.proofs.TimeLemmas.{precedes_of_lt, shifted-add, lt_offsets, le_ahead, behind_le}
 use Rattle.frac128.specs.Value.{value}
 use Rattle.frac128.specs.declared.frac.Frac.{Frac}
 use Rattle.value_laws.specs.Margins.{margin_function}
@@ -33,7 +32,6 @@ use Rattle.online_robust.specs.Windows.{closed}
 use Rattle.online_robust.specs.declared.ends.Rim.{Rim}
 use Rattle.online_robust.specs.declared.window.Window.{Window}
 use Rattle.online_robust.proofs.WindowCauses.{knot_in_play, knot_within}
-use Rattle.online_robust.proofs.WindowPoints.{in_order}
 
 -- two that meet at one time alone are finite there
 next_apart : (t : Rational) → later t 1 ≈ t → ⊥
@@ -50,14 +48,6 @@ meet_finite always_low always_high l r t m = absurd m.meet.at_least
 meet_finite always_high always_low l r t m = absurd m.meet.at_most
 meet_finite always_low always_low l r t m = absurd (next_apart t (m.alone (later t 1) (record { at_most = tt; at_least = tt })))
 meet_finite always_high always_high l r t m = absurd (next_apart t (m.alone (later t 1) (record { at_most = tt; at_least = tt })))
-
--- a time moved ahead is no earlier, and one moved back no later
-no_earlier : (t : Rational) (k : ℤ) → pos 0 ≤ℤ k → t ≤ʳ shifted t k
-no_earlier t k le = le_trans (record { le = omega arith }) (le_trans (le_shift_by {j = pos 0} {k = k} t le) (ge_of_same (shifted-add t k)))
-
--- a time moved behind is no later
-pub no_later : (t : Rational) (k : ℤ) → k ≤ℤ pos 0 → shifted t k ≤ʳ t
-no_later t k le = le_trans (le_of_same (shifted-add t k)) (le_trans (le_shift_by {j = k} {k = pos 0} t le) (record { le = omega arith }))
 
 -- a refused crossing
 pub unmet_fault : (x : Scope) (p : Rational) (w : Window) (to from : Rational) → p ≤ʳ from → start x.trace ≤ʳ p → to ≤ʳ stop x.trace → (f : OpFault Margin)
@@ -146,7 +136,7 @@ module _ (x : Scope) (own : ℕ) (from to : Rational) (w : Window) (span : IsSpa
       -- the time is after the start
       from_start : start x.trace ≤ʳ p → IsWindowFault x w to (F.Wide (Value q a den))
       from_start begun =
-          let c = earlier_end by (leaves_after (lt_of_lt_of_le (in_order p w.low w.high span.offsets) (ge_of_same h.here))) in
+          let c = earlier_end by (leaves_after (lt_of_lt_of_le (lt_offsets p w.low w.high span.offsets) (ge_of_same h.here))) in
           let tau = middle p c.0 in
           let after : p <ʳ tau = left_of_middle c.1 in
           let before : tau <ʳ c.0 = right_of_middle c.1 in
@@ -170,10 +160,10 @@ module _ (x : Scope) (own : ℕ) (from to : Rational) (w : Window) (span : IsSpa
             where
               by_side : (pos 0 ≤ℤ w.low) ⊎ (w.high ≤ℤ pos 0) → pos 0 ≤ℤ w.low
               by_side (inl k) = k
-              by_side (inr k) = absurd (not_lt_of_le inside.above (lt_of_le_of_lt (le_trans (le_of_same h.here) (no_later p w.high k)) early))
+              by_side (inr k) = absurd (not_lt_of_le inside.above (lt_of_le_of_lt (le_trans (le_of_same h.here) (behind_le p w.high k)) early))
 
           after_start : start x.trace <ʳ u
-          after_start = lt_of_le_of_lt (no_earlier (start x.trace) w.low low_on) h.counts
+          after_start = lt_of_le_of_lt (le_ahead (start x.trace) w.low low_on) h.counts
 
           wide_domain : start x.trace <ʳ stop x.trace
           wide_domain = lt_of_lt_of_le after_start inside.below

@@ -5,6 +5,7 @@ use Rattle.rational.specs.Time.{Rational, ◌≈◌, ◌≤ʳ◌, ◌<ʳ◌, shi
 use Rattle.rational.specs.Extended.{minus_infinity, infinity, value_at, ◌≈ᵉ◌}
 use Rattle.rational.proofs.AffineLemmas.{bounded_same}
 use Rattle.rational.proofs.Order.{ge_of_same, le_of_lt, le_of_same, le_refl, le_trans, lt_of_lt_of_le, same_sym, same_trans}
+use Rattle.rational.proofs.TimeLemmas.{lt_offsets}
 use Rattle.frac128.specs.Value.{value}
 use Rattle.frac128.specs.declared.frac.Frac.{Frac}
 use Rattle.value_laws.specs.Margins.{is_ramp, margin_function}
@@ -28,7 +29,6 @@ use Rattle.online_robust.specs.declared.queue.Queue.{Queue}
 use Rattle.online_robust.specs.declared.window.Sweep.{Sweep}
 use Rattle.online_robust.specs.declared.window.Window.{Window}
 use Rattle.online_robust.proofs.WindowBounds.{none_bounded, still_moved}
-use Rattle.online_robust.proofs.WindowPoints.{in_order}
 
 -- ---- a turn
 
@@ -156,7 +156,7 @@ first_spread turn s e k can nil fit tick up =
     high = shifted (value s.place.at) s.window.high
 
     low_early : low <ʳ value s.start
-    low_early = lt_of_lt_of_le (in_order (value s.place.at) s.window.low s.window.high fit.order) up
+    low_early = lt_of_lt_of_le (lt_offsets (value s.place.at) s.window.low s.window.high fit.order) up
 
     placed : IsSpread x s.window s.start s.none early early s.among [] (fresh_at e s.window.of) low high
     placed = record {

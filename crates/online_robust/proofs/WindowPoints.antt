@@ -1,26 +1,24 @@
 -- The points under the ends of a window.
 use Rattle.std.proofs.Common.{◌≡◌, ◌⊎◌, ◌<◌, inl, inr, ℕ, ℤ, pos, ◌+◌, ◌≤◌, ◌^◌, Bool, true, false, List, Option}
 use Rattle.std.proofs.Common.{Some, None, refl, sym, ap, subst, ◌∙◌, slice_get, arith, w64, lit<, to_z, of_z, Result}
-use Rattle.std.specs.Prelude.{neg_ℤ, ◌≤ℤ◌, ◌<ℤ◌, ◌-ℤ◌, IsTrue, IfOk}
+use Rattle.std.specs.Prelude.{neg_ℤ, ◌≤ℤ◌, ◌-ℤ◌, IsTrue, IfOk}
 use Rattle.std.specs.Int.RustNames.{unsigned_abs}
 use Rattle.std.proofs.lemmas.Int.{ints}
+use Rattle.std.proofs.lemmas.Option.{same_Some}
 use Rattle.rational.specs.Rational.{FitsFloor, IsWithin, add, whole}
 use Rattle.rational.specs.Time.{Rational, shifted, ◌≈◌, ◌<ʳ◌}
 use Rattle.rational.specs.Windows.{Function}
 use Rattle.rational.specs.Extended.{value_at, ◌≈ᵉ◌}
 use Rattle.rational.proofs.AffineLemmas.{value_same}
 use Rattle.rational.proofs.Sames.{transᵉ}
-use Rattle.rational.proofs.Field.{lt_add_left}
 use Rattle.rational.proofs.Mixed.{fits_of_within, within_add, within_whole}
-use Rattle.rational.proofs.Order.{ge_of_same, le_of_same, le_refl, lt_of_le_of_lt, lt_of_lt_of_le, lt_or_same_or_gt, not_lt_of_le, same_sym}
-use Rattle.rational.proofs.Shift.{lt_whole}
-use Rattle.rational.proofs.TimeLemmas.{shifted-add}
+use Rattle.rational.proofs.Order.{lt_or_same_or_gt, not_lt_of_le, same_sym}
+use Rattle.rational.proofs.TimeLemmas.{shifted-add, lt_offsets}
 use Rattle.frac128.specs.Value.{value}
 use Rattle.frac128.specs.declared.frac.Frac.{Frac}
 use Rattle.frac128.specs.declared.memory.Memory.{Memory}
 use Rattle.value_laws.specs.Margins.{is_ramp, margin_base, margin_function}
 use Rattle.value_laws.specs.declared.margin.Margin.{Margin}
-use Rattle.pl_signal.proofs.Values.{some_is}
 use Rattle.online_robust.specs.Lines.{margin_of}
 use Rattle.online_robust.specs.Held.{Held, edge_at, fresh_at}
 use Rattle.online_robust.specs.ReadLines.{IsThere}
@@ -40,13 +38,6 @@ use Rattle.online_robust.proofs.WindowStops.{base_room}
 pub near_fits : (t : Rational) (k : ℤ) → IsWithin (2 ^ 34) t → neg_ℤ (pos (2 ^ 32)) ≤ℤ k → k ≤ℤ pos (2 ^ 32) → FitsFloor w64 (add t (whole k))
 near_fits t k near from to =
     fits_of_within w64 (2 ^ 34 + 2 ^ 32) (lit< tt) (within_add (2 ^ 34) (2 ^ 32) near (within_whole (2 ^ 32) k (omega (arith, ints, from, to))))
-
--- the earlier of two offsets gives the earlier time
-pub in_order : (t : Rational) (j k : ℤ) → j <ℤ k → shifted t j <ʳ shifted t k
-in_order t j k h = lt_of_le_of_lt (le_of_same (shifted-add t j)) (lt_of_lt_of_le (grows t j k h) (ge_of_same (shifted-add t k)))
-  where
-    grows : (t : Rational) (j k : ℤ) → j <ℤ k → add t (whole j) <ʳ add t (whole k)
-    grows t j k h = lt_of_le_of_lt (record { le = omega arith }) (lt_of_lt_of_le (lt_add_left (lt_whole h) (le_refl t)) (record { le = omega arith }))
 
 -- a time up to the end of a gap that is not that end comes before it
 pub before_apart : (until : Option Frac) (h : Rational) → IsUpTo h until → (EndsAt until h → ⊥) → IsBefore h until
@@ -80,7 +71,7 @@ module _ (x : Scope) (s : Sweep) (e : Held) (at : IsAt x s e) (t : Rational) (he
   high_there ends line is m f =
       let c = comes_next x s.window s.start s.none s.place.low s.place.high s.among (edge_at e s.window.of).seen (fresh_at e s.window.of)
       (low_at x s.window) (high_at x s.window) at.spread (ends_here ends) in
-      let line_is : line ≡ L.Point c.p c.v = some_is (sym is ∙ ap (λ (l : List MarginLine). slice_get l 0) c.is) in
+      let line_is : line ≡ L.Point c.p c.v = same_Some _ _ (sym is ∙ ap (λ (l : List MarginLine). slice_get l 0) c.is) in
       let point : IsThere (input_of x s.window.side) x.reach (value c.p) c.v = record { told = c.point; bounded = c.bounded; moved = c.moved } in
       let there : IsThere (input_of x s.window.side) x.reach (high_at x s.window) c.v =
       there_same (input_of x s.window.side) x.reach (value c.p) (high_at x s.window) c.v (input_is_function x s.window.side) c.here point in
@@ -104,7 +95,7 @@ module _ (x : Scope) (s : Sweep) (e : Held) (at : IsAt x s e) (t : Rational) (he
     ends = subst (λ (z : Rational). EndsAt s.place.low.until (shifted z s.window.low)) (sym here) ends;
     ahead = shifted t s.window.high;
     order = subst (λ (z : Rational). shifted z s.window.low <ʳ shifted t s.window.high) (sym here)
-        (in_order t s.window.low s.window.high at.spread.fit.order);
+        (lt_offsets t s.window.low s.window.high at.spread.fit.order);
     reaches = reaches;
   }
 

@@ -3,22 +3,22 @@ use Rattle.std.proofs.Common.{◌≡◌, ◌≢◌, inr, ℕ, ◌+◌, Bool, tru
 use Rattle.std.proofs.Common.{refl, sym, ap, subst, ◌∙◌, arith, Option, Some, None, ℤ, pos, ◌+ℤ◌, ◌<ℤ◌, ◌≤ℤ◌}
 use Rattle.std.specs.Prelude.{MatchOption, IfSome, IsSome, IsSomeAnd, int_lt, cond, slice_get}
 use Rattle.std.proofs.lemmas.Int.{ints}
+use Rattle.std.proofs.lemmas.Option.{same_Some}
 use Rattle.rational.specs.Time.{Rational, Precedes, shifted, whole, ◌≈◌, ◌≤ʳ◌, ◌<ʳ◌}
 use Rattle.rational.specs.Extended.{value_at}
 use Rattle.rational.proofs.Order.{le_trans, le_of_lt, le_of_same, ge_of_same, lt_of_le_of_lt}
 use Rattle.rational.proofs.Order.{lt_of_lt_of_le, not_lt_of_le, same_trans}
 use Rattle.rational.proofs.Shift.{le_whole, lt_whole}
-use Rattle.rational.proofs.TimeLemmas.{same_shifted}
+use Rattle.rational.proofs.TimeLemmas.{same_shifted, lt_offsets}
+use Rattle.rational.proofs.Tests.{int_order}
 use Rattle.frac128.specs.Value.{value}
 use Rattle.frac128.specs.declared.frac.Frac.{Frac}
 use Rattle.value_laws.specs.Margins.{margin_function}
 use Rattle.value_laws.specs.declared.margin.Margin.{Margin}
-use Rattle.pl_signal.proofs.Values.{some_is}
 use Rattle.stl_syntax.specs.Trace.{start, stop}
 use Rattle.stl_syntax.specs.Formula.{subformula}
 use Rattle.stl_syntax.specs.SupInf.{Robustness}
 use Rattle.online_nodes.specs.StreamedWide.{front_at}
-use Rattle.online_nodes.proofs.RunLaw.{int_order}
 use Rattle.online_robust.specs.Held.{Held, edge_at, fresh_at, held_at}
 use Rattle.online_robust.specs.Sweeping.{IsBefore}
 use Rattle.online_robust.specs.ReadLines.{HasReached, IsThere}
@@ -40,7 +40,6 @@ use Rattle.online_robust.proofs.WindowAgain.{can_begin, can_go_on}
 use Rattle.online_robust.proofs.WindowBridging.{can_turn, first_tick, fit, here, input, own}
 use Rattle.online_robust.proofs.WindowBridging.{scope_of, to_first, to_tick, turn_of}
 use Rattle.online_robust.proofs.WindowFirst.{CanTurn, Turn, first_spread, scope_in}
-use Rattle.online_robust.proofs.WindowPoints.{in_order}
 
 -- ---- a window that goes on
 
@@ -193,7 +192,7 @@ module _ (t : Step) (z : Lazy) (e : Held) (to : ℕ) (b : Belongs t (Op.Sweep z)
         fresh = fresh_at e s.window.of;
         spread = first_spread turn s e (began z.silent.last k) can unseen fits (first_tick t z e to b) high_early;
         low_before = subst (λ (l : Rim). IsBefore (shifted (value s.place.at) s.window.low) l.until) (sym k.low)
-            (lt_of_lt_of_le (in_order (value s.place.at) s.window.low s.window.high fits.order) high_early);
+            (lt_of_lt_of_le (lt_offsets (value s.place.at) s.window.low s.window.high fits.order) high_early);
         goes_on = inr (subst (λ (l : Rim). IsSome l.until) (sym k.high) refl);
         last = subst (λ (o : Option Reached). IsSomeAnd o (λ r. (value r.at ≡ value s.place.at)
             × IsThere (best_of (scope_in turn s.window (value s.place.at)) s.window) (turn.reach + turn.own) (value r.at) r.value)) (sym last) (
@@ -230,6 +229,6 @@ module _ (t : Step) (z : Lazy) (e : Held) (to : ℕ) (b : Belongs t (Op.Sweep z)
           sym (from_some t (Op.Sweep z) e to b g is),
           later_turn g r k'.told.0 k'.told.1 short
               (subst (λ (q : Reached). HasReached (silent_margin z.window.side) (reach_before t + own t z e to b) (whole g) (Some q))
-              (sym (some_is kept)) reached)
+              (sym (same_Some _ _ kept)) reached)
               forth.0 forth.1,
         )

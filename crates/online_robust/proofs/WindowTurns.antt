@@ -1,6 +1,7 @@
 -- What a window tells at a time where something changes.
 use Rattle.std.proofs.Common.{◌≡◌, ◌⊎◌, inl, inr, ℕ, ℤ, Bool, true, false, Option, Some, None, refl, sym, ap, subst, ◌∙◌}
 use Rattle.std.specs.Prelude.{IfSome}
+use Rattle.std.proofs.lemmas.Option.{same_Some}
 use Rattle.rational.specs.Time.{Rational, Precedes, shifted}
 use Rattle.rational.specs.Extended.{Extended, minus_infinity, infinity, value_at, ◌≈ᵉ◌}
 use Rattle.rational.specs.Windows.{Function}
@@ -11,7 +12,6 @@ use Rattle.value_laws.specs.Margins.{margin_function}
 use Rattle.value_laws.specs.declared.margin.Margin.{Margin}
 use Rattle.pl_signal.specs.declared.joining.Side.{Side}
 use Rattle.pl_signal.specs.Joining.{IsChosen}
-use Rattle.pl_signal.proofs.Values.{some_is}
 use Rattle.envelope.specs.Turns.{IsNoBetter, none_of}
 use Rattle.envelope.proofs.Bests.{chosen_better, no_better_back, no_better_refl, no_better_same, no_better_trans}
 use Rattle.stl_syntax.specs.Trace.{start}
@@ -158,7 +158,7 @@ module _ (x : Scope) (w : Wide) (none : Margin) (low high : Rim) (l h : Rational
         low_there : (point : Option Margin) → IsSeen Q x.reach w.low_in w.low low t point → point ≡ Some m → One (value_at (margin_function m) t)
         low_there None h' e = absurd (let z : ◌≡◌ {A = Option Margin} None (Some m) = e in cc)
         low_there (Some n) (is, (p, there, moved)) e =
-            let same : n ≡ m = some_is e in
+            let same : n ≡ m = same_Some _ _ e in
             IsOneOf.there (shifted t w.low) (value_at (margin_function p) (shifted t w.low)) (
               subst (λ (b : Bool). Precedes b (shifted t w.low) (shifted t w.low)) (sym is) (le_refl (shifted t w.low)),
               precedes_of_lt w.high_in (shifted t w.low) (shifted t w.high) i.order,
@@ -169,7 +169,7 @@ module _ (x : Scope) (w : Wide) (none : Margin) (low high : Rim) (l h : Rational
         high_there : (point : Option Margin) → IsSeen Q x.reach w.high_in w.high high t point → point ≡ Some m → One (value_at (margin_function m) t)
         high_there None h' e = absurd (let z : ◌≡◌ {A = Option Margin} None (Some m) = e in cc)
         high_there (Some n) (is, (p, there, moved)) e =
-            let same : n ≡ m = some_is e in
+            let same : n ≡ m = same_Some _ _ e in
             IsOneOf.there (shifted t w.high) (value_at (margin_function p) (shifted t w.high)) (
               precedes_of_lt w.low_in (shifted t w.low) (shifted t w.high) i.order,
               subst (λ (b : Bool). Precedes b (shifted t w.high) (shifted t w.high)) (sym is) (le_refl (shifted t w.high)),
@@ -183,12 +183,12 @@ module _ (x : Scope) (w : Wide) (none : Margin) (low high : Rim) (l h : Rational
             (subst (λ (k : Margin). IsNoBetter w.side (value_at (margin_function m) t) (value_at (margin_function k) t)) e
             (no_better_refl w.side (value_at (margin_function m) t)))
         one (inr (inl e)) hs ls =
-            let same : low_shape ≡ m = some_is e in
+            let same : low_shape ≡ m = same_Some _ _ e in
             IsOneOf.low_limit
             (subst (λ (k : Margin). IsNoBetter w.side (value_at (margin_function k) t) (value_at (margin_function low.shape) (shifted t w.low)))
             same (no_better_same w.side (value_at (margin_function low_shape) t) (value_at (margin_function low.shape) (shifted t w.low)) (low_moved.value t)))
         one (inr (inr (inl e))) hs ls =
-            let same : high_shape ≡ m = some_is e in
+            let same : high_shape ≡ m = same_Some _ _ e in
             IsOneOf.high_limit
             (subst (λ (g : Rim). IsNoBetter w.side (value_at (margin_function m) t) (value_at (margin_function g.shape) (shifted t w.high))) s.last
             (subst (λ (k : Margin). IsNoBetter w.side (value_at (margin_function k) t) (value_at (margin_function high.shape) (shifted t w.high))) same

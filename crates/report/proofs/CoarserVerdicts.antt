@@ -1,6 +1,6 @@
 -- What `check` writes in smaller ticks it writes in the trace's.
 use Rattle.std.proofs.Common.{◌≡◌, ℕ, ◌+◌, ◌^◌, ◌<◌, ◌≤◌, Bool, true, false, List, [], ◌∷◌, refl, subst, arith, MatchBool, ◌&&◌}
-use Rattle.rational.specs.Time.{Rational, ◌≈◌, Precedes, closed}
+use Rattle.rational.specs.Time.{Rational, Precedes, closed}
 use Rattle.rational.proofs.Order.{le_of_same, ge_of_same, same_sym, same_trans}
 use Rattle.rational.proofs.TimeLemmas.{precedes_after, precedes_before, room_of_precedes, precedes_of_room, not_empty_of_precedes}
 use Rattle.frac128.specs.Value.{value}
@@ -28,6 +28,7 @@ use Rattle.report.proofs.CalmTruth.{HasCalmAtoms, calm}
 use Rattle.report.proofs.CalmFormulas.{root_calm}
 use Rattle.report.proofs.SmallFractions.{HasFrac}
 use Rattle.report.proofs.TurningTimes.{precedes_shrink, same_shrink, HasEnds, has_ends, told_at}
+use Rattle.report.proofs.KeptTexts.{number_of_same}
 
 module _ (K M : ℕ) (kp : 0 < K) (mp : 0 < M) (tr : Trace) (ok : IsTrace tr) (scale : Scale) (p : Subformula) (atoms : HasCalmAtoms (2 ^ 31) tr p) where
   abbrev other : Trace
@@ -110,16 +111,13 @@ module _ (K M : ℕ) (kp : 0 < K) (mp : 0 < M) (tr : Trace) (ok : IsTrace tr) (s
       by_truth true k = (truth_by K M kp mp tr ok scale p (start tr)).1 (Truth-same q other (start_by K M kp mp tr ok scale) k)
       by_truth false k = λ x. k (Truth-same q other (same_sym (start_by K M kp mp tr ok scale)) ((truth_by K M kp mp tr ok scale p (start tr)).0 x))
 
-same_number : (digits : ℕ) (t u : Rational) (text : List ℕ) → t ≈ u → IsNumberText digits t text → IsNumberText digits u text
-same_number digits t u text e h = record { num = h.num; den = h.den; lowest = h.lowest; same = same_trans (same_sym e) h.same; is = h.is }
-
 -- the lines stay
 module _ (k M : ℕ) (kp : 0 < 10 ^ k) (mp : 0 < M) (tr : Trace) (ok : IsTrace tr) (scale : Scale) (p : Subformula) (atoms : HasCalmAtoms (2 ^ 31) tr p)
     (is : scale.time ≡ tr.header.scale.time + k) where
   end_text : (t : Rational) (a : HasFrac (shrink (10 ^ k) kp t)) (text : List ℕ) → IsNumberText scale.time t text
       → IsNumberText tr.header.scale.time (value a.frac) text
   end_text t a text h =
-      same_number tr.header.scale.time (shrink (10 ^ k) kp t) (value a.frac) text (same_sym a.same)
+      number_of_same tr.header.scale.time (shrink (10 ^ k) kp t) (value a.frac) text (same_sym a.same)
       (number_text_back tr.header.scale.time k kp t text (subst (λ d. IsNumberText d t text) is h))
 
   lines_back : (verdicts : List Verdict) (e : HasEnds (10 ^ k) M kp mp tr ok scale p atoms verdicts) (text : List ℕ) → AreVerdictLines scale verdicts text

@@ -6,7 +6,7 @@ use Rattle.stl_syntax.specs.declared.scale.UnitFault.TheVariants.{Constant}
 use Rattle.report.specs.FaultTexts.{unit_fault_text, unknown_text}
 
 -- parts to the right
-at_once : (a d c x e f : List ℕ) → (((a ++ d) ++ c) ++ (x ++ e)) ++ f ≡ a ++ (d ++ (c ++ (x ++ (e ++ f))))
+pub at_once : (a d c x e f : List ℕ) → (((a ++ d) ++ c) ++ (x ++ e)) ++ f ≡ a ++ (d ++ (c ++ (x ++ (e ++ f))))
 at_once a d c x e f = simp append_assoc
 
 with_both : (a d c x e t f : List ℕ) → (((a ++ d) ++ c) ++ ((x ++ e) ++ t)) ++ f ≡ a ++ (d ++ (c ++ (x ++ (e ++ (t ++ f)))))

@@ -1,6 +1,6 @@
 -- Knots in smaller ticks, and back.
-use Rattle.std.proofs.Common.{◌≡◌, ℕ, ◌+◌, ◌*◌, ◌^◌, ◌<◌, zero, suc, refl, sym, subst, arith, List, ℤ, pos, negsuc}
-use Rattle.std.specs.Prelude.{neg_ℤ, ◌*ℤ◌}
+use Rattle.std.proofs.Common.{◌≡◌, ℕ, ◌+◌, ◌*◌, ◌^◌, ◌<◌, suc, refl, sym, subst, arith, List, ℤ, pos, negsuc}
+use Rattle.std.specs.Prelude.{◌*ℤ◌}
 use Rattle.std.proofs.Math.Nat.{mul-pos}
 use Rattle.std.proofs.lemmas.Nat.{pow-add}
 use Rattle.rational.specs.Rational.{part_above, part_below}
@@ -15,12 +15,14 @@ use Rattle.stl_syntax.specs.SupInf.{margin_setting}
 use Rattle.stl_syntax.specs.Texts.{IsNumberText, IsValueText}
 use Rattle.stl_syntax.specs.declared.scale.Scale.{Scale}
 use Rattle.stl_syntax.proofs.TimeLaw.{SupInf-same}
-use Rattle.report.proofs.Stretch.{stretch, shrink, stretch_same, stretch_lt, same_back, lt_back, stretch-shrink}
+use Rattle.stl_syntax.proofs.SupInfLemmas.{value_alike}
+use Rattle.report.proofs.Stretch.{stretch, shrink, stretch_same, stretch_lt, same_back, lt_back, stretch-shrink, neg_above}
+use Rattle.report.proofs.Stretch.{neg_below}
 use Rattle.report.proofs.FinerTrees.{finer_tree}
 use Rattle.report.proofs.FinerTraces.{at_by, start_by, stop_by}
 use Rattle.report.proofs.FinerTruth.{fine}
 use Rattle.report.proofs.FinerValues.{stretchᵉ, shrinkᵉ, same_stretchᵉ, same_backᵉ, stretch-shrinkᵉ}
-use Rattle.report.proofs.FinerMargins.{margins_by, value_alike}
+use Rattle.report.proofs.FinerMargins.{margins_by}
 use Rattle.report.proofs.KnotsChange.{Change}
 
 -- a number is the K-th part of K times it
@@ -155,21 +157,13 @@ module _ (K M : ℕ) (kp : 0 < K) (mp : 0 < M) where
       stops = same_sym (same_trans (shrink_same K kp (stop small) (stretch K (stop tr)) (stop_by K M kp mp tr ok scale)) (shrink-stretch K kp (stop tr)));
     }
 
-minus_above : (x : ℕ) → part_above (neg_ℤ (pos x)) ≡ 0
-minus_above zero = refl
-minus_above (suc x) = refl
-
-minus_below : (x : ℕ) → part_below (neg_ℤ (pos x)) ≡ x
-minus_below zero = refl
-minus_below (suc x) = refl
-
 above_of : (z : ℤ) (x : ℕ) → part_above (z *ℤ pos x) ≡ part_above z * x
 above_of (pos n) x = refl
-above_of (negsuc n) x = let e = minus_above (suc n * x) in omega (arith, e)
+above_of (negsuc n) x = let e = neg_above (suc n * x) in omega (arith, e)
 
 below_of : (z : ℤ) (x : ℕ) → part_below (z *ℤ pos x) ≡ part_below z * x
 below_of (pos n) x = omega arith
-below_of (negsuc n) x = minus_below (suc n * x)
+below_of (negsuc n) x = neg_below (suc n * x)
 
 crossed : {u v u' v' : ℕ} (x y D K den : ℕ) → u ≡ x * (D * K) → v ≡ y * (D * K) → u' ≡ x * D → v' ≡ y * D
     → u * den + K * v' * den ≡ K * u' * den + v * den

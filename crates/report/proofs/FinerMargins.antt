@@ -7,8 +7,9 @@ use Rattle.rational.specs.Windows.{Ahead, Behind, Function, Window, IsSupOver, I
 use Rattle.rational.proofs.Order.{same_sym, le_trans, le_of_same, ge_of_same}
 use Rattle.rational.proofs.Field.{same_negate}
 use Rattle.rational.proofs.AffineLemmas.{same_reflᵉ, same_symᵉ, same_transᵉ, finite_same, opposite_same}
-use Rattle.rational.proofs.Sups.{sup_value_same, inf_value_same}
+use Rattle.rational.proofs.Sups.{inf_value_same}
 use Rattle.rational.proofs.WindowLemmas.{inf_over_alike, to_same, from_same}
+use Rattle.rational.proofs.ExtendedLemmas.{least_same, greatest_same}
 use Rattle.stl_syntax.specs.Trace.{Trace, IsTrace, start, stop}
 use Rattle.stl_syntax.specs.Formula.{Subformula, constant, atom, negation, conjunction, disjunction}
 use Rattle.stl_syntax.specs.Formula.{implication, until, eventually, always, since, once, historically}
@@ -19,30 +20,14 @@ use Rattle.stl_syntax.specs.declared.scale.Scale.{Scale}
 use Rattle.stl_syntax.specs.declared.rel.Rel.{Rel}
 use Rattle.stl_syntax.specs.declared.rel.Rel.TheVariants.{AtLeast, Above, AtMost, Below}
 use Rattle.stl_syntax.proofs.TimeLaw.{SupInf-same}
+use Rattle.stl_syntax.proofs.SupInfLemmas.{value_alike}
 use Rattle.report.proofs.Stretch.{stretch, shrink, stretch-shrink, within_stretched, within_back}
 use Rattle.report.proofs.FinerTrees.{finer_tree}
 use Rattle.report.proofs.FinerTraces.{expression_by}
 use Rattle.report.proofs.FinerTruth.{fine, ends, ahead_by, ahead_back, ahead_at, behind_by, behind_back, behind_at}
 use Rattle.report.proofs.FinerValues.{stretchᵉ, shrinkᵉ, opposite_stretch, stretch-shrinkᵉ, same_stretchᵉ}
-use Rattle.report.proofs.FinerValues.{same_backᵉ, least_by, least_back, greatest_by, greatest_back, least_same}
-use Rattle.report.proofs.FinerValues.{greatest_same, AreTimes, sup_by, sup_back, inf_by, inf_back}
-
--- a value by another pair is the value too
-pub value_alike : (p : Subformula) (tr : Trace) (t : Rational) (r s : Extended) → r ≈ᵉ s → SupInf p (margin_setting tr) t r → SupInf p (margin_setting tr) t s
-value_alike (constant true) tr t r s e h = same_transᵉ s r infinity (same_symᵉ r s e) h
-value_alike (constant false) tr t r s e h = same_transᵉ s r minus_infinity (same_symᵉ r s e) h
-value_alike (atom i a) tr t r s e h = same_transᵉ s r (finite (margin a.rel (expression a tr t))) (same_symᵉ r s e) h
-value_alike (negation p) tr t r s e h = value_alike p tr t (opposite r) (opposite s) (opposite_same r s e) h
-value_alike (conjunction p q) tr t r s e (v, w, f, g, l) = (v, w, f, g, least_same v v w w r s (same_reflᵉ v) (same_reflᵉ w) e l)
-value_alike (disjunction p q) tr t r s e (v, w, f, g, l) = (v, w, f, g, greatest_same v v w w r s (same_reflᵉ v) (same_reflᵉ w) e l)
-value_alike (implication p q) tr t r s e (v, w, f, g, l) =
-    (v, w, f, g, greatest_same (opposite v) (opposite v) w w r s (same_reflᵉ (opposite v)) (same_reflᵉ w) e l)
-value_alike (eventually a b i j p) tr t r s e h = sup_value_same r s e h
-value_alike (always a b i j p) tr t r s e h = inf_value_same r s e h
-value_alike (once a b i j p) tr t r s e h = sup_value_same r s e h
-value_alike (historically a b i j p) tr t r s e h = inf_value_same r s e h
-value_alike (until a b p q) tr t r s e h = sup_value_same r s e h
-value_alike (since a b p q) tr t r s e h = sup_value_same r s e h
+use Rattle.report.proofs.FinerValues.{same_backᵉ, least_by, least_back, greatest_by, greatest_back}
+use Rattle.report.proofs.FinerValues.{AreTimes, sup_by, sup_back, inf_by, inf_back}
 
 margin_by : (M : ℕ) (rel : Rel) (x y : Rational) → y ≈ stretch M x → margin rel y ≈ stretch M (margin rel x)
 margin_by M AtLeast x y e = e

@@ -1,8 +1,9 @@
 -- Extended values times M, and the Sup and the Inf of them.
-use Rattle.std.proofs.Common.{◌≡◌, ℕ, ◌<◌, refl, ◌⊎◌, inl, inr}
+use Rattle.std.proofs.Common.{◌≡◌, ℕ, ◌<◌, refl}
 use Rattle.rational.specs.Extended.{Extended, minus_infinity, finite, infinity, opposite, ◌≤ᵉ◌, ◌<ᵉ◌, ◌≈ᵉ◌, IsLeast, IsGreatest, IsSup, IsInf}
 use Rattle.rational.proofs.Order.{le_of_same, ge_of_same}
 use Rattle.rational.proofs.ExtendedLemmas.{le_transᵉ, lt_of_lt_of_leᵉ, lt_of_le_of_ltᵉ, below_infinity}
+use Rattle.rational.proofs.Tests.{either}
 use Rattle.report.proofs.Stretch.{stretch, shrink, stretch_le, stretch_lt, le_back, lt_back, stretch-shrink}
 
 -- M times the value
@@ -77,10 +78,6 @@ stretch-shrinkᵉ M p minus_infinity = record { at_most = tt; at_least = tt }
 stretch-shrinkᵉ M p (finite x) = record { at_most = le_of_same (stretch-shrink M p x); at_least = ge_of_same (stretch-shrink M p x) }
 stretch-shrinkᵉ M p infinity = record { at_most = tt; at_least = tt }
 
-either : {A B C D : Type 0} → (A → C) → (B → D) → A ⊎ B → C ⊎ D
-either f g (inl x) = inl (f x)
-either f g (inr y) = inr (g y)
-
 -- the least of two, and the greatest
 pub least_by : (M : ℕ) (v w r : Extended) → IsLeast v w r → IsLeast (stretchᵉ M v) (stretchᵉ M w) (stretchᵉ M r)
 least_by M v w r l = record {
@@ -111,24 +108,6 @@ greatest_back M p v w r l = record {
   left = le_backᵉ M p v r l.left;
   right = le_backᵉ M p w r l.right;
   one_of = either (le_backᵉ M p r v) (le_backᵉ M p r w) l.one_of;
-}
-
--- equal values have the same least and the same greatest
-pub least_same : (v v' w w' r r' : Extended) → v ≈ᵉ v' → w ≈ᵉ w' → r ≈ᵉ r' → IsLeast v w r → IsLeast v' w' r'
-least_same v v' w w' r r' a b c l = record {
-  left = le_transᵉ r' r v' c.at_least (le_transᵉ r v v' l.left a.at_most);
-  right = le_transᵉ r' r w' c.at_least (le_transᵉ r w w' l.right b.at_most);
-  one_of = either (λ h. le_transᵉ v' v r' a.at_least (le_transᵉ v r r' h c.at_most))
-      (λ h. le_transᵉ w' w r' b.at_least (le_transᵉ w r r' h c.at_most)) l.one_of;
-}
-
--- another way to write values has the same greatest
-pub greatest_same : (v v' w w' r r' : Extended) → v ≈ᵉ v' → w ≈ᵉ w' → r ≈ᵉ r' → IsGreatest v w r → IsGreatest v' w' r'
-greatest_same v v' w w' r r' a b c l = record {
-  left = le_transᵉ v' v r' a.at_least (le_transᵉ v r r' l.left c.at_most);
-  right = le_transᵉ w' w r' b.at_least (le_transᵉ w r r' l.right c.at_most);
-  one_of = either (λ h. le_transᵉ r' r v' c.at_least (le_transᵉ r v v' h a.at_most))
-      (λ h. le_transᵉ r' r w' c.at_least (le_transᵉ r w w' h b.at_most)) l.one_of;
 }
 
 -- the values of Q are M times those of P

@@ -27,6 +27,7 @@ use Rattle.report.proofs.FinerTrees.{finer_tree}
 use Rattle.report.proofs.FinerTraces.{start_by, stop_by}
 use Rattle.report.proofs.FinerTruth.{fine, truth_by}
 use Rattle.report.proofs.FinerKnots.{number_text_by}
+use Rattle.report.proofs.KeptTexts.{number_of_same}
 
 -- K times a number that the program keeps
 pub record TimesFrac (K : ℕ) (f : Frac) : Type 0 where
@@ -183,15 +184,12 @@ module _ (K M : ℕ) (kp : 0 < K) (mp : 0 < M) (tr : Trace) (ok : IsTrace tr) (s
   pub start_line_by : (text : List ℕ) → IsStartLine p tr text → IsStartLine q other text
   start_line_by text (holds, h, e) = (holds, told_at holds (start tr) (start other) (start_by K M kp mp tr ok scale) h, e)
 
-same_number : (digits : ℕ) (t u : Rational) (text : List ℕ) → t ≈ u → IsNumberText digits t text → IsNumberText digits u text
-same_number digits t u text e h = record { num = h.num; den = h.den; lowest = h.lowest; same = same_trans (same_sym e) h.same; is = h.is }
-
 -- the lines of the verdicts stay
 module _ (k : ℕ) (p : 0 < 10 ^ k) (scale other : Scale) (is : other.time ≡ scale.time + k) where
   end_text : (f : Frac) (text : List ℕ) → IsNumberText scale.time (value f) text → IsNumberText other.time (value (frac_of (10 ^ k) p f)) text
   end_text f text h =
       subst (λ d. IsNumberText d (value (frac_of (10 ^ k) p f)) text) (sym is)
-      (same_number (scale.time + k) (stretch (10 ^ k) (value f)) (value (frac_of (10 ^ k) p f)) text (same_sym (frac_same (10 ^ k) p f))
+      (number_of_same (scale.time + k) (stretch (10 ^ k) (value f)) (value (frac_of (10 ^ k) p f)) text (same_sym (frac_same (10 ^ k) p f))
       (number_text_by scale.time k (value f) text h))
 
   span_text : (on : Span) (text : List ℕ) → IsSpanText scale on text → IsSpanText other (span_by (10 ^ k) p on) text

@@ -1,10 +1,10 @@
 -- There is a text for each part of a report.
 use Rattle.std.proofs.Common.{◌≡◌, ℕ, List, [], ◌∷◌, refl, ap, codes}
 use Rattle.std.specs.Prelude.{Some, slice_get}
+use Rattle.std.proofs.lemmas.Option.{same_Some}
 use Rattle.value_laws.specs.Members.{ShapeOf}
 use Rattle.pl_signal.specs.declared.knot.Knot.{Knot as SignalKnot}
 use Rattle.pl_signal.specs.Plain.{plain_knot, knots_of}
-use Rattle.pl_signal.proofs.Values.{some_is}
 use Rattle.stl_syntax.specs.Knots.{Knot, Knots}
 use Rattle.stl_syntax.specs.Texts.{IsSpanText}
 use Rattle.stl_syntax.specs.declared.scale.Scale.{Scale}
@@ -27,7 +27,7 @@ word_exists word = (word, refl)
 pub first_is : {P : Type 0} (shape : ShapeOf P) (ks : List (SignalKnot P)) (k : SignalKnot P) → slice_get ks 0 ≡ Some k
     → (knots_of shape ks).first ≡ plain_knot shape k
 first_is shape [] k h = absurd (let e = h in cc)
-first_is shape (x ∷ ks) k h = let same : x ≡ k = some_is h in ap (plain_knot shape) same
+first_is shape (x ∷ ks) k h = let same : x ≡ k = same_Some _ _ h in ap (plain_knot shape) same
 
 module _ (scale : Scale) where
   -- the end of a knot's entry has a text

@@ -43,7 +43,7 @@ line_exists scale v =
     (_, (_, span_text scale v.on from.0 to.0 from.1 to.1, refl))
 
 -- the lines of two lists, one after the other
-lines_join : (scale : Scale) (vs ws : List Verdict) (text more : List ℕ) → AreVerdictLines scale vs text → AreVerdictLines scale ws more
+pub lines_join : (scale : Scale) (vs ws : List Verdict) (text more : List ℕ) → AreVerdictLines scale vs text → AreVerdictLines scale ws more
     → AreVerdictLines scale (vs ++ ws) (text ++ more)
 lines_join scale [] ws text more h k = rw h k
 lines_join scale (v ∷ vs) ws text more (here, later, first, others, e) k =

@@ -2,17 +2,19 @@
 use Rattle.std.proofs.Common.{◌≡◌, ℕ, suc, zero, List, [], ◌∷◌, ◌++◌, drop, length, codes, append-nil, append_assoc, refl, sym, ap, ◌∙◌, arith, Some, subst}
 use Rattle.std.specs.Prelude.{slice_get, Result, OnOk, OnErr}
 use Rattle.std.proofs.lemmas.Result.{on_ok_weaker, on_err_weaker}
+use Rattle.std.proofs.lemmas.Option.{same_Some}
 use Rattle.rational.specs.Time.{Rational}
 use Rattle.rational.specs.Rational.{IsWithin}
 use Rattle.rational.specs.Extended.{Extended, minus_infinity, finite, infinity, value_at}
 use Rattle.rational.specs.Knots as plain
 use Rattle.rational.specs.Knots.{Piece}
 use Rattle.rational.proofs.Order.{le_trans, same_refl}
+use Rattle.rational.proofs.Lists.{drop_on}
 use Rattle.value_laws.specs.Members.{ShapeOf}
 use Rattle.pl_signal.specs.declared.knot.Knot.{Knot}
 use Rattle.pl_signal.specs.Knots.{time, start, stop, IsSignal}
 use Rattle.pl_signal.specs.Plain.{plain_knot, pieces_of, knots_of}
-use Rattle.pl_signal.proofs.Values.{some_is, worth_at, worth_within}
+use Rattle.pl_signal.proofs.Values.{worth_at, worth_within}
 use Rattle.value_laws.specs.declared.margin.Margin.{Margin}
 use Rattle.value_laws.specs.Margins.{margin_function}
 use Rattle.stl_syntax.specs.Texts.{fraction_text, IsNumberText, IsValueText, IsKnotLine, IsPieceLine, ArePieceLines, AreMarginLines, newline}
@@ -146,12 +148,6 @@ module _ (scale : Scale) where
       let later = piece_lines_exist p.next pieces in
       (piece.0 ++ knot.0 ++ later.0, (piece.0, knot.0, later.0, piece.1, knot.1, later.1, refl))
 
--- a list from a place on
-pub drop_at : {X : Type 0} (xs : List X) (i : ℕ) (x : X) → slice_get xs i ≡ Some x → drop i xs ≡ x ∷ drop (suc i) xs
-drop_at [] i x h = absurd (let k = h in cc)
-drop_at (y ∷ xs) zero x h = ap (λ z. z ∷ xs) (some_is h)
-drop_at (y ∷ xs) (suc i) x h = drop_at xs i x h
-
 -- the last of a list
 pub last_of : {X : Type 0} (xs : List X) (i : ℕ) → suc i ≡ length xs → (x : X) × (slice_get xs i ≡ Some x) × (drop (suc i) xs ≡ [])
 last_of [] i e = absurd (omega (arith, e))
@@ -180,10 +176,10 @@ module _ {P : Type 0} (shape : ShapeOf P) (scale : Scale) where
   pub lines_more : (ks : List (Knot P)) (i : ℕ) (k n : Knot P) (text next : List ℕ) → slice_get ks i ≡ Some k → slice_get ks (suc i) ≡ Some n
       → AreLinesTo ks i text → AreNextLines shape scale k n next → AreLinesTo ks (suc i) (text ++ next)
   lines_more ks i k n text next at at_next before (piece, knot, is_piece, is_knot, e) m rest later f lines =
-      let here = drop_at ks (suc i) n at_next in
+      let here = drop_on ks (suc i) n at_next in
       let same : n ≡ m = let g = sym here ∙ f in cc in
       let same_rest : drop (suc (suc i)) ks ≡ rest = let g = sym here ∙ f in cc in
-      let all = before k (n ∷ rest) (piece ++ knot ++ later) (drop_at ks i k at ∙ ap (λ xs. k ∷ xs) (here ∙ ap (λ xs. n ∷ xs) same_rest))
+      let all = before k (n ∷ rest) (piece ++ knot ++ later) (drop_on ks i k at ∙ ap (λ xs. k ∷ xs) (here ∙ ap (λ xs. n ∷ xs) same_rest))
       (piece, knot, later, is_piece, is_knot, subst (λ l. ArePieceLines scale (plain_knot shape l) (pieces_of shape l rest) later) (sym same) lines, refl) in
       subst (AreLaterLines shape scale ks) (simp (e, append_assoc)) all
 
@@ -191,14 +187,14 @@ module _ {P : Type 0} (shape : ShapeOf P) (scale : Scale) where
   pub lines_end : (ks : List (Knot P)) (i : ℕ) (text : List ℕ) → suc i ≡ length ks → AreLinesTo ks i text → AreLaterLines shape scale ks text
   lines_end ks i text last before =
       let (k, at, none) = last_of ks i last in
-      subst (AreLaterLines shape scale ks) (append-nil text) (before k [] [] (drop_at ks i k at ∙ ap (λ xs. k ∷ xs) none) refl)
+      subst (AreLaterLines shape scale ks) (append-nil text) (before k [] [] (drop_on ks i k at ∙ ap (λ xs. k ∷ xs) none) refl)
 
   -- where the lines up to a knot were written, and a part of the next, the rest of them all is there to be written
   pub lines_part : (ks : List (Knot P)) (i : ℕ) (k n : Knot P) (old mid new : List ℕ) → slice_get ks i ≡ Some k → slice_get ks (suc i) ≡ Some n
       → Grew (AreLinesTo ks i) old mid → GrewInPart (AreNextLines shape scale k n) mid new → GrewInPart (AreLaterLines shape scale ks) old new
   lines_part ks i k n old mid new at at_next (text, before, e) (a, b, next, f) =
       let more = piece_lines_exist scale (plain_knot shape n) (pieces_of shape n (drop (suc (suc i)) ks)) in
-      let all = lines_more ks i k n text (a ++ b) at at_next before next n (drop (suc (suc i)) ks) more.0 (drop_at ks (suc i) n at_next) more.1 in
+      let all = lines_more ks i k n text (a ++ b) at at_next before next n (drop (suc (suc i)) ks) more.0 (drop_on ks (suc i) n at_next) more.1 in
       (text ++ a, b ++ more.0, subst (AreLaterLines shape scale ks) (simp append_assoc) all, f ∙ ap (λ w. w ++ a) e ∙ append_assoc old text a)
 
   -- the first knot's line and the later ones make the lines of margins
@@ -206,7 +202,7 @@ module _ {P : Type 0} (shape : ShapeOf P) (scale : Scale) where
       → Then (IsKnotLine scale (plain_knot shape k)) (AreLaterLines shape scale ks) text → AreMarginLines scale (knots_of shape ks) text
   margin_lines [] k at text h = absurd (let e = at in cc)
   margin_lines (x ∷ ks) k at text (first, later, is_first, is_later, e) =
-      (first, later, subst (λ l. IsKnotLine scale (plain_knot shape l) first) (sym (some_is at)) is_first, is_later, e)
+      (first, later, subst (λ l. IsKnotLine scale (plain_knot shape l) first) (sym (same_Some _ _ at)) is_first, is_later, e)
 
   -- the later lines exist
   pub later_exist : (ks : List (Knot P)) (k : Knot P) → slice_get ks 0 ≡ Some k → growth.Some (AreLaterLines shape scale ks)

@@ -1,21 +1,17 @@
 -- Bytes that grew by the first part of a text.
-use Rattle.std.proofs.Common.{◌≡◌, ℕ, List, ◌++◌, Result, Ok, Err, OnErr, sym, ◌∙◌, ap, append_assoc, append-nil, [], subst}
+use Rattle.std.proofs.Common.{◌≡◌, ℕ, List, ◌++◌, Result, OnErr, sym, ◌∙◌, ap, append_assoc, append-nil, [], subst}
+use Rattle.rational.proofs.Lists.{on_err_anyway}
 use Rattle.report.specs.Appended.{Grew, GrewInPart}
-
--- what holds anyway holds at an error
-pub on_err : {T E P : Type 0} (r : Result T E) → P → OnErr r P
-on_err (Ok x) p = tt
-on_err (Err e) p = p
 
 -- the first part of one text
 pub part_of : {T E : Type 0} (r : Result T E) (whole old new first rest : List ℕ) → first ++ rest ≡ whole → new ≡ old ++ first
     → OnErr r (GrewInPart (λ w. w ≡ whole) old new)
-part_of r whole old new first rest e grew = let p : GrewInPart (λ w. w ≡ whole) old new = (first, rest, e, grew) in on_err r p
+part_of r whole old new first rest e grew = let p : GrewInPart (λ w. w ≡ whole) old new = (first, rest, e, grew) in on_err_anyway r p
 
 -- the first part of a text of a kind
 pub part_in : {T E : Type 0} (P : List ℕ → Type 0) (r : Result T E) (whole old new first rest : List ℕ) → P whole
     → first ++ rest ≡ whole → new ≡ old ++ first → OnErr r (GrewInPart P old new)
-part_in P r whole old new first rest p e grew = let q : GrewInPart P old new = (first, rest, subst P (sym e) p, grew) in on_err r q
+part_in P r whole old new first rest p e grew = let q : GrewInPart P old new = (first, rest, subst P (sym e) p, grew) in on_err_anyway r q
 
 -- the first part of a middle text, after what came before it
 pub part_inside : {T E : Type 0} (P : List ℕ → Type 0) (r : Result T E) (before middle after old mid new : List ℕ)

@@ -3,7 +3,7 @@ use Rattle.std.proofs.Common.{◌≡◌, ℕ, suc, zero, ◌<◌, ◌≤◌, Lis
 use Rattle.std.proofs.Common.{append-nil, append_assoc, refl, sym, ap, ◌∙◌, subst, arith, Some, length-take}
 use Rattle.std.specs.Prelude.{slice_get}
 use Rattle.std.proofs.lemmas.List.{drop_all, take-append-drop, take-take, drop-append-le, take_all, length-take-le}
-use Rattle.pl_signal.proofs.Values.{some_is}
+use Rattle.std.proofs.lemmas.Option.{same_Some}
 use Rattle.report.specs.Appended.{Grew, GrewInPart, AreEach}
 use Rattle.report.specs.Steps.{between}
 use Rattle.report.proofs.Growths as growth
@@ -18,7 +18,7 @@ module _ {X : Type 0} where
   -- one item more from the front
   pub take_at : (xs : List X) (i : ℕ) (x : X) → slice_get xs i ≡ Some x → take (suc i) xs ≡ take i xs ++ x ∷ []
   take_at [] i x h = absurd (let e = h in cc)
-  take_at (y ∷ xs) zero x h = ap (λ z. z ∷ []) (some_is h)
+  take_at (y ∷ xs) zero x h = ap (λ z. z ∷ []) (same_Some _ _ h)
   take_at (y ∷ xs) (suc i) x h = ap (λ zs. y ∷ zs) (take_at xs i x h)
 
   -- nothing is between a place and itself

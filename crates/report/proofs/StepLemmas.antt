@@ -1,11 +1,11 @@
 -- The steps of a signal, by its knots.
 use Rattle.std.proofs.Common.{◌≡◌, ℕ, suc, zero, ◌+◌, ◌<◌, List, [], ◌∷◌, length, refl, ap, subst, arith, Some}
 use Rattle.std.specs.Prelude.{slice_get}
+use Rattle.std.proofs.lemmas.Option.{same_Some}
 use Rattle.rational.specs.Knots.{last_knot}
 use Rattle.value_laws.specs.Members.{ShapeOf}
 use Rattle.pl_signal.specs.declared.knot.Knot.{Knot}
 use Rattle.pl_signal.specs.Plain.{plain_knot, plain_piece, knots_of}
-use Rattle.pl_signal.proofs.Values.{some_is}
 use Rattle.report.specs.Steps.{step, steps_of}
 
 module _ {P : Type 0} (shape : ShapeOf P) where
@@ -15,8 +15,8 @@ module _ {P : Type 0} (shape : ShapeOf P) where
   step_at [] i a b h k = absurd (let e = h in cc)
   step_at (x ∷ []) i a b h k = absurd (let e = k in cc)
   step_at (x ∷ y ∷ ks) zero a b h k =
-      subst (λ z. Some (step (plain_knot shape x) (plain_piece shape x y)) ≡ Some (step (plain_knot shape z) (plain_piece shape z b))) (some_is h)
-      (subst (λ z. Some (step (plain_knot shape x) (plain_piece shape x y)) ≡ Some (step (plain_knot shape x) (plain_piece shape x z))) (some_is k) refl)
+      subst (λ z. Some (step (plain_knot shape x) (plain_piece shape x y)) ≡ Some (step (plain_knot shape z) (plain_piece shape z b))) (same_Some _ _ h)
+      (subst (λ z. Some (step (plain_knot shape x) (plain_piece shape x y)) ≡ Some (step (plain_knot shape x) (plain_piece shape x z))) (same_Some _ _ k) refl)
   step_at (x ∷ y ∷ ks) (suc i) a b h k = step_at (y ∷ ks) i a b h k
 
   -- one step less than knots
@@ -33,7 +33,7 @@ module _ {P : Type 0} (shape : ShapeOf P) where
   pub last_is : (ks : List (Knot P)) (i : ℕ) (k : Knot P) → suc i ≡ length ks → slice_get ks i ≡ Some k
       → last_knot (knots_of shape ks).first (knots_of shape ks).pieces ≡ plain_knot shape k
   last_is [] i k e h = absurd (omega (arith, e))
-  last_is (x ∷ []) zero k e h = ap (plain_knot shape) (some_is h)
+  last_is (x ∷ []) zero k e h = ap (plain_knot shape) (same_Some _ _ h)
   last_is (x ∷ []) (suc i) k e h = absurd (omega (arith, e))
   last_is (x ∷ y ∷ ks) zero k e h = absurd (omega (arith, e))
   last_is (x ∷ y ∷ ks) (suc i) k e h = last_is (y ∷ ks) i k (omega (arith, e)) h

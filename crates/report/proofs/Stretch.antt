@@ -92,11 +92,13 @@ add_stretch K a b = record { same = omega arith }
 pub times_stretch : (K : ℕ) (c : ℤ) (a : Rational) → times c (stretch K a) ≈ stretch K (times c a)
 times_stretch K c a = record { same = omega arith }
 
-neg_above : (n : ℕ) → part_above (neg_ℤ (pos n)) ≡ 0
+-- a number of ticks below 0 has nothing above 0
+pub neg_above : (n : ℕ) → part_above (neg_ℤ (pos n)) ≡ 0
 neg_above zero = refl
 neg_above (suc n) = refl
 
-neg_below : (n : ℕ) → part_below (neg_ℤ (pos n)) ≡ n
+-- and is so far below 0
+pub neg_below : (n : ℕ) → part_below (neg_ℤ (pos n)) ≡ n
 neg_below zero = refl
 neg_below (suc n) = refl
 

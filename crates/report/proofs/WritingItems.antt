@@ -15,10 +15,6 @@ use Rattle.report.proofs.ItemTexts.{items_exist, lines_join, line_of_one}
 pub four_pieces : {t u v w : List ℕ} (old a b c d : List ℕ) → t ≡ old ++ a → u ≡ t ++ b → v ≡ u ++ c → w ≡ v ++ d → w ≡ old ++ (a ++ b ++ c ++ d)
 four_pieces old a b c d e f g h = h ∙ ap (λ s. s ++ d) (g ∙ ap (λ s. s ++ c) (f ∙ ap (λ s. s ++ b) e)) ∙ simp append_assoc
 
--- and by three
-pub three_pieces : {t u v : List ℕ} (old a b c : List ℕ) → t ≡ old ++ a → u ≡ t ++ b → v ≡ u ++ c → v ≡ old ++ (a ++ b ++ c)
-three_pieces old a b c e f g = g ∙ ap (λ s. s ++ c) (f ∙ ap (λ s. s ++ b) e) ∙ simp append_assoc
-
 -- the lines of the items up to a place are written; the lines of the rest, whatever they are, stand behind them
 pub record AreWrittenTo (scale : Scale) (f : Formula) (items : List Item) (old : List ℕ) (i : ℕ) (text : List ℕ) : Type 0 where
   -- so many items were written

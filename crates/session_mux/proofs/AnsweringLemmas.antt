@@ -5,6 +5,7 @@ use Rattle.std.specs.Prelude.{bytes_eq, codes, slice_get, MatchBool}
 use Rattle.std.proofs.lemmas.Bool.{cases_eq}
 use Rattle.std.proofs.lemmas.List.{append-nil, take-append-drop, take_all}
 use Rattle.std.proofs.lemmas.Slice.Eq.{bytes_eq-Decides}
+use Rattle.rational.proofs.Lists.{slice_get-set_same, slice_get-set_other, drop_on}
 use Rattle.stl_syntax.specs.Formula.{Formula}
 use Rattle.report.proofs.Sequences.{take_at, place_inside}
 use Rattle.trace_reader.specs.TraceText.{lines}
@@ -22,7 +23,7 @@ use Rattle.session_mux.specs.declared.known.Known.{Known}
 use Rattle.session_mux.specs.declared.session.Session.{Session}
 use Rattle.session_mux.proofs.OwnLemmas.{own_grows, own_stays}
 use Rattle.session_mux.proofs.SessionLemmas.{Grows, growth_once, cut_as, cut_none}
-use Rattle.session_mux.proofs.KnowingLemmas.{item_of_set, set_is, set_other, one_item, tags_of_set, drop_at}
+use Rattle.session_mux.proofs.KnowingLemmas.{item_of_set, one_item, tags_of_set}
 
 -- the reply of the line's session is the answer
 module _ (f : Formula) (seen : List Tagged) (x : Tagged) where
@@ -74,8 +75,11 @@ module _ (f : Formula) (seen : List Tagged) (x : Tagged) (i : ℕ) (mid : Regist
       )
       | inr k ↦ (
         (r.said j t k.1).0,
-        ((r.said j t k.1).1.0, subst (λ (o : Own). HasSaidSoFar f o (r.said j t k.1).1.0 t)
-            (sym (own_stays seen x t.tag (apart j t k.0 k.1))) (r.said j t k.1).1.1),
+        (
+          (r.said j t k.1).1.0,
+          subst (λ (o : Own). HasSaidSoFar f o (r.said j t k.1).1.0 t)
+              (sym (own_stays seen x t.tag (apart j t k.0 k.1))) (r.said j t k.1).1.1,
+        ),
       )
     ]
       where
@@ -102,11 +106,11 @@ module _ (f : Formula) (seen : List Tagged) (x : Tagged) (i : ℕ) (mid : Regist
           elim (cases_eq j i) [
             | inl k ↦ (
               s,
-              subst (λ m. slice_get (set mid.sessions i s) m ≡ Some s) (sym k) (set_is mid.sessions i s inside),
+              subst (λ m. slice_get (set mid.sessions i s) m ≡ Some s) (sym k) (slice_get-set_same mid.sessions i s inside),
               ap number_of h.tag ∙ ap (λ (u : Session). number_of u.tag)
                   (one_item (slice_get mid.sessions i) r.session t r.at (subst (λ m. slice_get mid.sessions m ≡ Some t) k at)) ∙ same,
             )
-            | inr ne ↦ (t, set_other mid.sessions i j s ne ∙ at, same)
+            | inr ne ↦ (t, slice_get-set_other mid.sessions i j s ne ∙ at, same)
           ];
     }
 
@@ -207,7 +211,7 @@ module _ (f : Formula) (all : List Tagged) where
       text = n.text ++ reply;
       ends = subst (λ ts. AreEnds f all ts (n.text ++ reply)) (sym tags_more) (ends_more (take i (tag_list first)) s.tag n.text reply n.ends h);
       added = e ∙ ap (λ w. w ++ reply) n.added ∙ append_assoc before n.text reply;
-      others = λ j l. set_other now i j t (λ same. absurd (omega (arith, l, same))) ∙ n.others j (omega (arith, l));
+      others = λ j l. slice_get-set_other now i j t (λ same. absurd (omega (arith, l, same))) ∙ n.others j (omega (arith, l));
     }
 
     -- it was cut short
@@ -220,7 +224,7 @@ module _ (f : Formula) (all : List Tagged) where
           (sym (take-append-drop i (tag_list first))) h) in
           let same = ends_same (take i (tag_list first)) parts.0 n.text parts.2 n.ends in
           let here = first_end s.tag (drop (suc i) (tag_list first)) parts.1 (subst (λ ts. AreEnds f all ts parts.1)
-          (drop_at (tag_list first) i s.tag (tag_at first i s at_first)) parts.3) in
+          (drop_on (tag_list first) i s.tag (tag_at first i s at_first)) parts.3) in
           let (rest, k) = c.begins here.0 here.1 in (
             rest ++ here.2,
             parts.4 ∙ ap (λ w. w ++ parts.1) same ∙ ap (λ w. n.text ++ w) (here.3 ∙ ap (λ w. w ++ here.2) k ∙ append_assoc c.first rest here.2)

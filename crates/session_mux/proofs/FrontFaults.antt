@@ -4,23 +4,21 @@ use Rattle.std.proofs.Common.{length, take, refl, sym, ap, ◌∙◌, subst, ari
 use Rattle.std.specs.Prelude.{MatchBool}
 use Rattle.std.proofs.lemmas.Bool.{false≢true}
 use Rattle.std.proofs.lemmas.List.{take-append-le}
+use Rattle.rational.proofs.Tests.{match_weaker}
 use Rattle.stl_syntax.specs.Choice.{◌or_else◌}
 use Rattle.stl_syntax.specs.Formula.{Formula}
 use Rattle.stl_syntax.specs.Trace.{Row}
 use Rattle.stl_syntax.specs.declared.scale.Scale.{Scale}
 use Rattle.trace_reader.specs.TraceText.{Line, lines, is_blank_line, Heading, scale_of}
 use Rattle.trace_reader.specs.TraceRefusals.{FaultFrom, FaultAfter}
-use Rattle.trace_reader.specs.InputFaults.{Fault, line_of, IsHeaderAt, here, later, IsUnknownIn, IsUnitIn, IsInputFault}
+use Rattle.trace_reader.specs.InputFaults.{Fault, line_of, IsHeaderAt, IsUnknownIn, IsUnitIn, IsInputFault}
 use Rattle.trace_reader.specs.declared.refusal.Limits.{Limits}
 use Rattle.trace_reader.specs.declared.refusal.TraceRefusal.{TraceRefusal}
 use Rattle.trace_reader.proofs.OpenLines.{Parts, lines-now}
 use Rattle.trace_stream.proofs.FaultPlaces.{InRow, InHeading, fault_within}
 use Rattle.trace_stream.proofs.FaultsStay.{lack_stays}
 use Rattle.trace_stream.proofs.HeaderLines.{header_within}
-
-either : (b : Bool) (A B C D : Type 0) → (A → C) → (B → D) → MatchBool b A B → MatchBool b C D
-either true A B C D f g m = f m
-either false A B C D f g m = g m
+use Rattle.trace_stream.proofs.RowsBefore.{header_in}
 
 module _ (limits : Limits) (x : TraceRefusal) where
   -- a fault after line n - 1 stands in a line from n on
@@ -57,7 +55,7 @@ module _ (limits : Limits) (x : TraceRefusal) where
       λ (f : FaultAfter limits s h false (suc n) count last (front ++ tail) x). early_after s h (suc n) count last front tail f (omega (arith, low)) in
       let more = λ (r : Row) (f : FaultAfter limits s h false (suc n) (suc count) (Some r.time) (front ++ tail) x).
       early_after s h (suc n) (suc count) (Some r.time) front tail f (omega (arith, low)) in
-      inr (sound, (w, either (is_blank_line l) _ _ _ _ blank (λ f. elim f [ inl a ↦ inl a | inr a ↦ inr (a.0, (a.1.0, a.1.1, more a.1.0 a.1.2)) ]) m))
+      inr (sound, (w, match_weaker (is_blank_line l) _ _ _ _ blank (λ f. elim f [ inl a ↦ inl a | inr a ↦ inr (a.0, (a.1.0, a.1.1, more a.1.0 a.1.2)) ]) m))
 
   -- a fault of lines that stands in the first of them is one of those
   early_from : (least : Scale) (n : ℕ) (front tail : List Line) → FaultFrom limits least false n (front ++ tail) x → suc x.line ≤ n + length front
@@ -68,13 +66,7 @@ module _ (limits : Limits) (x : TraceRefusal) where
       let blank = λ (f : FaultFrom limits least false (suc n) (front ++ tail) x). early_from least (suc n) front tail f (omega (arith, low)) in
       let more = λ (h : Heading) (f : FaultAfter limits (scale_of least h) h false (suc n) 0 None (front ++ tail) x).
       early_after (scale_of least h) h (suc n) 0 None front tail f (omega (arith, low)) in
-      inr (sound, (w, either (is_blank_line l) _ _ _ _ blank (λ f. elim f [ inl a ↦ inl a | inr a ↦ inr (a.0, (a.1.0, a.1.1, more a.1.0 a.1.2)) ]) m))
-
--- a header that stands in the first lines is theirs
-header_early : (front tail : List Line) {n : ℕ} {h : Heading} → IsHeaderAt (front ++ tail) n h → n ≤ length front → IsHeaderAt front n h
-header_early [] tail at low = absurd (omega (arith, low, (header_within at).0))
-header_early (l ∷ front) tail (here w b is) low = here w b is
-header_early (l ∷ front) tail (later w b at) low = later w b (header_early front tail at (omega (arith, low)))
+      inr (sound, (w, match_weaker (is_blank_line l) _ _ _ _ blank (λ f. elim f [ inl a ↦ inl a | inr a ↦ inr (a.0, (a.1.0, a.1.1, more a.1.0 a.1.2)) ]) m))
 
 -- what a header lacks is told in its line
 lack_line : (f : Formula) (n : ℕ) (h : Heading) (x : Fault) → (IsUnknownIn f n h or_else IsUnitIn f n h) x → line_of x ≡ n
@@ -106,7 +98,7 @@ module _ (limits : Limits) (f : Formula) (a b : List ℕ) (p : Parts a []) where
       inl (
         n,
         h,
-        subst (λ ls. IsHeaderAt ls n h) (sym lines_first) (header_early p.front (lines false b) (subst (λ ls. IsHeaderAt ls n h) lines_all at) low'),
+        subst (λ ls. IsHeaderAt ls n h) (sym lines_first) (header_in p.front (lines false b) (subst (λ ls. IsHeaderAt ls n h) lines_all at) low'),
         lack,
         λ r fault. clean r (subst (λ ls. FaultFrom limits f.scale false 1 ls r) same fault),
       )

@@ -1,13 +1,13 @@
 -- What a session writes for first bytes whose last line has ended, where it writes a text for more bytes.
 use Rattle.std.proofs.Common.{◌≡◌, ◌⊎◌, inl, inr, ℕ, suc, ◌+◌, ◌-◌, ◌<◌, ◌≤◌, Bool, true, false}
-use Rattle.std.proofs.Common.{List, [], ◌∷◌, ◌++◌, length, take, refl, sym, ap, ◌∙◌, subst, arith, append-nil, append_assoc, Option, Some, None, ℤ}
+use Rattle.std.proofs.Common.{List, [], ◌∷◌, ◌++◌, length, take, refl, sym, ap, ◌∙◌, subst, arith, append-nil, append_assoc, Option, Some, None}
 use Rattle.std.specs.Prelude.{All}
 use Rattle.std.proofs.lemmas.Bool.{false≢true, cases_lt}
 use Rattle.std.proofs.lemmas.List.{take-append-le}
 use Rattle.std.proofs.lemmas.List.Elements.{All-head, All-tail}
-use Rattle.stl_syntax.specs.Formula.{Formula, Subformula, root}
+use Rattle.stl_syntax.specs.Formula.{Formula, root}
 use Rattle.stl_syntax.specs.Scaling.{scaled}
-use Rattle.stl_syntax.specs.Stream.{NewText, IsNewText, IsRowsText, IsStreamText}
+use Rattle.stl_syntax.specs.Stream.{IsNewText, IsRowsText, IsStreamText}
 use Rattle.stl_syntax.specs.Trace.{Header, Row}
 use Rattle.stl_syntax.specs.declared.scale.Scale.{Scale}
 use Rattle.trace_reader.specs.TraceText.{Line, lines, Heading, AreRowLines, none as no_lines, blank, row, AreTraceLines, heading, scale_of}
@@ -23,6 +23,7 @@ use Rattle.trace_stream.proofs.HeaderLines.{header_stays}
 use Rattle.trace_stream.proofs.OneFault.{one_fault}
 use Rattle.trace_stream.proofs.OwedRows.{stream_owed_grows}
 use Rattle.trace_stream.proofs.RowsBefore.{RowLine, goes_on, is_blank, is_row, row_line, TraceLine, is_heading, trace_line, fault_stays}
+use Rattle.trace_stream.proofs.FrontTexts.{rows_text_front}
 use Rattle.session_mux.specs.Sessions.{IsRowsStream, IsFaultLine, Alone}
 use Rattle.session_mux.proofs.FrontFaults.{lines_first, lines_all, fault_in_front, fault_early}
 use Rattle.session_mux.proofs.OwedLines.{take_past}
@@ -69,14 +70,6 @@ trace_split least (l ∷ front) tail header rows whole are =
     by_line (is_heading h w b is m e) on =
         let (x, y, p, k) = rows_split (scale_of least h) h front tail rows (All-tail IsDone l front whole) m in
         headed x y (subst (λ (z : Header). AreTraceLines least (l ∷ front) z x) (sym e) (heading h w b is p)) k
-
--- rows have a text where they and more rows have one
-text_split : (New : NewText) (p : Subformula) (header : Header) (rows : List Row) (old : Option ℤ) (more beyond : List Row) (text : List ℕ)
-    → IsRowsText New p header rows old (more ++ beyond) text → (t : List ℕ) × IsRowsText New p header rows old more t
-text_split New p header rows old [] beyond text is = ([], refl)
-text_split New p header rows old (r ∷ more) beyond text (here, later, new, rest, e) =
-    let (t, q) = text_split New p header (rows ++ r ∷ []) _ more beyond later rest in
-    (here ++ t, (here, t, new, q, refl))
 
 -- ---- what is written for first bytes
 
@@ -162,7 +155,7 @@ module _ (f : Formula) (a b : List ℕ) (p : Parts a []) where
     by_split header rows stream said (headless none) = no_header_there none
     by_split header rows stream said (headed x y read e) =
         let q = root (scaled f header.scale).nodes in
-        let (t, is) = text_split (IsNewText q) q header [] None x y stream (subst (λ rs. IsRowsText (IsNewText q) q header [] None rs stream) e said) in (
+        let (t, is) = rows_text_front (IsNewText q) q header [] None x y stream (subst (λ rs. IsRowsText (IsNewText q) q header [] None rs stream) e said) in (
           t,
           (
             Some header,

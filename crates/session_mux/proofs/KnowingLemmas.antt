@@ -1,12 +1,13 @@
 -- Sessions that are found by their tags: a line is its own session's alone.
 use Rattle.std.proofs.Common.{◌≡◌, ◌≢◌, ◌⊎◌, inl, inr, refl, sym, ap, subst, ◌∙◌, ℕ, zero, suc, ◌<◌, Bool}
-use Rattle.std.proofs.Common.{true, false, List, [], ◌∷◌, ◌++◌, length, drop, set, arith, Option, Some, None}
+use Rattle.std.proofs.Common.{true, false, List, [], ◌∷◌, ◌++◌, length, set, arith, Option, Some, None}
 use Rattle.std.specs.Prelude.{bytes_eq, slice_get, if◌then◌else◌, ◌||◌}
 use Rattle.std.specs.Ordering.{nat_cmp, is_eq}
 use Rattle.std.proofs.lemmas.Bool.Decides.{nat_tests}
 use Rattle.std.proofs.lemmas.Bool.{false≢true, cases_eq}
 use Rattle.std.proofs.lemmas.List.{append-nil, map-append}
 use Rattle.std.proofs.lemmas.Slice.Eq.{bytes_eq-Decides}
+use Rattle.rational.proofs.Lists.{slice_get-push_cases, slice_get-append_left, slice_get-append_here}
 use Rattle.stl_syntax.specs.Characters.{is_among}
 use Rattle.stl_syntax.specs.Formula.{Formula}
 use Rattle.session_mux.specs.Sessions.{Tagged, IsTag}
@@ -47,28 +48,6 @@ at_among (x ∷ sessions) t e = by_test (at_among sessions t) (bytes_eq t x.tag)
     by_test more true k h = (0, x, refl, sym ((bytes_eq-Decides t x.tag).0 k))
     by_test more false k h = let (i, s, at, same) = more h in (suc i, s, at, same)
 
--- an item of a list with one more
-pub item_of_more : {X : Type 0} (xs : List X) (y : X) (i : ℕ) (x : X) → slice_get (xs ++ y ∷ []) i ≡ Some x
-    → (slice_get xs i ≡ Some x) ⊎ ((i ≡ length xs) × (x ≡ y))
-item_of_more [] y zero x e = inr (refl, let z : Some y ≡ Some x = e in cc)
-item_of_more [] y (suc i) x e = absurd (let z : None ≡ Some x = e in cc)
-item_of_more (z ∷ xs) y zero x e = inl e
-item_of_more (z ∷ xs) y (suc i) x e = elim (item_of_more xs y i x e) [
-  | inl k ↦ inl k
-  | inr k ↦ inr (ap suc k.0, k.1)
-]
-
--- an item stays at its place when one is added at the end
-pub item_stays : {X : Type 0} (xs : List X) (y : X) (i : ℕ) (x : X) → slice_get xs i ≡ Some x → slice_get (xs ++ y ∷ []) i ≡ Some x
-item_stays [] y i x e = absurd (let z : None ≡ Some x = e in cc)
-item_stays (z ∷ xs) y zero x e = e
-item_stays (z ∷ xs) y (suc i) x e = item_stays xs y i x e
-
--- the one that is added stands last
-pub last_item_is : {X : Type 0} (xs : List X) (y : X) → slice_get (xs ++ y ∷ []) (length xs) ≡ Some y
-last_item_is [] y = refl
-last_item_is (z ∷ xs) y = last_item_is xs y
-
 -- an item of a list with one changed
 pub item_of_set : {X : Type 0} (xs : List X) (i j : ℕ) (y x : X) → i < length xs → slice_get (set xs i y) j ≡ Some x
     → ((j ≡ i) × (x ≡ y)) ⊎ ((j ≢ i) × (slice_get xs j ≡ Some x))
@@ -81,20 +60,6 @@ item_of_set (z ∷ xs) (suc i) (suc j) y x within e = elim (item_of_set xs i j y
   | inr k ↦ inr (λ same. k.0 (omega (arith, same)), k.1)
 ]
 
--- an item that is set stands at its place
-pub set_is : {X : Type 0} (xs : List X) (i : ℕ) (y : X) → i < length xs → slice_get (set xs i y) i ≡ Some y
-set_is [] i y within = absurd (omega (arith, within))
-set_is (z ∷ xs) zero y within = refl
-set_is (z ∷ xs) (suc i) y within = set_is xs i y (omega (arith, within))
-
--- all items but the one that is set stay as they are
-pub set_other : {X : Type 0} (xs : List X) (i j : ℕ) (y : X) → j ≢ i → slice_get (set xs i y) j ≡ slice_get xs j
-set_other [] i j y ne = refl
-set_other (z ∷ xs) zero zero y ne = absurd (ne refl)
-set_other (z ∷ xs) zero (suc j) y ne = refl
-set_other (z ∷ xs) (suc i) zero y ne = refl
-set_other (z ∷ xs) (suc i) (suc j) y ne = set_other xs i j y (λ e. ne (ap suc e))
-
 -- the tags stay where a session with the same tag is put
 pub tags_of_set : (sessions : List Session) (i : ℕ) (s t : Session) → slice_get sessions i ≡ Some s → t.tag ≡ s.tag
     → tag_list (set sessions i t) ≡ tag_list sessions
@@ -103,12 +68,6 @@ tags_of_set (x ∷ sessions) zero s t at e =
     let same : x ≡ s = (let z : Some x ≡ Some s = at in cc) in
     ap (λ w. w ∷ tag_list sessions) (e ∙ ap (λ (y : Session). y.tag) (sym same))
 tags_of_set (x ∷ sessions) (suc i) s t at e = ap (λ ts. x.tag ∷ ts) (tags_of_set sessions i s t at e)
-
--- from an item on
-pub drop_at : {X : Type 0} (xs : List X) (i : ℕ) (x : X) → slice_get xs i ≡ Some x → drop i xs ≡ x ∷ drop (suc i) xs
-drop_at [] i x e = absurd (let z : None ≡ Some x = e in cc)
-drop_at (y ∷ xs) zero x e = let z : Some y ≡ Some x = e in cc
-drop_at (y ∷ xs) (suc i) x e = drop_at xs i x e
 
 -- an option holds one item
 pub one_item : {X : Type 0} (o : Option X) (x y : X) → o ≡ Some x → o ≡ Some y → x ≡ y
@@ -183,7 +142,7 @@ module _ (f : Formula) (seen : List Tagged) (x : Tagged) (i : ℕ) (old mid : Kn
       apart a c ne = grind (arith, nat_tests, ne)
 
   each_said : EachHasSaid f seen mid.sessions.items
-  each_said j s at = elim (item_of_more old.sessions.items b.session j s (subst (λ ss. slice_get ss j ≡ Some s) b.sessions at)) [
+  each_said j s at = elim (slice_get-push_cases old.sessions.items b.session j s (subst (λ ss. slice_get ss j ≡ Some s) b.sessions at)) [
     | inl h ↦ k.said j s h
     | inr h ↦ fresh_said s h.1
   ]
@@ -202,7 +161,7 @@ module _ (f : Formula) (seen : List Tagged) (x : Tagged) (i : ℕ) (old mid : Kn
 
   are_found : AreFound mid.sessions.items mid.places.entries
   are_found = record {
-    at = λ j s at. elim (item_of_more old.sessions.items b.session j s (subst (λ ss. slice_get ss j ≡ Some s) b.sessions at)) [
+    at = λ j s at. elim (slice_get-push_cases old.sessions.items b.session j s (subst (λ ss. slice_get ss j ≡ Some s) b.sessions at)) [
       | inl h ↦ at_other (number_of s.tag) (other j s h) ∙ k.found.at j s h
       | inr h ↦ ap (λ n. place_in mid.places.entries n) (ap number_of (ap (λ (t : Session). t.tag) h.1 ∙ b.tag)) ∙ at_number ∙ ap Some (b.at ∙ sym h.0)
     ];
@@ -210,11 +169,11 @@ module _ (f : Formula) (seen : List Tagged) (x : Tagged) (i : ℕ) (old mid : Kn
       | inl same ↦ (
         b.session,
         subst (λ m. slice_get mid.sessions.items m ≡ Some b.session) (sym (place_of n j e same))
-            (subst (λ ss. slice_get ss (length old.sessions.items) ≡ Some b.session) (sym b.sessions) (last_item_is old.sessions.items b.session)),
+            (subst (λ ss. slice_get ss (length old.sessions.items) ≡ Some b.session) (sym b.sessions) (slice_get-append_here old.sessions.items b.session [])),
         ap number_of b.tag ∙ sym same,
       )
       | inr ne ↦ (let (s, at, same) = k.found.only n j (sym (at_other n ne) ∙ e) in
-          (s, subst (λ ss. slice_get ss j ≡ Some s) (sym b.sessions) (item_stays old.sessions.items b.session j s at), same))
+          (s, subst (λ ss. slice_get ss j ≡ Some s) (sym b.sessions) (slice_get-append_left old.sessions.items (b.session ∷ []) j s at), same))
     ];
   }
     where
@@ -239,7 +198,7 @@ module _ (f : Formula) (seen : List Tagged) (x : Tagged) (i : ℕ) (old mid : Kn
     last = inr at_number;
     session = b.session;
     at = subst (λ ss. slice_get ss i ≡ Some b.session) (sym b.sessions)
-        (subst (λ m. slice_get (old.sessions.items ++ b.session ∷ []) m ≡ Some b.session) (sym b.at) (last_item_is old.sessions.items b.session));
+        (subst (λ m. slice_get (old.sessions.items ++ b.session ∷ []) m ≡ Some b.session) (sym b.at) (slice_get-append_here old.sessions.items b.session []));
     tag = b.tag;
     room = inr (omega (arith, b.room, ap length k.tags, tag_count old.sessions.items));
   })

@@ -1,7 +1,7 @@
 -- The first line of a text, and the lines of one line after another.
-use Rattle.std.proofs.Common.{◌≡◌, refl, sym, ap, ◌∙◌, ℕ, ◌+◌, ◌-◌, ◌<◌, true, List, [], ◌∷◌, ◌++◌, length, take, drop, append_assoc, length-drop, arith}
+use Rattle.std.proofs.Common.{◌≡◌, refl, sym, ap, ◌∙◌, ℕ, ◌+◌, ◌-◌, ◌<◌, true, List, [], ◌∷◌, ◌++◌, length, take, drop, append_assoc, arith}
 use Rattle.std.specs.Prelude.{map}
-use Rattle.std.proofs.lemmas.List.{append-nil, take-append-drop, take_all, map-append}
+use Rattle.std.proofs.lemmas.List.{append-nil, take-append-drop, map-append}
 use Rattle.std.proofs.lemmas.Grind.{flat_map-append}
 use Rattle.circular_buffer.specs.Buffer.{Buffer, buffer, keep_last}
 use Rattle.memchr.specs.Find.{is_byte, Nowhere, NoneBefore, Passes}
@@ -27,10 +27,6 @@ line_found text at before here within =
 pub line_alone : (text : List ℕ) → 0 < length text → Nowhere (Passes (is_byte 10) text) 0 (length text) → lines true text ≡ done text ∷ []
 line_alone [] some none = absurd (omega (arith, some))
 line_alone (c ∷ text) some none = lines-rest true (c ∷ text) (none-free (c ∷ text) none)
-
--- all that is left
-pub whole_drop : (n : ℕ) (text : List ℕ) → take (length text - n) (drop n text) ≡ drop n text
-whole_drop n text = take_all (length text - n) (drop n text) (omega (arith, length-drop n text))
 
 -- ---- said so far
 

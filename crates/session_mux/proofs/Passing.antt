@@ -3,6 +3,7 @@ use Rattle.std.proofs.Common.{◌≡◌, ◌⊎◌, inl, inr, ℕ, suc, ◌+◌,
 use Rattle.std.proofs.Common.{◌++◌, length, refl, sym, ap, ◌∙◌, subst, arith, add-zero, zero-add, append-nil}
 use Rattle.std.specs.Prelude.{All, IsTrue, MatchBool, ◌||◌, bytes_eq, if◌then◌else◌}
 use Rattle.std.proofs.lemmas.List.Elements.{All-nil, All-cons}
+use Rattle.std.proofs.Math.Bool.{or-false}
 use Rattle.stl_syntax.specs.Characters.{is_among}
 use Rattle.trace_reader.specs.TraceText.{Line, content, is_blank_line}
 use Rattle.trace_reader.proofs.LineLemmas.{IsDone, rest}
@@ -270,10 +271,6 @@ or_shift true false c = refl
 or_shift false true c = refl
 or_shift false false c = refl
 
-or_false : (b : Bool) → (b || false) ≡ b
-or_false true = refl
-or_false false = refl
-
 -- a tag is known after the lines where it was before, or is one of theirs
 pub known_among : (t : List ℕ) {n : ℕ} {known after : List (List ℕ)} {front : List Line} {tagged : List Tagged} → ArePassed n known front tagged after
     → is_among t after ≡ (is_among t (tags_after known tagged) || is_among t known)
@@ -287,9 +284,6 @@ known_among t {known = known} (new_tag {x = x} {tagged = tagged} sized w b is a 
     ∙ or_shift (is_among t (tags_after (x.tag ∷ known) tagged)) (bytes_eq t x.tag) (is_among t known)
     ∙ ap (λ (b : Bool). is_among t (if b then tags_after known tagged else x.tag ∷ tags_after (x.tag ∷ known) tagged) || is_among t known) (sym a)
 
-count_next : (a k : ℕ) → a + suc k ≡ suc a + k
-count_next a k = omega arith
-
 -- and so many are known
 pub known_length : {n : ℕ} {known after : List (List ℕ)} {front : List Line} {tagged : List Tagged} → ArePassed n known front tagged after
     → length after ≡ length (tags_after known tagged) + length known
@@ -299,13 +293,13 @@ known_length {known = known} (old_tag {x = x} {tagged = tagged} sized w b is a r
     known_length rest ∙ ap (λ (b : Bool). length (if b then tags_after known tagged else x.tag ∷ tags_after (x.tag ∷ known) tagged) + length known) (sym a)
 known_length {known = known} (new_tag {x = x} {tagged = tagged} sized w b is a room rest) =
     known_length rest
-    ∙ count_next (length (tags_after (x.tag ∷ known) tagged)) (length known)
+    ∙ number_next (length (tags_after (x.tag ∷ known) tagged)) (length known)
     ∙ ap (λ (b : Bool). length (if b then tags_after known tagged else x.tag ∷ tags_after (x.tag ∷ known) tagged) + length known) (sym a)
 
 -- from the first line on
 pub known_tag : (t : List ℕ) {after : List (List ℕ)} {front : List Line} {tagged : List Tagged}
     → ArePassed 1 [] front tagged after → is_among t after ≡ is_among t (tags_after [] tagged)
-known_tag t {tagged = tagged} p = known_among t p ∙ or_false (is_among t (tags_after [] tagged))
+known_tag t {tagged = tagged} p = known_among t p ∙ or-false (is_among t (tags_after [] tagged))
 
 -- there are as many known tags as different tags of the lines
 pub known_count : {after : List (List ℕ)} {front : List Line} {tagged : List Tagged} → ArePassed 1 [] front tagged after

@@ -3,11 +3,12 @@ use Rattle.std.proofs.Common.{◌≡◌, inl, inr, refl, sym, ap, subst, ◌∙�
 use Rattle.std.proofs.Common.{List, [], ◌∷◌, ◌++◌, append_assoc, append-nil, length, take, drop}
 use Rattle.std.proofs.Common.{arith, length-append, take-append-drop, take-add, length-drop, get_or}
 use Rattle.std.specs.Prelude.{All, bytes_eq, ◌&&◌, ◌||◌, ◌==◌, map, Ok, Err}
-use Rattle.std.proofs.lemmas.Bool.{false≢true, eqb-true}
+use Rattle.std.proofs.lemmas.Bool.{false≢true, eqb-true, and_parts}
 use Rattle.std.proofs.lemmas.Grind.{flat_map-append}
 use Rattle.std.proofs.lemmas.List.{drop_more, length-take-le, length_push}
 use Rattle.std.proofs.lemmas.List.Elements.{All-head, All-tail, All-nil, All-cons, All-append}
 use Rattle.std.proofs.Math.Seq.{take-append_seam}
+use Rattle.rational.proofs.Lists.{take_rest}
 use Rattle.memchr.specs.Find.{is_byte, NoneBefore, Passes}
 use Rattle.std.proofs.lemmas.Slice.Eq.{bytes_eq-Decides}
 use Rattle.stl_syntax.specs.Characters.{is_space, all, is_among}
@@ -18,7 +19,6 @@ use Rattle.trace_reader.specs.TraceText.{Line, lines, content as content_of, is_
 use Rattle.trace_reader.proofs.FeedLemmas.{at-free, at-taken}
 use Rattle.trace_reader.proofs.LineLemmas.{lines-append, lines-line}
 use Rattle.trace_stream.proofs.FaultPlaces.{at_false}
-use Rattle.trace_stream.proofs.Fed.{rest_is}
 use Rattle.session_mux.specs.Sessions.{Tagged, IsTag, tag, IsTagged, followed, is_tag_byte, AreAnswers}
 use Rattle.session_mux.specs.Owning.{Own, own_of, asks, stops}
 use Rattle.session_mux.specs.Standing.{HasSaidSoFar}
@@ -49,14 +49,10 @@ byte_no_space c is = by_tests (c == 32) (c == 9) refl refl
     by_tests false true e k = absurd (false≢true (subst (λ d. is_tag_byte d ≡ true) (eqb-true c 9 k) is))
     by_tests false false e k = refl
 
-first_byte : (a b : Bool) → (a && b) ≡ true → a ≡ true
-first_byte true b e = refl
-first_byte false b e = absurd (false≢true e)
-
 -- a line that begins with a tag is not blank
 pub tag_not_blank : (t more : List ℕ) → IsTag t → all is_space (t ++ more) ≡ false
 tag_not_blank t more (tag {c = c} {rest = rest} bytes few) =
-    ap (λ b. b && all is_space (rest ++ more)) (byte_no_space c (first_byte (is_tag_byte c) (all is_tag_byte rest) bytes))
+    ap (λ b. b && all is_space (rest ++ more)) (byte_no_space c ((and_parts (is_tag_byte c) (all is_tag_byte rest) bytes).0))
 
 -- the front of a line by its bytes is a tag
 pub front_is_tag : (piece : List ℕ) (n : ℕ) → n ≤ length piece → all is_tag_byte (take n piece) ≡ true → (n ≡ 0 → ⊥) → n ≤ 16 → IsTag (take n piece)
@@ -257,7 +253,7 @@ gathered_none t piece most contents e = record {
 pub own_within : (t piece content : List ℕ) (n m : ℕ) → n ≤ length piece → IsOwnLine t (take (length piece - n) (drop n piece)) content m
     → n + m ≤ length piece
 own_within t piece content n m within own =
-    let bound : m ≤ length (drop n piece) = subst (λ p. m ≤ length p) (rest_is piece n) own.within in
+    let bound : m ≤ length (drop n piece) = subst (λ p. m ≤ length p) (take_rest piece n) own.within in
     omega (arith, bound, within, length-drop n piece)
 
 -- one line more
@@ -266,7 +262,7 @@ pub gathered_on : {t piece : List ℕ} {most n count : ℕ} {old mid new content
     → HasGathered t piece most (n + m) (count + 1) new
 gathered_on {t} {piece} {n = n} {content = content} {m = m} g less own with_content with_feed =
     let l : RunLine = record { bytes = own.bytes; content = content } in
-    let here : take m (drop n piece) ≡ own.bytes ++ newline = ap (take m) (sym (rest_is piece n)) ∙ own.taken in
+    let here : take m (drop n piece) ≡ own.bytes ++ newline = ap (take m) (sym (take_rest piece n)) ∙ own.taken in
     record {
       lines = g.lines ++ l ∷ [];
       each = All-append (IsRunLine t) g.lines (l ∷ []) g.each (All-cons (IsRunLine t) l [] own.is (All-nil (IsRunLine t)));

@@ -1,8 +1,8 @@
 -- Tags as numbers: each tag has one of its own, which is not 0.
 use Rattle.std.proofs.Common.{◌≡◌, get_or, drop, length-drop, refl, sym, ap, subst, ◌∙◌, ℕ, zero, suc, ◌+◌, ◌-◌, ◌*◌, ◌^◌, ◌⊎◌}
 use Rattle.std.proofs.Common.{inl, inr, ◌++◌, take, append-nil, ◌≢◌, ◌<◌, ◌≤◌, Bool, true, false, List, [], ◌∷◌, length, arith}
-use Rattle.std.specs.Prelude.{◌&&◌, ◌||◌}
-use Rattle.std.proofs.lemmas.Bool.{false≢true}
+use Rattle.std.specs.Prelude.{◌||◌}
+use Rattle.std.proofs.lemmas.Bool.{false≢true, and_parts}
 use Rattle.std.proofs.lemmas.Bool.Decides.{nat_tests}
 use Rattle.std.proofs.lemmas.List.{drop_more, drop_all, take_all, take-append-drop, length-take-le}
 use Rattle.std.proofs.Math.Seq.{drop-append_seam}
@@ -10,12 +10,6 @@ use Rattle.std.proofs.Math.Nat.{pow-suc}
 use Rattle.stl_syntax.specs.Characters.{all, StopsAt}
 use Rattle.session_mux.specs.Sessions.{Tagged, is_tag_byte, IsTag, tag, IsTagged, alone, followed}
 use Rattle.session_mux.specs.Tags.{number_of}
-
--- both tests
-both : (a b : Bool) → (a && b) ≡ true → (a ≡ true) × (b ≡ true)
-both true true e = (refl, refl)
-both true false e = absurd (false≢true e)
-both false b e = absurd (false≢true e)
 
 either : (a b : Bool) → (a || b) ≡ true → (P : Type 0) → (a ≡ true → P) → (b ≡ true → P) → P
 either true b e P f g = f refl
@@ -29,14 +23,14 @@ tag_byte c e = grind (arith, nat_tests, e)
 pub number_once : (xs ys : List ℕ) → all is_tag_byte xs ≡ true → all is_tag_byte ys ≡ true → number_of xs ≡ number_of ys → xs ≡ ys
 number_once [] [] h k e = refl
 number_once [] (d ∷ ys) h k e =
-    let d_in = tag_byte d (both (is_tag_byte d) (all is_tag_byte ys) k).0 in
+    let d_in = tag_byte d (and_parts (is_tag_byte d) (all is_tag_byte ys) k).0 in
     absurd (omega (arith, e, d_in.0))
 number_once (c ∷ xs) [] h k e =
-    let c_in = tag_byte c (both (is_tag_byte c) (all is_tag_byte xs) h).0 in
+    let c_in = tag_byte c (and_parts (is_tag_byte c) (all is_tag_byte xs) h).0 in
     absurd (omega (arith, e, c_in.0))
 number_once (c ∷ xs) (d ∷ ys) h k e =
-    let here = both (is_tag_byte c) (all is_tag_byte xs) h in
-    let there = both (is_tag_byte d) (all is_tag_byte ys) k in
+    let here = and_parts (is_tag_byte c) (all is_tag_byte xs) h in
+    let there = and_parts (is_tag_byte d) (all is_tag_byte ys) k in
     let c_in = tag_byte c here.0 in
     let d_in = tag_byte d there.0 in
     let same : c ≡ d = omega (arith, e, c_in.1, d_in.1) in
@@ -46,7 +40,7 @@ number_once (c ∷ xs) (d ∷ ys) h k e =
 -- it is not 0
 pub number_some : (t : List ℕ) → IsTag t → 0 < number_of t
 number_some t (tag {c = c} {rest = rest} bytes short) =
-    let c_in = tag_byte c (both (is_tag_byte c) (all is_tag_byte rest) bytes).0 in
+    let c_in = tag_byte c (and_parts (is_tag_byte c) (all is_tag_byte rest) bytes).0 in
     omega (arith, c_in.0)
 
 -- a tag's bytes, and how many they are
@@ -70,7 +64,7 @@ number_below : (n : ℕ) (xs : List ℕ) → length xs ≤ n → all is_tag_byte
 number_below n [] few h = some_power n
 number_below zero (c ∷ xs) few h = absurd (omega (arith, few))
 number_below (suc n) (c ∷ xs) few h =
-    let here = both (is_tag_byte c) (all is_tag_byte xs) h in
+    let here = and_parts (is_tag_byte c) (all is_tag_byte xs) h in
     let c_in = tag_byte c here.0 in
     let less : number_of xs < 256 ^ n = number_below n xs (omega (arith, few)) here.1 in
     omega (arith, pow-suc 256 n, less, c_in.1)
@@ -78,7 +72,7 @@ number_below (suc n) (c ∷ xs) few h =
 all_drop : (k : ℕ) (xs : List ℕ) → all is_tag_byte xs ≡ true → all is_tag_byte (drop k xs) ≡ true
 all_drop zero xs h = h
 all_drop (suc k) [] h = h
-all_drop (suc k) (c ∷ xs) h = all_drop k xs (both (is_tag_byte c) (all is_tag_byte xs) h).1
+all_drop (suc k) (c ∷ xs) h = all_drop k xs (and_parts (is_tag_byte c) (all is_tag_byte xs) h).1
 
 -- each end of a tag has a number of 128 bits
 number_small : (t : List ℕ) (k : ℕ) → IsTag t → number_of (drop k t) < 2 ^ 128
@@ -126,11 +120,11 @@ run_once : (t rest : List ℕ) (n : ℕ) → all is_tag_byte t ≡ true → Stop
     → StopsAt is_tag_byte (drop n (t ++ rest)) → n ≡ length t
 run_once [] rest zero h k within front stops = refl
 run_once [] [] (suc n) h k within front stops = absurd (omega (arith, within))
-run_once [] (c ∷ rest) (suc n) h k within front stops = absurd (false≢true (sym k ∙ (both (is_tag_byte c) (all is_tag_byte (take n rest)) front).0))
-run_once (c ∷ t) rest zero h k within front stops = absurd (false≢true (sym stops ∙ (both (is_tag_byte c) (all is_tag_byte t) h).0))
+run_once [] (c ∷ rest) (suc n) h k within front stops = absurd (false≢true (sym k ∙ (and_parts (is_tag_byte c) (all is_tag_byte (take n rest)) front).0))
+run_once (c ∷ t) rest zero h k within front stops = absurd (false≢true (sym stops ∙ (and_parts (is_tag_byte c) (all is_tag_byte t) h).0))
 run_once (c ∷ t) rest (suc n) h k within front stops =
-    ap suc (run_once t rest n (both (is_tag_byte c) (all is_tag_byte t) h).1 k (omega (arith, within))
-    (both (is_tag_byte c) (all is_tag_byte (take n (t ++ rest))) front).1 stops)
+    ap suc (run_once t rest n (and_parts (is_tag_byte c) (all is_tag_byte t) h).1 k (omega (arith, within))
+    (and_parts (is_tag_byte c) (all is_tag_byte (take n (t ++ rest))) front).1 stops)
 
 -- so many bytes at the front of a line may be of a tag, and no more
 module _ (line : List ℕ) (n : ℕ) (within : n ≤ length line) (front : all is_tag_byte (take n line) ≡ true) (stops : StopsAt is_tag_byte (drop n line)) where

@@ -1,26 +1,18 @@
 -- A line has at most one tag and content.
-use Rattle.std.proofs.Common.{◌≡◌, ℕ, true, false, Bool, List, [], ◌∷◌, ◌++◌, refl, sym, ap, ◌∙◌, subst}
-use Rattle.std.specs.Prelude.{◌&&◌}
-use Rattle.std.proofs.lemmas.Bool.{false≢true}
+use Rattle.std.proofs.Common.{◌≡◌, ℕ, true, false, List, [], ◌∷◌, ◌++◌, refl, sym, ap, ◌∙◌, subst}
+use Rattle.std.proofs.lemmas.Bool.{false≢true, and_parts}
 use Rattle.stl_syntax.specs.Characters.{all}
-use Rattle.session_mux.specs.Sessions.{Tagged, is_tag_byte, IsTag, tag, IsTagged, alone, followed}
+use Rattle.session_mux.specs.Sessions.{Tagged, is_tag_byte, tag, IsTagged, alone, followed}
+use Rattle.session_mux.proofs.TagLemmas.{bytes_of}
 
 -- a text by its tag: alone, or followed by a space and the content
 data IsCut (c : List ℕ) (x : Tagged) : Type 0 where
   whole : all is_tag_byte x.tag ≡ true → c ≡ x.tag → x.content ≡ [] → IsCut c x
   with_content : all is_tag_byte x.tag ≡ true → c ≡ x.tag ++ 32 ∷ x.content → IsCut c x
 
-bytes_of : (t : List ℕ) → IsTag t → all is_tag_byte t ≡ true
-bytes_of t (tag bytes short) = bytes
-
 cut_of : {c : List ℕ} {x : Tagged} → IsTagged c x → IsCut c x
 cut_of (alone {t = t} is) = whole (bytes_of t is) refl refl
 cut_of (followed {t = t} content is) = with_content (bytes_of t is) refl
-
-both : (a b : Bool) → (a && b) ≡ true → (a ≡ true) × (b ≡ true)
-both true true e = (refl, refl)
-both true false e = absurd (false≢true e)
-both false b e = absurd (false≢true e)
 
 -- a space is of no tag
 no_space : (rest : List ℕ) → all is_tag_byte (32 ∷ rest) ≡ true → ⊥
@@ -29,7 +21,7 @@ no_space rest e = false≢true e
 not_within : (t u b : List ℕ) → all is_tag_byte t ≡ true → t ≡ u ++ 32 ∷ b → ⊥
 not_within t [] b h e = no_space b (subst (λ l. all is_tag_byte l ≡ true) e h)
 not_within [] (d ∷ u) b h e = cc
-not_within (c ∷ t) (d ∷ u) b h e = not_within t u b (both (is_tag_byte c) (all is_tag_byte t) h).1 (let k : t ≡ u ++ 32 ∷ b = cc in k)
+not_within (c ∷ t) (d ∷ u) b h e = not_within t u b (and_parts (is_tag_byte c) (all is_tag_byte t) h).1 (let k : t ≡ u ++ 32 ∷ b = cc in k)
 
 cut_once : (t u a b : List ℕ) → all is_tag_byte t ≡ true → all is_tag_byte u ≡ true → t ++ 32 ∷ a ≡ u ++ 32 ∷ b → (t ≡ u) × (a ≡ b)
 cut_once [] [] a b h k e = (refl, (let s : a ≡ b = cc in s))
@@ -42,7 +34,7 @@ cut_once (c ∷ t) [] a b h k e =
 cut_once (c ∷ t) (d ∷ u) a b h k e =
     let s : c ≡ d = cc in
     let r : t ++ 32 ∷ a ≡ u ++ 32 ∷ b = cc in
-    let (tags, contents) = cut_once t u a b (both (is_tag_byte c) (all is_tag_byte t) h).1 (both (is_tag_byte d) (all is_tag_byte u) k).1 r in
+    let (tags, contents) = cut_once t u a b (and_parts (is_tag_byte c) (all is_tag_byte t) h).1 (and_parts (is_tag_byte d) (all is_tag_byte u) k).1 r in
     (ap (λ z. z ∷ t) s ∙ ap (λ l. d ∷ l) tags, contents)
 
 same_parts : (x y : Tagged) → x.tag ≡ y.tag → x.content ≡ y.content → x ≡ y

@@ -4,6 +4,7 @@ use Rattle.std.proofs.Common.{[], ◌∷◌, ◌++◌, length, map, refl, sym, a
 use Rattle.std.proofs.Common.{append-nil, append_assoc, Some, None, ℤ, pos, ◌+ℤ◌, ◌-ℤ◌, ◌<ℤ◌, ◌≤ℤ◌}
 use Rattle.std.specs.Prelude.{cond, int_lt, MatchBool}
 use Rattle.std.proofs.lemmas.Int.{ints}
+use Rattle.std.proofs.lemmas.Option.{same_Some}
 use Rattle.rational.specs.Rational.{Rational, ◌≤ʳ◌, whole}
 use Rattle.rational.specs.Time.{closed, left_open, later}
 use Rattle.rational.proofs.Order.{le_trans, le_of_lt, le_or_lt, same_of_le}
@@ -17,20 +18,18 @@ use Rattle.stl_syntax.specs.Verdicts.{Describes}
 use Rattle.stl_syntax.specs.Stream.{answered_by, IsStretchText, IsNewText, IsRowsText}
 use Rattle.stl_syntax.specs.declared.items.Verdict.{Verdict}
 use Rattle.stl_syntax.proofs.LawProofs.{answers_stay}
+use Rattle.stl_syntax.proofs.RowsLemmas.{last_from}
 use Rattle.rational.specs.Places.{Place, begins, After, Before, Same}
+use Rattle.rational.proofs.Tests.{int_order, int_below, int_not_below}
 use Rattle.online_nodes.specs.Network.{Front}
 use Rattle.online_nodes.specs.Laws.{answered_to}
-use Rattle.online_nodes.proofs.RunLaw.{some_is, none_is_none, int_order}
+use Rattle.online_nodes.proofs.RunLaw.{none_is_none}
 use Rattle.online_nodes.proofs.StayLaw.{Agree}
 use Rattle.trace_stream.specs.Pendings.{just_after, IsTextOfRow, IsTextOfRows, AreUpTo}
 use Rattle.trace_stream.proofs.Cutting.{Leads, leads_describes, leads_moves, parts_of, of_none, none_up_to, AreParts}
 use Rattle.trace_stream.proofs.Watched.{front_after, front_push}
 
 -- ---- the times of rows
-
-rises_to : (width t : ℕ) (rows : List Row) → AreRowsAfter width t rows → t ≤ last_time t rows
-rises_to width t [] h = omega arith
-rises_to width t (r ∷ rows) h = omega (arith, h.0, rises_to width r.time rows h.2)
 
 last_on : (t : ℕ) (before more : List Row) (r : Row) → last_time t (before ++ r ∷ more) ≡ last_time r.time more
 last_on t [] more r = refl
@@ -39,23 +38,9 @@ last_on t (q ∷ before) more r = last_on q.time before more r
 -- a row is later than the one before it, and not later than the last
 rises_at : (width t : ℕ) (before more : List Row) (r : Row) → AreRowsAfter width t (before ++ r ∷ more)
     → (last_time t before < r.time) × (t ≤ last_time t before) × (r.time ≤ last_time r.time more)
-rises_at width t [] more r h = (h.0, omega arith, rises_to width r.time more h.2)
+rises_at width t [] more r h = (h.0, omega arith, last_from width r.time more h.2)
 rises_at width t (q ∷ before) more r h =
     let on = rises_at width q.time before more r h.2 in (on.0, omega (arith, h.0, on.1), on.2)
-
-not_lt : (f g : ℤ) → g ≤ℤ f → int_lt f g ≡ false
-not_lt f g h = by_test (int_lt f g) refl
-  where
-    by_test : (t : Bool) → int_lt f g ≡ t → int_lt f g ≡ false
-    by_test true e = absurd (let l : f <ℤ g = int_order f g true e in omega (arith, ints))
-    by_test false e = e
-
-is_lt : (f g : ℤ) → f <ℤ g → int_lt f g ≡ true
-is_lt f g h = by_test (int_lt f g) refl
-  where
-    by_test : (t : Bool) → int_lt f g ≡ t → int_lt f g ≡ true
-    by_test true e = e
-    by_test false e = absurd (let l : g ≤ℤ f = int_order f g false e in omega (arith, ints))
 
 module _ (p : Subformula) (header : Header) (all : List Row) (are : AreRows (length header.columns) all) where
   abbrev pub whole_trace : Trace
@@ -78,7 +63,7 @@ module _ (p : Subformula) (header : Header) (all : List Row) (are : AreRows (len
               → (o <ℤ (pos r.time -ℤ pos (horizon p))) × (pos b ≤ℤ o)
           by_test true e y = absurd (none_is_none o y)
           by_test false e y =
-              let same : pos l -ℤ pos (horizon p) ≡ o = some_is (pos l -ℤ pos (horizon p)) o y in
+              let same : pos l -ℤ pos (horizon p) ≡ o = same_Some (pos l -ℤ pos (horizon p)) o y in
               let from : pos b ≤ℤ (pos l -ℤ pos (horizon p)) = int_order (pos l -ℤ pos (horizon p)) (pos b) false e in
               (omega (arith, ints), omega (arith, ints))
 
@@ -86,7 +71,7 @@ module _ (p : Subformula) (header : Header) (all : List Row) (are : AreRows (len
       by_before [] e h = record {
         begin = sym (ap first_time e);
         low = subst (λ l. first_time l ≤ r.time) (sym e) (omega arith);
-        high = subst (λ l. r.time ≤ last_time 0 l) (sym e) (rises_to (length header.columns) r.time more h.1);
+        high = subst (λ l. r.time ≤ last_time 0 l) (sym e) (last_from (length header.columns) r.time more h.1);
         old = λ o x. absurd (none_is_none o x);
       }
       by_before (q ∷ bs) e h =
@@ -226,7 +211,7 @@ module _ (p : Subformula) (header : Header) (all : List Row) (are : AreRows (len
           all_front (q ∷ l) k = refl
 
           last_is : front_after p all ≡ Some last
-          last_is = all_front all are ∙ ap (λ t. cond t None (Some last)) (not_lt last (pos b) (omega (arith, ints, from, up)))
+          last_is = all_front all are ∙ ap (λ t. cond t None (Some last)) (int_not_below last (pos b) (omega (arith, ints, from, up)))
 
           now : Some g ≡ answered_by (first_time (before ++ r ∷ [])) p r.time
           now = sym (new_is (Some g) (ap (λ t. cond t None (Some g)) y))
@@ -271,7 +256,7 @@ module _ (p : Subformula) (header : Header) (all : List Row) (are : AreRows (len
           )
           new_text (Some o) z l =
               let k = x.old o z in
-              let rise : int_lt o (pos f) ≡ true = is_lt o (pos f) (omega (arith, ints, k.0, same)) in
+              let rise : int_lt o (pos f) ≡ true = int_below o (pos f) (omega (arith, ints, k.0, same)) in
               subst (λ t. MatchBool t (IsStretchText p tr (left_open (whole o) (whole (pos f))) here) (here ≡ [])) (sym rise)
               (some, leads_describes p tr (left_open (whole o) (whole (pos f))) some l (below (Some o) z), lines)
 

@@ -56,18 +56,6 @@ cut_is f (w ∷ vs) v part rest some e begun before after =
     subst (λ (z : Verdict). Before (begins (interval z.on)) (just_after f) × IsPartBefore f z part
     × ((more : Verdict) × IsPartAfter f z more × (slice_set (w ∷ vs) 0 rest ≡ more ∷ vs))) e (begun, before, (rest, after, refl))
 
--- the same verdicts the other way round
-pub alike_sym : (vs ws : List Verdict) → AreAlike vs ws → AreAlike ws vs
-alike_sym [] [] e = tt
-alike_sym [] (w ∷ ws) e = absurd e
-alike_sym (v ∷ vs) [] e = absurd e
-alike_sym (v ∷ vs) (w ∷ ws) (begin, end, holds, e) = (
-  record { time = same_sym begin.time; inside = sym begin.inside },
-  record { time = same_sym end.time; inside = sym end.inside },
-  sym holds,
-  alike_sym vs ws e,
-)
-
 -- ---- places
 
 -- no place comes before itself, by two names

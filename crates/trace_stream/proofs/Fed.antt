@@ -1,25 +1,22 @@
 -- A piece in parts.
 use Rattle.std.proofs.Common.{◌≡◌, ℕ, ◌+◌, ◌-◌, false, List, ◌++◌, length, take, drop, sym, ap, ◌∙◌, subst}
-use Rattle.std.proofs.Common.{take-append-drop, take-add, append_assoc, arith, length-drop, take_all}
+use Rattle.std.proofs.Common.{take-append-drop, take-add, append_assoc}
+use Rattle.rational.proofs.Lists.{take_rest}
 use Rattle.stl_syntax.specs.Formula.{Formula}
 use Rattle.trace_reader.specs.declared.refusal.Limits.{Limits}
 use Rattle.trace_stream.specs.CaseReader.{IsRefused}
 use Rattle.trace_stream.specs.declared.fault.StreamStop.{StreamStop}
 
--- the rest of a piece
-pub rest_is : (text : List ℕ) (at : ℕ) → take (length text - at) (drop at text) ≡ drop at text
-rest_is text at = take_all (length text - at) (drop at text) (omega (arith, length-drop at text))
-
 -- bytes with a piece up to a place, and n bytes more of it, are the bytes with the piece up to n further on
 pub fed : (bytes piece : List ℕ) (at n : ℕ) → (bytes ++ take at piece) ++ take n (take (length piece - at) (drop at piece)) ≡ bytes ++ take (at + n) piece
 fed bytes piece at n =
     append_assoc bytes (take at piece) (take n (take (length piece - at) (drop at piece)))
-    ∙ ap (λ l. bytes ++ (take at piece ++ take n l)) (rest_is piece at)
+    ∙ ap (λ l. bytes ++ (take at piece ++ take n l)) (take_rest piece at)
     ∙ ap (λ l. bytes ++ l) (sym (take-add at n piece))
 
 fed_all : (bytes piece : List ℕ) (at : ℕ) → (bytes ++ take at piece) ++ take (length piece - at) (drop at piece) ≡ bytes ++ piece
 fed_all bytes piece at =
-    ap (λ l. (bytes ++ take at piece) ++ l) (rest_is piece at) ∙ append_assoc bytes (take at piece) (drop at piece)
+    ap (λ l. (bytes ++ take at piece) ++ l) (take_rest piece at) ∙ append_assoc bytes (take at piece) (drop at piece)
     ∙ ap (λ l. bytes ++ l) (take-append-drop at piece)
 
 -- a refusal in the rest of the piece is one in the piece

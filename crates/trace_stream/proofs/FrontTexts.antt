@@ -144,7 +144,8 @@ front_rows limits f front back calm before = by_rows (open_line front) before
 
 -- ---- texts
 
-rows_text_front : (New : NewText) (p : Subformula) (header : Header) (before : List Row) (old : Option ℤ) (rows beyond : List Row)
+-- rows have a text where they and more rows have one
+pub rows_text_front : (New : NewText) (p : Subformula) (header : Header) (before : List Row) (old : Option ℤ) (rows beyond : List Row)
     (text : List ℕ) → IsRowsText New p header before old (rows ++ beyond) text
     → (short : List ℕ) × IsRowsText New p header before old rows short
 rows_text_front New p header before old [] beyond text t = ([], refl)

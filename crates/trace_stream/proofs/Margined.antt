@@ -3,6 +3,7 @@ use Rattle.std.proofs.Common.{◌≡◌, inl, inr, ℕ, ◌<◌, Bool, true, fal
 use Rattle.std.proofs.Common.{map, refl, sym, ap, ◌∙◌, subst, arith, append-nil, append_assoc, None}
 use Rattle.std.specs.Prelude.{◌≢◌, IfSome}
 use Rattle.std.proofs.lemmas.Bool.{false≢true}
+use Rattle.std.proofs.lemmas.List.{map-append}
 use Rattle.frac128.specs.Value.{value}
 use Rattle.value_laws.specs.Margins.{margin_function}
 use Rattle.value_laws.specs.declared.margin.Margin.{Margin}
@@ -14,7 +15,7 @@ use Rattle.stl_syntax.specs.declared.scale.Scale.{Scale}
 use Rattle.online_nodes.specs.MarginEdges.{Part, IsPartLine}
 use Rattle.online_nodes.specs.MarginStream.{IsMarginStream}
 use Rattle.online_robust.specs.Lining.{ArePartLines}
-use Rattle.online_robust.specs.Moving.{Move, turn_of, last_row_of, last_row_after}
+use Rattle.online_robust.specs.Moving.{Move, turn_of, last_row_of}
 use Rattle.online_robust.specs.Nets.{Parts, StandsFor, IsFault, IsGiven, IsWideIn, AreAllGiven}
 use Rattle.online_robust.specs.Pasts.{Past, part_of, trace_of}
 use Rattle.online_robust.specs.Steps.{IsStreamedCause}
@@ -22,6 +23,7 @@ use Rattle.online_robust.specs.declared.line.MarginLine.{MarginLine}
 use Rattle.online_robust.specs.declared.net.RobustFault.{RobustFault}
 use Rattle.online_robust.specs.declared.net.RobustFault.TheVariants as R
 use Rattle.online_robust.proofs.StreamTexts.{lines_more, stream_text}
+use Rattle.online_robust.proofs.Leaves.{last_row_time}
 use Rattle.trace_stream.specs.Cases.{IsCase, Takes, with_row}
 use Rattle.trace_stream.specs.Streams.{margins}
 use Rattle.trace_stream.specs.Wides.{IsNeededByThen}
@@ -35,23 +37,15 @@ use Rattle.trace_stream.specs.declared.margins.Margins.{Margins}
 
 -- ---- rows
 
-after_time : (r : Row) (rows : List Row) → (last_row_after r rows).time ≡ last_time r.time rows
-after_time r [] = refl
-after_time r (q ∷ rows) = after_time q rows
-
 later_row : (rows : List Row) (r : Row) → (0 < length rows → last_time 0 rows < r.time) → IfSome (last_row_of rows) (λ (l : Row). l.time < r.time)
 later_row [] r h = tt
-later_row (q ∷ rows) r h = subst (λ n. n < r.time) (sym (after_time q rows)) (h (omega arith))
+later_row (q ∷ rows) r h = subst (λ n. n < r.time) (sym (last_row_time q rows)) (h (omega arith))
 
 has_last_row : (width : ℕ) (rows : List Row) → AreRows width rows → last_row_of rows ≢ None
 has_last_row width [] are e = are
 has_last_row width (q ∷ rows) are e = cc
 
 -- ---- lines
-
-map-append : {A B : Type 0} (f : A → B) (xs ys : List A) → map f (xs ++ ys) ≡ map f xs ++ map f ys
-map-append f [] ys = refl
-map-append f (x ∷ xs) ys = ap (λ l. f x ∷ l) (map-append f xs ys)
 
 lines_joined : (scale : Scale) (a b : List Part) (x y : List ℕ) → ArePartLines scale a x → ArePartLines scale b y → ArePartLines scale (a ++ b) (x ++ y)
 lines_joined scale [] b x y first second = subst (λ l. ArePartLines scale b (l ++ y)) (sym first) second

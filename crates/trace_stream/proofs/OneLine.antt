@@ -31,8 +31,9 @@ rest_few : (e : Bool) (xs : List ℕ) → length (rest e xs) ≤ 1
 rest_few e [] = omega arith
 rest_few e (x ∷ xs) = omega arith
 
-free_few : (e : Bool) (xs : List ℕ) → HasNoFeed xs → length (lines e xs) ≤ 1
-free_few e xs free = subst (λ ls. length ls ≤ 1) (sym (lines-rest e xs free)) (rest_few e xs)
+-- bytes of one line without its LF are one line at most
+pub one_left : (e : Bool) (xs : List ℕ) → HasNoFeed xs → length (lines e xs) ≤ 1
+one_left e xs free = subst (λ ls. length ls ≤ 1) (sym (lines-rest e xs free)) (rest_few e xs)
 
 -- a line with its LF
 pub closed_line : (e : Bool) (a w : List ℕ) → HasNoFeed a → HasNoFeed w → lines e (a ++ (w ++ 10 ∷ [])) ≡ done (a ++ w) ∷ []
@@ -43,13 +44,9 @@ closed_line e a w p q =
 
 -- after the bytes of an unfinished line they are one line
 pub one_at_most : (e : Bool) (a t : List ℕ) → HasNoFeed a → IsOneLine t → length (lines e (a ++ t)) ≤ 1
-one_at_most e a t free (inl more) = free_few e (a ++ t) (All-append IsNoFeed a t free more)
+one_at_most e a t free (inl more) = one_left e (a ++ t) (All-append IsNoFeed a t free more)
 one_at_most e a t free (inr (w, more, is)) =
     subst (λ ls. length ls ≤ 1) (sym (ap (λ x. lines e (a ++ x)) is ∙ closed_line e a w free more)) (omega arith)
-
--- so are those bytes alone
-pub one_left : (e : Bool) (a : List ℕ) → HasNoFeed a → length (lines e a) ≤ 1
-one_left e a free = free_few e a free
 
 last_feed : (b : List ℕ) → HasNoFeed (b ++ 10 ∷ []) → ⊥
 last_feed [] h = All-head IsNoFeed 10 [] h refl

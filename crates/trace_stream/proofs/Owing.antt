@@ -15,6 +15,7 @@ use Rattle.stl_syntax.specs.declared.items.Verdict.{Verdict}
 use Rattle.stl_syntax.specs.declared.node.Node.{Node}
 use Rattle.stl_syntax.specs.declared.scale.Scale.{Scale}
 use Rattle.stl_syntax.proofs.WellFormedLemmas.{root_some}
+use Rattle.stl_syntax.proofs.VerdictsLaw.{alike_length, alike_sym}
 use Rattle.online_nodes.specs.Network.{Event, row, take as taken, node_is_atom, initial, after_event}
 use Rattle.online_nodes.specs.Network.{state_from, state, State, Front, shown, same_front, answered, Emitted}
 use Rattle.online_nodes.specs.Driven.{rows_of, steps_of, takes, pass_of, IsEmptied, IsDriven, by_rows}
@@ -33,12 +34,12 @@ use Rattle.trace_stream.specs.Watching.{first_truth, Pass, IsWatched, IsOwing, C
 use Rattle.trace_stream.specs.declared.case.Case.{Case}
 use Rattle.trace_stream.specs.declared.verdicts.Network.{Network}
 use Rattle.trace_stream.specs.declared.verdicts.Verdicts.{Verdicts}
-use Rattle.trace_stream.proofs.Passes.{state_after, parted, emitted_alike, alike_length, Gives, AreQuiet, quiet_shown, quiet_gives, pass_gives}
+use Rattle.trace_stream.proofs.Passes.{state_after, parted, emitted_alike, Gives, AreQuiet, quiet_shown, quiet_gives, pass_gives}
 use Rattle.trace_stream.proofs.Taking.{first_alike, emitted_takes}
 use Rattle.trace_stream.proofs.Watched.{no_row, shown_by, AreOthers, taken_on, rows_at}
 use Rattle.trace_stream.proofs.Watched.{driven_at, driven_emptied, none_driven, after_pass, Passing}
 use Rattle.trace_stream.proofs.Watched.{passing_of, pass_before, front_after, shown_after, rows_told}
-use Rattle.trace_stream.proofs.Cutting.{Leads, describes_leads, alike_sym, leads_alike}
+use Rattle.trace_stream.proofs.Cutting.{Leads, describes_leads, leads_alike}
 use Rattle.trace_stream.proofs.CutRows.{LeftTo, rows_cut}
 
 module _ (nodes : List Node) (header : Header) where

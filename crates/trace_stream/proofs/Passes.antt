@@ -6,15 +6,15 @@ use Rattle.std.specs.Prelude.{MatchBool, int_lt, cond, ◌==◌, ◌≢◌, slic
 use Rattle.std.proofs.lemmas.Int.{ints}
 use Rattle.std.proofs.lemmas.List.{length-take-le}
 use Rattle.std.proofs.Math.Seq.{get_or-append_seam}
-use Rattle.online_nodes.proofs.RunLaw.{int_order}
 use Rattle.stl_syntax.specs.Trace.{Header, Trace, first_time}
 use Rattle.stl_syntax.specs.Formula.{subformula, root}
 use Rattle.rational.specs.Time.{Rational, ◌≈◌}
 use Rattle.rational.proofs.Order.{same_sym, same_trans}
+use Rattle.rational.proofs.Tests.{int_order}
 use Rattle.stl_syntax.specs.Verdicts.{Describes, AreAlike}
 use Rattle.stl_syntax.specs.Texts.{IsNumberText, AreVerdictLines, bool_text, newline}
 use Rattle.stl_syntax.specs.declared.scale.Scale.{Scale}
-use Rattle.stl_syntax.proofs.VerdictsLaw.{Describes-unique}
+use Rattle.stl_syntax.proofs.VerdictsLaw.{Describes-unique, alike_length, none_alike, alike_append}
 use Rattle.stl_syntax.specs.Stream.{IsStretchText, IsNewText, after}
 use Rattle.stl_syntax.specs.declared.items.Verdict.{Verdict}
 use Rattle.stl_syntax.specs.declared.node.Node.{Node}
@@ -296,36 +296,19 @@ lines_alike scale (v ∷ vs) (w ∷ ws) text (begin, end, holds, e) (here, later
 
 -- ---- what a node gives out in a run is one list, but for the pairs by which times are written
 
--- lists that are alike stay so together
-pub alike_append : (a b c d : List Verdict) → AreAlike a c → AreAlike b d → AreAlike (a ++ b) (c ++ d)
-alike_append [] b [] d e f = f
-alike_append [] b (w ∷ c) d e f = absurd e
-alike_append (v ∷ a) b [] d e f = absurd e
-alike_append (v ∷ a) b (w ∷ c) d (begin, end, holds, e) f = (begin, end, holds, alike_append a b c d e f)
-
--- lists that are alike have as many verdicts
-pub alike_length : (vs ws : List Verdict) → AreAlike vs ws → length vs ≡ length ws
-alike_length [] [] e = refl
-alike_length [] (w ∷ ws) e = absurd e
-alike_length (v ∷ vs) [] e = absurd e
-alike_length (v ∷ vs) (w ∷ ws) e = ap suc (alike_length vs ws e.3)
-
-nil_alike : (vs ws : List Verdict) → vs ≡ [] → ws ≡ [] → AreAlike vs ws
-nil_alike vs ws e f = subst (λ l. AreAlike l ws) (sym e) (subst (λ l. AreAlike [] l) (sym f) tt)
-
 module _ (nodes : List Node) (header : Header) (k : ℕ) where
   gives_alike : (tr : Trace) (old new : Front) (vs ws : List Verdict) → Gives nodes header k tr old new vs → Gives nodes header k tr old new ws → AreAlike vs ws
-  gives_alike tr old None vs ws a b = nil_alike vs ws a b
+  gives_alike tr old None vs ws a b = none_alike vs ws a b
   gives_alike tr old (Some f) vs ws a b = by_test (same_front old (Some f)) a b
     where
       by_test : (t : Bool) → MatchBool t (vs ≡ []) (Describes vs (subformula nodes k) tr (answered (first_time tr.rows) old f))
           → MatchBool t (ws ≡ []) (Describes ws (subformula nodes k) tr (answered (first_time tr.rows) old f)) → AreAlike vs ws
-      by_test true a b = nil_alike vs ws a b
+      by_test true a b = none_alike vs ws a b
       by_test false a b = Describes-unique (subformula nodes k) tr _ vs ws a b
 
   given_alike : (s : State) (events : List Event) (vs ws : List Verdict) → EmittedFrom nodes header k s events vs
       → EmittedFrom nodes header k s events ws → AreAlike vs ws
-  given_alike s [] vs ws a b = nil_alike vs ws a b
+  given_alike s [] vs ws a b = none_alike vs ws a b
   given_alike s (e ∷ events) vs ws (here, later, at, more, eq) (here', later', at', more', eq') =
       subst (λ l. AreAlike l ws) (sym eq) (subst (λ l. AreAlike (here ++ later) l) (sym eq')
       (alike_append here later here' later'

@@ -2,8 +2,7 @@
 use Rattle.std.proofs.Common.{◌≡◌, ℕ, ◌-◌, ◌^◌, Bool, true, false, List, [], ◌∷◌, ◌++◌, refl, sym, ◌∙◌, subst, Option, Some, None}
 use Rattle.std.specs.Prelude.{option_map, slice_get}
 use Rattle.std.proofs.lemmas.Bool.{false≢true}
-use Rattle.std.proofs.lemmas.Option.{slice_get-map}
-use Rattle.pl_signal.proofs.Values.{some_is}
+use Rattle.std.proofs.lemmas.Option.{slice_get-map, same_Some}
 use Rattle.stl_syntax.specs.Formula.{Formula, root}
 use Rattle.stl_syntax.specs.Scaling.{scaled, scaled_node}
 use Rattle.stl_syntax.specs.Trace.{Header, Row}
@@ -53,7 +52,7 @@ margins_scaled f scale h i n at unstreamed = by_node (slice_get f.nodes i) refl 
     by_node : (o : Option Node) → slice_get f.nodes i ≡ o → option_map (change f scale) o ≡ Some n → ⊥
     by_node None e k = absurd (let z : ◌≡◌ {A = Option Node} None (Some n) = k in cc)
     by_node (Some m) e k =
-        let same : change f scale m ≡ n = some_is k in
+        let same : change f scale m ≡ n = same_Some _ _ k in
         h i m e (unstreamed_scaled (10 ^ (scale.time - f.scale.time)) (10 ^ (scale.value - f.scale.value)) m (subst IsUnstreamed (sym same) unstreamed))
 
 -- it has one in all ticks

@@ -4,7 +4,7 @@ use Rattle.std.proofs.Common.{[], ◌∷◌, ◌++◌, length, take, drop, take-
 use Rattle.std.proofs.Common.{◌∙◌, subst, arith, append-nil, length-append, Option, Some, None}
 use Rattle.std.specs.Prelude.{MatchBool, All}
 use Rattle.std.proofs.lemmas.Bool.{false≢true}
-use Rattle.std.proofs.lemmas.List.{take-append-le, take_all}
+use Rattle.std.proofs.lemmas.List.{take-append-le, take_all, nil_from_length}
 use Rattle.std.proofs.Math.Seq.{take-append-add}
 use Rattle.std.proofs.lemmas.Bool.{cases_lt}
 use Rattle.std.proofs.lemmas.List.Elements.{All-head, All-tail}
@@ -177,10 +177,6 @@ trace_once least ls header other rows more a b =
 
 -- ---- where a fault stands that was not one before
 
-no_rows : (rows : List Row) → length rows ≡ 0 → rows ≡ []
-no_rows [] e = refl
-no_rows (r ∷ rows) e = absurd (omega (arith, e))
-
 module _ (limits : Limits) (x : TraceRefusal) where
   tail_from : (s : Scale) (h : Heading) (ended : Bool) (n count : ℕ) (last : Option ℕ) (ls : List Line)
       → FaultAfter limits s h ended n count last ls x → (n ≤ x.line) ⊎ (count ≡ 0)
@@ -262,12 +258,13 @@ module _ (limits : Limits) (x : TraceRefusal) where
               (subst (λ (z : Heading). AreRowLines (scale_of least z) z front rows) same more)
               (λ q g. calm q (inr (early, (w, to_false _ _ (is_blank_line l) b (inr (none, (h', is', g))))))) f) [
                 | inl k ↦ inl (omega (arith, k))
-                | inr k ↦ inr (no_rows rows (omega (arith, k)))
+                | inr k ↦ inr (nil_from_length rows (omega (arith, k)))
               ]
 
 -- ---- faults of the bytes
 
-header_in : (front tail : List Line) {n : ℕ} {h : Heading} → IsHeaderAt (front ++ tail) n h → n ≤ length front → IsHeaderAt front n h
+-- a header that stands in the front stands there without what comes behind
+pub header_in : (front tail : List Line) {n : ℕ} {h : Heading} → IsHeaderAt (front ++ tail) n h → n ≤ length front → IsHeaderAt front n h
 header_in [] tail at few = absurd (omega (arith, few, (header_within at).0))
 header_in (l ∷ front) tail (at_first w b is) few = at_first w b is
 header_in (l ∷ front) tail (at_later w b at) few = at_later w b (header_in front tail at (omega (arith, few)))

@@ -4,7 +4,8 @@ use Rattle.std.proofs.Common.{take, drop, refl, sym, ap, ◌∙◌, subst, arith
 use Rattle.std.specs.Prelude.{◌↔◌, if◌then◌else◌, IsTrue, cond, slice_get, slice_index_or}
 use Rattle.std.proofs.lemmas.Bool.{false≢true}
 use Rattle.std.proofs.lemmas.List.{take_more, drop-take, drop-append-le, length-take-le}
-use Rattle.std.proofs.lemmas.Option.{slice_get_within, slice_get_cases, get_or_from_slice_get, same_Some, none-some}
+use Rattle.std.proofs.lemmas.Option.{slice_get_within, slice_get_cases, same_Some, none-some}
+use Rattle.rational.proofs.Lists.{take_on}
 use Rattle.stl_syntax.specs.Formula.{Formula}
 use Rattle.stl_syntax.specs.Trace.{Header}
 use Rattle.stl_syntax.specs.Verdicts.{AreAlike}
@@ -13,6 +14,7 @@ use Rattle.stl_syntax.specs.declared.items.Verdict.{Verdict}
 use Rattle.stl_syntax.specs.declared.node.Node.{Node}
 use Rattle.stl_syntax.specs.declared.node.Node.TheVariants.{Const}
 use Rattle.stl_syntax.specs.declared.scale.Scale.{Scale}
+use Rattle.stl_syntax.proofs.VerdictsLaw.{alike_length, alike_append}
 use Rattle.online_nodes.specs.Network.{Event, step, take as taken, node_is_atom, state, IsReady, Emitted}
 use Rattle.online_nodes.specs.Needed.{IsTaken, next as next_taken}
 use Rattle.online_nodes.specs.Driven.{steps_of, takes}
@@ -24,7 +26,7 @@ use Rattle.report.specs.Appended.{Grew}
 use Rattle.trace_stream.specs.Watching.{first_truth, kept_truth, Pass, CanTake, HasTaken, HasGiven}
 use Rattle.trace_stream.specs.declared.verdicts.Network.{Network}
 use Rattle.trace_stream.proofs.Cutting.{lines_more}
-use Rattle.trace_stream.proofs.Passes.{steps_append, alike_append, emitted_alike, alike_length, taken_once, lines_alike}
+use Rattle.trace_stream.proofs.Passes.{steps_append, emitted_alike, taken_once, lines_alike}
 
 -- ---- lists
 
@@ -50,10 +52,6 @@ fewer_left n m x y old new size size' within = omega (arith, x, y, old, new, siz
 -- where nothing stands at the next place all are taken
 all_of : (t l g k : ℕ) → t ≡ k → l ≡ g → l ≤ t → k ≤ g → k ≡ g
 all_of t l g k same size past within = omega (arith, same, size, past, within)
-
--- one element more is taken
-pub take_on : {X : Type 0} (xs : List X) (i : ℕ) (x : X) → slice_get xs i ≡ Some x → take (i + 1) xs ≡ take i xs ++ x ∷ []
-take_on xs i x h = take_more xs i x (slice_get_within xs i x h) ∙ ap (λ y. take i xs ++ y ∷ []) (get_or_from_slice_get xs i x x h)
 
 -- one more of what stands behind the first k
 take_behind : {X : Type 0} (xs : List X) (k n : ℕ) (x : X) → slice_get xs (k + n) ≡ Some x

@@ -1,12 +1,13 @@
 -- What the root of a network gives out as the rows of a trace come, and at their end: its text, and the truth at the start.
-use Rattle.std.proofs.Common.{◌≡◌, inl, inr, ℕ, zero, suc, ◌+◌, ◌-◌, ◌<◌, ◌≤◌, Bool, true, false, not, List}
+use Rattle.std.proofs.Common.{◌≡◌, inl, inr, ℕ, zero, suc, ◌+◌, ◌-◌, ◌<◌, ◌≤◌, Bool, true, false, List}
 use Rattle.std.proofs.Common.{[], ◌∷◌, ◌++◌, length, take, drop, refl, sym, ap, ◌∙◌, subst, arith, append-nil}
-use Rattle.std.proofs.Common.{append_assoc, length-append, Some, None, ℤ, pos, ◌-ℤ◌, ◌<ℤ◌, ◌≤ℤ◌}
+use Rattle.std.proofs.Common.{append_assoc, length-append, Some, None, ℤ, pos, ◌-ℤ◌, ◌≤ℤ◌}
 use Rattle.std.specs.Prelude.{◌≢◌, All, cond, int_lt, MatchBool}
-use Rattle.std.proofs.lemmas.Bool.{false≢true}
+use Rattle.std.proofs.lemmas.Bool.{false≢true, not-false}
 use Rattle.std.proofs.lemmas.Int.{ints}
 use Rattle.std.proofs.lemmas.List.Elements.{All-nil, All-cons, All-head, All-tail}
 use Rattle.std.proofs.Math.Seq.{drop-append_seam, take-length}
+use Rattle.std.proofs.lemmas.Option.{same_Some}
 use Rattle.rational.specs.Rational.{Rational, ◌<ʳ◌, whole}
 use Rattle.rational.specs.Time.{Precedes}
 use Rattle.rational.proofs.Order.{le_trans, le_of_lt, le_of_same, ge_of_same, lt_of_le_of_lt}
@@ -21,9 +22,12 @@ use Rattle.stl_syntax.specs.Texts.{AreVerdictLines}
 use Rattle.stl_syntax.specs.Stream.{answered_by, NewText, IsNewText, IsRowsText, IsRestText}
 use Rattle.stl_syntax.specs.declared.items.Verdict.{Verdict}
 use Rattle.stl_syntax.specs.declared.node.Node.{Node}
+use Rattle.stl_syntax.proofs.RowsLemmas.{last_time-push}
+use Rattle.stl_syntax.proofs.VerdictsLaw.{alike_length}
 use Rattle.online_nodes.specs.Network.{Event, row, step, close, take as taken, is_atom, node_is_atom, initial}
 use Rattle.online_nodes.specs.Network.{after_event, state_from, state, State, Front, shown, IsRun, Emitted, EmittedFrom}
 use Rattle.rational.specs.Places.{begins, ends, Before, Same}
+use Rattle.rational.proofs.Tests.{int_not_below}
 use Rattle.online_nodes.specs.Driven.{rows_of, steps_of, takes, pass_of, IsEmptied, IsDriven, nothing, by_rows, by_end}
 use Rattle.online_nodes.specs.Needed.{IsTaken, none as none_taken, other}
 use Rattle.online_nodes.specs.Laws.{AreTiles, AreTold, IsWhole}
@@ -31,13 +35,13 @@ use Rattle.online_nodes.specs.StreamedWide.{front_at}
 use Rattle.online_nodes.proofs.EmittedLaw.{emitted_tiles, front_shown}
 use Rattle.online_nodes.proofs.FrontsLaw.{fronts_are_times}
 use Rattle.online_nodes.proofs.RowsLaw.{goes_on_itself}
-use Rattle.online_nodes.proofs.RunLaw.{some_is, none_is_none, int_order}
+use Rattle.online_nodes.proofs.RunLaw.{none_is_none}
 use Rattle.online_nodes.proofs.StayLaw.{emitted_stays}
 use Rattle.online_net.specs.Nets.{Stands}
 use Rattle.report.specs.Appended.{Grew}
 use Rattle.trace_stream.specs.Watching.{first_truth, Pass, HasTakenAll}
 use Rattle.trace_stream.specs.declared.verdicts.Network.{Network}
-use Rattle.trace_stream.proofs.Passes.{state_after, parted, rows_stay, emitted_alike, alike_length, Gives, LeavesRoot, pass_gives, text_of_given}
+use Rattle.trace_stream.proofs.Passes.{state_after, parted, rows_stay, emitted_alike, Gives, LeavesRoot, pass_gives, text_of_given}
 use Rattle.trace_stream.proofs.Taking.{first_alike, emitted_takes}
 
 -- events that are no take
@@ -48,10 +52,6 @@ AreOthers events = All (λ (e : Event). e ≢ taken) events
 pub no_row : (before : List Row) (r : Row) → before ++ r ∷ [] ≡ [] → ⊥
 no_row [] r e = cc
 no_row (q ∷ before) r e = cc
-
-time_appended : (t : ℕ) (rows : List Row) (r : Row) → last_time t (rows ++ r ∷ []) ≡ r.time
-time_appended t [] r = refl
-time_appended t (q ∷ rows) r = time_appended q.time rows r
 
 -- what a front shows where the trace begins
 abbrev pub show : ℕ → Front → Front
@@ -259,7 +259,7 @@ front_after p (r ∷ rows) = answered_by r.time p (last_time r.time rows)
 -- the front after one row more
 pub front_push : (p : Subformula) (rows : List Row) (r : Row) → front_after p (rows ++ r ∷ []) ≡ answered_by (first_time (rows ++ r ∷ [])) p r.time
 front_push p [] r = refl
-front_push p (q ∷ rows) r = ap (answered_by q.time p) (time_appended q.time rows r)
+front_push p (q ∷ rows) r = ap (answered_by q.time p) (last_time-push q.time rows r)
 
 -- where one is shown, it is the last row's time less the horizon
 front_is : (p : Subformula) (rows : List Row) (g : ℤ) → front_after p rows ≡ Some g → (0 < length rows) × (g ≡ pos (last_time 0 rows) -ℤ pos (horizon p))
@@ -269,14 +269,7 @@ front_is p (r ∷ rows) g e = (omega arith, by_test (int_lt (pos (last_time r.ti
     by_test : (t : Bool) → cond t None (Some (pos (last_time r.time rows) -ℤ pos (horizon p))) ≡ Some g
         → g ≡ pos (last_time r.time rows) -ℤ pos (horizon p)
     by_test true x = absurd (none_is_none g x)
-    by_test false x = sym (some_is (pos (last_time r.time rows) -ℤ pos (horizon p)) g x)
-
-not_below : (f g : ℤ) → g ≤ℤ f → int_lt f g ≡ false
-not_below f g h = by_test (int_lt f g) refl
-  where
-    by_test : (t : Bool) → int_lt f g ≡ t → int_lt f g ≡ false
-    by_test true e = absurd (let l : f <ℤ g = int_order f g true e in omega (arith, ints))
-    by_test false e = e
+    by_test false x = sym (same_Some (pos (last_time r.time rows) -ℤ pos (horizon p)) g x)
 
 -- the first of the verdicts has a truth, which is that at the start of the trace
 pub record StartTold (p : Subformula) (tr : Trace) (vs : List Verdict) : Type 0 where
@@ -287,16 +280,12 @@ pub record StartTold (p : Subformula) (tr : Trace) (vs : List Verdict) : Type 0 
   -- and the formula's
   pub truth : MatchBool holds (Truth p tr (start tr)) (¬ Truth p tr (start tr))
 
-not_false : (b : Bool) → false ≡ not b → b ≡ true
-not_false true e = refl
-not_false false e = absurd (false≢true e)
-
 first_told : (p : Subformula) (tr : Trace) (v : Verdict) → Same (record { at = start tr; after = false }) (begins (interval v.on))
     → Before (begins (interval v.on)) (ends (interval v.on)) → IsTold p tr v → MatchBool v.holds (Truth p tr (start tr)) (¬ Truth p tr (start tr))
 first_told p tr v same before told = told.truth (start tr) (record { above = above; below = by_order before })
   where
     above : Precedes v.on.from_in (value v.on.from) (start tr)
-    above = subst (λ i. Precedes i (value v.on.from) (start tr)) (sym (not_false v.on.from_in same.1)) (ge_of_same same.0)
+    above = subst (λ i. Precedes i (value v.on.from) (start tr)) (sym (not-false v.on.from_in (sym same.1))) (ge_of_same same.0)
 
     by_end : (i : Bool) → start tr <ʳ value v.on.to → Precedes i (start tr) (value v.on.to)
     by_end true l = le_of_lt l
@@ -395,8 +384,8 @@ module _ (nodes : List Node) (header : Header) (order : IsPostOrder nodes) (some
           let new = front_is (root nodes) (rows ++ r ∷ []) f (front_push (root nodes) rows r ∙ e') in
           let l : last_time 0 rows < r.time = rises old.0 in
           let old_is : g ≡ pos (last_time 0 rows) -ℤ pos (horizon (root nodes)) = old.1 in
-          let new_is : f ≡ pos r.time -ℤ pos (horizon (root nodes)) = new.1 ∙ ap (λ t. pos t -ℤ pos (horizon (root nodes))) (time_appended 0 rows r) in
-          not_below f g (omega (arith, ints))
+          let new_is : f ≡ pos r.time -ℤ pos (horizon (root nodes)) = new.1 ∙ ap (λ t. pos t -ℤ pos (horizon (root nodes))) (last_time-push 0 rows r) in
+          int_not_below f g (omega (arith, ints))
 
   -- what the pass at the end gives out is the text of the rest
   pub rest_text : {rows : List Row} {events : List Event} (n : ℕ) (beyond : List Verdict) (text : List ℕ)
@@ -432,8 +421,8 @@ module _ (nodes : List Node) (header : Header) (order : IsPostOrder nodes) (some
       rise : (g f : ℤ) → front_after (root nodes) rows ≡ Some g → Some (pos (last_time 0 rows)) ≡ Some f → int_lt f g ≡ false
       rise g f e e' =
           let old_is : g ≡ pos (last_time 0 rows) -ℤ pos (horizon (root nodes)) = (front_is (root nodes) rows g e).1 in
-          let new_is : pos (last_time 0 rows) ≡ f = some_is (pos (last_time 0 rows)) f e' in
-          not_below f g (omega (arith, ints))
+          let new_is : pos (last_time 0 rows) ≡ f = same_Some (pos (last_time 0 rows)) f e' in
+          int_not_below f g (omega (arith, ints))
 
   -- ---- the truth at the start
 

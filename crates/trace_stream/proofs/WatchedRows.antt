@@ -12,6 +12,7 @@ use Rattle.stl_syntax.specs.Truth.{Truth}
 use Rattle.stl_syntax.specs.PostOrder.{IsPostOrder}
 use Rattle.stl_syntax.specs.Texts.{AreVerdictLines, start_line}
 use Rattle.stl_syntax.proofs.WellFormedLemmas.{root_some}
+use Rattle.stl_syntax.proofs.RowsLemmas.{first_to_last}
 use Rattle.online_nodes.specs.Network.{Event, row as came, close, take as taken, state}
 use Rattle.online_nodes.specs.Driven.{steps_of, pass_of, IsDriven, by_end}
 use Rattle.online_net.specs.Nets.{Parts, Stands, last_row_of, last_row_after}
@@ -22,7 +23,6 @@ use Rattle.trace_stream.specs.Watching.{first_truth, IsWatched, CanTake, HasTake
 use Rattle.trace_stream.specs.declared.case.Case.{Case}
 use Rattle.trace_stream.specs.declared.verdicts.Network.{Network}
 use Rattle.trace_stream.specs.declared.verdicts.Verdicts.{Verdicts}
-use Rattle.trace_stream.proofs.RowTimes.{first_to_last}
 use Rattle.trace_stream.proofs.Watched.{by_row, driven_at, driven_emptied, Passing, passing_of, pass_before}
 use Rattle.trace_stream.proofs.Watched.{HasPassed, passed_of, StartTold, start_truth, row_text, rest_text, row_told}
 

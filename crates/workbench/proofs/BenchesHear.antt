@@ -4,13 +4,14 @@ use Rattle.std.specs.Prelude.{All, codes, bytes_eq, ◌||◌, ◌&&◌, ◌==◌
 use Rattle.std.proofs.lemmas.Bool.{false≢true, eqb-true}
 use Rattle.std.proofs.lemmas.List.Elements.{All-nil, All-cons, All-head, All-tail, All-append}
 use Rattle.std.proofs.lemmas.Slice.Eq.{bytes_eq-Decides}
-use Rattle.stl_syntax.specs.Characters.{is_among, begins_word, goes_on_word, all}
+use Rattle.stl_syntax.specs.Characters.{is_among, goes_on_word, all}
 use Rattle.stl_syntax.specs.Formula.{Formula}
 use Rattle.stl_syntax.specs.declared.scale.Scale.{Scale}
 use Rattle.stl_syntax.specs.declared.atom.Atom.{Atom as Comparison}
 use Rattle.stl_syntax.specs.declared.atom.Term.{Term}
 use Rattle.stl_syntax.specs.declared.node.Node.{Node}
 use Rattle.stl_syntax.specs.declared.node.Node.TheVariants.{Const, Atom as Leaf, Not, And, Or, Implies, Until, Eventually, Always, Since, Once, Historically}
+use Rattle.stl_syntax.proofs.CharacterLemmas.{begins_goes_on}
 use Rattle.stl_grammar.specs.Tokens.{IsToken, a_word, an_integer, a_decimal, at_least, at_most}
 use Rattle.stl_grammar.specs.Tokens.{above, below, paren, paren_end, bracket, bracket_end, a_comma}
 use Rattle.stl_grammar.specs.Tokens.{a_star, a_plus, a_minus, nothing as no_tokens, blank, token}
@@ -20,6 +21,7 @@ use Rattle.stl_grammar.specs.Grammar.{IsFormula, IsDisjunct, IsConjunct, IsTimed
 use Rattle.stl_grammar.specs.Grammar.{conjunct, or, timed, and, operand, until, since, not, eventually, always}
 use Rattle.stl_grammar.specs.Grammar.{once, historically, always_true, always_false, parens, atom}
 use Rattle.stl_grammar.specs.FormulaRefusals.{IsFormulaOf}
+use Rattle.stl_grammar.proofs.PrintedRead.{all_left, all_right}
 use Rattle.trace_reader.specs.TraceText.{Line, lines}
 use Rattle.trace_stream.proofs.Columns.{All-get}
 use Rattle.session_mux.specs.Sessions.{Tagged, IsTag, AreTagged, none as none_tagged, unfinished, blank as blank_line, next, own, Alone, tags_after, MuxText}
@@ -65,9 +67,6 @@ plain_word (c ∷ w) h = let (here, later) = both (goes_on_word c) (all goes_on_
     both true b e = (refl, e)
     both false b e = absurd (false≢true e)
 
-begins_goes_on : (c : ℕ) → begins_word c ≡ true → goes_on_word c ≡ true
-begins_goes_on c h = rw h refl
-
 plain_token : {bytes text : List ℕ} {t : Token} → IsToken bytes text t → IsPlainToken t
 plain_token (a_word {c} {rest} begins goes stops) = plain_word (c ∷ rest) (rw (begins_goes_on c begins) goes)
 plain_token (an_integer d s b) = tt
@@ -90,18 +89,9 @@ plain_tokens no_tokens = All-nil IsPlainToken
 plain_tokens (blank b more) = plain_tokens more
 plain_tokens (token {t = t} {tokens = ts} bytes text e is more) = All-cons IsPlainToken t ts (plain_token is) (plain_tokens more)
 
--- both parts of a list
-all_first : {X : Type 0} (P : X → Type 0) (xs ys : List X) → All P (xs ++ ys) → All P xs
-all_first P [] ys a = All-nil P
-all_first P (x ∷ xs) ys a = All-cons P x xs (All-head P x (xs ++ ys) a) (all_first P xs ys (All-tail P x (xs ++ ys) a))
-
-all_last : {X : Type 0} (P : X → Type 0) (xs ys : List X) → All P (xs ++ ys) → All P ys
-all_last P [] ys a = a
-all_last P (x ∷ xs) ys a = all_last P xs ys (All-tail P x (xs ++ ys) a)
-
 -- behind a token and further ones
 after_word : (t : Token) (ts us : List Token) → All IsPlainToken (ts ++ t ∷ us) → All IsPlainToken us
-after_word t ts us a = All-tail IsPlainToken t us (all_last IsPlainToken ts (t ∷ us) a)
+after_word t ts us a = All-tail IsPlainToken t us (all_right IsPlainToken ts (t ∷ us) a)
 
 plain_term : {ts : List Token} {k : ℕ} {w : List ℕ} → IsTerm ts k w → All IsPlainToken ts → is_plain w ≡ true
 plain_term (name {w} r) a = All-head IsPlainToken (word w) [] a
@@ -112,16 +102,16 @@ plain_terms : {ts : List Token} {terms : List Term} → AreTerms ts terms → Al
 plain_terms none a = All-nil IsPlainTerm
 plain_terms (more_plus {ts = ts} {us = us} {terms = terms} t more) a =
     let b = All-tail IsPlainToken plus (ts ++ us) a in
-    All-cons IsPlainTerm _ terms (plain_term t (all_first IsPlainToken ts us b)) (plain_terms more (all_last IsPlainToken ts us b))
+    All-cons IsPlainTerm _ terms (plain_term t (all_left IsPlainToken ts us b)) (plain_terms more (all_right IsPlainToken ts us b))
 plain_terms (more_minus {ts = ts} {us = us} {terms = terms} t more) a =
     let b = All-tail IsPlainToken minus (ts ++ us) a in
-    All-cons IsPlainTerm _ terms (plain_term t (all_first IsPlainToken ts us b)) (plain_terms more (all_last IsPlainToken ts us b))
+    All-cons IsPlainTerm _ terms (plain_term t (all_left IsPlainToken ts us b)) (plain_terms more (all_right IsPlainToken ts us b))
 
 plain_atom : {d : ℕ} {ts : List Token} {c : Comparison} → IsAtom d ts c → All IsPlainToken ts → All IsPlainTerm c.terms
 plain_atom (first {ts = ts} {us = us} {vs = vs} {terms = terms} {rel = rel} t more k) a =
-    let b = all_first IsPlainToken (ts ++ us) (relation rel ∷ vs) a in
-    All-cons IsPlainTerm _ terms (plain_term t (all_first IsPlainToken ts us b)) (plain_terms more (all_last IsPlainToken ts us b))
-plain_atom (signed {us = us} {vs = vs} {rel = rel} terms k) a = plain_terms terms (all_first IsPlainToken us (relation rel ∷ vs) a)
+    let b = all_left IsPlainToken (ts ++ us) (relation rel ∷ vs) a in
+    All-cons IsPlainTerm _ terms (plain_term t (all_left IsPlainToken ts us b)) (plain_terms more (all_right IsPlainToken ts us b))
+plain_atom (signed {us = us} {vs = vs} {rel = rel} terms k) a = plain_terms terms (all_left IsPlainToken us (relation rel ∷ vs) a)
 
 -- one node more behind some, or behind two lists of them
 with_one : (ns : List Node) (n : Node) → IsPlainNode n → All IsPlainNode ns → All IsPlainNode (ns ++ n ∷ [])
@@ -134,50 +124,50 @@ mutual
   plain_formula : {s : Scale} {k : ℕ} {ts : List Token} {ns : List Node} → IsFormula s k ts ns → All IsPlainToken ts → All IsPlainNode ns
   plain_formula (disjunct d) a = plain_disjunct d a
   plain_formula (implies {k = k} {ts = ts} {us = us} {ns = ns} {ms = ms} d f) a =
-      with_two ns ms (Implies (top k ns) (top (k + length ns) ms)) tt (plain_disjunct d (all_first IsPlainToken ts (word (codes "implies") ∷ us) a))
+      with_two ns ms (Implies (top k ns) (top (k + length ns) ms)) tt (plain_disjunct d (all_left IsPlainToken ts (word (codes "implies") ∷ us) a))
       (plain_formula f (after_word (word (codes "implies")) ts us a))
 
   plain_disjunct : {s : Scale} {k : ℕ} {ts : List Token} {ns : List Node} → IsDisjunct s k ts ns → All IsPlainToken ts → All IsPlainNode ns
   plain_disjunct (conjunct c) a = plain_conjunct c a
   plain_disjunct (or {k = k} {ts = ts} {us = us} {ns = ns} {ms = ms} d c) a =
-      with_two ns ms (Or (top k ns) (top (k + length ns) ms)) tt (plain_disjunct d (all_first IsPlainToken ts (word (codes "or") ∷ us) a))
+      with_two ns ms (Or (top k ns) (top (k + length ns) ms)) tt (plain_disjunct d (all_left IsPlainToken ts (word (codes "or") ∷ us) a))
       (plain_conjunct c (after_word (word (codes "or")) ts us a))
 
   plain_conjunct : {s : Scale} {k : ℕ} {ts : List Token} {ns : List Node} → IsConjunct s k ts ns → All IsPlainToken ts → All IsPlainNode ns
   plain_conjunct (timed t) a = plain_timed t a
   plain_conjunct (and {k = k} {ts = ts} {us = us} {ns = ns} {ms = ms} c t) a =
-      with_two ns ms (And (top k ns) (top (k + length ns) ms)) tt (plain_conjunct c (all_first IsPlainToken ts (word (codes "and") ∷ us) a))
+      with_two ns ms (And (top k ns) (top (k + length ns) ms)) tt (plain_conjunct c (all_left IsPlainToken ts (word (codes "and") ∷ us) a))
       (plain_timed t (after_word (word (codes "and")) ts us a))
 
   plain_timed : {s : Scale} {k : ℕ} {ts : List Token} {ns : List Node} → IsTimed s k ts ns → All IsPlainToken ts → All IsPlainNode ns
   plain_timed (operand p) a = plain_operand p a
   plain_timed (until {k = k} {a = low} {b = high} {ts = ts} {us = us} {vs = vs} {ns = ns} {ms = ms} p w q) a =
       with_two ns ms (Until (top k ns) (top (k + length ns) ms) low high) tt
-      (plain_operand p (all_first IsPlainToken ts (word (codes "until") ∷ us) (all_first IsPlainToken (ts ++ word (codes "until") ∷ us) vs a)))
-      (plain_operand q (all_last IsPlainToken (ts ++ word (codes "until") ∷ us) vs a))
+      (plain_operand p (all_left IsPlainToken ts (word (codes "until") ∷ us) (all_left IsPlainToken (ts ++ word (codes "until") ∷ us) vs a)))
+      (plain_operand q (all_right IsPlainToken (ts ++ word (codes "until") ∷ us) vs a))
   plain_timed (since {k = k} {a = low} {b = high} {ts = ts} {us = us} {vs = vs} {ns = ns} {ms = ms} p w q) a =
       with_two ns ms (Since (top k ns) (top (k + length ns) ms) low high) tt
-      (plain_operand p (all_first IsPlainToken ts (word (codes "since") ∷ us) (all_first IsPlainToken (ts ++ word (codes "since") ∷ us) vs a)))
-      (plain_operand q (all_last IsPlainToken (ts ++ word (codes "since") ∷ us) vs a))
+      (plain_operand p (all_left IsPlainToken ts (word (codes "since") ∷ us) (all_left IsPlainToken (ts ++ word (codes "since") ∷ us) vs a)))
+      (plain_operand q (all_right IsPlainToken (ts ++ word (codes "since") ∷ us) vs a))
 
   plain_operand : {s : Scale} {k : ℕ} {ts : List Token} {ns : List Node} → IsOperand s k ts ns → All IsPlainToken ts → All IsPlainNode ns
   plain_operand (not {k = k} {ts = ts} {ns = ns} p) a = with_one ns (Not (top k ns)) tt (plain_operand p (All-tail IsPlainToken (word (codes "not")) ts a))
   plain_operand (eventually {k = k} {a = low} {b = high} {a_in} {b_in} {ts = ts} {us = us} {ns = ns} w p) a =
       with_one ns (Eventually (top k ns) low high a_in b_in) tt
-      (plain_operand p (all_last IsPlainToken us ts (All-tail IsPlainToken (word (codes "eventually")) (us ++ ts) a)))
+      (plain_operand p (all_right IsPlainToken us ts (All-tail IsPlainToken (word (codes "eventually")) (us ++ ts) a)))
   plain_operand (always {k = k} {a = low} {b = high} {a_in} {b_in} {ts = ts} {us = us} {ns = ns} w p) a =
       with_one ns (Always (top k ns) low high a_in b_in) tt
-      (plain_operand p (all_last IsPlainToken us ts (All-tail IsPlainToken (word (codes "always")) (us ++ ts) a)))
+      (plain_operand p (all_right IsPlainToken us ts (All-tail IsPlainToken (word (codes "always")) (us ++ ts) a)))
   plain_operand (once {k = k} {a = low} {b = high} {a_in} {b_in} {ts = ts} {us = us} {ns = ns} w p) a =
       with_one ns (Once (top k ns) low high a_in b_in) tt
-      (plain_operand p (all_last IsPlainToken us ts (All-tail IsPlainToken (word (codes "once")) (us ++ ts) a)))
+      (plain_operand p (all_right IsPlainToken us ts (All-tail IsPlainToken (word (codes "once")) (us ++ ts) a)))
   plain_operand (historically {k = k} {a = low} {b = high} {a_in} {b_in} {ts = ts} {us = us} {ns = ns} w p) a =
       with_one ns (Historically (top k ns) low high a_in b_in) tt
-      (plain_operand p (all_last IsPlainToken us ts (All-tail IsPlainToken (word (codes "historically")) (us ++ ts) a)))
+      (plain_operand p (all_right IsPlainToken us ts (All-tail IsPlainToken (word (codes "historically")) (us ++ ts) a)))
   plain_operand always_true a = All-cons IsPlainNode (Const true) [] tt (All-nil IsPlainNode)
   plain_operand always_false a = All-cons IsPlainNode (Const false) [] tt (All-nil IsPlainNode)
   plain_operand (parens {ts = ts} f) a =
-      plain_formula f (all_first IsPlainToken ts (close_paren ∷ []) (All-tail IsPlainToken open_paren (ts ++ close_paren ∷ []) a))
+      plain_formula f (all_left IsPlainToken ts (close_paren ∷ []) (All-tail IsPlainToken open_paren (ts ++ close_paren ∷ []) a))
   plain_operand (atom {a = c} is) a = All-cons IsPlainNode (Leaf c) [] (plain_atom is a) (All-nil IsPlainNode)
 
 -- a formula that was read has no LF in its names

@@ -1,7 +1,8 @@
 -- The answer of a case: the times of its trace, the signals of its atoms, and what the root's signal tells of the formula.
-use Rattle.std.proofs.Common.{◌≡◌, ℕ, zero, suc, pos, ◌+◌, ◌-◌, ◌<◌, ap, Bool, true, false, List, [], ◌∷◌}
+use Rattle.std.proofs.Common.{◌≡◌, ℕ, pos, ◌+◌, ◌-◌, ◌<◌, ap, Bool, true, false, List, [], ◌∷◌}
 use Rattle.std.proofs.Common.{◌++◌, length, Some, refl, sym, ◌∙◌, subst, arith, inl}
-use Rattle.std.specs.Prelude.{slice_get, slice_index_or, MatchBool}
+use Rattle.std.specs.Prelude.{slice_get, MatchBool}
+use Rattle.std.proofs.lemmas.Option.{same_Some}
 use Rattle.rational.specs.Time.{Rational, closed, whole, ◌≈◌}
 use Rattle.rational.specs.Extended.{value_at, ◌≈ᵉ◌}
 use Rattle.rational.specs.Affine.{level}
@@ -13,7 +14,6 @@ use Rattle.value_laws.specs.Kinds.{truth_shape}
 use Rattle.pl_signal.specs.declared.knot.Knot.{Knot}
 use Rattle.pl_signal.specs.Knots as knots
 use Rattle.pl_signal.specs.Moves.{Tells}
-use Rattle.pl_signal.proofs.Values.{some_is}
 use Rattle.value_laws.specs.declared.truth.Truth.{Truth}
 use Rattle.value_laws.specs.Values.{truth_value}
 use Rattle.stl_syntax.specs.Trace.{Row, Trace, IsTrace, first_time, last_time, start, stop}
@@ -41,18 +41,6 @@ use Rattle.workbench.specs.Answering.{setting_of, IsRootOf, IsSignalText}
 -- a row for places behind the last one
 pub no_row : Row
 no_row = record { time = 0; values = [] }
-
--- the first row has the first time
-pub first_is : (rows : List Row) → 0 < length rows → (slice_index_or rows 0 no_row).time ≡ first_time rows
-first_is [] some = absurd (omega (arith, some))
-first_is (r ∷ rows) some = refl
-
--- the last row has the last time
-pub last_is : (time : ℕ) (rows : List Row) (n : ℕ) → length rows ≡ suc n → (slice_index_or rows n no_row).time ≡ last_time time rows
-last_is time [] n h = absurd (omega (arith, h))
-last_is time (r ∷ []) n h = let e : n ≡ 0 = omega (arith, h) in subst (λ m. (slice_index_or (r ∷ []) m no_row).time ≡ r.time) (sym e) refl
-last_is time (r ∷ s ∷ rows) zero h = absurd (omega (arith, h))
-last_is time (r ∷ s ∷ rows) (suc n) h = last_is r.time (s ∷ rows) n (omega (arith, h))
 
 module _ {P : Type 0} (shape : ShapeOf P) (reading : Trace → Reading) (c : Case) where
   -- the stack over the ends of the trace is one over the same ends
@@ -97,7 +85,7 @@ module _ {P : Type 0} (shape : ShapeOf P) (reading : Trace → Reading) (c : Cas
       let node = told (length c.formula.nodes - 1) (omega (arith, some)) in
       record {
         tells = subst (Tells shape (SupInf (root c.formula.nodes) (setting_of shape reading c.trace)) (start c.trace) (stop c.trace))
-            (some_is (sym node.1 ∙ is)) node.2;
+            (same_Some _ _ (sym node.1 ∙ is)) node.2;
         values = have.0;
         infs = have.1;
       }

@@ -1,10 +1,11 @@
 -- The promises of `check`, each from how a run ends whose words ask for it.
-use Rattle.std.proofs.Common.{◌≡◌, ◌≢◌, ◌⊎◌, inl, inr, ℕ, ◌≤◌, Bool, true, false, List, [], ◌∷◌, ◌++◌}
-use Rattle.std.proofs.Common.{refl, sym, ap, ◌∙◌, subst, arith, append-nil, Some, None, codes}
+use Rattle.std.proofs.Common.{◌≡◌, ◌≢◌, ◌⊎◌, inl, inr, ℕ, ◌≤◌, Bool, true, false, List, [], ◌++◌}
+use Rattle.std.proofs.Common.{refl, sym, ap, ◌∙◌, subst, arith, append-nil, Some, codes}
 use Rattle.std.specs.Prelude.{Option}
 use Rattle.std.proofs.lemmas.Bool.{false≢true}
 use Rattle.std.proofs.lemmas.List.{append_cancel_left, append_cancel_right}
 use Rattle.std.specs.Io.KnownBytes.{Appends, Consumes, IsAtEnd}
+use Rattle.rational.proofs.Lists.{append_some}
 use Rattle.io_edge.specs.Causes.{Rose}
 use Rattle.io_edge.specs.Calls.{Drained, Filled, HasFailed, HasRefused}
 use Rattle.stl_syntax.specs.Formula.{Formula}
@@ -34,6 +35,7 @@ use Rattle.trace_stream.proofs.FaultsStay.{unsound}
 use Rattle.workbench.proofs.NoForm.{two_is_none}
 use Rattle.workbench.proofs.RunEnds.{word_form, asked_word}
 use Rattle.workbench.proofs.OneRequest.{one_verb}
+use Rattle.workbench.proofs.Completing.{rest_of, truth_status}
 
 -- words ask for one text
 one_text : {words : List (List ℕ)} {text other : List ℕ} → AskCheck words text → AskCheck words other → text ≡ other
@@ -62,13 +64,6 @@ got_is {before} {after} {bytes} {text} g h =
     let whole : Appends (Some g.held) (Some (g.held ++ bytes)) text =
     subst (λ a. Appends (Some g.held) a text) g.now (subst (λ b. Appends b after text) g.was h) in
     append_cancel_left g.held text bytes (sym whole)
-
--- the bytes that were there are those that were consumed, and the others
-consumed : (before after : Option (List ℕ)) (bytes read : List ℕ) → before ≡ Some bytes → Consumes before after read
-    → (left : List ℕ) × (after ≡ Some left) × (bytes ≡ read ++ left)
-consumed None after bytes read e h = absurd (let k = e in cc)
-consumed (Some xs) None bytes read e h = absurd h
-consumed (Some xs) (Some ys) bytes read e h = (ys, refl, (let k : bytes ≡ xs = (let j = e in cc) in k) ∙ h)
 
 -- ---- words that ask for `check`: a text that is refused, or a formula
 
@@ -132,10 +127,6 @@ pub data Seen (words : List (List ℕ)) (i : Drained) (o : Filled) (bytes text :
       → i.ended ≡ true → IsAtEnd i.after → Seen words i o bytes text 6 write_fault
   s_no_memory : (f : Formula) → AskFor words f → Seen words i o bytes text 7 out_of_memory
 
-some_more : (text rest : List ℕ) → rest ≢ [] → text ++ rest ≡ [] → ⊥
-some_more [] rest h e = h e
-some_more (x ∷ text) rest h e = cc
-
 module _ {words : List (List ℕ)} {i : Drained} {o : Filled} {bytes : List ℕ} where
   seen_none : {text : List ℕ} {status : ℕ} {line : List ℕ} → AreNone words → IsEnd no_form i o bytes text status line → Seen words i o bytes text status line
   seen_none h (by_itself none) = s_none (no_form_of h)
@@ -144,7 +135,7 @@ module _ {words : List (List ℕ)} {i : Drained} {o : Filled} {bytes : List ℕ}
   seen_none h (by_itself (wide n den is)) = absurd is
   seen_none h (by_itself (overfull n is)) = absurd is
   seen_none h (unread has ended failed sound owed) = absurd (false≢true has)
-  seen_none {text = text} h (unwritten rest some failed begun timely) = absurd (some_more text rest some begun.owed)
+  seen_none {text = text} h (unwritten rest some failed begun timely) = absurd (append_some text rest some begun.owed)
   seen_none h (no_memory known begun timely) = absurd (known refl)
 
   seen_bad : {text : List ℕ} {status : ℕ} {line : List ℕ} (l : List ℕ) → AskForBad words l
@@ -155,7 +146,7 @@ module _ {words : List (List ℕ)} {i : Drained} {o : Filled} {bytes : List ℕ}
   seen_bad l b (by_itself (wide n den is)) = absurd is
   seen_bad l b (by_itself (overfull n is)) = absurd is
   seen_bad l b (unread has ended failed sound owed) = absurd (false≢true has)
-  seen_bad {text = text} l b (unwritten rest some failed begun timely) = absurd (some_more text rest some begun.owed)
+  seen_bad {text = text} l b (unwritten rest some failed begun timely) = absurd (append_some text rest some begun.owed)
   seen_bad l b (no_memory known begun timely) = s_early (λ h. h b.text b.form)
 
   seen_cut : {text : List ℕ} (f : Formula) (rest : List ℕ) (ask : AskFor words f) → rest ≢ [] → HasRefused o
@@ -165,9 +156,9 @@ module _ {words : List (List ℕ)} {i : Drained} {o : Filled} {bytes : List ℕ}
     where
       by_owed : (seen : List ℕ) (e : Bool) (all : List ℕ) → b.seen ≡ seen → b.seen_end ≡ e → text ++ rest ≡ all
           → OwesAtEnd check f seen e all → Seen words i o bytes text 6 write_fault
-      by_owed seen false all p q s not_yet = absurd (some_more text rest some s)
-      by_owed seen true all p q s (faulty_at_end x fault) = absurd (some_more text rest some s)
-      by_owed seen true all p q s (too_many tr n trace many) = absurd (some_more text rest some s)
+      by_owed seen false all p q s not_yet = absurd (append_some text rest some s)
+      by_owed seen true all p q s (faulty_at_end x fault) = absurd (append_some text rest some s)
+      by_owed seen true all p q s (too_many tr n trace many) = absurd (append_some text rest some s)
       by_owed seen true all p q s (at_end tr trace few written) =
           let all_read = b.at_end q in
           let same : bytes ≡ seen = b.parts ∙ ap (λ l. b.seen ++ l) all_read.1 ∙ append-nil b.seen ∙ p in
@@ -213,10 +204,6 @@ module _ {words : List (List ℕ)} {i : Drained} {o : Filled} {bytes : List ℕ}
 
 -- ---- the promises
 
-small : {status : ℕ} (f : Formula) (tr : Trace) → TellsTruth f tr status → status ≤ 1
-small f tr (inl h) = let a = h.0 in omega (arith, a)
-small f tr (inr h) = let a = h.0 in omega (arith, a)
-
 not_answer : (status : ℕ) → 2 ≤ status → status ≢ 6 → (status ≤ 1) ⊎ (status ≡ 6) → ⊥
 not_answer status a b (inl s) = omega (arith, a, s)
 not_answer status a b (inr s) = b s
@@ -251,7 +238,7 @@ module _ (words : List (List ℕ)) {own : List ℕ} (ask : AskCheck words own) (
     bound (s_bad b) = omega arith
     bound (s_early h) = omega arith
     bound (s_fault f x a fault at) = omega arith
-    bound (s_answer f tr a trace written truth ended at) = omega (arith, small f tr truth)
+    bound (s_answer f tr a trace written truth ended at) = omega (arith, truth_status f tr _ truth)
     bound (s_unread f a ended failed sound) = omega arith
     bound (s_unwritten f tr rest a trace written some failed ended at) = omega arith
     bound (s_no_memory f a) = omega arith
@@ -261,7 +248,7 @@ module _ (words : List (List ℕ)) {own : List ℕ} (ask : AskCheck words own) (
     bad_rightly (s_bad {line = line} b) s = (line, b)
     bad_rightly (s_early h) s = absurd (omega (arith, s))
     bad_rightly (s_fault f x a fault at) s = absurd (omega (arith, s))
-    bad_rightly (s_answer f tr a trace written truth ended at) s = absurd (omega (arith, s, small f tr truth))
+    bad_rightly (s_answer f tr a trace written truth ended at) s = absurd (omega (arith, s, truth_status f tr _ truth))
     bad_rightly (s_unread f a ended failed sound) s = absurd (omega (arith, s))
     bad_rightly (s_unwritten f tr rest a trace written some failed ended at) s = absurd (omega (arith, s))
     bad_rightly (s_no_memory f a) s = absurd (omega (arith, s))
@@ -282,7 +269,7 @@ module _ (words : List (List ℕ)) {own : List ℕ} (ask : AskCheck words own) (
     refused_rightly moved (s_bad b) s g bs ask took = absurd (omega (arith, s))
     refused_rightly moved (s_early h) s g bs ask took = absurd (omega (arith, s))
     refused_rightly moved (s_fault f x a fault at) s g bs ask took = (x, fault_for i.ended x a ask (took_is took moved) fault)
-    refused_rightly moved (s_answer f tr a trace written truth ended at) s g bs ask took = absurd (omega (arith, s, small f tr truth))
+    refused_rightly moved (s_answer f tr a trace written truth ended at) s g bs ask took = absurd (omega (arith, s, truth_status f tr _ truth))
     refused_rightly moved (s_unread f a ended failed sound) s g bs ask took = absurd (omega (arith, s))
     refused_rightly moved (s_unwritten f tr rest a trace written some failed ended at) s g bs ask took = absurd (omega (arith, s))
     refused_rightly moved (s_no_memory f a) s g bs ask took = absurd (omega (arith, s))
@@ -308,7 +295,7 @@ module _ (words : List (List ℕ)) {own : List ℕ} (ask : AskCheck words own) (
     answered_due moved (s_bad b) g bs ask here sound calm quiet = absurd (not_both ask b)
     answered_due moved (s_early h) g bs ask here sound calm quiet = inr refl
     answered_due moved (s_fault f x a fault at) g bs ask here sound calm quiet =
-        let (rest, after, e) = consumed i.before i.after bs bytes here moved in
+        let (rest, after, e) = rest_of i.before i.after bs bytes here moved in
         absurd (by_end i.ended refl (fault_for i.ended x a ask refl fault) rest after e)
       where
         by_end : (b : Bool) → i.ended ≡ b → IsInputFault whole_limits g bytes b x → (rest : List ℕ) → i.after ≡ Some rest → bs ≡ bytes ++ rest → ⊥
@@ -316,7 +303,7 @@ module _ (words : List (List ℕ)) {own : List ℕ} (ask : AskCheck words own) (
         by_end true s fault rest after e =
             let nothing_left : rest ≡ [] = subst IsAtEnd after (at s) in
             sound x (subst (λ k. IsInputFault whole_limits g k true x) (sym (e ∙ ap (λ r. bytes ++ r) nothing_left ∙ append-nil bytes)) fault)
-    answered_due moved (s_answer f tr a trace written truth ended at) g bs ask here sound calm quiet = inl (small f tr truth)
+    answered_due moved (s_answer f tr a trace written truth ended at) g bs ask here sound calm quiet = inl (truth_status f tr _ truth)
     answered_due moved (s_unread f a ended failed sound') g bs ask here sound calm quiet = absurd (calm failed)
     answered_due moved (s_unwritten f tr rest a trace written some failed ended at) g bs ask here sound calm quiet = absurd (quiet failed)
     answered_due moved (s_no_memory f a) g bs ask here sound calm quiet = inr refl
@@ -326,7 +313,7 @@ module _ (words : List (List ℕ)) {own : List ℕ} (ask : AskCheck words own) (
     five (s_bad b) s = absurd (omega (arith, s))
     five (s_early h) s = absurd (omega (arith, s))
     five (s_fault f x a fault at) s = absurd (omega (arith, s))
-    five (s_answer f tr a trace written truth ended at) s = absurd (omega (arith, s, small f tr truth))
+    five (s_answer f tr a trace written truth ended at) s = absurd (omega (arith, s, truth_status f tr _ truth))
     five (s_unread f a ended failed sound) s = failed
     five (s_unwritten f tr rest a trace written some failed ended at) s = absurd (omega (arith, s))
     five (s_no_memory f a) s = absurd (omega (arith, s))
@@ -336,7 +323,7 @@ module _ (words : List (List ℕ)) {own : List ℕ} (ask : AskCheck words own) (
     six (s_bad b) s = absurd (omega (arith, s))
     six (s_early h) s = absurd (omega (arith, s))
     six (s_fault f x a fault at) s = absurd (omega (arith, s))
-    six (s_answer f tr a trace written truth ended at) s = absurd (omega (arith, s, small f tr truth))
+    six (s_answer f tr a trace written truth ended at) s = absurd (omega (arith, s, truth_status f tr _ truth))
     six (s_unread f a ended failed sound) s = absurd (omega (arith, s))
     six (s_unwritten f tr rest a trace written some failed ended at) s = failed
     six (s_no_memory f a) s = absurd (omega (arith, s))
@@ -374,7 +361,7 @@ module _ (words : List (List ℕ)) {own : List ℕ} (ask : AskCheck words own) (
     cut_off_rightly moved grew (s_bad b) s g bs t ask took got = absurd (omega (arith, s))
     cut_off_rightly moved grew (s_early h) s g bs t ask took got = absurd (omega (arith, s))
     cut_off_rightly moved grew (s_fault f x a fault at) s g bs t ask took got = absurd (omega (arith, s))
-    cut_off_rightly moved grew (s_answer f tr a trace written truth ended at) s g bs t ask took got = absurd (omega (arith, s, small f tr truth))
+    cut_off_rightly moved grew (s_answer f tr a trace written truth ended at) s g bs t ask took got = absurd (omega (arith, s, truth_status f tr _ truth))
     cut_off_rightly moved grew (s_unread f a ended failed sound) s g bs t ask took got = absurd (omega (arith, s))
     cut_off_rightly moved grew (s_unwritten f tr rest a trace written some failed ended at) s g bs t ask took got =
         subst (λ (k : Formula). IsCutOff k bs t) (ask_once a ask) (record {
@@ -391,7 +378,7 @@ module _ (words : List (List ℕ)) {own : List ℕ} (ask : AskCheck words own) (
     line_of moved (s_bad b) = old.bad_text b
     line_of moved (s_early h) = old.no_memory
     line_of moved (s_fault f x a fault at) = old.first_fault (λ g bs ask took. (x, fault_for i.ended x a ask (took_is took moved) fault, refl))
-    line_of moved (s_answer f tr a trace written truth ended at) = old.nothing (small f tr truth)
+    line_of moved (s_answer f tr a trace written truth ended at) = old.nothing (truth_status f tr _ truth)
     line_of moved (s_unread f a ended failed sound) = old.unread
     line_of moved (s_unwritten f tr rest a trace written some failed ended at) = old.unwritten
     line_of moved (s_no_memory f a) = old.no_memory

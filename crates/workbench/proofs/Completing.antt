@@ -26,14 +26,14 @@ use Rattle.session_mux.proofs.FrontLines.{input_fault_stays}
 use Rattle.workbench.proofs.OneRequest.{one_request}
 
 -- the bytes that were there are those that were consumed, and the others
-rest_of : (before after : Option (List ℕ)) (bytes read : List ℕ) → before ≡ Some bytes → Consumes before after read
+pub rest_of : (before after : Option (List ℕ)) (bytes read : List ℕ) → before ≡ Some bytes → Consumes before after read
     → (left : List ℕ) × (after ≡ Some left) × (bytes ≡ read ++ left)
 rest_of None after bytes read e h = absurd (let k = e in cc)
 rest_of (Some xs) None bytes read e h = absurd h
 rest_of (Some xs) (Some ys) bytes read e h = (ys, refl, (let k : bytes ≡ xs = (let j = e in cc) in k) ∙ h)
 
 -- the truth has status 0 or 1
-truth_status : (f : Formula) (tr : Trace) (status : ℕ) → TellsTruth f tr status → status ≤ 1
+pub truth_status : (f : Formula) (tr : Trace) (status : ℕ) → TellsTruth f tr status → status ≤ 1
 truth_status f tr status (inl h) = let a = h.0 in omega (arith, a)
 truth_status f tr status (inr h) = let a = h.0 in omega (arith, a)
 

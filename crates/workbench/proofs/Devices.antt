@@ -40,10 +40,6 @@ pub next_take : (a b c : Option (List ℕ)) (text : List ℕ) (at n : ℕ) → A
     → Appends b c (take n (drop at text)) → Appends a c (take (at + n) text)
 next_take a b c text at n p q = subst (Appends a c) (sym (take-add at n text)) (Appends-trans a b c (take at text) (take n (drop at text)) p q)
 
--- the slice from a place on
-pub rest_is : (text : List ℕ) (at : ℕ) → take (length text - at) (drop at text) ≡ drop at text
-rest_is text at = take_all (length text - at) (drop at text) (omega (arith, length-drop at text))
-
 append_missing : (xs ys : List ℕ) → (xs ≡ [] → ⊥) → xs ++ ys ≡ [] → ⊥
 append_missing [] ys h e = h refl
 append_missing (x ∷ xs) ys h e = let f = e in cc

@@ -1,20 +1,18 @@
 -- Where the bytes have a fault, a run ends with 4, or for a reason that comes before it.
-use Rattle.std.proofs.Common.{◌≡◌, ◌≢◌, ◌⊎◌, inl, inr, ℕ, ◌≤◌, arith, Bool, true, false, List, [], ◌∷◌, ◌++◌, refl, sym, ap, ◌∙◌, subst, append-nil}
+use Rattle.std.proofs.Common.{◌≡◌, ◌≢◌, ◌⊎◌, inl, inr, ℕ, ◌≤◌, arith, Bool, true, false, List, [], ◌++◌, refl, sym, ap, ◌∙◌, subst, append-nil}
 use Rattle.std.proofs.lemmas.Bool.{false≢true}
+use Rattle.rational.proofs.Lists.{append_some}
 use Rattle.io_edge.specs.Calls.{Drained, Filled, HasFailed, HasRefused}
 use Rattle.stl_syntax.specs.Trace.{Trace}
 use Rattle.stl_syntax.specs.Formula.{Formula}
 use Rattle.report.specs.Report.{Command, check, robust, explain, json, table}
 use Rattle.workbench.specs.Requests.{Request, no_form, refused, whole, stream, sessions, generated, Stream, verdicts, early, margins, has_input}
 use Rattle.workbench.specs.Owed.{OwesAtEnd, not_yet, faulty as faulty_at_end, too_many, at_end}
-use Rattle.workbench.specs.Ended.{TellsTruth, IsVerdict, IsLastVerdict, IsAnswered, HasFault, none, bad, faulty, answered, wide, overfull}
+use Rattle.workbench.specs.Ended.{IsVerdict, IsLastVerdict, IsAnswered, HasFault, none, bad, faulty, answered, wide, overfull}
 use Rattle.workbench.specs.Running.{IsBegun, IsEnd, by_itself, unread, unwritten, no_memory}
 use Rattle.workbench.specs.InputFaults.{whole_limits, IsInputFault}
+use Rattle.workbench.proofs.Completing.{truth_status}
 use Rattle.trace_stream.specs.CaseReader.{IsSound}
-
-some_more : (text rest : List ℕ) → rest ≢ [] → text ++ rest ≡ [] → ⊥
-some_more [] rest h e = h e
-some_more (x ∷ text) rest h e = cc
 
 -- bytes without a fault, all of them
 sound_all : (c : Command) (f : Formula) (bytes line : List ℕ) (ended : Bool) → ended ≡ true → IsSound whole_limits f bytes true
@@ -28,9 +26,9 @@ begun_sound c f bytes text rest ended some b = by_owed b.seen b.seen_end (text +
   where
     by_owed : (seen : List ℕ) (e : Bool) (all : List ℕ) → b.seen ≡ seen → b.seen_end ≡ e → text ++ rest ≡ all
         → OwesAtEnd c f seen e all → (ended ≡ true) × IsSound whole_limits f bytes true
-    by_owed seen false all p q s not_yet = absurd (some_more text rest some s)
-    by_owed seen true all p q s (faulty_at_end x fault) = absurd (some_more text rest some s)
-    by_owed seen true all p q s (too_many tr n trace many) = absurd (some_more text rest some s)
+    by_owed seen false all p q s not_yet = absurd (append_some text rest some s)
+    by_owed seen true all p q s (faulty_at_end x fault) = absurd (append_some text rest some s)
+    by_owed seen true all p q s (too_many tr n trace many) = absurd (append_some text rest some s)
     by_owed seen true all p q s (at_end tr trace few written) =
         let all_read = b.at_end q in
         let same : bytes ≡ seen = b.parts ∙ ap (λ l. b.seen ++ l) all_read.1 ∙ append-nil b.seen ∙ p in
@@ -51,21 +49,16 @@ fault_due c f i o bytes text line said _ (unwritten rest some failed begun timel
     absurd (sound_all c f bytes line i.ended b.0 b.1 h)
 fault_due c f i o bytes text line said _ (no_memory known begun timely) h = inr refl
 
--- an answer has the status 0 or 1
-small_truth : (f : Formula) (tr : Trace) (status : ℕ) → TellsTruth f tr status → status ≤ 1
-small_truth f tr status (inl h) = let a = h.0 in omega (arith, a)
-small_truth f tr status (inr h) = let a = h.0 in omega (arith, a)
-
 small_verdict : (c : Command) (f : Formula) (tr : Trace) (status : ℕ) → IsVerdict c f tr status → status ≤ 1
-small_verdict check f tr status h = small_truth f tr status h
+small_verdict check f tr status h = truth_status f tr status h
 small_verdict robust f tr status h = omega (arith, h)
-small_verdict explain f tr status h = small_truth f tr status h
-small_verdict json f tr status h = small_truth f tr status h
+small_verdict explain f tr status h = truth_status f tr status h
+small_verdict json f tr status h = truth_status f tr status h
 small_verdict table f tr status h = omega (arith, h)
 
 small_last : (s : Stream) (f : Formula) (tr : Trace) (status : ℕ) → IsLastVerdict s f tr status → status ≤ 1
-small_last verdicts f tr status h = small_truth f tr status h
-small_last early f tr status h = small_truth f tr status h
+small_last verdicts f tr status h = truth_status f tr status h
+small_last early f tr status h = truth_status f tr status h
 small_last margins f tr status h = omega (arith, h)
 
 -- a request that is answered ends with 0 or 1

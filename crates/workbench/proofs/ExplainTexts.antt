@@ -1,14 +1,11 @@
 -- An explanation is one text.
 use Rattle.std.proofs.Common.{◌≡◌, inl, inr, ℕ, suc, Bool, true, false, List, [], ◌∷◌, ◌++◌, refl, sym, ap, subst, ◌∙◌, reverse, Some}
-use Rattle.std.specs.Prelude.{MatchBool, codes, slice_get, ◌&&◌}
+use Rattle.std.specs.Prelude.{MatchBool, codes, slice_get}
 use Rattle.std.proofs.lemmas.List.{reverse-append}
-use Rattle.rational.specs.Time.{Rational, Interval, IsIn, Precedes, ◌≤ʳ◌}
-use Rattle.rational.specs.Rational.{middle}
-use Rattle.rational.proofs.Order.{le_or_lt, le_of_same, left_of_middle, right_of_middle, not_lt_of_le, same_refl, same_sym, same_trans}
-use Rattle.rational.proofs.TimeLemmas.{precedes_le, precedes_of_lt, precedes_of_room}
+use Rattle.rational.specs.Time.{Interval}
+use Rattle.rational.proofs.Order.{same_sym, same_trans}
 use Rattle.frac128.specs.Spans.{interval}
-use Rattle.frac128.specs.Value.{value}
-use Rattle.frac128.specs.declared.span.Span.{Span}
+use Rattle.frac128.proofs.Wholes.{span_time}
 use Rattle.stl_syntax.specs.Trace.{Trace, start}
 use Rattle.stl_syntax.specs.Formula.{Formula, Subformula, atom, root, subformula}
 use Rattle.stl_syntax.specs.Truth.{Truth}
@@ -29,33 +26,6 @@ use Rattle.implicants.proofs.Growing.{must_not}
 use Rattle.implicants.proofs.OneExplanation.{AreAlike, AreAllAlike, alike_sym, alike_trans, in_alike, same_cells}
 use Rattle.report.specs.Report.{explain, Join, AreJoined, IsItemLines, AreItemLines, IsExplained, Out, nodes_for}
 use Rattle.report.proofs.OneText.{span_once, start_once}
-
--- a span has a time
-time_in : (s : Span) → (t : Rational) × IsIn (interval s) t
-time_in s = elim (le_or_lt (value s.to) (value s.from)) [
-  | inl l ↦ (value s.from, at_end l (both s.from_in s.to_in room l))
-  | inr l ↦ (
-    middle (value s.from) (value s.to),
-    record {
-      above = precedes_of_lt s.from_in (value s.from) (middle (value s.from) (value s.to)) (left_of_middle l);
-      below = precedes_of_lt s.to_in (middle (value s.from) (value s.to)) (value s.to) (right_of_middle l);
-    },
-  )
-]
-  where
-    room : Precedes (s.from_in && s.to_in) (value s.from) (value s.to)
-    room = precedes_of_room (s.from_in && s.to_in) (value s.from) (value s.to) s.not_empty
-
-    both : (a b : Bool) → Precedes (a && b) (value s.from) (value s.to) → value s.to ≤ʳ value s.from → (a ≡ true) × (b ≡ true)
-    both true true h l = (refl, refl)
-    both true false h l = absurd (not_lt_of_le l h)
-    both false b h l = absurd (not_lt_of_le l h)
-
-    at_end : value s.to ≤ʳ value s.from → (s.from_in ≡ true) × (s.to_in ≡ true) → IsIn (interval s) (value s.from)
-    at_end l (a, b) = record {
-      above = subst (λ i. Precedes i (value s.from) (value s.from)) (sym a) (le_of_same (same_refl (value s.from)));
-      below = subst (λ i. Precedes i (value s.from) (value s.to)) (sym b) (precedes_le (s.from_in && s.to_in) (value s.from) (value s.to) room);
-    }
 
 -- items of one node and truth on spans that are alike
 pub record AreSame (e g : Item) : Type 0 where
@@ -105,7 +75,7 @@ module _ (nodes : List Node) (tr : Trace) where
   -- two items of one node on spans that are alike have one truth
   one_truth : (e g : Item) → e.node ≡ g.node → AreAlike (interval e.on) (interval g.on) → IsSo nodes tr e → IsSo nodes tr g → e.holds ≡ g.holds
   one_truth e g same on so also =
-      let t = time_in e.on in
+      let t = span_time e.on in
       by_truth (Truth (subformula nodes e.node) tr t.0) e.holds g.holds (so t.0 t.1)
       (subst (λ (i : ℕ). MatchBool g.holds (Truth (subformula nodes i) tr t.0) (¬ Truth (subformula nodes i) tr t.0)) (sym same)
       (also t.0 (in_alike (interval e.on) (interval g.on) t.0 on t.1)))

@@ -1,8 +1,9 @@
 -- A report is one JSON text.
-use Rattle.std.proofs.Common.{◌≡◌, ℕ, Bool, true, false, List, [], ◌∷◌, ◌++◌, refl, sym, ap, subst, ◌∙◌, codes, Some}
-use Rattle.std.specs.Prelude.{MatchBool, slice_get}
+use Rattle.std.proofs.Common.{◌≡◌, ℕ, Bool, List, [], ◌∷◌, ◌++◌, sym, ap, subst, ◌∙◌, codes, Some}
+use Rattle.std.specs.Prelude.{slice_get}
 use Rattle.rational.specs.Time.{◌≈◌}
 use Rattle.rational.specs.Extended.{◌≈ᵉ◌}
+use Rattle.rational.proofs.Tests.{one_truth}
 use Rattle.stl_syntax.specs.Trace.{Trace, start}
 use Rattle.stl_syntax.specs.Formula.{Formula, atom, root}
 use Rattle.stl_syntax.specs.Truth.{Truth}
@@ -106,12 +107,6 @@ report_object printed items margins holds spans =
     object (member (codes "formula") (string printed) (member (codes "items") (array items) (member (codes "margins") (array margins)
     (member (codes "start") (boolean holds) (member (codes "verdicts") (array spans) no_members)))))
 
-one_start : (P : Type 0) (a b : Bool) → MatchBool a P (¬ P) → MatchBool b P (¬ P) → a ≡ b
-one_start P true true h k = refl
-one_start P false false h k = refl
-one_start P true false h k = absurd (k h)
-one_start P false true h k = absurd (h k)
-
 report_data : (scale : Scale) (f : Formula) (vs ws : List Verdict) (ks ls : Knots) (es gs : List Item) (holds also : Bool) (x y : Data) → AreAlike vs ws
     → KnotsAlike ks.first ls.first × PiecesAlike ks.pieces ls.pieces → AreAllSame es gs → holds ≡ also → IsReportData scale f vs ks es holds x
     → IsReportData scale f ws ls gs also y → x ≡ y
@@ -129,4 +124,4 @@ json_once f tr x y (vs, ks, es, holds, report, v, k, e, h, r, is) (ws, ls, gs, a
     is ∙ ap (λ d. compact_text d ++ newline)
     (report_data tr.header.scale f vs ws ks ls es gs holds also report other (Describes-unique _ tr _ vs ws v v')
     (DescribesMargins-unique (root (nodes_for f tr)) tr ks ls k k') (explained_same f tr es gs e e')
-    (one_start (Truth (root (nodes_for f tr)) tr (start tr)) holds also h h') r r') ∙ sym is'
+    (one_truth (Truth (root (nodes_for f tr)) tr (start tr)) holds also h h') r r') ∙ sym is'

@@ -5,10 +5,7 @@ use Rattle.stl_syntax.specs.Texts.{newline}
 use Rattle.stl_grammar.specs.declared.fault.What.{What}
 use Rattle.stl_grammar.specs.declared.fault.FormulaFault.TheVariants.{Expected, ConstantTooLarge}
 use Rattle.workbench.specs.ErrTexts.{what_text, formula_fault_text, not_streamed_text, wide_text}
-
--- parts to the right
-at_once : (a d c x e f : List ℕ) → (((a ++ d) ++ c) ++ (x ++ e)) ++ f ≡ a ++ (d ++ (c ++ (x ++ (e ++ f))))
-at_once a d c x e f = simp append_assoc
+use Rattle.report.proofs.FaultLines.{at_once}
 
 with_tail : (a x d t f : List ℕ) → (a ++ ((x ++ d) ++ t)) ++ f ≡ a ++ (x ++ (d ++ (t ++ f)))
 with_tail a x d t f = simp append_assoc

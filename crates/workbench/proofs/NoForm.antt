@@ -1,6 +1,7 @@
 -- Words of no form, and the status 2.
-use Rattle.std.proofs.Common.{◌≡◌, ◌≢◌, ℕ, List, [], ◌∷◌, ◌++◌, arith, refl}
+use Rattle.std.proofs.Common.{◌≡◌, ◌≢◌, ℕ, List, arith, refl}
 use Rattle.std.proofs.lemmas.Bool.{false≢true}
+use Rattle.rational.proofs.Lists.{append_some}
 use Rattle.io_edge.specs.Calls.{Drained, Filled}
 use Rattle.workbench.specs.Requests.{Request, no_form, refused, whole, stream, sessions, generated, Asks, AreNone}
 use Rattle.workbench.specs.Requests as request
@@ -35,10 +36,6 @@ pub two_is_none : {words : List (List ℕ)} {bytes : List ℕ} (i : Drained) (o 
 two_is_none i o (asked r a nothing at end) s = by_end i o r a end s
 two_is_none i o (unknown some nothing) s = absurd (omega (arith, s))
 
-some_more : (text rest : List ℕ) → rest ≢ [] → text ++ rest ≡ [] → ⊥
-some_more [] rest h e = h e
-some_more (x ∷ text) rest h e = cc
-
 none_end : {bytes : List ℕ} (i : Drained) (o : Filled) {status : ℕ} {line : List ℕ} (text : List ℕ) → IsEnd no_form i o bytes text status line → status ≡ 2
 none_end i o text (by_itself none) = refl
 none_end i o text (by_itself (faulty fault prompt owed)) = absurd fault
@@ -46,7 +43,7 @@ none_end i o text (by_itself (answered is)) = absurd is
 none_end i o text (by_itself (wide n den is)) = absurd is
 none_end i o text (by_itself (overfull n is)) = absurd is
 none_end i o text (unread has ended failed sound owed) = absurd (false≢true has)
-none_end i o text (unwritten rest some failed begun timely) = absurd (some_more text rest some begun.owed)
+none_end i o text (unwritten rest some failed begun timely) = absurd (append_some text rest some begun.owed)
 none_end i o text (no_memory known begun timely) = absurd (known refl)
 
 -- and there it comes

@@ -8,11 +8,12 @@ use Rattle.stl_grammar.specs.FormulaRefusals.{IsFormulaOf}
 use Rattle.stl_grammar.proofs.LawProofs.{one_formula, one_refusal}
 use Rattle.report.specs.Report.{check, robust, explain, json, table}
 use Rattle.workbench.proofs.NumberWords.{two_words, one_workload}
-use Rattle.workbench.specs.Commands.{Verb, on_formula, generate, IsForm, of_formula, verb_word}
+use Rattle.workbench.specs.Commands.{Verb, on_formula, generate, IsForm, verb_word}
 use Rattle.workbench.specs.Commands as word
 use Rattle.workbench.specs.Requests.{Request, no_form, refused, whole, stream, sessions, generated, verdicts, early}
 use Rattle.workbench.specs.Requests.{margins, Asks, AreNone, AreFor, AreRefused, IsAsked, IsRefusal, IsUnserved}
 use Rattle.workbench.specs.ErrTexts.{formula_fault_text, not_streamed_text}
+use Rattle.workbench.proofs.RunEnds.{word_form}
 
 -- ---- forms
 
@@ -40,14 +41,11 @@ word_back word.rwatch = refl
 one_word : (j k : Verb) → verb_word j ≡ verb_word k → j ≡ k
 one_word j k e = let same : Some j ≡ Some k = sym (word_back j) ∙ ap command_word e ∙ word_back k in cc
 
-verb_form : {words : List (List ℕ)} {j : Verb} {text : List ℕ} → IsForm words (on_formula j text) → words ≡ verb_word j ∷ text ∷ []
-verb_form (of_formula j) = refl
-
 -- words of a command's form are of no other
 pub one_verb : {words : List (List ℕ)} (j k : Verb) (text other : List ℕ) → IsForm words (on_formula j text)
     → IsForm words (on_formula k other) → (j ≡ k) × (text ≡ other)
 one_verb j k text other a b =
-    let e : verb_word j ∷ text ∷ [] ≡ verb_word k ∷ other ∷ [] = sym (verb_form a) ∙ verb_form b in
+    let e : verb_word j ∷ text ∷ [] ≡ verb_word k ∷ other ∷ [] = sym (word_form a) ∙ word_form b in
     (one_word j k (let h : verb_word j ≡ verb_word k = cc in h), (let h : text ≡ other = cc in h))
 
 -- ---- what is asked for
@@ -127,13 +125,13 @@ one_request words r q a b = by_cases (asked_as words r a) (asked_as words q b)
     by_cases (as_none a e) (as_formula j g b f) = absurd (a (on_formula j b.text) b.form)
     by_cases (as_none a e) (as_made n rows b f) = absurd (a (generate n rows) b)
     by_cases (as_made n rows a e) (as_none b f) = absurd (b (generate n rows) a)
-    by_cases (as_made n rows a e) (as_bad line b f) = absurd (two_words (verb_word b.command) b.text (verb_form b.form.is) a.is)
-    by_cases (as_made n rows a e) (as_formula j g b f) = absurd (two_words (verb_word j) b.text (verb_form b.form.is) a.is)
+    by_cases (as_made n rows a e) (as_bad line b f) = absurd (two_words (verb_word b.command) b.text (word_form b.form.is) a.is)
+    by_cases (as_made n rows a e) (as_formula j g b f) = absurd (two_words (verb_word j) b.text (word_form b.form.is) a.is)
     by_cases (as_made n rows a e) (as_made m more b f) =
         let same = one_workload a.is b.is in
         e ∙ ap (λ i. generated i rows) same.0 ∙ ap (λ i. generated m i) same.1 ∙ sym f
-    by_cases (as_bad line a e) (as_made n rows b f) = absurd (two_words (verb_word a.command) a.text (verb_form a.form.is) b.is)
-    by_cases (as_formula j g a e) (as_made n rows b f) = absurd (two_words (verb_word j) a.text (verb_form a.form.is) b.is)
+    by_cases (as_bad line a e) (as_made n rows b f) = absurd (two_words (verb_word a.command) a.text (word_form a.form.is) b.is)
+    by_cases (as_formula j g a e) (as_made n rows b f) = absurd (two_words (verb_word j) a.text (word_form a.form.is) b.is)
     by_cases (as_bad line a e) (as_none b f) = absurd (b (on_formula a.command a.text) a.form)
     by_cases (as_bad line a e) (as_bad other b f) = e ∙ ap refused (one_line b.command b.text line other (refusal_of a b.command b.text b.form) b.is) ∙ sym f
     by_cases (as_bad line a e) (as_formula j g b f) = absurd (not_both j b.text line g (refusal_of a j b.text b.form) b.is b.served)

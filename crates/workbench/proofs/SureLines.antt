@@ -5,36 +5,35 @@ use Rattle.std.proofs.Common.{ℤ, pos, ◌+ℤ◌, ◌-ℤ◌, ◌≤ℤ◌, �
 use Rattle.std.specs.Prelude.{MatchBool, int_lt, cond, slice_get}
 use Rattle.std.proofs.lemmas.Bool.{false≢true}
 use Rattle.std.proofs.lemmas.Int.{ints}
+use Rattle.std.proofs.lemmas.Option.{same_Some}
 use Rattle.rational.specs.Time.{Rational, ◌≤ʳ◌, later, whole, closed, left_open}
 use Rattle.rational.proofs.Order.{le_trans}
 use Rattle.rational.proofs.TimeLemmas.{later_le}
 use Rattle.rational.proofs.Mixed.{parts}
 use Rattle.rational.proofs.Shift.{le_whole}
-use Rattle.stl_syntax.specs.Trace.{Header, Row, Trace, IsTrace, Continues, AreRows, AreRowsAfter, first_time, last_time, start, stop}
+use Rattle.stl_syntax.specs.Trace.{Header, Row, Trace, IsTrace, Continues, AreRows, first_time, last_time, start, stop}
 use Rattle.stl_syntax.specs.Formula.{Formula, Subformula, root, horizon}
 use Rattle.stl_syntax.specs.Truth.{Truth}
 use Rattle.stl_syntax.specs.Verdicts.{IsTold}
 use Rattle.stl_syntax.specs.Stream.{answered_by, IsStretchText, IsNewText, IsRowsText, IsRestText, IsStreamText}
 use Rattle.stl_syntax.specs.Texts.{AreVerdictLines}
 use Rattle.stl_syntax.specs.declared.items.Verdict.{Verdict}
-use Rattle.stl_syntax.specs.declared.scale.Scale.{Scale}
 use Rattle.stl_syntax.proofs.LawProofs.{answers_stay}
+use Rattle.stl_syntax.proofs.RowsLemmas.{last_time-push, row_later}
 use Rattle.rational.specs.Places.{begins, ends, Same}
+use Rattle.rational.proofs.Tests.{one_truth, int_order}
 use Rattle.online_nodes.specs.Laws.{AreTold, AreTiles, answered_to}
-use Rattle.online_nodes.proofs.RunLaw.{int_order, some_is, none_is_none}
-use Rattle.online_nodes.proofs.StayLaw.{Agree, AgreeOn, described}
+use Rattle.online_nodes.proofs.RunLaw.{none_is_none}
+use Rattle.online_nodes.proofs.StayLaw.{Agree, AgreeOn, described, told_append}
 use Rattle.online_nodes.proofs.Writing.{same_itself}
 use Rattle.online_nodes.proofs.EmittedLaw.{describes_tiles, tiles_append}
 use Rattle.report.specs.Report.{nodes_for}
+use Rattle.report.proofs.Lines.{lines_join}
 use Rattle.workbench.specs.Requests.{verdicts}
 use Rattle.workbench.specs.Ended.{IsAnsweredByRow}
 use Rattle.workbench.specs.SureLines.{AreSure, AreSureByRow, AreSureToEnd, IsCoverText, TellAlike, IsWatchText}
 
 -- ---- rows
-
-last_of : (time : ℕ) (rows : List Row) (r : Row) → last_time time (rows ++ r ∷ []) ≡ r.time
-last_of time [] r = refl
-last_of time (q ∷ rows) r = last_of q.time rows r
 
 -- a row more leaves the first time
 pub first_stays : (rows : List Row) (r s : Row) → first_time ((rows ++ r ∷ []) ++ s ∷ []) ≡ first_time (rows ++ r ∷ [])
@@ -49,14 +48,9 @@ some_row : (rows : List Row) (r : Row) → rows ++ r ∷ [] ≢ []
 some_row [] r e = let k = e in cc
 some_row (q ∷ rows) r e = let k = e in cc
 
--- a row that follows others comes after the last of them
-pub after_last : (width time : ℕ) (rows : List Row) (r : Row) (more : List Row) → AreRowsAfter width time (rows ++ r ∷ more) → last_time time rows < r.time
-after_last width time [] r more a = a.0
-after_last width time (q ∷ rows) r more a = after_last width q.time rows r more a.2
-
 later_row : (width : ℕ) (rows : List Row) (r : Row) (more : List Row) → AreRows width (rows ++ r ∷ more) → rows ≢ [] → last_time 0 rows < r.time
 later_row width [] r more a some = absurd (some refl)
-later_row width (q ∷ rows) r more a some = after_last width q.time rows r more a.1
+later_row width (q ∷ rows) r more a some = row_later width q.time rows r more a.1
 
 -- ---- fronts
 
@@ -79,7 +73,7 @@ answered_is first p s f e = by_test (int_lt (pos s -ℤ pos (horizon p)) (pos fi
     by_test : (t : Bool) → int_lt (pos s -ℤ pos (horizon p)) (pos first) ≡ t → cond t None (Some (pos s -ℤ pos (horizon p))) ≡ Some f → AnsweredBy first p s f
     by_test true x y = absurd (none_is_none f y)
     by_test false x y =
-        let same = some_is (pos s -ℤ pos (horizon p)) f y in
+        let same = same_Some (pos s -ℤ pos (horizon p)) f y in
         record { is = sym same; low = subst (λ z. pos first ≤ℤ z) same (int_order (pos s -ℤ pos (horizon p)) (pos first) false x) }
 
 answered_none : (first : ℕ) (p : Subformula) (s : ℕ) → answered_by first p s ≡ None → (pos s -ℤ pos (horizon p)) <ℤ pos first
@@ -100,7 +94,7 @@ low_front first p s (Some f) e = (answered_is first p s f e).low
 -- up to f and the horizon after it the last row has come
 pub row_answered : (p : Subformula) (rows : List Row) (r : Row) (f : ℤ) → AnsweredBy (first_time (rows ++ r ∷ [])) p r.time f → (t : Rational) → t ≤ʳ whole f
     → later t (horizon p) ≤ʳ whole (pos (last_time 0 (rows ++ r ∷ [])))
-row_answered p rows r f a t to = le_trans (later_le (horizon p) to) (reach (last_time 0 (rows ++ r ∷ [])) (last_of 0 rows r))
+row_answered p rows r f a t to = le_trans (later_le (horizon p) to) (reach (last_time 0 (rows ++ r ∷ [])) (last_time-push 0 rows r))
   where
     reach : (last : ℕ) → last ≡ r.time → later (whole f) (horizon p) ≤ʳ whole (pos last)
     reach last e =
@@ -240,16 +234,6 @@ lines_are_sure_to_end p header rows text (are, (during, rest, line, t, at_end, f
 
 -- ---- the cover
 
-lines_append : (scale : Scale) (vs ws : List Verdict) (x y : List ℕ) → AreVerdictLines scale vs x → AreVerdictLines scale ws y
-    → AreVerdictLines scale (vs ++ ws) (x ++ y)
-lines_append scale [] ws x y a b = subst (λ z. AreVerdictLines scale ws (z ++ y)) (sym a) b
-lines_append scale (v ∷ vs) ws x y (here, later, h, rest, is) b =
-    (here, later ++ y, h, lines_append scale vs ws later y rest b, ap (λ z. z ++ y) is ∙ append_assoc here later y)
-
-told_append : (p : Subformula) (tr : Trace) (vs ws : List Verdict) → AreTold p tr vs → AreTold p tr ws → AreTold p tr (vs ++ ws)
-told_append p tr [] ws h k = k
-told_append p tr (v ∷ vs) ws (h, rest) k = (h, told_append p tr vs ws rest k)
-
 -- what is answered after some rows
 abbrev pub Front : Subformula → List Row → Option ℤ
 Front p [] = None
@@ -258,7 +242,7 @@ Front p (r ∷ rows) = answered_by r.time p (last_time r.time rows)
 -- the front of rows is what the last of them answers
 pub front_is : (p : Subformula) (rows : List Row) (r : Row) → Front p (rows ++ r ∷ []) ≡ answered_by (first_time (rows ++ r ∷ [])) p r.time
 front_is p [] r = refl
-front_is p (q ∷ rows) r = ap (λ n. answered_by q.time p n) (last_of q.time rows r)
+front_is p (q ∷ rows) r = ap (λ n. answered_by q.time p n) (last_time-push q.time rows r)
 
 -- the front of rows is what is answered at the last time of them
 pub front_of_all : (p : Subformula) (rows : List Row) → rows ≢ [] → Front p rows ≡ answered_by (first_time rows) p (last_time 0 rows)
@@ -286,7 +270,8 @@ record Passage (p : Subformula) (header : Header) (first : ℕ) (old new : Optio
   told : AreTold p tr verdicts
   led : Led first old verdicts new
 
-none_led : (first : ℕ) (o : Option ℤ) → Led first o [] o
+-- no lines lead from a front to itself
+pub none_led : (first : ℕ) (o : Option ℤ) → Led first o [] o
 none_led first None = (refl, refl)
 none_led first (Some f) = same_itself (answered_to first (Some f))
 
@@ -317,7 +302,7 @@ module _ (p : Subformula) (header : Header) (tr : Trace) (ok : IsTrace tr) (firs
       subst (λ rs. Passage p header first old (Front p rs) tr text) (sym at) (record {
         verdicts = l.verdicts ++ c.verdicts;
         lines = subst (λ t. AreVerdictLines header.scale (l.verdicts ++ c.verdicts) t) (sym parts)
-            (lines_append header.scale l.verdicts c.verdicts here later l.lines c.lines);
+            (lines_join header.scale l.verdicts c.verdicts here later l.lines c.lines);
         told = told_append p tr l.verdicts c.verdicts
             (l.told tr (λ f k t a b. row_agrees p header rows r tr f ok goes (answered_is (first_time (rows ++ r ∷ [])) p r.time f k) t a b)) c.told;
         led = led_append first old (answered_by (first_time (rows ++ r ∷ [])) p r.time) (Front p ((rows ++ r ∷ []) ++ more)) l.verdicts c.verdicts
@@ -336,7 +321,7 @@ module _ (p : Subformula) (header : Header) (tr : Trace) (ok : IsTrace tr) (firs
           → NeverBelow old (answered_by (first_time (rows ++ r ∷ [])) p r.time)
       rises [] e b are = subst (λ (o : Option ℤ). NeverBelow o (answered_by r.time p r.time)) (sym e) tt
       rises (q ∷ rows) e b are =
-          let l = after_last (length header.columns) q.time rows r more are.1 in
+          let l = row_later (length header.columns) q.time rows r more are.1 in
           front_rises q.time p (last_time q.time rows) r.time old _ (omega (arith, l)) (sym e) refl
 
 -- the lines cover the trace
@@ -360,7 +345,7 @@ covered p header rows text (are, (during, rest, line, t, at_end, first, is)) =
         };
         body = during ++ rest;
         line = line;
-        lines = lines_append header.scale c.verdicts l.verdicts during rest c.lines l.lines;
+        lines = lines_join header.scale c.verdicts l.verdicts during rest c.lines l.lines;
         start_is = first;
         is = is;
       },
@@ -387,12 +372,6 @@ told_at : (p : Subformula) (tr : Trace) (vs : List Verdict) (i : ℕ) (v : Verdi
 told_at p tr [] i v a e = absurd (let k = e in cc)
 told_at p tr (w ∷ vs) zero v a e = let same : w ≡ v = (let k = e in cc) in subst (λ (x : Verdict). IsTold p tr x) same a.0
 told_at p tr (w ∷ vs) (suc i) v a e = told_at p tr vs i v a.1 e
-
-one_truth : (P : Type 0) (a b : Bool) → MatchBool a P (¬ P) → MatchBool b P (¬ P) → a ≡ b
-one_truth P true true x y = refl
-one_truth P true false x y = absurd (y x)
-one_truth P false true x y = absurd (x y)
-one_truth P false false x y = refl
 
 tell_alike : (p : Subformula) (tr : Trace) (vs ws : List Verdict) → AreTold p tr vs → AreTold p tr ws → TellAlike vs ws
 tell_alike p tr vs ws a b = λ i j v w t e f x y.

@@ -9,6 +9,7 @@ use Rattle.rational.specs.Extended.{Extended, ◌≈ᵉ◌}
 use Rattle.rational.proofs.Order.{le_trans, le_of_same, ge_of_same, le_of_lt, same_refl, same_sym, same_trans}
 use Rattle.rational.proofs.AffineLemmas.{same_symᵉ, same_transᵉ}
 use Rattle.rational.proofs.Shift.{le_whole}
+use Rattle.rational.proofs.Tests.{int_order}
 use Rattle.stl_syntax.specs.Trace.{Header, Row, Trace, IsTrace, Continues, AreRows, first_time, last_time}
 use Rattle.stl_syntax.specs.Formula.{Formula, Subformula, root}
 use Rattle.stl_syntax.specs.Knots.{Knot, Piece, Knots}
@@ -19,17 +20,17 @@ use Rattle.stl_syntax.specs.Texts.{AreMarginLines, ArePieceLines}
 use Rattle.stl_syntax.specs.declared.scale.Scale.{Scale}
 use Rattle.stl_syntax.proofs.LawProofs.{answered_margins_stay, values_are_of_times}
 use Rattle.stl_syntax.proofs.SupInfLemmas.{SupInf-unique, margins_give_one}
+use Rattle.stl_syntax.proofs.RowsLemmas.{row_later}
 use Rattle.online_nodes.specs.MarginEdges.{Part, point, gap, parts_after, parts_of}
 use Rattle.online_nodes.specs.MarginStream.{TellsLeftOpen, IsNewMargins, IsMarginStream}
-use Rattle.online_nodes.proofs.RunLaw.{int_order}
 use Rattle.report.specs.Report.{nodes_for}
 use Rattle.workbench.specs.Requests.{margins}
 use Rattle.workbench.specs.Ended.{IsAnsweredByRow}
 use Rattle.workbench.specs.SureMargins.{ArePartLines, IsTruePart, AreTrueParts, AreSureMargins, AreSureMarginsByRow}
 use Rattle.workbench.specs.SureMargins.{AreSureMarginsToEnd, AreInTurn, CoverParts, IsMarginCover, ReadsPart, IsMarginText}
 use Rattle.workbench.proofs.MarginTruth.{one_inside, reads}
-use Rattle.workbench.proofs.SureLines.{AnsweredBy, Front, Low, NeverBelow, after_last, answered_is}
-use Rattle.workbench.proofs.SureLines.{front_is, front_of_all, front_rises, low_front, low_later, row_answered}
+use Rattle.workbench.proofs.SureLines.{AnsweredBy, Front, Low, NeverBelow, answered_is}
+use Rattle.workbench.proofs.SureLines.{front_is, front_of_all, front_rises, low_front, low_later, row_answered, none_led}
 
 -- ---- the parts of knots
 
@@ -264,10 +265,6 @@ record Passage (p : Subformula) (header : Header) (first : ℕ) (old new : Optio
   told : AreTrueParts p tr parts
   led : Led first old parts new
 
-none_led : (first : ℕ) (o : Option ℤ) → Led first o [] o
-none_led first None = (refl, refl)
-none_led first (Some f) = same_refl (whole f)
-
 led_append : (first : ℕ) (old mid new : Option ℤ) (xs ys : List Part) → Led first old xs mid → Led first mid ys new → Led first old (xs ++ ys) new
 led_append first old None None xs ys a b = (a.0, ap (λ l. l ++ ys) a.1 ∙ b.1)
 led_append first old None (Some f) xs ys a b =
@@ -315,7 +312,7 @@ module _ (p : Subformula) (header : Header) (tr : Trace) (ok : IsTrace tr) (firs
           → NeverBelow old (answered_by (first_time (rows ++ r ∷ [])) p r.time)
       rises [] e b are = subst (λ (o : Option ℤ). NeverBelow o (answered_by r.time p r.time)) (sym e) tt
       rises (q ∷ rows) e b are =
-          let l = after_last (length header.columns) q.time rows r more are.1 in
+          let l = row_later (length header.columns) q.time rows r more are.1 in
           front_rises q.time p (last_time q.time rows) r.time old _ (omega (arith, l)) (sym e) refl
 
 -- the lines cover the trace

@@ -1,10 +1,10 @@
 -- The loops that count: verdicts up to a front, and rows.
-use Rattle.std.proofs.Common.{◌≡◌, ℕ, suc, ◌+◌, ◌-◌, ◌<◌, ◌≤◌, true, List, [], ◌∷◌, length, drop, get_or, refl, sym, subst, arith, pos}
+use Rattle.std.proofs.Common.{◌≡◌, ℕ, suc, ◌+◌, ◌-◌, ◌<◌, ◌≤◌, true, List, [], length, drop, get_or, sym, subst, arith, pos}
 use Rattle.std.proofs.lemmas.List.{drop_more, drop_all}
 use Rattle.rational.specs.Time.{whole, ◌<ʳ◌, ◌≈◌}
 use Rattle.frac128.specs.Value.{value}
 use Rattle.frac128.specs.declared.frac.Frac.{Frac}
-use Rattle.stl_syntax.specs.Trace.{Row, first_time}
+use Rattle.stl_syntax.specs.Trace.{Row}
 use Rattle.stl_syntax.specs.declared.items.Verdict.{Verdict}
 use Rattle.workload.specs.Passing.{EndsBefore, Passes, Walks, none, beyond, here, next, done, early, front}
 
@@ -75,8 +75,3 @@ module _ (begin h : ℕ) (rows : List Row) (all : List Verdict) where
 -- a row for places behind the last one
 pub no_row : Row
 no_row = record { time = 0; values = [] }
-
--- the first row's time
-pub first_is : (rows : List Row) (d : Row) → 0 < length rows → (get_or rows 0 d).time ≡ first_time rows
-first_is [] d some = absurd (omega (arith, some))
-first_is (r ∷ rows) d some = refl

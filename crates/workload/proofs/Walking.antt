@@ -35,12 +35,14 @@ use Rattle.std.proofs.Common.{
   subst,
   arith,
 }
-use Rattle.std.specs.Prelude.{MatchBool, int_lt, cond, ◌↔◌, ◌≤ℤ◌, ◌<ℤ◌}
+use Rattle.std.specs.Prelude.{MatchBool, int_lt, ◌↔◌}
 use Rattle.std.proofs.lemmas.Bool.{false≢true, lt-ltb}
 use Rattle.std.proofs.lemmas.Int.{ints}
+use Rattle.std.proofs.lemmas.Option.{same_Some}
 use Rattle.rational.specs.Time.{Rational, ◌≤ʳ◌, ◌<ʳ◌, ◌≈◌, Interval, IsNotEmpty, Precedes, BeginAlike, closed, whole, later}
 use Rattle.rational.proofs.Order.{le_of_same, ge_of_same, le_trans, lt_of_lt_of_le, lt_of_le_of_lt, same_refl, same_trans}
 use Rattle.rational.proofs.TimeLemmas.{later_le, not_empty_of_precedes}
+use Rattle.rational.proofs.Tests.{int_order}
 use Rattle.frac128.specs.Value.{value}
 use Rattle.frac128.specs.Spans.{interval, interval_between}
 use Rattle.frac128.specs.declared.frac.Frac.{Frac}
@@ -50,7 +52,8 @@ use Rattle.stl_syntax.specs.Truth.{Truth}
 use Rattle.stl_syntax.specs.Verdicts.{GoesOn, Describes}
 use Rattle.stl_syntax.specs.Stream.{after, answered_by, IsStretchText, IsNewText, IsRowsText, IsRestText}
 use Rattle.stl_syntax.specs.declared.items.Verdict.{Verdict}
-use Rattle.stl_syntax.proofs.LawProofs.{answers_stay, last_from}
+use Rattle.stl_syntax.proofs.LawProofs.{answers_stay}
+use Rattle.stl_syntax.proofs.RowsLemmas.{last_time-push, row_later, last_from}
 use Rattle.workload.specs.Counting.{line_count}
 use Rattle.workload.specs.Passing.{Passes, Walks, done, early, front}
 use Rattle.workload.proofs.Cutting.{span_of, goes_end, Left, CutAt, cut, pass_all}
@@ -64,11 +67,6 @@ first_stays : (before : List Row) (r : Row) (more : List Row) → first_time (be
 first_stays [] r more = refl
 first_stays (x ∷ before) r more = refl
 
--- the last of some rows
-last_is : (t : ℕ) (before : List Row) (r : Row) → last_time t (before ++ r ∷ []) ≡ r.time
-last_is t [] r = refl
-last_is t (x ∷ before) r = last_is x.time before r
-
 -- a row is not later than the last
 row_after : (n t : ℕ) (before : List Row) (r : Row) (more : List Row) → AreRowsAfter n t (before ++ r ∷ more) → r.time ≤ last_time t (before ++ r ∷ more)
 row_after n t [] r more h = last_from n r.time more h.2
@@ -77,11 +75,6 @@ row_after n t (x ∷ before) r more h = row_after n x.time before r more h.2
 row_within : (n : ℕ) (before : List Row) (r : Row) (more : List Row) → AreRows n (before ++ r ∷ more) → r.time ≤ last_time 0 (before ++ r ∷ more)
 row_within n [] r more h = last_from n r.time more h.1
 row_within n (x ∷ before) r more h = row_after n x.time before r more h.1
-
--- a row is later than those before it
-row_later : (n t : ℕ) (before : List Row) (r : Row) (more : List Row) → AreRowsAfter n t (before ++ r ∷ more) → last_time t before < r.time
-row_later n t [] r more h = h.0
-row_later n t (x ∷ before) r more h = row_later n x.time before r more h.2
 
 later_than : (n : ℕ) (x : Row) (before : List Row) (r : Row) (more : List Row) → AreRows n ((x ∷ before) ++ r ∷ more) → last_time 0 (x ∷ before) < r.time
 later_than n x before r more h = row_later n x.time before r more h.1
@@ -119,24 +112,12 @@ none_some {z} e = subst (λ (o : Option ℤ). is_none o) e tt
     is_none None = Unit {0}
     is_none (Some y) = ⊥
 
-the_some : {a b : ℤ} → Some a ≡ Some b → a ≡ b
-the_some {a} {b} e = ap (number a) e
-  where
-    number : ℤ → Option ℤ → ℤ
-    number z None = z
-    number z (Some y) = y
-
 -- the order of whole numbers as times
 whole_le : {a b : ℕ} → a ≤ b → whole (pos a) ≤ʳ whole (pos b)
 whole_le h = record { le = omega (arith, h) }
 
 whole_lt : {a b : ℕ} → a < b → whole (pos a) <ʳ whole (pos b)
 whole_lt h = record { lt = omega (arith, h) }
-
--- what the test of an order says
-int_order : (a b : ℤ) (t : Bool) → int_lt a b ≡ t → cond t (a <ℤ b) (b ≤ℤ a)
-int_order a b true e = omega (arith, ints)
-int_order a b false e = omega (arith, ints)
 
 -- a front that lies before the start, and one that does not
 not_yet : (begin s h : ℕ) → s < begin + h → int_lt (pos s -ℤ pos h) (pos begin) ≡ true
@@ -186,7 +167,7 @@ module _ (p : Subformula) (header : Header) (all : List Row) (ok : IsTrace (reco
 
   by_last : (g : ℕ) (before : List Row) (r : Row) → g + horizon p ≤ r.time → IsBy g (before ++ r ∷ [])
   by_last g [] r h = h
-  by_last g (x ∷ before) r h = subst (λ n. g + horizon p ≤ n) (sym (last_is x.time before r)) h
+  by_last g (x ∷ before) r h = subst (λ n. g + horizon p ≤ n) (sym (last_time-push x.time before r)) h
 
   -- where the rows so far stand: nothing was answered, or up to the time g, which is not yet the last
   abbrev Place : Option ℤ → List Row → Frac → Bool → Type 0
@@ -257,7 +238,7 @@ module _ (p : Subformula) (header : Header) (all : List Row) (ok : IsTrace (reco
         by_rows (x, rows, e) =
             let low' : start (record { header = header; rows = x ∷ rows }) ≤ʳ t = subst (λ n. whole (pos n) ≤ʳ t) (sym begins_so ∙ ap first_time e) low in
             let high' : later t (horizon p) ≤ʳ stop (record { header = header; rows = x ∷ rows }) =
-            subst (λ n. later t (horizon p) ≤ʳ whole (pos n)) (sym (last_is 0 before r) ∙ ap (last_time 0) e) now in
+            subst (λ n. later t (horizon p) ≤ʳ whole (pos n)) (sym (last_time-push 0 before r) ∙ ap (last_time 0) e) now in
             let both = answers_stay p header x rows tr false t ok (subst (λ l. Continues tr header l false) e goes) (low', high') in
             subst (λ l. Truth p tr t ↔ Truth p (record { header = header; rows = l }) t) (sym e) (both.1, both.0)
 
@@ -287,7 +268,7 @@ module _ (p : Subformula) (header : Header) (all : List Row) (ok : IsTrace (reco
 
     -- how the rows stand after this one is by its time
     old_after : answered_by (first_time (before ++ r ∷ [])) p r.time ≡ answered_by begin p (last_time 0 (before ++ r ∷ []))
-    old_after = ap (λ n. answered_by n p r.time) begins_so ∙ ap (λ n. answered_by begin p n) (sym (last_is 0 before r))
+    old_after = ap (λ n. answered_by n p r.time) begins_so ∙ ap (λ n. answered_by begin p n) (sym (last_time-push 0 before r))
 
     -- a row before the horizon answers nothing
     answers_none : (old : Option ℤ) (left : List Verdict) → r.time < begin + horizon p → Stands old before left → Answered old 0 left
@@ -368,7 +349,7 @@ module _ (p : Subformula) (header : Header) (all : List Row) (ok : IsTrace (reco
         begins_at None (inr (g, e, _, _, _, _, _)) = absurd (none_some e)
         begins_at (Some g) (inl (e, _, _)) = absurd (none_some (sym e))
         begins_at (Some g) (inr (n, e, from, out, _, _, _)) = record {
-          time = same_trans c.begins.time (subst (λ z. value s.b ≈ whole z) (sym (the_some e)) from);
+          time = same_trans c.begins.time (subst (λ z. value s.b ≈ whole z) (sym (same_Some _ _ e)) from);
           inside = c.begins.inside ∙ out;
         }
 
@@ -385,7 +366,7 @@ module _ (p : Subformula) (header : Header) (all : List Row) (ok : IsTrace (reco
         is_text (Some g) (inl (e, _, _)) h = absurd (none_some (sym e))
         is_text (Some g) (inr (n, e, _, _, low, by_now, _)) h =
             subst (λ t. MatchBool t (IsStretchText p so_far (stretch (Some g)) given.text) (given.text ≡ []))
-            (sym (ap (λ z. int_lt z (pos (r.time - horizon p))) (the_some e) ∙ lt-ltb n (r.time - horizon p) (rises before by_now all_is))) h
+            (sym (ap (λ z. int_lt z (pos (r.time - horizon p))) (same_Some _ _ e) ∙ lt-ltb n (r.time - horizon p) (rises before by_now all_is))) h
           where
             rises : (rows : List Row) → IsBy n rows → all ≡ rows ++ r ∷ more → n < r.time - horizon p
             rises [] l q = absurd l
@@ -422,7 +403,7 @@ module _ (p : Subformula) (header : Header) (all : List Row) (ok : IsTrace (reco
       begins_at None (inl (_, from, inside)) = record { time = from; inside = inside }
       begins_at None (inr (g, e, _, _, _, _, _)) = absurd (none_some e)
       begins_at (Some g) (inl (e, _, _)) = absurd (none_some (sym e))
-      begins_at (Some g) (inr (n, e, from, out, _, _, _)) = record { time = subst (λ z. value s.b ≈ whole z) (sym (the_some e)) from; inside = out }
+      begins_at (Some g) (inr (n, e, from, out, _, _, _)) = record { time = subst (λ z. value s.b ≈ whole z) (sym (same_Some _ _ e)) from; inside = out }
 
       goes : GoesOn p tr (closed (start tr) (stop tr)) first s.rest
       goes = goes_begin (closed (start tr) (stop tr)) s.b s.b_in s.v s.is.room s.rest s.is.goes
@@ -442,7 +423,7 @@ module _ (p : Subformula) (header : Header) (all : List Row) (ok : IsTrace (reco
       is_text (Some g) (inl (e, _, _)) h = absurd (none_some (sym e))
       is_text (Some g) (inr (n, e, _, _, low, _, under)) h =
           subst (λ t. MatchBool t (IsStretchText p tr (stretch (Some g)) given.text) (given.text ≡ []))
-          (sym (ap (λ z. int_lt z (pos (last_time 0 all))) (the_some e) ∙ lt-ltb n (last_time 0 all) under)) h
+          (sym (ap (λ z. int_lt z (pos (last_time 0 all))) (same_Some _ _ e) ∙ lt-ltb n (last_time 0 all) under)) h
 
   -- how it stands after all rows: some verdicts are left, or the last row answered all, since nothing is looked ahead
   abbrev Ends : Option ℤ → List Verdict → Type 0
@@ -535,7 +516,7 @@ module _ (p : Subformula) (header : Header) (all : List Row) (ok : IsTrace (reco
       given = rest_text old before left s
 
       last_row : last_time 0 all ≡ r.time
-      last_row = ap (last_time 0) e ∙ last_is 0 before r
+      last_row = ap (last_time 0) e ∙ last_time-push 0 before r
 
       number : last_time 0 all ≡ r.time - horizon p
       number = omega (arith, last_row, zero_ahead)

@@ -4,12 +4,11 @@ use Rattle.rational.proofs.Order.{le_of_lt, le_trans}
 use Rattle.rational.proofs.TimeLemmas.{later_le}
 use Rattle.frac128.specs.Value.{value}
 use Rattle.rational.specs.Places.{After, Before}
+use Rattle.rational.proofs.PlaceLemmas.{after_at_most, upto_earlier}
 use Rattle.frac128.specs.Cuts.{is_after, place}
 use Rattle.early_verdict.specs.Spans.{IsOn, Lies}
 use Rattle.early_verdict.specs.declared.stretch.Stretch.{Stretch}
 use Rattle.early_verdict.proofs.AnewLemmas.{after_earlier, time_before}
-use Rattle.early_verdict.proofs.MakingLemmas.{after_from}
-use Rattle.early_verdict.proofs.RunLemmas.{upto_le}
 use Rattle.early_verdict.proofs.anew.decisive.Goals as goal
 
 pub returns : goal.returns
@@ -38,13 +37,13 @@ returns c =
     let lies : Lies left.no.bounds d = subst (λ (b : Stretch). Lies b d) c.bounds-bounds.ensures l.2 in
     let from : After (place left.no.bounds.from) m.0 =
     subst (λ (b : Stretch). After (place b.from) m.0) c.bounds-bounds.ensures
-    (after_from (place c.bounds-bounds.result.from) (place r) m.0 c.later-first.ensures.first m.1) in (
+    (after_at_most (place c.bounds-bounds.result.from) (place r) m.0 c.later-first.ensures.first m.1) in (
       le_trans (later_le c.args.low l.1) c.cut_before-at.ensures,
       record {
         after_left = lies.0;
         after_right = subst (λ (b : Stretch). After (place b.from) d) c.bounds.ensures
-            (after_from (place c.bounds.result.from) (place r) d c.later-first.ensures.second (after_earlier (place r) d before));
-        first = (m.0, (from, upto_le (place left.no.bounds.to) m.0 d (le_of_lt m.2) lies.1), m.2);
+            (after_at_most (place c.bounds.result.from) (place r) d c.later-first.ensures.second (after_earlier (place r) d before));
+        first = (m.0, (from, upto_earlier (place left.no.bounds.to) m.0 d (le_of_lt m.2) lies.1), m.2);
         decides = facts.2;
       },
     )

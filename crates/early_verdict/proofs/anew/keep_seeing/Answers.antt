@@ -1,36 +1,30 @@
-use Rattle.std.proofs.Common.{◌≡◌, ◌<◌, ◌≤◌, ◌∙◌, refl, sym, subst, ℕ, ℤ, true, pos, to_z, of_z, List, [], arith}
-use Rattle.std.specs.Prelude.{◌^◌, unsigned_abs}
+use Rattle.std.proofs.Common.{◌≡◌, ◌∙◌, refl, sym, subst, true, pos, to_z, of_z}
 use Rattle.std.specs.Int.{w64}
 use Rattle.rational.specs.Rational.{FitsFloor, add, whole}
 use Rattle.frac128.specs.Value.{value}
 use Rattle.rational.specs.Places.{Same, moved_begin}
 use Rattle.frac128.specs.Cuts.{place}
-use Rattle.early_verdict.specs.Spans.{AreTidy, IsOn, Lies}
-use Rattle.early_verdict.specs.declared.stretch.Stretch.{Stretch}
+use Rattle.early_verdict.specs.Spans.{AreTidy, Lies}
 use Rattle.early_verdict.proofs.AnewLemmas.{after_moved, after_shared, first_begins, sees_one}
 use Rattle.early_verdict.proofs.HoldingLemmas.{among_at}
 use Rattle.rational.proofs.PlaceLemmas.{after_same, same_places}
-use Rattle.early_verdict.proofs.WindowLemmas.{near_fits, move_fits}
+use Rattle.rational.proofs.Mixed.{move_fits}
+use Rattle.early_verdict.proofs.WindowLemmas.{near_fits, bound_near}
+use Rattle.early_verdict.proofs.Telling.{none_of}
 use Rattle.early_verdict.proofs.anew.keep_seeing.Goals as goal
-
-near : (n : ℕ) (k : ℤ) → k ≡ pos n → n < 2 ^ 32 → unsigned_abs k ≤ 2 ^ 32
-near n k e h = subst (λ j. unsigned_abs j ≤ 2 ^ 32) (sym e) (let m : n ≤ 2 ^ 32 = omega (arith, h) in m)
-
-none_on : (xs : List Stretch) (u : _) → xs ≡ [] → IsOn xs u → ⊥
-none_on xs u e o = subst (λ ys. IsOn ys u) e o
 
 pub shift_begin-from-requires : goal.shift_begin-from-requires
 shift_begin-from-requires c =
     subst (λ k. FitsFloor w64 (add (value c.in-Some.first.from.time) (whole k)))
-    (sym (near_fits c.from.result (near c.args.low c.from.result c.from.ensures c.ranges.low.fits)))
-    (move_fits (value c.in-Some.first.from.time) c.from.result c.in-Some.first.low (near c.args.low c.from.result c.from.ensures c.ranges.low.fits))
+    (sym (near_fits c.from.result (bound_near c.args.low c.from.result c.from.ensures c.ranges.low.fits)))
+    (move_fits (value c.in-Some.first.from.time) c.from.result c.in-Some.first.low (bound_near c.args.low c.from.result c.from.ensures c.ranges.low.fits))
 
 pub returns-in_default : goal.returns-in_default
 returns-in_default c = record {
   tidy = subst AreTidy (sym c.clear.ensures.items) tt;
   bounds = refl;
-  kept = λ t o. absurd (none_on c.clear.new.self.items t c.clear.ensures.items o);
-  left = λ t o u w m. absurd (none_on c.args.spans.now.items u c.in_default.ensures.none w);
+  kept = λ t o. absurd (none_of c.clear.new.self.items t c.clear.ensures.items o);
+  left = λ t o u w m. absurd (none_of c.args.spans.now.items u c.in_default.ensures.none w);
 }
 
 pub returns-in-Some-make : goal.returns-in-Some-make
@@ -42,7 +36,7 @@ returns-in-Some-make c =
     let is = c.in-Some-make.ensures.some in
     let from = place c.shift_begin-from.result in
     let by : to_z w64 (of_z w64 c.from.result) ≡ pos c.args.low =
-    near_fits c.from.result (near c.args.low c.from.result c.from.ensures c.ranges.low.fits) ∙ c.from.ensures in
+    near_fits c.from.result (bound_near c.args.low c.from.result c.from.ensures c.ranges.low.fits) ∙ c.from.ensures in
     let moved : Same from (moved_begin (pos c.args.low) true (place first.from)) =
     subst (λ k. Same from (moved_begin k true (place first.from))) by c.shift_begin-from.ensures in
     record {
@@ -66,13 +60,13 @@ returns-in-None c =
     let e = c.in-Some.ensures.some in
     let from = place c.shift_begin-from.result in
     let by : to_z w64 (of_z w64 c.from.result) ≡ pos c.args.low =
-    near_fits c.from.result (near c.args.low c.from.result c.from.ensures c.ranges.low.fits) ∙ c.from.ensures in
+    near_fits c.from.result (bound_near c.args.low c.from.result c.from.ensures c.ranges.low.fits) ∙ c.from.ensures in
     let moved : Same from (moved_begin (pos c.args.low) true (place first.from)) =
     subst (λ k. Same from (moved_begin k true (place first.from))) by c.shift_begin-from.ensures in
     record {
       tidy = subst AreTidy (sym c.clear-in-None.ensures.items) tt;
       bounds = refl;
-      kept = λ t o. absurd (none_on c.clear-in-None.new.self.items t c.clear-in-None.ensures.items o);
+      kept = λ t o. absurd (none_of c.clear-in-None.new.self.items t c.clear-in-None.ensures.items o);
       left = λ t o u w m.
           let a = after_moved (place first.from) c.args.low t u (first_begins xs first u c.requires.spans e w) m in
           let l = subst (λ b. Lies b t) (sym c.bounds-bounds.ensures) (c.requires.inside t o) in

@@ -1,19 +1,12 @@
-use Rattle.std.proofs.Common.{◌≡◌, ℕ, Bool, true, refl, sym, subst, pos, ◌∙◌}
-use Rattle.rational.specs.Time.{whole}
+use Rattle.std.proofs.Common.{true, refl, sym, ◌∙◌}
 use Rattle.rational.proofs.Order.{same_refl}
 use Rattle.stl_syntax.specs.Trace.{row_time}
 use Rattle.early_verdict.specs.Adding.{AfterRow, Piece, before_row}
-use Rattle.rational.specs.Places.{Same}
 use Rattle.frac128.specs.Cuts.{place}
-use Rattle.frac128.specs.declared.cut.Cut.{Cut}
+use Rattle.frac128.proofs.Wholes.{same_at_tick}
 use Rattle.early_verdict.proofs.AtomSets.{atom_fits, atom_stepped, grown_of, grown_then, near_of}
 use Rattle.early_verdict.proofs.TurningLemmas.{adds_row}
 use Rattle.early_verdict.proofs.atoms.step_atom.Goals as goal
-
--- a cut at a row's time
-at_row : (cut : Cut) (n m : ℕ) (after : Bool) → n ≡ m → Same (place cut) (record { at = whole (pos n); after = after })
-    → Same (place cut) (record { at = whole (pos m); after = after })
-at_row cut n m after e s = subst (λ k. Same (place cut) (record { at = whole (pos k); after = after })) e s
 
 pub returns-clause-stepped : goal.returns-clause-stepped
 returns-clause-stepped c =
@@ -29,7 +22,7 @@ returns-clause-fits c a old tr for next from w =
     let before = c.args.before.now in
     let holds = c.holds-holds.result in
     let to = c.after_tick.result in
-    let ends = at_row to c.time.result r.time true c.time.ensures c.after_tick.ensures in
+    let ends = same_at_tick to c.time.result r.time true c.time.ensures c.after_tick.ensures in
     atom_fits a tr before r holds (before_row r) (place to) (same_refl (row_time r), refl) ends
     (λ t same. c.truth_point.ensures a tr t for next.stands same ∙ sym c.holds-holds.ensures)
     old c.args.own.now c.rest.new.own c.add_truth.new.own next from w c.rest.ensures

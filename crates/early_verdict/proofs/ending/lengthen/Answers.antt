@@ -1,7 +1,7 @@
 use Rattle.std.proofs.Common.{refl}
 use Rattle.frac128.specs.Cuts.{place}
-use Rattle.rational.proofs.PlaceLemmas.{before_trans}
-use Rattle.early_verdict.proofs.StretchLemmas.{rises, room_of_before}
+use Rattle.rational.proofs.PlaceLemmas.{before_trans, room_of_before}
+use Rattle.early_verdict.proofs.StretchLemmas.{rises}
 use Rattle.early_verdict.proofs.EndingLemmas.{grows_lengthened, grows_none, tidy_lengthened}
 use Rattle.early_verdict.proofs.ending.lengthen.Goals as goal
 

@@ -1,11 +1,12 @@
 use Rattle.std.proofs.Common.{◌≡◌, sym, ap, subst, ◌∙◌, Option, List, length, arith}
 use Rattle.std.specs.Prelude.{IfSome}
+use Rattle.std.proofs.lemmas.Option.{same_Some}
 use Rattle.stl_syntax.specs.Trace.{Row}
 use Rattle.early_verdict.specs.Deciding.{last_after, IsVerdict}
 use Rattle.early_verdict.specs.Standing.{AllTidy}
 use Rattle.early_verdict.specs.declared.sets.Sets.{Sets}
 use Rattle.early_verdict.proofs.GoingOn.{leaves_bound}
-use Rattle.early_verdict.proofs.Opening.{end_some, end_truth, last_wide, same_row}
+use Rattle.early_verdict.proofs.Opening.{end_some, end_truth, last_wide}
 use Rattle.early_verdict.proofs.entries.end_sets.Goals as goal
 
 pub step_sets-requires-clause-count : goal.step_sets-requires-clause-count
@@ -46,7 +47,7 @@ root_verdict-requires-clause-tidy c = subst (λ (xs : List Sets). AllTidy xs) (s
 pub returns : goal.returns
 returns c = λ header r rows o.
     let e = c.end_entry-entry.ensures in
-    let last : c.in-Some.row ≡ last_after r rows = same_row c.in-Some.row (last_after r rows) (sym c.in-Some.is ∙ o.ends) in
+    let last : c.in-Some.row ≡ last_after r rows = same_Some c.in-Some.row (last_after r rows) (sym c.in-Some.is ∙ o.ends) in
     end_truth o c.in_ok-step_sets.ensures e.ended (e.happens header r rows o.sets_are.0 (c.time.ensures ∙ ap (λ (q : Row). q.time) last))
     c.in-Some-root_verdict.holds
     (subst (λ v. IsVerdict c.step_sets.new.net.shown.items c.args.begin v) c.in-Some-root_verdict.is
@@ -57,7 +58,7 @@ unreachable-requires-in-None c =
     let q = c.requires.open in
     let o = q.3 in
     let e = c.end_entry-entry.ensures in
-    let last : c.in-Some.row ≡ last_after q.1 q.2 = same_row c.in-Some.row (last_after q.1 q.2) (sym c.in-Some.is ∙ o.ends) in
+    let last : c.in-Some.row ≡ last_after q.1 q.2 = same_Some c.in-Some.row (last_after q.1 q.2) (sym c.in-Some.is ∙ o.ends) in
     (end_some o c.in_ok-step_sets.ensures e.ended (e.happens q.0 q.1 q.2 o.sets_are.0 (c.time.ensures ∙ ap (λ (q : Row). q.time) last))
     (subst (λ v. IsVerdict c.step_sets.new.net.shown.items c.args.begin v) c.in-None.is
     (subst (λ (xs : List Sets). IsVerdict xs c.args.begin c.root_verdict.result) c.deref.ensures.value c.root_verdict.ensures)))

@@ -1,8 +1,9 @@
 use Rattle.std.proofs.Common.{◌≡◌, sym, ap, ◌∙◌}
+use Rattle.std.proofs.lemmas.Option.{same_Some}
 use Rattle.stl_syntax.specs.Trace.{Row}
 use Rattle.early_verdict.specs.Deciding.{last_after}
 use Rattle.early_verdict.proofs.GoingOn.{next_stand, leaves_bound}
-use Rattle.early_verdict.proofs.Opening.{after_last, last_wide, same_row}
+use Rattle.early_verdict.proofs.Opening.{after_last, last_wide}
 use Rattle.early_verdict.proofs.entries.take_next.Goals as goal
 
 pub step_sets-requires-clause-count : goal.step_sets-requires-clause-count
@@ -31,7 +32,7 @@ step_sets-requires-clause-first c =
 pub returns : goal.returns
 returns c = λ header r rows o.
     let e = c.next_entry-entry.ensures in
-    let last : c.in-Some.before ≡ last_after r rows = same_row c.in-Some.before (last_after r rows) (sym c.in-Some.is ∙ o.ends) in (
+    let last : c.in-Some.before ≡ last_after r rows = same_Some c.in-Some.before (last_after r rows) (sym c.in-Some.is ∙ o.ends) in (
       o.sets_are.0,
       next_stand o c.in_ok-step_sets.ensures (after_last r rows c.args.last.now c.args.row.now o.ends c.requires.later) c.requires.width e.open
           (e.happens header r rows c.args.row.now o.sets_are.0 (c.time.ensures ∙ ap (λ (q : Row). q.time) last) c.time-2.ensures),

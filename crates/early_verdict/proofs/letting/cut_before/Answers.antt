@@ -2,9 +2,10 @@ use Rattle.std.proofs.Common.{◌≡◌, ◌∙◌, sym, subst, neg_ℤ, pos, to
 use Rattle.std.specs.Int.{w64}
 use Rattle.rational.specs.Rational.{FitsFloor, add, whole, ◌≈◌}
 use Rattle.rational.proofs.Order.{le_of_same}
+use Rattle.rational.proofs.Mixed.{move_fits}
 use Rattle.frac128.specs.Value.{value}
 use Rattle.early_verdict.proofs.Windowing.{le_back}
-use Rattle.early_verdict.proofs.WindowLemmas.{near_fits, move_fits}
+use Rattle.early_verdict.proofs.WindowLemmas.{near_fits}
 use Rattle.early_verdict.proofs.letting.cut_before.Goals as goal
 
 pub shift_begin-requires : goal.shift_begin-requires

@@ -1,23 +1,24 @@
 use Rattle.std.proofs.Common.{◌≡◌, ◌<◌, ◌∙◌, ap, inl, inr, refl, subst, sym, ℕ, List, Option, Some, length, arith}
 use Rattle.std.specs.Prelude.{slice_get}
+use Rattle.std.proofs.lemmas.Option.{same_Some}
 use Rattle.frac128.specs.Value.{value}
 use Rattle.stl_syntax.specs.WellFormed.{AreWellFormed}
 use Rattle.stl_syntax.specs.declared.node.Node.{Node}
 use Rattle.stl_syntax.specs.declared.node.Node.TheVariants.{Since, Until}
-use Rattle.stl_syntax.proofs.PostOrderLemmas.{placed}
+use Rattle.stl_syntax.proofs.PostOrderLemmas.{placed, child_below}
+use Rattle.stl_syntax.proofs.FormulaLemmas.{below_later}
 use Rattle.frac128.specs.Cuts.{place}
 use Rattle.early_verdict.specs.Spans.{AreTidy, Lies}
 use Rattle.early_verdict.specs.declared.sets.Sets.{Sets}
 use Rattle.early_verdict.specs.Fitting.{AreSetsTidy, Lists}
 use Rattle.early_verdict.specs.Letting.{AreAskedBy, IsDecisive, IsEndlessCutAt}
 use Rattle.early_verdict.proofs.AllSets.{lists_are}
-use Rattle.early_verdict.proofs.Childhood.{child_below}
 use Rattle.early_verdict.proofs.LettingLemmas.{two_less}
-use Rattle.early_verdict.proofs.Places.{item_at, same_sets}
+use Rattle.early_verdict.proofs.Places.{item_at}
 use Rattle.early_verdict.proofs.SinceLooks.{bounded_stands, endless_stands, half_inside, half_tidy}
 use Rattle.early_verdict.proofs.SinceStands.{back_inside, ordered}
 use Rattle.early_verdict.proofs.UntilStands.{parts_inside, until_stands}
-use Rattle.early_verdict.proofs.Narrowing.{are_apart, asked_stands, children_more, le_after, live_inside, shed_stands, shown_inside}
+use Rattle.early_verdict.proofs.Narrowing.{are_apart, asked_stands, le_after, live_inside, shed_stands, shown_inside}
 use Rattle.early_verdict.proofs.letting.let_go_at.Goals as goal
 
 -- the operands of a since stand before it
@@ -47,7 +48,7 @@ pub ask_children-requires-clause-children : goal.ask_children-requires-clause-ch
 ask_children-requires-clause-children c =
     let a = c.requires.stands.1.have.shown_count in
     let b = c.requires.within in
-    children_more c.node-node.result.now c.args.i (length c.args.shown.now) (omega (arith, a, b))
+    below_later c.args.i (length c.args.shown.now) c.node-node.result.now (omega (arith, a, b))
     (placed c.args.formula.now.nodes c.args.i c.node-node.result.now c.requires.formed.post_order c.node-node.ensures.node)
 
 pub ask_children-requires-clause-tidy : goal.ask_children-requires-clause-tidy
@@ -134,7 +135,7 @@ returns-in-Some c = λ tr st.
     let at = c.node-node.ensures.node ∙ ap Some u.1 in
     let l : c.args.i < length mid = let a = c.shed_at.ensures.count in let b = st.have.count in let d = c.requires.within in omega (arith, a, b, d) in
     let same : c.index-live-at.result ≡ cut.was =
-    same_sets c.index-live-at.result cut.was (sym (item_at mid c.args.i c.index-live-at.result l c.index-live-at.is) ∙ cut.at_old) in
+    same_Some c.index-live-at.result cut.was (sym (item_at mid c.args.i c.index-live-at.result l c.index-live-at.is) ∙ cut.at_old) in
     bounded_stands c.requires.formed at
     (ordered nodes c.requires.formed c.args.i c.requires.within back.left back.right u.0 back.most at) c.cut_before-first.ensures cut w.1 w.2
     (λ t o. le_after (place c.bounds-own.result.from) t
@@ -254,9 +255,9 @@ returns-in-Some-endless_since c = λ tr st.
     let at = c.node-node.ensures.node ∙ ap Some c.in-Some-endless_since.ensures in
     let l : c.args.i < length mid = let a = c.shed_at.ensures.count in let b = st.have.count in let d = c.requires.within in omega (arith, a, b, d) in
     let same : c.index-live-at.result ≡ cut.was =
-    same_sets c.index-live-at.result cut.was (sym (item_at mid c.args.i c.index-live-at.result l c.index-live-at.is) ∙ cut.at_old) in
+    same_Some c.index-live-at.result cut.was (sym (item_at mid c.args.i c.index-live-at.result l c.index-live-at.is) ∙ cut.at_old) in
     let same_own : c.index-live-at-in-Some-endless_since.result ≡ cut.was =
-    same_sets c.index-live-at-in-Some-endless_since.result cut.was
+    same_Some c.index-live-at-in-Some-endless_since.result cut.was
     (sym (item_at mid c.args.i c.index-live-at-in-Some-endless_since.result l c.index-live-at-in-Some-endless_since.is) ∙ cut.at_old) in
     let below_left = left_there c.args.i c.requires.formed c.requires.within st.have.shown_count at in
     let below_right = right_there c.args.i c.requires.formed c.requires.within st.have.shown_count at in
@@ -318,7 +319,7 @@ returns-in-Some-left_of_until c = λ tr st.
     let cut = c.cut_run_at-in-Some-left_of_until.ensures in
     let l : c.args.i < length mid = let a = c.shed_at.ensures.count in let b = st.have.count in let d = c.requires.within in omega (arith, a, b, d) in
     let same : c.index-live-at.result ≡ cut.was =
-    same_sets c.index-live-at.result cut.was (sym (item_at mid c.args.i c.index-live-at.result l c.index-live-at.is) ∙ cut.at_old) in
+    same_Some c.index-live-at.result cut.was (sym (item_at mid c.args.i c.index-live-at.result l c.index-live-at.is) ∙ cut.at_old) in
     until_stands c.requires.formed
     (c.node-node.ensures.node ∙ ap Some u.3) cut w.1 w.2
     (λ t o. le_after (place c.bounds-own.result.from) t

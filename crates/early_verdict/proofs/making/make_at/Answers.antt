@@ -2,6 +2,7 @@ use Rattle.std.proofs.Common.{◌≡◌, ◌∙◌, ◌+◌, ◌<◌, ◌≤◌,
 use Rattle.std.specs.Prelude.{MatchOption, slice_get}
 use Rattle.std.specs.Int.{w64}
 use Rattle.std.proofs.lemmas.Int.{to_z-of_z, fits_signed_from_abs}
+use Rattle.std.proofs.lemmas.Option.{same_Some}
 use mir.Val.{hbits}
 use Rattle.rational.specs.Rational.{whole}
 use Rattle.stl_syntax.specs.Formula.{HasChildrenBelow}
@@ -10,7 +11,7 @@ use Rattle.frac128.specs.Cuts.{place}
 use Rattle.early_verdict.specs.Standing.{left_of}
 use Rattle.early_verdict.specs.Making.{HasPartsFor}
 use Rattle.early_verdict.specs.declared.sets.Sets.{Sets}
-use Rattle.early_verdict.proofs.MadeLemmas.{from_over, some_node, with_left}
+use Rattle.early_verdict.proofs.MadeLemmas.{from_over, with_left}
 use Rattle.early_verdict.proofs.making.make_at.Goals as goal
 
 -- a number of at most 2^33 fits
@@ -20,7 +21,7 @@ far_fits n h = to_z-of_z w64 (pos n) (fits_signed_from_abs w64 (pos n) (let b : 
 pub returns : goal.returns
 returns c n e =
     let bounds = c.over-bounds.result in
-    let same : c.node.result.now ≡ n = some_node c.node.result.now n (sym c.node.ensures.node ∙ e) in
+    let same : c.node.result.now ≡ n = same_Some c.node.result.now n (sym c.node.ensures.node ∙ e) in
     let first : to_z w64 (of_z w64 c.from-first.result) ≡ pos c.args.start =
     subst (λ (k : ℤ). to_z w64 (of_z w64 k) ≡ pos c.args.start) (sym c.from-first.ensures) (far_fits c.args.start (omega arith)) in
     let top : to_z w64 (of_z w64 c.from.result) ≡ pos c.args.top =

@@ -1,9 +1,9 @@
 use Rattle.std.proofs.Common.{◌≡◌, sym, subst, ◌∙◌, length, arith}
+use Rattle.std.proofs.lemmas.Option.{slice_get_within}
 use Rattle.stl_syntax.proofs.PostOrderLemmas.{placed}
 use Rattle.early_verdict.specs.Standing.{SteppedTo}
 use Rattle.early_verdict.specs.Living.{ShownTo}
 use Rattle.early_verdict.proofs.Netting.{fits_on, shown_none, shown_on, shown_tidy_on, stepped_none, stepped_on, tidy_on}
-use Rattle.early_verdict.proofs.Places.{get_within}
 use Rattle.early_verdict.proofs.net.step_all.Goals as goal
 
 pub step_at-requires-clause-none : goal.step_at-requires-clause-none
@@ -51,7 +51,7 @@ returns c =
       shows = subst (λ k. ShownTo k c.loop-i.live c.args.shown.now c.loop-i.shown) end c.loop-i.invariant.shows;
       tidy = (c.loop-i.invariant.tidy, c.loop-i.invariant.shown_tidy);
       fits = λ old tr h have go were j n s at is.
-          let within = get_within c.loop-i.live j s is in
+          let within = slice_get_within c.loop-i.live j s is in
           let count = c.loop-i.invariant.stepped.count in
           c.loop-i.invariant.fits old tr h have go were j n s
           (omega (arith, within, count, c.requires.count, c.loop-i-test.false, c.len-count.ensures.count)) at is;

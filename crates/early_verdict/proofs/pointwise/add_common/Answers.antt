@@ -1,7 +1,8 @@
 use Rattle.std.proofs.Common.{◌<◌, ◌∙◌, refl, length, arith}
 use Rattle.std.proofs.lemmas.Option.{slice_get_within}
+use Rattle.rational.proofs.PlaceLemmas.{after_at_most}
 use Rattle.frac128.specs.Cuts.{place}
-use Rattle.early_verdict.proofs.MakingLemmas.{after_from, after_one, upto_one}
+use Rattle.early_verdict.proofs.MakingLemmas.{after_one, upto_one}
 use Rattle.early_verdict.proofs.LoopLemmas.{common_first, common_on, common_last}
 use Rattle.early_verdict.proofs.pointwise.add_common.Goals as goal
 
@@ -32,8 +33,8 @@ loop-next-preserved c =
             upto_one part.to next.to c.earlier.result t c.earlier.ensures.one h.0.1 h.1.1,
           ))
           (λ t h. (
-            (after_from (place part.from) (place c.later.result) t c.later.ensures.first h.0, c.earlier.ensures.first t h.1),
-            (after_from (place next.from) (place c.later.result) t c.later.ensures.second h.0, c.earlier.ensures.second t h.1),
+            (after_at_most (place part.from) (place c.later.result) t c.later.ensures.first h.0, c.earlier.ensures.first t h.1),
+            (after_at_most (place next.from) (place c.later.result) t c.later.ensures.second h.0, c.earlier.ensures.second t h.1),
           ))
           c.loop-next.invariant.grows c.in_ok-add.ensures.ok;
     }

@@ -1,10 +1,10 @@
 use Rattle.std.proofs.Common.{subst}
+use Rattle.rational.proofs.PlaceLemmas.{after_later}
 use Rattle.frac128.specs.Cuts.{place}
 use Rattle.early_verdict.specs.Reaching.{ReachedIn, ReachedAt}
 use Rattle.early_verdict.proofs.GrowingLemmas.{grows_not}
 use Rattle.early_verdict.proofs.LoopLemmas.{grows_alike}
 use Rattle.early_verdict.proofs.HoldingLemmas.{one_holds}
-use Rattle.early_verdict.proofs.RunLemmas.{after_le}
 use Rattle.early_verdict.proofs.WindowLemmas.{on_good}
 use Rattle.early_verdict.proofs.reach.add_reached_at.Goals as goal
 
@@ -40,8 +40,8 @@ returns-in-Some-first_begin-clause-ok c =
     (grows_alike
     (λ t b h.
     let u = c.in-Some-first_begin.ensures.some.reached t h.0 in
-    (run, found.0, found.1, ((after_le (place run.from) u.0 t u.1 u.2.0.0, h.1), u)))
+    (run, found.0, found.1, ((after_later (place run.from) u.0 t u.1 u.2.0.0, h.1), u)))
     (λ t b h.
     let r = subst (λ p. ReachedIn spans p t) (one_holds (place part.from) runs run h.0 c.requires.runs found.0 h.1 found.1 h.2) h.3 in
     let u = r.1 in
-    (after_le (place begin) u.0 t u.1 (c.in-Some-first_begin.ensures.some.bounds u.0 u.2.0 u.2.1), r.0.1)))
+    (after_later (place begin) u.0 t u.1 (c.in-Some-first_begin.ensures.some.bounds u.0 u.2.0 u.2.1), r.0.1)))

@@ -1,8 +1,8 @@
+use Rattle.rational.proofs.PlaceLemmas.{upto_earlier}
 use Rattle.frac128.specs.Cuts.{place}
 use Rattle.early_verdict.specs.Reaching.{ReachesIn}
 use Rattle.early_verdict.proofs.GrowingLemmas.{grows_not}
 use Rattle.early_verdict.proofs.LoopLemmas.{grows_alike}
-use Rattle.early_verdict.proofs.RunLemmas.{upto_le}
 use Rattle.early_verdict.proofs.WindowLemmas.{on_good}
 use Rattle.early_verdict.proofs.reach.add_reaching.Goals as goal
 
@@ -29,8 +29,8 @@ returns-in-Some-last_end-clause-ok c =
     (λ t b h.
     let u = c.in-Some-last_end.ensures.some.reached t h.1 in
     let x = (c.in-Some.ensures.some u.0).0 u.2.0 in
-    ((h.0, upto_le (place run.to) t u.0 u.1 x.2.1), (u.0, u.1, (x.2, u.2.1, x.1))))
+    ((h.0, upto_earlier (place run.to) t u.0 u.1 x.2.1), (u.0, u.1, (x.2, u.2.1, x.1))))
     (λ t b h.
     let u = h.1 in
     let x = (c.in-Some.ensures.some u.0).1 (u.2.0.0, u.2.2, u.2.0) in
-    (h.0.0, upto_le (place end) t u.0 u.1 (c.in-Some-last_end.ensures.some.bounds u.0 x u.2.1))))
+    (h.0.0, upto_earlier (place end) t u.0 u.1 (c.in-Some-last_end.ensures.some.bounds u.0 x u.2.1))))

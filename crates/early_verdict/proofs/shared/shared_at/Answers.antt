@@ -1,9 +1,9 @@
 use Rattle.std.proofs.Common.{◌≡◌, Option, Some, None, sym, subst, ◌∙◌}
 use Rattle.std.specs.Prelude.{IfNone, IfSome, slice_get}
+use Rattle.std.proofs.lemmas.Option.{same_Some}
 use Rattle.rational.specs.Time.{Rational}
 use Rattle.early_verdict.specs.Spans.{Lies}
 use Rattle.early_verdict.specs.declared.stretch.Stretch.{Stretch}
-use Rattle.early_verdict.proofs.SpanLemmas.{some_same}
 use Rattle.early_verdict.proofs.SharedLemmas.{nothing_after}
 use Rattle.early_verdict.proofs.shared.shared_at.Goals as goal
 
@@ -40,5 +40,5 @@ pub returns-clause-none : goal.returns-clause-none
 returns-clause-none c =
     let next = c.in_ok-next.next in
     map_none c.make.result _ _
-    (λ none n i t l. let k = subst (λ s. Lies s t) (some_same n next (sym i ∙ c.in_ok-next.ensures.some.0)) l in none t k.0 k.1)
+    (λ none n i t l. let k = subst (λ s. Lies s t) (same_Some n next (sym i ∙ c.in_ok-next.ensures.some.0)) l in none t k.0 k.1)
     c.make.ensures.none

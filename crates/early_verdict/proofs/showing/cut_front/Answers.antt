@@ -3,11 +3,11 @@ use Rattle.std.specs.Prelude.{◌^◌}
 use Rattle.rational.specs.Rational.{IsWithin}
 use Rattle.frac128.specs.Value.{value}
 use Rattle.rational.specs.Places.{Before}
+use Rattle.rational.proofs.PlaceLemmas.{after_at_most, room_of_before}
 use Rattle.frac128.specs.Cuts.{place}
 use Rattle.frac128.specs.declared.cut.Cut.{Cut}
-use Rattle.early_verdict.proofs.MakingLemmas.{after_from}
 use Rattle.early_verdict.proofs.ShowingLemmas.{cut_kept, first_ends}
-use Rattle.early_verdict.proofs.StretchLemmas.{rises, room_of_before}
+use Rattle.early_verdict.proofs.StretchLemmas.{rises}
 use Rattle.early_verdict.proofs.showing.cut_front.Goals as goal
 
 abbrev Near : Cut → Type 0
@@ -37,6 +37,6 @@ returns-in-Some-clause-kept c =
     λ t o. let k = cut_kept (place c.args.cut.now) c.drop_before.new.spans.items first _ some c.in-Some.ensures.value
     c.drop_before.ensures.tidy c.drop_before.ensures.first
     (λ u l. (
-      (after_from (place first.from) (place c.later.result) u c.later.ensures.first l.0, l.1),
-      after_from (place c.args.cut.now) (place c.later.result) u c.later.ensures.second l.0,
+      (after_at_most (place first.from) (place c.later.result) u c.later.ensures.first l.0, l.1),
+      after_at_most (place c.args.cut.now) (place c.later.result) u c.later.ensures.second l.0,
     )) t o in (c.drop_before.ensures.kept t k.0, k.1)

@@ -6,9 +6,9 @@ use Rattle.value_laws.specs.Kinds.{kleene_shape}
 use Rattle.pl_signal.specs.Knots.{start, stop}
 use Rattle.stl_syntax.specs.Trace as trace
 use Rattle.stl_syntax.specs.declared.items.Item.{Item}
+use Rattle.stl_syntax.proofs.PostOrderLemmas.{child_below}
 use Rattle.offline_eval.specs.Making.{IsFit}
 use Rattle.implicants.specs.Demands.{AreCertainties, IsDemand}
-use Rattle.implicants.proofs.Descending.{child_inside}
 use Rattle.implicants.proofs.Turning.{each_in, choice_of}
 use Rattle.implicants.proofs.choice.choice_on.Goals as goal
 
@@ -17,7 +17,7 @@ node-requires c = c.in-Some.ensures
 
 pub handed_to-requires-clause-inside : goal.handed_to-requires-clause-inside
 handed_to-requires-clause-inside c =
-    let less = child_inside c.in-Some.w c.in-Some-some_ahead.some.of c.node.result.now c.node.ensures.below c.in-Some-some_ahead.ensures.child in
+    let less = child_below c.in-Some.w c.in-Some-some_ahead.some.of c.node.result.now c.node.ensures.below c.in-Some-some_ahead.ensures.child in
     let inside : c.in-Some.w < length c.args.formula.now.nodes = c.in-Some.ensures in
     omega (arith, less, inside)
 

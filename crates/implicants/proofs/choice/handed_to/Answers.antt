@@ -2,8 +2,10 @@ use Rattle.std.proofs.Common.{◌<◌, ◌^◌, length, refl, sym, subst, arith}
 use Rattle.std.specs.Prelude.{IfSome}
 use Rattle.rational.proofs.Order.{same_trans}
 use Rattle.value_laws.specs.Kinds.{kleene_shape}
+use Rattle.stl_syntax.proofs.PostOrderLemmas.{child_below}
+use Rattle.stl_syntax.proofs.FormulaLemmas.{below_later}
 use Rattle.implicants.specs.Choices.{HandsChoice, IsChoice}
-use Rattle.implicants.proofs.Descending.{others_fit, child_inside, children_within}
+use Rattle.implicants.proofs.Descending.{others_fit}
 use Rattle.implicants.proofs.Turning.{stays_self, stays_on}
 use Rattle.implicants.proofs.choice.handed_to.Goals as goal
 
@@ -23,7 +25,7 @@ pub choice_below-requires-clause-below : goal.choice_below-requires-clause-below
 choice_below-requires-clause-below c =
     let inside = c.loop-j.invariant.inside in
     let count = c.requires.told.1.count in
-    children_within c.loop-j.j (length c.args.nodes.now) c.node-node.result.now (omega (arith, inside, count)) c.node-node.ensures.below
+    below_later c.loop-j.j (length c.args.nodes.now) c.node-node.result.now (omega (arith, inside, count)) c.node-node.ensures.below
 
 pub choice_below-requires-clause-others : goal.choice_below-requires-clause-others
 choice_below-requires-clause-others c =
@@ -36,7 +38,7 @@ pub loop-j-preserved : goal.loop-j-preserved
 loop-j-preserved c =
     let before = c.loop-j.invariant in
     let inside = before.inside in
-    let less = child_inside c.loop-j.j c.in-Some.next c.node-node.result.now c.node-node.ensures.below c.in-Some.ensures in
+    let less = child_below c.loop-j.j c.in-Some.next c.node-node.result.now c.node-node.ensures.below c.in-Some.ensures in
     let hands = subst (λ o. IfSome o
     (HandsChoice kleene_shape c.node-node.result.now c.loop-j.holds c.loop-j.at c.args.choice.window c.args.nodes.now c.in-Some.next)) c.in-Some-2.is
     c.in_ok-below.ensures in

@@ -3,8 +3,8 @@ use Rattle.std.specs.Int.{w64}
 use Rattle.std.proofs.lemmas.Int.{to_z-of_z}
 use Rattle.rational.specs.Rational.{FitsFloor}
 use Rattle.rational.specs.Time.{add, whole, ◌≈◌, ◌≤ʳ◌}
+use Rattle.rational.proofs.Mixed.{move_fits}
 use Rattle.frac128.specs.Value.{value}
-use Rattle.implicants.proofs.Moving.{move_fits}
 use Rattle.implicants.proofs.Walking.{near_in, moved_later}
 use Rattle.implicants.proofs.choosing.moved_back.Goals as goal
 

@@ -4,9 +4,10 @@ use Rattle.std.proofs.lemmas.Int.{to_z-of_z}
 use Rattle.std.proofs.lemmas.List.{take_all}
 use Rattle.rational.specs.Rational.{FitsFloor, IsWithin}
 use Rattle.rational.specs.Time.{add, whole}
+use Rattle.rational.proofs.Mixed.{move_fits}
 use Rattle.frac128.specs.Value.{value}
 use Rattle.implicants.specs.Cuts.{times_of, Adds, IsMoved}
-use Rattle.implicants.proofs.Moving.{adds_none, move_fits, frac_on}
+use Rattle.implicants.proofs.Moving.{adds_none, frac_on}
 use Rattle.implicants.proofs.cuts.add_moved.Goals as goal
 
 pub loop-t-init : goal.loop-t-init

@@ -3,8 +3,10 @@ use Rattle.std.specs.Prelude.{IfSome}
 use Rattle.rational.proofs.Order.{same_trans}
 use Rattle.value_laws.specs.Kinds.{kleene_shape}
 use Rattle.stl_syntax.specs.Formula.{subformula}
+use Rattle.stl_syntax.proofs.PostOrderLemmas.{child_below}
+use Rattle.stl_syntax.proofs.FormulaLemmas.{below_later}
 use Rattle.implicants.specs.Demands.{Certain, HandsDown}
-use Rattle.implicants.proofs.Descending.{others_fit, child_inside, children_within}
+use Rattle.implicants.proofs.Descending.{others_fit}
 use Rattle.implicants.proofs.Turning.{stays_self, stays_on}
 use Rattle.implicants.proofs.demand.demand_below.Goals as goal
 
@@ -21,7 +23,7 @@ pub for_operand-requires-clause-below : goal.for_operand-requires-clause-below
 for_operand-requires-clause-below c =
     let inside = c.loop-j.invariant.inside in
     let count = c.requires.told.1.count in
-    children_within c.loop-j.j (length c.args.nodes.now) c.node-node.result.now (omega (arith, inside, count)) c.node-node.ensures.below
+    below_later c.loop-j.j (length c.args.nodes.now) c.node-node.result.now (omega (arith, inside, count)) c.node-node.ensures.below
 
 pub for_operand-requires-clause-others : goal.for_operand-requires-clause-others
 for_operand-requires-clause-others c =
@@ -34,7 +36,7 @@ pub loop-j-preserved : goal.loop-j-preserved
 loop-j-preserved c =
     let before = c.loop-j.invariant in
     let inside = before.inside in
-    let less = child_inside c.loop-j.j c.in-Some.next c.node-node.result.now c.node-node.ensures.below c.in-Some.ensures in
+    let less = child_below c.loop-j.j c.in-Some.next c.node-node.result.now c.node-node.ensures.below c.in-Some.ensures in
     let hands = subst (λ o. IfSome o (HandsDown kleene_shape c.node-node.result.now c.loop-j.holds c.loop-j.at c.args.nodes.now c.in-Some.next))
     c.in-Some-2.is c.in_ok-below.ensures in
     record {

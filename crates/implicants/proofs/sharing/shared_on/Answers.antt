@@ -6,11 +6,12 @@ use Rattle.value_laws.specs.Kinds.{kleene_shape}
 use Rattle.pl_signal.specs.Knots.{start, stop}
 use Rattle.stl_syntax.specs.Trace as trace
 use Rattle.stl_syntax.specs.declared.items.Item.{Item}
+use Rattle.stl_syntax.proofs.PostOrderLemmas.{child_below}
 use Rattle.offline_eval.specs.Making.{IsFit}
 use Rattle.implicants.specs.Demands.{AreCertainties}
 use Rattle.implicants.specs.Choices.{IsChoice}
 use Rattle.implicants.specs.Sharing.{IsChoosable, IsShared}
-use Rattle.implicants.proofs.Descending.{child_inside, each_some, others_fit}
+use Rattle.implicants.proofs.Descending.{each_some, others_fit}
 use Rattle.implicants.proofs.SharedTimes.{shared_demand}
 use Rattle.implicants.proofs.sharing.shared_on.Goals as goal
 
@@ -54,7 +55,7 @@ shared_by-requires c = record {
 
 pub demand_below-requires-clause-inside : goal.demand_below-requires-clause-inside
 demand_below-requires-clause-inside c =
-    let less = child_inside c.in-Some.w c.in-Some-some_ahead.each.of c.node.result.now c.node.ensures.below c.in-Some-some_ahead.ensures.child in
+    let less = child_below c.in-Some.w c.in-Some-some_ahead.each.of c.node.result.now c.node.ensures.below c.in-Some-some_ahead.ensures.child in
     let inside : c.in-Some.w < length c.args.formula.now.nodes = c.in-Some.ensures in
     omega (arith, less, inside)
 

@@ -1,5 +1,4 @@
-use Rattle.std.proofs.Common.{◌≡◌, ◌<◌, ℕ, Some, length, ap, subst, refl, arith, List, get_or}
-use Rattle.std.specs.Prelude.{slice_get}
+use Rattle.std.proofs.Common.{◌<◌, length, ap, subst, refl, arith}
 use Rattle.std.proofs.lemmas.Option.{slice_get_read}
 use Rattle.std.proofs.lemmas.Result.{IfOk-weaker, IfErr-weaker}
 use Rattle.stl_syntax.specs.Formula.{tree_of, until, eventually, always, HasChildrenBelow}
@@ -7,15 +6,12 @@ use Rattle.stl_syntax.specs.Limits.{own_reach}
 use Rattle.offline_eval.proofs.NodeLemmas.{fit_of, are_fit, one_sound, two_sound, one_told, two_told, one_fault, two_fault}
 use Rattle.offline_eval.proofs.nodes.of_future.Goals as goal
 
-read : {X : Type 0} (xs : List X) (i : ℕ) (x : X) → i < length xs → x ≡ get_or xs i x → slice_get xs i ≡ Some x
-read xs i x h e = slice_get_read _ _ _ _ refl h e
-
 pub bounded_until-requires-clause-fit : goal.bounded_until-requires-clause-fit
 bounded_until-requires-clause-fit g c =
     let below : (c.in-Until.left < length c.args.done.now) × (c.in-Until.right < length c.args.done.now) =
     subst (HasChildrenBelow (length c.args.done.now)) c.in-Until.is c.requires.children in
-    let at_p = read c.args.done.now c.in-Until.left c.index-done-left.result below.0 c.index-done-left.is in
-    let at_q = read c.args.done.now c.in-Until.right c.index-done-right.result below.1 c.index-done-right.is in
+    let at_p = slice_get_read c.args.done.now _ c.in-Until.left c.index-done-left.result refl below.0 c.index-done-left.is in
+    let at_q = slice_get_read c.args.done.now _ c.in-Until.right c.index-done-right.result refl below.1 c.index-done-right.is in
     are_fit g.P.Shape c.args.from c.args.to c.index-done-left.result c.index-done-right.result (omega arith)
     (c.requires.sound c.in-Until.left c.index-done-left.result at_p) (c.requires.sound c.in-Until.right c.index-done-right.result at_q)
 
@@ -23,8 +19,8 @@ pub returns-in-Until : goal.returns-in-Until
 returns-in-Until g c =
     let below : (c.in-Until.left < length c.args.done.now) × (c.in-Until.right < length c.args.done.now) =
     subst (HasChildrenBelow (length c.args.done.now)) c.in-Until.is c.requires.children in
-    let at_p = read c.args.done.now c.in-Until.left c.index-done-left.result below.0 c.index-done-left.is in
-    let at_q = read c.args.done.now c.in-Until.right c.index-done-right.result below.1 c.index-done-right.is in
+    let at_p = slice_get_read c.args.done.now _ c.in-Until.left c.index-done-left.result refl below.0 c.index-done-left.is in
+    let at_q = slice_get_read c.args.done.now _ c.in-Until.right c.index-done-right.result refl below.1 c.index-done-right.is in
     record {
       sound = IfOk-weaker c.bounded_until.result _ _
           (λ r h. two_sound g.P.Shape c.args.from c.args.to c.args.node.now c.in-Until.left c.in-Until.right c.in-Until.high c.args.done.now
@@ -42,13 +38,13 @@ returns-in-Until g c =
 pub sup_ahead-requires-clause-fit : goal.sup_ahead-requires-clause-fit
 sup_ahead-requires-clause-fit g c =
     let below : c.in-Eventually.of < length c.args.done.now = subst (HasChildrenBelow (length c.args.done.now)) c.in-Eventually.is c.requires.children in
-    let at_p = read c.args.done.now c.in-Eventually.of c.index-done-of.result below c.index-done-of.is in
+    let at_p = slice_get_read c.args.done.now _ c.in-Eventually.of c.index-done-of.result refl below c.index-done-of.is in
     fit_of g.P.Shape c.args.from c.args.to c.index-done-of.result (omega arith) (c.requires.sound c.in-Eventually.of c.index-done-of.result at_p)
 
 pub returns-in-Eventually : goal.returns-in-Eventually
 returns-in-Eventually g c =
     let below : c.in-Eventually.of < length c.args.done.now = subst (HasChildrenBelow (length c.args.done.now)) c.in-Eventually.is c.requires.children in
-    let at_p = read c.args.done.now c.in-Eventually.of c.index-done-of.result below c.index-done-of.is in
+    let at_p = slice_get_read c.args.done.now _ c.in-Eventually.of c.index-done-of.result refl below c.index-done-of.is in
     record {
       sound = IfOk-weaker c.sup_ahead.result _ _
           (λ r h. one_sound g.P.Shape c.args.from c.args.to c.args.node.now c.in-Eventually.of c.in-Eventually.high c.args.done.now
@@ -66,14 +62,14 @@ returns-in-Eventually g c =
 pub inf_ahead-requires-clause-fit : goal.inf_ahead-requires-clause-fit
 inf_ahead-requires-clause-fit g c =
     let below : c.in-Always.of < length c.args.done.now = subst (HasChildrenBelow (length c.args.done.now)) c.in-Always.is c.requires.children in
-    let at_p = read c.args.done.now c.in-Always.of c.index-done-of-in-Always.result below c.index-done-of-in-Always.is in
+    let at_p = slice_get_read c.args.done.now _ c.in-Always.of c.index-done-of-in-Always.result refl below c.index-done-of-in-Always.is in
     fit_of g.P.Shape c.args.from c.args.to c.index-done-of-in-Always.result (omega arith)
     (c.requires.sound c.in-Always.of c.index-done-of-in-Always.result at_p)
 
 pub returns-in-Always : goal.returns-in-Always
 returns-in-Always g c =
     let below : c.in-Always.of < length c.args.done.now = subst (HasChildrenBelow (length c.args.done.now)) c.in-Always.is c.requires.children in
-    let at_p = read c.args.done.now c.in-Always.of c.index-done-of-in-Always.result below c.index-done-of-in-Always.is in
+    let at_p = slice_get_read c.args.done.now _ c.in-Always.of c.index-done-of-in-Always.result refl below c.index-done-of-in-Always.is in
     record {
       sound = IfOk-weaker c.inf_ahead.result _ _
           (λ r h. one_sound g.P.Shape c.args.from c.args.to c.args.node.now c.in-Always.of c.in-Always.high c.args.done.now

@@ -1,5 +1,4 @@
-use Rattle.std.proofs.Common.{◌≡◌, ◌<◌, ℕ, List, Some, length, get_or, ap, sym, subst, refl, arith}
-use Rattle.std.specs.Prelude.{slice_get}
+use Rattle.std.proofs.Common.{◌<◌, length, ap, sym, subst, refl, arith}
 use Rattle.std.proofs.lemmas.Option.{slice_get_read}
 use Rattle.std.proofs.lemmas.Result.{IfOk-weaker, IfErr-weaker}
 use Rattle.stl_syntax.specs.Formula.{tree_of, conjunction, disjunction, implication, negation, HasChildrenBelow}
@@ -9,13 +8,10 @@ use Rattle.offline_eval.proofs.Sound.{sound_more}
 use Rattle.offline_eval.proofs.NodeLemmas.{may_meet, none_sound, one_sound, two_sound, one_told, two_told, two_fault}
 use Rattle.offline_eval.proofs.nodes.of_node.Goals as goal
 
-read : {X : Type 0} (xs : List X) (i : ℕ) (x : X) → i < length xs → x ≡ get_or xs i x → slice_get xs i ≡ Some x
-read xs i x h e = slice_get_read _ _ _ _ refl h e
-
 pub negated-requires : goal.negated-requires
 negated-requires g c =
     let below : c.in-Not.p < length c.args.done.now = subst (HasChildrenBelow (length c.args.done.now)) c.in-Not.is c.requires.children in
-    (c.requires.sound c.in-Not.p c.index-done-p.result (read c.args.done.now c.in-Not.p c.index-done-p.result below c.index-done-p.is)).limited
+    (c.requires.sound c.in-Not.p c.index-done-p.result (slice_get_read c.args.done.now _ c.in-Not.p c.index-done-p.result refl below c.index-done-p.is)).limited
 
 pub returns-in_ok-constant_signal-in-Const : goal.returns-in_ok-constant_signal-in-Const
 returns-in_ok-constant_signal-in-Const g c =
@@ -31,7 +27,7 @@ returns-in_ok-constant_signal-in-Const g c =
 pub returns-in_ok-negated-in-Not : goal.returns-in_ok-negated-in-Not
 returns-in_ok-negated-in-Not g c =
     let below : c.in-Not.p < length c.args.done.now = subst (HasChildrenBelow (length c.args.done.now)) c.in-Not.is c.requires.children in
-    let at_p = read c.args.done.now c.in-Not.p c.index-done-p.result below c.index-done-p.is in
+    let at_p = slice_get_read c.args.done.now _ c.in-Not.p c.index-done-p.result refl below c.index-done-p.is in
     let r = c.in_ok-negated-in-Not.field-0 in
     record {
       sound = one_sound g.P.Shape c.args.from c.args.to c.args.node.now c.in-Not.p 0 c.args.done.now c.index-done-p.result r at_p
@@ -45,8 +41,8 @@ pub both-requires : goal.both-requires
 both-requires g c =
     let below : (c.in-And.p < length c.args.done.now) × (c.in-And.q < length c.args.done.now) =
     subst (HasChildrenBelow (length c.args.done.now)) c.in-And.is c.requires.children in
-    let at_p = read c.args.done.now c.in-And.p c.index-done-p-in-And.result below.0 c.index-done-p-in-And.is in
-    let at_q = read c.args.done.now c.in-And.q c.index-done-q.result below.1 c.index-done-q.is in
+    let at_p = slice_get_read c.args.done.now _ c.in-And.p c.index-done-p-in-And.result refl below.0 c.index-done-p-in-And.is in
+    let at_q = slice_get_read c.args.done.now _ c.in-And.q c.index-done-q.result refl below.1 c.index-done-q.is in
     may_meet g.P.Shape c.args.from c.args.to 4294967295 c.index-done-p-in-And.result c.index-done-q.result
     (c.requires.sound c.in-And.p c.index-done-p-in-And.result at_p) (c.requires.sound c.in-And.q c.index-done-q.result at_q)
 
@@ -54,8 +50,8 @@ pub returns-in-And : goal.returns-in-And
 returns-in-And g c =
     let below : (c.in-And.p < length c.args.done.now) × (c.in-And.q < length c.args.done.now) =
     subst (HasChildrenBelow (length c.args.done.now)) c.in-And.is c.requires.children in
-    let at_p = read c.args.done.now c.in-And.p c.index-done-p-in-And.result below.0 c.index-done-p-in-And.is in
-    let at_q = read c.args.done.now c.in-And.q c.index-done-q.result below.1 c.index-done-q.is in
+    let at_p = slice_get_read c.args.done.now _ c.in-And.p c.index-done-p-in-And.result refl below.0 c.index-done-p-in-And.is in
+    let at_q = slice_get_read c.args.done.now _ c.in-And.q c.index-done-q.result refl below.1 c.index-done-q.is in
     record {
       sound = IfOk-weaker c.both.result _ _
           (λ r h. two_sound g.P.Shape c.args.from c.args.to c.args.node.now c.in-And.p c.in-And.q 0 c.args.done.now c.index-done-p-in-And.result
@@ -72,8 +68,8 @@ pub either-requires : goal.either-requires
 either-requires g c =
     let below : (c.in-Or.p < length c.args.done.now) × (c.in-Or.q < length c.args.done.now) =
     subst (HasChildrenBelow (length c.args.done.now)) c.in-Or.is c.requires.children in
-    let at_p = read c.args.done.now c.in-Or.p c.index-done-p-in-Or.result below.0 c.index-done-p-in-Or.is in
-    let at_q = read c.args.done.now c.in-Or.q c.index-done-q-in-Or.result below.1 c.index-done-q-in-Or.is in
+    let at_p = slice_get_read c.args.done.now _ c.in-Or.p c.index-done-p-in-Or.result refl below.0 c.index-done-p-in-Or.is in
+    let at_q = slice_get_read c.args.done.now _ c.in-Or.q c.index-done-q-in-Or.result refl below.1 c.index-done-q-in-Or.is in
     may_meet g.P.Shape c.args.from c.args.to 4294967295 c.index-done-p-in-Or.result c.index-done-q-in-Or.result
     (c.requires.sound c.in-Or.p c.index-done-p-in-Or.result at_p) (c.requires.sound c.in-Or.q c.index-done-q-in-Or.result at_q)
 
@@ -81,8 +77,8 @@ pub returns-in-Or : goal.returns-in-Or
 returns-in-Or g c =
     let below : (c.in-Or.p < length c.args.done.now) × (c.in-Or.q < length c.args.done.now) =
     subst (HasChildrenBelow (length c.args.done.now)) c.in-Or.is c.requires.children in
-    let at_p = read c.args.done.now c.in-Or.p c.index-done-p-in-Or.result below.0 c.index-done-p-in-Or.is in
-    let at_q = read c.args.done.now c.in-Or.q c.index-done-q-in-Or.result below.1 c.index-done-q-in-Or.is in
+    let at_p = slice_get_read c.args.done.now _ c.in-Or.p c.index-done-p-in-Or.result refl below.0 c.index-done-p-in-Or.is in
+    let at_q = slice_get_read c.args.done.now _ c.in-Or.q c.index-done-q-in-Or.result refl below.1 c.index-done-q-in-Or.is in
     record {
       sound = IfOk-weaker c.either.result _ _
           (λ r h. two_sound g.P.Shape c.args.from c.args.to c.args.node.now c.in-Or.p c.in-Or.q 0 c.args.done.now c.index-done-p-in-Or.result
@@ -99,8 +95,8 @@ pub implied-requires : goal.implied-requires
 implied-requires g c =
     let below : (c.in-Implies.p < length c.args.done.now) × (c.in-Implies.q < length c.args.done.now) =
     subst (HasChildrenBelow (length c.args.done.now)) c.in-Implies.is c.requires.children in
-    let at_p = read c.args.done.now c.in-Implies.p c.index-done-p-in-Implies.result below.0 c.index-done-p-in-Implies.is in
-    let at_q = read c.args.done.now c.in-Implies.q c.index-done-q-in-Implies.result below.1 c.index-done-q-in-Implies.is in
+    let at_p = slice_get_read c.args.done.now _ c.in-Implies.p c.index-done-p-in-Implies.result refl below.0 c.index-done-p-in-Implies.is in
+    let at_q = slice_get_read c.args.done.now _ c.in-Implies.q c.index-done-q-in-Implies.result refl below.1 c.index-done-q-in-Implies.is in
     may_meet g.P.Shape c.args.from c.args.to 4294967295 c.index-done-p-in-Implies.result c.index-done-q-in-Implies.result
     (c.requires.sound c.in-Implies.p c.index-done-p-in-Implies.result at_p) (c.requires.sound c.in-Implies.q c.index-done-q-in-Implies.result at_q)
 
@@ -108,8 +104,8 @@ pub returns-in-Implies : goal.returns-in-Implies
 returns-in-Implies g c =
     let below : (c.in-Implies.p < length c.args.done.now) × (c.in-Implies.q < length c.args.done.now) =
     subst (HasChildrenBelow (length c.args.done.now)) c.in-Implies.is c.requires.children in
-    let at_p = read c.args.done.now c.in-Implies.p c.index-done-p-in-Implies.result below.0 c.index-done-p-in-Implies.is in
-    let at_q = read c.args.done.now c.in-Implies.q c.index-done-q-in-Implies.result below.1 c.index-done-q-in-Implies.is in
+    let at_p = slice_get_read c.args.done.now _ c.in-Implies.p c.index-done-p-in-Implies.result refl below.0 c.index-done-p-in-Implies.is in
+    let at_q = slice_get_read c.args.done.now _ c.in-Implies.q c.index-done-q-in-Implies.result refl below.1 c.index-done-q-in-Implies.is in
     record {
       sound = IfOk-weaker c.implied.result _ _
           (λ r h. two_sound g.P.Shape c.args.from c.args.to c.args.node.now c.in-Implies.p c.in-Implies.q 0 c.args.done.now

@@ -1,5 +1,4 @@
-use Rattle.std.proofs.Common.{◌≡◌, ◌<◌, ℕ, Some, length, ap, subst, refl, arith, List, get_or}
-use Rattle.std.specs.Prelude.{slice_get}
+use Rattle.std.proofs.Common.{◌<◌, length, ap, subst, refl, arith}
 use Rattle.std.proofs.lemmas.Option.{slice_get_read}
 use Rattle.std.proofs.lemmas.Result.{IfOk-weaker, IfErr-weaker}
 use Rattle.stl_syntax.specs.Formula.{tree_of, since, once, historically, HasChildrenBelow}
@@ -7,15 +6,12 @@ use Rattle.stl_syntax.specs.Limits.{own_reach, reach_of_bound}
 use Rattle.offline_eval.proofs.NodeLemmas.{fit_of, are_fit, one_sound, two_sound, one_told, two_told, one_fault, two_fault}
 use Rattle.offline_eval.proofs.nodes.of_past.Goals as goal
 
-read : {X : Type 0} (xs : List X) (i : ℕ) (x : X) → i < length xs → x ≡ get_or xs i x → slice_get xs i ≡ Some x
-read xs i x h e = slice_get_read _ _ _ _ refl h e
-
 pub bounded_since-requires-clause-fit : goal.bounded_since-requires-clause-fit
 bounded_since-requires-clause-fit g c =
     let below : (c.in-Since.left < length c.args.done.now) × (c.in-Since.right < length c.args.done.now) =
     subst (HasChildrenBelow (length c.args.done.now)) c.in-Since.is c.requires.children in
-    let at_p = read c.args.done.now c.in-Since.left c.index-done-left.result below.0 c.index-done-left.is in
-    let at_q = read c.args.done.now c.in-Since.right c.index-done-right.result below.1 c.index-done-right.is in
+    let at_p = slice_get_read c.args.done.now _ c.in-Since.left c.index-done-left.result refl below.0 c.index-done-left.is in
+    let at_q = slice_get_read c.args.done.now _ c.in-Since.right c.index-done-right.result refl below.1 c.index-done-right.is in
     are_fit g.P.Shape c.args.from c.args.to c.index-done-left.result c.index-done-right.result (omega arith)
     (c.requires.sound c.in-Since.left c.index-done-left.result at_p) (c.requires.sound c.in-Since.right c.index-done-right.result at_q)
 
@@ -23,8 +19,8 @@ pub returns-in-Since : goal.returns-in-Since
 returns-in-Since g c =
     let below : (c.in-Since.left < length c.args.done.now) × (c.in-Since.right < length c.args.done.now) =
     subst (HasChildrenBelow (length c.args.done.now)) c.in-Since.is c.requires.children in
-    let at_p = read c.args.done.now c.in-Since.left c.index-done-left.result below.0 c.index-done-left.is in
-    let at_q = read c.args.done.now c.in-Since.right c.index-done-right.result below.1 c.index-done-right.is in
+    let at_p = slice_get_read c.args.done.now _ c.in-Since.left c.index-done-left.result refl below.0 c.index-done-left.is in
+    let at_q = slice_get_read c.args.done.now _ c.in-Since.right c.index-done-right.result refl below.1 c.index-done-right.is in
     record {
       sound = IfOk-weaker c.bounded_since.result _ _
           (λ r h. two_sound g.P.Shape c.args.from c.args.to c.args.node.now c.in-Since.left c.in-Since.right
@@ -43,13 +39,13 @@ returns-in-Since g c =
 pub sup_behind-requires-clause-fit : goal.sup_behind-requires-clause-fit
 sup_behind-requires-clause-fit g c =
     let below : c.in-Once.of < length c.args.done.now = subst (HasChildrenBelow (length c.args.done.now)) c.in-Once.is c.requires.children in
-    let at_p = read c.args.done.now c.in-Once.of c.index-done-of.result below c.index-done-of.is in
+    let at_p = slice_get_read c.args.done.now _ c.in-Once.of c.index-done-of.result refl below c.index-done-of.is in
     fit_of g.P.Shape c.args.from c.args.to c.index-done-of.result (omega arith) (c.requires.sound c.in-Once.of c.index-done-of.result at_p)
 
 pub returns-in-Once : goal.returns-in-Once
 returns-in-Once g c =
     let below : c.in-Once.of < length c.args.done.now = subst (HasChildrenBelow (length c.args.done.now)) c.in-Once.is c.requires.children in
-    let at_p = read c.args.done.now c.in-Once.of c.index-done-of.result below c.index-done-of.is in
+    let at_p = slice_get_read c.args.done.now _ c.in-Once.of c.index-done-of.result refl below c.index-done-of.is in
     record {
       sound = IfOk-weaker c.sup_behind.result _ _
           (λ r h. one_sound g.P.Shape c.args.from c.args.to c.args.node.now c.in-Once.of (reach_of_bound c.in-Once.low c.in-Once.high) c.args.done.now
@@ -65,14 +61,14 @@ returns-in-Once g c =
 pub inf_behind-requires-clause-fit : goal.inf_behind-requires-clause-fit
 inf_behind-requires-clause-fit g c =
     let below : c.in-Historically.of < length c.args.done.now = subst (HasChildrenBelow (length c.args.done.now)) c.in-Historically.is c.requires.children in
-    let at_p = read c.args.done.now c.in-Historically.of c.index-done-of-in-Historically.result below c.index-done-of-in-Historically.is in
+    let at_p = slice_get_read c.args.done.now _ c.in-Historically.of c.index-done-of-in-Historically.result refl below c.index-done-of-in-Historically.is in
     fit_of g.P.Shape c.args.from c.args.to c.index-done-of-in-Historically.result (omega arith)
     (c.requires.sound c.in-Historically.of c.index-done-of-in-Historically.result at_p)
 
 pub returns-in-Historically : goal.returns-in-Historically
 returns-in-Historically g c =
     let below : c.in-Historically.of < length c.args.done.now = subst (HasChildrenBelow (length c.args.done.now)) c.in-Historically.is c.requires.children in
-    let at_p = read c.args.done.now c.in-Historically.of c.index-done-of-in-Historically.result below c.index-done-of-in-Historically.is in
+    let at_p = slice_get_read c.args.done.now _ c.in-Historically.of c.index-done-of-in-Historically.result refl below c.index-done-of-in-Historically.is in
     record {
       sound = IfOk-weaker c.inf_behind.result _ _
           (λ r h. one_sound g.P.Shape c.args.from c.args.to c.args.node.now c.in-Historically.of

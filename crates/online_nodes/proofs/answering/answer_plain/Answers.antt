@@ -1,6 +1,6 @@
 use Rattle.std.proofs.Common.{arith, refl}
+use Rattle.rational.proofs.Lists.{on_err_anyway}
 use Rattle.online_nodes.proofs.AnsweringLemmas.{able_apart, carried}
-use Rattle.online_nodes.proofs.SaidLemmas.{on_err}
 use Rattle.online_nodes.proofs.answering.answer_plain.Goals as goal
 
 pub finish-requires-clause-edge : goal.finish-requires-clause-edge
@@ -22,7 +22,7 @@ returns-in_err-finish-clause-memory c =
     let (marks, able) = c.requires.able in
     let g = carried c.args.kind.now c.args.edges.now c.plain_body.new.edges c.args.out marks (record { out = c.in_ok-end.end; marks = marks }) c.requires.own
     (able_apart c.args.kind.now c.args.edges.now c.args.out.edge marks able) c.requires.nothing (c.in_ok-end.ensures.told marks) in
-    on_err c.from_residual-in_err-finish.result
+    on_err_anyway c.from_residual-in_err-finish.result
     (omega (arith, g.owed, g.worked.spare, c.in_err-finish.ensures.waits, c.in_err-finish.ensures.memory))
 
 pub returns-clause-answered : goal.returns-clause-answered

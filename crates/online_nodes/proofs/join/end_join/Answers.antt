@@ -1,10 +1,10 @@
 use Rattle.std.proofs.Common.{sym, subst, ◌∙◌}
 use Rattle.frac128.specs.declared.cut.Cut.{Cut}
 use Rattle.rational.specs.Places.{Upto, AtMost}
+use Rattle.rational.proofs.Lists.{empty_of_none}
 use Rattle.frac128.specs.Cuts.{place}
 use Rattle.online_nodes.specs.Written.{HasAnswer}
 use Rattle.online_nodes.specs.Joins.{joined}
-use Rattle.online_nodes.proofs.EdgesLemmas.{empty_of_none}
 use Rattle.online_nodes.proofs.WorkLemmas.{worked_put}
 use Rattle.online_nodes.proofs.JoinLemmas.{left_is_out, right_is_out, IsSaidOfBoth, rest_was_told}
 use Rattle.online_nodes.proofs.join.end_join.Goals as goal

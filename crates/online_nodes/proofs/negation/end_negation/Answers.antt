@@ -2,11 +2,11 @@ use Rattle.std.proofs.Common.{[], refl, sym, subst, ◌∙◌, arith}
 use Rattle.std.proofs.lemmas.List.{append-nil}
 use Rattle.frac128.specs.declared.cut.Cut.{Cut}
 use Rattle.rational.specs.Places.{Upto}
+use Rattle.rational.proofs.Lists.{empty_of_none}
 use Rattle.frac128.specs.Cuts.{place}
 use Rattle.online_nodes.specs.Held.{fresh_at}
 use Rattle.online_nodes.specs.Joins.{IsReadTo}
 use Rattle.online_nodes.specs.Negations.{IsNegating}
-use Rattle.online_nodes.proofs.EdgesLemmas.{empty_of_none}
 use Rattle.online_nodes.proofs.WorkLemmas.{worked_none, worked_put}
 use Rattle.online_nodes.proofs.JoinLemmas.{all_told}
 use Rattle.online_nodes.proofs.NegationLemmas.{IsSaidOf, rest_was_denied}

@@ -1,9 +1,9 @@
 use Rattle.std.proofs.Common.{◌≡◌, sym, ap, subst, ◌∙◌, length, arith}
 use Rattle.rational.specs.Places.{Upto}
+use Rattle.rational.proofs.Lists.{on_err_anyway}
 use Rattle.frac128.specs.Cuts.{place}
 use Rattle.frac128.specs.declared.cut.Cut.{Cut}
 use Rattle.online_nodes.proofs.NegationLemmas.{gone_none, gone_one, gone_to_end}
-use Rattle.online_nodes.proofs.SaidLemmas.{on_err}
 use Rattle.online_nodes.proofs.negation.negate.Goals as goal
 
 pub loop-next-init : goal.loop-next-init
@@ -27,7 +27,7 @@ read_next-requires-clause-inside c t h =
 
 pub returns-in_err-next-clause-memory : goal.returns-in_err-next-clause-memory
 returns-in_err-next-clause-memory c =
-    on_err c.from_residual.result
+    on_err_anyway c.from_residual.result
     (omega (arith, c.loop-next.invariant.worked.spare, c.loop-next.invariant.few, c.in_err-next.ensures.memory))
 
 pub loop-next-preserved : goal.loop-next-preserved
@@ -59,7 +59,7 @@ pub returns-in_err-end-clause-memory : goal.returns-in_err-end-clause-memory
 returns-in_err-end-clause-memory c =
     let waited = rw c.in_default.is at c.in_ok-next.ensures.read in
     let same : c.read_next.new.edges.spare ≡ c.loop-next.edges.spare = ap (λ e. e.spare) waited.same in
-    on_err c.from_residual-in_err-end.result
+    on_err_anyway c.from_residual-in_err-end.result
     (omega (arith, same, c.loop-next.invariant.worked.spare, c.loop-next.invariant.few, c.in_err-end.ensures.memory))
 
 pub returns-clause-negated : goal.returns-clause-negated

@@ -12,8 +12,8 @@ use Rattle.stl_syntax.specs.declared.items.Verdict.{Verdict}
 use Rattle.frac128.specs.declared.cut.Cut.{Cut}
 use Rattle.online_nodes.proofs.JoinLemmas.{same_first}
 use Rattle.rational.proofs.PlaceLemmas.{at_most_of_not_before}
+use Rattle.rational.proofs.Lists.{on_err_anyway}
 use Rattle.online_nodes.proofs.Sweeping.{begin_alike, end_alike, fits_alike}
-use Rattle.online_nodes.proofs.SaidLemmas.{on_err}
 use Rattle.online_nodes.proofs.SinceCounts.{IsFound}
 use Rattle.online_nodes.proofs.SinceReads.{AreBoth, found_turn, go_on_turn, not_in_run, not_in_stretch, stale_over}
 use Rattle.online_nodes.proofs.SinceTurns.{IsLaterOf, IsWorking}
@@ -146,7 +146,7 @@ pass_first-requires-clause-inside c t h =
 pub returns-in_err-turn-2-clause-memory : goal.returns-in_err-turn-2-clause-memory
 returns-in_err-turn-2-clause-memory c =
     let said = c.in_ok-out.ensures.said in
-    on_err c.from_residual-in_err-turn-2.result (omega (arith, said.few, said.got.spare, c.in_err-turn-2.ensures.memory))
+    on_err_anyway c.from_residual-in_err-turn-2.result (omega (arith, said.few, said.got.spare, c.in_err-turn-2.ensures.memory))
 
 pub returns-clause-turned : goal.returns-clause-turned
 returns-clause-turned c =

@@ -1,10 +1,10 @@
 use Rattle.std.proofs.Common.{sym, ap, subst, ◌∙◌, slice_get, arith}
 use Rattle.rational.specs.Places.{Upto}
+use Rattle.rational.proofs.Lists.{on_err_anyway}
 use Rattle.frac128.specs.Cuts.{place}
 use Rattle.online_nodes.specs.Held.{fresh_at}
 use Rattle.frac128.specs.declared.cut.Cut.{Cut}
 use Rattle.online_nodes.proofs.DroppingLemmas.{slice_get-drop}
-use Rattle.online_nodes.proofs.SaidLemmas.{on_err}
 use Rattle.online_nodes.proofs.SinceReads.{come_none, come_one, come_done}
 use Rattle.online_nodes.proofs.since.since_on.Goals as goal
 
@@ -50,7 +50,7 @@ read_since-requires-clause-fits_run c = c.loop-next.invariant.fits
 
 pub returns-in_err-next-clause-memory : goal.returns-in_err-next-clause-memory
 returns-in_err-next-clause-memory c =
-    on_err c.from_residual.result
+    on_err_anyway c.from_residual.result
     (omega (arith, c.loop-next.invariant.worked.spare, c.loop-next.invariant.few, c.in_err-next.ensures.memory))
 
 pub loop-next-smaller : goal.loop-next-smaller

@@ -7,7 +7,8 @@ use Rattle.online_nodes.specs.Held.{fresh_at}
 use Rattle.online_nodes.specs.Working.{HasPassed}
 use Rattle.online_nodes.proofs.GotLemmas.{got-length, got-other}
 use Rattle.rational.proofs.PlaceLemmas.{upto_of_before, at_most_of_not_before}
-use Rattle.online_nodes.proofs.SaidLemmas.{answered_twice, on_err}
+use Rattle.rational.proofs.Lists.{on_err_anyway}
+use Rattle.online_nodes.proofs.SaidLemmas.{answered_twice}
 use Rattle.online_nodes.proofs.UntilTurns.{IsSaidTwice, run_ended, fails_beyond}
 use Rattle.online_nodes.proofs.until.new_run.Goals as goal
 
@@ -43,7 +44,7 @@ pass-requires-clause-some c =
 pub returns-in_err-out-clause-memory : goal.returns-in_err-out-clause-memory
 returns-in_err-out-clause-memory c =
     let one = c.in_ok-found.ensures.said in
-    on_err c.from_residual-in_err-out.result (omega (arith, one.got.spare, one.few, c.in_err-out.ensures.memory))
+    on_err_anyway c.from_residual-in_err-out.result (omega (arith, one.got.spare, one.few, c.in_err-out.ensures.memory))
 
 pub returns-clause-turned : goal.returns-clause-turned
 returns-clause-turned c =

@@ -1,7 +1,8 @@
 use Rattle.std.proofs.Common.{sym, ◌∙◌}
-use Rattle.online_nodes.proofs.EdgesLemmas.{empty_of_none}
+use Rattle.std.proofs.lemmas.Bool.{not-false}
+use Rattle.rational.proofs.Lists.{empty_of_none}
 use Rattle.online_nodes.proofs.UntilPasses.{left_out_settles, right_out_settles}
-use Rattle.online_nodes.proofs.UntilCounts.{passes_failed, true_of_not}
+use Rattle.online_nodes.proofs.UntilCounts.{passes_failed}
 use Rattle.online_nodes.proofs.until.read_until.Goals as goal
 
 pub returns-in_default-clause-turned : goal.returns-in_default-clause-turned
@@ -13,5 +14,5 @@ returns-in_default-next-clause-turned c = right_out_settles (empty_of_none _ (sy
 pub returns-clause-turned : goal.returns-clause-turned
 returns-clause-turned c =
     passes_failed c.requires.apart (sym c.next.ensures ∙ c.in-Some.is) (sym c.next-2.ensures
-    ∙ c.in-Some-next.is) (true_of_not c.in-Some.v.holds c.if-not-v.false) c.if-w.false
+    ∙ c.in-Some-next.is) (not-false c.in-Some.v.holds c.if-not-v.false) c.if-w.false
     c.pass_ended.ensures c.requires.left_apart c.requires.right_apart c.requires.sound c.requires.inside

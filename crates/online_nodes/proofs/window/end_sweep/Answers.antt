@@ -4,7 +4,8 @@ use Rattle.frac128.specs.Cuts.{place}
 use Rattle.frac128.specs.declared.cut.Cut.{Cut}
 use Rattle.online_nodes.proofs.GotLemmas.{got-length}
 use Rattle.rational.proofs.PlaceLemmas.{sides, not_both}
-use Rattle.online_nodes.proofs.SaidLemmas.{answered_twice, on_err}
+use Rattle.rational.proofs.Lists.{on_err_anyway}
+use Rattle.online_nodes.proofs.SaidLemmas.{answered_twice}
 use Rattle.online_nodes.proofs.Sweeping.{found_part}
 use Rattle.online_nodes.proofs.WindowLaw.{knows_later}
 use Rattle.online_nodes.proofs.window.end_sweep.Goals as goal
@@ -23,7 +24,7 @@ upto-requires-2-clause-sound c = c.in_ok-found.ensures.said.sound
 pub returns-in_err-out-clause-memory : goal.returns-in_err-out-clause-memory
 returns-in_err-out-clause-memory c =
     let one = c.in_ok-found.ensures.said in
-    on_err c.from_residual-in_err-out.result (omega (arith, one.got.spare, one.few, c.in_err-out.ensures.memory))
+    on_err_anyway c.from_residual-in_err-out.result (omega (arith, one.got.spare, one.few, c.in_err-out.ensures.memory))
 
 pub returns-clause-ended : goal.returns-clause-ended
 returns-clause-ended c =

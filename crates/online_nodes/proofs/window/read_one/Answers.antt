@@ -12,26 +12,12 @@ use Rattle.rational.specs.Places.{Place, ends, Same, Upto, Before, begins, moved
 use Rattle.frac128.specs.Cuts.{place}
 use Rattle.online_nodes.specs.Held.{fresh_at}
 use Rattle.online_nodes.specs.Sweeps.{IsSwept}
-use Rattle.online_nodes.proofs.Sweeping.{
-  no_first,
-  first_is,
-  none_left,
-  not_sought,
-  too_late,
-  found_part,
-  spared_part,
-  counts_now,
-  sought_not,
-  sought_is,
-  begin_alike,
-  begins_beyond,
-  end_alike,
-  fits_alike,
-}
+use Rattle.online_nodes.proofs.Sweeping.{first_is, none_left, not_sought, too_late, found_part, spared_part, counts_now, sought_not, sought_is, begin_alike, begins_beyond, end_alike, fits_alike}
 use Rattle.rational.proofs.PlaceLemmas.{sides, not_both, at_most_of_not_before}
+use Rattle.rational.proofs.Lists.{on_err_anyway, empty_of_none}
 use Rattle.online_nodes.proofs.GotLemmas.{got-length, got-other}
 use Rattle.online_nodes.proofs.WorkLemmas.{worked_pass}
-use Rattle.online_nodes.proofs.SaidLemmas.{answered_twice, on_err, passed-fresh, passed-one, worked_read}
+use Rattle.online_nodes.proofs.SaidLemmas.{answered_twice, passed-fresh, passed-one, worked_read}
 use Rattle.online_nodes.proofs.window.read_one.Goals as goal
 
 pub returns-in_default-clause-read : goal.returns-in_default-clause-read
@@ -42,7 +28,7 @@ returns-in_default-clause-read c =
       settles = λ n p tr begin written read stop of m.
           none_left n p tr c.args.window begin written read stop c.args.sweep of
           (subst (λ l. IsSwept n p tr c.args.window begin written c.args.sweep read stop l)
-          (no_first (fresh_at c.args.edges.now c.args.window.of) (sym c.next.ensures ∙ c.in_default.is)) m);
+          (empty_of_none (fresh_at c.args.edges.now c.args.window.of) (sym c.next.ensures ∙ c.in_default.is)) m);
     }
 
 pub returns-then-v-window-clause-read : goal.returns-then-v-window-clause-read
@@ -135,7 +121,7 @@ shift_end-reach-requires c =
 pub returns-in_err-out-clause-memory : goal.returns-in_err-out-clause-memory
 returns-in_err-out-clause-memory c =
     let one = c.in_ok-found.ensures.said in
-    on_err c.from_residual-in_err-out.result (omega (arith, one.got.spare, one.few, c.in_err-out.ensures.memory))
+    on_err_anyway c.from_residual-in_err-out.result (omega (arith, one.got.spare, one.few, c.in_err-out.ensures.memory))
 
 pub returns-clause-read : goal.returns-clause-read
 returns-clause-read c =

@@ -1,10 +1,10 @@
 use Rattle.std.proofs.Common.{◌≡◌, sym, ap, subst, ◌∙◌, slice_get, length, arith}
 use Rattle.rational.specs.Places.{Upto}
+use Rattle.rational.proofs.Lists.{on_err_anyway}
 use Rattle.frac128.specs.Cuts.{place}
 use Rattle.online_nodes.specs.Held.{fresh_at}
 use Rattle.frac128.specs.declared.cut.Cut.{Cut}
 use Rattle.online_nodes.proofs.DroppingLemmas.{slice_get-drop}
-use Rattle.online_nodes.proofs.SaidLemmas.{on_err}
 use Rattle.online_nodes.proofs.SweepLemmas.{gone_none, gone_one, gone_to_end}
 use Rattle.online_nodes.proofs.window.sweep_on.Goals as goal
 
@@ -35,7 +35,7 @@ read_one-requires-clause-fits c v first =
 
 pub returns-in_err-next-clause-memory : goal.returns-in_err-next-clause-memory
 returns-in_err-next-clause-memory c =
-    on_err c.from_residual.result
+    on_err_anyway c.from_residual.result
     (omega (arith, c.loop-next.invariant.worked.spare, c.loop-next.invariant.few, c.in_err-next.ensures.memory))
 
 pub loop-next-preserved : goal.loop-next-preserved
@@ -58,7 +58,7 @@ pub returns-in_err-end-clause-memory : goal.returns-in_err-end-clause-memory
 returns-in_err-end-clause-memory c =
     let stopped = rw c.in_default.is at c.in_ok-next.ensures.read in
     let same : c.read_one.new.edges.spare ≡ c.loop-next.edges.spare = ap (λ e. e.spare) stopped.same in
-    on_err c.from_residual-in_err-end.result
+    on_err_anyway c.from_residual-in_err-end.result
     (omega (arith, same, c.loop-next.invariant.worked.spare, c.loop-next.invariant.few, c.in_err-end.ensures.memory))
 
 pub returns-clause-swept : goal.returns-clause-swept

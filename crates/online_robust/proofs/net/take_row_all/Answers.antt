@@ -1,9 +1,9 @@
 use Rattle.std.proofs.Common.{◌≡◌, ◌<◌, ◌+◌, ◌∙◌, Some, suc, length, ap, arith, refl, sym, subst}
 use Rattle.std.specs.Prelude.{slice_get, slice_set}
 use Rattle.std.proofs.lemmas.Option.{slice_get-get_or}
+use Rattle.std.proofs.lemmas.List.{length-set}
 use Rattle.online_robust.specs.Moving.{IsFaultOf}
 use Rattle.online_robust.specs.Nets.{Going, move_of}
-use Rattle.online_robust.proofs.Moved.{length-slice_set}
 use Rattle.online_robust.proofs.Loops.{can_move_by_row, going_first, going_next, gone_last, go_fault}
 use Rattle.online_robust.proofs.net.take_row_all.Goals as goal
 
@@ -44,7 +44,7 @@ returns-in-Err-clause-fault c = λ p g.
 
 pub loop-i-preserved : goal.loop-i-preserved
 loop-i-preserved c = (
-  length-slice_set c.loop-i.stations.items c.loop-i.i c.take_row.new.self ∙ c.loop-i.invariant.0,
+  length-set c.loop-i.stations.items c.loop-i.i c.take_row.new.self ∙ c.loop-i.invariant.0,
   (λ p g.
       let all = g.0.shows.stations in
       let same = c.loop-i.invariant.0 in
@@ -71,7 +71,7 @@ returns-clause-gone c = λ p g.
     (c.loop-i.invariant.1 p g)
 
 pub returns-in-Err-clause-nodes : goal.returns-in-Err-clause-nodes
-returns-in-Err-clause-nodes c = length-slice_set c.loop-i.stations.items c.loop-i.i c.take_row.new.self ∙ c.loop-i.invariant.0
+returns-in-Err-clause-nodes c = length-set c.loop-i.stations.items c.loop-i.i c.take_row.new.self ∙ c.loop-i.invariant.0
 
 pub returns-clause-nodes : goal.returns-clause-nodes
 returns-clause-nodes c = c.loop-i.invariant.0

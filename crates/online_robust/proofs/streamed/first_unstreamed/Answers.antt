@@ -1,7 +1,6 @@
 use Rattle.std.proofs.Common.{◌≡◌, ◌∙◌, Some, sym, subst, arith, below_more}
 use Rattle.std.specs.Prelude.{slice_get}
-use Rattle.std.proofs.lemmas.Option.{slice_get_within}
-use Rattle.pl_signal.proofs.Values.{some_is}
+use Rattle.std.proofs.lemmas.Option.{slice_get_within, same_Some}
 use Rattle.stl_syntax.specs.declared.node.Node.{Node}
 use Rattle.online_nodes.specs.StreamedWide.{IsUnstreamed}
 use Rattle.online_robust.proofs.streamed.first_unstreamed.Goals as goal
@@ -10,7 +9,7 @@ pub loop-i-preserved : goal.loop-i-preserved
 loop-i-preserved c =
     let streamed : ¬ IsUnstreamed c.node.result.now = rw c.if-not-streamed.false at c.is_streamed-streamed.ensures in
     below_more (λ k. (n : Node) → slice_get c.args.formula.now.nodes k ≡ Some n → ¬ IsUnstreamed n) c.loop-i.i c.loop-i.invariant
-    (λ n is. subst (λ (k : Node). ¬ IsUnstreamed k) (some_is (sym c.node.ensures.node ∙ is)) streamed)
+    (λ n is. subst (λ (k : Node). ¬ IsUnstreamed k) (same_Some _ _ (sym c.node.ensures.node ∙ is)) streamed)
 
 pub returns-then-not-streamed : goal.returns-then-not-streamed
 returns-then-not-streamed c =

@@ -1,8 +1,7 @@
 use Rattle.std.proofs.Common.{ℕ, List, [], ◌++◌, codes, append_assoc, arith, pos, refl}
 use Rattle.std.proofs.lemmas.Grind.{common_steps}
 use Rattle.std.proofs.lemmas.Result.{on_ok_weaker, on_err_weaker}
-use Rattle.rational.specs.Time.{Rational, whole, ◌≈◌}
-use Rattle.rational.proofs.Order.{same_sym, same_trans}
+use Rattle.rational.specs.Time.{whole}
 use Rattle.frac128.specs.Value.{value}
 use Rattle.stl_syntax.specs.Texts.{IsNumberText, fraction_text, newline}
 use Rattle.report.specs.EarlyLines.{IsDecidedLine}
@@ -12,17 +11,14 @@ use Rattle.report.proofs.Parts.{part_in, part_inside}
 use Rattle.report.proofs.Spans.{number_text}
 use Rattle.report.proofs.early.put_decided.Goals as goal
 use Rattle.report.proofs.early.put_decided.Goals.{After-in_units-time}
-
--- the text of a number is that of each pair that writes it
-same_number : (digits : ℕ) (t u : Rational) (text : List ℕ) → t ≈ u → IsNumberText digits t text → IsNumberText digits u text
-same_number digits t u text s h = record { num = h.num; den = h.den; lowest = h.lowest; same = same_trans (same_sym s) h.same; is = h.is }
+use Rattle.report.proofs.KeptTexts.{number_of_same}
 
 abbrev text_of : Lowest → List ℕ
 text_of n = fraction_text (signed n.negative n.size) n.den
 
 -- the text of the time
 timed : (c : After-in_units-time) → IsNumberText c.args.scale.time (whole (pos c.args.at)) (text_of c.in_units-time.result)
-timed c = same_number c.args.scale.time (value c.tick_time.result) (whole (pos c.args.at)) _ c.tick_time.ensures
+timed c = number_of_same c.args.scale.time (value c.tick_time.result) (whole (pos c.args.at)) _ c.tick_time.ensures
     (number_text c.args.scale.time (value c.tick_time.result) _ _ _ c.in_units-time.ensures)
 
 -- the whole line

@@ -1,16 +1,18 @@
 use Rattle.std.proofs.Common.{◌≡◌, [], ◌++◌, append-nil, append_assoc, refl, sym, ◌∙◌, ap}
 use Rattle.std.proofs.lemmas.Result.{on_ok_weaker, on_err_weaker}
+use Rattle.rational.proofs.Lists.{on_err_anyway}
 use Rattle.stl_syntax.specs.Texts.{newline}
+use Rattle.stl_syntax.proofs.PrintLemmas.{three_pieces}
 use Rattle.report.specs.ItemLines.{IsItemLine}
-use Rattle.report.proofs.Parts.{on_err, part_in, unwritten}
+use Rattle.report.proofs.Parts.{part_in, unwritten}
 use Rattle.report.proofs.ItemTexts.{truth_words, item_line, line_with, line_exists}
-use Rattle.report.proofs.WritingItems.{three_pieces, four_pieces}
+use Rattle.report.proofs.WritingItems.{four_pieces}
 use Rattle.report.proofs.items.put_item.Goals as goal
 
 pub returns-in_err-name-clause-err : goal.returns-in_err-name-clause-err
 returns-in_err-name-clause-err c =
     let line = line_exists c.args.scale c.args.formula.now c.args.item.now c.requires.atom in
-    on_err c.from_residual.result (unwritten (IsItemLine c.args.scale c.args.formula.now c.args.item.now) c.args.text.now line.0 line.1)
+    on_err_anyway c.from_residual.result (unwritten (IsItemLine c.args.scale c.args.formula.now c.args.item.now) c.args.text.now line.0 line.1)
 
 pub returns-in_err-push-clause-err : goal.returns-in_err-push-clause-err
 returns-in_err-push-clause-err c =
@@ -42,7 +44,7 @@ returns-in_err-put_span-clause-err c =
     let said : c.push-2.new.self ≡ c.push.new.self ++ words = c.in_ok-push-2.ensures.ok ∙ ap (λ b. c.push.new.self ++ b) c.truth_on.ensures in
     part_in P c.from_residual-in_err-put_span.result (name ++ words ++ (g.0 ++ g.1) ++ newline) c.args.text.now c.put_span.new.text
     (name ++ words ++ g.0) (g.1 ++ newline) line (simp append_assoc)
-    (three_pieces c.args.text.now name words g.0 named said g.3)
+    (three_pieces c.args.text.now _ _ _ name words g.0 named said g.3)
 
 pub returns-clause-ok : goal.returns-clause-ok
 returns-clause-ok c =
@@ -75,6 +77,6 @@ returns-clause-err c =
       name ++ words ++ g.0,
       newline,
       line,
-      h ∙ three_pieces c.args.text.now name words g.0 named said g.2,
+      h ∙ three_pieces c.args.text.now _ _ _ name words g.0 named said g.2,
     ))
     c.push-3.ensures.err

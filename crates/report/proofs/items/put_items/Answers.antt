@@ -1,5 +1,5 @@
 use Rattle.std.proofs.Common.{◌<◌, ◌≤◌, length, arith}
-use Rattle.report.proofs.Parts.{on_err}
+use Rattle.rational.proofs.Lists.{on_err_anyway}
 use Rattle.report.proofs.WritingItems.{atom_of_line, written_more, written_all, part_more}
 use Rattle.report.proofs.items.put_items.Goals as goal
 
@@ -16,7 +16,7 @@ loop-i-preserved c =
 
 pub returns-in_err-put_item-clause-err : goal.returns-in_err-put_item-clause-err
 returns-in_err-put_item-clause-err c =
-    on_err c.from_residual.result
+    on_err_anyway c.from_residual.result
     (part_more c.line_from-end.result.1 c.line_from-end.result.0 c.requires.atoms
     c.loop-i.invariant c.line_from-end.ensures.line c.in_err-put_item.ensures.err)
 

@@ -1,9 +1,9 @@
 use Rattle.std.proofs.Common.{◌≡◌, ◌++◌, ℕ, List, refl, ap, ◌∙◌, codes}
 use Rattle.std.proofs.lemmas.Result.{on_ok_weaker, on_err_weaker}
+use Rattle.rational.proofs.Lists.{on_err_anyway}
 use Rattle.stl_syntax.specs.Texts.{IsSpanText}
 use Rattle.report.specs.Appended.{Is}
 use Rattle.report.specs.JsonTexts.{json_string, item_end, ItemParts, IsItemEntry}
-use Rattle.report.proofs.Parts.{on_err}
 use Rattle.report.proofs.Growths.{grew_is, grew_as, grew_then, part_none, part_as, part_then, part_first}
 use Rattle.report.proofs.JsonItems.{entry_of, entry_exists}
 use Rattle.report.proofs.JsonParts.{word_exists, Named, AfterName, OnSpan, named_exists, after_name_exists}
@@ -23,13 +23,13 @@ pub returns-in_err-name-clause-err : goal.returns-in_err-name-clause-err
 returns-in_err-name-clause-err c =
     let P = IsItemEntry c.args.lead.now c.args.scale c.args.formula.now c.args.item.now in
     let all = entry_exists c.args.lead.now c.args.scale c.args.formula.now c.args.item.now c.requires.atom in
-    on_err _ (part_none P c.args.text.now c.args.text.now all refl)
+    on_err_anyway _ (part_none P c.args.text.now c.args.text.now all refl)
 
 pub returns-in_err-push-clause-err : goal.returns-in_err-push-clause-err
 returns-in_err-push-clause-err c =
     let P = IsItemEntry c.args.lead.now c.args.scale c.args.formula.now c.args.item.now in
     let all = entry_exists c.args.lead.now c.args.scale c.args.formula.now c.args.item.now c.requires.atom in
-    on_err _ (part_none P c.args.text.now c.push.new.self all c.in_err-push.ensures.err)
+    on_err_anyway _ (part_none P c.args.text.now c.push.new.self all c.in_err-push.ensures.err)
 
 pub returns-in_err-put_string-clause-err : goal.returns-in_err-put_string-clause-err
 returns-in_err-put_string-clause-err c =
@@ -37,7 +37,7 @@ returns-in_err-put_string-clause-err c =
     let e = c.args.item.now in
     let name = c.in_ok-name.name in
     let lead = c.args.lead.now in
-    on_err _ (part_as (ItemParts lead s e name) (IsItemEntry lead s c.args.formula.now e) c.args.text.now _
+    on_err_anyway _ (part_as (ItemParts lead s e name) (IsItemEntry lead s c.args.formula.now e) c.args.text.now _
     (entry (goal.at.returns-in_err-put_string-clause-err c).In_ok-name)
     (part_then (Is lead) (Named s e name) c.args.text.now _ _ (grew_is lead _ _ c.in_ok-push.ensures.ok)
     (part_none (Named s e name) _ _ (named_exists s e name) c.in_err-put_string.ensures.err)))
@@ -48,7 +48,7 @@ returns-in_err-push-2-clause-err c =
     let e = c.args.item.now in
     let name = c.in_ok-name.name in
     let lead = c.args.lead.now in
-    on_err _ (part_as (ItemParts lead s e name) (IsItemEntry lead s c.args.formula.now e) c.args.text.now _
+    on_err_anyway _ (part_as (ItemParts lead s e name) (IsItemEntry lead s c.args.formula.now e) c.args.text.now _
     (entry (goal.at.returns-in_err-push-2-clause-err c).In_ok-name)
     (part_then (Is lead) (Named s e name) c.args.text.now _ _ (grew_is lead _ _ c.in_ok-push.ensures.ok)
     (part_then (Is (json_string name)) (AfterName s e name) _ _ _
@@ -61,7 +61,7 @@ returns-in_err-put_span-clause-err c =
     let e = c.args.item.now in
     let name = c.in_ok-name.name in
     let lead = c.args.lead.now in
-    on_err _ (part_as (ItemParts lead s e name) (IsItemEntry lead s c.args.formula.now e) c.args.text.now _
+    on_err_anyway _ (part_as (ItemParts lead s e name) (IsItemEntry lead s c.args.formula.now e) c.args.text.now _
     (entry (goal.at.returns-in_err-put_span-clause-err c).In_ok-name)
     (part_then (Is lead) (Named s e name) c.args.text.now _ _ (grew_is lead _ _ c.in_ok-push.ensures.ok)
     (part_then (Is (json_string name)) (AfterName s e name) _ _ _

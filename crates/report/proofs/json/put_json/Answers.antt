@@ -1,9 +1,9 @@
 use Rattle.std.proofs.Common.{ℕ, List, true}
 use Rattle.std.proofs.lemmas.Result.{on_ok_weaker, on_err_weaker}
+use Rattle.rational.proofs.Lists.{on_err_anyway}
 use Rattle.report.specs.Appended.{Then}
 use Rattle.report.specs.JsonTexts.{HeadParts}
 use Rattle.report.specs.ReportText.{IsReportText, TailParts}
-use Rattle.report.proofs.Parts.{on_err}
 use Rattle.report.proofs.Growths.{grew_as, grew_then, part_as, part_then, part_first}
 use Rattle.report.proofs.ReportTexts.{report_is, tail_exists, signal_entries_exist}
 use Rattle.report.proofs.json.put_json.Goals as goal
@@ -28,7 +28,7 @@ returns-in_err-put_head-clause-err c =
     let tail =
     tail_exists c.args.scale c.args.truth.now c.args.margins.now c.start_of-holds.result
     (signal_entries_exist true c.args.scale c.args.truth.now c.start_of-holds.ensures.signal) in
-    on_err _ (part_as (Then (Head f) (Tail f)) (Whole f) c.args.text.now _ (whole f)
+    on_err_anyway _ (part_as (Then (Head f) (Tail f)) (Whole f) c.args.text.now _ (whole f)
     (part_first (Head f) (Tail f) c.args.text.now _ c.in_err-put_head.ensures.err tail))
 
 pub returns-clause-ok : goal.returns-clause-ok

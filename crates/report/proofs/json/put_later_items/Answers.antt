@@ -1,5 +1,5 @@
 use Rattle.std.proofs.Common.{◌<◌, ◌≤◌, length, arith}
-use Rattle.report.proofs.Parts.{on_err}
+use Rattle.rational.proofs.Lists.{on_err_anyway}
 use Rattle.report.proofs.JsonItems.{entries_none, entries_more, entries_all, entries_part}
 use Rattle.report.proofs.WritingItems.{atom_of_line}
 use Rattle.report.proofs.json.put_later_items.Goals as goal
@@ -21,7 +21,7 @@ loop-i-preserved c =
 
 pub returns-in_err-put_item_entry-clause-err : goal.returns-in_err-put_item_entry-clause-err
 returns-in_err-put_item_entry-clause-err c =
-    on_err c.from_residual.result
+    on_err_anyway c.from_residual.result
     (entries_part c.args.scale c.args.formula.now c.args.items.now c.args.from c.args.text.now c.loop-i.i c.line_from-end.result.1 c.loop-i.text
     c.put_item_entry.new.text
     c.line_from-end.result.0 c.requires.atoms c.loop-i.invariant c.line_from-end.ensures.line c.in_err-put_item_entry.ensures.err)

@@ -1,11 +1,11 @@
 use Rattle.std.proofs.Common.{sym, subst, codes}
 use Rattle.std.proofs.lemmas.Result.{on_ok_weaker, on_err_weaker}
+use Rattle.rational.proofs.Lists.{on_err_anyway}
 use Rattle.value_laws.specs.Kinds.{margin_shape}
 use Rattle.pl_signal.specs.Plain.{knots_of}
 use Rattle.report.specs.Appended.{Grew, GrewInPart, AreEach, Is}
 use Rattle.report.specs.JsonTexts.{IsKnotEntry, IsStepEntry}
 use Rattle.report.specs.Steps.{steps_of}
-use Rattle.report.proofs.Parts.{on_err}
 use Rattle.report.proofs.Growths.{grew_is, grew_then, part_none, part_then, part_first}
 use Rattle.report.proofs.MarginTexts.{knot_within}
 use Rattle.report.proofs.JsonParts.{word_exists, first_is, LaterMargins, later_margins_exist}
@@ -27,7 +27,7 @@ pub returns-in_err-put_knot_entry-clause-err : goal.returns-in_err-put_knot_entr
 returns-in_err-put_knot_entry-clause-err c =
     let s = c.args.scale in
     let knots = knots_of margin_shape c.args.s.now in
-    on_err _ (part_first (IsKnotEntry (codes "{\"at\":\"") s knots.first) (LaterMargins s knots) c.args.text.now _
+    on_err_anyway _ (part_first (IsKnotEntry (codes "{\"at\":\"") s knots.first) (LaterMargins s knots) c.args.text.now _
     (subst (λ k. GrewInPart (IsKnotEntry (codes "{\"at\":\"") s k) c.args.text.now c.put_knot_entry.new.text)
     (sym (first_is margin_shape c.args.s.now c.knot.result c.knot.ensures)) c.in_err-put_knot_entry.ensures.err) (later_margins_exist s knots))
 
@@ -35,7 +35,7 @@ pub returns-in_err-put_step_entries-clause-err : goal.returns-in_err-put_step_en
 returns-in_err-put_step_entries-clause-err c =
     let s = c.args.scale in
     let knots = knots_of margin_shape c.args.s.now in
-    on_err _ (part_then (IsKnotEntry (codes "{\"at\":\"") s knots.first) (LaterMargins s knots) c.args.text.now _ _
+    on_err_anyway _ (part_then (IsKnotEntry (codes "{\"at\":\"") s knots.first) (LaterMargins s knots) c.args.text.now _ _
     (first (goal.at.returns-in_err-put_step_entries-clause-err c).In_ok-put_knot_entry)
     (part_first (AreEach (IsStepEntry s) (steps_of knots)) (Is (codes "]")) _ _ c.in_err-put_step_entries.ensures.err (word_exists (codes "]"))))
 

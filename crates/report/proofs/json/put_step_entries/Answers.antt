@@ -1,11 +1,11 @@
 use Rattle.std.proofs.Common.{◌≡◌, ◌+◌, ◌≤◌, suc, Some, length, take, subst, arith}
 use Rattle.std.specs.Prelude.{slice_get}
+use Rattle.rational.proofs.Lists.{on_err_anyway}
 use Rattle.value_laws.specs.Kinds.{margin_shape}
 use Rattle.pl_signal.specs.Plain.{knots_of, plain_knot, plain_piece}
 use Rattle.report.specs.Appended.{Grew, AreEach}
 use Rattle.report.specs.JsonTexts.{IsStepEntry}
 use Rattle.report.specs.Steps.{steps_of, step}
-use Rattle.report.proofs.Parts.{on_err}
 use Rattle.report.proofs.MarginTexts.{knot_within}
 use Rattle.report.proofs.Sequences.{each_none, each_more, each_part, each_all}
 use Rattle.report.proofs.StepLemmas.{step_at, steps_fewer}
@@ -50,7 +50,7 @@ returns-in_err-put_step_entry-clause-err c =
     let steps = steps_of (knots_of margin_shape c.args.s.now) in
     let x = step (plain_knot margin_shape c.knot.result) (plain_piece margin_shape c.knot.result c.knot-in-loop-i.result) in
     let at = its_step (goal.at.returns-in_err-put_step_entry-clause-err c).After-put_step_entry in
-    on_err _ (each_part P (step_entry_exists c.args.scale) c.loop-i.i steps x c.args.text.now c.loop-i.text c.put_step_entry.new.text at c.loop-i.invariant
+    on_err_anyway _ (each_part P (step_entry_exists c.args.scale) c.loop-i.i steps x c.args.text.now c.loop-i.text c.put_step_entry.new.text at c.loop-i.invariant
     c.in_err-put_step_entry.ensures.err)
 
 pub returns-clause-ok : goal.returns-clause-ok

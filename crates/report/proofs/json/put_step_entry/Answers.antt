@@ -1,10 +1,10 @@
 use Rattle.std.proofs.Common.{codes}
 use Rattle.std.proofs.lemmas.Result.{on_ok_weaker, on_err_weaker}
+use Rattle.rational.proofs.Lists.{on_err_anyway}
 use Rattle.value_laws.specs.Kinds.{margin_shape}
 use Rattle.pl_signal.specs.Plain.{plain_knot, plain_piece}
 use Rattle.report.specs.JsonTexts.{IsKnotEntry, IsPieceEntry}
 use Rattle.report.specs.Steps.{step}
-use Rattle.report.proofs.Parts.{on_err}
 use Rattle.report.proofs.Growths.{grew_then, part_then, part_first}
 use Rattle.report.proofs.JsonParts.{knot_entry_exists}
 use Rattle.report.proofs.json.put_step_entry.Goals as goal
@@ -14,7 +14,7 @@ returns-in_err-put_piece_entry-clause-err c =
     let s = c.args.scale in
     let p = step (plain_knot margin_shape c.args.k.now) (plain_piece margin_shape c.args.k.now c.args.n.now) in
     let n = plain_knot margin_shape c.args.n.now in
-    on_err _ (part_first (IsPieceEntry s p) (IsKnotEntry (codes ",{\"at\":\"") s n) c.args.text.now _ c.in_err-put_piece_entry.ensures.err
+    on_err_anyway _ (part_first (IsPieceEntry s p) (IsKnotEntry (codes ",{\"at\":\"") s n) c.args.text.now _ c.in_err-put_piece_entry.ensures.err
     (knot_entry_exists s (codes ",{\"at\":\"") n))
 
 pub returns-clause-ok : goal.returns-clause-ok

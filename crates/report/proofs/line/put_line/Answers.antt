@@ -1,12 +1,12 @@
 use Rattle.std.proofs.Common.{◌≡◌, ◌++◌, ℕ, List, ap, ◌∙◌}
 use Rattle.std.proofs.lemmas.Result.{on_ok_weaker, on_err_weaker}
+use Rattle.rational.proofs.Lists.{on_err_anyway}
 use Rattle.report.specs.Appended.{Then, Is}
 use Rattle.report.specs.Lines.{line_text, number_text, detail_text}
 use Rattle.report.specs.declared.line.Line.{Line}
 use Rattle.report.proofs.Growths as growth
 use Rattle.report.proofs.Growths.{grew_is, grew_then, part_as, part_none, part_then, some_then}
 use Rattle.report.proofs.JsonParts.{word_exists}
-use Rattle.report.proofs.Parts.{on_err}
 use Rattle.report.proofs.line.put_line.Goals as goal
 
 -- the parts, from the last on
@@ -42,19 +42,19 @@ whole l text (a, r, is_a, (b, s, is_b, (m, t, is_m, (d, e, is_d, is_e, h4), h3),
 
 pub returns-in_err-push-clause-err : goal.returns-in_err-push-clause-err
 returns-in_err-push-clause-err c =
-    on_err _ (part_none (Is (line_text c.args.line.now)) c.args.text.now _ (word_exists (line_text c.args.line.now)) c.in_err-push.ensures.err)
+    on_err_anyway _ (part_none (Is (line_text c.args.line.now)) c.args.text.now _ (word_exists (line_text c.args.line.now)) c.in_err-push.ensures.err)
 
 pub returns-in_err-put_number-clause-err : goal.returns-in_err-put_number-clause-err
 returns-in_err-put_number-clause-err c =
     let l = c.args.line.now in
-    on_err _ (part_as (All l) (Is (line_text l)) c.args.text.now _ (whole l)
+    on_err_anyway _ (part_as (All l) (Is (line_text l)) c.args.text.now _ (whole l)
     (part_then (Is l.head.now) (Rest l) c.args.text.now _ _ (grew_is l.head.now _ _ c.in_ok-push.ensures.ok)
     (part_none (Rest l) _ _ (rest l) c.in_err-put_number.ensures.err)))
 
 pub returns-in_err-push-2-clause-err : goal.returns-in_err-push-2-clause-err
 returns-in_err-push-2-clause-err c =
     let l = c.args.line.now in
-    on_err _ (part_as (All l) (Is (line_text l)) c.args.text.now _ (whole l)
+    on_err_anyway _ (part_as (All l) (Is (line_text l)) c.args.text.now _ (whole l)
     (part_then (Is l.head.now) (Rest l) c.args.text.now _ _ (grew_is l.head.now _ _ c.in_ok-push.ensures.ok)
     (part_then (Is (number_text l.number)) (Later l) _ _ _ (grew_is (number_text l.number) _ _ c.in_ok-put_number.ensures.ok)
     (part_none (Later l) _ _ (later l) c.in_err-push-2.ensures.err))))
@@ -62,7 +62,7 @@ returns-in_err-push-2-clause-err c =
 pub returns-in_err-put_detail-clause-err : goal.returns-in_err-put_detail-clause-err
 returns-in_err-put_detail-clause-err c =
     let l = c.args.line.now in
-    on_err _ (part_as (All l) (Is (line_text l)) c.args.text.now _ (whole l)
+    on_err_anyway _ (part_as (All l) (Is (line_text l)) c.args.text.now _ (whole l)
     (part_then (Is l.head.now) (Rest l) c.args.text.now _ _ (grew_is l.head.now _ _ c.in_ok-push.ensures.ok)
     (part_then (Is (number_text l.number)) (Later l) _ _ _ (grew_is (number_text l.number) _ _ c.in_ok-put_number.ensures.ok)
     (part_then (Is l.middle.now) (Last l) _ _ _ (grew_is l.middle.now _ _ c.in_ok-push-2.ensures.ok)

@@ -1,9 +1,9 @@
 use Rattle.std.proofs.Common.{◌≡◌, suc, ◌+◌, ◌-◌, Some, [], ◌++◌, length, append-nil, append_assoc, sym, ap, ◌∙◌, subst, arith}
 use Rattle.std.specs.Prelude.{slice_get}
+use Rattle.rational.proofs.Lists.{on_err_anyway}
 use Rattle.value_laws.specs.Kinds.{margin_shape}
 use Rattle.report.specs.Appended.{Grew}
 use Rattle.report.specs.MarginLines.{AreLaterLines}
-use Rattle.report.proofs.Parts.{on_err}
 use Rattle.report.proofs.Growths.{grew_as}
 use Rattle.report.proofs.MarginTexts.{AreLinesTo, lines_begin, lines_more, lines_end, lines_part, knot_within}
 use Rattle.report.proofs.margin.put_later.Goals as goal
@@ -23,7 +23,7 @@ loop-i-init c = ([], lines_begin margin_shape c.args.scale c.args.s.now, sym (ap
 pub returns-in_err-put_next-clause-err : goal.returns-in_err-put_next-clause-err
 returns-in_err-put_next-clause-err c =
     let next : c.loop-i.i ≡ suc (c.loop-i.i - 1) = omega arith in
-    on_err _ (lines_part margin_shape c.args.scale c.args.s.now (c.loop-i.i - 1) c.knot.result c.knot-in-loop-i.result c.args.text.now c.loop-i.text _
+    on_err_anyway _ (lines_part margin_shape c.args.scale c.args.s.now (c.loop-i.i - 1) c.knot.result c.knot-in-loop-i.result c.args.text.now c.loop-i.text _
     c.knot.ensures (subst (λ n. slice_get c.args.s.now n ≡ Some c.knot-in-loop-i.result) next c.knot-in-loop-i.ensures)
     c.loop-i.invariant c.in_err-put_next.ensures.err)
 

@@ -1,10 +1,10 @@
 use Rattle.std.proofs.lemmas.Result.{on_ok_weaker, on_err_weaker}
+use Rattle.rational.proofs.Lists.{on_err_anyway}
 use Rattle.value_laws.specs.Kinds.{margin_shape}
 use Rattle.pl_signal.specs.Plain.{plain_knot, knots_of}
 use Rattle.stl_syntax.specs.Texts.{IsKnotLine, AreMarginLines}
 use Rattle.report.specs.Appended.{Then}
 use Rattle.report.specs.MarginLines.{AreLaterLines}
-use Rattle.report.proofs.Parts.{on_err}
 use Rattle.report.proofs.Growths.{grew_then, grew_as, part_then, part_first, part_as}
 use Rattle.report.proofs.MarginTexts.{margin_lines, later_exist, knot_within}
 use Rattle.report.proofs.margin.put_margins.Goals as goal
@@ -19,7 +19,7 @@ returns-in_err-put_first-clause-err c =
     let s = c.args.scale in
     let ks = c.args.s.now in
     let Line = IsKnotLine s (plain_knot f c.knot.result) in
-    on_err _ (part_as (Then Line (AreLaterLines f s ks)) (AreMarginLines s (knots_of f ks)) c.args.text.now _ (margin_lines f s ks c.knot.result c.knot.ensures)
+    on_err_anyway _ (part_as (Then Line (AreLaterLines f s ks)) (AreMarginLines s (knots_of f ks)) c.args.text.now _ (margin_lines f s ks c.knot.result c.knot.ensures)
     (part_first Line (AreLaterLines f s ks) c.args.text.now _ c.in_err-put_first.ensures.err (later_exist f s ks c.knot.result c.knot.ensures)))
 
 pub returns-clause-ok : goal.returns-clause-ok

@@ -1,9 +1,9 @@
 use Rattle.std.proofs.Common.{refl}
 use Rattle.std.proofs.lemmas.Result.{on_ok_weaker, on_err_weaker}
+use Rattle.rational.proofs.Lists.{on_err_anyway}
 use Rattle.frac128.specs.Value.{value}
 use Rattle.stl_syntax.specs.Texts.{IsNumberText}
 use Rattle.report.specs.Appended.{Is}
-use Rattle.report.proofs.Parts.{on_err}
 use Rattle.report.proofs.Growths.{grew_is, part_none, grew_then, part_then, part_first}
 use Rattle.report.proofs.Lines.{number_exists}
 use Rattle.report.proofs.MarginTexts.{number_ok, number_err}
@@ -14,7 +14,7 @@ returns-in_err-push-clause-err c =
     let lead = c.args.lead.now in
     let old = c.args.text.now in
     let new = c.push.new.self in
-    on_err c.from_residual.result
+    on_err_anyway c.from_residual.result
     (part_first (Is lead) (IsNumberText c.args.digits (value c.args.t.now)) old new (part_none (Is lead) old new (lead, refl) c.in_err-push.ensures.err)
     (number_exists c.args.digits (value c.args.t.now)))
 

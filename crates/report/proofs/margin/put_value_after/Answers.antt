@@ -1,11 +1,11 @@
 use Rattle.std.proofs.Common.{refl}
 use Rattle.std.proofs.lemmas.Result.{on_ok_weaker, on_err_weaker}
 use Rattle.rational.specs.Extended.{value_at}
+use Rattle.rational.proofs.Lists.{on_err_anyway}
 use Rattle.frac128.specs.Value.{value}
 use Rattle.value_laws.specs.Margins.{margin_function}
 use Rattle.stl_syntax.specs.Texts.{IsValueText}
 use Rattle.report.specs.Appended.{Is}
-use Rattle.report.proofs.Parts.{on_err}
 use Rattle.report.proofs.Growths.{grew_is, part_none, grew_then, part_then, part_first}
 use Rattle.report.proofs.MarginTexts.{value_exists}
 use Rattle.report.proofs.margin.put_value_after.Goals as goal
@@ -16,7 +16,7 @@ returns-in_err-push-clause-err c =
     let old = c.args.text.now in
     let new = c.push.new.self in
     let v = value_at (margin_function c.args.m.now) (value c.args.at.now) in
-    on_err c.from_residual.result
+    on_err_anyway c.from_residual.result
     (part_first (Is lead) (IsValueText c.args.digits v) old new
     (part_none (Is lead) old new (lead, refl) c.in_err-push.ensures.err) (value_exists c.args.digits v))
 

@@ -3,6 +3,7 @@ use Rattle.std.specs.Prelude.{slice_get}
 use Rattle.std.proofs.lemmas.List.{length-replicate}
 use Rattle.std.proofs.lemmas.Result.{on_ok_weaker, on_err_weaker}
 use Rattle.rational.specs.Time.{closed}
+use Rattle.rational.proofs.Lists.{on_err_anyway}
 use Rattle.value_laws.specs.Kinds.{truth_shape}
 use Rattle.pl_signal.specs.Knots.{start, stop, IsWorth}
 use Rattle.pl_signal.proofs.Values.{next_rises}
@@ -10,7 +11,6 @@ use Rattle.stl_syntax.specs.declared.items.Verdict.{Verdict}
 use Rattle.report.specs.SignalVerdicts.{DescribesFunction}
 use Rattle.report.specs.Spelling.{listed}
 use Rattle.report.specs.VerdictForms.{IsEntry}
-use Rattle.report.proofs.Parts.{on_err}
 use Rattle.report.proofs.Lines.{entries_all, entries_part, entries_part_last}
 use Rattle.report.proofs.Sequences.{each_grow}
 use Rattle.report.proofs.Advances.{IsSpelledTo, spelled_start, room_to, spelled_advance, spelled_stop, stop_room, told_to_end}
@@ -72,7 +72,7 @@ pub returns-in_err-put_ended-clause-err : goal.returns-in_err-put_ended-clause-e
 returns-in_err-put_ended-clause-err c =
     let f = (goal.at.returns-in_err-put_ended-clause-err c).After-advance-by_gap in
     let end = to_end f in
-    on_err c.from_residual.result
+    on_err_anyway c.from_residual.result
     (entries_part truth_shape c.args.style.json c.args.style.scale c.args.s.now (vs f) (gap f)
     (point f ++ end.0) end.1 c.args.text.now c.loop-i.text c.put_ended.new.text
     (subst (λ ws. DescribesFunction (IsWorth truth_shape c.args.s.now) ws (closed (start c.args.s.now) (stop c.args.s.now)))
@@ -83,7 +83,7 @@ pub returns-in_err-put_ended-2-clause-err : goal.returns-in_err-put_ended-2-clau
 returns-in_err-put_ended-2-clause-err c =
     let f = (goal.at.returns-in_err-put_ended-2-clause-err c).After-advance-by_gap in
     let end = to_end f in
-    on_err c.from_residual-in_err-put_ended-2.result
+    on_err_anyway c.from_residual-in_err-put_ended-2.result
     (entries_part truth_shape c.args.style.json c.args.style.scale c.args.s.now (vs f ++ gap f)
     (point f) end.0 end.1 c.args.text.now c.put_ended.new.text c.put_ended-in-loop-i.new.text
     (subst (λ ws. DescribesFunction (IsWorth truth_shape c.args.s.now) ws (closed (start c.args.s.now) (stop c.args.s.now)))

@@ -1,10 +1,10 @@
 use Rattle.std.proofs.Common.{◌≤◌, length, take, [], append-nil, refl, sym, subst, arith}
+use Rattle.rational.proofs.Lists.{on_err_anyway}
 use Rattle.value_laws.specs.Kinds.{margin_shape}
 use Rattle.pl_signal.specs.Plain.{knots_of}
 use Rattle.report.specs.Appended.{Grew, AreEach}
 use Rattle.report.specs.Steps.{steps_of}
 use Rattle.report.specs.TableRows.{IsStepRow}
-use Rattle.report.proofs.Parts.{on_err}
 use Rattle.report.proofs.Sequences.{each_before, each_between, each_all}
 use Rattle.report.proofs.StepLemmas.{steps_fewer}
 use Rattle.report.proofs.TableTexts.{step_row_exists}
@@ -18,7 +18,7 @@ returns-in_err-put_block-clause-err c =
     let P = IsStepRow c.args.scale in
     let steps = steps_of (knots_of margin_shape c.args.s.now) in
     let before = subst (Grew (AreEach P (take c.loop-from.from steps)) c.args.text.now) (sym c.in_err-put_block.ensures.err) c.loop-from.invariant.1 in
-    on_err _ (each_before P (step_row_exists c.args.scale) c.loop-from.from steps c.args.text.now c.put_block.new.text before)
+    on_err_anyway _ (each_before P (step_row_exists c.args.scale) c.loop-from.from steps c.args.text.now c.put_block.new.text before)
 
 pub loop-from-preserved : goal.loop-from-preserved
 loop-from-preserved c =

@@ -4,11 +4,11 @@ use Rattle.csv.specs.Writing.{row_text, default_writer}
 use Rattle.value_laws.specs.Kinds.{margin_shape}
 use Rattle.pl_signal.specs.Plain.{knots_of, plain_knot}
 use Rattle.rational.specs.Knots.{last_knot}
+use Rattle.rational.proofs.Lists.{on_err_anyway}
 use Rattle.report.specs.Appended.{Grew, AreEach, Then, Is}
 use Rattle.report.specs.Steps.{steps_of}
 use Rattle.report.specs.Table.{IsTableText, heading}
 use Rattle.report.specs.TableRows.{IsStepRow, IsLastRow}
-use Rattle.report.proofs.Parts.{on_err}
 use Rattle.report.proofs.Growths.{grew_is, grew_then, grew_as, part_none, part_then, part_first, part_as}
 use Rattle.report.proofs.MarginTexts.{knot_within}
 use Rattle.report.proofs.StepLemmas.{last_is}
@@ -24,7 +24,7 @@ last_row c = last_is margin_shape c.args.s.now (c.len-last.result - 1) c.knot.re
 pub returns-in_err-put_row-clause-err : goal.returns-in_err-put_row-clause-err
 returns-in_err-put_row-clause-err c =
     let knots = knots_of margin_shape c.args.s.now in
-    on_err _ (part_none (IsTableText c.args.scale knots) c.args.text.now c.put_row.new.text (table_exists c.args.scale knots) c.in_err-put_row.ensures.err)
+    on_err_anyway _ (part_none (IsTableText c.args.scale knots) c.args.text.now c.put_row.new.text (table_exists c.args.scale knots) c.in_err-put_row.ensures.err)
 
 pub returns-in_err-put_steps-clause-err : goal.returns-in_err-put_steps-clause-err
 returns-in_err-put_steps-clause-err c =
@@ -36,7 +36,7 @@ returns-in_err-put_steps-clause-err c =
     let old = c.args.text.now in
     let mid = c.put_row.new.text in
     let new = c.put_steps.new.text in
-    on_err _ (part_as (TableParts s knots) (IsTableText s knots) old new (table_text s knots)
+    on_err_anyway _ (part_as (TableParts s knots) (IsTableText s knots) old new (table_text s knots)
     (part_first (Then Head Body) (IsLastRow s last) old new
     (part_then Head Body old mid new (grew_is (row_text default_writer heading) old mid c.in_ok-put_row.ensures.ok) c.in_err-put_steps.ensures.err)
     (last_row_exists s last)))

@@ -1,6 +1,6 @@
 use Rattle.std.proofs.Common.{◌≡◌, ◌+◌, ◌++◌, ◌∷◌, sym, ap, ◌∙◌, length, take, drop, arith}
 use Rattle.std.proofs.lemmas.Slice.Eq.{bytes_eq-Decides}
-use Rattle.session_mux.proofs.LineTexts.{whole_drop}
+use Rattle.rational.proofs.Lists.{take_rest}
 use Rattle.session_mux.proofs.RunInputs.{line_parts}
 use Rattle.session_mux.proofs.run.after_tag.Goals as goal
 
@@ -9,4 +9,4 @@ returns-then-eq c =
     let t = c.args.tag.now in
     let line = c.args.line.now in
     line_parts t line (omega (arith, c.if-line-tag.false)) ((bytes_eq-Decides (take (length t) line) t).0 (sym c.eq.ensures ∙ c.if-eq.true))
-    c.if-line-tag-eq32.true ∙ ap (λ w. t ++ 32 ∷ w) (sym (whole_drop (length t + 1) line))
+    c.if-line-tag-eq32.true ∙ ap (λ w. t ++ 32 ∷ w) (sym (take_rest line (length t + 1)))

@@ -1,6 +1,6 @@
 use Rattle.std.proofs.Common.{◌≡◌, ℕ, List, ◌++◌, append_assoc, ap, sym, ◌∙◌, refl}
+use Rattle.rational.proofs.Lists.{on_err_anyway}
 use Rattle.report.specs.Appended.{GrewInPart, Is}
-use Rattle.report.proofs.Parts.{on_err}
 use Rattle.stl_syntax.specs.Texts.{newline}
 use Rattle.session_mux.proofs.saying.put_line.Goals as goal
 
@@ -20,9 +20,9 @@ after_mark old mid next new tag mark line e f k =
 
 pub returns-in_err-push-2-clause-err : goal.returns-in_err-push-2-clause-err
 returns-in_err-push-2-clause-err c =
-    on_err _ (after_tag c.args.out.now _ _ c.args.tag.now c.args.mark.now c.args.line.now c.in_ok-push.ensures.ok c.in_err-push-2.ensures.err)
+    on_err_anyway _ (after_tag c.args.out.now _ _ c.args.tag.now c.args.mark.now c.args.line.now c.in_ok-push.ensures.ok c.in_err-push-2.ensures.err)
 
 pub returns-in_err-push-3-clause-err : goal.returns-in_err-push-3-clause-err
 returns-in_err-push-3-clause-err c =
-    on_err _ (after_mark c.args.out.now _ _ _ c.args.tag.now c.args.mark.now c.args.line.now c.in_ok-push.ensures.ok
+    on_err_anyway _ (after_mark c.args.out.now _ _ _ c.args.tag.now c.args.mark.now c.args.line.now c.in_ok-push.ensures.ok
     c.in_ok-push-2.ensures.ok c.in_err-push-3.ensures.err)

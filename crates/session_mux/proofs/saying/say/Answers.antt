@@ -1,13 +1,9 @@
-use Rattle.std.proofs.Common.{◌≡◌, ◌++◌, sym, refl, List, ℕ, [], ◌∷◌, length, true, arith}
-use Rattle.std.proofs.lemmas.Bool.{eqb-true}
+use Rattle.std.proofs.Common.{◌++◌, sym}
 use Rattle.std.proofs.lemmas.Result.{err_from_is_err_and}
-use Rattle.std.specs.Prelude.{codes, ◌==◌}
+use Rattle.std.specs.Prelude.{codes}
+use Rattle.rational.proofs.Lists.{empty_of_test}
 use Rattle.session_mux.proofs.LineTexts.{saying_begins, saying_on, saying_cut, saying_stopped, saying_all, saying_kept}
 use Rattle.session_mux.proofs.saying.say.Goals as goal
-
-none_left : (rest : List ℕ) → (length rest == 0) ≡ true → rest ≡ []
-none_left [] e = refl
-none_left (c ∷ rest) e = absurd (omega (arith, eqb-true (length (c ∷ rest)) 0 e))
 
 pub loop-rest-init : goal.loop-rest-init
 loop-rest-init c = saying_begins (c.args.tag.now ++ codes " ") c.args.text.now c.args.out.now c.args.recent.now c.requires
@@ -30,7 +26,7 @@ loop-rest-preserved c =
 
 pub returns : goal.returns
 returns c =
-    let none = none_left c.loop-rest.rest.now (sym c.loop-rest-test.ensures) in record {
+    let none = empty_of_test c.loop-rest.rest.now (sym c.loop-rest-test.ensures) in record {
       added = saying_all (c.args.tag.now ++ codes " ") c.args.text.now c.args.out.now c.args.recent.now _ _ _ c.loop-rest.invariant none;
       kept = saying_kept (c.args.tag.now ++ codes " ") c.args.text.now c.args.out.now c.args.recent.now _ _ _ c.loop-rest.invariant none;
       room = c.loop-rest.invariant.capacity;

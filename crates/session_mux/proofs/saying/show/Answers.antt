@@ -1,25 +1,15 @@
-use Rattle.std.proofs.Common.{◌≡◌, ℕ, suc, ◌+◌, ◌++◌, ◌∷◌, [], List, take, drop, sym, ap, ◌∙◌, append_assoc, add-one, zero, Some, None}
+use Rattle.std.proofs.Common.{◌≡◌, ℕ, ◌+◌, ◌++◌, ◌∷◌, [], List, take, drop, sym, ap, ◌∙◌, append_assoc, add-one, Some}
 use Rattle.std.specs.Prelude.{codes, slice_get}
 use Rattle.std.proofs.lemmas.List.{append-nil, take-append-drop}
 use Rattle.std.proofs.lemmas.Grind.{flat_map-append}
+use Rattle.rational.proofs.Lists.{take_on, drop_on, on_err_anyway}
 use Rattle.report.specs.Appended.{GrewInPart, Is}
-use Rattle.report.proofs.Parts.{on_err}
-use Rattle.report.proofs.Sequences.{take_at}
 use Rattle.stl_syntax.specs.Texts.{newline}
 use Rattle.session_mux.specs.Saying.{prefixed_texts}
 use Rattle.session_mux.proofs.saying.show.Goals as goal
 
--- one item more of the front, and the items from there on
-take_one : {X : Type 0} (xs : List X) (i : ℕ) (x : X) → slice_get xs i ≡ Some x → take (i + 1) xs ≡ take i xs ++ x ∷ []
-take_one xs i x e = rw add-one (take_at xs i x e)
-
-drop_at : {X : Type 0} (xs : List X) (i : ℕ) (x : X) → slice_get xs i ≡ Some x → drop i xs ≡ x ∷ drop (suc i) xs
-drop_at [] i x e = absurd (let z : None ≡ Some x = e in cc)
-drop_at (y ∷ xs) zero x e = let z : Some y ≡ Some x = e in cc
-drop_at (y ∷ xs) (suc i) x e = drop_at xs i x e
-
 drop_one : {X : Type 0} (xs : List X) (i : ℕ) (x : X) → slice_get xs i ≡ Some x → drop i xs ≡ x ∷ drop (i + 1) xs
-drop_one xs i x e = rw add-one (drop_at xs i x e)
+drop_one xs i x e = rw add-one (drop_on xs i x e)
 
 module _ (prefix before mid : List ℕ) (all : List (List ℕ)) (i : ℕ) (line : List ℕ) (at : slice_get all i ≡ Some line)
     (so : mid ≡ before ++ prefixed_texts prefix (take i all)) where
@@ -27,7 +17,7 @@ module _ (prefix before mid : List ℕ) (all : List (List ℕ)) (i : ℕ) (line 
   shown_on after e =
       e ∙ ap (λ w. w ++ (prefix ++ line ++ newline)) so ∙ append_assoc before (prefixed_texts prefix (take i all)) (prefix ++ line ++ newline)
       ∙ ap (λ w. before ++ w) (ap (λ w. prefixed_texts prefix (take i all) ++ w) (sym (append-nil (prefix ++ line ++ newline)))
-      ∙ sym (ap (λ ts. prefixed_texts prefix ts) (take_one all i line at) ∙ flat_map-append (λ (l : List ℕ). prefix ++ l ++ newline) (take i all) (line ∷ [])))
+      ∙ sym (ap (λ ts. prefixed_texts prefix ts) (take_on all i line at) ∙ flat_map-append (λ (l : List ℕ). prefix ++ l ++ newline) (take i all) (line ∷ [])))
 
   shown_cut : (after : List ℕ) → GrewInPart (Is (prefix ++ line ++ newline)) mid after → GrewInPart (Is (prefixed_texts prefix all)) before after
   shown_cut after (a, b, whole, k) = (
@@ -43,7 +33,7 @@ module _ (prefix before mid : List ℕ) (all : List (List ℕ)) (i : ℕ) (line 
 
 pub returns-in_err-put_line-clause-err : goal.returns-in_err-put_line-clause-err
 returns-in_err-put_line-clause-err c =
-    on_err _ (shown_cut (c.args.tag.now ++ codes " ? ") c.args.out.now _ c.args.recent.now.items c.loop-place.place _
+    on_err_anyway _ (shown_cut (c.args.tag.now ++ codes " ? ") c.args.out.now _ c.args.recent.now.items c.loop-place.place _
     (sym c.in-Some.ensures ∙ ap Some (sym c.bytes.ensures)) c.loop-place.invariant _ c.in_err-put_line.ensures.err)
 
 pub loop-place-preserved : goal.loop-place-preserved

@@ -1,5 +1,5 @@
 use Rattle.std.proofs.Common.{inl, inr, ◌+◌, arith}
-use Rattle.session_mux.proofs.LineTexts.{whole_drop}
+use Rattle.rational.proofs.Lists.{take_rest}
 use Rattle.session_mux.proofs.TagLemmas.{no_tag, no_space, whole_tag, tag_and_content}
 use Rattle.session_mux.proofs.tag.cut.Goals as goal
 use Rattle.session_mux.proofs.tag.cut.Goals.{then-len-eq0-via-then-len-eq0, then-len-eq0-via-else-len-eq0+then-len-gt-LONGEST}
@@ -18,7 +18,7 @@ pub returns-then-len-line : goal.returns-then-len-line
 returns-then-len-line c =
     whole_tag c.args.line.now _ c.tag_len-len.result c.tag_len-len.ensures.front
     (omega (arith, c.if-len-line.true)) c.if-len-eq0.false (omega (arith, c.if-len-gt-LONGEST.false))
-    (whole_drop c.tag_len-len.result c.args.line.now)
+    (take_rest c.args.line.now c.tag_len-len.result)
 
 pub returns-then-line-len-ne32 : goal.returns-then-line-len-ne32
 returns-then-line-len-ne32 c =
@@ -29,4 +29,4 @@ pub returns : goal.returns
 returns c =
     tag_and_content c.args.line.now _ c.tag_len-len.result c.tag_len-len.ensures.front (omega arith) c.if-len-eq0.false
     (omega (arith, c.if-len-gt-LONGEST.false)) c.if-line-len-ne32.false
-    (whole_drop (c.tag_len-len.result + 1) c.args.line.now)
+    (take_rest c.args.line.now (c.tag_len-len.result + 1))

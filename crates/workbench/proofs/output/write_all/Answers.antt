@@ -1,6 +1,7 @@
 use Rattle.std.proofs.Common.{◌+◌, ◌≤◌, length, drop, arith, length-drop, refl, ◌∙◌}
 use Rattle.std.proofs.KnownBytes.{Appends-nil}
-use Rattle.workbench.proofs.Devices.{part_at, part_err, cause_err, next_take, rest_is, whole}
+use Rattle.rational.proofs.Lists.{take_rest}
+use Rattle.workbench.proofs.Devices.{part_at, part_err, cause_err, next_take, whole}
 use Rattle.workbench.proofs.output.write_all.Goals as goal
 
 pub loop-at-init : goal.loop-at-init
@@ -19,7 +20,7 @@ returns-in_err-at-clause-cause g c =
 pub loop-at-preserved : goal.loop-at-preserved
 loop-at-preserved g c =
     let now = c.in_ok-at.ensures in
-    let rest = rest_is c.args.text.now c.loop-at.at in
+    let rest = take_rest c.args.text.now c.loop-at.at in
     let cause = now.cause.still in
     let bound : c.in_ok-at.field-0 ≤ length (drop c.loop-at.at c.args.text.now) = rw rest at now.bound in
     let within : c.loop-at.at + c.in_ok-at.field-0 ≤ length c.args.text.now = omega (arith, length-drop c.loop-at.at c.args.text.now) in

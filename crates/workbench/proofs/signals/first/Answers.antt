@@ -1,6 +1,7 @@
-use Rattle.std.proofs.Common.{◌∙◌}
-use Rattle.workbench.proofs.CaseSignals.{no_row, first_is}
+use Rattle.std.proofs.Common.{◌∙◌, sym}
+use Rattle.stl_syntax.proofs.RowsLemmas.{first_time_at}
+use Rattle.workbench.proofs.CaseSignals.{no_row}
 use Rattle.workbench.proofs.signals.first.Goals as goal
 
 pub returns : goal.returns
-returns c = c.time.ensures no_row ∙ first_is c.args.trace.now.rows c.requires
+returns c = c.time.ensures no_row ∙ sym (first_time_at c.args.trace.now.rows no_row c.requires)

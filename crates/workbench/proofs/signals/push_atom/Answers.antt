@@ -1,8 +1,8 @@
 use Rattle.std.proofs.Common.{◌≡◌, ◌∙◌, ap, sym, arith}
+use Rattle.std.proofs.lemmas.Option.{same_Some}
 use Rattle.stl_syntax.specs.Formula.{atom, subformula, tree_of}
 use Rattle.stl_syntax.specs.Trace.{first_time, last_time}
 use Rattle.stl_syntax.specs.declared.node.Node.TheVariants.{Atom as Leaf}
-use Rattle.pl_signal.proofs.Values.{some_is}
 use Rattle.workbench.specs.Answering.{setting_of}
 use Rattle.workbench.proofs.CaseSignals.{atom_input, atom_tells, over_ends}
 use Rattle.workbench.proofs.signals.push_atom.Goals as goal
@@ -20,7 +20,7 @@ returns-in-Ok-clause-after g c =
     let a = c.requires.atom.0 in
     let at = c.requires.atom.1 in
     let rows = c.rows.ensures.trace (let e = c.rows.ensures.count in let some = c.requires.some in omega arith) in
-    let node : c.node.result.now ≡ Leaf a = some_is (sym c.node.ensures.node ∙ at) in
+    let node : c.node.result.now ≡ Leaf a = same_Some _ _ (sym c.node.ensures.node ∙ at) in
     let sub : subformula nodes i ≡ atom i a = c.node.ensures.subformula ∙ ap (tree_of (subformula nodes) i) node in
     let from = first_time case.trace.rows in
     let to = last_time 0 case.trace.rows in

@@ -1,5 +1,5 @@
 use Rattle.std.proofs.Common.{◌≡◌, ◌∙◌, Some, false, ap, sym, subst}
-use Rattle.pl_signal.proofs.Values.{some_is}
+use Rattle.std.proofs.lemmas.Option.{same_Some}
 use Rattle.offline_eval.specs.Inputs.{is_atom}
 use Rattle.offline_eval.proofs.Places.{not_atom}
 use Rattle.workbench.proofs.signals.put_node.Goals as goal
@@ -9,4 +9,4 @@ put_atom-requires-clause-atom g c = (c.in-Atom.field-0, c.node.ensures.node ∙ 
 
 pub put_made-requires-clause-kind : goal.put_made-requires-clause-kind
 put_made-requires-clause-kind g c n at =
-    subst (λ m. is_atom m ≡ false) (some_is (sym c.node.ensures.node ∙ at)) (not_atom c.node.result.now c.in_default.not-Atom)
+    subst (λ m. is_atom m ≡ false) (same_Some _ _ (sym c.node.ensures.node ∙ at)) (not_atom c.node.result.now c.in_default.not-Atom)

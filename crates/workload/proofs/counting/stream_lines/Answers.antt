@@ -1,21 +1,22 @@
-use Rattle.std.proofs.Common.{◌≡◌, ◌+◌, ◌-◌, ◌<◌, ◌≤◌, length, drop, get_or, pos, ap, ◌∙◌, subst, arith, to_z, w64}
+use Rattle.std.proofs.Common.{◌≡◌, ◌+◌, ◌-◌, ◌<◌, ◌≤◌, length, drop, get_or, pos, ap, ◌∙◌, subst, arith, to_z, w64, sym}
 use Rattle.std.proofs.lemmas.Int.{to_z_pos}
 use Rattle.std.proofs.lemmas.List.{length-drop}
 use Rattle.rational.specs.Time.{whole, ◌≈◌}
 use Rattle.frac128.specs.Value.{value}
 use Rattle.stl_syntax.specs.Trace.{first_time}
+use Rattle.stl_syntax.proofs.RowsLemmas.{first_time_at}
 use Rattle.workload.specs.Counting.{line_count}
 use Rattle.workload.specs.Passing.{Walks}
 use Rattle.workload.proofs.LineCounts.{count_join}
 use Rattle.workload.proofs.Walking.{streamed}
-use Rattle.workload.proofs.Passed.{HasWalked, walked_early, walked_front, walked_all, no_row, first_is}
+use Rattle.workload.proofs.Passed.{HasWalked, walked_early, walked_front, walked_all, no_row}
 use Rattle.workload.proofs.counting.stream_lines.Goals as goal
 
 pub loop-row-preserved-then-from-due : goal.loop-row-preserved-then-from-due
 loop-row-preserved-then-from-due c =
     let rows = c.args.trace.now.rows in
     let at = c.time-time.ensures no_row in
-    let begin = first_is rows no_row c.requires.some in
+    let begin = sym (first_time_at rows no_row c.requires.some) in
     let first = c.time.ensures no_row in
     let soon : (get_or rows c.loop-row.row no_row).time < first_time rows + c.args.horizon =
     omega (arith, at, begin, first, c.from.ensures, c.from-in-loop-row.ensures, c.if-from-due.true) in
@@ -30,7 +31,7 @@ pub loop-row-preserved : goal.loop-row-preserved
 loop-row-preserved c =
     let rows = c.args.trace.now.rows in
     let at = c.time-time.ensures no_row in
-    let begin = first_is rows no_row c.requires.some in
+    let begin = sym (first_time_at rows no_row c.requires.some) in
     let first = c.time.ensures no_row in
     let due : first_time rows + c.args.horizon ≤ (get_or rows c.loop-row.row no_row).time =
     omega (arith, at, begin, first, c.from.ensures, c.from-in-loop-row.ensures, c.if-from-due.false) in

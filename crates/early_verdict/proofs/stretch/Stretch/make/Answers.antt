@@ -1,8 +1,7 @@
 use Rattle.std.proofs.Common.{◌^◌}
 use Rattle.frac128.specs.Cuts.{place}
-use Rattle.rational.proofs.PlaceLemmas.{before_through}
-use Rattle.early_verdict.proofs.MakingLemmas.{after_from, after_one, upto_one, near_between}
-use Rattle.early_verdict.proofs.StretchLemmas.{room_of_before}
+use Rattle.rational.proofs.PlaceLemmas.{before_through, after_at_most, room_of_before}
+use Rattle.early_verdict.proofs.MakingLemmas.{after_one, upto_one, near_between}
 use Rattle.early_verdict.proofs.stretch.Stretch.make.Goals as goal
 
 pub returns-then-not-precedes-clause-none : goal.returns-then-not-precedes-clause-none
@@ -27,10 +26,10 @@ invariant_of-result c =
 pub returns-clause-some : goal.returns-clause-some
 returns-clause-some c t = (
   λ h. (
-    after_from (place c.args.from) (place c.later-from.result) t c.later-from.ensures.first h.0,
+    after_at_most (place c.args.from) (place c.later-from.result) t c.later-from.ensures.first h.0,
     c.earlier-to.ensures.first t h.1,
     (
-      after_from (place c.args.bounds.now.from) (place c.later-from.result) t c.later-from.ensures.second h.0,
+      after_at_most (place c.args.bounds.now.from) (place c.later-from.result) t c.later-from.ensures.second h.0,
       c.earlier-to.ensures.second t h.1,
     ),
   ),

@@ -6,8 +6,7 @@ use Rattle.rational.proofs.Order.{same_sym}
 use Rattle.rational.proofs.Mixed.{within_same, within_more, within_whole}
 use Rattle.rational.specs.Places.{Place, Same}
 use Rattle.frac128.specs.Cuts.{place}
-use Rattle.rational.proofs.PlaceLemmas.{same_before, before_same, same_places}
-use Rattle.early_verdict.proofs.StretchLemmas.{room_of_before}
+use Rattle.rational.proofs.PlaceLemmas.{same_before, before_same, same_places, room_of_before}
 use Rattle.early_verdict.proofs.TickLemmas.{ticks_rise}
 use Rattle.early_verdict.proofs.stretch.Stretch.over.Goals as goal
 

@@ -5,7 +5,8 @@ use Rattle.frac128.specs.Value.{value}
 use Rattle.rational.specs.Places.{moved_end, Same}
 use Rattle.frac128.specs.Cuts.{place}
 use Rattle.rational.proofs.PlaceLemmas.{upto_same, same_places}
-use Rattle.early_verdict.proofs.WindowLemmas.{near_fits, move_fits, begins_before}
+use Rattle.rational.proofs.Mixed.{move_fits}
+use Rattle.early_verdict.proofs.WindowLemmas.{near_fits, begins_before}
 use Rattle.early_verdict.proofs.window.Window.before_low.Goals as goal
 
 pub shift_end-requires : goal.shift_end-requires

@@ -5,7 +5,8 @@ use Rattle.frac128.specs.Value.{value}
 use Rattle.rational.specs.Places.{moved_begin, Same}
 use Rattle.frac128.specs.Cuts.{place}
 use Rattle.rational.proofs.PlaceLemmas.{after_same, same_places}
-use Rattle.early_verdict.proofs.WindowLemmas.{near_fits, move_fits, ends_past}
+use Rattle.rational.proofs.Mixed.{move_fits}
+use Rattle.early_verdict.proofs.WindowLemmas.{near_fits, ends_past}
 use Rattle.early_verdict.proofs.window.Window.past_high.Goals as goal
 
 pub shift_begin-requires : goal.shift_begin-requires

@@ -1,5 +1,6 @@
 use Rattle.std.proofs.Common.{◌≡◌, ◌<◌, Bool, true, false, Some, List, [], ◌∷◌, ◌++◌, length, refl, sym, ap, subst, ◌∙◌, arith}
 use Rattle.std.specs.Prelude.{slice_get, IsTrue}
+use Rattle.rational.proofs.Lists.{slice_get-set_same, slice_get-set_other}
 use Rattle.stl_syntax.specs.Trace.{Header}
 use Rattle.stl_syntax.specs.declared.node.Node.{Node}
 use Rattle.online_nodes.specs.Network.{Event, step, state, IsReady}
@@ -8,7 +9,7 @@ use Rattle.std.specs.Prelude.{slice_set}
 use Rattle.std.proofs.lemmas.List.{length-set}
 use Rattle.online_net.proofs.Saying.{found}
 use Rattle.online_net.proofs.Stepping.{atom_unready, belongs_now, idle_stands, kept_operator, moved_stands, no_operator}
-use Rattle.online_net.proofs.Stepping.{none_ready, set_here, set_other, step_by, unmoved_parts, unready_by}
+use Rattle.online_net.proofs.Stepping.{none_ready, step_by, unmoved_parts, unready_by}
 use Rattle.online_net.specs.contracts.net.Net.{the_view}
 use Rattle.online_net.proofs.net.Net.step.Goals as goal
 
@@ -91,8 +92,8 @@ invariant_of-self-in-Ok-1 c running = by_moved c.in-Ok.moved refl
           w.2 ++ step c.args.node ∷ [],
           moved_stands w.0 w.1 w.2 net w.3 c.args.node c.in-Some-index_mut.operator c.step_one.new.operator c.in-Some.row c.step_one.new.edges
               (slice_set net.operators c.args.node (Some c.step_one.new.operator)) at c.in-Some.is x
-              (length-set net.operators c.args.node (Some c.step_one.new.operator)) (set_here net.operators c.args.node (Some c.step_one.new.operator) l)
-              (set_other net.operators c.args.node (Some c.step_one.new.operator)),
+              (length-set net.operators c.args.node (Some c.step_one.new.operator)) (slice_get-set_same net.operators c.args.node (Some c.step_one.new.operator) l)
+              (λ j. slice_get-set_other net.operators c.args.node j (Some c.step_one.new.operator)),
         )
     by_moved false is = (
       w.0,
@@ -167,5 +168,5 @@ returns-clause-stands c nodes header events st other =
     c.time-now.result c.in-Ok.moved c.time-now.ensures answer some in
     moved_stands nodes header events net now c.args.node c.in-Some-index_mut.operator c.step_one.new.operator c.in-Some.row c.step_one.new.edges
     (slice_set net.operators c.args.node (Some c.step_one.new.operator)) at c.in-Some.is x
-    (length-set net.operators c.args.node (Some c.step_one.new.operator)) (set_here net.operators c.args.node (Some c.step_one.new.operator) l)
-    (set_other net.operators c.args.node (Some c.step_one.new.operator))
+    (length-set net.operators c.args.node (Some c.step_one.new.operator)) (slice_get-set_same net.operators c.args.node (Some c.step_one.new.operator) l)
+    (λ j. slice_get-set_other net.operators c.args.node j (Some c.step_one.new.operator))

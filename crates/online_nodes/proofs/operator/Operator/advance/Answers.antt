@@ -1,19 +1,11 @@
 use Rattle.std.proofs.Common.{rules, arith, ◌≡◌, ◌∙◌, refl, sym, subst, ℕ, ◌+◌, ◌*◌, ◌<◌, ◌≤◌, ℤ, pos, ◌≤ℤ◌, ◌<ℤ◌, to_z, of_z, w64}
 use Rattle.std.proofs.lemmas.Int.{ints, to_z-of_z}
+use Rattle.rational.proofs.Lists.{on_err_anyway}
 use Rattle.stl_syntax.specs.Trace.{first_time}
 use Rattle.online_nodes.specs.Network.{state}
 use Rattle.online_nodes.specs.Held.{edge_at, with_edge, with_number}
 use Rattle.online_nodes.proofs.BelongLemmas.{held_is, own_edge}
-use Rattle.online_nodes.proofs.IdleLemmas.{
-  err_any,
-  here_due,
-  idle_stands,
-  idle_stepped,
-  low_stands,
-  low_stepped,
-  situation,
-  start_is,
-}
+use Rattle.online_nodes.proofs.IdleLemmas.{here_due, idle_stands, idle_stepped, low_stands, low_stepped, situation, start_is}
 use Rattle.online_nodes.proofs.ReadLemmas.{allowed_by_now}
 use Rattle.online_nodes.proofs.SteppedLemmas.{belongs_after}
 use Rattle.online_nodes.proofs.operator.Operator.advance.Goals as goal
@@ -91,7 +83,7 @@ step_to-requires c =
 
 pub returns-in_err-step_to-clause-memory : goal.returns-in_err-step_to-clause-memory
 returns-in_err-step_to-clause-memory c = λ nodes header events b.
-    err_any c.from_residual.result
+    on_err_anyway c.from_residual.result
     (subst (λ (n : ℕ). c.args.edges.now.spare < 2 * n + 2) (held_is b) c.in_err-step_to.ensures.memory)
 
 pub returns-clause-stepped : goal.returns-clause-stepped

@@ -5,7 +5,8 @@ use Rattle.frac128.specs.Cuts.{place}
 use Rattle.online_nodes.specs.Written.{HasTold, waiting}
 use Rattle.online_nodes.proofs.GotLemmas.{got_none}
 use Rattle.rational.proofs.PlaceLemmas.{same_before, before_trans}
-use Rattle.online_nodes.proofs.Writing.{first_told, same_told, turned, same_bool, other_bool, sound_first, sound_later}
+use Rattle.rational.proofs.Tests.{same_of_beq}
+use Rattle.online_nodes.proofs.Writing.{first_told, same_told, turned, other_bool, sound_first, sound_later}
 use Rattle.online_nodes.proofs.writer.Out.go_on.Goals as goal
 
 pub returns-in_default-clause-written : goal.returns-in_default-clause-written
@@ -37,7 +38,7 @@ returns-in_default-clause-written c =
 
 pub returns-then-before-holds-clause-written : goal.returns-then-before-holds-clause-written
 returns-then-before-holds-clause-written c =
-    let is : c.args.self.holds ≡ Some c.args.holds = c.in-Some.is ∙ ap Some (same_bool _ _ c.if-before-holds.true) in
+    let is : c.args.self.holds ≡ Some c.args.holds = c.in-Some.is ∙ ap Some (same_of_beq _ _ c.if-before-holds.true) in
     let next : Out = record {
       edge = c.args.self.edge;
       from = c.args.self.from;

@@ -1,6 +1,7 @@
 use Rattle.std.proofs.Common.{sym, ap, ◌∙◌, arith}
+use Rattle.rational.proofs.Lists.{empty_of_none}
 use Rattle.online_robust.specs.Held.{edges_of}
-use Rattle.online_robust.proofs.EdgesLemmas.{numbered, take_seen_changes, take_fresh_changes, empty_of_none}
+use Rattle.online_robust.proofs.EdgesLemmas.{numbered, take_seen_changes, take_fresh_changes}
 use Rattle.online_robust.proofs.edges.Edges.skip.Goals as goal
 
 pub overflow_mul-edge : goal.overflow_mul-edge

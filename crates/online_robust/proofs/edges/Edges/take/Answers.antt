@@ -1,14 +1,7 @@
 use Rattle.std.proofs.Common.{sym, ap, ◌∙◌, arith, slice_get}
+use Rattle.rational.proofs.Lists.{empty_of_none, slice_get-append_left}
 use Rattle.online_robust.specs.Held.{edges_of, held_of}
-use Rattle.online_robust.proofs.EdgesLemmas.{
-  numbered,
-  edge_at-edges_of,
-  take_seen_changes,
-  take_fresh_changes,
-  first_of_both,
-  first_of_first,
-  empty_of_none,
-}
+use Rattle.online_robust.proofs.EdgesLemmas.{numbered, edge_at-edges_of, take_seen_changes, take_fresh_changes, first_of_both}
 use Rattle.online_robust.proofs.edges.Edges.take.Goals as goal
 
 pub overflow_mul-edge : goal.overflow_mul-edge
@@ -33,7 +26,7 @@ pub returns-in-Some-clause-first : goal.returns-in-Some-clause-first
 returns-in-Some-clause-first c =
     let h = numbered _ _ _ c.self.invariant (rw (← c.self.view_is) at c.requires) in
     rw (← c.self.view_is)
-    (sym (ap (λ x. slice_get (held_of x) 0) (edge_at-edges_of _ _ _ h.within) ∙ first_of_first _ _ _ (sym c.in-Some.ensures.first)))
+    (sym (ap (λ x. slice_get (held_of x) 0) (edge_at-edges_of _ _ _ h.within) ∙ slice_get-append_left _ _ 0 _ (sym c.in-Some.ensures.first)))
 
 pub returns-in-Some-clause-taken : goal.returns-in-Some-clause-taken
 returns-in-Some-clause-taken c =

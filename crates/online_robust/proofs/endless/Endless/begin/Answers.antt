@@ -2,15 +2,15 @@ use Rattle.std.proofs.Common.{rules, ◌≡◌, pos, to_z, of_z, refl, sym, subs
 use Rattle.std.specs.Int.{w64}
 use Rattle.std.specs.Prelude.{Option, Some}
 use Rattle.std.proofs.lemmas.Int.{to_z-of_z}
+use Rattle.std.proofs.lemmas.Option.{same_Some}
 use Rattle.rational.specs.Rational.{◌≈◌, whole}
+use Rattle.rational.proofs.Lists.{on_err_anyway}
 use Rattle.frac128.specs.Value.{value}
 use Rattle.online_robust.specs.Steps.{begin_of}
 use Rattle.online_robust.specs.Waiting.{IsBegunPast}
 use Rattle.online_robust.specs.Refusing.{told_by}
-use Rattle.pl_signal.proofs.Kept.{on_err_anyway}
 use Rattle.online_robust.proofs.EndlessTurns.{may_begin, step_edges, step_fault, step_stands, step_told}
 use Rattle.online_robust.proofs.PastBridging.{own, scope_of}
-use Rattle.pl_signal.proofs.Values.{some_is}
 use Rattle.online_robust.proofs.endless.Endless.begin.Goals as goal
 
 pub unreachable-requires : goal.unreachable-requires
@@ -23,7 +23,7 @@ sweep-requires-clause-can c =
     let (t, b) = c.requires.belongs in
     let to : to_z w64 (of_z w64 c.from.result) ≡ pos c.args.to = search (rules, to_z-of_z) in
     let end : value c.of-end.result ≈ whole (pos c.args.to) = subst (λ n. value c.of-end.result ≈ whole n) to c.of-end.ensures.value in
-    let first : c.in-Some.start ≡ begin_of t = some_is (sym c.in-Some.is ∙ c.start.ensures ∙ b.start) in
+    let first : c.in-Some.start ≡ begin_of t = same_Some _ _ (sym c.in-Some.is ∙ c.start.ensures ∙ b.start) in
     let new = subst (λ n. IsBegunPast c.args.self.now.window n c.args.self.now.silent.last c.begun-past.result) first c.begun-past.ensures in
     let m = may_begin t c.args.self.now c.args.edges.now c.args.to b c.begun-past.result (value c.of-end.result) end c.requires.none c.requires.some new in
     (scope_of t c.args.self.now c.args.edges.now c.args.to b (value c.begun-past.result.at), own t c.args.self.now c.args.edges.now c.args.to b, m.from, m.can)
@@ -32,7 +32,7 @@ pub returns-in_err-swept-clause-wide : goal.returns-in_err-swept-clause-wide
 returns-in_err-swept-clause-wide c = λ t b.
     let to : to_z w64 (of_z w64 c.from.result) ≡ pos c.args.to = search (rules, to_z-of_z) in
     let end : value c.of-end.result ≈ whole (pos c.args.to) = subst (λ n. value c.of-end.result ≈ whole n) to c.of-end.ensures.value in
-    let first : c.in-Some.start ≡ begin_of t = some_is (sym c.in-Some.is ∙ c.start.ensures ∙ b.start) in
+    let first : c.in-Some.start ≡ begin_of t = same_Some _ _ (sym c.in-Some.is ∙ c.start.ensures ∙ b.start) in
     let new = subst (λ n. IsBegunPast c.args.self.now.window n c.args.self.now.silent.last c.begun-past.result) first c.begun-past.ensures in
     let m = may_begin t c.args.self.now c.args.edges.now c.args.to b c.begun-past.result (value c.of-end.result) end c.requires.none c.requires.some new in
     let h = step_fault t c.args.self.now c.args.edges.now c.args.to b c.begun-past.result (value c.of-end.result) end m (told_by c.sweep.new.fault)
@@ -44,7 +44,7 @@ pub returns-clause-told : goal.returns-clause-told
 returns-clause-told c = λ t b.
     let to : to_z w64 (of_z w64 c.from.result) ≡ pos c.args.to = search (rules, to_z-of_z) in
     let end : value c.of-end.result ≈ whole (pos c.args.to) = subst (λ n. value c.of-end.result ≈ whole n) to c.of-end.ensures.value in
-    let first : c.in-Some.start ≡ begin_of t = some_is (sym c.in-Some.is ∙ c.start.ensures ∙ b.start) in
+    let first : c.in-Some.start ≡ begin_of t = same_Some _ _ (sym c.in-Some.is ∙ c.start.ensures ∙ b.start) in
     let new = subst (λ n. IsBegunPast c.args.self.now.window n c.args.self.now.silent.last c.begun-past.result) first c.begun-past.ensures in
     let m = may_begin t c.args.self.now c.args.edges.now c.args.to b c.begun-past.result (value c.of-end.result) end c.requires.none c.requires.some new in
     step_told t c.args.self.now c.args.edges.now c.args.to b c.begun-past.result (value c.of-end.result) end m c.in_ok-swept.swept
@@ -55,7 +55,7 @@ pub returns-clause-edges : goal.returns-clause-edges
 returns-clause-edges c = λ t b.
     let to : to_z w64 (of_z w64 c.from.result) ≡ pos c.args.to = search (rules, to_z-of_z) in
     let end : value c.of-end.result ≈ whole (pos c.args.to) = subst (λ n. value c.of-end.result ≈ whole n) to c.of-end.ensures.value in
-    let first : c.in-Some.start ≡ begin_of t = some_is (sym c.in-Some.is ∙ c.start.ensures ∙ b.start) in
+    let first : c.in-Some.start ≡ begin_of t = same_Some _ _ (sym c.in-Some.is ∙ c.start.ensures ∙ b.start) in
     let new = subst (λ n. IsBegunPast c.args.self.now.window n c.args.self.now.silent.last c.begun-past.result) first c.begun-past.ensures in
     let m = may_begin t c.args.self.now c.args.edges.now c.args.to b c.begun-past.result (value c.of-end.result) end c.requires.none c.requires.some new in
     step_edges t c.args.self.now c.args.edges.now c.args.to b c.begun-past.result
@@ -71,7 +71,7 @@ pub returns-clause-stands : goal.returns-clause-stands
 returns-clause-stands c = λ t b.
     let to : to_z w64 (of_z w64 c.from.result) ≡ pos c.args.to = search (rules, to_z-of_z) in
     let end : value c.of-end.result ≈ whole (pos c.args.to) = subst (λ n. value c.of-end.result ≈ whole n) to c.of-end.ensures.value in
-    let first : c.in-Some.start ≡ begin_of t = some_is (sym c.in-Some.is ∙ c.start.ensures ∙ b.start) in
+    let first : c.in-Some.start ≡ begin_of t = same_Some _ _ (sym c.in-Some.is ∙ c.start.ensures ∙ b.start) in
     let new = subst (λ n. IsBegunPast c.args.self.now.window n c.args.self.now.silent.last c.begun-past.result) first c.begun-past.ensures in
     let m = may_begin t c.args.self.now c.args.edges.now c.args.to b c.begun-past.result (value c.of-end.result) end c.requires.none c.requires.some new in
     step_stands t c.args.self.now c.args.edges.now c.args.to b c.begun-past.result

@@ -1,10 +1,10 @@
 use Rattle.std.proofs.Common.{◌≡◌, sym, ◌∙◌, Some, None}
 use Rattle.std.specs.Prelude.{Option}
+use Rattle.rational.proofs.Lists.{on_ok_anyway, on_err_anyway}
 use Rattle.envelope.proofs.Leaving.{none_there}
 use Rattle.online_robust.specs.declared.line.MarginLine.{MarginLine}
 use Rattle.online_robust.specs.Steps.{IsStreamedFault}
-use Rattle.pl_signal.proofs.Kept.{on_err_anyway}
-use Rattle.online_robust.proofs.Refusing.{memory_told, on_ok_anyway}
+use Rattle.online_robust.proofs.Refusing.{memory_told}
 use Rattle.online_robust.proofs.PastBridging.{of_in}
 use Rattle.online_robust.proofs.endless.Endless.sweep.Goals as goal
 

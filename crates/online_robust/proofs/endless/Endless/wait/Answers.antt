@@ -2,10 +2,10 @@ use Rattle.std.proofs.Common.{rules, ◌≡◌, pos, to_z, of_z, refl, sym, subs
 use Rattle.std.specs.Int.{w64}
 use Rattle.std.specs.Prelude.{Option, Some}
 use Rattle.std.proofs.lemmas.Int.{to_z-of_z}
+use Rattle.std.proofs.lemmas.Option.{same_Some}
 use Rattle.rational.specs.Rational.{◌≈◌, whole}
 use Rattle.rational.proofs.Order.{same_refl}
 use Rattle.frac128.specs.Value.{value}
-use Rattle.pl_signal.proofs.Values.{some_is}
 use Rattle.stl_syntax.specs.Trace.{start}
 use Rattle.online_robust.specs.Steps.{begin_of, from_of}
 use Rattle.online_robust.proofs.PastBridging.{own}
@@ -22,7 +22,7 @@ sweep-requires c =
     let (t, b) = c.requires.belongs in
     let to : to_z w64 (of_z w64 c.from.result) ≡ pos c.args.to = search (rules, to_z-of_z) in
     let end : value c.of-end.result ≈ whole (pos c.args.to) = subst (λ n. value c.of-end.result ≈ whole n) to c.of-end.ensures.value in
-    let first : c.in-Some.start ≡ begin_of t = some_is (sym c.in-Some.is ∙ c.start.ensures ∙ b.start) in
+    let first : c.in-Some.start ≡ begin_of t = same_Some _ _ (sym c.in-Some.is ∙ c.start.ensures ∙ b.start) in
     let starts : whole (pos c.in-Some.start) ≈ start t.trace = subst (λ n. whole (pos n) ≈ start t.trace) (sym first) (same_refl (start t.trace)) in (
       silence t c.args.self.now c.args.edges.now c.args.to b c.requires.none c.requires.empty,
       own t c.args.self.now c.args.edges.now c.args.to b,
@@ -35,7 +35,7 @@ pub returns-in-Ok-clause-told : goal.returns-in-Ok-clause-told
 returns-in-Ok-clause-told c = λ t b.
     let to : to_z w64 (of_z w64 c.from.result) ≡ pos c.args.to = search (rules, to_z-of_z) in
     let end : value c.of-end.result ≈ whole (pos c.args.to) = subst (λ n. value c.of-end.result ≈ whole n) to c.of-end.ensures.value in
-    let first : c.in-Some.start ≡ begin_of t = some_is (sym c.in-Some.is ∙ c.start.ensures ∙ b.start) in
+    let first : c.in-Some.start ≡ begin_of t = same_Some _ _ (sym c.in-Some.is ∙ c.start.ensures ∙ b.start) in
     let starts : whole (pos c.in-Some.start) ≈ start t.trace = subst (λ n. whole (pos n) ≈ start t.trace) (sym first) (same_refl (start t.trace)) in
     wait_told t c.args.self.now c.args.edges.now c.args.to b c.requires.none c.requires.empty (value c.of-end.result) end c.in-Ok.swept
     (c.in-Ok.ensures.told (silence t c.args.self.now c.args.edges.now c.args.to b c.requires.none c.requires.empty)
@@ -46,7 +46,7 @@ pub returns-in-Ok-clause-edges : goal.returns-in-Ok-clause-edges
 returns-in-Ok-clause-edges c = λ t b.
     let to : to_z w64 (of_z w64 c.from.result) ≡ pos c.args.to = search (rules, to_z-of_z) in
     let end : value c.of-end.result ≈ whole (pos c.args.to) = subst (λ n. value c.of-end.result ≈ whole n) to c.of-end.ensures.value in
-    let first : c.in-Some.start ≡ begin_of t = some_is (sym c.in-Some.is ∙ c.start.ensures ∙ b.start) in
+    let first : c.in-Some.start ≡ begin_of t = same_Some _ _ (sym c.in-Some.is ∙ c.start.ensures ∙ b.start) in
     let starts : whole (pos c.in-Some.start) ≈ start t.trace = subst (λ n. whole (pos n) ≈ start t.trace) (sym first) (same_refl (start t.trace)) in
     wait_edges t c.args.self.now c.args.edges.now c.args.to b c.requires.none c.requires.empty (value c.of-end.result) end c.sweep.new.edges
     (c.in-Ok.ensures.lost (silence t c.args.self.now c.args.edges.now c.args.to b c.requires.none c.requires.empty)
@@ -57,7 +57,7 @@ pub returns-in-Ok-clause-stands : goal.returns-in-Ok-clause-stands
 returns-in-Ok-clause-stands c = λ t b.
     let to : to_z w64 (of_z w64 c.from.result) ≡ pos c.args.to = search (rules, to_z-of_z) in
     let end : value c.of-end.result ≈ whole (pos c.args.to) = subst (λ n. value c.of-end.result ≈ whole n) to c.of-end.ensures.value in
-    let first : c.in-Some.start ≡ begin_of t = some_is (sym c.in-Some.is ∙ c.start.ensures ∙ b.start) in
+    let first : c.in-Some.start ≡ begin_of t = same_Some _ _ (sym c.in-Some.is ∙ c.start.ensures ∙ b.start) in
     let starts : whole (pos c.in-Some.start) ≈ start t.trace = subst (λ n. whole (pos n) ≈ start t.trace) (sym first) (same_refl (start t.trace)) in
     wait_stands t c.args.self.now c.args.edges.now c.args.to b c.requires.none c.requires.empty (value c.of-end.result) end
     (record c.args.self.now { silent = c.sweep.new.self }) c.sweep.new.edges refl c.sweep.ensures.kept c.in-Ok.ensures.some

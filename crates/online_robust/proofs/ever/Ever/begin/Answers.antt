@@ -1,9 +1,9 @@
 use Rattle.std.proofs.Common.{refl, subst}
 use Rattle.rational.specs.Time.{Rational, shifted, ◌<ʳ◌}
 use Rattle.rational.proofs.Order.{lt_of_lt_of_le}
+use Rattle.rational.proofs.Lists.{on_err_anyway}
 use Rattle.frac128.specs.Value.{value}
 use Rattle.online_robust.specs.Refusing.{told_by}
-use Rattle.pl_signal.proofs.Kept.{on_err_anyway}
 use Rattle.online_robust.proofs.PointwiseLemmas.{not_less}
 use Rattle.online_robust.proofs.WindowPoints.{no_sheds}
 use Rattle.online_robust.proofs.PastSteps.{begun_first, begun_next, begun_told, going, past_falls, refused_knot, start_by, stays_none, stays_on, stood}

@@ -1,6 +1,7 @@
 use Rattle.std.proofs.Common.{Some, ◌^◌, IsTrue, refl, sym, subst}
 use Rattle.rational.specs.Affine.{IsBounded}
 use Rattle.rational.specs.Extended.{value_at}
+use Rattle.rational.proofs.Lists.{on_err_anyway}
 use Rattle.frac128.specs.Value.{value}
 use Rattle.frac128.specs.declared.frac.Frac.{Frac}
 use Rattle.value_laws.specs.Margins.{margin_function}
@@ -10,7 +11,6 @@ use Rattle.online_robust.specs.Sweeping.{IsFrozen}
 use Rattle.online_robust.specs.Told.{IsTick}
 use Rattle.online_robust.specs.Windows.{IsUnfixed}
 use Rattle.online_robust.specs.Refusing.{told_by}
-use Rattle.pl_signal.proofs.Kept.{on_err_anyway}
 use Rattle.online_robust.proofs.Builts.{tick_within}
 use Rattle.online_robust.proofs.Countdown.{enter_no_more}
 use Rattle.online_robust.proofs.PastLemmas.{after_small, before_next, before_small, gone_frozen, gone_plain}

@@ -1,12 +1,12 @@
 use Rattle.std.proofs.Common.{◌<◌, ◌+◌, subst}
 use Rattle.rational.specs.Time.{shifted}
+use Rattle.rational.proofs.Lists.{on_err_anyway}
 use Rattle.frac128.specs.Value.{value}
 use Rattle.frac128.specs.declared.frac.Frac.{Frac}
 use Rattle.online_robust.specs.Held.{edge_at}
 use Rattle.online_robust.specs.Windows.{IsGone, Sheds, at_time, lines_left}
 use Rattle.online_robust.specs.WindowPasts.{past_steps}
 use Rattle.online_robust.specs.declared.window.Window.{Window}
-use Rattle.pl_signal.proofs.Kept.{on_err_anyway}
 use Rattle.online_robust.proofs.PastSteps.{fewer_both, passing_on, stays_on}
 use Rattle.online_robust.proofs.Sheddings.{sheds_both}
 use Rattle.online_robust.proofs.ever.Ever.go_on.Goals as goal

@@ -3,6 +3,7 @@ use Rattle.rational.specs.Rational.{Rational, IsWithin}
 use Rattle.rational.specs.Time.{◌≤ʳ◌, ◌<ʳ◌}
 use Rattle.rational.proofs.Mixed.{within_same}
 use Rattle.rational.proofs.Order.{le_of_lt, le_of_same, le_trans, lt_of_le_of_lt, same_sym}
+use Rattle.rational.proofs.Lists.{on_err_anyway}
 use Rattle.frac128.specs.Value.{value}
 use Rattle.value_laws.specs.Kinds.{margin_shape}
 use Rattle.pl_signal.specs.Knots.{stop as last_of}
@@ -10,7 +11,6 @@ use Rattle.envelope.specs.Best.{IsWritten}
 use Rattle.online_robust.specs.Windows.{at_time}
 use Rattle.online_robust.specs.declared.window.Window.{Window}
 use Rattle.online_robust.specs.Refusing.{told_by}
-use Rattle.pl_signal.proofs.Kept.{on_err_anyway}
 use Rattle.online_robust.proofs.Refusing.{told_kept}
 use Rattle.online_robust.proofs.Builts.{tick_within}
 use Rattle.online_robust.proofs.WindowTelling.{gone_there, kept_fault, levels, written_at}

@@ -3,9 +3,9 @@ use Rattle.std.specs.Int.{w64}
 use Rattle.std.specs.Prelude.{Some}
 use Rattle.std.proofs.lemmas.Int.{to_z-of_z}
 use Rattle.rational.specs.Rational.{◌≈◌, whole}
+use Rattle.rational.proofs.Lists.{on_err_anyway}
 use Rattle.frac128.specs.Value.{value}
 use Rattle.online_robust.specs.Refusing.{told_by}
-use Rattle.pl_signal.proofs.Kept.{on_err_anyway}
 use Rattle.online_robust.proofs.LazyTurns.{may_go_on, step_edges, step_fault, step_stands, step_told}
 use Rattle.online_robust.proofs.WindowBridging.{own, scope_of}
 use Rattle.online_robust.proofs.lazy.Lazy.go_on.Goals as goal

@@ -1,10 +1,10 @@
 use Rattle.std.proofs.Common.{sym, subst}
 use Rattle.rational.specs.Time.{◌≈◌}
 use Rattle.rational.proofs.Order.{ge_of_same, le_trans, same_of_le, same_refl, same_trans}
+use Rattle.rational.proofs.Lists.{on_err_anyway}
 use Rattle.frac128.specs.Value.{value}
 use Rattle.online_robust.specs.ReadLines.{IsStretch}
 use Rattle.online_robust.specs.Couples.{CanJoin, Couple, IsCoupleFault, both_of}
-use Rattle.pl_signal.proofs.Kept.{on_err_anyway}
 use Rattle.online_robust.proofs.Refusing.{memory_told}
 use Rattle.online_robust.proofs.Builts.{built_done, built_first, tick_between}
 use Rattle.online_robust.proofs.Losses.{both_both, both_later}

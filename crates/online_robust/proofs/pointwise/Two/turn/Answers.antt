@@ -5,6 +5,7 @@ use Rattle.rational.specs.Extended.{value_at, ◌≈ᵉ◌}
 use Rattle.rational.specs.Affine.{HasBoundedLevel}
 use Rattle.rational.proofs.Order.{le_of_lt, le_of_same, le_trans, lt_of_le_of_lt, lt_of_lt_of_le, same_refl, same_sym}
 use Rattle.rational.proofs.Mixed.{within_same}
+use Rattle.rational.proofs.Lists.{on_err_anyway}
 use Rattle.frac128.specs.Value.{value}
 use Rattle.value_laws.specs.Kinds.{margin_shape}
 use Rattle.value_laws.specs.Margins.{is_ramp, margin_base, margin_function}
@@ -17,7 +18,6 @@ use Rattle.online_robust.specs.Told.{IsTick}
 use Rattle.online_robust.specs.ReadLines.{IsAhead, IsThere, value_turned}
 use Rattle.online_robust.specs.Couples.{Couple, IsCoupleFault, IsJoinedTo, IsReadTo}
 use Rattle.pl_signal.specs.declared.faults.OpFault.TheVariants as F
-use Rattle.pl_signal.proofs.Kept.{on_err_anyway}
 use Rattle.online_robust.proofs.Refusing.{each_told}
 use Rattle.online_robust.proofs.Builts.{tick_between, tick_within}
 use Rattle.online_robust.proofs.Losses.{both_of as lost_both}

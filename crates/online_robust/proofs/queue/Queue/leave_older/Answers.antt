@@ -1,6 +1,7 @@
 use Rattle.std.proofs.Common.{◌∙◌, sym, subst, List, ◌∷◌}
+use Rattle.std.proofs.lemmas.List.{nil_from_length}
 use Rattle.online_robust.specs.Queues.{StandsFor}
-use Rattle.online_robust.proofs.QueueLemmas.{nil_of_length, stands_left}
+use Rattle.online_robust.proofs.QueueLemmas.{stands_left}
 use Rattle.online_robust.proofs.queue.Queue.leave_older.Goals as goal
 
 pub returns-in-Some-clause-stands : goal.returns-in-Some-clause-stands
@@ -14,6 +15,6 @@ returns-in-None-clause-none g c = λ e.
     let none = c.in-None.ensures.cases in
     let old = c.args.self.now.older.ok in
     let new = c.pop.new.self.ok in (
-      nil_of_length c.args.self.now.older.items (sym old.0 ∙ none.0),
-      nil_of_length c.pop.new.self.items (sym new.0 ∙ none.1),
+      nil_from_length c.args.self.now.older.items (sym old.0 ∙ none.0),
+      nil_from_length c.pop.new.self.items (sym new.0 ∙ none.1),
     )

@@ -1,9 +1,9 @@
 use Rattle.std.proofs.Common.{rules, ◌≡◌, ◌∙◌, ap, subst, sym, pos, ◌-ℤ◌, to_z, of_z}
 use Rattle.std.specs.Int.{w64}
 use Rattle.std.proofs.lemmas.Int.{to_z-of_z}
+use Rattle.rational.proofs.Lists.{on_err_anyway}
 use Rattle.online_robust.specs.Held.{edge_at, with_edge, with_number}
 use Rattle.online_robust.specs.Moving.{CanGoTo, HasMoved, IsFaultOf}
-use Rattle.pl_signal.proofs.Kept.{on_err_anyway}
 use Rattle.online_robust.proofs.Refusing.{memory_told}
 use Rattle.online_robust.proofs.Puts.{put_within}
 use Rattle.online_robust.proofs.Stationing.{row_atom, row_bound, row_const, row_edge, row_go, row_last}

@@ -2,6 +2,7 @@ use Rattle.std.proofs.Common.{◌<◌, ◌^◌, List, sym, ap, subst, length, ar
 use Rattle.rational.specs.Rational.{IsWithin}
 use Rattle.rational.specs.Extended.{value_at}
 use Rattle.rational.specs.Affine.{IsBounded}
+use Rattle.rational.proofs.Lists.{empty_of_none, on_err_anyway}
 use Rattle.frac128.specs.Value.{value}
 use Rattle.frac128.specs.declared.frac.Frac.{Frac}
 use Rattle.value_laws.specs.Margins.{margin_function}
@@ -11,10 +12,8 @@ use Rattle.online_robust.specs.Sweeping.{IsFrozen}
 use Rattle.online_robust.specs.Windows.{IsAt, IsHigh, IsUnfixedHigh, Scope, high_at, lines_left, low_at}
 use Rattle.online_robust.specs.declared.line.MarginLine.{MarginLine}
 use Rattle.online_robust.specs.Refusing.{told_by}
-use Rattle.pl_signal.proofs.Kept.{on_err_anyway}
 use Rattle.online_robust.proofs.Refusing.{memory_told}
 use Rattle.online_robust.proofs.Builts.{tick_within}
-use Rattle.online_robust.proofs.EdgesLemmas.{empty_of_none}
 use Rattle.online_robust.proofs.Countdown.{enter_no_more, pass_fewer}
 use Rattle.online_robust.proofs.HighLemmas.{HasEntered, before_goes, frozen_spread, has_entered, high_small, knot_is, next_is}
 use Rattle.online_robust.proofs.HighLemmas.{next_small, no_knot_is, plain_spread, point_at, point_is, read_count, unfixed_high}

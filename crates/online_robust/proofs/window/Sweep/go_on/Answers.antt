@@ -2,11 +2,11 @@ use Rattle.std.proofs.Common.{◌^◌, ◌∙◌, ◌+◌, ◌*◌, ◌<◌, sub
 use Rattle.frac128.specs.Value.{value}
 use Rattle.rational.specs.Rational.{IsWithin}
 use Rattle.rational.specs.Time.{Rational, shifted, ◌<ʳ◌}
+use Rattle.rational.proofs.Lists.{on_err_anyway}
 use Rattle.online_robust.specs.Held.{edge_at}
 use Rattle.online_robust.specs.Sweeping.{IsBefore}
 use Rattle.online_robust.specs.Windows.{IsGone, IsUnfixedHigh, Sheds, lines_left, steps_left}
 use Rattle.online_robust.specs.declared.window.Window.{Window}
-use Rattle.pl_signal.proofs.Kept.{on_err_anyway}
 use Rattle.online_robust.proofs.Refusing.{memory_told}
 use Rattle.online_robust.proofs.Countdown.{both_fewer}
 use Rattle.online_robust.proofs.Sheddings.{sheds_both}

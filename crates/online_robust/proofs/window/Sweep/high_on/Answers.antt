@@ -1,10 +1,11 @@
 use Rattle.std.proofs.Common.{refl, sym, subst}
+use Rattle.std.proofs.lemmas.Result.{on_ok_weaker}
 use Rattle.rational.specs.Time.{shifted}
 use Rattle.frac128.specs.Value.{value}
 use Rattle.online_robust.specs.Held.{edge_at}
 use Rattle.online_robust.specs.Sweeping.{EndsAt}
 use Rattle.online_robust.specs.Windows.{is_before_end, lines_left}
-use Rattle.online_robust.proofs.Countdown.{end_at_most, high_fewer, on_ok}
+use Rattle.online_robust.proofs.Countdown.{end_at_most, high_fewer}
 use Rattle.online_robust.proofs.WindowPoints.{high_from_passed, high_goes, high_passed, high_stays, high_to_passed, no_sheds}
 use Rattle.online_robust.proofs.window.Sweep.high_on.Goals as goal
 
@@ -51,7 +52,7 @@ returns-clause-shed c limit = no_sheds limit c.args.self.now.window.of c.args.ed
 pub returns-then-ends_at-clause-fewer : goal.returns-then-ends_at-clause-fewer
 returns-then-ends_at-clause-fewer c =
     let at_high = shifted (value c.args.self.now.place.at) c.args.self.now.window.high in
-    on_ok c.go_high.result
+    on_ok_weaker c.go_high.result
     (λ less. high_fewer (lines_left (edge_at c.go_high.new.edges c.args.self.now.window.of)) (lines_left (edge_at c.args.edges.now c.args.self.now.window.of))
     (is_before_end at_high c.go_high.new.self.place.high.until) (is_before_end at_high c.args.self.now.place.high.until)
     (end_at_most at_high c.go_high.new.self.place.high.until) less) c.go_high.ensures.fewer

@@ -1,8 +1,8 @@
 use Rattle.std.proofs.Common.{arith, inr, refl, sym, subst}
+use Rattle.std.proofs.lemmas.Result.{on_ok_weaker}
 use Rattle.rational.specs.Time.{shifted}
 use Rattle.frac128.specs.Value.{value}
 use Rattle.online_robust.specs.Sweeping.{EndsAt}
-use Rattle.online_robust.proofs.Countdown.{on_ok}
 use Rattle.online_robust.proofs.WindowPoints.{low_before, low_from_passed, low_passed, low_stands, low_to_passed, no_sheds, point_at}
 use Rattle.online_robust.proofs.window.Sweep.low_point.Goals as goal
 
@@ -68,7 +68,7 @@ pub returns-then-ends_at-clause-fewer : goal.returns-then-ends_at-clause-fewer
 returns-then-ends_at-clause-fewer c ends = c.under_low.ensures.fewer
 
 pub returns-then-ends_at-clause-no_more : goal.returns-then-ends_at-clause-no_more
-returns-then-ends_at-clause-no_more c = on_ok c.under_low.result (λ less. omega (arith, less)) c.under_low.ensures.fewer
+returns-then-ends_at-clause-no_more c = on_ok_weaker c.under_low.result (λ less. omega (arith, less)) c.under_low.ensures.fewer
 
 pub returns-clause-fewer : goal.returns-clause-fewer
 returns-clause-fewer c ends =

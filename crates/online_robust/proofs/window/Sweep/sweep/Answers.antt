@@ -1,6 +1,7 @@
 use Rattle.std.proofs.Common.{◌+◌, ℕ, sym, subst}
 use Rattle.rational.specs.Time.{Rational, shifted, ◌≈◌, ◌≤ʳ◌, ◌<ʳ◌}
 use Rattle.rational.proofs.Order.{le_refl, le_trans, same_of_le}
+use Rattle.rational.proofs.Lists.{on_err_anyway}
 use Rattle.frac128.specs.Value.{value}
 use Rattle.pl_signal.specs.Knots.{stop as last_of}
 use Rattle.window_ops.proofs.Ends.{le_shifted}
@@ -8,7 +9,6 @@ use Rattle.online_robust.specs.ReadLines.{IsBuilt, IsStretch}
 use Rattle.online_robust.specs.Windows.{CanSweep, IsGoing, IsOwned, IsWindowFault, Scope, at_time, best_of}
 use Rattle.online_robust.specs.declared.window.Window.{Window}
 use Rattle.online_robust.specs.Refusing.{told_by}
-use Rattle.pl_signal.proofs.Kept.{on_err_anyway}
 use Rattle.online_robust.proofs.Refusing.{memory_told}
 use Rattle.online_robust.proofs.Builts.{built_done}
 use Rattle.online_robust.proofs.PointwiseLemmas.{not_less}

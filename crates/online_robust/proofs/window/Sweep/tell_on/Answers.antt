@@ -3,13 +3,13 @@ use Rattle.rational.specs.Rational.{Rational, IsWithin}
 use Rattle.rational.specs.Time.{◌≤ʳ◌, ◌<ʳ◌}
 use Rattle.rational.proofs.Mixed.{within_same}
 use Rattle.rational.proofs.Order.{same_sym}
+use Rattle.rational.proofs.Lists.{on_err_anyway}
 use Rattle.frac128.specs.Value.{value}
 use Rattle.value_laws.specs.Kinds.{margin_shape}
 use Rattle.pl_signal.specs.Knots.{stop as last_of}
 use Rattle.envelope.specs.Best.{IsWritten}
 use Rattle.online_robust.specs.declared.window.Window.{Window}
 use Rattle.online_robust.specs.Refusing.{told_by}
-use Rattle.pl_signal.proofs.Kept.{on_err_anyway}
 use Rattle.online_robust.proofs.Refusing.{told_kept}
 use Rattle.online_robust.proofs.WindowTelling.{gone_later, gone_there, gone_within, kept_fault, levels, written_at}
 use Rattle.online_robust.proofs.window.Sweep.tell_on.Goals as goal

@@ -1,7 +1,8 @@
 use Rattle.std.proofs.Common.{◌≤◌, ◌++◌, length, take, drop, false, sym, ap, ◌∙◌, subst, arith}
 use Rattle.std.proofs.Common.{append-nil, append_assoc, take-append-drop, length-drop, take_all}
 use Rattle.std.proofs.lemmas.Result.{err_from_is_err_and}
-use Rattle.trace_stream.proofs.Fed.{rest_is, fed}
+use Rattle.rational.proofs.Lists.{take_rest}
+use Rattle.trace_stream.proofs.Fed.{fed}
 use Rattle.session_mux.specs.Taking.{IsTaking, IsInputStop}
 use Rattle.session_mux.proofs.input.Input.feed.Goals as goal
 
@@ -27,13 +28,13 @@ returns-in_err-at c =
     rw (p.1, p.2) (λ f bytes written k.
     subst (λ b. IsInputStop f b false (written ++ c.step.new.self.text) c.in_err-at.field-0.0)
     (append_assoc bytes (take at piece) (drop at piece) ∙ ap (λ b. bytes ++ b) (take-append-drop at piece))
-    (subst (λ b. IsInputStop f ((bytes ++ take at piece) ++ b) false (written ++ c.step.new.self.text) c.in_err-at.field-0.0) (rest_is piece at)
+    (subst (λ b. IsInputStop f ((bytes ++ take at piece) ++ b) false (written ++ c.step.new.self.text) c.in_err-at.field-0.0) (take_rest piece at)
     (c.in_err-at.ensures.taken f (bytes ++ take at piece) written (c.loop-at.invariant.taken f bytes written k))))
 
 pub loop-at-preserved : goal.loop-at-preserved
 loop-at-preserved c =
     let within = c.in_ok-at.ensures.within in
-    let rest = rest_is c.args.piece.now c.loop-at.at in
+    let rest = take_rest c.args.piece.now c.loop-at.at in
     let bound : c.in_ok-at.field-0 ≤ length (drop c.loop-at.at c.args.piece.now) = rw rest at within in
     record {
       within = omega (arith, length-drop c.loop-at.at c.args.piece.now);

@@ -1,7 +1,7 @@
 use Rattle.std.proofs.Common.{◌≤◌, ◌++◌, length, take, drop, refl, sym, ◌∙◌, subst, arith, append-nil, length-drop, take_all}
 use Rattle.std.proofs.lemmas.Result.{err_from_is_err_and}
+use Rattle.rational.proofs.Lists.{take_rest}
 use Rattle.trace_stream.specs.CaseReader.{IsKept}
-use Rattle.trace_stream.proofs.Fed.{rest_is}
 use Rattle.trace_stream.proofs.Fed.{fed, fed_err}
 use Rattle.trace_stream.proofs.case_reader.CaseReader.feed.Goals as goal
 
@@ -32,7 +32,7 @@ returns-in_err-at-clause-limits c = c.in_err-at.ensures.limits ∙ c.loop-at.inv
 pub loop-at-preserved : goal.loop-at-preserved
 loop-at-preserved c =
     let within = c.in_ok-at.ensures.within in
-    let rest = rest_is c.args.piece.now c.loop-at.at in
+    let rest = take_rest c.args.piece.now c.loop-at.at in
     let bound : c.in_ok-at.field-0 ≤ length (drop c.loop-at.at c.args.piece.now) = rw rest at within in
     record {
       within = omega (arith, length-drop c.loop-at.at c.args.piece.now);

@@ -1,9 +1,9 @@
 use Rattle.std.proofs.Common.{◌≤◌, ◌++◌, length, take, drop, false, refl, sym, ◌∙◌, subst, arith, append-nil, length-drop, take_all}
 use Rattle.std.proofs.lemmas.Result.{err_from_is_err_and}
+use Rattle.rational.proofs.Lists.{take_rest}
 use Rattle.stl_syntax.specs.Formula.{Formula}
 use Rattle.trace_reader.specs.declared.refusal.Limits.{Limits}
 use Rattle.trace_stream.specs.Following.{IsLiveOpen, IsOpenStop}
-use Rattle.trace_stream.proofs.Fed.{rest_is}
 use Rattle.trace_stream.proofs.Fed.{fed}
 use Rattle.trace_stream.proofs.Living.{live_fed}
 use Rattle.trace_stream.proofs.live.Live.take_piece.Goals as goal
@@ -37,7 +37,7 @@ returns-in_err-at-clause-taken g c =
     c.loop-at.invariant.formula
     (subst (λ b. IsOpenStop g.F.Follow.stands g.F.Follow.owes g.F.Follow.kind c.loop-at.self.rows.limits c.loop-at.self.formula false
     ((bytes ++ take c.loop-at.at piece) ++ b) c.step.new.self.follower (written ++ c.step.new.self.text) c.in_err-at.field-0.0)
-    (rest_is piece c.loop-at.at)
+    (take_rest piece c.loop-at.at)
     (c.in_err-at.ensures.taken (bytes ++ take c.loop-at.at piece) written (c.loop-at.invariant.taken bytes written k))))))
 
 pub returns-in_err-at-clause-limits : goal.returns-in_err-at-clause-limits
@@ -49,7 +49,7 @@ returns-in_err-at-clause-formula g c = c.in_err-at.ensures.formula ∙ c.loop-at
 pub loop-at-preserved : goal.loop-at-preserved
 loop-at-preserved g c =
     let within = c.in_ok-at.ensures.within in
-    let rest = rest_is c.args.piece.now c.loop-at.at in
+    let rest = take_rest c.args.piece.now c.loop-at.at in
     let bound : c.in_ok-at.field-0 ≤ length (drop c.loop-at.at c.args.piece.now) = rw rest at within in
     record {
       within = omega (arith, length-drop c.loop-at.at c.args.piece.now);
