@@ -5,7 +5,6 @@ use Rattle.std.specs.Prelude.{◌≢◌, int_lt, cond, ◌==◌, slice_get, slic
 use Rattle.std.proofs.lemmas.Int.{ints}
 use Rattle.std.proofs.lemmas.List.{append-nil, drop-drop, drop-append-le, drop_all}
 use Rattle.std.proofs.lemmas.Bool.{cases_lt, eq-eqb}
-use Rattle.std.proofs.lemmas.Option.{slice_get_cases}
 use Rattle.stl_syntax.specs.Trace.{Header, Row, first_time}
 use Rattle.stl_syntax.specs.PostOrder.{IsPostOrder}
 use Rattle.stl_syntax.specs.WellFormed.{AreWellFormed, HasBounds}
@@ -29,7 +28,9 @@ use Rattle.online_nodes.specs.Network.{Event, row, step, close, take, Front, Sta
 use Rattle.online_nodes.specs.Network.{allowed_at, after_event, initial, state, reach_back, EmittedAt, Emitted, IsRun, MayCome}
 use Rattle.online_nodes.specs.Needed.{IsReader, IsEdge, IsRootEdge, AreNeeded, other, next, nothing_left}
 use Rattle.online_nodes.specs.Laws.{AreTiles, answered_to, IsWhole}
-use Rattle.online_nodes.proofs.RunLaw.{some_is, none_is_none, int_order}
+use Rattle.online_nodes.proofs.RunLaw.{none_is_none}
+use Rattle.std.proofs.lemmas.Option.{same_Some}
+use Rattle.rational.proofs.Tests.{int_order}
 use Rattle.online_nodes.proofs.FrameLaw.{one_more, given_more, nothing_given, no_more_by_take}
 use Rattle.online_nodes.proofs.StayLaw.{shown_is, first_same}
 use Rattle.online_nodes.proofs.RisingLaw.{IsSound, sound_after, sound_of, run_before, run_on, reader_behind}
@@ -138,15 +139,6 @@ reads_or_not n j = by_node n
         (λ l. elim l as (λ l. One p l → IsReader (Historically p a b i k) l j) [ true ↦ λ x. x | false ↦ λ x. x ])
         (λ l. elim l as (λ l. IsReader (Historically p a b i k) l j → One p l) [ true ↦ λ x. x | false ↦ λ x. x ])
 
--- what is found at a place stands within the list
-pub get_within : (nodes : List Node) (i : ℕ) (n : Node) → slice_get nodes i ≡ Some n → i < length nodes
-get_within nodes i n e = by_case (slice_get_cases nodes i).1
-  where
-    by_case : ((x : Node) × (i < length nodes) × (slice_get nodes i ≡ Some x) × (slice_index_or nodes i x ≡ x))
-        ⊎ ((length nodes ≤ i) × (slice_get nodes i ≡ None)) → i < length nodes
-    by_case (inl h) = h.1
-    by_case (inr h) = absurd (let x = h.1 in cc)
-
 -- a front that is not shown lies below the start
 pub not_shown : (s : State) (i : ℕ) (f : ℤ) → shown s i ≡ None → s.fronts i ≡ Some f → f <ℤ pos (first_time s.rows)
 not_shown s i f x e = by_test (int_lt f (pos (first_time s.rows))) refl
@@ -236,7 +228,7 @@ module _ (nodes : List Node) (header : Header) (formed : AreWellFormed nodes) wh
               by_case (f, front, inr (c, last)) =
                   let under = not_shown s j f x front in
                   let b = sound.bounded reader g on.within z in
-                  let top : b.last ≡ f = some_is b.last f (sym b.is_last ∙ last) in
+                  let top : b.last ≡ f = same_Some b.last f (sym b.is_last ∙ last) in
                   absurd (let by = b.by_now in let q = begin in omega (arith, ints))
 
       -- a further answer
@@ -267,7 +259,7 @@ module _ (nodes : List Node) (header : Header) (formed : AreWellFormed nodes) wh
           grown o y b h =
               let allows : AllowsMore (first_time s.rows) (Some f) (Some later.0) o k = record {
                 low = λ z. absurd (none_is_none f (sym z));
-                behind = λ f0 z g y' a a'. subst (λ m. (g +ℤ k) ≤ℤ m) (some_is f f0 z) (b g (y ∙ y'));
+                behind = λ f0 z g y' a a'. subst (λ m. (g +ℤ k) ≤ℤ m) (same_Some f f0 z) (b g (y ∙ y'));
               } in
               needed_grows (first_time s.rows) f later.0 vs here held was.1 later.2 allows w tiles h
 
@@ -279,12 +271,12 @@ module _ (nodes : List Node) (header : Header) (formed : AreWellFormed nodes) wh
               by_case : (f1 : ℤ) × (s.fronts j ≡ Some f1) × (((g +ℤ k) ≤ℤ f1) ⊎ ((s.closed ≡ true) × (last_row s ≡ Some f1)))
                   → AreNeeded (first_time s.rows) (Some later.0) (Some g) k (vs ++ here) (held ++ here)
               by_case (f1, front, inl i) =
-                  let same : f1 ≡ f = some_is f1 f (sym front ∙ was.0) in
-                  grown (Some g) y (λ g' z. let w : g ≡ g' = some_is g g' (sym y ∙ z) in omega (arith, ints)) h
+                  let same : f1 ≡ f = same_Some f1 f (sym front ∙ was.0) in
+                  grown (Some g) y (λ g' z. let w : g ≡ g' = same_Some g g' (sym y ∙ z) in omega (arith, ints)) h
               by_case (f1, front, inr (c, last)) =
-                  let same : f1 ≡ f = some_is f1 f (sym front ∙ was.0) in
+                  let same : f1 ≡ f = same_Some f1 f (sym front ∙ was.0) in
                   let b = (sound_after nodes header order s e may sound).bounded j later.0 on.input (shown_is nodes header order s' j later.0 later.1).0 in
-                  let top : b.last ≡ f1 = some_is b.last f1 (sym b.is_last ∙ end_stays s e may c ∙ last) in
+                  let top : b.last ≡ f1 = same_Some b.last f1 (sym b.is_last ∙ end_stays s e may c ∙ last) in
                   let stays : later.0 ≡ f = (let up = later.2 in let by = b.by_now in omega (arith, ints)) in
                   let none : here ≡ [] = tiles_none (answered_to (first_time s.rows) (Some f)) here (answered_to (first_time s.rows) (Some f))
                   (subst (λ m. AreTiles (answered_to (first_time s.rows) (Some f)) here (answered_to (first_time s.rows) (Some m))) stays tiles)

@@ -4,8 +4,7 @@ use Rattle.rational.specs.Rational.{Rational, ◌≤ʳ◌}
 use Rattle.rational.proofs.Order.{le_refl}
 use Rattle.rational.specs.Places.{Place, After, Upto, Before}
 use Rattle.online_nodes.specs.Truths.{Truths, AllAre, AllFrom, HoldsFrom, IsReason, IsSinceOf, SinceRemembers, KnowsSince, MeetsAfter}
-use Rattle.rational.proofs.PlaceLemmas.{between, sides, not_both, before_through, after_of_before}
-use Rattle.online_nodes.proofs.UntilLaw.{after_later, upto_earlier, in_order}
+use Rattle.rational.proofs.PlaceLemmas.{between, sides, not_both, before_through, after_of_before, le_through, upto_earlier, after_later}
 use Rattle.online_nodes.proofs.WindowLaw.{IsMet, met_in}
 
 module _ {N P Q : Truths} {low high : Rational → Place} {at run reach l r : Place} (since : IsSinceOf N P Q low high)
@@ -13,11 +12,11 @@ module _ {N P Q : Truths} {low high : Rational → Place} {at run reach l r : Pl
   -- while the left input holds on from where it was read, what was found counts
   pub goes_on : (e : Place) → AllAre true P l e → (t : Rational) → After at t → Upto reach t → Upto e t → N t
   goes_on e told t a k h = m.counts t a k
-      (λ v x y. elim (sides l v) [ inl z ↦ m.holds v x z | inr z ↦ told v z (upto_earlier e v t h y) ])
+      (λ v x y. elim (sides l v) [ inl z ↦ m.holds v x z | inr z ↦ told v z (upto_earlier e v t y h) ])
 
   -- while the left side holds, what was found counts
   pub went_on : (t : Rational) → After at t → Upto reach t → Upto l t → N t
-  went_on t a k h = m.counts t a k (λ v x y. m.holds v x (upto_earlier l v t h y))
+  went_on t a k h = m.counts t a k (λ v x y. m.holds v x (upto_earlier l v t y h))
 
   -- the left input fails from l to e
   pub fails : (e : Place) → AllAre false P l e → (t : Rational) → After at t → After reach t ⊎ After l t → Upto e t → ¬ N t
@@ -73,11 +72,11 @@ module _ {P Q : Truths} {low high : Rational → Place} {start at run reach l r 
           by_side : Upto run u ⊎ After run u → After run u
           by_side (inr h) = h
           by_side (inl h) = let v = k.begins u (in_trace u q) h in
-              absurd (v.3 (all v.0 v.1 (in_order run v.0 t v.2 (ran t a))))
+              absurd (v.3 (all v.0 v.1 (le_through run v.0 t v.2 (ran t a))))
 
       by_witness : (t : Rational) → HoldsFrom P run t
           → (u : Rational) × After (low t) u × Upto (high t) u × Q u × After run u × Upto r_stop u → N t
-      by_witness t h (u, lo, hi, q, x, y) = since.holds t u lo hi q (λ v from_u to_t. h v (after_later run u v x from_u) to_t)
+      by_witness t h (u, lo, hi, q, x, y) = since.holds t u lo hi q (λ v from_u to_t. h v (after_later run u v from_u x) to_t)
 
       reason : (t : Rational) → After at t → After reach t
           → (u : Rational) × After (low t) u × Upto (high t) u × Q u × AllFrom P u t
@@ -103,11 +102,11 @@ module _ {P Q : Truths} {low high : Rational → Place} {start at run reach l r 
     where
       clash : (u : Rational) → After e u → Upto r u → Q u → ⊥
       clash u x h q = let v = between l e some in
-          told v.0 v.1 v.2 ((k.ahead u (after_of_before l e u some x) h q v.0 v.1 (in_order e v.0 u v.2 x)).0)
+          told v.0 v.1 v.2 ((k.ahead u (after_of_before l e u some x) h q v.0 v.1 (le_through e v.0 u v.2 x)).0)
 
       fails_before : (u : Rational) → After start u → Upto e u → (v : Rational) × (u ≤ʳ v) × Upto e v × (¬ P v)
       fails_before u a h = elim (sides l u) [
-        | inl x ↦ (let v = between l e some in (v.0, in_order l u v.0 x v.1, v.2, told v.0 v.1 v.2))
+        | inl x ↦ (let v = between l e some in (v.0, le_through l u v.0 x v.1, v.2, told v.0 v.1 v.2))
         | inr x ↦ (u, le_refl u, h, told u x h)
       ]
 
@@ -161,7 +160,7 @@ module _ {P Q : Truths} {low high : Rational → Place} {start at run reach l r 
     counts = k.counts;
     rest = λ t u a b lo hi q x known. beyond t u a b lo x;
     inside = λ u x. elim (sides y u) [ inl h ↦ absurd (not_both r_stop u (within' u h) x) | inr h ↦ h ];
-    ahead = λ u a b q v x z. let h = upto_earlier e v u (inside u b) z in (told v x h, within v h);
+    ahead = λ u a b q v x z. let h = upto_earlier e v u z (inside u b) in (told v x h, within v h);
   }
 
   -- a left verdict that holds is known to its end

@@ -1,32 +1,11 @@
 -- The truth of until by what was read of its inputs.
 use Rattle.std.proofs.Common.{◌⊎◌, inl, inr, Bool, true, false}
-use Rattle.std.specs.Prelude.{MatchBool}
-use Rattle.rational.specs.Rational.{Rational, ◌≤ʳ◌, ◌<ʳ◌}
-use Rattle.rational.proofs.Order.{le_refl, le_trans, le_of_lt, lt_of_lt_of_le, lt_of_le_of_lt, le_or_lt}
+use Rattle.rational.specs.Rational.{Rational, ◌≤ʳ◌}
+use Rattle.rational.proofs.Order.{le_refl}
 use Rattle.rational.specs.Places.{Place, After, Upto, Before}
 use Rattle.online_nodes.specs.Truths.{Truths, AllAre, AllFrom, IsUntilOf, UntilRemembers, KnowsUntil, MeetsAfter}
-use Rattle.rational.proofs.PlaceLemmas.{between, sides, not_both, before_through, after_of_before}
+use Rattle.rational.proofs.PlaceLemmas.{between, sides, not_both, before_through, after_of_before, le_through, upto_earlier, after_later}
 use Rattle.online_nodes.proofs.WindowLaw.{IsMet, met_in, met_no_more}
-
--- a time after one that lies after the place lies after it; a time before one that lies before it, before it
-pub after_later : (c : Place) (t u : Rational) → After c t → t ≤ʳ u → After c u
-after_later c t u = by_side c.after
-  where
-    by_side : (b : Bool) → MatchBool b (c.at <ʳ t) (c.at ≤ʳ t) → t ≤ʳ u → MatchBool b (c.at <ʳ u) (c.at ≤ʳ u)
-    by_side true h k = lt_of_lt_of_le h k
-    by_side false h k = le_trans h k
-
--- what is earlier than a time before a place is before it
-pub upto_earlier : (c : Place) (t u : Rational) → Upto c u → t ≤ʳ u → Upto c t
-upto_earlier c t u = by_side c.after
-  where
-    by_side : (b : Bool) → MatchBool b (u ≤ʳ c.at) (u <ʳ c.at) → t ≤ʳ u → MatchBool b (t ≤ʳ c.at) (t <ʳ c.at)
-    by_side true h k = le_trans k h
-    by_side false h k = lt_of_le_of_lt k h
-
--- times on the two sides of a place are in order
-pub in_order : (c : Place) (t u : Rational) → Upto c t → After c u → t ≤ʳ u
-in_order c t u h k = elim (le_or_lt t u) [ inl l ↦ l | inr l ↦ absurd (not_both c u (upto_earlier c u t h (le_of_lt l)) k) ]
 
 module _ {N P Q : Truths} {low high : Rational → Place} {at reach l r : Place} (until : IsUntilOf N P Q low high)
     (m : UntilRemembers N P Q low high at reach l r) where
@@ -45,7 +24,7 @@ module _ {N P Q : Truths} {low high : Rational → Place} {at reach l r : Place}
           by_end : Upto e u ⊎ After e u → ⊥
           by_end (inl x) = told u after_l x (all u (until.ahead t u lo) (le_refl u))
           by_end (inr x) = let v = between l e some in
-              told v.0 v.1 v.2 (all v.0 (in_order l t v.0 h v.1) (in_order e v.0 u v.2 x))
+              told v.0 v.1 v.2 (all v.0 (le_through l t v.0 h v.1) (le_through e v.0 u v.2 x))
 
   -- up to where a common stretch from x on counts, the node holds no longer than `reach`
   pub not_yet : (x from : Place) → MeetsAfter high x from
@@ -99,7 +78,7 @@ module _ {P Q : Truths} {low high : Rational → Place} {at reach l r stop : Pla
   knows_new_run at' e forward some told later within = record {
     run = λ t a u. absurd (not_both e t u (later t a).1);
     counts = λ t a u. absurd (not_both e t u (later t a).1);
-    rest = λ t u a _ lo hi q all known. let x = after_later e t u (later t a).1 (forward t u lo) in
+    rest = λ t u a _ lo hi q all known. let x = after_later e t u (forward t u lo) (later t a).1 in
         (x, by_side t u a lo q x (sides r u));
     inside = λ u x. (elim (sides e u) [ inl h ↦ absurd (not_both stop u (within u h) x) | inr h ↦ h ], (k.inside u x).1);
     ahead = λ t u a lo q x y v z w. k.ahead t u (later t a).0 lo q (after_of_before l e u some x) y v
@@ -110,7 +89,7 @@ module _ {P Q : Truths} {low high : Rational → Place} {at reach l r stop : Pla
       by_side t u a lo q x (inr h) = h
       by_side t u a lo q x (inl h) = let v = between l e some in
           absurd
-          (told v.0 v.1 v.2 (k.ahead t u (later t a).0 lo q (after_of_before l e u some x) h v.0 v.1 (in_order e v.0 u v.2 x)))
+          (told v.0 v.1 v.2 (k.ahead t u (later t a).0 lo q (after_of_before l e u some x) h v.0 v.1 (le_through e v.0 u v.2 x)))
 
   -- a right side that fails adds nothing
   pub knows_right_fails : (f : Place) → FailsFor Q low at r f → ((u : Rational) → Upto f u → Upto stop u)
@@ -159,8 +138,8 @@ module _ {P Q : Truths} {low high : Rational → Place} {at reach l r stop : Pla
         where
           all : AllFrom P t u
           all v from_t to_u = elim (sides l v) [
-            | inl h ↦ k.run v (after_later at t v (later t a).0 from_t) h
-            | inr h ↦ p v h (upto_earlier y v u upto_y to_u)
+            | inl h ↦ k.run v (after_later at t v from_t (later t a).0) h
+            | inr h ↦ p v h (upto_earlier y v u to_u upto_y)
           ]
 
   -- of the right input what no window begins before may be dropped unread

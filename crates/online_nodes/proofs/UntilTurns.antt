@@ -18,10 +18,10 @@ use Rattle.online_nodes.specs.declared.window.Sweep.{Sweep}
 use Rattle.online_nodes.specs.declared.until.Until.{Until}
 use Rattle.online_nodes.specs.declared.writer.Out.{Out}
 use Rattle.online_nodes.proofs.GotLemmas.{got-other}
-use Rattle.online_nodes.proofs.JoinLemmas.{after_at_most, worked_then_pass}
-use Rattle.rational.proofs.PlaceLemmas.{sides, not_both, upto_of_before}
+use Rattle.online_nodes.proofs.JoinLemmas.{worked_then_pass}
+use Rattle.rational.proofs.PlaceLemmas.{sides, not_both, upto_of_before, after_at_most, after_later}
 use Rattle.online_nodes.proofs.SaidLemmas.{HasAnswers, passed-fresh, passed-one}
-use Rattle.online_nodes.proofs.UntilLaw.{after_later, fails, remembers_of, knows_new_run, knows_right_dropped}
+use Rattle.online_nodes.proofs.UntilLaw.{fails, remembers_of, knows_new_run, knows_right_dropped}
 use Rattle.online_nodes.proofs.WorkLemmas.{passed-other, first_and_rest, worked_put}
 
 -- the next verdict of a list that tells goes on from where it begins
@@ -146,7 +146,7 @@ module _ {old mid : Held} {u : Until} {s : Sweep} {found out : Out} {cut : Cut} 
                     (place out.at) c e e x.stop)
                     (sym is)
                     (knows_right_dropped (knows_new_run m.knows (place out.at) e of.looks.ahead ahead failed later within) e
-                    (λ t y a lo. after_later e t y (later t a).1 (of.looks.ahead t y lo)) within);
+                    (λ t y a lo. after_later e t y (of.looks.ahead t y lo) (later t a).1) within);
                 left_tells = subst (λ f. Tells (Truth x.p x.tr) e f x.stop_left) (sym left_now) rest;
                 right_tells = subst (λ f. Tells (Counted true x.q x.tr) r.right f x.stop_right) (sym kept_right) m.right_tells;
                 left_behind = λ t h. h;
