@@ -157,27 +157,35 @@ module _ {P : Type 0} (shape : ShapeOf P) (read_as : How) (rel : Rel) (g : Gap) 
     bases = λ p h. inl h;
   }
 
+  -- what goes on from a time to the second row, by the one shape on what is left of the gap, and by the other at its end
+  pub record GoesOff (from : Rational) (mid new : List (Knot P)) (after point : P) : Type 0 where
+    -- the time of the second row, as the signal has it
+    pub end : Frac
+    pub few : g.second < 2 ^ 32
+    pub at_end : value end ≈ second
+    pub goes : GoesOn shape mid after end point new
+    -- `after` is worth what is read on the gap, and `point` what is read at its end
+    pub on_gap : (t : Rational) → from <ʳ t → t <ʳ second → value_at (shape.function after) t ≈ᵉ worth read_as rel (at (along g) t)
+    pub there : (t : Rational) → value_at (shape.function point) t ≈ᵉ worth read_as rel (whole next)
+
   -- over one shape, once the signal has caught up with the gap
-  pub goes_one : (old mid new : List (Knot P)) (steady after point : P) (end : Frac) → g.second < 2 ^ 32 → value end ≈ second
-      → CatchesUp shape steady g.first old mid → GoesOn shape mid after end point new
-      → ((t : Rational) → value_at (shape.function steady) t ≈ᵉ worth read_as rel (whole g.from))
-      → ((t : Rational) → first <ʳ t → t <ʳ second → value_at (shape.function after) t ≈ᵉ worth read_as rel (at (along g) t))
-      → ((t : Rational) → value_at (shape.function point) t ≈ᵉ worth read_as rel (whole next))
+  pub goes_one : {old mid : List (Knot P)} {steady : P} (new : List (Knot P)) (after point : P) → CatchesUp shape steady g.first old mid
+      → GoesOff first mid new after point → ((t : Rational) → value_at (shape.function steady) t ≈ᵉ worth read_as rel (whole g.from))
       → IsRowBase (shape.base steady) → IsRowBase (shape.base after) → IsRowBase (shape.base point) → GoesAlong shape read_as rel g next old new
-  goes_one old mid new steady after point end m h up on was gap here a b c = record {
-    signal = on.signal;
-    begins = on.begins ∙ up.begins;
+  goes_one {old} {mid} {steady} new after point up off was a b c = record {
+    signal = off.goes.signal;
+    begins = off.goes.begins ∙ up.begins;
     later = le_trans up.later (le_trans (le_of_same up.ends) (le_trans (le_of_lt (gap_in_order g)) (ge_of_same ends)));
     ends = le_of_same ends;
-    late = tick_within g.second m ends;
-    worth = λ t v w. by_part t v ((on.worth t v).0 w);
+    late = tick_within g.second off.few ends;
+    worth = λ t v w. by_part t v ((off.goes.worth t v).0 w);
     before = λ l. absurd (lt_irrefl (lt_trans l (lt_of_lt_of_le (gap_in_order g) (ge_of_same ends))));
     on = λ t l p q. absurd (lt_irrefl (lt_of_lt_of_le (lt_trans l q) (ge_of_same ends)));
-    bases = λ p s. by_shape p (on.shapes p s);
+    bases = λ p s. by_shape p (off.goes.shapes p s);
   }
     where
       ends : stop new ≈ second
-      ends = subst (λ x. x ≈ second) (sym on.ends) h
+      ends = subst (λ x. x ≈ second) (sym off.goes.ends) off.at_end
 
       by_mid : (t : Rational) (v : Extended) → IsWorth shape old t v ⊎ ((stop old <ʳ t) × (t ≤ʳ first) × (v ≈ᵉ value_at (shape.function steady) t))
           → Part old t v
@@ -185,19 +193,19 @@ module _ {P : Type 0} (shape : ShapeOf P) (read_as : How) (rel : Rel) (g : Gap) 
       by_mid t v (inr (l, z, p)) = inr (inl (l, z, same_transᵉ v (value_at (shape.function steady) t) (worth read_as rel (whole g.from)) p (was t)))
 
       by_part : (t : Rational) (v : Extended) → IsWorth shape mid t v
-          ⊎ ((stop mid <ʳ t) × (t <ʳ value end) × Passes (shape.function after) t v) ⊎ ((t ≈ value end) × Passes (shape.function point) t v)
+          ⊎ ((stop mid <ʳ t) × (t <ʳ value off.end) × Passes (shape.function after) t v) ⊎ ((t ≈ value off.end) × Passes (shape.function point) t v)
           → Part old t v
       by_part t v (inl w) = by_mid t v (up.worth t v w)
       by_part t v (inr (inl (l, z, p))) =
           let past : first <ʳ t = lt_of_le_of_lt (ge_of_same up.ends) l in
-          let soon : t <ʳ second = lt_of_lt_of_le z (le_of_same h) in
+          let soon : t <ʳ second = lt_of_lt_of_le z (le_of_same off.at_end) in
           inr (inr (inl (
             past,
             soon,
-            same_transᵉ v (value_at (shape.function after) t) (worth read_as rel (at (along g) t)) p (gap t past soon),
+            same_transᵉ v (value_at (shape.function after) t) (worth read_as rel (at (along g) t)) p (off.on_gap t past soon),
           )))
       by_part t v (inr (inr (e, p))) =
-          inr (inr (inr (same_trans e h, same_transᵉ v (value_at (shape.function point) t) (worth read_as rel (whole next)) p (here t))))
+          inr (inr (inr (same_trans e off.at_end, same_transᵉ v (value_at (shape.function point) t) (worth read_as rel (whole next)) p (off.there t))))
 
       by_old : (p : P) → HasShape old p ⊎ (p ≡ steady) → HasShape old p ⊎ IsRowBase (shape.base p)
       by_old p (inl s) = inl s
@@ -209,41 +217,38 @@ module _ {P : Type 0} (shape : ShapeOf P) (read_as : How) (rel : Rel) (g : Gap) 
       by_shape p (inr (inr s)) = inr (subst (λ q. IsRowBase (shape.base q)) (sym s) c)
 
   -- over one shape, which the atom has from where the signal ends
-  pub goes_level : (old new : List (Knot P)) (after point : P) (end : Frac) → g.second < 2 ^ 32 → value end ≈ second → stop old ≤ʳ first
-      → GoesOn shape old after end point new
+  pub goes_level : (old new : List (Knot P)) (after point : P) → stop old ≤ʳ first → GoesOff first old new after point
       → ((t : Rational) → value_at (shape.function after) t ≈ᵉ worth read_as rel (whole g.from))
-      → ((t : Rational) → first <ʳ t → t <ʳ second → value_at (shape.function after) t ≈ᵉ worth read_as rel (at (along g) t))
-      → ((t : Rational) → value_at (shape.function point) t ≈ᵉ worth read_as rel (whole next))
       → ((p : P) → IsRowBase (shape.base p)) → GoesAlong shape read_as rel g next old new
-  goes_level old new after point end m h late on was gap here b = record {
-    signal = on.signal;
-    begins = on.begins;
+  goes_level old new after point late off was b = record {
+    signal = off.goes.signal;
+    begins = off.goes.begins;
     later = le_trans late (le_trans (le_of_lt (gap_in_order g)) (ge_of_same ends));
     ends = le_of_same ends;
-    late = tick_within g.second m ends;
+    late = tick_within g.second off.few ends;
     before = λ l. absurd (lt_irrefl (lt_trans l (lt_of_lt_of_le (gap_in_order g) (ge_of_same ends))));
     on = λ t l p q. absurd (lt_irrefl (lt_of_lt_of_le (lt_trans l q) (ge_of_same ends)));
-    worth = λ t v w. by_part t v ((on.worth t v).0 w);
+    worth = λ t v w. by_part t v ((off.goes.worth t v).0 w);
     bases = λ p s. inr (b p);
   }
     where
       ends : stop new ≈ second
-      ends = subst (λ x. x ≈ second) (sym on.ends) h
+      ends = subst (λ x. x ≈ second) (sym off.goes.ends) off.at_end
 
-      by_place : (t : Rational) (v : Extended) → (stop old <ʳ t) → (t <ʳ value end) → Passes (shape.function after) t v → (t ≤ʳ first) ⊎ (first <ʳ t)
+      by_place : (t : Rational) (v : Extended) → (stop old <ʳ t) → (t <ʳ value off.end) → Passes (shape.function after) t v → (t ≤ʳ first) ⊎ (first <ʳ t)
           → Part old t v
       by_place t v l z p (inl le) = inr (inl (l, le, same_transᵉ v (value_at (shape.function after) t) (worth read_as rel (whole g.from)) p (was t)))
       by_place t v l z p (inr lt) =
-          let soon : t <ʳ second = lt_of_lt_of_le z (le_of_same h) in
-          inr (inr (inl (lt, soon, same_transᵉ v (value_at (shape.function after) t) (worth read_as rel (at (along g) t)) p (gap t lt soon))))
+          let soon : t <ʳ second = lt_of_lt_of_le z (le_of_same off.at_end) in
+          inr (inr (inl (lt, soon, same_transᵉ v (value_at (shape.function after) t) (worth read_as rel (at (along g) t)) p (off.on_gap t lt soon))))
 
       by_part : (t : Rational) (v : Extended) → IsWorth shape old t v
-          ⊎ ((stop old <ʳ t) × (t <ʳ value end) × Passes (shape.function after) t v) ⊎ ((t ≈ value end) × Passes (shape.function point) t v)
+          ⊎ ((stop old <ʳ t) × (t <ʳ value off.end) × Passes (shape.function after) t v) ⊎ ((t ≈ value off.end) × Passes (shape.function point) t v)
           → Part old t v
       by_part t v (inl w) = inl w
       by_part t v (inr (inl (l, z, p))) = by_place t v l z p (le_or_lt t first)
       by_part t v (inr (inr (e, p))) =
-          inr (inr (inr (same_trans e h, same_transᵉ v (value_at (shape.function point) t) (worth read_as rel (whole next)) p (here t))))
+          inr (inr (inr (same_trans e off.at_end, same_transᵉ v (value_at (shape.function point) t) (worth read_as rel (whole next)) p (off.there t))))
 
   -- up to a turn inside the gap
   pub record Turned (old mid : List (Knot P)) (before there : P) (turn : Frac) : Type 0 where
@@ -307,39 +312,36 @@ module _ {P : Type 0} (shape : ShapeOf P) (read_as : How) (rel : Rel) (g : Gap) 
       past = subst (λ x. first <ʳ x) (sym d.goes.ends) d.after_first
 
   -- over two shapes, with a point between them
-  pub goes_two : (old mid new : List (Knot P)) (before there after point : P) (turn end : Frac) → g.second < 2 ^ 32 → value end ≈ second
-      → Turned old mid before there turn → GoesOn shape mid after end point new
-      → ((t : Rational) → value turn <ʳ t → t <ʳ second → value_at (shape.function after) t ≈ᵉ worth read_as rel (at (along g) t))
-      → ((t : Rational) → value_at (shape.function point) t ≈ᵉ worth read_as rel (whole next))
-      → ((p : P) → IsRowBase (shape.base p)) → GoesAlong shape read_as rel g next old new
-  goes_two old mid new before there after point turn end m h d off from_then here b = record {
-    signal = off.signal;
-    begins = off.begins ∙ d.goes.begins;
+  pub goes_two : (old mid new : List (Knot P)) (before there after point : P) (turn : Frac) → Turned old mid before there turn
+      → GoesOff (value turn) mid new after point → ((p : P) → IsRowBase (shape.base p)) → GoesAlong shape read_as rel g next old new
+  goes_two old mid new before there after point turn d off b = record {
+    signal = off.goes.signal;
+    begins = off.goes.begins ∙ d.goes.begins;
     later = le_trans d.late (le_trans (le_of_lt (gap_in_order g)) (ge_of_same ends));
     ends = le_of_same ends;
-    late = tick_within g.second m ends;
-    worth = λ t v w. by_part t v ((off.worth t v).0 w);
+    late = tick_within g.second off.few ends;
+    worth = λ t v w. by_part t v ((off.goes.worth t v).0 w);
     before = λ l. absurd (lt_irrefl (lt_trans l (lt_of_lt_of_le (gap_in_order g) (ge_of_same ends))));
     on = λ t l p q. absurd (lt_irrefl (lt_of_lt_of_le (lt_trans l q) (ge_of_same ends)));
     bases = λ p s. inr (b p);
   }
     where
       ends : stop new ≈ second
-      ends = subst (λ x. x ≈ second) (sym off.ends) h
+      ends = subst (λ x. x ≈ second) (sym off.goes.ends) off.at_end
 
-      by_part : (t : Rational) (v : Extended) → IsWorth shape mid t v ⊎ ((stop mid <ʳ t) × (t <ʳ value end) × Passes (shape.function after) t v)
-          ⊎ ((t ≈ value end) × Passes (shape.function point) t v) → Part old t v
+      by_part : (t : Rational) (v : Extended) → IsWorth shape mid t v ⊎ ((stop mid <ʳ t) × (t <ʳ value off.end) × Passes (shape.function after) t v)
+          ⊎ ((t ≈ value off.end) × Passes (shape.function point) t v) → Part old t v
       by_part t v (inl w) = by_turn old mid before there turn d t v w
       by_part t v (inr (inl (l, z, p))) =
           let past : value turn <ʳ t = subst (λ x. x <ʳ t) d.goes.ends l in
-          let soon : t <ʳ second = lt_of_lt_of_le z (le_of_same h) in
+          let soon : t <ʳ second = lt_of_lt_of_le z (le_of_same off.at_end) in
           inr (inr (inl (
             lt_trans d.after_first past,
             soon,
-            same_transᵉ v (value_at (shape.function after) t) (worth read_as rel (at (along g) t)) p (from_then t past soon),
+            same_transᵉ v (value_at (shape.function after) t) (worth read_as rel (at (along g) t)) p (off.on_gap t past soon),
           )))
       by_part t v (inr (inr (e, p))) =
-          inr (inr (inr (same_trans e h, same_transᵉ v (value_at (shape.function point) t) (worth read_as rel (whole next)) p (here t))))
+          inr (inr (inr (same_trans e off.at_end, same_transᵉ v (value_at (shape.function point) t) (worth read_as rel (whole next)) p (off.there t))))
 
 -- what a trace gives an atom is a function of time
 given_is_function : (read_as : How) (tr : Trace) (i : ℕ) (a : Atom) → IsFunction (Gives (reading_of read_as tr) i a)
@@ -409,11 +411,11 @@ module _ {P : Type 0} (shape : ShapeOf P) (read_as : How) (b : Binding) (i : ℕ
       by_part a for t v (inr (inr x)) = absurd x
 
   -- while the atom stays as it is at row n, what is worth the sum there is what the trace gives
-  while_still : (n : ℕ) (next : ℤ) (s : List (Knot P)) (a : Atom) → IsFor b i a tr → n < length tr.rows
+  while_still : {s : List (Knot P)} (n : ℕ) (next : ℤ) (a : Atom) → IsFor b i a tr → n < length tr.rows
       → next ≡ reach k (values_at tr n) (values_at tr n) → HasGrown shape read_as b i tr n s
       → (t : Rational) (v : Extended) → stop s <ʳ t → t ≤ʳ row_time (row_of tr n) → v ≈ᵉ worth read_as k.rel (whole next)
       → Gives (reading_of read_as tr) i a t v
-  while_still n next s a for h e grown t v low high w =
+  while_still {s} n next a for h e grown t v low high w =
       let there = row_time (row_of tr n) in
       let is : expression a tr there ≈ whole next = row_is n next a for h e there (same_refl there) in
       let one : v ≈ᵉ worth read_as a.rel (whole next) = subst (λ q. v ≈ᵉ worth read_as q (whole next)) (atom_binding b i k here a tr for).rel w in
@@ -423,15 +425,27 @@ module _ {P : Type 0} (shape : ShapeOf P) (read_as : How) (b : Binding) (i : ℕ
       (same_transᵉ v (worth read_as a.rel (expression a tr there)) (worth read_as a.rel (expression a tr t)) two
       (same_symᵉ (worth read_as a.rel (expression a tr t)) (worth read_as a.rel (expression a tr there)) (grown.since a for t low high)))
 
+  -- the gap is the one between the rows n and r of the trace, and `next` the sum at r
+  pub record IsGapTo (n r : ℕ) (g : Gap) (next : ℤ) : Type 0 where
+    -- the rows are neighbours
+    pub neighbours : r ≡ suc n
+    pub within : r < length tr.rows
+    -- their times
+    pub first : g.first ≡ (row_of tr n).time
+    pub second : g.second ≡ (row_of tr r).time
+    -- the sums on the gap, by the coefficients there, and the one of the row r
+    pub from : g.from ≡ reach k (values_at tr n) (values_at tr n)
+    pub to : g.to ≡ reach k (values_at tr n) (values_at tr r)
+    pub at_next : next ≡ reach k (values_at tr r) (values_at tr r)
+    pub size : nat_abs next ≤ 2 ^ 31
+
   -- and grown over a gap
-  pub grown_on : (r n : ℕ) (g : Gap) (next : ℤ) (old new : List (Knot P)) → nat_abs next ≤ 2 ^ 31 → r ≡ suc n → r < length tr.rows
-      → g.first ≡ (row_of tr n).time → g.second ≡ (row_of tr r).time
-      → g.from ≡ reach k (values_at tr n) (values_at tr n) → g.to ≡ reach k (values_at tr n) (values_at tr r) → next ≡ reach k (values_at tr r) (values_at tr r)
+  pub grown_on : (r n : ℕ) (g : Gap) (next : ℤ) (old new : List (Knot P)) → IsGapTo n r g next
       → HasGrown shape read_as b i tr n old → GoesAlong shape read_as k.rel g next old new → HasGrown shape read_as b i tr r new
-  grown_on r n g next old new size e within f s from to at_next grown goes = record {
+  grown_on r n g next old new gap grown goes = record {
     signal = goes.signal;
     begins = subst (λ x. x ≈ trace.start tr) (sym goes.begins) grown.begins;
-    ends = subst (λ m. stop new ≤ʳ whole (pos m)) s goes.ends;
+    ends = subst (λ m. stop new ≤ʳ whole (pos m)) gap.second goes.ends;
     early = subst (IsWithin (2 ^ 34)) (sym goes.begins) grown.early;
     late = goes.late;
     small = λ t v h. small t v (goes.worth t v h);
@@ -441,7 +455,7 @@ module _ {P : Type 0} (shape : ShapeOf P) (read_as : How) (b : Binding) (i : ℕ
   }
     where
       before : n < length tr.rows
-      before = omega (arith, e, within)
+      before = let e = gap.neighbours in let within = gap.within in omega (arith, e, within)
 
       by_shape : (p : P) → HasShape old p ⊎ IsRowBase (shape.base p) → IsRowBase (shape.base p)
       by_shape p (inl h) = grown.bases p h
@@ -454,36 +468,36 @@ module _ {P : Type 0} (shape : ShapeOf P) (read_as : How) (b : Binding) (i : ℕ
       small t v (inr (inr (inl (past, high, w)))) =
           bounded_same (2 ^ 31) v (worth read_as k.rel (at (along g) t)) w (worth_bounded read_as k.rel (at (along g) t) (along_within g t past high))
       small t v (inr (inr (inr (when, w)))) = bounded_same (2 ^ 31) v (worth read_as k.rel (whole next)) w
-          (worth_bounded read_as k.rel (whole next) (within_whole (2 ^ 31) next size))
+          (worth_bounded read_as k.rel (whole next) (within_whole (2 ^ 31) next gap.size))
 
       has : AreNeighbours tr (row_of tr n) (row_of tr r)
       has = (
         n,
         slice_get-get_or tr.rows n (record { time = 0; values = [] }) before,
-        subst (λ m. slice_get tr.rows m ≡ Some (row_of tr r)) e (slice_get-get_or tr.rows r (record { time = 0; values = [] }) within),
+        subst (λ m. slice_get tr.rows m ≡ Some (row_of tr r)) gap.neighbours (slice_get-get_or tr.rows r (record { time = 0; values = [] }) gap.within),
       )
 
       on_way : (a : Atom) → IsFor b i a tr → (t : Rational) → whole (pos g.first) <ʳ t → t <ʳ whole (pos g.second) → expression a tr t ≈ at (along g) t
-      on_way a for t past soon = expression_along b i k here a tr for g (row_of tr n) (row_of tr r) t f s from to has
-          (subst (λ m. whole (pos m) <ʳ t) f past) (subst (λ m. t <ʳ whole (pos m)) s soon)
+      on_way a for t past soon = expression_along b i k here a tr for g (row_of tr n) (row_of tr r) t gap.first gap.second gap.from gap.to has
+          (subst (λ m. whole (pos m) <ʳ t) gap.first past) (subst (λ m. t <ʳ whole (pos m)) gap.second soon)
 
       by_part : (a : Atom) → IsFor b i a tr → (t : Rational) (v : Extended) → Part shape read_as k.rel g next old t v → Gives (reading_of read_as tr) i a t v
       by_part a for t v (inl w) = grown.worth a for t v w
       by_part a for t v (inr (inl (low, high, w))) =
-          while_still n g.from old a for before from grown t v low (subst (λ m. t ≤ʳ whole (pos m)) f high) w
+          while_still n g.from a for before gap.from grown t v low (subst (λ m. t ≤ʳ whole (pos m)) gap.first high) w
       by_part a for t v (inr (inr (inl (past, soon, w)))) =
           let one : v ≈ᵉ worth read_as a.rel (at (along g) t) = subst (λ q. v ≈ᵉ worth read_as q (at (along g) t)) (atom_binding b i k here a tr for).rel w in
           gives read_as tr i a t v
           (same_transᵉ v (worth read_as a.rel (at (along g) t)) (worth read_as a.rel (expression a tr t)) one
           (worth_same read_as a.rel (same_sym (on_way a for t past soon))))
-      by_part a for t v (inr (inr (inr (when, w)))) = at_row r next a for within at_next t v (subst (λ m. t ≈ whole (pos m)) s when) w
+      by_part a for t v (inr (inr (inr (when, w)))) = at_row r next a for gap.within gap.at_next t v (subst (λ m. t ≈ whole (pos m)) gap.second when) w
 
       -- what is worth the sum at the second row is worth what the atom is there
       up_to : (a : Atom) → IsFor b i a tr → (y : Rational) → worth read_as k.rel y ≈ᵉ worth read_as k.rel (whole next)
           → worth read_as a.rel y ≈ᵉ worth read_as a.rel (expression a tr (row_time (row_of tr r)))
       up_to a for y w =
           let there = row_time (row_of tr r) in
-          let is : expression a tr there ≈ whole next = row_is r next a for within at_next there (same_refl there) in
+          let is : expression a tr there ≈ whole next = row_is r next a for gap.within gap.at_next there (same_refl there) in
           let one : worth read_as a.rel y ≈ᵉ worth read_as a.rel (whole next) =
           subst (λ q. worth read_as q y ≈ᵉ worth read_as q (whole next)) (atom_binding b i k here a tr for).rel w in
           same_transᵉ (worth read_as a.rel y) (worth read_as a.rel (whole next)) (worth read_as a.rel (expression a tr there)) one
@@ -493,7 +507,7 @@ module _ {P : Type 0} (shape : ShapeOf P) (read_as : How) (b : Binding) (i : ℕ
           → (whole (pos g.second) ≤ʳ t) ⊎ (t <ʳ whole (pos g.second))
           → worth read_as a.rel (expression a tr t) ≈ᵉ worth read_as a.rel (expression a tr (row_time (row_of tr r)))
       after a for t low high past (inl le) =
-          worth_same read_as a.rel (same_expression a tr (same_of_le high (subst (λ m. whole (pos m) ≤ʳ t) s le)))
+          worth_same read_as a.rel (same_expression a tr (same_of_le high (subst (λ m. whole (pos m) ≤ʳ t) gap.second le)))
       after a for t low high past (inr soon) =
           let there = row_time (row_of tr r) in
           same_transᵉ (worth read_as a.rel (expression a tr t)) (worth read_as a.rel (at (along g) t)) (worth read_as a.rel (expression a tr there))
@@ -506,9 +520,9 @@ module _ {P : Type 0} (shape : ShapeOf P) (read_as : How) (b : Binding) (i : ℕ
       by_place a for t low high (inl le) =
           let mid = row_time (row_of tr n) in
           let there = row_time (row_of tr r) in
-          let is : expression a tr mid ≈ whole g.from = row_is n g.from a for before from mid (same_refl mid) in
+          let is : expression a tr mid ≈ whole g.from = row_is n g.from a for before gap.from mid (same_refl mid) in
           let one : worth read_as a.rel (expression a tr t) ≈ᵉ worth read_as a.rel (expression a tr mid) =
-          grown.since a for t (lt_of_le_of_lt goes.later low) (subst (λ m. t ≤ʳ whole (pos m)) f le) in
+          grown.since a for t (lt_of_le_of_lt goes.later low) (subst (λ m. t ≤ʳ whole (pos m)) gap.first le) in
           let two : worth read_as a.rel (expression a tr t) ≈ᵉ worth read_as a.rel (whole g.from) =
           same_transᵉ (worth read_as a.rel (expression a tr t)) (worth read_as a.rel (expression a tr mid)) (worth read_as a.rel (whole g.from)) one
           (worth_same read_as a.rel is) in
@@ -516,11 +530,11 @@ module _ {P : Type 0} (shape : ShapeOf P) (read_as : How) (b : Binding) (i : ℕ
           (up_to a for (whole g.from) (goes.before (lt_of_lt_of_le low le)))
 
   -- a signal that has grown to the last row, and then was caught up with it, is the atom's
-  pub whole_signal : (n time : ℕ) (next : ℤ) (steady : P) (old new : List (Knot P)) → nat_abs next ≤ 2 ^ 31 → length tr.rows ≡ suc n
+  pub whole_signal : {n time : ℕ} {steady : P} {old : List (Knot P)} (next : ℤ) (new : List (Knot P)) → nat_abs next ≤ 2 ^ 31 → length tr.rows ≡ suc n
       → time < 2 ^ 32 → time ≡ (row_of tr n).time → next ≡ reach k (values_at tr n) (values_at tr n)
       → ((t : Rational) → value_at (shape.function steady) t ≈ᵉ worth read_as k.rel (whole next)) → IsRowBase (shape.base steady)
       → HasGrown shape read_as b i tr n old → CatchesUp shape steady time old new → IsAtomSignal shape (reading_of read_as) b i tr new
-  whole_signal n time next steady old new size e few at_time at_next is base grown up = record {
+  whole_signal {n} {time} {steady} {old} next new size e few at_time at_next is base grown up = record {
     signal = up.signal;
     begins = begins;
     ends = ends;
@@ -558,4 +572,4 @@ module _ {P : Type 0} (shape : ShapeOf P) (read_as : How) (b : Binding) (i : ℕ
           → Gives (reading_of read_as tr) i a t v
       by_part a for t v (inl w) = grown.worth a for t v w
       by_part a for t v (inr (low, high, w)) =
-          while_still n next old a for within at_next grown t v low (subst (λ m. t ≤ʳ whole (pos m)) at_time high) (worth_is t v w)
+          while_still n next a for within at_next grown t v low (subst (λ m. t ≤ʳ whole (pos m)) at_time high) (worth_is t v w)

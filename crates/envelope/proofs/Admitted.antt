@@ -59,7 +59,7 @@ module _ {P : Type 0} (shape : ShapeOf P) (laws : ShapeLaws shape) (from : Turn)
   admitted_first old new low_until dropped falling follows to_come worse s turns =
       turned_stands shape laws parts (pieces_with from item parts) from from to
       (changes_of_more from parts (pieces_with from item parts) (more_with from item parts later)) old new
-      (record { top = item.value; low = old.after.low; high = old.after.high }) low_until low_until dropped
+      (record { top = item.value; low = old.after.low; high = old.after.high }) low_until
       (item ∷ []) s turns
       (nothing_before old.side old low_until dropped s)
       (keeps_with shape old.side from to low_until parts old.after [] dropped item within falling follows.each to_come
@@ -74,7 +74,7 @@ module _ {P : Type 0} (shape : ShapeOf P) (laws : ShapeLaws shape) (from : Turn)
           (sym e) (subst (λ o. MatchOption o (HasCome item.until t) (λ _. HasCome low_until t)) e h))
 
   -- where a better constant stays, the new one waits behind it
-  pub admitted_behind : (side : Side) (course : SoFar P) (low_until : Turn) (q : Item P)
+  pub admitted_behind : {course : SoFar P} {low_until : Turn} (side : Side) (q : Item P)
       (front dropped : List (Item P)) → IsFalling shape side from to item → IsFollowed course.after.low low_until
       (q ∷ front ++ dropped) item → EachToCome (q ∷ front ++ dropped) (value from.at)
       → AllWorse shape side (value from.at) item.value dropped
@@ -83,7 +83,7 @@ module _ {P : Type 0} (shape : ShapeOf P) (laws : ShapeLaws shape) (from : Turn)
       → ((p : P) → course.after.low ≡ Some p → (t : Rational) → HasCome q.until t → HasCome low_until t)
       → Stands shape side from to parts course low_until (q ∷ front ++ dropped)
       → Stands shape side from to (pieces_with from item parts) course low_until (q ∷ front ++ item ∷ [])
-  admitted_behind side course low_until q front dropped falling follows to_come worse last low_first s = record {
+  admitted_behind {course} {low_until} side q front dropped falling follows to_come worse last low_first s = record {
     told = λ t v first most n h. by_turn t v most (first_stays course.after low_until (q ∷ front ++ dropped) t
         course.after.low refl (λ p e k. low_first p e t k) n) (s.told t v first most n h) (come_or_not from t);
     keeps = keeps;

@@ -258,12 +258,12 @@ module _ {P : Type 0} (shape : ShapeOf P) where
       by_shape y (inr (inr (inr m))) = inr (inr m)
 
   -- one stretch after another
-  pub written_on : (side : Side) (best : Best P) (there point : P) (old half new : List (Knot P)) (middle to : Frac)
+  written_on : {there : P} {old half : List (Knot P)} {middle : Frac} (side : Side) (best : Best P) (point : P) (new : List (Knot P)) (to : Frac)
       → stop old <ʳ value middle → value middle <ʳ value to
       → IsWritten shape side old best middle there half → Has best there → IsBestAt shape side best (value middle)
       (value_at (shape.function there) (value middle))
       → IsWritten shape side half best to point new → IsWritten shape side old best to point new
-  written_on side best there point old half new middle to after before h has here k = record {
+  written_on {there} {old} {half} {middle} side best point new to after before h has here k = record {
     signal = k.signal;
     begins = k.begins ∙ h.begins;
     ends = k.ends;
@@ -349,13 +349,13 @@ module _ {P : Type 0} (shape : ShapeOf P) where
       has (inr e) = inr (inr (ap Some (sym e)))
 
   -- the first up to a crossing, and the second after it
-  pub written_split : (side : Side) (p q r there point : P) (old half new : List (Knot P)) (middle to : Frac)
+  pub written_split : {there : P} {old half : List (Knot P)} {middle : Frac} (side : Side) (p q r point : P) (new : List (Knot P)) (to : Frac)
       → IsSplit shape side p q (stop old) (value to) p (value middle) q → (there ≡ p) ⊎ (there ≡ r) → IsChosen side
       (value_at (shape.function p) (value middle)) (value_at (shape.function r) (value middle))
       (value_at (shape.function there) (value middle))
       → Joins shape side old p r middle there half → Joins shape side half q r to point new → IsWritten shape side old (three p q r) to point new
-  written_split side p q r there point old half new middle to split is here first second =
-      written_on side (three p q r) there point old half new middle to split.after split.before
+  written_split {there} {old} {half} {middle} side p q r point new to split is here first second =
+      written_on side (three p q r) point new to split.after split.before
       (written_join side (three p q r) p r there old half middle first (inr (inl refl)) (inl refl)
       (λ t v a b c. best_of_three side p q r p t v (inl refl) (split.until_then t a b) c))
       (has is)
@@ -369,14 +369,14 @@ module _ {P : Type 0} (shape : ShapeOf P) where
       has (inr e) = inl e
 
   -- a crossing of two of the shapes is one of what counts
-  pub gap_fault : (best : Best P) (p q : P) (from to : Frac) (low high : Rational) (pair : WidePair P) → Has best p
+  pub gap_fault : {low high : Rational} (best : Best P) (p q : P) (from to : Frac) (pair : WidePair P) → Has best p
       → Has best q → low ≤ʳ value from → value to ≤ʳ high → IsGapFault shape p q from to (F.Wide pair)
       → IsBestFault shape best low high pair
-  gap_fault best p q from to low high (Cross a b c d den) has_p has_q after before (ea, eb, ec, ed, (t, m, n, w)) =
+  gap_fault {low} {high} best p q from to (Cross a b c d den) has_p has_q after before (ea, eb, ec, ed, (t, m, n, w)) =
       subst (λ a. IsCrossingOf shape best low high a b c d den) (sym ea) (subst (λ b. IsCrossingOf shape best low high p b c d den) (sym eb)
       (subst (λ c. IsCrossingOf shape best low high p q c d den) (sym ec) (subst (λ d. IsCrossingOf shape best low high p q from d den) (sym ed)
       (record { first = has_p; second = has_q; after = after; before = before; time = t; meet = m; denominator = n; wide = w }))))
-  gap_fault best p q from to low high (Value a b den) has_p has_q after before h = absurd h
+  gap_fault best p q from to (Value a b den) has_p has_q after before h = absurd h
 
   -- a fault of three shapes, whichever of the two gaps stands first
   pub fault_swapped : (p q r : P) (low high : Rational) (pair : WidePair P) → IsBestFault shape (three p q r) low high pair

@@ -34,7 +34,7 @@ module _ {P : Type 0} (shape : ShapeOf P) (laws : ShapeLaws shape) (turn : Turn)
       (record { top = old.after.top; low = old.after.low; high = Some p }) new
       → Stands shape old.side turn to (climbing p turn ∷ parts) new low_until items
   climb_stands p s turns = turned_stands shape laws parts (climbing p turn ∷ parts) turn turn to changes old new
-      (record { top = old.after.top; low = old.after.low; high = Some p }) low_until low_until items items s turns
+      (record { top = old.after.top; low = old.after.low; high = Some p }) low_until items s turns
       (nothing parts s) keeps low_first s.later
     where
       by_new : (y : Part P) → IsOneOf (climbing p turn ∷ parts) y → ((t : Rational) → Counts y t → HasCome turn t)
@@ -84,8 +84,8 @@ module _ {P : Type 0} (shape : ShapeOf P) (laws : ShapeLaws shape) (turn : Turn)
       (record { top = old.after.top; low = old.after.low; high = None }) new
       → Stands shape old.side turn to (climbed_until p from turn ∷ parts) new low_until items
   end_stands p from s turns = turned_stands shape laws (climbing p from ∷ parts) (climbed_until p from turn ∷ parts)
-      turn turn to changes old new (record { top = old.after.top; low = old.after.low; high = None }) low_until
-      low_until items items s turns
+      turn turn to changes old new (record { top = old.after.top; low = old.after.low; high = None })
+      low_until items s turns
       (nothing (climbing p from ∷ parts) s) keeps low_first s.later
     where
       kept_piece : (x : Part P) → IsOneOf (climbing p from ∷ parts) x → (y : Part P)

@@ -91,10 +91,10 @@ module _ {P : Type 0} (shape : ShapeOf P) (laws : ShapeLaws shape) (side : Side)
 
   module _ (pos : Turn) (to : Rational) (parts : List (Part P)) where
     -- two of what counts in a best that is carried by pieces are two of them
-    pub crossing_carried : (best : Best P) (On : Rational → Type 0) (from stop_at low high : Rational) (p q : P) (a b : Frac) (den : ℕ)
+    crossing_carried : {low high : Rational} {p q : P} {a b : Frac} {den : ℕ} (best : Best P) (On : Rational → Type 0) (from stop_at : Rational)
         → IsCarried shape side pos to parts best On → ((t : Rational) → low <ʳ t → t <ʳ high → On t) → from ≤ʳ low → high ≤ʳ stop_at
         → IsCrossingOf shape best low high p q a b den → IsCrossingOn shape parts from stop_at p q a b den
-    crossing_carried best On from stop_at low high p q a b den (inl alone) on first last c = absurd (apart (only p c.first) (only q c.second))
+    crossing_carried {p = p} {q = q} {a = a} best On from stop_at (inl alone) on first last c = absurd (apart (only p c.first) (only q c.second))
       where
         only : (r : P) → Has best r → r ≡ best.top
         only r (inl e) = e
@@ -105,7 +105,7 @@ module _ {P : Type 0} (shape : ShapeOf P) (laws : ShapeLaws shape) (side : Side)
         apart e f = not_lt_of_le (ge_of_same (c.meet.alone (value a)
             (subst (λ r. value_at (shape.function p) (value a) ≈ᵉ value_at (shape.function r) (value a)) (let g : p ≡ q = cc in g)
             (same_reflᵉ (value_at (shape.function p) (value a)))))) c.meet.after
-    crossing_carried best On from stop_at low high p q a b den (inr carried) on first last c = by_both (carried p c.first) (carried q c.second)
+    crossing_carried {p = p} {q = q} {a = a} {b = b} {den = den} best On from stop_at (inr carried) on first last c = by_both (carried p c.first) (carried q c.second)
       where
         inside : (t : Rational) → value a <ʳ t → t <ʳ value b → On t
         inside t h k = on t (lt_of_le_of_lt c.after h) (lt_of_lt_of_le k c.before)
@@ -134,7 +134,7 @@ module _ {P : Type 0} (shape : ShapeOf P) (laws : ShapeLaws shape) (side : Side)
         → IsCarried shape side pos to parts best On → ((t : Rational) → low <ʳ t → t <ʳ high → On t) → from ≤ʳ low → high ≤ʳ stop_at
         → IsBestFault shape best low high pair → IsPiecesFault shape parts from stop_at pair
     fault_carried best On from stop_at low high (Cross p q a b den) carried on first last c =
-        crossing_carried best On from stop_at low high p q a b den carried on first last c
+        crossing_carried best On from stop_at carried on first last c
     fault_carried best On from stop_at low high (Value p at den) carried on first last c = absurd c
 
 -- what has not left by a time has not left before
@@ -199,10 +199,10 @@ module _ {P : Type 0} (shape : ShapeOf P) (laws : ShapeLaws shape) where
       (course_fault old.course.side n to parts mid.course mid.low_until mid.queue.items pair g.can.ready m f)) h
 
   -- and where all of it has
-  pub stopped_left : (turn : Turn) (old : Walk P) (mid : SoFar P) (low_mid : Turn) (items_mid : List (Item P)) (fault : Option (WidePair P))
+  pub stopped_left : {mid : SoFar P} {low_mid : Turn} {items_mid : List (Item P)} (turn : Turn) (old : Walk P) (fault : Option (WidePair P))
       → Leaves shape turn old.course old.low_until old.queue.items mid low_mid items_mid
       → IfSome fault (IsSoFarFault shape mid) → IsStoppedBy shape turn old fault
-  stopped_left turn old mid low_mid items_mid fault l h pos to parts come s =
+  stopped_left {mid} {low_mid} {items_mid} turn old fault l h pos to parts come s =
       if_some fault (IsSoFarFault shape mid)
       (IsPiecesFault shape parts (first_time old.course old.course.built) (value turn.at))
       (λ pair f. raised parts (first_time mid mid.built) (first_time old.course old.course.built)
@@ -210,10 +210,10 @@ module _ {P : Type 0} (shape : ShapeOf P) (laws : ShapeLaws shape) where
       (course_fault old.course.side turn to parts mid low_mid items_mid pair l.can.ready (l.stands parts pos to come s) f)) h
 
   -- a refusal on the way to the end
-  pub stopped_ending : (turn : Turn) (old : Walk P) (mid : SoFar P) (low_mid : Turn) (items_mid : List (Item P)) (fault : Option (WidePair P))
+  pub stopped_ending : {mid : SoFar P} {low_mid : Turn} {items_mid : List (Item P)} (turn : Turn) (old : Walk P) (fault : Option (WidePair P))
       → Leaves shape turn old.course old.low_until old.queue.items mid low_mid items_mid
       → IfSome fault (IsEndFault shape mid (value turn.at)) → IsStoppedBy shape turn old fault
-  stopped_ending turn old mid low_mid items_mid fault l h pos to parts come s =
+  stopped_ending {mid} {low_mid} {items_mid} turn old fault l h pos to parts come s =
       if_some fault (IsEndFault shape mid (value turn.at))
       (IsPiecesFault shape parts (first_time old.course old.course.built) (value turn.at))
       (λ pair f. by_kind pair f) h

@@ -26,17 +26,33 @@ low_turns_few None = omega arith
 low_turns_few (Some p) = omega arith
 
 module _ {P : Type 0} (shape : ShapeOf P) where
+  -- a step has let go at the turn what leaves next: the course can go on, and has no knot later than the turn
+  record Slides (turn : Turn) (old : SoFar P) (low_until : Turn) (items : List (Item P)) (new : SoFar P) (low_until' : Turn) (items' : List (Item P)) : Type 0
+    where
+      can : CanGoOn shape new low_until' items'
+      passed : IsPassed shape turn old low_until items new low_until' items'
+      side : new.side ≡ old.side
+      first : first_time new new.built ≡ first_time old old.built
+      at : value new.at ≤ʳ value turn.at
+
+  -- the same of a result
+  pub record SlidesOk {T E : Type 0} (r : Result T E) (turn : Turn) (old : SoFar P) (low_until : Turn) (items : List (Item P)) (new : SoFar P)
+      (low_until' : Turn) (items' : List (Item P)) : Type 0 where
+    pub can : OnOk r (CanGoOn shape new low_until' items')
+    pub passed : OnOk r (IsPassed shape turn old low_until items new low_until' items')
+    pub side : OnOk r (new.side ≡ old.side)
+    pub first : OnOk r (first_time new new.built ≡ first_time old old.built)
+    pub at : OnOk r (value new.at ≤ʳ value turn.at)
+
   -- the gap under the low end
-  pub passes_out : (old new : SoFar P) (low_until : Turn) (items : List (Item P)) (p : P) → old.after.low ≡ Some p
-      → CanGoOn shape new low_until items → IsPassed shape low_until old low_until items new low_until items
-      → new.side ≡ old.side → first_time new new.built ≡ first_time old old.built
-      → value new.at ≤ʳ value low_until.at → new.after.low ≡ None → Passes shape old low_until items new low_until items
-  passes_out old new low_until items p low can passed side first at none = record {
-    can = can;
-    side = side;
-    first = first;
-    passed = λ turn e. subst (λ u. IsPassed shape u old low_until items new low_until items) (is turn e) passed;
-    at = λ turn e. subst (λ u. value new.at ≤ʳ value u.at) (is turn e) at;
+  passes_out : (old new : SoFar P) (low_until : Turn) (items : List (Item P)) (p : P) → old.after.low ≡ Some p
+      → Slides low_until old low_until items new low_until items → new.after.low ≡ None → Passes shape old low_until items new low_until items
+  passes_out old new low_until items p low slides none = record {
+    can = slides.can;
+    side = slides.side;
+    first = slides.first;
+    passed = λ turn e. subst (λ u. IsPassed shape u old low_until items new low_until items) (is turn e) slides.passed;
+    at = λ turn e. subst (λ u. value new.at ≤ʳ value u.at) (is turn e) slides.at;
     fewer = subst (λ o. turns_left o items < turns_left old.after.low items) (sym none)
         (subst (λ o. turns_left None items < turns_left o items) (sym low) (fewer (length items)));
     followed = λ item f. record { gap = λ q e. absurd (cc); each = f.each };
@@ -49,18 +65,15 @@ module _ {P : Type 0} (shape : ShapeOf P) where
       fewer n = omega arith
 
   -- the first item
-  pub passes_in : (old new : SoFar P) (low_until low_until' : Turn) (first : Item P) (items : List (Item P))
-      → old.after.low ≡ None → CanGoOn shape new low_until' items → IsPassed shape first.until old low_until
-      (first ∷ items) new low_until' items → new.side ≡ old.side → first_time new new.built ≡ first_time old old.built
-      → value new.at ≤ʳ value first.until.at → new.after.low ≡ slope_shape first.slope
-      → low_until' ≡ slope_until first.slope low_until → Passes shape old low_until (first ∷ items) new low_until'
-      items
-  passes_in old new low_until low_until' first items none can passed side begins at low until = record {
-    can = can;
-    side = side;
-    first = begins;
-    passed = λ turn e. subst (λ u. IsPassed shape u old low_until (first ∷ items) new low_until' items) (is turn e) passed;
-    at = λ turn e. subst (λ u. value new.at ≤ʳ value u.at) (is turn e) at;
+  passes_in : (old new : SoFar P) (low_until low_until' : Turn) (first : Item P) (items : List (Item P)) → old.after.low ≡ None
+      → Slides first.until old low_until (first ∷ items) new low_until' items → new.after.low ≡ slope_shape first.slope
+      → low_until' ≡ slope_until first.slope low_until → Passes shape old low_until (first ∷ items) new low_until' items
+  passes_in old new low_until low_until' first items none slides low until = record {
+    can = slides.can;
+    side = slides.side;
+    first = slides.first;
+    passed = λ turn e. subst (λ u. IsPassed shape u old low_until (first ∷ items) new low_until' items) (is turn e) slides.passed;
+    at = λ turn e. subst (λ u. value new.at ≤ʳ value u.at) (is turn e) slides.at;
     fewer = subst (λ o. turns_left new.after.low items < turns_left o (first ∷ items)) (sym none)
         (fewer (low_turns new.after.low) (low_turns_few new.after.low));
     followed = λ item f. record { gap = λ q e. gap item f q first.slope refl (sym low ∙ e); each = f.each.1 };
@@ -80,36 +93,29 @@ module _ {P : Type 0} (shape : ShapeOf P) where
           let is = until ∙ ap (λ (o : Option (Slope P)). slope_until o low_until) e in
           subst (λ u. HasCome u t) (sym is) (subst (λ o. SlopeEndsBy o item.until) e f.each.0.slope t h)
 
-  -- the same of a result
-  pub out_of : {T E : Type 0} (r : Result T E) (old new : SoFar P) (low_until low_until' : Turn)
-      (items items' : List (Item P)) (p : P) → old.after.low ≡ Some p → low_until' ≡ low_until → items' ≡ items
-      → OnOk r (CanGoOn shape new low_until' items')
-      → OnOk r (IsPassed shape low_until old low_until items new low_until' items') → OnOk r (new.side ≡ old.side)
-      → OnOk r (first_time new new.built ≡ first_time old old.built)
-      → OnOk r (value new.at ≤ʳ value low_until.at) → OnOk r (new.after.low ≡ None)
-      → OnOk r (Passes shape old low_until items new low_until' items')
-  out_of (Ok x) old new low_until low_until' items items' p low u i can passed side first at none =
+  -- where a call that ends the gap under the low end succeeds, the gap is passed
+  pub out_of : {T E : Type 0} {low_until' : Turn} {items' : List (Item P)} (r : Result T E) (old new : SoFar P) (low_until : Turn) (items : List (Item P)) (p : P)
+      → old.after.low ≡ Some p → low_until' ≡ low_until → items' ≡ items → SlidesOk r low_until old low_until items new low_until' items'
+      → OnOk r (new.after.low ≡ None) → OnOk r (Passes shape old low_until items new low_until' items')
+  out_of {low_until' = low_until'} {items' = items'} (Ok x) old new low_until items p low u i s none =
       subst (λ w. Passes shape old low_until items new w items') (sym u) (subst (λ xs. Passes shape old low_until items new low_until xs) (sym i)
-      (passes_out old new low_until items p low (subst (λ xs. CanGoOn shape new low_until xs) i (subst (λ w. CanGoOn shape new w items') u can))
-      (subst (λ xs. IsPassed shape low_until old low_until items new low_until xs) i
-      (subst (λ w. IsPassed shape low_until old low_until items new w items') u passed)) side first at none))
-  out_of (Err e) old new low_until low_until' items items' p low u i can passed side first at none = tt
+      (passes_out old new low_until items p low (subst (λ xs. Slides low_until old low_until items new low_until xs) i
+      (subst (λ w. Slides low_until old low_until items new w items') u
+      (record { can = s.can; passed = s.passed; side = s.side; first = s.first; at = s.at }))) none))
+  out_of (Err e) old new low_until items p low u i s none = tt
 
   -- where a call that lets the first constant go succeeds, that item is passed
-  pub in_of : {T E : Type 0} (r : Result T E) (old new : SoFar P) (low_until low_until' : Turn) (first : Item P)
-      (items items' all : List (Item P)) → old.after.low ≡ None → all ≡ first ∷ items → items' ≡ items
-      → OnOk r (CanGoOn shape new low_until' items')
-      → OnOk r (IsPassed shape first.until old low_until (first ∷ items) new low_until' items')
-      → OnOk r (new.side ≡ old.side) → OnOk r (first_time new new.built ≡ first_time old old.built)
-      → OnOk r (value new.at ≤ʳ value first.until.at)
-      → OnOk r (new.after.low ≡ slope_shape first.slope)
-      → low_until' ≡ slope_until first.slope low_until → OnOk r (Passes shape old low_until all new low_until' items')
-  in_of (Ok x) old new low_until low_until' first items items' all none a i can passed side begins at low u =
+  pub in_of : {T E : Type 0} {low_until' : Turn} {items' all : List (Item P)} (r : Result T E) (old new : SoFar P) (low_until : Turn) (first : Item P)
+      (items : List (Item P)) → old.after.low ≡ None → all ≡ first ∷ items → items' ≡ items → low_until' ≡ slope_until first.slope low_until
+      → SlidesOk r first.until old low_until (first ∷ items) new low_until' items' → OnOk r (new.after.low ≡ slope_shape first.slope)
+      → OnOk r (Passes shape old low_until all new low_until' items')
+  in_of {low_until' = low_until'} {items' = items'} (Ok x) old new low_until first items none a i u s low =
       subst (λ ys. Passes shape old low_until ys new low_until' items') (sym a)
       (subst (λ xs. Passes shape old low_until (first ∷ items) new low_until' xs) (sym i)
-      (passes_in old new low_until low_until' first items none (subst (λ xs. CanGoOn shape new low_until' xs) i can)
-      (subst (λ xs. IsPassed shape first.until old low_until (first ∷ items) new low_until' xs) i passed) side begins at low u))
-  in_of (Err e) old new low_until low_until' first items items' all none a i can passed side begins at low u = tt
+      (passes_in old new low_until low_until' first items none
+      (subst (λ xs. Slides first.until old low_until (first ∷ items) new low_until' xs) i
+      (record { can = s.can; passed = s.passed; side = s.side; first = s.first; at = s.at })) low u))
+  in_of (Err e) old new low_until first items none a i u s low = tt
 
 -- a test that finds nothing
 pub none_there : {A : Type 0} (o : Option A) (b : Bool) → b ≡ is_some o → b ≡ false → o ≡ None
@@ -192,12 +198,11 @@ module _ {P : Type 0} (shape : ShapeOf P) (turn : Turn) where
       record { can = can; side = refl; first = refl; at = at; followed = λ item f. f; stands = λ parts pos to come s. (pos, come, s) }
 
   -- one more that leaves no later than the turn
-  pub goes_on : (old mid new : SoFar P) (low_until low_mid low_new : Turn) (items items_mid items_new : List (Item P))
-      (next : Turn) → GoesTo shape turn old low_until items mid low_mid items_mid → leaving_by mid.after.low low_mid
-      items_mid ≡ Some next
+  pub goes_on : {old mid new : SoFar P} {low_until low_mid low_new : Turn} {items items_mid items_new : List (Item P)} (next : Turn)
+      → GoesTo shape turn old low_until items mid low_mid items_mid → leaving_by mid.after.low low_mid items_mid ≡ Some next
       → ((t : Rational) → HasCome turn t → HasCome next t) → Passes shape mid low_mid items_mid new low_new items_new
       → GoesTo shape turn old low_until items new low_new items_new
-  goes_on old mid new low_until low_mid low_new items items_mid items_new next g e come p = record {
+  goes_on {old} {mid} {new} {low_until} {low_mid} {low_new} {items} {items_mid} {items_new} next g e come p = record {
     can = p.can;
     side = p.side ∙ g.side;
     first = p.first ∙ g.first;

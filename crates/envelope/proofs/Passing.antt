@@ -110,13 +110,13 @@ same_pieces turn parts = record { kept = λ x one. (x, one, refl, λ t h c. c); 
 module _ {P : Type 0} (shape : ShapeOf P) (laws : ShapeLaws shape) (parts parts' : List (Part P)) (pos turn : Turn)
     (to : Rational) (changes : Changes turn parts parts') where
   -- after a turn to what is promised from there on, the walk stands at that turn
-  pub turned_stands : (old new : SoFar P) (next : Best P) (low_until low_until' : Turn) (items items' : List (Item P))
+  pub turned_stands : {low_until : Turn} {items : List (Item P)} (old new : SoFar P) (next : Best P) (low_until' : Turn) (items' : List (Item P))
       → Stands shape old.side pos to parts old low_until items → Turns shape old turn next new
       → ((t : Rational) → IsToCome turn t → NothingLeaves old.after low_until items t) → Keeps shape old.side turn to
       parts' next low_until' items' → ((p : P) → next.low ≡ Some p → (t : Rational) → FirstHasCome items' t
       → HasCome low_until' t)
       → ((t : Rational) → SomethingLeaves next low_until' items' t → HasCome turn t) → Stands shape old.side turn to parts' new low_until' items'
-  turned_stands old new next low_until low_until' items items' s turns nothing keeps low_first later = record {
+  turned_stands {low_until} {items} old new next low_until' items' s turns nothing keeps low_first later = record {
     told = told;
     keeps = subst (λ b. Keeps shape old.side turn to parts' b low_until' items') (sym turns.after) keeps;
     later = λ t h. later t (subst (λ b. SomethingLeaves b low_until' items' t) turns.after h);

@@ -125,7 +125,7 @@ module _ {P : Type 0} (shape : ShapeOf P) (laws : ShapeLaws shape) (from : Turn)
     followed = λ x h g. record { gap = (l.followed x g).gap; each = followed_with (q ∷ front) dropped item x (l.followed x g).each h };
     stands = λ parts pos to come within falling s. subst (λ side. Stands shape side from to
         (pieces_with from item parts) mid low_mid (q ∷ front ++ item ∷ [])) l.side
-        (admitted_behind shape laws from to parts item within n.later n.to_come mid.side mid low_mid q front dropped
+        (admitted_behind shape laws from to parts item within n.later n.to_come mid.side q front dropped
         (subst (λ side. IsFalling shape side from to item) (sym l.side) falling) (l.followed item f) to_come worse
         last
         (λ p e t h. (l.can.low p e).1 t h)

@@ -115,12 +115,12 @@ module _ {P : Type 0} (shape : ShapeOf P) where
       by_slope (Some slope) e = subst (λ o. SlopeEndsBy o (slope_until o item.until)) (sym e) (λ t h. h)
 
   -- what a walk keeps of a refusal, in the caller's words
-  pub stops_of : (from until : Turn) (old : Walk P) (fault : Option (WidePair P)) (side : Side) (start to : Rational)
-      (pos : Turn) (parts more : List (Part P))
+  pub stops_of : {side : Side} {start to : Rational} {pos : Turn} {parts : List (Part P)} (from until : Turn) (old : Walk P) (fault : Option (WidePair P))
+      (more : List (Part P))
       → ((t : Rational) → HasCome from t → HasCome pos t) → value from.at ≤ʳ value until.at
       → ((x : Part P) → IsOneOf parts x → IsOneOf more x) → Walks shape side start to pos parts old → IsStoppedBy shape from old fault
       → IfSome fault (IsPiecesFault shape more start (value until.at))
-  stops_of from until old fault side start to pos parts more come order kept w h =
+  stops_of {side} {start} {to} {pos} {parts} from until old fault more come order kept w h =
       if_some fault (IsPiecesFault shape parts (first_time old.course old.course.built) (value from.at)) (IsPiecesFault shape more start (value until.at))
       by_pair
       (h pos to parts come (subst (λ side. Stands shape side pos to parts old.course old.low_until old.queue.items) (sym w.of_side) w.stands))
@@ -387,4 +387,4 @@ pub finish_stops : {P : Type 0} {side : Side} {start : Rational} {pos : Turn} {p
     → ((t : Rational) → HasCome turn t → HasCome pos t) → Walks shape side start (value turn.at) pos parts old
     → IsStoppedBy shape turn old kept → IsRefusal kept e → IsRefusedFor shape parts start (value turn.at) e
 finish_stops {side = side} {start} {pos} {parts} shape laws turn old kept e come w h is = refusal_tells shape laws parts start (value turn.at) kept e is
-    (stops_of shape turn turn old kept side start (value turn.at) pos parts parts come (le_refl (value turn.at)) (λ x one. one) w h)
+    (stops_of shape turn turn old kept parts come (le_refl (value turn.at)) (λ x one. one) w h)

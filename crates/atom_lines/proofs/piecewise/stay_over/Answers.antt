@@ -52,10 +52,16 @@ returns-then-holds c =
     let second : g.second < 4294967296 = omega arith in
     on_ok_weaker c.go_along.result
     (λ on. goes_level truth_shape by_truth rel g c.args.next c.args.signal.now c.go_along.new.self
-    c.truth_at-after.result c.truth_at-last.result c.of-end.result second is c.requires.late on
+    c.truth_at-after.result c.truth_at-last.result c.requires.late
+    (record {
+      end = c.of-end.result;
+      few = second;
+      at_end = is;
+      goes = on;
+      on_gap = λ t a b. truth_worth c.truth_at-after.result rel (at (along g) t) t (one_truth g rel t c.requires.stays a b ∙ sum);
+      there = λ t. truth_worth c.truth_at-last.result rel (whole c.args.next) t last;
+    })
     (λ t. truth_worth c.truth_at-after.result rel (whole g.from) t was)
-    (λ t a b. truth_worth c.truth_at-after.result rel (at (along g) t) t (one_truth g rel t c.requires.stays a b ∙ sum))
-    (λ t. truth_worth c.truth_at-last.result rel (whole c.args.next) t last)
     (λ p. zero_base)) c.go_along.ensures.ok
 
 pub returns : goal.returns
@@ -72,9 +78,14 @@ returns c =
     ap (λ n. compares rel (whole n)) (sym then) ∙ sym c.truth_at-last.ensures in
     let second : g.second < 4294967296 = omega arith in
     on_ok_weaker c.go_along-2.result
-    (λ on. goes_one truth_shape by_truth rel g c.args.next c.args.signal.now c.catch_up.new.signal c.go_along-2.new.self
-    c.truth_at-before.result c.truth_at-after.result c.truth_at-last.result c.of-end.result second is c.in_ok-catch_up.ensures on
+    (λ on. goes_one truth_shape by_truth rel g c.args.next c.go_along-2.new.self c.truth_at-after.result c.truth_at-last.result c.in_ok-catch_up.ensures
+    (record {
+      end = c.of-end.result;
+      few = second;
+      at_end = is;
+      goes = on;
+      on_gap = λ t a b. truth_worth c.truth_at-after.result rel (at (along g) t) t (one_truth g rel t c.requires.stays a b ∙ sum);
+      there = λ t. truth_worth c.truth_at-last.result rel (whole c.args.next) t last;
+    })
     (λ t. truth_worth c.truth_at-before.result rel (whole g.from) t was)
-    (λ t a b. truth_worth c.truth_at-after.result rel (at (along g) t) t (one_truth g rel t c.requires.stays a b ∙ sum))
-    (λ t. truth_worth c.truth_at-last.result rel (whole c.args.next) t last)
     zero_base zero_base zero_base) c.go_along-2.ensures.ok

@@ -81,7 +81,7 @@ returns c =
     let second : g.second < 4294967296 = omega arith in
     on_ok_weaker c.go_along-2.result
     (λ off. goes_two truth_shape by_truth rel g c.args.next c.args.signal.now c.go_along.new.self c.go_along-2.new.self
-    c.truth_at-before.result c.truth_at-point.result c.truth_at-after.result c.truth_at-last.result c.crossing-at.result c.of-end.result second is
+    c.truth_at-before.result c.truth_at-point.result c.truth_at-after.result c.truth_at-last.result c.crossing-at.result
     (record {
       late = c.requires.late;
       after_first = turn.after_first;
@@ -91,7 +91,12 @@ returns c =
       until_then = λ t a b. truth_worth c.truth_at-before.result rel (at (along g) t) t (turn.until_then t a b ∙ was);
       at_turn = λ t e. truth_worth c.truth_at-point.result rel (at (along g) t) t (turn.there t e ∙ point);
     })
-    off
-    (λ t a b. truth_worth c.truth_at-after.result rel (at (along g) t) t (turn.from_then t a b ∙ after))
-    (λ t. truth_worth c.truth_at-last.result rel (whole c.args.next) t last)
+    (record {
+      end = c.of-end.result;
+      few = second;
+      at_end = is;
+      goes = off;
+      on_gap = λ t a b. truth_worth c.truth_at-after.result rel (at (along g) t) t (turn.from_then t a b ∙ after);
+      there = λ t. truth_worth c.truth_at-last.result rel (whole c.args.next) t last;
+    })
     (λ p. zero_base)) c.go_along-2.ensures.ok

@@ -47,5 +47,13 @@ returns-clause-grown g c =
     (reach_small k (values_at y.trace.now y.row) (values_at y.trace.now y.row) c.atom-atom.ensures.sound.limit c.gap_on-next.ensures.small_next) in
     grown_on g.P.Shape g.P.Piecewise.read_as b c.args.node tr k c.atom-atom.ensures.at c.args.r
     (c.args.r - 1) c.gap_on-next.result.0 c.gap_on-next.result.1 c.args.signal.now c.go_on.new.signal
-    size e c.requires.within (c.gap_on-next.ensures.first ∙ c.time.ensures d)
-    (c.gap_on-next.ensures.second ∙ c.time-2.ensures d) from to next c.requires.grown goes
+    (record {
+      neighbours = e;
+      within = c.requires.within;
+      first = c.gap_on-next.ensures.first ∙ c.time.ensures d;
+      second = c.gap_on-next.ensures.second ∙ c.time-2.ensures d;
+      from = from;
+      to = to;
+      at_next = next;
+      size = size;
+    }) c.requires.grown goes

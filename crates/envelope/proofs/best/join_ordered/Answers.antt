@@ -30,7 +30,7 @@ returns-in_default-favour g c =
       still = c.join_kept.ensures.still;
       fault = on_err_weaker c.join_kept.result (λ kept. IfSome_then c.join_kept.new.fault kept
           (λ pair (from, i, h). gap_fault g.P.Shape (three c.args.first.now c.args.second.now c.args.r.now)
-          c.args.second.now c.args.r.now from c.args.to.now (stop c.args.built.now) (value c.args.to.now) pair
+          c.args.second.now c.args.r.now from c.args.to.now pair
           (inr (inr refl)) (inl refl) (subst (λ u. u ≤ʳ value from) i (le_refl (value from))) (le_refl (value c.args.to.now)) h))
           c.join_kept.ensures.wide;
     }
@@ -51,7 +51,7 @@ returns-in_default g c =
       still = c.join_kept-in_default.ensures.still;
       fault = on_err_weaker c.join_kept-in_default.result (λ kept. IfSome_then c.join_kept-in_default.new.fault kept
           (λ pair (from, i, h). gap_fault g.P.Shape (three c.args.first.now c.args.second.now c.args.r.now)
-          c.args.first.now c.args.r.now from c.args.to.now (stop c.args.built.now) (value c.args.to.now) pair
+          c.args.first.now c.args.r.now from c.args.to.now pair
           (inr (inl refl)) (inl refl) (subst (λ u. u ≤ʳ value from) i (le_refl (value from))) (le_refl (value c.args.to.now)) h))
           c.join_kept-in_default.ensures.wide;
     }

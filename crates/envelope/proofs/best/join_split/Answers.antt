@@ -50,7 +50,7 @@ returns-in_err-middle-clause-fault g c =
     (value c.args.to.now) (value t)) (IsGapFault g.P.Shape c.args.first.now c.args.second.now c.stop-from.result c.args.to.now)
     c.crossing.result c.keep.new.fault c.in_err-middle.ensures.fault c.crossing.ensures.met)
     (λ pair h. gap_fault g.P.Shape (three c.args.first.now c.args.second.now c.args.r.now) c.args.first.now
-    c.args.second.now c.stop-from.result c.args.to.now (stop c.args.built.now) (value c.args.to.now) pair
+    c.args.second.now c.stop-from.result c.args.to.now pair
     (inr (inl refl)) (inr (inr refl)) (subst (λ u. u ≤ʳ value c.stop-from.result) c.stop-from.ensures.value
     (le_refl (value c.stop-from.result))) (le_refl (value c.args.to.now)) h))
 
@@ -61,7 +61,7 @@ returns-in_err-join_kept-clause-fault g c =
     c.in_ok-middle.ensures.ok c.crossing.ensures.met in
     on_err_anyway c.from_residual-in_err-join_kept.result (IfSome_then c.join_kept.new.fault c.in_err-join_kept.ensures.wide (λ pair (from, e, h).
     gap_fault g.P.Shape (three c.args.first.now c.args.second.now c.args.r.now) c.args.first.now
-    c.args.r.now from c.in_ok-middle.middle (stop c.args.built.now) (value c.args.to.now) pair
+    c.args.r.now from c.in_ok-middle.middle pair
     (inr (inl refl)) (inl refl) (subst (λ u. u ≤ʳ value from) e (le_refl (value from))) (le_of_lt m.before) h))
 
 pub join_kept-requires-2-clause-from_within : goal.join_kept-requires-2-clause-from_within
@@ -81,8 +81,8 @@ returns-clause-ok g c =
     (meets g.P.Shape c.args.first.now c.args.second.now c.stop-from.result c.args.to.now c.crossing.result c.in_ok-middle.middle
     c.in_ok-middle.ensures.ok c.crossing.ensures.met) in
     on_ok_weaker c.join_kept-2.result
-    (written_split g.P.Shape c.args.side c.args.first.now c.args.second.now c.args.r.now c.chosen-there.result
-    c.args.point.now c.args.built.now c.join_kept.new.self c.join_kept-2.new.self c.in_ok-middle.middle c.args.to.now
+    (written_split g.P.Shape c.args.side c.args.first.now c.args.second.now c.args.r.now c.args.point.now
+    c.join_kept-2.new.self c.args.to.now
     (split_first g.P.Shape c.args.side c.args.first.now c.args.second.now (stop c.args.built.now) (value c.args.to.now) c.in_ok-middle.middle
     (taken_of_no_better c.args.side (value_at (f c.args.second.now) (stop c.args.built.now))
     (value_at (f c.args.first.now) (stop c.args.built.now)) c.requires.better)
@@ -94,7 +94,7 @@ returns-clause-ok g c =
 pub returns-clause-fault : goal.returns-clause-fault
 returns-clause-fault g c = on_err_weaker c.join_kept-2.result (λ kept. IfSome_then c.join_kept-2.new.fault kept
     (λ pair (from, i, h). gap_fault g.P.Shape (three c.args.first.now c.args.second.now c.args.r.now) c.args.second.now
-    c.args.r.now from c.args.to.now (stop c.args.built.now) (value c.args.to.now) pair
+    c.args.r.now from c.args.to.now pair
     (inr (inr refl)) (inl refl) (after from i) (le_refl (value c.args.to.now)) h))
     c.join_kept-2.ensures.wide
   where

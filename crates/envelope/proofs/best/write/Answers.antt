@@ -28,7 +28,7 @@ returns-in-Some-None-clause-ok g c =
 pub returns-in-None-Some-clause-fault : goal.returns-in-None-Some-clause-fault
 returns-in-None-Some-clause-fault g c =
     on_err_weaker c.join_kept.result (λ kept. IfSome_then c.join_kept.new.fault kept (λ pair (from, i, h). gap_fault g.P.Shape c.args.best.now
-    c.in-None-Some.high c.args.best.now.top from c.args.to.now (stop c.args.built.now) (value c.args.to.now) pair
+    c.in-None-Some.high c.args.best.now.top from c.args.to.now pair
     (inr (inr c.in-None-Some.is-1)) (inl refl) (subst (λ u. u ≤ʳ value from) i (le_refl (value from))) (le_refl (value c.args.to.now)) h))
     c.join_kept.ensures.wide
 
@@ -36,7 +36,7 @@ pub returns-in-Some-None-clause-fault : goal.returns-in-Some-None-clause-fault
 returns-in-Some-None-clause-fault g c =
     on_err_weaker c.join_kept-in-Some-None.result (λ kept. IfSome_then c.join_kept-in-Some-None.new.fault kept (λ pair (from, i, h).
     gap_fault g.P.Shape c.args.best.now
-    c.in-Some-None.low c.args.best.now.top from c.args.to.now (stop c.args.built.now) (value c.args.to.now) pair
+    c.in-Some-None.low c.args.best.now.top from c.args.to.now pair
     (inr (inl c.in-Some-None.is-0)) (inl refl) (subst (λ u. u ≤ʳ value from) i (le_refl (value from)))
     (le_refl (value c.args.to.now)) h)) c.join_kept-in-Some-None.ensures.wide
 

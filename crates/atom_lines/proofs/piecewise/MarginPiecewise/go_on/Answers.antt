@@ -57,9 +57,8 @@ returns c =
     let here : (t : Rational) → value_at (margin_function c.margin_at-2.result) t ≈ᵉ worth by_margin c.args.rel (whole c.args.next) =
     λ t. subst (λ n. value_at (margin_function c.margin_at-2.result) t ≈ᵉ worth by_margin c.args.rel (whole n)) then (c.margin_at-2.ensures.worth t) in
     on_ok_weaker c.step.result
-    (λ on. goes_one margin_shape by_margin c.args.rel g c.args.next c.args.signal.now c.catch_up.new.signal c.step.new.self
-    c.margin_at.result c.margin_between.result c.margin_at-2.result c.of-end.result second is c.in_ok-catch_up.ensures on was
-    (λ t a b. c.margin_between.ensures.worth t) here
+    (λ on. goes_one margin_shape by_margin c.args.rel g c.args.next c.step.new.self c.margin_between.result c.margin_at-2.result c.in_ok-catch_up.ensures
+    (record { end = c.of-end.result; few = second; at_end = is; goes = on; on_gap = λ t a b. c.margin_between.ensures.worth t; there = here }) was
     (margin_row_base c.margin_at.result g.first first (λ r. absurd (true≢false (sym r ∙ c.margin_at.ensures.level))))
     (margin_row_base c.margin_between.result g.first first c.margin_between.ensures.base)
     (margin_row_base c.margin_at-2.result g.first first (λ r. absurd (true≢false (sym r ∙ c.margin_at-2.ensures.level))))) c.step.ensures.ok

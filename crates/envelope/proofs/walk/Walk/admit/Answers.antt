@@ -16,5 +16,5 @@ returns-clause-took g c = on_ok_weaker c.take.result
 pub returns-clause-fault : goal.returns-clause-fault
 returns-clause-fault g c = on_err c.take.result
     (λ h side start to pos parts come w. stops_of g.P.Shape c.args.from.now c.args.from.now c.args.self.now
-    c.take.new.self.course.fault side start to pos parts parts come (le_refl (value c.args.from.now.at)) (λ x one. one) w h)
+    c.take.new.self.course.fault parts come (le_refl (value c.args.from.now.at)) (λ x one. one) w h)
     c.take.ensures.fault

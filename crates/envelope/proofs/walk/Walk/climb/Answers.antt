@@ -14,7 +14,7 @@ turn_high-requires-2-clause-can g c = take_later g.P.Shape c.turn_high.new.self 
 pub returns-in_err-turn_high-clause-fault : goal.returns-in_err-turn_high-clause-fault
 returns-in_err-turn_high-clause-fault g c = on_err_anyway c.from_residual.result
     (λ side start to pos parts come w. stops_of g.P.Shape c.args.from.now c.args.until.now c.args.self.now
-    c.turn_high.new.self.course.fault side start to pos parts (climbed_until c.args.gap c.args.from.now c.args.until.now ∷ parts) come
+    c.turn_high.new.self.course.fault (climbed_until c.args.gap c.args.from.now c.args.until.now ∷ parts) come
     (at_most_of_come c.args.from.now c.args.until.now c.requires.order) (λ x one. inr one) w c.in_err-turn_high.ensures.fault)
 
 pub returns-clause-climbed : goal.returns-clause-climbed

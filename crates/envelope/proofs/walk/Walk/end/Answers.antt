@@ -11,6 +11,5 @@ returns-clause-ok g c = on_ok_weaker c.go_to.result
 
 pub returns-clause-fault : goal.returns-clause-fault
 returns-clause-fault g c = on_err c.go_to.result
-    (λ h. stopped_ending g.P.Shape (assumption g.met.P.Shape) _ c.args.self.now c.leave.new.self.course
-    c.leave.new.self.low_until c.leave.new.self.queue.items c.go_to.new.self.fault c.in_ok-leave.ensures.ok h)
+    (λ h. stopped_ending g.P.Shape (assumption g.met.P.Shape) _ c.args.self.now c.go_to.new.self.fault c.in_ok-leave.ensures.ok h)
     c.go_to.ensures.fault

@@ -12,10 +12,7 @@ loop-next-init g c = goes_none g.P.Shape c.args.turn.now c.args.self.now.course 
     c.args.self.now.queue.items c.requires.can c.requires.order
 
 pub loop-next-preserved : goal.loop-next-preserved
-loop-next-preserved g c = goes_on g.P.Shape c.args.turn.now c.args.self.now.course c.loop-next.self.course
-    c.pass.new.self.course c.args.self.now.low_until c.loop-next.self.low_until c.pass.new.self.low_until
-    c.args.self.now.queue.items c.loop-next.self.queue.items c.pass.new.self.queue.items c.in-Some.next
-    c.loop-next.invariant (sym c.in-Some.ensures) (c.is_later.ensures.not_later c.if-is_later.false)
+loop-next-preserved g c = goes_on g.P.Shape c.args.turn.now c.in-Some.next c.loop-next.invariant (sym c.in-Some.ensures) (c.is_later.ensures.not_later c.if-is_later.false)
     c.in_ok-pass.ensures.ok
 
 pub pass-requires-clause-some : goal.pass-requires-clause-some

@@ -18,18 +18,25 @@ pub returns-then-is_some-clause-ok : goal.returns-then-is_some-clause-ok
 returns-then-is_some-clause-ok g c =
     let p = some_there c.args.self.now.course.after.low c.is_some.result c.is_some.ensures c.if-is_some.true in
     out_of g.P.Shape c.slide_out.result c.args.self.now.course c.slide_out.new.self.course
-    c.args.self.now.low_until c.slide_out.new.self.low_until c.args.self.now.queue.items
-    c.slide_out.new.self.queue.items p.0 p.1
-    c.slide_out.ensures.until c.slide_out.ensures.items c.slide_out.ensures.can c.slide_out.ensures.passed
-    c.slide_out.ensures.side c.slide_out.ensures.begins c.slide_out.ensures.at c.slide_out.ensures.none
+    c.args.self.now.low_until c.args.self.now.queue.items p.0 p.1 c.slide_out.ensures.until c.slide_out.ensures.items (record {
+      can = c.slide_out.ensures.can;
+      passed = c.slide_out.ensures.passed;
+      side = c.slide_out.ensures.side;
+      first = c.slide_out.ensures.begins;
+      at = c.slide_out.ensures.at;
+    }) c.slide_out.ensures.none
 
 pub returns-in-Some-clause-ok : goal.returns-in-Some-clause-ok
 returns-in-Some-clause-ok g c = in_of g.P.Shape c.slide_in.result c.args.self.now.course c.slide_in.new.self.course c.args.self.now.low_until
-    c.slide_in.new.self.low_until c.in-Some.first c.pop_front.new.self.items c.slide_in.new.self.queue.items
-    c.args.self.now.queue.items
+    c.in-Some.first c.pop_front.new.self.items
     (none_there c.args.self.now.course.after.low c.is_some.result c.is_some.ensures c.if-is_some.false) c.in-Some.ensures.items
-    c.slide_in.ensures.items c.slide_in.ensures.can c.slide_in.ensures.passed c.slide_in.ensures.side
-    c.slide_in.ensures.begins c.slide_in.ensures.at c.slide_in.ensures.low c.slide_in.ensures.until
+    c.slide_in.ensures.items c.slide_in.ensures.until (record {
+      can = c.slide_in.ensures.can;
+      passed = c.slide_in.ensures.passed;
+      side = c.slide_in.ensures.side;
+      first = c.slide_in.ensures.begins;
+      at = c.slide_in.ensures.at;
+    }) c.slide_in.ensures.low
 
 pub returns-in-None : goal.returns-in-None
 returns-in-None g c =

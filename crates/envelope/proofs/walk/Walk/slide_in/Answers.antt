@@ -33,7 +33,7 @@ returns-clause-passed g c =
     let next : Best g.row.P.Denot = record { top = c.top.result; low = c.shape_of.result; high = old.after.high } in
     on_ok_weaker c.turn.result (λ t parts pos to s. turned_stands g.P.Shape (assumption g.met.P.Shape) parts parts pos
     first.until to (same_pieces first.until parts) old c.turn.new.self
-    next low_until c.until_of-self.result (first ∷ items) items s t
+    next c.until_of-self.result items s t
     (λ u h. subst (λ o. MatchOption o (IsToCome first.until u) (λ _. IsToCome low_until u)) (sym c.requires.low) h)
     (subst (λ l. Keeps g.P.Shape old.side first.until to parts
     (record { top = c.top.result; low = l; high = old.after.high }) c.until_of-self.result items)

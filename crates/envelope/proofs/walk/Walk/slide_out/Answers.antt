@@ -33,7 +33,7 @@ returns-clause-passed g c =
     let items = c.args.self.now.queue.items in
     on_ok_weaker c.turn.result (λ t parts pos to s. turned_stands g.P.Shape (assumption g.met.P.Shape) parts parts pos
     low_until to (same_pieces low_until parts) old c.turn.new.self
-    (record { top = old.after.top; low = None; high = old.after.high }) low_until low_until items items s t
+    (record { top = old.after.top; low = None; high = old.after.high }) low_until items s t
     (λ u h. subst (λ o. MatchOption o (FirstStays items u) (λ _. IsToCome low_until u)) (sym p.1) h)
     (keeps_out g.P.Shape old.side pos to parts old.after low_until items
     (λ u h. s.later u (subst (λ o. MatchOption o (FirstHasCome items u) (λ _. HasCome low_until u)) (sym p.1) h))

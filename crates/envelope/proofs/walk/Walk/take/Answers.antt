@@ -46,6 +46,5 @@ returns-then-is_err g c = record {
 
 pub returns-in_err-rise-clause-fault : goal.returns-in_err-rise-clause-fault
 returns-in_err-rise-clause-fault g c = on_err_anyway c.from_residual-in_err-rise.result
-    (stopped_left g.P.Shape (assumption g.met.P.Shape) c.args.from.now c.args.self.now c.leave.new.self.course
-    c.leave.new.self.low_until c.leave.new.self.queue.items
+    (stopped_left g.P.Shape (assumption g.met.P.Shape) c.args.from.now c.args.self.now
     c.rise.new.self.course.fault c.in_ok-leave.ensures.ok c.in_err-rise.ensures.fault)

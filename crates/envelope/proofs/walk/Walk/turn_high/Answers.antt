@@ -18,6 +18,5 @@ returns-clause-ok g c = on_ok_weaker c.turn.result
 
 pub returns-clause-fault : goal.returns-clause-fault
 returns-clause-fault g c = on_err c.turn.result
-    (λ h. stopped_left g.P.Shape (assumption g.met.P.Shape) c.args.turn.now c.args.self.now c.leave.new.self.course
-    c.leave.new.self.low_until c.leave.new.self.queue.items c.turn.new.self.fault c.in_ok-leave.ensures.ok h)
+    (λ h. stopped_left g.P.Shape (assumption g.met.P.Shape) c.args.turn.now c.args.self.now c.turn.new.self.fault c.in_ok-leave.ensures.ok h)
     c.turn.ensures.fault
