@@ -93,4 +93,4 @@ module _ (t : Step) (z : Endless) (e : Held) (to : ℕ) (b : Belongs t (Op.Ever 
 
       -- the operator stands at the time of the turn
       pub step_stands : (z' : Endless) → z'.window ≡ z.window → z'.past ≡ Some s' → StandsNow t (Op.Ever z') e' to
-      step_stands z' window is = past_stands t z e to b (value s.at) end same m.from s s' z' e' m.whole_can m.window kept came m.begun last window is
+      step_stands z' window is = past_stands t z e to b (value s.at) end same z' m.whole_can m.window kept came m.begun last window is

@@ -92,4 +92,4 @@ module _ (t : Step) (z : Lazy) (e : Held) (to : ℕ) (b : Belongs t (Op.Sweep z)
 
       -- the operator stands at the time of the turn
       pub step_stands : (z' : Lazy) → z'.window ≡ z.window → z'.sweep ≡ Some s' → StandsNow t (Op.Sweep z') e' to
-      step_stands z' window is = window_stands t z e to b (value s.place.at) end same m.from s s' z' e' m.whole_can m.window kept came m.begun last window is
+      step_stands z' window is = window_stands t z e to b (value s.place.at) end same z' m.whole_can m.window kept came m.begun last window is

@@ -239,7 +239,7 @@ module _ (x : Scope) (w : Wide) (none : Margin) (low high : Rim) (l h : Rational
         record { into = (is_window w t i.order).0; out = (is_window w t i.order).1 } in
         best_over x w t v (floor_any w.side v)
         (λ u y inside has. window_bound (input_of x w.side) x.reach (input_is_function x w.side) w.side (none_of w.side minus_infinity infinity)
-        (shifted (start x.trace) w.low) (shifted t w.low) h (shifted t w.high) low s.marks s.constants (w.low_in ≡ true) (w.high_in ≡ true) (times_of w t) v
+        (shifted (start x.trace) w.low) (shifted t w.low) h (shifted t w.high) low s.marks s.constants v
         spanned window left (subst (λ (g : Rim). IsNoBetter w.side (value_at (margin_function g.shape) (shifted t w.high)) v) s.last right)
         (top_under v under) at_low at_high u y inside has)
         (window_reached (input_of x w.side) x.reach (input_is_function x w.side) w.side (none_of w.side minus_infinity infinity)
@@ -247,12 +247,12 @@ module _ (x : Scope) (w : Wide) (none : Margin) (low high : Rim) (l h : Rational
         spanned window one)
 
     -- strictly between two stops what counts is the best over the window
-    pub best_between : (best : Best Margin) (low_shape high_shape : Margin) (v : Extended) → best.top ≡ top
+    pub best_between : {best : Best Margin} {low_shape high_shape : Margin} {v : Extended} → IsBestAt margin_shape w.side best t v → best.top ≡ top
         → best.low ≡ Some low_shape → best.high ≡ Some high_shape
         → value_at (margin_function low_shape) t ≈ᵉ value_at (margin_function low.shape) (shifted t w.low)
         → value_at (margin_function high_shape) t ≈ᵉ value_at (margin_function high.shape) (shifted t w.high)
-        → l ≤ʳ h → l <ʳ shifted t w.low → IsBefore (shifted t w.high) high.until → IsBestAt margin_shape w.side best t v → best_of x w t v
-    best_between best low_shape high_shape v is_top' is_low is_high low_at high_at l_h inside_low inside_high b =
+        → l ≤ʳ h → l <ʳ shifted t w.low → IsBefore (shifted t w.high) high.until → best_of x w t v
+    best_between {best} {low_shape} {high_shape} {v} b is_top' is_low is_high low_at high_at l_h inside_low inside_high =
         outcome v left right (b.bound top (inl (sym is_top')))
         (λ _ y has. no_better_trans w.side y (value_at (margin_function low.shape) (shifted t w.low)) v
         (no_better_same w.side y (value_at (margin_function low.shape) (shifted t w.low)) ((input_is_function x w.side).one (shifted t w.low) y

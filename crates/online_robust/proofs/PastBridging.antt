@@ -220,12 +220,12 @@ module _ (t : Step) (z : Endless) (e : Held) (to : ℕ) (b : Belongs t (Op.Ever 
             (sym window) (none_let_go (begin_of t) to z.window.high t.before b.forth)) sheds)
 
     -- it stands for its node at the number
-    pub past_stands : (from : Rational) (old s : Ever) (z' : Endless) (e' : Held) → CanPass x own from (whole (pos to)) old e
+    pub past_stands : {from : Rational} {old s : Ever} {e' : Held} (z' : Endless) → CanPass x own from (whole (pos to)) old e
         → old.window ≡ z.window → s.window ≡ old.window
         → HasPassed x s e' → pos (begin_of t) ≤ℤ F
         → IsSomeAnd s.last (λ r. (value r.at ≡ value s.at) × (value r.at ≈ end) × IsThere (best_of x old.window) (reach_before t + own) (value r.at) r.value)
         → z'.window ≡ z.window → z'.past ≡ Some s → StandsNow t (Op.Ever z') e' to
-    past_stands from old s z' e' can old_window s_window came begun last window is node found =
+    past_stands {from} {old} {s} {e'} z' can old_window s_window came begun last window is node found =
         subst (λ (k : Node). Stands k t.nodes t.place t.trace (Some (pos to)) (Op.Ever z') (seen_by k e')) (same_Some _ _ (sym b.at ∙ found)) (
           subst (IsPastOf b.node) (sym window) b.stands.0,
           subst (λ (o : Option Ever). MatchOption o ((seen_by b.node e' ≡ []) × HasWaitedPast z' (begin_of t) (reach_before t + own) (Some (pos to)))

@@ -218,13 +218,13 @@ module _ (t : Step) (z : Lazy) (e : Held) (to : ℕ) (b : Belongs t (Op.Sweep z)
             (sym window) (none_let_go (begin_of t) to z.window.low t.before b.forth)) sheds)
 
     -- it stands for its node at the number
-    pub window_stands : (from : Rational) (old s : Sweep) (z' : Lazy) (e' : Held) → CanSweep x own from (whole (pos to)) old e
+    pub window_stands : {from : Rational} {old s : Sweep} {e' : Held} (z' : Lazy) → CanSweep x own from (whole (pos to)) old e
         → old.window ≡ z.window → s.window ≡ old.window
         → HasCome x s e' → pos (begin_of t) ≤ℤ F
         → IsSomeAnd s.last
         (λ r. (value r.at ≡ value s.place.at) × (value r.at ≈ end) × IsThere (best_of x old.window) (reach_before t + own) (value r.at) r.value)
         → z'.window ≡ z.window → z'.sweep ≡ Some s → StandsNow t (Op.Sweep z') e' to
-    window_stands from old s z' e' can old_window s_window came begun last window is node found =
+    window_stands {from} {old} {s} {e'} z' can old_window s_window came begun last window is node found =
         subst (λ (k : Node). Stands k t.nodes t.place t.trace (Some (pos to)) (Op.Sweep z') (seen_by k e')) (same_Some _ _ (sym b.at ∙ found)) (
           subst (IsWindowOf b.node) (sym window) b.stands.0,
           subst (λ (v : Window). v.low <ℤ v.high) (sym window) b.stands.1,

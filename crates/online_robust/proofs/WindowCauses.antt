@@ -196,13 +196,30 @@ module _ (x : Scope) (side : Side) where
             absurd (not_lt_of_le (at (middle u c.0) (left_of_middle c.1) (lt_of_lt_of_le (right_of_middle c.1) c.2)).above
             (lt_of_lt_of_le (right_of_middle c.1) c.3))
 
-    -- its finite value or limit is one within each window that it is strictly inside of
+    -- where its point, or the limit before or behind it, is finite it is a time of the trace
+    pub knot_there : (of : Margin) → (of ≡ low.shape) ⊎ (of ≡ k.point) ⊎ (of ≡ k.after.shape) → (v : Rational)
+        → value_at (margin_function of) u ≈ᵉ finite v → Within (start x.trace) (stop x.trace) u
+    knot_there of (inl e) v is = (left_inside v (subst (λ (m : Margin). value_at (margin_function m) u ≈ᵉ finite v) e is)).0
+    knot_there of (inr (inl e)) v is =
+        (inside_of u v (value_at (margin_function k.point) u) (subst (λ (m : Margin). value_at (margin_function m) u ≈ᵉ finite v) e is) point).0
+    knot_there of (inr (inr e)) v is = (right_inside v (subst (λ (m : Margin). value_at (margin_function m) u ≈ᵉ finite v) e is)).0
+
+    -- the knot lies strictly inside of a window W, of which C is the closed one and L and R are what lies behind its begin and before its end
+    pub record IsInside (W C L R : Rational → Type 0) : Type 0 where
+      -- a time of the trace is one of the window
+      pub held : Within (start x.trace) (stop x.trace) u → W u
+      -- and of the closed one
+      pub closed : Within (start x.trace) (stop x.trace) u → C u
+      -- it lies behind the begin
+      pub left : L u
+      -- and before the end
+      pub right : R u
+
+    -- so that value or limit is one within the window
     pub knot_within : (of : Margin) → (of ≡ low.shape) ⊎ (of ≡ k.point) ⊎ (of ≡ k.after.shape) → (v : Rational)
-        → value_at (margin_function of) u ≈ᵉ finite v → (line : Affine) → IsConstant line (finite v) → (W C L R : Rational → Type 0)
-        → (Within (start x.trace) (stop x.trace) u → W u) → (Within (start x.trace) (stop x.trace) u → C u) → L u → R u
-        → Within (start x.trace) (stop x.trace) u
-        × (IsValueWithin P (start x.trace) (stop x.trace) W line ⊎ IsLimitWithin P (start x.trace) (stop x.trace) C L R line)
-    knot_within of (inl e) v is line constant W C L R w c l r =
+        → value_at (margin_function of) u ≈ᵉ finite v → (line : Affine) → IsConstant line (finite v) → (W C L R : Rational → Type 0) → IsInside W C L R
+        → IsValueWithin P (start x.trace) (stop x.trace) W line ⊎ IsLimitWithin P (start x.trace) (stop x.trace) C L R line
+    knot_within of (inl e) v is line constant W C L R g =
         let is' = subst (λ (m : Margin). value_at (margin_function m) u ≈ᵉ finite v) e is in
         let (inside, above) = left_inside v is' in
         let limit : IsLeftLimit P u (finite v) = record {
@@ -212,12 +229,12 @@ module _ (x : Scope) (side : Side) where
           on = gap_line low.shape from u u v before_on is';
           value = symᵉ is';
         } in
-        (inside, inr (u, breaks inside, c inside, finite v, inl (above, l, limit), constant))
-    knot_within of (inr (inl e)) v is line constant W C L R w c l r =
+        inr (u, breaks inside, g.closed inside, finite v, inl (above, g.left, limit), constant)
+    knot_within of (inr (inl e)) v is line constant W C L R g =
         let is' = subst (λ (m : Margin). value_at (margin_function m) u ≈ᵉ finite v) e is in
         let (inside, has) = inside_of u v (value_at (margin_function k.point) u) is' point in
-        (inside, inl (u, breaks inside, w inside, finite v, P_is.alike u u (value_at (margin_function k.point) u) (finite v) (same_refl u) is' has, constant))
-    knot_within of (inr (inr e)) v is line constant W C L R w c l r =
+        inl (u, breaks inside, g.held inside, finite v, P_is.alike u u (value_at (margin_function k.point) u) (finite v) (same_refl u) is' has, constant)
+    knot_within of (inr (inr e)) v is line constant W C L R g =
         let is' = subst (λ (m : Margin). value_at (margin_function m) u ≈ᵉ finite v) e is in
         let (inside, below) = right_inside v is' in
         let limit : IsRightLimit P u (finite v) = record {
@@ -227,30 +244,23 @@ module _ (x : Scope) (side : Side) where
           on = gap_line k.after.shape u behind.0 u v after_on is';
           value = symᵉ is';
         } in
-        (inside, inr (u, breaks inside, c inside, finite v, inr (below, r, limit), constant))
+        inr (u, breaks inside, g.closed inside, finite v, inr (below, g.right, limit), constant)
 
     -- so it is in play at each time from which the window holds it strictly inside
     pub knot_in_play : (w : Window) (tau : Rational) → shifted tau w.low <ʳ u → u <ʳ shifted tau w.high → (of : Margin)
         → (of ≡ low.shape) ⊎ (of ≡ k.point) ⊎ (of ≡ k.after.shape) → (v : Rational) → value_at (margin_function of) u ≈ᵉ finite v → (line : Affine)
         → IsConstant line (finite v) → InPlayOver P (start x.trace) (stop x.trace) w tau line
     knot_in_play w tau l h of one v is line constant =
-        let (inside, found) = knot_within of one v is line constant (Holds (start x.trace) (stop x.trace) w tau)
-        (Holds (start x.trace) (stop x.trace) (closed w) tau) (λ r. shifted tau w.low <ʳ r) (λ r. r <ʳ shifted tau w.high)
-        (λ inside. record {
+        let held : Within (start x.trace) (stop x.trace) u → Holds (start x.trace) (stop x.trace) w tau u =
+        λ inside. record {
           inside = inside;
           begins = precedes_of_lt w.low_in (shifted tau w.low) u l;
           ends = precedes_of_lt w.high_in u (shifted tau w.high) h;
-        })
-        (λ inside. record { inside = inside; begins = le_of_lt l; ends = le_of_lt h }) l h in (
-          (
-            u,
-            record {
-              inside = inside;
-              begins = precedes_of_lt w.low_in (shifted tau w.low) u l;
-              ends = precedes_of_lt w.high_in u (shifted tau w.high) h;
-            },
-          ),
-          inr found,
+        } in (
+          (u, held (knot_there of one v is)),
+          inr (knot_within of one v is line constant (Holds (start x.trace) (stop x.trace) w tau)
+              (Holds (start x.trace) (stop x.trace) (closed w) tau) (λ r. shifted tau w.low <ʳ r) (λ r. r <ʳ shifted tau w.high)
+              (record { held = held; closed = λ inside. record { inside = inside; begins = le_of_lt l; ends = le_of_lt h }; left = l; right = h })),
         )
 
   -- a gap goes on behind the mark before it

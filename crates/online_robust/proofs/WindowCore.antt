@@ -123,8 +123,8 @@ module _ (x : Scope) (w : Window) (none : Margin) (low high : Rim) (a : Rational
         let (low_shape, low_is, low_shifted) = some_and (IsShifted low.shape w.low) best.low lows in
         let (high_shape, high_is, high_shifted) = some_and (IsShifted high.shape w.high) best.high highs in
         best_between x w none low high (shifted a w.low) (shifted a w.high) s u inside best.top
-        (top_is x w none low high (shifted a w.low) (shifted a w.high) s best.top top) best low_shape high_shape v refl low_is high_is (low_shifted.value u)
-        (high_shifted.value u) order_at (lt_shifted w.low after) (before_of high.until (lt_shifted w.high before) g.high) b
+        (top_is x w none low high (shifted a w.low) (shifted a w.high) s best.top top) b refl low_is high_is (low_shifted.value u)
+        (high_shifted.value u) order_at (lt_shifted w.low after) (before_of high.until (lt_shifted w.high before) g.high)
       where
         inside : IsIn x w none low high (shifted a w.low) (shifted a w.high) s u
         inside = record {

@@ -31,7 +31,7 @@ use Rattle.online_robust.specs.Windows.{IsUnfixedKnot, IsUnfixedUnder, IsUnmet, 
 use Rattle.online_robust.specs.Windows.{closed}
 use Rattle.online_robust.specs.declared.ends.Rim.{Rim}
 use Rattle.online_robust.specs.declared.window.Window.{Window}
-use Rattle.online_robust.proofs.WindowCauses.{knot_in_play, knot_within}
+use Rattle.online_robust.proofs.WindowCauses.{knot_in_play, knot_there, knot_within}
 
 -- two that meet at one time alone are finite there
 next_apart : (t : Rational) → later t 1 ≈ t → ⊥
@@ -150,10 +150,7 @@ module _ (x : Scope) (own : ℕ) (from to : Rational) (w : Window) (span : IsSpa
       before_start early = by_to (le_or_lt to (start x.trace))
         where
           inside : Within (start x.trace) (stop x.trace) u
-          inside = (knot_within x w.side gap h.k h.from h.before h.ends h.rises h.point h.after h.goes_on h.knot q h.unfixed.one v is
-              (affine (constant v)) (λ t. finite_same (same_sym (at_constant v t))) (λ t. Unit {0}) (λ t. Unit {0})
-              (λ t. Unit {0}) (λ t. Unit {0}) (λ i. tt) (λ i. tt)
-              tt tt).0
+          inside = knot_there x w.side gap h.k h.from h.before h.ends h.rises h.point h.after h.goes_on h.knot q h.unfixed.one v is
 
           low_on : pos 0 ≤ℤ w.low
           low_on = by_side span.aside
@@ -187,19 +184,23 @@ module _ (x : Scope) (own : ℕ) (from to : Rational) (w : Window) (span : IsSpa
               inr (
                 same_of_le le (le_trans span.begins span.order),
                 wide_value x w to (IsSettledOver x w) q a den v at_u h.unfixed.denominator h.unfixed.wide tau after (lt_of_lt_of_le before c.2)
-                    (λ line constant. (knot_within x w.side gap h.k h.from h.before h.ends h.rises h.point h.after h.goes_on h.knot q h.unfixed.one v is line
+                    (λ line constant. knot_within x w.side gap h.k h.from h.before h.ends h.rises h.point h.after h.goes_on h.knot q h.unfixed.one v is line
                     constant (λ r. Holds (start x.trace) (stop x.trace) w tau r × (r <ʳ x.front))
                     (λ r. Holds (start x.trace) (stop x.trace) (closed w) tau r × (r <ʳ x.front)) (λ r. shifted tau w.low <ʳ r)
                     (λ r. r <ʳ shifted tau w.high)
-                    (λ i. (
-                      record {
-                        inside = i;
-                        begins = precedes_of_lt w.low_in (shifted tau w.low) u low;
-                        ends = precedes_of_lt w.high_in u (shifted tau w.high) high;
-                      },
-                      told span.told,
-                    ))
-                    (λ i. (record { inside = i; begins = le_of_lt low; ends = le_of_lt high }, told span.told)) low high).1),
+                    (record {
+                      held = λ i. (
+                        record {
+                          inside = i;
+                          begins = precedes_of_lt w.low_in (shifted tau w.low) u low;
+                          ends = precedes_of_lt w.high_in u (shifted tau w.high) high;
+                        },
+                        told span.told,
+                      );
+                      closed = λ i. (record { inside = i; begins = le_of_lt low; ends = le_of_lt high }, told span.told);
+                      left = low;
+                      right = high;
+                    })),
               )
             where
               told : (x.bound ≤ʳ x.front) ⊎ ((x.front ≈ stop x.trace) × (to ≈ stop x.trace)) → u <ʳ x.front

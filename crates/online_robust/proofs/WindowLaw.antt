@@ -141,32 +141,58 @@ module _ (Q : Function) (reach : ℕ) where
       AreUnder [] = Unit {0}
       AreUnder (c ∷ cs) = ((t : Rational) → IsNoBetter side (value_at (margin_function c) t) r) × AreUnder cs
 
-      -- strictly inside the window no value is better than the limits at the ends and the constants
-      pub inside : (from : Rational) (low : Rim) (marks : List Mark) (cs : List Margin) → Runs Q reach from low marks → AreFrozen side limit low marks cs
-          → limit ≤ʳ from → from <ʳ h → AreBy h marks → ((t : Rational) → t <ʳ h → IsBefore t (last_gap low marks).until)
-          → IsNoBetter side (value_at (margin_function low.shape) from) r
-          → IsNoBetter side (value_at (margin_function (last_gap low marks).shape) h) r → AreUnder cs
+      -- knots that run on from a time up to the high end, with what is no better: the limits at both ends and the constants
+      record IsUnder (from : Rational) (low : Rim) (marks : List Mark) (cs : List Margin) : Type 0 where
+        -- the knots run on
+        runs : Runs Q reach from low marks
+        -- from within the trace
+        after_limit : limit ≤ʳ from
+        -- up to before the high end
+        by : AreBy h marks
+        -- and the last gap goes on to it
+        until : (t : Rational) → t <ʳ h → IsBefore t (last_gap low marks).until
+        -- the limit at the low end
+        left : IsNoBetter side (value_at (margin_function low.shape) from) r
+        -- the limit at the high end
+        right : IsNoBetter side (value_at (margin_function (last_gap low marks).shape) h) r
+        -- the constants
+        under : AreUnder cs
+
+      -- so strictly inside the window no value is better
+      inside : (from : Rational) (low : Rim) (marks : List Mark) (cs : List Margin) → AreFrozen side limit low marks cs → IsUnder from low marks cs
           → (u : Rational) (v : Extended) → from <ʳ u → u <ʳ h → Q u v → IsNoBetter side v r
-      inside from low [] cs runs frozen le order by until left right under u v a b has =
+      inside from low [] cs frozen s u v a b has =
           no_better_trans side v (value_at (margin_function low.shape) u) r
           (no_better_same side v (value_at (margin_function low.shape) u)
-          (is.one u v (value_at (margin_function low.shape) u) has (runs.0.told u a (until u b))))
-          (under_ends side (margin_function low.shape) from h u r (le_of_lt a) (le_of_lt b) left right)
-      inside from low (k ∷ marks) cs runs (inl (inl one, frozen)) le order by until left right under u v a b has =
-          inside from k.after marks cs (merged from low k marks runs one) frozen le order by.1 until
-          (no_better_trans side (value_at (margin_function k.after.shape) from) (value_at (margin_function low.shape) from) r
-          (no_better_back side (value_at (margin_function low.shape) from) (value_at (margin_function k.after.shape) from) (one.gaps from)) left)
-          right under u v a b has
-      inside from low (k ∷ marks) cs runs (inl (inr early, frozen)) le order by until left right under u v a b has =
-          absurd (not_lt_of_le (le_trans early le) runs.2)
-      inside from low (k ∷ marks) cs (on, ends, rises, point, rest)
-          (inr (knot, (c, others, is_cs, frozen, more))) le order by until left right under u v a b has =
+          (is.one u v (value_at (margin_function low.shape) u) has (s.runs.0.told u a (s.until u b))))
+          (under_ends side (margin_function low.shape) from h u r (le_of_lt a) (le_of_lt b) s.left s.right)
+      inside from low (k ∷ marks) cs (inl (inl one, frozen)) s u v a b has =
+          inside from k.after marks cs frozen (record {
+            runs = merged from low k marks s.runs one;
+            after_limit = s.after_limit;
+            by = s.by.1;
+            until = s.until;
+            left = no_better_trans side (value_at (margin_function k.after.shape) from) (value_at (margin_function low.shape) from) r
+                (no_better_back side (value_at (margin_function low.shape) from) (value_at (margin_function k.after.shape) from) (one.gaps from)) s.left;
+            right = s.right;
+            under = s.under;
+          }) u v a b has
+      inside from low (k ∷ marks) cs (inl (inr early, frozen)) s u v a b has =
+          absurd (not_lt_of_le (le_trans early s.after_limit) s.runs.2)
+      inside from low (k ∷ marks) cs (inr (knot, (c, others, is_cs, frozen, more))) s u v a b has =
           by_place (lt_or_same_or_gt u (value k.at))
-          (λ g. inside (value k.at) k.after marks others rest more (le_trans le (le_of_lt rises)) (lt_trans g b) by.1 until
-          (const (value_at (margin_function k.after.shape) (value k.at)) frozen.right) right all.1 u v g b has)
+          (λ g. inside (value k.at) k.after marks others more (record {
+            runs = s.runs.4;
+            after_limit = le_trans s.after_limit (le_of_lt s.runs.2);
+            by = s.by.1;
+            until = s.until;
+            left = const (value_at (margin_function k.after.shape) (value k.at)) frozen.right;
+            right = s.right;
+            under = all.1;
+          }) u v g b has)
         where
           all : AreUnder (c ∷ others)
-          all = subst AreUnder is_cs under
+          all = subst AreUnder is_cs s.under
 
           -- the constant is no better
           const : (w : Extended) → IsNoBetter side w (value_at (margin_function frozen.of) (value k.at)) → IsNoBetter side w r
@@ -179,12 +205,12 @@ module _ (Q : Function) (reach : ℕ) where
           by_place : (u <ʳ value k.at) ⊎ (u ≈ value k.at) ⊎ (value k.at <ʳ u) → (value k.at <ʳ u → IsNoBetter side v r) → IsNoBetter side v r
           by_place (inl l) go = no_better_trans side v (value_at (margin_function low.shape) u) r
               (no_better_same side v (value_at (margin_function low.shape) u)
-              (is.one u v (value_at (margin_function low.shape) u) has (on.told u a (before_end low.until ends l))))
-              (under_ends side (margin_function low.shape) from (value k.at) u r (le_of_lt a) (le_of_lt l) left
+              (is.one u v (value_at (margin_function low.shape) u) has (s.runs.0.told u a (before_end low.until s.runs.1 l))))
+              (under_ends side (margin_function low.shape) from (value k.at) u r (le_of_lt a) (le_of_lt l) s.left
               (const (value_at (margin_function low.shape) (value k.at)) frozen.left))
           by_place (inr (inl e)) go = no_better_trans side v (value_at (margin_function k.point) (value k.at)) r
               (no_better_same side v (value_at (margin_function k.point) (value k.at))
-              (is.one (value k.at) v (value_at (margin_function k.point) (value k.at)) (is.alike u (value k.at) v v e (same_reflᵉ v) has) point.told))
+              (is.one (value k.at) v (value_at (margin_function k.point) (value k.at)) (is.alike u (value k.at) v v e (same_reflᵉ v) has) s.runs.3.told))
               (const (value_at (margin_function k.point) (value k.at)) frozen.there)
           by_place (inr (inr g)) go = go g
 
@@ -278,16 +304,23 @@ module _ (Q : Function) (reach : ℕ) where
       by_later (k ∷ ms) b o = (le_trans b.0 (le_of_lt o), by_later ms b.1 o)
 
       -- no value in the window is better
-      pub window_bound : (InLow InHigh : Type 0) (W : Window) (r : Extended) → IsSpanned → IsWindow InLow InHigh W
+      pub window_bound : {InLow InHigh : Type 0} {W : Window} (r : Extended) → IsSpanned → IsWindow InLow InHigh W
           → IsNoBetter side (value_at (margin_function low.shape) l) r → IsNoBetter side (value_at (margin_function (last_gap low marks).shape) h) r
           → AreUnder side limit h r cs
           → (InLow → (v : Extended) → Q l v → IsNoBetter side v r) → (InHigh → (v : Extended) → Q h v → IsNoBetter side v r)
           → (u : Rational) (v : Extended) → W u → Q u v → IsNoBetter side v r
-      window_bound InLow InHigh W r s w left right under at_low at_high u v inside' has = by_place (w.out u inside')
+      window_bound {InLow} {InHigh} r s w left right under at_low at_high u v inside' has = by_place (w.out u inside')
         where
           by_place : ((l <ʳ u) × (u <ʳ h)) ⊎ ((u ≈ l) × InLow) ⊎ ((u ≈ h) × InHigh) → IsNoBetter side v r
-          by_place (inl (a, b)) = inside side limit h r l low marks cs s.runs s.frozen s.after_limit s.order (by_later marks s.by s.last)
-              (λ t x. s.until t x) left right under u v a b has
+          by_place (inl (a, b)) = inside side limit h r l low marks cs s.frozen (record {
+            runs = s.runs;
+            after_limit = s.after_limit;
+            by = by_later marks s.by s.last;
+            until = λ t x. s.until t x;
+            left = left;
+            right = right;
+            under = under;
+          }) u v a b has
           by_place (inr (inl (e, low_in))) = at_low low_in v (is.alike u l v v e (same_reflᵉ v) has)
           by_place (inr (inr (e, high_in))) = at_high high_in v (is.alike u h v v e (same_reflᵉ v) has)
 

@@ -205,7 +205,7 @@ module _ (x : Scope) (own : ℕ) (from to : Rational) (s : Sweep) (e : Held) (ca
         owns is = subst (λ (w : Window). IsOwned w own) (sym goes.window) is
 
     -- a step that is told
-    pub swept_next : (next : Sweep) (next_e : Held) (r r' : Reached) (built built' : List (Knot Margin)) → Goes now next
+    pub swept_next : {r : Reached} {built : List (Knot Margin)} (next : Sweep) (next_e : Held) (r' : Reached) (built' : List (Knot Margin)) → Goes now next
         → IsAt (at_time x (value next.place.at) (value next.place.at)) next next_e
         → IsBefore (shifted (value next.place.at) next.window.low) next.place.low.until
         → IsSwept x own from to s now e now_e r built
@@ -213,7 +213,7 @@ module _ (x : Scope) (own : ℕ) (from to : Rational) (s : Sweep) (e : Held) (ca
         → IsBuilt (best_of x now.window) (x.reach + own) from (value next.place.at) built'
         → (value now.place.at <ʳ value r'.at) × (value r'.at ≤ʳ to)
         → Sheds (shifted (value next.place.at) now.window.low) now.window.of now_e next_e → IsSwept x own from to s next e next_e r' built'
-    swept_next next next_e r r' built built' goes' at low_before was (here, there) told (after, by) shed = record {
+    swept_next next next_e r' built' goes' at low_before was (here, there) told (after, by) shed = record {
       came = record { at = at; low_before = low_before };
       here = here;
       later = le_trans was.later rises;

@@ -18,8 +18,9 @@ use Rattle.trace_reader.specs.InputFaults.{Fault, of_trace, line_of, IsHeaderAt,
 use Rattle.trace_stream.specs.Cases.{IsCase, IsLacking, IsNoBegin, IsHeaderOf, with_row}
 use Rattle.trace_stream.specs.CaseReader.{IsKept, HasCase, IsRefused, IsEnded, IsLastFault, of_header, own}
 use Rattle.trace_stream.specs.Following.{Follows, IsTextOf, IsFollowed, IsOpened, IsComplete, IsEndedOut, IsHeldUp}
-use Rattle.trace_stream.specs.Following.{IsLive, IsLiveOpen, IsLastTaken, IsOver, IsLiveStop, IsOpenStop}
+use Rattle.trace_stream.specs.Following.{IsLive, IsLiveOpen, IsLastTaken, IsOver, IsLiveStop, IsOpenStop, stop_of}
 use Rattle.trace_stream.specs.declared.case.Case.{Case}
+use Rattle.trace_stream.specs.declared.follow.FollowFault.{FollowFault}
 use Rattle.trace_stream.specs.declared.follow.FollowFault.TheVariants as follow
 use Rattle.trace_stream.specs.declared.live.Live.{Live}
 use Rattle.trace_stream.specs.declared.fault.TraceFault.{TraceFault}
@@ -61,6 +62,12 @@ none_before_lack limits f bytes ended x (n, h, at, lacking, clean) m g there =
     line_is : IsLacking f n h x → line_of x ≡ n
     line_is (inl (atom, term, name, is, e)) = ap line_of e
     line_is (inr (fits, (fault, is, e))) = ap line_of e
+
+-- a row was not taken for a fault of what follows the rows
+pub held_fault : (kind : Stream) (case : Option Case) (last : Bool) (old new : List ℕ) (stop : StreamStop) → IsHeldUp kind case last old new stop
+    → (fault : FollowFault) × (stop ≡ stop_of fault)
+held_fault kind None last old new stop held = absurd held
+held_fault kind (Some c) last old new stop (fault, same, why, none) = (fault, same)
 
 -- more text after what was written
 pub more_text : (written old new grown : List ℕ) → new ≡ old ++ grown → written ++ new ≡ (written ++ old) ++ grown
@@ -113,12 +120,12 @@ module _ {F : Type 0} (Stands : F → Case → List ℕ → Type 0) (kind : Stre
   text_of_case f x c made fits told = subst (λ (g : Formula). StreamText kind (root g.nodes) c.trace.header c.trace.rows false made) fits.formula told.told
 
   -- the rows before a line that was refused
-  pub text_before : (f : Formula) (r : Reader) (follower : Option F) (case : Option Case) (bytes all made : List ℕ) (ended : Bool)
+  pub text_before : {f : Formula} {r : Reader} {case : Option Case} {bytes : List ℕ} (follower : Option F) (all made : List ℕ) (ended : Bool)
       (x : Fault) (k : IsKept f r case bytes)
       → HoldLines r.heading f.scale (take (line_of x - 1) (lines ended all)) k.rows → IsInputFault r.limits f all ended x
       → IsFollowed Stands kind follower case made
       → IsTextOf kind r.limits f all ended made
-  text_before f r follower case bytes all made ended x k hold fault t = by_heading r.heading refl k.has_case hold t
+  text_before {f} {r} {case} {bytes} follower all made ended x k hold fault t = by_heading r.heading refl k.has_case hold t
     where
       told_header : (h : Heading) → r.heading ≡ Some h → (header : Header) → IsHeaderOf f bytes header → header ≡ header_of f.scale h
       told_header h e header is =
@@ -213,26 +220,26 @@ module _ {F : Type 0} (Stands : F → Case → List ℕ → Type 0) (kind : Stre
   last_taken limits f follower None bytes made e t = absurd e
   last_taken limits f follower (Some c) bytes made e t = record { case = c; fits = e.case; trace = e.whole; followed = t }
 
-  -- so with one row more, once its text was made
-  pub last_row : (limits : Limits) (f : Formula) (bytes written old new : List ℕ) (follower : Option F) (case : Option Case)
-      (row : Row) (r : Result (Unit {0}) StreamStop)
-      → IfOk r (λ _. (grown : List ℕ) × (new ≡ old ++ grown) × IsFollowed Stands kind follower (option_map (with_row row) case) ((written ++ old) ++ grown))
-      → IfErr r (λ e. e ≡ NoMemory)
-      → MatchOption (option_map (with_row row) case) ⊥ (IsEnded limits f bytes)
-      → MatchResult r (λ _. IsLastTaken Stands kind limits f follower bytes (written ++ new)) (λ e. IsLiveStop kind limits f true bytes (written ++ new) e)
-  last_row limits f bytes written old new follower case row (Ok x) (grown, e, t) none ended =
-      last_taken limits f follower (option_map (with_row row) case) bytes (written ++ new) ended
-      (subst (λ made. IsFollowed Stands kind follower (option_map (with_row row) case) made) (sym (more_text written old new grown e)) t)
-  last_row limits f bytes written old new follower case row (Err e) ok none ended =
-      subst (λ (s : StreamStop). IsLiveStop kind limits f true bytes (written ++ new) s) (sym none) tt
+  -- one row more, with which the bytes are those of a trace
+  module _ (limits : Limits) (f : Formula) (bytes written : List ℕ) (case : Option Case) (row : Row)
+      (ended : MatchOption (option_map (with_row row) case) ⊥ (IsEnded limits f bytes)) where
+    -- it is the last one, once its text was made
+    pub last_row : (old new : List ℕ) (follower : Option F) (r : Result (Unit {0}) StreamStop)
+        → IfOk r (λ _. (grown : List ℕ) × (new ≡ old ++ grown) × IsFollowed Stands kind follower (option_map (with_row row) case) ((written ++ old) ++ grown))
+        → IfErr r (λ e. e ≡ NoMemory)
+        → MatchResult r (λ _. IsLastTaken Stands kind limits f follower bytes (written ++ new)) (λ e. IsLiveStop kind limits f true bytes (written ++ new) e)
+    last_row old new follower (Ok x) (grown, e, t) none =
+        last_taken limits f follower (option_map (with_row row) case) bytes (written ++ new) ended
+        (subst (λ made. IsFollowed Stands kind follower (option_map (with_row row) case) made) (sym (more_text written old new grown e)) t)
+    last_row old new follower (Err e) ok none =
+        subst (λ (s : StreamStop). IsLiveStop kind limits f true bytes (written ++ new) s) (sym none) tt
 
-  -- and where that row was not taken
-  pub last_held : (limits : Limits) (f : Formula) (bytes written old new : List ℕ) (before : Option F) (case : Option Case) (row : Row) (e : StreamStop)
-      → IsHeldUp kind (option_map (with_row row) case) false old new e → IsFollowed Stands kind before case (written ++ old)
-      → MatchOption (option_map (with_row row) case) ⊥ (IsEnded limits f bytes) → IsLiveStop kind limits f true bytes (written ++ new) e
-  last_held limits f bytes written old new before case row e held was ended =
-      row_held Stands kind limits f bytes true bytes [] (sym (append-nil bytes)) true (λ k. (refl, refl)) before case row written old new e
-      (λ c is. read_of_ended limits f bytes c (subst (λ (o : Option Case). MatchOption o ⊥ (IsEnded limits f bytes)) is ended)) was held
+    -- and where it was not taken
+    pub last_held : (old new : List ℕ) (before : Option F) (e : StreamStop) → IsHeldUp kind (option_map (with_row row) case) false old new e
+        → IsFollowed Stands kind before case (written ++ old) → IsLiveStop kind limits f true bytes (written ++ new) e
+    last_held old new before e held was =
+        row_held Stands kind limits f bytes true bytes [] (sym (append-nil bytes)) true (λ k. (refl, refl)) before case row written old new e
+        (λ c is. read_of_ended limits f bytes c (subst (λ (o : Option Case). MatchOption o ⊥ (IsEnded limits f bytes)) is ended)) was held
 
 module _ {F : Type 0} (Stands Owes : F → Case → List ℕ → Type 0) (kind : Stream) where
   -- a piece was refused
@@ -249,7 +256,7 @@ module _ {F : Type 0} (Stands Owes : F → Case → List ℕ → Type 0) (kind :
         k.case,
         k.followed,
         λ after made t.
-            text_before Stands kind live.formula live.rows after k.case bytes (bytes ++ piece) made false (of_trace x) k.kept (held (left k.case one)) first t,
+            text_before Stands kind after (bytes ++ piece) made false (of_trace x) k.kept (held (left k.case one)) first t,
       )
     where
       left : (case : Option Case) → IsNext case piece line → (more : List ℕ) × (piece ≡ line ++ more)
@@ -265,21 +272,19 @@ module _ {F : Type 0} (Stands Owes : F → Case → List ℕ → Type 0) (kind :
           k.kept.least (before more false))
 
   -- the header that came lacks something
-  pub live_lacks : (live : Live F) (old new : Reader) (rows : List Row) (bytes written piece : List ℕ) (at : ℕ) (header : Header)
-      (stop : StreamStop) → live.rows ≡ old
-      → (s : HeaderStep live.formula old new rows bytes piece at header) → IsNoBegin live.formula new.begun s.columns stop
-      → (follower : Option F) (case : Option Case) (text : List ℕ) → HasCase live.formula old.heading bytes rows case → old.heading ≡ None
+  pub live_lacks : {f : Formula} {old new : Reader} {rows : List Row} {bytes piece : List ℕ} {at : ℕ} {header : Header} (stop : StreamStop)
+      → (s : HeaderStep f old new rows bytes piece at header) → IsNoBegin f new.begun s.columns stop
+      → (follower : Option F) (case : Option Case) (text : List ℕ) → HasCase f old.heading bytes rows case
       → IsOpened Stands Owes kind follower case text
-      → IsOpenStop Stands Owes kind live.rows.limits live.formula false (bytes ++ piece) follower text stop
-  live_lacks live old new rows bytes written piece at header (Faulty fault) e s (y, is, lacking) follower case text has_case came t =
-      let lack : IsLack live.rows.limits live.formula (bytes ++ piece) false y = (
+      → IsOpenStop Stands Owes kind old.limits f false (bytes ++ piece) follower text stop
+  live_lacks {f} {old} {new} {rows} {bytes} {piece} {at} (Faulty fault) s (y, is, lacking) follower case text has_case t =
+      let lack : IsLack old.limits f (bytes ++ piece) false y = (
         new.begun,
         s.columns,
         subst (λ b. IsHeaderAt (lines false b) new.begun s.columns) (sym s.left) (s.line.at false (drop at piece)),
         lacking,
-        λ r fault. s.line.clean false (drop at piece) r (subst (λ (l : Limits). FaultFrom l live.formula.scale false 1
-            (take new.begun (lines false ((bytes ++ take at piece) ++ drop at piece))) r) (ap (λ (q : Reader). q.limits) e)
-            (subst (λ b. FaultFrom live.rows.limits live.formula.scale false 1 (take new.begun (lines false b)) r) s.left fault)),
+        λ r fault. s.line.clean false (drop at piece) r
+            (subst (λ b. FaultFrom old.limits f.scale false 1 (take new.begun (lines false b)) r) s.left fault),
       ) in (
         y,
         is,
@@ -290,12 +295,12 @@ module _ {F : Type 0} (Stands Owes : F → Case → List ℕ → Type 0) (kind :
           header = None;
           rows = [];
           whole = false;
-          before = faulted_header y (inl lack) (none_before_lack live.rows.limits live.formula (bytes ++ piece) false y lack);
-          is = none_made Stands kind after live.formula old.heading bytes rows case made has_case came u;
+          before = faulted_header y (inl lack) (none_before_lack old.limits f (bytes ++ piece) false y lack);
+          is = none_made Stands kind after f old.heading bytes rows case made has_case s.first u;
         },
       )
-  live_lacks live old new rows bytes written piece at header NoMemory e s never follower case text has_case came t = tt
-  live_lacks live old new rows bytes written piece at header (Wide i den) e s never follower case text has_case came t = absurd never
+  live_lacks NoMemory s never follower case text has_case t = tt
+  live_lacks (Wide i den) s never follower case text has_case t = absurd never
 
   -- a stop in the bytes that were left is one of the whole piece
   pub live_fed : (limits : Limits) (f : Formula) (bytes piece text : List ℕ) (at : ℕ) (follower : Option F) (stop : StreamStop)
@@ -306,14 +311,12 @@ module _ {F : Type 0} (Stands Owes : F → Case → List ℕ → Type 0) (kind :
       (append_assoc bytes (take at piece) (drop at piece) ∙ ap (λ p. bytes ++ p) (take-append-drop at piece)) h
 
   -- a row was not taken, for a fault of what follows the rows
-  pub open_held : (limits : Limits) (f : Formula) (ended : Bool) (bytes : List ℕ) (case : Option Case) (last : Bool)
-      (old new : List ℕ) (follower : Option F) (text : List ℕ) (stop : StreamStop)
-      → IsHeldUp kind case last old new stop → IsLiveStop kind limits f ended bytes text stop
+  pub open_held : (limits : Limits) (f : Formula) (ended : Bool) (bytes : List ℕ) (follower : Option F) (text : List ℕ) (stop : StreamStop)
+      (fault : FollowFault) → stop ≡ stop_of fault → IsLiveStop kind limits f ended bytes text stop
       → IsOpenStop Stands Owes kind limits f ended bytes follower text stop
-  open_held limits f ended bytes None last old new follower text stop held is = absurd held
-  open_held limits f ended bytes (Some c) last old new follower text stop (follow.Memory, same, why, none) is =
+  open_held limits f ended bytes follower text stop follow.Memory same is =
       subst (λ (s : StreamStop). IsOpenStop Stands Owes kind limits f ended bytes follower text s) (sym same) tt
-  open_held limits f ended bytes (Some c) last old new follower text stop (follow.Wide i den, same, why, none) is =
+  open_held limits f ended bytes follower text stop (follow.Wide i den) same is =
       subst (λ (s : StreamStop). IsOpenStop Stands Owes kind limits f ended bytes follower text s) (sym same)
       (subst (λ (s : StreamStop). IsLiveStop kind limits f ended bytes text s) same is)
 
@@ -347,10 +350,11 @@ module _ {F : Type 0} (Stands Owes : F → Case → List ℕ → Type 0) (kind :
   none_flushed (Some c) made text t = absurd t
 
   -- so at a fault
-  pub fault_flushed : (limits : Limits) (f : Formula) (ended : Bool) (bytes written old new grown : List ℕ) (follower after : Option F) (fault : TraceFault)
-      → (k : IsOpenStop Stands Owes kind limits f ended bytes follower (written ++ old) (Faulty fault)) → new ≡ old ++ grown
-      → IsFollowed Stands kind after k.3 ((written ++ old) ++ grown) → IsLiveStop kind limits f ended bytes (written ++ new) (Faulty fault)
-  fault_flushed limits f ended bytes written old new grown follower after fault k e t = (
+  pub fault_flushed : (limits : Limits) (f : Formula) (ended : Bool) (bytes written old new : List ℕ) (follower after : Option F) (fault : TraceFault)
+      → (k : IsOpenStop Stands Owes kind limits f ended bytes follower (written ++ old) (Faulty fault))
+      → (grown : List ℕ) × (new ≡ old ++ grown) × IsFollowed Stands kind after k.3 ((written ++ old) ++ grown)
+      → IsLiveStop kind limits f ended bytes (written ++ new) (Faulty fault)
+  fault_flushed limits f ended bytes written old new follower after fault k (grown, e, t) = (
     k.0,
     k.1,
     k.2,

@@ -199,12 +199,12 @@ module _ (nodes : List Node) (header : Header) where
 
   module _ (order : IsPostOrder nodes) (some : 0 < length nodes) where
     -- what the pass after the last of some rows gives out is what is left for these rows to answer
-    pub left_of_pass : {before : List Row} {base : List Event} (more : List Row) (last : Row) (n : ℕ) (beyond put : List Verdict) (emitted : List Verdict)
+    pub left_of_pass : {before : List Row} {base : List Event} {last : Row} {emitted : List Verdict} (more : List Row) (n : ℕ) (put : List Verdict)
         (x : Passing nodes header (base ++ rows_of more) (row last) emitted) → node_is_atom nodes Top ≡ false → IsDriven nodes header before false base
         → IsDriven nodes header ((before ++ more) ++ last ∷ []) false ((base ++ rows_of more) ++ pass_of (row last) nodes n)
         → (all : List Row) (are : AreRows (length header.columns) all) → all ≡ (before ++ more) ++ last ∷ [] → AreAlike put x.beyond
         → LeftTo (root nodes) header all are (front_after (root nodes) before) (front_after (root nodes) all) put
-    left_of_pass {before} {base} more last n beyond put emitted x no_atom d d' all are e same =
+    left_of_pass {before} {base} {last} more n put x no_atom d d' all are e same =
         alike_left all are (front_after (root nodes) before) (front_after (root nodes) all) x.beyond put same
         (left_of_gives all are (front_after (root nodes) before) (front_after (root nodes) all) x.beyond
         (subst (λ rs. Gives nodes header Top (record { header = header; rows = rs }) (front_after (root nodes) before) (front_after (root nodes) rs)
@@ -251,6 +251,14 @@ rows_of_more base more r = ap (λ l. base ++ l) (on more) ∙ sym (append_assoc 
 times_more : (rows : List Row) (r : Row) → map (λ (q : Row). q.time) (rows ++ r ∷ []) ≡ map (λ (q : Row). q.time) rows ++ r.time ∷ []
 times_more [] r = refl
 times_more (q ∷ rows) r = ap (λ l. q.time ∷ l) (times_more rows r)
+
+-- once the text that was owed is made, the network is that which the takes left, and no time or verdict waits
+pub record OwesNoMore (v : Verdicts) (given : Network) (after : Verdicts) : Type 0 where
+  pub network : after.network ≡ given
+  pub formula : given.formula ≡ v.network.formula
+  pub horizon : after.horizon ≡ v.horizon
+  pub times : after.times.items ≡ []
+  pub pending : after.pending ≡ []
 
 -- beside the network's parts, what a row whose text is owed changes: its time is kept
 pub record KeepsTime (v after : Verdicts) (r : Row) : Type 0 where
@@ -385,20 +393,20 @@ module _ (v : Verdicts) (c : Case) (made : List ℕ) (o : IsOwing v c made) wher
       by_rows (q ∷ l) e k = k
 
   -- once its lines were put, the text is that of all rows
-  pub owing_followed : (x : Passing c.formula.nodes c.trace.header fed_by (row o.last) fed.emptied.emitted) (given : Network) (after : Verdicts)
-      (pending rest : List Verdict) (old new : List ℕ) (grown : List ℕ) → HasGivenAll (Before x) given v.pending pending
+  pub owing_followed : {given : Network} {after : Verdicts} → OwesNoMore v given after
+      → (x : Passing c.formula.nodes c.trace.header fed_by (row o.last) fed.emptied.emitted) (pending rest : List Verdict) (old new grown : List ℕ)
+      → HasGivenAll (Before x) given v.pending pending
       → IsTextOfRows given.formula.scale v.horizon v.times.items pending grown rest → new ≡ old ++ grown
-      → after.network ≡ given → given.formula ≡ v.network.formula → after.horizon ≡ v.horizon → after.times.items ≡ [] → after.pending ≡ []
       → IsFollowedOn (λ case text. IsWatched false after case) verdicts c old new made
-  owing_followed x given after pending rest old new grown h lines longer network formula same_horizon times none =
+  owing_followed {given} {after} left_off x pending rest old new grown h lines longer =
       let p = given_out c.formula.nodes c.trace.header fed_by (row o.last) fed.emptied.emitted x given v.pending pending h in
       let driven = by_rows o.more o.last p.made o.fed.driven p.emptied in
       let put : pending ≡ p.put = p.pending ∙ ap (λ l. l ++ p.put) o.none_pending in
       let rows : c.trace.rows ≡ o.before ++ (o.more ++ o.last ∷ []) = o.rows ∙ append_assoc o.before o.more (o.last ∷ []) in
-      let left = left_of_pass c.formula.nodes c.trace.header order some_node o.more o.last p.made x.beyond p.put fed.emptied.emitted x o.no_atom o.fed.driven
+      let left = left_of_pass c.formula.nodes c.trace.header order some_node o.more p.made p.put x o.no_atom o.fed.driven
       driven c.trace.rows are_rows o.rows p.are in
       let (f, is) = o.fits in
-      let scale : given.formula.scale ≡ c.trace.header.scale = ap (λ (g : Formula). g.scale) (formula ∙ o.formula ∙ is.formula) in
+      let scale : given.formula.scale ≡ c.trace.header.scale = ap (λ (g : Formula). g.scale) (left_off.formula ∙ o.formula ∙ is.formula) in
       let told = rows_cut (root c.formula.nodes) c.trace.header c.trace.rows are_rows o.before (o.more ++ o.last ∷ []) p.put rest grown rows
       (subst (λ vs. IsTextOfRows c.trace.header.scale (horizon (root c.formula.nodes)) (map (λ (r : Row). r.time) (o.more ++ o.last ∷ [])) vs grown rest) put
       (subst (λ ts. IsTextOfRows c.trace.header.scale (horizon (root c.formula.nodes)) ts pending grown rest) o.times
@@ -408,17 +416,17 @@ module _ (v : Verdicts) (c : Case) (made : List ℕ) (o : IsOwing v c made) wher
         longer,
         record {
           stands = record {
-            formula = ap (λ (n : Network). n.formula) network ∙ formula ∙ o.formula;
-            horizon = same_horizon ∙ o.horizon;
+            formula = ap (λ (n : Network). n.formula) left_off.network ∙ left_off.formula ∙ o.formula;
+            horizon = left_off.horizon ∙ o.horizon;
             events = fed_by ++ pass_of (row o.last) c.formula.nodes p.made;
             driven = subst (λ l. IsDriven c.formula.nodes c.trace.header l false (fed_by ++ pass_of (row o.last) c.formula.nodes p.made)) (sym o.rows) driven;
             stands = subst (λ (n : Network). Stands c.formula.nodes c.trace.header n.net (fed_by ++ pass_of (row o.last) c.formula.nodes p.made))
-                (sym network) p.stands;
+                (sym left_off.network) p.stands;
             emitted = x.first ++ x.beyond;
             is_emitted = p.is_emitted;
-            start = ap (λ (n : Network). n.start) network ∙ p.start;
-            no_times = times;
-            none_pending = none;
+            start = ap (λ (n : Network). n.start) left_off.network ∙ p.start;
+            no_times = left_off.times;
+            none_pending = left_off.pending;
           };
           fits = o.fits;
           told = subst (λ l. StreamText verdicts (root c.formula.nodes) c.trace.header l false (made ++ grown)) (sym rows)

@@ -193,41 +193,42 @@ module _ (limits : Limits) (x : TraceRefusal) where
       by_kind false (inr (none, (r, is, f))) if_blank if_row =
           elim (if_row (Some r.time) f) [ inl a ↦ inl (omega (arith, a)) | inr a ↦ absurd (omega (arith, a)) ]
 
-  -- it stands after the first lines, or these have no row
-  front_from : (s : Scale) (h : Heading) (ended : Bool) (n count : ℕ) (last : Option ℕ) (front tail : List Line) (line : List ℕ)
-      (rows : List Row) → AreRowLines s h front rows
-      → ((r : TraceRefusal) → ¬ FaultAfter limits s h false n count last (front ++ rest false line) r)
-      → FaultAfter limits s h ended n count last (front ++ tail) x
-      → (n + length front ≤ x.line) ⊎ (count + length rows ≡ 0)
-  front_from s h ended n count last [] tail line rows a calm f = elim (tail_from s h ended n count last tail f) [
-    | inl k ↦ inl (omega (arith, k))
-    | inr k ↦ inr (omega (arith, k, ap length (no_line a refl)))
-  ]
-  front_from s h ended n count last (l ∷ front) tail line rows a calm (inl f) = absurd (calm x (inl f))
-  front_from s h ended n count last (l ∷ front) tail line rows a calm (inr (early, (w, m))) =
-      by_line (row_line a l front refl)
-      (λ some k c. front_from s h ended (suc n) k c front tail line some)
-    where
-      by_line : RowLine s h l front rows
-          → ((some : List Row) (k : ℕ) (c : Option ℕ) → AreRowLines s h front some
-          → ((r : TraceRefusal) → ¬ FaultAfter limits s h false (suc n) k c (front ++ rest false line) r)
-          → FaultAfter limits s h ended (suc n) k c (front ++ tail) x → (suc n + length front ≤ x.line) ⊎ (k + length some ≡ 0))
-          → (n + suc (length front) ≤ x.line) ⊎ (count + length rows ≡ 0)
-      by_line (goes_on w' e) on = absurd (false≢true (sym w' ∙ w))
-      by_line (is_blank w' b more) on = elim (on rows count last more
-          (λ r g. calm r (inr (early, (w, to_true _ _ (is_blank_line l) b g)))) (at_true _ _ (is_blank_line l) b m)) [
-            | inl k ↦ inl (omega (arith, k))
-            | inr k ↦ inr k
-          ]
-      by_line (is_row w' b r others is more e) on = by_fault (at_false _ _ (is_blank_line l) b m)
-        where
-          by_fault : InRow limits s h ended n count last l (front ++ tail) x → (n + suc (length front) ≤ x.line) ⊎ (count + length rows ≡ 0)
-          by_fault (inl f) = absurd (calm x (inr (early, (w, to_false _ _ (is_blank_line l) b (inl f)))))
-          by_fault (inr (none, (r', is', f))) = elim (on others (suc count) (Some r'.time) more
-              (λ q g. calm q (inr (early, (w, to_false _ _ (is_blank_line l) b (inr (none, (r', is', g))))))) f) [
-                | inl k ↦ inl (omega (arith, k))
-                | inr k ↦ absurd (omega (arith, k))
-              ]
+  -- the lines of rows, the tail after some of them, and the line that was open behind these
+  module _ (s : Scale) (h : Heading) (ended : Bool) (tail : List Line) (line : List ℕ) where
+    -- it stands after the first lines, or these have no row
+    front_from : (n count : ℕ) (last : Option ℕ) (front : List Line) (rows : List Row) → AreRowLines s h front rows
+        → ((r : TraceRefusal) → ¬ FaultAfter limits s h false n count last (front ++ rest false line) r)
+        → FaultAfter limits s h ended n count last (front ++ tail) x
+        → (n + length front ≤ x.line) ⊎ (count + length rows ≡ 0)
+    front_from n count last [] rows a calm f = elim (tail_from s h ended n count last tail f) [
+      | inl k ↦ inl (omega (arith, k))
+      | inr k ↦ inr (omega (arith, k, ap length (no_line a refl)))
+    ]
+    front_from n count last (l ∷ front) rows a calm (inl f) = absurd (calm x (inl f))
+    front_from n count last (l ∷ front) rows a calm (inr (early, (w, m))) =
+        by_line (row_line a l front refl)
+        (λ some k c. front_from (suc n) k c front some)
+      where
+        by_line : RowLine s h l front rows
+            → ((some : List Row) (k : ℕ) (c : Option ℕ) → AreRowLines s h front some
+            → ((r : TraceRefusal) → ¬ FaultAfter limits s h false (suc n) k c (front ++ rest false line) r)
+            → FaultAfter limits s h ended (suc n) k c (front ++ tail) x → (suc n + length front ≤ x.line) ⊎ (k + length some ≡ 0))
+            → (n + suc (length front) ≤ x.line) ⊎ (count + length rows ≡ 0)
+        by_line (goes_on w' e) on = absurd (false≢true (sym w' ∙ w))
+        by_line (is_blank w' b more) on = elim (on rows count last more
+            (λ r g. calm r (inr (early, (w, to_true _ _ (is_blank_line l) b g)))) (at_true _ _ (is_blank_line l) b m)) [
+              | inl k ↦ inl (omega (arith, k))
+              | inr k ↦ inr k
+            ]
+        by_line (is_row w' b r others is more e) on = by_fault (at_false _ _ (is_blank_line l) b m)
+          where
+            by_fault : InRow limits s h ended n count last l (front ++ tail) x → (n + suc (length front) ≤ x.line) ⊎ (count + length rows ≡ 0)
+            by_fault (inl f) = absurd (calm x (inr (early, (w, to_false _ _ (is_blank_line l) b (inl f)))))
+            by_fault (inr (none, (r', is', f))) = elim (on others (suc count) (Some r'.time) more
+                (λ q g. calm q (inr (early, (w, to_false _ _ (is_blank_line l) b (inr (none, (r', is', g))))))) f) [
+                  | inl k ↦ inl (omega (arith, k))
+                  | inr k ↦ absurd (omega (arith, k))
+                ]
 
   -- lines of a trace without a fault are its rows
   pub trace_from : (least : Scale) (ended : Bool) (n : ℕ) (front tail : List Line) (line : List ℕ) (header : Header) (rows : List Row)
@@ -254,7 +255,7 @@ module _ (limits : Limits) (x : TraceRefusal) where
           by_fault (inl f) = absurd (calm x (inr (early, (w, to_false _ _ (is_blank_line l) b (inl f)))))
           by_fault (inr (none, (h', is', f))) =
               let same = heading-unique (fields l) h h' is is' in
-              elim (front_from (scale_of least h') h' ended (suc n) 0 None front tail line rows
+              elim (front_from (scale_of least h') h' ended tail line (suc n) 0 None front rows
               (subst (λ (z : Heading). AreRowLines (scale_of least z) z front rows) same more)
               (λ q g. calm q (inr (early, (w, to_false _ _ (is_blank_line l) b (inr (none, (h', is', g))))))) f) [
                 | inl k ↦ inl (omega (arith, k))

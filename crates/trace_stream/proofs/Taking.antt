@@ -153,6 +153,15 @@ module _ (nodes : List Node) (header : Header) where
       (subst (λ m. length (held_at net'.edges (length nodes - 1)) < length (held_at net.edges (m - 1))) (sym s.holds.operators)
       (held_falls events net net' v s next s'))
 
+-- one take more gives this verdict, and the network goes on
+pub record IsTakenNext (p : Pass) (n : ℕ) (before : Network) (v : Verdict) (after : Network) : Type 0 where
+  -- it is the next one
+  pub next : IsNext p.nodes p.header (p.events ++ takes n) (Some v)
+  -- the network stands for the run with that take
+  pub stands : Stands p.nodes p.header after.net ((p.events ++ takes n) ++ taken ∷ [])
+  -- the truth of the first verdict is kept
+  pub start : after.start ≡ kept_truth before.start v.holds
+
 module _ (p : Pass) (given : Emitted p.nodes p.header p.events (length p.nodes - 1) p.given) where
   given_on : (n : ℕ) → Emitted p.nodes p.header (p.events ++ takes n) (length p.nodes - 1) p.given
   given_on n = emitted_takes p.nodes p.header (length p.nodes - 1) p.events n p.given given
@@ -182,12 +191,11 @@ module _ (p : Pass) (given : Emitted p.nodes p.header p.events (length p.nodes -
       (emitted_alike p.nodes p.header (length p.nodes - 1) (p.events ++ takes n) next.emitted p.given next.is_emitted (given_on n)) at
 
   -- one take more, whose verdict was put
-  pub takes_one : (n : ℕ) (v : Verdict) (before after : Network) (old mid new : List ℕ) → HasTaken p n before old mid
-      → IsNext p.nodes p.header (p.events ++ takes n) (Some v)
-      → Stands p.nodes p.header after.net ((p.events ++ takes n) ++ taken ∷ []) → after.start ≡ kept_truth before.start v.holds
-      → after.formula ≡ before.formula → Grew (IsVerdictLine before.formula.scale v) mid new → HasTaken p (suc n) after old new
-  takes_one n v before after old mid new h next stands start formula (line, is_line, grew) =
-      let (w, at, same) = next_one n v h.taken next in
+  pub takes_one : {n : ℕ} {before : Network} {old mid : List ℕ} (v : Verdict) (after : Network) (new : List ℕ) → HasTaken p n before old mid
+      → IsTakenNext p n before v after → after.formula ≡ before.formula → Grew (IsVerdictLine before.formula.scale v) mid new
+      → HasTaken p (suc n) after old new
+  takes_one {n} {before} {old} v after new h one formula (line, is_line, grew) =
+      let (w, at, same) = next_one n v h.taken one.next in
       let within : p.taken + n < length p.given = slice_get_within p.given (p.taken + n) w at in
       let (grown, lines, is) = h.lines in
       let longer : p.taken + suc n ≡ p.taken + n + 1 = plus_suc p.taken n in
@@ -196,10 +204,10 @@ module _ (p : Pass) (given : Emitted p.nodes p.header p.events (length p.nodes -
       ap (λ k. take k p.given) longer ∙ take_on p.given (p.taken + n) w at in
       record {
         within = within_suc p.taken n (length p.given) within;
-        stands = subst (λ l. Stands p.nodes p.header after.net l) (takes_on p.events n) stands;
+        stands = subst (λ l. Stands p.nodes p.header after.net l) (takes_on p.events n) one.stands;
         taken = subst (λ l. IsTaken p.nodes p.header l (p.taken + suc n)) (takes_on p.events n)
             (subst (λ k. IsTaken p.nodes p.header ((p.events ++ takes n) ++ taken ∷ []) k) up (next_taken p.given (given_on n) within h.taken));
-        start = start ∙ ap (λ o. kept_truth o v.holds) h.start ∙ ap (kept_truth (first_truth (take (p.taken + n) p.given))) same.2
+        start = one.start ∙ ap (λ o. kept_truth o v.holds) h.start ∙ ap (kept_truth (first_truth (take (p.taken + n) p.given))) same.2
             ∙ sym (ap first_truth first ∙ first_more (take (p.taken + n) p.given) w);
         lines = (
           grown ++ line,
@@ -218,12 +226,10 @@ module _ (p : Pass) (given : Emitted p.nodes p.header p.events (length p.nodes -
       record { within = h.within; stands = h.stands; taken = h.taken; start = h.start; put = []; are = tt; pending = sym (append-nil pending) }
 
   -- one take more, whose verdict stands behind the others
-  pub gives_one : (n : ℕ) (v : Verdict) (before after : Network) (old mid new : List Verdict) → HasGiven p n before old mid
-      → IsNext p.nodes p.header (p.events ++ takes n) (Some v)
-      → Stands p.nodes p.header after.net ((p.events ++ takes n) ++ taken ∷ []) → after.start ≡ kept_truth before.start v.holds
-      → new ≡ mid ++ v ∷ [] → HasGiven p (suc n) after old new
-  gives_one n v before after old mid new h next stands start more =
-      let (w, at, same) = next_one n v h.taken next in
+  pub gives_one : {n : ℕ} {before : Network} {old mid : List Verdict} (v : Verdict) (after : Network) (new : List Verdict)
+      → HasGiven p n before old mid → IsTakenNext p n before v after → new ≡ mid ++ v ∷ [] → HasGiven p (suc n) after old new
+  gives_one {n} {before} {old} v after new h one more =
+      let (w, at, same) = next_one n v h.taken one.next in
       let within : p.taken + n < length p.given = slice_get_within p.given (p.taken + n) w at in
       let longer : p.taken + suc n ≡ p.taken + n + 1 = plus_suc p.taken n in
       let up : suc (p.taken + n) ≡ p.taken + suc n = suc_plus p.taken n in
@@ -231,10 +237,10 @@ module _ (p : Pass) (given : Emitted p.nodes p.header p.events (length p.nodes -
       ap (λ k. take k p.given) longer ∙ take_on p.given (p.taken + n) w at in
       record {
         within = within_suc p.taken n (length p.given) within;
-        stands = subst (λ l. Stands p.nodes p.header after.net l) (takes_on p.events n) stands;
+        stands = subst (λ l. Stands p.nodes p.header after.net l) (takes_on p.events n) one.stands;
         taken = subst (λ l. IsTaken p.nodes p.header l (p.taken + suc n)) (takes_on p.events n)
             (subst (λ k. IsTaken p.nodes p.header ((p.events ++ takes n) ++ taken ∷ []) k) up (next_taken p.given (given_on n) within h.taken));
-        start = start ∙ ap (λ o. kept_truth o v.holds) h.start ∙ ap (kept_truth (first_truth (take (p.taken + n) p.given))) same.2
+        start = one.start ∙ ap (λ o. kept_truth o v.holds) h.start ∙ ap (kept_truth (first_truth (take (p.taken + n) p.given))) same.2
             ∙ sym (ap first_truth first ∙ first_more (take (p.taken + n) p.given) w);
         put = h.put ++ v ∷ [];
         are = subst (λ l. AreAlike (h.put ++ v ∷ []) l) (sym (take_behind p.given p.taken n w at))

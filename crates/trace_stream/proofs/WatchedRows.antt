@@ -18,7 +18,7 @@ use Rattle.online_nodes.specs.Driven.{steps_of, pass_of, IsDriven, by_end}
 use Rattle.online_net.specs.Nets.{Parts, Stands, last_row_of, last_row_after}
 use Rattle.trace_stream.specs.Streams.{verdicts, StreamText, status_of_truth}
 use Rattle.trace_stream.specs.Cases.{IsCase, Takes, with_row}
-use Rattle.trace_stream.specs.Following.{IsFollowedOn, IsFollowedOut}
+use Rattle.trace_stream.specs.Following.{Follows, IsFollowedOn, IsFollowedOut}
 use Rattle.trace_stream.specs.Watching.{first_truth, IsWatched, CanTake, HasTakenAll}
 use Rattle.trace_stream.specs.declared.case.Case.{Case}
 use Rattle.trace_stream.specs.declared.verdicts.Network.{Network}
@@ -119,12 +119,13 @@ module _ (v : Verdicts) (c : Case) (w : IsWatched false v c) where
       subst (λ (g : Formula). AreVerdictLines g.scale beyond grown) (same ∙ w.formula ∙ is.formula) lines
 
   -- after a row
-  pub row_followed : (f : Formula) (made : List ℕ) (r : Row) (x : Passing c.formula.nodes c.trace.header w.events (came r) w.emitted)
-      (after : Network) (written : Frac) (old new : List ℕ) → IsCase f c → StreamText verdicts (root c.formula.nodes) c.trace.header c.trace.rows false made
+  pub row_followed : {made : List ℕ} {r : Row} → Follows (λ case text. IsWatched false v case) verdicts c made
+      → (x : Passing c.formula.nodes c.trace.header w.events (came r) w.emitted) (after : Network) (written : Frac) (old new : List ℕ)
       → Takes r c.trace → after.formula ≡ v.network.formula
       → HasTakenAll (pass_before c.formula.nodes c.trace.header w.events (came r) x.first x.beyond) after old new
       → IsFollowedOn (λ case text. IsWatched false (record v { network = after; last = written }) case) verdicts (with_row r c) old new made
-  row_followed f made r x after written old new is told may same h =
+  row_followed {made} {r} k x after written old new may same h =
+      let (f, is) = k.fits in
       let p = passed_of c.formula.nodes c.trace.header w.events (came r) w.emitted x after old new h in
       let driven : IsDriven c.formula.nodes c.trace.header (c.trace.rows ++ r ∷ []) false (w.events ++ pass_of (came r) c.formula.nodes p.made) =
       by_row c.formula.nodes c.trace.header r p.made w.driven p.emptied in
@@ -145,7 +146,7 @@ module _ (v : Verdicts) (c : Case) (w : IsWatched false v c) where
             none_pending = w.none_pending;
           };
           fits = (f, record { formula = is.formula; bound = is.bound });
-          told = row_told (root c.formula.nodes) c.trace.header c.trace.rows r made grown told
+          told = row_told (root c.formula.nodes) c.trace.header c.trace.rows r made grown k.told
               (row_text c.formula.nodes c.trace.header order some_node r p.made x.beyond grown may.1 w.driven driven x.gives
               (lines_of f after x.beyond grown is same lines));
         },
@@ -181,13 +182,13 @@ module _ (v : Verdicts) (c : Case) (w : IsWatched false v c) where
   start_kept x after old mid o e = absurd (let h : Some o.truth.holds ≡ None = sym o.truth.first ∙ sym o.passed.start ∙ e in cc)
 
   -- after the end, once the line of the start was put
-  pub end_followed : (f : Formula) (made : List ℕ) (x : Passing c.formula.nodes c.trace.header w.events close w.emitted)
-      (after : Network) (written : Frac) (old mid new : List ℕ) (holds : Bool)
-      → StreamText verdicts (root c.formula.nodes) c.trace.header c.trace.rows false made
-      → IsCase f c → IsTrace c.trace → after.formula ≡ v.network.formula → IsOut x after old mid → after.start ≡ Some holds → new ≡ mid ++ start_line holds
+  pub end_followed : {made old mid : List ℕ} {x : Passing c.formula.nodes c.trace.header w.events close w.emitted} {after : Network}
+      → Follows (λ case text. IsWatched false v case) verdicts c made → IsOut x after old mid → (written : Frac) (new : List ℕ) (holds : Bool)
+      → IsTrace c.trace → after.formula ≡ v.network.formula → after.start ≡ Some holds → new ≡ mid ++ start_line holds
       → IsFollowedOut (λ case text. IsWatched true (record v { network = after; last = written }) case) verdicts c old new made holds
-  end_followed f made x after written old mid new holds told is t same o kept line =
+  end_followed {made} {old} {mid} {x} {after} k o written new holds t same kept line =
       let p = o.passed in
+      let (f, is) = k.fits in
       let any : c.trace.rows ≢ [] = some_row (length c.trace.header.columns) c.trace.rows t.rows in
       let (grown, lines, longer) = p.lines in
       let one : o.truth.holds ≡ holds = (let h : Some o.truth.holds ≡ Some holds = sym o.truth.first ∙ sym p.start ∙ kept in cc) in
@@ -213,7 +214,7 @@ module _ (v : Verdicts) (c : Case) (w : IsWatched false v c) where
               made,
               grown,
               start_line holds,
-              told,
+              k.told,
               rest_text c.formula.nodes c.trace.header order some_node p.made x.beyond grown any (first_to_last c.trace t) w.driven o.driven x.gives
                   (lines_of f after x.beyond grown is same lines),
               (holds, truth, refl),

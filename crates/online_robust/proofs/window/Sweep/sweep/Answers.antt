@@ -89,7 +89,7 @@ loop-self-preserved c = record {
       let built = subst (λ (z : Window). IsBuilt (best_of x z) (x.reach + own) from (value c.loop-self.self.place.at) c.loop-self.built) (sym same) w.built in
       swept_next x own from (value c.args.to.now) c.args.self.now c.args.edges.now can c.loop-self.self c.loop-self.edges c.loop-self.invariant.goes w.came
       (le_trans (at_by x own from (value c.args.to.now) c.args.self.now c.args.edges.now can) w.later) c.tell_on.new.self c.tell_on.new.edges
-      c.loop-self.reached c.in_ok-reached-2.reached c.loop-self.built c.tell_on.new.built c.in_ok-reached-2.ensures.kept stands.0 stands.1 w
+      c.in_ok-reached-2.reached c.tell_on.new.built c.in_ok-reached-2.ensures.kept stands.0 stands.1 w
       (c.in_ok-reached-2.ensures.reached here w.came.at goes.0 begun own owns) (c.in_ok-reached-2.ensures.told here w.came.at goes.0 begun own owns from built)
       c.in_ok-reached-2.ensures.later (c.in_ok-reached-2.ensures.shed here w.came.at goes.0);
   goes = goes_on c.args.self.now c.loop-self.self c.tell_on.new.self c.loop-self.invariant.goes c.in_ok-reached-2.ensures.kept;

@@ -39,10 +39,10 @@ returns-in_ok-flush-in-Err-Fault-clause-taken g c = λ bytes written live.
     let k = subst (λ (s : StreamStop). IsOpenStop g.F.Follow.stands g.F.Follow.owes g.F.Follow.kind c.args.self.now.rows.limits c.args.self.now.formula false
     (bytes ++ c.args.piece.now) mid.follower (written ++ mid.text) s) c.in-Err-Fault.field-0-is
     (c.in-Err-Fault.ensures.taken bytes written (live_open g.F.Follow.stands g.F.Follow.owes g.F.Follow.kind c.args.self.now bytes written live)) in
-    let (grown, longer, followed) = c.in_ok-flush-in-Err-Fault.ensures.ok k.3 (written ++ mid.text) k.4 in
     fault_flushed g.F.Follow.stands g.F.Follow.owes g.F.Follow.kind c.args.self.now.rows.limits c.args.self.now.formula false
     (bytes ++ c.args.piece.now) written mid.text
-    c.flush-in-Err-Fault.new.text grown mid.follower c.flush-in-Err-Fault.new.follower c.in-Err-Fault.fault k longer followed
+    c.flush-in-Err-Fault.new.text mid.follower c.flush-in-Err-Fault.new.follower c.in-Err-Fault.fault k
+    (c.in_ok-flush-in-Err-Fault.ensures.ok k.3 (written ++ mid.text) k.4)
 
 pub returns-in-Err-Wide-clause-taken : goal.returns-in-Err-Wide-clause-taken
 returns-in-Err-Wide-clause-taken g c = λ bytes written live.

@@ -71,10 +71,10 @@ returns-in_ok-take_row-in-Ok-Row-clause-last g c = λ bytes written k.
     IsOpened g.F.Follow.stands g.F.Follow.owes g.F.Follow.kind mid.follower (option_map (with_row r) k.case) (written ++ mid.text)) c.row.ensures
     (subst (λ made. IsOpened g.F.Follow.stands g.F.Follow.owes g.F.Follow.kind mid.follower (option_map (with_row c.row.result.now) k.case) made)
     (sym (more_text written old.text mid.text grown text)) opened) in
-    last_row g.F.Follow.stands g.F.Follow.kind old.rows.limits old.formula bytes written mid.text c.flush.new.text
-    c.flush.new.follower k.case new.row c.flush.result
-    (c.flush.ensures.ok (option_map (with_row new.row) k.case) (written ++ mid.text) now) c.flush.ensures.err
+    last_row g.F.Follow.stands g.F.Follow.kind old.rows.limits old.formula bytes written k.case new.row
     (ended_row old.formula old.rows new k.case bytes k.kept ok.kept.0 ok.kept.1 new.row whole)
+    mid.text c.flush.new.text c.flush.new.follower c.flush.result
+    (c.flush.ensures.ok (option_map (with_row new.row) k.case) (written ++ mid.text) now) c.flush.ensures.err
 
 pub returns-in_err-take_row-in-Ok-Row-clause-last : goal.returns-in_err-take_row-in-Ok-Row-clause-last
 returns-in_err-take_row-in-Ok-Row-clause-last g c =
@@ -92,9 +92,9 @@ returns-in_err-take_row-in-Ok-Row-clause-last g c =
     (c.in_err-take_row-in-Ok-Row.ensures.err k.case (written ++ old.text)
     (open_of g.F.Follow.stands g.F.Follow.owes g.F.Follow.kind old.follower k.case (written ++ old.text) k.followed)
     (subst (λ (r : Row). CanKeep k.case r) (sym c.row.ensures) can)) in
-    last_held g.F.Follow.stands g.F.Follow.kind old.rows.limits old.formula bytes written old.text c.take_row.new.text
-    old.follower k.case new.row stop held k.followed
-    (ended_row old.formula old.rows new k.case bytes k.kept ok.kept.0 ok.kept.1 new.row whole))
+    last_held g.F.Follow.stands g.F.Follow.kind old.rows.limits old.formula bytes written k.case new.row
+    (ended_row old.formula old.rows new k.case bytes k.kept ok.kept.0 ok.kept.1 new.row whole)
+    old.text c.take_row.new.text old.follower stop held k.followed)
 
 pub returns-in-Ok-Nothing-clause-last : goal.returns-in-Ok-Nothing-clause-last
 returns-in-Ok-Nothing-clause-last g c = λ bytes written k.

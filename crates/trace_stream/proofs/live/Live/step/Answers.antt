@@ -9,7 +9,7 @@ use Rattle.trace_stream.specs.Following.{IsOpened, IsHeldUp, IsOpenStop}
 use Rattle.trace_stream.specs.CaseReader.{IsKept}
 use Rattle.trace_stream.specs.declared.fault.StreamStop.{StreamStop}
 use Rattle.trace_stream.proofs.Feeding.{Pushed, header_step, row_step, nothing_step, kept_begun, kept_row}
-use Rattle.trace_stream.proofs.Living.{next_of, live_refused, live_lacks, none_open, open_of, open_held, more_text}
+use Rattle.trace_stream.proofs.Living.{next_of, live_refused, live_lacks, none_open, open_of, held_fault, open_held, more_text}
 use Rattle.trace_stream.proofs.Refused.{IsReadTo, read_of_kept, row_held}
 use Rattle.trace_stream.proofs.live.Live.step.Goals.{In-Ok}
 use Rattle.trace_stream.proofs.live.Live.step.Goals as goal
@@ -48,11 +48,10 @@ returns-in_err-follow_on-in-Header-clause-taken g c =
     let next = next_of g.F.Follow.stands g.F.Follow.owes g.F.Follow.kind old.follower k.case
     (written ++ old.text) c.args.piece.now c.next_bytes.result.now k.followed c.next_bytes.ensures.line in
     let s = header_step c.args.piece.now k.kept push next c.in-Header.is c.header.ensures in
-    live_lacks g.F.Follow.stands g.F.Follow.owes g.F.Follow.kind old old.rows c.push.new.self k.kept.rows bytes written
-    c.args.piece.now c.in-Ok.took.bytes c.header.result.now c.in_err-follow_on-in-Header.field-0.0 refl s
+    live_lacks g.F.Follow.stands g.F.Follow.owes g.F.Follow.kind c.in_err-follow_on-in-Header.field-0.0 s
     (subst (λ n. IsNoBegin old.formula n s.columns c.in_err-follow_on-in-Header.field-0.0) c.line.ensures
     (c.in_err-follow_on-in-Header.ensures.begun s.columns s.is))
-    c.follow_on.new.follower k.case (written ++ old.text) k.kept.has_case s.first
+    c.follow_on.new.follower k.case (written ++ old.text) k.kept.has_case
     (subst (λ x. IsOpened g.F.Follow.stands g.F.Follow.owes g.F.Follow.kind x k.case (written ++ old.text))
     (sym c.in_err-follow_on-in-Header.ensures.kept) k.followed))
 
@@ -137,9 +136,9 @@ returns-in_err-take_row-in-Row-clause-taken g c =
     let parts = sym (append_assoc bytes (take at piece) (drop at piece) ∙ ap (λ b. bytes ++ b) (take-append-drop at piece)) in
     elim (c.in_err-take_row-in-Row.ensures.owing k.case (written ++ old.text) k.followed) [
       | inl whole ↦
+          let (fault, why) = held_fault g.F.Follow.kind (option_map (with_row row) k.case) false old.text c.take_row.new.text stop held in
           open_held g.F.Follow.stands g.F.Follow.owes g.F.Follow.kind old.rows.limits old.formula false (bytes ++ piece)
-          (option_map (with_row row) k.case) false old.text c.take_row.new.text
-          c.take_row.new.follower (written ++ c.take_row.new.text) stop held
+          c.take_row.new.follower (written ++ c.take_row.new.text) stop fault why
           (row_held g.F.Follow.stands g.F.Follow.kind old.rows.limits old.formula (bytes ++ piece) false (bytes ++ take at piece) (drop at piece)
           parts false (λ e. absurd (false≢true e)) old.follower k.case row written old.text c.take_row.new.text stop
           (λ case is. subst (λ (l : Limits). IsReadTo l old.formula (bytes ++ take at piece) false case) push.limits

@@ -19,11 +19,14 @@ loop-verdict-preserved c = record {
   given = λ p can.
       let (n, h) = c.loop-verdict.invariant.given p can in (
         suc n,
-        gives_one p can.given n c.in-Some.verdict c.loop-verdict.self c.keep.new.self c.args.pending.now c.loop-verdict.pending c.push.new.self h
-            (c.in-Some.ensures.next p.nodes p.header (p.events ++ takes n) h.stands)
-            (subst (λ (q : Parts). Stands p.nodes p.header q ((p.events ++ takes n) ++ taken ∷ [])) (sym c.keep.ensures.net)
-            (c.in-Some.ensures.stands p.nodes p.header (p.events ++ takes n) h.stands))
-            c.keep.ensures.start c.in_ok-push.ensures,
+        gives_one p can.given c.in-Some.verdict c.keep.new.self c.push.new.self h
+            (record {
+              next = c.in-Some.ensures.next p.nodes p.header (p.events ++ takes n) h.stands;
+              stands = subst (λ (q : Parts). Stands p.nodes p.header q ((p.events ++ takes n) ++ taken ∷ [])) (sym c.keep.ensures.net)
+                  (c.in-Some.ensures.stands p.nodes p.header (p.events ++ takes n) h.stands);
+              start = c.keep.ensures.start;
+            })
+            c.in_ok-push.ensures,
       );
 }
 

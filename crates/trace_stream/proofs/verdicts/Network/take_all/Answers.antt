@@ -19,11 +19,14 @@ loop-verdict-preserved c = record {
   taken = λ p can.
       let (n, h) = c.loop-verdict.invariant.taken p can in (
         suc n,
-        takes_one p can.given n c.in-Some.verdict c.loop-verdict.self c.put.new.self c.args.text.now c.loop-verdict.text c.put.new.text h
-            (c.in-Some.ensures.next p.nodes p.header (p.events ++ takes n) h.stands)
-            (subst (λ (q : Parts). Stands p.nodes p.header q ((p.events ++ takes n) ++ taken ∷ [])) (sym c.put.ensures.net)
-            (c.in-Some.ensures.stands p.nodes p.header (p.events ++ takes n) h.stands))
-            c.put.ensures.start c.put.ensures.formula c.in_ok-put.ensures.line,
+        takes_one p can.given c.in-Some.verdict c.put.new.self c.put.new.text h
+            (record {
+              next = c.in-Some.ensures.next p.nodes p.header (p.events ++ takes n) h.stands;
+              stands = subst (λ (q : Parts). Stands p.nodes p.header q ((p.events ++ takes n) ++ taken ∷ [])) (sym c.put.ensures.net)
+                  (c.in-Some.ensures.stands p.nodes p.header (p.events ++ takes n) h.stands);
+              start = c.put.ensures.start;
+            })
+            c.put.ensures.formula c.in_ok-put.ensures.line,
       );
 }
 

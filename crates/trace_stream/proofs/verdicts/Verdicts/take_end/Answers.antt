@@ -47,7 +47,6 @@ pub returns : goal.returns
 returns c = λ case made k t.
     let v = c.args.self.now in
     let w = k.stands in
-    let (f, is) = k.fits in
     let mid = c.step_all.new.self in
     let after = c.take_all.new.self in
     let ne : close ≢ taken = λ x. let y = x in cc in
@@ -55,8 +54,7 @@ returns c = λ case made k t.
     (λ header events s. c.in_ok-step_all.ensures.stands header events s) in
     let x = passing v case w close mid.net ne st in
     let can = can_take v case w close x mid st c.step_all.ensures.start in
-    end_followed v case w f made x after c.take_all.new.last c.args.text.now c.take_all.new.text c.put_start.new.text c.in-Some.holds k.told is t
-    (c.take_all.ensures.formula ∙ c.step_all.ensures.formula)
+    end_followed v case w k
     (is_out v case w x after c.args.text.now c.take_all.new.text t
     (c.in_ok-take_all.ensures.taken (pass_before case.formula.nodes case.trace.header w.events close x.first x.beyond) can))
-    c.in-Some.is c.in_ok-put_start.ensures.ok
+    c.take_all.new.last c.put_start.new.text c.in-Some.holds t (c.take_all.ensures.formula ∙ c.step_all.ensures.formula) c.in-Some.is c.in_ok-put_start.ensures.ok

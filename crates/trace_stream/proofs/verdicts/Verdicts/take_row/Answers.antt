@@ -40,7 +40,6 @@ returns-then-is_atom c = λ case made opened t.
     let v = c.args.self.now in
     let k = atom_owes_none v case made opened (sym c.is_atom.ensures ∙ c.if-is_atom.true) in
     let w = k.stands in
-    let (f, is) = k.fits in
     let e = came c.args.row.now in
     let mid = c.step_all.new.self in
     let after = c.take_all.new.self in
@@ -51,7 +50,7 @@ returns-then-is_atom c = λ case made opened t.
     let can = can_take v case w e x mid st c.step_all.ensures.start in
     IfOk-weaker c.take_all.result _ _
     (λ u h.
-    let (grown, is_grown, follows) = row_followed v case w f made c.args.row.now x after c.take_all.new.last c.args.text.now c.take_all.new.text is k.told t
+    let (grown, is_grown, follows) = row_followed v case w k x after c.take_all.new.last c.args.text.now c.take_all.new.text t
     (c.take_all.ensures.formula ∙ c.step_all.ensures.formula) h in (grown, is_grown, inl follows))
     (c.take_all.ensures.taken (pass_before case.formula.nodes case.trace.header w.events e x.first x.beyond) can)
 

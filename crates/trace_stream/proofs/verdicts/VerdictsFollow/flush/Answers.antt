@@ -4,7 +4,8 @@ use Rattle.std.proofs.lemmas.Bool.{false≢true}
 use Rattle.trace_stream.specs.Following.{Follows}
 use Rattle.trace_stream.specs.Streams.{verdicts}
 use Rattle.trace_stream.specs.Watching.{IsWatched}
-use Rattle.trace_stream.proofs.Owing.{owing_places, owing_steps, owing_passing, owing_can, owing_followed, Before}
+use Rattle.trace_stream.specs.declared.verdicts.Verdicts.{Verdicts}
+use Rattle.trace_stream.proofs.Owing.{OwesNoMore, owing_places, owing_steps, owing_passing, owing_can, owing_followed, Before}
 use Rattle.trace_stream.proofs.Opening.{empty_of, none_owed, some_owed}
 use Rattle.trace_stream.proofs.verdicts.VerdictsFollow.flush.Goals as goal
 
@@ -44,8 +45,19 @@ returns c = λ case made opened.
     let can = owing_can v case made o x c.step_all.new.self st c.step_all.ensures.start in
     let (grown, lines, longer) = c.in_ok-put_rows.ensures.lines in
     let put = c.put_rows.new.self in
-    owing_followed v case made o x c.give_all.new.self
-    (record { network = put.network; horizon = put.horizon; times = c.clear.new.self; pending = c.clear-2.new.self; last = put.last })
-    c.give_all.new.pending put.pending c.args.text.now c.put_rows.new.text grown
-    (c.in_ok-give_all.ensures.given (Before v case made o x) can) lines longer c.put_rows.ensures.network
-    (c.give_all.ensures.formula ∙ c.step_all.ensures.formula) c.put_rows.ensures.horizon c.clear.ensures.items c.clear-2.ensures
+    let after : Verdicts = record {
+      network = put.network;
+      horizon = put.horizon;
+      times = c.clear.new.self;
+      pending = c.clear-2.new.self;
+      last = put.last;
+    } in
+    let left_off : OwesNoMore v c.give_all.new.self after = record {
+      network = c.put_rows.ensures.network;
+      formula = c.give_all.ensures.formula ∙ c.step_all.ensures.formula;
+      horizon = c.put_rows.ensures.horizon;
+      times = c.clear.ensures.items;
+      pending = c.clear-2.ensures;
+    } in
+    owing_followed v case made o left_off x c.give_all.new.pending put.pending c.args.text.now c.put_rows.new.text grown
+    (c.in_ok-give_all.ensures.given (Before v case made o x) can) lines longer
