@@ -176,7 +176,8 @@ module _ {nodes : List Node} (b : Binding) {e : Entry} (before : Option Row) (r 
             let f = sym (taken_at mid_shown i p k) ∙ z in
             let q = slice_get_within mid_shown p l f in
             let w = slice_get_there first_shown p (let c = h.count in omega (arith, q, c)) in
-            let m = slice_get_there mid p (let c = h.count in let d = have.count in let y = have.shown_count in let v = g.count in omega (arith, q, c, d, y, v)) in
+            let m = slice_get_there mid p (let c = h.count in let d = have.count in let y = have.shown_count in let v = g.count in
+            omega (arith, q, c, d, y, v)) in
             fail_bounds w.0 l (h.shown p m.0 w.0 l k m.1 w.1 f).no (x.1 w.0 w.1),
       )
 

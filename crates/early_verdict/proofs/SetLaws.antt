@@ -11,7 +11,8 @@ use Rattle.early_verdict.specs.declared.stretch.Stretch.{Stretch}
 use Rattle.early_verdict.specs.declared.window.Window.{Window}
 use Rattle.rational.proofs.PlaceLemmas.{before_through, at_most_of_not_before, after_at_most, le_through, upto_earlier}
 use Rattle.rational.proofs.PlaceLemmas.{after_later}
-use Rattle.early_verdict.proofs.RunLemmas.{later_before, gap_before, gap_after, one_of, on_one, holds_all, decided, decided_both, decided_either, decided_not, decided_among}
+use Rattle.early_verdict.proofs.RunLemmas.{later_before, gap_before, gap_after, one_of, on_one, holds_all}
+use Rattle.early_verdict.proofs.RunLemmas.{decided, decided_both, decided_either, decided_not, decided_among}
 
 -- what some stretch of a list gives, one of them gives
 pub some_by : (Q : Stretch → Rational → Type 0) (xs : List Stretch) (t : Rational) → BySome Q xs t → (s : Stretch) × IsAmong s xs × Q s t

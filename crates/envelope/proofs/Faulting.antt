@@ -105,7 +105,8 @@ module _ {P : Type 0} (shape : ShapeOf P) (laws : ShapeLaws shape) (side : Side)
         apart e f = not_lt_of_le (ge_of_same (c.meet.alone (value a)
             (subst (λ r. value_at (shape.function p) (value a) ≈ᵉ value_at (shape.function r) (value a)) (let g : p ≡ q = cc in g)
             (same_reflᵉ (value_at (shape.function p) (value a)))))) c.meet.after
-    crossing_carried {p = p} {q = q} {a = a} {b = b} {den = den} best On from stop_at (inr carried) on first last c = by_both (carried p c.first) (carried q c.second)
+    crossing_carried {p = p} {q = q} {a = a} {b = b} {den = den} best On from stop_at (inr carried) on first last c =
+        by_both (carried p c.first) (carried q c.second)
       where
         inside : (t : Rational) → value a <ʳ t → t <ʳ value b → On t
         inside t h k = on t (lt_of_le_of_lt c.after h) (lt_of_lt_of_le k c.before)

@@ -94,7 +94,8 @@ module _ {P : Type 0} (shape : ShapeOf P) where
           subst (λ u. HasCome u t) (sym is) (subst (λ o. SlopeEndsBy o item.until) e f.each.0.slope t h)
 
   -- where a call that ends the gap under the low end succeeds, the gap is passed
-  pub out_of : {T E : Type 0} {low_until' : Turn} {items' : List (Item P)} (r : Result T E) (old new : SoFar P) (low_until : Turn) (items : List (Item P)) (p : P)
+  pub out_of : {T E : Type 0} {low_until' : Turn} {items' : List (Item P)} (r : Result T E) (old new : SoFar P) (low_until : Turn)
+      (items : List (Item P)) (p : P)
       → old.after.low ≡ Some p → low_until' ≡ low_until → items' ≡ items → SlidesOk r low_until old low_until items new low_until' items'
       → OnOk r (new.after.low ≡ None) → OnOk r (Passes shape old low_until items new low_until' items')
   out_of {low_until' = low_until'} {items' = items'} (Ok x) old new low_until items p low u i s none =

@@ -195,7 +195,8 @@ module _ {old new : Held} {s : Since} {c : Wrote} {out : Out} {held to : Cut} {v
     ]
 
     lost : (t : Rational) → After (place c.out.at) t → Upto (place c.out.to) t → After (place held) t → ¬ Truth x.n x.tr t
-    lost t a inside b = fails of.looks (staying-remembers of m) (ends (interval v.on)) failed t a (which t a b) (upto_of_before (place c.out.to) (ends (interval v.on)) t beyond inside)
+    lost t a inside b = fails of.looks (staying-remembers of m) (ends (interval v.on)) failed t a (which t a b)
+        (upto_of_before (place c.out.to) (ends (interval v.on)) t beyond inside)
 
     -- it goes on from before the end: its run ends there
     cut_here : Before (begins (interval v.on)) (place c.out.to) → Before (place c.run) (place c.out.to)

@@ -83,7 +83,8 @@ use Rattle.online_nodes.proofs.DueLemmas.{
 use Rattle.online_nodes.proofs.TellingLemmas.{fresh_counted, fresh_tells, fresh_within, tells_between, tells_upto}
 use Rattle.online_nodes.proofs.AnsweringLemmas.{fresh_few, worked_two}
 use Rattle.online_nodes.proofs.LooksLaw.{since_looks}
-use Rattle.rational.proofs.PlaceLemmas.{after_same, before_same, between, not_both, same_before, same_places, same_trans_places, sides, upto_same, before_of_at_most}
+use Rattle.rational.proofs.PlaceLemmas.{after_same, before_same, between, not_both, same_before, same_places}
+use Rattle.rational.proofs.PlaceLemmas.{same_trans_places, sides, upto_same, before_of_at_most}
 use Rattle.rational.proofs.PlaceLemmas.{after_at_most, le_of_at_most, same_of_at_most}
 use Rattle.rational.proofs.Tests.{and_false}
 use Rattle.online_nodes.proofs.ReadLemmas.{stop_is}

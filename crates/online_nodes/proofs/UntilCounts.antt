@@ -24,7 +24,8 @@ use Rattle.online_nodes.proofs.SaidLemmas.{passed-one}
 use Rattle.online_nodes.proofs.WindowPlaces.{meets_after, meets_upto}
 use Rattle.online_nodes.proofs.WorkLemmas.{passed-other, worked_none, worked_put}
 use Rattle.online_nodes.proofs.UntilTurns.{IsSaidTwice, turned-remembers, twice-inside, twice-after, twice-beyond, twice-later, twice-past}
-use Rattle.online_nodes.proofs.UntilPasses.{IsEarlier, turned, placed_left, placed_right, stale_passed, right_failed, common_counts, fails_to, left_misses, not_yet_common, right_ended, unread}
+use Rattle.online_nodes.proofs.UntilPasses.{IsEarlier, turned, placed_left, placed_right, stale_passed, right_failed}
+use Rattle.online_nodes.proofs.UntilPasses.{common_counts, fails_to, left_misses, not_yet_common, right_ended, unread}
 
 -- one verdict of either input was read
 pub one_worked : {old mid new : Held} {u : Until} {own : ℕ} {v w : Verdict} {xs : List Verdict} → HasWorked old mid own u.window.of u.right xs

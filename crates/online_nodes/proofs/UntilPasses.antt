@@ -17,7 +17,8 @@ use Rattle.online_nodes.specs.Untils.{Stretch, Reads, IsUntil, IsTurned, HasPass
 use Rattle.frac128.specs.declared.cut.Cut.{Cut}
 use Rattle.online_nodes.specs.declared.window.Sweep.{Sweep}
 use Rattle.online_nodes.specs.declared.until.Until.{Until}
-use Rattle.rational.proofs.PlaceLemmas.{sides, not_both, between, place_order, upto_of_before, upto_same, after_same, same_places, at_most_of_not_before, before_of_at_most}
+use Rattle.rational.proofs.PlaceLemmas.{sides, not_both, between, place_order, upto_of_before, upto_same}
+use Rattle.rational.proofs.PlaceLemmas.{after_same, same_places, at_most_of_not_before, before_of_at_most}
 use Rattle.rational.proofs.PlaceLemmas.{after_at_most}
 use Rattle.online_nodes.proofs.SaidLemmas.{passed-fresh}
 use Rattle.online_nodes.proofs.UntilLaw.{FailsFor, knows_right_fails, knows_left_holds, knows_both, not_yet, settled}

@@ -151,7 +151,8 @@ module _ (nodes : List Node) (header : Header) (streamed : AreStreamed nodes) (o
       same : j ≢ i → MayRead node j → number_at e' j ≡ number_at e j
       same other (inl (left, reads)) = (moved.inputs node j left found reads).1
       same other (inr none) =
-          ap (λ (x : Edge). x.number) (moved.others j other (λ m side here read. none side (subst (λ k. IsReader k side j) (same_Some _ _ (sym here ∙ found)) read)))
+          ap (λ (x : Edge). x.number)
+          (moved.others j other (λ m side here read. none side (subst (λ k. IsReader k side j) (same_Some _ _ (sym here ∙ found)) read)))
 
   -- the operators of other nodes have read the same
   seen_moved : (r : ℕ) (n : Node) → slice_get nodes r ≡ Some n → r ≢ i → seen_by n e' ≡ seen_by n e

@@ -89,7 +89,8 @@ module _ (m : Move) (node : ℕ) (op : Operator) (e : Held) (number : ℤ) (g : 
   -- the node's number is small
   pub go_small : number ≤ℤ pos 4294967295
   go_small =
-      let is : number ≡ front_at m.new.ended (pos (last_time 0 m.new.rows)) p = same_Some _ _ (sym g.2 ∙ number_here m.header p m.new.ended m.new.rows can.trace) in
+      let is : number ≡ front_at m.new.ended (pos (last_time 0 m.new.rows)) p =
+      same_Some _ _ (sym g.2 ∙ number_here m.header p m.new.ended m.new.rows can.trace) in
       subst (λ x. x ≤ℤ pos 4294967295) (sym is) (low m.new.ended)
     where
       low : (b : Bool) → front_at b (pos (last_time 0 m.new.rows)) p ≤ℤ pos 4294967295

@@ -87,7 +87,8 @@ module _ {P : Type 0} (shape : ShapeOf P) where
       (worth_between shape ks i k n (back t) at_i at_next h.0 h.1))
       (worth_same shape ks (value_at (shape.function m.point) (back (value step.at))) (value_at (shape.function step.point) (value step.at))
       (same_refl (back (value step.at)))
-      (same_symᵉ (value_at (shape.function step.point) (value step.at)) (value_at (shape.function m.point) (back (value step.at))) (step.points (value step.at)))
+      (same_symᵉ (value_at (shape.function step.point) (value step.at)) (value_at (shape.function m.point) (back (value step.at)))
+      (step.points (value step.at)))
       (worth_at shape ks p m (back (value step.at)) at_p step.arrives))
 
   -- the first knot

@@ -42,4 +42,5 @@ returns g c =
     let here : (t : Rational) → value_at (g.P.Shape.function c.point.result) t ≈ᵉ worth g.P.Piecewise.read_as k.rel (whole c.args.from) =
     λ t. subst (λ n. value_at (g.P.Shape.function c.point.result) t ≈ᵉ worth g.P.Piecewise.read_as k.rel (whole n)) same (c.point.ensures.worth t) in
     subst (IsAtomSignal g.P.Shape (reading_of g.P.Piecewise.read_as) b c.args.node tr) (sym c.finish.ensures.value)
-    (whole_signal g.P.Shape g.P.Piecewise.read_as b c.args.node tr k c.atom-atom.ensures.at c.args.from c.catch_up.new.signal size count few is reached.0.sum here c.point.ensures.base c.requires.grown c.in_ok-catch_up.ensures)
+    (whole_signal g.P.Shape g.P.Piecewise.read_as b c.args.node tr k c.atom-atom.ensures.at c.args.from c.catch_up.new.signal size
+    count few is reached.0.sum here c.point.ensures.base c.requires.grown c.in_ok-catch_up.ensures)

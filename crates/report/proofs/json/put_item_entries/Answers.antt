@@ -34,7 +34,8 @@ returns-in_err-put_item_entry-clause-err c =
     let n = c.line_from-end.result.1 in
     let rest = drop n items in
     let tail = some_then (AreLaterEntries s f rest) (Is (codes "]")) (later_exist s f items n c.requires.atoms) (word_exists (codes "]")) in
-    on_err_anyway _ (part_as (ListParts s f line rest) (AreItemEntries s f items) c.args.text.now _ (λ w. list_entries s f items n line w c.line_from-end.ensures.line)
+    on_err_anyway _
+    (part_as (ListParts s f line rest) (AreItemEntries s f items) c.args.text.now _ (λ w. list_entries s f items n line w c.line_from-end.ensures.line)
     (part_first (IsItemEntry (codes "{\"atom\":") s f line)
     (Then (AreLaterEntries s f rest) (Is (codes "]"))) c.args.text.now _ c.in_err-put_item_entry.ensures.err tail))
 
@@ -46,7 +47,8 @@ returns-in_err-put_later_items-clause-err c =
     let line = c.line_from-end.result.0 in
     let n = c.line_from-end.result.1 in
     let rest = drop n items in
-    on_err_anyway _ (part_as (ListParts s f line rest) (AreItemEntries s f items) c.args.text.now _ (λ w. list_entries s f items n line w c.line_from-end.ensures.line)
+    on_err_anyway _
+    (part_as (ListParts s f line rest) (AreItemEntries s f items) c.args.text.now _ (λ w. list_entries s f items n line w c.line_from-end.ensures.line)
     (part_then (IsItemEntry (codes "{\"atom\":") s f line)
     (Then (AreLaterEntries s f rest) (Is (codes "]"))) c.args.text.now _ _ c.in_ok-put_item_entry.ensures.ok
     (part_first (AreLaterEntries s f rest) (Is (codes "]")) _ _ c.in_err-put_later_items.ensures.err (word_exists (codes "]")))))

@@ -50,7 +50,8 @@ returns-in_err-put_step_entry-clause-err c =
     let steps = steps_of (knots_of margin_shape c.args.s.now) in
     let x = step (plain_knot margin_shape c.knot.result) (plain_piece margin_shape c.knot.result c.knot-in-loop-i.result) in
     let at = its_step (goal.at.returns-in_err-put_step_entry-clause-err c).After-put_step_entry in
-    on_err_anyway _ (each_part P (step_entry_exists c.args.scale) c.loop-i.i steps x c.args.text.now c.loop-i.text c.put_step_entry.new.text at c.loop-i.invariant
+    on_err_anyway _
+    (each_part P (step_entry_exists c.args.scale) c.loop-i.i steps x c.args.text.now c.loop-i.text c.put_step_entry.new.text at c.loop-i.invariant
     c.in_err-put_step_entry.ensures.err)
 
 pub returns-clause-ok : goal.returns-clause-ok

@@ -26,7 +26,8 @@ returns-in_err-put_margin_entries-clause-err c =
     let t = c.args.truth.now in
     let m = c.args.margins.now in
     let h = c.args.holds in
-    on_err_anyway _ (part_then (Is (codes ",\"margins\":[")) (Margins s t m h) c.args.text.now _ _ (grew_is (codes ",\"margins\":[") _ _ c.in_ok-push.ensures.ok)
+    on_err_anyway _
+    (part_then (Is (codes ",\"margins\":[")) (Margins s t m h) c.args.text.now _ _ (grew_is (codes ",\"margins\":[") _ _ c.in_ok-push.ensures.ok)
     (part_first (AreMarginEntries s (knots_of margin_shape m)) (FromStart s t m h) _ _ c.in_err-put_margin_entries.ensures.err
     (start_exists s t m h (signal_entries_exist true s t c.requires.signal))))
 
@@ -36,7 +37,8 @@ returns-in_err-push-2-clause-err c =
     let t = c.args.truth.now in
     let m = c.args.margins.now in
     let h = c.args.holds in
-    on_err_anyway _ (part_then (Is (codes ",\"margins\":[")) (Margins s t m h) c.args.text.now _ _ (grew_is (codes ",\"margins\":[") _ _ c.in_ok-push.ensures.ok)
+    on_err_anyway _
+    (part_then (Is (codes ",\"margins\":[")) (Margins s t m h) c.args.text.now _ _ (grew_is (codes ",\"margins\":[") _ _ c.in_ok-push.ensures.ok)
     (part_then (AreMarginEntries s (knots_of margin_shape m)) (FromStart s t m h) _ _ _ c.in_ok-put_margin_entries.ensures.ok
     (part_none (FromStart s t m h) _ _ (start_exists s t m h (signal_entries_exist true s t c.requires.signal)) c.in_err-push-2.ensures.err)))
 
@@ -47,7 +49,8 @@ returns-in_err-put_spans-clause-err c =
     let m = c.args.margins.now in
     let h = c.args.holds in
     let started = c.in_ok-push-2.ensures.ok ∙ ap (λ w. c.put_margin_entries.new.text ++ w) c.start_at.ensures in
-    on_err_anyway _ (part_then (Is (codes ",\"margins\":[")) (Margins s t m h) c.args.text.now _ _ (grew_is (codes ",\"margins\":[") _ _ c.in_ok-push.ensures.ok)
+    on_err_anyway _
+    (part_then (Is (codes ",\"margins\":[")) (Margins s t m h) c.args.text.now _ _ (grew_is (codes ",\"margins\":[") _ _ c.in_ok-push.ensures.ok)
     (part_then (AreMarginEntries s (knots_of margin_shape m)) (FromStart s t m h) _ _ _ c.in_ok-put_margin_entries.ensures.ok
     (part_then (Is (start_member h)) (Verdicts s t m h) _ _ _ (grew_is (start_member h) _ _ started)
     (part_first (AreEntries truth_shape true s t) (Is (codes "}\n")) _ _ c.in_err-put_spans.ensures.err (word_exists (codes "}\n"))))))

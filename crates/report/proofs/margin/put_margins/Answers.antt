@@ -19,7 +19,8 @@ returns-in_err-put_first-clause-err c =
     let s = c.args.scale in
     let ks = c.args.s.now in
     let Line = IsKnotLine s (plain_knot f c.knot.result) in
-    on_err_anyway _ (part_as (Then Line (AreLaterLines f s ks)) (AreMarginLines s (knots_of f ks)) c.args.text.now _ (margin_lines f s ks c.knot.result c.knot.ensures)
+    on_err_anyway _
+    (part_as (Then Line (AreLaterLines f s ks)) (AreMarginLines s (knots_of f ks)) c.args.text.now _ (margin_lines f s ks c.knot.result c.knot.ensures)
     (part_first Line (AreLaterLines f s ks) c.args.text.now _ c.in_err-put_first.ensures.err (later_exist f s ks c.knot.result c.knot.ensures)))
 
 pub returns-clause-ok : goal.returns-clause-ok

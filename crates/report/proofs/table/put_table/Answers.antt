@@ -24,7 +24,8 @@ last_row c = last_is margin_shape c.args.s.now (c.len-last.result - 1) c.knot.re
 pub returns-in_err-put_row-clause-err : goal.returns-in_err-put_row-clause-err
 returns-in_err-put_row-clause-err c =
     let knots = knots_of margin_shape c.args.s.now in
-    on_err_anyway _ (part_none (IsTableText c.args.scale knots) c.args.text.now c.put_row.new.text (table_exists c.args.scale knots) c.in_err-put_row.ensures.err)
+    on_err_anyway _
+    (part_none (IsTableText c.args.scale knots) c.args.text.now c.put_row.new.text (table_exists c.args.scale knots) c.in_err-put_row.ensures.err)
 
 pub returns-in_err-put_steps-clause-err : goal.returns-in_err-put_steps-clause-err
 returns-in_err-put_steps-clause-err c =

@@ -17,7 +17,8 @@ use Rattle.pl_signal.proofs.Moving.{at_knot_within, limited_at, first_is, same_k
 use Rattle.pl_signal.proofs.Places.{earlier_after, nearer, not_both, at_stop, first_place, more_knots, part_on_gap, begun_before}
 use Rattle.signal_ops.specs.Pointwise.{IsFault, NamesShapes}
 use Rattle.signal_ops.proofs.Negating.{after_bounded}
-use Rattle.signal_ops.proofs.CombiningLemmas.{JoinsBoth, first_shapes, joined_shapes, chosen_is_function, tells_joined, tells_chosen, fault_of_gap, names_of_gap}
+use Rattle.signal_ops.proofs.CombiningLemmas.{JoinsBoth, first_shapes, joined_shapes, chosen_is_function}
+use Rattle.signal_ops.proofs.CombiningLemmas.{tells_joined, tells_chosen, fault_of_gap, names_of_gap}
 use Rattle.signal_ops.proofs.pointwise.combined.Given.{Over}
 use Rattle.signal_ops.proofs.pointwise.combined.Goals.{After-of-next}
 use Rattle.signal_ops.proofs.pointwise.combined.Goals as goal
@@ -78,11 +79,13 @@ within g c = (
 -- both signals on the gap up to it
 left_on : (g : Over) (c : After-of-next g) (t : Rational) → stop c.loop-i.built <ʳ t → t <ʳ value c.of-next.result.time
     → IsWorth g.P.Shape c.args.a.now t (value_at (g.P.Shape.function c.knot.result.after) t)
-left_on g c t h l = part_on_gap g.P.Shape c.args.a.now c.loop-i.i c.knot.result t c.loop-i.invariant.left c.knot.ensures c.knot-in-loop-i-2.ensures c.of-next.ensures.before_left h l
+left_on g c t h l = part_on_gap g.P.Shape c.args.a.now c.loop-i.i c.knot.result t c.loop-i.invariant.left c.knot.ensures
+    c.knot-in-loop-i-2.ensures c.of-next.ensures.before_left h l
 
 right_on : (g : Over) (c : After-of-next g) (t : Rational) → stop c.loop-i.built <ʳ t → t <ʳ value c.of-next.result.time
     → IsWorth g.P.Shape c.args.b.now t (value_at (g.P.Shape.function c.knot-in-loop-i.result.after) t)
-right_on g c t h l = part_on_gap g.P.Shape c.args.b.now c.loop-i.j c.knot-in-loop-i.result t c.loop-i.invariant.right c.knot-in-loop-i.ensures c.knot-in-loop-i-3.ensures c.of-next.ensures.before_right h l
+right_on g c t h l = part_on_gap g.P.Shape c.args.b.now c.loop-i.j c.knot-in-loop-i.result t c.loop-i.invariant.right
+    c.knot-in-loop-i.ensures c.knot-in-loop-i-3.ensures c.of-next.ensures.before_right h l
 
 -- the right signal has a knot behind its place too
 more : (g : Over) (c : After-of-next g) → c.loop-i.j + 1 < length c.args.b.now

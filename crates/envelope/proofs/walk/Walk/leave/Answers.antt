@@ -12,7 +12,8 @@ loop-next-init g c = goes_none g.P.Shape c.args.turn.now c.args.self.now.course 
     c.args.self.now.queue.items c.requires.can c.requires.order
 
 pub loop-next-preserved : goal.loop-next-preserved
-loop-next-preserved g c = goes_on g.P.Shape c.args.turn.now c.in-Some.next c.loop-next.invariant (sym c.in-Some.ensures) (c.is_later.ensures.not_later c.if-is_later.false)
+loop-next-preserved g c = goes_on g.P.Shape c.args.turn.now c.in-Some.next c.loop-next.invariant (sym c.in-Some.ensures)
+    (c.is_later.ensures.not_later c.if-is_later.false)
     c.in_ok-pass.ensures.ok
 
 pub pass-requires-clause-some : goal.pass-requires-clause-some

@@ -92,7 +92,8 @@ invariant_of-self-in-Ok-1 c running = by_moved c.in-Ok.moved refl
           w.2 ++ step c.args.node ∷ [],
           moved_stands w.0 w.1 w.2 net w.3 c.args.node c.in-Some-index_mut.operator c.step_one.new.operator c.in-Some.row c.step_one.new.edges
               (slice_set net.operators c.args.node (Some c.step_one.new.operator)) at c.in-Some.is x
-              (length-set net.operators c.args.node (Some c.step_one.new.operator)) (slice_get-set_same net.operators c.args.node (Some c.step_one.new.operator) l)
+              (length-set net.operators c.args.node (Some c.step_one.new.operator))
+              (slice_get-set_same net.operators c.args.node (Some c.step_one.new.operator) l)
               (λ j. slice_get-set_other net.operators c.args.node j (Some c.step_one.new.operator)),
         )
     by_moved false is = (

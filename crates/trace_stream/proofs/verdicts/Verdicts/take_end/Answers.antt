@@ -57,4 +57,5 @@ returns c = λ case made k t.
     end_followed v case w k
     (is_out v case w x after c.args.text.now c.take_all.new.text t
     (c.in_ok-take_all.ensures.taken (pass_before case.formula.nodes case.trace.header w.events close x.first x.beyond) can))
-    c.take_all.new.last c.put_start.new.text c.in-Some.holds t (c.take_all.ensures.formula ∙ c.step_all.ensures.formula) c.in-Some.is c.in_ok-put_start.ensures.ok
+    c.take_all.new.last c.put_start.new.text c.in-Some.holds t
+    (c.take_all.ensures.formula ∙ c.step_all.ensures.formula) c.in-Some.is c.in_ok-put_start.ensures.ok
