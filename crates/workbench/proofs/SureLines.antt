@@ -270,8 +270,7 @@ record Passage (p : Subformula) (header : Header) (first : ℕ) (old new : Optio
   told : AreTold p tr verdicts
   led : Led first old verdicts new
 
--- no lines lead from a front to itself
-pub none_led : (first : ℕ) (o : Option ℤ) → Led first o [] o
+none_led : (first : ℕ) (o : Option ℤ) → Led first o [] o
 none_led first None = (refl, refl)
 none_led first (Some f) = same_itself (answered_to first (Some f))
 

@@ -30,7 +30,7 @@ use Rattle.workbench.specs.SureMargins.{ArePartLines, IsTruePart, AreTrueParts, 
 use Rattle.workbench.specs.SureMargins.{AreSureMarginsToEnd, AreInTurn, CoverParts, IsMarginCover, ReadsPart, IsMarginText}
 use Rattle.workbench.proofs.MarginTruth.{one_inside, reads}
 use Rattle.workbench.proofs.SureLines.{AnsweredBy, Front, Low, NeverBelow, answered_is}
-use Rattle.workbench.proofs.SureLines.{front_is, front_of_all, front_rises, low_front, low_later, row_answered, none_led}
+use Rattle.workbench.proofs.SureLines.{front_is, front_of_all, front_rises, low_front, low_later, row_answered}
 
 -- ---- the parts of knots
 
@@ -264,6 +264,10 @@ record Passage (p : Subformula) (header : Header) (first : ℕ) (old new : Optio
   lines : ArePartLines header.scale parts text
   told : AreTrueParts p tr parts
   led : Led first old parts new
+
+none_led : (first : ℕ) (o : Option ℤ) → Led first o [] o
+none_led first None = (refl, refl)
+none_led first (Some f) = same_refl (whole f)
 
 led_append : (first : ℕ) (old mid new : Option ℤ) (xs ys : List Part) → Led first old xs mid → Led first mid ys new → Led first old (xs ++ ys) new
 led_append first old None None xs ys a b = (a.0, ap (λ l. l ++ ys) a.1 ∙ b.1)
