@@ -85,6 +85,10 @@ def formulas(rows):
         "kept behind": f"eventually{long} historically[0,20] ({both})", "kept at some time": f"always[0,5] eventually{long} always[0,20] ({both})",
         "kept in windows": f"eventually{long} always[0,20] always[0,20] ({both})", "kept in turn": f"eventually{long} always[0,20] eventually[0,20] ({both})",
         "kept of implications": f"eventually{long} always[0,20] (a >= 0 implies b >= 5)",
+        "kept by once": f"always[{5 * rows},{10 * rows}] once[0,{5 * rows}] ({both})",
+        "kept beside": f"always[0,{5 * rows}] ((a >= 0 or b >= 0) and (true until[0,{5 * rows}] ({both})))",
+        "kept twice": f"always[0,{5 * rows}] (true until[0,{5 * rows}] (not (a >= 0 implies b < 0) or {both}))",
+        "kept after all": f"eventually[{5 * rows},{10 * rows}] (a >= 0 until[0,20] (true until[0,{5 * rows}] always[0,{5 * rows}] once{long} ({both})))",
     }
     return {name: text for name, text in some.items() if len(text) <= 8192}
 

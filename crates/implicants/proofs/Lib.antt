@@ -32,4 +32,7 @@ pub mod SharedTimes
 pub mod HeldUp
 pub mod Helping
 pub mod Nearing
-pub mod NeededNear
+pub mod Losing
+pub mod Lifting
+pub mod Running
+pub mod Wholes

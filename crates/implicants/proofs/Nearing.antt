@@ -1,18 +1,16 @@
--- Signals of atoms that are the best but where cells near say otherwise.
-use Rattle.std.proofs.Common.{◌≡◌, ℕ, ◌+◌, ◌-◌, ◌<◌, ◌≤◌, ◌^◌, ◌⊎◌, inl, inr, Bool, true, false, pos, negsuc, List, [], ◌∷◌, ◌++◌}
-use Rattle.std.proofs.Common.{Some, refl, sym, ap, ◌∙◌, subst, arith, rules, length-append}
+-- Signals that are the best but in runs of their node.
+use Rattle.std.proofs.Common.{◌≡◌, ℕ, zero, suc, ◌+◌, ◌-◌, ◌<◌, ◌≤◌, ◌^◌, ◌⊎◌, inl, inr, Bool, true, false, pos, negsuc, List, [], ◌∷◌, ◌++◌}
+use Rattle.std.proofs.Common.{length, Some, refl, sym, ap, ◌∙◌, subst, arith, rules, length-append}
 use Rattle.std.specs.Prelude.{slice_get}
-use Rattle.std.proofs.lemmas.List.Elements.{All-push}
 use Rattle.std.proofs.lemmas.Option.{same_Some}
 use Rattle.rational.specs.Rational.{IsWithin}
-use Rattle.rational.specs.Time.{Rational, IsIn, whole, ◌≈◌, ◌≤ʳ◌, ◌<ʳ◌}
+use Rattle.rational.specs.Time.{Rational, IsIn, Precedes, whole, ◌≈◌, ◌≤ʳ◌, ◌<ʳ◌}
 use Rattle.rational.specs.Extended.{Extended, Passes, finite, value_at, ◌≤ᵉ◌, ◌≈ᵉ◌}
-use Rattle.rational.proofs.Order.{le_trans, le_of_same, ge_of_same, same_of_le, lt_of_le_of_lt, lt_of_lt_of_le}
+use Rattle.rational.proofs.Order.{le_trans, le_of_lt, le_of_same, ge_of_same, same_of_le, lt_of_le_of_lt, lt_of_lt_of_le}
 use Rattle.rational.proofs.TimeLemmas.{IsIn-same, precedes_of_lt}
 use Rattle.rational.proofs.ExtendedLemmas.{le_transᵉ}
 use Rattle.rational.proofs.LevelLemmas.{level_is}
 use Rattle.rational.proofs.Mixed.{tick_within}
-use Rattle.rational.proofs.Lists.{slice_get-append_left, slice_get-append_here}
 use Rattle.frac128.specs.Spans.{interval}
 use Rattle.frac128.specs.Value.{value}
 use Rattle.frac128.specs.declared.frac.Frac.{Frac}
@@ -25,17 +23,10 @@ use Rattle.pl_signal.specs.Knots.{start, stop, IsSignal, IsWorth}
 use Rattle.pl_signal.specs.Building.{GoesOn}
 use Rattle.pl_signal.proofs.Limits.{limited}
 use Rattle.pl_signal.proofs.Values.{worth_at}
-use Rattle.stl_syntax.specs.Trace.{Trace, first_time, last_time}
 use Rattle.stl_syntax.specs.SupInf.{one, minus_one}
-use Rattle.stl_syntax.specs.declared.atom.Atom.{Atom}
-use Rattle.stl_syntax.specs.declared.items.Item.{Item}
-use Rattle.stl_syntax.specs.declared.node.Node.{Node}
-use Rattle.stl_syntax.specs.declared.node.Node.TheVariants.{Atom as Leaf}
-use Rattle.offline_eval.specs.Inputs.{atoms_before, is_atom, IsInput}
-use Rattle.offline_eval.proofs.Places.{atoms_on_atom, atoms_on_other}
 use Rattle.implicants.specs.Demands.{IsOn}
-use Rattle.implicants.specs.Nearby.{IsBest, IsGone, IsBestAt, IsBestPoint, IsBestGap, IsNearSoFar, IsNearSignal, AreNearAtoms}
-use Rattle.implicants.specs.Signs.{sign_at}
+use Rattle.implicants.specs.Nearby.{IsBest, IsBestAt, IsBestPoint, IsBestGap, IsBestSoFar, IsBestSignal}
+use Rattle.implicants.specs.declared.runs.Run.{Run}
 use Rattle.implicants.specs.declared.nearby.View.{View}
 use Rattle.implicants.proofs.Demanding.{start_to_stop, worth_bounded}
 use Rattle.implicants.proofs.Needing.{shape_on}
@@ -60,39 +51,39 @@ gap_in on from to begun late t above below = record {
   below = precedes_of_lt on.to_in t (value on.to) (lt_of_lt_of_le below late);
 }
 
-module _ (all : List Item) (marks : List Bool) (w : View) where
-  -- a cell that is gone and has the gap
-  pub gone_gap : (j : ℕ) (e : Item) (from to : Rational) (p : Kleene) → IsGone all marks w j e
-      → ((t : Rational) → from <ʳ t → t <ʳ to → IsIn (interval e.on) t) → IsBestGap kleene_shape all marks w from to p
-  gone_gap j e from to p gone has u v above below passes = inr (j, e, gone, has u above below)
+module _ (runs : List Run) (w : View) where
+  -- a run of the node that has the gap
+  pub run_gap : (j : ℕ) (r : Run) (from to : Rational) (p : Kleene) → slice_get runs j ≡ Some r → r.of ≡ w.of
+      → ((t : Rational) → from <ʳ t → t <ʳ to → IsIn (interval r.on) t) → IsBestGap kleene_shape runs w.of w.best from to p
+  run_gap j r from to p at node has u v above below passes = inr (j, r, at, node, has u above below)
 
   -- or the time
-  pub gone_point : (j : ℕ) (e : Item) (t : Rational) (p : Kleene) → IsGone all marks w j e → IsIn (interval e.on) t
-      → IsBestPoint kleene_shape all marks w t p
-  gone_point j e t p gone has u v same passes = inr (j, e, gone, IsIn-same (interval e.on) (same_sym' same) has)
+  pub run_point : (j : ℕ) (r : Run) (t : Rational) (p : Kleene) → slice_get runs j ≡ Some r → r.of ≡ w.of → IsIn (interval r.on) t
+      → IsBestPoint kleene_shape runs w.of w.best t p
+  run_point j r t p at node has u v same passes = inr (j, r, at, node, IsIn-same (interval r.on) (same_sym' same) has)
     where
       same_sym' : {a b : Rational} → a ≈ b → b ≈ a
       same_sym' e = same_of_le (ge_of_same e) (le_of_same e)
 
   -- a signal of one knot at the first tick
   pub near_start : (at : Frac) (p : Kleene) (x : List (Knot Kleene)) → value at ≈ whole (pos w.first) → w.first ≤ w.last
-      → IsBestPoint kleene_shape all marks w (value at) p → x ≡ record { time = at; point = p; after = p } ∷ [] → IsNearSoFar kleene_shape all marks w x
-  near_start at p x begins order best made = subst (IsNearSoFar kleene_shape all marks w) (sym made) (record {
+      → IsBestPoint kleene_shape runs w.of w.best (value at) p → x ≡ record { time = at; point = p; after = p } ∷ [] → IsBestSoFar kleene_shape runs w x
+  near_start at p x begins order best made = subst (IsBestSoFar kleene_shape runs w) (sym made) (record {
     begins = begins;
     within = le_trans (le_of_same begins) (record { le = omega (arith, order) });
     worth = by_worth;
   })
     where
-      by_worth : (t : Rational) (v : Extended) → IsWorth kleene_shape (record { time = at; point = p; after = p } ∷ []) t v → IsBestAt all marks w t v
+      by_worth : (t : Rational) (v : Extended) → IsWorth kleene_shape (record { time = at; point = p; after = p } ∷ []) t v → IsBestAt runs w.of w.best t v
       by_worth t v (inl h) = best t v h.when h.worth
       by_worth t v (inr (inl h)) = absurd h
       by_worth t v (inr (inr h)) = absurd h
 
   -- which goes on by what is best on a gap and behind it
-  pub near_step : (old new : List (Knot Kleene)) (after : Kleene) (at : Frac) (point : Kleene) → IsNearSoFar kleene_shape all marks w old
+  pub near_step : (old new : List (Knot Kleene)) (after : Kleene) (at : Frac) (point : Kleene) → IsBestSoFar kleene_shape runs w old
       → GoesOn kleene_shape old after at point new → value at ≤ʳ whole (pos w.last)
-      → IsBestGap kleene_shape all marks w (stop old) (value at) after → IsBestPoint kleene_shape all marks w (value at) point
-      → IsNearSoFar kleene_shape all marks w new
+      → IsBestGap kleene_shape runs w.of w.best (stop old) (value at) after → IsBestPoint kleene_shape runs w.of w.best (value at) point
+      → IsBestSoFar kleene_shape runs w new
   near_step old new after at point before on within gap here = record {
     begins = subst (λ t. t ≈ whole (pos w.first)) (sym on.begins) before.begins;
     within = subst (λ t. t ≤ʳ whole (pos w.last)) (sym on.ends) within;
@@ -100,14 +91,14 @@ module _ (all : List Item) (marks : List Bool) (w : View) where
   }
     where
       by_part : (t : Rational) (v : Extended) → IsWorth kleene_shape old t v ⊎ ((stop old <ʳ t) × (t <ʳ value at) × Passes (kleene_shape.function after) t v)
-          ⊎ ((t ≈ value at) × Passes (kleene_shape.function point) t v) → IsBestAt all marks w t v
+          ⊎ ((t ≈ value at) × Passes (kleene_shape.function point) t v) → IsBestAt runs w.of w.best t v
       by_part t v (inl h) = before.worth t v h
       by_part t v (inr (inl h)) = gap t v h.0 h.1 h.2
       by_part t v (inr (inr h)) = here t v h.0 h.1
 
   -- up to the last tick
-  pub near_end : (x : List (Knot Kleene)) → IsNearSoFar kleene_shape all marks w x → IsSignal kleene_shape x → whole (pos w.last) ≤ʳ stop x
-      → w.first ≤ w.last → w.last < 2 ^ 32 → IsNearSignal kleene_shape all marks w x
+  pub near_end : (x : List (Knot Kleene)) → IsBestSoFar kleene_shape runs w x → IsSignal kleene_shape x → whole (pos w.last) ≤ʳ stop x
+      → w.first ≤ w.last → w.last < 2 ^ 32 → IsBestSignal kleene_shape runs w x
   near_end x before signal late order b =
       let ends : stop x ≈ whole (pos w.last) = same_of_le before.within late in
       record {
@@ -122,10 +113,10 @@ module _ (all : List Item) (marks : List Bool) (w : View) where
       }
 
   -- closed by the best value
-  pub near_closed : (old new : List (Knot Kleene)) (at : Frac) (p : Kleene) → IsNearSoFar kleene_shape all marks w old
+  pub near_closed : (old new : List (Knot Kleene)) (at : Frac) (p : Kleene) → IsBestSoFar kleene_shape runs w old
       → GoesOn kleene_shape old p at p new → value at ≈ whole (pos w.last)
       → ((t : Rational) (v : Extended) → Passes (kleene_shape.function p) t v → IsBest w.best v) → w.first ≤ w.last → w.last < 2 ^ 32
-      → IsNearSignal kleene_shape all marks w new
+      → IsBestSignal kleene_shape runs w new
   near_closed old new at p before on same best order b = near_end new
       (near_step old new p at p before on (le_of_same same) (λ u v above below passes. inl (best u v passes)) (λ u v here passes. inl (best u v passes)))
       on.signal (subst (λ t. whole (pos w.last) ≤ʳ t) (sym on.ends) (ge_of_same same)) order b
@@ -153,79 +144,3 @@ begins_is_on (l ∷ x) k at h t e = record {
   worth = worth_at kleene_shape (l ∷ x) 0 l t refl e;
   more = shape_on l.point t (subst (λ k. ¬ (k.point.known ≡ Some false)) (sym (same_Some _ _ at)) h);
 }
-
-module _ (nodes : List Node) (tr : Trace) (all : List Item) (signs marks : List Bool) (c : ℕ) where
-  abbrev view_of : ℕ → View
-  view_of i = record { of = i; best = sign_at signs i; tried = c; first = first_time tr.rows; last = last_time 0 tr.rows }
-
-  -- a view by the ends that were read
-  pub view_is : (i first last : ℕ) → first ≡ first_time tr.rows → last ≡ last_time 0 tr.rows
-      → record { of = i; best = sign_at signs i; tried = c; first = first; last = last } ≡ view_of i
-  view_is i first last e f = view_by e f
-    where
-      view : ℕ → ℕ → View
-      view a b = record { of = i; best = sign_at signs i; tried = c; first = a; last = b }
-
-      view_by : first ≡ first_time tr.rows → last ≡ last_time 0 tr.rows → view first last ≡ view (first_time tr.rows) (last_time 0 tr.rows)
-      view_by e f = ap (λ a. view a last) e ∙ ap (λ b. view (first_time tr.rows) b) f
-
-  abbrev Are : ℕ → List (List (Knot Kleene)) → Type 0
-  Are n signals = AreNearAtoms kleene_shape nodes tr all signs marks c n signals
-
-  -- of no nodes no signal is asked
-  pub near_none : Are 0 []
-  near_none = record {
-    count = refl;
-    sound = λ k d h. absurd (omega (arith, h));
-    inputs = λ k d h. absurd (omega (arith, h));
-    near = λ i a h. absurd (omega (arith, h));
-  }
-
-  -- with the signal of the next atom they are those of one node more
-  pub near_atom : (i : ℕ) (a : Atom) (signals : List (List (Knot Kleene))) (x : List (Knot Kleene)) (w : View) → slice_get nodes i ≡ Some (Leaf a)
-      → w ≡ view_of i → IsNearSignal kleene_shape all marks w x → Are i signals → Are (i + 1) (signals ++ x ∷ [])
-  near_atom i a signals x w at same is before = record {
-    count = let f = before.count in let g = atoms_on_atom nodes i a at in omega (arith, length-append signals (x ∷ []), f, g);
-    sound = All-push (IsSignal kleene_shape) signals x before.sound own.signal;
-    inputs = All-push (IsInput kleene_shape (first_time tr.rows) (last_time 0 tr.rows)) signals x before.inputs own.input;
-    near = λ j b l there. by_place j b there (below_or_here j l);
-  }
-    where
-      own : IsNearSignal kleene_shape all marks (view_of i) x
-      own = subst (λ w. IsNearSignal kleene_shape all marks w x) same is
-
-      below_or_here : (j : ℕ) → j < i + 1 → (j ≡ i) ⊎ (j < i)
-      below_or_here j l = grind (arith, l)
-
-      Goal : ℕ → Type 0
-      Goal j = (y : List (Knot Kleene)) × (slice_get (signals ++ x ∷ []) (atoms_before nodes j) ≡ Some y)
-          × ((t : Rational) (v : Extended) → IsWorth kleene_shape y t v → IsBestAt all marks (view_of j) t v)
-
-      by_place : (j : ℕ) (b : Atom) → slice_get nodes j ≡ Some (Leaf b) → (j ≡ i) ⊎ (j < i) → Goal j
-      by_place j b there (inl e) = subst Goal (sym e)
-          (x, subst (λ n. slice_get (signals ++ x ∷ []) n ≡ Some x) before.count (slice_get-append_here signals x []), own.worth)
-      by_place j b there (inr l) =
-          let y = before.near j b l there in (y.0, slice_get-append_left signals (x ∷ []) (atoms_before nodes j) y.0 y.1, y.2)
-
-  -- a node of another kind needs none
-  pub near_other : (i : ℕ) (n : Node) (signals : List (List (Knot Kleene))) → slice_get nodes i ≡ Some n → is_atom n ≡ false
-      → Are i signals → Are (i + 1) signals
-  near_other i n signals at other before = record {
-    count = before.count ∙ sym (atoms_on_other nodes i n at other);
-    sound = before.sound;
-    inputs = before.inputs;
-    near = λ j b l there. by_place j b there (below_or_here j l);
-  }
-    where
-      below_or_here : (j : ℕ) → j < i + 1 → (j ≡ i) ⊎ (j < i)
-      below_or_here j l = grind (arith, l)
-
-      leaf_is_atom : (b : Atom) → Some n ≡ Some (Leaf b) → is_atom n ≡ true
-      leaf_is_atom b e = let same : n ≡ Leaf b = cc in ap is_atom same
-
-      by_place : (j : ℕ) (b : Atom) → slice_get nodes j ≡ Some (Leaf b) → (j ≡ i) ⊎ (j < i)
-          → (y : List (Knot Kleene)) × (slice_get signals (atoms_before nodes j) ≡ Some y)
-          × ((t : Rational) (v : Extended) → IsWorth kleene_shape y t v → IsBestAt all marks (view_of j) t v)
-      by_place j b there (inl e) =
-          let is = leaf_is_atom b (sym at ∙ ap (slice_get nodes) (sym e) ∙ there) in absurd (let clash : true ≡ false = sym is ∙ other in cc)
-      by_place j b there (inr l) = before.near j b l there

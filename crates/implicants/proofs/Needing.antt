@@ -196,6 +196,16 @@ pub told_of_more : (nodes : List Node) (tr : Trace) (items more : List Item) (o 
 told_of_more nodes tr items more None covered h = tt
 told_of_more nodes tr items more (Some signals) covered h = record { more = more; covered = covered; told = h }
 
+-- and what tells of no less than more items cover tells of no less than fewer do
+pub told_of_fewer : (nodes : List Node) (tr : Trace) (items others : List Item) (o : Option (List (List (Knot Kleene)))) → CoverMore items others
+    → IfSome o (AreToldOfMore kleene_shape nodes tr others) → IfSome o (AreToldOfMore kleene_shape nodes tr items)
+told_of_fewer nodes tr items others None covered h = tt
+told_of_fewer nodes tr items others (Some signals) covered h = record {
+  more = h.more;
+  covered = λ i t c. h.covered i t (covered i t c);
+  told = h.told;
+}
+
 -- where no mark is put, none but those that are needed are
 pub no_more_needed : (nodes : List Node) (tr : Trace) (all : List Item) (left : ℕ) (marks : List Bool) → MarksNeeded nodes tr all left marks marks
 no_more_needed nodes tr all left marks = record { stay = λ c h. h; only = λ c h. inl h }

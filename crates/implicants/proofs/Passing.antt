@@ -322,6 +322,23 @@ module _ (nodes : List Node) (tr : Trace) (items : List Item) where
       fewer j (inl h) = inl (omega (arith, h))
       fewer j (inr h) = elim (marked_set kept n j h) [ inl e ↦ inl (omega (arith, e)) | inr k ↦ inr (is.under j k) ]
 
+  -- fewer also than before the round
+  pub fewer_than : (left n : ℕ) (marks kept : List Bool) → suc n ≤ left → AreKept (suc n) marks kept
+      → CoverMore (remaining n (set kept n true) items) (remaining left marks items)
+  fewer_than left n marks kept l is = stay_covered n (set kept n true) left marks fewer
+    where
+      fewer : (j : ℕ) → (j < n) ⊎ IsMarked (set kept n true) j → (j < left) ⊎ IsMarked marks j
+      fewer j (inl h) = inl (omega (arith, h, l))
+      fewer j (inr h) = elim (marked_set kept n j h) [ inl e ↦ inl (omega (arith, e, l)) | inr k ↦ inr (is.under j k) ]
+
+  -- and no more where cells before them are marked
+  pub anew_stay : (n : ℕ) (kept new : List Bool) → MarksNeeded nodes tr items n kept new → CoverMore (remaining n new items) (remaining n kept items)
+  anew_stay n kept new more = stay_covered n new n kept fewer
+    where
+      fewer : (j : ℕ) → (j < n) ⊎ IsMarked new j → (j < n) ⊎ IsMarked kept j
+      fewer j (inl h) = inl h
+      fewer j (inr h) = elim (more.only j h) [ inl k ↦ inr k | inr k ↦ inl k.0 ]
+
   -- and what is sure of more cells is sure of fewer
   pub sure_shrinks : (left n : ℕ) (marks : List Bool) → n ≤ left → AreSure left marks → AreSure n marks
   sure_shrinks left n marks l sure c h m = sure c (omega (arith, h, l)) m

@@ -9,5 +9,6 @@ pub mod Choices
 pub mod Sharing
 pub mod Signs
 pub mod Nearby
+pub mod Upward
 pub mod Explaining
 pub mod Counting

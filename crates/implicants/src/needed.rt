@@ -14,8 +14,8 @@ use crate::cells::Cells;
 use crate::choice::choice_on;
 use crate::choosing::mark_chosen;
 use crate::demand::demand_on;
-use crate::nearby::mark_nearby;
 use crate::sharing::shared_on;
+use crate::upward::mark_upward;
 use frac128::{Frac, Memory, Span};
 use offline_eval::Evaluated;
 use pl_signal::Signal;
@@ -193,7 +193,7 @@ fn mark_needed(
         return Ok(());
     }
     if tries > 0 {
-        return mark_nearby(alloc, formula, trace, cells, left, tries, marks);
+        return mark_upward(alloc, formula, trace, cells, nodes, left, tries, marks);
     }
     if let Some(choice) = choice_on(alloc, formula, trace, nodes, i)? {
         mark_chosen(cells, i, left, &choice, marks);

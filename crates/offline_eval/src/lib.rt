@@ -14,4 +14,5 @@ mod windows;
 pub use atoms::Atoms;
 pub use evaluation::{Evaluated, eval};
 pub use faults::{EvalFault, WideCause};
+pub use nodes::of_node;
 pub use root::Stack;

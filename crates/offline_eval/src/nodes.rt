@@ -13,8 +13,13 @@ use std::alloc::Global;
 use stl_syntax::Node;
 use value_laws::Shape;
 
-/// The signal of a node that is no atom, from those of the nodes before it.
-pub(crate) fn of_node<P: Shape>(
+/// The signal of a node that is no atom, from those of the nodes before it, whatever formulas these tell. The domain is from `from` to
+/// `to`, both in ticks.
+///
+/// # Errors
+///
+/// `Wide` with a pair that is in play in the node's step and needs a denominator of 2^60 or more; `Memory` where memory is wanting.
+pub fn of_node<P: Shape>(
     alloc: Global,
     from: u32,
     to: u32,

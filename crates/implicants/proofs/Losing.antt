@@ -1,0 +1,178 @@
+-- What is lost without a cell, of its atom and of nodes above.
+use Rattle.std.proofs.Common.{◌≡◌, ℕ, ◌-◌, ◌<◌, ◌≤◌, ◌⊎◌, inl, inr, Bool, true, false, List, [], ◌∷◌, zero}
+use Rattle.std.proofs.Common.{suc, length, set, length-set, Some, refl, sym, ap, ◌∙◌, subst, arith}
+use Rattle.std.specs.Prelude.{slice_get, slice_index, slice_index_or, MatchBool, IsTrue}
+use Rattle.std.proofs.lemmas.Option.{slice_get_within}
+use Rattle.rational.specs.Time.{Rational, Interval, IsIn}
+use Rattle.frac128.specs.Spans.{interval}
+use Rattle.value_laws.specs.Kinds.{kleene_shape}
+use Rattle.value_laws.specs.declared.kleene.Kleene.{Kleene}
+use Rattle.pl_signal.specs.declared.knot.Knot.{Knot}
+use Rattle.stl_syntax.specs.Trace.{Trace}
+use Rattle.stl_syntax.specs.Formula.{atom, subformula}
+use Rattle.stl_syntax.specs.Truth.{Truth, holds_at}
+use Rattle.stl_syntax.specs.Kleene.{IsCovered}
+use Rattle.stl_syntax.specs.Cells.{cells}
+use Rattle.stl_syntax.specs.Kept.{IsSo, ItemsOn}
+use Rattle.stl_syntax.specs.declared.atom.Atom.{Atom}
+use Rattle.stl_syntax.specs.declared.items.Item.{Item}
+use Rattle.stl_syntax.specs.declared.node.Node.{Node}
+use Rattle.stl_syntax.specs.declared.node.Node.TheVariants.{Atom as Leaf}
+use Rattle.stl_syntax.proofs.FormulaLemmas.{subformula-at}
+use Rattle.implicants.specs.Runs.{AreAllCells, begins}
+use Rattle.implicants.specs.Certainty.{stays, known_at}
+use Rattle.implicants.specs.Demands.{Certain, IsNeeded, IsOn, IsOff, IsAmongPlaces, MarksNeeded, AreCertainties}
+use Rattle.implicants.specs.Keeping.{CoverMore, remaining}
+use Rattle.implicants.specs.Signs.{sign_at}
+use Rattle.implicants.specs.Upward.{AreGone, AreLost, AreShort, IsGone, PutsNeeded}
+use Rattle.implicants.specs.declared.runs.Run.{Run}
+use Rattle.implicants.proofs.Strips.{one_cell}
+use Rattle.implicants.proofs.Certain.{in_run}
+use Rattle.implicants.proofs.Demanding.{on_not_false, off_not_true}
+use Rattle.implicants.proofs.Needing.{certain_covered, within_more}
+use Rattle.implicants.proofs.Passing.{set_marked, marked_set, stays_one}
+
+-- a place before the tried one, or a marked one behind it, stays
+still_there : (marks : List Bool) (c j : ℕ) → (j < c) ⊎ ((c < j) × (slice_index_or marks j false ≡ true)) → stays c marks j ≡ true
+still_there marks c j h = stays_one c marks j (elim h [ inl l ↦ inl l | inr l ↦ inr l.1 ])
+
+-- each cell of a run is so
+so_of : (nodes : List Node) (tr : Trace) (i : ℕ) (spans : List Interval) (here : List Item) (k : ℕ) (e : Item) → ItemsOn nodes tr i spans here
+    → slice_get here k ≡ Some e → IsSo nodes tr e
+so_of nodes tr i [] [] k e h at = absurd (elim k as (λ k. slice_get [] k ≡ Some e → ⊥) [ zero ↦ λ s. cc | suc k ↦ λ s. cc ] at)
+so_of nodes tr i [] (f ∷ here) k e h at = absurd h
+so_of nodes tr i (on ∷ spans) [] k e h at = absurd h
+so_of nodes tr i (on ∷ spans) (f ∷ here) zero e h at = let same : f ≡ e = cc in subst (IsSo nodes tr) same h.3
+so_of nodes tr i (on ∷ spans) (f ∷ here) (suc k) e h at = so_of nodes tr i spans here k e h.4 at
+
+module _ (nodes : List Node) (tr : Trace) (all : List Item) (ends : List ℕ) (is : AreAllCells nodes tr all ends) (marks : List Bool) (c : ℕ)
+    (some : List Item)
+    (within : (i : ℕ) (t : Rational) → IsCovered some i t
+    → IsAmongPlaces all (λ j. (j < c) ⊎ ((c < j) × (slice_index_or marks j false ≡ true))) i t) where
+  -- what is certain of an atom is what the cell says that has the time
+  certain_says : (h : Bool) (i : ℕ) (a : Atom) (e : Item) (t : Rational) → subformula nodes i ≡ atom i a → e.node ≡ i → IsSo nodes tr e
+      → IsIn (interval e.on) t → Certain h (atom i a) some tr t → e.holds ≡ h
+  certain_says h i a e t tree node so inside certain =
+      by_truth h e.holds (subst (λ q. MatchBool e.holds (Truth q tr t) (¬ Truth q tr t)) (ap (subformula nodes) node ∙ tree) (so t inside)) certain
+    where
+      by_truth : (h b : Bool) → MatchBool b (IsTrue (holds_at a tr t)) (¬ IsTrue (holds_at a tr t)) → Certain h (atom i a) some tr t → b ≡ h
+      by_truth true true m d = refl
+      by_truth true false m d = absurd (m d.0)
+      by_truth false true m d = absurd (let f : true ≡ false = sym m ∙ d.0 in cc)
+      by_truth false false m d = refl
+
+  -- and no cell that is gone has a time at which it is
+  gone_clash : (h : Bool) (i : ℕ) (a : Atom) (p : ℕ) (e : Item) (t : Rational) → slice_get nodes i ≡ Some (Leaf a) → slice_get all p ≡ Some e
+      → e.node ≡ i → IsIn (interval e.on) t → IsGone all marks h c p → Certain h (atom i a) some tr t → ⊥
+  gone_clash h i a p e t leaf at node inside gone certain =
+      let tree = subformula-at nodes i (Leaf a) leaf tt in
+      let other = within i t (certain_covered nodes tr all ends is h i a some t certain) in
+      let run = is.runs i a leaf in
+      let here = in_run nodes tr all c marks i (begins ends i) (slice_index ends i) run p e t at (node, inside) in
+      let there = in_run nodes tr all c marks i (begins ends i) (slice_index ends i) run other.place other.item t other.at (other.node, other.inside) in
+      let one : here.0 ≡ there.0 =
+      one_cell nodes tr i run.times run.here here.0 there.0 e other.item t run.cuts.rising run.cells here.2 there.2 inside other.inside in
+      let place : other.place ≡ p = let f = here.1 in let g = there.1 in omega (arith, f, g, one) in
+      let so = so_of nodes tr i (cells run.times) run.here here.0 e run.cells here.2 in
+      let says = certain_says h i a e t tree node so inside certain in
+      let stay : stays c marks p ≡ true = still_there marks c p (subst (λ k. (k < c) ⊎ ((c < k) × (slice_index_or marks k false ≡ true))) place other.is) in
+      gone e at (subst (λ b. known_at b e ≡ Some h) (sym stay) (ap (λ b. Some b) says))
+
+module _ (nodes : List Node) (tr : Trace) (all : List Item) (ends : List ℕ) (is : AreAllCells nodes tr all ends) (marks : List Bool) (c : ℕ)
+    (signs : List Bool) where
+  -- the cells that are gone are lost
+  pub gone_lost : (i : ℕ) (a : Atom) (best : Bool) (runs : List Run) → slice_get nodes i ≡ Some (Leaf a) → best ≡ sign_at signs i
+      → AreGone all marks i best c runs → AreLost nodes tr all marks c signs runs
+  gone_lost i a best runs leaf same gone some within j r at t inside certain =
+      let (of, p, e, there, node, on, is_gone) = gone j r at in
+      let here = subst (λ k. Certain (sign_at signs k) (subformula nodes k) some tr t) of certain in
+      let tree = subst (λ f. Certain (sign_at signs i) f some tr t) (subformula-at nodes i (Leaf a) leaf tt) here in
+      gone_clash nodes tr all ends is marks c some within (sign_at signs i) i a p e t leaf there node (subst (λ s. IsIn (interval s) t) on inside)
+      (subst (λ b. IsGone all marks b c p) same is_gone) tree
+
+  -- so are the runs in which signals of what is certain by more cells are less than best
+  pub short_lost : (left : ℕ) (old : List Bool) (more : List Item) (signals : List (List (Knot Kleene))) (runs : List Run) → c < left
+      → CoverMore (remaining left old all) more
+      → ((j : ℕ) → slice_index_or marks j false ≡ true → (slice_index_or old j false ≡ true) ⊎ (j < left))
+      → AreCertainties kleene_shape nodes tr more signals → AreShort kleene_shape signs signals runs → AreLost nodes tr all marks c signs runs
+  short_lost left old more signals runs l covered marked sure short some within j r at t inside certain =
+      let x = short j r at in
+      let there : r.of < length nodes = let w = slice_get_within signals r.of x.0 x.1 in let e = sure.count in omega (arith, w, e) in
+      by_sign x.0 there x.1 (sign_at signs r.of) (x.2 t inside) certain
+    where
+      cover : CoverMore some more
+      cover = within_more nodes tr all ends is left old marks more some c l covered marked within
+
+      by_sign : (x : List (Knot Kleene)) → r.of < length nodes → slice_get signals r.of ≡ Some x → (h : Bool)
+          → MatchBool h (IsOff kleene_shape x t) (IsOn kleene_shape x t) → Certain h (subformula nodes r.of) some tr t → ⊥
+      by_sign x l at true off m = off_not_true nodes tr more signals sure r.of x t l at off some cover m
+      by_sign x l at false on m = on_not_false nodes tr more signals sure r.of x t l at on some cover m
+
+-- marks that were put where cells are needed, at places from c on
+pub record PutsFrom (nodes : List Node) (tr : Trace) (all : List Item) (left c : ℕ) (old new : List Bool) : Type 0 where
+  pub stay : (k : ℕ) → slice_index_or old k false ≡ true → slice_index_or new k false ≡ true
+  pub only : (k : ℕ) → slice_index_or new k false ≡ true
+      → (slice_index_or old k false ≡ true) ⊎ ((c ≤ k) × (k < left) × IsNeeded nodes tr all new k)
+
+-- marks that are new are of cells before place `left`
+pub new_before : (nodes : List Node) (tr : Trace) (all : List Item) (left c : ℕ) (old new : List Bool) → PutsFrom nodes tr all left c old new
+    → (j : ℕ) → slice_index_or new j false ≡ true → (slice_index_or old j false ≡ true) ⊎ (j < left)
+new_before nodes tr all left c old new puts j h = elim (puts.only j h) [ inl m ↦ inl m | inr m ↦ inr m.1 ]
+
+module _ (nodes : List Node) (tr : Trace) (all : List Item) where
+  -- no marks were put yet
+  pub puts_from_none : (left : ℕ) (marks : List Bool) → PutsFrom nodes tr all left left marks marks
+  puts_from_none left marks = record { stay = λ k h. h; only = λ k h. inl h }
+
+  -- a mark before it, or at it, makes no cell that is needed one that is not
+  needed_still : (marks : List Bool) (c k : ℕ) → c ≤ k → IsNeeded nodes tr all marks k → IsNeeded nodes tr all (set marks c true) k
+  needed_still marks c k l needed some within = needed some (λ i t h. among (within i t h))
+    where
+      among : {i : ℕ} {t : Rational} → IsAmongPlaces all (λ j. (j < k) ⊎ ((k < j) × (slice_index_or (set marks c true) j false ≡ true))) i t
+          → IsAmongPlaces all (λ j. (j < k) ⊎ ((k < j) × (slice_index_or marks j false ≡ true))) i t
+      among p = record {
+        place = p.place;
+        item = p.item;
+        at = p.at;
+        is = elim p.is [
+          | inl h ↦ inl h
+          | inr h ↦ inr (h.0, elim (marked_set marks c p.place h.1) [ inl e ↦ absurd (let b = h.0 in omega (arith, b, e, l)) | inr m ↦ m ])
+        ];
+        node = p.node;
+        inside = p.inside;
+      }
+
+  -- no mark is added to the list
+  pub puts_count : (c : ℕ) (marks new : List Bool) → PutsNeeded nodes tr all c marks new → length new ≡ length marks
+  puts_count c marks new (inl same) = ap length same
+  puts_count c marks new (inr (same, needed)) = ap length same ∙ length-set marks c true
+
+  -- one more, at the place before
+  pub puts_from_more : (left c : ℕ) (old marks new : List Bool) → c < left → PutsFrom nodes tr all left (suc c) old marks
+      → PutsNeeded nodes tr all c marks new → PutsFrom nodes tr all left c old new
+  puts_from_more left c old marks new l before (inl same) = subst (PutsFrom nodes tr all left c old) (sym same) (record {
+    stay = before.stay;
+    only = λ k h. elim (before.only k h) [ inl m ↦ inl m | inr m ↦ inr ((let a = m.0 in omega (arith, a)), m.1, m.2) ];
+  })
+  puts_from_more left c old marks new l before (inr (same, needed)) = subst (PutsFrom nodes tr all left c old) (sym same) (record {
+    stay = λ k h. set_marked marks c k (before.stay k h);
+    only = λ k h. elim (marked_set marks c k h) [
+      | inl e ↦ inr (
+        (omega (arith, e)),
+        (omega (arith, e, l)),
+        subst (IsNeeded nodes tr all (set marks c true)) (sym e)
+            (needed_still marks c c (omega arith) needed),
+      )
+      | inr m ↦ elim (before.only k m) [
+        | inl o ↦ inl o
+        | inr n ↦ inr ((let a = n.0 in omega (arith, a)), n.1, needed_still marks c k (let a = n.0 in omega (arith, a)) n.2)
+      ]
+    ];
+  })
+
+  -- all of them
+  pub puts_from_all : (left c : ℕ) (old new : List Bool) → PutsFrom nodes tr all left c old new → MarksNeeded nodes tr all left old new
+  puts_from_all left c old new puts = record {
+    stay = puts.stay;
+    only = λ k h. elim (puts.only k h) [ inl m ↦ inl m | inr m ↦ inr (m.1, m.2) ];
+  }

@@ -1,4 +1,0 @@
-use Rattle.implicants.proofs.nearby.is_needed.Given as goal
-
-abbrev pub ghosts-stands : goal.ghosts-stands
-ghosts-stands a = record { name = a.blank.name; parts = a.blank.parts }

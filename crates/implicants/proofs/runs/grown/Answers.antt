@@ -1,0 +1,18 @@
+use Rattle.std.proofs.Common.{subst, sym, Some}
+use Rattle.std.specs.Prelude.{IfSome}
+use Rattle.value_laws.specs.Kinds.{kleene_shape}
+use Rattle.implicants.specs.Upward.{IsOnOver}
+use Rattle.implicants.proofs.Running.{adds_on, joined_on}
+use Rattle.implicants.proofs.runs.grown.Goals as goal
+
+pub returns-in_default-clause-added : goal.returns-in_default-clause-added
+returns-in_default-clause-added c x h = adds_on c.args.of c.args.so_far x c.args.runs.now.items c.add.new.runs.items c.in_ok-add.ensures h
+
+pub returns-in-Some-joined-clause-so_far : goal.returns-in-Some-joined-clause-so_far
+returns-in-Some-joined-clause-so_far c x before here =
+    joined_on c.in-Some-so_far.before c.in-Some.next c.in-Some-joined.both c.joined.result c.args.so_far c.args.piece x
+    c.in-Some-so_far.is c.in-Some.is c.in-Some-joined.is c.joined.ensures before here
+
+pub returns-clause-added : goal.returns-clause-added
+returns-clause-added c x h = adds_on c.args.of (Some c.in-Some-so_far.before) x c.args.runs.now.items c.add-2.new.runs.items c.in_ok-add-2.ensures
+    (subst (λ o. IfSome o (IsOnOver kleene_shape x)) c.in-Some-so_far.is h)

@@ -1,0 +1,19 @@
+use Rattle.std.proofs.Common.{◌≡◌, ◌<◌, ◌-◌, ℕ, Bool, List, length}
+use Rattle.value_laws.specs.Kinds.{kleene_shape}
+use Rattle.stl_syntax.specs.declared.items.Item.{Item}
+use Rattle.implicants.specs.Upward.{AreWhole, HasBestIn, IsGround}
+use Rattle.implicants.proofs.upward.loses_root.Given as goal
+
+abbrev pub invariant-loop-k : goal.invariant-loop-k
+invariant-loop-k l = record {
+  inside : l.k < length l.formula.nodes;
+  count : length l.done.items ≡ length l.formula.nodes;
+  whole : AreWhole kleene_shape l.trace l.done.items;
+  best : (all : List Item) (marks : List Bool) (c : ℕ)
+      → IsGround l.formula.nodes l.trace all marks c l.ground.signs.items l.ground.runs.all.items
+      → HasBestIn kleene_shape l.formula.nodes l.trace all marks c l.ground.signs.items l.from l.fn.done.items
+      → HasBestIn kleene_shape l.formula.nodes l.trace all marks c l.ground.signs.items l.k l.done.items;
+}
+
+abbrev pub decreases-loop-k : goal.decreases-loop-k
+decreases-loop-k l = l.top - l.k

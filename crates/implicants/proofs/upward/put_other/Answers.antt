@@ -1,0 +1,19 @@
+use Rattle.std.proofs.Common.{inl, inr, sym, ap, Some, ◌∙◌}
+use Rattle.std.proofs.lemmas.Option.{same_Some}
+use Rattle.implicants.proofs.Lifting.{put_best_in}
+use Rattle.implicants.proofs.Wholes.{set_there, whole_set}
+use Rattle.implicants.proofs.upward.put_other.Goals as goal
+
+pub returns-clause-whole : goal.returns-clause-whole
+returns-clause-whole c = whole_set c.args.trace.now c.args.done.now.items c.in-Some.i c.in_ok-signal.signal c.in_ok-signal.ensures.whole c.requires.whole
+
+pub returns-clause-stay : goal.returns-clause-stay
+returns-clause-stay c i x at = elim (set_there c.args.done.now.items c.in-Some.i c.in_ok-signal.signal i x at) [
+  | inl e ↦ inr (c.in-Some.is ∙ ap (λ j. Some j) (sym e.1))
+  | inr h ↦ inl h
+]
+
+pub returns-clause-best : goal.returns-clause-best
+returns-clause-best c i is l nodes all marks k lost =
+    put_best_in nodes c.args.trace.now all marks k c.args.ground.now.signs.items c.args.done.now.items c.in-Some.i i c.in_ok-signal.signal
+    (same_Some _ _ (sym c.in-Some.is ∙ is)) l (c.in_ok-signal.ensures.best nodes all marks k lost)

@@ -1,0 +1,79 @@
+use Rattle.std.proofs.Common.{◌≡◌, ◌<◌, ◌≤◌, ◌+◌, ◌^◌, Some, ap, arith, length, subst, sym, ◌∙◌}
+use Rattle.std.proofs.lemmas.Result.{IfOk-weaker}
+use Rattle.std.specs.Prelude.{slice_get}
+use Rattle.value_laws.specs.Kinds.{kleene_shape}
+use Rattle.stl_syntax.specs.Trace.{first_time, last_time}
+use Rattle.stl_syntax.specs.Limits.{own_reach}
+use Rattle.offline_eval.specs.Making.{AreSound, IsSound, TellsNode}
+use Rattle.implicants.specs.Upward.{AreWhole, IsWhole}
+use Rattle.stl_syntax.proofs.FormulaLemmas.{below_later}
+use Rattle.implicants.proofs.Lifting.{child_not_atom, is_so, kids_best, node_best, some_then}
+use Rattle.implicants.proofs.Wholes.{whole_made, whole_sound}
+use Rattle.implicants.proofs.upward.taken_on.Goals as goal
+
+pub of_node-requires-clause-order : goal.of_node-requires-clause-order
+of_node-requires-clause-order c = subst (λ n. n ≤ c.last-to.result) (sym c.first-from.ensures) c.last-to.ensures.later
+
+pub of_node-requires-clause-kind : goal.of_node-requires-clause-kind
+of_node-requires-clause-kind c = child_not_atom c.node-node.result.now c.args.k (c.beside_in-beside.ensures (is_so c.beside_in-beside.result.is_operand c.if-not-beside.false)).0
+
+pub of_node-requires-clause-children : goal.of_node-requires-clause-children
+of_node-requires-clause-children c =
+    let inside = c.requires.inside in
+    let count = c.put_other.ensures.count in
+    let before = c.requires.count in
+    let same = ap length c.deref.ensures.value in
+    below_later c.args.j (length c.deref.result.now) c.node-node.result.now (omega (arith, inside, count, before, same)) c.node-node.ensures.below
+
+pub of_node-requires-clause-sound : goal.of_node-requires-clause-sound
+of_node-requires-clause-sound c =
+    subst (AreSound kleene_shape c.first-from.result c.last-to.result 4294967295) (sym c.deref.ensures.value)
+    (whole_sound c.args.trace.now c.put_other.new.done.items c.first-from.result c.last-to.result c.first-from.ensures c.last-to.ensures.last
+    c.put_other.ensures.whole)
+
+pub put_lost-requires-clause-inside : goal.put_lost-requires-clause-inside
+put_lost-requires-clause-inside c = let i = c.requires.inside in let s = c.requires.signs in omega (arith, i, s)
+
+pub put_lost-requires-clause-place : goal.put_lost-requires-clause-place
+put_lost-requires-clause-place c = let i = c.requires.inside in let s = c.requires.count in let p = c.put_other.ensures.count in omega (arith, i, s, p)
+
+pub put_lost-requires-clause-made : goal.put_lost-requires-clause-made
+put_lost-requires-clause-made c =
+    let tr = c.args.trace.now in
+    let late = subst (λ n. n < 2 ^ 32) c.last-to.ensures.last c.last-to.type_inv in
+    let order = subst (λ n. first_time tr.rows ≤ n) c.last-to.ensures.last c.last-to.ensures.later in
+    whole_made tr c.in-Ok.made c.first-from.result c.last-to.result _ c.first-from.ensures c.last-to.ensures.last order late c.len-2.ensures.signal
+    (c.in-Ok.ensures.sound 4294967295 (subst (AreSound kleene_shape c.first-from.result c.last-to.result 4294967295) (sym c.deref.ensures.value)
+    (whole_sound tr c.put_other.new.done.items c.first-from.result c.last-to.result c.first-from.ensures c.last-to.ensures.last c.put_other.ensures.whole)))
+
+pub put_lost-requires-clause-whole : goal.put_lost-requires-clause-whole
+put_lost-requires-clause-whole c = c.put_other.ensures.whole
+
+pub returns-clause-count : goal.returns-clause-count
+returns-clause-count c = c.put_lost.ensures.count ∙ c.put_other.ensures.count
+
+pub returns-clause-whole : goal.returns-clause-whole
+returns-clause-whole c = c.put_lost.ensures.whole
+
+pub returns-clause-best : goal.returns-clause-best
+returns-clause-best c = IfOk-weaker c.put_lost.result _ _ (λ o best. some_then o _ _
+    (λ has all marks i ground before.
+    let nodes = c.args.formula.now.nodes in
+    let tr = c.args.trace.now in
+    let signs = c.args.ground.now.signs.items in
+    let n = c.node-node.result.now in
+    let new = c.put_other.new.done.items in
+    let operands = c.beside_in-beside.ensures (is_so c.beside_in-beside.result.is_operand c.if-not-beside.false) in
+    let inside = c.requires.inside in
+    let count = c.requires.count in
+    let more = c.put_other.ensures.count in
+    let kids = kids_best nodes tr all marks i signs n c.args.j c.args.k c.beside_in-beside.result.other c.args.done.now.items new operands
+    c.node-node.ensures.below (omega (arith, inside, count)) before c.put_other.ensures.stay
+    (λ m is l. c.in_ok-put_other.ensures.best m is l nodes all marks i ground.lost) in
+    let told = subst (λ xs. TellsNode kleene_shape c.first-from.result c.last-to.result n xs c.in-Ok.made) c.deref.ensures.value c.in-Ok.ensures.told in
+    let told' = subst (λ a. TellsNode kleene_shape a c.last-to.result n new c.in-Ok.made) c.first-from.ensures told in
+    let told'' = subst (λ b. TellsNode kleene_shape (first_time tr.rows) b n new c.in-Ok.made) c.last-to.ensures.last told' in
+    has nodes all marks i ground.lost
+    (node_best nodes tr all marks i signs ground.leaf c.args.j n new c.in-Ok.made c.node-node.ensures.node c.node-node.ensures.below
+    (child_not_atom n c.args.k operands.0) (ground.signed.each c.args.j n c.node-node.ensures.node) (omega (arith, inside, count, more))
+    c.put_other.ensures.whole kids told'')) best) c.put_lost.ensures.best

@@ -1,0 +1,121 @@
+-- What a cell is tried by: where nodes are less certain than is best, and signals that are no less certain than a node.
+use Rattle.std.specs.Prelude.{◌≡◌, ◌⊎◌, ◌<◌, ◌∷◌, ◌++◌, ℕ, Bool, true, false, List, [], Option, Some, slice_get, slice_set, slice_index_or, MatchBool, MatchOption}
+use Rattle.rational.specs.Time.{Rational, IsIn, ◌≈◌}
+use Rattle.rational.specs.Extended.{Extended}
+use Rattle.frac128.specs.Spans.{interval}
+use Rattle.frac128.specs.declared.span.Span.{Span}
+use Rattle.value_laws.specs.Members.{ShapeOf}
+use Rattle.value_laws.specs.declared.kleene.Kleene.{Kleene}
+use Rattle.pl_signal.specs.declared.knot.Knot.{Knot}
+use Rattle.pl_signal.specs.Knots.{start, stop, IsSignal, IsWorth}
+use Rattle.stl_syntax.specs.Trace.{Trace, first_time, last_time}
+use Rattle.stl_syntax.specs.Formula.{subformula}
+use Rattle.stl_syntax.specs.Cells.{IsChild}
+use Rattle.stl_syntax.specs.Kleene.{IsCovered}
+use Rattle.stl_syntax.specs.declared.atom.Atom.{Atom}
+use Rattle.stl_syntax.specs.declared.items.Item.{Item}
+use Rattle.stl_syntax.specs.declared.node.Node.{Node}
+use Rattle.offline_eval.specs.Inputs.{IsInput}
+use Rattle.implicants.specs.Certainty.{stays, known_at}
+use Rattle.implicants.specs.Demands.{Certain, IsAmongPlaces, IsNeeded, IsOff, IsOn}
+use Rattle.implicants.specs.Nearby.{IsBest}
+use Rattle.implicants.specs.Signs.{sign_at, AreSigns}
+use Rattle.implicants.specs.declared.runs.Run.{Run}
+
+module _ (shape : ShapeOf Kleene) where
+  -- the signal is on at each time of the span
+  abbrev pub IsOnOver : List (Knot Kleene) → Span → Type 0
+  IsOnOver x on = (t : Rational) → IsIn (interval on) t → IsOn shape x t
+
+  -- the new runs are the old ones, and others of the node in which the signal is on
+  abbrev pub AddsOn : ℕ → List (Knot Kleene) → List Run → List Run → Type 0
+  AddsOn k x old new = (j : ℕ) (r : Run) → slice_get new j ≡ Some r → (slice_get old j ≡ Some r) ⊎ ((r.of ≡ k) × IsOnOver x r.on)
+
+  -- the signal is less than certainly what `best` says at each time of the span
+  abbrev pub IsShortOver : Bool → List (Knot Kleene) → Span → Type 0
+  IsShortOver best x on = (t : Rational) → IsIn (interval on) t → MatchBool best (IsOff shape x t) (IsOn shape x t)
+
+  -- the new runs are the old ones, and others of the node in which the signal is so
+  abbrev pub AddsShort : ℕ → Bool → List (Knot Kleene) → List Run → List Run → Type 0
+  AddsShort k best x old new = (j : ℕ) (r : Run) → slice_get new j ≡ Some r → (slice_get old j ≡ Some r) ⊎ ((r.of ≡ k) × IsShortOver best x r.on)
+
+  -- in each run the signal of its node is less than certainly what the node's sign says
+  abbrev pub AreShort : List Bool → List (List (Knot Kleene)) → List Run → Type 0
+  AreShort signs signals runs = (j : ℕ) (r : Run) → slice_get runs j ≡ Some r
+      → (x : List (Knot Kleene)) × (slice_get signals r.of ≡ Some x) × IsShortOver (sign_at signs r.of) x r.on
+
+-- the run of the span is added, where there is a span
+abbrev pub AddsRun : ℕ → Option Span → List Run → List Run → Type 0
+AddsRun k on old new = MatchOption on (new ≡ old) (λ s. new ≡ old ++ record { of = k; on = s } ∷ [])
+
+-- the cell at place p does not leave its atom as certain as is best, where the cells before the tried one stay, and marked ones
+abbrev pub IsGone : List Item → List Bool → Bool → ℕ → ℕ → Type 0
+IsGone all marks best tried p = (e : Item) → slice_get all p ≡ Some e → ¬ (known_at (stays tried marks p) e ≡ Some best)
+
+-- the run is the span of such a cell of the node
+abbrev pub IsGoneRun : List Item → List Bool → ℕ → Bool → ℕ → Run → Type 0
+IsGoneRun all marks i best tried r =
+    (r.of ≡ i) × (p : ℕ) × (e : Item) × (slice_get all p ≡ Some e) × (e.node ≡ i) × (r.on ≡ e.on) × IsGone all marks best tried p
+
+-- the new runs are the old ones, and others that are so
+abbrev pub AddsGone : List Item → List Bool → ℕ → Bool → ℕ → List Run → List Run → Type 0
+AddsGone all marks i best tried old new =
+    (j : ℕ) (r : Run) → slice_get new j ≡ Some r → (slice_get old j ≡ Some r) ⊎ IsGoneRun all marks i best tried r
+
+-- each run is so
+abbrev pub AreGone : List Item → List Bool → ℕ → Bool → ℕ → List Run → Type 0
+AreGone all marks i best tried runs = (j : ℕ) (r : Run) → slice_get runs j ≡ Some r → IsGoneRun all marks i best tried r
+
+-- what the items cover lies in cells before place c, and in marked ones behind it
+abbrev pub StayWithout : List Item → List Bool → ℕ → List Item → Type 0
+StayWithout all marks c some =
+    (i : ℕ) (t : Rational) → IsCovered some i t → IsAmongPlaces all (λ j. (j < c) ⊎ ((c < j) × (slice_index_or marks j false ≡ true))) i t
+
+-- without the cell at place c no run's node is certainly what its sign says at a time of the run
+abbrev pub AreLost : List Node → Trace → List Item → List Bool → ℕ → List Bool → List Run → Type 0
+AreLost nodes tr all marks c signs runs =
+    (some : List Item) → StayWithout all marks c some → (j : ℕ) (r : Run) → slice_get runs j ≡ Some r → (t : Rational) → IsIn (interval r.on) t
+    → ¬ Certain (sign_at signs r.of) (subformula nodes r.of) some tr t
+
+-- what is the same for all nodes on the way up from an atom
+pub record IsGround (nodes : List Node) (tr : Trace) (all : List Item) (marks : List Bool) (c : ℕ) (signs : List Bool) (runs : List Run) : Type 0 where
+  pub signed : AreSigns nodes signs
+  pub lost : AreLost nodes tr all marks c signs runs
+  pub leaf : Atom
+
+module _ (shape : ShapeOf Kleene) where
+  -- a signal over the whole trace
+  pub record IsWhole (tr : Trace) (x : List (Knot Kleene)) : Type 0 where
+    pub signal : IsSignal shape x
+    pub input : IsInput shape (first_time tr.rows) (last_time 0 tr.rows) x
+
+  -- so is each of them
+  abbrev pub AreWhole : Trace → List (List (Knot Kleene)) → Type 0
+  AreWhole tr xs = (k : ℕ) (x : List (Knot Kleene)) → slice_get xs k ≡ Some x → IsWhole tr x
+
+  -- wherever the node is certainly what its sign says without the cell at place c, the signal is the best
+  abbrev pub HasBest : List Node → Trace → List Item → List Bool → ℕ → List Bool → ℕ → List (Knot Kleene) → Type 0
+  HasBest nodes tr all marks c signs k x =
+      (some : List Item) → StayWithout all marks c some → (t : Rational) (v : Extended) → IsWorth shape x t v
+      → Certain (sign_at signs k) (subformula nodes k) some tr t → IsBest (sign_at signs k) v
+
+  -- so is the one at the node's place
+  abbrev pub HasBestIn : List Node → Trace → List Item → List Bool → ℕ → List Bool → ℕ → List (List (Knot Kleene)) → Type 0
+  HasBestIn nodes tr all marks c signs k xs = (x : List (Knot Kleene)) → slice_get xs k ≡ Some x → HasBest nodes tr all marks c signs k x
+
+module _ (shape : ShapeOf Kleene) where
+  -- the new signal goes over the domain of the first, and is the best where both are
+  pub record IsBestOf (best : Bool) (x y r : List (Knot Kleene)) : Type 0 where
+    pub signal : IsSignal shape r
+    pub begins : start r ≈ start x
+    pub ends : stop r ≈ stop x
+    pub worth : (t : Rational) (v : Extended) → IsWorth shape r t v → (u w : Extended) × IsWorth shape x t u × IsWorth shape y t w
+        × (IsBest best u → IsBest best w → IsBest best v)
+
+-- the operands of a node are the one at place k and the other one, where there is one
+abbrev pub AreOperands : Node → ℕ → Option ℕ → Type 0
+AreOperands n k other = IsChild n k × ((i : ℕ) → IsChild n i → (i ≡ k) ⊎ (other ≡ Some i))
+
+-- the mark at place c is put where its cell is needed, or none is
+abbrev pub PutsNeeded : List Node → Trace → List Item → ℕ → List Bool → List Bool → Type 0
+PutsNeeded nodes tr all c old new = (new ≡ old) ⊎ ((new ≡ slice_set old c true) × IsNeeded nodes tr all old c)

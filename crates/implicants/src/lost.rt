@@ -1,0 +1,94 @@
+//! Between which times a signal is less than the best, though the runs of its node do not have it. What is found says where to look, and
+//! nothing is claimed of it.
+ghost use Rattle.offline_eval.specs.Making.{IsFit};
+
+use crate::runs::{Runs, add_short, end_of_runs, run_at};
+use frac128::{Frac, Memory, Span};
+use pl_signal::Signal;
+use std::alloc::Global;
+use value_laws::{Kleene, Shape};
+
+/// Between which times something is lost.
+#[derive(Clone, Copy)]
+pub(crate) struct Region {
+    pub(crate) from: Frac,
+    pub(crate) to: Frac,
+}
+
+/// Whether the span begins no later than the piece.
+fn has_begin(on: &Span, piece: &Span) -> bool {
+    on.from.cmp(&piece.from).is_lt()
+        || (on.from.cmp(&piece.from).is_eq() && (on.from_in || !piece.from_in))
+}
+
+/// Whether it ends no earlier.
+fn has_end(on: &Span, piece: &Span) -> bool {
+    piece.to.cmp(&on.to).is_lt() || (piece.to.cmp(&on.to).is_eq() && (on.to_in || !piece.to_in))
+}
+
+/// From when on the piece is none of the runs of the node at place `k`; none where one run has all of it.
+fn lost_from(runs: &Runs, k: u32, piece: &Span) -> Option<Frac> {
+    let j = run_at(runs, k, &piece.from);
+    if j >= end_of_runs(runs, k) {
+        return Some(piece.from);
+    }
+    let on = runs.all[j].on;
+    if !has_begin(&on, piece) {
+        return Some(piece.from);
+    }
+    if has_end(&on, piece) {
+        return None;
+    }
+    Some(on.to)
+}
+
+/// Until when it is none of them, where it is none from a time on.
+fn lost_to(runs: &Runs, k: u32, piece: &Span, from: &Frac) -> Frac {
+    let j = run_at(runs, k, &piece.to);
+    if j >= end_of_runs(runs, k) {
+        return piece.to;
+    }
+    let begin = runs.all[j].on.from;
+    if !begin.cmp(&piece.to).is_lt() {
+        return piece.to;
+    }
+    if from.cmp(&begin).is_lt() {
+        begin
+    } else {
+        *from
+    }
+}
+
+/// With one more piece.
+fn with_piece(runs: &Runs, k: u32, piece: &Span, found: Option<Region>) -> Option<Region> {
+    let Some(from) = lost_from(runs, k, piece) else {
+        return found;
+    };
+    let to = lost_to(runs, k, piece, &from);
+    match found {
+        Some(before) => Some(Region {
+            from: before.from,
+            to,
+        }),
+        None => Some(Region { from, to }),
+    }
+}
+
+/// Between which times the signal of the node at place `k` is less than the best, though the runs of the node do not have it.
+pub(crate) fn region_of(
+    alloc: Global,
+    runs: &Runs,
+    k: u32,
+    best: bool,
+    x: &Signal<Kleene>,
+) -> Result<Option<Region>, Memory>
+    requires fit { IsFit ⟦<Kleene as Shape>⟧ x.now }
+{
+    let mut pieces = Vec::new(alloc);
+    add_short(k, best, x, &mut pieces)?;
+    let mut found = None;
+    for j in 0..pieces.len() {
+        found = with_piece(runs, k, &pieces[j].on, found);
+    }
+    Ok(found)
+}

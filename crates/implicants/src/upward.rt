@@ -1,0 +1,640 @@
+//! Cells that are tried from their atom up: what is lost without the cell is taken on from node to node, by signals of few knots that
+//! are no less certain than the node.
+ghost use Rattle.std.specs.Prelude.{◌≡◌, ◌⊎◌, ◌<◌, ◌≤◌, ◌++◌, ◌∷◌, [], ℕ, Bool, true, false, List, Some, length, slice_get, IsTrue, IfOk, IfSome, OnOk};
+ghost use Rattle.rational.specs.Time.{Rational, ◌≈◌};
+ghost use Rattle.pl_signal.specs.Knots.{start};
+ghost use Rattle.pl_signal.specs.declared.knot.Knot.{Knot};
+ghost use Rattle.stl_syntax.specs.Trace.{first_time, last_time};
+ghost use Rattle.stl_syntax.specs.declared.atom.Atom.{Atom};
+ghost use Rattle.stl_syntax.specs.declared.items.Item.{Item};
+ghost use Rattle.stl_syntax.specs.declared.node.Node.{Node as ANode};
+ghost use Rattle.stl_syntax.specs.declared.node.Node.TheVariants.{Atom as Leaf};
+ghost use Rattle.offline_eval.specs.Making.{IsFit};
+ghost use Rattle.implicants.specs.Runs.{AreAllCells};
+ghost use Rattle.implicants.specs.Keeping.{remaining};
+ghost use Rattle.implicants.specs.Demands.{AreCertainties, AreToldOfMore, IsAlong, IsNeeded, IsOn, MarksNeeded};
+ghost use Rattle.implicants.specs.Signs.{sign_at, AreSigns};
+ghost use Rattle.implicants.specs.Upward.{AreLost, AreOperands, AreShort, AreWhole, HasBest, HasBestIn, IsBestOf, IsGround, IsWhole, PutsNeeded};
+
+use crate::cells::Cells;
+use crate::choosing::cell_at;
+use crate::gone::{gone_near, near_cells};
+use crate::lost::{Region, region_of};
+use crate::nearby::{Pick, View, few};
+use crate::needed::is_on;
+use crate::runs::{Run, Runs, begin_of_runs, end_of_runs, run_at, runs_of};
+use crate::signs::signs_of;
+use crate::trace_ends::{first, last};
+use frac128::Memory;
+use offline_eval::{Evaluated, of_node};
+use pl_signal::{OpFault, Signal};
+use signal_ops::{lower, upper};
+use std::alloc::Global;
+use stl_syntax::{Formula, Node};
+use trace_reader::Trace;
+use value_laws::{Kleene, Shape};
+
+/// What is the same for all cells that are tried: where nodes are less certain than is best, the signs of the nodes, the place above
+/// each, and how far from a cell is near.
+#[derive(Drop)]
+struct Ground {
+    runs: Runs,
+    signs: Vec<bool>,
+    above: Vec<u32>,
+    reach: u32,
+}
+
+/// The runs of the node at place `k` about a region, and the first ones.
+fn pick_at(runs: &Runs, k: u32, region: Region) -> Pick {
+    let from = begin_of_runs(runs, k);
+    Pick {
+        from,
+        dense: from.saturating_add(2),
+        low: run_at(runs, k, &region.from),
+        high: run_at(runs, k, &region.to),
+        to: end_of_runs(runs, k),
+    }
+}
+
+/// The sign of the node at place `k`.
+fn sign_of(ground: &Ground, k: u32) -> bool
+    requires { k < length ground.now.signs.items }
+    ensures { result ≡ sign_at ground.now.signs.items k }
+{
+    ground.signs[k as usize]
+}
+
+/// What a signal of the node at place `k` is made for.
+fn view_at(trace: &Trace, ground: &Ground, k: u32) -> View
+    requires some { 0 < length trace.now.rows }
+    requires inside { k < length ground.now.signs.items }
+    ensures of { result.of ≡ k }
+    ensures best { result.best ≡ sign_at ground.now.signs.items k }
+    ensures first { result.first ≡ first_time trace.now.rows }
+    ensures last { result.last ≡ last_time 0 trace.now.rows }
+{
+    View {
+        of: k,
+        best: sign_of(ground, k),
+        first: first(trace),
+        last: last(trace),
+    }
+}
+
+/// A signal that is no less certain than the node at place `k`, by its runs about a region.
+fn own_at(
+    alloc: Global,
+    trace: &Trace,
+    ground: &Ground,
+    k: u32,
+    region: Region,
+) -> Result<Signal<Kleene>, Memory>
+    requires some { 0 < length trace.now.rows }
+    requires inside { k < length ground.now.signs.items }
+    ensures whole { IfOk result (IsWhole ⟦<Kleene as Shape>⟧ trace.now) }
+    ensures best { IfOk result (λ x. (nodes : List ANode) (all : List Item) (marks : List Bool) (c : ℕ)
+        → AreLost nodes trace.now all marks c ground.now.signs.items ground.now.runs.all.items
+        → HasBest ⟦<Kleene as Shape>⟧ nodes trace.now all marks c ground.now.signs.items k x) }
+{
+    // For the proof alone: where the trace ends.
+    let _ = last(trace);
+    let view = view_at(trace, ground, k);
+    let pick = pick_at(&ground.runs, k, region);
+    few(alloc, &ground.runs.all, view, pick)
+}
+
+/// The least of two signals.
+fn least_of(x: &Signal<Kleene>, y: &Signal<Kleene>) -> Result<Option<Signal<Kleene>>, Memory>
+    requires left { IsFit ⟦<Kleene as Shape>⟧ x.now }
+    requires right { IsFit ⟦<Kleene as Shape>⟧ y.now }
+    requires along { IsAlong ⟦<Kleene as Shape>⟧ x.now y.now }
+    ensures { IfOk result (λ o. IfSome o (IsBestOf ⟦<Kleene as Shape>⟧ true x.now y.now)) }
+{
+    match lower(x, y) {
+        Ok(both) => Ok(Some(both)),
+        Err(OpFault::Memory) => Err(Memory),
+        Err(OpFault::Wide(_)) => Ok(None),
+    }
+}
+
+/// The greatest of two signals.
+fn greatest_of(x: &Signal<Kleene>, y: &Signal<Kleene>) -> Result<Option<Signal<Kleene>>, Memory>
+    requires left { IsFit ⟦<Kleene as Shape>⟧ x.now }
+    requires right { IsFit ⟦<Kleene as Shape>⟧ y.now }
+    requires along { IsAlong ⟦<Kleene as Shape>⟧ x.now y.now }
+    ensures { IfOk result (λ o. IfSome o (IsBestOf ⟦<Kleene as Shape>⟧ false x.now y.now)) }
+{
+    match upper(x, y) {
+        Ok(both) => Ok(Some(both)),
+        Err(OpFault::Memory) => Err(Memory),
+        Err(OpFault::Wide(_)) => Ok(None),
+    }
+}
+
+/// The signal that is the best where both are.
+fn best_of(
+    best: bool,
+    x: &Signal<Kleene>,
+    y: &Signal<Kleene>,
+) -> Result<Option<Signal<Kleene>>, Memory>
+    requires left { IsFit ⟦<Kleene as Shape>⟧ x.now }
+    requires right { IsFit ⟦<Kleene as Shape>⟧ y.now }
+    requires along { IsAlong ⟦<Kleene as Shape>⟧ x.now y.now }
+    ensures { IfOk result (λ o. IfSome o (IsBestOf ⟦<Kleene as Shape>⟧ best x.now y.now)) }
+{
+    if best {
+        return least_of(x, y);
+    }
+    greatest_of(x, y)
+}
+
+/// Puts the signal of the node at place `k`, by one of it that is known already; between which times it loses by that one.
+fn put_lost(
+    alloc: Global,
+    trace: &Trace,
+    ground: &Ground,
+    k: u32,
+    made: &Signal<Kleene>,
+    done: &mut Vec<Signal<Kleene>>,
+) -> Result<Option<Region>, Memory>
+    requires some { 0 < length trace.now.rows }
+    requires inside { k < length ground.now.signs.items }
+    requires place { k < length done.old.items }
+    requires made { IsWhole ⟦<Kleene as Shape>⟧ trace.now made.now }
+    requires whole { AreWhole ⟦<Kleene as Shape>⟧ trace.now done.old.items }
+    ensures count { length done.new.items ≡ length done.old.items }
+    ensures whole { AreWhole ⟦<Kleene as Shape>⟧ trace.now done.new.items }
+    ensures best { IfOk result (λ o. IfSome o (λ _. (nodes : List ANode) (all : List Item) (marks : List Bool) (c : ℕ)
+        → AreLost nodes trace.now all marks c ground.now.signs.items ground.now.runs.all.items
+        → HasBest ⟦<Kleene as Shape>⟧ nodes trace.now all marks c ground.now.signs.items k made.now
+        → HasBestIn ⟦<Kleene as Shape>⟧ nodes trace.now all marks c ground.now.signs.items k done.new.items)) }
+{
+    // For the proof alone: where the trace ends.
+    let _ = last(trace);
+    let best = sign_of(ground, k);
+    let Some(region) = region_of(alloc, &ground.runs, k, best, made)? else {
+        return Ok(None);
+    };
+    let own = own_at(alloc, trace, ground, k, region)?;
+    let Some(both) = best_of(best, made, &own)? else {
+        return Ok(None);
+    };
+    done[k as usize] = both;
+    Ok(Some(region))
+}
+
+/// Whether a node is an operand of another, and which one stands beside it.
+#[derive(Clone, Copy)]
+struct Beside {
+    is_operand: bool,
+    other: Option<u32>,
+}
+
+/// The node at place `k` as one of two operands.
+fn of_two(p: u32, q: u32, k: u32) -> Beside
+    ensures { IsTrue result.is_operand → ((p ≡ k) ⊎ (q ≡ k)) × ((i : ℕ) → (p ≡ i) ⊎ (q ≡ i) → (i ≡ k) ⊎ (result.other ≡ Some i)) }
+{
+    if p == k {
+        return Beside {
+            is_operand: true,
+            other: Some(q),
+        };
+    }
+    Beside {
+        is_operand: q == k,
+        other: Some(p),
+    }
+}
+
+/// The node at place `k` as the one operand.
+fn of_one(p: u32, k: u32) -> Beside
+    ensures { IsTrue result.is_operand → p ≡ k }
+{
+    Beside {
+        is_operand: p == k,
+        other: None,
+    }
+}
+
+/// The node at place `k` as an operand of a node.
+fn beside_in(node: &Node, k: u32) -> Beside
+    ensures { IsTrue result.is_operand → AreOperands node.now k result.other }
+{
+    match node {
+        Node::Const(_) | Node::Atom(_) => Beside {
+            is_operand: false,
+            other: None,
+        },
+        Node::Not(p) => of_one(*p, k),
+        Node::And(p, q) | Node::Or(p, q) | Node::Implies(p, q) => of_two(*p, *q, k),
+        Node::Until { left, right, .. } | Node::Since { left, right, .. } => {
+            of_two(*left, *right, k)
+        }
+        Node::Eventually { of, .. }
+        | Node::Always { of, .. }
+        | Node::Once { of, .. }
+        | Node::Historically { of, .. } => of_one(*of, k),
+    }
+}
+
+/// Puts a signal of the node at a place that is no less certain, where there is such a place.
+fn put_other(
+    alloc: Global,
+    trace: &Trace,
+    ground: &Ground,
+    other: Option<u32>,
+    region: Region,
+    done: &mut Vec<Signal<Kleene>>,
+) -> Result<(), Memory>
+    requires some { 0 < length trace.now.rows }
+    requires signs { length ground.now.signs.items ≡ length done.old.items }
+    requires whole { AreWhole ⟦<Kleene as Shape>⟧ trace.now done.old.items }
+    ensures count { length done.new.items ≡ length done.old.items }
+    ensures whole { AreWhole ⟦<Kleene as Shape>⟧ trace.now done.new.items }
+    ensures stay { (i : ℕ) (x : List (Knot Kleene)) → slice_get done.new.items i ≡ Some x → (slice_get done.old.items i ≡ Some x)
+        ⊎ (other ≡ Some i) }
+    ensures best { OnOk result ((i : ℕ) → other ≡ Some i → i < length done.old.items → (nodes : List ANode) (all : List Item) (marks : List Bool) (c : ℕ)
+        → AreLost nodes trace.now all marks c ground.now.signs.items ground.now.runs.all.items
+        → HasBestIn ⟦<Kleene as Shape>⟧ nodes trace.now all marks c ground.now.signs.items i done.new.items) }
+{
+    let Some(i) = other else {
+        return Ok(());
+    };
+    if i as usize >= done.len() {
+        return Ok(());
+    }
+    let signal = own_at(alloc, trace, ground, i, region)?;
+    done[i as usize] = signal;
+    Ok(())
+}
+
+/// Takes what is lost of the node at place `k` on to the one at place `j`.
+fn taken_on(
+    alloc: Global,
+    formula: &Formula,
+    trace: &Trace,
+    ground: &Ground,
+    k: u32,
+    j: u32,
+    region: Region,
+    done: &mut Vec<Signal<Kleene>>,
+) -> Result<Option<Region>, Memory>
+    requires some { 0 < length trace.now.rows }
+    requires inside { j < length formula.now.nodes }
+    requires signs { length ground.now.signs.items ≡ length formula.now.nodes }
+    requires count { length done.old.items ≡ length formula.now.nodes }
+    requires whole { AreWhole ⟦<Kleene as Shape>⟧ trace.now done.old.items }
+    ensures count { length done.new.items ≡ length done.old.items }
+    ensures whole { AreWhole ⟦<Kleene as Shape>⟧ trace.now done.new.items }
+    ensures best { IfOk result (λ o. IfSome o (λ _. (all : List Item) (marks : List Bool) (c : ℕ)
+        → IsGround formula.now.nodes trace.now all marks c ground.now.signs.items ground.now.runs.all.items
+        → HasBestIn ⟦<Kleene as Shape>⟧ formula.now.nodes trace.now all marks c ground.now.signs.items k done.old.items
+        → HasBestIn ⟦<Kleene as Shape>⟧ formula.now.nodes trace.now all marks c ground.now.signs.items j done.new.items)) }
+{
+    // For the proof alone: that the formula is well formed.
+    let _ = formula.len();
+    let from = first(trace);
+    let to = last(trace);
+    let node = formula.node(j);
+    let beside = beside_in(node, k);
+    if !beside.is_operand {
+        return Ok(None);
+    }
+    put_other(alloc, trace, ground, beside.other, region, done)?;
+    let made = match of_node(alloc, from, to, node, done) {
+        Ok(made) => made,
+        Err(OpFault::Memory) => return Err(Memory),
+        Err(OpFault::Wide(_)) => return Ok(None),
+    };
+    // For the proof alone: that it is a signal is a clause of `len`.
+    let _ = made.len();
+    put_lost(alloc, trace, ground, j, &made, done)
+}
+
+/// Whether the signal is less than certainly false at its first time.
+fn begins_short(x: &Signal<Kleene>) -> bool
+    ensures { IsTrue result → (t : Rational) → t ≈ start x.now → IsOn ⟦<Kleene as Shape>⟧ x.now t }
+{
+    // For the proof alone: that it is a signal is a clause of `len`.
+    let _ = x.len();
+    let knot = x.knot(0);
+    is_on(&knot.point)
+}
+
+/// Whether a place is above one, and not above another.
+fn is_between(j: u32, above: u32, up_to: u32) -> bool
+    ensures { IsTrue result → (above < j) × (j ≤ up_to) }
+{
+    above < j && j <= up_to
+}
+
+/// Whether the root is lost, where so much is lost of the node at place `from`.
+fn loses_root(
+    alloc: Global,
+    formula: &Formula,
+    trace: &Trace,
+    ground: &Ground,
+    from: u32,
+    begun: Region,
+    done: &mut Vec<Signal<Kleene>>,
+) -> Result<bool, Memory>
+    requires some { 0 < length trace.now.rows }
+    requires inside { from < length formula.now.nodes }
+    requires signs { length ground.now.signs.items ≡ length formula.now.nodes }
+    requires count { length done.old.items ≡ length formula.now.nodes }
+    requires whole { AreWhole ⟦<Kleene as Shape>⟧ trace.now done.old.items }
+    ensures count { length done.new.items ≡ length done.old.items }
+    ensures whole { AreWhole ⟦<Kleene as Shape>⟧ trace.now done.new.items }
+    ensures needed { IfOk result (λ b. IsTrue b → (all : List Item) (marks : List Bool) (c : ℕ)
+        → IsGround formula.now.nodes trace.now all marks c ground.now.signs.items ground.now.runs.all.items
+        → HasBestIn ⟦<Kleene as Shape>⟧ formula.now.nodes trace.now all marks c ground.now.signs.items from done.old.items
+        → IsNeeded formula.now.nodes trace.now all marks c) }
+{
+    // For the proof alone: where the trace ends.
+    let _ = last(trace);
+    let top = formula.len() - 1;
+    let mut k = from;
+    let mut region = begun;
+    while k < top {
+        let j = above_at(ground, k);
+        if !is_between(j, k, top) {
+            return Ok(false);
+        }
+        let Some(next) = taken_on(alloc, formula, trace, ground, k, j, region, done)? else {
+            return Ok(false);
+        };
+        region = next;
+        k = j;
+    }
+    Ok(begins_short(&done[k as usize]))
+}
+
+/// Whether the node at place `i` is an atom.
+fn is_leaf(formula: &Formula, i: u32) -> bool
+    ensures { IsTrue result → (a : Atom) × (slice_get formula.now.nodes i ≡ Some (Leaf a)) }
+{
+    if i >= formula.len() {
+        return false;
+    }
+    match formula.node(i) {
+        Node::Atom(_) => true,
+        _ => false,
+    }
+}
+
+/// All of so many runs.
+fn all_of(runs: &[Run]) -> Pick {
+    Pick {
+        from: 0,
+        dense: runs.len(),
+        low: 0,
+        high: 0,
+        to: runs.len(),
+    }
+}
+
+/// The place above the one at place `k`, as far as it is known.
+fn above_at(ground: &Ground, k: u32) -> u32 {
+    if k as usize >= ground.above.len() {
+        return 0;
+    }
+    ground.above[k as usize]
+}
+
+/// Puts a place, where it is one.
+fn put_above(above: &mut Vec<u32>, p: Option<u32>, j: u32) {
+    if let Some(p) = p {
+        if (p as usize) < above.len() {
+            above[p as usize] = j;
+        }
+    }
+}
+
+/// The place above each node. Nothing is claimed of it: it is looked at anew where it is used.
+fn places_above(alloc: Global, formula: &Formula) -> Result<Vec<u32>, Memory> {
+    let count = formula.len();
+    let Ok(mut above) = vec![in alloc; 0; count as usize] else {
+        return Err(Memory);
+    };
+    for j in 0..count {
+        let (left, right) = operands(formula.node(j));
+        put_above(&mut above, left, j);
+        put_above(&mut above, right, j);
+    }
+    Ok(above)
+}
+
+/// The operands of a node.
+fn operands(node: &Node) -> (Option<u32>, Option<u32>) {
+    match node {
+        Node::Const(_) | Node::Atom(_) => (None, None),
+        Node::Not(p) => (Some(*p), None),
+        Node::And(p, q) | Node::Or(p, q) | Node::Implies(p, q) => (Some(*p), Some(*q)),
+        Node::Until { left, right, .. } | Node::Since { left, right, .. } => (
+            Some(*left),
+            Some(*right),
+        ),
+        Node::Eventually { of, .. }
+        | Node::Always { of, .. }
+        | Node::Once { of, .. }
+        | Node::Historically { of, .. } => (Some(*of), None),
+    }
+}
+
+/// Puts a signal behind the others.
+fn add_signal(done: &mut Vec<Signal<Kleene>>, signal: Signal<Kleene>) -> Result<(), Memory>
+    ensures { OnOk result (done.new.items ≡ done.old.items ++ signal ∷ []) }
+{
+    if done.push(signal).is_err() {
+        return Err(Memory);
+    }
+    Ok(())
+}
+
+/// A signal for each node, which says nothing of it yet.
+fn blank(alloc: Global, formula: &Formula, trace: &Trace) -> Result<Vec<Signal<Kleene>>, Memory>
+    requires some { 0 < length trace.now.rows }
+    ensures count { IfOk result (λ xs. length xs.items ≡ length formula.now.nodes) }
+    ensures whole { IfOk result (λ xs. AreWhole ⟦<Kleene as Shape>⟧ trace.now xs.items) }
+{
+    let none: Vec<Run> = Vec::new(alloc);
+    let from = first(trace);
+    let to = last(trace);
+    let view = View {
+        of: 0,
+        best: true,
+        first: from,
+        last: to,
+    };
+    let mut done = Vec::new(alloc);
+    for k in 0..formula.len() {
+        let signal = few(alloc, &none, view, all_of(&none))?;
+        add_signal(&mut done, signal)?;
+    }
+    Ok(done)
+}
+
+/// Whether the root is lost without the cell at place `c`.
+fn is_needed(
+    alloc: Global,
+    formula: &Formula,
+    trace: &Trace,
+    cells: &Cells,
+    ground: &Ground,
+    marks: &[bool],
+    c: usize,
+    done: &mut Vec<Signal<Kleene>>,
+) -> Result<bool, Memory>
+    requires some { 0 < length trace.now.rows }
+    requires cells { AreAllCells formula.now.nodes trace.now cells.now.all.items cells.now.ends.items }
+    requires inside { c < length cells.now.all.items }
+    requires marks { length marks.now ≡ length cells.now.all.items }
+    requires signs { AreSigns formula.now.nodes ground.now.signs.items }
+    requires lost { AreLost formula.now.nodes trace.now cells.now.all.items marks.now c ground.now.signs.items ground.now.runs.all.items }
+    requires count { length done.old.items ≡ length formula.now.nodes }
+    requires whole { AreWhole ⟦<Kleene as Shape>⟧ trace.now done.old.items }
+    ensures count { length done.new.items ≡ length done.old.items }
+    ensures whole { AreWhole ⟦<Kleene as Shape>⟧ trace.now done.new.items }
+    ensures needed { IfOk result (λ b. IsTrue b → IsNeeded formula.now.nodes trace.now cells.now.all.items marks.now c) }
+{
+    let cell = cell_at(cells, c);
+    let i = cell.node;
+    if !is_leaf(formula, i) {
+        return Ok(false);
+    }
+    // For the proof alone: where the trace ends.
+    let _ = last(trace);
+    let view = view_at(trace, ground, i);
+    let near = near_cells(cells, i, &cell.on, ground.reach);
+    let gone = gone_near(alloc, cells, marks, i, view.best, c, near)?;
+    let made = few(alloc, &gone, view, all_of(&gone))?;
+    let Some(region) = put_lost(alloc, trace, ground, i, &made, done)? else {
+        return Ok(false);
+    };
+    loses_root(alloc, formula, trace, ground, i, region, done)
+}
+
+/// Marks the cell at place `c` where the root is lost without it.
+fn mark_lost(
+    alloc: Global,
+    formula: &Formula,
+    trace: &Trace,
+    cells: &Cells,
+    ground: &Ground,
+    c: usize,
+    done: &mut Vec<Signal<Kleene>>,
+    marks: &mut Vec<bool>,
+) -> Result<(), Memory>
+    requires some { 0 < length trace.now.rows }
+    requires cells { AreAllCells formula.now.nodes trace.now cells.now.all.items cells.now.ends.items }
+    requires inside { c < length cells.now.all.items }
+    requires marks { length marks.old.items ≡ length cells.now.all.items }
+    requires signs { AreSigns formula.now.nodes ground.now.signs.items }
+    requires lost { AreLost formula.now.nodes trace.now cells.now.all.items marks.old.items c ground.now.signs.items ground.now.runs.all.items }
+    requires count { length done.old.items ≡ length formula.now.nodes }
+    requires whole { AreWhole ⟦<Kleene as Shape>⟧ trace.now done.old.items }
+    ensures count { length done.new.items ≡ length done.old.items }
+    ensures whole { AreWhole ⟦<Kleene as Shape>⟧ trace.now done.new.items }
+    ensures put { OnOk result (PutsNeeded formula.now.nodes trace.now cells.now.all.items c marks.old.items marks.new.items) }
+{
+    let needed = is_needed(alloc, formula, trace, cells, ground, marks, c, done)?;
+    if needed {
+        marks[c] = true;
+        return Ok(());
+    }
+    Ok(())
+}
+
+/// How far ahead or behind the node looks.
+fn look_of(node: &Node) -> u32 {
+    match node {
+        Node::Const(_)
+        | Node::Atom(_)
+        | Node::Not(_)
+        | Node::And(..)
+        | Node::Or(..)
+        | Node::Implies(..) => 0,
+        Node::Until { high, .. } | Node::Eventually { high, .. } | Node::Always { high, .. } => {
+            *high
+        }
+        Node::Since { low, high, .. }
+        | Node::Once { low, high, .. }
+        | Node::Historically { low, high, .. } => high.unwrap_or(*low),
+    }
+}
+
+/// How many ticks away from a cell is near: as far as the nodes look together, but for those that look over much of the trace.
+fn reach_of(formula: &Formula, trace: &Trace) -> u32
+    requires { 0 < length trace.now.rows }
+{
+    // For the proof alone: that it is a trace is a clause of `rows`.
+    let _ = trace.rows();
+    let far = last(trace).saturating_sub(first(trace)) / 16;
+    let mut reach: u32 = 0;
+    for j in 0..formula.len() {
+        let look = look_of(formula.node(j));
+        reach = reach.saturating_add(if look <= far { look } else { 0 });
+    }
+    reach
+}
+
+/// The ground, by the signals of what is certain of each node; none where signs do not fit.
+fn ground_of(
+    alloc: Global,
+    formula: &Formula,
+    trace: &Trace,
+    nodes: &Evaluated<Kleene>,
+) -> Result<Option<Ground>, Memory>
+    requires some { 0 < length trace.now.rows }
+    requires told { (items : List Item) × AreCertainties ⟦<Kleene as Shape>⟧ formula.now.nodes trace.now items nodes.now }
+    ensures signs { IfOk result (λ o. IfSome o (λ g. AreSigns formula.now.nodes g.signs.items)) }
+    ensures short { IfOk result (λ o. IfSome o (λ g. AreShort ⟦<Kleene as Shape>⟧ g.signs.items nodes.now g.runs.all.items)) }
+{
+    let Some(signs) = signs_of(alloc, formula)? else {
+        return Ok(None);
+    };
+    let runs = runs_of(alloc, formula, trace, nodes, &signs)?;
+    let above = places_above(alloc, formula)?;
+    let reach = reach_of(formula, trace);
+    Ok(Some(Ground {
+        runs,
+        signs,
+        above,
+        reach,
+    }))
+}
+
+/// Marks cells at `tries` places before `left` without which the root is lost, from the last to the first.
+///
+/// `nodes` are the signals of what is certain by cells that cover no less than those that stay.
+pub(crate) fn mark_upward(
+    alloc: Global,
+    formula: &Formula,
+    trace: &Trace,
+    cells: &Cells,
+    nodes: &Evaluated<Kleene>,
+    left: usize,
+    tries: usize,
+    marks: &mut Vec<bool>,
+) -> Result<(), Memory>
+    requires some { 0 < length trace.now.rows }
+    requires cells { AreAllCells formula.now.nodes trace.now cells.now.all.items cells.now.ends.items }
+    requires left { left ≤ length cells.now.all.items }
+    requires marks { length marks.old.items ≡ length cells.now.all.items }
+    requires told { AreToldOfMore ⟦<Kleene as Shape>⟧ formula.now.nodes trace.now (remaining left marks.old.items cells.now.all.items) nodes.now }
+    ensures count { OnOk result (length marks.new.items ≡ length marks.old.items) }
+    ensures needed { OnOk result
+        (MarksNeeded formula.now.nodes trace.now cells.now.all.items left marks.old.items marks.new.items) }
+{
+    let Some(ground) = ground_of(alloc, formula, trace, nodes)? else {
+        return Ok(());
+    };
+    let mut done = blank(alloc, formula, trace)?;
+    let to = left.saturating_sub(tries);
+    let mut c = left;
+    while c > to {
+        c -= 1;
+        mark_lost(alloc, formula, trace, cells, &ground, c, &mut done, marks)?;
+    }
+    Ok(())
+}
