@@ -107,21 +107,46 @@ report_object printed items margins holds spans =
     object (member (codes "formula") (string printed) (member (codes "items") (array items) (member (codes "margins") (array margins)
     (member (codes "start") (boolean holds) (member (codes "verdicts") (array spans) no_members)))))
 
-report_data : (scale : Scale) (f : Formula) (vs ws : List Verdict) (ks ls : Knots) (es gs : List Item) (holds also : Bool) (x y : Data) → AreAlike vs ws
-    → KnotsAlike ks.first ls.first × PiecesAlike ks.pieces ls.pieces → AreAllSame es gs → holds ≡ also → IsReportData scale f vs ks es holds x
-    → IsReportData scale f ws ls gs also y → x ≡ y
-report_data scale f vs ws ks ls es gs holds also x y v k s same (printed, items, margins, spans, p_is, i_is, m_is, v_is, is)
+-- what a report tells
+record Told : Type 0 where
+  -- the verdicts
+  verdicts : List Verdict
+  -- the margins
+  margins : Knots
+  -- the items of the explanation
+  items : List Item
+  -- whether the formula holds at the start
+  holds : Bool
+
+-- two that tell the same
+record AreSameTold (a b : Told) : Type 0 where
+  verdicts : AreAlike a.verdicts b.verdicts
+  knots : KnotsAlike a.margins.first b.margins.first
+  pieces : PiecesAlike a.margins.pieces b.margins.pieces
+  items : AreAllSame a.items b.items
+  holds : a.holds ≡ b.holds
+
+report_data : (scale : Scale) (f : Formula) (a b : Told) (x y : Data) → AreSameTold a b → IsReportData scale f a.verdicts a.margins a.items a.holds x
+    → IsReportData scale f b.verdicts b.margins b.items b.holds y → x ≡ y
+report_data scale f a b x y s (printed, items, margins, spans, p_is, i_is, m_is, v_is, is)
     (printed', items', margins', spans', p_is', i_is', m_is', v_is', is') =
-    is ∙ ap (λ z. report_object z items margins holds spans) (one_printed f.scale (root f.nodes) printed printed' p_is p_is')
-    ∙ ap (λ z. report_object printed' z margins holds spans) (items_data scale f es gs items items' s i_is i_is')
-    ∙ ap (λ z. report_object printed' items' z holds spans) (margins_data scale ks ls margins margins' k.0 k.1 m_is m_is')
-    ∙ ap (λ z. report_object printed' items' margins' z spans) same
-    ∙ ap (λ z. report_object printed' items' margins' also z) (verdicts_data scale vs ws spans spans' v v_is v_is') ∙ sym is'
+    is ∙ ap (λ z. report_object z items margins a.holds spans) (one_printed f.scale (root f.nodes) printed printed' p_is p_is')
+    ∙ ap (λ z. report_object printed' z margins a.holds spans) (items_data scale f a.items b.items items items' s.items i_is i_is')
+    ∙ ap (λ z. report_object printed' items' z a.holds spans)
+    (margins_data scale a.margins b.margins margins margins' s.knots s.pieces m_is m_is')
+    ∙ ap (λ z. report_object printed' items' margins' z spans) s.holds
+    ∙ ap (λ z. report_object printed' items' margins' b.holds z) (verdicts_data scale a.verdicts b.verdicts spans spans' s.verdicts v_is v_is') ∙ sym is'
 
 -- `json` writes one text
 pub json_once : (f : Formula) (tr : Trace) (x y : List ℕ) → Out json f tr x → Out json f tr y → x ≡ y
 json_once f tr x y (vs, ks, es, holds, report, v, k, e, h, r, is) (ws, ls, gs, also, other, v', k', e', h', r', is') =
+    let told : Told = record { verdicts = vs; margins = ks; items = es; holds = holds } in
+    let also_told : Told = record { verdicts = ws; margins = ls; items = gs; holds = also } in
     is ∙ ap (λ d. compact_text d ++ newline)
-    (report_data tr.header.scale f vs ws ks ls es gs holds also report other (Describes-unique _ tr _ vs ws v v')
-    (DescribesMargins-unique (root (nodes_for f tr)) tr ks ls k k') (explained_same f tr es gs e e')
-    (one_truth (Truth (root (nodes_for f tr)) tr (start tr)) holds also h h') r r') ∙ sym is'
+    (report_data tr.header.scale f told also_told report other (record {
+      verdicts = Describes-unique _ tr _ vs ws v v';
+      knots = (DescribesMargins-unique (root (nodes_for f tr)) tr ks ls k k').0;
+      pieces = (DescribesMargins-unique (root (nodes_for f tr)) tr ks ls k k').1;
+      items = explained_same f tr es gs e e';
+      holds = one_truth (Truth (root (nodes_for f tr)) tr (start tr)) holds also h h';
+    }) r r') ∙ sym is'

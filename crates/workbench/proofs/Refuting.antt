@@ -57,32 +57,32 @@ module _ (f : Formula) (tr : Trace) where
   }
 
   -- the text of a start that is true is its line
-  true_text : (lines : List Item) (line body text : List ℕ) → lines ≡ [] → AreItemLines tr.header.scale f lines body
-      → line ≡ start_line true → text ≡ line ++ body → text ≡ start_line true
-  true_text lines line body text none written first is =
+  true_text : (lines : List Item) (body text : List ℕ) → lines ≡ [] → AreItemLines tr.header.scale f lines body
+      → text ≡ start_line true ++ body → text ≡ start_line true
+  true_text lines body text none written is =
       let nothing : body ≡ [] = subst (λ ls. AreItemLines tr.header.scale f ls body) none written in
-      is ∙ ap (λ l. l ++ body) first ∙ ap (λ b. start_line true ++ b) nothing ∙ append-nil (start_line true)
+      is ∙ ap (λ b. start_line true ++ b) nothing ∙ append-nil (start_line true)
 
   Says : ℕ → List ℕ → Type 0
   Says status text = ((status ≡ 0) × HoldsAtStart f tr × (text ≡ start_line true)) ⊎ IsRefutation f tr status text
 
-  says : (status : ℕ) (lines : List Item) (line body text : List ℕ) → KeptRefute f tr → TellsTruth f tr status → Described f tr lines → (holds : Bool)
-      → MatchBool holds (Truth (root (nodes_for f tr)) tr (start tr)) (¬ Truth (root (nodes_for f tr)) tr (start tr)) → line ≡ start_line holds
-      → AreItemLines tr.header.scale f lines body → text ≡ line ++ body → Says status text
+  says : (status : ℕ) (lines : List Item) (body text : List ℕ) → KeptRefute f tr → TellsTruth f tr status → Described f tr lines → (holds : Bool)
+      → MatchBool holds (Truth (root (nodes_for f tr)) tr (start tr)) (¬ Truth (root (nodes_for f tr)) tr (start tr))
+      → AreItemLines tr.header.scale f lines body → text ≡ start_line holds ++ body → Says status text
   unfolding Says
-  says status lines line body text sure (inl (s, h)) (inl (k, none)) true m first written is = inl (s, h, true_text lines line body text none written first is)
-  says status lines line body text sure (inl (s, h)) (inl (k, none)) false m first written is = absurd (m h)
-  says status lines line body text sure (inl (s, h)) (inr (n, more)) holds m first written is = absurd (n h)
-  says status lines line body text sure (inr (s, n)) (inl (k, none)) holds m first written is = absurd (n k)
-  says status lines line body text sure (inr (s, n)) (inr (o, more)) true m first written is = absurd (n m)
-  says status lines line body text sure (inr (s, n)) (inr (o, (items, kept, joined))) false m first written is = inr (record {
+  says status lines body text sure (inl (s, h)) (inl (k, none)) true m written is = inl (s, h, true_text lines body text none written is)
+  says status lines body text sure (inl (s, h)) (inl (k, none)) false m written is = absurd (m h)
+  says status lines body text sure (inl (s, h)) (inr (n, more)) holds m written is = absurd (n h)
+  says status lines body text sure (inr (s, n)) (inl (k, none)) holds m written is = absurd (n k)
+  says status lines body text sure (inr (s, n)) (inr (o, more)) true m written is = absurd (n m)
+  says status lines body text sure (inr (s, n)) (inr (o, (items, kept, joined))) false m written is = inr (record {
     status_is = s;
     fails = n;
     lines = lines;
     body = body;
     reasons = reasons_of items lines sure n kept joined;
     written = written;
-    text_is = is ∙ ap (λ l. l ++ body) first;
+    text_is = is;
   })
 
 -- what `explain` wrote is an account
@@ -90,4 +90,4 @@ pub accounted : (f : Formula) (bytes text : List ℕ) (status : ℕ) → IsAnswe
 unfolding Says
 accounted f bytes text status a =
     let (lines, line, body, explained, started, written, is) = a.written in
-    record { tr = a.tr; trace = a.trace; says = says f a.tr status lines line body text a.sure a.verdict explained started.0 started.1 started.2 written is }
+    record { tr = a.tr; trace = a.trace; says = says f a.tr status lines body text a.sure a.verdict explained started.0 started.1 written (is ∙ ap (λ l. l ++ body) started.2) }

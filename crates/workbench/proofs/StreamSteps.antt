@@ -58,6 +58,21 @@ timely_piece q bytes piece text grown timely small =
       ap (λ t. t ++ grown) e ∙ append_assoc short more grown,
     )
 
+-- a run over this source and this sink read the piece, or the end, as its last
+pub record IsRead (before now held : Option (List ℕ)) (i : Drained) (o : Filled) (piece : List ℕ) (ended : Bool) : Type 0 where
+  -- the source stood so as the run began
+  pub source : i.before ≡ before
+  -- and the sink
+  pub sink : o.before ≡ held
+  -- the piece was taken from the front of the source
+  pub moved : Consumes now i.after piece
+  -- which has come to its end or not
+  pub same : i.ended ≡ ended
+  -- at its end there is no piece, and nothing more to come
+  pub at_end : ended ≡ true → (piece ≡ []) × IsAtEnd i.after
+  -- a piece is short
+  pub small : length piece ≤ 4096
+
 module _ {Stands : List ℕ → List ℕ → Type 0} {q : Request} {before now held held_now : Option (List ℕ)} {reads : ℕ}
     (p : Pushing Stands q before now held held_now reads) where
   -- the machine stands for some bytes and some text
@@ -102,23 +117,21 @@ module _ {Stands : List ℕ → List ℕ → Type 0} {q : Request} {before now h
 
   -- a piece, or the end, stopped the stream
   pub end_stop : (Done : List ℕ → List ℕ → Type 0) (i : Drained) (o : Filled) (piece : List ℕ) (ended : Bool) (stop : Stop)
-      → i.before ≡ before → o.before ≡ held → Consumes now i.after piece → i.ended ≡ ended
-      → (ended ≡ true → (piece ≡ []) × IsAtEnd i.after) → length piece ≤ 4096
-      → (stop ≡ Unwritten → HasRefused o)
+      → IsRead before now held i o piece ended → (stop ≡ Unwritten → HasRefused o)
       → (grown : List ℕ) × Appends held_now o.after grown × IsPushStop q (p.bytes ++ piece) ended (p.text ++ grown) stop → IsStreamEnd Done q i o (Err stop)
-  end_stop Done i o piece ended stop b h moved same at_end small cut (grown, wrote, is) = by_stop stop is cut
+  end_stop Done i o piece ended stop s cut (grown, wrote, is) = by_stop stop is cut
     where
       all_moved : Consumes i.before i.after (p.bytes ++ piece)
-      all_moved = subst (λ x. Consumes x i.after (p.bytes ++ piece)) (sym b) (Consumes-trans before now i.after p.bytes piece p.moved moved)
+      all_moved = subst (λ x. Consumes x i.after (p.bytes ++ piece)) (sym s.source) (Consumes-trans before now i.after p.bytes piece p.moved s.moved)
 
       all_grew : Appends o.before o.after (p.text ++ grown)
-      all_grew = subst (λ x. Appends x o.after (p.text ++ grown)) (sym h) (Appends-trans held held_now o.after p.text grown p.grew wrote)
+      all_grew = subst (λ x. Appends x o.after (p.text ++ grown)) (sym s.sink) (Appends-trans held held_now o.after p.text grown p.grew wrote)
 
       in_time : IsTimely q (p.bytes ++ piece) (p.text ++ grown)
-      in_time = timely_piece q p.bytes piece p.text grown p.is.timely small
+      in_time = timely_piece q p.bytes piece p.text grown p.is.timely s.small
 
       as_ended : {rest : List ℕ} → IsBegun q (p.bytes ++ piece) ended (p.text ++ grown) rest → IsBegun q (p.bytes ++ piece) i.ended (p.text ++ grown) rest
-      as_ended {rest} x = subst (λ (e : Bool). IsBegun q (p.bytes ++ piece) e (p.text ++ grown) rest) (sym same) x
+      as_ended {rest} x = subst (λ (e : Bool). IsBegun q (p.bytes ++ piece) e (p.text ++ grown) rest) (sym s.same) x
 
       with_end : (line : List ℕ) (stop : Stop) → IsEnd q i o (p.bytes ++ piece) (p.text ++ grown) (status_of (Err stop)) line
           → IsLineOf q (Err stop) line → IsStreamEnd Done q i o (Err stop)
@@ -128,7 +141,7 @@ module _ {Stands : List ℕ → List ℕ → Type 0} {q : Request} {before now h
         line = line;
         moved = all_moved;
         grew = all_grew;
-        at_end = λ t. (at_end (sym same ∙ t)).1;
+        at_end = λ t. (s.at_end (sym s.same ∙ t)).1;
         is = is;
         is_line = is_line;
         left = tt;
@@ -140,34 +153,33 @@ module _ {Stands : List ℕ → List ℕ → Type 0} {q : Request} {before now h
       by_stop : (stop : Stop) → IsPushStop q (p.bytes ++ piece) ended (p.text ++ grown) stop → (stop ≡ Unwritten → HasRefused o)
           → IsStreamEnd Done q i o (Err stop)
       by_stop (Faulty fault) (line, stored, first, owed) cut = with_end line (Faulty fault)
-          (by_itself (faulty (subst (λ (e : Bool). HasFault q (p.bytes ++ piece) e line) (sym same) first)
-          (prompt piece i.ended small (λ t. (at_end (sym same ∙ t)).0))
-          (subst (λ (e : Bool). Owes q (p.bytes ++ piece) e (p.text ++ grown)) (sym same) owed))) stored
+          (by_itself (faulty (subst (λ (e : Bool). HasFault q (p.bytes ++ piece) e line) (sym s.same) first)
+          (prompt piece i.ended s.small (λ t. (s.at_end (sym s.same ∙ t)).0))
+          (subst (λ (e : Bool). Owes q (p.bytes ++ piece) e (p.text ++ grown)) (sym s.same) owed))) stored
       by_stop (FaultyLine fault) (first, owed) cut = with_end (input_fault_text (fault_of fault)) (FaultyLine fault)
-          (by_itself (faulty (subst (λ (e : Bool). HasFault q (p.bytes ++ piece) e (input_fault_text (fault_of fault))) (sym same) first)
-          (prompt piece i.ended small (λ t. (at_end (sym same ∙ t)).0))
-          (subst (λ (e : Bool). Owes q (p.bytes ++ piece) e (p.text ++ grown)) (sym same) owed))) refl
+          (by_itself (faulty (subst (λ (e : Bool). HasFault q (p.bytes ++ piece) e (input_fault_text (fault_of fault))) (sym s.same) first)
+          (prompt piece i.ended s.small (λ t. (s.at_end (sym s.same ∙ t)).0))
+          (subst (λ (e : Bool). Owes q (p.bytes ++ piece) e (p.text ++ grown)) (sym s.same) owed))) refl
       by_stop Unread is cut = absurd is
       by_stop Unwritten (rest, some, begun) cut = with_end write_fault Unwritten (unwritten rest some (cut refl) (as_ended begun) in_time) refl
       by_stop NoMemory (inl none) cut = with_end out_of_memory NoMemory (no_memory known (inl none) in_time) refl
       by_stop NoMemory (inr (rest, begun)) cut = with_end out_of_memory NoMemory (no_memory known (inr (rest, as_ended begun)) in_time) refl
       by_stop (Wide i den) is cut = with_end (wide_text i den) (Wide i den)
-          (by_itself (wide i den (subst (λ (e : Bool). IsWide q (p.bytes ++ piece) e i den (p.text ++ grown)) (sym same) is))) refl
+          (by_itself (wide i den (subst (λ (e : Bool). IsWide q (p.bytes ++ piece) e i den (p.text ++ grown)) (sym s.same) is))) refl
       by_stop (TooMany count) is cut = absurd is
 
   -- the stream came to its end
-  pub end_ok : (Done : List ℕ → List ℕ → Type 0) (i : Drained) (o : Filled) (holds : Bool) → i.before ≡ before → o.before ≡ held
-      → Consumes now i.after [] → i.ended ≡ true → IsAtEnd i.after
+  pub end_ok : (Done : List ℕ → List ℕ → Type 0) (i : Drained) (o : Filled) (holds : Bool) → IsRead before now held i o [] true
       → (grown : List ℕ) × Appends held_now o.after grown × IsFinished Done q p.bytes holds (p.text ++ grown) → IsStreamEnd Done q i o (Ok holds)
-  end_ok Done i o holds b h moved same at_end (grown, wrote, (is, left)) = record {
+  end_ok Done i o holds s (grown, wrote, (is, left)) = record {
     bytes = p.bytes;
     text = p.text ++ grown;
     line = [];
-    moved = subst (λ x. Consumes x i.after p.bytes) (sym b)
-        (subst (Consumes before i.after) (append-nil p.bytes) (Consumes-trans before now i.after p.bytes [] p.moved moved));
-    grew = subst (λ x. Appends x o.after (p.text ++ grown)) (sym h) (Appends-trans held held_now o.after p.text grown p.grew wrote);
-    at_end = λ _. at_end;
-    is = by_itself (answered (subst (λ (e : Bool). IsAnswered q p.bytes e (status_of_truth holds) (p.text ++ grown)) (sym same) is));
+    moved = subst (λ x. Consumes x i.after p.bytes) (sym s.source)
+        (subst (Consumes before i.after) (append-nil p.bytes) (Consumes-trans before now i.after p.bytes [] p.moved s.moved));
+    grew = subst (λ x. Appends x o.after (p.text ++ grown)) (sym s.sink) (Appends-trans held held_now o.after p.text grown p.grew wrote);
+    at_end = λ _. (s.at_end refl).1;
+    is = by_itself (answered (subst (λ (e : Bool). IsAnswered q p.bytes e (status_of_truth holds) (p.text ++ grown)) (sym s.same) is));
     is_line = refl;
     left = left;
   }
@@ -177,27 +189,28 @@ module _ {Stands : List ℕ → List ℕ → Type 0} {q : Request} {before now h
   pushed_so_far g e = subst (λ (k : Request). IsPushed Stands k p.bytes p.text) (sym e) p.is
 
   -- the last call of a stream
-  pub end_from : (Done : List ℕ → List ℕ → Type 0) (g : Request) → g ≡ q → (i : Drained) (o : Filled) (r : Result Bool Stop)
-      (none : List ℕ) → none ≡ [] → i.before ≡ before → o.before ≡ held → Consumes now i.after none → i.ended ≡ true → IsAtEnd i.after
-      → (r ≡ Err Unwritten → HasRefused o)
+  pub end_from : (Done : List ℕ → List ℕ → Type 0) (g : Request) → g ≡ q → (i : Drained) (o : Filled) (piece : List ℕ)
+      (r : Result Bool Stop) → IsRead before now held i o piece true → (r ≡ Err Unwritten → HasRefused o)
       → IsPush g held_now o.after p.bytes true p.text (IsFinished Done g p.bytes) r → IsStreamEnd Done q i o r
-  end_from Done g e i o r none empty b h moved same at_end cut push =
+  end_from Done g e i o piece r s cut push =
       by_result r (subst (λ (k : Request). IsPush k held_now o.after p.bytes true p.text (IsFinished Done k p.bytes) r) e push) cut
     where
+      none : IsRead before now held i o [] true
+      none = subst (λ l. IsRead before now held i o l true) (s.at_end refl).0 s
+
       by_result : (r : Result Bool Stop) → IsPush q held_now o.after p.bytes true p.text (IsFinished Done q p.bytes) r → (r ≡ Err Unwritten → HasRefused o)
           → IsStreamEnd Done q i o r
-      by_result (Ok holds) push cut = end_ok Done i o holds b h (subst (Consumes now i.after) empty moved) same at_end push
+      by_result (Ok holds) push cut = end_ok Done i o holds none push
       by_result (Err stop) (grown, wrote, is) cut =
-          end_stop Done i o [] true stop b h (subst (Consumes now i.after) empty moved) same (λ _. (refl, at_end)) (omega arith) (λ k. cut (ap Err k))
+          end_stop Done i o [] true stop none (λ k. cut (ap Err k))
           (grown, wrote, subst (λ bs. IsPushStop q bs true (p.text ++ grown) stop) (sym (append-nil p.bytes)) is)
 
   -- a piece that stopped the stream
   pub stop_from : (Done : List ℕ → List ℕ → Type 0) (g : Request) → g ≡ q → (i : Drained) (o : Filled) (piece : List ℕ) (stop : Stop)
-      → i.before ≡ before → o.before ≡ held → Consumes now i.after piece → i.ended ≡ false → length piece ≤ 4096
-      → (stop ≡ Unwritten → HasRefused o)
+      → IsRead before now held i o piece false → (stop ≡ Unwritten → HasRefused o)
       → (grown : List ℕ) × Appends held_now o.after grown × IsPushStop g (p.bytes ++ piece) false (p.text ++ grown) stop → IsStreamEnd Done q i o (Err stop)
-  stop_from Done g e i o piece stop b h moved same small cut (grown, wrote, is) =
-      end_stop Done i o piece false stop b h moved same (λ t. absurd (false≢true t)) small cut
+  stop_from Done g e i o piece stop s cut (grown, wrote, is) =
+      end_stop Done i o piece false stop s cut
       (grown, wrote, subst (λ (k : Request). IsPushStop k (p.bytes ++ piece) false (p.text ++ grown) stop) e is)
 
   -- a piece that was answered

@@ -1,6 +1,7 @@
 use Rattle.std.proofs.Common.{◌<◌, ◌≤◌, length, take, refl, ap, subst, ◌∙◌, arith}
 use Rattle.std.proofs.lemmas.Result.{err_from_is_err_and}
 use Rattle.io_edge.specs.Causes.{Rose, after_end}
+use Rattle.std.proofs.lemmas.Bool.{false≢true}
 use Rattle.workbench.proofs.Progress.{not_true, unended, none_taken, some_taken, short_taken}
 use Rattle.workbench.proofs.StreamSteps.{pushed_so_far, end_unread, end_from, stop_from, piece_from}
 use Rattle.workbench.proofs.stream.stream.Goals as goal
@@ -55,9 +56,16 @@ pub returns-then-count-eq0-clause-ending : goal.returns-then-count-eq0-clause-en
 returns-then-count-eq0-clause-ending g c =
     let p = c.loop-reads.invariant.pushing in
     let size : 0 < length c.read.new.buf = let a = c.loop-reads.invariant.size in let b = c.read.auto.buf in omega arith in
-    end_from p (g.P.Push.done c.end.new.self) (g.P.Push.request c.loop-reads.pusher) c.loop-reads.invariant.same _ _ c.end.result
-    (take c.in-Ok.count c.read.new.buf) (none_taken c.in-Ok.count c.read.new.buf c.if-count-eq0.true)
-    refl refl c.in-Ok.ensures.bytes.0 (c.in-Ok.ensures.end.1 (c.if-count-eq0.true, size)) (c.in-Ok.ensures.bytes.1 c.if-count-eq0.true size)
+    end_from p (g.P.Push.done c.end.new.self) (g.P.Push.request c.loop-reads.pusher) c.loop-reads.invariant.same _ _
+    (take c.in-Ok.count c.read.new.buf) c.end.result
+    (record {
+      source = refl;
+      sink = refl;
+      moved = c.in-Ok.ensures.bytes.0;
+      same = c.in-Ok.ensures.end.1 (c.if-count-eq0.true, size);
+      at_end = λ _. (none_taken c.in-Ok.count c.read.new.buf c.if-count-eq0.true, c.in-Ok.ensures.bytes.1 c.if-count-eq0.true size);
+      small = short_taken c.in-Ok.count c.read.new.buf (c.read.auto.buf ∙ c.loop-reads.invariant.size);
+    })
     (λ e. subst (λ n. Rose n (g.K.Sink.faults c.end.new.out)) c.loop-reads.invariant.calm (c.end.ensures.cause e))
     (c.end.ensures.ended p.bytes p.text (pushed_so_far p (g.P.Push.request c.loop-reads.pusher) c.loop-reads.invariant.same))
 
@@ -68,7 +76,14 @@ returns-in_err-push-clause-ending g c =
     let goes_on = not_true (g.S.Source.ended c.read.new.self) (λ t. c.if-count-eq0.false (c.in-Ok.ensures.end.0 t).0) in
     rw (e.1, e.2) (stop_from p (g.P.Push.done c.push.new.self) (g.P.Push.request c.loop-reads.pusher) c.loop-reads.invariant.same _ _
     (take c.in-Ok.count c.read.new.buf) c.in_err-push.field-0.0
-    refl refl c.in-Ok.ensures.bytes.0 goes_on (short_taken c.in-Ok.count c.read.new.buf (c.read.auto.buf ∙ c.loop-reads.invariant.size))
+    (record {
+      source = refl;
+      sink = refl;
+      moved = c.in-Ok.ensures.bytes.0;
+      same = goes_on;
+      at_end = λ t. absurd (false≢true t);
+      small = short_taken c.in-Ok.count c.read.new.buf (c.read.auto.buf ∙ c.loop-reads.invariant.size);
+    })
     (λ k. subst (λ n. Rose n (g.K.Sink.faults c.push.new.out)) c.loop-reads.invariant.calm (c.in_err-push.ensures.cause (let h = k in cc)))
     (c.in_err-push.ensures.pushed p.bytes p.text (pushed_so_far p (g.P.Push.request c.loop-reads.pusher) c.loop-reads.invariant.same)))
 
