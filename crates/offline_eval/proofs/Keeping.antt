@@ -166,11 +166,15 @@ module _ {P : Type 0} (shape : ShapeOf P) (from to : ℕ) where
 
   -- the next node, n at the place i, adds its signal y to the old ones, and those of its children are given up
   pub record AddsNext (nodes : List Node) (s : Setting) (i : ℕ) (n : Node) (old new : List (List (Knot P))) (y : List (Knot P)) : Type 0 where
+    -- children come before their nodes
     pub order : IsPostOrder nodes
+    -- n is the next node
     pub there : slice_get nodes i ≡ Some n
     -- each node before it has a signal
     pub count : length old ≡ i
+    -- the setting is over the stretch
     pub over : IsOver shape.lowest shape.highest from to s
+    -- the signals of its children are given up
     pub given : AreGivenUp shape from to (children n) (old ++ y ∷ []) new
     -- its signal tells it
     pub own : TellsValue shape s (subformula nodes i) y

@@ -23,13 +23,18 @@ ends_of over = record { lowest = over.lowest; highest = over.highest }
 module _ {P : Type 0} where
   -- the node n has the child p, whose signal among the others is x, and its formula is made of that of the child
   pub record HasOne (n : Node) (p : ℕ) (xs : List (List (Knot P))) (x : List (Knot P)) (make : Subformula → Subformula) : Type 0 where
+    -- x is the signal of the child
     pub at_p : slice_get xs p ≡ Some x
+    -- the formula of the node is made of that of the child
     pub is : (at : ℕ → Subformula) (i : ℕ) → tree_of at i n ≡ make (at p)
 
   -- the node n has the children p and q, whose signals are x and y, and its formula is made of theirs
   pub record HasTwo (n : Node) (p q : ℕ) (xs : List (List (Knot P))) (x y : List (Knot P)) (make : Subformula → Subformula → Subformula) : Type 0 where
+    -- x is the signal of the first child
     pub at_p : slice_get xs p ≡ Some x
+    -- y is the signal of the second
     pub at_q : slice_get xs q ≡ Some y
+    -- the formula of the node is made of those of the children
     pub is : (at : ℕ → Subformula) (i : ℕ) → tree_of at i n ≡ make (at p) (at q)
 
 module _ {P : Type 0} (shape : ShapeOf P) (from to : ℕ) where

@@ -106,9 +106,13 @@ module _ {P : Type 0} (shape : ShapeOf P) (laws : ShapeLaws shape) where
 
   -- r goes from end to end of x, is limited, and is made of the shapes of x and y, moved by at most `own`
   pub record IsMadeOf (own : ℕ) (x y r : List (Knot P)) : Type 0 where
+    -- it begins with x
     pub begins : start r ≈ start x
+    -- and ends with it
     pub ends : stop r ≈ stop x
+    -- it is within limits
     pub limited : IsLimited shape r
+    -- its moving shapes come from those of x and y
     pub moved : MovedFromTwo own x y r
 
   -- and of two

@@ -394,11 +394,15 @@ moved_same own more old other new h m e = let a = m.not_less in let b = m.not_mo
 module _ {P : Type 0} (shape : ShapeOf P) where
   -- the parts of which until and since are composed, and where the shapes of each come from: c from y, u from x and y, d from u, and r from c and d
   pub record AreParts (less own : ℕ) (x y c u d r : List (Knot P)) : Type 0 where
+    -- the one move is no longer than the other
     pub order : less ≤ own
-    -- those of c are moved by at most `own`, and those of d by at most `less`
+    -- the shapes of c come from y, moved by at most `own`
     pub within : (p : P) → HasShape c p → IsTrue (shape.moves p) → ComesFrom shape own y p
+    -- those of u come from x and y
     pub both : BasesOfTwo shape x y u
+    -- those of d come from u, moved by at most `less`
     pub kept : (p : P) → HasShape d p → IsTrue (shape.moves p) → ComesFrom shape less u p
+    -- those of r come from c and d
     pub shapes : (p : P) → HasShape r p → HasShape c p ⊎ HasShape d p
 
   -- so each shape of the whole comes from one of the two signals
