@@ -139,14 +139,14 @@ module _ (knots : List (Knot Truth)) where
       let e : s.last ≡ k = let g = s.is in cc in
       let rising = next_rises truth_shape knots i k n signal.each h j in
       let here = subst (λ (k : Knot Truth). IsSpelled (IsWorth truth_shape knots) (start knots) (time k) true verdicts o) e s.spelled in
-      let inside = spelled_on (IsWorth truth_shape knots) a.inside k.time true k.after.holds by_gap (time n) false a.gap here rising
+      let inside = spelled_on (IsWorth truth_shape knots) a.inside k.time true k.after.holds by_gap (time n) false here a.gap rising
       (λ t inside. gap_told i k n h j t inside.above inside.below) in
       record {
         last = n;
         is = j;
         spelled =
             spelled_on (IsWorth truth_shape knots) new n.time false n.point.holds by_point
-            (time n) true a.point inside (le_refl (time n))
+            (time n) true inside a.point (le_refl (time n))
             (λ t inside. point_told (i + 1) n j t (same_of_le inside.below inside.above));
       }
 
