@@ -161,11 +161,15 @@ module _ {P : Type 0} (shape : ShapeOf P) (read_as : How) (rel : Rel) (g : Gap) 
   pub record GoesOff (from : Rational) (mid new : List (Knot P)) (after point : P) : Type 0 where
     -- the time of the second row, as the signal has it
     pub end : Frac
+    -- which is within its limits
     pub few : g.second < 2 ^ 32
+    -- it is that time
     pub at_end : value end ≈ second
+    -- the signal goes on to it
     pub goes : GoesOn shape mid after end point new
-    -- `after` is worth what is read on the gap, and `point` what is read at its end
+    -- `after` is worth what is read on the gap
     pub on_gap : (t : Rational) → from <ʳ t → t <ʳ second → value_at (shape.function after) t ≈ᵉ worth read_as rel (at (along g) t)
+    -- `point` is worth what is read at its end
     pub there : (t : Rational) → value_at (shape.function point) t ≈ᵉ worth read_as rel (whole next)
 
   -- over one shape, once the signal has caught up with the gap
@@ -429,14 +433,19 @@ module _ {P : Type 0} (shape : ShapeOf P) (read_as : How) (b : Binding) (i : ℕ
   pub record IsGapTo (n r : ℕ) (g : Gap) (next : ℤ) : Type 0 where
     -- the rows are neighbours
     pub neighbours : r ≡ suc n
+    -- the second is a row of the trace
     pub within : r < length tr.rows
-    -- their times
+    -- the time of the first row
     pub first : g.first ≡ (row_of tr n).time
+    -- the time of the second
     pub second : g.second ≡ (row_of tr r).time
-    -- the sums on the gap, by the coefficients there, and the one of the row r
+    -- the sum at the beginning of the gap, by the values of the row n
     pub from : g.from ≡ reach k (values_at tr n) (values_at tr n)
+    -- the one at its end, by those of both rows
     pub to : g.to ≡ reach k (values_at tr n) (values_at tr r)
+    -- the sum at the row r
     pub at_next : next ≡ reach k (values_at tr r) (values_at tr r)
+    -- which is within its limits
     pub size : nat_abs next ≤ 2 ^ 31
 
   -- and grown over a gap

@@ -38,10 +38,15 @@ module _ {P : Type 0} (shape : ShapeOf P) where
   -- the same of a result
   pub record SlidesOk {T E : Type 0} (r : Result T E) (turn : Turn) (old : SoFar P) (low_until : Turn) (items : List (Item P)) (new : SoFar P)
       (low_until' : Turn) (items' : List (Item P)) : Type 0 where
+    -- the walk can go on
     pub can : OnOk r (CanGoOn shape new low_until' items')
+    -- it stands at the turn
     pub passed : OnOk r (IsPassed shape turn old low_until items new low_until' items')
+    -- on the same side
     pub side : OnOk r (new.side ≡ old.side)
+    -- from the same first time
     pub first : OnOk r (first_time new new.built ≡ first_time old old.built)
+    -- and its last knot is no later than the turn
     pub at : OnOk r (value new.at ≤ʳ value turn.at)
 
   -- the gap under the low end

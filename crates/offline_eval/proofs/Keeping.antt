@@ -164,24 +164,37 @@ module _ {P : Type 0} (shape : ShapeOf P) (from to : ℕ) where
         (s.at k x there) (λ m. f.at k x m));
   }
 
+  -- the next node, n at the place i, adds its signal y to the old ones, and those of its children are given up
+  pub record AddsNext (nodes : List Node) (s : Setting) (i : ℕ) (n : Node) (old new : List (List (Knot P))) (y : List (Knot P)) : Type 0 where
+    -- children come before their nodes
+    pub order : IsPostOrder nodes
+    -- n is the next node
+    pub there : slice_get nodes i ≡ Some n
+    -- each node before it has a signal
+    pub count : length old ≡ i
+    -- the setting is over the stretch
+    pub over : IsOver shape.lowest shape.highest from to s
+    -- the signals of its children are given up
+    pub given : AreGivenUp shape from to (children n) (old ++ y ∷ []) new
+    -- its signal tells it
+    pub own : TellsValue shape s (subformula nodes i) y
+
   -- what the signals tell once the next node has its own
-  pub kept_told : (nodes : List Node) (s : Setting) (i : ℕ) (n : Node) (old new : List (List (Knot P))) (y : List (Knot P)) → IsPostOrder nodes
-      → slice_get nodes i ≡ Some n → length old ≡ i
-      → IsOver shape.lowest shape.highest from to s → AreGivenUp shape from to (children n) (old ++ y ∷ []) new → TellAt shape s (kept nodes i) old
-      → TellsValue shape s (subformula nodes i) y
-      → TellAt shape s (kept nodes (i + 1)) new
-  kept_told nodes s i n old new y order there count over given told own k x at = by_child (has_child k n) refl (given.at k x at)
+  pub kept_told : (nodes : List Node) (s : Setting) (i : ℕ) (n : Node) (old new : List (List (Knot P))) (y : List (Knot P))
+      → AddsNext nodes s i n old new y → TellAt shape s (kept nodes i) old → TellAt shape s (kept nodes (i + 1)) new
+  kept_told nodes s i n old new y next told k x at = by_child (has_child k n) refl (next.given.at k x at)
     where
       by_place : has_child k n ≡ false → (slice_get old k ≡ Some x) ⊎ ((k ≡ length old) × (x ≡ y)) → TellsValue shape s (kept nodes (i + 1) k) x
-      by_place e (inl h) = subst (λ f. TellsValue shape s f x) (sym (kept_other nodes i n there k e)) (told k x h)
+      by_place e (inl h) = subst (λ f. TellsValue shape s f x) (sym (kept_other nodes i n next.there k e)) (told k x h)
       by_place e (inr h) =
-          let here : i ≡ k = sym (h.0 ∙ count) in
+          let here : i ≡ k = sym (h.0 ∙ next.count) in
           subst (λ j. TellsValue shape s (kept nodes (i + 1) j) x) here
-          (subst (λ f. TellsValue shape s f x) (sym (kept_new nodes i n there order)) (subst (TellsValue shape s (subformula nodes i)) (sym h.1) own))
+          (subst (λ f. TellsValue shape s f x) (sym (kept_new nodes i n next.there next.order))
+          (subst (TellsValue shape s (subformula nodes i)) (sym h.1) next.own))
 
       by_child : (b : Bool) → has_child k n ≡ b → MatchBool b (IsSpare shape from to x) (slice_get (old ++ y ∷ []) k ≡ Some x)
           → TellsValue shape s (kept nodes (i + 1) k) x
-      by_child true e spare = subst (λ f. TellsValue shape s f x) (sym (kept_child nodes i n there k e)) (spare.told s over)
+      by_child true e spare = subst (λ f. TellsValue shape s f x) (sym (kept_child nodes i n next.there k e)) (spare.told s next.over)
       by_child false e h = by_place e (slice_get-push_cases old y k x h)
 
   -- the signals stay sound
@@ -208,20 +221,19 @@ module _ {P : Type 0} (shape : ShapeOf P) (nodes : List Node) (s : Setting) wher
       none k x e = cc
 
   -- with the signal of the next node, and its children given up
-  pub stack_next : (from to i : ℕ) (n : Node) (old new : List (List (Knot P))) (y : List (Knot P)) → IsPostOrder nodes → slice_get nodes i ≡ Some n
-      → length old ≡ i → IsOver shape.lowest shape.highest from to s → AreGivenUp shape from to (children n) (old ++ y ∷ []) new
-      → TellsValue shape s (subformula nodes i) y → TellsStack shape nodes s i old → TellsStack shape nodes s (i + 1) new
-  stack_next from to i n old new y order there count over given own st = record {
-    told = kept_told shape from to nodes s i n old new y order there count over given st.told own;
+  pub stack_next : (from to i : ℕ) (n : Node) (old new : List (List (Knot P))) (y : List (Knot P)) → AddsNext shape from to nodes s i n old new y
+      → TellsStack shape nodes s i old → TellsStack shape nodes s (i + 1) new
+  stack_next from to i n old new y next st = record {
+    told = kept_told shape from to nodes s i n old new y next st.told;
     signals = st.signals ++ y ∷ [];
     count = pushed_count st.signals (st.signals ++ y ∷ []) y i st.count refl;
-    all = told_pushed shape nodes s i st.signals (st.signals ++ y ∷ []) y st.count refl st.all own;
-    last = λ k x e at. here k x (omega (arith, e)) (given.at k x at);
+    all = told_pushed shape nodes s i st.signals y st.count refl st.all next.own;
+    last = λ k x e at. here k x (omega (arith, e)) (next.given.at k x at);
   }
     where
       by_place : (k : ℕ) (x : List (Knot P)) → k ≡ i → (slice_get old k ≡ Some x) ⊎ ((k ≡ length old) × (x ≡ y))
           → slice_get (st.signals ++ y ∷ []) k ≡ Some x
-      by_place k x e (inl h) = absurd (let l = slice_get_within old k x h in omega (arith, e, l, count))
+      by_place k x e (inl h) = absurd (let l = slice_get_within old k x h in let count = next.count in omega (arith, e, l, count))
       by_place k x e (inr h) =
           let long : length st.signals ≡ k = st.count ∙ sym e in
           subst (λ j. slice_get (st.signals ++ y ∷ []) j ≡ Some x) long
@@ -230,7 +242,7 @@ module _ {P : Type 0} (shape : ShapeOf P) (nodes : List Node) (s : Setting) wher
       here : (k : ℕ) (x : List (Knot P)) → k ≡ i → MatchBool (has_child k n) (IsSpare shape from to x) (slice_get (old ++ y ∷ []) k ≡ Some x)
           → slice_get (st.signals ++ y ∷ []) k ≡ Some x
       here k x e m =
-          let free : has_child k n ≡ false = subst (λ j. has_child j n ≡ false) (sym e) (no_own_child nodes i n there order) in
+          let free : has_child k n ≡ false = subst (λ j. has_child j n ≡ false) (sym e) (no_own_child nodes i n next.there next.order) in
           by_place k x e (slice_get-push_cases old y k x (subst (λ b. MatchBool b (IsSpare shape from to x) (slice_get (old ++ y ∷ []) k ≡ Some x)) free m))
 
   -- what is left in the end is the last of them

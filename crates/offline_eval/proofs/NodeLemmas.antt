@@ -20,6 +20,23 @@ use Rattle.offline_eval.specs.Making.{FaultOfNode}
 ends_of : {lowest highest : Extended} {from to : ℕ} {s : Setting} → IsOver lowest highest from to s → HasEnds lowest highest s
 ends_of over = record { lowest = over.lowest; highest = over.highest }
 
+module _ {P : Type 0} where
+  -- the node n has the child p, whose signal among the others is x, and its formula is made of that of the child
+  pub record HasOne (n : Node) (p : ℕ) (xs : List (List (Knot P))) (x : List (Knot P)) (make : Subformula → Subformula) : Type 0 where
+    -- x is the signal of the child
+    pub at_p : slice_get xs p ≡ Some x
+    -- the formula of the node is made of that of the child
+    pub is : (at : ℕ → Subformula) (i : ℕ) → tree_of at i n ≡ make (at p)
+
+  -- the node n has the children p and q, whose signals are x and y, and its formula is made of theirs
+  pub record HasTwo (n : Node) (p q : ℕ) (xs : List (List (Knot P))) (x y : List (Knot P)) (make : Subformula → Subformula → Subformula) : Type 0 where
+    -- x is the signal of the first child
+    pub at_p : slice_get xs p ≡ Some x
+    -- y is the signal of the second
+    pub at_q : slice_get xs q ≡ Some y
+    -- the formula of the node is made of those of the children
+    pub is : (at : ℕ → Subformula) (i : ℕ) → tree_of at i n ≡ make (at p) (at q)
+
 module _ {P : Type 0} (shape : ShapeOf P) (from to : ℕ) where
   -- two sound signals are over one domain
   pub may_meet : (reach : ℕ) (x y : List (Knot P)) → IsSound shape from to reach x → IsSound shape from to reach y → MayMeet shape x y
@@ -64,35 +81,32 @@ module _ {P : Type 0} (shape : ShapeOf P) (from to : ℕ) where
   one_sound n p own xs x r at e sound reach all = subst (λ k. IsSound shape from to (reach + k) r) (sym e) (sound from to reach (all p x at))
 
   -- with two children
-  pub two_sound : (n : Node) (p q own : ℕ) (xs : List (List (Knot P))) (x y r : List (Knot P)) → slice_get xs p ≡ Some x → slice_get xs q ≡ Some y
-      → own_reach n ≡ own
-      → StaySound shape own x y r → NodeStaysSound shape from to n xs r
-  two_sound n p q own xs x y r at_p at_q e sound reach all =
-      subst (λ k. IsSound shape from to (reach + k) r) (sym e) (sound from to reach (all p x at_p) (all q y at_q))
+  pub two_sound : {n : Node} {p q : ℕ} {xs : List (List (Knot P))} {x y : List (Knot P)} {make : Subformula → Subformula → Subformula} (own : ℕ)
+      (r : List (Knot P)) → HasTwo n p q xs x y make → own_reach n ≡ own → StaySound shape own x y r → NodeStaysSound shape from to n xs r
+  two_sound {n} {p} {q} {xs} {x} {y} own r has e sound reach all =
+      subst (λ k. IsSound shape from to (reach + k) r) (sym e) (sound from to reach (all p x has.at_p) (all q y has.at_q))
 
 module _ {P : Type 0} (shape : ShapeOf P) (from to : ℕ) where
   -- what a node with one child tells
-  pub one_told : (n : Node) (p : ℕ) (xs : List (List (Knot P))) (x r : List (Knot P)) (make : Subformula → Subformula) → slice_get xs p ≡ Some x
-      → ((at : ℕ → Subformula) (i : ℕ) → tree_of at i n ≡ make (at p))
-      → TellsOne shape make x r → TellsNode shape from to n xs r
-  one_told n p xs x r make at_p e told s at i over all = subst (λ f. TellsValue shape s f r) (sym (e at i)) (told s (at p) (ends_of over) (all p x at_p))
+  pub one_told : {n : Node} {p : ℕ} {xs : List (List (Knot P))} {x : List (Knot P)} {make : Subformula → Subformula} (r : List (Knot P))
+      → HasOne n p xs x make → TellsOne shape make x r → TellsNode shape from to n xs r
+  one_told {p = p} {x = x} r has told s at i over all =
+      subst (λ f. TellsValue shape s f r) (sym (has.is at i)) (told s (at p) (ends_of over) (all p x has.at_p))
 
   -- and its fault
-  pub one_fault : (n : Node) (p : ℕ) (xs : List (List (Knot P))) (x : List (Knot P)) (f : OpFault P) (make : Subformula → Subformula)
-      → slice_get xs p ≡ Some x → ((at : ℕ → Subformula) (i : ℕ) → tree_of at i n ≡ make (at p))
-      → FaultOfOne shape make x f → FaultOfNode shape from to n xs f
-  one_fault n p xs x f make at_p e fault s at i over all = subst (λ t. IsFaultOf shape s t f) (sym (e at i)) (fault s (at p) (ends_of over) (all p x at_p))
+  pub one_fault : {n : Node} {p : ℕ} {xs : List (List (Knot P))} {x : List (Knot P)} {make : Subformula → Subformula} (f : OpFault P)
+      → HasOne n p xs x make → FaultOfOne shape make x f → FaultOfNode shape from to n xs f
+  one_fault {p = p} {x = x} f has fault s at i over all =
+      subst (λ t. IsFaultOf shape s t f) (sym (has.is at i)) (fault s (at p) (ends_of over) (all p x has.at_p))
 
   -- what a node with two children tells
-  pub two_told : (n : Node) (p q : ℕ) (xs : List (List (Knot P))) (x y r : List (Knot P)) (make : Subformula → Subformula → Subformula)
-      → slice_get xs p ≡ Some x → slice_get xs q ≡ Some y
-      → ((at : ℕ → Subformula) (i : ℕ) → tree_of at i n ≡ make (at p) (at q)) → TellsTwo shape make x y r → TellsNode shape from to n xs r
-  two_told n p q xs x y r make at_p at_q e told s at i over all =
-      subst (λ f. TellsValue shape s f r) (sym (e at i)) (told s (at p) (at q) (ends_of over) (all p x at_p) (all q y at_q))
+  pub two_told : {n : Node} {p q : ℕ} {xs : List (List (Knot P))} {x y : List (Knot P)} {make : Subformula → Subformula → Subformula} (r : List (Knot P))
+      → HasTwo n p q xs x y make → TellsTwo shape make x y r → TellsNode shape from to n xs r
+  two_told {p = p} {q = q} {x = x} {y = y} r has told s at i over all =
+      subst (λ f. TellsValue shape s f r) (sym (has.is at i)) (told s (at p) (at q) (ends_of over) (all p x has.at_p) (all q y has.at_q))
 
   -- and its fault
-  pub two_fault : (n : Node) (p q : ℕ) (xs : List (List (Knot P))) (x y : List (Knot P)) (f : OpFault P) (make : Subformula → Subformula → Subformula)
-      → slice_get xs p ≡ Some x → slice_get xs q ≡ Some y
-      → ((at : ℕ → Subformula) (i : ℕ) → tree_of at i n ≡ make (at p) (at q)) → FaultOfTwo shape make x y f → FaultOfNode shape from to n xs f
-  two_fault n p q xs x y f make at_p at_q e fault s at i over all =
-      subst (λ t. IsFaultOf shape s t f) (sym (e at i)) (fault s (at p) (at q) (ends_of over) (all p x at_p) (all q y at_q))
+  pub two_fault : {n : Node} {p q : ℕ} {xs : List (List (Knot P))} {x y : List (Knot P)} {make : Subformula → Subformula → Subformula} (f : OpFault P)
+      → HasTwo n p q xs x y make → FaultOfTwo shape make x y f → FaultOfNode shape from to n xs f
+  two_fault {p = p} {q = q} {x = x} {y = y} f has fault s at i over all =
+      subst (λ t. IsFaultOf shape s t f) (sym (has.is at i)) (fault s (at p) (at q) (ends_of over) (all p x has.at_p) (all q y has.at_q))

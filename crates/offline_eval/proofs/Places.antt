@@ -87,10 +87,10 @@ module _ {P : Type 0} (shape : ShapeOf P) where
       (sound 0 x (subst (λ o. slice_get o 0 ≡ Some x) (sym e) refl))
 
   -- and tells the atom
-  pub atom_told : (nodes : List Node) (i : ℕ) (a : Atom) (x : List (Knot P)) (old new all : List (List (Knot P))) (s : Setting)
+  pub atom_told : {x : List (Knot P)} {new : List (List (Knot P))} (nodes : List Node) (i : ℕ) (a : Atom) (old all : List (List (Knot P))) (s : Setting)
       → slice_get nodes i ≡ Some (Leaf a) → subformula nodes i ≡ tree_of (subformula nodes) i (Leaf a)
       → old ≡ x ∷ new → old ≡ drop (atoms_before nodes i) all → TellAtoms shape nodes all s → TellsValue shape s (subformula nodes i) x
-  atom_told nodes i a x old new all s at tree e left told =
+  atom_told {x} {new} nodes i a old all s at tree e left told =
       let o = told i a (slice_get_within nodes i (Leaf a) at) at in
       let here = (drop_at all (atoms_before nodes i) x new (sym e ∙ left)).0 in
       let same : o.0 ≡ x = same_Some _ _ (sym o.1 ∙ here) in
@@ -101,10 +101,10 @@ module _ {P : Type 0} (shape : ShapeOf P) where
   told_none nodes s i a h at = absurd (omega (arith, h))
 
   -- after an atom one more is
-  pub told_atom : (nodes : List Node) (s : Setting) (i : ℕ) (a : Atom) (xs : List (List (Knot P))) (x : List (Knot P))
+  pub told_atom : {a : Atom} {x : List (Knot P)} (nodes : List Node) (s : Setting) (i : ℕ) (xs : List (List (Knot P)))
       → slice_get nodes i ≡ Some (Leaf a) → length xs ≡ atoms_before nodes i → TellAtomsBelow shape i nodes xs s
       → Tells shape (Gives s.atoms i a) s.from s.to x → TellAtomsBelow shape (i + 1) nodes (xs ++ x ∷ []) s
-  told_atom nodes s i a xs x at count told tells j b h at_j = by_place (before_or_here i j h)
+  told_atom {a} {x} nodes s i xs at count told tells j b h at_j = by_place (before_or_here i j h)
     where
       by_place : (j < i) ⊎ (j ≡ i) → (y : List (Knot P)) × (slice_get (xs ++ x ∷ []) (atoms_before nodes j) ≡ Some y)
           × Tells shape (Gives s.atoms j b) s.from s.to y

@@ -87,10 +87,10 @@ module _ {P : Type 0} (shape : ShapeOf P) where
 
 module _ {P : Type 0} (shape : ShapeOf P) where
   -- where two parts meet, both are in play
-  met : (F G : Function) (from to : Rational) (x y : List (Knot P)) (p q : P) (a b : Frac) (den : ℕ) → Tells shape F from to x → Tells shape G from to y
+  met : {F G : Function} {from to : Rational} {x y : List (Knot P)} (p q : P) (a b : Frac) (den : ℕ) → Tells shape F from to x → Tells shape G from to y
       → IsWideMeeting shape (IsWorth shape x) (IsWorth shape y) (start x) (stop x) p q (value a) (value b) den
       → IsWideCrossing (IsInPlay (of_two F G) from to) from to (shape.function p) (shape.function q) (value a) (value b) den
-  met F G from to x y p q a b den left right m = record {
+  met p q a b den left right m = record {
     tau = m.at;
     after_start = lt_of_le_of_lt (le_trans (ge_of_same left.begins) m.after_start) m.meet.after;
     before_stop = lt_of_lt_of_le m.meet.before (le_trans m.before_stop (le_of_same left.ends));
@@ -130,14 +130,14 @@ module _ {P : Type 0} (shape : ShapeOf P) where
   pub fault_both : (x y : List (Knot P)) (e : OpFault P) → IsFault shape (IsWorth shape x) (IsWorth shape y) (start x) (stop x) e
       → FaultOfTwo shape conjunction x y e
   fault_both x y F.Memory h s p q ends left right = tt
-  fault_both x y (F.Wide (Cross a b l r den)) h s p q ends left right = met (SupInf p s) (SupInf q s) s.from s.to x y a b l r den left right h
+  fault_both x y (F.Wide (Cross a b l r den)) h s p q ends left right = met a b l r den left right h
   fault_both x y (F.Wide (Value a at den)) h s p q ends left right = absurd h
 
   -- of the greatest one of `or`
   pub fault_either : (x y : List (Knot P)) (e : OpFault P) → IsFault shape (IsWorth shape x) (IsWorth shape y) (start x) (stop x) e
       → FaultOfTwo shape disjunction x y e
   fault_either x y F.Memory h s p q ends left right = tt
-  fault_either x y (F.Wide (Cross a b l r den)) h s p q ends left right = met (SupInf p s) (SupInf q s) s.from s.to x y a b l r den left right h
+  fault_either x y (F.Wide (Cross a b l r den)) h s p q ends left right = met a b l r den left right h
   fault_either x y (F.Wide (Value a at den)) h s p q ends left right = absurd h
 
   -- `p implies q` is `not p or q`
@@ -165,5 +165,5 @@ module _ {P : Type 0} (shape : ShapeOf P) where
   meeting_fault A B x y p s (F.Wide (Cross a b l r den)) left right is h = crossing_along
       (record { begins = same_refl s.from; ends = same_refl s.to; forth = λ tau line k l i. is (λ step. IsInPlay step s.from s.to tau line) i })
       (shape.function a) (shape.function b) (value l) (value r) den
-      (met A B s.from s.to x y a b l r den left right h)
+      (met a b l r den left right h)
   meeting_fault A B x y p s (F.Wide (Value a at den)) left right is h = absurd h

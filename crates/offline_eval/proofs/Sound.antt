@@ -104,14 +104,24 @@ module _ {P : Type 0} (shape : ShapeOf P) (laws : ShapeLaws shape) where
   pub of_two_more : (own : ℕ) (x y r : List (Knot P)) → BasesOfTwo shape x y r → MovedFromTwo own x y r
   of_two_more own x y r bases p h m = let o = bases p h m in (o.0, o.1, hardly_moved own (shape.base o.0) (shape.base p) o.3)
 
+  -- r goes from end to end of x, is limited, and is made of the shapes of x and y, moved by at most `own`
+  pub record IsMadeOf (own : ℕ) (x y r : List (Knot P)) : Type 0 where
+    -- it begins with x
+    pub begins : start r ≈ start x
+    -- and ends with it
+    pub ends : stop r ≈ stop x
+    -- it is within limits
+    pub limited : IsLimited shape r
+    -- its moving shapes come from those of x and y
+    pub moved : MovedFromTwo own x y r
+
   -- and of two
-  pub stay_sound : (own : ℕ) (x y r : List (Knot P)) → start r ≈ start x → stop r ≈ stop x → IsLimited shape r → MovedFromTwo own x y r
-      → StaySound shape own x y r
-  stay_sound own x y r begins ends limited moved from to reach s u = record {
-    begins = same_trans begins s.begins;
-    ends = same_trans ends s.ends;
-    limited = limited;
-    bases = λ p h. all_reached (reach + own) p (λ m. let o = moved p h m in reached_moved reach own (shape.base o.0) (shape.base p) (of_one o.0 o.1) o.2);
+  pub stay_sound : (own : ℕ) (x y r : List (Knot P)) → IsMadeOf own x y r → StaySound shape own x y r
+  stay_sound own x y r made from to reach s u = record {
+    begins = same_trans made.begins s.begins;
+    ends = same_trans made.ends s.ends;
+    limited = made.limited;
+    bases = λ p h. all_reached (reach + own) p (λ m. let o = made.moved p h m in reached_moved reach own (shape.base o.0) (shape.base p) (of_one o.0 o.1) o.2);
   }
     where
       of_one : (q : P) → HasShape x q ⊎ HasShape y q → IsReached reach (shape.base q)

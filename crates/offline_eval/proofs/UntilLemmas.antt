@@ -392,17 +392,28 @@ moved_same own more old other new h m e = let a = m.not_less in let b = m.not_mo
     record { not_less = omega (arith, ints, h, a, e); not_more = omega (arith, ints, h, b, e) }
 
 module _ {P : Type 0} (shape : ShapeOf P) where
-  -- where each part's shapes come from
-  pub composed_moved : (less own : ℕ) (x y c u d r : List (Knot P)) → less ≤ own
-      → ((p : P) → HasShape c p → IsTrue (shape.moves p) → ComesFrom shape own y p) → BasesOfTwo shape x y u
-      → ((p : P) → HasShape d p → IsTrue (shape.moves p) → ComesFrom shape less u p) → ((p : P) → HasShape r p → HasShape c p ⊎ HasShape d p)
+  -- the parts of which until and since are composed, and where the shapes of each come from: c from y, u from x and y, d from u, and r from c and d
+  pub record AreParts (less own : ℕ) (x y c u d r : List (Knot P)) : Type 0 where
+    -- the one move is no longer than the other
+    pub order : less ≤ own
+    -- the shapes of c come from y, moved by at most `own`
+    pub within : (p : P) → HasShape c p → IsTrue (shape.moves p) → ComesFrom shape own y p
+    -- those of u come from x and y
+    pub both : BasesOfTwo shape x y u
+    -- those of d come from u, moved by at most `less`
+    pub kept : (p : P) → HasShape d p → IsTrue (shape.moves p) → ComesFrom shape less u p
+    -- those of r come from c and d
+    pub shapes : (p : P) → HasShape r p → HasShape c p ⊎ HasShape d p
+
+  -- so each shape of the whole comes from one of the two signals
+  pub composed_moved : (less own : ℕ) (x y c u d r : List (Knot P)) → AreParts less own x y c u d r
       → (p : P) → HasShape r p → IsTrue (shape.moves p) → (q : P) × (HasShape x q ⊎ HasShape y q) × IsMovedBy own (shape.base q) (shape.base p)
-  composed_moved less own x y c u d r order within both kept shapes p h m = by_part (shapes p h)
+  composed_moved less own x y c u d r parts p h m = by_part (parts.shapes p h)
     where
       by_part : HasShape c p ⊎ HasShape d p → (q : P) × (HasShape x q ⊎ HasShape y q) × IsMovedBy own (shape.base q) (shape.base p)
-      by_part (inl k) = let f = within p k m in (f.0, inr f.1, f.3)
-      by_part (inr k) = let f = kept p k m in let g = both f.0 f.1 f.2 in
-          (g.0, g.1, moved_same less own (shape.base f.0) (shape.base g.0) (shape.base p) order f.3 g.3)
+      by_part (inl k) = let f = parts.within p k m in (f.0, inr f.1, f.3)
+      by_part (inr k) = let f = parts.kept p k m in let g = parts.both f.0 f.1 f.2 in
+          (g.0, g.1, moved_same less own (shape.base f.0) (shape.base g.0) (shape.base p) parts.order f.3 g.3)
 
 -- the steps of until and since in a setting
 module _ {P : Type 0} (shape : ShapeOf P) (s : Setting) (p q : Subformula) (ends : HasEnds shape.lowest shape.highest s) (x y : List (Knot P))

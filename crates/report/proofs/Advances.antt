@@ -131,22 +131,22 @@ module _ (knots : List (Knot Truth)) where
       (subst (λ (k : Knot Truth). Precedes (o.from_in && true) (value o.from) (time k)) e s.spelled.begun)
 
   -- past the next knot
-  pub spelled_advance : (i : ℕ) (verdicts : List Verdict) (o new : OpenSpan) (k n : Knot Truth) (by_gap by_point : Option Verdict)
+  pub spelled_advance : {verdicts : List Verdict} {o : OpenSpan} (i : ℕ) (new : OpenSpan) (k n : Knot Truth) (by_gap by_point : Option Verdict)
       → IsSignal truth_shape knots → slice_get knots i ≡ Some k
-      → slice_get knots (i + 1) ≡ Some n → IsAdvanced o k n by_gap by_point new → IsSpelledTo i verdicts o
+      → slice_get knots (i + 1) ≡ Some n → IsSpelledTo i verdicts o → IsAdvanced o k n by_gap by_point new
       → IsSpelledTo (i + 1) ((verdicts ++ listed by_gap) ++ listed by_point) new
-  spelled_advance i verdicts o new k n by_gap by_point signal h j a s =
+  spelled_advance {verdicts} {o} i new k n by_gap by_point signal h j s a =
       let e : s.last ≡ k = let g = s.is in cc in
       let rising = next_rises truth_shape knots i k n signal.each h j in
       let here = subst (λ (k : Knot Truth). IsSpelled (IsWorth truth_shape knots) (start knots) (time k) true verdicts o) e s.spelled in
-      let inside = spelled_on (IsWorth truth_shape knots) (start knots) verdicts o a.inside k.time true k.after.holds by_gap (time n) false a.gap here rising
+      let inside = spelled_on (IsWorth truth_shape knots) a.inside k.time true k.after.holds by_gap (time n) false here a.gap rising
       (λ t inside. gap_told i k n h j t inside.above inside.below) in
       record {
         last = n;
         is = j;
         spelled =
-            spelled_on (IsWorth truth_shape knots) (start knots) (verdicts ++ listed by_gap) a.inside new n.time false n.point.holds by_point
-            (time n) true a.point inside (le_refl (time n))
+            spelled_on (IsWorth truth_shape knots) new n.time false n.point.holds by_point
+            (time n) true inside a.point (le_refl (time n))
             (λ t inside. point_told (i + 1) n j t (same_of_le inside.below inside.above));
       }
 
@@ -185,8 +185,8 @@ module _ (knots : List (Knot Truth)) where
       let point = going gap.new n.0.time false n.0.point.holds
       (room_after_gap o gap.new k.time n.0.time k.after.holds gap.ended room (next_rises truth_shape knots i k n.0 signal.each s.is n.1) gap.goes) in
       let more = told_to_end left (i + 1) ((verdicts ++ listed gap.ended) ++ listed point.ended) point.new signal (omega arith)
-      (spelled_advance i verdicts o point.new k n.0 gap.ended point.ended signal s.is n.1
-      (record { inside = gap.new; gap = gap.goes; point = point.goes }) s) in
+      (spelled_advance i point.new k n.0 gap.ended point.ended signal s.is n.1 s
+      (record { inside = gap.new; gap = gap.goes; point = point.goes })) in
       ((listed gap.ended ++ listed point.ended) ++ more.0, more.1, regroup verdicts (listed gap.ended) (listed point.ended) more.0 (more.1 ∷ []) more.2)
     where
       together : (a b c d e : List Verdict) → ((a ++ b) ++ c) ++ (d ++ e) ≡ a ++ (((b ++ c) ++ d) ++ e)

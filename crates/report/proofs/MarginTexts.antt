@@ -175,13 +175,16 @@ module _ {P : Type 0} (shape : ShapeOf P) (scale : Scale) where
   -- a piece and its knot more are two lines more
   pub lines_more : (ks : List (Knot P)) (i : ℕ) (k n : Knot P) (text next : List ℕ) → slice_get ks i ≡ Some k → slice_get ks (suc i) ≡ Some n
       → AreLinesTo ks i text → AreNextLines shape scale k n next → AreLinesTo ks (suc i) (text ++ next)
-  lines_more ks i k n text next at at_next before (piece, knot, is_piece, is_knot, e) m rest later f lines =
-      let here = drop_on ks (suc i) n at_next in
-      let same : n ≡ m = let g = sym here ∙ f in cc in
-      let same_rest : drop (suc (suc i)) ks ≡ rest = let g = sym here ∙ f in cc in
-      let all = before k (n ∷ rest) (piece ++ knot ++ later) (drop_on ks i k at ∙ ap (λ xs. k ∷ xs) (here ∙ ap (λ xs. n ∷ xs) same_rest))
-      (piece, knot, later, is_piece, is_knot, subst (λ l. ArePieceLines scale (plain_knot shape l) (pieces_of shape l rest) later) (sym same) lines, refl) in
-      subst (AreLaterLines shape scale ks) (simp (e, append_assoc)) all
+  lines_more ks i k n text next at at_next before (piece, knot, is_piece, is_knot, e) = to_next
+    where
+      to_next : AreLinesTo ks (suc i) (text ++ next)
+      to_next m rest later f lines =
+          let here = drop_on ks (suc i) n at_next in
+          let same : n ≡ m = let g = sym here ∙ f in cc in
+          let same_rest : drop (suc (suc i)) ks ≡ rest = let g = sym here ∙ f in cc in
+          let all = before k (n ∷ rest) (piece ++ knot ++ later) (drop_on ks i k at ∙ ap (λ xs. k ∷ xs) (here ∙ ap (λ xs. n ∷ xs) same_rest))
+          (piece, knot, later, is_piece, is_knot, subst (λ l. ArePieceLines scale (plain_knot shape l) (pieces_of shape l rest) later) (sym same) lines, refl) in
+          subst (AreLaterLines shape scale ks) (simp (e, append_assoc)) all
 
   -- after the last piece all lines are written
   pub lines_end : (ks : List (Knot P)) (i : ℕ) (text : List ℕ) → suc i ≡ length ks → AreLinesTo ks i text → AreLaterLines shape scale ks text

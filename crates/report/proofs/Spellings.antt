@@ -105,18 +105,18 @@ module _ (F : Function) where
       same_of_both t h = same_of_le h.below h.above
 
   -- past a time with a truth
-  pub spelled_on : (start : Rational) (verdicts : List Verdict) (o new : OpenSpan) (at : Frac) (at_in truth : Bool)
+  pub spelled_on : {start : Rational} {verdicts : List Verdict} {o : OpenSpan} (new : OpenSpan) (at : Frac) (at_in truth : Bool)
       (ended : Option Verdict) (next : Rational) (next_in : Bool)
-      → GoesTo o at at_in truth ended new → IsSpelled start (value at) at_in verdicts o → Precedes (not at_in && next_in) (value at) next
+      → IsSpelled start (value at) at_in verdicts o → GoesTo o at at_in truth ended new → Precedes (not at_in && next_in) (value at) next
       → Keeps (record { from = value at; from_in = not at_in; to = next; to_in = next_in }) truth
       → IsSpelled start next next_in (verdicts ++ listed ended) new
-  spelled_on start verdicts o new at at_in truth None next next_in g s h k =
+  spelled_on {start} {verdicts} {o} new at at_in truth None next next_in s g h k =
       rw (append-nil verdicts, g.1) (record {
         begun = longer (value o.from) (value at) next o.from_in at_in next_in s.begun h;
         told = keeps_more (value o.from) (value at) next o.from_in at_in next_in o.holds s.told (rw g.0 k);
         before = s.before;
       })
-  spelled_on start verdicts o new at at_in truth (Some w) next next_in g s h k = record {
+  spelled_on {start} {verdicts} {o} new at at_in truth (Some w) next next_in s g h k = record {
     begun = rw (g.from, g.from_in) h;
     told = rw (g.from, g.from_in, g.holds) k;
     before = λ x end end_in c told. describes_more start verdicts w x (s.before w at at_in g.closes (closed_told start at at_in verdicts o w s g.closes))

@@ -43,27 +43,39 @@ module _ {P : Type 0} (shape : ShapeOf P) where
 
   -- the knots `old` go on to `new` with what is chosen of the two signals on a gap and at its end
   pub record JoinsBoth (b : Side) (ks ls old new : List (Knot P)) : Type 0 where
-    -- the shapes of the signals on the gap
+    -- the shape of the first signal on the gap
     pub p : P
+    -- and of the second
     pub q : P
-    -- the time of its end, the shapes of the signals there, and the one that is chosen
+    -- the time of its end
     pub to : Frac
+    -- the shape of the first signal there
     pub x : P
+    -- and of the second
     pub y : P
+    -- the one of them that is chosen
     pub point : P
+    -- the knots go on by what is chosen
     pub joins : Joins shape b old p q to point new
-    -- the shapes stand in the signals
+    -- p stands in the first signal
     pub has_p : HasShape ks p
+    -- q in the second
     pub has_q : HasShape ls q
+    -- x in the first
     pub has_x : HasShape ks x
+    -- y in the second
     pub has_y : HasShape ls y
-    -- the signals are worth what they say
+    -- the first signal is worth what p says on the gap
     pub left : (t : Rational) → stop old <ʳ t → t <ʳ value to → IsWorth shape ks t (value_at (shape.function p) t)
+    -- the second what q says
     pub right : (t : Rational) → stop old <ʳ t → t <ʳ value to → IsWorth shape ls t (value_at (shape.function q) t)
+    -- the first is worth what x says at the end
     pub left_there : IsWorth shape ks (value to) (value_at (shape.function x) (value to))
+    -- the second what y says
     pub right_there : IsWorth shape ls (value to) (value_at (shape.function y) (value to))
-    -- and the chosen one is one of the two at the end
+    -- the chosen one is one of the two there
     pub one : (point ≡ x) ⊎ (point ≡ y)
+    -- with the value that is chosen
     pub chosen : IsChosen b (value_at (shape.function x) (value to)) (value_at (shape.function y) (value to)) (value_at (shape.function point) (value to))
 
   -- and so once a gap is joined

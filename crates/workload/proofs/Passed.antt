@@ -60,10 +60,13 @@ module _ (begin h : ℕ) (rows : List Row) (all : List Verdict) where
   pub walked_front : (i at to lines k : ℕ) (d : Row) (f : Frac) → i < length rows → begin + h ≤ (get_or rows i d).time
       → value f ≈ whole (pos ((get_or rows i d).time - h))
       → Passes f (drop at all) k (drop to all) → HasWalked i at lines → HasWalked (i + 1) to (lines + k)
-  walked_front i at to lines k d f l due is passes before n later w =
-      let q = before (k + n) later (subst (λ rs. Walks begin h rs (drop at all) (k + n) later) (sym (drop_more rows i d l)) (front f due is passes w)) in
-      let same : lines + (k + n) ≡ lines + k + n = omega arith in
-      subst (λ m. Walks begin h rows all m later) same q
+  walked_front i at to lines k d f l due is passes before = to_next
+    where
+      to_next : HasWalked (i + 1) to (lines + k)
+      to_next n later w =
+          let q = before (k + n) later (subst (λ rs. Walks begin h rs (drop at all) (k + n) later) (sym (drop_more rows i d l)) (front f due is passes w)) in
+          let same : lines + (k + n) ≡ lines + k + n = omega arith in
+          subst (λ m. Walks begin h rows all m later) same q
 
   -- all rows were walked
   pub walked_all : (at lines : ℕ) → HasWalked (length rows) at lines → Walks begin h rows all lines (drop at all)

@@ -49,7 +49,7 @@ loop-i-preserved g c =
           pushed c.loop-i.invariant.sound (c.in-Ok-next_signal.ensures.sound before);
       told = λ s over atoms.
           let before_told = subst (TellAt g.P.Shape s (subformula nodes)) (sym c.deref.ensures.value) (c.loop-i.invariant.told s over atoms) in
-          told_pushed g.P.Shape nodes s c.loop-i.i c.loop-i.done.items c.push.new.self.items c.in-Ok-next_signal.signal count pushed
+          told_pushed g.P.Shape nodes s c.loop-i.i c.loop-i.done.items c.in-Ok-next_signal.signal count pushed
           (c.loop-i.invariant.told s over atoms)
           (c.in-Ok-next_signal.ensures.told s (subformula nodes) c.args.atoms over c.loop-i.invariant.rest atoms (λ n e. refl) before_told);
     }

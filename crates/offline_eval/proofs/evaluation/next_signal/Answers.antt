@@ -27,7 +27,7 @@ returns-in-Atom g c =
       sound = atom_sound g.P.Shape c.args.from c.args.to nodes c.args.i c.take.result c.args.atoms.now c.take.new.self c.args.done.now c.take.ensures
           c.requires.inputs;
       told = λ s at all over left atoms agree before.
-          atom_told g.P.Shape nodes c.args.i c.in-Atom.field-0 c.take.result c.args.atoms.now c.take.new.self all s here
+          atom_told g.P.Shape nodes c.args.i c.in-Atom.field-0 c.args.atoms.now all s here
           (c.node.ensures.subformula ∙ ap (tree_of (subformula nodes) c.args.i) c.in-Atom.is) c.take.ensures left atoms;
       wide = tt;
     }

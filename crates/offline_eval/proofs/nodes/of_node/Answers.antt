@@ -5,7 +5,7 @@ use Rattle.stl_syntax.specs.Formula.{tree_of, conjunction, disjunction, implicat
 use Rattle.stl_syntax.specs.Limits.{own_reach}
 use Rattle.offline_eval.specs.Making.{TellsValue}
 use Rattle.offline_eval.proofs.Sound.{sound_more}
-use Rattle.offline_eval.proofs.NodeLemmas.{may_meet, none_sound, one_sound, two_sound, one_told, two_told, two_fault}
+use Rattle.offline_eval.proofs.NodeLemmas.{HasOne, HasTwo, may_meet, none_sound, one_sound, two_sound, one_told, two_told, two_fault}
 use Rattle.offline_eval.proofs.nodes.of_node.Goals as goal
 
 pub negated-requires : goal.negated-requires
@@ -29,11 +29,11 @@ returns-in_ok-negated-in-Not g c =
     let below : c.in-Not.p < length c.args.done.now = subst (HasChildrenBelow (length c.args.done.now)) c.in-Not.is c.requires.children in
     let at_p = slice_get_read c.args.done.now _ c.in-Not.p c.index-done-p.result refl below c.index-done-p.is in
     let r = c.in_ok-negated-in-Not.field-0 in
+    let has : HasOne c.args.node.now c.in-Not.p c.args.done.now c.index-done-p.result negation = record { at_p = at_p; is = λ at i. ap (tree_of at i) c.in-Not.is } in
     record {
       sound = one_sound g.P.Shape c.args.from c.args.to c.args.node.now c.in-Not.p 0 c.args.done.now c.index-done-p.result r at_p
           (ap own_reach c.in-Not.is) c.in_ok-negated-in-Not.ensures.sound;
-      told = one_told g.P.Shape c.args.from c.args.to c.args.node.now c.in-Not.p c.args.done.now c.index-done-p.result r negation at_p
-          (λ at i. ap (tree_of at i) c.in-Not.is) c.in_ok-negated-in-Not.ensures.told;
+      told = one_told g.P.Shape c.args.from c.args.to r has c.in_ok-negated-in-Not.ensures.told;
       wide = tt;
     }
 
@@ -52,16 +52,15 @@ returns-in-And g c =
     subst (HasChildrenBelow (length c.args.done.now)) c.in-And.is c.requires.children in
     let at_p = slice_get_read c.args.done.now _ c.in-And.p c.index-done-p-in-And.result refl below.0 c.index-done-p-in-And.is in
     let at_q = slice_get_read c.args.done.now _ c.in-And.q c.index-done-q.result refl below.1 c.index-done-q.is in
+    let has : HasTwo c.args.node.now c.in-And.p c.in-And.q c.args.done.now c.index-done-p-in-And.result c.index-done-q.result conjunction =
+    record { at_p = at_p; at_q = at_q; is = λ at i. ap (tree_of at i) c.in-And.is } in
     record {
       sound = IfOk-weaker c.both.result _ _
-          (λ r h. two_sound g.P.Shape c.args.from c.args.to c.args.node.now c.in-And.p c.in-And.q 0 c.args.done.now c.index-done-p-in-And.result
-          c.index-done-q.result r at_p at_q (ap own_reach c.in-And.is) h) c.both.ensures.sound;
+          (λ r h. two_sound g.P.Shape c.args.from c.args.to 0 r has (ap own_reach c.in-And.is) h) c.both.ensures.sound;
       told = IfOk-weaker c.both.result _ _
-          (λ r h. two_told g.P.Shape c.args.from c.args.to c.args.node.now c.in-And.p c.in-And.q c.args.done.now c.index-done-p-in-And.result
-          c.index-done-q.result r conjunction at_p at_q (λ at i. ap (tree_of at i) c.in-And.is) h) c.both.ensures.told;
+          (λ r h. two_told g.P.Shape c.args.from c.args.to r has h) c.both.ensures.told;
       wide = IfErr-weaker c.both.result _ _
-          (λ e h. two_fault g.P.Shape c.args.from c.args.to c.args.node.now c.in-And.p c.in-And.q c.args.done.now c.index-done-p-in-And.result
-          c.index-done-q.result e conjunction at_p at_q (λ at i. ap (tree_of at i) c.in-And.is) h) c.both.ensures.wide;
+          (λ e h. two_fault g.P.Shape c.args.from c.args.to e has h) c.both.ensures.wide;
     }
 
 pub either-requires : goal.either-requires
@@ -79,16 +78,15 @@ returns-in-Or g c =
     subst (HasChildrenBelow (length c.args.done.now)) c.in-Or.is c.requires.children in
     let at_p = slice_get_read c.args.done.now _ c.in-Or.p c.index-done-p-in-Or.result refl below.0 c.index-done-p-in-Or.is in
     let at_q = slice_get_read c.args.done.now _ c.in-Or.q c.index-done-q-in-Or.result refl below.1 c.index-done-q-in-Or.is in
+    let has : HasTwo c.args.node.now c.in-Or.p c.in-Or.q c.args.done.now c.index-done-p-in-Or.result c.index-done-q-in-Or.result disjunction =
+    record { at_p = at_p; at_q = at_q; is = λ at i. ap (tree_of at i) c.in-Or.is } in
     record {
       sound = IfOk-weaker c.either.result _ _
-          (λ r h. two_sound g.P.Shape c.args.from c.args.to c.args.node.now c.in-Or.p c.in-Or.q 0 c.args.done.now c.index-done-p-in-Or.result
-          c.index-done-q-in-Or.result r at_p at_q (ap own_reach c.in-Or.is) h) c.either.ensures.sound;
+          (λ r h. two_sound g.P.Shape c.args.from c.args.to 0 r has (ap own_reach c.in-Or.is) h) c.either.ensures.sound;
       told = IfOk-weaker c.either.result _ _
-          (λ r h. two_told g.P.Shape c.args.from c.args.to c.args.node.now c.in-Or.p c.in-Or.q c.args.done.now c.index-done-p-in-Or.result
-          c.index-done-q-in-Or.result r disjunction at_p at_q (λ at i. ap (tree_of at i) c.in-Or.is) h) c.either.ensures.told;
+          (λ r h. two_told g.P.Shape c.args.from c.args.to r has h) c.either.ensures.told;
       wide = IfErr-weaker c.either.result _ _
-          (λ e h. two_fault g.P.Shape c.args.from c.args.to c.args.node.now c.in-Or.p c.in-Or.q c.args.done.now c.index-done-p-in-Or.result
-          c.index-done-q-in-Or.result e disjunction at_p at_q (λ at i. ap (tree_of at i) c.in-Or.is) h) c.either.ensures.wide;
+          (λ e h. two_fault g.P.Shape c.args.from c.args.to e has h) c.either.ensures.wide;
     }
 
 pub implied-requires : goal.implied-requires
@@ -106,16 +104,15 @@ returns-in-Implies g c =
     subst (HasChildrenBelow (length c.args.done.now)) c.in-Implies.is c.requires.children in
     let at_p = slice_get_read c.args.done.now _ c.in-Implies.p c.index-done-p-in-Implies.result refl below.0 c.index-done-p-in-Implies.is in
     let at_q = slice_get_read c.args.done.now _ c.in-Implies.q c.index-done-q-in-Implies.result refl below.1 c.index-done-q-in-Implies.is in
+    let has : HasTwo c.args.node.now c.in-Implies.p c.in-Implies.q c.args.done.now c.index-done-p-in-Implies.result c.index-done-q-in-Implies.result implication =
+    record { at_p = at_p; at_q = at_q; is = λ at i. ap (tree_of at i) c.in-Implies.is } in
     record {
       sound = IfOk-weaker c.implied.result _ _
-          (λ r h. two_sound g.P.Shape c.args.from c.args.to c.args.node.now c.in-Implies.p c.in-Implies.q 0 c.args.done.now
-          c.index-done-p-in-Implies.result c.index-done-q-in-Implies.result r at_p at_q (ap own_reach c.in-Implies.is) h) c.implied.ensures.sound;
+          (λ r h. two_sound g.P.Shape c.args.from c.args.to 0 r has (ap own_reach c.in-Implies.is) h) c.implied.ensures.sound;
       told = IfOk-weaker c.implied.result _ _
-          (λ r h. two_told g.P.Shape c.args.from c.args.to c.args.node.now c.in-Implies.p c.in-Implies.q c.args.done.now
-          c.index-done-p-in-Implies.result c.index-done-q-in-Implies.result r implication at_p at_q (λ at i. ap (tree_of at i) c.in-Implies.is) h)
+          (λ r h. two_told g.P.Shape c.args.from c.args.to r has h)
           c.implied.ensures.told;
       wide = IfErr-weaker c.implied.result _ _
-          (λ e h. two_fault g.P.Shape c.args.from c.args.to c.args.node.now c.in-Implies.p c.in-Implies.q c.args.done.now
-          c.index-done-p-in-Implies.result c.index-done-q-in-Implies.result e implication at_p at_q (λ at i. ap (tree_of at i) c.in-Implies.is) h)
+          (λ e h. two_fault g.P.Shape c.args.from c.args.to e has h)
           c.implied.ensures.wide;
     }

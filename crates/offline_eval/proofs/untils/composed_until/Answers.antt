@@ -78,12 +78,18 @@ returns-clause-sound g c =
     let begins = same_trans c.in_ok-within.ensures.worth.begins (same_sym c.requires.fit.begins) in
     let ends = same_trans c.in_ok-within.ensures.worth.ends (same_sym c.requires.fit.ends) in
     ok_both c.lower.result c.lower.ensures.worth c.lower.ensures.shapes
-    (λ r worth shapes. stay_sound g.P.Shape (assumption g.met.P.Shape) own c.args.x.now c.args.y.now r
-    (same_trans worth.begins begins) (same_trans worth.ends ends)
-    (limited_along g.P.Shape _ within r inside worth (least_of_bounded g.P.Shape within kept inside (small_kept g at.In_ok-kept)))
-    (composed_moved g.P.Shape c.args.low own c.args.x.now c.args.y.now within made kept r c.requires.order
-    (ahead_from g.P.Shape c.args.low c.args.high c.args.y.now within c.requires.order c.in_ok-within.ensures.bases) c.in_ok-to_end.ensures.bases
-    (ahead_from g.P.Shape 0 c.args.low made kept (from_zero c.args.low) c.in_ok-kept.ensures.bases) shapes))
+    (λ r worth shapes. stay_sound g.P.Shape (assumption g.met.P.Shape) own c.args.x.now c.args.y.now r (record {
+      begins = same_trans worth.begins begins;
+      ends = same_trans worth.ends ends;
+      limited = limited_along g.P.Shape _ within r inside worth (least_of_bounded g.P.Shape within kept inside (small_kept g at.In_ok-kept));
+      moved = composed_moved g.P.Shape c.args.low own c.args.x.now c.args.y.now within made kept r (record {
+        order = c.requires.order;
+        within = ahead_from g.P.Shape c.args.low c.args.high c.args.y.now within c.requires.order c.in_ok-within.ensures.bases;
+        both = c.in_ok-to_end.ensures.bases;
+        kept = ahead_from g.P.Shape 0 c.args.low made kept (from_zero c.args.low) c.in_ok-kept.ensures.bases;
+        shapes = shapes;
+      });
+    }))
   where
     from_zero : (n : ℕ) → 0 ≤ n
     from_zero n = omega arith

@@ -7,9 +7,12 @@ use Rattle.offline_eval.proofs.untils.since_so_far.Goals as goal
 
 pub returns-clause-sound : goal.returns-clause-sound
 returns-clause-sound g c = ok_both c.since_from_start.result c.since_from_start.ensures.worth c.since_from_start.ensures.bases
-    (λ r worth bases. stay_sound g.P.Shape (assumption g.met.P.Shape) (reach_of_bound 0 c.args.high) c.args.x.now c.args.y.now r worth.begins worth.ends
-    (from_start_fit g.P.Shape (assumption g.met.P.Shape) c.args.x.now c.args.y.now r c.requires.fit worth bases).limited
-    (of_two_more g.P.Shape (assumption g.met.P.Shape) (reach_of_bound 0 c.args.high) c.args.x.now c.args.y.now r bases))
+    (λ r worth bases. stay_sound g.P.Shape (assumption g.met.P.Shape) (reach_of_bound 0 c.args.high) c.args.x.now c.args.y.now r (record {
+      begins = worth.begins;
+      ends = worth.ends;
+      limited = (from_start_fit g.P.Shape (assumption g.met.P.Shape) c.args.x.now c.args.y.now r c.requires.fit worth bases).limited;
+      moved = of_two_more g.P.Shape (assumption g.met.P.Shape) (reach_of_bound 0 c.args.high) c.args.x.now c.args.y.now r bases;
+    }))
 
 pub returns-clause-told : goal.returns-clause-told
 returns-clause-told g c = IfOk-weaker c.since_from_start.result _ _

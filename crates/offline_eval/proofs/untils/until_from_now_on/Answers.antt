@@ -6,9 +6,12 @@ use Rattle.offline_eval.proofs.untils.until_from_now_on.Goals as goal
 
 pub returns-clause-sound : goal.returns-clause-sound
 returns-clause-sound g c = ok_both c.until_to_end.result c.until_to_end.ensures.worth c.until_to_end.ensures.bases
-    (λ r worth bases. stay_sound g.P.Shape (assumption g.met.P.Shape) c.args.high c.args.x.now c.args.y.now r worth.begins worth.ends
-    (to_end_fit g.P.Shape (assumption g.met.P.Shape) c.args.x.now c.args.y.now r c.requires.fit worth bases).limited
-    (of_two_more g.P.Shape (assumption g.met.P.Shape) c.args.high c.args.x.now c.args.y.now r bases))
+    (λ r worth bases. stay_sound g.P.Shape (assumption g.met.P.Shape) c.args.high c.args.x.now c.args.y.now r (record {
+      begins = worth.begins;
+      ends = worth.ends;
+      limited = (to_end_fit g.P.Shape (assumption g.met.P.Shape) c.args.x.now c.args.y.now r c.requires.fit worth bases).limited;
+      moved = of_two_more g.P.Shape (assumption g.met.P.Shape) c.args.high c.args.x.now c.args.y.now r bases;
+    }))
 
 pub returns-clause-told : goal.returns-clause-told
 returns-clause-told g c = IfOk-weaker c.until_to_end.result _ _

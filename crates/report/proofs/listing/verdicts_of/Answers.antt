@@ -36,9 +36,9 @@ loop-i-preserved c =
     c.in_ok-add_ended-2.ensures ∙ ap (λ vs. vs ++ listed c.advance-by_gap.result.1) c.in_ok-add_ended.ensures in
     subst (λ vs. IsSpelledTo s (c.loop-i.i + 1 - 1) vs c.advance-by_gap.new.self) (sym is)
     (subst (λ i. IsSpelledTo s i all c.advance-by_gap.new.self) there
-    (spelled_advance s (c.loop-i.i - 1) c.loop-i.all.items c.loop-i.span c.advance-by_gap.new.self c.knot-in-loop-i.result c.knot-in-loop-i-2.result
+    (spelled_advance s (c.loop-i.i - 1) c.advance-by_gap.new.self c.knot-in-loop-i.result c.knot-in-loop-i-2.result
     c.advance-by_gap.result.0 c.advance-by_gap.result.1 c.len-knots.ensures.signal c.knot-in-loop-i.ensures
-    (subst (λ n. slice_get s n ≡ Some c.knot-in-loop-i-2.result) next c.knot-in-loop-i-2.ensures) c.advance-by_gap.ensures c.loop-i.invariant))
+    (subst (λ n. slice_get s n ≡ Some c.knot-in-loop-i-2.result) next c.knot-in-loop-i-2.ensures) c.loop-i.invariant c.advance-by_gap.ensures))
 
 pub close-last-requires : goal.close-last-requires
 close-last-requires c =

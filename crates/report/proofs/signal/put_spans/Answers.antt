@@ -51,10 +51,10 @@ module _ (c : After-advance-by_gap) where
 
   advanced : IsSpelledTo c.args.s.now ((c.loop-i.i - 1) + 1) ((vs ++ gap) ++ point) c.advance-by_gap.new.self
   advanced =
-      spelled_advance c.args.s.now (c.loop-i.i - 1) vs c.loop-i.span c.advance-by_gap.new.self c.knot.result c.knot-in-loop-i.result c.advance-by_gap.result.0
+      spelled_advance c.args.s.now (c.loop-i.i - 1) c.advance-by_gap.new.self c.knot.result c.knot-in-loop-i.result c.advance-by_gap.result.0
       c.advance-by_gap.result.1
       c.len-knots.ensures.signal c.knot.ensures (subst (λ n. slice_get c.args.s.now n
-      ≡ Some c.knot-in-loop-i.result) next c.knot-in-loop-i.ensures) c.advance-by_gap.ensures c.loop-i.invariant.1
+      ≡ Some c.knot-in-loop-i.result) next c.knot-in-loop-i.ensures) c.loop-i.invariant.1 c.advance-by_gap.ensures
 
   to_end : (later : List Verdict) × (end : Verdict)
       × DescribesFunction (IsWorth truth_shape c.args.s.now) (((vs ++ gap) ++ point) ++ (later ++ end ∷ [])) (closed (start c.args.s.now) (stop c.args.s.now))

@@ -28,6 +28,12 @@ returns-clause-told g c from to s over before own was =
     let y = c.args.signal in
     let st = subst (IsStack g.P.Shape from to nodes i) (sym c.self.view_is) before in
     let pushed : c.push.new.self.items ≡ old ++ y ∷ [] = search (rules, c.push.ensures.items, c.if-is_err.false, c.is_err.ensures) in
-    stack_next g.P.Shape nodes s from to i (Leaf c.requires.0) old c.push.new.self.items y c.len.ensures.well_formed.nodes.post_order c.requires.1 st.count over
-    (subst (AreGivenUp g.P.Shape from to [] (old ++ y ∷ [])) (sym pushed) (none_given_up g.P.Shape from to (old ++ y ∷ []))) own
+    stack_next g.P.Shape nodes s from to i (Leaf c.requires.0) old c.push.new.self.items y (record {
+      order = c.len.ensures.well_formed.nodes.post_order;
+      there = c.requires.1;
+      count = st.count;
+      over = over;
+      given = subst (AreGivenUp g.P.Shape from to [] (old ++ y ∷ [])) (sym pushed) (none_given_up g.P.Shape from to (old ++ y ∷ []));
+      own = own;
+    })
     (subst (TellsStack g.P.Shape nodes s i) (sym c.self.view_is) was)

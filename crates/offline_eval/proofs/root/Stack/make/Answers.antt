@@ -74,8 +74,14 @@ returns-else-is_err-clause-told g c s over was =
     let before = subst (TellAt shape s (kept nodes i)) (sym c.deref.ensures.value) st.told in
     let same : tree_of (kept nodes i) i n ≡ subformula nodes i =
     kept_agrees nodes i order n c.node-next.ensures.node ∙ sym c.node-next.ensures.subformula in
-    stack_next shape nodes s c.args.from c.args.to i n old new y order c.node-next.ensures.node count over given
-    (subst (λ t. TellsValue shape s t y) same (c.in-Ok.ensures.told s (kept nodes i) i over before)) st
+    stack_next shape nodes s c.args.from c.args.to i n old new y (record {
+      order = order;
+      there = c.node-next.ensures.node;
+      count = count;
+      over = over;
+      given = given;
+      own = subst (λ t. TellsValue shape s t y) same (c.in-Ok.ensures.told s (kept nodes i) i over before);
+    }) st
 
 pub returns-in-Err-clause-wide : goal.returns-in-Err-clause-wide
 returns-in-Err-clause-wide g c s over was =
