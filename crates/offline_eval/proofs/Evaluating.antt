@@ -93,7 +93,8 @@ module _ {P : Type 0} (shape : ShapeOf P) (from to : ℕ) where
 
 module _ {P : Type 0} (shape : ShapeOf P) where
   -- the node's signal tells it among all
-  pub told_pushed : {ys : List (List (Knot P))} (nodes : List Node) (s : Setting) (i : ℕ) (xs : List (List (Knot P))) (y : List (Knot P)) → length xs ≡ i → ys ≡ xs ++ y ∷ []
+  pub told_pushed : {ys : List (List (Knot P))} (nodes : List Node) (s : Setting) (i : ℕ) (xs : List (List (Knot P)))
+      (y : List (Knot P)) → length xs ≡ i → ys ≡ xs ++ y ∷ []
       → TellAt shape s (subformula nodes) xs → TellsValue shape s (subformula nodes i) y
       → TellAt shape s (subformula nodes) ys
   told_pushed nodes s i xs y count e all new k x there = by_place (slice_get-push_cases xs y k x (subst (λ l. slice_get l k ≡ Some x) e there))

@@ -182,8 +182,15 @@ module _ {P : Type 0} (shape : ShapeOf P) (scale : Scale) where
           let here = drop_on ks (suc i) n at_next in
           let same : n ≡ m = let g = sym here ∙ f in cc in
           let same_rest : drop (suc (suc i)) ks ≡ rest = let g = sym here ∙ f in cc in
-          let all = before k (n ∷ rest) (piece ++ knot ++ later) (drop_on ks i k at ∙ ap (λ xs. k ∷ xs) (here ∙ ap (λ xs. n ∷ xs) same_rest))
-          (piece, knot, later, is_piece, is_knot, subst (λ l. ArePieceLines scale (plain_knot shape l) (pieces_of shape l rest) later) (sym same) lines, refl) in
+          let all = before k (n ∷ rest) (piece ++ knot ++ later) (drop_on ks i k at ∙ ap (λ xs. k ∷ xs) (here ∙ ap (λ xs. n ∷ xs) same_rest)) (
+            piece,
+            knot,
+            later,
+            is_piece,
+            is_knot,
+            subst (λ l. ArePieceLines scale (plain_knot shape l) (pieces_of shape l rest) later) (sym same) lines,
+            refl,
+          ) in
           subst (AreLaterLines shape scale ks) (simp (e, append_assoc)) all
 
   -- after the last piece all lines are written

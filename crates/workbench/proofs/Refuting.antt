@@ -90,4 +90,8 @@ pub accounted : (f : Formula) (bytes text : List ℕ) (status : ℕ) → IsAnswe
 unfolding Says
 accounted f bytes text status a =
     let (lines, line, body, explained, started, written, is) = a.written in
-    record { tr = a.tr; trace = a.trace; says = says f a.tr status lines body text a.sure a.verdict explained started.0 started.1 written (is ∙ ap (λ l. l ++ body) started.2) }
+    record {
+      tr = a.tr;
+      trace = a.trace;
+      says = says f a.tr status lines body text a.sure a.verdict explained started.0 started.1 written (is ∙ ap (λ l. l ++ body) started.2);
+    }

@@ -9,7 +9,8 @@ returns-clause-sound g c = ok_both c.upper.result c.upper.ensures.worth c.upper.
     (λ r worth shapes. stay_sound g.P.Shape (assumption g.met.P.Shape) 0 c.args.x.now c.args.y.now r (record {
       begins = worth.begins;
       ends = worth.ends;
-      limited = limited_along g.P.Shape _ c.args.x.now r c.requires.left worth (greatest_of_bounded g.P.Shape c.args.x.now c.args.y.now c.requires.left c.requires.right);
+      limited = limited_along g.P.Shape _ c.args.x.now r c.requires.left worth
+          (greatest_of_bounded g.P.Shape c.args.x.now c.args.y.now c.requires.left c.requires.right);
       moved = λ p h m. (p, shapes p h, not_moved (g.P.Shape.base p) (g.P.Shape.base p) refl);
     }))
 

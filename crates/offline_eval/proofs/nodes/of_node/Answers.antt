@@ -29,7 +29,8 @@ returns-in_ok-negated-in-Not g c =
     let below : c.in-Not.p < length c.args.done.now = subst (HasChildrenBelow (length c.args.done.now)) c.in-Not.is c.requires.children in
     let at_p = slice_get_read c.args.done.now _ c.in-Not.p c.index-done-p.result refl below c.index-done-p.is in
     let r = c.in_ok-negated-in-Not.field-0 in
-    let has : HasOne c.args.node.now c.in-Not.p c.args.done.now c.index-done-p.result negation = record { at_p = at_p; is = λ at i. ap (tree_of at i) c.in-Not.is } in
+    let has : HasOne c.args.node.now c.in-Not.p c.args.done.now c.index-done-p.result negation =
+    record { at_p = at_p; is = λ at i. ap (tree_of at i) c.in-Not.is } in
     record {
       sound = one_sound g.P.Shape c.args.from c.args.to c.args.node.now c.in-Not.p 0 c.args.done.now c.index-done-p.result r at_p
           (ap own_reach c.in-Not.is) c.in_ok-negated-in-Not.ensures.sound;
@@ -104,7 +105,8 @@ returns-in-Implies g c =
     subst (HasChildrenBelow (length c.args.done.now)) c.in-Implies.is c.requires.children in
     let at_p = slice_get_read c.args.done.now _ c.in-Implies.p c.index-done-p-in-Implies.result refl below.0 c.index-done-p-in-Implies.is in
     let at_q = slice_get_read c.args.done.now _ c.in-Implies.q c.index-done-q-in-Implies.result refl below.1 c.index-done-q-in-Implies.is in
-    let has : HasTwo c.args.node.now c.in-Implies.p c.in-Implies.q c.args.done.now c.index-done-p-in-Implies.result c.index-done-q-in-Implies.result implication =
+    let has : HasTwo c.args.node.now c.in-Implies.p c.in-Implies.q c.args.done.now c.index-done-p-in-Implies.result
+    c.index-done-q-in-Implies.result implication =
     record { at_p = at_p; at_q = at_q; is = λ at i. ap (tree_of at i) c.in-Implies.is } in
     record {
       sound = IfOk-weaker c.implied.result _ _

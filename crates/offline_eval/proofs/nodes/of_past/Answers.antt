@@ -26,7 +26,8 @@ returns-in-Since g c =
     record { at_p = at_p; at_q = at_q; is = λ at i. ap (tree_of at i) c.in-Since.is } in
     record {
       sound = IfOk-weaker c.bounded_since.result _ _
-          (λ r h. two_sound g.P.Shape c.args.from c.args.to (reach_of_bound c.in-Since.low c.in-Since.high) r has (ap own_reach c.in-Since.is) h) c.bounded_since.ensures.sound;
+          (λ r h. two_sound g.P.Shape c.args.from c.args.to (reach_of_bound c.in-Since.low c.in-Since.high) r has (ap own_reach c.in-Since.is) h)
+          c.bounded_since.ensures.sound;
       told = IfOk-weaker c.bounded_since.result _ _
           (λ r h. two_told g.P.Shape c.args.from c.args.to r has h)
           c.bounded_since.ensures.told;
