@@ -1,1 +1,0 @@
-RULES=[('Rattle.frac128.proofs.Wholes','same_at_tick',[(f,'at_row') for f in ('early_verdict/proofs/atoms/step_atom/Answers.antt','online_net/proofs/atom/put_first/Answers.antt','online_net/proofs/atom/put_last/Answers.antt','online_net/proofs/atom/say_gap/Answers.antt')])]

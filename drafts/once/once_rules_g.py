@@ -1,1 +1,0 @@
-RULES=[('Rattle.std.proofs.Math.Bool','or-false',[('stl_syntax/proofs/PostOrderLemmas.antt','or_false')])]
