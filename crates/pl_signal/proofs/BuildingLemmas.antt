@@ -223,7 +223,9 @@ module _ {P : Type 0} (shape : ShapeOf P) where
     pub count : length knots ≡ n + 2
     -- which stands next to p
     pub next : m ≡ n + 1
+    -- they stand at the two places
     pub first : p ≡ get_or knots n p
+    -- the second of them last
     pub second : l ≡ get_or knots m l
 
   split_ends : (old : List (Knot P)) (n m : ℕ) (p l : Knot P) → EndInTwo old n m p l → old ≡ take n old ++ p ∷ l ∷ []

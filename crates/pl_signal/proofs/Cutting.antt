@@ -169,10 +169,13 @@ module _ {P : Type 0} (shape : ShapeOf P) where
 
   -- where a stretch begins: with the knot k, at the place i, or after it and before the next
   pub record BeginsIn (ks : List (Knot P)) (i : ℕ) (k : Knot P) (from : Frac) (first : P) : Type 0 where
+    -- the place is one of the list
     pub inside : i < length ks
+    -- k stands there
     pub at_i : k ≡ get_or ks i k
     -- the shape with which it begins
     pub stands : StandsFrom k from first
+    -- the next knot comes after the beginning
     pub later : (b : Knot P) → slice_get ks (i + 1) ≡ Some b → value from <ʳ time b
 
   -- where it ends: after the knot p, at the place d, and before the next, n, or with that

@@ -60,17 +60,21 @@ module _ {P : Type 0} (shape : ShapeOf P) where
 
   -- the knots `old` tell what the signal of `ks` is worth at the time `back t` for t, and `new` goes on from them by the gap after k and the point of m
   pub record MovesOn (ks : List (Knot P)) (back : Rational → Rational) (k m : Knot P) (old new : List (Knot P)) : Type 0 where
-    -- the shape on the gap, the time of its end, and the shape there
+    -- the shape on the gap
     pub after : P
+    -- the time of its end
     pub at : Frac
+    -- the shape there
     pub point : P
-    -- what is told so far, and how it goes on
+    -- what is told so far
     pub so_far : TellsSoFar shape (λ t v. IsWorth shape ks (back t) v) old
+    -- how it goes on
     pub on : GoesOn shape old after at point new
     -- the end is the time of m moved
     pub arrives : back (value at) ≈ time m
-    -- the shapes are those of k and m moved
+    -- the shape of the gap is that after k, moved
     pub afters : (t : Rational) → value_at (shape.function after) t ≈ᵉ value_at (shape.function k.after) (back t)
+    -- and the one at its end that of the point of m
     pub points : (t : Rational) → value_at (shape.function point) t ≈ᵉ value_at (shape.function m.point) (back t)
 
   -- one knot more

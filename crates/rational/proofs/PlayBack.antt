@@ -141,10 +141,10 @@ module _ {P P' Q Q' R R' : Function} {from to from' to' : Rational} (back : AreB
       ))
 
   -- a crossing that is in play
-  pub crossing_cause : (f g f' g' : Affine) (a b a' b' : Rational) (den : ℕ) → IsBack f' f → IsBack g' g → a ≈ negate b' → b ≈ negate a'
+  pub crossing_cause : {f' g' : Affine} {a' b' : Rational} {den : ℕ} (f g : Affine) (a b : Rational) → IsBack f' f → IsBack g' g → a ≈ negate b' → b ≈ negate a'
       → IsWideCrossing (IsInPlay (since_start P' Q' R') from' to') from' to' f' g' a' b' den
       → IsWideCrossing (IsInPlay (until_end P Q R) from to) from to f g a b den
-  crossing_cause f g f' g' a b a' b' den h k e e' w = record {
+  crossing_cause {f'} {g'} {a'} {b'} {den} f g a b h k e e' w = record {
     tau = negate w.tau;
     after_start = lt_of_le_of_lt (le_of_same back.first) (lt_negate w.before_stop);
     before_stop = lt_of_lt_of_le (lt_negate w.after_start) (ge_of_same back.last);

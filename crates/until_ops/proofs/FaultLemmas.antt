@@ -23,7 +23,7 @@ module _ {P P' Q Q' R R' : Function} {from to from' to' : Rational} (back : AreB
       → IsWideCause shape (since_start P' Q' R') from' to' old → IsWideCause shape (until_end P Q R) from to new
   pair_back shape (Cross p q a b den) new (p', q', a', b', same, f, g, e, e') h =
       subst (IsWideCause shape (until_end P Q R) from to) (sym same)
-      (crossing_cause back (shape.function p') (shape.function q') (shape.function p) (shape.function q) (value a') (value b') (value a) (value b) den
+      (crossing_cause back (shape.function p') (shape.function q') (value a') (value b')
       (turned_of (shape.function p) (shape.function p') f) (turned_of (shape.function q) (shape.function q') g)
       (same_trans e (about_zero (value b))) (same_trans e' (about_zero (value a))) h)
   pair_back shape (Value p at den) new (p', at', same, f, e) h =
