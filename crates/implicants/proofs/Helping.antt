@@ -26,6 +26,7 @@ use Rattle.implicants.specs.Signs.{sign_at, AreSigned}
 pub high_least : (v w r : Extended) → one ≤ᵉ v → one ≤ᵉ w → IsLeast v w r → one ≤ᵉ r
 high_least v w r h k l = elim l.one_of [ inl x ↦ le_transᵉ one v r h x | inr x ↦ le_transᵉ one w r k x ]
 
+-- the greatest of two values that are low is low
 pub low_greatest : (v w r : Extended) → v ≤ᵉ minus_one → w ≤ᵉ minus_one → IsGreatest v w r → r ≤ᵉ minus_one
 low_greatest v w r h k l = elim l.one_of [ inl x ↦ le_transᵉ r v minus_one x h | inr x ↦ le_transᵉ r w minus_one x k ]
 

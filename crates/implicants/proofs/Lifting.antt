@@ -131,6 +131,7 @@ module _ (nodes : List Node) (tr : Trace) (all : List Item) (marks : List Bool) 
   both_best_in xs k best x y r l same is first second = λ z at.
       subst (HasBest kleene_shape nodes tr all marks c signs k) (sym (set_here xs k r z l at)) (both_best k best x y r same is first second)
 
+  -- a best signal that is put at its own place is the best there
   pub put_best_in : (xs : List (List (Knot Kleene))) (k i : ℕ) (y : List (Knot Kleene)) → k ≡ i → i < length xs
       → HasBest kleene_shape nodes tr all marks c signs k y → HasBestIn kleene_shape nodes tr all marks c signs i (set xs k y)
   put_best_in xs k i y same l best z at = by_place k same best at

@@ -107,7 +107,9 @@ module _ (nodes : List Node) (tr : Trace) (all : List Item) (ends : List ℕ) (i
 
 -- marks that were put where cells are needed, at places from c on
 pub record PutsFrom (nodes : List Node) (tr : Trace) (all : List Item) (left c : ℕ) (old new : List Bool) : Type 0 where
+  -- what was marked stays marked
   pub stay : (k : ℕ) → slice_index_or old k false ≡ true → slice_index_or new k false ≡ true
+  -- and what is marked now was, or is needed
   pub only : (k : ℕ) → slice_index_or new k false ≡ true
       → (slice_index_or old k false ≡ true) ⊎ ((c ≤ k) × (k < left) × IsNeeded nodes tr all new k)
 

@@ -25,7 +25,7 @@ use Rattle.rational.specs.UntilParts.{HasUntilToEnd, HasSinceFromStart, UntilIsC
 use Rattle.until_ops.specs.Untils.{BasesOfTwo, UntilOf, SinceOf, UntilStep, SinceStep}
 use Rattle.stl_syntax.specs.Formula.{Subformula, until, since}
 use Rattle.stl_syntax.specs.SupInf.{Setting, SupInf}
-use Rattle.stl_syntax.specs.WideCause.{until_to_end, since_from_start, always_ahead, sup_ahead, inf_behind, sup_behind}
+use Rattle.stl_syntax.specs.WideCause.{until_to_end, since_from_start, inf_ahead, sup_ahead, inf_behind, sup_behind}
 use Rattle.offline_eval.specs.Making.{HasEnds, IsFit, AreFit, IsFaultOf}
 use Rattle.offline_eval.proofs.Along.{within_same_ends, tells_along}
 use Rattle.rational.proofs.Bounds.{sup_bounded, least_bounded}
@@ -467,7 +467,7 @@ module _ {P : Type 0} (shape : ShapeOf P) (s : Setting) (p q : Subformula) (ends
   module _ (u : List (Knot P)) where
     kept_ahead : (a : ℕ) (d : List (Knot P)) → Tells shape (UntilOf shape x y) (start x) (stop x) u
         → Tells shape (InfAhead (start u) (stop u) (IsWorth shape u) shape.highest 0 a true true) (start u) (stop u) d
-        → Tells shape (always_ahead s 0 a (until_to_end s (SupInf p s) (SupInf q s))) s.from s.to d
+        → Tells shape (inf_ahead s 0 a (until_to_end s (SupInf p s) (SupInf q s))) s.from s.to d
     kept_ahead a d to_end made =
         subst (λ h. Tells shape (λ t v. IsInfOver h (Ahead s.from s.to 0 a true true t) (until_to_end s (SupInf p s) (SupInf q s)) v) s.from s.to d)
         (sym ends.highest)
@@ -499,7 +499,7 @@ module _ {P : Type 0} (shape : ShapeOf P) (s : Setting) (p q : Subformula) (ends
         → Tells shape (InfAhead (start u) (stop u) (IsWorth shape u) shape.highest 0 a true true) (start u) (stop u) d
         → IsFault shape (IsWorth shape c) (IsWorth shape d) (start c) (stop c) e → IsFaultOf shape s (until a b p q) e
     until_least_fault a b c d e within to_end kept h =
-        meeting_fault shape (sup_ahead s a b (SupInf q s)) (always_ahead s 0 a (until_to_end s (SupInf p s) (SupInf q s))) c d (until a b p q) s e
+        meeting_fault shape (sup_ahead s a b (SupInf q s)) (inf_ahead s 0 a (until_to_end s (SupInf p s) (SupInf q s))) c d (until a b p q) s e
         (within_ahead a b c within) (kept_ahead a d to_end kept) (λ C i. inr (inr (inr i))) h
 
     -- for since: of the first window

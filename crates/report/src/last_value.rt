@@ -1,6 +1,6 @@
 //! The text of the value that was written last. A piece mostly begins with the value of the knot before it, and then the text is copied.
-ghost use Rattle.std.specs.Prelude.{◌≡◌, ◌≤◌, ◌-◌, ◌^◌, length, take, drop, IsTrue};
-ghost use Rattle.rational.specs.Rational.{IsWithin};
+ghost use Rattle.std.specs.Prelude.{◌≡◌, ◌≤◌, ◌-◌, ◌^◌, length, take, drop, pos, IsTrue};
+ghost use Rattle.rational.specs.Rational.{◌≈◌, IsWithin, whole};
 ghost use Rattle.rational.specs.Extended.{value_at, ◌≈ᵉ◌};
 ghost use Rattle.frac128.specs.Value.{value};
 ghost use Rattle.value_laws.specs.Margins.{margin_function};
@@ -55,7 +55,9 @@ fn is_one_value(m: &Margin, at: &Frac, decimals: u8, n: &Margin, t: &Frac, digit
 
 impl LastValue {
     /// Nothing was written yet: it has the text of the value 0.
-    pub(crate) fn new() -> LastValue {
+    pub(crate) fn new() -> LastValue
+        ensures { value result ≈ whole (pos 0) }
+    {
         let zero = Frac::of(0);
         LastValue {
             margin: Margin::Fixed(zero),

@@ -43,7 +43,9 @@ cut_none Reply before after e = record { first = []; added = e ∙ sym (append-n
 
 -- the text of what a session had got, and more of it by what it has got now
 pub record Grows (f : Formula) (o p : Own) (said grown : List ℕ) : Type 0 where
+  -- what was said is the text of what it had got
   pub was : IsOwnText f o said
+  -- and with what is said now, the text of what it has got now
   pub is : IsOwnText f p (said ++ grown)
 
 module _ {f : Formula} {o p : Own} {said grown : List ℕ} (g : Grows f o p said grown) (tag : List ℕ) where

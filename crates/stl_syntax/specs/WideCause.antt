@@ -18,8 +18,8 @@ abbrev pub since_from_start : Setting → Function → Function → Function
 since_from_start s P Q = SinceFromStart s.lowest s.highest s.from P Q
 
 -- the Inf of P over the window ahead
-abbrev pub always_ahead : Setting → ℕ → ℕ → Function → Function
-always_ahead s a b P = λ t. IsInfOver s.highest (Ahead s.from s.to a b true true t) P
+abbrev pub inf_ahead : Setting → ℕ → ℕ → Function → Function
+inf_ahead s a b P = λ t. IsInfOver s.highest (Ahead s.from s.to a b true true t) P
 
 -- the Sup of P over the window ahead
 abbrev pub sup_ahead : Setting → ℕ → ℕ → Function → Function
@@ -53,7 +53,7 @@ IsStepOf (until a b p q) s C =
     C (window_ahead (SupInf q s) a b true true)
     ⊎ C (until_end (SupInf p s) (SupInf q s) (until_to_end s (SupInf p s) (SupInf q s)))
     ⊎ C (window_ahead (until_to_end s (SupInf p s) (SupInf q s)) 0 a true true)
-    ⊎ C (of_two (sup_ahead s a b (SupInf q s)) (always_ahead s 0 a (until_to_end s (SupInf p s) (SupInf q s))))
+    ⊎ C (of_two (sup_ahead s a b (SupInf q s)) (inf_ahead s 0 a (until_to_end s (SupInf p s) (SupInf q s))))
 IsStepOf (since a b p q) s C =
     C (window_behind (SupInf q s) a b true true)
     ⊎ C (since_start (SupInf p s) (SupInf q s) (since_from_start s (SupInf p s) (SupInf q s)))

@@ -254,18 +254,28 @@ times_more (q ∷ rows) r = ap (λ l. q.time ∷ l) (times_more rows r)
 
 -- once the text that was owed is made, the network is that which the takes left, and no time or verdict waits
 pub record OwesNoMore (v : Verdicts) (given : Network) (after : Verdicts) : Type 0 where
+  -- the network is the one that the takes left
   pub network : after.network ≡ given
+  -- of the formula of before
   pub formula : given.formula ≡ v.network.formula
+  -- the horizon of before
   pub horizon : after.horizon ≡ v.horizon
+  -- no row waits for its text
   pub times : after.times.items ≡ []
+  -- and no verdict
   pub pending : after.pending ≡ []
 
 -- beside the network's parts, what a row whose text is owed changes: its time is kept
 pub record KeepsTime (v after : Verdicts) (r : Row) : Type 0 where
+  -- the formula of before
   pub formula : after.network.formula ≡ v.network.formula
+  -- the start of before
   pub start : after.network.start ≡ v.network.start
+  -- the horizon of before
   pub horizon : after.horizon ≡ v.horizon
+  -- the row's time waits behind the others
   pub times : after.times.items ≡ v.times.items ++ r.time ∷ []
+  -- the verdicts that waited
   pub pending : after.pending ≡ v.pending
 
 -- the first row whose text is owed
