@@ -6,24 +6,17 @@ use Rattle.stl_syntax.specs.Trace.{Trace}
 use Rattle.online_nodes.specs.Answering.{AreNearEnds, CanAnswer, CanRelease, HaveTwo, IsInput}
 use Rattle.rational.specs.Places.{Place}
 use Rattle.online_nodes.specs.Held.{Held}
-use Rattle.online_nodes.specs.Kinds.{IsNear, inputs_of}
+use Rattle.online_nodes.specs.Kinds.{inputs_of}
 use Rattle.online_nodes.specs.Stepping.{Situation, IsBegun, IsDue}
 use Rattle.online_nodes.specs.declared.answering.Outcome.{Outcome}
 use Rattle.online_nodes.specs.declared.kind.Kind.{Kind}
-use Rattle.online_nodes.specs.declared.kind.Kind.TheVariants.{
-  Const as Constant,
-  Not as Negation,
-  Join as Connective,
-  Ahead,
-  Behind,
-  Until as UntilOf,
-  Since as SinceOf,
-}
+use Rattle.online_nodes.specs.declared.kind.Kind.TheVariants.{Const as Constant, Not as Negation, Join as Connective, Ahead}
+use Rattle.online_nodes.specs.declared.kind.Kind.TheVariants.{Behind, Until as UntilOf, Since as SinceOf}
 use Rattle.online_nodes.specs.declared.operator.Operator.{Operator}
 use Rattle.online_nodes.specs.declared.since.Since.{Since as SinceWindow}
 use Rattle.online_nodes.specs.declared.until.Until.{Until as UntilWindow}
 use Rattle.online_nodes.specs.declared.window.Window.{Window}
-use Rattle.online_nodes.proofs.DueLemmas.{among_apart, among_within, front_by_now, two_apart}
+use Rattle.online_nodes.proofs.DueLemmas.{among_apart, among_within, two_apart}
 use Rattle.online_nodes.proofs.SinceWorked.{HasSince, has_since, since_backward, since_fits, since_left, since_right, since_run_fits}
 use Rattle.online_nodes.proofs.SweptLemmas.{has_window, window_fits}
 use Rattle.online_nodes.proofs.UntilWorked.{HasUntil, has_until, until_fits, until_left, until_right}
@@ -46,10 +39,6 @@ near_since has =
     ((omega (arith, ints), omega (arith, ints)), (omega (arith, ints), omega (arith, ints)))
 
 module _ {x : Situation} {op : Operator} {old : Held} (d : IsDue x op old) where
-  -- the number that it comes to can be moved by them
-  pub front_near : IsNear x.front
-  front_near = let a = d.low in let b = front_by_now d in let c = d.small in (omega (arith, ints), omega (arith, ints))
-
   is_input : (k : Kind) → op.kind ≡ k → (j : ℕ) → IsInput k j → IsInput op.kind j
   is_input k e j h = subst (λ k. IsInput k j) (sym e) h
 

@@ -41,19 +41,16 @@ use Rattle.online_nodes.proofs.SteppedLemmas.{emitted_here, reached-here, reache
 
 -- a node's side is an input of it
 pub side_input : (k : Kind) (left : Bool) (j : ℕ) → IsOperand k left j → IsInput k j
-side_input (Constant b) left j h = absurd h
 side_input (Negation p) true j h = h
-side_input (Negation p) false j h = absurd h
 side_input (Connective join inputs) true j h = inl h
 side_input (Connective join inputs) false j h = inr h
 side_input (Ahead w) true j h = h
-side_input (Ahead w) false j h = absurd h
 side_input (Behind w) true j h = h
-side_input (Behind w) false j h = absurd h
 side_input (UntilOf u) true j h = inl h
 side_input (UntilOf u) false j h = inr h
 side_input (SinceOf s) true j h = inl h
 side_input (SinceOf s) false j h = inr h
+side_input _ _ j h = absurd h
 
 -- more was put onto a node's edge
 put_on : {kind : Kind} {old mid put : Held} {own : ℕ} {more last : List Verdict} → own < length old.edges

@@ -1,15 +1,14 @@
 -- What the body of a node did, whatever its kind.
 use Rattle.std.proofs.Common.{◌≡◌, ◌≢◌, ◌⊎◌, inl, inr, refl, sym, ap, subst, ◌∙◌, ℕ, ◌+◌, ◌*◌, ℤ, pos, ◌+ℤ◌, get_or, ◌<◌}
-use Rattle.std.proofs.Common.{◌≤◌, Bool, true, false, not, Option, Some, None, List, ◌++◌, length, arith, length-append}
-use Rattle.std.specs.Prelude.{cond, int_lt}
+use Rattle.std.proofs.Common.{◌≤◌, Bool, true, false, not, Option, Some, None, List, length, arith, length-append}
 use Rattle.stl_syntax.specs.declared.items.Verdict.{Verdict}
 use Rattle.std.proofs.lemmas.Int.{ints}
 use Rattle.std.proofs.lemmas.List.{get_or-set_other, length-set}
-use Rattle.online_nodes.specs.Held.{Held, Edge, no_edge, edge_at, fresh_at, held_at, with_edge, with_more, IsDroppedBy}
-use Rattle.online_nodes.specs.Written.{HasFinished, HasGot, IsSound, waiting}
+use Rattle.online_nodes.specs.Held.{Held, no_edge, edge_at, fresh_at, held_at, with_edge, IsDroppedBy}
+use Rattle.online_nodes.specs.Written.{IsSound, waiting}
 use Rattle.online_nodes.specs.Working.{HasWorked, IsReadOn}
-use Rattle.online_nodes.specs.Kinds.{held_in, inputs_of, IsNear}
-use Rattle.online_nodes.specs.Answering.{back_by, is_empty, looks_by, CanAnswer, HasBody, HasReleased}
+use Rattle.online_nodes.specs.Kinds.{held_in, inputs_of}
+use Rattle.online_nodes.specs.Answering.{is_empty, looks_by, CanAnswer, HasBody, HasReleased}
 use Rattle.online_nodes.specs.Answering.{HasReleasedTwo, HasSweptAll, HasToldAll, HasWorkedOn, IsInput, IsOperand}
 use Rattle.online_nodes.specs.declared.answering.Outcome.{Outcome}
 use Rattle.online_nodes.specs.declared.answering.Marks.{Marks}
@@ -17,7 +16,7 @@ use Rattle.online_nodes.specs.declared.kind.Kind.{Kind}
 use Rattle.online_nodes.specs.declared.kind.Kind.TheVariants.{Const, Not, Join, Ahead, Behind, Until, Since}
 use Rattle.online_nodes.specs.declared.window.Window.{Window}
 use Rattle.online_nodes.specs.declared.writer.Out.{Out}
-use Rattle.online_nodes.proofs.GotLemmas.{got-here, got-length, got-other, with_more-both}
+use Rattle.online_nodes.proofs.GotLemmas.{got-here, got-length, got-other}
 use Rattle.online_nodes.proofs.WorkLemmas.{read_none}
 
 -- what was put and read, and up to where the node is told
@@ -171,25 +170,6 @@ pub record HasPutAll (kind : Kind) (old new : Held) (out : Out) : Type 0 where
   -- at most two for each verdict that was held, and two
   pub few : length more ≤ 2 * held_in old (inputs_of kind) + 2
 
--- once what still waits is put too, all is put
-pub put_all : {kind : Kind} {old mid new : Held} {out : Out} {told : Outcome} → ((j : ℕ) → IsInput kind j → j ≢ out.edge)
-    → out.edge < length old.edges → HasCarried kind old mid out told → HasFinished mid new told.out → HasPutAll kind old new out
-put_all {kind} {old} {mid} {new} {out} {told} apart own c f =
-    let got : HasGot mid new out.edge f.more = subst (λ i. HasGot mid new i f.more) c.edge f.got in
-    let own_mid : out.edge < length mid.edges = omega (arith, own, c.worked.count) in
-    record {
-      more = c.more ++ f.more;
-      worked = record {
-        count = got-length got ∙ c.worked.count;
-        got = got-here got own_mid ∙ ap (λ x. with_more x f.more) c.worked.got ∙ with_more-both (edge_at old out.edge) c.more f.more;
-        read = λ j is. subst (λ (x : Edge). IsReadOn (edge_at old j) x) (sym (got-other got j (apart j is))) (c.worked.read j is);
-        others = λ j other none. got-other got j other ∙ c.worked.others j other none;
-        start = got.start ∙ c.worked.start;
-        spare = omega (arith, c.worked.spare, got.spare, length-append c.more f.more);
-      };
-      few = omega (arith, c.owed, f.owed, length-append c.more f.more);
-    }
-
 -- letting go of one input's edge, or of two
 pub released_one : {old new : Held} (kind : Kind) (front : ℤ) (j : ℕ) (limit : ℤ) → ((left : Bool) (k : ℕ) → IsOperand kind left k
     → (j ≡ k) × (limit ≡ front +ℤ looks_by kind left)) → ((k : ℕ) → j ≡ k → IsInput kind k) → j < length old.edges
@@ -234,11 +214,3 @@ released_two {old} {new} kind front left right left_by right_by on_left on_right
 -- a number moved by nothing is itself
 pub front_itself : (f : ℤ) → f ≡ f +ℤ pos 0
 front_itself f = omega (arith, ints)
-
--- a window that is near looks back to near times
-pub back_near : (w : Window) → IsNear w.begin_by → IsNear w.end_by → IsNear (back_by w)
-back_near w low high = by_test (int_lt w.end_by (pos 8589934592))
-  where
-    by_test : (t : Bool) → IsNear (cond t w.end_by w.begin_by)
-    by_test true = high
-    by_test false = low

@@ -14,20 +14,8 @@ use Rattle.stl_syntax.specs.WellFormed.{HasBounds}
 use Rattle.stl_syntax.proofs.HorizonLemmas.{horizon_within}
 use Rattle.stl_syntax.proofs.PostOrderLemmas.{placed}
 use Rattle.stl_syntax.specs.declared.node.Node.{Node}
-use Rattle.stl_syntax.specs.declared.node.Node.TheVariants.{
-  Const,
-  Atom as Leaf,
-  Not,
-  And,
-  Or,
-  Implies,
-  Until,
-  Eventually,
-  Always,
-  Since,
-  Once,
-  Historically,
-}
+use Rattle.stl_syntax.specs.declared.node.Node.TheVariants.{Const, Atom as Leaf, Not, And, Or, Implies, Until, Eventually}
+use Rattle.stl_syntax.specs.declared.node.Node.TheVariants.{Always, Since, Once, Historically}
 use Rattle.online_nodes.specs.Network.{Event, Front, State, last_row, open_number, allowed, allowed_at}
 use Rattle.online_nodes.specs.Network.{all_at_end, is_atom, node_is_atom, same_front, state, initial, IsReady}
 use Rattle.online_nodes.specs.Needed.{IsReader}
@@ -45,31 +33,17 @@ use Rattle.online_nodes.proofs.RisingLaw.{same_is, same_of}
 pub inputs_below : (n : Node) (i m : ℕ) → HasChildrenBelow i n → i < m → AreInputs (kind_of n) m
 inputs_below (Const b) i m c l = tt
 inputs_below (Leaf a) i m c l = tt
-inputs_below (Not p) i m c l = omega arith
 inputs_below (And p q) i m c l = let x = c.0 in let y = c.1 in (omega arith, omega arith)
 inputs_below (Or p q) i m c l = let x = c.0 in let y = c.1 in (omega arith, omega arith)
 inputs_below (Implies p q) i m c l = let x = c.0 in let y = c.1 in (omega arith, omega arith)
 inputs_below (Until p q a b) i m c l = let x = c.0 in let y = c.1 in (omega arith, omega arith)
-inputs_below (Eventually p a b a_in b_in) i m c l = omega arith
-inputs_below (Always p a b a_in b_in) i m c l = omega arith
 inputs_below (Since p q a b) i m c l = let x = c.0 in let y = c.1 in (omega arith, omega arith)
-inputs_below (Once p a b a_in b_in) i m c l = omega arith
-inputs_below (Historically p a b a_in b_in) i m c l = omega arith
+inputs_below _ i m c l = omega arith
 
 -- the inputs of a node's kind are its children
 pub inputs_are_children : (n : Node) → inputs_of (kind_of n) ≡ children n
 inputs_are_children (Const b) = refl
-inputs_are_children (Leaf a) = refl
-inputs_are_children (Not p) = refl
-inputs_are_children (And p q) = refl
-inputs_are_children (Or p q) = refl
-inputs_are_children (Implies p q) = refl
-inputs_are_children (Until p q a b) = refl
-inputs_are_children (Eventually p a b a_in b_in) = refl
-inputs_are_children (Always p a b a_in b_in) = refl
-inputs_are_children (Since p q a b) = refl
-inputs_are_children (Once p a b a_in b_in) = refl
-inputs_are_children (Historically p a b a_in b_in) = refl
+inputs_are_children _ = refl
 
 -- the edges note the numbers of a node's inputs
 abbrev pub NotesInputs : Held → State → Node → Type 0
@@ -138,12 +112,6 @@ module _ (e : Held) (s : State) where
   -- the numbers of the inputs are near enough to be counted
   pub near_is : (i : ℕ) (n : Node) → HasChildrenBelow i n → HasBounds n → own_reach n ≤ 4294967295 → NotesInputs e s n
       → ((p : ℕ) → p < i → IfSome (s.fronts p) IsNear) → AreNear (kind_of n) e
-  near_is i (Const b) c h r k all = tt
-  near_is i (Leaf a) c h r k all = tt
-  near_is i (Not p) c h r k all = tt
-  near_is i (And p q) c h r k all = tt
-  near_is i (Or p q) c h r k all = tt
-  near_is i (Implies p q) c h r k all = tt
   near_is i (Until p q a b) c h r k all =
       (child_near p (k p true refl) (all p c.0), child_near q (k q false refl) (all q c.1), bound_near_back b r)
   near_is i (Eventually p a b a_in b_in) c h r k all = (child_near p (k p true refl) (all p c), bound_near_back b r)
@@ -151,6 +119,7 @@ module _ (e : Held) (s : State) where
   near_is i (Since p q a b) c h r k all = (child_near q (k q false refl) (all q c.1), low_near a b r h)
   near_is i (Once p a b a_in b_in) c h r k all = (child_near p (k p true refl) (all p c), low_near a b r h.0)
   near_is i (Historically p a b a_in b_in) c h r k all = (child_near p (k p true refl) (all p c), low_near a b r h.0)
+  near_is i _ c h r k all = tt
 
 near_of : (f : ℤ) (h start now : ℕ) → pos start ≤ℤ (f +ℤ pos h) → f ≤ℤ pos now → h ≤ 4294967295 → now ≤ 4294967295 → IsNear f
 near_of f h start now low top far small = (omega (arith, ints), omega (arith, ints))

@@ -5,15 +5,8 @@ use Rattle.online_nodes.specs.Held.{Held}
 use Rattle.online_nodes.specs.Stepping.{Situation, HasWorkedOut, IsBegun, IsDue}
 use Rattle.online_nodes.specs.declared.answering.Outcome.{Outcome}
 use Rattle.online_nodes.specs.declared.kind.Kind.{Kind}
-use Rattle.online_nodes.specs.declared.kind.Kind.TheVariants.{
-  Const as Constant,
-  Not as Negation,
-  Join as Connective,
-  Ahead,
-  Behind,
-  Until as UntilOf,
-  Since as SinceOf,
-}
+use Rattle.online_nodes.specs.declared.kind.Kind.TheVariants.{Const as Constant, Not as Negation, Join as Connective, Ahead}
+use Rattle.online_nodes.specs.declared.kind.Kind.TheVariants.{Behind, Until as UntilOf, Since as SinceOf}
 use Rattle.online_nodes.specs.declared.operator.Operator.{Operator}
 use Rattle.online_nodes.proofs.SinceWorked.{has_since, since_worked}
 use Rattle.online_nodes.proofs.SweptLemmas.{has_window, sweep_worked}

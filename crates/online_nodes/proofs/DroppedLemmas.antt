@@ -3,7 +3,7 @@ use Rattle.std.proofs.Common.{◌≡◌, ◌⊎◌, inl, inr, refl, sym, ap, sub
 use Rattle.std.proofs.Common.{Option, Some, List, [], ◌∷◌, drop, length, slice_get, ℤ, arith}
 use Rattle.std.specs.Prelude.{IfSome}
 use Rattle.rational.specs.Rational.{◌≤ʳ◌, ◌<ʳ◌, whole}
-use Rattle.rational.proofs.Order.{le_of_lt, le_trans, not_lt_of_le}
+use Rattle.rational.proofs.Order.{le_of_lt, le_trans}
 use Rattle.frac128.specs.Spans.{interval}
 use Rattle.frac128.specs.Value.{value}
 use Rattle.stl_syntax.specs.declared.items.Verdict.{Verdict}
@@ -87,14 +87,6 @@ module _ (P : Truths) where
       let is : w ≡ v = same_Some w v e in
       subst (λ (y : Verdict). Before (begins (interval w.on)) (ends (interval y.on))) is h.1
 
--- where the first one ends later, none is dropped
-pub none_dropped : (f : ℤ) (vs : List Verdict) (n : ℕ) → ((k : ℕ) → k < n → IfSome (slice_get vs k) (λ v. value v.on.to ≤ʳ whole f))
-    → ((v : Verdict) → slice_get vs 0 ≡ Some v → whole f <ʳ value v.on.to) → drop n vs ≡ vs
-none_dropped f [] zero ended later = refl
-none_dropped f [] (suc n) ended later = refl
-none_dropped f (v ∷ vs) zero ended later = refl
-none_dropped f (v ∷ vs) (suc n) ended later = absurd (not_lt_of_le (ended 0 (some_below n)) (later v refl))
-
 module _ {f : ℤ} {old new : Edge} (dropped : IsDroppedBy f old new) where
   -- how many of those that were not read are gone
   abbrev pub gone : ℕ
@@ -153,7 +145,3 @@ module _ {f : ℤ} {old new : Edge} (dropped : IsDroppedBy f old new) where
           by_gone zero z = inl (dropped_fresh ∙ ap (λ n. drop n old.fresh) z)
           by_gone (suc n) z =
               inr (v, first, subst (λ (o : Option Verdict). IfSome o (λ v. value v.on.to ≤ʳ whole f)) first (gone_end 0 (below_suc gone n z)), by)
-
-  -- nothing that was not read is gone, where its first ends later
-  pub dropped_none : ((v : Verdict) → slice_get old.fresh 0 ≡ Some v → whole f <ʳ value v.on.to) → new.fresh ≡ old.fresh
-  dropped_none later = dropped_fresh ∙ none_dropped f old.fresh gone gone_end later

@@ -1,34 +1,6 @@
 -- What is left of an edge without its first verdicts.
-use Rattle.std.proofs.Common.{
-  ◌≡◌,
-  inl,
-  inr,
-  Option,
-  None,
-  ℤ,
-  ℕ,
-  zero,
-  suc,
-  ◌+◌,
-  ◌-◌,
-  ◌<◌,
-  List,
-  [],
-  ◌∷◌,
-  ◌++◌,
-  drop,
-  length,
-  Some,
-  IfSome,
-  slice_get,
-  refl,
-  sym,
-  ap,
-  ◌∙◌,
-  arith,
-  length-drop,
-  below_more,
-}
+use Rattle.std.proofs.Common.{◌≡◌, inl, inr, Option, None, ℤ, ℕ, zero, suc, ◌+◌, ◌-◌, ◌<◌, List, [], ◌∷◌, ◌++◌, drop, length}
+use Rattle.std.proofs.Common.{Some, IfSome, slice_get, refl, sym, ap, ◌∙◌, arith, length-drop, below_more}
 use Rattle.std.proofs.lemmas.Option.{slice_get_within}
 use Rattle.rational.specs.Rational.{Rational, ◌≤ʳ◌, ◌<ʳ◌, ◌≈◌, whole}
 use Rattle.rational.proofs.Order.{le_trans, le_of_same, ge_of_same, lt_of_le_of_lt, le_or_lt}

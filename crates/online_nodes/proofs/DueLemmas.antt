@@ -15,30 +15,20 @@ use Rattle.stl_syntax.proofs.PostOrderLemmas.{inputs_apart}
 use Rattle.online_nodes.specs.Network.{allowed_at, same_front, shown}
 use Rattle.online_nodes.specs.Needed.{IsReader}
 use Rattle.online_nodes.specs.Answering.{IsInput}
-use Rattle.online_nodes.specs.Stepping.{
-  Situation,
-  IsBegun,
-  IsDue,
-  end_of,
-  first_in,
-  formula_of,
-  state_in,
-  stretch_of,
-  trace_in,
-}
+use Rattle.online_nodes.specs.Stepping.{Situation, IsBegun, IsDue, end_of, first_in, formula_of, state_in, stretch_of, trace_in}
 use Rattle.rational.specs.Places.{AtMost, Before, Same, Upto, begins}
 use Rattle.frac128.specs.Cuts.{place}
 use Rattle.online_nodes.specs.Held.{Held, edge_at, number_at}
 use Rattle.online_nodes.specs.Kinds.{all_stand_at, allowed_by, inputs_of, open_by}
 use Rattle.online_nodes.specs.Operators.{KnowsBy, front_place, kind_of, place_of, read_upto}
-use Rattle.online_nodes.specs.Written.{HasTold, IsPending, IsSound}
+use Rattle.online_nodes.specs.Written.{HasTold, IsPending}
 use Rattle.frac128.specs.declared.cut.Cut.{Cut}
 use Rattle.online_nodes.specs.declared.kind.Kind.{Kind}
 use Rattle.online_nodes.specs.declared.kind.Kind.TheVariants.{Const as Constant, Not as Negation, Join as Connective}
 use Rattle.online_nodes.specs.declared.kind.Kind.TheVariants.{Ahead, Behind, Until as UntilOf, Since as SinceOf}
 use Rattle.online_nodes.specs.declared.operator.Operator.{Operator}
 use Rattle.online_nodes.specs.declared.answering.Outcome.{Outcome}
-use Rattle.online_nodes.proofs.BelongLemmas.{allowed_number, inputs_are_children, no_atom_here, own_below, own_edge}
+use Rattle.online_nodes.proofs.BelongLemmas.{allowed_number, inputs_are_children, no_atom_here, own_below}
 use Rattle.online_nodes.proofs.HeldFacts.{input_within}
 use Rattle.online_nodes.proofs.TellingLemmas.{IsTelling}
 use Rattle.rational.proofs.PlaceLemmas.{same_places, upto_same}
@@ -105,7 +95,7 @@ module _ {x : Situation} {op : Operator} {e : Held} (d : IsDue x op e) where
   -- the operator's node is the reader of each of its inputs
   pub input_reader : (j : ℕ) → IsInput op.kind j → (left : Bool) × IsReader d.belongs.stands.node left j
   input_reader j a =
-      let side = input_side d.belongs.stands.node j (subst (λ k. IsInput k j) kind_is a) in
+      let side = input_side (kind_of d.belongs.stands.node) j (subst (λ k. IsInput k j) kind_is a) in
       (side.0, side_reads d.belongs.stands.node side.0 j side.1)
 
   -- an input's edge is not the node's own
@@ -207,15 +197,6 @@ module _ {x : Situation} {op : Operator} {e : Held} (d : IsDue x op e) where
           (λ t u. le_trans u (le_whole (front_later g h)))
 
   module _ {work : Outcome} (g : IsBegun x op work) where
-    -- the operator has an edge for what it tells
-    pub begun_own : work.out.edge < length e.edges
-    begun_own = let l = own_edge d.belongs in let s = g.edge in omega arith
-
-    -- what is told when the work begins is sound
-    pub begun_sound : IsSound work.out
-    begun_sound = subst (λ (o : Option Bool). IsSound (record work.out { holds = o })) (sym g.holds)
-        (subst (λ (c : Cut). Same (place work.out.from) (place c)) (sym g.at) (same_itself (place work.out.from)))
-
     -- the work begins where the stretch does
     pub begun_at : Same (begins (stretch_of x op)) (place work.out.at)
     begun_at = subst (λ (c : Cut). Same (begins (stretch_of x op)) (place c)) (sym g.at) g.begin

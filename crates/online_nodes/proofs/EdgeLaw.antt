@@ -10,21 +10,9 @@ use Rattle.stl_syntax.specs.PostOrder.{IsPostOrder}
 use Rattle.stl_syntax.specs.WellFormed.{AreWellFormed, HasBounds}
 use Rattle.stl_syntax.specs.declared.items.Verdict.{Verdict}
 use Rattle.stl_syntax.specs.declared.node.Node.{Node}
-use Rattle.stl_syntax.specs.declared.node.Node.TheVariants.{
-  Const,
-  Atom as Leaf,
-  Not,
-  And,
-  Or,
-  Implies,
-  Until,
-  Eventually,
-  Always,
-  Since,
-  Once,
-  Historically,
-}
-use Rattle.online_nodes.specs.Network.{Event, row, step, close, take, Front, State, last_row, shown, is_atom, node_is_atom}
+use Rattle.stl_syntax.specs.declared.node.Node.TheVariants.{Const, Atom as Leaf, Not, And, Or, Implies, Until, Eventually}
+use Rattle.stl_syntax.specs.declared.node.Node.TheVariants.{Always, Since, Once, Historically}
+use Rattle.online_nodes.specs.Network.{Event, row, step, take, Front, State, last_row, shown, is_atom, node_is_atom}
 use Rattle.online_nodes.specs.Network.{allowed_at, after_event, initial, state, reach_back, EmittedAt, Emitted, IsRun, MayCome}
 use Rattle.online_nodes.specs.Needed.{IsReader, IsEdge, IsRootEdge, AreNeeded, other, next, nothing_left}
 use Rattle.online_nodes.specs.Laws.{AreTiles, answered_to, IsWhole}
@@ -41,18 +29,8 @@ use Rattle.stl_syntax.proofs.PostOrderLemmas.{slice_get_at}
 
 -- a node that reads another is no atom
 pub reader_no_atom : (n : Node) (left : Bool) (j : ℕ) → IsReader n left j → is_atom n ≡ false
-reader_no_atom (Const b) left j r = refl
 reader_no_atom (Leaf a) left j r = absurd r
-reader_no_atom (Not p) left j r = refl
-reader_no_atom (And p q) left j r = refl
-reader_no_atom (Or p q) left j r = refl
-reader_no_atom (Implies p q) left j r = refl
-reader_no_atom (Until p q a b) left j r = refl
-reader_no_atom (Eventually p a b i k) left j r = refl
-reader_no_atom (Always p a b i k) left j r = refl
-reader_no_atom (Since p q a b) left j r = refl
-reader_no_atom (Once p a b i k) left j r = refl
-reader_no_atom (Historically p a b i k) left j r = refl
+reader_no_atom _ left j r = refl
 
 -- the node reads another, or does not
 abbrev pub Reads : Node → ℕ → Type 0
@@ -154,9 +132,7 @@ module _ (nodes : List Node) (header : Header) (formed : AreWellFormed nodes) wh
   -- after the end no row comes
   end_stays : (s : State) (e : Event) → MayCome nodes header s e → s.closed ≡ true → last_row (after_event nodes s e) ≡ last_row s
   end_stays s (row r) may c = absurd (let x : true ≡ false = sym c ∙ may.0 in cc)
-  end_stays s (step i) may c = refl
-  end_stays s close may c = refl
-  end_stays s take may c = refl
+  end_stays s _ may c = refl
 
   -- what is held for a reader of the node, in two states, by the fronts that are shown
   abbrev Holds : State → ℕ → ℕ → ℤ → List Verdict → List Verdict → Type 0

@@ -7,24 +7,8 @@ use Rattle.rational.proofs.Tests.{int_order}
 use Rattle.stl_syntax.specs.Trace.{Header, first_time}
 use Rattle.stl_syntax.specs.Formula.{subformula}
 use Rattle.stl_syntax.specs.Verdicts.{Describes}
-use Rattle.online_nodes.specs.Network.{
-  Event,
-  step,
-  close,
-  take,
-  Front,
-  State,
-  shown,
-  same_front,
-  allowed_at,
-  answered,
-  after_event,
-  state_from,
-  initial,
-  EmittedAt,
-  EmittedFrom,
-  Emitted,
-}
+use Rattle.online_nodes.specs.Network.{Event, step, close, take, Front, State, shown, same_front, allowed_at, answered}
+use Rattle.online_nodes.specs.Network.{after_event, state_from, initial, EmittedAt, EmittedFrom, Emitted}
 use Rattle.stl_syntax.specs.declared.items.Verdict.{Verdict}
 use Rattle.stl_syntax.specs.declared.node.Node.{Node}
 

@@ -226,17 +226,7 @@ atom_horizon nodes i order l e = by_node (slice_index_or nodes i (Const false)) 
   where
     by_node : (n : Node) → slice_get nodes i ≡ Some n → is_atom n ≡ true → horizon (subformula nodes i) ≡ 0
     by_node (Leaf a) at x = ap (λ p. horizon p) (subformula-at nodes i (Leaf a) at (placed nodes i (Leaf a) order at))
-    by_node (Const b) at x = absurd (let y : false ≡ true = x in cc)
-    by_node (Not p) at x = absurd (let y : false ≡ true = x in cc)
-    by_node (And p q) at x = absurd (let y : false ≡ true = x in cc)
-    by_node (Or p q) at x = absurd (let y : false ≡ true = x in cc)
-    by_node (Implies p q) at x = absurd (let y : false ≡ true = x in cc)
-    by_node (Until p q a b) at x = absurd (let y : false ≡ true = x in cc)
-    by_node (Eventually p a b i j) at x = absurd (let y : false ≡ true = x in cc)
-    by_node (Always p a b i j) at x = absurd (let y : false ≡ true = x in cc)
-    by_node (Since p q a b) at x = absurd (let y : false ≡ true = x in cc)
-    by_node (Once p a b i j) at x = absurd (let y : false ≡ true = x in cc)
-    by_node (Historically p a b i j) at x = absurd (let y : false ≡ true = x in cc)
+    by_node _ at x = absurd (let y : false ≡ true = x in cc)
 
 -- a state after these rows, and maybe the end: every place has its number
 record IsAt (nodes : List Node) (rows : List Row) (ended : Bool) (s : State) : Type 0 where

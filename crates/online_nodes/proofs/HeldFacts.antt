@@ -1,33 +1,6 @@
 -- What the inputs' edges of an operator that belongs to them tell.
-use Rattle.std.proofs.Common.{
-  ◌≡◌,
-  ◌⊎◌,
-  inl,
-  inr,
-  refl,
-  sym,
-  ap,
-  subst,
-  ◌∙◌,
-  ℕ,
-  ◌<◌,
-  Bool,
-  true,
-  false,
-  Some,
-  None,
-  List,
-  [],
-  ◌∷◌,
-  ◌++◌,
-  length,
-  ℤ,
-  pos,
-  ◌+ℤ◌,
-  ◌≤ℤ◌,
-  ◌<ℤ◌,
-  arith,
-}
+use Rattle.std.proofs.Common.{◌≡◌, ◌⊎◌, inl, inr, refl, sym, ap, subst, ◌∙◌, ℕ, ◌<◌, Bool, true, false, Some, None, List, []}
+use Rattle.std.proofs.Common.{◌∷◌, ◌++◌, length, ℤ, pos, ◌+ℤ◌, ◌≤ℤ◌, ◌<ℤ◌, arith}
 use Rattle.std.specs.Prelude.{int_lt, cond, slice_get, IfSome}
 use Rattle.std.proofs.lemmas.Int.{ints}
 use Rattle.std.proofs.lemmas.List.{append-nil}
@@ -39,26 +12,8 @@ use Rattle.stl_syntax.specs.Formula.{subformula}
 use Rattle.stl_syntax.specs.declared.items.Verdict.{Verdict}
 use Rattle.stl_syntax.specs.declared.node.Node.{Node}
 use Rattle.stl_syntax.proofs.RowsLemmas.{rows-push}
-use Rattle.online_nodes.specs.Network.{
-  Event,
-  Front,
-  State,
-  row,
-  step,
-  close,
-  take,
-  after_event,
-  initial,
-  last_row,
-  needed,
-  reach_back,
-  shown,
-  state,
-  state_from,
-  IsRun,
-  IsRunFrom,
-  MayCome,
-}
+use Rattle.online_nodes.specs.Network.{Event, Front, State, row, after_event, initial, last_row, needed}
+use Rattle.online_nodes.specs.Network.{reach_back, shown, state, state_from, IsRun, IsRunFrom, MayCome}
 use Rattle.online_nodes.specs.Needed.{AreMeeting, AreNeeded, IsEdge, IsReader}
 use Rattle.rational.specs.Places.{Place, AtMost}
 use Rattle.rational.proofs.Tests.{int_order}
@@ -91,9 +46,7 @@ rows_after nodes header s (row q) may h = by_rows s.rows may.1 h
         → AreRowsSoFar (length header.columns) rows → AreRowsSoFar (length header.columns) (rows ++ q ∷ [])
     by_rows [] later h = (may.2, tt)
     by_rows (r ∷ rows) later (w, rest) = (w, rows-push (length header.columns) r.time rows q rest (omega (arith, ints)) may.2)
-rows_after nodes header s (step i) may h = h
-rows_after nodes header s close may h = h
-rows_after nodes header s take may h = h
+rows_after nodes header s _ may h = h
 
 rows_from : (nodes : List Node) (header : Header) (s : State) (events : List Event) → IsRunFrom nodes header s events
     → AreRowsSoFar (length header.columns) s.rows → AreRowsSoFar (length header.columns) (state_from nodes s events).rows

@@ -11,15 +11,8 @@ use Rattle.online_nodes.specs.Needed.{Meets, AreMeeting}
 use Rattle.stl_syntax.specs.declared.items.Verdict.{Verdict}
 use Rattle.online_nodes.specs.Laws.{AreTiles, beyond}
 use Rattle.rational.specs.Places.{Place, begins, ends, After, Upto, Before, Same}
-use Rattle.rational.proofs.PlaceLemmas.{
-  place_order,
-  between,
-  after_of_before,
-  after_same,
-  same_places,
-  upto_of_before,
-  upto_same,
-}
+use Rattle.rational.proofs.PlaceLemmas.{place_order, between, after_of_before, after_same, same_places, upto_of_before}
+use Rattle.rational.proofs.PlaceLemmas.{upto_same}
 use Rattle.online_nodes.proofs.Writing.{in_upto}
 
 -- a time behind the begin of a stretch, and not behind its end, is in it

@@ -8,20 +8,8 @@ use Rattle.std.proofs.lemmas.Option.{same_Some}
 use Rattle.rational.specs.Rational.{whole}
 use Rattle.stl_syntax.specs.Trace.{Header, first_time}
 use Rattle.stl_syntax.specs.declared.node.Node.{Node}
-use Rattle.online_nodes.specs.Network.{
-  Event,
-  step,
-  Front,
-  State,
-  EmittedAt,
-  after_event,
-  allowed_at,
-  node_is_atom,
-  reach_back,
-  same_front,
-  shown,
-  state,
-}
+use Rattle.online_nodes.specs.Network.{Event, step, Front, State, EmittedAt, after_event, allowed_at, node_is_atom, reach_back}
+use Rattle.online_nodes.specs.Network.{same_front, shown, state}
 use Rattle.online_nodes.specs.Needed.{AreNeeded, IsEdge, IsReader}
 use Rattle.online_nodes.specs.Belonging.{Belongs, HasStepped, StandsForSteps, is_ready, room_of_step, trace_of}
 use Rattle.frac128.specs.Cuts.{place}

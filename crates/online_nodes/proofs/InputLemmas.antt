@@ -1,5 +1,5 @@
 -- What an operator's input edge holds: a part of what the input gave out, up to its front, that tells its truth.
-use Rattle.std.proofs.Common.{◌≡◌, inl, inr, refl, sym, subst, Bool, true, false, not, List, [], ◌∷◌, ◌++◌}
+use Rattle.std.proofs.Common.{◌≡◌, inl, inr, refl, sym, subst, Bool, true, false, List, [], ◌∷◌}
 use Rattle.std.specs.Prelude.{cond}
 use Rattle.rational.specs.Rational.{Rational}
 use Rattle.rational.specs.Time.{Within, less}
@@ -11,12 +11,10 @@ use Rattle.stl_syntax.specs.Truth.{Truth}
 use Rattle.stl_syntax.specs.declared.items.Verdict.{Verdict}
 use Rattle.rational.specs.Places.{Place, begins, ends, After, Upto, AtMost}
 use Rattle.online_nodes.specs.Laws.{AreTiles, AreTold, beyond}
-use Rattle.online_nodes.specs.Operators.{first_place}
 use Rattle.online_nodes.specs.Truths.{Is, Tells}
 use Rattle.online_nodes.specs.Sweeps.{Counted}
 use Rattle.online_nodes.proofs.HeldLaw.{is_in}
 use Rattle.rational.proofs.PlaceLemmas.{sides, not_both, upto_of_before, upto_same, after_same, same_before}
-use Rattle.online_nodes.proofs.Writing.{same_itself}
 
 -- verdicts that lead on without gap and are told tell the truth
 pub tells_of : (p : Subformula) (tr : Trace) (c : Place) (vs : List Verdict) (d : Place) → AreTiles c vs d → AreTold p tr vs
@@ -37,11 +35,6 @@ counted_is true false p tr t w x = λ c. x c.1
 counted_is false true p tr t w x = λ _. x
 counted_is false false p tr t w x = λ f. x (f w)
 
--- and beyond it nothing is found
-pub not_found : (seeks : Bool) (p : Subformula) (tr : Trace) (t : Rational) → ¬ Within (start tr) (stop tr) t → Is (not seeks) (Counted seeks p tr) t
-not_found true p tr t n = λ c. n c.0
-not_found false p tr t n = λ w. absurd (n w)
-
 -- verdicts that tell a truth tell it where only the trace's times count
 pub counted_tells : (seeks : Bool) (p : Subformula) (tr : Trace) (c : Place) (vs : List Verdict) (d : Place)
     → ((t : Rational) → After c t → Upto d t → Within (start tr) (stop tr) t) → Tells (Truth p tr) c vs d → Tells (Counted seeks p tr) c vs d
@@ -60,32 +53,6 @@ counted_tells seeks p tr c (v ∷ vs) d within (s, b, told, rest) = (
 
     later : (t : Rational) → After (ends (interval v.on)) t → After c t
     later t a = elim (sides c t) [ inl u ↦ absurd (not_both (ends (interval v.on)) t (upto_of_before c (ends (interval v.on)) t b u) a) | inr x ↦ x ]
-
--- what lies behind the first verdicts of a list without gap leads on from where it begins
-pub tiles_rest : (c : Place) (xs ys : List Verdict) (d : Place) → AreTiles c (xs ++ ys) d → AreTiles (first_place ys d) ys d
-tiles_rest c [] [] d same = same_itself d
-tiles_rest c [] (v ∷ ys) d (s, b, rest) = (same_itself (begins (interval v.on)), b, rest)
-tiles_rest c (x ∷ xs) ys d (s, b, rest) = tiles_rest (ends (interval x.on)) xs ys d rest
-
--- a list without gap begins before it ends
-pub tiles_forward : (c : Place) (vs : List Verdict) (d : Place) → AreTiles c vs d → AtMost c d
-tiles_forward c [] d same t h = upto_same c d t same h
-tiles_forward c (v ∷ vs) d (s, b, rest) t h =
-    tiles_forward (ends (interval v.on)) vs d rest t
-    (upto_of_before (begins (interval v.on)) (ends (interval v.on)) t b (upto_same c (begins (interval v.on)) t s h))
-
--- what is behind some verdicts begins no earlier
-pub rest_later : (c : Place) (xs ys : List Verdict) (d : Place) → AreTiles c (xs ++ ys) d → AtMost c (first_place ys d)
-rest_later c [] [] d same t h = upto_same c d t same h
-rest_later c [] (v ∷ ys) d (s, b, rest) t h = upto_same c (begins (interval v.on)) t s h
-rest_later c (x ∷ xs) ys d (s, b, rest) t h =
-    rest_later (ends (interval x.on)) xs ys d rest t
-    (upto_of_before (begins (interval x.on)) (ends (interval x.on)) t b (upto_same c (begins (interval x.on)) t s h))
-
--- the later of verdicts that tell the truth tell it
-pub told_rest : (p : Subformula) (tr : Trace) (xs ys : List Verdict) → AreTold p tr (xs ++ ys) → AreTold p tr ys
-told_rest p tr [] ys h = h
-told_rest p tr (x ∷ xs) ys h = told_rest p tr xs ys h.1
 
 -- what is left of a list without gap once some of its first verdicts are gone
 pub tiles_beyond : (lo : Rational) (c : Place) (vs : List Verdict) (d : Place) → AreTiles c vs d

@@ -7,19 +7,8 @@ use Rattle.rational.specs.Windows.{Ahead, Behind}
 use Rattle.rational.proofs.Order.{le_trans, le_of_same, ge_of_same, lt_of_le_of_lt, lt_of_lt_of_le, le_or_lt, not_lt_of_le}
 use Rattle.rational.proofs.TimeLemmas.{later-add, later_from}
 use Rattle.stl_syntax.specs.Trace.{Trace, start, stop}
-use Rattle.stl_syntax.specs.Formula.{
-  Subformula,
-  negation,
-  conjunction,
-  disjunction,
-  implication,
-  eventually,
-  always,
-  once,
-  historically,
-  until,
-  since,
-}
+use Rattle.stl_syntax.specs.Formula.{Subformula, negation, conjunction, disjunction, implication, eventually, always, once}
+use Rattle.stl_syntax.specs.Formula.{historically, until, since}
 use Rattle.stl_syntax.specs.Truth.{Truth}
 use Rattle.rational.specs.Places.{After, Upto}
 use Rattle.rational.proofs.Shift.{lt_ahead, lt_ahead_back, lt_behind_back, lt_behind}

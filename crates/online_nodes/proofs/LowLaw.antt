@@ -8,46 +8,13 @@ use Rattle.stl_syntax.specs.Formula.{Subformula, subformula, horizon, tree_of, H
 use Rattle.stl_syntax.specs.PostOrder.{IsPostOrder, children}
 use Rattle.stl_syntax.proofs.FormulaLemmas.{subformula-at}
 use Rattle.stl_syntax.proofs.PostOrderLemmas.{placed, slice_get_at}
-use Rattle.online_nodes.specs.Network.{
-  Event,
-  row,
-  step,
-  close,
-  take,
-  Front,
-  least,
-  moved_by,
-  State,
-  last_row,
-  open_number,
-  allowed,
-  allowed_at,
-  all_at_end,
-  node_is_atom,
-  initial,
-  after_event,
-  state_from,
-  state,
-  MayCome,
-  IsRunFrom,
-  IsRun,
-}
+use Rattle.online_nodes.specs.Network.{Event, row, step, close, take, Front, least, moved_by, State, last_row, open_number}
+use Rattle.online_nodes.specs.Network.{allowed, allowed_at, all_at_end, node_is_atom, initial, after_event, state_from, state}
+use Rattle.online_nodes.specs.Network.{MayCome, IsRunFrom, IsRun}
 use Rattle.online_nodes.proofs.RunLaw.{none_is_none, moved, last_appended}
 use Rattle.stl_syntax.specs.declared.node.Node.{Node}
-use Rattle.stl_syntax.specs.declared.node.Node.TheVariants.{
-  Const,
-  Atom as Leaf,
-  Not,
-  And,
-  Or,
-  Implies,
-  Until,
-  Eventually,
-  Always,
-  Since,
-  Once,
-  Historically,
-}
+use Rattle.stl_syntax.specs.declared.node.Node.TheVariants.{Const, Atom as Leaf, Not, And, Or, Implies, Until, Eventually}
+use Rattle.stl_syntax.specs.declared.node.Node.TheVariants.{Always, Since, Once, Historically}
 
 -- the least of two numbers is one of them
 one_of : (o q : Front) (f : ℤ) → least o q ≡ Some f → (g h : ℤ) × (o ≡ Some g) × (q ≡ Some h) × (cond (int_lt h g) h g ≡ f)

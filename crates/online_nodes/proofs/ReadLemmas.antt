@@ -14,19 +14,8 @@ use Rattle.stl_syntax.specs.Formula.{subformula}
 use Rattle.stl_syntax.specs.Truth.{Truth}
 use Rattle.stl_syntax.specs.declared.items.Verdict.{Verdict}
 use Rattle.stl_syntax.specs.declared.node.Node.{Node}
-use Rattle.online_nodes.specs.Network.{
-  Event,
-  step,
-  Front,
-  State,
-  shown,
-  last_row,
-  allowed_at,
-  after_event,
-  state,
-  reach_back,
-  IsRun,
-}
+use Rattle.online_nodes.specs.Network.{Event, step, Front, State, shown, last_row, allowed_at, after_event, state, reach_back}
+use Rattle.online_nodes.specs.Network.{IsRun}
 use Rattle.online_nodes.specs.Needed.{IsReader, IsEdge, AreNeeded}
 use Rattle.online_nodes.specs.Laws.{AreTiles, IsWhole, NeverLess, answered_to, beyond}
 use Rattle.rational.specs.Places.{AtMost, Place, begins}

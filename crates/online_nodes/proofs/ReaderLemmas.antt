@@ -1,9 +1,8 @@
 -- Each node is read by one node at most, and by its kind an operator knows its node's inputs.
 use Rattle.std.proofs.Common.{◌≡◌, inl, inr, refl, sym, ap, subst, ◌∙◌, ℕ, ◌<◌, ◌≤◌, Bool, true, false}
-use Rattle.std.proofs.Common.{Some, None, List, [], ◌∷◌, length, take, get_or, pos, neg_ℤ, ◌≤ℤ◌, All, arith}
-use Rattle.std.specs.List.{list_any}
+use Rattle.std.proofs.Common.{Some, List, length, take, get_or, pos, neg_ℤ, ◌≤ℤ◌, All, arith}
 use Rattle.std.specs.Prelude.{slice_get, ◌==◌, cond, int_lt}
-use Rattle.std.proofs.lemmas.Bool.{cases_lt, eq-eqb, or_left, or_right}
+use Rattle.std.proofs.lemmas.Bool.{cases_lt, eq-eqb}
 use Rattle.std.proofs.lemmas.Int.{ints}
 use Rattle.std.proofs.lemmas.List.{get_or-take, length-take-le}
 use Rattle.std.proofs.lemmas.List.Folds.{list_any_at}
@@ -13,80 +12,32 @@ use Rattle.stl_syntax.specs.Limits.{own_reach}
 use Rattle.stl_syntax.specs.PostOrder.{children, has_child, is_used, IsPostOrder}
 use Rattle.stl_syntax.proofs.PostOrderLemmas.{children_free, inputs_apart}
 use Rattle.stl_syntax.specs.declared.node.Node.{Node}
-use Rattle.stl_syntax.specs.declared.node.Node.TheVariants.{
-  Const,
-  Atom as Leaf,
-  Not,
-  And,
-  Or,
-  Implies,
-  Until,
-  Eventually,
-  Always,
-  Since,
-  Once,
-  Historically,
-}
+use Rattle.stl_syntax.specs.declared.node.Node.TheVariants.{Const, Atom as Leaf, Not, And, Or, Implies, Until, Eventually}
+use Rattle.stl_syntax.specs.declared.node.Node.TheVariants.{Always, Since, Once, Historically}
 use Rattle.online_nodes.specs.Network.{reach_back}
 use Rattle.online_nodes.specs.Needed.{IsReader}
 use Rattle.online_nodes.specs.Operators.{kind_of}
 use Rattle.online_nodes.specs.Answering.{IsInput, IsOperand, looks_by}
+use Rattle.online_nodes.specs.declared.kind.Kind.{Kind}
+use Rattle.online_nodes.specs.declared.kind.Kind.TheVariants.{Const as Constant, Join as Connective, Until as UntilOf, Since as SinceOf}
 
 -- what is so of all children is so of each
 pub child_all : (P : ℕ → Type 0) (n : Node) (left : Bool) (j : ℕ) → IsReader n left j → All P (children n) → P j
 child_all P (Const b) left j r h = absurd r
 child_all P (Leaf a) left j r h = absurd r
-child_all P (Not p) true j r h = subst P r (h 0 0 (omega arith))
 child_all P (Not p) false j r h = absurd r
-child_all P (And p q) true j r h = subst P r (h 0 0 (omega arith))
-child_all P (And p q) false j r h = subst P r (h 1 0 (omega arith))
-child_all P (Or p q) true j r h = subst P r (h 0 0 (omega arith))
-child_all P (Or p q) false j r h = subst P r (h 1 0 (omega arith))
-child_all P (Implies p q) true j r h = subst P r (h 0 0 (omega arith))
-child_all P (Implies p q) false j r h = subst P r (h 1 0 (omega arith))
-child_all P (Until p q a b) true j r h = subst P r (h 0 0 (omega arith))
-child_all P (Until p q a b) false j r h = subst P r (h 1 0 (omega arith))
-child_all P (Since p q a b) true j r h = subst P r (h 0 0 (omega arith))
-child_all P (Since p q a b) false j r h = subst P r (h 1 0 (omega arith))
-child_all P (Eventually p a b i k) true j r h = subst P r (h 0 0 (omega arith))
 child_all P (Eventually p a b i k) false j r h = absurd r
-child_all P (Always p a b i k) true j r h = subst P r (h 0 0 (omega arith))
 child_all P (Always p a b i k) false j r h = absurd r
-child_all P (Once p a b i k) true j r h = subst P r (h 0 0 (omega arith))
 child_all P (Once p a b i k) false j r h = absurd r
-child_all P (Historically p a b i k) true j r h = subst P r (h 0 0 (omega arith))
 child_all P (Historically p a b i k) false j r h = absurd r
-
-child_first : (p j : ℕ) (rest : List ℕ) → p ≡ j → list_any (λ x. x == j) (p ∷ rest) ≡ true
-child_first p j rest e = or_left (p == j) (list_any (λ x. x == j) rest) (eq-eqb p j e)
-
-child_second : (p q j : ℕ) → q ≡ j → list_any (λ x. x == j) (p ∷ q ∷ []) ≡ true
-child_second p q j e = or_right (p == j) (list_any (λ x. x == j) (q ∷ [])) (child_first q j [] e)
+child_all P _ true j r h = subst P r (h 0 0 (omega arith))
+child_all P _ false j r h = subst P r (h 1 0 (omega arith))
 
 -- a reader has what it reads as a child
 pub reader_has : (n : Node) (left : Bool) (j : ℕ) → IsReader n left j → has_child j n ≡ true
-reader_has (Const b) left j r = absurd r
-reader_has (Leaf a) left j r = absurd r
-reader_has (Not p) true j r = child_first p j [] r
-reader_has (Not p) false j r = absurd r
-reader_has (And p q) true j r = child_first p j (q ∷ []) r
-reader_has (And p q) false j r = child_second p q j r
-reader_has (Or p q) true j r = child_first p j (q ∷ []) r
-reader_has (Or p q) false j r = child_second p q j r
-reader_has (Implies p q) true j r = child_first p j (q ∷ []) r
-reader_has (Implies p q) false j r = child_second p q j r
-reader_has (Until p q a b) true j r = child_first p j (q ∷ []) r
-reader_has (Until p q a b) false j r = child_second p q j r
-reader_has (Since p q a b) true j r = child_first p j (q ∷ []) r
-reader_has (Since p q a b) false j r = child_second p q j r
-reader_has (Eventually p a b i k) true j r = child_first p j [] r
-reader_has (Eventually p a b i k) false j r = absurd r
-reader_has (Always p a b i k) true j r = child_first p j [] r
-reader_has (Always p a b i k) false j r = absurd r
-reader_has (Once p a b i k) true j r = child_first p j [] r
-reader_has (Once p a b i k) false j r = absurd r
-reader_has (Historically p a b i k) true j r = child_first p j [] r
-reader_has (Historically p a b i k) false j r = absurd r
+reader_has n left j r =
+    child_all (λ p. has_child p n ≡ true) n left j r
+    (λ i d l. list_any_at (λ x. x == get_or (children n) i d) (children n) i d l (eq-eqb (get_or (children n) i d) (get_or (children n) i d) refl))
 
 -- a node that reads another does so alone, and from one side
 module _ (nodes : List Node) (order : IsPostOrder nodes) where
@@ -118,16 +69,12 @@ module _ (nodes : List Node) (order : IsPostOrder nodes) where
   not_both_sides : (r : ℕ) (n : Node) (j : ℕ) → slice_get nodes r ≡ Some n → IsReader n true j → IsReader n false j → ⊥
   not_both_sides r (Const b) j at x y = x
   not_both_sides r (Leaf a) j at x y = x
-  not_both_sides r (Not p) j at x y = y
   not_both_sides r (And p q) j at x y = inputs_apart nodes r (And p q) p q order at refl (x ∙ sym y)
   not_both_sides r (Or p q) j at x y = inputs_apart nodes r (Or p q) p q order at refl (x ∙ sym y)
   not_both_sides r (Implies p q) j at x y = inputs_apart nodes r (Implies p q) p q order at refl (x ∙ sym y)
   not_both_sides r (Until p q a b) j at x y = inputs_apart nodes r (Until p q a b) p q order at refl (x ∙ sym y)
   not_both_sides r (Since p q a b) j at x y = inputs_apart nodes r (Since p q a b) p q order at refl (x ∙ sym y)
-  not_both_sides r (Eventually p a b i k) j at x y = y
-  not_both_sides r (Always p a b i k) j at x y = y
-  not_both_sides r (Once p a b i k) j at x y = y
-  not_both_sides r (Historically p a b i k) j at x y = y
+  not_both_sides r _ j at x y = y
 
   -- a node reads one input on one side
   pub one_side : (r : ℕ) (n : Node) (left right : Bool) (j : ℕ) → slice_get nodes r ≡ Some n → IsReader n left j → IsReader n right j → left ≡ right
@@ -138,98 +85,26 @@ module _ (nodes : List Node) (order : IsPostOrder nodes) where
 
 -- an operator's inputs by its kind are those that its node reads
 pub side_reads : (n : Node) (left : Bool) (j : ℕ) → IsOperand (kind_of n) left j → IsReader n left j
-side_reads (Const b) left j r = absurd r
-side_reads (Leaf a) left j r = absurd r
-side_reads (Not p) true j r = r
-side_reads (Not p) false j r = absurd r
-side_reads (And p q) true j r = r
-side_reads (And p q) false j r = r
-side_reads (Or p q) true j r = r
-side_reads (Or p q) false j r = r
-side_reads (Implies p q) true j r = r
-side_reads (Implies p q) false j r = r
-side_reads (Until p q a b) true j r = r
-side_reads (Until p q a b) false j r = r
-side_reads (Since p q a b) true j r = r
-side_reads (Since p q a b) false j r = r
-side_reads (Eventually p a b i k) true j r = r
-side_reads (Eventually p a b i k) false j r = absurd r
-side_reads (Always p a b i k) true j r = r
-side_reads (Always p a b i k) false j r = absurd r
-side_reads (Once p a b i k) true j r = r
-side_reads (Once p a b i k) false j r = absurd r
-side_reads (Historically p a b i k) true j r = r
-side_reads (Historically p a b i k) false j r = absurd r
+side_reads (Const b) left j r = r
+side_reads _ true j r = r
+side_reads _ false j r = r
 
 -- the kind of a node has its inputs on the node's sides
 pub reads_side : (n : Node) (left : Bool) (j : ℕ) → IsReader n left j → IsOperand (kind_of n) left j
-reads_side (Const b) left j r = absurd r
-reads_side (Leaf a) left j r = absurd r
-reads_side (Not p) true j r = r
-reads_side (Not p) false j r = absurd r
-reads_side (And p q) true j r = r
-reads_side (And p q) false j r = r
-reads_side (Or p q) true j r = r
-reads_side (Or p q) false j r = r
-reads_side (Implies p q) true j r = r
-reads_side (Implies p q) false j r = r
-reads_side (Until p q a b) true j r = r
-reads_side (Until p q a b) false j r = r
-reads_side (Since p q a b) true j r = r
-reads_side (Since p q a b) false j r = r
-reads_side (Eventually p a b i k) true j r = r
-reads_side (Eventually p a b i k) false j r = absurd r
-reads_side (Always p a b i k) true j r = r
-reads_side (Always p a b i k) false j r = absurd r
-reads_side (Once p a b i k) true j r = r
-reads_side (Once p a b i k) false j r = absurd r
-reads_side (Historically p a b i k) true j r = r
-reads_side (Historically p a b i k) false j r = absurd r
+reads_side (Const b) left j r = r
+reads_side _ true j r = r
+reads_side _ false j r = r
 
 -- an input stands on a side
-pub input_side : (n : Node) (j : ℕ) → IsInput (kind_of n) j → (left : Bool) × IsOperand (kind_of n) left j
-input_side (Const b) j r = absurd r
-input_side (Leaf a) j r = absurd r
-input_side (Not p) j r = (true, r)
-input_side (And p q) j (inl r) = (true, r)
-input_side (And p q) j (inr r) = (false, r)
-input_side (Or p q) j (inl r) = (true, r)
-input_side (Or p q) j (inr r) = (false, r)
-input_side (Implies p q) j (inl r) = (true, r)
-input_side (Implies p q) j (inr r) = (false, r)
-input_side (Until p q a b) j (inl r) = (true, r)
-input_side (Until p q a b) j (inr r) = (false, r)
-input_side (Since p q a b) j (inl r) = (true, r)
-input_side (Since p q a b) j (inr r) = (false, r)
-input_side (Eventually p a b i k) j r = (true, r)
-input_side (Always p a b i k) j r = (true, r)
-input_side (Once p a b i k) j r = (true, r)
-input_side (Historically p a b i k) j r = (true, r)
-
--- an input of a side is an input
-pub side_input : (n : Node) (left : Bool) (j : ℕ) → IsOperand (kind_of n) left j → IsInput (kind_of n) j
-side_input (Const b) left j r = absurd r
-side_input (Leaf a) left j r = absurd r
-side_input (Not p) true j r = r
-side_input (Not p) false j r = absurd r
-side_input (And p q) true j r = inl r
-side_input (And p q) false j r = inr r
-side_input (Or p q) true j r = inl r
-side_input (Or p q) false j r = inr r
-side_input (Implies p q) true j r = inl r
-side_input (Implies p q) false j r = inr r
-side_input (Until p q a b) true j r = inl r
-side_input (Until p q a b) false j r = inr r
-side_input (Since p q a b) true j r = inl r
-side_input (Since p q a b) false j r = inr r
-side_input (Eventually p a b i k) true j r = r
-side_input (Eventually p a b i k) false j r = absurd r
-side_input (Always p a b i k) true j r = r
-side_input (Always p a b i k) false j r = absurd r
-side_input (Once p a b i k) true j r = r
-side_input (Once p a b i k) false j r = absurd r
-side_input (Historically p a b i k) true j r = r
-side_input (Historically p a b i k) false j r = absurd r
+pub input_side : (kind : Kind) (j : ℕ) → IsInput kind j → (left : Bool) × IsOperand kind left j
+input_side (Constant b) j r = absurd r
+input_side (Connective join inputs) j (inl r) = (true, r)
+input_side (Connective join inputs) j (inr r) = (false, r)
+input_side (UntilOf u) j (inl r) = (true, r)
+input_side (UntilOf u) j (inr r) = (false, r)
+input_side (SinceOf s) j (inl r) = (true, r)
+input_side (SinceOf s) j (inr r) = (false, r)
+input_side _ j r = (true, r)
 
 -- how far an operator looks by its kind is how far its node does
 small_less : (c : ℕ) → c ≤ 4294967295 → int_lt (pos c) (pos 8589934592) ≡ true
@@ -248,31 +123,10 @@ past_by a c h = ap (λ t. neg_ℤ (cond t (pos c) (pos a))) (small_less c h)
 
 -- a kind looks as far back into an input as its node
 pub looks_is : (n : Node) (left : Bool) (j : ℕ) → IsReader n left j → own_reach n ≤ 4294967295 → looks_by (kind_of n) left ≡ reach_back n left
-looks_is (Const b) left j r h = absurd r
-looks_is (Leaf a) left j r h = absurd r
-looks_is (Not p) true j r h = refl
-looks_is (Not p) false j r h = absurd r
-looks_is (And p q) true j r h = refl
-looks_is (And p q) false j r h = refl
-looks_is (Or p q) true j r h = refl
-looks_is (Or p q) false j r h = refl
-looks_is (Implies p q) true j r h = refl
-looks_is (Implies p q) false j r h = refl
-looks_is (Until p q a b) true j r h = refl
 looks_is (Until p q a b) false j r h = twice_negated a
-looks_is (Since p q a None) true j r h = refl
-looks_is (Since p q a None) false j r h = refl
-looks_is (Since p q a (Some b)) true j r h = past_by a b h
-looks_is (Since p q a (Some b)) false j r h = past_by a b h
-looks_is (Eventually p a b i k) true j r h = twice_negated a
-looks_is (Eventually p a b i k) false j r h = absurd r
-looks_is (Always p a b i k) true j r h = twice_negated a
-looks_is (Always p a b i k) false j r h = absurd r
-looks_is (Once p a None i k) true j r h = refl
-looks_is (Once p a None i k) false j r h = absurd r
-looks_is (Once p a (Some b) i k) true j r h = past_by a b h
-looks_is (Once p a (Some b) i k) false j r h = absurd r
-looks_is (Historically p a None i k) true j r h = refl
-looks_is (Historically p a None i k) false j r h = absurd r
-looks_is (Historically p a (Some b) i k) true j r h = past_by a b h
-looks_is (Historically p a (Some b) i k) false j r h = absurd r
+looks_is (Eventually p a b i k) left j r h = twice_negated a
+looks_is (Always p a b i k) left j r h = twice_negated a
+looks_is (Since p q a (Some b)) left j r h = past_by a b h
+looks_is (Once p a (Some b) i k) left j r h = past_by a b h
+looks_is (Historically p a (Some b) i k) left j r h = past_by a b h
+looks_is _ left j r h = refl

@@ -11,20 +11,8 @@ use Rattle.std.proofs.lemmas.Option.{slice_get_within, get_or_from_slice_get}
 use Rattle.stl_syntax.specs.PostOrder.{has_child, is_used, unused, IsPostOrder}
 use Rattle.stl_syntax.specs.WellFormed.{HasOneRoot}
 use Rattle.stl_syntax.specs.declared.node.Node.{Node}
-use Rattle.stl_syntax.specs.declared.node.Node.TheVariants.{
-  Const,
-  Atom as Leaf,
-  Not,
-  And,
-  Or,
-  Implies,
-  Until,
-  Eventually,
-  Always,
-  Since,
-  Once,
-  Historically,
-}
+use Rattle.stl_syntax.specs.declared.node.Node.TheVariants.{Const, Atom as Leaf, Not, And, Or, Implies, Until, Eventually}
+use Rattle.stl_syntax.specs.declared.node.Node.TheVariants.{Always, Since, Once, Historically}
 use Rattle.stl_syntax.proofs.PostOrderLemmas.{children_free, unused_free, slice_get_at}
 use Rattle.online_nodes.specs.Needed.{IsReader}
 use Rattle.online_nodes.proofs.ReaderLemmas.{child_all, reader_has}

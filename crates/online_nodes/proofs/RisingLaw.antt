@@ -1,39 +1,6 @@
 -- In a run no number falls, and a reader's number does not pass what its inputs' numbers allow.
-use Rattle.std.proofs.Common.{
-  ◌≡◌,
-  ◌⊎◌,
-  inl,
-  inr,
-  refl,
-  sym,
-  ap,
-  subst,
-  ◌∙◌,
-  ℕ,
-  ◌<◌,
-  ◌≤◌,
-  suc,
-  take as first,
-  Bool,
-  true,
-  false,
-  not,
-  Option,
-  Some,
-  None,
-  List,
-  [],
-  ◌∷◌,
-  ◌++◌,
-  length,
-  ℤ,
-  pos,
-  neg_ℤ,
-  ◌+ℤ◌,
-  ◌≤ℤ◌,
-  ◌<ℤ◌,
-  arith,
-}
+use Rattle.std.proofs.Common.{◌≡◌, ◌⊎◌, inl, inr, refl, sym, ap, subst, ◌∙◌, ℕ, ◌<◌, ◌≤◌, suc, take as first, Bool, true, false}
+use Rattle.std.proofs.Common.{not, Option, Some, None, List, [], ◌∷◌, ◌++◌, length, ℤ, pos, neg_ℤ, ◌+ℤ◌, ◌≤ℤ◌, ◌<ℤ◌, arith}
 use Rattle.std.specs.Prelude.{int_lt, cond, ◌&&◌, ◌==◌, slice_index_or, slice_get, IfSome, All}
 use Rattle.std.proofs.lemmas.Int.{ints}
 use Rattle.std.proofs.lemmas.List.{length-take-le}
@@ -45,48 +12,12 @@ use Rattle.stl_syntax.specs.Formula.{subformula, HasChildrenBelow}
 use Rattle.stl_syntax.specs.PostOrder.{IsPostOrder, children}
 use Rattle.stl_syntax.specs.WellFormed.{HasBounds}
 use Rattle.stl_syntax.specs.declared.node.Node.{Node}
-use Rattle.stl_syntax.specs.declared.node.Node.TheVariants.{
-  Const,
-  Atom as Leaf,
-  Not,
-  And,
-  Or,
-  Implies,
-  Until,
-  Eventually,
-  Always,
-  Since,
-  Once,
-  Historically,
-}
+use Rattle.stl_syntax.specs.declared.node.Node.TheVariants.{Const, Atom as Leaf, Not, And, Or, Implies, Until, Eventually}
+use Rattle.stl_syntax.specs.declared.node.Node.TheVariants.{Always, Since, Once, Historically}
 use Rattle.stl_syntax.proofs.PostOrderLemmas.{placed, slice_get_at, children_below}
-use Rattle.online_nodes.specs.Network.{
-  Event,
-  row,
-  step,
-  close,
-  take,
-  Front,
-  least,
-  moved_by,
-  State,
-  last_row,
-  open_number,
-  same_front,
-  allowed,
-  allowed_at,
-  all_at_end,
-  is_atom,
-  node_is_atom,
-  initial,
-  after_event,
-  state_from,
-  reach_back,
-  MayCome,
-  IsRunFrom,
-  IsRun,
-  state,
-}
+use Rattle.online_nodes.specs.Network.{Event, row, step, close, take, Front, least, moved_by, State, last_row, open_number}
+use Rattle.online_nodes.specs.Network.{same_front, allowed, allowed_at, all_at_end, is_atom, node_is_atom, initial, after_event}
+use Rattle.online_nodes.specs.Network.{state_from, reach_back, MayCome, IsRunFrom, IsRun, state}
 use Rattle.online_nodes.specs.Needed.{IsReader}
 use Rattle.online_nodes.specs.Laws.{NeverLess}
 use Rattle.online_nodes.proofs.RunLaw.{AllBounded, bounded_after, open_bound, none_is_none, moved, lesser, last_appended}
@@ -102,9 +33,6 @@ less_through o p q h k f e =
     let x = h f e in
     let y = k x.0 x.1 in
     (y.0, y.1, let a = x.2 in let b = y.2 in omega (arith, ints))
-
-from_none : (o : Front) → NeverLess None o
-from_none o f e = absurd (none_is_none f e)
 
 -- the least of two numbers is one of them
 pub least_of : (g h : ℤ) → (m : ℤ) × (least (Some g) (Some h) ≡ Some m) × ((m ≡ g) ⊎ (m ≡ h))
@@ -198,10 +126,7 @@ at_end_reads s n left j r e = by_node n left r e
         by_first false z = absurd (let x : false ≡ true = z in cc)
 
     by_node : (n : Node) (left : Bool) → IsReader n left j → all_at_end s (children n) ≡ true → s.fronts j ≡ last_row s
-    by_node (Const b) left r e = absurd r
-    by_node (Leaf a) left r e = absurd r
     by_node (Not p) true r e = one p r e
-    by_node (Not p) false r e = absurd r
     by_node (And p q) true r e = first p q r e
     by_node (And p q) false r e = second p q r e
     by_node (Or p q) true r e = first p q r e
@@ -211,15 +136,12 @@ at_end_reads s n left j r e = by_node n left r e
     by_node (Until p q a b) true r e = first p q r e
     by_node (Until p q a b) false r e = second p q r e
     by_node (Eventually p a b i k) true r e = one p r e
-    by_node (Eventually p a b i k) false r e = absurd r
     by_node (Always p a b i k) true r e = one p r e
-    by_node (Always p a b i k) false r e = absurd r
     by_node (Since p q a b) true r e = first p q r e
     by_node (Since p q a b) false r e = second p q r e
     by_node (Once p a b i k) true r e = one p r e
-    by_node (Once p a b i k) false r e = absurd r
     by_node (Historically p a b i k) true r e = one p r e
-    by_node (Historically p a b i k) false r e = absurd r
+    by_node _ _ r e = absurd r
 
 -- an input of a node allows it its number
 reads_within : (s : State) (n : Node) (left : Bool) (j : ℕ) → IsReader n left j → HasBounds n → (h : ℤ) → open_number n s ≡ Some h
@@ -275,10 +197,7 @@ reads_within s n left j r b h e = by_node n left r b e
         (d.0, ap s.fronts (sym x) ∙ d.1, (let c = d.2 in let g = k.5 in omega (arith, ints)))
 
     by_node : (n : Node) (left : Bool) → IsReader n left j → HasBounds n → open_number n s ≡ Some h → Within (reach_back n left)
-    by_node (Const b) left r o e = absurd r
-    by_node (Leaf a) left r o e = absurd r
     by_node (Not p) true r o e = (h, ap s.fronts (sym r) ∙ e, omega (arith, ints))
-    by_node (Not p) false r o e = absurd r
     by_node (And p q) true r o e = first p q r e
     by_node (And p q) false r o e = second p q r e
     by_node (Or p q) true r o e = first p q r e
@@ -288,21 +207,16 @@ reads_within s n left j r b h e = by_node n left r b e
     by_node (Until p q a b) true r o e = until_left p q b r e
     by_node (Until p q a b) false r o e = until_right p q a b o r e
     by_node (Eventually p a b i k) true r o e = ahead p a b o r e
-    by_node (Eventually p a b i k) false r o e = absurd r
     by_node (Always p a b i k) true r o e = ahead p a b o r e
-    by_node (Always p a b i k) false r o e = absurd r
     by_node (Since p q a None) true r o e = since_left p q a a r e
     by_node (Since p q a (Some b)) true r o e = since_left p q a b r e
     by_node (Since p q a None) false r o e = since_right p q a a (omega arith) r e
     by_node (Since p q a (Some b)) false r o e = since_right p q a b o r e
     by_node (Once p a None i k) true r o e = behind p a a (omega arith) r e
     by_node (Once p a (Some b) i k) true r o e = behind p a b o.0 r e
-    by_node (Once p a None i k) false r o e = absurd r
-    by_node (Once p a (Some b) i k) false r o e = absurd r
     by_node (Historically p a None i k) true r o e = behind p a a (omega arith) r e
     by_node (Historically p a (Some b) i k) true r o e = behind p a b o.0 r e
-    by_node (Historically p a None i k) false r o e = absurd r
-    by_node (Historically p a (Some b) i k) false r o e = absurd r
+    by_node _ _ r o e = absurd r
 
 -- no number of the places before i falls, nor the last row's time
 pub record IsLater (i : ℕ) (s s' : State) : Type 0 where
@@ -426,17 +340,7 @@ module _ (nodes : List Node) (header : Header) (order : IsPostOrder nodes) where
 
       by_node : (n : Node) → is_atom n ≡ true → allowed n s ≡ last_row s
       by_node (Leaf a) e = same (s.closed && true)
-      by_node (Const b) e = absurd (let y : false ≡ true = e in cc)
-      by_node (Not p) e = absurd (let y : false ≡ true = e in cc)
-      by_node (And p q) e = absurd (let y : false ≡ true = e in cc)
-      by_node (Or p q) e = absurd (let y : false ≡ true = e in cc)
-      by_node (Implies p q) e = absurd (let y : false ≡ true = e in cc)
-      by_node (Until p q a b) e = absurd (let y : false ≡ true = e in cc)
-      by_node (Eventually p a b i j) e = absurd (let y : false ≡ true = e in cc)
-      by_node (Always p a b i j) e = absurd (let y : false ≡ true = e in cc)
-      by_node (Since p q a b) e = absurd (let y : false ≡ true = e in cc)
-      by_node (Once p a b i j) e = absurd (let y : false ≡ true = e in cc)
-      by_node (Historically p a b i j) e = absurd (let y : false ≡ true = e in cc)
+      by_node _ e = absurd (let y : false ≡ true = e in cc)
 
   -- an event lets no number fall
   pub event_later : (s : State) (e : Event) → MayCome nodes header s e → AtomsAtLast s → Rising s

@@ -7,7 +7,7 @@ use Rattle.std.proofs.lemmas.Option.{same_Some}
 use Rattle.stl_syntax.specs.Trace.{Header, Row, IsTrace, AreRows, Continues, last_time}
 use Rattle.stl_syntax.specs.declared.node.Node.{Node}
 use Rattle.stl_syntax.proofs.RowsLemmas.{rows-push}
-use Rattle.online_nodes.specs.Network.{Event, row, step, close, take, State, last_row, after_event, state_from, initial, state, MayCome, IsRunFrom, IsRun}
+use Rattle.online_nodes.specs.Network.{Event, row, State, last_row, after_event, state_from, initial, state, MayCome, IsRunFrom, IsRun}
 use Rattle.online_nodes.proofs.RunLaw.{none_is_none}
 
 -- no row, or those of a trace
@@ -27,9 +27,7 @@ module _ (nodes : List Node) (header : Header) where
   pub rows_after : (s : State) (e : Event) → MayCome nodes header s e → AreRowsSoFar (length header.columns) s.rows
       → AreRowsSoFar (length header.columns) (after_event nodes s e).rows
   rows_after s (row r) may h = pushed (length header.columns) s.rows r h may.1 may.2
-  rows_after s (step i) may h = h
-  rows_after s close may h = h
-  rows_after s take may h = h
+  rows_after s _ may h = h
 
   rows_from : (s : State) (events : List Event) → IsRunFrom nodes header s events → AreRowsSoFar (length header.columns) s.rows
       → AreRowsSoFar (length header.columns) (state_from nodes s events).rows

@@ -11,47 +11,13 @@ use Rattle.stl_syntax.specs.Formula.{Subformula, subformula, horizon, tree_of, H
 use Rattle.stl_syntax.specs.PostOrder.{IsPostOrder, children}
 use Rattle.stl_syntax.proofs.FormulaLemmas.{subformula-at}
 use Rattle.stl_syntax.proofs.PostOrderLemmas.{placed, slice_get_at}
-use Rattle.online_nodes.specs.Network.{
-  Event,
-  row,
-  step,
-  close,
-  take,
-  Front,
-  least,
-  moved_by,
-  State,
-  last_row,
-  open_number,
-  allowed,
-  allowed_at,
-  all_at_end,
-  is_atom,
-  node_is_atom,
-  initial,
-  after_event,
-  state_from,
-  state,
-  MayCome,
-  IsRunFrom,
-  IsRun,
-}
+use Rattle.online_nodes.specs.Network.{Event, row, step, close, take, Front, least, moved_by, State, last_row, open_number}
+use Rattle.online_nodes.specs.Network.{allowed, allowed_at, all_at_end, is_atom, node_is_atom, initial, after_event, state_from}
+use Rattle.online_nodes.specs.Network.{state, MayCome, IsRunFrom, IsRun}
 use Rattle.online_nodes.specs.Laws.{IsBounded}
 use Rattle.stl_syntax.specs.declared.node.Node.{Node}
-use Rattle.stl_syntax.specs.declared.node.Node.TheVariants.{
-  Const,
-  Atom as Leaf,
-  Not,
-  And,
-  Or,
-  Implies,
-  Until,
-  Eventually,
-  Always,
-  Since,
-  Once,
-  Historically,
-}
+use Rattle.stl_syntax.specs.declared.node.Node.TheVariants.{Const, Atom as Leaf, Not, And, Or, Implies, Until, Eventually}
+use Rattle.stl_syntax.specs.declared.node.Node.TheVariants.{Always, Since, Once, Historically}
 
 -- none is no number
 pub none_is_none : (a : ℤ) → None ≡ Some a → ⊥
@@ -217,17 +183,7 @@ module _ (nodes : List Node) (header : Header) (order : IsPostOrder nodes) where
     where
       by_node : (n : Node) → slice_get nodes i ≡ Some n → is_atom n ≡ true → horizon (subformula nodes i) ≡ 0
       by_node (Leaf a) at x = ap (λ p. horizon p) (subformula-at nodes i (Leaf a) at (placed nodes i (Leaf a) order at))
-      by_node (Const b) at x = absurd (let y : false ≡ true = x in cc)
-      by_node (Not p) at x = absurd (let y : false ≡ true = x in cc)
-      by_node (And p q) at x = absurd (let y : false ≡ true = x in cc)
-      by_node (Or p q) at x = absurd (let y : false ≡ true = x in cc)
-      by_node (Implies p q) at x = absurd (let y : false ≡ true = x in cc)
-      by_node (Until p q a b) at x = absurd (let y : false ≡ true = x in cc)
-      by_node (Eventually p a b i j) at x = absurd (let y : false ≡ true = x in cc)
-      by_node (Always p a b i j) at x = absurd (let y : false ≡ true = x in cc)
-      by_node (Since p q a b) at x = absurd (let y : false ≡ true = x in cc)
-      by_node (Once p a b i j) at x = absurd (let y : false ≡ true = x in cc)
-      by_node (Historically p a b i j) at x = absurd (let y : false ≡ true = x in cc)
+      by_node _ at x = absurd (let y : false ≡ true = x in cc)
 
   -- one more event keeps all numbers bounded
   pub bounded_after : (s : State) (e : Event) → MayCome nodes header s e → AllBounded s → AllBounded (after_event nodes s e)

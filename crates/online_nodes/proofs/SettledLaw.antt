@@ -5,20 +5,8 @@ use Rattle.stl_syntax.specs.Formula.{Subformula, horizon, tree_of, HasChildrenBe
 use Rattle.online_nodes.specs.Network.{least, moved_by, State, last_row, open_number}
 use Rattle.online_nodes.proofs.FrontsLaw.{least_is}
 use Rattle.stl_syntax.specs.declared.node.Node.{Node}
-use Rattle.stl_syntax.specs.declared.node.Node.TheVariants.{
-  Const,
-  Atom as Leaf,
-  Not,
-  And,
-  Or,
-  Implies,
-  Until,
-  Eventually,
-  Always,
-  Since,
-  Once,
-  Historically,
-}
+use Rattle.stl_syntax.specs.declared.node.Node.TheVariants.{Const, Atom as Leaf, Not, And, Or, Implies, Until, Eventually}
+use Rattle.stl_syntax.specs.declared.node.Node.TheVariants.{Always, Since, Once, Historically}
 
 module _ (at : ℕ → Subformula) (s : State) (l : ℤ) where
   abbrev Settled : ℕ → Type 0

@@ -14,18 +14,8 @@ use Rattle.online_nodes.specs.Written.{HasSaidBoth}
 use Rattle.online_nodes.specs.Working.{HasPassed, HasWorked}
 use Rattle.online_nodes.specs.Sweeps.{Counted, low_place, high_place}
 use Rattle.online_nodes.specs.Untils.{Reads}
-use Rattle.online_nodes.specs.Sinces.{
-  CanMoveRun,
-  HasDone,
-  HasMoved,
-  HasReadRight,
-  HasRested,
-  IsBackward,
-  IsSince,
-  IsSpent,
-  IsStaying,
-  Stay,
-}
+use Rattle.online_nodes.specs.Sinces.{CanMoveRun, HasDone, HasMoved, HasReadRight, HasRested, IsBackward, IsSince, IsSpent}
+use Rattle.online_nodes.specs.Sinces.{IsStaying, Stay}
 use Rattle.frac128.specs.declared.cut.Cut.{Cut}
 use Rattle.online_nodes.specs.declared.since.Wrote.{Wrote}
 use Rattle.online_nodes.specs.declared.since.Since.{Since}
@@ -36,20 +26,8 @@ use Rattle.rational.proofs.PlaceLemmas.{sides, not_both, place_order, upto_of_be
 use Rattle.online_nodes.proofs.SaidLemmas.{passed-fresh, passed-one}
 use Rattle.online_nodes.proofs.SinceLaw.{goes_on, knows_found, knows_right_read, knows_left_read}
 use Rattle.online_nodes.proofs.SinceEnds.{IsRest, rest_staying}
-use Rattle.online_nodes.proofs.SinceTurns.{
-  IsLaterOf,
-  IsWorking,
-  left-first,
-  left_holds_to,
-  left_within,
-  moved_more,
-  moved_up,
-  not_yet_found,
-  right-first,
-  right_step,
-  right_within,
-  staying-remembers,
-}
+use Rattle.online_nodes.proofs.SinceTurns.{IsLaterOf, IsWorking, left-first, left_holds_to, left_within, moved_more, moved_up}
+use Rattle.online_nodes.proofs.SinceTurns.{not_yet_found, right-first, right_step, right_within, staying-remembers}
 use Rattle.online_nodes.proofs.UntilCounts.{meets_from, meets_to}
 use Rattle.online_nodes.proofs.UntilTurns.{goes_on_from}
 use Rattle.online_nodes.proofs.WindowLaw.{IsMet}

@@ -13,20 +13,8 @@ use Rattle.online_nodes.specs.Written.{IsSound, waiting}
 use Rattle.online_nodes.specs.Working.{HasPassed, HasWorked}
 use Rattle.online_nodes.specs.Sweeps.{Counted}
 use Rattle.online_nodes.specs.Untils.{Reads}
-use Rattle.online_nodes.specs.Sinces.{
-  CanMoveRun,
-  HasDone,
-  HasGoneOn,
-  HasMoved,
-  HasPassedFirst,
-  HasRested,
-  HasSinceTold,
-  IsSince,
-  IsSpent,
-  IsStaying,
-  IsTurn,
-  Stay,
-}
+use Rattle.online_nodes.specs.Sinces.{CanMoveRun, HasDone, HasGoneOn, HasMoved, HasPassedFirst, HasRested, HasSinceTold}
+use Rattle.online_nodes.specs.Sinces.{IsSince, IsSpent, IsStaying, IsTurn, Stay}
 use Rattle.frac128.specs.declared.cut.Cut.{Cut}
 use Rattle.online_nodes.specs.declared.since.Wrote.{Wrote}
 use Rattle.online_nodes.specs.declared.since.Since.{Since}
@@ -38,19 +26,8 @@ use Rattle.rational.proofs.PlaceLemmas.{before_of_at_most, after_at_most}
 use Rattle.online_nodes.proofs.SinceLaw.{knows_right_fails, knows_right_read}
 use Rattle.online_nodes.proofs.SinceCounts.{IsFound, counts_right, counts_left, counts_done}
 use Rattle.online_nodes.proofs.SinceEnds.{rest_done}
-use Rattle.online_nodes.proofs.SinceTurns.{
-  IsLaterOf,
-  IsLeftRead,
-  IsWorking,
-  left_holds_to,
-  left_over,
-  moved_order,
-  not_yet_found,
-  right-first,
-  right_over,
-  right_within,
-  run_behind,
-}
+use Rattle.online_nodes.proofs.SinceTurns.{IsLaterOf, IsLeftRead, IsWorking, left_holds_to, left_over, moved_order}
+use Rattle.online_nodes.proofs.SinceTurns.{not_yet_found, right-first, right_over, right_within, run_behind}
 use Rattle.online_nodes.proofs.WorkLemmas.{worked_none, worked_both}
 
 -- the left input went on: it was read, or the stretch is told to its end

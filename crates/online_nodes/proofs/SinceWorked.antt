@@ -17,34 +17,11 @@ use Rattle.stl_syntax.specs.Limits.{own_reach}
 use Rattle.stl_syntax.specs.WellFormed.{HasBounds}
 use Rattle.stl_syntax.specs.declared.items.Verdict.{Verdict}
 use Rattle.stl_syntax.specs.declared.node.Node.{Node}
-use Rattle.stl_syntax.specs.declared.node.Node.TheVariants.{
-  Const,
-  Atom as Leaf,
-  Not,
-  And,
-  Or,
-  Implies,
-  Until,
-  Eventually,
-  Always,
-  Since,
-  Once,
-  Historically,
-}
+use Rattle.stl_syntax.specs.declared.node.Node.TheVariants.{Since}
 use Rattle.online_nodes.specs.Network.{Front, moved_by}
 use Rattle.online_nodes.specs.Answering.{HasWorkedOn, IsInput, is_empty}
-use Rattle.online_nodes.specs.Stepping.{
-  Situation,
-  HasWorkedOut,
-  IsBegun,
-  IsDue,
-  LeavesLater,
-  end_of,
-  first_in,
-  formula_of,
-  stretch_of,
-  trace_in,
-}
+use Rattle.online_nodes.specs.Stepping.{Situation, HasWorkedOut, IsBegun, IsDue, LeavesLater, end_of, first_in, formula_of}
+use Rattle.online_nodes.specs.Stepping.{stretch_of, trace_in}
 use Rattle.rational.specs.Places.{After, AtMost, Before, Place, Same, Upto, begins, ends, moved_begin}
 use Rattle.frac128.specs.Cuts.{place}
 use Rattle.online_nodes.specs.Held.{Held, fresh_at, number_at}
@@ -66,20 +43,8 @@ use Rattle.online_nodes.specs.declared.answering.Outcome.{Outcome}
 use Rattle.online_nodes.specs.declared.writer.Out.{Out}
 use Rattle.online_nodes.proofs.AlikeLemmas.{IsLike, like_itself, since_like, told_like}
 use Rattle.online_nodes.proofs.BelongLemmas.{own_bounds, own_reach_small}
-use Rattle.online_nodes.proofs.DueLemmas.{
-  among_first,
-  among_telling,
-  begin_before,
-  begun_at,
-  begun_behind,
-  begun_inside,
-  begun_told,
-  due_cases,
-  formula_is,
-  front_by_now,
-  kind_is,
-  knows_at,
-}
+use Rattle.online_nodes.proofs.DueLemmas.{among_first, among_telling, begin_before, begun_at, begun_behind, begun_inside}
+use Rattle.online_nodes.proofs.DueLemmas.{begun_told, due_cases, formula_is, front_by_now, kind_is, knows_at}
 use Rattle.online_nodes.proofs.TellingLemmas.{fresh_counted, fresh_tells, fresh_within, tells_between, tells_upto}
 use Rattle.online_nodes.proofs.AnsweringLemmas.{fresh_few, worked_two}
 use Rattle.online_nodes.proofs.LooksLaw.{since_looks}
@@ -156,17 +121,7 @@ module _ (at : ℕ → Subformula) (i : ℕ) (tr : Trace) (to : Place) where
     since_node (Since p q a b) s e h r =
         let same : record { window = behind p a b true true true; right = q } ≡ s = same_since _ s e in
         subst (λ (v : SinceWindow). HasSince (tree_of at i (Since p q a b)) (at v.window.of) (at v.right) tr v to) same (any_since p q a b h r)
-    since_node (Const c) s e h r = absurd (false≢true (ap is_since e))
-    since_node (Leaf l) s e h r = absurd (false≢true (ap is_since e))
-    since_node (Not q) s e h r = absurd (false≢true (ap is_since e))
-    since_node (And p q) s e h r = absurd (false≢true (ap is_since e))
-    since_node (Or p q) s e h r = absurd (false≢true (ap is_since e))
-    since_node (Implies p q) s e h r = absurd (false≢true (ap is_since e))
-    since_node (Until p q c k) s e h r = absurd (false≢true (ap is_since e))
-    since_node (Eventually p a b x y) s e h r = absurd (false≢true (ap is_since e))
-    since_node (Always p a b x y) s e h r = absurd (false≢true (ap is_since e))
-    since_node (Once p a b x y) s e h r = absurd (false≢true (ap is_since e))
-    since_node (Historically p a b x y) s e h r = absurd (false≢true (ap is_since e))
+    since_node _ s e h r = absurd (false≢true (ap is_since e))
 
 -- what begins no earlier than a time
 at_most_at : (r : Rational) (c : Place) → r ≤ʳ c.at → AtMost (record { at = r; after = false }) c

@@ -15,20 +15,8 @@ use Rattle.stl_syntax.specs.PostOrder.{IsPostOrder}
 use Rattle.stl_syntax.specs.WellFormed.{AreWellFormed, HasBounds}
 use Rattle.stl_syntax.specs.declared.items.Verdict.{Verdict}
 use Rattle.stl_syntax.specs.declared.node.Node.{Node}
-use Rattle.stl_syntax.specs.declared.node.Node.TheVariants.{
-  Const,
-  Atom as Leaf,
-  Not,
-  And,
-  Or,
-  Implies,
-  Until,
-  Eventually,
-  Always,
-  Since,
-  Once,
-  Historically,
-}
+use Rattle.stl_syntax.specs.declared.node.Node.TheVariants.{Const, Atom as Leaf, Not, And, Or, Implies, Until, Eventually}
+use Rattle.stl_syntax.specs.declared.node.Node.TheVariants.{Always, Since, Once, Historically}
 use Rattle.online_nodes.specs.Network.{Event, Front, least, State, last_row, shown, after_event, state, reach_back, needed, EmittedAt, IsRun, MayCome}
 use Rattle.rational.specs.Time.{Interval}
 use Rattle.online_nodes.specs.Needed.{IsReader, AreMeeting, AreNeeded, IsEdge}
@@ -45,7 +33,7 @@ use Rattle.online_nodes.specs.declared.operator.Operator.{Operator}
 use Rattle.rational.proofs.PlaceLemmas.{same_places, upto_same, upto_of_before, before_of_at_most}
 use Rattle.rational.proofs.Tests.{int_order}
 use Rattle.online_nodes.proofs.RunLaw.{lesser}
-use Rattle.online_nodes.proofs.RisingLaw.{IsSound, sound_after, sound_of, event_later, reader_behind, children_before, least_of, least_rises, since_left_behind}
+use Rattle.online_nodes.proofs.RisingLaw.{IsSound, sound_of, event_later, reader_behind, children_before, least_of, least_rises, since_left_behind}
 use Rattle.online_nodes.proofs.StayLaw.{shown_is, first_same, agrees, goes_on_before}
 use Rattle.online_nodes.proofs.EmittedLaw.{Led, here_led, none_before, front_shown, emitted_tiles}
 use Rattle.online_nodes.proofs.MeetingLaw.{Each, tiled_upto}
@@ -179,9 +167,6 @@ module _ (nodes : List Node) (header : Header) (formed : AreWellFormed nodes) wh
 
     sound : IsSound nodes header order s
     sound = sound_of nodes header order events run
-
-    sound' : IsSound nodes header order s'
-    sound' = sound_after nodes header order s ev may sound
 
     -- the start is that of the rows so far
     begin_same : (j : ℕ) (f : ℤ) → j < length nodes → s.fronts j ≡ Some f → first_time s'.rows ≡ first_time s.rows

@@ -1,30 +1,6 @@
 -- What a node gave out is its truth in every trace that goes on from the rows.
-use Rattle.std.proofs.Common.{
-  ◌≡◌,
-  inl,
-  inr,
-  refl,
-  sym,
-  ap,
-  subst,
-  ◌∙◌,
-  ℕ,
-  ◌<◌,
-  Bool,
-  true,
-  false,
-  Some,
-  None,
-  List,
-  [],
-  ◌∷◌,
-  ◌++◌,
-  ℤ,
-  pos,
-  ◌+ℤ◌,
-  ◌≤ℤ◌,
-  arith,
-}
+use Rattle.std.proofs.Common.{◌≡◌, inl, inr, refl, sym, ap, subst, ◌∙◌, ℕ, ◌<◌, Bool, true, false, Some, None, List, [], ◌∷◌}
+use Rattle.std.proofs.Common.{◌++◌, ℤ, pos, ◌+ℤ◌, ◌≤ℤ◌, arith}
 use Rattle.std.specs.Prelude.{MatchBool, length, int_lt, cond}
 use Rattle.std.proofs.lemmas.List.{append_assoc, append-nil}
 use Rattle.std.proofs.lemmas.Option.{same_Some}
@@ -42,28 +18,8 @@ use Rattle.stl_syntax.specs.Formula.{Subformula, subformula, horizon}
 use Rattle.stl_syntax.specs.Truth.{Truth}
 use Rattle.stl_syntax.specs.Verdicts.{Describes, GoesOn, IsTold}
 use Rattle.stl_syntax.specs.PostOrder.{IsPostOrder}
-use Rattle.online_nodes.specs.Network.{
-  Event,
-  row,
-  step,
-  close,
-  take,
-  Front,
-  State,
-  last_row,
-  after_event,
-  state_from,
-  shown,
-  same_front,
-  answered,
-  EmittedAt,
-  EmittedFrom,
-  Emitted,
-  IsRunFrom,
-  IsRun,
-  initial,
-  state,
-}
+use Rattle.online_nodes.specs.Network.{Event, row, step, close, take, Front, State, last_row, after_event, state_from, shown}
+use Rattle.online_nodes.specs.Network.{same_front, answered, EmittedAt, EmittedFrom, Emitted, IsRunFrom, IsRun, initial, state}
 use Rattle.stl_syntax.specs.declared.items.Verdict.{Verdict}
 use Rattle.stl_syntax.specs.declared.node.Node.{Node}
 use Rattle.stl_syntax.proofs.LawProofs.{answers_stay}
@@ -284,9 +240,7 @@ module _ (nodes : List Node) (header : Header) (order : IsPostOrder nodes) where
           → first_time (rows ++ q ∷ []) ≡ first_time rows
       by_rows [] e = absurd (none_is_none l e)
       by_rows (r ∷ rows) e = refl
-  first_same s (step i) l h = refl
-  first_same s close l h = refl
-  first_same s take l h = refl
+  first_same s _ l h = refl
 
   -- what a node gives out from a state on is told in each trace that goes on from the rows at the end
   pub stay_from : (s : State) (events : List Event) → IsRunFrom nodes header s events → AllBounded nodes header order s → (i : ℕ)

@@ -1,9 +1,8 @@
 -- What a step leaves of its inputs' edges.
-use Rattle.std.proofs.Common.{◌≡◌, ◌⊎◌, inl, inr, refl, sym, ap, subst, ◌∙◌, ℕ, zero, suc, ◌+◌, ◌-◌, ◌<◌, ◌≤◌, Bool, true}
-use Rattle.std.proofs.Common.{false, Option, Some, None, List, [], ◌∷◌, drop, length, ℤ, pos, ◌+ℤ◌, ◌≤ℤ◌, ◌<ℤ◌, arith}
+use Rattle.std.proofs.Common.{◌≡◌, inl, inr, refl, sym, ap, subst, ◌∙◌, ℕ, zero, suc, ◌+◌, ◌-◌, ◌<◌, ◌≤◌, Bool, true}
+use Rattle.std.proofs.Common.{false, Some, None, List, [], ◌∷◌, drop, ℤ, pos, ◌+ℤ◌, ◌≤ℤ◌, ◌<ℤ◌, arith}
 use Rattle.std.specs.Prelude.{int_lt, cond, slice_get, IfSome}
 use Rattle.std.proofs.lemmas.Int.{ints}
-use Rattle.std.proofs.lemmas.Bool.{cases_lt}
 use Rattle.std.proofs.lemmas.Option.{same_Some}
 use Rattle.rational.specs.Rational.{Rational, ◌≤ʳ◌, ◌<ʳ◌, whole}
 use Rattle.rational.specs.Time.{left_open, closed as closed_at}
@@ -13,18 +12,15 @@ use Rattle.rational.proofs.TimeLemmas.{less_in, less_no}
 use Rattle.frac128.specs.Spans.{interval}
 use Rattle.frac128.specs.Value.{value}
 use Rattle.stl_syntax.specs.declared.items.Verdict.{Verdict}
-use Rattle.rational.specs.Places.{Place, begins, ends, Upto, AtMost, Before}
+use Rattle.rational.specs.Places.{Place, begins, ends, Before}
 use Rattle.online_nodes.specs.Held.{Edge, held_of, IsDroppedBy}
 use Rattle.online_nodes.specs.Laws.{answered_to, beyond, AreTiles}
 use Rattle.online_nodes.specs.Needed.{AreMeeting, AreNeeded}
 use Rattle.online_nodes.specs.Network.{Front}
-use Rattle.online_nodes.specs.Operators.{first_place}
 use Rattle.online_nodes.proofs.DroppingLemmas.{held_of-without}
 use Rattle.online_nodes.proofs.HeldFacts.{needed_part}
 use Rattle.online_nodes.proofs.HeldLaw.{meeting_is_suffix}
 use Rattle.online_nodes.proofs.MeetingLaw.{beyond_later, needed_first}
-use Rattle.rational.proofs.PlaceLemmas.{same_places, upto_same}
-use Rattle.rational.proofs.Lists.{slice_get-append_right}
 use Rattle.rational.proofs.Tests.{int_order}
 
 -- a list without those of its first verdicts that end by a time, of which the next one ends later, is what is left by that time
@@ -48,63 +44,6 @@ let_go_is limit old new g =
 -- just after a whole time
 abbrev pub just_after : ℤ → Place
 just_after limit = record { at = whole limit; after = true }
-
-ends_by : (v : Verdict) (limit : ℤ) → value v.on.to ≤ʳ whole limit → AtMost (ends (interval v.on)) (just_after limit)
-ends_by v limit by t h = le_trans (by_end v.on.to_in h) by
-  where
-    by_end : (i : Bool) → Upto (record { at = value v.on.to; after = i }) t → t ≤ʳ value v.on.to
-    by_end true x = x
-    by_end false x = le_of_lt x
-
-first_by : (v : Verdict) (ws : List Verdict) (d : Place) → AreTiles (ends (interval v.on)) ws d → AtMost (first_place ws d) (ends (interval v.on))
-first_by v [] d same t h = upto_same d (ends (interval v.on)) t (same_places same) h
-first_by v (w ∷ ws) d (same, b, more) t h = upto_same (begins (interval w.on)) (ends (interval v.on)) t (same_places same) h
-
--- the first verdicts of a list without gap end by a time: what is left begins no later
-begins_by : (limit : ℤ) (c : Place) (vs : List Verdict) (d : Place) (n : ℕ) → AreTiles c vs d → 0 < n → n ≤ length vs
-    → ((k : ℕ) → k < n → IfSome (slice_get vs k) (λ v. value v.on.to ≤ʳ whole limit)) → AtMost (first_place (drop n vs) d) (just_after limit)
-begins_by limit c [] d n tiles some few ended = absurd (omega (arith, some, few))
-begins_by limit c (v ∷ vs) d zero tiles some few ended = absurd (omega (arith, some))
-begins_by limit c (v ∷ vs) d (suc zero) (s, b, rest) some few ended = λ t h. ends_by v limit (ended 0 (omega arith)) t (first_by v vs d rest t h)
-begins_by limit c (v ∷ vs) d (suc (suc n)) (s, b, rest) some few ended =
-    begins_by limit (ends (interval v.on)) vs d (suc n) rest (omega arith) (omega (arith, few)) (λ k l. ended (suc k) (omega (arith, l)))
-
-drop_past : (n : ℕ) (vs : List Verdict) → length vs ≤ n → drop n vs ≡ []
-drop_past zero [] h = refl
-drop_past (suc n) [] h = refl
-drop_past zero (v ∷ vs) h = absurd (omega (arith, h))
-drop_past (suc n) (v ∷ vs) h = drop_past n vs (omega (arith, h))
-
--- once an edge let go what ends by a time: of what was not read nothing went, or what is left of it begins by then
-pub unread_left : (limit : ℤ) (old new : Edge) (c stop : Place) → IsDroppedBy limit old new → AreTiles c old.fresh stop
-    → AtMost stop (just_after limit) ⊎ (new.fresh ≡ old.fresh) ⊎ AtMost (first_place new.fresh stop) (just_after limit)
-unread_left limit old new c stop g tiles = by_count (cases_lt (length old.seen) g.count)
-  where
-    fresh_is : new.fresh ≡ drop (g.count - length old.seen) old.fresh
-    fresh_is = ap (λ x. x.fresh) g.is
-
-    by_count : (length old.seen < g.count) ⊎ (g.count ≤ length old.seen)
-        → AtMost stop (just_after limit) ⊎ (new.fresh ≡ old.fresh) ⊎ AtMost (first_place new.fresh stop) (just_after limit)
-    by_count (inr few) = inr (inl (fresh_is ∙ ap (λ k. drop k old.fresh) (let e : g.count - length old.seen ≡ 0 = omega (arith, few) in e)))
-    by_count (inl more) = by_length (cases_lt (length old.fresh) (g.count - length old.seen))
-      where
-        ended : (k : ℕ) → k < g.count - length old.seen → IfSome (slice_get old.fresh k) (λ v. value v.on.to ≤ʳ whole limit)
-        ended k l = subst (λ (o : Option Verdict). IfSome o (λ v. value v.on.to ≤ʳ whole limit)) (slice_get-append_right old.seen old.fresh k)
-            (g.ended (length old.seen + k) (omega (arith, l, more)))
-
-        by_length : (length old.fresh < g.count - length old.seen) ⊎ (g.count - length old.seen ≤ length old.fresh)
-            → AtMost stop (just_after limit) ⊎ (new.fresh ≡ old.fresh) ⊎ AtMost (first_place new.fresh stop) (just_after limit)
-        by_length (inr within) = inr (inr (λ t h. begins_by limit c old.fresh stop (g.count - length old.seen) tiles (omega (arith, more)) within ended t
-            (subst (λ l. Upto (first_place l stop) t) fresh_is h)))
-        by_length (inl past) = by_some old.fresh refl
-          where
-            by_some : (l : List Verdict) → old.fresh ≡ l
-                → AtMost stop (just_after limit) ⊎ (new.fresh ≡ old.fresh) ⊎ AtMost (first_place new.fresh stop) (just_after limit)
-            by_some [] e = inr (inl (fresh_is ∙ drop_past (g.count - length old.seen) old.fresh (omega (arith, past)) ∙ sym e))
-            by_some (v ∷ vs) e = inl (λ t h. begins_by limit c old.fresh stop (length old.fresh) tiles
-                (let x = ap length e in let y : length (v ∷ vs) ≡ suc (length vs) = refl in omega (arith, x, y)) (omega arith)
-                (λ k l. ended k (omega (arith, l, past))) t
-                (subst (λ q. Upto (first_place q stop) t) (sym (drop_past (length old.fresh) old.fresh (omega arith))) h))
 
 -- what ends after the start is not left behind by an earlier time
 beyond_all : (lo : Rational) (c : Place) (vs : List Verdict) (d : Place) → lo <ʳ c.at → AreTiles c vs d → beyond lo vs ≡ vs

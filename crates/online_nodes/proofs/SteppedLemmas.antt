@@ -11,21 +11,8 @@ use Rattle.stl_syntax.specs.Formula.{subformula}
 use Rattle.stl_syntax.specs.Verdicts.{Describes}
 use Rattle.stl_syntax.specs.declared.items.Verdict.{Verdict}
 use Rattle.stl_syntax.specs.declared.node.Node.{Node}
-use Rattle.online_nodes.specs.Network.{
-  Event,
-  step,
-  Front,
-  State,
-  EmittedAt,
-  IsRun,
-  after_event,
-  allowed_at,
-  answered,
-  last_row,
-  same_front,
-  shown,
-  state,
-}
+use Rattle.online_nodes.specs.Network.{Event, step, Front, State, EmittedAt, IsRun, after_event, allowed_at, answered, last_row}
+use Rattle.online_nodes.specs.Network.{same_front, shown, state}
 use Rattle.online_nodes.specs.Needed.{IsReader}
 use Rattle.online_nodes.specs.Belonging.{Belongs, HasStepped, StandsForSteps, is_ready, trace_of}
 use Rattle.online_nodes.specs.Held.{Held, edge_at, no_edge, number_at, with_edge, with_number}

@@ -1,6 +1,6 @@
 -- One verdict of the input more.
-use Rattle.std.proofs.Common.{◌∙◌, ◌≡◌, inl, inr, refl, sym, ap, subst, Bool, true, false, not, List, [], ◌∷◌, Option, Some, None, ℤ, suc, drop, arith}
-use Rattle.std.specs.Prelude.{slice_get, length, ◌<◌}
+use Rattle.std.proofs.Common.{◌∙◌, ◌≡◌, inl, inr, refl, sym, ap, subst, Bool, true, false, not, List, [], ◌∷◌, Option, Some, None, ℤ, drop}
+use Rattle.std.specs.Prelude.{slice_get}
 use mathlib.Core.Bool.{beq}
 use Rattle.std.specs.Int.{w64}
 use Rattle.rational.specs.Rational.{Rational, FitsFloor, add, whole}
@@ -61,11 +61,6 @@ end_alike r k j i c d e f h = subst (λ x. Same r (moved_end x i d)) e (subst (�
 pub fits_alike : (a b : Rational) (k j : ℤ) → a ≡ b → k ≡ j → FitsFloor w64 (add b (whole j)) → FitsFloor w64 (add a (whole k))
 fits_alike a b k j e f h = subst (λ x. FitsFloor w64 (add x (whole k))) (sym e)
     (subst (λ x. FitsFloor w64 (add b (whole x))) (sym f) h)
-
--- a list that begins with an item is not empty
-pub not_empty : (l rest : List Verdict) (v : Verdict) → l ≡ v ∷ rest → 0 < length l
-not_empty l rest v e = subst (λ x. 0 < length x) (sym e)
-    (let h : length (v ∷ rest) ≡ suc (length rest) = refl in omega (arith, h))
 
 -- where the first verdict begins to count beyond a place, so does whichever is the first
 pub begins_beyond : (l : List Verdict) (v : Verdict) → slice_get l 0 ≡ Some v → (w : Window) (to from : Place) → Before to from

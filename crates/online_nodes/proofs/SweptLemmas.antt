@@ -14,18 +14,8 @@ use Rattle.stl_syntax.specs.Formula.{Subformula, subformula}
 use Rattle.stl_syntax.specs.declared.items.Verdict.{Verdict}
 use Rattle.online_nodes.specs.Network.{moved_by}
 use Rattle.online_nodes.specs.Answering.{HasSweptAll, HasToldAll, IsInput, is_empty}
-use Rattle.online_nodes.specs.Stepping.{
-  Situation,
-  HasWorkedOut,
-  IsBegun,
-  IsDue,
-  LeavesLater,
-  end_of,
-  first_in,
-  formula_of,
-  stretch_of,
-  trace_in,
-}
+use Rattle.online_nodes.specs.Stepping.{Situation, HasWorkedOut, IsBegun, IsDue, LeavesLater, end_of, first_in, formula_of}
+use Rattle.online_nodes.specs.Stepping.{stretch_of, trace_in}
 use Rattle.rational.specs.Places.{After, Place, Same, Upto, begins, moved_begin}
 use Rattle.frac128.specs.Cuts.{place}
 use Rattle.online_nodes.specs.Held.{Held, fresh_at, held_at, number_at}
@@ -44,18 +34,8 @@ use Rattle.online_nodes.specs.declared.answering.Marks.{Marks}
 use Rattle.online_nodes.specs.declared.answering.Outcome.{Outcome}
 use Rattle.online_nodes.proofs.BelongLemmas.{own_bounds, own_reach_small}
 use Rattle.online_nodes.proofs.AlikeLemmas.{is_like, told_like}
-use Rattle.online_nodes.proofs.DueLemmas.{
-  among_first,
-  among_telling,
-  begun_at,
-  begun_inside,
-  begun_told,
-  due_cases,
-  formula_is,
-  front_by_now,
-  kind_is,
-  knows_at,
-}
+use Rattle.online_nodes.proofs.DueLemmas.{among_first, among_telling, begun_at, begun_inside, begun_told, due_cases, formula_is}
+use Rattle.online_nodes.proofs.DueLemmas.{front_by_now, kind_is, knows_at}
 use Rattle.online_nodes.proofs.TellingLemmas.{fresh_counted, fresh_within}
 use Rattle.online_nodes.proofs.AnsweringLemmas.{fresh_few, worked_one}
 use Rattle.online_nodes.proofs.Writing.{same_itself}

@@ -17,34 +17,11 @@ use Rattle.stl_syntax.specs.Limits.{own_reach}
 use Rattle.stl_syntax.specs.WellFormed.{HasBounds}
 use Rattle.stl_syntax.specs.declared.items.Verdict.{Verdict}
 use Rattle.stl_syntax.specs.declared.node.Node.{Node}
-use Rattle.stl_syntax.specs.declared.node.Node.TheVariants.{
-  Const,
-  Atom as Leaf,
-  Not,
-  And,
-  Or,
-  Implies,
-  Until,
-  Eventually,
-  Always,
-  Since,
-  Once,
-  Historically,
-}
+use Rattle.stl_syntax.specs.declared.node.Node.TheVariants.{Until}
 use Rattle.online_nodes.specs.Network.{Front, least}
 use Rattle.online_nodes.specs.Answering.{HasWorkedOn, IsInput, is_empty}
-use Rattle.online_nodes.specs.Stepping.{
-  Situation,
-  HasWorkedOut,
-  IsBegun,
-  IsDue,
-  LeavesLater,
-  end_of,
-  first_in,
-  formula_of,
-  stretch_of,
-  trace_in,
-}
+use Rattle.online_nodes.specs.Stepping.{Situation, HasWorkedOut, IsBegun, IsDue, LeavesLater, end_of, first_in, formula_of}
+use Rattle.online_nodes.specs.Stepping.{stretch_of, trace_in}
 use Rattle.rational.specs.Places.{After, Before, Place, Same, Upto, begins, ends}
 use Rattle.frac128.specs.Cuts.{place}
 use Rattle.online_nodes.specs.Held.{Held, fresh_at, number_at}
@@ -123,17 +100,7 @@ module _ (at : ℕ → Subformula) (i : ℕ) (tr : Trace) where
   until_node (Until p q a b) u e h r =
       let s : record { window = ahead p a b true true true; right = q } ≡ u = same_until _ u e in
       subst (λ (v : UntilWindow). HasUntil (tree_of at i (Until p q a b)) (at v.window.of) (at v.right) tr v) s (until_has p q a b h r)
-  until_node (Const c) u e h r = absurd (false≢true (ap is_until e))
-  until_node (Leaf l) u e h r = absurd (false≢true (ap is_until e))
-  until_node (Not q) u e h r = absurd (false≢true (ap is_until e))
-  until_node (And p q) u e h r = absurd (false≢true (ap is_until e))
-  until_node (Or p q) u e h r = absurd (false≢true (ap is_until e))
-  until_node (Implies p q) u e h r = absurd (false≢true (ap is_until e))
-  until_node (Eventually p a b x y) u e h r = absurd (false≢true (ap is_until e))
-  until_node (Always p a b x y) u e h r = absurd (false≢true (ap is_until e))
-  until_node (Since p q c k) u e h r = absurd (false≢true (ap is_until e))
-  until_node (Once p a b x y) u e h r = absurd (false≢true (ap is_until e))
-  until_node (Historically p a b x y) u e h r = absurd (false≢true (ap is_until e))
+  until_node _ u e h r = absurd (false≢true (ap is_until e))
 
 -- what lies before both places lies before the lesser one
 least_place : (o q : Front) (f : ℤ) → least o q ≡ Some f → (t : Rational) → Upto (place_of o) t → Upto (place_of q) t → Upto (place_of (Some f)) t

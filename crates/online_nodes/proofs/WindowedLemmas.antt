@@ -15,20 +15,8 @@ use Rattle.stl_syntax.specs.Truth.{Truth}
 use Rattle.stl_syntax.specs.Limits.{own_reach}
 use Rattle.stl_syntax.specs.WellFormed.{HasBounds}
 use Rattle.stl_syntax.specs.declared.node.Node.{Node}
-use Rattle.stl_syntax.specs.declared.node.Node.TheVariants.{
-  Const,
-  Atom as Leaf,
-  Not,
-  And,
-  Or,
-  Implies,
-  Until,
-  Eventually,
-  Always,
-  Since,
-  Once,
-  Historically,
-}
+use Rattle.stl_syntax.specs.declared.node.Node.TheVariants.{Eventually}
+use Rattle.stl_syntax.specs.declared.node.Node.TheVariants.{Always, Once, Historically}
 use Rattle.rational.specs.Places.{After, Before, Place, Upto}
 use Rattle.rational.proofs.Tests.{int_order}
 use Rattle.online_nodes.specs.Looking.{place_at}
@@ -92,16 +80,9 @@ module _ (at : ℕ → Subformula) (i : ℕ) (tr : Trace) (to : Place) where
   ahead_node (Always p a b a_in b_in) w e h r =
       same_ahead (tree_of at i (Always p a b a_in b_in)) (ahead p a b a_in b_in false) w e
       (ahead_has (tree_of at i (Always p a b a_in b_in)) p a b a_in b_in false h r (always_looks (at p) tr a a_in b_in b))
-  ahead_node (Const c) w e h r = absurd (let x : kind_of (Const c) ≡ Ahead w = e in cc)
-  ahead_node (Leaf l) w e h r = absurd (let x : kind_of (Leaf l) ≡ Ahead w = e in cc)
-  ahead_node (Not q) w e h r = absurd (let x : kind_of (Not q) ≡ Ahead w = e in cc)
-  ahead_node (And p q) w e h r = absurd (let x : kind_of (And p q) ≡ Ahead w = e in cc)
-  ahead_node (Or p q) w e h r = absurd (let x : kind_of (Or p q) ≡ Ahead w = e in cc)
-  ahead_node (Implies p q) w e h r = absurd (let x : kind_of (Implies p q) ≡ Ahead w = e in cc)
-  ahead_node (Until p q c k) w e h r = absurd (let x : kind_of (Until p q c k) ≡ Ahead w = e in cc)
-  ahead_node (Since p q c k) w e h r = absurd (let x : kind_of (Since p q c k) ≡ Ahead w = e in cc)
   ahead_node (Once p a b x y) w e h r = absurd (let z : kind_of (Once p a b x y) ≡ Ahead w = e in cc)
   ahead_node (Historically p a b x y) w e h r = absurd (let z : kind_of (Historically p a b x y) ≡ Ahead w = e in cc)
+  ahead_node n w e h r = absurd (let x : kind_of n ≡ Ahead w = e in cc)
 
 -- a window that is not empty has times
 pub some_in_window : (w : Window) → w.begin_by ≤ℤ w.end_by → is_empty w ≡ false → (t : Rational) → Before (low_place w t) (high_place w t)
@@ -204,13 +185,6 @@ module _ (at : ℕ → Subformula) (i : ℕ) (tr : Trace) (to : Place) where
         same_behind (tree_of at i (Once p a b a_in b_in)) (behind p a b a_in b_in true) w e (once_has p a b a_in b_in h r)
     behind_node (Historically p a b a_in b_in) w e h r =
         same_behind (tree_of at i (Historically p a b a_in b_in)) (behind p a b a_in b_in false) w e (historically_has p a b a_in b_in h r)
-    behind_node (Const c) w e h r = absurd (let x : kind_of (Const c) ≡ Behind w = e in cc)
-    behind_node (Leaf f) w e h r = absurd (let x : kind_of (Leaf f) ≡ Behind w = e in cc)
-    behind_node (Not q) w e h r = absurd (let x : kind_of (Not q) ≡ Behind w = e in cc)
-    behind_node (And p q) w e h r = absurd (let x : kind_of (And p q) ≡ Behind w = e in cc)
-    behind_node (Or p q) w e h r = absurd (let x : kind_of (Or p q) ≡ Behind w = e in cc)
-    behind_node (Implies p q) w e h r = absurd (let x : kind_of (Implies p q) ≡ Behind w = e in cc)
-    behind_node (Until p q c k) w e h r = absurd (let x : kind_of (Until p q c k) ≡ Behind w = e in cc)
-    behind_node (Since p q c k) w e h r = absurd (let x : kind_of (Since p q c k) ≡ Behind w = e in cc)
     behind_node (Eventually p a b x y) w e h r = absurd (let z : kind_of (Eventually p a b x y) ≡ Behind w = e in cc)
     behind_node (Always p a b x y) w e h r = absurd (let z : kind_of (Always p a b x y) ≡ Behind w = e in cc)
+    behind_node n w e h r = absurd (let x : kind_of n ≡ Behind w = e in cc)

@@ -7,33 +7,11 @@ use Rattle.stl_syntax.specs.Trace.{Trace}
 use Rattle.stl_syntax.specs.Formula.{Subformula, constant, subformula, tree_of}
 use Rattle.stl_syntax.specs.Truth.{Truth}
 use Rattle.stl_syntax.specs.declared.node.Node.{Node}
-use Rattle.stl_syntax.specs.declared.node.Node.TheVariants.{
-  Const,
-  Atom as Leaf,
-  Not,
-  And,
-  Or,
-  Implies,
-  Until,
-  Eventually,
-  Always,
-  Since,
-  Once,
-  Historically,
-}
+use Rattle.stl_syntax.specs.declared.node.Node.TheVariants.{Const, Atom as Leaf, Not, And, Or, Implies}
 use Rattle.online_nodes.specs.Network.{is_atom}
 use Rattle.online_nodes.specs.Answering.{HasToldAll, HasWorkedOn, IsInput}
-use Rattle.online_nodes.specs.Stepping.{
-  Situation,
-  HasWorkedOut,
-  IsBegun,
-  IsDue,
-  LeavesLater,
-  end_of,
-  formula_of,
-  stretch_of,
-  trace_in,
-}
+use Rattle.online_nodes.specs.Stepping.{Situation, HasWorkedOut, IsBegun, IsDue, LeavesLater, end_of, formula_of, stretch_of}
+use Rattle.online_nodes.specs.Stepping.{trace_in}
 use Rattle.rational.specs.Places.{AtMost, Place, Same, Upto, begins}
 use Rattle.frac128.specs.Cuts.{place}
 use Rattle.online_nodes.specs.Held.{Held, fresh_at, number_at}
@@ -52,17 +30,8 @@ use Rattle.online_nodes.specs.declared.operator.Operator.{Operator}
 use Rattle.online_nodes.specs.declared.answering.Outcome.{Outcome}
 use Rattle.online_nodes.proofs.AnsweringLemmas.{fresh_few, worked_one, worked_two, waiting_few}
 use Rattle.online_nodes.proofs.BelongLemmas.{own_edge}
-use Rattle.online_nodes.proofs.DueLemmas.{
-  among_apart,
-  among_telling,
-  begun_behind,
-  begun_enough,
-  begun_told,
-  due_cases,
-  formula_is,
-  kind_is,
-  knows_at,
-}
+use Rattle.online_nodes.proofs.DueLemmas.{among_apart, among_telling, begun_behind, begun_enough, begun_told, due_cases}
+use Rattle.online_nodes.proofs.DueLemmas.{formula_is, kind_is, knows_at}
 use Rattle.online_nodes.proofs.GotLemmas.{got-here, got-length, got-other}
 use Rattle.online_nodes.proofs.TellingLemmas.{fresh_tells, tells_first}
 use Rattle.online_nodes.proofs.LooksLaw.{and_joins, implies_joins, not_denies, or_joins}
@@ -85,26 +54,12 @@ not_node (Not q) p e = let x : Negation q ≡ Negation p = e in cc
 not_node (And p' q) p e = absurd (let x : Connective Conjunction (record { left = p'; right = q }) ≡ Negation p = e in cc)
 not_node (Or p' q) p e = absurd (let x : Connective Disjunction (record { left = p'; right = q }) ≡ Negation p = e in cc)
 not_node (Implies p' q) p e = absurd (let x : Connective Implication (record { left = p'; right = q }) ≡ Negation p = e in cc)
-not_node (Until p' q a b) p e = absurd (let x : kind_of (Until p' q a b) ≡ Negation p = e in cc)
-not_node (Eventually p' a b i k) p e = absurd (let x : kind_of (Eventually p' a b i k) ≡ Negation p = e in cc)
-not_node (Always p' a b i k) p e = absurd (let x : kind_of (Always p' a b i k) ≡ Negation p = e in cc)
-not_node (Since p' q a b) p e = absurd (let x : kind_of (Since p' q a b) ≡ Negation p = e in cc)
-not_node (Once p' a b i k) p e = absurd (let x : kind_of (Once p' a b i k) ≡ Negation p = e in cc)
-not_node (Historically p' a b i k) p e = absurd (let x : kind_of (Historically p' a b i k) ≡ Negation p = e in cc)
+not_node n p e = absurd (let x : kind_of n ≡ Negation p = e in cc)
 
 constant_node : (n : Node) (b : Bool) → is_atom n ≡ false → kind_of n ≡ Constant b → n ≡ Const b
 constant_node (Const c) b a e = let x : Constant c ≡ Constant b = e in cc
 constant_node (Leaf l) b a e = absurd (let x : true ≡ false = a in cc)
-constant_node (Not q) b a e = absurd (let x : kind_of (Not q) ≡ Constant b = e in cc)
-constant_node (And p q) b a e = absurd (let x : kind_of (And p q) ≡ Constant b = e in cc)
-constant_node (Or p q) b a e = absurd (let x : kind_of (Or p q) ≡ Constant b = e in cc)
-constant_node (Implies p q) b a e = absurd (let x : kind_of (Implies p q) ≡ Constant b = e in cc)
-constant_node (Until p q c h) b a e = absurd (let x : kind_of (Until p q c h) ≡ Constant b = e in cc)
-constant_node (Eventually p c h i k) b a e = absurd (let x : kind_of (Eventually p c h i k) ≡ Constant b = e in cc)
-constant_node (Always p c h i k) b a e = absurd (let x : kind_of (Always p c h i k) ≡ Constant b = e in cc)
-constant_node (Since p q c h) b a e = absurd (let x : kind_of (Since p q c h) ≡ Constant b = e in cc)
-constant_node (Once p c h i k) b a e = absurd (let x : kind_of (Once p c h i k) ≡ Constant b = e in cc)
-constant_node (Historically p c h i k) b a e = absurd (let x : kind_of (Historically p c h i k) ≡ Constant b = e in cc)
+constant_node n b a e = absurd (let x : kind_of n ≡ Constant b = e in cc)
 
 -- a connective's node is that connective
 module _ (at : ℕ → Subformula) (i : ℕ) (tr : Trace) where
@@ -121,18 +76,10 @@ module _ (at : ℕ → Subformula) (i : ℕ) (tr : Trace) where
 
   join_node : (n : Node) (join : Join) (inputs : Inputs) → kind_of n ≡ Connective join inputs
       → IsJoinOf join (tree_of at i n) (at inputs.left) (at inputs.right) tr
-  join_node (Const c) join inputs e = absurd (let x : kind_of (Const c) ≡ Connective join inputs = e in cc)
-  join_node (Leaf l) join inputs e = absurd (let x : kind_of (Leaf l) ≡ Connective join inputs = e in cc)
-  join_node (Not q) join inputs e = absurd (let x : kind_of (Not q) ≡ Connective join inputs = e in cc)
   join_node (And p q) join inputs e = same_join Conjunction join p q inputs (tree_of at i (And p q)) e (and_joins (at p) (at q) tr)
   join_node (Or p q) join inputs e = same_join Disjunction join p q inputs (tree_of at i (Or p q)) e (or_joins (at p) (at q) tr)
   join_node (Implies p q) join inputs e = same_join Implication join p q inputs (tree_of at i (Implies p q)) e (implies_joins (at p) (at q) tr)
-  join_node (Until p q c h) join inputs e = absurd (let x : kind_of (Until p q c h) ≡ Connective join inputs = e in cc)
-  join_node (Eventually p c h j k) join inputs e = absurd (let x : kind_of (Eventually p c h j k) ≡ Connective join inputs = e in cc)
-  join_node (Always p c h j k) join inputs e = absurd (let x : kind_of (Always p c h j k) ≡ Connective join inputs = e in cc)
-  join_node (Since p q c h) join inputs e = absurd (let x : kind_of (Since p q c h) ≡ Connective join inputs = e in cc)
-  join_node (Once p c h j k) join inputs e = absurd (let x : kind_of (Once p c h j k) ≡ Connective join inputs = e in cc)
-  join_node (Historically p c h j k) join inputs e = absurd (let x : kind_of (Historically p c h j k) ≡ Connective join inputs = e in cc)
+  join_node n join inputs e = absurd (let x : kind_of n ≡ Connective join inputs = e in cc)
 
 module _ {x : Situation} {op : Operator} {old : Held} {work : Outcome} (d : IsDue x op old) (g : IsBegun x op work) where
   -- a negation

@@ -2,7 +2,7 @@
 use Rattle.std.proofs.Common.{◌≡◌, ◌⊎◌, inl, inr, refl, sym, ap, subst, ◌∙◌, Bool, true, false, not, Option, Some, None, List, [], ◌∷◌, ◌++◌}
 use Rattle.std.specs.Prelude.{MatchBool, MatchOption, ◌≢◌}
 use mathlib.Core.Bool.{beq}
-use Rattle.rational.specs.Rational.{Rational, ◌≤ʳ◌, ◌<ʳ◌, ◌≈◌}
+use Rattle.rational.specs.Rational.{Rational, ◌≤ʳ◌, ◌<ʳ◌}
 use Rattle.rational.specs.Time.{Interval, IsIn, IsNotEmpty}
 use Rattle.rational.proofs.Order.{same_refl, same_sym}
 use Rattle.frac128.specs.Spans.{interval}
@@ -18,18 +18,8 @@ use Rattle.online_nodes.specs.Held.{Held}
 use Rattle.online_nodes.specs.Written.{Lead, HasTold, IsPutBack, IsSound}
 use Rattle.frac128.specs.declared.cut.Cut.{Cut}
 use Rattle.online_nodes.specs.declared.writer.Out.{Out}
-use Rattle.rational.proofs.PlaceLemmas.{
-  sides,
-  not_both,
-  between,
-  same_places,
-  same_trans_places,
-  same_before,
-  before_same,
-  before_trans,
-  after_same,
-  upto_same,
-}
+use Rattle.rational.proofs.PlaceLemmas.{sides, not_both, between, same_places, same_trans_places, same_before, before_same}
+use Rattle.rational.proofs.PlaceLemmas.{before_trans, after_same, upto_same}
 
 -- told on two stretches that join is told on both together
 pub joined : (b : Bool) (P : Truths) (c d e : Place) → AllAre b P c d → AllAre b P d e → AllAre b P c e
@@ -248,21 +238,6 @@ module _ (n : Subformula) (tr : Trace) where
       absurd (not_both (ends stretch) t.0 t.2 (after_same (begins stretch) (ends stretch) t.0 same t.1))
   lead_describes stretch (v ∷ vs) last some lead = describes n tr stretch v vs last lead
 
--- a stretch begins where the interval does that it is
-pub begin_same : (on i : Interval) (a : Rational) (x : Bool) → on ≡ i → i.from ≡ a → i.from_in ≡ not x
-    → Same (record { at = a; after = x }) (begins on)
-begin_same on i a x e f g = (
-  subst (λ b. b ≈ on.from) (ap (λ (j : Interval). j.from) e ∙ f) (same_refl on.from),
-  not_not on.from_in x (ap (λ
-      (j : Interval). j.from_in) e ∙ g),
-)
-
--- a stretch ends where the interval does that it is
-pub end_same : (on i : Interval) (a : Rational) (x : Bool) → on ≡ i → i.to ≡ a → i.to_in ≡ x
-    → Same (record { at = a; after = x }) (ends on)
-end_same on i a x e f g =
-    (subst (λ b. b ≈ on.to) (ap (λ (j : Interval). j.to) e ∙ f) (same_refl on.to), sym (ap (λ (j : Interval). j.to_in) e ∙ g))
-
 -- where no truth was found yet nothing was told
 pub sound_first : (out : Out) → out.holds ≡ None → IsSound out → Same (place out.from) (place out.at)
 sound_first out e h = subst
@@ -279,13 +254,6 @@ other_bool true true e = λ _. let x : true ≡ false = e in cc
 other_bool true false e = λ f. let x : true ≡ false = f in cc
 other_bool false true e = λ f. let x : false ≡ true = f in cc
 other_bool false false e = λ _. let x : true ≡ false = e in cc
-
--- a truth that differs is the other
-pub flipped : (a b : Bool) → a ≢ b → a ≡ not b
-flipped true true d = absurd (d refl)
-flipped true false d = refl
-flipped false true d = refl
-flipped false false d = absurd (d refl)
 
 -- what lies before both lies before the earlier of the two
 pub earlier_upto : (a b c : Cut) → (c ≡ a) ⊎ (c ≡ b) → (t : Rational) → Upto (place a) t → Upto (place b) t → Upto (place c) t

@@ -11,16 +11,8 @@ use Rattle.online_nodes.specs.Written.{HasAnswer}
 use Rattle.online_nodes.proofs.GotLemmas.{got-length}
 use Rattle.rational.proofs.PlaceLemmas.{upto_of_before, at_most_of_not_before}
 use Rattle.online_nodes.proofs.WorkLemmas.{passed-length}
-use Rattle.online_nodes.proofs.JoinLemmas.{
-  said_of_both,
-  at_most_named,
-  named_at_most,
-  other_end,
-  right_was_read,
-  left_was_read,
-  both_were_read,
-  same_first,
-}
+use Rattle.online_nodes.proofs.JoinLemmas.{said_of_both, at_most_named, named_at_most, other_end, right_was_read, left_was_read}
+use Rattle.online_nodes.proofs.JoinLemmas.{both_were_read, same_first}
 use Rattle.online_nodes.proofs.join.read_first.Goals as goal
 
 pub returns-then-precedes-clause-read : goal.returns-then-precedes-clause-read

@@ -4,7 +4,7 @@ use Rattle.std.proofs.lemmas.Bool.{true≢false}
 use Rattle.rational.specs.Rational.{FitsFloor, add, whole}
 use Rattle.frac128.specs.Spans.{interval}
 use Rattle.frac128.specs.Value.{value}
-use Rattle.rational.specs.Places.{Place, begins, ends, moved_begin, moved_end, AtMost, Before, Same, Upto}
+use Rattle.rational.specs.Places.{Place, begins, ends, moved_end, AtMost, Before, Same, Upto}
 use Rattle.frac128.specs.Cuts.{place}
 use Rattle.online_nodes.specs.Held.{fresh_at}
 use Rattle.online_nodes.specs.Working.{HasPassed}
@@ -18,20 +18,42 @@ use Rattle.online_nodes.proofs.SinceCounts.{IsFound}
 use Rattle.online_nodes.proofs.SinceReads.{AreBoth, found_turn, go_on_turn, not_in_run, not_in_stretch, stale_over}
 use Rattle.online_nodes.proofs.SinceTurns.{IsLaterOf, IsWorking}
 use Rattle.online_nodes.proofs.since.count.Goals as goal
+use Rattle.online_nodes.proofs.since.count.Goals.{After-later-from, After-shift_begin-begin}
+
+-- the edges, the operator and its course
+working : (c : After-later-from) → IsWorking c.args.edges.now c.args.since c.args.course
+working c = record { own = c.requires.own; left_apart = c.requires.left_apart; right_apart = c.requires.right_apart; apart = c.requires.apart }
+
+-- what the right input tells counts from the later of two places
+from_is : (c : After-later-from) → IsLaterOf (begins (interval c.args.w.on)) (place c.args.course.run) (place c.later-from.result)
+from_is c = record {
+  first = λ t h. c.later-from.ensures.first t (subst (λ (q : Place). Upto q t) (sym c.begin.ensures) h);
+  second = c.later-from.ensures.second;
+  one = elim c.later-from.ensures.one [
+    | inl e ↦ inl (λ t h. subst (λ (q : Place). Upto q t) c.begin.ensures (subst (λ (q : Cut). Upto (place q) t) e h))
+    | inr e ↦ inr (λ t h. subst (λ (q : Cut). Upto (place q) t) e h)
+  ];
+}
+
+-- the next verdicts of both inputs, where what they share begins to count
+shared : (c : After-shift_begin-begin) → IsWorking c.args.edges.now c.args.since c.args.course
+    → IsLaterOf (begins (interval c.args.w.on)) (place c.args.course.run) (place c.later-from.result)
+    → AreBoth c.args.edges.now c.args.since c.args.course (place c.shift_begin-begin.result) (place c.later-from.result) c.args.v c.args.w
+shared c at from_is = record {
+  at = at;
+  inside = c.requires.back.begin_in;
+  first_left = c.requires.first_left;
+  first_right = c.requires.first_right;
+  left_holds = c.requires.left_holds;
+  from_is = from_is;
+  shared = subst (λ (q : Place). Before (place c.later-from.result) q) c.end-w_end.ensures (c.precedes.ensures.0 c.if-not-precedes.false);
+  begin_is = begin_alike (place c.shift_begin-begin.result) _ c.args.since.window.begin_by c.args.since.window.begin_in _ (place c.later-from.result)
+      (search (rules, to_z-of_z)) refl c.shift_begin-begin.ensures;
+}
 
 pub returns-then-not-precedes-clause-turned : goal.returns-then-not-precedes-clause-turned
 returns-then-not-precedes-clause-turned c =
-    let at : IsWorking c.args.edges.now c.args.since c.args.course =
-    record { own = c.requires.own; left_apart = c.requires.left_apart; right_apart = c.requires.right_apart; apart = c.requires.apart } in
-    let from_is : IsLaterOf (begins (interval c.args.w.on)) (place c.args.course.run) (place c.later-from.result) =
-    record {
-      first = λ t h. c.later-from.ensures.first t (subst (λ (q : Place). Upto q t) (sym c.begin.ensures) h);
-      second = c.later-from.ensures.second;
-      one = elim c.later-from.ensures.one [
-        | inl e ↦ inl (λ t h. subst (λ (q : Place). Upto q t) c.begin.ensures (subst (λ (q : Cut). Upto (place q) t) e h))
-        | inr e ↦ inr (λ t h. subst (λ (q : Cut). Upto (place q) t) e h)
-      ];
-    } in
+    let from = (goal.at.returns-then-not-precedes-clause-turned c).After-later-from in
     let is : c.pass.result ≡ c.args.w =
     same_first (fresh_at c.args.edges.now c.args.since.right) c.pass.result c.args.w c.pass.ensures.first c.requires.first_right in
     let passed : HasPassed c.args.edges.now c.pass.new.self c.args.since.right c.pass.result =
@@ -42,7 +64,7 @@ returns-then-not-precedes-clause-turned c =
       start = c.pass.ensures.start;
       spare = c.pass.ensures.spare;
     } in
-    stale_over at c.requires.first_right from_is
+    stale_over (working from) c.requires.first_right (from_is from)
     (subst (λ (q : Place). AtMost q (place c.later-from.result)) c.end-w_end.ensures
     (at_most_of_not_before (place c.end-w_end.result) (place c.later-from.result)
     (λ b. let x = c.precedes.ensures.1 b in let y = c.if-not-precedes.true in cc)))
@@ -64,35 +86,9 @@ shift_begin-begin-requires c =
 
 pub returns-then-not-precedes-2-clause-turned : goal.returns-then-not-precedes-2-clause-turned
 returns-then-not-precedes-2-clause-turned c =
-    let w = c.args.since.window in
-    let at : IsWorking c.args.edges.now c.args.since c.args.course =
-    record { own = c.requires.own; left_apart = c.requires.left_apart; right_apart = c.requires.right_apart; apart = c.requires.apart } in
-    let from_is : IsLaterOf (begins (interval c.args.w.on)) (place c.args.course.run) (place c.later-from.result) =
-    record {
-      first = λ t h. c.later-from.ensures.first t (subst (λ (q : Place). Upto q t) (sym c.begin.ensures) h);
-      second = c.later-from.ensures.second;
-      one = elim c.later-from.ensures.one [
-        | inl e ↦ inl (λ t h. subst (λ (q : Place). Upto q t) c.begin.ensures (subst (λ (q : Cut). Upto (place q) t) e h))
-        | inr e ↦ inr (λ t h. subst (λ (q : Cut). Upto (place q) t) e h)
-      ];
-    } in
-    let shared : Before (place c.later-from.result) (ends (interval c.args.w.on)) =
-    subst (λ (q : Place). Before (place c.later-from.result) q) c.end-w_end.ensures (c.precedes.ensures.0 c.if-not-precedes.false) in
-    let begin_is : Same (place c.shift_begin-begin.result) (moved_begin w.begin_by w.begin_in (place c.later-from.result)) =
-    begin_alike (place c.shift_begin-begin.result) _ w.begin_by w.begin_in _ (place c.later-from.result) (search (rules, to_z-of_z)) refl
-    c.shift_begin-begin.ensures in
-    let both : AreBoth c.args.edges.now c.args.since c.args.course (place c.shift_begin-begin.result) (place c.later-from.result) c.args.v c.args.w =
-    record {
-      at = at;
-      inside = c.requires.back.begin_in;
-      first_left = c.requires.first_left;
-      first_right = c.requires.first_right;
-      left_holds = c.requires.left_holds;
-      from_is = from_is;
-      shared = shared;
-      begin_is = begin_is;
-    } in
-    go_on_turn at c.requires.first_left c.requires.left_holds c.requires.fits_run
+    let from = (goal.at.returns-then-not-precedes-2-clause-turned c).After-later-from in
+    let both = shared (goal.at.returns-then-not-precedes-2-clause-turned c).After-shift_begin-begin (working from) (from_is from) in
+    go_on_turn both.at c.requires.first_left c.requires.left_holds c.requires.fits_run
     (not_in_run both
     (subst (λ (q : Place). AtMost q (place c.shift_begin-begin.result)) c.end-v_end.ensures
     (at_most_of_not_before (place c.end-v_end.result) (place c.shift_begin-begin.result)
@@ -101,34 +97,8 @@ returns-then-not-precedes-2-clause-turned c =
 
 pub returns-then-precedes-clause-turned : goal.returns-then-precedes-clause-turned
 returns-then-precedes-clause-turned c =
-    let w = c.args.since.window in
-    let at : IsWorking c.args.edges.now c.args.since c.args.course =
-    record { own = c.requires.own; left_apart = c.requires.left_apart; right_apart = c.requires.right_apart; apart = c.requires.apart } in
-    let from_is : IsLaterOf (begins (interval c.args.w.on)) (place c.args.course.run) (place c.later-from.result) =
-    record {
-      first = λ t h. c.later-from.ensures.first t (subst (λ (q : Place). Upto q t) (sym c.begin.ensures) h);
-      second = c.later-from.ensures.second;
-      one = elim c.later-from.ensures.one [
-        | inl e ↦ inl (λ t h. subst (λ (q : Place). Upto q t) c.begin.ensures (subst (λ (q : Cut). Upto (place q) t) e h))
-        | inr e ↦ inr (λ t h. subst (λ (q : Cut). Upto (place q) t) e h)
-      ];
-    } in
-    let shared : Before (place c.later-from.result) (ends (interval c.args.w.on)) =
-    subst (λ (q : Place). Before (place c.later-from.result) q) c.end-w_end.ensures (c.precedes.ensures.0 c.if-not-precedes.false) in
-    let begin_is : Same (place c.shift_begin-begin.result) (moved_begin w.begin_by w.begin_in (place c.later-from.result)) =
-    begin_alike (place c.shift_begin-begin.result) _ w.begin_by w.begin_in _ (place c.later-from.result) (search (rules, to_z-of_z)) refl
-    c.shift_begin-begin.ensures in
-    let both : AreBoth c.args.edges.now c.args.since c.args.course (place c.shift_begin-begin.result) (place c.later-from.result) c.args.v c.args.w =
-    record {
-      at = at;
-      inside = c.requires.back.begin_in;
-      first_left = c.requires.first_left;
-      first_right = c.requires.first_right;
-      left_holds = c.requires.left_holds;
-      from_is = from_is;
-      shared = shared;
-      begin_is = begin_is;
-    } in
+    let from = (goal.at.returns-then-precedes-clause-turned c).After-later-from in
+    let both = shared (goal.at.returns-then-precedes-clause-turned c).After-shift_begin-begin (working from) (from_is from) in
     not_in_stretch both
     (subst (λ (q : Place). Before (place c.shift_begin-begin.result) q) c.end-v_end.ensures (c.precedes-2.ensures.0 c.if-not-precedes-2.false))
     (subst (λ (q : Cut). Before (place q) (place c.shift_begin-begin.result)) c.end.ensures (c.precedes-3.ensures.0 c.if-precedes.true))
@@ -151,37 +121,23 @@ returns-in_err-turn-2-clause-memory c =
 pub returns-clause-turned : goal.returns-clause-turned
 returns-clause-turned c =
     let w = c.args.since.window in
-    let at : IsWorking c.args.edges.now c.args.since c.args.course =
-    record { own = c.requires.own; left_apart = c.requires.left_apart; right_apart = c.requires.right_apart; apart = c.requires.apart } in
-    let from_is : IsLaterOf (begins (interval c.args.w.on)) (place c.args.course.run) (place c.later-from.result) =
-    record {
-      first = λ t h. c.later-from.ensures.first t (subst (λ (q : Place). Upto q t) (sym c.begin.ensures) h);
-      second = c.later-from.ensures.second;
-      one = elim c.later-from.ensures.one [
-        | inl e ↦ inl (λ t h. subst (λ (q : Place). Upto q t) c.begin.ensures (subst (λ (q : Cut). Upto (place q) t) e h))
-        | inr e ↦ inr (λ t h. subst (λ (q : Cut). Upto (place q) t) e h)
-      ];
-    } in
-    let shared : Before (place c.later-from.result) (ends (interval c.args.w.on)) =
-    subst (λ (q : Place). Before (place c.later-from.result) q) c.end-w_end.ensures (c.precedes.ensures.0 c.if-not-precedes.false) in
-    let begin_is : Same (place c.shift_begin-begin.result) (moved_begin w.begin_by w.begin_in (place c.later-from.result)) =
-    begin_alike (place c.shift_begin-begin.result) _ w.begin_by w.begin_in _ (place c.later-from.result) (search (rules, to_z-of_z)) refl
-    c.shift_begin-begin.ensures in
+    let from = (goal.at.returns-clause-turned c).After-later-from in
+    let both = shared (goal.at.returns-clause-turned c).After-shift_begin-begin (working from) (from_is from) in
     let last_is : Same (place c.shift_end.result) (moved_end w.end_by w.end_in (ends (interval c.args.w.on))) =
     end_alike (place c.shift_end.result) _ w.end_by w.end_in _ (ends (interval c.args.w.on)) (search (rules, to_z-of_z)) c.end-w_end.ensures
     c.shift_end.ensures in
     let found : IsFound c.args.edges.now c.turn.new.edges c.args.since c.args.course c.in_ok-out.out c.earlier.result c.shift_begin-begin.result
     c.shift_end.result c.later-reach.result c.later-from.result c.args.v c.args.w =
     record {
-      at = at;
+      at = both.at;
       back = c.requires.back;
       first_left = c.requires.first_left;
       first_right = c.requires.first_right;
       left_holds = c.requires.left_holds;
       right_holds = c.requires.right_holds;
-      from_is = from_is;
-      shared = shared;
-      begin_is = begin_is;
+      from_is = both.from_is;
+      shared = both.shared;
+      begin_is = both.begin_is;
       in_run = subst (λ (q : Place). Before (place c.shift_begin-begin.result) q) c.end-v_end.ensures
           (c.precedes-2.ensures.0 c.if-not-precedes-2.false);
       to_end = subst (λ (q : Cut). AtMost (place c.shift_begin-begin.result) (place q)) c.end.ensures

@@ -13,20 +13,26 @@ use Rattle.online_nodes.proofs.JoinLemmas.{same_first}
 use Rattle.rational.proofs.PlaceLemmas.{at_most_of_not_before, before_same, same_places, upto_same}
 use Rattle.online_nodes.proofs.Sweeping.{begin_alike, fits_alike}
 use Rattle.online_nodes.proofs.since.pass_first.Goals as goal
+use Rattle.online_nodes.proofs.since.pass_first.Goals.{After-shift_begin-last}
 
 pub shift_begin-last-requires : goal.shift_begin-last-requires
 shift_begin-last-requires c =
     fits_alike (value c.end.result.time) (value c.args.w.on.to) (to_z w64 (of_z w64 c.args.since.window.begin_by)) c.args.since.window.begin_by
     (ap (λ (q : Place). q.at) c.end.ensures) (search (rules, to_z-of_z)) c.requires.fits_right.1
 
+-- up to where the right input's verdict counts
+counts_to : (c : After-shift_begin-last)
+    → Same (place c.shift_begin-last.result) (moved_begin c.args.since.window.begin_by c.args.since.window.begin_in (ends (interval c.args.w.on)))
+counts_to c =
+    begin_alike (place c.shift_begin-last.result) _ c.args.since.window.begin_by c.args.since.window.begin_in _ (ends (interval c.args.w.on))
+    (search (rules, to_z-of_z)) c.end.ensures c.shift_begin-last.ensures
+
 pub returns-then-not-precedes-clause-passed : goal.returns-then-not-precedes-clause-passed
 returns-then-not-precedes-clause-passed c =
     let w = c.args.since.window in
     let is : c.pass.result ≡ c.args.w =
     same_first (fresh_at c.args.edges.now c.args.since.right) c.pass.result c.args.w c.pass.ensures.first c.requires.first_right in
-    let last_is : Same (place c.shift_begin-last.result) (moved_begin w.begin_by w.begin_in (ends (interval c.args.w.on))) =
-    begin_alike (place c.shift_begin-last.result) _ w.begin_by w.begin_in _ (ends (interval c.args.w.on)) (search (rules, to_z-of_z)) c.end.ensures
-    c.shift_begin-last.ensures in
+    let last_is = counts_to (goal.at.returns-then-not-precedes-clause-passed c).After-shift_begin-last in
     let passed : HasPassed c.args.edges.now c.pass.new.self c.args.since.right c.pass.result =
     record {
       within = c.requires.right;
@@ -48,9 +54,7 @@ returns-then-not-precedes-clause-passed c =
 pub returns-then-precedes-clause-passed : goal.returns-then-precedes-clause-passed
 returns-then-precedes-clause-passed c =
     let w = c.args.since.window in
-    let last_is : Same (place c.shift_begin-last.result) (moved_begin w.begin_by w.begin_in (ends (interval c.args.w.on))) =
-    begin_alike (place c.shift_begin-last.result) _ w.begin_by w.begin_in _ (ends (interval c.args.w.on)) (search (rules, to_z-of_z)) c.end.ensures
-    c.shift_begin-last.ensures in (
+    let last_is = counts_to (goal.at.returns-then-precedes-clause-passed c).After-shift_begin-last in (
       c.in_ok-done.ensures.rested,
       subst (λ (q : Cut). Before (place q) (ends (interval c.args.v.on))) c.end-2.ensures
           (subst (λ (q : Place). Before (place c.end-2.result) q) c.end-end.ensures (c.precedes-2.ensures.0 c.if-precedes.true)),
@@ -63,9 +67,7 @@ returns-clause-passed c =
     let w = c.args.since.window in
     let is : c.pass-2.result ≡ c.args.v =
     same_first (fresh_at c.args.edges.now w.of) c.pass-2.result c.args.v c.pass-2.ensures.first c.requires.first_left in
-    let last_is : Same (place c.shift_begin-last.result) (moved_begin w.begin_by w.begin_in (ends (interval c.args.w.on))) =
-    begin_alike (place c.shift_begin-last.result) _ w.begin_by w.begin_in _ (ends (interval c.args.w.on)) (search (rules, to_z-of_z)) c.end.ensures
-    c.shift_begin-last.ensures in
+    let last_is = counts_to (goal.at.returns-clause-passed c).After-shift_begin-last in
     let passed : HasPassed c.args.edges.now c.pass-2.new.self w.of c.pass-2.result =
     record {
       within = c.requires.left;

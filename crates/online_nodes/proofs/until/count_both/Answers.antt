@@ -13,25 +13,36 @@ use Rattle.online_nodes.proofs.UntilTurns.{IsSaidTwice}
 use Rattle.online_nodes.proofs.UntilPasses.{earlier_of}
 use Rattle.online_nodes.proofs.UntilCounts.{AreNext, shares_none, counts_beyond, counts_now}
 use Rattle.online_nodes.proofs.until.count_both.Goals as goal
+use Rattle.online_nodes.proofs.until.count_both.Goals.{After-earlier-end, After-shift_begin-from}
+
+-- what comes next of both inputs, and what their stretches share
+shared : (c : After-earlier-end) → AreNext c.args.edges.now c.args.until c.args.v c.args.w (place c.later-begin.result) (place c.earlier-end.result)
+shared c = record {
+  apart = c.requires.apart;
+  first_left = c.requires.first_left;
+  first_right = c.requires.first_right;
+  left_holds = c.requires.left_holds;
+  right_holds = c.requires.right_holds;
+  earlier = earlier_of c.earlier-end.result c.end-v_end.result c.end-w_end.result c.end-v_end.ensures c.end-w_end.ensures
+      c.earlier-end.ensures.one c.earlier-end.ensures.first c.earlier-end.ensures.second;
+  after_left = λ t h. c.later-begin.ensures.first t (subst (λ (q : Place). Upto q t) (sym c.begin-v_begin.ensures) h);
+  after_right = λ t h. c.later-begin.ensures.second t (subst (λ (q : Place). Upto q t) (sym c.begin-w_begin.ensures) h);
+  one = elim c.later-begin.ensures.one [
+    | inl e ↦ inl (λ t h. subst (λ (q : Place). Upto q t) c.begin-v_begin.ensures (subst (λ (q : Cut). Upto (place q) t) e h))
+    | inr e ↦ inr (λ t h. subst (λ (q : Place). Upto q t) c.begin-w_begin.ensures (subst (λ (q : Cut). Upto (place q) t) e h))
+  ];
+}
+
+-- where what they share begins to count
+counts_from : (c : After-shift_begin-from)
+    → Same (place c.shift_begin-from.result) (moved_begin c.args.until.window.begin_by c.args.until.window.begin_in (place c.later-begin.result))
+counts_from c =
+    begin_alike (place c.shift_begin-from.result) _ c.args.until.window.begin_by c.args.until.window.begin_in _ (place c.later-begin.result)
+    (search (rules, to_z-of_z)) refl c.shift_begin-from.ensures
 
 pub returns-then-not-precedes-clause-turned : goal.returns-then-not-precedes-clause-turned
 returns-then-not-precedes-clause-turned c =
-    let next : AreNext c.args.edges.now c.args.until c.args.v c.args.w (place c.later-begin.result) (place c.earlier-end.result) =
-    record {
-      apart = c.requires.apart;
-      first_left = c.requires.first_left;
-      first_right = c.requires.first_right;
-      left_holds = c.requires.left_holds;
-      right_holds = c.requires.right_holds;
-      earlier = earlier_of c.earlier-end.result c.end-v_end.result c.end-w_end.result c.end-v_end.ensures c.end-w_end.ensures
-          c.earlier-end.ensures.one c.earlier-end.ensures.first c.earlier-end.ensures.second;
-      after_left = λ t h. c.later-begin.ensures.first t (subst (λ (q : Place). Upto q t) (sym c.begin-v_begin.ensures) h);
-      after_right = λ t h. c.later-begin.ensures.second t (subst (λ (q : Place). Upto q t) (sym c.begin-w_begin.ensures) h);
-      one = elim c.later-begin.ensures.one [
-        | inl e ↦ inl (λ t h. subst (λ (q : Place). Upto q t) c.begin-v_begin.ensures (subst (λ (q : Cut). Upto (place q) t) e h))
-        | inr e ↦ inr (λ t h. subst (λ (q : Place). Upto q t) c.begin-w_begin.ensures (subst (λ (q : Cut). Upto (place q) t) e h))
-      ];
-    } in
+    let next = shared (goal.at.returns-then-not-precedes-clause-turned c).After-earlier-end in
     shares_none next (λ b. let e = c.precedes.ensures.1 b in let f = c.if-not-precedes.true in cc) c.pass_ended.ensures
     c.requires.left_apart c.requires.right_apart c.requires.sound c.requires.inside
 
@@ -50,26 +61,8 @@ shift_begin-from-requires c =
 
 pub returns-then-precedes-clause-turned : goal.returns-then-precedes-clause-turned
 returns-then-precedes-clause-turned c =
-    let next : AreNext c.args.edges.now c.args.until c.args.v c.args.w (place c.later-begin.result) (place c.earlier-end.result) =
-    record {
-      apart = c.requires.apart;
-      first_left = c.requires.first_left;
-      first_right = c.requires.first_right;
-      left_holds = c.requires.left_holds;
-      right_holds = c.requires.right_holds;
-      earlier = earlier_of c.earlier-end.result c.end-v_end.result c.end-w_end.result c.end-v_end.ensures c.end-w_end.ensures
-          c.earlier-end.ensures.one c.earlier-end.ensures.first c.earlier-end.ensures.second;
-      after_left = λ t h. c.later-begin.ensures.first t (subst (λ (q : Place). Upto q t) (sym c.begin-v_begin.ensures) h);
-      after_right = λ t h. c.later-begin.ensures.second t (subst (λ (q : Place). Upto q t) (sym c.begin-w_begin.ensures) h);
-      one = elim c.later-begin.ensures.one [
-        | inl e ↦ inl (λ t h. subst (λ (q : Place). Upto q t) c.begin-v_begin.ensures (subst (λ (q : Cut). Upto (place q) t) e h))
-        | inr e ↦ inr (λ t h. subst (λ (q : Place). Upto q t) c.begin-w_begin.ensures (subst (λ (q : Cut). Upto (place q) t) e h))
-      ];
-    } in
-    let from_is : Same (place c.shift_begin-from.result) (moved_begin c.args.until.window.begin_by c.args.until.window.begin_in
-    (place c.later-begin.result)) =
-    begin_alike (place c.shift_begin-from.result) _ c.args.until.window.begin_by c.args.until.window.begin_in _ (place c.later-begin.result)
-    (search (rules, to_z-of_z)) refl c.shift_begin-from.ensures in
+    let next = shared (goal.at.returns-then-precedes-clause-turned c).After-earlier-end in
+    let from_is = counts_from (goal.at.returns-then-precedes-clause-turned c).After-shift_begin-from in
     counts_beyond (place c.shift_begin-from.result) next from_is
     (subst (λ (q : Cut). Before (place q) (place c.shift_begin-from.result)) c.end.ensures (c.precedes-2.ensures.0 c.if-precedes.true))
 
@@ -92,26 +85,8 @@ shift_end-reach-requires c =
 
 pub returns-clause-turned : goal.returns-clause-turned
 returns-clause-turned c =
-    let next : AreNext c.args.edges.now c.args.until c.args.v c.args.w (place c.later-begin.result) (place c.earlier-end.result) =
-    record {
-      apart = c.requires.apart;
-      first_left = c.requires.first_left;
-      first_right = c.requires.first_right;
-      left_holds = c.requires.left_holds;
-      right_holds = c.requires.right_holds;
-      earlier = earlier_of c.earlier-end.result c.end-v_end.result c.end-w_end.result c.end-v_end.ensures c.end-w_end.ensures
-          c.earlier-end.ensures.one c.earlier-end.ensures.first c.earlier-end.ensures.second;
-      after_left = λ t h. c.later-begin.ensures.first t (subst (λ (q : Place). Upto q t) (sym c.begin-v_begin.ensures) h);
-      after_right = λ t h. c.later-begin.ensures.second t (subst (λ (q : Place). Upto q t) (sym c.begin-w_begin.ensures) h);
-      one = elim c.later-begin.ensures.one [
-        | inl e ↦ inl (λ t h. subst (λ (q : Place). Upto q t) c.begin-v_begin.ensures (subst (λ (q : Cut). Upto (place q) t) e h))
-        | inr e ↦ inr (λ t h. subst (λ (q : Place). Upto q t) c.begin-w_begin.ensures (subst (λ (q : Cut). Upto (place q) t) e h))
-      ];
-    } in
-    let from_is : Same (place c.shift_begin-from.result) (moved_begin c.args.until.window.begin_by c.args.until.window.begin_in
-    (place c.later-begin.result)) =
-    begin_alike (place c.shift_begin-from.result) _ c.args.until.window.begin_by c.args.until.window.begin_in _ (place c.later-begin.result)
-    (search (rules, to_z-of_z)) refl c.shift_begin-from.ensures in
+    let next = shared (goal.at.returns-clause-turned c).After-earlier-end in
+    let from_is = counts_from (goal.at.returns-clause-turned c).After-shift_begin-from in
     let reach_is : Same (place c.shift_end-reach.result) (moved_end c.args.until.window.end_by c.args.until.window.end_in
     (place c.earlier-end.result)) =
     end_alike (place c.shift_end-reach.result) _ c.args.until.window.end_by c.args.until.window.end_in _ (place c.earlier-end.result)

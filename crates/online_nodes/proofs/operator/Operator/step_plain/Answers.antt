@@ -1,6 +1,5 @@
-use Rattle.std.proofs.Common.{rules, to_z, of_z, w64, arith, ◌≡◌, ◌∙◌, sym, subst, ◌^◌, ◌≤◌, ◌-◌, length, pos, ℤ}
-use Rattle.online_nodes.specs.Answering.{HasReleased}
-use Rattle.online_nodes.specs.Held.{edge_at, held_at, with_edge, with_number}
+use Rattle.std.proofs.Common.{rules, to_z, of_z, w64, arith, ◌≡◌, ◌∙◌, sym, ◌^◌, ◌≤◌, ◌-◌, length, pos}
+use Rattle.online_nodes.specs.Held.{held_at}
 use Rattle.online_nodes.proofs.AbleLemmas.{can_answer, can_release}
 use Rattle.online_nodes.proofs.AdvanceLemmas.{plain_stands, put_count, put_within, step_stands, step_stepped}
 use Rattle.online_nodes.proofs.DueLemmas.{begun_inside}
@@ -33,37 +32,18 @@ returns-clause-stepped c = λ x is d.
     let g = c.begin-begun.ensures x is in
     let front : to_z w64 (of_z w64 c.from.result) ≡ x.front =
     (let e : to_z w64 (of_z w64 c.from.result) ≡ pos c.args.front = search rules in e ∙ sym is.1) in
-    let r : HasReleased c.args.self.now.kind x.front c.answer_plain.new.edges c.release.new.edges =
-    subst (λ (z : ℤ). HasReleased c.args.self.now.kind z c.answer_plain.new.edges c.release.new.edges) front c.release.ensures in
     let front_2 : to_z w64 (of_z w64 c.from-2.result) ≡ x.front =
     (let e : to_z w64 (of_z w64 c.from-2.result) ≡ pos c.args.front = search rules in e ∙ sym is.1) in
-    let noted : c.reach.new.self ≡ record c.release.new.edges {
-      edges = with_edge c.release.new.edges c.args.self.now.node
-          (with_number (edge_at c.release.new.edges c.args.self.now.node) x.front);
-    } =
-    subst (λ (z : ℤ). c.reach.new.self ≡ record c.release.new.edges {
-      edges = with_edge c.release.new.edges c.args.self.now.node
-          (with_number (edge_at c.release.new.edges c.args.self.now.node) z);
-    }) front_2 c.reach.ensures in
     let counted : length (held_at c.answer_plain.new.edges c.args.self.now.node) ≤ 2 ^ 64 - 1 = omega (arith, c.held-all.type_inv, c.held-all.ensures) in
-    step_stepped d g (c.in_ok-answer_plain.ensures.answered c.begin-begun.result.marks) r noted counted
+    step_stepped d g (c.in_ok-answer_plain.ensures.answered c.begin-begun.result.marks) (rw front at c.release.ensures) (rw front_2 at c.reach.ensures) counted
 
 pub returns-clause-stands : goal.returns-clause-stands
 returns-clause-stands c = λ x is d.
     let g = c.begin-begun.ensures x is in
     let front : to_z w64 (of_z w64 c.from.result) ≡ x.front =
     (let e : to_z w64 (of_z w64 c.from.result) ≡ pos c.args.front = search rules in e ∙ sym is.1) in
-    let r : HasReleased c.args.self.now.kind x.front c.answer_plain.new.edges c.release.new.edges =
-    subst (λ (z : ℤ). HasReleased c.args.self.now.kind z c.answer_plain.new.edges c.release.new.edges) front c.release.ensures in
     let front_2 : to_z w64 (of_z w64 c.from-2.result) ≡ x.front =
     (let e : to_z w64 (of_z w64 c.from-2.result) ≡ pos c.args.front = search rules in e ∙ sym is.1) in
-    let noted : c.reach.new.self ≡ record c.release.new.edges {
-      edges = with_edge c.release.new.edges c.args.self.now.node
-          (with_number (edge_at c.release.new.edges c.args.self.now.node) x.front);
-    } =
-    subst (λ (z : ℤ). c.reach.new.self ≡ record c.release.new.edges {
-      edges = with_edge c.release.new.edges c.args.self.now.node
-          (with_number (edge_at c.release.new.edges c.args.self.now.node) z);
-    }) front_2 c.reach.ensures in
     plain_stands x.nodes x.header _ c.args.self.now c.reach.new.self c.args.front _ _ c.requires.plain
-    (step_stands d g (c.in_ok-answer_plain.ensures.answered c.begin-begun.result.marks) r noted c.args.front is.1)
+    (step_stands d g (c.in_ok-answer_plain.ensures.answered c.begin-begun.result.marks) (rw front at c.release.ensures)
+    (rw front_2 at c.reach.ensures) c.args.front is.1)

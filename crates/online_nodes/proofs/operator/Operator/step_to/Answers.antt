@@ -31,36 +31,16 @@ returns-clause-stepped c = λ x is d.
     let g = c.begin-begun.ensures x is in
     let front : to_z w64 (of_z w64 c.from.result) ≡ x.front =
     (let e : to_z w64 (of_z w64 c.from.result) ≡ pos c.args.front = search rules in e ∙ sym is.1) in
-    let r : HasReleased c.args.self.now.kind x.front c.answer.new.edges c.release.new.edges =
-    subst (λ (z : ℤ). HasReleased c.args.self.now.kind z c.answer.new.edges c.release.new.edges) front c.release.ensures in
     let front_2 : to_z w64 (of_z w64 c.from-2.result) ≡ x.front =
     (let e : to_z w64 (of_z w64 c.from-2.result) ≡ pos c.args.front = search rules in e ∙ sym is.1) in
-    let noted : c.reach.new.self ≡ record c.release.new.edges {
-      edges = with_edge c.release.new.edges c.args.self.now.node
-          (with_number (edge_at c.release.new.edges c.args.self.now.node) x.front);
-    } =
-    subst (λ (z : ℤ). c.reach.new.self ≡ record c.release.new.edges {
-      edges = with_edge c.release.new.edges c.args.self.now.node
-          (with_number (edge_at c.release.new.edges c.args.self.now.node) z);
-    }) front_2 c.reach.ensures in
     let counted : length (held_at c.answer.new.edges c.args.self.now.node) ≤ 2 ^ 64 - 1 = omega (arith, c.held-all.type_inv, c.held-all.ensures) in
-    step_stepped d g c.in_ok-marks.ensures.answered r noted counted
+    step_stepped d g c.in_ok-marks.ensures.answered (rw front at c.release.ensures) (rw front_2 at c.reach.ensures) counted
 
 pub returns-clause-stands : goal.returns-clause-stands
 returns-clause-stands c = λ x is d.
     let g = c.begin-begun.ensures x is in
     let front : to_z w64 (of_z w64 c.from.result) ≡ x.front =
     (let e : to_z w64 (of_z w64 c.from.result) ≡ pos c.args.front = search rules in e ∙ sym is.1) in
-    let r : HasReleased c.args.self.now.kind x.front c.answer.new.edges c.release.new.edges =
-    subst (λ (z : ℤ). HasReleased c.args.self.now.kind z c.answer.new.edges c.release.new.edges) front c.release.ensures in
     let front_2 : to_z w64 (of_z w64 c.from-2.result) ≡ x.front =
     (let e : to_z w64 (of_z w64 c.from-2.result) ≡ pos c.args.front = search rules in e ∙ sym is.1) in
-    let noted : c.reach.new.self ≡ record c.release.new.edges {
-      edges = with_edge c.release.new.edges c.args.self.now.node
-          (with_number (edge_at c.release.new.edges c.args.self.now.node) x.front);
-    } =
-    subst (λ (z : ℤ). c.reach.new.self ≡ record c.release.new.edges {
-      edges = with_edge c.release.new.edges c.args.self.now.node
-          (with_number (edge_at c.release.new.edges c.args.self.now.node) z);
-    }) front_2 c.reach.ensures in
-    step_stands d g c.in_ok-marks.ensures.answered r noted c.args.front is.1
+    step_stands d g c.in_ok-marks.ensures.answered (rw front at c.release.ensures) (rw front_2 at c.reach.ensures) c.args.front is.1
