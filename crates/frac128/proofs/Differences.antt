@@ -1,13 +1,11 @@
 -- A line as whole numbers: its sign at a time, and its root.
-use Rattle.std.proofs.Common.{◌≡◌, ℕ, ℤ, pos, negsuc, suc, ◌+ℤ◌, ◌-ℤ◌, ◌*ℤ◌, ◌<ℤ◌, neg_ℤ, inl, inr, ◌+◌}
-use Rattle.std.proofs.Common.{◌*◌, ◌<◌, ◌≤◌, arith, ap, mul-le-mul_right, Option, Some, None, MatchOption}
+use Rattle.std.proofs.Common.{◌≡◌, ℕ, ℤ, pos, negsuc, ◌+ℤ◌, ◌-ℤ◌, ◌*ℤ◌, ◌<ℤ◌, neg_ℤ, inl, inr, ◌+◌}
+use Rattle.std.proofs.Common.{◌*◌, ◌<◌, ◌≤◌, arith, ap, Option, Some, None, MatchOption}
 use Rattle.std.specs.Int.RustNames.{unsigned_abs}
 use Rattle.std.proofs.lemmas.Int.{ints}
 use Rattle.std.specs.declared.cmp.Ordering.{Ordering}
 use Rattle.std.specs.declared.cmp.Ordering.TheVariants.{Less, Equal, Greater}
-use Rattle.std.specs.Ordering.{MatchOrdering, int_cmp}
-use Rattle.std.specs.Cmp.{int_cmp_is}
-use Rattle.std.proofs.Math.Nat.{mul-lt-mul_of_pos_left}
+use Rattle.std.specs.Ordering.{int_cmp}
 use Rattle.std.proofs.lemmas.Cmp.{int_ranked}
 use Rattle.rational.specs.Rational.{Rational, part_above, part_below, mixed, fraction, whole, IsOrder, ◌≈◌}
 use Rattle.rational.specs.Line.{Line, Level, at, gap_line, AreParallel, MeetAt}
@@ -98,10 +96,6 @@ sign_of Less sum a h k = record { lt = let l = int_ranked sum (pos 0) Less k in 
 sign_of Equal sum a h k = record { same = let l = int_ranked sum (pos 0) Equal k in omega (arith, ints) }
 sign_of Greater sum a h k = record { lt = let l = int_ranked sum (pos 0) Greater k in omega (arith, ints) }
 
--- a whole number that is not below the climb settles the sign
-outweighs : (a c r k : ℕ) → c ≤ a → r < k → 0 < a → c * r < a * k
-outweighs a c r k h j p = omega (arith, mul-le-mul_right r h, mul-lt-mul_of_pos_left {m = r} {n = k} {k = a} j p)
-
 -- the part of a number above 0 is at most its size
 pub above_le : (z : ℤ) → part_above z ≤ unsigned_abs z
 above_le (pos n) = omega arith
@@ -124,22 +118,6 @@ above z h = omega (arith, parts)
 -- and one with less is below
 pub below : (z : ℤ) → part_above z < part_below z → z <ℤ pos 0
 below z h = omega (arith, parts)
-
-far_sign : (o : Ordering) (ahead climb sum : ℤ) (r k : ℕ) → unsigned_abs climb ≤ unsigned_abs ahead → 0 < unsigned_abs ahead
-    → r < k → sum ≡ ahead *ℤ pos k +ℤ climb *ℤ pos r → MatchOrdering o (ahead <ℤ pos 0) (ahead ≡ pos 0) (pos 0 <ℤ ahead)
-    → MatchOrdering o (sum <ℤ pos 0) (sum ≡ pos 0) (pos 0 <ℤ sum)
-far_sign Less (pos a) climb sum r k h p j e l = absurd (let m : pos a <ℤ pos 0 = l in omega (arith, ints))
-far_sign Less (negsuc a) climb sum r k h p j e l = below sum
-    (omega (arith, sum_parts (negsuc a) climb sum r k e, outweighs (suc a) (part_above climb) r k (omega (arith, above_le climb)) j p))
-far_sign Equal ahead climb sum r k h p j e l = absurd (let m : ahead ≡ pos 0 = l in omega (arith, ints))
-far_sign Greater (pos a) climb sum r k h p j e l = above sum
-    (omega (arith, sum_parts (pos a) climb sum r k e, outweighs a (part_below climb) r k (omega (arith, below_le climb)) j p))
-far_sign Greater (negsuc a) climb sum r k h p j e l = absurd (let m : pos 0 <ℤ negsuc a = l in omega (arith, ints))
-
--- far from 0 the whole part tells the sign
-pub far_ahead : (o : Ordering) (ahead climb sum : ℤ) (r k : ℕ) → unsigned_abs climb ≤ unsigned_abs ahead → 0 < unsigned_abs ahead
-    → r < k → sum ≡ ahead *ℤ pos k +ℤ climb *ℤ pos r → o ≡ int_cmp ahead (pos 0) → o ≡ int_cmp sum (pos 0)
-far_ahead o ahead climb sum r k h p j e q = int_cmp_is sum (pos 0) o (far_sign o ahead climb sum r k h p j e (int_ranked ahead (pos 0) o q))
 
 -- two lines are one exactly where their gap is 0 and does not climb
 pub zero_everywhere : (f g : Line) (base climb : ℤ) → IsAbove (gap_line f g) base climb → (base ≡ pos 0) × (climb ≡ pos 0) → (t : Rational) → at f t ≈ at g t

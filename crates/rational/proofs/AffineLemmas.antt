@@ -74,13 +74,11 @@ steady_never_meet_alone f g l r t h k m =
 
 -- two functions with one value at two times have one value at each
 pub affine_unique : (f g : Affine) (t u s : Rational) → t <ʳ u → value_at f t ≈ᵉ value_at g t → value_at f u ≈ᵉ value_at g u → value_at f s ≤ᵉ value_at g s
-affine_unique always_low g t u s h j k = tt
 affine_unique (affine f) always_low t u s h j k = absurd j.at_most
 affine_unique (affine f) (affine g) t u s h j k = le_of_same (same_lines f g h (same_of_le j.at_most j.at_least) (same_of_le k.at_most k.at_least) s)
-affine_unique (affine f) always_high t u s h j k = tt
 affine_unique always_high always_low t u s h j k = absurd j.at_most
 affine_unique always_high (affine g) t u s h j k = absurd j.at_most
-affine_unique always_high always_high t u s h j k = tt
+affine_unique _ _ t u s h j k = tt
 
 -- between two times a function lies between its values there
 pub lies_between : (f : Affine) (l t r : Rational) → l <ʳ t → t <ʳ r

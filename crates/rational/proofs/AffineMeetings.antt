@@ -31,13 +31,11 @@ line_between {l} {t} {r} f g h k a b = from_zero (by_end (below_an_end (gap_line
 
 -- functions in one order at both ends are so ordered between
 pub between : (f g : Affine) (l t r : Rational) → l <ʳ t → t <ʳ r → value_at f l ≤ᵉ value_at g l → value_at f r ≤ᵉ value_at g r → value_at f t ≤ᵉ value_at g t
-between always_low g l t r h k a b = tt
 between (affine f) always_low l t r h k a b = a
 between (affine f) (affine g) l t r h k a b = line_between f g h k a b
-between (affine f) always_high l t r h k a b = tt
 between always_high always_low l t r h k a b = a
 between always_high (affine g) l t r h k a b = a
-between always_high always_high l t r h k a b = tt
+between _ _ l t r h k a b = tt
 
 -- lines whose order turns over meet, at one time in the gap
 line_turn : (f g : Line) (l r : Rational) → l <ʳ r → at f l <ʳ at g l → at g r <ʳ at f r → (t : Rational) × MeetAlone (affine f) (affine g) l r t
@@ -61,13 +59,11 @@ line_turn f g l r h a b =
 
 -- functions whose order turns over meet between at one time alone
 pub turn : (f g : Affine) (l r : Rational) → l <ʳ r → value_at f l <ᵉ value_at g l → value_at g r <ᵉ value_at f r → (t : Rational) × MeetAlone f g l r t
-turn always_low always_low l r h a b = absurd a
 turn always_low (affine g) l r h a b = absurd b
 turn always_low always_high l r h a b = absurd b
-turn (affine f) always_low l r h a b = absurd a
 turn (affine f) (affine g) l r h a b = line_turn f g l r h a b
 turn (affine f) always_high l r h a b = absurd b
-turn always_high g l r h a b = absurd a
+turn _ _ l r h a b = absurd a
 
 -- a meeting at one time alone is one of either function with the other
 pub alone_swap : {f g : Affine} {l r t : Rational} → MeetAlone f g l r t → MeetAlone g f l r t

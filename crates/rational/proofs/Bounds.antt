@@ -7,10 +7,9 @@ use Rattle.rational.specs.Extended.{affine, always_high, value_at, opposite, IsL
 use Rattle.rational.specs.Line.{at}
 use Rattle.rational.specs.Affine.{IsBounded, HasBoundedLevel}
 use Rattle.rational.specs.Windows.{Function}
-use Rattle.rational.specs.InPlay.{IsLineOn, IsLeftLimit, IsRightLimit}
 use Rattle.rational.proofs.Order.{le_or_lt, le_trans, not_lt_of_le}
 use Rattle.rational.proofs.Mixed.{within_negate}
-use Rattle.rational.proofs.AffineLemmas.{bounded_same, same_symᵉ, near_start, near_stop, above_start, above_stop, lies_between}
+use Rattle.rational.proofs.AffineLemmas.{bounded_same, near_start, near_stop, above_start, above_stop, lies_between}
 
 -- a function that is bounded on an open interval is so at its ends
 abbrev pub IsBoundedOn : ℕ → Affine → Rational → Rational → Type 0
@@ -58,18 +57,6 @@ bounded_between n (affine f) l t r h k a b = by_order (lies_between (affine f) l
 -- a function of time has bounded values
 abbrev pub HasBounded : ℕ → Function → Type 0
 HasBounded n F = (t : Rational) (v : Extended) → F t v → IsBounded n v
-
--- the line that a bounded function is on an interval is bounded there
-pub line_bounded : (n : ℕ) (F : Function) (line : Affine) (a b : Rational) → HasBounded n F → IsLineOn F a b line → IsBoundedOn n line a b
-line_bounded n F line a b h on = λ t x y. let w = on t x y in bounded_same n (value_at line t) w.0 (same_symᵉ w.0 (value_at line t) w.2) (h t w.0 w.1)
-
--- and then bounded limits
-pub right_limit_bounded : (n : ℕ) (F : Function) (u : Rational) (v : Extended) → HasBounded n F → IsRightLimit F u v → IsBounded n v
-right_limit_bounded n F u v h l = bounded_same n v (value_at l.line u) l.value (bounded_start n l.line u l.b l.below (line_bounded n F l.line u l.b h l.on))
-
--- so from the left
-pub left_limit_bounded : (n : ℕ) (F : Function) (u : Rational) (v : Extended) → HasBounded n F → IsLeftLimit F u v → IsBounded n v
-left_limit_bounded n F u v h l = bounded_same n v (value_at l.line u) l.value (bounded_stop n l.line l.a u l.above (line_bounded n F l.line l.a u h l.on))
 
 -- the Sup of bounded values is bounded
 pub sup_bounded : (n : ℕ) (Q : Extended → Type 0) (lowest r : Extended) → IsBounded n lowest

@@ -41,13 +41,11 @@ line_strictly {l} {t} {r} f g h k a b = from_zero (by_end (below_an_end (gap_lin
         from_difference i = omega (arith, i.lt)
 
 strictly : (f g : Affine) (l t r : Rational) → l <ʳ t → t <ʳ r → value_at f l <ᵉ value_at g l → value_at f r <ᵉ value_at g r → value_at f t <ᵉ value_at g t
-strictly always_low always_low l t r h k a b = a
 strictly always_low (affine g) l t r h k a b = tt
 strictly always_low always_high l t r h k a b = tt
-strictly (affine f) always_low l t r h k a b = a
 strictly (affine f) (affine g) l t r h k a b = line_strictly f g h k a b
 strictly (affine f) always_high l t r h k a b = tt
-strictly always_high g l t r h k a b = a
+strictly _ _ l t r h k a b = a
 
 -- functions in one order at both ends of a gap do not cross in it
 pub not_crossed : (f g : Affine) (l t r : Rational) → InOrder f g l r → l <ʳ t → t <ʳ r → ¬ IsCrossing f g t

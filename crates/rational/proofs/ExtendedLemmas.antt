@@ -8,23 +8,19 @@ use Rattle.rational.proofs.Tests.{either}
 
 -- of two values one is at most the other
 pub le_totalᵉ : (v w : Extended) → (v ≤ᵉ w) ⊎ (w <ᵉ v)
-le_totalᵉ minus_infinity w = inl tt
 le_totalᵉ (finite x) minus_infinity = inr tt
 le_totalᵉ (finite x) (finite y) = le_or_lt x y
-le_totalᵉ (finite x) infinity = inl tt
 le_totalᵉ infinity minus_infinity = inr tt
 le_totalᵉ infinity (finite y) = inr tt
-le_totalᵉ infinity infinity = inl tt
+le_totalᵉ _ _ = inl tt
 
 -- a value below another is not at or above it
 pub clashᵉ : {X : Type 0} (v w : Extended) → v <ᵉ w → w ≤ᵉ v → X
-clashᵉ minus_infinity minus_infinity h k = absurd h
 clashᵉ minus_infinity (finite y) h k = absurd k
 clashᵉ minus_infinity infinity h k = absurd k
-clashᵉ (finite x) minus_infinity h k = absurd h
 clashᵉ (finite x) (finite y) h k = absurd (not_lt_of_le k h)
 clashᵉ (finite x) infinity h k = absurd k
-clashᵉ infinity w h k = absurd h
+clashᵉ _ _ h k = absurd h
 
 -- each value is at most itself
 pub le_reflᵉ : (v : Extended) → v ≤ᵉ v
@@ -111,41 +107,33 @@ negated_le x y h = omega arith
 
 -- opposites are in the opposite order
 pub opposite_le : (v w : Extended) → opposite w ≤ᵉ opposite v → v ≤ᵉ w
-opposite_le minus_infinity w h = tt
 opposite_le (finite x) minus_infinity h = absurd h
 opposite_le (finite x) (finite y) h = negated_le x y h
-opposite_le (finite x) infinity h = tt
 opposite_le infinity minus_infinity h = absurd h
 opposite_le infinity (finite y) h = absurd h
-opposite_le infinity infinity h = tt
+opposite_le _ _ h = tt
 
 -- and in that order from the values' own
 pub opposite_le' : (v w : Extended) → v ≤ᵉ w → opposite w ≤ᵉ opposite v
 opposite_le' minus_infinity minus_infinity h = tt
-opposite_le' minus_infinity (finite y) h = tt
-opposite_le' minus_infinity infinity h = tt
 opposite_le' (finite x) minus_infinity h = absurd h
 opposite_le' (finite x) (finite y) h = le_negate h
-opposite_le' (finite x) infinity h = tt
 opposite_le' infinity minus_infinity h = absurd h
 opposite_le' infinity (finite y) h = absurd h
-opposite_le' infinity infinity h = tt
+opposite_le' _ _ h = tt
 
 -- so strictly
 pub lt_opposite : (v w : Extended) → v <ᵉ w → opposite w <ᵉ opposite v
-lt_opposite minus_infinity minus_infinity h = absurd h
 lt_opposite minus_infinity (finite y) h = tt
 lt_opposite minus_infinity infinity h = tt
-lt_opposite (finite x) minus_infinity h = absurd h
 lt_opposite (finite x) (finite y) h = lt_negate h
 lt_opposite (finite x) infinity h = tt
-lt_opposite infinity w h = absurd h
+lt_opposite _ _ h = absurd h
 
 -- the opposite of an opposite is the value
 pub opposite_twice : (v : Extended) → opposite (opposite v) ≡ v
 opposite_twice minus_infinity = refl
-opposite_twice (finite x) = refl
-opposite_twice infinity = refl
+opposite_twice _ = refl
 
 -- there is at most one Sup, and at most one Inf
 pub Sup-unique : {P : Extended → Type 0} (lowest r r' : Extended) → IsSup lowest P r → IsSup lowest P r' → r ≤ᵉ r'
@@ -172,5 +160,4 @@ Inf-unique {P} highest r r' h k = by_order (le_totalᵉ r r')
 -- each value is at most inf
 pub below_infinity : (v : Extended) → v ≤ᵉ infinity
 below_infinity minus_infinity = tt
-below_infinity (finite x) = tt
-below_infinity infinity = tt
+below_infinity _ = tt

@@ -1,18 +1,18 @@
 -- Constant functions of whole numbers: their order, and that they neither move nor meet.
 use Rattle.std.proofs.Common.{◌≡◌, ℤ, refl}
-use Rattle.std.specs.Prelude.{◌<ℤ◌, ◌≤ℤ◌, neg_ℤ, IsTrue}
+use Rattle.std.specs.Prelude.{◌<ℤ◌, ◌≤ℤ◌, IsTrue}
 use Rattle.std.specs.Int.Signed.{<ℤ_irrefl}
 use Rattle.std.specs.declared.cmp.Ordering.{Ordering}
 use Rattle.std.specs.declared.cmp.Ordering.TheVariants.{Less, Equal, Greater}
 use Rattle.std.specs.Ordering.{MatchOrdering, int_cmp, is_eq}
 use Rattle.std.proofs.lemmas.Cmp.{int_ranked}
-use Rattle.rational.specs.Rational.{Rational, whole, negate}
-use Rattle.rational.specs.Extended.{finite, ◌≈ᵉ◌, ◌≤ᵉ◌, opposite, value_at}
+use Rattle.rational.specs.Rational.{Rational, whole}
+use Rattle.rational.specs.Extended.{finite, ◌≈ᵉ◌, ◌≤ᵉ◌, value_at}
 use Rattle.rational.specs.Affine.{IsOrderᵉ, IsSteady, AreSame, level}
-use Rattle.rational.proofs.Shift.{lt_whole, le_whole, whole_neg}
+use Rattle.rational.proofs.Shift.{lt_whole, le_whole}
 use Rattle.rational.proofs.Lines.{at_constant}
 use Rattle.rational.proofs.ExtendedLemmas.{clashᵉ, le_transᵉ}
-use Rattle.rational.proofs.AffineLemmas.{same_reflᵉ, same_symᵉ, same_transᵉ, finite_same, opposite_same, order_sameᵉ}
+use Rattle.rational.proofs.AffineLemmas.{same_reflᵉ, same_symᵉ, same_transᵉ, finite_same, order_sameᵉ}
 
 -- a constant has its number at each time
 pub level_is : (n : ℤ) (t : Rational) → value_at (level n) t ≈ᵉ finite (whole n)
@@ -22,13 +22,6 @@ level_is n t = finite_same (at_constant (whole n) t)
 pub level_steady : (n : ℤ) → IsSteady (level n)
 level_steady n t u = same_transᵉ (value_at (level n) t) (finite (whole n)) (value_at (level n) u) (level_is n t)
     (same_symᵉ (value_at (level n) u) (finite (whole n)) (level_is n u))
-
--- minus a constant is the constant of minus its number
-pub level_negated : (n m : ℤ) (t : Rational) → m ≡ neg_ℤ n → value_at (level m) t ≈ᵉ opposite (value_at (level n) t)
-level_negated n m t e =
-    same_transᵉ (value_at (level m) t) (finite (whole m)) (opposite (value_at (level n) t)) (level_is m t)
-    (same_transᵉ (finite (whole m)) (finite (negate (whole n))) (opposite (value_at (level n) t)) (finite_same (rw e (whole_neg n)))
-    (same_symᵉ (opposite (value_at (level n) t)) (finite (negate (whole n))) (opposite_same (value_at (level n) t) (finite (whole n)) (level_is n t))))
 
 -- constants are ordered as their numbers are
 pub level_order : (o : Ordering) (n m : ℤ) (t u : Rational) → o ≡ int_cmp n m → IsOrderᵉ o (value_at (level n) t) (value_at (level m) u)

@@ -6,9 +6,9 @@ use Rattle.rational.specs.Extended.{Extended, ◌≈ᵉ◌, Affine, value_at}
 use Rattle.rational.specs.Affine.{AreSame}
 use Rattle.rational.specs.Windows.{Function}
 use Rattle.rational.specs.InPlay.{IsLineOn, IsLeftLimit, IsRightLimit}
-use Rattle.rational.proofs.Order.{le_refl, le_or_lt, le_of_lt, le_of_same, ge_of_same, lt_trans}
+use Rattle.rational.proofs.Order.{le_refl, le_or_lt, le_of_lt, lt_trans}
 use Rattle.rational.proofs.Order.{lt_of_lt_of_le, lt_of_le_of_lt, left_of_middle, right_of_middle}
-use Rattle.rational.proofs.AffineLemmas.{same_symᵉ, same_transᵉ, value_same, affine_unique}
+use Rattle.rational.proofs.AffineLemmas.{same_symᵉ, same_transᵉ, affine_unique}
 
 -- a function of time has one value at a time
 abbrev pub HasOneValue : Function → Type 0
@@ -79,23 +79,3 @@ left_limit_one {F} {u} v w one h k =
     let c = later_end h.above k.above in
     limits_same h.line k.line u v w
     (lines_same F h.line k.line one c.1 (line_on_part F h.line c.2 (le_refl u) h.on) (line_on_part F k.line c.3 (le_refl u) k.on)) h.value k.value
-
--- by whichever pairs the time and the value are written
-pub right_limit_same : {F : Function} {t u : Rational} (v w : Extended) → t ≈ u → v ≈ᵉ w → IsRightLimit F t v → IsRightLimit F u w
-right_limit_same {F} {t} {u} v w e s h = record {
-  b = h.b;
-  below = lt_of_le_of_lt (ge_of_same e) h.below;
-  line = h.line;
-  on = line_on_part F h.line (le_of_same e) (le_refl h.b) h.on;
-  value = same_transᵉ w v (value_at h.line u) (same_symᵉ v w s) (same_transᵉ v (value_at h.line t) (value_at h.line u) h.value (value_same h.line e));
-}
-
--- so from the left
-pub left_limit_same : {F : Function} {t u : Rational} (v w : Extended) → t ≈ u → v ≈ᵉ w → IsLeftLimit F t v → IsLeftLimit F u w
-left_limit_same {F} {t} {u} v w e s h = record {
-  a = h.a;
-  above = lt_of_lt_of_le h.above (le_of_same e);
-  line = h.line;
-  on = line_on_part F h.line (le_refl h.a) (ge_of_same e) h.on;
-  value = same_transᵉ w v (value_at h.line u) (same_symᵉ v w s) (same_transᵉ v (value_at h.line t) (value_at h.line u) h.value (value_same h.line e));
-}

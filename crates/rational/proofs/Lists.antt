@@ -65,11 +65,9 @@ slice_get-set_same (y ∷ xs) (suc i) x h = slice_get-set_same xs i x (omega (ar
 
 -- and at other places what stood there
 pub slice_get-set_other : {X : Type 0} (xs : List X) (i j : ℕ) (x : X) → j ≢ i → slice_get (set xs i x) j ≡ slice_get xs j
-slice_get-set_other [] i j x n = refl
 slice_get-set_other (y ∷ xs) zero zero x n = absurd (n refl)
-slice_get-set_other (y ∷ xs) zero (suc j) x n = refl
-slice_get-set_other (y ∷ xs) (suc i) zero x n = refl
 slice_get-set_other (y ∷ xs) (suc i) (suc j) x n = slice_get-set_other xs i j x (λ e. n (ap suc e))
+slice_get-set_other _ _ _ x n = refl
 
 -- a list without its front, by place
 pub slice_get-drop : {X : Type 0} (n : ℕ) (xs : List X) (k : ℕ) → slice_get (drop n xs) k ≡ slice_get xs (n + k)

@@ -118,15 +118,12 @@ not_turned Greater Greater f g l r t h n j k = λ c. not_crossed g f l r t h (le
 -- lines whose order turns over meet between
 pub turned : (before after : Ordering) (f g : Line) (l r t : Rational) → l <ʳ r → AreOpposite before after
     → IsOrder before (at f l) (at g l) → IsOrder after (at f r) (at g r) → MeetAt f g t → CrossAt f g l r t
-turned Less Less f g l r t h n j k m = absurd (cc)
-turned Less Equal f g l r t h n j k m = absurd (cc)
 turned Less Greater f g l r t h n j k m = let b = crossed f g l r t h j k m.equal in record { after = b.0; before = b.1; meet = m }
 turned Equal Less f g l r t h n j k m = absurd n
 turned Equal Equal f g l r t h n j k m = absurd n
 turned Equal Greater f g l r t h n j k m = absurd n
 turned Greater Less f g l r t h n j k m = let b = crossed g f l r t h j k (same_sym m.equal) in record { after = b.0; before = b.1; meet = m }
-turned Greater Equal f g l r t h n j k m = absurd (cc)
-turned Greater Greater f g l r t h n j k m = absurd (cc)
+turned _ _ f g l r t h n j k m = absurd (cc)
 
 -- parallel lines do not cross
 pub parallels_do_not_cross : (f g : Line) (l r t : Rational) → AreParallel f g → ¬ (CrossAt f g l r t)

@@ -2,22 +2,8 @@
 use Rattle.std.proofs.Common.{◌≡◌, ◌⊎◌, inl, inr, Bool, true, false, not, ◌&&◌, ap, sym, ◌∙◌, refl}
 use Rattle.std.specs.Prelude.{MatchBool}
 use Rattle.rational.specs.Rational.{Rational, ◌≤ʳ◌, ◌<ʳ◌, ◌≈◌, middle}
-use Rattle.rational.proofs.Order.{
-  lt_or_same_or_gt,
-  le_or_lt,
-  le_refl,
-  le_trans,
-  le_of_same,
-  le_of_lt,
-  lt_of_lt_of_le,
-  lt_of_le_of_lt,
-  lt_trans,
-  not_lt_of_le,
-  same_trans,
-  same_sym,
-  left_of_middle,
-  right_of_middle,
-}
+use Rattle.rational.proofs.Order.{lt_or_same_or_gt, le_or_lt, le_refl, le_trans, le_of_same, le_of_lt, lt_of_lt_of_le}
+use Rattle.rational.proofs.Order.{lt_of_le_of_lt, lt_trans, not_lt_of_le, same_trans, same_sym, left_of_middle, right_of_middle}
 use Rattle.rational.specs.Time.{HasTimeBetween, Interval, IsNotEmpty}
 use Rattle.rational.proofs.TimeLemmas.{room_of_precedes, precedes_of_lt}
 use Rattle.rational.specs.Places.{Place, begins, ends, After, Upto, Before, Same, AtMost}
@@ -217,14 +203,6 @@ same_of_at_most c d h k = elim (place_order c d) [
   | inl b ↦ absurd (not_before_itself c (before_at_most c d c b k))
   | inr o ↦ elim o [ inl s ↦ s | inr b ↦ absurd (not_before_itself d (before_at_most d c d b h)) ]
 ]
-
--- what comes before a place is at most it
-pub at_most_of_before : (c d : Place) → Before c d → AtMost c d
-at_most_of_before c d b t u = upto_of_before c d t b u
-
--- a place is at most another way to write it
-pub at_most_of_same : (c d : Place) → Same c d → AtMost c d
-at_most_of_same c d s t u = upto_same c d t s u
 
 -- the times of places are in their order
 pub le_of_before : (c d : Place) → Before c d → c.at ≤ʳ d.at

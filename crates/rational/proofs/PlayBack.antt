@@ -167,8 +167,7 @@ module _ {P P' Q Q' R R' : Function} {from to from' to' : Rational} (back : AreB
         where
           abs_back : (z : ℤ) → nat_abs (neg_ℤ z) ≡ nat_abs z
           abs_back (pos zero) = refl
-          abs_back (pos (suc n)) = refl
-          abs_back (negsuc n) = refl
+          abs_back _ = refl
 
       ratio_back : (num : ℤ) (d : ℕ) (p : 0 < d) → negate (ratio num d p) ≈ ratio (neg_ℤ num) d p
       ratio_back (pos zero) d p = same_refl (ratio (pos zero) d p)

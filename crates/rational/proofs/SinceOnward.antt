@@ -40,9 +40,6 @@ module _ (lowest highest : Extended) (P Q : Function) (infs : (on : Interval) �
     (p_on : IsOn (after inside t0 t) P f) (q_on : IsOn (after inside t0 t) Q h) (least : (u : Rational) → lowest ≤ᵉ value_at f u)
     (low_right : (u : Rational) → lowest ≤ᵉ value_at h u) (most : (u : Rational) → value_at f u ≤ᵉ highest)
     (r v : Extended) (since : Since lowest highest P Q true from t0 r) (on : IsOnward r f h t0 t v) where
-  r_low : lowest ≤ᵉ r
-  r_low = since.at_least
-
   low_v : Climbs f → on.low ≤ᵉ v
   low_v climbs = both on.low (value_at f t) on.high v on.is_value
       (le_transᵉ on.low (value_at f t0) (value_at f t) on.is_low.right (climbs t0 t (le_of_lt later)))

@@ -1,7 +1,7 @@
 -- Laws of Sup and Inf: of unions, of negated sets, and of a line over a window.
 use Rattle.std.proofs.Common.{◌⊎◌, inl, inr, sym, subst}
 use Rattle.rational.specs.Rational.{negate, middle, ◌≤ʳ◌, ◌<ʳ◌}
-use Rattle.rational.specs.Time.{Rational, Within, IsIn, gap, closed}
+use Rattle.rational.specs.Time.{Rational, Within, IsIn, gap}
 use Rattle.rational.specs.Line.{Line, Rises, Level, Falls, at, negate_line}
 use Rattle.rational.specs.Extended.{Extended, minus_infinity, finite, infinity, ◌≤ᵉ◌, ◌<ᵉ◌, ◌≈ᵉ◌, opposite, IsLeast, IsGreatest, IsSup, IsInf, affine, Passes}
 use Rattle.rational.specs.Windows.{Window, IsSupOver, IsInfOver}
@@ -150,17 +150,6 @@ inf_of_opposite {P} highest r h = record {
     turned : (w : Extended) → ((v : Extended) × P (opposite v) × (opposite w <ᵉ v)) → (v : Extended) × P v × (v <ᵉ w)
     turned w (v, m, k) = (opposite v, m, subst (λ x. opposite v <ᵉ x) (opposite_twice w) (lt_opposite (opposite w) v k))
 
--- the Sup is minus the Inf of the negated values
-pub sup_of_opposite : {P : Extended → Type 0} (lowest r : Extended) → IsInf (opposite lowest) (λ v. P (opposite v)) (opposite r) → IsSup lowest P r
-sup_of_opposite {P} lowest r h = record {
-  at_least = opposite_le lowest r h.at_most;
-  bound = λ v m. opposite_le v r (h.bound (opposite v) (subst P (sym (opposite_twice v)) m));
-  reached = λ w k l. turned w (h.reached (opposite w) (lt_opposite w r l) (opposite_le' lowest w k));
-}
-  where
-    turned : (w : Extended) → ((v : Extended) × P (opposite v) × (v <ᵉ opposite w)) → (v : Extended) × P v × (w <ᵉ v)
-    turned w (v, m, k) = (opposite v, m, subst (λ x. x <ᵉ opposite v) (opposite_twice w) (lt_opposite v (opposite w) k))
-
 passes_negated : (f : Line) (u : Rational) (v : Extended) → Passes (affine (negate_line f)) u v → Passes (affine f) u (opposite v)
 passes_negated f u v p = record {
   at_most = opposite_le (opposite v) (finite (at f u)) (subst (λ x. finite (negate (at f u)) ≤ᵉ x) (sym (opposite_twice v))
@@ -234,15 +223,3 @@ spans_gap l r h = record {
   inner = λ u a b. record { above = a; below = b };
   outer = λ u m. record { above = le_of_lt m.above; below = le_of_lt m.below };
 }
-
--- so is a closed one
-pub spans_closed : (l r : Rational) → l <ʳ r → Spans (IsIn (closed l r)) l r
-spans_closed l r h = record {
-  order = h;
-  inner = λ u a b. record { above = le_of_lt a; below = le_of_lt b };
-  outer = λ u m. record { above = m.above; below = m.below };
-}
-
--- and so are the times between two times, both with them
-pub spans_within : (l r : Rational) → l <ʳ r → Spans (Within l r) l r
-spans_within l r h = record { order = h; inner = λ u a b. record { above = le_of_lt a; below = le_of_lt b }; outer = λ u m. m }

@@ -1,27 +1,6 @@
 -- How a change of one list in the slab shows in the lists that a caller sees.
-use Rattle.std.proofs.Common.{
-  ◌≡◌,
-  ◌≢◌,
-  ◌⊎◌,
-  ℕ,
-  zero,
-  suc,
-  ◌<◌,
-  List,
-  [],
-  ◌∷◌,
-  length,
-  get_or,
-  set,
-  sum_by,
-  refl,
-  sym,
-  ap,
-  ◌∙◌,
-  inl,
-  inr,
-  arith,
-}
+use Rattle.std.proofs.Common.{◌≡◌, ◌≢◌, ◌⊎◌, ℕ, suc, ◌<◌, List, [], ◌∷◌, length, get_or, set, sum_by, refl, sym, ap, ◌∙◌}
+use Rattle.std.proofs.Common.{inl, inr, arith}
 use Rattle.std.proofs.Math.ListN.{get_or-map as get_or-map_default}
 use Rattle.std.proofs.lemmas.Bool.{cases_eq}
 use Rattle.std.proofs.lemmas.List.{ext_get_or, get_or_default, get_or-set_same, get_or-set_other, length-map, length-set, map-set}
@@ -127,10 +106,3 @@ module _ {T : Type 0} where
       let here : length (items_of cells head) ≡ head.len = each 0 in
       let later : sum_by length (lists_of cells rest) ≡ sum_by (λ e. e.len) rest = sum-lengths cells rest (λ k. each (suc k)) in
       simp sum_by-cons cc
-
--- of two writes at one place the later one stands
-pub set-set_same : {X : Type 0} (xs : List X) (i : ℕ) (a b : X) → set (set xs i a) i b ≡ set xs i b
-set-set_same [] zero a b = refl
-set-set_same [] (suc i) a b = refl
-set-set_same (x ∷ xs) zero a b = refl
-set-set_same (x ∷ xs) (suc i) a b = ap (λ ys. x ∷ ys) (set-set_same xs i a b)

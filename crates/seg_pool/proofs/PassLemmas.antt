@@ -1,35 +1,7 @@
 -- The first item of one list moved behind the last one of another.
-use Rattle.std.proofs.Common.{
-  ◌≡◌,
-  ◌≢◌,
-  ℕ,
-  zero,
-  suc,
-  ◌+◌,
-  ◌-◌,
-  ◌<◌,
-  ◌≤◌,
-  List,
-  [],
-  ◌∷◌,
-  ◌++◌,
-  take,
-  drop,
-  length,
-  get_or,
-  set,
-  Some,
-  None,
-  is_some,
-  cond,
-  sum_by,
-  refl,
-  sym,
-  ap,
-  ◌∙◌,
-  arith,
-}
-use Rattle.std.proofs.lemmas.List.{append-nil, get_or_default, get_or-set_other, length-map, length-set, set-get_or}
+use Rattle.std.proofs.Common.{◌≡◌, ◌≢◌, ℕ, zero, suc, ◌+◌, ◌-◌, ◌<◌, ◌≤◌, List, [], ◌∷◌, ◌++◌, take, drop, length, get_or, set}
+use Rattle.std.proofs.Common.{Some, None, is_some, cond, sum_by, refl, sym, ap, ◌∙◌, arith}
+use Rattle.std.proofs.lemmas.List.{get_or_default, get_or-set_other, length-map, length-set}
 use Rattle.std.proofs.lemmas.List.Sums.{sum_by-set, get_or-le-sum_by}
 use Rattle.slab.specs.Slab.{Slab, get, slab_len, ContainsKey, Updates}
 use Rattle.slab.proofs.SlabLemmas.{Updates-set, ContainsKey-within}
@@ -38,21 +10,13 @@ use Rattle.seg_pool.specs.declared.Ends.{Ends}
 use Rattle.seg_pool.specs.Chain.{no_ends, extended, pointing, items_from, lists_of, IsSound}
 use Rattle.seg_pool.proofs.ChainLemmas.{items_from-found}
 use Rattle.seg_pool.proofs.ListsLemmas.{HasEnds, ChangesList, lists_changed, items_of}
-use Rattle.seg_pool.proofs.PopLemmas.{nothing_popped, popped}
+use Rattle.seg_pool.proofs.PopLemmas.{popped}
 use Rattle.seg_pool.proofs.PushLemmas.{pushed}
 use Rattle.seg_pool.proofs.SoundLemmas.{back_of, items_at, pointing_keeps, sound-changed}
 
 -- all lists, with the first item of one moved behind the last one of another
 abbrev pub moved : {T : Type 0} → List (List T) → ℕ → ℕ → List (List T)
 moved all from to = set (set all from (drop 1 (get_or all from []))) to (get_or all to [] ++ take 1 (get_or all from []))
-
--- from an empty list nothing moves
-pub nothing_moved : {T : Type 0} (all : List (List T)) (from to : ℕ) → get_or all from [] ≡ [] → moved all from to ≡ all
-nothing_moved all from to empty =
-    ap (λ items. set items to (get_or all to [] ++ take 1 (get_or all from []))) (nothing_popped all from empty)
-    ∙ ap (λ items. set all to (get_or all to [] ++ take 1 items)) empty
-    ∙ ap (set all to) (append-nil (get_or all to []))
-    ∙ set-get_or all to []
 
 -- a list has no more items than all lists together
 within_sum : (ends : List Ends) (list : ℕ) (read : Ends) → HasEnds ends list read → read.len ≤ sum_by (λ e. e.len) ends

@@ -1,25 +1,6 @@
 -- A list without its first item.
-use Rattle.std.proofs.Common.{
-  ◌≡◌,
-  ◌≢◌,
-  ℕ,
-  zero,
-  suc,
-  ◌+◌,
-  ◌-◌,
-  List,
-  [],
-  drop,
-  get_or,
-  set,
-  Some,
-  None,
-  refl,
-  sym,
-  ap,
-  ◌∙◌,
-  arith,
-}
+use Rattle.std.proofs.Common.{◌≡◌, ◌≢◌, ℕ, zero, suc, ◌+◌, ◌-◌, List, [], drop, get_or, set, Some, None, refl, sym, ap, ◌∙◌}
+use Rattle.std.proofs.Common.{arith}
 use Rattle.std.proofs.lemmas.List.{set-get_or}
 use Rattle.slab.specs.Slab.{Slab, get, Updates}
 use Rattle.seg_pool.specs.declared.Cell.{Cell}

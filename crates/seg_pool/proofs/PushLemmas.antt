@@ -1,29 +1,6 @@
 -- A list with one more item at its back.
-use Rattle.std.proofs.Common.{
-  ◌≡◌,
-  ◌≢◌,
-  ℕ,
-  zero,
-  suc,
-  ◌+◌,
-  ◌<◌,
-  ◌≤◌,
-  List,
-  [],
-  ◌∷◌,
-  ◌++◌,
-  Some,
-  None,
-  cond,
-  eqb,
-  refl,
-  sym,
-  ap,
-  ◌∙◌,
-  arith,
-  add-one,
-  eq-eqb,
-}
+use Rattle.std.proofs.Common.{◌≡◌, ◌≢◌, ℕ, zero, suc, ◌+◌, ◌<◌, ◌≤◌, List, [], ◌∷◌, ◌++◌, Some, None, cond, eqb, refl, sym, ap}
+use Rattle.std.proofs.Common.{◌∙◌, arith, add-one, eq-eqb}
 use Rattle.std.proofs.lemmas.Bool.{ne_eqb}
 use Rattle.slab.specs.Slab.{Slab, get, Updates, with_value}
 use Rattle.slab.proofs.SlabLemmas.{Updates-with_value}

@@ -1,30 +1,6 @@
 -- What a sound pool tells of its lists, and when it is sound again.
-use Rattle.std.proofs.Common.{
-  ◌≡◌,
-  ℕ,
-  zero,
-  suc,
-  ◌+◌,
-  ◌<◌,
-  ◌≤◌,
-  List,
-  [],
-  length,
-  get_or,
-  set,
-  slice_get,
-  Option,
-  Some,
-  None,
-  is_some,
-  cond,
-  sum_by,
-  refl,
-  sym,
-  ap,
-  ◌∙◌,
-  arith,
-}
+use Rattle.std.proofs.Common.{◌≡◌, ℕ, zero, suc, ◌+◌, ◌<◌, ◌≤◌, List, [], length, get_or, set, slice_get, Option, Some, None}
+use Rattle.std.proofs.Common.{is_some, cond, sum_by, refl, sym, ap, ◌∙◌, arith}
 use Rattle.std.proofs.lemmas.List.{length-set}
 use Rattle.std.proofs.lemmas.List.Sums.{sum_by-set}
 use Rattle.slab.specs.Slab.{Slab, get, ContainsKey, slab_len, with_value}

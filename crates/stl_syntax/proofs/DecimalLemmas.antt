@@ -1,7 +1,7 @@
 -- Decimals without the zeros at their end.
-use Rattle.std.proofs.Common.{◌≡◌, ◌≢◌, ℕ, zero, suc, ◌+◌, ◌-◌, ◌*◌, ◌/◌, ◌%◌, ◌^◌, ◌<◌, ◌≤◌, Bool, true, false, List}
+use Rattle.std.proofs.Common.{◌≡◌, ℕ, zero, suc, ◌+◌, ◌-◌, ◌*◌, ◌/◌, ◌%◌, ◌^◌, ◌<◌, ◌≤◌, Bool, true, false, List}
 use Rattle.std.proofs.Common.{[], ◌∷◌, ◌++◌, length, min, reverse, refl, sym, ◌∙◌, ap, arith, ◌⊎◌, inl, inr, lit<}
-use Rattle.std.proofs.lemmas.Bool.{ne_eqb, eqb-true, le-leb, cases_Bool, and_from}
+use Rattle.std.proofs.lemmas.Bool.{eqb-true, le-leb, cases_Bool, and_from}
 use Rattle.std.proofs.lemmas.List.{reverse-append, reverse-reverse, length-reverse, length_push}
 use Rattle.std.proofs.Math.Nat.{pow-suc, pow-zero, one-le-pow}
 use Rattle.std.specs.Prelude.{◌==◌}
@@ -13,10 +13,6 @@ use Rattle.stl_syntax.specs.Printing.{last_digits, decimal_text}
 -- a zero at the end goes away
 pub without_zeros-zero : (xs : List ℕ) → without_zeros (xs ++ 48 ∷ []) ≡ without_zeros xs
 without_zeros-zero xs = rw (reverse-append xs (48 ∷ [])) refl
-
--- another digit stays, and all before it
-pub without_zeros-last : (xs : List ℕ) (c : ℕ) → c ≢ 48 → without_zeros (xs ++ c ∷ []) ≡ xs ++ c ∷ []
-without_zeros-last xs c h = rw (reverse-append xs (c ∷ []), ne_eqb c 48 h) (reverse-append (c ∷ []) (reverse xs) ∙ ap (λ ys. ys ++ c ∷ []) (reverse-reverse xs))
 
 -- one place less where the last digit is 0
 pub without_zeros-less : (k n : ℕ) → 0 < k → n % 10 ≡ 0 → without_zeros (last_digits (k - 1) (n / 10)) ≡ without_zeros (last_digits k n)

@@ -50,16 +50,12 @@ made trees (m ∷ nodes) (suc j) i n at e c =
 pub below_later : (i k : ℕ) (n : Node) → i ≤ k → HasChildrenBelow i n → HasChildrenBelow k n
 below_later i k (Const b) h c = tt
 below_later i k (Leaf a) h c = tt
-below_later i k (Not p) h c = omega (arith, h, c)
 below_later i k (And p q) h c = (omega (arith, h, c.0), omega (arith, h, c.1))
 below_later i k (Or p q) h c = (omega (arith, h, c.0), omega (arith, h, c.1))
 below_later i k (Implies p q) h c = (omega (arith, h, c.0), omega (arith, h, c.1))
 below_later i k (Until p q a b) h c = (omega (arith, h, c.0), omega (arith, h, c.1))
-below_later i k (Eventually p a b a_in b_in) h c = omega (arith, h, c)
-below_later i k (Always p a b a_in b_in) h c = omega (arith, h, c)
 below_later i k (Since p q a b) h c = (omega (arith, h, c.0), omega (arith, h, c.1))
-below_later i k (Once p a b a_in b_in) h c = omega (arith, h, c)
-below_later i k (Historically p a b a_in b_in) h c = omega (arith, h, c)
+below_later i k _ h c = omega (arith, h, c)
 
 -- a subformula is made of those at its children's places
 pub subformula-at : (nodes : List Node) (i : ℕ) (n : Node) → slice_get nodes i ≡ Some n → HasChildrenBelow i n

@@ -41,17 +41,7 @@ horizons-set nodes i x h l k n = below_more _ _ (λ j m. let other : j ≢ i = o
 -- a node's horizon is at most its own bound and the horizons of its children
 horizon_step : (at : ℕ → Subformula) (i : ℕ) (n : Node) → horizon (tree_of at i n) ≤ own_reach n + sum_by (λ p. horizon (at p)) (children n)
 horizon_step at i (Const b) = omega arith
-horizon_step at i (Leaf a) = omega arith
-horizon_step at i (Not p) = omega arith
-horizon_step at i (And p q) = omega arith
-horizon_step at i (Or p q) = omega arith
-horizon_step at i (Implies p q) = omega arith
-horizon_step at i (Until p q a b) = omega arith
-horizon_step at i (Eventually p a b a_in b_in) = omega arith
-horizon_step at i (Always p a b a_in b_in) = omega arith
-horizon_step at i (Since p q a b) = omega arith
-horizon_step at i (Once p a b a_in b_in) = omega arith
-horizon_step at i (Historically p a b a_in b_in) = omega arith
+horizon_step at i _ = omega arith
 
 -- the horizons of the unused places among the first nodes sum up to at most the reach of these nodes
 abbrev AreWithin : List Node → List Node → Type 0

@@ -156,16 +156,12 @@ placed nodes i n h e =
 pub child_below : (i p : ℕ) (n : Node) → HasChildrenBelow i n → IsChild n p → p < i
 child_below i p (Const b) h c = absurd c
 child_below i p (Leaf a) h c = absurd c
-child_below i p (Not q) h c = subst (λ x. x < i) c h
 child_below i p (And q r) h c = elim c [ inl d ↦ subst (λ x. x < i) d h.0 | inr d ↦ subst (λ x. x < i) d h.1 ]
 child_below i p (Or q r) h c = elim c [ inl d ↦ subst (λ x. x < i) d h.0 | inr d ↦ subst (λ x. x < i) d h.1 ]
 child_below i p (Implies q r) h c = elim c [ inl d ↦ subst (λ x. x < i) d h.0 | inr d ↦ subst (λ x. x < i) d h.1 ]
 child_below i p (Until q r a b) h c = elim c [ inl d ↦ subst (λ x. x < i) d h.0 | inr d ↦ subst (λ x. x < i) d h.1 ]
-child_below i p (Eventually q a b a_in b_in) h c = subst (λ x. x < i) c h
-child_below i p (Always q a b a_in b_in) h c = subst (λ x. x < i) c h
 child_below i p (Since q r a b) h c = elim c [ inl d ↦ subst (λ x. x < i) d h.0 | inr d ↦ subst (λ x. x < i) d h.1 ]
-child_below i p (Once q a b a_in b_in) h c = subst (λ x. x < i) c h
-child_below i p (Historically q a b a_in b_in) h c = subst (λ x. x < i) c h
+child_below i p _ h c = subst (λ x. x < i) c h
 
 -- two children of a node are two nodes
 pub inputs_apart : (nodes : List Node) (i : ℕ) (n : Node) (p q : ℕ) → IsPostOrder nodes → slice_get nodes i ≡ Some n

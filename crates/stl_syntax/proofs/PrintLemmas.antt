@@ -11,7 +11,7 @@ use Rattle.stl_syntax.proofs.FormulaLemmas.{subformula-at}
 use Rattle.stl_syntax.proofs.PostOrderLemmas.{placed}
 use Rattle.stl_syntax.specs.declared.scale.Scale.{Scale}
 use Rattle.stl_syntax.specs.declared.node.Node.{Node}
-use Rattle.stl_syntax.specs.declared.node.Node.TheVariants.{Const, Atom as Leaf, Not, And, Or, Implies, Until, Eventually, Always, Since, Once, Historically}
+use Rattle.stl_syntax.specs.declared.node.Node.TheVariants.{Const, Atom as Leaf}
 use Rattle.stl_syntax.specs.declared.operator.Operands.{Operands}
 use Rattle.stl_syntax.specs.declared.operator.Operands.TheVariants.{Nothing, One, Two}
 use Rattle.stl_syntax.specs.declared.atom.Term.{Term}
@@ -31,32 +31,12 @@ operand_text s at p = in_parens (has_two (at p)) (printed s (at p))
 -- a tree's text is made of those of its operands
 pub printed-tree_of : (s : Scale) (at : ℕ → Subformula) (i : ℕ) (n : Node) → printed s (tree_of at i n) ≡ node_text s n (operand_text s at) (operands_of n)
 printed-tree_of s at i (Const b) = refl
-printed-tree_of s at i (Leaf a) = refl
-printed-tree_of s at i (Not p) = refl
-printed-tree_of s at i (And p q) = refl
-printed-tree_of s at i (Or p q) = refl
-printed-tree_of s at i (Implies p q) = refl
-printed-tree_of s at i (Until p q a b) = refl
-printed-tree_of s at i (Eventually p a b a_in b_in) = refl
-printed-tree_of s at i (Always p a b a_in b_in) = refl
-printed-tree_of s at i (Since p q a b) = refl
-printed-tree_of s at i (Once p a b a_in b_in) = refl
-printed-tree_of s at i (Historically p a b a_in b_in) = refl
+printed-tree_of s at i _ = refl
 
 -- it has two operands where its node has
 pub has_two-tree_of : (at : ℕ → Subformula) (i : ℕ) (n : Node) → has_two (tree_of at i n) ≡ are_two (operands_of n)
 has_two-tree_of at i (Const b) = refl
-has_two-tree_of at i (Leaf a) = refl
-has_two-tree_of at i (Not p) = refl
-has_two-tree_of at i (And p q) = refl
-has_two-tree_of at i (Or p q) = refl
-has_two-tree_of at i (Implies p q) = refl
-has_two-tree_of at i (Until p q a b) = refl
-has_two-tree_of at i (Eventually p a b a_in b_in) = refl
-has_two-tree_of at i (Always p a b a_in b_in) = refl
-has_two-tree_of at i (Since p q a b) = refl
-has_two-tree_of at i (Once p a b a_in b_in) = refl
-has_two-tree_of at i (Historically p a b a_in b_in) = refl
+has_two-tree_of at i _ = refl
 
 -- operands stand before their node
 abbrev pub StandBefore : ℕ → Operands → Type 0
@@ -67,16 +47,7 @@ StandBefore i (Two p q) = (p < i) × (q < i)
 stand_before : (i : ℕ) (n : Node) → HasChildrenBelow i n → StandBefore i (operands_of n)
 stand_before i (Const b) h = tt
 stand_before i (Leaf a) h = tt
-stand_before i (Not p) h = h
-stand_before i (And p q) h = h
-stand_before i (Or p q) h = h
-stand_before i (Implies p q) h = h
-stand_before i (Until p q a b) h = h
-stand_before i (Eventually p a b a_in b_in) h = h
-stand_before i (Always p a b a_in b_in) h = h
-stand_before i (Since p q a b) h = h
-stand_before i (Once p a b a_in b_in) h = h
-stand_before i (Historically p a b a_in b_in) h = h
+stand_before i _ h = h
 
 -- what a place shows of its operands
 pub record Shows (s : Scale) (nodes : List Node) (i : ℕ) (n : Node) (operands : Operands) : Type 0 where

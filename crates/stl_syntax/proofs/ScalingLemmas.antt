@@ -44,17 +44,7 @@ replaced_all f xs i l = rw (take_all i xs l, drop_all i xs l) (append-nil (map f
 
 scaled_children : (k m : ℕ) (n : Node) → children (scaled_node k m n) ≡ children n
 scaled_children k m (Const b) = refl
-scaled_children k m (Leaf a) = refl
-scaled_children k m (Not p) = refl
-scaled_children k m (And p q) = refl
-scaled_children k m (Or p q) = refl
-scaled_children k m (Implies p q) = refl
-scaled_children k m (Until p q a b) = refl
-scaled_children k m (Eventually p a b a_in b_in) = refl
-scaled_children k m (Always p a b a_in b_in) = refl
-scaled_children k m (Since p q a b) = refl
-scaled_children k m (Once p a b a_in b_in) = refl
-scaled_children k m (Historically p a b a_in b_in) = refl
+scaled_children k m _ = refl
 
 scaled_used : (k m : ℕ) (nodes : List Node) (i : ℕ) → is_used (map (scaled_node k m) nodes) i ≡ is_used nodes i
 scaled_used k m [] i = refl
@@ -94,15 +84,10 @@ scaled_own_reach k m (Not p) = omega arith
 scaled_own_reach k m (And p q) = omega arith
 scaled_own_reach k m (Or p q) = omega arith
 scaled_own_reach k m (Implies p q) = omega arith
-scaled_own_reach k m (Until p q a b) = refl
-scaled_own_reach k m (Eventually p a b a_in b_in) = refl
-scaled_own_reach k m (Always p a b a_in b_in) = refl
 scaled_own_reach k m (Since p q a None) = refl
-scaled_own_reach k m (Since p q a (Some b)) = refl
 scaled_own_reach k m (Once p a None a_in b_in) = refl
-scaled_own_reach k m (Once p a (Some b) a_in b_in) = refl
 scaled_own_reach k m (Historically p a None a_in b_in) = refl
-scaled_own_reach k m (Historically p a (Some b) a_in b_in) = refl
+scaled_own_reach k m _ = refl
 
 -- the reach is counted in the new ticks
 pub scaled_reach : (k m : ℕ) (nodes : List Node) → reach (map (scaled_node k m) nodes) ≡ k * reach nodes
@@ -115,21 +100,15 @@ scaled_reach k m (n ∷ nodes) =
     new ∙ rw (old) (omega (arith, here, scaled_reach k m nodes))
 
 scaled_bounds : (k m : ℕ) (n : Node) → HasBounds n → HasBounds (scaled_node k m n)
-scaled_bounds k m (Const b) h = tt
-scaled_bounds k m (Leaf a) h = tt
-scaled_bounds k m (Not p) h = tt
-scaled_bounds k m (And p q) h = tt
-scaled_bounds k m (Or p q) h = tt
-scaled_bounds k m (Implies p q) h = tt
 scaled_bounds k m (Until p q a b) h = mul-le-mul_left k h
 scaled_bounds k m (Eventually p a b a_in b_in) h = mul-le-mul_left k h
 scaled_bounds k m (Always p a b a_in b_in) h = mul-le-mul_left k h
-scaled_bounds k m (Since p q a None) h = tt
 scaled_bounds k m (Since p q a (Some b)) h = mul-le-mul_left k h
 scaled_bounds k m (Once p a None a_in b_in) h = h
 scaled_bounds k m (Once p a (Some b) a_in b_in) h = (mul-le-mul_left k h.0, tt)
 scaled_bounds k m (Historically p a None a_in b_in) h = h
 scaled_bounds k m (Historically p a (Some b) a_in b_in) h = (mul-le-mul_left k h.0, tt)
+scaled_bounds k m _ h = tt
 
 scaled_leaf : (k m : ℕ) (n : Node) → has_large_constant m n ≡ false → IsLeafInLimits n → IsLeafInLimits (scaled_node k m n)
 scaled_leaf k m (Leaf a) small h = record {
@@ -138,17 +117,7 @@ scaled_leaf k m (Leaf a) small h = record {
   terms = h.terms;
   limit = omega (arith, unsigned_abs-mul (pos m) a.limit, ltb-false 1073741824 (nat_abs a.limit * m) small);
 }
-scaled_leaf k m (Const b) small h = tt
-scaled_leaf k m (Not p) small h = tt
-scaled_leaf k m (And p q) small h = tt
-scaled_leaf k m (Or p q) small h = tt
-scaled_leaf k m (Implies p q) small h = tt
-scaled_leaf k m (Until p q a b) small h = tt
-scaled_leaf k m (Eventually p a b a_in b_in) small h = tt
-scaled_leaf k m (Always p a b a_in b_in) small h = tt
-scaled_leaf k m (Since p q a b) small h = tt
-scaled_leaf k m (Once p a b a_in b_in) small h = tt
-scaled_leaf k m (Historically p a b a_in b_in) small h = tt
+scaled_leaf k m _ small h = tt
 
 -- where no number passes its limit, scaled nodes are well-formed
 pub scaled_well_formed : (k m : ℕ) (nodes : List Node) → AreWellFormed nodes → All (λ n. has_large_constant m n ≡ false) nodes → k * reach nodes ≤ 4294967295
@@ -168,31 +137,11 @@ scaled_root k m nodes h = unused_scaled k m nodes ∙ h ∙ ap (λ n. (n - 1) �
 -- the constant passes its limit in the new ticks
 large_at : (k m : ℕ) (n : Node) → has_large_constant m n ≡ true → HasLargeConstant (scaled_node k m n)
 large_at k m (Leaf a) h = omega (arith, unsigned_abs-mul (pos m) a.limit, ltb-true 1073741824 (nat_abs a.limit * m) h)
-large_at k m (Const b) h = let x : false ≡ true = h in cc
-large_at k m (Not p) h = let x : false ≡ true = h in cc
-large_at k m (And p q) h = let x : false ≡ true = h in cc
-large_at k m (Or p q) h = let x : false ≡ true = h in cc
-large_at k m (Implies p q) h = let x : false ≡ true = h in cc
-large_at k m (Until p q a b) h = let x : false ≡ true = h in cc
-large_at k m (Eventually p a b a_in b_in) h = let x : false ≡ true = h in cc
-large_at k m (Always p a b a_in b_in) h = let x : false ≡ true = h in cc
-large_at k m (Since p q a b) h = let x : false ≡ true = h in cc
-large_at k m (Once p a b a_in b_in) h = let x : false ≡ true = h in cc
-large_at k m (Historically p a b a_in b_in) h = let x : false ≡ true = h in cc
+large_at k m _ h = let x : false ≡ true = h in cc
 
 small_at : (k m : ℕ) (n : Node) → has_large_constant m n ≡ false → HasLargeConstant (scaled_node k m n) → ⊥
 small_at k m (Leaf a) h large = omega (arith, unsigned_abs-mul (pos m) a.limit, ltb-false 1073741824 (nat_abs a.limit * m) h)
-small_at k m (Const b) h large = large
-small_at k m (Not p) h large = large
-small_at k m (And p q) h large = large
-small_at k m (Or p q) h large = large
-small_at k m (Implies p q) h large = large
-small_at k m (Until p q a b) h large = large
-small_at k m (Eventually p a b a_in b_in) h large = large
-small_at k m (Always p a b a_in b_in) h large = large
-small_at k m (Since p q a b) h large = large
-small_at k m (Once p a b a_in b_in) h large = large
-small_at k m (Historically p a b a_in b_in) h large = large
+small_at k m _ h large = large
 
 -- the first large constant, as a test finds it
 pub first_large : (k m i : ℕ) (nodes : List Node) → position (has_large_constant m) nodes ≡ Some i → IsFirst HasLargeConstant (map (scaled_node k m) nodes) i

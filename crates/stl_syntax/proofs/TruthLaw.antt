@@ -18,10 +18,6 @@ Tells v P = ((v ≈ᵉ one) × P) ⊎ ((v ≈ᵉ minus_one) × (¬ P))
 apart : minus_one <ᵉ one
 apart = record { lt = lit< tt }
 
--- a value is not both
-not_both : {X : Type 0} (v : Extended) → v ≈ᵉ one → v ≈ᵉ minus_one → X
-not_both v h k = clashᵉ minus_one one apart (le_transᵉ one v minus_one h.at_least k.at_most)
-
 -- a Sup of values 1 and -1 over a window
 sup_tells : (W : Window) (F : Function) (P : Rational → Type 0) (r : Extended)
     → ((u : Rational) (v : Extended) → W u → F u v → Tells v (P u)) → ((u : Rational) → W u → P u → (v : Extended) × F u v × (v ≈ᵉ one))
@@ -202,16 +198,7 @@ least_of_ones x e = record { left = e.at_least; right = le_reflᵉ one; one_of =
 pub has_value : (p : Subformula) (s : Setting) → HasValues p s → HasValue p s
 has_value (constant b) s h = h
 has_value (atom i a) s h = h
-has_value (negation p) s h = h.0
-has_value (conjunction p q) s h = h.0
-has_value (disjunction p q) s h = h.0
-has_value (implication p q) s h = h.0
-has_value (until a b p q) s h = h.0
-has_value (eventually a b a_in b_in p) s h = h.0
-has_value (always a b a_in b_in p) s h = h.0
-has_value (since a b p q) s h = h.0
-has_value (once a b a_in b_in p) s h = h.0
-has_value (historically a b a_in b_in p) s h = h.0
+has_value _ s h = h.0
 
 opposite_tells' : (v : Extended) (P : Type 0) → Tells v P → Tells (opposite v) (¬ P)
 opposite_tells' v P (inl (e, p)) = inr (record { at_most = opposite_le' one v e.at_least; at_least = opposite_le' v one e.at_most }, λ q. q p)

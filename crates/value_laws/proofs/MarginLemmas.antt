@@ -223,16 +223,12 @@ constant_apart c (Sloping g) n k s = k g refl
 -- -inf is no other margin
 pub low_apart : (q : Margin) → (q ≡ Low → ⊥) → ¬ AreSame (margin_function Low) (margin_function q)
 low_apart Low n s = n refl
-low_apart High n s = (s (whole (pos 0))).at_least
-low_apart (Fixed d) n s = (s (whole (pos 0))).at_least
-low_apart (Sloping g) n s = (s (whole (pos 0))).at_least
+low_apart _ n s = (s (whole (pos 0))).at_least
 
 -- and inf is no other
 pub high_apart : (q : Margin) → (q ≡ High → ⊥) → ¬ AreSame (margin_function High) (margin_function q)
-high_apart Low n s = (s (whole (pos 0))).at_most
 high_apart High n s = n refl
-high_apart (Fixed d) n s = (s (whole (pos 0))).at_most
-high_apart (Sloping g) n s = (s (whole (pos 0))).at_most
+high_apart _ n s = (s (whole (pos 0))).at_most
 
 -- a ramp of one value has the value that it begins with
 pub bounded_ramp : (f : Ramp) → HasBoundedLevel (2 ^ 31) (affine (line f))
