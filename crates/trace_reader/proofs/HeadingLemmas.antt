@@ -288,10 +288,6 @@ empty_is xs b e h l = false≢true (sym h ∙ (e ∙ eq-eqb (length xs) 0 l))
 pub is_time_name : (name : List ℕ) → bytes_eq name (codes "time") ≡ true → name ≡ codes "time"
 is_time_name name h = same_text name (codes "time") (sym h)
 
--- and another is not
-pub other_name : (name : List ℕ) → bytes_eq name (codes "time") ≡ false → name ≢ codes "time"
-other_name name h e = let k : bytes_eq (codes "time") (codes "time") ≡ false = subst (λ n. bytes_eq n (codes "time") ≡ false) e h in false≢true (sym k)
-
 -- whether a name stands in an earlier field
 pub among_time : (name : List ℕ) (earlier : List (List ℕ)) (columns : List Column) → AreNames earlier columns
     → bytes_eq name (codes "time") ≡ true → is_among name earlier ≡ true

@@ -109,10 +109,6 @@ product_small v p h k =
 pub parted : (text : List ℕ) (len d : ℕ) (more : List ℕ) → drop len text ≡ 46 ∷ d ∷ more → text ≡ take len text ++ 46 ∷ d ∷ more
 parted text len d more e = sym (take-append-drop len text) ∙ ap (λ t. take len text ++ t) e
 
--- a point comes first
-pub point_first : (c : ℕ) (xs : List ℕ) (d : ℕ) (more : List ℕ) → c ∷ xs ≡ 46 ∷ d ∷ more → (c ≡ 46) × (xs ≡ d ∷ more)
-point_first c xs d more e = (cc, cc)
-
 -- a point and what follows it
 pub some_first : (c : ℕ) (xs : List ℕ) → c ≡ 46 → ((length xs == 0) ≡ false) → (d : ℕ) × (more : List ℕ) × (c ∷ xs ≡ 46 ∷ d ∷ more) × (xs ≡ d ∷ more)
 some_first c [] e h = absurd (false≢true (sym h))
@@ -153,10 +149,6 @@ plain_read field most digits r (n, k, h, few, e) = (ticks digits n k, (pos n, k,
 -- a number without a numeral is none
 digit_first : {text : List ℕ} {n k : ℕ} (c : ℕ) (rest : List ℕ) → IsNumeral text n k → text ≡ c ∷ rest → is_digit c ≡ true
 digit_first c rest h e = ap (λ t. is_digit (first_byte t)) (sym e) ∙ numeral_begins h
-
-tail_of : List ℕ → List ℕ
-tail_of [] = []
-tail_of (c ∷ rest) = rest
 
 abbrev NoNumber : List ℕ → ℕ → Type 0
 NoNumber f most = (v : ℤ) (k : ℕ) → IsNumber f v k → ¬ (k ≤ most)

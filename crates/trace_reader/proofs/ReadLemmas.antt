@@ -118,8 +118,3 @@ module _ (limits : Limits) (text : List ℕ) (old new : Progress) (sc : Scaled) 
 pub map_none : (o : Option Scaled) → is_some o ≡ false → option_map (λ (s : Scaled). s.heading) o ≡ None
 map_none None h = refl
 map_none (Some s) h = absurd (false≢true (sym h))
-
--- a heading is kept
-pub map_some : (o : Option Scaled) → is_some o ≡ true → is_some (option_map (λ (s : Scaled). s.heading) o) ≡ true
-map_some None h = absurd (false≢true h)
-map_some (Some s) h = refl

@@ -360,8 +360,7 @@ module _ (limits : Limits) (old : Progress) (begun : ℕ) (line bytes : List ℕ
         front_same : (new : Progress) (e : Event) (read : ReadsLine limits (line ++ []) old new (Ok e))
             → (taken_closed limits old begun line bytes rows t [] no_feed few' short' new e read).front ≡ t.front ++ done (line ++ []) ∷ []
         front_same new e (blank b same) = refl
-        front_same new e (heading h b n is sound same) = refl
-        front_same new e (row h b n is sound range width up room same) = refl
+        front_same new e _ = refl
 
     -- or with one
     pub ended_bad : (new : Progress) (x : TraceRefusal) → x.line ≡ begun → ReadsLine limits (line ++ []) old new (Err x.kind)

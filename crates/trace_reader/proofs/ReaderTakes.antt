@@ -28,13 +28,6 @@ use Rattle.trace_reader.proofs.ReaderSteps.{stands, taken_going, taken_closed, r
 use Rattle.trace_reader.proofs.ReaderSteps.{going_breaks, taken_start, ended_between, ended_closed}
 use Rattle.trace_reader.proofs.ReaderSteps.{ended_bad, number, number_going, broken_some, read_before}
 
--- a line that was read without a fault keeps room for the heading until it was read
-read_fresh : {limits : Limits} {line : List ℕ} {old new : Progress} {e : Event} → ReadsLine limits line old new (Ok e) → (old.heading ≡ None → old.fresh ≡ true)
-    → new.heading ≡ None → new.fresh ≡ true
-read_fresh (blank b same) h n = ap (λ (p : Progress). p.fresh) same ∙ h (sym (ap (λ (p : Progress). p.heading) same) ∙ n)
-read_fresh (heading g b o is sound same) h n = absurd (let e = sym (ap (λ (p : Progress). p.heading) same) ∙ n in cc)
-read_fresh (row g b o is sound range width up room same) h n = ap (λ (p : Progress). p.fresh) same ∙ h (sym (ap (λ (p : Progress). p.heading) same) ∙ n)
-
 read_least : {limits : Limits} {line : List ℕ} {old new : Progress} {r : Result Event TraceKind} → ReadsLine limits line old new r → new.least ≡ old.least
 read_least (blank b same) = ap (λ (p : Progress). p.least) same
 read_least (heading g b o is sound same) = ap (λ (p : Progress). p.least) same
@@ -60,18 +53,7 @@ read_come old new before (row g b o is sound range width up room same) =
 module _ (limits : Limits) (old new : LineReader) (w : IsWithin limits old) where
   -- bytes without LF that were kept
   module _ (part : List ℕ) (free : HasNoFeed part) (begun : new.lines.begun ≡ begun_after old.lines.begun old.lines.line (length part)) where
-    -- the reader stays within its limits
-    pub hold_within : Fits limits new.lines.begun (length old.lines.line + length part) → new.lines.line ≡ old.lines.line ++ part
-        → new.content ≡ old.content → IsWithin limits new
-    hold_within fits line stays = record {
-      rows = w.rows;
-      lines = w.lines;
-      begun = fits.count;
-      line = omega (arith, ap length line, length-append old.lines.line part, fits.short);
-      fresh = subst (λ (p : Progress). p.heading ≡ None → p.fresh ≡ true) (sym stays) w.fresh;
-    }
-
-    -- and stands for the bytes with them
+    -- the reader stands for the bytes with them
     pub hold_stands : Fits limits new.lines.begun (length old.lines.line + length part) → new.lines.line ≡ old.lines.line ++ part → new.content ≡ old.content
         → (bytes : List ℕ) (rows : List Row) → StandsFor (state limits old) bytes rows → StandsFor (state limits new) (bytes ++ part) rows
     hold_stands fits line stays bytes rows s =
@@ -103,18 +85,7 @@ module _ (limits : Limits) (old new : LineReader) (w : IsWithin limits old) wher
 
   -- bytes and the LF after them
   module _ (part : List ℕ) (free : HasNoFeed part) (begun : new.lines.begun ≡ begun_after old.lines.begun old.lines.line (length part + 1)) where
-    -- after a line the reader is within its limits
-    pub finish_within : (e : Event) → Fits limits new.lines.begun (length old.lines.line + length part) → new.lines.line ≡ []
-        → ReadsLine limits (old.lines.line ++ part) old.content new.content (Ok e) → IsWithin limits new
-    finish_within e fits line read = record {
-      rows = w.rows;
-      lines = w.lines;
-      begun = fits.count;
-      line = omega (arith, ap length line);
-      fresh = read_fresh read w.fresh;
-    }
-
-    -- and stands for the bytes with the line
+    -- the reader stands for the bytes with the line
     pub finish_stands : (e : Event) → Fits limits new.lines.begun (length old.lines.line + length part) → new.lines.line ≡ []
         → ReadsLine limits (old.lines.line ++ part) old.content new.content (Ok e)
         → (bytes : List ℕ) (rows : List Row) → StandsFor (state limits old) bytes rows
@@ -158,10 +129,6 @@ module _ (limits : Limits) (old new : LineReader) (w : IsWithin limits old) wher
     finish_kept x (inl (f, same)) =
         (f.0, same ∙ ap (λ (b : Bool). record old.content { fresh = b }) (sym (ap (λ (p : Progress). p.fresh) same)), ap (λ (p : Progress). p.least) same)
     finish_kept x (inr (fits, at, read)) = (at, refused_kept read, read_least read)
-
-    -- the least scale stays
-    pub finish_least : {e : Event} → ReadsLine limits (old.lines.line ++ part) old.content new.content (Ok e) → new.content.least ≡ old.content.least
-    finish_least read = read_least read
 
 -- nothing was read
 pub start_stands : (limits : Limits) (least : Scale) (p : LineReader) → IsStart least p → StandsFor (state limits p) [] []
@@ -257,15 +224,6 @@ last_before limits old some x at bytes rows s =
     begun_same : (b : ℕ) (line : List ℕ) → b ≡ begun_after b line 0
     begun_same b [] = refl
     begun_same b (c ∷ cs) = refl
-
--- what came with a line
-pub line_come : {limits : Limits} {line : List ℕ} {e : Event} (old new : Progress) → ReadsLine limits line old new (Ok e)
-    → HasCome e (made limits old 0 []) (made limits new 0 []) (10 ∷ [])
-line_come old new (blank b same) = (ap (λ (p : Progress). p.heading) same, ap (λ (p : Progress). p.row) same, ap (λ (p : Progress). p.count) same)
-line_come old new (heading g b o is sound same) =
-    (o, subst IsSome (sym (ap (λ (p : Progress). p.heading) same)) refl, ap (λ (p : Progress). p.row) same, ap (λ (p : Progress). p.count) same, feed [])
-line_come old new (row g b o is sound range width up room same) =
-    (subst IsSome (sym o) refl, ap (λ (p : Progress). p.heading) same, omega (arith, ap (λ (p : Progress). p.count) same), feed [])
 
 -- what a result is
 pub if_ok : {A E : Type 0} (r : Result A E) (P : A → Type 0) → ((a : A) → r ≡ Ok a → P a) → IfOk r P

@@ -54,11 +54,7 @@ module _ (s : Scale) (h : Heading) (fields : List (List ℕ)) (f : List ℕ) (ot
   pub row_is : (r : Row) → IsInTicks s.time h.time_digits f (pos r.time) → AreInTicks s.value h.digits others r.values → IsRow s h fields r
   row_is r t v = subst (λ x. IsRow s h x r) (sym e) (t, v)
 
-  -- a fault of the time is one of the row
-  pub time_bad : (k : TraceKind) → NumberFault s.time h.time_digits (pos 0) (pos 4294967295) 1 f k → NumberFaults s h fields k
-  time_bad k b = subst (λ x. NumberFaults s h x k) (sym e) (inl b)
-
-  -- and so is one of a value
+  -- a fault of a value is one of the row
   pub value_bad : (k : TraceKind) → ((x : TraceKind) → ¬ NumberFault s.time h.time_digits (pos 0) (pos 4294967295) 1 f x)
       → ValueFaults s 2 h.digits others k → NumberFaults s h fields k
   value_bad k sound b = subst (λ x. NumberFaults s h x k) (sym e) (inr (sound, b))

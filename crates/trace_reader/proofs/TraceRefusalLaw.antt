@@ -1,5 +1,5 @@
 -- At most one fault of a trace's bytes stands first.
-use Rattle.std.proofs.Common.{◌≡◌, ℕ, zero, suc, ◌+◌, ◌-◌, ◌≤◌, List, [], ◌∷◌, ◌++◌, length, refl, ap, sym}
+use Rattle.std.proofs.Common.{◌≡◌, ℕ, suc, ◌+◌, ◌-◌, ◌≤◌, List, [], ◌∷◌, ◌++◌, length, refl, ap, sym}
 use Rattle.std.proofs.Common.{◌∙◌, Bool, true, false, if◌then◌else◌, arith, append_assoc, subst, ℤ, pos}
 use Rattle.std.specs.Prelude.{codes, decimal, not, ◌==◌, Option, Some, None, MatchBool}
 use Rattle.std.specs.Fmt.{digits}
@@ -92,14 +92,8 @@ mode_of (c ∷ rest) = first_byte rest == 115
 -- a number up to 6 is one digit
 pub digit_text : (n : ℕ) → n ≤ 6 → decimal n ≡ (48 + n) ∷ []
 unfolding digits
-digit_text zero h = refl
-digit_text (suc zero) h = refl
-digit_text (suc (suc zero)) h = refl
-digit_text (suc (suc (suc zero))) h = refl
-digit_text (suc (suc (suc (suc zero)))) h = refl
-digit_text (suc (suc (suc (suc (suc zero))))) h = refl
-digit_text (suc (suc (suc (suc (suc (suc zero)))))) h = refl
 digit_text (suc (suc (suc (suc (suc (suc (suc n))))))) h = absurd (omega arith)
+digit_text _ h = refl
 
 digit_back : (n : ℕ) → n ≤ 6 → digit_of (48 + n) ≡ n
 unfolding digit_of
