@@ -13,7 +13,7 @@ use Rattle.stl_syntax.specs.PostOrder.{MayFollow, children}
 use Rattle.stl_syntax.specs.WellFormed.{HasBounds}
 use Rattle.stl_syntax.specs.declared.scale.Scale.{Scale}
 use Rattle.stl_syntax.specs.declared.node.Node.{Node}
-use Rattle.stl_syntax.specs.declared.node.Node.TheVariants.{Const, Atom as Leaf, Not, And, Or, Implies, Until, Eventually, Always, Since, Once, Historically}
+use Rattle.stl_syntax.specs.declared.node.Node.TheVariants.{Atom as Leaf}
 use Rattle.stl_syntax.proofs.PostOrderLemmas.{children_below}
 use Rattle.stl_grammar.specs.Building.{is_large, HasFewTerms, IsBuildable, AreNodes}
 use Rattle.stl_grammar.specs.Drafts.{node_in, nodes_in}
@@ -34,32 +34,12 @@ length-nodes_in s (x ∷ xs) = ap suc (length-nodes_in s xs)
 -- what is large
 pub large_is : (n : Node) → is_large n ≡ true → HasLargeConstant n
 large_is (Leaf a) h = grind (arith, nat_tests, h)
-large_is (Const b) h = absurd (cc)
-large_is (Not p) h = absurd (cc)
-large_is (And p q) h = absurd (cc)
-large_is (Or p q) h = absurd (cc)
-large_is (Implies p q) h = absurd (cc)
-large_is (Until p q a b) h = absurd (cc)
-large_is (Eventually p a b i j) h = absurd (cc)
-large_is (Always p a b i j) h = absurd (cc)
-large_is (Since p q a b) h = absurd (cc)
-large_is (Once p a b i j) h = absurd (cc)
-large_is (Historically p a b i j) h = absurd (cc)
+large_is _ h = absurd (cc)
 
 -- what is not found large is not
 pub not_large : (n : Node) → is_large n ≡ false → ¬ HasLargeConstant n
 not_large (Leaf a) h l = let e : nat_abs a.limit ≤ 1073741824 = grind (arith, nat_tests, h) in omega (arith, e, l)
-not_large (Const b) h l = l
-not_large (Not p) h l = l
-not_large (And p q) h l = l
-not_large (Or p q) h l = l
-not_large (Implies p q) h l = l
-not_large (Until p q a b) h l = l
-not_large (Eventually p a b i j) h l = l
-not_large (Always p a b i j) h l = l
-not_large (Since p q a b) h l = l
-not_large (Once p a b i j) h l = l
-not_large (Historically p a b i j) h l = l
+not_large _ h l = l
 
 -- none of the first is large, and the next is
 pub first_after : (xs : List Node) (n : Node) (ys : List Node) → All (λ m. is_large m ≡ false) xs → is_large n ≡ true

@@ -8,66 +8,23 @@ use Rattle.stl_grammar.specs.declared.token.Token.TheVariants.{Keyword as IsKeyw
 use Rattle.stl_grammar.specs.declared.token.Token.TheVariants.{CloseParen, OpenBracket, CloseBracket, Comma, Star, Plus, Minus}
 
 first_same : (text : List ℕ) (codes : List Code) → first_decimals (map (plain text) codes) ≡ decimals_first codes
-first_same text [] = refl
 first_same text ((IsKeyword w) ∷ codes) = refl
-first_same text ((Name from to) ∷ codes) = refl
-first_same text ((Number d) ∷ codes) = refl
-first_same text ((Relation r) ∷ codes) = refl
-first_same text (OpenParen ∷ codes) = refl
-first_same text (CloseParen ∷ codes) = refl
-first_same text (OpenBracket ∷ codes) = refl
-first_same text (CloseBracket ∷ codes) = refl
-first_same text (Comma ∷ codes) = refl
-first_same text (Star ∷ codes) = refl
 first_same text (Plus ∷ []) = refl
 first_same text (Plus ∷ (IsKeyword w) ∷ codes) = refl
-first_same text (Plus ∷ (Name from to) ∷ codes) = refl
-first_same text (Plus ∷ (Number d) ∷ codes) = refl
-first_same text (Plus ∷ (Relation r) ∷ codes) = refl
-first_same text (Plus ∷ OpenParen ∷ codes) = refl
-first_same text (Plus ∷ CloseParen ∷ codes) = refl
-first_same text (Plus ∷ OpenBracket ∷ codes) = refl
-first_same text (Plus ∷ CloseBracket ∷ codes) = refl
-first_same text (Plus ∷ Comma ∷ codes) = refl
-first_same text (Plus ∷ Star ∷ codes) = refl
-first_same text (Plus ∷ Plus ∷ codes) = refl
-first_same text (Plus ∷ Minus ∷ codes) = refl
 first_same text (Minus ∷ []) = refl
 first_same text (Minus ∷ (IsKeyword w) ∷ codes) = refl
-first_same text (Minus ∷ (Name from to) ∷ codes) = refl
-first_same text (Minus ∷ (Number d) ∷ codes) = refl
-first_same text (Minus ∷ (Relation r) ∷ codes) = refl
-first_same text (Minus ∷ OpenParen ∷ codes) = refl
-first_same text (Minus ∷ CloseParen ∷ codes) = refl
-first_same text (Minus ∷ OpenBracket ∷ codes) = refl
-first_same text (Minus ∷ CloseBracket ∷ codes) = refl
-first_same text (Minus ∷ Comma ∷ codes) = refl
-first_same text (Minus ∷ Star ∷ codes) = refl
-first_same text (Minus ∷ Plus ∷ codes) = refl
-first_same text (Minus ∷ Minus ∷ codes) = refl
+first_same text _ = refl
 
 -- the most decimals of constants
 pub value_same : (text : List ℕ) (codes : List Code) → value_digits (map (plain text) codes) ≡ value_decimals codes
 value_same text [] = refl
-value_same text ((IsKeyword w) ∷ codes) = value_same text codes
-value_same text ((Name from to) ∷ codes) = value_same text codes
-value_same text ((Number d) ∷ codes) = value_same text codes
 value_same text ((Relation r) ∷ codes) = ap (λ n. max n (value_digits (map (plain text) codes))) (first_same text codes)
     ∙ ap (λ n. max (decimals_first codes) n) (value_same text codes)
-value_same text (OpenParen ∷ codes) = value_same text codes
-value_same text (CloseParen ∷ codes) = value_same text codes
-value_same text (OpenBracket ∷ codes) = value_same text codes
-value_same text (CloseBracket ∷ codes) = value_same text codes
-value_same text (Comma ∷ codes) = value_same text codes
-value_same text (Star ∷ codes) = value_same text codes
-value_same text (Plus ∷ codes) = value_same text codes
-value_same text (Minus ∷ codes) = value_same text codes
+value_same text (_ ∷ codes) = value_same text codes
 
 -- and of bounds
 pub time_same : (text : List ℕ) (codes : List Code) → time_digits (map (plain text) codes) ≡ time_decimals codes
 time_same text [] = refl
-time_same text ((IsKeyword w) ∷ codes) = time_same text codes
-time_same text ((Name from to) ∷ codes) = time_same text codes
 time_same text (Number d ∷ []) = refl
 time_same text (Number d ∷ (IsKeyword w) ∷ codes) = ap (λ n. max 0 n) (time_same text ((IsKeyword w) ∷ codes))
 time_same text (Number d ∷ (Name from to) ∷ codes) = ap (λ n. max 0 n) (time_same text ((Name from to) ∷ codes))
@@ -82,12 +39,4 @@ time_same text (Number d ∷ Comma ∷ codes) = ap (λ n. max (max d.decimals n)
 time_same text (Number d ∷ Star ∷ codes) = ap (λ n. max 0 n) (time_same text (Star ∷ codes))
 time_same text (Number d ∷ Plus ∷ codes) = ap (λ n. max 0 n) (time_same text (Plus ∷ codes))
 time_same text (Number d ∷ Minus ∷ codes) = ap (λ n. max 0 n) (time_same text (Minus ∷ codes))
-time_same text ((Relation r) ∷ codes) = time_same text codes
-time_same text (OpenParen ∷ codes) = time_same text codes
-time_same text (CloseParen ∷ codes) = time_same text codes
-time_same text (OpenBracket ∷ codes) = time_same text codes
-time_same text (CloseBracket ∷ codes) = time_same text codes
-time_same text (Comma ∷ codes) = time_same text codes
-time_same text (Star ∷ codes) = time_same text codes
-time_same text (Plus ∷ codes) = time_same text codes
-time_same text (Minus ∷ codes) = time_same text codes
+time_same text (_ ∷ codes) = time_same text codes

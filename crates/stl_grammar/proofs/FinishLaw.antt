@@ -1,5 +1,5 @@
 -- The formula of a text that was read.
-use Rattle.std.proofs.Common.{◌≡◌, ℕ, ◌<◌, ◌≤◌, List, [], reverse, refl, sym, ap, ◌∙◌, subst, true, false, arith, inl, inr, length}
+use Rattle.std.proofs.Common.{◌≡◌, ℕ, ◌<◌, ◌≤◌, List, [], reverse, refl, sym, ap, ◌∙◌, subst, false, arith, inl, inr, length}
 use Rattle.std.specs.Prelude.{IsTrue}
 use Rattle.stl_syntax.specs.Characters.{is_blank, all}
 use Rattle.stl_syntax.specs.Formula.{Formula}
@@ -13,7 +13,6 @@ use Rattle.stl_grammar.specs.Parsing.{Parse, folded_drafts}
 use Rattle.stl_grammar.specs.ReadText.{IsRead, IsParsed}
 use Rattle.stl_grammar.specs.Building.{AreNodes, IsBuilt, time_decimals, value_decimals}
 use Rattle.stl_grammar.specs.Drafts.{nodes_in}
-use Rattle.stl_grammar.proofs.RefusalExamples.{passed}
 use Rattle.stl_grammar.proofs.LawProofs.{one_formula}
 use Rattle.stl_grammar.proofs.ParserNodes.{taken_formula}
 use Rattle.stl_grammar.proofs.TokensTaken.{digits_small}
@@ -21,7 +20,7 @@ use Rattle.stl_grammar.proofs.ReadNodes.{nodes_ready}
 use Rattle.stl_grammar.proofs.DigitsSpelled.{time_same, value_same}
 use Rattle.stl_grammar.specs.declared.token.Token.{Token as Code}
 use Rattle.stl_grammar.specs.declared.fault.FormulaFault.{FormulaFault}
-use Rattle.stl_grammar.specs.declared.fault.FormulaFault.TheVariants.{Empty, TooLong, ConstantTooLarge, ReachTooLarge}
+use Rattle.stl_grammar.specs.declared.fault.FormulaFault.TheVariants.{ConstantTooLarge, ReachTooLarge}
 
 -- the scale of the tokens
 abbrev pub scale_of : List Code → Scale
@@ -95,19 +94,3 @@ module _ (text : List ℕ) (short : length text ≤ 8192) (some : all is_blank t
       sound r (inr (_, inr (_, inr (_, (g, x, t))))) =
           let e : g ≡ f = one_formula text g f x k.parsed in
           k.small r (subst (λ z. IsTooLarge ConstantTooLarge ReachTooLarge z.nodes r) e t)
-
-  -- what a token refuses is a refusal of the text
-  pub token_fault : (r : FormulaFault) → TokenFault [] 0 text r → IsFormulaFault text r
-  token_fault r t = inr (passed _ _ no_long, inr (passed _ _ no_empty, inl t))
-
-  -- and so is what is refused late, where no token refuses
-  pub late_is_fault : (r : FormulaFault) → ((x : FormulaFault) → ¬ TokenFault [] 0 text x) → IsLateFault text r → IsFormulaFault text r
-  late_is_fault r free t = inr (passed _ _ no_long, inr (passed _ _ no_empty, inr (free, t)))
-
--- a text of more than 8,192 bytes is refused for its length
-pub long_fault : (text : List ℕ) → 8192 < length text → IsFormulaFault text (TooLong (length text))
-long_fault text l = inl (l, refl)
-
--- one of blanks alone as empty
-pub empty_fault : (text : List ℕ) → length text ≤ 8192 → all is_blank text ≡ true → IsFormulaFault text Empty
-empty_fault text l b = inr (passed _ _ (λ h. omega (arith, h, l)), inl (b, refl))

@@ -10,29 +10,18 @@ use Rattle.stl_grammar.specs.declared.draft.Frame.TheVariants.{Paren as Opened, 
 
 -- a frame adds its own marks
 pub marks_more : (f : Frame) (frames : List Frame) → length (marks_of (f ∷ frames)) ≡ marks_in f + length (marks_of frames)
-marks_more Opened frames = omega arith
-marks_more (Before o) frames = omega arith
 marks_more (Between Then left) frames = omega arith
-marks_more (Between Either left) frames = omega arith
-marks_more (Between Both left) frames = omega arith
-marks_more (Between (UpTo w) left) frames = omega arith
-marks_more (Between (After b) left) frames = omega arith
+marks_more _ frames = omega arith
 
 -- of which there is one at most
 pub marks_one : (f : Frame) → marks_in f ≤ 1
-marks_one Opened = omega arith
-marks_one (Before o) = omega arith
 marks_one (Between Then left) = omega arith
-marks_one (Between Either left) = omega arith
-marks_one (Between Both left) = omega arith
-marks_one (Between (UpTo w) left) = omega arith
-marks_one (Between (After b) left) = omega arith
+marks_one _ = omega arith
 
 -- so for parentheses
 pub parens_one : (f : Frame) → parens_in f ≤ 1
 parens_one Opened = omega arith
-parens_one (Before o) = omega arith
-parens_one (Between o left) = omega arith
+parens_one _ = omega arith
 
 -- there are no more marks than frames
 pub marks_few : (frames : List Frame) → length (marks_of frames) ≤ length frames

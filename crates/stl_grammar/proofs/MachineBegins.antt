@@ -86,17 +86,11 @@ data Bound (o : Owner) : List Token → Type 0 where
 an_opening : (o : Owner) (x : Token) → opens o x ≡ true → (b : Bool) × IsOpening x b
 an_opening o open_bracket h = (true, inside)
 an_opening o close_bracket h = (false, outside)
-an_opening o (word w) h = absurd (cc)
-an_opening o (number n k) h = absurd (cc)
-an_opening o (relation r) h = absurd (cc)
 an_opening o _ h = absurd (cc)
 
 a_closing : (o : Owner) (x : Token) → closes o x ≡ true → (b : Bool) × IsClosing x b
 a_closing o close_bracket h = (true, inside)
 a_closing o open_bracket h = (false, outside)
-a_closing o (word w) h = absurd (cc)
-a_closing o (number n k) h = absurd (cc)
-a_closing o (relation r) h = absurd (cc)
 a_closing o _ h = absurd (cc)
 
 -- a bound of the operator
@@ -253,8 +247,7 @@ record After (had : Bool) (marks : List Mark) (whole : List Token) : Type 0 wher
 
 base_marks : {marks : List Mark} {pre : List Token} → Base marks pre → without_operators marks ≡ marks
 base_marks bottom = refl
-base_marks (implied b) = refl
-base_marks (in_parens w) = refl
+base_marks _ = refl
 
 finish : {h : Bool} {marks : List Mark} {pre : List Token} → Awaits h marks pre → (us : List Token) → AnOperand us
     → After h (without_operators marks) (pre ++ us)
@@ -476,12 +469,7 @@ module _ (h : Bool) (marks : List Mark) (n : ℕ) (p : Place) (whole : List Toke
   begins x open_paren next e = same_state _ next _ e (rw append-nil at (level {a = []} {b = []} (in_parens x) no_hole alone))
   begins x plus next e = same_state _ next _ e (λ us b. shifted h _ whole _ us (finish x (plus ∷ us) (plus_operand us b)))
   begins x minus next e = same_state _ next _ e (λ us b. shifted h _ whole _ us (finish x (minus ∷ us) (minus_operand us b)))
-  begins x (relation r) next e = absurd (none-some next e)
-  begins x close_paren next e = absurd (none-some next e)
-  begins x open_bracket next e = absurd (none-some next e)
-  begins x close_bracket next e = absurd (none-some next e)
-  begins x comma next e = absurd (none-some next e)
-  begins x star next e = absurd (none-some next e)
+  begins x _ next e = absurd (none-some next e)
 
   bounds : (o : Owner) → ((us : List Token) → Bound o us → Awaits h marks (whole ++ us)) → (t : Token) (next : State)
       → step_bound o now t ≡ Some next → HoldsAt next (whole ++ t ∷ [])

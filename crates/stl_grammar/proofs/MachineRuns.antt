@@ -6,7 +6,7 @@ use Rattle.stl_syntax.specs.declared.scale.Scale.{Scale}
 use Rattle.stl_syntax.specs.declared.node.Node.{Node}
 use Rattle.stl_syntax.specs.declared.node.Node.TheVariants.{Not, And, Or, Implies, Until, Eventually, Always, Since, Once, Historically}
 use Rattle.stl_grammar.specs.Grammar.{top, Token, word, relation, close_paren}
-use Rattle.stl_grammar.specs.Grammar.{IsConstant, plain, positive, negative, IsTerm, scaled, AreTerms}
+use Rattle.stl_grammar.specs.Grammar.{IsConstant, plain, IsTerm, scaled, AreTerms}
 use Rattle.stl_grammar.specs.Grammar.{more_plus, more_minus, IsAtom, first, signed, inside, outside}
 use Rattle.stl_grammar.specs.Grammar.{name as term_name, none as no_terms}
 use Rattle.stl_grammar.specs.Grammar.{IsFutureWindow, bound, IsPastWindow, nothing, bounded, unbounded, IsFuture, IsPast}
@@ -49,8 +49,7 @@ st p h marks n = Some (record { place = p; had = h; marks = marks; nodes = n })
 pub constant_runs : {digits : ℕ} {vs : List Token} {c : _} → IsConstant digits vs c → (h : Bool) (marks : List Mark) (n : ℕ)
     → go (st at_constant h marks n) vs ≡ st at_end h (without_operators marks) n
 constant_runs plain h marks n = refl
-constant_runs positive h marks n = refl
-constant_runs negative h marks n = refl
+constant_runs _ h marks n = refl
 
 -- of a term
 pub term_runs : {ts : List Token} {k : ℕ} {w : List ℕ} → IsTerm ts k w → (j : ℕ) (h : Bool) (marks : List Mark) (n : ℕ)
@@ -126,34 +125,16 @@ left_out p of_since e h marks n = after_since p
   where
     after_since : {s : Scale} {k : ℕ} {ts : List Token} {ns : List Node} → IsOperand s k ts ns
         → go (st (at_bound of_since) h marks n) ts ≡ go (st at_operand h marks n) ts
-    after_since (not p) = refl
-    after_since (eventually b p) = refl
-    after_since (always b p) = refl
-    after_since (once b p) = refl
-    after_since (historically b p) = refl
-    after_since always_true = refl
-    after_since always_false = refl
-    after_since (parens f) = refl
     after_since (atom (first (term_name f) u c)) = refl
-    after_since (atom (first (scaled f) u c)) = refl
     after_since (atom (signed (more_plus t u) c)) = refl
-    after_since (atom (signed (more_minus t u) c)) = refl
+    after_since _ = refl
 left_out p of_past e h marks n = after_past p
   where
     after_past : {s : Scale} {k : ℕ} {ts : List Token} {ns : List Node} → IsOperand s k ts ns
         → go (st (at_bound of_past) h marks n) ts ≡ go (st at_operand h marks n) ts
-    after_past (not p) = refl
-    after_past (eventually b p) = refl
-    after_past (always b p) = refl
-    after_past (once b p) = refl
-    after_past (historically b p) = refl
-    after_past always_true = refl
-    after_past always_false = refl
-    after_past (parens f) = refl
     after_past (atom (first (term_name f) u c)) = refl
-    after_past (atom (first (scaled f) u c)) = refl
     after_past (atom (signed (more_plus t u) c)) = refl
-    after_past (atom (signed (more_minus t u) c)) = refl
+    after_past _ = refl
 
 -- an operand with the bound before it
 past_runs : {digits a : ℕ} {b : _} {us : List Token} {a_in b_in : Bool} → IsPastWindow digits us a b a_in b_in
@@ -162,13 +143,10 @@ past_runs : {digits a : ℕ} {b : _} {us : List Token} {a_in b_in : Bool} → Is
 unfolding kind
 past_runs nothing p h marks n = left_out p of_past refl h marks n
 past_runs (bounded inside inside) p h marks n = refl
-past_runs (bounded inside outside) p h marks n = refl
 past_runs (bounded outside inside) p h marks n = refl
-past_runs (bounded outside outside) p h marks n = refl
 past_runs (unbounded inside inside) p h marks n = refl
-past_runs (unbounded inside outside) p h marks n = refl
 past_runs (unbounded outside inside) p h marks n = refl
-past_runs (unbounded outside outside) p h marks n = refl
+past_runs _ p h marks n = refl
 
 since_runs : {digits a : ℕ} {b : _} {us : List Token} → IsPast digits us a b
     → {s : Scale} {k : ℕ} {ts : List Token} {ns : List Node} → IsOperand s k ts ns → (h : Bool) (marks : List Mark) (n : ℕ)
@@ -192,10 +170,8 @@ implied_nothing here = refl
 implied_nothing (more i) = implied_nothing i
 
 without_twice : (marks : List Mark) → without_operators (without_operators marks) ≡ without_operators marks
-without_twice [] = refl
-without_twice (paren had ∷ marks) = refl
 without_twice (operator ∷ marks) = without_twice marks
-without_twice (implication ∷ marks) = refl
+without_twice _ = refl
 
 -- the numbers of nodes
 one_more : (n : ℕ) (ns : List Node) (x : Node) → suc n + length ns ≡ n + length (ns ++ x ∷ [])
@@ -338,11 +314,6 @@ formula_state before s e {c} {nodes} f =
 -- what the machine has not ended is no formula
 pub run_goes_on : (before : List Token) (s : State) → run before ≡ Some s → ends_at s.place s.marks ≡ false → ¬ MayEnd before
 run_goes_on before s e f m = let x = formula_state before s e m.1 in cc (x.0)
-
--- a formula's tokens make as many nodes as it has
-pub formula_nodes : (before : List Token) (s : State) → run before ≡ Some s → {c : Scale} {nodes : List Node}
-    → IsFormula c 0 (reverse before) nodes → s.nodes ≡ length nodes
-formula_nodes before s e f = (formula_state before s e f).1
 
 -- one step more
 pub step_runs : (before : List Token) (s : State) (t : Token) → run before ≡ Some s → run (t ∷ before) ≡ step s t

@@ -122,69 +122,42 @@ data Shape : Place → List Token → Type 0 where
 
 -- where an operand begins
 begins_expected : (before : List Token) → Begins before → expected before ≡ Operand
-begins_expected before nothing = refl
 begins_expected before (a_word {w = w} {before = more} k e f) = expected_word w k more e ∙ begin_expected k (word w ∷ more) f
-begins_expected before a_parenthesis = refl
 begins_expected before (after_number an_open) = refl
-begins_expected before (after_number a_close) = refl
 begins_expected before (after_inf {w = w} an_open e) = rw (among_inf w, e) refl
 begins_expected before (after_inf {w = w} a_close e) = rw (among_inf w, e) refl
+begins_expected before _ = refl
 
 -- a number that begins a term is no constant, and a star follows it
 terms_constant : (before : List Token) (n k : ℕ) → Terms before → ends_constant (number n k ∷ before) ≡ false
-terms_constant before n k (at_first nothing) = refl
-terms_constant before n k (at_first (a_word j e f)) = refl
-terms_constant before n k (at_first a_parenthesis) = refl
 terms_constant before n k (at_first (after_number an_open)) = refl
-terms_constant before n k (at_first (after_number a_close)) = refl
 terms_constant before n k (at_first (after_inf an_open e)) = refl
-terms_constant before n k (at_first (after_inf a_close e)) = refl
 terms_constant before n k (signed_first a_plus nothing) = refl
-terms_constant before n k (signed_first a_plus (a_word j e f)) = refl
-terms_constant before n k (signed_first a_plus a_parenthesis) = refl
 terms_constant before n k (signed_first a_plus (after_number an_open)) = refl
-terms_constant before n k (signed_first a_plus (after_number a_close)) = refl
 terms_constant before n k (signed_first a_plus (after_inf an_open e)) = refl
-terms_constant before n k (signed_first a_plus (after_inf a_close e)) = refl
 terms_constant before n k (signed_first a_minus nothing) = refl
-terms_constant before n k (signed_first a_minus (a_word j e f)) = refl
-terms_constant before n k (signed_first a_minus a_parenthesis) = refl
 terms_constant before n k (signed_first a_minus (after_number an_open)) = refl
-terms_constant before n k (signed_first a_minus (after_number a_close)) = refl
 terms_constant before n k (signed_first a_minus (after_inf an_open e)) = refl
-terms_constant before n k (signed_first a_minus (after_inf a_close e)) = refl
 terms_constant before n k (signed_next a_plus) = refl
-terms_constant before n k (signed_next a_minus) = refl
+terms_constant before n k _ = refl
 
 terms_expected : (before : List Token) (n k : ℕ) → Terms before → expected (number n k ∷ before) ≡ Star
-terms_expected before n k (at_first nothing) = refl
-terms_expected before n k (at_first (a_word j e f)) = refl
-terms_expected before n k (at_first a_parenthesis) = refl
 terms_expected before n k (at_first (after_number an_open)) = refl
-terms_expected before n k (at_first (after_number a_close)) = refl
 terms_expected before n k (at_first (after_inf {w = w} an_open e)) = rw (among_inf w, e) refl
 terms_expected before n k (at_first (after_inf {w = w} a_close e)) = rw (among_inf w, e) refl
 terms_expected before n k (signed_first {before = more} a_plus b) = rw (terms_constant (plus ∷ more) n k (signed_first a_plus b)) refl
 terms_expected before n k (signed_first {before = more} a_minus b) = rw (terms_constant (minus ∷ more) n k (signed_first a_minus b)) refl
 terms_expected before n k (signed_next a_plus) = refl
-terms_expected before n k (signed_next a_minus) = refl
+terms_expected before n k _ = refl
 
 -- a sign before a term
 sign_expected : (t : Token) (before : List Token) → IsSign t → Begins before → expected (t ∷ before) ≡ Term
-sign_expected t before a_plus nothing = refl
-sign_expected t before a_plus (a_word k e f) = refl
-sign_expected t before a_plus a_parenthesis = refl
 sign_expected t before a_plus (after_number an_open) = refl
-sign_expected t before a_plus (after_number a_close) = refl
 sign_expected t before a_plus (after_inf an_open e) = refl
-sign_expected t before a_plus (after_inf a_close e) = refl
 sign_expected t before a_minus nothing = refl
-sign_expected t before a_minus (a_word k e f) = refl
-sign_expected t before a_minus a_parenthesis = refl
 sign_expected t before a_minus (after_number an_open) = refl
-sign_expected t before a_minus (after_number a_close) = refl
 sign_expected t before a_minus (after_inf an_open e) = refl
-sign_expected t before a_minus (after_inf a_close e) = refl
+sign_expected t before _ _ = refl
 
 paren_pending : (marks : List Mark) → has_paren (all_pending marks) ≡ in_paren marks
 paren_pending [] = refl
@@ -208,23 +181,18 @@ shape_expected p before marks (a_low {w = w} {o = o} k an_open f g) e = rw (amon
 shape_expected p before marks (a_low {w = w} {o = o} k a_close f g) e = rw (among_inf w, f, owner_low k o g) refl
 shape_expected p before marks (a_comma {w = w} {o = o} k an_open f g) e = rw (among_inf w, f, owner_low k o g) refl
 shape_expected p before marks (a_comma {w = w} {o = o} k a_close f g) e = rw (among_inf w, f, owner_low k o g) refl
-shape_expected p before marks (a_high k t f g) e = refl
-shape_expected p before marks closing_number e = refl
 shape_expected p before marks (closing_inf {w = w} f) e = rw (among_inf w, f) refl
 shape_expected p before marks (first_term {t = t} {before = more} s b) e = sign_expected t more s b
 shape_expected p before marks (next_term a_plus) e = refl
-shape_expected p before marks (next_term a_minus) e = refl
 shape_expected p before marks (a_star {before = more} {m = m} {k} t) e = terms_expected more m k t
-shape_expected p before marks the_name e = refl
 shape_expected p before marks (a_sign {w = w} {before = more} f) e = expected_word w a_name more f
-shape_expected p before marks the_constant e = refl
 shape_expected p before marks (the_number a_plus) e = refl
-shape_expected p before marks (the_number a_minus) e = refl
 shape_expected p before marks (end_word {w = w} {before = more} f) e = expected_word w a_constant more f ∙ whole_expected (word w ∷ more) marks e
 shape_expected p before marks end_paren e = whole_expected before marks e
 shape_expected p before marks end_number e = whole_expected before marks e
 shape_expected p before marks (end_signed a_plus) e = whole_expected before marks e
 shape_expected p before marks (end_signed a_minus) e = whole_expected before marks e
+shape_expected p before marks _ e = refl
 
 -- the tokens and the state say the same
 record View (s : State) (before : List Token) : Type 0 where
@@ -246,10 +214,8 @@ count_word : (w : List ℕ) (k : Kind) (what : What) (before : List Token) (n : 
 count_word w k what before n e f g = count_token (word w) what before n f g ∙ ap (λ b. if b then suc n else n) (makes_word what w k e)
 
 operand_pending : (marks : List Mark) → after_operand (all_pending marks) ≡ all_pending (without_operators marks)
-operand_pending [] = refl
-operand_pending (paren h ∷ marks) = refl
 operand_pending (operator ∷ marks) = operand_pending marks
-operand_pending (implication ∷ marks) = refl
+operand_pending _ = refl
 
 closed_pending : (marks : List Mark) (n : ℕ) (next : State) → closed marks n ≡ Some next → after_paren (all_pending marks) ≡ all_pending next.marks
 closed_pending [] n next e = absurd (none-some next e)
@@ -663,13 +629,9 @@ run_fifth before s e t =
 
 -- the bounds in order
 begins_order : (before : List Token) (t : Token) → Begins before → is_out_of_order before t ≡ false
-begins_order before t nothing = refl
-begins_order before t (a_word k e f) = refl
-begins_order before t a_parenthesis = refl
 begins_order before t (after_number an_open) = refl
-begins_order before t (after_number a_close) = refl
 begins_order before t (after_inf an_open e) = refl
-begins_order before t (after_inf a_close e) = refl
+begins_order before t _ = refl
 
 high_order : (before : List Token) (o : Owner) (a j : ℕ) (t : Token) → is_out_of_order (comma ∷ number a j ∷ before) t ≡ disorder_at (at_high o a j) t
 high_order before o a j (number b k) = refl
@@ -677,27 +639,12 @@ high_order before o a j t = refl
 
 shape_order : (p : Place) (before : List Token) (t : Token) → Shape p before → is_out_of_order before t ≡ disorder_at p t
 shape_order p before t (an_operand b) = begins_order before t b
-shape_order p before t (a_bound k f g) = refl
 shape_order p before t (a_low k an_open f g) = refl
-shape_order p before t (a_low k a_close f g) = refl
-shape_order p before t (a_comma k s f g) = refl
 shape_order p before t (a_high {t = b} {w = w} {before = more} {o = o} {a = a} {j} k s f g) = high_order (b ∷ word w ∷ more) o a j t
-shape_order p before t closing_number = refl
-shape_order p before t (closing_inf f) = refl
 shape_order p before t (first_term a_plus b) = refl
-shape_order p before t (first_term a_minus b) = refl
 shape_order p before t (next_term a_plus) = refl
-shape_order p before t (next_term a_minus) = refl
-shape_order p before t (a_star x) = refl
-shape_order p before t the_name = refl
-shape_order p before t (a_sign f) = refl
-shape_order p before t the_constant = refl
 shape_order p before t (the_number a_plus) = refl
-shape_order p before t (the_number a_minus) = refl
-shape_order p before t (end_word f) = refl
-shape_order p before t end_paren = refl
-shape_order p before t end_number = refl
-shape_order p before t (end_signed s) = refl
+shape_order p before t _ = refl
 
 -- whether a bound is out of order
 pub run_disorder : (before : List Token) (s : State) → run before ≡ Some s → (t : Token) → is_out_of_order before t ≡ disorder_at s.place t
@@ -712,38 +659,19 @@ owner_ahead a_past o e = let f : of_past ≡ o = same_Some of_past o e in rw (�
 owner_ahead _ o e = absurd (none-some o e)
 
 begins_future : (before : List Token) → Begins before → begins_future_bound before ≡ false
-begins_future before nothing = refl
-begins_future before (a_word k e f) = refl
-begins_future before a_parenthesis = refl
 begins_future before (after_number an_open) = refl
-begins_future before (after_number a_close) = refl
 begins_future before (after_inf an_open e) = refl
-begins_future before (after_inf a_close e) = refl
+begins_future before _ = refl
 
 shape_future : (p : Place) (before : List Token) → Shape p before → begins_future_bound before ≡ future_at p
 shape_future p before (an_operand b) = begins_future before b
-shape_future p before (a_bound k f g) = refl
 shape_future p before (a_low k an_open f g) = refl
-shape_future p before (a_low k a_close f g) = refl
-shape_future p before (a_comma k s f g) = refl
 shape_future p before (a_high {w = w} {o = o} k an_open f g) = among_ahead w ∙ (ap looks_ahead f ∙ owner_ahead k o g)
 shape_future p before (a_high {w = w} {o = o} k a_close f g) = among_ahead w ∙ (ap looks_ahead f ∙ owner_ahead k o g)
-shape_future p before closing_number = refl
-shape_future p before (closing_inf f) = refl
 shape_future p before (first_term a_plus b) = refl
-shape_future p before (first_term a_minus b) = refl
 shape_future p before (next_term a_plus) = refl
-shape_future p before (next_term a_minus) = refl
-shape_future p before (a_star x) = refl
-shape_future p before the_name = refl
-shape_future p before (a_sign f) = refl
-shape_future p before the_constant = refl
 shape_future p before (the_number a_plus) = refl
-shape_future p before (the_number a_minus) = refl
-shape_future p before (end_word f) = refl
-shape_future p before end_paren = refl
-shape_future p before end_number = refl
-shape_future p before (end_signed s) = refl
+shape_future p before _ = refl
 
 -- whether a bound of the future begins
 pub run_future : (before : List Token) (s : State) → run before ≡ Some s → begins_future_bound before ≡ future_at s.place

@@ -27,12 +27,7 @@ constant_same : {d : ℕ} {ts us : List Token} {c e : ℤ} (r r' : List Token) �
 constant_same r r' plain plain h = (cc, cc)
 constant_same r r' positive positive h = (cc, cc)
 constant_same r r' negative negative h = (cc, cc)
-constant_same r r' plain positive h = absurd (cc)
-constant_same r r' plain negative h = absurd (cc)
-constant_same r r' positive plain h = absurd (cc)
-constant_same r r' positive negative h = absurd (cc)
-constant_same r r' negative plain h = absurd (cc)
-constant_same r r' negative positive h = absurd (cc)
+constant_same r r' _ _ h = absurd (cc)
 
 term_same : {ts us : List Token} {k j : ℕ} {w v : List ℕ} (r r' : List Token) → IsTerm ts k w → IsTerm us j v → ts ++ r ≡ us ++ r'
     → (k ≡ j) × (w ≡ v) × (r ≡ r')
@@ -76,13 +71,10 @@ atom_same r r' (signed {us = us} {vs} {rel = p} u c) (signed {us = us'} {vs = vs
     let z = constant_same r r' c c' y.2 in
     (cc, z.1)
 atom_same r r' (first (term_name e) u c) (signed (more_plus t' u') c') h = absurd (cc)
-atom_same r r' (first (term_name e) u c) (signed (more_minus t' u') c') h = absurd (cc)
-atom_same r r' (first (scaled e) u c) (signed (more_plus t' u') c') h = absurd (cc)
 atom_same r r' (first (scaled e) u c) (signed (more_minus t' u') c') h = absurd (cc)
 atom_same r r' (signed (more_plus t u) c) (first (term_name e) u' c') h = absurd (cc)
-atom_same r r' (signed (more_plus t u) c) (first (scaled e) u' c') h = absurd (cc)
-atom_same r r' (signed (more_minus t u) c) (first (term_name e) u' c') h = absurd (cc)
 atom_same r r' (signed (more_minus t u) c) (first (scaled e) u' c') h = absurd (cc)
+atom_same r r' _ _ h = absurd (cc)
 
 -- bounds
 window_same : {d : ℕ} {us vs : List Token} {a b a' b' : ℕ} {x y x' y' : Bool} (r r' : List Token) → IsFutureWindow d us a b x y
@@ -94,10 +86,7 @@ window_same r r' (bound outside inside) (bound outside inside) h = (cc, cc, refl
 window_same r r' (bound outside outside) (bound outside outside) h = (cc, cc, refl, refl, cc)
 window_same r r' (bound inside _) (bound outside _) h = absurd (cc)
 window_same r r' (bound outside _) (bound inside _) h = absurd (cc)
-window_same r r' (bound inside inside) (bound inside outside) h = absurd (cc)
-window_same r r' (bound inside outside) (bound inside inside) h = absurd (cc)
-window_same r r' (bound outside inside) (bound outside outside) h = absurd (cc)
-window_same r r' (bound outside outside) (bound outside inside) h = absurd (cc)
+window_same r r' _ _ h = absurd (cc)
 
 -- a bracket comes first
 abbrev pub begins_bracket : List Token → Bool
@@ -123,16 +112,11 @@ past_same r r' (bounded outside inside) (bounded outside inside) h f g = (cc, cc
 past_same r r' (bounded outside outside) (bounded outside outside) h f g = (cc, cc, refl, refl, cc)
 past_same r r' (bounded inside _) (bounded outside _) h f g = absurd (cc)
 past_same r r' (bounded outside _) (bounded inside _) h f g = absurd (cc)
-past_same r r' (bounded inside inside) (bounded inside outside) h f g = absurd (cc)
-past_same r r' (bounded inside outside) (bounded inside inside) h f g = absurd (cc)
-past_same r r' (bounded outside inside) (bounded outside outside) h f g = absurd (cc)
-past_same r r' (bounded outside outside) (bounded outside inside) h f g = absurd (cc)
 past_same r r' (bounded _ _) (unbounded _ _) h f g = absurd (cc)
 past_same r r' (unbounded _ _) (bounded _ _) h f g = absurd (cc)
-past_same r r' (unbounded inside _) (unbounded outside _) h f g = absurd (cc)
-past_same r r' (unbounded outside _) (unbounded inside _) h f g = absurd (cc)
 past_same r r' (unbounded inside _) (unbounded inside _) h f g = (cc, refl, refl, refl, cc)
 past_same r r' (unbounded outside _) (unbounded outside _) h f g = (cc, refl, refl, refl, cc)
+past_same r r' _ _ h f g = absurd (cc)
 
 until_same : {d : ℕ} {us vs : List Token} {a b a' b' : ℕ} (r r' : List Token) → IsFuture d us a b → IsFuture d vs a' b' → us ++ r ≡ vs ++ r'
     → (a ≡ a') × (b ≡ b') × (r ≡ r')
@@ -152,18 +136,9 @@ since_same r r' since_unbounded since_bounded h f g = absurd (cc)
 
 -- the first token of an operand
 pub operand_bracket : {s : Scale} {k : ℕ} {ts : List Token} {ns : List Node} (r : List Token) → IsOperand s k ts ns → begins_bracket (ts ++ r) ≡ false
-operand_bracket r (not p) = refl
-operand_bracket r (eventually b p) = refl
-operand_bracket r (always b p) = refl
-operand_bracket r (once b p) = refl
-operand_bracket r (historically b p) = refl
-operand_bracket r always_true = refl
-operand_bracket r always_false = refl
-operand_bracket r (parens f) = refl
 operand_bracket r (atom (first (term_name f) u c)) = refl
-operand_bracket r (atom (first (scaled f) u c)) = refl
 operand_bracket r (atom (signed (more_plus t u) c)) = refl
-operand_bracket r (atom (signed (more_minus t u) c)) = refl
+operand_bracket r _ = refl
 
 -- an atom begins with no word of the grammar, and with no parenthesis
 atom_word : {d : ℕ} {ts : List Token} {a : Atom} (w : List ℕ) (x r : List Token) → IsAtom d ts a → word w ∷ x ≡ ts ++ r → is_among w reserved ≡ false
@@ -283,10 +258,8 @@ differ (open_paren ∷ ts) (word w ∷ us) = true
 differ _ _ = false
 
 not_itself : (ts : List Token) → differ ts ts ≡ false
-not_itself [] = refl
 not_itself (word w ∷ ts) = rw ((bytes_eq-Decides w w).1 refl) refl
-not_itself (open_paren ∷ ts) = refl
-not_itself (_ ∷ ts) = refl
+not_itself _ = refl
 
 apart : (ts us : List Token) → differ ts us ≡ true → ¬ (ts ≡ us)
 apart ts us f e = let g = rw e at f in let z = not_itself us in cc
@@ -420,16 +393,9 @@ module _ (s : Scale) (n : ℕ) (same : OperandSame s n) where
 
 -- an operand has a token
 pub operand_length : {s : Scale} {k : ℕ} {ts : List Token} {ns : List Node} → IsOperand s k ts ns → 1 ≤ length ts
-operand_length (not p) = omega arith
-operand_length (eventually b p) = omega arith
-operand_length (always b p) = omega arith
-operand_length (once b p) = omega arith
-operand_length (historically b p) = omega arith
-operand_length always_true = omega arith
-operand_length always_false = omega arith
-operand_length (parens f) = omega arith
 operand_length (atom (first {ts = ts} {us} {vs} {rel = p} t u c)) = omega (arith, length-append (ts ++ us) (relation p ∷ vs))
 operand_length (atom (signed {us = us} {vs} {rel = p} u c)) = omega (arith, length-append us (relation p ∷ vs))
+operand_length _ = omega arith
 
 -- operands are read in one way, whatever follows
 operand_same : (s : Scale) (n : ℕ) {k : ℕ} {ts us : List Token} {ns ms : List Node} (r r' : List Token) → length ts ≤ n → IsOperand s k ts ns

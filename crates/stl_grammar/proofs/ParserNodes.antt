@@ -158,10 +158,7 @@ opening_step : (text : List ℕ) (of : Timed) (frames : List Frame) (drafts : Li
     → parse_step text (at (Bound of) frames drafts [] n) CloseBracket ≡ Some (at (Low of false) frames drafts [] n)
 opening_step text TUntil frames drafts n e = absurd (cc)
 opening_step text TSince frames drafts n e = absurd (cc)
-opening_step text TEventually frames drafts n e = refl
-opening_step text TAlways frames drafts n e = refl
-opening_step text TOnce frames drafts n e = refl
-opening_step text THistorically frames drafts n e = refl
+opening_step text _ frames drafts n e = refl
 
 abbrev window : Decimal → Decimal → Bool → Bool → Window
 window low high low_in high_in = record { low = low; high = high; low_in = low_in; high_in = high_in }
@@ -171,10 +168,7 @@ closing_step : (text : List ℕ) (of : Timed) (x : Bool) (low high : Decimal) (f
     ≡ Some (at Operand (bounded_frame of (window low high x false) (length drafts - 1) ∷ frames) drafts [] n)
 closing_step text TUntil x low high frames drafts n e = absurd (cc)
 closing_step text TSince x low high frames drafts n e = absurd (cc)
-closing_step text TEventually x low high frames drafts n e = refl
-closing_step text TAlways x low high frames drafts n e = refl
-closing_step text TOnce x low high frames drafts n e = refl
-closing_step text THistorically x low high frames drafts n e = refl
+closing_step text _ x low high frames drafts n e = refl
 
 inf_step : (text : List ℕ) (of : Timed) (b : Back) (x : Bool) (low : Decimal) (frames : List Frame) (drafts : List Draft) (n : ℕ) → back of ≡ Some b
     → parse_step text (at (High of x low) frames drafts [] n) (IsKeyword Inf) ≡ Some (at (ClosingInf b x low) frames drafts [] n)
@@ -289,12 +283,10 @@ module _ (text : List ℕ) (frames : List Frame) (drafts : List Draft) (n : ℕ)
   until_reads {digits} ts (bound inside inside) r = let m = closed_reads TUntil r in (m.0, m.1.0 digits, m.1.1 digits, m.1.2, m.1.3, m.2)
 
   back_bounded : (of : Timed) (b : Back) (w : Window) (left : ℕ) → back of ≡ Some b → bounded_frame of w left ≡ back_frame b (Within w) left
-  back_bounded TUntil b w left e = absurd (cc)
-  back_bounded TEventually b w left e = absurd (cc)
-  back_bounded TAlways b w left e = absurd (cc)
   back_bounded TSince b w left e = let f : BSince ≡ b = cc in rw (← f) refl
   back_bounded TOnce b w left e = let f : BOnce ≡ b = cc in rw (← f) refl
   back_bounded THistorically b w left e = let f : BHistorically ≡ b = cc in rw (← f) refl
+  back_bounded _ b w left e = absurd (cc)
 
   closes_inf : {q : Parse} {t : Token} {ts : List Token} {y : Bool} (b : Back) (x : Bool) (low : Decimal) → b ≡ BOnce ⊎ b ≡ BHistorically → IsClosing t y
       → Reads text (at (ClosingInf b x low) frames drafts [] n) (t ∷ ts) q

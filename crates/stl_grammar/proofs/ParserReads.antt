@@ -60,48 +60,15 @@ keyword_of w =
 spelled : (w : Keyword) → keyword_of (spelling w) ≡ Some w
 unfolding keyword_of
 spelled True = refl
-spelled False = refl
-spelled Not = refl
-spelled And = refl
-spelled Or = refl
-spelled Implies = refl
-spelled Until = refl
-spelled Since = refl
-spelled Eventually = refl
-spelled Always = refl
-spelled Once = refl
-spelled Historically = refl
-spelled Inf = refl
+spelled _ = refl
 
 spelled_reserved : (w : Keyword) → is_among (spelling w) reserved ≡ true
 spelled_reserved True = refl
-spelled_reserved False = refl
-spelled_reserved Not = refl
-spelled_reserved And = refl
-spelled_reserved Or = refl
-spelled_reserved Implies = refl
-spelled_reserved Until = refl
-spelled_reserved Since = refl
-spelled_reserved Eventually = refl
-spelled_reserved Always = refl
-spelled_reserved Once = refl
-spelled_reserved Historically = refl
-spelled_reserved Inf = refl
+spelled_reserved _ = refl
 
 no_name : (w : Keyword) → is_name (spelling w) ≡ false
 no_name True = refl
-no_name False = refl
-no_name Not = refl
-no_name And = refl
-no_name Or = refl
-no_name Implies = refl
-no_name Until = refl
-no_name Since = refl
-no_name Eventually = refl
-no_name Always = refl
-no_name Once = refl
-no_name Historically = refl
-no_name Inf = refl
+no_name _ = refl
 
 -- a number is spelled by a number alone
 abbrev is_number : Token → Bool
@@ -156,73 +123,57 @@ relation_spelled text r _ h = absurd (cc)
 
 -- the code of this token
 pub open_paren_spelled : (text : List ℕ) (c : Code) → Spells text c open_paren → c ≡ OpenParen
-open_paren_spelled text (IsKeyword v) h = absurd (cc)
 open_paren_spelled text (Name from to) h = absurd (cc (h.1))
 open_paren_spelled text (Number d) h = let x = spelled_number d open_paren h in absurd (cc)
-open_paren_spelled text (Relation s) h = absurd (cc)
 open_paren_spelled text OpenParen h = refl
 open_paren_spelled text _ h = absurd (cc)
 
 -- the code of this token
 pub close_paren_spelled : (text : List ℕ) (c : Code) → Spells text c close_paren → c ≡ CloseParen
-close_paren_spelled text (IsKeyword v) h = absurd (cc)
 close_paren_spelled text (Name from to) h = absurd (cc (h.1))
 close_paren_spelled text (Number d) h = let x = spelled_number d close_paren h in absurd (cc)
-close_paren_spelled text (Relation s) h = absurd (cc)
 close_paren_spelled text CloseParen h = refl
 close_paren_spelled text _ h = absurd (cc)
 
 -- the code of this token
 pub open_bracket_spelled : (text : List ℕ) (c : Code) → Spells text c open_bracket → c ≡ OpenBracket
-open_bracket_spelled text (IsKeyword v) h = absurd (cc)
 open_bracket_spelled text (Name from to) h = absurd (cc (h.1))
 open_bracket_spelled text (Number d) h = let x = spelled_number d open_bracket h in absurd (cc)
-open_bracket_spelled text (Relation s) h = absurd (cc)
 open_bracket_spelled text OpenBracket h = refl
 open_bracket_spelled text _ h = absurd (cc)
 
 -- the code of this token
 pub close_bracket_spelled : (text : List ℕ) (c : Code) → Spells text c close_bracket → c ≡ CloseBracket
-close_bracket_spelled text (IsKeyword v) h = absurd (cc)
 close_bracket_spelled text (Name from to) h = absurd (cc (h.1))
 close_bracket_spelled text (Number d) h = let x = spelled_number d close_bracket h in absurd (cc)
-close_bracket_spelled text (Relation s) h = absurd (cc)
 close_bracket_spelled text CloseBracket h = refl
 close_bracket_spelled text _ h = absurd (cc)
 
 -- the code of this token
 pub comma_spelled : (text : List ℕ) (c : Code) → Spells text c comma → c ≡ Comma
-comma_spelled text (IsKeyword v) h = absurd (cc)
 comma_spelled text (Name from to) h = absurd (cc (h.1))
 comma_spelled text (Number d) h = let x = spelled_number d comma h in absurd (cc)
-comma_spelled text (Relation s) h = absurd (cc)
 comma_spelled text Comma h = refl
 comma_spelled text _ h = absurd (cc)
 
 -- the code of this token
 pub star_spelled : (text : List ℕ) (c : Code) → Spells text c star → c ≡ Star
-star_spelled text (IsKeyword v) h = absurd (cc)
 star_spelled text (Name from to) h = absurd (cc (h.1))
 star_spelled text (Number d) h = let x = spelled_number d star h in absurd (cc)
-star_spelled text (Relation s) h = absurd (cc)
 star_spelled text Star h = refl
 star_spelled text _ h = absurd (cc)
 
 -- the code of this token
 pub plus_spelled : (text : List ℕ) (c : Code) → Spells text c plus → c ≡ Plus
-plus_spelled text (IsKeyword v) h = absurd (cc)
 plus_spelled text (Name from to) h = absurd (cc (h.1))
 plus_spelled text (Number d) h = let x = spelled_number d plus h in absurd (cc)
-plus_spelled text (Relation s) h = absurd (cc)
 plus_spelled text Plus h = refl
 plus_spelled text _ h = absurd (cc)
 
 -- the code of this token
 pub minus_spelled : (text : List ℕ) (c : Code) → Spells text c minus → c ≡ Minus
-minus_spelled text (IsKeyword v) h = absurd (cc)
 minus_spelled text (Name from to) h = absurd (cc (h.1))
 minus_spelled text (Number d) h = let x = spelled_number d minus h in absurd (cc)
-minus_spelled text (Relation s) h = absurd (cc)
 minus_spelled text Minus h = refl
 minus_spelled text _ h = absurd (cc)
 
@@ -246,14 +197,12 @@ too_large _ d e = rw (past_none d.decimals e) refl
 -- a number that is not refused is spelled exactly
 pub number_spelled : (text : List ℕ) (place : Place) (n k : ℕ) (c : Code) → Spells text c (number n k) → bad_in place c ≡ false
     → (d : Decimal) × (c ≡ Number d) × (d.value ≡ n) × (d.decimals ≡ k)
-number_spelled text place n k (IsKeyword v) h b = absurd (cc)
 number_spelled text place n k (Name from to) h b = absurd (cc (h.1))
 number_spelled text place n k (Number d) h b = split (nat_le d.decimals 6) refl
   where
     split : (z : Bool) → nat_le d.decimals 6 ≡ z → (e : Decimal) × (Number d ≡ Number e) × (e.value ≡ n) × (e.decimals ≡ k)
     split true e = let x = exact d n k h e in (d, refl, x.0, x.1)
     split false e = let x = too_large place d e in absurd (cc)
-number_spelled text place n k (Relation s) h b = absurd (cc)
 number_spelled text place n k _ h b = absurd (cc)
 
 -- the state after a token

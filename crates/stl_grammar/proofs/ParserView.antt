@@ -1,6 +1,6 @@
 -- What a parser of tokens keeps is the state of the machine.
 use Rattle.std.proofs.Common.{◌≡◌, ℕ, suc, ◌-◌, ◌<◌, List, [], ◌∷◌, ◌++◌, length, refl, sym, ap, Bool, true, false, if◌then◌else◌, arith}
-use Rattle.std.specs.Prelude.{nat_le, nat_lt, ◌&&◌, not, Some, None, option_map, IsTrue}
+use Rattle.std.specs.Prelude.{nat_le, nat_lt, ◌&&◌, not, Option, Some, None, option_map, IsTrue}
 use Rattle.std.proofs.lemmas.Bool.{and_parts}
 use Rattle.std.proofs.lemmas.Bool.Decides.{nat_tests}
 use Rattle.std.proofs.lemmas.List.{length_push}
@@ -12,15 +12,15 @@ use Rattle.stl_grammar.specs.Machine as Machine
 use Rattle.stl_grammar.specs.Machine.{kind, a_name, State, Mark, at_operand}
 use Rattle.stl_grammar.specs.Machine.{at_bound}
 use Rattle.stl_grammar.specs.Machine.{at_sign, at_end, without_operators, step}
-use Rattle.stl_grammar.specs.Parsing.{Parse, parse_step, begin_operand, closed, folded_frames, top_rank, between, IsKnown, back_frame}
+use Rattle.stl_grammar.specs.Parsing.{Parse, parse_step, begin_operand, closed, folded_frames, infix_rank, top_rank, between, IsKnown, back_frame}
 use Rattle.stl_grammar.specs.Refusing.{state_of, marks_of, had_of, owner, is_beside, back_is_beside}
 use Rattle.stl_grammar.specs.Taken.{plain}
 use Rattle.stl_grammar.proofs.WordKinds.{name_kind}
 use Rattle.stl_grammar.specs.declared.decimal.Decimal.{Decimal}
-use Rattle.stl_grammar.specs.declared.token.Keyword.TheVariants.{True, False, Not, And, Or, Implies, Until, Since, Eventually, Always, Once, Historically, Inf}
+use Rattle.stl_grammar.specs.declared.token.Keyword.TheVariants.{True, False, And, Or, Implies, Until, Since, Inf}
 use Rattle.stl_grammar.specs.declared.token.Token.{Token as Code}
-use Rattle.stl_grammar.specs.declared.token.Token.TheVariants.{Keyword as IsKeyword, Name, Number, Relation, OpenParen}
-use Rattle.stl_grammar.specs.declared.token.Token.TheVariants.{CloseParen, OpenBracket, CloseBracket, Comma, Star, Plus, Minus}
+use Rattle.stl_grammar.specs.declared.token.Token.TheVariants.{Keyword as IsKeyword, Name, Number}
+use Rattle.stl_grammar.specs.declared.token.Token.TheVariants.{CloseParen, OpenBracket, CloseBracket, Comma, Star, Plus}
 use Rattle.stl_grammar.specs.declared.draft.Infix.{Infix}
 use Rattle.stl_grammar.specs.declared.draft.Infix.TheVariants.{And as Both, Or as Either, Implies as Then, Until as UpTo, Since as After}
 use Rattle.stl_grammar.specs.declared.draft.PastBound.TheVariants.{Whole}
@@ -28,8 +28,8 @@ use Rattle.stl_grammar.specs.declared.draft.Frame.{Frame}
 use Rattle.stl_grammar.specs.declared.draft.Frame.TheVariants.{Paren as Opened, Prefix as Before, Infix as Between}
 use Rattle.stl_grammar.specs.declared.draft.Draft.{Draft}
 use Rattle.stl_grammar.specs.declared.place.Timed.{Timed}
-use Rattle.stl_grammar.specs.declared.place.Timed.TheVariants.{Until as TUntil, Since as TSince, Eventually as TEventually}
-use Rattle.stl_grammar.specs.declared.place.Timed.TheVariants.{Always as TAlways, Once as TOnce, Historically as THistorically}
+use Rattle.stl_grammar.specs.declared.place.Timed.TheVariants.{Until as TUntil, Since as TSince}
+use Rattle.stl_grammar.specs.declared.place.Timed.TheVariants.{Once as TOnce, Historically as THistorically}
 use Rattle.stl_grammar.specs.declared.place.Back.{Back}
 use Rattle.stl_grammar.specs.declared.place.Back.TheVariants.{Since as BSince, Once as BOnce, Historically as BHistorically}
 use Rattle.stl_grammar.specs.declared.place.Place.{Place}
@@ -37,7 +37,6 @@ use Rattle.stl_grammar.specs.declared.place.Place.TheVariants.{Operand, Bound, L
 use Rattle.stl_grammar.specs.declared.place.Place.TheVariants.{ClosingInf, Term as AtTerm, Star as AtStar, Name as AtName}
 use Rattle.stl_grammar.specs.declared.place.Place.TheVariants.{Sign, Constant, Number as AtNumber, End}
 use Rattle.stl_syntax.specs.declared.atom.Term.{Term}
-use Rattle.stl_syntax.specs.declared.rel.Rel.{Rel}
 
 -- what binds the left operand of an operator less tightly may stand before it
 abbrev pub left_rank : Infix → ℕ
@@ -85,25 +84,18 @@ order_next o left frames h =
 
 -- no one-operand operator is the last
 pub no_operators : (frames : List Frame) → ordered frames ≡ true → top_rank frames < 5 → without_operators (marks_of frames) ≡ marks_of frames
-no_operators [] h l = refl
-no_operators (Opened ∷ frames) h l = refl
 no_operators (Before o ∷ frames) h l = absurd (omega (arith, l))
-no_operators (Between Then left ∷ frames) h l = refl
 no_operators (Between Either left ∷ frames) h l = let n = order_next Either left frames h in no_operators frames n.1 (omega (arith, n.0))
 no_operators (Between Both left ∷ frames) h l = let n = order_next Both left frames h in no_operators frames n.1 (omega (arith, n.0))
 no_operators (Between (UpTo w) left ∷ frames) h l = let n = order_next (UpTo w) left frames h in no_operators frames n.1 (omega (arith, n.0))
 no_operators (Between (After b) left ∷ frames) h l = let n = order_next (After b) left frames h in no_operators frames n.1 (omega (arith, n.0))
+no_operators _ h l = refl
 
 -- after the end of an operand
 pub folded_had : (frames : List Frame) → had_of (folded_frames 5 frames) ≡ had_of frames
-folded_had [] = refl
-folded_had (Opened ∷ frames) = refl
 folded_had (Before o ∷ frames) = folded_had frames
 folded_had (Between Then left ∷ frames) = refl
-folded_had (Between Either left ∷ frames) = refl
-folded_had (Between Both left ∷ frames) = refl
-folded_had (Between (UpTo w) left ∷ frames) = refl
-folded_had (Between (After b) left ∷ frames) = refl
+folded_had _ = refl
 
 -- folding leaves the marks that are no operators
 pub folded_marks : (frames : List Frame) → ordered frames ≡ true → marks_of (folded_frames 5 frames) ≡ without_operators (marks_of frames)
@@ -111,10 +103,7 @@ folded_marks [] h = refl
 folded_marks (Opened ∷ frames) h = refl
 folded_marks (Before o ∷ frames) h = folded_marks frames h
 folded_marks (Between Then left ∷ frames) h = refl
-folded_marks (Between Either left ∷ frames) h = sym (no_operators (Between Either left ∷ frames) h (omega arith))
-folded_marks (Between Both left ∷ frames) h = sym (no_operators (Between Both left ∷ frames) h (omega arith))
-folded_marks (Between (UpTo w) left ∷ frames) h = sym (no_operators (Between (UpTo w) left ∷ frames) h (omega arith))
-folded_marks (Between (After b) left ∷ frames) h = sym (no_operators (Between (After b) left ∷ frames) h (omega arith))
+folded_marks frames h = sym (no_operators frames h (omega arith))
 
 -- before an operator that joins
 pub joined_marks : (r : ℕ) (frames : List Frame) → 1 < r → ordered frames ≡ true → top_rank frames < 5 → marks_of (folded_frames r frames) ≡ marks_of frames
@@ -122,53 +111,21 @@ joined_marks r [] s h l = refl
 joined_marks r (Opened ∷ frames) s h l = let e : nat_le r 0 ≡ false = grind (arith, nat_tests, s) in rw e refl
 joined_marks r (Before o ∷ frames) s h l = absurd (omega (arith, l))
 joined_marks r (Between Then left ∷ frames) s h l = let e : nat_le r 1 ≡ false = grind (arith, nat_tests, s) in rw e refl
-joined_marks r (Between Either left ∷ frames) s h l =
-    let n = order_next Either left frames h in
+joined_marks r (Between o left ∷ frames) s h l =
+    let n = order_next o left frames h in
     let more : marks_of (folded_frames r frames) ≡ marks_of frames = joined_marks r frames s n.1 (omega (arith, n.0)) in
-    by_rank (nat_le r 2) more
+    by_rank (nat_le r (infix_rank o)) more refl
   where
-    by_rank : (q : Bool) → marks_of (folded_frames r frames) ≡ marks_of frames
-        → marks_of (if q then folded_frames r frames else Between Either left ∷ frames) ≡ marks_of frames
-    by_rank true more = more
-    by_rank false more = refl
-joined_marks r (Between Both left ∷ frames) s h l =
-    let n = order_next Both left frames h in
-    let more : marks_of (folded_frames r frames) ≡ marks_of frames = joined_marks r frames s n.1 (omega (arith, n.0)) in
-    by_rank (nat_le r 3) more
-  where
-    by_rank : (q : Bool) → marks_of (folded_frames r frames) ≡ marks_of frames
-        → marks_of (if q then folded_frames r frames else Between Both left ∷ frames) ≡ marks_of frames
-    by_rank true more = more
-    by_rank false more = refl
-joined_marks r (Between (UpTo w) left ∷ frames) s h l =
-    let n = order_next (UpTo w) left frames h in
-    let more : marks_of (folded_frames r frames) ≡ marks_of frames = joined_marks r frames s n.1 (omega (arith, n.0)) in
-    by_rank (nat_le r 4) more
-  where
-    by_rank : (q : Bool) → marks_of (folded_frames r frames) ≡ marks_of frames
-        → marks_of (if q then folded_frames r frames else Between (UpTo w) left ∷ frames) ≡ marks_of frames
-    by_rank true more = more
-    by_rank false more = refl
-joined_marks r (Between (After b) left ∷ frames) s h l =
-    let n = order_next (After b) left frames h in
-    let more : marks_of (folded_frames r frames) ≡ marks_of frames = joined_marks r frames s n.1 (omega (arith, n.0)) in
-    by_rank (nat_le r 4) more
-  where
-    by_rank : (q : Bool) → marks_of (folded_frames r frames) ≡ marks_of frames
-        → marks_of (if q then folded_frames r frames else Between (After b) left ∷ frames) ≡ marks_of frames
-    by_rank true more = more
-    by_rank false more = refl
+    by_rank : (q : Bool) → marks_of (folded_frames r frames) ≡ marks_of frames → marks_of (Between o left ∷ frames) ≡ marks_of frames
+        → marks_of (if q then folded_frames r frames else Between o left ∷ frames) ≡ marks_of frames
+    by_rank true more same = more
+    by_rank false more same = same
 
 -- whether an until or since stands beside
 pub had_is : (frames : List Frame) → top_rank frames < 5 → nat_le 4 (top_rank frames) ≡ had_of frames
-had_is [] l = refl
-had_is (Opened ∷ frames) l = refl
 had_is (Before o ∷ frames) l = absurd (omega (arith, l))
 had_is (Between Then left ∷ frames) l = refl
-had_is (Between Either left ∷ frames) l = refl
-had_is (Between Both left ∷ frames) l = refl
-had_is (Between (UpTo w) left ∷ frames) l = refl
-had_is (Between (After b) left ∷ frames) l = refl
+had_is _ l = refl
 
 -- a name is no word of the grammar
 pub free_name : (w : List ℕ) → IsTrue (is_name w) → is_among w reserved ≡ false
@@ -199,28 +156,8 @@ pub begin_view : (text : List ℕ) (place : Place) (q : Machine.Place) (frames :
 unfolding kind
 begin_view text place q frames drafts made (IsKeyword True) k h = ap Some (completed_state frames q (suc made) h)
 begin_view text place q frames drafts made (IsKeyword False) k h = ap Some (completed_state frames q (suc made) h)
-begin_view text place q frames drafts made (IsKeyword Not) k h = refl
-begin_view text place q frames drafts made (IsKeyword And) k h = refl
-begin_view text place q frames drafts made (IsKeyword Or) k h = refl
-begin_view text place q frames drafts made (IsKeyword Implies) k h = refl
-begin_view text place q frames drafts made (IsKeyword Until) k h = refl
-begin_view text place q frames drafts made (IsKeyword Since) k h = refl
-begin_view text place q frames drafts made (IsKeyword Eventually) k h = refl
-begin_view text place q frames drafts made (IsKeyword Always) k h = refl
-begin_view text place q frames drafts made (IsKeyword Once) k h = refl
-begin_view text place q frames drafts made (IsKeyword Historically) k h = refl
-begin_view text place q frames drafts made (IsKeyword Inf) k h = refl
 begin_view text place q frames drafts made (Name from to) k h = rw (known_kind text from to k) refl
-begin_view text place q frames drafts made (Number d) k h = refl
-begin_view text place q frames drafts made (Relation r) k h = refl
-begin_view text place q frames drafts made OpenParen k h = refl
-begin_view text place q frames drafts made CloseParen k h = refl
-begin_view text place q frames drafts made OpenBracket k h = refl
-begin_view text place q frames drafts made CloseBracket k h = refl
-begin_view text place q frames drafts made Comma k h = refl
-begin_view text place q frames drafts made Star k h = refl
-begin_view text place q frames drafts made Plus k h = refl
-begin_view text place q frames drafts made Minus k h = refl
+begin_view text place q frames drafts made _ k h = refl
 
 -- a parenthesis ends
 close_view : (place : Place) (frames : List Frame) (drafts : List Draft) (made : ℕ) → ordered frames ≡ true
@@ -230,54 +167,7 @@ close_view place [] drafts made h = refl
 close_view place (Opened ∷ frames) drafts made h = ap Some (completed_state frames at_end made h)
 close_view place (Before o ∷ frames) drafts made h = close_view place frames drafts made h
 close_view place (Between Then left ∷ frames) drafts made h = close_view place frames drafts made (order_next Then left frames h).1
-close_view place (Between Either left ∷ frames) drafts made h = close_view place frames drafts made (order_next Either left frames h).1
-close_view place (Between Both left ∷ frames) drafts made h = close_view place frames drafts made (order_next Both left frames h).1
-close_view place (Between (UpTo w) left ∷ frames) drafts made h = close_view place frames drafts made (order_next (UpTo w) left frames h).1
-close_view place (Between (After b) left ∷ frames) drafts made h = close_view place frames drafts made (order_next (After b) left frames h).1
-
--- a step where an operand is expected is one of the machine
-pub operand_view : (text : List ℕ) (frames : List Frame) (drafts : List Draft) (terms : List Term) (made : ℕ) (t : Code)
-    → IsKnown text t → IsFit (record { place = Operand; frames = frames; drafts = drafts; terms = terms; made = made })
-    → option_map state_of (parse_step text (record { place = Operand; frames = frames; drafts = drafts; terms = terms; made = made }) t)
-    ≡ step (state_of (record { place = Operand; frames = frames; drafts = drafts; terms = terms; made = made })) (plain text t)
-operand_view text frames drafts terms made t k h = let e : terms ≡ [] = h.place in rw e (begin_view text Operand at_operand frames drafts made t k h.order)
-
--- a step at the lower number of a bound is one of the machine
-pub low_view : (text : List ℕ) (of : Timed) (low_in : Bool) (frames : List Frame) (drafts : List Draft) (terms : List Term) (made : ℕ) (t : Code)
-    → IsKnown text t → IsFit (record { place = Low of low_in; frames = frames; drafts = drafts; terms = terms; made = made })
-    → option_map state_of (parse_step text (record { place = Low of low_in; frames = frames; drafts = drafts; terms = terms; made = made }) t)
-    ≡ step (state_of (record { place = Low of low_in; frames = frames; drafts = drafts; terms = terms; made = made })) (plain text t)
-low_view text of low_in frames drafts terms made (IsKeyword w) k h = refl
-low_view text of low_in frames drafts terms made (Name from to) k h = refl
-low_view text of low_in frames drafts terms made (Number d) k h = refl
-low_view text of low_in frames drafts terms made (Relation r) k h = refl
-low_view text of low_in frames drafts terms made OpenParen k h = refl
-low_view text of low_in frames drafts terms made CloseParen k h = refl
-low_view text of low_in frames drafts terms made OpenBracket k h = refl
-low_view text of low_in frames drafts terms made CloseBracket k h = refl
-low_view text of low_in frames drafts terms made Comma k h = refl
-low_view text of low_in frames drafts terms made Star k h = refl
-low_view text of low_in frames drafts terms made Plus k h = refl
-low_view text of low_in frames drafts terms made Minus k h = refl
-
--- a step at the comma of a bound is one of the machine
-pub comma_view : (text : List ℕ) (of : Timed) (low_in : Bool) (low : Decimal) (frames : List Frame) (drafts : List Draft)
-    (terms : List Term) (made : ℕ) (t : Code) → IsKnown text t
-    → IsFit (record { place = AtComma of low_in low; frames = frames; drafts = drafts; terms = terms; made = made })
-    → option_map state_of (parse_step text (record { place = AtComma of low_in low; frames = frames; drafts = drafts; terms = terms; made = made }) t)
-    ≡ step (state_of (record { place = AtComma of low_in low; frames = frames; drafts = drafts; terms = terms; made = made })) (plain text t)
-comma_view text of low_in low frames drafts terms made (IsKeyword w) k h = refl
-comma_view text of low_in low frames drafts terms made (Name from to) k h = refl
-comma_view text of low_in low frames drafts terms made (Number d) k h = refl
-comma_view text of low_in low frames drafts terms made (Relation r) k h = refl
-comma_view text of low_in low frames drafts terms made OpenParen k h = refl
-comma_view text of low_in low frames drafts terms made CloseParen k h = refl
-comma_view text of low_in low frames drafts terms made OpenBracket k h = refl
-comma_view text of low_in low frames drafts terms made CloseBracket k h = refl
-comma_view text of low_in low frames drafts terms made Comma k h = refl
-comma_view text of low_in low frames drafts terms made Star k h = refl
-comma_view text of low_in low frames drafts terms made Plus k h = refl
-comma_view text of low_in low frames drafts terms made Minus k h = refl
+close_view place (Between o left ∷ frames) drafts made h = close_view place frames drafts made (order_next o left frames h).1
 
 inf_view : (text : List ℕ) (of : Timed) (low_in : Bool) (low : Decimal) (frames : List Frame) (drafts : List Draft) (terms : List Term) (made : ℕ)
     → option_map state_of
@@ -285,263 +175,17 @@ inf_view : (text : List ℕ) (of : Timed) (low_in : Bool) (low : Decimal) (frame
     ≡ step (state_of (record { place = High of low_in low; frames = frames; drafts = drafts; terms = terms; made = made })) (word (spelling Inf))
 unfolding kind
 inf_view text TUntil low_in low frames drafts terms made = refl
-inf_view text TSince low_in low frames drafts terms made = refl
-inf_view text TEventually low_in low frames drafts terms made = refl
-inf_view text TAlways low_in low frames drafts terms made = refl
-inf_view text TOnce low_in low frames drafts terms made = refl
-inf_view text THistorically low_in low frames drafts terms made = refl
-
--- a step at the upper number of a bound is one of the machine
-pub high_view : (text : List ℕ) (of : Timed) (low_in : Bool) (low : Decimal) (frames : List Frame) (drafts : List Draft)
-    (terms : List Term) (made : ℕ) (t : Code) → IsKnown text t
-    → IsFit (record { place = High of low_in low; frames = frames; drafts = drafts; terms = terms; made = made })
-    → option_map state_of (parse_step text (record { place = High of low_in low; frames = frames; drafts = drafts; terms = terms; made = made }) t)
-    ≡ step (state_of (record { place = High of low_in low; frames = frames; drafts = drafts; terms = terms; made = made })) (plain text t)
-unfolding kind
-high_view text of low_in low frames drafts terms made (IsKeyword True) k h = refl
-high_view text of low_in low frames drafts terms made (IsKeyword False) k h = refl
-high_view text of low_in low frames drafts terms made (IsKeyword Not) k h = refl
-high_view text of low_in low frames drafts terms made (IsKeyword And) k h = refl
-high_view text of low_in low frames drafts terms made (IsKeyword Or) k h = refl
-high_view text of low_in low frames drafts terms made (IsKeyword Implies) k h = refl
-high_view text of low_in low frames drafts terms made (IsKeyword Until) k h = refl
-high_view text of low_in low frames drafts terms made (IsKeyword Since) k h = refl
-high_view text of low_in low frames drafts terms made (IsKeyword Eventually) k h = refl
-high_view text of low_in low frames drafts terms made (IsKeyword Always) k h = refl
-high_view text of low_in low frames drafts terms made (IsKeyword Once) k h = refl
-high_view text of low_in low frames drafts terms made (IsKeyword Historically) k h = refl
-high_view text of low_in low frames drafts terms made (IsKeyword Inf) k h = inf_view text of low_in low frames drafts terms made
-high_view text of low_in low frames drafts terms made (Name from to) k h = rw (known_kind text from to k) refl
-high_view text of low_in low frames drafts terms made (Number d) k h = refl
-high_view text of low_in low frames drafts terms made (Relation r) k h = refl
-high_view text of low_in low frames drafts terms made OpenParen k h = refl
-high_view text of low_in low frames drafts terms made CloseParen k h = refl
-high_view text of low_in low frames drafts terms made OpenBracket k h = refl
-high_view text of low_in low frames drafts terms made CloseBracket k h = refl
-high_view text of low_in low frames drafts terms made Comma k h = refl
-high_view text of low_in low frames drafts terms made Star k h = refl
-high_view text of low_in low frames drafts terms made Plus k h = refl
-high_view text of low_in low frames drafts terms made Minus k h = refl
-
-closing_CloseBracket : (text : List ℕ) (of : Timed) (low_in : Bool) (low high : Decimal) (frames : List Frame)
-    (drafts : List Draft) (terms : List Term) (made : ℕ)
-    → option_map state_of
-    (parse_step text (record { place = Closing of low_in low high; frames = frames; drafts = drafts; terms = terms; made = made }) CloseBracket)
-    ≡ step (state_of (record { place = Closing of low_in low high; frames = frames; drafts = drafts; terms = terms; made = made })) (plain text CloseBracket)
-closing_CloseBracket text TUntil low_in low high frames drafts terms made = refl
-closing_CloseBracket text TSince low_in low high frames drafts terms made = refl
-closing_CloseBracket text TEventually low_in low high frames drafts terms made = refl
-closing_CloseBracket text TAlways low_in low high frames drafts terms made = refl
-closing_CloseBracket text TOnce low_in low high frames drafts terms made = refl
-closing_CloseBracket text THistorically low_in low high frames drafts terms made = refl
-
-closing_inf_CloseBracket : (text : List ℕ) (of : Back) (low_in : Bool) (low : Decimal) (frames : List Frame) (drafts : List Draft)
-    (terms : List Term) (made : ℕ)
-    → option_map state_of
-    (parse_step text (record { place = ClosingInf of low_in low; frames = frames; drafts = drafts; terms = terms; made = made }) CloseBracket)
-    ≡ step (state_of (record { place = ClosingInf of low_in low; frames = frames; drafts = drafts; terms = terms; made = made })) (plain text CloseBracket)
-closing_inf_CloseBracket text BSince low_in low frames drafts terms made = refl
-closing_inf_CloseBracket text BOnce low_in low frames drafts terms made = refl
-closing_inf_CloseBracket text BHistorically low_in low frames drafts terms made = refl
-
-closing_OpenBracket : (text : List ℕ) (of : Timed) (low_in : Bool) (low high : Decimal) (frames : List Frame)
-    (drafts : List Draft) (terms : List Term) (made : ℕ)
-    → option_map state_of
-    (parse_step text (record { place = Closing of low_in low high; frames = frames; drafts = drafts; terms = terms; made = made }) OpenBracket)
-    ≡ step (state_of (record { place = Closing of low_in low high; frames = frames; drafts = drafts; terms = terms; made = made })) (plain text OpenBracket)
-closing_OpenBracket text TUntil low_in low high frames drafts terms made = refl
-closing_OpenBracket text TSince low_in low high frames drafts terms made = refl
-closing_OpenBracket text TEventually low_in low high frames drafts terms made = refl
-closing_OpenBracket text TAlways low_in low high frames drafts terms made = refl
-closing_OpenBracket text TOnce low_in low high frames drafts terms made = refl
-closing_OpenBracket text THistorically low_in low high frames drafts terms made = refl
-
-closing_inf_OpenBracket : (text : List ℕ) (of : Back) (low_in : Bool) (low : Decimal) (frames : List Frame) (drafts : List Draft) (terms : List Term) (made : ℕ)
-    → option_map state_of
-    (parse_step text (record { place = ClosingInf of low_in low; frames = frames; drafts = drafts; terms = terms; made = made }) OpenBracket)
-    ≡ step (state_of (record { place = ClosingInf of low_in low; frames = frames; drafts = drafts; terms = terms; made = made })) (plain text OpenBracket)
-closing_inf_OpenBracket text BSince low_in low frames drafts terms made = refl
-closing_inf_OpenBracket text BOnce low_in low frames drafts terms made = refl
-closing_inf_OpenBracket text BHistorically low_in low frames drafts terms made = refl
-
--- a step at the bracket that closes a bound is one of the machine
-pub closing_view : (text : List ℕ) (of : Timed) (low_in : Bool) (low high : Decimal) (frames : List Frame) (drafts : List Draft)
-    (terms : List Term) (made : ℕ) (t : Code) → IsKnown text t
-    → IsFit (record { place = Closing of low_in low high; frames = frames; drafts = drafts; terms = terms; made = made })
-    → option_map state_of (parse_step text (record { place = Closing of low_in low high; frames = frames; drafts = drafts; terms = terms; made = made }) t)
-    ≡ step (state_of (record { place = Closing of low_in low high; frames = frames; drafts = drafts; terms = terms; made = made })) (plain text t)
-closing_view text of low_in low high frames drafts terms made (IsKeyword w) k h = refl
-closing_view text of low_in low high frames drafts terms made (Name from to) k h = refl
-closing_view text of low_in low high frames drafts terms made (Number d) k h = refl
-closing_view text of low_in low high frames drafts terms made (Relation r) k h = refl
-closing_view text of low_in low high frames drafts terms made OpenParen k h = refl
-closing_view text of low_in low high frames drafts terms made CloseParen k h = refl
-closing_view text of low_in low high frames drafts terms made OpenBracket k h = closing_OpenBracket text of low_in low high frames drafts terms made
-closing_view text of low_in low high frames drafts terms made CloseBracket k h = closing_CloseBracket text of low_in low high frames drafts terms made
-closing_view text of low_in low high frames drafts terms made Comma k h = refl
-closing_view text of low_in low high frames drafts terms made Star k h = refl
-closing_view text of low_in low high frames drafts terms made Plus k h = refl
-closing_view text of low_in low high frames drafts terms made Minus k h = refl
-
--- a step at the bracket after `inf` is one of the machine
-pub closing_inf_view : (text : List ℕ) (of : Back) (low_in : Bool) (low : Decimal) (frames : List Frame) (drafts : List Draft)
-    (terms : List Term) (made : ℕ) (t : Code) → IsKnown text t
-    → IsFit (record { place = ClosingInf of low_in low; frames = frames; drafts = drafts; terms = terms; made = made })
-    → option_map state_of (parse_step text (record { place = ClosingInf of low_in low; frames = frames; drafts = drafts; terms = terms; made = made }) t)
-    ≡ step (state_of (record { place = ClosingInf of low_in low; frames = frames; drafts = drafts; terms = terms; made = made })) (plain text t)
-closing_inf_view text of low_in low frames drafts terms made (IsKeyword w) k h = refl
-closing_inf_view text of low_in low frames drafts terms made (Name from to) k h = refl
-closing_inf_view text of low_in low frames drafts terms made (Number d) k h = refl
-closing_inf_view text of low_in low frames drafts terms made (Relation r) k h = refl
-closing_inf_view text of low_in low frames drafts terms made OpenParen k h = refl
-closing_inf_view text of low_in low frames drafts terms made CloseParen k h = refl
-closing_inf_view text of low_in low frames drafts terms made OpenBracket k h = closing_inf_OpenBracket text of low_in low frames drafts terms made
-closing_inf_view text of low_in low frames drafts terms made CloseBracket k h = closing_inf_CloseBracket text of low_in low frames drafts terms made
-closing_inf_view text of low_in low frames drafts terms made Comma k h = refl
-closing_inf_view text of low_in low frames drafts terms made Star k h = refl
-closing_inf_view text of low_in low frames drafts terms made Plus k h = refl
-closing_inf_view text of low_in low frames drafts terms made Minus k h = refl
+inf_view text _ low_in low frames drafts terms made = refl
 
 length_more : (terms : List Term) (t : Term) → length (terms ++ t ∷ []) ≡ suc (length terms)
 length_more terms t = omega (arith, length_push terms t)
 
--- a step at a term is one of the machine
-pub term_view : (text : List ℕ) (negative : Bool) (frames : List Frame) (drafts : List Draft) (terms : List Term) (made : ℕ) (t : Code)
-    → IsKnown text t → IsFit (record { place = AtTerm negative; frames = frames; drafts = drafts; terms = terms; made = made })
-    → option_map state_of (parse_step text (record { place = AtTerm negative; frames = frames; drafts = drafts; terms = terms; made = made }) t)
-    ≡ step (state_of (record { place = AtTerm negative; frames = frames; drafts = drafts; terms = terms; made = made })) (plain text t)
-unfolding kind
-term_view text negative frames drafts terms made (IsKeyword True) k h = refl
-term_view text negative frames drafts terms made (IsKeyword False) k h = refl
-term_view text negative frames drafts terms made (IsKeyword Not) k h = refl
-term_view text negative frames drafts terms made (IsKeyword And) k h = refl
-term_view text negative frames drafts terms made (IsKeyword Or) k h = refl
-term_view text negative frames drafts terms made (IsKeyword Implies) k h = refl
-term_view text negative frames drafts terms made (IsKeyword Until) k h = refl
-term_view text negative frames drafts terms made (IsKeyword Since) k h = refl
-term_view text negative frames drafts terms made (IsKeyword Eventually) k h = refl
-term_view text negative frames drafts terms made (IsKeyword Always) k h = refl
-term_view text negative frames drafts terms made (IsKeyword Once) k h = refl
-term_view text negative frames drafts terms made (IsKeyword Historically) k h = refl
-term_view text negative frames drafts terms made (IsKeyword Inf) k h = refl
-term_view text negative frames drafts terms made (Name from to) k h = rw (known_kind text from to k)
-    (ap (λ n. Some (record { place = at_sign n; had = had_of frames; marks = marks_of frames; nodes = made })) (length_more terms _))
-term_view text negative frames drafts terms made (Number d) k h = refl
-term_view text negative frames drafts terms made (Relation r) k h = refl
-term_view text negative frames drafts terms made OpenParen k h = refl
-term_view text negative frames drafts terms made CloseParen k h = refl
-term_view text negative frames drafts terms made OpenBracket k h = refl
-term_view text negative frames drafts terms made CloseBracket k h = refl
-term_view text negative frames drafts terms made Comma k h = refl
-term_view text negative frames drafts terms made Star k h = refl
-term_view text negative frames drafts terms made Plus k h = refl
-term_view text negative frames drafts terms made Minus k h = refl
-
--- a step at the star of a coefficient is one of the machine
-pub star_view : (text : List ℕ) (negative : Bool) (coef : Decimal) (frames : List Frame) (drafts : List Draft) (terms : List Term)
-    (made : ℕ) (t : Code) → IsKnown text t
-    → IsFit (record { place = AtStar negative coef; frames = frames; drafts = drafts; terms = terms; made = made })
-    → option_map state_of (parse_step text (record { place = AtStar negative coef; frames = frames; drafts = drafts; terms = terms; made = made }) t)
-    ≡ step (state_of (record { place = AtStar negative coef; frames = frames; drafts = drafts; terms = terms; made = made })) (plain text t)
-star_view text negative coef frames drafts terms made (IsKeyword w) k h = refl
-star_view text negative coef frames drafts terms made (Name from to) k h = refl
-star_view text negative coef frames drafts terms made (Number d) k h = refl
-star_view text negative coef frames drafts terms made (Relation r) k h = refl
-star_view text negative coef frames drafts terms made OpenParen k h = refl
-star_view text negative coef frames drafts terms made CloseParen k h = refl
-star_view text negative coef frames drafts terms made OpenBracket k h = refl
-star_view text negative coef frames drafts terms made CloseBracket k h = refl
-star_view text negative coef frames drafts terms made Comma k h = refl
-star_view text negative coef frames drafts terms made Star k h = refl
-star_view text negative coef frames drafts terms made Plus k h = refl
-star_view text negative coef frames drafts terms made Minus k h = refl
-
--- a step at the name of a term is one of the machine
-pub name_view : (text : List ℕ) (negative : Bool) (coef : Decimal) (frames : List Frame) (drafts : List Draft) (terms : List Term)
-    (made : ℕ) (t : Code) → IsKnown text t
-    → IsFit (record { place = AtName negative coef; frames = frames; drafts = drafts; terms = terms; made = made })
-    → option_map state_of (parse_step text (record { place = AtName negative coef; frames = frames; drafts = drafts; terms = terms; made = made }) t)
-    ≡ step (state_of (record { place = AtName negative coef; frames = frames; drafts = drafts; terms = terms; made = made })) (plain text t)
-unfolding kind
-name_view text negative coef frames drafts terms made (IsKeyword True) k h = refl
-name_view text negative coef frames drafts terms made (IsKeyword False) k h = refl
-name_view text negative coef frames drafts terms made (IsKeyword Not) k h = refl
-name_view text negative coef frames drafts terms made (IsKeyword And) k h = refl
-name_view text negative coef frames drafts terms made (IsKeyword Or) k h = refl
-name_view text negative coef frames drafts terms made (IsKeyword Implies) k h = refl
-name_view text negative coef frames drafts terms made (IsKeyword Until) k h = refl
-name_view text negative coef frames drafts terms made (IsKeyword Since) k h = refl
-name_view text negative coef frames drafts terms made (IsKeyword Eventually) k h = refl
-name_view text negative coef frames drafts terms made (IsKeyword Always) k h = refl
-name_view text negative coef frames drafts terms made (IsKeyword Once) k h = refl
-name_view text negative coef frames drafts terms made (IsKeyword Historically) k h = refl
-name_view text negative coef frames drafts terms made (IsKeyword Inf) k h = refl
-name_view text negative coef frames drafts terms made (Name from to) k h = rw (known_kind text from to k)
-    (ap (λ n. Some (record { place = at_sign n; had = had_of frames; marks = marks_of frames; nodes = made })) (length_more terms _))
-name_view text negative coef frames drafts terms made (Number d) k h = refl
-name_view text negative coef frames drafts terms made (Relation r) k h = refl
-name_view text negative coef frames drafts terms made OpenParen k h = refl
-name_view text negative coef frames drafts terms made CloseParen k h = refl
-name_view text negative coef frames drafts terms made OpenBracket k h = refl
-name_view text negative coef frames drafts terms made CloseBracket k h = refl
-name_view text negative coef frames drafts terms made Comma k h = refl
-name_view text negative coef frames drafts terms made Star k h = refl
-name_view text negative coef frames drafts terms made Plus k h = refl
-name_view text negative coef frames drafts terms made Minus k h = refl
-
--- a step after a term is one of the machine
-pub sign_view : (text : List ℕ) (frames : List Frame) (drafts : List Draft) (terms : List Term) (made : ℕ) (t : Code)
-    → IsKnown text t → IsFit (record { place = Sign; frames = frames; drafts = drafts; terms = terms; made = made })
-    → option_map state_of (parse_step text (record { place = Sign; frames = frames; drafts = drafts; terms = terms; made = made }) t)
-    ≡ step (state_of (record { place = Sign; frames = frames; drafts = drafts; terms = terms; made = made })) (plain text t)
-sign_view text frames drafts terms made (IsKeyword w) k h = refl
-sign_view text frames drafts terms made (Name from to) k h = refl
-sign_view text frames drafts terms made (Number d) k h = refl
-sign_view text frames drafts terms made (Relation r) k h = refl
-sign_view text frames drafts terms made OpenParen k h = refl
-sign_view text frames drafts terms made CloseParen k h = refl
-sign_view text frames drafts terms made OpenBracket k h = refl
-sign_view text frames drafts terms made CloseBracket k h = refl
-sign_view text frames drafts terms made Comma k h = refl
-sign_view text frames drafts terms made Star k h = refl
-sign_view text frames drafts terms made Plus k h = refl
-sign_view text frames drafts terms made Minus k h = refl
-
--- a step at a constant is one of the machine
-pub constant_view : (text : List ℕ) (rel : Rel) (frames : List Frame) (drafts : List Draft) (terms : List Term) (made : ℕ) (t : Code)
-    → IsKnown text t → IsFit (record { place = Constant rel; frames = frames; drafts = drafts; terms = terms; made = made })
-    → option_map state_of (parse_step text (record { place = Constant rel; frames = frames; drafts = drafts; terms = terms; made = made }) t)
-    ≡ step (state_of (record { place = Constant rel; frames = frames; drafts = drafts; terms = terms; made = made })) (plain text t)
-constant_view text rel frames drafts terms made (IsKeyword w) k h = refl
-constant_view text rel frames drafts terms made (Name from to) k h = refl
-constant_view text rel frames drafts terms made (Number d) k h = ap Some (completed_state frames at_end made h.order)
-constant_view text rel frames drafts terms made (Relation r) k h = refl
-constant_view text rel frames drafts terms made OpenParen k h = refl
-constant_view text rel frames drafts terms made CloseParen k h = refl
-constant_view text rel frames drafts terms made OpenBracket k h = refl
-constant_view text rel frames drafts terms made CloseBracket k h = refl
-constant_view text rel frames drafts terms made Comma k h = refl
-constant_view text rel frames drafts terms made Star k h = refl
-constant_view text rel frames drafts terms made Plus k h = refl
-constant_view text rel frames drafts terms made Minus k h = refl
-
--- a step at the number of a constant is one of the machine
-pub number_view : (text : List ℕ) (rel : Rel) (negative : Bool) (frames : List Frame) (drafts : List Draft) (terms : List Term) (made : ℕ) (t : Code)
-    → IsKnown text t → IsFit (record { place = AtNumber rel negative; frames = frames; drafts = drafts; terms = terms; made = made })
-    → option_map state_of (parse_step text (record { place = AtNumber rel negative; frames = frames; drafts = drafts; terms = terms; made = made }) t)
-    ≡ step (state_of (record { place = AtNumber rel negative; frames = frames; drafts = drafts; terms = terms; made = made })) (plain text t)
-number_view text rel negative frames drafts terms made (IsKeyword w) k h = refl
-number_view text rel negative frames drafts terms made (Name from to) k h = refl
-number_view text rel negative frames drafts terms made (Number d) k h = ap Some (completed_state frames at_end made h.order)
-number_view text rel negative frames drafts terms made (Relation r) k h = refl
-number_view text rel negative frames drafts terms made OpenParen k h = refl
-number_view text rel negative frames drafts terms made CloseParen k h = refl
-number_view text rel negative frames drafts terms made OpenBracket k h = refl
-number_view text rel negative frames drafts terms made CloseBracket k h = refl
-number_view text rel negative frames drafts terms made Comma k h = refl
-number_view text rel negative frames drafts terms made Star k h = refl
-number_view text rel negative frames drafts terms made Plus k h = refl
-number_view text rel negative frames drafts terms made Minus k h = refl
+-- with one term more
+named : (frames : List Frame) (terms : List Term) (made : ℕ) (t : Term)
+    → ◌≡◌ {A = Option State} (Some (record { place = at_sign (length (terms ++ t ∷ [])); had = had_of frames; marks = marks_of frames; nodes = made }))
+    (Some (record { place = at_sign (suc (length terms)); had = had_of frames; marks = marks_of frames; nodes = made }))
+named frames terms made t =
+    ap (λ n. Some (record { place = at_sign n; had = had_of frames; marks = marks_of frames; nodes = made })) (length_more terms t)
 
 beside : (of : Timed) (frames : List Frame) (drafts : List Draft) (terms : List Term) (made : ℕ) (q : Bool) → is_beside of ≡ true
     → option_map state_of (if q then None else Some (record { place = Bound of; frames = frames; drafts = drafts; terms = terms; made = suc made }))
@@ -549,218 +193,65 @@ beside : (of : Timed) (frames : List Frame) (drafts : List Draft) (terms : List 
 beside of frames drafts terms made true h = refl
 beside of frames drafts terms made false h = rw h refl
 
--- a step after a whole operand is one of the machine
-pub end_view : (text : List ℕ) (frames : List Frame) (drafts : List Draft) (terms : List Term) (made : ℕ) (t : Code)
-    → IsKnown text t → IsFit (record { place = End; frames = frames; drafts = drafts; terms = terms; made = made })
-    → option_map state_of (parse_step text (record { place = End; frames = frames; drafts = drafts; terms = terms; made = made }) t)
-    ≡ step (state_of (record { place = End; frames = frames; drafts = drafts; terms = terms; made = made })) (plain text t)
-unfolding kind
-end_view text frames drafts terms made (IsKeyword True) k h = refl
-end_view text frames drafts terms made (IsKeyword False) k h = refl
-end_view text frames drafts terms made (IsKeyword Not) k h = refl
-end_view text frames drafts terms made (IsKeyword And) k h = rw (joined_marks 3 frames (omega arith) h.order h.place.1) refl
-end_view text frames drafts terms made (IsKeyword Or) k h = rw (joined_marks 2 frames (omega arith) h.order h.place.1) refl
-end_view text frames drafts terms made (IsKeyword Implies) k h = rw (joined_marks 2 frames (omega arith) h.order h.place.1) refl
-end_view text frames drafts terms made (IsKeyword Until) k h = rw (had_is frames h.place.1) (beside TUntil frames drafts terms made (had_of frames) refl)
-end_view text frames drafts terms made (IsKeyword Since) k h = rw (had_is frames h.place.1) (beside TSince frames drafts terms made (had_of frames) refl)
-end_view text frames drafts terms made (IsKeyword Eventually) k h = refl
-end_view text frames drafts terms made (IsKeyword Always) k h = refl
-end_view text frames drafts terms made (IsKeyword Once) k h = refl
-end_view text frames drafts terms made (IsKeyword Historically) k h = refl
-end_view text frames drafts terms made (IsKeyword Inf) k h = refl
-end_view text frames drafts terms made (Name from to) k h = rw (known_kind text from to k) refl
-end_view text frames drafts terms made (Number d) k h = refl
-end_view text frames drafts terms made (Relation r) k h = refl
-end_view text frames drafts terms made OpenParen k h = refl
-end_view text frames drafts terms made CloseParen k h = let e : terms ≡ [] = h.place.0 in rw e (close_view End frames _ made h.order)
-end_view text frames drafts terms made OpenBracket k h = refl
-end_view text frames drafts terms made CloseBracket k h = refl
-end_view text frames drafts terms made Comma k h = refl
-end_view text frames drafts terms made Star k h = refl
-end_view text frames drafts terms made Plus k h = refl
-end_view text frames drafts terms made Minus k h = refl
-
 -- a bound that may be left out
-left_out : (text : List ℕ) (b : Back) (q : Machine.Place) (frames : List Frame) (drafts : List Draft) (made : ℕ) (t : Code)
-    → IsKnown text t → ordered frames ≡ true → StandsBeside (back_is_beside b) frames
+left_out : (text : List ℕ) (b : Back) (q : Machine.Place) (frames : List Frame) (drafts : List Draft) (terms : List Term) (made : ℕ) (t : Code)
+    → IsKnown text t → ordered frames ≡ true → StandsBeside (back_is_beside b) frames → terms ≡ []
     → option_map state_of (begin_operand text
-    (record { place = Operand; frames = back_frame b Whole (length drafts - 1) ∷ frames; drafts = drafts; terms = []; made = made }) t)
+    (record { place = Operand; frames = back_frame b Whole (length drafts - 1) ∷ frames; drafts = drafts; terms = terms; made = made }) t)
     ≡ Machine.begin_operand (record {
       place = q;
       had = had_of (back_frame b Whole (length drafts - 1) ∷ frames);
       marks = marks_of (back_frame b Whole (length drafts - 1) ∷ frames);
       nodes = made;
     }) (plain text t)
-left_out text BSince q frames drafts made t k h s =
+left_out text BSince q frames drafts terms made t k h s e =
     let a : nat_lt (top_rank frames) 4 ≡ true = grind (arith, nat_tests, s) in
-    begin_view text Operand q (Between (After Whole) (length drafts - 1) ∷ frames) drafts made t k (rw (a, h) refl)
-left_out text BOnce q frames drafts made t k h s = begin_view text Operand q (back_frame BOnce Whole (length drafts - 1) ∷ frames) drafts made t k h
-left_out text BHistorically q frames drafts made t k h s =
-    begin_view text Operand q (back_frame BHistorically Whole (length drafts - 1) ∷ frames) drafts made t k h
+    rw e (begin_view text Operand q (Between (After Whole) (length drafts - 1) ∷ frames) drafts made t k (rw (a, h) refl))
+left_out text b q frames drafts terms made t k h s e =
+    rw e (begin_view text Operand q (back_frame b Whole (length drafts - 1) ∷ frames) drafts made t k h)
 
--- a step after `until` is one of the machine
-pub bound_TUntil : (text : List ℕ) (frames : List Frame) (drafts : List Draft) (terms : List Term) (made : ℕ) (t : Code)
-    → IsKnown text t → IsFit (record { place = Bound TUntil; frames = frames; drafts = drafts; terms = terms; made = made })
-    → option_map state_of (parse_step text (record { place = Bound TUntil; frames = frames; drafts = drafts; terms = terms; made = made }) t)
-    ≡ step (state_of (record { place = Bound TUntil; frames = frames; drafts = drafts; terms = terms; made = made })) (plain text t)
-bound_TUntil text frames drafts terms made (IsKeyword w) k h = refl
-bound_TUntil text frames drafts terms made (Name from to) k h = refl
-bound_TUntil text frames drafts terms made (Number d) k h = refl
-bound_TUntil text frames drafts terms made (Relation r) k h = refl
-bound_TUntil text frames drafts terms made OpenParen k h = refl
-bound_TUntil text frames drafts terms made CloseParen k h = refl
-bound_TUntil text frames drafts terms made OpenBracket k h = refl
-bound_TUntil text frames drafts terms made CloseBracket k h = refl
-bound_TUntil text frames drafts terms made Comma k h = refl
-bound_TUntil text frames drafts terms made Star k h = refl
-bound_TUntil text frames drafts terms made Plus k h = refl
-bound_TUntil text frames drafts terms made Minus k h = refl
-
--- a step after `since` is one of the machine
-pub bound_TSince : (text : List ℕ) (frames : List Frame) (drafts : List Draft) (terms : List Term) (made : ℕ) (t : Code)
-    → IsKnown text t → IsFit (record { place = Bound TSince; frames = frames; drafts = drafts; terms = terms; made = made })
-    → option_map state_of (parse_step text (record { place = Bound TSince; frames = frames; drafts = drafts; terms = terms; made = made }) t)
-    ≡ step (state_of (record { place = Bound TSince; frames = frames; drafts = drafts; terms = terms; made = made })) (plain text t)
-bound_TSince text frames drafts terms made (IsKeyword w) k h =
-    let e : terms ≡ [] = h.place.0 in
-    rw e (left_out text BSince (at_bound (owner TSince)) frames drafts made (IsKeyword w) k h.order h.place.1)
-bound_TSince text frames drafts terms made (Name from to) k h =
-    let e : terms ≡ [] = h.place.0 in
-    rw e (left_out text BSince (at_bound (owner TSince)) frames drafts made (Name from to) k h.order h.place.1)
-bound_TSince text frames drafts terms made (Number d) k h =
-    let e : terms ≡ [] = h.place.0 in
-    rw e (left_out text BSince (at_bound (owner TSince)) frames drafts made (Number d) k h.order h.place.1)
-bound_TSince text frames drafts terms made (Relation r) k h = refl
-bound_TSince text frames drafts terms made OpenParen k h = left_out text BSince (at_bound (owner TSince)) frames drafts made OpenParen k h.order h.place.1
-bound_TSince text frames drafts terms made CloseParen k h = refl
-bound_TSince text frames drafts terms made OpenBracket k h = refl
-bound_TSince text frames drafts terms made CloseBracket k h = refl
-bound_TSince text frames drafts terms made Comma k h = refl
-bound_TSince text frames drafts terms made Star k h = refl
-bound_TSince text frames drafts terms made Plus k h =
-    let e : terms ≡ [] = h.place.0 in
-    rw e (left_out text BSince (at_bound (owner TSince)) frames drafts made Plus k h.order h.place.1)
-bound_TSince text frames drafts terms made Minus k h =
-    let e : terms ≡ [] = h.place.0 in
-    rw e (left_out text BSince (at_bound (owner TSince)) frames drafts made Minus k h.order h.place.1)
-
--- a step after `eventually` is one of the machine
-pub bound_TEventually : (text : List ℕ) (frames : List Frame) (drafts : List Draft) (terms : List Term) (made : ℕ) (t : Code)
-    → IsKnown text t → IsFit (record { place = Bound TEventually; frames = frames; drafts = drafts; terms = terms; made = made })
-    → option_map state_of (parse_step text (record { place = Bound TEventually; frames = frames; drafts = drafts; terms = terms; made = made }) t)
-    ≡ step (state_of (record { place = Bound TEventually; frames = frames; drafts = drafts; terms = terms; made = made })) (plain text t)
-bound_TEventually text frames drafts terms made (IsKeyword w) k h = refl
-bound_TEventually text frames drafts terms made (Name from to) k h = refl
-bound_TEventually text frames drafts terms made (Number d) k h = refl
-bound_TEventually text frames drafts terms made (Relation r) k h = refl
-bound_TEventually text frames drafts terms made OpenParen k h = refl
-bound_TEventually text frames drafts terms made CloseParen k h = refl
-bound_TEventually text frames drafts terms made OpenBracket k h = refl
-bound_TEventually text frames drafts terms made CloseBracket k h = refl
-bound_TEventually text frames drafts terms made Comma k h = refl
-bound_TEventually text frames drafts terms made Star k h = refl
-bound_TEventually text frames drafts terms made Plus k h = refl
-bound_TEventually text frames drafts terms made Minus k h = refl
-
--- a step after `always` is one of the machine
-pub bound_TAlways : (text : List ℕ) (frames : List Frame) (drafts : List Draft) (terms : List Term) (made : ℕ) (t : Code)
-    → IsKnown text t → IsFit (record { place = Bound TAlways; frames = frames; drafts = drafts; terms = terms; made = made })
-    → option_map state_of (parse_step text (record { place = Bound TAlways; frames = frames; drafts = drafts; terms = terms; made = made }) t)
-    ≡ step (state_of (record { place = Bound TAlways; frames = frames; drafts = drafts; terms = terms; made = made })) (plain text t)
-bound_TAlways text frames drafts terms made (IsKeyword w) k h = refl
-bound_TAlways text frames drafts terms made (Name from to) k h = refl
-bound_TAlways text frames drafts terms made (Number d) k h = refl
-bound_TAlways text frames drafts terms made (Relation r) k h = refl
-bound_TAlways text frames drafts terms made OpenParen k h = refl
-bound_TAlways text frames drafts terms made CloseParen k h = refl
-bound_TAlways text frames drafts terms made OpenBracket k h = refl
-bound_TAlways text frames drafts terms made CloseBracket k h = refl
-bound_TAlways text frames drafts terms made Comma k h = refl
-bound_TAlways text frames drafts terms made Star k h = refl
-bound_TAlways text frames drafts terms made Plus k h = refl
-bound_TAlways text frames drafts terms made Minus k h = refl
-
--- a step after `once` is one of the machine
-pub bound_TOnce : (text : List ℕ) (frames : List Frame) (drafts : List Draft) (terms : List Term) (made : ℕ) (t : Code)
-    → IsKnown text t → IsFit (record { place = Bound TOnce; frames = frames; drafts = drafts; terms = terms; made = made })
-    → option_map state_of (parse_step text (record { place = Bound TOnce; frames = frames; drafts = drafts; terms = terms; made = made }) t)
-    ≡ step (state_of (record { place = Bound TOnce; frames = frames; drafts = drafts; terms = terms; made = made })) (plain text t)
-bound_TOnce text frames drafts terms made (IsKeyword w) k h =
-    let e : terms ≡ [] = h.place.0 in
-    rw e (left_out text BOnce (at_bound (owner TOnce)) frames drafts made (IsKeyword w) k h.order h.place.1)
-bound_TOnce text frames drafts terms made (Name from to) k h =
-    let e : terms ≡ [] = h.place.0 in
-    rw e (left_out text BOnce (at_bound (owner TOnce)) frames drafts made (Name from to) k h.order h.place.1)
-bound_TOnce text frames drafts terms made (Number d) k h =
-    let e : terms ≡ [] = h.place.0 in
-    rw e (left_out text BOnce (at_bound (owner TOnce)) frames drafts made (Number d) k h.order h.place.1)
-bound_TOnce text frames drafts terms made (Relation r) k h = refl
-bound_TOnce text frames drafts terms made OpenParen k h = left_out text BOnce (at_bound (owner TOnce)) frames drafts made OpenParen k h.order h.place.1
-bound_TOnce text frames drafts terms made CloseParen k h = refl
-bound_TOnce text frames drafts terms made OpenBracket k h = refl
-bound_TOnce text frames drafts terms made CloseBracket k h = refl
-bound_TOnce text frames drafts terms made Comma k h = refl
-bound_TOnce text frames drafts terms made Star k h = refl
-bound_TOnce text frames drafts terms made Plus k h =
-    let e : terms ≡ [] = h.place.0 in
-    rw e (left_out text BOnce (at_bound (owner TOnce)) frames drafts made Plus k h.order h.place.1)
-bound_TOnce text frames drafts terms made Minus k h =
-    let e : terms ≡ [] = h.place.0 in
-    rw e (left_out text BOnce (at_bound (owner TOnce)) frames drafts made Minus k h.order h.place.1)
-
--- a step after `historically` is one of the machine
-pub bound_THistorically : (text : List ℕ) (frames : List Frame) (drafts : List Draft) (terms : List Term) (made : ℕ) (t : Code)
-    → IsKnown text t → IsFit (record { place = Bound THistorically; frames = frames; drafts = drafts; terms = terms; made = made })
-    → option_map state_of (parse_step text (record { place = Bound THistorically; frames = frames; drafts = drafts; terms = terms; made = made }) t)
-    ≡ step (state_of (record { place = Bound THistorically; frames = frames; drafts = drafts; terms = terms; made = made })) (plain text t)
-bound_THistorically text frames drafts terms made (IsKeyword w) k h =
-    let e : terms ≡ [] = h.place.0 in
-    rw e (left_out text BHistorically (at_bound (owner THistorically)) frames drafts made (IsKeyword w) k h.order h.place.1)
-bound_THistorically text frames drafts terms made (Name from to) k h =
-    let e : terms ≡ [] = h.place.0 in
-    rw e (left_out text BHistorically (at_bound (owner THistorically)) frames drafts made (Name from to) k h.order h.place.1)
-bound_THistorically text frames drafts terms made (Number d) k h =
-    let e : terms ≡ [] = h.place.0 in
-    rw e (left_out text BHistorically (at_bound (owner THistorically)) frames drafts made (Number d) k h.order h.place.1)
-bound_THistorically text frames drafts terms made (Relation r) k h = refl
-bound_THistorically text frames drafts terms made OpenParen k h =
-    left_out text BHistorically (at_bound (owner THistorically)) frames drafts made OpenParen k h.order h.place.1
-bound_THistorically text frames drafts terms made CloseParen k h = refl
-bound_THistorically text frames drafts terms made OpenBracket k h = refl
-bound_THistorically text frames drafts terms made CloseBracket k h = refl
-bound_THistorically text frames drafts terms made Comma k h = refl
-bound_THistorically text frames drafts terms made Star k h = refl
-bound_THistorically text frames drafts terms made Plus k h =
-    let e : terms ≡ [] = h.place.0 in
-    rw e (left_out text BHistorically (at_bound (owner THistorically)) frames drafts made Plus k h.order h.place.1)
-bound_THistorically text frames drafts terms made Minus k h =
-    let e : terms ≡ [] = h.place.0 in
-    rw e (left_out text BHistorically (at_bound (owner THistorically)) frames drafts made Minus k h.order h.place.1)
+step_view : (text : List ℕ) (place : Place) (frames : List Frame) (drafts : List Draft) (terms : List Term) (made : ℕ) (t : Code)
+    → IsKnown text t → IsFit (record { place = place; frames = frames; drafts = drafts; terms = terms; made = made })
+    → option_map state_of (parse_step text (record { place = place; frames = frames; drafts = drafts; terms = terms; made = made }) t)
+    ≡ step (state_of (record { place = place; frames = frames; drafts = drafts; terms = terms; made = made })) (plain text t)
+unfolding kind
+step_view text Operand frames drafts terms made t k h = let e : terms ≡ [] = h.place in rw e (begin_view text Operand at_operand frames drafts made t k h.order)
+step_view text (Bound of) frames drafts terms made OpenBracket k h = refl
+step_view text (Bound TOnce) frames drafts terms made CloseBracket k h = refl
+step_view text (Bound THistorically) frames drafts terms made CloseBracket k h = refl
+step_view text (Bound TSince) frames drafts terms made t k h =
+    left_out text BSince (at_bound (owner TSince)) frames drafts terms made t k h.order h.place.1 h.place.0
+step_view text (Bound TOnce) frames drafts terms made t k h =
+    left_out text BOnce (at_bound (owner TOnce)) frames drafts terms made t k h.order h.place.1 h.place.0
+step_view text (Bound THistorically) frames drafts terms made t k h =
+    left_out text BHistorically (at_bound (owner THistorically)) frames drafts terms made t k h.order h.place.1 h.place.0
+step_view text (Low of low_in) frames drafts terms made (Number d) k h = refl
+step_view text (AtComma of low_in low) frames drafts terms made Comma k h = refl
+step_view text (High of low_in low) frames drafts terms made (IsKeyword Inf) k h = inf_view text of low_in low frames drafts terms made
+step_view text (High of low_in low) frames drafts terms made (Name from to) k h = rw (known_kind text from to k) refl
+step_view text (Closing of low_in low high) frames drafts terms made (Number d) k h = refl
+step_view text (Closing TUntil low_in low high) frames drafts terms made OpenBracket k h = refl
+step_view text (Closing TUntil low_in low high) frames drafts terms made CloseBracket k h = refl
+step_view text (ClosingInf of low_in low) frames drafts terms made (Number d) k h = refl
+step_view text (ClosingInf BSince low_in low) frames drafts terms made OpenBracket k h = refl
+step_view text (ClosingInf BSince low_in low) frames drafts terms made CloseBracket k h = refl
+step_view text (AtTerm negative) frames drafts terms made (Name from to) k h = rw (known_kind text from to k) (named frames terms made _)
+step_view text (AtStar negative coef) frames drafts terms made Star k h = refl
+step_view text (AtName negative coef) frames drafts terms made (Name from to) k h = rw (known_kind text from to k) (named frames terms made _)
+step_view text Sign frames drafts terms made Plus k h = refl
+step_view text (Constant rel) frames drafts terms made (Number d) k h = ap Some (completed_state frames at_end made h.order)
+step_view text (AtNumber rel negative) frames drafts terms made (Number d) k h = ap Some (completed_state frames at_end made h.order)
+step_view text End frames drafts terms made (IsKeyword And) k h = rw (joined_marks 3 frames (omega arith) h.order h.place.1) refl
+step_view text End frames drafts terms made (IsKeyword Or) k h = rw (joined_marks 2 frames (omega arith) h.order h.place.1) refl
+step_view text End frames drafts terms made (IsKeyword Implies) k h = rw (joined_marks 2 frames (omega arith) h.order h.place.1) refl
+step_view text End frames drafts terms made (IsKeyword Until) k h =
+    rw (had_is frames h.place.1) (beside TUntil frames drafts terms made (had_of frames) refl)
+step_view text End frames drafts terms made (IsKeyword Since) k h =
+    rw (had_is frames h.place.1) (beside TSince frames drafts terms made (had_of frames) refl)
+step_view text End frames drafts terms made (Name from to) k h = rw (known_kind text from to k) refl
+step_view text End frames drafts terms made CloseParen k h = let e : terms ≡ [] = h.place.0 in rw e (close_view End frames _ made h.order)
+step_view text _ frames drafts terms made _ k h = refl
 
 -- a step of the parser is one of the machine
 pub view_step : (text : List ℕ) (p : Parse) (t : Code) → IsKnown text t → IsFit p → option_map state_of (parse_step text p t) ≡ step (state_of p) (plain text t)
-view_step text p t k h = by_place p.place p.frames p.drafts p.terms p.made h
-  where
-    by_place : (place : Place) (frames : List Frame) (drafts : List Draft) (terms : List Term) (made : ℕ)
-        → IsFit (record { place = place; frames = frames; drafts = drafts; terms = terms; made = made })
-        → option_map state_of (parse_step text (record { place = place; frames = frames; drafts = drafts; terms = terms; made = made }) t)
-        ≡ step (state_of (record { place = place; frames = frames; drafts = drafts; terms = terms; made = made })) (plain text t)
-    by_place Operand frames drafts terms made h = operand_view text frames drafts terms made t k h
-    by_place (Bound TUntil) frames drafts terms made h = bound_TUntil text frames drafts terms made t k h
-    by_place (Bound TSince) frames drafts terms made h = bound_TSince text frames drafts terms made t k h
-    by_place (Bound TEventually) frames drafts terms made h = bound_TEventually text frames drafts terms made t k h
-    by_place (Bound TAlways) frames drafts terms made h = bound_TAlways text frames drafts terms made t k h
-    by_place (Bound TOnce) frames drafts terms made h = bound_TOnce text frames drafts terms made t k h
-    by_place (Bound THistorically) frames drafts terms made h = bound_THistorically text frames drafts terms made t k h
-    by_place (Low of low_in) frames drafts terms made h = low_view text of low_in frames drafts terms made t k h
-    by_place (AtComma of low_in low) frames drafts terms made h = comma_view text of low_in low frames drafts terms made t k h
-    by_place (High of low_in low) frames drafts terms made h = high_view text of low_in low frames drafts terms made t k h
-    by_place (Closing of low_in low high) frames drafts terms made h = closing_view text of low_in low high frames drafts terms made t k h
-    by_place (ClosingInf of low_in low) frames drafts terms made h = closing_inf_view text of low_in low frames drafts terms made t k h
-    by_place (AtTerm negative) frames drafts terms made h = term_view text negative frames drafts terms made t k h
-    by_place (AtStar negative coef) frames drafts terms made h = star_view text negative coef frames drafts terms made t k h
-    by_place (AtName negative coef) frames drafts terms made h = name_view text negative coef frames drafts terms made t k h
-    by_place Sign frames drafts terms made h = sign_view text frames drafts terms made t k h
-    by_place (Constant rel) frames drafts terms made h = constant_view text rel frames drafts terms made t k h
-    by_place (AtNumber rel negative) frames drafts terms made h = number_view text rel negative frames drafts terms made t k h
-    by_place End frames drafts terms made h = end_view text frames drafts terms made t k h
+view_step text p t k h = step_view text p.place p.frames p.drafts p.terms p.made t k h

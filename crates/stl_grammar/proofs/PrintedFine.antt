@@ -109,9 +109,7 @@ says : (s : Scale) (post : List Token) (x : Piece) → IsNeat s (these x ++ post
 says s post (bounds a j b k) h = let x = h.short.time in (omega (arith, x), omega (arith, x))
 says s post (low a j) h = let x = h.short.time in omega (arith, x)
 says s post (coefficient n k) h = h.plain.0
-says s post (after_relation r n k) h = let x = h.short.value in omega (arith, x)
-says s post (after_plus r n k) h = let x = h.short.value in omega (arith, x)
-says s post (after_minus r n k) h = let x = h.short.value in omega (arith, x)
+says s post _ h = let x = h.short.value in omega (arith, x)
 
 -- neat tokens are so piece by piece
 pub neat_pieces : (s : Scale) (ts : List Token) → IsNeat s ts → Pieces s ts

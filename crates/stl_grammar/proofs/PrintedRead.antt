@@ -172,10 +172,6 @@ abbrev closing_read : (b : Bool) → (t : Token) × LexedAny (closing b) (t ∷ 
 closing_read true = (close_bracket, bracket_end_lexed, inside, λ z. (refl, refl))
 closing_read false = (open_bracket, bracket_lexed, outside, λ z. (refl, refl))
 
-opening_parts : (b : Bool) (rest : List ℕ) → Parts (opening b ++ rest)
-opening_parts true rest z = (refl, refl)
-opening_parts false rest z = (refl, refl)
-
 -- a bound with two numbers
 abbrev FutureRead : Scale → ℕ → ℕ → Bool → Bool → List ℕ → Type 0
 FutureRead s a b a_in b_in text = (us : List Token) × LexedAny text us × Parts text × IsFutureWindow s.time us a b a_in b_in × (time_digits us ≤ s.time)
@@ -417,16 +413,7 @@ module _ (s : Scale) (at : ℕ → Subformula) where
   leaf_read k i (Const false) text e f h =
       (word (codes "false") ∷ [], rw h lexed_false, always_false, record { short = record { time = omega arith; value = omega arith }; plain = tt })
   leaf_read k i (Leaf a) text e f h = let (ts, x, d, sh) = atom_read s a text f.atom h in (ts, x, atom d, sh)
-  leaf_read k i (Not p) text e f h = absurd (cc)
-  leaf_read k i (And p q) text e f h = absurd (cc)
-  leaf_read k i (Or p q) text e f h = absurd (cc)
-  leaf_read k i (Implies p q) text e f h = absurd (cc)
-  leaf_read k i (Until p q a b) text e f h = absurd (cc)
-  leaf_read k i (Eventually p a b a_in b_in) text e f h = absurd (cc)
-  leaf_read k i (Always p a b a_in b_in) text e f h = absurd (cc)
-  leaf_read k i (Since p q a b) text e f h = absurd (cc)
-  leaf_read k i (Once p a b a_in b_in) text e f h = absurd (cc)
-  leaf_read k i (Historically p a b a_in b_in) text e f h = absurd (cc)
+  leaf_read k i _ text e f h = absurd (cc)
 
   -- the operand of a node
   abbrev Reads : ℕ → List Node → ℕ → Type 0
@@ -504,13 +491,7 @@ module _ (s : Scale) (at : ℕ → Subformula) where
       let g : p ≡ top k ns = cc in
       let z = past_small a b f.bounds.0 f.reach in
       rw g (historically_read k ns a b a_in b_in text z.0 z.1 f.bounds.1 r (rw g at h))
-  one_read k i ns (Const b) text e f r h = absurd (cc)
-  one_read k i ns (Leaf a) text e f r h = absurd (cc)
-  one_read k i ns (And p q) text e f r h = absurd (cc)
-  one_read k i ns (Or p q) text e f r h = absurd (cc)
-  one_read k i ns (Implies p q) text e f r h = absurd (cc)
-  one_read k i ns (Until p q a b) text e f r h = absurd (cc)
-  one_read k i ns (Since p q a b) text e f r h = absurd (cc)
+  one_read k i ns _ text e f r h = absurd (cc)
 
   -- a word between two operands
   joined_lexed : (x w y : List ℕ) (ts us vs : List Token) → Lexed x ts → Lexed w us → Lexed y vs
@@ -604,13 +585,7 @@ module _ (s : Scale) (at : ℕ → Subformula) where
   two_read k i ns ms (Since p q a b) text e f r t h =
       let g : p ≡ top k ns = cc in let j : q ≡ top (k + length ns) ms = cc in let z = past_small a b f.bounds f.reach in
       rw (g, j) (since_tree_read k ns ms a b text z.0 z.1 r t (rw (g, j) at h))
-  two_read k i ns ms (Const b) text e f r t h = absurd (cc)
-  two_read k i ns ms (Leaf a) text e f r t h = absurd (cc)
-  two_read k i ns ms (Not p) text e f r t h = absurd (cc)
-  two_read k i ns ms (Eventually p a b a_in b_in) text e f r t h = absurd (cc)
-  two_read k i ns ms (Always p a b a_in b_in) text e f r t h = absurd (cc)
-  two_read k i ns ms (Once p a b a_in b_in) text e f r t h = absurd (cc)
-  two_read k i ns ms (Historically p a b a_in b_in) text e f r t h = absurd (cc)
+  two_read k i ns ms _ text e f r t h = absurd (cc)
 
 module _ (s : Scale) (all : List Node) (order : IsPostOrder all) where
   node_is : (i : ℕ) (n : Node) → slice_get all i ≡ Some n → subformula all i ≡ tree_of (subformula all) i n

@@ -43,10 +43,6 @@ any_lexed x ts h z us s l = h z us l
 pub then_lexed : (x y : List ℕ) (ts us : List Token) → LexedAny x ts → Lexed y us → Lexed (x ++ y) (ts ++ us)
 then_lexed x y ts us h k z vs s l = rw (append_assoc x y z, append_assoc ts us vs) (h (y ++ z) (us ++ vs) (k z vs s l))
 
--- so before any text
-pub then_any : (x y : List ℕ) (ts us : List Token) → LexedAny x ts → LexedAny y us → LexedAny (x ++ y) (ts ++ us)
-then_any x y ts us h k z vs l = rw (append_assoc x y z, append_assoc ts us vs) (h (y ++ z) (us ++ vs) (k z vs l))
-
 -- a piece before one that parts
 pub parted_any : (x y : List ℕ) (ts us : List Token) → Lexed x ts → Parts y → LexedAny y us → LexedAny (x ++ y) (ts ++ us)
 parted_any x y ts us h p k z vs l = rw (append_assoc x y z, append_assoc ts us vs) (h (y ++ z) (us ++ vs) (p z) (k z vs l))
@@ -110,10 +106,6 @@ decimals_lexed : (c : ℕ) (digits : List ℕ) (d : ℕ) (decimals : List ℕ) �
     → Lexed (c ∷ digits ++ 46 ∷ d ∷ decimals)
     (number (decimal_value 0 (c ∷ digits ++ without_zeros (d ∷ decimals))) (length (without_zeros (d ∷ decimals))) ∷ [])
 decimals_lexed c digits d decimals a b z us s l = token (c ∷ digits ++ 46 ∷ d ∷ decimals) z refl (a_decimal c digits d decimals a b (stops_digit z s)) l
-
--- a blank
-pub blank_lexed : LexedAny (codes " ") []
-blank_lexed z us l = blank refl l
 
 -- a parenthesis
 pub paren_lexed : LexedAny (codes "(") (open_paren ∷ [])

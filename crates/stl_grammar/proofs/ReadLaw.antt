@@ -4,9 +4,8 @@ use Rattle.std.proofs.Common.{map, refl, sym, ap, ◌∙◌, subst, true, false,
 use Rattle.std.specs.Prelude.{Option, Some, None}
 use Rattle.std.proofs.lemmas.List.{drop_more, drop-drop, drop_at, length-append, length-drop, drop_all, append-nil, reverse-append, map-append}
 use Rattle.stl_syntax.specs.Characters.{is_blank}
-use Rattle.stl_grammar.specs.Tokens.{Token, IsToken, a_word, an_integer, a_decimal, at_least, at_most}
-use Rattle.stl_grammar.specs.Tokens.{above, below, paren, paren_end, bracket, bracket_end, a_comma}
-use Rattle.stl_grammar.specs.Tokens.{a_star, a_plus, a_minus, Lexes, nothing, token, blank as skip}
+use Rattle.stl_grammar.specs.Tokens.{Token, IsToken, a_word}
+use Rattle.stl_grammar.specs.Tokens.{Lexes, nothing, token, blank as skip}
 use Rattle.stl_grammar.specs.FormulaRefusals.{TokenFault, blank, bad_byte, here, later, at_end, BeginsNoToken, MayEnd, RefusedAt, expected}
 use Rattle.stl_grammar.specs.Machine.{run, ends_at}
 use Rattle.stl_grammar.specs.Parsing.{Parse, parse_step}
@@ -22,9 +21,8 @@ use Rattle.stl_grammar.proofs.MachineView.{run_expected}
 use Rattle.stl_grammar.proofs.RefusalLaw.{token-unique, no_token_at_blank, no_token_at_end}
 use Rattle.stl_grammar.specs.declared.token.Token.{Token as Code}
 use Rattle.stl_grammar.specs.declared.place.Place.{Place}
-use Rattle.stl_grammar.specs.declared.place.Place.TheVariants.{Operand, Bound, Low, Comma as AtComma, High, Closing}
-use Rattle.stl_grammar.specs.declared.place.Place.TheVariants.{ClosingInf, Term as AtTerm, Star as AtStar, Name as AtName}
-use Rattle.stl_grammar.specs.declared.place.Place.TheVariants.{Sign, Constant, Number as AtNumber, End}
+use Rattle.stl_grammar.specs.declared.place.Place.TheVariants.{Term as AtTerm, Star as AtStar, Name as AtName}
+use Rattle.stl_grammar.specs.declared.place.Place.TheVariants.{Number as AtNumber}
 use Rattle.stl_grammar.specs.declared.fault.FormulaFault.{FormulaFault}
 use Rattle.stl_grammar.specs.declared.fault.FormulaFault.TheVariants.{Expected, BadByte}
 
@@ -92,20 +90,7 @@ none_at_end m (at_end n) = n m
 -- a token has some bytes
 some_bytes : {bytes text : List ℕ} {t : Token} → IsToken bytes text t → 0 < length bytes
 some_bytes (a_word b m s) = omega arith
-some_bytes (an_integer d s b) = omega arith
-some_bytes (a_decimal c digits d decimals h k s) = omega arith
-some_bytes at_least = omega arith
-some_bytes at_most = omega arith
-some_bytes (above s) = omega arith
-some_bytes (below s) = omega arith
-some_bytes paren = omega arith
-some_bytes paren_end = omega arith
-some_bytes bracket = omega arith
-some_bytes bracket_end = omega arith
-some_bytes a_comma = omega arith
-some_bytes a_star = omega arith
-some_bytes a_plus = omega arith
-some_bytes a_minus = omega arith
+some_bytes _ = omega arith
 
 -- reading goes on
 pub advances_some : (text : List ℕ) (at to : ℕ) (p q : Parse) (codes others : List Code) → Advances text at to p q codes others → at < to
@@ -120,20 +105,11 @@ moved_fault {before} {a} {b} {xs} {ys} {r} e f g = subst (λ n. TokenFault befor
 
 ends_same : (place : Place) (p : Parse) → p.place ≡ place
     → ends_at (state_of p).place (state_of p).marks ≡ ends_at (place_at p.place (length p.terms)) (marks_of p.frames)
-ends_same Operand p e = rw e refl
-ends_same (Bound of) p e = rw e refl
-ends_same (Low of i) p e = rw e refl
-ends_same (AtComma of i low) p e = rw e refl
-ends_same (High of i low) p e = rw e refl
-ends_same (Closing of i low high) p e = rw e refl
-ends_same (ClosingInf of i low) p e = rw e refl
 ends_same (AtTerm negative) p e = rw e refl
 ends_same (AtStar negative coef) p e = rw e refl
 ends_same (AtName negative coef) p e = rw e refl
-ends_same Sign p e = rw e refl
-ends_same (Constant rel) p e = rw e refl
 ends_same (AtNumber rel negative) p e = rw e refl
-ends_same End p e = rw e refl
+ends_same _ p e = rw e refl
 
 module _ (text : List ℕ) (at : ℕ) (p : Parse) (codes : List Code) (h : HasRead text at p codes) where
   first : at < length text → drop at text ≡ get_or text at 0 ∷ drop (at + 1) text

@@ -26,8 +26,8 @@ use Rattle.stl_grammar.specs.Grammar.{conjunct, or, timed, and, operand, until, 
 use Rattle.stl_grammar.specs.Grammar.{once, historically, always_true, always_false, parens, atom}
 use Rattle.stl_grammar.specs.FormulaRefusals.{TokenFault, nodes_made}
 use Rattle.stl_grammar.specs.Building.{HasFewTerms, AreNodes}
-use Rattle.stl_grammar.specs.Machine.{Kind, kind, a_constant, a_negation, a_join, an_implication, an_until, a_since, a_future}
-use Rattle.stl_grammar.specs.Machine.{a_past, an_inf, a_name, Owner, of_until, of_since, of_future, of_past, looks_back, Place}
+use Rattle.stl_grammar.specs.Machine.{Kind, kind, a_constant}
+use Rattle.stl_grammar.specs.Machine.{Owner, of_until, of_since, of_future, of_past, looks_back, Place}
 use Rattle.stl_grammar.specs.Machine.{at_operand, at_bound, at_term, at_sign, at_end, Mark, paren, operator, implication}
 use Rattle.stl_grammar.specs.Machine.{State, start, without_operators, begin_word, step_from, run, fifth_at, disorder_at}
 use Rattle.stl_grammar.specs.declared.fault.FormulaFault.{FormulaFault}
@@ -156,15 +156,7 @@ until_order {digits} (bound {a = a} {j} {b} {k} {x} {y} inside inside) h marks n
 same_begin : (k : Kind) (p : Place) (h : Bool) (marks : List Mark) (n : ℕ)
     → begin_word (record { place = p; had = h; marks = marks; nodes = n }) k ≡ begin_word (record { place = at_operand; had = h; marks = marks; nodes = n }) k
 same_begin a_constant p h marks n = refl
-same_begin a_negation p h marks n = refl
-same_begin a_join p h marks n = refl
-same_begin an_implication p h marks n = refl
-same_begin an_until p h marks n = refl
-same_begin a_since p h marks n = refl
-same_begin a_future p h marks n = refl
-same_begin a_past p h marks n = refl
-same_begin an_inf p h marks n = refl
-same_begin a_name p h marks n = refl
+same_begin _ p h marks n = refl
 
 -- a past operator without a bound goes on to its operand
 pub skips : (o : Owner) → looks_back o ≡ true → (h : Bool) (marks : List Mark) (n : ℕ) (t : Token) (ts : List Token) → begins_bracket (t ∷ ts) ≡ false

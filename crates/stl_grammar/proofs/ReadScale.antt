@@ -162,20 +162,15 @@ window_max ts (bound outside outside) = omega arith
 
 past_max : {d a : ℕ} {b : Option ℕ} {us : List Token} {x y : Bool} (ts : List Token) → IsPastWindow d us a b x y
     → time_digits (us ++ ts) ≡ max (time_digits us) (time_digits ts)
-past_max ts nothing = omega arith
 past_max ts (bounded inside inside) = omega arith
-past_max ts (bounded inside outside) = omega arith
 past_max ts (bounded outside inside) = omega arith
-past_max ts (bounded outside outside) = omega arith
 past_max ts (unbounded inside inside) = omega arith
-past_max ts (unbounded inside outside) = omega arith
 past_max ts (unbounded outside inside) = omega arith
-past_max ts (unbounded outside outside) = omega arith
+past_max ts _ = omega arith
 
 since_max : {d a : ℕ} {b : Option ℕ} {us : List Token} (ts : List Token) → IsPast d us a b → time_digits (us ++ ts) ≡ max (time_digits us) (time_digits ts)
 since_max ts since_nothing = omega arith
-since_max ts since_bounded = omega arith
-since_max ts since_unbounded = omega arith
+since_max ts _ = omega arith
 
 -- of two numbers with the greatest decimals
 one_of_two : (d a j b k : ℕ) → max j k ≡ d → 0 < d → (j ≡ 0) ⊎ IsUneven a → (k ≡ 0) ⊎ IsUneven b → Any IsUneven (ticks d a j ∷ ticks d b k ∷ [])
@@ -331,20 +326,15 @@ window_value ts (bound outside inside) = refl
 window_value ts (bound outside outside) = refl
 
 past_value : {d a : ℕ} {b : Option ℕ} {us : List Token} {x y : Bool} (ts : List Token) → IsPastWindow d us a b x y → value_digits (us ++ ts) ≡ value_digits ts
-past_value ts nothing = refl
 past_value ts (bounded inside inside) = refl
-past_value ts (bounded inside outside) = refl
 past_value ts (bounded outside inside) = refl
-past_value ts (bounded outside outside) = refl
 past_value ts (unbounded inside inside) = refl
-past_value ts (unbounded inside outside) = refl
 past_value ts (unbounded outside inside) = refl
-past_value ts (unbounded outside outside) = refl
+past_value ts _ = refl
 
 since_value : {d a : ℕ} {b : Option ℕ} {us : List Token} (ts : List Token) → IsPast d us a b → value_digits (us ++ ts) ≡ value_digits ts
 since_value ts since_nothing = refl
-since_value ts since_bounded = refl
-since_value ts since_unbounded = refl
+since_value ts _ = refl
 
 module _ (s : Scale) (some : 0 < s.value) where
   value_sides : (ts us : List Token) (w : List ℕ) → ends_well ts ≡ true → value_digits (ts ++ word w ∷ us) ≡ s.value

@@ -4,7 +4,7 @@ use Rattle.std.specs.Prelude.{codes}
 use Rattle.stl_syntax.specs.declared.scale.Scale.{Scale}
 use Rattle.stl_syntax.specs.declared.node.Node.{Node}
 use Rattle.stl_grammar.specs.Tokens.{Token, word, number, relation, open_paren, close_paren, comma, plus, minus}
-use Rattle.stl_grammar.specs.Grammar.{IsConstant, plain, positive, negative, IsTerm, scaled, AreTerms, more_plus}
+use Rattle.stl_grammar.specs.Grammar.{IsConstant, plain, IsTerm, scaled, AreTerms, more_plus}
 use Rattle.stl_grammar.specs.Grammar.{more_minus, IsAtom, IsFormula, IsDisjunct, IsConjunct, IsTimed, IsOperand}
 use Rattle.stl_grammar.specs.Grammar.{disjunct, implies, conjunct, or, timed, and, operand, until, since, not}
 use Rattle.stl_grammar.specs.Grammar.{eventually, always, once, historically, always_true, always_false, parens}
@@ -39,8 +39,7 @@ after_some (t ∷ ts) us h = after_one t (ts ++ us) (after_some ts us h)
 constant_ends : {digits : ℕ} {ts : List Token} {c : _} → IsConstant digits ts c → ends_well ts ≡ true
 unfolding ends_well can_end
 constant_ends plain = refl
-constant_ends positive = refl
-constant_ends negative = refl
+constant_ends _ = refl
 
 atom_ends : {digits : ℕ} {ts : List Token} {a : _} → IsAtom digits ts a → ends_well ts ≡ true
 atom_ends (first {ts = ts} {us} {vs} {rel = rel} t u c) = after_some (ts ++ us) (relation rel ∷ vs) (after_one (relation rel) vs (constant_ends c))
@@ -96,11 +95,6 @@ mutual
 abbrev pub begins_comma : List Token → Bool
 begins_comma (comma ∷ ts) = true
 begins_comma _ = false
-
--- the digits of tokens after the end of an operand
-tail_ends : (t u : Token) (ts : List Token) → ends_well (t ∷ u ∷ ts) ≡ true → ends_well (u ∷ ts) ≡ true
-unfolding ends_well
-tail_ends t u ts h = h
 
 first_append : (ts us : List Token) → ends_well ts ≡ true → first_decimals (ts ++ us) ≡ first_decimals ts
 unfolding ends_well can_end
@@ -195,13 +189,11 @@ terms_time us (more_minus {ts = ts} {us = vs} t u) = ap time_digits (append_asso
 
 constant_time : {d : ℕ} {vs : List Token} {c : _} → IsConstant d vs c → time_digits vs ≡ 0
 constant_time plain = refl
-constant_time positive = refl
-constant_time negative = refl
+constant_time _ = refl
 
 constant_value : {d : ℕ} {vs : List Token} {c : _} → IsConstant d vs c → value_digits vs ≡ 0
 constant_value plain = refl
-constant_value positive = refl
-constant_value negative = refl
+constant_value _ = refl
 
 -- an atom
 pub short_atom : {d : ℕ} (s : Scale) {ts us vs : List Token} {k : ℕ} {w : List ℕ} {terms : _} {c : _} (rel : _) → IsTerm ts k w
@@ -234,13 +226,10 @@ pub short_past : {d a : ℕ} {b : _} {us : List Token} {x y : Bool} (s : Scale) 
     → time_digits us ≤ s.time → IsShort s ts → IsShort s (us ++ ts)
 short_past s ts nothing l a = a
 short_past s ts (bounded inside inside) l a = let t = a.time in record { time = omega arith; value = a.value }
-short_past s ts (bounded inside outside) l a = let t = a.time in record { time = omega arith; value = a.value }
 short_past s ts (bounded outside inside) l a = let t = a.time in record { time = omega arith; value = a.value }
-short_past s ts (bounded outside outside) l a = let t = a.time in record { time = omega arith; value = a.value }
 short_past s ts (unbounded inside inside) l a = let t = a.time in record { time = omega arith; value = a.value }
-short_past s ts (unbounded inside outside) l a = let t = a.time in record { time = omega arith; value = a.value }
 short_past s ts (unbounded outside inside) l a = let t = a.time in record { time = omega arith; value = a.value }
-short_past s ts (unbounded outside outside) l a = let t = a.time in record { time = omega arith; value = a.value }
+short_past s ts _ l a = let t = a.time in record { time = omega arith; value = a.value }
 
 -- a bound of since
 pub short_since : {d a : ℕ} {b : _} {us : List Token} (s : Scale) (ts : List Token) → IsPast d us a b → time_digits us ≤ s.time

@@ -2,7 +2,7 @@
 use Rattle.std.proofs.Common.{◌≡◌, ℕ, ◌≤◌, List, [], ◌∷◌, ◌++◌, refl, Bool, true, false}
 use Rattle.stl_syntax.specs.declared.scale.Scale.{Scale}
 use Rattle.stl_grammar.specs.Tokens.{Token, word, number, relation, open_paren, close_paren, star}
-use Rattle.stl_grammar.specs.Grammar.{IsConstant, plain, positive, negative, IsFutureWindow, bound, IsPastWindow}
+use Rattle.stl_grammar.specs.Grammar.{IsConstant, plain, IsFutureWindow, bound, IsPastWindow}
 use Rattle.stl_grammar.specs.Grammar.{nothing, bounded, unbounded, IsPast, inside, outside, time_digits}
 use Rattle.stl_grammar.specs.Grammar.IsPast.{nothing as since_nothing, bounded as since_bounded, unbounded as since_unbounded}
 use Rattle.stl_grammar.proofs.TokenEnds.{ends_well, begins_comma, IsShort, short_joined, short_word, short_parens, short_window, short_past, short_since}
@@ -61,8 +61,7 @@ neat_parens s ts h a = record { short = short_parens s ts h a.short; plain = pla
 -- a constant
 pub constant_plain : {d : ℕ} {vs : List Token} {c : _} (r : _) → IsConstant d vs c → ArePlain (relation r ∷ vs)
 constant_plain r plain = (tt, tt)
-constant_plain r positive = (tt, tt)
-constant_plain r negative = (tt, tt)
+constant_plain r _ = (tt, tt)
 
 window_plain : {d a b : ℕ} {us : List Token} {x y : Bool} (ts : List Token) → IsFutureWindow d us a b x y → ArePlain ts → ArePlain (us ++ ts)
 window_plain ts (bound inside inside) a = (tt, (tt, a))

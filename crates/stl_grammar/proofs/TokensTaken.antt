@@ -77,9 +77,6 @@ are_small before (word w ∷ ts) h = are_small (word w ∷ before) ts h.1
 are_small before (relation r ∷ ts) h = are_small (relation r ∷ before) ts h.1
 are_small before (t ∷ ts) h = are_small (t ∷ before) ts h.1
 
-number_small : (n k : ℕ) (ts : List Token) → AreSmall (number n k ∷ ts) → k ≤ 6
-number_small n k ts h = h.0
-
 first_small : (ts : List Token) → AreSmall ts → first_decimals ts ≤ 6
 first_small [] h = omega arith
 first_small (number n k ∷ ts) h = h.0
