@@ -1,6 +1,5 @@
 //! Truth over time.
 ghost use Rattle.std.specs.Prelude.{◌≡◌};
-ghost use Rattle.value_laws.specs.Values.{truth_value};
 
 use crate::Shape;
 use frac128::{Frac, WideFrac};
@@ -25,13 +24,6 @@ impl Truth {
         ensures { result ≡ self.now.holds }
     {
         self.holds
-    }
-
-    /// 1 or -1.
-    fn sign(&self) -> i8
-        ensures { result ≡ truth_value self.now.holds }
-    {
-        if self.holds { 1 } else { -1 }
     }
 }
 
@@ -83,7 +75,14 @@ impl Shape for Truth {
     }
 
     fn cmp_at(p: &Truth, q: &Truth, _t: &Frac) -> Ordering {
-        p.sign().cmp(&q.sign())
+        if p.holds == q.holds {
+            return Ordering::Equal;
+        }
+        if p.holds {
+            Ordering::Greater
+        } else {
+            Ordering::Less
+        }
     }
 
     fn rises(&self) -> Ordering {
