@@ -21,48 +21,39 @@ shrinkᵉ M p infinity = infinity
 -- minus M times the value
 pub opposite_stretch : (M : ℕ) (v : Extended) → opposite (stretchᵉ M v) ≡ stretchᵉ M (opposite v)
 opposite_stretch M minus_infinity = refl
-opposite_stretch M (finite x) = refl
-opposite_stretch M infinity = refl
+opposite_stretch M _ = refl
 
 -- the order stays
 pub le_stretchᵉ : (M : ℕ) (v w : Extended) → v ≤ᵉ w → stretchᵉ M v ≤ᵉ stretchᵉ M w
-le_stretchᵉ M minus_infinity w h = tt
 le_stretchᵉ M (finite x) minus_infinity h = h
 le_stretchᵉ M (finite x) (finite y) h = stretch_le M h
-le_stretchᵉ M (finite x) infinity h = tt
 le_stretchᵉ M infinity minus_infinity h = h
 le_stretchᵉ M infinity (finite y) h = h
-le_stretchᵉ M infinity infinity h = tt
+le_stretchᵉ M _ _ h = tt
 
 -- M times two values are ordered as the values
 pub lt_stretchᵉ : (M : ℕ) → 0 < M → (v w : Extended) → v <ᵉ w → stretchᵉ M v <ᵉ stretchᵉ M w
-lt_stretchᵉ M p minus_infinity minus_infinity h = h
 lt_stretchᵉ M p minus_infinity (finite y) h = tt
 lt_stretchᵉ M p minus_infinity infinity h = tt
-lt_stretchᵉ M p (finite x) minus_infinity h = h
 lt_stretchᵉ M p (finite x) (finite y) h = stretch_lt M p h
 lt_stretchᵉ M p (finite x) infinity h = tt
-lt_stretchᵉ M p infinity w h = h
+lt_stretchᵉ M p _ _ h = h
 
 -- and the other way
 pub le_backᵉ : (M : ℕ) → 0 < M → (v w : Extended) → stretchᵉ M v ≤ᵉ stretchᵉ M w → v ≤ᵉ w
-le_backᵉ M p minus_infinity w h = tt
 le_backᵉ M p (finite x) minus_infinity h = h
 le_backᵉ M p (finite x) (finite y) h = le_back M p h
-le_backᵉ M p (finite x) infinity h = tt
 le_backᵉ M p infinity minus_infinity h = h
 le_backᵉ M p infinity (finite y) h = h
-le_backᵉ M p infinity infinity h = tt
+le_backᵉ M p _ _ h = tt
 
 -- two values are ordered as M times the values
 pub lt_backᵉ : (M : ℕ) (v w : Extended) → stretchᵉ M v <ᵉ stretchᵉ M w → v <ᵉ w
-lt_backᵉ M minus_infinity minus_infinity h = h
 lt_backᵉ M minus_infinity (finite y) h = tt
 lt_backᵉ M minus_infinity infinity h = tt
-lt_backᵉ M (finite x) minus_infinity h = h
 lt_backᵉ M (finite x) (finite y) h = lt_back M h
 lt_backᵉ M (finite x) infinity h = tt
-lt_backᵉ M infinity w h = h
+lt_backᵉ M _ _ h = h
 
 -- two ways to write one value are, times M, one value
 pub same_stretchᵉ : (M : ℕ) (v w : Extended) → v ≈ᵉ w → stretchᵉ M v ≈ᵉ stretchᵉ M w

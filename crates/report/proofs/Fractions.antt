@@ -30,20 +30,3 @@ den_append num den = elim (den == 1) as (λ b. signed_decimal num ++ (if b then 
 pub fraction_parts : (negative : Bool) (size den : ℕ) → (negative ≡ true → size ≢ 0)
     → (sign_text negative ++ decimal size) ++ den_text den ≡ fraction_text (signed negative size) den
 fraction_parts negative size den h = ap (λ w. w ++ den_text den) (sign_append negative size h) ∙ den_append (signed negative size) den
-
--- a number below 0, and one that is not
-pub minus_text : (negative : Bool) (size : ℕ) → (negative ≡ true → size ≢ 0) → negative ≡ true
-    → codes "-" ++ decimal size ≡ signed_decimal (signed negative size)
-minus_text negative size h e = ap (λ b. sign_text b ++ decimal size) (sym e) ∙ sign_append negative size h
-
--- a number without sign is written by its digits
-pub plain_text : (negative : Bool) (size : ℕ) → (negative ≡ true → size ≢ 0) → negative ≡ false → decimal size ≡ signed_decimal (signed negative size)
-plain_text negative size h e = ap (λ b. sign_text b ++ decimal size) (sym e) ∙ sign_append negative size h
-
--- a fraction whose denominator is 1, and another
-pub whole_text : (num : ℤ) (den : ℕ) → den ≡ 1 → signed_decimal num ≡ fraction_text num den
-whole_text num den e = ap (fraction_text num) (sym e)
-
--- a fraction that is not whole is written with its denominator
-pub parted_text : (num : ℤ) (den : ℕ) → (den == 1) ≡ false → signed_decimal num ++ (codes "/" ++ decimal den) ≡ fraction_text num den
-parted_text num den e = ap (λ b. signed_decimal num ++ (if b then [] else codes "/" ++ decimal den)) (sym e) ∙ den_append num den

@@ -168,11 +168,6 @@ pub joined_say : (items lines : List Item) → IsItemLines items lines → SayMo
 joined_say [] lines j = λ i b t h. absurd h
 joined_say (e ∷ items) lines j = lines_say e e items lines (ends_as_itself e) j
 
--- the lines say nothing that the items do not say
-pub apart_say : (items lines : List Item) → IsItemLines items lines → SayMore lines items
-apart_say [] lines j = subst (λ zs. SayMore zs []) (sym j) (λ i b t h. h)
-apart_say (e ∷ items) lines j = items_say e e items lines (ends_as_itself e) j
-
 -- without a line the others say no more than all items but one of it
 pub record IsWithout (items others : List Item) : Type 0 where
   -- the items before

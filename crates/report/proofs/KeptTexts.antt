@@ -87,14 +87,12 @@ same_of_order Greater v w h e = absurd (let x : false ≡ true = e in cc)
 -- a value that is the same has the same text
 pub value_of_same : (digits : ℕ) (v w : Extended) (text : List ℕ) → v ≈ᵉ w → IsValueText digits v text → IsValueText digits w text
 value_of_same digits minus_infinity minus_infinity text e h = h
-value_of_same digits minus_infinity (finite w) text e h = absurd e.at_least
-value_of_same digits minus_infinity infinity text e h = absurd e.at_least
 value_of_same digits (finite v) minus_infinity text e h = absurd e.at_most
 value_of_same digits (finite v) (finite w) text e h = number_of_same digits v w text (same_of_finite e) h
-value_of_same digits (finite v) infinity text e h = absurd e.at_least
 value_of_same digits infinity minus_infinity text e h = absurd e.at_most
 value_of_same digits infinity (finite w) text e h = absurd e.at_most
 value_of_same digits infinity infinity text e h = h
+value_of_same digits _ _ text e h = absurd e.at_least
 
 -- a whole number that is not below 0, in ticks that are units
 whole_one : (w : ℤ) (r d : ℕ) (p : 0 < d) (n : ℕ) → w ≡ pos n → r < d → d ≡ 1 → mixed w r d p ≈ ratio (pos n *ℤ pos 1) 1 (lowest_whole (pos n)).positive

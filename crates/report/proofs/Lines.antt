@@ -118,11 +118,6 @@ module _ {P : Type 0} (shape : ShapeOf P) (json : Bool) (scale : Scale) (knots :
       some_then (AreEach E before) (IsEntry json true scale last) (each_exist E (entry_exists json false scale) before) (entry_exists json true scale last) in
       (all.0, record { before = before; last = last; described = d; written = all.1 })
 
-  -- nothing yet
-  pub entries_unwritten : (before : List Verdict) (last : Verdict) (old : List ℕ) → Described (before ++ last ∷ [])
-      → GrewInPart (AreEntries shape json scale knots) old old
-  entries_unwritten before last old d = let all = entries_text before last d in ([], all.0, all.1, sym (append-nil old))
-
 -- verdicts in lines are the lines of the signal
 pub entries_are_lines : {P : Type 0} (shape : ShapeOf P) (scale : Scale) (knots : List (Knot P)) (text : List ℕ) → AreEntries shape false scale knots text
     → AreSignalLines shape scale knots text

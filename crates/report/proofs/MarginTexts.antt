@@ -150,11 +150,9 @@ module _ (scale : Scale) where
 
 -- the last of a list
 pub last_of : {X : Type 0} (xs : List X) (i : ℕ) → suc i ≡ length xs → (x : X) × (slice_get xs i ≡ Some x) × (drop (suc i) xs ≡ [])
-last_of [] i e = absurd (omega (arith, e))
 last_of (x ∷ []) zero e = (x, refl, refl)
-last_of (x ∷ []) (suc i) e = absurd (omega (arith, e))
-last_of (x ∷ y ∷ xs) zero e = absurd (omega (arith, e))
 last_of (x ∷ y ∷ xs) (suc i) e = last_of (y ∷ xs) i (omega (arith, e))
+last_of _ _ e = absurd (omega (arith, e))
 
 module _ {P : Type 0} (shape : ShapeOf P) (scale : Scale) where
   -- the lines up to the knot at place n: with those after it they are the lines after that of the first knot

@@ -61,14 +61,12 @@ finite_back v w e = same_of_le e.at_most e.at_least
 -- an extended value has one
 pub value_once : (digits : ℕ) (v w : Extended) {x y : List ℕ} → v ≈ᵉ w → IsValueText digits v x → IsValueText digits w y → x ≡ y
 value_once digits minus_infinity minus_infinity e a b = a ∙ sym b
-value_once digits minus_infinity (finite w) e a b = absurd e.at_least
-value_once digits minus_infinity infinity e a b = absurd e.at_least
 value_once digits (finite v) minus_infinity e a b = absurd e.at_most
 value_once digits (finite v) (finite w) e a b = number_once digits (finite_back v w e) a b
-value_once digits (finite v) infinity e a b = absurd e.at_least
 value_once digits infinity minus_infinity e a b = absurd e.at_most
 value_once digits infinity (finite w) e a b = absurd e.at_most
 value_once digits infinity infinity e a b = a ∙ sym b
+value_once digits _ _ e a b = absurd e.at_least
 
 -- ---- verdicts
 

@@ -1,7 +1,7 @@
 -- Bytes that grew by the first part of a text.
 use Rattle.std.proofs.Common.{◌≡◌, ℕ, List, ◌++◌, Result, OnErr, sym, ◌∙◌, ap, append_assoc, append-nil, [], subst}
 use Rattle.rational.proofs.Lists.{on_err_anyway}
-use Rattle.report.specs.Appended.{Grew, GrewInPart}
+use Rattle.report.specs.Appended.{GrewInPart}
 
 -- the first part of one text
 pub part_of : {T E : Type 0} (r : Result T E) (whole old new first rest : List ℕ) → first ++ rest ≡ whole → new ≡ old ++ first
@@ -22,14 +22,6 @@ part_inside P r before middle after old mid new p e g =
     (sym (append_assoc (before ++ g.0) g.1 after) ∙ ap (λ w. w ++ after) (append_assoc before g.0 g.1 ∙ ap (λ w. before ++ w) g.2))
     (g.3 ∙ ap (λ w. w ++ g.0) e ∙ append_assoc old before g.0)
 
--- what grew from nothing is the text
-pub only_text : (P : List ℕ → Type 0) (old new : List ℕ) → old ≡ [] → Grew P old new → P new
-only_text P old new e (text, h, grew) = subst P (sym (grew ∙ ap (λ o. o ++ text) e)) h
-
 -- nothing is the first part of each text
 pub unwritten : (P : List ℕ → Type 0) (old text : List ℕ) → P text → GrewInPart P old old
 unwritten P old text h = ([], text, h, sym (append-nil old))
-
--- the first part of a text of this kind
-pub part_kind : (P : List ℕ → Type 0) (whole old new : List ℕ) → P whole → GrewInPart (λ w. w ≡ whole) old new → GrewInPart P old new
-part_kind P whole old new h (first, rest, e, grew) = (first, rest, subst P (sym e) h, grew)

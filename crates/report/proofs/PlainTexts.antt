@@ -43,17 +43,8 @@ pub plain_join : (s t : List ℕ) → Plain s → Plain t → Plain (s ++ t)
 plain_join s t h k = flat_map-append escape_of s t ∙ ap (λ w. w ++ flat_map escape_of t) h ∙ ap (λ w. s ++ w) k
 
 glyph_plain : (d : ℕ) → d < 10 → escape_of (digit_glyph false d) ≡ digit_glyph false d ∷ []
-glyph_plain zero h = refl
-glyph_plain (suc zero) h = refl
-glyph_plain (suc (suc zero)) h = refl
-glyph_plain (suc (suc (suc zero))) h = refl
-glyph_plain (suc (suc (suc (suc zero)))) h = refl
-glyph_plain (suc (suc (suc (suc (suc zero))))) h = refl
-glyph_plain (suc (suc (suc (suc (suc (suc zero)))))) h = refl
-glyph_plain (suc (suc (suc (suc (suc (suc (suc zero))))))) h = refl
-glyph_plain (suc (suc (suc (suc (suc (suc (suc (suc zero)))))))) h = refl
-glyph_plain (suc (suc (suc (suc (suc (suc (suc (suc (suc zero))))))))) h = refl
 glyph_plain (suc (suc (suc (suc (suc (suc (suc (suc (suc (suc d)))))))))) h = absurd (omega arith)
+glyph_plain _ h = refl
 
 glyph_on : (d : ℕ) (acc : List ℕ) → d < 10 → Plain acc → Plain (digit_glyph false d ∷ acc)
 glyph_on d acc h p = ap (λ w. w ++ flat_map escape_of acc) (glyph_plain d h) ∙ ap (λ w. digit_glyph false d ∷ w) p

@@ -3,7 +3,7 @@ use Rattle.std.proofs.Common.{◌≡◌, ◌≢◌, ◌⊎◌, inl, inr, Bool, t
 use Rattle.std.proofs.lemmas.Bool.{true≢false}
 use Rattle.rational.specs.Time.{Rational, ◌≤ʳ◌, ◌<ʳ◌, ◌≈◌, Interval, IsIn, IsNotEmpty, Precedes, Touch, closed}
 use Rattle.rational.specs.Windows.{Function}
-use Rattle.rational.proofs.Order.{le_or_lt, lt_of_lt_of_le, lt_of_le_of_lt, lt_trans, same_of_le, le_of_lt, le_refl, same_refl, same_trans}
+use Rattle.rational.proofs.Order.{le_or_lt, lt_of_lt_of_le, lt_of_le_of_lt, lt_trans, same_of_le, le_of_lt, le_refl, same_refl}
 use Rattle.rational.proofs.TimeLemmas.{not_empty_of_precedes, precedes_of_room, precedes_of_lt}
 use Rattle.frac128.specs.Value.{value}
 use Rattle.frac128.specs.Spans.{interval}
@@ -123,12 +123,6 @@ module _ (F : Function) where
         (record { time = rw (c.from, g.from, g.closes.to) (same_refl (value at)); once = rw (c.from_in, g.from_in, g.closes.to_in) (other_truth at_in) })
         (rw (g.closes.holds, c.holds, g.holds) g.other) told;
   }
-
-  -- an end may be written by another pair
-  goes_on_to : (from to to' : Rational) (v : Verdict) (verdicts : List Verdict) → to ≈ to'
-      → GoesOnBy F (closed from to) v verdicts → GoesOnBy F (closed from to') v verdicts
-  goes_on_to from to to' v [] e g = record { time = same_trans g.time e; inside = g.inside }
-  goes_on_to from to to' v (w ∷ verdicts) e g = (g.0, g.1, g.2, goes_on_to from to to' w verdicts e g.3)
 
   -- the last span ends where it is told
   pub spelled_end : (start : Rational) (at : Frac) (verdicts : List Verdict) (o : OpenSpan) (w : Verdict)

@@ -32,8 +32,6 @@ module _ {P : Type 0} (shape : ShapeOf P) where
   -- the last knot
   pub last_is : (ks : List (Knot P)) (i : ℕ) (k : Knot P) → suc i ≡ length ks → slice_get ks i ≡ Some k
       → last_knot (knots_of shape ks).first (knots_of shape ks).pieces ≡ plain_knot shape k
-  last_is [] i k e h = absurd (omega (arith, e))
   last_is (x ∷ []) zero k e h = ap (plain_knot shape) (same_Some _ _ h)
-  last_is (x ∷ []) (suc i) k e h = absurd (omega (arith, e))
-  last_is (x ∷ y ∷ ks) zero k e h = absurd (omega (arith, e))
   last_is (x ∷ y ∷ ks) (suc i) k e h = last_is (y ∷ ks) i k (omega (arith, e)) h
+  last_is _ _ k e h = absurd (omega (arith, e))

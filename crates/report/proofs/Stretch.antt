@@ -3,9 +3,8 @@ use Rattle.std.proofs.Common.{◌≡◌, ℕ, zero, suc, ◌+◌, ◌*◌, ◌<�
 use Rattle.std.specs.Prelude.{neg_ℤ, ◌*ℤ◌}
 use Rattle.std.proofs.Math.Nat.{mul-pos, mul-le-mul_left, le_of_mul-le-mul_left, mul-lt-mul_of_pos_left, lt_of_mul-lt-mul_left}
 use Rattle.rational.specs.Rational.{part_above, part_below}
-use Rattle.rational.specs.Time.{Rational, ◌≤ʳ◌, ◌<ʳ◌, ◌≈◌, Within, Precedes, later, whole, times, add, less}
+use Rattle.rational.specs.Time.{Rational, ◌≤ʳ◌, ◌<ʳ◌, ◌≈◌, Within, Precedes, later, whole, times, add}
 use Rattle.rational.proofs.Order.{same_of_le, le_of_same, ge_of_same}
-use Rattle.rational.proofs.TimeLemmas.{less_in, less_out}
 use Rattle.stl_syntax.specs.Truth.{compares}
 use Rattle.stl_syntax.specs.declared.rel.Rel.{Rel}
 use Rattle.stl_syntax.specs.declared.rel.Rel.TheVariants.{AtLeast, Above, AtMost, Below}
@@ -71,18 +70,6 @@ within_stretched K h = record { above = stretch_le K h.above; below = stretch_le
 -- what lies within two numbers when all are taken K times does so itself
 pub within_back : {t u v : Rational} (K : ℕ) → 0 < K → Within (stretch K t) (stretch K u) (stretch K v) → Within t u v
 within_back K p h = record { above = le_back K p h.above; below = le_back K p h.below }
-
--- the test of the order
-pub less_stretch : (K : ℕ) → 0 < K → (t u : Rational) → less (stretch K t) (stretch K u) ≡ less t u
-less_stretch K p t u = by_test (less t u) refl
-  where
-    by_test : (b : Bool) → less t u ≡ b → less (stretch K t) (stretch K u) ≡ less t u
-    by_test true e = rw e (less_in (stretch K t) (stretch K u) (stretch_lt K p (less_out t u e)))
-    by_test false e = rw e (by_stretched (less (stretch K t) (stretch K u)) refl)
-      where
-        by_stretched : (b : Bool) → less (stretch K t) (stretch K u) ≡ b → b ≡ false
-        by_stretched false f = refl
-        by_stretched true f = absurd (let g = less_in t u (lt_back K (less_out (stretch K t) (stretch K u) f)) in cc)
 
 -- sums and products
 pub add_stretch : (K : ℕ) (a b : Rational) → add (stretch K a) (stretch K b) ≈ stretch K (add a b)

@@ -37,8 +37,7 @@ pos_of_dvd (suc k) m p h = omega arith
 
 nat_abs-signed : (negative : Bool) (n : ℕ) → nat_abs (signed negative n) ≡ n
 nat_abs-signed true zero = refl
-nat_abs-signed true (suc n) = refl
-nat_abs-signed false n = refl
+nat_abs-signed _ _ = refl
 
 -- a size and a power of ten without their common factor, and the denominator times what is left of the power, have no common factor
 lowest_in_units : {size d t : ℕ} (negative : Bool) (n q g : ℕ) → 0 < t → 0 < q → IsLowest (signed negative size) d → IsGcd size t g

@@ -1,5 +1,5 @@
 -- How the text of items grows, line by line, and what it is a first part of where memory is wanting.
-use Rattle.std.proofs.Common.{◌≡◌, ℕ, ◌+◌, ◌<◌, ◌≤◌, List, [], ◌∷◌, ◌++◌, length, drop, append-nil, append_assoc, refl, sym, ap, ◌∙◌, subst, arith}
+use Rattle.std.proofs.Common.{◌≡◌, ℕ, ◌+◌, ◌<◌, ◌≤◌, List, [], ◌∷◌, ◌++◌, length, drop, append-nil, append_assoc, refl, sym, ap, ◌∙◌, subst}
 use Rattle.std.proofs.lemmas.List.{drop_all, drop_more}
 use Rattle.std.proofs.lemmas.List.Elements.{All-drop}
 use Rattle.std.specs.Prelude.{All, slice_get, slice_index_or}
@@ -25,10 +25,6 @@ pub record AreWrittenTo (scale : Scale) (f : Formula) (items : List Item) (old :
   pub lines : (others : List Item) → IsItemLines (drop i items) others → IsItemLines items (before ++ others)
   -- the text has grown by them
   pub grew : Grew (AreItemLines scale f before) old text
-
--- at first there are none
-pub written_none : (scale : Scale) (f : Formula) (items : List Item) (old : List ℕ) → AreWrittenTo scale f items old 0 old
-written_none scale f items old = record { within = omega arith; before = []; lines = λ others h. h; grew = ([], refl, sym (append-nil old)) }
 
 -- one line more
 pub written_more : {scale : Scale} {f : Formula} {items : List Item} {old : List ℕ} {i : ℕ} {text new : List ℕ} (n : ℕ) (line : Item)

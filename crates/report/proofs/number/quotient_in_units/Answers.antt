@@ -12,9 +12,6 @@ use Rattle.report.proofs.number.quotient_in_units.Goals.{After-from-2}
 tens_is : (c : After-from-2) → c.from-2.result ≡ 10 ^ c.args.digits
 tens_is c = c.from-2.ensures ∙ c.pow-tens.ensures ∙ ap (λ n. 10 ^ n) c.from.ensures
 
-den_is : (c : After-from-2) → c.unsigned_abs.result ≡ unsigned_abs c.args.q.now.den
-den_is c = omega (arith, ints, c.unsigned_abs.ensures.value)
-
 den_pos : (c : After-from-2) → 0 < c.unsigned_abs.result
 den_pos c = omega (arith, ints, c.unsigned_abs.ensures.value, c.args.q.now.positive)
 
