@@ -1,57 +1,15 @@
 -- The formula that is judged on a generated trace: its text is that of this formula, which looks 16 ticks ahead.
-use Rattle.std.proofs.Common.{◌≡◌, ℕ, true, List, [], ◌∷◌, ◌++◌, refl}
+use Rattle.std.proofs.Common.{ℕ, true, List, [], ◌∷◌, ◌++◌, refl}
 use Rattle.std.specs.Prelude.{codes}
 use Rattle.stl_syntax.specs.Formula as formula
-use Rattle.stl_syntax.specs.Formula.{horizon, root}
-use Rattle.stl_syntax.specs.Scaling.{scaled}
 use Rattle.stl_syntax.specs.declared.rel.Rel.{Rel}
 use Rattle.stl_syntax.specs.declared.rel.Rel.TheVariants.{AtLeast, Below}
 use Rattle.stl_syntax.specs.declared.node.Node.TheVariants.{Atom as Leaf, Not, Eventually, Always}
-use Rattle.stl_grammar.specs.Tokens.{
-  Token,
-  Lexes,
-  word,
-  number,
-  relation,
-  open_paren,
-  close_paren,
-  open_bracket,
-  close_bracket,
-  comma,
-  nothing,
-  blank as skip,
-  token,
-  a_word,
-  an_integer,
-  at_least,
-  below,
-  paren,
-  paren_end,
-  bracket,
-  bracket_end,
-  a_comma,
-}
-use Rattle.stl_grammar.specs.Grammar.{
-  FormulaText,
-  IsFormula,
-  IsOperand,
-  disjunct,
-  implies,
-  conjunct,
-  timed,
-  and,
-  operand,
-  since,
-  not,
-  eventually,
-  always,
-  parens,
-  atom,
-  first,
-  bound,
-  inside,
-  bounded,
-}
+use Rattle.stl_grammar.specs.Tokens.{Token, Lexes, word, number, relation, open_paren, close_paren, open_bracket, close_bracket}
+use Rattle.stl_grammar.specs.Tokens.{comma, nothing, blank as skip, token, a_word, an_integer, at_least, below, paren}
+use Rattle.stl_grammar.specs.Tokens.{paren_end, bracket, bracket_end, a_comma}
+use Rattle.stl_grammar.specs.Grammar.{FormulaText, IsFormula, IsOperand, disjunct, implies, conjunct, timed, and, operand}
+use Rattle.stl_grammar.specs.Grammar.{since, not, eventually, always, parens, atom, first, bound, inside, bounded}
 use Rattle.stl_grammar.specs.Grammar.{name as term_name, none as no_terms, plain as no_sign}
 use Rattle.workload.specs.Generated.{ticks}
 use Rattle.workload.specs.Judged.{judged, compared, ahead_nodes, behind_nodes, judged_formula}
@@ -216,8 +174,3 @@ whole =
 -- the text is that of the formula
 pub judged_text : FormulaText judged judged_formula
 judged_text = record { tokens = _; lexed = lexed_7; scale = refl; parsed = whole }
-
--- over the ticks of the trace it looks 16 ticks ahead
-pub looks_ahead : horizon (root (scaled judged_formula ticks).nodes) ≡ 16
-unfolding formula.subformula
-looks_ahead = refl

@@ -1,40 +1,10 @@
 -- How many lines the texts of verdicts have: each verdict one.
-use Rattle.std.proofs.Common.{
-  ◌≡◌,
-  ◌⊎◌,
-  inl,
-  inr,
-  ℕ,
-  zero,
-  suc,
-  ◌+◌,
-  ◌/◌,
-  ◌%◌,
-  ◌<◌,
-  Bool,
-  true,
-  false,
-  if◌then◌else◌,
-  List,
-  [],
-  ◌∷◌,
-  ◌++◌,
-  length,
-  ℤ,
-  pos,
-  negsuc,
-  refl,
-  sym,
-  ap,
-  ◌∙◌,
-  arith,
-}
+use Rattle.std.proofs.Common.{◌≡◌, ◌⊎◌, inl, inr, ℕ, zero, suc, ◌+◌, ◌/◌, ◌%◌, ◌<◌, Bool, true, false, if◌then◌else◌, List, []}
+use Rattle.std.proofs.Common.{◌∷◌, ◌++◌, length, ℤ, pos, negsuc, refl, sym, ap, ◌∙◌, arith}
 use Rattle.std.specs.Prelude.{decimal, codes, ◌==◌}
 use Rattle.std.specs.Fmt.{signed_decimal, digits, digits_onto, digit_glyph}
 use Rattle.std.proofs.lemmas.Bool.{cases_Bool, ne_eqb, lt-ltb}
-use Rattle.stl_syntax.specs.Texts.{fraction_text, IsNumberText, IsSpanText, IsVerdictLine, AreVerdictLines, IsStartLine, start_line, bool_text, newline}
-use Rattle.stl_syntax.specs.Formula.{Subformula}
-use Rattle.stl_syntax.specs.Trace.{Trace}
+use Rattle.stl_syntax.specs.Texts.{fraction_text, IsNumberText, IsSpanText, IsVerdictLine, AreVerdictLines, bool_text, newline}
 use Rattle.stl_syntax.specs.declared.scale.Scale.{Scale}
 use Rattle.stl_syntax.specs.declared.items.Verdict.{Verdict}
 use Rattle.frac128.specs.declared.span.Span.{Span}
@@ -143,11 +113,3 @@ count_verdicts scale (v ∷ vs) text (here, later, first, others, is) =
     let y = count_verdict scale v here first in
     let z = count_verdicts scale vs later others in
     ap line_count is ∙ count_join here later ∙ omega (arith, y, z)
-
--- the start has one
-pub count_start : (p : Subformula) (tr : Trace) (text : List ℕ) → IsStartLine p tr text → line_count text ≡ 1
-count_start p tr text (holds, truth, is) = ap line_count is ∙ by_truth holds
-  where
-    by_truth : (b : Bool) → line_count (start_line b) ≡ 1
-    by_truth true = refl
-    by_truth false = refl

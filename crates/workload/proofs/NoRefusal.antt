@@ -18,8 +18,8 @@ use Rattle.stl_syntax.specs.declared.rel.Rel.{Rel}
 use Rattle.stl_syntax.specs.declared.rel.Rel.TheVariants.{AtLeast, Below}
 use Rattle.stl_syntax.specs.declared.node.Node.TheVariants.{Atom as Leaf, Not, And, Implies, Eventually, Always, Since}
 use Rattle.stl_syntax.proofs.TreeOrder.{tree_order, tree_root}
-use Rattle.stl_grammar.specs.Tokens.{Token, word, number, IsToken, a_word, an_integer, a_decimal, at_least, at_most, above}
-use Rattle.stl_grammar.specs.Tokens.{below, paren, paren_end, bracket, bracket_end, a_comma, a_star, a_plus, a_minus}
+use Rattle.stl_grammar.specs.Tokens.{Token, word, number, IsToken, a_word, an_integer, a_decimal}
+use Rattle.stl_grammar.specs.Tokens.{paren_end}
 use Rattle.stl_grammar.specs.FormulaRefusals.{Pending, a_paren, an_operator, an_implies, after_operand, after_paren}
 use Rattle.stl_grammar.specs.FormulaRefusals.{constants, prefixes, pending_after, pending, ends_constant, RefusedAt}
 use Rattle.stl_grammar.specs.FormulaRefusals.{TokenFault, blank, bad_byte, here, later, at_end, IsFormulaFault}
@@ -59,10 +59,8 @@ heavy [] = omega arith
 heavy (c ∷ x) = let h = heavy x in let s = some_weight c in omega (arith, h, s)
 
 shorter : (ps : List Pending) → length (after_operand ps) ≤ length ps
-shorter [] = omega arith
 shorter (an_operator ∷ ps) = let h = shorter ps in omega (arith, h)
-shorter (a_paren ∷ ps) = omega arith
-shorter (an_implies ∷ ps) = omega arith
+shorter _ = omega arith
 
 closed_shorter : (ps : List Pending) → length (after_paren ps) ≤ length ps
 closed_shorter [] = omega arith
@@ -116,18 +114,8 @@ grown constant ps (an_integer {c = c} {digits = digits} all stops ends) =
 grown constant ps (a_decimal c digits d decimals ds es stops) =
     let h = number_grown constant (decimal_value 0 ((c ∷ digits) ++ without_zeros (d ∷ decimals))) (length (without_zeros (d ∷ decimals))) ps in
     omega (arith, h)
-grown constant ps at_least = omega arith
-grown constant ps at_most = omega arith
-grown constant ps (above stops) = omega arith
-grown constant ps (below stops) = omega arith
-grown constant ps paren = omega arith
 grown constant ps paren_end = let h = closed_shorter ps in omega (arith, h)
-grown constant ps bracket = omega arith
-grown constant ps bracket_end = omega arith
-grown constant ps a_comma = omega arith
-grown constant ps a_star = omega arith
-grown constant ps a_plus = omega arith
-grown constant ps a_minus = omega arith
+grown constant ps _ = omega arith
 
 -- ---- a text that is too deep weighs much
 

@@ -47,10 +47,6 @@ module _ (begin h : ℕ) (rows : List Row) (all : List Verdict) where
   abbrev pub HasWalked : ℕ → ℕ → ℕ → Type 0
   HasWalked i at lines = (n : ℕ) (later : List Verdict) → Walks begin h (drop i rows) (drop at all) n later → Walks begin h rows all (lines + n) later
 
-  -- at first none was
-  pub walked_none : HasWalked 0 0 0
-  walked_none n later w = let e : n ≡ 0 + n = omega arith in subst (λ m. Walks begin h rows all m later) e w
-
   -- a row that answers nothing
   pub walked_early : (i at lines : ℕ) (d : Row) → i < length rows → (get_or rows i d).time < begin + h → HasWalked i at lines → HasWalked (i + 1) at lines
   walked_early i at lines d l soon before n later w =
