@@ -41,7 +41,7 @@ pub(crate) fn truth_at(rel: Rel, value: i64) -> Truth
 }
 
 /// The time inside the gap at which a sum that changes its sign is 0.
-#[inline(never)]
+#[inline(always)]
 pub(crate) fn crossing(gap: Gap) -> Frac
     requires { Passes gap }
     ensures zero { at (along gap) (value result) ≈ whole (pos 0) }
