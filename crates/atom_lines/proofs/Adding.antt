@@ -23,12 +23,6 @@ add_term terms i d first second sum total h e so_far on =
 pub size_more : (sum p more : ℤ) (i n : ℕ) → nat_abs sum ≤ i * n → nat_abs p ≤ n → more ≡ sum +ℤ p → nat_abs more ≤ (i + 1) * n
 size_more sum p more i n h k e = omega (arith, ints, h, k, e)
 
--- how far a sum over two rows lies from that over one
-pub rise_small : (a : BoundAtom) (first second : List ℤ) → nat_abs (sum_over a.terms.items first first) ≤ 2 ^ 30
-    → nat_abs (sum_over a.terms.items first second) ≤ 2 ^ 30
-    → nat_abs (reach a first second -ℤ reach a first first) ≤ 2 ^ 31
-rise_small a first second h k = omega (arith, ints, h, k)
-
 -- how far a sum lies from the constant is small
 pub reach_small : (a : BoundAtom) (first second : List ℤ) → nat_abs a.limit ≤ 1073741824
     → nat_abs (sum_over a.terms.items first second) ≤ 2 ^ 30 → nat_abs (reach a first second) ≤ 2 ^ 31

@@ -10,7 +10,7 @@ use Rattle.rational.proofs.Lists.{slice_get-append_front, slice_get-append_here}
 use Rattle.stl_syntax.specs.Trace.{Column, Header}
 use Rattle.stl_syntax.specs.Formula.{Formula}
 use Rattle.stl_syntax.specs.Characters.{is_among}
-use Rattle.stl_syntax.specs.Binding.{HasColumn, HasColumns}
+use Rattle.stl_syntax.specs.Binding.{HasColumns}
 use Rattle.stl_syntax.specs.declared.atom.Atom.{Atom}
 use Rattle.stl_syntax.specs.declared.node.Node.{Node}
 use Rattle.stl_syntax.specs.declared.node.Node.TheVariants.{Atom as Leaf}
@@ -20,7 +20,7 @@ use Rattle.atom_lines.specs.declared.bound_atom.BoundAtom.{BoundAtom}
 use Rattle.atom_lines.specs.declared.binding.BindFault.{BindFault}
 use Rattle.atom_lines.specs.declared.binding.BindFault.TheVariants.{UnknownColumn, Memory}
 use Rattle.atom_lines.specs.Binding.{IsColumn, IsTermBinding, AreTermBindings, IsAtomBinding, IsBound}
-use Rattle.atom_lines.specs.Faults.{LacksColumn, IsFirstLacking, IsFaultAt, IsBindFault, IsNodeBinding, AreNodeBindings}
+use Rattle.atom_lines.specs.Faults.{LacksColumn, IsFaultAt, IsBindFault, IsNodeBinding, AreNodeBindings}
 
 neither : (a b : Bool) → (a ≡ true → ⊥) → (b ≡ true → ⊥) → (a || b) ≡ true → ⊥
 neither true b h k e = h refl
@@ -87,11 +87,6 @@ one_more P i h x j l = by_place place
     by_place : (j < i) ⊎ (j ≡ i) → P j
     by_place (inl k) = h j k
     by_place (inr e) = subst P (sym e) x
-
--- the first term without a column
-pub first_lacking : (columns : List Column) (a : Atom) (i : ℕ) (t : Term) → slice_get a.terms i ≡ Some t
-    → LacksColumn columns t.name → All (HasColumn columns) (take i a.terms) → IsFirstLacking columns a i
-first_lacking columns a i t e lacks before = record { term = t; at = e; lacks = lacks; before = before }
 
 module _ (columns : List Column) (f : Formula) where
   -- an atom's first term without a column is the formula's, where the nodes before have theirs

@@ -25,18 +25,11 @@ holds_for Below Equal = false
 holds_for Below Greater = false
 
 by_sign : (rel : Rel) (o : Ordering) (y : Rational) → IsOrder o y (whole (pos 0)) → compares rel y ≡ holds_for rel o
-by_sign AtLeast Less y h = let k = h.lt in grind arith
 by_sign AtLeast Equal y h = let k = h.same in grind arith
-by_sign AtLeast Greater y h = let k = h.lt in grind arith
-by_sign Above Less y h = let k = h.lt in grind arith
 by_sign Above Equal y h = let k = h.same in grind arith
-by_sign Above Greater y h = let k = h.lt in grind arith
-by_sign AtMost Less y h = let k = h.lt in grind arith
 by_sign AtMost Equal y h = let k = h.same in grind arith
-by_sign AtMost Greater y h = let k = h.lt in grind arith
-by_sign Below Less y h = let k = h.lt in grind arith
 by_sign Below Equal y h = let k = h.same in grind arith
-by_sign Below Greater y h = let k = h.lt in grind arith
+by_sign _ _ y h = let k = h.lt in grind arith
 
 -- two numbers of one sign compare alike
 pub compare_alike : (rel : Rel) (o : Ordering) (y z : Rational) → IsOrder o y (whole (pos 0)) → IsOrder o z (whole (pos 0)) → compares rel y ≡ compares rel z
