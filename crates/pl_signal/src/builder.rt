@@ -13,7 +13,7 @@ ghost use Rattle.pl_signal.specs.Joining.{IsGapFault, Joins};
 ghost use Rattle.pl_signal.specs.declared.faults.OpFault.TheVariants as F;
 
 use crate::faults::fault_of;
-use crate::joining::{Pieces, pieces_over, whole_over};
+use crate::joining::{Pieces, pieces_over, takes_first};
 use crate::{Knot, OpFault, Side, Signal, WidePair};
 use frac128::{Frac, Memory};
 use std::alloc::Global;
@@ -149,10 +149,11 @@ impl<P: Shape> Builder<P> {
             (λ pair. (from : Frac) × (value from ≡ stop self.old) × IsGapFault P.Shape p.now q.now from to.now (F.Wide pair))) }
     {
         let from = self.stop();
-        if let Some(taken) = whole_over(side, p, q, &from, to) {
-            return self.go_along(taken, to, point);
+        match takes_first(side, p, q, &from, to) {
+            Some(true) => self.go_along(p, to, point),
+            Some(false) => self.go_along(q, to, point),
+            None => self.join_pieces(side, p, q, to, point, fault),
         }
-        self.join_pieces(side, p, q, to, point, fault)
     }
 
     /// The same, with a crossing or not.

@@ -1,5 +1,5 @@
 //! The least and the greatest of two shapes over an open gap.
-ghost use Rattle.std.specs.Prelude.{◌≡◌, ◌≢◌, ◌⊎◌, ◌^◌, Err, IfSome, MatchResult};
+ghost use Rattle.std.specs.Prelude.{◌≡◌, ◌≢◌, ◌⊎◌, ◌^◌, if◌then◌else◌, Err, IfSome, MatchResult};
 ghost use Rattle.rational.specs.Rational.{IsWithin};
 ghost use Rattle.rational.specs.Time.{◌<ʳ◌};
 ghost use Rattle.rational.specs.Extended.{value_at};
@@ -88,31 +88,32 @@ pub fn crossing<P: Shape>(p: &P, q: &P, from: &Frac, to: &Frac) -> Result<Frac, 
     }
 }
 
-/// The one of the two that is taken at each time between `from` and `to`, where it is one.
+/// Whether the first of the two is taken at each time between `from` and `to`, or the second, where it is one.
 #[inline(always)]
-pub(crate) fn whole_over<'a, P: Shape>(
+pub(crate) fn takes_first<P: Shape>(
     side: Side,
-    p: &'a P,
-    q: &'a P,
+    p: &P,
+    q: &P,
     from: &Frac,
     to: &Frac,
-) -> Option<&'a P>
+) -> Option<bool>
     requires from_within { IsWithin (2 ^ 34) (value from.now) }
     requires to_within { IsWithin (2 ^ 34) (value to.now) }
-    ensures { IfSome result (λ taken. IsPieces P.Shape side p.now q.now (value from.now) (value to.now) (Whole taken.now)) }
+    ensures { IfSome result (λ first. IsPieces P.Shape side p.now q.now (value from.now) (value to.now)
+        (Whole (if first then p.now else q.now))) }
 {
     match favour(side, p, q, from) {
         Ordering::Less => match favour(side, p, q, to) {
             Ordering::Greater => None,
-            _ => Some(p),
+            _ => Some(true),
         },
         Ordering::Equal => match favour(side, p, q, to) {
-            Ordering::Greater => Some(q),
-            _ => Some(p),
+            Ordering::Greater => Some(false),
+            _ => Some(true),
         },
         Ordering::Greater => match favour(side, p, q, to) {
             Ordering::Less => None,
-            _ => Some(q),
+            _ => Some(false),
         },
     }
 }

@@ -2,7 +2,7 @@ use Rattle.rational.specs.Extended.{value_at}
 use Rattle.frac128.specs.Value.{value}
 use Rattle.pl_signal.proofs.Choices.{taken_first, taken_second, taken_of_less, taken_of_equal, taken_of_greater}
 use Rattle.pl_signal.proofs.JoiningLemmas.{whole_first, whole_second}
-use Rattle.pl_signal.proofs.joining.whole_over.Goals as goal
+use Rattle.pl_signal.proofs.joining.takes_first.Goals as goal
 
 pub returns-in_default : goal.returns-in_default
 returns-in_default g c =
