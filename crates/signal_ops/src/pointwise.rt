@@ -64,6 +64,7 @@ pub fn upper<P: Shape>(a: &Signal<P>, b: &Signal<P>) -> Result<Signal<P>, OpFaul
 }
 
 /// What is chosen of the two at each time, in one pass over both lists of knots.
+#[inline(always)]
 fn combined<P: Shape>(side: Side, a: &Signal<P>, b: &Signal<P>) -> Result<Signal<P>, OpFault<P>>
     requires left { IsLimited P.Shape a.now }
     requires right { IsLimited P.Shape b.now }
