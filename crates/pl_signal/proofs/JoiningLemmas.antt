@@ -1,5 +1,6 @@
 -- The least or the greatest of two shapes over a gap, and a signal that goes on with it.
-use Rattle.std.proofs.Common.{◌≡◌, ◌⊎◌, inl, inr, List, refl, sym, ◌∙◌, subst}
+use Rattle.std.proofs.Common.{◌≡◌, ◌⊎◌, inl, inr, Bool, true, false, List, refl, sym, ◌∙◌, subst}
+use Rattle.std.proofs.lemmas.Bool.{false≢true}
 use Rattle.rational.specs.Rational.{Rational, ◌<ʳ◌, ◌≈◌}
 use Rattle.rational.specs.Extended.{Extended, Affine, value_at, Passes}
 use Rattle.rational.specs.Affine.{MeetAlone}
@@ -11,12 +12,11 @@ use Rattle.frac128.specs.declared.frac.Frac.{Frac}
 use Rattle.value_laws.specs.Members.{ShapeOf}
 use Rattle.pl_signal.specs.declared.knot.Knot.{Knot}
 use Rattle.pl_signal.specs.declared.joining.Side.{Side}
-use Rattle.pl_signal.specs.declared.joining.Pieces.{Pieces}
-use Rattle.pl_signal.specs.declared.joining.Pieces.TheVariants.{Whole, Split}
 use Rattle.pl_signal.specs.Knots.{stop, HasShape, IsWorth}
-use Rattle.pl_signal.specs.Building.{Continues, GoesOn, MiddleIsBetween}
-use Rattle.pl_signal.specs.Joining.{IsChosen, IsTakenAt, IsPieces, Joins}
-use Rattle.pl_signal.proofs.Choices.{IsTaken, chosen_first, chosen_second, chosen_same, chosen_one, taken_between, taken_same}
+use Rattle.pl_signal.specs.Building.{GoesOn}
+use Rattle.pl_signal.specs.Joining.{IsAllOver, IsChosen, IsSplit, IsTakenAt, IsTurn, Joins, TurnsOver}
+use Rattle.pl_signal.proofs.Choices.{IsTaken, chosen_first, chosen_second, chosen_same, chosen_one, taken_between, taken_of_greater, taken_of_less}
+use Rattle.pl_signal.proofs.Choices.{taken_same, turned_back, turned_over}
 
 module _ {P : Type 0} (shape : ShapeOf P) where
   -- a value is of the old signal, of the gap or of its end
@@ -36,7 +36,7 @@ module _ {P : Type 0} (shape : ShapeOf P) where
   value_taken b p q s t v h c = chosen_one b (value_at (shape.function p) t) (value_at (shape.function q) t) v (value_at (shape.function s) t) c h
 
   -- one shape serves the whole gap
-  joins_whole : (b : Side) (old new : List (Knot P)) (p q s point : P) (to : Frac) → IsPieces shape b p q (stop old) (value to) (Whole s)
+  joins_whole : (b : Side) (old new : List (Knot P)) (p q s point : P) (to : Frac) → IsAllOver shape b p q (stop old) (value to) s
       → GoesOn shape old s to point new → Joins shape b old p q to point new
   joins_whole b old new p q s point to is on = record {
     signal = on.signal;
@@ -63,9 +63,9 @@ module _ {P : Type 0} (shape : ShapeOf P) where
       by_shape r (inr (inl e)) = elim is.0 [ inl f ↦ inr (inl (e ∙ f)) | inr f ↦ inr (inr (inl (e ∙ f))) ]
       by_shape r (inr (inr e)) = inr (inr (inr e))
 
-  -- one shape up to a time, and the other from there on
-  joins_split : {half new : List (Knot P)} {first second : P} {middle : Frac} (b : Side) (old : List (Knot P)) (p q point : P) (to : Frac)
-      → IsPieces shape b p q (stop old) (value to) (Split first middle second)
+  -- a signal that goes on with the one up to a time, and then with the other, joins what is chosen
+  pub joins_split : {half new : List (Knot P)} {first second : P} {middle : Frac} (b : Side) (old : List (Knot P)) (p q point : P) (to : Frac)
+      → IsSplit shape b p q (stop old) (value to) first (value middle) second
       → GoesOn shape old first middle first half → GoesOn shape half second to point new → Joins shape b old p q to point new
   joins_split {half} {new} {first} {second} {middle} b old p q point to is on on' = record {
     signal = on'.signal;
@@ -124,22 +124,10 @@ module _ {P : Type 0} (shape : ShapeOf P) where
       → GoesOn shape old s to point new → Joins shape b old p q to point new
   joins_alone b old new p q s point to one is on = joins_whole b old new p q s point to (one, is) on
 
-  -- a signal that goes on with the pieces joins what is chosen
-  pub joins : (b : Side) (old new : List (Knot P)) (p q point : P) (to : Frac) (pieces : Pieces P) → IsPieces shape b p q (stop old) (value to) pieces
-      → Continues shape old pieces to point new
-      → Joins shape b old p q to point new
-  joins b old new p q point to (Whole s) is on = joins_whole b old new p q s point to is on
-  joins b old new p q point to (Split first middle second) is (half, on, on') = joins_split b old p q point to is on on'
-
-  -- the middle of pieces lies on the gap
-  pub middle_between : (b : Side) (p q : P) (from to : Rational) (pieces : Pieces P) → IsPieces shape b p q from to pieces → MiddleIsBetween pieces from to
-  middle_between b p q from to (Whole s) is = tt
-  middle_between b p q from to (Split first middle second) is = (is.after, is.before)
-
   -- the four ways over a gap
   pub whole_first : (b : Side) (p q : P) (from to : Rational) → IsTaken b (value_at (shape.function p) from) (value_at (shape.function q) from)
       → IsTaken b (value_at (shape.function p) to) (value_at (shape.function q) to)
-      → IsPieces shape b p q from to (Whole p)
+      → IsAllOver shape b p q from to p
   whole_first b p q from to h k = (
     inl refl,
     λ t x y. chosen_first b (value_at (shape.function p) t) (value_at (shape.function q) t)
@@ -149,7 +137,7 @@ module _ {P : Type 0} (shape : ShapeOf P) where
   -- the second throughout
   pub whole_second : (b : Side) (p q : P) (from to : Rational) → IsTaken b (value_at (shape.function q) from) (value_at (shape.function p) from)
       → IsTaken b (value_at (shape.function q) to) (value_at (shape.function p) to)
-      → IsPieces shape b p q from to (Whole q)
+      → IsAllOver shape b p q from to q
   whole_second b p q from to h k = (
     inr refl,
     λ t x y. chosen_second b (value_at (shape.function p) t) (value_at (shape.function q) t)
@@ -165,7 +153,7 @@ module _ {P : Type 0} (shape : ShapeOf P) where
   pub split_first : (b : Side) (p q : P) (from to : Rational) (middle : Frac)
       → IsTaken b (value_at (shape.function p) from) (value_at (shape.function q) from)
       → IsTaken b (value_at (shape.function q) to) (value_at (shape.function p) to)
-      → MeetAlone (shape.function p) (shape.function q) from to (value middle) → IsPieces shape b p q from to (Split p middle q)
+      → MeetAlone (shape.function p) (shape.function q) from to (value middle) → IsSplit shape b p q from to p (value middle) q
   split_first b p q from to middle h k m = record {
     after = m.after;
     before = m.before;
@@ -184,7 +172,7 @@ module _ {P : Type 0} (shape : ShapeOf P) where
   pub split_second : (b : Side) (p q : P) (from to : Rational) (middle : Frac)
       → IsTaken b (value_at (shape.function q) from) (value_at (shape.function p) from)
       → IsTaken b (value_at (shape.function p) to) (value_at (shape.function q) to)
-      → MeetAlone (shape.function p) (shape.function q) from to (value middle) → IsPieces shape b p q from to (Split q middle p)
+      → MeetAlone (shape.function p) (shape.function q) from to (value middle) → IsSplit shape b p q from to q (value middle) p
   split_second b p q from to middle h k m = record {
     after = m.after;
     before = m.before;
@@ -198,3 +186,25 @@ module _ {P : Type 0} (shape : ShapeOf P) where
         (taken_between b (shape.function p) (shape.function q) (value middle) t to x y
         (meeting b (shape.function p) (shape.function q) from to (value middle) (value middle) m (same_refl (value middle))) k);
   }
+
+  -- the order turns over where the one is better at the first time, and the other at the second
+  pub turns_over : (b : Side) (p q : P) (from to : Rational) (first : Bool) → IsTurn shape b p q from to first
+      → TurnsOver (shape.function p) (shape.function q) from to
+  turns_over b p q from to true turn = turned_over b (shape.function p) (shape.function q) from to turn.0 turn.1
+  turns_over b p q from to false turn = turned_back b (shape.function p) (shape.function q) from to turn.0 turn.1
+
+  -- where p is the better one first, it is taken up to the crossing
+  pub turn_first : (b : Side) (p q : P) (from to : Rational) (middle : Frac) (first : Bool) → first ≡ true → IsTurn shape b p q from to first
+      → MeetAlone (shape.function p) (shape.function q) from to (value middle) → IsSplit shape b p q from to p (value middle) q
+  turn_first b p q from to middle true is turn meet = split_first b p q from to middle
+      (taken_of_less b (value_at (shape.function p) from) (value_at (shape.function q) from) turn.0)
+      (taken_of_greater b (value_at (shape.function p) to) (value_at (shape.function q) to) turn.1) meet
+  turn_first b p q from to middle false is turn meet = absurd (false≢true is)
+
+  -- and q where it is the better one
+  pub turn_second : (b : Side) (p q : P) (from to : Rational) (middle : Frac) (first : Bool) → first ≡ false → IsTurn shape b p q from to first
+      → MeetAlone (shape.function p) (shape.function q) from to (value middle) → IsSplit shape b p q from to q (value middle) p
+  turn_second b p q from to middle false is turn meet = split_second b p q from to middle
+      (taken_of_greater b (value_at (shape.function p) from) (value_at (shape.function q) from) turn.0)
+      (taken_of_less b (value_at (shape.function p) to) (value_at (shape.function q) to) turn.1) meet
+  turn_second b p q from to middle true is turn meet = absurd (false≢true (sym is))

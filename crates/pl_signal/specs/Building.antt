@@ -6,8 +6,6 @@ use Rattle.frac128.specs.Value.{value}
 use Rattle.frac128.specs.declared.frac.Frac.{Frac}
 use Rattle.value_laws.specs.Members.{ShapeOf}
 use Rattle.pl_signal.specs.declared.knot.Knot.{Knot}
-use Rattle.pl_signal.specs.declared.joining.Pieces.{Pieces}
-use Rattle.pl_signal.specs.declared.joining.Pieces.TheVariants.{Whole, Split}
 use Rattle.pl_signal.specs.Knots.{start, stop, HasShape, IsSignal, IsWorth}
 
 module _ {P : Type 0} (shape : ShapeOf P) where
@@ -20,13 +18,3 @@ module _ {P : Type 0} (shape : ShapeOf P) where
         ↔ (IsWorth shape old t v ⊎ ((stop old <ʳ t) × (t <ʳ value at) × Passes (shape.function after) t v)
         ⊎ ((t ≈ value at) × Passes (shape.function point) t v))
     pub shapes : (p : P) → HasShape new p → HasShape old p ⊎ (p ≡ after) ⊎ (p ≡ point)
-
-  -- the new signal goes on with the pieces up to the time `to`, and `point` there
-  abbrev pub Continues : List (Knot P) → Pieces P → Frac → P → List (Knot P) → Type 0
-  Continues old (Whole piece) to point new = GoesOn old piece to point new
-  Continues old (Split first middle second) to point new = (half : List (Knot P)) × GoesOn old first middle first half × GoesOn half second to point new
-
--- where there is a crossing, it lies between the times
-abbrev pub MiddleIsBetween : {P : Type 0} → Pieces P → Rational → Rational → Type 0
-MiddleIsBetween (Whole piece) from to = Unit {0}
-MiddleIsBetween (Split first middle second) from to = (from <ʳ value middle) × (value middle <ʳ to)

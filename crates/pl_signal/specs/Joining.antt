@@ -1,6 +1,7 @@
 -- The least or the greatest of two shapes over an open gap, and a signal that goes on with it.
-use Rattle.std.specs.Prelude.{◌≡◌, ◌⊎◌, ◌↔◌, ◌≤◌, ◌^◌, List}
+use Rattle.std.specs.Prelude.{◌≡◌, ◌⊎◌, ◌↔◌, ◌≤◌, ◌^◌, Bool, true, false, List}
 use Rattle.std.specs.declared.cmp.Ordering.{Ordering}
+use Rattle.std.specs.declared.cmp.Ordering.TheVariants.{Less, Greater}
 use Rattle.rational.specs.Time.{Rational, ◌<ʳ◌, ◌≈◌, HasDenominator}
 use Rattle.rational.specs.Extended.{Extended, Affine, value_at, IsLeast, IsGreatest, Passes, ◌<ᵉ◌}
 use Rattle.rational.specs.Affine.{IsOrderᵉ, MeetAlone}
@@ -11,8 +12,6 @@ use Rattle.value_laws.specs.Members.{ShapeOf}
 use Rattle.pl_signal.specs.declared.knot.Knot.{Knot}
 use Rattle.pl_signal.specs.declared.joining.Side.{Side}
 use Rattle.pl_signal.specs.declared.joining.Side.TheVariants.{Least, Greatest}
-use Rattle.pl_signal.specs.declared.joining.Pieces.{Pieces}
-use Rattle.pl_signal.specs.declared.joining.Pieces.TheVariants.{Whole, Split}
 use Rattle.pl_signal.specs.declared.faults.WidePair.TheVariants.{Cross, Value}
 use Rattle.pl_signal.specs.declared.faults.OpFault.{OpFault}
 use Rattle.pl_signal.specs.declared.faults.OpFault.TheVariants as F
@@ -50,10 +49,18 @@ module _ {P : Type 0} (shape : ShapeOf P) where
     pub there : (t : Rational) → t ≈ middle → IsTakenAt side p q first t
     pub from_then : (t : Rational) → middle <ʳ t → t <ʳ to → IsTakenAt side p q second t
 
-  -- the pieces are what is chosen of p and q at each time of the gap
-  abbrev pub IsPieces : Side → P → P → Rational → Rational → Pieces P → Type 0
-  IsPieces side p q from to (Whole piece) = ((piece ≡ p) ⊎ (piece ≡ q)) × ((t : Rational) → from <ʳ t → t <ʳ to → IsTakenAt side p q piece t)
-  IsPieces side p q from to (Split first middle second) = IsSplit side p q from to first (value middle) second
+  -- the one of p and q is taken at each time of the gap
+  abbrev pub IsAllOver : Side → P → P → Rational → Rational → P → Type 0
+  IsAllOver side p q from to taken = ((taken ≡ p) ⊎ (taken ≡ q)) × ((t : Rational) → from <ʳ t → t <ʳ to → IsTakenAt side p q taken t)
+
+  -- the one of p and q is better at the first time, and the other at the second: p first, or q
+  abbrev pub IsTurn : Side → P → P → Rational → Rational → Bool → Type 0
+  IsTurn side p q from to true =
+      IsFavour side Less (value_at (shape.function p) from) (value_at (shape.function q) from)
+      × IsFavour side Greater (value_at (shape.function p) to) (value_at (shape.function q) to)
+  IsTurn side p q from to false =
+      IsFavour side Greater (value_at (shape.function p) from) (value_at (shape.function q) from)
+      × IsFavour side Less (value_at (shape.function p) to) (value_at (shape.function q) to)
 
   -- the new signal is the old one, then what is chosen of p and q on the open gap up to the time `to`, and `point` there
   pub record Joins (side : Side) (old : List (Knot P)) (p q : P) (to : Frac) (point : P) (new : List (Knot P)) : Type 0 where

@@ -8,12 +8,13 @@ ghost use Rattle.frac128.specs.Value.{value};
 ghost use Rattle.pl_signal.specs.declared.knot.Knot.{Knot};
 ghost use Rattle.pl_signal.specs.Knots.{stop, IsSignal};
 ghost use Rattle.frac128.specs.declared.frac.Frac.{Frac};
-ghost use Rattle.pl_signal.specs.Building.{Continues, GoesOn, MiddleIsBetween};
-ghost use Rattle.pl_signal.specs.Joining.{IsGapFault, Joins};
+ghost use Rattle.pl_signal.specs.Building.{GoesOn};
+ghost use Rattle.pl_signal.specs.Joining.{IsGapFault, IsTurn, Joins, TurnsOver};
+ghost use Rattle.pl_signal.specs.declared.joining.Side.{Side as Wanted};
 ghost use Rattle.pl_signal.specs.declared.faults.OpFault.TheVariants as F;
 
 use crate::faults::fault_of;
-use crate::joining::{Pieces, pieces_over, takes_first};
+use crate::joining::{crossing_kept, takes_first};
 use crate::{Knot, OpFault, Side, Signal, WidePair};
 use frac128::{Frac, Memory};
 use std::alloc::Global;
@@ -63,6 +64,19 @@ impl<P: Shape> Builder<P> {
         ensures { IfOk result (λ b. b ≡ record { time = at; point = point; after = point } ∷ []) }
     {
         let knots = Vec::with_capacity(alloc, room)?;
+        begun(alloc, knots, at, point)
+    }
+
+    /// The signal of one instant, in the memory of a signal that is of no more use.
+    ///
+    /// # Errors
+    ///
+    /// `Memory` where memory is wanting.
+    pub fn again(old: Signal<P>, at: Frac, point: P) -> Result<Builder<P>, Memory>
+        ensures { IfOk result (λ b. b ≡ record { time = at; point = point; after = point } ∷ []) }
+    {
+        let Signal { alloc, mut knots } = old;
+        knots.clear();
         begun(alloc, knots, at, point)
     }
 
@@ -150,19 +164,19 @@ impl<P: Shape> Builder<P> {
     {
         let from = self.stop();
         match takes_first(side, p, q, &from, to) {
-            Some(true) => self.go_along(p, to, point),
-            Some(false) => self.go_along(q, to, point),
-            None => self.join_pieces(side, p, q, to, point, fault),
+            Ok(true) => self.go_along(p, to, point),
+            Ok(false) => self.go_along(q, to, point),
+            Err(first) => self.join_crossing(p, q, first, to, point, fault),
         }
     }
 
-    /// The same, with a crossing or not.
+    /// The same, where the two cross; `first` says whether p is taken before, and q after.
     #[inline(never)]
-    fn join_pieces(
+    fn join_crossing(
         &mut self,
-        side: Side,
         p: &P,
         q: &P,
+        first: bool,
         to: &Frac,
         point: &P,
         fault: &mut Option<WidePair<P>>,
@@ -172,26 +186,24 @@ impl<P: Shape> Builder<P> {
         requires to_within { IsWithin (2 ^ 34) (value to.now) }
         requires first { HasBoundedLevel (2 ^ 31) (P.function p.now) }
         requires second { HasBoundedLevel (2 ^ 31) (P.function q.now) }
+        requires turned { TurnsOver (P.function p.now) (P.function q.now) (stop self.old) (value to.now) }
         requires none { fault.old ≡ None }
-        ensures ok { OnOk result (Joins P.Shape side self.old p.now q.now to.now point.now self.new) }
+        ensures ok { (side : Wanted) → IsTurn P.Shape side p.now q.now (stop self.old) (value to.now) first
+            → OnOk result (Joins P.Shape side self.old p.now q.now to.now point.now self.new) }
         ensures still { OnOk result (fault.new ≡ None) }
         ensures err { OnErr result (self.new ≡ self.old) }
         ensures wide { OnErr result (IfSome fault.new
             (λ pair. (from : Frac) × (value from ≡ stop self.old) × IsGapFault P.Shape p.now q.now from to.now (F.Wide pair))) }
     {
         let from = self.stop();
-        match pieces_over(side, p, q, &from, to) {
-            Ok(taken) => {
-                self.knots.reserve(2)?;
-                put_pieces(&mut self.knots, &taken, to, point);
-                Ok(())
-            }
-            Err(OpFault::Memory) => Err(Memory),
-            Err(OpFault::Wide(pair)) => {
-                *fault = Some(pair);
-                Err(Memory)
-            }
+        let middle = crossing_kept(p, q, &from, to, fault)?;
+        self.knots.reserve(2)?;
+        if first {
+            put_two(&mut self.knots, p, &middle, q, to, point);
+            return Ok(());
         }
+        put_two(&mut self.knots, q, &middle, p, to, point);
+        Ok(())
     }
 
     /// The same as `step`, with no copies of what it is given.
@@ -240,27 +252,27 @@ fn begun<P: Shape>(
     Ok(Builder { alloc, knots })
 }
 
-/// Goes on with the pieces up to `to`, and with `point` there. There is room for two knots.
-fn put_pieces<P: Shape>(knots: &mut Vec<Knot<P>>, pieces: &Pieces<P>, to: &Frac, point: &P)
+/// Goes on with the one up to the time `middle` and at it, then with the other up to `to`, and with `point` there. There is room
+/// for two knots.
+fn put_two<P: Shape>(
+    knots: &mut Vec<Knot<P>>,
+    first: &P,
+    middle: &Frac,
+    second: &P,
+    to: &Frac,
+    point: &P,
+)
     requires signal { IsSignal P.Shape knots.old.items }
     requires room { vec_len knots.old + 2 ≤ vec_capacity knots.old }
     requires from_within { IsWithin (2 ^ 34) (stop knots.old.items) }
     requires to_within { IsWithin (2 ^ 34) (value to.now) }
-    requires order { stop knots.old.items <ʳ value to.now }
-    requires between { MiddleIsBetween pieces.now (stop knots.old.items) (value to.now) }
-    ensures { Continues P.Shape knots.old.items pieces.now to.now point.now knots.new.items }
+    requires after { stop knots.old.items <ʳ value middle.now }
+    requires before { value middle.now <ʳ value to.now }
+    ensures { (half : List (Knot P)) × GoesOn P.Shape knots.old.items first.now middle.now first.now half
+        × GoesOn P.Shape half second.now to.now point.now knots.new.items }
 {
-    match pieces {
-        Pieces::Whole(shape) => go_on(knots, shape, to, point),
-        Pieces::Split {
-            first,
-            middle,
-            second,
-        } => {
-            go_on(knots, first, middle, first);
-            go_on(knots, second, to, point);
-        }
-    }
+    go_on(knots, first, middle, first);
+    go_on(knots, second, to, point);
 }
 
 /// Goes on from the last knot. There is room for one more.

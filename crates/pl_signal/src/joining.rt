@@ -1,16 +1,15 @@
 //! The least and the greatest of two shapes over an open gap.
-ghost use Rattle.std.specs.Prelude.{◌≡◌, ◌≢◌, ◌⊎◌, ◌^◌, if◌then◌else◌, Err, IfSome, MatchResult};
+ghost use Rattle.std.specs.Prelude.{◌≡◌, ◌≢◌, ◌⊎◌, ◌^◌, if◌then◌else◌, Err, IfOk, IfSome, MatchResult, None, OnErr, OnOk};
 ghost use Rattle.rational.specs.Rational.{IsWithin};
 ghost use Rattle.rational.specs.Time.{◌<ʳ◌};
 ghost use Rattle.rational.specs.Extended.{value_at};
 ghost use Rattle.rational.specs.Affine.{HasBoundedLevel, MeetAlone};
 ghost use Rattle.frac128.specs.Value.{value};
 ghost use Rattle.pl_signal.specs.declared.faults.OpFault.TheVariants as F;
-ghost use Rattle.pl_signal.specs.declared.joining.Pieces.TheVariants.{Whole};
-ghost use Rattle.pl_signal.specs.Joining.{IsChosen, IsFavour, IsGapFault, IsPieces, TurnsOver};
+ghost use Rattle.pl_signal.specs.Joining.{IsAllOver, IsChosen, IsFavour, IsGapFault, IsTurn, TurnsOver};
 
 use crate::{OpFault, WidePair};
-use frac128::Frac;
+use frac128::{Frac, Memory};
 use std::cmp::Ordering;
 use value_laws::Shape;
 
@@ -21,15 +20,6 @@ pub enum Side {
     Least,
     /// The greatest of the two.
     Greatest,
-}
-
-/// What is wanted of two shapes, over an open gap.
-#[derive(Clone, Copy)]
-pub(crate) enum Pieces<P> {
-    /// One of the two all over.
-    Whole(P),
-    /// One up to the crossing and at it, and the other after it.
-    Split { first: P, middle: Frac, second: P },
 }
 
 /// The order of the two at `t`, turned over where the greatest is wanted: `Less` where the first is to be taken.
@@ -50,9 +40,20 @@ pub fn chosen<P: Shape>(side: Side, p: &P, q: &P, t: &Frac) -> P
     ensures value { IsChosen side (value_at (P.function p.now) (value t.now)) (value_at (P.function q.now) (value t.now))
         (value_at (P.function result) (value t.now)) }
 {
+    *chosen_in_place(side, p, q, t)
+}
+
+/// The same, where it stands.
+#[inline(always)]
+pub fn chosen_in_place<'a, P: Shape>(side: Side, p: &'a P, q: &'a P, t: &Frac) -> &'a P
+    requires { IsWithin (2 ^ 34) (value t.now) }
+    ensures one { (result.now ≡ p.now) ⊎ (result.now ≡ q.now) }
+    ensures value { IsChosen side (value_at (P.function p.now) (value t.now)) (value_at (P.function q.now) (value t.now))
+        (value_at (P.function result.now) (value t.now)) }
+{
     match favour(side, p, q, t) {
-        Ordering::Greater => *q,
-        _ => *p,
+        Ordering::Greater => q,
+        _ => p,
     }
 }
 
@@ -88,7 +89,44 @@ pub fn crossing<P: Shape>(p: &P, q: &P, from: &Frac, to: &Frac) -> Result<Frac, 
     }
 }
 
-/// Whether the first of the two is taken at each time between `from` and `to`, or the second, where it is one.
+/// The same, with what is refused put into `fault`, so that the answer is small.
+#[inline(always)]
+pub(crate) fn crossing_kept<P: Shape>(
+    p: &P,
+    q: &P,
+    from: &Frac,
+    to: &Frac,
+    fault: &mut Option<WidePair<P>>,
+) -> Result<Frac, Memory>
+    requires order { value from.now <ʳ value to.now }
+    requires from_within { IsWithin (2 ^ 34) (value from.now) }
+    requires to_within { IsWithin (2 ^ 34) (value to.now) }
+    requires first { HasBoundedLevel (2 ^ 31) (P.function p.now) }
+    requires second { HasBoundedLevel (2 ^ 31) (P.function q.now) }
+    requires turned { TurnsOver (P.function p.now) (P.function q.now) (value from.now) (value to.now) }
+    requires none { fault.old ≡ None }
+    ensures met { IfOk result (λ t. MeetAlone (P.function p.now) (P.function q.now) (value from.now) (value to.now) (value t)) }
+    ensures still { OnOk result (fault.new ≡ None) }
+    ensures wide { OnErr result (IfSome fault.new (λ pair. IsGapFault P.Shape p.now q.now from.now to.now (F.Wide pair))) }
+{
+    match P::cross(p, q, from, to) {
+        Ok(Some(middle)) => Ok(middle),
+        Ok(None) => unreachable!(),
+        Err(wide) => {
+            *fault = Some(WidePair::Cross {
+                p: *p,
+                q: *q,
+                from: *from,
+                to: *to,
+                den: wide.den,
+            });
+            Err(Memory)
+        }
+    }
+}
+
+/// Whether the first of the two is taken at each time between `from` and `to`, or the second. Where they cross there, `Err` says
+/// whether the first is taken before, and the second after.
 #[inline(always)]
 pub(crate) fn takes_first<P: Shape>(
     side: Side,
@@ -96,71 +134,25 @@ pub(crate) fn takes_first<P: Shape>(
     q: &P,
     from: &Frac,
     to: &Frac,
-) -> Option<bool>
+) -> Result<bool, bool>
     requires from_within { IsWithin (2 ^ 34) (value from.now) }
     requires to_within { IsWithin (2 ^ 34) (value to.now) }
-    ensures { IfSome result (λ first. IsPieces P.Shape side p.now q.now (value from.now) (value to.now)
-        (Whole (if first then p.now else q.now))) }
-{
-    match favour(side, p, q, from) {
-        Ordering::Less => match favour(side, p, q, to) {
-            Ordering::Greater => None,
-            _ => Some(true),
-        },
-        Ordering::Equal => match favour(side, p, q, to) {
-            Ordering::Greater => Some(false),
-            _ => Some(true),
-        },
-        Ordering::Greater => match favour(side, p, q, to) {
-            Ordering::Less => None,
-            _ => Some(false),
-        },
-    }
-}
-
-/// What is taken of the two at each time between `from` and `to`.
-pub(crate) fn pieces_over<P: Shape>(
-    side: Side,
-    p: &P,
-    q: &P,
-    from: &Frac,
-    to: &Frac,
-) -> Result<Pieces<P>, OpFault<P>>
-    requires order { value from.now <ʳ value to.now }
-    requires from_within { IsWithin (2 ^ 34) (value from.now) }
-    requires to_within { IsWithin (2 ^ 34) (value to.now) }
-    requires first { HasBoundedLevel (2 ^ 31) (P.function p.now) }
-    requires second { HasBoundedLevel (2 ^ 31) (P.function q.now) }
     ensures { MatchResult result
-        (IsPieces P.Shape side p.now q.now (value from.now) (value to.now))
-        (IsGapFault P.Shape p.now q.now from.now to.now) }
+        (λ first. IsAllOver P.Shape side p.now q.now (value from.now) (value to.now) (if first then p.now else q.now))
+        (IsTurn P.Shape side p.now q.now (value from.now) (value to.now)) }
 {
     match favour(side, p, q, from) {
         Ordering::Less => match favour(side, p, q, to) {
-            Ordering::Greater => {
-                let middle = crossing(p, q, from, to)?;
-                Ok(Pieces::Split {
-                    first: *p,
-                    middle,
-                    second: *q,
-                })
-            }
-            _ => Ok(Pieces::Whole(*p)),
+            Ordering::Greater => Err(true),
+            _ => Ok(true),
         },
         Ordering::Equal => match favour(side, p, q, to) {
-            Ordering::Greater => Ok(Pieces::Whole(*q)),
-            _ => Ok(Pieces::Whole(*p)),
+            Ordering::Greater => Ok(false),
+            _ => Ok(true),
         },
         Ordering::Greater => match favour(side, p, q, to) {
-            Ordering::Less => {
-                let middle = crossing(p, q, from, to)?;
-                Ok(Pieces::Split {
-                    first: *q,
-                    middle,
-                    second: *p,
-                })
-            }
-            _ => Ok(Pieces::Whole(*q)),
+            Ordering::Less => Err(false),
+            _ => Ok(false),
         },
     }
 }

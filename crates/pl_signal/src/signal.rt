@@ -59,6 +59,14 @@ impl<P: Shape> Signal<P> {
         self.knots[i]
     }
 
+    /// The same, where it stands.
+    pub fn knot_in_place(&self, i: usize) -> &Knot<P>
+        requires { i < length self.now }
+        ensures { slice_get self.now i ≡ Some result.now }
+    {
+        &self.knots[i]
+    }
+
     /// The time of the first knot.
     pub fn start(&self) -> Frac
         ensures value { value result ≡ start self.now }

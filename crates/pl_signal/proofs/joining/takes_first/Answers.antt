@@ -35,3 +35,9 @@ returns-in_default-favour-2 g c =
     (value_at (g.P.Shape.function c.args.q.now) (value c.args.from.now)) c.in-Greater.ensures)
     (taken_second c.args.side c.favour-in-Greater.result (value_at (g.P.Shape.function c.args.p.now) (value c.args.to.now))
     (value_at (g.P.Shape.function c.args.q.now) (value c.args.to.now)) c.favour-in-Greater.ensures c.in_default-favour-2.not-Less)
+
+pub returns-in-Greater-favour : goal.returns-in-Greater-favour
+returns-in-Greater-favour g c = (c.in-Less.ensures, c.in-Greater-favour.ensures)
+
+pub returns-in-Less-favour : goal.returns-in-Less-favour
+returns-in-Less-favour g c = (c.in-Greater.ensures, c.in-Less-favour.ensures)
