@@ -25,16 +25,18 @@ pub struct Best<P> {
 
 impl<P: Shape> Best<P> {
     /// The shape with the best value at `t` of what counts.
-    pub(crate) fn at(&self, side: Side, t: &Frac) -> P
+    #[inline(never)]
+    pub(crate) fn at(&self, side: Side, t: &Frac) -> &P
         requires { IsWithin (2 ^ 34) (value t.now) }
-        ensures one { Has self.now result }
-        ensures value { IsBestAt P.Shape side self.now (value t.now) (value_at (P.function result) (value t.now)) }
+        ensures one { Has self.now result.now }
+        ensures value { IsBestAt P.Shape side self.now (value t.now) (value_at (P.function result.now) (value t.now)) }
     {
         let best = or_better(side, &self.top, &self.low, t);
-        or_better(side, &best, &self.high, t)
+        or_better(side, best, &self.high, t)
     }
 
     /// Whether the constant alone counts, and has this function.
+    #[inline(always)]
     pub(crate) fn is_only(&self, shape: &P) -> bool
         ensures alone { IsTrue result → (self.now.low ≡ None) × (self.now.high ≡ None) }
         ensures same { IsTrue result → AreSame (P.function self.now.top) (P.function shape.now) }
@@ -44,15 +46,18 @@ impl<P: Shape> Best<P> {
 }
 
 /// The better of the two at `t`, or the first where there is no second.
-fn or_better<P: Shape>(side: Side, p: &P, other: &Option<P>, t: &Frac) -> P
+fn or_better<'a, P: Shape>(side: Side, p: &'a P, other: &'a Option<P>, t: &Frac) -> &'a P
     requires { IsWithin (2 ^ 34) (value t.now) }
-    ensures one { (result ≡ p.now) ⊎ (other.now ≡ Some result) }
-    ensures value { MatchOption other.now (result ≡ p.now)
-        (λ q. IsChosen side (value_at (P.function p.now) (value t.now)) (value_at (P.function q) (value t.now)) (value_at (P.function result) (value t.now))) }
+    ensures one { (result.now ≡ p.now) ⊎ (other.now ≡ Some result.now) }
+    ensures value { MatchOption other.now (result.now ≡ p.now)
+        (λ q. IsChosen side (value_at (P.function p.now) (value t.now)) (value_at (P.function q) (value t.now)) (value_at (P.function result.now) (value t.now))) }
 {
     match other {
-        Some(q) => chosen(side, p, q, t),
-        None => *p,
+        Some(q) => match favour(side, p, q, t) {
+            Ordering::Greater => q,
+            _ => p,
+        },
+        None => p,
     }
 }
 
@@ -79,7 +84,7 @@ pub fn write<P: Shape>(
     ensures fault { OnErr result (IfSome fault.new (IsBestFault P.Shape best.now (stop built.old) (value to.now))) }
 {
     match (&best.low, &best.high) {
-        (None, None) => built.step(best.top, *to, point),
+        (None, None) => built.go_along(&best.top, to, &point),
         (Some(low), None) => built.join_kept(side, low, &best.top, to, &point, fault),
         (None, Some(high)) => built.join_kept(side, high, &best.top, to, &point, fault),
         (Some(low), Some(high)) => join_three(side, built, low, high, &best.top, to, &point, fault),
