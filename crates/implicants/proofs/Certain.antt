@@ -95,17 +95,6 @@ rising_first u times t r (inl e) = ge_of_same e
 rising_first u [] t r (inr m) = absurd m
 rising_first u (v ∷ times) t r (inr m) = le_trans (le_of_lt r.0) (rising_first v times t r.1 m)
 
-rising_last : (times : List Rational) (k : ℕ) (u t : Rational) → AreRisingTimes times → slice_get times k ≡ Some u → length times ≡ suc k
-    → IsAmong times t → t ≤ʳ u
-rising_last [] k u t r s n m = absurd m
-rising_last (v ∷ []) zero u t r s n (inl e) = let same : v ≡ u = cc in subst (λ w. t ≤ʳ w) same (le_of_same e)
-rising_last (v ∷ []) (suc k) u t r s n m = absurd (omega (arith, n))
-rising_last (v ∷ []) zero u t r s n (inr m) = absurd m
-rising_last (v ∷ w ∷ times) zero u t r s n m = absurd (omega (arith, n))
-rising_last (v ∷ w ∷ times) (suc k) u t r s n (inl e) = le_trans (le_of_same e)
-    (le_trans (le_of_lt r.0) (rising_last (w ∷ times) k u w r.1 s (omega (arith, n)) (inl (same_refl w))))
-rising_last (v ∷ w ∷ times) (suc k) u t r s n (inr m) = rising_last (w ∷ times) k u t r.1 s (omega (arith, n)) m
-
 -- the start of the trace is a cut time of each node
 pub start_cut : (nodes : List Node) (tr : Trace) (i : ℕ) → i < length nodes → IsCut nodes tr i (start tr)
 start_cut nodes tr i l = by_place (suc_cases (suc i) (length nodes) (omega (arith, l)))

@@ -1,5 +1,5 @@
 -- What each kind of node hands down of what is demanded of it.
-use Rattle.std.proofs.Common.{◌≡◌, ℕ, ◌<◌, ◌≤◌, ◌-◌, ◌^◌, inl, inr, Bool, true, false, List, length, Some, refl, sym, subst, arith}
+use Rattle.std.proofs.Common.{◌≡◌, ℕ, ◌<◌, ◌-◌, ◌^◌, inl, inr, Bool, true, false, List, length, Some, refl, sym, subst, arith}
 use Rattle.std.specs.Prelude.{slice_get, Option, None, IfOk, IfSome, MatchBool, not, nat_eq}
 use Rattle.std.specs.declared.result.Result.{Result}
 use Rattle.std.specs.declared.result.Result.TheVariants.{Ok, Err}
@@ -175,9 +175,6 @@ module _ (holds : Bool) (x : List (Knot Kleene)) (signals : List (List (Knot Kle
       (behind_down holds x signals (Historically p a b a_in b_in) i a b a_in b_in true d met
       (λ at j some tr t u w h. historically_true p i (subst (λ m. IsChild m i) e child) at j some tr t u w
       (certain_as true is (tree_of at j (Historically p a b a_in b_in)) some tr u h)))
-
-lt_more : (p j m : ℕ) → j ≤ m → p < j → p < m
-lt_more p j m h k = omega (arith, h, k)
 
 module _ (nodes : List Node) (tr : Trace) (items : List Item) where
   -- the root is demanded to be certainly false at the start

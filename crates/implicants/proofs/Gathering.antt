@@ -1,19 +1,18 @@
 -- The cells of all atoms, gathered node by node.
 use Rattle.std.proofs.Common.{◌≡◌, ℕ, zero, suc, ◌+◌, ◌<◌, ◌≤◌, ◌⊎◌, inl, inr, List, [], ◌∷◌, ◌++◌, length, length-append}
-use Rattle.std.proofs.Common.{take, Some, None, false, refl, sym, ap, subst, ◌∙◌, arith, get_or, append_assoc}
+use Rattle.std.proofs.Common.{take, Some, None, refl, sym, ap, subst, ◌∙◌, arith, get_or, append_assoc}
 use Rattle.std.specs.Prelude.{slice_get, slice_index}
 use Rattle.std.proofs.lemmas.Option.{same_Some, slice_get_within, slice_get_cases, get_or_from_slice_get}
 use Rattle.std.proofs.lemmas.List.{take_more, take_all, append-nil, get_or_push, get_or_append_left, length-take-le}
 use Rattle.rational.specs.Time.{Rational, Interval}
 use Rattle.stl_syntax.specs.Trace.{Trace}
 use Rattle.stl_syntax.specs.Kleene.{IsCovered}
-use Rattle.stl_syntax.specs.Cells.{AreCuts, cells}
+use Rattle.stl_syntax.specs.Cells.{cells}
 use Rattle.stl_syntax.specs.Kept.{AllCells, ItemsOn}
 use Rattle.stl_syntax.specs.declared.atom.Atom.{Atom}
 use Rattle.stl_syntax.specs.declared.items.Item.{Item}
 use Rattle.stl_syntax.specs.declared.node.Node.{Node}
-use Rattle.stl_syntax.specs.declared.node.Node.TheVariants.{Const, Atom as Leaf, Not, And, Or, Implies, Until, Eventually, Always, Since, Once, Historically}
-use Rattle.offline_eval.specs.Inputs.{is_atom}
+use Rattle.stl_syntax.specs.declared.node.Node.TheVariants.{Atom as Leaf}
 use Rattle.implicants.specs.Runs.{IsRun, begins, AreAllCells, AreCellsBelow, AddsNode}
 use Rattle.implicants.proofs.Growing.{covered_in}
 
@@ -36,17 +35,7 @@ module _ (nodes : List Node) (tr : Trace) where
       by_part : IsCovered here i t ⊎ IsCovered later i t → i ≡ j
       by_part (inl h) = items_node j i (cells times) here t on h
       by_part (inr h) = none_new later i j t rest h
-  new_node j (Const b) new i t h c = none_new new i j t h c
-  new_node j (Not p) new i t h c = none_new new i j t h c
-  new_node j (And p q) new i t h c = none_new new i j t h c
-  new_node j (Or p q) new i t h c = none_new new i j t h c
-  new_node j (Implies p q) new i t h c = none_new new i j t h c
-  new_node j (Until p q x y) new i t h c = none_new new i j t h c
-  new_node j (Eventually p x y a b) new i t h c = none_new new i j t h c
-  new_node j (Always p x y a b) new i t h c = none_new new i j t h c
-  new_node j (Since p q x y) new i t h c = none_new new i j t h c
-  new_node j (Once p x y a b) new i t h c = none_new new i j t h c
-  new_node j (Historically p x y a b) new i t h c = none_new new i j t h c
+  new_node j _ new i t h c = none_new new i j t h c
 
   at_next : (j : ℕ) (ns : List Node) (n : Node) (new : List Item) → AllCells nodes tr (j + suc (length ns)) (n ∷ []) new
       → AllCells nodes tr (suc j + length ns) (n ∷ []) new
@@ -59,21 +48,7 @@ module _ (nodes : List Node) (tr : Trace) where
       (subst (λ m. AllCells nodes tr m (n ∷ []) new) (let e : j + 0 ≡ j = omega arith in e) k)
   all_on j (Leaf a ∷ ns) n items new (times, here, later, cuts, on, e, rest) k =
       (times, here, later ++ new, cuts, on, (ap (λ xs. xs ++ new) e ∙ append_assoc here later new), all_on (suc j) ns n later new rest (at_next j ns n new k))
-  all_on j (Const b ∷ ns) n items new h k = all_on (suc j) ns n items new h (at_next j ns n new k)
-  all_on j (Not p ∷ ns) n items new h k = all_on (suc j) ns n items new h (at_next j ns n new k)
-  all_on j (And p q ∷ ns) n items new h k = all_on (suc j) ns n items new h (at_next j ns n new k)
-  all_on j (Or p q ∷ ns) n items new h k = all_on (suc j) ns n items new h (at_next j ns n new k)
-  all_on j (Implies p q ∷ ns) n items new h k = all_on (suc j) ns n items new h (at_next j ns n new k)
-  all_on j (Until p q x y ∷ ns) n items new h k = all_on (suc j) ns n items new h (at_next j ns n new k)
-  all_on j (Eventually p x y a b ∷ ns) n items new h k = all_on (suc j) ns n items new h (at_next j ns n new k)
-  all_on j (Always p x y a b ∷ ns) n items new h k = all_on (suc j) ns n items new h (at_next j ns n new k)
-  all_on j (Since p q x y ∷ ns) n items new h k = all_on (suc j) ns n items new h (at_next j ns n new k)
-  all_on j (Once p x y a b ∷ ns) n items new h k = all_on (suc j) ns n items new h (at_next j ns n new k)
-  all_on j (Historically p x y a b ∷ ns) n items new h k = all_on (suc j) ns n items new h (at_next j ns n new k)
-
-  -- before the first node there are no cells
-  pub below_none : AreCellsBelow nodes tr 0 [] []
-  below_none = record { cells = refl; count = refl; last = refl; runs = λ i a l. absurd (omega (arith, l)); below = λ i t c. absurd c }
+  all_on j (_ ∷ ns) n items new h k = all_on (suc j) ns n items new h (at_next j ns n new k)
 
   -- where the cells of a node begin does not change by ends that come behind
   begins_stay : (ends : List ℕ) (m i : ℕ) → i ≤ length ends → begins (ends ++ m ∷ []) i ≡ begins ends i
@@ -190,28 +165,3 @@ module _ (nodes : List Node) (tr : Trace) where
     count = all.count ∙ e;
     runs = λ i a at. all.runs i a (let l = slice_get_within nodes i (Leaf a) at in omega (arith, l, e)) at;
   }
-
-  -- a node that is no atom has no cells
-  pub adds_other : (i : ℕ) (n : Node) (items : List Item) → slice_get nodes i ≡ Some n → is_atom n ≡ false → AddsNode nodes tr i items items
-  adds_other i n items at other m is =
-      ([], sym (append-nil items), subst (λ n. AllCells nodes tr i (n ∷ []) []) (same_Some n m (sym at ∙ is)) (none_here i n other))
-    where
-      none_here : (i : ℕ) (n : Node) → is_atom n ≡ false → AllCells nodes tr i (n ∷ []) []
-      none_here i (Leaf a) other = absurd cc
-      none_here i (Const b) other = refl
-      none_here i (Not p) other = refl
-      none_here i (And p q) other = refl
-      none_here i (Or p q) other = refl
-      none_here i (Implies p q) other = refl
-      none_here i (Until p q x y) other = refl
-      none_here i (Eventually p x y a b) other = refl
-      none_here i (Always p x y a b) other = refl
-      none_here i (Since p q x y) other = refl
-      none_here i (Once p x y a b) other = refl
-      none_here i (Historically p x y a b) other = refl
-
-  -- an atom has those of its cut times
-  pub adds_atom : (i : ℕ) (a : Atom) (times : List Rational) (old new here : List Item) → slice_get nodes i ≡ Some (Leaf a) → AreCuts nodes tr i times
-      → new ≡ old ++ here → ItemsOn nodes tr i (cells times) here → AddsNode nodes tr i old new
-  adds_atom i a times old new here at cuts grew on m is =
-      (here, grew, subst (λ n. AllCells nodes tr i (n ∷ []) here) (same_Some (Leaf a) m (sym at ∙ is)) (times, here, [], cuts, on, sym (append-nil here), refl))

@@ -3,7 +3,7 @@ use Rattle.std.proofs.Common.{◌≡◌, ℕ, zero, suc, ◌<◌, ◌≤◌, ◌
 use Rattle.std.proofs.Common.{List, [], ◌∷◌, Some, None, refl, sym, subst, ◌∙◌, arith}
 use Rattle.std.specs.Prelude.{slice_get, slice_index, slice_index_or, Option, IfSome, MatchBool, MatchOption}
 use Rattle.std.proofs.lemmas.Option.{same_Some}
-use Rattle.rational.specs.Time.{Rational, Interval, IsIn, Precedes, closed, gap, ◌<ʳ◌, ◌≤ʳ◌}
+use Rattle.rational.specs.Time.{Rational, Interval, IsIn, Precedes, ◌<ʳ◌}
 use Rattle.rational.proofs.Order.{lt_of_le_of_lt, lt_of_lt_of_le}
 use Rattle.rational.proofs.TimeLemmas.{precedes_of_lt, precedes_le}
 use Rattle.frac128.specs.Value.{value}
@@ -16,7 +16,7 @@ use Rattle.stl_syntax.specs.Trace.{Trace}
 use Rattle.stl_syntax.specs.Trace as trace
 use Rattle.stl_syntax.specs.Formula.{atom, subformula}
 use Rattle.stl_syntax.specs.Truth.{Truth, holds_at}
-use Rattle.stl_syntax.specs.Cells.{cells, AreRisingTimes}
+use Rattle.stl_syntax.specs.Cells.{cells}
 use Rattle.stl_syntax.specs.Kept.{IsSo, ItemsOn}
 use Rattle.stl_syntax.specs.declared.atom.Atom.{Atom}
 use Rattle.stl_syntax.specs.declared.items.Item.{Item}
@@ -28,50 +28,11 @@ use Rattle.implicants.specs.Keeping.{CoverMore, remaining}
 use Rattle.implicants.specs.Demands.{Certain, IsNeeded, MarksNeeded}
 use Rattle.implicants.specs.Choices.{InWindow, IsChoice, IsPast, IsShort, IsLastCell, PutsLasts}
 use Rattle.implicants.specs.declared.choice.Window.{Window}
-use Rattle.implicants.proofs.Strips.{IsCellOn, in_cut, in_gap, from_first}
+use Rattle.implicants.proofs.Strips.{cells_rise}
 use Rattle.implicants.proofs.Certain.{in_run}
 use Rattle.implicants.proofs.Needing.{PutsBefore, certain_covered, within_more}
 
 module _ (nodes : List Node) (tr : Trace) (i : ℕ) where
-  -- cells of one atom stand in the order of time
-  cells_rise : (times : List Rational) (here : List Item) (c d : ℕ) {e f : Item} {x y : Rational} → AreRisingTimes times → ItemsOn nodes tr i (cells times) here
-      → slice_get here c ≡ Some e → slice_get here d ≡ Some f → IsIn (interval e.on) x → IsIn (interval f.on) y → c < d → x <ʳ y
-  cells_rise [] [] c d {e} {f} {x} {y} r h s q m n l = absurd (elim c as (λ c. slice_get [] c ≡ Some e → ⊥) [ zero ↦ λ s. cc | suc c ↦ λ s. cc ] s)
-  cells_rise [] (g ∷ here) c d {e} {f} {x} {y} r h s q m n l = absurd h
-  cells_rise (t ∷ []) [] c d {e} {f} {x} {y} r h s q m n l = absurd h
-  cells_rise (t ∷ []) (g ∷ g' ∷ here) c d {e} {f} {x} {y} r h s q m n l = absurd h.4
-  cells_rise (t ∷ []) (g ∷ []) c zero {e} {f} {x} {y} r h s q m n l = absurd (omega (arith, l))
-  cells_rise (t ∷ []) (g ∷ []) c (suc d) {e} {f} {x} {y} r h s q m n l =
-      absurd (elim d as (λ d. slice_get [] d ≡ Some f → ⊥) [ zero ↦ λ s. cc | suc c ↦ λ s. cc ] q)
-  cells_rise (t ∷ u ∷ times) [] c d {e} {f} {x} {y} r h s q m n l = absurd h
-  cells_rise (t ∷ u ∷ times) (g ∷ []) c d {e} {f} {x} {y} r h s q m n l = absurd h.4
-  cells_rise (t ∷ u ∷ times) (a ∷ b ∷ here) c d {e} {f} {x} {y} r h s q m n l =
-      by_places (λ c d s q l. cells_rise (u ∷ times) here c d r.1 h.4.4 s q m n l) c d s q l
-    where
-      first : IsCellOn nodes tr i (closed t t) a
-      first = record { node = h.0; begin = h.1; end = h.2; so = h.3 }
-
-      second : IsCellOn nodes tr i (gap t u) b
-      second = record { node = h.4.0; begin = h.4.1; end = h.4.2; so = h.4.3 }
-
-      in_first : (g : Item) (z : Rational) → Some a ≡ Some g → IsIn (interval g.on) z → z ≤ʳ t
-      in_first g z s m = let same : a ≡ g = cc in (in_cut nodes tr i g t z (subst (IsCellOn nodes tr i (closed t t)) same first) m).1
-
-      in_second : (g : Item) (z : Rational) → Some b ≡ Some g → IsIn (interval g.on) z → (t <ʳ z) × (z <ʳ u)
-      in_second g z s m = let same : b ≡ g = cc in in_gap nodes tr i g t u z (subst (IsCellOn nodes tr i (gap t u)) same second) m
-
-      in_rest : (c : ℕ) (g : Item) (z : Rational) → slice_get here c ≡ Some g → IsIn (interval g.on) z → u ≤ʳ z
-      in_rest c g z s m = from_first nodes tr i u times here c g z r.1 h.4.4 s m
-
-      by_places : ((c d : ℕ) → slice_get here c ≡ Some e → slice_get here d ≡ Some f → c < d → x <ʳ y) → (c d : ℕ) → slice_get (a ∷ b ∷ here) c ≡ Some e
-          → slice_get (a ∷ b ∷ here) d ≡ Some f → c < d → x <ʳ y
-      by_places rest c zero s q l = absurd (omega (arith, l))
-      by_places rest zero (suc zero) s q l = lt_of_le_of_lt (in_first e x s m) (in_second f y q n).0
-      by_places rest zero (suc (suc d)) s q l = lt_of_le_of_lt (in_first e x s m) (lt_of_lt_of_le r.0 (in_rest d f y q n))
-      by_places rest (suc c) (suc zero) s q l = absurd (omega (arith, l))
-      by_places rest (suc zero) (suc (suc d)) s q l = lt_of_lt_of_le (in_second e x s m).1 (in_rest d f y q n)
-      by_places rest (suc (suc c)) (suc (suc d)) s q l = rest c d s q (omega (arith, l))
-
   -- each of them is so
   item_so : (spans : List Interval) (here : List Item) (c : ℕ) (e : Item) → ItemsOn nodes tr i spans here → slice_get here c ≡ Some e → IsSo nodes tr e
   item_so [] [] c e h s = absurd (elim c as (λ c. slice_get [] c ≡ Some e → ⊥) [ zero ↦ λ s. cc | suc c ↦ λ s. cc ] s)

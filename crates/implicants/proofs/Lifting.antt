@@ -20,7 +20,7 @@ use Rattle.stl_syntax.specs.SupInf.{Setting, SupInf, minus_one}
 use Rattle.stl_syntax.specs.declared.atom.Atom.{Atom}
 use Rattle.stl_syntax.specs.declared.items.Item.{Item}
 use Rattle.stl_syntax.specs.declared.node.Node.{Node}
-use Rattle.stl_syntax.specs.declared.node.Node.TheVariants.{Const, Atom as Leaf, Not, And, Or, Implies, Until, Eventually, Always, Since, Once, Historically}
+use Rattle.stl_syntax.specs.declared.node.Node.TheVariants.{Atom as Leaf, And, Or, Implies, Until, Since}
 use Rattle.stl_syntax.proofs.FormulaLemmas.{subformula-at}
 use Rattle.stl_syntax.proofs.PostOrderLemmas.{child_below}
 use Rattle.offline_eval.specs.Inputs.{atoms_before, is_atom, TellAtoms}
@@ -201,18 +201,8 @@ is_so false e = absurd (let x : true ≡ false = e in cc)
 
 -- what has an operand is no atom
 pub child_not_atom : (n : Node) (k : ℕ) → IsChild n k → is_atom n ≡ false
-child_not_atom (Const b) k h = refl
 child_not_atom (Leaf a) k h = absurd h
-child_not_atom (Not p) k h = refl
-child_not_atom (And p q) k h = refl
-child_not_atom (Or p q) k h = refl
-child_not_atom (Implies p q) k h = refl
-child_not_atom (Until p q a b) k h = refl
-child_not_atom (Eventually p a b x y) k h = refl
-child_not_atom (Always p a b x y) k h = refl
-child_not_atom (Since p q a b) k h = refl
-child_not_atom (Once p a b x y) k h = refl
-child_not_atom (Historically p a b x y) k h = refl
+child_not_atom _ k h = refl
 
 -- a node of two operands
 pub operands_two : (n : Node) (p q k : ℕ) (other : Option ℕ) → (n ≡ And p q) ⊎ (n ≡ Or p q) ⊎ (n ≡ Implies p q)

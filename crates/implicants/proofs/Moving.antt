@@ -1,18 +1,14 @@
 -- Cut times that are moved, one by one.
-use Rattle.std.proofs.Common.{◌≡◌, ℕ, ◌+◌, ◌<◌, ◌⊎◌, ◌↔◌, inl, inr, Bool, true, false, ℤ, List}
-use Rattle.std.proofs.Common.{[], ◌∷◌, ◌++◌, map, length, take, get_or, sym, ap, subst, ◌∙◌, arith}
-use Rattle.std.specs.Prelude.{IsTrue, slice_get, Some}
+use Rattle.std.proofs.Common.{◌≡◌, ℕ, ◌+◌, ◌<◌, ◌⊎◌, inl, inr, ℤ, List}
+use Rattle.std.proofs.Common.{[], ◌∷◌, ◌++◌, map, length, take, get_or, sym, ap, subst, ◌∙◌}
+use Rattle.std.specs.Prelude.{slice_get, Some}
 use Rattle.std.proofs.lemmas.Option.{slice_get_within, get_or_from_slice_get}
 use Rattle.pl_signal.specs.declared.knot.Knot.{Knot}
 use Rattle.value_laws.specs.declared.truth.Truth.{Truth}
-use Rattle.std.specs.declared.cmp.Ordering.{Ordering}
-use Rattle.std.specs.declared.cmp.Ordering.TheVariants.{Less, Equal, Greater}
-use Rattle.std.specs.Ordering.{is_le}
 use Rattle.std.proofs.lemmas.List.{map_more, map-append, take_more}
 use Rattle.std.proofs.lemmas.List.Elements.{All-push, Contains-append_left, Contains-push, Contains-push_cases}
-use Rattle.rational.specs.Rational.{IsOrder}
 use Rattle.rational.specs.Time.{Rational, Within, shifted, add, whole, ◌≤ʳ◌, ◌<ʳ◌, ◌≈◌}
-use Rattle.rational.proofs.Order.{le_or_lt, le_of_lt, le_of_same, ge_of_same, le_trans, not_lt_of_le, same_refl, same_sym, same_trans}
+use Rattle.rational.proofs.Order.{le_or_lt, le_of_same, ge_of_same, le_trans, not_lt_of_le, same_refl, same_sym, same_trans}
 use Rattle.rational.proofs.TimeLemmas.{same_shifted, shifted-add}
 use Rattle.frac128.specs.Value.{value}
 use Rattle.frac128.specs.declared.frac.Frac.{Frac}
@@ -36,20 +32,8 @@ pub among_right : (xs ys : List Rational) (t : Rational) → IsAmong ys t → Is
 among_right [] ys t m = m
 among_right (x ∷ xs) ys t m = inr (among_right xs ys t m)
 
--- a time is among others however it is written
-pub among_alike : (xs : List Rational) (t u : Rational) → t ≈ u → IsAmong xs u → IsAmong xs t
-among_alike [] t u e m = m
-among_alike (x ∷ xs) t u e (inl f) = inl (same_trans e f)
-among_alike (x ∷ xs) t u e (inr m) = inr (among_alike xs t u e m)
-
 within_alike : {from to t u : Rational} → t ≈ u → Within from to u → Within from to t
 within_alike e w = record { above = le_trans w.above (ge_of_same e); below = le_trans (le_of_same e) w.below }
-
--- a test by an order
-pub le_told : (o : Ordering) (b : Bool) {t u : Rational} → IsOrder o t u → b ≡ is_le o → IsTrue b ↔ (t ≤ʳ u)
-le_told Less b h e = (λ k. le_of_lt h, λ k. e)
-le_told Equal b h e = (λ k. le_of_same h, λ k. e)
-le_told Greater b h e = ((λ k. let x : false ≡ true = sym e ∙ k in absurd (cc)), λ k. absurd (not_lt_of_le k h))
 
 -- what is added by steps
 pub adds_none : {P : Rational → Type 0} {old : List Rational} → ((t : Rational) → ¬ P t) → Adds P old old
@@ -178,7 +162,3 @@ moves_on from to times ks i k d {old} {mid} {new} l before here is =
       | inl a ↦ inl (m, a, h)
       | inr e ↦ inr (subst (λ n. IsMoved from to times n t) (sym e) h)
     ]
-
--- no move moves nothing
-pub no_moves : (from to : Rational) (times : List Rational) (t : Rational) → ¬ IsMovedBy from to times [] t
-no_moves from to times t (k, c, h) = let l = c.1 in absurd (omega (arith, l))

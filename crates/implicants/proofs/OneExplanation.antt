@@ -14,7 +14,7 @@ use Rattle.stl_syntax.specs.PostOrder.{IsPostOrder}
 use Rattle.stl_syntax.proofs.LawProofs.{explanations_hold}
 use Rattle.stl_syntax.specs.declared.items.Item.{Item}
 use Rattle.stl_syntax.specs.declared.node.Node.{Node}
-use Rattle.stl_syntax.specs.declared.node.Node.TheVariants.{Const, Atom as Leaf, Not, And, Or, Implies, Until, Eventually, Always, Since, Once, Historically}
+use Rattle.stl_syntax.specs.declared.node.Node.TheVariants.{Atom as Leaf}
 use Rattle.implicants.specs.Keeping.{CoverMore}
 use Rattle.implicants.proofs.Counting.{AreSameTimes, first_is_same, rest_is_same, cuts_are_same}
 use Rattle.implicants.proofs.Growing.{joined_more, must_not}
@@ -105,17 +105,7 @@ module _ (nodes : List Node) (tr : Trace) where
       (joined_more here later there after
       (items_cover i (cells times) (cells others) here there (same_cells times others (cuts_are_same nodes tr i times others cuts slits)) on off)
       (cells_cover (suc i) ns later after rest more)))
-  cells_cover i (Const b ∷ ns) xs ys a c = cells_cover (suc i) ns xs ys a c
-  cells_cover i (Not p ∷ ns) xs ys a b = cells_cover (suc i) ns xs ys a b
-  cells_cover i (And p q ∷ ns) xs ys a b = cells_cover (suc i) ns xs ys a b
-  cells_cover i (Or p q ∷ ns) xs ys a b = cells_cover (suc i) ns xs ys a b
-  cells_cover i (Implies p q ∷ ns) xs ys a b = cells_cover (suc i) ns xs ys a b
-  cells_cover i (Until p q x y ∷ ns) xs ys a b = cells_cover (suc i) ns xs ys a b
-  cells_cover i (Eventually p x y c d ∷ ns) xs ys a b = cells_cover (suc i) ns xs ys a b
-  cells_cover i (Always p x y c d ∷ ns) xs ys a b = cells_cover (suc i) ns xs ys a b
-  cells_cover i (Since p q x y ∷ ns) xs ys a b = cells_cover (suc i) ns xs ys a b
-  cells_cover i (Once p x y c d ∷ ns) xs ys a b = cells_cover (suc i) ns xs ys a b
-  cells_cover i (Historically p x y c d ∷ ns) xs ys a b = cells_cover (suc i) ns xs ys a b
+  cells_cover i (_ ∷ ns) xs ys a b = cells_cover (suc i) ns xs ys a b
 
   -- what is kept is covered by all cells
   kept_covered : (items : List Item) (k : Kept nodes tr items) → CoverMore items k.all

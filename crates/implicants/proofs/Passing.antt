@@ -42,19 +42,15 @@ IsMarked marks c = slice_index_or marks c false ≡ true
 
 -- a place that is marked in the new list is the one that was set, or was marked
 pub marked_set : (marks : List Bool) (n j : ℕ) → IsMarked (set marks n true) j → (j ≡ n) ⊎ IsMarked marks j
-marked_set [] n j h = inr h
 marked_set (m ∷ marks) zero zero h = inl refl
-marked_set (m ∷ marks) zero (suc j) h = inr h
-marked_set (m ∷ marks) (suc n) zero h = inr h
 marked_set (m ∷ marks) (suc n) (suc j) h = elim (marked_set marks n j h) [ inl e ↦ inl (ap suc e) | inr k ↦ inr k ]
+marked_set _ _ _ h = inr h
 
 -- a further mark leaves the others
 pub set_marked : (marks : List Bool) (n j : ℕ) → IsMarked marks j → IsMarked (set marks n true) j
-set_marked [] n j h = h
 set_marked (m ∷ marks) zero zero h = refl
-set_marked (m ∷ marks) zero (suc j) h = h
-set_marked (m ∷ marks) (suc n) zero h = h
 set_marked (m ∷ marks) (suc n) (suc j) h = set_marked marks n j h
+set_marked _ _ _ h = h
 
 -- the place that was marked is marked
 pub set_here : (marks : List Bool) (n : ℕ) → n < length marks → IsMarked (set marks n true) n
@@ -75,15 +71,11 @@ blank_not marks n j b l h = not_both marks j (b j l) h
 
 -- with more marks more is chosen
 pub chosen_longer : (marks : List Bool) (items : List Item) (c : ℕ) → length (chosen marks items) ≤ length (chosen (set marks c true) items)
-chosen_longer [] items c = omega arith
 chosen_longer (true ∷ marks) [] zero = omega arith
 chosen_longer (false ∷ marks) [] zero = omega arith
-chosen_longer (true ∷ marks) [] (suc c) = omega arith
-chosen_longer (false ∷ marks) [] (suc c) = omega arith
-chosen_longer (true ∷ marks) (e ∷ items) zero = omega arith
-chosen_longer (false ∷ marks) (e ∷ items) zero = omega arith
 chosen_longer (true ∷ marks) (e ∷ items) (suc c) = let x = chosen_longer marks items c in omega (arith, x)
 chosen_longer (false ∷ marks) (e ∷ items) (suc c) = chosen_longer marks items c
+chosen_longer _ _ _ = omega arith
 
 put_longer : (b : Bool) (kept : List Bool) (items : List Item) (c : ℕ)
     → length (chosen kept items) ≤ length (chosen (if b then set kept c true else kept) items)
@@ -338,7 +330,3 @@ module _ (nodes : List Node) (tr : Trace) (items : List Item) where
       fewer : (j : ℕ) → (j < n) ⊎ IsMarked new j → (j < n) ⊎ IsMarked kept j
       fewer j (inl h) = inl h
       fewer j (inr h) = elim (more.only j h) [ inl k ↦ inr k | inr k ↦ inl k.0 ]
-
-  -- and what is sure of more cells is sure of fewer
-  pub sure_shrinks : (left n : ℕ) (marks : List Bool) → n ≤ left → AreSure left marks → AreSure n marks
-  sure_shrinks left n marks l sure c h m = sure c (omega (arith, h, l)) m

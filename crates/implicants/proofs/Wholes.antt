@@ -31,11 +31,9 @@ use Rattle.implicants.proofs.Running.{pushed_at}
 -- an element of a list in which one was put is that one, or was there before
 pub set_there : {A : Type 0} (xs : List A) (k : ℕ) (x : A) (j : ℕ) (y : A) → slice_get (set xs k x) j ≡ Some y
     → ((y ≡ x) × (j ≡ k)) ⊎ (slice_get xs j ≡ Some y)
-set_there [] k x j y h = inr h
 set_there (z ∷ xs) zero x zero y h = inl (sym (same_Some _ _ h), refl)
-set_there (z ∷ xs) zero x (suc j) y h = inr h
-set_there (z ∷ xs) (suc k) x zero y h = inr h
 set_there (z ∷ xs) (suc k) x (suc j) y h = elim (set_there xs k x j y h) [ inl e ↦ inl (e.0, ap suc e.1) | inr m ↦ inr m ]
+set_there _ _ x _ y h = inr h
 
 -- which is at its place
 pub set_here : {A : Type 0} (xs : List A) (k : ℕ) (x y : A) → k < length xs → slice_get (set xs k x) k ≡ Some y → y ≡ x
