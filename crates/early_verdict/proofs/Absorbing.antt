@@ -9,26 +9,9 @@ use Rattle.early_verdict.specs.Joining.{Notes, Absorbs}
 use Rattle.frac128.specs.declared.cut.Cut.{Cut}
 use Rattle.early_verdict.specs.declared.stretch.Stretch.{Stretch}
 use Rattle.rational.proofs.PlaceLemmas.{sides, not_both, before_through, before_of_at_most, before_at_most, not_before_itself}
-use Rattle.early_verdict.proofs.SpanLemmas.{
-  without,
-  on_without,
-  on_left,
-  on_at,
-  tidy_without,
-  front_of,
-  front_without,
-  rest_without,
-  begins_next,
-  begins_still,
-  reaches_at,
-  within_without,
-  on_parts,
-  front_upto,
-  rest_after,
-  tidy_drop,
-  none_ends,
-  from_one_on,
-}
+use Rattle.early_verdict.proofs.SpanLemmas.{without, on_without, on_left, on_at, tidy_without, front_of, front_without}
+use Rattle.early_verdict.proofs.SpanLemmas.{rest_without, begins_next, begins_still, reaches_at, within_without, on_parts}
+use Rattle.early_verdict.proofs.SpanLemmas.{front_upto, rest_after, tidy_drop, none_ends, from_one_on}
 
 -- of the stretches of `old` some went into `joined` and the others stand in `new`; the part was seen up to `seen`
 pub record Absorbing (at : ℕ) (part joined : Stretch) (seen : Cut) (old new told fresh : List Stretch) : Type 0 where
@@ -135,9 +118,6 @@ module _ (at : ℕ) (part joined : Stretch) (seen : Cut) (old new told fresh : L
   ]
 
   module _ (fresh' : List Stretch) (limit : Cut) (notes : Notes (place seen) (place limit) part fresh fresh') where
-    more' : List Stretch
-    more' = a.more ++ notes.more
-
     noted' : fresh' ≡ told ++ (a.more ++ notes.more)
     noted' = notes.noted ∙ ap (λ xs. xs ++ notes.more) a.noted ∙ append_assoc told a.more notes.more
 

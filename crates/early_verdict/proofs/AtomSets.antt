@@ -1,6 +1,6 @@
 -- What a row adds to the two sets of an atom, piece by piece.
 use Rattle.std.proofs.Common.{◌≡◌, ◌⊎◌, inl, inr, refl, sym, ap, subst, ◌∙◌, ◌<◌, arith, Bool, true, false, Option, Some, None, List, [], ◌++◌, append_assoc}
-use Rattle.std.specs.Prelude.{MatchOption, IfSome, IsTrue, IsFalse}
+use Rattle.std.specs.Prelude.{MatchOption, IfSome}
 use Rattle.rational.specs.Time.{Rational, ◌≤ʳ◌, ◌<ʳ◌, ◌≈◌}
 use Rattle.rational.proofs.Order.{le_trans, le_of_lt, le_or_lt, lt_or_same_or_gt, le_of_same, ge_of_same, same_of_le, not_lt_of_le}
 use Rattle.stl_syntax.specs.Trace.{Row, Trace, row_time, start, stop}
@@ -46,17 +46,6 @@ added_alike a b P Q f g h = record {
       (λ t l. f true t) (λ t l. g true t) h.yes;
   no = grows_alike
       (λ t l. f false t) (λ t l. g false t) h.no;
-}
-
--- no time adds nothing
-pub added_none : (a : Sets) (P : Bool → Rational → Type 0) → AreSetsTidy a → ((v : Bool) (t : Rational) → P v t → ⊥) → HasAdded a a P
-added_none a P tidy n = record {
-  tidy = tidy;
-  parts = refl;
-  yes_bounds = refl;
-  no_bounds = refl;
-  yes = grows_not (P true) (λ t l. n true t);
-  no = grows_not (P false) (λ t l. n false t);
 }
 
 -- the piece between two places, by one set
@@ -254,15 +243,6 @@ module _ (a : Atom) (tr : Trace) (before : Option Row) (r : Row) (holds : Bool) 
           → MatchOption old (was.no.spans.items ≡ []) (λ o. Tells was.no.bounds was.no.spans.items (λ t. (t ≤ʳ stop o) × (holds_at a o t ≡ false)))
       was_no None w = w.no
       was_no (Some o) w = w.no
-
--- what a rest and nothing more makes of an atom's sets
-pub rested_fits : (a : Atom) (tr : Trace) (was new : Sets) → HasRested was new → AtomFits a tr was → AtomFits a tr new
-rested_fits a tr was new r h = record {
-  yes = subst (λ b. Tells b new.yes.spans.items (λ t. (t ≤ʳ stop tr) × IsTrue (holds_at a tr t))) (sym r.yes_bounds)
-      (subst (λ xs. Tells was.yes.bounds xs (λ t. (t ≤ʳ stop tr) × IsTrue (holds_at a tr t))) (sym r.yes) h.yes);
-  no = subst (λ b. Tells b new.no.spans.items (λ t. (t ≤ʳ stop tr) × IsFalse (holds_at a tr t))) (sym r.no_bounds)
-      (subst (λ xs. Tells was.no.bounds xs (λ t. (t ≤ʳ stop tr) × IsFalse (holds_at a tr t))) (sym r.no) h.no);
-}
 
 -- where the rows stand side by side
 pub near_of : (a : Atom) (old : Option Trace) (tr : Trace) (before : Option Row) (r : Row) → IsNextRow a old tr before r

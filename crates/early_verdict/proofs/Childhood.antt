@@ -81,16 +81,9 @@ child_or_not p (Historically q a b i j) = cases_eq q p
 pub left_child : (p : ℕ) (n : Node) → left_of n ≡ Some p → IsChild n p
 left_child p (Const b) e = let f : None ≡ Some p = e in cc
 left_child p (Leaf a) e = let f : None ≡ Some p = e in cc
-left_child p (Not q) e = absurd (let f : None ≡ Some p = e in cc)
-left_child p (And q r) e = absurd (let f : None ≡ Some p = e in cc)
-left_child p (Or q r) e = absurd (let f : None ≡ Some p = e in cc)
-left_child p (Implies q r) e = absurd (let f : None ≡ Some p = e in cc)
 left_child p (Until q r a b) e = inl (let f : Some q ≡ Some p = e in cc)
-left_child p (Eventually q a b i j) e = absurd (let f : None ≡ Some p = e in cc)
-left_child p (Always q a b i j) e = absurd (let f : None ≡ Some p = e in cc)
 left_child p (Since q r a b) e = inl (let f : Some q ≡ Some p = e in cc)
-left_child p (Once q a b i j) e = absurd (let f : None ≡ Some p = e in cc)
-left_child p (Historically q a b i j) e = absurd (let f : None ≡ Some p = e in cc)
+left_child p _ e = absurd (let f : None ≡ Some p = e in cc)
 
 -- what stands before a place
 node_before : (nodes : List Node) (j i : ℕ) (n : Node) → i < j → slice_get nodes i ≡ Some n → slice_get (take j nodes) i ≡ Some n

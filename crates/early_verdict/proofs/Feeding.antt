@@ -8,7 +8,7 @@ use Rattle.atom_lines.specs.Binding.{Binding, IsBound}
 use Rattle.stl_syntax.specs.declared.node.Node.{Node}
 use Rattle.early_verdict.specs.Standing.{AllTidy}
 use Rattle.early_verdict.specs.Living.{NetStands}
-use Rattle.early_verdict.specs.Deciding.{Kept, IsAnswer, SetsAre, Stands, decided_by, last_of}
+use Rattle.early_verdict.specs.Deciding.{Kept, IsAnswer, SetsAre, Stands, last_of}
 use Rattle.early_verdict.specs.declared.sets.Sets.{Sets}
 use Rattle.early_verdict.specs.declared.early.Decided.{Decided}
 use Rattle.early_verdict.proofs.DecideLemmas.{none_first}
@@ -85,15 +85,6 @@ passed_by x rows r kept st some width later same =
       subst (λ k. Stands (record x { last = Some k }) (rows ++ r ∷ []) false) (sym same) (passed_stands x rows st d.0 d.1 r width later),
       passed_answer x rows st d.0 d.1 r,
     )
-
--- what is decided once a row has come
-pub by_now : (o now : Option Decided) → o ≡ None → now ≡ decided_by o now
-by_now o now e = subst (λ x. now ≡ decided_by x now) (sym e) refl
-
--- what was decided stays so
-pub by_then : (o now : Option Decided) → is_some o ≡ true → o ≡ decided_by o now
-by_then None now e = absurd (let f : false ≡ true = e in cc)
-by_then (Some d) now e = refl
 
 -- not ended yet, as the caller sees it
 pub unended : (x y : Kept) (rows : List Row) → x ≡ y → y.ended ≡ false → Stands x rows x.ended → Stands x rows false

@@ -57,15 +57,6 @@ since_within tr a b p q s (Some x) h = within_of s (λ t. IsOn x.holding.some.sp
 
 -- sets that fit lie within their bounds
 pub fits_within : (n : Node) (ended : Bool) (tr : Trace) (at : ℕ → Lists) (s : Sets) → Fits n ended tr at s → AreWithin s
-fits_within (Const b) ended tr at s h = record { yes_within = λ u o. (h.yes.only u o).0; no_within = λ u o. (h.no.only u o).0 }
-fits_within (Leaf a) ended tr at s h = record { yes_within = λ u o. (h.yes.only u o).0; no_within = λ u o. (h.no.only u o).0 }
-fits_within (Not p) ended tr at s h = record { yes_within = λ u o. (h.yes.only u o).0; no_within = λ u o. (h.no.only u o).0 }
-fits_within (And p q) ended tr at s h = record { yes_within = λ u o. (h.yes.only u o).0; no_within = λ u o. (h.no.only u o).0 }
-fits_within (Or p q) ended tr at s h = record { yes_within = λ u o. (h.yes.only u o).0; no_within = λ u o. (h.no.only u o).0 }
-fits_within (Implies p q) ended tr at s h = record { yes_within = λ u o. (h.yes.only u o).0; no_within = λ u o. (h.no.only u o).0 }
 fits_within (Until p q a b) ended tr at s h = until_within ended tr a b (at p) (at q) s s.parts h
-fits_within (Eventually p a b j k) ended tr at s h = record { yes_within = λ u o. (h.yes.only u o).0; no_within = λ u o. (h.no.only u o).0 }
-fits_within (Always p a b j k) ended tr at s h = record { yes_within = λ u o. (h.yes.only u o).0; no_within = λ u o. (h.no.only u o).0 }
 fits_within (Since p q a b) ended tr at s h = since_within tr a b (at p) (at q) s s.parts h
-fits_within (Once p a b j k) ended tr at s h = record { yes_within = λ u o. (h.yes.only u o).0; no_within = λ u o. (h.no.only u o).0 }
-fits_within (Historically p a b j k) ended tr at s h = record { yes_within = λ u o. (h.yes.only u o).0; no_within = λ u o. (h.no.only u o).0 }
+fits_within _ ended tr at s h = record { yes_within = λ u o. (h.yes.only u o).0; no_within = λ u o. (h.no.only u o).0 }

@@ -11,7 +11,7 @@ use Rattle.stl_syntax.proofs.EarlyLaw.{settled, settled_not, stays, stays_not}
 use Rattle.stl_syntax.proofs.PostOrderLemmas.{placed}
 use Rattle.stl_syntax.specs.declared.atom.Atom.{Atom}
 use Rattle.stl_syntax.specs.declared.node.Node.{Node}
-use Rattle.stl_syntax.specs.declared.node.Node.TheVariants.{Const, Atom as Leaf, Not, And, Or, Implies, Until, Eventually, Always, Since, Once, Historically}
+use Rattle.stl_syntax.specs.declared.node.Node.TheVariants.{Atom as Leaf}
 use Rattle.atom_lines.specs.Binding.{Binding, IsBound}
 use Rattle.early_verdict.specs.Adding.{IsNextRow}
 use Rattle.early_verdict.specs.Happening.{Happens}
@@ -33,17 +33,7 @@ use Rattle.early_verdict.proofs.Telling.{none_of}
 -- the atoms of a formula are bound
 pub leaves_bound : (b : Binding) (f : Formula) (header : Header) → IsBound b f header → (i : ℕ) (n : Node) → slice_get f.nodes i ≡ Some n → LeafIsBound b i n
 leaves_bound b f header h i (Leaf a) at = let x = h.atoms i a at in (x.0, x.1)
-leaves_bound b f header h i (Const x) at = tt
-leaves_bound b f header h i (Not p) at = tt
-leaves_bound b f header h i (And p q) at = tt
-leaves_bound b f header h i (Or p q) at = tt
-leaves_bound b f header h i (Implies p q) at = tt
-leaves_bound b f header h i (Until p q x y) at = tt
-leaves_bound b f header h i (Eventually p x y j k) at = tt
-leaves_bound b f header h i (Always p x y j k) at = tt
-leaves_bound b f header h i (Since p q x y) at = tt
-leaves_bound b f header h i (Once p x y j k) at = tt
-leaves_bound b f header h i (Historically p x y j k) at = tt
+leaves_bound b f header h i _ at = tt
 
 -- each atom among the nodes goes on with the row, or stays at the end
 all_go : {b : Binding} {f : Formula} {header : Header} (rows : List Row) (e : Entry) (old : Option Trace) (before : Option Row) (r : Row) → IsBound b f header

@@ -10,7 +10,7 @@ use Rattle.rational.specs.Time.{later}
 use Rattle.rational.proofs.Order.{le_trans, le_of_same, ge_of_same}
 use Rattle.stl_syntax.specs.Formula.{HasChildrenBelow}
 use Rattle.stl_syntax.specs.declared.node.Node.{Node}
-use Rattle.stl_syntax.specs.declared.node.Node.TheVariants.{Const, Atom as Leaf, Not, And, Or, Implies, Until, Eventually, Always, Since, Once, Historically}
+use Rattle.stl_syntax.specs.declared.node.Node.TheVariants.{Until, Since}
 use Rattle.rational.specs.Places.{Same}
 use Rattle.frac128.specs.Cuts.{place}
 use Rattle.early_verdict.specs.Spans.{AreTidy}
@@ -217,18 +217,9 @@ with_left n i below bounds s is c h = by_node n c h
     by_node : (n : Node) → HasChildrenBelow i n
         → MatchOption (left_of n) (s.parts ≡ None) (λ p. (l : Sets) → slice_get below p ≡ Some l → HasPartsFor bounds l s)
         → MatchOption (left_of n) (s.parts ≡ None) (λ p. (l : Sets) × (slice_get below p ≡ Some l) × HasPartsFor bounds l s)
-    by_node (Const b) c h = h
-    by_node (Leaf a) c h = h
-    by_node (Not p) c h = h
-    by_node (And p q) c h = h
-    by_node (Or p q) c h = h
-    by_node (Implies p q) c h = h
     by_node (Until p q a b) c h = found p c.0 h
-    by_node (Eventually p a b a_in b_in) c h = h
-    by_node (Always p a b a_in b_in) c h = h
     by_node (Since p q a b) c h = found p c.0 h
-    by_node (Once p a b a_in b_in) c h = h
-    by_node (Historically p a b a_in b_in) c h = h
+    by_node _ c h = h
 
 -- what stands at a place is how far the node there is asked
 pub top_of : (xs : List ℕ) (i r : ℕ) → slice_get xs i ≡ Some r → r ≡ top_at xs i

@@ -62,18 +62,9 @@ module _ (own bounds : Stretch) (s s' : Sets) (y : s.yes.bounds ≡ own) (n : s.
 
   -- sets that go on from fewer times fit still
   pub fits_less : (m : Node) (tr : Trace) (at : ℕ → Lists) → Fits m false tr at s → Fits m false tr at s'
-  fits_less (Const b) tr at h = less_both _ _ h
-  fits_less (Leaf a) tr at h = less_both _ _ h
-  fits_less (Not p) tr at h = less_both _ _ h
-  fits_less (And p q) tr at h = less_both _ _ h
-  fits_less (Or p q) tr at h = less_both _ _ h
-  fits_less (Implies p q) tr at h = less_both _ _ h
   fits_less (Until p q a b) tr at h = run_still _ _ h
-  fits_less (Eventually p a b i j) tr at h = less_both _ _ h
-  fits_less (Always p a b i j) tr at h = less_both _ _ h
   fits_less (Since p q a b) tr at h = run_still _ _ h
-  fits_less (Once p a b i j) tr at h = less_both _ _ h
-  fits_less (Historically p a b i j) tr at h = less_both _ _ h
+  fits_less _ tr at h = less_both _ _ h
 
 -- a node's sets fit by whatever its children show that it looks at
 fits_as : (n : Node) (tr : Trace) (at at' : ℕ → Lists) (s : Sets) → ((p : ℕ) → IsChild n p → at p ≡ at' p) → Fits n false tr at s → Fits n false tr at' s
@@ -261,32 +252,13 @@ module _ {nodes : List Node} {tr : Trace} {live new shown : List Sets} {i : ℕ}
 
 -- of until and since the first has the left operand, and the second too
 run_of_left : (n : Node) → ¬ (IsUntil n) → (p : ℕ) → left_of n ≡ Some p → IsRun n
-run_of_left (Const b) u p e = let f : None ≡ Some p = e in cc
-run_of_left (Leaf a) u p e = let f : None ≡ Some p = e in cc
-run_of_left (Not q) u p e = let f : None ≡ Some p = e in cc
-run_of_left (And q r) u p e = let f : None ≡ Some p = e in cc
-run_of_left (Or q r) u p e = let f : None ≡ Some p = e in cc
-run_of_left (Implies q r) u p e = let f : None ≡ Some p = e in cc
 run_of_left (Until q r a b) u p e = u tt
-run_of_left (Eventually q a b i j) u p e = let f : None ≡ Some p = e in cc
-run_of_left (Always q a b i j) u p e = let f : None ≡ Some p = e in cc
 run_of_left (Since q r a b) u p e = tt
-run_of_left (Once q a b i j) u p e = let f : None ≡ Some p = e in cc
-run_of_left (Historically q a b i j) u p e = let f : None ≡ Some p = e in cc
+run_of_left _ u p e = let f : None ≡ Some p = e in cc
 
 run_or_not : (n : Node) → IsRun n ⊎ ¬ (IsRun n)
-run_or_not (Const b) = inr (λ h. h)
-run_or_not (Leaf a) = inr (λ h. h)
-run_or_not (Not q) = inr (λ h. h)
-run_or_not (And q r) = inr (λ h. h)
-run_or_not (Or q r) = inr (λ h. h)
-run_or_not (Implies q r) = inr (λ h. h)
-run_or_not (Until q r a b) = inr (λ h. h)
-run_or_not (Eventually q a b i j) = inr (λ h. h)
-run_or_not (Always q a b i j) = inr (λ h. h)
 run_or_not (Since q r a b) = inl tt
-run_or_not (Once q a b i j) = inr (λ h. h)
-run_or_not (Historically q a b i j) = inr (λ h. h)
+run_or_not _ = inr (λ h. h)
 
 -- something stands at a place, or nothing is shown there
 at_or_not : (xs : List Sets) (p : ℕ) → ((x : Sets) × (slice_get xs p ≡ Some x)) ⊎ (((u : Rational) → ¬ (IsShown xs p u)) × (lists_at xs p ≡ nothing))

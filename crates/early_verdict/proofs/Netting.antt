@@ -8,7 +8,7 @@ use Rattle.rational.proofs.Lists.{slice_get_there}
 use Rattle.stl_syntax.specs.Trace.{Row, Trace, start}
 use Rattle.stl_syntax.specs.Formula.{HasChildrenBelow}
 use Rattle.stl_syntax.specs.declared.node.Node.{Node}
-use Rattle.stl_syntax.specs.declared.node.Node.TheVariants.{Const, Atom as Leaf, Not, And, Or, Implies, Until, Eventually, Always, Since, Once, Historically}
+use Rattle.stl_syntax.specs.declared.node.Node.TheVariants.{Atom as Leaf}
 use Rattle.atom_lines.specs.Binding.{Binding}
 use Rattle.early_verdict.specs.Spans.{Lies}
 use Rattle.early_verdict.specs.Fitting.{Lists, Fits, HasStepped, HadLists, HasFailBounds, AreSetsTidy, lists_at, nothing}
@@ -187,17 +187,7 @@ module _ {nodes : List Node} (b : Binding) {e : Entry} (before : Option Row) (r 
       let g = go i a at in
       let k = have.has i (Leaf a) s x at is ix in
       (g.0, g.1, λ t l. elim l [ inl y ↦ k.starts t (subst (λ c. Lies c t) k.yes y) | inr y ↦ k.starts t (subst (λ c. Lies c t) k.no y) ])
-  leaf_goes i (Const v) s x at is ix = tt
-  leaf_goes i (Not p) s x at is ix = tt
-  leaf_goes i (And p q) s x at is ix = tt
-  leaf_goes i (Or p q) s x at is ix = tt
-  leaf_goes i (Implies p q) s x at is ix = tt
-  leaf_goes i (Until p q u v) s x at is ix = tt
-  leaf_goes i (Eventually p u v j k) s x at is ix = tt
-  leaf_goes i (Always p u v j k) s x at is ix = tt
-  leaf_goes i (Since p q u v) s x at is ix = tt
-  leaf_goes i (Once p u v j k) s x at is ix = tt
-  leaf_goes i (Historically p u v j k) s x at is ix = tt
+  leaf_goes i _ s x at is ix = tt
 
   own_was : (i : ℕ) (n : Node) (s : Sets) → slice_get nodes i ≡ Some n → slice_get first i ≡ Some s → Was old (λ o. Fits n false o (lists_at first_shown)) s
   own_was i n s at is = by_old old were

@@ -26,11 +26,9 @@ put_here (x ∷ xs) (suc i) s h = put_here xs i s (omega (arith, h))
 -- the others stay
 pub put_there : (xs : List Sets) (i j : ℕ) (s : Sets) → j ≢ i → slice_get (put xs i s) j ≡ slice_get xs j
 unfolding put
-put_there [] i j s n = refl
 put_there (x ∷ xs) zero zero s n = absurd (n refl)
-put_there (x ∷ xs) zero (suc j) s n = refl
-put_there (x ∷ xs) (suc i) zero s n = refl
 put_there (x ∷ xs) (suc i) (suc j) s n = put_there xs i j s (λ e. n (ap suc e))
+put_there _ _ _ s n = refl
 
 -- once one node's sets are put there are as many as before
 pub put_count : (xs : List Sets) (i : ℕ) (s : Sets) → length (put xs i s) ≡ length xs
@@ -45,13 +43,6 @@ unfolding put
 put_joined [] i s h = absurd (omega (arith, h))
 put_joined (x ∷ xs) zero s h = refl
 put_joined (x ∷ xs) (suc i) s h = ap (λ l. x ∷ l) (put_joined xs i s (omega (arith, h)))
-
--- the first of those from a place on
-pub first_from : (xs : List Sets) (i : ℕ) (s : Sets) → slice_get (drop i xs) 0 ≡ Some s → slice_get xs i ≡ Some s
-first_from [] zero s e = e
-first_from [] (suc i) s e = e
-first_from (x ∷ xs) zero s e = e
-first_from (x ∷ xs) (suc i) s e = first_from xs i s e
 
 -- those before a place
 pub taken_at : (xs : List Sets) (i p : ℕ) → p < i → slice_get (take i xs) p ≡ slice_get xs p

@@ -1,5 +1,5 @@
 -- What an early verdict stands for goes on with a row, and to the end.
-use Rattle.std.proofs.Common.{◌≡◌, refl, sym, ap, subst, ◌∙◌, ℕ, ◌<◌, Bool, true, false, Option, Some, None, List, [], ◌∷◌, ◌++◌, length, arith}
+use Rattle.std.proofs.Common.{◌≡◌, refl, sym, ap, subst, ◌∙◌, ℕ, ◌<◌, Bool, false, Option, Some, None, List, [], ◌∷◌, ◌++◌, length, arith}
 use Rattle.std.specs.Prelude.{MatchOption, IfSome, option_map, IsSome, slice_get}
 use Rattle.rational.specs.Time.{◌≤ʳ◌}
 use Rattle.stl_syntax.specs.Trace.{Header, Row, AreRows, row_time, stop}
@@ -185,29 +185,6 @@ module _ (x : Kept) (rows : List Row) (st : Stands x rows false) (d : Decided) (
   -- once a row has decided no later row is the first that decides
   pub passed_answer : (r : Row) (b : Bool) → FirstDecides (root x.nodes) x.header rows r b → ⊥
   passed_answer r b f = not_again (root x.nodes) x.header rows d r b was f
-
--- the end
-pub ended_stands : (x : Kept) (rows : List Row) (live shown : List Sets) → Stands x rows false
-    → Stands (record x { live = live; shown = shown; ended = true }) rows true
-ended_stands x rows live shown st = record {
-  formed = st.formed;
-  some = st.some;
-  scale = st.scale;
-  bound = st.bound;
-  so_far = st.so_far;
-  running = st.running;
-  is_ended = refl;
-  last = st.last;
-  by = by_some x.decided st.by;
-}
-  where
-    by_some : (o : Option Decided)
-        → MatchOption o (NoneDecides (root x.nodes) x.header rows × (x.ended ≡ false → SetsAre x.nodes x.header x.begin x.live x.shown rows))
-        (WasDecided (root x.nodes) x.header rows)
-        → MatchOption o (NoneDecides (root x.nodes) x.header rows × (true ≡ false → SetsAre x.nodes x.header x.begin live shown rows))
-        (WasDecided (root x.nodes) x.header rows)
-    by_some None h = (h.0, λ e. absurd (let f : true ≡ false = e in cc))
-    by_some (Some d) h = h
 
 -- what had been decided is the truth at the end
 pub decided_end : (x : Kept) (rows : List Row) (d : Decided) → Stands x rows false → x.decided ≡ Some d → IsSome x.last

@@ -12,17 +12,7 @@ use Rattle.early_verdict.specs.Tops.{rest_reach, Rises, StayFrom}
 -- a node looks no further than it adds to the reach
 looks_within : (n : Node) → looks_ahead n ≤ own_reach n
 looks_within (Const b) = omega arith
-looks_within (Leaf a) = omega arith
-looks_within (Not p) = omega arith
-looks_within (And p q) = omega arith
-looks_within (Or p q) = omega arith
-looks_within (Implies p q) = omega arith
-looks_within (Until p q a b) = omega arith
-looks_within (Eventually p a b a_in b_in) = omega arith
-looks_within (Always p a b a_in b_in) = omega arith
-looks_within (Since p q a b) = omega arith
-looks_within (Once p a b a_in b_in) = omega arith
-looks_within (Historically p a b a_in b_in) = omega arith
+looks_within _ = omega arith
 
 -- a node and those after it
 pub reach_from : (nodes : List Node) (i : ℕ) (n : Node) → slice_get nodes i ≡ Some n → looks_ahead n + rest_reach nodes (i + 1) ≤ rest_reach nodes i
