@@ -9,8 +9,8 @@ use Rattle.early_verdict.specs.Spans.{Lies, IsOn, IsAmong, AreTidy}
 use Rattle.early_verdict.specs.Reaching.{GoesTo, GoesBack}
 use Rattle.early_verdict.specs.declared.stretch.Stretch.{Stretch}
 use Rattle.rational.proofs.PlaceLemmas.{sides, before_through, le_through, upto_earlier, after_later}
-use Rattle.early_verdict.proofs.RunLemmas.{one_of, on_one}
-use Rattle.early_verdict.proofs.Gaps.{gap_next, gap_last, meets, covers, on_same}
+use Rattle.early_verdict.proofs.RunLemmas.{gap_next, gap_last, one_of, on_one}
+use Rattle.early_verdict.proofs.Gaps.{meets, covers, on_same}
 
 -- just before a time, and just after it
 abbrev pub at_time : Rational → Place

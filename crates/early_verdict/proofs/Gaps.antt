@@ -1,6 +1,6 @@
 -- Gaps right beside a stretch of a list, and what a list has between two places.
-use Rattle.std.proofs.Common.{◌⊎◌, inl, inr, sym, subst, List, [], ◌∷◌}
-use Rattle.rational.specs.Time.{Rational, ◌≤ʳ◌}
+use Rattle.std.proofs.Common.{◌⊎◌, inl, inr, List, [], ◌∷◌}
+use Rattle.rational.specs.Time.{Rational}
 use Rattle.rational.proofs.Order.{le_of_same, ge_of_same}
 use Rattle.rational.specs.Rational.{◌≈◌}
 use Rattle.rational.specs.Places.{Place, After, Upto, Before}
@@ -8,73 +8,11 @@ use Rattle.frac128.specs.Cuts.{place}
 use Rattle.early_verdict.specs.Spans.{IsOn, IsAmong, AreTidy}
 use Rattle.early_verdict.specs.Steps.{HoldsFrom}
 use Rattle.early_verdict.specs.declared.stretch.Stretch.{Stretch}
-use Rattle.rational.proofs.PlaceLemmas.{sides, not_both, between, share, before_trans, before_through, upto_earlier, after_later}
-use Rattle.rational.proofs.PlaceLemmas.{upto_of_before, after_of_before, at_most_of_not_before, after_at_most, le_through}
+use Rattle.rational.proofs.PlaceLemmas.{sides, not_both, between, share, before_through, upto_earlier, after_later}
+use Rattle.rational.proofs.PlaceLemmas.{after_of_before, at_most_of_not_before, after_at_most, le_through}
 use Rattle.early_verdict.proofs.StretchLemmas.{rises}
-use Rattle.early_verdict.proofs.SpanLemmas.{rest_after}
-use Rattle.early_verdict.proofs.RunLemmas.{later_before, earlier_after, among_after, gap_before, gap_after, one_of, on_one, decided, decided_among}
+use Rattle.early_verdict.proofs.RunLemmas.{gap_before, gap_after, one_of, on_one, decided, decided_among}
 use Rattle.early_verdict.proofs.SetLaws.{decided_from}
-
--- right after a stretch of the list there is a gap, up to some time before a place
-pub gap_next : (xs : List Stretch) (p : Stretch) (c : Place) → AreTidy xs → IsAmong p xs → Before (place p.to) c
-    → (v : Rational) × After (place p.to) v × Upto c v × ((y : Rational) → After (place p.to) y → y ≤ʳ v → ¬ (IsOn xs y))
-gap_next [] p c h m b = absurd m
-gap_next (x ∷ []) p c h (inl e) b =
-    let t = between (place p.to) c b in (
-      t.0,
-      t.1,
-      t.2,
-      λ y a l o. elim o [ inl k ↦ not_both (place x.to) y k.1 (subst (λ s. After (place s.to) y) e a) | inr r ↦ absurd r ],
-    )
-gap_next (x ∷ r ∷ xs) p c h (inl e) b =
-    let k = earlier_after c (place r.from) (place p.to) b (subst (λ s. Before (place s.to) (place r.from)) (sym e) h.0) in
-    let t = between (place p.to) k.0 k.1 in
-    let u = (k.2 t.0 t.2).1 in (
-      t.0,
-      t.1,
-      (k.2 t.0 t.2).0,
-      λ y a l o. elim o [
-        | inl i ↦ not_both (place x.to) y i.1 (subst (λ s. After (place s.to) y) e a)
-        | inr q ↦ elim q [
-          | inl i ↦ not_both (place r.from) y (upto_earlier (place r.from) y t.0 l u) i.0
-          | inr i ↦ not_both (place r.to) y (upto_of_before (place r.from) (place r.to) y (rises r) (upto_earlier (place r.from) y t.0 l u))
-              (rest_after (place r.to) xs y h.1.1 h.1.0 i)
-        ]
-      ],
-    )
-gap_next (x ∷ xs) p c h (inr m) b =
-    let g = gap_next xs p c h.1 m b in
-    let k = before_trans (place x.to) (place p.from) (place p.to) (among_after (place x.to) xs p h.0 h.1 m) (rises p) in (
-      g.0,
-      g.1,
-      g.2,
-      λ y a l o. elim o [ inl i ↦ not_both (place x.to) y i.1 (after_of_before (place x.to) (place p.to) y k a) | inr r ↦ g.3 y a l r ],
-    )
-
--- and right before it, from some time after a place on
-pub gap_last : (xs : List Stretch) (p : Stretch) (c : Place) → AreTidy xs → IsAmong p xs → Before c (place p.from)
-    → (v : Rational) × After c v × Upto (place p.from) v × ((y : Rational) → v ≤ʳ y → Upto (place p.from) y → ¬ (IsOn xs y))
-gap_last [] p c h m b = absurd m
-gap_last (x ∷ xs) p c h (inl e) b =
-    let t = between c (place p.from) b in (
-      t.0,
-      t.1,
-      t.2,
-      λ y l u o.
-          let w : Upto (place x.from) y = subst (λ s. Upto (place s.from) y) e u in
-          elim o [
-            | inl i ↦ not_both (place x.from) y w i.0
-            | inr r ↦ not_both (place x.to) y (upto_of_before (place x.from) (place x.to) y (rises x) w) (rest_after (place x.to) xs y h.1 h.0 r)
-          ],
-    )
-gap_last (x ∷ xs) p c h (inr m) b =
-    let k = later_before c (place x.to) (place p.from) b (among_after (place x.to) xs p h.0 h.1 m) in
-    let g = gap_last xs p k.0 h.1 m k.1 in (
-      g.0,
-      (k.2 g.0 g.1).0,
-      g.2,
-      λ y l u o. elim o [ inl i ↦ not_both (place x.to) y i.1 (k.2 y (after_later k.0 g.0 y l g.1)).1 | inr r ↦ g.3 y l u r ],
-    )
 
 -- the list has some time between two places, or none
 pub meets : (c d : Place) (xs : List Stretch)

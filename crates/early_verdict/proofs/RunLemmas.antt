@@ -1,12 +1,14 @@
 -- Times without a break in a list of stretches lie in one of them; and what lists decide.
 use Rattle.std.proofs.Common.{◌⊎◌, inl, inr, refl, sym, subst, List, [], ◌∷◌}
 use Rattle.rational.specs.Rational.{Rational}
+use Rattle.rational.specs.Time.{◌≤ʳ◌}
+use Rattle.rational.proofs.Order.{le_refl}
 use Rattle.rational.specs.Places.{Place, After, Upto, Before}
 use Rattle.frac128.specs.Cuts.{place}
 use Rattle.early_verdict.specs.Spans.{Lies, IsOn, IsAmong, AreTidy, BeginsAfter}
 use Rattle.early_verdict.specs.declared.stretch.Stretch.{Stretch}
 use Rattle.rational.proofs.PlaceLemmas.{not_both, between, before_trans, place_order, after_of_before, upto_of_before, upto_same, same_places, after_same}
-use Rattle.rational.proofs.PlaceLemmas.{le_through, upto_earlier}
+use Rattle.rational.proofs.PlaceLemmas.{after_later, le_through, upto_earlier}
 use Rattle.early_verdict.proofs.StretchLemmas.{rises}
 use Rattle.early_verdict.proofs.SpanLemmas.{begins_through, rest_after}
 
@@ -36,65 +38,76 @@ among_after c [] p b h m = absurd m
 among_after c (x ∷ xs) p b h (inl e) = subst (λ s. Before c (place s.from)) (sym e) b
 among_after c (x ∷ xs) p b h (inr m) = among_after c xs p (begins_through c x xs b h.0) h.1 m
 
--- before a stretch of the list there is a gap
-pub gap_before : (xs : List Stretch) (p : Stretch) (c : Place) → AreTidy xs → IsAmong p xs → Before c (place p.from)
-    → (v : Rational) × After c v × Upto (place p.from) v × ¬ (IsOn xs v)
-gap_before [] p c h m b = absurd m
-gap_before (x ∷ xs) p c h (inl e) b =
-    let t = between c (place p.from) b in
-    let u : Upto (place x.from) t.0 = subst (λ s. Upto (place s.from) t.0) e t.2 in (
-      t.0,
-      t.1,
-      t.2,
-      λ o. elim o [
-        | inl l ↦ not_both (place x.from) t.0 u l.0
-        | inr r ↦ not_both (place x.to) t.0 (upto_of_before (place x.from) (place x.to) t.0 (rises x) u) (rest_after (place x.to) xs t.0 h.1 h.0 r)
-      ],
-    )
-gap_before (x ∷ xs) p c h (inr m) b =
-    let k = later_before c (place x.to) (place p.from) b (among_after (place x.to) xs p h.0 h.1 m) in
-    let g = gap_before xs p k.0 h.1 m k.1 in (
-      g.0,
-      (k.2 g.0 g.1).0,
-      g.2,
-      λ o. elim o [ inl l ↦ not_both (place x.to) g.0 l.1 (k.2 g.0 g.1).1 | inr r ↦ g.3 r ],
-    )
-
--- and so after it
-pub gap_after : (xs : List Stretch) (p : Stretch) (c : Place) → AreTidy xs → IsAmong p xs → Before (place p.to) c
-    → (v : Rational) × After (place p.to) v × Upto c v × ¬ (IsOn xs v)
-gap_after [] p c h m b = absurd m
-gap_after (x ∷ []) p c h (inl e) b =
+-- right after a stretch of the list there is a gap, up to some time before a place
+pub gap_next : (xs : List Stretch) (p : Stretch) (c : Place) → AreTidy xs → IsAmong p xs → Before (place p.to) c
+    → (v : Rational) × After (place p.to) v × Upto c v × ((y : Rational) → After (place p.to) y → y ≤ʳ v → ¬ (IsOn xs y))
+gap_next [] p c h m b = absurd m
+gap_next (x ∷ []) p c h (inl e) b =
     let t = between (place p.to) c b in (
       t.0,
       t.1,
       t.2,
-      λ o. elim o [ inl l ↦ not_both (place x.to) t.0 l.1 (subst (λ s. After (place s.to) t.0) e t.1) | inr r ↦ absurd r ],
+      λ y a l o. elim o [ inl k ↦ not_both (place x.to) y k.1 (subst (λ s. After (place s.to) y) e a) | inr r ↦ absurd r ],
     )
-gap_after (x ∷ y ∷ xs) p c h (inl e) b =
-    let k = earlier_after c (place y.from) (place p.to) b (subst (λ s. Before (place s.to) (place y.from)) (sym e) h.0) in
+gap_next (x ∷ r ∷ xs) p c h (inl e) b =
+    let k = earlier_after c (place r.from) (place p.to) b (subst (λ s. Before (place s.to) (place r.from)) (sym e) h.0) in
     let t = between (place p.to) k.0 k.1 in
     let u = (k.2 t.0 t.2).1 in (
       t.0,
       t.1,
       (k.2 t.0 t.2).0,
-      λ o. elim o [
-        | inl l ↦ not_both (place x.to) t.0 l.1 (subst (λ s. After (place s.to) t.0) e t.1)
-        | inr r ↦ elim r [
-          | inl l ↦ not_both (place y.from) t.0 u l.0
-          | inr q ↦ not_both (place y.to) t.0 (upto_of_before (place y.from) (place y.to) t.0 (rises y) u)
-              (rest_after (place y.to) xs t.0 h.1.1 h.1.0 q)
+      λ y a l o. elim o [
+        | inl i ↦ not_both (place x.to) y i.1 (subst (λ s. After (place s.to) y) e a)
+        | inr q ↦ elim q [
+          | inl i ↦ not_both (place r.from) y (upto_earlier (place r.from) y t.0 l u) i.0
+          | inr i ↦ not_both (place r.to) y (upto_of_before (place r.from) (place r.to) y (rises r) (upto_earlier (place r.from) y t.0 l u))
+              (rest_after (place r.to) xs y h.1.1 h.1.0 i)
         ]
       ],
     )
-gap_after (x ∷ xs) p c h (inr m) b =
-    let g = gap_after xs p c h.1 m b in
+gap_next (x ∷ xs) p c h (inr m) b =
+    let g = gap_next xs p c h.1 m b in
     let k = before_trans (place x.to) (place p.from) (place p.to) (among_after (place x.to) xs p h.0 h.1 m) (rises p) in (
       g.0,
       g.1,
       g.2,
-      λ o. elim o [ inl l ↦ not_both (place x.to) g.0 l.1 (after_of_before (place x.to) (place p.to) g.0 k g.1) | inr r ↦ g.3 r ],
+      λ y a l o. elim o [ inl i ↦ not_both (place x.to) y i.1 (after_of_before (place x.to) (place p.to) y k a) | inr r ↦ g.3 y a l r ],
     )
+
+-- and right before it, from some time after a place on
+pub gap_last : (xs : List Stretch) (p : Stretch) (c : Place) → AreTidy xs → IsAmong p xs → Before c (place p.from)
+    → (v : Rational) × After c v × Upto (place p.from) v × ((y : Rational) → v ≤ʳ y → Upto (place p.from) y → ¬ (IsOn xs y))
+gap_last [] p c h m b = absurd m
+gap_last (x ∷ xs) p c h (inl e) b =
+    let t = between c (place p.from) b in (
+      t.0,
+      t.1,
+      t.2,
+      λ y l u o.
+          let w : Upto (place x.from) y = subst (λ s. Upto (place s.from) y) e u in
+          elim o [
+            | inl i ↦ not_both (place x.from) y w i.0
+            | inr r ↦ not_both (place x.to) y (upto_of_before (place x.from) (place x.to) y (rises x) w) (rest_after (place x.to) xs y h.1 h.0 r)
+          ],
+    )
+gap_last (x ∷ xs) p c h (inr m) b =
+    let k = later_before c (place x.to) (place p.from) b (among_after (place x.to) xs p h.0 h.1 m) in
+    let g = gap_last xs p k.0 h.1 m k.1 in (
+      g.0,
+      (k.2 g.0 g.1).0,
+      g.2,
+      λ y l u o. elim o [ inl i ↦ not_both (place x.to) y i.1 (k.2 y (after_later k.0 g.0 y l g.1)).1 | inr r ↦ g.3 y l u r ],
+    )
+
+-- so there is one before it
+pub gap_before : (xs : List Stretch) (p : Stretch) (c : Place) → AreTidy xs → IsAmong p xs → Before c (place p.from)
+    → (v : Rational) × After c v × Upto (place p.from) v × ¬ (IsOn xs v)
+gap_before xs p c h m b = let g = gap_last xs p c h m b in (g.0, g.1, g.2, g.3 g.0 (le_refl g.0) g.2)
+
+-- and after it
+pub gap_after : (xs : List Stretch) (p : Stretch) (c : Place) → AreTidy xs → IsAmong p xs → Before (place p.to) c
+    → (v : Rational) × After (place p.to) v × Upto c v × ¬ (IsOn xs v)
+gap_after xs p c h m b = let g = gap_next xs p c h m b in (g.0, g.1, g.2, g.3 g.0 g.1 (le_refl g.0))
 
 -- the stretch of the list that holds a time
 pub one_of : (xs : List Stretch) (t : Rational) → IsOn xs t → (p : Stretch) × IsAmong p xs × Lies p t
