@@ -1,4 +1,4 @@
--- The windows of operators, in the words of the early reading.
+-- Times that are moved back, and times that are moved on.
 use Rattle.std.proofs.Common.{ℕ, pos}
 use Rattle.std.specs.Prelude.{◌↔◌}
 use lib.IntN.{neg_ℤ}
