@@ -332,7 +332,7 @@ fn words_of_no_form_are_told(rt: HostRuntime) -> Result<(), Fail> {
 }
 
 #[test]
-fn a_device_that_fails_is_told(rt: HostRuntime) -> Result<(), Fail> {
+fn a_read_that_fails_is_told(rt: HostRuntime) -> Result<(), Fail> {
     let alloc = rt.alloc();
     let five: &[&str] = &["check", "x >= 5"];
     let unread = refused(five, "read fault\n", 5);
@@ -343,8 +343,13 @@ fn a_device_that_fails_is_told(rt: HostRuntime) -> Result<(), Fail> {
         };
         assert!(rt; agrees(alloc, unread, devices)?, "read {read_fails}");
     }
+    Ok(())
+}
+
+#[test]
+fn a_write_that_fails_is_told(rt: HostRuntime) -> Result<(), Fail> {
     let cut_off = Case {
-        words: five,
+        words: &["check", "x >= 5"],
         input: RISE,
         out: "[0,5) fals",
         err: "write fault\n",
@@ -355,7 +360,13 @@ fn a_device_that_fails_is_told(rt: HostRuntime) -> Result<(), Fail> {
         write_most: 10,
         ..pieces(4096)
     };
-    assert!(rt; agrees(alloc, cut_off, devices)?);
+    assert!(rt; agrees(rt.alloc(), cut_off, devices)?);
+    Ok(())
+}
+
+#[test]
+fn a_message_that_fails_changes_no_status(rt: HostRuntime) -> Result<(), Fail> {
+    let alloc = rt.alloc();
     let devices = Devices {
         tell_fails: 2,
         ..pieces(7)

@@ -238,6 +238,33 @@ fn of(before: &[Vec<Option<bool>>], place: usize) -> &[Option<bool>] {
     }
 }
 
+/// What rows settle of an atom: its truth up to the last row.
+fn listed(alloc: Global, truth: &[bool], rows: SoFar) -> Result<Vec<Option<bool>>, AllocError> {
+    let mut all = Vec::new(alloc);
+    for i in 0..rows.wide {
+        let known = if i <= rows.last { truth.get(i) } else { None };
+        all.push(match known {
+            Some(holds) => Some(*holds),
+            None => None,
+        })?;
+    }
+    Ok(all)
+}
+
+/// What is settled of a connective, of that of its operands.
+fn all_linked(
+    alloc: Global,
+    link: Link,
+    left: &[Option<bool>],
+    right: &[Option<bool>],
+) -> Result<Vec<Option<bool>>, AllocError> {
+    let mut all = Vec::new(alloc);
+    for (a, b) in left.iter().zip(right.iter()) {
+        all.push(linked(link, *a, *b))?;
+    }
+    Ok(all)
+}
+
 /// What is settled of a node, of that of those before it.
 fn settled(
     alloc: Global,
@@ -247,29 +274,9 @@ fn settled(
 ) -> Result<Vec<Option<bool>>, AllocError> {
     match &node.says {
         Says::Always(holds) => all_of(alloc, Some(*holds), rows.wide),
-        Says::Listed => {
-            let mut all = Vec::new(alloc);
-            for i in 0..rows.wide {
-                let known = if i <= rows.last {
-                    node.truth.get(i)
-                } else {
-                    None
-                };
-                all.push(match known {
-                    Some(truth) => Some(*truth),
-                    None => None,
-                })?;
-            }
-            Ok(all)
-        }
+        Says::Listed => listed(alloc, &node.truth, rows),
         Says::Not(p) => turned(alloc, of(before, *p)),
-        Says::Linked(link, p, q) => {
-            let mut all = Vec::new(alloc);
-            for (a, b) in of(before, *p).iter().zip(of(before, *q).iter()) {
-                all.push(linked(*link, *a, *b))?;
-            }
-            Ok(all)
-        }
+        Says::Linked(link, p, q) => all_linked(alloc, *link, of(before, *p), of(before, *q)),
         Says::Timed(operator, bound, p, q) => {
             timed(
                 alloc,

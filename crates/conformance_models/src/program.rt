@@ -22,6 +22,15 @@ fn text_of(alloc: Global, sink: &MemSink) -> Result<String, Fail> {
     Ok(String::from_utf8_lossy(alloc, sink.written())?)
 }
 
+/// The words of a request.
+fn words_of(alloc: Global, command: &str, formula: &str) -> Result<Vec<String>, Fail> {
+    let mut words = Vec::new(alloc);
+    for word in [command, formula] {
+        words.push(String::from_str(alloc, word)?)?;
+    }
+    Ok(words)
+}
+
 /// What a command with a formula answers to an input, where the bytes come and go in pieces of at most a size.
 pub(crate) fn answer(
     alloc: Global,
@@ -30,9 +39,7 @@ pub(crate) fn answer(
     input: &str,
     size: usize,
 ) -> Result<Reply, Fail> {
-    let mut words = Vec::new(alloc);
-    words.push(String::from_str(alloc, command)?)?;
-    words.push(String::from_str(alloc, formula)?)?;
+    let words = words_of(alloc, command, formula)?;
     let bytes = Vec::from_slice(alloc, input.as_bytes())?;
     let mut source = MemSource::new(bytes, size.max(1), Vec::new(alloc));
     let (mut out, mut err) = (sink(alloc, size)?, sink(alloc, size)?);

@@ -12,7 +12,7 @@ use std::process::Abort;
 use value_laws::{Kleene, Margin, Shape, Truth};
 
 /// Whether the time is within 2^34.
-fn is_near(t: &Frac) -> bool
+pub(crate) fn is_near(t: &Frac) -> bool
     ensures { IsTrue result → IsWithin (2 ^ 34) (value t.now) }
 {
     let (low, high) = (Frac::of(-(1 << 34)), Frac::of(1 << 34));
@@ -80,7 +80,7 @@ fn cut<P: Shape>(rt: &impl Abort, s: &Signal<P>, from: i64, to: i64) -> Signal<P
 }
 
 #[test]
-fn knots_that_are_not_needed_leave(rt: HostRuntime) {
+fn knots_between_equal_truths_leave(rt: HostRuntime) {
     let (yes, no) = (Truth::of(true), Truth::of(false));
     let merged = signal(
         &rt,
@@ -95,7 +95,10 @@ fn knots_that_are_not_needed_leave(rt: HostRuntime) {
     assert!(&rt; kept.len() == 3, "the value at 3 is another");
     assert!(&rt; !read(&rt, &kept, 3, 1).holds());
     assert!(&rt; read(&rt, &kept, 7, 2).holds());
+}
 
+#[test]
+fn knots_on_one_line_leave(rt: HostRuntime) {
     let rise = Margin::Ramp(Ramp::make(0, 0, 1, 1));
     let also = Margin::Ramp(Ramp::make(10, 10, 2, 2));
     let line = signal(
@@ -117,6 +120,10 @@ fn knots_that_are_not_needed_leave(rt: HostRuntime) {
         &[(rise, 4, Margin::Fixed(Frac::of(5))), (also, 9, rise)],
     );
     assert!(&rt; jump.len() == 3);
+}
+
+#[test]
+fn knots_between_infinite_or_unknown_pieces_leave(rt: HostRuntime) {
     let high = signal(
         &rt,
         rt.alloc(),
@@ -140,35 +147,53 @@ fn knots_that_are_not_needed_leave(rt: HostRuntime) {
     assert!(&rt; open.len() == 3);
 }
 
+/// Stops at the first time at which the signal has another truth.
+fn expect_truths(rt: &impl Abort, s: &Signal<Truth>, table: &[(i64, i64, bool)]) {
+    for (num, den, holds) in table {
+        assert!(rt; read(rt, s, *num, *den).holds() == *holds, "{num}/{den}");
+    }
+}
+
 #[test]
 fn a_signal_is_read_at_each_time(rt: HostRuntime) {
     let (yes, no) = (Truth::of(true), Truth::of(false));
     let s = signal(&rt, rt.alloc(), 2, no, &[(yes, 5, no), (no, 7, yes)]);
     assert!(&rt; s.start() == Frac::of(2) && s.stop() == Frac::of(7));
-    assert!(&rt; !read(&rt, &s, 2, 1).holds());
-    assert!(&rt; read(&rt, &s, 5, 2).holds());
-    assert!(&rt; !read(&rt, &s, 5, 1).holds());
-    assert!(&rt; !read(&rt, &s, 13, 2).holds());
-    assert!(&rt; read(&rt, &s, 7, 1).holds());
-    assert!(&rt; s.at(&Frac::of(1)).is_none());
-    assert!(&rt; s.at(&Frac::of(8)).is_none());
-    let instant = signal(&rt, rt.alloc(), 3, yes, &[]);
+    let table = [
+        (2, 1, false),
+        (5, 2, true),
+        (5, 1, false),
+        (13, 2, false),
+        (7, 1, true),
+    ];
+    expect_truths(&rt, &s, &table);
+    assert!(&rt; s.at(&Frac::of(1)).is_none() && s.at(&Frac::of(8)).is_none());
+}
+
+#[test]
+fn a_signal_of_one_instant_is_read_there_alone(rt: HostRuntime) {
+    let instant = signal(&rt, rt.alloc(), 3, Truth::of(true), &[]);
     assert!(&rt; instant.len() == 1 && instant.start() == instant.stop());
     assert!(&rt; read(&rt, &instant, 3, 1).holds());
     assert!(&rt; instant.at(&Frac::of(4)).is_none());
 }
 
-#[test]
-fn a_part_keeps_its_ends(rt: HostRuntime) {
+/// The time itself up to 5, at 5 below all, 5 after it, and at 9 above all.
+fn broken(rt: &impl Abort, alloc: Global) -> Signal<Margin> {
     let rise = Margin::Ramp(Ramp::make(0, 0, 1, 1));
     let five = Margin::Fixed(Frac::of(5));
-    let s = signal(
-        &rt,
-        rt.alloc(),
+    signal(
+        rt,
+        alloc,
         0,
         rise,
         &[(rise, 5, Margin::Low), (five, 9, Margin::High)],
-    );
+    )
+}
+
+#[test]
+fn a_part_keeps_its_ends(rt: HostRuntime) {
+    let s = broken(&rt, rt.alloc());
     let part = cut(&rt, &s, 2, 9);
     assert!(&rt; part.len() == 3 && part.start() == Frac::of(2));
     assert!(&rt;
@@ -176,14 +201,29 @@ fn a_part_keeps_its_ends(rt: HostRuntime) {
         "the point at the end"
     );
     assert!(&rt; Margin::same(&read(&rt, &part, 5, 1), &Margin::Low));
-    let whole = cut(&rt, &s, 0, 9);
-    assert!(&rt; whole.len() == 3);
-    let inner = cut(&rt, &s, 6, 7);
-    assert!(&rt; inner.len() == 2 && Margin::same(&read(&rt, &inner, 7, 1), &five));
-    let up_to = cut(&rt, &s, 1, 5);
-    assert!(&rt; up_to.len() == 2 && Margin::same(&read(&rt, &up_to, 5, 1), &Margin::Low));
-    let instant = cut(&rt, &s, 3, 3);
-    assert!(&rt; instant.len() == 1 && Margin::same(&read(&rt, &instant, 3, 1), &rise));
+    assert!(&rt; cut(&rt, &s, 0, 9).len() == 3, "the whole");
+}
+
+/// Whether the part has so many knots, and at its end this value.
+fn is_part(
+    rt: &impl Abort,
+    from: i64,
+    to: i64,
+    s: &Signal<Margin>,
+    (knots, last): (usize, Margin),
+) -> bool {
+    let part = cut(rt, s, from, to);
+    part.len() == knots && Margin::same(&read(rt, &part, to, 1), &last)
+}
+
+#[test]
+fn a_part_ends_on_a_piece_at_a_knot_or_where_it_begins(rt: HostRuntime) {
+    let s = broken(&rt, rt.alloc());
+    let five = Margin::Fixed(Frac::of(5));
+    let rise = Margin::Ramp(Ramp::make(0, 0, 1, 1));
+    assert!(&rt; is_part(&rt, 6, 7, &s, (2, five)));
+    assert!(&rt; is_part(&rt, 1, 5, &s, (2, Margin::Low)));
+    assert!(&rt; is_part(&rt, 3, 3, &s, (1, rise)));
 }
 
 /// Goes on from the last time. A test ends where the step is not allowed.

@@ -1,11 +1,11 @@
 //! Until and since over tables of knots.
 ghost use Rattle.std.specs.Prelude.{◌^◌, IsTrue};
-ghost use Rattle.rational.specs.Rational.{IsWithin, Rational};
+ghost use Rattle.rational.specs.Rational.{Rational};
 ghost use Rattle.rational.specs.Extended.{value_at};
 ghost use Rattle.rational.specs.Affine.{IsBounded};
-ghost use Rattle.frac128.specs.Value.{value};
 ghost use Rattle.pl_signal.specs.Limits.{IsLimited};
 
+use super::pl_signal_tests::is_near;
 use frac128::Frac;
 use pl_signal::{Builder, Signal};
 use std::alloc::Global;
@@ -19,20 +19,6 @@ use value_laws::{Kleene, Shape, Truth};
 enum Op {
     Since,
     Until,
-}
-
-/// Whether the time is within 2^34.
-fn is_near(t: &Frac) -> bool
-    ensures { IsTrue result → IsWithin (2 ^ 34) (value t.now) }
-{
-    let (low, high) = (Frac::of(-(1 << 34)), Frac::of(1 << 34));
-    if let Ordering::Greater = low.cmp(t) {
-        return false;
-    }
-    if let Ordering::Greater = t.cmp(&high) {
-        return false;
-    }
-    true
 }
 
 /// Whether the signal of shapes with small values is limited.
@@ -120,13 +106,11 @@ fn says<P: Shape>(rt: &impl Abort, s: &Signal<P>, shapes: &[P], digits: &[u8]) -
     true
 }
 
-/// Runs each row: the operator, both sides, the answer and its number of knots.
-fn check<P: Shape>(
-    rt: &impl Abort,
-    alloc: Global,
-    shapes: &[P],
-    table: &[(Op, &str, &str, &str, usize)],
-)
+/// The operator, both sides, the answer and its number of knots.
+type Row = (Op, &'static str, &'static str, &'static str, usize);
+
+/// Runs each row.
+fn check<P: Shape>(rt: &impl Abort, alloc: Global, shapes: &[P], table: &[Row])
     requires { (x : P) (t : Rational) → IsBounded (2 ^ 31) (value_at (P.function x) t) }
 {
     for (op, p, q, answer, knots) in table {
@@ -138,29 +122,39 @@ fn check<P: Shape>(
     }
 }
 
+const TRUTHS: [Row; 16] = [
+    (Op::Since, "1111111", "0100000", "0111111", 2),
+    (Op::Since, "1111111", "0010000", "0011111", 3),
+    (Op::Since, "1110111", "0100000", "0110000", 3),
+    (Op::Since, "1101111", "0010000", "0000000", 2),
+    (Op::Since, "1111101", "1000000", "1111100", 3),
+    (Op::Since, "0111111", "1000000", "0000000", 2),
+    (Op::Since, "1111110", "0000001", "0000000", 2),
+    (Op::Since, "1111111", "0000001", "0000001", 2),
+    (Op::Until, "1111111", "0000010", "1111110", 2),
+    (Op::Until, "1110111", "0000010", "0000110", 3),
+    (Op::Until, "1111111", "0000001", "1111111", 2),
+    (Op::Until, "1111110", "0000001", "0000000", 2),
+    (Op::Until, "1110111", "0001000", "0000000", 2),
+    (Op::Until, "1111011", "0001000", "1111000", 3),
+    (Op::Until, "1", "1", "1", 1),
+    (Op::Since, "1", "0", "0", 1),
+];
+
 #[test]
 fn truths(rt: HostRuntime) {
     let shapes = [Truth::of(false), Truth::of(true)];
-    let table = [
-        (Op::Since, "1111111", "0100000", "0111111", 2),
-        (Op::Since, "1111111", "0010000", "0011111", 3),
-        (Op::Since, "1110111", "0100000", "0110000", 3),
-        (Op::Since, "1101111", "0010000", "0000000", 2),
-        (Op::Since, "1111101", "1000000", "1111100", 3),
-        (Op::Since, "0111111", "1000000", "0000000", 2),
-        (Op::Since, "1111110", "0000001", "0000000", 2),
-        (Op::Since, "1111111", "0000001", "0000001", 2),
-        (Op::Until, "1111111", "0000010", "1111110", 2),
-        (Op::Until, "1110111", "0000010", "0000110", 3),
-        (Op::Until, "1111111", "0000001", "1111111", 2),
-        (Op::Until, "1111110", "0000001", "0000000", 2),
-        (Op::Until, "1110111", "0001000", "0000000", 2),
-        (Op::Until, "1111011", "0001000", "1111000", 3),
-        (Op::Until, "1", "1", "1", 1),
-        (Op::Since, "1", "0", "0", 1),
-    ];
-    check(&rt, rt.alloc(), &shapes, &table);
+    check(&rt, rt.alloc(), &shapes, &TRUTHS);
 }
+
+const UNKNOWN: [Row; 6] = [
+    (Op::Since, "2222222", "0100000", "0111111", 2),
+    (Op::Since, "2212222", "0200000", "0211111", 3),
+    (Op::Since, "2212222", "1000200", "1111222", 3),
+    (Op::Until, "2222222", "0000010", "1111110", 2),
+    (Op::Until, "2212222", "0000020", "1112220", 3),
+    (Op::Until, "1111111", "2222222", "1111111", 2),
+];
 
 #[test]
 fn unknown_lies_between(rt: HostRuntime) {
@@ -169,13 +163,5 @@ fn unknown_lies_between(rt: HostRuntime) {
         Kleene::of(None),
         Kleene::of(Some(true)),
     ];
-    let table = [
-        (Op::Since, "2222222", "0100000", "0111111", 2),
-        (Op::Since, "2212222", "0200000", "0211111", 3),
-        (Op::Since, "2212222", "1000200", "1111222", 3),
-        (Op::Until, "2222222", "0000010", "1111110", 2),
-        (Op::Until, "2212222", "0000020", "1112220", 3),
-        (Op::Until, "1111111", "2222222", "1111111", 2),
-    ];
-    check(&rt, rt.alloc(), &shapes, &table);
+    check(&rt, rt.alloc(), &shapes, &UNKNOWN);
 }

@@ -101,6 +101,10 @@ fn ramps_meet_constants(rt: HostRuntime) {
         is_nowhere(meeting(slope, number(11), 0, 10)),
         "after the gap"
     );
+}
+
+#[test]
+fn ramps_meet_constants_between_whole_times_and_far_away(rt: HostRuntime) {
     assert!(&rt;
         is_at(meeting(number(3), ramp(0, 0, 7, 10), 0, 10), 4, 2, 7),
         "30/7"
@@ -281,20 +285,34 @@ fn truths_are_told_apart(rt: HostRuntime) {
             && yes.shift(3).holds()
             && yes.mirror(3).holds()
     );
+}
+
+#[test]
+fn truths_are_ordered(rt: HostRuntime) {
+    let (yes, no) = (Truth::of(true), Truth::of(false));
     assert!(&rt;
         Truth::cmp_at(&no, &yes, &time(0)) == Ordering::Less
             && Truth::same(&yes, &Truth::greatest())
     );
     assert!(&rt; Truth::least().holds() == false && yes.rises() == Ordering::Equal);
+}
+
+#[test]
+fn three_values_are_told_apart(rt: HostRuntime) {
     let (unknown, sure) = (Kleene::of(None), Kleene::of(Some(true)));
     assert!(&rt;
         unknown.known() == None
             && sure.neg().known() == Some(false)
             && unknown.neg().known() == None
     );
+    assert!(&rt; Kleene::same(&unknown, &Kleene::of(None)) && !Kleene::same(&unknown, &sure));
+}
+
+#[test]
+fn three_values_are_ordered(rt: HostRuntime) {
+    let (unknown, sure) = (Kleene::of(None), Kleene::of(Some(true)));
     assert!(&rt; Kleene::cmp_at(&unknown, &sure, &time(0)) == Ordering::Less);
     assert!(&rt; Kleene::cmp_at(&Kleene::least(), &unknown, &time(0)) == Ordering::Less);
-    assert!(&rt; Kleene::same(&unknown, &Kleene::of(None)) && !Kleene::same(&unknown, &sure));
 }
 
 fn compared_once<L: Ledger>(blank: Blank) -> Ordering

@@ -1,20 +1,18 @@
 //! Atoms over traces that are read from text, with answers by hand.
-ghost use Rattle.std.specs.Prelude.{◌≡◌, ◌≤◌, ◌^◌, length, IsTrue, MatchOption};
+ghost use Rattle.std.specs.Prelude.{IsTrue};
 ghost use Rattle.stl_syntax.specs.Names.{is_name};
-ghost use Rattle.stl_syntax.specs.Trace.{last_time};
 
+use super::signal_tests::truths;
+use super::tables::{END, Level, is_told, line};
+use super::traces::{WHOLE, read, signal_of};
 use atom_lines::*;
-use frac128::{Frac, Ramp};
 use pl_signal::Signal;
-use std::alloc::{AllocError, Global};
+use std::alloc::Global;
 use std::process::Abort;
 use std::test::Fail;
-use stl_syntax::{Formula, FormulaBuilder, Node, Rel, Scale, Term, make_atom};
-use trace_reader::{Event, Limits, Row, Rows, Trace};
-use value_laws::{Margin, Shape, Truth};
-
-/// Ticks of whole units.
-const WHOLE: Scale = Scale { time: 0, value: 0 };
+use stl_syntax::{Formula, FormulaBuilder, Node, Rel, Term, make_atom};
+use trace_reader::Trace;
+use value_laws::{Margin, Truth};
 
 /// A column by its number.
 fn name(which: u8) -> &'static str
@@ -47,60 +45,6 @@ fn comparison(
     Ok(builder.finish(WHOLE))
 }
 
-/// The time of the last row, where there is one.
-fn last_of(trace: &Trace) -> Option<u32>
-    ensures { MatchOption result (length trace.now.rows ≡ 0) (λ t. t ≡ last_time 0 trace.now.rows) }
-{
-    if trace.rows() == 0 {
-        return None;
-    }
-    Some(trace.time(trace.rows() - 1))
-}
-
-/// One more row, later than those before.
-fn keep(rt: &impl Abort, trace: &mut Trace, row: &Row) -> Result<(), Fail> {
-    assert!(rt; row.columns() == trace.header().columns());
-    if let Some(last) = last_of(trace) {
-        assert!(rt; last < row.time());
-        trace.push(row)?;
-        return Ok(());
-    }
-    trace.push(row)?;
-    Ok(())
-}
-
-/// The trace of a text.
-fn read(rt: &impl Abort, alloc: Global, text: &str) -> Result<Trace, Fail> {
-    let limits = Limits {
-        rows: 100,
-        lines: 100,
-    };
-    let mut reader = Rows::new(alloc, limits, WHOLE)?;
-    let mut trace: Option<Trace> = None;
-    let mut rest = text.as_bytes();
-    for _ in 0..100 {
-        if rest.is_empty() {
-            break;
-        }
-        let Ok(took) = reader.push(rest) else {
-            panic!(rt; "refused: {text:?}");
-        };
-        match took.event {
-            Event::Nothing => {}
-            Event::Header => trace = Some(Trace::new(alloc, reader.header().copy()?)),
-            Event::Row => match &mut trace {
-                Some(trace) => keep(rt, trace, reader.row())?,
-                None => panic!(rt; "no header: {text:?}"),
-            },
-        }
-        rest = &rest[took.bytes..];
-    }
-    match trace {
-        Some(trace) => Ok(trace),
-        None => panic!(rt; "no header: {text:?}"),
-    }
-}
-
 /// The signal of the one atom of a formula.
 fn signal<P: AtomShape>(
     rt: &impl Abort,
@@ -112,33 +56,7 @@ fn signal<P: AtomShape>(
         panic!(rt; "not bound");
     };
     assert!(rt; formula.len() == 1 && trace.rows() > 0);
-    let Node::Atom(_) = formula.node(0) else {
-        panic!(rt; "no atom");
-    };
-    Ok(atom_signal::<P>(alloc, &bound, 0, trace)?)
-}
-
-/// Adds a number.
-fn put(said: &mut String, number: &Frac) -> Result<(), AllocError> {
-    let whole = number.whole();
-    let rest = number.rest();
-    let den = number.den();
-    if rest == 0 {
-        return write!(said, "{whole}");
-    }
-    write!(said, "{whole}+{rest}/{den}")
-}
-
-/// The knots: a time, the truth there, and the truth up to the next knot.
-fn told(alloc: Global, signal: &Signal<Truth>) -> Result<String, AllocError> {
-    let mut said = String::new(alloc);
-    for i in 0..signal.len() {
-        let knot = signal.knot(i);
-        put(&mut said, &knot.time)?;
-        said.push_str(if knot.point.holds() { ":T" } else { ":F" })?;
-        said.push_str(if knot.after.holds() { "T " } else { "F " })?;
-    }
-    Ok(said)
+    signal_of::<P>(rt, alloc, formula, &bound, 0, trace)
 }
 
 const RISE: &str = "time,x\n0,0\n10,10\n";
@@ -163,7 +81,7 @@ fn expect_told(rt: &impl Abort, alloc: Global, table: &[Told]) -> Result<(), Fai
         let formula = comparison(rt, alloc, terms, rel, limit)?;
         let trace = read(rt, alloc, text)?;
         let signal = signal::<Truth>(rt, alloc, &formula, &trace)?;
-        let said = told(alloc, &signal)?;
+        let said = truths(alloc, &signal)?;
         assert!(rt; said.as_str() == want, "{said}");
     }
     Ok(())
@@ -278,29 +196,30 @@ fn margins_are_ramps_and_constants(rt: HostRuntime) -> Result<(), Fail> {
     )?;
     let below = comparison(&rt, rt.alloc(), &[(2, 0), (-1, 1)], Rel::Below, 1)?;
     let signal = signal::<Margin>(&rt, rt.alloc(), &below, &trace)?;
-    assert!(&rt; signal.len() == 3);
-    let falls = Margin::Ramp(Ramp::make(0, 5, -2, 1));
-    assert!(&rt; Margin::same(&signal.knot(0).point, &Margin::Fixed(Frac::of(5))));
-    assert!(&rt; Margin::same(&signal.knot(0).after, &falls));
-    assert!(&rt; signal.knot(1).time.whole() == 10);
-    assert!(&rt; Margin::same(&signal.knot(1).after, &Margin::Fixed(Frac::of(-15))));
-    assert!(&rt; Margin::same(&signal.knot(2).point, &Margin::Fixed(Frac::of(-18))));
+    let want = [
+        (0, 1, Level::Is(5), line!(5, -2)),
+        (10, 1, Level::Is(-15), Level::Is(-15)),
+        (12, 1, Level::Is(-18), END),
+    ];
+    assert!(&rt; is_told(&rt, &signal, &want));
     Ok(())
 }
 
+/// A trace, the terms of an atom with their columns, and the term whose column the trace lacks.
+const COLUMNS: [(&str, &[(i32, u8)], Option<u32>); 4] = [
+    ("time,x,y\n0,1,1\n", &[(1, 0), (1, 1)], None),
+    ("time,x,y\n0,1,1\n", &[(1, 0), (1, 2), (1, 3)], Some(1)),
+    ("time,x,y\n0,1,1\n", &[(1, 3)], Some(0)),
+    (
+        "time,y,yy,x\n0,1,1,1\n",
+        &[(1, 0), (1, 1), (1, 0), (1, 2)],
+        Some(3),
+    ),
+];
+
 #[test]
 fn an_unknown_column_is_named(rt: HostRuntime) -> Result<(), Fail> {
-    let table: [(&str, &[(i32, u8)], Option<u32>); 4] = [
-        ("time,x,y\n0,1,1\n", &[(1, 0), (1, 1)], None),
-        ("time,x,y\n0,1,1\n", &[(1, 0), (1, 2), (1, 3)], Some(1)),
-        ("time,x,y\n0,1,1\n", &[(1, 3)], Some(0)),
-        (
-            "time,y,yy,x\n0,1,1,1\n",
-            &[(1, 0), (1, 1), (1, 0), (1, 2)],
-            Some(3),
-        ),
-    ];
-    for (text, terms, want) in table {
+    for (text, terms, want) in COLUMNS {
         let formula = comparison(&rt, rt.alloc(), terms, Rel::Above, 0)?;
         let trace = read(&rt, rt.alloc(), text)?;
         let got = match bind(rt.alloc(), &formula, trace.header()) {

@@ -6,7 +6,9 @@ ghost use Rattle.frac128.specs.Value.{value};
 ghost use Rattle.pl_signal.specs.Knots.{HasShape};
 ghost use Rattle.pl_signal.specs.Limits.{IsLimited};
 
-use super::tables::{Level, NO, Row, Tabled, YES, expect_near, expect_order, is_told, signal};
+use super::tables::{
+    HIGH, LOW, Level, NO, Row, Tabled, YES, expect_near, expect_order, is_told, ramp, signal,
+};
 use frac128::Frac;
 use pl_signal::Signal;
 use signal_ops::{lower, neg, upper};
@@ -112,501 +114,548 @@ fn of_one<P: Tabled>(
     }
 }
 
-/// Fails where what is made of the signals of two tables has other knots than the last one.
+/// The tables of two signals, whether their least is made or their greatest, and the table of that.
+type Two<'a, W> = (&'a [Row<W>], &'a [Row<W>], bool, &'a [Row<W>]);
+
+/// The table of a signal, what is made of it, and the table of that.
+type One<'a, W> = (&'a [Row<W>], Made, &'a [Row<W>]);
+
+/// Fails at the first row whose two signals make one with other knots.
 fn check_two<P: Tabled>(
     rt: &impl Abort,
     alloc: Global,
-    row: usize,
-    (left, right, least, want): (&[Row<P::Word>], &[Row<P::Word>], bool, &[Row<P::Word>]),
+    table: &[Two<P::Word>],
 ) -> Result<(), Fail> {
-    let made = of_two::<P>(rt, alloc, left, right, least)?;
-    assert!(rt; is_told(rt, &made, want), "row {row}");
+    for (row, (left, right, least, want)) in table.iter().enumerate() {
+        let made = of_two::<P>(rt, alloc, left, right, *least)?;
+        assert!(rt; is_told(rt, &made, want), "row {row}");
+    }
     Ok(())
 }
 
-/// Fails where what is made of the signal of a table has other knots than the other table.
+/// Fails at the first row of whose signal another one is made.
 fn check_one<P: Tabled>(
     rt: &impl Abort,
     alloc: Global,
-    row: usize,
-    (rows, what, want): (&[Row<P::Word>], Made, &[Row<P::Word>]),
+    table: &[One<P::Word>],
 ) -> Result<(), Fail> {
-    let made = of_one::<P>(rt, alloc, rows, what)?;
-    assert!(rt; is_told(rt, &made, want), "row {row}");
+    for (row, (rows, what, want)) in table.iter().enumerate() {
+        let made = of_one::<P>(rt, alloc, rows, *what)?;
+        assert!(rt; is_told(rt, &made, want), "row {row}");
+    }
     Ok(())
 }
+
+const GAP_AT_4: [Row<bool>; 3] = [(0, 1, true, true), (4, 1, false, true), (8, 1, true, true)];
+
+const ONLY_AT_4: [Row<bool>; 3] = [
+    (0, 1, false, false),
+    (4, 1, true, false),
+    (8, 1, false, false),
+];
+
+const NEVER: [Row<bool>; 2] = [(0, 1, false, false), (8, 1, false, false)];
+
+const ALWAYS: [Row<bool>; 2] = [(0, 1, true, true), (8, 1, true, true)];
+
+const JOINED: [Two<'static, bool>; 6] = [
+    (&GAP_AT_4, &ONLY_AT_4, false, &ALWAYS),
+    (&GAP_AT_4, &ONLY_AT_4, true, &NEVER),
+    (&GAP_AT_4, &NEVER, false, &GAP_AT_4),
+    (&NEVER, &GAP_AT_4, true, &NEVER),
+    (
+        &[(3, 1, true, true)],
+        &[(3, 1, false, false)],
+        true,
+        &[(3, 1, false, false)],
+    ),
+    (
+        &[(3, 1, true, true)],
+        &[(3, 1, false, false)],
+        false,
+        &[(3, 1, true, true)],
+    ),
+];
 
 #[test]
 fn truths_are_joined_where_knots_merge(rt: HostRuntime) -> Result<(), Fail> {
-    let gap_at_4 = [(0, 1, true, true), (4, 1, false, true), (8, 1, true, true)];
-    let only_at_4 = [
-        (0, 1, false, false),
-        (4, 1, true, false),
-        (8, 1, false, false),
-    ];
-    let never = [(0, 1, false, false), (8, 1, false, false)];
-    let always = [(0, 1, true, true), (8, 1, true, true)];
-    let table: [(&[Row<bool>], &[Row<bool>], bool, &[Row<bool>]); 6] = [
-        (&gap_at_4, &only_at_4, false, &always),
-        (&gap_at_4, &only_at_4, true, &never),
-        (&gap_at_4, &never, false, &gap_at_4),
-        (&never, &gap_at_4, true, &never),
-        (
-            &[(3, 1, true, true)],
-            &[(3, 1, false, false)],
-            true,
-            &[(3, 1, false, false)],
-        ),
-        (
-            &[(3, 1, true, true)],
-            &[(3, 1, false, false)],
-            false,
-            &[(3, 1, true, true)],
-        ),
-    ];
-    for (row, case) in table.into_iter().enumerate() {
-        check_two::<Truth>(&rt, rt.alloc(), row, case)?;
-    }
-    Ok(())
+    check_two::<Truth>(&rt, rt.alloc(), &JOINED)
 }
+
+const SLOW: [Row<Option<bool>>; 4] = [
+    (0, 1, NO, NO),
+    (3, 1, None, None),
+    (6, 1, YES, YES),
+    (9, 1, YES, YES),
+];
+
+const QUICK: [Row<Option<bool>>; 10] = [
+    (0, 1, NO, NO),
+    (1, 1, None, None),
+    (2, 1, YES, YES),
+    (3, 1, NO, NO),
+    (4, 1, None, None),
+    (5, 1, YES, YES),
+    (6, 1, NO, NO),
+    (7, 1, None, None),
+    (8, 1, YES, YES),
+    (9, 1, YES, YES),
+];
+
+const INSTANTS: [Row<Option<bool>>; 3] = [(0, 1, YES, None), (4, 1, None, YES), (8, 1, NO, NO)];
+
+const GAPS: [Row<Option<bool>>; 3] = [(0, 1, None, NO), (9, 2, YES, None), (8, 1, YES, YES)];
+
+/// Three values that stay, and three that change in each of them.
+const STAYING: [Two<'static, Option<bool>>; 2] = [
+    (
+        &SLOW,
+        &QUICK,
+        true,
+        &[
+            (0, 1, NO, NO),
+            (4, 1, None, None),
+            (6, 1, NO, NO),
+            (7, 1, None, None),
+            (8, 1, YES, YES),
+            (9, 1, YES, YES),
+        ],
+    ),
+    (
+        &SLOW,
+        &QUICK,
+        false,
+        &[
+            (0, 1, NO, NO),
+            (1, 1, None, None),
+            (2, 1, YES, YES),
+            (3, 1, None, None),
+            (5, 1, YES, YES),
+            (9, 1, YES, YES),
+        ],
+    ),
+];
 
 #[test]
 fn three_values_are_joined_as_kleene_has_it(rt: HostRuntime) -> Result<(), Fail> {
-    let slow = [
-        (0, 1, NO, NO),
-        (3, 1, None, None),
-        (6, 1, YES, YES),
-        (9, 1, YES, YES),
-    ];
-    let quick = [
-        (0, 1, NO, NO),
-        (1, 1, None, None),
-        (2, 1, YES, YES),
-        (3, 1, NO, NO),
-        (4, 1, None, None),
-        (5, 1, YES, YES),
-        (6, 1, NO, NO),
-        (7, 1, None, None),
-        (8, 1, YES, YES),
-        (9, 1, YES, YES),
-    ];
-    let instants = [(0, 1, YES, None), (4, 1, None, YES), (8, 1, NO, NO)];
-    let gaps = [(0, 1, None, NO), (9, 2, YES, None), (8, 1, YES, YES)];
-    let table: [(
-        &[Row<Option<bool>>],
-        &[Row<Option<bool>>],
-        bool,
-        &[Row<Option<bool>>],
-    ); 4] = [
-        (
-            &slow,
-            &quick,
-            true,
-            &[
-                (0, 1, NO, NO),
-                (4, 1, None, None),
-                (6, 1, NO, NO),
-                (7, 1, None, None),
-                (8, 1, YES, YES),
-                (9, 1, YES, YES),
-            ],
-        ),
-        (
-            &slow,
-            &quick,
-            false,
-            &[
-                (0, 1, NO, NO),
-                (1, 1, None, None),
-                (2, 1, YES, YES),
-                (3, 1, None, None),
-                (5, 1, YES, YES),
-                (9, 1, YES, YES),
-            ],
-        ),
-        (
-            &instants,
-            &gaps,
-            true,
-            &[(0, 1, None, NO), (9, 2, YES, None), (8, 1, NO, NO)],
-        ),
-        (
-            &instants,
-            &gaps,
-            false,
-            &[(0, 1, YES, None), (4, 1, None, YES), (8, 1, YES, YES)],
-        ),
-    ];
-    for (row, case) in table.into_iter().enumerate() {
-        check_two::<Kleene>(&rt, rt.alloc(), row, case)?;
-    }
-    Ok(())
+    check_two::<Kleene>(&rt, rt.alloc(), &STAYING)
 }
+
+const AT_INSTANTS: [Two<'static, Option<bool>>; 2] = [
+    (
+        &INSTANTS,
+        &GAPS,
+        true,
+        &[(0, 1, None, NO), (9, 2, YES, None), (8, 1, NO, NO)],
+    ),
+    (
+        &INSTANTS,
+        &GAPS,
+        false,
+        &[(0, 1, YES, None), (4, 1, None, YES), (8, 1, YES, YES)],
+    ),
+];
+
+#[test]
+fn three_values_are_joined_at_instants(rt: HostRuntime) -> Result<(), Fail> {
+    check_two::<Kleene>(&rt, rt.alloc(), &AT_INSTANTS)
+}
+
+const NEGATED: [One<'static, Option<bool>>; 2] = [
+    (
+        &[
+            (0, 1, YES, None),
+            (9, 2, None, YES),
+            (5, 1, NO, NO),
+            (8, 1, YES, NO),
+        ],
+        Made::Negated,
+        &[
+            (0, 1, NO, None),
+            (9, 2, None, NO),
+            (5, 1, YES, YES),
+            (8, 1, NO, NO),
+        ],
+    ),
+    (&[(7, 2, None, None)], Made::Negated, &[(7, 2, None, None)]),
+];
 
 #[test]
 fn three_values_are_negated(rt: HostRuntime) -> Result<(), Fail> {
-    let table: [(&[Row<Option<bool>>], Made, &[Row<Option<bool>>]); 2] = [
-        (
-            &[
-                (0, 1, YES, None),
-                (9, 2, None, YES),
-                (5, 1, NO, NO),
-                (8, 1, YES, NO),
-            ],
-            Made::Negated,
-            &[
-                (0, 1, NO, None),
-                (9, 2, None, NO),
-                (5, 1, YES, YES),
-                (8, 1, NO, NO),
-            ],
-        ),
-        (&[(7, 2, None, None)], Made::Negated, &[(7, 2, None, None)]),
-    ];
-    for (row, case) in table.into_iter().enumerate() {
-        check_one::<Kleene>(&rt, rt.alloc(), row, case)?;
-    }
-    Ok(())
+    check_one::<Kleene>(&rt, rt.alloc(), &NEGATED)
 }
 
-/// `v` at the time `t`, and more by `rise` with each tick.
-const fn line(t: i32, v: i32, rise: i32) -> Level {
-    Level::Line { t, v, rise, run: 1 }
-}
+/// As long as the time itself, in one line and in another.
+const RISE: Level = ramp!(0, 0, 1);
 
-#[test]
-fn margins_are_joined_at_crossings_and_infinite_pieces(rt: HostRuntime) -> Result<(), Fail> {
-    let rise = line(0, 0, 1);
-    let fall = line(10, 0, -1);
-    let also = Level::Line {
-        t: 10,
-        v: 10,
-        rise: 2,
-        run: 2,
-    };
-    let (low, high) = (Level::Low, Level::High);
-    let rising = [(0, 1, rise, rise), (10, 1, rise, rise)];
-    let falling = [(0, 1, fall, fall), (10, 1, fall, fall)];
-    let jump = [
-        (0, 1, fall, fall),
-        (5, 1, Level::Is(9), fall),
-        (10, 1, fall, fall),
-    ];
-    let bent = [
-        (0, 1, rise, rise),
-        (4, 1, Level::Is(9), also),
-        (10, 1, also, also),
-    ];
-    let infinite = [(0, 1, low, low), (4, 1, high, rise), (10, 1, low, low)];
-    let high_low = [(0, 1, high, low), (5, 1, low, high), (10, 1, high, high)];
-    let low_high = [(0, 1, low, high), (10, 1, low, low)];
-    let table: [(&[Row<Level>], &[Row<Level>], bool, &[Row<Level>]); 15] = [
-        (
-            &rising,
-            &falling,
-            true,
-            &[
-                (0, 1, rise, rise),
-                (5, 1, Level::Is(5), fall),
-                (10, 1, fall, fall),
-            ],
-        ),
-        (
-            &rising,
-            &falling,
-            false,
-            &[
-                (0, 1, fall, fall),
-                (5, 1, Level::Is(5), rise),
-                (10, 1, rise, rise),
-            ],
-        ),
-        (
-            &rising,
-            &jump,
-            true,
-            &[
-                (0, 1, rise, rise),
-                (5, 1, Level::Is(5), fall),
-                (10, 1, fall, fall),
-            ],
-        ),
-        (
-            &rising,
-            &jump,
-            false,
-            &[
-                (0, 1, fall, fall),
-                (5, 1, Level::Is(9), rise),
-                (10, 1, rise, rise),
-            ],
-        ),
-        (
-            &rising,
-            &[(0, 1, line(5, 0, -2), line(5, 0, -2)), (10, 1, low, low)],
-            false,
-            &[
-                (0, 1, Level::Is(10), line(0, 10, -2)),
-                (10, 3, line(0, 0, 1), rise),
-                (10, 1, rise, rise),
-            ],
-        ),
-        (
-            &rising,
-            &[
-                (0, 1, Level::Is(0), Level::Is(0)),
-                (10, 1, Level::Is(0), low),
-            ],
-            true,
-            &[
-                (0, 1, Level::Is(0), Level::Is(0)),
-                (10, 1, Level::Is(0), low),
-            ],
-        ),
-        (
-            &rising,
-            &[
-                (0, 1, Level::Is(10), Level::Is(10)),
-                (10, 1, Level::Is(10), low),
-            ],
-            true,
-            &rising,
-        ),
-        (
-            &rising,
-            &[
-                (0, 1, Level::Is(10), Level::Is(10)),
-                (10, 1, Level::Is(10), low),
-            ],
-            false,
-            &[
-                (0, 1, Level::Is(10), Level::Is(10)),
-                (10, 1, Level::Is(10), low),
-            ],
-        ),
-        (&bent, &rising, true, &rising),
-        (
-            &bent,
-            &rising,
-            false,
-            &[
-                (0, 1, rise, rise),
-                (4, 1, Level::Is(9), rise),
-                (10, 1, rise, rise),
-            ],
-        ),
-        (
-            &infinite,
-            &falling,
-            true,
-            &[
-                (0, 1, low, low),
-                (4, 1, Level::Is(6), rise),
-                (5, 1, Level::Is(5), fall),
-                (10, 1, low, low),
-            ],
-        ),
-        (
-            &infinite,
-            &falling,
-            false,
-            &[
-                (0, 1, fall, fall),
-                (4, 1, high, fall),
-                (5, 1, Level::Is(5), rise),
-                (10, 1, fall, fall),
-            ],
-        ),
-        (
-            &high_low,
-            &low_high,
-            true,
-            &[(0, 1, low, low), (5, 1, low, high), (10, 1, low, low)],
-        ),
-        (
-            &high_low,
-            &low_high,
-            false,
-            &[(0, 1, high, high), (10, 1, high, high)],
-        ),
-        (
-            &[(7, 2, low, low)],
-            &[(7, 2, rise, rise)],
-            false,
-            &[(7, 2, rise, rise)],
-        ),
-    ];
-    for (row, case) in table.into_iter().enumerate() {
-        check_two::<Margin>(&rt, rt.alloc(), row, case)?;
-    }
-    Ok(())
-}
+const ALSO: Level = Level::Line {
+    t: 10,
+    v: 10,
+    rise: 2,
+    run: 2,
+};
+
+const FALL: Level = ramp!(10, 0, -1);
+
+const RISING: [Row<Level>; 2] = [(0, 1, RISE, RISE), (10, 1, RISE, RISE)];
+
+const FALLING: [Row<Level>; 2] = [(0, 1, FALL, FALL), (10, 1, FALL, FALL)];
+
+const JUMP: [Row<Level>; 3] = [
+    (0, 1, FALL, FALL),
+    (5, 1, Level::Is(9), FALL),
+    (10, 1, FALL, FALL),
+];
+
+const CROSSING: [Two<'static, Level>; 5] = [
+    (
+        &RISING,
+        &FALLING,
+        true,
+        &[
+            (0, 1, RISE, RISE),
+            (5, 1, Level::Is(5), FALL),
+            (10, 1, FALL, FALL),
+        ],
+    ),
+    (
+        &RISING,
+        &FALLING,
+        false,
+        &[
+            (0, 1, FALL, FALL),
+            (5, 1, Level::Is(5), RISE),
+            (10, 1, RISE, RISE),
+        ],
+    ),
+    (
+        &RISING,
+        &JUMP,
+        true,
+        &[
+            (0, 1, RISE, RISE),
+            (5, 1, Level::Is(5), FALL),
+            (10, 1, FALL, FALL),
+        ],
+    ),
+    (
+        &RISING,
+        &JUMP,
+        false,
+        &[
+            (0, 1, FALL, FALL),
+            (5, 1, Level::Is(9), RISE),
+            (10, 1, RISE, RISE),
+        ],
+    ),
+    (
+        &RISING,
+        &[(0, 1, ramp!(5, 0, -2), ramp!(5, 0, -2)), (10, 1, LOW, LOW)],
+        false,
+        &[
+            (0, 1, Level::Is(10), ramp!(0, 10, -2)),
+            (10, 3, ramp!(0, 0, 1), RISE),
+            (10, 1, RISE, RISE),
+        ],
+    ),
+];
 
 #[test]
-fn truths_are_moved_in_time(rt: HostRuntime) -> Result<(), Fail> {
-    let whole = [
-        (0, 1, true, false),
-        (4, 1, true, true),
-        (10, 1, false, false),
-    ];
-    let table: [(&[Row<bool>], Made, &[Row<bool>]); 13] = [
-        (
-            &whole,
-            Made::Negated,
-            &[
-                (0, 1, false, true),
-                (4, 1, false, false),
-                (10, 1, true, true),
-            ],
-        ),
-        (
-            &whole,
-            Made::Moved {
-                by: 3,
-                from: 0,
-                to: 5,
-            },
-            &[(0, 1, false, false), (1, 1, true, true), (5, 1, true, true)],
-        ),
-        (
-            &whole,
-            Made::Moved {
-                by: -4,
-                from: 4,
-                to: 14,
-            },
-            &[
-                (4, 1, true, false),
-                (8, 1, true, true),
-                (14, 1, false, false),
-            ],
-        ),
-        (
-            &whole,
-            Made::Moved {
-                by: 4,
-                from: 0,
-                to: 0,
-            },
-            &[(0, 1, true, true)],
-        ),
-        (
-            &whole,
-            Made::Moved {
-                by: 5,
-                from: -1,
-                to: 2,
-            },
-            &[(-1, 1, true, true), (2, 1, true, true)],
-        ),
-        (
-            &whole,
-            Made::Mirrored { about: 12 },
-            &[
-                (2, 1, false, true),
-                (8, 1, true, false),
-                (12, 1, true, true),
-            ],
-        ),
-        (
-            &whole,
-            Made::Mirrored { about: 0 },
-            &[
-                (-10, 1, false, true),
-                (-4, 1, true, false),
-                (0, 1, true, true),
-            ],
-        ),
-        (
-            &[(3, 1, true, true)],
-            Made::Mirrored { about: 1 },
-            &[(-2, 1, true, true)],
-        ),
-        (
-            &whole,
-            Made::Part { from: 2, to: 4 },
-            &[(2, 1, false, false), (4, 1, true, true)],
-        ),
-        (
-            &whole,
-            Made::Part { from: 4, to: 10 },
-            &[(4, 1, true, true), (10, 1, false, false)],
-        ),
-        (&whole, Made::Part { from: 4, to: 4 }, &[(4, 1, true, true)]),
-        (
-            &whole,
-            Made::Part { from: 0, to: 3 },
-            &[(0, 1, true, false), (3, 1, false, false)],
-        ),
-        (&whole, Made::Part { from: 0, to: 10 }, &whole),
-    ];
-    for (row, case) in table.into_iter().enumerate() {
-        check_one::<Truth>(&rt, rt.alloc(), row, case)?;
-    }
-    Ok(())
+fn margins_are_joined_at_crossings(rt: HostRuntime) -> Result<(), Fail> {
+    check_two::<Margin>(&rt, rt.alloc(), &CROSSING)
 }
+
+const BENT: [Row<Level>; 3] = [
+    (0, 1, RISE, RISE),
+    (4, 1, Level::Is(9), ALSO),
+    (10, 1, ALSO, ALSO),
+];
+
+const TOUCHING: [Two<'static, Level>; 5] = [
+    (
+        &RISING,
+        &[
+            (0, 1, Level::Is(0), Level::Is(0)),
+            (10, 1, Level::Is(0), LOW),
+        ],
+        true,
+        &[
+            (0, 1, Level::Is(0), Level::Is(0)),
+            (10, 1, Level::Is(0), LOW),
+        ],
+    ),
+    (
+        &RISING,
+        &[
+            (0, 1, Level::Is(10), Level::Is(10)),
+            (10, 1, Level::Is(10), LOW),
+        ],
+        true,
+        &RISING,
+    ),
+    (
+        &RISING,
+        &[
+            (0, 1, Level::Is(10), Level::Is(10)),
+            (10, 1, Level::Is(10), LOW),
+        ],
+        false,
+        &[
+            (0, 1, Level::Is(10), Level::Is(10)),
+            (10, 1, Level::Is(10), LOW),
+        ],
+    ),
+    (&BENT, &RISING, true, &RISING),
+    (
+        &BENT,
+        &RISING,
+        false,
+        &[
+            (0, 1, RISE, RISE),
+            (4, 1, Level::Is(9), RISE),
+            (10, 1, RISE, RISE),
+        ],
+    ),
+];
+
+#[test]
+fn margins_are_joined_where_they_touch_and_where_they_are_one_line(
+    rt: HostRuntime,
+) -> Result<(), Fail> {
+    check_two::<Margin>(&rt, rt.alloc(), &TOUCHING)
+}
+
+const INFINITE: [Row<Level>; 3] = [(0, 1, LOW, LOW), (4, 1, HIGH, RISE), (10, 1, LOW, LOW)];
+
+const HIGH_LOW: [Row<Level>; 3] = [(0, 1, HIGH, LOW), (5, 1, LOW, HIGH), (10, 1, HIGH, HIGH)];
+
+const LOW_HIGH: [Row<Level>; 2] = [(0, 1, LOW, HIGH), (10, 1, LOW, LOW)];
+
+const INFINITE_PIECES: [Two<'static, Level>; 5] = [
+    (
+        &INFINITE,
+        &FALLING,
+        true,
+        &[
+            (0, 1, LOW, LOW),
+            (4, 1, Level::Is(6), RISE),
+            (5, 1, Level::Is(5), FALL),
+            (10, 1, LOW, LOW),
+        ],
+    ),
+    (
+        &INFINITE,
+        &FALLING,
+        false,
+        &[
+            (0, 1, FALL, FALL),
+            (4, 1, HIGH, FALL),
+            (5, 1, Level::Is(5), RISE),
+            (10, 1, FALL, FALL),
+        ],
+    ),
+    (
+        &HIGH_LOW,
+        &LOW_HIGH,
+        true,
+        &[(0, 1, LOW, LOW), (5, 1, LOW, HIGH), (10, 1, LOW, LOW)],
+    ),
+    (
+        &HIGH_LOW,
+        &LOW_HIGH,
+        false,
+        &[(0, 1, HIGH, HIGH), (10, 1, HIGH, HIGH)],
+    ),
+    (
+        &[(7, 2, LOW, LOW)],
+        &[(7, 2, RISE, RISE)],
+        false,
+        &[(7, 2, RISE, RISE)],
+    ),
+];
+
+#[test]
+fn margins_are_joined_at_infinite_pieces(rt: HostRuntime) -> Result<(), Fail> {
+    check_two::<Margin>(&rt, rt.alloc(), &INFINITE_PIECES)
+}
+
+const WHOLE: [Row<bool>; 3] = [
+    (0, 1, true, false),
+    (4, 1, true, true),
+    (10, 1, false, false),
+];
+
+const MOVED: [One<'static, bool>; 5] = [
+    (
+        &WHOLE,
+        Made::Negated,
+        &[
+            (0, 1, false, true),
+            (4, 1, false, false),
+            (10, 1, true, true),
+        ],
+    ),
+    (
+        &WHOLE,
+        Made::Moved {
+            by: 3,
+            from: 0,
+            to: 5,
+        },
+        &[(0, 1, false, false), (1, 1, true, true), (5, 1, true, true)],
+    ),
+    (
+        &WHOLE,
+        Made::Moved {
+            by: -4,
+            from: 4,
+            to: 14,
+        },
+        &[
+            (4, 1, true, false),
+            (8, 1, true, true),
+            (14, 1, false, false),
+        ],
+    ),
+    (
+        &WHOLE,
+        Made::Moved {
+            by: 4,
+            from: 0,
+            to: 0,
+        },
+        &[(0, 1, true, true)],
+    ),
+    (
+        &WHOLE,
+        Made::Moved {
+            by: 5,
+            from: -1,
+            to: 2,
+        },
+        &[(-1, 1, true, true), (2, 1, true, true)],
+    ),
+];
+
+#[test]
+fn truths_are_negated_and_moved_in_time(rt: HostRuntime) -> Result<(), Fail> {
+    check_one::<Truth>(&rt, rt.alloc(), &MOVED)
+}
+
+const MIRRORED: [One<'static, bool>; 3] = [
+    (
+        &WHOLE,
+        Made::Mirrored { about: 12 },
+        &[
+            (2, 1, false, true),
+            (8, 1, true, false),
+            (12, 1, true, true),
+        ],
+    ),
+    (
+        &WHOLE,
+        Made::Mirrored { about: 0 },
+        &[
+            (-10, 1, false, true),
+            (-4, 1, true, false),
+            (0, 1, true, true),
+        ],
+    ),
+    (
+        &[(3, 1, true, true)],
+        Made::Mirrored { about: 1 },
+        &[(-2, 1, true, true)],
+    ),
+];
+
+#[test]
+fn truths_are_mirrored(rt: HostRuntime) -> Result<(), Fail> {
+    check_one::<Truth>(&rt, rt.alloc(), &MIRRORED)
+}
+
+const PARTS: [One<'static, bool>; 5] = [
+    (
+        &WHOLE,
+        Made::Part { from: 2, to: 4 },
+        &[(2, 1, false, false), (4, 1, true, true)],
+    ),
+    (
+        &WHOLE,
+        Made::Part { from: 4, to: 10 },
+        &[(4, 1, true, true), (10, 1, false, false)],
+    ),
+    (&WHOLE, Made::Part { from: 4, to: 4 }, &[(4, 1, true, true)]),
+    (
+        &WHOLE,
+        Made::Part { from: 0, to: 3 },
+        &[(0, 1, true, false), (3, 1, false, false)],
+    ),
+    (&WHOLE, Made::Part { from: 0, to: 10 }, &WHOLE),
+];
+
+#[test]
+fn truths_have_parts(rt: HostRuntime) -> Result<(), Fail> {
+    check_one::<Truth>(&rt, rt.alloc(), &PARTS)
+}
+
+const BROKEN: [Row<Level>; 3] = [
+    (0, 1, Level::Is(1), Level::Is(1)),
+    (7, 2, LOW, RISE),
+    (8, 1, HIGH, HIGH),
+];
+
+const MOVED_MARGINS: [One<'static, Level>; 5] = [
+    (
+        &BROKEN,
+        Made::Negated,
+        &[
+            (0, 1, Level::Is(-1), Level::Is(-1)),
+            (7, 2, HIGH, ramp!(0, 0, -1)),
+            (8, 1, LOW, LOW),
+        ],
+    ),
+    (
+        &BROKEN,
+        Made::Moved {
+            by: 3,
+            from: 0,
+            to: 4,
+        },
+        &[
+            (0, 1, Level::Is(1), Level::Is(1)),
+            (1, 2, LOW, ramp!(0, 3, 1)),
+            (4, 1, Level::Is(7), LOW),
+        ],
+    ),
+    (
+        &BROKEN,
+        Made::Mirrored { about: 5 },
+        &[
+            (-3, 1, HIGH, ramp!(5, 0, -1)),
+            (3, 2, LOW, Level::Is(1)),
+            (5, 1, Level::Is(1), LOW),
+        ],
+    ),
+    (
+        &[(0, 1, RISE, RISE), (8, 1, RISE, RISE)],
+        Made::Mirrored { about: 8 },
+        &[
+            (0, 1, Level::Is(8), ramp!(8, 0, -1)),
+            (8, 1, Level::Is(0), LOW),
+        ],
+    ),
+    (
+        &BROKEN,
+        Made::Part { from: 3, to: 5 },
+        &[
+            (3, 1, Level::Is(1), Level::Is(1)),
+            (7, 2, LOW, RISE),
+            (5, 1, Level::Is(5), LOW),
+        ],
+    ),
+];
 
 #[test]
 fn margins_are_moved_in_time(rt: HostRuntime) -> Result<(), Fail> {
-    let (low, high) = (Level::Low, Level::High);
-    let rise = line(0, 0, 1);
-    let broken = [
-        (0, 1, Level::Is(1), Level::Is(1)),
-        (7, 2, low, rise),
-        (8, 1, high, high),
-    ];
-    let table: [(&[Row<Level>], Made, &[Row<Level>]); 5] = [
-        (
-            &broken,
-            Made::Negated,
-            &[
-                (0, 1, Level::Is(-1), Level::Is(-1)),
-                (7, 2, high, line(0, 0, -1)),
-                (8, 1, low, low),
-            ],
-        ),
-        (
-            &broken,
-            Made::Moved {
-                by: 3,
-                from: 0,
-                to: 4,
-            },
-            &[
-                (0, 1, Level::Is(1), Level::Is(1)),
-                (1, 2, low, line(0, 3, 1)),
-                (4, 1, Level::Is(7), low),
-            ],
-        ),
-        (
-            &broken,
-            Made::Mirrored { about: 5 },
-            &[
-                (-3, 1, high, line(5, 0, -1)),
-                (3, 2, low, Level::Is(1)),
-                (5, 1, Level::Is(1), low),
-            ],
-        ),
-        (
-            &[(0, 1, rise, rise), (8, 1, rise, rise)],
-            Made::Mirrored { about: 8 },
-            &[
-                (0, 1, Level::Is(8), line(8, 0, -1)),
-                (8, 1, Level::Is(0), low),
-            ],
-        ),
-        (
-            &broken,
-            Made::Part { from: 3, to: 5 },
-            &[
-                (3, 1, Level::Is(1), Level::Is(1)),
-                (7, 2, low, rise),
-                (5, 1, Level::Is(5), low),
-            ],
-        ),
-    ];
-    for (row, case) in table.into_iter().enumerate() {
-        check_one::<Margin>(&rt, rt.alloc(), row, case)?;
-    }
-    Ok(())
+    check_one::<Margin>(&rt, rt.alloc(), &MOVED_MARGINS)
 }

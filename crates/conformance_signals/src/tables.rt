@@ -75,6 +75,20 @@ pub(crate) enum Level {
     High,
 }
 
+/// `v` at the time `t`, and more by `rise` with each tick.
+macro_rules! ramp {
+    ($t:expr, $v:expr, $rise:expr) => {
+        Level::Line {
+            t: $t,
+            v: $v,
+            rise: $rise,
+            run: 1,
+        }
+    };
+}
+
+pub(crate) use ramp;
+
 /// `v` at the time 0, and more by `rise` with each tick.
 macro_rules! line {
     ($v:expr, $rise:expr) => {

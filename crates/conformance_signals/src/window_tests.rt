@@ -6,7 +6,7 @@ ghost use Rattle.pl_signal.specs.Knots.{start, stop};
 ghost use Rattle.pl_signal.specs.Limits.{IsLimited};
 ghost use Rattle.window_ops.specs.Conditions.{AreNear};
 
-use super::tables::{Level, NO, Row, Tabled, YES, expect_order, is_told, signal};
+use super::tables::{HIGH, LOW, Level, NO, Row, Tabled, YES, expect_order, is_told, ramp, signal};
 use frac128::Frac;
 use pl_signal::{OpFault, Signal};
 use std::alloc::Global;
@@ -147,6 +147,18 @@ fn check<P: Tabled>(
 ) -> Result<(), Fail> {
     let made = over_window::<P>(rt, alloc, rows, over)?;
     assert!(rt; is_told(rt, &made, want), "row {row}");
+    Ok(())
+}
+
+/// Fails at the first row of a table of which that is so.
+fn check_each<P: Tabled>(
+    rt: &impl Abort,
+    alloc: Global,
+    table: &[Case<P::Word>],
+) -> Result<(), Fail> {
+    for (row, case) in table.iter().enumerate() {
+        check::<P>(rt, alloc, row, *case)?;
+    }
     Ok(())
 }
 
@@ -305,10 +317,7 @@ const TRUTHS: [Case<'static, bool>; 16] = [
 
 #[test]
 fn truths_over_windows_with_either_end_in_or_out(rt: HostRuntime) -> Result<(), Fail> {
-    for (row, case) in TRUTHS.into_iter().enumerate() {
-        check::<Truth>(&rt, rt.alloc(), row, case)?;
-    }
-    Ok(())
+    check_each::<Truth>(&rt, rt.alloc(), &TRUTHS)
 }
 
 const GROWING_AFTER: [Row<Option<bool>>; 4] = [
@@ -425,201 +434,213 @@ const THREE_VALUES: [Case<'static, Option<bool>>; 9] = [
 
 #[test]
 fn three_values_over_windows_at_jumps_and_instants(rt: HostRuntime) -> Result<(), Fail> {
-    for (row, case) in THREE_VALUES.into_iter().enumerate() {
-        check::<Kleene>(&rt, rt.alloc(), row, case)?;
-    }
-    Ok(())
-}
-
-/// `v` at the time `t`, and more by `rise` with each tick.
-const fn line(t: i32, v: i32, rise: i32) -> Level {
-    Level::Line { t, v, rise, run: 1 }
+    check_each::<Kleene>(&rt, rt.alloc(), &THREE_VALUES)
 }
 
 /// 0 at the time `t`, and more by 2 with each three ticks.
-const fn slow(t: i32) -> Level {
-    Level::Line {
-        t,
-        v: 0,
-        rise: 2,
-        run: 3,
-    }
+macro_rules! slow {
+    ($t:expr) => {
+        Level::Line {
+            t: $t,
+            v: 0,
+            rise: 2,
+            run: 3,
+        }
+    };
 }
+
+const ZERO: Level = Level::Is(0);
+
+const ONE: Level = Level::Is(1);
+
+const TWO: Level = Level::Is(2);
+
+const FIVE: Level = Level::Is(5);
+
+const UP: Level = ramp!(0, 0, 1);
+
+const PEAK: [Row<Level>; 3] = [
+    (0, 1, UP, UP),
+    (6, 1, Level::Is(6), ramp!(12, 0, -1)),
+    (10, 1, Level::Is(2), LOW),
+];
+
+const STEEP: [Row<Level>; 3] = [
+    (0, 1, slow!(0), slow!(0)),
+    (6, 1, Level::Is(4), ramp!(8, 0, -2)),
+    (8, 1, ZERO, LOW),
+];
+
+const VALLEY: [Row<Level>; 3] = [
+    (0, 1, ramp!(5, 0, -1), ramp!(5, 0, -1)),
+    (5, 1, ZERO, ramp!(5, 0, 2)),
+    (10, 1, Level::Is(10), LOW),
+];
+
+const RISING_AND_FALLING: [Case<'static, Level>; 5] = [
+    (
+        &PEAK,
+        Over(Taken::Sup, Window::Ahead(1, 3), Ends::Both),
+        &[
+            (0, 1, Level::Is(3), ramp!(0, 3, 1)),
+            (3, 1, Level::Is(6), Level::Is(6)),
+            (5, 1, Level::Is(6), ramp!(11, 0, -1)),
+            (9, 1, Level::Is(2), LOW),
+            (10, 1, LOW, LOW),
+        ],
+    ),
+    (
+        &STEEP,
+        Over(Taken::Inf, Window::Ahead(1, 2), Ends::Both),
+        &[
+            (0, 1, slow!(-1), slow!(-1)),
+            (17, 4, slow!(-1), ramp!(6, 0, -2)),
+            (6, 1, ZERO, ZERO),
+            (7, 1, ZERO, HIGH),
+            (8, 1, HIGH, HIGH),
+        ],
+    ),
+    (
+        &VALLEY,
+        Over(Taken::Sup, Window::Behind(1, Some(5)), Ends::Both),
+        &[
+            (0, 1, LOW, LOW),
+            (1, 1, Level::Is(5), Level::Is(5)),
+            (5, 1, Level::Is(5), ramp!(10, 0, -1)),
+            (22, 3, ramp!(10, 0, -1), ramp!(6, 0, 2)),
+            (10, 1, Level::Is(8), LOW),
+        ],
+    ),
+    (
+        &VALLEY,
+        Over(Taken::Inf, Window::Behind(2, None), Ends::Both),
+        &[
+            (0, 1, HIGH, HIGH),
+            (2, 1, Level::Is(5), ramp!(7, 0, -1)),
+            (7, 1, ZERO, ZERO),
+            (10, 1, ZERO, LOW),
+        ],
+    ),
+    (
+        &[(7, 2, UP, UP)],
+        Over(Taken::Sup, Window::Behind(0, Some(5)), Ends::Both),
+        &[(7, 2, UP, UP)],
+    ),
+];
 
 #[test]
 fn margins_over_windows_that_rise_and_fall(rt: HostRuntime) -> Result<(), Fail> {
-    let (low, high, zero) = (Level::Low, Level::High, Level::Is(0));
-    let (up, down, twofold) = (line(0, 0, 1), line(5, 0, -1), line(5, 0, 2));
-    let peak = [
-        (0, 1, up, up),
-        (6, 1, Level::Is(6), line(12, 0, -1)),
-        (10, 1, Level::Is(2), low),
-    ];
-    let steep = [
-        (0, 1, slow(0), slow(0)),
-        (6, 1, Level::Is(4), line(8, 0, -2)),
-        (8, 1, zero, low),
-    ];
-    let valley = [
-        (0, 1, down, down),
-        (5, 1, zero, twofold),
-        (10, 1, Level::Is(10), low),
-    ];
-    let table: [Case<Level>; 5] = [
-        (
-            &peak,
-            Over(Taken::Sup, Window::Ahead(1, 3), Ends::Both),
-            &[
-                (0, 1, Level::Is(3), line(0, 3, 1)),
-                (3, 1, Level::Is(6), Level::Is(6)),
-                (5, 1, Level::Is(6), line(11, 0, -1)),
-                (9, 1, Level::Is(2), low),
-                (10, 1, low, low),
-            ],
-        ),
-        (
-            &steep,
-            Over(Taken::Inf, Window::Ahead(1, 2), Ends::Both),
-            &[
-                (0, 1, slow(-1), slow(-1)),
-                (17, 4, slow(-1), line(6, 0, -2)),
-                (6, 1, zero, zero),
-                (7, 1, zero, high),
-                (8, 1, high, high),
-            ],
-        ),
-        (
-            &valley,
-            Over(Taken::Sup, Window::Behind(1, Some(5)), Ends::Both),
-            &[
-                (0, 1, low, low),
-                (1, 1, Level::Is(5), Level::Is(5)),
-                (5, 1, Level::Is(5), line(10, 0, -1)),
-                (22, 3, line(10, 0, -1), line(6, 0, 2)),
-                (10, 1, Level::Is(8), low),
-            ],
-        ),
-        (
-            &valley,
-            Over(Taken::Inf, Window::Behind(2, None), Ends::Both),
-            &[
-                (0, 1, high, high),
-                (2, 1, Level::Is(5), line(7, 0, -1)),
-                (7, 1, zero, zero),
-                (10, 1, zero, low),
-            ],
-        ),
-        (
-            &[(7, 2, up, up)],
-            Over(Taken::Sup, Window::Behind(0, Some(5)), Ends::Both),
-            &[(7, 2, up, up)],
-        ),
-    ];
-    for (row, case) in table.into_iter().enumerate() {
-        check::<Margin>(&rt, rt.alloc(), row, case)?;
-    }
-    Ok(())
+    check_each::<Margin>(&rt, rt.alloc(), &RISING_AND_FALLING)
 }
 
+const ANEW: Level = ramp!(5, 0, 1);
+
+const SAW: [Row<Level>; 3] = [(0, 1, ZERO, UP), (5, 1, ONE, ANEW), (10, 1, FIVE, LOW)];
+
+const JUMPS: [Case<'static, Level>; 6] = [
+    (
+        &SAW,
+        Over(Taken::Inf, Window::Behind(0, Some(0)), Ends::Both),
+        &SAW,
+    ),
+    (
+        &SAW,
+        Over(Taken::Sup, Window::Ahead(3, 3), Ends::Both),
+        &[
+            (0, 1, Level::Is(3), ramp!(0, 3, 1)),
+            (2, 1, ONE, ramp!(2, 0, 1)),
+            (7, 1, FIVE, LOW),
+            (10, 1, LOW, LOW),
+        ],
+    ),
+    (
+        &SAW,
+        Over(Taken::Sup, Window::Ahead(0, 2), Ends::Near),
+        &[
+            (0, 1, TWO, ramp!(0, 2, 1)),
+            (3, 1, FIVE, FIVE),
+            (5, 1, TWO, ramp!(3, 0, 1)),
+            (8, 1, FIVE, FIVE),
+            (10, 1, FIVE, LOW),
+        ],
+    ),
+    (
+        &SAW,
+        Over(Taken::Inf, Window::Ahead(0, 2), Ends::Far),
+        &[
+            (0, 1, ZERO, UP),
+            (3, 1, ONE, ZERO),
+            (5, 1, ZERO, ANEW),
+            (10, 1, HIGH, HIGH),
+        ],
+    ),
+    (
+        &SAW,
+        Over(Taken::Sup, Window::Behind(0, Some(2)), Ends::Far),
+        &[
+            (0, 1, LOW, UP),
+            (5, 1, FIVE, FIVE),
+            (7, 1, TWO, ANEW),
+            (10, 1, FIVE, LOW),
+        ],
+    ),
+    (
+        &SAW,
+        Over(Taken::Inf, Window::Behind(0, Some(2)), Ends::Near),
+        &[
+            (0, 1, ZERO, ZERO),
+            (2, 1, ZERO, ramp!(2, 0, 1)),
+            (5, 1, ONE, ZERO),
+            (7, 1, ZERO, ramp!(7, 0, 1)),
+            (10, 1, Level::Is(3), LOW),
+        ],
+    ),
+];
+
 #[test]
-fn margins_over_windows_at_jumps_and_infinite_pieces(rt: HostRuntime) -> Result<(), Fail> {
-    let (low, high, zero, two) = (Level::Low, Level::High, Level::Is(0), Level::Is(2));
-    let (minus_one, one, five) = (Level::Is(-1), Level::Is(1), Level::Is(5));
-    let (up, anew) = (line(0, 0, 1), line(5, 0, 1));
-    let saw = [(0, 1, zero, up), (5, 1, one, anew), (10, 1, five, low)];
-    let infinite = [
-        (0, 1, zero, low),
-        (4, 1, Level::Is(3), high),
-        (6, 1, low, minus_one),
-        (10, 1, two, low),
-    ];
-    let table: [Case<Level>; 8] = [
-        (
-            &saw,
-            Over(Taken::Inf, Window::Behind(0, Some(0)), Ends::Both),
-            &saw,
-        ),
-        (
-            &saw,
-            Over(Taken::Sup, Window::Ahead(3, 3), Ends::Both),
-            &[
-                (0, 1, Level::Is(3), line(0, 3, 1)),
-                (2, 1, one, line(2, 0, 1)),
-                (7, 1, five, low),
-                (10, 1, low, low),
-            ],
-        ),
-        (
-            &saw,
-            Over(Taken::Sup, Window::Ahead(0, 2), Ends::Near),
-            &[
-                (0, 1, two, line(0, 2, 1)),
-                (3, 1, five, five),
-                (5, 1, two, line(3, 0, 1)),
-                (8, 1, five, five),
-                (10, 1, five, low),
-            ],
-        ),
-        (
-            &saw,
-            Over(Taken::Inf, Window::Ahead(0, 2), Ends::Far),
-            &[
-                (0, 1, zero, up),
-                (3, 1, one, zero),
-                (5, 1, zero, anew),
-                (10, 1, high, high),
-            ],
-        ),
-        (
-            &saw,
-            Over(Taken::Sup, Window::Behind(0, Some(2)), Ends::Far),
-            &[
-                (0, 1, low, up),
-                (5, 1, five, five),
-                (7, 1, two, anew),
-                (10, 1, five, low),
-            ],
-        ),
-        (
-            &saw,
-            Over(Taken::Inf, Window::Behind(0, Some(2)), Ends::Near),
-            &[
-                (0, 1, zero, zero),
-                (2, 1, zero, line(2, 0, 1)),
-                (5, 1, one, zero),
-                (7, 1, zero, line(7, 0, 1)),
-                (10, 1, Level::Is(3), low),
-            ],
-        ),
-        (
-            &infinite,
-            Over(Taken::Sup, Window::Ahead(1, 2), Ends::Both),
-            &[
-                (0, 1, low, low),
-                (2, 1, Level::Is(3), high),
-                (5, 1, minus_one, minus_one),
-                (8, 1, two, two),
-                (9, 1, two, low),
-                (10, 1, low, low),
-            ],
-        ),
-        (
-            &infinite,
-            Over(Taken::Inf, Window::Ahead(1, 2), Ends::Neither),
-            &[
-                (0, 1, low, low),
-                (3, 1, high, high),
-                (4, 1, high, low),
-                (5, 1, minus_one, minus_one),
-                (9, 1, high, high),
-                (10, 1, high, high),
-            ],
-        ),
-    ];
-    for (row, case) in table.into_iter().enumerate() {
-        check::<Margin>(&rt, rt.alloc(), row, case)?;
-    }
-    Ok(())
+fn margins_over_windows_at_jumps(rt: HostRuntime) -> Result<(), Fail> {
+    check_each::<Margin>(&rt, rt.alloc(), &JUMPS)
+}
+
+const MINUS_ONE: Level = Level::Is(-1);
+
+const INFINITE: [Row<Level>; 4] = [
+    (0, 1, ZERO, LOW),
+    (4, 1, Level::Is(3), HIGH),
+    (6, 1, LOW, MINUS_ONE),
+    (10, 1, TWO, LOW),
+];
+
+const INFINITE_PIECES: [Case<'static, Level>; 2] = [
+    (
+        &INFINITE,
+        Over(Taken::Sup, Window::Ahead(1, 2), Ends::Both),
+        &[
+            (0, 1, LOW, LOW),
+            (2, 1, Level::Is(3), HIGH),
+            (5, 1, MINUS_ONE, MINUS_ONE),
+            (8, 1, TWO, TWO),
+            (9, 1, TWO, LOW),
+            (10, 1, LOW, LOW),
+        ],
+    ),
+    (
+        &INFINITE,
+        Over(Taken::Inf, Window::Ahead(1, 2), Ends::Neither),
+        &[
+            (0, 1, LOW, LOW),
+            (3, 1, HIGH, HIGH),
+            (4, 1, HIGH, LOW),
+            (5, 1, MINUS_ONE, MINUS_ONE),
+            (9, 1, HIGH, HIGH),
+            (10, 1, HIGH, HIGH),
+        ],
+    ),
+];
+
+#[test]
+fn margins_over_windows_at_infinite_pieces(rt: HostRuntime) -> Result<(), Fail> {
+    check_each::<Margin>(&rt, rt.alloc(), &INFINITE_PIECES)
 }
 
 #[test]
@@ -642,7 +663,6 @@ fn a_long_window_over_many_steps_down_is_worth_the_last(rt: HostRuntime) -> Resu
         rows.push((i64::from(k), 1, step, step))?;
     }
     let over = Over(Taken::Inf, Window::Ahead(0, 200_000), Ends::Both);
-    let zero = Level::Is(0);
-    let want = [(0, 1, zero, zero), (199_999, 1, zero, zero)];
+    let want = [(0, 1, ZERO, ZERO), (199_999, 1, ZERO, ZERO)];
     check::<Margin>(&rt, rt.alloc(), 0, (&rows, over, &want))
 }

@@ -200,6 +200,14 @@ impl<'a> Fed<'a> {
         }
     }
 
+    /// Stops where it takes the next rows otherwise.
+    fn expect_rows(&mut self, rt: &impl Abort, wants: &[&str]) -> Result<(), Fail> {
+        for want in wants {
+            assert_eq!(rt; self.row(rt)?, *want);
+        }
+        Ok(())
+    }
+
     /// How it takes the end of the rows.
     fn close(&mut self, rt: &impl Abort) -> &'static str {
         assert!(rt; self.last.is_some());
@@ -237,10 +245,9 @@ fn margins_come_as_the_rows_decide_them(rt: HostRuntime) -> Result<(), Fail> {
 #[test]
 fn a_network_that_was_closed_takes_no_row_and_goes_on_to_give(rt: HostRuntime) -> Result<(), Fail> {
     let mut fed = begin_on(&rt, rt.alloc(), "x >= 0", HILL)?;
-    assert_eq!(&rt; fed.row(&rt)?, "taken");
-    assert_eq!(&rt; fed.row(&rt)?, "taken");
+    fed.expect_rows(&rt, &["taken", "taken"])?;
     assert_eq!(&rt; fed.close(&rt), "taken");
-    assert_eq!(&rt; fed.row(&rt)?, "closed");
+    fed.expect_rows(&rt, &["closed"])?;
     assert_eq!(&rt; fed.close(&rt), "closed");
     fed.take_all(&rt)?;
     assert_eq!(&rt;
@@ -259,10 +266,7 @@ const WIDE: (&str, &str) = (
 #[test]
 fn a_network_that_refused_a_row_gives_nothing(rt: HostRuntime) -> Result<(), Fail> {
     let mut fed = begin_on(&rt, rt.alloc(), WIDE.0, WIDE.1)?;
-    assert_eq!(&rt; fed.row(&rt)?, "taken");
-    assert_eq!(&rt; fed.row(&rt)?, "taken");
-    assert_eq!(&rt; fed.row(&rt)?, "wide");
-    assert_eq!(&rt; fed.row(&rt)?, "stopped");
+    fed.expect_rows(&rt, &["taken", "taken", "wide", "stopped"])?;
     assert_eq!(&rt; fed.close(&rt), "stopped");
     assert!(&rt; fed.net.front().is_none() && fed.net.take().is_none());
     for node in 0..fed.nodes {

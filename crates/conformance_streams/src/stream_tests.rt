@@ -157,6 +157,25 @@ fn told(
     Ok(stream)
 }
 
+/// A row more; what it makes the network tell is compared with what is wanted.
+fn row_told(
+    rt: &impl Abort,
+    alloc: Global,
+    stream: Option<Stream>,
+    row: &Row,
+    want: Option<Told>,
+) -> Result<Stream, Fail> {
+    let Some(before) = stream else {
+        panic!(rt; "no header");
+    };
+    told(rt, alloc, fed(rt, before, row), want)
+}
+
+const LIMITS: Limits = Limits {
+    rows: 100,
+    lines: 100,
+};
+
 /// The network of a formula over the rows of a text: after each row, and after the end, it tells what is wanted.
 fn expect(
     rt: &impl Abort,
@@ -166,11 +185,7 @@ fn expect(
     want: &[Told],
 ) -> Result<(), Fail> {
     let formula = parsed(rt, alloc, formula);
-    let limits = Limits {
-        rows: 100,
-        lines: 100,
-    };
-    let mut reader = Rows::new(alloc, limits, WHOLE)?;
+    let mut reader = Rows::new(alloc, LIMITS, WHOLE)?;
     let mut stream: Option<Stream> = None;
     let mut rest = text.as_bytes();
     let mut came: usize = 0;
@@ -185,11 +200,8 @@ fn expect(
             Event::Nothing => {}
             Event::Header => stream = Some(begin(rt, alloc, &formula, reader.header())?),
             Event::Row => {
-                let Some(before) = stream else {
-                    panic!(rt; "no header: {text:?}");
-                };
-                let after = fed(rt, before, reader.row());
-                stream = Some(told(rt, alloc, after, want.get(came).copied())?);
+                let told = want.get(came).copied();
+                stream = Some(row_told(rt, alloc, stream, reader.row(), told)?);
                 came = came.wrapping_add(1);
             }
         }
@@ -218,26 +230,34 @@ const ACROSS: &str = "time,p:step,q:step\n0,1,0\n2,1,1\n3,0,1\n4,0,0\n";
 /// `p >= 1` holds on [0,3) and on [4,6], and `q >= 1` on [0,1).
 const BROKEN: &str = "time,p:step,q:step\n0,1,1\n1,1,0\n3,0,0\n4,1,0\n6,1,0\n";
 
-#[test]
-fn a_constant_is_told_up_to_the_last_row(rt: HostRuntime) -> Result<(), Fail> {
-    expect(
-        &rt,
-        rt.alloc(),
-        "true",
-        "time,p\n0,0\n3,1\n",
-        &[
-            ("> [0,0] true\n", Some(0)),
-            ("> (0,3] true\n", Some(3)),
-            ("> ", Some(3)),
-        ],
-    )
+/// A formula, a trace, and what is told after each row and after the end.
+type Worked = (&'static str, &'static str, &'static [Told]);
+
+/// Stops at the first formula whose network tells something else.
+fn expect_each(rt: &impl Abort, alloc: Global, table: &[Worked]) -> Result<(), Fail> {
+    for (formula, text, want) in table {
+        expect(rt, alloc, formula, text, want)?;
+    }
+    Ok(())
 }
 
+const CONSTANT: [Worked; 1] = [(
+    "true",
+    "time,p\n0,0\n3,1\n",
+    &[
+        ("> [0,0] true\n", Some(0)),
+        ("> (0,3] true\n", Some(3)),
+        ("> ", Some(3)),
+    ],
+)];
+
 #[test]
-fn connectives_by_themselves(rt: HostRuntime) -> Result<(), Fail> {
-    expect(
-        &rt,
-        rt.alloc(),
+fn a_constant_is_told_up_to_the_last_row(rt: HostRuntime) -> Result<(), Fail> {
+    expect_each(&rt, rt.alloc(), &CONSTANT)
+}
+
+const CONNECTIVES: [Worked; 4] = [
+    (
         "not p >= 1",
         SHORT,
         &[
@@ -247,10 +267,8 @@ fn connectives_by_themselves(rt: HostRuntime) -> Result<(), Fail> {
             ("> (2,5] true\n", Some(5)),
             ("> ", Some(5)),
         ],
-    )?;
-    expect(
-        &rt,
-        rt.alloc(),
+    ),
+    (
         "p >= 1 and q >= 1",
         ACROSS,
         &[
@@ -260,10 +278,8 @@ fn connectives_by_themselves(rt: HostRuntime) -> Result<(), Fail> {
             ("> (3,4] false\n", Some(4)),
             ("> ", Some(4)),
         ],
-    )?;
-    expect(
-        &rt,
-        rt.alloc(),
+    ),
+    (
         "p >= 1 or q >= 1",
         ACROSS,
         &[
@@ -273,10 +289,8 @@ fn connectives_by_themselves(rt: HostRuntime) -> Result<(), Fail> {
             ("> (3,4) true\n[4,4] false\n", Some(4)),
             ("> ", Some(4)),
         ],
-    )?;
-    expect(
-        &rt,
-        rt.alloc(),
+    ),
+    (
         "p >= 1 implies q >= 1",
         ACROSS,
         &[
@@ -286,14 +300,16 @@ fn connectives_by_themselves(rt: HostRuntime) -> Result<(), Fail> {
             ("> (3,4] true\n", Some(4)),
             ("> ", Some(4)),
         ],
-    )
-}
+    ),
+];
 
 #[test]
-fn windows_ahead_by_themselves(rt: HostRuntime) -> Result<(), Fail> {
-    expect(
-        &rt,
-        rt.alloc(),
+fn connectives_by_themselves(rt: HostRuntime) -> Result<(), Fail> {
+    expect_each(&rt, rt.alloc(), &CONNECTIVES)
+}
+
+const AHEAD: [Worked; 2] = [
+    (
         "eventually[0,2] p >= 1",
         SHORT,
         &[
@@ -303,10 +319,8 @@ fn windows_ahead_by_themselves(rt: HostRuntime) -> Result<(), Fail> {
             ("> (0,2) true\n[2,3] false\n", Some(3)),
             ("> (3,5] false\n", Some(5)),
         ],
-    )?;
-    expect(
-        &rt,
-        rt.alloc(),
+    ),
+    (
         "always[0,2] p >= 1",
         TWICE,
         &[
@@ -316,14 +330,16 @@ fn windows_ahead_by_themselves(rt: HostRuntime) -> Result<(), Fail> {
             ("> (3,5) false\n[5,7] true\n", Some(7)),
             ("> (7,9] true\n", Some(9)),
         ],
-    )
-}
+    ),
+];
 
 #[test]
-fn open_ends_ahead(rt: HostRuntime) -> Result<(), Fail> {
-    expect(
-        &rt,
-        rt.alloc(),
+fn windows_ahead_by_themselves(rt: HostRuntime) -> Result<(), Fail> {
+    expect_each(&rt, rt.alloc(), &AHEAD)
+}
+
+const OPEN_AHEAD: [Worked; 3] = [
+    (
         "eventually[0,1[ p >= 1",
         INSTANT,
         &[
@@ -333,10 +349,8 @@ fn open_ends_ahead(rt: HostRuntime) -> Result<(), Fail> {
             ("> (1,4] false\n", Some(4)),
             ("> (4,5] false\n", Some(5)),
         ],
-    )?;
-    expect(
-        &rt,
-        rt.alloc(),
+    ),
+    (
         "eventually]0,1] p >= 1",
         INSTANT,
         &[
@@ -346,10 +360,8 @@ fn open_ends_ahead(rt: HostRuntime) -> Result<(), Fail> {
             ("> (1,4] false\n", Some(4)),
             ("> (4,5] false\n", Some(5)),
         ],
-    )?;
-    expect(
-        &rt,
-        rt.alloc(),
+    ),
+    (
         "always]0,1[ p >= 1",
         TWICE,
         &[
@@ -359,14 +371,16 @@ fn open_ends_ahead(rt: HostRuntime) -> Result<(), Fail> {
             ("> (4,5) false\n[5,8] true\n", Some(8)),
             ("> (8,9] true\n", Some(9)),
         ],
-    )
-}
+    ),
+];
 
 #[test]
-fn windows_behind_by_themselves(rt: HostRuntime) -> Result<(), Fail> {
-    expect(
-        &rt,
-        rt.alloc(),
+fn open_ends_ahead(rt: HostRuntime) -> Result<(), Fail> {
+    expect_each(&rt, rt.alloc(), &OPEN_AHEAD)
+}
+
+const BEHIND: [Worked; 3] = [
+    (
         "once[1,2] p >= 1",
         SHORT,
         &[
@@ -376,10 +390,8 @@ fn windows_behind_by_themselves(rt: HostRuntime) -> Result<(), Fail> {
             ("> (2,4) true\n[4,5] false\n", Some(5)),
             ("> ", Some(5)),
         ],
-    )?;
-    expect(
-        &rt,
-        rt.alloc(),
+    ),
+    (
         "historically[0,1] p >= 1",
         TWICE,
         &[
@@ -389,10 +401,8 @@ fn windows_behind_by_themselves(rt: HostRuntime) -> Result<(), Fail> {
             ("> (5,6) false\n[6,9] true\n", Some(9)),
             ("> ", Some(9)),
         ],
-    )?;
-    expect(
-        &rt,
-        rt.alloc(),
+    ),
+    (
         "once]0,1] p >= 1",
         INSTANT,
         &[
@@ -402,14 +412,16 @@ fn windows_behind_by_themselves(rt: HostRuntime) -> Result<(), Fail> {
             ("> (2,5] false\n", Some(5)),
             ("> ", Some(5)),
         ],
-    )
-}
+    ),
+];
 
 #[test]
-fn windows_behind_with_no_bound(rt: HostRuntime) -> Result<(), Fail> {
-    expect(
-        &rt,
-        rt.alloc(),
+fn windows_behind_by_themselves(rt: HostRuntime) -> Result<(), Fail> {
+    expect_each(&rt, rt.alloc(), &BEHIND)
+}
+
+const UNBOUNDED: [Worked; 2] = [
+    (
         "once p >= 1",
         SHORT,
         &[
@@ -419,10 +431,8 @@ fn windows_behind_with_no_bound(rt: HostRuntime) -> Result<(), Fail> {
             ("> (2,5] true\n", Some(5)),
             ("> ", Some(5)),
         ],
-    )?;
-    expect(
-        &rt,
-        rt.alloc(),
+    ),
+    (
         "historically[1,inf] p >= 1",
         TWICE,
         &[
@@ -432,14 +442,16 @@ fn windows_behind_with_no_bound(rt: HostRuntime) -> Result<(), Fail> {
             ("> (5,9] false\n", Some(9)),
             ("> ", Some(9)),
         ],
-    )
-}
+    ),
+];
 
 #[test]
-fn until_by_itself(rt: HostRuntime) -> Result<(), Fail> {
-    expect(
-        &rt,
-        rt.alloc(),
+fn windows_behind_with_no_bound(rt: HostRuntime) -> Result<(), Fail> {
+    expect_each(&rt, rt.alloc(), &UNBOUNDED)
+}
+
+const UNTIL: [Worked; 2] = [
+    (
         "p >= 1 until[1,2] q >= 1",
         "time,p:step,q:step\n0,1,0\n2,1,1\n3,0,0\n6,0,0\n",
         &[
@@ -449,11 +461,9 @@ fn until_by_itself(rt: HostRuntime) -> Result<(), Fail> {
             ("> (1,2) true\n[2,4] false\n", Some(4)),
             ("> (4,6] false\n", Some(6)),
         ],
-    )?;
+    ),
     // the left side fails before the right one holds
-    expect(
-        &rt,
-        rt.alloc(),
+    (
         "p >= 1 until[0,2] q >= 1",
         "time,p:step,q:step\n0,1,0\n1,0,0\n2,1,1\n4,1,1\n",
         &[
@@ -463,14 +473,16 @@ fn until_by_itself(rt: HostRuntime) -> Result<(), Fail> {
             ("> (0,2) false\n[2,2] true\n", Some(2)),
             ("> (2,4] true\n", Some(4)),
         ],
-    )
-}
+    ),
+];
 
 #[test]
-fn since_by_itself(rt: HostRuntime) -> Result<(), Fail> {
-    expect(
-        &rt,
-        rt.alloc(),
+fn until_by_itself(rt: HostRuntime) -> Result<(), Fail> {
+    expect_each(&rt, rt.alloc(), &UNTIL)
+}
+
+const SINCE: [Worked; 2] = [
+    (
         "p >= 1 since[0,1] q >= 1",
         "time,p:step,q:step\n0,1,1\n1,1,0\n3,0,0\n4,1,1\n6,1,1\n",
         &[
@@ -481,11 +493,9 @@ fn since_by_itself(rt: HostRuntime) -> Result<(), Fail> {
             ("> (4,6] true\n", Some(6)),
             ("> ", Some(6)),
         ],
-    )?;
+    ),
     // that the left side failed is kept in mind
-    expect(
-        &rt,
-        rt.alloc(),
+    (
         "p >= 1 since q >= 1",
         BROKEN,
         &[
@@ -496,21 +506,26 @@ fn since_by_itself(rt: HostRuntime) -> Result<(), Fail> {
             ("> (4,6] false\n", Some(6)),
             ("> ", Some(6)),
         ],
-    )
+    ),
+];
+
+#[test]
+fn since_by_itself(rt: HostRuntime) -> Result<(), Fail> {
+    expect_each(&rt, rt.alloc(), &SINCE)
 }
+
+const LATE: [Worked; 1] = [(
+    "eventually[0,2] p >= 1",
+    "time,p:step\n10,1\n11,0\n12,0\n",
+    &[
+        ("> ", None),
+        ("> ", None),
+        ("> [10,10] true\n", Some(10)),
+        ("> (10,11) true\n[11,12] false\n", Some(12)),
+    ],
+)];
 
 #[test]
 fn nothing_is_told_of_instants_before_the_first_row(rt: HostRuntime) -> Result<(), Fail> {
-    expect(
-        &rt,
-        rt.alloc(),
-        "eventually[0,2] p >= 1",
-        "time,p:step\n10,1\n11,0\n12,0\n",
-        &[
-            ("> ", None),
-            ("> ", None),
-            ("> [10,10] true\n", Some(10)),
-            ("> (10,11) true\n[11,12] false\n", Some(12)),
-        ],
-    )
+    expect_each(&rt, rt.alloc(), &LATE)
 }

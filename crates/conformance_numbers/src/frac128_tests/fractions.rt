@@ -1,5 +1,5 @@
 //! Fractions against values that were worked out elsewhere.
-use super::times::{fraction, moved, time, turned};
+use super::times::{expect, fraction, moved, time, turned};
 use frac128::{Frac, Ratio, WideFrac, cmp_ratio, gcd};
 use std::cmp::Ordering;
 
@@ -212,60 +212,61 @@ const TURNED: [(i64, i64, i64, i64, u64, u64); 5] = [
     (-51_539_607_551, 3, -17_179_869_184, -1, 2, 3),
 ];
 
+/// Whether a fraction has these parts, or needs this denominator of 2^60 or more.
+fn is_made(made: Result<Frac, WideFrac>, whole: i64, rest: u64, lowest: i128) -> bool {
+    match made {
+        Ok(f) => lowest < 1 << 60 && has_parts(&f, whole, rest, lowest),
+        Err(wide) => lowest >= 1 << 60 && wide.den == lowest.unsigned_abs(),
+    }
+}
+
+fn has_parts(f: &Frac, whole: i64, rest: u64, lowest: i128) -> bool {
+    f.whole() == whole && f.rest() == rest && i128::from(f.den()) == lowest
+}
+
 #[test]
 fn makes_in_lowest_terms_below_two_to_the_sixty(rt: HostRuntime) {
-    for (num, den, whole, rest, lowest) in MADE {
+    for (row, (num, den, whole, rest, lowest)) in MADE.into_iter().enumerate() {
         assert!(&rt; den > 0);
-        match Frac::make(i128::from(num), den) {
-            Ok(f) => {
-                assert!(&rt; lowest < 1 << 60, "{num} / {den}");
-                assert_eq!(&rt;
-                    (f.whole(), f.rest(), i128::from(f.den())),
-                    (whole, rest, lowest),
-                    "{num} / {den}"
-                );
-            }
-            Err(wide) => {
-                assert!(&rt; lowest >= 1 << 60, "{num} / {den}");
-                assert!(&rt; wide.den == lowest.unsigned_abs(), "{num} / {den}");
-            }
-        }
+        let made = Frac::make(i128::from(num), den);
+        expect(&rt, row, is_made(made, whole, rest, lowest));
     }
 }
 
 #[test]
 fn orders_over_all_of_128_bits(rt: HostRuntime) {
-    for (n1, d1, n2, d2, order) in ORDERED {
+    for (row, (n1, d1, n2, d2, order)) in ORDERED.into_iter().enumerate() {
         assert!(&rt; d1 > 0 && d2 > 0);
         let left = Ratio { num: n1, den: d1 };
         let right = Ratio { num: n2, den: d2 };
-        assert_eq!(&rt;
-            (cmp_ratio(n1, d1, n2, d2), left.cmp(&right)),
-            (order, order),
-            "{n1} / {d1}, {n2} / {d2}"
-        );
-        let (same, less) = (order == Ordering::Equal, order == Ordering::Less);
-        assert_eq!(&rt; (left == right, left < right), (same, less));
+        expect(&rt, row, cmp_ratio(n1, d1, n2, d2) == order);
+        expect(&rt, row, left.cmp(&right) == order);
+        expect(&rt, row, (left == right) == order.is_eq());
+        expect(&rt, row, (left < right) == order.is_lt());
     }
 }
 
 #[test]
 fn orders_fractions(rt: HostRuntime) {
-    for (n1, d1, n2, d2, order) in FRACTIONS {
+    for (row, (n1, d1, n2, d2, order)) in FRACTIONS.into_iter().enumerate() {
         let left = fraction(&rt, n1, d1);
         let right = fraction(&rt, n2, d2);
+        expect(&rt, row, left.cmp(&right) == order);
+        expect(&rt, row, (left == right) == order.is_eq());
+        expect(&rt, row, (left > right) == order.is_gt());
+    }
+}
+
+#[test]
+fn orders_a_ratio_beside_a_fraction(rt: HostRuntime) {
+    for (row, (n1, d1, n2, d2, order)) in FRACTIONS.into_iter().enumerate() {
         assert!(&rt; d1 > 0);
         let ratio = Ratio {
             num: i128::from(n1),
             den: i128::from(d1),
         };
-        assert_eq!(&rt;
-            (left.cmp(&right), ratio.cmp_frac(&right)),
-            (order, order),
-            "{n1} / {d1}, {n2} / {d2}"
-        );
-        let (same, above) = (order == Ordering::Equal, order == Ordering::Greater);
-        assert_eq!(&rt; (left == right, left > right), (same, above));
+        let right = fraction(&rt, n2, d2);
+        expect(&rt, row, ratio.cmp_frac(&right) == order);
     }
 }
 
@@ -285,22 +286,18 @@ fn makes_from_numerators_beyond_64_bits(rt: HostRuntime) {
 }
 
 #[test]
-fn moves_and_turns_over(rt: HostRuntime) {
-    for (num, den, by, whole, rest, lowest) in MOVED {
+fn moves_by_whole_numbers(rt: HostRuntime) {
+    for (row, (num, den, by, whole, rest, lowest)) in MOVED.into_iter().enumerate() {
         let f = moved(&rt, &time(&rt, num, den), by);
-        assert_eq!(&rt;
-            (f.whole(), f.rest(), f.den()),
-            (whole, rest, lowest),
-            "{num} / {den} and {by}"
-        );
+        expect(&rt, row, has_parts(&f, whole, rest, i128::from(lowest)));
     }
-    for (num, den, about, whole, rest, lowest) in TURNED {
+}
+
+#[test]
+fn turns_over_about_whole_numbers(rt: HostRuntime) {
+    for (row, (num, den, about, whole, rest, lowest)) in TURNED.into_iter().enumerate() {
         let f = turned(&rt, &time(&rt, num, den), about);
-        assert_eq!(&rt;
-            (f.whole(), f.rest(), f.den()),
-            (whole, rest, lowest),
-            "{num} / {den} about {about}"
-        );
+        expect(&rt, row, has_parts(&f, whole, rest, i128::from(lowest)));
     }
 }
 

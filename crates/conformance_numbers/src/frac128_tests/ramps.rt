@@ -1,6 +1,6 @@
 //! Ramps: values, orders and crossings that were worked out elsewhere.
 use super::times::{
-    Corner, Pair, fraction, is_limited, limited, minus, mirrored, ramp, shifted, time,
+    Corner, Pair, expect, fraction, is_limited, limited, minus, mirrored, ramp, shifted, time,
 };
 use frac128::{Frac, Ratio, WideFrac};
 use std::cmp::Ordering;
@@ -364,97 +364,74 @@ fn meets(found: Result<Option<Frac>, WideFrac>, wanted: (i64, u64, u64)) -> bool
 
 #[test]
 fn has_the_value_of_its_line(rt: HostRuntime) {
-    for (corner, (a, b), num, den) in VALUES {
+    for (row, (corner, (a, b), num, den)) in VALUES.into_iter().enumerate() {
         let t = time(&rt, a, b);
         let p = ramp(&rt, corner);
-        assert!(&rt; equals(p.at(&t), num, den), "{corner:?} at {a} / {b}");
-        assert!(&rt;
-            equals(p.neg().at(&t), minus(&rt, num), den),
-            "minus {corner:?} at {a} / {b}"
-        );
+        expect(&rt, row, equals(p.at(&t), num, den));
+        expect(&rt, row, equals(p.neg().at(&t), minus(&rt, num), den));
     }
 }
 
 #[test]
 fn moved_on_it_has_the_values_of_its_line(rt: HostRuntime) {
-    for (corner, by, (a, b), num, den) in SHIFTED {
+    for (row, (corner, by, (a, b), num, den)) in SHIFTED.into_iter().enumerate() {
         let moved = shifted(&rt, corner, by);
-        assert!(&rt;
-            equals(moved.at(&time(&rt, a, b)), num, den),
-            "{corner:?} by {by} at {a} / {b}"
-        );
+        expect(&rt, row, equals(moved.at(&time(&rt, a, b)), num, den));
     }
 }
 
 #[test]
 fn turned_over_it_has_the_values_of_its_line(rt: HostRuntime) {
-    for (corner, about, (a, b), num, den) in MIRRORED {
+    for (row, (corner, about, (a, b), num, den)) in MIRRORED.into_iter().enumerate() {
         let turned = mirrored(&rt, corner, about);
-        assert!(&rt;
-            equals(turned.at(&time(&rt, a, b)), num, den),
-            "{corner:?} about {about} at {a} / {b}"
-        );
+        expect(&rt, row, equals(turned.at(&time(&rt, a, b)), num, den));
     }
 }
 
 #[test]
 fn is_ordered_at_a_time(rt: HostRuntime) {
-    for (corner, other, (a, b), order) in ORDERED {
+    for (row, (corner, other, (a, b), order)) in ORDERED.into_iter().enumerate() {
         let p = ramp(&rt, corner);
         let q = ramp(&rt, other);
         let t = time(&rt, a, b);
-        assert_eq!(&rt;
-            (p.cmp_ramp(&q, &t), p.at(&t).cmp(&q.at(&t))),
-            (order, order),
-            "{corner:?}, {other:?} at {a} / {b}"
-        );
+        expect(&rt, row, p.cmp_ramp(&q, &t) == order);
+        expect(&rt, row, p.at(&t).cmp(&q.at(&t)) == order);
     }
 }
 
 #[test]
 fn is_ordered_beside_a_number(rt: HostRuntime) {
-    for (corner, (c, d), (a, b), order) in LEVELS {
+    for (row, (corner, (c, d), (a, b), order)) in LEVELS.into_iter().enumerate() {
         let p = ramp(&rt, corner);
         let t = time(&rt, a, b);
         let number = fraction(&rt, c, d);
-        assert_eq!(&rt;
-            (p.cmp_const(&number, &t), p.at(&t).cmp_frac(&number)),
-            (order, order),
-            "{corner:?}, {c} / {d} at {a} / {b}"
-        );
+        expect(&rt, row, p.cmp_const(&number, &t) == order);
+        expect(&rt, row, p.at(&t).cmp_frac(&number) == order);
     }
 }
 
 #[test]
 fn crosses_where_the_lines_do(rt: HostRuntime) {
-    for (corner, other, num, den) in CROSSED {
+    for (row, (corner, other, num, den)) in CROSSED.into_iter().enumerate() {
         let p = ramp(&rt, corner);
         let q = ramp(&rt, other);
-        assert!(&rt;
-            crosses(p.cross_ramp(&q), num, den),
-            "{corner:?}, {other:?}"
-        );
-        assert!(&rt;
-            crosses(q.cross_ramp(&p), num, den),
-            "{other:?}, {corner:?}"
-        );
+        expect(&rt, row, crosses(p.cross_ramp(&q), num, den));
+        expect(&rt, row, crosses(q.cross_ramp(&p), num, den));
     }
 }
 
 #[test]
 fn reaches_a_number_where_its_line_does(rt: HostRuntime) {
-    for (corner, (c, d), num, den) in REACHED {
+    for (row, (corner, (c, d), num, den)) in REACHED.into_iter().enumerate() {
         let p = ramp(&rt, corner);
-        assert!(&rt;
-            crosses(p.cross_const(&limited(&rt, c, d)), num, den),
-            "{corner:?}, {c} / {d}"
-        );
+        let reached = p.cross_const(&limited(&rt, c, d));
+        expect(&rt, row, crosses(reached, num, den));
     }
 }
 
 #[test]
 fn meets_between_two_times(rt: HostRuntime) {
-    for (corner, other, (a, b), (c, d), whole, rest, den) in MET {
+    for (row, (corner, other, (a, b), (c, d), whole, rest, den)) in MET.into_iter().enumerate() {
         let p = ramp(&rt, corner);
         let q = ramp(&rt, other);
         let from = time(&rt, a, b);
@@ -462,16 +439,15 @@ fn meets_between_two_times(rt: HostRuntime) {
         let Ordering::Less = from.cmp(&to) else {
             panic!(&rt; "times");
         };
-        assert!(&rt;
-            meets(p.meet_ramp(&q, &from, &to), (whole, rest, den)),
-            "{corner:?}, {other:?} from {a} / {b}"
-        );
+        let met = p.meet_ramp(&q, &from, &to);
+        expect(&rt, row, meets(met, (whole, rest, den)));
     }
 }
 
 #[test]
 fn meets_a_number_between_two_times(rt: HostRuntime) {
-    for (corner, (n, m), (a, b), (c, d), whole, rest, den) in MET_LEVEL {
+    for (row, case) in MET_LEVEL.into_iter().enumerate() {
+        let (corner, (n, m), (a, b), (c, d), whole, rest, den) = case;
         let p = ramp(&rt, corner);
         let number = limited(&rt, n, m);
         let from = time(&rt, a, b);
@@ -479,32 +455,27 @@ fn meets_a_number_between_two_times(rt: HostRuntime) {
         let Ordering::Less = from.cmp(&to) else {
             panic!(&rt; "times");
         };
-        assert!(&rt;
-            meets(p.meet_const(&number, &from, &to), (whole, rest, den)),
-            "{corner:?}, {n} / {m} from {a} / {b}"
-        );
+        let met = p.meet_const(&number, &from, &to);
+        expect(&rt, row, meets(met, (whole, rest, den)));
     }
 }
 
 #[test]
 fn is_fixed_at_a_time(rt: HostRuntime) {
-    for (corner, (a, b), whole, rest, den) in FIXED {
+    for (row, (corner, (a, b), whole, rest, den)) in FIXED.into_iter().enumerate() {
         let p = ramp(&rt, corner);
         let t = time(&rt, a, b);
         assert!(&rt; is_limited(&p, &t));
-        assert!(&rt;
-            holds(p.fix(&t), (whole, rest, den)),
-            "{corner:?} at {a} / {b}"
-        );
+        expect(&rt, row, holds(p.fix(&t), (whole, rest, den)));
     }
 }
 
 #[test]
 fn knows_its_slope(rt: HostRuntime) {
-    for (corner, other, one) in SAME {
+    for (row, (corner, other, one)) in SAME.into_iter().enumerate() {
         let p = ramp(&rt, corner);
         let q = ramp(&rt, other);
-        assert_eq!(&rt; p.same(&q), one, "{corner:?}, {other:?}");
-        assert_eq!(&rt; p.rises(), corner.2.cmp(&0), "{corner:?}");
+        expect(&rt, row, p.same(&q) == one);
+        expect(&rt, row, p.rises() == corner.2.cmp(&0));
     }
 }

@@ -15,6 +15,11 @@ pub(super) type Corner = (i64, i64, i64, u32);
 /// A numerator and a denominator.
 pub(super) type Pair = (i64, i64);
 
+/// Stops where what a row of a table says does not hold.
+pub(super) fn expect(rt: &impl Abort, row: usize, holds: bool) {
+    assert!(rt; holds, "row {row}");
+}
+
 /// `num / den`.
 pub(super) fn fraction(rt: &impl Abort, num: i64, den: i64) -> Frac {
     assert!(rt; den > 0);

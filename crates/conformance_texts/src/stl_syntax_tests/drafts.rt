@@ -1,5 +1,6 @@
 //! Formulas from pieces in post-order, each with the last free pieces as its operands.
 ghost use Rattle.std.specs.Prelude.{◌≡◌, ◌++◌, ◌↔◌, length, take, IfSome, IfOk, IsTrue};
+ghost use Rattle.stl_syntax.specs.Names.{is_name};
 ghost use Rattle.stl_syntax.specs.Limits.{own_reach, reach};
 ghost use Rattle.stl_syntax.specs.PostOrder.{children, unused};
 ghost use Rattle.stl_syntax.specs.WellFormed.{HasBounds, IsInOrder};
@@ -46,49 +47,81 @@ pub(crate) const A4: Op = Op::Atom(4);
 /// `x < -10737418.24`
 pub(crate) const A5: Op = Op::Atom(5);
 
-fn atom(alloc: Global, which: u8) -> Result<Atom, Fail> {
-    let mut terms = Vec::new(alloc);
-    let (rel, limit) = match which {
-        0 => {
-            terms.push(Term::make(alloc, 1, "x")?)?;
-            (Rel::AtLeast, 500)
-        }
-        1 => {
-            terms.push(Term::make(alloc, -1, "x")?)?;
-            terms.push(Term::make(alloc, 1, "y")?)?;
-            (Rel::Above, -150)
-        }
-        2 => {
-            terms.push(Term::make(alloc, 3, "x")?)?;
-            terms.push(Term::make(alloc, -1, "y")?)?;
-            (Rel::Below, 0)
-        }
-        3 => {
-            terms.push(Term::make(alloc, -3, "x")?)?;
-            terms.push(Term::make(alloc, 3, "y")?)?;
-            (Rel::AtMost, 5)
-        }
-        4 => {
-            terms.push(Term::make(alloc, 0, "x")?)?;
-            terms.push(Term::make(alloc, -3, "y")?)?;
-            terms.push(Term::make(alloc, 0, "z")?)?;
-            terms.push(Term::make(alloc, 1, "w")?)?;
-            (Rel::AtLeast, 100)
-        }
-        _ => {
-            terms.push(Term::make(alloc, 1, "x")?)?;
-            (Rel::Below, -1073741824)
-        }
-    };
-    Ok(make_atom(terms, rel, limit))
+/// A column by its number.
+fn name(which: u8) -> &'static str
+    ensures { IsTrue (is_name result.now) }
+{
+    match which {
+        0 => "x",
+        1 => "y",
+        2 => "z",
+        _ => "w",
+    }
+}
+
+/// The terms of each atom, by a coefficient and the number of a column, its relation and its constant.
+const ATOMS: [(&[(i32, u8)], Rel, i32); 6] = [
+    (&[(1, 0)], Rel::AtLeast, 500),
+    (&[(-1, 0), (1, 1)], Rel::Above, -150),
+    (&[(3, 0), (-1, 1)], Rel::Below, 0),
+    (&[(-3, 0), (3, 1)], Rel::AtMost, 5),
+    (&[(0, 0), (-3, 1), (0, 2), (1, 3)], Rel::AtLeast, 100),
+    (&[(1, 0)], Rel::Below, -1073741824),
+];
+
+fn atom(rt: &impl Abort, alloc: Global, which: u8) -> Result<Atom, Fail> {
+    assert!(rt; usize::from(which) < ATOMS.len());
+    let (terms, rel, limit) = ATOMS[usize::from(which)];
+    let mut list = Vec::new(alloc);
+    for (coef, column) in terms {
+        assert!(rt; coef.unsigned_abs() <= 16);
+        list.push(Term::make(alloc, *coef, name(*column))?)?;
+    }
+    assert!(rt; !list.is_empty() && list.len() <= 4 && limit.unsigned_abs() <= 1_073_741_824);
+    Ok(make_atom(list, rel, limit))
+}
+
+/// The node of a window on this operand; false for every other operator.
+fn window(op: Op, of: u32) -> Node {
+    match op {
+        Op::Eventually(low, high, low_in, high_in) => Node::Eventually {
+            of,
+            low,
+            high,
+            low_in,
+            high_in,
+        },
+        Op::Always(low, high, low_in, high_in) => Node::Always {
+            of,
+            low,
+            high,
+            low_in,
+            high_in,
+        },
+        Op::Once(low, high, low_in, high_in) => Node::Once {
+            of,
+            low,
+            high,
+            low_in,
+            high_in,
+        },
+        Op::Historically(low, high, low_in, high_in) => Node::Historically {
+            of,
+            low,
+            high,
+            low_in,
+            high_in,
+        },
+        _ => Node::Const(false),
+    }
 }
 
 /// The node with these operands.
-fn node(alloc: Global, op: Op, left: u32, right: u32) -> Result<Node, Fail> {
+fn node(rt: &impl Abort, alloc: Global, op: Op, left: u32, right: u32) -> Result<Node, Fail> {
     Ok(match op {
         Op::True => Node::Const(true),
         Op::False => Node::Const(false),
-        Op::Atom(which) => Node::Atom(atom(alloc, which)?),
+        Op::Atom(which) => Node::Atom(atom(rt, alloc, which)?),
         Op::Not => Node::Not(right),
         Op::And => Node::And(left, right),
         Op::Or => Node::Or(left, right),
@@ -105,34 +138,7 @@ fn node(alloc: Global, op: Op, left: u32, right: u32) -> Result<Node, Fail> {
             low,
             high,
         },
-        Op::Eventually(low, high, low_in, high_in) => Node::Eventually {
-            of: right,
-            low,
-            high,
-            low_in,
-            high_in,
-        },
-        Op::Always(low, high, low_in, high_in) => Node::Always {
-            of: right,
-            low,
-            high,
-            low_in,
-            high_in,
-        },
-        Op::Once(low, high, low_in, high_in) => Node::Once {
-            of: right,
-            low,
-            high,
-            low_in,
-            high_in,
-        },
-        Op::Historically(low, high, low_in, high_in) => Node::Historically {
-            of: right,
-            low,
-            high,
-            low_in,
-            high_in,
-        },
+        _ => window(op, right),
     })
 }
 
@@ -286,7 +292,7 @@ pub(crate) fn formula(
     let mut draft = begin(alloc);
     for op in ops {
         let (left, right) = last_two(&draft);
-        draft = add(rt, draft, node(alloc, *op, left, right)?)?;
+        draft = add(rt, draft, node(rt, alloc, *op, left, right)?)?;
     }
     let Draft {
         builder,

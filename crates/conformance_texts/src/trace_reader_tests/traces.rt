@@ -56,11 +56,40 @@ fn tell_refusal(said: &mut String, refusal: &TraceRefusal) -> Result<(), AllocEr
     }
 }
 
+/// Adds what the end of the bytes makes: the last row, where there is one, and the lines begun, or the refusal.
+fn tell_end(said: &mut String, reader: Rows) -> Result<(), AllocError>
+    requires { reader.ended ≡ false }
+{
+    let mut reader = reader;
+    match reader.end() {
+        Ok(event) => {
+            match event {
+                Event::Row => tell_row(said, reader.row())?,
+                _ => {}
+            }
+            let line = reader.line();
+            write!(said, "end {line}")
+        }
+        Err(refusal) => tell_refusal(said, &refusal),
+    }
+}
+
 /// How the bytes of a trace are cut: a first piece, and pieces of at most `most` bytes.
 #[derive(Clone, Copy)]
 struct Cut {
     first: usize,
     most: usize,
+}
+
+impl Cut {
+    /// The size of the piece after one of which so many bytes were taken: what is left of it, where something is.
+    fn next(self, given: usize, taken: usize) -> usize {
+        if taken < given {
+            given - taken
+        } else {
+            self.most
+        }
+    }
 }
 
 /// What a reader makes of bytes: the header, the rows, and `end` or the refusal, with the lines begun.
@@ -99,23 +128,9 @@ fn told(
             Event::Row => tell_row(&mut said, reader.row())?,
         }
         rest = &rest[took.bytes..];
-        size = if took.bytes < given {
-            given - took.bytes
-        } else {
-            cut.most
-        };
+        size = cut.next(given, took.bytes);
     }
-    match reader.end() {
-        Ok(event) => {
-            match event {
-                Event::Row => tell_row(&mut said, reader.row())?,
-                _ => {}
-            }
-            let line = reader.line();
-            write!(said, "end {line}")?;
-        }
-        Err(refusal) => tell_refusal(&mut said, &refusal)?,
-    }
+    tell_end(&mut said, reader)?;
     Ok(said)
 }
 
