@@ -20,10 +20,13 @@ lines false false = omega arith
 objects : (in_it holds last : Bool)
     → length ((if in_it then codes "]" else codes ")") ++ codes "\",\"value\":" ++ bool_text holds ++ codes "}" ++ separator last) ≤ 18
 objects true true true = omega arith
+objects true true false = omega arith
 objects true false true = omega arith
+objects true false false = omega arith
 objects false true true = omega arith
+objects false true false = omega arith
 objects false false true = omega arith
-objects _ _ false = omega arith
+objects false false false = omega arith
 
 -- what stands before the times takes at most 8 bytes
 pub begin_short : (json : Bool) (v : Verdict) → length (entry_begin json v) ≤ 8

@@ -235,8 +235,10 @@ step_view text (Closing TUntil low_in low high) frames drafts terms made CloseBr
 step_view text (ClosingInf of low_in low) frames drafts terms made (Number d) k h = refl
 step_view text (ClosingInf BSince low_in low) frames drafts terms made OpenBracket k h = refl
 step_view text (ClosingInf BSince low_in low) frames drafts terms made CloseBracket k h = refl
+step_view text (AtTerm negative) frames drafts terms made (IsKeyword Inf) k h = refl
 step_view text (AtTerm negative) frames drafts terms made (Name from to) k h = rw (known_kind text from to k) (named frames terms made _)
 step_view text (AtStar negative coef) frames drafts terms made Star k h = refl
+step_view text (AtName negative coef) frames drafts terms made (IsKeyword Inf) k h = refl
 step_view text (AtName negative coef) frames drafts terms made (Name from to) k h = rw (known_kind text from to k) (named frames terms made _)
 step_view text Sign frames drafts terms made Plus k h = refl
 step_view text (Constant rel) frames drafts terms made (Number d) k h = ap Some (completed_state frames at_end made h.order)
