@@ -1,5 +1,5 @@
 -- How negation and the connectives go through their inputs.
-use Rattle.std.proofs.Common.{◌≡◌, ℕ, ◌<◌, List, ◌∷◌, Some, None, refl, sym, ap, subst, ◌∙◌, length, drop, slice_get, arith}
+use Rattle.std.proofs.Common.{◌≡◌, ℕ, ◌<◌, List, [], ◌∷◌, Some, None, refl, sym, ap, subst, ◌∙◌, length, drop, slice_get, arith}
 use Rattle.std.specs.declared.cmp.Ordering.{Ordering}
 use Rattle.std.specs.declared.cmp.Ordering.TheVariants.{Less, Equal, Greater}
 use Rattle.std.proofs.lemmas.Option.{same_Some}
@@ -42,6 +42,12 @@ pub record TakesTwo (old mid new : Held) (i : ℕ) (v w : MarginLine) : Type 0 w
   -- and the start stays
   pub start_too : new.start ≡ mid.start
 
+-- lines that are some are less without their first two
+drop_fewer : (l : List MarginLine) (v : MarginLine) → slice_get l 0 ≡ Some v → length (drop 1 (drop 1 l)) < length l
+drop_fewer [] v e = absurd (let h = e in cc)
+drop_fewer (x ∷ []) v e = omega arith
+drop_fewer (x ∷ y ∷ r) v e = omega arith
+
 module _ {old mid new : Held} {i : ℕ} {v w : MarginLine} (two : TakesTwo old mid new i v w) where
   one_lost : (limit : Rational) → value (end_of v) ≤ʳ limit → LosesAt limit i old mid
   one_lost limit h = took limit i old mid v two.within two.taken two.start two.first h
@@ -57,6 +63,13 @@ module _ {old mid new : Held} {i : ℕ} {v w : MarginLine} (two : TakesTwo old m
   pub two_held : held_at new i ≡ drop 1 (drop 1 (held_at old i))
   two_held = took_held i mid new (omega (arith, two.within, mid_count)) two.taken_too
       ∙ ap (λ (l : List MarginLine). drop 1 l) (took_held i old mid two.within two.taken)
+
+  -- which are two less
+  pub two_fewer : length (held_at new i) < length (held_at old i)
+  two_fewer =
+      let shorter : length (drop 1 (drop 1 (held_at old i))) < length (held_at old i) = drop_fewer (held_at old i) v two.first in
+      let same : length (held_at new i) ≡ length (drop 1 (drop 1 (held_at old i))) = ap (λ (l : List MarginLine). length l) two_held in
+      omega (arith, shorter, same)
 
   -- the point stood behind the gap
   pub second_held : slice_get (drop 1 (held_at old i)) 0 ≡ Some w

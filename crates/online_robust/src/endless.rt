@@ -10,10 +10,10 @@ use crate::edges::Edges;
 use crate::ever::Ever;
 use crate::glance::Moved;
 use crate::line::Reached;
+use crate::room::Room;
 use crate::window::Window;
 use frac128::{Frac, Memory};
 use pl_signal::{Signal, WidePair};
-use std::alloc::Global;
 use value_laws::Margin;
 
 /// A window. While its input has given out nothing, an empty window tells the value of no times in its place.
@@ -59,7 +59,7 @@ impl Endless {
     /// The window goes on.
     fn go_on(
         &mut self,
-        alloc: Global,
+        room: &mut Room,
         edges: &mut Edges,
         to: u32,
         fault: &mut Option<WidePair<Margin>>,
@@ -76,7 +76,7 @@ impl Endless {
         let end = Frac::of(i64::from(to));
         match &mut self.past {
             Some(past) => {
-                let swept = past.sweep(alloc, edges, &end, fault)?;
+                let swept = past.sweep(room, edges, &end, fault)?;
                 Ok(swept)
             }
             None => unreachable!(),
@@ -84,7 +84,12 @@ impl Endless {
     }
 
     /// Nothing is to be seen yet.
-    fn wait(&mut self, alloc: Global, edges: &mut Edges, to: u32) -> Result<Signal<Margin>, Memory>
+    fn wait(
+        &mut self,
+        room: &mut Room,
+        edges: &mut Edges,
+        to: u32,
+    ) -> Result<Signal<Margin>, Memory>
         requires belongs { BelongsSomewhere (Op.Ever self.old) edges.old to }
         requires none { self.old.past ≡ None }
         requires empty { slice_get (held_at edges.old self.old.window.of) 0 ≡ None }
@@ -96,7 +101,7 @@ impl Endless {
             unreachable!()
         };
         let end = Frac::of(i64::from(to));
-        match self.silent.sweep(alloc, edges, start, &end) {
+        match self.silent.sweep(room, edges, start, &end) {
             Ok(swept) => Ok(swept),
             Err(Memory) => Err(Memory),
         }
@@ -105,7 +110,7 @@ impl Endless {
     /// The input has begun.
     fn begin(
         &mut self,
-        alloc: Global,
+        room: &mut Room,
         edges: &mut Edges,
         to: u32,
         fault: &mut Option<WidePair<Margin>>,
@@ -125,7 +130,7 @@ impl Endless {
         };
         let end = Frac::of(i64::from(to));
         let mut past = begun(self.window, start, self.silent.last);
-        let swept = past.sweep(alloc, edges, &end, fault)?;
+        let swept = past.sweep(room, edges, &end, fault)?;
         self.past = Some(past);
         Ok(swept)
     }
@@ -137,7 +142,7 @@ impl Endless {
     /// As those of `Operator::sweep`.
     pub(crate) fn sweep(
         &mut self,
-        alloc: Global,
+        room: &mut Room,
         edges: &mut Edges,
         to: u32,
         fault: &mut Option<WidePair<Margin>>,
@@ -151,11 +156,11 @@ impl Endless {
         ensures wide { (t : Step) → Belongs t (Op.Ever self.old) edges.old to → OnErr result (IsStreamedFault t (told_by fault.new)) }
     {
         if self.past.is_some() {
-            return self.go_on(alloc, edges, to, fault);
+            return self.go_on(room, edges, to, fault);
         }
         match edges.first(self.window.of) {
-            Some(_) => self.begin(alloc, edges, to, fault),
-            None => self.wait(alloc, edges, to),
+            Some(_) => self.begin(room, edges, to, fault),
+            None => self.wait(room, edges, to),
         }
     }
 }

@@ -23,11 +23,11 @@ use crate::edges::Edges;
 use crate::ends::{Rim, is_one};
 use crate::line::Reached;
 use crate::queue::better_of;
+use crate::room::Room;
 use crate::window::{Gone, Window, enter, first_of, frozen, worth};
 use envelope::{Best, of_none, write};
 use frac128::{Frac, Memory};
 use pl_signal::{Builder, Signal, WidePair};
-use std::alloc::Global;
 use std::cmp::Ordering;
 use value_laws::{Margin, Shape};
 
@@ -269,7 +269,7 @@ impl Ever {
         let before = self.best();
         self.at = t;
         self.come(edges);
-        let value = worth(self.window.side, &before, self.under(), None, &t);
+        let value = worth(self.window.side, &before, &self.under(), &None, &t);
         Gone {
             best: before,
             to: Reached { at: t, value },
@@ -387,7 +387,7 @@ impl Ever {
     /// `Wide` for what is in play below that time; `Memory` where there is no memory. It is of no use then.
     pub(crate) fn sweep(
         &mut self,
-        alloc: Global,
+        room: &mut Room,
         edges: &mut Edges,
         to: &Frac,
         fault: &mut Option<WidePair<Margin>>,
@@ -409,7 +409,7 @@ impl Ever {
             → OnErr result (IsWindowFault x self.old.window (value to.now) (told_by fault.new)) }
     {
         let mut reached = self.begin(edges, fault)?;
-        let mut built = Builder::start(alloc, reached.at, reached.value)?;
+        let mut built = room.start(reached.at, reached.value)?;
         while let Ordering::Less = reached.at.cmp(to) {
             reached = self.tell_on(edges, &mut built, to, fault)?;
         }

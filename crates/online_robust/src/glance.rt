@@ -12,10 +12,10 @@ ghost use Rattle.online_robust.specs.declared.line.MarginLine.TheVariants as L;
 
 use crate::edges::Edges;
 use crate::line::{MarginLine, Reached};
+use crate::room::Room;
 use envelope::of_none;
 use frac128::{Frac, Memory};
-use pl_signal::{Builder, Side, Signal};
-use std::alloc::Global;
+use pl_signal::{Side, Signal};
 use std::cmp::Ordering;
 use value_laws::{Margin, Shape};
 
@@ -193,7 +193,7 @@ impl Moved {
     /// `Memory` where there is no memory. It is of no use then.
     pub(crate) fn sweep(
         &mut self,
-        alloc: Global,
+        room: &mut Room,
         edges: &mut Edges,
         start: u32,
         to: &Frac,
@@ -216,7 +216,7 @@ impl Moved {
             → OnOk result (LosesAt (shifted (value_of to.now) self.old.by) self.old.of edges.old edges.new) }
     {
         let mut reached = self.begin(edges, start);
-        let mut built = Builder::start(alloc, reached.at, reached.value)?;
+        let mut built = room.start(reached.at, reached.value)?;
         while let Ordering::Less = reached.at.cmp(to) {
             let stride = self.next(edges, to);
             built.step(stride.shape, stride.to.at, stride.to.value)?;

@@ -9,6 +9,7 @@ ghost use Rattle.online_robust.specs.Refusing.{told_by};
 use crate::edges::Edges;
 use crate::glance::Moved;
 use crate::line::Reached;
+use crate::room::Room;
 use crate::window::{Sweep, Window};
 use frac128::{Frac, Memory};
 use pl_signal::{Signal, WidePair};
@@ -58,7 +59,7 @@ impl Lazy {
     /// The window goes on.
     fn go_on(
         &mut self,
-        alloc: Global,
+        room: &mut Room,
         edges: &mut Edges,
         to: u32,
         fault: &mut Option<WidePair<Margin>>,
@@ -75,7 +76,7 @@ impl Lazy {
         let end = Frac::of(i64::from(to));
         match &mut self.sweep {
             Some(sweep) => {
-                let swept = sweep.sweep(alloc, edges, &end, fault)?;
+                let swept = sweep.sweep(room, edges, &end, fault)?;
                 Ok(swept)
             }
             None => unreachable!(),
@@ -83,7 +84,12 @@ impl Lazy {
     }
 
     /// Nothing is to be seen yet.
-    fn wait(&mut self, alloc: Global, edges: &mut Edges, to: u32) -> Result<Signal<Margin>, Memory>
+    fn wait(
+        &mut self,
+        room: &mut Room,
+        edges: &mut Edges,
+        to: u32,
+    ) -> Result<Signal<Margin>, Memory>
         requires belongs { BelongsSomewhere (Op.Sweep self.old) edges.old to }
         requires none { self.old.sweep ≡ None }
         requires empty { slice_get (held_at edges.old self.old.window.of) 0 ≡ None }
@@ -95,7 +101,7 @@ impl Lazy {
             unreachable!()
         };
         let end = Frac::of(i64::from(to));
-        match self.silent.sweep(alloc, edges, start, &end) {
+        match self.silent.sweep(room, edges, start, &end) {
             Ok(swept) => Ok(swept),
             Err(Memory) => Err(Memory),
         }
@@ -104,7 +110,7 @@ impl Lazy {
     /// The input has begun.
     fn begin(
         &mut self,
-        alloc: Global,
+        room: &mut Room,
         edges: &mut Edges,
         to: u32,
         fault: &mut Option<WidePair<Margin>>,
@@ -123,8 +129,8 @@ impl Lazy {
             unreachable!()
         };
         let end = Frac::of(i64::from(to));
-        let mut sweep = begun(alloc, self.window, start, self.silent.last);
-        let swept = sweep.sweep(alloc, edges, &end, fault)?;
+        let mut sweep = begun(room.alloc, self.window, start, self.silent.last);
+        let swept = sweep.sweep(room, edges, &end, fault)?;
         self.sweep = Some(sweep);
         Ok(swept)
     }
@@ -136,7 +142,7 @@ impl Lazy {
     /// As those of `Operator::sweep`.
     pub(crate) fn sweep(
         &mut self,
-        alloc: Global,
+        room: &mut Room,
         edges: &mut Edges,
         to: u32,
         fault: &mut Option<WidePair<Margin>>,
@@ -150,11 +156,11 @@ impl Lazy {
         ensures wide { (t : Step) → Belongs t (Op.Sweep self.old) edges.old to → OnErr result (IsStreamedFault t (told_by fault.new)) }
     {
         if self.sweep.is_some() {
-            return self.go_on(alloc, edges, to, fault);
+            return self.go_on(room, edges, to, fault);
         }
         match edges.first(self.window.of) {
-            Some(_) => self.begin(alloc, edges, to, fault),
-            None => self.wait(alloc, edges, to),
+            Some(_) => self.begin(room, edges, to, fault),
+            None => self.wait(room, edges, to),
         }
     }
 }

@@ -14,6 +14,7 @@ mod operator;
 mod pointwise;
 mod put;
 mod queue;
+mod room;
 mod station;
 mod streamed;
 mod window;

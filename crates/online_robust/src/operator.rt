@@ -13,10 +13,10 @@ use crate::endless::Endless;
 use crate::glance::Moved;
 use crate::lazy::Lazy;
 use crate::pointwise::{Not, Two};
+use crate::room::Room;
 use crate::window::Window;
 use frac128::{Frac, Memory};
 use pl_signal::{Side, Signal, WidePair};
-use std::alloc::Global;
 use stl_syntax::Node;
 use value_laws::Margin;
 
@@ -114,7 +114,7 @@ fn both(low_in: bool, high_in: bool) -> bool
 /// A negation goes on to a number.
 fn sweep_not(
     not: &mut Not,
-    alloc: Global,
+    room: &mut Room,
     edges: &mut Edges,
     to: u32,
 ) -> Result<Signal<Margin>, Memory>
@@ -124,7 +124,7 @@ fn sweep_not(
     ensures stands { (t : Step) → Belongs t (Op.Not not.old) edges.old to → OnOk result (StandsNow t (Op.Not not.new) edges.new to) }
 {
     let end = Frac::of(i64::from(to));
-    match not.sweep(alloc, edges, &end) {
+    match not.sweep(room, edges, &end) {
         Ok(swept) => Ok(swept),
         Err(Memory) => Err(Memory),
     }
@@ -133,7 +133,7 @@ fn sweep_not(
 /// A connective goes on to a number.
 fn sweep_two(
     two: &mut Two,
-    alloc: Global,
+    room: &mut Room,
     edges: &mut Edges,
     to: u32,
     fault: &mut Option<WidePair<Margin>>,
@@ -147,7 +147,7 @@ fn sweep_two(
     ensures wide { (t : Step) → Belongs t (Op.Two two.old) edges.old to → OnErr result (IsStreamedFault t (told_by fault.new)) }
 {
     let end = Frac::of(i64::from(to));
-    match two.sweep(alloc, edges, &end, fault) {
+    match two.sweep(room, edges, &end, fault) {
         Ok(swept) => Ok(swept),
         Err(Memory) => Err(Memory),
     }
@@ -156,7 +156,7 @@ fn sweep_two(
 /// A window of one instant goes on to a number.
 fn sweep_moved(
     moved: &mut Moved,
-    alloc: Global,
+    room: &mut Room,
     edges: &mut Edges,
     to: u32,
 ) -> Result<Signal<Margin>, Memory>
@@ -169,7 +169,7 @@ fn sweep_moved(
         unreachable!()
     };
     let end = Frac::of(i64::from(to));
-    match moved.sweep(alloc, edges, start, &end) {
+    match moved.sweep(room, edges, start, &end) {
         Ok(swept) => Ok(swept),
         Err(Memory) => Err(Memory),
     }
@@ -228,7 +228,7 @@ impl Operator {
     /// are given up then.
     pub(crate) fn sweep(
         &mut self,
-        alloc: Global,
+        room: &mut Room,
         edges: &mut Edges,
         to: u32,
         fault: &mut Option<WidePair<Margin>>,
@@ -242,11 +242,11 @@ impl Operator {
         ensures wide { (t : Step) → Belongs t self.old edges.old to → OnErr result (IsStreamedFault t (told_by fault.new)) }
     {
         match self {
-            Operator::Not(not) => sweep_not(not, alloc, edges, to),
-            Operator::Two(two) => sweep_two(two, alloc, edges, to, fault),
-            Operator::Moved(moved) => sweep_moved(moved, alloc, edges, to),
-            Operator::Sweep(window) => window.sweep(alloc, edges, to, fault),
-            Operator::Ever(window) => window.sweep(alloc, edges, to, fault),
+            Operator::Not(not) => sweep_not(not, room, edges, to),
+            Operator::Two(two) => sweep_two(two, room, edges, to, fault),
+            Operator::Moved(moved) => sweep_moved(moved, room, edges, to),
+            Operator::Sweep(window) => window.sweep(room, edges, to, fault),
+            Operator::Ever(window) => window.sweep(room, edges, to, fault),
         }
     }
 }

@@ -7,7 +7,8 @@ ghost use Rattle.value_laws.specs.Margins.{is_ramp, margin_base, margin_function
 ghost use Rattle.frac128.specs.Value.{value};
 ghost use Rattle.stl_syntax.specs.SupInf.{Robustness};
 ghost use Rattle.online_robust.specs.Held.{held_at};
-ghost use Rattle.online_robust.specs.Lines.{end_of};
+ghost use Rattle.online_robust.specs.Lines.{end_of, margin_of};
+ghost use Rattle.online_robust.specs.declared.line.MarginLine.{MarginLine as Line};
 ghost use Rattle.online_robust.specs.Told.{IsTick};
 ghost use Rattle.online_robust.specs.ReadLines.{HasReached, IsAhead, IsBuilt, IsStretch, IsThere, LosesAt, LosesAtBoth, value_turned};
 ghost use Rattle.online_robust.specs.Couples.{CanJoin, CanNegate, Couple, IsCoupleFault, IsJoinedTo, IsNegatedTo};
@@ -16,9 +17,9 @@ ghost use Rattle.online_robust.specs.Refusing.{told_by};
 
 use crate::edges::Edges;
 use crate::line::{MarginLine, Reached};
+use crate::room::Room;
 use frac128::{Frac, Memory};
 use pl_signal::{Builder, Side, Signal, WidePair, chosen, earlier};
-use std::alloc::Global;
 use std::cmp::Ordering;
 use value_laws::{Margin, Shape};
 
@@ -39,19 +40,22 @@ pub(crate) struct Two {
     pub(crate) last: Option<Reached>,
 }
 
-/// The margin of an input at the time, which lies in its first gap or at the end of it. What ends by the time is taken.
-fn up_to(edges: &mut Edges, of: u32, gap: &MarginLine, t: &Frac) -> Margin
+/// The margin of an input at the time, which lies in its first gap, or at the end of it; the gap has this end and this margin. What
+/// ends by the time is taken.
+fn up_to(edges: &mut Edges, of: u32, end: &Frac, shape: &Margin, t: &Frac) -> Margin
     requires of { of < length edges.old.edges }
-    requires read { (x : Source) × IsReadTo x gap.now (value t.now) (held_at edges.old of) }
-    ensures there { (x : Source) → IsReadTo x gap.now (value t.now) (held_at edges.old of)
-        → IsThere (Robustness x.formula x.trace) x.reach (value t.now) result }
-    ensures ahead { (x : Source) → IsReadTo x gap.now (value t.now) (held_at edges.old of)
+    requires read { (x : Source) × (gap : Line) × (end.now ≡ end_of gap) × (shape.now ≡ margin_of gap)
+        × IsReadTo x gap (value t.now) (held_at edges.old of) }
+    ensures there { (x : Source) (gap : Line) → end.now ≡ end_of gap → shape.now ≡ margin_of gap
+        → IsReadTo x gap (value t.now) (held_at edges.old of) → IsThere (Robustness x.formula x.trace) x.reach (value t.now) result }
+    ensures ahead { (x : Source) (gap : Line) → end.now ≡ end_of gap → shape.now ≡ margin_of gap
+        → IsReadTo x gap (value t.now) (held_at edges.old of)
         → IsAhead (Robustness x.formula x.trace) x.reach (value t.now) x.to (held_at edges.new of) }
     ensures lost { LosesAt (value t.now) of edges.old edges.new }
-    ensures fewer { (value (end_of gap.now) ≈ value t.now → length (held_at edges.new of) < length (held_at edges.old of)) }
+    ensures fewer { (value end.now ≈ value t.now → length (held_at edges.new of) < length (held_at edges.old of)) }
     ensures no_more { length (held_at edges.new of) ≤ length (held_at edges.old of) }
 {
-    match gap.end().cmp(t) {
+    match end.cmp(t) {
         Ordering::Equal => {
             edges.skip(of);
             let Some(point) = edges.ahead(of) else {
@@ -61,7 +65,7 @@ fn up_to(edges: &mut Edges, of: u32, gap: &MarginLine, t: &Frac) -> Margin
             edges.skip(of);
             value
         }
-        _ => gap.margin(),
+        _ => *shape,
     }
 }
 
@@ -123,7 +127,7 @@ impl Not {
     /// `Memory` where there is no memory. It is of no use then.
     pub(crate) fn sweep(
         &mut self,
-        alloc: Global,
+        room: &mut Room,
         edges: &mut Edges,
         to: &Frac,
     ) -> Result<Signal<Margin>, Memory>
@@ -138,7 +142,7 @@ impl Not {
         ensures kept { self.new ≡ record self.old { last = self.new.last } }
     {
         let mut reached = self.begin(edges);
-        let mut built = Builder::start(alloc, reached.at, reached.value)?;
+        let mut built = room.start(reached.at, reached.value)?;
         while let Ordering::Less = reached.at.cmp(to) {
             let at = reached.at;
             reached = self.turn(edges, &mut built, &at)?;
@@ -150,22 +154,23 @@ impl Not {
 
 impl Two {
     /// The left input's margin, as it counts.
-    fn left_of(&self, shape: Margin) -> Margin
-        requires { HasBoundedLevel (2 ^ 31) (margin_function shape) }
-        ensures value { (t : Rational) → value_at (margin_function result) t ≈ᵉ value_turned self.now.turned (value_at (margin_function shape) t) }
-        ensures base { IsTrue (is_ramp result) → IsTrue (is_ramp shape) × (margin_base result ≡ margin_base shape) }
+    fn left_of(&self, shape: &Margin) -> Margin
+        requires { HasBoundedLevel (2 ^ 31) (margin_function shape.now) }
+        ensures value { (t : Rational) → value_at (margin_function result) t ≈ᵉ value_turned self.now.turned (value_at (margin_function shape.now) t) }
+        ensures base { IsTrue (is_ramp result) → IsTrue (is_ramp shape.now) × (margin_base result ≡ margin_base shape.now) }
     {
-        if self.turned { shape.neg() } else { shape }
+        if self.turned { shape.neg() } else { *shape }
     }
 
     /// The margin of the connective of two margins at the time.
-    fn of_both(&self, p: Margin, q: Margin, t: &Frac) -> Margin
-        requires { (x : Couple) × (IsThere (Robustness x.left x.trace) x.reach (value t.now) p)
-            × (IsThere (right_of x) x.reach (value t.now) q) × IsTick (value t.now) }
-        ensures { (x : Couple) → IsThere (Robustness x.left x.trace) x.reach (value t.now) p → IsThere (right_of x) x.reach (value t.now) q
+    fn of_both(&self, p: &Margin, q: &Margin, t: &Frac) -> Margin
+        requires { (x : Couple) × (IsThere (Robustness x.left x.trace) x.reach (value t.now) p.now)
+            × (IsThere (right_of x) x.reach (value t.now) q.now) × IsTick (value t.now) }
+        ensures { (x : Couple) → IsThere (Robustness x.left x.trace) x.reach (value t.now) p.now
+            → IsThere (right_of x) x.reach (value t.now) q.now
             → IsThere (both_of x self.now) x.reach (value t.now) result }
     {
-        chosen(self.side, &self.left_of(p), &q, t)
+        chosen(self.side, &self.left_of(p), q, t)
     }
 
     /// Where it was told before, or the point at the start, which is taken from both inputs.
@@ -178,14 +183,18 @@ impl Two {
         if let Some(reached) = self.last {
             return reached;
         }
-        let Some(p) = edges.take(self.left) else {
-            unreachable!()
-        };
-        let Some(q) = edges.take(self.right) else {
+        let Some(p) = edges.ahead(self.left) else {
             unreachable!()
         };
         let at = p.end();
-        let value = self.of_both(p.margin(), q.margin(), &at);
+        let x = p.margin();
+        edges.skip(self.left);
+        let Some(q) = edges.ahead(self.right) else {
+            unreachable!()
+        };
+        let y = q.margin();
+        edges.skip(self.right);
+        let value = self.of_both(&x, &y, &at);
         Reached { at, value }
     }
 
@@ -216,20 +225,24 @@ impl Two {
         ensures wide { (x : Couple) → IsJoinedTo x self.now edges.old (value at.now) → value to.now ≈ x.to
             → IsBuilt (both_of x self.now) x.reach x.from (value at.now) built.old → OnErr result (IsCoupleFault x self.now (told_by fault.new)) }
     {
-        let Some(p) = edges.first(self.left) else {
+        let Some(p) = edges.ahead(self.left) else {
             unreachable!()
         };
-        let Some(q) = edges.first(self.right) else {
+        let p_end = p.end();
+        let p_shape = p.margin();
+        let Some(q) = edges.ahead(self.right) else {
             unreachable!()
         };
-        let t = earlier(&earlier(&p.end(), &q.end()), to);
-        let x = up_to(edges, self.left, &p, &t);
-        let y = up_to(edges, self.right, &q, &t);
-        let value = self.of_both(x, y, &t);
+        let q_end = q.end();
+        let q_shape = q.margin();
+        let t = earlier(&earlier(&p_end, &q_end), to);
+        let x = up_to(edges, self.left, &p_end, &p_shape, &t);
+        let y = up_to(edges, self.right, &q_end, &q_shape, &t);
+        let value = self.of_both(&x, &y, &t);
         built.join_kept(
             self.side,
-            &self.left_of(p.margin()),
-            &q.margin(),
+            &self.left_of(&p_shape),
+            &q_shape,
             &t,
             &value,
             fault,
@@ -244,7 +257,7 @@ impl Two {
     /// `Wide` for a crossing of two parts of the inputs; `Memory` where there is no memory. It is of no use then.
     pub(crate) fn sweep(
         &mut self,
-        alloc: Global,
+        room: &mut Room,
         edges: &mut Edges,
         to: &Frac,
         fault: &mut Option<WidePair<Margin>>,
@@ -263,7 +276,7 @@ impl Two {
         ensures wide { (x : Couple) → CanJoin x self.old edges.old → value to.now ≈ x.to → OnErr result (IsCoupleFault x self.old (told_by fault.new)) }
     {
         let mut reached = self.begin(edges);
-        let mut built = Builder::start(alloc, reached.at, reached.value)?;
+        let mut built = room.start(reached.at, reached.value)?;
         while let Ordering::Less = reached.at.cmp(to) {
             let at = reached.at;
             reached = self.turn(edges, &mut built, &at, to, fault)?;

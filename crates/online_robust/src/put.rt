@@ -25,25 +25,25 @@ fn put_point(edges: &mut Edges, node: u32, at: Frac, value: Margin) -> Result<()
 }
 
 /// Puts a gap and the point that ends it.
-#[inline(never)]
+#[inline(always)]
 fn put_pair(
     edges: &mut Edges,
     node: u32,
-    from: Frac,
-    piece: Margin,
-    at: Frac,
-    value: Margin,
+    from: &Frac,
+    piece: &Margin,
+    at: &Frac,
+    value: &Margin,
 ) -> Result<(), Memory>
     requires { node < length edges.old.edges }
-    ensures { OnOk result (HasPut node (Part.Gap from at piece ∷ Part.Point at value ∷ []) edges.old edges.new) }
+    ensures { OnOk result (HasPut node (Part.Gap from.now at.now piece.now ∷ Part.Point at.now value.now ∷ []) edges.old edges.new) }
 {
     let gap = MarginLine::Gap {
-        from,
-        to: at,
-        piece,
+        from: *from,
+        to: *at,
+        piece: *piece,
     };
     edges.put(node, gap)?;
-    put_point(edges, node, at, value)
+    put_point(edges, node, *at, *value)
 }
 
 /// Puts the gaps of a signal, each with the point that ends it.
@@ -53,15 +53,15 @@ fn put_later(edges: &mut Edges, node: u32, s: &Signal<Margin>) -> Result<(), Mem
 {
     let knots = s.len();
     for i in 1..knots {
-        let before = s.knot(i - 1);
-        let knot = s.knot(i);
+        let before = s.knot_in_place(i - 1);
+        let knot = s.knot_in_place(i);
         put_pair(
             edges,
             node,
-            before.time,
-            before.after,
-            knot.time,
-            knot.point,
+            &before.time,
+            &before.after,
+            &knot.time,
+            &knot.point,
         )?;
     }
     Ok(())
@@ -95,6 +95,7 @@ fn time_of(row: &Row) -> Frac
 }
 
 /// Puts what a leaf gives out at a row: the gap since the row before, if there is one, and the point.
+#[inline(always)]
 fn put_row(
     edges: &mut Edges,
     node: u32,
@@ -110,7 +111,7 @@ fn put_row(
     match before {
         Some(first) => {
             let from = time_of(first);
-            put_pair(edges, node, from, piece, at, value)
+            put_pair(edges, node, &from, &piece, &at, &value)
         }
         None => put_point(edges, node, at, value),
     }

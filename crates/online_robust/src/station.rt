@@ -15,10 +15,10 @@ ghost use Rattle.online_robust.specs.Refusing.{told_by};
 use crate::edges::Edges;
 use crate::operator::Operator;
 use crate::put::{put_atom, put_const, put_signal};
+use crate::room::Room;
 use atom_lines::Bound;
 use frac128::Memory;
 use pl_signal::{Signal, WidePair};
-use std::alloc::Global;
 use stl_syntax::Node;
 use trace_reader::Row;
 use value_laws::Margin;
@@ -111,7 +111,7 @@ fn put_out(
 
 /// An operator gives out its margins from the number at which it stood, or from the start, on up to another.
 fn give_out(
-    alloc: Global,
+    room: &mut Room,
     edges: &mut Edges,
     operator: &mut Operator,
     node: u32,
@@ -126,11 +126,12 @@ fn give_out(
     ensures still { OnOk result (fault.new ≡ None) }
     ensures fault { (m : Move) → CanGiveOut m node operator.old edges.old to with_first → OnErr result (IsFaultOf m (told_by fault.new)) }
 {
-    match operator.sweep(alloc, edges, to, fault) {
+    match operator.sweep(room, edges, to, fault) {
         Ok(swept) => {
             let Ok(()) = put_out(edges, node, &swept, with_first, to) else {
                 return Err(Memory);
             };
+            room.keep(swept);
             Ok(())
         }
         Err(Memory) => Err(Memory),
@@ -140,7 +141,7 @@ fn give_out(
 /// An operator goes on to a number: where that is not below the start, and above the number at which it stood, it gives out its margins
 /// in between.
 fn go_on(
-    alloc: Global,
+    room: &mut Room,
     edges: &mut Edges,
     operator: &mut Operator,
     node: u32,
@@ -166,7 +167,7 @@ fn go_on(
         return Ok(());
     }
     give_out(
-        alloc,
+        room,
         edges,
         operator,
         node,
@@ -184,7 +185,7 @@ impl Station {
     /// `Wide` where functions in play need a denominator of 2^60 or more; `Memory` where there is no memory.
     pub(crate) fn take_row(
         &mut self,
-        alloc: Global,
+        room: &mut Room,
         edges: &mut Edges,
         node: u32,
         bound: &Bound,
@@ -214,7 +215,7 @@ impl Station {
             }
             Work::Operator(operator) => {
                 go_on(
-                    alloc,
+                    room,
                     edges,
                     operator,
                     node,
@@ -232,7 +233,7 @@ impl Station {
     /// `Wide` where functions in play need a denominator of 2^60 or more; `Memory` where there is no memory.
     pub(crate) fn take_end(
         &mut self,
-        alloc: Global,
+        room: &mut Room,
         edges: &mut Edges,
         node: u32,
         now: u32,
@@ -248,7 +249,7 @@ impl Station {
         match &mut self.work {
             Work::Const(_) => Ok(()),
             Work::Atom => Ok(()),
-            Work::Operator(operator) => go_on(alloc, edges, operator, node, i64::from(now), fault),
+            Work::Operator(operator) => go_on(room, edges, operator, node, i64::from(now), fault),
         }
     }
 }

@@ -29,9 +29,10 @@ use crate::edges::Edges;
 use crate::ends::{Rim, is_one, is_same};
 use crate::line::{MarginLine, Reached};
 use crate::queue::Queue;
+use crate::room::Room;
 use envelope::{Best, of_none, write};
 use frac128::{Frac, Memory};
-use pl_signal::{Builder, OpFault, Side, Signal, WidePair, chosen, earlier};
+use pl_signal::{Builder, OpFault, Side, Signal, WidePair, chosen, chosen_in_place, earlier};
 use std::alloc::Global;
 use std::cmp::Ordering;
 use value_laws::{Margin, Shape};
@@ -151,12 +152,12 @@ pub(crate) fn frozen(
 }
 
 /// The better of the shape and another one at the time, where that one counts.
-fn or_better(side: Side, best: Margin, other: Option<Margin>, t: &Frac) -> Margin
+fn or_better<'a>(side: Side, best: &'a Margin, other: &'a Option<Margin>, t: &Frac) -> &'a Margin
     requires { IsWithin (2 ^ 34) (value t.now) }
-    ensures { IsBetterOf side best other (value t.now) result }
+    ensures { IsBetterOf side best.now other.now (value t.now) result.now }
 {
     match other {
-        Some(other) => chosen(side, &best, &other, t),
+        Some(other) => chosen_in_place(side, best, other, t),
         None => best,
     }
 }
@@ -166,17 +167,17 @@ fn or_better(side: Side, best: Margin, other: Option<Margin>, t: &Frac) -> Margi
 pub(crate) fn worth(
     side: Side,
     inside: &Best<Margin>,
-    at_high: Option<Margin>,
-    at_low: Option<Margin>,
+    at_high: &Option<Margin>,
+    at_low: &Option<Margin>,
     t: &Frac,
 ) -> Margin
     requires { IsWithin (2 ^ 34) (value t.now) }
-    ensures { IsOutcome side inside.now.top inside.now.low inside.now.high at_high at_low (value t.now) result }
+    ensures { IsOutcome side inside.now.top inside.now.low inside.now.high at_high.now at_low.now (value t.now) result }
 {
-    let left = or_better(side, inside.top, inside.low, t);
-    let limits = or_better(side, left, inside.high, t);
+    let left = or_better(side, &inside.top, &inside.low, t);
+    let limits = or_better(side, left, &inside.high, t);
     let over = or_better(side, limits, at_high, t);
-    or_better(side, over, at_low, t)
+    *or_better(side, over, at_low, t)
 }
 
 /// The earlier of a time and another, if there is one.
@@ -369,6 +370,7 @@ impl Sweep {
     }
 
     /// The best of the constants between the ends, or the value of no times.
+    #[inline(always)]
     fn top(&self) -> Margin
         ensures { (cs : List Margin)
             → StandsFor margin_function self.now.among.older.items self.now.among.newer.items self.now.among.side self.now.among.best cs
@@ -530,7 +532,7 @@ impl Sweep {
         let at_high = self.high_point(edges, &t);
         let at_low = self.low_point(edges, &t)?;
         let after = self.best();
-        let value = worth(self.window.side, &after, at_high, at_low, &t);
+        let value = worth(self.window.side, &after, &at_high, &at_low, &t);
         self.place.at = t;
         Ok(Gone {
             best: before,
@@ -652,7 +654,7 @@ impl Sweep {
     /// `Wide` for what is in play below that time; `Memory` where there is no memory. It is of no use then.
     pub(crate) fn sweep(
         &mut self,
-        alloc: Global,
+        room: &mut Room,
         edges: &mut Edges,
         to: &Frac,
         fault: &mut Option<WidePair<Margin>>,
@@ -674,7 +676,7 @@ impl Sweep {
             → OnErr result (IsWindowFault x self.old.window (value to.now) (told_by fault.new)) }
     {
         let mut reached = self.begin(edges, fault)?;
-        let mut built = Builder::start(alloc, reached.at, reached.value)?;
+        let mut built = room.start(reached.at, reached.value)?;
         while let Ordering::Less = reached.at.cmp(to) {
             reached = self.tell_on(edges, &mut built, to, fault)?;
         }

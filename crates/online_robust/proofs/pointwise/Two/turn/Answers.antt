@@ -7,6 +7,7 @@ use Rattle.rational.proofs.Order.{le_of_lt, le_of_same, le_trans, lt_of_le_of_lt
 use Rattle.rational.proofs.Mixed.{within_same}
 use Rattle.rational.proofs.Lists.{on_err_anyway}
 use Rattle.frac128.specs.Value.{value}
+use Rattle.frac128.specs.declared.frac.Frac.{Frac}
 use Rattle.value_laws.specs.Kinds.{margin_shape}
 use Rattle.value_laws.specs.Margins.{is_ramp, margin_base, margin_function}
 use Rattle.value_laws.specs.declared.margin.Margin.{Margin}
@@ -31,46 +32,46 @@ pub unreachable-requires : goal.unreachable-requires
 unreachable-requires c =
     let (x, to, e, built) = c.requires.joined in
     left_some x c.args.self.now c.args.edges.now (value c.args.at.now) to (lt_of_lt_of_le c.requires.order (le_of_same e))
-    (sym c.first.ensures ∙ c.in_default.is)
+    (sym (rw c.in_default.is at c.ahead.ensures))
 
-pub unreachable-requires-in_default-first : goal.unreachable-requires-in_default-first
-unreachable-requires-in_default-first c =
+pub unreachable-requires-in_default-ahead : goal.unreachable-requires-in_default-ahead
+unreachable-requires-in_default-ahead c =
     let (x, to, e, built) = c.requires.joined in
     right_some_too x c.args.self.now c.args.edges.now (value c.args.at.now) to (lt_of_lt_of_le c.requires.order (le_of_same e))
-    (sym c.first-2.ensures ∙ c.in_default-first.is)
+    (sym (rw c.in_default-ahead.is at c.ahead-2.ensures))
 
 -- where the turn stops
 stop_at : (c : After-earlier-t) → (x : Couple) → IsJoinedTo x c.args.self.now c.args.edges.now (value c.args.at.now) → value c.args.to.now ≈ x.to
-    → IsStop (value c.args.at.now) c.in-Some.p c.in-Some-first.q (value c.earlier-t.result) (value c.args.to.now)
+    → IsStop (value c.args.at.now) c.in-Some.p.now c.in-Some-ahead.q.now (value c.earlier-t.result) (value c.args.to.now)
 stop_at c x to e =
     let more = lt_of_lt_of_le c.requires.order (le_of_same e) in
-    let first = sym c.first.ensures ∙ c.in-Some.is in
-    let second = sym c.first-2.ensures ∙ c.in-Some-first.is in
-    let of_ends : IsEarlier c.end.result c.end-2.result c.earlier.result =
+    let first = sym (rw c.in-Some.is at c.ahead.ensures) in
+    let second = sym (rw c.in-Some-ahead.is at c.ahead-2.ensures) in
+    let of_ends : IsEarlier c.end-p_end.result c.end-q_end.result c.earlier.result =
     record { left = c.earlier.ensures.left; right = c.earlier.ensures.right; one = c.earlier.ensures.one } in
     let of_all : IsEarlier c.earlier.result c.args.to.now c.earlier-t.result =
     record { left = c.earlier-t.ensures.left; right = c.earlier-t.ensures.right; one = c.earlier-t.ensures.one } in
-    stop_of (value c.args.at.now) c.in-Some.p c.in-Some-first.q c.end.ensures c.end-2.ensures
-    (left_later x c.args.self.now c.args.edges.now (value c.args.at.now) to more c.in-Some.p c.in-Some-first.q first second)
-    (right_later x c.args.self.now c.args.edges.now (value c.args.at.now) to more c.in-Some.p c.in-Some-first.q first second)
+    stop_of (value c.args.at.now) c.in-Some.p.now c.in-Some-ahead.q.now c.end-p_end.ensures c.end-q_end.ensures
+    (left_later x c.args.self.now c.args.edges.now (value c.args.at.now) to more c.in-Some.p.now c.in-Some-ahead.q.now first second)
+    (right_later x c.args.self.now c.args.edges.now (value c.args.at.now) to more c.in-Some.p.now c.in-Some-ahead.q.now first second)
     c.requires.order of_ends of_all
 
 read_left : (c : After-earlier-t) → (x : Couple) → IsJoinedTo x c.args.self.now c.args.edges.now (value c.args.at.now) → value c.args.to.now ≈ x.to
-    → IsReadTo (left_source x c.args.self.now (value c.args.at.now)) c.in-Some.p (value c.earlier-t.result) (held_at c.args.edges.now c.args.self.now.left)
+    → IsReadTo (left_source x c.args.self.now (value c.args.at.now)) c.in-Some.p.now (value c.earlier-t.result) (held_at c.args.edges.now c.args.self.now.left)
 read_left c x to e =
     let s = stop_at c x to e in
-    record { ahead = to.left; first = sym c.first.ensures ∙ c.in-Some.is; after = s.after; before = s.left }
+    record { ahead = to.left; first = sym (rw c.in-Some.is at c.ahead.ensures); after = s.after; before = s.left }
 
 read_right : (c : After-up_to-x) → (x : Couple) → IsJoinedTo x c.args.self.now c.args.edges.now (value c.args.at.now) → value c.args.to.now ≈ x.to
-    → IsStop (value c.args.at.now) c.in-Some.p c.in-Some-first.q (value c.earlier-t.result) (value c.args.to.now)
-    → IsReadTo (right_source x c.args.self.now (value c.args.at.now)) c.in-Some-first.q (value c.earlier-t.result)
+    → IsStop (value c.args.at.now) c.in-Some.p.now c.in-Some-ahead.q.now (value c.earlier-t.result) (value c.args.to.now)
+    → IsReadTo (right_source x c.args.self.now (value c.args.at.now)) c.in-Some-ahead.q.now (value c.earlier-t.result)
     (held_at c.up_to-x.new.edges c.args.self.now.right)
 read_right c x to e s =
     let same : held_at c.args.edges.now c.args.self.now.right ≡ held_at c.up_to-x.new.edges c.args.self.now.right =
     sym (ap held_of (c.up_to-x.ensures.lost.others c.args.self.now.right (λ f. to.apart (sym f)))) in
     record {
       ahead = subst (λ (l : _). IsAhead (Robustness x.right x.trace) x.reach (value c.args.at.now) x.right_to l) same to.right;
-      first = subst (λ (l : _). slice_get l 0 ≡ Some c.in-Some-first.q) same (sym c.first-2.ensures ∙ c.in-Some-first.is);
+      first = subst (λ (l : _). slice_get l 0 ≡ Some c.in-Some-ahead.q.now) same (sym (rw c.in-Some-ahead.is at c.ahead-2.ensures));
       after = s.after;
       before = s.right;
     }
@@ -83,8 +84,13 @@ tick_at c x to e =
 
 pub up_to-x-requires-clause-read : goal.up_to-x-requires-clause-read
 up_to-x-requires-clause-read c =
-    let (x, to, e, built) = c.requires.joined in
-    (left_source x c.args.self.now (value c.args.at.now), read_left (goal.at.up_to-x-requires-clause-read c).After-earlier-t x to e)
+    let (x, to, e, built) = c.requires.joined in (
+      left_source x c.args.self.now (value c.args.at.now),
+      c.in-Some.p.now,
+      c.end-p_end.ensures,
+      c.margin-p_shape.ensures,
+      read_left (goal.at.up_to-x-requires-clause-read c).After-earlier-t x to e,
+    )
 
 pub up_to-y-requires-clause-of : goal.up_to-y-requires-clause-of
 up_to-y-requires-clause-of c =
@@ -96,18 +102,23 @@ pub up_to-y-requires-clause-read : goal.up_to-y-requires-clause-read
 up_to-y-requires-clause-read c =
     let (x, to, e, built) = c.requires.joined in (
       right_source x c.args.self.now (value c.args.at.now),
+      c.in-Some-ahead.q.now,
+      c.end-q_end.ensures,
+      c.margin-q_shape.ensures,
       read_right (goal.at.up_to-y-requires-clause-read c).After-up_to-x x to e
           (stop_at (goal.at.up_to-y-requires-clause-read c).After-earlier-t x to e),
     )
 
-there_left : (c : After-up_to-y) → (x : Couple) → IsReadTo (left_source x c.args.self.now (value c.args.at.now)) c.in-Some.p (value c.earlier-t.result)
+there_left : (c : After-up_to-y) → (x : Couple) → IsReadTo (left_source x c.args.self.now (value c.args.at.now)) c.in-Some.p.now (value c.earlier-t.result)
     (held_at c.args.edges.now c.args.self.now.left) → IsThere (Robustness x.left x.trace) x.reach (value c.earlier-t.result) c.up_to-x.result
-there_left c x read = c.up_to-x.ensures.there (left_source x c.args.self.now (value c.args.at.now)) read
+there_left c x read = c.up_to-x.ensures.there (left_source x c.args.self.now (value c.args.at.now)) c.in-Some.p.now c.end-p_end.ensures
+    c.margin-p_shape.ensures read
 
-there_right : (c : After-up_to-y) → (x : Couple) → IsReadTo (right_source x c.args.self.now (value c.args.at.now)) c.in-Some-first.q
+there_right : (c : After-up_to-y) → (x : Couple) → IsReadTo (right_source x c.args.self.now (value c.args.at.now)) c.in-Some-ahead.q.now
     (value c.earlier-t.result) (held_at c.up_to-x.new.edges c.args.self.now.right)
     → IsThere (Robustness x.right x.trace) x.reach (value c.earlier-t.result) c.up_to-y.result
-there_right c x read = c.up_to-y.ensures.there (right_source x c.args.self.now (value c.args.at.now)) read
+there_right c x read = c.up_to-y.ensures.there (right_source x c.args.self.now (value c.args.at.now)) c.in-Some-ahead.q.now c.end-q_end.ensures
+    c.margin-q_shape.ensures read
 
 pub of_both-value-requires : goal.of_both-value-requires
 of_both-value-requires c =
@@ -123,9 +134,9 @@ of_both-value-requires c =
 pub left_of-requires : goal.left_of-requires
 left_of-requires c =
     let (x, to, e, built) = c.requires.joined in
-    subst (λ (m : Margin). HasBoundedLevel (2 ^ 31) (margin_function m)) (sym c.margin.ensures)
-    (left_level x c.args.self.now c.args.edges.now (value c.args.at.now) to (lt_of_lt_of_le c.requires.order (le_of_same e)) c.in-Some.p c.in-Some-first.q
-    (sym c.first.ensures ∙ c.in-Some.is) (sym c.first-2.ensures ∙ c.in-Some-first.is))
+    subst (λ (m : Margin). HasBoundedLevel (2 ^ 31) (margin_function m)) (sym c.margin-p_shape.ensures)
+    (left_level x c.args.self.now c.args.edges.now (value c.args.at.now) to (lt_of_lt_of_le c.requires.order (le_of_same e)) c.in-Some.p.now c.in-Some-ahead.q.now
+    (sym (rw c.in-Some.is at c.ahead.ensures)) (sym (rw c.in-Some-ahead.is at c.ahead-2.ensures)))
 
 pub join_kept-requires-clause-order : goal.join_kept-requires-clause-order
 join_kept-requires-clause-order c =
@@ -144,30 +155,30 @@ join_kept-requires-clause-to_within c =
 
 -- what the left input counts as
 turned_at : (c : After-left_of) → (t : Rational)
-    → value_at (margin_function c.left_of.result) t ≈ᵉ value_turned c.args.self.now.turned (value_at (margin_function (margin_of c.in-Some.p)) t)
+    → value_at (margin_function c.left_of.result) t ≈ᵉ value_turned c.args.self.now.turned (value_at (margin_function (margin_of c.in-Some.p.now)) t)
 turned_at c t = subst
     (λ (m : Margin). value_at (margin_function c.left_of.result) t ≈ᵉ value_turned c.args.self.now.turned (value_at (margin_function m) t))
-    c.margin.ensures (c.left_of.ensures.value t)
+    c.margin-p_shape.ensures (c.left_of.ensures.value t)
 
 based_at : (c : After-left_of) → IsTrue (is_ramp c.left_of.result)
-    → IsTrue (is_ramp (margin_of c.in-Some.p)) × (margin_base c.left_of.result ≡ margin_base (margin_of c.in-Some.p))
+    → IsTrue (is_ramp (margin_of c.in-Some.p.now)) × (margin_base c.left_of.result ≡ margin_base (margin_of c.in-Some.p.now))
 based_at c = subst
     (λ (m : Margin). IsTrue (is_ramp c.left_of.result) → IsTrue (is_ramp m) × (margin_base c.left_of.result ≡ margin_base m))
-    c.margin.ensures c.left_of.ensures.base
+    c.margin-p_shape.ensures c.left_of.ensures.base
 
 pub join_kept-requires-clause-first : goal.join_kept-requires-clause-first
 join_kept-requires-clause-first c =
     let (x, to, e, built) = c.requires.joined in
-    counted_level x c.args.self.now c.args.edges.now (value c.args.at.now) to (lt_of_lt_of_le c.requires.order (le_of_same e)) c.in-Some.p c.in-Some-first.q
-    (sym c.first.ensures ∙ c.in-Some.is) (sym c.first-2.ensures ∙ c.in-Some-first.is) c.left_of.result
+    counted_level x c.args.self.now c.args.edges.now (value c.args.at.now) to (lt_of_lt_of_le c.requires.order (le_of_same e)) c.in-Some.p.now c.in-Some-ahead.q.now
+    (sym (rw c.in-Some.is at c.ahead.ensures)) (sym (rw c.in-Some-ahead.is at c.ahead-2.ensures)) c.left_of.result
     (turned_at (goal.at.join_kept-requires-clause-first c).After-left_of) (based_at (goal.at.join_kept-requires-clause-first c).After-left_of)
 
 pub join_kept-requires-clause-second : goal.join_kept-requires-clause-second
 join_kept-requires-clause-second c =
     let (x, to, e, built) = c.requires.joined in
-    subst (λ (m : Margin). HasBoundedLevel (2 ^ 31) (margin_function m)) (sym c.margin-2.ensures)
-    (right_level x c.args.self.now c.args.edges.now (value c.args.at.now) to (lt_of_lt_of_le c.requires.order (le_of_same e)) c.in-Some.p c.in-Some-first.q
-    (sym c.first.ensures ∙ c.in-Some.is) (sym c.first-2.ensures ∙ c.in-Some-first.is))
+    subst (λ (m : Margin). HasBoundedLevel (2 ^ 31) (margin_function m)) (sym c.margin-q_shape.ensures)
+    (right_level x c.args.self.now c.args.edges.now (value c.args.at.now) to (lt_of_lt_of_le c.requires.order (le_of_same e)) c.in-Some.p.now c.in-Some-ahead.q.now
+    (sym (rw c.in-Some.is at c.ahead.ensures)) (sym (rw c.in-Some-ahead.is at c.ahead-2.ensures)))
 
 pub returns-in_err-join_kept-clause-wide : goal.returns-in_err-join_kept-clause-wide
 returns-in_err-join_kept-clause-wide c x to e built =
@@ -176,11 +187,11 @@ returns-in_err-join_kept-clause-wide c x to e built =
     let s = stop_at step x to e in
     on_err_anyway c.from_residual.result (each_told (IsCoupleFault x c.args.self.now) c.join_kept.new.fault tt c.in_err-join_kept.ensures.wide
     (λ pair (from, at, fault). joined_fault x c.args.self.now c.args.edges.now (value c.args.at.now) to
-    (lt_of_lt_of_le c.requires.order (le_of_same e)) c.in-Some.p c.in-Some-first.q (sym c.first.ensures ∙ c.in-Some.is)
-    (sym c.first-2.ensures ∙ c.in-Some-first.is) c.left_of.result (turned_at left) (based_at left)
+    (lt_of_lt_of_le c.requires.order (le_of_same e)) c.in-Some.p.now c.in-Some-ahead.q.now (sym (rw c.in-Some.is at c.ahead.ensures))
+    (sym (rw c.in-Some-ahead.is at c.ahead-2.ensures)) c.left_of.result (turned_at left) (based_at left)
     c.earlier-t.result s.left s.right s.after (le_trans s.by (le_of_same e)) from (subst (λ (t : Rational). t ≈ value c.args.at.now) (sym at) built.ends)
     (F.Wide pair)
-    (subst (λ (m : Margin). IsGapFault margin_shape c.left_of.result m from c.earlier-t.result (F.Wide pair)) c.margin-2.ensures fault)))
+    (subst (λ (m : Margin). IsGapFault margin_shape c.left_of.result m from c.earlier-t.result (F.Wide pair)) c.margin-q_shape.ensures fault)))
 
 pub returns-clause-reached : goal.returns-clause-reached
 returns-clause-reached c x to e =
@@ -208,8 +219,10 @@ returns-clause-joined c x to e =
       from = le_trans to.from (le_of_lt s.after);
       to = le_trans s.by (le_of_same e);
       left = subst (λ (l : _). IsAhead (Robustness x.left x.trace) x.reach (value c.earlier-t.result) x.left_to l) same
-          (c.up_to-x.ensures.ahead (left_source x c.args.self.now (value c.args.at.now)) (read_left step x to e));
-      right = c.up_to-y.ensures.ahead (right_source x c.args.self.now (value c.args.at.now))
+          (c.up_to-x.ensures.ahead (left_source x c.args.self.now (value c.args.at.now)) c.in-Some.p.now c.end-p_end.ensures c.margin-p_shape.ensures
+          (read_left step x to e));
+      right = c.up_to-y.ensures.ahead (right_source x c.args.self.now (value c.args.at.now)) c.in-Some-ahead.q.now c.end-q_end.ensures
+          c.margin-q_shape.ensures
           (read_right (goal.at.returns-clause-joined c).After-up_to-x x to e s);
     }
 
@@ -217,13 +230,13 @@ pub returns-clause-built : goal.returns-clause-built
 returns-clause-built c x to e built =
     let step = (goal.at.returns-clause-built c).After-earlier-t in
     let s = stop_at step x to e in
-    built_joined x c.args.self.now c.args.edges.now (value c.args.at.now) to (lt_of_lt_of_le c.requires.order (le_of_same e)) c.in-Some.p
-    c.in-Some-first.q (sym c.first.ensures ∙ c.in-Some.is) (sym c.first-2.ensures ∙ c.in-Some-first.is) c.left_of.result
+    built_joined x c.args.self.now c.args.edges.now (value c.args.at.now) to (lt_of_lt_of_le c.requires.order (le_of_same e)) c.in-Some.p.now
+    c.in-Some-ahead.q.now (sym (rw c.in-Some.is at c.ahead.ensures)) (sym (rw c.in-Some-ahead.is at c.ahead-2.ensures)) c.left_of.result
     (turned_at (goal.at.returns-clause-built c).After-left_of) (based_at (goal.at.returns-clause-built c).After-left_of)
     c.earlier-t.result s.left s.right s.after (le_trans s.by (le_of_same e)) c.of_both-value.result c.args.built.now c.join_kept.new.self built
     (subst (λ (m : Margin).
     Joins margin_shape c.args.self.now.side c.args.built.now c.left_of.result m c.earlier-t.result c.of_both-value.result c.join_kept.new.self)
-    c.margin-2.ensures c.in_ok-join_kept.ensures.ok)
+    c.margin-q_shape.ensures c.in_ok-join_kept.ensures.ok)
     (c.of_both-value.ensures x (there_left (goal.at.returns-clause-built c).After-up_to-y x (read_left step x to e))
     (there_right (goal.at.returns-clause-built c).After-up_to-y x
     (read_right (goal.at.returns-clause-built c).After-up_to-x x to e s)))
@@ -248,9 +261,9 @@ returns-clause-nearer c =
     (value c.args.at.now) (value c.earlier-t.result) (value c.args.to.now) c.requires.order (omega (arith, left, left_no_more))
     (omega (arith, right, right_no_more))
     (elim s.one [
-      | inl h ↦ inl (let fewer = c.up_to-x.ensures.fewer h in omega (arith, left, fewer))
+      | inl h ↦ inl (let fewer = c.up_to-x.ensures.fewer (subst (λ (f : Frac). value f ≈ value c.earlier-t.result) (sym c.end-p_end.ensures) h) in omega (arith, left, fewer))
       | inr o ↦ elim o [
-        | inl h ↦ inr (inl (let fewer = c.up_to-y.ensures.fewer h in omega (arith, right, fewer)))
+        | inl h ↦ inr (inl (let fewer = c.up_to-y.ensures.fewer (subst (λ (f : Frac). value f ≈ value c.earlier-t.result) (sym c.end-q_end.ensures) h) in omega (arith, right, fewer)))
         | inr h ↦ inr (inr h)
       ]
     ])
