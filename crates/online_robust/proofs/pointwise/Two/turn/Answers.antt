@@ -135,7 +135,8 @@ pub left_of-requires : goal.left_of-requires
 left_of-requires c =
     let (x, to, e, built) = c.requires.joined in
     subst (λ (m : Margin). HasBoundedLevel (2 ^ 31) (margin_function m)) (sym c.margin-p_shape.ensures)
-    (left_level x c.args.self.now c.args.edges.now (value c.args.at.now) to (lt_of_lt_of_le c.requires.order (le_of_same e)) c.in-Some.p.now c.in-Some-ahead.q.now
+    (left_level x c.args.self.now c.args.edges.now (value c.args.at.now) to
+    (lt_of_lt_of_le c.requires.order (le_of_same e)) c.in-Some.p.now c.in-Some-ahead.q.now
     (sym (rw c.in-Some.is at c.ahead.ensures)) (sym (rw c.in-Some-ahead.is at c.ahead-2.ensures)))
 
 pub join_kept-requires-clause-order : goal.join_kept-requires-clause-order
@@ -169,7 +170,8 @@ based_at c = subst
 pub join_kept-requires-clause-first : goal.join_kept-requires-clause-first
 join_kept-requires-clause-first c =
     let (x, to, e, built) = c.requires.joined in
-    counted_level x c.args.self.now c.args.edges.now (value c.args.at.now) to (lt_of_lt_of_le c.requires.order (le_of_same e)) c.in-Some.p.now c.in-Some-ahead.q.now
+    counted_level x c.args.self.now c.args.edges.now (value c.args.at.now) to
+    (lt_of_lt_of_le c.requires.order (le_of_same e)) c.in-Some.p.now c.in-Some-ahead.q.now
     (sym (rw c.in-Some.is at c.ahead.ensures)) (sym (rw c.in-Some-ahead.is at c.ahead-2.ensures)) c.left_of.result
     (turned_at (goal.at.join_kept-requires-clause-first c).After-left_of) (based_at (goal.at.join_kept-requires-clause-first c).After-left_of)
 
@@ -177,7 +179,8 @@ pub join_kept-requires-clause-second : goal.join_kept-requires-clause-second
 join_kept-requires-clause-second c =
     let (x, to, e, built) = c.requires.joined in
     subst (λ (m : Margin). HasBoundedLevel (2 ^ 31) (margin_function m)) (sym c.margin-q_shape.ensures)
-    (right_level x c.args.self.now c.args.edges.now (value c.args.at.now) to (lt_of_lt_of_le c.requires.order (le_of_same e)) c.in-Some.p.now c.in-Some-ahead.q.now
+    (right_level x c.args.self.now c.args.edges.now (value c.args.at.now) to
+    (lt_of_lt_of_le c.requires.order (le_of_same e)) c.in-Some.p.now c.in-Some-ahead.q.now
     (sym (rw c.in-Some.is at c.ahead.ensures)) (sym (rw c.in-Some-ahead.is at c.ahead-2.ensures)))
 
 pub returns-in_err-join_kept-clause-wide : goal.returns-in_err-join_kept-clause-wide
@@ -261,9 +264,11 @@ returns-clause-nearer c =
     (value c.args.at.now) (value c.earlier-t.result) (value c.args.to.now) c.requires.order (omega (arith, left, left_no_more))
     (omega (arith, right, right_no_more))
     (elim s.one [
-      | inl h ↦ inl (let fewer = c.up_to-x.ensures.fewer (subst (λ (f : Frac). value f ≈ value c.earlier-t.result) (sym c.end-p_end.ensures) h) in omega (arith, left, fewer))
+      | inl h ↦ inl (let fewer = c.up_to-x.ensures.fewer (subst (λ (f : Frac). value f ≈ value c.earlier-t.result) (sym c.end-p_end.ensures) h) in
+          omega (arith, left, fewer))
       | inr o ↦ elim o [
-        | inl h ↦ inr (inl (let fewer = c.up_to-y.ensures.fewer (subst (λ (f : Frac). value f ≈ value c.earlier-t.result) (sym c.end-q_end.ensures) h) in omega (arith, right, fewer)))
+        | inl h ↦ inr (inl (let fewer = c.up_to-y.ensures.fewer (subst (λ (f : Frac). value f ≈ value c.earlier-t.result) (sym c.end-q_end.ensures) h) in
+            omega (arith, right, fewer)))
         | inr h ↦ inr (inr h)
       ]
     ])
