@@ -1,7 +1,7 @@
 -- Signals that are given up: the children of the node that comes next are still kept, and so is the root in the end.
-use Rattle.std.proofs.Common.{◌≡◌, ℕ, zero, suc, ◌+◌, ◌-◌, ◌<◌, ◌⊎◌, inl, inr, Bool, true, false, ◌||◌, cond, Option}
-use Rattle.std.proofs.Common.{Some, None, List, [], ◌∷◌, ◌++◌, length, take, ap, sym, ◌∙◌, subst, refl, arith}
-use Rattle.std.specs.Prelude.{slice_get, MatchBool, IfSome, All, option_to_list, ◌==◌}
+use Rattle.std.proofs.Common.{◌≡◌, ℕ, zero, suc, ◌+◌, ◌-◌, ◌<◌, ◌⊎◌, inl, inr, Bool, true, false, ◌||◌, cond}
+use Rattle.std.proofs.Common.{Some, List, [], ◌∷◌, ◌++◌, length, take, ap, sym, ◌∙◌, subst, refl, arith}
+use Rattle.std.specs.Prelude.{slice_get, MatchBool, All, ◌==◌}
 use Rattle.std.specs.List.{list_any}
 use Rattle.std.proofs.Math.ListN.{set}
 use Rattle.std.proofs.lemmas.Bool.{ne_eqb, eq-eqb}
@@ -45,13 +45,6 @@ join S M O true true m f = m
 join S M O true false m f = f m
 join S M O false true m f = m
 join S M O false false m f = f m
-
--- what is said of all is said of each of two
-pub both_places : (P : ℕ → Type 0) (a b : Option ℕ) → All P (option_to_list a ++ option_to_list b) → IfSome a P × IfSome b P
-both_places P None None h = (tt, tt)
-both_places P None (Some q) h = (tt, All-head P q [] h)
-both_places P (Some p) None h = (All-head P p [] h, tt)
-both_places P (Some p) (Some q) h = (All-head P p (q ∷ []) h, All-head P q [] (All-tail P p (q ∷ []) h))
 
 used_too : (b : Bool) → (b || (true || false)) ≡ true
 used_too true = refl

@@ -12,7 +12,7 @@ use Rattle.stl_syntax.specs.Formula.{subformula, tree_of, atom}
 use Rattle.stl_syntax.specs.SupInf.{Setting, Gives}
 use Rattle.stl_syntax.specs.declared.atom.Atom.{Atom}
 use Rattle.stl_syntax.specs.declared.node.Node.{Node}
-use Rattle.stl_syntax.specs.declared.node.Node.TheVariants.{Const, Atom as Leaf, Not, And, Or, Implies, Until, Eventually, Always, Since, Once, Historically}
+use Rattle.stl_syntax.specs.declared.node.Node.TheVariants.{Atom as Leaf}
 use Rattle.offline_eval.specs.Inputs.{is_atom, atoms_before, TellAtoms, TellAtomsBelow}
 use Rattle.offline_eval.specs.Making.{AreSound, TellsValue}
 use Rattle.offline_eval.specs.Places.{reach_before, TakesOwn, PlaceStaysSound}
@@ -39,17 +39,7 @@ atoms_on_other nodes i n at other = sum_on (λ n. cond (is_atom n) 1 0) nodes i 
 -- what is no leaf is no atom
 pub not_atom : (n : Node) → ((a : Atom) → n ≡ Leaf a → ⊥) → is_atom n ≡ false
 not_atom (Leaf a) other = absurd (other a refl)
-not_atom (Const b) other = refl
-not_atom (Not p) other = refl
-not_atom (And p q) other = refl
-not_atom (Or p q) other = refl
-not_atom (Implies p q) other = refl
-not_atom (Until p q a b) other = refl
-not_atom (Eventually p a b c d) other = refl
-not_atom (Always p a b c d) other = refl
-not_atom (Since p q a b) other = refl
-not_atom (Once p a b c d) other = refl
-not_atom (Historically p a b c d) other = refl
+not_atom _ other = refl
 
 -- what stands first behind the first k stands at place k
 pub drop_at : {X : Type 0} (all : List X) (k : ℕ) (x : X) (rest : List X) → x ∷ rest ≡ drop k all → (slice_get all k ≡ Some x) × (rest ≡ drop (k + 1) all)

@@ -96,11 +96,7 @@ module _ {P : Type 0} (shape : ShapeOf P) (laws : ShapeLaws shape) where
   MovedFromTwo own x y r = (p : P) → HasShape r p → IsTrue (shape.moves p) → (q : P) × (HasShape x q ⊎ HasShape y q)
       × IsMovedBy own (shape.base q) (shape.base p)
 
-  -- which shapes do that stay where they are
-  pub of_two : (x y r : List (Knot P)) → BasesOfTwo shape x y r → MovedFromTwo 0 x y r
-  of_two x y r bases p h m = let o = bases p h m in (o.0, o.1, not_moved (shape.base o.0) (shape.base p) o.3)
-
-  -- and they are moved by no more than any number
+  -- shapes that stay where they are move by no more than any number
   pub of_two_more : (own : ℕ) (x y r : List (Knot P)) → BasesOfTwo shape x y r → MovedFromTwo own x y r
   of_two_more own x y r bases p h m = let o = bases p h m in (o.0, o.1, hardly_moved own (shape.base o.0) (shape.base p) o.3)
 

@@ -118,10 +118,8 @@ none_let_go start to k (Some g) forth is = by_test (int_lt (g +ℤ k) (pos start
 ends_after : (F : Function) (u to : Rational) (lines : List MarginLine) → AreTold F lines → AreJoined u to lines
     → IfSome (slice_get lines 0) (λ x. u <ʳ value (end_of x))
 ends_after F u to [] told joined = tt
-ends_after F u to (Gap a b p ∷ []) told joined = absurd joined
-ends_after F u to (Gap a b p ∷ Gap c d q ∷ lines) told joined = absurd joined
 ends_after F u to (Gap a b p ∷ Point w v ∷ lines) told joined = lt_of_le_of_lt (ge_of_same joined.0) told.0.0
-ends_after F u to (Point w v ∷ lines) told joined = absurd joined
+ends_after F u to _ told joined = absurd joined
 
 module _ (F : Function) (reach start : ℕ) (f : ℤ) (lines : List MarginLine) where
   -- a node that has told nothing finds its input from the start on
@@ -229,17 +227,7 @@ two_is x p q side turned l r s u =
 -- what is kept of its inputs is no matter of its node
 kept_two : (n : Node) (x : Two) (last : Option Reached) → IsTwoOf n x → IsTwoOf n (record x { last = last })
 kept_two (N.And p q) x last h = h
-kept_two (N.Or p q) x last h = h
-kept_two (N.Implies p q) x last h = h
-kept_two (N.Const c) x last h = h
-kept_two (N.Atom a) x last h = h
-kept_two (N.Not p) x last h = h
-kept_two (N.Until p q a c) x last h = h
-kept_two (N.Eventually p a c i k) x last h = h
-kept_two (N.Always p a c i k) x last h = h
-kept_two (N.Since p q a c) x last h = h
-kept_two (N.Once p a c i k) x last h = h
-kept_two (N.Historically p a c i k) x last h = h
+kept_two _ x last h = h
 
 -- ---- any operator
 
@@ -555,15 +543,7 @@ module _ (nodes : List Node) (place : ℕ) (tr : Trace) where
   joint (N.And p q) x (l, r, s, u) = subst (IsJoint nodes place tr (N.And p q)) (sym (two_is x p q Least false l r s u)) (least_joint p q x.last)
   joint (N.Or p q) x (l, r, s, u) = subst (IsJoint nodes place tr (N.Or p q)) (sym (two_is x p q Greatest false l r s u)) (greatest_joint p q x.last)
   joint (N.Implies p q) x (l, r, s, u) = subst (IsJoint nodes place tr (N.Implies p q)) (sym (two_is x p q Greatest true l r s u)) (implied_joint p q x.last)
-  joint (N.Const c) x h = absurd h
-  joint (N.Atom a) x h = absurd h
-  joint (N.Not p) x h = absurd h
-  joint (N.Until p q a c) x h = absurd h
-  joint (N.Eventually p a c i k) x h = absurd h
-  joint (N.Always p a c i k) x h = absurd h
-  joint (N.Since p q a c) x h = absurd h
-  joint (N.Once p a c i k) x h = absurd h
-  joint (N.Historically p a c i k) x h = absurd h
+  joint _ x h = absurd h
 
 module _ (t : Step) (x : Two) (e : Held) (to : ℕ) (b : Belongs t (Op.Two x) e to) where
   abbrev left_child : Subformula

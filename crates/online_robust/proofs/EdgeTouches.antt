@@ -48,8 +48,6 @@ Holds stretch after to = (t : Rational) → after <ʳ t → t ≤ʳ to → IsIn 
 touch_later : (F : Function) (stretch : Interval) (after from to : Rational) (lines : List MarginLine) → Holds stretch after to → AreTold F lines
     → AreJoined from to lines → IfSome (slice_get lines 0) (λ x. after <ʳ value (end_of x)) → AreTouching stretch (map part_of lines) (map part_of lines)
 touch_later F stretch after from to [] holds told joined first = refl
-touch_later F stretch after from to (Gap a b p ∷ []) holds told joined first = absurd joined
-touch_later F stretch after from to (Gap a b p ∷ Gap c d q ∷ lines) holds told joined first = absurd joined
 touch_later F stretch after from to (Gap a b p ∷ Point u v ∷ lines) holds told joined first =
     let top : value u ≤ʳ to = joined_to (value u) to F lines told.1.1 joined.2 in
     let end : value b ≤ʳ to = le_trans (le_of_same joined.1) top in
@@ -74,11 +72,9 @@ touch_later F stretch after from to (Gap a b p ∷ Point u v ∷ lines) holds to
     next : (u : Rational) (lines : List MarginLine) → after <ʳ u → AreTold F lines → AreJoined u to lines
         → IfSome (slice_get lines 0) (λ x. after <ʳ value (end_of x))
     next u [] later told joined = tt
-    next u (Gap a b p ∷ []) later told joined = absurd joined
-    next u (Gap a b p ∷ Gap c d q ∷ lines) later told joined = absurd joined
     next u (Gap a b p ∷ Point w v ∷ lines) later told joined = lt_trans later (lt_of_le_of_lt (ge_of_same joined.0) told.0.0)
-    next u (Point w v ∷ lines) later told joined = absurd joined
-touch_later F stretch after from to (Point u v ∷ lines) holds told joined first = absurd joined
+    next u _ later told joined = absurd joined
+touch_later F stretch after from to _ holds told joined first = absurd joined
 
 -- of joined lines those that are left touch what follows the limit
 touch_rest : (F : Function) (limit from to : Rational) (lines : List MarginLine) (n : ℕ) → AreTold F lines → AreJoined from to lines → EndBy limit n lines
@@ -108,10 +104,8 @@ module _ (F : Function) (most start : ℕ) (f : ℤ) where
     where
       first : (u : Rational) (lines : List MarginLine) → AreTold F lines → AreJoined u (whole f) lines → IfSome (slice_get lines 0) (λ x. u <ʳ value (end_of x))
       first u [] told joined = tt
-      first u (Gap a b p ∷ []) told joined = absurd joined
-      first u (Gap a b p ∷ Gap c d q ∷ lines) told joined = absurd joined
       first u (Gap a b p ∷ Point w v ∷ lines) told joined = lt_of_le_of_lt (ge_of_same joined.0) told.0.0
-      first u (Point w v ∷ lines) told joined = absurd joined
+      first u _ told joined = absurd joined
 
       by_left : AreLeft start None f lines → AreTouching (closed (whole (pos start)) (whole f)) (map part_of lines) (map part_of lines)
       by_left (at, v, rest, is, begins, joined) =

@@ -1,41 +1,7 @@
 -- How a change of a pool's lists shows in the edges that a caller sees.
-use Rattle.std.proofs.Common.{
-  ◌≡◌,
-  ◌≢◌,
-  ◌⊎◌,
-  ℕ,
-  zero,
-  suc,
-  ◌+◌,
-  ◌*◌,
-  ◌-◌,
-  ◌<◌,
-  ◌≤◌,
-  ℤ,
-  List,
-  [],
-  ◌∷◌,
-  ◌++◌,
-  take,
-  drop,
-  length,
-  get_or,
-  set,
-  replicate,
-  Option,
-  Some,
-  None,
-  slice_get,
-  ◌^◌,
-  sum_by,
-  refl,
-  sym,
-  ap,
-  ◌∙◌,
-  inl,
-  inr,
-  arith,
-}
+use Rattle.std.proofs.Common.{◌≡◌, ◌≢◌, ◌⊎◌, ℕ, zero, suc, ◌+◌, ◌*◌, ◌-◌, ◌<◌, ◌≤◌, ℤ, List, [], ◌∷◌, ◌++◌, take, drop, length}
+use Rattle.std.proofs.Common.{get_or, set, replicate, Option, Some, None, slice_get, ◌^◌, sum_by, refl, sym, ap, ◌∙◌, inl, inr}
+use Rattle.std.proofs.Common.{arith}
 use Rattle.std.proofs.lemmas.Bool.{cases_eq}
 use Rattle.std.proofs.lemmas.List.{ext_get_or, get_or-drop, get_or-set_same, get_or-set_other, length-set, length-replicate, get_or-replicate, set-set}
 use Rattle.std.proofs.lemmas.Option.{slice_get_within, same_Some}
@@ -101,10 +67,6 @@ edges_changed {numbers} {numbers'} {lists} {lists'} {i} {x} changes =
     each k below (inr other) =
         edge_at-edges_of numbers' lists' k (omega (arith, changes.count)) ∙ changes.others k other
         ∙ sym (get_or-set_other (edges_of numbers lists) i k x no_edge other ∙ edge_at-edges_of numbers lists k below)
-
--- an even list and the list after it are not those of another edge
-even_apart : (k i : ℕ) → k ≢ i → 2 * k ≢ 2 * i
-even_apart k i other same = other (omega arith)
 
 -- what a pool's lists have after a write to what was read of edge i, and to what was not
 pub read_at : (lists : List (List MarginLine)) (n k : ℕ) (items : List MarginLine) → n ≢ k

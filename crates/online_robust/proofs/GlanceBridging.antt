@@ -269,13 +269,4 @@ module _ (t : Step) (z : Moved) (e : Held) (to : ℕ) (b : Belongs t (Op.Moved z
         kept_instant (N.Always p a c i k) h = h
         kept_instant (N.Once p a (Some c) i k) h = h
         kept_instant (N.Historically p a (Some c) i k) h = h
-        kept_instant (N.Once p a None i k) h = absurd h
-        kept_instant (N.Historically p a None i k) h = absurd h
-        kept_instant (N.Const c) h = absurd h
-        kept_instant (N.Atom a) h = absurd h
-        kept_instant (N.Not p) h = absurd h
-        kept_instant (N.And p q) h = absurd h
-        kept_instant (N.Or p q) h = absurd h
-        kept_instant (N.Implies p q) h = absurd h
-        kept_instant (N.Until p q a c) h = absurd h
-        kept_instant (N.Since p q a c) h = absurd h
+        kept_instant _ h = absurd h

@@ -109,16 +109,14 @@ reach_take (n ∷ nodes) (suc j) =
     omega (arith, h, first, all)
 
 reach_rises : (nodes : List Node) (j i : ℕ) → j ≤ i → reach (take j nodes) ≤ reach (take i nodes)
-reach_rises [] zero i h = omega arith
 reach_rises [] (suc j) zero h = absurd (omega (arith, h))
-reach_rises [] (suc j) (suc i) h = omega arith
-reach_rises (n ∷ nodes) zero i h = omega arith
 reach_rises (n ∷ nodes) (suc j) zero h = absurd (omega (arith, h))
 reach_rises (n ∷ nodes) (suc j) (suc i) h =
     let k = reach_rises nodes j i (omega (arith, h)) in
     let first : reach (take (suc j) (n ∷ nodes)) ≡ reach (n ∷ []) + reach (take j nodes) = sum_by-append own_reach (n ∷ []) (take j nodes) in
     let all : reach (take (suc i) (n ∷ nodes)) ≡ reach (n ∷ []) + reach (take i nodes) = sum_by-append own_reach (n ∷ []) (take i nodes) in
     omega (arith, k, first, all)
+reach_rises _ _ _ h = omega arith
 
 module _ (m : Move) (node : ℕ) (op : Operator) (e : Held) (to : ℕ) (with_first : Bool) (g : CanGiveOut m node op e to with_first) where
   abbrev p : Subformula

@@ -141,9 +141,6 @@ module _ (x : Scope) (s : Sweep) (e mid new : Held) (line : MarginLine) (next : 
         fresh_is = ap (λ (h : Held). fresh_at h s.window.of) same ∙ mid_fresh ∙ is;
         shed = λ limit. subst (Sheds limit s.window.of e) (sym same) (shed_mid limit);
       }
-  by_rest (L.Point u v ∷ r) is joined = absurd joined
-  by_rest (L.Gap a b g ∷ []) is joined = absurd joined
-  by_rest (L.Gap a b g ∷ L.Gap c d h ∷ r) is joined = absurd joined
   by_rest (L.Gap a b g ∷ L.Point u v ∷ r) is joined =
       let some : slice_get (fresh_at mid s.window.of) 0 ≡ Some (L.Gap a b g) = ap (λ (l : List MarginLine). slice_get l 0) (mid_fresh ∙ is) in
       let (gap, read_too, start_new) = subst (λ o. MatchOption o ((next ≡ no_gap s.none) × (new ≡ mid))
@@ -173,6 +170,7 @@ module _ (x : Scope) (s : Sweep) (e mid new : Held) (line : MarginLine) (next : 
           start = start_new ∙ start_mid;
         };
       }
+  by_rest _ is joined = absurd joined
 
   -- the high end has entered the next gap
   pub has_entered : HasEntered

@@ -1,5 +1,5 @@
 -- A window of one instant, or an empty one, and the margin of its node.
-use Rattle.std.proofs.Common.{◌≡◌, ◌⊎◌, inl, inr, ℕ, ℤ, pos, Bool, true, false, Some, None, refl, sym, ap, subst, ◌∙◌, arith}
+use Rattle.std.proofs.Common.{◌≡◌, ◌⊎◌, inl, inr, ℕ, ℤ, pos, Bool, true, false, Some, refl, sym, ap, subst, ◌∙◌, arith}
 use Rattle.std.specs.Prelude.{neg_ℤ, ◌+ℤ◌, ◌≤ℤ◌, MatchBool, if◌then◌else◌}
 use Rattle.std.proofs.lemmas.Int.{ints}
 use Rattle.rational.specs.Time.{Rational, Within, Precedes, later, shifted, ◌≈◌, ◌≤ʳ◌, ◌<ʳ◌}
@@ -243,13 +243,4 @@ module _ (f : ℕ → Subformula) (place : ℕ) (tr : Trace) where
       subst (λ k. IsInstantNode f place tr (N.Historically p a (Some k) a_in b_in) z) same
       (subst (IsInstantNode f place tr (N.Historically p a (Some a) a_in b_in))
       (sym (made_is z p Least (neg_ℤ (pos a)) (if b_in then a_in else false) of side by inside)) (historically_node p a a_in b_in z))
-  instant (N.Once p a None a_in b_in) z is = absurd is
-  instant (N.Historically p a None a_in b_in) z is = absurd is
-  instant (N.Const c) z is = absurd is
-  instant (N.Atom a) z is = absurd is
-  instant (N.Not p) z is = absurd is
-  instant (N.And p q) z is = absurd is
-  instant (N.Or p q) z is = absurd is
-  instant (N.Implies p q) z is = absurd is
-  instant (N.Until p q a b) z is = absurd is
-  instant (N.Since p q a b) z is = absurd is
+  instant _ z is = absurd is

@@ -83,18 +83,13 @@ gap_there P reach at to a b u p v lines h = record {
 pub first_gap : (P : Function) (reach : ℕ) (at to : Rational) (lines : List MarginLine) → IsAhead P reach at to lines → at <ʳ to
     → FirstGap P reach at to lines
 first_gap P reach at to [] h lt = absurd (lt_irrefl (lt_of_lt_of_le lt (le_trans (ge_of_same h.joined) h.begun)))
-first_gap P reach at to (Point u v ∷ lines) h lt = absurd h.joined
-first_gap P reach at to (Gap a b p ∷ []) h lt = absurd h.joined
-first_gap P reach at to (Gap a b p ∷ Gap c d q ∷ lines) h lt = absurd h.joined
 first_gap P reach at to (Gap a b p ∷ Point u v ∷ lines) h lt = gap_there P reach at to a b u p v lines h
+first_gap P reach at to _ h lt = absurd h.joined
 
 -- lines that are joined from a time on are ahead of it
 pub ahead_from : (P : Function) (reach : ℕ) (at to : Rational) (lines : List MarginLine) → AreTold P lines → AreFit reach lines → AreJoined at to lines
     → IsAhead P reach at to lines
 ahead_from P reach at to [] told fit joined = record { told = told; fit = fit; from = at; begun = le_refl at; joined = joined; later = tt }
-ahead_from P reach at to (Point u v ∷ lines) told fit joined = absurd joined
-ahead_from P reach at to (Gap a b p ∷ []) told fit joined = absurd joined
-ahead_from P reach at to (Gap a b p ∷ Gap c d q ∷ lines) told fit joined = absurd joined
 ahead_from P reach at to (Gap a b p ∷ Point u v ∷ lines) told fit joined = record {
   told = told;
   fit = fit;
@@ -103,6 +98,7 @@ ahead_from P reach at to (Gap a b p ∷ Point u v ∷ lines) told fit joined = r
   joined = joined;
   later = lt_of_le_of_lt (ge_of_same joined.0) told.0.0;
 }
+ahead_from P reach at to _ told fit joined = absurd joined
 
 -- from a time on that comes before another
 pub joined_same : (s t to : Rational) (lines : List MarginLine) → s ≈ t → AreJoined s to lines → AreJoined t to lines
@@ -155,20 +151,16 @@ module _ (P : Function) (reach : ℕ) (is_function : IsFunction P) where
 pub first_of : (P : Function) (reach : ℕ) (at to : Rational) (lines : List MarginLine) (gap : MarginLine) → IsAhead P reach at to lines
     → slice_get lines 0 ≡ Some gap → (g : FirstGap P reach at to lines) × (gap ≡ Gap g.a g.b g.p)
 first_of P reach at to [] gap h e = absurd (let x : None ≡ Some gap = e in cc)
-first_of P reach at to (Point u v ∷ lines) gap h e = absurd h.joined
-first_of P reach at to (Gap a b p ∷ []) gap h e = absurd h.joined
-first_of P reach at to (Gap a b p ∷ Gap c d q ∷ lines) gap h e = absurd h.joined
 first_of P reach at to (Gap a b p ∷ Point u v ∷ lines) gap h e =
     (gap_there P reach at to a b u p v lines h, let x : Some (Gap a b p) ≡ Some gap = e in let y : gap ≡ Gap a b p = cc in y)
+first_of P reach at to _ gap h e = absurd h.joined
 
 -- joined lines begin before they end
 pub joined_to : (from to : Rational) (P : Function) (lines : List MarginLine) → AreTold P lines → AreJoined from to lines → from ≤ʳ to
 joined_to from to P [] told joined = le_of_same joined
-joined_to from to P (Point u v ∷ lines) told joined = absurd joined
-joined_to from to P (Gap a b p ∷ []) told joined = absurd joined
-joined_to from to P (Gap a b p ∷ Gap c d q ∷ lines) told joined = absurd joined
 joined_to from to P (Gap a b p ∷ Point u v ∷ lines) told joined =
     le_trans (ge_of_same joined.0) (le_trans (le_of_lt told.0.0) (le_trans (le_of_same joined.1) (joined_to (value u) to P lines told.1.1 joined.2)))
+joined_to from to P _ told joined = absurd joined
 
 -- what is ahead of a time is ahead of it by another pair
 pub ahead_same : (P : Function) (reach : ℕ) (t u to : Rational) (lines : List MarginLine) → t ≈ u → IsAhead P reach t to lines → IsAhead P reach u to lines

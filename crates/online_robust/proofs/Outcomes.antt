@@ -3,7 +3,7 @@ use Rattle.std.proofs.Common.{◌≡◌, ◌⊎◌, inl, inr, ℕ, pos, Bool, tr
 use Rattle.std.proofs.lemmas.Option.{same_Some}
 use Rattle.rational.specs.Rational.{whole}
 use Rattle.rational.specs.Time.{Rational, Precedes, ◌≈◌, ◌≤ʳ◌, ◌<ʳ◌, shifted}
-use Rattle.rational.specs.Extended.{Extended, finite, minus_infinity, infinity, value_at, ◌≈ᵉ◌}
+use Rattle.rational.specs.Extended.{Extended, minus_infinity, infinity, value_at, ◌≈ᵉ◌}
 use Rattle.rational.specs.Windows.{Function, Window}
 use Rattle.rational.proofs.Order.{le_of_same, ge_of_same, le_trans, lt_of_le_of_lt}
 use Rattle.rational.proofs.Order.{lt_of_lt_of_le, lt_irrefl, not_lt_of_le, lt_or_same_or_gt}
@@ -98,20 +98,6 @@ best_over x w t r floor bound reached = by_side w.side floor bounded reached_in
 
 -- the constants are those that the best of them is no worse than
 module _ (side : Side) (limit : Rational) where
-  -- a constant is one at each time
-  pub constant_stays : (low : Rim) (marks : List Mark) (cs : List Margin) (c : Margin) (t u : Rational) → AreFrozen side limit low marks cs → IsAmong cs c
-      → value_at (margin_function c) t ≈ᵉ value_at (margin_function c) u
-  constant_stays low [] cs c t u frozen one = absurd (subst (λ (l : List Margin). IsAmong l c) frozen one)
-  constant_stays low (k ∷ marks) cs c t u (inl (skip, frozen)) one = constant_stays k.after marks cs c t u frozen one
-  constant_stays low (k ∷ marks) cs c t u (inr (knot, (d, others, is, frozen, more))) one =
-      by_one (subst (λ (l : List Margin). IsAmong l c) is one) (λ rest. constant_stays k.after marks others c t u more rest)
-    where
-      by_one : (c ≡ d) ⊎ IsAmong others c → (IsAmong others c → value_at (margin_function c) t ≈ᵉ value_at (margin_function c) u)
-          → value_at (margin_function c) t ≈ᵉ value_at (margin_function c) u
-      by_one (inl e) go = subst (λ (m : Margin). value_at (margin_function m) t ≈ᵉ value_at (margin_function m) u) (sym e)
-          (transᵉ (frozen.constant t) (symᵉ (frozen.constant u)))
-      by_one (inr rest) go = go rest
-
   -- each of the constants is one at each time
   abbrev pub AreSteady : List Margin → Type 0
   AreSteady [] = Unit {0}
@@ -146,10 +132,8 @@ module _ (side : Side) (limit : Rational) where
 
 -- every value is at least as good as that of no values
 pub floor_any : (side : Side) (v : Extended) → IsNoBetter side (none_of side minus_infinity infinity) v
-floor_any Greatest v = tt
 floor_any Least minus_infinity = tt
-floor_any Least (finite r) = tt
-floor_any Least infinity = tt
+floor_any _ _ = tt
 
 -- the constant that counts: the best of those between, or none
 pub record IsTopOf (side : Side) (cs : List Margin) (top : Margin) : Type 0 where

@@ -76,18 +76,12 @@ more_later F most start old (Some new) limit more le are = by_test (int_lt old n
   where
     by_lines : (more : List MarginLine) → AreTold F more → AreJoined (whole old) (whole new) more → BeginLater (Some limit) more
     by_lines [] told joined = tt
-    by_lines (Gap a b p ∷ []) told joined = absurd joined
-    by_lines (Gap a b p ∷ Gap c d q ∷ lines) told joined = absurd joined
     by_lines (Gap a b p ∷ Point u v ∷ lines) told joined = lt_of_le_of_lt (le_whole le) (lt_of_le_of_lt (ge_of_same joined.0) told.0.0)
-    by_lines (Point u v ∷ lines) told joined = absurd joined
+    by_lines _ told joined = absurd joined
 
     by_test : (t : Bool) → MatchBool t (AreTold F more × AreFit most more × AreJoined (whole old) (whole new) more) (more ≡ []) → BeginLater (Some limit) more
     by_test true are = by_lines more are.0 are.2
     by_test false are = rw are tt
-
--- where nothing is dropped
-later_none : (more : List MarginLine) (back : Option ℤ) → back ≡ None → BeginLater back more
-later_none more back e = rw e tt
 
 -- an edge whose reader stands where it stood
 module _ (nodes : List Node) (header : Header) (streamed : AreStreamed nodes) (j r : ℕ) (n : Node) (left : Bool) (at : slice_get nodes r ≡ Some n)

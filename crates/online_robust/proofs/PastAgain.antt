@@ -213,9 +213,6 @@ module _ (turn : Turn) (g : ℤ) (p : Ever) (e : Held)
       to_come [] tt tt (same_of_le (le_trans (le_of_same at_high) by_front) (le_trans (ge_of_same joined) le)),
       kept_as (L.Point r.at r.value ∷ []) (inl (is, refl)),
     )
-    by_lines (L.Point u v ∷ rest) is from le joined later told fit = absurd joined
-    by_lines (L.Gap a b m ∷ []) is from le joined later told fit = absurd joined
-    by_lines (L.Gap a b m ∷ L.Gap c d n ∷ rest) is from le joined later told fit = absurd joined
     by_lines (L.Gap a b m ∷ L.Point u v ∷ rest) is from le joined later told fit =
         let before : value a ≤ʳ value r.at = le_trans (le_of_same joined.0) le in (
           L.Point r.at r.value ∷ L.Gap r.at b m ∷ L.Point u v ∷ rest,
@@ -224,6 +221,7 @@ module _ (turn : Turn) (g : ℤ) (p : Ever) (e : Held)
               (same_refl (value r.at), joined.1, joined.2),
           kept_as (L.Point r.at r.value ∷ L.Gap r.at b m ∷ L.Point u v ∷ rest) (inr (a, b, r.at, m, L.Point u v ∷ rest, is, refl)),
         )
+    by_lines _ is from le joined later told fit = absurd joined
 
     by_some : Comes
     by_some = by_back (int_lt (g +ℤ p.window.high) (pos first_row)) refl can.inputs.left

@@ -7,16 +7,7 @@ use Rattle.rational.specs.Extended.{Affine}
 use Rattle.pl_signal.specs.declared.joining.Side.{Side}
 use Rattle.envelope.specs.Turns.{IsNoBetter}
 use Rattle.envelope.proofs.Bests.{no_better_refl, no_better_trans}
-use Rattle.online_robust.specs.Queues.{
-  constant_of,
-  AreBests,
-  IsAmong,
-  IsBest,
-  IsBestOf,
-  IsBetterOf,
-  NoneIsBetter,
-  StandsFor,
-}
+use Rattle.online_robust.specs.Queues.{constant_of, AreBests, IsAmong, IsBest, IsBestOf, IsBetterOf, NoneIsBetter, StandsFor}
 
 module _ {P : Type 0} (function : P → Affine) (side : Side) where
   among_left : (xs ys : List P) (b : P) → IsAmong xs b → IsAmong (xs ++ ys) b

@@ -56,18 +56,11 @@ module _ (j : ℕ) where
 -- an operator has read the same where the edges that it reads show the same
 pub seen_same : (n : Node) (old new : Held) → ((j : ℕ) (left : Bool) → IsReader n left j → (edge_at new j).seen ≡ (edge_at old j).seen)
     → seen_by n new ≡ seen_by n old
-seen_same (Const b) old new same = refl
-seen_same (Leaf a) old new same = refl
-seen_same (Not p) old new same = refl
-seen_same (And p q) old new same = refl
-seen_same (Or p q) old new same = refl
-seen_same (Implies p q) old new same = refl
-seen_same (Until p q a b) old new same = refl
 seen_same (Eventually p a b i k) old new same = same p true refl
 seen_same (Always p a b i k) old new same = same p true refl
-seen_same (Since p q a b) old new same = refl
 seen_same (Once p a b i k) old new same = same p true refl
 seen_same (Historically p a b i k) old new same = same p true refl
+seen_same _ old new same = refl
 
 -- ---- what a reader needs no more was given out
 
@@ -81,26 +74,19 @@ module _ (at : ℕ → Subformula) (i : ℕ) where
       → LooksWithin (horizon (tree_of at i n)) (reach_back n left) (horizon (at j))
   looks_within (Const b) left j s h r = absurd r
   looks_within (Leaf a) left j s h r = absurd r
-  looks_within (Not p) true j s h r = rw (← r) (omega (arith, ints))
   looks_within (Not p) false j s h r = absurd r
-  looks_within (And p q) true j s h r = rw (← r) (omega (arith, ints))
-  looks_within (And p q) false j s h r = rw (← r) (omega (arith, ints))
-  looks_within (Or p q) true j s h r = rw (← r) (omega (arith, ints))
-  looks_within (Or p q) false j s h r = rw (← r) (omega (arith, ints))
-  looks_within (Implies p q) true j s h r = rw (← r) (omega (arith, ints))
-  looks_within (Implies p q) false j s h r = rw (← r) (omega (arith, ints))
   looks_within (Until p q a b) left j s h r = absurd (s tt)
   looks_within (Eventually p a b i k) true j s h r = rw (← r) (omega (arith, ints, h))
   looks_within (Eventually p a b i k) false j s h r = absurd r
   looks_within (Always p a b i k) true j s h r = rw (← r) (omega (arith, ints, h))
   looks_within (Always p a b i k) false j s h r = absurd r
   looks_within (Since p q a b) left j s h r = absurd (s tt)
-  looks_within (Once p a None i k) true j s h r = rw (← r) (omega (arith, ints))
   looks_within (Once p a (Some b) i k) true j s h r = let le : a ≤ b = h.0 in rw (← r) (omega (arith, ints, le))
   looks_within (Once p a b i k) false j s h r = absurd r
-  looks_within (Historically p a None i k) true j s h r = rw (← r) (omega (arith, ints))
   looks_within (Historically p a (Some b) i k) true j s h r = let le : a ≤ b = h.0 in rw (← r) (omega (arith, ints, le))
   looks_within (Historically p a b i k) false j s h r = absurd r
+  looks_within _ true j s h r = rw (← r) (omega (arith, ints))
+  looks_within _ false j s h r = rw (← r) (omega (arith, ints))
 
 module _ (nodes : List Node) (formed : AreWellFormed nodes) where
   -- each node's bounds are in order
@@ -142,23 +128,10 @@ reader_above nodes formed r n left j found reads = by_node n left reads (placed 
     by_node : (n : Node) (left : Bool) → IsReader n left j → HasChildrenBelow r n → j < r
     by_node (Const b) left reads below = absurd reads
     by_node (Leaf a) left reads below = absurd reads
-    by_node (Not p) true reads below = omega (arith, reads, below)
     by_node (Not p) false reads below = absurd reads
-    by_node (And p q) true reads below = omega (arith, reads, below)
-    by_node (And p q) false reads below = omega (arith, reads, below)
-    by_node (Or p q) true reads below = omega (arith, reads, below)
-    by_node (Or p q) false reads below = omega (arith, reads, below)
-    by_node (Implies p q) true reads below = omega (arith, reads, below)
-    by_node (Implies p q) false reads below = omega (arith, reads, below)
-    by_node (Until p q a b) true reads below = omega (arith, reads, below)
-    by_node (Until p q a b) false reads below = omega (arith, reads, below)
-    by_node (Eventually p a b i k) true reads below = omega (arith, reads, below)
     by_node (Eventually p a b i k) false reads below = absurd reads
-    by_node (Always p a b i k) true reads below = omega (arith, reads, below)
     by_node (Always p a b i k) false reads below = absurd reads
-    by_node (Since p q a b) true reads below = omega (arith, reads, below)
-    by_node (Since p q a b) false reads below = omega (arith, reads, below)
-    by_node (Once p a b i k) true reads below = omega (arith, reads, below)
     by_node (Once p a b i k) false reads below = absurd reads
-    by_node (Historically p a b i k) true reads below = omega (arith, reads, below)
     by_node (Historically p a b i k) false reads below = absurd reads
+    by_node _ true reads below = omega (arith, reads, below)
+    by_node _ false reads below = omega (arith, reads, below)

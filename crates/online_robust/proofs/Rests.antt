@@ -49,10 +49,8 @@ fit_append reach (x ∷ a) b h k = (h.0, fit_append reach a b h.1 k)
 -- lines that go on from lines go on from where those begin
 pub joined_append : (from mid to : Rational) (a b : List MarginLine) → AreJoined from mid a → AreJoined mid to b → AreJoined from to (a ++ b)
 joined_append from mid to [] b h k = joined_same mid from to b (same_sym h) k
-joined_append from mid to (Gap a c p ∷ []) b h k = absurd h
-joined_append from mid to (Gap a c p ∷ Gap d e q ∷ lines) b h k = absurd h
 joined_append from mid to (Gap a c p ∷ Point u v ∷ lines) b h k = (h.0, h.1, joined_append (value u) mid to lines b h.2 k)
-joined_append from mid to (Point u v ∷ lines) b h k = absurd h
+joined_append from mid to _ b h k = absurd h
 
 -- ---- what is left of joined lines
 

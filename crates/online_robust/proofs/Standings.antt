@@ -7,7 +7,7 @@ use Rattle.stl_syntax.specs.Trace.{AreRowsAfter, Header, Row, IsTrace, first_tim
 use Rattle.stl_syntax.specs.Formula.{Formula, subformula}
 use Rattle.stl_syntax.specs.WellFormed.{IsWellFormed}
 use Rattle.stl_syntax.specs.declared.node.Node.{Node}
-use Rattle.stl_syntax.specs.declared.node.Node.TheVariants.{Const, Atom as Leaf, Not, And, Or, Implies, Until, Eventually, Always, Since, Once, Historically}
+use Rattle.stl_syntax.specs.declared.node.Node.TheVariants.{Const, Eventually, Always, Once, Historically}
 use Rattle.stl_syntax.proofs.RowsLemmas.{last_time-push}
 use Rattle.atom_lines.specs.Binding.{Binding, IsBound}
 use Rattle.online_nodes.specs.MarginEdges.{AreEmittedParts, IsMarginEdge, IsMarginRootEdge}
@@ -62,18 +62,11 @@ module _ (f : Formula) (header : Header) (b : Binding) (bound : IsBound b f head
   gave_none i = record { parts = refl; told = refl }
 
   seen_none : (n : Node) → seen_by n e ≡ []
-  seen_none (Const c) = refl
-  seen_none (Leaf a) = refl
-  seen_none (Not p) = refl
-  seen_none (And p q) = refl
-  seen_none (Or p q) = refl
-  seen_none (Implies p q) = refl
-  seen_none (Until p q a c) = refl
   seen_none (Eventually p a c i k) = ap (λ (x : Edge). x.seen) (empty p)
   seen_none (Always p a c i k) = ap (λ (x : Edge). x.seen) (empty p)
-  seen_none (Since p q a c) = refl
   seen_none (Once p a c i k) = ap (λ (x : Edge). x.seen) (empty p)
   seen_none (Historically p a c i k) = ap (λ (x : Edge). x.seen) (empty p)
+  seen_none _ = refl
 
   work_first : (i : ℕ) (n : Node) (w : Work) → IsFirstWork n w → IsWork f.nodes header no_past i n (seen_by n e) w
   work_first i n (W.Const c) h = h
@@ -147,9 +140,7 @@ fault_stops old new p Memory running opened stopped h = (running, opened, stoppe
 -- a refusal of one node is one of the network
 pub fault_is_wide : (p : Passing) (fault : RobustFault) → IsGoFault p fault → IsWideIn p.nodes p.header p.old p.new fault
 fault_is_wide p (Wide cause) h = h
-fault_is_wide p Stopped h = tt
-fault_is_wide p Closed h = tt
-fault_is_wide p Memory h = tt
+fault_is_wide p _ h = tt
 
 -- ---- parts
 
@@ -215,10 +206,6 @@ pub record IsEndFor (net : Parts) (now : ℕ) : Type 0 where
 module _ (nodes : List Node) (header : Header) (net : Parts) (past : Past) (given : List MarginLine) (stands : StandsFor nodes header net past given) where
   abbrev keeps : Keeps nodes header net past
   keeps = stands.keeps
-
-  -- there is a root
-  pub some_stations : 0 < length net.stations
-  some_stations = let some = keeps.streamed.some in let count = stands.shows.stations in omega (arith, some, count)
 
   -- where no row is kept, no row came, and no start is noted
   pub no_start : net.last ≡ None → net.edges.start ≡ None

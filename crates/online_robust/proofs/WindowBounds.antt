@@ -3,30 +3,30 @@ use Rattle.std.proofs.Common.{◌≡◌, ◌⊎◌, inl, inr, ℕ, ℤ, pos, ◌
 use Rattle.std.proofs.Common.{[], ◌∷◌, Option, Some, None, refl, sym, subst, arith}
 use Rattle.std.specs.Prelude.{neg_ℤ, ◌≤ℤ◌, ◌<ℤ◌, ◌-ℤ◌, IsTrue}
 use Rattle.std.proofs.lemmas.Int.{ints}
-use Rattle.rational.specs.Time.{Rational, ◌≤ʳ◌, shifted}
+use Rattle.rational.specs.Time.{Rational, shifted}
 use Rattle.rational.specs.Extended.{minus_infinity, infinity, value_at}
 use Rattle.rational.specs.Affine.{IsBounded}
 use Rattle.rational.specs.Windows.{Function}
 use Rattle.rational.proofs.AffineLemmas.{bounded_same}
-use Rattle.rational.proofs.Order.{ge_of_same, le_of_lt, le_refl, le_trans, lt_of_lt_of_le}
+use Rattle.rational.proofs.Order.{ge_of_same, le_of_lt, le_refl, lt_of_lt_of_le}
 use Rattle.frac128.specs.Value.{value}
 use Rattle.frac128.specs.declared.frac.Frac.{Frac}
 use Rattle.value_laws.specs.Margins.{is_ramp, margin_base, margin_function}
 use Rattle.value_laws.specs.declared.margin.Margin.{Margin}
-use Rattle.value_laws.specs.declared.margin.Margin.TheVariants.{Low, High, Fixed, Ramp}
+use Rattle.value_laws.specs.declared.margin.Margin.TheVariants.{Ramp}
 use Rattle.pl_signal.specs.declared.joining.Side.{Side}
 use Rattle.pl_signal.specs.declared.joining.Side.TheVariants.{Least, Greatest}
 use Rattle.envelope.specs.Turns.{none_of}
 use Rattle.stl_syntax.specs.Trace.{start}
 use Rattle.online_robust.specs.Held.{Held}
 use Rattle.online_robust.specs.Queues.{IsAmong, StandsFor}
-use Rattle.online_robust.specs.Sweeping.{AreFrozen, EndsAt, IsBefore, IsUpTo, Mark, Runs}
+use Rattle.online_robust.specs.Sweeping.{AreFrozen, EndsAt, IsBefore, Mark, Runs}
 use Rattle.online_robust.specs.Told.{IsMovedBy}
-use Rattle.online_robust.specs.Windows.{IsAt, IsShifted, IsTopOf, Scope, high_at, input_of, low_at}
+use Rattle.online_robust.specs.Windows.{IsAt, IsShifted, IsTopOf, Scope, input_of}
 use Rattle.online_robust.specs.declared.ends.Rim.{Rim}
 use Rattle.online_robust.specs.declared.window.Sweep.{Sweep}
 use Rattle.online_robust.specs.declared.window.Window.{Window}
-use Rattle.online_robust.proofs.WindowLaw.{last_on_of, runs_on, up_to_before, up_to_end}
+use Rattle.online_robust.proofs.WindowLaw.{runs_on, up_to_before, up_to_end}
 
 -- the value of no times is bounded
 pub none_bounded : (side : Side) → IsBounded (2 ^ 31) (none_of side minus_infinity infinity)
@@ -81,23 +81,6 @@ module _ (x : Scope) (s : Sweep) (e : Held) (at : IsAt x s e) where
           (bounded_same (2 ^ 31) (value_at (margin_function s.none) t) (none_of s.window.side minus_infinity infinity) (at.spread.none_value t)
           (none_bounded s.window.side))
 
-  -- the margin under the low end is bounded
-  pub low_bounded : (u : Rational) → low_at x s.window ≤ʳ shifted u s.window.low → IsUpTo (shifted u s.window.low) s.place.low.until
-      → IsBounded (2 ^ 31) (value_at (margin_function s.place.low.shape) (shifted u s.window.low))
-  low_bounded u later up =
-      (runs_on (input_of x s.window.side) x.reach at.spread.from s.place.low at.spread.marks at.spread.runs).bounded (shifted u s.window.low)
-      (le_trans at.spread.begun later) up
-
-  -- the margin under the high end is bounded
-  pub high_bounded : low_at x s.window ≤ʳ high_at x s.window → (u : Rational) → high_at x s.window ≤ʳ shifted u s.window.high
-      → IsUpTo (shifted u s.window.high) s.place.high.until
-      → IsBounded (2 ^ 31) (value_at (margin_function s.place.high.shape) (shifted u s.window.high))
-  high_bounded order u later up =
-      subst (λ (g : Rim). IsBounded (2 ^ 31) (value_at (margin_function g.shape) (shifted u s.window.high))) (sym at.spread.last)
-      ((last_on_of (input_of x s.window.side) x.reach at.spread.from (high_at x s.window) s.place.low at.spread.marks (le_trans at.spread.begun order)
-      at.spread.by at.spread.runs).bounded (shifted u s.window.high) later
-      (subst (λ (g : Rim). IsUpTo (shifted u s.window.high) g.until) at.spread.last up))
-
 -- a moved shape is bounded where the shape is
 pub shifted_bounded : (p : Margin) (k : ℤ) (q : Margin) (u : Rational) → IsShifted p k q → IsBounded (2 ^ 31) (value_at (margin_function p) (shifted u k))
     → IsBounded (2 ^ 31) (value_at (margin_function q) u)
@@ -118,10 +101,8 @@ shifted_moved reach own p k q moved is from to = by_shape q moved.base
     still = (omega (arith, ints), omega (arith, ints))
 
     by_shape : (m : Margin) → (IsTrue (is_ramp m) → IsTrue (is_ramp p) × (margin_base m ≡ margin_base p -ℤ k)) → IsMovedBy (reach + own) m
-    by_shape Low base = still
-    by_shape High base = still
-    by_shape (Fixed c) base = still
     by_shape (Ramp f) base = by_base (margin_base (Ramp f)) (margin_base p) (base refl).1 is.0 is.1
+    by_shape _ base = still
 
 -- a base that was moved by little was moved by no more than more
 pub moved_more : (reach own : ℕ) (p : Margin) → IsMovedBy reach p → IsMovedBy (reach + own) p
@@ -132,10 +113,8 @@ moved_more reach own p is = widen (margin_base p) is.0 is.1
 
 -- a constant has no base
 pub still_moved : (reach : ℕ) (p : Margin) → is_ramp p ≡ false → IsMovedBy reach p
-still_moved reach Low e = (omega (arith, ints), omega (arith, ints))
-still_moved reach High e = (omega (arith, ints), omega (arith, ints))
-still_moved reach (Fixed c) e = (omega (arith, ints), omega (arith, ints))
 still_moved reach (Ramp f) e = absurd (let z : true ≡ false = e in cc)
+still_moved reach _ e = (omega (arith, ints), omega (arith, ints))
 
 -- a constant stays as it is with time
 pub frozen_still : (side : Side) (limit : Rational) (low : Rim) (marks : List Mark) (cs : List Margin) → AreFrozen side limit low marks cs → (c : Margin)

@@ -40,14 +40,12 @@ next_apart t e = lt_irrefl (lt_of_lt_of_le (record { lt = let p = mul-pos t.posi
 meet_finite : (f g : Affine) (l r t : Rational) → MeetAlone f g l r t
     → ((v : Rational) × (value_at f t ≈ᵉ finite v)) × ((v : Rational) × (value_at g t ≈ᵉ finite v))
 meet_finite (affine f) (affine g) l r t m = ((at f t, same_reflᵉ (finite (at f t))), (at g t, same_reflᵉ (finite (at g t))))
-meet_finite (affine f) always_low l r t m = absurd m.meet.at_most
 meet_finite (affine f) always_high l r t m = absurd m.meet.at_least
 meet_finite always_low (affine g) l r t m = absurd m.meet.at_least
-meet_finite always_high (affine g) l r t m = absurd m.meet.at_most
 meet_finite always_low always_high l r t m = absurd m.meet.at_least
-meet_finite always_high always_low l r t m = absurd m.meet.at_most
 meet_finite always_low always_low l r t m = absurd (next_apart t (m.alone (later t 1) (record { at_most = tt; at_least = tt })))
 meet_finite always_high always_high l r t m = absurd (next_apart t (m.alone (later t 1) (record { at_most = tt; at_least = tt })))
+meet_finite _ _ l r t m = absurd m.meet.at_most
 
 -- a refused crossing
 pub unmet_fault : (x : Scope) (p : Rational) (w : Window) (to from : Rational) → p ≤ʳ from → start x.trace ≤ʳ p → to ≤ʳ stop x.trace → (f : OpFault Margin)

@@ -1,5 +1,5 @@
 -- What is so of the node of a window, and of what its operator keeps in mind.
-use Rattle.std.proofs.Common.{◌≡◌, ◌⊎◌, inl, inr, ℕ, Bool, true, false, refl, sym, subst, arith, Some, None, pos, ◌+ℤ◌, ◌<ℤ◌, ◌≤ℤ◌}
+use Rattle.std.proofs.Common.{◌≡◌, ◌⊎◌, inl, inr, ℕ, Bool, true, false, refl, sym, subst, arith, Some, pos, ◌+ℤ◌, ◌<ℤ◌, ◌≤ℤ◌}
 use Rattle.std.specs.Prelude.{neg_ℤ}
 use Rattle.std.proofs.lemmas.Int.{ints}
 use Rattle.pl_signal.specs.declared.joining.Side.TheVariants.{Least, Greatest}
@@ -96,13 +96,4 @@ module _ (f : ℕ → Subformula) (place : ℕ) where
   window_node (N.Historically p a (Some b) a_in b_in) w is order =
       subst (IsWindowNode f place (N.Historically p a (Some b) a_in b_in)) (sym is)
       (historically_node p a b a_in b_in (subst (λ (x : Window). x.low <ℤ x.high) is order))
-  window_node (N.Once p a None a_in b_in) w is order = absurd is
-  window_node (N.Historically p a None a_in b_in) w is order = absurd is
-  window_node (N.Const c) w is order = absurd is
-  window_node (N.Atom a) w is order = absurd is
-  window_node (N.Not p) w is order = absurd is
-  window_node (N.And p q) w is order = absurd is
-  window_node (N.Or p q) w is order = absurd is
-  window_node (N.Implies p q) w is order = absurd is
-  window_node (N.Until p q a b) w is order = absurd is
-  window_node (N.Since p q a b) w is order = absurd is
+  window_node _ w is order = absurd is

@@ -11,12 +11,12 @@ use Rattle.pl_signal.specs.declared.faults.OpFault.{OpFault}
 use Rattle.envelope.specs.declared.best.Best.{Best}
 use Rattle.stl_syntax.specs.Trace.{start}
 use Rattle.window_ops.proofs.Ends.{le_shifted, lt_shifted}
-use Rattle.online_robust.specs.Held.{Held, edge_at}
+use Rattle.online_robust.specs.Held.{Held}
 use Rattle.online_robust.specs.ReadLines.{IsBuilt, IsThere}
 use Rattle.online_robust.specs.Sweeping.{IsBefore, IsUpTo}
 use Rattle.online_robust.specs.Told.{IsTick}
 use Rattle.online_robust.specs.Windows.{CanSweep, Goes, HasCome, HasTold, IsAt, IsGoing, IsGone, IsOwned, IsSpan}
-use Rattle.online_robust.specs.Windows.{IsUnfixedHigh, IsUnmet, IsWindowFault, Scope, Sheds, at_time, best_of, steps_left}
+use Rattle.online_robust.specs.Windows.{IsUnfixedHigh, IsUnmet, IsWindowFault, Scope, Sheds, at_time, best_of}
 use Rattle.online_robust.specs.declared.line.Reached.{Reached}
 use Rattle.online_robust.specs.declared.window.Sweep.{Sweep}
 use Rattle.online_robust.specs.declared.window.Window.{Window}
@@ -60,9 +60,6 @@ pub record IsSwept (x : Scope) (own : ℕ) (from to : Rational) (old s : Sweep) 
   pub shed : Sheds (shifted (value s.place.at) old.window.low) old.window.of old_e e
 
 module _ (x : Scope) (own : ℕ) (from to : Rational) (s : Sweep) (e : Held) (can : CanSweep x own from to s e) where
-  p : Rational
-  p = value s.place.at
-
   -- before its first step it stands where its ends are counted from
   pub came_first : HasCome x s e
   came_first = record { at = record { within = moved.within; spread = moved.spread }; low_before = before }
@@ -241,10 +238,3 @@ goes_on s s' s'' k g = record {
 -- a window that does not move stays as it is
 pub goes_none : (s : Sweep) → Goes s s
 goes_none s = record { window = refl; start = refl; none = refl; last = refl }
-
--- a step fewer is left, by the window after the step
-pub falls : (old new : Sweep) (x y : Held) (to : Rational) → new.window ≡ old.window
-    → steps_left old.window new.place (edge_at y old.window.of) to < steps_left old.window old.place (edge_at x old.window.of) to
-    → steps_left new.window new.place (edge_at y new.window.of) to < steps_left old.window old.place (edge_at x old.window.of) to
-falls old new x y to same less =
-    subst (λ (w : Window). steps_left w new.place (edge_at y w.of) to < steps_left old.window old.place (edge_at x old.window.of) to) (sym same) less

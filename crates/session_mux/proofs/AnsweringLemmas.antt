@@ -248,6 +248,4 @@ pub unanswered : (f : Formula) (seen : List Tagged) (x : Tagged) (old new : Know
     → IsTurnedAway seen x old new e → IsUnanswered f seen x old new out out e
 unanswered f seen x old new out fault.TooManySessions h = (h, refl)
 unanswered f seen x old new out fault.Memory h = cut_none (IsAnswer f seen x) out out refl
-unanswered f seen x old new out fault.BadTag h = absurd h
-unanswered f seen x old new out fault.Stopped h = absurd h
-unanswered f seen x old new out fault.Ended h = absurd h
+unanswered f seen x old new out _ h = absurd h

@@ -48,9 +48,7 @@ answers_on f seen (y ∷ all) x text answer (here, later, is, more, e) a = (
 
 place_of : (n : ℕ) (k : LineKind) → fault_line (fault_in n k) ≡ n
 place_of n kind.TooManyLines = refl
-place_of n kind.TooLong = refl
-place_of n kind.BadTag = refl
-place_of n kind.TooManySessions = refl
+place_of n _ = refl
 
 -- a fault of the line after those that were taken
 fault_there : {f : Formula} {mux : Muxed} {front : List Line} {text : List ℕ} (more : List Line) (all : List ℕ) (ended : Bool)
@@ -130,25 +128,6 @@ module _ (f : Formula) (i : Input) (bytes written part : List ℕ) (k : IsTaking
       unsized_there l ls ((bytes ++ part) ++ more) ended k.taken (length i.part + length part) e (omega (arith, fits, size))
       (joined ended more ∙ ap (λ ls. k.front ++ ls) is) (subst (λ n. IsUnsized n (length i.part + length part) e) number u)
 
-  -- they were added
-  pub part_added : (new : Input) → new ≡ record i { part = i.part ++ part } → IsSized (i.whole + 1) (length i.part + length part)
-      → IsTaking f new (bytes ++ part) written
-  part_added new e (few, short) = subst (λ (j : Input). IsTaking f j (bytes ++ part) written) (sym e) (record {
-    front = k.front;
-    free = both_free;
-    joins = joined;
-    count = k.count;
-    few = k.few;
-    part_few = λ some. omega (arith, few);
-    short = omega (arith, short, length-append i.part part);
-    small = (let a = k.small in omega (arith, a, length-append i.part part, length-append bytes part));
-    taken = k.taken;
-  })
-
--- no bytes change nothing
-pub part_none : (f : Formula) (i : Input) (bytes written part : List ℕ) → IsTaking f i bytes written → part ≡ [] → IsTaking f i (bytes ++ part) written
-part_none f i bytes written part k e = subst (λ b. IsTaking f i b written) (sym (ap (λ p. bytes ++ p) e ∙ append-nil bytes)) k
-
 -- ---- a line that has ended
 
 -- one line more
@@ -208,11 +187,7 @@ module _ (f : Formula) (i : Input) (bytes written : List ℕ) (k : IsTaking f i 
   number_is : i.whole + 1 ≡ 1 + length k.front
   number_is = let c = k.count in omega (arith, c)
 
-  -- a line may be handed on, since the sessions stand for the lines before it
-  pub can_hand : (p : Past) × StandsFor p i.mux
-  can_hand = (record { formula = f; seen = k.taken.tagged }, k.taken.stands)
-
-  -- it is too long, or one too many
+  -- a line that is too long, or one too many, stops the input
   pub line_unsized : (e : InputStop) → IsUnsized (i.whole + 1) (length i.part) e → IsLineStop f k.front i.part (written ++ i.text) e
   line_unsized e u = λ all ended later is.
       unsized_there (ended_line i.part) later all ended k.taken (length i.part) e (omega arith) is
@@ -271,14 +246,6 @@ module _ (f : Formula) (i : Input) (bytes written : List ℕ) (k : IsTaking f i 
   some_rest : (part : List ℕ) → (length part ≡ 0 → ⊥) → rest true part ≡ ended_line part ∷ []
   some_rest [] some = absurd (some refl)
   some_rest (c ∷ cs) some = refl
-
-  none_rest : (part : List ℕ) → length part ≡ 0 → rest true part ≡ []
-  none_rest [] e = refl
-  none_rest (c ∷ cs) e = absurd (omega (arith, e))
-
-  -- there is no last line without LF
-  pub last_none : length i.part ≡ 0 → HasLines f i.mux (k.front ++ rest true i.part) (written ++ i.text)
-  last_none e = subst (λ ls. HasLines f i.mux ls (written ++ i.text)) (sym (ap (λ ls. k.front ++ ls) (none_rest i.part e) ∙ append-nil k.front)) k.taken
 
   -- there is one
   pub last_some : (length i.part ≡ 0 → ⊥) → (new : Input) (r : Result (Unit {0}) InputStop)

@@ -217,9 +217,7 @@ pub turned_away : (f : Formula) (seen : List Tagged) (x : Tagged) (old new : Kno
 turned_away f seen x old new fault.TooManySessions k none h =
     (h.0, new_tag f seen x (shown old) k none, omega (arith, h.1, ap length k.tags, tag_count old.sessions.items))
 turned_away f seen x old new fault.Memory k none h = tt
-turned_away f seen x old new fault.BadTag k none h = absurd h
-turned_away f seen x old new fault.Stopped k none h = absurd h
-turned_away f seen x old new fault.Ended k none h = absurd h
+turned_away f seen x old new _ k none h = absurd h
 
 -- under the tag of a line
 pub begun_as : (t u : List ℕ) (n i : ℕ) (old new : Known) → t ≡ u → n ≡ number_of t → HasBegun t n i old new → HasBegun u (number_of u) i old new

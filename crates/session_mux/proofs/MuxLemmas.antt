@@ -25,9 +25,7 @@ module _ (p : Past) (x : Tagged) (content : List ℕ) (old new : Known) (before 
   goes_on_after (Ok y) e h k = (with_line p x, record { phase = k; knows = h.knows })
   goes_on_after (Err fault.TooManySessions) e h k = (p, record { phase = k; knows = subst (λ (n : Known). Knows p.formula p.seen (shown n)) (sym h.0.0) knows })
   goes_on_after (Err fault.Memory) e h k = absurd (let z : Stopped ≡ Taking = sym e ∙ k in cc)
-  goes_on_after (Err fault.BadTag) e h k = absurd h
-  goes_on_after (Err fault.Stopped) e h k = absurd h
-  goes_on_after (Err fault.Ended) e h k = absurd h
+  goes_on_after _ e h k = absurd h
 
   same_as : new ≡ old → after ≡ phase → (view : Muxed) → record { known = shown old; phase = phase } ≡ view → record { known = shown new; phase = after } ≡ view
   same_as e k view v =
@@ -42,9 +40,7 @@ module _ (p : Past) (x : Tagged) (content : List ℕ) (old new : Known) (before 
       (x, tagged, record { stands = record { phase = e ∙ taking; knows = h.knows }; room = h.room; answer = h.answer; is = h.is; added = h.added })
   line_call view v blank tagged (Err fault.TooManySessions) e h = (blank, (x, tagged, h.0.1), h.0.2, same_as h.0.0 e view v, h.1)
   line_call view v blank tagged (Err fault.Memory) e h = (blank, (x, tagged, h))
-  line_call view v blank tagged (Err fault.BadTag) e h = absurd h
-  line_call view v blank tagged (Err fault.Stopped) e h = absurd h
-  line_call view v blank tagged (Err fault.Ended) e h = absurd h
+  line_call view v blank tagged _ e h = absurd h
 
   -- the phases
   pub line_moves : (view : Muxed) → record { known = shown old; phase = phase } ≡ view → (r : Result (Unit {0}) MuxFault)
@@ -53,15 +49,10 @@ module _ (p : Past) (x : Tagged) (content : List ℕ) (old new : Known) (before 
   line_moves view v (Ok y) e h = (ap (λ (m : Muxed). m.phase) (sym v) ∙ taking, e ∙ taking)
   line_moves view v (Err fault.TooManySessions) e h = (ap (λ (m : Muxed). m.phase) (sym v) ∙ taking, same_as h.0.0 e view v)
   line_moves view v (Err fault.Memory) e h = (ap (λ (m : Muxed). m.phase) (sym v) ∙ taking, e)
-  line_moves view v (Err fault.BadTag) e h = absurd h
-  line_moves view v (Err fault.Stopped) e h = absurd h
-  line_moves view v (Err fault.Ended) e h = absurd h
+  line_moves view v _ e h = absurd h
 
   -- it did not come late
   pub line_late : (r : Result (Unit {0}) MuxFault) → IsOutcome p x old new before out r → ¬ IsLate r
-  line_late (Ok y) h l = l
-  line_late (Err fault.TooManySessions) h l = l
-  line_late (Err fault.Memory) h l = l
-  line_late (Err fault.BadTag) h l = l
   line_late (Err fault.Stopped) h l = h
   line_late (Err fault.Ended) h l = h
+  line_late _ h l = l

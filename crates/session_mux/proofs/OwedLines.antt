@@ -144,9 +144,7 @@ first_tagged (next {line = l} {more = ls} {x = x} {tagged = tagged} w b is rest)
 
 no_tagged : {all : List Line} {tagged : List Tagged} → AreTagged all tagged → all ≡ [] → tagged ≡ []
 no_tagged none e = refl
-no_tagged (unfinished w) e = absurd cc
-no_tagged (blank w b rest) e = absurd cc
-no_tagged (next w b is rest) e = absurd cc
+no_tagged _ e = absurd cc
 
 -- they are one list
 pub tagged_lines_once : (all : List Line) (a b : List Tagged) → AreTagged all a → AreTagged all b → a ≡ b

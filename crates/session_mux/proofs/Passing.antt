@@ -1,12 +1,11 @@
 -- Lines without a fault of the input: a fault of lines that follow them is one of all, and the other way round.
 use Rattle.std.proofs.Common.{◌≡◌, ◌⊎◌, inl, inr, ℕ, suc, ◌+◌, ◌<◌, ◌≤◌, Bool, true, false, List, [], ◌∷◌}
 use Rattle.std.proofs.Common.{◌++◌, length, refl, sym, ap, ◌∙◌, subst, arith, add-zero, zero-add, append-nil}
-use Rattle.std.specs.Prelude.{All, IsTrue, MatchBool, ◌||◌, bytes_eq, if◌then◌else◌}
-use Rattle.std.proofs.lemmas.List.Elements.{All-nil, All-cons}
+use Rattle.std.specs.Prelude.{IsTrue, MatchBool, ◌||◌, bytes_eq, if◌then◌else◌}
 use Rattle.std.proofs.Math.Bool.{or-false}
 use Rattle.stl_syntax.specs.Characters.{is_among}
 use Rattle.trace_reader.specs.TraceText.{Line, content, is_blank_line}
-use Rattle.trace_reader.proofs.LineLemmas.{IsDone, rest}
+use Rattle.trace_reader.proofs.LineLemmas.{rest}
 use Rattle.trace_stream.proofs.FaultPlaces.{at_true, at_false, to_true, to_false}
 use Rattle.session_mux.specs.Sessions.{Tagged, IsTagged, AreTagged, none as none_tagged, unfinished, blank as blank_line, next, tags_after}
 use Rattle.session_mux.specs.Inputs.{InputFault, too_many_lines, too_long, bad_tag, too_many_sessions, FaultOfInput}
@@ -151,13 +150,6 @@ past_fault {n} {known} {after} (old_tag {line = line} {more = lines} {x = t} siz
     from_next n (length lines) after more x (past_fault rest more x (old_past n known line (lines ++ more) sized b t is a x f))
 past_fault {n} {known} {after} (new_tag {line = line} {more = lines} {x = t} sized w b is a room rest) more x f =
     from_next n (length lines) after more x (past_fault rest more x (new_past n known line (lines ++ more) sized b t is a room x f))
-
--- they are whole, with their tags
-pub passed_done : {n : ℕ} {known after : List (List ℕ)} {front : List Line} {tagged : List Tagged} → ArePassed n known front tagged after → All IsDone front
-passed_done none = All-nil IsDone
-passed_done (blank {line = line} {more = lines} sized w b rest) = All-cons IsDone line lines w (passed_done rest)
-passed_done (old_tag {line = line} {more = lines} sized w b is a rest) = All-cons IsDone line lines w (passed_done rest)
-passed_done (new_tag {line = line} {more = lines} sized w b is a room rest) = All-cons IsDone line lines w (passed_done rest)
 
 -- lines without a fault are the lines of their tags
 pub passed_tagged : {n : ℕ} {known after : List (List ℕ)} {front : List Line} {tagged : List Tagged}

@@ -11,7 +11,7 @@ use Rattle.stl_syntax.specs.Binding.{HasColumn, HasColumns, IsUnknown}
 use Rattle.stl_syntax.specs.declared.scale.Scale.{Scale}
 use Rattle.stl_syntax.specs.declared.atom.Atom.{Atom}
 use Rattle.stl_syntax.specs.declared.node.Node.{Node}
-use Rattle.stl_syntax.specs.declared.node.Node.TheVariants.{Const, Atom as Leaf, Not, And, Or, Implies, Until, Eventually, Always, Since, Once, Historically}
+use Rattle.stl_syntax.specs.declared.node.Node.TheVariants.{Atom as Leaf}
 use Rattle.stl_syntax.proofs.ScalingLemmas.{scaled_at}
 
 -- what holds of all holds of each
@@ -19,18 +19,8 @@ pub All-get : {A : Type 0} (P : A → Type 0) (xs : List A) (i : ℕ) (x : A) �
 All-get P xs i x all e = subst P (get_or_from_slice_get xs i x x e) (All-get_or P xs i x (slice_get_within xs i x e) all)
 
 node_unscaled : (cs : List Column) (k m : ℕ) (n : Node) → HasColumns cs (scaled_node k m n) → HasColumns cs n
-node_unscaled cs k m (Const b) h = tt
 node_unscaled cs k m (Leaf a) h = h
-node_unscaled cs k m (Not p) h = tt
-node_unscaled cs k m (And p q) h = tt
-node_unscaled cs k m (Or p q) h = tt
-node_unscaled cs k m (Implies p q) h = tt
-node_unscaled cs k m (Until p q a b) h = tt
-node_unscaled cs k m (Eventually p a b a_in b_in) h = tt
-node_unscaled cs k m (Always p a b a_in b_in) h = tt
-node_unscaled cs k m (Since p q a b) h = tt
-node_unscaled cs k m (Once p a b a_in b_in) h = tt
-node_unscaled cs k m (Historically p a b a_in b_in) h = tt
+node_unscaled cs k m _ h = tt
 
 -- a header that has the columns of a scaled formula has those of the formula
 pub columns_unscaled : (cs : List Column) (k m : ℕ) (nodes : List Node) → All (HasColumns cs) (map (scaled_node k m) nodes) → All (HasColumns cs) nodes
@@ -45,18 +35,8 @@ Unscaled old owner = (a : Atom) × (old ≡ Leaf a) × (a.terms ≡ owner.terms)
 
 leaf_unscaled : (k m : ℕ) (owner : Atom) (old : Node) → Leaf owner ≡ scaled_node k m old → Unscaled old owner
 unfolding Unscaled
-leaf_unscaled k m owner (Const b) e = absurd (let f = e in cc)
 leaf_unscaled k m owner (Leaf a) e = (a, refl, let f : owner ≡ scaled_atom m a = (let g = e in cc) in sym (ap (λ (x : Atom). x.terms) f))
-leaf_unscaled k m owner (Not p) e = absurd (let f = e in cc)
-leaf_unscaled k m owner (And p q) e = absurd (let f = e in cc)
-leaf_unscaled k m owner (Or p q) e = absurd (let f = e in cc)
-leaf_unscaled k m owner (Implies p q) e = absurd (let f = e in cc)
-leaf_unscaled k m owner (Until p q a b) e = absurd (let f = e in cc)
-leaf_unscaled k m owner (Eventually p a b a_in b_in) e = absurd (let f = e in cc)
-leaf_unscaled k m owner (Always p a b a_in b_in) e = absurd (let f = e in cc)
-leaf_unscaled k m owner (Since p q a b) e = absurd (let f = e in cc)
-leaf_unscaled k m owner (Once p a b a_in b_in) e = absurd (let f = e in cc)
-leaf_unscaled k m owner (Historically p a b a_in b_in) e = absurd (let f = e in cc)
+leaf_unscaled k m owner _ e = absurd (let f = e in cc)
 
 -- where the scaled formula has an atom, the formula has one
 pub atom_unscaled : (f : Formula) (scale : Scale) (i : ℕ) (a : Atom) → slice_get (scaled f scale).nodes i ≡ Some (Leaf a)

@@ -109,9 +109,7 @@ pub fault_so : (c : Case) (ended : Bool) (old : Past) (fault : RobustFault) → 
     → IsFollowFault margins c ended (fault_of fault)
 fault_so c ended old (R.Wide cause) (inside, is) =
     needed (record { nodes = c.formula.nodes; header = c.trace.header; old = old; new = past_of c ended; place = cause.node }) cause.pair is
-fault_so c ended old R.Memory is = tt
-fault_so c ended old R.Stopped is = tt
-fault_so c ended old R.Closed is = tt
+fault_so c ended old _ is = tt
 
 -- where nothing was put, nothing was written
 pub unwritten : (text : List ℕ) (fault : FollowFault) → IsUnwritten text text fault

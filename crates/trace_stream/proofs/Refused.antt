@@ -30,17 +30,7 @@ use Rattle.trace_stream.proofs.KeptRows.{sound_so_far}
 -- a node that is until or since in other ticks is so in its own
 unstreamed_scaled : (time size : ℕ) (n : Node) → IsUnstreamed (scaled_node time size n) → IsUnstreamed n
 unstreamed_scaled time size (node.Const b) u = u
-unstreamed_scaled time size (node.Atom a) u = u
-unstreamed_scaled time size (node.Not p) u = u
-unstreamed_scaled time size (node.And p q) u = u
-unstreamed_scaled time size (node.Or p q) u = u
-unstreamed_scaled time size (node.Implies p q) u = u
-unstreamed_scaled time size (node.Until p q a b) u = u
-unstreamed_scaled time size (node.Since p q a b) u = u
-unstreamed_scaled time size (node.Eventually p a b a_in b_in) u = u
-unstreamed_scaled time size (node.Always p a b a_in b_in) u = u
-unstreamed_scaled time size (node.Once p a b a_in b_in) u = u
-unstreamed_scaled time size (node.Historically p a b a_in b_in) u = u
+unstreamed_scaled time size _ u = u
 
 -- a node of the formula in other ticks
 abbrev change : Formula → Scale → Node → Node

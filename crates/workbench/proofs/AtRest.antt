@@ -34,8 +34,7 @@ use Rattle.trace_stream.proofs.Told.{told_now, live_after, told_over, over_after
 -- the limit on lines bounds the bytes
 few_lines : (s : Stream) → (limits_of s).lines ≡ 8589934592
 few_lines verdicts = refl
-few_lines early = refl
-few_lines margins = refl
+few_lines _ = refl
 
 -- the text of the rows before the first fault is what is owed
 owes_of : (s : Stream) (limits : Limits) (f : Formula) (bytes : List ℕ) (ended : Bool) (text : List ℕ) → limits ≡ limits_of s
@@ -264,7 +263,5 @@ starved_made {T} held text outcome e = subst (λ (r : Result T StreamStop). IsMa
 
 -- the reason of a stream is no fault of a sink
 pub not_unwritten : {T : Type 0} (outcome : Result T StreamStop) → outcome_of outcome ≢ Err Unwritten
-not_unwritten (Ok x) e = let k = e in cc
 not_unwritten (Err (Faulty fault)) e = let k = e in cc
-not_unwritten (Err NoMemory) e = let k = e in cc
-not_unwritten (Err (Wide i den)) e = let k = e in cc
+not_unwritten _ e = let k = e in cc

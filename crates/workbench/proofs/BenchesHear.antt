@@ -12,9 +12,8 @@ use Rattle.stl_syntax.specs.declared.atom.Term.{Term}
 use Rattle.stl_syntax.specs.declared.node.Node.{Node}
 use Rattle.stl_syntax.specs.declared.node.Node.TheVariants.{Const, Atom as Leaf, Not, And, Or, Implies, Until, Eventually, Always, Since, Once, Historically}
 use Rattle.stl_syntax.proofs.CharacterLemmas.{begins_goes_on}
-use Rattle.stl_grammar.specs.Tokens.{IsToken, a_word, an_integer, a_decimal, at_least, at_most}
-use Rattle.stl_grammar.specs.Tokens.{above, below, paren, paren_end, bracket, bracket_end, a_comma}
-use Rattle.stl_grammar.specs.Tokens.{a_star, a_plus, a_minus, nothing as no_tokens, blank, token}
+use Rattle.stl_grammar.specs.Tokens.{IsToken, a_word}
+use Rattle.stl_grammar.specs.Tokens.{nothing as no_tokens, blank, token}
 use Rattle.stl_grammar.specs.Grammar.{top, Token, word, number, relation, open_paren, close_paren, star, plus, minus, Lexes}
 use Rattle.stl_grammar.specs.Grammar.{IsTerm, name, scaled, AreTerms, none, more_plus, more_minus, IsAtom, first, signed}
 use Rattle.stl_grammar.specs.Grammar.{IsFormula, IsDisjunct, IsConjunct, IsTimed, IsOperand, disjunct, implies}
@@ -69,20 +68,7 @@ plain_word (c ∷ w) h = let (here, later) = both (goes_on_word c) (all goes_on_
 
 plain_token : {bytes text : List ℕ} {t : Token} → IsToken bytes text t → IsPlainToken t
 plain_token (a_word {c} {rest} begins goes stops) = plain_word (c ∷ rest) (rw (begins_goes_on c begins) goes)
-plain_token (an_integer d s b) = tt
-plain_token (a_decimal c ds d es p q s) = tt
-plain_token at_least = tt
-plain_token at_most = tt
-plain_token (above s) = tt
-plain_token (below s) = tt
-plain_token paren = tt
-plain_token paren_end = tt
-plain_token bracket = tt
-plain_token bracket_end = tt
-plain_token a_comma = tt
-plain_token a_star = tt
-plain_token a_plus = tt
-plain_token a_minus = tt
+plain_token _ = tt
 
 plain_tokens : {text : List ℕ} {ts : List Token} → Lexes text ts → All IsPlainToken ts
 plain_tokens no_tokens = All-nil IsPlainToken

@@ -188,13 +188,7 @@ module _ {words : List (List ℕ)} {i : Drained} {o : Filled} {bytes : List ℕ}
   seen_request ask no_form of_none a at end = seen_none a end
   seen_request ask (refused l) (of_bad l') a at end = seen_bad l (bad_of ask l a) end
   seen_request ask (whole check f) (of_check g) a at end = seen_check f (record { text = a.text; form = check_asked a.form; is = a.is }) (λ n. at n refl) end
-  seen_request ask (whole robust f) b a at end = elim b [ ]
-  seen_request ask (whole explain f) b a at end = elim b [ ]
-  seen_request ask (whole json f) b a at end = elim b [ ]
-  seen_request ask (whole table f) b a at end = elim b [ ]
-  seen_request ask (stream k f) b a at end = elim b [ ]
-  seen_request ask (sessions f) b a at end = elim b [ ]
-  seen_request ask (generated n rows) b a at end = elim b [ ]
+  seen_request ask _ b a at end = elim b [ ]
 
   -- a run of a check that ended is seen as one of its endings
   pub seen_ended : {own : List ℕ} → AskCheck words own → {text : List ℕ} {status : ℕ} {line : List ℕ}
@@ -234,24 +228,13 @@ module _ (words : List (List ℕ)) {own : List ℕ} (ask : AskCheck words own) (
 
   module _ {bytes text : List ℕ} where
     bound : {status : ℕ} {line : List ℕ} → See bytes text status line → status ≤ 7
-    bound (s_none h) = omega arith
-    bound (s_bad b) = omega arith
-    bound (s_early h) = omega arith
-    bound (s_fault f x a fault at) = omega arith
     bound (s_answer f tr a trace written truth ended at) = omega (arith, truth_status f tr _ truth)
-    bound (s_unread f a ended failed sound) = omega arith
-    bound (s_unwritten f tr rest a trace written some failed ended at) = omega arith
-    bound (s_no_memory f a) = omega arith
+    bound _ = omega arith
 
     bad_rightly : {status : ℕ} {line : List ℕ} → See bytes text status line → old.IsBadRightly words status
-    bad_rightly (s_none h) s = absurd (omega (arith, s))
     bad_rightly (s_bad {line = line} b) s = (line, b)
-    bad_rightly (s_early h) s = absurd (omega (arith, s))
-    bad_rightly (s_fault f x a fault at) s = absurd (omega (arith, s))
     bad_rightly (s_answer f tr a trace written truth ended at) s = absurd (omega (arith, s, truth_status f tr _ truth))
-    bad_rightly (s_unread f a ended failed sound) s = absurd (omega (arith, s))
-    bad_rightly (s_unwritten f tr rest a trace written some failed ended at) s = absurd (omega (arith, s))
-    bad_rightly (s_no_memory f a) s = absurd (omega (arith, s))
+    bad_rightly _ s = absurd (omega (arith, s))
 
     bad_due : {status : ℕ} {line : List ℕ} → See bytes text status line → old.IsBadWhereDue words status
     bad_due (s_none h) l b = absurd (h b.text b.form)
@@ -266,13 +249,9 @@ module _ (words : List (List ℕ)) {own : List ℕ} (ask : AskCheck words own) (
     refused_rightly : {status : ℕ} {line : List ℕ} → Consumes i.before i.after bytes → See bytes text status line
         → old.IsRefusedRightly words i.before i.after i.ended status
     refused_rightly moved (s_none h) s g bs ask took = absurd (h ask.text ask.form)
-    refused_rightly moved (s_bad b) s g bs ask took = absurd (omega (arith, s))
-    refused_rightly moved (s_early h) s g bs ask took = absurd (omega (arith, s))
     refused_rightly moved (s_fault f x a fault at) s g bs ask took = (x, fault_for i.ended x a ask (took_is took moved) fault)
     refused_rightly moved (s_answer f tr a trace written truth ended at) s g bs ask took = absurd (omega (arith, s, truth_status f tr _ truth))
-    refused_rightly moved (s_unread f a ended failed sound) s g bs ask took = absurd (omega (arith, s))
-    refused_rightly moved (s_unwritten f tr rest a trace written some failed ended at) s g bs ask took = absurd (omega (arith, s))
-    refused_rightly moved (s_no_memory f a) s g bs ask took = absurd (omega (arith, s))
+    refused_rightly moved _ s g bs ask took = absurd (omega (arith, s))
 
     refused_due : {status : ℕ} {line : List ℕ} → Consumes i.before i.after bytes → See bytes text status line
         → old.IsRefusedWhereDue words i.before i.after i.ended status
@@ -309,24 +288,14 @@ module _ (words : List (List ℕ)) {own : List ℕ} (ask : AskCheck words own) (
     answered_due moved (s_no_memory f a) g bs ask here sound calm quiet = inr refl
 
     five : {status : ℕ} {line : List ℕ} → See bytes text status line → status ≡ 5 → HasFailed i
-    five (s_none h) s = absurd (omega (arith, s))
-    five (s_bad b) s = absurd (omega (arith, s))
-    five (s_early h) s = absurd (omega (arith, s))
-    five (s_fault f x a fault at) s = absurd (omega (arith, s))
     five (s_answer f tr a trace written truth ended at) s = absurd (omega (arith, s, truth_status f tr _ truth))
     five (s_unread f a ended failed sound) s = failed
-    five (s_unwritten f tr rest a trace written some failed ended at) s = absurd (omega (arith, s))
-    five (s_no_memory f a) s = absurd (omega (arith, s))
+    five _ s = absurd (omega (arith, s))
 
     six : {status : ℕ} {line : List ℕ} → See bytes text status line → status ≡ 6 → HasRefused o
-    six (s_none h) s = absurd (omega (arith, s))
-    six (s_bad b) s = absurd (omega (arith, s))
-    six (s_early h) s = absurd (omega (arith, s))
-    six (s_fault f x a fault at) s = absurd (omega (arith, s))
     six (s_answer f tr a trace written truth ended at) s = absurd (omega (arith, s, truth_status f tr _ truth))
-    six (s_unread f a ended failed sound) s = absurd (omega (arith, s))
     six (s_unwritten f tr rest a trace written some failed ended at) s = failed
-    six (s_no_memory f a) s = absurd (omega (arith, s))
+    six _ s = absurd (omega (arith, s))
 
     all_read : {status : ℕ} {line : List ℕ} → See bytes text status line → (status ≤ 1) ⊎ (status ≡ 6) → (i.ended ≡ true) × IsAtEnd i.after
     all_read (s_none h) s = absurd (not_answer 2 (omega arith) (λ k. omega (arith, k)) s)
@@ -340,10 +309,6 @@ module _ (words : List (List ℕ)) {own : List ℕ} (ask : AskCheck words own) (
 
     answered_rightly : {status : ℕ} {line : List ℕ} → Consumes i.before i.after bytes → Appends o.before o.after text → See bytes text status line
         → old.IsAnsweredRightly words i.before i.after o.before o.after status
-    answered_rightly moved grew (s_none h) s g bs t ask took got = absurd (omega (arith, s))
-    answered_rightly moved grew (s_bad b) s g bs t ask took got = absurd (omega (arith, s))
-    answered_rightly moved grew (s_early h) s g bs t ask took got = absurd (omega (arith, s))
-    answered_rightly moved grew (s_fault f x a fault at) s g bs t ask took got = absurd (omega (arith, s))
     answered_rightly moved grew (s_answer {status = status} f tr a trace written truth ended at) s g bs t ask took got =
         subst (λ (k : Formula). IsChecked k bs t status) (ask_once a ask) (record {
           tr = tr;
@@ -351,18 +316,11 @@ module _ (words : List (List ℕ)) {own : List ℕ} (ask : AskCheck words own) (
           written = subst (λ x. Out check f tr x) (got_is got grew) written;
           truth = truth;
         })
-    answered_rightly moved grew (s_unread f a ended failed sound) s g bs t ask took got = absurd (omega (arith, s))
-    answered_rightly moved grew (s_unwritten f tr rest a trace written some failed ended at) s g bs t ask took got = absurd (omega (arith, s))
-    answered_rightly moved grew (s_no_memory f a) s g bs t ask took got = absurd (omega (arith, s))
+    answered_rightly moved grew _ s g bs t ask took got = absurd (omega (arith, s))
 
     cut_off_rightly : {status : ℕ} {line : List ℕ} → Consumes i.before i.after bytes → Appends o.before o.after text → See bytes text status line
         → old.IsCutOffRightly words i.before i.after o.before o.after status
-    cut_off_rightly moved grew (s_none h) s g bs t ask took got = absurd (omega (arith, s))
-    cut_off_rightly moved grew (s_bad b) s g bs t ask took got = absurd (omega (arith, s))
-    cut_off_rightly moved grew (s_early h) s g bs t ask took got = absurd (omega (arith, s))
-    cut_off_rightly moved grew (s_fault f x a fault at) s g bs t ask took got = absurd (omega (arith, s))
     cut_off_rightly moved grew (s_answer f tr a trace written truth ended at) s g bs t ask took got = absurd (omega (arith, s, truth_status f tr _ truth))
-    cut_off_rightly moved grew (s_unread f a ended failed sound) s g bs t ask took got = absurd (omega (arith, s))
     cut_off_rightly moved grew (s_unwritten f tr rest a trace written some failed ended at) s g bs t ask took got =
         subst (λ (k : Formula). IsCutOff k bs t) (ask_once a ask) (record {
           tr = tr;
@@ -371,7 +329,7 @@ module _ (words : List (List ℕ)) {own : List ℕ} (ask : AskCheck words own) (
           missing = some;
           written = subst (λ x. Out check f tr (x ++ rest)) (got_is got grew) written;
         })
-    cut_off_rightly moved grew (s_no_memory f a) s g bs t ask took got = absurd (omega (arith, s))
+    cut_off_rightly moved grew _ s g bs t ask took got = absurd (omega (arith, s))
 
     line_of : {status : ℕ} {line : List ℕ} → Consumes i.before i.after bytes → See bytes text status line → IsErrLine words i.before i.after i.ended status line
     line_of moved (s_none h) = old.no_form
@@ -446,10 +404,7 @@ module _ (words : List (List ℕ)) {own : List ℕ} (ask : AskCheck words own) (
 -- words of a command that holds the whole trace ask for no stream
 held_word : (c : Command) (text : List ℕ) → is_held (on_formula (word_of c) text) ≡ true
 held_word check text = refl
-held_word robust text = refl
-held_word explain text = refl
-held_word json text = refl
-held_word table text = refl
+held_word _ text = refl
 
 -- the words of a command are few and short enough to be held
 pub all_held : (words : List (List ℕ)) (c : Command) (f : Formula) → Asks words (whole c f) → AreHeld words

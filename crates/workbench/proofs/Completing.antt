@@ -39,11 +39,9 @@ truth_status f tr status (inr h) = let a = h.0 in omega (arith, a)
 
 -- the status of an answer is the command's own
 verdict_own : (c : Command) (f : Formula) (tr : Trace) (status : ℕ) → IsVerdict c f tr status → (status ≤ 1) × IsOwnStatus (whole c f) status
-verdict_own check f tr status v = let h = truth_status f tr status v in (h, inl h)
 verdict_own robust f tr status v = let e = v in (omega (arith, e), inl v)
-verdict_own explain f tr status v = let h = truth_status f tr status v in (h, inl h)
-verdict_own json f tr status v = let h = truth_status f tr status v in (h, inl h)
 verdict_own table f tr status v = let e = v in (omega (arith, e), inl v)
+verdict_own _ f tr status v = let h = truth_status f tr status v in (h, inl h)
 
 last_own : (s : Stream) (f : Formula) (tr : Trace) (status : ℕ) → IsLastVerdict s f tr status → (status ≤ 1) × IsOwnStatus (stream s f) status
 last_own verdicts f tr status v = let h = truth_status f tr status v in (h, inl h)
@@ -54,16 +52,12 @@ last_own margins f tr status v = let e = v in (omega (arith, e), inl v)
 starved_own : (request : Request) (bytes : List ℕ) → AreFit request bytes → IsOwnStatus request 7
 starved_own no_form bytes fit = fit
 starved_own (refused line) bytes fit = fit
-starved_own (whole check f) bytes fit = inr refl
 starved_own (whole robust f) bytes fit = inr (inl refl)
 starved_own (whole explain f) bytes fit = inr (inl refl)
 starved_own (whole json f) bytes fit = inr (inl refl)
 starved_own (whole table f) bytes fit = inr (inl refl)
-starved_own (stream verdicts f) bytes fit = inr refl
-starved_own (stream early f) bytes fit = inr refl
 starved_own (stream margins f) bytes fit = inr (inl refl)
-starved_own (sessions f) bytes fit = inr refl
-starved_own (generated number rows) bytes fit = inr refl
+starved_own _ bytes fit = inr refl
 
 -- what is too wide, or has too many cells, is so for commands that may say it
 wide_own : (request : Request) (bytes text : List ℕ) (ended : Bool) (i den : ℕ) → IsWide request bytes ended i den text → IsOwnStatus request 8
@@ -111,12 +105,10 @@ no_line_fault read left true x at sound fault =
 
 fit_has_none : (request : Request) (read left line : List ℕ) (ended : Bool) → (ended ≡ true → left ≡ [])
     → AreFit request (read ++ left) → HasFault request read ended line → ⊥
-fit_has_none no_form read left line ended at fit h = h
-fit_has_none (refused l) read left line ended at fit h = h
 fit_has_none (whole c f) read left line ended at fit (x, fault, e) = no_fault whole_limits f read left ended x at fit fault
 fit_has_none (stream s f) read left line ended at fit (x, fault, e) = no_fault (limits_of s) f read left ended x at fit fault
 fit_has_none (sessions f) read left line ended at fit (x, fault, e) = no_line_fault read left ended x at fit fault
-fit_has_none (generated number rows) read left line ended at fit h = h
+fit_has_none _ read left line ended at fit h = h
 
 -- an answer is to all bytes
 answer_own : (request : Request) (read left text : List ℕ) (ended : Bool) (status : ℕ) → (status ≢ 7 → ended ≡ true → left ≡ []) → AreFit request (read ++ left)
@@ -145,14 +137,10 @@ answer_own (generated number rows) read left text ended status at fit (zero_is, 
 
 full_own : (request : Request) (read left : List ℕ) (ended : Bool) (count : ℕ) → (ended ≡ true → left ≡ []) → IsOverfull request read ended count
     → IsOverfull request (read ++ left) true count
-full_own no_form read left ended count at h = absurd h
-full_own (refused line) read left ended count at h = absurd h
 full_own (whole c f) read left ended count at (is_end, is) =
     let all : read ≡ read ++ left = sym (append-nil read) ∙ ap (λ l. read ++ l) (sym (at is_end)) in
     (refl, subst (λ b. (tr : Trace) × IsWhole whole_limits f b tr × HasTooMany c f tr count) all is)
-full_own (stream s f) read left ended count at h = absurd h
-full_own (sessions f) read left ended count at h = absurd h
-full_own (generated number rows) read left ended count at h = absurd h
+full_own _ read left ended count at h = absurd h
 
 -- a status of the command's own, and what came of all bytes
 abbrev Own : Request → List ℕ → List ℕ → ℕ → Type 0

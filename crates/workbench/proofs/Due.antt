@@ -5,7 +5,7 @@ use Rattle.rational.proofs.Lists.{append_some}
 use Rattle.io_edge.specs.Calls.{Drained, Filled, HasFailed, HasRefused}
 use Rattle.stl_syntax.specs.Trace.{Trace}
 use Rattle.stl_syntax.specs.Formula.{Formula}
-use Rattle.report.specs.Report.{Command, check, robust, explain, json, table}
+use Rattle.report.specs.Report.{Command, robust, table}
 use Rattle.workbench.specs.Requests.{Request, no_form, refused, whole, stream, sessions, generated, Stream, verdicts, early, margins, has_input}
 use Rattle.workbench.specs.Owed.{OwesAtEnd, not_yet, faulty as faulty_at_end, too_many, at_end}
 use Rattle.workbench.specs.Ended.{IsVerdict, IsLastVerdict, IsAnswered, HasFault, none, bad, faulty, answered, wide, overfull}
@@ -50,11 +50,9 @@ fault_due c f i o bytes text line said _ (unwritten rest some failed begun timel
 fault_due c f i o bytes text line said _ (no_memory known begun timely) h = inr refl
 
 small_verdict : (c : Command) (f : Formula) (tr : Trace) (status : ℕ) → IsVerdict c f tr status → status ≤ 1
-small_verdict check f tr status h = truth_status f tr status h
 small_verdict robust f tr status h = omega (arith, h)
-small_verdict explain f tr status h = truth_status f tr status h
-small_verdict json f tr status h = truth_status f tr status h
 small_verdict table f tr status h = omega (arith, h)
+small_verdict _ f tr status h = truth_status f tr status h
 
 small_last : (s : Stream) (f : Formula) (tr : Trace) (status : ℕ) → IsLastVerdict s f tr status → status ≤ 1
 small_last verdicts f tr status h = truth_status f tr status h
@@ -78,8 +76,6 @@ answer_due request i o bytes text line status (by_itself none) has clean calm qu
 answer_due request i o bytes text line status (by_itself bad) has clean calm quiet = absurd (false≢true has)
 answer_due request i o bytes text line status (by_itself (faulty fault prompt owed)) has clean calm quiet = absurd (clean line fault)
 answer_due request i o bytes text line status (by_itself (answered is)) has clean calm quiet = inl (small_answer request bytes text i.ended status is)
-answer_due request i o bytes text line status (by_itself (wide n den is)) has clean calm quiet = inr (omega arith)
-answer_due request i o bytes text line status (by_itself (overfull n is)) has clean calm quiet = inr (omega arith)
 answer_due request i o bytes text line status (unread input ended failed sound owed) has clean calm quiet = absurd (calm failed)
 answer_due request i o bytes text line status (unwritten rest some failed begun timely) has clean calm quiet = absurd (quiet failed)
-answer_due request i o bytes text line status (no_memory known begun timely) has clean calm quiet = inr (omega arith)
+answer_due request i o bytes text line status _ has clean calm quiet = inr (omega arith)

@@ -8,9 +8,7 @@ use Rattle.stl_syntax.specs.Formula.{Formula}
 use Rattle.stl_syntax.specs.Trace.{Row, AreRows}
 use Rattle.stl_grammar.specs.FormulaRefusals.{IsFormulaFault}
 use Rattle.stl_grammar.specs.declared.fault.FormulaFault.{FormulaFault}
-use Rattle.stl_grammar.specs.declared.fault.FormulaFault.TheVariants.{Empty, BadByte, Expected, BadNumber, BoundOrder}
-use Rattle.stl_grammar.specs.declared.fault.FormulaFault.TheVariants.{UnboundedFuture, TooManyTerms, TooLong, TooDeep}
-use Rattle.stl_grammar.specs.declared.fault.FormulaFault.TheVariants.{TooManyNodes, ReachTooLarge, ConstantTooLarge, Memory}
+use Rattle.stl_grammar.specs.declared.fault.FormulaFault.TheVariants.{Memory}
 use Rattle.workbench.specs.ErrTexts.{formula_fault_text}
 use Rattle.workbench.specs.Writing.{IsPartWritten, IsWritten}
 use Rattle.workbench.specs.Wholes.{IsWrittenWith, all_of_it, a_part, IsBadEnd, refused, no_room, status_of_fault, IsEndLine}
@@ -35,19 +33,8 @@ pub written_part : (holds : Bool) (text piece : List ℕ) (held held_after : Opt
 written_part holds text piece held held_after e wrote = a_part (subst (λ t. IsPartWritten held held_after t) e wrote)
 
 memory_or : (r : FormulaFault) → (r ≡ Memory) ⊎ (status_of_fault r ≡ 3)
-memory_or Empty = inr refl
-memory_or (BadByte p) = inr refl
-memory_or (Expected p w) = inr refl
-memory_or (BadNumber p) = inr refl
-memory_or (BoundOrder p) = inr refl
-memory_or (UnboundedFuture p) = inr refl
-memory_or (TooManyTerms p) = inr refl
-memory_or (TooLong n) = inr refl
-memory_or (TooDeep p) = inr refl
-memory_or (TooManyNodes p) = inr refl
-memory_or (ReachTooLarge n) = inr refl
-memory_or (ConstantTooLarge i) = inr refl
 memory_or Memory = inl refl
+memory_or _ = inr refl
 
 out_of_room : (text : List ℕ) (r : FormulaFault) → r ≡ Memory → IsBadEnd text (status_of_fault r) (formula_fault_text r)
 out_of_room text r e = subst (λ (r : FormulaFault). IsBadEnd text (status_of_fault r) (formula_fault_text r)) (sym e) no_room

@@ -4,9 +4,9 @@ use Rattle.io_edge.specs.Causes.{next_count, after_end}
 use Rattle.io_edge.specs.Calls.{Drained, Filled, IsAskedOnce}
 use Rattle.stl_syntax.specs.Formula.{Formula}
 use Rattle.report.specs.Report.{Command}
-use Rattle.workbench.specs.Requests.{Request, no_form, refused, whole, stream, sessions, generated, Asks, has_input}
-use Rattle.workbench.specs.Ended.{none, bad, faulty, answered, wide, overfull, IsAnswered}
-use Rattle.workbench.specs.Running.{IsEnd, by_itself, unread, unwritten, no_memory, HasEnded, asked, unknown, HasSaidItsEnd}
+use Rattle.workbench.specs.Requests.{Request, no_form, refused, whole, generated, Asks, has_input}
+use Rattle.workbench.specs.Ended.{answered, wide, overfull, IsAnswered}
+use Rattle.workbench.specs.Running.{IsEnd, by_itself, unwritten, HasEnded, asked, unknown, HasSaidItsEnd}
 use Rattle.workbench.proofs.Due.{begun_sound}
 use Rattle.workbench.proofs.OneRequest.{one_request}
 
@@ -17,36 +17,24 @@ answer_ended : (request : Request) (bytes text : List ℕ) (ended : Bool) (statu
     → IsAnswered request bytes ended status text → ended ≡ true
 answer_ended no_form bytes text ended status has is = absurd is
 answer_ended (refused line) bytes text ended status has is = absurd is
-answer_ended (whole c f) bytes text ended status has is = is.0
-answer_ended (stream s f) bytes text ended status has is = is.0
-answer_ended (sessions f) bytes text ended status has is = is.0
 answer_ended (generated n rows) bytes text ended status has is = absurd (let k = has in cc)
+answer_ended _ bytes text ended status has is = is.0
 
 -- an answer came after the end
 small_end : (request : Request) (i : Drained) (o : Filled) (bytes text line : List ℕ) (status : ℕ) → has_input request ≡ true
     → status ≤ 1 → IsEnd request i o bytes text status line → i.ended ≡ true
-small_end request i o bytes text line _ has small (by_itself none) = absurd (omega (arith, small))
-small_end request i o bytes text line _ has small (by_itself bad) = absurd (omega (arith, small))
-small_end request i o bytes text line _ has small (by_itself (faulty fault prompt owed)) = absurd (omega (arith, small))
 small_end request i o bytes text line status has small (by_itself (answered is)) = answer_ended request bytes text i.ended status has is
-small_end request i o bytes text line _ has small (by_itself (wide n den is)) = absurd (omega (arith, small))
-small_end request i o bytes text line _ has small (by_itself (overfull n is)) = absurd (omega (arith, small))
-small_end request i o bytes text line _ has small (unread input ended failed sound owed) = absurd (omega (arith, small))
-small_end request i o bytes text line _ has small (unwritten rest some failed begun timely) = absurd (omega (arith, small))
-small_end request i o bytes text line _ has small (no_memory known begun timely) = absurd (omega (arith, small))
+small_end request i o bytes text line _ has small _ = absurd (omega (arith, small))
 
 -- so did 6, 8 and 9 of a command that holds the trace
 whole_end : (c : Command) (f : Formula) (i : Drained) (o : Filled) (bytes text line : List ℕ) (status : ℕ)
     → (status ≡ 6) ⊎ (8 ≤ status) → IsEnd (whole c f) i o bytes text status line → i.ended ≡ true
-whole_end c f i o bytes text line _ late (by_itself (faulty fault prompt owed)) =
-    elim late [ inl e ↦ absurd (omega (arith, e)) | inr e ↦ absurd (omega (arith, e)) ]
 whole_end c f i o bytes text line _ late (by_itself (answered (ended, is))) = ended
 whole_end c f i o bytes text line _ late (by_itself (wide n den (ended, e, is))) = ended
 whole_end c f i o bytes text line _ late (by_itself (overfull n (ended, is))) = ended
-whole_end c f i o bytes text line _ late (unread input ended failed sound owed) =
-    elim late [ inl e ↦ absurd (omega (arith, e)) | inr e ↦ absurd (omega (arith, e)) ]
 whole_end c f i o bytes text line _ late (unwritten rest some failed begun timely) = (begun_sound c f bytes text rest i.ended some begun).0
-whole_end c f i o bytes text line _ late (no_memory known begun timely) = elim late [ inl e ↦ absurd (omega (arith, e)) | inr e ↦ absurd (omega (arith, e)) ]
+whole_end c f i o bytes text line _ late _ =
+    elim late [ inl e ↦ absurd (omega (arith, e)) | inr e ↦ absurd (omega (arith, e)) ]
 
 -- in a run that is answered
 pub answered_once : (words : List (List ℕ)) (request : Request) → Asks words request → has_input request ≡ true

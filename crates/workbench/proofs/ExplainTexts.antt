@@ -16,7 +16,7 @@ use Rattle.stl_syntax.specs.Texts.{newline, bool_text}
 use Rattle.stl_syntax.specs.declared.atom.Atom.{Atom}
 use Rattle.stl_syntax.specs.declared.items.Item.{Item}
 use Rattle.stl_syntax.specs.declared.node.Node.{Node}
-use Rattle.stl_syntax.specs.declared.node.Node.TheVariants.{Const, Atom as Leaf, Not, And, Or, Implies, Until, Eventually, Always, Since, Once, Historically}
+use Rattle.stl_syntax.specs.declared.node.Node.TheVariants.{Atom as Leaf}
 use Rattle.stl_syntax.specs.declared.scale.Scale.{Scale}
 use Rattle.stl_syntax.specs.Print.{IsAtomText}
 use Rattle.stl_syntax.proofs.PrintLaw.{one_printed}
@@ -110,17 +110,7 @@ module _ (nodes : List Node) (tr : Trace) where
       subst (λ zs. AreAllSame zs ys) (sym e) (subst (λ zs. AreAllSame (here ++ later) zs) (sym f)
       (same_both here there later after (items_same i (cells times) (cells others) here there
       (same_cells times others (cuts_are_same nodes tr i times others cuts slits)) on off) (cells_same (suc i) ns later after rest more)))
-  cells_same i (Const b ∷ ns) xs ys a c = cells_same (suc i) ns xs ys a c
-  cells_same i (Not p ∷ ns) xs ys a b = cells_same (suc i) ns xs ys a b
-  cells_same i (And p q ∷ ns) xs ys a b = cells_same (suc i) ns xs ys a b
-  cells_same i (Or p q ∷ ns) xs ys a b = cells_same (suc i) ns xs ys a b
-  cells_same i (Implies p q ∷ ns) xs ys a b = cells_same (suc i) ns xs ys a b
-  cells_same i (Until p q x y ∷ ns) xs ys a b = cells_same (suc i) ns xs ys a b
-  cells_same i (Eventually p x y c d ∷ ns) xs ys a b = cells_same (suc i) ns xs ys a b
-  cells_same i (Always p x y c d ∷ ns) xs ys a b = cells_same (suc i) ns xs ys a b
-  cells_same i (Since p q x y ∷ ns) xs ys a b = cells_same (suc i) ns xs ys a b
-  cells_same i (Once p x y c d ∷ ns) xs ys a b = cells_same (suc i) ns xs ys a b
-  cells_same i (Historically p x y c d ∷ ns) xs ys a b = cells_same (suc i) ns xs ys a b
+  cells_same i (_ ∷ ns) xs ys a b = cells_same (suc i) ns xs ys a b
 
   -- what is certainly false without one cell is so without the same one
   fails_same : (p : Subformula) (xs ys before after : List Item) → AreAllSame xs ys → AreAllSame before after

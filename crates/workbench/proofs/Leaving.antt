@@ -35,7 +35,7 @@ use Rattle.workbench.specs.Watches.{Watched, StandsForAll}
 use Rattle.workbench.specs.Wholes.{IsBadEnd, refused, no_room, status_of, status_of_stop}
 use Rattle.workbench.proofs.StreamSteps.{HasStreamed, streamed_end, streamed_run}
 use Rattle.workbench.specs.declared.fault.Stop.{Stop}
-use Rattle.workbench.specs.declared.fault.Stop.TheVariants.{Fault as Faulty, Input as FaultyLine, Unread, Unwritten, NoMemory, Wide, TooMany}
+use Rattle.workbench.specs.declared.fault.Stop.TheVariants.{Fault as Faulty}
 use Rattle.workbench.specs.declared.kept.Kept.{Kept}
 use Rattle.workbench.specs.declared.kept.Kept.TheVariants.{Watch, Early, Margins}
 
@@ -86,12 +86,7 @@ starved_left {words} {j} i o e old new line ask is same_in same_out said same = 
 -- a reason to stop is no answer
 pub not_answer : (stop : Stop) → (status_of_stop stop ≢ 0) × (status_of_stop stop ≢ 1)
 not_answer (Faulty fault) = (λ e. omega (arith, e), λ e. omega (arith, e))
-not_answer (FaultyLine fault) = (λ e. omega (arith, e), λ e. omega (arith, e))
-not_answer Unread = (λ e. omega (arith, e), λ e. omega (arith, e))
-not_answer Unwritten = (λ e. omega (arith, e), λ e. omega (arith, e))
-not_answer NoMemory = (λ e. omega (arith, e), λ e. omega (arith, e))
-not_answer (Wide i den) = (λ e. omega (arith, e), λ e. omega (arith, e))
-not_answer (TooMany count) = (λ e. omega (arith, e), λ e. omega (arith, e))
+not_answer _ = (λ e. omega (arith, e), λ e. omega (arith, e))
 
 -- what stops for a reason leaves nothing
 pub stopped_left : (words : List (List ℕ)) (request : Request) (bytes : List ℕ) (ending : Result Bool Stop) (kept : Kept)

@@ -23,7 +23,7 @@ use Rattle.workbench.specs.Wholes.{status_of, IsEndLine, EndsSoundly}
 use Rattle.workbench.specs.Keeping.{Holds, IsLeft, asked, HasRun}
 use Rattle.workbench.specs.declared.many.Many.{Many as Sessions}
 use Rattle.workbench.specs.declared.fault.Stop.{Stop}
-use Rattle.workbench.specs.declared.fault.Stop.TheVariants.{Fault as Faulty, Input as FaultyLine, Unread, Unwritten, NoMemory, Wide, TooMany}
+use Rattle.workbench.specs.declared.fault.Stop.TheVariants.{Fault as Faulty, Unwritten, NoMemory}
 use Rattle.workbench.specs.declared.kept.Kept.{Kept}
 use Rattle.workbench.specs.declared.kept.Kept.TheVariants.{Mux}
 use Rattle.workbench.proofs.Beginnings.{begun_before, begun_now}
@@ -164,14 +164,8 @@ module _ (f : Formula) (mid new : Input) (held held_after : Option (List ℕ)) w
 -- ---- the run
 
 many_line : (f : Formula) (ending : Result Bool Stop) (line other : List ℕ) → IsLineOf (sessions f) ending line → IsEndLine f ending other → other ≡ line
-many_line f (Ok holds) line other a b = b ∙ sym a
 many_line f (Err (Faulty fault)) line other a b = absurd a
-many_line f (Err (FaultyLine fault)) line other a b = b ∙ sym a
-many_line f (Err Unread) line other a b = b ∙ sym a
-many_line f (Err Unwritten) line other a b = b ∙ sym a
-many_line f (Err NoMemory) line other a b = b ∙ sym a
-many_line f (Err (Wide i den)) line other a b = b ∙ sym a
-many_line f (Err (TooMany count)) line other a b = b ∙ sym a
+many_line f _ line other a b = b ∙ sym a
 
 -- no fault of a trace ends it
 pub many_soundly : {Done : List ℕ → List ℕ → Type 0} (f g : Formula) (i : Drained) (o : Filled) (ending : Result Bool Stop)
@@ -179,14 +173,8 @@ pub many_soundly : {Done : List ℕ → List ℕ → Type 0} (f g : Formula) (i 
 many_soundly f g i o ending x = by_line ending x.is_line
   where
     by_line : (ending : Result Bool Stop) → IsLineOf (sessions f) ending x.line → EndsSoundly g ending
-    by_line (Ok holds) is_line = tt
     by_line (Err (Faulty fault)) is_line = absurd is_line
-    by_line (Err (FaultyLine fault)) is_line = tt
-    by_line (Err Unread) is_line = tt
-    by_line (Err Unwritten) is_line = tt
-    by_line (Err NoMemory) is_line = tt
-    by_line (Err (Wide i den)) is_line = tt
-    by_line (Err (TooMany count)) is_line = tt
+    by_line _ is_line = tt
 
 -- the sessions are left on an answer, and nothing else
 many_left : (words : List (List ℕ)) (f : Formula) (bytes text : List ℕ) (ending : Result Bool Stop) (m : Muxed) (old new : Kept) → AreFor words word.mux f

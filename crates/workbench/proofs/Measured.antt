@@ -32,7 +32,7 @@ use Rattle.workbench.specs.Answering.{IsFaultIn, IsRootOf, denominator_of, stop_
 use Rattle.workbench.specs.Ended.{TellTruth, IsNeeded}
 use Rattle.workbench.specs.Wholes.{IsAnswerOf, IsUnanswered}
 use Rattle.workbench.specs.declared.fault.Stop.{Stop}
-use Rattle.workbench.specs.declared.fault.Stop.TheVariants.{Fault as Faulty, Input as FaultyLine, Unread, Unwritten, NoMemory, Wide, TooMany}
+use Rattle.workbench.specs.declared.fault.Stop.TheVariants.{Fault as Faulty, Wide}
 
 -- a time of 32 bits is within the limits
 pub tick_within : (t : Rational) (n : ℕ) → t ≈ whole (pos n) → n ≤ 4294967295 → IsWithin (2 ^ 34) t
@@ -86,9 +86,4 @@ module _ (c : Case) (f : Formula) (case : IsCase f c) where
 -- why `table` has no answer
 pub untabulated : (f : Formula) (tr : Trace) (stop : Stop) → IsUnanswered robust f tr stop → IsUnanswered table f tr stop
 untabulated f tr (Faulty fault) is = is
-untabulated f tr (FaultyLine fault) is = is
-untabulated f tr Unread is = is
-untabulated f tr Unwritten is = is
-untabulated f tr NoMemory is = is
-untabulated f tr (Wide i den) is = is
-untabulated f tr (TooMany count) is = is
+untabulated f tr _ is = is

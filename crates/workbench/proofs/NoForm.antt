@@ -25,9 +25,7 @@ by_end : {words : List (List ℕ)} {bytes : List ℕ} (i : Drained) (o : Filled)
     → Asks words r → IsEnd r i o bytes text status line
     → status ≡ 2 → AreNone words
 by_end i o r a (by_itself is) s = by_ends_with i r a is s
-by_end i o r a (unread has ended failed sound owed) s = absurd (omega (arith, s))
-by_end i o r a (unwritten rest some failed begun timely) s = absurd (omega (arith, s))
-by_end i o r a (no_memory known begun timely) s = absurd (omega (arith, s))
+by_end i o r a _ s = absurd (omega (arith, s))
 
 -- 2 comes only where the words are of no form
 pub two_is_none : {words : List (List ℕ)} {bytes : List ℕ} (i : Drained) (o : Filled) {text : List ℕ} {status : ℕ} {line : List ℕ}

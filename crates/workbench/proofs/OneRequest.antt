@@ -29,14 +29,7 @@ command_word text =
 word_back : (j : Verb) → command_word (verb_word j) ≡ Some j
 unfolding command_word
 word_back word.check = refl
-word_back word.watch = refl
-word_back word.robust = refl
-word_back word.explain = refl
-word_back word.json = refl
-word_back word.table = refl
-word_back word.early = refl
-word_back word.mux = refl
-word_back word.rwatch = refl
+word_back _ = refl
 
 one_word : (j k : Verb) → verb_word j ≡ verb_word k → j ≡ k
 one_word j k e = let same : Some j ≡ Some k = sym (word_back j) ∙ ap command_word e ∙ word_back k in cc
@@ -87,14 +80,7 @@ asked_as words (generated n rows) a = as_made n rows a refl
 -- a text is refused with one line
 one_unserved : (j : Verb) (f : Formula) (i k : ℕ) → IsUnserved j f i → IsUnserved j f k → i ≡ k
 one_unserved word.rwatch f i k a b = one_first IsUnstreamed f.nodes i k a b
-one_unserved word.check f i k a b = absurd a
-one_unserved word.watch f i k a b = absurd a
-one_unserved word.robust f i k a b = absurd a
-one_unserved word.explain f i k a b = absurd a
-one_unserved word.json f i k a b = absurd a
-one_unserved word.table f i k a b = absurd a
-one_unserved word.early f i k a b = absurd a
-one_unserved word.mux f i k a b = absurd a
+one_unserved _ f i k a b = absurd a
 
 one_line : (j : Verb) (text line other : List ℕ) → IsRefusal j text line → IsRefusal j text other → line ≡ other
 one_line j text line other (inl (r, fault, e)) (inl (q, fault', e')) = e ∙ ap formula_fault_text (one_refusal text r q fault fault') ∙ sym e'

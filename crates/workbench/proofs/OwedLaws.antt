@@ -22,7 +22,7 @@ use Rattle.workbench.proofs.JsonTexts.{json_once}
 use Rattle.workbench.specs.Requests.{Stream, verdicts, early, margins, stream, sessions}
 use Rattle.workbench.specs.Running.{IsBegun, IsDue}
 use Rattle.trace_stream.specs.CaseReader.{IsWhole}
-use Rattle.workbench.specs.Owed.{OwesRows, OwesLines, HasTooMany, OwesAtEnd, not_yet as not_yet_owed, faulty, too_many, at_end as at_end_owed}
+use Rattle.workbench.specs.Owed.{OwesRows, OwesLines, HasTooMany, OwesAtEnd, faulty, too_many, at_end as at_end_owed}
 use Rattle.workbench.specs.InputFaults.{whole_limits}
 
 -- ---- streams
@@ -114,12 +114,7 @@ table_once f tr x y (ks, a, (records, are, is)) (ls, b, (others, are', is')) =
 
 module _ (c : Command) (f : Formula) (one : (tr : Trace) (x y : List ℕ) → Out c f tr x → Out c f tr y → x ≡ y) where
   whole_owed_once : (bytes : List ℕ) (ended : Bool) (x y : List ℕ) → OwesAtEnd c f bytes ended x → OwesAtEnd c f bytes ended y → x ≡ y
-  whole_owed_once bytes ended x y not_yet_owed not_yet_owed = refl
-  whole_owed_once bytes ended x y (faulty a fault) (faulty b other) = refl
-  whole_owed_once bytes ended x y (faulty a fault) (too_many tr n trace many) = refl
   whole_owed_once bytes ended x y (faulty a fault) (at_end_owed tr trace few out) = absurd (trace.sound a fault)
-  whole_owed_once bytes ended x y (too_many tr n trace many) (faulty b other) = refl
-  whole_owed_once bytes ended x y (too_many tr n trace many) (too_many tr' n' trace' many') = refl
   whole_owed_once bytes ended x y (too_many tr n trace many) (at_end_owed tr' trace' few out) =
       absurd (few n (subst (λ (t : Trace). HasTooMany c f t n) (whole_once f bytes tr tr' trace trace') many))
   whole_owed_once bytes ended x y (at_end_owed tr trace few out) (faulty b other) = absurd (trace.sound b other)
@@ -127,6 +122,7 @@ module _ (c : Command) (f : Formula) (one : (tr : Trace) (x y : List ℕ) → Ou
       absurd (few n (subst (λ (t : Trace). HasTooMany c f t n) (whole_once f bytes tr' tr trace' trace) many))
   whole_owed_once bytes ended x y (at_end_owed tr trace few out) (at_end_owed tr' trace' few' out') =
       one tr' x y (subst (λ (t : Trace). Out c f t x) (whole_once f bytes tr tr' trace trace') out) out'
+  whole_owed_once bytes ended x y _ _ = refl
 
 -- each command that holds the whole trace is owed one text
 pub check_owed_once : (f : Formula) (bytes : List ℕ) (ended : Bool) (x y : List ℕ) → OwesAtEnd check f bytes ended x → OwesAtEnd check f bytes ended y → x ≡ y

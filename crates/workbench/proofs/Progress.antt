@@ -140,8 +140,7 @@ end_from before after ended (Err e) case s k read prompt m = stop_from before af
 -- a refusal is no fault of the source
 pub not_unread : (e : StreamStop) → stop_of e ≡ Unread → ⊥
 not_unread (Faulty fault) same = let k = same in cc
-not_unread NoMemory same = let k = same in cc
-not_unread (Wide i den) same = let k = same in cc
+not_unread _ same = let k = same in cc
 
 -- the end of the bytes is no failed read
 pub end_not_unread : (r : Result (Unit {0}) StreamStop) → outcome_of r ≡ Err Unread → ⊥

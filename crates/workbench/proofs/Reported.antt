@@ -35,7 +35,7 @@ use Rattle.report.proofs.MarginLaw.{knots_describe}
 use Rattle.report.proofs.SignalLaw.{truth_at, signal_describes}
 use Rattle.trace_stream.specs.declared.case.Case.{Case}
 use Rattle.workbench.specs.declared.fault.Stop.{Stop}
-use Rattle.workbench.specs.declared.fault.Stop.TheVariants.{Fault as Faulty, Input as FaultyLine, Unread, Unwritten, NoMemory, Wide, TooMany}
+use Rattle.workbench.specs.declared.fault.Stop.TheVariants.{Wide, TooMany}
 use Rattle.trace_stream.specs.Cases.{IsCase}
 use Rattle.workbench.specs.Answering.{IsRootOf}
 use Rattle.workbench.specs.Owed.{IsUnexplained}
@@ -118,21 +118,12 @@ module _ (f : Formula) (c : Case) (case : IsCase f c) (x : List (Knot TruthPoint
 
 -- why there is no report: no explanation
 pub unreported : (f : Formula) (tr : Trace) (stop : Stop) → IsUnanswered explain f tr stop → IsUnanswered json f tr stop
-unreported f tr (Faulty fault) is = is
-unreported f tr (FaultyLine fault) is = is
-unreported f tr Unread is = is
-unreported f tr Unwritten is = is
-unreported f tr NoMemory is = is
 unreported f tr (Wide i den) is = absurd is.0
-unreported f tr (TooMany count) is = is
+unreported f tr _ is = is
 
 -- or no robustness
 pub unmarked : (f : Formula) (tr : Trace) (stop : Stop) → ((count : ℕ) → ¬ IsUnexplained f tr count)
     → IsUnanswered robust f tr stop → IsUnanswered json f tr stop
-unmarked f tr (Faulty fault) enough is = is
-unmarked f tr (FaultyLine fault) enough is = is
-unmarked f tr Unread enough is = is
-unmarked f tr Unwritten enough is = is
-unmarked f tr NoMemory enough is = is
 unmarked f tr (Wide i den) enough is = (is.0, enough)
 unmarked f tr (TooMany count) enough is = absurd is
+unmarked f tr _ enough is = is

@@ -1,5 +1,5 @@
 -- How a run ends, from how its parts do.
-use Rattle.std.proofs.Common.{◌≡◌, ◌≢◌, ◌⊎◌, inl, inr, ℕ, ◌≤◌, Bool, true, false, List, [], ◌∷◌, refl, sym, ap, subst, arith, append-nil, Result, Ok, Err}
+use Rattle.std.proofs.Common.{◌≡◌, ◌≢◌, ◌⊎◌, inl, inr, ℕ, Bool, true, false, List, [], ◌∷◌, refl, sym, ap, subst, arith, append-nil, Result, Ok, Err}
 use Rattle.std.specs.Prelude.{Option, IsErr}
 use Rattle.std.specs.Io.KnownBytes.{Appends, Consumes, IsAtEnd}
 use Rattle.std.proofs.KnownBytes.{Appends-nil, Consumes-nil}
@@ -7,7 +7,7 @@ use Rattle.std.proofs.lemmas.Bool.{false≢true}
 use Rattle.io_edge.specs.Calls.{Drained, Filled, HasFailed, HasRefused, IsAskedOnce}
 use Rattle.stl_syntax.specs.Formula.{Formula}
 use Rattle.stl_syntax.specs.Trace.{Trace}
-use Rattle.report.specs.Report.{Command, check, robust, explain, json, table, Out}
+use Rattle.report.specs.Report.{Command, check, Out}
 use Rattle.workbench.specs.Answers.{IsCheckAnswer}
 use Rattle.workbench.specs.Commands.{Verb, on_formula, generate, IsForm, of_formula, verb_word}
 use Rattle.workbench.specs.Requests.{no_form, refused as bad_request, whole as of_whole, IsAsked, IsAmong, built_commands}
@@ -80,21 +80,12 @@ none_of_both h k (generate number rows) a = k number rows a
 -- a command that holds the whole trace serves each formula
 pub serves : (c : Command) (f : Formula) (i : ℕ) → ¬ IsUnserved (word_of c) f i
 serves check f i h = h
-serves robust f i h = h
-serves explain f i h = h
-serves json f i h = h
-serves table f i h = h
+serves _ f i h = h
 
 -- ---- parts
 
 timely : (c : Command) (f : Formula) (bytes text : List ℕ) → IsTimely (of_whole c f) bytes text
 timely c f bytes text = ([], text, refl, refl)
-
--- what was to be written was written whole, or the output failed in it
-pub written_ok : {holds : Bool} {text : List ℕ} {held held_after : Option (List ℕ)} {e : Result Bool Stop} → IsWrittenWith holds text held held_after e
-    → ((e ≡ Ok holds) × Appends held held_after text) ⊎ ((e ≡ Err Unwritten) × IsPartWritten held held_after text)
-written_ok (all_of_it w) = inl (refl, w)
-written_ok (a_part w) = inr (refl, w)
 
 -- writing does not end as a failed read
 pub not_unread : {holds : Bool} {text : List ℕ} {held held_after : Option (List ℕ)} {e : Result Bool Stop}
@@ -116,13 +107,10 @@ kept_left before after e = subst (λ a. Consumes before a []) (sym e) (Consumes-
 
 -- a reason for no answer is no failed device
 pub not_stopped : (c : Command) (f : Formula) (tr : Trace) (stop : Stop) → IsUnanswered c f tr stop → (stop ≢ Unread) × (stop ≢ Unwritten)
-not_stopped c f tr (Faulty fault) is = absurd is
-not_stopped c f tr (FaultyLine fault) is = absurd is
-not_stopped c f tr Unread is = absurd is
-not_stopped c f tr Unwritten is = absurd is
 not_stopped c f tr NoMemory is = (λ e. let k = e in cc, λ e. let k = e in cc)
 not_stopped c f tr (Wide i den) is = (λ e. let k = e in cc, λ e. let k = e in cc)
 not_stopped c f tr (TooMany count) is = (λ e. let k = e in cc, λ e. let k = e in cc)
+not_stopped c f tr _ is = absurd is
 
 -- the answer of `check`
 pub check_answer : (f : Formula) (tr : Trace) (holds : Bool) (text : List ℕ) → IsCheckAnswer f tr holds text → IsAnswerOf check f tr holds text
@@ -132,21 +120,9 @@ check_answer f tr false text j = record { verdict = inr (refl, j.truth); written
 -- an ending that stopped at a fault has one
 pub ends_soundly : {c : Command} {f : Formula} {i : Drained} {o : Filled} {e : Result Bool Stop} → IsWholeEnd c f i o e → EndsSoundly f e
 ends_soundly (answered k holds text read a (all_of_it w)) = tt
-ends_soundly (answered k holds text read a (a_part w)) = tt
 ends_soundly (unanswered k (Faulty fault) read is same) = absurd is
-ends_soundly (unanswered k (FaultyLine fault) read is same) = tt
-ends_soundly (unanswered k Unread read is same) = tt
-ends_soundly (unanswered k Unwritten read is same) = tt
-ends_soundly (unanswered k NoMemory read is same) = tt
-ends_soundly (unanswered k (Wide i den) read is same) = tt
-ends_soundly (unanswered k (TooMany count) read is same) = tt
 ends_soundly (stopped (Faulty fault) is same) = (is.0, is.1)
-ends_soundly (stopped (FaultyLine fault) is same) = tt
-ends_soundly (stopped Unread is same) = tt
-ends_soundly (stopped Unwritten is same) = tt
-ends_soundly (stopped NoMemory is same) = tt
-ends_soundly (stopped (Wide i den) is same) = tt
-ends_soundly (stopped (TooMany count) is same) = tt
+ends_soundly _ = tt
 
 -- ---- runs
 
@@ -363,66 +339,9 @@ module _ (words : List (List ℕ)) (c : Command) (f : Formula) (i : Drained) (o 
 
 -- ---- statuses
 
--- the ending of a status
-pub five_is : (e : Result Bool Stop) → status_of e ≡ 5 → e ≡ Err Unread
-five_is (Ok true) s = absurd (omega (arith, s))
-five_is (Ok false) s = absurd (omega (arith, s))
-five_is (Err (Faulty fault)) s = absurd (omega (arith, s))
-five_is (Err (FaultyLine fault)) s = absurd (omega (arith, s))
-five_is (Err Unread) s = refl
-five_is (Err Unwritten) s = absurd (omega (arith, s))
-five_is (Err NoMemory) s = absurd (omega (arith, s))
-five_is (Err (Wide i den)) s = absurd (omega (arith, s))
-five_is (Err (TooMany count)) s = absurd (omega (arith, s))
-
--- status 6 is a failed output
-pub six_is : (e : Result Bool Stop) → status_of e ≡ 6 → e ≡ Err Unwritten
-six_is (Ok true) s = absurd (omega (arith, s))
-six_is (Ok false) s = absurd (omega (arith, s))
-six_is (Err (Faulty fault)) s = absurd (omega (arith, s))
-six_is (Err (FaultyLine fault)) s = absurd (omega (arith, s))
-six_is (Err Unread) s = absurd (omega (arith, s))
-six_is (Err Unwritten) s = refl
-six_is (Err NoMemory) s = absurd (omega (arith, s))
-six_is (Err (Wide i den)) s = absurd (omega (arith, s))
-six_is (Err (TooMany count)) s = absurd (omega (arith, s))
-
--- a status of 2 or more is a failure
-pub large_is : (e : Result Bool Stop) → 2 ≤ status_of e → IsErr e
-large_is (Ok true) s = absurd (omega (arith, s))
-large_is (Ok false) s = absurd (omega (arith, s))
-large_is (Err stop) s = refl
-
--- a status that is not 6 is no failed output
-pub not_six : (e : Result Bool Stop) → status_of e ≢ 6 → e ≢ Err Unwritten
-not_six e other same = other (ap status_of same)
-
--- a status that is not 5 is no failed read
-pub not_five : (e : Result Bool Stop) → status_of e ≢ 5 → e ≢ Err Unread
-not_five e other same = other (ap status_of same)
-
 -- no ending has the status of words or of a formula
 pub not_words : (e : Result Bool Stop) → ¬ ((status_of e ≡ 2) ⊎ (status_of e ≡ 3))
 not_words (Ok true) (inl s) = omega (arith, s)
-not_words (Ok true) (inr s) = omega (arith, s)
-not_words (Ok false) (inl s) = omega (arith, s)
-not_words (Ok false) (inr s) = omega (arith, s)
-not_words (Err (Faulty fault)) (inl s) = omega (arith, s)
-not_words (Err (Faulty fault)) (inr s) = omega (arith, s)
-not_words (Err (FaultyLine fault)) (inl s) = omega (arith, s)
-not_words (Err (FaultyLine fault)) (inr s) = omega (arith, s)
 not_words (Err Unread) (inl s) = omega (arith, s)
-not_words (Err Unread) (inr s) = omega (arith, s)
-not_words (Err Unwritten) (inl s) = omega (arith, s)
-not_words (Err Unwritten) (inr s) = omega (arith, s)
-not_words (Err NoMemory) (inl s) = omega (arith, s)
-not_words (Err NoMemory) (inr s) = omega (arith, s)
-not_words (Err (Wide i den)) (inl s) = omega (arith, s)
-not_words (Err (Wide i den)) (inr s) = omega (arith, s)
-not_words (Err (TooMany count)) (inl s) = omega (arith, s)
-not_words (Err (TooMany count)) (inr s) = omega (arith, s)
-
--- status 3 or 7 is no answer
-pub not_small : (status : ℕ) → (status ≡ 3) ⊎ (status ≡ 7) → ¬ (status ≤ 1)
-not_small status (inl a) e = omega (arith, a, e)
-not_small status (inr a) e = omega (arith, a, e)
+not_words _ (inl s) = omega (arith, s)
+not_words _ (inr s) = omega (arith, s)

@@ -4,7 +4,7 @@ use Rattle.std.proofs.Common.{◌++◌, length, take, drop, take-append-drop, le
 use Rattle.std.proofs.Common.{refl, sym, ap, ◌∙◌, subst, arith, append-nil, Result, Ok, Err}
 use Rattle.std.specs.Prelude.{Option}
 use Rattle.std.specs.Io.KnownBytes.{Appends, Consumes, Keeps, IsAtEnd}
-use Rattle.std.proofs.KnownBytes.{Appends-nil, Appends-trans, Consumes-nil, Consumes-trans, Consumes-kept}
+use Rattle.std.proofs.KnownBytes.{Appends-trans, Consumes-trans, Consumes-kept}
 use Rattle.std.proofs.lemmas.Bool.{false≢true}
 use Rattle.std.proofs.lemmas.List.{take-append-le}
 use Rattle.io_edge.specs.Calls.{Drained, Filled, HasFailed, HasRefused, IsAskedOnce}
@@ -16,7 +16,7 @@ use Rattle.workbench.specs.Ended.{HasFault, IsPrompt, IsAnswered, IsWide, faulty
 use Rattle.workbench.specs.Running.{IsBegun, IsTimely, IsEnd, by_itself, unread, unwritten, no_memory, asked}
 use Rattle.workbench.specs.Saying.{IsSaid}
 use Rattle.workbench.specs.Sessions.{input_fault_text}
-use Rattle.workbench.specs.Wholes.{status_of_truth, status_of, IsEndLine, EndsSoundly}
+use Rattle.workbench.specs.Wholes.{status_of_truth, status_of, IsEndLine}
 use Rattle.workbench.specs.Keeping.{IsLeft, HasRun}
 use Rattle.workbench.specs.declared.kept.Kept.{Kept}
 use Rattle.workbench.specs.Pushing.{IsPushed, IsPushStop, IsPush, IsFinished, IsLineOf, IsStreamEnd}
@@ -38,11 +38,6 @@ pub record Pushing (Stands : List ℕ → List ℕ → Type 0) (q : Request) (be
   pub is : IsPushed Stands q bytes text
   -- each read gave a byte at least
   pub enough : reads ≤ length bytes
-
--- before the first read nothing was taken or written
-pub at_first : (Stands : List ℕ → List ℕ → Type 0) (q : Request) (left held : Option (List ℕ)) → IsPushed Stands q [] []
-    → Pushing Stands q left left held held 0
-at_first Stands q left held p = record { bytes = []; text = []; moved = Consumes-nil left; grew = Appends-nil held; is = p; enough = omega arith }
 
 -- all but the last 4,096 bytes stood before the last piece
 timely_piece : (q : Request) (bytes piece text grown : List ℕ)
@@ -75,14 +70,6 @@ pub record IsRead (before now held : Option (List ℕ)) (i : Drained) (o : Fille
 
 module _ {Stands : List ℕ → List ℕ → Type 0} {q : Request} {before now held held_now : Option (List ℕ)} {reads : ℕ}
     (p : Pushing Stands q before now held held_now reads) where
-  -- the machine stands for some bytes and some text
-  pub has_pushed : (bytes text : List ℕ) × IsPushed Stands q bytes text
-  has_pushed = (p.bytes, p.text, p.is)
-
-  -- no source gives so many pieces
-  pub few_pushes : 18446744073709551615 ≤ reads → ⊥
-  few_pushes r = omega (arith, r, p.enough, p.is.few)
-
   -- with one more piece and its text the stream goes on
   pub go_on : (After : List ℕ → List ℕ → Type 0) (after held_after : Option (List ℕ)) (piece : List ℕ) → Consumes now after piece → 0 < length piece
       → (grown : List ℕ) × Appends held_now held_after grown × IsPushed After q (p.bytes ++ piece) (p.text ++ grown)
@@ -225,14 +212,8 @@ module _ {Stands : List ℕ → List ℕ → Type 0} {q : Request} {before now h
 
 line_is : (s : Stream) (f : Formula) (ending : Result Bool Stop) (line other : List ℕ) → IsLineOf (stream s f) ending line
     → IsEndLine f ending other → other ≡ line
-line_is s f (Ok holds) line other a b = b ∙ sym a
 line_is s f (Err (Faulty fault)) line other (x, is, e) b = b x is ∙ sym e
-line_is s f (Err (FaultyLine fault)) line other a b = b ∙ sym a
-line_is s f (Err Unread) line other a b = b ∙ sym a
-line_is s f (Err Unwritten) line other a b = b ∙ sym a
-line_is s f (Err NoMemory) line other a b = b ∙ sym a
-line_is s f (Err (Wide i den)) line other a b = b ∙ sym a
-line_is s f (Err (TooMany count)) line other a b = b ∙ sym a
+line_is s f _ line other a b = b ∙ sym a
 
 -- a request of the formula f, with input, was pushed to its end, and its line was said
 pub record HasStreamed (request : Formula → Request) (f : Formula) (Done : Formula → List ℕ → List ℕ → Type 0) (i : Drained) (o e : Filled)
@@ -291,18 +272,3 @@ pub streamed_run : {s : Stream} {f : Formula} {Done : Formula → List ℕ → L
 streamed_run {s} {f} {ending = ending} x words old new ask left =
     let y = streamed_end x in
     pushed_run x words old new ask refl (λ own. line_is s f ending y.line x.line y.is_line own) left
-
--- a fault that ends it is one
-pub stream_soundly : {Done : List ℕ → List ℕ → Type 0} (s : Stream) (f : Formula) (i : Drained) (o : Filled)
-    (ending : Result Bool Stop) → IsStreamEnd Done (stream s f) i o ending → EndsSoundly f ending
-stream_soundly s f i o ending x = by_line ending x.is_line
-  where
-    by_line : (ending : Result Bool Stop) → IsLineOf (stream s f) ending x.line → EndsSoundly f ending
-    by_line (Ok holds) is_line = tt
-    by_line (Err (Faulty fault)) (y, is, e) = (y, is)
-    by_line (Err (FaultyLine fault)) is_line = tt
-    by_line (Err Unread) is_line = tt
-    by_line (Err Unwritten) is_line = tt
-    by_line (Err NoMemory) is_line = tt
-    by_line (Err (Wide i den)) is_line = tt
-    by_line (Err (TooMany count)) is_line = tt

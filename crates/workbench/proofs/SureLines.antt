@@ -40,18 +40,6 @@ pub first_stays : (rows : List Row) (r s : Row) → first_time ((rows ++ r ∷ [
 first_stays [] r s = refl
 first_stays (q ∷ rows) r s = refl
 
-first_of : (rows : List Row) (r : Row) → rows ≢ [] → first_time (rows ++ r ∷ []) ≡ first_time rows
-first_of [] r some = absurd (some refl)
-first_of (q ∷ rows) r some = refl
-
-some_row : (rows : List Row) (r : Row) → rows ++ r ∷ [] ≢ []
-some_row [] r e = let k = e in cc
-some_row (q ∷ rows) r e = let k = e in cc
-
-later_row : (width : ℕ) (rows : List Row) (r : Row) (more : List Row) → AreRows width (rows ++ r ∷ more) → rows ≢ [] → last_time 0 rows < r.time
-later_row width [] r more a some = absurd (some refl)
-later_row width (q ∷ rows) r more a some = row_later width q.time rows r more a.1
-
 -- ---- fronts
 
 -- a front does not lie below the start

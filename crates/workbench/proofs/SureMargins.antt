@@ -119,17 +119,13 @@ told_append p tr (v ∷ xs) ys (h, rest) k = (h, told_append p tr xs ys rest k)
 
 begin_moved : (at mid to : Rational) (ys : List Part) → at ≈ mid → AreInTurn mid to ys → AreInTurn at to ys
 begin_moved at mid to [] e h = same_trans e h
-begin_moved at mid to (point t v ∷ ys) e h = absurd h
-begin_moved at mid to (gap a b v w ∷ []) e h = absurd h
-begin_moved at mid to (gap a b v w ∷ (gap c d x y ∷ ys)) e h = absurd h
 begin_moved at mid to (gap a b v w ∷ (point t x ∷ ys)) e h = (same_trans h.0 (same_sym e), h.1, h.2)
+begin_moved at mid to _ e h = absurd h
 
 turn_append : (at mid to : Rational) (xs ys : List Part) → AreInTurn at mid xs → AreInTurn mid to ys → AreInTurn at to (xs ++ ys)
 turn_append at mid to [] ys e h = begin_moved at mid to ys e h
-turn_append at mid to (point t v ∷ xs) ys e h = absurd e
-turn_append at mid to (gap a b v w ∷ []) ys e h = absurd e
-turn_append at mid to (gap a b v w ∷ (gap c d x y ∷ xs)) ys e h = absurd e
 turn_append at mid to (gap a b v w ∷ (point t x ∷ xs)) ys e h = (e.0, e.1, turn_append t mid to xs ys e.2 h)
+turn_append at mid to _ ys e h = absurd e
 
 cover_append : (from mid to : Rational) (xs ys : List Part) → CoverParts from mid xs → AreInTurn mid to ys → CoverParts from to (xs ++ ys)
 cover_append from mid to [] ys e h = absurd e

@@ -7,11 +7,9 @@ use Rattle.workbench.proofs.request.workload_of.Goals as goal
 
 -- a list of three
 three : {A : Type 0} (xs : List A) (a b c : A) → length xs ≡ 3 → a ≡ get_or xs 0 a → b ≡ get_or xs 1 b → c ≡ get_or xs 2 c → xs ≡ a ∷ b ∷ c ∷ []
-three [] a b c n p q r = absurd (omega arith)
-three (x ∷ []) a b c n p q r = absurd (omega arith)
-three (x ∷ y ∷ []) a b c n p q r = absurd (omega arith)
 three (x ∷ y ∷ z ∷ []) a b c n p q r = let e : a ≡ x = p in let f : b ≡ y = q in let g : c ≡ z = r in cc
 three (x ∷ y ∷ z ∷ w ∷ more) a b c n p q r = absurd (omega arith)
+three _ a b c n p q r = absurd (omega arith)
 
 pub returns-else-rows-eq0 : goal.returns-else-rows-eq0
 returns-else-rows-eq0 c =
