@@ -18,6 +18,7 @@ mod SinceLaw
 mod SettledLaw
 mod EdgesLemmas
 mod QueueLemmas
+mod PieceLemmas
 pub mod DroppingLemmas
 pub mod WorkLemmas
 mod SaidLemmas
