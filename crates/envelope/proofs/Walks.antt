@@ -4,7 +4,7 @@ use Rattle.std.specs.Prelude.{IfErr, IfSome, MatchOption}
 use Rattle.std.proofs.lemmas.Option.{same_Some}
 use Rattle.rational.specs.Rational.{IsWithin}
 use Rattle.rational.specs.Time.{Rational, ◌≤ʳ◌, ◌<ʳ◌, ◌≈◌}
-use Rattle.rational.specs.Extended.{Extended, value_at, Passes, ◌≈ᵉ◌}
+use Rattle.rational.specs.Extended.{Extended, value_at, ◌≈ᵉ◌}
 use Rattle.rational.proofs.AffineLemmas.{same_transᵉ}
 use Rattle.rational.specs.Affine.{IsBounded}
 use Rattle.rational.proofs.Order.{le_refl, le_trans, le_of_same, lt_of_lt_of_le}
@@ -26,7 +26,7 @@ use Rattle.envelope.specs.declared.walk.Slope.{Slope}
 use Rattle.envelope.specs.declared.walk.Walk.{Walk}
 use Rattle.envelope.specs.Turns.{HasCome, IsNoBetter, none_of}
 use Rattle.envelope.specs.Best.{Has, IsBestAt}
-use Rattle.envelope.specs.SoFar.{EndsBefore, HasPart, HaveLevels, IsAlone, IsBuilt, IsBuiltShape, IsBuiltTo, IsTold, first_time}
+use Rattle.envelope.specs.SoFar.{EndsBefore, HasPart, HaveLevels, IsAlone, IsBuilt, IsBuiltShape, IsBuiltTo, IsThere, IsTold, first_time}
 use Rattle.envelope.specs.Standing.{Part, Counts, IsOneOf, IsBestOf, IsNone, IsSlope, AreItems, CanGoOn}
 use Rattle.envelope.specs.Standing.{EachFollowed, EachToCome, IsFollowed, IsFalling, IsNewItem, Admits}
 use Rattle.envelope.specs.Standing.{SlopeEndsBy, Stands, piece_of, pieces_with, slope_until}
@@ -295,7 +295,7 @@ module _ {P : Type 0} (shape : ShapeOf P) (laws : ShapeLaws shape) (side : Side)
     (none_still : shape.moves none ≡ false)
     (of_side : course.side ≡ side) (built : course.built ≡ None)
     (before : course.before ≡ record { top = none; low = None; high = None })
-    (point : course.point ≡ none) (after : course.after ≡ record { top = none; low = None; high = None }) where
+    (point : course.point ≡ None) (after : course.after ≡ record { top = none; low = None; high = None }) where
   nothing : Best P
   nothing = record { top = none; low = None; high = None }
 
@@ -363,17 +363,20 @@ module _ {P : Type 0} (shape : ShapeOf P) (laws : ShapeLaws shape) (side : Side)
           (h.bound none (inl refl)))
           (is_none t)
 
+      now_best : (t : Rational) (v : Extended) → IsBestAt shape course.side course.after t v
+          → IsBestAt shape side (record { top = none; low = None; high = None }) t v
+      now_best t v h = subst (λ side. IsBestAt shape side (record { top = none; low = None; high = None }) t v) of_side
+          (subst (λ b. IsBestAt shape course.side b t v) after h)
+
       told : (t : Rational) (v : Extended) → IsTold shape course t v → IsBestOf shape side [] t v
       told t v (inl h) = absurd (subst (λ o. IsBuilt shape course o t v) built h)
-      told t v (inr (inl h)) = best_of t v (same_transᵉ v (value_at (shape.function none) t) (none_of side shape.lowest shape.highest)
-          (subst (λ q. Passes (shape.function q) t v) point h.1) (is_none t))
-      told t v (inr (inr h)) = best_of t v (of_best t v (subst (λ side. IsBestAt shape side (record { top = none; low = None; high = None }) t v) of_side
-          (subst (λ b. IsBestAt shape course.side b t v) after h.1)))
+      told t v (inr (inl h)) = best_of t v (of_best t v (now_best t v (subst (λ o. IsThere shape course o t v) point h.1)))
+      told t v (inr (inr h)) = best_of t v (of_best t v (now_best t v h.1))
 
       by_part : (p : P) → HasPart course p → IsNone shape side p
       by_part p (inl m) = absurd (subst (λ o. IsBuiltShape o p) built m)
       by_part p (inr (inl m)) = subst (λ q. IsNone shape side q) (sym (only_none p (subst (λ b. Has b p) before m))) no_value
-      by_part p (inr (inr (inl m))) = subst (λ q. IsNone shape side q) (sym (m ∙ point)) no_value
+      by_part p (inr (inr (inl m))) = let e : None ≡ Some p = sym point ∙ m in absurd (cc)
       by_part p (inr (inr (inr m))) = subst (λ q. IsNone shape side q) (sym (only_none p (subst (λ b. Has b p) after m))) no_value
 
 -- what follows for each refusal follows for the one that came

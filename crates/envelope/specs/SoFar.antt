@@ -1,10 +1,11 @@
 -- What the signal so far tells, and what a turn changes of it.
-use Rattle.std.specs.Prelude.{◌≡◌, ◌⊎◌, ◌^◌, List, Option, Some, None}
+use Rattle.std.specs.Prelude.{◌≡◌, ◌⊎◌, ◌^◌, List, Option, Some, None, true, false}
 use Rattle.rational.specs.Rational.{IsWithin}
 use Rattle.rational.specs.Time.{Rational, ◌≤ʳ◌, ◌<ʳ◌, ◌≈◌}
-use Rattle.rational.specs.Extended.{Extended, Passes}
+use Rattle.rational.specs.Extended.{Extended, Passes, value_at}
 use Rattle.rational.specs.Affine.{HasBoundedLevel}
 use Rattle.frac128.specs.Value.{value}
+use Rattle.frac128.specs.declared.frac.Frac.{Frac}
 use Rattle.value_laws.specs.Members.{ShapeOf}
 use Rattle.pl_signal.specs.declared.knot.Knot.{Knot}
 use Rattle.pl_signal.specs.declared.faults.WidePair.{WidePair}
@@ -32,7 +33,7 @@ IsBuiltShape (Some built) p = HasShape built p
 
 -- a shape that the signal so far has or may still get
 abbrev pub HasPart : {P : Type 0} → SoFar P → P → Type 0
-HasPart course p = IsBuiltShape course.built p ⊎ Has course.before p ⊎ (p ≡ course.point) ⊎ Has course.after p
+HasPart course p = IsBuiltShape course.built p ⊎ Has course.before p ⊎ (course.point ≡ Some p) ⊎ Has course.after p
 
 module _ {P : Type 0} (shape : ShapeOf P) where
   -- v is what the built part tells at t, and what counts between it and the knot that may still change
@@ -40,10 +41,20 @@ module _ {P : Type 0} (shape : ShapeOf P) where
   IsBuilt course None t v = ⊥
   IsBuilt course (Some built) t v = IsWorth shape built t v ⊎ ((stop built <ʳ t) × (t <ʳ value course.at) × IsBestAt shape course.side course.before t v)
 
-  -- v is what the course tells at t: what is built, then the point of the last knot, and from there on the best of what counts now
+  -- v is what the last knot tells at its time t: its point, or, as long as that is open, the best of what counts from there on
+  abbrev pub IsThere : SoFar P → Option P → Rational → Extended → Type 0
+  IsThere course None t v = IsBestAt shape course.side course.after t v
+  IsThere course (Some point) t v = Passes (shape.function point) t v
+
+  -- v is what the course tells at t: what is built, then what the last knot tells, and from there on the best of what counts now
   abbrev pub IsTold : SoFar P → Rational → Extended → Type 0
-  IsTold course t v = IsBuilt course course.built t v ⊎ ((t ≈ value course.at) × Passes (shape.function course.point)
-      t v) ⊎ ((value course.at <ʳ t) × IsBestAt shape course.side course.after t v)
+  IsTold course t v = IsBuilt course course.built t v ⊎ ((t ≈ value course.at) × IsThere course course.point t v)
+      ⊎ ((value course.at <ʳ t) × IsBestAt shape course.side course.after t v)
+
+  -- the shape is the point of the last knot, or, as long as that is open, the best there of what counts from there on
+  abbrev pub IsPoint : SoFar P → Option P → P → Type 0
+  IsPoint course None p = Has course.after p × IsBestAt shape course.side course.after (value course.at) (value_at (shape.function p) (value course.at))
+  IsPoint course (Some point) p = p ≡ point
 
   -- the built part ends before the knot that may still change
   abbrev pub EndsBefore : Option (List (Knot P)) → Rational → Type 0
@@ -70,8 +81,19 @@ module _ {P : Type 0} (shape : ShapeOf P) where
     pub begins : start built ≡ first_time old old.built
     pub ends : stop built ≡ value old.at
     pub worth : (t : Rational) (v : Extended) → IsWorth shape built t v → IsBuilt old old.built t v
-        ⊎ ((t ≈ value old.at) × Passes (shape.function old.point) t v)
-    pub shapes : (p : P) → HasShape built p → IsBuiltShape old.built p ⊎ Has old.before p ⊎ (p ≡ old.point)
+        ⊎ ((t ≈ value old.at) × IsThere old old.point t v)
+    pub shapes : (p : P) → HasShape built p → HasPart old p
+
+  -- the last knot is taken up, and a new one stands at the time, whose point is open
+  pub record PutsKnot (old : SoFar P) (at : Frac) (new : SoFar P) : Type 0 where
+    pub mid : SoFar P
+    pub taken : TakesUp old mid
+    pub same : new ≡ record old { built = Some taken.built; before = old.after; at = at; point = None }
+
+  -- at a turn just after the last knot its point is settled, and at a turn at its time it is open
+  pub data Settles (old : SoFar P) (turn : Turn) (new : SoFar P) : Type 0 where
+    opened : turn.just_after ≡ false → new ≡ record old { point = None } → Settles old turn new
+    settled : turn.just_after ≡ true → (p : P) → IsPoint old old.point p → new ≡ record old { point = Some p } → Settles old turn new
 
   -- the pair is two of what counts that cross before the last knot
   abbrev pub IsOpenFault : SoFar P → Option (List (Knot P)) → WidePair P → Type 0
@@ -109,6 +131,11 @@ module _ {P : Type 0} (shape : ShapeOf P) where
         ⊎ (HasCome turn t × IsBestAt shape old.side next t v)
     pub parts : (p : P) → HasPart new p → HasPart old p ⊎ Has next p
     pub moves : Moves old new (value turn.at)
+
+  -- whatever best counts from the turn on, the course needs but that
+  pub record Reaches (old : SoFar P) (turn : Turn) (new : SoFar P) : Type 0 where
+    pub same : new.after ≡ old.after
+    pub turns : (next : Best P) → HaveLevels shape next → Turns old turn next (record new { after = next })
 
   -- the whole course is built up to the time, and tells what it told
   pub record Ends (old : SoFar P) (to : Rational) (new : SoFar P) : Type 0 where

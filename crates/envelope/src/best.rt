@@ -5,7 +5,8 @@ ghost use Rattle.rational.specs.Time.{◌<ʳ◌};
 ghost use Rattle.rational.specs.Extended.{value_at};
 ghost use Rattle.rational.specs.Affine.{AreSame, HasBoundedLevel};
 ghost use Rattle.frac128.specs.Value.{value};
-ghost use Rattle.pl_signal.specs.Joining.{IsChosen, TurnsOver};
+ghost use Rattle.std.specs.declared.cmp.Ordering.TheVariants.{Less, Equal};
+ghost use Rattle.pl_signal.specs.Joining.{IsChosen, IsFavour, TurnsOver};
 ghost use Rattle.pl_signal.specs.Knots.{stop};
 ghost use Rattle.envelope.specs.Best.{Has, IsBestAt, IsBestFault, IsWritten};
 ghost use Rattle.envelope.specs.Turns.{IsNoBetter};
@@ -25,16 +26,18 @@ pub struct Best<P> {
 
 impl<P: Shape> Best<P> {
     /// The shape with the best value at `t` of what counts.
-    pub(crate) fn at(&self, side: Side, t: &Frac) -> P
+    #[inline(never)]
+    pub(crate) fn at(&self, side: Side, t: &Frac) -> &P
         requires { IsWithin (2 ^ 34) (value t.now) }
-        ensures one { Has self.now result }
-        ensures value { IsBestAt P.Shape side self.now (value t.now) (value_at (P.function result) (value t.now)) }
+        ensures one { Has self.now result.now }
+        ensures value { IsBestAt P.Shape side self.now (value t.now) (value_at (P.function result.now) (value t.now)) }
     {
         let best = or_better(side, &self.top, &self.low, t);
-        or_better(side, &best, &self.high, t)
+        or_better(side, best, &self.high, t)
     }
 
     /// Whether the constant alone counts, and has this function.
+    #[inline(always)]
     pub(crate) fn is_only(&self, shape: &P) -> bool
         ensures alone { IsTrue result → (self.now.low ≡ None) × (self.now.high ≡ None) }
         ensures same { IsTrue result → AreSame (P.function self.now.top) (P.function shape.now) }
@@ -44,15 +47,18 @@ impl<P: Shape> Best<P> {
 }
 
 /// The better of the two at `t`, or the first where there is no second.
-fn or_better<P: Shape>(side: Side, p: &P, other: &Option<P>, t: &Frac) -> P
+fn or_better<'a, P: Shape>(side: Side, p: &'a P, other: &'a Option<P>, t: &Frac) -> &'a P
     requires { IsWithin (2 ^ 34) (value t.now) }
-    ensures one { (result ≡ p.now) ⊎ (other.now ≡ Some result) }
-    ensures value { MatchOption other.now (result ≡ p.now)
-        (λ q. IsChosen side (value_at (P.function p.now) (value t.now)) (value_at (P.function q) (value t.now)) (value_at (P.function result) (value t.now))) }
+    ensures one { (result.now ≡ p.now) ⊎ (other.now ≡ Some result.now) }
+    ensures value { MatchOption other.now (result.now ≡ p.now)
+        (λ q. IsChosen side (value_at (P.function p.now) (value t.now)) (value_at (P.function q) (value t.now)) (value_at (P.function result.now) (value t.now))) }
 {
     match other {
-        Some(q) => chosen(side, p, q, t),
-        None => *p,
+        Some(q) => match favour(side, p, q, t) {
+            Ordering::Greater => q,
+            _ => p,
+        },
+        None => p,
     }
 }
 
@@ -79,7 +85,7 @@ pub fn write<P: Shape>(
     ensures fault { OnErr result (IfSome fault.new (IsBestFault P.Shape best.now (stop built.old) (value to.now))) }
 {
     match (&best.low, &best.high) {
-        (None, None) => built.step(best.top, *to, point),
+        (None, None) => built.go_along(&best.top, to, &point),
         (Some(low), None) => built.join_kept(side, low, &best.top, to, &point, fault),
         (None, Some(high)) => built.join_kept(side, high, &best.top, to, &point, fault),
         (Some(low), Some(high)) => join_three(side, built, low, high, &best.top, to, &point, fault),
@@ -109,12 +115,42 @@ fn join_three<P: Shape>(
 {
     let from = built.stop();
     match favour(side, p, q, &from) {
+        Ordering::Less => join_ordered(side, built, p, q, r, to, point, fault),
+        Ordering::Equal => join_met(side, built, p, q, r, to, point, fault),
         Ordering::Greater => join_ordered(side, built, q, p, r, to, point, fault),
-        _ => join_ordered(side, built, p, q, r, to, point, fault),
     }
 }
 
-/// The same, where `first` is no worse than `second` at the last time so far.
+/// The same, where the two are equal at the last time so far.
+fn join_met<P: Shape>(
+    side: Side,
+    built: &mut Builder<P>,
+    first: &P,
+    second: &P,
+    r: &P,
+    to: &Frac,
+    point: &P,
+    fault: &mut Option<WidePair<P>>,
+) -> Result<(), Memory>
+    requires order { stop built.old <ʳ value to.now }
+    requires from_within { IsWithin (2 ^ 34) (stop built.old) }
+    requires to_within { IsWithin (2 ^ 34) (value to.now) }
+    requires levels { (x : P) → Has (record { top = r.now; low = Some first.now; high = Some second.now }) x → HasBoundedLevel (2 ^ 31) (P.function x) }
+    requires met { IsFavour side Equal (value_at (P.function first.now) (stop built.old)) (value_at (P.function second.now) (stop built.old)) }
+    requires none { fault.old ≡ None }
+    ensures ok { OnOk result
+        (IsWritten P.Shape side built.old (record { top = r.now; low = Some first.now; high = Some second.now }) to.now point.now built.new) }
+    ensures still { OnOk result (fault.new ≡ None) }
+    ensures fault { OnErr result (IfSome fault.new
+        (IsBestFault P.Shape (record { top = r.now; low = Some first.now; high = Some second.now }) (stop built.old) (value to.now))) }
+{
+    match favour(side, first, second, to) {
+        Ordering::Greater => built.join_kept(side, second, r, to, point, fault),
+        _ => built.join_kept(side, first, r, to, point, fault),
+    }
+}
+
+/// The same, where `first` is the better one at the last time so far.
 fn join_ordered<P: Shape>(
     side: Side,
     built: &mut Builder<P>,
@@ -129,7 +165,7 @@ fn join_ordered<P: Shape>(
     requires from_within { IsWithin (2 ^ 34) (stop built.old) }
     requires to_within { IsWithin (2 ^ 34) (value to.now) }
     requires levels { (x : P) → Has (record { top = r.now; low = Some first.now; high = Some second.now }) x → HasBoundedLevel (2 ^ 31) (P.function x) }
-    requires better { IsNoBetter side (value_at (P.function second.now) (stop built.old)) (value_at (P.function first.now) (stop built.old)) }
+    requires ahead { IsFavour side Less (value_at (P.function first.now) (stop built.old)) (value_at (P.function second.now) (stop built.old)) }
     requires none { fault.old ≡ None }
     ensures ok { OnOk result
         (IsWritten P.Shape side built.old (record { top = r.now; low = Some first.now; high = Some second.now }) to.now point.now built.new) }
@@ -137,12 +173,8 @@ fn join_ordered<P: Shape>(
     ensures fault { OnErr result (IfSome fault.new
         (IsBestFault P.Shape (record { top = r.now; low = Some first.now; high = Some second.now }) (stop built.old) (value to.now))) }
 {
-    let from = built.stop();
     match favour(side, first, second, to) {
-        Ordering::Greater => match favour(side, first, second, &from) {
-            Ordering::Less => join_split(side, built, first, second, r, to, point, fault),
-            _ => built.join_kept(side, second, r, to, point, fault),
-        },
+        Ordering::Greater => join_split(side, built, first, second, r, to, point, fault),
         _ => built.join_kept(side, first, r, to, point, fault),
     }
 }

@@ -15,7 +15,6 @@ ghost use Rattle.envelope.specs.Walking.{IsStoppedBy, IsUnder, LeavesBy, StopsAt
 ghost use Rattle.envelope.specs.declared.turns.Turn.{Turn};
 ghost use Rattle.pl_signal.specs.declared.faults.OpFault.TheVariants as F;
 
-use crate::best::Best;
 use crate::so_far::SoFar;
 use crate::turns::{Turn, is_later, of_none, trend};
 use frac128::{Frac, Memory};
@@ -100,8 +99,8 @@ impl<P: Shape> Walk<P> {
         ensures climbed { OnOk result (Climbed P.Shape from.now until.now gap self.old self.new) }
         ensures fault { OnErr result (StopsAt P.Shape from.now until.now (λ parts. climbed_until gap from.now until.now ∷ parts) self.old self.new) }
     {
-        self.turn_high(from, Some(gap))?;
-        self.turn_high(until, None)
+        self.turn_high(from, &Some(gap))?;
+        self.turn_high(until, &None)
     }
 
     /// Whether the gap gets no worse with time, and the first constant counts until past the turn and is no worse there than the gap.
@@ -186,20 +185,15 @@ impl<P: Shape> Walk<P> {
     }
 
     /// From the turn on the high end moves over the gap, if there is one.
-    fn turn_high(&mut self, turn: &Turn, high: Option<P>) -> Result<(), Memory>
+    fn turn_high(&mut self, turn: &Turn, high: &Option<P>) -> Result<(), Memory>
         requires can { CanTake P.Shape self.old turn.now }
         requires within { IsWithin (2 ^ 34) (value_of turn.now.at) }
-        requires level { HasLevel P.Shape high }
-        ensures ok { OnOk result (TurnsHigh P.Shape turn.now high self.old self.new) }
+        requires level { HasLevel P.Shape high.now }
+        ensures ok { OnOk result (TurnsHigh P.Shape turn.now high.now self.old self.new) }
         ensures fault { OnErr result (IsStoppedBy P.Shape turn.now self.old self.new.course.fault) }
     {
         self.leave(turn)?;
-        let next = Best {
-            top: self.course.after.top,
-            low: self.course.after.low,
-            high,
-        };
-        self.course.turn(turn, &next)
+        self.course.turn_high(turn, high)
     }
 
     /// The piece counts from the turn on.
@@ -239,12 +233,7 @@ impl<P: Shape> Walk<P> {
         if !self.queue.is_empty() {
             return Ok(());
         }
-        let next = Best {
-            top,
-            low: self.course.after.low,
-            high: self.course.after.high,
-        };
-        self.course.turn(from, &next)
+        self.course.turn_top(from, top)
     }
 
     /// Lets go what counts no longer at the turn.
@@ -311,12 +300,7 @@ impl<P: Shape> Walk<P> {
         ensures items { self.new.queue.items ≡ self.old.queue.items }
         ensures fault { OnErr result (IfSome self.new.course.fault (IsSoFarFault P.Shape self.old.course)) }
     {
-        let next = Best {
-            top: self.course.after.top,
-            low: None,
-            high: self.course.after.high,
-        };
-        self.course.turn(&self.low_until, &next)
+        self.course.leave_low(&self.low_until)
     }
 
     /// The first constant, which has left the queue, counts no longer; its slope does from now on, if it has one.
@@ -334,13 +318,14 @@ impl<P: Shape> Walk<P> {
         ensures items { self.new.queue.items ≡ self.old.queue.items }
         ensures fault { OnErr result (IfSome self.new.course.fault (IsSoFarFault P.Shape self.old.course)) }
     {
-        let next = Best {
-            top: self.top(),
-            low: shape_of(&first.slope),
-            high: self.course.after.high,
-        };
-        self.low_until = until_of(&first.slope, self.low_until);
-        self.course.turn(&first.until, &next)
+        let top = self.top();
+        match &first.slope {
+            Some(slope) => {
+                self.low_until = slope.until;
+                self.course.turn_low(&first.until, top, slope.shape)
+            }
+            None => self.course.turn_top(&first.until, top),
+        }
     }
 
     /// The best constant.
@@ -351,26 +336,6 @@ impl<P: Shape> Walk<P> {
             Some(first) => first.value,
             None => of_none(self.course.side),
         }
-    }
-}
-
-/// The shape of the slope, if there is one.
-fn shape_of<P: Shape>(slope: &Option<Slope<P>>) -> Option<P>
-    ensures { result ≡ slope_shape slope.now }
-{
-    match slope {
-        Some(slope) => Some(slope.shape),
-        None => None,
-    }
-}
-
-/// Until when the slope counts, if there is one, and `other` where there is none.
-fn until_of<P: Shape>(slope: &Option<Slope<P>>, other: Turn) -> Turn
-    ensures { result ≡ slope_until slope.now other }
-{
-    match slope {
-        Some(slope) => slope.until,
-        None => other,
     }
 }
 

@@ -238,11 +238,11 @@ fn instant<P: Shape>(s: &Signal<P>, i: usize, way: &Way, walk: &mut Walk<P>) -> 
     ensures comes { OnOk result (ComesTo P.Shape s.now way.now i true (i + 1) false walk.old walk.new) }
     ensures fault { OnErr result (HasRefused P.Shape s.now way.now None walk.new) }
 {
-    // For the proof alone: the number of knots fits.
+    // For the proof alone: the number of knots fits, and where the two stand.
     let _ = s.len();
-    let knot = s.knot(i);
-    let next = s.knot(i + 1);
-    climb(s, i, &knot, &next, way, walk)
+    let _ = s.knot(i);
+    let _ = s.knot(i + 1);
+    climb(s, i, way, walk)
 }
 
 /// A gap that stays as it is counts as a constant, unless it is worthless.
@@ -306,7 +306,7 @@ fn rising<P: Shape>(
     let _ = s.len();
     let knot = s.knot(i);
     let next = s.knot(i + 1);
-    climb(s, i, &knot, &next, way, walk)?;
+    climb(s, i, way, walk)?;
     let from = meets(&way.over, &next.time, false);
     let until = leaves(&way.over, &next.time, false);
     let mut piece = Piece {
@@ -398,25 +398,18 @@ fn low_end(way: &Way, time: &Frac, next: &Frac) -> Frac
 }
 
 /// A gap counts as itself while the high end moves over it, as far as it does so in the domain and is not hidden.
-fn climb<P: Shape>(
-    s: &Signal<P>,
-    i: usize,
-    knot: &Knot<P>,
-    next: &Knot<P>,
-    way: &Way,
-    walk: &mut Walk<P>,
-) -> Result<(), Memory>
-    requires here { slice_get s.now i ≡ Some knot.now }
-    requires next { slice_get s.now (i + 1) ≡ Some next.now }
+fn climb<P: Shape>(s: &Signal<P>, i: usize, way: &Way, walk: &mut Walk<P>) -> Result<(), Memory>
+    requires place { i + 1 < length s.now }
     requires way { IsWay P.Shape s.now way.now }
     requires some { IsNonEmpty way.now.over }
     requires stands { (parts : List (Part P)) × StandsBy P.Shape s.now way.now i true parts walk.old }
     ensures climbed { OnOk result (ClimbsOver P.Shape s.now way.now i walk.old walk.new) }
     ensures fault { OnErr result (HasRefused P.Shape s.now way.now None walk.new) }
 {
-    // For the proof alone: where the two knots stand in the signal.
-    let _ = s;
-    let _ = i;
+    // For the proof alone: the number of knots fits.
+    let _ = s.len();
+    let knot = s.knot(i);
+    let next = s.knot(i + 1);
     let from = meets(&way.over, &knot.time, true);
     let until = meets(&way.over, &next.time, false);
     if lasts(way, &from, &until) {

@@ -6,52 +6,49 @@ use Rattle.rational.specs.Extended.{value_at}
 use Rattle.rational.proofs.Order.{le_refl}
 use Rattle.frac128.specs.Value.{value}
 use Rattle.pl_signal.specs.Knots.{stop}
-use Rattle.pl_signal.specs.Joining.{IsFavour}
-use Rattle.pl_signal.proofs.Choices.{taken_first, taken_second, taken_of_greater}
-use Rattle.pl_signal.proofs.JoiningLemmas.{whole_first, whole_second}
-use Rattle.envelope.proofs.Bests.{three, gap_fault, written_whole, taken_of_no_better}
+use Rattle.pl_signal.proofs.Choices.{taken_first, taken_of_greater, taken_of_less, turned_over}
+use Rattle.pl_signal.proofs.JoiningLemmas.{whole_first}
+use Rattle.envelope.proofs.Bests.{three, gap_fault, no_better_of_taken, written_whole}
 use Rattle.envelope.proofs.best.join_ordered.Goals as goal
 
-pub returns-in_default-favour : goal.returns-in_default-favour
-returns-in_default-favour g c =
+pub join_split-requires : goal.join_split-requires
+join_split-requires g c =
     let f = g.P.Shape.function in
-    let at_from = subst (λ u. IsFavour c.args.side c.favour-in-Greater.result (value_at (f c.args.first.now) u)
-    (value_at (f c.args.second.now) u)) c.stop-from.ensures.value c.favour-in-Greater.ensures in
     record {
-      ok = on_ok_weaker c.join_kept.result
-          (written_whole g.P.Shape c.args.side c.args.first.now c.args.second.now c.args.r.now c.args.second.now
-          c.args.point.now c.args.built.now c.join_kept.new.self c.args.to.now (inr refl)
-          ((whole_second g.P.Shape c.args.side c.args.first.now c.args.second.now (stop c.args.built.now) (value c.args.to.now)
-          (taken_second c.args.side c.favour-in-Greater.result (value_at (f c.args.first.now) (stop c.args.built.now))
-          (value_at (f c.args.second.now) (stop c.args.built.now)) at_from c.in_default-favour.not-Less)
+      order = c.requires.order;
+      from_within = c.requires.from_within;
+      to_within = c.requires.to_within;
+      levels = c.requires.levels;
+      turned = turned_over c.args.side (f c.args.first.now) (f c.args.second.now) (stop c.args.built.now) (value c.args.to.now) c.requires.ahead
+          c.in-Greater.ensures;
+      better = no_better_of_taken c.args.side (value_at (f c.args.second.now) (stop c.args.built.now))
+          (value_at (f c.args.first.now) (stop c.args.built.now))
+          (taken_of_less c.args.side (value_at (f c.args.first.now) (stop c.args.built.now))
+          (value_at (f c.args.second.now) (stop c.args.built.now)) c.requires.ahead);
+      worse = no_better_of_taken c.args.side (value_at (f c.args.first.now) (value c.args.to.now))
+          (value_at (f c.args.second.now) (value c.args.to.now))
           (taken_of_greater c.args.side (value_at (f c.args.first.now) (value c.args.to.now))
-          (value_at (f c.args.second.now) (value c.args.to.now)) c.in-Greater.ensures)).1))
-          c.join_kept.ensures.ok;
-      still = c.join_kept.ensures.still;
-      fault = on_err_weaker c.join_kept.result (λ kept. IfSome_then c.join_kept.new.fault kept
-          (λ pair (from, i, h). gap_fault g.P.Shape (three c.args.first.now c.args.second.now c.args.r.now)
-          c.args.second.now c.args.r.now from c.args.to.now pair
-          (inr (inr refl)) (inl refl) (subst (λ u. u ≤ʳ value from) i (le_refl (value from))) (le_refl (value c.args.to.now)) h))
-          c.join_kept.ensures.wide;
+          (value_at (f c.args.second.now) (value c.args.to.now)) c.in-Greater.ensures);
+      none = c.requires.none;
     }
 
 pub returns-in_default : goal.returns-in_default
 returns-in_default g c =
     let f = g.P.Shape.function in
     record {
-      ok = on_ok_weaker c.join_kept-in_default.result
+      ok = on_ok_weaker c.join_kept.result
           (written_whole g.P.Shape c.args.side c.args.first.now c.args.second.now c.args.r.now c.args.first.now
-          c.args.point.now c.args.built.now c.join_kept-in_default.new.self c.args.to.now (inl refl)
+          c.args.point.now c.args.built.now c.join_kept.new.self c.args.to.now (inl refl)
           ((whole_first g.P.Shape c.args.side c.args.first.now c.args.second.now (stop c.args.built.now) (value c.args.to.now)
-          (taken_of_no_better c.args.side (value_at (f c.args.second.now) (stop c.args.built.now))
-          (value_at (f c.args.first.now) (stop c.args.built.now)) c.requires.better)
+          (taken_of_less c.args.side (value_at (f c.args.first.now) (stop c.args.built.now))
+          (value_at (f c.args.second.now) (stop c.args.built.now)) c.requires.ahead)
           (taken_first c.args.side c.favour.result (value_at (f c.args.first.now) (value c.args.to.now))
           (value_at (f c.args.second.now) (value c.args.to.now)) c.favour.ensures c.in_default.not-Greater)).1))
-          c.join_kept-in_default.ensures.ok;
-      still = c.join_kept-in_default.ensures.still;
-      fault = on_err_weaker c.join_kept-in_default.result (λ kept. IfSome_then c.join_kept-in_default.new.fault kept
+          c.join_kept.ensures.ok;
+      still = c.join_kept.ensures.still;
+      fault = on_err_weaker c.join_kept.result (λ kept. IfSome_then c.join_kept.new.fault kept
           (λ pair (from, i, h). gap_fault g.P.Shape (three c.args.first.now c.args.second.now c.args.r.now)
           c.args.first.now c.args.r.now from c.args.to.now pair
           (inr (inl refl)) (inl refl) (subst (λ u. u ≤ʳ value from) i (le_refl (value from))) (le_refl (value c.args.to.now)) h))
-          c.join_kept-in_default.ensures.wide;
+          c.join_kept.ensures.wide;
     }

@@ -10,9 +10,9 @@ use Rattle.envelope.proofs.Bests.{gap_fault, three_is, written_alone, written_lo
 use Rattle.envelope.proofs.best.write.Goals as goal
 
 pub returns-in-None-None-clause-ok : goal.returns-in-None-None-clause-ok
-returns-in-None-None-clause-ok g c = on_ok_weaker c.step.result (written_alone g.P.Shape c.args.side c.args.best.now
-    c.args.point c.args.built.now c.step.new.self c.args.to.now c.in-None-None.is-0 c.in-None-None.is-1)
-    c.step.ensures.ok
+returns-in-None-None-clause-ok g c = on_ok_weaker c.go_along.result (written_alone g.P.Shape c.args.side c.args.best.now
+    c.args.point c.args.built.now c.go_along.new.self c.args.to.now c.in-None-None.is-0 c.in-None-None.is-1)
+    c.go_along.ensures.ok
 
 pub returns-in-None-Some-clause-ok : goal.returns-in-None-Some-clause-ok
 returns-in-None-Some-clause-ok g c =

@@ -32,8 +32,7 @@ leaves-until-requires g c = record {
 
 pub climb-requires : goal.climb-requires
 climb-requires g c = record {
-  here = c.knot-knot.ensures;
-  next = c.knot-next.ensures;
+  place = c.requires.place;
   way = c.requires.way;
   some = inl c.requires.wide;
   stands = c.requires.stands;
