@@ -1,6 +1,6 @@
 //! Every command over devices of which one call fails, each in turn, that failed before, or that have too little room, and over inputs
 //! that end after each byte.
-use crate::run_tests::{
+use crate::cases::{
     Case, Devices, agrees, agrees_so_far, pieces, sink, source, status_of, strings,
 };
 use io_edge::{MemSink, MemSource, Sink, Source};

@@ -1,5 +1,5 @@
 //! `early` as a whole: tables of answers from outside, for every cut.
-use crate::run_tests::{Case, Devices, agrees_however_cut, agrees_so_far, pieces};
+use crate::cases::{Case, Devices, agrees_however_cut, agrees_so_far, pieces};
 use std::test::Fail;
 
 const TRIANGLE: &str = "time,x\n0,0\n5,5\n10,0\n";

@@ -1,5 +1,5 @@
 //! `gen`: what is written for a number and so many rows, from outside.
-use crate::run_tests::{Case, agrees, agrees_however_cut, pieces};
+use crate::cases::{Case, agrees, agrees_however_cut, pieces};
 use std::test::Fail;
 
 /// A number, how many rows, and the summary.

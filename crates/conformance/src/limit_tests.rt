@@ -1,5 +1,5 @@
 //! Limits of numbers with decimals, each at its number and one past it.
-use crate::run_tests::{Case, agrees, pieces};
+use crate::cases::{Case, agrees, pieces};
 use std::test::Fail;
 
 const YES: &str = "[0,0] true\nstart true\n";

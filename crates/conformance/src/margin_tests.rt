@@ -1,5 +1,5 @@
 //! `robust` as a whole: tables of margins from outside, over sources and sinks in memory.
-use crate::run_tests::{Case, agrees, agrees_however_cut, pieces};
+use crate::cases::{Case, agrees, agrees_however_cut, pieces};
 use std::alloc::{AllocError, Global};
 use std::test::Fail;
 

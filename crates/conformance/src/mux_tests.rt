@@ -1,5 +1,5 @@
 //! `mux` as a whole: tables of answers from outside, for every cut of the input, long lines, many tags, and devices that fail.
-use crate::run_tests::{Case, Devices, agrees, agrees_however_cut, agrees_so_far, pieces};
+use crate::cases::{Case, Devices, agrees, agrees_however_cut, agrees_so_far, pieces};
 use std::alloc::Global;
 use std::test::Fail;
 

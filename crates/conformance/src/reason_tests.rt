@@ -1,6 +1,5 @@
 //! `explain` as a whole: tables of explanations from outside, over sources and sinks in memory.
-use crate::given::waves;
-use crate::run_tests::{Case, agrees, agrees_however_cut, pieces};
+use crate::cases::{Case, agrees, agrees_however_cut, pieces, to_and_fro};
 use std::test::Fail;
 
 const TRIANGLE: &str = "time,x\n0,0\n5,5\n10,0\n";
@@ -100,7 +99,7 @@ fn what_holds_has_no_items(rt: HostRuntime) -> Result<(), Fail> {
 
 /// Formulas over rows that are 0 and 1 in turn, how many rows there are, what is written, what is told and the status. The second
 /// and third have more than 65,536 cells.
-const MANY: [(&str, u32, &str, &str, u8); 3] = [
+const MANY: [(&str, usize, &str, &str, u8); 3] = [
     (
         "always[0,100000] x >= 1",
         32_768,
@@ -122,7 +121,7 @@ const MANY: [(&str, u32, &str, &str, u8); 3] = [
 fn an_explanation_may_have_65536_cells(rt: HostRuntime) -> Result<(), Fail> {
     let alloc = rt.alloc();
     for (formula, rows, out, err, status) in MANY {
-        let text = waves(alloc, rows)?;
+        let text = to_and_fro(alloc, rows)?;
         let words: &[&str] = &["explain", formula];
         let case = Case {
             words,

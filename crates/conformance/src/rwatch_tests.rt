@@ -1,5 +1,5 @@
 //! `rwatch` as a whole: tables of answers from outside, for every cut.
-use crate::run_tests::{Case, Devices, agrees_however_cut, agrees_so_far, pieces};
+use crate::cases::{Case, Devices, agrees_however_cut, agrees_so_far, pieces};
 use std::alloc::Global;
 use std::process::Abort;
 use std::test::Fail;

@@ -1,6 +1,6 @@
 //! Several sessions in one input: a table from outside, refusals in their order, and sessions that come at random against `watch`
 //! of each one's own lines.
-use super::run_tests::{sink, source, status_of, strings};
+use super::cases::{sink, source, status_of, strings};
 use io_edge::MemSink;
 use session_mux::{Mux, MuxFault};
 use std::alloc::Global;

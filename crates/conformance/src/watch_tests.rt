@@ -1,5 +1,5 @@
 //! `watch` as a whole: tables of answers from outside, for every cut, and `Watch` call by call.
-use crate::run_tests::{Case, Devices, agrees, agrees_however_cut, pieces, sink};
+use crate::cases::{Case, Devices, agrees, agrees_however_cut, pieces, sink};
 use io_edge::{MemSink, Sink};
 use std::alloc::{AllocError, Global};
 use std::process::Abort;

@@ -1,4 +1,0 @@
-use Rattle.conformance_calls.proofs.window_extrema_tests.a_range_that_moves_on_has_its_greatest.Given as goal
-
-abbrev pub ghosts-asked : goal.ghosts-asked
-ghosts-asked g a = record { name = a.blank.name; parts = a.blank.parts }

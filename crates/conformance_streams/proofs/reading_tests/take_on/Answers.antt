@@ -1,0 +1,10 @@
+use Rattle.std.proofs.Common.{◌++◌}
+use Rattle.conformance_streams.proofs.reading_tests.take_on.Goals as goal
+
+pub returns-in-Ok : goal.returns-in-Ok
+returns-in-Ok c = record {
+  formula = c.requires.formula;
+  bytes = c.requires.bytes ++ c.args.piece.now;
+  written = c.requires.written;
+  is = c.in-Ok.ensures c.requires.formula c.requires.bytes c.requires.written c.requires.is;
+}

@@ -1,0 +1,16 @@
+//! Tests of bytes and texts: sources and sinks, formulas that are made, printed and read, recordings and their refusals, the lines of
+//! reports, and generated recordings, used from outside through their contracts alone.
+#![tactic(auto)]
+
+#[cfg(test)]
+mod io_edge_tests;
+#[cfg(test)]
+mod report_tests;
+#[cfg(test)]
+mod stl_grammar_tests;
+#[cfg(test)]
+mod stl_syntax_tests;
+#[cfg(test)]
+mod trace_reader_tests;
+#[cfg(test)]
+mod workload_tests;
