@@ -109,6 +109,20 @@ def mutants(texts, pieces, count, seed):
         yield bytes(text)
 
 
+class Held:
+    """A file in memory, for what reads many files by their path, one after the other."""
+
+    def __init__(self):
+        self.file = os.memfd_create("held")
+        self.path = f"/proc/self/fd/{self.file}"
+
+    def write(self, data):
+        """The path of the file, which now holds these bytes alone."""
+        os.ftruncate(self.file, 0)
+        os.pwrite(self.file, data, 0)
+        return self.path
+
+
 class Run:
     """What a run wrote and how it ended."""
 

@@ -321,13 +321,12 @@ def test_mutated_files(bench):
     good = (frame.ROOT / "recordings" / "bench.requirements").read_bytes()
     texts = [good, STOPS.encode(), b"[a*]\na: x >= 1\n  and y\n[b/[a-z]?]\nalways a: true # b\n"]
     pieces = [b"[", b"]", b"\n", b"\r\n", b"\n ", b"always ", b": ", b":", b"#", b"\0", b"\xff", "\u2028\u00a0".encode(), b"*", b"[!]", b"[z-a]", b"\n[", b"]\n"]
-    read = refused = 0
+    read, refused, held = 0, 0, frame.Held()
     for text in frame.mutants(texts, pieces, 10_000, 7):
-        bench.write("mutant", text)
         try:
-            found = requirements.read("mutant")
+            found = requirements.read(held.write(text))
         except requirements.Refused as why:
-            frame.holds(str(why).startswith("mutant:") and "\n" not in str(why), f"{text}: {why}")
+            frame.holds(str(why).startswith(held.path + ":") and "\n" not in str(why), f"{text}: {why}")
             refused += 1
             continue
         read += 1
