@@ -87,12 +87,12 @@ def holds(truth, about):
         raise Failed(about)
 
 
-def mutants(texts, pieces, count, seed):
-    """Texts as bytes, each with one to four places cut, doubled, overwritten by a piece or a byte, or exchanged, the same ones for one seed."""
+def mutants(texts, pieces, count, seed, most=4):
+    """Texts as bytes, each with one to `most` places cut, doubled, overwritten by a piece or a byte, or exchanged, the same ones for one seed."""
     dice = random.Random(seed)
     for _ in range(count):
         text = bytearray(dice.choice(texts))
-        for _ in range(dice.randint(1, 4)):
+        for _ in range(dice.randint(1, most)):
             at, end = sorted(dice.randint(0, len(text)) for _ in range(2))
             end = min(end, at + 12)
             way = dice.randrange(5)
