@@ -28,6 +28,11 @@ def judge(bench, requirements, *words, **how):
     return bench.tool("judge", bench.write("some.requirements", requirements), *words, **how)
 
 
+def verdicts(run):
+    """The words of each line of the table."""
+    return [line.split() for line in run.out.splitlines() if " asked: " not in line]
+
+
 def test_verdicts(bench):
     run = judge(bench, "[rlc*]\nsettles: always[0,10] (in >= 0.5 implies eventually[0,1] always[0,5] (out >= 0.98 and out <= 1.02))\n"
                 f"[braking*]\n{STOPS}", "recordings/rlc_damped.csv", "recordings/rlc_ringing.csv", LATE)
@@ -313,6 +318,32 @@ def test_reports_say_the_same_of_the_same(bench):
     mask = os.umask(0)
     os.umask(mask)
     frame.same(os.stat("one.xml").st_mode & 0o777, 0o666 & ~mask, "the mode of the report")
+
+
+def test_an_array_of_slurm(bench):
+    """The tasks of the example judge each recording once, and the greatest of their statuses is that of one run over all."""
+    os.symlink("recordings/bench.requirements", "bench.requirements")
+    os.mkdir("out")
+    recordings = sorted(str(path) for path in pathlib.Path("recordings").glob("*.csv"))
+    bench.write("list", "\n".join(recordings) + "\n")
+    runs = [bench.run("tools/example/judge_array", env={**os.environ, "SLURM_ARRAY_TASK_ID": str(task), "SLURM_ARRAY_TASK_COUNT": "20"}) for task in range(20)]
+    frame.same([run.err for run in runs], [""] * 20)
+    frame.same(max(run.status for run in runs), 1)
+    whole = bench.tool("judge", "bench.requirements", *recordings)
+    frame.same(sorted(line for run in runs for line in verdicts(run)), sorted(verdicts(whole)))
+    frame.same(sorted(suite.get("name") for path in pathlib.Path("out").iterdir() for suite in xml.parse(path).iter("testsuite")), recordings)
+
+
+@frame.needs("parallel")
+def test_a_folder_by_parallel(bench):
+    """The guide's line without its hosts: the same lines in the same order, and the worst status from the log."""
+    os.symlink("recordings/bench.requirements", "bench.requirements")
+    recordings = sorted(str(path) for path in pathlib.Path("recordings").glob("*.csv"))
+    words = ["--jobs", "4", "--max-args", "5", "--joblog", "jobs.log", "--keep-order"]
+    run = bench.run("parallel", *words, "mkdir -p out; tools/judge --part --junit out/{#}.xml bench.requirements {}", ":::", *recordings)
+    frame.same(verdicts(run), verdicts(bench.tool("judge", "bench.requirements", *recordings)))
+    frame.same(bench.run("awk", "NR > 1 && $7 > worst { worst = $7 } END { exit worst }", "jobs.log").status, 1)
+    frame.same(len(os.listdir("out")), 4)
 
 
 def test_mutated_files(bench):
