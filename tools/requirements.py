@@ -21,6 +21,7 @@ import time
 NAME = re.compile(r"(always\s+)?([A-Za-z0-9_.-]+)\s*:\s*(\S.*)\Z", re.DOTALL)
 SPAN = re.compile(r"([\[(])([0-9/]+),([0-9/]+)([\])]) (true|false)")
 LONGEST_ROW = 4096
+LONGEST_FILE = 10_000_000
 
 # A pattern is None where a requirement is for all recordings; a line is the number of the first line in the file.
 Requirement = collections.namedtuple("Requirement", "name always formula pattern line")
@@ -37,11 +38,14 @@ def text_of(path):
     """The text of a file, or of the input where the path is `-`."""
     try:
         with open(0 if path == "-" else path, encoding="utf-8-sig") as file:
-            return file.read()
+            text = file.read(LONGEST_FILE + 1)
     except OSError as why:
         raise Refused(f"{path}: {why.strerror}") from None
     except UnicodeDecodeError:
         raise Refused(f"{path}: is no UTF-8") from None
+    if len(text) > LONGEST_FILE:
+        raise Refused(f"{path}: more than {LONGEST_FILE} characters")
+    return text
 
 
 def wholes(path, text):

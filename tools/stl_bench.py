@@ -1,7 +1,8 @@
 """stl_bench from Python, for notebooks: stl_bench.check("x >= 2.5", {"time": [0, 10], "x": [0, 7]}).spans[1].begin is Fraction(25, 7).
 
-A recording is a text, a path (of pathlib), an open file, a dict of lists or a pandas frame. Of the last two, the columns named in `step`
-keep their value up to the next row, and a float stands for its shortest decimal. A status from 2 to 9 raises the class of its number.
+A recording is a text, the path of a file, an open file, a dict of lists or a pandas frame; a text of one line is a path, since no
+recording has one line. Of the last two, the columns named in `step` keep their value up to the next row, and a float stands for its
+shortest decimal. A status from 2 to 9 raises the class of its number.
 """
 import collections
 import contextlib
@@ -74,11 +75,11 @@ def recording(data, step=()):
 
 def parts(data, step=()):
     """The text of a recording in parts."""
-    if isinstance(data, (str, bytes)):
-        yield data
-    elif isinstance(data, os.PathLike):
+    if isinstance(data, os.PathLike) or isinstance(data, str) and data and "\n" not in data:
         with open(data, "rb") as file:
             yield from parts(file)
+    elif isinstance(data, (str, bytes)):
+        yield data
     elif hasattr(data, "read"):
         while part := data.read(1 << 16):
             yield part

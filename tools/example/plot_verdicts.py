@@ -3,7 +3,6 @@
     PYTHONPATH=tools python3 tools/example/plot_verdicts.py RECORDING COLUMN FORMULA PICTURE
 """
 import csv
-import pathlib
 import sys
 
 import matplotlib
@@ -16,8 +15,8 @@ recording, column, formula, picture = sys.argv[1:]
 with open(recording, newline="") as file:
     head, *rows = [row for row in csv.reader(file) if row]
 at = [field.split(":")[0] for field in head].index(column)
-verdicts = stl_bench.check(formula, pathlib.Path(recording)).spans
-margins = stl_bench.robust(formula, pathlib.Path(recording))
+verdicts = stl_bench.check(formula, recording).spans
+margins = stl_bench.robust(formula, recording)
 
 figure, (signal, band, margin) = plot.subplots(3, sharex=True, height_ratios=[3, 1, 2], figsize=(8, 5), layout="constrained")
 style = "steps-post" if ":step" in head[at] else "default"

@@ -113,6 +113,7 @@ def test_files_that_are_refused(bench):
     for text, line in REFUSED:
         judge(bench, text, LATE).refused(f"judge: {line}", 2)
     judge(bench, REFUSED[-1][0], LATE, "--part").ended(0, None)
+    bench.tool("judge", "/dev/zero", LATE).refused("judge: /dev/zero: more than 10000000 characters", 2)
     bench.tool("judge", "missing", LATE).refused("judge: missing: No such file or directory", 2)
     bench.tool("judge", "recordings", LATE).refused("judge: recordings: Is a directory", 2)
 

@@ -57,7 +57,7 @@ def test_every_way_to_give_a_recording(bench):
     frame.same([str(span.begin) for span in wanted.spans], ["0", "1", "6/5"])
     with open(path, "rb") as in_bytes, open(path, encoding="utf-8") as in_text:
         lists = {"brake": [False, True, True, False], "time": [0, 1.0, "1.3", decimal.Decimal("2.00")], "speed": (30, 30, 0, -0.0)}
-        for data in (path.read_text(), path.read_bytes(), in_bytes, in_text, lists):
+        for data in (str(path), path.read_text(), path.read_bytes(), in_bytes, in_text, lists):
             frame.same(stl_bench.check("brake >= 1 implies speed <= 10", data, step="brake"), wanted, f"the answer for {type(data)}")
     frame.same(stl_bench.recording(lists, ["brake"]), "time:1,brake:step,speed\n0,0,30\n1,1,30\n1.3,1,0\n2,0,-0\n")
     frame.same(stl_bench.recording({"time": [10, 1e6], "x": [1e-6, 1.5e3]}), "time,x:6\n10,0.000001\n1000000,1500\n")
@@ -106,12 +106,13 @@ def test_a_class_for_each_status(bench):
         raise frame.Failed("a program that is not there is no error")
     except FileNotFoundError:
         pass
-    try:
-        stl_bench.PROGRAM = "stl_bench"
-        stl_bench.check("true", pathlib.Path("missing"))
-        raise frame.Failed("a recording that is not there is no error")
-    except FileNotFoundError:
-        pass
+    stl_bench.PROGRAM = "stl_bench"
+    for missing in ("missing", pathlib.Path("missing"), "time,x"):
+        try:
+            stl_bench.check("true", missing)
+            raise frame.Failed("a recording that is not there is no error")
+        except FileNotFoundError as why:
+            frame.same(why.filename, missing)
 
 
 def test_a_refusal_while_the_input_is_still_written(bench):
