@@ -112,7 +112,7 @@ def test_a_class_for_each_status(bench):
             stl_bench.check("true", missing)
             raise frame.Failed("a recording that is not there is no error")
         except FileNotFoundError as why:
-            frame.same(why.filename, missing)
+            frame.same(str(why.filename), str(missing))
 
 
 def test_a_refusal_while_the_input_is_still_written(bench):
