@@ -45,16 +45,25 @@ class Cells(Refused): status = 9
 FAULTS = {fault.status: fault for fault in Refused.__subclasses__()}
 
 
+def exact(place, value):
+    """A value as a decimal."""
+    text = "a number"
+    try:
+        text = str(value)
+        found = EXACT.create_decimal(TRUTHS.get(text, text)).normalize(EXACT)
+        if found.is_finite() and -6 <= found.as_tuple().exponent <= 20:
+            return found
+    except (ArithmeticError, ValueError):  # of a whole number with thousands of digits Python makes no text
+        pass
+    raise Recording(f"{place}: {text[:40]!r} is no number with at most 6 decimals")
+
+
 def decimals(name, values):
     """The values of a column as decimals."""
-    try:
-        texts = (str(value) for value in values)
-        found = [EXACT.create_decimal(TRUTHS.get(text, text)).normalize(EXACT) for text in texts]
-    except (ArithmeticError, TypeError, ValueError):
-        found = [decimal.Decimal("nan")]
-    if not all(value.is_finite() and -6 <= value.as_tuple().exponent <= 20 for value in found):
-        raise Recording(f"column {name}: not all are numbers with at most 6 decimals")
-    return found
+    values = values.to_numpy() if hasattr(values, "to_numpy") else values  # a frame would widen its short floats
+    if not hasattr(values, "__len__"):
+        raise Recording(f"column {name}: {type(values).__name__} is no list of numbers")
+    return [exact(f"{name}[{row}]", value) for row, value in enumerate(values)]
 
 
 def recording(data, step=()):

@@ -65,10 +65,10 @@ def test_every_way_to_give_a_recording(bench):
 
 def test_recordings_that_are_refused(bench):
     Recording = stl_bench.Recording
-    numbers = "column x: not all are numbers with at most 6 decimals"
-    for value in (float("nan"), float("inf"), None, "", "a", 1e-7, 3 * 0.1, 1e30, 10**5000, "1" * 500, decimal.Decimal("0." + "1" + "0" * 50 + "1"), 1j, [1], {}, "1/2", b"1"):
-        refused(Recording, numbers, stl_bench.check, "x >= 0", {"time": [0], "x": [value]})
-    refused(Recording, numbers, stl_bench.check, "x >= 0", {"time": [0], "x": 3})
+    for value in (float("nan"), float("inf"), None, "", "a\nb", 1e-7, 3 * 0.1, 1e30, "1" * 500, decimal.Decimal("0." + "1" + "0" * 50 + "1"), 1j, [1], {}, "1/2", b"1"):
+        refused(Recording, f"x[1]: {str(value)[:40]!r} is no number with at most 6 decimals", stl_bench.check, "x >= 0", {"time": [0, 1], "x": [0, value]})
+    refused(Recording, "x[0]: 'a number' is no number with at most 6 decimals", stl_bench.check, "x >= 0", {"time": [0], "x": [10**5000]})
+    refused(Recording, "column x: int is no list of numbers", stl_bench.check, "x >= 0", {"time": [0], "x": 3})
     for name in ("x,y", "x:step", "x\n0", "", "1x", "x" * 65, "\u00e4", "x ", "x\n"):
         refused(Recording, f"column {name!r}: no name for a column", stl_bench.check, "true", {"time": [0], name: [1]})
     refused(Recording, "column 3: no name for a column", stl_bench.check, "true", {"time": [0], 3: [1]})
@@ -197,10 +197,11 @@ for bad in (frame.assign(time=numpy.arange(4) * 0.1), frame.assign(y=[1, numpy.n
 
 @frame.needs(modules=["numpy", "pandas"])
 def test_frames(bench):
-    number = "not all are numbers with at most 6 decimals"
+    number = "is no number with at most 6 decimals"
     bench.run(frame.python_with("numpy", "pandas"), "-c", PANDAS).ended(0, "\n".join([
-        "time:1,x,on:step,y:1", "0,1,0,0.1", "0.1,2,0,0.2", "0.2,3,1,0.3", "0.3,4,1,0.4", "['0', '1/5']", f"column time: {number}", f"column y: {number}",
-        f"column y: {number}", f"column time: {number}", "column 'y (m)': no name for a column", f"column time: {number}", "there is no column time",
+        "time:1,x,on:step,y:1", "0,1,0,0.1", "0.1,2,0,0.2", "0.2,3,1,0.3", "0.3,4,1,0.4", "['0', '1/5']", f"time[3]: '0.30000000000000004' {number}",
+        f"y[1]: 'nan' {number}", f"y[1]: '<NA>' {number}", f"time[0]: '1970-01-01T00:00:00.000000000' {number}", "column 'y (m)': no name for a column",
+        f"time[0]: '[0. 0.]' {number}", "there is no column time",
         "line 1: no rows", "column 0: no name for a column", ""]))
 
 
