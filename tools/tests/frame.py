@@ -4,6 +4,7 @@ A test is a function `test_..(bench)` of a file test_*.py beside this one. It fa
 says what was seen. It runs in a process and a folder of its own, which is the working directory: in it stand tools/, recordings/ and
 docs/ of this checkout, and stl_bench is in the path. What it starts it ends; what is left over at its end is killed.
 """
+import functools
 import importlib.machinery
 import importlib.util
 import os
@@ -48,6 +49,7 @@ def at_most(seconds):
     return marked
 
 
+@functools.cache
 def python_with(*modules):
     """A Python that has these modules: the one that runs, or the system's; None where neither has them."""
     for python in (sys.executable, "/usr/bin/python3"):

@@ -179,23 +179,28 @@ def test_lines_come_in_order(bench):
     """With four runs beside each other and the first one slow, the lines are in the order of the words."""
     program = bench.script("program", SLOW)
     names = [bench.write(f"{n}.csv", "slow\n" if n == 0 else "quick\n") for n in range(8)]
-    begun = time.monotonic()
     run = judge(bench, "a: true\n", *names, "--jobs", "4", "--no-margins", "--program", program)
     run.ended(0, "".join(f"holds     a  {name}\n" for name in names) + "8 asked: 8 hold, 0 fail, 0 unjudged\n")
-    begun = time.monotonic()
-    run = judge(bench, "a: true\nb: true\nc: true\nd: true\n", "0.csv", "--jobs", "4", "--no-margins", "--program", program)
-    frame.same(run.out.count("holds"), 4, run.out)
-    frame.holds(time.monotonic() - begun < 3.5, "four slow runs of a second took as long as one after the other")
+
+
+def test_runs_go_on_beside_each_other(bench):
+    """Each of four runs waits until all four have begun: so many are enough for `--jobs 4`, and one too many for `--jobs 3`."""
+    wait = "#!/bin/sh\necho begun >> begun\nfor n in $(seq 40); do\n  [ $(wc -l < begun) -lt 4 ] || { echo '[0,0] true'; exit 0; }\n  sleep 0.1\ndone\nexit 9\n"
+    program = bench.script("program", wait)
+    for jobs, status in (("4", 0), ("3", 2)):
+        bench.write("begun", "")
+        run = judge(bench, "a: true\nb: true\nc: true\nd: true\n", LATE, "--jobs", jobs, "--no-margins", "--program", program)
+        frame.same(run.status, status, f"--jobs {jobs}: {run.out}")
 
 
 def test_the_limit_of_time(bench):
     program = bench.script("program", SLOW.replace("sleep 1", "exec sleep 60"))
     bench.write("slow.csv", "slow\n")
     bench.write("quick.csv", "quick\n")
-    run = judge(bench, "a: true\n", "slow.csv", "quick.csv", "--seconds", "0.3", "--program", program, "--junit", "report.xml", seconds=20)
-    run.ended(2, "unjudged  a  slow.csv                 no answer within 0.3 s\nholds     a  quick.csv  true\n2 asked: 1 hold, 0 fail, 1 unjudged\n")
+    run = judge(bench, "a: true\n", "slow.csv", "quick.csv", "--seconds", "2.5", "--program", program, "--junit", "report.xml", seconds=40)
+    run.ended(2, "unjudged  a  slow.csv                 no answer within 2.5 s\nholds     a  quick.csv  true\n2 asked: 1 hold, 0 fail, 1 unjudged\n")
     error = xml.parse("report.xml").find(".//error")
-    frame.same((error.get("type"), error.get("message")), ("no answer", "no answer within 0.3 s"))
+    frame.same((error.get("type"), error.get("message")), ("no answer", "no answer within 2.5 s"))
 
 
 def test_a_program_that_dies(bench):
@@ -207,23 +212,29 @@ def test_a_program_that_dies(bench):
     frame.holds(run.status == 2 and "Exec format error" in run.out and not run.err, run.out + run.err)
 
 
-def test_an_interrupt_leaves_no_report(bench):
-    """Nor one of a run before, nor a part of one, nor a program that goes on."""
+def interrupted(bench, number):
+    """Interrupts judge by a signal while three programs run."""
     program = bench.script("program", "#!/bin/sh\necho $$ >> started\nexec sleep 100\n")
     names = [bench.write(f"recordings_{n}/a.csv", "time,x\n0,0\n") for n in range(6)]
     bench.write("out/report.xml", "an old one")
     bench.write("some.requirements", "a: true\n")
+    started = pathlib.Path(bench.write("started", ""))
     run = bench.start(sys.executable, "tools/judge", "some.requirements", *names, "--jobs", "3", "--program", program, "--junit", "out/report.xml")
-    for _ in range(200):
+    for _ in range(400):
         time.sleep(0.05)
-        started = pathlib.Path("started")
-        if started.exists() and len(started.read_text().split()) == 3:
+        if len(started.read_text().split()) == 3:
             break
-    os.kill(run.pid, signal.SIGINT)
+    os.kill(run.pid, number)
     out, err = run.communicate(timeout=20)
     frame.same((run.returncode, out, err, os.listdir("out")), (130, b"", b"", []), "the status, output, error stream, and what is left")
-    for number in pathlib.Path("started").read_text().split():
-        frame.holds(not os.path.exists(f"/proc/{number}"), f"the program {number} goes on")
+    for child in started.read_text().split():
+        frame.holds(not os.path.exists(f"/proc/{child}"), f"the program {child} goes on")
+
+
+def test_an_interrupt_leaves_no_report(bench):
+    """Nor one of a run before, nor a part of one, nor a program that goes on."""
+    interrupted(bench, signal.SIGINT)
+    interrupted(bench, signal.SIGTERM)
 
 
 def test_outputs_that_fail(bench):

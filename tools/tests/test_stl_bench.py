@@ -157,7 +157,7 @@ def test_a_generator_that_is_left_early(bench):
         frame.same(told.value, True)
         break
     del told
-    for _ in range(100):
+    for _ in range(400):
         if threading.active_count() == 1 and not children():
             return
         time.sleep(0.05)
