@@ -40,8 +40,6 @@ def names_of(text, columns):
 
 def thinned(points, x):
     """Of the points in one column of the picture the first, least, greatest and last."""
-    if len(points) <= 4 * WIDE:
-        return points
     kept, times = [], [time for time, _ in points]
     for begin, end in stretches(times, lambda time: math.floor(x(time)), len(points)):
         values = [value for _, value in points[begin:end]]

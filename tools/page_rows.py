@@ -141,13 +141,25 @@ class Margins:
 
     def __init__(self, recording):
         self.kept = Kept(recording.low, recording.high, recording.most)
-        self.reached = None
+        self.waiting, self.reached = [], None
 
     def take(self, columns):
-        """Takes the next knots. At a knot three numbers meet: what the piece before comes to, its own, and what the piece after begins with."""
-        if self.kept.most is None:
-            self.kept.add(columns, None)
-            return
+        """Takes the next knots. They wait until there are so many that not all are kept."""
+        self.waiting.append(columns)
+        if self.kept.most is not None and self.kept.count + sum(len(part[0]) for part in self.waiting) > EXACT_ROWS:
+            for part in self.waiting:
+                self.thin(part)
+            self.waiting = []
+
+    def end(self):
+        """Keeps what waits: there are no more."""
+        if self.kept.count == 0:
+            self.kept.most = None
+        for part in self.waiting:
+            self.kept.add(part, None)
+
+    def thin(self, columns):
+        """Keeps of some knots. At a knot three numbers meet: what the piece before comes to, its own, and what the piece after begins with."""
         _, own, after, reached = columns
         numbers = [number(text) for text in own]
         before = [self.reached or own[0], *reached[:-1]]
