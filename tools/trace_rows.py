@@ -4,8 +4,8 @@ The scripts from_ngspice, from_sigrok, from_csv, from_vcd, from_can and from_lin
 running bench, nothing is written before the last row was judged, so a refused table leaves no shorter recording behind: what reads
 the empty output says that it has no header.
 
-Each script has a function `convert`, which takes its words and its input as bytes, and gives the rows or refuses them; `run` does
-the rest.
+Each script has a function `words_of`, which reads its words, and a function `convert`, which of these and the input, as bytes, gives
+the rows, or refuses them; `run` does the rest.
 """
 import argparse
 import decimal
@@ -154,10 +154,11 @@ class Rows:
         """The line of the next row, or a refusal of it."""
         if self.count >= MOST_ROWS:
             raise Refused(f"{place}: more than {MOST_ROWS} rows")
-        fields = [self.moment(place, time)]
-        for at, (known, value) in enumerate(zip(self.fields, values)):
-            fields.append(known.get(value) or self.field(at, place, value))
-        line = ",".join(fields)
+        moment = self.moment(place, time)
+        fields = [known.get(value) for known, value in zip(self.fields, values)]
+        if None in fields:
+            fields = [text or self.field(at, place, value) for at, (text, value) in enumerate(zip(fields, values))]
+        line = ",".join([moment, *fields])
         if len(line) > LONGEST_LINE:
             raise Refused(f"{place}: a line of {len(line)} bytes, and {LONGEST_LINE} fit")
         self.count += 1
@@ -266,11 +267,11 @@ def usual_signals():
         signal.signal(signal.SIGINT, signal.SIG_DFL)
 
 
-def run(tool, convert):
+def run(tool, words_of, convert):
     """Runs a script; a refusal is one line, and status 1."""
     usual_signals()
     try:
-        rows = refusing_input(convert, sys.argv[1:], source_of())
+        rows = refusing_input(convert, words_of(sys.argv[1:]), source_of())
         put(rows.text())
         for note in rows.told():
             print(f"{tool}: {note}", file=sys.stderr)
@@ -278,10 +279,10 @@ def run(tool, convert):
         sys.exit(f"{tool}: {one_line(str(why))}")
 
 
-def refusing_input(convert, words, source):
+def refusing_input(convert, chosen, source):
     """What a script makes of its input; one that cannot be read is refused."""
     try:
-        return convert(words, source)
+        return convert(chosen, source)
     except OSError as why:
         raise Refused(f"input: {why.strerror or why}") from None
     except UnicodeError as why:
