@@ -8,6 +8,7 @@ import collections
 import contextlib
 import decimal
 import fractions
+import functools
 import os
 import re
 import subprocess
@@ -136,8 +137,10 @@ def lines(command, formula, given):
         raise failed[0]
 
 
+@functools.lru_cache(maxsize=64)
 def number(text):
-    return float(text) if text.endswith("inf") else fractions.Fraction(text)
+    """A time or a margin; most stand on two lines that follow one another."""
+    return float(text) if text.endswith("inf") else fractions.Fraction(*map(int, text.split("/")))
 
 
 def span(line):

@@ -287,7 +287,7 @@ def test_the_report_is_read_back(bench):
     top = xml.parse(evil_report(bench)).getroot()
     frame.same({name: top.get(name) for name in ("tests", "failures", "errors", "skipped")}, {"tests": "12", "failures": "4", "errors": "6", "skipped": "0"})
     suites = top.findall("testsuite")
-    frame.same([suite.get("name") for suite in suites], ['a <b> & "c" ??[31m\n\x7f ?].csv', "deep.er/b.x.csv", "missing"])
+    frame.same([suite.get("name") for suite in suites], ['a <b> & "c" ??[31m?? ?].csv', "deep.er/b.x.csv", "missing"])
     frame.same([suite.get("failures") + suite.get("errors") for suite in suites], ["21", "21", "04"])
     frame.same([property.get("value") for property in suites[2].iter("property")][0], "unread")
     frame.same(len([property.get("value") for property in suites[1].iter("property")][0]), 64)
@@ -355,7 +355,7 @@ def test_a_folder_by_parallel(bench):
     run = bench.run("parallel", *words, "mkdir -p out; tools/judge --part --junit out/{#}.xml bench.requirements {}", ":::", *recordings)
     frame.same(verdicts(run), verdicts(bench.tool("judge", "bench.requirements", *recordings)))
     frame.same(bench.run("awk", "NR > 1 && $7 > worst { worst = $7 } END { exit worst }", "jobs.log").status, 1)
-    frame.same(len(os.listdir("out")), 4)
+    frame.same(len(os.listdir("out")), -(-len(recordings) // 5))
 
 
 def test_mutated_files(bench):
