@@ -202,6 +202,8 @@ def main():
     parser.add_argument("--only", default="", help="a word that the name of a case must have")
     parser.add_argument("--command", choices=COMMANDS, help="one command alone")
     args = parser.parse_args()
+    if not os.path.isfile(args.program):
+        sys.exit(f"there is no {os.path.normpath(args.program)}: build it first, as README.md says")
     sizes = sorted({int(word) for word in args.sizes.split(",")})
     counted = sizes[len(sizes) // 2] if args.count is None else args.count
     programs = [args.program, args.beside] if args.beside else [args.program]

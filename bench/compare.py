@@ -81,6 +81,8 @@ def main():
     parser.add_argument("--cases", type=int, default=2000)
     parser.add_argument("--seed", type=int, default=1)
     args = parser.parse_args()
+    if not os.path.isfile(args.program):
+        sys.exit(f"there is no {os.path.normpath(args.program)}: build it first, as README.md says")
     dice = random.Random(args.seed)
     commands = [args.command] if args.command else [c for c in COMMANDS if answer(args.program, c, "true", b"time\n0\n")[0] != UNKNOWN]
     judged, wide = dict.fromkeys(commands, 0), 0

@@ -51,6 +51,8 @@ def main():
     parser.add_argument("--runs", type=int, default=3, help="runs of each, of which the fastest counts")
     parser.add_argument("--count", action="store_true", help="count instructions, which valgrind does")
     args = parser.parse_args()
+    if not os.path.isfile(args.program):
+        sys.exit(f"there is no {os.path.normpath(args.program)}: build it first, as README.md says")
     print(f"{'command':8} {'sessions':>8} {'ns/row':>8} {'instr':>8} {'MB':>8} {'x watch':>8} {'x one':>8}")
     with tempfile.TemporaryDirectory() as folder:
         path = os.path.join(folder, "alone.csv")

@@ -168,6 +168,8 @@ def main():
     parser.add_argument("--commands", type=lambda text: text.split(","))
     parser.add_argument("--families", default="", help="a word that the names of the formulas have that are run; without it all are")
     options = parser.parse_args()
+    if not os.path.isfile(options.program):
+        sys.exit(f"there is no {os.path.normpath(options.program)}: build it first, as README.md says")
     options.commands = options.commands or commands(options.program)
     with tempfile.TemporaryDirectory() as folder:
         found = sorted(measure(options, folder), reverse=True)

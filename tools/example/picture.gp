@@ -1,6 +1,7 @@
-# A signal, where a requirement on it holds, and by how much. COLUMN is a field of the header, as out:3.
+# A signal, where a requirement on it holds, and by how much. COLUMN is a field of the header, as out:3 or brake:step; PICTURE is a name
+# that ends with .svg, or a PNG.
 # gnuplot -c picture.gp RECORDING COLUMN VERDICTS MARGIN PICTURE
-set terminal pngcairo size 800,520 font ",11"
+if (strstrt(ARG5, ".svg") > 0) { set terminal svg size 800,520 } else { set terminal pngcairo size 800,520 font ",11" }
 set output ARG5
 set multiplot layout 3,1 margins 0.10,0.97,0.11,0.97 spacing 0.02
 set grid xtics lc rgb "#dddddd"
@@ -9,7 +10,12 @@ unset key
 set format x ""
 set ylabel ARG2
 set datafile separator ","
-plot ARG1 using 1:ARG2 with lines lw 2 lc rgb "#1f5fa8"
+# a step column keeps its value up to the next row, a ramp goes in straight lines
+if (strstrt(ARG2, ":step") > 0) {
+    plot ARG1 using 1:ARG2 with steps lw 2 lc rgb "#1f5fa8"
+} else {
+    plot ARG1 using 1:ARG2 with lines lw 2 lc rgb "#1f5fa8"
+}
 set datafile separator whitespace
 set ylabel "holds"
 set yrange [0:1]
