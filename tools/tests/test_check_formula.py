@@ -104,6 +104,7 @@ def test_words_and_programs_that_are_none(bench):
     for program in ("/bin/false", "/bin/true", bench.script("odd", "#!/bin/sh\necho 'formula at x: odd' >&2\nexit 3\n"), bench.script("dies", "#!/bin/sh\nkill -9 $$\n")):
         bench.tool("check_formula", "--program", program, "x >= 1").one_line([2])
     bench.tool("check_formula", "--program", bench.script("text", "no program"), "x >= 1").one_line([2])
+    bench.tool("check_formula", "--program", bench.script("no_json", "#!/bin/sh\n[ $1 = json ] && echo '[1]' || exit 4\n"), "x >= 1").one_line([2])
     with open("/dev/full", "wb") as full:
         done = bench.start("python3", "tools/check_formula", "--program", bench.program, "x >= 1", stdout=full)
         _, err = done.communicate(timeout=60)
