@@ -5,9 +5,16 @@ import re
 
 import frame
 
+SCRIPT = frame.load("check_formula")
 GUIDE, README = "docs/GUIDE.md", str(frame.ROOT / "README.md")
 SEEDS = ["always[0,100] (brake >= 1 implies speed <= 10)", "not (x >= 1 until[0,5] 2*y - z < 0.5) or once[1,inf] true", "x == 1 && 0.5*y >= 1e-3 -> G[0,1s] z"]
 PIECES = [b"=>", b"&&", b"(", b")", b"[", b"]", b"[0,1]", b" until ", b" and ", b"not ", b"always", b"\xc3\xa9", b"\xff", b"\n", b"1", b".5", b"*", b"-", b"x", b"\xe2\x80\x8b"]
+
+
+def lines_of(bench, formula):
+    """What check_formula writes of a formula, in lines, and whether it is read; called in this process, since many are asked."""
+    lines, is_read = SCRIPT.looked_at(bench.program, formula.encode())
+    return "\n".join(lines).split("\n"), is_read
 
 
 def check(bench, formula, *words):
@@ -41,10 +48,10 @@ def test_guide_says_what_the_program_says(bench):
     frame.holds(len(rows) > 15, f"{len(rows)} rows")
     for (_, written), (says, _), (instead, better) in rows:
         for formula in written:
-            lines = check(bench, meant(formula)).out.split("\n")
-            frame.same((len(lines), lines[2].partition(": ")[2] in says.split("; ")), (5, True), f"{formula}: {lines}")
+            lines, is_read = lines_of(bench, meant(formula))
+            frame.same((is_read, len(lines), lines[2].partition(": ")[2] in says.split("; ")), (False, 4, True), f"{formula}: {lines}")
         for formula in better:
-            check(bench, meant(formula)).one_line([0])
+            frame.same(lines_of(bench, meant(formula))[1], True, formula)
 
 
 def test_pages_say_what_binds_to_what(bench):
@@ -52,7 +59,7 @@ def test_pages_say_what_binds_to_what(bench):
         rows = [(example, reading) for _, _, (_, example), (_, reading) in table(page, "| | Operators | For example | is read as |") if reading]
         frame.same(len(rows), 5, page)
         for (example,), (reading,) in rows:
-            check(bench, example).ended(0, f"{example}\nit is read as {reading}\n")
+            frame.same(lines_of(bench, example), ([example, f"it is read as {reading}"], True))
 
 
 def test_readings(bench):
@@ -118,10 +125,9 @@ def test_the_program_is_found(bench):
 
 def test_every_refusal_has_advice(bench):
     """Mutated formulas: each is read, or refused with a caret under a place of it, the program's line and a line of advice."""
-    script = frame.load("check_formula")
     refused = read = 0
     for formula in frame.mutants([seed.encode() for seed in SEEDS], PIECES, 3000, 1):
-        lines, is_read = script.looked_at(bench.program, formula.replace(b"\0", b""))
+        lines, is_read = SCRIPT.looked_at(bench.program, formula.replace(b"\0", b""))
         picture = lines[0].split("\n")
         if is_read:
             read += 1
