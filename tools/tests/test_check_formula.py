@@ -138,3 +138,28 @@ def test_every_refusal_has_advice(bench):
             frame.same((len(lines), lines[2] is None, len(picture)), (3, False, 2 if has_place else 1), repr(formula))
             frame.holds(not has_place or picture[1].index("^") <= len(picture[0]) + 1, repr(lines))
     frame.holds(refused > 500 and read > 20, f"{refused} refused, {read} read")
+
+
+# Recordings of the guide's table, in its order, each with what the program says of it.
+NAME_1, NAME_2, NUMBER_2 = "line 1: field 1: bad name", "line 1: field 2: bad name", "line 2: field 2: bad number"
+RECORDINGS = [
+    ("\ufefftime,x\n0,1\n", NAME_1), ("time;x\n0;1\n", NAME_1), ("time\tx\n0\t1\n", NAME_1), ('"time","x"\n0,1\n', NAME_1), ("Time,x\n0,1\n", NAME_1),
+    ("0,1\n1,2\n", NAME_1), ("# bench 3\ntime,x\n0,1\n", NAME_1), ("\x1f\x8b\x08", NAME_1),
+    ("time,x (V)\n0,1\n", NAME_2), ("time,motor-speed\n0,1\n", NAME_2),
+    ("time,x:steps\n0,1\n", "line 1: field 2: bad mode"), ("time,x:7\n0,1\n", "line 1: field 2: bad mode"),
+    *[(f"time,x\n0,{value}\n", NUMBER_2) for value in ("0.5", "1e-3", "nan", "True", "")], ("time,x\n2026-03-02,1\n", "line 2: field 1: bad number"),
+    ("time,x\n-1,1\n", "line 2: field 1: out of range"), ("time:3,x\n1772445600.000,1\n", "line 2: field 1: out of range"),
+    ("time,x\n0,16777217\n", "line 2: field 2: out of range"),
+    ("time,x\n0,1,\n", "line 2: 3 fields"), ("time,x\n0,1\n0,2\n", "line 3: time not rising"),
+    ("", "line 0: no header"), ("time,x\n", "line 1: no rows"), ("time,y\n0,1\n", "line 1: unknown column x"),
+]
+
+
+def test_guide_says_what_the_program_says_of_recordings(bench):
+    told = [says for _, (says, _), _ in table(GUIDE, "| In the recording | It says | Do instead |")]
+    kinds = {line.rpartition(": ")[2].split(" column ")[0] for says in told for line in says.split("; ")}
+    seen = set()
+    for recording, line in RECORDINGS:
+        frame.same(bench.run("stl_bench", "check", "x >= 1", given=recording).err, line + "\n", repr(recording))
+        seen.add(line.rpartition(": ")[2].split(" column ")[0])
+    frame.same(seen, kinds, "the messages that were seen and those of the guide")
