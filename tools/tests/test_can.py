@@ -94,12 +94,14 @@ def test_signals_bit_by_bit(bench):
         frame.same(signal.value("here", data), by_bits(data, start, width, little, signed) * module.Decimal("0.5") - 3, f"{line} of {data.hex()}")
 
 
+@frame.at_most(600)
 def test_mutants(bench):
     pieces = [b"\n", b"#", b"##1", b"R", b"(", b")", b" ", b".", b"can1", b"100#", b"9" * 5000, b"\xff", b"\x00", b"\xd9\xa3", b"0", b"_9", b"20000080#00"]
     words = ["--dbc", DBC, "--round", "--from-first", "time:2", "speed:2=Motion.Speed", "gear=Gearbox.Gear"]
     told_of_mutants(bench, "from_can", words, [LOG], pieces)
 
 
+@frame.at_most(600)
 def test_mutated_dbc(bench):
     """A DBC that is mutated gives a recording or one line."""
     pieces = [b"BO_ 1 A: 8 X\n", b" SG_ ", b"|", b"@1+", b"9" * 5000, b"\xff", b"\x00", b"m0 ", b"M ", b"(", b"1e999", b"\xd9\xa3", b"SIG_VALTYPE_ 256 Speed : 1;\n", b"\n"]

@@ -146,11 +146,13 @@ def test_ngspice(bench):
     ])
 
 
+@frame.at_most(600)
 def test_mutants_csv(bench):
     told_of_mutants(bench, "from_csv", ["time:2=t", "speed:2", "brake:step"], [CSV, CSV.replace("\n", "\r\n")], PIECES)
 
 
 @frame.slow
+@frame.at_most(600)
 def test_mutants_csv_by_words(bench):
     for words in (["--iso"], ["--comma", "--delimiter", ";"], ["--round", "--from-first"], ["--skip", "1", "--encoding", "utf-16"]):
         told = [CSV.replace("1.5", "2026-03-02 10:00:00.5")] if words == ["--iso"] else [CSV.replace(",", ";").replace(".", ","), CSV]
@@ -160,10 +162,12 @@ def test_mutants_csv_by_words(bench):
             frame.holds("mutated inputs give a recording" in str(why), why)
 
 
+@frame.at_most(600)
 def test_mutants_sigrok(bench):
     told_of_mutants(bench, "from_sigrok", ["--round", "time:3", "D0:step", "b:step=D1"], [SIGROK], PIECES)
 
 
+@frame.at_most(600)
 def test_mutants_ngspice(bench):
     told_of_mutants(bench, "from_ngspice", ["--round", "time:6", "in:2=v(in)", "out:2=v(out)"], [NGSPICE], PIECES)
 
@@ -184,6 +188,7 @@ def inputs():
         yield name, words, open(data, "rb").read() if data.startswith("recordings/") else data.encode()
 
 
+@frame.at_most(600)
 def test_streams(bench):
     """Outputs that are full or closed, inputs that are closed or no text: a status and at most one line."""
     for name, words, data in inputs():
@@ -198,6 +203,7 @@ def test_streams(bench):
         frame.same((binary.out in ("", f"{binary.out.splitlines()[0] if binary.out else ''}\nrefused\n"), binary.err.startswith(f"{name}: ")), (True, True), binary.err)
 
 
+@frame.at_most(600)
 def test_closed_pipe(bench):
     """A reader that goes away ends a converter without a word."""
     for name, words, data in inputs():
@@ -211,6 +217,7 @@ def test_closed_pipe(bench):
         frame.same((child.wait(60), child.stderr.read()), (-signal.SIGPIPE, b""), name)
 
 
+@frame.at_most(600)
 def test_interrupt(bench):
     """An interrupt while the input is open: no traceback, and nothing that could be read as a whole recording."""
     for name, words, data in inputs():

@@ -100,6 +100,7 @@ def test_what_is_wrong_ends_the_recording(bench):
     frame.same((child.wait(30), child.stdout.read(), child.stderr.read()), (1, b"refused\n", b"from_lines: interrupted\n"))
 
 
+@frame.at_most(600)
 def test_mutants(bench):
     pieces = [b"\n", b"\r", b" ", b"switch", b"volts", b"9" * 40, b"1e999", b"\xff", b"\x00", b".", b"-", b"\xd9\xa3", b"refused"]
     told_of_mutants_of_a_stream(bench, ["--round", "time:1", "switch", "volts:2"], [LOG, LOG + "3 switch 0\n9 volts 3\n"], pieces)

@@ -121,6 +121,7 @@ def test_verilator(bench):
     frame.same(without_heads(open("counter.vcd").read()), without_heads(made("counter_verilator.vcd")))
 
 
+@frame.at_most(600)
 def test_mutants(bench):
     pieces = [b"\n", b" ", b"$end", b"$var wire 1 ! x $end", b"$scope", b"$timescale 1 s $end", b"#", b"#9", b"#\xc2\xb2", b"#" + b"9" * 5000, b"b", b"bz", b"r", b"r9e999",
               b"rnan", b"x", b"!", b"$comment", b"$dumpoff", b"s", b"\xff", b"\x00", b"1" * 50]
