@@ -1,5 +1,5 @@
 """from_csv, from_sigrok and from_ngspice, and what all converters do in a hostile world. from_vcd, from_can and from_lines have files of
-their own. For all tests, Debian's packages: python3-pandas."""
+their own. For all tests, Debian's packages: python3-pandas sigrok-cli."""
 import decimal
 import errno
 import os
@@ -134,6 +134,15 @@ def test_sigrok_refuses(bench):
     frame.same((whole.status, whole.out.split()[-1]), (0, "63,1"))
     bench.tool("from_sigrok", "--samples", "65", "time:3", "D0:step", given=open("recordings/made/demo_logic.csv", "rb").read()).refused(
         "from_sigrok: 64 samples, and --samples asks for 65 (capture to a file first: sigrok-cli .. -o FILE.sr)")
+
+
+@frame.needs("sigrok-cli")
+def test_sigrok_by_a_file(bench):
+    """A capture to a file first has all the samples that were asked for."""
+    bench.run("sigrok-cli", "-d", "demo", "--config", "samplerate=1k", "--samples", "2000", "-C", "D0,D1,D2", "-o", "capture.sr", seconds=300)
+    table = bench.run("sigrok-cli", "-i", "capture.sr", "-O", "csv:label=channel", seconds=300)
+    run = bench.tool("from_sigrok", "--samples", "2000", "--unit", "ms", "time", "D0:step", "D1:step", "D2:step", given=table.out)
+    frame.same((run.status, run.err, run.out.split()[-1].split(",")[0]), (0, "", "1999"))
 
 
 def test_ngspice(bench):

@@ -49,6 +49,7 @@ def test_refuses(bench):
         ("--signed x time clk", whole, "--signed x: there is no such column"),
         ("--unknown x time clk", whole, "--unknown: N: 'x' is no number"),
         ("time done", whole, "done: a variable of the kind event has no value that lasts"),
+        ("time text", HEAD.replace("$var event 1 $ done", "$var string 1 $ text") + BODY, "text: a variable of the kind string has no value that lasts"),
         ("--unit ns time v=dut.level", whole, "line 24: v is unknown at #0 (--unknown N writes N, --from-known begins later)"),
         ("--unit ns time clk=tb.clk", HEAD + "#0\n#3\n1!\n", "line 18: clk has no value at #0 (--unknown N writes N, --from-known begins later)"),
         ("--unit ns --from-known time clk=tb.clk", HEAD + "#0\n1!\n#3\nx!\n#4\n", "line 20: clk is unknown at #3 (--unknown N writes N, --from-known begins later)"),
