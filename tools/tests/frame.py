@@ -175,7 +175,7 @@ class Bench:
         (self.folder / name).chmod(0o755)
         return str(self.folder / name)
 
-    def run(self, *words, given="", seconds=60, **how):
+    def run(self, *words, given="", seconds=120, **how):
         """One run with this input. It is killed, and the test fails, where it takes longer than these seconds."""
         words = [str(word) for word in words]
         data = given if isinstance(given, bytes) else given.encode()
