@@ -15,7 +15,7 @@ SIGNAL, SWITCH, BAND, MARGIN, GAP, AXIS = 92, 42, 22, 84, 10, 34
 LONGEST_LABEL = 28
 WORDS = {"not", "and", "or", "implies", "until", "eventually", "always", "since", "once", "historically", "true", "false", "inf"}
 FIELD = re.compile(r"[A-Za-z_][A-Za-z0-9_.]*")
-ATOM = re.compile(r"(?<![A-Za-z0-9_.*+-])(?<![*+-] )([A-Za-z_][A-Za-z0-9_.]*)\s*(>=|>|<=|<)\s*([+-]?[0-9]+(?:\.[0-9]+)?)")
+TOKEN = re.compile(r"[A-Za-z_][A-Za-z0-9_.]*|[0-9]+(?:\.[0-9]+)?|>=|<=|[^\s]")
 
 
 def rounded(place):
@@ -70,10 +70,16 @@ def left_of(columns):
     return 36 + 8 * min(max([5, *map(len, columns)]), LONGEST_LABEL)
 
 
-def atom_key(text):
-    """What an atom of one column says, however its constant is written; None of other atoms."""
-    found = ATOM.fullmatch(text)
-    return found and (found[1], found[2], decimal.Decimal(found[3]))
+def compared_in(formula):
+    """The atoms of a formula that compare one column without a coefficient: its name, the relation and the constant."""
+    tokens, found = TOKEN.findall(formula), []
+    for at, sign in enumerate(tokens[1:-1], 1):
+        signed = tokens[at + 1] in ("-", "+")
+        name, constant = tokens[at - 1], tokens[at + 1 + signed : at + 2 + signed]
+        alone = at < 2 or tokens[at - 2] not in ("*", "+", "-")
+        if sign in (">=", ">", "<=", "<") and FIELD.fullmatch(name) and alone and constant and constant[0][0].isdigit():
+            found.append((name, sign, decimal.Decimal(constant[0]) * (-1 if tokens[at + 1] == "-" else 1)))
+    return found
 
 
 class Plot:
@@ -82,7 +88,7 @@ class Plot:
     def __init__(self, recording, formula, left):
         self.low, self.high, self.left = recording.low, recording.high, left
         self.end = recording.times[-1]
-        self.constants = list(dict.fromkeys((name, sign, decimal.Decimal(value)) for name, sign, value in ATOM.findall(formula)))
+        self.constants = list(dict.fromkeys(compared_in(formula)))
         self.top, self.parts = 5, []
 
     def x(self, time):
@@ -140,7 +146,7 @@ class Plot:
 
     def compared(self, name, items, y, height):
         """What the formula compares a signal with, to be drawn over it. Upper bounds have their text above the line, lower ones below."""
-        forced, drawn = [atom_key(item["atom"]) for item in items], ""
+        forced, drawn = [key for item in items for key in compared_in(item["atom"])], ""
         for key in self.constants:
             if key[0] == name:
                 text, kind, place = f"{key[0]} {key[1]} {key[2]:f}", " forced" if key in forced else "", y(float(key[2]))
@@ -187,11 +193,16 @@ class Plot:
         inside = self.grid(low, high, y, MARGIN) + zero + self.line(corners, y, "margin")
         self.panel("margin", "margin", MARGIN, inside, data_low=repr(low), data_high=repr(high))
 
+    def times(self):
+        """The times below: all ticks, or so many of them that their texts stand apart."""
+        shown = ticks(self.low, self.high, 7)
+        room = 7 * max((len(text) for _, text in shown), default=0) + 8
+        every = math.ceil(room / (self.x(shown[1][0]) - self.x(shown[0][0]))) if len(shown) > 1 else 1
+        return "".join(element("text", text, class_="tick", x=self.x(t), y=12, text_anchor="middle") for t, text in shown[::every])
+
     def written(self, n):
         """The whole picture, with the axis below."""
-        shown = ticks(self.low, self.high, 7)
-        texts = "".join(element("text", text, class_="tick", x=self.x(t), y=12, text_anchor="middle") for t, text in shown)
-        axis = element("g", texts, class_="live") + element("text", "time", class_="label", x=WIDE, y=26, text_anchor="end")
+        axis = element("g", self.times(), class_="live") + element("text", "time", class_="label", x=WIDE, y=26, text_anchor="end")
         place = f"translate({self.left},{self.top - GAP + 4})"
         below = element("g", axis, class_="panel", data_kind="axis", data_height=0, transform=place)
         drag = element("rect", class_="drag", y=0, height=self.top - GAP, width=0)

@@ -182,6 +182,20 @@ def test_a_column_that_tries_to_break_out(bench):
         frame.holds(int(width) < 1250, width)
 
 
+def test_what_a_signal_is_compared_with(bench):
+    """The constants of atoms of one column, and no other numbers; those of an atom that `explain` names are marked."""
+    compared_in = frame.load("page_plot.py").compared_in
+    for formula, wanted in [
+        ("x>=2.50 and not(y<-3)", ["x >= 2.50", "y < -3"]), ("2*x >= 3 or 2 *  x >= 4", []), ("x - y <= 2 and y  -  x <= 2", []),
+        ("always[0,3[ a.b > 0.5 until[1,2] _c <= - 7", ["a.b > 0.5", "_c <= -7"]), ("true", []), ("x >=", []), (">= 3", []), ("", []),
+    ]:
+        frame.same([f"{name} {sign} {value}" for name, sign, value in compared_in(formula)], wanted, formula)
+    bench.write("some.csv", "time,x:1,y\n0,0,0\n2,1.0,3\n")
+    drawn = pictures(page(bench, "always r: x >=0.50 and y<= +7\n", "some.csv"))
+    frame.holds('class="note forced"' in drawn[0] and "x &gt;= 0.5" in drawn[0], drawn[0])
+    frame.holds('class="note"' in drawn[1] and "y &lt;= 7" in drawn[1], drawn[1])
+
+
 def test_one_row(bench):
     """The band of one row is a moment; no future is painted."""
     for value, word, kind in ((1, "holds", "true"), (0, "fails", "false")):
