@@ -410,7 +410,7 @@ def test_the_script_draws_the_same(bench):
     bench.write("wide.csv", WIDE)
     same_picture(bench, page(bench, "wide: (always[0,1000] eventually[0,1048575] x >= 0) and y >= 0\n", "wide.csv"))
     bench.write("small.csv", "time:6,x:6,y\n0,-0.000001,16\n0.000003,0.000002,-16\n")
-    same_picture(bench, page(bench, "r: x >= 0.0000005\ns: y <= -7.25 or eventually[0,1] x > 0\nt: eventually[5,6] true\n", "small.csv"))
+    same_picture(bench, page(bench, "r: x >= 0.000001\ns: y <= -7.25 or eventually[0,1] x > 0\nt: eventually[5,6] true\n", "small.csv"))
     for path in sorted(pathlib.Path("recordings").glob("*.csv")):
         run = bench.tool("page", "recordings/bench.requirements", path)
         if run.status == 0:
