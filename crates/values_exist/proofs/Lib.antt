@@ -1,0 +1,5 @@
+pub mod Sums
+pub mod LinearTests
+pub mod Elimination
+pub mod Edges
+pub mod Extremes
