@@ -3,3 +3,5 @@ pub mod LinearTests
 pub mod Elimination
 pub mod Edges
 pub mod Extremes
+pub mod WindowTests
+pub mod Drawn

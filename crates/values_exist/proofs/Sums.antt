@@ -98,7 +98,8 @@ put_value g (alone k) point = same_refl k
 put_value g (plus c f) point =
     same_trans (add_sums_value (scale c g) f point) (same_add (scale_value c g point) (same_refl (value f point)))
 
-nothing_more : (x a b : Rational) → add a (add (multiply nought x) b) ≈ add a b
+-- a number that counts nothing
+pub nothing_more : (x a b : Rational) → add a (add (multiply nought x) b) ≈ add a b
 nothing_more x a b = omega arith
 
 -- the value with a number that counts nothing
