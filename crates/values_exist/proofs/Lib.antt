@@ -5,3 +5,4 @@ pub mod Edges
 pub mod Extremes
 pub mod WindowTests
 pub mod Drawn
+pub mod Formulas
