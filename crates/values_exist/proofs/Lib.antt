@@ -6,3 +6,6 @@ pub mod Extremes
 pub mod WindowTests
 pub mod Drawn
 pub mod Formulas
+pub mod Pieces
+pub mod Columns
+pub mod AtomsDrawn
