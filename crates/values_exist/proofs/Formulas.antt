@@ -40,7 +40,7 @@ drawn (since a b p q) s atoms =
     (drawn p s atoms) (drawn q s atoms)
 
 -- so it has a value at each time
-has_value : (p : Subformula) (s : Setting) → AtomsAreDrawn s → HasValue p s
+pub has_value : (p : Subformula) (s : Setting) → AtomsAreDrawn s → HasValue p s
 has_value p s atoms t w = let e = (drawn p s atoms).1 t w in (e.level, e.is_value)
 
 -- and each formula below it

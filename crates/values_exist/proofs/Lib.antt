@@ -9,3 +9,4 @@ pub mod Formulas
 pub mod Pieces
 pub mod Columns
 pub mod AtomsDrawn
+pub mod LawProofs
