@@ -2,8 +2,8 @@
 use Rattle.std.proofs.Common.{◌≡◌, ℕ, ◌<◌, ◌⊎◌, ◌↔◌, inl, inr, Bool, true, false, List, [], ◌∷◌, IsTrue, refl, sym, ◌∙◌, arith}
 use Rattle.std.proofs.lemmas.Bool.{cases_order}
 use Rattle.rational.specs.Rational.{Rational, ◌<ʳ◌, ◌≤ʳ◌}
-use Rattle.rational.specs.Time.{Within, Precedes, Interval, IsIn}
-use Rattle.rational.specs.Extended.{Extended, finite, ◌≤ᵉ◌, ◌≈ᵉ◌}
+use Rattle.rational.specs.Time.{Precedes, Interval, IsIn}
+use Rattle.rational.specs.Extended.{Extended, finite, ◌≤ᵉ◌}
 use Rattle.rational.proofs.Order.{le_or_lt, not_lt_of_le, lt_irrefl}
 use Rattle.rational.proofs.ExtendedLemmas.{le_transᵉ}
 use Rattle.rational.proofs.AffineLemmas.{same_reflᵉ}
@@ -21,11 +21,12 @@ use Rattle.stl_syntax.proofs.SupInfLemmas.{GivesOne, margins_give_one, truths_gi
 use Rattle.stl_syntax.proofs.CoverLemmas.{told_covered, certainties_give_one}
 use Rattle.values_exist.proofs.Sums.{nought, alone}
 use Rattle.values_exist.proofs.LinearTests.{Test, above, opposite, both, either, Passes}
-use Rattle.values_exist.proofs.Edges.{IsEdge, edge_alike, edge_of_value}
+use Rattle.values_exist.proofs.Edges.{edge_alike, edge_of_value}
 use Rattle.values_exist.proofs.Extremes.{HasEdge}
 use Rattle.values_exist.proofs.WindowTests.{limit_test, limit_at_one}
+use Rattle.values_exist.proofs.Drawn.{IsDrawn}
 use Rattle.values_exist.proofs.Formulas.{AtomsAreDrawn}
-use Rattle.values_exist.proofs.Pieces.{IsPiecewise, before_number, after_number, before_number_passes, after_number_passes}
+use Rattle.values_exist.proofs.Pieces.{before_number, after_number, before_number_passes, after_number_passes}
 use Rattle.values_exist.proofs.Pieces.{positive_said, negative_said, at_most_said}
 use Rattle.values_exist.proofs.Columns.{expression_piecewise, margin_piecewise}
 
@@ -42,9 +43,11 @@ given A i a t r φ one_value gives same = record {
 -- margins are drawn
 pub margins_drawn : (tr : Trace) → AtomsAreDrawn (margin_setting tr)
 margins_drawn tr i a =
-    let m = at_most_said (λ t. margin a.rel (expression a tr t)) (margin_piecewise a.rel (expression a tr) (expression_piecewise a tr)) in
-    (m.0, λ t w. given (margins tr) i a t (finite (margin a.rel (expression a tr t))) m.0 (margins_give_one tr)
-    (same_reflᵉ (finite (margin a.rel (expression a tr t)))) (m.1 t))
+    let m = at_most_said (λ t. margin a.rel (expression a tr t)) (margin_piecewise a.rel (expression a tr) (expression_piecewise a tr)) in (
+      m.0,
+      λ t w. given (margins tr) i a t (finite (margin a.rel (expression a tr t))) m.0 (margins_give_one tr)
+          (same_reflᵉ (finite (margin a.rel (expression a tr t)))) (m.1 t),
+    )
 
 -- the comparison with 0
 abbrev Compares : Rel → Rational → Type 0
@@ -79,9 +82,12 @@ holds_told a tr = by_rel a.rel
 
     told : (φ : Test) → (rel : Rel) → ((t x : Rational) → Passes φ (t ∷ x ∷ []) ↔ Compares rel (expression a tr t))
         → (φ : Test) × ((t x : Rational) → Passes φ (t ∷ x ∷ []) ↔ IsTrue (compares rel (expression a tr t)))
-    told φ rel same = (φ, λ t x.
-        let c = compares_told rel (expression a tr t) in
-        (λ h. c.1 ((same t x).0 h), λ h. (same t x).1 (c.0 h)))
+    told φ rel same = (
+      φ,
+      λ t x.
+          let c = compares_told rel (expression a tr t) in
+          (λ h. c.1 ((same t x).0 h), λ h. (same t x).1 (c.0 h)),
+    )
 
     denial : (φ : Test) (P : Rational → Type 0) → ((t x : Rational) → Passes φ (t ∷ x ∷ []) ↔ P t)
         → (t x : Rational) → Passes (opposite φ) (t ∷ x ∷ []) ↔ (¬ P t)
@@ -100,26 +106,36 @@ low_high = omega arith
 low_zero : minus_one ≤ᵉ zero_value
 low_zero = omega arith
 
+-- at most the value of truth: that of false, or of true where the atom holds
+abbrev truth_test : Test → Test
+truth_test holds = either (limit_test minus_one) (both holds (limit_test one))
+
 -- truths are drawn
 pub truths_drawn : (tr : Trace) → AtomsAreDrawn (truth_setting tr)
 truths_drawn tr i a = by_test (holds_told a tr)
   where
     by_test : ((φ : Test) × ((t x : Rational) → Passes φ (t ∷ x ∷ []) ↔ IsTrue (holds_at a tr t)))
-        → (φ : Test) × ((t : Rational) → Within (truth_setting tr).from (truth_setting tr).to t → HasEdge (Gives (truths tr) i a) t (λ x. Passes φ (t ∷ x ∷ [])))
-    by_test (holds, told) = (either (limit_test minus_one) (both holds (limit_test one)), λ t w. by_truth t (holds_at a tr t) refl)
+        → IsDrawn (truth_setting tr).from (truth_setting tr).to (Gives (truths tr) i a)
+    by_test (holds, told) = (truth_test holds, λ t w. by_truth t (holds_at a tr t) refl)
       where
         by_truth : (t : Rational) (b : Bool) → holds_at a tr t ≡ b
-            → HasEdge (Gives (truths tr) i a) t (λ x. Passes (either (limit_test minus_one) (both holds (limit_test one))) (t ∷ x ∷ []))
-        by_truth t true e = given (truths tr) i a t one (either (limit_test minus_one) (both holds (limit_test one))) (truths_give_one tr) (inl (e, same_reflᵉ one))
-            (λ x. (λ h. elim h [
-            | inl l ↦ le_transᵉ (finite x) minus_one one ((limit_at_one minus_one t x).0 l) low_high
-            | inr l ↦ (limit_at_one one t x).0 l.1
-            ], λ h. inr ((told t x).1 e, (limit_at_one one t x).1 h)))
-        by_truth t false e = given (truths tr) i a t minus_one (either (limit_test minus_one) (both holds (limit_test one))) (truths_give_one tr) (inr (e, same_reflᵉ minus_one))
-            (λ x. (λ h. elim h [
-            | inl l ↦ (limit_at_one minus_one t x).0 l
-            | inr l ↦ absurd (let y = (told t x).0 l.0 in let z : true ≡ false = sym y ∙ e in cc)
-            ], λ h. inl ((limit_at_one minus_one t x).1 h)))
+            → HasEdge (Gives (truths tr) i a) t (λ x. Passes (truth_test holds) (t ∷ x ∷ []))
+        by_truth t true e = given (truths tr) i a t one (truth_test holds) (truths_give_one tr) (inl (e, same_reflᵉ one))
+            (λ x. (
+              λ h. elim h [
+                | inl l ↦ le_transᵉ (finite x) minus_one one ((limit_at_one minus_one t x).0 l) low_high
+                | inr l ↦ (limit_at_one one t x).0 l.1
+              ],
+              λ h. inr ((told t x).1 e, (limit_at_one one t x).1 h),
+            ))
+        by_truth t false e = given (truths tr) i a t minus_one (truth_test holds) (truths_give_one tr) (inr (e, same_reflᵉ minus_one))
+            (λ x. (
+              λ h. elim h [
+                | inl l ↦ (limit_at_one minus_one t x).0 l
+                | inr l ↦ absurd (let y = (told t x).0 l.0 in let z : true ≡ false = sym y ∙ e in cc)
+              ],
+              λ h. inl ((limit_at_one minus_one t x).1 h),
+            ))
 
 -- the first number is past the begin of an interval
 abbrev begin_test : Bool → Rational → Test
@@ -167,14 +183,24 @@ covered_told [] i = (never, λ t point. (λ h. lt_irrefl h, λ h. absurd h))
 covered_told (e ∷ items) i = by_node (cases_order e.node i) (covered_told items i)
   where
     by_node : (e.node ≡ i) ⊎ ((e.node < i) ⊎ (i < e.node)) → ((φ : Test) × IsCoverTest items i φ) → (φ : Test) × IsCoverTest (e ∷ items) i φ
-    by_node (inl same) (φ, told) = (either (interval_test (interval e.on)) φ, λ t point.
-        let m = interval_told (interval e.on) t point in
-        (λ h. elim h [ inl k ↦ inl (same, m.0 k) | inr k ↦ inr ((told t point).0 k) ],
-        λ h. elim h [ inl k ↦ inl (m.1 k.1) | inr k ↦ inr ((told t point).1 k) ]))
-    by_node (inr other) (φ, told) = (φ, λ t point. (λ h. inr ((told t point).0 h), λ h. elim h [
-      | inl k ↦ elim other [ inl x ↦ absurd (omega (arith, k.0)) | inr x ↦ absurd (omega (arith, k.0)) ]
-      | inr k ↦ (told t point).1 k
-    ]))
+    by_node (inl same) (φ, told) = (
+      either (interval_test (interval e.on)) φ,
+      λ t point.
+          let m = interval_told (interval e.on) t point in (
+            λ h. elim h [ inl k ↦ inl (same, m.0 k) | inr k ↦ inr ((told t point).0 k) ],
+            λ h. elim h [ inl k ↦ inl (m.1 k.1) | inr k ↦ inr ((told t point).1 k) ],
+          ),
+    )
+    by_node (inr other) (φ, told) = (
+      φ,
+      λ t point. (
+        λ h. inr ((told t point).0 h),
+        λ h. elim h [
+          | inl k ↦ elim other [ inl x ↦ absurd (omega (arith, k.0)) | inr x ↦ absurd (omega (arith, k.0)) ]
+          | inr k ↦ (told t point).1 k
+        ],
+      ),
+    )
 
 -- at most the value that certainty has: that of false, of neither where no item covers the time, of true where one does and the atom holds
 abbrev certainty_test : Test → Test → Test
@@ -186,8 +212,7 @@ pub certainties_drawn : (tr : Trace) (items : List Item) → AtomsAreDrawn (cert
 certainties_drawn tr items i a = by_tests (holds_told a tr) (covered_told items i)
   where
     by_tests : ((φ : Test) × ((t x : Rational) → Passes φ (t ∷ x ∷ []) ↔ IsTrue (holds_at a tr t))) → ((φ : Test) × IsCoverTest items i φ)
-        → (φ : Test) × ((t : Rational) → Within (certainty_setting tr items).from (certainty_setting tr items).to t
-        → HasEdge (Gives (certainties tr items) i a) t (λ x. Passes φ (t ∷ x ∷ [])))
+        → IsDrawn (certainty_setting tr items).from (certainty_setting tr items).to (Gives (certainties tr items) i a)
     by_tests (holds, told) (covered, covers) = (certainty_test holds covered, λ t w. by_truth t (holds_at a tr t) refl (told_covered items i t))
       where
         at : (t : Rational) (r : Extended) → Gives (certainties tr items) i a t r
@@ -197,18 +222,27 @@ certainties_drawn tr items i a = by_tests (holds_told a tr) (covered_told items 
 
         by_truth : (t : Rational) (b : Bool) → holds_at a tr t ≡ b → IsCovered items i t ⊎ (¬ IsCovered items i t)
             → HasEdge (Gives (certainties tr items) i a) t (λ x. Passes (certainty_test holds covered) (t ∷ x ∷ []))
-        by_truth t b e (inr n) = at t zero_value (inr (inr (n, same_reflᵉ zero_value))) (λ x. (λ h. elim h [
-          | inl l ↦ le_transᵉ (finite x) minus_one zero_value ((limit_at_one minus_one t x).0 l) low_zero
-          | inr m ↦ elim m [ inl l ↦ (limit_at_one zero_value t x).0 l.1 | inr l ↦ absurd (n ((covers t (x ∷ [])).0 l.0.0)) ]
-        ], λ h. inr (inl (λ k. n ((covers t (x ∷ [])).0 k), (limit_at_one zero_value t x).1 h))))
-        by_truth t true e (inl c) = at t one (inl (e, c, same_reflᵉ one)) (λ x. (λ h. elim h [
-          | inl l ↦ le_transᵉ (finite x) minus_one one ((limit_at_one minus_one t x).0 l) low_high
-          | inr m ↦ elim m [ inl l ↦ absurd (l.0 ((covers t (x ∷ [])).1 c)) | inr l ↦ (limit_at_one one t x).0 l.1 ]
-        ], λ h. inr (inr (((covers t (x ∷ [])).1 c, (told t x).1 e), (limit_at_one one t x).1 h))))
-        by_truth t false e (inl c) = at t minus_one (inr (inl (e, c, same_reflᵉ minus_one))) (λ x. (λ h. elim h [
-          | inl l ↦ (limit_at_one minus_one t x).0 l
-          | inr m ↦ elim m [
-            | inl l ↦ absurd (l.0 ((covers t (x ∷ [])).1 c))
-            | inr l ↦ absurd (let y = (told t x).0 l.0.1 in let z : true ≡ false = sym y ∙ e in cc)
-          ]
-        ], λ h. inl ((limit_at_one minus_one t x).1 h)))
+        by_truth t b e (inr n) = at t zero_value (inr (inr (n, same_reflᵉ zero_value))) (λ x. (
+          λ h. elim h [
+            | inl l ↦ le_transᵉ (finite x) minus_one zero_value ((limit_at_one minus_one t x).0 l) low_zero
+            | inr m ↦ elim m [ inl l ↦ (limit_at_one zero_value t x).0 l.1 | inr l ↦ absurd (n ((covers t (x ∷ [])).0 l.0.0)) ]
+          ],
+          λ h. inr (inl (λ k. n ((covers t (x ∷ [])).0 k), (limit_at_one zero_value t x).1 h)),
+        ))
+        by_truth t true e (inl c) = at t one (inl (e, c, same_reflᵉ one)) (λ x. (
+          λ h. elim h [
+            | inl l ↦ le_transᵉ (finite x) minus_one one ((limit_at_one minus_one t x).0 l) low_high
+            | inr m ↦ elim m [ inl l ↦ absurd (l.0 ((covers t (x ∷ [])).1 c)) | inr l ↦ (limit_at_one one t x).0 l.1 ]
+          ],
+          λ h. inr (inr (((covers t (x ∷ [])).1 c, (told t x).1 e), (limit_at_one one t x).1 h)),
+        ))
+        by_truth t false e (inl c) = at t minus_one (inr (inl (e, c, same_reflᵉ minus_one))) (λ x. (
+          λ h. elim h [
+            | inl l ↦ (limit_at_one minus_one t x).0 l
+            | inr m ↦ elim m [
+              | inl l ↦ absurd (l.0 ((covers t (x ∷ [])).1 c))
+              | inr l ↦ absurd (let y = (told t x).0 l.0.1 in let z : true ≡ false = sym y ∙ e in cc)
+            ]
+          ],
+          λ h. inl ((limit_at_one minus_one t x).1 h),
+        ))

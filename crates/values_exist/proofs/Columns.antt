@@ -1,8 +1,7 @@
 -- The columns of a trace, and the sums of an atom, are piecewise linear functions of time.
 use Rattle.std.proofs.Common.{ℕ, ◌-◌, suc, ℤ, pos, negsuc, Bool, true, false, List, [], ◌∷◌, bytes_eq, arith}
-use Rattle.rational.specs.Rational.{Rational, ◌≈◌, whole, add, subtract, negate, multiply}
+use Rattle.rational.specs.Rational.{Rational, ◌≈◌, whole, negate, multiply}
 use Rattle.rational.specs.Time.{times}
-use Rattle.rational.proofs.Order.{same_refl}
 use Rattle.stl_syntax.specs.Trace.{Trace, Row, Column, value as cell, line_between, value_from, column_value, value_among, value_of, row_time}
 use Rattle.stl_syntax.specs.Trace.{piece as between_rows}
 use Rattle.stl_syntax.specs.Truth.{sum_at, expression}
@@ -45,7 +44,8 @@ sum_piecewise : (terms : List Term) (tr : Trace) → IsPiecewise (sum_at terms t
 sum_piecewise [] tr = piecewise_constant (whole (pos 0))
 sum_piecewise (k ∷ terms) tr =
     piecewise_sum (λ t. times k.coef (value_of tr k.name t)) (sum_at terms tr)
-    (piecewise_same (λ t. multiply (whole k.coef) (value_of tr k.name t)) (λ t. times k.coef (value_of tr k.name t)) (λ t. times_is k.coef (value_of tr k.name t))
+    (piecewise_same (λ t. multiply (whole k.coef) (value_of tr k.name t)) (λ t. times k.coef (value_of tr k.name t))
+    (λ t. times_is k.coef (value_of tr k.name t))
     (piecewise_multiple (whole k.coef) (value_of tr k.name) (value_piecewise tr k.name)))
     (sum_piecewise terms tr)
 

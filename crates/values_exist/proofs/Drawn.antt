@@ -1,18 +1,19 @@
 -- A function of time is drawn by a test where each number at most its value passes with the time, up to the edge. Functions drawn so are closed
 -- under what a node of a formula does.
 use Rattle.std.proofs.Common.{ℕ, Bool, Option, ◌⊎◌, ◌↔◌, inl, inr, List, [], ◌∷◌, subst, sym}
-use Rattle.rational.specs.Rational.{Rational, ◌≈◌, negate}
+use Rattle.rational.specs.Rational.{Rational, negate}
 use Rattle.rational.specs.Time.{Within}
-use Rattle.rational.specs.Extended.{Extended, finite, ◌≤ᵉ◌, ◌≈ᵉ◌, opposite, IsLeast, IsGreatest}
-use Rattle.rational.specs.Windows.{Ahead, Behind, Function, Window, IsSupOver, IsInfOver, IsUpTo, IsDownTo, IsUntil, IsSince}
+use Rattle.rational.specs.Extended.{Extended, ◌≤ᵉ◌, ◌≈ᵉ◌, opposite, IsLeast, IsGreatest}
+use Rattle.rational.specs.Windows.{Ahead, Behind, Function, Window, IsSupOver, IsInfOver, IsUntil, IsSince}
 use Rattle.rational.proofs.ExtendedLemmas.{le_transᵉ, least_of, greatest_of, least_same, greatest_same, Sup-unique, Inf-unique, opposite_twice}
-use Rattle.rational.proofs.AffineLemmas.{same_reflᵉ, same_symᵉ, opposite_same, opposite_back}
+use Rattle.rational.proofs.AffineLemmas.{same_reflᵉ, same_symᵉ, opposite_back}
 use Rattle.values_exist.proofs.Sums.{turn, turn_value, widen, widen_value}
 use Rattle.values_exist.proofs.LinearTests.{Test, opposite as denial, both, either, Passes, changed, changed_alike}
-use Rattle.values_exist.proofs.Edges.{IsEdge, edge_alike, edge_of_value, edge_of_least, edge_of_greatest, edge_of_opposite}
+use Rattle.values_exist.proofs.Edges.{edge_alike, edge_of_value, edge_of_least, edge_of_greatest, edge_of_opposite}
 use Rattle.values_exist.proofs.Extremes.{HasEdge, TellsWindow, sup_test, inf_test, sup_exists, inf_exists}
 use Rattle.values_exist.proofs.WindowTests.{one_time, two_times, slice_at_one, slice_at_two, limit_test, limit_at_one, limit_at_two}
-use Rattle.values_exist.proofs.WindowTests.{from_third_test, to_third_test, tells_from_third, tells_to_third, ahead_test, behind_test, tells_ahead, tells_behind}
+use Rattle.values_exist.proofs.WindowTests.{from_third_test, to_third_test, tells_from_third, tells_to_third}
+use Rattle.values_exist.proofs.WindowTests.{ahead_test, behind_test, tells_ahead, tells_behind}
 
 -- the test draws the function over the domain
 abbrev pub Draws : Rational → Rational → Test → Function → Type 0
@@ -119,7 +120,7 @@ module _ (from to : Rational) where
       → Draws from to (sup_test from to window (changed widen φ) (limit_test lowest)) (λ t r. IsSupOver lowest (W t) F r)
   draws_sup lowest W window φ F tells draws t w =
       let found = sup_exists from to (one_time t) (slice_at_one t) (W t) F window (changed widen φ) (limit_test lowest) (tells t)
-          (λ u m. edge_by (λ x. wider φ u t (x ∷ [])) (draws u ((tells t).inside u m))) lowest (limit_at_one lowest t) in
+      (λ u m. edge_by (λ x. wider φ u t (x ∷ [])) (draws u ((tells t).inside u m))) lowest (limit_at_one lowest t) in
       record {
         level = found.0;
         is_value = found.1;
@@ -133,7 +134,7 @@ module _ (from to : Rational) where
       → Draws from to (inf_test from to window (changed widen φ) (limit_test highest)) (λ t r. IsInfOver highest (W t) F r)
   draws_inf highest W window φ F tells draws t w =
       let found = inf_exists from to (one_time t) (slice_at_one t) (W t) F window (changed widen φ) (limit_test highest) (tells t)
-          (λ u m. edge_by (λ x. wider φ u t (x ∷ [])) (draws u ((tells t).inside u m))) highest (limit_at_one highest t) in
+      (λ u m. edge_by (λ x. wider φ u t (x ∷ [])) (draws u ((tells t).inside u m))) highest (limit_at_one highest t) in
       record {
         level = found.0;
         is_value = found.1;
@@ -145,14 +146,31 @@ module _ (from to : Rational) where
   pub inf_between : (highest : Extended) (V : Window) (window φ : Test) (F : Function) (u t : Rational)
       → TellsWindow from to (two_times u t) V window → Draws from to φ F
       → HasEdge (λ u r. IsInfOver highest V F r) u
-        (λ x. Passes (inf_test from to window (changed widen (changed widen φ)) (changed widen (limit_test highest))) (u ∷ t ∷ x ∷ []))
+      (λ x. Passes (inf_test from to window (changed widen (changed widen φ)) (changed widen (limit_test highest))) (u ∷ t ∷ x ∷ []))
   inf_between highest V window φ F u t tells draws =
-      let found = inf_exists from to (two_times u t) (slice_at_two u t) V F window (changed widen (changed widen φ)) (changed widen (limit_test highest)) tells
-          (λ y m. edge_by (λ x. twice_wider φ y u t (x ∷ [])) (draws y (tells.inside y m))) highest (limit_at_two highest u t) in
+      let found = inf_exists from to (two_times u t) (slice_at_two u t) V F window (changed widen (changed widen φ)) (changed widen (limit_test highest))
+      tells
+      (λ y m. edge_by (λ x. twice_wider φ y u t (x ∷ [])) (draws y (tells.inside y m))) highest (limit_at_two highest u t) in
       record {
         level = found.0;
         is_value = found.1;
         only = λ r m. record { at_most = Inf-unique highest r found.0 m found.1; at_least = Inf-unique highest found.0 r found.1 m };
+        edge = found.2;
+      }
+
+  -- and the Sup
+  pub sup_between : (lowest : Extended) (V : Window) (window φ : Test) (F : Function) (u t : Rational)
+      → TellsWindow from to (two_times u t) V window → Draws from to φ F
+      → HasEdge (λ u r. IsSupOver lowest V F r) u
+      (λ x. Passes (sup_test from to window (changed widen (changed widen φ)) (changed widen (limit_test lowest))) (u ∷ t ∷ x ∷ []))
+  sup_between lowest V window φ F u t tells draws =
+      let found = sup_exists from to (two_times u t) (slice_at_two u t) V F window (changed widen (changed widen φ)) (changed widen (limit_test lowest))
+      tells
+      (λ y m. edge_by (λ x. twice_wider φ y u t (x ∷ [])) (draws y (tells.inside y m))) lowest (limit_at_two lowest u t) in
+      record {
+        level = found.0;
+        is_value = found.1;
+        only = λ r m. record { at_most = Sup-unique lowest r found.0 m found.1; at_least = Sup-unique lowest found.0 r found.1 m };
         edge = found.2;
       }
 
@@ -169,10 +187,11 @@ module _ (from to : Rational) where
       → ((t : Rational) → TellsWindow from to (one_time t) (W t) window)
       → ((u t : Rational) → Within from to t → Within from to u → TellsWindow from to (two_times u t) (V t u) inner)
       → Draws from to φ P → Draws from to ψ Q
-      → Draws from to (sup_test from to window (reach_test highest inner φ ψ) (limit_test lowest)) (λ t r. IsSupOver lowest (W t) (Reach highest (V t) P Q) r)
+      → Draws from to (sup_test from to window (reach_test highest inner φ ψ) (limit_test lowest))
+      (λ t r. IsSupOver lowest (W t) (Reach highest (V t) P Q) r)
   draws_reach lowest highest W window inner φ ψ P Q V tells tells_inner p q t w =
-      let found = sup_exists from to (one_time t) (slice_at_one t) (W t) (Reach highest (V t) P Q) window (reach_test highest inner φ ψ) (limit_test lowest) (tells t)
-          edges lowest (limit_at_one lowest t) in
+      let found = sup_exists from to (one_time t) (slice_at_one t) (W t) (Reach highest (V t) P Q) window (reach_test highest inner φ ψ)
+      (limit_test lowest) (tells t) edges lowest (limit_at_one lowest t) in
       record {
         level = found.0;
         is_value = found.1;
@@ -184,7 +203,7 @@ module _ (from to : Rational) where
       edges u m =
           let at = (tells t).inside u m in
           let e = least_edge (edge_by (λ x. wider ψ u t (x ∷ [])) (q u at))
-              (inf_between highest (V t u) inner φ P u t (tells_inner u t w at) p) in
+          (inf_between highest (V t u) inner φ P u t (tells_inner u t w at) p) in
           record { level = e.level; is_value = e.is_value; only = e.only; edge = e.edge }
 
   -- until is drawn
@@ -207,13 +226,19 @@ module _ (from to : Rational) where
 
   -- a function that is a value at all times is drawn
   pub drawn_value : (r : Extended) → IsDrawn (λ t v. v ≈ᵉ r)
-  drawn_value r = (limit_test r, λ t w.
-      edge_by (limit_at_one r t) (record { level = r; is_value = same_reflᵉ r; only = λ w h. h; edge = edge_of_value r }))
+  drawn_value r = (
+    limit_test r,
+    λ t w.
+        edge_by (limit_at_one r t) (record { level = r; is_value = same_reflᵉ r; only = λ w h. h; edge = edge_of_value r }),
+  )
 
   -- so is one with the values of a drawn one
   drawn_same : (F G : Function) → ((t : Rational) (r : Extended) → F t r → G t r) → ((t : Rational) (r : Extended) → G t r → F t r) → IsDrawn F → IsDrawn G
-  drawn_same F G forth back f = (f.0, λ t w.
-      let e = f.1 t w in record { level = e.level; is_value = forth t e.level e.is_value; only = λ r g. e.only r (back t r g); edge = e.edge })
+  drawn_same F G forth back f = (
+    f.0,
+    λ t w.
+        let e = f.1 t w in record { level = e.level; is_value = forth t e.level e.is_value; only = λ r g. e.only r (back t r g); edge = e.edge },
+  )
 
   -- the opposite
   pub drawn_negation : (F : Function) → IsDrawn F → IsDrawn (λ t r. F t (opposite r))
@@ -252,14 +277,18 @@ module _ (from to : Rational) where
   -- until
   pub drawn_until : (lowest highest : Extended) (W : Rational → Window) (P Q : Function) → AreTold W → IsDrawn P → IsDrawn Q
       → IsDrawn (λ t r. IsUntil lowest highest (W t) P Q t r)
-  drawn_until lowest highest W P Q tells p q =
-      (sup_test from to tells.0 (reach_test highest from_third_test p.0 q.0) (limit_test lowest), draws_until lowest highest W tells.0 p.0 q.0 P Q tells.1 p.1 q.1)
+  drawn_until lowest highest W P Q tells p q = (
+    sup_test from to tells.0 (reach_test highest from_third_test p.0 q.0) (limit_test lowest),
+    draws_until lowest highest W tells.0 p.0 q.0 P Q tells.1 p.1 q.1,
+  )
 
   -- since
   pub drawn_since : (lowest highest : Extended) (W : Rational → Window) (P Q : Function) → AreTold W → IsDrawn P → IsDrawn Q
       → IsDrawn (λ t r. IsSince lowest highest (W t) P Q t r)
-  drawn_since lowest highest W P Q tells p q =
-      (sup_test from to tells.0 (reach_test highest to_third_test p.0 q.0) (limit_test lowest), draws_since lowest highest W tells.0 p.0 q.0 P Q tells.1 p.1 q.1)
+  drawn_since lowest highest W P Q tells p q = (
+    sup_test from to tells.0 (reach_test highest to_third_test p.0 q.0) (limit_test lowest),
+    draws_since lowest highest W tells.0 p.0 q.0 P Q tells.1 p.1 q.1,
+  )
 
   -- the window ahead is told, and the one behind
   pub ahead_told : (a b : ℕ) (a_in b_in : Bool) → AreTold (Ahead from to a b a_in b_in)
@@ -273,4 +302,11 @@ module _ (from to : Rational) where
       → (y : Extended) × IsInfOver highest (Within t u) F y
   drawn_inf_between highest F f t u wt wu =
       let e = inf_between highest (Within t u) from_third_test f.0 F u t (tells_from_third from to u t wt wu) f.1 in
+      (e.level, e.is_value)
+
+  -- and a Sup
+  pub drawn_sup_between : (lowest : Extended) (F : Function) → IsDrawn F → (t u : Rational) → Within from to t → Within from to u
+      → (y : Extended) × IsSupOver lowest (Within t u) F y
+  drawn_sup_between lowest F f t u wt wu =
+      let e = sup_between lowest (Within t u) from_third_test f.0 F u t (tells_from_third from to u t wt wu) f.1 in
       (e.level, e.is_value)

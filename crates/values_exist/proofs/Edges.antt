@@ -1,10 +1,10 @@
 -- The edge of a set of numbers: the value that all of them are at most, and below which all numbers are among them. A test whose numbers go
 -- on downward has an edge.
 use Rattle.std.proofs.Common.{◌⊎◌, inl, inr, List, [], ◌∷◌, pos, subst, arith, mul-pos}
-use Rattle.rational.specs.Rational.{Rational, ◌<ʳ◌, ◌≤ʳ◌, ◌≈◌, whole, add, subtract, negate, middle}
+use Rattle.rational.specs.Rational.{Rational, ◌<ʳ◌, ◌≤ʳ◌, whole, add, subtract, negate, middle}
 use Rattle.rational.specs.Extended.{Extended, minus_infinity, finite, infinity, ◌≤ᵉ◌, ◌<ᵉ◌, ◌≈ᵉ◌, opposite, IsLeast, IsGreatest}
-use Rattle.rational.proofs.Order.{le_or_lt, le_refl, lt_of_le_of_lt, left_of_middle, right_of_middle}
-use Rattle.rational.proofs.ExtendedLemmas.{le_totalᵉ, clashᵉ, le_reflᵉ, le_transᵉ, lt_of_lt_of_leᵉ, lt_of_le_of_ltᵉ, le_of_ltᵉ, lt_opposite, opposite_twice}
+use Rattle.rational.proofs.Order.{le_or_lt, left_of_middle, right_of_middle}
+use Rattle.rational.proofs.ExtendedLemmas.{le_totalᵉ, clashᵉ, le_transᵉ, lt_of_lt_of_leᵉ, lt_of_le_of_ltᵉ, le_of_ltᵉ, lt_opposite, opposite_twice}
 use Rattle.values_exist.proofs.Sums.{Sum, value}
 use Rattle.values_exist.proofs.LinearTests.{Test, Passes, decide, AreOneSide, IsOneSide, roots_of}
 
@@ -135,18 +135,21 @@ module _ (C : Rational → Type 0) (point : List Rational) (decided : (x : Ratio
       by_middle (m, l, h) = by_test m l h (decided m)
 
   finds_more : (r : Sum) (roots : List Sum) → FindsEdge C point roots → FindsEdge C point (r ∷ roots)
-  finds_more r roots finds a b order low high steady = by_place (le_totalᵉ (finite (value r point)) a) (le_totalᵉ b (finite (value r point))) (decided (value r point))
+  finds_more r roots finds a b order low high steady =
+      by_place (le_totalᵉ (finite (value r point)) a) (le_totalᵉ b (finite (value r point))) (decided (value r point))
     where
       by_place : (finite (value r point) ≤ᵉ a) ⊎ (a <ᵉ finite (value r point)) → (b ≤ᵉ finite (value r point)) ⊎ (finite (value r point) <ᵉ b)
           → C (value r point) ⊎ (¬ C (value r point)) → (r : Extended) × IsEdge C r
       by_place (inl k) m d = finds a b order low high (λ x y n s. steady x y n (side x y n, s))
         where
           side : (x y : Rational) → BothBetween a b x y → IsOneSide x y (value r point)
-          side x y (c, d, e, f) = inr (inr (lt_of_le_of_ltᵉ (finite (value r point)) a (finite x) k c, lt_of_le_of_ltᵉ (finite (value r point)) a (finite y) k e))
+          side x y (c, d, e, f) =
+              inr (inr (lt_of_le_of_ltᵉ (finite (value r point)) a (finite x) k c, lt_of_le_of_ltᵉ (finite (value r point)) a (finite y) k e))
       by_place (inr k) (inl m) d = finds a b order low high (λ x y n s. steady x y n (side x y n, s))
         where
           side : (x y : Rational) → BothBetween a b x y → IsOneSide x y (value r point)
-          side x y (c, d, e, f) = inr (inl (lt_of_lt_of_leᵉ (finite x) b (finite (value r point)) d m, lt_of_lt_of_leᵉ (finite y) b (finite (value r point)) f m))
+          side x y (c, d, e, f) =
+              inr (inl (lt_of_lt_of_leᵉ (finite x) b (finite (value r point)) d m, lt_of_lt_of_leᵉ (finite y) b (finite (value r point)) f m))
       by_place (inr k) (inr m) (inl c) = finds (finite (value r point)) b m (λ x l. downward x (value r point) l c) high
           (λ x y n s. steady x y (between x y n) (inr (inr (n.0, n.2)), s))
         where

@@ -2,8 +2,8 @@
 use Rattle.std.proofs.Common.{◌⊎◌, ◌↔◌, inl, inr, List, [], ◌∷◌, pos, negsuc, arith}
 use Rattle.rational.specs.Rational.{Rational, ◌<ʳ◌, ◌≤ʳ◌, ◌≈◌, whole, add, negate, multiply, middle}
 use Rattle.rational.specs.Time.{Within}
-use Rattle.rational.proofs.Order.{same_refl, same_sym, same_trans, same_of_le, le_refl, le_or_lt, le_of_lt, le_of_same, ge_of_same, lt_irrefl, lt_trans}
-use Rattle.rational.proofs.Order.{lt_of_lt_of_le, lt_of_le_of_lt, lt_or_same_or_gt, left_of_middle, right_of_middle, not_lt_of_le}
+use Rattle.rational.proofs.Order.{same_refl, same_sym, same_trans, same_of_le, le_or_lt, le_of_same, ge_of_same, lt_irrefl, lt_trans}
+use Rattle.rational.proofs.Order.{lt_of_lt_of_le, lt_of_le_of_lt, lt_or_same_or_gt, left_of_middle, right_of_middle}
 use Rattle.rational.proofs.Field.{same_add, same_mul}
 use Rattle.values_exist.proofs.Sums.{Sum, alone, plus, value, nought, half, put, put_value, middle_sum, middle_value}
 use Rattle.values_exist.proofs.LinearTests.{Test, above, opposite, both, either, Passes, changed, changed_alike, IsOneSide, AreOneSide, roots_of}

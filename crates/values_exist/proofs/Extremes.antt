@@ -1,6 +1,6 @@
 -- A function whose values over a window are the edges of a test has a Sup and an Inf there, and each is the edge of a test again.
 use Rattle.std.proofs.Common.{◌⊎◌, ◌↔◌, inl, inr, List, [], ◌∷◌}
-use Rattle.rational.specs.Rational.{Rational, ◌<ʳ◌, ◌≤ʳ◌}
+use Rattle.rational.specs.Rational.{Rational, ◌<ʳ◌}
 use Rattle.rational.specs.Time.{Within}
 use Rattle.rational.specs.Extended.{Extended, finite, ◌≤ᵉ◌, ◌<ᵉ◌, ◌≈ᵉ◌}
 use Rattle.rational.specs.Windows.{Function, Window, IsSupOver, IsInfOver}
@@ -48,7 +48,8 @@ module _ (from to : Rational) (point : Rational → List Rational) (slice : IsSl
   sup_out x (inr h) = inr h
   sup_out x (inl h) = found ((somewhere_passes from to (both window of) (point x)).0 h)
     where
-      found : ((u : Rational) × Within from to u × Passes (both window of) (u ∷ point x)) → ((u : Rational) × W u × Passes of (u ∷ point x)) ⊎ Passes limit (point x)
+      found : ((u : Rational) × Within from to u × Passes (both window of) (u ∷ point x))
+          → ((u : Rational) × W u × Passes of (u ∷ point x)) ⊎ Passes limit (point x)
       found (u, m, p) = inl (u, tells.is_in u x m p.0, p.1)
 
   inf_out : (u x : Rational) → W u → Passes (inf_test from to window of limit) (point x) → Passes of (u ∷ point x)
@@ -90,7 +91,8 @@ module _ (from to : Rational) (point : Rational → List Rational) (slice : IsSl
       by_out (inl (u, m, p)) = let e = edges u m in sup_into u x m (edge_downward e.level e.edge x y l p)
       by_out (inr k) = inr ((up_to x).1 (le_transᵉ (finite x) (finite y) lowest (le_of_ltᵉ (finite x) (finite y) l) ((up_to y).0 k)))
 
-  is_sup : (lowest r : Extended) → IsUpToTest point limit lowest → IsEdge (λ x. Passes (sup_test from to window of limit) (point x)) r → IsSupOver lowest W F r
+  is_sup : (lowest r : Extended) → IsUpToTest point limit lowest → IsEdge (λ x. Passes (sup_test from to window of limit) (point x)) r
+      → IsSupOver lowest W F r
   is_sup lowest r up_to edge = record { at_least = at_least (le_totalᵉ lowest r); bound = bound; reached = reached }
     where
       past_limit : (x : Rational) → r <ᵉ finite x → finite x ≤ᵉ lowest → ⊥
@@ -107,7 +109,8 @@ module _ (from to : Rational) (point : Rational → List Rational) (slice : IsSl
           by_order e (inl h) = h
           by_order e (inr h) =
               let b = number_between r v h in
-              clashᵉ r (finite b.0) b.1 (edge.bound b.0 (sup_into u b.0 m (e.edge.reached b.0 (lt_of_lt_of_leᵉ (finite b.0) v e.level b.2 (e.only v f).at_most))))
+              let under = e.edge.reached b.0 (lt_of_lt_of_leᵉ (finite b.0) v e.level b.2 (e.only v f).at_most) in
+              clashᵉ r (finite b.0) b.1 (edge.bound b.0 (sup_into u b.0 m under))
 
       reached : (w : Extended) → lowest ≤ᵉ w → w <ᵉ r → (v : Extended) × ((u : Rational) × W u × F u v) × (w <ᵉ v)
       reached w h k = by_number (number_between w r k)
@@ -133,7 +136,8 @@ module _ (from to : Rational) (point : Rational → List Rational) (slice : IsSl
       ((up_to x).1 (le_transᵉ (finite x) (finite y) highest (le_of_ltᵉ (finite x) (finite y) l) ((up_to y).0 h.1)))
       (λ u m. let e = edges u m in edge_downward e.level e.edge x y l (inf_out u y m h))
 
-  is_inf : (highest r : Extended) → IsUpToTest point limit highest → IsEdge (λ x. Passes (inf_test from to window of limit) (point x)) r → IsInfOver highest W F r
+  is_inf : (highest r : Extended) → IsUpToTest point limit highest → IsEdge (λ x. Passes (inf_test from to window of limit) (point x)) r
+      → IsInfOver highest W F r
   is_inf highest r up_to edge = record { at_most = at_most (le_totalᵉ r highest); bound = bound; reached = reached }
     where
       at_most : (r ≤ᵉ highest) ⊎ (highest <ᵉ r) → r ≤ᵉ highest
@@ -152,7 +156,8 @@ module _ (from to : Rational) (point : Rational → List Rational) (slice : IsSl
       reached : (w : Extended) → r <ᵉ w → w ≤ᵉ highest → (v : Extended) × ((u : Rational) × W u × F u v) × (v <ᵉ w)
       reached w k h = by_number (number_between r w k)
         where
-          at : (x : Rational) → finite x <ᵉ w → (u : Rational) × W u × (¬ Passes of (u ∷ point x)) → (v : Extended) × ((u : Rational) × W u × F u v) × (v <ᵉ w)
+          at : (x : Rational) → finite x <ᵉ w → (u : Rational) × W u × (¬ Passes of (u ∷ point x))
+              → (v : Extended) × ((u : Rational) × W u × F u v) × (v <ᵉ w)
           at x l (u, m, n) = let e = edges u m in (e.level, (u, m, e.is_value), by_order e (le_totalᵉ e.level (finite x)))
             where
               by_order : (e : HasEdge F u (λ x. Passes of (u ∷ point x))) → (e.level ≤ᵉ finite x) ⊎ (finite x <ᵉ e.level) → e.level <ᵉ w

@@ -1,15 +1,13 @@
 -- Where the atoms are drawn each formula is, so it has a value at each time and an Inf between each two times.
-use Rattle.std.proofs.Common.{ℕ, ◌↔◌, Bool, true, false, List, [], ◌∷◌}
-use Rattle.rational.specs.Time.{Rational, Within}
-use Rattle.rational.specs.Windows.{Ahead, Behind, Function}
-use Rattle.rational.specs.Extended.{Extended, finite, ◌≤ᵉ◌, ◌≈ᵉ◌}
-use Rattle.rational.proofs.AffineLemmas.{same_reflᵉ}
+use Rattle.std.proofs.Common.{ℕ, true, false}
+use Rattle.rational.specs.Windows.{Ahead, Behind}
 use Rattle.stl_syntax.specs.Formula.{Subformula, constant, atom, negation, conjunction, disjunction}
 use Rattle.stl_syntax.specs.Formula.{implication, until, eventually, always, since, once, historically}
-use Rattle.stl_syntax.specs.SupInf.{Setting, Reading, Gives, SupInf, HasValue, HasValues, HasInf, HasInfs}
+use Rattle.stl_syntax.specs.SupInf.{Setting, Gives, SupInf, HasValue, HasValues, HasInf, HasInfs}
 use Rattle.stl_syntax.specs.declared.atom.Atom.{Atom}
 use Rattle.values_exist.proofs.Drawn.{IsDrawn, drawn_value, drawn_negation, drawn_least, drawn_greatest, drawn_implied, drawn_sup, drawn_inf}
-use Rattle.values_exist.proofs.Drawn.{drawn_until, drawn_since, ahead_told, behind_told, drawn_inf_between}
+use Rattle.values_exist.proofs.Drawn.{drawn_until, drawn_since, ahead_told, behind_told, drawn_inf_between, drawn_sup_between}
+use Rattle.values_exist.specs.Laws.{HasSup}
 
 -- the reading draws each atom
 abbrev pub AtomsAreDrawn : Setting → Type 0
@@ -62,7 +60,11 @@ has_values (historically a b a_in b_in p) s atoms = (has_value (historically a b
 pub has_inf : (p : Subformula) (s : Setting) → AtomsAreDrawn s → HasInf p s
 has_inf p s atoms t u wt wu = drawn_inf_between s.from s.to s.highest (SupInf p s) (drawn p s atoms) t u wt wu
 
--- so does each left side of until and since
+-- and a Sup
+pub has_sup : (p : Subformula) (s : Setting) → AtomsAreDrawn s → HasSup p s
+has_sup p s atoms t u wt wu = drawn_sup_between s.from s.to s.lowest (SupInf p s) (drawn p s atoms) t u wt wu
+
+-- and each left side of until and since has Infs
 pub has_infs : (p : Subformula) (s : Setting) → AtomsAreDrawn s → HasInfs p s
 has_infs (constant b) s atoms = tt
 has_infs (atom i a) s atoms = tt

@@ -1,23 +1,21 @@
 -- The laws of values, from those of `stl_syntax` and the values that there are.
 use Rattle.std.proofs.Common.{◌⊎◌, inl, inr, lit<}
-use Rattle.rational.specs.Time.{Within}
 use Rattle.rational.specs.Extended.{Extended, ◌<ᵉ◌}
 use Rattle.rational.proofs.ExtendedLemmas.{not_twoᵉ}
-use Rattle.stl_syntax.specs.Trace.{Trace}
 use Rattle.stl_syntax.specs.Formula.{Subformula}
 use Rattle.stl_syntax.specs.Truth.{Truth}
 use Rattle.stl_syntax.specs.Kleene.{Must, MustNot}
-use Rattle.stl_syntax.specs.SupInf.{Setting, margin_setting, truth_setting, certainty_setting, SupInf, one, minus_one, zero_value}
+use Rattle.stl_syntax.specs.SupInf.{Setting, margin_setting, truth_setting, certainty_setting, one, minus_one, zero_value}
 use Rattle.stl_syntax.specs.Laws.{IsToldByValue, IsToldCertain}
 use Rattle.stl_syntax.proofs.LawProofs.{one_value, truth_by_values as truth_law, certainty_by_values as certainty_law, margins_hold as margin_law}
 use Rattle.stl_syntax.proofs.DecideLaw.{answered_is_settled as settled_law, rows_decide as decide_law}
 use Rattle.values_exist.specs.Laws.{HasAll, MarginsExist, TruthsExist, CertaintiesExist, OneRobustness, TruthIsDecided, CertaintyIsDecided}
 use Rattle.values_exist.specs.Laws.{TruthByValues, CertaintyByValues, AnsweredIsSettled, RowsDecide, MarginsHold}
-use Rattle.values_exist.proofs.Formulas.{AtomsAreDrawn, has_values, has_inf, has_infs, has_value}
+use Rattle.values_exist.proofs.Formulas.{AtomsAreDrawn, has_values, has_sup, has_inf, has_infs, has_value}
 use Rattle.values_exist.proofs.AtomsDrawn.{margins_drawn, truths_drawn, certainties_drawn}
 
 has_all : (p : Subformula) (s : Setting) → AtomsAreDrawn s → HasAll p s
-has_all p s atoms = record { values = has_values p s atoms; inf = has_inf p s atoms; infs = has_infs p s atoms }
+has_all p s atoms = record { values = has_values p s atoms; sup = has_sup p s atoms; inf = has_inf p s atoms; infs = has_infs p s atoms }
 
 -- values for margins
 pub margins_exist : MarginsExist
@@ -70,7 +68,10 @@ certainty_is_decided p items tr t w =
       | inl e ↦ inl (h.certain.0 e)
       | inr k ↦ elim k [
         | inl e ↦ inr (inl (h.certain_not.0 e))
-        | inr e ↦ inr (inr (λ m. not_twoᵉ r one zero_value (h.certain.1 m) e zero_one, λ m. not_twoᵉ r zero_value minus_one e (h.certain_not.1 m) minus_zero))
+        | inr e ↦ inr (inr (
+          λ m. not_twoᵉ r one zero_value (h.certain.1 m) e zero_one,
+          λ m. not_twoᵉ r zero_value minus_one e (h.certain_not.1 m) minus_zero,
+        ))
       ]
     ]
 

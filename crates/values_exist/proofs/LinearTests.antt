@@ -6,7 +6,7 @@ use Rattle.rational.proofs.Order.{same_refl, same_sym, same_trans, le_refl, le_o
 use Rattle.rational.proofs.Order.{lt_trans, lt_of_lt_of_le, lt_of_le_of_lt, lt_or_same_or_gt}
 use Rattle.rational.proofs.Field.{same_add, same_mul, same_negate, lt_mul, lt_add_left, inverse}
 use Rattle.rational.proofs.Tests.{either as by_either}
-use Rattle.values_exist.proofs.Sums.{Sum, alone, plus, value, nought, scale, scale_value, put, put_value}
+use Rattle.values_exist.proofs.Sums.{Sum, alone, plus, value, nought, scale, scale_value}
 
 -- a test of a point
 pub data Test : Type 0 where
@@ -166,8 +166,11 @@ root_of (plus c f) = by_sign (lt_or_same_or_gt c nought)
 
     by_sign : (c <ʳ nought) ⊎ (c ≈ nought) ⊎ (nought <ʳ c) → HasRoot (plus c f)
     by_sign (inl p) = let i = inverse (negate c) (below p) in root_by c (negate i.0) f (inl p) (negative_inverse c i.0 i.1)
-    by_sign (inr (inl e)) = (alone c, λ point x y side h. lt_of_lt_of_le h
-        (le_of_same (same_trans (nothing c x (value f point) e) (same_sym (nothing c y (value f point) e)))))
+    by_sign (inr (inl e)) = (
+      alone c,
+      λ point x y side h. lt_of_lt_of_le h
+          (le_of_same (same_trans (nothing c x (value f point) e) (same_sym (nothing c y (value f point) e)))),
+    )
     by_sign (inr (inr p)) = let i = inverse c p in root_by c i.0 f (inr p) i.1
 
 -- sums of which the test depends on the first number only by its sides

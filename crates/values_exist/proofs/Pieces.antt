@@ -1,13 +1,13 @@
 -- Functions of time that are one linear sum on each of finitely many stretches; sums and multiples of such functions are such functions, and a
 -- test of the sums is one of the function.
-use Rattle.std.proofs.Common.{◌≡◌, ◌⊎◌, ◌↔◌, inl, inr, Bool, true, false, List, [], ◌∷◌, pos, negsuc, ℤ, refl, arith}
+use Rattle.std.proofs.Common.{◌≡◌, ◌↔◌, inl, inr, Bool, true, false, List, [], ◌∷◌, pos, negsuc, refl, arith}
 use Rattle.std.specs.Prelude.{if◌then◌else◌}
 use Rattle.rational.specs.Rational.{Rational, ◌<ʳ◌, ◌≤ʳ◌, ◌≈◌, whole, add, negate, multiply}
 use Rattle.rational.specs.Time.{less}
 use Rattle.rational.specs.Line.{Line, at}
-use Rattle.rational.proofs.Order.{same_refl, same_sym, same_trans, le_or_lt, lt_irrefl, not_lt_of_le, le_of_same, ge_of_same, lt_of_lt_of_le, lt_of_le_of_lt, le_trans}
+use Rattle.rational.proofs.Order.{same_refl, same_sym, same_trans, le_or_lt, not_lt_of_le, le_of_same, ge_of_same, lt_of_lt_of_le, lt_of_le_of_lt, le_trans}
 use Rattle.rational.proofs.Field.{same_add, same_mul}
-use Rattle.rational.proofs.TimeLemmas.{less_out, less_in, less_no}
+use Rattle.rational.proofs.TimeLemmas.{less_out, less_in}
 use Rattle.values_exist.proofs.Sums.{Sum, alone, plus, value, nought, add_sums, add_sums_value, scale, scale_value}
 use Rattle.values_exist.proofs.LinearTests.{Test, above, opposite, both, either, Passes}
 
@@ -136,7 +136,8 @@ piece_test_passes g t point R same (split k early late) =
     not_before : less t k ≡ false → ¬ Passes (before_number k) (t ∷ point)
     not_before e h = let y : less t k ≡ true = less_in t k ((before_number_passes k t point).0 h) in cc
 
-    by_test : (b : Bool) → less t k ≡ b → Passes (piece_test g early) (t ∷ point) ↔ R (read early t) → Passes (piece_test g late) (t ∷ point) ↔ R (read late t)
+    by_test : (b : Bool) → less t k ≡ b → Passes (piece_test g early) (t ∷ point) ↔ R (read early t)
+        → Passes (piece_test g late) (t ∷ point) ↔ R (read late t)
         → Passes (piece_test g (split k early late)) (t ∷ point) ↔ R (if b then read early t else read late t)
     by_test true e i j =
         (λ h. elim h [ inl m ↦ i.0 m.1 | inr m ↦ absurd (m.0 (before e)) ], λ r. inl (before e, i.1 r))
@@ -197,7 +198,8 @@ at_most_passes f t x = (out, λ h k. not_lt_of_le h (apart_out x (value f (t ∷
     apart_in : (x v : Rational) → v <ʳ x → nought <ʳ add (multiply (whole (pos 1)) x) (multiply (whole (negsuc 0)) v)
     apart_in x v h = omega arith
 
-    one : value (beside (whole (pos 1)) (scale (whole (negsuc 0)) f)) (t ∷ x ∷ []) ≈ add (multiply (whole (pos 1)) x) (multiply (whole (negsuc 0)) (value f (t ∷ [])))
+    one : value (beside (whole (pos 1)) (scale (whole (negsuc 0)) f)) (t ∷ x ∷ [])
+        ≈ add (multiply (whole (pos 1)) x) (multiply (whole (negsuc 0)) (value f (t ∷ [])))
     one = same_trans (beside_value (whole (pos 1)) (scale (whole (negsuc 0)) f) t x)
         (same_add (same_refl (multiply (whole (pos 1)) x)) (scale_value (whole (negsuc 0)) f (t ∷ [])))
 
@@ -213,9 +215,12 @@ IsSaid R = (f : Rational → Rational) → IsPiecewise f → (φ : Test) × ((t 
 
 said : (R : Rational → Rational → Type 0) (g : Sum → Test) → ((f : Sum) (t x : Rational) → Passes (g f) (t ∷ x ∷ []) ↔ R (value f (t ∷ [])) x)
     → ((v w x : Rational) → v ≈ w → R v x → R w x) → IsSaid R
-said R g same alike f (p, one) = (piece_test g p, λ t x.
-    let i = piece_test_passes g t (x ∷ []) (λ v. R v x) (λ f. same f t x) p in
-    (λ h. alike (read p t) (f t) x (same_sym (one t)) (i.0 h), λ h. i.1 (alike (f t) (read p t) x (one t) h)))
+said R g same alike f (p, one) = (
+  piece_test g p,
+  λ t x.
+      let i = piece_test_passes g t (x ∷ []) (λ v. R v x) (λ f. same f t x) p in
+      (λ h. alike (read p t) (f t) x (same_sym (one t)) (i.0 h), λ h. i.1 (alike (f t) (read p t) x (one t) h)),
+)
 
 -- it is above 0, and below
 pub positive_said : IsSaid (λ v x. nought <ʳ v)

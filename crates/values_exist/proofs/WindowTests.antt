@@ -1,5 +1,5 @@
 -- The windows of time as tests of a point that has the time in the window first, and then the time at which the window is taken.
-use Rattle.std.proofs.Common.{ℕ, ◌⊎◌, ◌↔◌, inl, inr, List, [], ◌∷◌, pos, negsuc, Bool, true, false, Option, Some, None, arith}
+use Rattle.std.proofs.Common.{ℕ, ◌↔◌, inl, inr, List, [], ◌∷◌, pos, negsuc, Bool, true, false, Option, Some, None, arith}
 use Rattle.std.specs.Prelude.{IfSome}
 use Rattle.rational.specs.Rational.{Rational, ◌<ʳ◌, ◌≤ʳ◌, ◌≈◌, whole, add, negate, multiply}
 use Rattle.rational.specs.Time.{Within, Precedes, later}
@@ -7,7 +7,7 @@ use Rattle.rational.specs.Windows.{Ahead, Behind}
 use Rattle.rational.specs.Extended.{Extended, minus_infinity, finite, infinity, ◌≤ᵉ◌}
 use Rattle.rational.proofs.Order.{le_or_lt, lt_irrefl, not_lt_of_le, le_of_same, ge_of_same, lt_of_lt_of_le}
 use Rattle.rational.proofs.TimeLemmas.{within_stretch}
-use Rattle.values_exist.proofs.Sums.{Sum, alone, plus, value, nought, put, put_value, widen, widen_value}
+use Rattle.values_exist.proofs.Sums.{alone, plus, nought, put, put_value, widen, widen_value}
 use Rattle.values_exist.proofs.LinearTests.{Test, above, opposite, both, Passes, changed, changed_alike}
 use Rattle.values_exist.proofs.Extremes.{IsSlice, IsUpToTest, TellsWindow}
 
@@ -226,7 +226,9 @@ slice_at_one t φ = (changed (put (alone t)) φ, λ x. changed_alike (put (alone
 
 pub slice_at_two : (u t : Rational) → IsSlice (two_times u t)
 slice_at_two u t φ =
-    let s = slice_at_one t (changed (put (alone u)) φ) in
-    (s.0, λ x.
-    let p = changed_alike (put (alone u)) (t ∷ x ∷ []) (u ∷ t ∷ x ∷ []) (λ f. put_value (alone u) f (t ∷ x ∷ [])) φ in
-    (λ h. p.0 ((s.1 x).0 h), λ h. (s.1 x).1 (p.1 h)))
+    let s = slice_at_one t (changed (put (alone u)) φ) in (
+      s.0,
+      λ x.
+          let p = changed_alike (put (alone u)) (t ∷ x ∷ []) (u ∷ t ∷ x ∷ []) (λ f. put_value (alone u) f (t ∷ x ∷ [])) φ in
+          (λ h. p.0 ((s.1 x).0 h), λ h. (s.1 x).1 (p.1 h)),
+    )

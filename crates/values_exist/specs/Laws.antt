@@ -2,6 +2,7 @@
 use Rattle.std.specs.Prelude.{◌⊎◌, List, true, false, pos}
 use Rattle.rational.specs.Time.{Rational, Within, whole, later, negate, ◌≤ʳ◌}
 use Rattle.rational.specs.Extended.{Extended, finite, ◌<ᵉ◌, ◌≈ᵉ◌}
+use Rattle.rational.specs.Windows.{IsSupOver}
 use Rattle.stl_syntax.specs.Trace.{Trace, IsLike, start, stop}
 use Rattle.stl_syntax.specs.Formula.{Subformula, horizon}
 use Rattle.stl_syntax.specs.Truth.{Truth}
@@ -13,9 +14,15 @@ use Rattle.stl_syntax.specs.Verdicts.{IsAnswered}
 use Rattle.stl_syntax.specs.Laws.{IsToldByValue, IsToldCertain}
 use Rattle.stl_syntax.specs.declared.items.Item.{Item}
 
--- the formula and each formula below it has a value at each time of the domain, and an Inf between each two times
+-- between each two times of the domain the formula has a Sup
+abbrev pub HasSup : Subformula → Setting → Type 0
+HasSup p s = (t u : Rational) → Within s.from s.to t → Within s.from s.to u → (y : Extended) × IsSupOver s.lowest (Within t u) (SupInf p s) y
+
+-- the formula and each formula below it has a value at each time of the domain; the formula has a Sup and an Inf between each two times, and
+-- the left side of each until and since in it an Inf
 pub record HasAll (p : Subformula) (s : Setting) : Type 0 where
   pub values : HasValues p s
+  pub sup : HasSup p s
   pub inf : HasInf p s
   pub infs : HasInfs p s
 

@@ -2,8 +2,8 @@
 ghost use Rattle.values_exist.specs.Laws.{MarginsExist, TruthsExist, CertaintiesExist, OneRobustness, TruthIsDecided, CertaintyIsDecided};
 ghost use Rattle.values_exist.specs.Laws.{TruthByValues, CertaintyByValues, AnsweredIsSettled, RowsDecide, MarginsHold};
 
-/// Each formula over each trace, and each formula below it, has a value at each time of the domain and an Inf between each two
-/// times: with atoms read as their margins, as their truth, and as their truth where items cover them.
+/// Each formula over each trace, and each formula below it, has a value at each time of the domain, and a Sup and an Inf between each
+/// two times: with atoms read as their margins, as their truth, and as their truth where items cover them.
 pub fn values_exist()
     ensures margins { MarginsExist }
     ensures truths { TruthsExist }
