@@ -290,10 +290,11 @@ module _ (from to : Rational) where
     draws_since lowest highest W tells.0 p.0 q.0 P Q tells.1 p.1 q.1,
   )
 
-  -- the window ahead is told, and the one behind
+  -- the window ahead is told
   pub ahead_told : (a b : ℕ) (a_in b_in : Bool) → AreTold (Ahead from to a b a_in b_in)
   ahead_told a b a_in b_in = (ahead_test a b a_in b_in, tells_ahead from to a b a_in b_in)
 
+  -- and the one behind
   pub behind_told : (a : ℕ) (b : Option ℕ) (a_in b_in : Bool) → AreTold (Behind from to a b a_in b_in)
   behind_told a b a_in b_in = (behind_test a b a_in b_in, tells_behind from to a b a_in b_in)
 

@@ -6,7 +6,7 @@ use Rattle.rational.proofs.Order.{same_refl, same_sym, same_trans, le_refl, le_o
 use Rattle.rational.proofs.Order.{lt_trans, lt_of_lt_of_le, lt_of_le_of_lt, lt_or_same_or_gt}
 use Rattle.rational.proofs.Field.{same_add, same_mul, same_negate, lt_mul, lt_add_left, inverse}
 use Rattle.rational.proofs.Tests.{either as by_either}
-use Rattle.values_exist.proofs.Sums.{Sum, alone, plus, value, nought, scale, scale_value}
+use Rattle.values_exist.proofs.Sums.{Sum, alone, plus, value, nought, nothing_first, scale, scale_value}
 
 -- a test of a point
 pub data Test : Type 0 where
@@ -111,12 +111,12 @@ at_root c d a e = same_trans (same_add (moved c d a) (same_refl a)) (same_trans 
     gone : (a : Rational) → add (multiply (negate (whole (pos 1))) a) a ≈ nought
     gone a = omega arith
 
-falls : (c x y : Rational) → c <ʳ nought → x <ʳ y → multiply c y <ʳ multiply c x
-falls c x y p h = back c x y (lt_mul (negate c) (positive c p) h)
-  where
-    positive : (c : Rational) → c <ʳ nought → nought <ʳ negate c
-    positive c p = omega arith
+opposite_above : {c : Rational} → c <ʳ nought → nought <ʳ negate c
+opposite_above p = omega arith
 
+falls : (c x y : Rational) → c <ʳ nought → x <ʳ y → multiply c y <ʳ multiply c x
+falls c x y p h = back c x y (lt_mul (negate c) (opposite_above p) h)
+  where
     back : (c x y : Rational) → multiply (negate c) x <ʳ multiply (negate c) y → multiply c y <ʳ multiply c x
     back c x y h = omega arith
 
@@ -155,17 +155,11 @@ root_of : (f : Sum) → HasRoot f
 root_of (alone k) = (alone k, λ point x y side h. h)
 root_of (plus c f) = by_sign (lt_or_same_or_gt c nought)
   where
-    below : c <ʳ nought → nought <ʳ negate c
-    below p = omega arith
-
     nothing : (c x a : Rational) → c ≈ nought → add (multiply c x) a ≈ a
-    nothing c x a e = same_trans (same_add (same_mul e (same_refl x)) (same_refl a)) (none x a)
-      where
-        none : (x a : Rational) → add (multiply nought x) a ≈ a
-        none x a = omega arith
+    nothing c x a e = same_trans (same_add (same_mul e (same_refl x)) (same_refl a)) (nothing_first x a)
 
     by_sign : (c <ʳ nought) ⊎ (c ≈ nought) ⊎ (nought <ʳ c) → HasRoot (plus c f)
-    by_sign (inl p) = let i = inverse (negate c) (below p) in root_by c (negate i.0) f (inl p) (negative_inverse c i.0 i.1)
+    by_sign (inl p) = let i = inverse (negate c) (opposite_above p) in root_by c (negate i.0) f (inl p) (negative_inverse c i.0 i.1)
     by_sign (inr (inl e)) = (
       alone c,
       λ point x y side h. lt_of_lt_of_le h

@@ -8,7 +8,7 @@ use Rattle.rational.specs.Line.{Line, at}
 use Rattle.rational.proofs.Order.{same_refl, same_sym, same_trans, le_or_lt, not_lt_of_le, le_of_same, ge_of_same, lt_of_lt_of_le, lt_of_le_of_lt, le_trans}
 use Rattle.rational.proofs.Field.{same_add, same_mul}
 use Rattle.rational.proofs.TimeLemmas.{less_out, less_in}
-use Rattle.values_exist.proofs.Sums.{Sum, alone, plus, value, nought, add_sums, add_sums_value, scale, scale_value}
+use Rattle.values_exist.proofs.Sums.{Sum, alone, plus, value, nought, nothing_first, swapped, add_sums, add_sums_value, scale, scale_value}
 use Rattle.values_exist.proofs.LinearTests.{Test, above, opposite, both, either, Passes}
 
 -- one sum, or one of two functions before a time and another from it on
@@ -104,16 +104,19 @@ pub piecewise_choice : (b : Bool) (f g : Rational → Rational) → IsPiecewise 
 piecewise_choice true f g p q = p
 piecewise_choice false f g p q = q
 
--- the first number comes before k, and after it
+-- the first number comes before k
 abbrev pub before_number : Rational → Test
 before_number k = above (plus (whole (negsuc 0)) (alone k))
 
+-- it comes after k
 abbrev pub after_number : Rational → Test
 after_number k = above (plus (whole (pos 1)) (alone (negate k)))
 
+-- as the tests say
 pub before_number_passes : (k t : Rational) (point : List Rational) → Passes (before_number k) (t ∷ point) ↔ (t <ʳ k)
 before_number_passes k t point = (λ h. omega arith, λ h. omega arith)
 
+-- so after it
 pub after_number_passes : (k t : Rational) (point : List Rational) → Passes (after_number k) (t ∷ point) ↔ (k <ʳ t)
 after_number_passes k t point = (λ h. omega arith, λ h. omega arith)
 
@@ -150,14 +153,8 @@ beside m (alone k) = plus nought (plus m (alone k))
 beside m (plus c f) = plus c (plus m (alone (value f [])))
 
 beside_value : (m : Rational) (f : Sum) (t x : Rational) → value (beside m f) (t ∷ x ∷ []) ≈ add (multiply m x) (value f (t ∷ []))
-beside_value m (alone k) t x = skipped t (add (multiply m x) k)
-  where
-    skipped : (t b : Rational) → add (multiply nought t) b ≈ b
-    skipped t b = omega arith
+beside_value m (alone k) t x = nothing_first t (add (multiply m x) k)
 beside_value m (plus c f) t x = swapped (multiply c t) (multiply m x) (value f [])
-  where
-    swapped : (a b c : Rational) → add a (add b c) ≈ add b (add a c)
-    swapped a b c = omega arith
 
 -- a sum of the first number is above 0, and below
 abbrev positive_test : Sum → Test
@@ -169,11 +166,8 @@ negative_test f = above (beside nought (scale (whole (negsuc 0)) f))
 positive_passes : (f : Sum) (t x : Rational) → Passes (positive_test f) (t ∷ x ∷ []) ↔ (nought <ʳ value f (t ∷ []))
 positive_passes f t x = (λ h. lt_of_lt_of_le h (le_of_same (one f)), λ h. lt_of_lt_of_le h (ge_of_same (one f)))
   where
-    skipped : (x b : Rational) → add (multiply nought x) b ≈ b
-    skipped x b = omega arith
-
     one : (f : Sum) → value (beside nought f) (t ∷ x ∷ []) ≈ value f (t ∷ [])
-    one f = same_trans (beside_value nought f t x) (skipped x (value f (t ∷ [])))
+    one f = same_trans (beside_value nought f t x) (nothing_first x (value f (t ∷ [])))
 
 negated : (v : Rational) → (nought <ʳ multiply (whole (negsuc 0)) v) ↔ (v <ʳ nought)
 negated v = (λ h. omega arith, λ h. omega arith)
@@ -222,10 +216,11 @@ said R g same alike f (p, one) = (
       (λ h. alike (read p t) (f t) x (same_sym (one t)) (i.0 h), λ h. i.1 (alike (f t) (read p t) x (one t) h)),
 )
 
--- it is above 0, and below
+-- it is above 0
 pub positive_said : IsSaid (λ v x. nought <ʳ v)
 positive_said = said (λ v x. nought <ʳ v) positive_test positive_passes (λ v w x e h. lt_of_lt_of_le h (le_of_same e))
 
+-- it is below 0
 pub negative_said : IsSaid (λ v x. v <ʳ nought)
 negative_said = said (λ v x. v <ʳ nought) negative_test negative_passes (λ v w x e h. lt_of_le_of_lt (ge_of_same e) h)
 

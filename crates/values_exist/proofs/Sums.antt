@@ -59,7 +59,8 @@ half = ratio (pos 1) 2 (zero-lt-suc 1)
 abbrev pub middle_sum : Sum → Sum → Sum
 middle_sum f g = scale half (add_sums f g)
 
-swapped : (a b c : Rational) → add a (add b c) ≈ add b (add a c)
+-- two summands change places
+pub swapped : (a b c : Rational) → add a (add b c) ≈ add b (add a c)
 swapped a b c = omega arith
 
 add_value : (k : Rational) (f : Sum) (point : List Rational) → value (add_constant k f) point ≈ add k (value f point)
@@ -98,8 +99,11 @@ put_value g (alone k) point = same_refl k
 put_value g (plus c f) point =
     same_trans (add_sums_value (scale c g) f point) (same_add (scale_value c g point) (same_refl (value f point)))
 
--- a number that counts nothing
-pub nothing_more : (x a b : Rational) → add a (add (multiply nought x) b) ≈ add a b
+-- a number that counts nothing, first
+pub nothing_first : (x b : Rational) → add (multiply nought x) b ≈ b
+nothing_first x b = omega arith
+
+nothing_more : (x a b : Rational) → add a (add (multiply nought x) b) ≈ add a b
 nothing_more x a b = omega arith
 
 -- the value with a number that counts nothing

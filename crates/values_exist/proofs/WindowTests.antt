@@ -1,13 +1,13 @@
 -- The windows of time as tests of a point that has the time in the window first, and then the time at which the window is taken.
 use Rattle.std.proofs.Common.{ℕ, ◌↔◌, inl, inr, List, [], ◌∷◌, pos, negsuc, Bool, true, false, Option, Some, None, arith}
 use Rattle.std.specs.Prelude.{IfSome}
-use Rattle.rational.specs.Rational.{Rational, ◌<ʳ◌, ◌≤ʳ◌, ◌≈◌, whole, add, negate, multiply}
+use Rattle.rational.specs.Rational.{Rational, ◌<ʳ◌, ◌≤ʳ◌, whole, add, negate, multiply}
 use Rattle.rational.specs.Time.{Within, Precedes, later}
 use Rattle.rational.specs.Windows.{Ahead, Behind}
 use Rattle.rational.specs.Extended.{Extended, minus_infinity, finite, infinity, ◌≤ᵉ◌}
 use Rattle.rational.proofs.Order.{le_or_lt, lt_irrefl, not_lt_of_le, le_of_same, ge_of_same, lt_of_lt_of_le}
 use Rattle.rational.proofs.TimeLemmas.{within_stretch}
-use Rattle.values_exist.proofs.Sums.{alone, plus, nought, put, put_value, widen, widen_value}
+use Rattle.values_exist.proofs.Sums.{alone, plus, nought, nothing_first, put, put_value, widen, widen_value}
 use Rattle.values_exist.proofs.LinearTests.{Test, above, opposite, both, Passes, changed, changed_alike}
 use Rattle.values_exist.proofs.Extremes.{IsSlice, IsUpToTest, TellsWindow}
 
@@ -90,10 +90,11 @@ behind_ends_passes : (b : Bool) (k : ℕ) (u t : Rational) (point : List Rationa
 behind_ends_passes true k u t point = let p = second_before_passes k u t point in denied t (later u k) p.0 p.1
 behind_ends_passes false k u t point = second_after_passes k u t point
 
--- a time and a number as a point, and two times and a number
+-- a time and a number as a point
 abbrev pub one_time : Rational → Rational → List Rational
 one_time t x = t ∷ x ∷ []
 
+-- two times and a number
 abbrev pub two_times : Rational → Rational → Rational → List Rational
 two_times u t x = u ∷ t ∷ x ∷ []
 
@@ -198,32 +199,31 @@ limit_test infinity = opposite (above (alone nought))
 limit_passes : (r : Extended) (z x : Rational) (point : List Rational) → Passes (limit_test r) (z ∷ x ∷ point) ↔ (finite x ≤ᵉ r)
 limit_passes minus_infinity z x point = (λ h. absurd (lt_irrefl h), λ h. absurd h)
 limit_passes infinity z x point = (λ h. tt, λ h k. lt_irrefl k)
-limit_passes (finite l) z x point = denied l x (λ h. out z l x (lt_of_lt_of_le h (le_of_same (skipped z (add (multiply plus_one x) (negate l))))))
-    (λ h. lt_of_lt_of_le (into l x h) (ge_of_same (skipped z (add (multiply plus_one x) (negate l)))))
+limit_passes (finite l) z x point = denied l x (λ h. out z l x (lt_of_lt_of_le h (le_of_same (nothing_first z (add (multiply plus_one x) (negate l))))))
+    (λ h. lt_of_lt_of_le (into l x h) (ge_of_same (nothing_first z (add (multiply plus_one x) (negate l)))))
   where
-    skipped : (z b : Rational) → add (multiply nought z) b ≈ b
-    skipped z b = omega arith
-
     out : (z l x : Rational) → nought <ʳ add (multiply plus_one x) (negate l) → l <ʳ x
     out z l x h = omega arith
 
     into : (l x : Rational) → l <ʳ x → nought <ʳ add (multiply plus_one x) (negate l)
     into l x h = omega arith
 
--- at one time, and at two
+-- at one time
 pub limit_at_one : (r : Extended) (t : Rational) → IsUpToTest (one_time t) (limit_test r) r
 limit_at_one r t x = limit_passes r t x []
 
+-- at two
 pub limit_at_two : (r : Extended) (u t : Rational) → IsUpToTest (two_times u t) (changed widen (limit_test r)) r
 limit_at_two r u t x =
     let w = changed_alike widen (u ∷ t ∷ x ∷ []) (u ∷ x ∷ []) (λ f. widen_value f u t (x ∷ [])) (limit_test r) in
     let p = limit_passes r u x [] in
     (λ h. p.0 (w.0 h), λ h. w.1 (p.1 h))
 
--- at fixed times a test of times and a number is one of the number
+-- at a fixed time a test of a time and a number is one of the number
 pub slice_at_one : (t : Rational) → IsSlice (one_time t)
 slice_at_one t φ = (changed (put (alone t)) φ, λ x. changed_alike (put (alone t)) (x ∷ []) (t ∷ x ∷ []) (λ f. put_value (alone t) f (x ∷ [])) φ)
 
+-- at two fixed times, too
 pub slice_at_two : (u t : Rational) → IsSlice (two_times u t)
 slice_at_two u t φ =
     let s = slice_at_one t (changed (put (alone u)) φ) in (
