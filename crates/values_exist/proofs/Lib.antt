@@ -1,0 +1,12 @@
+pub mod Sums
+pub mod LinearTests
+pub mod Elimination
+pub mod Edges
+pub mod Extremes
+pub mod WindowTests
+pub mod Drawn
+pub mod Formulas
+pub mod Pieces
+pub mod Columns
+pub mod AtomsDrawn
+pub mod LawProofs
