@@ -147,20 +147,20 @@ module _ (on : Domain) (b e : Turn) where
       → Adds on last (Some e) (After (place b)) (λ t. After (place b) t × Upto (place e) t) s s'
   adds_apart s m s' last l is can order apart first second =
       subst (λ o. CanAdd on o (After (place b)) s → Adds on o (Some e) (After (place b)) (stretch) s s') (sym is) (λ can.
-          let off : (t : Rational) → Lies on t → After (place b) t → has m t ≡ false = λ t i a.
-              first.times t i ∙ at_after l t (has s t) (after_of_before (place l) (place b) t apart a) ∙ ap not (can.goes_on t i a) in
-          let far = before_trans (place l) (place b) (place e) apart order in
-          record {
-            grown = record {
-              rise = second.rise;
-              begins = second.begins;
-              ends = second.ends;
-              before = second.last (place e) (first.last (place e) (end_later (place l) (place e) s.turns.items can.grown.before far) far) order;
-            };
-            goes_on = λ t i a. second.times t i ∙ at_after b t (has m t) a ∙ ap not (off t i a);
-            tells = λ t i. subst (λ x. IsTrue (turned_at e t x) ↔ (IsTrue (turned_at l t (has s t)) ⊎ (After (place b) t × Upto (place e) t))) (sym (second.times t i))
-                (fresh (IsTrue (turned_at l t (has s t))) (has m t) b e t order (off t i) ((λ v. sym (first.times t i) ∙ v), (λ v. first.times t i ∙ v)));
-          }) can
+      let off : (t : Rational) → Lies on t → After (place b) t → has m t ≡ false = λ t i a.
+      first.times t i ∙ at_after l t (has s t) (after_of_before (place l) (place b) t apart a) ∙ ap not (can.goes_on t i a) in
+      let far = before_trans (place l) (place b) (place e) apart order in
+      record {
+        grown = record {
+          rise = second.rise;
+          begins = second.begins;
+          ends = second.ends;
+          before = second.last (place e) (first.last (place e) (end_later (place l) (place e) s.turns.items can.grown.before far) far) order;
+        };
+        goes_on = λ t i a. second.times t i ∙ at_after b t (has m t) a ∙ ap not (off t i a);
+        tells = λ t i. subst (λ x. IsTrue (turned_at e t x) ↔ (IsTrue (turned_at l t (has s t)) ⊎ (After (place b) t × Upto (place e) t))) (sym (second.times t i))
+            (fresh (IsTrue (turned_at l t (has s t))) (has m t) b e t order (off t i) ((λ v. sym (first.times t i) ∙ v), (λ v. first.times t i ∙ v)));
+      }) can
 
   -- a stretch that touches the last one
   pub adds_longer : (s : Times) (last : Option Turn) (l m : Turn) → last ≡ Some l → CanAdd on last (After (place b)) s → ¬ (Before (place l) (place b))

@@ -105,8 +105,8 @@ part_at_turn on [] n f is rise begins ends l e = absurd (omega arith)
 part_at_turn on (p ∷ rest) zero f is rise begins ends l e =
     subst (λ x. IsPart on (record { from = x; to = get_or rest 0 on.to }) (turned false (p ∷ rest)) (turned false (drop 1 rest))) (sym e)
     (first_part on p (turned false (p ∷ rest)) is (near_within on p is begins ends.0) (λ t a. after_of_before (place on.from) (place p) t begins a)
-        (λ t l u. turned_upto false p rest t u) rest rise.1 rise.0 ends.1 (head_after (place on.from) p rest begins rise.0) ends.0
-        (λ t a. turned_after false p rest t a))
+    (λ t l u. turned_upto false p rest t u) rest rise.1 rise.0 ends.1 (head_after (place on.from) p rest begins rise.0) ends.0
+    (λ t a. turned_after false p rest t a))
 part_at_turn on (p ∷ rest) (suc n) f is rise begins ends l e =
     let m : n < length rest = omega (arith, l) in
     part_at_turn on rest n f is rise.1 (head_after (place on.from) p rest begins rise.0) ends.1 m e
@@ -130,7 +130,7 @@ part_at on s n f e is own l h k = subst (λ x. IsPart on (record { from = x; to 
         let k : n < length s.turns.items = omega (arith, l) in
         let e : suc (suc (suc n)) ≡ suc n + 2 = omega arith in
         subst (λ m. IsPart on (record { from = get_or s.turns.items n on.to; to = get_or s.turns.items (suc n) on.to }) (left_from (suc n) s.turns.items)
-            (left_from m s.turns.items)) e
+        (left_from m s.turns.items)) e
         (part_at_turn on s.turns.items n (get_or s.turns.items n on.to) is own.rise own.begins own.ends k (same_default s.turns.items n k))
 
 -- behind the last turn no stretch begins

@@ -81,9 +81,14 @@ module _ (on run part : Domain) (w : Window) (p p' q q' : Rational → Bool) (is
   of_meets : (t : Rational) → Lies on t → Meets w run part t → ReachesSome on w p q t
   of_meets t l m =
       let u = m.sees.0 in
-      let i = is'.inside.within u m.sees.4 m.sees.5 in
-      (u, i, m.sees.1, (is'.splits u i).1 (inl (m.sees.4, m.sees.5)), λ v b. (is.splits v (lies_between on t u v l i b)).1
-          (inl (between_after (place run.from) t u v m.after m.sees.2 b, between_upto (place run.to) t u v m.upto m.sees.3 b)))
+      let i = is'.inside.within u m.sees.4 m.sees.5 in (
+        u,
+        i,
+        m.sees.1,
+        (is'.splits u i).1 (inl (m.sees.4, m.sees.5)),
+        λ v b. (is.splits v (lies_between on t u v l i b)).1
+            (inl (between_after (place run.from) t u v m.after m.sees.2 b, between_upto (place run.to) t u v m.upto m.sees.3 b)),
+      )
 
   -- where the run ends before the part, the run is done with
   run_done : (t : Rational) → Lies on t → Before (place run.to) (place part.to) → ReachesSome on w p q t ↔ (Meets w run part t ⊎ ReachesSome on w p' q t)
@@ -229,7 +234,7 @@ module _ (on run part : Domain) (w : Window) (from to first last b e : Turn) (ro
   past_in : (t : Rational) → IsPast w run part t → After (place b) t
   past_in t past = of_one run.from first b (λ x. After (place x) t) is_b.one past.after
       (after_same (moved_begin (neg_ℤ w.high) w.high_in (place from)) (place first) t (same_places is_first) ((ends_past w.high w.high_in (place from) t).1
-          (of_one run.from part.from from (λ x. Before (place x) (high_place w.high w.high_in t)) is_from.one past.run_begins past.part_begins)))
+      (of_one run.from part.from from (λ x. Before (place x) (high_place w.high w.high_in t)) is_from.one past.run_begins past.part_begins)))
 
   past_out : (t : Rational) → After (place b) t → IsPast w run part t
   past_out t a =
@@ -297,7 +302,13 @@ pub meet_nothing : (on run part : Domain) (w : Window) (from to : Turn) (end : O
 meet_nothing on run part w from to end made is_from is_to empty can = record {
   grown = can.grown;
   goes_on = can.goes_on;
-  tells = λ t l. ((λ h. inl h), (λ x. elim x [ inl h ↦ h | inr m ↦ absurd (empty (before_through (place from) (place to) m.sees.0
-      (of_one run.from part.from from (λ x. After (place x) m.sees.0) is_from.one m.sees.2 m.sees.4)
-      (of_one run.to part.to to (λ x. Upto (place x) m.sees.0) is_to.one m.sees.3 m.sees.5))) ]));
+  tells = λ t l. (
+    (λ h. inl h),
+    (λ x. elim x [
+      | inl h ↦ h
+      | inr m ↦ absurd (empty (before_through (place from) (place to) m.sees.0
+          (of_one run.from part.from from (λ x. After (place x) m.sees.0) is_from.one m.sees.2 m.sees.4)
+          (of_one run.to part.to to (λ x. Upto (place x) m.sees.0) is_to.one m.sees.3 m.sees.5)))
+    ]),
+  );
 }

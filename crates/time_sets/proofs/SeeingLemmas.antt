@@ -99,7 +99,7 @@ seen_step on part w s end end' made made' now later b e room so is first last ad
       let behind = after_at_most (place part.from) (place part.to) u (λ v x. upto_of_before (place part.from) (place part.to) v is.inside.order x) (is.behind u m h) in
       let far = before_through (place part.from) (high_place w.high w.high_in t) u behind k in
       adds.goes_on t l (after_same (moved_begin (neg_ℤ w.high) w.high_in (place part.from)) (place b) t (same_places first)
-          ((ends_past w.high w.high_in (place part.from) t).1 far));
+      ((ends_past w.high w.high_in (place part.from) t).1 far));
   tells = λ t l. regroup _ _ _ _ _ _ (so.tells t l) (sees_split on part w now later b e t is room first last l) (adds.tells t l);
 }
 

@@ -1,16 +1,16 @@
 -- The truth of a set between its turns.
-use Rattle.std.proofs.Common.{◌≡◌, ◌⊎◌, inl, inr, ℕ, zero, suc, ◌%◌, ◌<◌, ◌≤◌, Bool, true, false, not, List, [], ◌∷◌, length, get_or, refl, sym, ap, ◌∙◌, subst, arith}
+use Rattle.std.proofs.Common.{◌≡◌, ◌⊎◌, inl, inr, ℕ, zero, suc, ◌%◌, ◌<◌, ◌≤◌, Bool, true, false, not, List, [], ◌∷◌, length, get_or, refl, sym, ap, ◌∙◌, subst, arith, ◌+◌}
 use Rattle.std.specs.Prelude.{cond, ◌==◌}
 use mathlib.Core.Bool.{beq}
 use Rattle.rational.specs.Time.{Rational, ◌≤ʳ◌}
 use Rattle.rational.specs.Places.{Place, Before, After, Upto}
 use Rattle.rational.proofs.Order.{le_refl}
-use Rattle.rational.proofs.PlaceLemmas.{not_both, share, before_through, after_of_before, before_trans}
+use Rattle.rational.proofs.PlaceLemmas.{sides, not_both, share, before_through, after_of_before, before_trans}
 use Rattle.time_sets.specs.Turns.{place}
 use Rattle.time_sets.specs.Sets.{has, turned, BeginAfter, EndBefore, Rise}
 use Rattle.time_sets.specs.Windows.{Lies, IsDomain, IsOf}
 use Rattle.time_sets.specs.Parts.{IsInside}
-use Rattle.time_sets.specs.Spans.{odd, border, IsLongest}
+use Rattle.time_sets.specs.Spans.{odd, border, IsLongest, SpansCover}
 use Rattle.time_sets.specs.declared.turn.Turn.{Turn}
 use Rattle.time_sets.specs.declared.times.Times.{Times}
 use Rattle.time_sets.specs.declared.domain.Domain.{Domain}
@@ -149,7 +149,7 @@ module _ (on : Domain) (s : Times) (is : IsDomain on) (own : IsOf on s) where
           let k : n ≤ length s.turns.items = omega (arith, l) in
           let order = (inside n k).order in
           let here : Before (record { at = t; after = false }) (place (get_or s.turns.items n on.to)) =
-              before_through (record { at = t; after = false }) (place (get_or s.turns.items n on.to)) t (le_refl t) u in
+          before_through (record { at = t; after = false }) (place (get_or s.turns.items n on.to)) t (le_refl t) u in
           let m = share (place (border on s n)) (place (get_or s.turns.items n on.to)) (record { at = t; after = false }) (place (get_or s.turns.items n on.to)) order here order here in
           (m.0, m.3, m.2, truth n m.0 k m.1 m.2 ∙ turn_back e)
         where
@@ -171,6 +171,35 @@ module _ (on : Domain) (s : Times) (is : IsDomain on) (own : IsOf on s) where
           let order = (inside (suc n) k).order in
           let c = place (get_or s.turns.items n on.to) in
           let here : Before (place (get_or s.turns.items n on.to)) (record { at = t; after = true }) =
-              before_through (place (get_or s.turns.items n on.to)) (record { at = t; after = true }) t a (le_refl t) in
+          before_through (place (get_or s.turns.items n on.to)) (record { at = t; after = true }) t a (le_refl t) in
           let m = share (place (get_or s.turns.items n on.to)) (place (get_or s.turns.items (suc n) on.to)) (place (get_or s.turns.items n on.to)) (record { at = t; after = true }) order here here order in
           (m.0, m.4, m.1, truth (suc n) m.0 k m.1 m.2 ∙ flips_more s.starts n ∙ sym (ap not e))
+
+-- the borders of what begins at the turn f
+abbrev border_from : Turn → List Turn → Turn → ℕ → Turn
+border_from f ps e zero = f
+border_from f ps e (suc n) = get_or ps n e
+
+between_borders : (f : Turn) (ps : List Turn) (e : Turn) (t : Rational) → After (place f) t → Upto (place e) t
+    → (n : ℕ) × (n ≤ length ps) × After (place (border_from f ps e n)) t × Upto (place (get_or ps n e)) t
+between_borders f [] e t a u = (0, omega arith, a, u)
+between_borders f (p ∷ rest) e t a u = elim (sides (place p) t) [
+  | inl k ↦ (0, omega arith, a, k)
+  | inr b ↦ step (between_borders p rest e t b u)
+]
+  where
+    step : ((n : ℕ) × (n ≤ length rest) × After (place (border_from p rest e n)) t × Upto (place (get_or rest n e)) t)
+        → (n : ℕ) × (n ≤ suc (length rest)) × After (place (border_from f (p ∷ rest) e n)) t × Upto (place (get_or (p ∷ rest) n e)) t
+    step (zero, l, x, y) = (1, omega arith, x, y)
+    step (suc n, l, x, y) = (suc (suc n), omega (arith, l), x, y)
+
+-- each time of a domain lies between two borders
+pub spans_cover : SpansCover
+spans_cover on s t own l = at_border (between_borders on.from s.turns.items on.to t l.0 l.1)
+  where
+    at_border : ((n : ℕ) × (n ≤ length s.turns.items) × After (place (border_from on.from s.turns.items on.to n)) t × Upto (place (get_or s.turns.items n on.to)) t)
+        → (n : ℕ) × (n ≤ length s.turns.items) × After (place (border on s n)) t × Upto (place (border on s (n + 1))) t
+    at_border (zero, k, x, y) = (0, k, x, y)
+    at_border (suc n, k, x, y) =
+        let e : suc (suc n) ≡ suc n + 1 = omega arith in
+        (suc n, k, x, subst (λ m. Upto (place (border on s m)) t) e y)

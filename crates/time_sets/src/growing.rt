@@ -1,4 +1,4 @@
-//! Sets that are made as places come, and sets read out.
+//! Sets that are made as places come, and sets that are read out.
 ghost use Rattle.std.specs.Prelude.{◌≡◌};
 ghost use Rattle.time_sets.specs.Spans.{odd};
 
@@ -78,7 +78,8 @@ impl Times {
         Ok(())
     }
 
-    /// The stretch `next` of one truth in the domain, in order from 0. Each begins where the one before ends.
+    /// The longest stretch of one truth in the domain that has `next` others before it. Each begins where the one before ends, the first
+    /// with the domain, and the last ends with it.
     #[inline(always)]
     pub fn span(&self, on: &Domain, next: usize) -> Option<Span>
         requires domain { IsDomain on.now }

@@ -23,12 +23,28 @@ impl Turn {
     ghost use Rattle.time_sets.specs.Turns.{IsPlaceOrder, place};
     ghost use Rattle.time_sets.specs.Windows.{IsNear};
 
-    /// The floor of the time.
+    /// The floor of the time, in ticks.
     #[inline(always)]
-    fn floor(&self) -> i64
+    pub fn floor(&self) -> i64
         ensures { result ≡ floor_of self.now.twice }
     {
         self.twice >> 1
+    }
+
+    /// How many parts of a tick the time lies above its floor: of so many as `den` says.
+    #[inline(always)]
+    pub fn rest(&self) -> u32
+        ensures { result ≡ self.now.rest }
+    {
+        self.rest
+    }
+
+    /// How many parts a tick has. The fraction is in no lowest terms.
+    #[inline(always)]
+    pub fn den(&self) -> u32
+        ensures { result ≡ self.now.den }
+    {
+        self.den
     }
 
     /// Whether both times have one floor.

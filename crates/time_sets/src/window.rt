@@ -6,12 +6,17 @@ ghost use Rattle.time_sets.specs.Bounds.{reach_of};
 use crate::domain::Domain;
 use crate::turn::Turn;
 
-/// The times from `low` after a time to `high` after it, each end in or out; with no `low` all up to `high`.
+/// The times from `low` ticks after a time to `high` ticks after it; with no `low` all times up to there. A window behind has negative
+/// numbers.
 #[derive(Clone, Copy, Debug)]
 pub struct Window {
+    /// How many ticks after the time it begins.
     pub low: Option<i64>,
+    /// Whether it has the time at which it begins.
     pub low_in: bool,
+    /// How many ticks after the time it ends.
     pub high: i64,
+    /// Whether it has the time at which it ends.
     pub high_in: bool,
     pub ghost near: { reach_of low ≤ 2 ^ 34 },
     pub ghost far: { unsigned_abs high ≤ 2 ^ 34 },

@@ -70,8 +70,8 @@ pub returns-clause-of : goal.returns-clause-of
 returns-clause-of c =
     let none = c.in_default.ensures in
     let joins : Joins c.join-starts.result c.loop-next.turns.items c.args.p.now.turns.items c.args.q.now.turns.items
-        (λ t. joined c.args.all (has c.args.p.now t) (has c.args.q.now t)) =
-        merges_end _ _ _ _ _ _ _ _ _ _ _ c.loop-next.invariant.merges
-            (subst (λ xs. drop c.loop-next.i xs ≡ []) c.deref.ensures.value none.0)
-            (subst (λ xs. drop c.loop-next.k xs ≡ []) c.deref-in-loop-next.ensures.value none.1) in
+    (λ t. joined c.args.all (has c.args.p.now t) (has c.args.q.now t)) =
+    merges_end _ _ _ _ _ _ _ _ _ _ _ c.loop-next.invariant.merges
+    (subst (λ xs. drop c.loop-next.i xs ≡ []) c.deref.ensures.value none.0)
+    (subst (λ xs. drop c.loop-next.k xs ≡ []) c.deref-in-loop-next.ensures.value none.1) in
     λ on p q. record { rise = joins.rise; begins = joins.begins (place on.from) p.begins q.begins; ends = joins.ends (place on.to) p.ends q.ends }

@@ -28,8 +28,8 @@ pub returns : goal.returns
 returns c =
     let at = (goal.at.returns c).After-earlier-to in
     if_ok_then c.add.result _ _ c.add.ensures (λ x adds.
-        meet_adds c.args.on.now c.args.run.now c.args.part.now c.args.w.now c.later-from.result c.earlier-to.result c.first-first.result c.last-until.result
-        c.later-begin.result c.earlier-end.result c.requires.room (is_from at) (is_to at) c.first-first.ensures c.last-until.ensures
-        (record { one = c.later-begin.ensures.one; first = c.later-begin.ensures.first; second = c.later-begin.ensures.second })
-        (record { one = c.earlier-end.ensures.one; first = c.earlier-end.ensures.first; second = c.earlier-end.ensures.second })
-        (c.precedes.ensures.0 c.if-not-precedes.false) c.args.last x c.args.made.now c.add.new.made adds)
+    meet_adds c.args.on.now c.args.run.now c.args.part.now c.args.w.now c.later-from.result c.earlier-to.result c.first-first.result c.last-until.result
+    c.later-begin.result c.earlier-end.result c.requires.room (is_from at) (is_to at) c.first-first.ensures c.last-until.ensures
+    (record { one = c.later-begin.ensures.one; first = c.later-begin.ensures.first; second = c.later-begin.ensures.second })
+    (record { one = c.earlier-end.ensures.one; first = c.earlier-end.ensures.first; second = c.earlier-end.ensures.second })
+    (c.precedes.ensures.0 c.if-not-precedes.false) c.args.last x c.args.made.now c.add.new.made adds)
