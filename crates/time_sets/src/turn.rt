@@ -66,8 +66,9 @@ impl Turn {
     /// Just before the whole number `n`, or just after it.
     #[inline(always)]
     pub fn at_tick(n: i64, after: bool) -> Turn
-        requires { unsigned_abs n ≤ 2 ^ 40 }
-        ensures { Same (place result) (record { at = whole n; after = after }) }
+        requires { unsigned_abs n ≤ 2 ^ 36 }
+        ensures place { Same (place result) (record { at = whole n; after = after }) }
+        ensures near { IsNear result }
     {
         Turn {
             twice: twice_of(n, after),
@@ -79,9 +80,10 @@ impl Turn {
     /// Just before `floor + rest / den`, or just after it.
     #[inline(always)]
     pub fn mixed(floor: i64, rest: u32, den: u32, after: bool) -> Turn
-        requires near { unsigned_abs floor ≤ 2 ^ 40 }
+        requires near { unsigned_abs floor ≤ 2 ^ 36 }
         requires below { rest < den }
-        ensures { Same (place result) (record { at = fraction (floor *ℤ pos den +ℤ pos rest) (pos den); after = after }) }
+        ensures place { Same (place result) (record { at = fraction (floor *ℤ pos den +ℤ pos rest) (pos den); after = after }) }
+        ensures near { IsNear result }
     {
         Turn {
             twice: twice_of(floor, after),
