@@ -1,0 +1,9 @@
+mod TurnLemmas
+mod SetLemmas
+mod SteppingLemmas
+mod MakingLemmas
+mod WindowLemmas
+mod PartLemmas
+mod SeeingLemmas
+mod ReachLemmas
+mod SpanLemmas

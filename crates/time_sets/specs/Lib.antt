@@ -1,0 +1,9 @@
+pub mod Twice
+pub mod Turns
+pub mod Sets
+pub mod Merging
+pub mod Windows
+pub mod Parts
+pub mod Spans
+pub mod Bounds
+pub mod Making
