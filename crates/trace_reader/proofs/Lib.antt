@@ -18,3 +18,11 @@ pub mod ReaderTakes
 pub mod KindLemmas
 pub mod FirstFaultStays
 pub mod PlainLemmas
+mod RowTakes
+mod ByteTables
+mod ByteLemmas
+mod DigitBytes
+mod MarkLemmas
+mod CountLemmas
+mod ShiftLemmas
+mod ValueLemmas

@@ -2,6 +2,7 @@ pub mod TraceText
 pub mod TraceRefusals
 pub mod InputFaults
 pub mod Sofar
+pub mod Words
 pub mod Plain
 pub mod Labels
 pub mod Trace
@@ -15,5 +16,6 @@ pub mod Progress
 pub mod Content
 pub mod Two
 pub mod Reader
+pub mod Taken
 pub mod LineReader
 pub mod ReaderParts

@@ -1,6 +1,6 @@
 //! The digits that a text begins with.
 ghost use Rattle.std.specs.Prelude.{◌≡◌, ◌≤◌, length, take, drop, min, true, MatchOption};
-ghost use Rattle.trace_reader.specs.Plain.{IsFewDigits, AreMoreDigits};
+ghost use Rattle.trace_reader.specs.Plain.{AreMoreDigits};
 ghost use Rattle.stl_syntax.specs.Characters.{is_digit, all, StopsAt, decimal_value};
 
 /// A number above all that a trace may have; a value that reached it is not told exactly.
@@ -32,26 +32,6 @@ pub(crate) fn leading_digits(text: &[u8]) -> Digits
         len: text.len(),
         value,
     }
-}
-
-/// The digits that a text begins with, where they are one to nine.
-#[inline(always)]
-pub(crate) fn few_digits(text: &[u8]) -> Option<Digits>
-    requires { 10 ≤ length text.now }
-    ensures { MatchOption result (Unit {0}) (IsFewDigits text.now) }
-{
-    let mut value = 0;
-    for len in 0..10 {
-        let digit = u64::from(text[len]).wrapping_sub(48);
-        if digit > 9 {
-            if len == 0 {
-                return None;
-            }
-            return Some(Digits { len, value });
-        }
-        value = value * 10 + digit;
-    }
-    None
 }
 
 /// One to six digits that a text begins with, after others with that value: how many, and the value of all.

@@ -3,6 +3,7 @@
 
 mod content;
 mod digits;
+mod eight;
 mod event;
 mod field;
 mod header;

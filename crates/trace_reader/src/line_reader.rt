@@ -1,7 +1,7 @@
 //! The lines of a trace one after another, and what they come to.
 use crate::content::Content;
 use crate::line::{LineFault, Lines};
-use crate::{Event, Limits, Took, TraceKind, TraceRefusal};
+use crate::{Event, Limits, Took, Trace, TraceKind, TraceRefusal};
 use frac128::Memory;
 use memchr::memchr;
 use std::alloc::Global;
@@ -19,6 +19,7 @@ ghost use Rattle.std.specs.Prelude.{false, length, take, IsSome, IfOk, IfErr, On
 ghost use Rattle.stl_syntax.specs.Trace.{Row as Values};
 ghost use Rattle.trace_reader.specs.Feeds.{through_feed, rows_after};
 ghost use Rattle.trace_reader.specs.Reader.{StandsFor, IsFaultOfAll, HasReadBefore, HasCome, IsNextRow, header_of};
+ghost use Rattle.trace_reader.specs.Taken.{HasTraceSoFar, AreRowsTaken, IsRowShort};
 
 impl LineReader {
     ghost use Rattle.trace_reader.specs.LineReader.{state, IsWithin, IsStart, Holds, ReadsLineAt, Finishes, HasEnded, IsWhole, IsEnd, HasHeader};
@@ -122,6 +123,7 @@ impl LineReader {
     }
 
     /// Takes the line that the piece begins with, where it is a row of plain numbers without a fault. Else nothing changes.
+    #[inline(always)]
     fn take_plain(&mut self, limits: &Limits, piece: &[u8]) -> Option<usize>
         requires { IsWithin limits.now self.old }
         ensures row { MatchOption result (self.new ≡ self.old) (λ n. IsRowTaken limits.now piece.now n self.old.content self.new.content) }
@@ -134,6 +136,36 @@ impl LineReader {
         let size = self.content.read_plain(limits, piece)?;
         self.lines.pass();
         Some(size)
+    }
+
+    /// Takes the rows of plain numbers without a fault that the piece begins with, adds them to the trace, and answers how many bytes they are.
+    ///
+    /// # Errors
+    /// Want of memory; then the last row that was read is not in the trace.
+    #[inline(never)]
+    pub(crate) fn take_rows(
+        &mut self,
+        limits: &Limits,
+        piece: &[u8],
+        trace: &mut Trace,
+    ) -> Result<usize, Memory>
+        requires within { IsWithin limits.now self.old }
+        requires so_far { HasTraceSoFar (state limits.now self.old) trace.old }
+        ensures size { IfOk result (λ n. n ≤ length piece.now) }
+        ensures rows { IfOk result (λ n. AreRowsTaken (state limits.now self.old) (state limits.now self.new) trace.old trace.new (take n piece.now)) }
+        ensures short { OnErr result (IsRowShort (state limits.now self.old) (state limits.now self.new) trace.old trace.new piece.now) }
+        ensures within { IsWithin limits.now self.new }
+        ensures kept { (self.new.content.heading ≡ self.old.content.heading) × (self.new.content.least ≡ self.old.content.least) }
+    {
+        let mut at = 0;
+        while at < piece.len() {
+            let Some(size) = self.take_plain(limits, &piece[at..]) else {
+                return Ok(at);
+            };
+            trace.push(self.content.row())?;
+            at += size;
+        }
+        Ok(at)
     }
 
     /// Looks for the first LF, and takes the bytes up to and with it, or all where there is none.

@@ -2,7 +2,8 @@
 ghost use Rattle.std.specs.Prelude.{◌≡◌, ◌≤◌, ◌<◌, ◌∷◌, ◌++◌, ◌⊎◌, [], length, take, get_or, MatchOption};
 ghost use Rattle.trace_reader.specs.Plain.{IsFewDigits, IsPlainNumber, IsPlainTime, IsPlainValue};
 
-use crate::digits::{BEYOND, Digits, few_digits, more_digits};
+use crate::digits::{BEYOND, Digits, more_digits};
+use crate::eight::few_digits;
 use crate::number::{opposite_of, scaled, value_of};
 use crate::row::LARGEST;
 

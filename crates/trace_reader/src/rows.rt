@@ -1,6 +1,6 @@
 //! The reader of a trace, piece by piece.
 use crate::line_reader::LineReader;
-use crate::{Event, Header, Limits, Row, Took, TraceRefusal};
+use crate::{Event, Header, Limits, Row, Took, Trace, TraceRefusal};
 use frac128::Memory;
 use std::alloc::Global;
 use std::marker::Model;
@@ -36,6 +36,7 @@ impl Rows {
     ghost use Rattle.trace_reader.specs.TraceRefusals.{IsFirstFault};
     ghost use Rattle.trace_reader.specs.Reader.{StandsFor, IsFaultOfAll, HasReadBefore, HasCome, IsNextRow};
     ghost use Rattle.trace_reader.specs.Reader.{IsWholeTrace, HasWholeHeader, HasEndedWith, header_read};
+    ghost use Rattle.trace_reader.specs.Taken.{HasTraceSoFar, AreRowsTaken, IsRowShort};
     ghost use Rattle.trace_reader.specs.declared.refusal.TraceKind.TheVariants.{Empty, NoRows};
 
     /// A reader of a trace with at most so many rows and lines, which has read nothing.
@@ -98,6 +99,21 @@ impl Rows {
                 Err(refusal)
             }
         }
+    }
+
+    /// Takes rows that the piece begins with, as `push` would one after another, adds them to the trace of the rows so far, and answers how many
+    /// bytes they are. It may take none, and leaves each row for `push` that is not one of a few plain digits, each other line, and each fault.
+    ///
+    /// # Errors
+    /// `Memory` where memory is wanting; then the last row that was read is not in the trace.
+    pub fn take_rows(&mut self, piece: &[u8], trace: &mut Trace) -> Result<usize, Memory>
+        requires { HasTraceSoFar self.old trace.old }
+        ensures within { IfOk result (λ n. n ≤ length piece.now) }
+        ensures rows { IfOk result (λ n. AreRowsTaken self.old self.new trace.old trace.new (take n piece.now)) }
+        ensures short { OnErr result (IsRowShort self.old self.new trace.old trace.new piece.now) }
+        ensures kept { (self.new.limits ≡ self.old.limits) × (self.new.least ≡ self.old.least) × (self.new.heading ≡ self.old.heading) }
+    {
+        self.reading.take_rows(&self.limits, piece, trace)
     }
 
     /// Reads a last line without LF. The event is Row where it is a row, and else Nothing.
