@@ -227,8 +227,8 @@ def cuts(cells, formula, truths):
             found[place] |= {0, cells.last}
             found[place] |= {cell for cell in range(0, cells.last + 1, 2) if len(set(values[max(cell - 1, 0) : cell + 2])) > 1}
         ahead = 1 if node.kind in (*AHEAD, "until") else -1
-        moves = {2 * cells.parts * ahead * bound for bound in (node.low, node.high) if bound is not None} if node.kind in (*AHEAD, *BEHIND, "until", "since") else {0}
-        moves |= {0} if node.kind in ("until", "since") else set()
+        bounds = [bound for bound in (node.low, node.high) if bound is not None] if node.kind in (*AHEAD, *BEHIND, "until", "since") else [0]
+        moves = {2 * cells.parts * ahead * bound for bound in bounds} | ({0} if node.kind in ("until", "since") else set())
         for below in node.below:
             found[nodes.index(below)] |= {cell + move for cell in found[place] for move in moves if 0 <= cell + move <= cells.last}
     return found

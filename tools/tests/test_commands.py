@@ -119,12 +119,12 @@ def test_early_tells_the_first_row_that_settles_the_start(bench):
 def test_explain_keeps_what_dropping_one_by_one_leaves(bench):
     """Atoms differ, since a line names its atom by its text."""
     told = 0
-    for judged, given, cells in cases(4, 500, [2, 3, 3], KINDS, rows=(2, 4), parts=6, apart=True):
+    for judged, given, cells in cases(4, 250, [2, 3, 3], KINDS, rows=(2, 4), parts=4, apart=True):
         truth = plain.evaluate(cells, judged)[-1][0]
         lines = [] if truth else plain.explanation(cells, judged)
         agree(answer(bench, "explain", judged, given), [start_line(truth), *lines], truth, "explain", judged, given)
         told += len(lines) > 1
-    frame.holds(told > 10, f"only {told} cases had more than one line")
+    frame.holds(told > 5, f"only {told} cases had more than one line")
 
 
 def pieces(text):

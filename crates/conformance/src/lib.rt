@@ -1,6 +1,6 @@
 //! Tests of the program in worked cases: each command, its refusals and its limits, devices that fail, and many sessions, used from
-//! outside through its contracts alone. Tests beside plain models stand in `conformance_models`, those of the calls below in
-//! `conformance_numbers`, `conformance_texts`, `conformance_signals` and `conformance_streams`.
+//! outside through its contracts alone. Tests of the calls below stand in `conformance_numbers`, `conformance_texts`,
+//! `conformance_signals` and `conformance_streams`; the built program stands beside a plain model in `tools/tests/test_commands.py`.
 #![tactic(auto)]
 
 #[cfg(test)]
