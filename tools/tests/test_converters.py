@@ -255,6 +255,7 @@ def wait_until_read(child):
 
 
 @frame.needs(modules=["pandas"])
+@frame.at_most(600)
 def test_pandas(bench):
     """What pandas writes of truths and of missing values is told with what to do, and the guide's way is taken."""
     script = """import pandas
