@@ -220,12 +220,12 @@ def interrupted(bench, number):
     bench.write("some.requirements", "a: true\n")
     started = pathlib.Path(bench.write("started", ""))
     run = bench.start(sys.executable, "tools/judge", "some.requirements", *names, "--jobs", "3", "--program", program, "--junit", "out/report.xml")
-    for _ in range(400):
+    for _ in range(2400):
         time.sleep(0.05)
         if len(started.read_text().split()) == 3:
             break
     os.kill(run.pid, number)
-    out, err = run.communicate(timeout=20)
+    out, err = run.communicate(timeout=120)
     frame.same((run.returncode, out, err, os.listdir("out")), (130, b"", b"", []), "the status, output, error stream, and what is left")
     for child in started.read_text().split():
         frame.holds(not os.path.exists(f"/proc/{child}"), f"the program {child} goes on")
