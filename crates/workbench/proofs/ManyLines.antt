@@ -13,7 +13,7 @@ use Rattle.session_mux.specs.Taking.{fault_of, HasLines, IsTaking, IsInputStop, 
 use Rattle.session_mux.specs.declared.input.Input.{Input}
 use Rattle.session_mux.specs.declared.stop.InputStop.{InputStop}
 use Rattle.session_mux.specs.declared.stop.InputStop.TheVariants.{Fault as InLine, NoMemory as NoRoom}
-use Rattle.session_mux.proofs.FrontLines.{no_fault_so_far, owed_so_far, few_bytes, front_lines_owed}
+use Rattle.session_mux.proofs.FrontLines.{no_fault_so_far, owed_so_far, few_bytes}
 use Rattle.workbench.specs.Commands as word
 use Rattle.workbench.specs.Requests.{sessions, AreFor}
 use Rattle.workbench.specs.Running.{IsBegun}
@@ -65,9 +65,6 @@ many_at_rest m bytes text k = record {
   stands = k;
   owed = subst (λ t. OwesLines m.formula bytes false t) all_written (owed_so_far m.formula m.input bytes text k.taking);
   sound = λ line h. no_fault_so_far m.formula m.input bytes text k.taking h.0 h.1;
-  timely = λ front back e.
-      let (short, more, owed, parts) = front_lines_owed m.formula m.input bytes text k.taking front back e in
-      (short, more, owed, sym all_written ∙ parts);
   few = few_bytes m.formula m.input bytes text k.taking;
 }
   where
