@@ -189,9 +189,9 @@ many_soundly f g i o ending x = by_line ending x.is_line
 many_left : (words : List (List ℕ)) (f : Formula) (bytes text : List ℕ) (ending : Result Bool Stop) (m : Muxed) (old new : Kept) → AreFor words word.mux f
     → OnOk ending (HasAll f m bytes text) → MatchResult ending (λ _. new ≡ Mux m) (λ _. new ≡ old) → IsLeft words bytes (status_of ending) old new
 many_left words f bytes text (Ok true) m old new ask k same =
-    asked (sessions f) ask (inl (refl, inl refl, subst (λ (x : Kept). Holds (sessions f) bytes x) (sym same) (k.seen, k.are, k.tags, k.ended)))
+    asked (sessions f) ask (inl (refl, inl refl, subst (λ (x : Kept). Holds (sessions f) bytes x) (sym same) (k.seen, k.are, k.stands)))
 many_left words f bytes text (Ok false) m old new ask k same =
-    asked (sessions f) ask (inl (refl, inr refl, subst (λ (x : Kept). Holds (sessions f) bytes x) (sym same) (k.seen, k.are, k.tags, k.ended)))
+    asked (sessions f) ask (inl (refl, inr refl, subst (λ (x : Kept). Holds (sessions f) bytes x) (sym same) (k.seen, k.are, k.stands)))
 many_left words f bytes text (Err stop) m old new ask k same = asked (sessions f) ask (inr (inr (not_answer stop), same))
 
 -- requests of sessions that are one are of one formula
