@@ -2,7 +2,7 @@
 use Rattle.std.specs.Prelude.{ℕ, ◌-◌, min, Bool, List, length}
 
 -- the bytes that are left, at most how many a call gives, the numbers of the calls that fail, how many calls there were, how many
--- of them failed, whether the last one said the end, and how many did
+-- of them failed, whether the last one said the end, how many did, how many bytes the last one gave, and the longest buffer of one
 pub record SourceInMemory : Type 0 where
   pub left : List ℕ
   pub most : ℕ
@@ -11,6 +11,8 @@ pub record SourceInMemory : Type 0 where
   pub faults : ℕ
   pub ended : Bool
   pub ends : ℕ
+  pub gave : ℕ
+  pub asked : ℕ
 
 -- how many bytes a call gives for a buffer of this length, where it doesn't fail
 abbrev pub given : SourceInMemory → ℕ → ℕ
@@ -30,8 +32,10 @@ pub record SinkInMemory : Type 0 where
 abbrev pub taken : SinkInMemory → ℕ → ℕ
 taken s len = min (min len s.most) (s.room - length s.written)
 
--- the bytes that are left, whether the last call said the end, and how many did
+-- the bytes that are left, whether the last call said the end, how many did, how many bytes the last one gave, and the longest buffer of one
 pub record CleanBytes : Type 0 where
   pub left : List ℕ
   pub ended : Bool
   pub ends : ℕ
+  pub gave : ℕ
+  pub asked : ℕ

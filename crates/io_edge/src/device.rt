@@ -1,8 +1,8 @@
 //! What bytes come from and go to.
-ghost use Rattle.std.specs.Prelude.{◌≡◌, ◌<◌, ℕ, List, length, Option, Bool, IfOk};
+ghost use Rattle.std.specs.Prelude.{◌≡◌, ◌<◌, ℕ, List, length, max, Option, Bool, IfOk};
 ghost use Rattle.std.specs.Io.{ReadsAtMost, WritesAtMost};
 ghost use Rattle.std.specs.Io.KnownBytes.{ReadConsumes, WriteAppends};
-ghost use Rattle.io_edge.specs.Causes.{HasCause, SaysEnd, after_end};
+ghost use Rattle.io_edge.specs.Causes.{HasCause, SaysEnd, after_end, given_by};
 
 /// A read or a write that failed.
 #[derive(Clone, Copy, Debug, PartialEq, Eq)]
@@ -19,6 +19,12 @@ pub trait Source {
     /// How often it said the end. Once it has reached 2^64 - 1 it stays there.
     ghost ends: { Self → ℕ };
 
+    /// How many bytes its last call gave.
+    ghost gave: { Self → ℕ };
+
+    /// The longest buffer that a call got.
+    ghost asked: { Self → ℕ };
+
     /// How often it has failed, which never falls.
     ghost faults: { Self → ℕ };
 
@@ -33,6 +39,8 @@ pub trait Source {
         ensures bytes { ReadConsumes (left self.old) (left self.new) result buf.new }
         ensures end { SaysEnd result (length buf.new) (ended self.new) }
         ensures ends { ends self.new ≡ after_end (ended self.new) (ends self.old) }
+        ensures gave { gave self.new ≡ given_by result }
+        ensures asked { asked self.new ≡ max (asked self.old) (length buf.new) }
         ensures cause { HasCause (faults self.old) (faults self.new) result };
 }
 

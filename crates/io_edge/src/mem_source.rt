@@ -1,8 +1,8 @@
 //! A source in memory, of which chosen calls fail.
-ghost use Rattle.std.specs.Prelude.{◌≡◌, ◌<◌, ◌↔◌, ◌&&◌, ◌==◌, length, drop, nat_lt, Some, false, Contains, IfOk, OnErr, IsErr};
+ghost use Rattle.std.specs.Prelude.{◌≡◌, ◌<◌, ◌↔◌, ◌&&◌, ◌==◌, max, length, drop, nat_lt, Some, false, Contains, IfOk, OnErr, IsErr};
 ghost use Rattle.std.specs.Io.{ReadsAtMost};
 ghost use Rattle.std.specs.Io.KnownBytes.{ReadConsumes};
-ghost use Rattle.io_edge.specs.Causes.{HasCause, SaysEnd, next_count, after_end};
+ghost use Rattle.io_edge.specs.Causes.{HasCause, SaysEnd, next_count, after_end, given_by};
 ghost use Rattle.io_edge.specs.InMemory.{given};
 
 use crate::device::{Failed, Source};
@@ -20,6 +20,8 @@ pub struct MemSource {
     faults: u64,
     done: bool,
     ends: u64,
+    gave: usize,
+    asked: usize,
 }
 
 impl Model for MemSource {
@@ -28,7 +30,7 @@ impl Model for MemSource {
 
     ghost Value = { SourceInMemory };
 
-    ghost view = { λ s. record { left = drop s.at s.bytes.items; most = s.most; fails = s.fails.items; calls = s.calls; faults = s.faults; ended = s.done; ends = s.ends } };
+    ghost view = { λ s. record { left = drop s.at s.bytes.items; most = s.most; fails = s.fails.items; calls = s.calls; faults = s.faults; ended = s.done; ends = s.ends; gave = s.gave; asked = s.asked } };
 
     ghost invariant = { λ s. (s.at ≤ vec_len s.bytes) × (0 < s.most) };
 }
@@ -38,7 +40,7 @@ impl MemSource {
     /// those named in `fails` fail and are counted.
     pub fn new(bytes: Vec<u8>, most: usize, fails: Vec<u64>) -> MemSource
         requires { 0 < most }
-        ensures { result ≡ record { left = bytes.items; most = most; fails = fails.items; calls = 0; faults = 0; ended = false; ends = 0 } }
+        ensures { result ≡ record { left = bytes.items; most = most; fails = fails.items; calls = 0; faults = 0; ended = false; ends = 0; gave = 0; asked = 0 } }
     {
         MemSource {
             bytes,
@@ -49,6 +51,8 @@ impl MemSource {
             faults: 0,
             done: false,
             ends: 0,
+            gave: 0,
+            asked: 0,
         }
     }
 
@@ -67,6 +71,10 @@ impl Source for MemSource {
 
     ghost ends = { λ s. s.ends };
 
+    ghost gave = { λ s. s.gave };
+
+    ghost asked = { λ s. s.asked };
+
     ghost faults = { λ s. s.faults };
 
     fn read(&mut self, buf: &mut [u8]) -> Result<usize, Failed>
@@ -74,6 +82,8 @@ impl Source for MemSource {
         ensures bytes { ReadConsumes (Some self.old.left) (Some self.new.left) result buf.new }
         ensures end { SaysEnd result (length buf.new) self.new.ended }
         ensures ends { self.new.ends ≡ after_end self.new.ended self.old.ends }
+        ensures gave { self.new.gave ≡ given_by result }
+        ensures asked { self.new.asked ≡ max self.old.asked (length buf.new) }
         ensures cause { HasCause self.old.faults self.new.faults result }
 
         // which calls fail, how many bytes the others give, and what both leave
@@ -84,15 +94,21 @@ impl Source for MemSource {
           calls = next_count self.old.calls;
           ended = (n == 0) && nat_lt 0 (length buf.new);
           ends = after_end ((n == 0) && nat_lt 0 (length buf.new)) self.old.ends;
+          gave = n;
+          asked = max self.old.asked (length buf.new);
         }) }
         ensures after_err { OnErr result (self.new ≡ record self.old {
           calls = next_count self.old.calls;
           faults = next_count self.old.faults;
           ended = false;
+          gave = 0;
+          asked = max self.old.asked (length buf.new);
         }) }
     {
         self.calls = self.calls.saturating_add(1);
         self.done = false;
+        self.gave = 0;
+        self.asked = self.asked.max(buf.len());
         if self.fails.as_slice().contains(&self.calls) {
             self.faults = self.faults.saturating_add(1);
             return Err(Failed);
@@ -101,6 +117,7 @@ impl Source for MemSource {
         self.at += n;
         self.done = (n == 0) & !buf.is_empty();
         self.ends = count_end(self.done, self.ends);
+        self.gave = n;
         Ok(n)
     }
 }

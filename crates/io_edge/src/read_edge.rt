@@ -12,6 +12,8 @@ pub struct ReadEdge<R> {
     faults: u64,
     done: bool,
     ends: u64,
+    gave: usize,
+    asked: usize,
 }
 
 impl<R: Read> ReadEdge<R> {
@@ -20,6 +22,8 @@ impl<R: Read> ReadEdge<R> {
         ensures left { ⟦<ReadEdge<R> as Source>⟧.left result ≡ R.remaining inner }
         ensures ended { ⟦<ReadEdge<R> as Source>⟧.ended result ≡ false }
         ensures ends { ⟦<ReadEdge<R> as Source>⟧.ends result ≡ 0 }
+        ensures gave { ⟦<ReadEdge<R> as Source>⟧.gave result ≡ 0 }
+        ensures asked { ⟦<ReadEdge<R> as Source>⟧.asked result ≡ 0 }
         ensures faults { ⟦<ReadEdge<R> as Source>⟧.faults result ≡ 0 }
     {
         ReadEdge {
@@ -27,6 +31,8 @@ impl<R: Read> ReadEdge<R> {
             faults: 0,
             done: false,
             ends: 0,
+            gave: 0,
+            asked: 0,
         }
     }
 }
@@ -38,14 +44,21 @@ impl<R: Read> Source for ReadEdge<R> {
 
     ghost ends = { λ s. s.ends };
 
+    ghost gave = { λ s. s.gave };
+
+    ghost asked = { λ s. s.asked };
+
     ghost faults = { λ s. s.faults };
 
     fn read(&mut self, buf: &mut [u8]) -> Result<usize, Failed> {
         self.done = false;
+        self.gave = 0;
+        self.asked = self.asked.max(buf.len());
         match self.inner.read(buf) {
             Ok(n) => {
                 self.done = (n == 0) & !buf.is_empty();
                 self.ends = count_end(self.done, self.ends);
+                self.gave = n;
                 Ok(n)
             }
             Err(_) => {

@@ -3,7 +3,7 @@
 //! An edge is a queue of its own: what its reader has read and may still need, and behind it what it has not read. So an
 //! operator goes on in the middle of its input's edge with no walk, and to read a verdict takes no memory.
 
-ghost use Rattle.std.specs.Prelude.{◌≡◌, ◌*◌, ◌+◌, ◌<◌, ◌≤◌, ◌^◌, [], ◌∷◌, length, replicate, slice_get};
+ghost use Rattle.std.specs.Prelude.{◌≡◌, ◌+◌, ◌<◌, ◌≤◌, [], ◌∷◌, length, replicate, slice_get};
 ghost use Rattle.std.specs.Prelude.{IfOk, IsOk, OnOk, OnErr, None, Some, ℕ, map, All};
 ghost use Rattle.online_nodes.specs.Queues.{edge_of, IsQueue};
 ghost use Rattle.online_nodes.specs.Held.{edge_at, fresh_at, held_at, no_edge, number_at, with_edge, with_more, with_number, with_read, without, IsDroppedBy};
@@ -47,7 +47,6 @@ impl Edges {
     ///
     /// `Memory` where there is no memory.
     pub fn new(alloc: Global, count: u32) -> Result<Edges, Memory>
-        requires { 2 * count < 2 ^ 32 }
         ensures edges { IfOk result (λ e. e.edges ≡ replicate count no_edge) }
         ensures start { IfOk result (λ e. e.start ≡ None) }
     {

@@ -77,8 +77,8 @@ pub fn open_numbers_settle()
     ensures { OpenNumbersSettle }
 {}
 
-/// In the run that a stream drives, where each row and the end is followed by a step of every node, the front of each node is
-/// the last row's time less the horizon, and after the end that time itself.
+/// In the run that a stream drives, where rows, or the end, are followed by a step of every node, the front of each node is the last
+/// row's time less the horizon, and after the end that time itself.
 pub fn fronts_are_times()
     ensures { FrontsAreTimes }
 {}

@@ -174,8 +174,8 @@ impl Operator {
     ///
     /// # Errors
     ///
-    /// `Memory` where there is no memory, which never comes with a spare of twice what the inputs' edges hold, plus 2. The operator
-    /// and its edges are given up then.
+    /// `Memory` where there is no memory, which comes only where the node is ready, and the spare is below twice what the inputs' edges
+    /// hold, plus 2. The operator and its edges are given up then.
     pub fn advance(&mut self, edges: &mut Edges, now: u32, ended: bool) -> Result<bool, Memory>
         requires { BelongsSomewhere self.old edges.old now ended }
         ensures node { self.new.node ≡ self.old.node }
@@ -188,7 +188,8 @@ impl Operator {
         ensures belongs { (nodes : List ANode) (header : Header) (events : List Event) → Belongs nodes header events self.old edges.old now ended
             → IfOk result (λ moved. Belongs nodes header (events ++ step self.old.node ∷ []) self.new edges.new now ended) }
         ensures memory { (nodes : List ANode) (header : Header) (events : List Event) → Belongs nodes header events self.old edges.old now ended
-            → OnErr result (edges.old.spare < 2 * held_by_inputs nodes self.old.node edges.old + 2) }
+            → OnErr result (IsReady nodes (state nodes events) self.old.node
+            × (edges.old.spare < 2 * held_by_inputs nodes self.old.node edges.old + 2)) }
     {
         let Some(number) = self.due(edges, now, ended) else {
             return Ok(false);

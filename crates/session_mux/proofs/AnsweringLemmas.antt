@@ -14,7 +14,7 @@ use Rattle.session_mux.specs.Tags.{number_of}
 use Rattle.session_mux.specs.Saying.{said_lines}
 use Rattle.session_mux.specs.Owning.{Own, own_of, asks, with_content, stopped_now}
 use Rattle.session_mux.specs.Standing.{IsOwnText, HasSaidSoFar, IsGrowth, IsReply, HasReplied, IsCutShort}
-use Rattle.session_mux.specs.Knowing.{Register, place_in, tags_of, tag_list, EachHasSaid, AreFound, IsLastFound}
+use Rattle.session_mux.specs.Knowing.{Register, place_in, tags_of, tag_list, EachHasSaid, EachHasEnded, AreFound, IsLastFound}
 use Rattle.session_mux.specs.Knowing.{IsReady, IsTurnedAway, HasAnswered, IsUnanswered, HasEnded}
 use Rattle.session_mux.specs.declared.fault.MuxFault.{MuxFault}
 use Rattle.session_mux.specs.declared.fault.MuxFault.TheVariants as fault
@@ -173,6 +173,10 @@ module _ (f : Formula) (all : List Tagged) where
       e ∙ ap (λ w. w ++ later) (ends_once t (said_lines t grown) (said_lines t grown') (old, grown, was, is, refl) (old', grown', was', is', refl))
       ∙ ap (λ w. said_lines t grown' ++ w) (ends_same ts later later' more more') ∙ sym e'
 
+  -- a session is over, and stands for its own lines and their end
+  abbrev pub IsOver : Session → Type 0
+  IsOver s = IsTag s.tag × ((said : List ℕ) × HasSaidSoFar f (stopped_now (own_of all s.tag)) said s)
+
   -- the sessions before place i were ended
   pub record Ending (first : List Session) (i : ℕ) (now : List Session) (before after : List ℕ) : Type 0 where
     -- the text of the sessions that were ended so far
@@ -183,10 +187,12 @@ module _ (f : Formula) (all : List Tagged) where
     pub added : after ≡ before ++ text
     -- the sessions that are not yet ended are as at first
     pub others : (j : ℕ) → i ≤ j → slice_get now j ≡ slice_get first j
+    -- the others are over, and stand for their own lines and their end
+    pub over : (j : ℕ) (s : Session) → j < i → slice_get now j ≡ Some s → IsOver s
 
   -- before the first session nothing was ended or added
   pub ending_begins : (first : List Session) (before : List ℕ) → Ending first 0 first before before
-  ending_begins first before = record { text = []; ends = refl; added = sym (append-nil before); others = λ j l. refl }
+  ending_begins first before = record { text = []; ends = refl; added = sym (append-nil before); others = λ j l. refl; over = λ j s l e. absurd (omega (arith, l)) }
 
   tag_at : (ss : List Session) (i : ℕ) (s : Session) → slice_get ss i ≡ Some s → slice_get (tag_list ss) i ≡ Some s.tag
   tag_at [] i s e = absurd (let z : None ≡ Some s = e in cc)
@@ -206,12 +212,17 @@ module _ (f : Formula) (all : List Tagged) where
     tags_more = rw add-one (take_at (tag_list first) i s.tag (tag_at first i s at_first))
 
     -- one more was
-    pub ending_on : (t : Session) (reply after : List ℕ) → Ends s.tag reply → after ≡ mid ++ reply → Ending first (i + 1) (set now i t) before after
-    ending_on t reply after h e = record {
+    pub ending_on : (t : Session) (reply after : List ℕ) → Ends s.tag reply → after ≡ mid ++ reply → IsOver t
+        → Ending first (i + 1) (set now i t) before after
+    ending_on t reply after h e ended = record {
       text = n.text ++ reply;
       ends = subst (λ ts. AreEnds f all ts (n.text ++ reply)) (sym tags_more) (ends_more (take i (tag_list first)) s.tag n.text reply n.ends h);
       added = e ∙ ap (λ w. w ++ reply) n.added ∙ append_assoc before n.text reply;
       others = λ j l. slice_get-set_other now i j t (λ same. absurd (omega (arith, l, same))) ∙ n.others j (omega (arith, l));
+      over = λ j u l k. elim (item_of_set now i j t u (place_inside now i s at) k) [
+        | inl x ↦ subst IsOver (sym x.1) ended
+        | inr x ↦ n.over j u (omega (arith, l, x.0)) x.1
+      ];
     }
 
     -- it was cut short
@@ -242,6 +253,11 @@ pub ended_all : (f : Formula) (all : List Tagged) (first : List Session) (now : 
     → tag_list first ≡ tags_of all → HasEnded f all before after
 ended_all f all first now i before after n whole e =
     (n.text, subst (λ ts. AreEnds f all ts n.text) (take_all i (tag_list first) whole ∙ e) n.ends, n.added)
+
+-- so all are over
+pub all_over : (f : Formula) (all : List Tagged) (first : List Session) (now : List Session) (i : ℕ) (before after : List ℕ)
+    → Ending f all first i now before after → length now ≤ i → EachHasEnded f all now
+all_over f all first now i before after n whole j s at = n.over j s (omega (arith, whole, place_inside now j s at)) at
 
 -- why a line was not answered
 pub unanswered : (f : Formula) (seen : List Tagged) (x : Tagged) (old new : Known) (out : List ℕ) (e : MuxFault)

@@ -294,10 +294,10 @@ module _ (f : Formula) (i : Input) (bytes written : List ℕ) (k : IsTaking f i 
       past_fault h.passed [] x (subst (λ ls. FaultOfInput 1 [] ls x) (lines_all ∙ sym (append-nil (k.front ++ rest true i.part))) fault)
 
   -- once the end was told to the sessions, the whole input has its text
-  pub all_taken : (mid new : Muxed) (before after : List ℕ) → HasLines f mid (k.front ++ rest true i.part) (written ++ before) → new.phase ≡ Ended
+  pub all_taken : (mid new : Muxed) (before after : List ℕ) → HasLines f mid (k.front ++ rest true i.part) (written ++ before)
       → ((p : Past) → StandsFor p mid → IsEndCall p new before after (Ok tt)) → HasAll f new bytes (written ++ after)
-  all_taken mid new before after h over end =
-      let ((ends, are, added), tags) = end (record { formula = f; seen = h.tagged }) h.stands in
+  all_taken mid new before after h end =
+      let ((ends, are, added), stands) = end (record { formula = f; seen = h.tagged }) h.stands in
       let tagged : AreTagged (lines true bytes) h.tagged = subst (λ ls. AreTagged ls h.tagged) (sym lines_all) (passed_tagged h.passed) in
       record {
         owed = record {
@@ -309,8 +309,7 @@ module _ (f : Formula) (i : Input) (bytes written : List ℕ) (k : IsTaking f i 
         sound = no_fault mid (written ++ before) h;
         seen = h.tagged;
         are = tagged;
-        tags = tags;
-        ended = over;
+        stands = stands;
       }
 
 -- the first of all

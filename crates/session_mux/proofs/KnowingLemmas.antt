@@ -1,11 +1,11 @@
 -- Sessions that are found by their tags: a line is its own session's alone.
 use Rattle.std.proofs.Common.{◌≡◌, ◌≢◌, ◌⊎◌, inl, inr, refl, sym, ap, subst, ◌∙◌, ℕ, zero, suc, ◌<◌, Bool}
-use Rattle.std.proofs.Common.{true, false, List, [], ◌∷◌, ◌++◌, length, set, arith, Option, Some, None}
+use Rattle.std.proofs.Common.{true, false, List, [], ◌∷◌, ◌++◌, length, take, set, arith, Option, Some, None}
 use Rattle.std.specs.Prelude.{bytes_eq, slice_get, if◌then◌else◌, ◌||◌}
 use Rattle.std.specs.Ordering.{nat_cmp, is_eq}
 use Rattle.std.proofs.lemmas.Bool.Decides.{nat_tests}
 use Rattle.std.proofs.lemmas.Bool.{false≢true, cases_eq}
-use Rattle.std.proofs.lemmas.List.{append-nil, map-append}
+use Rattle.std.proofs.lemmas.List.{append-nil, map-append, take-append-le, take_all}
 use Rattle.std.proofs.lemmas.Slice.Eq.{bytes_eq-Decides}
 use Rattle.rational.proofs.Lists.{slice_get-push_cases, slice_get-append_left, slice_get-append_here}
 use Rattle.stl_syntax.specs.Characters.{is_among}
@@ -68,6 +68,24 @@ tags_of_set (x ∷ sessions) zero s t at e =
     let same : x ≡ s = (let z : Some x ≡ Some s = at in cc) in
     ap (λ w. w ∷ tag_list sessions) (e ∙ ap (λ (y : Session). y.tag) (sym same))
 tags_of_set (x ∷ sessions) (suc i) s t at e = ap (λ ts. x.tag ∷ ts) (tags_of_set sessions i s t at e)
+
+-- the tags of the first sessions are the first tags
+tags_of_take : (n : ℕ) (ss : List Session) → tag_list (take n ss) ≡ take n (tag_list ss)
+tags_of_take zero ss = refl
+tags_of_take (suc n) [] = refl
+tags_of_take (suc n) (s ∷ ss) = ap (λ ts. s.tag ∷ ts) (tags_of_take n ss)
+
+-- the tags stay where only those sessions are kept that there were before, and one of all was put anew with its tag
+pub tags_kept : (old mid : List Session) (i : ℕ) (s t : Session) → take (length old) mid ≡ old → slice_get mid i ≡ Some s → t.tag ≡ s.tag
+    → tag_list (take (length old) (set mid i t)) ≡ tag_list old
+tags_kept old mid i s t kept at e =
+    tags_of_take (length old) (set mid i t) ∙ ap (take (length old)) (tags_of_set mid i s t at e) ∙ sym (tags_of_take (length old) mid)
+    ∙ ap tag_list kept
+
+-- the first of a longer list
+pub first_kept : (old : List Session) (s : Session) (mid : List Session) → mid ≡ old ++ s ∷ [] → take (length old) mid ≡ old
+first_kept old s mid e =
+    ap (take (length old)) e ∙ take-append-le (length old) old (s ∷ []) (omega arith) ∙ take_all (length old) old (omega arith)
 
 -- an option holds one item
 pub one_item : {X : Type 0} (o : Option X) (x y : X) → o ≡ Some x → o ≡ Some y → x ≡ y

@@ -1,16 +1,23 @@
 -- What a call for a line, and for the end of the input, comes to.
 use Rattle.std.proofs.Common.{◌≡◌, sym, ap, subst, ◌∙◌, ℕ, false, List, Result, Ok, Err}
-use Rattle.std.specs.Prelude.{MatchResult}
+use Rattle.std.specs.Prelude.{MatchResult, OnErr}
 use Rattle.stl_syntax.specs.Characters.{is_space, all}
 use Rattle.trace_stream.proofs.FaultPlaces.{to_false}
 use Rattle.session_mux.specs.Sessions.{Tagged, IsTagged}
-use Rattle.session_mux.specs.Knowing.{shown, Knows, HasAnswered, IsUnanswered}
+use Rattle.session_mux.specs.Knowing.{shown, tag_list, Knows, HasAnswered, IsUnanswered}
 use Rattle.session_mux.specs.Muxes.{Muxed, Past, with_line, StandsFor, IsLineCall, Moves, IsLate, phase_after}
 use Rattle.session_mux.specs.declared.fault.MuxFault.{MuxFault}
 use Rattle.session_mux.specs.declared.fault.MuxFault.TheVariants as fault
 use Rattle.session_mux.specs.declared.known.Known.{Known}
+use Rattle.session_mux.specs.declared.session.Session.{Session}
 use Rattle.session_mux.specs.declared.mux.Phase.{Phase}
 use Rattle.session_mux.specs.declared.mux.Phase.TheVariants.{Taking, Stopped}
+
+-- on an error the tags are those that there were
+pub tags_unless_taken : (r : Result (Unit {0}) MuxFault) (old new : List Session) (tags : List (List ℕ)) → OnErr r (tag_list new ≡ tag_list old)
+    → tag_list old ≡ tags → OnErr r (tag_list new ≡ tags)
+tags_unless_taken (Ok x) old new tags h e = tt
+tags_unless_taken (Err x) old new tags h e = h ∙ e
 
 -- what came of a line that has a tag
 abbrev pub IsOutcome : Past → Tagged → Known → Known → List ℕ → List ℕ → Result (Unit {0}) MuxFault → Type 0

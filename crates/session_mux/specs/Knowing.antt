@@ -7,7 +7,7 @@ use Rattle.stl_syntax.specs.Characters.{is_among}
 use Rattle.stl_syntax.specs.Formula.{Formula}
 use Rattle.session_mux.specs.Sessions.{Tagged, IsTag, IsAnswer, AreEnds, tags_after}
 use Rattle.session_mux.specs.Tags.{number_of}
-use Rattle.session_mux.specs.Owning.{own_of}
+use Rattle.session_mux.specs.Owning.{own_of, stopped_now}
 use Rattle.session_mux.specs.Standing.{HasSaidSoFar, IsCutShort}
 use Rattle.session_mux.specs.declared.fault.MuxFault.{MuxFault}
 use Rattle.session_mux.specs.declared.fault.MuxFault.TheVariants as fault
@@ -59,6 +59,18 @@ pub record Knows (f : Formula) (seen : List Tagged) (k : Register) : Type 0 wher
   pub said : EachHasSaid f seen k.sessions
   pub found : AreFound k.sessions k.places
   pub last : IsLastFound k.places k.last
+
+-- each session is over, and stands for its own lines and their end
+abbrev pub EachHasEnded : Formula → List Tagged → List Session → Type 0
+EachHasEnded f seen sessions =
+    (i : ℕ) (s : Session) → slice_get sessions i ≡ Some s
+    → IsTag s.tag × ((said : List ℕ) × HasSaidSoFar f (stopped_now (own_of seen s.tag)) said s)
+
+-- the end came: there is a session for each tag of the lines, which stands for its own lines and their end
+pub record KnowsAll (f : Formula) (seen : List Tagged) (k : Register) : Type 0 where
+  pub formula : k.formula ≡ f
+  pub tags : tag_list k.sessions ≡ tags_of seen
+  pub ended : EachHasEnded f seen k.sessions
 
 -- some lines of some formula
 abbrev pub HasKnown : Register → Type 0

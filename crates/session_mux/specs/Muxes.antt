@@ -4,7 +4,7 @@ use Rattle.stl_syntax.specs.Characters.{is_space, all, is_among}
 use Rattle.stl_syntax.specs.Formula.{Formula}
 use Rattle.session_mux.specs.Sessions.{Tagged, IsTagged, IsAnswer, AreEnds}
 use Rattle.session_mux.specs.Standing.{IsCutShort}
-use Rattle.session_mux.specs.Knowing.{Register, Knows, IsRoomFor, tags_of, tag_list}
+use Rattle.session_mux.specs.Knowing.{Register, Knows, KnowsAll, IsRoomFor, tags_of, tag_list}
 use Rattle.session_mux.specs.declared.fault.MuxFault.{MuxFault}
 use Rattle.session_mux.specs.declared.fault.MuxFault.TheVariants as fault
 use Rattle.session_mux.specs.declared.mux.Phase.{Phase}
@@ -32,6 +32,11 @@ HasTags p m = tag_list m.known.sessions ≡ tags_of p.seen
 pub record StandsFor (p : Past) (m : Muxed) : Type 0 where
   pub phase : m.phase ≡ Taking
   pub knows : Knows p.formula p.seen m.known
+
+-- the end came: each session stands for its own lines and their end
+pub record StandsForAll (p : Past) (m : Muxed) : Type 0 where
+  pub phase : m.phase ≡ Ended
+  pub knows : KnowsAll p.formula p.seen m.known
 
 -- there are at most 1,024 sessions, and what goes on stands for some lines
 abbrev pub HasPast : Muxed → Type 0
@@ -65,7 +70,7 @@ IsLineCall p content old new before after (Err fault.Ended) = ⊥
 
 -- the end: what the sessions say at it was added, or at most a first part where memory was wanting
 abbrev pub IsEndCall : Past → Muxed → List ℕ → List ℕ → Result (Unit {0}) MuxFault → Type 0
-IsEndCall p new before after (Ok x) = ((rest : List ℕ) × AreEnds p.formula p.seen (tags_of p.seen) rest × (after ≡ before ++ rest)) × HasTags p new
+IsEndCall p new before after (Ok x) = ((rest : List ℕ) × AreEnds p.formula p.seen (tags_of p.seen) rest × (after ≡ before ++ rest)) × StandsForAll p new
 IsEndCall p new before after (Err fault.Memory) = IsCutShort (AreEnds p.formula p.seen (tags_of p.seen)) before after
 IsEndCall p new before after (Err e) = ⊥
 

@@ -6,8 +6,7 @@ use Rattle.trace_reader.specs.TraceText.{Line, lines, content, is_blank_line}
 use Rattle.trace_reader.specs.Feeds.{HasNoFeed}
 use Rattle.session_mux.specs.Sessions.{Tagged, IsTagged, AreTagged, AreAnswers}
 use Rattle.session_mux.specs.Knowing.{tags_of}
-use Rattle.session_mux.specs.Muxes.{Muxed, Past, StandsFor, HasTags, HasTaken}
-use Rattle.session_mux.specs.declared.mux.Phase.TheVariants.{Ended}
+use Rattle.session_mux.specs.Muxes.{Muxed, Past, StandsFor, StandsForAll, HasTaken}
 use Rattle.session_mux.specs.Inputs.{InputFault, too_many_lines, too_long, bad_tag, too_many_sessions, FaultOfInput, OwesLines}
 use Rattle.session_mux.specs.declared.stop.LineFault.{LineFault}
 use Rattle.session_mux.specs.declared.stop.LineKind.{LineKind}
@@ -99,8 +98,7 @@ pub record HasAll (f : Formula) (mux : Muxed) (bytes text : List ℕ) : Type 0 w
   pub sound : (x : InputFault) → ¬ FaultOfInput 1 [] (lines true bytes) x
   pub seen : List Tagged
   pub are : AreTagged (lines true bytes) seen
-  pub tags : HasTags (record { formula = f; seen = seen }) mux
-  pub ended : mux.phase ≡ Ended
+  pub stands : StandsForAll (record { formula = f; seen = seen }) mux
 
 -- a line was handed to the sessions: a blank one changes nothing, another one is answered
 abbrev pub IsHanded : Past → List ℕ → Muxed → List ℕ → List ℕ → Type 0

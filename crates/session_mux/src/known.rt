@@ -1,9 +1,9 @@
 //! The sessions of an input, found by their tags.
-ghost use Rattle.std.specs.Prelude.{◌≡◌, ◌<◌, ◌≤◌, ℕ, List, [], length, OnOk, MatchResult};
+ghost use Rattle.std.specs.Prelude.{◌≡◌, ◌<◌, ◌≤◌, ℕ, List, [], length, take, OnOk, OnErr, MatchResult};
 ghost use Rattle.stl_syntax.specs.Formula.{Formula as Parsed};
 ghost use Rattle.session_mux.specs.Sessions.{Tagged, IsTag, AreEnds};
 ghost use Rattle.session_mux.specs.Standing.{IsCutShort};
-ghost use Rattle.session_mux.specs.Knowing.{shown, place_in, Knows, HasKnown, IsLastFound, HasBegun, IsNotBegun, IsReady};
+ghost use Rattle.session_mux.specs.Knowing.{shown, place_in, Knows, KnowsAll, HasKnown, IsLastFound, HasBegun, IsNotBegun, IsReady};
 ghost use Rattle.session_mux.specs.Knowing.{IsTurnedAway, HasAnswered, IsUnanswered, HasEnded, tags_of, tag_list};
 
 use crate::fault::MuxFault;
@@ -79,6 +79,7 @@ impl Known {
     fn begin(&mut self, tag: &[u8], number: u128) -> Result<usize, MuxFault>
         requires { length self.old.sessions.items ≤ 1024 }
         ensures begun { MatchResult result (λ i. HasBegun tag.now number i self.old self.new) (IsNotBegun self.old self.new) }
+        ensures unbegun { OnErr result (self.new.sessions.items ≡ self.old.sessions.items) }
         ensures few { length self.new.sessions.items ≤ 1024 }
     {
         let place = self.sessions.len();
@@ -105,6 +106,8 @@ impl Known {
         ensures ready { (f : Parsed) (seen : List Tagged) (x : Tagged) → Knows f seen (shown self.old) → x.tag ≡ tag.now → MatchResult result
             (λ i. IsReady f seen x i (shown self.new))
             (IsTurnedAway seen x self.old self.new) }
+        ensures kept { OnOk result (take (length self.old.sessions.items) self.new.sessions.items ≡ self.old.sessions.items) }
+        ensures unbegun { OnErr result (self.new.sessions.items ≡ self.old.sessions.items) }
         ensures few { length self.new.sessions.items ≤ 1024 }
     {
         let number = number_of(tag);
@@ -121,7 +124,7 @@ impl Known {
     ///
     /// # Errors
     /// - `TooManySessions`: the tag is new, and there are 1,024. Nothing changed.
-    /// - `Memory`: there was too little memory. A first part of the answer was added.
+    /// - `Memory`: there was too little memory. A first part of the answer was added. A session that was begun for the line is gone.
     pub(crate) fn answer(
         &mut self,
         tag: &[u8],
@@ -135,12 +138,17 @@ impl Known {
             → x ≡ record { tag = tag.now; content = content.now } → MatchResult result
             (λ _. HasAnswered f seen x (shown self.new) out.old out.new)
             (IsUnanswered f seen x self.old self.new out.old out.new) }
+        ensures untaken { OnErr result (tag_list self.new.sessions.items ≡ tag_list self.old.sessions.items) }
         ensures few { length self.new.sessions.items ≤ 1024 }
     {
+        let held = self.sessions.len();
         let place = self.place_for(tag)?;
         match self.sessions[place].line(content, &mut self.room, out) {
             Ok(()) => Ok(()),
-            Err(_) => Err(MuxFault::Memory),
+            Err(_) => {
+                self.sessions.truncate(held);
+                Err(MuxFault::Memory)
+            }
         }
     }
 
@@ -151,9 +159,9 @@ impl Known {
     pub(crate) fn end(&mut self, out: &mut Text) -> Result<(), Memory>
         requires { HasKnown (shown self.old) }
         ensures ended { (f : Parsed) (seen : List Tagged) → Knows f seen (shown self.old) → MatchResult result
-            (λ _. HasEnded f seen out.old out.new)
+            (λ _. HasEnded f seen out.old out.new × KnowsAll f seen (shown self.new))
             (λ _. IsCutShort (AreEnds f seen (tags_of seen)) out.old out.new) }
-        ensures tags { OnOk result (tag_list self.new.sessions.items ≡ tag_list self.old.sessions.items) }
+        ensures tags { tag_list self.new.sessions.items ≡ tag_list self.old.sessions.items }
         ensures few { length self.new.sessions.items ≡ length self.old.sessions.items }
     {
         for place in 0..self.sessions.len() {

@@ -1,5 +1,5 @@
 //! Sessions in one input.
-ghost use Rattle.std.specs.Prelude.{◌≡◌, ◌++◌, ◌∷◌, [], length, MatchResult};
+ghost use Rattle.std.specs.Prelude.{◌≡◌, ◌++◌, ◌∷◌, [], length, MatchResult, OnErr};
 ghost use Rattle.session_mux.specs.Sessions.{IsTag};
 ghost use Rattle.session_mux.specs.Knowing.{tags_of};
 ghost use Rattle.session_mux.specs.Muxes.{Past, StandsFor, HasTags, IsLineCall, IsEndCall, Moves, IsLate, IsAllowed, phase_after};
@@ -74,7 +74,7 @@ impl Mux {
         }
     }
 
-    /// How many different tags the lines have that were taken.
+    /// How many different tags the lines have that were taken, also after want of memory and after the end.
     pub fn sessions(&self) -> u32
         ensures { (p : Past) → HasTags p self.now → result ≡ length (tags_of p.seen) }
     {
@@ -89,9 +89,10 @@ impl Mux {
     /// - `Stopped` where an earlier call answered `Memory`, and `Ended` after the end.
     /// - `BadTag`: the line is not blank, and has no tag.
     /// - `TooManySessions`: its tag is a new one, and there are 1,024. Nothing changes by these four.
-    /// - `Memory`: there was too little memory. At most a first part of the answer was added.
+    /// - `Memory`: there was too little memory. At most a first part of the answer was added, and the line was not taken.
     pub fn line(&mut self, content: &[u8], out: &mut Text) -> Result<(), MuxFault>
         ensures taken { (p : Past) → StandsFor p self.old → IsLineCall p content.now self.old self.new out.old out.new result }
+        ensures untaken { (p : Past) → HasTags p self.old → OnErr result (HasTags p self.new) }
         ensures phase { Moves Phase.Taking self.old self.new result }
         ensures late { IsLate result → out.new ≡ out.old }
     {
@@ -117,6 +118,7 @@ impl Mux {
     ) -> Result<(), MuxFault>
         requires { IsTag tag.now }
         ensures taken { (p : Past) → StandsFor p self.old → IsLineCall p (tag.now ++ 32 ∷ content.now) self.old self.new out.old out.new result }
+        ensures untaken { (p : Past) → HasTags p self.old → OnErr result (HasTags p self.new) }
         ensures phase { Moves Phase.Taking self.old self.new result }
         ensures late { IsLate result → out.new ≡ out.old }
     {
@@ -133,6 +135,7 @@ impl Mux {
     /// - `Memory`: there was too little memory. At most a first part of the text was added.
     pub fn end(&mut self, out: &mut Text) -> Result<(), MuxFault>
         ensures ended { (p : Past) → StandsFor p self.old → IsEndCall p self.new out.old out.new result }
+        ensures tags { (p : Past) → HasTags p self.old → HasTags p self.new }
         ensures phase { Moves Phase.Ended self.old self.new result }
         ensures late { IsLate result → out.new ≡ out.old }
     {

@@ -207,7 +207,8 @@ impl Session {
     /// Takes a line of the trace, and says what it answers.
     fn take(&mut self, content: &[u8], room: &mut Text, out: &mut Text) -> Result<(), Memory>
         requires { HasSaidSome self.old }
-        ensures { (f : Parsed) (o : Own) (said : List ℕ) → HasSaidSoFar f o said self.old → MatchResult result
+        ensures tag { self.new.tag ≡ self.old.tag }
+        ensures replied { (f : Parsed) (o : Own) (said : List ℕ) → HasSaidSoFar f o said self.old → MatchResult result
             (λ _. HasReplied f (next_line o content.now) self.old self.new (IsGrowth f self.old.tag o (next_line o content.now)) out.old out.new)
             (λ _. IsCutShort (IsGrowth f self.old.tag o (next_line o content.now)) out.old out.new) }
     {
@@ -235,7 +236,8 @@ impl Session {
     /// Want of memory. A first part of the rest was added.
     pub(crate) fn end(&mut self, out: &mut Text) -> Result<(), Memory>
         requires { HasSaidSome self.old }
-        ensures { (f : Parsed) (o : Own) (said : List ℕ) → HasSaidSoFar f o said self.old → MatchResult result
+        ensures tag { self.new.tag ≡ self.old.tag }
+        ensures replied { (f : Parsed) (o : Own) (said : List ℕ) → HasSaidSoFar f o said self.old → MatchResult result
             (λ _. HasReplied f (stopped_now o) self.old self.new (IsGrowth f self.old.tag o (stopped_now o)) out.old out.new)
             (λ _. IsCutShort (IsGrowth f self.old.tag o (stopped_now o)) out.old out.new) }
     {
@@ -259,7 +261,8 @@ impl Session {
         out: &mut Text,
     ) -> Result<(), Memory>
         requires { HasSaidSome self.old }
-        ensures { (f : Parsed) (o : Own) (said : List ℕ) → HasSaidSoFar f o said self.old → MatchResult result
+        ensures tag { self.new.tag ≡ self.old.tag }
+        ensures replied { (f : Parsed) (o : Own) (said : List ℕ) → HasSaidSoFar f o said self.old → MatchResult result
             (λ _. HasReplied f (with_content o content.now) self.old self.new (IsReply f self.old.tag o content.now) out.old out.new)
             (λ _. IsCutShort (IsReply f self.old.tag o content.now) out.old out.new) }
     {

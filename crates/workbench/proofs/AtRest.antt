@@ -27,7 +27,6 @@ use Rattle.workbench.specs.Stopping.{stop_of, outcome_of}
 use Rattle.trace_stream.proofs.KeptRows.{sound_so_far}
 use Rattle.trace_stream.proofs.Sizes.{few_bytes}
 use Rattle.trace_stream.proofs.KeptRows.{before_of_kept}
-use Rattle.trace_stream.proofs.FrontTexts.{front_owed}
 use Rattle.trace_stream.proofs.Living.{told_of_kept}
 use Rattle.trace_stream.proofs.Told.{told_now, live_after, told_over, over_after}
 
@@ -99,7 +98,6 @@ module _ {F : Type 0} (Stands : F → Case → List ℕ → Type 0) (kind : Stre
       is = told;
     };
     sound = λ line h. calm h.0 h.1;
-    timely = λ front back e. front_owed kind live.formula bytes front back text e calm before told;
     few = size;
   }
     where

@@ -135,8 +135,8 @@ module _ {words : List (List ℕ)} {i : Drained} {o : Filled} {bytes : List ℕ}
   seen_none h (by_itself (wide n den is)) = absurd is
   seen_none h (by_itself (overfull n is)) = absurd is
   seen_none h (unread has ended failed sound owed) = absurd (false≢true has)
-  seen_none {text = text} h (unwritten rest some failed begun timely) = absurd (append_some text rest some begun.owed)
-  seen_none h (no_memory known begun timely) = absurd (known refl)
+  seen_none {text = text} h (unwritten rest some failed begun) = absurd (append_some text rest some begun.owed)
+  seen_none h (no_memory known begun) = absurd (known refl)
 
   seen_bad : {text : List ℕ} {status : ℕ} {line : List ℕ} (l : List ℕ) → AskForBad words l
       → IsEnd (refused l) i o bytes text status line → Seen words i o bytes text status line
@@ -146,8 +146,8 @@ module _ {words : List (List ℕ)} {i : Drained} {o : Filled} {bytes : List ℕ}
   seen_bad l b (by_itself (wide n den is)) = absurd is
   seen_bad l b (by_itself (overfull n is)) = absurd is
   seen_bad l b (unread has ended failed sound owed) = absurd (false≢true has)
-  seen_bad {text = text} l b (unwritten rest some failed begun timely) = absurd (append_some text rest some begun.owed)
-  seen_bad l b (no_memory known begun timely) = s_early (λ h. h b.text b.form)
+  seen_bad {text = text} l b (unwritten rest some failed begun) = absurd (append_some text rest some begun.owed)
+  seen_bad l b (no_memory known begun) = s_early (λ h. h b.text b.form)
 
   seen_cut : {text : List ℕ} (f : Formula) (rest : List ℕ) (ask : AskFor words f) → rest ≢ [] → HasRefused o
       → (i.ended ≡ true → IsAtEnd i.after) → (b : IsBegun (whole check f) bytes i.ended text rest)
@@ -179,8 +179,8 @@ module _ {words : List (List ℕ)} {i : Drained} {o : Filled} {bytes : List ℕ}
   seen_check f ask at (by_itself (wide n den (ended, e, is))) = absurd is.cause
   seen_check f ask at (by_itself (overfull n (ended, (t, trace, many)))) = absurd many
   seen_check f ask at (unread has ended failed sound owed) = s_unread f ask ended failed (λ x fault. sound (fault_text x) (x, fault, refl))
-  seen_check f ask at (unwritten rest some failed begun timely) = seen_cut f rest ask some failed (at (λ k. omega (arith, k))).none_left begun
-  seen_check f ask at (no_memory known begun timely) = s_no_memory f ask
+  seen_check f ask at (unwritten rest some failed begun) = seen_cut f rest ask some failed (at (λ k. omega (arith, k))).none_left begun
+  seen_check f ask at (no_memory known begun) = s_no_memory f ask
 
   seen_request : {own : List ℕ} → AskCheck words own → {text : List ℕ} {status : ℕ} {line : List ℕ} (request : Request)
       → IsBuiltRequest request → Asks words request → (status ≢ 7 → has_input request ≡ true → IsReadOut i)
@@ -199,7 +199,7 @@ module _ {words : List (List ℕ)} {i : Drained} {o : Filled} {bytes : List ℕ}
   -- a run of a check that ended is seen as one of its endings
   pub seen_ended : {own : List ℕ} → AskCheck words own → {text : List ℕ} {status : ℕ} {line : List ℕ}
       → HasEnded words i o bytes text status line → Seen words i o bytes text status line
-  seen_ended ask (asked request a nothing at end) = seen_request ask request (built ask request a) a at end
+  seen_ended ask (asked request a nothing at pace end) = seen_request ask request (built ask request a) a at end
   seen_ended {own} ask (unknown some nothing) = s_early (λ h. h own ask)
 
 -- ---- the promises

@@ -176,8 +176,8 @@ own_end : {request : Request} {i : Drained} {o : Filled} {read text line : List 
 own_end {request} {i} {read = read} {text = text} {line = line} {status = status} left (by_itself h) fit calm quiet at =
     own_ends_with request read left text line i.ended status fit at h
 own_end left (unread has ended failed sound owed) fit calm quiet at = absurd (calm failed)
-own_end left (unwritten rest some failed begun timely) fit calm quiet at = absurd (quiet failed)
-own_end {request} {read = read} left (no_memory known begun timely) fit calm quiet at = (starved_own request (read ++ left) fit, complete_starved)
+own_end left (unwritten rest some failed begun) fit calm quiet at = absurd (quiet failed)
+own_end {request} {read = read} left (no_memory known begun) fit calm quiet at = (starved_own request (read ++ left) fit, complete_starved)
 
 -- the end of a request that reads nothing
 made_ends_with : (number rows : ℕ) (read text line : List ℕ) (ended : Bool) {status : ℕ} → EndsWith read ended (generated number rows) status line text
@@ -198,8 +198,8 @@ made_end (generated number rows) i o read bytes text line none_read fit quiet (b
     let is = made_ends_with number rows read text line i.ended h in
     (inl is.0, complete_answer is)
 made_end (generated number rows) i o read bytes text line none_read fit quiet (unread has ended failed sound owed) = absurd (false≢true has)
-made_end (generated number rows) i o read bytes text line none_read fit quiet (unwritten rest some failed begun timely) = absurd (quiet failed)
-made_end (generated number rows) i o read bytes text line none_read fit quiet (no_memory known begun timely) = (inr refl, complete_starved)
+made_end (generated number rows) i o read bytes text line none_read fit quiet (unwritten rest some failed begun) = absurd (quiet failed)
+made_end (generated number rows) i o read bytes text line none_read fit quiet (no_memory known begun) = (inr refl, complete_starved)
 
 module _ (words : List (List ℕ)) (request : Request) (i : Drained) (o : Filled) (ask : Asks words request) (bytes : List ℕ)
     (calm : IsUndisturbed request i o bytes) where
@@ -225,7 +225,7 @@ module _ (words : List (List ℕ)) (request : Request) (i : Drained) (o : Filled
 
   of_end : {read text line : List ℕ} {status : ℕ} → Consumes i.before i.after read → Appends o.before o.after text → HasEnded words i o read text status line
       → IsCompleteRun request o bytes status
-  of_end moved grew (asked other also nothing at end) = of_request other moved grew also at end
+  of_end moved grew (asked other also nothing at pace end) = of_request other moved grew also at end
   of_end moved grew (unknown some nothing) = record { text = []; grew = grew; own = starved_own request bytes calm.fit; is = complete_starved }
 
 -- a run of words that ask for this, where nothing disturbs it

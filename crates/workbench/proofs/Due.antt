@@ -44,10 +44,10 @@ fault_due c f i o bytes text line said _ (by_itself (wide n den (ended, e, is)))
 fault_due c f i o bytes text line said _ (by_itself (overfull n (ended, (tr, trace, many)))) h = absurd (sound_all c f bytes line i.ended ended trace.sound h)
 fault_due c f i o bytes text line said _ (unread has ended failed sound owed) h =
     absurd (sound line (subst (λ (b : Bool). HasFault (whole c f) bytes b line) ended h))
-fault_due c f i o bytes text line said _ (unwritten rest some failed begun timely) h =
+fault_due c f i o bytes text line said _ (unwritten rest some failed begun) h =
     let b = begun_sound c f bytes text rest i.ended some begun in
     absurd (sound_all c f bytes line i.ended b.0 b.1 h)
-fault_due c f i o bytes text line said _ (no_memory known begun timely) h = inr refl
+fault_due c f i o bytes text line said _ (no_memory known begun) h = inr refl
 
 small_verdict : (c : Command) (f : Formula) (tr : Trace) (status : ℕ) → IsVerdict c f tr status → status ≤ 1
 small_verdict check f tr status h = truth_status f tr status h
@@ -81,5 +81,5 @@ answer_due request i o bytes text line status (by_itself (answered is)) has clea
 answer_due request i o bytes text line status (by_itself (wide n den is)) has clean calm quiet = inr (omega arith)
 answer_due request i o bytes text line status (by_itself (overfull n is)) has clean calm quiet = inr (omega arith)
 answer_due request i o bytes text line status (unread input ended failed sound owed) has clean calm quiet = absurd (calm failed)
-answer_due request i o bytes text line status (unwritten rest some failed begun timely) has clean calm quiet = absurd (quiet failed)
-answer_due request i o bytes text line status (no_memory known begun timely) has clean calm quiet = inr (omega arith)
+answer_due request i o bytes text line status (unwritten rest some failed begun) has clean calm quiet = absurd (quiet failed)
+answer_due request i o bytes text line status (no_memory known begun) has clean calm quiet = inr (omega arith)

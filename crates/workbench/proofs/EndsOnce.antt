@@ -32,8 +32,8 @@ small_end request i o bytes text line status has small (by_itself (answered is))
 small_end request i o bytes text line _ has small (by_itself (wide n den is)) = absurd (omega (arith, small))
 small_end request i o bytes text line _ has small (by_itself (overfull n is)) = absurd (omega (arith, small))
 small_end request i o bytes text line _ has small (unread input ended failed sound owed) = absurd (omega (arith, small))
-small_end request i o bytes text line _ has small (unwritten rest some failed begun timely) = absurd (omega (arith, small))
-small_end request i o bytes text line _ has small (no_memory known begun timely) = absurd (omega (arith, small))
+small_end request i o bytes text line _ has small (unwritten rest some failed begun) = absurd (omega (arith, small))
+small_end request i o bytes text line _ has small (no_memory known begun) = absurd (omega (arith, small))
 
 -- so did 6, 8 and 9 of a command that holds the trace
 whole_end : (c : Command) (f : Formula) (i : Drained) (o : Filled) (bytes text line : List ℕ) (status : ℕ)
@@ -45,14 +45,14 @@ whole_end c f i o bytes text line _ late (by_itself (wide n den (ended, e, is)))
 whole_end c f i o bytes text line _ late (by_itself (overfull n (ended, is))) = ended
 whole_end c f i o bytes text line _ late (unread input ended failed sound owed) =
     elim late [ inl e ↦ absurd (omega (arith, e)) | inr e ↦ absurd (omega (arith, e)) ]
-whole_end c f i o bytes text line _ late (unwritten rest some failed begun timely) = (begun_sound c f bytes text rest i.ended some begun).0
-whole_end c f i o bytes text line _ late (no_memory known begun timely) = elim late [ inl e ↦ absurd (omega (arith, e)) | inr e ↦ absurd (omega (arith, e)) ]
+whole_end c f i o bytes text line _ late (unwritten rest some failed begun) = (begun_sound c f bytes text rest i.ended some begun).0
+whole_end c f i o bytes text line _ late (no_memory known begun) = elim late [ inl e ↦ absurd (omega (arith, e)) | inr e ↦ absurd (omega (arith, e)) ]
 
 -- in a run that is answered
 pub answered_once : (words : List (List ℕ)) (request : Request) → Asks words request → has_input request ≡ true
     → (i : Drained) (o : Filled) {bytes text line : List ℕ} {status : ℕ} → status ≤ 1
     → HasEnded words i o bytes text status line → HasSaidItsEnd i
-answered_once words request ask has i o {bytes} {text} {line} {status} small (asked other a nothing at end) =
+answered_once words request ask has i o {bytes} {text} {line} {status} small (asked other a nothing at pace end) =
     let same = one_request words other request a ask in
     let input : has_input other ≡ true = subst (λ (r : Request). has_input r ≡ true) (sym same) has in
     let ended = small_end other i o bytes text line status input small end in
@@ -67,7 +67,7 @@ not_seven status (inr e) k = omega (arith, e, k)
 pub late_once : (words : List (List ℕ)) (c : Command) (f : Formula) → Asks words (whole c f)
     → (i : Drained) (o : Filled) {bytes text line : List ℕ} {status : ℕ} → (status ≡ 6) ⊎ (8 ≤ status)
     → HasEnded words i o bytes text status line → HasSaidItsEnd i
-late_once words c f ask i o {bytes} {text} {line} {status} late (asked other a nothing at end) =
+late_once words c f ask i o {bytes} {text} {line} {status} late (asked other a nothing at pace end) =
     let same = one_request words other (whole c f) a ask in
     let ended = whole_end c f i o bytes text line status late (subst (λ (r : Request). IsEnd r i o bytes text status line) same end) in
     said_once i ended (at (not_seven status late) (subst (λ (r : Request). has_input r ≡ true) (sym same) refl)).once

@@ -277,7 +277,7 @@ unserved_left {words} {text} {f} {i} {o} {e} {line = line} node form is unserved
         moved = subst (λ x. Consumes i.before x []) (sym same_in) (Consumes-nil i.before);
         grew = subst (λ x. Appends o.before x []) (sym same_out) (Appends-nil o.before);
         said = said;
-        ended = run_asked (bad_request line) ask (λ _. refl) (λ _ x. absurd (false≢true x)) (by_itself bad);
+        ended = run_asked (bad_request line) ask (λ _. refl) (λ _ x. absurd (false≢true x)) (λ x. absurd (false≢true x)) (by_itself bad);
       };
       left = asked (bad_request line) ask (inr (inl refl, same));
     }

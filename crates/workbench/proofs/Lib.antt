@@ -34,3 +34,4 @@ pub mod NumberWords
 pub mod Fitting
 pub mod Completing
 pub mod EarlyFollows
+mod KeepingPace

@@ -13,7 +13,7 @@ use Rattle.session_mux.specs.Taking.{fault_of, HasLines, IsTaking, IsInputStop, 
 use Rattle.session_mux.specs.declared.input.Input.{Input}
 use Rattle.session_mux.specs.declared.stop.InputStop.{InputStop}
 use Rattle.session_mux.specs.declared.stop.InputStop.TheVariants.{Fault as InLine, NoMemory as NoRoom}
-use Rattle.session_mux.proofs.FrontLines.{no_fault_so_far, owed_so_far, few_bytes, front_lines_owed}
+use Rattle.session_mux.proofs.FrontLines.{no_fault_so_far, owed_so_far, few_bytes}
 use Rattle.workbench.specs.Commands as word
 use Rattle.workbench.specs.Requests.{sessions, AreFor}
 use Rattle.workbench.specs.Running.{IsBegun}
@@ -65,9 +65,6 @@ many_at_rest m bytes text k = record {
   stands = k;
   owed = subst (λ t. OwesLines m.formula bytes false t) all_written (owed_so_far m.formula m.input bytes text k.taking);
   sound = λ line h. no_fault_so_far m.formula m.input bytes text k.taking h.0 h.1;
-  timely = λ front back e.
-      let (short, more, owed, parts) = front_lines_owed m.formula m.input bytes text k.taking front back e in
-      (short, more, owed, sym all_written ∙ parts);
   few = few_bytes m.formula m.input bytes text k.taking;
 }
   where
@@ -192,9 +189,9 @@ many_soundly f g i o ending x = by_line ending x.is_line
 many_left : (words : List (List ℕ)) (f : Formula) (bytes text : List ℕ) (ending : Result Bool Stop) (m : Muxed) (old new : Kept) → AreFor words word.mux f
     → OnOk ending (HasAll f m bytes text) → MatchResult ending (λ _. new ≡ Mux m) (λ _. new ≡ old) → IsLeft words bytes (status_of ending) old new
 many_left words f bytes text (Ok true) m old new ask k same =
-    asked (sessions f) ask (inl (refl, inl refl, subst (λ (x : Kept). Holds (sessions f) bytes x) (sym same) (k.seen, k.are, k.tags, k.ended)))
+    asked (sessions f) ask (inl (refl, inl refl, subst (λ (x : Kept). Holds (sessions f) bytes x) (sym same) (k.seen, k.are, k.stands)))
 many_left words f bytes text (Ok false) m old new ask k same =
-    asked (sessions f) ask (inl (refl, inr refl, subst (λ (x : Kept). Holds (sessions f) bytes x) (sym same) (k.seen, k.are, k.tags, k.ended)))
+    asked (sessions f) ask (inl (refl, inr refl, subst (λ (x : Kept). Holds (sessions f) bytes x) (sym same) (k.seen, k.are, k.stands)))
 many_left words f bytes text (Err stop) m old new ask k same = asked (sessions f) ask (inr (inr (not_answer stop), same))
 
 -- requests of sessions that are one are of one formula

@@ -1,5 +1,5 @@
 -- What an explanation comes to: its lines refute the formula, and none can be left out.
-use Rattle.std.proofs.Common.{◌≡◌, ◌⊎◌, inl, inr, ℕ, ◌<◌, Bool, true, false, List, [], ◌∷◌, ◌++◌, length, ap, subst, ◌∙◌, append-nil}
+use Rattle.std.proofs.Common.{◌≡◌, ◌⊎◌, inl, inr, ℕ, ◌<◌, Bool, true, false, List, [], ◌∷◌, ◌++◌, length, refl, ap, subst, ◌∙◌, append-nil}
 use Rattle.std.specs.Prelude.{MatchBool}
 use Rattle.stl_syntax.specs.Formula.{Formula, root}
 use Rattle.stl_syntax.specs.PostOrder.{IsPostOrder}
@@ -14,12 +14,12 @@ use Rattle.implicants.specs.declared.explaining.Explained.{Explained}
 use Rattle.implicants.specs.declared.explaining.Explained.TheVariants.{Holds, Violated}
 use Rattle.implicants.proofs.KeptCells.{kept_is_needed, certainty_grows}
 use Rattle.implicants.proofs.OneExplanation.{one_is_enough, kept_refutes}
-use Rattle.report.specs.Report.{explain, IsExplained as Described, IsItemLines, AreItemLines, nodes_for}
+use Rattle.report.specs.Report.{explain, json, IsExplained as Described, IsItemLines, AreItemLines, nodes_for}
 use Rattle.report.proofs.JoinedTimes.{SayMore, joined_say, line_without}
 use Rattle.report.proofs.JoinedCells.{cover_as, so_as}
 use Rattle.workbench.specs.Answers.{HoldsAtStart}
 use Rattle.workbench.specs.Ended.{Refute, KeptRefute, TellsTruth, IsAnsweredWhole}
-use Rattle.workbench.specs.Accounts.{AreReasons, IsRefutation, IsAccount}
+use Rattle.workbench.specs.Accounts.{AreReasons, IsRefutation, IsAccount, IsReportAccount}
 
 -- what is kept of a violation refutes the formula, since the answer does
 pub kept_refute : (f : Formula) (tr : Trace) (steps : ℕ) (e : Explained) → IsPostOrder (nodes_for f tr)
@@ -85,6 +85,22 @@ module _ (f : Formula) (tr : Trace) where
     text_is = is;
   })
 
+  ReportSays : ℕ → Bool → List Item → Type 0
+  ReportSays status holds items =
+      ((status ≡ 0) × (holds ≡ true) × HoldsAtStart f tr × (items ≡ []))
+      ⊎ ((status ≡ 1) × (holds ≡ false) × (¬ HoldsAtStart f tr) × AreReasons f tr items)
+
+  report_says : (status : ℕ) (lines : List Item) → KeptRefute f tr → TellsTruth f tr status → Described f tr lines → (holds : Bool)
+      → MatchBool holds (Truth (root (nodes_for f tr)) tr (start tr)) (¬ Truth (root (nodes_for f tr)) tr (start tr)) → ReportSays status holds lines
+  unfolding ReportSays
+  report_says status lines sure (inl (s, h)) (inl (k, none)) true m = inl (s, refl, h, none)
+  report_says status lines sure (inl (s, h)) (inl (k, none)) false m = absurd (m h)
+  report_says status lines sure (inl (s, h)) (inr (n, more)) holds m = absurd (n h)
+  report_says status lines sure (inr (s, n)) (inl (k, none)) holds m = absurd (n k)
+  report_says status lines sure (inr (s, n)) (inr (o, more)) true m = absurd (n m)
+  report_says status lines sure (inr (s, n)) (inr (o, (items, kept, joined))) false m =
+      inr (s, refl, n, reasons_of items lines sure n kept joined)
+
 -- what `explain` wrote is an account
 pub accounted : (f : Formula) (bytes text : List ℕ) (status : ℕ) → IsAnsweredWhole explain f bytes status text → IsAccount f bytes text status
 unfolding Says
@@ -94,4 +110,22 @@ accounted f bytes text status a =
       tr = a.tr;
       trace = a.trace;
       says = says f a.tr status lines body text a.sure a.verdict explained started.0 started.1 written (is ∙ ap (λ l. l ++ body) started.2);
+    }
+
+-- so is what `json` wrote
+pub report_accounted : (f : Formula) (bytes text : List ℕ) (status : ℕ) → IsAnsweredWhole json f bytes status text → IsReportAccount f bytes text status
+unfolding ReportSays
+report_accounted f bytes text status a =
+    let (verdicts, knots, items, holds, report, described, measured, explained, truth, is, text_is) = a.written in
+    record {
+      tr = a.tr;
+      trace = a.trace;
+      verdicts = verdicts;
+      knots = knots;
+      items = items;
+      holds = holds;
+      report = report;
+      is = is;
+      text_is = text_is;
+      says = report_says f a.tr status items a.sure.1 a.verdict explained holds truth;
     }

@@ -14,7 +14,7 @@ use Rattle.workbench.specs.Requests.{no_form, refused as bad_request, whole as o
 use Rattle.workbench.specs.Requests.{AreNone, AreOfNoFormula, generated, AreFor, word_of, usage_line, IsUnserved}
 use Rattle.workbench.specs.Owed.{OwesAtEnd, not_yet, faulty as faulty_at_end, at_end as owed_at_end}
 use Rattle.workbench.specs.Ended.{IsPrompt, none, bad, faulty, answered as as_answered, wide as as_wide, overfull as as_overfull}
-use Rattle.workbench.specs.Running.{IsTimely, IsEnd, by_itself, unread, unwritten, no_memory, HasEnded, asked, unknown, IsRun}
+use Rattle.workbench.specs.Running.{IsEnd, by_itself, unread, unwritten, no_memory, HasEnded, asked, unknown, IsRun}
 use Rattle.workbench.specs.Saying.{IsSaid}
 use Rattle.workbench.specs.InputFaults.{Fault, whole_limits, IsInputFault}
 use Rattle.workbench.specs.FromSource.{IsReadWhole, IsReadPromptly, IsStop}
@@ -87,9 +87,6 @@ serves table f i h = h
 
 -- ---- parts
 
-timely : (c : Command) (f : Formula) (bytes text : List ℕ) → IsTimely (of_whole c f) bytes text
-timely c f bytes text = ([], text, refl, refl)
-
 -- what was to be written was written whole, or the output failed in it
 pub written_ok : {holds : Bool} {text : List ℕ} {held held_after : Option (List ℕ)} {e : Result Bool Stop} → IsWrittenWith holds text held held_after e
     → ((e ≡ Ok holds) × Appends held held_after text) ⊎ ((e ≡ Err Unwritten) × IsPartWritten held held_after text)
@@ -161,7 +158,7 @@ none_run i o e line is h same_in same_out said = record {
   moved = kept_left i.before i.after same_in;
   grew = kept_all o.before o.after same_out;
   said = subst (λ l. IsSaid e.before e.after e.faults e.faults_after l) is said;
-  ended = asked no_form h (λ _. refl) (λ _ b. absurd (false≢true b)) (by_itself none);
+  ended = asked no_form h (λ _. refl) (λ _ b. absurd (false≢true b)) (λ b. absurd (false≢true b)) (by_itself none);
 }
 
 -- a generated trace
@@ -174,7 +171,7 @@ made_run {words} number rows i o e _ _ form (written {text = text} is w) same sa
   moved = kept_left i.before i.after same;
   grew = w;
   said = said;
-  ended = asked (generated number rows) form (λ _. refl) (λ _ x. absurd (false≢true x)) (by_itself (as_answered (refl, is)));
+  ended = asked (generated number rows) form (λ _. refl) (λ _ x. absurd (false≢true x)) (λ x. absurd (false≢true x)) (by_itself (as_answered (refl, is)));
 }
 made_run {words} number rows i o e _ _ form (cut_off is p failed) same said = record {
   bytes = [];
@@ -183,14 +180,14 @@ made_run {words} number rows i o e _ _ form (cut_off is p failed) same said = re
   moved = kept_left i.before i.after same;
   grew = p.wrote;
   said = said;
-  ended = asked (generated number rows) form (λ _. refl) (λ _ x. absurd (false≢true x)) (unwritten p.back p.missing failed (record {
+  ended = asked (generated number rows) form (λ _. refl) (λ _ x. absurd (false≢true x)) (λ x. absurd (false≢true x)) (unwritten p.back p.missing failed (record {
     seen = [];
     later = [];
     parts = refl;
     seen_end = false;
     at_end = λ h. absurd (false≢true h);
     owed = subst (IsSummary number rows) p.parts is;
-  }) ([], p.front, refl, refl));
+  }));
 }
 made_run {words} number rows i o e _ _ form (no_room_for_it same_out) same said = record {
   bytes = [];
@@ -199,7 +196,7 @@ made_run {words} number rows i o e _ _ form (no_room_for_it same_out) same said 
   moved = kept_left i.before i.after same;
   grew = kept_all o.before o.after same_out;
   said = said;
-  ended = asked (generated number rows) form (λ _. refl) (λ _ x. absurd (false≢true x)) (no_memory (λ k. let h = k in cc) (inl refl) ([], [], refl, refl));
+  ended = asked (generated number rows) form (λ _. refl) (λ _ x. absurd (false≢true x)) (λ x. absurd (false≢true x)) (no_memory (λ k. let h = k in cc) (inl refl));
 }
 
 -- a text that gives no formula
@@ -218,7 +215,7 @@ refused_run {words} {text} j i o e status line form end same_in same_out said = 
   where
     by_end : {status : ℕ} {line : List ℕ} → IsBadEnd text status line → HasEnded words i o [] [] status line
     by_end (refused {line = line} b) =
-        asked (bad_request line) (record { command = j; text = text; form = form; is = inl b }) (λ _. refl) (λ _ x. absurd (false≢true x)) (by_itself bad)
+        asked (bad_request line) (record { command = j; text = text; form = form; is = inl b }) (λ _. refl) (λ _ x. absurd (false≢true x)) (λ x. absurd (false≢true x)) (by_itself bad)
     by_end no_room = unknown (λ h. h (on_formula j text) form) refl
 
 prompt_of : (c : Command) (f : Formula) (bytes : List ℕ) (ended : Bool) → IsReadPromptly whole_limits f bytes ended → IsPrompt (of_whole c f) bytes ended
@@ -277,7 +274,7 @@ module _ (words : List (List ℕ)) (c : Command) (f : Formula) (i : Drained) (o 
       seen_end = true;
       at_end = λ _. (read.came_to_end, refl);
       owed = owed_at_end case.trace read.whole a.few (subst (λ t. Out c f case.trace t) p.parts a.written);
-    }) (timely c f read.bytes p.front);
+    });
   }
 
   of_stop : (stop : Stop) → IsStop whole_limits f i.before i.after i.ended stop → o.after ≡ o.before
@@ -307,7 +304,7 @@ module _ (words : List (List ℕ)) (c : Command) (f : Formula) (i : Drained) (o 
     moved = moved;
     grew = kept_all o.before o.after same;
     at_end = λ n. absurd (n refl);
-    is = no_memory (λ k. let h = k in cc) (inl refl) (timely c f bytes []);
+    is = no_memory (λ k. let h = k in cc) (inl refl);
   })
   of_stop (Wide i den) is same failed is_line = absurd is
   of_stop (TooMany count) is same failed is_line = absurd is
@@ -358,7 +355,7 @@ module _ (words : List (List ℕ)) (c : Command) (f : Formula) (i : Drained) (o 
         moved = x.moved;
         grew = x.grew;
         said = said;
-        ended = asked (of_whole c f) ask (λ k. absurd (let h = k in cc)) (λ n _. record { none_left = x.at_end n; once = once (λ k. n (ap status_of k)) }) x.is;
+        ended = asked (of_whole c f) ask (λ k. absurd (let h = k in cc)) (λ n _. record { none_left = x.at_end n; once = once (λ k. n (ap status_of k)) }) (λ b. absurd (false≢true b)) x.is;
       })
 
 -- ---- statuses

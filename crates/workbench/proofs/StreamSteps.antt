@@ -1,19 +1,19 @@
 -- How far a stream has come, and how it ends.
 use Rattle.std.proofs.Common.{◌≡◌, ◌≢◌, inl, inr, ℕ, ◌+◌, ◌-◌, ◌<◌, ◌≤◌, Bool, true, false, List, []}
-use Rattle.std.proofs.Common.{◌++◌, length, take, drop, take-append-drop, length-append, append_assoc}
+use Rattle.std.proofs.Common.{◌++◌, length, take, max, length-append}
 use Rattle.std.proofs.Common.{refl, sym, ap, ◌∙◌, subst, arith, append-nil, Result, Ok, Err}
 use Rattle.std.specs.Prelude.{Option}
 use Rattle.std.specs.Io.KnownBytes.{Appends, Consumes, Keeps, IsAtEnd}
 use Rattle.std.proofs.KnownBytes.{Appends-nil, Appends-trans, Consumes-nil, Consumes-trans, Consumes-kept}
 use Rattle.std.proofs.lemmas.Bool.{false≢true}
-use Rattle.std.proofs.lemmas.List.{take-append-le}
-use Rattle.io_edge.specs.Calls.{Drained, Filled, HasFailed, HasRefused, IsAskedOnce}
+use Rattle.std.proofs.lemmas.List.{take-append-le, take_all}
+use Rattle.io_edge.specs.Calls.{Drained, Filled, HasFailed, HasRefused, IsAskedOnce, HasAskedAtMost}
 use Rattle.stl_syntax.specs.Formula.{Formula}
 use Rattle.session_mux.specs.Taking.{fault_of}
 use Rattle.workbench.specs.Requests.{Request, no_form, has_input, Stream, stream, word_of_stream, AreFor, Asks}
-use Rattle.workbench.specs.Owed.{Owes, OwesByThen}
+use Rattle.workbench.specs.Owed.{Owes}
 use Rattle.workbench.specs.Ended.{HasFault, IsPrompt, IsAnswered, IsWide, faulty, answered, wide}
-use Rattle.workbench.specs.Running.{IsBegun, IsTimely, IsEnd, by_itself, unread, unwritten, no_memory, asked}
+use Rattle.workbench.specs.Running.{IsBegun, earlier, KeepsPace, IsEnd, by_itself, unread, unwritten, no_memory, asked}
 use Rattle.workbench.specs.Saying.{IsSaid}
 use Rattle.workbench.specs.Sessions.{input_fault_text}
 use Rattle.workbench.specs.Wholes.{status_of_truth, status_of, IsEndLine, EndsSoundly}
@@ -44,19 +44,15 @@ pub at_first : (Stands : List ℕ → List ℕ → Type 0) (q : Request) (left h
     → Pushing Stands q left left held held 0
 at_first Stands q left held p = record { bytes = []; text = []; moved = Consumes-nil left; grew = Appends-nil held; is = p; enough = omega arith }
 
--- all but the last 4,096 bytes stood before the last piece
-timely_piece : (q : Request) (bytes piece text grown : List ℕ)
-    → ((front back : List ℕ) → bytes ≡ front ++ back → (short more : List ℕ) × OwesByThen q front short × (text ≡ short ++ more))
-    → length piece ≤ 4096 → IsTimely q (bytes ++ piece) (text ++ grown)
-timely_piece q bytes piece text grown timely small =
-    let n = length (bytes ++ piece) - 4096 in
-    let within : n ≤ length bytes = omega (arith, small, length-append bytes piece) in
-    let (short, more, owed, e) = timely (take n bytes) (drop n bytes) (sym (take-append-drop n bytes)) in (
-      short,
-      more ++ grown,
-      subst (λ b. OwesByThen q b short) (sym (take-append-le n bytes piece within)) owed,
-      ap (λ t. t ++ grown) e ∙ append_assoc short more grown,
-    )
+-- before the last read there were all bytes but those that it gave
+earlier_is : (i : Drained) (bytes piece : List ℕ) → i.gave ≡ length piece → earlier i (bytes ++ piece) ≡ bytes
+earlier_is i bytes piece gave =
+    let n : length (bytes ++ piece) - i.gave ≡ length bytes = omega (arith, gave, length-append bytes piece) in
+    ap (λ m. take m (bytes ++ piece)) n ∙ take-append-le (length bytes) bytes piece (omega arith) ∙ take_all (length bytes) bytes (omega arith)
+
+-- no read asks for more than the buffer has
+pub asks_few : (first now after len : ℕ) → now ≤ max first 4096 → len ≡ 4096 → after ≡ max now len → after ≤ max first 4096
+asks_few first now after len few size got = omega (arith, few, size, got)
 
 -- a run over this source and this sink read the piece, or the end, as its last
 pub record IsRead (before now held : Option (List ℕ)) (i : Drained) (o : Filled) (piece : List ℕ) (ended : Bool) : Type 0 where
@@ -72,6 +68,10 @@ pub record IsRead (before now held : Option (List ℕ)) (i : Drained) (o : Fille
   pub at_end : ended ≡ true → (piece ≡ []) × IsAtEnd i.after
   -- a piece is short
   pub small : length piece ≤ 4096
+  -- the last read gave it
+  pub gave : i.gave ≡ length piece
+  -- no read asked for more than the buffer has
+  pub within : HasAskedAtMost 4096 i
 
 module _ {Stands : List ℕ → List ℕ → Type 0} {q : Request} {before now held held_now : Option (List ℕ)} {reads : ℕ}
     (p : Pushing Stands q before now held held_now reads) where
@@ -96,17 +96,32 @@ module _ {Stands : List ℕ → List ℕ → Type 0} {q : Request} {before now h
     enough = omega (arith, some, p.enough, length-append p.bytes piece);
   }
 
+  -- what was read before the last piece was answered before it
+  pace_before : (i : Drained) (piece grown : List ℕ) → i.gave ≡ length piece → HasAskedAtMost 4096 i → KeepsPace q i (p.bytes ++ piece) (p.text ++ grown)
+  pace_before i piece grown gave few =
+      let same = earlier_is i p.bytes piece gave in
+      record {
+        short = p.text;
+        more = grown;
+        owed = subst (λ b. Owes q b false p.text) (sym same) p.is.owed;
+        parts = refl;
+        sound = subst (λ b. (line : List ℕ) → ¬ HasFault q b false line) (sym same) p.is.sound;
+        small = few;
+      }
+
   -- the source failed
   pub end_unread : (Done : List ℕ → List ℕ → Type 0) (i : Drained) (o : Filled) → i.before ≡ before → o.before ≡ held
-      → o.after ≡ held_now → Keeps now i.after → i.ended ≡ false → HasFailed i
+      → o.after ≡ held_now → Keeps now i.after → i.ended ≡ false → HasFailed i → i.gave ≡ 0 → HasAskedAtMost 4096 i
       → IsStreamEnd Done q i o (Err Unread)
-  end_unread Done i o b h a kept goes_on failed = record {
+  end_unread Done i o b h a kept goes_on failed gave few = record {
     bytes = p.bytes;
     text = p.text;
     line = read_fault;
     moved = subst (λ x. Consumes x i.after p.bytes) (sym b) (Consumes-kept before now i.after p.bytes p.moved kept);
     grew = subst (λ x. Appends x o.after p.text) (sym h) (subst (λ x. Appends held x p.text) (sym a) p.grew);
     at_end = λ t. absurd (false≢true (sym goes_on ∙ t));
+    pace = subst (λ bs. KeepsPace q i bs p.text) (append-nil p.bytes)
+        (subst (λ t. KeepsPace q i (p.bytes ++ []) t) (append-nil p.text) (pace_before i [] [] gave few));
     is = unread p.is.input goes_on failed p.is.sound p.is.owed;
     is_line = refl;
     left = tt;
@@ -127,9 +142,6 @@ module _ {Stands : List ℕ → List ℕ → Type 0} {q : Request} {before now h
       all_grew : Appends o.before o.after (p.text ++ grown)
       all_grew = subst (λ x. Appends x o.after (p.text ++ grown)) (sym s.sink) (Appends-trans held held_now o.after p.text grown p.grew wrote)
 
-      in_time : IsTimely q (p.bytes ++ piece) (p.text ++ grown)
-      in_time = timely_piece q p.bytes piece p.text grown p.is.timely s.small
-
       as_ended : {rest : List ℕ} → IsBegun q (p.bytes ++ piece) ended (p.text ++ grown) rest → IsBegun q (p.bytes ++ piece) i.ended (p.text ++ grown) rest
       as_ended {rest} x = subst (λ (e : Bool). IsBegun q (p.bytes ++ piece) e (p.text ++ grown) rest) (sym s.same) x
 
@@ -142,6 +154,7 @@ module _ {Stands : List ℕ → List ℕ → Type 0} {q : Request} {before now h
         moved = all_moved;
         grew = all_grew;
         at_end = λ t. (s.at_end (sym s.same ∙ t)).1;
+        pace = pace_before i piece grown s.gave s.within;
         is = is;
         is_line = is_line;
         left = tt;
@@ -161,9 +174,9 @@ module _ {Stands : List ℕ → List ℕ → Type 0} {q : Request} {before now h
           (prompt piece i.ended s.small (λ t. (s.at_end (sym s.same ∙ t)).0))
           (subst (λ (e : Bool). Owes q (p.bytes ++ piece) e (p.text ++ grown)) (sym s.same) owed))) refl
       by_stop Unread is cut = absurd is
-      by_stop Unwritten (rest, some, begun) cut = with_end write_fault Unwritten (unwritten rest some (cut refl) (as_ended begun) in_time) refl
-      by_stop NoMemory (inl none) cut = with_end out_of_memory NoMemory (no_memory known (inl none) in_time) refl
-      by_stop NoMemory (inr (rest, begun)) cut = with_end out_of_memory NoMemory (no_memory known (inr (rest, as_ended begun)) in_time) refl
+      by_stop Unwritten (rest, some, begun) cut = with_end write_fault Unwritten (unwritten rest some (cut refl) (as_ended begun)) refl
+      by_stop NoMemory (inl none) cut = with_end out_of_memory NoMemory (no_memory known (inl none)) refl
+      by_stop NoMemory (inr (rest, begun)) cut = with_end out_of_memory NoMemory (no_memory known (inr (rest, as_ended begun))) refl
       by_stop (Wide i den) is cut = with_end (wide_text i den) (Wide i den)
           (by_itself (wide i den (subst (λ (e : Bool). IsWide q (p.bytes ++ piece) e i den (p.text ++ grown)) (sym s.same) is))) refl
       by_stop (TooMany count) is cut = absurd is
@@ -179,6 +192,7 @@ module _ {Stands : List ℕ → List ℕ → Type 0} {q : Request} {before now h
         (subst (Consumes before i.after) (append-nil p.bytes) (Consumes-trans before now i.after p.bytes [] p.moved s.moved));
     grew = subst (λ x. Appends x o.after (p.text ++ grown)) (sym s.sink) (Appends-trans held held_now o.after p.text grown p.grew wrote);
     at_end = λ _. (s.at_end refl).1;
+    pace = subst (λ bs. KeepsPace q i bs (p.text ++ grown)) (append-nil p.bytes) (pace_before i [] grown s.gave s.within);
     is = by_itself (answered (subst (λ (e : Bool). IsAnswered q p.bytes e (status_of_truth holds) (p.text ++ grown)) (sym s.same) is));
     is_line = refl;
     left = left;
@@ -279,7 +293,7 @@ module _ {request : Formula → Request} {f : Formula} {Done : Formula → List 
           grew = streamed_end.grew;
           said = subst (λ l. IsSaid e.before e.after e.faults e.faults_after l) (line_is own) x.said;
           ended = asked (request f) ask (λ k. absurd (false≢true (sym k ∙ input)))
-              (λ _ _. record { none_left = streamed_end.at_end; once = x.once }) streamed_end.is;
+              (λ _ _. record { none_left = streamed_end.at_end; once = x.once }) (λ _. streamed_end.pace) streamed_end.is;
         };
         left = left;
       })

@@ -286,6 +286,7 @@ drained_all f live phase i o r e over x = record {
   moved = x.moved;
   grew = x.grew;
   at_end = x.at_end;
+  pace = x.pace;
   is = x.is;
   is_line = x.is_line;
   left = by_result r over x.left;

@@ -1,11 +1,16 @@
 -- What an explanation comes to.
-use Rattle.std.specs.Prelude.{◌≡◌, ◌⊎◌, ℕ, true, false, List, ◌∷◌, ◌++◌}
+use Rattle.std.specs.Prelude.{◌≡◌, ◌⊎◌, ℕ, Bool, true, false, List, [], ◌∷◌, ◌++◌}
 use Rattle.stl_syntax.specs.Formula.{Formula, root}
 use Rattle.stl_syntax.specs.Trace.{Trace, start}
 use Rattle.stl_syntax.specs.Kleene.{MustNot}
 use Rattle.stl_syntax.specs.Kept.{Kept}
-use Rattle.stl_syntax.specs.Texts.{start_line}
+use Rattle.stl_syntax.specs.Knots.{Knots}
+use Rattle.stl_syntax.specs.Texts.{newline, start_line}
 use Rattle.stl_syntax.specs.declared.items.Item.{Item}
+use Rattle.stl_syntax.specs.declared.items.Verdict.{Verdict}
+use Rattle.serde_json.specs.Data.{Data}
+use Rattle.serde_json.specs.Written.{compact_text}
+use Rattle.report.specs.Json.{IsReportData}
 use Rattle.report.specs.Report.{IsItemLines, AreItemLines, nodes_for}
 use Rattle.workbench.specs.Answers.{HoldsAtStart}
 use Rattle.workbench.specs.InputFaults.{whole_limits}
@@ -30,6 +35,21 @@ pub record IsRefutation (f : Formula) (tr : Trace) (status : ℕ) (text : List �
   pub reasons : AreReasons f tr lines
   pub written : AreItemLines tr.header.scale f lines body
   pub text_is : text ≡ start_line false ++ body
+
+-- the bytes are all of a trace's, and the text is the object of a report. Status 0, a start that is true and no items, where the formula holds
+-- there; else status 1, a start that is false, and the items of reasons
+pub record IsReportAccount (f : Formula) (bytes text : List ℕ) (status : ℕ) : Type 0 where
+  pub tr : Trace
+  pub trace : IsWhole whole_limits f bytes tr
+  pub verdicts : List Verdict
+  pub knots : Knots
+  pub items : List Item
+  pub holds : Bool
+  pub report : Data
+  pub is : IsReportData tr.header.scale f verdicts knots items holds report
+  pub text_is : text ≡ compact_text report ++ newline
+  pub says : ((status ≡ 0) × (holds ≡ true) × HoldsAtStart f tr × (items ≡ []))
+      ⊎ ((status ≡ 1) × (holds ≡ false) × (¬ HoldsAtStart f tr) × AreReasons f tr items)
 
 -- the bytes are all of a trace's. Status 0 and the line of a start that is true, where the formula holds there; else its refutation
 pub record IsAccount (f : Formula) (bytes text : List ℕ) (status : ℕ) : Type 0 where

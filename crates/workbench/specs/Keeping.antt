@@ -9,8 +9,7 @@ use Rattle.online_robust.specs.Nets.{Parts, StandsFor}
 use Rattle.online_robust.specs.Pasts.{part_of}
 use Rattle.online_robust.specs.declared.line.MarginLine.{MarginLine}
 use Rattle.report.specs.Report.{nodes_for}
-use Rattle.session_mux.specs.Muxes.{Muxed, HasTags}
-use Rattle.session_mux.specs.declared.mux.Phase.TheVariants.{Ended}
+use Rattle.session_mux.specs.Muxes.{Muxed, StandsForAll as StandForAll}
 use Rattle.trace_reader.specs.TraceText.{lines}
 use Rattle.trace_stream.specs.CaseReader.{IsWhole}
 use Rattle.workbench.specs.InputFaults.{stream_limits, whole_limits}
@@ -41,9 +40,9 @@ pub record IsEarlyOf (f : Formula) (bytes : List ℕ) (x : Deciding) : Type 0 wh
   pub header : x.header ≡ tr.header
   pub stands : Stands x tr.rows true
 
--- the sessions are those of the lines of these bytes, and their end came
+-- the sessions are of this formula and of the lines of these bytes; each stands for its own lines and their end
 abbrev pub AreSessionsOf : Formula → List ℕ → Muxed → Type 0
-AreSessionsOf f bytes m = (seen : List Tagged) × AreTagged (lines true bytes) seen × HasTags (record { formula = f; seen = seen }) m × (m.phase ≡ Ended)
+AreSessionsOf f bytes m = (seen : List Tagged) × AreTagged (lines true bytes) seen × StandForAll (record { formula = f; seen = seen }) m
 
 -- the network is of this formula, in the ticks of the trace of these bytes, and stands for its rows and their end; all that its root gave out
 -- was taken

@@ -39,9 +39,3 @@ Owes (whole c f) bytes ended text = OwesAtEnd c f bytes ended text
 Owes (stream s f) bytes ended text = OwesRows s f bytes ended text
 Owes (sessions f) bytes ended text = OwesLines f bytes ended text
 Owes (generated number rows) bytes ended text = IsSummary number rows text
-
--- the text that must have been written before more than these bytes were read: a stream's for their whole lines
-abbrev pub OwesByThen : Request → List ℕ → List ℕ → Type 0
-OwesByThen (stream s f) bytes text = OwesRows s f bytes false text
-OwesByThen (sessions f) bytes text = OwesLines f bytes false text
-OwesByThen request bytes text = text ≡ []

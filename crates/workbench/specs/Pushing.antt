@@ -3,9 +3,9 @@ use Rattle.std.specs.Prelude.{◌≡◌, ◌≢◌, ◌⊎◌, ℕ, ◌<◌, Boo
 use Rattle.std.specs.Io.KnownBytes.{Appends, Consumes, IsAtEnd}
 use Rattle.io_edge.specs.Calls.{Drained, Filled}
 use Rattle.workbench.specs.Requests.{Request, stream, has_input}
-use Rattle.workbench.specs.Owed.{Owes, OwesByThen}
+use Rattle.workbench.specs.Owed.{Owes}
 use Rattle.workbench.specs.Ended.{HasFault, IsAnswered, IsWide}
-use Rattle.workbench.specs.Running.{IsBegun, IsEnd}
+use Rattle.workbench.specs.Running.{IsBegun, KeepsPace, IsEnd}
 use Rattle.trace_stream.specs.Cases.{IsFault}
 use Rattle.session_mux.specs.Taking.{fault_of}
 use Rattle.workbench.specs.InputFaults.{Fault, fault_text}
@@ -16,13 +16,12 @@ use Rattle.workbench.specs.declared.fault.Stop.{Stop}
 use Rattle.workbench.specs.declared.fault.Stop.TheVariants.{Fault as Faulty, Input as FaultyLine, Unread, Unwritten, NoMemory, Wide, TooMany}
 use Rattle.workbench.specs.ErrTexts.{out_of_memory, read_fault, write_fault, wide_text, too_many_cells_text}
 
--- these bytes were pushed, and this text was written: all that is owed for them, and before that all that was owed for any first part of them
+-- these bytes were pushed, and this text was written: all that is owed for them
 pub record IsPushed (Stands : List ℕ → List ℕ → Type 0) (request : Request) (bytes text : List ℕ) : Type 0 where
   pub input : has_input request ≡ true
   pub stands : Stands bytes text
   pub owed : Owes request bytes false text
   pub sound : (line : List ℕ) → ¬ HasFault request bytes false line
-  pub timely : (front back : List ℕ) → bytes ≡ front ++ back → (short more : List ℕ) × OwesByThen request front short × (text ≡ short ++ more)
   pub few : length bytes < 9223372036854775808
 
 -- the stored fault of a trace for the request's formula is said by this line
@@ -70,6 +69,7 @@ pub record IsStreamEnd (Done : List ℕ → List ℕ → Type 0) (request : Requ
   pub moved : Consumes i.before i.after bytes
   pub grew : Appends o.before o.after text
   pub at_end : i.ended ≡ true → IsAtEnd i.after
+  pub pace : KeepsPace request i bytes text
   pub is : IsEnd request i o bytes text (status_of result) line
   pub is_line : IsLineOf request result line
   pub left : OnOk result (Done bytes text)

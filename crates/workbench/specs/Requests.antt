@@ -127,6 +127,12 @@ has_input (stream s f) = true
 has_input (sessions f) = true
 has_input (generated number rows) = false
 
+-- it is answered as its bytes come
+abbrev pub is_streamed : Request → Bool
+is_streamed (stream s f) = true
+is_streamed (sessions f) = true
+is_streamed request = false
+
 -- nothing is written before all is known
 abbrev pub is_held : Form → Bool
 is_held (on_formula word.watch text) = false

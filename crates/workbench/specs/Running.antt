@@ -2,9 +2,9 @@
 use Rattle.std.specs.Prelude.{◌≡◌, ◌≢◌, ◌⊎◌, ℕ, ◌-◌, Bool, true, false, List, [], ◌++◌, length, take}
 use Rattle.std.specs.Io.KnownBytes.{Appends, Consumes, IsAtEnd}
 use Rattle.io_edge.specs.Causes.{next_count}
-use Rattle.io_edge.specs.Calls.{Drained, Filled, HasFailed, HasRefused, IsAskedOnce}
-use Rattle.workbench.specs.Requests.{Request, no_form, stream, margins, Asks, AreNone, has_input}
-use Rattle.workbench.specs.Owed.{Owes, OwesByThen}
+use Rattle.io_edge.specs.Calls.{Drained, Filled, HasFailed, HasRefused, IsAskedOnce, HasAskedAtMost}
+use Rattle.workbench.specs.Requests.{Request, no_form, stream, margins, Asks, AreNone, has_input, is_streamed}
+use Rattle.workbench.specs.Owed.{Owes}
 use Rattle.workbench.specs.Ended.{HasFault, IsWide, EndsWith}
 use Rattle.workbench.specs.ErrTexts.{out_of_memory, read_fault, write_fault}
 use Rattle.workbench.specs.Saying.{IsSaid}
@@ -23,19 +23,28 @@ pub record IsBegun (request : Request) (bytes : List ℕ) (ended : Bool) (text r
   pub at_end : seen_end ≡ true → (ended ≡ true) × (later ≡ [])
   pub owed : IsDue request seen seen_end (text ++ rest)
 
--- what a stream owed for the whole lines of all but the last 4,096 bytes was written
-abbrev pub IsTimely : Request → List ℕ → List ℕ → Type 0
-IsTimely request bytes text =
-    (short more : List ℕ) × OwesByThen request (take (length bytes - 4096) bytes) short × (text ≡ short ++ more)
+-- all bytes but those that the last read gave
+abbrev pub earlier : Drained → List ℕ → List ℕ
+earlier i bytes = take (length bytes - i.gave) bytes
+
+-- a stream keeps pace with its source: before the last read all that is owed for the bytes until then was written, and they have no fault; and
+-- no read asked for more than 4,096 bytes
+pub record KeepsPace (request : Request) (i : Drained) (bytes text : List ℕ) : Type 0 where
+  pub short : List ℕ
+  pub more : List ℕ
+  pub owed : Owes request (earlier i bytes) false short
+  pub parts : text ≡ short ++ more
+  pub sound : (line : List ℕ) → ¬ HasFault request (earlier i bytes) false line
+  pub small : HasAskedAtMost 4096 i
 
 -- how a request ends: what was read, what was written, the status and the line
 pub data IsEnd (request : Request) (i : Drained) (o : Filled) (bytes text : List ℕ) : ℕ → List ℕ → Type 0 where
   by_itself : {status : ℕ} {line : List ℕ} → EndsWith bytes i.ended request status line text → IsEnd request i o bytes text status line
   unread : has_input request ≡ true → i.ended ≡ false → HasFailed i → ((line : List ℕ) → ¬ HasFault request bytes false line) → Owes request bytes false text
       → IsEnd request i o bytes text 5 read_fault
-  unwritten : (rest : List ℕ) → rest ≢ [] → HasRefused o → IsBegun request bytes i.ended text rest → IsTimely request bytes text
+  unwritten : (rest : List ℕ) → rest ≢ [] → HasRefused o → IsBegun request bytes i.ended text rest
       → IsEnd request i o bytes text 6 write_fault
-  no_memory : request ≢ no_form → (text ≡ []) ⊎ ((rest : List ℕ) × IsBegun request bytes i.ended text rest) → IsTimely request bytes text
+  no_memory : request ≢ no_form → (text ≡ []) ⊎ ((rest : List ℕ) × IsBegun request bytes i.ended text rest)
       → IsEnd request i o bytes text 7 out_of_memory
 
 -- nothing is left where the source said its end, which it was asked for once, and never where it did not
@@ -51,7 +60,7 @@ HasSaidItsEnd i = (i.ended ≡ true) × (i.ends_after ≡ next_count i.ends)
 pub data HasEnded (words : List (List ℕ)) (i : Drained) (o : Filled) (bytes : List ℕ) : List ℕ → ℕ → List ℕ → Type 0 where
   asked : {text : List ℕ} {status : ℕ} {line : List ℕ} (request : Request) → Asks words request
       → (has_input request ≡ false → bytes ≡ []) → (status ≢ 7 → has_input request ≡ true → IsReadOut i)
-      → IsEnd request i o bytes text status line → HasEnded words i o bytes text status line
+      → (is_streamed request ≡ true → KeepsPace request i bytes text) → IsEnd request i o bytes text status line → HasEnded words i o bytes text status line
   unknown : (¬ AreNone words) → bytes ≡ [] → HasEnded words i o bytes [] 7 out_of_memory
 
 -- the run: these bytes were taken from the front of the input, this text was put at the end of the output, and this line on the

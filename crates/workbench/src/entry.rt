@@ -18,7 +18,7 @@ fn run_alone<S: Source, K: Sink, E: Sink>(
     out: &mut K,
     err: &mut E,
 ) -> u8
-    ensures ran { (left : Left) × HasRun (map string_bytes words.now) (drained S.left S.ended S.ends S.faults input.old input.new)
+    ensures ran { (left : Left) × HasRun (map string_bytes words.now) (drained S.left S.ended S.ends S.gave S.asked S.faults input.old input.new)
         (filled K.written K.faults out.old out.new) (filled E.written E.faults err.old err.new) Kept.Nothing left result }
     ensures read_due { result ≢ 5 → S.faults input.new ≡ S.faults input.old }
     ensures write_due { result ≢ 6 → K.faults out.new ≡ K.faults out.old }
@@ -45,7 +45,7 @@ pub fn program<S: Source, K: Sink, E: Sink>(
     // What the words ask for came to an end with this status, and with these bytes, this text and this line, and left this; or there were
     // none.
     ensures ran { MatchOption words (result ≡ 7)
-        (λ ws. (left : Left) × HasRun (map string_bytes ws.items) (drained S.left S.ended S.ends S.faults input.old input.new)
+        (λ ws. (left : Left) × HasRun (map string_bytes ws.items) (drained S.left S.ended S.ends S.gave S.asked S.faults input.old input.new)
         (filled K.written K.faults out.old out.new) (filled E.written E.faults err.old err.new) Kept.Nothing left result) }
 
     // A device that failed is said.

@@ -8,7 +8,7 @@ ghost use Rattle.stl_syntax.specs.Formula.{Formula};
 ghost use Rattle.report.specs.Report.{Command, robust, explain, json, table};
 ghost use Rattle.workbench.specs.Requests.{Request, Asks, AreHeld, AreNone, whole, has_input};
 ghost use Rattle.workbench.specs.Ended.{HasFault, IsAnsweredWhole};
-ghost use Rattle.workbench.specs.Accounts.{IsAccount};
+ghost use Rattle.workbench.specs.Accounts.{IsAccount, IsReportAccount};
 ghost use Rattle.workbench.specs.Measured.{IsMeasured};
 ghost use Rattle.workbench.specs.Words.{AskCheck};
 ghost use Rattle.workbench.specs.Running.{IsEnd, IsRun};
@@ -20,8 +20,8 @@ pub use crate::line_laws::{
     the_lines_cover_the_trace, the_margins_cover_the_trace,
 };
 pub use crate::owing_laws::{
-    one_request_is_asked_for, one_text_is_owed, the_end_is_asked_for_once, what_is_owed_only_grows,
-    what_was_written_is_of_all_bytes,
+    one_request_is_asked_for, one_text_is_owed, streams_keep_pace, the_end_is_asked_for_once,
+    what_is_owed_only_grows, what_was_written_is_of_all_bytes,
 };
 
 /// 2 comes exactly where the words are of no form that is built. Those of a command that holds the whole trace ask for no stream.
@@ -78,9 +78,11 @@ pub fn margins_tell_the_truth()
 /// What `explain` wrote with 0 or 1 is an account of the trace: the line of a start that is true, where the formula holds there; else
 /// that of one that is false, and the lines of the cells of atoms that are kept, where those that touch are one. These refute the
 /// formula: they make it certainly false, and it fails at the start of each trace with the same columns, scale, start and end in which
-/// the lines are so. Without any one line it is not certainly false.
+/// the lines are so. Without any one line it is not certainly false. So do the items of the report that `json` wrote, which has none where
+/// the formula holds at the start.
 pub fn explanations_refute()
-    ensures { (f : Formula) (bytes text : List ℕ) (status : ℕ) → IsAnsweredWhole explain f bytes status text → IsAccount f bytes text status }
+    ensures lines { (f : Formula) (bytes text : List ℕ) (status : ℕ) → IsAnsweredWhole explain f bytes status text → IsAccount f bytes text status }
+    ensures report { (f : Formula) (bytes text : List ℕ) (status : ℕ) → IsAnsweredWhole json f bytes status text → IsReportAccount f bytes text status }
 {}
 
 /// Where the bytes that were read have a fault, a command that holds the whole trace ends with 4, or for want of memory.

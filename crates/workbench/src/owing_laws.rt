@@ -1,11 +1,11 @@
 //! Laws of what is owed. Each is the contract of a call that does nothing, so that the gate proves it.
-ghost use Rattle.std.specs.Prelude.{◌≡◌, ◌⊎◌, ◌≤◌, ◌++◌, ℕ, List, Bool, true, false};
+ghost use Rattle.std.specs.Prelude.{◌≡◌, ◌≢◌, ◌⊎◌, ◌≤◌, [], ◌++◌, ℕ, List, Bool, true, false};
 ghost use Rattle.io_edge.specs.Calls.{Drained, Filled};
 ghost use Rattle.stl_syntax.specs.Formula.{Formula};
 ghost use Rattle.report.specs.Report.{Command, check, robust, explain, json, table};
-ghost use Rattle.workbench.specs.Requests.{Request, Stream, Asks, whole, stream, sessions, has_input};
+ghost use Rattle.workbench.specs.Requests.{Request, Stream, Asks, whole, stream, sessions, has_input, is_streamed};
 ghost use Rattle.workbench.specs.Owed.{OwesRows, OwesLines, OwesAtEnd};
-ghost use Rattle.workbench.specs.Running.{IsBegun, IsRun, HasSaidItsEnd};
+ghost use Rattle.workbench.specs.Running.{IsBegun, KeepsPace, IsRun, HasSaidItsEnd};
 
 /// Words ask for at most one request.
 pub fn one_request_is_asked_for()
@@ -47,6 +47,14 @@ pub fn what_was_written_is_of_all_bytes()
         → (more : List ℕ) × (all ≡ text ++ more) }
     ensures lines { (f : Formula) (bytes text rest all : List ℕ) (ended : Bool) → IsBegun (sessions f) bytes ended text rest → OwesLines f bytes ended all
         → (more : List ℕ) × (all ≡ text ++ more) }
+{}
+
+/// A stream keeps pace with its source, on every status: what it owes for all bytes but those that the last read gave was written, and they
+/// have no fault; so it was written before that read, since the read might as well have failed, and each write as well. No read asks
+/// for more than 4,096 bytes.
+pub fn streams_keep_pace()
+    ensures { (words : List (List ℕ)) (request : Request) (i : Drained) (o e : Filled) (status : ℕ) → Asks words request → is_streamed request ≡ true
+        → (r : IsRun words i o e status) → r.bytes ≢ [] → KeepsPace request i r.bytes r.text }
 {}
 
 /// On an answer to a request with input the source was asked for its end exactly once. So it was on 6, 8 and 9 of a command that holds the

@@ -49,7 +49,7 @@ pub(crate) fn stream<P: Push, S: Source, K: Sink>(
 ) -> Result<bool, Stop>
     requires { IsPushed (P.stands pusher.old) (P.request pusher.old) [] [] }
     ensures ending { IsStreamEnd (P.done pusher.new) (P.request pusher.old)
-        (drained S.left S.ended S.ends S.faults input.old input.new) (filled K.written K.faults out.old out.new) result }
+        (drained S.left S.ended S.ends S.gave S.asked S.faults input.old input.new) (filled K.written K.faults out.old out.new) result }
     ensures same { P.request pusher.new ≡ P.request pusher.old }
     ensures ends { S.ends input.new ≡ after_end (S.ended input.new) (S.ends input.old) }
     ensures read_due { result ≢ Err Stop.Unread → S.faults input.new ≡ S.faults input.old }

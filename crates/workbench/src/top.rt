@@ -104,7 +104,7 @@ fn whole<S: Source, K: Sink>(
     input: &mut S,
     out: &mut K,
 ) -> Result<bool, Stop>
-    ensures ending { IsWholeEnd (command_of command) formula.now (drained S.left S.ended S.ends S.faults input.old input.new)
+    ensures ending { IsWholeEnd (command_of command) formula.now (drained S.left S.ended S.ends S.gave S.asked S.faults input.old input.new)
         (filled K.written K.faults out.old out.new) result }
     ensures read { result ≡ Err Stop.Unread → Rose (S.faults input.old) (S.faults input.new) }
     ensures write { result ≡ Err Stop.Unwritten → Rose (K.faults out.old) (K.faults out.new) }
@@ -213,7 +213,7 @@ fn by_row<S: Source, K: Sink, E: Sink>(
     err: &mut E,
     kept: &mut Kept,
 ) -> u8
-    ensures ran { (words : List (List ℕ)) → AreFor words word.watch formula → HasRun words (drained S.left S.ended S.ends S.faults input.old input.new)
+    ensures ran { (words : List (List ℕ)) → AreFor words word.watch formula → HasRun words (drained S.left S.ended S.ends S.gave S.asked S.faults input.old input.new)
         (filled K.written K.faults out.old out.new) (filled E.written E.faults err.old err.new) kept.old kept.new result }
     ensures known { ¬ ((result ≡ 2) ⊎ (result ≡ 3)) }
     ensures read_due { result ≢ 5 → S.faults input.new ≡ S.faults input.old }
@@ -274,7 +274,7 @@ fn decide<S: Source, K: Sink, E: Sink>(
     err: &mut E,
     kept: &mut Kept,
 ) -> u8
-    ensures ran { (words : List (List ℕ)) → AreFor words word.early formula → HasRun words (drained S.left S.ended S.ends S.faults input.old input.new)
+    ensures ran { (words : List (List ℕ)) → AreFor words word.early formula → HasRun words (drained S.left S.ended S.ends S.gave S.asked S.faults input.old input.new)
         (filled K.written K.faults out.old out.new) (filled E.written E.faults err.old err.new) kept.old kept.new result }
     ensures known { ¬ ((result ≡ 2) ⊎ (result ≡ 3)) }
     ensures read_due { result ≢ 5 → S.faults input.new ≡ S.faults input.old }
@@ -310,7 +310,7 @@ fn by_line<S: Source, K: Sink, E: Sink>(
     err: &mut E,
     kept: &mut Kept,
 ) -> u8
-    ensures ran { (words : List (List ℕ)) → AreFor words word.mux formula → HasRun words (drained S.left S.ended S.ends S.faults input.old input.new)
+    ensures ran { (words : List (List ℕ)) → AreFor words word.mux formula → HasRun words (drained S.left S.ended S.ends S.gave S.asked S.faults input.old input.new)
         (filled K.written K.faults out.old out.new) (filled E.written E.faults err.old err.new) kept.old kept.new result }
     ensures known { ¬ ((result ≡ 2) ⊎ (result ≡ 3)) }
     ensures read_due { result ≢ 5 → S.faults input.new ≡ S.faults input.old }
@@ -347,7 +347,7 @@ fn measure_by_row<S: Source, K: Sink, E: Sink>(
     kept: &mut Kept,
 ) -> u8
     requires { HasStream margins formula }
-    ensures ran { (words : List (List ℕ)) → AreFor words word.rwatch formula → HasRun words (drained S.left S.ended S.ends S.faults input.old input.new)
+    ensures ran { (words : List (List ℕ)) → AreFor words word.rwatch formula → HasRun words (drained S.left S.ended S.ends S.gave S.asked S.faults input.old input.new)
         (filled K.written K.faults out.old out.new) (filled E.written E.faults err.old err.new) kept.old kept.new result }
     ensures known { ¬ ((result ≡ 2) ⊎ (result ≡ 3)) }
     ensures read_due { result ≢ 5 → S.faults input.new ≡ S.faults input.old }
@@ -384,7 +384,7 @@ fn margins_of_rows<S: Source, K: Sink, E: Sink>(
     kept: &mut Kept,
 ) -> u8
     ensures ran { (words : List (List ℕ)) (text : List ℕ) → IsAsked words (on_formula word.rwatch text) → IsFormulaOf text formula
-        → HasRun words (drained S.left S.ended S.ends S.faults input.old input.new)
+        → HasRun words (drained S.left S.ended S.ends S.gave S.asked S.faults input.old input.new)
         (filled K.written K.faults out.old out.new) (filled E.written E.faults err.old err.new) kept.old kept.new result }
     ensures known { result ≢ 2 }
     ensures unread { result ≡ 3 → input.new ≡ input.old }
@@ -431,7 +431,7 @@ pub fn run<S: Source, K: Sink, E: Sink>(
     kept: &mut Kept,
 ) -> u8
     // What the words ask for came to an end with this status, and with these bytes, this text and this line; and what it left.
-    ensures ran { HasRun (map string_bytes words.now) (drained S.left S.ended S.ends S.faults input.old input.new)
+    ensures ran { HasRun (map string_bytes words.now) (drained S.left S.ended S.ends S.gave S.asked S.faults input.old input.new)
         (filled K.written K.faults out.old out.new) (filled E.written E.faults err.old err.new) kept.old kept.new result }
 
     // A device that failed is said.

@@ -206,7 +206,7 @@ impl Watch {
         requires { StandsFor (record { formula = self.old.live.formula; limits = stream_limits; bytes = []; text = [] }) self.old }
         ensures ending { IsStreamEnd (λ bytes text.
             (holds : Bool) × StandsForAll (record { formula = self.old.live.formula; limits = stream_limits; bytes = bytes; text = text }) holds self.new)
-            (by_row verdicts self.old.live.formula) (drained S.left S.ended S.ends S.faults input.old input.new)
+            (by_row verdicts self.old.live.formula) (drained S.left S.ended S.ends S.gave S.asked S.faults input.old input.new)
             (filled K.written K.faults out.old out.new) result }
         ensures formula { self.new.live.formula ≡ self.old.live.formula }
         ensures ends { S.ends input.new ≡ after_end (S.ended input.new) (S.ends input.old) }

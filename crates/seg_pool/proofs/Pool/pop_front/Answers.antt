@@ -30,7 +30,11 @@ invariant_of-self g c =
     let counts : slab_len c.remove-item.new.self + c.index-ends.result.now.len ≡ slab_len c.self.inside.cells +
     (c.index-ends.result.now.len - 1) = omega (arith, c.remove-item.ensures.len, c.if-ends-eq0.false) in
     sound-changed c.self.invariant has _ (changes g here.After-remove-item has) counts
-    (omega (arith, c.capacity.ensures.value, c.capacity.ensures.holds_all, c.len.ensures))
+    (omega (arith, c.self.invariant.room, c.remove-item.ensures.len, c.remove-item.ensures.capacity))
+
+pub overflow_add-self : goal.overflow_add-self
+overflow_add-self g c =
+    omega (arith, c.self.invariant.room, c.remove-item.ensures.len, c.remove-item.ensures.capacity, c.capacity-all.ensures.value)
 
 pub returns-clause-first : goal.returns-clause-first
 returns-clause-first g c =

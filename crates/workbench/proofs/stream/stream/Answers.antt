@@ -1,9 +1,10 @@
-use Rattle.std.proofs.Common.{◌<◌, ◌≤◌, length, take, refl, ap, subst, ◌∙◌, arith}
+use Rattle.std.proofs.Common.{◌<◌, ◌≤◌, length, take, refl, sym, ap, subst, ◌∙◌, arith}
 use Rattle.std.proofs.lemmas.Result.{err_from_is_err_and}
 use Rattle.io_edge.specs.Causes.{Rose, after_end}
 use Rattle.std.proofs.lemmas.Bool.{false≢true}
+use Rattle.std.proofs.lemmas.List.{length-take-le}
 use Rattle.workbench.proofs.Progress.{not_true, unended, none_taken, some_taken, short_taken}
-use Rattle.workbench.proofs.StreamSteps.{pushed_so_far, end_unread, end_from, stop_from, piece_from}
+use Rattle.workbench.proofs.StreamSteps.{asks_few, pushed_so_far, end_unread, end_from, stop_from, piece_from}
 use Rattle.workbench.proofs.stream.stream.Goals as goal
 
 pub returns-in_default-clause-ends : goal.returns-in_default-clause-ends
@@ -50,7 +51,8 @@ returns-in_err-push-clause-out_later g c =
 pub returns-in_default-clause-ending : goal.returns-in_default-clause-ending
 returns-in_default-clause-ending g c =
     end_unread c.loop-reads.invariant.pushing (g.P.Push.done c.loop-reads.pusher) _ _ refl refl refl c.in_default.ensures.bytes c.in_default.ensures.end
-    (subst (λ n. Rose n (g.S.Source.faults c.read.new.self)) c.loop-reads.invariant.still c.in_default.ensures.cause.failed)
+    (subst (λ n. Rose n (g.S.Source.faults c.read.new.self)) c.loop-reads.invariant.still c.in_default.ensures.cause.failed) c.in_default.ensures.gave
+    (asks_few _ _ _ _ c.loop-reads.invariant.asked (c.read.auto.buf ∙ c.loop-reads.invariant.size) c.in_default.ensures.asked)
 
 pub returns-then-count-eq0-clause-ending : goal.returns-then-count-eq0-clause-ending
 returns-then-count-eq0-clause-ending g c =
@@ -65,6 +67,8 @@ returns-then-count-eq0-clause-ending g c =
       same = c.in-Ok.ensures.end.1 (c.if-count-eq0.true, size);
       at_end = λ _. (none_taken c.in-Ok.count c.read.new.buf c.if-count-eq0.true, c.in-Ok.ensures.bytes.1 c.if-count-eq0.true size);
       small = short_taken c.in-Ok.count c.read.new.buf (c.read.auto.buf ∙ c.loop-reads.invariant.size);
+      gave = c.in-Ok.ensures.gave ∙ sym (length-take-le c.in-Ok.count c.read.new.buf c.in-Ok.ensures.bound.0);
+      within = asks_few _ _ _ _ c.loop-reads.invariant.asked (c.read.auto.buf ∙ c.loop-reads.invariant.size) c.in-Ok.ensures.asked;
     })
     (λ e. subst (λ n. Rose n (g.K.Sink.faults c.end.new.out)) c.loop-reads.invariant.calm (c.end.ensures.cause e))
     (c.end.ensures.ended p.bytes p.text (pushed_so_far p (g.P.Push.request c.loop-reads.pusher) c.loop-reads.invariant.same))
@@ -83,6 +87,8 @@ returns-in_err-push-clause-ending g c =
       same = goes_on;
       at_end = λ t. absurd (false≢true t);
       small = short_taken c.in-Ok.count c.read.new.buf (c.read.auto.buf ∙ c.loop-reads.invariant.size);
+      gave = c.in-Ok.ensures.gave ∙ sym (length-take-le c.in-Ok.count c.read.new.buf c.in-Ok.ensures.bound.0);
+      within = asks_few _ _ _ _ c.loop-reads.invariant.asked (c.read.auto.buf ∙ c.loop-reads.invariant.size) c.in-Ok.ensures.asked;
     })
     (λ k. subst (λ n. Rose n (g.K.Sink.faults c.push.new.out)) c.loop-reads.invariant.calm (c.in_err-push.ensures.cause (let h = k in cc)))
     (c.in_err-push.ensures.pushed p.bytes p.text (pushed_so_far p (g.P.Push.request c.loop-reads.pusher) c.loop-reads.invariant.same)))
@@ -100,5 +106,6 @@ loop-reads-preserved g c =
           (not_true (g.S.Source.ended c.read.new.self) (λ t. c.if-count-eq0.false (c.in-Ok.ensures.end.0 t).0)) ∙ c.loop-reads.invariant.unended;
       still = c.in-Ok.ensures.cause.still ∙ c.loop-reads.invariant.still;
       calm = c.in_ok-push.ensures.still (λ e. let k = e in cc) ∙ c.loop-reads.invariant.calm;
+      asked = asks_few _ _ _ _ c.loop-reads.invariant.asked (c.read.auto.buf ∙ c.loop-reads.invariant.size) c.in-Ok.ensures.asked;
       size = c.read.auto.buf ∙ c.loop-reads.invariant.size;
     }

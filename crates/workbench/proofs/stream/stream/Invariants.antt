@@ -1,4 +1,4 @@
-use Rattle.std.proofs.Common.{◌≡◌, length}
+use Rattle.std.proofs.Common.{◌≡◌, ◌≤◌, max, length}
 use Rattle.workbench.proofs.StreamSteps.{Pushing}
 use Rattle.workbench.proofs.stream.stream.Given as goal
 
@@ -10,5 +10,6 @@ invariant-loop-reads g l = record {
   unended : g.S.Source.ends l.input ≡ g.S.Source.ends l.initial.input;
   still : g.S.Source.faults l.input ≡ g.S.Source.faults l.initial.input;
   calm : g.K.Sink.faults l.out ≡ g.K.Sink.faults l.initial.out;
+  asked : g.S.Source.asked l.input ≤ max (g.S.Source.asked l.initial.input) 4096;
   size : length l.buffer ≡ 4096;
 }

@@ -4,7 +4,7 @@ use Rattle.rational.proofs.Lists.{on_err_anyway}
 use Rattle.stl_syntax.specs.Trace.{first_time}
 use Rattle.online_nodes.specs.Network.{state}
 use Rattle.online_nodes.specs.Held.{edge_at, with_edge, with_number}
-use Rattle.online_nodes.proofs.BelongLemmas.{held_is, own_edge}
+use Rattle.online_nodes.proofs.BelongLemmas.{held_is, own_edge, ready_is}
 use Rattle.online_nodes.proofs.IdleLemmas.{here_due, idle_stands, idle_stepped, low_stands, low_stepped, situation, start_is}
 use Rattle.online_nodes.proofs.ReadLemmas.{allowed_by_now}
 use Rattle.online_nodes.proofs.SteppedLemmas.{belongs_after}
@@ -83,8 +83,9 @@ step_to-requires c =
 
 pub returns-in_err-step_to-clause-memory : goal.returns-in_err-step_to-clause-memory
 returns-in_err-step_to-clause-memory c = λ nodes header events b.
+    let ready = (ready_is nodes (state nodes events) c.args.self.now.node).0 (c.in-Some.ensures nodes header events b).0 in
     on_err_anyway c.from_residual.result
-    (subst (λ (n : ℕ). c.args.edges.now.spare < 2 * n + 2) (held_is b) c.in_err-step_to.ensures.memory)
+    (ready, subst (λ (n : ℕ). c.args.edges.now.spare < 2 * n + 2) (held_is b) c.in_err-step_to.ensures.memory)
 
 pub returns-clause-stepped : goal.returns-clause-stepped
 returns-clause-stepped c = λ nodes header events b.

@@ -10,4 +10,4 @@ returns-in_err-last c =
 pub returns-in-Ok : goal.returns-in-Ok
 returns-in-Ok c = λ f bytes written k.
     all_taken f c.args.self.now bytes written k c.last.new.self.mux c.end.new.self c.last.new.self.text c.end.new.out (c.in_ok-last.ensures f bytes written k)
-    c.in-Ok.ensures.phase.1 (λ past stands. c.in-Ok.ensures.ended past stands)
+    (λ past stands. c.in-Ok.ensures.ended past stands)

@@ -1,15 +1,16 @@
-use Rattle.std.proofs.Common.{◌≡◌, sym, ap, subst, refl, List, ℕ, ◌<◌, length, arith, Some, get_or}
+use Rattle.std.proofs.Common.{◌≡◌, ◌∙◌, take, set, sym, ap, subst, refl, List, ℕ, ◌<◌, length, arith, Some, get_or}
 use Rattle.std.specs.Prelude.{slice_get}
 use Rattle.std.proofs.lemmas.Option.{slice_get_read}
 use Rattle.std.proofs.lemmas.Result.{err_from_is_err_and}
+use Rattle.std.proofs.lemmas.List.{length-set}
 use Rattle.report.proofs.Sequences.{place_inside}
 use Rattle.session_mux.specs.Sessions.{Tagged}
 use Rattle.session_mux.specs.Owning.{own_of, with_content}
 use Rattle.session_mux.specs.Standing.{HasSaidSoFar, HasReplied, HasSaidSome, IsReply, IsCutShort}
-use Rattle.session_mux.specs.Knowing.{shown}
+use Rattle.session_mux.specs.Knowing.{shown, tag_list}
 use Rattle.session_mux.specs.declared.session.Session.{Session}
 use Rattle.session_mux.proofs.AnsweringLemmas.{unanswered, stands_for, has_answered, cut_answer}
-use Rattle.session_mux.proofs.KnowingLemmas.{one_item}
+use Rattle.session_mux.proofs.KnowingLemmas.{one_item, tags_kept}
 use Rattle.session_mux.proofs.known.Known.answer.Goals as goal
 
 pub returns-in_err-place-clause-answered : goal.returns-in_err-place-clause-answered
@@ -53,7 +54,7 @@ returns-in-Ok-clause-answered c = λ f seen x k same.
     let read = read_is mid.sessions.items place r.session c.index_mut.result.now r.at c.index_mut.ensures.value in
     let o = own_of seen x.tag in
     let content : c.args.content.now ≡ x.content = ap (λ (y : Tagged). y.content) (sym same) in
-    let replied = c.in-Ok.ensures f o said.0 (subst (λ (s : Session). HasSaidSoFar f o said.0 s) read said.1) in
+    let replied = c.in-Ok.ensures.replied f o said.0 (subst (λ (s : Session). HasSaidSoFar f o said.0 s) read said.1) in
     has_answered f seen x place (shown mid) r c.line.new.self c.args.out.now c.line.new.out
     (subst (λ t. HasReplied f (with_content o x.content) r.session c.line.new.self (IsReply f t o x.content) c.args.out.now c.line.new.out) r.tag
     (subst (λ (s : Session). HasReplied f (with_content o x.content) s c.line.new.self (IsReply f s.tag o x.content) c.args.out.now c.line.new.out) (sym read)
@@ -70,8 +71,27 @@ returns-in-Err-clause-answered c = λ f seen x k same.
     let read = read_is mid.sessions.items place r.session c.index_mut.result.now r.at c.index_mut.ensures.value in
     let o = own_of seen x.tag in
     let content : c.args.content.now ≡ x.content = ap (λ (y : Tagged). y.content) (sym same) in
-    let cut = c.in-Err.ensures f o said.0 (subst (λ (s : Session). HasSaidSoFar f o said.0 s) read said.1) in
+    let cut = c.in-Err.ensures.replied f o said.0 (subst (λ (s : Session). HasSaidSoFar f o said.0 s) read said.1) in
     cut_answer f seen x c.args.out.now c.line.new.out
     (subst (λ t. IsCutShort (IsReply f t o x.content) c.args.out.now c.line.new.out) r.tag
     (subst (λ (s : Session). IsCutShort (IsReply f s.tag o x.content) c.args.out.now c.line.new.out) (sym read)
     (subst (λ w. IsCutShort (IsReply f c.index_mut.result.now.tag o w) c.args.out.now c.line.new.out) content cut)))
+
+-- a session that was begun for the line is gone, and the others have their tags
+pub returns-in-Err-clause-untaken : goal.returns-in-Err-clause-untaken
+returns-in-Err-clause-untaken c =
+    let (f, seen, k) = c.requires.known in
+    let r = c.in_ok-place.ensures.ready f seen (record { tag = c.args.tag.now; content = c.args.content.now }) k refl in
+    let old = c.args.self.now.sessions.items in
+    let mid = c.place_for.new.self.sessions.items in
+    let place = c.in_ok-place.place in
+    let got : slice_get mid place ≡ Some c.index_mut.result.now =
+    slice_get_read mid (length mid) place c.index_mut.result.now refl (place_inside mid place r.session r.at) c.index_mut.ensures.value in
+    let all : c.len-held.result ≡ length old = omega (arith, c.len-held.ensures, c.args.self.now.sessions.ok.0) in
+    ap tag_list (c.truncate.ensures.items ∙ ap (λ n. take n (set mid place c.line.new.self)) all)
+    ∙ tags_kept old mid place c.index_mut.result.now c.line.new.self c.in_ok-place.ensures.kept got c.in-Err.ensures.tag
+
+pub returns-in-Err-clause-few : goal.returns-in-Err-clause-few
+returns-in-Err-clause-few c =
+    let mid = c.place_for.new.self.sessions.items in
+    omega (arith, c.truncate.ensures.len, length-set mid c.in_ok-place.place c.line.new.self, c.in_ok-place.ensures.few)

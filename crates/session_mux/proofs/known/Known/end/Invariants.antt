@@ -10,5 +10,6 @@ invariant-loop-place l = record {
   ending : (f : Formula) (seen : List Tagged) → Knows f seen (shown l.initial.self)
       → Ending f seen l.initial.self.sessions.items l.place l.self.sessions.items l.initial.out l.out;
   tags : tag_list l.self.sessions.items ≡ tag_list l.initial.self.sessions.items;
+  formula : l.self.formula ≡ l.initial.self.formula;
   size : length l.self.sessions.items ≡ length l.initial.self.sessions.items;
 }

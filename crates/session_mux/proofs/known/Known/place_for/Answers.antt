@@ -1,9 +1,10 @@
-use Rattle.std.proofs.Common.{◌≡◌, sym, ap, subst, ◌∙◌, ℕ}
+use Rattle.std.proofs.Common.{◌≡◌, sym, ap, subst, ◌∙◌, ℕ, length, arith}
+use Rattle.std.proofs.lemmas.List.{take_all}
 use Rattle.std.proofs.lemmas.Result.{err_from_is_err_and}
 use Rattle.session_mux.specs.Sessions.{IsTag}
 use Rattle.session_mux.specs.Tags.{number_of}
 use Rattle.session_mux.specs.Knowing.{shown, place_in}
-use Rattle.session_mux.proofs.KnowingLemmas.{ready_known, ready_new, turned_away, begun_as}
+use Rattle.session_mux.proofs.KnowingLemmas.{first_kept, ready_known, ready_new, turned_away, begun_as}
 use Rattle.session_mux.proofs.known.Known.place_for.Goals as goal
 
 pub returns-in-Some-clause-ready : goal.returns-in-Some-clause-ready
@@ -31,3 +32,11 @@ returns-clause-ready c = λ f seen x k same.
     (begun_as c.args.tag.now x.tag c.number_of-number.result c.in_ok-place.place c.args.self.now c.begin.new.self
     (sym same) c.number_of-number.ensures c.in_ok-place.ensures.begun) _
     (ap (λ (n : ℕ). (record mid { last = record { number = n; place = c.in_ok-place.place } })) number)
+
+pub returns-in-Some-clause-kept : goal.returns-in-Some-clause-kept
+returns-in-Some-clause-kept c = take_all (length c.args.self.now.sessions.items) c.args.self.now.sessions.items (omega arith)
+
+pub returns-clause-kept : goal.returns-clause-kept
+returns-clause-kept c =
+    let b = c.in_ok-place.ensures.begun in
+    first_kept c.args.self.now.sessions.items b.session c.begin.new.self.sessions.items b.sessions

@@ -1,7 +1,8 @@
 use Rattle.std.proofs.Common.{sym, subst, ◌∙◌, refl}
 use Rattle.session_mux.specs.Sessions.{Tagged}
-use Rattle.session_mux.specs.Muxes.{Muxed, StandsFor}
-use Rattle.session_mux.proofs.MuxLemmas.{goes_on_after, line_call, line_moves, line_late}
+use Rattle.session_mux.specs.Knowing.{tags_of}
+use Rattle.session_mux.specs.Muxes.{Muxed, StandsFor, HasTags}
+use Rattle.session_mux.proofs.MuxLemmas.{tags_unless_taken, goes_on_after, line_call, line_moves, line_late}
 use Rattle.session_mux.proofs.mux.Mux.line.Goals as goal
 
 pub invariant_of-self : goal.invariant_of-self
@@ -38,3 +39,8 @@ returns-clause-late c = λ late.
     absurd (line_late p x c.args.content.now c.self.inside.known c.answer-outcome.new.self c.args.out.now c.answer-outcome.new.out
     c.self.inside.phase c.after_line-self-inside.result c.in_ok-allow.ensures s.knows
     c.answer-outcome.result (c.answer-outcome.ensures.answered p.formula p.seen x s.knows refl) late)
+
+pub returns-clause-untaken : goal.returns-clause-untaken
+returns-clause-untaken c = λ p tags.
+    tags_unless_taken c.answer-outcome.result c.self.inside.known.sessions.items c.answer-outcome.new.self.sessions.items (tags_of p.seen)
+    c.answer-outcome.ensures.untaken (subst (λ (m : Muxed). HasTags p m) (sym c.self.view_is) tags)

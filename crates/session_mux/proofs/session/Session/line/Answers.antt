@@ -7,16 +7,16 @@ use Rattle.session_mux.specs.Standing.{IsGrowth, IsReply}
 use Rattle.session_mux.proofs.SessionLemmas.{either_way, replied_as, cut_as, reply_of, growth_of, is_shown, content_stops, content_goes_on}
 use Rattle.session_mux.proofs.session.Session.line.Goals as goal
 
-pub returns-then-asks : goal.returns-then-asks
-returns-then-asks c = λ f o said h.
+pub returns-then-asks-clause-replied : goal.returns-then-asks-clause-replied
+returns-then-asks-clause-replied c = λ f o said h.
     let s = c.args.self.now in
     is_shown f o said s h c.args.content.now (sym c.asks.ensures ∙ c.if-asks.true) c.show.result c.args.out.now c.show.new.out
     (subst (λ t. OnOk c.show.result (c.show.new.out ≡ c.args.out.now ++ prefixed_texts (t ++ codes " ? ") s.recent.items)) c.bytes.ensures c.show.ensures.ok)
     (subst (λ t. OnErr c.show.result (GrewInPart (Is (prefixed_texts (t ++ codes " ? ") s.recent.items)) c.args.out.now c.show.new.out))
     c.bytes.ensures c.show.ensures.err)
 
-pub returns-then-stops : goal.returns-then-stops
-returns-then-stops c = λ f o said h.
+pub returns-then-stops-clause-replied : goal.returns-then-stops-clause-replied
+returns-then-stops-clause-replied c = λ f o said h.
     let s = c.args.self.now in
     let content = c.args.content.now in
     let no_question = sym c.asks.ensures ∙ c.if-asks.false in
@@ -27,10 +27,10 @@ returns-then-stops c = λ f o said h.
     (reply_of f s.tag o (stopped_now o) content no_question then_is))
     (cut_as (IsGrowth f s.tag o (stopped_now o)) (IsReply f s.tag o content) c.args.out.now c.end.new.out
     (growth_of f s.tag o (stopped_now o) content no_question then_is))
-    (c.end.ensures f o said h)
+    (c.end.ensures.replied f o said h)
 
-pub returns : goal.returns
-returns c = λ f o said h.
+pub returns-clause-replied : goal.returns-clause-replied
+returns-clause-replied c = λ f o said h.
     let s = c.args.self.now in
     let content = c.args.content.now in
     let no_question = sym c.asks.ensures ∙ c.if-asks.false in
@@ -41,4 +41,4 @@ returns c = λ f o said h.
     (reply_of f s.tag o (next_line o content) content no_question then_is))
     (cut_as (IsGrowth f s.tag o (next_line o content)) (IsReply f s.tag o content) c.args.out.now c.take.new.out
     (growth_of f s.tag o (next_line o content) content no_question then_is))
-    (c.take.ensures f o said h)
+    (c.take.ensures.replied f o said h)

@@ -6,14 +6,14 @@ use Rattle.session_mux.specs.Standing.{GoesOnWith, IsAfterLine, HasGrown}
 use Rattle.session_mux.proofs.SessionLemmas.{says_nothing, over_at_line, grew_under, took_line, took_last_line}
 use Rattle.session_mux.proofs.session.Session.take.Goals as goal
 
-pub returns-in-None : goal.returns-in-None
-returns-in-None c = λ f o said h.
+pub returns-in-None-clause-replied : goal.returns-in-None-clause-replied
+returns-in-None-clause-replied c = λ f o said h.
     let over = over_at_line f o said h.alone (subst (λ (s : Option (Live Verdicts)). GoesOnWith f o said s) c.in-None.is h.goes_on) c.args.content.now in
     says_nothing f o (next_line o c.args.content.now) said c.args.out.now c.args.self.now h over.0
     (subst (λ (s : Option (Live Verdicts)). GoesOnWith f (next_line o c.args.content.now) said s) (sym c.in-None.is) over.1)
 
-pub returns-then-not-goes_on : goal.returns-then-not-goes_on
-returns-then-not-goes_on c = λ f o said h.
+pub returns-then-not-goes_on-clause-replied : goal.returns-then-not-goes_on-clause-replied
+returns-then-not-goes_on-clause-replied c = λ f o said h.
     let content = c.args.content.now in
     let on = subst (λ (s : Option (Live Verdicts)). GoesOnWith f o said s) c.in-Some.is h.goes_on in
     let g = subst (λ (b : Bool). HasGrown f c.bytes.result.now (next_line o content) said c.take_with.new.recent c.args.out.now
@@ -23,8 +23,8 @@ returns-then-not-goes_on c = λ f o said h.
     (subst (λ (s : Option (Live Verdicts)). GoesOnWith f (next_line o content) (said ++ g.grown) s) (sym c.let_go.ensures)
     (took_last_line f o content c.take_with.new.live (said ++ g.grown) g.then))
 
-pub returns-else-not-goes_on : goal.returns-else-not-goes_on
-returns-else-not-goes_on c = λ f o said h.
+pub returns-else-not-goes_on-clause-replied : goal.returns-else-not-goes_on-clause-replied
+returns-else-not-goes_on-clause-replied c = λ f o said h.
     let content = c.args.content.now in
     let on = subst (λ (s : Option (Live Verdicts)). GoesOnWith f o said s) c.in-Some.is h.goes_on in
     let g = subst (λ (b : Bool). HasGrown f c.bytes.result.now (next_line o content) said c.take_with.new.recent c.args.out.now
