@@ -6,6 +6,7 @@ ghost use Rattle.trace_stream.specs.Streams.{HasStream};
 ghost use Rattle.session_mux.specs.Taking.{HasTakenSome};
 
 use super::given::parsed;
+use margin_stream::Margins;
 use online_robust::first_unstreamed;
 use session_mux::Input;
 use std::alloc::Global;
@@ -13,7 +14,8 @@ use std::process::Abort;
 use std::test::Fail;
 use stl_syntax::{Formula, Text};
 use trace_reader::Limits;
-use trace_stream::{CaseReader, Follow, Live, Margins, Verdicts};
+use trace_stream::{CaseReader, Follow, Live};
+use verdict_stream::Verdicts;
 
 const LIMITS: Limits = Limits {
     rows: 1000,

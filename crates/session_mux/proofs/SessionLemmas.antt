@@ -19,7 +19,7 @@ use Rattle.trace_stream.specs.declared.fault.TraceFault.{TraceFault}
 use Rattle.trace_stream.specs.declared.fault.StreamStop.{StreamStop}
 use Rattle.trace_stream.specs.declared.fault.StreamStop.TheVariants.{Fault as Faulty, NoMemory, Wide}
 use Rattle.trace_stream.specs.declared.live.Live.{Live}
-use Rattle.trace_stream.specs.declared.verdicts.Verdicts.{Verdicts}
+use Rattle.verdict_stream.specs.declared.verdicts.Verdicts.{Verdicts}
 use Rattle.trace_stream.proofs.FaultPlaces.{at_true, at_false, to_true, to_false}
 use Rattle.trace_stream.proofs.RowsBefore.{fault_stays}
 use Rattle.trace_stream.proofs.Told.{told_now, calm_now, live_after, told_over}

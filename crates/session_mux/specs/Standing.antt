@@ -7,11 +7,11 @@ use Rattle.trace_reader.specs.InputFaults.{Fault, stream_limits, IsInputFault}
 use Rattle.trace_stream.specs.Cases.{IsFault}
 use Rattle.trace_stream.specs.Streams.{verdicts}
 use Rattle.trace_stream.specs.Following.{IsLive, IsLiveStop}
-pub use Rattle.trace_stream.specs.Watching.{WatchesRows, WatchesEnd}
+pub use Rattle.verdict_stream.specs.Watching.{WatchesRows, WatchesEnd}
 use Rattle.trace_stream.specs.declared.fault.StreamStop.{StreamStop}
 use Rattle.trace_stream.specs.declared.fault.StreamStop.TheVariants.{Fault as Faulty, NoMemory, Wide}
 use Rattle.trace_stream.specs.declared.live.Live.{Live}
-use Rattle.trace_stream.specs.declared.verdicts.Verdicts.{Verdicts}
+use Rattle.verdict_stream.specs.declared.verdicts.Verdicts.{Verdicts}
 use Rattle.session_mux.specs.Sessions.{Alone, prefixed, last_eight}
 use Rattle.session_mux.specs.Saying.{texts, said_lines}
 use Rattle.session_mux.specs.Owning.{Own, asks, with_content}

@@ -21,7 +21,8 @@ use report::put_line;
 use std::alloc::Global;
 use stl_syntax::{Formula, Text};
 use trace_reader::Limits;
-use trace_stream::{Live, StreamStop, TraceFault, Verdicts, fault_line};
+use trace_stream::{Live, StreamStop, TraceFault, fault_line};
+use verdict_stream::Verdicts;
 
 /// The limits of a session's trace: those of a stream.
 const LIMITS: Limits = Limits {

@@ -13,7 +13,6 @@ pub mod FaultsStay
 pub mod OneFault
 pub mod RowsBefore
 pub mod KeptRows
-pub mod RowTimes
 pub mod MarginTexts
 pub mod OwedRows
 pub mod WideTexts
@@ -21,12 +20,3 @@ pub mod FrontTexts
 pub mod Refused
 pub mod Living
 pub mod Told
-pub mod Passes
-pub mod Cutting
-pub mod Taking
-pub mod Watched
-pub mod WatchedRows
-pub mod CutRows
-pub mod Owing
-pub mod Opening
-pub mod Margined

@@ -3,6 +3,3 @@ pub mod Cases
 pub mod CaseReader
 pub mod Wides
 pub mod Following
-pub mod Pendings
-pub mod Watching
-pub mod Margining

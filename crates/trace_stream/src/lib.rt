@@ -9,9 +9,6 @@ mod fault;
 mod follow;
 mod line;
 mod live;
-mod margins;
-mod pending;
-mod verdicts;
 
 pub use case::Case;
 pub use case_reader::CaseReader;
@@ -19,5 +16,3 @@ pub use fault::{StreamStop, TraceFault};
 pub use follow::{Follow, FollowFault};
 pub use line::fault_line;
 pub use live::Live;
-pub use margins::Margins;
-pub use verdicts::Verdicts;

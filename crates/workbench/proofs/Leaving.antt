@@ -13,8 +13,8 @@ use Rattle.stl_syntax.specs.declared.node.Node.{Node}
 use Rattle.online_nodes.specs.MarginEdges.{AreEmittedParts}
 use Rattle.online_robust.specs.Nets.{Parts, StandsFor}
 use Rattle.online_robust.specs.Pasts.{part_of}
-use Rattle.trace_stream.specs.Margining.{IsMargined}
-use Rattle.trace_stream.specs.declared.margins.Margins.{Margins as Measurer}
+use Rattle.margin_stream.specs.Margining.{IsMargined}
+use Rattle.margin_stream.specs.declared.margins.Margins.{Margins as Measurer}
 use Rattle.stl_grammar.specs.FormulaRefusals.{IsFormulaOf}
 use Rattle.trace_stream.specs.CaseReader.{IsWhole}
 use Rattle.trace_stream.specs.Following.{IsDone}

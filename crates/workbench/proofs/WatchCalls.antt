@@ -27,7 +27,7 @@ use Rattle.workbench.specs.Stopping.{stop_of}
 use Rattle.workbench.specs.declared.fault.Stop.{Stop}
 use Rattle.workbench.specs.declared.fault.Stop.TheVariants.{Fault as Faulty, Input as FaultyLine, Unread, Unwritten, NoMemory, Wide, TooMany}
 use Rattle.trace_stream.specs.declared.live.Live.{Live}
-use Rattle.trace_stream.specs.declared.verdicts.Verdicts.{Verdicts}
+use Rattle.verdict_stream.specs.declared.verdicts.Verdicts.{Verdicts}
 use Rattle.workbench.specs.declared.watch.Phase.{Phase}
 use Rattle.workbench.specs.declared.watch.Phase.TheVariants.{Reading, Ended}
 use Rattle.workbench.specs.declared.watch.WatchFault.{WatchFault}

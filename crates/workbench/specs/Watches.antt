@@ -13,12 +13,12 @@ use Rattle.workbench.specs.InputFaults.{Fault, of_trace, unknown, unit, IsInputF
 use Rattle.trace_stream.specs.CaseReader.{IsSound, IsWhole}
 use Rattle.workbench.specs.Requests.{verdicts}
 use Rattle.trace_stream.specs.Following.{IsTextOf, IsLive, IsOver}
-pub use Rattle.trace_stream.specs.Watching.{WatchesRows, WatchesEnd}
+pub use Rattle.verdict_stream.specs.Watching.{WatchesRows, WatchesEnd}
 use Rattle.trace_stream.specs.declared.fault.TraceFault.TheVariants as trace_fault
 use Rattle.workbench.specs.declared.fault.Stop.{Stop}
 use Rattle.workbench.specs.declared.fault.Stop.TheVariants as stop
 use Rattle.trace_stream.specs.declared.live.Live.{Live}
-use Rattle.trace_stream.specs.declared.verdicts.Verdicts.{Verdicts}
+use Rattle.verdict_stream.specs.declared.verdicts.Verdicts.{Verdicts}
 use Rattle.workbench.specs.declared.watch.Phase.{Phase}
 use Rattle.workbench.specs.declared.watch.Phase.TheVariants.{Reading, Stopped, Ended}
 use Rattle.workbench.specs.declared.watch.WatchFault.{WatchFault}

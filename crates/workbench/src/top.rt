@@ -35,6 +35,7 @@ use crate::table::tabulate;
 use crate::texts::{NO_MEMORY, formula_line, not_streamed_line, too_many_cells_line, wide_line};
 use crate::watch::Watch;
 use io_edge::{Sink, Source};
+use margin_stream::Margins;
 use online_robust::first_unstreamed;
 use report::Line;
 use session_mux::input_fault_line;
@@ -42,7 +43,7 @@ use std::alloc::Global;
 use stl_grammar::{FormulaFault, parse};
 use stl_syntax::Formula;
 use trace_reader::Limits;
-use trace_stream::{Case, Live, Margins, fault_line};
+use trace_stream::{Case, Live, fault_line};
 
 /// The limits of a trace that is held whole.
 pub(crate) const LIMITS: Limits = Limits {

@@ -18,7 +18,8 @@ use std::alloc::Global;
 use std::marker::Model;
 use stl_syntax::{Formula, UnitFault};
 use trace_reader::{Limits, TraceRefusal};
-use trace_stream::{Live, TraceFault, Verdicts};
+use trace_stream::{Live, TraceFault};
+use verdict_stream::Verdicts;
 
 /// Why a call was refused.
 #[derive(Clone, Copy, Debug, PartialEq, Eq)]

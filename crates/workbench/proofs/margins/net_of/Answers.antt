@@ -1,6 +1,6 @@
 use Rattle.std.proofs.Common.{sym, ap, ◌∙◌}
 use Rattle.std.proofs.lemmas.Option.{same_Some}
-use Rattle.trace_stream.specs.declared.margins.Margins.{Margins}
+use Rattle.margin_stream.specs.declared.margins.Margins.{Margins}
 use Rattle.workbench.proofs.margins.net_of.Goals as goal
 
 pub returns : goal.returns

@@ -2,7 +2,7 @@ use Rattle.std.proofs.Common.{[], true, false, refl, sym, ◌∙◌}
 use Rattle.report.specs.Lines.{line_text}
 use Rattle.trace_stream.specs.Streams.{margins}
 use Rattle.trace_stream.specs.Following.{IsDone}
-use Rattle.trace_stream.specs.Margining.{IsMargined}
+use Rattle.margin_stream.specs.Margining.{IsMargined}
 use Rattle.workbench.proofs.AtRest.{at_rest}
 use Rattle.workbench.proofs.Leaving.{has_measurer, margins_answer, margins_run, streamed_stopped, net_of_done, same_measured, starved_left}
 use Rattle.workbench.proofs.top.measure_by_row.Goals as goal

@@ -1,6 +1,6 @@
 use Rattle.std.proofs.Common.{sym, subst, inl, refl, Option, ◌++◌}
 use Rattle.trace_stream.specs.declared.live.Live.{Live}
-use Rattle.trace_stream.specs.declared.verdicts.Verdicts.{Verdicts}
+use Rattle.verdict_stream.specs.declared.verdicts.Verdicts.{Verdicts}
 use Rattle.session_mux.specs.Owning.{stopped_now}
 use Rattle.session_mux.specs.Standing.{GoesOnWith}
 use Rattle.session_mux.proofs.SessionLemmas.{says_nothing, over_at_end, grew_under}

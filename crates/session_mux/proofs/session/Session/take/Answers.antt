@@ -1,6 +1,6 @@
 use Rattle.std.proofs.Common.{sym, subst, true, false, refl, Option, Bool, ◌++◌}
 use Rattle.trace_stream.specs.declared.live.Live.{Live}
-use Rattle.trace_stream.specs.declared.verdicts.Verdicts.{Verdicts}
+use Rattle.verdict_stream.specs.declared.verdicts.Verdicts.{Verdicts}
 use Rattle.session_mux.specs.Owning.{next_line}
 use Rattle.session_mux.specs.Standing.{GoesOnWith, IsAfterLine, HasGrown}
 use Rattle.session_mux.proofs.SessionLemmas.{says_nothing, over_at_line, grew_under, took_line, took_last_line}

@@ -1,1 +1,0 @@
--- The times of a trace's rows.

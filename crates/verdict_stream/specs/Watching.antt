@@ -1,0 +1,119 @@
+-- When the network of a formula stands for the rows of a case, and what was taken of what its root gave out.
+use Rattle.std.specs.Prelude.{◌≡◌, ℕ, ◌+◌, ◌-◌, ◌≤◌, Bool, true, false, List, [], ◌∷◌, ◌++◌, length, map, take, drop, Option, Some, None}
+use Rattle.stl_syntax.specs.Formula.{Formula, horizon, root}
+use Rattle.stl_syntax.specs.Trace.{Header, Row}
+use Rattle.stl_syntax.specs.Verdicts.{AreAlike}
+use Rattle.stl_syntax.specs.Texts.{AreVerdictLines}
+use Rattle.stl_syntax.specs.declared.items.Verdict.{Verdict}
+use Rattle.stl_syntax.specs.declared.node.Node.{Node}
+use Rattle.online_nodes.specs.Network.{Event, row, node_is_atom, Emitted}
+use Rattle.online_nodes.specs.Needed.{IsTaken}
+use Rattle.online_nodes.specs.Driven.{rows_of, takes, IsDriven}
+use Rattle.online_net.specs.Nets.{Stands}
+use Rattle.report.specs.Appended.{Grew}
+use Rattle.trace_stream.specs.Cases.{IsCase}
+use Rattle.trace_stream.specs.Streams.{verdicts, StreamText}
+use Rattle.trace_stream.specs.declared.case.Case.{Case}
+use Rattle.verdict_stream.specs.declared.verdicts.Network.{Network}
+use Rattle.verdict_stream.specs.declared.verdicts.Verdicts.{Verdicts}
+
+-- the truth of the first of the verdicts
+abbrev pub first_truth : List Verdict → Option Bool
+first_truth [] = None
+first_truth (v ∷ vs) = Some v.holds
+
+-- the network stands for the run that a stream of the case's rows drives, with their end where they have ended; the truth of the first
+-- verdict that the root gave out is kept; and no text is owed
+pub record IsWatched (ended : Bool) (v : Verdicts) (c : Case) : Type 0 where
+  pub formula : v.network.formula ≡ c.formula
+  pub horizon : v.horizon ≡ horizon (root c.formula.nodes)
+  pub events : List Event
+  pub driven : IsDriven c.formula.nodes c.trace.header c.trace.rows ended events
+  pub stands : Stands c.formula.nodes c.trace.header v.network.net events
+  pub emitted : List Verdict
+  pub is_emitted : Emitted c.formula.nodes c.trace.header events (length c.formula.nodes - 1) emitted
+  pub start : v.network.start ≡ first_truth emitted
+  pub no_times : v.times.items ≡ []
+  pub none_pending : v.pending ≡ []
+
+-- the run that a stream of the first rows drives, and some rows more, the last of which is `last`
+pub record IsFed (nodes : List Node) (header : Header) (before more : List Row) (last : Row) (events : List Event) : Type 0 where
+  pub base : List Event
+  pub driven : IsDriven nodes header before false base
+  pub is : events ≡ (base ++ rows_of more) ++ row last ∷ []
+
+-- the network took all the case's rows; after the first of them the text was made, and no node stepped since; of the others the times are
+-- kept. The root is no atom, so that it gave out nothing for them
+pub record IsOwing (v : Verdicts) (c : Case) (made : List ℕ) : Type 0 where
+  pub fits : (f : Formula) × IsCase f c
+  pub formula : v.network.formula ≡ c.formula
+  pub horizon : v.horizon ≡ horizon (root c.formula.nodes)
+  pub no_atom : node_is_atom c.formula.nodes (length c.formula.nodes - 1) ≡ false
+  pub before : List Row
+  pub more : List Row
+  pub last : Row
+  pub rows : c.trace.rows ≡ (before ++ more) ++ last ∷ []
+  pub events : List Event
+  pub fed : IsFed c.formula.nodes c.trace.header before more last events
+  pub stands : Stands c.formula.nodes c.trace.header v.network.net events
+  pub emitted : List Verdict
+  pub is_emitted : Emitted c.formula.nodes c.trace.header fed.base (length c.formula.nodes - 1) emitted
+  pub start : v.network.start ≡ first_truth emitted
+  pub times : v.times.items ≡ map (λ (r : Row). r.time) (more ++ last ∷ [])
+  pub none_pending : v.pending ≡ []
+  pub told : StreamText verdicts (root c.formula.nodes) c.trace.header before false made
+
+-- the network stands for the rows so far
+abbrev pub WatchesRows : Verdicts → Case → List ℕ → Type 0
+WatchesRows v c made = IsWatched false v c
+
+-- the network stands for all rows and their end
+abbrev pub WatchesEnd : Verdicts → Case → List ℕ → Type 0
+WatchesEnd v c made = IsWatched true v c
+
+-- a run of a network, what its root gave out in it, and how many of these verdicts were taken
+pub record Pass : Type 0 where
+  pub nodes : List Node
+  pub header : Header
+  pub events : List Event
+  pub given : List Verdict
+  pub taken : ℕ
+
+-- the network stands for the run, in which these verdicts were given out and so many of them were taken; the truth of the first of these
+-- is kept
+pub record CanTake (p : Pass) (v : Network) : Type 0 where
+  pub stands : Stands p.nodes p.header v.net p.events
+  pub given : Emitted p.nodes p.header p.events (length p.nodes - 1) p.given
+  pub taken : IsTaken p.nodes p.header p.events p.taken
+  pub start : v.start ≡ first_truth (take p.taken p.given)
+
+-- n verdicts more were taken, and their lines were added
+pub record HasTaken (p : Pass) (n : ℕ) (v : Network) (old new : List ℕ) : Type 0 where
+  pub within : p.taken + n ≤ length p.given
+  pub stands : Stands p.nodes p.header v.net (p.events ++ takes n)
+  pub taken : IsTaken p.nodes p.header (p.events ++ takes n) (p.taken + n)
+  pub start : v.start ≡ first_truth (take (p.taken + n) p.given)
+  pub lines : Grew (AreVerdictLines v.formula.scale (take n (drop p.taken p.given))) old new
+
+-- all that is left was taken; the first take that found nothing comes last
+abbrev pub HasTakenAll : Pass → Network → List ℕ → List ℕ → Type 0
+HasTakenAll p v old new = (n : ℕ) × HasTaken p n v old new × (p.taken + n ≡ length p.given)
+
+-- n verdicts more were taken, and stand behind those that were pending
+pub record HasGiven (p : Pass) (n : ℕ) (v : Network) (old new : List Verdict) : Type 0 where
+  pub within : p.taken + n ≤ length p.given
+  pub stands : Stands p.nodes p.header v.net (p.events ++ takes n)
+  pub taken : IsTaken p.nodes p.header (p.events ++ takes n) (p.taken + n)
+  pub start : v.start ≡ first_truth (take (p.taken + n) p.given)
+  pub put : List Verdict
+  pub are : AreAlike put (take n (drop p.taken p.given))
+  pub pending : new ≡ old ++ put
+
+-- all that is left was taken so
+abbrev pub HasGivenAll : Pass → Network → List Verdict → List Verdict → Type 0
+HasGivenAll p v old new = (n : ℕ) × HasGiven p n v old new × (p.taken + n ≡ length p.given)
+
+-- the truth that is kept once a verdict was put
+abbrev pub kept_truth : Option Bool → Bool → Option Bool
+kept_truth None holds = Some holds
+kept_truth (Some first) holds = Some first

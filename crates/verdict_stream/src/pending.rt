@@ -1,0 +1,160 @@
+//! Verdicts whose lines are not made yet, and that are cut where the answer of a row ends.
+ghost use Rattle.std.specs.Prelude.{◌≡◌, ◌↔◌, ◌++◌, ◌∷◌, [], ◌≤◌, IsTrue, IfOk};
+ghost use Rattle.frac128.specs.Spans.{interval};
+ghost use Rattle.rational.specs.Places.{Before, begins, ends};
+ghost use Rattle.report.specs.Appended.{Grew};
+ghost use Rattle.verdict_stream.specs.Pendings.{just_after, GoesBeyond, IsNextUpTo, IsCut, IsPartBefore, IsPartAfter, IsTextUpTo};
+
+use frac128::{Cut, Frac, Memory, Span};
+use report::{LastTime, put_verdict_after};
+use std::alloc::Global;
+use std::collections::VecDeque;
+use std::marker::Model;
+use stl_syntax::{Scale, Text, Verdict};
+
+/// Verdicts in the order of time. The first of them may be what is left of one.
+#[derive(Drop)]
+pub struct Pending {
+    verdicts: VecDeque<Verdict>,
+}
+
+impl Model for Pending {
+    ghost use Rattle.std.specs.Prelude.{List};
+    ghost use Rattle.stl_syntax.specs.declared.items.Verdict.{Verdict as AVerdict};
+
+    ghost Value = { List AVerdict };
+
+    ghost view = { λ p. p.verdicts.items };
+}
+
+/// Whether a verdict begins by the time `front`.
+#[inline(always)]
+fn begins_by(verdict: &Verdict, front: u32) -> bool
+    ensures { IsTrue result ↔ Before (begins (interval verdict.now.on)) (just_after front) }
+{
+    Cut::begin(&verdict.on).precedes(&Cut::after_whole(i64::from(front)))
+}
+
+/// Whether a verdict goes on beyond the time `front`.
+#[inline(always)]
+fn goes_beyond(verdict: &Verdict, front: u32) -> bool
+    ensures { IsTrue result ↔ Before (just_after front) (ends (interval verdict.now.on)) }
+{
+    Cut::after_whole(i64::from(front)).precedes(&Cut::end(&verdict.on))
+}
+
+/// What of a verdict lies up to the time `front`.
+fn part_before(verdict: &Verdict, front: u32) -> Verdict
+    requires { Before (begins (interval verdict.now.on)) (just_after front) }
+    ensures { IsPartBefore front verdict.now result }
+{
+    Verdict {
+        on: Span {
+            from: verdict.on.from,
+            from_in: verdict.on.from_in,
+            to: Frac::of(i64::from(front)),
+            to_in: true,
+        },
+        holds: verdict.holds,
+    }
+}
+
+/// What of a verdict lies after the time `front`.
+fn part_after(verdict: &Verdict, front: u32) -> Verdict
+    requires { Before (just_after front) (ends (interval verdict.now.on)) }
+    ensures { IsPartAfter front verdict.now result }
+{
+    Verdict {
+        on: Span {
+            from: Frac::of(i64::from(front)),
+            from_in: false,
+            to: verdict.on.to,
+            to_in: verdict.on.to_in,
+        },
+        holds: verdict.holds,
+    }
+}
+
+impl Pending {
+    /// No verdicts yet; it takes no memory.
+    pub fn new(alloc: Global) -> Pending
+        ensures { result ≡ [] }
+    {
+        Pending {
+            verdicts: VecDeque::new(alloc),
+        }
+    }
+
+    /// A verdict more, behind the others.
+    ///
+    /// # Errors
+    /// Want of memory.
+    pub fn push(&mut self, verdict: Verdict) -> Result<(), Memory>
+        ensures { IfOk result (λ _. self.new ≡ self.old ++ verdict ∷ []) }
+    {
+        match self.verdicts.push_back(verdict) {
+            Ok(()) => Ok(()),
+            Err(_) => Err(Memory),
+        }
+    }
+
+    /// Lets go of all verdicts. Their memory stays for those that come.
+    pub fn clear(&mut self)
+        ensures { self.new ≡ [] }
+    {
+        self.verdicts.clear();
+    }
+
+    /// The next verdict, if it ends by the time `front`.
+    #[inline(always)]
+    fn next(&mut self, front: u32) -> Option<Verdict>
+        ensures { IsNextUpTo front self.old result self.new }
+    {
+        let Some(first) = self.verdicts.front() else {
+            return None;
+        };
+        if goes_beyond(first, front) {
+            return None;
+        }
+        self.verdicts.pop_front()
+    }
+
+    /// What of the next verdict, which goes on beyond the time `front`, lies up to it. What lies after it is left.
+    fn cut(&mut self, front: u32) -> Option<Verdict>
+        requires { GoesBeyond front self.old }
+        ensures { IsCut front self.old result self.new }
+    {
+        let Some(first) = self.verdicts.front() else {
+            return None;
+        };
+        let verdict = *first;
+        if !begins_by(&verdict, front) {
+            return None;
+        }
+        self.verdicts[0] = part_after(&verdict, front);
+        Some(part_before(&verdict, front))
+    }
+
+    /// Adds the lines of what lies up to the time `front`. What lies after it is left.
+    ///
+    /// # Errors
+    /// Want of memory.
+    pub fn put_up_to(
+        &mut self,
+        front: u32,
+        scale: Scale,
+        last: &mut LastTime,
+        text: &mut Text,
+    ) -> Result<(), Memory>
+        requires { scale.time ≤ 6 }
+        ensures { IfOk result (λ _. Grew (λ grown. IsTextUpTo scale front self.old grown self.new) text.old text.new) }
+    {
+        while let Some(verdict) = self.next(front) {
+            put_verdict_after(text, last, &verdict, scale)?;
+        }
+        match self.cut(front) {
+            Some(part) => put_verdict_after(text, last, &part, scale),
+            None => Ok(()),
+        }
+    }
+}
