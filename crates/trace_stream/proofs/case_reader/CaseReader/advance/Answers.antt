@@ -23,7 +23,7 @@ step-requires c = record {
 
 pub returns-in_err-more-clause-taken : goal.returns-in_err-more-clause-taken
 returns-in_err-more-clause-taken c =
-    let p = err_from_is_err_and c.from_residual.result c.from_residual.ensures.1 in
+    let p = err_from_is_err_and c.from_residual-in_err-more.result c.from_residual-in_err-more.ensures.1 in
     let n = c.in_ok-rows.rows in
     rw (p.1, p.2) (λ bytes k.
     fed_err c.args.formula.now c.take_rows.new.rows.limits c.args.self.now.rows.limits bytes c.args.piece.now n c.in_err-more.field-0.0
