@@ -1,5 +1,5 @@
 //! Readers that are fed the bytes of traces and of sessions in pieces, with what they make of them.
-ghost use Rattle.std.specs.Prelude.{IfSome};
+ghost use Rattle.std.specs.Prelude.{◌≤◌, length, IfSome};
 ghost use Rattle.trace_stream.specs.CaseReader.{HasKept};
 ghost use Rattle.trace_stream.specs.Following.{HasLived};
 ghost use Rattle.trace_stream.specs.Streams.{HasStream};
@@ -13,8 +13,8 @@ use std::alloc::Global;
 use std::process::Abort;
 use std::test::Fail;
 use stl_syntax::{Formula, Text};
-use trace_reader::Limits;
-use trace_stream::{CaseReader, Follow, Live};
+use trace_reader::{Limits, Trace};
+use trace_stream::{Case, CaseReader, Follow, Live};
 use verdict_stream::Verdicts;
 
 const LIMITS: Limits = Limits {
@@ -58,6 +58,74 @@ fn a_trace_is_read_in_pieces(rt: HostRuntime) -> Result<(), Fail> {
     assert_eq!(rt; case.formula.len(), 1);
     assert_eq!(rt; case.trace.rows(), 2);
     assert_eq!(rt; case.trace.time(1), 4);
+    Ok(())
+}
+
+/// Rows of whole numbers and of decimals, with a sign, blanks, a CR, a blank line and ten digits among them, in lines that are together much longer
+/// than a piece that is read with room of its own.
+const MIXED: &[u8] =
+    b"time,x:1,y:step:1\n0,0,-1\n4,16,3.5\n12,-1677721.6,1677721.6\r\n17,0.5,00000007\n\n 18 , +2,3\n0000000020,-0.1,12345.6\n\
+1000,1,2\n1001,12,23\n1002,123,234\n1003,1234,2345\n1004,12345,23456\n1005,123456,234567\n1006,1234567,1345678\n1007,-1,-2\n\
+12345678,1,2\n123456789,-12,-23\n4294967295,7,8";
+
+/// Those rows in ticks.
+const IN_TICKS: [(u32, i32, i32); 17] = [
+    (0, 0, -10),
+    (4, 160, 35),
+    (12, -16777216, 16777216),
+    (17, 5, 70),
+    (18, 20, 30),
+    (20, -1, 123456),
+    (1000, 10, 20),
+    (1001, 120, 230),
+    (1002, 1230, 2340),
+    (1003, 12340, 23450),
+    (1004, 123450, 234560),
+    (1005, 1234560, 2345670),
+    (1006, 12345670, 13456780),
+    (1007, -10, -20),
+    (12345678, 10, 20),
+    (123456789, -120, -230),
+    (4294967295, 70, 80),
+];
+
+/// The case of a trace whose bytes come in two pieces, or None where it was refused.
+fn cut_in_two(alloc: Global, text: &[u8], at: usize, formula: &Formula) -> Option<Case>
+    requires { at ≤ length text.now }
+{
+    let Ok(reader) = CaseReader::new(alloc, formula, LIMITS) else {
+        return None;
+    };
+    let reader = read_on(alloc, reader, &text[..at], formula)?;
+    let mut reader = read_on(alloc, reader, &text[at..], formula)?;
+    match reader.finish(alloc, formula) {
+        Ok(()) => reader.into_case(),
+        Err(_) => None,
+    }
+}
+
+/// Whether the trace has these rows.
+fn has_rows(trace: &Trace, rows: &[(u32, i32, i32)]) -> bool {
+    if trace.rows() != rows.len() || trace.header().columns() != 2 {
+        return false;
+    }
+    for (r, row) in rows.iter().enumerate() {
+        if trace.time(r) != row.0 || trace.value(r, 0) != row.1 || trace.value(r, 1) != row.2 {
+            return false;
+        }
+    }
+    true
+}
+
+#[test]
+fn rows_are_kept_however_they_are_cut(rt: HostRuntime) -> Result<(), Fail> {
+    let formula = parsed(&rt, rt.alloc(), "x + y >= 5");
+    for at in 0..MIXED.len() + 1 {
+        let Some(case) = cut_in_two(rt.alloc(), MIXED, at, &formula) else {
+            panic!(&rt; "refused, cut at {at}");
+        };
+        assert!(&rt; has_rows(&case.trace, &IN_TICKS), "cut at {at}");
+    }
     Ok(())
 }
 

@@ -6,6 +6,7 @@ pub mod FaultPlaces
 pub mod Sizes
 pub mod OneLine
 pub mod Feeding
+mod RowsKept
 pub mod Fed
 pub mod Ends
 pub mod LastFaults

@@ -1,5 +1,6 @@
 //! Reading the trace of a formula from the pieces of its bytes.
-ghost use Rattle.std.specs.Prelude.{◌≡◌, ◌^◌, ◌<◌, ◌≤◌, List, ℕ, [], ◌++◌, length, take, true, false, MatchResult, MatchOption, IfOk};
+ghost use Rattle.std.specs.Prelude.{◌≡◌, ◌^◌, ◌<◌, ◌≤◌, List, ℕ, [], ◌++◌, length, take, true, false, MatchResult, MatchOption, IfOk, IfErr};
+ghost use Rattle.stl_syntax.specs.Formula.{Formula as Parsed};
 ghost use Rattle.trace_reader.specs.Feeds.{through_feed};
 ghost use Rattle.trace_reader.specs.declared.refusal.TraceKind.TheVariants.{NoRows};
 ghost use Rattle.trace_stream.specs.CaseReader.{IsEnded, IsRefused, IsKept, HasKept, HasHeader, IsLastFault};
@@ -61,6 +62,23 @@ pub(crate) fn last_fault<T>(
     own
 }
 
+/// Takes rows that the piece begins with, once the header was read, and answers how many bytes they are.
+fn take_rows(rows: &mut Rows, case: &mut Option<Case>, piece: &[u8]) -> Result<usize, StreamStop>
+    requires { (f : Parsed) × HasKept f rows.old case.old }
+    ensures taken { IfOk result (λ n. (f : Parsed) (bytes : List ℕ) → IsKept f rows.old case.old bytes → IsKept f rows.new case.new (bytes ++ take n piece.now)) }
+    ensures within { IfOk result (λ n. n ≤ length piece.now) }
+    ensures memory { IfErr result (λ e. e ≡ StreamStop.NoMemory) }
+    ensures limits { rows.new.limits ≡ rows.old.limits }
+{
+    match case {
+        Some(case) => match rows.take_rows(piece, &mut case.trace) {
+            Ok(bytes) => Ok(bytes),
+            Err(_) => Err(StreamStop::NoMemory),
+        },
+        None => Ok(0),
+    }
+}
+
 /// A reader, and what is kept of the trace that it has read.
 ///
 /// `IsKept` says when it stands for the bytes that it took. After a refusal no more is asked of it.
@@ -109,6 +127,26 @@ impl CaseReader {
         Ok(took.bytes)
     }
 
+    /// Takes the rows that a piece begins with, and then bytes up to the header's line or a further row's at most. Answers how many they are.
+    fn advance(
+        &mut self,
+        alloc: Global,
+        piece: &[u8],
+        formula: &Formula,
+    ) -> Result<usize, StreamStop>
+        requires { HasKept formula.now self.old.rows self.old.case }
+        ensures taken { (bytes : List ℕ) → IsKept formula.now self.old.rows self.old.case bytes → MatchResult result
+            (λ n. IsKept formula.now self.new.rows self.new.case (bytes ++ take n piece.now))
+            (λ e. IsRefused self.old.rows.limits formula.now false (bytes ++ piece.now) e) }
+        ensures within { MatchResult result (λ n. n ≤ length piece.now) (λ _. Unit {0}) }
+        ensures progress { MatchResult result (λ n. 0 < length piece.now → 0 < n) (λ _. Unit {0}) }
+        ensures limits { self.new.rows.limits ≡ self.old.rows.limits }
+    {
+        let rows = take_rows(&mut self.rows, &mut self.case, piece)?;
+        let more = self.step(alloc, &piece[rows..], formula)?;
+        Ok(rows + more)
+    }
+
     /// Takes all bytes of a piece of the trace of the formula.
     ///
     /// # Errors
@@ -122,7 +160,7 @@ impl CaseReader {
     {
         let mut at = 0;
         while at < piece.len() {
-            at += self.step(alloc, &piece[at..], formula)?;
+            at += self.advance(alloc, &piece[at..], formula)?;
         }
         Ok(())
     }

@@ -12,8 +12,8 @@ loop-at-init c = record {
   taken = λ bytes k. subst (λ b. IsKept c.args.formula.now c.args.self.now.rows c.args.self.now.case b) (sym (append-nil bytes)) k;
 }
 
-pub step-requires : goal.step-requires
-step-requires c = record {
+pub advance-requires : goal.advance-requires
+advance-requires c = record {
   bytes = c.requires.bytes ++ take c.loop-at.at c.args.piece.now;
   is = c.loop-at.invariant.taken c.requires.bytes c.requires.is;
 }
@@ -37,7 +37,7 @@ loop-at-preserved c =
     record {
       within = omega (arith, length-drop c.loop-at.at c.args.piece.now);
       limits = c.in_ok-at.ensures.limits ∙ c.loop-at.invariant.limits;
-      taken = λ bytes k. subst (λ b. IsKept c.args.formula.now c.step.new.self.rows c.step.new.self.case b)
+      taken = λ bytes k. subst (λ b. IsKept c.args.formula.now c.advance.new.self.rows c.advance.new.self.case b)
           (fed bytes c.args.piece.now c.loop-at.at c.in_ok-at.field-0)
           (c.in_ok-at.ensures.taken (bytes ++ take c.loop-at.at c.args.piece.now) (c.loop-at.invariant.taken bytes k));
     }
