@@ -106,15 +106,23 @@ class Judges:
         self.begun += 1
         return subprocess.Popen([str(EXAMPLE / "redis_judge"), self.host, f"{shard}/{count}", FORMULA], stderr=subprocess.DEVNULL)
 
+    @staticmethod
+    def has_ended(judge):
+        return os.waitid(os.P_PID, judge.pid, os.WEXITED | os.WNOHANG | os.WNOWAIT) is not None
+
     def keep(self):
         """Begins those anew that have ended."""
         for shard, judge in enumerate(self.all):
-            if os.waitid(os.P_PID, judge.pid, os.WEXITED | os.WNOHANG | os.WNOWAIT):
+            if self.has_ended(judge):
                 self.took += processor(judge)
                 self.all[shard] = self.begin(shard, len(self.all))
 
     def kill(self, dice):
-        dice.choice(self.all).kill()
+        """Kills one of those that live; whether there is one."""
+        living = [judge for judge in self.all if not self.has_ended(judge)]
+        if living:
+            dice.choice(living).kill()
+        return bool(living)
 
     def end(self):
         for judge in self.all:
@@ -261,13 +269,13 @@ def go(chosen, server, judges, sender, reader, expected, until):
                 raise part.why
         sender.told = reader.count / total
         if left and sender.told >= left[0][0]:
-            what = left.pop(0)[1]
-            killed[what] += 1
-            if what == "judge":
-                judges.kill(dice)
-            else:
+            what = left[0][1]
+            if what == "server":
                 server.kill()
                 server.begin()
+            if what == "server" or judges.kill(dice):
+                killed[what] += 1
+                left.pop(0)
         judges.keep()
         if sys.stderr.isatty() or time.monotonic() > shown + 30:
             print(f"{sender.sent} sent, {reader.count} told of {total}, killed {killed}", file=sys.stderr)
@@ -309,6 +317,7 @@ def soak(chosen, folder):
         killed = go(chosen, server, judges, sender, reader, expected, until)
         told = time.monotonic()
         compare(server.host, expected, reader)
+        memory = redis_words.Redis(server.host).ask("INFO", "memory").split(b"used_memory:")[1].split(b"\r")[0]
     finally:
         stopped.set()
         for part in (sender, judges):
@@ -316,6 +325,7 @@ def soak(chosen, folder):
                 part.end()
         server.kill()
     report(chosen, sender, reader, judges, server, killed, told - ready)
+    print(f"{int(memory) / (sender.total + reader.count):.0f} bytes of the server's memory a line")
 
 
 def report(chosen, sender, reader, judges, server, killed, wall):

@@ -126,6 +126,8 @@ def test_scripts_that_are_refused(bench):
         bench.run("tools/example/redis_bench", host, "a", given="time,x\n0,1\n").ended(0, "")
         bench.run("tools/example/redis_bench", host, "a", given="time,x\n0,2\n").refused("redis_bench: OTHER line 2 was stored")
         frame.same(server.ask("XLEN", "rows:a"), 3)
-    bench.run("tools/example/redis_judge").refused("usage: redis_judge HOST:PORT SHARD/SHARDS FORMULA")
-    bench.run("tools/example/redis_bench").refused("usage: redis_bench HOST:PORT TAG < RECORDING")
+    for words in ([], ["a"], [host, "a b"], ["here", "a"]):
+        bench.run("tools/example/redis_bench", *words).refused("usage: redis_bench HOST:PORT TAG < RECORDING")
+    for words in ([], [host, "1", "true"], [host, "1/1", "true"], ["here", "0/1", "true"]):
+        bench.run("tools/example/redis_judge", *words).refused("usage: redis_judge HOST:PORT SHARD/SHARDS FORMULA")
     bench.run("tools/example/redis_judge", host, "0/1", "x >= 2").refused("redis_judge: [Errno 111] Connection refused")
