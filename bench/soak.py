@@ -84,15 +84,19 @@ class Server:
             self.process.kill()
             self.took += processor(self.process)
 
+    def serves(self):
+        """Whether the server answers, and has all lines."""
+        try:
+            return redis_words.Redis(self.host).ask("PING") == b"PONG"
+        except (OSError, redis_words.Refused):
+            return False
+
     def wait(self, until):
         """Waits until the server answers."""
-        while time.monotonic() < until:
-            try:
-                if redis_words.Redis(self.host).ask("PING") == b"PONG":
-                    return
-            except (OSError, redis_words.Refused):
-                time.sleep(0.1)
-        raise Failed("redis-server does not answer")
+        while not self.serves():
+            if time.monotonic() > until:
+                raise Failed("redis-server does not answer")
+            time.sleep(0.1)
 
 
 class Judges:
@@ -104,16 +108,16 @@ class Judges:
 
     def begin(self, shard, count):
         self.begun += 1
-        return subprocess.Popen([str(EXAMPLE / "redis_judge"), self.host, f"{shard}/{count}", FORMULA], stderr=subprocess.DEVNULL)
+        return subprocess.Popen([sys.executable, str(EXAMPLE / "redis_judge"), self.host, f"{shard}/{count}", FORMULA], stderr=subprocess.DEVNULL)
 
     @staticmethod
     def has_ended(judge):
         return os.waitid(os.P_PID, judge.pid, os.WEXITED | os.WNOHANG | os.WNOWAIT) is not None
 
-    def keep(self):
-        """Begins those anew that have ended."""
+    def keep(self, serves):
+        """Begins those anew that have ended, once the server serves."""
         for shard, judge in enumerate(self.all):
-            if self.has_ended(judge):
+            if self.has_ended(judge) and serves():
                 self.took += processor(judge)
                 self.all[shard] = self.begin(shard, len(self.all))
 
@@ -140,7 +144,7 @@ class Sender(threading.Thread):
         self.lines = {tag: [line.encode() for line in lines] + [b"."] for tag, lines in recordings.items()}
         self.at, self.told, self.why = dict.fromkeys(recordings, 0), 0.0, None
         self.total, self.sent = sum(map(len, self.lines.values())), 0
-        self.scripts = {tag: subprocess.Popen([str(EXAMPLE / "redis_bench"), host, tag], stdin=subprocess.PIPE) for tag in list(recordings)[:BY_SCRIPT]}
+        self.scripts = {tag: subprocess.Popen([sys.executable, str(EXAMPLE / "redis_bench"), host, tag], stdin=subprocess.PIPE) for tag in list(recordings)[:BY_SCRIPT]}
 
     def run(self):
         try:
@@ -276,7 +280,7 @@ def go(chosen, server, judges, sender, reader, expected, until):
             if what == "server" or judges.kill(dice):
                 killed[what] += 1
                 left.pop(0)
-        judges.keep()
+        judges.keep(server.serves)
         if sys.stderr.isatty() or time.monotonic() > shown + 30:
             print(f"{sender.sent} sent, {reader.count} told of {total}, killed {killed}", file=sys.stderr)
             shown = time.monotonic()
@@ -337,6 +341,7 @@ def report(chosen, sender, reader, judges, server, killed, wall):
 
 def main():
     chosen = words()
+    signal.signal(signal.SIGTERM, signal.default_int_handler)
     with tempfile.TemporaryDirectory(prefix="soak.") as folder:
         os.mkdir(f"{folder}/bin")
         os.symlink(shutil.which(chosen.program) and chosen.program.resolve(), f"{folder}/bin/stl_bench")

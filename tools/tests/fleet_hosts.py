@@ -159,7 +159,7 @@ def slurm(bench):
     os.chmod("munge/key", 0o400)
     folder = bench.folder
     bench.write("slurm.conf", SLURM.format(host=host, control=free_port(), work=free_port(), folder=folder, cpus=os.cpu_count()))
-    bench.write("cgroup.conf", "CgroupPlugin=disabled\n")
+    bench.write("cgroup.conf", "CgroupPlugin=cgroup/v1\nCgroupAutomount=no\nConstrainCores=no\nConstrainRAMSpace=no\n")
     os.environ["SLURM_CONF"] = f"{folder}/slurm.conf"
     munge = ["munged", "--foreground", "--force", "--socket", f"{folder}/munge/socket", "--key-file", f"{folder}/munge/key", "--pid-file", f"{folder}/munge/pid", "--log-file", f"{folder}/munge/log", "--seed-file", f"{folder}/munge/seed"]
     with running(*munge), running("slurmctld", "-D"), running("slurmd", "-D", "-N", host):
