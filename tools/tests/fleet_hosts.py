@@ -24,6 +24,9 @@ Host *
   IdentitiesOnly yes
   StrictHostKeyChecking no
   UserKnownHostsFile {folder}/ssh/known
+  ControlMaster auto
+  ControlPath {folder}/ssh/%C
+  ControlPersist 20
   LogLevel ERROR
 """
 SSHD_CONFIG = """ListenAddress 127.0.0.1
@@ -57,14 +60,14 @@ def hosts(bench):
 
 
 def parallel(bench, reach, names, recordings):
-    """A run of the guide's line: the recordings are sent, two to a job, and the reports are fetched."""
+    """A run of the guide's line: the recordings are sent, four to a job, and the reports are fetched."""
     os.environ["HOME"] = str(bench.folder)
     os.makedirs("out", exist_ok=True)
     far = f"{bench.folder}/far"
-    words = ["--will-cite", *reach, "--jobs", "2", "--max-args", "2", "--sshlogin", names, "--workdir", far, "--joblog", "jobs.log", "--keep-order"]
+    words = ["--will-cite", *reach, "--jobs", "2", "--max-args", "4", "--sshlogin", names, "--workdir", far, "--joblog", "jobs.log", "--keep-order"]
     sent = ["--basefile", "tools/judge", "--basefile", "tools/requirements.py", "--basefile", "bench.requirements", "--transferfile", "{}", "--return", "out/{#}.xml", "--cleanup"]
     job = "mkdir -p out; tools/judge --part --junit out/{#}.xml bench.requirements {}"
-    return bench.run("parallel", *words, *sent, job, ":::", *recordings, seconds=200)
+    return bench.run("parallel", *words, *sent, job, ":::", *recordings, seconds=400)
 
 
 def statuses():
@@ -98,6 +101,7 @@ def on_one_machine(bench):
     return run, found
 
 
+@frame.at_most(600)
 @frame.needs("parallel", "/usr/sbin/sshd", "ssh", "ssh-keygen", "rsync")
 def test_recordings_judged_on_two_hosts(bench):
     """The lines and cases are those of one machine; the greatest status of the jobs is that of judge, and no file is left there."""

@@ -1,6 +1,7 @@
 """Benches and judges over mosquitto, and how rows are lost there."""
 import contextlib
 import subprocess
+import sys
 import time
 
 import frame
@@ -49,7 +50,7 @@ def test_a_judge_for_each_shard(bench):
     """Benches publish beside each other, one of them each line twice; each is told what watch tells it, one row of another is lost."""
     found = recordings(1)
     with mosquitto(bench, *KEEPS_ALL) as port, listening(port, "bench/+/verdicts"):
-        judges = [running("tools/example/mqtt_judge", "127.0.0.1", port, shard, FORMULA, log=f"judge{shard}.log") for shard in (0, 1)]
+        judges = [running(sys.executable, "tools/example/mqtt_judge", "127.0.0.1", port, shard, FORMULA, log=f"judge{shard}.log") for shard in (0, 1)]
         with judges[0], judges[1]:
             subscribed(bench, 2)
             sending = []
@@ -123,6 +124,6 @@ def test_a_slow_reader_loses_lines_by_default(bench):
 
 @frame.needs("mosquitto", "mosquitto_sub", "mosquitto_pub")
 def test_a_judge_without_its_broker_ends_with_a_line(bench):
-    run = bench.run("tools/example/mqtt_judge", "127.0.0.1", "1", "0", FORMULA)
+    run = bench.tool("example/mqtt_judge", "127.0.0.1", "1", "0", FORMULA)
     frame.holds(run.status == 1 and "mqtt_judge: the stream ended" in run.err and "Traceback" not in run.err, run.err)
-    bench.run("tools/example/mqtt_judge").refused("usage: mqtt_judge HOST PORT SHARD FORMULA")
+    bench.tool("example/mqtt_judge").refused("usage: mqtt_judge HOST PORT SHARD FORMULA")

@@ -44,7 +44,7 @@ def test_more_recordings_than_one_mux_takes(bench):
 
         server.ask_all([redis_words.append(f"rows:{tag}", 1, [*lines, "."]) for tag, lines in found.items()])
         server.ask("SADD", "benches", *found)
-        with running("tools/example/redis_judge", host, "0/1", formula), running("tools/example/redis_judge", host, "0/1", formula):
+        with running(sys.executable, "tools/example/redis_judge", host, "0/1", formula), running(sys.executable, "tools/example/redis_judge", host, "0/1", formula):
             wait_for(lambda: server.ask("SCARD", "judged") == len(found), "not all were judged", 120)
         for k in range(70):
             frame.same(stored(server, f"run{k}"), watched(bench, found[f"run{k}"], formula), f"run{k}")
@@ -78,7 +78,7 @@ def test_a_full_server_makes_the_bench_wait(bench):
         server.ask("SET", "ballast", "x" * 1_000_000)
         used = int(next(line for line in server.ask("INFO", "memory").split(b"\r\n") if line.startswith(b"used_memory:")).split(b":")[1])
         server.ask("CONFIG", "SET", "maxmemory", used - 500_000)
-        sending = bench.start("tools/example/redis_bench", host, "a")
+        sending = bench.start(sys.executable, "tools/example/redis_bench", host, "a")
         sending.stdin.write("".join(f"{line}\n" for line in lines).encode())
         sending.stdin.close()
         time.sleep(3)
@@ -121,13 +121,13 @@ def test_scripts_that_are_refused(bench):
     with redis(bench) as host:
         server = server_at(host)
         server.ask("SET", "formula", "x >= 1")
-        bench.run("tools/example/redis_judge", host, "0/1", "x >= 2").refused("redis_judge: these benches are judged by another formula")
-        bench.run("tools/example/redis_bench", host, "a", given="time,x\n0,1\n").ended(0, "")
-        bench.run("tools/example/redis_bench", host, "a", given="time,x\n0,1\n").ended(0, "")
-        bench.run("tools/example/redis_bench", host, "a", given="time,x\n0,2\n").refused("redis_bench: OTHER line 2 was stored")
+        bench.tool("example/redis_judge", host, "0/1", "x >= 2").refused("redis_judge: these benches are judged by another formula")
+        bench.tool("example/redis_bench", host, "a", given="time,x\n0,1\n").ended(0, "")
+        bench.tool("example/redis_bench", host, "a", given="time,x\n0,1\n").ended(0, "")
+        bench.tool("example/redis_bench", host, "a", given="time,x\n0,2\n").refused("redis_bench: OTHER line 2 was stored")
         frame.same(server.ask("XLEN", "rows:a"), 3)
     for words in ([], ["a"], [host, "a b"], ["here", "a"]):
-        bench.run("tools/example/redis_bench", *words).refused("usage: redis_bench HOST:PORT TAG < RECORDING")
+        bench.tool("example/redis_bench", *words).refused("usage: redis_bench HOST:PORT TAG < RECORDING")
     for words in ([], [host, "1", "true"], [host, "1/1", "true"], ["here", "0/1", "true"]):
-        bench.run("tools/example/redis_judge", *words).refused("usage: redis_judge HOST:PORT SHARD/SHARDS FORMULA")
-    bench.run("tools/example/redis_judge", host, "0/1", "x >= 2").refused("redis_judge: [Errno 111] Connection refused")
+        bench.tool("example/redis_judge", *words).refused("usage: redis_judge HOST:PORT SHARD/SHARDS FORMULA")
+    bench.tool("example/redis_judge", host, "0/1", "x >= 2").refused("redis_judge: [Errno 111] Connection refused")
