@@ -27,7 +27,7 @@ Host *
   UserKnownHostsFile {folder}/ssh/known
   ControlMaster auto
   ControlPath {folder}/ssh/%C
-  ControlPersist 20
+  ControlPersist 5
   LogLevel ERROR
 """
 SSHD_CONFIG = """ListenAddress 127.0.0.1
@@ -40,7 +40,7 @@ UsePAM no
 PasswordAuthentication no
 PermitRootLogin yes
 MaxStartups 100
-SetEnv PATH={path}
+SetEnv PATH={path} HOME={folder}
 """
 
 
