@@ -38,6 +38,7 @@ def test_scripts_that_are_named_are_there(bench):
         text = (frame.ROOT / page).read_text(encoding="utf-8")
         seen |= {(page, path) for path in re.findall(r"(?<![\w/.])(?:tools|bench|\.ci)/[\w/]+(?:\.\w+)?(?<!/)", text)}
     for page, path in sorted(seen):
-        made = path.startswith("tools/tests/test_NAME") or "/out/" in path
+        # what is built, a name to be filled in, and a topic of a broker are no files
+        made = path.startswith("tools/tests/test_NAME") or "/out/" in path or re.fullmatch(r"bench/\w+/verdicts", path)
         frame.holds(made or (frame.ROOT / path).exists(), f"{page} names {path}")
     frame.holds(len(seen) > 20, f"{len(seen)} names")
