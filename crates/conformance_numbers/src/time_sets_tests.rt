@@ -6,8 +6,21 @@ ghost use Rattle.time_sets.specs.Windows.{IsDomain, IsOf};
 
 use frac128::Memory;
 use std::alloc::Global;
+use std::process::Abort;
 use std::test::Fail;
 use time_sets::{Domain, Times, Turn, Window};
+
+/// The times from 0 to 10, both with it.
+fn domain(rt: &impl Abort) -> Domain
+    ensures { IsDomain result }
+{
+    let on = Domain {
+        from: Turn::at_tick(0, false),
+        to: Turn::at_tick(10, true),
+    };
+    assert!(rt; on.from.precedes(&on.to));
+    on
+}
 
 /// The set of the times behind one place up to another.
 fn stretch(alloc: Global, on: &Domain, from: Turn, to: Turn) -> Result<Times, Memory>
@@ -20,6 +33,30 @@ fn stretch(alloc: Global, on: &Domain, from: Turn, to: Turn) -> Result<Times, Me
     set.set_from(from, true)?;
     set.set_from(to, false)?;
     Ok(set)
+}
+
+/// The set of the times from 2 to 7/2, both with it.
+fn early(rt: &impl Abort, alloc: Global, on: &Domain) -> Result<Times, Memory>
+    ensures { IfOk result (λ s. IsOf on.now s) }
+{
+    let from = Turn::at_tick(2, false);
+    let to = Turn::mixed(3, 1, 2, true);
+    assert!(rt; on.from.precedes(&from));
+    assert!(rt; from.precedes(&to));
+    assert!(rt; to.precedes(&on.to));
+    stretch(alloc, on, from, to)
+}
+
+/// The set of the times after 3 and before 5.
+fn late(rt: &impl Abort, alloc: Global, on: &Domain) -> Result<Times, Memory>
+    ensures { IfOk result (λ s. IsOf on.now s) }
+{
+    let from = Turn::at_tick(3, true);
+    let to = Turn::at_tick(5, false);
+    assert!(rt; on.from.precedes(&from));
+    assert!(rt; from.precedes(&to));
+    assert!(rt; to.precedes(&on.to));
+    stretch(alloc, on, from, to)
 }
 
 /// Whether so many quarters are a time of the set.
@@ -53,50 +90,58 @@ fn has_just(on: &Domain, set: &Times, first: u8, last: u8, rest: u8) -> bool
 }
 
 #[test]
-fn sets_are_seen_through_windows(rt: HostRuntime) -> Result<(), Fail> {
-    let alloc = rt.alloc();
-    let on = Domain {
-        from: Turn::at_tick(0, false),
-        to: Turn::at_tick(10, true),
-    };
-    let two = Turn::at_tick(2, false);
-    let half = Turn::mixed(3, 1, 2, true);
-    let three = Turn::at_tick(3, true);
-    let five = Turn::at_tick(5, false);
-    assert!(&rt; on.from.precedes(&on.to));
-    assert!(&rt; on.from.precedes(&two));
-    assert!(&rt; two.precedes(&half));
-    assert!(&rt; half.precedes(&on.to));
-    assert!(&rt; on.from.precedes(&three));
-    assert!(&rt; three.precedes(&five));
-    assert!(&rt; five.precedes(&on.to));
-    let p = stretch(alloc, &on, two, half)?;
-    let q = stretch(alloc, &on, three, five)?;
-    assert!(&rt; has_just(&on, &p, 8, 14, 41));
-    assert!(&rt; has_just(&on, &q, 13, 19, 41));
-    let both = Times::both(alloc, &p, &q)?;
+fn sets_turn_at_their_places(rt: HostRuntime) -> Result<(), Fail> {
+    let on = domain(&rt);
+    let early = early(&rt, rt.alloc(), &on)?;
+    assert!(&rt; has_just(&on, &early, 8, 14, 41));
+    let late = late(&rt, rt.alloc(), &on)?;
+    assert!(&rt; has_just(&on, &late, 13, 19, 41));
+    let rest = late.complement();
+    assert!(&rt; has_just(&on, &rest, 0, 12, 20));
+    Ok(())
+}
+
+#[test]
+fn sets_are_met_and_joined(rt: HostRuntime) -> Result<(), Fail> {
+    let on = domain(&rt);
+    let early = early(&rt, rt.alloc(), &on)?;
+    let late = late(&rt, rt.alloc(), &on)?;
+    let both = Times::both(rt.alloc(), &early, &late)?;
     assert!(&rt; has_just(&on, &both, 13, 14, 41));
-    let either = Times::either(alloc, &p, &q)?;
+    let either = Times::either(rt.alloc(), &early, &late)?;
     assert!(&rt; has_just(&on, &either, 8, 19, 41));
-    let until = Window {
-        low: Some(0),
-        low_in: true,
-        high: 2,
-        high_in: true,
-    };
-    let reached = p.reach(alloc, &q, &on, &until)?;
-    assert!(&rt; has_just(&on, &reached, 8, 14, 41));
+    Ok(())
+}
+
+#[test]
+fn a_window_sees_some_time_or_only_such(rt: HostRuntime) -> Result<(), Fail> {
+    let on = domain(&rt);
+    let early = early(&rt, rt.alloc(), &on)?;
     let ahead = Window {
         low: Some(1),
         low_in: true,
         high: 2,
         high_in: false,
     };
-    let seen = p.some(alloc, &on, &ahead)?;
-    assert!(&rt; has_just(&on, &seen, 1, 10, 41));
-    let only = p.only(alloc, &on, &ahead)?;
+    let some = early.some(rt.alloc(), &on, &ahead)?;
+    assert!(&rt; has_just(&on, &some, 1, 10, 41));
+    let only = early.only(rt.alloc(), &on, &ahead)?;
     assert!(&rt; has_just(&on, &only, 4, 6, 37));
-    let rest = q.complement();
-    assert!(&rt; has_just(&on, &rest, 0, 12, 20));
+    Ok(())
+}
+
+#[test]
+fn one_set_holds_until_the_other(rt: HostRuntime) -> Result<(), Fail> {
+    let on = domain(&rt);
+    let early = early(&rt, rt.alloc(), &on)?;
+    let late = late(&rt, rt.alloc(), &on)?;
+    let ahead = Window {
+        low: Some(0),
+        low_in: true,
+        high: 2,
+        high_in: true,
+    };
+    let reached = early.reach(rt.alloc(), &late, &on, &ahead)?;
+    assert!(&rt; has_just(&on, &reached, 8, 14, 41));
     Ok(())
 }
