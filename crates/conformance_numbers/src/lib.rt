@@ -1,5 +1,5 @@
-//! Tests of numbers and signals: fractions, ramps and spans, the kinds of value, windows of numbers, signals that are built, read and cut,
-//! and until and since over them, used from outside through their contracts alone.
+//! Tests of numbers and signals: fractions, ramps and spans, sets of times, the kinds of value, windows of numbers, signals that are built,
+//! read and cut, and until and since over them, used from outside through their contracts alone.
 #![tactic(auto)]
 
 mod shapes;
@@ -12,6 +12,8 @@ mod frac128_tests;
 mod pl_signal_tests;
 #[cfg(test)]
 mod shape_tests;
+#[cfg(test)]
+mod time_sets_tests;
 #[cfg(test)]
 mod until_ops_tests;
 #[cfg(test)]
