@@ -76,8 +76,8 @@ def test_a_full_server_makes_the_bench_wait(bench):
     with redis(bench) as host:
         server = server_at(host)
         server.ask("SET", "ballast", "x" * 1_000_000)
-        used = int(next(line for line in server.ask("INFO", "memory").split(b"\r\n") if line.startswith(b"used_memory:")).split(b":")[1])
-        server.ask("CONFIG", "SET", "maxmemory", used - 500_000)
+        # what the server holds without the ballast comes on top, so it is full
+        server.ask("CONFIG", "SET", "maxmemory", 1_000_000)
         sending = bench.start(sys.executable, "tools/example/redis_bench", host, "a")
         sending.stdin.write("".join(f"{line}\n" for line in lines).encode())
         sending.stdin.close()
