@@ -153,13 +153,20 @@ def instructions(program, words, path, folder):
         return next((int(line.split()[1]) for line in counted if line.startswith(("summary:", "totals:"))), None)
 
 
+def instructions_a_row(program, words, paths, counted, folder):
+    """What each row takes between two numbers of rows, so that no start of a process is in it; None where nothing counts."""
+    few, many = counted
+    ends = [instructions(program, words, paths[rows], folder) for rows in counted]
+    return None if None in ends else (ends[1] - ends[0]) / (many - few)
+
+
 def stands(program, command, path):
     """Whether the program has the command: it judges an atom, with any status but that of unknown words."""
     return run(program, [command, ATOM], path)[0] in (0, 1)
 
 
 def measure(programs, words, paths, sizes, runs, counted, folder):
-    """What each program takes, measured in turn: seconds at each size, instructions a row at one, the most MB; or another status."""
+    """What each program takes, measured in turn: seconds at each size, instructions a row, the most MB; or another status."""
     figures = [{"seconds": {}, "count": 0, "peak": 0} for _ in programs]
     for rows in sizes:
         tries = [[run(program, words, paths[rows]) for program in programs] for _ in range(runs)]
@@ -170,7 +177,7 @@ def measure(programs, words, paths, sizes, runs, counted, folder):
             figure["peak"] = max(figure["peak"], *(high / 1024 for _, _, high in own))
     for figure, program in zip(figures, programs):
         if counted:
-            figure["count"] = (instructions(program, words, paths[counted], folder) or 0) / counted
+            figure["count"] = instructions_a_row(program, words, paths, counted, folder) or 0
     return figures
 
 
@@ -192,20 +199,33 @@ def ratios(figure, other, sizes):
     return "  " + " ".join(f"{ours / theirs:8.2f}" if ours and theirs else f"{'-':>8}" for ours, theirs in pairs)
 
 
+def counted_between(parser, word):
+    """The two numbers of rows of a word like 2000,20000; none of the word 0."""
+    if word == "0":
+        return []
+    try:
+        few, many = (int(part) for part in word.split(","))
+    except ValueError:
+        parser.error("--count takes two numbers of rows with a comma between, or 0")
+    if not 0 < few < many:
+        parser.error("--count takes fewer rows first")
+    return [few, many]
+
+
 def main():
     parser = argparse.ArgumentParser(description="Measures the commands of the built program on traces that it makes itself.")
     parser.add_argument("--program", default=PROGRAM, help="the program to measure")
     parser.add_argument("--beside", help="another program, measured in turn with it; ratios to it are shown")
     parser.add_argument("--sizes", default="10000,100000,1000000", help="numbers of rows, with commas between")
     parser.add_argument("--runs", type=int, default=3, help="runs of each, of which the fastest counts")
-    parser.add_argument("--count", type=int, help="the rows at which instructions are counted, 0 for none; by default the middle size")
+    parser.add_argument("--count", default="2000,20000", help="the two numbers of rows between which instructions are counted, 0 for none")
     parser.add_argument("--only", default="", help="a word that the name of a case must have")
     parser.add_argument("--command", choices=COMMANDS, help="one command alone")
     args = parser.parse_args()
     if not os.path.isfile(args.program):
         sys.exit(f"there is no {os.path.normpath(args.program)}: build it first, as README.md says")
     sizes = sorted({int(word) for word in args.sizes.split(",")})
-    counted = sizes[len(sizes) // 2] if args.count is None else args.count
+    counted = counted_between(parser, args.count)
     programs = [args.program, args.beside] if args.beside else [args.program]
     head = f"{'command':8} {'formula':17} {'trace':6} " + " ".join(f"{f'ns/{n}':>8}" for n in sizes) + f" {'instr':>8} {'MB':>8} growth"
     print(head + "  " + " ".join(f"{f'x {of}':>8}" for of in ["instr", *sizes, "MB"]) if args.beside else head)
@@ -226,7 +246,7 @@ def main():
                 for kind in traces.split():
                     if args.only not in f"{name} {kind}":
                         continue
-                    paths = {rows: trace(kind, rows) for rows in {*sizes, counted} - {0}}
+                    paths = {rows: trace(kind, rows) for rows in {*sizes, *counted}}
                     figures = measure(programs, [command, formula], paths, sizes, args.runs, counted, folder)
                     text = figures if isinstance(figures, str) else line(figures[0], sizes)
                     if args.beside and not isinstance(figures, str):

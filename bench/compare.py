@@ -88,7 +88,7 @@ def main():
     judged, wide = dict.fromkeys(commands, 0), 0
     with tempfile.TemporaryDirectory() as folder:
         other = os.path.join(folder, "exact")
-        subprocess.run(["c++", "-O2", "-std=c++17", "-o", other, os.path.join(HERE, "exact.cpp")], check=True)
+        subprocess.run(["c++", "-O3", "-static", "-std=c++17", "-o", other, os.path.join(HERE, "exact.cpp")], check=True)
         for case in range(args.cases):
             depth = dice.randint(0, 4)
             whole, streamed, trace = formula(dice, depth, KINDS), formula(dice, depth, STREAMED), recording(dice)

@@ -6,7 +6,10 @@ import random
 import sys
 import tempfile
 
-from bench import COLUMNS, MAKERS, PROGRAM, TEN, instructions, run
+from bench import COLUMNS, MAKERS, PROGRAM, TEN, instructions_a_row, run
+
+# Instructions are counted between this part of the rows and all of them, so that no start, of the program or of a session, is in them.
+PART = 8
 
 
 def rows_of(name, rows, seed):
@@ -31,13 +34,16 @@ def write_many(path, name, rows, sessions, burst):
                 out.writelines(f"{tag} {line}\n" for line in lines[at:at + burst])
 
 
-def figures(program, words, path, rows, runs, folder, counted):
-    """ns and instructions a row, and the most MB."""
-    tries = [run(program, words, path) for _ in range(runs)]
+def figures(args, words, write, folder):
+    """ns and instructions a row, and the most MB, over the rows that `write` puts into a file."""
+    paths = {rows: os.path.join(folder, f"{rows}.txt") for rows in (args.rows // PART, args.rows)}
+    for rows, path in paths.items():
+        write(path, rows)
+    tries = [run(args.program, words, paths[args.rows]) for _ in range(args.runs)]
     if tries[0][0] not in (0, 1):
         sys.exit(f"status {tries[0][0]} of {words}")
-    count = instructions(program, words, path, folder) if counted else None
-    return 1e9 * min(cpu for _, cpu, _ in tries) / rows, (count or 0) / rows, max(high for _, _, high in tries) / 1024
+    count = instructions_a_row(args.program, words, paths, sorted(paths), folder) if args.count else None
+    return 1e9 * min(cpu for _, cpu, _ in tries) / args.rows, count or 0, max(high for _, _, high in tries) / 1024
 
 
 def main():
@@ -55,15 +61,15 @@ def main():
         sys.exit(f"there is no {os.path.normpath(args.program)}: build it first, as README.md says")
     print(f"{'command':8} {'sessions':>8} {'ns/row':>8} {'instr':>8} {'MB':>8} {'x watch':>8} {'x one':>8}")
     with tempfile.TemporaryDirectory() as folder:
-        path = os.path.join(folder, "alone.csv")
-        write_alone(path, args.trace, args.rows)
-        watch, count, most = figures(args.program, ["watch", args.formula], path, args.rows, args.runs, folder, args.count)
+        watch, count, most = figures(args, ["watch", args.formula], lambda path, rows: write_alone(path, args.trace, rows), folder)
         print(f"{'watch':8} {'-':>8} {watch:8.0f} {count:8.0f} {most:8.1f} {1:8.2f} {'-':>8}", flush=True)
         one = None
         for sessions in [int(word) for word in args.sessions.split(",")]:
-            path = os.path.join(folder, f"{sessions}.log")
-            write_many(path, args.trace, args.rows, sessions, args.burst)
-            taken, count, most = figures(args.program, ["mux", args.formula], path, args.rows, args.runs, folder, args.count)
+
+            def write(path, rows, sessions=sessions):
+                write_many(path, args.trace, rows, sessions, args.burst)
+
+            taken, count, most = figures(args, ["mux", args.formula], write, folder)
             one = one or taken
             print(f"{'mux':8} {sessions:8} {taken:8.0f} {count:8.0f} {most:8.1f} {taken / watch:8.2f} {taken / one:8.2f}", flush=True)
 
