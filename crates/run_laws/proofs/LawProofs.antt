@@ -1,0 +1,97 @@
+-- The laws of runs.
+use Rattle.std.proofs.Common.{◌≡◌, ◌≢◌, ◌⊎◌, inl, inr, ℕ, Bool, true, false, List, ◌++◌, refl, sym, ap, ◌∙◌, subst, eq-eqb}
+use Rattle.std.specs.Prelude.{◌==◌}
+use Rattle.std.specs.Io.KnownBytes.{IsAtEnd}
+use Rattle.std.proofs.lemmas.Bool.{false≢true, eqb-true}
+use Rattle.io_edge.specs.Calls.{Drained, Filled}
+use Rattle.workbench.specs.Requests.{Request, has_input}
+use Rattle.workbench.specs.Owed.{Owes}
+use Rattle.workbench.specs.Ended.{EndsWith}
+use Rattle.workbench.specs.Running.{IsEnd, IsReadOut, IsRun}
+use Rattle.workbench.proofs.Completing.{rest_of}
+use Rattle.workbench.proofs.OneRequest.{one_request}
+use Rattle.run_laws.specs.OneAnswer.{HoldTheSame, TellTheSame, OneAnswer, OneAnswerToWords, IsFront, FrontOfTheAnswer}
+use Rattle.run_laws.proofs.Endings.{IsEnding}
+use Rattle.run_laws.proofs.OneEnding.{AreOne, one_ending}
+use Rattle.run_laws.proofs.Fronts.{ending_is_owed, front_of_end, front_of_unread}
+use Rattle.run_laws.proofs.Unread.{unread_once}
+use Rattle.run_laws.proofs.OwnEnds.{HasOwnEnd, has_own_end, own_ending, HowEnded, known, starved, how_ended}
+
+module _ {words asked : List (List ℕ)} {i j : Drained} {o e p g : Filled} {status other : ℕ} (a : IsRun words i o e status) (b : IsRun asked j p g other)
+    (narrow : status ≢ 8) (thin : other ≢ 8) where
+  -- two runs of one request over one input told the same
+  of_request : (request : Request) (x : HasOwnEnd words i a.bytes a.text status a.line) (y : HasOwnEnd asked j b.bytes b.text other b.line)
+      → x.request ≡ request → y.request ≡ request → (has_input request ≡ true → HoldTheSame i j) → TellTheSame a b
+  of_request request x y same also held = by_input (has_input request) refl
+    where
+      one : AreOne status other a.line b.line a.text b.text → TellTheSame a b
+      one r = record { same_status = r.status; same_text = r.texts; same_line = r.lines }
+
+      by_input : (k : Bool) → has_input request ≡ k → TellTheSame a b
+      by_input true has =
+          let h = held has in
+          one (one_ending request h.bytes has narrow thin
+          (subst (λ (q : Request). IsEnding q h.bytes status a.line a.text) same (own_ending h.bytes x (ap has_input same ∙ has) h.first a.moved))
+          (subst (λ (q : Request). IsEnding q h.bytes other b.line b.text) also (own_ending h.bytes y (ap has_input also ∙ has) h.second b.moved)))
+      by_input false has =
+          one (unread_once request a.bytes b.bytes i.ended j.ended has
+          (subst (λ (q : Request). EndsWith a.bytes i.ended q status a.line a.text) same x.is)
+          (subst (λ (q : Request). EndsWith b.bytes j.ended q other b.line b.text) also y.is))
+
+-- two runs of one request told the same
+pub one_answer : OneAnswer
+one_answer request words asked i j o e p g status other ask also held a b own still narrow thin =
+    let x = has_own_end own a.ended in
+    let y = has_own_end still b.ended in
+    of_request a b narrow thin request x y (one_request words x.request request x.asks ask) (one_request asked y.request request y.asks also) held
+
+-- so did two runs of one list of words
+pub one_answer_to_words : OneAnswerToWords
+one_answer_to_words words i j o e p g status other held a b own still narrow thin =
+    let x = has_own_end own a.ended in
+    let y = has_own_end still b.ended in
+    of_request a b narrow thin y.request x y (one_request words x.request y.request x.asks y.asks) refl (λ has. held)
+
+-- ---- fronts
+
+seven : (n : ℕ) → (n ≡ 7) ⊎ (n ≢ 7)
+seven n = by_test (n == 7) refl
+  where
+    by_test : (b : Bool) → (n == 7) ≡ b → (n ≡ 7) ⊎ (n ≢ 7)
+    by_test true e = inl (eqb-true n 7 e)
+    by_test false e = inr (λ same. false≢true (sym e ∙ eq-eqb n 7 same))
+
+-- what any run wrote is the front of the answer
+pub front_of_the_answer : FrontOfTheAnswer
+front_of_the_answer request words asked i j o e p g status other ask also held a b truly own thin = by_end (how_ended a.ended)
+  where
+    y : HasOwnEnd asked j b.bytes b.text other b.line
+    y = has_own_end own b.ended
+
+    there : y.request ≡ request
+    there = one_request asked y.request request y.asks also
+
+    by_status : (status ≡ 7) ⊎ (status ≢ 7) → (status ≢ 7 → IsReadOut i) → i.ended ≡ true → IsAtEnd i.after
+    by_status (inl e) out said = truly e said
+    by_status (inr n) out said = (out n).none_left said
+
+    of_end : (status ≢ 7 → has_input request ≡ true → IsReadOut i) → IsEnd request i o a.bytes a.text status a.line → IsFront a.text b.text
+    of_end out end = by_input (has_input request) refl
+      where
+        by_input : (k : Bool) → has_input request ≡ k → IsFront a.text b.text
+        by_input true has =
+            let h = held has in
+            let (left, after, parts) = rest_of i.before i.after h.bytes a.bytes h.first a.moved in
+            let ending = subst (λ (q : Request). IsEnding q h.bytes other b.line b.text) there
+            (own_ending h.bytes y (ap has_input there ∙ has) h.second b.moved) in
+            let due = subst (λ bs. Owes request bs true b.text) parts (ending_is_owed has thin ending) in
+            front_of_end left b.text has (λ said. subst IsAtEnd after (by_status (seven status) (λ n. out n has) said)) end due
+        by_input false has =
+            front_of_unread b.bytes b.line b.text j.ended has end
+            (subst (λ (q : Request). EndsWith b.bytes j.ended q other b.line b.text) there y.is)
+
+    by_end : HowEnded words i o a.bytes a.text status a.line → IsFront a.text b.text
+    by_end (starved none e) = (b.text, ap (λ t. t ++ b.text) (sym none))
+    by_end (known mine asks out end) =
+        let same = one_request words mine request asks ask in
+        of_end (λ n has. out n (ap has_input same ∙ has)) (subst (λ (q : Request). IsEnd q i o a.bytes a.text status a.line) same end)

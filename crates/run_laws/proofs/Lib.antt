@@ -1,0 +1,12 @@
+pub mod FaultsOfAll
+pub mod LinesOfAll
+pub mod Endings
+pub mod OneEnding
+pub mod Unread
+pub mod OwnEnds
+pub mod Fronts
+pub mod LawProofs
+pub mod Crowd
+pub mod CrowdLaws
+pub mod Wides
+pub mod BesideWides
