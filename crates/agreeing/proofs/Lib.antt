@@ -1,0 +1,9 @@
+pub mod AlikeTexts
+pub mod OneContent
+pub mod SignLaw
+pub mod StartLaw
+pub mod JoinLaw
+pub mod PlayOn
+pub mod ShortRuns
+pub mod WideLaw
+pub mod WideInput

@@ -1,0 +1,5 @@
+pub mod Contents
+pub mod Signs
+pub mod Starts
+pub mod Joined
+pub mod Wides
