@@ -34,27 +34,27 @@ def kept(rows, width):
 
 
 def evaluations(count, places):
-    """How often the search evaluates the formula, with one evaluation of all nodes before."""
-    total, left, marked = 1, count, set()
+    """How often the search evaluates the formula, with one evaluation of all nodes before, where each needed cell is shown by its trial."""
+    total, left, marked, tries, to = 1, count, set(), 0, count
     while left > 0:
         below = [p for p in places if p < left and p not in marked]
         enough = below[-1] + 1 if below else 0
-        low, high, room, reach, held = 0, left, count, 1, False
+        low, high, room, reach, expected = 0, left, count, 1, left - to
         while low < high:
-            half = (high - low) - (high - low) // 2
-            near = high - min(reach, half)
+            jump = expected or min(reach, (high - low) - (high - low) // 2)
+            near = high - min(jump, room // 2 + 1, high - low)
             middle = low + min(near - low, room // 2)
-            room, reach, total = room // 2, reach * 2, total + 1
+            room, reach, expected, total = room // 2, reach * 2, 0, total + 1
             if middle >= enough:
-                high, held = middle, True
+                high = middle
             else:
                 low = middle + 1
         if high == 0:
             break
         left = high - 1
-        if held:
-            # What the first cells leave certain is at hand: all that are needed of this column are marked.
-            marked.update(p for p in places if p < high and (p < count // 2) == (left < count // 2))
+        tries = max(64, tries * 4 if left < to else tries // 2)
+        to = max(0, left - tries)
+        marked.update(p for p in places if to <= p < left)
     return total
 
 

@@ -14,6 +14,7 @@ import resource
 import subprocess
 import sys
 import tempfile
+import time
 
 HERE = os.path.dirname(os.path.realpath(__file__))
 PROGRAM = os.path.join(HERE, "..", "crates", "stl_bench", "out", "stl_bench")
@@ -106,6 +107,77 @@ def traces(rows, dice):
     yield "slide", tens, False, lambda row: [rows - row + k * (row % 3) for k in range(4)]
 
 
+def window(dice, rows, far):
+    """Bounds of a window, some as long as the trace where `far` is so."""
+    low = dice.choice([0, 0, 0, 1, 2, 3])
+    high = low + dice.choice([0, 1, 2, 3, 5, 7, 9])
+    if far and dice.random() < 0.4:
+        low, high = dice.choice([(0, rows), (0, rows // 2), (rows // 2, rows), (0, rows // 3)])
+    left = "]" if dice.random() < 0.25 and high > low else "["
+    right = "[" if dice.random() < 0.25 and high > low + 1 else "]"
+    return f"{left}{low},{high}{right}"
+
+
+def random_formula(dice, rows, far, depth):
+    """A formula over columns that are 0 or 1, nested so deep at most."""
+    if depth == 0 or dice.random() < 0.12:
+        return f"{dice.choice(COLUMNS)} {dice.choice(['>=', '<'])} {dice.choice([1, 1, 1, 0, 2])}"
+    some = lambda: random_formula(dice, rows, far, depth - 1)
+    word = dice.choice(["not", "and", "or", "implies", "until", "until", "since", "since", "eventually", "always", "once", "historically"])
+    if word == "not":
+        return f"not ({some()})"
+    if word in ("and", "or", "implies"):
+        return f"(({some()}) {word} ({some()}))"
+    if word in ("until", "since"):
+        bounds = "" if word == "since" and dice.random() < 0.3 else closed(window(dice, rows, far))
+        return f"(({some()}) {word}{bounds} ({some()}))"
+    return f"({word}{window(dice, rows, far)} ({some()}))"
+
+
+def closed(bounds):
+    """The same bounds with both in."""
+    return f"[{bounds[1:-1]}]"
+
+
+def random_rows(dice, rows):
+    """Rows a tick apart, or ten, of four columns of ramps or steps that are 0 or 1 at random, or change seldom."""
+    step, tick, seldom = dice.choice([":step", ""]), dice.choice([1, 1, 10]), dice.random() < 0.3
+    lines, values = ["time," + ",".join(c + step for c in COLUMNS)], [0, 1, 0, 1]
+    for row in range(rows):
+        values = [dice.randint(0, 1) if not seldom or dice.random() < 0.1 else value for value in values]
+        lines.append(f"{row * tick}," + ",".join(map(str, values)))
+    return tick, "".join(line + "\n" for line in lines)
+
+
+def search(options, folder):
+    """Random formulas over random rows: a line for each that takes long, or much longer than over half the rows."""
+    flagged, failed, began = 0, 0, time.monotonic()
+    for case in range(options.random):
+        if time.monotonic() - began > options.time:
+            print(f"the time is up after {case} formulas")
+            break
+        took, names = [], []
+        for rows in (options.rows // 2, options.rows):
+            dice = random.Random(f"{options.seed} {case}")
+            tick, text = random_rows(random.Random(f"{options.seed} rows {case}"), rows)
+            far = dice.random() < 0.5
+            body = random_formula(dice, rows * tick, far, dice.randint(1, 4))
+            formula = dice.choice(["eventually", "eventually", "always"]) + f"[0,{rows * tick}] ({body})"
+            path = os.path.join(folder, "random")
+            with open(path, "w") as out:
+                out.write(text)
+            status, seconds, _ = run(options.program, "explain", formula, path, options.limit)
+            took.append((seconds, status))
+            names.append(formula)
+        (before, _), (now, status) = took
+        failed += status == 1
+        growth = math.log2(now / before) if before else 0
+        if status is None or now > 2 or (now > options.show and growth > 1.2):
+            flagged += 1
+            print(f"case {case}: {now:.2f} s, growth {growth:.2f}, status {status}: {names[1]}")
+    print(f"{flagged} flagged; {failed} violations of seed {options.seed} over {options.rows} rows")
+
+
 def write(path, trace, rows):
     """The trace alone, and beside it the same as the one session of an input of many."""
     name, time, step, values = trace
@@ -167,9 +239,16 @@ def main():
     parser.add_argument("--top", type=int, default=5, help="how many cases of each command are printed")
     parser.add_argument("--commands", type=lambda text: text.split(","))
     parser.add_argument("--families", default="", help="a word that the names of the formulas have that are run; without it all are")
+    parser.add_argument("--random", type=int, default=0, help="so many random formulas for `explain`, in place of the families")
+    parser.add_argument("--seed", type=int, default=1, help="of the random formulas and rows")
+    parser.add_argument("--time", type=int, default=1800, help="seconds after which no more random formulas are tried")
     options = parser.parse_args()
     if not os.path.isfile(options.program):
         sys.exit(f"there is no {os.path.normpath(options.program)}: build it first, as README.md says")
+    if options.random:
+        with tempfile.TemporaryDirectory() as folder:
+            search(options, folder)
+        return
     options.commands = options.commands or commands(options.program)
     with tempfile.TemporaryDirectory() as folder:
         found = sorted(measure(options, folder), reverse=True)

@@ -18,7 +18,7 @@ use Rattle.stl_syntax.specs.declared.items.Item.{Item}
 use Rattle.stl_syntax.specs.declared.node.Node.{Node}
 use Rattle.stl_syntax.specs.declared.node.Node.TheVariants.{Const, Atom as Leaf, Not, And, Or, Implies, Until, Eventually, Always, Since, Once, Historically}
 use Rattle.offline_eval.specs.Inputs.{is_atom}
-use Rattle.implicants.specs.Demands.{Certain}
+use Rattle.implicants.specs.Needs.{Certain}
 use Rattle.implicants.specs.Nearby.{IsBest}
 use Rattle.implicants.specs.Signs.{sign_at, AreSigned}
 

@@ -2,12 +2,8 @@
 use Rattle.std.proofs.Common.{◌≡◌, ℕ, ◌<◌, ◌≤◌, ◌⊎◌, inl, inr, Bool, true, false, List, [], ◌∷◌, zero}
 use Rattle.std.proofs.Common.{suc, length, set, length-set, Some, refl, sym, ap, ◌∙◌, subst, arith}
 use Rattle.std.specs.Prelude.{slice_get, slice_index, slice_index_or, MatchBool, IsTrue}
-use Rattle.std.proofs.lemmas.Option.{slice_get_within}
 use Rattle.rational.specs.Time.{Rational, Interval, IsIn}
 use Rattle.frac128.specs.Spans.{interval}
-use Rattle.value_laws.specs.Kinds.{kleene_shape}
-use Rattle.value_laws.specs.declared.kleene.Kleene.{Kleene}
-use Rattle.pl_signal.specs.declared.knot.Knot.{Knot}
 use Rattle.stl_syntax.specs.Trace.{Trace}
 use Rattle.stl_syntax.specs.Formula.{atom, subformula}
 use Rattle.stl_syntax.specs.Truth.{Truth, holds_at}
@@ -21,15 +17,13 @@ use Rattle.stl_syntax.specs.declared.node.Node.TheVariants.{Atom as Leaf}
 use Rattle.stl_syntax.proofs.FormulaLemmas.{subformula-at}
 use Rattle.implicants.specs.Runs.{AreAllCells, begins}
 use Rattle.implicants.specs.Certainty.{stays, known_at}
-use Rattle.implicants.specs.Demands.{Certain, IsNeeded, IsOn, IsOff, IsAmongPlaces, MarksNeeded, AreCertainties}
-use Rattle.implicants.specs.Keeping.{CoverMore}
+use Rattle.implicants.specs.Needs.{Certain, IsNeeded, IsAmongPlaces, MarksNeeded}
 use Rattle.implicants.specs.Signs.{sign_at}
-use Rattle.implicants.specs.Upward.{AreGone, AreLost, AreShort, IsGone, PutsNeeded}
+use Rattle.implicants.specs.Upward.{AreGone, AreLost, IsGone, PutsNeeded}
 use Rattle.implicants.specs.declared.runs.Run.{Run}
 use Rattle.implicants.proofs.Strips.{one_cell}
 use Rattle.implicants.proofs.Certain.{in_run}
-use Rattle.implicants.proofs.Demanding.{on_not_false, off_not_true}
-use Rattle.implicants.proofs.Needing.{PutsBefore, certain_covered, within_more}
+use Rattle.implicants.proofs.Needing.{certain_covered}
 use Rattle.implicants.proofs.Passing.{set_marked, marked_set, stays_one}
 
 -- a place before the tried one, or a marked one behind it, stays
@@ -90,21 +84,6 @@ module _ (nodes : List Node) (tr : Trace) (all : List Item) (ends : List ℕ) (i
       gone_clash nodes tr all ends is marks c some within (sign_at signs i) i a p e t leaf there node (subst (λ s. IsIn (interval s) t) on inside)
       (subst (λ b. IsGone all marks b c p) same is_gone) tree
 
-  -- so are the runs in which signals of what is certain by more cells are less than best
-  pub short_lost : {left : ℕ} {old : List Bool} {more : List Item} (signals : List (List (Knot Kleene))) (runs : List Run)
-      → PutsBefore all left old marks more → c < left
-      → AreCertainties kleene_shape nodes tr more signals → AreShort kleene_shape signs signals runs → AreLost nodes tr all marks c signs runs
-  short_lost {left} {old} {more} signals runs puts l sure short = λ some within j r at t inside certain.
-      let x = short j r at in
-      let there : r.of < length nodes = let w = slice_get_within signals r.of x.0 x.1 in let e = sure.count in omega (arith, w, e) in
-      by_sign some (within_more nodes tr all ends is some c puts l within) r.of x.0 t there x.1 (sign_at signs r.of) (x.2 t inside) certain
-    where
-      by_sign : (some : List Item) → CoverMore some more → (k : ℕ) (x : List (Knot Kleene)) (t : Rational) → k < length nodes
-          → slice_get signals k ≡ Some x → (h : Bool)
-          → MatchBool h (IsOff kleene_shape x t) (IsOn kleene_shape x t) → Certain h (subformula nodes k) some tr t → ⊥
-      by_sign some cover k x t l at true off m = off_not_true nodes tr more signals sure k x t l at off some cover m
-      by_sign some cover k x t l at false on m = on_not_false nodes tr more signals sure k x t l at on some cover m
-
 -- marks that were put where cells are needed, at places from c on
 pub record PutsFrom (nodes : List Node) (tr : Trace) (all : List Item) (left c : ℕ) (old new : List Bool) : Type 0 where
   -- what was marked stays marked
@@ -112,11 +91,6 @@ pub record PutsFrom (nodes : List Node) (tr : Trace) (all : List Item) (left c :
   -- and what is marked now was, or is needed
   pub only : (k : ℕ) → slice_index_or new k false ≡ true
       → (slice_index_or old k false ≡ true) ⊎ ((c ≤ k) × (k < left) × IsNeeded nodes tr all new k)
-
--- marks that are new are of cells before place `left`
-pub new_before : (nodes : List Node) (tr : Trace) (all : List Item) (left c : ℕ) (old new : List Bool) → PutsFrom nodes tr all left c old new
-    → (j : ℕ) → slice_index_or new j false ≡ true → (slice_index_or old j false ≡ true) ⊎ (j < left)
-new_before nodes tr all left c old new puts j h = elim (puts.only j h) [ inl m ↦ inl m | inr m ↦ inr m.1 ]
 
 module _ (nodes : List Node) (tr : Trace) (all : List Item) where
   -- no marks were put yet

@@ -24,11 +24,11 @@ use Rattle.pl_signal.specs.Building.{GoesOn}
 use Rattle.pl_signal.proofs.Limits.{limited}
 use Rattle.pl_signal.proofs.Values.{worth_at}
 use Rattle.stl_syntax.specs.SupInf.{one, minus_one}
-use Rattle.implicants.specs.Demands.{IsOn}
+use Rattle.implicants.specs.Needs.{IsOn}
 use Rattle.implicants.specs.Nearby.{IsBest, IsBestAt, IsBestPoint, IsBestGap, IsBestSoFar, IsBestSignal}
 use Rattle.implicants.specs.declared.runs.Run.{Run}
 use Rattle.implicants.specs.declared.nearby.View.{View}
-use Rattle.implicants.proofs.Demanding.{start_to_stop, worth_bounded}
+use Rattle.implicants.proofs.Uncertain.{start_to_stop, worth_bounded}
 use Rattle.implicants.proofs.Needing.{shape_on}
 
 -- the best value, also written otherwise

@@ -11,7 +11,7 @@ use Rattle.stl_syntax.specs.declared.items.Item.{Item}
 use Rattle.stl_syntax.specs.declared.node.Node.{Node}
 use Rattle.implicants.specs.Certainty.{stays}
 use Rattle.implicants.specs.Keeping.{CoverMore, chosen, remaining, IsLeastEnough, AreSifted, AreBlank}
-use Rattle.implicants.specs.Demands.{put_mark, passed, IsNeeded, MarksNeeded}
+use Rattle.implicants.specs.Needs.{put_mark, passed, IsNeeded, MarksNeeded}
 use Rattle.implicants.proofs.Covering.{IsOver, to_remaining, from_remaining, to_covered, of_covered}
 use Rattle.implicants.proofs.Growing.{must_not}
 use Rattle.implicants.proofs.KeptCells.{drops}

@@ -1,5 +1,7 @@
 -- Runs that are added, and what all of them have.
 use Rattle.std.proofs.Common.{◌≡◌, ℕ, zero, suc, ◌+◌, ◌⊎◌, inl, inr, Bool, true, false, List, [], ◌∷◌, ◌++◌, Option, Some, None, refl, sym, subst}
+use Rattle.std.specs.declared.vec.Vec.{Vec}
+use Rattle.std.specs.declared.alloc.Global.{Global}
 use Rattle.std.specs.Prelude.{slice_get, IfSome, MatchBool, MatchOption, IsTrue, ◌||◌}
 use Rattle.std.proofs.lemmas.Option.{same_Some}
 use Rattle.rational.specs.Time.{Rational, IsIn, IsNotEmpty, Precedes, ◌≈◌, ◌<ʳ◌, ◌≤ʳ◌}
@@ -12,8 +14,8 @@ use Rattle.value_laws.specs.Kinds.{kleene_shape}
 use Rattle.value_laws.specs.declared.kleene.Kleene.{Kleene}
 use Rattle.pl_signal.specs.declared.knot.Knot.{Knot}
 use Rattle.pl_signal.proofs.Values.{worth_at, worth_between}
-use Rattle.implicants.specs.Demands.{IsOn, IsOff}
-use Rattle.implicants.specs.Upward.{AddsOn, AddsRun, AddsShort, AreShort, IsOnOver, IsShortOver}
+use Rattle.implicants.specs.Needs.{IsOn, IsOff}
+use Rattle.implicants.specs.Upward.{AddsOn, AddsRun, AddsShort, AreShort, AreShortEach, IsOnOver, IsShortOver}
 use Rattle.implicants.specs.Signs.{sign_at}
 use Rattle.implicants.specs.declared.runs.Run.{Run}
 use Rattle.implicants.proofs.Needing.{shape_on}
@@ -136,6 +138,29 @@ short_false k best x old new same adds j r at = elim (adds j r at) [
 -- no run stands in an empty list
 pub no_run : {A : Type 0} (j : ℕ) (r : A) → slice_get [] j ≡ Some r → ⊥
 no_run j r h = elim j as (λ j. slice_get [] j ≡ Some r → ⊥) [ zero ↦ λ e. cc | suc k ↦ λ e. cc ] h
+
+-- one more list of runs
+pub short_each : (signs : List Bool) (signals : List (List (Knot Kleene))) (each : List (Vec Run Global)) (v : Vec Run Global)
+    → AreShortEach kleene_shape signs signals each → AreShort kleene_shape signs signals v.items
+    → AreShortEach kleene_shape signs signals (each ++ v ∷ [])
+short_each signs signals each v before here k w at = elim (pushed_at each v k w at) [
+  | inl h ↦ before k w h
+  | inr e ↦ subst (λ u. AreShort kleene_shape signs signals u.items) (sym e) here
+]
+
+-- one run more, of those on which the signal is short
+pub short_pushed : (k : ℕ) (best : Bool) (x : List (Knot Kleene)) (old mid new pieces : List Run) (j : ℕ) (r : Run)
+    → slice_get pieces j ≡ Some r → AddsShort kleene_shape k best x [] pieces → (new ≡ mid) ⊎ (new ≡ mid ++ r ∷ [])
+    → AddsShort kleene_shape k best x old mid → AddsShort kleene_shape k best x old new
+short_pushed k best x old mid new pieces j r at adds (inl same) before i s there = before i s (subst (λ l. slice_get l i ≡ Some s) same there)
+short_pushed k best x old mid new pieces j r at adds (inr same) before i s there =
+    elim (pushed_at mid r i s (subst (λ l. slice_get l i ≡ Some s) same there)) [
+      | inl h ↦ before i s h
+      | inr e ↦ elim (adds j r at) [
+        | inl h ↦ absurd (no_run j r h)
+        | inr h ↦ inr (subst (λ u. (u.of ≡ k) × IsShortOver kleene_shape best x u.on) (sym e) h)
+      ]
+    ]
 
 -- the runs of one node more
 pub short_more : (signs : List Bool) (signals : List (List (Knot Kleene))) (k : ℕ) (best : Bool) (x : List (Knot Kleene)) (old new : List Run)

@@ -19,12 +19,12 @@ use Rattle.offline_eval.specs.Inputs.{IsInput}
 use Rattle.offline_eval.specs.Making.{AreSound, IsFit, IsSound}
 use Rattle.stl_syntax.specs.declared.items.Item.{Item}
 use Rattle.stl_syntax.specs.declared.node.Node.{Node}
-use Rattle.implicants.specs.Demands.{IsAlong, AreCertainties}
+use Rattle.implicants.specs.Needs.{IsAlong, AreCertainties}
 use Rattle.implicants.specs.Nearby.{IsBestSignal}
 use Rattle.implicants.specs.Upward.{AreWhole, IsBestOf, IsWhole}
 use Rattle.implicants.specs.declared.nearby.View.{View}
 use Rattle.implicants.specs.declared.runs.Run.{Run}
-use Rattle.implicants.proofs.Demanding.{fit_over_ticks, told_at, worth_bounded}
+use Rattle.implicants.proofs.Uncertain.{fit_over_ticks, told_at, worth_bounded}
 use Rattle.implicants.proofs.Helping.{high_least, low_greatest}
 use Rattle.implicants.proofs.Running.{pushed_at}
 

@@ -3,10 +3,7 @@ pub mod Runs
 pub mod Certainty
 pub mod Signals
 pub mod Cuts
-pub mod Demands
-pub mod Lasting
-pub mod Choices
-pub mod Sharing
+pub mod Needs
 pub mod Signs
 pub mod Nearby
 pub mod Upward

@@ -1,5 +1,7 @@
 -- What a cell is tried by: where nodes are less certain than is best, and signals that are no less certain than a node.
 use Rattle.std.specs.Prelude.{◌≡◌, ◌⊎◌, ◌<◌, ◌∷◌, ◌++◌, ℕ, Bool, true, false, List, [], Option}
+use Rattle.std.specs.declared.vec.Vec.{Vec}
+use Rattle.std.specs.declared.alloc.Global.{Global}
 use Rattle.std.specs.Prelude.{Some, slice_get, slice_set, slice_index_or, MatchBool, MatchOption}
 use Rattle.rational.specs.Time.{Rational, IsIn, ◌≈◌}
 use Rattle.rational.specs.Extended.{Extended}
@@ -18,7 +20,7 @@ use Rattle.stl_syntax.specs.declared.items.Item.{Item}
 use Rattle.stl_syntax.specs.declared.node.Node.{Node}
 use Rattle.offline_eval.specs.Inputs.{IsInput}
 use Rattle.implicants.specs.Certainty.{stays, known_at}
-use Rattle.implicants.specs.Demands.{Certain, IsAmongPlaces, IsNeeded, IsOff, IsOn}
+use Rattle.implicants.specs.Needs.{Certain, IsAmongPlaces, IsNeeded, IsOff, IsOn}
 use Rattle.implicants.specs.Nearby.{IsBest}
 use Rattle.implicants.specs.Signs.{sign_at, AreSigns}
 use Rattle.implicants.specs.declared.runs.Run.{Run}
@@ -45,9 +47,37 @@ module _ (shape : ShapeOf Kleene) where
   AreShort signs signals runs = (j : ℕ) (r : Run) → slice_get runs j ≡ Some r
       → (x : List (Knot Kleene)) × (slice_get signals r.of ≡ Some x) × IsShortOver (sign_at signs r.of) x r.on
 
+  -- so in each run of each list
+  abbrev pub AreShortEach : List Bool → List (List (Knot Kleene)) → List (Vec Run Global) → Type 0
+  AreShortEach signs signals each = (k : ℕ) (v : Vec Run Global) → slice_get each k ≡ Some v → AreShort signs signals v.items
+
 -- the run of the span is added, where there is a span
 abbrev pub AddsRun : ℕ → Option Span → List Run → List Run → Type 0
 AddsRun k on old new = MatchOption on (new ≡ old) (λ s. new ≡ old ++ record { of = k; on = s } ∷ [])
+
+-- the run is one of the list
+abbrev pub IsAmongRuns : List Run → Run → Type 0
+IsAmongRuns runs r = (j : ℕ) × (slice_get runs j ≡ Some r)
+
+-- each of the first runs is one of the others
+abbrev pub AreAmong : List Run → List Run → Type 0
+AreAmong new old = (j : ℕ) (r : Run) → slice_get new j ≡ Some r → IsAmongRuns old r
+
+-- each of the new runs is an old one, or this one
+abbrev pub PutsRun : Run → List Run → List Run → Type 0
+PutsRun run old new = (j : ℕ) (r : Run) → slice_get new j ≡ Some r → IsAmongRuns old r ⊎ (r ≡ run)
+
+-- the run is one of a list
+abbrev pub IsAmongEach : List (Vec Run Global) → Run → Type 0
+IsAmongEach each r = (k : ℕ) × (v : Vec Run Global) × (slice_get each k ≡ Some v) × IsAmongRuns v.items r
+
+-- each run of the new lists is one of the old ones, or this one
+abbrev pub SettlesRun : Run → List (Vec Run Global) → List (Vec Run Global) → Type 0
+SettlesRun run old new = (r : Run) → IsAmongEach new r → IsAmongEach old r ⊎ (r ≡ run)
+
+-- each run of the new lists is one of the old ones, or one of these
+abbrev pub Settles : List Run → List (Vec Run Global) → List (Vec Run Global) → Type 0
+Settles gained old new = (r : Run) → IsAmongEach new r → IsAmongEach old r ⊎ IsAmongRuns gained r
 
 -- the cell at place p does not leave its atom as certain as is best, where the cells before the tried one stay, and marked ones
 abbrev pub IsGone : List Item → List Bool → Bool → ℕ → ℕ → Type 0
@@ -78,10 +108,26 @@ AreLost nodes tr all marks c signs runs =
     (some : List Item) → StayWithout all marks c some → (j : ℕ) (r : Run) → slice_get runs j ≡ Some r → (t : Rational) → IsIn (interval r.on) t
     → ¬ Certain (sign_at signs r.of) (subformula nodes r.of) some tr t
 
+-- so with the runs of each list
+abbrev pub AreLostEach : List Node → Trace → List Item → List Bool → ℕ → List Bool → List (Vec Run Global) → Type 0
+AreLostEach nodes tr all marks c signs each = (k : ℕ) (v : Vec Run Global) → slice_get each k ≡ Some v → AreLost nodes tr all marks c signs v.items
+
+-- what the items cover lies in cells before place c, and in marked ones
+abbrev pub StayFrom : List Item → List Bool → ℕ → List Item → Type 0
+StayFrom all marks c some =
+    (i : ℕ) (t : Rational) → IsCovered some i t → IsAmongPlaces all (λ j. (j < c) ⊎ (slice_index_or marks j false ≡ true)) i t
+
+-- where the cells from place c on are gone but for marked ones, no run's node is certainly what its sign says at a time of the run
+abbrev pub AreLostFrom : List Node → Trace → List Item → List Bool → ℕ → List Bool → List (Vec Run Global) → Type 0
+AreLostFrom nodes tr all marks c signs each =
+    (some : List Item) → StayFrom all marks c some → (r : Run) → IsAmongEach each r → (t : Rational) → IsIn (interval r.on) t
+    → ¬ Certain (sign_at signs r.of) (subformula nodes r.of) some tr t
+
 -- what is the same for all nodes on the way up from an atom
-pub record IsGround (nodes : List Node) (tr : Trace) (all : List Item) (marks : List Bool) (c : ℕ) (signs : List Bool) (runs : List Run) : Type 0 where
+pub record IsGround (nodes : List Node) (tr : Trace) (all : List Item) (marks : List Bool) (c : ℕ) (signs : List Bool)
+    (each : List (Vec Run Global)) : Type 0 where
   pub signed : AreSigns nodes signs
-  pub lost : AreLost nodes tr all marks c signs runs
+  pub lost : AreLostEach nodes tr all marks c signs each
   pub leaf : Atom
 
 module _ (shape : ShapeOf Kleene) where

@@ -7,7 +7,7 @@ ghost use Rattle.stl_syntax.specs.declared.items.Item.{Item as Cell};
 ghost use Rattle.stl_syntax.specs.declared.node.Node.TheVariants.{Atom as Leaf};
 ghost use Rattle.implicants.specs.Runs.{begins, AreAllCells};
 ghost use Rattle.implicants.specs.Keeping.{remaining, TellsFailure};
-ghost use Rattle.implicants.specs.Demands.{AreCertainties};
+ghost use Rattle.implicants.specs.Needs.{AreCertainties};
 ghost use Rattle.stl_syntax.specs.declared.items.Item.{Item};
 ghost use Rattle.stl_syntax.specs.Trace.{Trace};
 ghost use Rattle.std.specs.Prelude.{List};

@@ -1,22 +1,28 @@
-//! The cells near one that is tried which do not leave their atom as certain as is best, as runs.
+//! Cells that do not leave their atom as certain as is best, as runs.
 ghost use Rattle.std.specs.Prelude.{◌≡◌, ◌<◌, ◌≤◌, ◌+◌, ◌*◌, Some, length, slice_get, IsTrue, IfOk, OnOk};
-ghost use Rattle.implicants.specs.Upward.{AddsGone, AreGone, IsGone};
+ghost use Rattle.implicants.specs.Runs.{AreAllCells};
+ghost use Rattle.implicants.specs.Upward.{AddsGone, AreGone, AreLost, AreLostEach, IsGone};
 
 use crate::cells::Cells;
 use crate::certainty::{begin_of, shape_at};
-use crate::choosing::cell_at;
 use crate::nearby::says;
-use crate::runs::{Run, add};
-use frac128::{Frac, Memory, Span};
+use crate::runs::{Run, add, add_list};
+use frac128::Memory;
 use std::alloc::Global;
-use stl_syntax::Item;
+use stl_syntax::{Formula, Item, Node};
+use trace_reader::Trace;
 
-/// So many cut times of one atom may be near on either side, and one of 32 of all.
-const MOST_NEAR: usize = 64;
+/// The cell at a place.
+pub(crate) fn cell_at(cells: &Cells, p: usize) -> Item
+    requires { p < length cells.now.all.items }
+    ensures { slice_get cells.now.all.items p ≡ Some result }
+{
+    cells.all[p]
+}
 
-/// Cells of one atom that are near: from one place up to another.
+/// Places of cells: from one up to another.
 #[derive(Clone, Copy)]
-pub(crate) struct Near {
+pub(crate) struct Places {
     pub(crate) from: usize,
     pub(crate) to: usize,
 }
@@ -55,79 +61,82 @@ fn add_gone(
     add(i, Some(cell.on), runs)
 }
 
-/// The near cells of the node at place `i` that are gone, as runs.
-pub(crate) fn gone_near(
+/// The cells of the node at place `i` that are gone, of those from one place up to another, as runs.
+pub(crate) fn gone_among(
     alloc: Global,
     cells: &Cells,
     marks: &[bool],
     i: u32,
     best: bool,
     tried: usize,
-    near: Near,
+    places: Places,
 ) -> Result<Vec<Run>, Memory>
-    requires inside { near.to ≤ length cells.now.all.items }
+    requires inside { places.to ≤ length cells.now.all.items }
     requires marks { length marks.now ≡ length cells.now.all.items }
     ensures { IfOk result (λ r. AreGone cells.now.all.items marks.now i best tried r.items) }
 {
     let mut runs = Vec::new(alloc);
-    for j in near.from..near.to {
+    for j in places.from..places.to {
         add_gone(cells, marks, i, best, tried, j, &mut runs)?;
     }
     Ok(runs)
 }
 
-/// The first of so many cut times that is not before `t`; the cell of the first of them stands behind place `from`, the next ones two
-/// places on each.
-fn cut_at(cells: &Cells, from: usize, count: usize, t: &Frac) -> usize
-    requires { from + 2 * count ≤ length cells.now.all.items }
-    ensures { result ≤ count }
+/// The cells of the node at place `i` that do not make it what its sign says, as runs, where it is an atom.
+fn runs_of_atom(
+    alloc: Global,
+    formula: &Formula,
+    trace: &Trace,
+    cells: &Cells,
+    marks: &[bool],
+    signs: &[bool],
+    i: u32,
+) -> Result<Vec<Run>, Memory>
+    requires cells { AreAllCells formula.now.nodes trace.now cells.now.all.items cells.now.ends.items }
+    requires marks { length marks.now ≡ length cells.now.all.items }
+    requires signs { length signs.now ≡ length formula.now.nodes }
+    requires inside { i < length formula.now.nodes }
+    ensures { IfOk result (λ r. AreLost formula.now.nodes trace.now cells.now.all.items marks.now (length cells.now.all.items) signs.now r.items) }
 {
-    let mut low = 0;
-    let mut high = count;
-    while low < high {
-        let middle = low + (high - low) / 2;
-        if cells.all[from + 2 * middle + 1].on.from.cmp(t).is_lt() {
-            low = middle + 1;
-        } else {
-            high = middle;
+    match formula.node(i) {
+        Node::Atom(_) => {
+            let count = cells.all.len();
+            let from = begin_of(cells, i);
+            let to = cells.ends[i as usize].min(count);
+            gone_among(
+                alloc,
+                cells,
+                marks,
+                i,
+                signs[i as usize],
+                count,
+                Places { from, to },
+            )
         }
-    }
-    low
-}
-
-/// Of so many cut times of an atom, those that are at most `reach` ticks away from the span, and not too many.
-fn cuts_near(cells: &Cells, from: usize, count: usize, on: &Span, reach: u32) -> Near
-    requires { from + 2 * count ≤ length cells.now.all.items }
-    ensures { result.to ≤ length cells.now.all.items }
-{
-    let before = Frac::of(on.from.whole().saturating_sub(i64::from(reach)));
-    let behind = Frac::of(
-        on.to
-            .whole()
-            .saturating_add(i64::from(reach))
-            .saturating_add(1),
-    );
-    let most = MOST_NEAR + count / 32;
-    let middle = cut_at(cells, from, count, &on.from);
-    let low = cut_at(cells, from, count, &before).max(middle.saturating_sub(most));
-    let high = cut_at(cells, from, count, &behind).min(middle.saturating_add(most));
-    let some = high.saturating_add(1).min(count);
-    Near {
-        from: (from + 2 * low.min(count)).saturating_sub(1),
-        to: from + 2 * some,
+        _ => Ok(Vec::new(alloc)),
     }
 }
 
-/// The cells of the atom at place `i` that are near a span: its run begins at place `begin`.
-pub(crate) fn near_cells(cells: &Cells, i: u32, on: &Span, reach: u32) -> Near
-    requires inside { i < length cells.now.ends.items }
-    ensures { result.to ≤ length cells.now.all.items }
+/// For each node the cells that do not make it what its sign says, as runs.
+pub(crate) fn runs_of_cells(
+    alloc: Global,
+    formula: &Formula,
+    trace: &Trace,
+    cells: &Cells,
+    marks: &[bool],
+    signs: &[bool],
+) -> Result<Vec<Vec<Run>>, Memory>
+    requires cells { AreAllCells formula.now.nodes trace.now cells.now.all.items cells.now.ends.items }
+    requires marks { length marks.now ≡ length cells.now.all.items }
+    requires signs { length signs.now ≡ length formula.now.nodes }
+    ensures count { IfOk result (λ r. length r.items ≡ length formula.now.nodes) }
+    ensures lost { IfOk result (λ r. AreLostEach formula.now.nodes trace.now cells.now.all.items marks.now
+        (length cells.now.all.items) signs.now r.items) }
 {
-    let begin = begin_of(cells, i);
-    let from = begin.saturating_add(1);
-    let to = cells.ends[i as usize].min(cells.all.len());
-    if from >= to {
-        return Near { from: begin, to };
+    let mut each: Vec<Vec<Run>> = Vec::new(alloc);
+    for i in 0..formula.len() {
+        let runs = runs_of_atom(alloc, formula, trace, cells, marks, signs, i)?;
+        add_list(&mut each, runs)?;
     }
-    cuts_near(cells, from, (to - from) / 2, on, reach)
+    Ok(each)
 }

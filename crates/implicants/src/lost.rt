@@ -2,7 +2,7 @@
 //! nothing is claimed of it.
 ghost use Rattle.offline_eval.specs.Making.{IsFit};
 
-use crate::runs::{Runs, add_short, end_of_runs, run_at};
+use crate::runs::{Run, add_short, has_begin, has_end, run_at};
 use frac128::{Frac, Memory, Span};
 use pl_signal::Signal;
 use std::alloc::Global;
@@ -15,24 +15,13 @@ pub(crate) struct Region {
     pub(crate) to: Frac,
 }
 
-/// Whether the span begins no later than the piece.
-fn has_begin(on: &Span, piece: &Span) -> bool {
-    on.from.cmp(&piece.from).is_lt()
-        || (on.from.cmp(&piece.from).is_eq() && (on.from_in || !piece.from_in))
-}
-
-/// Whether it ends no earlier.
-fn has_end(on: &Span, piece: &Span) -> bool {
-    piece.to.cmp(&on.to).is_lt() || (piece.to.cmp(&on.to).is_eq() && (on.to_in || !piece.to_in))
-}
-
 /// From when on the piece is none of the runs of the node at place `k`; none where one run has all of it.
-fn lost_from(runs: &Runs, k: u32, piece: &Span) -> Option<Frac> {
-    let j = run_at(runs, k, &piece.from);
-    if j >= end_of_runs(runs, k) {
+fn lost_from(runs: &[Run], piece: &Span) -> Option<Frac> {
+    let j = run_at(runs, &piece.from);
+    if j >= runs.len() {
         return Some(piece.from);
     }
-    let on = runs.all[j].on;
+    let on = runs[j].on;
     if !has_begin(&on, piece) {
         return Some(piece.from);
     }
@@ -43,12 +32,12 @@ fn lost_from(runs: &Runs, k: u32, piece: &Span) -> Option<Frac> {
 }
 
 /// Until when it is none of them, where it is none from a time on.
-fn lost_to(runs: &Runs, k: u32, piece: &Span, from: &Frac) -> Frac {
-    let j = run_at(runs, k, &piece.to);
-    if j >= end_of_runs(runs, k) {
+fn lost_to(runs: &[Run], piece: &Span, from: &Frac) -> Frac {
+    let j = run_at(runs, &piece.to);
+    if j >= runs.len() {
         return piece.to;
     }
-    let begin = runs.all[j].on.from;
+    let begin = runs[j].on.from;
     if !begin.cmp(&piece.to).is_lt() {
         return piece.to;
     }
@@ -60,11 +49,11 @@ fn lost_to(runs: &Runs, k: u32, piece: &Span, from: &Frac) -> Frac {
 }
 
 /// With one more piece.
-fn with_piece(runs: &Runs, k: u32, piece: &Span, found: Option<Region>) -> Option<Region> {
-    let Some(from) = lost_from(runs, k, piece) else {
+fn with_piece(runs: &[Run], piece: &Span, found: Option<Region>) -> Option<Region> {
+    let Some(from) = lost_from(runs, piece) else {
         return found;
     };
-    let to = lost_to(runs, k, piece, &from);
+    let to = lost_to(runs, piece, &from);
     match found {
         Some(before) => Some(Region {
             from: before.from,
@@ -77,7 +66,7 @@ fn with_piece(runs: &Runs, k: u32, piece: &Span, found: Option<Region>) -> Optio
 /// Between which times the signal of the node at place `k` is less than the best, though the runs of the node do not have it.
 pub(crate) fn region_of(
     alloc: Global,
-    runs: &Runs,
+    runs: &[Run],
     k: u32,
     best: bool,
     x: &Signal<Kleene>,
@@ -88,7 +77,12 @@ pub(crate) fn region_of(
     add_short(k, best, x, &mut pieces)?;
     let mut found = None;
     for j in 0..pieces.len() {
-        found = with_piece(runs, k, &pieces[j].on, found);
+        found = with_piece(runs, &pieces[j].on, found);
     }
     Ok(found)
+}
+
+/// Whether the piece touches the region.
+pub(crate) fn touches_region(piece: &Span, region: Region) -> bool {
+    piece.to.cmp(&region.from).is_ge() && piece.from.cmp(&region.to).is_le()
 }

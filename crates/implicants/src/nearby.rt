@@ -35,8 +35,8 @@ pub(crate) struct Pick {
     pub(crate) to: usize,
 }
 
-/// So many runs on either side of a place are picked.
-const MOST_PICKED: usize = 3;
+/// So many runs of a region are picked from either end on.
+const MOST_PICKED: usize = 32;
 
 /// Whether the value is certainly what `best` says.
 pub(crate) fn says(value: &Kleene, best: bool) -> bool
@@ -63,7 +63,7 @@ fn has_gap(on: &Span, from: &Frac, to: &Frac) -> bool
 }
 
 /// The run at a place.
-fn run_in(runs: &[Run], j: usize) -> Run
+pub(crate) fn run_in(runs: &[Run], j: usize) -> Run
     requires { j < length runs.now }
     ensures { slice_get runs.now j ≡ Some result }
 {
@@ -175,7 +175,7 @@ fn next_picked(pick: Pick, next: usize) -> usize
     if next < pick.dense {
         return next;
     }
-    let low = pick.low.saturating_sub(MOST_PICKED);
+    let low = pick.low.saturating_sub(1);
     if next < pick.low.saturating_add(MOST_PICKED) {
         return next.max(low);
     }
@@ -184,7 +184,7 @@ fn next_picked(pick: Pick, next: usize) -> usize
     if farther < high {
         return farther;
     }
-    if next < pick.high.saturating_add(MOST_PICKED) {
+    if next <= pick.high.saturating_add(1) {
         return next.max(high);
     }
     next.max(pick.to)

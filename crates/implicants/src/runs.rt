@@ -1,20 +1,20 @@
 //! Where nodes are less certain than is best, as runs of time.
-ghost use Rattle.std.specs.Prelude.{◌≡◌, ◌⊎◌, ◌||◌, ◌<◌, ◌≤◌, ◌+◌, List, length, IsTrue, IfOk, IfSome, OnOk};
+ghost use Rattle.std.specs.Prelude.{◌≡◌, ◌⊎◌, ◌||◌, ◌<◌, ◌≤◌, ◌++◌, ◌∷◌, List, [], length, IsTrue, IfOk, IfSome, OnOk};
 ghost use Rattle.rational.specs.Time.{Rational, IsIn};
 ghost use Rattle.frac128.specs.Spans.{interval};
 ghost use Rattle.stl_syntax.specs.Trace.{start as start_of, stop as stop_of};
 ghost use Rattle.stl_syntax.specs.declared.items.Item.{Item};
 ghost use Rattle.pl_signal.specs.declared.knot.Knot.{Knot};
 ghost use Rattle.offline_eval.specs.Making.{IsFit};
-ghost use Rattle.implicants.specs.Demands.{AreCertainties};
-ghost use Rattle.implicants.specs.Upward.{AddsOn, AddsRun, AddsShort, AreShort, IsOnOver};
+ghost use Rattle.implicants.specs.Needs.{AreCertainties, IsOff, IsOn};
+ghost use Rattle.implicants.specs.Upward.{AddsOn, AddsRun, AddsShort, AreAmong, AreShortEach, IsOnOver, PutsRun};
 
-use crate::demand::turned;
 use crate::needed::is_on;
 use crate::trace_ends::last;
 use frac128::{Frac, Memory, Span};
 use offline_eval::Evaluated;
 use pl_signal::Signal;
+use signal_ops::neg;
 use std::alloc::Global;
 use stl_syntax::Formula;
 use trace_reader::Trace;
@@ -27,11 +27,12 @@ pub(crate) struct Run {
     pub(crate) on: Span,
 }
 
-/// Such spans, one node after the other, and how many there are up to each node.
-#[derive(Drop)]
-pub(crate) struct Runs {
-    pub(crate) all: Vec<Run>,
-    pub(crate) ends: Vec<usize>,
+/// On only where the signal is less than certainly true.
+fn turned(x: &Signal<Kleene>) -> Result<Signal<Kleene>, Memory>
+    requires fit { IsFit ⟦<Kleene as Shape>⟧ x.now }
+    ensures { IfOk result (λ r. (t : Rational) → IsOn ⟦<Kleene as Shape>⟧ r t → IsOff ⟦<Kleene as Shape>⟧ x.now t) }
+{
+    neg(x)
 }
 
 /// Whether one of both is so.
@@ -168,62 +169,142 @@ pub(crate) fn add_short(
     add_on(of, x, runs)
 }
 
-/// Where each node is less than certainly what its sign says.
+/// Where a node is less than certainly what its sign says.
+pub(crate) fn own_runs(
+    alloc: Global,
+    of: u32,
+    best: bool,
+    x: &Signal<Kleene>,
+) -> Result<Vec<Run>, Memory>
+    requires fit { IsFit ⟦<Kleene as Shape>⟧ x.now }
+    ensures { IfOk result (λ r. AddsShort ⟦<Kleene as Shape>⟧ of best x.now [] r.items) }
+{
+    let mut runs = Vec::new(alloc);
+    add_short(of, best, x, &mut runs)?;
+    Ok(runs)
+}
+
+/// Puts a list behind the others.
+pub(crate) fn add_list(each: &mut Vec<Vec<Run>>, runs: Vec<Run>) -> Result<(), Memory>
+    ensures { OnOk result (each.new.items ≡ each.old.items ++ runs ∷ []) }
+{
+    if each.push(runs).is_err() {
+        return Err(Memory);
+    }
+    Ok(())
+}
+
+/// Where each node is less than certainly what its sign says, from the first time to the last.
 pub(crate) fn runs_of(
     alloc: Global,
     formula: &Formula,
     trace: &Trace,
     nodes: &Evaluated<Kleene>,
     signs: &[bool],
-) -> Result<Runs, Memory>
+) -> Result<Vec<Vec<Run>>, Memory>
     requires some { 0 < length trace.now.rows }
     requires told { (items : List Item) × AreCertainties ⟦<Kleene as Shape>⟧ formula.now.nodes trace.now items nodes.now }
     requires signs { length signs.now ≡ length formula.now.nodes }
-    ensures { IfOk result (λ r. AreShort ⟦<Kleene as Shape>⟧ signs.now nodes.now r.all.items) }
+    ensures count { IfOk result (λ r. length r.items ≡ length formula.now.nodes) }
+    ensures short { IfOk result (λ r. AreShortEach ⟦<Kleene as Shape>⟧ signs.now nodes.now r.items) }
 {
     // For the proof alone: that it is a trace, and where it ends, are clauses of these calls.
     let _ = (trace.rows(), last(trace));
-    let mut all = Vec::new(alloc);
-    let mut ends = Vec::new(alloc);
+    let mut all: Vec<Vec<Run>> = Vec::new(alloc);
     for k in 0..formula.len() {
-        add_short(k, signs[k as usize], nodes.signal(k), &mut all)?;
-        if ends.push(all.len()).is_err() {
-            return Err(Memory);
-        }
+        let own = own_runs(alloc, k, signs[k as usize], nodes.signal(k))?;
+        add_list(&mut all, own)?;
     }
-    Ok(Runs { all, ends })
+    Ok(all)
 }
 
-/// Where the runs of the node at place `k` begin.
-pub(crate) fn begin_of_runs(runs: &Runs, k: u32) -> usize {
-    let before = k.saturating_sub(1) as usize;
-    if k == 0 || before >= runs.ends.len() {
-        return 0;
-    }
-    runs.ends[before]
-}
-
-/// Where they end.
-pub(crate) fn end_of_runs(runs: &Runs, k: u32) -> usize
-    ensures { result ≤ length runs.now.all.items }
+/// The first run that does not end before a time.
+pub(crate) fn run_at(runs: &[Run], t: &Frac) -> usize
+    ensures { result ≤ length runs.now }
 {
-    if k as usize >= runs.ends.len() {
-        return 0;
-    }
-    runs.ends[k as usize].min(runs.all.len())
-}
-
-/// The first run of the node at place `k` that does not end before a time.
-pub(crate) fn run_at(runs: &Runs, k: u32, t: &Frac) -> usize {
-    let mut low = begin_of_runs(runs, k);
-    let mut high = end_of_runs(runs, k);
+    let mut low = 0;
+    let mut high = runs.len();
     while low < high {
         let middle = low + (high - low) / 2;
-        if runs.all[middle].on.to.cmp(t).is_lt() {
+        if runs[middle].on.to.cmp(t).is_lt() {
             low = middle + 1;
         } else {
             high = middle;
         }
     }
     low
+}
+
+/// Whether the span begins no later than the piece.
+pub(crate) fn has_begin(on: &Span, piece: &Span) -> bool {
+    on.from.cmp(&piece.from).is_lt()
+        || (on.from.cmp(&piece.from).is_eq() && (on.from_in || !piece.from_in))
+}
+
+/// Whether it ends no earlier.
+pub(crate) fn has_end(on: &Span, piece: &Span) -> bool {
+    piece.to.cmp(&on.to).is_lt() || (piece.to.cmp(&on.to).is_eq() && (on.to_in || !piece.to_in))
+}
+
+/// Whether the piece lies in the span.
+fn lies_in(piece: &Span, on: &Span) -> bool {
+    has_begin(on, piece) && has_end(on, piece)
+}
+
+/// Takes out the runs from a place on that lie in the run.
+fn take_out(at: usize, run: &Run, runs: &mut Vec<Run>)
+    ensures { AreAmong runs.new.items runs.old.items }
+{
+    while at < runs.len() {
+        if !lies_in(&runs[at].on, &run.on) {
+            return;
+        }
+        let _ = runs.remove(at);
+    }
+}
+
+/// Whether the run lies in one of the others, as far as these are in order.
+fn is_held(run: &Run, runs: &[Run]) -> bool {
+    let at = run_at(runs, &run.on.from);
+    at < runs.len() && lies_in(&run.on, &runs[at].on)
+}
+
+/// Where the run belongs among others.
+fn place_for(run: &Run, runs: &[Run]) -> usize
+    ensures { result ≤ length runs.now }
+{
+    let at = run_at(runs, &run.on.from);
+    if at < runs.len() && !has_begin(&run.on, &runs[at].on) {
+        return at + 1;
+    }
+    at
+}
+
+/// Whether there is one at the place, which lies in the run.
+fn is_covered(run: &Run, runs: &[Run], at: usize) -> bool
+    ensures { IsTrue result → at < length runs.now }
+{
+    if at >= runs.len() {
+        return false;
+    }
+    lies_in(&runs[at].on, &run.on)
+}
+
+/// Puts a run where it belongs, in place of those that lie in it.
+pub(crate) fn put_run(run: Run, runs: &mut Vec<Run>) -> Result<(), Memory>
+    ensures { OnOk result (PutsRun run runs.old.items runs.new.items) }
+{
+    if is_held(&run, runs) {
+        return Ok(());
+    }
+    let at = place_for(&run, runs);
+    if is_covered(&run, runs, at) {
+        runs[at] = run;
+        take_out(at + 1, &run, runs);
+        return Ok(());
+    }
+    match runs.insert(at, run) {
+        Ok(()) => Ok(()),
+        Err(_) => Err(Memory),
+    }
 }

@@ -1,6 +1,6 @@
 //! Cells that are tried from their atom up: what is lost without the cell is taken on from node to node, by signals of few knots that
 //! are no less certain than the node.
-ghost use Rattle.std.specs.Prelude.{◌≡◌, ◌⊎◌, ◌<◌, ◌≤◌, ◌++◌, ◌∷◌, [], ℕ, Bool, true, false, List, Some, length, slice_get, IsTrue, IfOk, IfSome, OnOk};
+ghost use Rattle.std.specs.Prelude.{◌≡◌, ◌⊎◌, ◌<◌, ◌≤◌, ◌+◌, ◌++◌, ◌∷◌, [], ℕ, Bool, true, false, List, Some, length, slice_get, IsTrue, IfOk, IfSome, OnOk};
 ghost use Rattle.rational.specs.Time.{Rational, ◌≈◌};
 ghost use Rattle.pl_signal.specs.Knots.{start};
 ghost use Rattle.pl_signal.specs.declared.knot.Knot.{Knot};
@@ -12,20 +12,22 @@ ghost use Rattle.stl_syntax.specs.declared.node.Node.TheVariants.{Atom as Leaf};
 ghost use Rattle.offline_eval.specs.Making.{IsFit};
 ghost use Rattle.implicants.specs.Runs.{AreAllCells};
 ghost use Rattle.implicants.specs.Keeping.{remaining};
-ghost use Rattle.implicants.specs.Demands.{AreCertainties, AreToldOfMore, IsAlong, IsNeeded, IsOn, MarksNeeded};
+ghost use Rattle.implicants.specs.Needs.{AreToldOfMore, IsAlong, IsNeeded, IsOn, MarksNeeded};
 ghost use Rattle.implicants.specs.Signs.{sign_at, AreSigns};
-ghost use Rattle.implicants.specs.Upward.{AreLost, AreOperands, AreShort, AreWhole, HasBest, HasBestIn, IsBestOf, IsGround, IsWhole, PutsNeeded};
+ghost use Rattle.implicants.specs.Upward.{AddsShort, AreLost, AreLostEach, AreLostFrom, AreOperands, AreWhole, HasBest, HasBestIn, IsBestOf};
+ghost use Rattle.std.specs.declared.vec.Vec.{Vec};
+ghost use Rattle.std.specs.declared.alloc.Global.{Global};
+ghost use Rattle.implicants.specs.Upward.{IsGround, IsWhole, PutsNeeded, Settles, SettlesRun};
 
 use crate::cells::Cells;
-use crate::choosing::cell_at;
-use crate::gone::{gone_near, near_cells};
-use crate::lost::{Region, region_of};
-use crate::nearby::{Pick, View, few};
+use crate::gone::{Places, cell_at, gone_among, runs_of_cells};
+use crate::lost::{Region, region_of, touches_region};
+use crate::nearby::{Pick, View, few, run_in};
 use crate::needed::is_on;
-use crate::runs::{Run, Runs, begin_of_runs, end_of_runs, run_at, runs_of};
+use crate::runs::{Run, own_runs, put_run, run_at, runs_of};
 use crate::signs::signs_of;
 use crate::trace_ends::{first, last};
-use frac128::Memory;
+use frac128::{Frac, Memory};
 use offline_eval::{Evaluated, of_node};
 use pl_signal::{OpFault, Signal};
 use signal_ops::{lower, upper};
@@ -34,25 +36,44 @@ use stl_syntax::{Formula, Node};
 use trace_reader::Trace;
 use value_laws::{Kleene, Shape};
 
-/// What is the same for all cells that are tried: where nodes are less certain than is best, the signs of the nodes, the place above
-/// each, and how far from a cell is near.
+/// What is the same for all cells that are tried: the signs of the nodes, and the place above each.
 #[derive(Drop)]
 struct Ground {
-    runs: Runs,
     signs: Vec<bool>,
     above: Vec<u32>,
-    reach: u32,
 }
 
-/// The runs of the node at place `k` about a region, and the first ones.
-fn pick_at(runs: &Runs, k: u32, region: Region) -> Pick {
-    let from = begin_of_runs(runs, k);
+/// The region with so many ticks on either side.
+fn widened(region: Region, look: u32) -> Region {
+    if look == 0 {
+        return region;
+    }
+    let from = region.from.whole().saturating_sub(i64::from(look));
+    let to = region
+        .to
+        .whole()
+        .saturating_add(i64::from(look))
+        .saturating_add(1);
+    Region {
+        from: Frac::of(from),
+        to: Frac::of(to),
+    }
+}
+
+/// So many runs beside a region are picked for a node that looks far.
+const MOST_BESIDE: usize = 16;
+
+/// The runs about a region and so many ticks on either side, and the first ones.
+fn pick_at(runs: &[Run], region: Region, look: u32) -> Pick {
+    let low = run_at(runs, &region.from);
+    let high = run_at(runs, &region.to);
+    let wide = widened(region, look);
     Pick {
-        from,
-        dense: from.saturating_add(2),
-        low: run_at(runs, k, &region.from),
-        high: run_at(runs, k, &region.to),
-        to: end_of_runs(runs, k),
+        from: 0,
+        dense: 2,
+        low: run_at(runs, &wide.from).max(low.saturating_sub(MOST_BESIDE)),
+        high: run_at(runs, &wide.to).min(high.saturating_add(MOST_BESIDE)),
+        to: runs.len(),
     }
 }
 
@@ -86,21 +107,23 @@ fn own_at(
     alloc: Global,
     trace: &Trace,
     ground: &Ground,
+    runs: &[Run],
     k: u32,
     region: Region,
+    look: u32,
 ) -> Result<Signal<Kleene>, Memory>
     requires some { 0 < length trace.now.rows }
     requires inside { k < length ground.now.signs.items }
     ensures whole { IfOk result (IsWhole ⟦<Kleene as Shape>⟧ trace.now) }
     ensures best { IfOk result (λ x. (nodes : List ANode) (all : List Item) (marks : List Bool) (c : ℕ)
-        → AreLost nodes trace.now all marks c ground.now.signs.items ground.now.runs.all.items
+        → AreLost nodes trace.now all marks c ground.now.signs.items runs.now
         → HasBest ⟦<Kleene as Shape>⟧ nodes trace.now all marks c ground.now.signs.items k x) }
 {
     // For the proof alone: where the trace ends.
     let _ = last(trace);
     let view = view_at(trace, ground, k);
-    let pick = pick_at(&ground.runs, k, region);
-    few(alloc, &ground.runs.all, view, pick)
+    let pick = pick_at(runs, region, look);
+    few(alloc, runs, view, pick)
 }
 
 /// The least of two signals.
@@ -148,37 +171,90 @@ fn best_of(
     greatest_of(x, y)
 }
 
+/// Adds the run where it touches the region.
+fn add_touching(run: Run, region: Region, gained: &mut Vec<Run>) -> Result<(), Memory>
+    ensures { OnOk result ((gained.new.items ≡ gained.old.items) ⊎ (gained.new.items ≡ gained.old.items ++ run ∷ [])) }
+{
+    if !touches_region(&run.on, region) {
+        return Ok(());
+    }
+    if gained.push(run).is_err() {
+        return Err(Memory);
+    }
+    Ok(())
+}
+
+/// Adds the runs about a region in which a signal of the node at place `k` is less than the best.
+fn add_gained(
+    alloc: Global,
+    k: u32,
+    best: bool,
+    x: &Signal<Kleene>,
+    region: Region,
+    gained: &mut Vec<Run>,
+) -> Result<(), Memory>
+    requires fit { IsFit ⟦<Kleene as Shape>⟧ x.now }
+    ensures { OnOk result (AddsShort ⟦<Kleene as Shape>⟧ k best x.now gained.old.items gained.new.items) }
+{
+    let pieces = own_runs(alloc, k, best, x)?;
+    for j in 0..pieces.len() {
+        let run = run_in(&pieces, j);
+        add_touching(run, region, gained)?;
+    }
+    Ok(())
+}
+
+/// The runs of the node at place `k`.
+fn runs_in(runs: &[Vec<Run>], k: u32) -> &[Run]
+    requires { k < length runs.now }
+    ensures { (v : Vec Run Global) × (slice_get runs.now k ≡ Some v) × (result.now ≡ v.items) }
+{
+    &runs[k as usize]
+}
+
 /// Puts the signal of the node at place `k`, by one of it that is known already; between which times it loses by that one.
 fn put_lost(
     alloc: Global,
+    formula: &Formula,
     trace: &Trace,
     ground: &Ground,
+    runs: &[Vec<Run>],
     k: u32,
     made: &Signal<Kleene>,
     done: &mut Vec<Signal<Kleene>>,
+    gained: &mut Vec<Run>,
 ) -> Result<Option<Region>, Memory>
     requires some { 0 < length trace.now.rows }
     requires inside { k < length ground.now.signs.items }
     requires place { k < length done.old.items }
+    requires runs { k < length runs.now }
     requires made { IsWhole ⟦<Kleene as Shape>⟧ trace.now made.now }
     requires whole { AreWhole ⟦<Kleene as Shape>⟧ trace.now done.old.items }
     ensures count { length done.new.items ≡ length done.old.items }
     ensures whole { AreWhole ⟦<Kleene as Shape>⟧ trace.now done.new.items }
     ensures best { IfOk result (λ o. IfSome o (λ _. (nodes : List ANode) (all : List Item) (marks : List Bool) (c : ℕ)
-        → AreLost nodes trace.now all marks c ground.now.signs.items ground.now.runs.all.items
+        → AreLostEach nodes trace.now all marks c ground.now.signs.items runs.now
         → HasBest ⟦<Kleene as Shape>⟧ nodes trace.now all marks c ground.now.signs.items k made.now
         → HasBestIn ⟦<Kleene as Shape>⟧ nodes trace.now all marks c ground.now.signs.items k done.new.items)) }
+    ensures gained { OnOk result ((nodes : List ANode) (all : List Item) (marks : List Bool) (c : ℕ)
+        → AreLostEach nodes trace.now all marks c ground.now.signs.items runs.now
+        → HasBest ⟦<Kleene as Shape>⟧ nodes trace.now all marks c ground.now.signs.items k made.now
+        → AreLost nodes trace.now all marks c ground.now.signs.items gained.old.items
+        → AreLost nodes trace.now all marks c ground.now.signs.items gained.new.items) }
 {
     // For the proof alone: where the trace ends.
     let _ = last(trace);
     let best = sign_of(ground, k);
-    let Some(region) = region_of(alloc, &ground.runs, k, best, made)? else {
+    let here = runs_in(runs, k);
+    let Some(region) = region_of(alloc, here, k, best, made)? else {
         return Ok(None);
     };
-    let own = own_at(alloc, trace, ground, k, region)?;
+    let look = look_at(formula, above_at(ground, k));
+    let own = own_at(alloc, trace, ground, here, k, region, look)?;
     let Some(both) = best_of(best, made, &own)? else {
         return Ok(None);
     };
+    add_gained(alloc, k, best, &both, region, gained)?;
     done[k as usize] = both;
     Ok(Some(region))
 }
@@ -242,19 +318,22 @@ fn put_other(
     alloc: Global,
     trace: &Trace,
     ground: &Ground,
+    runs: &[Vec<Run>],
     other: Option<u32>,
     region: Region,
+    look: u32,
     done: &mut Vec<Signal<Kleene>>,
 ) -> Result<(), Memory>
     requires some { 0 < length trace.now.rows }
     requires signs { length ground.now.signs.items ≡ length done.old.items }
+    requires runs { length runs.now ≡ length done.old.items }
     requires whole { AreWhole ⟦<Kleene as Shape>⟧ trace.now done.old.items }
     ensures count { length done.new.items ≡ length done.old.items }
     ensures whole { AreWhole ⟦<Kleene as Shape>⟧ trace.now done.new.items }
     ensures stay { (i : ℕ) (x : List (Knot Kleene)) → slice_get done.new.items i ≡ Some x → (slice_get done.old.items i ≡ Some x)
         ⊎ (other ≡ Some i) }
     ensures best { OnOk result ((i : ℕ) → other ≡ Some i → i < length done.old.items → (nodes : List ANode) (all : List Item) (marks : List Bool) (c : ℕ)
-        → AreLost nodes trace.now all marks c ground.now.signs.items ground.now.runs.all.items
+        → AreLostEach nodes trace.now all marks c ground.now.signs.items runs.now
         → HasBestIn ⟦<Kleene as Shape>⟧ nodes trace.now all marks c ground.now.signs.items i done.new.items) }
 {
     let Some(i) = other else {
@@ -263,7 +342,7 @@ fn put_other(
     if i as usize >= done.len() {
         return Ok(());
     }
-    let signal = own_at(alloc, trace, ground, i, region)?;
+    let signal = own_at(alloc, trace, ground, runs_in(runs, i), i, region, look)?;
     done[i as usize] = signal;
     Ok(())
 }
@@ -274,22 +353,30 @@ fn taken_on(
     formula: &Formula,
     trace: &Trace,
     ground: &Ground,
+    runs: &[Vec<Run>],
     k: u32,
     j: u32,
     region: Region,
     done: &mut Vec<Signal<Kleene>>,
+    gained: &mut Vec<Run>,
 ) -> Result<Option<Region>, Memory>
     requires some { 0 < length trace.now.rows }
     requires inside { j < length formula.now.nodes }
     requires signs { length ground.now.signs.items ≡ length formula.now.nodes }
+    requires runs { length runs.now ≡ length formula.now.nodes }
     requires count { length done.old.items ≡ length formula.now.nodes }
     requires whole { AreWhole ⟦<Kleene as Shape>⟧ trace.now done.old.items }
     ensures count { length done.new.items ≡ length done.old.items }
     ensures whole { AreWhole ⟦<Kleene as Shape>⟧ trace.now done.new.items }
     ensures best { IfOk result (λ o. IfSome o (λ _. (all : List Item) (marks : List Bool) (c : ℕ)
-        → IsGround formula.now.nodes trace.now all marks c ground.now.signs.items ground.now.runs.all.items
+        → IsGround formula.now.nodes trace.now all marks c ground.now.signs.items runs.now
         → HasBestIn ⟦<Kleene as Shape>⟧ formula.now.nodes trace.now all marks c ground.now.signs.items k done.old.items
         → HasBestIn ⟦<Kleene as Shape>⟧ formula.now.nodes trace.now all marks c ground.now.signs.items j done.new.items)) }
+    ensures gained { OnOk result ((all : List Item) (marks : List Bool) (c : ℕ)
+        → IsGround formula.now.nodes trace.now all marks c ground.now.signs.items runs.now
+        → HasBestIn ⟦<Kleene as Shape>⟧ formula.now.nodes trace.now all marks c ground.now.signs.items k done.old.items
+        → AreLost formula.now.nodes trace.now all marks c ground.now.signs.items gained.old.items
+        → AreLost formula.now.nodes trace.now all marks c ground.now.signs.items gained.new.items) }
 {
     // For the proof alone: that the formula is well formed.
     let _ = formula.len();
@@ -300,7 +387,8 @@ fn taken_on(
     if !beside.is_operand {
         return Ok(None);
     }
-    put_other(alloc, trace, ground, beside.other, region, done)?;
+    let look = look_of(node);
+    put_other(alloc, trace, ground, runs, beside.other, region, look, done)?;
     let made = match of_node(alloc, from, to, node, done) {
         Ok(made) => made,
         Err(OpFault::Memory) => return Err(Memory),
@@ -308,7 +396,7 @@ fn taken_on(
     };
     // For the proof alone: that it is a signal is a clause of `len`.
     let _ = made.len();
-    put_lost(alloc, trace, ground, j, &made, done)
+    put_lost(alloc, formula, trace, ground, runs, j, &made, done, gained)
 }
 
 /// Whether the signal is less than certainly false at its first time.
@@ -334,21 +422,29 @@ fn loses_root(
     formula: &Formula,
     trace: &Trace,
     ground: &Ground,
+    runs: &[Vec<Run>],
     from: u32,
     begun: Region,
     done: &mut Vec<Signal<Kleene>>,
+    gained: &mut Vec<Run>,
 ) -> Result<bool, Memory>
     requires some { 0 < length trace.now.rows }
     requires inside { from < length formula.now.nodes }
     requires signs { length ground.now.signs.items ≡ length formula.now.nodes }
+    requires runs { length runs.now ≡ length formula.now.nodes }
     requires count { length done.old.items ≡ length formula.now.nodes }
     requires whole { AreWhole ⟦<Kleene as Shape>⟧ trace.now done.old.items }
     ensures count { length done.new.items ≡ length done.old.items }
     ensures whole { AreWhole ⟦<Kleene as Shape>⟧ trace.now done.new.items }
     ensures needed { IfOk result (λ b. IsTrue b → (all : List Item) (marks : List Bool) (c : ℕ)
-        → IsGround formula.now.nodes trace.now all marks c ground.now.signs.items ground.now.runs.all.items
+        → IsGround formula.now.nodes trace.now all marks c ground.now.signs.items runs.now
         → HasBestIn ⟦<Kleene as Shape>⟧ formula.now.nodes trace.now all marks c ground.now.signs.items from done.old.items
         → IsNeeded formula.now.nodes trace.now all marks c) }
+    ensures gained { OnOk result ((all : List Item) (marks : List Bool) (c : ℕ)
+        → IsGround formula.now.nodes trace.now all marks c ground.now.signs.items runs.now
+        → HasBestIn ⟦<Kleene as Shape>⟧ formula.now.nodes trace.now all marks c ground.now.signs.items from done.old.items
+        → AreLost formula.now.nodes trace.now all marks c ground.now.signs.items gained.old.items
+        → AreLost formula.now.nodes trace.now all marks c ground.now.signs.items gained.new.items) }
 {
     // For the proof alone: where the trace ends.
     let _ = last(trace);
@@ -360,7 +456,10 @@ fn loses_root(
         if !is_between(j, k, top) {
             return Ok(false);
         }
-        let Some(next) = taken_on(alloc, formula, trace, ground, k, j, region, done)? else {
+        let Some(next) = taken_on(
+            alloc, formula, trace, ground, runs, k, j, region, done, gained,
+        )?
+        else {
             return Ok(false);
         };
         region = next;
@@ -481,21 +580,26 @@ fn is_needed(
     trace: &Trace,
     cells: &Cells,
     ground: &Ground,
+    runs: &[Vec<Run>],
     marks: &[bool],
     c: usize,
     done: &mut Vec<Signal<Kleene>>,
+    gained: &mut Vec<Run>,
 ) -> Result<bool, Memory>
     requires some { 0 < length trace.now.rows }
     requires cells { AreAllCells formula.now.nodes trace.now cells.now.all.items cells.now.ends.items }
     requires inside { c < length cells.now.all.items }
     requires marks { length marks.now ≡ length cells.now.all.items }
     requires signs { AreSigns formula.now.nodes ground.now.signs.items }
-    requires lost { AreLost formula.now.nodes trace.now cells.now.all.items marks.now c ground.now.signs.items ground.now.runs.all.items }
+    requires runs { length runs.now ≡ length formula.now.nodes }
+    requires lost { AreLostEach formula.now.nodes trace.now cells.now.all.items marks.now c ground.now.signs.items runs.now }
+    requires gained { AreLost formula.now.nodes trace.now cells.now.all.items marks.now c ground.now.signs.items gained.old.items }
     requires count { length done.old.items ≡ length formula.now.nodes }
     requires whole { AreWhole ⟦<Kleene as Shape>⟧ trace.now done.old.items }
     ensures count { length done.new.items ≡ length done.old.items }
     ensures whole { AreWhole ⟦<Kleene as Shape>⟧ trace.now done.new.items }
     ensures needed { IfOk result (λ b. IsTrue b → IsNeeded formula.now.nodes trace.now cells.now.all.items marks.now c) }
+    ensures gained { OnOk result (AreLost formula.now.nodes trace.now cells.now.all.items marks.now c ground.now.signs.items gained.new.items) }
 {
     let cell = cell_at(cells, c);
     let i = cell.node;
@@ -505,16 +609,47 @@ fn is_needed(
     // For the proof alone: where the trace ends.
     let _ = last(trace);
     let view = view_at(trace, ground, i);
-    let near = near_cells(cells, i, &cell.on, ground.reach);
-    let gone = gone_near(alloc, cells, marks, i, view.best, c, near)?;
+    let gone = gone_among(
+        alloc,
+        cells,
+        marks,
+        i,
+        view.best,
+        c,
+        Places { from: c, to: c + 1 },
+    )?;
     let made = few(alloc, &gone, view, all_of(&gone))?;
-    let Some(region) = put_lost(alloc, trace, ground, i, &made, done)? else {
+    let Some(region) = put_lost(alloc, formula, trace, ground, runs, i, &made, done, gained)? else {
         return Ok(false);
     };
-    loses_root(alloc, formula, trace, ground, i, region, done)
+    loses_root(alloc, formula, trace, ground, runs, i, region, done, gained)
 }
 
-/// Marks the cell at place `c` where the root is lost without it.
+/// Puts a run to those of its node.
+fn settle_run(run: Run, runs: &mut Vec<Vec<Run>>) -> Result<(), Memory>
+    ensures count { length runs.new.items ≡ length runs.old.items }
+    ensures settles { OnOk result (SettlesRun run runs.old.items runs.new.items) }
+{
+    let k = run.of as usize;
+    if k >= runs.len() {
+        return Ok(());
+    }
+    put_run(run, &mut runs[k])
+}
+
+/// Puts runs to those of their nodes.
+fn settle(gained: &[Run], runs: &mut Vec<Vec<Run>>) -> Result<(), Memory>
+    ensures count { length runs.new.items ≡ length runs.old.items }
+    ensures settles { OnOk result (Settles gained.now runs.old.items runs.new.items) }
+{
+    for j in 0..gained.len() {
+        let run = run_in(gained, j);
+        settle_run(run, runs)?;
+    }
+    Ok(())
+}
+
+/// Marks the cell at place `c` where the root is lost without it; else puts what is lost.
 fn mark_lost(
     alloc: Global,
     formula: &Formula,
@@ -522,6 +657,7 @@ fn mark_lost(
     cells: &Cells,
     ground: &Ground,
     c: usize,
+    runs: &mut Vec<Vec<Run>>,
     done: &mut Vec<Signal<Kleene>>,
     marks: &mut Vec<bool>,
 ) -> Result<(), Memory>
@@ -530,89 +666,76 @@ fn mark_lost(
     requires inside { c < length cells.now.all.items }
     requires marks { length marks.old.items ≡ length cells.now.all.items }
     requires signs { AreSigns formula.now.nodes ground.now.signs.items }
-    requires lost { AreLost formula.now.nodes trace.now cells.now.all.items marks.old.items c ground.now.signs.items ground.now.runs.all.items }
+    requires runs { length runs.old.items ≡ length formula.now.nodes }
+    requires lost { AreLostFrom formula.now.nodes trace.now cells.now.all.items marks.old.items (c + 1) ground.now.signs.items runs.old.items }
     requires count { length done.old.items ≡ length formula.now.nodes }
     requires whole { AreWhole ⟦<Kleene as Shape>⟧ trace.now done.old.items }
     ensures count { length done.new.items ≡ length done.old.items }
     ensures whole { AreWhole ⟦<Kleene as Shape>⟧ trace.now done.new.items }
+    ensures runs { length runs.new.items ≡ length runs.old.items }
+    ensures lost { OnOk result
+        (AreLostFrom formula.now.nodes trace.now cells.now.all.items marks.new.items c ground.now.signs.items runs.new.items) }
     ensures put { OnOk result (PutsNeeded formula.now.nodes trace.now cells.now.all.items c marks.old.items marks.new.items) }
 {
-    let needed = is_needed(alloc, formula, trace, cells, ground, marks, c, done)?;
+    if marks[c] {
+        return Ok(());
+    }
+    let mut gained = Vec::new(alloc);
+    let needed = is_needed(
+        alloc,
+        formula,
+        trace,
+        cells,
+        ground,
+        runs,
+        marks,
+        c,
+        done,
+        &mut gained,
+    )?;
     if needed {
         marks[c] = true;
         return Ok(());
     }
-    Ok(())
+    settle(&gained, runs)
 }
 
-/// How far ahead or behind the node looks.
+/// How far ahead or behind a node looks of which both operands count far away.
 fn look_of(node: &Node) -> u32 {
     match node {
-        Node::Const(_)
-        | Node::Atom(_)
-        | Node::Not(_)
-        | Node::And(..)
-        | Node::Or(..)
-        | Node::Implies(..) => 0,
-        Node::Until { high, .. } | Node::Eventually { high, .. } | Node::Always { high, .. } => {
-            *high
-        }
-        Node::Since { low, high, .. }
-        | Node::Once { low, high, .. }
-        | Node::Historically { low, high, .. } => high.unwrap_or(*low),
+        Node::Until { high, .. } => *high,
+        Node::Since { low, high, .. } => high.unwrap_or(*low),
+        _ => 0,
     }
 }
 
-/// How many ticks away from a cell is near: as far as the nodes look together, but for those that look over much of the trace.
-fn reach_of(formula: &Formula, trace: &Trace) -> u32
-    requires { 0 < length trace.now.rows }
-{
-    // For the proof alone: that it is a trace is a clause of `rows`.
-    let _ = trace.rows();
-    let far = last(trace).saturating_sub(first(trace)) / 16;
-    let mut reach: u32 = 0;
-    for j in 0..formula.len() {
-        let look = look_of(formula.node(j));
-        reach = reach.saturating_add(if look <= far { look } else { 0 });
+/// The same of the node at a place.
+fn look_at(formula: &Formula, j: u32) -> u32 {
+    if j >= formula.len() {
+        return 0;
     }
-    reach
+    look_of(formula.node(j))
 }
 
-/// The ground, by the signals of what is certain of each node; none where signs do not fit.
-fn ground_of(
-    alloc: Global,
-    formula: &Formula,
-    trace: &Trace,
-    nodes: &Evaluated<Kleene>,
-) -> Result<Option<Ground>, Memory>
-    requires some { 0 < length trace.now.rows }
-    requires told { (items : List Item) × AreCertainties ⟦<Kleene as Shape>⟧ formula.now.nodes trace.now items nodes.now }
-    ensures signs { IfOk result (λ o. IfSome o (λ g. AreSigns formula.now.nodes g.signs.items)) }
-    ensures short { IfOk result (λ o. IfSome o (λ g. AreShort ⟦<Kleene as Shape>⟧ g.signs.items nodes.now g.runs.all.items)) }
+/// The ground; none where signs do not fit.
+fn ground_of(alloc: Global, formula: &Formula) -> Result<Option<Ground>, Memory>
+    ensures { IfOk result (λ o. IfSome o (λ g. AreSigns formula.now.nodes g.signs.items)) }
 {
     let Some(signs) = signs_of(alloc, formula)? else {
         return Ok(None);
     };
-    let runs = runs_of(alloc, formula, trace, nodes, &signs)?;
     let above = places_above(alloc, formula)?;
-    let reach = reach_of(formula, trace);
-    Ok(Some(Ground {
-        runs,
-        signs,
-        above,
-        reach,
-    }))
+    Ok(Some(Ground { signs, above }))
 }
 
-/// Marks cells at `tries` places before `left` without which the root is lost, from the last to the first.
-///
-/// `nodes` are the signals of what is certain by cells that cover no less than those that stay.
-pub(crate) fn mark_upward(
+/// Marks cells at `tries` places before `left` without which the root is lost, from the last to the first, where so much is lost already.
+fn mark_from(
     alloc: Global,
     formula: &Formula,
     trace: &Trace,
     cells: &Cells,
-    nodes: &Evaluated<Kleene>,
+    ground: &Ground,
+    mut runs: Vec<Vec<Run>>,
     left: usize,
     tries: usize,
     marks: &mut Vec<bool>,
@@ -621,20 +744,63 @@ pub(crate) fn mark_upward(
     requires cells { AreAllCells formula.now.nodes trace.now cells.now.all.items cells.now.ends.items }
     requires left { left ≤ length cells.now.all.items }
     requires marks { length marks.old.items ≡ length cells.now.all.items }
-    requires told { AreToldOfMore ⟦<Kleene as Shape>⟧ formula.now.nodes trace.now (remaining left marks.old.items cells.now.all.items) nodes.now }
+    requires signs { AreSigns formula.now.nodes ground.now.signs.items }
+    requires runs { length runs.items ≡ length formula.now.nodes }
+    requires lost { AreLostFrom formula.now.nodes trace.now cells.now.all.items marks.old.items left ground.now.signs.items runs.items }
     ensures count { OnOk result (length marks.new.items ≡ length marks.old.items) }
     ensures needed { OnOk result
         (MarksNeeded formula.now.nodes trace.now cells.now.all.items left marks.old.items marks.new.items) }
 {
-    let Some(ground) = ground_of(alloc, formula, trace, nodes)? else {
-        return Ok(());
-    };
     let mut done = blank(alloc, formula, trace)?;
     let to = left.saturating_sub(tries);
     let mut c = left;
     while c > to {
         c -= 1;
-        mark_lost(alloc, formula, trace, cells, &ground, c, &mut done, marks)?;
+        mark_lost(
+            alloc, formula, trace, cells, ground, c, &mut runs, &mut done, marks,
+        )?;
     }
     Ok(())
+}
+
+/// Marks cells at `tries` places before `left` that are needed.
+///
+/// `nodes` are the signals of what is certain by cells that cover no less than those that stay, where they are at hand.
+pub(crate) fn mark_upward(
+    alloc: Global,
+    formula: &Formula,
+    trace: &Trace,
+    cells: &Cells,
+    nodes: &Option<Evaluated<Kleene>>,
+    left: usize,
+    tries: usize,
+    marks: &mut Vec<bool>,
+) -> Result<(), Memory>
+    requires some { 0 < length trace.now.rows }
+    requires cells { AreAllCells formula.now.nodes trace.now cells.now.all.items cells.now.ends.items }
+    requires left { left ≤ length cells.now.all.items }
+    requires marks { length marks.old.items ≡ length cells.now.all.items }
+    requires told { IfSome nodes.now (AreToldOfMore ⟦<Kleene as Shape>⟧ formula.now.nodes trace.now
+        (remaining left marks.old.items cells.now.all.items)) }
+    ensures count { OnOk result (length marks.new.items ≡ length marks.old.items) }
+    ensures needed { OnOk result
+        (MarksNeeded formula.now.nodes trace.now cells.now.all.items left marks.old.items marks.new.items) }
+{
+    let Some(ground) = ground_of(alloc, formula)? else {
+        return Ok(());
+    };
+    match nodes {
+        Some(nodes) => {
+            let runs = runs_of(alloc, formula, trace, nodes, &ground.signs)?;
+            mark_from(
+                alloc, formula, trace, cells, &ground, runs, left, tries, marks,
+            )
+        }
+        None => {
+            let runs = runs_of_cells(alloc, formula, trace, cells, marks, &ground.signs)?;
+            mark_from(
+                alloc, formula, trace, cells, &ground, runs, left, tries, marks,
+            )
+        }
+    }
 }

@@ -1,5 +1,5 @@
 use Rattle.std.proofs.Common.{◌≡◌, ◌-◌, ◌≤◌, length}
-use Rattle.implicants.specs.Demands.{passed}
+use Rattle.implicants.specs.Needs.{passed}
 use Rattle.implicants.proofs.keeping.pass_over.Given as goal
 
 abbrev pub invariant-loop-c : goal.invariant-loop-c

@@ -2,7 +2,10 @@ use Rattle.std.proofs.Common.{◌-◌, ◌≤◌, length}
 use Rattle.implicants.proofs.runs.run_at.Given as goal
 
 abbrev pub invariant-loop-low : goal.invariant-loop-low
-invariant-loop-low l = record { within : l.high ≤ length l.runs.all.items }
+invariant-loop-low l = record {
+  order : l.low ≤ l.high;
+  within : l.high ≤ length l.runs;
+}
 
 abbrev pub decreases-loop-low : goal.decreases-loop-low
 decreases-loop-low l = l.high - l.low

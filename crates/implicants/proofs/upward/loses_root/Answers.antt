@@ -15,6 +15,7 @@ loop-k-init c = record {
   count = c.requires.count;
   whole = c.requires.whole;
   best = λ all marks i ground before. before;
+  gained = λ all marks i ground before old. old;
 }
 
 pub taken_on-requires-clause-inside : goal.taken_on-requires-clause-inside
@@ -43,10 +44,12 @@ loop-k-preserved c =
       count = c.taken_on.ensures.count ∙ c.loop-k.invariant.count;
       whole = c.taken_on.ensures.whole;
       best = λ all marks i ground before. (subst (λ o. IfSome o (λ r. (all : List Item) (marks : List Bool) (i : ℕ)
-          → IsGround nodes tr all marks i signs c.args.ground.now.runs.all.items
+          → IsGround nodes tr all marks i signs c.args.runs.now
           → HasBestIn kleene_shape nodes tr all marks i signs c.loop-k.k c.loop-k.done.items
           → HasBestIn kleene_shape nodes tr all marks i signs c.above_at-j.result c.taken_on.new.done.items)) c.in-Some.is c.in_ok-next.ensures.best)
           all marks i ground (c.loop-k.invariant.best all marks i ground before);
+      gained = λ all marks i ground before old. c.in_ok-next.ensures.gained all marks i ground (c.loop-k.invariant.best all marks i ground before)
+          (c.loop-k.invariant.gained all marks i ground before old);
     }
 
 pub returns-clause-needed : goal.returns-clause-needed
@@ -66,3 +69,10 @@ returns-clause-needed c h all marks i ground before =
     root_needed nodes tr all marks i c.args.ground.now.signs.items xs x ground.signed (subst (λ k. slice_get xs k ≡ Some x) top at)
     (c.begins_short.ensures h (start tr) (same_sym begins))
     (subst (λ k. HasBestIn kleene_shape nodes tr all marks i c.args.ground.now.signs.items k xs) top (c.loop-k.invariant.best all marks i ground before))
+
+pub returns-clause-gained : goal.returns-clause-gained
+returns-clause-gained c = c.loop-k.invariant.gained
+
+pub returns-in_default-clause-gained : goal.returns-in_default-clause-gained
+returns-in_default-clause-gained c = λ all marks i ground before old. c.in_ok-next.ensures.gained all marks i ground
+    (c.loop-k.invariant.best all marks i ground before) (c.loop-k.invariant.gained all marks i ground before old)

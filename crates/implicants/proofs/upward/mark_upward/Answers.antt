@@ -1,78 +1,67 @@
-use Rattle.std.proofs.Common.{◌≡◌, ◌-◌, suc, refl, subst, arith, ◌∙◌}
+use Rattle.std.proofs.Common.{◌∙◌, ap, length, subst}
 use Rattle.std.specs.Prelude.{IfSome}
 use Rattle.value_laws.specs.Kinds.{kleene_shape}
+use Rattle.implicants.specs.Keeping.{remaining}
+use Rattle.implicants.specs.Needs.{AreToldOfMore}
 use Rattle.implicants.specs.Signs.{AreSigns}
-use Rattle.implicants.specs.Upward.{AreShort}
-use Rattle.implicants.proofs.Needing.{PutsBefore, no_more_needed}
-use Rattle.implicants.proofs.Losing.{PutsFrom, new_before, puts_from_none, puts_from_more, puts_from_all, puts_count, short_lost}
+use Rattle.implicants.specs.Upward.{AreLostEach, AreShortEach}
+use Rattle.implicants.proofs.Gaining.{lost_of_all, lost_told}
+use Rattle.implicants.proofs.Needing.{no_more_needed}
 use Rattle.implicants.proofs.upward.mark_upward.Goals as goal
-
-pub loop-c-init : goal.loop-c-init
-loop-c-init c = record {
-  within = omega arith;
-  count = refl;
-  put = puts_from_none c.args.formula.now.nodes c.args.trace.now c.args.cells.now.all.items c.args.left c.args.marks.now.items;
-  signals = c.in_ok-done.ensures.count;
-  whole = c.in_ok-done.ensures.whole;
-}
-
-pub loop-c-preserved : goal.loop-c-preserved
-loop-c-preserved c =
-    let nodes = c.args.formula.now.nodes in
-    let tr = c.args.trace.now in
-    let all = c.args.cells.now.all.items in
-    let t = c.loop-c-test.true in
-    let before = c.loop-c.invariant in
-    let w = before.within in
-    let put = c.in_ok-mark_lost.ensures.put in
-    record {
-      within = omega (arith, w);
-      count = puts_count nodes tr all (c.loop-c.c - 1) c.loop-c.marks.items c.mark_lost.new.marks.items put ∙ before.count;
-      put = puts_from_more nodes tr all c.args.left (c.loop-c.c - 1) c.args.marks.now.items c.loop-c.marks.items c.mark_lost.new.marks.items
-          (omega (arith, t, w))
-          (subst (λ k. PutsFrom nodes tr all c.args.left k c.args.marks.now.items c.loop-c.marks.items)
-          (let e : c.loop-c.c ≡ suc (c.loop-c.c - 1) = omega (arith, t) in e) before.put) put;
-      signals = c.mark_lost.ensures.count ∙ before.signals;
-      whole = c.mark_lost.ensures.whole;
-    }
-
-pub mark_lost-requires-clause-inside : goal.mark_lost-requires-clause-inside
-mark_lost-requires-clause-inside c = let t = c.loop-c-test.true in let w = c.loop-c.invariant.within in let r = c.requires.left in omega (arith, t, w, r)
-
-pub mark_lost-requires-clause-marks : goal.mark_lost-requires-clause-marks
-mark_lost-requires-clause-marks c = c.loop-c.invariant.count ∙ c.requires.marks
-
-pub mark_lost-requires-clause-signs : goal.mark_lost-requires-clause-signs
-mark_lost-requires-clause-signs c = subst (λ o. IfSome o (λ g. AreSigns c.args.formula.now.nodes g.signs.items)) c.in-Some.is c.in_ok-ground.ensures.signs
-
-pub mark_lost-requires-clause-lost : goal.mark_lost-requires-clause-lost
-mark_lost-requires-clause-lost c =
-    let nodes = c.args.formula.now.nodes in
-    let tr = c.args.trace.now in
-    let all = c.args.cells.now.all.items in
-    let t = c.loop-c-test.true in
-    let w = c.loop-c.invariant.within in
-    let told = c.requires.told in
-    let short = subst (λ o. IfSome o (λ g. AreShort kleene_shape g.signs.items c.args.nodes.now g.runs.all.items)) c.in-Some.is c.in_ok-ground.ensures.short in
-    let puts : PutsBefore all c.args.left c.args.marks.now.items c.loop-c.marks.items told.more = record {
-      marked = new_before nodes tr all c.args.left c.loop-c.c c.args.marks.now.items c.loop-c.marks.items c.loop-c.invariant.put;
-      covered = told.covered;
-    } in
-    short_lost nodes tr all c.args.cells.now.ends.items c.requires.cells c.loop-c.marks.items (c.loop-c.c - 1) c.in-Some.ground.signs.items
-    c.args.nodes.now c.in-Some.ground.runs.all.items puts (omega (arith, t, w)) told.told short
-
-pub mark_lost-requires-clause-count : goal.mark_lost-requires-clause-count
-mark_lost-requires-clause-count c = c.loop-c.invariant.signals
-
-pub mark_lost-requires-clause-whole : goal.mark_lost-requires-clause-whole
-mark_lost-requires-clause-whole c = c.loop-c.invariant.whole
-
-pub returns-clause-count : goal.returns-clause-count
-returns-clause-count c = c.loop-c.invariant.count
-
-pub returns-clause-needed : goal.returns-clause-needed
-returns-clause-needed c = puts_from_all c.args.formula.now.nodes c.args.trace.now c.args.cells.now.all.items c.args.left c.loop-c.c c.args.marks.now.items
-    c.loop-c.marks.items c.loop-c.invariant.put
 
 pub returns-in_default-clause-needed : goal.returns-in_default-clause-needed
 returns-in_default-clause-needed c = no_more_needed c.args.formula.now.nodes c.args.trace.now c.args.cells.now.all.items c.args.left c.args.marks.now.items
+
+pub runs_of-requires-clause-told : goal.runs_of-requires-clause-told
+runs_of-requires-clause-told c =
+    let told = subst (λ o. IfSome o (AreToldOfMore kleene_shape c.args.formula.now.nodes c.args.trace.now
+    (remaining c.args.left c.args.marks.now.items c.args.cells.now.all.items))) c.in-Some-nodes.is c.requires.told in
+    (told.more, told.told)
+
+pub runs_of-requires-clause-signs : goal.runs_of-requires-clause-signs
+runs_of-requires-clause-signs c =
+    ap length c.deref.ensures.value
+    ∙ (subst (λ o. IfSome o (λ g. AreSigns c.args.formula.now.nodes g.signs.items)) c.in-Some.is c.in_ok-ground.ensures).count
+
+pub mark_from-requires-clause-signs : goal.mark_from-requires-clause-signs
+mark_from-requires-clause-signs c = subst (λ o. IfSome o (λ g. AreSigns c.args.formula.now.nodes g.signs.items)) c.in-Some.is c.in_ok-ground.ensures
+
+pub mark_from-requires-clause-runs : goal.mark_from-requires-clause-runs
+mark_from-requires-clause-runs c = c.in_ok-runs-in-Some-nodes.ensures.count
+
+pub mark_from-requires-clause-lost : goal.mark_from-requires-clause-lost
+mark_from-requires-clause-lost c =
+    let nodes = c.args.formula.now.nodes in
+    let tr = c.args.trace.now in
+    let all = c.args.cells.now.all.items in
+    let marks = c.args.marks.now.items in
+    let told = subst (λ o. IfSome o (AreToldOfMore kleene_shape nodes tr (remaining c.args.left marks all))) c.in-Some-nodes.is c.requires.told in
+    lost_told nodes tr all marks c.args.left c.in-Some.ground.signs.items c.in-Some-nodes.nodes c.in_ok-runs-in-Some-nodes.runs.items told
+    (subst (λ ss. AreShortEach kleene_shape ss c.in-Some-nodes.nodes c.in_ok-runs-in-Some-nodes.runs.items) c.deref.ensures.value c.in_ok-runs-in-Some-nodes.ensures.short)
+
+pub runs_of_cells-requires-clause-marks : goal.runs_of_cells-requires-clause-marks
+runs_of_cells-requires-clause-marks c = ap length c.deref-in-None.ensures.value ∙ c.requires.marks
+
+pub runs_of_cells-requires-clause-signs : goal.runs_of_cells-requires-clause-signs
+runs_of_cells-requires-clause-signs c =
+    ap length c.deref-in-None-2.ensures.value
+    ∙ (subst (λ o. IfSome o (λ g. AreSigns c.args.formula.now.nodes g.signs.items)) c.in-Some.is c.in_ok-ground.ensures).count
+
+pub mark_from-requires-in-None-clause-signs : goal.mark_from-requires-in-None-clause-signs
+mark_from-requires-in-None-clause-signs c =
+    subst (λ o. IfSome o (λ g. AreSigns c.args.formula.now.nodes g.signs.items)) c.in-Some.is c.in_ok-ground.ensures
+
+pub mark_from-requires-in-None-clause-runs : goal.mark_from-requires-in-None-clause-runs
+mark_from-requires-in-None-clause-runs c = c.in_ok-runs-in-None.ensures.count
+
+pub mark_from-requires-in-None-clause-lost : goal.mark_from-requires-in-None-clause-lost
+mark_from-requires-in-None-clause-lost c =
+    let nodes = c.args.formula.now.nodes in
+    let tr = c.args.trace.now in
+    let all = c.args.cells.now.all.items in
+    let marks = c.args.marks.now.items in
+    let signs = c.in-Some.ground.signs.items in
+    let each = c.in_ok-runs-in-None.runs.items in
+    lost_of_all nodes tr all marks c.args.left signs each
+    (subst (λ ss. AreLostEach nodes tr all marks (length all) ss each) c.deref-in-None-2.ensures.value
+    (subst (λ ms. AreLostEach nodes tr all ms (length all) c.deref-in-None-2.result.now each) c.deref-in-None.ensures.value c.in_ok-runs-in-None.ensures.lost))

@@ -1,8 +1,5 @@
-use Rattle.std.proofs.Common.{arith, subst}
-use Rattle.std.specs.Prelude.{IfOk}
+use Rattle.std.proofs.Common.{arith}
 use Rattle.std.proofs.lemmas.Result.{IfOk-weaker}
-use Rattle.value_laws.specs.Kinds.{kleene_shape}
-use Rattle.implicants.specs.Nearby.{IsBestSignal}
 use Rattle.implicants.proofs.Lifting.{runs_best_at}
 use Rattle.implicants.proofs.Wholes.{whole_view}
 use Rattle.implicants.proofs.upward.own_at.Goals as goal
@@ -18,11 +15,9 @@ few-requires-clause-late c =
 
 pub returns-clause-whole : goal.returns-clause-whole
 returns-clause-whole c = IfOk-weaker c.few.result _ _
-    (λ x is. whole_view c.args.trace.now c.deref.result.now c.view_at-view.result x c.view_at-view.ensures.first c.view_at-view.ensures.last is) c.few.ensures
+    (λ x is. whole_view c.args.trace.now c.args.runs.now c.view_at-view.result x c.view_at-view.ensures.first c.view_at-view.ensures.last is) c.few.ensures
 
 pub returns-clause-best : goal.returns-clause-best
-returns-clause-best c =
-    let made = subst (λ rs. IfOk c.few.result (IsBestSignal kleene_shape rs c.view_at-view.result)) c.deref.ensures.value c.few.ensures in
-    IfOk-weaker c.few.result _ _
-    (λ x is nodes all marks k lost. runs_best_at nodes c.args.trace.now all marks k c.args.ground.now.signs.items c.args.ground.now.runs.all.items
-    c.view_at-view.result x c.args.k c.view_at-view.ensures.of c.view_at-view.ensures.best lost is) made
+returns-clause-best c = IfOk-weaker c.few.result _ _
+    (λ x is nodes all marks k lost. runs_best_at nodes c.args.trace.now all marks k c.args.ground.now.signs.items c.args.runs.now
+    c.view_at-view.result x c.args.k c.view_at-view.ensures.of c.view_at-view.ensures.best lost is) c.few.ensures

@@ -1,5 +1,6 @@
-use Rattle.std.proofs.Common.{inl, inr, sym, ap, Some, ◌∙◌}
+use Rattle.std.proofs.Common.{inl, inr, sym, ap, subst, Some, ◌∙◌}
 use Rattle.std.proofs.lemmas.Option.{same_Some}
+use Rattle.implicants.specs.Upward.{AreLost}
 use Rattle.implicants.proofs.Lifting.{put_best_in}
 use Rattle.implicants.proofs.Wholes.{set_there, whole_set}
 use Rattle.implicants.proofs.upward.put_other.Goals as goal
@@ -15,5 +16,7 @@ returns-clause-stay c i x at = elim (set_there c.args.done.now.items c.in-Some.i
 
 pub returns-clause-best : goal.returns-clause-best
 returns-clause-best c i is l nodes all marks k lost =
+    let (v, there, same) = c.runs_in.ensures in
+    let own = subst (AreLost nodes c.args.trace.now all marks k c.args.ground.now.signs.items) (sym same) (lost c.in-Some.i v there) in
     put_best_in nodes c.args.trace.now all marks k c.args.ground.now.signs.items c.args.done.now.items c.in-Some.i i c.in_ok-signal.signal
-    (same_Some _ _ (sym c.in-Some.is ∙ is)) l (c.in_ok-signal.ensures.best nodes all marks k lost)
+    (same_Some _ _ (sym c.in-Some.is ∙ is)) l (c.in_ok-signal.ensures.best nodes all marks k own)

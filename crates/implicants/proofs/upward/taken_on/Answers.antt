@@ -1,5 +1,5 @@
 use Rattle.std.proofs.Common.{◌<◌, ◌≤◌, ◌^◌, ap, arith, length, subst, sym, ◌∙◌}
-use Rattle.std.proofs.lemmas.Result.{IfOk-weaker}
+use Rattle.std.proofs.lemmas.Result.{IfOk-weaker, on_ok_weaker}
 use Rattle.value_laws.specs.Kinds.{kleene_shape}
 use Rattle.stl_syntax.specs.Trace.{first_time}
 use Rattle.offline_eval.specs.Making.{AreSound, TellsNode}
@@ -80,3 +80,31 @@ returns-clause-best c = IfOk-weaker c.put_lost.result _ _ (λ o best. some_then 
       whole = c.put_other.ensures.whole;
     } in
     has nodes all marks i ground.lost (node_best nodes tr all marks i signs ground.leaf c.in-Ok.made made kids told'')) best) c.put_lost.ensures.best
+
+pub returns-clause-gained : goal.returns-clause-gained
+returns-clause-gained c = on_ok_weaker c.put_lost.result
+    (λ has all marks i ground before old.
+    let nodes = c.args.formula.now.nodes in
+    let tr = c.args.trace.now in
+    let signs = c.args.ground.now.signs.items in
+    let n = c.node-node.result.now in
+    let new = c.put_other.new.done.items in
+    let operands = c.beside_in-beside.ensures (is_so c.beside_in-beside.result.is_operand c.if-not-beside.false) in
+    let inside = c.requires.inside in
+    let count = c.requires.count in
+    let more = c.put_other.ensures.count in
+    let kids = kids_best nodes tr all marks i signs n c.args.j c.args.k c.beside_in-beside.result.other c.args.done.now.items new operands
+    c.node-node.ensures.below (omega (arith, inside, count)) before c.put_other.ensures.stay
+    (λ m is l. c.in_ok-put_other.ensures.best m is l nodes all marks i ground.lost) in
+    let told = subst (λ xs. TellsNode kleene_shape c.first-from.result c.last-to.result n xs c.in-Ok.made) c.deref.ensures.value c.in-Ok.ensures.told in
+    let told' = subst (λ a. TellsNode kleene_shape a c.last-to.result n new c.in-Ok.made) c.first-from.ensures told in
+    let told'' = subst (λ b. TellsNode kleene_shape (first_time tr.rows) b n new c.in-Ok.made) c.last-to.ensures.last told' in
+    let made : IsMadeOf nodes tr signs c.args.j n new = record {
+      at = c.node-node.ensures.node;
+      below = c.node-node.ensures.below;
+      other = child_not_atom n c.args.k operands.0;
+      signed = ground.signed.each c.args.j n c.node-node.ensures.node;
+      long = omega (arith, inside, count, more);
+      whole = c.put_other.ensures.whole;
+    } in
+    has nodes all marks i ground.lost (node_best nodes tr all marks i signs ground.leaf c.in-Ok.made made kids told'') old) c.put_lost.ensures.gained

@@ -1,7 +1,0 @@
-use Rattle.implicants.proofs.Demanding.{stays_fit}
-use Rattle.implicants.proofs.HeldUp.{held_ahead}
-use Rattle.implicants.proofs.lasting.held_until.Goals as goal
-
-pub returns-in-Ok : goal.returns-in-Ok
-returns-in-Ok c = held_ahead c.args.left.now c.args.at.now c.in-Ok.held c.len.ensures.signal
-    (stays_fit _ c.args.left.now c.in-Ok.held c.requires.left c.in-Ok.ensures.worth) c.in-Ok.ensures.worth

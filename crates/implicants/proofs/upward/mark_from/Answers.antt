@@ -1,0 +1,65 @@
+use Rattle.std.proofs.Common.{◌≡◌, ◌+◌, ◌-◌, suc, refl, subst, arith, ◌∙◌}
+use Rattle.implicants.specs.Upward.{AreLostFrom}
+use Rattle.implicants.proofs.Losing.{PutsFrom, puts_from_none, puts_from_more, puts_from_all, puts_count}
+use Rattle.implicants.proofs.upward.mark_from.Goals as goal
+
+pub loop-c-init : goal.loop-c-init
+loop-c-init c = record {
+  within = omega arith;
+  count = refl;
+  put = puts_from_none c.args.formula.now.nodes c.args.trace.now c.args.cells.now.all.items c.args.left c.args.marks.now.items;
+  runs = c.requires.runs;
+  lost = c.requires.lost;
+  signals = c.in_ok-done.ensures.count;
+  whole = c.in_ok-done.ensures.whole;
+}
+
+pub loop-c-preserved : goal.loop-c-preserved
+loop-c-preserved c =
+    let nodes = c.args.formula.now.nodes in
+    let tr = c.args.trace.now in
+    let all = c.args.cells.now.all.items in
+    let t = c.loop-c-test.true in
+    let before = c.loop-c.invariant in
+    let w = before.within in
+    let put = c.in_ok-mark_lost.ensures.put in
+    record {
+      within = omega (arith, w);
+      count = puts_count nodes tr all (c.loop-c.c - 1) c.loop-c.marks.items c.mark_lost.new.marks.items put ∙ before.count;
+      put = puts_from_more nodes tr all c.args.left (c.loop-c.c - 1) c.args.marks.now.items c.loop-c.marks.items c.mark_lost.new.marks.items
+          (omega (arith, t, w))
+          (subst (λ k. PutsFrom nodes tr all c.args.left k c.args.marks.now.items c.loop-c.marks.items)
+          (let e : c.loop-c.c ≡ suc (c.loop-c.c - 1) = omega (arith, t) in e) before.put) put;
+      runs = c.mark_lost.ensures.runs ∙ before.runs;
+      lost = c.in_ok-mark_lost.ensures.lost;
+      signals = c.mark_lost.ensures.count ∙ before.signals;
+      whole = c.mark_lost.ensures.whole;
+    }
+
+pub mark_lost-requires-clause-inside : goal.mark_lost-requires-clause-inside
+mark_lost-requires-clause-inside c = let t = c.loop-c-test.true in let w = c.loop-c.invariant.within in let r = c.requires.left in omega (arith, t, w, r)
+
+pub mark_lost-requires-clause-marks : goal.mark_lost-requires-clause-marks
+mark_lost-requires-clause-marks c = c.loop-c.invariant.count ∙ c.requires.marks
+
+pub mark_lost-requires-clause-runs : goal.mark_lost-requires-clause-runs
+mark_lost-requires-clause-runs c = c.loop-c.invariant.runs
+
+pub mark_lost-requires-clause-lost : goal.mark_lost-requires-clause-lost
+mark_lost-requires-clause-lost c =
+    let t = c.loop-c-test.true in
+    subst (λ k. AreLostFrom c.args.formula.now.nodes c.args.trace.now c.args.cells.now.all.items c.loop-c.marks.items k c.args.ground.now.signs.items
+    c.loop-c.runs.items) (let e : c.loop-c.c ≡ c.loop-c.c - 1 + 1 = omega (arith, t) in e) c.loop-c.invariant.lost
+
+pub mark_lost-requires-clause-count : goal.mark_lost-requires-clause-count
+mark_lost-requires-clause-count c = c.loop-c.invariant.signals
+
+pub mark_lost-requires-clause-whole : goal.mark_lost-requires-clause-whole
+mark_lost-requires-clause-whole c = c.loop-c.invariant.whole
+
+pub returns-clause-count : goal.returns-clause-count
+returns-clause-count c = c.loop-c.invariant.count
+
+pub returns-clause-needed : goal.returns-clause-needed
+returns-clause-needed c = puts_from_all c.args.formula.now.nodes c.args.trace.now c.args.cells.now.all.items c.args.left c.loop-c.c c.args.marks.now.items
+    c.loop-c.marks.items c.loop-c.invariant.put
