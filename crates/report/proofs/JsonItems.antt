@@ -2,53 +2,33 @@
 use Rattle.std.proofs.Common.{◌≡◌, ℕ, ◌≤◌, List, [], ◌∷◌, ◌++◌, length, drop, append-nil, append_assoc, refl, sym, ap, ◌∙◌, subst, arith, codes}
 use Rattle.std.proofs.lemmas.List.{drop_all}
 use Rattle.std.proofs.lemmas.List.Elements.{All-drop}
-use Rattle.std.specs.Prelude.{All, Some, slice_get}
+use Rattle.std.specs.Prelude.{All}
 use Rattle.stl_syntax.specs.Formula.{Formula}
-use Rattle.stl_syntax.specs.Print.{IsAtomText}
-use Rattle.stl_syntax.specs.Printing.{atom_text}
-use Rattle.stl_syntax.proofs.PrintedText.{atom_is}
 use Rattle.stl_syntax.specs.declared.scale.Scale.{Scale}
 use Rattle.stl_syntax.specs.declared.items.Item.{Item}
-use Rattle.stl_syntax.specs.declared.atom.Atom.{Atom}
-use Rattle.stl_syntax.specs.declared.node.Node.TheVariants.{Atom as Leaf}
 use Rattle.serde_json.specs.Data.{no_items, item}
 use Rattle.serde_json.specs.Written.{compact_text}
 use Rattle.report.specs.Appended.{Grew, GrewInPart, AreEach, Then, Is}
 use Rattle.report.specs.ItemLines.{IsOfAtom, IsFirstLine}
-use Rattle.report.specs.JsonTexts.{ItemParts, IsItemEntry, AreLaterEntries, AreItemEntries}
+use Rattle.report.specs.JsonTexts.{IsItemEntry, AreLaterEntries, AreItemEntries}
 use Rattle.report.specs.Report.{IsItemLines, AreItemLines}
 use Rattle.report.proofs.Growths as growth
 use Rattle.report.proofs.ItemTexts.{items_exist}
 use Rattle.report.proofs.JsonData.{item_data, later_data}
-use Rattle.report.proofs.JsonParts.{item_parts_exist}
+use Rattle.report.proofs.JsonParts.{item_entry_exists}
 use Rattle.report.proofs.Sequences.{each_join, each_one, each_grow}
-
--- ---- one item
-
--- an item of an atom with this text
-pub entry_of : (lead : List ℕ) (scale : Scale) (f : Formula) (e : Item) (name : List ℕ) → IsOfAtom f e
-    → ((a : Atom) → slice_get f.nodes e.node ≡ Some (Leaf a) → IsAtomText f.scale a name) → (text : List ℕ) → ItemParts lead scale e name text
-    → IsItemEntry lead scale f e text
-entry_of lead scale f e name own is text parts = record { atom = own.0; at = own.1; name = name; name_is = is own.0 own.1; written = parts }
-
--- each item of an atom has an entry
-pub entry_exists : (lead : List ℕ) (scale : Scale) (f : Formula) (e : Item) → IsOfAtom f e → growth.Some (IsItemEntry lead scale f e)
-entry_exists lead scale f e own =
-    let name = atom_text f.scale own.0 in
-    let parts = item_parts_exist scale e name lead in
-    (parts.0, record { atom = own.0; at = own.1; name = name; name_is = atom_is f.scale own.0; written = parts.1 })
 
 -- ---- a list of items
 
 module _ (scale : Scale) (f : Formula) where
   abbrev Later : Item → List ℕ → Type 0
-  Later = IsItemEntry (codes ",{\"atom\":") scale f
+  Later = IsItemEntry (codes ",") scale f
 
   -- items that have lines have texts
   entries_of_lines : (lines : List Item) (text : List ℕ) → AreItemLines scale f lines text → growth.Some (AreEach Later lines)
   entries_of_lines [] text h = ([], refl)
   entries_of_lines (e ∷ lines) text (a, at, p) =
-      let here = entry_exists (codes ",{\"atom\":") scale f e (a, at) in
+      let here = item_entry_exists scale (codes ",") f e (a, at) in
       let more = entries_of_lines lines p.2 p.5 in
       (here.0 ++ more.0, (here.0, more.0, here.1, more.1, refl))
 
@@ -131,14 +111,14 @@ module _ (scale : Scale) (f : Formula) where
 
   -- the first item, those after it, and the closing bracket
   abbrev pub ListParts : Item → List Item → List ℕ → Type 0
-  ListParts line rest = Then (IsItemEntry (codes "{\"atom\":") scale f line) (Then (AreLaterEntries scale f rest) (Is (codes "]")))
+  ListParts line rest = Then (IsItemEntry [] scale f line) (Then (AreLaterEntries scale f rest) (Is (codes "]")))
 
   -- the first entry and the later ones make the list
   pub list_entries : (items : List Item) (n : ℕ) (line : Item) (text : List ℕ) → IsFirstLine items (drop n items) line → ListParts line (drop n items) text
       → AreItemEntries scale f items text
   list_entries items n line text first (head, tail, is_head, (later, end, is_later, is_end, e), g) =
       let (others, are, h) = later_data scale f is_later.lines later is_later.written in
-      let (d, are_all, k) = item_data scale f (codes "{\"atom\":") [] line is_later.lines others head refl is_head are in
+      let (d, are_all, k) = item_data scale f [] line is_later.lines others head is_head are in
       record {
         lines = line ∷ is_later.lines;
         joined = first.before is_later.lines is_later.joined;
@@ -158,8 +138,8 @@ module _ (scale : Scale) (f : Formula) where
           → growth.Some (AreItemEntries scale f (e ∷ items))
       by_lines [] j text w = (codes "]", record { lines = []; joined = j; array = no_items; entries = refl; is = refl })
       by_lines (l ∷ ls) j text (a, at, p) =
-          let here = entry_exists (codes "{\"atom\":") scale f l (a, at) in
+          let here = item_entry_exists scale [] f l (a, at) in
           let more = entries_of_lines ls p.2 p.5 in
           let (others, are, h) = later_data scale f ls more.0 more.1 in
-          let (d, are_all, k) = item_data scale f (codes "{\"atom\":") [] l ls others here.0 refl here.1 are in
+          let (d, are_all, k) = item_data scale f [] l ls others here.0 here.1 are in
           (_, record { lines = l ∷ ls; joined = j; array = item d others; entries = are_all; is = refl })

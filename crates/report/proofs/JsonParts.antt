@@ -1,22 +1,29 @@
 -- There is a text for each part of a report.
-use Rattle.std.proofs.Common.{◌≡◌, ℕ, List, [], ◌∷◌, refl, ap, codes}
+use Rattle.std.proofs.Common.{◌≡◌, ℕ, Bool, List, [], ◌∷◌, ◌++◌, refl, ap, codes}
 use Rattle.std.specs.Prelude.{Some, slice_get}
 use Rattle.std.proofs.lemmas.Option.{same_Some}
+use Rattle.serde_json.specs.Data.{Data}
+use Rattle.serde_json.specs.Written.{compact_text}
 use Rattle.value_laws.specs.Members.{ShapeOf}
 use Rattle.pl_signal.specs.declared.knot.Knot.{Knot as SignalKnot}
 use Rattle.pl_signal.specs.Plain.{plain_knot, knots_of}
+use Rattle.stl_syntax.specs.Formula.{Formula, root}
 use Rattle.stl_syntax.specs.Knots.{Knot, Knots}
-use Rattle.stl_syntax.specs.Texts.{IsSpanText}
+use Rattle.stl_syntax.specs.Printing.{atom_text, printed}
+use Rattle.stl_syntax.proofs.PrintedText.{atom_is, printed_formula}
 use Rattle.stl_syntax.specs.declared.scale.Scale.{Scale}
 use Rattle.stl_syntax.specs.declared.items.Item.{Item}
 use Rattle.report.specs.Appended.{AreEach, Then, Is}
-use Rattle.report.specs.JsonTexts.{json_string, item_end, ItemParts, IsKnotEntry, IsPieceEntry, IsStepEntry, AreMarginEntries}
-use Rattle.report.specs.MarginLines.{IsTimeAfter, IsValueAfter}
+use Rattle.report.specs.ItemLines.{IsOfAtom}
+use Rattle.report.specs.JsonTexts.{IsDataText, IsItemEntry, IsKnotEntry, IsPieceEntry, IsStepEntry, AreMarginEntries}
+use Rattle.report.specs.JsonTexts.{margins_data, start_data, EndsWithList, IsOpened, IsOpening}
 use Rattle.report.specs.Steps.{Step, steps_of}
 use Rattle.report.proofs.Growths as growth
 use Rattle.report.proofs.Growths.{some_then}
 use Rattle.report.proofs.ItemTexts.{span_exists}
-use Rattle.report.proofs.MarginTexts.{time_after_exists, value_after_exists}
+use Rattle.report.proofs.JsonData.{head_value, head_front, head_ends, margins_end, start_front, start_ends}
+use Rattle.report.proofs.Lines.{number_exists}
+use Rattle.report.proofs.MarginTexts.{value_exists}
 use Rattle.report.proofs.Sequences.{each_exist}
 
 -- these bytes
@@ -29,61 +36,55 @@ pub first_is : {P : Type 0} (shape : ShapeOf P) (ks : List (SignalKnot P)) (k : 
 first_is shape [] k h = absurd (let e = h in cc)
 first_is shape (x ∷ ks) k h = let same : x ≡ k = same_Some _ _ h in ap (plain_knot shape) same
 
-module _ (scale : Scale) where
-  -- the end of a knot's entry has a text
-  pub knot_end_exists : (k : Knot) → growth.Some (Then (IsValueAfter (codes "\",\"margin\":\"") scale.value k.value) (Is (codes "\"}")))
-  knot_end_exists k =
-      some_then (IsValueAfter (codes "\",\"margin\":\"") scale.value k.value) (Is (codes "\"}"))
-      (value_after_exists (codes "\",\"margin\":\"") scale.value k.value)
-      (word_exists (codes "\"}"))
+-- a value has a text behind any bytes
+pub text_of_data : (lead : List ℕ) (P : Data → Type 0) (d : Data) → P d → growth.Some (IsDataText lead P)
+text_of_data lead P d p = (lead ++ compact_text d, (d, p, refl))
 
+-- an object that ends with a list has a text up to it
+pub text_of_opened : (lead : List ℕ) (d : Data) (front : List ℕ) → EndsWithList d front → growth.Some (IsOpened lead d)
+text_of_opened lead d front h = (lead ++ front, (front, h, refl))
+
+-- the object of the margins does
+pub margins_open : growth.Some (IsOpened (codes ",") margins_data)
+margins_open = text_of_opened (codes ",") margins_data (codes "\"margins\":[") margins_end
+
+-- and that of the verdicts
+pub start_opens : (holds : Bool) → growth.Some (IsOpened (codes ",") (start_data holds))
+start_opens holds = text_of_opened (codes ",") (start_data holds) (start_front holds) (start_ends holds)
+
+-- a report up to its items has a text
+pub opening_exists : (f : Formula) → growth.Some (IsOpening f)
+opening_exists f =
+    let p = printed f.scale (root f.nodes) in
+    (codes "{" ++ head_front p, (head_value p, (p, printed_formula f p refl, refl), (head_front p, head_ends p, refl)))
+
+module _ (scale : Scale) where
   -- the entry of a knot has a text
   pub knot_entry_exists : (lead : List ℕ) (k : Knot) → growth.Some (IsKnotEntry lead scale k)
   knot_entry_exists lead k =
-      some_then (IsTimeAfter lead scale.time k.time) (Then (IsValueAfter (codes "\",\"margin\":\"") scale.value k.value) (Is (codes "\"}")))
-      (time_after_exists lead scale.time k.time)
-      (knot_end_exists k)
+      let time = number_exists scale.time k.time in
+      let margin = value_exists scale.value k.value in
+      (_, (_, (time.0, margin.0, time.1, margin.1, refl), refl))
 
-  module _ (s : Step) where
-    -- the parts of a piece, from the last on
-    abbrev pub Limit : List ℕ → Type 0
-    Limit = Then (IsValueAfter (codes ")\",\"to\":\"") scale.value s.piece.to) (Is (codes "\"}"))
+  -- the entry of a piece has a text
+  pub piece_entry_exists : (s : Step) → growth.Some (IsPieceEntry scale s)
+  piece_entry_exists s =
+      let begin = number_exists scale.time s.knot.time in
+      let end = number_exists scale.time s.piece.next.time in
+      let from = value_exists scale.value s.piece.from in
+      let to = value_exists scale.value s.piece.to in
+      (_, (_, (begin.0, end.0, from.0, to.0, begin.1, end.1, from.1, to.1, refl), refl))
 
-    abbrev pub Until : List ℕ → Type 0
-    Until = Then (IsTimeAfter (codes ",") scale.time s.piece.next.time) Limit
+  -- the entry of an item of an atom has a text
+  pub item_entry_exists : (lead : List ℕ) (f : Formula) (e : Item) → IsOfAtom f e → growth.Some (IsItemEntry lead scale f e)
+  item_entry_exists lead f e own =
+      let on = span_exists scale e.on in
+      (_, (_, (own.0, own.1, (atom_text f.scale own.0, on.0, atom_is f.scale own.0, on.1, refl)), refl))
 
-    abbrev pub Span : List ℕ → Type 0
-    Span = Then (IsTimeAfter (codes "\",\"on\":\"(") scale.time s.knot.time) Until
-
-    -- the limit of a piece has a text
-    pub limit_exists : growth.Some Limit
-    limit_exists =
-        some_then (IsValueAfter (codes ")\",\"to\":\"") scale.value s.piece.to) (Is (codes "\"}"))
-        (value_after_exists (codes ")\",\"to\":\"") scale.value s.piece.to)
-        (word_exists (codes "\"}"))
-
-    -- what ends a piece has a text
-    pub until_exists : growth.Some Until
-    until_exists =
-        some_then (IsTimeAfter (codes ",") scale.time s.piece.next.time) Limit (time_after_exists (codes ",") scale.time s.piece.next.time) limit_exists
-
-    -- the span of a piece has a text
-    pub span_after_exists : growth.Some Span
-    span_after_exists =
-        some_then (IsTimeAfter (codes "\",\"on\":\"(") scale.time s.knot.time) Until
-        (time_after_exists (codes "\",\"on\":\"(") scale.time s.knot.time) until_exists
-
-    -- the entry of a piece has a text
-    pub piece_entry_exists : growth.Some (IsPieceEntry scale s)
-    piece_entry_exists =
-        some_then (IsValueAfter (codes ",{\"from\":\"") scale.value s.piece.from) Span
-        (value_after_exists (codes ",{\"from\":\"") scale.value s.piece.from) span_after_exists
-
-    -- the entry of a knot with the piece after it has a text
-    pub step_entry_exists : growth.Some (IsStepEntry scale s)
-    step_entry_exists =
-        some_then (IsPieceEntry scale s) (IsKnotEntry (codes ",{\"at\":\"") scale s.piece.next) piece_entry_exists
-        (knot_entry_exists (codes ",{\"at\":\"") s.piece.next)
+  -- the entry of a piece with the knot after it has a text
+  pub step_entry_exists : (s : Step) → growth.Some (IsStepEntry scale s)
+  step_entry_exists s =
+      some_then (IsPieceEntry scale s) (IsKnotEntry (codes ",") scale s.piece.next) (piece_entry_exists s) (knot_entry_exists (codes ",") s.piece.next)
 
   -- what stands after the first knot
   abbrev pub LaterMargins : Knots → List ℕ → Type 0
@@ -98,32 +99,4 @@ module _ (scale : Scale) where
   -- the entries of all margins have a text
   pub margin_entries_exist : (knots : Knots) → growth.Some (AreMarginEntries scale knots)
   margin_entries_exist knots =
-      some_then (IsKnotEntry (codes "{\"at\":\"") scale knots.first) (LaterMargins knots) (knot_entry_exists (codes "{\"at\":\"") knots.first)
-      (later_margins_exist knots)
-
-  module _ (e : Item) (name : List ℕ) where
-    -- the parts of an item, from the last on
-    abbrev pub OnSpan : List ℕ → Type 0
-    OnSpan = Then (IsSpanText scale e.on) (Is (item_end e.holds))
-
-    abbrev pub AfterName : List ℕ → Type 0
-    AfterName = Then (Is (codes ",\"on\":\"")) OnSpan
-
-    abbrev pub Named : List ℕ → Type 0
-    Named = Then (Is (json_string name)) AfterName
-
-    -- the span of an item has a text
-    pub on_span_exists : growth.Some OnSpan
-    on_span_exists = some_then (IsSpanText scale e.on) (Is (item_end e.holds)) (span_exists scale e.on) (word_exists (item_end e.holds))
-
-    -- what follows an atom's name in an item has a text
-    pub after_name_exists : growth.Some AfterName
-    after_name_exists = some_then (Is (codes ",\"on\":\"")) OnSpan (word_exists (codes ",\"on\":\"")) on_span_exists
-
-    -- the name of an item's atom has a text
-    pub named_exists : growth.Some Named
-    named_exists = some_then (Is (json_string name)) AfterName (word_exists (json_string name)) after_name_exists
-
-    -- all parts of an item together have a text
-    pub item_parts_exist : (lead : List ℕ) → growth.Some (ItemParts lead scale e name)
-    item_parts_exist lead = some_then (Is lead) Named (word_exists lead) named_exists
+      some_then (IsKnotEntry [] scale knots.first) (LaterMargins knots) (knot_entry_exists [] knots.first) (later_margins_exist knots)

@@ -9,7 +9,6 @@ pub mod SignalLaw
 pub mod Spellings
 pub mod Lines
 pub mod Advances
-mod EntryRoom
 mod KeptTexts
 pub mod Growths
 pub mod ItemTexts
@@ -35,7 +34,7 @@ pub mod StepLemmas
 pub mod TableTexts
 pub mod OneText
 pub mod StreamTexts
-pub mod PlainTexts
+pub mod StringValues
 pub mod JsonData
 pub mod JsonParts
 pub mod JsonItems

@@ -59,7 +59,7 @@ entry_exists false last scale v = line_exists scale v
 entry_exists true last scale v =
     let from = number_exists scale.time (value v.on.from) in
     let to = number_exists scale.time (value v.on.to) in
-    (_, (_, span_text scale v.on from.0 to.0 from.1 to.1, refl))
+    (_, (_, (_, span_text scale v.on from.0 to.0 from.1 to.1, refl), refl))
 
 module _ {P : Type 0} (shape : ShapeOf P) (json : Bool) (scale : Scale) (knots : List (Knot P)) where
   -- the verdicts describe the signal

@@ -8,15 +8,13 @@ use Rattle.value_laws.specs.declared.margin.Margin.{Margin}
 use Rattle.pl_signal.specs.declared.knot.Knot.{Knot}
 use Rattle.pl_signal.specs.Knots.{start, IsWorth, IsSignal}
 use Rattle.pl_signal.specs.Plain.{knots_of}
-use Rattle.stl_syntax.specs.Formula.{Formula, root}
-use Rattle.stl_syntax.specs.Printing.{printed}
-use Rattle.stl_syntax.proofs.PrintedText.{printed_formula}
+use Rattle.stl_syntax.specs.Formula.{Formula}
 use Rattle.stl_syntax.specs.Texts.{newline}
 use Rattle.stl_syntax.specs.declared.scale.Scale.{Scale}
 use Rattle.stl_syntax.specs.declared.items.Item.{Item}
 use Rattle.report.specs.Appended.{Then, Is}
 use Rattle.report.specs.ItemLines.{IsOfAtom}
-use Rattle.report.specs.JsonTexts.{json_string, IsFormulaString, AreItemEntries, AreMarginEntries, start_member, HeadParts}
+use Rattle.report.specs.JsonTexts.{AreItemEntries, AreMarginEntries, IsOpened, IsOpening, margins_data, start_data, HeadParts}
 use Rattle.report.specs.ReportText.{IsReportText, TailParts}
 use Rattle.report.specs.SignalVerdicts.{sign_of}
 use Rattle.report.specs.VerdictForms.{AreEntries}
@@ -24,32 +22,14 @@ use Rattle.report.specs.declared.spelling.OpenSpan.{OpenSpan}
 use Rattle.report.proofs.Advances.{spelled_start, told_to_end}
 use Rattle.report.proofs.Growths as growth
 use Rattle.report.proofs.Growths.{some_then}
-use Rattle.report.proofs.JsonData.{report_value, report_text, margins_data, verdicts_data}
+use Rattle.report.proofs.JsonData.{json_string, start_member, report_value, report_text, opening_is, margins_opened, start_opened, margins_items, verdicts_data}
 use Rattle.report.proofs.JsonItems.{list_exists}
-use Rattle.report.proofs.JsonParts.{word_exists, margin_entries_exist}
+use Rattle.report.proofs.JsonParts.{word_exists, margin_entries_exist, opening_exists, margins_open, start_opens}
 use Rattle.report.proofs.Lines.{entries_text}
 
-module _ (scale : Scale) (f : Formula) (items : List Item) where
-  -- the formula has a string
-  pub formula_exists : growth.Some (IsFormulaString f)
-  formula_exists = let p = printed f.scale (root f.nodes) in (json_string p, (p, printed_formula f p refl, refl))
-
-  -- what stands after the formula
-  abbrev pub AfterFormula : List ℕ → Type 0
-  AfterFormula = Then (Is (codes ",\"items\":[")) (AreItemEntries scale f items)
-
-  -- what follows the formula has a text
-  pub after_formula_exists : All (IsOfAtom f) items → growth.Some AfterFormula
-  after_formula_exists all =
-      some_then (Is (codes ",\"items\":[")) (AreItemEntries scale f items) (word_exists (codes ",\"items\":[")) (list_exists scale f items all)
-
-  -- the formula with what follows it has a text
-  pub formula_on_exists : All (IsOfAtom f) items → growth.Some (Then (IsFormulaString f) AfterFormula)
-  formula_on_exists all = some_then (IsFormulaString f) AfterFormula formula_exists (after_formula_exists all)
-
-  -- a report up to its items has a text
-  pub head_exists : All (IsOfAtom f) items → growth.Some (HeadParts scale f items)
-  head_exists all = some_then (Is (codes "{\"formula\":")) (Then (IsFormulaString f) AfterFormula) (word_exists (codes "{\"formula\":")) (formula_on_exists all)
+-- a report up to its items, and with them, has a text
+pub head_exists : (scale : Scale) (f : Formula) (items : List Item) → All (IsOfAtom f) items → growth.Some (HeadParts scale f items)
+head_exists scale f items all = some_then (IsOpening f) (AreItemEntries scale f items) (opening_exists f) (list_exists scale f items all)
 
 module _ (scale : Scale) (truth : List (Knot Truth)) (margins : List (Knot Margin)) (holds : Bool) where
   -- the parts after the margins, from the last on
@@ -57,7 +37,7 @@ module _ (scale : Scale) (truth : List (Knot Truth)) (margins : List (Knot Margi
   Verdicts = Then (AreEntries truth_shape true scale truth) (Is (codes "}\n"))
 
   abbrev pub FromStart : List ℕ → Type 0
-  FromStart = Then (Is (start_member holds)) Verdicts
+  FromStart = Then (IsOpened (codes ",") (start_data holds)) Verdicts
 
   abbrev pub Margins : List ℕ → Type 0
   Margins = Then (AreMarginEntries scale (knots_of margin_shape margins)) FromStart
@@ -68,7 +48,7 @@ module _ (scale : Scale) (truth : List (Knot Truth)) (margins : List (Knot Margi
 
   -- a report from the truth at the start on has a text
   pub start_exists : growth.Some (AreEntries truth_shape true scale truth) → growth.Some FromStart
-  start_exists v = some_then (Is (start_member holds)) Verdicts (word_exists (start_member holds)) (verdicts_exist v)
+  start_exists v = some_then (IsOpened (codes ",") (start_data holds)) Verdicts (start_opens holds) (verdicts_exist v)
 
   -- a report from the margins on has a text
   pub margins_exist : growth.Some (AreEntries truth_shape true scale truth) → growth.Some Margins
@@ -77,10 +57,10 @@ module _ (scale : Scale) (truth : List (Knot Truth)) (margins : List (Knot Margi
 
   -- all of a report behind its items has a text
   pub tail_exists : growth.Some (AreEntries truth_shape true scale truth) → growth.Some (TailParts scale truth margins holds)
-  tail_exists v = some_then (Is (codes ",\"margins\":[")) Margins (word_exists (codes ",\"margins\":[")) (margins_exist v)
+  tail_exists v = some_then (IsOpened (codes ",") margins_data) Margins margins_open (margins_exist v)
 
   together : (a p b i c m s v e : List ℕ)
-      → (a ++ (p ++ (b ++ i))) ++ (c ++ (m ++ (s ++ (v ++ (e ++ newline))))) ≡ (a ++ (p ++ (b ++ (i ++ (c ++ (m ++ (s ++ (v ++ e)))))))) ++ newline
+      → ((a ++ (p ++ b)) ++ i) ++ (c ++ (m ++ (s ++ (v ++ (e ++ newline))))) ≡ (a ++ (p ++ (b ++ (i ++ (c ++ (m ++ (s ++ (v ++ e)))))))) ++ newline
   together a p b i c m s v e = simp append_assoc
 
   -- the whole report
@@ -89,21 +69,21 @@ module _ (scale : Scale) (truth : List (Knot Truth)) (margins : List (Knot Margi
   report_is f items at_start text (
     head,
     tail,
-    (w1, r1, is1, (p, r2, (printed, is_printed, is_p), (w3, i, is3, is_items, h3), h2), h1),
+    (w1, i, is_opening, is_items, h1),
     (x1, t1, y1, (m, t2, is_margins, (x3, t3, y3, (v, x5, is_verdicts, y5, g4), g3), g2), g1),
     e,
   ) =
-      let (array_m, are_m, of_m) = margins_data scale (knots_of margin_shape margins) m is_margins in
+      let (printed, is_printed, o1) = opening_is f w1 is_opening in
+      let (array_m, are_m, of_m) = margins_items scale (knots_of margin_shape margins) m is_margins in
       let (array_v, are_v, of_v) = verdicts_data scale is_verdicts.before is_verdicts.last v is_verdicts.written in
       let A = items_text false is_items.array in
       let M = items_text false array_m in
       let V = items_text false array_v in
-      let head_is : head ≡ codes "{\"formula\":" ++ (json_string printed ++ (codes ",\"items\":[" ++ A)) =
-      h1 ∙ ap (λ w. w ++ r1) is1 ∙ ap (λ w. codes "{\"formula\":" ++ w)
-      (h2 ∙ ap (λ w. w ++ r2) is_p ∙ ap (λ w. json_string printed ++ w) (h3 ∙ ap (λ w. w ++ i) is3
-      ∙ ap (λ w. codes ",\"items\":[" ++ w) is_items.is)) in
+      let H = codes "{\"formula\":" ++ (json_string printed ++ codes ",\"items\":[") in
+      let head_is : head ≡ H ++ A = h1 ∙ ap (λ w. w ++ i) o1 ∙ ap (λ w. H ++ w) is_items.is in
       let tail_is : tail ≡ codes ",\"margins\":[" ++ (M ++ (start_member holds ++ (V ++ codes "}\n"))) =
-      g1 ∙ ap (λ w. w ++ t1) y1 ∙ ap (λ w. codes ",\"margins\":[" ++ w) (g2 ∙ ap (λ w. w ++ t2) of_m ∙ ap (λ w. M ++ w) (g3 ∙ ap (λ w. w ++ t3) y3
+      g1 ∙ ap (λ w. w ++ t1) (margins_opened x1 y1) ∙ ap (λ w. codes ",\"margins\":[" ++ w) (g2 ∙ ap (λ w. w ++ t2) of_m
+      ∙ ap (λ w. M ++ w) (g3 ∙ ap (λ w. w ++ t3) (start_opened holds x3 y3)
       ∙ ap (λ w. start_member holds ++ w) (g4 ∙ ap (λ w. w ++ x5) of_v ∙ ap (λ w. V ++ w) y5))) in
       record {
         verdicts = is_verdicts.before ++ is_verdicts.last ∷ [];
@@ -114,7 +94,7 @@ module _ (scale : Scale) (truth : List (Knot Truth)) (margins : List (Knot Margi
         at_start = at_start;
         report = report_value printed is_items.array array_m holds array_v;
         members = (printed, is_items.array, array_m, array_v, is_printed, is_items.entries, are_m, are_v, refl);
-        is = e ∙ ap (λ w. w ++ tail) head_is ∙ ap (λ w. (codes "{\"formula\":" ++ (json_string printed ++ (codes ",\"items\":[" ++ A))) ++ w) tail_is
+        is = e ∙ ap (λ w. w ++ tail) head_is ∙ ap (λ w. (H ++ A) ++ w) tail_is
             ∙ together (codes "{\"formula\":") (json_string printed) (codes ",\"items\":[") A (codes ",\"margins\":[") M (start_member holds) V (codes "}")
             ∙ ap (λ w. w ++ newline) (sym (report_text printed is_items.array array_m array_v holds));
       }

@@ -1,11 +1,11 @@
 -- The text of a span from its parts.
-use Rattle.std.proofs.Common.{◌≡◌, ℕ, List, ◌++◌, Bool, true, false, if◌then◌else◌, codes, append_assoc, refl, ap, ◌∙◌}
+use Rattle.std.proofs.Common.{◌≡◌, ℕ, List, ◌++◌, Bool, if◌then◌else◌, codes, append_assoc, refl}
 use Rattle.frac128.specs.Value.{value}
 use Rattle.frac128.specs.declared.span.Span.{Span}
 use Rattle.stl_syntax.specs.declared.scale.Scale.{Scale}
-use Rattle.stl_syntax.specs.Texts.{bool_text, fraction_text, newline, IsNumberText, IsSpanText}
+use Rattle.stl_syntax.specs.Texts.{bool_text, fraction_text, newline, IsNumberText, IsSpanText, IsVerdictLine}
 use Rattle.stl_syntax.specs.declared.items.Verdict.{Verdict}
-use Rattle.report.specs.VerdictForms.{IsEntry, entry_text, separator}
+use Rattle.report.specs.VerdictForms.{line_begin, line_end}
 use Rattle.rational.specs.Time.{Rational}
 use Rattle.report.specs.Numbers.{signed, IsInUnits}
 
@@ -26,27 +26,12 @@ pub span_text : (scale : Scale) (on : Span) (from to : List ℕ) → IsNumberTex
     → IsSpanText scale on (before on.from_in ++ from ++ codes "," ++ to ++ after on.to_in)
 span_text scale on from to p q = record { from = from; to = to; from_is = p; to_is = q; is = refl }
 
--- a verdict from the texts of its times
-pub entry_is : (json last : Bool) (scale : Scale) (v : Verdict) (from to : List ℕ) → IsNumberText scale.time (value v.on.from) from
+-- the line of a verdict from the texts of its times
+pub line_is : (scale : Scale) (v : Verdict) (from to : List ℕ) → IsNumberText scale.time (value v.on.from) from
     → IsNumberText scale.time (value v.on.to) to
-    → IsEntry json last scale v (entry_text json last v from to)
-entry_is false last scale v from to p q =
+    → IsVerdictLine scale v (line_begin v ++ from ++ codes "," ++ to ++ line_end v)
+line_is scale v from to p q =
     (_, span_text scale v.on from to p q, together (before v.on.from_in ++ from ++ codes "," ++ to) (after v.on.to_in) (codes " ") (bool_text v.holds) newline)
   where
     together : (a b c d e : List ℕ) → a ++ (b ++ c ++ d ++ e) ≡ a ++ b ++ c ++ d ++ e
     together a b c d e = simp append_assoc
-entry_is true last scale v from to p q = (
-  _,
-  span_text scale v.on from to p q,
-  ap (λ b. b ++ from ++ codes "," ++ to ++ (after v.on.to_in ++ codes "\",\"value\":" ++ bool_text v.holds ++ codes "}" ++ separator last))
-      (opened v.on.from_in)
-      ∙ together (codes "{\"on\":\"") (before v.on.from_in) from (codes ",") to (after v.on.to_in) (codes "\",\"value\":") (bool_text v.holds) (codes "}")
-      (separator last),
-)
-  where
-    opened : (b : Bool) → (if b then codes "{\"on\":\"[" else codes "{\"on\":\"(") ≡ codes "{\"on\":\"" ++ before b
-    opened true = refl
-    opened false = refl
-
-    together : (o a b c d e f g h i : List ℕ) → (o ++ a) ++ b ++ c ++ d ++ (e ++ f ++ g ++ h ++ i) ≡ o ++ (a ++ b ++ c ++ d ++ e) ++ f ++ g ++ h ++ i
-    together o a b c d e f g h i = simp append_assoc

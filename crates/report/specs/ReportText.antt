@@ -16,7 +16,7 @@ use Rattle.stl_syntax.specs.declared.items.Verdict.{Verdict}
 use Rattle.stl_syntax.specs.declared.items.Item.{Item}
 use Rattle.report.specs.Appended.{Then, Is}
 use Rattle.report.specs.Json.{IsReportData}
-use Rattle.report.specs.JsonTexts.{AreMarginEntries, start_member}
+use Rattle.report.specs.JsonTexts.{AreMarginEntries, IsOpened, margins_data, start_data}
 use Rattle.report.specs.Report.{IsItemLines}
 use Rattle.report.specs.SignalVerdicts.{DescribesFunction, sign_of}
 use Rattle.report.specs.VerdictForms.{AreEntries}
@@ -38,5 +38,5 @@ pub record IsReportText (scale : Scale) (f : Formula) (truth : List (Knot Truth)
 -- from the margins to the end
 abbrev pub TailParts : Scale → List (Knot Truth) → List (Knot Margin) → Bool → List ℕ → Type 0
 TailParts scale truth margins holds =
-    Then (Is (codes ",\"margins\":[")) (Then (AreMarginEntries scale (knots_of margin_shape margins)) (Then (Is (start_member holds))
+    Then (IsOpened (codes ",") margins_data) (Then (AreMarginEntries scale (knots_of margin_shape margins)) (Then (IsOpened (codes ",") (start_data holds))
     (Then (AreEntries truth_shape true scale truth) (Is (codes "}\n")))))

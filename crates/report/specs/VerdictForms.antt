@@ -1,14 +1,21 @@
--- A verdict as a line, or as an object in a list of JSON, from the texts of its two times.
+-- A verdict as a line, or as an object in a list of JSON.
 use Rattle.std.specs.Prelude.{◌≡◌, ℕ, Bool, true, false, List, [], ◌∷◌, ◌++◌, if◌then◌else◌, codes}
 use Rattle.rational.specs.Time.{closed}
+use Rattle.serde_json.specs.Data.{Data}
+use Rattle.serde_json.specs.Written.{compact_text}
 use Rattle.value_laws.specs.Members.{ShapeOf}
 use Rattle.pl_signal.specs.declared.knot.Knot.{Knot}
 use Rattle.pl_signal.specs.Knots.{start, stop, IsWorth}
-use Rattle.stl_syntax.specs.Texts.{bool_text, newline, IsSpanText, IsVerdictLine}
+use Rattle.stl_syntax.specs.Texts.{bool_text, newline, IsVerdictLine}
 use Rattle.stl_syntax.specs.declared.scale.Scale.{Scale}
 use Rattle.stl_syntax.specs.declared.items.Verdict.{Verdict}
 use Rattle.report.specs.Appended.{AreEach, Then}
+use Rattle.report.specs.JsonTexts.{IsVerdictData}
 use Rattle.report.specs.SignalVerdicts.{DescribesFunction}
+
+-- the bracket before a span
+abbrev pub line_begin : Verdict → List ℕ
+line_begin v = if v.on.from_in then codes "[" else codes "("
 
 -- the bracket after a span, the truth, and the end of the line
 abbrev pub line_end : Verdict → List ℕ
@@ -18,28 +25,9 @@ line_end v = (if v.on.to_in then codes "]" else codes ")") ++ codes " " ++ bool_
 abbrev pub separator : Bool → List ℕ
 separator last = if last then codes "]" else codes ","
 
--- the bracket after a span, the truth, the end of the object, and what follows it
-abbrev pub json_end : Bool → Verdict → List ℕ
-json_end last v = (if v.on.to_in then codes "]" else codes ")") ++ codes "\",\"value\":" ++ bool_text v.holds ++ codes "}" ++ separator last
-
--- what stands before the times, in JSON or in a line
-abbrev pub entry_begin : Bool → Verdict → List ℕ
-entry_begin true v = if v.on.from_in then codes "{\"on\":\"[" else codes "{\"on\":\"("
-entry_begin false v = if v.on.from_in then codes "[" else codes "("
-
--- what stands after them
-abbrev pub entry_end : Bool → Bool → Verdict → List ℕ
-entry_end true last v = json_end last v
-entry_end false last v = line_end v
-
--- a verdict whose times have the texts `from` and `to`
-abbrev pub entry_text : Bool → Bool → Verdict → List ℕ → List ℕ → List ℕ
-entry_text json last v from to = entry_begin json v ++ from ++ codes "," ++ to ++ entry_end json last v
-
 -- an object of JSON that is the last of its list or not, or a line
 abbrev pub IsEntry : Bool → Bool → Scale → Verdict → List ℕ → Type 0
-IsEntry true last scale v text =
-    (on : List ℕ) × IsSpanText scale v.on on × (text ≡ codes "{\"on\":\"" ++ on ++ codes "\",\"value\":" ++ bool_text v.holds ++ codes "}" ++ separator last)
+IsEntry true last scale v text = (d : Data) × IsVerdictData scale v d × (text ≡ compact_text d ++ separator last)
 IsEntry false last scale v text = IsVerdictLine scale v text
 
 module _ {P : Type 0} (shape : ShapeOf P) (json : Bool) (scale : Scale) where

@@ -1,13 +1,15 @@
 //! Verdicts of which each begins where the one before it ends, in lines or in JSON, so that each time is brought into units once.
 ghost use Rattle.std.specs.Prelude.{◌≡◌, ◌≤◌, ◌++◌, ◌∷◌, [], if◌then◌else◌, true, length, codes, OnOk, OnErr};
-ghost use Rattle.stl_syntax.specs.Texts.{bool_text, newline};
+ghost use Rattle.stl_syntax.specs.Texts.{bool_text, newline, IsVerdictLine};
 ghost use Rattle.report.specs.Appended.{Grew, GrewInPart};
 ghost use Rattle.report.specs.Before.{IsPut, Puts};
-ghost use Rattle.report.specs.VerdictForms.{entry_begin, entry_end, json_end, IsEntry};
+ghost use Rattle.report.specs.VerdictForms.{line_end, IsEntry};
 
 use crate::before::{put_byte, put_word};
+use crate::entry::put_verdict_entry;
 use crate::last::{LastTime, put_time_before};
 use frac128::Memory;
+use std::alloc::Global;
 use stl_syntax::{Scale, Text, Verdict};
 
 /// In which form verdicts are written, and by which scale.
@@ -15,17 +17,7 @@ use stl_syntax::{Scale, Text, Verdict};
 pub(crate) struct Style {
     pub(crate) json: bool,
     pub(crate) scale: Scale,
-}
-
-/// What an object has before its two times.
-fn object_beginning(v: &Verdict) -> &'static [u8]
-    ensures { result.now ≡ entry_begin true v.now }
-{
-    if v.on.from_in {
-        b"{\"on\":\"["
-    } else {
-        b"{\"on\":\"("
-    }
+    pub(crate) alloc: Global,
 }
 
 /// The bracket before a span.
@@ -34,35 +26,6 @@ fn bracket(inside: bool) -> u8
     ensures { result ∷ [] ≡ (if inside then codes "[" else codes "(") }
 {
     if inside { b'[' } else { b'(' }
-}
-
-/// Puts what a verdict has before its two times.
-#[inline(always)]
-fn put_beginning(buf: &mut [u8], end: usize, json: bool, v: &Verdict) -> usize
-    requires room { 8 ≤ end }
-    requires inside { end ≤ length buf.old }
-    ensures { IsPut (entry_begin json v.now) 8 buf.old end buf.new result }
-{
-    if json {
-        return put_word(buf, end, object_beginning(v));
-    }
-    put_byte(buf, end, bracket(v.on.from_in))
-}
-
-/// What an object has after its two times: a bracket, the truth, and what ends the list or parts it from the next.
-fn json_ending(v: &Verdict, last: bool) -> &'static [u8]
-    ensures { result.now ≡ json_end last v.now }
-{
-    match (v.on.to_in, v.holds, last) {
-        (true, true, true) => b"]\",\"value\":true}]",
-        (true, true, false) => b"]\",\"value\":true},",
-        (true, false, true) => b"]\",\"value\":false}]",
-        (true, false, false) => b"]\",\"value\":false},",
-        (false, true, true) => b")\",\"value\":true}]",
-        (false, true, false) => b")\",\"value\":true},",
-        (false, false, true) => b")\",\"value\":false}]",
-        (false, false, false) => b")\",\"value\":false},",
-    }
 }
 
 /// Puts what a line has after its two times, where the span has its end: a bracket, the truth and LF.
@@ -93,16 +56,13 @@ fn put_open(buf: &mut [u8], end: usize, holds: bool) -> usize
     }
 }
 
-/// Puts what a verdict has after its two times.
+/// Puts what a line has after its two times.
 #[inline(always)]
-fn put_ending(buf: &mut [u8], end: usize, json: bool, v: &Verdict, last: bool) -> usize
-    requires room { 18 ≤ end }
+fn put_ending(buf: &mut [u8], end: usize, v: &Verdict) -> usize
+    requires room { 8 ≤ end }
     requires inside { end ≤ length buf.old }
-    ensures { IsPut (entry_end json last v.now) 18 buf.old end buf.new result }
+    ensures { IsPut (line_end v.now) 8 buf.old end buf.new result }
 {
-    if json {
-        return put_word(buf, end, json_ending(v, last));
-    }
     if v.on.to_in {
         put_closed(buf, end, v.holds)
     } else {
@@ -110,27 +70,45 @@ fn put_ending(buf: &mut [u8], end: usize, json: bool, v: &Verdict, last: bool) -
     }
 }
 
-/// Puts a verdict at the end of the buffer, and answers where it begins. `last` has the time that was written last, and then that
-/// where the verdict ends.
-fn put_entry(buf: &mut [u8], last: &mut LastTime, v: &Verdict, style: Style, closes: bool) -> usize
-    requires digits { style.scale.time ≤ 6 }
+/// Puts the line of a verdict at the end of the buffer, and answers where it begins. `last` has the time that was written last, and then
+/// that where the verdict ends.
+fn put_entry(buf: &mut [u8], last: &mut LastTime, v: &Verdict, scale: Scale) -> usize
+    requires digits { scale.time ≤ 6 }
     requires room { 256 ≤ length buf.old }
-    ensures { Puts (IsEntry style.json closes style.scale v.now) 256 buf.old (length buf.old) buf.new result }
+    ensures { Puts (IsVerdictLine scale v.now) 256 buf.old (length buf.old) buf.new result }
 {
-    let digits = style.scale.time;
+    let digits = scale.time;
     let end = buf.len();
-    let after = put_ending(buf, end, style.json, v, closes);
+    let after = put_ending(buf, end, v);
     let second = put_time_before(buf, after, &v.on.to, digits);
     let comma = put_byte(buf, second, b',');
     let first = last.put(buf, comma, &v.on.from, digits);
     last.keep(buf, second, after, &v.on.to, digits);
-    put_beginning(buf, first, style.json, v)
+    put_byte(buf, first, bracket(v.on.from_in))
 }
 
-/// Appends a verdict, which closes its list or not. `last` has the time that was written last. What the buffer has does not matter:
-/// it lends its room.
+/// Appends the line of a verdict. `last` has the time that was written last. What the buffer has does not matter: it lends its room.
+pub(crate) fn put_next_line(
+    text: &mut Text,
+    buf: &mut [u8],
+    last: &mut LastTime,
+    v: &Verdict,
+    scale: Scale,
+) -> Result<(), Memory>
+    requires digits { scale.time ≤ 6 }
+    requires room { 256 ≤ length buf.old }
+    ensures ok { OnOk result (Grew (IsVerdictLine scale v.now) text.old text.new) }
+    ensures room { length buf.new ≡ length buf.old }
+    ensures err { OnErr result (GrewInPart (IsVerdictLine scale v.now) text.old text.new) }
+{
+    let at = put_entry(buf, last, v, scale);
+    text.push(&buf[at..])
+}
+
+/// Appends a verdict, which closes its list or not. `last` and `buf` as in `put_next_line`; what `room` has does not matter either.
 pub(crate) fn put_next(
     text: &mut Text,
+    room: &mut Text,
     buf: &mut [u8],
     last: &mut LastTime,
     v: &Verdict,
@@ -143,6 +121,8 @@ pub(crate) fn put_next(
     ensures room { length buf.new ≡ length buf.old }
     ensures err { OnErr result (GrewInPart (IsEntry style.json closes style.scale v.now) text.old text.new) }
 {
-    let at = put_entry(buf, last, v, style, closes);
-    text.push(&buf[at..])
+    if style.json {
+        return put_verdict_entry(style.alloc, text, room, v, style.scale, closes);
+    }
+    put_next_line(text, buf, last, v, style.scale)
 }

@@ -1,102 +1,41 @@
 //! The report as one object of JSON.
 //!
-//! It is the compact text that `serde_json` has for the report as a value. It is written as it comes, so that a report of many knots
-//! takes no memory beside its text: keys and fractions need no escapes, and the formula and its atoms go through `serde_json`.
-ghost use Rattle.std.specs.Prelude.{◌≡◌, ◌≤◌, ◌<◌, ◌^◌, ◌++◌, All, IfOk, OnOk, OnErr, codes, drop, length};
+//! Its text is the compact one that `serde_json` has for the report as a value. Each entry (a knot, a piece, an item, a verdict) is made
+//! as a value and printed before the next one, so that a report of many knots takes no memory beside its text but that of one entry.
+//! What stands around the lists are objects with an empty list at their end, each printed up to where the items of that list begin.
+ghost use Rattle.std.specs.Prelude.{◌≡◌, ◌≤◌, ◌<◌, ◌^◌, ◌++◌, ℕ, List, false, All, IfOk, OnOk, OnErr, codes, drop, length};
 ghost use Rattle.rational.specs.Rational.{IsWithin};
 ghost use Rattle.frac128.specs.Value.{value};
 ghost use Rattle.value_laws.specs.Kinds.{truth_shape, margin_shape};
 ghost use Rattle.pl_signal.specs.Knots.{start, stop, IsWorth, IsSignal};
 ghost use Rattle.pl_signal.specs.Plain.{knots_of, plain_knot, plain_piece};
+ghost use Rattle.serde_json.specs.Data.{object, array, member, no_items, no_members};
+ghost use Rattle.serde_json.specs.View.{view};
+ghost use Rattle.serde_json.specs.Written.{has_float};
 ghost use Rattle.report.specs.Appended.{Grew, GrewInPart, AreEach};
 ghost use Rattle.report.specs.ItemLines.{IsOfAtom};
-ghost use Rattle.report.specs.JsonTexts.{json_string, IsFormulaString, IsItemEntry, item_end, AreLaterEntries, AreItemEntries};
-ghost use Rattle.report.specs.JsonTexts.{IsKnotEntry, IsPieceEntry, IsStepEntry, AreMarginEntries, start_member, HeadParts};
+ghost use Rattle.report.specs.JsonTexts.{AreLaterEntries, AreItemEntries, IsStepEntry, AreMarginEntries};
+ghost use Rattle.report.specs.JsonTexts.{IsHeadData, margins_data, start_data, EndsWithList, IsOpened, HeadParts};
 ghost use Rattle.report.specs.ReportText.{IsReportText, TailParts};
 ghost use Rattle.report.specs.SignalVerdicts.{sign_of};
 ghost use Rattle.report.specs.Steps.{steps_of, step};
 
+use crate::entry::{put_item_entry, put_knot_entry, put_piece_entry, string_value};
 use crate::following::Style;
-use crate::items::{atom_text, line_from};
-use crate::margin::{put_time_after, put_value_after};
+use crate::items::line_from;
 use crate::signal::put_spans;
-use crate::verdict::put_span;
 use frac128::Memory;
 use pl_signal::{Knot, Signal};
-use serde_json::Value;
+use serde_json::{Value, json};
 use std::alloc::{AllocError, Global};
-use std::str;
-use stl_syntax::{Formula, Item, Items, Scale, Text};
+use stl_syntax::{Formula, Items, Scale, Text};
 use value_laws::{Margin, Truth};
-
-/// A text as a string of JSON.
-fn string_of(alloc: Global, content: &str) -> Result<Vec<u8>, AllocError>
-    ensures { IfOk result (λ v. v.items ≡ json_string content.now) }
-{
-    Value::try_from_str(alloc, content)?.to_vec(alloc)
-}
-
-/// Appends a text as a string of JSON.
-fn put_string(alloc: Global, text: &mut Text, content: &[u8]) -> Result<(), Memory>
-    ensures ok { OnOk result (text.new ≡ text.old ++ json_string content.now) }
-    ensures err { OnErr result (text.new ≡ text.old) }
-{
-    // The names in a formula are text, so what is printed of it is. No proof says so; tools/read_back tries it.
-    let Ok(content) = str::from_utf8(content) else {
-        return Err(Memory);
-    };
-    match string_of(alloc, content) {
-        Ok(string) => text.push(&string),
-        Err(_) => Err(Memory),
-    }
-}
-
-/// Appends the printed formula as a string.
-fn put_formula(alloc: Global, text: &mut Text, formula: &Formula) -> Result<(), Memory>
-    ensures ok { OnOk result (Grew (IsFormulaString formula.now) text.old text.new) }
-    ensures err { OnErr result (text.new ≡ text.old) }
-{
-    let printed = formula.print()?;
-    put_string(alloc, text, printed.bytes())
-}
-
-/// What an item has after its span.
-fn item_ending(holds: bool) -> &'static [u8]
-    ensures { result.now ≡ item_end holds }
-{
-    if holds {
-        b"\",\"value\":true}"
-    } else {
-        b"\",\"value\":false}"
-    }
-}
-
-/// Appends an item, of which `lead` has the bytes before its atom.
-fn put_item_entry(
-    alloc: Global,
-    text: &mut Text,
-    lead: &[u8],
-    formula: &Formula,
-    item: &Item,
-    scale: Scale,
-) -> Result<(), Memory>
-    requires digits { scale.time ≤ 6 }
-    requires atom { IsOfAtom formula.now item.now }
-    ensures ok { OnOk result (Grew (IsItemEntry lead.now scale formula.now item.now) text.old text.new) }
-    ensures err { OnErr result (GrewInPart (IsItemEntry lead.now scale formula.now item.now) text.old text.new) }
-{
-    let name = atom_text(formula, item.node)?;
-    text.push(lead)?;
-    put_string(alloc, text, name.bytes())?;
-    text.push(b",\"on\":\"")?;
-    put_span(text, &item.on, scale)?;
-    text.push(item_ending(item.holds))
-}
 
 /// Appends the items from a place on, each after a comma, where neighbours that join are one.
 fn put_later_items(
     alloc: Global,
     text: &mut Text,
+    room: &mut Text,
     formula: &Formula,
     items: &Items,
     from: usize,
@@ -111,7 +50,7 @@ fn put_later_items(
     let mut i = from;
     while i < items.len() {
         let (line, end) = line_from(items, i);
-        put_item_entry(alloc, text, b",{\"atom\":", formula, &line, scale)?;
+        put_item_entry(alloc, text, room, b",", formula, &line, scale)?;
         i = end;
     }
     Ok(())
@@ -121,6 +60,7 @@ fn put_later_items(
 fn put_item_entries(
     alloc: Global,
     text: &mut Text,
+    room: &mut Text,
     formula: &Formula,
     items: &Items,
     scale: Scale,
@@ -134,55 +74,16 @@ fn put_item_entries(
         return text.push(b"]");
     }
     let (line, end) = line_from(items, 0);
-    put_item_entry(alloc, text, b"{\"atom\":", formula, &line, scale)?;
-    put_later_items(alloc, text, formula, items, end, scale)?;
+    put_item_entry(alloc, text, room, b"", formula, &line, scale)?;
+    put_later_items(alloc, text, room, formula, items, end, scale)?;
     text.push(b"]")
-}
-
-/// Appends a knot, of which `lead` has the bytes before its time.
-fn put_knot_entry(
-    text: &mut Text,
-    lead: &[u8],
-    k: &Knot<Margin>,
-    scale: Scale,
-) -> Result<(), Memory>
-    requires time { scale.time ≤ 6 }
-    requires value { scale.value ≤ 6 }
-    requires within { IsWithin (2 ^ 34) (value k.now.time) }
-    ensures ok { OnOk result (Grew (IsKnotEntry lead.now scale (plain_knot margin_shape k.now)) text.old text.new) }
-    ensures err { OnErr result (GrewInPart (IsKnotEntry lead.now scale (plain_knot margin_shape k.now)) text.old text.new) }
-{
-    put_time_after(text, lead, &k.time, scale.time)?;
-    put_value_after(text, b"\",\"margin\":\"", &k.point, &k.time, scale.value)?;
-    text.push(b"\"}")
-}
-
-/// Appends the piece between two knots, after a comma.
-fn put_piece_entry(
-    text: &mut Text,
-    k: &Knot<Margin>,
-    n: &Knot<Margin>,
-    scale: Scale,
-) -> Result<(), Memory>
-    requires time { scale.time ≤ 6 }
-    requires value { scale.value ≤ 6 }
-    requires from { IsWithin (2 ^ 34) (value k.now.time) }
-    requires to { IsWithin (2 ^ 34) (value n.now.time) }
-    ensures ok { OnOk result
-        (Grew (IsPieceEntry scale (step (plain_knot margin_shape k.now) (plain_piece margin_shape k.now n.now))) text.old text.new) }
-    ensures err { OnErr result
-        (GrewInPart (IsPieceEntry scale (step (plain_knot margin_shape k.now) (plain_piece margin_shape k.now n.now))) text.old text.new) }
-{
-    put_value_after(text, b",{\"from\":\"", &k.after, &k.time, scale.value)?;
-    put_time_after(text, b"\",\"on\":\"(", &k.time, scale.time)?;
-    put_time_after(text, b",", &n.time, scale.time)?;
-    put_value_after(text, b")\",\"to\":\"", &k.after, &n.time, scale.value)?;
-    text.push(b"\"}")
 }
 
 /// Appends the piece between two knots and the second.
 fn put_step_entry(
+    alloc: Global,
     text: &mut Text,
+    room: &mut Text,
     k: &Knot<Margin>,
     n: &Knot<Margin>,
     scale: Scale,
@@ -196,12 +97,18 @@ fn put_step_entry(
     ensures err { OnErr result
         (GrewInPart (IsStepEntry scale (step (plain_knot margin_shape k.now) (plain_piece margin_shape k.now n.now))) text.old text.new) }
 {
-    put_piece_entry(text, k, n, scale)?;
-    put_knot_entry(text, b",{\"at\":\"", n, scale)
+    put_piece_entry(alloc, text, room, k, n, scale)?;
+    put_knot_entry(alloc, text, room, b",", n, scale)
 }
 
 /// Appends the pieces, each with the knot after it.
-fn put_step_entries(text: &mut Text, s: &Signal<Margin>, scale: Scale) -> Result<(), Memory>
+fn put_step_entries(
+    alloc: Global,
+    text: &mut Text,
+    room: &mut Text,
+    s: &Signal<Margin>,
+    scale: Scale,
+) -> Result<(), Memory>
     requires time { scale.time ≤ 6 }
     requires value { scale.value ≤ 6 }
     requires begins { IsWithin (2 ^ 34) (start s.now) }
@@ -211,13 +118,19 @@ fn put_step_entries(text: &mut Text, s: &Signal<Margin>, scale: Scale) -> Result
 {
     let last = s.len() - 1;
     for i in 0..last {
-        put_step_entry(text, &s.knot(i), &s.knot(i + 1), scale)?;
+        put_step_entry(alloc, text, room, &s.knot(i), &s.knot(i + 1), scale)?;
     }
     Ok(())
 }
 
 /// Appends the list of the knots and the pieces with its closing bracket.
-fn put_margin_entries(text: &mut Text, s: &Signal<Margin>, scale: Scale) -> Result<(), Memory>
+fn put_margin_entries(
+    alloc: Global,
+    text: &mut Text,
+    room: &mut Text,
+    s: &Signal<Margin>,
+    scale: Scale,
+) -> Result<(), Memory>
     requires time { scale.time ≤ 6 }
     requires value { scale.value ≤ 6 }
     requires begins { IsWithin (2 ^ 34) (start s.now) }
@@ -227,26 +140,66 @@ fn put_margin_entries(text: &mut Text, s: &Signal<Margin>, scale: Scale) -> Resu
 {
     // For the proof alone: that it is a signal is a clause of `len`.
     let _ = s.len();
-    put_knot_entry(text, b"{\"at\":\"", &s.knot(0), scale)?;
-    put_step_entries(text, s, scale)?;
+    put_knot_entry(alloc, text, room, b"", &s.knot(0), scale)?;
+    put_step_entries(alloc, text, room, s, scale)?;
     text.push(b"]")
 }
 
-/// The truth at the start, between the margins and the verdicts.
-fn start_at(holds: bool) -> &'static [u8]
-    ensures { result.now ≡ start_member holds }
+/// The object of a report up to its items, of which it has none yet.
+fn head_object(alloc: Global, printed: Value) -> Result<Value, AllocError>
+    ensures { IfOk result (λ v. view v ≡ object (member (codes "formula") (view printed) (member (codes "items") (array no_items) no_members))) }
 {
-    if holds {
-        b",\"start\":true,\"verdicts\":["
-    } else {
-        b",\"start\":false,\"verdicts\":["
-    }
+    json!(in alloc; {"formula": printed, "items": []})
+}
+
+/// The same of a formula.
+fn head_value(alloc: Global, formula: &Formula) -> Result<Value, Memory>
+    ensures { IfOk result (λ v. IsHeadData formula.now (view v)) }
+{
+    let printed = formula.print()?;
+    let text = string_value(alloc, printed.bytes())?;
+    Ok(head_object(alloc, text)?)
+}
+
+/// The object of the margins, of which it has none yet.
+fn margins_object(alloc: Global) -> Result<Value, AllocError>
+    ensures { IfOk result (λ v. view v ≡ margins_data) }
+{
+    json!(in alloc; {"margins": []})
+}
+
+/// The object of the truth at the start and of the verdicts, of which it has none yet.
+fn start_object(alloc: Global, holds: bool) -> Result<Value, AllocError>
+    ensures { IfOk result (λ v. view v ≡ start_data holds) }
+{
+    json!(in alloc; {"start": holds, "verdicts": []})
+}
+
+/// What stands between the brace of an object and the end of the list at its own end.
+fn inside(written: &[u8]) -> &[u8]
+    requires { (front : List ℕ) × (written.now ≡ codes "{" ++ (front ++ codes "]}")) }
+    ensures { written.now ≡ codes "{" ++ (result.now ++ codes "]}") }
+{
+    &written[1..written.len() - 2]
+}
+
+/// Appends an object that ends with an empty list, with `lead` in place of its first brace, up to where the items of that list begin.
+fn put_opened(alloc: Global, text: &mut Text, lead: &[u8], object: &Value) -> Result<(), Memory>
+    requires float { has_float (view object.now) ≡ false }
+    requires list { (front : List ℕ) × EndsWithList (view object.now) front }
+    ensures ok { OnOk result (Grew (IsOpened lead.now (view object.now)) text.old text.new) }
+    ensures err { OnErr result (GrewInPart (IsOpened lead.now (view object.now)) text.old text.new) }
+{
+    let written = object.to_vec(alloc)?;
+    text.push(lead)?;
+    text.push(inside(&written))
 }
 
 /// Appends the object up to its items.
 fn put_head(
     alloc: Global,
     text: &mut Text,
+    room: &mut Text,
     formula: &Formula,
     items: &Items,
     scale: Scale,
@@ -256,15 +209,15 @@ fn put_head(
     ensures ok { OnOk result (Grew (HeadParts scale formula.now items.now) text.old text.new) }
     ensures err { OnErr result (GrewInPart (HeadParts scale formula.now items.now) text.old text.new) }
 {
-    text.push(b"{\"formula\":")?;
-    put_formula(alloc, text, formula)?;
-    text.push(b",\"items\":[")?;
-    put_item_entries(alloc, text, formula, items, scale)
+    put_opened(alloc, text, b"{", &head_value(alloc, formula)?)?;
+    put_item_entries(alloc, text, room, formula, items, scale)
 }
 
 /// Appends the object from its margins on.
 fn put_tail(
+    alloc: Global,
     text: &mut Text,
+    room: &mut Text,
     truth: &Signal<Truth>,
     margins: &Signal<Margin>,
     holds: bool,
@@ -278,10 +231,15 @@ fn put_tail(
     ensures ok { OnOk result (Grew (TailParts scale truth.now margins.now holds) text.old text.new) }
     ensures err { OnErr result (GrewInPart (TailParts scale truth.now margins.now holds) text.old text.new) }
 {
-    text.push(b",\"margins\":[")?;
-    put_margin_entries(text, margins, scale)?;
-    text.push(start_at(holds))?;
-    put_spans(text, truth, Style { json: true, scale })?;
+    put_opened(alloc, text, b",", &margins_object(alloc)?)?;
+    put_margin_entries(alloc, text, room, margins, scale)?;
+    put_opened(alloc, text, b",", &start_object(alloc, holds)?)?;
+    let style = Style {
+        json: true,
+        scale,
+        alloc,
+    };
+    put_spans(text, truth, style)?;
     text.push(b"}\n")
 }
 
@@ -319,6 +277,7 @@ pub fn put_json(
     ensures err { OnErr result (GrewInPart (IsReportText scale formula.now truth.now margins.now items.now) text.old text.new) }
 {
     let holds = start_of(truth);
-    put_head(alloc, text, formula, items, scale)?;
-    put_tail(text, truth, margins, holds, scale)
+    let mut room = Text::new(alloc);
+    put_head(alloc, text, &mut room, formula, items, scale)?;
+    put_tail(alloc, text, &mut room, truth, margins, holds, scale)
 }

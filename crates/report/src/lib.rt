@@ -3,6 +3,7 @@
 
 mod before;
 mod early;
+mod entry;
 mod fault;
 mod following;
 mod items;

@@ -10,7 +10,7 @@ ghost use Rattle.pl_signal.specs.Plain.{knots_of, plain_knot, plain_piece};
 ghost use Rattle.stl_syntax.specs.Texts.{IsValueText, IsKnotLine, IsPieceLine, AreMarginLines};
 ghost use Rattle.report.specs.Appended.{Grew, GrewInPart};
 ghost use Rattle.report.specs.Before.{Puts};
-ghost use Rattle.report.specs.MarginLines.{IsTimeAfter, IsValueAfter, AreNextLines, AreLaterLines};
+ghost use Rattle.report.specs.MarginLines.{AreNextLines, AreLaterLines};
 
 use crate::before::{put_lowest, put_word};
 use crate::last::put_time_before;
@@ -34,38 +34,6 @@ pub(crate) fn put_value(text: &mut Text, m: &Margin, at: &Frac, digits: u8) -> R
         Margin::Fixed(c) => put_fraction(text, &in_units(c, digits)),
         Margin::Ramp(f) => put_fraction(text, &quotient_in_units(&f.at(at), digits)),
     }
-}
-
-/// Appends some bytes, and then a time in units.
-pub(crate) fn put_time_after(
-    text: &mut Text,
-    lead: &[u8],
-    t: &Frac,
-    digits: u8,
-) -> Result<(), Memory>
-    requires { digits ≤ 6 }
-    ensures ok { OnOk result (Grew (IsTimeAfter lead.now digits (value t.now)) text.old text.new) }
-    ensures err { OnErr result (GrewInPart (IsTimeAfter lead.now digits (value t.now)) text.old text.new) }
-{
-    text.push(lead)?;
-    put_fraction(text, &in_units(t, digits))
-}
-
-/// Appends some bytes, and then the value of a margin at a time, in units.
-pub(crate) fn put_value_after(
-    text: &mut Text,
-    lead: &[u8],
-    m: &Margin,
-    at: &Frac,
-    digits: u8,
-) -> Result<(), Memory>
-    requires few { digits ≤ 6 }
-    requires time { IsWithin (2 ^ 34) (value at.now) }
-    ensures ok { OnOk result (Grew (IsValueAfter lead.now digits (value_at (margin_function m.now) (value at.now))) text.old text.new) }
-    ensures err { OnErr result (GrewInPart (IsValueAfter lead.now digits (value_at (margin_function m.now) (value at.now))) text.old text.new) }
-{
-    text.push(lead)?;
-    put_value(text, m, at, digits)
 }
 
 /// Puts the value of a margin at a time, in units.

@@ -14,9 +14,10 @@ use pl_signal::Signal;
 use stl_syntax::{Scale, Text, Verdict};
 use value_laws::{Shape, Truth};
 
-/// Appends a verdict that another follows, where there is one; `buf` and `last` as in `put_next`.
+/// Appends a verdict that another follows, where there is one; `room`, `buf` and `last` as in `put_next`.
 fn put_ended(
     text: &mut Text,
+    room: &mut Text,
     buf: &mut [u8],
     last: &mut LastTime,
     ended: Option<Verdict>,
@@ -29,7 +30,7 @@ fn put_ended(
     ensures err { OnErr result (GrewInPart (AreEach (IsEntry style.json false style.scale) (listed ended)) text.old text.new) }
 {
     match ended {
-        Some(v) => put_next(text, buf, last, &v, style, false),
+        Some(v) => put_next(text, room, buf, last, &v, style, false),
         None => Ok(()),
     }
 }
@@ -44,14 +45,15 @@ pub(crate) fn put_spans(text: &mut Text, s: &Signal<Truth>, style: Style) -> Res
     let first = s.knot(0);
     let mut span = OpenSpan::start(&first);
     let mut last = LastTime::new();
+    let mut room = Text::new(style.alloc);
     let mut buf = [0u8; 256];
     for i in 1..knots {
         let (by_gap, by_point) = span.advance(&s.knot(i - 1), &s.knot(i));
-        put_ended(text, &mut buf, &mut last, by_gap, style)?;
-        put_ended(text, &mut buf, &mut last, by_point, style)?;
+        put_ended(text, &mut room, &mut buf, &mut last, by_gap, style)?;
+        put_ended(text, &mut room, &mut buf, &mut last, by_point, style)?;
     }
     let end = span.close(s.stop(), true);
-    put_next(text, &mut buf, &mut last, &end, style, true)
+    put_next(text, &mut room, &mut buf, &mut last, &end, style, true)
 }
 
 /// Appends the verdict lines of a signal: the longest spans of one truth, in order, with times in units of the scale.
@@ -63,5 +65,10 @@ pub fn put_verdicts(text: &mut Text, s: &Signal<Truth>, scale: Scale) -> Result<
     ensures ok { OnOk result (Grew (AreSignalLines ⟦<Truth as Shape>⟧ scale s.now) text.old text.new) }
     ensures err { OnErr result (GrewInPart (AreSignalLines ⟦<Truth as Shape>⟧ scale s.now) text.old text.new) }
 {
-    put_spans(text, s, Style { json: false, scale })
+    let style = Style {
+        json: false,
+        scale,
+        alloc: s.alloc(),
+    };
+    put_spans(text, s, style)
 }

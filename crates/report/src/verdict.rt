@@ -3,7 +3,7 @@ ghost use Rattle.std.specs.Prelude.{◌≡◌, ◌≤◌, ◌++◌, if◌then◌
 ghost use Rattle.stl_syntax.specs.Texts.{IsSpanText, IsVerdictLine, start_line};
 ghost use Rattle.report.specs.Appended.{Grew, GrewInPart};
 
-use crate::following::{Style, put_next};
+use crate::following::put_next_line;
 use crate::last::LastTime;
 use crate::number::{in_units, put_fraction};
 use frac128::{Memory, Span};
@@ -67,8 +67,7 @@ pub fn put_verdict_after(
     ensures err { OnErr result (GrewInPart (IsVerdictLine scale v.now) text.old text.new) }
 {
     let mut buf = [0u8; 256];
-    let style = Style { json: false, scale };
-    put_next(text, &mut buf, last, v, style, false)
+    put_next_line(text, &mut buf, last, v, scale)
 }
 
 /// Appends the line of the truth at the start.

@@ -1,36 +1,41 @@
-use Rattle.std.proofs.Common.{codes}
+use Rattle.std.proofs.Common.{ℕ, List, refl, ap, ◌∙◌, codes}
 use Rattle.std.proofs.lemmas.Result.{on_ok_weaker, on_err_weaker}
 use Rattle.rational.proofs.Lists.{on_err_anyway}
-use Rattle.report.specs.Appended.{Then, Is}
-use Rattle.report.specs.JsonTexts.{IsFormulaString, AreItemEntries, HeadParts}
-use Rattle.report.proofs.Growths.{grew_is, grew_then, part_none, part_then}
-use Rattle.report.proofs.ReportTexts.{AfterFormula, after_formula_exists, formula_on_exists, head_exists}
+use Rattle.serde_json.specs.View.{view}
+use Rattle.serde_json.specs.Written.{has_float, compact_text}
+use Rattle.report.specs.JsonTexts.{AreItemEntries, IsOpened, IsOpening, HeadParts}
+use Rattle.report.proofs.Growths.{grew_as, grew_then, part_as, part_none, part_then, part_first}
+use Rattle.report.proofs.JsonData.{head_front, head_ends}
+use Rattle.report.proofs.JsonItems.{list_exists}
+use Rattle.report.proofs.ReportTexts.{head_exists}
 use Rattle.report.proofs.json.put_head.Goals as goal
+use Rattle.report.proofs.json.put_head.Goals.{In_ok-head_value}
 
-pub returns-in_err-push-clause-err : goal.returns-in_err-push-clause-err
-returns-in_err-push-clause-err c =
-    on_err_anyway _ (part_none (HeadParts c.args.scale c.args.formula.now c.args.items.now) c.args.text.now _
-    (head_exists c.args.scale c.args.formula.now c.args.items.now c.requires.atoms)
-    c.in_err-push.ensures.err)
+-- what is opened is the beginning of a report
+opened : (c : In_ok-head_value) (text : List ℕ) → IsOpened (codes "{") (view c.in_ok-head_value.field-0) text → IsOpening c.args.formula.now text
+opened c text h = (view c.in_ok-head_value.field-0, c.in_ok-head_value.ensures, h)
 
-pub returns-in_err-put_formula-clause-err : goal.returns-in_err-put_formula-clause-err
-returns-in_err-put_formula-clause-err c =
+pub put_opened-requires-clause-float : goal.put_opened-requires-clause-float
+put_opened-requires-clause-float c = ap has_float c.in_ok-head_value.ensures.2
+
+pub put_opened-requires-clause-list : goal.put_opened-requires-clause-list
+put_opened-requires-clause-list c =
+    let (printed, is_printed, is) = c.in_ok-head_value.ensures in (head_front printed, ap compact_text is ∙ head_ends printed)
+
+pub returns-in_err-head_value-clause-err : goal.returns-in_err-head_value-clause-err
+returns-in_err-head_value-clause-err c =
+    on_err_anyway _ (part_none (HeadParts c.args.scale c.args.formula.now c.args.items.now) c.args.text.now c.args.text.now
+    (head_exists c.args.scale c.args.formula.now c.args.items.now c.requires.atoms) refl)
+
+pub returns-in_err-put_opened-clause-err : goal.returns-in_err-put_opened-clause-err
+returns-in_err-put_opened-clause-err c =
     let s = c.args.scale in
     let f = c.args.formula.now in
     let items = c.args.items.now in
-    on_err_anyway _ (part_then (Is (codes "{\"formula\":")) (Then (IsFormulaString f) (AfterFormula s f items)) c.args.text.now _ _
-    (grew_is (codes "{\"formula\":") _ _ c.in_ok-push.ensures.ok)
-    (part_none (Then (IsFormulaString f) (AfterFormula s f items)) _ _ (formula_on_exists s f items c.requires.atoms) c.in_err-put_formula.ensures.err))
-
-pub returns-in_err-push-2-clause-err : goal.returns-in_err-push-2-clause-err
-returns-in_err-push-2-clause-err c =
-    let s = c.args.scale in
-    let f = c.args.formula.now in
-    let items = c.args.items.now in
-    on_err_anyway _ (part_then (Is (codes "{\"formula\":")) (Then (IsFormulaString f) (AfterFormula s f items)) c.args.text.now _ _
-    (grew_is (codes "{\"formula\":") _ _ c.in_ok-push.ensures.ok)
-    (part_then (IsFormulaString f) (AfterFormula s f items) _ _ _ c.in_ok-put_formula.ensures.ok
-    (part_none (AfterFormula s f items) _ _ (after_formula_exists s f items c.requires.atoms) c.in_err-push-2.ensures.err)))
+    on_err_anyway _ (part_first (IsOpening f) (AreItemEntries s f items) c.args.text.now _
+    (part_as (IsOpened (codes "{") (view c.in_ok-head_value.field-0)) (IsOpening f) c.args.text.now _
+    (opened (goal.at.returns-in_err-put_opened-clause-err c).In_ok-head_value) c.in_err-put_opened.ensures.err)
+    (list_exists s f items c.requires.atoms))
 
 pub returns-clause-ok : goal.returns-clause-ok
 returns-clause-ok c =
@@ -38,11 +43,9 @@ returns-clause-ok c =
     let f = c.args.formula.now in
     let items = c.args.items.now in
     on_ok_weaker c.put_item_entries.result
-    (λ g. grew_then (Is (codes "{\"formula\":")) (Then (IsFormulaString f) (AfterFormula s f items)) c.args.text.now _ _
-    (grew_is (codes "{\"formula\":") _ _ c.in_ok-push.ensures.ok)
-    (grew_then (IsFormulaString f) (AfterFormula s f items) _ _ _ c.in_ok-put_formula.ensures.ok
-    (grew_then (Is (codes ",\"items\":[")) (AreItemEntries s f items) _ _ _
-    (grew_is (codes ",\"items\":[") _ _ c.in_ok-push-2.ensures.ok) g))) c.put_item_entries.ensures.ok
+    (grew_then (IsOpening f) (AreItemEntries s f items) c.args.text.now _ _
+    (grew_as (IsOpened (codes "{") (view c.in_ok-head_value.field-0)) (IsOpening f) c.args.text.now _
+    (opened (goal.at.returns-clause-ok c).In_ok-head_value) c.in_ok-put_opened.ensures.ok)) c.put_item_entries.ensures.ok
 
 pub returns-clause-err : goal.returns-clause-err
 returns-clause-err c =
@@ -50,8 +53,6 @@ returns-clause-err c =
     let f = c.args.formula.now in
     let items = c.args.items.now in
     on_err_weaker c.put_item_entries.result
-    (λ g. part_then (Is (codes "{\"formula\":")) (Then (IsFormulaString f) (AfterFormula s f items)) c.args.text.now _ _
-    (grew_is (codes "{\"formula\":") _ _ c.in_ok-push.ensures.ok)
-    (part_then (IsFormulaString f) (AfterFormula s f items) _ _ _ c.in_ok-put_formula.ensures.ok
-    (part_then (Is (codes ",\"items\":[")) (AreItemEntries s f items) _ _ _
-    (grew_is (codes ",\"items\":[") _ _ c.in_ok-push-2.ensures.ok) g))) c.put_item_entries.ensures.err
+    (part_then (IsOpening f) (AreItemEntries s f items) c.args.text.now _ _
+    (grew_as (IsOpened (codes "{") (view c.in_ok-head_value.field-0)) (IsOpening f) c.args.text.now _
+    (opened (goal.at.returns-clause-err c).In_ok-head_value) c.in_ok-put_opened.ensures.ok)) c.put_item_entries.ensures.err

@@ -1,4 +1,4 @@
-use Rattle.std.proofs.Common.{◌≡◌, ◌<◌, length, drop, arith, codes}
+use Rattle.std.proofs.Common.{◌≡◌, ◌<◌, [], length, drop, arith, codes}
 use Rattle.std.proofs.lemmas.Result.{on_ok_weaker, on_err_weaker}
 use Rattle.rational.proofs.Lists.{on_err_anyway}
 use Rattle.report.specs.Appended.{Then, Is}
@@ -36,7 +36,7 @@ returns-in_err-put_item_entry-clause-err c =
     let tail = some_then (AreLaterEntries s f rest) (Is (codes "]")) (later_exist s f items n c.requires.atoms) (word_exists (codes "]")) in
     on_err_anyway _
     (part_as (ListParts s f line rest) (AreItemEntries s f items) c.args.text.now _ (λ w. list_entries s f items n line w c.line_from-end.ensures.line)
-    (part_first (IsItemEntry (codes "{\"atom\":") s f line)
+    (part_first (IsItemEntry [] s f line)
     (Then (AreLaterEntries s f rest) (Is (codes "]"))) c.args.text.now _ c.in_err-put_item_entry.ensures.err tail))
 
 pub returns-in_err-put_later_items-clause-err : goal.returns-in_err-put_later_items-clause-err
@@ -49,7 +49,7 @@ returns-in_err-put_later_items-clause-err c =
     let rest = drop n items in
     on_err_anyway _
     (part_as (ListParts s f line rest) (AreItemEntries s f items) c.args.text.now _ (λ w. list_entries s f items n line w c.line_from-end.ensures.line)
-    (part_then (IsItemEntry (codes "{\"atom\":") s f line)
+    (part_then (IsItemEntry [] s f line)
     (Then (AreLaterEntries s f rest) (Is (codes "]"))) c.args.text.now _ _ c.in_ok-put_item_entry.ensures.ok
     (part_first (AreLaterEntries s f rest) (Is (codes "]")) _ _ c.in_err-put_later_items.ensures.err (word_exists (codes "]")))))
 
@@ -63,7 +63,7 @@ returns-clause-ok c =
     let rest = drop n items in
     on_ok_weaker c.push-2.result
     (λ e. grew_as (ListParts s f line rest) (AreItemEntries s f items) c.args.text.now _ (λ w. list_entries s f items n line w c.line_from-end.ensures.line)
-    (grew_then (IsItemEntry (codes "{\"atom\":") s f line)
+    (grew_then (IsItemEntry [] s f line)
     (Then (AreLaterEntries s f rest) (Is (codes "]"))) c.args.text.now _ _ c.in_ok-put_item_entry.ensures.ok
     (grew_then (AreLaterEntries s f rest) (Is (codes "]")) _ _ _ c.in_ok-put_later_items.ensures.ok (grew_is (codes "]") _ _ e)))) c.push-2.ensures.ok
 
@@ -77,7 +77,7 @@ returns-clause-err c =
     let rest = drop n items in
     on_err_weaker c.push-2.result
     (λ e. part_as (ListParts s f line rest) (AreItemEntries s f items) c.args.text.now _ (λ w. list_entries s f items n line w c.line_from-end.ensures.line)
-    (part_then (IsItemEntry (codes "{\"atom\":") s f line)
+    (part_then (IsItemEntry [] s f line)
     (Then (AreLaterEntries s f rest) (Is (codes "]"))) c.args.text.now _ _ c.in_ok-put_item_entry.ensures.ok
     (part_then (AreLaterEntries s f rest) (Is (codes "]")) _ _ _ c.in_ok-put_later_items.ensures.ok
     (part_none (Is (codes "]")) _ _ (word_exists (codes "]")) e)))) c.push-2.ensures.err

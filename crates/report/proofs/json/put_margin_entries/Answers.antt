@@ -1,4 +1,4 @@
-use Rattle.std.proofs.Common.{sym, subst, codes}
+use Rattle.std.proofs.Common.{[], sym, subst, codes}
 use Rattle.std.proofs.lemmas.Result.{on_ok_weaker, on_err_weaker}
 use Rattle.rational.proofs.Lists.{on_err_anyway}
 use Rattle.value_laws.specs.Kinds.{margin_shape}
@@ -14,9 +14,9 @@ use Rattle.report.proofs.json.put_margin_entries.Goals.{In_ok-put_knot_entry}
 
 -- the first knot is the first of the plain knots
 first : (c : In_ok-put_knot_entry)
-    → Grew (IsKnotEntry (codes "{\"at\":\"") c.args.scale (knots_of margin_shape c.args.s.now).first) c.args.text.now c.put_knot_entry.new.text
+    → Grew (IsKnotEntry [] c.args.scale (knots_of margin_shape c.args.s.now).first) c.args.text.now c.put_knot_entry.new.text
 first c =
-    subst (λ k. Grew (IsKnotEntry (codes "{\"at\":\"") c.args.scale k) c.args.text.now c.put_knot_entry.new.text)
+    subst (λ k. Grew (IsKnotEntry [] c.args.scale k) c.args.text.now c.put_knot_entry.new.text)
     (sym (first_is margin_shape c.args.s.now c.knot.result c.knot.ensures)) c.in_ok-put_knot_entry.ensures.ok
 
 pub put_knot_entry-requires-clause-within : goal.put_knot_entry-requires-clause-within
@@ -27,15 +27,15 @@ pub returns-in_err-put_knot_entry-clause-err : goal.returns-in_err-put_knot_entr
 returns-in_err-put_knot_entry-clause-err c =
     let s = c.args.scale in
     let knots = knots_of margin_shape c.args.s.now in
-    on_err_anyway _ (part_first (IsKnotEntry (codes "{\"at\":\"") s knots.first) (LaterMargins s knots) c.args.text.now _
-    (subst (λ k. GrewInPart (IsKnotEntry (codes "{\"at\":\"") s k) c.args.text.now c.put_knot_entry.new.text)
+    on_err_anyway _ (part_first (IsKnotEntry [] s knots.first) (LaterMargins s knots) c.args.text.now _
+    (subst (λ k. GrewInPart (IsKnotEntry [] s k) c.args.text.now c.put_knot_entry.new.text)
     (sym (first_is margin_shape c.args.s.now c.knot.result c.knot.ensures)) c.in_err-put_knot_entry.ensures.err) (later_margins_exist s knots))
 
 pub returns-in_err-put_step_entries-clause-err : goal.returns-in_err-put_step_entries-clause-err
 returns-in_err-put_step_entries-clause-err c =
     let s = c.args.scale in
     let knots = knots_of margin_shape c.args.s.now in
-    on_err_anyway _ (part_then (IsKnotEntry (codes "{\"at\":\"") s knots.first) (LaterMargins s knots) c.args.text.now _ _
+    on_err_anyway _ (part_then (IsKnotEntry [] s knots.first) (LaterMargins s knots) c.args.text.now _ _
     (first (goal.at.returns-in_err-put_step_entries-clause-err c).In_ok-put_knot_entry)
     (part_first (AreEach (IsStepEntry s) (steps_of knots)) (Is (codes "]")) _ _ c.in_err-put_step_entries.ensures.err (word_exists (codes "]"))))
 
@@ -45,7 +45,7 @@ returns-clause-ok c =
     let knots = knots_of margin_shape c.args.s.now in
     let begun = first (goal.at.returns-clause-ok c).In_ok-put_knot_entry in
     on_ok_weaker c.push.result
-    (λ e. grew_then (IsKnotEntry (codes "{\"at\":\"") s knots.first) (LaterMargins s knots) c.args.text.now _ _ begun
+    (λ e. grew_then (IsKnotEntry [] s knots.first) (LaterMargins s knots) c.args.text.now _ _ begun
     (grew_then (AreEach (IsStepEntry s) (steps_of knots)) (Is (codes "]")) _ _ _ c.in_ok-put_step_entries.ensures.ok
     (grew_is (codes "]") _ _ e))) c.push.ensures.ok
 
@@ -55,6 +55,6 @@ returns-clause-err c =
     let knots = knots_of margin_shape c.args.s.now in
     let begun = first (goal.at.returns-clause-err c).In_ok-put_knot_entry in
     on_err_weaker c.push.result
-    (λ e. part_then (IsKnotEntry (codes "{\"at\":\"") s knots.first) (LaterMargins s knots) c.args.text.now _ _ begun
+    (λ e. part_then (IsKnotEntry [] s knots.first) (LaterMargins s knots) c.args.text.now _ _ begun
     (part_then (AreEach (IsStepEntry s) (steps_of knots)) (Is (codes "]")) _ _ _ c.in_ok-put_step_entries.ensures.ok
     (part_none (Is (codes "]")) _ _ (word_exists (codes "]")) e))) c.push.ensures.err

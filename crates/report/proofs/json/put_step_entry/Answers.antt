@@ -14,8 +14,8 @@ returns-in_err-put_piece_entry-clause-err c =
     let s = c.args.scale in
     let p = step (plain_knot margin_shape c.args.k.now) (plain_piece margin_shape c.args.k.now c.args.n.now) in
     let n = plain_knot margin_shape c.args.n.now in
-    on_err_anyway _ (part_first (IsPieceEntry s p) (IsKnotEntry (codes ",{\"at\":\"") s n) c.args.text.now _ c.in_err-put_piece_entry.ensures.err
-    (knot_entry_exists s (codes ",{\"at\":\"") n))
+    on_err_anyway _ (part_first (IsPieceEntry s p) (IsKnotEntry (codes ",") s n) c.args.text.now _ c.in_err-put_piece_entry.ensures.err
+    (knot_entry_exists s (codes ",") n))
 
 pub returns-clause-ok : goal.returns-clause-ok
 returns-clause-ok c =
@@ -23,7 +23,7 @@ returns-clause-ok c =
     let p = step (plain_knot margin_shape c.args.k.now) (plain_piece margin_shape c.args.k.now c.args.n.now) in
     let n = plain_knot margin_shape c.args.n.now in
     on_ok_weaker c.put_knot_entry.result
-    (grew_then (IsPieceEntry s p) (IsKnotEntry (codes ",{\"at\":\"") s n) c.args.text.now _ _ c.in_ok-put_piece_entry.ensures.ok) c.put_knot_entry.ensures.ok
+    (grew_then (IsPieceEntry s p) (IsKnotEntry (codes ",") s n) c.args.text.now _ _ c.in_ok-put_piece_entry.ensures.ok) c.put_knot_entry.ensures.ok
 
 pub returns-clause-err : goal.returns-clause-err
 returns-clause-err c =
@@ -31,4 +31,4 @@ returns-clause-err c =
     let p = step (plain_knot margin_shape c.args.k.now) (plain_piece margin_shape c.args.k.now c.args.n.now) in
     let n = plain_knot margin_shape c.args.n.now in
     on_err_weaker c.put_knot_entry.result
-    (part_then (IsPieceEntry s p) (IsKnotEntry (codes ",{\"at\":\"") s n) c.args.text.now _ _ c.in_ok-put_piece_entry.ensures.ok) c.put_knot_entry.ensures.err
+    (part_then (IsPieceEntry s p) (IsKnotEntry (codes ",") s n) c.args.text.now _ _ c.in_ok-put_piece_entry.ensures.ok) c.put_knot_entry.ensures.err
