@@ -5,7 +5,7 @@ use Rattle.rational.specs.Time.{Rational}
 use Rattle.rational.specs.Places.{After, Upto, Before, AtMost}
 use Rattle.frac128.specs.Cuts.{place}
 use Rattle.early_verdict.specs.Spans.{Lies, IsOn, BeginsAfter, AreTidy, EndBefore, NoneEndsBefore}
-use Rattle.early_verdict.specs.Joining.{Notes, Absorbs}
+use Rattle.early_verdict.specs.Joining.{Notes}
 use Rattle.frac128.specs.declared.cut.Cut.{Cut}
 use Rattle.early_verdict.specs.declared.stretch.Stretch.{Stretch}
 use Rattle.rational.proofs.PlaceLemmas.{sides, not_both, before_through, before_of_at_most, before_at_most, not_before_itself}
@@ -49,6 +49,32 @@ pub record Absorbing (at : ℕ) (part joined : Stretch) (seen : Cut) (old new to
   pub passed : (t : Rational) → IsOn old t → IsOn new t ⊎ Upto (place seen) t
   -- what the part has up to there was there, or is noted
   pub gained : (t : Rational) → Lies part t → Upto (place seen) t → IsOn old t ⊎ IsOn more t
+  -- what is noted is of the part, and was not there
+  pub news : (t : Rational) → IsOn more t → Lies part t × ¬ (IsOn old t)
+
+-- the stretches of `old` that the part touches went into `joined`; `new` has the others, with room at the place; and what was told
+-- grew by the times of the part that `old` has not
+pub record Absorbs (at : ℕ) (part joined : Stretch) (old new told fresh : List Stretch) : Type 0 where
+  -- what was noted as new
+  pub more : List Stretch
+  -- it stands behind what was noted before
+  pub noted : fresh ≡ told ++ more
+  -- the place is one of the list, or its end
+  pub within : at ≤ length new
+  -- what stands before it ends before the joined stretch
+  pub front : EndBefore (place joined.from) (take at new)
+  -- what stands from it on begins behind the joined stretch
+  pub rest : BeginsAfter (place joined.to) (drop at new)
+  -- what is left was there
+  pub kept : (t : Rational) → IsOn new t → IsOn old t
+  -- what was there is left, or in the joined stretch
+  pub left : (t : Rational) → IsOn old t → IsOn new t ⊎ Lies joined t
+  -- the part is in the joined stretch
+  pub covers : (t : Rational) → Lies part t → Lies joined t
+  -- which has nothing but the part and what was there
+  pub only : (t : Rational) → Lies joined t → IsOn old t ⊎ Lies part t
+  -- what the part has was there, or is noted
+  pub gained : (t : Rational) → Lies part t → IsOn old t ⊎ IsOn more t
   -- what is noted is of the part, and was not there
   pub news : (t : Rational) → IsOn more t → Lies part t × ¬ (IsOn old t)
 

@@ -1,11 +1,12 @@
 -- How a set grows as a stretch is added.
-use Rattle.std.proofs.Common.{◌≡◌, ◌⊎◌, inl, inr, sym, subst, ℕ, List, []}
+use Rattle.std.proofs.Common.{◌≡◌, ◌⊎◌, inl, inr, sym, subst, ℕ, ◌≤◌, List, [], ◌∷◌, ◌++◌, length, take, drop}
 use Rattle.rational.specs.Time.{Rational}
-use Rattle.early_verdict.specs.Spans.{Lies, IsOn, AreTidy, Grows}
-use Rattle.early_verdict.specs.Joining.{Absorbs}
+use Rattle.frac128.specs.Cuts.{place}
+use Rattle.early_verdict.specs.Spans.{Lies, IsOn, AreTidy, BeginsAfter, EndBefore, Grows}
 use Rattle.early_verdict.specs.declared.stretch.Stretch.{Stretch}
-use Rattle.early_verdict.proofs.Absorbing.{no_more}
-use Rattle.early_verdict.proofs.SpanLemmas.{with_one, on_with, on_with_new, on_with_old, tidy_with}
+use Rattle.early_verdict.proofs.Absorbing.{Absorbs, no_more}
+use Rattle.rational.proofs.PlaceLemmas.{not_both}
+use Rattle.early_verdict.proofs.SpanLemmas.{with_one, on_with, on_with_new, on_with_old, tidy_with, on_parts, front_upto, rest_after, tidy_drop}
 
 -- with no times in the bounds nothing grows
 pub grows_not : {bounds : Stretch} {spans fresh : List Stretch} (P : Rational → Type 0) → ((t : Rational) → Lies bounds t → P t → ⊥)
@@ -18,6 +19,32 @@ grows_not {fresh = fresh} P none = record {
   only = λ t h. inl h;
   gained = λ t h. inl h;
   news = λ t h. absurd h;
+}
+
+-- a part that touches no stretch of the list is joined with none
+pub absorbs_none : (at : ℕ) (part : Stretch) (old told fresh : List Stretch) → AreTidy old → at ≤ length old → EndBefore (place part.from) (take at old)
+    → BeginsAfter (place part.to) (drop at old) → fresh ≡ told ++ part ∷ [] → Absorbs at part part old old told fresh
+absorbs_none at part old told fresh tidy within front rest noted = record {
+  more = part ∷ [];
+  noted = noted;
+  within = within;
+  front = front;
+  rest = rest;
+  kept = λ t h. h;
+  left = λ t h. inl h;
+  covers = λ t h. h;
+  only = λ t h. inr h;
+  gained = λ t h. inr (inl h);
+  news = λ t h. elim h [
+    | inl l ↦ (
+      l,
+      λ o. elim (on_parts old at t o) [
+        | inl f ↦ not_both (place part.from) t (front_upto (place part.from) (take at old) t front f) l.0
+        | inr k ↦ not_both (place part.to) t l.1 (rest_after (place part.to) (drop at old) t (tidy_drop old at tidy) rest k)
+      ],
+    )
+    | inr n ↦ absurd n
+  ];
 }
 
 -- with the joined stretch in the room that was made for it the set has grown by the part

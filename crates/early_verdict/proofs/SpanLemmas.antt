@@ -1,7 +1,7 @@
 -- Lists of stretches that rise: taking one out, putting one in, and what the places before and after it hold.
-use Rattle.std.proofs.Common.{◌≡◌, ◌⊎◌, inl, inr, subst, sym, ℕ, zero, suc, ◌≤◌, List, [], ◌∷◌, ◌++◌, Some, None, length, take}
+use Rattle.std.proofs.Common.{◌≡◌, ◌⊎◌, inl, inr, refl, ap, subst, sym, ℕ, zero, suc, ◌≤◌, List, [], ◌∷◌, ◌++◌, Some, None, length, take}
 use Rattle.std.proofs.Common.{drop, arith}
-use Rattle.std.specs.Prelude.{slice_get}
+use Rattle.std.specs.Prelude.{slice_get, slice_set}
 use Rattle.std.proofs.lemmas.Option.{same_Some}
 use Rattle.rational.specs.Time.{Rational}
 use Rattle.rational.specs.Places.{Place, After, Upto, Before}
@@ -111,6 +111,32 @@ pub within_without : (xs : List Stretch) (at : ℕ) (n : Stretch) → slice_get 
 within_without [] at n e = absurd (no_stretch n e)
 within_without (x ∷ xs) zero n e = omega arith
 within_without (x ∷ xs) (suc at) n e = let k = within_without xs at n e in omega arith
+
+-- a stretch put in the place of one is put in where that one was taken out
+pub set_is : (xs : List Stretch) (at : ℕ) (s : Stretch) → suc at ≤ length xs → slice_set xs at s ≡ with_one (without xs at) at s
+set_is [] at s h = absurd (omega arith)
+set_is (x ∷ xs) zero s h = refl
+set_is (x ∷ xs) (suc at) s h = ap (λ r. x ∷ r) (set_is xs at s (omega arith))
+
+-- without one the next stands in its place
+pub get_next : (xs : List Stretch) (at : ℕ) (n : Stretch) → slice_get xs (suc at) ≡ Some n → slice_get (without xs at) at ≡ Some n
+get_next [] at n e = absurd (no_stretch n e)
+get_next (x ∷ xs) zero n e = e
+get_next (x ∷ xs) (suc at) n e = get_next xs at n e
+
+-- and those after it stand from there on
+pub drop_next : (xs : List Stretch) (at : ℕ) → drop at (without xs at) ≡ drop (suc at) xs
+drop_next [] zero = refl
+drop_next [] (suc at) = refl
+drop_next (x ∷ xs) zero = refl
+drop_next (x ∷ xs) (suc at) = drop_next xs at
+
+-- of two neighbours either may be taken out first
+pub without_next : (xs : List Stretch) (at : ℕ) → without (without xs (suc at)) at ≡ without (without xs at) at
+without_next [] zero = refl
+without_next [] (suc at) = refl
+without_next (x ∷ xs) zero = refl
+without_next (x ∷ xs) (suc at) = ap (λ r. x ∷ r) (without_next xs at)
 
 -- with one more the list has its times too, and no others
 pub on_with_new : (xs : List Stretch) (at : ℕ) (j : Stretch) (t : Rational) → Lies j t → IsOn (with_one xs at j) t

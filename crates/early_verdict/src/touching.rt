@@ -1,12 +1,12 @@
 //! The stretches of a list that another one touches.
-ghost use Rattle.std.specs.Prelude.{◌≡◌, ◌≤◌, ◌++◌, ◌∷◌, ◌↔◌, List, length, take, drop, slice_get, Some, IfOk, OnOk, IfSome, IfNone};
+ghost use Rattle.std.specs.Prelude.{◌≡◌, ◌≤◌, ◌<◌, ◌++◌, ◌∷◌, ◌↔◌, List, length, take, drop, slice_get, slice_set, Some, IfOk, OnOk, IfSome, IfNone};
 ghost use Rattle.rational.specs.Time.{Rational};
 ghost use Rattle.rational.specs.Places.{After, Upto, Before};
 ghost use Rattle.frac128.specs.Cuts.{place};
 ghost use Rattle.early_verdict.specs.Spans.{AreTidy, BeginsAfter, EndBefore, Grows, IsAmong, Lies, NoneEndsBefore};
 ghost use Rattle.early_verdict.specs.Steps.{HoldsFrom};
 ghost use Rattle.early_verdict.specs.declared.stretch.Stretch.{Stretch};
-ghost use Rattle.early_verdict.specs.Joining.{Absorbs, Notes};
+ghost use Rattle.early_verdict.specs.Joining.{Notes};
 
 use crate::stretch::Stretch;
 use frac128::{Cut, Memory};
@@ -71,31 +71,69 @@ fn note(fresh: &mut Vec<Stretch>, from: &Cut, to: &Cut, part: &Stretch) -> Resul
     }
 }
 
-/// Takes out the stretches from the place on that the part touches, notes the times of the part that were in none of them, and
-/// gives the part joined with them.
-fn absorb(
+/// Puts a stretch in the place of the one that stands there.
+fn set_at(spans: &mut VecDeque<Stretch>, at: usize, stretch: Stretch)
+    requires { at < length spans.old.items }
+    ensures { spans.new.items ≡ slice_set spans.old.items at stretch }
+{
+    if let Some(one) = spans.get_mut(at) {
+        *one = stretch;
+    }
+}
+
+/// Joins the part with the stretch at the place, which it touches, and with those after it that it touches too, and notes the times of
+/// the part that were in none of them. A stretch that is joined with the part alone stays where it is: nothing slides.
+fn join(
     spans: &mut VecDeque<Stretch>,
     at: usize,
+    first: &Stretch,
     part: &Stretch,
     fresh: &mut Vec<Stretch>,
-) -> Result<Stretch, Memory>
+) -> Result<(), Memory>
     requires tidy { AreTidy spans.old.items }
     requires within { at ≤ length spans.old.items }
     requires front { EndBefore (place part.now.from) (take at spans.old.items) }
     requires rest { NoneEndsBefore (place part.now.from) (drop at spans.old.items) }
-    ensures tidy { AreTidy spans.new.items }
-    ensures ok { IfOk result (λ joined. Absorbs at part.now joined spans.old.items spans.new.items fresh.old.items fresh.new.items) }
+    requires first { slice_get spans.old.items at ≡ Some first.now }
+    requires touches { ¬ (Before (place part.now.to) (place first.now.from)) }
+    ensures tidy { OnOk result (AreTidy spans.new.items) }
+    ensures ok { OnOk result (Grows part.now spans.old.items spans.new.items fresh.old.items fresh.new.items (Lies part.now)) }
 {
-    let mut joined = *part;
-    let mut seen = part.from;
-    while let Some(next) = begins_by(spans, at, &part.to) {
+    note(fresh, &part.from, &first.from, part)?;
+    let mut joined = part.hull(first);
+    let mut seen = first.to;
+    while let Some(next) = begins_by(spans, at + 1, &part.to) {
         note(fresh, &seen, &next.from, part)?;
         seen = next.to;
         joined = joined.hull(&next);
-        let _ = spans.remove(at);
+        let _ = spans.remove(at + 1);
     }
     note(fresh, &seen, &part.to, part)?;
-    Ok(joined)
+    set_at(spans, at, joined);
+    Ok(())
+}
+
+/// Puts the part in at the place, where it touches no stretch.
+fn put_at(
+    spans: &mut VecDeque<Stretch>,
+    at: usize,
+    part: &Stretch,
+    fresh: &mut Vec<Stretch>,
+) -> Result<(), Memory>
+    requires tidy { AreTidy spans.old.items }
+    requires within { at ≤ length spans.old.items }
+    requires front { EndBefore (place part.now.from) (take at spans.old.items) }
+    requires rest { BeginsAfter (place part.now.to) (drop at spans.old.items) }
+    ensures tidy { OnOk result (AreTidy spans.new.items) }
+    ensures ok { OnOk result (Grows part.now spans.old.items spans.new.items fresh.old.items fresh.new.items (Lies part.now)) }
+{
+    let Ok(()) = spans.insert(at, *part) else {
+        return Err(Memory);
+    };
+    let Ok(()) = fresh.push(*part) else {
+        return Err(Memory);
+    };
+    Ok(())
 }
 
 /// Puts the part in where it belongs, joined with the stretches that it touches.
@@ -109,9 +147,8 @@ pub(crate) fn put_in(
     ensures ok { OnOk result (Grows part.now spans.old.items spans.new.items fresh.old.items fresh.new.items (Lies part.now)) }
 {
     let at = first_reaching(spans, &part.from);
-    let joined = absorb(spans, at, part, fresh)?;
-    match spans.insert(at, joined) {
-        Ok(()) => Ok(()),
-        Err(_) => Err(Memory),
+    match begins_by(spans, at, &part.to) {
+        None => put_at(spans, at, part, fresh),
+        Some(first) => join(spans, at, &first, part, fresh),
     }
 }
