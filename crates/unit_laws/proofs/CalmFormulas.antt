@@ -9,8 +9,8 @@ use Rattle.stl_syntax.specs.Scaling.{scaled_node}
 use Rattle.stl_syntax.specs.WellFormed.{IsLeafInLimits}
 use Rattle.stl_syntax.specs.declared.node.Node.{Node}
 use Rattle.stl_syntax.specs.declared.node.Node.TheVariants.{Const, Atom as Leaf, Not, And, Or, Implies, Until, Eventually, Always, Since, Once, Historically}
-use Rattle.report.proofs.CalmTruth.{HasCalmAtoms}
-use Rattle.report.proofs.GapLines.{calm_atom}
+use Rattle.unit_laws.proofs.CalmTruth.{HasCalmAtoms}
+use Rattle.unit_laws.proofs.GapLines.{calm_atom}
 
 module _ (tr : Trace) (ok : IsTrace tr) (range : AreInRange tr.rows) where
   abbrev IsCalm : Subformula → Type 0

@@ -22,11 +22,11 @@ use Rattle.stl_syntax.specs.Verdicts.{IsTold, GoesOn, Describes}
 use Rattle.stl_syntax.specs.declared.scale.Scale.{Scale}
 use Rattle.stl_syntax.specs.declared.items.Verdict.{Verdict}
 use Rattle.stl_syntax.proofs.TruthLemmas.{Truth-same}
-use Rattle.report.proofs.Stretch.{stretch, shrink, stretch_same, stretch-shrink, precedes_stretch, precedes_back}
-use Rattle.report.proofs.FinerTrees.{finer_tree}
-use Rattle.report.proofs.FinerTraces.{start_by, stop_by}
-use Rattle.report.proofs.FinerTruth.{fine, truth_by}
-use Rattle.report.proofs.FinerKnots.{number_text_by}
+use Rattle.unit_laws.proofs.Multiples.{stretch, shrink, stretch_same, stretch-shrink, precedes_stretch, precedes_back}
+use Rattle.unit_laws.proofs.FinerTrees.{finer_tree}
+use Rattle.unit_laws.proofs.FinerTraces.{start_by, stop_by}
+use Rattle.unit_laws.proofs.FinerTruth.{fine, truth_by}
+use Rattle.unit_laws.proofs.FinerKnots.{number_text_by}
 use Rattle.report.proofs.KeptTexts.{number_of_same}
 
 -- K times a number that the program keeps

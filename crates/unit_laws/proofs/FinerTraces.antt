@@ -17,8 +17,8 @@ use Rattle.stl_syntax.specs.declared.scale.Scale.{Scale}
 use Rattle.stl_syntax.specs.declared.atom.Atom.{Atom}
 use Rattle.stl_syntax.specs.declared.atom.Term.{Term}
 use Rattle.stl_syntax.proofs.TruthLemmas.{compares_same}
-use Rattle.report.proofs.Stretch.{stretch, stretch_lt, lt_back, add_stretch, times_stretch, above-times}
-use Rattle.report.proofs.Stretch.{below-times, whole_stretch, compares_stretch, compares_back}
+use Rattle.unit_laws.proofs.Multiples.{stretch, stretch_lt, lt_back, add_stretch, times_stretch, above-times}
+use Rattle.unit_laws.proofs.Multiples.{below-times, whole_stretch, compares_stretch, compares_back}
 
 -- the test of the order against a number K times larger
 less_by : (K : ℕ) → 0 < K → (t u v : Rational) → v ≈ stretch K u → less (stretch K t) v ≡ less t u

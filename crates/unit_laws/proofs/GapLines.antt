@@ -23,8 +23,8 @@ use Rattle.stl_syntax.specs.declared.atom.Term.{Term}
 use Rattle.stl_syntax.specs.declared.rel.Rel.{Rel}
 use Rattle.stl_syntax.specs.declared.rel.Rel.TheVariants.{AtLeast, Above, AtMost, Below}
 use Rattle.stl_syntax.proofs.TruthLemmas.{compares_same}
-use Rattle.report.proofs.NearTimes.{by, behind, ahead, one_before, one_after, Near, IsNear, within_both, clear_of, side}
-use Rattle.report.proofs.CalmTruth.{IsRare, Calm}
+use Rattle.unit_laws.proofs.NearTimes.{by, behind, ahead, one_before, one_after, Near, IsNear, within_both, clear_of, side}
+use Rattle.unit_laws.proofs.CalmTruth.{IsRare, Calm}
 
 -- on the stretch the function is a line with this run, and with slopes of at most B over it
 record IsLine {t : Rational} (n : Near t) (run B : ℕ) (F : Rational → Rational) : Type 0 where

@@ -1,5 +1,5 @@
 -- Knots in smaller ticks, and back.
-use Rattle.std.proofs.Common.{◌≡◌, ℕ, ◌+◌, ◌*◌, ◌^◌, ◌<◌, suc, refl, sym, subst, arith, List, ℤ, pos, negsuc}
+use Rattle.std.proofs.Common.{◌≡◌, ℕ, ◌+◌, ◌*◌, ◌^◌, ◌<◌, refl, sym, subst, arith, List, ℤ, pos}
 use Rattle.std.specs.Prelude.{◌*ℤ◌}
 use Rattle.std.proofs.Math.Nat.{mul-pos}
 use Rattle.std.proofs.lemmas.Nat.{pow-add}
@@ -16,14 +16,13 @@ use Rattle.stl_syntax.specs.Texts.{IsNumberText, IsValueText}
 use Rattle.stl_syntax.specs.declared.scale.Scale.{Scale}
 use Rattle.stl_syntax.proofs.TimeLaw.{SupInf-same}
 use Rattle.stl_syntax.proofs.SupInfLemmas.{value_alike}
-use Rattle.report.proofs.Stretch.{stretch, shrink, stretch_same, stretch_lt, same_back, lt_back, stretch-shrink, neg_above}
-use Rattle.report.proofs.Stretch.{neg_below}
-use Rattle.report.proofs.FinerTrees.{finer_tree}
-use Rattle.report.proofs.FinerTraces.{at_by, start_by, stop_by}
-use Rattle.report.proofs.FinerTruth.{fine}
-use Rattle.report.proofs.FinerValues.{stretchᵉ, shrinkᵉ, same_stretchᵉ, same_backᵉ, stretch-shrinkᵉ}
-use Rattle.report.proofs.FinerMargins.{margins_by}
-use Rattle.report.proofs.KnotsChange.{Change}
+use Rattle.unit_laws.proofs.Multiples.{stretch, shrink, stretch_same, stretch_lt, same_back, lt_back, stretch-shrink, above_of, below_of}
+use Rattle.unit_laws.proofs.FinerTrees.{finer_tree}
+use Rattle.unit_laws.proofs.FinerTraces.{at_by, start_by, stop_by}
+use Rattle.unit_laws.proofs.FinerTruth.{fine}
+use Rattle.unit_laws.proofs.FinerValues.{stretchᵉ, shrinkᵉ, same_stretchᵉ, same_backᵉ, stretch-shrinkᵉ}
+use Rattle.unit_laws.proofs.FinerMargins.{margins_by}
+use Rattle.unit_laws.proofs.KnotsChange.{Change}
 
 -- a number is the K-th part of K times it
 pub shrink-stretch : (K : ℕ) (p : 0 < K) (t : Rational) → shrink K p (stretch K t) ≈ t
@@ -157,14 +156,6 @@ module _ (K M : ℕ) (kp : 0 < K) (mp : 0 < M) where
       stops = same_sym (same_trans (shrink_same K kp (stop small) (stretch K (stop tr)) (stop_by K M kp mp tr ok scale)) (shrink-stretch K kp (stop tr)));
     }
 
-above_of : (z : ℤ) (x : ℕ) → part_above (z *ℤ pos x) ≡ part_above z * x
-above_of (pos n) x = refl
-above_of (negsuc n) x = let e = neg_above (suc n * x) in omega (arith, e)
-
-below_of : (z : ℤ) (x : ℕ) → part_below (z *ℤ pos x) ≡ part_below z * x
-below_of (pos n) x = omega arith
-below_of (negsuc n) x = neg_below (suc n * x)
-
 crossed : {u v u' v' : ℕ} (x y D K den : ℕ) → u ≡ x * (D * K) → v ≡ y * (D * K) → u' ≡ x * D → v' ≡ y * D
     → u * den + K * v' * den ≡ K * u' * den + v * den
 crossed x y D K den a b c d = rw (a, b, c, d) (omega arith)
@@ -173,14 +164,6 @@ crossed x y D K den a b c d = rw (a, b, c, d) (omega arith)
 ratio_by : (num : ℤ) (den : ℕ) (p : 0 < den) (D K : ℕ) → ratio (num *ℤ pos (D * K)) den p ≈ stretch K (ratio (num *ℤ pos D) den p)
 ratio_by num den p D K =
     record { same = crossed (part_above num) (part_below num) D K den (above_of num (D * K)) (below_of num (D * K)) (above_of num D) (below_of num D) }
-
--- a number times K
-times_part : (x y K den u v : ℕ) → u ≡ x * K → v ≡ y * K → u * den + K * y * den ≡ K * x * den + v * den
-times_part x y K den u v a b = rw (a, b) (omega arith)
-
--- a fraction whose numerator is times K is K times the fraction
-pub ratio_of : (num : ℤ) (den : ℕ) (p : 0 < den) (K : ℕ) → ratio (num *ℤ pos K) den p ≈ stretch K (ratio num den p)
-ratio_of num den p K = record { same = times_part (part_above num) (part_below num) K den _ _ (above_of num K) (below_of num K) }
 
 -- a number's text is that of the number in smaller ticks
 pub number_text_by : (digits k : ℕ) (t : Rational) (text : List ℕ) → IsNumberText digits t text → IsNumberText (digits + k) (stretch (10 ^ k) t) text

@@ -16,18 +16,18 @@ use Rattle.stl_syntax.specs.declared.scale.Scale.{Scale}
 use Rattle.stl_syntax.specs.declared.items.Verdict.{Verdict}
 use Rattle.stl_syntax.proofs.TruthLemmas.{Truth-same}
 use Rattle.report.specs.Report.{Out, check, nodes_for}
-use Rattle.report.specs.Units.{finer, LawOfUnits, TruthTurnsAtFractions}
-use Rattle.report.proofs.Stretch.{shrink, stretch-shrink, same_back}
-use Rattle.report.proofs.FinerTrees.{finer_tree, root_finer}
-use Rattle.report.proofs.FinerTraces.{start_by, stop_by}
-use Rattle.report.proofs.FinerTruth.{fine, truth_by, some_power}
-use Rattle.report.proofs.FinerKnots.{number_text_back}
-use Rattle.report.proofs.FinerCheck.{check_keeps_its_text}
-use Rattle.report.proofs.FinerRobust.{robust_is_of_units}
-use Rattle.report.proofs.CalmTruth.{HasCalmAtoms, calm}
-use Rattle.report.proofs.CalmFormulas.{root_calm}
-use Rattle.report.proofs.SmallFractions.{HasFrac}
-use Rattle.report.proofs.TurningTimes.{precedes_shrink, same_shrink, HasEnds, has_ends, told_at}
+use Rattle.unit_laws.specs.Units.{finer, LawOfUnits, TruthTurnsAtFractions}
+use Rattle.unit_laws.proofs.Multiples.{shrink, stretch-shrink, same_back}
+use Rattle.unit_laws.proofs.FinerTrees.{finer_tree, root_finer}
+use Rattle.unit_laws.proofs.FinerTraces.{start_by, stop_by}
+use Rattle.unit_laws.proofs.FinerTruth.{fine, truth_by, some_power}
+use Rattle.unit_laws.proofs.FinerKnots.{number_text_back}
+use Rattle.unit_laws.proofs.FinerCheck.{check_keeps_its_text}
+use Rattle.unit_laws.proofs.FinerRobust.{robust_is_of_units}
+use Rattle.unit_laws.proofs.CalmTruth.{HasCalmAtoms, calm}
+use Rattle.unit_laws.proofs.CalmFormulas.{root_calm}
+use Rattle.unit_laws.proofs.SmallFractions.{HasFrac}
+use Rattle.unit_laws.proofs.TurningTimes.{precedes_shrink, same_shrink, HasEnds, has_ends, told_at}
 use Rattle.report.proofs.KeptTexts.{number_of_same}
 
 module _ (K M : ℕ) (kp : 0 < K) (mp : 0 < M) (tr : Trace) (ok : IsTrace tr) (scale : Scale) (p : Subformula) (atoms : HasCalmAtoms (2 ^ 31) tr p) where

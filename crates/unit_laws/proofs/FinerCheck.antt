@@ -2,10 +2,10 @@
 use Rattle.std.proofs.Common.{◌^◌, refl}
 use Rattle.stl_syntax.specs.Formula.{root}
 use Rattle.report.specs.Report.{nodes_for}
-use Rattle.report.specs.Units.{finer, CheckKeepsItsText}
-use Rattle.report.proofs.FinerTrees.{root_finer}
-use Rattle.report.proofs.FinerTruth.{some_power}
-use Rattle.report.proofs.FinerVerdicts.{verdicts_by, verdicts_describe, start_line_by, verdict_lines_by}
+use Rattle.unit_laws.specs.Units.{finer, CheckKeepsItsText}
+use Rattle.unit_laws.proofs.FinerTrees.{root_finer}
+use Rattle.unit_laws.proofs.FinerTruth.{some_power}
+use Rattle.unit_laws.proofs.FinerVerdicts.{verdicts_by, verdicts_describe, start_line_by, verdict_lines_by}
 
 -- `check` writes the same text in smaller ticks
 pub check_keeps_its_text : CheckKeepsItsText

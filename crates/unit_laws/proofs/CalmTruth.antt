@@ -9,9 +9,9 @@ use Rattle.stl_syntax.specs.Trace.{Trace, start, stop, first_time, last_time}
 use Rattle.stl_syntax.specs.Formula.{Subformula, constant, atom, negation, conjunction, disjunction}
 use Rattle.stl_syntax.specs.Formula.{implication, until, eventually, always, since, once, historically}
 use Rattle.stl_syntax.specs.Truth.{Truth}
-use Rattle.report.proofs.NearTimes.{Move, by, back, ahead, behind, one_before, one_after, Near, IsNear}
-use Rattle.report.proofs.NearTimes.{between, within_both, lt_by, pulled, pushed, clear_of, stays}
-use Rattle.report.proofs.MovedWindows.{InWindow, Together, one, low, high, Moved, moved}
+use Rattle.unit_laws.proofs.NearTimes.{Move, by, back, ahead, behind, one_before, one_after, Near, IsNear}
+use Rattle.unit_laws.proofs.NearTimes.{between, within_both, lt_by, pulled, pushed, clear_of, stays}
+use Rattle.unit_laws.proofs.MovedWindows.{InWindow, Together, one, low, high, Moved, moved}
 
 -- t is no fraction with a denominator up to N
 abbrev pub IsRare : ℕ → Rational → Type 0

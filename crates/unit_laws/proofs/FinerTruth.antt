@@ -13,11 +13,11 @@ use Rattle.stl_syntax.specs.Truth.{Truth}
 use Rattle.stl_syntax.specs.Scaling.{scaled}
 use Rattle.stl_syntax.specs.declared.scale.Scale.{Scale}
 use Rattle.stl_syntax.proofs.TruthLemmas.{Truth-same}
-use Rattle.report.specs.Units.{TruthIsOfUnits}
-use Rattle.report.proofs.Stretch.{stretch, shrink, stretch_le, le_back, stretch-shrink, precedes_stretch}
-use Rattle.report.proofs.Stretch.{precedes_back, later_stretch, within_stretched, within_back}
-use Rattle.report.proofs.FinerTrees.{finer_tree, root_finer}
-use Rattle.report.proofs.FinerTraces.{trace_by, holds_by, start_by, stop_by}
+use Rattle.unit_laws.specs.Units.{TruthIsOfUnits}
+use Rattle.unit_laws.proofs.Multiples.{stretch, shrink, stretch_le, le_back, stretch-shrink, precedes_stretch}
+use Rattle.unit_laws.proofs.Multiples.{precedes_back, later_stretch, within_stretched, within_back}
+use Rattle.unit_laws.proofs.FinerTrees.{finer_tree, root_finer}
+use Rattle.unit_laws.proofs.FinerTraces.{trace_by, holds_by, start_by, stop_by}
 
 -- an order against a number that is later by K times as much
 begins_by : (K : ℕ) → 0 < K → (a : ℕ) (i : Bool) (t u : Rational) → Precedes i (later t a) u → Precedes i (later (stretch K t) (K * a)) (stretch K u)

@@ -21,13 +21,13 @@ use Rattle.stl_syntax.specs.declared.rel.Rel.{Rel}
 use Rattle.stl_syntax.specs.declared.rel.Rel.TheVariants.{AtLeast, Above, AtMost, Below}
 use Rattle.stl_syntax.proofs.TimeLaw.{SupInf-same}
 use Rattle.stl_syntax.proofs.SupInfLemmas.{value_alike}
-use Rattle.report.proofs.Stretch.{stretch, shrink, stretch-shrink, within_stretched, within_back}
-use Rattle.report.proofs.FinerTrees.{finer_tree}
-use Rattle.report.proofs.FinerTraces.{expression_by}
-use Rattle.report.proofs.FinerTruth.{fine, ends, ahead_by, ahead_back, ahead_at, behind_by, behind_back, behind_at}
-use Rattle.report.proofs.FinerValues.{stretchᵉ, shrinkᵉ, opposite_stretch, stretch-shrinkᵉ, same_stretchᵉ}
-use Rattle.report.proofs.FinerValues.{same_backᵉ, least_by, least_back, greatest_by, greatest_back}
-use Rattle.report.proofs.FinerValues.{AreTimes, sup_by, sup_back, inf_by, inf_back}
+use Rattle.unit_laws.proofs.Multiples.{stretch, shrink, stretch-shrink, within_stretched, within_back}
+use Rattle.unit_laws.proofs.FinerTrees.{finer_tree}
+use Rattle.unit_laws.proofs.FinerTraces.{expression_by}
+use Rattle.unit_laws.proofs.FinerTruth.{fine, ends, ahead_by, ahead_back, ahead_at, behind_by, behind_back, behind_at}
+use Rattle.unit_laws.proofs.FinerValues.{stretchᵉ, shrinkᵉ, opposite_stretch, stretch-shrinkᵉ, same_stretchᵉ}
+use Rattle.unit_laws.proofs.FinerValues.{same_backᵉ, least_by, least_back, greatest_by, greatest_back}
+use Rattle.unit_laws.proofs.FinerValues.{AreTimes, sup_by, sup_back, inf_by, inf_back}
 
 margin_by : (M : ℕ) (rel : Rel) (x y : Rational) → y ≈ stretch M x → margin rel y ≈ stretch M (margin rel x)
 margin_by M AtLeast x y e = e

@@ -16,13 +16,13 @@ use Rattle.stl_syntax.specs.Truth.{Truth}
 use Rattle.stl_syntax.specs.Verdicts.{IsTold, GoesOn, Describes}
 use Rattle.stl_syntax.specs.declared.scale.Scale.{Scale}
 use Rattle.stl_syntax.specs.declared.items.Verdict.{Verdict}
-use Rattle.report.proofs.Stretch.{stretch, shrink, stretch-shrink, same_back, precedes_stretch, precedes_back}
-use Rattle.report.proofs.FinerTrees.{finer_tree}
-use Rattle.report.proofs.FinerTraces.{start_by, stop_by}
-use Rattle.report.proofs.FinerTruth.{fine, truth_by}
-use Rattle.report.proofs.NearTimes.{Near, IsNear, itself, later_one, earlier_one}
-use Rattle.report.proofs.CalmTruth.{IsRare, HasCalmAtoms, calm}
-use Rattle.report.proofs.SmallFractions.{HasFrac, has_frac, has_whole, at_most_its_own}
+use Rattle.unit_laws.proofs.Multiples.{stretch, shrink, stretch-shrink, same_back, precedes_stretch, precedes_back}
+use Rattle.unit_laws.proofs.FinerTrees.{finer_tree}
+use Rattle.unit_laws.proofs.FinerTraces.{start_by, stop_by}
+use Rattle.unit_laws.proofs.FinerTruth.{fine, truth_by}
+use Rattle.unit_laws.proofs.NearTimes.{Near, IsNear, itself, later_one, earlier_one}
+use Rattle.unit_laws.proofs.CalmTruth.{IsRare, HasCalmAtoms, calm}
+use Rattle.unit_laws.proofs.SmallFractions.{HasFrac, has_frac, has_whole, at_most_its_own}
 
 precedes_in : (b : Bool) (t u : Rational) → IsTrue b → t ≤ʳ u → Precedes b t u
 precedes_in true t u i h = h

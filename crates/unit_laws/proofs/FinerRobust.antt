@@ -5,11 +5,11 @@ use Rattle.stl_syntax.specs.Knots.{Knots}
 use Rattle.stl_syntax.specs.Scaling.{scaled}
 use Rattle.stl_syntax.specs.Texts.{AreMarginLines}
 use Rattle.stl_syntax.specs.Verdicts.{DescribesMargins}
-use Rattle.report.specs.Units.{finer, RobustIsOfUnits}
-use Rattle.report.proofs.FinerTrees.{finer_tree, root_finer}
-use Rattle.report.proofs.FinerTruth.{some_power}
-use Rattle.report.proofs.KnotsChange.{knots_by, describes_by, margin_lines_by}
-use Rattle.report.proofs.FinerKnots.{to_smaller, from_smaller, number_text_by, number_text_back, value_text_by, value_text_back}
+use Rattle.unit_laws.specs.Units.{finer, RobustIsOfUnits}
+use Rattle.unit_laws.proofs.FinerTrees.{finer_tree, root_finer}
+use Rattle.unit_laws.proofs.FinerTruth.{some_power}
+use Rattle.unit_laws.proofs.KnotsChange.{knots_by, describes_by, margin_lines_by}
+use Rattle.unit_laws.proofs.FinerKnots.{to_smaller, from_smaller, number_text_by, number_text_back, value_text_by, value_text_back}
 
 -- `robust` in smaller ticks writes the same text
 pub robust_is_of_units : RobustIsOfUnits

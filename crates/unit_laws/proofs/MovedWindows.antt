@@ -8,7 +8,7 @@ use Rattle.rational.specs.Time.{Rational, ◌≤ʳ◌, ◌<ʳ◌, ◌≈◌, Wit
 use Rattle.rational.proofs.Order.{le_refl, le_of_same, ge_of_same, lt_of_lt_of_le, lt_of_le_of_lt, lt_trans}
 use Rattle.rational.proofs.Order.{le_trans, le_or_lt, not_lt_of_le, lt_irrefl, left_of_middle, right_of_middle}
 use Rattle.rational.proofs.TimeLemmas.{precedes_le, precedes_of_lt, decided_order}
-use Rattle.report.proofs.NearTimes.{Move, by, Near, IsNear, between, later_one, earlier_one}
+use Rattle.unit_laws.proofs.NearTimes.{Move, by, Near, IsNear, between, later_one, earlier_one}
 
 -- u lies in the window from x + low to x + high, each end in or out, as far as that lies between S and T
 pub record InWindow (S T : Rational) (low high : Move) (i j : Bool) (x u : Rational) : Type 0 where

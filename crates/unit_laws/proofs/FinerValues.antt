@@ -4,7 +4,7 @@ use Rattle.rational.specs.Extended.{Extended, minus_infinity, finite, infinity, 
 use Rattle.rational.proofs.Order.{le_of_same, ge_of_same}
 use Rattle.rational.proofs.ExtendedLemmas.{le_transᵉ, lt_of_lt_of_leᵉ, lt_of_le_of_ltᵉ, below_infinity}
 use Rattle.rational.proofs.Tests.{either}
-use Rattle.report.proofs.Stretch.{stretch, shrink, stretch_le, stretch_lt, le_back, lt_back, stretch-shrink}
+use Rattle.unit_laws.proofs.Multiples.{stretch, shrink, stretch_le, stretch_lt, le_back, lt_back, stretch-shrink}
 
 -- M times the value
 abbrev pub stretchᵉ : ℕ → Extended → Extended
