@@ -4,23 +4,22 @@ use Rattle.stl_syntax.specs.Formula.{root}
 use Rattle.report.specs.Report.{nodes_for}
 use Rattle.unit_laws.specs.Units.{finer, CheckKeepsItsText}
 use Rattle.unit_laws.proofs.FinerTrees.{root_finer}
-use Rattle.unit_laws.proofs.FinerTruth.{some_power}
+use Rattle.unit_laws.proofs.FinerRows.{some_power, finer_counts}
 use Rattle.unit_laws.proofs.FinerVerdicts.{verdicts_by, verdicts_describe, start_line_by, verdict_lines_by}
 
 -- `check` writes the same text in smaller ticks
 pub check_keeps_its_text : CheckKeepsItsText
 check_keeps_its_text f tr k m ok ft fv text (verdicts, body, line, d, l, s, e) =
     let p = root (nodes_for f tr) in
-    let ur = finer k m tr in
-    let scale = ur.header.scale in
     let kp = some_power k in
     let mp = some_power m in
+    let c = finer_counts k m tr ok in
     let same = root_finer f tr.header.scale k m ft fv in (
-      verdicts_by (10 ^ k) kp verdicts,
+      verdicts_by (10 ^ k) 0 kp verdicts,
       body,
       line,
-      rw same (verdicts_describe (10 ^ k) (10 ^ m) kp mp tr ok scale p verdicts d),
-      verdict_lines_by k kp tr.header.scale scale refl verdicts body l,
-      rw same (start_line_by (10 ^ k) (10 ^ m) kp mp tr ok scale p line s),
+      rw same (verdicts_describe (10 ^ k) 0 (10 ^ m) kp mp c p verdicts d),
+      verdict_lines_by k kp tr.header.scale (finer k m tr).header.scale refl verdicts body l,
+      rw same (start_line_by (10 ^ k) 0 (10 ^ m) kp mp c p line s),
       e,
     )

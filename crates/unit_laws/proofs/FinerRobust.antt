@@ -7,9 +7,10 @@ use Rattle.stl_syntax.specs.Texts.{AreMarginLines}
 use Rattle.stl_syntax.specs.Verdicts.{DescribesMargins}
 use Rattle.unit_laws.specs.Units.{finer, RobustIsOfUnits}
 use Rattle.unit_laws.proofs.FinerTrees.{finer_tree, root_finer}
-use Rattle.unit_laws.proofs.FinerTruth.{some_power}
+use Rattle.unit_laws.proofs.FinerRows.{some_power, finer_counts}
 use Rattle.unit_laws.proofs.KnotsChange.{knots_by, describes_by, margin_lines_by}
-use Rattle.unit_laws.proofs.FinerKnots.{to_smaller, from_smaller, number_text_by, number_text_back, value_text_by, value_text_back}
+use Rattle.unit_laws.proofs.FinerKnots.{to_clock, from_clock}
+use Rattle.unit_laws.proofs.FinerTexts.{time_text_by, time_text_back, value_text_by, value_text_back}
 
 -- `robust` in smaller ticks writes the same text
 pub robust_is_of_units : RobustIsOfUnits
@@ -21,11 +22,11 @@ robust_is_of_units f tr k m ok ft fv text = (forth, back)
     forth : ((knots : Knots) × DescribesMargins knots (root (scaled f tr.header.scale).nodes) tr × AreMarginLines tr.header.scale knots text)
         → Writes (root (scaled f (finer k m tr).header.scale).nodes)
     forth (knots, d, l) =
-        let c = to_smaller (10 ^ k) (10 ^ m) (some_power k) (some_power m) tr ok (finer k m tr).header.scale (root (scaled f tr.header.scale).nodes) in
+        let c = to_clock (10 ^ k) 0 (10 ^ m) (some_power k) (some_power m) (finer_counts k m tr ok) (root (scaled f tr.header.scale).nodes) in
         subst Writes (sym (root_finer f tr.header.scale k m ft fv)) (
           knots_by c knots,
           describes_by c knots d,
-          margin_lines_by c tr.header.scale (finer k m tr).header.scale (λ t x h. number_text_by tr.header.scale.time k t x h)
+          margin_lines_by c tr.header.scale (finer k m tr).header.scale (λ t x h. time_text_by tr.header.scale.time k t x h)
               (λ v x h. value_text_by tr.header.scale.value m v x h) knots text l,
         )
 
@@ -36,9 +37,9 @@ robust_is_of_units f tr k m ok ft fv text = (forth, back)
         from_same : Writes (finer_tree (10 ^ k) (10 ^ m) (root (scaled f tr.header.scale).nodes))
             → (knots : Knots) × DescribesMargins knots (root (scaled f tr.header.scale).nodes) tr × AreMarginLines tr.header.scale knots text
         from_same (knots, d, l) =
-            let c = from_smaller (10 ^ k) (10 ^ m) (some_power k) (some_power m) tr ok (finer k m tr).header.scale (root (scaled f tr.header.scale).nodes) in (
+            let c = from_clock (10 ^ k) 0 (10 ^ m) (some_power k) (some_power m) (finer_counts k m tr ok) (root (scaled f tr.header.scale).nodes) in (
               knots_by c knots,
               describes_by c knots d,
-              margin_lines_by c (finer k m tr).header.scale tr.header.scale (λ t x h. number_text_back tr.header.scale.time k (some_power k) t x h)
+              margin_lines_by c (finer k m tr).header.scale tr.header.scale (λ t x h. time_text_back tr.header.scale.time k (some_power k) t x h)
                   (λ v x h. value_text_back tr.header.scale.value m (some_power m) v x h) knots text l,
             )

@@ -70,7 +70,8 @@ module _ (A B : ℕ) where
   root_by nodes =
       ap (λ n. subformula (map (scaled_node A B) nodes) (n - 1)) (length-map nodes (scaled_node A B)) ∙ subformula_by nodes (length nodes - 1)
 
-minus_times : (M x : ℕ) → pos M *ℤ neg_ℤ (pos x) ≡ neg_ℤ (pos (M * x))
+-- a number below 0 times M
+pub minus_times : (M x : ℕ) → pos M *ℤ neg_ℤ (pos x) ≡ neg_ℤ (pos (M * x))
 minus_times M zero = let e : M * 0 ≡ 0 = omega arith in rw e refl
 minus_times M (suc x) = refl
 
@@ -82,25 +83,27 @@ bound_twice : (K A : ℕ) (b : Option ℕ) → option_map (λ b. K * A * b) b �
 bound_twice K A None = refl
 bound_twice K A (Some b) = ap Some (mul_assoc K A b)
 
--- smaller ticks twice
-pub finer_twice : (K M A B : ℕ) (p : Subformula) → finer_tree (K * A) (M * B) p ≡ finer_tree K M (finer_tree A B p)
-finer_twice K M A B (constant b) = refl
-finer_twice K M A B (atom i a) = ap (λ z. atom i (record { terms = a.terms; rel = a.rel; limit = z })) (limit_twice M B a.limit)
-finer_twice K M A B (negation p) = rw (finer_twice K M A B p) refl
-finer_twice K M A B (conjunction p q) = rw (finer_twice K M A B p, finer_twice K M A B q) refl
-finer_twice K M A B (disjunction p q) = rw (finer_twice K M A B p, finer_twice K M A B q) refl
-finer_twice K M A B (implication p q) = rw (finer_twice K M A B p, finer_twice K M A B q) refl
-finer_twice K M A B (until a b p q) = rw (finer_twice K M A B p, finer_twice K M A B q, mul_assoc K A a, mul_assoc K A b) refl
-finer_twice K M A B (eventually a b a_in b_in p) = rw (finer_twice K M A B p, mul_assoc K A a, mul_assoc K A b) refl
-finer_twice K M A B (always a b a_in b_in p) = rw (finer_twice K M A B p, mul_assoc K A a, mul_assoc K A b) refl
-finer_twice K M A B (since a b p q) = rw (finer_twice K M A B p, finer_twice K M A B q, mul_assoc K A a, bound_twice K A b) refl
-finer_twice K M A B (once a b a_in b_in p) = rw (finer_twice K M A B p, mul_assoc K A a, bound_twice K A b) refl
-finer_twice K M A B (historically a b a_in b_in p) = rw (finer_twice K M A B p, mul_assoc K A a, bound_twice K A b) refl
+-- a node in smaller ticks twice
+node_twice : (K M A B : ℕ) (n : Node) → scaled_node (K * A) (M * B) n ≡ scaled_node K M (scaled_node A B n)
+node_twice K M A B (Leaf a) = ap (λ z. Leaf (record { terms = a.terms; rel = a.rel; limit = z })) (limit_twice M B a.limit)
+node_twice K M A B (Until p q a b) = rw (mul_assoc K A a, mul_assoc K A b) refl
+node_twice K M A B (Eventually p a b a_in b_in) = rw (mul_assoc K A a, mul_assoc K A b) refl
+node_twice K M A B (Always p a b a_in b_in) = rw (mul_assoc K A a, mul_assoc K A b) refl
+node_twice K M A B (Since p q a b) = rw (mul_assoc K A a, bound_twice K A b) refl
+node_twice K M A B (Once p a b a_in b_in) = rw (mul_assoc K A a, bound_twice K A b) refl
+node_twice K M A B (Historically p a b a_in b_in) = rw (mul_assoc K A a, bound_twice K A b) refl
+node_twice K M A B _ = refl
 
--- the formula in the ticks of a trace, and in smaller ones
-pub root_finer : (f : Formula) (scale : Scale) (k m : ℕ) → f.scale.time ≤ scale.time → f.scale.value ≤ scale.value
-    → root (scaled f (record { time = scale.time + k; value = scale.value + m })).nodes ≡ finer_tree (10 ^ k) (10 ^ m) (root (scaled f scale).nodes)
-root_finer f scale k m t v =
+nodes_twice : (K M A B : ℕ) (nodes : List Node) → map (scaled_node (K * A) (M * B)) nodes ≡ map (scaled_node K M) (map (scaled_node A B) nodes)
+nodes_twice K M A B [] = refl
+nodes_twice K M A B (n ∷ nodes) =
+    ap (λ x. x ∷ map (scaled_node (K * A) (M * B)) nodes) (node_twice K M A B n)
+    ∙ ap (λ xs. scaled_node K M (scaled_node A B n) ∷ xs) (nodes_twice K M A B nodes)
+
+-- the nodes of a formula in the ticks of a trace, and in smaller ones
+pub nodes_finer : (f : Formula) (scale : Scale) (k m : ℕ) → f.scale.time ≤ scale.time → f.scale.value ≤ scale.value
+    → (scaled f (record { time = scale.time + k; value = scale.value + m })).nodes ≡ map (scaled_node (10 ^ k) (10 ^ m)) (scaled f scale).nodes
+nodes_finer f scale k m t v =
     let A = 10 ^ (scale.time - f.scale.time) in
     let B = 10 ^ (scale.value - f.scale.value) in
     let a : 10 ^ (scale.time + k - f.scale.time) ≡ 10 ^ k * A =
@@ -108,7 +111,10 @@ root_finer f scale k m t v =
     let b : 10 ^ (scale.value + m - f.scale.value) ≡ 10 ^ m * B =
     ap (λ j. 10 ^ j) (let e : scale.value + m - f.scale.value ≡ m + (scale.value - f.scale.value) = omega arith in e)
     ∙ pow-add 10 m (scale.value - f.scale.value) in
-    root_by (10 ^ (scale.time + k - f.scale.time)) (10 ^ (scale.value + m - f.scale.value)) f.nodes
-    ∙ (ap (λ x. finer_tree x (10 ^ (scale.value + m - f.scale.value)) (root f.nodes)) a
-    ∙ (ap (λ x. finer_tree (10 ^ k * A) x (root f.nodes)) b
-    ∙ (finer_twice (10 ^ k) (10 ^ m) A B (root f.nodes) ∙ ap (finer_tree (10 ^ k) (10 ^ m)) (sym (root_by A B f.nodes)))))
+    ap (λ x. map (scaled_node x (10 ^ (scale.value + m - f.scale.value))) f.nodes) a
+    ∙ ap (λ x. map (scaled_node (10 ^ k * A) x) f.nodes) b ∙ nodes_twice (10 ^ k) (10 ^ m) A B f.nodes
+
+-- so its root is the tree in smaller ones
+pub root_finer : (f : Formula) (scale : Scale) (k m : ℕ) → f.scale.time ≤ scale.time → f.scale.value ≤ scale.value
+    → root (scaled f (record { time = scale.time + k; value = scale.value + m })).nodes ≡ finer_tree (10 ^ k) (10 ^ m) (root (scaled f scale).nodes)
+root_finer f scale k m t v = ap root (nodes_finer f scale k m t v) ∙ root_by (10 ^ k) (10 ^ m) (scaled f scale).nodes

@@ -1,20 +1,22 @@
--- Verdicts in smaller ticks.
+-- Verdicts by another clock.
 use Rattle.std.proofs.Common.{◌≡◌, ℕ, zero, suc, ◌+◌, ◌-◌, ◌*◌, ◌/◌, ◌%◌, ◌^◌, ◌<◌, ◌&&◌, Bool, true, false}
-use Rattle.std.proofs.Common.{List, [], ◌∷◌, refl, sym, ap, subst, arith, ℤ, pos, negsuc, MatchBool}
+use Rattle.std.proofs.Common.{List, [], ◌∷◌, refl, sym, ap, ◌∙◌, subst, arith, ℤ, pos, negsuc, MatchBool}
+use Rattle.std.specs.Prelude.{◌+ℤ◌}
 use Rattle.std.proofs.Math.Nat.{mul-pos, mul-le-mul_left, mul-lt-mul_of_pos_left, lt_of_mul-lt-mul_left, zero-lt-suc}
 use Rattle.std.proofs.lemmas.Nat.Gcd.{le_of_dvd}
 use Prim.Native.Nat.{◌∣◌}
 use Rattle.std.proofs.lemmas.Nat.{div-add-mod', div_below}
 use Rattle.rational.specs.Rational.{mixed}
-use Rattle.rational.specs.Time.{Rational, ◌≈◌, Precedes, ratio, IsLowest, HasDenominator, IsIn, closed}
+use Rattle.rational.specs.Time.{Rational, ◌≈◌, Precedes, later, ratio, IsLowest, HasDenominator, Interval, IsIn, closed}
 use Rattle.rational.proofs.Order.{same_sym, same_trans, le_of_same, ge_of_same}
 use Rattle.rational.proofs.Lowest.{has_denominator, denominator_divides}
-use Rattle.rational.proofs.TimeLemmas.{precedes_after, precedes_before, room_of_precedes, precedes_of_room, not_empty_of_precedes}
+use Rattle.rational.proofs.Mixed.{mixed_shift}
+use Rattle.rational.proofs.TimeLemmas.{precedes_after, precedes_before, room_of_precedes, precedes_of_room, not_empty_of_precedes, same_later, later-add}
 use Rattle.frac128.specs.Value.{value}
 use Rattle.frac128.specs.Spans.{interval}
 use Rattle.frac128.specs.declared.frac.Frac.{Frac}
 use Rattle.frac128.specs.declared.span.Span.{Span}
-use Rattle.stl_syntax.specs.Trace.{Trace, IsTrace, start, stop}
+use Rattle.stl_syntax.specs.Trace.{Trace, start, stop}
 use Rattle.stl_syntax.specs.Formula.{Subformula}
 use Rattle.stl_syntax.specs.Truth.{Truth}
 use Rattle.stl_syntax.specs.Texts.{IsNumberText, IsSpanText, AreVerdictLines, IsStartLine}
@@ -22,12 +24,13 @@ use Rattle.stl_syntax.specs.Verdicts.{IsTold, GoesOn, Describes}
 use Rattle.stl_syntax.specs.declared.scale.Scale.{Scale}
 use Rattle.stl_syntax.specs.declared.items.Verdict.{Verdict}
 use Rattle.stl_syntax.proofs.TruthLemmas.{Truth-same}
-use Rattle.unit_laws.proofs.Multiples.{stretch, shrink, stretch_same, stretch-shrink, precedes_stretch, precedes_back}
-use Rattle.unit_laws.proofs.FinerTrees.{finer_tree}
-use Rattle.unit_laws.proofs.FinerTraces.{start_by, stop_by}
-use Rattle.unit_laws.proofs.FinerTruth.{fine, truth_by}
-use Rattle.unit_laws.proofs.FinerKnots.{number_text_by}
 use Rattle.report.proofs.KeptTexts.{number_of_same}
+use Rattle.unit_laws.proofs.Multiples.{stretch}
+use Rattle.unit_laws.proofs.Clocks.{clock, unclock, clock_same, clock-unclock, precedes_clock, precedes_of_clock}
+use Rattle.unit_laws.proofs.Recounts.{IsRecount}
+use Rattle.unit_laws.proofs.FinerTrees.{finer_tree}
+use Rattle.unit_laws.proofs.FinerTruth.{truth_by}
+use Rattle.unit_laws.proofs.FinerTexts.{time_text_by}
 
 -- K times a number that the program keeps
 pub record TimesFrac (K : ℕ) (f : Frac) : Type 0 where
@@ -87,20 +90,43 @@ module _ (K : ℕ) (p : 0 < K) where
       times_by f (K * f.rest / f.den) (K * f.rest % f.den) (div-add-mod' (K * f.rest) f.den) (let h = f.positive in omega arith)
       (div_below (K * f.rest) f.den K f.positive (mul-lt-mul_of_pos_left f.below p)) (has_denominator (ratio (pos (K * f.rest % f.den)) f.den f.positive))
 
-  abbrev pub frac_of : Frac → Frac
-  frac_of f = (times_frac f).frac
+-- a number that the program keeps, o later
+abbrev pub frac_later : ℕ → Frac → Frac
+frac_later o f = record {
+  whole = f.whole +ℤ pos o;
+  rest = f.rest;
+  den = f.den;
+  positive = f.positive;
+  below = f.below;
+  small = f.small;
+  lowest = f.lowest;
+}
 
-  frac_same : (f : Frac) → value (frac_of f) ≈ stretch K (value f)
-  frac_same f = (times_frac f).same
+later_same : (o : ℕ) (f : Frac) → value (frac_later o f) ≈ later (value f) o
+later_same o f =
+    same_trans (mixed_shift f.whole (f.whole +ℤ pos o) (pos o) f.rest f.den f.positive f.positive refl) (same_sym (later-add (value f) o))
+
+later_is_clock : (K o : ℕ) (t : Rational) → later (stretch K t) o ≈ clock K o t
+later_is_clock K o t = record { same = omega arith }
+
+module _ (K o : ℕ) (p : 0 < K) where
+  -- what the clock shows at a number that the program keeps is one
+  abbrev pub frac_of : Frac → Frac
+  frac_of f = frac_later o (times_frac K p f).frac
+
+  -- it is what the clock shows
+  pub frac_same : (f : Frac) → value (frac_of f) ≈ clock K o (value f)
+  frac_same f =
+      same_trans (later_same o (times_frac K p f).frac) (same_trans (same_later o (times_frac K p f).same) (later_is_clock K o (value f)))
 
   -- the ends of a span keep their order
   ends_by : (b : Bool) (x y : Frac) → Precedes b (value x) (value y) → Precedes b (value (frac_of x)) (value (frac_of y))
   ends_by b x y h =
-      precedes_after b (value (frac_of x)) (stretch K (value x)) (value (frac_of y)) (le_of_same (frac_same x))
-      (precedes_before b (stretch K (value x)) (stretch K (value y)) (value (frac_of y))
-      (precedes_stretch K p b (value x) (value y) h) (ge_of_same (frac_same y)))
+      precedes_after b (value (frac_of x)) (clock K o (value x)) (value (frac_of y)) (le_of_same (frac_same x))
+      (precedes_before b (clock K o (value x)) (clock K o (value y)) (value (frac_of y))
+      (precedes_clock K o p b (value x) (value y) h) (ge_of_same (frac_same y)))
 
-  -- a span in smaller ticks has a time
+  -- a span by the clock has a time
   pub span_room : (on : Span) → Precedes (on.from_in && on.to_in) (value (frac_of on.from)) (value (frac_of on.to))
   span_room on = ends_by (on.from_in && on.to_in) on.from on.to (precedes_of_room (on.from_in && on.to_in) (value on.from) (value on.to) on.not_empty)
 
@@ -120,79 +146,83 @@ module _ (K : ℕ) (p : 0 < K) where
   verdicts_by [] = []
   verdicts_by (v ∷ verdicts) = verdict_by v ∷ verdicts_by verdicts
 
-  -- the K-th part of a time of the span
-  in_by : (on : Span) (t : Rational) → IsIn (interval (span_by on)) t → IsIn (interval on) (shrink K p t)
+  -- what the clock shows in the span is shown at a time of the span
+  pub in_by : (on : Span) (t : Rational) → IsIn (interval (span_by on)) t → IsIn (interval on) (unclock K o p t)
   in_by on t i =
-      let s = stretch-shrink K p t in
-      let part = shrink K p t in record {
-        above = precedes_back K p on.from_in (value on.from) part
-            (precedes_after on.from_in (stretch K (value on.from)) (value (frac_of on.from)) (stretch K part) (ge_of_same (frac_same on.from))
-            (precedes_before on.from_in (value (frac_of on.from)) t (stretch K part) i.above (ge_of_same s)));
-        below = precedes_back K p on.to_in part (value on.to)
-            (precedes_before on.to_in (stretch K part) (value (frac_of on.to)) (stretch K (value on.to))
-            (precedes_after on.to_in (stretch K part) t (value (frac_of on.to)) (le_of_same s) i.below) (le_of_same (frac_same on.to)));
+      let s = clock-unclock K o p t in
+      let part = unclock K o p t in record {
+        above = precedes_of_clock K o p on.from_in (value on.from) part
+            (precedes_after on.from_in (clock K o (value on.from)) (value (frac_of on.from)) (clock K o part) (ge_of_same (frac_same on.from))
+            (precedes_before on.from_in (value (frac_of on.from)) t (clock K o part) i.above (ge_of_same s)));
+        below = precedes_of_clock K o p on.to_in part (value on.to)
+            (precedes_before on.to_in (clock K o part) (value (frac_of on.to)) (clock K o (value on.to))
+            (precedes_after on.to_in (clock K o part) t (value (frac_of on.to)) (le_of_same s) i.below) (le_of_same (frac_same on.to)));
       }
 
-module _ (K M : ℕ) (kp : 0 < K) (mp : 0 < M) (tr : Trace) (ok : IsTrace tr) (scale : Scale) (p : Subformula) where
-  abbrev other : Trace
-  other = fine K M kp mp tr ok scale
-
+module _ (K o M : ℕ) (kp : 0 < K) (mp : 0 < M) {tr ur : Trace} (c : IsRecount K o M tr ur) (p : Subformula) where
   abbrev q : Subformula
   q = finer_tree K M p
 
   -- the truth at another time, and its failure
-  told_at : (b : Bool) (t u : Rational) → u ≈ stretch K t → MatchBool b (Truth p tr t) (¬ Truth p tr t) → MatchBool b (Truth q other u) (¬ Truth q other u)
-  told_at true t u e h = Truth-same q other (same_sym e) ((truth_by K M kp mp tr ok scale p t).0 h)
-  told_at false t u e h = λ k. h ((truth_by K M kp mp tr ok scale p t).1 (Truth-same q other e k))
+  pub told_at : (b : Bool) (t u : Rational) → u ≈ clock K o t → MatchBool b (Truth p tr t) (¬ Truth p tr t) → MatchBool b (Truth q ur u) (¬ Truth q ur u)
+  told_at true t u e h = Truth-same q ur (same_sym e) ((truth_by K o M kp mp c p t).0 h)
+  told_at false t u e h = λ k. h ((truth_by K o M kp mp c p t).1 (Truth-same q ur e k))
 
-  told_by : (v : Verdict) → IsTold p tr v → IsTold q other (verdict_by K kp v)
+  told_by : (v : Verdict) → IsTold p tr v → IsTold q ur (verdict_by K o kp v)
   told_by v h = record {
-    not_empty = not_empty_of_precedes (interval (span_by K kp v.on)) (span_room K kp v.on);
-    truth = λ t i. told_at v.holds (shrink K kp t) t (same_sym (stretch-shrink K kp t)) (h.truth (shrink K kp t) (in_by K kp v.on t i));
+    not_empty = not_empty_of_precedes (interval (span_by K o kp v.on)) (span_room K o kp v.on);
+    truth = λ t i. told_at v.holds (unclock K o kp t) t (same_sym (clock-unclock K o kp t)) (h.truth (unclock K o kp t) (in_by K o kp v.on t i));
   }
 
-  go_on_by : (v : Verdict) (verdicts : List Verdict) → GoesOn p tr (closed (start tr) (stop tr)) v verdicts
-      → GoesOn q other (closed (start other) (stop other)) (verdict_by K kp v) (verdicts_by K kp verdicts)
-  go_on_by v [] h = record {
-    time = same_trans (frac_same K kp v.on.to) (same_trans (stretch_same K h.time) (same_sym (stop_by K M kp mp tr ok scale)));
-    inside = h.inside;
+  -- so the spans go on to the end of the stretch
+  pub go_on_by : (on other : Interval) → other.to ≈ clock K o on.to → other.to_in ≡ on.to_in → (v : Verdict) (verdicts : List Verdict)
+      → GoesOn p tr on v verdicts → GoesOn q ur other (verdict_by K o kp v) (verdicts_by K o kp verdicts)
+  go_on_by on other e i v [] h = record {
+    time = same_trans (frac_same K o kp v.on.to) (same_trans (clock_same K o h.time) (same_sym e));
+    inside = h.inside ∙ sym i;
   }
-  go_on_by v (w ∷ verdicts) h = (
+  go_on_by on other e i v (w ∷ verdicts) h = (
     record {
-      time = same_trans (frac_same K kp w.on.from) (same_trans (stretch_same K h.0.time) (same_sym (frac_same K kp v.on.to)));
+      time = same_trans (frac_same K o kp w.on.from) (same_trans (clock_same K o h.0.time) (same_sym (frac_same K o kp v.on.to)));
       once = h.0.once;
     },
     h.1,
     told_by w h.2,
-    go_on_by w verdicts h.3,
+    go_on_by on other e i w verdicts h.3,
   )
 
-  -- the verdicts in smaller ticks tell the same
-  pub verdicts_describe : (verdicts : List Verdict) → Describes verdicts p tr (closed (start tr) (stop tr))
-      → Describes (verdicts_by K kp verdicts) q other (closed (start other) (stop other))
-  verdicts_describe [] h = h
-  verdicts_describe (v ∷ verdicts) h = (
+  -- the verdicts of a stretch are by the clock those of the stretch that it shows
+  pub stretch_described : (on other : Interval) → other.from ≈ clock K o on.from → other.from_in ≡ on.from_in → other.to ≈ clock K o on.to
+      → other.to_in ≡ on.to_in → (verdicts : List Verdict) → Describes verdicts p tr on → Describes (verdicts_by K o kp verdicts) q ur other
+  stretch_described on other a i b j [] h = h
+  stretch_described on other a i b j (v ∷ verdicts) h = (
     record {
-      time = same_trans (frac_same K kp v.on.from) (same_trans (stretch_same K h.0.time) (same_sym (start_by K M kp mp tr ok scale)));
-      inside = h.0.inside;
+      time = same_trans (frac_same K o kp v.on.from) (same_trans (clock_same K o h.0.time) (same_sym a));
+      inside = h.0.inside ∙ sym i;
     },
     told_by v h.1,
-    go_on_by v verdicts h.2,
+    go_on_by on other b j v verdicts h.2,
   )
 
+  -- and those of the domain those of the domain
+  pub verdicts_describe : (verdicts : List Verdict) → Describes verdicts p tr (closed (start tr) (stop tr))
+      → Describes (verdicts_by K o kp verdicts) q ur (closed (start ur) (stop ur))
+  verdicts_describe = stretch_described (closed (start tr) (stop tr)) (closed (start ur) (stop ur)) c.starts refl c.stops refl
+
   -- and so does the line of the start
-  pub start_line_by : (text : List ℕ) → IsStartLine p tr text → IsStartLine q other text
-  start_line_by text (holds, h, e) = (holds, told_at holds (start tr) (start other) (start_by K M kp mp tr ok scale) h, e)
+  pub start_line_by : (text : List ℕ) → IsStartLine p tr text → IsStartLine q ur text
+  start_line_by text (holds, h, e) = (holds, told_at holds (start tr) (start ur) c.starts h, e)
 
 -- the lines of the verdicts stay
 module _ (k : ℕ) (p : 0 < 10 ^ k) (scale other : Scale) (is : other.time ≡ scale.time + k) where
-  end_text : (f : Frac) (text : List ℕ) → IsNumberText scale.time (value f) text → IsNumberText other.time (value (frac_of (10 ^ k) p f)) text
+  end_text : (f : Frac) (text : List ℕ) → IsNumberText scale.time (value f) text → IsNumberText other.time (value (frac_of (10 ^ k) 0 p f)) text
   end_text f text h =
-      subst (λ d. IsNumberText d (value (frac_of (10 ^ k) p f)) text) (sym is)
-      (number_of_same (scale.time + k) (stretch (10 ^ k) (value f)) (value (frac_of (10 ^ k) p f)) text (same_sym (frac_same (10 ^ k) p f))
-      (number_text_by scale.time k (value f) text h))
+      subst (λ d. IsNumberText d (value (frac_of (10 ^ k) 0 p f)) text) (sym is)
+      (number_of_same (scale.time + k) (clock (10 ^ k) 0 (value f)) (value (frac_of (10 ^ k) 0 p f)) text (same_sym (frac_same (10 ^ k) 0 p f))
+      (time_text_by scale.time k (value f) text h))
 
-  span_text : (on : Span) (text : List ℕ) → IsSpanText scale on text → IsSpanText other (span_by (10 ^ k) p on) text
+  -- a span's text is that of the span in smaller ticks
+  pub span_text : (on : Span) (text : List ℕ) → IsSpanText scale on text → IsSpanText other (span_by (10 ^ k) 0 p on) text
   span_text on text h = record {
     from = h.from;
     to = h.to;
@@ -203,6 +233,6 @@ module _ (k : ℕ) (p : 0 < 10 ^ k) (scale other : Scale) (is : other.time ≡ s
 
   -- the lines of verdicts are those of the verdicts in smaller ticks
   pub verdict_lines_by : (verdicts : List Verdict) (text : List ℕ) → AreVerdictLines scale verdicts text
-      → AreVerdictLines other (verdicts_by (10 ^ k) p verdicts) text
+      → AreVerdictLines other (verdicts_by (10 ^ k) 0 p verdicts) text
   verdict_lines_by [] text h = h
   verdict_lines_by (v ∷ verdicts) text (here, later, (on, h, e), g, f) = (here, later, (on, span_text v.on on h, e), verdict_lines_by verdicts later g, f)

@@ -9,7 +9,7 @@ use Rattle.stl_syntax.specs.Formula.{Subformula}
 use Rattle.stl_syntax.specs.SupInf.{Robustness}
 use Rattle.stl_syntax.specs.Knots.{Knot, Piece, Knots, IsInside}
 use Rattle.stl_syntax.specs.Texts.{IsNumberText, IsValueText, IsKnotLine, IsPieceLine, ArePieceLines, AreMarginLines}
-use Rattle.stl_syntax.specs.Verdicts.{AreOneLine, IsRobustInside, PiecesGoOn, TellsAfter, DescribesMargins}
+use Rattle.stl_syntax.specs.Verdicts.{AreOneLine, IsRobustInside, PiecesGoOn, TellsAfter, TellsClosed, DescribesMargins}
 use Rattle.stl_syntax.specs.declared.scale.Scale.{Scale}
 
 -- a change of times and values, and the change back: both keep orders and lines, and carry the robustness of one formula on one trace to that of
@@ -132,24 +132,30 @@ module _ {p : Subformula} {tr : Trace} {q : Subformula} {ur : Trace} (c : Change
     go_on_by to to' e x.next y pieces h.3,
   )
 
-  after_by : (to to' : Rational) → to' ≈ c.time to → (k : Knot) (pieces : List Piece) → TellsAfter p tr to k pieces
+  -- the pieces after a knot tell the robustness of the other
+  pub after_by : (to to' : Rational) → to' ≈ c.time to → (k : Knot) (pieces : List Piece) → TellsAfter p tr to k pieces
       → TellsAfter q ur to' (knot_by k) (pieces_by pieces)
   after_by to to' e k [] h = h
   after_by to to' e k (x ∷ pieces) h = (inside_by k x h.0, c.robust x.next.time x.next.value h.1, go_on_by to to' e k x pieces h.2)
 
-  -- the knots describe the robustness of the other
-  pub describes_by : (knots : Knots) → DescribesMargins knots p tr → DescribesMargins (knots_by knots) q ur
-  describes_by knots (begins, first, rest) = (
-    same_trans (c.times_same knots.first.time (start tr) begins) (same_sym c.starts),
+  -- and so do the knots of a stretch
+  pub closed_by : (from to from' to' : Rational) → from' ≈ c.time from → to' ≈ c.time to → (knots : Knots) → TellsClosed p tr from to knots
+      → TellsClosed q ur from' to' (knots_by knots)
+  closed_by from to from' to' e f knots (begins, first, rest) = (
+    same_trans (c.times_same knots.first.time from begins) (same_sym e),
     c.robust knots.first.time knots.first.value first,
     by_rest knots.pieces rest,
   )
     where
-      by_rest : (pieces : List Piece) → ((pieces ≡ []) × (start tr ≈ stop tr)) ⊎ TellsAfter p tr (stop tr) knots.first pieces
-          → ((pieces_by pieces ≡ []) × (start ur ≈ stop ur)) ⊎ TellsAfter q ur (stop ur) (knot_by knots.first) (pieces_by pieces)
-      by_rest [] (inl h) = inl (refl, same_trans c.starts (same_trans (c.times_same (start tr) (stop tr) h.1) (same_sym c.stops)))
+      by_rest : (pieces : List Piece) → ((pieces ≡ []) × (from ≈ to)) ⊎ TellsAfter p tr to knots.first pieces
+          → ((pieces_by pieces ≡ []) × (from' ≈ to')) ⊎ TellsAfter q ur to' (knot_by knots.first) (pieces_by pieces)
+      by_rest [] (inl h) = inl (refl, same_trans e (same_trans (c.times_same from to h.1) (same_sym f)))
       by_rest (x ∷ pieces) (inl h) = absurd (let e = h.0 in cc)
-      by_rest pieces (inr h) = inr (after_by (stop tr) (stop ur) c.stops knots.first pieces h)
+      by_rest pieces (inr h) = inr (after_by to to' f knots.first pieces h)
+
+  -- the knots describe the robustness of the other
+  pub describes_by : (knots : Knots) → DescribesMargins knots p tr → DescribesMargins (knots_by knots) q ur
+  describes_by = closed_by (start tr) (stop tr) (start ur) (stop ur) c.starts c.stops
 
   -- texts that stay
   module _ (scale other : Scale) (times : (t : Rational) (text : List ℕ) → IsNumberText scale.time t text → IsNumberText other.time (c.time t) text)
@@ -161,7 +167,8 @@ module _ {p : Subformula} {tr : Trace} {q : Subformula} {ur : Trace} (c : Change
     piece_line_by k x text (a, b, from, to, h, g, l, m, e) =
         (a, b, from, to, times k.time a h, times x.next.time b g, values x.from from l, values x.to to m, e)
 
-    piece_lines_by : (k : Knot) (pieces : List Piece) (text : List ℕ) → ArePieceLines scale k pieces text
+    -- the lines of pieces are those of the changed pieces
+    pub piece_lines_by : (k : Knot) (pieces : List Piece) (text : List ℕ) → ArePieceLines scale k pieces text
         → ArePieceLines other (knot_by k) (pieces_by pieces) text
     piece_lines_by k [] text h = h
     piece_lines_by k (x ∷ pieces) text (piece, knot, later, h, g, l, e) =

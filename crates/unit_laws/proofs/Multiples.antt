@@ -1,9 +1,9 @@
 -- Numbers times K, and their K-th parts.
-use Rattle.std.proofs.Common.{◌≡◌, ℕ, suc, ◌+◌, ◌*◌, ◌<◌, ◌≤◌, Bool, true, false, refl, arith, ℤ, pos, negsuc, IsTrue}
+use Rattle.std.proofs.Common.{◌≡◌, ℕ, suc, ◌+◌, ◌*◌, ◌<◌, ◌≤◌, refl, arith, ℤ, pos, negsuc, IsTrue}
 use Rattle.std.specs.Prelude.{◌*ℤ◌}
 use Rattle.std.proofs.Math.Nat.{mul-pos, mul-le-mul_left, le_of_mul-le-mul_left, mul-lt-mul_of_pos_left, lt_of_mul-lt-mul_left}
 use Rattle.rational.specs.Rational.{part_above, part_below}
-use Rattle.rational.specs.Time.{Rational, ◌<ʳ◌, ◌≈◌, Within, Precedes, later, whole, times, add}
+use Rattle.rational.specs.Time.{Rational, ◌<ʳ◌, ◌≈◌, whole, times, add}
 use Rattle.rational.proofs.Order.{same_of_le, le_of_same, ge_of_same}
 use Rattle.stl_syntax.specs.Truth.{compares}
 use Rattle.stl_syntax.specs.declared.rel.Rel.{Rel}
@@ -31,28 +31,6 @@ lt_back {t} {u} K h = record {
 -- a number is K times its K-th part
 pub stretch-shrink : (K : ℕ) (p : 0 < K) (t : Rational) → stretch K (shrink K p t) ≈ t
 stretch-shrink K p t = record { same = omega arith }
-
--- what precedes another number does so too when both are taken K times
-pub precedes_stretch : (K : ℕ) → 0 < K → (b : Bool) (t u : Rational) → Precedes b t u → Precedes b (stretch K t) (stretch K u)
-precedes_stretch K p true t u h = stretch_le K h
-precedes_stretch K p false t u h = stretch_lt K p h
-
--- what precedes another number when both are taken K times does so itself
-pub precedes_back : (K : ℕ) → 0 < K → (b : Bool) (t u : Rational) → Precedes b (stretch K t) (stretch K u) → Precedes b t u
-precedes_back K p true t u h = le_back K p h
-precedes_back K p false t u h = lt_back K h
-
--- later by K times as much
-pub later_stretch : (K a : ℕ) (t : Rational) → later (stretch K t) (K * a) ≈ stretch K (later t a)
-later_stretch K a t = record { same = omega arith }
-
--- what lies within two numbers does so too when all are taken K times
-pub within_stretched : {t u v : Rational} (K : ℕ) → Within t u v → Within (stretch K t) (stretch K u) (stretch K v)
-within_stretched K h = record { above = stretch_le K h.above; below = stretch_le K h.below }
-
--- what lies within two numbers when all are taken K times does so itself
-pub within_back : {t u v : Rational} (K : ℕ) → 0 < K → Within (stretch K t) (stretch K u) (stretch K v) → Within t u v
-within_back K p h = record { above = le_back K p h.above; below = le_back K p h.below }
 
 -- sums and products
 pub add_stretch : (K : ℕ) (a b : Rational) → add (stretch K a) (stretch K b) ≈ stretch K (add a b)

@@ -1,9 +1,17 @@
 //! Laws of units. Each is the contract of a call that does nothing, so that the gate proves it.
-ghost use Rattle.unit_laws.specs.Units.{TruthIsOfUnits, RobustIsOfUnits, CheckKeepsItsText, TruthTurnsAtFractions, LawOfUnits};
+ghost use Rattle.unit_laws.specs.Origins.{TruthMoves, RobustnessMoves, VerdictsMove, KnotsMove, ExplanationsMove};
+ghost use Rattle.unit_laws.specs.Streams.{StreamsAreKept};
+ghost use Rattle.unit_laws.specs.Units.{TruthIsOfUnits, RobustnessIsOfUnits, RobustIsOfUnits, TableIsOfUnits, TextsAreKept};
+ghost use Rattle.unit_laws.specs.Units.{TruthTurnsAtFractions, LawOfUnits, LawOfReadUnits, CheckWritesOneText};
 
 /// The truth of a formula at a time does not depend on the ticks in which times and values are counted.
 pub fn truth_is_of_units()
     ensures { TruthIsOfUnits }
+{}
+
+/// Nor does its robustness: in smaller ticks it is as many times larger as a value is.
+pub fn robustness_is_of_units()
+    ensures { RobustnessIsOfUnits }
 {}
 
 /// Smaller ticks change no text of `robust`.
@@ -11,9 +19,19 @@ pub fn robust_is_of_units()
     ensures { RobustIsOfUnits }
 {}
 
-/// What `check` writes it writes in smaller ticks too.
-pub fn check_keeps_its_text()
-    ensures { CheckKeepsItsText }
+/// Smaller ticks change no text of `table`.
+pub fn table_is_of_units()
+    ensures { TableIsOfUnits }
+{}
+
+/// What `check`, `robust`, `explain`, `json` and `table` write they write in smaller ticks too.
+pub fn texts_are_kept()
+    ensures { TextsAreKept }
+{}
+
+/// What `watch`, `early` and `rwatch` owe for the rows of a trace, and for its end, they owe in smaller ticks too.
+pub fn streams_are_kept()
+    ensures { StreamsAreKept }
 {}
 
 /// The truth of a formula over rows within the limits turns only at times that are fractions with a denominator of at most 2^31: the
@@ -25,4 +43,39 @@ pub fn truth_turns_at_fractions()
 /// Smaller ticks change no text of `check` and of `robust`, for a formula and rows within the limits.
 pub fn texts_are_of_units()
     ensures { LawOfUnits }
+{}
+
+/// So they do for each trace that was read, whose rows lie within the limits by that.
+pub fn read_texts_are_of_units()
+    ensures { LawOfReadUnits }
+{}
+
+/// Where `check` writes something in both ticks it is one text, whatever the formula and the trace.
+pub fn check_writes_one_text()
+    ensures { CheckWritesOneText }
+{}
+
+/// Where all times of a trace are so many ticks later, a formula holds as many ticks later.
+pub fn truth_moves()
+    ensures { TruthMoves }
+{}
+
+/// And its robustness is the same as many ticks later.
+pub fn robustness_moves()
+    ensures { RobustnessMoves }
+{}
+
+/// The verdicts of the later trace are those of the trace, with both ends of each as many ticks later.
+pub fn verdicts_move()
+    ensures { VerdictsMove }
+{}
+
+/// And its knots are those of the trace, as many ticks later with the same values.
+pub fn knots_move()
+    ensures { KnotsMove }
+{}
+
+/// And what explains the formula on the trace explains it, as many ticks later, on the later trace.
+pub fn explanations_move()
+    ensures { ExplanationsMove }
 {}

@@ -1,0 +1,86 @@
+-- What a stream of margins writes by another clock.
+use Rattle.std.proofs.Common.{◌≡◌, ℕ, ◌<◌, Bool, true, false, List, [], length, sym, subst, Some, None, MatchBool}
+use Rattle.std.specs.Prelude.{int_lt}
+use Rattle.rational.specs.Time.{Rational, ◌≈◌, whole}
+use Rattle.rational.specs.Extended.{Extended}
+use Rattle.rational.proofs.Order.{same_sym, same_trans}
+use Rattle.stl_syntax.specs.Trace.{Header, Row, AreRows, start}
+use Rattle.stl_syntax.specs.Formula.{Subformula}
+use Rattle.stl_syntax.specs.Knots.{Knot, Piece}
+use Rattle.stl_syntax.specs.Texts.{IsNumberText, IsValueText, ArePieceLines}
+use Rattle.stl_syntax.specs.declared.scale.Scale.{Scale}
+use Rattle.online_nodes.specs.MarginStream.{TellsLeftOpen, IsNewMargins, IsMarginStream}
+use Rattle.unit_laws.proofs.Clocks.{clock, clock_same}
+use Rattle.unit_laws.proofs.FinerTraces.{rows_counted}
+use Rattle.unit_laws.proofs.FinerValues.{stretchᵉ}
+use Rattle.unit_laws.proofs.KnotsChange.{Change, knot_by, pieces_by, knots_by, after_by, closed_by, piece_lines_by, margin_lines_by}
+use Rattle.unit_laws.proofs.FinerKnots.{to_clock}
+use Rattle.unit_laws.proofs.Fronts.{less_shown}
+use Rattle.unit_laws.proofs.FinerStreams.{q, other, rows_by, trace_of, other_of, so_far, match_by, KeepsNew, rows_text_by, rest_by}
+
+module _ (K o M : ℕ) (kp : 0 < K) (mp : 0 < M) (p : Subformula) (header : Header) (scale : Scale)
+    (times : (t : Rational) (text : List ℕ) → IsNumberText header.scale.time t text → IsNumberText scale.time (clock K o t) text)
+    (values : (v : Extended) (text : List ℕ) → IsValueText header.scale.value v text → IsValueText scale.value (stretchᵉ M v) text) where
+  abbrev r : Subformula
+  r = q K o M kp mp p header scale
+
+  abbrev change : (rows : List Row) → AreRows (length header.columns) rows
+      → Change p (trace_of K o M kp mp p header scale rows) r (other_of K o M kp mp p header scale rows)
+  change rows ok = to_clock K o M kp mp (so_far K o M kp mp p header scale rows ok) p
+
+  -- the lines of margins after one time, up to another
+  abbrev IsText : List Row → Rational → Rational → List ℕ → Type 0
+  IsText rows from to text =
+      (k : Knot) × (pieces : List Piece) × TellsLeftOpen p (trace_of K o M kp mp p header scale rows) from to k pieces
+      × ArePieceLines header.scale k pieces text
+
+  -- and those by the clock
+  abbrev IsTextBy : List Row → Rational → Rational → List ℕ → Type 0
+  IsTextBy rows from to text =
+      (k : Knot) × (pieces : List Piece) × TellsLeftOpen r (other_of K o M kp mp p header scale rows) from to k pieces × ArePieceLines scale k pieces text
+
+  moved : (rows : List Row) → AreRows (length header.columns) rows → (from to from' to' : Rational) (text : List ℕ) → from' ≈ clock K o from
+      → to' ≈ clock K o to → IsText rows from to text → IsTextBy rows from' to' text
+  moved rows ok from to from' to' text f g (k, pieces, (begins, told), lines) =
+      let c = change rows ok in (
+        knot_by c k,
+        pieces_by c pieces,
+        (same_trans (clock_same K o begins) (same_sym f), after_by c to to' g k pieces told),
+        piece_lines_by c header.scale scale times values k pieces text lines,
+      )
+
+  -- the margins of what a front answers
+  margins_keep : KeepsNew K o M kp mp p header scale (IsNewMargins p) (IsNewMargins r)
+  margins_keep rows old None old' None text ok f g h = h
+  margins_keep rows old None old' (Some j) text ok f g h = absurd g
+  margins_keep rows old (Some i) old' None text ok f g h = absurd g
+  margins_keep rows None (Some i) (Some b) (Some j) text ok f g h = absurd f
+  margins_keep rows (Some a) (Some i) None (Some j) text ok f g h = absurd f
+  margins_keep rows None (Some i) None (Some j) text ok f g (knots, told, lines) =
+      let c = change rows ok in (
+        knots_by c knots,
+        closed_by c (start (trace_of K o M kp mp p header scale rows)) (whole i) (start (other_of K o M kp mp p header scale rows)) (whole j) c.starts g
+            knots told,
+        margin_lines_by c header.scale scale times values knots text lines,
+      )
+  margins_keep rows (Some a) (Some i) (Some b) (Some j) text ok f g h =
+      let Fine : Type 0 = IsTextBy rows (whole b) (whole j) text in
+      subst (λ x. MatchBool x Fine (text ≡ [])) (sym (less_shown K o kp a i b j f g))
+      (match_by (IsText rows (whole a) (whole i) text) Fine (text ≡ []) (int_lt a i) (moved rows ok (whole a) (whole i) (whole b) (whole j) text f g) h)
+
+  -- the text of a stream of margins
+  pub margin_stream_by : (rows : List Row) (ended : Bool) (text : List ℕ) → AreRows (length header.columns) rows
+      → IsMarginStream p header rows ended text
+      → IsMarginStream r (other K o M kp mp p header scale) (rows_by K o M kp mp p header scale rows) ended text
+  margin_stream_by rows false text ok h =
+      rows_text_by K o M kp mp p header scale (IsNewMargins p) (IsNewMargins r) margins_keep [] None None rows text ok tt h
+  margin_stream_by rows true text ok (_, (during, rest, a, b, is)) = (
+    rows_counted K o M kp mp (length header.columns) rows ok,
+    (
+      during,
+      rest,
+      rows_text_by K o M kp mp p header scale (IsNewMargins p) (IsNewMargins r) margins_keep [] None None rows during ok tt a,
+      rest_by K o M kp mp p header scale (IsNewMargins p) (IsNewMargins r) margins_keep rows rest ok b,
+      is,
+    ),
+  )
