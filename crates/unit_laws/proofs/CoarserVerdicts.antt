@@ -33,7 +33,8 @@ module _ (k : ℕ) (kp : 0 < 10 ^ k) (scale other : Scale) (is : other.time ≡ 
       number_of_same scale.time (unclock (10 ^ k) 0 kp t) (value a.frac) text (same_sym a.same)
       (time_text_back scale.time k kp t text (subst (λ d. IsNumberText d t text) is h))
 
-  lines_back : (verdicts : List Verdict) (e : HasEnds (10 ^ k) 0 kp verdicts) (text : List ℕ) → AreVerdictLines other verdicts text
+  -- the lines of verdicts taken back
+  pub lines_back : (verdicts : List Verdict) (e : HasEnds (10 ^ k) 0 kp verdicts) (text : List ℕ) → AreVerdictLines other verdicts text
       → AreVerdictLines scale (verdicts_back (10 ^ k) 0 kp verdicts e) text
   lines_back [] e text h = h
   lines_back (v ∷ verdicts) e text (here, later, (on, h, f), g, i) = (

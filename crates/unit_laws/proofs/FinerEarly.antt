@@ -1,9 +1,10 @@
 -- What a stream of the early verdict writes by another clock.
-use Rattle.std.proofs.Common.{◌≡◌, ℕ, ◌<◌, Bool, true, false, List, [], ◌∷◌, ◌++◌, map, length, refl, sym, ap, ◌∙◌, subst, append-nil, append_assoc, arith}
+use Rattle.std.proofs.Common.{◌≡◌, ℕ, ◌<◌, Bool, true, false, List, [], ◌∷◌}
+use Rattle.std.proofs.Common.{◌++◌, map, length, refl, sym, ap, ◌∙◌, subst, append-nil, append_assoc, arith}
 use Rattle.std.specs.Prelude.{◌↔◌}
 use Rattle.std.proofs.lemmas.List.{map-append}
 use Rattle.rational.specs.Time.{Rational, ◌≈◌}
-use Rattle.rational.proofs.Order.{same_sym}
+use Rattle.rational.proofs.Order.{same_sym, same_trans}
 use Rattle.stl_syntax.specs.Trace.{Header, Row, AreRows, row_time, start}
 use Rattle.stl_syntax.specs.Formula.{Subformula}
 use Rattle.stl_syntax.specs.Early.{Decides, NoneDecides}
@@ -12,9 +13,10 @@ use Rattle.stl_syntax.specs.Texts.{IsNumberText}
 use Rattle.stl_syntax.specs.declared.scale.Scale.{Scale}
 use Rattle.stl_syntax.proofs.SettledTimes.{settled_is_of_times}
 use Rattle.report.proofs.KeptTexts.{number_of_same}
-use Rattle.unit_laws.proofs.Clocks.{clock}
+use Rattle.unit_laws.proofs.Clocks.{clock, unclock, unclock_same, unclock-clock}
 use Rattle.unit_laws.proofs.FinerTraces.{row_by, rows_counted}
 use Rattle.unit_laws.proofs.FinerVerdicts.{start_line_by}
+use Rattle.unit_laws.proofs.VerdictsBack.{start_back}
 use Rattle.unit_laws.proofs.FinerSettled.{settled_by}
 use Rattle.unit_laws.proofs.FinerStreams.{q, other, rows_by, trace_of, other_of, so_far, rows_front}
 
@@ -52,6 +54,9 @@ module _ (K o M : ℕ) (kp : 0 < K) (mp : 0 < M) (p : Subformula) (header : Head
 
   abbrev moved : List Row → List Row
   moved rows = rows_by K o M kp mp p header scale rows
+
+  row_same : (x : Row) → clock K o (row_time x) ≈ row_time (row_by K o M kp mp x)
+  row_same x = record { same = omega arith }
 
   -- the rows decide by the clock where they decide
   decides_by : (rows : List Row) (b : Bool) → AreRows (length header.columns) rows
@@ -104,10 +109,41 @@ module _ (K o M : ℕ) (kp : 0 < K) (mp : 0 < M) (p : Subformula) (header : Head
         not_before = none_by rows before (x ∷ after) e ok first.not_before;
       })
       (number_of_same scale.time (clock K o (row_time x)) (row_time (row_by K o M kp mp x)) time (row_same x) (times (row_time x) time written)) is
-    where
-      row_same : (x : Row) → clock K o (row_time x) ≈ row_time (row_by K o M kp mp x)
-      row_same x = record { same = omega arith }
   early_by rows ended text ok (at_end line end all none line_is is) =
       at_end line end (rows_counted K o M kp mp (length header.columns) rows ok) (none_by rows rows [] (sym (append-nil rows)) ok none)
       (start_line_by K o M kp mp (so_far K o M kp mp p header scale rows ok) p line line_is) is
   early_by rows ended text ok (not_yet end none is) = not_yet end (none_by rows rows [] (sym (append-nil rows)) ok none) is
+
+  -- where none of the rows decides by the clock, none does
+  none_back : (all rows beyond : List Row) → all ≡ rows ++ beyond → AreRows (length header.columns) all → NoneDecides r fine (moved rows)
+      → NoneDecides p header rows
+  none_back all rows beyond whole ok none before after x b e h =
+      let here : all ≡ before ++ x ∷ (after ++ beyond) = whole ∙ ap (λ xs. xs ++ beyond) e ∙ append_assoc before (x ∷ after) beyond in
+      let fine_ok = front_rows before (after ++ beyond) x (subst (λ xs. AreRows (length header.columns) xs) here ok) in
+      none (moved before) (moved after) (row_by K o M kp mp x) b (ap moved e ∙ map-append (row_by K o M kp mp) before (x ∷ after))
+      (subst (λ xs. Decides r (record { header = fine; rows = xs }) b) (pushed before x) ((decides_by (before ++ x ∷ []) b fine_ok).0 h))
+
+  module _ (times_back : (t : Rational) (text : List ℕ) → IsNumberText scale.time t text → IsNumberText header.scale.time (unclock K o kp t) text) where
+    row_back : (x : Row) → unclock K o kp (row_time (row_by K o M kp mp x)) ≈ row_time x
+    row_back x = same_trans (unclock_same K o kp (same_sym (row_same x))) (unclock-clock K o kp (row_time x))
+
+    -- the text of the early verdict by the clock is that of the rows
+    pub early_back : (rows : List Row) (ended : Bool) (text : List ℕ) → AreRows (length header.columns) rows
+        → IsEarlyText r fine (moved rows) ended text → IsEarlyText p header rows ended text
+    early_back rows ended text ok (at_row before after x holds time e first written is) =
+        let c = parted (row_by K o M kp mp) rows before x after e in
+        let n = length header.columns in
+        let front_ok = front_rows c.before c.after c.at (subst (λ xs. AreRows n xs) c.is ok) in
+        let same : before ++ x ∷ [] ≡ moved (c.before ++ c.at ∷ []) =
+        ap (λ xs. xs ++ x ∷ []) c.front ∙ ap (λ y. moved c.before ++ y ∷ []) c.here ∙ sym (pushed c.before c.at) in
+        at_row c.before c.after c.at holds time c.is (record {
+          decides = (decides_by (c.before ++ c.at ∷ []) holds front_ok).1
+              (subst (λ xs. Decides r (record { header = fine; rows = xs }) holds) same first.decides);
+          not_before = none_back rows c.before (c.at ∷ c.after) c.is ok (subst (λ xs. NoneDecides r fine xs) c.front first.not_before);
+        })
+        (number_of_same header.scale.time (unclock K o kp (row_time (row_by K o M kp mp c.at))) (row_time c.at) time (row_back c.at)
+        (times_back (row_time (row_by K o M kp mp c.at)) time (subst (λ y. IsNumberText scale.time (row_time y) time) c.here written))) is
+    early_back rows ended text ok (at_end line end all none line_is is) =
+        at_end line end ok (none_back rows rows [] (sym (append-nil rows)) ok none)
+        (start_back K o M kp mp (so_far K o M kp mp p header scale rows ok) p line line_is) is
+    early_back rows ended text ok (not_yet end none is) = not_yet end (none_back rows rows [] (sym (append-nil rows)) ok none) is

@@ -4,19 +4,20 @@ use Rattle.std.specs.Prelude.{int_lt}
 use Rattle.rational.specs.Time.{Rational, ◌≈◌, whole}
 use Rattle.rational.specs.Extended.{Extended}
 use Rattle.rational.proofs.Order.{same_sym, same_trans}
-use Rattle.stl_syntax.specs.Trace.{Header, Row, AreRows, start}
+use Rattle.stl_syntax.specs.Trace.{Header, Row, Trace, AreRows, start}
 use Rattle.stl_syntax.specs.Formula.{Subformula}
 use Rattle.stl_syntax.specs.Knots.{Knot, Piece}
 use Rattle.stl_syntax.specs.Texts.{IsNumberText, IsValueText, ArePieceLines}
 use Rattle.stl_syntax.specs.declared.scale.Scale.{Scale}
 use Rattle.online_nodes.specs.MarginStream.{TellsLeftOpen, IsNewMargins, IsMarginStream}
-use Rattle.unit_laws.proofs.Clocks.{clock, clock_same}
+use Rattle.unit_laws.proofs.Clocks.{clock, unclock, clock_same, unclock_same, unclock-clock}
 use Rattle.unit_laws.proofs.FinerTraces.{rows_counted}
-use Rattle.unit_laws.proofs.FinerValues.{stretchᵉ}
+use Rattle.unit_laws.proofs.FinerValues.{stretchᵉ, shrinkᵉ}
 use Rattle.unit_laws.proofs.KnotsChange.{Change, knot_by, pieces_by, knots_by, after_by, closed_by, piece_lines_by, margin_lines_by}
-use Rattle.unit_laws.proofs.FinerKnots.{to_clock}
+use Rattle.unit_laws.proofs.FinerKnots.{to_clock, from_clock}
 use Rattle.unit_laws.proofs.Fronts.{less_shown}
 use Rattle.unit_laws.proofs.FinerStreams.{q, other, rows_by, trace_of, other_of, so_far, match_by, KeepsNew, rows_text_by, rest_by}
+use Rattle.unit_laws.proofs.FinerStreams.{GivesNew, rows_text_back, rest_back}
 
 module _ (K o M : ℕ) (kp : 0 < K) (mp : 0 < M) (p : Subformula) (header : Header) (scale : Scale)
     (times : (t : Rational) (text : List ℕ) → IsNumberText header.scale.time t text → IsNumberText scale.time (clock K o t) text)
@@ -81,6 +82,78 @@ module _ (K o M : ℕ) (kp : 0 < K) (mp : 0 < M) (p : Subformula) (header : Head
       rest,
       rows_text_by K o M kp mp p header scale (IsNewMargins p) (IsNewMargins r) margins_keep [] None None rows during ok tt a,
       rest_by K o M kp mp p header scale (IsNewMargins p) (IsNewMargins r) margins_keep rows rest ok b,
+      is,
+    ),
+  )
+
+module _ (K o M : ℕ) (kp : 0 < K) (mp : 0 < M) (p : Subformula) (header : Header) (scale : Scale)
+    (times : (t : Rational) (text : List ℕ) → IsNumberText scale.time t text → IsNumberText header.scale.time (unclock K o kp t) text)
+    (values : (v : Extended) (text : List ℕ) → IsValueText scale.value v text → IsValueText header.scale.value (shrinkᵉ M mp v) text) where
+  abbrev s : Subformula
+  s = q K o M kp mp p header scale
+
+  abbrev coarse : List Row → Trace
+  coarse rows = trace_of K o M kp mp p header scale rows
+
+  abbrev fine : List Row → Trace
+  fine rows = other_of K o M kp mp p header scale rows
+
+  abbrev change_back : (rows : List Row) → AreRows (length header.columns) rows → Change s (fine rows) p (coarse rows)
+  change_back rows ok = from_clock K o M kp mp (so_far K o M kp mp p header scale rows ok) p
+
+  was_shown : (t u : Rational) → u ≈ clock K o t → t ≈ unclock K o kp u
+  was_shown t u e = same_sym (same_trans (unclock_same K o kp e) (unclock-clock K o kp t))
+
+  abbrev IsLeft : List Row → Rational → Rational → List ℕ → Type 0
+  IsLeft rows from to text =
+      (k : Knot) × (pieces : List Piece) × TellsLeftOpen p (coarse rows) from to k pieces × ArePieceLines header.scale k pieces text
+
+  abbrev IsLeftBy : List Row → Rational → Rational → List ℕ → Type 0
+  IsLeftBy rows from to text = (k : Knot) × (pieces : List Piece) × TellsLeftOpen s (fine rows) from to k pieces × ArePieceLines scale k pieces text
+
+  taken_back : (rows : List Row) → AreRows (length header.columns) rows → (from to from' to' : Rational) (text : List ℕ) → from' ≈ clock K o from
+      → to' ≈ clock K o to → IsLeftBy rows from' to' text → IsLeft rows from to text
+  taken_back rows ok from to from' to' text f g (k, pieces, (begins, told), lines) =
+      let c = change_back rows ok in (
+        knot_by c k,
+        pieces_by c pieces,
+        (same_trans (unclock_same K o kp begins) (same_sym (was_shown from from' f)), after_by c to' to (was_shown to to' g) k pieces told),
+        piece_lines_by c scale header.scale times values k pieces text lines,
+      )
+
+  -- the margins of what a front answers by the clock are those of the rows
+  margins_given : GivesNew K o M kp mp p header scale (λ rows. Unit {0}) (IsNewMargins p) (IsNewMargins s)
+  margins_given rows old None old' None text ok range f g h = h
+  margins_given rows old None old' (Some j) text ok range f g h = absurd g
+  margins_given rows old (Some i) old' None text ok range f g h = absurd g
+  margins_given rows None (Some i) (Some b) (Some j) text ok range f g h = absurd f
+  margins_given rows (Some a) (Some i) None (Some j) text ok range f g h = absurd f
+  margins_given rows None (Some i) None (Some j) text ok range f g (knots, told, lines) =
+      let c = change_back rows ok in (
+        knots_by c knots,
+        closed_by c (start (fine rows)) (whole j) (start (coarse rows)) (whole i) c.starts (was_shown (whole i) (whole j) g) knots told,
+        margin_lines_by c scale header.scale times values knots text lines,
+      )
+  margins_given rows (Some a) (Some i) (Some b) (Some j) text ok range f g h =
+      let Coarse : Type 0 = IsLeft rows (whole a) (whole i) text in
+      subst (λ x. MatchBool x Coarse (text ≡ [])) (less_shown K o kp a i b j f g)
+      (match_by (IsLeftBy rows (whole b) (whole j) text) Coarse (text ≡ []) (int_lt b j)
+      (taken_back rows ok (whole a) (whole i) (whole b) (whole j) text f g) h)
+
+  -- the text of a stream of margins by the clock is that of the rows
+  pub margin_stream_back : (rows : List Row) (ended : Bool) (text : List ℕ) → AreRows (length header.columns) rows
+      → IsMarginStream s (other K o M kp mp p header scale) (rows_by K o M kp mp p header scale rows) ended text → IsMarginStream p header rows ended text
+  margin_stream_back rows false text ok h =
+      rows_text_back K o M kp mp p header scale (λ xs. Unit {0}) (IsNewMargins p) (IsNewMargins s) (λ xs x more h. h) margins_given [] None None rows
+      text ok tt tt h
+  margin_stream_back rows true text ok (_, (during, rest, a, b, is)) = (
+    ok,
+    (
+      during,
+      rest,
+      rows_text_back K o M kp mp p header scale (λ xs. Unit {0}) (IsNewMargins p) (IsNewMargins s) (λ xs x more h. h) margins_given [] None None rows
+          during ok tt tt a,
+      rest_back K o M kp mp p header scale (λ xs. Unit {0}) (IsNewMargins p) (IsNewMargins s) (λ xs x more h. h) margins_given rows rest ok tt b,
       is,
     ),
   )

@@ -1,6 +1,6 @@
 -- What streams write by another clock: the texts of the rows in turn, and of what is left at the end.
-use Rattle.std.proofs.Common.{◌≡◌, ℕ, ◌+◌, ◌*◌, ◌<◌, Bool, true, false, List, [], ◌∷◌, ◌++◌}
-use Rattle.std.proofs.Common.{map, length, refl, sym, subst, append_assoc, ℤ, pos, Option, Some, None, MatchBool}
+use Rattle.std.proofs.Common.{◌≡◌, ℕ, ◌+◌, ◌*◌, ◌<◌, Bool, true, false, List, [], ◌∷◌, ◌++◌, map}
+use Rattle.std.proofs.Common.{length, refl, sym, subst, append_assoc, ℤ, pos, Option, Some, None, MatchBool}
 use Rattle.std.specs.Prelude.{int_lt}
 use Rattle.std.proofs.lemmas.List.{map-append}
 use Rattle.rational.specs.Time.{whole, closed, left_open}
@@ -104,6 +104,48 @@ module _ (K o M : ℕ) (kp : 0 < K) (mp : 0 < M) (p : Subformula) (header : Head
         subst (λ t. Other (other_of (r ∷ rows)) (answered_by (K * r.time + o) q t) (Some (pos t)) text) (sym (last_by r.time rows))
         (keeps (r ∷ rows) (answered_by r.time p s) (Some (pos s)) (answered_by (K * r.time + o) q (K * s + o)) (Some (pos (K * s + o))) text ok
         (answered_fronts K o kp M p r.time s) (row_shown K o kp s) h)
+
+  -- the text of what a front answers by the clock is one of the rows, where they are in range
+  abbrev pub GivesNew : (List Row → Type 0) → NewText → NewText → Type 0
+  GivesNew Range New Other =
+      (rows : List Row) (old new old' new' : Option ℤ) (text : List ℕ) → AreRows (length header.columns) rows → Range rows
+      → AreFronts K o kp old old' → AreFronts K o kp new new' → Other (other_of rows) old' new' text → New (trace_of rows) old new text
+
+  module _ (Range : List Row → Type 0) (New Other : NewText)
+      (before : (rows : List Row) (r : Row) (more : List Row) → Range ((rows ++ r ∷ []) ++ more) → Range (rows ++ r ∷ []))
+      (gives : GivesNew Range New Other) where
+    -- so is the text of the rows in turn
+    pub rows_text_back : (rows : List Row) (old old' : Option ℤ) (more : List Row) (text : List ℕ) → AreRows (length header.columns) (rows ++ more)
+        → Range (rows ++ more) → AreFronts K o kp old old' → IsRowsText Other q other (rows_by rows) old' (rows_by more) text
+        → IsRowsText New p header rows old more text
+    rows_text_back rows old old' [] text ok range h t = t
+    rows_text_back rows old old' (r ∷ more) text ok range h (here, later, now, rest, is) =
+        let n = length header.columns in
+        let one : rows ++ r ∷ more ≡ (rows ++ r ∷ []) ++ more = sym (append_assoc rows (r ∷ []) more) in
+        let all : AreRows n ((rows ++ r ∷ []) ++ more) = subst (λ (xs : List Row). AreRows n xs) one ok in
+        let ranges : Range ((rows ++ r ∷ []) ++ more) = subst Range one range in
+        let pushed : rows_by rows ++ row_by K o M kp mp r ∷ [] ≡ rows_by (rows ++ r ∷ []) = sym (map-append (row_by K o M kp mp) rows (r ∷ [])) in
+        let front = front_by rows r in (
+          here,
+          later,
+          gives (rows ++ r ∷ []) old (front_of rows r) old'
+              (shown_front rows r) here (rows_front n rows r more all) (before rows r more ranges) h front
+              (subst (λ xs. Other (record { header = other; rows = xs }) old' (answered_by (first_time xs) q (K * r.time + o)) here) pushed now),
+          rows_text_back (rows ++ r ∷ []) (front_of rows r) (shown_front rows r)
+              more later all ranges front
+              (subst (λ xs. IsRowsText Other q other xs (answered_by (first_time xs) q (K * r.time + o)) (rows_by more) later) pushed rest),
+          is,
+        )
+
+    -- and the text of what is left
+    pub rest_back : (rows : List Row) (text : List ℕ) → AreRows (length header.columns) rows → Range rows → IsRestText Other q (other_of rows) text
+        → IsRestText New p (trace_of rows) text
+    rest_back [] text ok range h = absurd ok
+    rest_back (r ∷ rows) text ok range h =
+        let s = last_time r.time rows in
+        gives (r ∷ rows) (answered_by r.time p s) (Some (pos s)) (answered_by (K * r.time + o) q (K * s + o)) (Some (pos (K * s + o))) text ok range
+        (answered_fronts K o kp M p r.time s) (row_shown K o kp s)
+        (subst (λ t. Other (other_of (r ∷ rows)) (answered_by (K * r.time + o) q t) (Some (pos t)) text) (last_by r.time rows) h)
 
   -- ---- verdicts
 

@@ -36,6 +36,7 @@ pub mod FinerStreams
 pub mod FinerMarginStreams
 pub mod FinerSettled
 pub mod FinerEarly
+pub mod WatchBack
 pub mod StreamsKept
 pub mod OriginRows
 pub mod OriginVerdicts
@@ -43,3 +44,4 @@ pub mod OriginKnots
 pub mod OriginItems
 pub mod ReadRanges
 pub mod OneTexts
+pub mod UnitExamples

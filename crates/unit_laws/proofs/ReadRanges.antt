@@ -1,7 +1,7 @@
--- The rows of a trace that was read lie within the limits: what its bytes say of them, where they have no fault.
+-- A trace that is read for a formula: where its bytes have no fault its rows lie within the limits, and its ticks are no coarser than asked.
 use Rattle.std.proofs.Common.{ℕ, suc, ◌<◌, ◌≤◌, true, List, [], ◌∷◌, All, refl, sym}
 use Rattle.std.proofs.Common.{subst, arith, inl, inr, ℤ, pos, negsuc, nat_abs, Option, Some, None, MatchBool}
-use Rattle.std.specs.Prelude.{◌⊎◌, ◌<ℤ◌}
+use Rattle.std.specs.Prelude.{◌⊎◌, ◌<ℤ◌, max}
 use Rattle.std.proofs.lemmas.Bool.{cases_lt}
 use Rattle.std.proofs.lemmas.Int.{ints}
 use Rattle.std.proofs.lemmas.List.Elements.{All-cons, All-nil}
@@ -10,6 +10,7 @@ use Rattle.stl_syntax.specs.Trace.{Header, Row, Trace, IsInRange, AreInRange}
 use Rattle.stl_syntax.specs.declared.scale.Scale.{Scale}
 use Rattle.trace_reader.specs.TraceText.{Line, lines, is_blank_line, fields, Heading, IsHeading, scale_of, IsInTicks, AreInTicks, IsRow}
 use Rattle.trace_reader.specs.TraceText.{AreRowLines, none, unfinished, row, AreTraceLines, heading}
+use Rattle.trace_reader.specs.TraceText.{greatest}
 use Rattle.trace_reader.specs.TraceText as texts
 use Rattle.trace_reader.specs.TraceRefusals.{NumberFault, ValueFaults, NumberFaults, RowFault, InLine, LineFault, FaultAfter, FaultFrom, HeaderFault, HasTrace}
 use Rattle.trace_reader.specs.declared.refusal.Limits.{Limits}
@@ -105,3 +106,17 @@ module _ (limits : Limits) (least : Scale) where
 -- the rows of a trace that was read lie within the limits
 pub read_rows : (bytes : List ℕ) (limits : Limits) (least : Scale) (tr : Trace) → HasTrace bytes limits least tr → AreInRange tr.rows
 read_rows bytes limits least tr h = lines_range limits least 1 h.text.read h.sound
+
+greatest_from : (n : ℕ) (more : List ℕ) → n ≤ greatest n more
+greatest_from n [] = omega arith
+greatest_from n (m ∷ more) = let h = greatest_from (max n m) more in omega (arith, h)
+
+lines_scale : (least : Scale) {input : List Line} {header : Header} {rows : List Row} → AreTraceLines least input header rows
+    → (least.time ≤ header.scale.time) × (least.value ≤ header.scale.value)
+lines_scale least (texts.AreTraceLines.blank w b rest) = lines_scale least rest
+lines_scale least (heading h w b is rest) = (omega arith, greatest_from least.value h.digits)
+
+-- the ticks of a trace that was read are no coarser than the least that was asked for
+pub read_scale : (bytes : List ℕ) (limits : Limits) (least : Scale) (tr : Trace) → HasTrace bytes limits least tr
+    → (least.time ≤ tr.header.scale.time) × (least.value ≤ tr.header.scale.value)
+read_scale bytes limits least tr h = lines_scale least h.text.read

@@ -1,5 +1,5 @@
 -- A number with a small denominator is one that the program keeps.
-use Rattle.std.proofs.Common.{◌≡◌, ℕ, suc, ◌+◌, ◌-◌, ◌*◌, ◌/◌, ◌%◌, ◌^◌, ◌<◌, ◌≤◌, ap, subst, arith, pos, negsuc, ◌-ℤ◌}
+use Rattle.std.proofs.Common.{◌≡◌, ℕ, suc, ◌+◌, ◌-◌, ◌*◌, ◌/◌, ◌%◌, ◌^◌, ◌<◌, ◌≤◌, ap, subst, arith, ℤ, pos, negsuc, ◌-ℤ◌}
 use Prim.Native.Nat.{◌∣◌}
 use Rattle.std.proofs.Math.Nat.{dvd-sub, dvd-mul_left_of_dvd}
 use Rattle.std.proofs.lemmas.Nat.{div-add-mod', mod_below}
@@ -70,6 +70,10 @@ has_whole t n e = record {
   frac = record { whole = pos n; rest = 0; den = 1; positive = omega arith; below = omega arith; small = omega arith; lowest = lowest_whole (pos 0) };
   same = same_trans (record { same = omega arith }) (same_sym e);
 }
+
+-- any whole number
+pub has_int : (z : ℤ) → HasFrac (whole z)
+has_int z = has_frac (whole z) 1 (z, lowest_whole z, record { same = omega arith }) (omega arith)
 
 -- the denominator in lowest terms is none above that of a pair
 pub at_most_its_own : (v : Rational) (d : ℕ) → HasDenominator v d → d ≤ v.den

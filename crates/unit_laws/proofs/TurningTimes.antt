@@ -4,7 +4,7 @@ use Rattle.std.specs.Prelude.{◌≢◌}
 use Rattle.std.proofs.lemmas.Bool.{cases_lt}
 use Rattle.rational.specs.Rational.{middle}
 use Rattle.rational.specs.Time.{Rational, ◌≤ʳ◌, ◌≈◌, Interval, IsIn, IsNotEmpty, Precedes, closed}
-use Rattle.rational.proofs.Order.{le_refl, le_of_same, ge_of_same, same_sym, same_trans, lt_of_lt_of_le}
+use Rattle.rational.proofs.Order.{le_refl, le_of_same, ge_of_same, same_refl, same_sym, same_trans, lt_of_lt_of_le}
 use Rattle.rational.proofs.Order.{lt_of_le_of_lt, lt_trans, left_of_middle, right_of_middle}
 use Rattle.rational.proofs.Lowest.{has_denominator, denominator_same}
 use Rattle.rational.proofs.TimeLemmas.{precedes_of_lt}
@@ -14,7 +14,7 @@ use Rattle.stl_syntax.specs.Trace.{Trace, start, stop, first_time, last_time}
 use Rattle.stl_syntax.specs.Formula.{Subformula}
 use Rattle.stl_syntax.specs.Verdicts.{IsTold, GoesOn, Describes}
 use Rattle.stl_syntax.specs.declared.items.Verdict.{Verdict}
-use Rattle.unit_laws.proofs.Clocks.{unclock, clock-unclock, same_of_clock, unclock_same}
+use Rattle.unit_laws.proofs.Clocks.{clock, unclock, clock-unclock, same_of_clock, unclock_same}
 use Rattle.unit_laws.proofs.Recounts.{IsRecount}
 use Rattle.unit_laws.proofs.FinerTrees.{finer_tree}
 use Rattle.unit_laws.proofs.NearTimes.{Near, IsNear, itself, later_one, earlier_one}
@@ -104,25 +104,30 @@ module _ (K o M : ℕ) (kp : 0 < K) (mp : 0 < M) {tr ur : Trace} (c : IsRecount 
             (λ x few same. let m = at_most_its_own x d.0 (denominator_same d.0 same d.1) in omega (arith, m, few, large)))
       ]
 
-  ends_go_on : (v : Verdict) (verdicts : List Verdict) → IsTold r ur v → GoesOn r ur (closed (start ur) (stop ur)) v verdicts
-      → HasFrac (unclock K o kp (value v.on.to)) × HasEnds K o kp verdicts
-  ends_go_on v [] told h = (
-    has_whole (unclock K o kp (value v.on.to)) (last_time 0 tr.rows)
-        (same_of_clock K o kp (same_trans (clock-unclock K o kp (value v.on.to)) (same_trans h.time c.stops))),
-    tt,
-  )
-  ends_go_on v (w ∷ verdicts) told h =
+  -- a time that the clock shows at a number that the program keeps
+  kept_at : (x u t : Rational) → HasFrac t → x ≈ u → u ≈ clock K o t → HasFrac (unclock K o kp x)
+  kept_at x u t has e f = record {
+    frac = has.frac;
+    same = same_trans has.same (same_sym (same_of_clock K o kp (same_trans (clock-unclock K o kp x) (same_trans e f))));
+  }
+
+  ends_go_on : (on other : Interval) → HasFrac on.to → other.to ≈ clock K o on.to → (v : Verdict) (verdicts : List Verdict) → IsTold r ur v
+      → GoesOn r ur other v verdicts → HasFrac (unclock K o kp (value v.on.to)) × HasEnds K o kp verdicts
+  ends_go_on on other has e v [] told h = (kept_at (value v.on.to) other.to on.to has h.time e, tt)
+  ends_go_on on other has e v (w ∷ verdicts) told h =
       let to = turn_kept v w told h.2 h.1 h.0.time in
-      let rest = ends_go_on w verdicts h.2 h.3 in
+      let rest = ends_go_on on other has e w verdicts h.2 h.3 in
       (to, (record { frac = to.frac; same = same_trans to.same (same_sym (unclock_same K o kp h.0.time)) }, rest.0, rest.1))
 
-  -- the verdicts' ends are numbers that the program keeps
+  -- the ends of the verdicts of a stretch are numbers that the program keeps, where its own ends are
+  pub stretch_ends : (on other : Interval) → HasFrac on.from → HasFrac on.to → other.from ≈ clock K o on.from → other.to ≈ clock K o on.to
+      → (verdicts : List Verdict) → Describes verdicts r ur other → HasEnds K o kp verdicts
+  stretch_ends on other from to e f [] h = tt
+  stretch_ends on other from to e f (v ∷ verdicts) h =
+      let rest = ends_go_on on other to f v verdicts h.1 h.2 in (kept_at (value v.on.from) other.from on.from from h.0.time e, rest.0, rest.1)
+
+  -- and those of the domain
   pub has_ends : (verdicts : List Verdict) → Describes verdicts r ur (closed (start ur) (stop ur)) → HasEnds K o kp verdicts
-  has_ends [] h = tt
-  has_ends (v ∷ verdicts) h =
-      let rest = ends_go_on v verdicts h.1 h.2 in (
-        has_whole (unclock K o kp (value v.on.from)) (first_time tr.rows)
-            (same_of_clock K o kp (same_trans (clock-unclock K o kp (value v.on.from)) (same_trans h.0.time c.starts))),
-        rest.0,
-        rest.1,
-      )
+  has_ends =
+      stretch_ends (closed (start tr) (stop tr)) (closed (start ur) (stop ur)) (has_whole (start tr) (first_time tr.rows) (same_refl (start tr)))
+      (has_whole (stop tr) (last_time 0 tr.rows) (same_refl (stop tr))) c.starts c.stops

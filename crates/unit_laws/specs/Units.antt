@@ -7,7 +7,6 @@ use Rattle.stl_syntax.specs.Formula.{Formula, Subformula, root}
 use Rattle.stl_syntax.specs.Truth.{Truth}
 use Rattle.stl_syntax.specs.SupInf.{Robustness}
 use Rattle.stl_syntax.specs.WellFormed.{IsWellFormed}
-use Rattle.stl_syntax.specs.declared.scale.Scale.{Scale}
 use Rattle.trace_reader.specs.TraceRefusals.{HasTrace}
 use Rattle.trace_reader.specs.declared.refusal.Limits.{Limits}
 use Rattle.report.specs.Report.{Command, check, robust, explain, json, table, Out, nodes_for}
@@ -57,12 +56,11 @@ LawOfUnits =
     (f : Formula) (tr : Trace) (k m : ℕ) → IsWellFormed f → IsTrace tr → AreInRange tr.rows → f.scale.time ≤ tr.header.scale.time
     → f.scale.value ≤ tr.header.scale.value → WritesAlike check f tr (finer k m tr) × WritesAlike robust f tr (finer k m tr)
 
--- so it is for a trace that was read, whose rows lie within the limits by that
-abbrev pub LawOfReadUnits : Type 0
-LawOfReadUnits =
-    (f : Formula) (bytes : List ℕ) (limits : Limits) (least : Scale) (tr : Trace) (k m : ℕ) → IsWellFormed f → HasTrace bytes limits least tr
-    → f.scale.time ≤ tr.header.scale.time → f.scale.value ≤ tr.header.scale.value
-    → WritesAlike check f tr (finer k m tr) × WritesAlike robust f tr (finer k m tr)
+-- so it is for each trace that is read for the formula: its rows lie within the limits, and its ticks are no coarser than the formula's
+abbrev pub ReadTextsAreOfUnits : Formula → Type 0
+ReadTextsAreOfUnits f =
+    (bytes : List ℕ) (limits : Limits) (tr : Trace) (k m : ℕ) → HasTrace bytes limits f.scale tr
+    → WritesAlike check f tr (finer k m tr) × WritesAlike robust f tr (finer k m tr) × WritesAlike table f tr (finer k m tr)
 
 -- where `check` writes something in both ticks it is one text, whatever the formula and the trace
 abbrev pub CheckWritesOneText : Type 0

@@ -1,8 +1,10 @@
 //! Laws of units. Each is the contract of a call that does nothing, so that the gate proves it.
 ghost use Rattle.unit_laws.specs.Origins.{TruthMoves, RobustnessMoves, VerdictsMove, KnotsMove, ExplanationsMove};
-ghost use Rattle.unit_laws.specs.Streams.{StreamsAreKept};
+ghost use Rattle.unit_laws.specs.Streams.{StreamsAreKept, StreamsOweOneText, EarlyIsOfUnits, MarginsAreOfUnits, WatchIsOfUnits, ReadStreamsAreOfUnits};
 ghost use Rattle.unit_laws.specs.Units.{TruthIsOfUnits, RobustnessIsOfUnits, RobustIsOfUnits, TableIsOfUnits, TextsAreKept};
-ghost use Rattle.unit_laws.specs.Units.{TruthTurnsAtFractions, LawOfUnits, LawOfReadUnits, CheckWritesOneText};
+ghost use Rattle.unit_laws.specs.Units.{TruthTurnsAtFractions, LawOfUnits, ReadTextsAreOfUnits, CheckWritesOneText};
+
+use stl_syntax::Formula;
 
 /// The truth of a formula at a time does not depend on the ticks in which times and values are counted.
 pub fn truth_is_of_units()
@@ -34,6 +36,33 @@ pub fn streams_are_kept()
     ensures { StreamsAreKept }
 {}
 
+/// And where such a stream owes something in both ticks it is one text.
+pub fn streams_owe_one_text()
+    ensures { StreamsOweOneText }
+{}
+
+/// Smaller ticks change no text that `early` owes.
+pub fn early_is_of_units()
+    ensures { EarlyIsOfUnits }
+{}
+
+/// Nor one that `rwatch` owes.
+pub fn margins_are_of_units()
+    ensures { MarginsAreOfUnits }
+{}
+
+/// Nor one that `watch` owes, for a formula and rows within the limits.
+pub fn watch_is_of_units()
+    ensures { WatchIsOfUnits }
+{}
+
+/// And for every formula and each trace that is read for it what `watch`, `early` and `rwatch` owe is the same in all ticks.
+pub fn read_streams_are_of_units(formula: &Formula)
+    ensures { ReadStreamsAreOfUnits formula.now }
+{
+    let _count = formula.len();
+}
+
 /// The truth of a formula over rows within the limits turns only at times that are fractions with a denominator of at most 2^31: the
 /// crossings of its atoms, moved by whole ticks.
 pub fn truth_turns_at_fractions()
@@ -45,10 +74,12 @@ pub fn texts_are_of_units()
     ensures { LawOfUnits }
 {}
 
-/// So they do for each trace that was read, whose rows lie within the limits by that.
-pub fn read_texts_are_of_units()
-    ensures { LawOfReadUnits }
-{}
+/// So for every formula and each trace that is read for it, whatever its bytes: `check`, `robust` and `table` write the same in all ticks.
+pub fn read_texts_are_of_units(formula: &Formula)
+    ensures { ReadTextsAreOfUnits formula.now }
+{
+    let _count = formula.len();
+}
 
 /// Where `check` writes something in both ticks it is one text, whatever the formula and the trace.
 pub fn check_writes_one_text()
