@@ -45,3 +45,4 @@ pub mod OriginItems
 pub mod ReadRanges
 pub mod OneTexts
 pub mod UnitExamples
+pub mod OriginTexts

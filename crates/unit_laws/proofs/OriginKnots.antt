@@ -22,7 +22,8 @@ earlier_same d t u e = record { same = let h = e.same in omega (arith, h) }
 earlier_lt : (d : ℕ) (t u : Rational) → t <ʳ u → earlier t d <ʳ earlier u d
 earlier_lt d t u h = record { lt = let k = h.lt in omega (arith, k) }
 
-later-earlier : (d : ℕ) (t : Rational) → later (earlier t d) d ≈ t
+-- a time is what is d ticks earlier, d ticks later
+pub later-earlier : (d : ℕ) (t : Rational) → later (earlier t d) d ≈ t
 later-earlier d t = record { same = omega arith }
 
 earlier-later : (d : ℕ) (t : Rational) → earlier (later t d) d ≈ t

@@ -1,17 +1,19 @@
 -- The laws of the origin: where all times of a trace are d ticks later, the times of what is told are d ticks later, and nothing else changes.
-use Rattle.std.specs.Prelude.{◌≡◌, ◌↔◌, ℕ, ◌+◌, ◌*◌, List, [], ◌∷◌, map}
-use Rattle.rational.specs.Time.{Rational, later, Interval, closed, BeginAlike, EndAlike}
-use Rattle.rational.specs.Extended.{Extended}
+use Rattle.std.specs.Prelude.{◌≡◌, ◌↔◌, ℕ, ◌+◌, ◌*◌, List, [], ◌∷◌, ◌++◌, map}
+use Rattle.rational.specs.Time.{Rational, ◌≈◌, later, Interval, closed, BeginAlike, EndAlike}
+use Rattle.rational.specs.Extended.{Extended, ◌≈ᵉ◌}
 use Rattle.frac128.specs.Spans.{interval}
 use Rattle.stl_syntax.specs.Trace.{Row, Trace, IsTrace, start, stop}
-use Rattle.stl_syntax.specs.Formula.{Formula, Subformula}
+use Rattle.stl_syntax.specs.Formula.{Formula, Subformula, root}
 use Rattle.stl_syntax.specs.Truth.{Truth}
 use Rattle.stl_syntax.specs.SupInf.{Robustness}
 use Rattle.stl_syntax.specs.Knots.{Knot, Piece, Knots}
 use Rattle.stl_syntax.specs.Verdicts.{Describes, DescribesMargins}
 use Rattle.stl_syntax.specs.declared.items.Verdict.{Verdict}
 use Rattle.stl_syntax.specs.declared.items.Item.{Item}
-use Rattle.report.specs.Report.{IsExplained}
+use Rattle.stl_syntax.specs.Texts.{AreVerdictLines, IsStartLine, AreMarginLines}
+use Rattle.report.specs.Report.{Out, check, robust, table, nodes_for, IsExplained}
+use Rattle.report.specs.Table.{IsTableText}
 
 -- the row d ticks later
 abbrev pub delayed_row : ℕ → Row → Row
@@ -94,3 +96,42 @@ abbrev pub ExplanationsMove : Type 0
 ExplanationsMove =
     (f : Formula) (tr : Trace) (d : ℕ) (lines : List Item) → IsTrace tr → IsExplained f tr lines
     → (moved : List Item) × AreDelayedItems d lines moved × IsExplained f (delayed d tr) moved
+
+-- the knot l is k, d ticks later
+pub record IsDelayedKnot (d : ℕ) (k l : Knot) : Type 0 where
+  pub time : l.time ≈ later k.time d
+  pub value : l.value ≈ᵉ k.value
+
+-- the pieces of the second list are those of the first, d ticks later
+abbrev pub AreDelayedPieces : ℕ → List Piece → List Piece → Type 0
+AreDelayedPieces d [] qs = qs ≡ []
+AreDelayedPieces d (x ∷ ps) qs =
+    (y : Piece) × (others : List Piece) × (qs ≡ y ∷ others) × (y.from ≈ᵉ x.from) × (y.to ≈ᵉ x.to) × IsDelayedKnot d x.next y.next
+    × AreDelayedPieces d ps others
+
+-- the second knots are the first, d ticks later
+abbrev pub AreDelayedKnots : ℕ → Knots → Knots → Type 0
+AreDelayedKnots d ks ls = IsDelayedKnot d ks.first ls.first × AreDelayedPieces d ks.pieces ls.pieces
+
+-- the text of `check` with each time d ticks later
+abbrev pub IsCheckLater : ℕ → Formula → Trace → List ℕ → Type 0
+IsCheckLater d f tr text =
+    (vs ws : List Verdict) × (body line : List ℕ) × AreVerdicts vs (root (nodes_for f tr)) tr × AreDelayed d vs ws
+    × AreVerdictLines tr.header.scale ws body × IsStartLine (root (nodes_for f tr)) tr line × (text ≡ body ++ line)
+
+-- that of `robust`
+abbrev pub IsRobustLater : ℕ → Formula → Trace → List ℕ → Type 0
+IsRobustLater d f tr text =
+    (ks ls : Knots) × DescribesMargins ks (root (nodes_for f tr)) tr × AreDelayedKnots d ks ls × AreMarginLines tr.header.scale ls text
+
+-- and that of `table`
+abbrev pub IsTableLater : ℕ → Formula → Trace → List ℕ → Type 0
+IsTableLater d f tr text =
+    (ks ls : Knots) × DescribesMargins ks (root (nodes_for f tr)) tr × AreDelayedKnots d ks ls × IsTableText tr.header.scale ls text
+
+-- what the commands write of the delayed trace is what they write of the trace, with each time d ticks later
+abbrev pub TextsMove : Type 0
+TextsMove =
+    (f : Formula) (tr : Trace) (d : ℕ) (text : List ℕ) → IsTrace tr
+    → (Out check f (delayed d tr) text → IsCheckLater d f tr text) × (Out robust f (delayed d tr) text → IsRobustLater d f tr text)
+    × (Out table f (delayed d tr) text → IsTableLater d f tr text)

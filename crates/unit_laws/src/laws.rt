@@ -1,5 +1,5 @@
 //! Laws of units. Each is the contract of a call that does nothing, so that the gate proves it.
-ghost use Rattle.unit_laws.specs.Origins.{TruthMoves, RobustnessMoves, VerdictsMove, KnotsMove, ExplanationsMove};
+ghost use Rattle.unit_laws.specs.Origins.{TruthMoves, RobustnessMoves, VerdictsMove, KnotsMove, TextsMove, ExplanationsMove};
 ghost use Rattle.unit_laws.specs.Streams.{StreamsAreKept, StreamsOweOneText, EarlyIsOfUnits, MarginsAreOfUnits, WatchIsOfUnits, ReadStreamsAreOfUnits};
 ghost use Rattle.unit_laws.specs.Units.{TruthIsOfUnits, RobustnessIsOfUnits, RobustIsOfUnits, TableIsOfUnits, TextsAreKept};
 ghost use Rattle.unit_laws.specs.Units.{TruthTurnsAtFractions, LawOfUnits, ReadTextsAreOfUnits, CheckWritesOneText};
@@ -109,4 +109,9 @@ pub fn knots_move()
 /// And what explains the formula on the trace explains it, as many ticks later, on the later trace.
 pub fn explanations_move()
     ensures { ExplanationsMove }
+{}
+
+/// What `check`, `robust` and `table` write of the later trace is what they write of the trace, with each time as many ticks later.
+pub fn texts_move()
+    ensures { TextsMove }
 {}
