@@ -13,6 +13,7 @@ use Rattle.stl_syntax.specs.declared.items.Verdict.{Verdict}
 use Rattle.report.specs.Report.{Out, check, nodes_for}
 use Rattle.report.proofs.KeptTexts.{number_of_same}
 use Rattle.unit_laws.specs.Units.{finer, LawOfUnits, TruthTurnsAtFractions}
+use Rattle.unit_laws.proofs.NearTimes.{ahead}
 use Rattle.unit_laws.proofs.Clocks.{unclock}
 use Rattle.unit_laws.proofs.FinerTrees.{root_finer}
 use Rattle.unit_laws.proofs.FinerRows.{some_power, finer_counts}
@@ -27,15 +28,15 @@ use Rattle.unit_laws.proofs.VerdictsBack.{HasEnds, verdicts_back, describe_back,
 
 -- the lines stay
 module _ (k : ℕ) (kp : 0 < 10 ^ k) (scale other : Scale) (is : other.time ≡ scale.time + k) where
-  end_text : (t : Rational) (a : HasFrac (unclock (10 ^ k) 0 kp t)) (text : List ℕ) → IsNumberText other.time t text
+  end_text : (t : Rational) (a : HasFrac (unclock (10 ^ k) (ahead 0) kp t)) (text : List ℕ) → IsNumberText other.time t text
       → IsNumberText scale.time (value a.frac) text
   end_text t a text h =
-      number_of_same scale.time (unclock (10 ^ k) 0 kp t) (value a.frac) text (same_sym a.same)
+      number_of_same scale.time (unclock (10 ^ k) (ahead 0) kp t) (value a.frac) text (same_sym a.same)
       (time_text_back scale.time k kp t text (subst (λ d. IsNumberText d t text) is h))
 
   -- the lines of verdicts taken back
-  pub lines_back : (verdicts : List Verdict) (e : HasEnds (10 ^ k) 0 kp verdicts) (text : List ℕ) → AreVerdictLines other verdicts text
-      → AreVerdictLines scale (verdicts_back (10 ^ k) 0 kp verdicts e) text
+  pub lines_back : (verdicts : List Verdict) (e : HasEnds (10 ^ k) (ahead 0) kp verdicts) (text : List ℕ) → AreVerdictLines other verdicts text
+      → AreVerdictLines scale (verdicts_back (10 ^ k) (ahead 0) kp verdicts e) text
   lines_back [] e text h = h
   lines_back (v ∷ verdicts) e text (here, later, (on, h, f), g, i) = (
     here,
@@ -72,13 +73,13 @@ module _ (f : Formula) (tr : Trace) (k m : ℕ) (formed : IsWellFormed f) (ok : 
       let fine_d = subst (λ r. Describes verdicts r (finer k m tr) (closed (start (finer k m tr)) (stop (finer k m tr)))) same d in
       let fine_s = subst (λ r. IsStartLine r (finer k m tr) line) same s in
       let c = finer_counts k m tr ok in
-      let ends = has_ends (10 ^ k) 0 (10 ^ m) kp mp c tree atoms_calm verdicts fine_d in (
-        verdicts_back (10 ^ k) 0 kp verdicts ends,
+      let ends = has_ends (10 ^ k) (ahead 0) (10 ^ m) kp mp c tree atoms_calm verdicts fine_d in (
+        verdicts_back (10 ^ k) (ahead 0) kp verdicts ends,
         body,
         line,
-        describe_back (10 ^ k) 0 (10 ^ m) kp mp c tree verdicts ends fine_d,
+        describe_back (10 ^ k) (ahead 0) (10 ^ m) kp mp c tree verdicts ends fine_d,
         lines_back k kp tr.header.scale (finer k m tr).header.scale refl verdicts ends body l,
-        start_back (10 ^ k) 0 (10 ^ m) kp mp c tree line fine_s,
+        start_back (10 ^ k) (ahead 0) (10 ^ m) kp mp c tree line fine_s,
         e,
       )
 

@@ -19,6 +19,7 @@ use Rattle.stl_syntax.specs.declared.node.Node.{Node}
 use Rattle.stl_syntax.specs.declared.node.Node.TheVariants.{Const, Until, Eventually, Always, Since, Once, Historically}
 use Rattle.stl_syntax.proofs.ScalingLemmas.{scaled_at}
 use Rattle.stl_syntax.proofs.TruthLemmas.{Truth-same}
+use Rattle.unit_laws.proofs.NearTimes.{Move}
 use Rattle.unit_laws.proofs.Multiples.{stretch, shrink, above-times, below-times}
 use Rattle.unit_laws.proofs.Clocks.{clock, unclock, clock_lt, clock_same, same_of_clock, clock-unclock, unclock_lt}
 use Rattle.unit_laws.proofs.Recounts.{IsRecount}
@@ -64,7 +65,7 @@ shifts_by K M _ = rw (zero_times K) refl
 
 -- ---- near times
 
-module _ (K o : ℕ) (kp : 0 < K) where
+module _ (K : ℕ) (o : Move) (kp : 0 < K) where
   add_clock : (u e : Rational) → clock K o (add u (shrink K kp e)) ≈ add (clock K o u) e
   add_clock u e = record { same = omega arith }
 
@@ -113,7 +114,7 @@ module _ (K o : ℕ) (kp : 0 < K) where
   among_by (u ∷ times) t (inl e) = inl (same_trans (same_sym (clock-unclock K o kp t)) (clock_same K o e))
   among_by (u ∷ times) t (inr h) = inr (among_by times t h)
 
-module _ (K o M : ℕ) (kp : 0 < K) (mp : 0 < M) {tr ur : Trace} (c : IsRecount K o M tr ur) where
+module _ (K : ℕ) (o : Move) (M : ℕ) (kp : 0 < K) (mp : 0 < M) {tr ur : Trace} (c : IsRecount K o M tr ur) where
   the_ends : AreEnds K o (start tr) (stop tr) (start ur) (stop ur)
   the_ends = ends K o M kp mp c
 

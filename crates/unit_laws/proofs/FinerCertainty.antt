@@ -13,6 +13,7 @@ use Rattle.stl_syntax.specs.Kleene.{IsCovered, Must, MustNot}
 use Rattle.stl_syntax.specs.Scaling.{scaled_atom}
 use Rattle.stl_syntax.specs.declared.items.Item.{Item}
 use Rattle.stl_syntax.proofs.LawProofs.{certainty_is_of_times}
+use Rattle.unit_laws.proofs.NearTimes.{Move}
 use Rattle.unit_laws.proofs.Clocks.{clock}
 use Rattle.unit_laws.proofs.Recounts.{IsRecount, holds_by}
 use Rattle.unit_laws.proofs.FinerTrees.{finer_tree}
@@ -27,7 +28,7 @@ not_true false h = refl
 pub false_alike : (a b : Bool) → (IsTrue a ↔ IsTrue b) → IsFalse a ↔ IsFalse b
 false_alike a b s = (λ h. not_true b (λ k. false≢true (sym h ∙ s.1 k)), λ h. not_true a (λ k. false≢true (sym h ∙ s.0 k)))
 
-module _ (K o M : ℕ) (kp : 0 < K) (mp : 0 < M) {tr ur : Trace} (c : IsRecount K o M tr ur) (items others : List Item)
+module _ (K : ℕ) (o : Move) (M : ℕ) (kp : 0 < K) (mp : 0 < M) {tr ur : Trace} (c : IsRecount K o M tr ur) (items others : List Item)
     (cover : (i : ℕ) (t : Rational) → IsCovered items i t ↔ IsCovered others i (clock K o t)) where
   -- what is certain at t is so where the clock shows t
   pub record IsCertainBy (p : Subformula) (t : Rational) : Type 0 where

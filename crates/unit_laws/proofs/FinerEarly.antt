@@ -13,6 +13,7 @@ use Rattle.stl_syntax.specs.Texts.{IsNumberText}
 use Rattle.stl_syntax.specs.declared.scale.Scale.{Scale}
 use Rattle.stl_syntax.proofs.SettledTimes.{settled_is_of_times}
 use Rattle.report.proofs.KeptTexts.{number_of_same}
+use Rattle.unit_laws.proofs.NearTimes.{ahead}
 use Rattle.unit_laws.proofs.Clocks.{clock, unclock, unclock_same, unclock-clock}
 use Rattle.unit_laws.proofs.FinerTraces.{row_by, rows_counted}
 use Rattle.unit_laws.proofs.FinerVerdicts.{start_line_by}
@@ -45,7 +46,7 @@ parted f (x ∷ xs) (z ∷ ys) y zs e =
     }
 
 module _ (K o M : ℕ) (kp : 0 < K) (mp : 0 < M) (p : Subformula) (header : Header) (scale : Scale)
-    (times : (t : Rational) (text : List ℕ) → IsNumberText header.scale.time t text → IsNumberText scale.time (clock K o t) text) where
+    (times : (t : Rational) (text : List ℕ) → IsNumberText header.scale.time t text → IsNumberText scale.time (clock K (ahead o) t) text) where
   abbrev r : Subformula
   r = q K o M kp mp p header scale
 
@@ -55,7 +56,7 @@ module _ (K o M : ℕ) (kp : 0 < K) (mp : 0 < M) (p : Subformula) (header : Head
   abbrev moved : List Row → List Row
   moved rows = rows_by K o M kp mp p header scale rows
 
-  row_same : (x : Row) → clock K o (row_time x) ≈ row_time (row_by K o M kp mp x)
+  row_same : (x : Row) → clock K (ahead o) (row_time x) ≈ row_time (row_by K o M kp mp x)
   row_same x = record { same = omega arith }
 
   -- the rows decide by the clock where they decide
@@ -65,17 +66,17 @@ module _ (K o M : ℕ) (kp : 0 < K) (mp : 0 < M) (p : Subformula) (header : Head
       let c = so_far K o M kp mp p header scale rows ok in
       let tr = trace_of K o M kp mp p header scale rows in
       let ur = other_of K o M kp mp p header scale rows in
-      let s = (settled_by K o M kp mp c p (start tr)).so in (
-        λ h. (settled_is_of_times r ur (clock K o (start tr)) (start ur) (same_sym c.starts)).0 (s.0 h),
-        λ h. s.1 ((settled_is_of_times r ur (start ur) (clock K o (start tr)) c.starts).0 h),
+      let s = (settled_by K (ahead o) M kp mp c p (start tr)).so in (
+        λ h. (settled_is_of_times r ur (clock K (ahead o) (start tr)) (start ur) (same_sym c.starts)).0 (s.0 h),
+        λ h. s.1 ((settled_is_of_times r ur (start ur) (clock K (ahead o) (start tr)) c.starts).0 h),
       )
   decides_by rows false ok =
       let c = so_far K o M kp mp p header scale rows ok in
       let tr = trace_of K o M kp mp p header scale rows in
       let ur = other_of K o M kp mp p header scale rows in
-      let s = (settled_by K o M kp mp c p (start tr)).not_so in (
-        λ h. (settled_is_of_times r ur (clock K o (start tr)) (start ur) (same_sym c.starts)).1 (s.0 h),
-        λ h. s.1 ((settled_is_of_times r ur (start ur) (clock K o (start tr)) c.starts).1 h),
+      let s = (settled_by K (ahead o) M kp mp c p (start tr)).not_so in (
+        λ h. (settled_is_of_times r ur (clock K (ahead o) (start tr)) (start ur) (same_sym c.starts)).1 (s.0 h),
+        λ h. s.1 ((settled_is_of_times r ur (start ur) (clock K (ahead o) (start tr)) c.starts).1 h),
       )
 
   pushed : (before : List Row) (x : Row) → moved (before ++ x ∷ []) ≡ moved before ++ row_by K o M kp mp x ∷ []
@@ -108,10 +109,10 @@ module _ (K o M : ℕ) (kp : 0 < K) (mp : 0 < M) (p : Subformula) (header : Head
             ((decides_by (before ++ x ∷ []) holds (front_rows before after x (subst (λ xs. AreRows (length header.columns) xs) e ok))).0 first.decides);
         not_before = none_by rows before (x ∷ after) e ok first.not_before;
       })
-      (number_of_same scale.time (clock K o (row_time x)) (row_time (row_by K o M kp mp x)) time (row_same x) (times (row_time x) time written)) is
+      (number_of_same scale.time (clock K (ahead o) (row_time x)) (row_time (row_by K o M kp mp x)) time (row_same x) (times (row_time x) time written)) is
   early_by rows ended text ok (at_end line end all none line_is is) =
       at_end line end (rows_counted K o M kp mp (length header.columns) rows ok) (none_by rows rows [] (sym (append-nil rows)) ok none)
-      (start_line_by K o M kp mp (so_far K o M kp mp p header scale rows ok) p line line_is) is
+      (start_line_by K (ahead o) M kp mp (so_far K o M kp mp p header scale rows ok) p line line_is) is
   early_by rows ended text ok (not_yet end none is) = not_yet end (none_by rows rows [] (sym (append-nil rows)) ok none) is
 
   -- where none of the rows decides by the clock, none does
@@ -123,9 +124,9 @@ module _ (K o M : ℕ) (kp : 0 < K) (mp : 0 < M) (p : Subformula) (header : Head
       none (moved before) (moved after) (row_by K o M kp mp x) b (ap moved e ∙ map-append (row_by K o M kp mp) before (x ∷ after))
       (subst (λ xs. Decides r (record { header = fine; rows = xs }) b) (pushed before x) ((decides_by (before ++ x ∷ []) b fine_ok).0 h))
 
-  module _ (times_back : (t : Rational) (text : List ℕ) → IsNumberText scale.time t text → IsNumberText header.scale.time (unclock K o kp t) text) where
-    row_back : (x : Row) → unclock K o kp (row_time (row_by K o M kp mp x)) ≈ row_time x
-    row_back x = same_trans (unclock_same K o kp (same_sym (row_same x))) (unclock-clock K o kp (row_time x))
+  module _ (times_back : (t : Rational) (text : List ℕ) → IsNumberText scale.time t text → IsNumberText header.scale.time (unclock K (ahead o) kp t) text) where
+    row_back : (x : Row) → unclock K (ahead o) kp (row_time (row_by K o M kp mp x)) ≈ row_time x
+    row_back x = same_trans (unclock_same K (ahead o) kp (same_sym (row_same x))) (unclock-clock K (ahead o) kp (row_time x))
 
     -- the text of the early verdict by the clock is that of the rows
     pub early_back : (rows : List Row) (ended : Bool) (text : List ℕ) → AreRows (length header.columns) rows
@@ -141,9 +142,9 @@ module _ (K o M : ℕ) (kp : 0 < K) (mp : 0 < M) (p : Subformula) (header : Head
               (subst (λ xs. Decides r (record { header = fine; rows = xs }) holds) same first.decides);
           not_before = none_back rows c.before (c.at ∷ c.after) c.is ok (subst (λ xs. NoneDecides r fine xs) c.front first.not_before);
         })
-        (number_of_same header.scale.time (unclock K o kp (row_time (row_by K o M kp mp c.at))) (row_time c.at) time (row_back c.at)
+        (number_of_same header.scale.time (unclock K (ahead o) kp (row_time (row_by K o M kp mp c.at))) (row_time c.at) time (row_back c.at)
         (times_back (row_time (row_by K o M kp mp c.at)) time (subst (λ y. IsNumberText scale.time (row_time y) time) c.here written))) is
     early_back rows ended text ok (at_end line end all none line_is is) =
         at_end line end ok (none_back rows rows [] (sym (append-nil rows)) ok none)
-        (start_back K o M kp mp (so_far K o M kp mp p header scale rows ok) p line line_is) is
+        (start_back K (ahead o) M kp mp (so_far K o M kp mp p header scale rows ok) p line line_is) is
     early_back rows ended text ok (not_yet end none is) = not_yet end (none_back rows rows [] (sym (append-nil rows)) ok none) is

@@ -13,6 +13,7 @@ use Rattle.stl_syntax.specs.declared.items.Item.{Item}
 use Rattle.stl_syntax.proofs.TruthLemmas.{Truth-same}
 use Rattle.report.specs.Report.{AreJoined, IsItemLines, AreItemLines, IsExplained, nodes_for}
 use Rattle.unit_laws.specs.Units.{finer, ExplainKeepsItsText}
+use Rattle.unit_laws.proofs.NearTimes.{Move, ahead}
 use Rattle.unit_laws.proofs.Clocks.{clock_same, same_of_clock}
 use Rattle.unit_laws.proofs.FinerTrees.{finer_tree, root_finer, nodes_finer}
 use Rattle.unit_laws.proofs.FinerTruth.{truth_by}
@@ -22,7 +23,7 @@ use Rattle.unit_laws.proofs.FinerItems.{item_by, kept_by}
 
 -- ---- neighbours join by any clock alike
 
-module _ (K o : ℕ) (kp : 0 < K) where
+module _ (K : ℕ) (o : Move) (kp : 0 < K) where
   begins_by : (a b : Span) → BeginAlike (interval a) (interval b) → BeginAlike (interval (span_by K o kp a)) (interval (span_by K o kp b))
   begins_by a b h = record {
     time = same_trans (frac_same K o kp a.from) (same_trans (clock_same K o h.time) (same_sym (frac_same K o kp b.from)));
@@ -77,7 +78,7 @@ module _ (K o : ℕ) (kp : 0 < K) where
 
 module _ (k : ℕ) (p : 0 < 10 ^ k) (scale other : Scale) (is : other.time ≡ scale.time + k) (f : Formula) where
   -- the lines of items in smaller ticks have the same text
-  pub item_texts_by : (items : List Item) (text : List ℕ) → AreItemLines scale f items text → AreItemLines other f (map (item_by (10 ^ k) 0 p) items) text
+  pub item_texts_by : (items : List Item) (text : List ℕ) → AreItemLines scale f items text → AreItemLines other f (map (item_by (10 ^ k) (ahead 0) p) items) text
   item_texts_by [] text h = h
   item_texts_by (e ∷ items) text (a, at, (name, on, later, named, span, rest, same)) =
       (a, at, (name, on, later, named, span_text k p scale other is e.on on span, item_texts_by items later rest, same))
@@ -87,16 +88,16 @@ module _ (f : Formula) (tr : Trace) (k m : ℕ) (ok : IsTrace tr) (ft : f.scale.
   ur = finer k m tr
 
   -- what explains the formula explains it in smaller ticks
-  pub explained_by : (lines : List Item) → IsExplained f tr lines → IsExplained f ur (map (item_by (10 ^ k) 0 (some_power k)) lines)
+  pub explained_by : (lines : List Item) → IsExplained f tr lines → IsExplained f ur (map (item_by (10 ^ k) (ahead 0) (some_power k)) lines)
   explained_by lines h = elim h [
-    | inl (holds, none) ↦ inl (rw (root_finer f tr.header.scale k m ft fv) (at_start.0 holds), ap (map (item_by (10 ^ k) 0 (some_power k))) none)
+    | inl (holds, none) ↦ inl (rw (root_finer f tr.header.scale k m ft fv) (at_start.0 holds), ap (map (item_by (10 ^ k) (ahead 0) (some_power k))) none)
     | inr (fails, (items, kept, joined)) ↦ inr (
       λ x. fails (at_start.1 (subst (λ p. Truth p ur (start ur)) (root_finer f tr.header.scale k m ft fv) x)),
       (
-        map (item_by (10 ^ k) 0 (some_power k)) items,
-        subst (λ nodes. Kept nodes ur (map (item_by (10 ^ k) 0 (some_power k)) items)) (sym (nodes_finer f tr.header.scale k m ft fv))
-            (kept_by (10 ^ k) 0 (10 ^ m) (some_power k) (some_power m) (finer_counts k m tr ok) (nodes_for f tr) items kept),
-        item_lines_by (10 ^ k) 0 (some_power k) items lines joined,
+        map (item_by (10 ^ k) (ahead 0) (some_power k)) items,
+        subst (λ nodes. Kept nodes ur (map (item_by (10 ^ k) (ahead 0) (some_power k)) items)) (sym (nodes_finer f tr.header.scale k m ft fv))
+            (kept_by (10 ^ k) (ahead 0) (10 ^ m) (some_power k) (some_power m) (finer_counts k m tr ok) (nodes_for f tr) items kept),
+        item_lines_by (10 ^ k) (ahead 0) (some_power k) items lines joined,
       ),
     )
   ]
@@ -105,19 +106,19 @@ module _ (f : Formula) (tr : Trace) (k m : ℕ) (ok : IsTrace tr) (ft : f.scale.
           × (Truth (finer_tree (10 ^ k) (10 ^ m) (root (nodes_for f tr))) ur (start ur) → Truth (root (nodes_for f tr)) tr (start tr))
       at_start =
           let c = finer_counts k m tr ok in
-          let s = truth_by (10 ^ k) 0 (10 ^ m) (some_power k) (some_power m) c (root (nodes_for f tr)) (start tr) in
+          let s = truth_by (10 ^ k) (ahead 0) (10 ^ m) (some_power k) (some_power m) c (root (nodes_for f tr)) (start tr) in
           let q = finer_tree (10 ^ k) (10 ^ m) (root (nodes_for f tr)) in
           (λ h. Truth-same q ur (same_sym c.starts) (s.0 h), λ h. s.1 (Truth-same q ur c.starts h))
 
 -- `explain` writes the same text in smaller ticks
 pub explain_keeps_its_text : ExplainKeepsItsText
 explain_keeps_its_text f tr k m ok ft fv text (items, line, body, explained, starts, lines, is) = (
-  map (item_by (10 ^ k) 0 (some_power k)) items,
+  map (item_by (10 ^ k) (ahead 0) (some_power k)) items,
   line,
   body,
   explained_by f tr k m ok ft fv items explained,
   rw (root_finer f tr.header.scale k m ft fv)
-      (start_line_by (10 ^ k) 0 (10 ^ m) (some_power k) (some_power m) (finer_counts k m tr ok) (root (nodes_for f tr)) line starts),
+      (start_line_by (10 ^ k) (ahead 0) (10 ^ m) (some_power k) (some_power m) (finer_counts k m tr ok) (root (nodes_for f tr)) line starts),
   item_texts_by k (some_power k) tr.header.scale (finer k m tr).header.scale refl f items body lines,
   is,
 )

@@ -19,6 +19,7 @@ use Rattle.stl_syntax.specs.declared.items.Item.{Item}
 use Rattle.stl_syntax.specs.declared.node.Node.{Node}
 use Rattle.stl_syntax.specs.declared.node.Node.TheVariants.{Const, Atom as Leaf, Not, And, Or, Implies, Until, Eventually, Always, Since, Once, Historically}
 use Rattle.stl_syntax.proofs.LawProofs.{certainty_is_of_times}
+use Rattle.unit_laws.proofs.NearTimes.{Move}
 use Rattle.unit_laws.proofs.Clocks.{clock, unclock, clock_same, clock-unclock, unclock-clock, precedes_clock}
 use Rattle.unit_laws.proofs.Recounts.{IsRecount}
 use Rattle.unit_laws.proofs.FinerTrees.{finer_tree, subformula_by, root_by}
@@ -33,7 +34,7 @@ map_reverse f (x ∷ xs) =
     ap (map f) (reverse-append (x ∷ []) xs) ∙ map-append f (reverse xs) (x ∷ []) ∙ ap (λ ys. ys ++ f x ∷ []) (map_reverse f xs)
     ∙ sym (reverse-append (f x ∷ []) (map f xs))
 
-module _ (K o : ℕ) (kp : 0 < K) where
+module _ (K : ℕ) (o : Move) (kp : 0 < K) where
   -- the item by the clock
   abbrev pub item_by : Item → Item
   item_by e = record { node = e.node; on = span_by K o kp e.on; holds = e.holds }
@@ -66,7 +67,7 @@ module _ (K o : ℕ) (kp : 0 < K) where
   end_by : (on : Span) (other : Interval) → EndAlike (interval on) other → EndAlike (interval (span_by K o kp on)) (interval_by K o kp other)
   end_by on other h = record { time = same_trans (frac_same K o kp on.to) (clock_same K o h.time); inside = h.inside }
 
-module _ (K o M : ℕ) (kp : 0 < K) (mp : 0 < M) {tr ur : Trace} (c : IsRecount K o M tr ur) (nodes : List Node) where
+module _ (K : ℕ) (o : Move) (M : ℕ) (kp : 0 < K) (mp : 0 < M) {tr ur : Trace} (c : IsRecount K o M tr ur) (nodes : List Node) where
   abbrev fine_nodes : List Node
   fine_nodes = map (scaled_node K M) nodes
 

@@ -9,6 +9,7 @@ use Rattle.stl_syntax.specs.declared.items.Item.{Item}
 use Rattle.report.specs.Report.{nodes_for}
 use Rattle.report.specs.Json.{AreVerdictData, AreItemData}
 use Rattle.unit_laws.specs.Units.{finer, JsonKeepsItsText}
+use Rattle.unit_laws.proofs.NearTimes.{ahead}
 use Rattle.unit_laws.proofs.FinerTrees.{root_finer}
 use Rattle.unit_laws.proofs.FinerRows.{some_power, finer_counts}
 use Rattle.unit_laws.proofs.FinerTexts.{time_text_by, value_text_by}
@@ -21,12 +22,12 @@ use Rattle.unit_laws.proofs.ChangedTables.{margin_data_by}
 
 module _ (k : ℕ) (p : 0 < 10 ^ k) (scale other : Scale) (is : other.time ≡ scale.time + k) where
   verdict_data_by : (verdicts : List Verdict) (items : Items) → AreVerdictData scale verdicts items
-      → AreVerdictData other (verdicts_by (10 ^ k) 0 p verdicts) items
+      → AreVerdictData other (verdicts_by (10 ^ k) (ahead 0) p verdicts) items
   verdict_data_by [] items h = h
   verdict_data_by (v ∷ verdicts) items (on, later, h, rest, e) = (on, later, span_text k p scale other is v.on on h, verdict_data_by verdicts later rest, e)
 
   item_data_by : (f : Formula) (more : List Item) (items : Items) → AreItemData scale f more items
-      → AreItemData other f (map (item_by (10 ^ k) 0 p) more) items
+      → AreItemData other f (map (item_by (10 ^ k) (ahead 0) p) more) items
   item_data_by f [] items h = h
   item_data_by f (x ∷ more) items (a, at, (name, on, later, named, span, rest, e)) =
       (a, at, (name, on, later, named, span_text k p scale other is x.on on span, item_data_by f more later rest, e))
@@ -40,17 +41,17 @@ json_keeps_its_text f tr k m ok ft fv text (verdicts, knots, items, holds, repor
     let c = finer_counts k m tr ok in
     let same = root_finer f tr.header.scale k m ft fv in
     let fine = (finer k m tr).header.scale in
-    let change = to_clock (10 ^ k) 0 (10 ^ m) kp mp c p in
+    let change = to_clock (10 ^ k) (ahead 0) (10 ^ m) kp mp c p in
     let (printed, entries, knot_entries, spans, printed_is, entries_are, knots_are, spans_are, object_is) = data_is in (
-      verdicts_by (10 ^ k) 0 kp verdicts,
+      verdicts_by (10 ^ k) (ahead 0) kp verdicts,
       knots_by change knots,
-      map (item_by (10 ^ k) 0 kp) items,
+      map (item_by (10 ^ k) (ahead 0) kp) items,
       holds,
       report,
-      rw same (verdicts_describe (10 ^ k) 0 (10 ^ m) kp mp c p verdicts told),
+      rw same (verdicts_describe (10 ^ k) (ahead 0) (10 ^ m) kp mp c p verdicts told),
       rw same (describes_by change knots margins),
       explained_by f tr k m ok ft fv items explained,
-      rw same (told_at (10 ^ k) 0 (10 ^ m) kp mp c p holds (start tr) (start (finer k m tr)) c.starts truth),
+      rw same (told_at (10 ^ k) (ahead 0) (10 ^ m) kp mp c p holds (start tr) (start (finer k m tr)) c.starts truth),
       (
         printed,
         entries,

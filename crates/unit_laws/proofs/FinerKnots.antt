@@ -11,6 +11,7 @@ use Rattle.stl_syntax.specs.Formula.{Subformula}
 use Rattle.stl_syntax.specs.SupInf.{margin_setting}
 use Rattle.stl_syntax.proofs.TimeLaw.{SupInf-same}
 use Rattle.stl_syntax.proofs.SupInfLemmas.{value_alike}
+use Rattle.unit_laws.proofs.NearTimes.{Move}
 use Rattle.unit_laws.proofs.Clocks.{clock, unclock, clock_same, clock_lt, clock-unclock, unclock-clock, unclock_same, unclock_lt}
 use Rattle.unit_laws.proofs.Recounts.{IsRecount}
 use Rattle.unit_laws.proofs.FinerTrees.{finer_tree}
@@ -31,10 +32,10 @@ shrink_sameᵉ M p v w e =
     (same_transᵉ v w (stretchᵉ M (shrinkᵉ M p w)) e (same_symᵉ (stretchᵉ M (shrinkᵉ M p w)) w (stretch-shrinkᵉ M p w))))
 
 -- a line K times as wide and M times as high, and moved
-line_by : (K o M : ℕ) → 0 < K → Line → Line
+line_by : (K : ℕ) (o : Move) (M : ℕ) → 0 < K → Line → Line
 line_by K o M p f = record {
-  base_up = K * (M * f.base_up) + M * f.rise_down * o;
-  base_down = K * (M * f.base_down) + M * f.rise_up * o;
+  base_up = K * (M * f.base_up) + M * f.rise_down * o.up + M * f.rise_up * o.down;
+  base_down = K * (M * f.base_down) + M * f.rise_up * o.up + M * f.rise_down * o.down;
   rise_up = M * f.rise_up;
   rise_down = M * f.rise_down;
   run = K * f.run;
@@ -42,17 +43,17 @@ line_by K o M p f = record {
 }
 
 -- and the line of which it is that
-line_part : (K o M : ℕ) → 0 < M → Line → Line
+line_part : (K : ℕ) (o : Move) (M : ℕ) → 0 < M → Line → Line
 line_part K o M p f = record {
-  base_up = f.base_up + f.rise_up * o;
-  base_down = f.base_down + f.rise_down * o;
+  base_up = f.base_up + f.rise_up * o.up + f.rise_down * o.down;
+  base_down = f.base_down + f.rise_down * o.up + f.rise_up * o.down;
   rise_up = K * f.rise_up;
   rise_down = K * f.rise_down;
   run = M * f.run;
   positive = mul-pos p f.positive;
 }
 
-module _ (K o M : ℕ) (kp : 0 < K) (mp : 0 < M) where
+module _ (K : ℕ) (o : Move) (M : ℕ) (kp : 0 < K) (mp : 0 < M) where
   -- a function of time by the clock
   pub affine_by : Affine → Affine
   affine_by always_low = always_low

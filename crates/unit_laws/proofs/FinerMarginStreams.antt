@@ -10,6 +10,7 @@ use Rattle.stl_syntax.specs.Knots.{Knot, Piece}
 use Rattle.stl_syntax.specs.Texts.{IsNumberText, IsValueText, ArePieceLines}
 use Rattle.stl_syntax.specs.declared.scale.Scale.{Scale}
 use Rattle.online_nodes.specs.MarginStream.{TellsLeftOpen, IsNewMargins, IsMarginStream}
+use Rattle.unit_laws.proofs.NearTimes.{ahead}
 use Rattle.unit_laws.proofs.Clocks.{clock, unclock, clock_same, unclock_same, unclock-clock}
 use Rattle.unit_laws.proofs.FinerTraces.{rows_counted}
 use Rattle.unit_laws.proofs.FinerValues.{stretchᵉ, shrinkᵉ}
@@ -20,14 +21,14 @@ use Rattle.unit_laws.proofs.FinerStreams.{q, other, rows_by, trace_of, other_of,
 use Rattle.unit_laws.proofs.FinerStreams.{GivesNew, rows_text_back, rest_back}
 
 module _ (K o M : ℕ) (kp : 0 < K) (mp : 0 < M) (p : Subformula) (header : Header) (scale : Scale)
-    (times : (t : Rational) (text : List ℕ) → IsNumberText header.scale.time t text → IsNumberText scale.time (clock K o t) text)
+    (times : (t : Rational) (text : List ℕ) → IsNumberText header.scale.time t text → IsNumberText scale.time (clock K (ahead o) t) text)
     (values : (v : Extended) (text : List ℕ) → IsValueText header.scale.value v text → IsValueText scale.value (stretchᵉ M v) text) where
   abbrev r : Subformula
   r = q K o M kp mp p header scale
 
   abbrev change : (rows : List Row) → AreRows (length header.columns) rows
       → Change p (trace_of K o M kp mp p header scale rows) r (other_of K o M kp mp p header scale rows)
-  change rows ok = to_clock K o M kp mp (so_far K o M kp mp p header scale rows ok) p
+  change rows ok = to_clock K (ahead o) M kp mp (so_far K o M kp mp p header scale rows ok) p
 
   -- the lines of margins after one time, up to another
   abbrev IsText : List Row → Rational → Rational → List ℕ → Type 0
@@ -40,13 +41,13 @@ module _ (K o M : ℕ) (kp : 0 < K) (mp : 0 < M) (p : Subformula) (header : Head
   IsTextBy rows from to text =
       (k : Knot) × (pieces : List Piece) × TellsLeftOpen r (other_of K o M kp mp p header scale rows) from to k pieces × ArePieceLines scale k pieces text
 
-  moved : (rows : List Row) → AreRows (length header.columns) rows → (from to from' to' : Rational) (text : List ℕ) → from' ≈ clock K o from
-      → to' ≈ clock K o to → IsText rows from to text → IsTextBy rows from' to' text
+  moved : (rows : List Row) → AreRows (length header.columns) rows → (from to from' to' : Rational) (text : List ℕ) → from' ≈ clock K (ahead o) from
+      → to' ≈ clock K (ahead o) to → IsText rows from to text → IsTextBy rows from' to' text
   moved rows ok from to from' to' text f g (k, pieces, (begins, told), lines) =
       let c = change rows ok in (
         knot_by c k,
         pieces_by c pieces,
-        (same_trans (clock_same K o begins) (same_sym f), after_by c to to' g k pieces told),
+        (same_trans (clock_same K (ahead o) begins) (same_sym f), after_by c to to' g k pieces told),
         piece_lines_by c header.scale scale times values k pieces text lines,
       )
 
@@ -87,7 +88,7 @@ module _ (K o M : ℕ) (kp : 0 < K) (mp : 0 < M) (p : Subformula) (header : Head
   )
 
 module _ (K o M : ℕ) (kp : 0 < K) (mp : 0 < M) (p : Subformula) (header : Header) (scale : Scale)
-    (times : (t : Rational) (text : List ℕ) → IsNumberText scale.time t text → IsNumberText header.scale.time (unclock K o kp t) text)
+    (times : (t : Rational) (text : List ℕ) → IsNumberText scale.time t text → IsNumberText header.scale.time (unclock K (ahead o) kp t) text)
     (values : (v : Extended) (text : List ℕ) → IsValueText scale.value v text → IsValueText header.scale.value (shrinkᵉ M mp v) text) where
   abbrev s : Subformula
   s = q K o M kp mp p header scale
@@ -99,10 +100,10 @@ module _ (K o M : ℕ) (kp : 0 < K) (mp : 0 < M) (p : Subformula) (header : Head
   fine rows = other_of K o M kp mp p header scale rows
 
   abbrev change_back : (rows : List Row) → AreRows (length header.columns) rows → Change s (fine rows) p (coarse rows)
-  change_back rows ok = from_clock K o M kp mp (so_far K o M kp mp p header scale rows ok) p
+  change_back rows ok = from_clock K (ahead o) M kp mp (so_far K o M kp mp p header scale rows ok) p
 
-  was_shown : (t u : Rational) → u ≈ clock K o t → t ≈ unclock K o kp u
-  was_shown t u e = same_sym (same_trans (unclock_same K o kp e) (unclock-clock K o kp t))
+  was_shown : (t u : Rational) → u ≈ clock K (ahead o) t → t ≈ unclock K (ahead o) kp u
+  was_shown t u e = same_sym (same_trans (unclock_same K (ahead o) kp e) (unclock-clock K (ahead o) kp t))
 
   abbrev IsLeft : List Row → Rational → Rational → List ℕ → Type 0
   IsLeft rows from to text =
@@ -111,13 +112,13 @@ module _ (K o M : ℕ) (kp : 0 < K) (mp : 0 < M) (p : Subformula) (header : Head
   abbrev IsLeftBy : List Row → Rational → Rational → List ℕ → Type 0
   IsLeftBy rows from to text = (k : Knot) × (pieces : List Piece) × TellsLeftOpen s (fine rows) from to k pieces × ArePieceLines scale k pieces text
 
-  taken_back : (rows : List Row) → AreRows (length header.columns) rows → (from to from' to' : Rational) (text : List ℕ) → from' ≈ clock K o from
-      → to' ≈ clock K o to → IsLeftBy rows from' to' text → IsLeft rows from to text
+  taken_back : (rows : List Row) → AreRows (length header.columns) rows → (from to from' to' : Rational) (text : List ℕ) → from' ≈ clock K (ahead o) from
+      → to' ≈ clock K (ahead o) to → IsLeftBy rows from' to' text → IsLeft rows from to text
   taken_back rows ok from to from' to' text f g (k, pieces, (begins, told), lines) =
       let c = change_back rows ok in (
         knot_by c k,
         pieces_by c pieces,
-        (same_trans (unclock_same K o kp begins) (same_sym (was_shown from from' f)), after_by c to' to (was_shown to to' g) k pieces told),
+        (same_trans (unclock_same K (ahead o) kp begins) (same_sym (was_shown from from' f)), after_by c to' to (was_shown to to' g) k pieces told),
         piece_lines_by c scale header.scale times values k pieces text lines,
       )
 

@@ -20,6 +20,7 @@ use Rattle.stl_syntax.specs.declared.rel.Rel.{Rel}
 use Rattle.stl_syntax.specs.declared.rel.Rel.TheVariants.{AtLeast, Above, AtMost, Below}
 use Rattle.stl_syntax.proofs.TimeLaw.{SupInf-same}
 use Rattle.stl_syntax.proofs.SupInfLemmas.{value_alike}
+use Rattle.unit_laws.proofs.NearTimes.{Move}
 use Rattle.unit_laws.proofs.Multiples.{stretch}
 use Rattle.unit_laws.proofs.Clocks.{clock, unclock, clock-unclock, within_clock, within_of_clock}
 use Rattle.unit_laws.proofs.Recounts.{IsRecount}
@@ -35,7 +36,7 @@ margin_by M Above x y e = e
 margin_by M AtMost x y e = same_negate e
 margin_by M Below x y e = same_negate e
 
-module _ (K o M : ℕ) (kp : 0 < K) (mp : 0 < M) where
+module _ (K : ℕ) (o : Move) (M : ℕ) (kp : 0 < K) (mp : 0 < M) where
   -- the values of G are M times those of F, at the times by the clock
   record AreFiner (F G : Function) (t : Rational) : Type 0 where
     forth : (v : Extended) → F t v → G (clock K o t) (stretchᵉ M v)

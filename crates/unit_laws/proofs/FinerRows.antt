@@ -11,6 +11,7 @@ use Rattle.stl_syntax.specs.SupInf.{margin_setting}
 use Rattle.stl_syntax.proofs.TruthLemmas.{Truth-same}
 use Rattle.stl_syntax.proofs.TimeLaw.{SupInf-same}
 use Rattle.unit_laws.specs.Units.{finer_row, finer, finer_value, TruthIsOfUnits, RobustnessIsOfUnits}
+use Rattle.unit_laws.proofs.NearTimes.{ahead}
 use Rattle.unit_laws.proofs.Recounts.{IsRecount}
 use Rattle.unit_laws.proofs.FinerTrees.{finer_tree, root_finer}
 use Rattle.unit_laws.proofs.FinerTraces.{row_by, counted_anew}
@@ -32,9 +33,9 @@ rows_finer k m (r ∷ rows) =
     ∙ ap (λ rs. row_by (10 ^ k) 0 (10 ^ m) (some_power k) (some_power m) r ∷ rs) (rows_finer k m rows)
 
 -- the trace in smaller ticks is the trace by a clock that counts 10^k ticks for one
-pub finer_counts : (k m : ℕ) (tr : Trace) → IsTrace tr → IsRecount (10 ^ k) 0 (10 ^ m) tr (finer k m tr)
+pub finer_counts : (k m : ℕ) (tr : Trace) → IsTrace tr → IsRecount (10 ^ k) (ahead 0) (10 ^ m) tr (finer k m tr)
 finer_counts k m tr ok =
-    subst (λ rows. IsRecount (10 ^ k) 0 (10 ^ m) tr (record { header = (finer k m tr).header; rows = rows })) (sym (rows_finer k m tr.rows))
+    subst (λ rows. IsRecount (10 ^ k) (ahead 0) (10 ^ m) tr (record { header = (finer k m tr).header; rows = rows })) (sym (rows_finer k m tr.rows))
     (counted_anew (10 ^ k) 0 (10 ^ m) (some_power k) (some_power m) tr ok (finer k m tr).header.scale)
 
 -- the truth is the same in smaller ticks
@@ -42,7 +43,7 @@ pub truth_is_of_units : TruthIsOfUnits
 truth_is_of_units f tr k m t ok ft fv =
     let p = root (scaled f tr.header.scale).nodes in
     let q = finer_tree (10 ^ k) (10 ^ m) p in
-    let s = truth_by (10 ^ k) 0 (10 ^ m) (some_power k) (some_power m) (finer_counts k m tr ok) p t in
+    let s = truth_by (10 ^ k) (ahead 0) (10 ^ m) (some_power k) (some_power m) (finer_counts k m tr ok) p t in
     let e = clock_zero (10 ^ k) t in
     rw (root_finer f tr.header.scale k m ft fv) (
       λ h. Truth-same q (finer k m tr) (same_sym e) (s.0 h),
@@ -59,7 +60,7 @@ pub robustness_is_of_units : RobustnessIsOfUnits
 robustness_is_of_units f tr k m t v ok ft fv =
     let p = root (scaled f tr.header.scale).nodes in
     let q = finer_tree (10 ^ k) (10 ^ m) p in
-    let s = margins_by (10 ^ k) 0 (10 ^ m) (some_power k) (some_power m) (finer_counts k m tr ok) p t v in
+    let s = margins_by (10 ^ k) (ahead 0) (10 ^ m) (some_power k) (some_power m) (finer_counts k m tr ok) p t v in
     let e = clock_zero (10 ^ k) t in
     rw (root_finer f tr.header.scale k m ft fv, value_finer m v) (
       λ h. SupInf-same q (margin_setting (finer k m tr)) (stretchᵉ (10 ^ m) v) (same_sym e) (s.0 h),

@@ -13,6 +13,7 @@ use Rattle.stl_syntax.specs.Truth.{holds_at}
 use Rattle.stl_syntax.specs.Scaling.{scaled_atom}
 use Rattle.stl_syntax.specs.Early.{OpenAhead, OpenBehind, IsSure, Settled, SettledNot}
 use Rattle.stl_syntax.proofs.SettledTimes.{settled_is_of_times}
+use Rattle.unit_laws.proofs.NearTimes.{Move}
 use Rattle.unit_laws.proofs.Clocks.{clock, unclock, clock_le, le_of_clock, clock-unclock}
 use Rattle.unit_laws.proofs.Recounts.{IsRecount, holds_by}
 use Rattle.unit_laws.proofs.FinerTrees.{finer_tree}
@@ -39,7 +40,7 @@ open_behind_at {a = a} {b = Some b} {i = i} {j = j} {t = t} {u = u} {v = v} e w 
   ends = precedes_after i (later v a) (later u a) t (later_le a (ge_of_same e)) w.ends;
 }
 
-module _ (K o M : ℕ) (kp : 0 < K) (mp : 0 < M) {tr ur : Trace} (c : IsRecount K o M tr ur) where
+module _ (K : ℕ) (o : Move) (M : ℕ) (kp : 0 < K) (mp : 0 < M) {tr ur : Trace} (c : IsRecount K o M tr ur) where
   shown_same : (u : Rational) → u ≈ clock K o (unclock K o kp u)
   shown_same u = same_sym (clock-unclock K o kp u)
 

@@ -11,6 +11,7 @@ use Rattle.stl_syntax.specs.Texts.{AreVerdictLines}
 use Rattle.stl_syntax.specs.declared.scale.Scale.{Scale}
 use Rattle.stl_syntax.specs.declared.items.Verdict.{Verdict}
 use Rattle.stl_syntax.proofs.RowsLemmas.{rows_in_front}
+use Rattle.unit_laws.proofs.NearTimes.{ahead}
 use Rattle.unit_laws.proofs.Recounts.{IsRecount}
 use Rattle.unit_laws.proofs.FinerTrees.{finer_tree}
 use Rattle.unit_laws.proofs.FinerTraces.{row_by, rows_counted, counted_anew}
@@ -44,7 +45,7 @@ module _ (K o M : ℕ) (kp : 0 < K) (mp : 0 < M) (p : Subformula) (header : Head
   other_of rows = record { header = other; rows = rows_by rows }
 
   -- the rows so far, counted anew
-  pub so_far : (rows : List Row) → AreRows (length header.columns) rows → IsRecount K o M (trace_of rows) (other_of rows)
+  pub so_far : (rows : List Row) → AreRows (length header.columns) rows → IsRecount K (ahead o) M (trace_of rows) (other_of rows)
   so_far rows h = counted_anew K o M kp mp (trace_of rows) (record { rows = h }) scale
 
   first_by : (rows : List Row) (r : Row) → first_time (rows_by (rows ++ r ∷ [])) ≡ K * first_time (rows ++ r ∷ []) + o
@@ -150,7 +151,7 @@ module _ (K o M : ℕ) (kp : 0 < K) (mp : 0 < M) (p : Subformula) (header : Head
   -- ---- verdicts
 
   module _ (lines_by : (verdicts : List Verdict) (text : List ℕ) → AreVerdictLines header.scale verdicts text
-      → AreVerdictLines scale (verdicts_by K o kp verdicts) text) where
+      → AreVerdictLines scale (verdicts_by K (ahead o) kp verdicts) text) where
     -- the verdicts of what a front answers
     pub verdicts_keep : KeepsNew (IsNewText p) (IsNewText q)
     verdicts_keep rows old None old' None text ok f g h = h
@@ -159,8 +160,8 @@ module _ (K o M : ℕ) (kp : 0 < K) (mp : 0 < M) (p : Subformula) (header : Head
     verdicts_keep rows None (Some i) (Some b) (Some j) text ok f g h = absurd f
     verdicts_keep rows (Some a) (Some i) None (Some j) text ok f g h = absurd f
     verdicts_keep rows None (Some i) None (Some j) text ok f g (verdicts, told, lines) = (
-      verdicts_by K o kp verdicts,
-      stretch_described K o M kp mp (so_far rows ok) p (closed (start (trace_of rows)) (whole i)) (closed (start (other_of rows)) (whole j))
+      verdicts_by K (ahead o) kp verdicts,
+      stretch_described K (ahead o) M kp mp (so_far rows ok) p (closed (start (trace_of rows)) (whole i)) (closed (start (other_of rows)) (whole j))
           (so_far rows ok).starts refl g refl verdicts told,
       lines_by verdicts text lines,
     )
@@ -168,8 +169,8 @@ module _ (K o M : ℕ) (kp : 0 < K) (mp : 0 < M) (p : Subformula) (header : Head
         subst (λ x. MatchBool x (IsStretchText q (other_of rows) (left_open (whole b) (whole j)) text) (text ≡ [])) (sym (less_shown K o kp a i b j f g))
         (match_by (IsStretchText p (trace_of rows) (left_open (whole a) (whole i)) text)
         (IsStretchText q (other_of rows) (left_open (whole b) (whole j)) text) (text ≡ []) (int_lt a i) (λ (verdicts, told, lines). (
-          verdicts_by K o kp verdicts,
-          stretch_described K o M kp mp (so_far rows ok) p (left_open (whole a) (whole i)) (left_open (whole b) (whole j)) f refl g refl verdicts told,
+          verdicts_by K (ahead o) kp verdicts,
+          stretch_described K (ahead o) M kp mp (so_far rows ok) p (left_open (whole a) (whole i)) (left_open (whole b) (whole j)) f refl g refl verdicts told,
           lines_by verdicts text lines,
         )) h)
 
@@ -185,7 +186,7 @@ module _ (K o M : ℕ) (kp : 0 < K) (mp : 0 < M) (p : Subformula) (header : Head
         line,
         rows_text_by (IsNewText p) (IsNewText q) verdicts_keep [] None None rows during ok tt a,
         rest_by (IsNewText p) (IsNewText q) verdicts_keep rows rest ok b,
-        start_line_by K o M kp mp (so_far rows ok) p line s,
+        start_line_by K (ahead o) M kp mp (so_far rows ok) p line s,
         is,
       ),
     )

@@ -6,6 +6,7 @@ use Rattle.stl_syntax.specs.Verdicts.{DescribesMargins}
 use Rattle.report.specs.Report.{nodes_for}
 use Rattle.report.specs.Table.{IsTableText}
 use Rattle.unit_laws.specs.Units.{finer, TableIsOfUnits}
+use Rattle.unit_laws.proofs.NearTimes.{ahead}
 use Rattle.unit_laws.proofs.FinerTrees.{finer_tree, root_finer}
 use Rattle.unit_laws.proofs.FinerRows.{some_power, finer_counts}
 use Rattle.unit_laws.proofs.KnotsChange.{knots_by, describes_by}
@@ -23,7 +24,7 @@ table_is_of_units f tr k m ok ft fv text = (forth, λ h. back (subst Writes (roo
     forth : ((knots : Knots) × DescribesMargins knots (root (nodes_for f tr)) tr × IsTableText tr.header.scale knots text)
         → Writes (root (nodes_for f (finer k m tr)))
     forth (knots, d, l) =
-        let c = to_clock (10 ^ k) 0 (10 ^ m) (some_power k) (some_power m) (finer_counts k m tr ok) (root (nodes_for f tr)) in
+        let c = to_clock (10 ^ k) (ahead 0) (10 ^ m) (some_power k) (some_power m) (finer_counts k m tr ok) (root (nodes_for f tr)) in
         subst Writes (sym (root_finer f tr.header.scale k m ft fv)) (
           knots_by c knots,
           describes_by c knots d,
@@ -34,7 +35,7 @@ table_is_of_units f tr k m ok ft fv text = (forth, λ h. back (subst Writes (roo
     back : Writes (finer_tree (10 ^ k) (10 ^ m) (root (nodes_for f tr)))
         → (knots : Knots) × DescribesMargins knots (root (nodes_for f tr)) tr × IsTableText tr.header.scale knots text
     back (knots, d, l) =
-        let c = from_clock (10 ^ k) 0 (10 ^ m) (some_power k) (some_power m) (finer_counts k m tr ok) (root (nodes_for f tr)) in (
+        let c = from_clock (10 ^ k) (ahead 0) (10 ^ m) (some_power k) (some_power m) (finer_counts k m tr ok) (root (nodes_for f tr)) in (
           knots_by c knots,
           describes_by c knots d,
           table_by c (finer k m tr).header.scale tr.header.scale (λ t x h. time_text_back tr.header.scale.time k (some_power k) t x h)

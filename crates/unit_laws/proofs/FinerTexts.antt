@@ -8,6 +8,7 @@ use Rattle.rational.specs.Extended.{Extended, minus_infinity, finite, infinity}
 use Rattle.rational.proofs.Order.{same_sym, same_trans}
 use Rattle.stl_syntax.specs.Texts.{IsNumberText, IsValueText}
 use Rattle.report.proofs.KeptTexts.{number_of_same}
+use Rattle.unit_laws.proofs.NearTimes.{ahead}
 use Rattle.unit_laws.proofs.Multiples.{stretch, shrink, stretch_same, same_back, stretch-shrink, above_of, below_of}
 use Rattle.unit_laws.proofs.Clocks.{clock, unclock}
 use Rattle.unit_laws.proofs.FinerValues.{stretchᵉ, shrinkᵉ}
@@ -59,19 +60,19 @@ value_text_back digits m p (finite x) text h = number_text_back digits m p x tex
 value_text_back digits m p infinity text h = h
 
 -- K times a time is shown by a clock that shows 0 at 0
-pub clock_zero : (K : ℕ) (t : Rational) → stretch K t ≈ clock K 0 t
+pub clock_zero : (K : ℕ) (t : Rational) → stretch K t ≈ clock K (ahead 0) t
 clock_zero K t = record { same = omega arith }
 
-unclock_zero : (K : ℕ) (p : 0 < K) (t : Rational) → shrink K p t ≈ unclock K 0 p t
+unclock_zero : (K : ℕ) (p : 0 < K) (t : Rational) → shrink K p t ≈ unclock K (ahead 0) p t
 unclock_zero K p t = record { same = omega arith }
 
 -- so is that of a time by a clock that shows 0 at 0
-pub time_text_by : (digits k : ℕ) (t : Rational) (text : List ℕ) → IsNumberText digits t text → IsNumberText (digits + k) (clock (10 ^ k) 0 t) text
+pub time_text_by : (digits k : ℕ) (t : Rational) (text : List ℕ) → IsNumberText digits t text → IsNumberText (digits + k) (clock (10 ^ k) (ahead 0) t) text
 time_text_by digits k t text h =
-    number_of_same (digits + k) (stretch (10 ^ k) t) (clock (10 ^ k) 0 t) text (clock_zero (10 ^ k) t) (number_text_by digits k t text h)
+    number_of_same (digits + k) (stretch (10 ^ k) t) (clock (10 ^ k) (ahead 0) t) text (clock_zero (10 ^ k) t) (number_text_by digits k t text h)
 
 -- and back
 pub time_text_back : (digits k : ℕ) (p : 0 < 10 ^ k) (t : Rational) (text : List ℕ) → IsNumberText (digits + k) t text
-    → IsNumberText digits (unclock (10 ^ k) 0 p t) text
+    → IsNumberText digits (unclock (10 ^ k) (ahead 0) p t) text
 time_text_back digits k p t text h =
-    number_of_same digits (shrink (10 ^ k) p t) (unclock (10 ^ k) 0 p t) text (unclock_zero (10 ^ k) p t) (number_text_back digits k p t text h)
+    number_of_same digits (shrink (10 ^ k) p t) (unclock (10 ^ k) (ahead 0) p t) text (unclock_zero (10 ^ k) p t) (number_text_back digits k p t text h)

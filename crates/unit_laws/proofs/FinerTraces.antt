@@ -17,12 +17,13 @@ use Rattle.stl_syntax.specs.Scaling.{scaled_atom}
 use Rattle.stl_syntax.specs.declared.scale.Scale.{Scale}
 use Rattle.stl_syntax.specs.declared.atom.Atom.{Atom}
 use Rattle.stl_syntax.specs.declared.atom.Term.{Term}
+use Rattle.unit_laws.proofs.NearTimes.{Move, ahead}
 use Rattle.unit_laws.proofs.Multiples.{stretch, add_stretch, times_stretch, above-times, below-times, whole_stretch}
 use Rattle.unit_laws.proofs.Clocks.{clock, clock_lt, lt_of_clock}
 use Rattle.unit_laws.proofs.Recounts.{IsRecount}
 
 -- the test of the order is that by the clock
-less_by : (K o : ℕ) → 0 < K → (t u v : Rational) → v ≈ clock K o u → less (clock K o t) v ≡ less t u
+less_by : (K : ℕ) (o : Move) → 0 < K → (t u v : Rational) → v ≈ clock K o u → less (clock K o t) v ≡ less t u
 less_by K o p t u v e = by_test (less t u) refl
   where
     not_less : less t u ≡ false → (b : Bool) → less (clock K o t) v ≡ b → b ≡ false
@@ -35,14 +36,14 @@ less_by K o p t u v e = by_test (less t u) refl
     by_test false h = rw h (not_less h (less (clock K o t) v) refl)
 
 -- a line that is K times as wide and M times as high, and moved by o
-pub at_by : (f g : Line) (K o M : ℕ) (t : Rational) → g.base_up ≡ K * (M * f.base_up) + M * f.rise_down * o
-    → g.base_down ≡ K * (M * f.base_down) + M * f.rise_up * o → g.rise_up ≡ M * f.rise_up → g.rise_down ≡ M * f.rise_down → g.run ≡ K * f.run
+pub at_by : (f g : Line) (K : ℕ) (o : Move) (M : ℕ) (t : Rational) → g.base_up ≡ K * (M * f.base_up) + M * f.rise_down * o.up + M * f.rise_up * o.down
+    → g.base_down ≡ K * (M * f.base_down) + M * f.rise_up * o.up + M * f.rise_down * o.down → g.rise_up ≡ M * f.rise_up → g.rise_down ≡ M * f.rise_down → g.run ≡ K * f.run
     → at g (clock K o t) ≈ stretch M (at f t)
 at_by f g K o M t a b c e h = record { same = rw (a, b, c, e, h) (omega arith) }
 
-base_by : (K o M G r x y g x' y' : ℕ) → g ≡ K * G → x' ≡ M * x → y' ≡ M * y
-    → x' * g + (y' + x') * (K * r + o) ≡ K * (M * (x * G + (y + x) * r)) + M * (y + x) * o
-base_by K o M G r x y g x' y' e a b = rw (e, a, b) (omega arith)
+base_by : (K o M G r x y z g x' y' : ℕ) → g ≡ K * G → x' ≡ M * x → y' ≡ M * y
+    → x' * g + (y' + x') * (K * r + o) ≡ K * (M * (x * G + (y + x) * r)) + M * (y + x) * o + M * z * 0
+base_by K o M G r x y z g x' y' e a b = rw (e, a, b) (omega arith)
 
 gap_by : (K o r s : ℕ) → 0 < K → r < s → suc (K * s + o - suc (K * r + o)) ≡ K * suc (s - suc r)
 gap_by K o r s p h =
@@ -69,7 +70,7 @@ module _ (K o M : ℕ) (kp : 0 < K) (mp : 0 < M) where
       value_of_list : Row → ℤ → ℤ
       value_of_list r z = Rattle.std.proofs.Math.ListN.get_or (map (λ v. pos M *ℤ v) r.values) c z
 
-  row_same : (s : Row) → row_time (row_by s) ≈ clock K o (row_time s)
+  row_same : (s : Row) → row_time (row_by s) ≈ clock K (ahead o) (row_time s)
   row_same s = record { same = omega arith }
 
   zero_same : whole (pos 0) ≈ stretch M (whole (pos 0))
@@ -79,7 +80,7 @@ module _ (K o M : ℕ) (kp : 0 < K) (mp : 0 < M) where
   value_same r c = rw (value_by r c) (whole_stretch M (value r c))
 
   piece_by : (step : Bool) (c : ℕ) (r s : Row) (t : Rational) → r.time < s.time
-      → piece step c (row_by r) (row_by s) (clock K o t) ≈ stretch M (piece step c r s t)
+      → piece step c (row_by r) (row_by s) (clock K (ahead o) t) ≈ stretch M (piece step c r s t)
   piece_by true c r s t h = value_same r c
   piece_by false c r s t h =
       let v = value r c in
@@ -90,25 +91,25 @@ module _ (K o M : ℕ) (kp : 0 < K) (mp : 0 < M) where
       let wa : part_above (value (row_by s) c) ≡ M * part_above w = ap part_above (value_by s c) ∙ above-times M w in
       let wb : part_below (value (row_by s) c) ≡ M * part_below w = ap part_below (value_by s c) ∙ below-times M w in
       at_by (line_between r.time v (s.time - suc r.time) w)
-      (line_between (K * r.time + o) (value (row_by r) c) (K * s.time + o - suc (K * r.time + o)) (value (row_by s) c)) K o M t
-      (base_by K o M (suc (s.time - suc r.time)) r.time (part_above v) (part_below w) _ _ _ gap va wb)
-      (base_by K o M (suc (s.time - suc r.time)) r.time (part_below v) (part_above w) _ _ _ gap vb wa)
+      (line_between (K * r.time + o) (value (row_by r) c) (K * s.time + o - suc (K * r.time + o)) (value (row_by s) c)) K (ahead o) M t
+      (base_by K o M (suc (s.time - suc r.time)) r.time (part_above v) (part_below w) (part_above w + part_below v) _ _ _ gap va wb)
+      (base_by K o M (suc (s.time - suc r.time)) r.time (part_below v) (part_above w) (part_below w + part_above v) _ _ _ gap vb wa)
       (omega (arith, wa, vb)) (omega (arith, wb, va)) gap
 
   value_from_by : (step : Bool) (c n : ℕ) (r : Row) (rows : List Row) (t : Rational) → AreRowsAfter n r.time rows
-      → value_from step c (row_by r) (map row_by rows) (clock K o t) ≈ stretch M (value_from step c r rows t)
+      → value_from step c (row_by r) (map row_by rows) (clock K (ahead o) t) ≈ stretch M (value_from step c r rows t)
   value_from_by step c n r [] t ok = value_same r c
   value_from_by step c n r (s ∷ rows) t ok =
-      rw (less_by K o kp t (row_time s) (row_time (row_by s)) (row_same s))
+      rw (less_by K (ahead o) kp t (row_time s) (row_time (row_by s)) (row_same s))
       (chosen_by M (less t (row_time s)) _ _ _ _ (piece_by step c r s t ok.0) (value_from_by step c n s rows t ok.2))
 
   column_by : (step : Bool) (c n : ℕ) (rows : List Row) (t : Rational) → AreRows n rows
-      → column_value step c (map row_by rows) (clock K o t) ≈ stretch M (column_value step c rows t)
+      → column_value step c (map row_by rows) (clock K (ahead o) t) ≈ stretch M (column_value step c rows t)
   column_by step c n [] t ok = zero_same
   column_by step c n (r ∷ rows) t ok = value_from_by step c n r rows t ok.1
 
   among_by : (columns : List Column) (c n : ℕ) (rows : List Row) (name : List ℕ) (t : Rational) → AreRows n rows
-      → value_among columns c (map row_by rows) name (clock K o t) ≈ stretch M (value_among columns c rows name t)
+      → value_among columns c (map row_by rows) name (clock K (ahead o) t) ≈ stretch M (value_among columns c rows name t)
   among_by [] c n rows name t ok = zero_same
   among_by (k ∷ columns) c n rows name t ok =
       chosen_by M (bytes_eq k.name name) _ _ _ _ (column_by k.step c n rows t ok) (among_by columns (suc c) n rows name t ok)
@@ -131,17 +132,17 @@ module _ (K o M : ℕ) (kp : 0 < K) (mp : 0 < M) where
     abbrev pub trace_by : Trace
     trace_by = record { header = record { columns = tr.header.columns; scale = scale }; rows = map row_by tr.rows }
 
-    value_of_by : (name : List ℕ) (t : Rational) → value_of trace_by name (clock K o t) ≈ stretch M (value_of tr name t)
+    value_of_by : (name : List ℕ) (t : Rational) → value_of trace_by name (clock K (ahead o) t) ≈ stretch M (value_of tr name t)
     unfolding value_of
     value_of_by name t = among_by tr.header.columns 0 (length tr.header.columns) tr.rows name t ok.rows
 
-    sum_by : (terms : List Term) (t : Rational) → sum_at terms trace_by (clock K o t) ≈ stretch M (sum_at terms tr t)
+    sum_by : (terms : List Term) (t : Rational) → sum_at terms trace_by (clock K (ahead o) t) ≈ stretch M (sum_at terms tr t)
     sum_by [] t = zero_same
     sum_by (x ∷ terms) t =
         same_trans (same_add (same_trans (same_times x.coef (value_of_by x.name t)) (times_stretch M x.coef (value_of tr x.name t))) (sum_by terms t))
         (add_stretch M (times x.coef (value_of tr x.name t)) (sum_at terms tr t))
 
-    expression_by : (a : Atom) (t : Rational) → expression (scaled_atom M a) trace_by (clock K o t) ≈ stretch M (expression a tr t)
+    expression_by : (a : Atom) (t : Rational) → expression (scaled_atom M a) trace_by (clock K (ahead o) t) ≈ stretch M (expression a tr t)
     unfolding expression
     expression_by a t =
         same_trans (same_add (sum_by a.terms t) (same_negate (whole_stretch M a.limit))) (add_stretch M (sum_at a.terms tr t) (negate (whole a.limit)))
@@ -151,23 +152,23 @@ module _ (K o M : ℕ) (kp : 0 < K) (mp : 0 < M) where
     last_by x (r ∷ rows) = last_by r.time rows
 
     -- it begins where the clock shows its start
-    start_by : start trace_by ≈ clock K o (start tr)
+    start_by : start trace_by ≈ clock K (ahead o) (start tr)
     start_by = by_rows tr.rows ok.rows
       where
         by_rows : (rows : List Row) → AreRows (length tr.header.columns) rows
-            → whole (pos (first_time (map row_by rows))) ≈ clock K o (whole (pos (first_time rows)))
+            → whole (pos (first_time (map row_by rows))) ≈ clock K (ahead o) (whole (pos (first_time rows)))
         by_rows [] h = absurd h
         by_rows (r ∷ rows) h = record { same = omega arith }
 
     -- and ends where it shows its end
-    stop_by : stop trace_by ≈ clock K o (stop tr)
+    stop_by : stop trace_by ≈ clock K (ahead o) (stop tr)
     stop_by = by_rows tr.rows ok.rows
       where
         by_rows : (rows : List Row) → AreRows (length tr.header.columns) rows
-            → whole (pos (last_time 0 (map row_by rows))) ≈ clock K o (whole (pos (last_time 0 rows)))
+            → whole (pos (last_time 0 (map row_by rows))) ≈ clock K (ahead o) (whole (pos (last_time 0 rows)))
         by_rows [] h = absurd h
         by_rows (r ∷ rows) h = let e = last_by r.time rows in record { same = omega (arith, e) }
 
     -- so the one trace is the other, counted anew
-    pub counted_anew : IsRecount K o M tr trace_by
+    pub counted_anew : IsRecount K (ahead o) M tr trace_by
     counted_anew = record { expressions = expression_by; starts = start_by; stops = stop_by }

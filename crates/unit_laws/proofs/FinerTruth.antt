@@ -10,43 +10,44 @@ use Rattle.stl_syntax.specs.Formula.{Subformula, constant, atom, negation, conju
 use Rattle.stl_syntax.specs.Formula.{implication, until, eventually, always, since, once, historically}
 use Rattle.stl_syntax.specs.Truth.{Truth}
 use Rattle.stl_syntax.proofs.TruthLemmas.{Truth-same}
+use Rattle.unit_laws.proofs.NearTimes.{Move}
 use Rattle.unit_laws.proofs.Clocks.{clock, unclock, clock_le, le_of_clock, clock-unclock, precedes_clock}
 use Rattle.unit_laws.proofs.Clocks.{precedes_of_clock, later_clock, within_clock, within_of_clock}
 use Rattle.unit_laws.proofs.FinerTrees.{finer_tree}
 use Rattle.unit_laws.proofs.Recounts.{IsRecount, holds_by}
 
 -- what begins a window begins it by the clock
-pub begins_by : (K o : ℕ) → 0 < K → (a : ℕ) (i : Bool) (t u : Rational) → Precedes i (later t a) u → Precedes i (later (clock K o t) (K * a)) (clock K o u)
+pub begins_by : (K : ℕ) (o : Move) → 0 < K → (a : ℕ) (i : Bool) (t u : Rational) → Precedes i (later t a) u → Precedes i (later (clock K o t) (K * a)) (clock K o u)
 begins_by K o p a i t u h =
     precedes_after i (later (clock K o t) (K * a)) (clock K o (later t a)) (clock K o u) (le_of_same (later_clock K o a t))
     (precedes_clock K o p i (later t a) u h)
 
 -- and what ends it
-pub ends_by : (K o : ℕ) → 0 < K → (b : ℕ) (i : Bool) (t u : Rational) → Precedes i u (later t b) → Precedes i (clock K o u) (later (clock K o t) (K * b))
+pub ends_by : (K : ℕ) (o : Move) → 0 < K → (b : ℕ) (i : Bool) (t u : Rational) → Precedes i u (later t b) → Precedes i (clock K o u) (later (clock K o t) (K * b))
 ends_by K o p b i t u h =
     precedes_before i (clock K o u) (clock K o (later t b)) (later (clock K o t) (K * b)) (precedes_clock K o p i u (later t b) h)
     (ge_of_same (later_clock K o b t))
 
 -- and the other way round
-pub begins_back : (K o : ℕ) → 0 < K → (a : ℕ) (i : Bool) (t u : Rational) → Precedes i (later (clock K o t) (K * a)) (clock K o u) → Precedes i (later t a) u
+pub begins_back : (K : ℕ) (o : Move) → 0 < K → (a : ℕ) (i : Bool) (t u : Rational) → Precedes i (later (clock K o t) (K * a)) (clock K o u) → Precedes i (later t a) u
 begins_back K o p a i t u h =
     precedes_of_clock K o p i (later t a) u
     (precedes_after i (clock K o (later t a)) (later (clock K o t) (K * a)) (clock K o u) (ge_of_same (later_clock K o a t)) h)
 
 -- likewise
-pub ends_back : (K o : ℕ) → 0 < K → (b : ℕ) (i : Bool) (t u : Rational) → Precedes i (clock K o u) (later (clock K o t) (K * b)) → Precedes i u (later t b)
+pub ends_back : (K : ℕ) (o : Move) → 0 < K → (b : ℕ) (i : Bool) (t u : Rational) → Precedes i (clock K o u) (later (clock K o t) (K * b)) → Precedes i u (later t b)
 ends_back K o p b i t u h =
     precedes_of_clock K o p i u (later t b)
     (precedes_before i (clock K o u) (later (clock K o t) (K * b)) (clock K o (later t b)) h (le_of_same (later_clock K o b t)))
 
 -- the same pair of ends by the clock
-pub record AreEnds (K o : ℕ) (from to from' to' : Rational) : Type 0 where
+pub record AreEnds (K : ℕ) (o : Move) (from to from' to' : Rational) : Type 0 where
   -- the domain begins where the clock shows its begin
   pub from_same : from' ≈ clock K o from
   -- and ends where it shows its end
   pub to_same : to' ≈ clock K o to
 
-module _ (K o : ℕ) (p : 0 < K) {from to from' to' : Rational} (e : AreEnds K o from to from' to') where
+module _ (K : ℕ) (o : Move) (p : 0 < K) {from to from' to' : Rational} (e : AreEnds K o from to from' to') where
   -- a time of the domain is by the clock one of the other
   pub inside_by : {u : Rational} → Within from to u → Within from' to' (clock K o u)
   inside_by w = record {
@@ -119,7 +120,7 @@ behind_at {a = a} {b = Some b} {i = i} {j = j} {t = t} {u = u} {v = v} e w = rec
   ends = precedes_after i (later v a) (later u a) t (later_le a (ge_of_same e)) w.ends;
 }
 
-module _ (K o M : ℕ) (kp : 0 < K) (mp : 0 < M) {tr ur : Trace} (c : IsRecount K o M tr ur) where
+module _ (K : ℕ) (o : Move) (M : ℕ) (kp : 0 < K) (mp : 0 < M) {tr ur : Trace} (c : IsRecount K o M tr ur) where
   -- the ends of the trace by the clock
   pub ends : AreEnds K o (start tr) (stop tr) (start ur) (stop ur)
   ends = record { from_same = c.starts; to_same = c.stops }

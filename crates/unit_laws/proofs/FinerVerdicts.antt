@@ -1,17 +1,17 @@
 -- Verdicts by another clock.
 use Rattle.std.proofs.Common.{◌≡◌, ℕ, zero, suc, ◌+◌, ◌-◌, ◌*◌, ◌/◌, ◌%◌, ◌^◌, ◌<◌, ◌&&◌, Bool, true, false}
 use Rattle.std.proofs.Common.{List, [], ◌∷◌, refl, sym, ap, ◌∙◌, subst, arith, ℤ, pos, negsuc, MatchBool}
-use Rattle.std.specs.Prelude.{◌+ℤ◌}
+use Rattle.std.specs.Prelude.{◌+ℤ◌, ◌-ℤ◌}
 use Rattle.std.proofs.Math.Nat.{mul-pos, mul-le-mul_left, mul-lt-mul_of_pos_left, lt_of_mul-lt-mul_left, zero-lt-suc}
 use Rattle.std.proofs.lemmas.Nat.Gcd.{le_of_dvd}
 use Prim.Native.Nat.{◌∣◌}
 use Rattle.std.proofs.lemmas.Nat.{div-add-mod', div_below}
-use Rattle.rational.specs.Rational.{mixed}
-use Rattle.rational.specs.Time.{Rational, ◌≈◌, Precedes, later, ratio, IsLowest, HasDenominator, Interval, IsIn, closed}
+use Rattle.rational.specs.Rational.{mixed, part_above, part_below, add, whole}
+use Rattle.rational.specs.Time.{Rational, ◌≈◌, Precedes, ratio, IsLowest, HasDenominator, Interval, IsIn, closed}
 use Rattle.rational.proofs.Order.{same_sym, same_trans, le_of_same, ge_of_same}
 use Rattle.rational.proofs.Lowest.{has_denominator, denominator_divides}
-use Rattle.rational.proofs.Mixed.{mixed_shift}
-use Rattle.rational.proofs.TimeLemmas.{precedes_after, precedes_before, room_of_precedes, precedes_of_room, not_empty_of_precedes, same_later, later-add}
+use Rattle.rational.proofs.Mixed.{mixed_shift, parts}
+use Rattle.rational.proofs.TimeLemmas.{precedes_after, precedes_before, room_of_precedes, precedes_of_room, not_empty_of_precedes}
 use Rattle.frac128.specs.Value.{value}
 use Rattle.frac128.specs.Spans.{interval}
 use Rattle.frac128.specs.declared.frac.Frac.{Frac}
@@ -25,6 +25,7 @@ use Rattle.stl_syntax.specs.declared.scale.Scale.{Scale}
 use Rattle.stl_syntax.specs.declared.items.Verdict.{Verdict}
 use Rattle.stl_syntax.proofs.TruthLemmas.{Truth-same}
 use Rattle.report.proofs.KeptTexts.{number_of_same}
+use Rattle.unit_laws.proofs.NearTimes.{Move, by, ahead}
 use Rattle.unit_laws.proofs.Multiples.{stretch}
 use Rattle.unit_laws.proofs.Clocks.{clock, unclock, clock_same, clock-unclock, precedes_clock, precedes_of_clock}
 use Rattle.unit_laws.proofs.Recounts.{IsRecount}
@@ -90,10 +91,10 @@ module _ (K : ℕ) (p : 0 < K) where
       times_by f (K * f.rest / f.den) (K * f.rest % f.den) (div-add-mod' (K * f.rest) f.den) (let h = f.positive in omega arith)
       (div_below (K * f.rest) f.den K f.positive (mul-lt-mul_of_pos_left f.below p)) (has_denominator (ratio (pos (K * f.rest % f.den)) f.den f.positive))
 
--- a number that the program keeps, o later
-abbrev pub frac_later : ℕ → Frac → Frac
-frac_later o f = record {
-  whole = f.whole +ℤ pos o;
+-- a number that the program keeps, moved by whole ticks
+abbrev pub frac_by : Move → Frac → Frac
+frac_by o f = record {
+  whole = f.whole +ℤ (pos o.up -ℤ pos o.down);
   rest = f.rest;
   den = f.den;
   positive = f.positive;
@@ -102,22 +103,31 @@ frac_later o f = record {
   lowest = f.lowest;
 }
 
-later_same : (o : ℕ) (f : Frac) → value (frac_later o f) ≈ later (value f) o
-later_same o f =
-    same_trans (mixed_shift f.whole (f.whole +ℤ pos o) (pos o) f.rest f.den f.positive f.positive refl) (same_sym (later-add (value f) o))
+by_difference : (o : Move) (t : Rational) → add t (whole (pos o.up -ℤ pos o.down)) ≈ by t o
+by_difference o t =
+    let e : part_above (pos o.up -ℤ pos o.down) + o.down ≡ o.up + part_below (pos o.up -ℤ pos o.down) = omega (arith, parts) in
+    record { same = omega (arith, ap (λ n. n * (t.den * t.den)) e) }
 
-later_is_clock : (K o : ℕ) (t : Rational) → later (stretch K t) o ≈ clock K o t
-later_is_clock K o t = record { same = omega arith }
+by_same : (o : Move) {t u : Rational} → t ≈ u → by t o ≈ by u o
+by_same o {t} {u} e = record { same = let h = e.same in omega (arith, h) }
 
-module _ (K o : ℕ) (p : 0 < K) where
+moved_same : (o : Move) (f : Frac) → value (frac_by o f) ≈ by (value f) o
+moved_same o f =
+    same_trans (mixed_shift f.whole (f.whole +ℤ (pos o.up -ℤ pos o.down)) (pos o.up -ℤ pos o.down) f.rest f.den f.positive f.positive refl)
+    (by_difference o (value f))
+
+by_is_clock : (K : ℕ) (o : Move) (t : Rational) → by (stretch K t) o ≈ clock K o t
+by_is_clock K o t = record { same = omega arith }
+
+module _ (K : ℕ) (o : Move) (p : 0 < K) where
   -- what the clock shows at a number that the program keeps is one
   abbrev pub frac_of : Frac → Frac
-  frac_of f = frac_later o (times_frac K p f).frac
+  frac_of f = frac_by o (times_frac K p f).frac
 
   -- it is what the clock shows
   pub frac_same : (f : Frac) → value (frac_of f) ≈ clock K o (value f)
   frac_same f =
-      same_trans (later_same o (times_frac K p f).frac) (same_trans (same_later o (times_frac K p f).same) (later_is_clock K o (value f)))
+      same_trans (moved_same o (times_frac K p f).frac) (same_trans (by_same o (times_frac K p f).same) (by_is_clock K o (value f)))
 
   -- the ends of a span keep their order
   ends_by : (b : Bool) (x y : Frac) → Precedes b (value x) (value y) → Precedes b (value (frac_of x)) (value (frac_of y))
@@ -159,7 +169,7 @@ module _ (K o : ℕ) (p : 0 < K) where
             (precedes_after on.to_in (clock K o part) t (value (frac_of on.to)) (le_of_same s) i.below) (le_of_same (frac_same on.to)));
       }
 
-module _ (K o M : ℕ) (kp : 0 < K) (mp : 0 < M) {tr ur : Trace} (c : IsRecount K o M tr ur) (p : Subformula) where
+module _ (K : ℕ) (o : Move) (M : ℕ) (kp : 0 < K) (mp : 0 < M) {tr ur : Trace} (c : IsRecount K o M tr ur) (p : Subformula) where
   abbrev q : Subformula
   q = finer_tree K M p
 
@@ -215,14 +225,14 @@ module _ (K o M : ℕ) (kp : 0 < K) (mp : 0 < M) {tr ur : Trace} (c : IsRecount 
 
 -- the lines of the verdicts stay
 module _ (k : ℕ) (p : 0 < 10 ^ k) (scale other : Scale) (is : other.time ≡ scale.time + k) where
-  end_text : (f : Frac) (text : List ℕ) → IsNumberText scale.time (value f) text → IsNumberText other.time (value (frac_of (10 ^ k) 0 p f)) text
+  end_text : (f : Frac) (text : List ℕ) → IsNumberText scale.time (value f) text → IsNumberText other.time (value (frac_of (10 ^ k) (ahead 0) p f)) text
   end_text f text h =
-      subst (λ d. IsNumberText d (value (frac_of (10 ^ k) 0 p f)) text) (sym is)
-      (number_of_same (scale.time + k) (clock (10 ^ k) 0 (value f)) (value (frac_of (10 ^ k) 0 p f)) text (same_sym (frac_same (10 ^ k) 0 p f))
+      subst (λ d. IsNumberText d (value (frac_of (10 ^ k) (ahead 0) p f)) text) (sym is)
+      (number_of_same (scale.time + k) (clock (10 ^ k) (ahead 0) (value f)) (value (frac_of (10 ^ k) (ahead 0) p f)) text (same_sym (frac_same (10 ^ k) (ahead 0) p f))
       (time_text_by scale.time k (value f) text h))
 
   -- a span's text is that of the span in smaller ticks
-  pub span_text : (on : Span) (text : List ℕ) → IsSpanText scale on text → IsSpanText other (span_by (10 ^ k) 0 p on) text
+  pub span_text : (on : Span) (text : List ℕ) → IsSpanText scale on text → IsSpanText other (span_by (10 ^ k) (ahead 0) p on) text
   span_text on text h = record {
     from = h.from;
     to = h.to;
@@ -233,6 +243,6 @@ module _ (k : ℕ) (p : 0 < 10 ^ k) (scale other : Scale) (is : other.time ≡ s
 
   -- the lines of verdicts are those of the verdicts in smaller ticks
   pub verdict_lines_by : (verdicts : List Verdict) (text : List ℕ) → AreVerdictLines scale verdicts text
-      → AreVerdictLines other (verdicts_by (10 ^ k) 0 p verdicts) text
+      → AreVerdictLines other (verdicts_by (10 ^ k) (ahead 0) p verdicts) text
   verdict_lines_by [] text h = h
   verdict_lines_by (v ∷ verdicts) text (here, later, (on, h, e), g, f) = (here, later, (on, span_text v.on on h, e), verdict_lines_by verdicts later g, f)

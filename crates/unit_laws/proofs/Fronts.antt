@@ -11,6 +11,7 @@ use Rattle.rational.proofs.Tests.{int_order}
 use Rattle.stl_syntax.specs.Formula.{Subformula, constant, atom, negation, conjunction, disjunction, horizon}
 use Rattle.stl_syntax.specs.Formula.{implication, until, eventually, always, since, once, historically}
 use Rattle.stl_syntax.specs.Stream.{answered_by}
+use Rattle.unit_laws.proofs.NearTimes.{ahead}
 use Rattle.unit_laws.proofs.Clocks.{clock, clock_lt, clock_same, lt_of_clock}
 use Rattle.unit_laws.proofs.FinerTrees.{finer_tree}
 
@@ -38,11 +39,11 @@ module _ (K M : ℕ) where
   two : (a b x y : ℕ) → x ≡ K * a → y ≡ K * b → max x y ≡ K * max a b
   two a b x y e f = ap (λ z. max z y) e ∙ ap (λ z. max (K * a) z) f ∙ max_times K a b
 
-  ahead : (a b x : ℕ) → x ≡ K * b → K * a + x ≡ K * (a + b)
-  ahead a b x e = ap (λ z. K * a + z) e ∙ sum_times K a b
+  onward : (a b x : ℕ) → x ≡ K * b → K * a + x ≡ K * (a + b)
+  onward a b x e = ap (λ z. K * a + z) e ∙ sum_times K a b
 
-  behind : (a b x : ℕ) → x ≡ K * b → x - K * a ≡ K * (b - a)
-  behind a b x e = ap (λ z. z - K * a) e ∙ sym (mul-sub K b a)
+  backward : (a b x : ℕ) → x ≡ K * b → x - K * a ≡ K * (b - a)
+  backward a b x e = ap (λ z. z - K * a) e ∙ sym (mul-sub K b a)
 
   -- the horizon is K times as far
   pub horizon_by : (p : Subformula) → horizon (finer_tree K M p) ≡ K * horizon p
@@ -52,12 +53,12 @@ module _ (K M : ℕ) where
   horizon_by (conjunction p q) = two (horizon p) (horizon q) _ _ (horizon_by p) (horizon_by q)
   horizon_by (disjunction p q) = two (horizon p) (horizon q) _ _ (horizon_by p) (horizon_by q)
   horizon_by (implication p q) = two (horizon p) (horizon q) _ _ (horizon_by p) (horizon_by q)
-  horizon_by (until a b p q) = ahead b (max (horizon p) (horizon q)) _ (two (horizon p) (horizon q) _ _ (horizon_by p) (horizon_by q))
-  horizon_by (eventually a b a_in b_in p) = ahead b (horizon p) _ (horizon_by p)
-  horizon_by (always a b a_in b_in p) = ahead b (horizon p) _ (horizon_by p)
-  horizon_by (since a b p q) = two (horizon p) (horizon q - a) _ _ (horizon_by p) (behind a (horizon q) _ (horizon_by q))
-  horizon_by (once a b a_in b_in p) = behind a (horizon p) _ (horizon_by p)
-  horizon_by (historically a b a_in b_in p) = behind a (horizon p) _ (horizon_by p)
+  horizon_by (until a b p q) = onward b (max (horizon p) (horizon q)) _ (two (horizon p) (horizon q) _ _ (horizon_by p) (horizon_by q))
+  horizon_by (eventually a b a_in b_in p) = onward b (horizon p) _ (horizon_by p)
+  horizon_by (always a b a_in b_in p) = onward b (horizon p) _ (horizon_by p)
+  horizon_by (since a b p q) = two (horizon p) (horizon q - a) _ _ (horizon_by p) (backward a (horizon q) _ (horizon_by q))
+  horizon_by (once a b a_in b_in p) = backward a (horizon p) _ (horizon_by p)
+  horizon_by (historically a b a_in b_in p) = backward a (horizon p) _ (horizon_by p)
 
 -- ---- fronts
 
@@ -75,7 +76,7 @@ difference_is a b = record { same = omega (arith, parts) }
 module _ (K o : ℕ) (kp : 0 < K) where
   -- the second number is what the clock shows at the first
   abbrev pub IsShownAt : ℤ → ℤ → Type 0
-  IsShownAt i j = whole j ≈ clock K o (whole i)
+  IsShownAt i j = whole j ≈ clock K (ahead o) (whole i)
 
   -- a row time
   pub row_shown : (t : ℕ) → IsShownAt (pos t) (pos (K * t + o))
@@ -90,10 +91,10 @@ module _ (K o : ℕ) (kp : 0 < K) where
       by_tests false false e f = e ∙ sym f
       by_tests true false e f =
           let l = lt_whole (int_order i' j' true e) in
-          let g = lt_of_clock K o (lt_of_le_of_lt (ge_of_same a) (lt_of_lt_of_le l (le_of_same b))) in
+          let g = lt_of_clock K (ahead o) (lt_of_le_of_lt (ge_of_same a) (lt_of_lt_of_le l (le_of_same b))) in
           absurd (not_lt_of_le (le_whole j i (int_order i j false f)) g)
       by_tests false true e f =
-          let l = clock_lt K o kp (lt_whole (int_order i j true f)) in
+          let l = clock_lt K (ahead o) kp (lt_whole (int_order i j true f)) in
           let g = lt_of_le_of_lt (le_of_same a) (lt_of_lt_of_le l (ge_of_same b)) in
           absurd (not_lt_of_le (le_whole j' i' (int_order i' j' false e)) g)
 
@@ -104,13 +105,13 @@ module _ (K o : ℕ) (kp : 0 < K) where
   AreFronts (Some i) None = ⊥
   AreFronts (Some i) (Some j) = IsShownAt i j
 
-  clock_difference : (a b : ℕ) → clock K o (difference a b) ≈ difference (K * a + o) (K * b)
+  clock_difference : (a b : ℕ) → clock K (ahead o) (difference a b) ≈ difference (K * a + o) (K * b)
   unfolding difference
   clock_difference a b = record { same = omega arith }
 
   front_shown : (s h : ℕ) → IsShownAt (pos s -ℤ pos h) (pos (K * s + o) -ℤ pos (K * h))
   front_shown s h =
-      same_trans (difference_is (K * s + o) (K * h)) (same_trans (same_sym (clock_difference s h)) (clock_same K o (same_sym (difference_is s h))))
+      same_trans (difference_is (K * s + o) (K * h)) (same_trans (same_sym (clock_difference s h)) (clock_same K (ahead o) (same_sym (difference_is s h))))
 
   module _ (M : ℕ) (p : Subformula) where
     -- the front of a row is by the clock that of the row

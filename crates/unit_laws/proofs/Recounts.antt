@@ -8,11 +8,12 @@ use Rattle.stl_syntax.specs.Truth.{expression, holds_at}
 use Rattle.stl_syntax.specs.Scaling.{scaled_atom}
 use Rattle.stl_syntax.specs.declared.atom.Atom.{Atom}
 use Rattle.stl_syntax.proofs.TruthLemmas.{compares_same}
+use Rattle.unit_laws.proofs.NearTimes.{Move}
 use Rattle.unit_laws.proofs.Multiples.{stretch, compares_stretch, compares_back}
 use Rattle.unit_laws.proofs.Clocks.{clock}
 
 -- the second trace is the first by a clock that counts K ticks for one and shows o at 0, with M ticks of value for one
-pub record IsRecount (K o M : ℕ) (tr ur : Trace) : Type 0 where
+pub record IsRecount (K : ℕ) (o : Move) (M : ℕ) (tr ur : Trace) : Type 0 where
   -- an atom's expression is M times as large where the clock shows its time
   pub expressions : (a : Atom) (t : Rational) → expression (scaled_atom M a) ur (clock K o t) ≈ stretch M (expression a tr t)
   -- the second begins where the clock shows the start of the first
@@ -21,7 +22,7 @@ pub record IsRecount (K o M : ℕ) (tr ur : Trace) : Type 0 where
   pub stops : stop ur ≈ clock K o (stop tr)
 
 -- an atom holds where it holds by the clock
-pub holds_by : (K o M : ℕ) → 0 < M → {tr ur : Trace} → IsRecount K o M tr ur → (a : Atom) (t : Rational)
+pub holds_by : (K : ℕ) (o : Move) (M : ℕ) → 0 < M → {tr ur : Trace} → IsRecount K o M tr ur → (a : Atom) (t : Rational)
     → IsTrue (holds_at a tr t) ↔ IsTrue (holds_at (scaled_atom M a) ur (clock K o t))
 holds_by K o M mp {tr} {ur} c a t =
     let e = c.expressions a t in (

@@ -6,10 +6,11 @@ use Rattle.rational.specs.Windows.{Ahead, Behind, Window}
 use Rattle.rational.proofs.Order.{same_sym, le_trans, le_of_same, ge_of_same}
 use Rattle.rational.proofs.WindowLemmas.{to_same, from_same}
 use Rattle.rational.proofs.Tests.{either}
+use Rattle.unit_laws.proofs.NearTimes.{Move}
 use Rattle.unit_laws.proofs.Clocks.{clock, unclock, clock-unclock, within_clock, within_of_clock}
 use Rattle.unit_laws.proofs.FinerTruth.{AreEnds, ahead_by, ahead_back, ahead_at, behind_by, behind_back, behind_at}
 
-module _ (K o : ℕ) (kp : 0 < K) where
+module _ (K : ℕ) (o : Move) (kp : 0 < K) where
   -- Q holds where the clock shows the times of P
   pub record Carries (P Q : Window) : Type 0 where
     -- where P holds, so does Q by the clock

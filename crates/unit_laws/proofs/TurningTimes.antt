@@ -14,6 +14,7 @@ use Rattle.stl_syntax.specs.Trace.{Trace, start, stop, first_time, last_time}
 use Rattle.stl_syntax.specs.Formula.{Subformula}
 use Rattle.stl_syntax.specs.Verdicts.{IsTold, GoesOn, Describes}
 use Rattle.stl_syntax.specs.declared.items.Verdict.{Verdict}
+use Rattle.unit_laws.proofs.NearTimes.{Move}
 use Rattle.unit_laws.proofs.Clocks.{clock, unclock, clock-unclock, same_of_clock, unclock_same}
 use Rattle.unit_laws.proofs.Recounts.{IsRecount}
 use Rattle.unit_laws.proofs.FinerTrees.{finer_tree}
@@ -76,7 +77,7 @@ differ true false other a b f g = b (f a)
 differ false true other a b f g = a (g b)
 differ false false other a b f g = other refl
 
-module _ (K o M : ℕ) (kp : 0 < K) (mp : 0 < M) {tr ur : Trace} (c : IsRecount K o M tr ur) (p : Subformula) (atoms : HasCalmAtoms (2 ^ 31) tr p) where
+module _ (K : ℕ) (o : Move) (M : ℕ) (kp : 0 < K) (mp : 0 < M) {tr ur : Trace} (c : IsRecount K o M tr ur) (p : Subformula) (atoms : HasCalmAtoms (2 ^ 31) tr p) where
   abbrev r : Subformula
   r = finer_tree K M p
 

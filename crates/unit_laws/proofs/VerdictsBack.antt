@@ -13,13 +13,14 @@ use Rattle.stl_syntax.specs.Texts.{IsStartLine}
 use Rattle.stl_syntax.specs.Verdicts.{IsTold, GoesOn, Describes}
 use Rattle.stl_syntax.specs.declared.items.Verdict.{Verdict}
 use Rattle.stl_syntax.proofs.TruthLemmas.{Truth-same}
+use Rattle.unit_laws.proofs.NearTimes.{Move}
 use Rattle.unit_laws.proofs.Clocks.{clock, unclock, clock-unclock, same_of_clock, precedes_clock, precedes_of_clock, unclock_same}
 use Rattle.unit_laws.proofs.Recounts.{IsRecount}
 use Rattle.unit_laws.proofs.FinerTrees.{finer_tree}
 use Rattle.unit_laws.proofs.FinerTruth.{truth_by}
 use Rattle.unit_laws.proofs.SmallFractions.{HasFrac}
 
-module _ (K o : ℕ) (kp : 0 < K) where
+module _ (K : ℕ) (o : Move) (kp : 0 < K) where
   -- the interval in which the clock shows the other
   abbrev pub shown : Interval → Interval
   shown on = record { from = unclock K o kp on.from; from_in = on.from_in; to = unclock K o kp on.to; to_in = on.to_in }
@@ -45,11 +46,11 @@ module _ (K o : ℕ) (kp : 0 < K) where
   }
 
 -- the times at which the clock shows the ends of the verdicts are numbers that the program keeps
-abbrev pub HasEnds : (K o : ℕ) → 0 < K → List Verdict → Type 0
+abbrev pub HasEnds : (K : ℕ) (o : Move) → 0 < K → List Verdict → Type 0
 HasEnds K o kp [] = Unit {0}
 HasEnds K o kp (v ∷ verdicts) = HasFrac (unclock K o kp (value v.on.from)) × HasFrac (unclock K o kp (value v.on.to)) × HasEnds K o kp verdicts
 
-module _ (K o : ℕ) (kp : 0 < K) where
+module _ (K : ℕ) (o : Move) (kp : 0 < K) where
   -- a span taken back has a time
   pub span_room : (on : Span) (a : HasFrac (unclock K o kp (value on.from))) (b : HasFrac (unclock K o kp (value on.to)))
       → Precedes (on.from_in && on.to_in) (value a.frac) (value b.frac)
@@ -78,7 +79,7 @@ module _ (K o : ℕ) (kp : 0 < K) where
   verdicts_back [] e = []
   verdicts_back (v ∷ verdicts) e = verdict_back v e.0 e.1 ∷ verdicts_back verdicts e.2
 
-module _ (K o M : ℕ) (kp : 0 < K) (mp : 0 < M) {tr ur : Trace} (c : IsRecount K o M tr ur) (p : Subformula) where
+module _ (K : ℕ) (o : Move) (M : ℕ) (kp : 0 < K) (mp : 0 < M) {tr ur : Trace} (c : IsRecount K o M tr ur) (p : Subformula) where
   abbrev q : Subformula
   q = finer_tree K M p
 

@@ -10,6 +10,7 @@ use Rattle.stl_syntax.specs.Stream.{IsStretchText, IsNewText, IsStreamText}
 use Rattle.stl_syntax.specs.Texts.{AreVerdictLines}
 use Rattle.stl_syntax.specs.declared.scale.Scale.{Scale}
 use Rattle.stl_syntax.specs.declared.items.Verdict.{Verdict}
+use Rattle.unit_laws.proofs.NearTimes.{ahead}
 use Rattle.unit_laws.proofs.CalmTruth.{HasCalmAtoms}
 use Rattle.unit_laws.proofs.SmallFractions.{has_whole, has_int}
 use Rattle.unit_laws.proofs.TurningTimes.{stretch_ends}
@@ -25,8 +26,8 @@ front_range (x ∷ rows) r more h =
     (front_range rows r more (All-tail IsInRange x ((rows ++ r ∷ []) ++ more) h))
 
 module _ (K o M : ℕ) (kp : 0 < K) (mp : 0 < M) (p : Subformula) (header : Header) (scale : Scale)
-    (lines : (verdicts : List Verdict) (e : HasEnds K o kp verdicts) (text : List ℕ) → AreVerdictLines scale verdicts text
-    → AreVerdictLines header.scale (verdicts_back K o kp verdicts e) text)
+    (lines : (verdicts : List Verdict) (e : HasEnds K (ahead o) kp verdicts) (text : List ℕ) → AreVerdictLines scale verdicts text
+    → AreVerdictLines header.scale (verdicts_back K (ahead o) kp verdicts e) text)
     (atoms : (rows : List Row) → AreRows (length header.columns) rows → AreInRange rows
     → HasCalmAtoms (2 ^ 31) (trace_of K o M kp mp p header scale rows) p) where
   abbrev r : Subformula
@@ -45,9 +46,9 @@ module _ (K o M : ℕ) (kp : 0 < K) (mp : 0 < M) (p : Subformula) (header : Head
       let shown = closed (start (other_of K o M kp mp p header scale rows)) (whole j) in
       let first = start (trace_of K o M kp mp p header scale rows) in
       let begin = has_whole first (first_time rows) (same_refl first) in
-      let e = stretch_ends K o M kp mp c p (atoms rows ok range) on shown begin (has_int i) c.starts g verdicts told in (
-        verdicts_back K o kp verdicts e,
-        stretch_back K o M kp mp c p on shown c.starts refl g refl verdicts e told,
+      let e = stretch_ends K (ahead o) M kp mp c p (atoms rows ok range) on shown begin (has_int i) c.starts g verdicts told in (
+        verdicts_back K (ahead o) kp verdicts e,
+        stretch_back K (ahead o) M kp mp c p on shown c.starts refl g refl verdicts e told,
         lines verdicts e text written,
       )
   verdicts_given rows (Some a) (Some i) (Some b) (Some j) text ok range f g h =
@@ -57,9 +58,9 @@ module _ (K o M : ℕ) (kp : 0 < K) (mp : 0 < M) (p : Subformula) (header : Head
       subst (λ x. MatchBool x (IsStretchText p (trace_of K o M kp mp p header scale rows) on text) (text ≡ [])) (less_shown K o kp a i b j f g)
       (match_by (IsStretchText r (other_of K o M kp mp p header scale rows) shown text) (IsStretchText p (trace_of K o M kp mp p header scale rows) on text)
       (text ≡ []) (int_lt b j) (λ (verdicts, told, written).
-      let e = stretch_ends K o M kp mp c p (atoms rows ok range) on shown (has_int a) (has_int i) f g verdicts told in (
-        verdicts_back K o kp verdicts e,
-        stretch_back K o M kp mp c p on shown f refl g refl verdicts e told,
+      let e = stretch_ends K (ahead o) M kp mp c p (atoms rows ok range) on shown (has_int a) (has_int i) f g verdicts told in (
+        verdicts_back K (ahead o) kp verdicts e,
+        stretch_back K (ahead o) M kp mp c p on shown f refl g refl verdicts e told,
         lines verdicts e text written,
       )) h)
 
@@ -76,7 +77,7 @@ module _ (K o M : ℕ) (kp : 0 < K) (mp : 0 < M) (p : Subformula) (header : Head
       line,
       rows_text_back K o M kp mp p header scale AreInRange (IsNewText p) (IsNewText r) front_range verdicts_given [] None None rows during ok range tt a,
       rest_back K o M kp mp p header scale AreInRange (IsNewText p) (IsNewText r) front_range verdicts_given rows rest ok range b,
-      start_back K o M kp mp (so_far K o M kp mp p header scale rows ok) p line s,
+      start_back K (ahead o) M kp mp (so_far K o M kp mp p header scale rows ok) p line s,
       is,
     ),
   )

@@ -1,5 +1,5 @@
 -- The laws of the origin: where all times of a trace are d ticks later, the times of what is told are d ticks later, and nothing else changes.
-use Rattle.std.specs.Prelude.{◌≡◌, ◌↔◌, ℕ, ◌+◌, ◌*◌, List, [], ◌∷◌, ◌++◌, map}
+use Rattle.std.specs.Prelude.{◌≡◌, ◌↔◌, ℕ, ◌+◌, ◌*◌, Bool, MatchBool, List, [], ◌∷◌, ◌++◌, map}
 use Rattle.rational.specs.Time.{Rational, ◌≈◌, later, Interval, closed, BeginAlike, EndAlike}
 use Rattle.rational.specs.Extended.{Extended, ◌≈ᵉ◌}
 use Rattle.frac128.specs.Spans.{interval}
@@ -11,8 +11,11 @@ use Rattle.stl_syntax.specs.Knots.{Knot, Piece, Knots}
 use Rattle.stl_syntax.specs.Verdicts.{Describes, DescribesMargins}
 use Rattle.stl_syntax.specs.declared.items.Verdict.{Verdict}
 use Rattle.stl_syntax.specs.declared.items.Item.{Item}
-use Rattle.stl_syntax.specs.Texts.{AreVerdictLines, IsStartLine, AreMarginLines}
-use Rattle.report.specs.Report.{Out, check, robust, table, nodes_for, IsExplained}
+use Rattle.stl_syntax.specs.Texts.{AreVerdictLines, IsStartLine, AreMarginLines, newline}
+use Rattle.serde_json.specs.Data.{Data}
+use Rattle.serde_json.specs.Written.{compact_text}
+use Rattle.report.specs.Json.{IsReportData}
+use Rattle.report.specs.Report.{Command, check, robust, explain, json, table, Out, nodes_for, IsExplained, AreItemLines}
 use Rattle.report.specs.Table.{IsTableText}
 
 -- the row d ticks later
@@ -91,11 +94,12 @@ abbrev pub AreDelayedItems : ℕ → List Item → List Item → Type 0
 AreDelayedItems d [] gs = gs ≡ []
 AreDelayedItems d (e ∷ es) gs = (g : Item) × (others : List Item) × (gs ≡ g ∷ others) × IsDelayedItem d e g × AreDelayedItems d es others
 
--- what explains a formula on the trace explains it, d ticks later, on the delayed trace
+-- what explains a formula on the delayed trace is what explains it on the trace, d ticks later
 abbrev pub ExplanationsMove : Type 0
 ExplanationsMove =
-    (f : Formula) (tr : Trace) (d : ℕ) (lines : List Item) → IsTrace tr → IsExplained f tr lines
-    → (moved : List Item) × AreDelayedItems d lines moved × IsExplained f (delayed d tr) moved
+    (f : Formula) (tr : Trace) (d : ℕ) → IsTrace tr
+    → ((lines : List Item) → IsExplained f tr lines → (moved : List Item) × AreDelayedItems d lines moved × IsExplained f (delayed d tr) moved)
+    × ((moved : List Item) → IsExplained f (delayed d tr) moved → (lines : List Item) × AreDelayedItems d lines moved × IsExplained f tr lines)
 
 -- the knot l is k, d ticks later
 pub record IsDelayedKnot (d : ℕ) (k l : Knot) : Type 0 where
@@ -113,25 +117,26 @@ AreDelayedPieces d (x ∷ ps) qs =
 abbrev pub AreDelayedKnots : ℕ → Knots → Knots → Type 0
 AreDelayedKnots d ks ls = IsDelayedKnot d ks.first ls.first × AreDelayedPieces d ks.pieces ls.pieces
 
--- the text of `check` with each time d ticks later
-abbrev pub IsCheckLater : ℕ → Formula → Trace → List ℕ → Type 0
-IsCheckLater d f tr text =
+-- the text of a command with each time d ticks later
+abbrev pub OutLater : ℕ → Command → Formula → Trace → List ℕ → Type 0
+OutLater d check f tr text =
     (vs ws : List Verdict) × (body line : List ℕ) × AreVerdicts vs (root (nodes_for f tr)) tr × AreDelayed d vs ws
     × AreVerdictLines tr.header.scale ws body × IsStartLine (root (nodes_for f tr)) tr line × (text ≡ body ++ line)
-
--- that of `robust`
-abbrev pub IsRobustLater : ℕ → Formula → Trace → List ℕ → Type 0
-IsRobustLater d f tr text =
+OutLater d robust f tr text =
     (ks ls : Knots) × DescribesMargins ks (root (nodes_for f tr)) tr × AreDelayedKnots d ks ls × AreMarginLines tr.header.scale ls text
-
--- and that of `table`
-abbrev pub IsTableLater : ℕ → Formula → Trace → List ℕ → Type 0
-IsTableLater d f tr text =
+OutLater d explain f tr text =
+    (items moved : List Item) × (line body : List ℕ) × IsExplained f tr items × AreDelayedItems d items moved
+    × IsStartLine (root (nodes_for f tr)) tr line × AreItemLines tr.header.scale f moved body × (text ≡ line ++ body)
+OutLater d json f tr text =
+    (vs ws : List Verdict) × (ks ls : Knots) × (items moved : List Item) × (holds : Bool) × (report : Data) × AreVerdicts vs (root (nodes_for f tr)) tr
+    × AreDelayed d vs ws × DescribesMargins ks (root (nodes_for f tr)) tr × AreDelayedKnots d ks ls × IsExplained f tr items
+    × AreDelayedItems d items moved
+    × MatchBool holds (Truth (root (nodes_for f tr)) tr (start tr)) (¬ Truth (root (nodes_for f tr)) tr (start tr))
+    × IsReportData tr.header.scale f ws ls moved holds report × (text ≡ compact_text report ++ newline)
+OutLater d table f tr text =
     (ks ls : Knots) × DescribesMargins ks (root (nodes_for f tr)) tr × AreDelayedKnots d ks ls × IsTableText tr.header.scale ls text
 
--- what the commands write of the delayed trace is what they write of the trace, with each time d ticks later
+-- what a command writes of the delayed trace is what it tells of the trace, with each time d ticks later
 abbrev pub TextsMove : Type 0
 TextsMove =
-    (f : Formula) (tr : Trace) (d : ℕ) (text : List ℕ) → IsTrace tr
-    → (Out check f (delayed d tr) text → IsCheckLater d f tr text) × (Out robust f (delayed d tr) text → IsRobustLater d f tr text)
-    × (Out table f (delayed d tr) text → IsTableLater d f tr text)
+    (command : Command) (f : Formula) (tr : Trace) (d : ℕ) (text : List ℕ) → IsTrace tr → Out command f (delayed d tr) text → OutLater d command f tr text

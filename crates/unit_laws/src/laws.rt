@@ -106,12 +106,13 @@ pub fn knots_move()
     ensures { KnotsMove }
 {}
 
-/// And what explains the formula on the trace explains it, as many ticks later, on the later trace.
+/// And what explains the formula on the later trace is what explains it on the trace, as many ticks later.
 pub fn explanations_move()
     ensures { ExplanationsMove }
 {}
 
-/// What `check`, `robust` and `table` write of the later trace is what they write of the trace, with each time as many ticks later.
+/// What `check`, `robust`, `explain`, `json` and `table` write of the later trace is what they tell of the trace, with each time as many
+/// ticks later.
 pub fn texts_move()
     ensures { TextsMove }
 {}
